@@ -1,0 +1,11 @@
+pub mod Names
+pub mod Position
+pub mod Tokens
+pub mod Comments
+pub mod Readings
+pub mod Laws
+pub mod Trees
+pub mod PlainTrees
+pub mod Phrases
+pub mod Grammar
+pub mod Place
