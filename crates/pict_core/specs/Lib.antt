@@ -1,0 +1,11 @@
+pub mod Term
+pub mod Plain
+pub mod Matching
+pub mod Substitution
+pub mod Primitives
+pub mod Scope
+pub mod Configuration
+pub mod Step
+pub mod Run
+pub mod Laws
+pub mod Found

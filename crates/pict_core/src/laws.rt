@@ -1,0 +1,19 @@
+// Laws of the definitions. Each is a function that does nothing: its contract is the law.
+
+ghost use Rattle.pict_core.specs.Laws.{FreeStepsKeepConfigurations, OldestFirstStepsAreFree, RunsAreOne};
+
+/// A free step of a configuration gives a configuration: its processes are closed over its channels, no label stands
+/// twice in a record, and its stamps are distinct and below the next one.
+pub fn law_free_steps_keep_configurations()
+    ensures { FreeStepsKeepConfigurations }
+{}
+
+/// An oldest-first step of a configuration is a free step.
+pub fn law_oldest_first_steps_are_free()
+    ensures { OldestFirstStepsAreFree }
+{}
+
+/// A run has one end and one list of labels.
+pub fn law_runs_are_one()
+    ensures { RunsAreOne }
+{}
