@@ -1,0 +1,103 @@
+-- What the machine's types stand for.
+use Rattle.std.specs.Prelude.{ℕ, ◌≡◌, length, map, Option, Some, None, option_map, Result, Err, IfOk}
+use Rattle.pict_syntax.specs.declared.span.Span.{Span}
+use Rattle.pict_core.specs.declared.process.Core.{Core}
+use Rattle.pict_core.specs.Term.{Val, Process}
+use Rattle.pict_core.specs.Plain.{plain_core, plain_val, plain_pat}
+use Rattle.pict_core.specs.Matching.{match_val}
+use Rattle.pict_core.specs.Substitution.{put}
+use Rattle.pict_core.specs.Step as step
+use Rattle.pict_machine.specs.View.{View}
+use Rattle.pict_machine.specs.Held as held
+use Rattle.pict_machine.specs.declared.event.Event.{Event}
+use Rattle.pict_machine.specs.declared.event.Event.TheVariants as event
+use Rattle.pict_machine.specs.declared.event.StepError.{StepError}
+use Rattle.pict_machine.specs.declared.event.StepError.TheVariants as fault
+use Rattle.pict_machine.specs.declared.queue.Message.{Message}
+use Rattle.pict_machine.specs.declared.queue.Reader.{Reader}
+use Rattle.pict_machine.specs.declared.queue.Queue.{Queue}
+use Rattle.pict_machine.specs.declared.queue.Queue.TheVariants as queue
+use Rattle.pict_machine.specs.declared.queue.Offered.{Offered}
+use Rattle.pict_machine.specs.declared.queue.Offered.TheVariants as offered
+use Rattle.pict_machine.specs.declared.queue.Asked.{Asked}
+use Rattle.pict_machine.specs.declared.queue.Asked.TheVariants as asked
+use Rattle.pict_machine.specs.declared.machine.Machine.{Machine}
+
+-- ---- events
+
+-- the label of an event; a trap has none, and shows nothing
+abbrev pub label_of : Event → step.Label
+label_of event.Quiet = step.Quiet
+label_of (event.Comm channel value) = step.Comm channel (plain_val value)
+label_of (event.Print bytes) = step.Print bytes
+label_of (event.Trapped at) = step.Quiet
+
+abbrev pub trap_of : Event → Option Span
+trap_of (event.Trapped at) = Some at
+trap_of _ = None
+
+-- a communication or a printing
+abbrev pub IsShown : Event → Type 0
+IsShown (event.Comm channel value) = Unit {0}
+IsShown (event.Print bytes) = Unit {0}
+IsShown _ = ⊥
+
+-- ---- machines
+
+abbrev pub plain_message : Message → held.Message
+plain_message m = record { value = plain_val m.value; at = m.at }
+
+abbrev pub plain_reader : Reader → held.Reader
+plain_reader r = record { replicated = r.replicated; pattern = plain_pat r.pattern; body = plain_core r.body.inner.value }
+
+abbrev pub plain_queue : Queue → held.Queue
+plain_queue (queue.Messages q) = held.Messages (map plain_message q.items)
+plain_queue (queue.Readers q) = held.Readers (map plain_reader q.items)
+
+abbrev pub held_of : Machine → held.Held
+held_of m = record { ready = map plain_core m.ready.items; queues = map plain_queue m.queues.items }
+
+-- the lists of processes that the queues hold
+abbrev pub view_of_held : held.Held → View
+view_of_held h = record { ready = h.ready; channels = held.lists_from 0 h.queues }
+
+-- the view of a machine
+abbrev pub view_of : Machine → View
+view_of m = view_of_held (held_of m)
+
+-- how many channels are made
+abbrev pub channels_of : Machine → ℕ
+channels_of m = length m.queues.items
+
+-- ---- what the machine's parts answer
+
+-- the body of a reader with the parts of a value, or nothing where the value doesn't fit
+abbrev pub IsServed : Option Core → held.Reader → Val → Type 0
+IsServed None r v = match_val r.pattern v ≡ None
+IsServed (Some p) r v = option_map (λ parts. put 0 parts r.body) (match_val r.pattern v) ≡ Some (plain_core p)
+
+abbrev pub IsOffered : Offered → held.Queue → held.Message → held.Queue → Type 0
+IsOffered offered.Waits old m new = held.offered old m ≡ held.Parks new
+IsOffered (offered.Meets p v) old m new = (held.offered old m ≡ held.Meets (plain_core p) new) × (plain_val v ≡ m.value)
+IsOffered (offered.Misfits n) old m new = (held.offered old m ≡ held.Unfit) × (plain_message n ≡ m) × (new ≡ old)
+
+abbrev pub IsAsked : Asked → held.Queue → held.Reader → held.Queue → Type 0
+IsAsked asked.Waits old r new = held.asked old r ≡ held.Waits new
+IsAsked (asked.Gets s p v) old r new = (held.asked old r ≡ held.Gets (plain_core p) (plain_val v) new) × (plain_reader s ≡ r)
+IsAsked (asked.Misfits s) old r new = (held.asked old r ≡ held.Misfit) × (plain_reader s ≡ r) × (new ≡ old)
+
+-- the event of a step of the lists, and the lists after it
+abbrev pub HasEvent : Event → held.Moved → held.Held → held.Held → Type 0
+HasEvent (event.Trapped at) m old new = (m ≡ held.Stops at) × (new ≡ old)
+HasEvent event.Quiet m old new = m ≡ held.Moves new step.Quiet
+HasEvent (event.Comm channel value) m old new = m ≡ held.Moves new (step.Comm channel (plain_val value))
+HasEvent (event.Print bytes) m old new = m ≡ held.Moves new (step.Print bytes)
+
+-- what the machine's step answers, and what it does to the lists
+pub record IsStep (old : held.Held) (result : Result Event StepError) (new : held.Held) : Type 0 where
+  pub ok : IfOk result (λ e. HasEvent e (held.next_held old) old new)
+  pub shape : result ≡ Err fault.Shape → (held.next_held old ≡ held.Misshapen) × (new ≡ old)
+
+-- the same of a process that has the turn, before the others
+abbrev pub Acts : Process → held.Held → Result Event StepError → held.Held → Type 0
+Acts p rest result new = IsStep (held.in_front p rest) result new

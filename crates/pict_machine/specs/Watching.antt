@@ -1,0 +1,57 @@
+-- What a watcher has seen of a run.
+use Rattle.std.specs.Prelude.{ℕ, ◌≡◌, ◌≤◌, ◌⊎◌, List, [], ◌∷◌, ◌++◌, Option, Some, None}
+use Rattle.pict_core.specs.Configuration.{Configuration}
+use Rattle.pict_core.specs.Step.{Label}
+use Rattle.pict_core.specs.Run as run
+use Rattle.pict_core.specs.Run.{Reaches, RunsFrom}
+use Rattle.pict_machine.specs.View.{View, StandsFor}
+use Rattle.pict_machine.specs.declared.event.End.{End}
+use Rattle.pict_machine.specs.declared.event.End.TheVariants as end
+
+-- Where a view is told, it is told afterwards too, and is then as P says.
+abbrev pub WhereTold : (List ℕ → List ℕ → Type 0) → Option (List ℕ) → Option (List ℕ) → Type 0
+WhereTold P None after = Unit {0}
+WhereTold P (Some before) None = ⊥
+WhereTold P (Some before) (Some after) = P before after
+
+-- the view after these labels were shown, in order, with their step numbers
+abbrev pub view_after : (List ℕ → ℕ → Label → List ℕ) → List ℕ → List (ℕ × Label) → List ℕ
+view_after next view [] = view
+view_after next view (l ∷ ls) = view_after next (next view l.0 l.1) ls
+
+-- the watcher has seen exactly these labels
+abbrev pub Saw : (List ℕ → ℕ → Label → List ℕ) → Option (List ℕ) → Option (List ℕ) → List (ℕ × Label) → Type 0
+Saw next before after labels = WhereTold (λ b a. a ≡ view_after next b labels) before after
+
+-- the showing of the last of these labels was refused
+abbrev pub IsTorn : (List ℕ → ℕ → Label → List ℕ) → (List ℕ → ℕ → Label → List ℕ → Type 0) → List (ℕ × Label) → List ℕ → List ℕ → Type 0
+IsTorn next torn labels before after = (front : List (ℕ × Label)) × (last : ℕ × Label) × (labels ≡ front ++ last ∷ []) × torn (view_after next before front) last.0 last.1 after
+
+-- the watcher has seen exactly these labels, or the showing of the last one was refused
+abbrev pub SawOrTore : (List ℕ → ℕ → Label → List ℕ) → (List ℕ → ℕ → Label → List ℕ → Type 0) → Option (List ℕ) → Option (List ℕ) → List (ℕ × Label) → Type 0
+SawOrTore next torn before after labels = WhereTold (λ b a. (a ≡ view_after next b labels) ⊎ IsTorn next torn labels b a) before after
+
+-- ---- runs
+
+abbrev pub end_of : End → run.End
+end_of end.Done = run.Done
+end_of end.FuelSpent = run.FuelSpent
+end_of (end.Trap at) = run.Trap at
+
+-- The run from C with this fuel has this end. The view stands for its last configuration, and what was seen fits its
+-- labels.
+pub record Ran (C : Configuration) (fuel : ℕ) (end : run.End) (v : View) (Seen : List (ℕ × Label) → Type 0) : Type 0 where
+  pub labels : List (ℕ × Label)
+  pub runs : RunsFrom C fuel end labels
+  pub stands : StandsFor v runs.last
+  pub seen : Seen labels
+
+-- The run from C broke off after some of its steps; what was seen fits their labels.
+pub record BrokeOff (C : Configuration) (fuel : ℕ) (Stands : Configuration → Type 0) (Seen : List (ℕ × Label) → Type 0) : Type 0 where
+  pub steps : ℕ
+  pub few : steps ≤ fuel
+  pub last : Configuration
+  pub labels : List (ℕ × Label)
+  pub reached : Reaches steps C labels last
+  pub stands : Stands last
+  pub seen : Seen labels

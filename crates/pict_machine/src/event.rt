@@ -1,0 +1,89 @@
+// What steps show, and how steps and runs end.
+
+ghost use Rattle.std.specs.Prelude.{◌≡◌};
+ghost use Rattle.pict_machine.specs.Reading.{trap_of};
+
+use pict_core::CoreVal;
+use pict_syntax::{Bytes, Span};
+use std::alloc::AllocError;
+
+/// What a step shows.
+#[derive(Drop)]
+pub enum Event {
+    /// Nothing.
+    Quiet,
+    /// A value is received on a channel.
+    Comm {
+        /// The channel's number.
+        channel: u32,
+        /// The value.
+        value: CoreVal,
+    },
+    /// These bytes are printed. A number that is printed stands as its decimal text.
+    Print(Bytes),
+    /// The step divides by zero, for the output at this place. It changes nothing.
+    Trapped(Span),
+}
+
+/// How a run ends.
+#[derive(Clone, Copy, PartialEq, Eq, Debug)]
+pub enum End {
+    /// Nothing is ready.
+    Done,
+    /// As many steps as the fuel allows are done, and something is ready still.
+    FuelSpent,
+    /// A step divides by zero, for the output at this place.
+    Trap(Span),
+}
+
+/// Why a step has no event.
+#[derive(Debug, Drop)]
+pub enum StepError {
+    /// Memory is wanting. The machine is to be dropped.
+    Memory,
+    /// The step is wrong: a value has another shape than what the process does with it. The machine is unchanged.
+    Shape,
+}
+
+/// Why a run has no end.
+#[derive(Debug, Drop)]
+pub enum RunError {
+    /// The watcher could not show an event.
+    Sink,
+    /// Memory is wanting. The machine is to be dropped.
+    Memory,
+    /// A step is wrong. The machine stands before it.
+    Shape,
+}
+
+impl From<AllocError> for StepError {
+    ghost use Rattle.pict_machine.specs.declared.event.StepError.TheVariants.{Memory};
+
+    ghost from_gives = { λ _ e. e ≡ Memory };
+
+    fn from(_: AllocError) -> StepError {
+        StepError::Memory
+    }
+}
+
+impl From<AllocError> for RunError {
+    ghost use Rattle.pict_machine.specs.declared.event.RunError.TheVariants.{Memory};
+
+    ghost from_gives = { λ _ e. e ≡ Memory };
+
+    fn from(_: AllocError) -> RunError {
+        RunError::Memory
+    }
+}
+
+impl Event {
+    /// The place of a trap, if the event is one. Takes no memory.
+    pub fn trap(&self) -> Option<Span>
+        ensures { result ≡ trap_of self.now }
+    {
+        match self {
+            Event::Trapped(at) => Some(*at),
+            _ => None,
+        }
+    }
+}

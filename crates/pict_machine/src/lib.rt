@@ -1,0 +1,13 @@
+//! The machine: it runs closed core processes step by step, the oldest ready process first.
+#![tactic(auto)]
+
+mod event;
+mod machine;
+mod queue;
+mod run;
+#[cfg(test)]
+mod tests;
+
+pub use event::{End, Event, RunError, StepError};
+pub use machine::Machine;
+pub use run::Watcher;

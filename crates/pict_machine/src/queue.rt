@@ -1,0 +1,157 @@
+// What waits at a channel.
+
+ghost use Rattle.std.specs.Prelude.{◌≡◌, ◌<◌, ◌++◌, map, IfOk};
+ghost use Rattle.std.specs.VecDeque.{deque_len, deque_capacity};
+ghost use Rattle.pict_core.specs.Plain.{plain_core, plain_val, plain_pat};
+ghost use Rattle.pict_core.specs.Term.{Out, In, Chan};
+ghost use Rattle.pict_machine.specs.Held.{again, served};
+ghost use Rattle.pict_machine.specs.Reading.{plain_message, plain_reader, plain_queue, IsOffered, IsAsked, IsServed};
+
+use pict_core::{Core, CorePat, CoreVal, Part, parts_of, put};
+use pict_syntax::Span;
+use std::alloc::{AllocError, Global};
+use std::collections::VecDeque;
+
+/// An output that waits for a reader.
+#[derive(Drop)]
+pub(crate) struct Message {
+    pub(crate) value: CoreVal,
+    pub(crate) at: Span,
+}
+
+/// An input that waits for a message.
+#[derive(Drop)]
+pub(crate) struct Reader {
+    pub(crate) replicated: bool,
+    pub(crate) pattern: CorePat,
+    pub(crate) body: Part,
+}
+
+/// What waits at a channel, the oldest first: messages or readers, never both.
+#[derive(Drop)]
+pub(crate) enum Queue {
+    Messages(VecDeque<Message>),
+    Readers(VecDeque<Reader>),
+}
+
+/// What becomes of a message that comes to a queue.
+#[derive(Drop)]
+pub(crate) enum Offered {
+    Waits,
+    Meets(Core, CoreVal),
+    Misfits(Message),
+}
+
+/// What becomes of a reader that comes to a queue.
+#[derive(Drop)]
+pub(crate) enum Asked {
+    Waits,
+    Gets(Reader, Core, CoreVal),
+    Misfits(Reader),
+}
+
+impl Message {
+    // The output on the channel.
+    pub(crate) fn output(self, channel: u32) -> Core
+        ensures { plain_core result ≡ Out (Chan channel) (plain_val self.value) self.at }
+    {
+        Core::Out {
+            chan: CoreVal::Chan(channel),
+            message: self.value,
+            at: self.at,
+        }
+    }
+}
+
+impl Reader {
+    // The input at the channel.
+    pub(crate) fn input(self, channel: u32) -> Core
+        ensures { plain_core result ≡ In (Chan channel) self.replicated (plain_pat self.pattern) (plain_core self.body.inner.value) }
+    {
+        Core::In {
+            chan: CoreVal::Chan(channel),
+            replicated: self.replicated,
+            pattern: self.pattern,
+            body: self.body,
+        }
+    }
+
+    // The body with the parts of the value put in; nothing where the value doesn't fit the pattern.
+    fn serve(&self, alloc: Global, value: &CoreVal) -> Result<Option<Core>, AllocError>
+        ensures { IfOk result (λ body. IsServed body (plain_reader self.now) (plain_val value.now)) }
+    {
+        match parts_of(alloc, &self.pattern, value)? {
+            None => Ok(None),
+            Some(parts) => Ok(Some(put(alloc, self.body.core(), &parts)?)),
+        }
+    }
+}
+
+// A replicated reader that served goes behind the others; a plain one ends.
+fn requeue(readers: &mut VecDeque<Reader>, reader: Reader)
+    requires { deque_len readers.old < deque_capacity readers.old }
+    ensures { map plain_reader readers.new.items ≡ map plain_reader readers.old.items ++ again reader.replicated (plain_reader reader) }
+{
+    if reader.replicated {
+        readers.push_back_reserved(reader);
+    }
+}
+
+impl Queue {
+    // The message comes: the oldest reader takes it, or it waits.
+    pub(crate) fn offer(&mut self, alloc: Global, message: Message) -> Result<Offered, AllocError>
+        ensures { IfOk result (λ o. IsOffered o (plain_queue self.old) (plain_message message) (plain_queue self.new)) }
+    {
+        match self {
+            Queue::Messages(messages) => {
+                messages.push_back(message)?;
+                Ok(Offered::Waits)
+            }
+            Queue::Readers(readers) => match readers.pop_front() {
+                None => {
+                    let mut messages = VecDeque::new(alloc);
+                    messages.push_back(message)?;
+                    *self = Queue::Messages(messages);
+                    Ok(Offered::Waits)
+                }
+                Some(reader) => match reader.serve(alloc, &message.value)? {
+                    None => {
+                        readers.push_front_reserved(reader);
+                        Ok(Offered::Misfits(message))
+                    }
+                    Some(body) => {
+                        requeue(readers, reader);
+                        Ok(Offered::Meets(body, message.value))
+                    }
+                },
+            },
+        }
+    }
+
+    // The reader comes: it takes the oldest message, or it waits.
+    pub(crate) fn ask(&mut self, alloc: Global, reader: Reader) -> Result<Asked, AllocError>
+        ensures { IfOk result (λ a. IsAsked a (plain_queue self.old) (plain_reader reader) (plain_queue self.new)) }
+    {
+        match self {
+            Queue::Readers(readers) => {
+                readers.push_back(reader)?;
+                Ok(Asked::Waits)
+            }
+            Queue::Messages(messages) => match messages.pop_front() {
+                None => {
+                    let mut readers = VecDeque::new(alloc);
+                    readers.push_back(reader)?;
+                    *self = Queue::Readers(readers);
+                    Ok(Asked::Waits)
+                }
+                Some(message) => match reader.serve(alloc, &message.value)? {
+                    None => {
+                        messages.push_front_reserved(message);
+                        Ok(Asked::Misfits(reader))
+                    }
+                    Some(body) => Ok(Asked::Gets(reader, body, message.value)),
+                },
+            },
+        }
+    }
+}

@@ -1,0 +1,122 @@
+// Runs of the machine, and who watches them.
+
+ghost use Rattle.std.specs.Prelude.{◌≡◌, ◌≢◌, ◌≤◌, ◌<◌, ◌+◌, ◌^◌, ◌↔◌, ◌∷◌, [], ℕ, List, Option, IfOk, OnOk, OnErr, Err};
+ghost use Rattle.pict_outside.specs.Counts.{Rose};
+ghost use Rattle.pict_core.specs.Configuration.{Configuration, IsConfiguration};
+ghost use Rattle.pict_core.specs.Step.{Label};
+ghost use Rattle.pict_core.specs.Run.{shown, Misshapen};
+ghost use Rattle.pict_machine.specs.View.{StandsFor};
+ghost use Rattle.pict_machine.specs.Reading.{view_of, channels_of, label_of, IsShown};
+ghost use Rattle.pict_machine.specs.Watching.{WhereTold, Saw, SawOrTore, Ran, BrokeOff, end_of};
+
+use crate::event::{End, Event, RunError, StepError};
+use crate::machine::Machine;
+
+/// One who is shown each event of a run that is a communication or a printing, as soon as its step is done.
+///
+/// Each watcher says what its view is, a list of numbers: the bytes that it has written, say, or what it has counted.
+pub trait Watcher {
+    /// The view, where it is told.
+    ghost view: { Self → Option (List ℕ) };
+
+    /// The view after a label was shown with its step number.
+    ghost next: { Self → List ℕ → ℕ → Label → List ℕ };
+
+    /// The views that a refused showing may leave, from the view before it.
+    ghost torn: { Self → List ℕ → ℕ → Label → List ℕ → Type 0 };
+
+    /// How often showing failed, counted up to the greatest `u64`.
+    ghost faults: { Self → ℕ };
+
+    /// It shows through the same references as before.
+    ghost same: { Self → Self → Type 0 };
+
+    /// Shows the event of the step with this number, from 1. `Sink` comes only where the count of faults rose, and
+    /// `Shape` never.
+    fn see(&mut self, number: u64, event: &Event) -> Result<(), RunError>
+        requires { IsShown event.now }
+        ensures seen { OnOk result (WhereTold (λ before after. after ≡ next self.old before number (label_of event.now)) (view self.old) (view self.new)) }
+        ensures torn { OnErr result (WhereTold (λ before after. torn self.old before number (label_of event.now) after) (view self.old) (view self.new)) }
+        ensures next_stays { (v : List ℕ) (n : ℕ) (l : Label) → next self.new v n l ≡ next self.old v n l }
+        ensures torn_stays { (v : List ℕ) (n : ℕ) (l : Label) (after : List ℕ) → torn self.new v n l after ↔ torn self.old v n l after }
+        ensures faults_stay { faults self.old ≤ faults self.new }
+        ensures sink { result ≡ Err RunError.Sink → Rose (faults self.old) (faults self.new) }
+        ensures no_shape { result ≢ Err RunError.Shape }
+        ensures same { same self.old self.new };
+
+    ghost same_itself: { (w : Self) → same w w };
+
+    ghost same_along: { (u v w : Self) → same u v → same v w → same u w };
+}
+
+// Shows the event, unless it is quiet or a trap.
+fn show<W: Watcher>(watcher: &mut W, number: u64, event: &Event) -> Result<(), RunError>
+    ensures seen { OnOk result (Saw (W.next watcher.old) (W.view watcher.old) (W.view watcher.new) (shown number (label_of event.now))) }
+    ensures torn { OnErr result (WhereTold (λ before after. W.torn watcher.old before number (label_of event.now) after) (W.view watcher.old) (W.view watcher.new)) }
+    ensures one { OnErr result (shown number (label_of event.now) ≡ (number, label_of event.now) ∷ []) }
+    ensures next_stays { (v : List ℕ) (n : ℕ) (l : Label) → W.next watcher.new v n l ≡ W.next watcher.old v n l }
+    ensures torn_stays { (v : List ℕ) (n : ℕ) (l : Label) (after : List ℕ) → W.torn watcher.new v n l after ↔ W.torn watcher.old v n l after }
+    ensures faults_stay { W.faults watcher.old ≤ W.faults watcher.new }
+    ensures sink { result ≡ Err RunError.Sink → Rose (W.faults watcher.old) (W.faults watcher.new) }
+    ensures no_shape { result ≢ Err RunError.Shape }
+    ensures same { W.same watcher.old watcher.new }
+{
+    match event {
+        Event::Quiet => Ok(()),
+        Event::Trapped(_) => Ok(()),
+        _ => watcher.see(number, event),
+    }
+}
+
+impl Machine {
+    /// Up to `fuel` steps, each the oldest-first step, until nothing is ready, a step traps or one is wrong. After
+    /// each step that shows something the watcher sees its event, with step numbers from 1.
+    ///
+    /// The answer is the end of the run with this fuel, of each configuration that the machine stands for, and the
+    /// watcher has seen exactly its labels, in order. `Sink` and `Memory` break the run off; what the watcher has
+    /// seen are then the labels of some steps of the run, of which showing the last may have been refused. `Sink` comes only where
+    /// the watcher's count of faults rose. `Shape` comes exactly where a step within the fuel is wrong; the machine
+    /// stands before it. After `Memory` the machine is to be dropped.
+    pub fn run<W: Watcher>(&mut self, fuel: u64, watcher: &mut W) -> Result<End, RunError>
+        requires fuel { fuel ≤ 1000000000 }
+        requires few { channels_of self.old + fuel < 2 ^ 32 }
+        ensures end { IfOk result (λ end. (C : Configuration) → IsConfiguration C → StandsFor (view_of self.old) C
+            → Ran C fuel (end_of end) (view_of self.new) (Saw (W.next watcher.old) (W.view watcher.old) (W.view watcher.new))) }
+        ensures shape { result ≡ Err RunError.Shape → (C : Configuration) → IsConfiguration C → StandsFor (view_of self.old) C
+            → Ran C fuel Misshapen (view_of self.new) (Saw (W.next watcher.old) (W.view watcher.old) (W.view watcher.new)) }
+        ensures refused { result ≡ Err RunError.Sink → (C : Configuration) → IsConfiguration C → StandsFor (view_of self.old) C
+            → BrokeOff C fuel (StandsFor (view_of self.new)) (SawOrTore (W.next watcher.old) (W.torn watcher.old) (W.view watcher.old) (W.view watcher.new)) }
+        ensures memory { result ≡ Err RunError.Memory → (C : Configuration) → IsConfiguration C → StandsFor (view_of self.old) C
+            → BrokeOff C fuel (λ D. IsConfiguration D) (SawOrTore (W.next watcher.old) (W.torn watcher.old) (W.view watcher.old) (W.view watcher.new)) }
+        ensures sink { result ≡ Err RunError.Sink → Rose (W.faults watcher.old) (W.faults watcher.new) }
+        ensures channels { IfOk result (λ end. channels_of self.new ≤ channels_of self.old + fuel) }
+        ensures faults_stay { W.faults watcher.old ≤ W.faults watcher.new }
+        ensures next_stays { (v : List ℕ) (n : ℕ) (l : Label) → W.next watcher.new v n l ≡ W.next watcher.old v n l }
+        ensures torn_stays { (v : List ℕ) (n : ℕ) (l : Label) (after : List ℕ) → W.torn watcher.new v n l after ↔ W.torn watcher.old v n l after }
+        ensures same { W.same watcher.old watcher.new }
+    {
+        for step in 0..fuel {
+            if !self.ready() {
+                return Ok(End::Done);
+            }
+            let event = match self.step() {
+                Ok(event) => event,
+                Err(StepError::Memory) => return Err(RunError::Memory),
+                Err(StepError::Shape) => return Err(RunError::Shape),
+            };
+            match event.trap() {
+                Some(at) => return Ok(End::Trap(at)),
+                None => {}
+            }
+            match show(watcher, step + 1, &event) {
+                Ok(()) => {}
+                Err(error) => return Err(error),
+            }
+        }
+        if self.ready() {
+            Ok(End::FuelSpent)
+        } else {
+            Ok(End::Done)
+        }
+    }
+}
