@@ -1,0 +1,84 @@
+-- The reading of a process: substitution and renaming on it.
+use Rattle.std.proofs.Common.{ℕ, zero, suc, ◌+◌, ◌-◌, ◌<◌, ◌≤◌, ◌≡◌, true, false, nat_lt, cond, List, [], ◌∷◌, map, length, refl, sym, ap, ◌∙◌, arith, unwrap_or}
+use Rattle.std.proofs.lemmas.Bool.Decides.{nat_tests}
+use Rattle.std.proofs.lemmas.List.{length-map}
+use Rattle.std.specs.List.{slice_get}
+use Rattle.pict_core.specs.Term.{Val, Process, Var, Chan, Par}
+use Rattle.pict_core.specs.Scope.{IsUnder}
+use Rattle.pict_core.specs.Substitution.{replace_val, put, putting, put_var}
+use Rattle.pict_core.specs.Configuration.{Entry, AreClosed}
+use Rattle.pict_core.proofs.Putting.{put_var-zero}
+use Rattle.pict_sound.specs.Congruence.{renaming, raise, raised}
+use Rattle.pict_sound.specs.Reading.{naming, read, composition}
+use Rattle.pict_sound.proofs.Replacing.{after, replace-after, Agree, agrees}
+
+abbrev pub read_val : ℕ → Val → Val
+read_val n v = replace_val (naming n) v
+
+-- ---- parts put into a body
+
+part_read : (n : ℕ) (vs : List Val) (i : ℕ) (d d' : Val) → (length vs ≤ i → read_val n d ≡ d') → read_val n (unwrap_or (slice_get vs i) d) ≡ unwrap_or (slice_get (map (read_val n) vs) i) d'
+part_read n [] i d d' h = h (omega arith)
+part_read n (v ∷ vs) zero d d' h = refl
+part_read n (v ∷ vs) (suc i) d d' h = part_read n vs i d d' (λ k. h (omega arith))
+
+put_var_from : (n : ℕ) (vs : List Val) (level : ℕ) → put_var n vs (level + n) ≡ unwrap_or (slice_get vs level) (Var (level + n - length vs))
+put_var_from n vs level =
+    let test : nat_lt (level + n) n ≡ false = grind (arith, nat_tests) in
+    let place : level + n - n ≡ level = omega arith in
+    ap (λ b. cond b (Var (level + n)) (unwrap_or (slice_get vs (level + n - n)) (Var (level + n - length vs)))) test ∙ ap (λ i. unwrap_or (slice_get vs i) (Var (level + n - length vs))) place
+
+put_var_below : (n : ℕ) (vs : List Val) (level : ℕ) → level < n → put_var n vs level ≡ Var level
+put_var_below n vs level h =
+    let test : nat_lt level n ≡ true = grind (arith, nat_tests) in
+    ap (λ b. cond b (Var level) (unwrap_or (slice_get vs (level - n)) (Var (level - length vs)))) test
+
+put_agrees : (n : ℕ) (parts : List Val) → Agree n (after (naming n) (putting 0 parts)) (after (putting n (map (read_val n) parts)) (naming n))
+put_agrees n parts = record {
+  variable = λ level.
+      let same : length (map (read_val n) parts) ≡ length parts = length-map parts (read_val n) in
+      ap (read_val n) (put_var-zero parts level)
+      ∙ part_read n parts level (Var (level - length parts)) (Var (level + n - length (map (read_val n) parts))) (λ k. ap Var (omega (arith, same)))
+      ∙ sym (put_var_from n (map (read_val n) parts) level);
+  channel = λ number h. sym (put_var_below n (map (read_val n) parts) number h);
+}
+
+-- substitution and reading commute
+pub read_put : (n m : ℕ) (parts : List Val) (body : Process) → IsUnder m n body → read n (put 0 parts body) ≡ put n (map (read_val n) parts) (read n body)
+read_put n m parts body u =
+    replace-after (naming n) (putting 0 parts) body ∙ agrees n _ _ (put_agrees n parts) m body u ∙ sym (replace-after (putting n (map (read_val n) parts)) (naming n) body)
+
+-- ---- one channel more
+
+raise_agrees : (n : ℕ) → Agree n (naming (suc n)) (after (renaming (raise n)) (naming n))
+raise_agrees n = record {
+  variable = λ level.
+      let test : nat_lt (level + n) n ≡ false = grind (arith, nat_tests) in
+      let same : level + suc n ≡ suc (level + n) = omega arith in
+      ap Var same ∙ sym (ap (λ b. Var (cond b (level + n) (suc (level + n)))) test);
+  channel = λ number h.
+      let test : nat_lt number n ≡ true = grind (arith, nat_tests) in
+      sym (ap (λ b. Var (cond b number (suc number))) test);
+}
+
+-- a process that doesn't name the new channel
+pub read_raised : (n m : ℕ) (p : Process) → IsUnder m n p → read (suc n) p ≡ raised n (read n p)
+read_raised n m p u = agrees n _ _ (raise_agrees n) m p u ∙ sym (replace-after (renaming (raise n)) (naming n) p)
+
+pub composition_raised : (n : ℕ) (es : List Entry) → AreClosed n es → composition (suc n) es ≡ raised n (composition n es)
+composition_raised n [] h = refl
+composition_raised n (e ∷ es) h = ap (λ p. Par p (composition (suc n) es)) (read_raised n 0 e.process h.0) ∙ ap (Par (raised n (read n e.process))) (composition_raised n es h.1)
+
+new_agrees : (n : ℕ) → Agree n (after (naming (suc n)) (putting 0 (Chan n ∷ []))) (naming n)
+new_agrees n = record {
+  variable = λ level. ap (read_val (suc n)) (put_var-zero (Chan n ∷ []) level) ∙ at level;
+  channel = λ number h. refl;
+}
+  where
+    at : (level : ℕ) → read_val (suc n) (unwrap_or (slice_get (Chan n ∷ []) level) (Var (level - 1))) ≡ Var (level + n)
+    at zero = ap Var (omega arith)
+    at (suc level) = ap Var (omega arith)
+
+-- the new channel's name put for the variable of a new
+pub read_new : (n m : ℕ) (p : Process) → IsUnder m n p → read (suc n) (put 0 (Chan n ∷ []) p) ≡ read n p
+read_new n m p u = replace-after (naming (suc n)) (putting 0 (Chan n ∷ [])) p ∙ agrees n _ _ (new_agrees n) m p u
