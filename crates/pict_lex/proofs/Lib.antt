@@ -1,0 +1,9 @@
+pub mod RunLemmas
+pub mod DueLemmas
+pub mod QuotedLemmas
+pub mod NumberLemmas
+pub mod BracketLemmas
+pub mod FrontLemmas
+pub mod StepLemmas
+pub mod LexLemmas
+pub mod PlaceLemmas
