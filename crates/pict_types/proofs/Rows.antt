@@ -1,0 +1,192 @@
+-- Rows of types, labelled fields and type fields: what a Vec of them is as plain data, item by item.
+use mathlib.Core.Former.{Count}
+use Rattle.std.proofs.Common.{◌≡◌, ℕ, zero, suc, ◌+◌, ◌≤◌, ◌<◌, List, [], ◌∷◌, ◌++◌, length, get_or, drop, take, refl, sym, ◌∙◌, ap, arith, add-one, drop-cons}
+use Rattle.std.proofs.lemmas.List.{drop_all}
+use Rattle.std.specs.declared.vec.Vec.{Vec}
+use Rattle.std.specs.declared.alloc.Global.{Global}
+use Rattle.pict_syntax.specs.declared.name.Name.{Name}
+use Rattle.pict_types.specs.declared.types.Ty.{Ty}
+use Rattle.pict_types.specs.declared.types.Ty.TheVariants.{Apply as Apply_, Apply' as Apply_', Fields as Fields_, Fields' as Fields_'}
+use Rattle.pict_types.specs.declared.types.Record.{Record}
+use Rattle.pict_types.specs.declared.types.Bound.{Bound}
+use Rattle.pict_types.specs.declared.types.Bound.TheBlock.{Row_of-Ty, end_of-Ty, more_of-Ty, items-the_row-Ty, items_hidden-the_row-Ty-0, Row_of-Bound, end_of-Bound, more_of-Bound, items-the_row-Bound, items_hidden-the_row-Bound-1, Row_of-Record-labelled-2, end_of-Record-labelled-2, more_of-Record-labelled-2, items-the_row-Record-labelled-2, items_hidden-the_row-Record-labelled-2-2}
+use Rattle.pict_types.specs.Types.{Apply, Fields, PlainTypes, no_type, types, PlainLabels, no_label, labels, PlainBound, Free, Below, Operator, PlainBounds, no_bound, bounds, count_bounds}
+use Rattle.pict_types.specs.Room.{reach, reach_types, reach_labels, reach_bounds, reach_bound}
+use Rattle.pict_types.specs.Measures.{size, size_types, size_bounds, size_bound, size_labels}
+use Rattle.pict_types.specs.Plain.{plain, plain_bound, plain_record, plain_row, plain_bound_row, plain_label_row, plain_types, plain_bounds, plain_labels}
+
+row_items : (n : _) (r : Row_of-Ty n) → plain_row r ≡ plain_types (items-the_row-Ty n r)
+row_items n end_of-Ty = refl
+row_items n (more_of-Ty t ts) = ap (types (plain t)) (row_items _ ts)
+
+bound_row_items : (n : _) (r : Row_of-Bound n) → plain_bound_row r ≡ plain_bounds (items-the_row-Bound n r)
+bound_row_items n end_of-Bound = refl
+bound_row_items n (more_of-Bound b bs) = ap (bounds (plain_bound b)) (bound_row_items _ bs)
+
+label_row_items : (n : _) (r : Row_of-Record-labelled-2 n) → plain_label_row r ≡ plain_labels (items-the_row-Record-labelled-2 n r)
+label_row_items n end_of-Record-labelled-2 = refl
+label_row_items n (more_of-Record-labelled-2 l t ls) = ap (labels l.0 (plain t)) (label_row_items _ ls)
+
+abbrev row_of : Ty → (n : Count) × Row_of-Ty n
+row_of (Apply_' i shape ts) = (_, ts)
+row_of (Fields_' a bs b ps c ls) = (_, ps)
+row_of _ = (_, end_of-Ty)
+
+abbrev bound_row_of : Ty → (n : Count) × Row_of-Bound n
+bound_row_of (Fields_' a bs b ps c ls) = (_, bs)
+bound_row_of _ = (_, end_of-Bound)
+
+abbrev label_row_of : Ty → (n : Count) × Row_of-Record-labelled-2 n
+label_row_of (Fields_' a bs b ps c ls) = (_, ls)
+label_row_of _ = (_, end_of-Record-labelled-2)
+
+pub plain_apply : (i : ℕ) (v : Vec Ty Global) → plain (Apply_ i v) ≡ Apply i (plain_types v.items)
+plain_apply i v =
+    let r = row_of (Apply_ i v) in
+    ap (Apply i) (row_items r.0 r.1 ∙ ap plain_types (items_hidden-the_row-Ty-0 v))
+
+three : {A B C D : Type 0} (k : A → B → C → D) {a a' : A} {b b' : B} {c c' : C} → a ≡ a' → b ≡ b' → c ≡ c' → k a b c ≡ k a' b' c'
+three k p q r = cc
+
+pub plain_fields : (r : Record) → plain (Fields_ r) ≡ plain_record r
+plain_fields r =
+    let ps = row_of (Fields_ r) in
+    let bs = bound_row_of (Fields_ r) in
+    let ls = label_row_of (Fields_ r) in
+    three Fields
+    (bound_row_items bs.0 bs.1 ∙ ap plain_bounds (items_hidden-the_row-Bound-1 r.binders))
+    (row_items ps.0 ps.1 ∙ ap plain_types (items_hidden-the_row-Ty-0 r.positional))
+    (label_row_items ls.0 ls.1 ∙ ap plain_labels (items_hidden-the_row-Record-labelled-2-2 r.labelled))
+
+-- one row behind another, and the same for the other two kinds
+abbrev pub then_types : PlainTypes → PlainTypes → PlainTypes
+then_types no_type us = us
+then_types (types t ts) us = types t (then_types ts us)
+
+abbrev pub then_bounds : PlainBounds → PlainBounds → PlainBounds
+then_bounds no_bound us = us
+then_bounds (bounds b bs) us = bounds b (then_bounds bs us)
+
+abbrev pub then_labels : PlainLabels → PlainLabels → PlainLabels
+then_labels no_label us = us
+then_labels (labels l t ls) us = labels l t (then_labels ls us)
+
+pub types_drop : (xs : List Ty) (i : ℕ) (d : Ty) → i < length xs → plain_types (drop i xs) ≡ types (plain (get_or xs i d)) (plain_types (drop (i + 1) xs))
+types_drop xs i d h = let e : drop i xs ≡ get_or xs i d ∷ drop (i + 1) xs = rw (add-one, drop-cons xs i d) refl in ap plain_types e
+
+pub types_end : (xs : List Ty) (i : ℕ) → length xs ≤ i → plain_types (drop i xs) ≡ no_type
+types_end xs i h = let e : drop i xs ≡ [] = drop_all i xs h in ap plain_types e
+
+pub types_then_none : (ts : PlainTypes) → then_types ts no_type ≡ ts
+types_then_none no_type = refl
+types_then_none (types t ts) = ap (types t) (types_then_none ts)
+
+pub types_push : (xs : List Ty) (x : Ty) (us : PlainTypes) → then_types (plain_types (xs ++ x ∷ [])) us ≡ then_types (plain_types xs) (types (plain x) us)
+types_push [] x us = refl
+types_push (y ∷ xs) x us = ap (types (plain y)) (types_push xs x us)
+
+pub size_types_item : (xs : List Ty) (i : ℕ) (d : Ty) → i < length xs → size (plain (get_or xs i d)) ≤ size_types (plain_types xs)
+size_types_item [] i d h = absurd (omega arith)
+size_types_item (x ∷ xs) zero d h = omega arith
+size_types_item (x ∷ xs) (suc i) d h = omega (arith, size_types_item xs i d (omega arith))
+
+pub bounds_drop : (xs : List Bound) (i : ℕ) (d : Bound) → i < length xs → plain_bounds (drop i xs) ≡ bounds (plain_bound (get_or xs i d)) (plain_bounds (drop (i + 1) xs))
+bounds_drop xs i d h = let e : drop i xs ≡ get_or xs i d ∷ drop (i + 1) xs = rw (add-one, drop-cons xs i d) refl in ap plain_bounds e
+
+pub bounds_end : (xs : List Bound) (i : ℕ) → length xs ≤ i → plain_bounds (drop i xs) ≡ no_bound
+bounds_end xs i h = let e : drop i xs ≡ [] = drop_all i xs h in ap plain_bounds e
+
+pub bounds_then_none : (ts : PlainBounds) → then_bounds ts no_bound ≡ ts
+bounds_then_none no_bound = refl
+bounds_then_none (bounds t ts) = ap (bounds t) (bounds_then_none ts)
+
+pub bounds_push : (xs : List Bound) (x : Bound) (us : PlainBounds) → then_bounds (plain_bounds (xs ++ x ∷ [])) us ≡ then_bounds (plain_bounds xs) (bounds (plain_bound x) us)
+bounds_push [] x us = refl
+bounds_push (y ∷ xs) x us = ap (bounds (plain_bound y)) (bounds_push xs x us)
+
+pub size_bounds_item : (xs : List Bound) (i : ℕ) (d : Bound) → i < length xs → size_bound (plain_bound (get_or xs i d)) ≤ size_bounds (plain_bounds xs)
+size_bounds_item [] i d h = absurd (omega arith)
+size_bounds_item (x ∷ xs) zero d h = omega arith
+size_bounds_item (x ∷ xs) (suc i) d h = omega (arith, size_bounds_item xs i d (omega arith))
+
+pub labels_drop : (xs : List (Name × Ty)) (i : ℕ) (d : (Name × Ty)) → i < length xs → plain_labels (drop i xs) ≡ labels (get_or xs i d).0.0 (plain (get_or xs i d).1) (plain_labels (drop (i + 1) xs))
+labels_drop xs i d h = let e : drop i xs ≡ get_or xs i d ∷ drop (i + 1) xs = rw (add-one, drop-cons xs i d) refl in ap plain_labels e
+
+pub labels_end : (xs : List (Name × Ty)) (i : ℕ) → length xs ≤ i → plain_labels (drop i xs) ≡ no_label
+labels_end xs i h = let e : drop i xs ≡ [] = drop_all i xs h in ap plain_labels e
+
+pub labels_then_none : (ts : PlainLabels) → then_labels ts no_label ≡ ts
+labels_then_none no_label = refl
+labels_then_none (labels l t ts) = ap (labels l t) (labels_then_none ts)
+
+pub labels_push : (xs : List (Name × Ty)) (x : (Name × Ty)) (us : PlainLabels) → then_labels (plain_labels (xs ++ x ∷ [])) us ≡ then_labels (plain_labels xs) (labels x.0.0 (plain x.1) us)
+labels_push [] x us = refl
+labels_push (y ∷ xs) x us = ap (labels y.0.0 (plain y.1)) (labels_push xs x us)
+
+pub size_labels_item : (xs : List (Name × Ty)) (i : ℕ) (d : (Name × Ty)) → i < length xs → size (plain (get_or xs i d).1) ≤ size_labels (plain_labels xs)
+size_labels_item [] i d h = absurd (omega arith)
+size_labels_item (x ∷ xs) zero d h = omega arith
+size_labels_item (x ∷ xs) (suc i) d h = omega (arith, size_labels_item xs i d (omega arith))
+
+pub size_bounds_drop : (xs : List Bound) (n : ℕ) → n ≤ length xs → size_bounds (plain_bounds (drop n xs)) + n ≤ size_bounds (plain_bounds xs)
+size_bounds_drop xs zero h = omega arith
+size_bounds_drop [] (suc n) h = absurd (omega arith)
+size_bounds_drop (x ∷ xs) (suc n) h = omega (arith, size_bounds_drop xs n (omega arith), size_bound_pos (plain_bound x))
+  where
+    size_bound_pos : (b : PlainBound) → 1 ≤ size_bound b
+    size_bound_pos Free = omega arith
+    size_bound_pos (Below t) = omega arith
+    size_bound_pos (Operator m) = omega arith
+
+-- an applied variable, told by what it is
+pub plain_is_apply : (t : Ty) (i : ℕ) (v : Vec Ty Global) → t ≡ Apply_ i v → plain t ≡ Apply i (plain_types v.items)
+plain_is_apply t i v e = ap plain e ∙ plain_apply i v
+
+size_bounds_take : (xs : List Bound) (n : ℕ) → size_bounds (plain_bounds (take n xs)) ≤ size_bounds (plain_bounds xs)
+size_bounds_take xs zero = omega arith
+size_bounds_take [] (suc n) = omega arith
+size_bounds_take (x ∷ xs) (suc n) = omega (arith, size_bounds_take xs n)
+
+-- a slice of the type fields from n on has n less
+pub size_bounds_part : (xs : List Bound) (m n : ℕ) → n ≤ length xs → size_bounds (plain_bounds (take m (drop n xs))) + n ≤ size_bounds (plain_bounds xs)
+size_bounds_part xs m n h = omega (arith, size_bounds_take (drop n xs) m, size_bounds_drop xs n h)
+
+pub reach_types_item : (xs : List Ty) (i : ℕ) (d : Ty) → i < length xs → reach (plain (get_or xs i d)) ≤ reach_types (plain_types xs)
+reach_types_item [] i d h = absurd (omega arith)
+reach_types_item (x ∷ xs) zero d h = omega arith
+reach_types_item (x ∷ xs) (suc i) d h = omega (arith, reach_types_item xs i d (omega arith))
+
+pub reach_labels_item : (xs : List (Name × Ty)) (i : ℕ) (d : Name × Ty) → i < length xs → reach (plain (get_or xs i d).1) ≤ reach_labels (plain_labels xs)
+reach_labels_item [] i d h = absurd (omega arith)
+reach_labels_item (x ∷ xs) zero d h = omega arith
+reach_labels_item (x ∷ xs) (suc i) d h = omega (arith, reach_labels_item xs i d (omega arith))
+
+pub reach_bounds_item : (xs : List Bound) (i : ℕ) (d : Bound) → i < length xs → reach_bound (plain_bound (get_or xs i d)) ≤ reach_bounds (plain_bounds xs)
+reach_bounds_item [] i d h = absurd (omega arith)
+reach_bounds_item (x ∷ xs) zero d h = omega arith
+reach_bounds_item (x ∷ xs) (suc i) d h = omega (arith, reach_bounds_item xs i d (omega arith))
+
+-- the type fields before the one at i, and that one
+pub size_bounds_reach : (xs : List Bound) (i : ℕ) (d : Bound) → i < length xs → i + size_bound (plain_bound (get_or xs i d)) ≤ size_bounds (plain_bounds xs)
+size_bounds_reach [] i d h = absurd (omega arith)
+size_bounds_reach (x ∷ xs) zero d h = omega arith
+size_bounds_reach (x ∷ xs) (suc i) d h = omega (arith, size_bounds_reach xs i d (omega arith), one_each (plain_bound x))
+  where
+    one_each : (b : PlainBound) → 1 ≤ size_bound b
+    one_each Free = omega arith
+    one_each (Below t) = omega arith
+    one_each (Operator m) = omega arith
+
+pub count_bounds_length : (xs : List Bound) → count_bounds (plain_bounds xs) ≡ length xs
+count_bounds_length [] = refl
+count_bounds_length (x ∷ xs) = ap suc (count_bounds_length xs)
+
+pub count_size_bounds : (bs : PlainBounds) → count_bounds bs ≤ size_bounds bs
+count_size_bounds no_bound = omega arith
+count_size_bounds (bounds Free bs) = omega (arith, count_size_bounds bs)
+count_size_bounds (bounds (Below t) bs) = omega (arith, count_size_bounds bs)
+count_size_bounds (bounds (Operator n) bs) = omega (arith, count_size_bounds bs)
+
+-- the same where its arguments are read as a slice
+pub apply_is : (t : Ty) (i : ℕ) (v : Vec Ty Global) (xs : List Ty) → t ≡ Apply_ i v → xs ≡ v.items → plain t ≡ Apply i (plain_types xs)
+apply_is t i v xs e h = plain_is_apply t i v e ∙ ap (λ x. Apply i (plain_types x)) (sym h)

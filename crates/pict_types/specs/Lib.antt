@@ -1,0 +1,13 @@
+pub mod Types
+pub mod Renaming
+pub mod Replacing
+pub mod Measures
+pub mod Kinds
+pub mod Plain
+pub mod Scopes
+pub mod Room
+pub mod Entries
+pub mod Props
+pub mod PlainEntries
+pub mod PlainContext
+pub mod Normal

@@ -1,0 +1,71 @@
+-- There is one way only for a type to be well formed.
+use Rattle.std.specs.Prelude.{◌≡◌, ℕ, List, [], ◌∷◌, Option, Some, None, refl}
+use Rattle.std.specs.Coded.{Coded, Coded-set, coded_ℕ, coded_option, code_by, ×_prop, Unit-prop}
+use Rattle.std.specs.Ordering.{Ordering-set}
+use Rattle.pict_types.specs.Types.{PlainType, Top, Int, Char, Str, Boolean, Var, Apply, Chan, Fields, Rec, PlainTypes, no_type, types, PlainLabels, no_label, labels, PlainBound, Free, Below, Operator, PlainBounds, no_bound, bounds, Plain, Op, TypeContext, count_types}
+use Rattle.pict_types.specs.Kinds.{Kind, proper, operator_of, kind_by, kinds, kinds_under, kind_at, StandsBeforeAll, IsWellFormed, AreWellFormed, LabelsAreWellFormed, BoundsAreWellFormed, BoundIsWellFormed, with_parameters}
+use Rattle.pict_types.specs.Entries.{PlainWhat, Variable, Definition, PlainContext, variables, EntryIsWellFormed, EntriesAreWellFormed}
+
+-- a kind as the number of its arguments, and none for types
+abbrev arguments_of : Kind → Option ℕ
+arguments_of proper = None
+arguments_of (operator_of n) = Some n
+
+abbrev kind_of : Option ℕ → Kind
+kind_of None = proper
+kind_of (Some n) = operator_of n
+
+kind_again : (k : Kind) → kind_of (arguments_of k) ≡ k
+kind_again proper = refl
+kind_again (operator_of n) = refl
+
+abbrev kind_code : Coded Kind
+kind_code = code_by (Option ℕ) (coded_option coded_ℕ) arguments_of kind_of kind_again
+
+kind_prop : (ks : List Kind) (i : ℕ) (k : Kind) → IsProp (kind_at ks i ≡ Some k)
+kind_prop ks i k = Coded-set (coded_option kind_code) (kind_at ks i) (Some k)
+
+before_prop : (ns : List (List ℕ)) (l : ℕ) (ls : PlainLabels) → IsProp (StandsBeforeAll ns l ls)
+before_prop ns l no_label = Unit-prop
+before_prop ns l (labels m t ls) = ×_prop (Ordering-set _ _) (before_prop ns l ls)
+
+mutual
+  pub IsWellFormed-prop : (ns : List (List ℕ)) (ks : List Kind) (t : PlainType) → IsProp (IsWellFormed ns ks t)
+  IsWellFormed-prop ns ks Top = Unit-prop
+  IsWellFormed-prop ns ks Int = Unit-prop
+  IsWellFormed-prop ns ks Char = Unit-prop
+  IsWellFormed-prop ns ks Str = Unit-prop
+  IsWellFormed-prop ns ks Boolean = Unit-prop
+  IsWellFormed-prop ns ks (Var i) = kind_prop ks i proper
+  IsWellFormed-prop ns ks (Apply i ts) = ×_prop (kind_prop ks i (operator_of (count_types ts))) (AreWellFormed-prop ns ks ts)
+  IsWellFormed-prop ns ks (Chan m t) = IsWellFormed-prop ns ks t
+  IsWellFormed-prop ns ks (Fields bs ps ls) =
+      ×_prop (BoundsAreWellFormed-prop ns ks bs) (×_prop (AreWellFormed-prop ns (kinds_under ks bs) ps) (LabelsAreWellFormed-prop ns (kinds_under ks bs) ls))
+  IsWellFormed-prop ns ks (Rec t) = IsWellFormed-prop ns (proper ∷ ks) t
+
+  AreWellFormed-prop : (ns : List (List ℕ)) (ks : List Kind) (ts : PlainTypes) → IsProp (AreWellFormed ns ks ts)
+  AreWellFormed-prop ns ks no_type = Unit-prop
+  AreWellFormed-prop ns ks (types t ts) = ×_prop (IsWellFormed-prop ns ks t) (AreWellFormed-prop ns ks ts)
+
+  LabelsAreWellFormed-prop : (ns : List (List ℕ)) (ks : List Kind) (ls : PlainLabels) → IsProp (LabelsAreWellFormed ns ks ls)
+  LabelsAreWellFormed-prop ns ks no_label = Unit-prop
+  LabelsAreWellFormed-prop ns ks (labels l t ls) =
+      ×_prop (before_prop ns l ls) (×_prop (IsWellFormed-prop ns ks t) (LabelsAreWellFormed-prop ns ks ls))
+
+  BoundsAreWellFormed-prop : (ns : List (List ℕ)) (ks : List Kind) (bs : PlainBounds) → IsProp (BoundsAreWellFormed ns ks bs)
+  BoundsAreWellFormed-prop ns ks no_bound = Unit-prop
+  BoundsAreWellFormed-prop ns ks (bounds b bs) = ×_prop (BoundIsWellFormed-prop ns ks b) (BoundsAreWellFormed-prop ns (kind_by b ∷ ks) bs)
+
+  BoundIsWellFormed-prop : (ns : List (List ℕ)) (ks : List Kind) (b : PlainBound) → IsProp (BoundIsWellFormed ns ks b)
+  BoundIsWellFormed-prop ns ks Free = Unit-prop
+  BoundIsWellFormed-prop ns ks (Below t) = IsWellFormed-prop ns ks t
+  BoundIsWellFormed-prop ns ks (Operator n) = Unit-prop
+
+entry_prop : (ns : List (List ℕ)) (c : TypeContext) (w : PlainWhat) → IsProp (EntryIsWellFormed ns c w)
+entry_prop ns c (Variable b) = BoundIsWellFormed-prop ns (kinds c) b
+entry_prop ns c (Definition (Plain t)) = IsWellFormed-prop ns (kinds c) t
+entry_prop ns c (Definition (Op n t)) = IsWellFormed-prop ns (with_parameters n (kinds c)) t
+
+pub EntriesAreWellFormed-prop : (ns : List (List ℕ)) (c : PlainContext) → IsProp (EntriesAreWellFormed ns c)
+EntriesAreWellFormed-prop ns [] = Unit-prop
+EntriesAreWellFormed-prop ns (e ∷ c) = ×_prop (entry_prop ns (variables c) e.what) (EntriesAreWellFormed-prop ns c)

@@ -1,0 +1,169 @@
+// The type variables and definitions in scope.
+
+ghost use Rattle.std.specs.Prelude.{◌≡◌, ◌<◌, ◌^◌, length, map, reverse};
+ghost use Rattle.pict_types.specs.Entries.{EntriesAreWellFormed, held_heights, held_weights, places, variables};
+ghost use Rattle.pict_types.specs.PlainEntries.{plain_entries};
+ghost use Rattle.pict_types.specs.Props.{EntriesAreWellFormed-prop};
+
+use crate::measure::{Known, Measures, Scope, measure, measure_bound};
+use crate::types::{Arg, Bound, Ty};
+use pict_syntax::{Name, Names};
+use std::alloc::{AllocError, Global};
+
+/// What a name of a type means.
+#[derive(Drop)]
+pub enum What {
+    /// A type variable with what is known of it.
+    Variable(Bound),
+    /// A definition, which stands for its body.
+    Definition(Arg),
+}
+
+/// A name with its meaning. Its bound or its definition is written in the variables of the entries around it.
+#[derive(Drop)]
+pub struct Entry {
+    pub name: Name,
+    pub what: What,
+}
+
+/// The type variables and definitions in scope, and the names by whose bytes labels are ordered.
+///
+/// Contracts see it as the list of its entries, the innermost first.
+#[derive(Drop)]
+pub struct Context<'a> {
+    names: &'a Names,
+    entries: Vec<Entry>,
+    known: Vec<Known>,
+    ghost formed: { EntriesAreWellFormed names.now (plain_entries entries.items) } by { EntriesAreWellFormed-prop names.now (plain_entries entries.items) },
+    ghost placed: { reverse (map (λ k. k.place) known.items) ≡ places (plain_entries entries.items) },
+    ghost weighed: { reverse (map (λ k. k.measures.weight) known.items) ≡ held_weights (plain_entries entries.items) },
+    ghost measured: { reverse (map (λ k. k.measures.height) known.items) ≡ held_heights (plain_entries entries.items) },
+    ghost few: { length (variables (plain_entries entries.items)) < 2 ^ 32 },
+}
+
+impl<'a> Context<'a> {
+    ghost use Rattle.std.specs.Prelude.{◌≡◌, ◌+◌, ◌≤◌, ◌<◌, ◌^◌, [], ◌∷◌, length, drop, slice_get, Some, IfNone, IfSome, OnOk, OnErr};
+    ghost use Rattle.pict_types.specs.Entries.{EntryIsWellFormed, variables};
+    ghost use Rattle.pict_types.specs.Measures.{held, height_of, weight_of};
+    ghost use Rattle.pict_types.specs.Plain.{plain, plain_bound};
+    ghost use Rattle.pict_types.specs.PlainEntries.{plain_entry, plain_what};
+    ghost use Rattle.pict_types.specs.PlainContext.{names_of, plain_context, type_context};
+
+    /// A context without entries. Takes no memory.
+    pub fn new(alloc: Global, names: &'a Names) -> Context<'a>
+        ensures empty { plain_context result ≡ [] }
+        ensures names { names_of result ≡ names.now }
+    {
+        Context {
+            names,
+            entries: Vec::new(alloc),
+            known: Vec::new(alloc),
+        }
+    }
+
+    /// Adds the entry as the innermost. The only error is want of memory, and it leaves the context as it was.
+    pub fn push(&mut self, entry: Entry) -> Result<(), AllocError>
+        requires formed { EntryIsWellFormed (names_of self.old) (type_context self.old) (plain_what entry.what) }
+        requires room { length (variables (plain_entry entry ∷ plain_context self.old)) < 2 ^ 32 }
+        ensures pushed { OnOk result (plain_context self.new ≡ plain_entry entry ∷ plain_context self.old) }
+        ensures err { OnErr result (plain_context self.new ≡ plain_context self.old) }
+        ensures names { names_of self.new ≡ names_of self.old }
+    {
+        self.entries.reserve(1)?;
+        match &entry.what {
+            What::Variable(bound) => {
+                let measures = measure_bound(bound, &Scope::Outer(&self.known));
+                let place = self.entries.as_slice().len();
+                self.known.push(Known { place, measures })?;
+                self.entries.push_reserved(entry);
+                Ok(())
+            }
+            What::Definition(_) => {
+                self.entries.push_reserved(entry);
+                Ok(())
+            }
+        }
+    }
+
+    /// Drops the innermost entry. Takes no memory.
+    pub fn pop(&mut self)
+        requires some { 0 < length (plain_context self.old) }
+        ensures popped { plain_context self.new ≡ drop 1 (plain_context self.old) }
+        ensures names { names_of self.new ≡ names_of self.old }
+    {
+        if let Some(entry) = self.entries.pop()
+            && let What::Variable(_) = entry.what
+        {
+            let _ = self.known.pop();
+        }
+    }
+
+    /// The number of type variables. Takes no memory.
+    pub fn variables(&self) -> u32
+        ensures count { result ≡ length (type_context self.now) }
+    {
+        self.known.as_slice().len() as u32
+    }
+
+    /// What is known of type variable `i`, written in the context as it was when the variable was pushed; nothing
+    /// where there is no such variable. Takes no memory.
+    pub fn bound(&self, i: u32) -> Option<&Bound>
+        ensures none { IfNone result (length (type_context self.now) ≤ i) }
+        ensures some { IfSome result (λ b. slice_get (type_context self.now) i ≡ Some (plain_bound b.now)) }
+    {
+        let known = self.known.as_slice();
+        let entries = self.entries.as_slice();
+        if (i as usize) >= known.len() {
+            return None;
+        }
+        let place = known[known.len() - 1 - i as usize].place;
+        match &entries[place].what {
+            What::Variable(bound) => Some(bound),
+            What::Definition(_) => unreachable!(),
+        }
+    }
+
+    /// The names by whose bytes labels are ordered. Takes no memory.
+    pub fn names(&self) -> &Names
+        ensures same { result.now ≡ names_of self.now }
+    {
+        self.names
+    }
+
+    /// The weight and the height of a type.
+    pub(crate) fn measures(&self, t: &Ty) -> Measures
+        ensures weight { result.weight ≡ held (weight_of (type_context self.now) (plain t.now)) }
+        ensures height { result.height ≡ held (height_of (type_context self.now) (plain t.now)) }
+    {
+        measure(t, &Scope::Outer(&self.known))
+    }
+}
+
+#[cfg(test)]
+mod tests {
+    use super::{Context, Entry, What};
+    use crate::types::{Bound, Ty};
+    use pict_syntax::{Name, Names};
+    use std::alloc::AllocError;
+
+    #[test]
+    fn the_innermost_variable_is_the_first(rt: HostRuntime) -> Result<(), AllocError> {
+        let names = Names::new(rt.alloc());
+        let mut c = Context::new(rt.alloc(), &names);
+        c.push(Entry {
+            name: Name(0),
+            what: What::Variable(Bound::Below(Ty::Int)),
+        })?;
+        c.push(Entry {
+            name: Name(1),
+            what: What::Variable(Bound::Free),
+        })?;
+        assert_eq!(rt; c.variables(), 2);
+        assert!(rt; matches!(c.bound(0), Some(Bound::Free)));
+        assert!(rt; matches!(c.bound(1), Some(Bound::Below(Ty::Int))));
+        assert!(rt; c.bound(2).is_none());
+        c.pop();
+        assert_eq!(rt; c.variables(), 1);
+        Ok(())
+    }
+}

@@ -1,0 +1,81 @@
+// Types in normal form: no definition and no applied operator is left, and variables have no names.
+
+ghost use Rattle.std.specs.Prelude.{◌≡◌, IfOk};
+
+use pict_syntax::Name;
+
+/// What may be done with a channel.
+#[derive(Clone, Copy, PartialEq, Eq, Debug)]
+pub enum Cap {
+    /// `^`: send and receive.
+    Both,
+    /// `?`: receive.
+    Read,
+    /// `!`: send.
+    Write,
+    /// `/`: send, once for each answer that is awaited.
+    Respond,
+}
+
+/// A type in normal form.
+///
+/// A type variable, and an operator variable that is applied, is the number of binders between the use and its
+/// binder. Binders are the type fields of a record, over the later type fields and all fields of that record, and
+/// `Rec` over its body. The variables of the context come after them.
+#[cycle(types)]
+#[derive(Drop)]
+pub enum Ty {
+    /// `Top`, above every type.
+    Top,
+    /// `Int`.
+    Int,
+    /// `Char`.
+    Char,
+    /// `String`.
+    Str,
+    /// `Bool`.
+    Bool,
+    /// A type variable.
+    Var(u32),
+    /// An operator variable with its arguments.
+    Apply(u32, Vec<Ty>),
+    /// A channel type with the type of its messages.
+    Chan(Cap, Box<Ty>),
+    /// A record type.
+    Fields(Record),
+    /// A recursive type; its body has one more variable, which stands for the whole.
+    Rec(Box<Ty>),
+}
+
+/// The type fields, the positional fields and the labelled fields of a record type.
+#[cycle(types)]
+#[derive(Drop)]
+pub struct Record {
+    /// The type fields by their bounds, each written under those before it.
+    pub binders: Vec<Bound>,
+    /// The positional fields, written under all type fields.
+    pub positional: Vec<Ty>,
+    /// The labelled fields in the order of the bytes of their labels, written under all type fields.
+    pub labelled: Vec<(Name, Ty)>,
+}
+
+/// What is known of a type variable.
+#[cycle(types)]
+#[derive(Drop)]
+pub enum Bound {
+    /// Any type.
+    Free,
+    /// A subtype of this type, which is not `Top`.
+    Below(Ty),
+    /// An operator of so many arguments.
+    Operator(u32),
+}
+
+/// What may stand for a type variable.
+#[derive(Drop)]
+pub enum Arg {
+    /// A type.
+    Plain(Ty),
+    /// An operator. The parameters are the innermost variables of its body, the last one at 0.
+    Op { params: u32, body: Ty },
+}
