@@ -1,0 +1,11 @@
+pub mod Deciding
+pub mod Inversion
+pub mod Weighing
+pub mod Forming
+pub mod Alike
+pub mod Scopes
+pub mod Below
+pub mod Followed
+pub mod Renamed
+pub mod Replaced
+pub mod Decidable

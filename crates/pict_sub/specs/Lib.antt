@@ -1,0 +1,5 @@
+pub mod Subtyping
+pub mod Exposing
+pub mod Scopes
+pub mod Shapes
+pub mod Laws

@@ -1,0 +1,43 @@
+-- Subtyping: the smallest relation that is reflexive and transitive and has these rules.
+use Rattle.std.specs.Prelude.{◌≡◌, ℕ, Some}
+use Rattle.pict_types.specs.Types.{Capability, Both, Read, Write, Respond, PlainType, Top, Var, Chan, Fields, PlainTypes, no_type, types, PlainLabels, no_label, labels, PlainBounds, Below, TypeContext, under, type_at}
+use Rattle.pict_types.specs.Renaming.{bound_of}
+
+-- channel types whose messages may go up with them: ? over ?, and over ^
+pub data Rises : Capability → Capability → Type 0 where
+  read_read : Rises Read Read
+  both_read : Rises Both Read
+
+-- and those whose messages go down: ! over !, / and ^, and / over /
+pub data Falls : Capability → Capability → Type 0 where
+  write_write : Falls Write Write
+  respond_write : Falls Respond Write
+  both_write : Falls Both Write
+  respond_respond : Falls Respond Respond
+
+mutual
+  pub data IsSubtype : TypeContext → PlainType → PlainType → Type 0 where
+    same : {c : TypeContext} {s : PlainType} → IsSubtype c s s
+    through : {c : TypeContext} {s u : PlainType} (t : PlainType) → IsSubtype c s t → IsSubtype c t u → IsSubtype c s u
+    below_top : {c : TypeContext} {s : PlainType} → IsSubtype c s Top
+    below_bound : {c : TypeContext} {i : ℕ} {b : PlainType} → bound_of c i ≡ Below b → IsSubtype c (Var i) b
+    upward : {c : TypeContext} {m n : Capability} {s t : PlainType} → Rises m n → IsSubtype c s t → IsSubtype c (Chan m s) (Chan n t)
+    downward : {c : TypeContext} {m n : Capability} {s t : PlainType} → Falls m n → IsSubtype c t s → IsSubtype c (Chan m s) (Chan n t)
+    -- the same type fields; the fields compare under them
+    by_fields : {c : TypeContext} {bs : PlainBounds} {ps qs : PlainTypes} {ls ms : PlainLabels} → AreSubtypes (under c bs) ps qs → HasLabels (under c bs) ls ms → IsSubtype c (Fields bs ps ls) (Fields bs qs ms)
+
+  -- as many types, each a subtype in order
+  pub data AreSubtypes : TypeContext → PlainTypes → PlainTypes → Type 0 where
+    none : {c : TypeContext} → AreSubtypes c no_type no_type
+    more : {c : TypeContext} {s t : PlainType} {ss ts : PlainTypes} → IsSubtype c s t → AreSubtypes c ss ts → AreSubtypes c (types s ss) (types t ts)
+
+  -- every label of the second is in the first, with a subtype
+  pub data HasLabels : TypeContext → PlainLabels → PlainLabels → Type 0 where
+    has_none : {c : TypeContext} {ls : PlainLabels} → HasLabels c ls no_label
+    has_label : {c : TypeContext} {l : ℕ} {s t : PlainType} {ls ms : PlainLabels} → type_at l ls ≡ Some s → IsSubtype c s t → HasLabels c ls ms → HasLabels c ls (labels l t ms)
+
+-- two records, part by part
+pub record AreRecordsBelow (c : TypeContext) (bs cs : PlainBounds) (ps qs : PlainTypes) (ls ms : PlainLabels) : Type 0 where
+  pub alike : bs ≡ cs
+  pub fields : AreSubtypes (under c bs) ps qs
+  pub labelled : HasLabels (under c bs) ls ms

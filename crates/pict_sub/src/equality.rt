@@ -1,0 +1,186 @@
+// Equality of types in normal form, with a count of the pairs compared.
+
+ghost use Rattle.std.specs.Prelude.{◌≡◌, ◌+◌, ◌≤◌, ◌<◌, ◌↔◌, IsTrue};
+ghost use Rattle.pict_types.specs.Measures.{size, size_bound, size_bounds, size_labels, size_types};
+ghost use Rattle.pict_types.specs.Plain.{plain, plain_bound, plain_bounds, plain_cap, plain_labels, plain_record, plain_types};
+
+use pict_syntax::{Name, Steps};
+use pict_types::{Bound, Cap, Record, Ty};
+use std::marker::Brand;
+use std::sync::ledger::{Blank, Ledger};
+
+/// Whether two capabilities are the same.
+pub fn same_cap(m: Cap, n: Cap) -> bool
+    ensures { IsTrue result ↔ (plain_cap m ≡ plain_cap n) }
+{
+    m == n
+}
+
+/// Whether the types are the same, up to bound names and the order of labels, which normal forms don't have.
+///
+/// Counts at most the nodes of `s`.
+#[cycle(equal)]
+#[tactic(auto, using(pict_types::proofs::Rows::plain_apply, pict_types::proofs::Rows::plain_fields))]
+pub fn equal_types<L: Ledger>(s: &Ty, t: &Ty, steps: &mut Steps<L>) -> bool
+    ensures answer { IsTrue result ↔ (plain s.now ≡ plain t.now) }
+    ensures cost { steps.new ≤ steps.old + size (plain s.now) }
+{
+    steps.tick();
+    match (s, t) {
+        (Ty::Top, Ty::Top) => true,
+        (Ty::Int, Ty::Int) => true,
+        (Ty::Char, Ty::Char) => true,
+        (Ty::Str, Ty::Str) => true,
+        (Ty::Bool, Ty::Bool) => true,
+        (Ty::Var(i), Ty::Var(j)) => i == j,
+        (Ty::Apply(i, ss), Ty::Apply(j, ts)) => i == j && equal_rows(ss, ts, steps),
+        (Ty::Chan(m, a), Ty::Chan(n, b)) => same_cap(*m, *n) && equal_types(a, b, steps),
+        (Ty::Fields(r), Ty::Fields(q)) => equal_records(r, q, steps),
+        (Ty::Rec(a), Ty::Rec(b)) => equal_types(a, b, steps),
+        _ => false,
+    }
+}
+
+#[cycle(equal)]
+fn equal_records<L: Ledger>(r: &Record, q: &Record, steps: &mut Steps<L>) -> bool
+    ensures answer { IsTrue result ↔ (plain_record r.now ≡ plain_record q.now) }
+    ensures cost { steps.new + 1 ≤ steps.old + size (plain_record r.now) }
+{
+    equal_bounds(&r.binders, &q.binders, steps)
+        && equal_rows(&r.positional, &q.positional, steps)
+        && equal_labels(&r.labelled, &q.labelled, steps)
+}
+
+#[cycle(equal)]
+fn equal_bound<L: Ledger>(b: &Bound, d: &Bound, steps: &mut Steps<L>) -> bool
+    ensures answer { IsTrue result ↔ (plain_bound b.now ≡ plain_bound d.now) }
+    ensures cost { steps.new + 1 ≤ steps.old + size_bound (plain_bound b.now) }
+{
+    match (b, d) {
+        (Bound::Free, Bound::Free) => true,
+        (Bound::Below(s), Bound::Below(t)) => equal_types(s, t, steps),
+        (Bound::Operator(m), Bound::Operator(n)) => m == n,
+        _ => false,
+    }
+}
+
+#[cycle(equal)]
+#[tactic(auto, using(pict_types::proofs::Rows::types_drop, pict_types::proofs::Rows::types_end, crate::proofs::Alike::types_alike, crate::proofs::Alike::types_length))]
+fn equal_rows<L: Ledger>(ss: &[Ty], ts: &[Ty], steps: &mut Steps<L>) -> bool
+    ensures answer { IsTrue result ↔ (plain_types ss.now ≡ plain_types ts.now) }
+    ensures cost { steps.new ≤ steps.old + size_types (plain_types ss.now) }
+{
+    if ss.len() != ts.len() {
+        return false;
+    }
+    for i in 0..ss.len() {
+        if !equal_types(&ss[i], &ts[i], steps) {
+            return false;
+        }
+    }
+    true
+}
+
+#[cycle(equal)]
+#[tactic(auto, using(pict_types::proofs::Rows::labels_drop, pict_types::proofs::Rows::labels_end, crate::proofs::Alike::labels_alike, crate::proofs::Alike::labels_length))]
+fn equal_labels<L: Ledger>(ls: &[(Name, Ty)], ms: &[(Name, Ty)], steps: &mut Steps<L>) -> bool
+    ensures answer { IsTrue result ↔ (plain_labels ls.now ≡ plain_labels ms.now) }
+    ensures cost { steps.new ≤ steps.old + size_labels (plain_labels ls.now) }
+{
+    if ls.len() != ms.len() {
+        return false;
+    }
+    for i in 0..ls.len() {
+        let l = &ls[i];
+        let m = &ms[i];
+        if l.0.0 != m.0.0 || !equal_types(&l.1, &m.1, steps) {
+            return false;
+        }
+    }
+    true
+}
+
+/// Whether the type fields are the same. Counts less than the nodes of `bs` and its type fields.
+#[cycle(equal)]
+#[tactic(auto, using(pict_types::proofs::Rows::bounds_drop, pict_types::proofs::Rows::bounds_end, crate::proofs::Alike::bounds_alike, crate::proofs::Alike::bounds_length))]
+pub fn equal_bounds<L: Ledger>(bs: &[Bound], cs: &[Bound], steps: &mut Steps<L>) -> bool
+    ensures answer { IsTrue result ↔ (plain_bounds bs.now ≡ plain_bounds cs.now) }
+    ensures cost { steps.new ≤ steps.old + size_bounds (plain_bounds bs.now) }
+{
+    if bs.len() != cs.len() {
+        return false;
+    }
+    for i in 0..bs.len() {
+        if !equal_bound(&bs[i], &cs[i], steps) {
+            return false;
+        }
+    }
+    true
+}
+
+fn equal_from<L: Ledger>(s: &Ty, t: &Ty, blank: Blank) -> bool
+    requires name { blank.name ≡ L.name }
+    requires parts { blank.parts ≡ L.parts }
+    requires some { 0 < L.parts }
+    ensures answer { IsTrue result ↔ (plain s.now ≡ plain t.now) }
+{
+    let mut steps: Steps<L> = Steps::new(blank);
+    equal_types(s, t, &mut steps)
+}
+
+/// Whether the types are the same. Takes no memory.
+pub fn equal(s: &Ty, t: &Ty) -> bool
+    ensures answer { IsTrue result ↔ (plain s.now ≡ plain t.now) }
+{
+    equal_from::<Brand>(s, t, Blank::new(1))
+}
+
+#[cfg(test)]
+mod tests {
+    use super::equal;
+    use pict_syntax::Names;
+    use pict_types::{Cap, Context, Record, Ty, height, weight};
+    use std::alloc::{AllocError, Global};
+
+    /// The record type of so many positional fields `Int`.
+    fn wide(alloc: Global, count: u32) -> Result<Ty, AllocError> {
+        let mut positional = Vec::new(alloc);
+        for _ in 0..count {
+            positional.push(Ty::Int)?;
+        }
+        Ok(Ty::Fields(Record {
+            binders: Vec::new(alloc),
+            positional,
+            labelled: Vec::new(alloc),
+        }))
+    }
+
+    /// `Int` under so many `?`.
+    fn high(alloc: Global, count: u32) -> Result<Ty, AllocError> {
+        let mut t = Ty::Int;
+        for _ in 0..count {
+            t = Ty::Chan(Cap::Read, Box::new(alloc, t)?);
+        }
+        Ok(t)
+    }
+
+    #[test]
+    fn wide_records_are_compared(rt: HostRuntime) -> Result<(), AllocError> {
+        let s = wide(rt.alloc(), 50_000)?;
+        assert!(rt; equal(&s, &s.copy(rt.alloc())?));
+        assert!(rt; !equal(&s, &wide(rt.alloc(), 49_999)?));
+        Ok(())
+    }
+
+    #[test]
+    fn high_types_are_compared(rt: HostRuntime) -> Result<(), AllocError> {
+        let names = Names::new(rt.alloc());
+        let c = Context::new(rt.alloc(), &names);
+        let s = high(rt.alloc(), 999)?;
+        assert_eq!(rt; weight(&c, &s), 1000);
+        assert_eq!(rt; height(&c, &s), 1000);
+        assert!(rt; equal(&s, &s.copy(rt.alloc())?));
+        assert!(rt; !equal(&s, &high(rt.alloc(), 998)?));
+        Ok(())
+    }
+}

@@ -1,0 +1,367 @@
+// Subtyping, decided by the form of the two types.
+
+ghost use Rattle.std.specs.Prelude.{◌≡◌, ◌≢◌, ◌+◌, ◌≤◌, ◌<◌, ◌^◌, ◌↔◌, length, IsTrue, IfOk};
+ghost use Rattle.pict_types.specs.Kinds.{AreWellFormed, ContextIsWellFormed, IsWellFormed, LabelsAreWellFormed, kinds};
+ghost use Rattle.pict_types.specs.Measures.{weigh_labels, weigh_types, weight_of, weights};
+ghost use Rattle.pict_types.specs.Plain.{plain, plain_cap, plain_labels, plain_record, plain_types};
+ghost use Rattle.pict_types.specs.PlainContext.{names_of, type_context};
+ghost use Rattle.pict_types.specs.Types.{Chan, Top, Var};
+ghost use Rattle.pict_sub.specs.Scopes.{scope_context, scope_names};
+ghost use Rattle.pict_sub.specs.Subtyping.{AreSubtypes, Falls, HasLabels, IsSubtype, Rises};
+
+use crate::equality::{equal_bounds, equal_types, same_cap};
+use crate::scope::{Scope, bound_in};
+use crate::shape::{as_channel, as_record, as_variable, is_top};
+use pict_syntax::{Name, Steps};
+use pict_types::{Cap, Context, Record, Ty, shift_type};
+use std::alloc::{AllocError, Global};
+use std::sync::ledger::Ledger;
+
+/// Whether channel types with these capabilities go up with their messages.
+#[tactic(auto, using(crate::specs::Subtyping::both_read, crate::specs::Subtyping::read_read))]
+fn rises(m: Cap, n: Cap) -> bool
+    ensures { IsTrue result ↔ Rises (plain_cap m) (plain_cap n) }
+{
+    matches!((m, n), (Cap::Both | Cap::Read, Cap::Read))
+}
+
+/// Whether channel types with these capabilities go down with their messages.
+#[tactic(auto, using(crate::specs::Subtyping::both_write, crate::specs::Subtyping::write_write, crate::specs::Subtyping::respond_write, crate::specs::Subtyping::respond_respond))]
+fn falls(m: Cap, n: Cap) -> bool
+    ensures { IsTrue result ↔ Falls (plain_cap m) (plain_cap n) }
+{
+    match (m, n) {
+        (Cap::Both, Cap::Write) => true,
+        (Cap::Write, Cap::Write) => true,
+        (Cap::Respond, Cap::Write) => true,
+        (Cap::Respond, Cap::Respond) => true,
+        _ => false,
+    }
+}
+
+/// Whether `s` is a subtype of `t` in the scope. The only error is want of memory.
+///
+/// Counts at most the weights of both: a pair of nodes, a label passed over or a bound followed counts one.
+#[cycle(below)]
+#[tactic(auto, using(crate::proofs::Weighing::weight_positive, crate::proofs::Weighing::size_weight, crate::proofs::Inversion::top_above, crate::proofs::Inversion::only_itself))]
+fn is_below<L: Ledger>(
+    alloc: Global,
+    s: &Ty,
+    t: &Ty,
+    scope: &Scope,
+    steps: &mut Steps<L>,
+) -> Result<bool, AllocError>
+    requires context { ContextIsWellFormed (scope_names scope.now) (scope_context scope.now) }
+    requires s { IsWellFormed (scope_names scope.now) (kinds (scope_context scope.now)) (plain s.now) }
+    requires t { IsWellFormed (scope_names scope.now) (kinds (scope_context scope.now)) (plain t.now) }
+    requires room { length (scope_context scope.now) + (weight_of (scope_context scope.now) (plain s.now) + weight_of (scope_context scope.now) (plain t.now)) < 2 ^ 32 }
+    ensures answer { IfOk result (λ yes. IsTrue yes ↔ IsSubtype (scope_context scope.now) (plain s.now) (plain t.now)) }
+    ensures cost { steps.new ≤ steps.old + (weight_of (scope_context scope.now) (plain s.now) + weight_of (scope_context scope.now) (plain t.now)) }
+{
+    if is_top(t) {
+        steps.tick();
+        return Ok(true);
+    }
+    if let Some(i) = as_variable(s) {
+        return variable_is_below(alloc, i, t, scope, steps);
+    }
+    if let Some((m, a)) = as_channel(s) {
+        return channel_is_below(alloc, m, a, t, scope, steps);
+    }
+    if let Some(r) = as_record(s) {
+        return record_is_below(alloc, r, t, scope, steps);
+    }
+    Ok(equal_types(s, t, steps))
+}
+
+/// The same where `s` is variable `i`, and `t` isn't `Top`.
+#[cycle(below)]
+#[tactic(auto, using(crate::proofs::Weighing::weight_positive))]
+fn variable_is_below<L: Ledger>(
+    alloc: Global,
+    i: u32,
+    t: &Ty,
+    scope: &Scope,
+    steps: &mut Steps<L>,
+) -> Result<bool, AllocError>
+    requires context { ContextIsWellFormed (scope_names scope.now) (scope_context scope.now) }
+    requires i { IsWellFormed (scope_names scope.now) (kinds (scope_context scope.now)) (Var i) }
+    requires t { IsWellFormed (scope_names scope.now) (kinds (scope_context scope.now)) (plain t.now) }
+    requires room { length (scope_context scope.now) + (weight_of (scope_context scope.now) (Var i) + weight_of (scope_context scope.now) (plain t.now)) < 2 ^ 32 }
+    requires not_top { plain t.now ≢ Top }
+    ensures answer { IfOk result (λ yes. IsTrue yes ↔ IsSubtype (scope_context scope.now) (Var i) (plain t.now)) }
+    ensures cost { steps.new ≤ steps.old + (weight_of (scope_context scope.now) (Var i) + weight_of (scope_context scope.now) (plain t.now)) }
+{
+    if let Some(j) = as_variable(t)
+        && i == j
+    {
+        steps.tick();
+        return Ok(true);
+    }
+    bound_is_below(alloc, i, t, scope, steps)
+}
+
+/// The same where `t` is another type too.
+#[cycle(below)]
+#[tactic(auto, using(crate::proofs::Weighing::weight_positive, crate::proofs::Weighing::weigh_bound_1, crate::proofs::Forming::bound_is_formed, crate::proofs::Forming::bound_has_room, crate::proofs::Forming::size_bound_weight, crate::proofs::Inversion::unbounded_variable, crate::proofs::Inversion::bounded_variable_1))]
+fn bound_is_below<L: Ledger>(
+    alloc: Global,
+    i: u32,
+    t: &Ty,
+    scope: &Scope,
+    steps: &mut Steps<L>,
+) -> Result<bool, AllocError>
+    requires context { ContextIsWellFormed (scope_names scope.now) (scope_context scope.now) }
+    requires i { IsWellFormed (scope_names scope.now) (kinds (scope_context scope.now)) (Var i) }
+    requires t { IsWellFormed (scope_names scope.now) (kinds (scope_context scope.now)) (plain t.now) }
+    requires room { length (scope_context scope.now) + (weight_of (scope_context scope.now) (Var i) + weight_of (scope_context scope.now) (plain t.now)) < 2 ^ 32 }
+    requires not_top { plain t.now ≢ Top }
+    requires not_same { plain t.now ≢ Var i }
+    ensures answer { IfOk result (λ yes. IsTrue yes ↔ IsSubtype (scope_context scope.now) (Var i) (plain t.now)) }
+    ensures cost { steps.new ≤ steps.old + (weight_of (scope_context scope.now) (Var i) + weight_of (scope_context scope.now) (plain t.now)) }
+{
+    steps.tick();
+    match bound_in(i, scope) {
+        None => Ok(false),
+        Some(b) => {
+            let b = shift_type(alloc, b, i + 1, 0)?;
+            is_below(alloc, &b, t, scope, steps)
+        }
+    }
+}
+
+/// The same where `s` is a channel type, and `t` isn't `Top`.
+#[cycle(below)]
+#[tactic(auto, using(crate::proofs::Weighing::weight_positive, crate::proofs::Weighing::size_weight, crate::proofs::Inversion::not_channel, crate::proofs::Inversion::rising, crate::proofs::Inversion::falling, crate::proofs::Inversion::neither))]
+fn channel_is_below<L: Ledger>(
+    alloc: Global,
+    m: Cap,
+    a: &Ty,
+    t: &Ty,
+    scope: &Scope,
+    steps: &mut Steps<L>,
+) -> Result<bool, AllocError>
+    requires context { ContextIsWellFormed (scope_names scope.now) (scope_context scope.now) }
+    requires s { IsWellFormed (scope_names scope.now) (kinds (scope_context scope.now)) (Chan (plain_cap m) (plain a.now)) }
+    requires t { IsWellFormed (scope_names scope.now) (kinds (scope_context scope.now)) (plain t.now) }
+    requires room { length (scope_context scope.now) + (weight_of (scope_context scope.now) (Chan (plain_cap m) (plain a.now)) + weight_of (scope_context scope.now) (plain t.now)) < 2 ^ 32 }
+    requires not_top { plain t.now ≢ Top }
+    ensures answer { IfOk result (λ yes. IsTrue yes ↔ IsSubtype (scope_context scope.now) (Chan (plain_cap m) (plain a.now)) (plain t.now)) }
+    ensures cost { steps.new ≤ steps.old + (weight_of (scope_context scope.now) (Chan (plain_cap m) (plain a.now)) + weight_of (scope_context scope.now) (plain t.now)) }
+{
+    steps.tick();
+    match as_channel(t) {
+        None => Ok(false),
+        Some((n, b)) => {
+            if rises(m, n) {
+                is_below(alloc, a, b, scope, steps)
+            } else if falls(m, n) {
+                is_below(alloc, b, a, scope, steps)
+            } else {
+                Ok(same_cap(m, n) && equal_types(a, b, steps))
+            }
+        }
+    }
+}
+
+/// The same where `s` is a record type, and `t` isn't `Top`.
+#[cycle(below)]
+#[tactic(auto, using(crate::proofs::Weighing::weight_positive, crate::proofs::Inversion::not_record))]
+fn record_is_below<L: Ledger>(
+    alloc: Global,
+    r: &Record,
+    t: &Ty,
+    scope: &Scope,
+    steps: &mut Steps<L>,
+) -> Result<bool, AllocError>
+    requires context { ContextIsWellFormed (scope_names scope.now) (scope_context scope.now) }
+    requires s { IsWellFormed (scope_names scope.now) (kinds (scope_context scope.now)) (plain_record r.now) }
+    requires t { IsWellFormed (scope_names scope.now) (kinds (scope_context scope.now)) (plain t.now) }
+    requires room { length (scope_context scope.now) + (weight_of (scope_context scope.now) (plain_record r.now) + weight_of (scope_context scope.now) (plain t.now)) < 2 ^ 32 }
+    requires not_top { plain t.now ≢ Top }
+    ensures answer { IfOk result (λ yes. IsTrue yes ↔ IsSubtype (scope_context scope.now) (plain_record r.now) (plain t.now)) }
+    ensures cost { steps.new ≤ steps.old + (weight_of (scope_context scope.now) (plain_record r.now) + weight_of (scope_context scope.now) (plain t.now)) }
+{
+    steps.tick();
+    match as_record(t) {
+        None => Ok(false),
+        Some(q) => fields_are_below(alloc, r, q, scope, steps),
+    }
+}
+
+/// Whether the record type of `r` is a subtype of that of `q`: the same type fields, then the fields under them.
+#[cycle(below)]
+fn fields_are_below<L: Ledger>(
+    alloc: Global,
+    r: &Record,
+    q: &Record,
+    scope: &Scope,
+    steps: &mut Steps<L>,
+) -> Result<bool, AllocError>
+    requires context { ContextIsWellFormed (scope_names scope.now) (scope_context scope.now) }
+    requires r { IsWellFormed (scope_names scope.now) (kinds (scope_context scope.now)) (plain_record r.now) }
+    requires q { IsWellFormed (scope_names scope.now) (kinds (scope_context scope.now)) (plain_record q.now) }
+    requires room { length (scope_context scope.now) + (weight_of (scope_context scope.now) (plain_record r.now) + weight_of (scope_context scope.now) (plain_record q.now)) < 2 ^ 32 }
+    ensures answer { IfOk result (λ yes. IsTrue yes ↔ IsSubtype (scope_context scope.now) (plain_record r.now) (plain_record q.now)) }
+    ensures cost { steps.new + 1 ≤ steps.old + (weight_of (scope_context scope.now) (plain_record r.now) + weight_of (scope_context scope.now) (plain_record q.now)) }
+{
+    if !equal_bounds(&r.binders, &q.binders, steps) {
+        return Ok(false);
+    }
+    let inner = Scope::Inner(&r.binders, &*scope);
+    if !rows_are_below(alloc, &r.positional, &q.positional, &inner, steps)? {
+        return Ok(false);
+    }
+    labels_are_below(alloc, &r.labelled, &q.labelled, &inner, steps)
+}
+
+/// Whether there are as many types, each a subtype in order.
+#[cycle(below)]
+#[tactic(auto, using(pict_types::proofs::Rows::types_drop, pict_types::proofs::Rows::types_end, crate::proofs::Below::types_weigh, crate::proofs::Below::types_formed, crate::proofs::Below::types_below_length, crate::proofs::Weighing::weight_positive, crate::proofs::Inversion::types_rules))]
+fn rows_are_below<L: Ledger>(
+    alloc: Global,
+    ss: &[Ty],
+    ts: &[Ty],
+    scope: &Scope,
+    steps: &mut Steps<L>,
+) -> Result<bool, AllocError>
+    requires context { ContextIsWellFormed (scope_names scope.now) (scope_context scope.now) }
+    requires ss { AreWellFormed (scope_names scope.now) (kinds (scope_context scope.now)) (plain_types ss.now) }
+    requires ts { AreWellFormed (scope_names scope.now) (kinds (scope_context scope.now)) (plain_types ts.now) }
+    requires room { length (scope_context scope.now) + (weigh_types (weights (scope_context scope.now)) (plain_types ss.now) + weigh_types (weights (scope_context scope.now)) (plain_types ts.now)) < 2 ^ 32 }
+    ensures answer { IfOk result (λ yes. IsTrue yes ↔ AreSubtypes (scope_context scope.now) (plain_types ss.now) (plain_types ts.now)) }
+    ensures cost { steps.new ≤ steps.old + (weigh_types (weights (scope_context scope.now)) (plain_types ss.now) + weigh_types (weights (scope_context scope.now)) (plain_types ts.now)) }
+{
+    if ss.len() != ts.len() {
+        return Ok(false);
+    }
+    for i in 0..ss.len() {
+        if !is_below(alloc, &ss[i], &ts[i], scope, steps)? {
+            return Ok(false);
+        }
+    }
+    Ok(true)
+}
+
+/// Whether every label of `ms` is in `ls` with a subtype. Both are in order, so a label of `ls` that isn't the next
+/// one of `ms` is passed over.
+#[cycle(below)]
+#[tactic(auto, using(pict_types::proofs::Rows::labels_drop, pict_types::proofs::Rows::labels_end, crate::proofs::Below::labels_weigh, crate::proofs::Below::labels_formed, crate::proofs::Weighing::weight_positive))]
+fn labels_are_below<L: Ledger>(
+    alloc: Global,
+    ls: &[(Name, Ty)],
+    ms: &[(Name, Ty)],
+    scope: &Scope,
+    steps: &mut Steps<L>,
+) -> Result<bool, AllocError>
+    requires context { ContextIsWellFormed (scope_names scope.now) (scope_context scope.now) }
+    requires ls { LabelsAreWellFormed (scope_names scope.now) (kinds (scope_context scope.now)) (plain_labels ls.now) }
+    requires ms { LabelsAreWellFormed (scope_names scope.now) (kinds (scope_context scope.now)) (plain_labels ms.now) }
+    requires room { length (scope_context scope.now) + (weigh_labels (weights (scope_context scope.now)) (plain_labels ls.now) + weigh_labels (weights (scope_context scope.now)) (plain_labels ms.now)) < 2 ^ 32 }
+    ensures answer { IfOk result (λ yes. IsTrue yes ↔ HasLabels (scope_context scope.now) (plain_labels ls.now) (plain_labels ms.now)) }
+    ensures cost { steps.new ≤ steps.old + (weigh_labels (weights (scope_context scope.now)) (plain_labels ls.now) + weigh_labels (weights (scope_context scope.now)) (plain_labels ms.now)) }
+{
+    let mut j = 0;
+    for l in ls {
+        if j == ms.len() {
+            return Ok(true);
+        }
+        let m = &ms[j];
+        if l.0.0 != m.0.0 {
+            steps.tick();
+            continue;
+        }
+        if !is_below(alloc, &l.1, &m.1, scope, steps)? {
+            return Ok(false);
+        }
+        j += 1;
+    }
+    Ok(j == ms.len())
+}
+
+/// Whether `s` is a subtype of `t`, both written in `c`. The only error is want of memory.
+///
+/// Counts at most the weights of `s` and `t` together: a pair of nodes compared, a label passed over or a bound
+/// followed counts one.
+pub fn subtype<L: Ledger>(
+    alloc: Global,
+    c: &Context,
+    s: &Ty,
+    t: &Ty,
+    steps: &mut Steps<L>,
+) -> Result<bool, AllocError>
+    requires s { IsWellFormed (names_of c.now) (kinds (type_context c.now)) (plain s.now) }
+    requires t { IsWellFormed (names_of c.now) (kinds (type_context c.now)) (plain t.now) }
+    requires room { length (type_context c.now) + (weight_of (type_context c.now) (plain s.now) + weight_of (type_context c.now) (plain t.now)) < 2 ^ 32 }
+    ensures answer { IfOk result (λ yes. IsTrue yes ↔ IsSubtype (type_context c.now) (plain s.now) (plain t.now)) }
+    ensures cost { steps.new ≤ steps.old + (weight_of (type_context c.now) (plain s.now) + weight_of (type_context c.now) (plain t.now)) }
+{
+    let scope = Scope::Outer(c);
+    is_below(alloc, s, t, &scope, steps)
+}
+
+#[cfg(test)]
+mod tests {
+    use super::subtype;
+    use crate::exposing::expose;
+    use pict_syntax::{Name, Names, Steps};
+    use pict_types::{Bound, Cap, Context, Entry, Ty, What};
+    use std::alloc::{AllocError, Global};
+    use std::marker::Brand;
+    use std::sync::ledger::{Blank, Ledger};
+
+    fn counted<L: Ledger>(
+        alloc: Global,
+        c: &Context,
+        s: &Ty,
+        t: &Ty,
+        blank: Blank,
+    ) -> Result<bool, AllocError>
+        requires name { blank.name ≡ L.name }
+        requires parts { blank.parts ≡ L.parts }
+        requires some { 0 < L.parts }
+        requires s { IsWellFormed (names_of c.now) (kinds (type_context c.now)) (plain s.now) }
+        requires t { IsWellFormed (names_of c.now) (kinds (type_context c.now)) (plain t.now) }
+        requires room { length (type_context c.now) + (weight_of (type_context c.now) (plain s.now) + weight_of (type_context c.now) (plain t.now)) < 2 ^ 32 }
+    {
+        let mut steps: Steps<L> = Steps::new(blank);
+        subtype(alloc, c, s, t, &mut steps)
+    }
+
+    fn is_subtype(alloc: Global, c: &Context, s: &Ty, t: &Ty) -> Result<bool, AllocError>
+        requires s { IsWellFormed (names_of c.now) (kinds (type_context c.now)) (plain s.now) }
+        requires t { IsWellFormed (names_of c.now) (kinds (type_context c.now)) (plain t.now) }
+        requires room { length (type_context c.now) + (weight_of (type_context c.now) (plain s.now) + weight_of (type_context c.now) (plain t.now)) < 2 ^ 32 }
+    {
+        counted::<Brand>(alloc, c, s, t, Blank::new(1))
+    }
+
+    #[test]
+    fn a_responsive_channel_is_a_sending_one(rt: HostRuntime) -> Result<(), AllocError> {
+        let alloc = rt.alloc();
+        let names = Names::new(alloc);
+        let c = Context::new(alloc, &names);
+        let respond = Ty::Chan(Cap::Respond, Box::new(alloc, Ty::Int)?);
+        let write = Ty::Chan(Cap::Write, Box::new(alloc, Ty::Int)?);
+        let read = Ty::Chan(Cap::Read, Box::new(alloc, Ty::Int)?);
+        assert!(rt; is_subtype(alloc, &c, &respond, &write)?);
+        assert!(rt; !is_subtype(alloc, &c, &write, &respond)?);
+        assert!(rt; !is_subtype(alloc, &c, &write, &read)?);
+        Ok(())
+    }
+
+    #[test]
+    fn a_bound_is_followed(rt: HostRuntime) -> Result<(), AllocError> {
+        let alloc = rt.alloc();
+        let names = Names::new(alloc);
+        let mut c = Context::new(alloc, &names);
+        c.push(Entry {
+            name: Name(0),
+            what: What::Variable(Bound::Below(Ty::Int)),
+        })?;
+        assert!(rt; is_subtype(alloc, &c, &Ty::Var(0), &Ty::Int)?);
+        assert!(rt; !is_subtype(alloc, &c, &Ty::Int, &Ty::Var(0))?);
+        assert!(rt; matches!(expose(alloc, &c, &Ty::Var(0))?, Ty::Int));
+        Ok(())
+    }
+}
