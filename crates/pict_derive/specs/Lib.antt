@@ -1,0 +1,5 @@
+pub mod Scopes
+pub mod Levels
+pub mod Tables
+pub mod Translation
+pub mod Parts
