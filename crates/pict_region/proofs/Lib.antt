@@ -1,0 +1,5 @@
+pub mod Chains
+pub mod Stores
+pub mod Frees
+pub mod Calls
+pub mod Uses
