@@ -1,0 +1,88 @@
+-- What each call reads and leaves, from the fields to what contracts see.
+use Rattle.std.proofs.Common.{◌≡◌, ℕ, ◌^◌, ◌<◌, ◌≤◌, length, get_or, sym, ◌∙◌, ap, subst, arith}
+use Rattle.std.proofs.lemmas.List.{length-map, get_or_read}
+use Rattle.pict_region.specs.RegionState.{IsLive, width_of}
+use Rattle.pict_region.proofs.Chains.{chain-length}
+use Rattle.pict_queue.specs.QueuesState.{QueuesState, IsQueue, IsHeld, list_of, link_of, KeepsContents, KeepsRest}
+use Rattle.pict_queue.specs.Threads.{state_of, queue_in, thread, IsSound}
+use Rattle.pict_queue.specs.declared.queues.Queue.{Queue}
+use Rattle.pict_queue.specs.declared.queues.Queues.TheInside.{Inside}
+use Rattle.pict_queue.proofs.Orders.{list_is, StandsApart, apart_if_held, ends_of, end_is, first_in, length_fits, ThreadsStay}
+
+-- the record of a queue, as a call reads it
+pub record ReadsQueue (a : Inside) (number : ℕ) (queue : Queue) : Type 0 where
+  pub inside : number < length a.queues.items
+  pub queue_is : queue ≡ queue_in a.queues.items number
+
+pub queues_length : (a : Inside) (s : QueuesState) → state_of a ≡ s → length s.queues ≡ length a.queues.items
+queues_length a s is = ap (λ t. length t.queues) (sym is) ∙ length-map a.queues.items _
+
+pub queue_read : (a : Inside) (s : QueuesState) (number : ℕ) (queue : Queue) → state_of a ≡ s → IsQueue s number
+    → queue ≡ get_or a.queues.items number queue → ReadsQueue a number queue
+queue_read a s number queue is there read =
+    let inside : number < length a.queues.items = omega (arith, there, queues_length a s is) in
+    record { inside = inside; queue_is = get_or_read a.queues.items number queue inside read (record { first = 0; last = 0; length = 0 }) }
+
+-- the list of a queue, before a call
+pub list_seen : (a : Inside) (s : QueuesState) (queue : ℕ) → state_of a ≡ s → list_of s queue ≡ thread a.region a.queues.items queue
+list_seen a s queue is = ap (λ t. list_of t queue) (sym is) ∙ list_is a queue
+
+pub list_length : (a : Inside) (s : QueuesState) (number : ℕ) → state_of a ≡ s → length (list_of s number) ≡ (queue_in a.queues.items number).length
+list_length a s number is =
+    ap length (list_seen a s number is) ∙ chain-length (link_of a.region) (queue_in a.queues.items number).first (queue_in a.queues.items number).length
+
+-- what a push finds
+pub record FindsEnds (a : Inside) (number block : ℕ) (queue ends : Queue) : Type 0 where
+  pub read : ReadsQueue a number queue
+  pub apart : StandsApart a.region a.queues.items block
+  pub live : IsLive a.region ends.last
+  pub wide : 1 ≤ width_of a.region ends.last
+  pub block_wide : 1 ≤ width_of a.region block
+  pub fits : queue.length ≤ 2 ^ 63
+
+pub ends_found : (a : Inside) (s : QueuesState) (number token block : ℕ) (queue ends : Queue) → state_of a ≡ s → IsSound a → IsQueue s number → IsHeld s token
+    → block ≡ token → queue ≡ get_or a.queues.items number queue → ends ≡ ends_of queue block → FindsEnds a number block queue ends
+ends_found a s number token block queue ends is sound there held same read ends_are =
+    let reads = queue_read a s number queue is there read in
+    let apart : StandsApart a.region a.queues.items block = subst (StandsApart a.region a.queues.items) (sym same) (apart_if_held a s token is held) in
+    let live : IsLive a.region ends.last =
+    subst (λ e. IsLive a.region e.last) (sym (ends_are ∙ ap (λ q. ends_of q block) reads.queue_is))
+    (end_is a.region a.queues.items number block sound.threaded apart).0 in
+    record {
+      read = reads;
+      apart = apart;
+      live = live;
+      wide = omega (arith, sound.threaded.wide ends.last live);
+      block_wide = omega (arith, sound.threaded.wide block apart.live);
+      fits = omega (arith, length_fits a.region a.queues.items number sound.threaded, ap (λ q. q.length) reads.queue_is);
+    }
+
+-- what a pop or a look at the first block finds
+pub record FindsFirst (a : Inside) (number : ℕ) (queue : Queue) : Type 0 where
+  pub read : ReadsQueue a number queue
+  pub live : IsLive a.region queue.first
+  pub wide : 2 ≤ width_of a.region queue.first
+
+pub first_found : (a : Inside) (s : QueuesState) (number : ℕ) (queue : Queue) → state_of a ≡ s → IsSound a → IsQueue s number
+    → queue ≡ get_or a.queues.items number queue → 0 < queue.length → FindsFirst a number queue
+first_found a s number queue is sound there read some =
+    let reads = queue_read a s number queue is there read in
+    let stands = first_in a.region a.queues.items number (omega (arith, some, ap (λ q. q.length) reads.queue_is)) in
+    let live : IsLive a.region queue.first = subst (IsLive a.region) (sym (ap (λ q. q.first) reads.queue_is)) (sound.threaded.live number (queue_in a.queues.items number).first stands) in
+    record { read = reads; live = live; wide = sound.threaded.wide queue.first live }
+
+-- all but links, orders and work stays
+pub rest_kept : (a a' : Inside) (s : QueuesState) → state_of a ≡ s → KeepsContents a.region a'.region → a'.region.free ≡ a.region.free
+    → length a'.queues.items ≡ length a.queues.items → a'.spare ≡ a.spare → KeepsRest s (state_of a')
+rest_kept a a' s is contents free queues spare = subst (λ t. KeepsRest t (state_of a')) is (record {
+  contents = contents;
+  free = free;
+  queues = length-map a'.queues.items _ ∙ queues ∙ sym (length-map a.queues.items _);
+  spare_queues = spare;
+})
+
+-- all lists stay
+pub lists_kept : (a a' : Inside) (s : QueuesState) → state_of a ≡ s → a'.queues.items ≡ a.queues.items → ThreadsStay a.region a'.region a.queues.items
+    → (queue : ℕ) → list_of (state_of a') queue ≡ list_of s queue
+lists_kept a a' s is queues stay queue =
+    list_is a' queue ∙ ap (λ qs. thread a'.region qs queue) queues ∙ stay.same queue ∙ sym (list_seen a s queue is)

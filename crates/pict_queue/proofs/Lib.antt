@@ -1,0 +1,5 @@
+pub mod Costs
+pub mod Links
+pub mod Orders
+pub mod Calls
+pub mod Uses

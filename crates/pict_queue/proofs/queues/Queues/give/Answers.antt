@@ -1,0 +1,31 @@
+use Rattle.std.proofs.Common.{refl, ◌∙◌, ap}
+use Rattle.std.proofs.lemmas.Bool.{both_ways}
+use Rattle.std.specs.Option.{is_some}
+use Rattle.std.specs.FinMap.{get}
+use Rattle.pict_region.proofs.Uses.{get_removed, get_remove_apart}
+use Rattle.pict_queue.specs.declared.queues.Queues.TheInside.{Inside}
+use Rattle.pict_queue.proofs.Orders.{once_seen, apart_if_held, ThreadsStay, apart_changed}
+use Rattle.pict_queue.proofs.Calls.{lists_kept}
+use Rattle.pict_queue.proofs.queues.Queues.give.Goals as goal
+
+after : (c : goal.After-give) → Inside
+after c = record { region = c.give.new.self; queues = c.self.inside.queues; spare = c.self.inside.spare }
+
+stays : (c : goal.After-give) → ThreadsStay c.self.inside.region c.give.new.self c.self.inside.queues.items
+stays c =
+    let gone = ap (λ m. get m c.args.b) c.give.ensures.live ∙ get_removed c.self.inside.region.live c.args.b in
+    apart_changed c.self.inside.region c.give.new.self c.self.inside.queues.items c.args.b c.self.invariant.threaded
+    (apart_if_held c.self.inside _ c.args.b c.self.view_is c.requires).absent
+    (λ other apart. ap (λ m. get m other) c.give.ensures.live ∙ get_remove_apart c.self.inside.region.live c.args.b other apart)
+    (λ live. absurd (both_ways (is_some (get c.give.new.self.live c.args.b)) (ap is_some gone) live))
+
+pub invariant_of-self : goal.invariant_of-self
+invariant_of-self c = record { threaded = (stays c).threaded; room = c.self.invariant.room }
+
+pub returns-clause-lists : goal.returns-clause-lists
+unfolding after
+returns-clause-lists c = lists_kept c.self.inside (after c) _ c.self.view_is refl (stays c)
+
+pub returns-clause-once : goal.returns-clause-once
+unfolding after
+returns-clause-once c = once_seen (after c) (stays c).threaded

@@ -1,0 +1,67 @@
+use Rattle.std.proofs.Common.{◌+◌, ◌++◌, ◌∷◌, [], set, sym, ◌∙◌, ap, refl, arith}
+use Rattle.pict_queue.specs.QueuesState.{list_of}
+use Rattle.std.specs.Vec.{with_item}
+use Rattle.std.proofs.lemmas.List.{length-set}
+use Rattle.pict_queue.specs.declared.queues.Queue.{Queue}
+use Rattle.pict_queue.specs.declared.queues.Queues.TheInside.{Inside}
+use Rattle.pict_queue.proofs.Links.{LinksBlock, link_written}
+use Rattle.pict_queue.proofs.Orders.{list_is, once_seen, PushesBack, pushed_back}
+use Rattle.pict_queue.proofs.Calls.{FindsEnds, ends_found, list_seen, rest_kept}
+use Rattle.pict_queue.proofs.queues.Queues.push_back.Goals as goal
+
+pub set_link-requires-clause-live : goal.set_link-requires-clause-live
+set_link-requires-clause-live c =
+    (ends_found c.self.inside _ _ _ _ _ _ c.self.view_is c.self.invariant c.requires.queue c.requires.held c.number-number.ensures c.index-queue.ensures c.ends-ends.ensures).live
+
+pub set_link-requires-clause-wide : goal.set_link-requires-clause-wide
+set_link-requires-clause-wide c =
+    (ends_found c.self.inside _ _ _ _ _ _ c.self.view_is c.self.invariant c.requires.queue c.requires.held c.number-number.ensures c.index-queue.ensures c.ends-ends.ensures).wide
+
+pub overflow_add-queue : goal.overflow_add-queue
+overflow_add-queue c =
+    omega (arith, (ends_found c.self.inside _ _ _ _ _ _ c.self.view_is c.self.invariant c.requires.queue c.requires.held c.number-number.ensures c.index-queue.ensures c.ends-ends.ensures).fits)
+
+found : (c : goal.After-self-1) → FindsEnds c.self.inside c.args.q.0 c.number-number.result c.index-queue.result.now c.ends-ends.result
+found c = ends_found c.self.inside _ _ _ _ _ _ c.self.view_is c.self.invariant c.requires.queue c.requires.held c.number-number.ensures c.index-queue.ensures c.ends-ends.ensures
+
+links : (c : goal.After-self-1) → LinksBlock c.self.inside.region c.set_link.new.region c.ends-ends.result.last c.number-number.result
+links c = link_written c.self.inside.region c.set_link.new.region c.ends-ends.result.last c.number-number.result (found c).live (found c).wide c.set_link.ensures.live
+
+queue_after : (c : goal.After-self-1) → Queue
+queue_after c = record { first = c.ends-ends.result.first; last = c.number-number.result; length = c.index-queue.result.now.length + 1 }
+
+after : (c : goal.After-self-1) → Inside
+after c = record { region = c.set_link.new.region; queues = with_item c.self.inside.queues c.args.q.0 (queue_after c); spare = c.self.inside.spare }
+
+pushes : (c : goal.After-self-1) → PushesBack c.self.inside.region c.set_link.new.region c.self.inside.queues.items (set c.self.inside.queues.items c.args.q.0 (queue_after c)) c.args.q.0 c.number-number.result
+unfolding queue_after
+pushes c =
+    pushed_back c.self.inside.region c.set_link.new.region c.self.inside.queues.items c.args.q.0 c.number-number.result c.index-queue.result.now c.ends-ends.result
+    c.self.invariant.threaded (found c).read.inside (found c).apart (found c).read.queue_is c.ends-ends.ensures (links c)
+
+pub invariant_of-self : goal.invariant_of-self
+unfolding queue_after
+invariant_of-self c = record { threaded = (pushes c).threaded; room = c.self.invariant.room }
+
+pub returns-clause-list : goal.returns-clause-list
+unfolding queue_after after
+returns-clause-list c =
+    list_is (after c) c.args.q.0
+    ∙ (pushes c).list
+    ∙ ap (λ ns. ns ++ c.number-number.result ∷ []) (sym (list_seen c.self.inside _ c.args.q.0 c.self.view_is))
+    ∙ ap (λ b. list_of c.args.self.now c.args.q.0 ++ b ∷ []) c.number-number.ensures
+
+pub returns-clause-others : goal.returns-clause-others
+unfolding queue_after after
+returns-clause-others c other apart =
+    list_is (after c) other ∙ (pushes c).others other apart ∙ sym (list_seen c.self.inside _ other c.self.view_is)
+
+pub returns-clause-rest : goal.returns-clause-rest
+unfolding queue_after after
+returns-clause-rest c =
+    rest_kept c.self.inside (after c) c.args.self.now c.self.view_is (links c).contents c.set_link.ensures.free
+    (length-set c.self.inside.queues.items c.args.q.0 (queue_after c)) refl
+
+pub returns-clause-once : goal.returns-clause-once
+unfolding queue_after after
+returns-clause-once c = once_seen (after c) (pushes c).threaded

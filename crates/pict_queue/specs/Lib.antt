@@ -1,0 +1,2 @@
+pub mod QueuesState
+pub mod Threads

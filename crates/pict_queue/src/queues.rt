@@ -1,0 +1,346 @@
+// The queues: a region, and the ends and the length of each queue.
+ghost use Rattle.std.specs.Prelude.{◌≡◌, ◌≢◌, ◌+◌, ◌-◌, ◌<◌, ◌≤◌, ◌↔◌, ◌++◌, ◌∷◌, ◌==◌, if◌then◌else◌, ℕ, [], length, max, replicate, None, IsOk, IsNone, IfSome, IfOk, OnOk, OnErr, slice_index, slice_set, slice_get};
+ghost use Rattle.std.specs.Option.{option_map, option_to_list};
+ghost use Rattle.std.specs.FinMap.{get, insert, remove, empty};
+ghost use Rattle.pict_region.specs.RegionState.{IsLive, words_of, width_of, spare, KeepsOtherWidths, raised};
+ghost use Rattle.pict_queue.specs.QueuesState.{IsQueue, IsHeld, HasEachBlockOnce, list_of, no_queue, link_of, moved_list, KeepsOtherQueues, KeepsQueues, KeepsRest, CostsAtMost};
+
+use pict_region::{Block, Region};
+use std::alloc::{AllocError, Global};
+use std::marker::Model;
+
+/// The number of a queue, from 0.
+#[derive(Clone, Copy)]
+pub struct QueueId(pub u64);
+
+/// One queue: the numbers of its first and its last block, which mean nothing while it is empty, and its length.
+#[derive(Clone, Copy)]
+struct Queue {
+    first: u64,
+    last: u64,
+    length: u64,
+}
+
+/// Queues of blocks. Word 0 of each block is its link, so a caller's words begin at 1. Contracts see the region and, for
+/// each queue, its first block and its length, and read the list of a queue by the links. A block is in exactly one
+/// queue, or held by the caller, or free.
+#[derive(Drop)]
+pub struct Queues {
+    region: Region,
+    queues: Vec<Queue>,
+    spare: u64,
+}
+
+impl Model for Queues {
+    ghost use Rattle.pict_queue.specs.QueuesState.{QueuesState, queues_code};
+
+    ghost Value = { QueuesState };
+
+    ghost coded = { queues_code };
+
+    ghost use Rattle.pict_queue.specs.Threads.{state_of, IsSound};
+
+    ghost view = { state_of };
+
+    ghost invariant = { IsSound };
+}
+
+impl Queues {
+    /// No queue, over a region with no block. Takes no memory.
+    pub fn new(alloc: Global) -> Queues
+        ensures live { result.region.live ≡ empty }
+        ensures free { result.region.free ≡ [] }
+        ensures work { result.region.work ≡ 0 }
+        ensures queues { result.queues ≡ [] }
+        ensures spare_queues { result.spare_queues ≡ 0 }
+    {
+        Queues {
+            region: Region::new(alloc),
+            queues: Vec::new(alloc),
+            spare: 0,
+        }
+    }
+
+    /// A new empty queue, with the next number. It takes no memory where there is a spare queue. An error, which is want
+    /// of memory, changes nothing.
+    pub fn add_queue(&mut self) -> Result<QueueId, AllocError>
+        ensures room { 1 ≤ self.old.spare_queues → IsOk result }
+        ensures number { IfOk result (λ q. q.0 ≡ length self.old.queues) }
+        ensures queues { OnOk result (self.new.queues ≡ self.old.queues ++ no_queue ∷ []) }
+        ensures lists { KeepsQueues self.old self.new }
+        ensures spare_queues { OnOk result (self.new.spare_queues ≡ self.old.spare_queues - 1) }
+        ensures region { self.new.region ≡ self.old.region }
+        ensures err { OnErr result (self.new ≡ self.old) }
+    {
+        let number = self.queues.len() as u64;
+        self.queues.push(Queue {
+            first: 0,
+            last: 0,
+            length: 0,
+        })?;
+        self.spare = self.spare.saturating_sub(1);
+        Ok(QueueId(number))
+    }
+
+    /// Makes room for queues until there are `n` spare ones. An error, which is want of memory, changes nothing.
+    pub fn reserve_queues(&mut self, n: u64) -> Result<(), AllocError>
+        ensures ok { OnOk result (self.new.spare_queues ≡ max n self.old.spare_queues) }
+        ensures rest { OnOk result (self.new ≡ record self.old { spare_queues = self.new.spare_queues }) }
+        ensures err { OnErr result (self.new ≡ self.old) }
+    {
+        if self.spare < n {
+            self.queues.reserve(n as usize)?;
+            self.spare = n;
+        }
+        Ok(())
+    }
+
+    /// The number of blocks in a queue. Takes no memory.
+    pub fn length(&self, q: QueueId) -> u64
+        requires { IsQueue self.now q.0 }
+        ensures value { result ≡ length (list_of self.now q.0) }
+        ensures once { HasEachBlockOnce self.now }
+    {
+        self.queues[q.0 as usize].length
+    }
+
+    /// A held block becomes the last of a queue. Takes no memory.
+    pub fn push_back(&mut self, q: QueueId, b: Block)
+        requires queue { IsQueue self.old q.0 }
+        requires held { IsHeld self.old b }
+        ensures list { list_of self.new q.0 ≡ list_of self.old q.0 ++ b ∷ [] }
+        ensures others { KeepsOtherQueues self.old self.new q.0 }
+        ensures rest { KeepsRest self.old self.new }
+        ensures once { HasEachBlockOnce self.new }
+        ensures cost { CostsAtMost 2 self.old self.new }
+    {
+        let queue = self.queues[q.0 as usize];
+        let number = b.number();
+        let ends = ends(queue, number);
+        set_link(&mut self.region, ends.last, number);
+        self.queues[q.0 as usize] = Queue {
+            first: ends.first,
+            last: number,
+            length: queue.length + 1,
+        };
+    }
+
+    /// A held block becomes the first of a queue. Takes no memory.
+    pub fn push_front(&mut self, q: QueueId, b: Block)
+        requires queue { IsQueue self.old q.0 }
+        requires held { IsHeld self.old b }
+        ensures list { list_of self.new q.0 ≡ b ∷ list_of self.old q.0 }
+        ensures others { KeepsOtherQueues self.old self.new q.0 }
+        ensures rest { KeepsRest self.old self.new }
+        ensures once { HasEachBlockOnce self.new }
+        ensures cost { CostsAtMost 2 self.old self.new }
+    {
+        let queue = self.queues[q.0 as usize];
+        let number = b.number();
+        let ends = ends(queue, number);
+        set_link(&mut self.region, number, queue.first);
+        self.queues[q.0 as usize] = Queue {
+            first: number,
+            last: ends.last,
+            length: queue.length + 1,
+        };
+    }
+
+    /// The first block of a queue, which the caller then holds, or None exactly where the queue is empty. Takes no memory.
+    pub fn pop_front(&mut self, q: QueueId) -> Option<Block>
+        requires { IsQueue self.old q.0 }
+        ensures none { IsNone result ↔ (list_of self.old q.0 ≡ []) }
+        ensures list { list_of self.old q.0 ≡ option_to_list result ++ list_of self.new q.0 }
+        ensures held { IfSome result (IsHeld self.new) }
+        ensures live { self.new.region.live ≡ self.old.region.live }
+        ensures others { KeepsOtherQueues self.old self.new q.0 }
+        ensures rest { KeepsRest self.old self.new }
+        ensures once { HasEachBlockOnce self.new }
+        ensures cost { CostsAtMost 2 self.old self.new }
+    {
+        if self.queues[q.0 as usize].length == 0 {
+            None
+        } else {
+            Some(self.pop(q))
+        }
+    }
+
+    /// The first block of `from` becomes the last of `to`; where these are one queue, it goes to the back. Takes no
+    /// memory.
+    pub fn move_front(&mut self, from: QueueId, to: QueueId)
+        requires from { IsQueue self.old from.0 }
+        requires to { IsQueue self.old to.0 }
+        requires some { 0 < length (list_of self.old from.0) }
+        ensures lists { (queue : ℕ) → list_of self.new queue ≡ moved_list self.old from.0 to.0 queue }
+        ensures rest { KeepsRest self.old self.new }
+        ensures once { HasEachBlockOnce self.new }
+        ensures cost { CostsAtMost 4 self.old self.new }
+    {
+        let block = self.pop(from);
+        self.push_back(to, block);
+    }
+
+    /// Word `i` of the first block of a queue, or None exactly where the queue is empty. Changes no word and no queue, and
+    /// takes no memory.
+    pub fn peek(&mut self, q: QueueId, i: u32) -> Option<u64>
+        requires queue { IsQueue self.old q.0 }
+        requires behind_link { 0 < length (list_of self.old q.0) → 1 ≤ i }
+        requires inside { 0 < length (list_of self.old q.0) → i < width_of self.old.region (slice_index (list_of self.old q.0) 0) }
+        ensures word { result ≡ option_map (λ b. slice_index (words_of self.old.region b) i) (slice_get (list_of self.old q.0) 0) }
+        ensures rest { self.new ≡ record self.old { region = record self.old.region { work = self.new.region.work } } }
+        ensures cost { CostsAtMost 2 self.old self.new }
+    {
+        let queue = self.queues[q.0 as usize];
+        if queue.length == 0 {
+            return None;
+        }
+        Some(word(&mut self.region, queue.first, i))
+    }
+
+    /// Makes free blocks until there are `n` of this width, in words, with the link. Where memory is wanting, some of
+    /// these blocks may have been made.
+    pub fn reserve(&mut self, width: u32, n: u64) -> Result<(), AllocError>
+        requires positive { 2 ≤ width }
+        requires narrow { width ≤ 65535 }
+        ensures ok { OnOk result (spare self.new.region width ≡ max n (spare self.old.region width)) }
+        ensures err { OnErr result (spare self.old.region width ≤ spare self.new.region width) }
+        ensures most { spare self.new.region width ≤ max n (spare self.old.region width) }
+        ensures others { KeepsOtherWidths self.old.region self.new.region width }
+        ensures live { self.new.region.live ≡ self.old.region.live }
+        ensures work { self.new.region.work ≡ self.old.region.work }
+        ensures queues { self.new ≡ record self.old { region = self.new.region } }
+    {
+        self.region.reserve(width, n)
+    }
+
+    /// A block of this width, whose words are 0, and which the caller holds. Takes no memory.
+    pub fn take(&mut self, width: u32) -> Block
+        requires wide { 2 ≤ width }
+        requires spare { 1 ≤ spare self.old.region width }
+        ensures fresh { get self.old.region.live result ≡ None }
+        ensures live { self.new.region.live ≡ insert self.old.region.live result (replicate width 0) }
+        ensures spare { spare self.new.region width + 1 ≡ spare self.old.region width }
+        ensures others { KeepsOtherWidths self.old.region self.new.region width }
+        ensures work { self.new.region.work ≡ raised self.old.region.work }
+        ensures rest { self.new ≡ record self.old { region = self.new.region } }
+        ensures lists { KeepsQueues self.old self.new }
+        ensures held { IsHeld self.new result }
+    {
+        self.region.take(width)
+    }
+
+    /// Frees a held block, and spends its token. Takes no memory.
+    pub fn give(&mut self, b: Block)
+        requires { IsHeld self.old b }
+        ensures live { self.new.region.live ≡ remove self.old.region.live b }
+        ensures spare { spare self.new.region (width_of self.old.region b) ≡ spare self.old.region (width_of self.old.region b) + 1 }
+        ensures others { KeepsOtherWidths self.old.region self.new.region (width_of self.old.region b) }
+        ensures work { self.new.region.work ≡ raised self.old.region.work }
+        ensures rest { self.new ≡ record self.old { region = self.new.region } }
+        ensures lists { KeepsQueues self.old self.new }
+        ensures once { HasEachBlockOnce self.new }
+    {
+        self.region.give(b);
+    }
+
+    /// Word `i` of a held block, from 0. Takes no memory.
+    pub fn get(&mut self, b: &Block, i: u32) -> u64
+        requires held { IsHeld self.old b.now }
+        requires inside { i < width_of self.old.region b.now }
+        ensures word { result ≡ slice_index (words_of self.old.region b.now) i }
+        ensures rest { self.new ≡ record self.old { region = record self.old.region { work = raised self.old.region.work } } }
+    {
+        self.region.get(b, i)
+    }
+
+    /// Puts a word at place `i` of a held block, from 0. Takes no memory.
+    pub fn set(&mut self, b: &Block, i: u32, word: u64)
+        requires held { IsHeld self.old b.now }
+        requires inside { i < width_of self.old.region b.now }
+        ensures live { self.new.region.live ≡ insert self.old.region.live b.now (slice_set (words_of self.old.region b.now) i word) }
+        ensures free { self.new.region.free ≡ self.old.region.free }
+        ensures work { self.new.region.work ≡ raised self.old.region.work }
+        ensures rest { self.new ≡ record self.old { region = self.new.region } }
+        ensures lists { KeepsQueues self.old self.new }
+        ensures held { IsHeld self.new b.now }
+    {
+        self.region.set(b, i, word);
+    }
+
+    /// The work of the region.
+    pub fn work(&self) -> u64
+        ensures { result ≡ self.now.region.work }
+    {
+        self.region.work()
+    }
+
+    // The first block of a queue that isn't empty.
+    fn pop(&mut self, q: QueueId) -> Block
+        requires queue { IsQueue self.old q.0 }
+        requires some { 0 < length (list_of self.old q.0) }
+        ensures list { list_of self.old q.0 ≡ result ∷ list_of self.new q.0 }
+        ensures held { IsHeld self.new result }
+        ensures live { self.new.region.live ≡ self.old.region.live }
+        ensures others { KeepsOtherQueues self.old self.new q.0 }
+        ensures rest { KeepsRest self.old self.new }
+        ensures once { HasEachBlockOnce self.new }
+        ensures cost { CostsAtMost 2 self.old self.new }
+    {
+        let queue = self.queues[q.0 as usize];
+        let block = self.region.block(queue.first);
+        let next = self.region.get(&block, 0);
+        self.queues[q.0 as usize] = Queue {
+            first: next,
+            last: queue.last,
+            length: queue.length - 1,
+        };
+        block
+    }
+}
+
+// The queue, or where it is empty, one whose ends are this block.
+fn ends(queue: Queue, block: u64) -> Queue
+    ensures { result ≡ (if queue.length == 0 then record { first = block; last = block; length = 0 } else queue) }
+{
+    if queue.length == 0 {
+        Queue {
+            first: block,
+            last: block,
+            length: 0,
+        }
+    } else {
+        queue
+    }
+}
+
+// Makes `next` the link of a live block.
+fn set_link(region: &mut Region, block: u64, next: u64)
+    requires live { IsLive region.old block }
+    requires wide { 1 ≤ width_of region.old block }
+    ensures live { region.new.live ≡ insert region.old.live block (slice_set (words_of region.old block) 0 next) }
+    ensures free { region.new.free ≡ region.old.free }
+    ensures least { region.old.work ≤ region.new.work }
+    ensures most { region.new.work ≤ region.old.work + 2 }
+{
+    let token = region.block(block);
+    region.set(&token, 0, next);
+    let _number = token.number();
+}
+
+// A word of a live block.
+fn word(region: &mut Region, block: u64, i: u32) -> u64
+    requires live { IsLive region.old block }
+    requires inside { i < width_of region.old block }
+    ensures value { result ≡ slice_index (words_of region.old block) i }
+    ensures rest { region.new ≡ record region.old { work = region.new.work } }
+    ensures least { region.old.work ≤ region.new.work }
+    ensures most { region.new.work ≤ region.old.work + 2 }
+{
+    let token = region.block(block);
+    let word = region.get(&token, i);
+    let _number = token.number();
+    word
+}
+
+#[cfg(test)]
+mod tests;
