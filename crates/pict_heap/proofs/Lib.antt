@@ -1,0 +1,5 @@
+pub mod Values
+pub mod Growth
+pub mod Look
+pub mod Pairs
+pub mod Index

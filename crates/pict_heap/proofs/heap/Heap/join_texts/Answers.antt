@@ -1,0 +1,89 @@
+use Rattle.std.proofs.Common.{◌≡◌, ◌∙◌, ◌+◌, ◌-◌, ◌++◌, ℕ, List, length, refl, ap, sym, arith, length-append}
+use Rattle.pict_core.specs.Term as term
+use Rattle.pict_heap.specs.HeapState.{text_of}
+use Rattle.pict_heap.specs.Layout.{text_state, part_of_word}
+use Rattle.pict_heap.specs.declared.heap.Heap.TheInside.{Inside}
+use Rattle.pict_heap.proofs.Growth.{AddsText, text_added, kept_by_text, new_text}
+use Rattle.pict_heap.proofs.Look.{PartOf, part_read, part_length}
+use Rattle.pict_heap.proofs.heap.Heap.join_texts.Goals as goal
+
+pub append_parts-text-requires-clause-room : goal.append_parts-text-requires-clause-room
+append_parts-text-requires-clause-room c =
+    let first = part_read c.self.inside _ c.args.a c.part_of-first.result c.self.view_is c.self.invariant c.requires.words.0 c.requires.first (c.part_of-first.ensures ∙ ap (λ ts. part_of_word ts c.args.a) c.deref.ensures.value) in
+    let second = part_read c.self.inside _ c.args.b c.part_of-second.result c.self.view_is c.self.invariant c.requires.words.1 c.requires.second (c.part_of-second.ensures ∙ ap (λ ts. part_of_word ts c.args.b) c.deref-2.ensures.value) in
+    omega (
+      arith,
+      c.requires.bytes,
+      part_length c.self.inside _ _ _ first,
+      part_length c.self.inside _ _ _ second,
+      ap (λ h. h.room.bytes) c.self.view_is,
+      c.self.inside.bytes.ok,
+    )
+
+first : (c : goal.After-push_reserved) → PartOf c.self.inside c.args.self.now c.args.a c.part_of-first.result
+first c = part_read c.self.inside _ c.args.a c.part_of-first.result c.self.view_is c.self.invariant c.requires.words.0 c.requires.first (c.part_of-first.ensures ∙ ap (λ ts. part_of_word ts c.args.a) c.deref.ensures.value)
+
+second : (c : goal.After-push_reserved) → PartOf c.self.inside c.args.self.now c.args.b c.part_of-second.result
+second c = part_read c.self.inside _ c.args.b c.part_of-second.result c.self.view_is c.self.invariant c.requires.words.1 c.requires.second (c.part_of-second.ensures ∙ ap (λ ts. part_of_word ts c.args.b) c.deref-2.ensures.value)
+
+after : (c : goal.After-push_reserved) → Inside
+after c = record {
+  bytes = c.append_parts-text.new.list;
+  texts = c.push_reserved.new.self;
+  words = c.self.inside.words;
+  labelled = c.self.inside.labelled;
+  sorted = c.self.inside.sorted;
+  records = c.self.inside.records;
+}
+
+joined : (c : goal.After-push_reserved) → List ℕ
+joined c = text_state c.self.inside.bytes.items c.part_of-first.result ++ text_state c.self.inside.bytes.items c.part_of-second.result
+
+adds : (c : goal.After-push_reserved) → AddsText c.self.inside (after c) (joined c)
+unfolding after joined
+adds c =
+    let len : c.self.inside.bytes.len ≡ length c.self.inside.bytes.items = c.self.inside.bytes.ok.0 in
+    let long : length (joined c) ≡ (c.part_of-first.result.end - c.part_of-first.result.start) + (c.part_of-second.result.end - c.part_of-second.result.start) =
+    omega (
+      arith,
+      length-append (text_state c.self.inside.bytes.items c.part_of-first.result) (text_state c.self.inside.bytes.items c.part_of-second.result),
+      part_length c.self.inside _ _ _ (first c),
+      part_length c.self.inside _ _ _ (second c),
+      ap length (first c).bytes,
+      ap length (second c).bytes,
+    ) in
+    let end : c.append_parts-text.result.end ≡ length c.self.inside.bytes.items + length (joined c) =
+    omega (arith, ap (λ p. p.end) c.append_parts-text.ensures.part, c.append_parts-text.ensures.len, len, long) in
+    text_added c.self.inside (after c) (joined c) c.append_parts-text.result c.self.invariant c.append_parts-text.ensures.items
+    (ap (λ p. p.start) c.append_parts-text.ensures.part ∙ len) end c.push_reserved.ensures.items refl refl refl refl
+
+pub invariant_of-self : goal.invariant_of-self
+unfolding after
+invariant_of-self c = (adds c).sound
+
+pub returns-clause-value : goal.returns-clause-value
+unfolding after joined
+returns-clause-value c =
+    let texts : c.self.inside.texts.len ≡ length c.self.inside.texts.items = c.self.inside.texts.ok.0 in
+    ap term.Text (new_text c.self.inside (after c) c.len-number.result (joined c) (adds c) (c.len-number.ensures ∙ texts)
+    ∙ sym (ap (λ ws. ws ++ text_of c.args.self.now c.args.b) (first c).bytes
+    ∙ ap (λ ws. text_state c.self.inside.bytes.items c.part_of-first.result ++ ws) (second c).bytes))
+
+pub returns-clause-keeps : goal.returns-clause-keeps
+unfolding after
+returns-clause-keeps c = kept_by_text c.self.inside (after c) _ (joined c) c.self.view_is c.self.invariant (adds c)
+
+pub returns-clause-room : goal.returns-clause-room
+returns-clause-room c = record {
+  records_left = omega (arith, ap (λ h. h.room.records) c.self.view_is);
+  fields_left = omega (arith, ap (λ h. h.room.fields) c.self.view_is);
+  texts_left = omega (arith, ap (λ h. h.room.texts) c.self.view_is, c.push_reserved.ensures.len, c.push_reserved.ensures.capacity);
+  bytes_left = omega (
+    arith,
+    ap (λ h. h.room.bytes) c.self.view_is,
+    c.append_parts-text.ensures.len,
+    c.append_parts-text.ensures.capacity,
+    part_length c.self.inside _ _ _ (first c),
+    part_length c.self.inside _ _ _ (second c),
+  );
+}

@@ -1,0 +1,4 @@
+pub mod Parts
+pub mod HeapState
+pub mod Layout
+pub mod Packed
