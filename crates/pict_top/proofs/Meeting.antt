@@ -1,0 +1,84 @@
+-- How a call meets what is owed.
+use Rattle.std.proofs.Common.{◌≡◌, ap, refl, sym, ◌∙◌, subst, ◌⊎◌, inl, inr}
+use Rattle.pict_outside.proofs.Gaining.{front_of_all}
+use Rattle.pict_top.specs.Outcome.{Outcome}
+use Rattle.pict_top.specs.Changes.{SinkChange, Gained, GainedFront, Untouched, Failed}
+use Rattle.pict_top.specs.Meets.{Meets, Reports, Tells, IsDecided, Delivers, SomeOutcome}
+use Rattle.pict_top.specs.declared.status.Status.{Status}
+use Rattle.pict_top.specs.declared.status.Status.TheVariants.{ReadFault, WriteFault, Memory}
+
+decided : (Owes Faults : Outcome → Type 0) (failed : Type 0) (out err : SinkChange) (s : Status) → IsDecided s → (o : Outcome) → Owes o → o.status ≡ s → Delivers out err o → Meets Owes Faults failed out err s
+decided Owes Faults failed out err ReadFault is o owes e d = absurd is
+decided Owes Faults failed out err WriteFault is o owes e d = absurd is
+decided Owes Faults failed out err Memory is o owes e d = absurd is
+decided Owes Faults failed out err s is o owes e d = (o, owes, (e, d))
+
+some_more : (Owes More P : Outcome → Type 0) → ((o : Outcome) → Owes o → More o) → SomeOutcome Owes P → SomeOutcome More P
+some_more Owes More P f m = (m.0, f m.0 m.1, m.2)
+
+-- what is owed may grow
+pub weaken : (Owes Faults More MoreFaults : Outcome → Type 0) (failed more_failed : Type 0) (out err : SinkChange) (s : Status) → ((o : Outcome) → Owes o → More o) → ((o : Outcome) → Faults o → MoreFaults o) → (failed → more_failed) → Meets Owes Faults failed out err s → Meets More MoreFaults more_failed out err s
+weaken Owes Faults More MoreFaults failed more_failed out err ReadFault f g h m = (h m.0, some_more Faults MoreFaults _ g m.1)
+weaken Owes Faults More MoreFaults failed more_failed out err WriteFault f g h m =
+    elim m [ inl broke ↦ inl (some_more Owes More _ f broke) | inr (p, broke) ↦ inr (h p, some_more Faults MoreFaults _ g broke) ]
+weaken Owes Faults More MoreFaults failed more_failed out err Memory f g h m =
+    (m.0, elim m.1 [ inl none ↦ inl none | inr part ↦ inr (some_more Owes More _ f part) ])
+weaken Owes Faults More MoreFaults failed more_failed out err s f g h m = some_more Owes More _ f m
+
+-- a text is written behind an outcome that prints nothing
+pub told : (Owes Faults : Outcome → Type 0) (failed : Type 0) (out err : SinkChange) (s : Status) (o : Outcome) → Owes o → IsDecided o.status → Gained out o.printed → Tells o.status o.report err s → Meets Owes Faults failed out err s
+told Owes Faults failed out err s o owes is printed tells =
+    let P : Status → Type 0 = Meets Owes Faults failed out err in
+    elim tells [
+      | inl (e, text) ↦ decided Owes Faults failed out err s (subst IsDecided (sym e) is) o owes (sym e) (record { printed = printed; reported = text })
+      | inr (e, text) ↦ subst P (sym e) (inl (o, owes, inr (printed, text)))
+    ]
+
+-- the same, where memory may run out for the text
+pub reported : (Owes Faults : Outcome → Type 0) (failed : Type 0) (out err : SinkChange) (s : Status) (o : Outcome) → Owes o → IsDecided o.status → Gained out o.printed → Untouched out → Reports o.status o.report err s → Meets Owes Faults failed out err s
+reported Owes Faults failed out err s o owes is printed none reports =
+    let P : Status → Type 0 = Meets Owes Faults failed out err in
+    elim reports [ inl tells ↦ told Owes Faults failed out err s o owes is printed tells | inr (e, kept) ↦ subst P (sym e) (kept, inl none) ]
+
+-- the shelf failed, and the text about that is written
+pub fault_reported : (Owes Faults : Outcome → Type 0) (failed : Type 0) (out err : SinkChange) (s : Status) (o : Outcome) → failed → Faults o → Untouched out → Reports ReadFault o.report err s → Meets Owes Faults failed out err s
+fault_reported Owes Faults failed out err s o rose faults none reports =
+    let P : Status → Type 0 = Meets Owes Faults failed out err in
+    elim reports [
+      | inl tells ↦ elim tells [
+        | inl (e, text) ↦ subst P (sym e) (rose, (o, faults, (none, text)))
+        | inr (e, text) ↦ subst P (sym e) (inr (rose, (o, faults, (none, text))))
+      ]
+      | inr (e, kept) ↦ subst P (sym e) (kept, inl none)
+    ]
+
+pub when_decided : (Owes Faults : Outcome → Type 0) (failed : Type 0) (out err : SinkChange) (s : Status) → Meets Owes Faults failed out err s → IsDecided s → SomeOutcome Owes (λ o. (o.status ≡ s) × Delivers out err o)
+when_decided Owes Faults failed out err ReadFault m is = absurd is
+when_decided Owes Faults failed out err WriteFault m is = absurd is
+when_decided Owes Faults failed out err Memory m is = absurd is
+when_decided Owes Faults failed out err s m is = m
+
+pub when : (Owes Faults : Outcome → Type 0) (failed : Type 0) (out err : SinkChange) (s t : Status) → Meets Owes Faults failed out err s → s ≡ t → Meets Owes Faults failed out err t
+when Owes Faults failed out err s t m e = let P : Status → Type 0 = Meets Owes Faults failed out err in subst P e m
+
+-- where no count rose, the status is that of what is owed, or memory ran out
+pub when_no_fault : (Owes Faults : Outcome → Type 0) (failed : Type 0) (out err : SinkChange) (s : Status) (o : Outcome) → Meets Owes Faults failed out err s → ((p : Outcome) → Owes p → p ≡ o) → ¬ failed → ¬ (Failed out) → ¬ (Failed err) → (s ≡ o.status) ⊎ (s ≡ Memory)
+when_no_fault Owes Faults failed out err ReadFault o m one a b c = absurd (a m.0)
+when_no_fault Owes Faults failed out err WriteFault o m one a b c =
+    elim m [
+      | inl (p, owes, broke) ↦ elim broke [ inl (f, kept) ↦ absurd (b f.failed) | inr (printed, f) ↦ absurd (c f.failed) ]
+      | inr (rose, more) ↦ absurd (a rose)
+    ]
+when_no_fault Owes Faults failed out err Memory o m one a b c = inr refl
+when_no_fault Owes Faults failed out err s o m one a b c = inl (sym m.2.0 ∙ ap (λ x. x.status) (one m.0 m.1))
+
+-- whatever the status, a beginning of what is owed was printed
+pub front_printed : (Owes Faults : Outcome → Type 0) (failed : Type 0) (out err : SinkChange) (s : Status) → Meets Owes Faults failed out err s → Untouched out ⊎ SomeOutcome Owes (λ o. GainedFront out o.printed)
+front_printed Owes Faults failed out err ReadFault m = inl m.1.2.0
+front_printed Owes Faults failed out err WriteFault m =
+    elim m [
+      | inl (o, owes, broke) ↦ elim broke [ inl (f, kept) ↦ inr (o, owes, f.part) | inr (printed, f) ↦ inr (o, owes, front_of_all out.old_taken out.new_taken o.printed printed) ]
+      | inr (rose, more) ↦ inl more.2.0
+    ]
+front_printed Owes Faults failed out err Memory m = m.1
+front_printed Owes Faults failed out err s m = inr (m.0, m.1, front_of_all out.old_taken out.new_taken m.0.printed m.2.1.printed)

@@ -1,0 +1,43 @@
+-- What stands after each status of a command.
+use Rattle.std.specs.Prelude.{◌≡◌, ◌⊎◌, ℕ, List}
+use Rattle.pict_top.specs.Outcome.{Outcome}
+use Rattle.pict_top.specs.Changes.{SinkChange, Untouched, Gained, GainedFront, FailedWithin}
+use Rattle.pict_top.specs.declared.status.Status.{Status}
+use Rattle.pict_top.specs.declared.status.Status.TheVariants.{ReadFault, WriteFault, Memory}
+
+-- the bytes and the report of an outcome were written whole
+pub record Delivers (out err : SinkChange) (o : Outcome) : Type 0 where
+  pub printed : Gained out o.printed
+  pub reported : Gained err o.report
+
+-- a sink failed before they were written whole
+abbrev pub Breaks : SinkChange → SinkChange → Outcome → Type 0
+Breaks out err o = (FailedWithin out o.printed × Untouched err) ⊎ (Gained out o.printed × FailedWithin err o.report)
+
+-- the status of an outcome: no device failed, and memory sufficed
+abbrev pub IsDecided : Status → Type 0
+IsDecided ReadFault = ⊥
+IsDecided WriteFault = ⊥
+IsDecided Memory = ⊥
+IsDecided status = Unit {0}
+
+-- some outcome of these has P
+abbrev pub SomeOutcome : (Outcome → Type 0) → (Outcome → Type 0) → Type 0
+SomeOutcome Owes P = (o : Outcome) × Owes o × P o
+
+-- What stands after a status. Owes says which outcomes the command may come to, Faults which where the shelf fails, and
+-- failed that the shelf's count of faults rose.
+abbrev pub Meets : (Outcome → Type 0) → (Outcome → Type 0) → Type 0 → SinkChange → SinkChange → Status → Type 0
+Meets Owes Faults failed out err ReadFault = failed × SomeOutcome Faults (λ o. Untouched out × Gained err o.report)
+Meets Owes Faults failed out err WriteFault =
+    SomeOutcome Owes (Breaks out err) ⊎ (failed × SomeOutcome Faults (λ o. Untouched out × FailedWithin err o.report))
+Meets Owes Faults failed out err Memory = Untouched err × (Untouched out ⊎ SomeOutcome Owes (λ o. GainedFront out o.printed))
+Meets Owes Faults failed out err status = SomeOutcome Owes (λ o. (o.status ≡ status) × Delivers out err o)
+
+-- a text was written on the error output behind this status, or the error output failed
+abbrev pub Tells : Status → List ℕ → SinkChange → Status → Type 0
+Tells status text err result = ((result ≡ status) × Gained err text) ⊎ ((result ≡ WriteFault) × FailedWithin err text)
+
+-- the same, or memory ran out for the text
+abbrev pub Reports : Status → List ℕ → SinkChange → Status → Type 0
+Reports status text err result = Tells status text err result ⊎ ((result ≡ Memory) × Untouched err)

@@ -1,0 +1,42 @@
+-- What the words come to over a shelf, where no device fails.
+use Rattle.std.specs.Prelude.{◌≡◌, ◌⊎◌, ℕ, List, Option, Some, IfSome}
+use Rattle.pict_outside.specs.Texts.{Texts, text_of}
+use Rattle.pict_top.specs.Words.{Command, HasShape, HasNoShape, options_of, file_of}
+use Rattle.pict_top.specs.Answer.{Answer, IsAnswer}
+use Rattle.pict_top.specs.Outcome.{Outcome, IsOutcome, read_fault, usage_outcome}
+
+-- a file, or nothing, that a shelf may hold under this name: what it tells, or any where it doesn't tell
+abbrev pub MayHold : Option Texts → List ℕ → Option (List ℕ) → Type 0
+MayHold held name file = IfSome held (λ texts. text_of texts name ≡ file)
+
+-- what a command comes to over a shelf that holds, if it tells them, these texts
+pub record OwesFile (held : Option Texts) (command : Command) (o : Outcome) : Type 0 where
+  pub file : Option (List ℕ)
+  pub holds : MayHold held (file_of command) file
+  pub answer : Answer
+  pub answers : IsAnswer (options_of command).fuel file answer
+  pub comes : IsOutcome command answer o
+
+-- what the words come to
+abbrev pub OwesWords : List (List ℕ) → Option Texts → Outcome → Type 0
+OwesWords words held o = ((command : Command) × HasShape words command × OwesFile held command o) ⊎ (HasNoShape words × (o ≡ usage_outcome))
+
+-- what the words come to where the shelf fails
+pub record FaultsWords (words : List (List ℕ)) (o : Outcome) : Type 0 where
+  pub command : Command
+  pub shape : HasShape words command
+  pub comes : o ≡ read_fault command
+
+-- one outcome, and no other, is owed
+pub record IsOnly (Owes : Outcome → Type 0) : Type 0 where
+  pub outcome : Outcome
+  pub owed : Owes outcome
+  pub only : (o : Outcome) → Owes o → o ≡ outcome
+
+-- words over a shelf that tells its texts come to one outcome
+abbrev pub OneOutcome : Type 0
+OneOutcome = (words : List (List ℕ)) (texts : Texts) → IsOnly (OwesWords words (Some texts))
+
+-- what a command comes to over this text
+abbrev pub OwesText : List ℕ → Command → Outcome → Type 0
+OwesText text command o = (answer : Answer) × IsAnswer (options_of command).fuel (Some text) answer × IsOutcome command answer o

@@ -1,0 +1,17 @@
+-- What the words and commands of the code stand for.
+use Rattle.std.specs.Prelude.{ℕ, List, map}
+use Rattle.std.specs.Borrow.{Bor}
+use Rattle.pict_top.specs.Words as words
+use Rattle.pict_top.specs.declared.words.Options.{Options}
+use Rattle.pict_top.specs.declared.words.Command.{Command}
+use Rattle.pict_top.specs.declared.words.Command.TheVariants.{Run}
+
+-- borrowed texts as the texts themselves
+abbrev pub texts_of : List (Bor (List ℕ)) → List (List ℕ)
+texts_of borrowed = map (λ text. text.now) borrowed
+
+abbrev pub plain_options : Options → words.Options
+plain_options options = record { bare = options.bare; fuel = options.fuel; file = options.file.now }
+
+abbrev pub plain_command : Command → words.Command
+plain_command (Run options) = words.Run (plain_options options)

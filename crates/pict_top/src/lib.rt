@@ -1,0 +1,16 @@
+//! The commands of `pict`: what the words ask for, and the call that does it over a shelf and two sinks.
+#![tactic(auto)]
+
+mod print;
+mod program;
+mod report;
+mod status;
+mod top;
+mod words;
+
+pub use status::Status;
+pub use top::{law_one_outcome, pict};
+pub use words::{Command, Options, Usage, words_of};
+
+#[cfg(test)]
+mod tests;

@@ -1,0 +1,73 @@
+// The texts that are written on the error output.
+ghost use Rattle.std.specs.Prelude.{◌≡◌, IfOk, string_bytes};
+ghost use Rattle.pict_top.specs.Reports.{text_of_code, line, refusal_report};
+
+use pict_syntax::Code;
+use std::alloc::{AllocError, Global};
+
+/// What is written where the words have no listed shape.
+pub const USAGE: &[u8] =
+    b"usage: pict run|trace|check|code [--bare] [--fuel N] FILE, or pict load N\n";
+
+/// A code with its text.
+pub fn text_of_code(code: Code) -> &'static str
+    ensures { result.now ≡ text_of_code code }
+{
+    match code {
+        Code::B1 => "B1 text longer than 1048576 bytes",
+        Code::L1 => "L1 byte begins no token",
+        Code::L2 => "L2 literal not closed",
+        Code::L3 => "L3 bad escape",
+        Code::L4 => "L4 number out of range",
+        Code::L5 => "L5 comment not closed",
+        Code::P1 => "P1 unexpected token",
+        Code::P2 => "P2 nested too deep",
+        Code::S1 => "S1 unbound name",
+        Code::S2 => "S2 unbound type",
+        Code::S3 => "S3 name bound twice",
+        Code::S4 => "S4 label twice",
+        Code::K1 => "K1 wrong number of type arguments",
+        Code::K2 => "K2 operator needs arguments",
+        Code::K3 => "K3 bound on an operator",
+        Code::K4 => "K4 type too big",
+        Code::Y1 => "Y1 not a channel",
+        Code::Y2 => "Y2 no right to send",
+        Code::Y3 => "Y3 no right to receive",
+        Code::Y4 => "Y4 not a subtype",
+        Code::Y5 => "Y5 wrong number of fields",
+        Code::Y6 => "Y6 label missing",
+        Code::Y7 => "Y7 annotation needed",
+        Code::Y8 => "Y8 not a function",
+        Code::Y9 => "Y9 bound not met",
+        Code::Y10 => "Y10 type argument not found",
+        Code::Y11 => "Y11 branches differ",
+        Code::Y12 => "Y12 condition is not Bool",
+        Code::Y13 => "Y13 not a recursive type",
+        Code::Y14 => "Y14 type variable escapes",
+        Code::Y15 => "Y15 new needs a ^ type",
+        Code::Y16 => "Y16 not this package",
+        Code::C1 => "C1 process too deep",
+        Code::N1 => "N1 form not built",
+    }
+}
+
+/// A line about a file.
+pub fn line(alloc: Global, file: &str, rest: &str) -> Result<String, AllocError>
+    ensures { IfOk result (λ text. string_bytes text ≡ line file.now rest.now) }
+{
+    format!(in alloc; "{file}{rest}\n")
+}
+
+/// The report of a refusal at a line and a column of a file, both counted from 1.
+pub fn refusal(
+    alloc: Global,
+    file: &str,
+    row: u32,
+    column: u32,
+    code: Code,
+) -> Result<String, AllocError>
+    ensures { IfOk result (λ text. string_bytes text ≡ refusal_report file.now row column code) }
+{
+    let text = text_of_code(code);
+    format!(in alloc; "{file}:{row}:{column}: {text}\n")
+}

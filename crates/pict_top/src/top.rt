@@ -1,0 +1,192 @@
+// The top call: what the words ask for, done over a shelf and two sinks.
+ghost use Rattle.std.specs.Prelude.{◌≡◌, ◌≤◌, ◌⊎◌, Some, IfOk, string_bytes, length};
+ghost use Rattle.pict_outside.specs.Counts.{Rose};
+ghost use Rattle.pict_outside.specs.Texts.{Texts};
+ghost use Rattle.pict_top.specs.Changes.{change_of, Untouched, Gained, GainedFront, FailedWithin};
+ghost use Rattle.pict_top.specs.Meets.{Meets, Reports, Tells, IsDecided, Delivers, Breaks, SomeOutcome};
+ghost use Rattle.pict_top.specs.Outcome.{Outcome, read_fault};
+ghost use Rattle.pict_top.specs.Owed.{OwesText, OwesFile, OwesWords, FaultsWords, OneOutcome};
+ghost use Rattle.pict_top.specs.Plain.{plain_command, texts_of};
+ghost use Rattle.pict_top.specs.Reports.{line, refusal_report, usage_report};
+ghost use Rattle.pict_top.specs.Words.{HasNoShape, IsDefault, file_of};
+
+use crate::print::print_all;
+use crate::program::read_program;
+use crate::report;
+use crate::status::Status;
+use crate::words::{Command, Usage, words_of};
+use pict_outside::{Fetched, Shelf, ShelfError, Sink, SinkFailed};
+use pict_syntax::Code;
+use std::alloc::{AllocError, Global};
+
+/// The greatest number of bytes of a text.
+const TEXT_LIMIT: u64 = 1_048_576;
+
+/// Does what the words ask for, and answers how it ended.
+///
+/// It reads the file from the shelf, writes what the program prints on `out`, each printing that isn't empty in one
+/// write right after its step, and the text of the status, if it has one, on `err` in one write.
+pub fn pict<S: Shelf, O: Sink, E: Sink>(
+    alloc: Global,
+    words: &[&str],
+    shelf: &mut S,
+    out: &mut O,
+    err: &mut E,
+) -> Status
+    // Where the shelf tells its texts and no device failed, the status is that of the one outcome, or memory ran out.
+    ensures complete { (texts : Texts) (o : Outcome) → S.held shelf.old ≡ Some texts → OwesWords (texts_of words.now) (Some texts) o
+        → ¬ (Rose (S.faults shelf.old) (S.faults shelf.new)) → ¬ (Rose (O.faults out.old) (O.faults out.new)) → ¬ (Rose (E.faults err.old) (E.faults err.new))
+        → (result ≡ o.status) ⊎ (result ≡ Status.Memory) }
+
+    // After any status but a fault and Memory the outcome of that status was written whole.
+    ensures decided { let out = change_of O.taken O.faults out.old out.new in let err = change_of E.taken E.faults err.old err.new in
+        IsDecided result → SomeOutcome (OwesWords (texts_of words.now) (S.held shelf.old)) (λ o. (o.status ≡ result) × Delivers out err o) }
+
+    // A sink failed on the way, and took a beginning of what was to be written on it.
+    ensures write_fault { let out = change_of O.taken O.faults out.old out.new in let err = change_of E.taken E.faults err.old err.new in
+        result ≡ Status.WriteFault → SomeOutcome (OwesWords (texts_of words.now) (S.held shelf.old)) (Breaks out err)
+        ⊎ (Rose (S.faults shelf.old) (S.faults shelf.new) × SomeOutcome (FaultsWords (texts_of words.now)) (λ o. Untouched out × FailedWithin err o.report)) }
+
+    // The shelf failed, and that was reported.
+    ensures read_fault { let out = change_of O.taken O.faults out.old out.new in let err = change_of E.taken E.faults err.old err.new in
+        result ≡ Status.ReadFault → Rose (S.faults shelf.old) (S.faults shelf.new) × SomeOutcome (FaultsWords (texts_of words.now)) (λ o. Untouched out × Gained err o.report) }
+
+    // Memory ran out: a beginning of what the program prints was written, and nothing was reported.
+    ensures memory { let out = change_of O.taken O.faults out.old out.new in let err = change_of E.taken E.faults err.old err.new in
+        result ≡ Status.Memory → Untouched err × (Untouched out ⊎ SomeOutcome (OwesWords (texts_of words.now) (S.held shelf.old)) (λ o. GainedFront out o.printed)) }
+
+    // Whatever the status, `out` has gained a beginning of what the program prints.
+    ensures printed { let out = change_of O.taken O.faults out.old out.new in
+        Untouched out ⊎ SomeOutcome (OwesWords (texts_of words.now) (S.held shelf.old)) (λ o. GainedFront out o.printed) }
+
+    ensures missing { result ≡ Status.Missing → Rose (S.misses shelf.old) (S.misses shelf.new) }
+    ensures usage { let out = change_of O.taken O.faults out.old out.new in let err = change_of E.taken E.faults err.old err.new in
+        HasNoShape (texts_of words.now) → Untouched out × Tells Status.Usage usage_report err result }
+    ensures usage_only { result ≡ Status.Usage → HasNoShape (texts_of words.now) }
+
+    ensures held { S.held shelf.new ≡ S.held shelf.old }
+    ensures counts { (S.faults shelf.old ≤ S.faults shelf.new) × (S.misses shelf.old ≤ S.misses shelf.new) × (O.faults out.old ≤ O.faults out.new) × (E.faults err.old ≤ E.faults err.new) }
+{
+    run_words(alloc, words, shelf, out, err)
+}
+
+/// Over a shelf that tells its texts the words come to one outcome, and to no other.
+pub fn law_one_outcome()
+    ensures { OneOutcome }
+{}
+
+/// Does what the words ask for.
+fn run_words<S: Shelf, O: Sink, E: Sink>(
+    alloc: Global,
+    words: &[&str],
+    shelf: &mut S,
+    out: &mut O,
+    err: &mut E,
+) -> Status
+    ensures meets { Meets (OwesWords (texts_of words.now) (S.held shelf.old)) (FaultsWords (texts_of words.now)) (Rose (S.faults shelf.old) (S.faults shelf.new))
+        (change_of O.taken O.faults out.old out.new) (change_of E.taken E.faults err.old err.new) result }
+    ensures usage { HasNoShape (texts_of words.now) → Untouched (change_of O.taken O.faults out.old out.new)
+        × Tells Status.Usage usage_report (change_of E.taken E.faults err.old err.new) result }
+    ensures missing { result ≡ Status.Missing → Rose (S.misses shelf.old) (S.misses shelf.new) }
+    ensures held { S.held shelf.new ≡ S.held shelf.old }
+    ensures counts { (S.faults shelf.old ≤ S.faults shelf.new) × (S.misses shelf.old ≤ S.misses shelf.new) × (O.faults out.old ≤ O.faults out.new) × (E.faults err.old ≤ E.faults err.new) }
+{
+    match words_of(words) {
+        Err(Usage) => tell(report::USAGE, Status::Usage, err),
+        Ok(command) => run_file(alloc, command, shelf, out, err),
+    }
+}
+
+/// Fetches the file of a command, and does with its text what the command does.
+fn run_file<S: Shelf, O: Sink, E: Sink>(
+    alloc: Global,
+    command: Command<'_>,
+    shelf: &mut S,
+    out: &mut O,
+    err: &mut E,
+) -> Status
+    requires { IsDefault (plain_command command) }
+    ensures meets { Meets (OwesFile (S.held shelf.old) (plain_command command.entry)) (λ o. o ≡ read_fault (plain_command command.entry)) (Rose (S.faults shelf.old) (S.faults shelf.new))
+        (change_of O.taken O.faults out.old out.new) (change_of E.taken E.faults err.old err.new) result }
+    ensures missing { result ≡ Status.Missing → Rose (S.misses shelf.old) (S.misses shelf.new) }
+    ensures held { S.held shelf.new ≡ S.held shelf.old }
+    ensures counts { (S.faults shelf.old ≤ S.faults shelf.new) × (S.misses shelf.old ≤ S.misses shelf.new) × (O.faults out.old ≤ O.faults out.new) × (E.faults err.old ≤ E.faults err.new) }
+{
+    match shelf.fetch(alloc, command.file(), TEXT_LIMIT) {
+        Ok(Fetched::Text(text)) => run_text(alloc, command, &text, out, err),
+        Ok(Fetched::Missing) => report_line(alloc, command, ": no such file", Status::Missing, err),
+        Ok(Fetched::TooLong(_)) => refuse(alloc, command, Code::B1, err),
+        Err(ShelfError::Failed) => report_line(
+            alloc,
+            command,
+            ": cannot be read",
+            Status::ReadFault,
+            err,
+        ),
+        Err(ShelfError::Memory) => Status::Memory,
+    }
+}
+
+/// Does with a text what a command does.
+fn run_text<O: Sink, E: Sink>(
+    alloc: Global,
+    command: Command<'_>,
+    text: &[u8],
+    out: &mut O,
+    err: &mut E,
+) -> Status
+    requires default { IsDefault (plain_command command) }
+    requires short { length text.now ≤ 1048576 }
+    ensures meets { Meets (OwesText text.now (plain_command command.entry)) (λ o. ⊥) ⊥
+        (change_of O.taken O.faults out.old out.new) (change_of E.taken E.faults err.old err.new) result }
+    ensures faults_stay { O.faults out.old ≤ O.faults out.new }
+    ensures err_faults_stay { E.faults err.old ≤ E.faults err.new }
+{
+    match read_program(alloc, text) {
+        Err(AllocError) => Status::Memory,
+        Ok(None) => refuse(alloc, command, Code::N1, err),
+        Ok(Some(strings)) => match print_all(out, &strings) {
+            Ok(()) => Status::Done,
+            Err(SinkFailed) => Status::WriteFault,
+        },
+    }
+}
+
+/// Reports a refusal at the first byte of the file of a command.
+fn refuse<E: Sink>(alloc: Global, command: Command<'_>, code: Code, err: &mut E) -> Status
+    ensures text { Reports Status.Refused (refusal_report (file_of (plain_command command.entry)) 1 1 code) (change_of E.taken E.faults err.old err.new) result }
+    ensures faults_stay { E.faults err.old ≤ E.faults err.new }
+{
+    match report::refusal(alloc, command.file(), 1, 1, code) {
+        Err(AllocError) => Status::Memory,
+        Ok(text) => tell(text.as_bytes(), Status::Refused, err),
+    }
+}
+
+/// Reports a status by a line about the file of a command.
+fn report_line<E: Sink>(
+    alloc: Global,
+    command: Command<'_>,
+    rest: &str,
+    status: Status,
+    err: &mut E,
+) -> Status
+    ensures text { Reports status (line (file_of (plain_command command.entry)) rest.now) (change_of E.taken E.faults err.old err.new) result }
+    ensures faults_stay { E.faults err.old ≤ E.faults err.new }
+{
+    match report::line(alloc, command.file(), rest) {
+        Err(AllocError) => Status::Memory,
+        Ok(text) => tell(text.as_bytes(), status, err),
+    }
+}
+
+/// Writes the text of a status.
+fn tell<E: Sink>(text: &[u8], status: Status, err: &mut E) -> Status
+    ensures text { Tells status text.now (change_of E.taken E.faults err.old err.new) result }
+    ensures faults_stay { E.faults err.old ≤ E.faults err.new }
+{
+    match err.write(text) {
+        Ok(()) => status,
+        Err(SinkFailed) => Status::WriteFault,
+    }
+}
