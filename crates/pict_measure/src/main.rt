@@ -1,0 +1,45 @@
+//! Measures how fast the phases of the compiler work.
+//!
+//! Without a word it works on texts of 1,000 bytes and prints what it found in them, and runs 1,000 steps of rings of
+//! servers. With a number from 1 to 1,048,576 as its word it works on texts of so many bytes and runs so many steps, and
+//! prints how long each took and how many bytes or steps that is in a second: `rt run -- 1048576`.
+#![tactic(auto)]
+
+mod lexing;
+mod running;
+mod sample;
+
+use anyhow::Error;
+use running::Work;
+use std::env;
+
+/// The size of the texts in bytes, and whether to print times.
+fn wanted(rt: &HostRuntime) -> Result<(usize, bool), Error> {
+    let mut args = env::args(rt)?.skip(1);
+    match args.next() {
+        None => Ok((1000, false)),
+        Some(word) => Ok((word.as_str().parse::<usize>()?, true)),
+    }
+}
+
+fn main(rt: HostRuntime) -> Result<(), Error> {
+    let (size, timed) = wanted(&rt)?;
+    if size == 0 || size > 1_048_576 {
+        println!(rt; "the size is from 1 to 1048576 bytes")?;
+        return Ok(());
+    }
+    for sample in &sample::SAMPLES {
+        let text = sample::text_of(rt.alloc(), sample, size)?;
+        lexing::measure(&rt, sample.name, &text, timed)?;
+    }
+    let servers = if timed { 300 } else { 10 };
+    running::measure(&rt, "a ring", servers, Work::HandsOn, size, timed)?;
+    running::measure(
+        &rt,
+        "a ring that counts",
+        servers,
+        Work::TakesOneAway,
+        size,
+        timed,
+    )
+}
