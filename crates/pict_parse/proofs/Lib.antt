@@ -1,13 +1,3 @@
-pub mod Reading
-pub mod Ahead
-pub mod ReadsTypes
-pub mod ReadsPats
-pub mod ValPlaces
-pub mod ReadsVals
-pub mod Inclusions
-pub mod Says
-pub mod SaysPuts
-pub mod SaysTypes
-pub mod SaysVals
-pub mod Finish
-pub mod Programs
+pub mod Exact
+pub mod Loop
+pub mod Others

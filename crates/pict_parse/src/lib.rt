@@ -1,9 +1,9 @@
-//! The parser: from the tokens of a text to its program.
+//! The parser: from the tokens of a text to its program, in one pass over a pushdown automaton.
 #![tactic(auto)]
 
-ghost use Rattle.pict_syntax.specs.Place.{OneTree};
+mod entry;
+#[cfg(test)]
+mod tests;
 
-/// A list of tokens is the tree of at most one program.
-pub fn law_one_tree()
-    ensures { OneTree }
-{}
+pub use entry::{ParseError, parse};
+pub use pict_automaton::{law_one_tree, law_one_verdict};

@@ -1,0 +1,5 @@
+pub mod Places
+pub mod Machine
+pub mod Nesting
+pub mod Verdicts
+pub mod Depth

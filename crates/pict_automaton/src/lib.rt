@@ -1,0 +1,16 @@
+//! The parser as a function on states: what each token leads to, and what its runs say about trees.
+#![tactic(auto)]
+
+ghost use Rattle.pict_automaton.specs.Verdicts.{OneVerdict};
+ghost use Rattle.pict_syntax.specs.Place.{OneTree};
+
+/// A list of tokens is the tree of at most one program.
+pub fn law_one_tree()
+    ensures { OneTree }
+{}
+
+/// A list of tokens has at most one verdict: its program, its first unexpected token, the end, or the first token that
+/// is nested too deep.
+pub fn law_one_verdict()
+    ensures { OneVerdict }
+{}

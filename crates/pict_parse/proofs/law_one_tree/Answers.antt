@@ -1,6 +1,0 @@
--- The machine that reads programs comes to one end.
-use Rattle.pict_parse.proofs.Programs.{one-tree}
-use Rattle.pict_parse.proofs.law_one_tree.Goals as goal
-
-pub returns : goal.returns
-returns c = one-tree

@@ -1,0 +1,232 @@
+// What each token leads to where a type binder or its kind is read.
+
+ghost use Rattle.std.specs.Prelude.{◌≡◌};
+ghost use Rattle.pict_syntax.specs.PlainTrees.{binder_of};
+ghost use Rattle.pict_automaton.specs.Machine.{put-binder, step-binder, step-hash, step-binder-name, step-need-kind, kind-arrow-at, step-kind-args, step-kind-arrow, step-kind-result, step-binder-kind};
+ghost use Rattle.pict_parse_states.specs.View.{Gives, binder-place_of};
+
+use crate::types::step_type_binders;
+use pict_parse_patterns::step_binders;
+use pict_parse_states::{BinderPlace, Fault, State, TypePlace, join};
+use pict_syntax::{Id, Keyword, KindTree, Sign, Span, TokenKind, TypeBinder};
+use std::alloc::Global;
+
+/// A whole binder is put where it stands.
+#[tactic(auto, using(pict_parse_states::proofs::Lists::type_lists))]
+pub fn put_binder(binder: TypeBinder, place: Box<BinderPlace>) -> Result<State, Fault>
+    ensures { Gives result (put-binder (binder_of binder) (binder-place_of place.value)) }
+{
+    match Box::into_inner(place) {
+        BinderPlace::Pats(place, mut binders) => {
+            binders.push(binder)?;
+            Ok(State::AfterBinders(place, binders))
+        }
+        BinderPlace::Types(opened, mut binders, place) => {
+            binders.push(binder)?;
+            Ok(State::AfterTypeBinders(opened, binders, place))
+        }
+    }
+}
+
+// The token behind a whole binder.
+#[tactic(auto, using(pict_parse_states::proofs::Lists::type_lists))]
+fn step_binder(
+    alloc: Global,
+    kind: &TokenKind,
+    at: Span,
+    binder: TypeBinder,
+    place: Box<BinderPlace>,
+) -> Result<State, Fault>
+    ensures { Gives result (step-binder kind.now at (binder_of binder) (binder-place_of place.value)) }
+{
+    match Box::into_inner(place) {
+        BinderPlace::Pats(place, mut binders) => {
+            binders.push(binder)?;
+            step_binders(alloc, kind, at, place, binders)
+        }
+        BinderPlace::Types(opened, mut binders, place) => {
+            binders.push(binder)?;
+            step_type_binders(alloc, kind, at, opened, binders, place)
+        }
+    }
+}
+
+/// The token behind the `#` of a binder: its name.
+pub fn step_hash(
+    kind: &TokenKind,
+    at: Span,
+    hash: Span,
+    place: Box<BinderPlace>,
+) -> Result<State, Fault>
+    ensures { Gives result (step-hash kind.now at hash (binder-place_of place.value)) }
+{
+    match kind {
+        TokenKind::Identifier(name) => Ok(State::BinderName(
+            hash,
+            Id {
+                name: *name,
+                span: at,
+            },
+            place,
+        )),
+        _ => Err(Fault::Unexpected),
+    }
+}
+
+/// The token behind the name of a binder: `:` and a kind, `<` and a bound, or what follows the binder.
+pub fn step_binder_name(
+    alloc: Global,
+    kind: &TokenKind,
+    at: Span,
+    hash: Span,
+    name: Id,
+    place: Box<BinderPlace>,
+) -> Result<State, Fault>
+    ensures { Gives result (step-binder-name kind.now at hash name (binder-place_of place.value)) }
+{
+    match kind {
+        TokenKind::Mark(Sign::Colon) => Ok(State::NeedKind(hash, name, place)),
+        TokenKind::Mark(Sign::Less) => {
+            let place = TypePlace::Bound(hash, name, None, place);
+            Ok(State::NeedType(Box::new(alloc, place)?))
+        }
+        _ => {
+            let binder = TypeBinder {
+                span: join(hash, name.span),
+                id: name,
+                kind: None,
+                bound: None,
+            };
+            step_binder(alloc, kind, at, binder, place)
+        }
+    }
+}
+
+/// The token that begins the kind of a binder.
+pub fn step_need_kind(
+    kind: &TokenKind,
+    at: Span,
+    hash: Span,
+    name: Id,
+    place: Box<BinderPlace>,
+) -> Result<State, Fault>
+    ensures { Gives result (step-need-kind kind.now at hash name (binder-place_of place.value)) }
+{
+    match kind {
+        TokenKind::Word(Keyword::TypeKind) => Ok(State::BinderKind(
+            hash,
+            name,
+            KindTree::Plain,
+            at,
+            place,
+        )),
+        TokenKind::Mark(Sign::OpenParen) => Ok(State::KindArgs(hash, name, 0, place)),
+        _ => Err(Fault::Unexpected),
+    }
+}
+
+// The arrow of a kind, behind this many arguments: there must be one.
+fn kind_arrow_at(
+    hash: Span,
+    name: Id,
+    arguments: u32,
+    place: Box<BinderPlace>,
+) -> Result<State, Fault>
+    ensures { Gives result (kind-arrow-at hash name arguments (binder-place_of place.value)) }
+{
+    match arguments {
+        0 => Err(Fault::Unexpected),
+        _ => Ok(State::KindArrow(hash, name, arguments, place)),
+    }
+}
+
+/// The token behind this many arguments of a kind.
+pub fn step_kind_args(
+    kind: &TokenKind,
+    _at: Span,
+    hash: Span,
+    name: Id,
+    arguments: u32,
+    place: Box<BinderPlace>,
+) -> Result<State, Fault>
+    ensures { Gives result (step-kind-args kind.now _at hash name arguments (binder-place_of place.value)) }
+{
+    match kind {
+        TokenKind::Word(Keyword::TypeKind) => match arguments.checked_add(1) {
+            Some(arguments) => Ok(State::KindArgs(hash, name, arguments, place)),
+            None => Err(Fault::Memory),
+        },
+        TokenKind::Mark(Sign::Arrow) => kind_arrow_at(hash, name, arguments, place),
+        _ => Err(Fault::Unexpected),
+    }
+}
+
+/// The token behind the arrow of a kind.
+pub fn step_kind_arrow(
+    kind: &TokenKind,
+    _at: Span,
+    hash: Span,
+    name: Id,
+    arguments: u32,
+    place: Box<BinderPlace>,
+) -> Result<State, Fault>
+    ensures { Gives result (step-kind-arrow kind.now _at hash name arguments (binder-place_of place.value)) }
+{
+    match kind {
+        TokenKind::Word(Keyword::TypeKind) => Ok(State::KindResult(hash, name, arguments, place)),
+        _ => Err(Fault::Unexpected),
+    }
+}
+
+/// The token behind the result of a kind.
+pub fn step_kind_result(
+    kind: &TokenKind,
+    at: Span,
+    hash: Span,
+    name: Id,
+    arguments: u32,
+    place: Box<BinderPlace>,
+) -> Result<State, Fault>
+    ensures { Gives result (step-kind-result kind.now at hash name arguments (binder-place_of place.value)) }
+{
+    match kind {
+        TokenKind::Mark(Sign::CloseParen) => Ok(State::BinderKind(
+            hash,
+            name,
+            KindTree::Operator(arguments),
+            at,
+            place,
+        )),
+        _ => Err(Fault::Unexpected),
+    }
+}
+
+/// The token behind the kind of a binder: `<` and a bound, or what follows the binder.
+pub fn step_binder_kind(
+    alloc: Global,
+    kind: &TokenKind,
+    at: Span,
+    hash: Span,
+    name: Id,
+    of: KindTree,
+    end: Span,
+    place: Box<BinderPlace>,
+) -> Result<State, Fault>
+    ensures { Gives result (step-binder-kind kind.now at hash name of end (binder-place_of place.value)) }
+{
+    match kind {
+        TokenKind::Mark(Sign::Less) => {
+            let place = TypePlace::Bound(hash, name, Some(of), place);
+            Ok(State::NeedType(Box::new(alloc, place)?))
+        }
+        _ => {
+            let binder = TypeBinder {
+                span: join(hash, end),
+                id: name,
+                kind: Some(of),
+                bound: None,
+            };
+            step_binder(alloc, kind, at, binder, place)
+        }
+    }
+}

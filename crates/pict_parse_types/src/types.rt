@@ -1,0 +1,348 @@
+// What each token leads to where types are read.
+
+ghost use Rattle.std.specs.Prelude.{◌≡◌};
+ghost use Rattle.pict_syntax.specs.PlainTrees.{type_of, types-on, binders-on, labelled-types-on};
+ghost use Rattle.pict_syntax.specs.Trees.{no-types, no-binders, no-labelled-types};
+ghost use Rattle.pict_automaton.specs.Machine.{begin-type-word, begin-type-sign, begin-type, step-type-open, step-rec-word, step-rec-name, step-rec-body, close-type-args, step-type-args, step-types, step-type-name, step-type-labels, step-type-label, step-type-binders};
+ghost use Rattle.pict_parse_states.specs.View.{Gives, type-place_of};
+
+use crate::puts::put_type;
+use pict_parse_states::{BinderPlace, Fault, Prefix, State, TypePlace, join};
+use pict_syntax::{Id, Keyword, LabelledType, Sign, Span, TokenKind, TypeBinder, TypeTree};
+use std::alloc::Global;
+
+// A type that is a word.
+#[tactic(auto, unfolding(pict_syntax::specs::PlainTrees::type_of))]
+fn begin_type_word(
+    alloc: Global,
+    word: Keyword,
+    at: Span,
+    place: Box<TypePlace>,
+) -> Result<State, Fault>
+    ensures { Gives result (begin-type-word word at (type-place_of place.value)) }
+{
+    match word {
+        Keyword::TopType => put_type(alloc, place, TypeTree::Top(at)),
+        Keyword::IntType => put_type(alloc, place, TypeTree::Int(at)),
+        Keyword::CharType => put_type(alloc, place, TypeTree::Char(at)),
+        Keyword::StringType => put_type(alloc, place, TypeTree::String(at)),
+        Keyword::BoolType => put_type(alloc, place, TypeTree::Bool(at)),
+        _ => Err(Fault::Unexpected),
+    }
+}
+
+// A type that begins with a sign.
+#[tactic(auto, using(pict_parse_states::proofs::Lists::type_lists))]
+fn begin_type_sign(
+    alloc: Global,
+    sign: Sign,
+    at: Span,
+    place: Box<TypePlace>,
+) -> Result<State, Fault>
+    ensures { Gives result (begin-type-sign sign at (type-place_of place.value)) }
+{
+    match sign {
+        Sign::Caret => Ok(State::NeedType(Box::new(
+            alloc,
+            TypePlace::Prefix(Prefix::Both, at, place),
+        )?)),
+        Sign::Question => Ok(State::NeedType(Box::new(
+            alloc,
+            TypePlace::Prefix(Prefix::Read, at, place),
+        )?)),
+        Sign::Bang => Ok(State::NeedType(Box::new(
+            alloc,
+            TypePlace::Prefix(Prefix::Write, at, place),
+        )?)),
+        Sign::Slash => Ok(State::NeedType(Box::new(
+            alloc,
+            TypePlace::Prefix(Prefix::Respond, at, place),
+        )?)),
+        Sign::OpenBracket => Ok(State::AfterTypeBinders(at, Vec::new(alloc), place)),
+        Sign::OpenParen => Ok(State::TypeOpen(at, place)),
+        _ => Err(Fault::Unexpected),
+    }
+}
+
+/// A type begins.
+#[tactic(auto, unfolding(pict_syntax::specs::PlainTrees::type_of))]
+pub fn begin_type(
+    alloc: Global,
+    kind: &TokenKind,
+    at: Span,
+    place: Box<TypePlace>,
+) -> Result<State, Fault>
+    ensures { Gives result (begin-type kind.now at (type-place_of place.value)) }
+{
+    match kind {
+        TokenKind::Word(word) => begin_type_word(alloc, *word, at, place),
+        TokenKind::Mark(sign) => begin_type_sign(alloc, *sign, at, place),
+        TokenKind::Identifier(name) => put_type(alloc, place, TypeTree::Use(at, *name)),
+        _ => Err(Fault::Unexpected),
+    }
+}
+
+/// The token behind the `(` of a type: `rec`, or the operator that is applied.
+#[tactic(auto, using(pict_parse_states::proofs::Lists::type_lists))]
+pub fn step_type_open(
+    alloc: Global,
+    kind: &TokenKind,
+    at: Span,
+    from: Span,
+    place: Box<TypePlace>,
+) -> Result<State, Fault>
+    ensures { Gives result (step-type-open kind.now at from (type-place_of place.value)) }
+{
+    match kind {
+        TokenKind::Word(Keyword::Rec) => Ok(State::RecWord(from, place)),
+        TokenKind::Identifier(name) => {
+            let id = Id {
+                name: *name,
+                span: at,
+            };
+            Ok(State::TypeArgs(from, id, Vec::new(alloc), place))
+        }
+        _ => Err(Fault::Unexpected),
+    }
+}
+
+/// The token behind the `rec` of a type: the name that its body may use.
+pub fn step_rec_word(
+    kind: &TokenKind,
+    at: Span,
+    from: Span,
+    place: Box<TypePlace>,
+) -> Result<State, Fault>
+    ensures { Gives result (step-rec-word kind.now at from (type-place_of place.value)) }
+{
+    match kind {
+        TokenKind::Identifier(name) => Ok(State::RecName(
+            from,
+            Id {
+                name: *name,
+                span: at,
+            },
+            place,
+        )),
+        _ => Err(Fault::Unexpected),
+    }
+}
+
+/// The token behind the name of a recursive type.
+pub fn step_rec_name(
+    alloc: Global,
+    kind: &TokenKind,
+    at: Span,
+    from: Span,
+    id: Id,
+    place: Box<TypePlace>,
+) -> Result<State, Fault>
+    ensures { Gives result (step-rec-name kind.now at from id (type-place_of place.value)) }
+{
+    match kind {
+        TokenKind::Mark(Sign::Equals) => Ok(State::NeedType(Box::new(
+            alloc,
+            TypePlace::Rec(from, id, place),
+        )?)),
+        _ => Err(Fault::Unexpected),
+    }
+}
+
+/// The token behind the body of a recursive type.
+#[tactic(auto, unfolding(pict_syntax::specs::PlainTrees::type_of))]
+pub fn step_rec_body(
+    alloc: Global,
+    kind: &TokenKind,
+    at: Span,
+    from: Span,
+    id: Id,
+    body: TypeTree,
+    place: Box<TypePlace>,
+) -> Result<State, Fault>
+    ensures { Gives result (step-rec-body kind.now at from id (type_of body) (type-place_of place.value)) }
+{
+    match kind {
+        TokenKind::Mark(Sign::CloseParen) => {
+            let body = Box::new(alloc, body)?;
+            put_type(alloc, place, TypeTree::Rec(join(from, at), id, body))
+        }
+        _ => Err(Fault::Unexpected),
+    }
+}
+
+// The arguments of an applied type end: there must be one.
+fn close_type_args(
+    alloc: Global,
+    at: Span,
+    from: Span,
+    id: Id,
+    types: Vec<TypeTree>,
+    place: Box<TypePlace>,
+) -> Result<State, Fault>
+    ensures { Gives result (close-type-args at from id (types-on no-types types.items) (type-place_of place.value)) }
+{
+    if types.is_empty() {
+        Err(Fault::Unexpected)
+    } else {
+        put_type(alloc, place, TypeTree::Apply(join(from, at), id, types))
+    }
+}
+
+/// The token behind the operator of an applied type, or behind one of its arguments.
+pub fn step_type_args(
+    alloc: Global,
+    kind: &TokenKind,
+    at: Span,
+    from: Span,
+    id: Id,
+    types: Vec<TypeTree>,
+    place: Box<TypePlace>,
+) -> Result<State, Fault>
+    ensures { Gives result (step-type-args kind.now at from id (types-on no-types types.items) (type-place_of place.value)) }
+{
+    match kind {
+        TokenKind::Mark(Sign::CloseParen) => close_type_args(alloc, at, from, id, types, place),
+        _ => {
+            let place = Box::new(alloc, TypePlace::Apply(from, id, types, place))?;
+            begin_type(alloc, kind, at, place)
+        }
+    }
+}
+
+/// The token behind the types of fields so far.
+pub fn step_types(
+    alloc: Global,
+    kind: &TokenKind,
+    at: Span,
+    from: Span,
+    binders: Vec<TypeBinder>,
+    types: Vec<TypeTree>,
+    place: Box<TypePlace>,
+) -> Result<State, Fault>
+    ensures { Gives result (step-types kind.now at from (binders-on no-binders binders.items) (types-on no-types types.items) (type-place_of place.value)) }
+{
+    match kind {
+        TokenKind::Mark(Sign::CloseBracket) => {
+            put_type(
+                alloc,
+                place,
+                TypeTree::Fields(join(from, at), binders, types, Vec::new(alloc)),
+            )
+        }
+        TokenKind::Identifier(name) => Ok(State::TypeName(
+            from,
+            binders,
+            types,
+            Id {
+                name: *name,
+                span: at,
+            },
+            place,
+        )),
+        _ => {
+            let place = Box::new(alloc, TypePlace::Field(from, binders, types, place))?;
+            begin_type(alloc, kind, at, place)
+        }
+    }
+}
+
+/// The token behind a name among the fields of a type: a label if `=` follows, else a type.
+#[tactic(auto, using(pict_parse_states::proofs::Lists::type_lists))]
+pub fn step_type_name(
+    alloc: Global,
+    kind: &TokenKind,
+    at: Span,
+    from: Span,
+    binders: Vec<TypeBinder>,
+    mut types: Vec<TypeTree>,
+    id: Id,
+    place: Box<TypePlace>,
+) -> Result<State, Fault>
+    ensures { Gives result (step-type-name kind.now at from (binders-on no-binders binders.items) (types-on no-types types.items) id (type-place_of place.value)) }
+{
+    match kind {
+        TokenKind::Mark(Sign::Equals) => {
+            let place = TypePlace::Label(from, binders, types, Vec::new(alloc), id, place);
+            Ok(State::NeedType(Box::new(alloc, place)?))
+        }
+        _ => {
+            types.push(TypeTree::Use(id.span, id.name))?;
+            step_types(alloc, kind, at, from, binders, types, place)
+        }
+    }
+}
+
+/// The token behind the labelled types of fields so far.
+pub fn step_type_labels(
+    alloc: Global,
+    kind: &TokenKind,
+    at: Span,
+    from: Span,
+    binders: Vec<TypeBinder>,
+    types: Vec<TypeTree>,
+    labels: Vec<LabelledType>,
+    place: Box<TypePlace>,
+) -> Result<State, Fault>
+    ensures { Gives result (step-type-labels kind.now at from (binders-on no-binders binders.items) (types-on no-types types.items) (labelled-types-on no-labelled-types labels.items) (type-place_of place.value)) }
+{
+    match kind {
+        TokenKind::Mark(Sign::CloseBracket) => {
+            put_type(
+                alloc,
+                place,
+                TypeTree::Fields(join(from, at), binders, types, labels),
+            )
+        }
+        TokenKind::Identifier(name) => {
+            let id = Id {
+                name: *name,
+                span: at,
+            };
+            Ok(State::TypeLabel(from, binders, types, labels, id, place))
+        }
+        _ => Err(Fault::Unexpected),
+    }
+}
+
+/// The token behind the label of a type.
+pub fn step_type_label(
+    alloc: Global,
+    kind: &TokenKind,
+    at: Span,
+    from: Span,
+    binders: Vec<TypeBinder>,
+    types: Vec<TypeTree>,
+    labels: Vec<LabelledType>,
+    id: Id,
+    place: Box<TypePlace>,
+) -> Result<State, Fault>
+    ensures { Gives result (step-type-label kind.now at from (binders-on no-binders binders.items) (types-on no-types types.items) (labelled-types-on no-labelled-types labels.items) id (type-place_of place.value)) }
+{
+    match kind {
+        TokenKind::Mark(Sign::Equals) => {
+            let place = TypePlace::Label(from, binders, types, labels, id, place);
+            Ok(State::NeedType(Box::new(alloc, place)?))
+        }
+        _ => Err(Fault::Unexpected),
+    }
+}
+
+/// The token behind the type binders of fields so far.
+pub fn step_type_binders(
+    alloc: Global,
+    kind: &TokenKind,
+    at: Span,
+    from: Span,
+    binders: Vec<TypeBinder>,
+    place: Box<TypePlace>,
+) -> Result<State, Fault>
+    ensures { Gives result (step-type-binders kind.now at from (binders-on no-binders binders.items) (type-place_of place.value)) }
+{
+    match kind {
+        TokenKind::Mark(Sign::Hash) => {
+            let place = BinderPlace::Types(from, binders, place);
+            Ok(State::BinderHash(at, Box::new(alloc, place)?))
+        }
+        _ => step_types(alloc, kind, at, from, binders, Vec::new(alloc), place),
+    }
+}
