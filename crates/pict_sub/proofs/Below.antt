@@ -12,7 +12,8 @@ use Rattle.pict_types.specs.Entries.{PlainWhat, Variable, Definition, PlainConte
 use Rattle.pict_sub.specs.Subtyping.{IsSubtype, AreSubtypes, HasLabels, has_none}
 use Rattle.pict_types.proofs.Rows.{labels_drop, labels_end}
 use Rattle.pict_sub.proofs.Inversion.{as_many, records, label_other, label_alike, no_label_left}
-use Rattle.pict_sub.proofs.Weighing.{weights_under_is, variable_positive}
+use Rattle.pict_types.proofs.Sizes.{variable_positive}
+use Rattle.pict_sub.proofs.Weighing.{weights_under_is}
 
 pub types_weigh : (ws : List ℕ) (xs : List Ty) (i : ℕ) (d : Ty) → i < length xs → weigh ws (plain (get_or xs i d)) ≤ weigh_types ws (plain_types xs)
 types_weigh ws [] i d h = absurd (omega arith)

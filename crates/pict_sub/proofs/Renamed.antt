@@ -3,56 +3,12 @@ use Rattle.std.proofs.Common.{◌≡◌, ℕ, zero, suc, ◌+◌, ◌∷◌, ref
 use Rattle.std.specs.Prelude.{nat_eq}
 use Rattle.pict_types.specs.Types.{PlainType, Top, Int, Char, Str, Boolean, Var, Apply, Chan, Fields, Rec, PlainTypes, no_type, types, PlainLabels, no_label, labels, PlainBound, Free, Below, Operator, PlainBounds, no_bound, bounds, TypeContext, under, type_at}
 use Rattle.pict_types.specs.Renaming.{beyond, beyond_all, rename, rename_types, rename_labels, rename_bounds, rename_bound, moved, bound_at, bound_of}
+use Rattle.pict_types.proofs.Renamed.{renamed_twice, bound_twice}
 use Rattle.pict_sub.specs.Subtyping.{IsSubtype, same, through, below_top, below_bound, upward, downward, by_fields, AreSubtypes, none, more, HasLabels, has_none, has_label}
 use Rattle.pict_sub.specs.Laws.{KeepsBounds}
 
 pub three : {A B C D : Type 0} (k : A → B → C → D) {a a' : A} {b b' : B} {c c' : C} → a ≡ a' → b ≡ b' → c ≡ c' → k a b c ≡ k a' b' c'
 three k p q r = cc
-
--- two renamings do to each variable what one does
-pub record Joins (g f k : ℕ → ℕ) : Type 0 where
-  pub each : (i : ℕ) → g (f i) ≡ k i
-
-joins_beyond : {g f k : ℕ → ℕ} → Joins g f k → Joins (beyond g) (beyond f) (beyond k)
-joins_beyond {g = g} {f = f} {k = k} x = record { each = go }
-  where
-    go : (i : ℕ) → beyond g (beyond f i) ≡ beyond k i
-    go zero = refl
-    go (suc i) = ap suc (x.each i)
-
-joins_under : {g f k : ℕ → ℕ} (bs : PlainBounds) → Joins g f k → Joins (beyond_all (rename_bounds f bs) g) (beyond_all bs f) (beyond_all bs k)
-joins_under no_bound x = x
-joins_under (bounds b bs) x = joins_under bs (joins_beyond x)
-
-mutual
-  pub renamed_twice : {g f k : ℕ → ℕ} (t : PlainType) → Joins g f k → rename g (rename f t) ≡ rename k t
-  renamed_twice Top x = refl
-  renamed_twice Int x = refl
-  renamed_twice Char x = refl
-  renamed_twice Str x = refl
-  renamed_twice Boolean x = refl
-  renamed_twice (Var i) x = ap Var (x.each i)
-  renamed_twice (Apply i ts) x = ap₂ Apply (x.each i) (types_twice ts x)
-  renamed_twice (Chan m t) x = ap (Chan m) (renamed_twice t x)
-  renamed_twice (Fields bs ps ls) x = three Fields (bounds_twice bs x) (types_twice ps (joins_under bs x)) (labels_twice ls (joins_under bs x))
-  renamed_twice (Rec t) x = ap Rec (renamed_twice t (joins_beyond x))
-
-  pub types_twice : {g f k : ℕ → ℕ} (t : PlainTypes) → Joins g f k → rename_types g (rename_types f t) ≡ rename_types k t
-  types_twice no_type x = refl
-  types_twice (types t ts) x = ap₂ types (renamed_twice t x) (types_twice ts x)
-
-  labels_twice : {g f k : ℕ → ℕ} (t : PlainLabels) → Joins g f k → rename_labels g (rename_labels f t) ≡ rename_labels k t
-  labels_twice no_label x = refl
-  labels_twice (labels l t ts) x = ap₂ (labels l) (renamed_twice t x) (labels_twice ts x)
-
-  bounds_twice : {g f k : ℕ → ℕ} (t : PlainBounds) → Joins g f k → rename_bounds g (rename_bounds f t) ≡ rename_bounds k t
-  bounds_twice no_bound x = refl
-  bounds_twice (bounds b bs) x = ap₂ bounds (bound_twice b x) (bounds_twice bs (joins_beyond x))
-
-  pub bound_twice : {g f k : ℕ → ℕ} (b : PlainBound) → Joins g f k → rename_bound g (rename_bound f b) ≡ rename_bound k b
-  bound_twice Free x = refl
-  bound_twice (Below t) x = ap Below (renamed_twice t x)
-  bound_twice (Operator n) x = refl
 
 -- two renamings that do what two others do
 pub renamed_alike : (g f k h : ℕ → ℕ) (t : PlainType) → ((i : ℕ) → g (f i) ≡ k (h i)) → rename g (rename f t) ≡ rename k (rename h t)

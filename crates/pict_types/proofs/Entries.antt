@@ -8,7 +8,7 @@ use Rattle.pict_types.specs.Types.{PlainBound, PlainType, TypeContext}
 use Rattle.pict_types.specs.Entries.{PlainWhat, Variable, Definition, PlainEntry, PlainContext, variables, places, with_place, held_weights, held_heights, with_variable, EntriesAreWellFormed, EntryIsWellFormed}
 use Rattle.pict_types.specs.Measures.{held, measure_at, weigh, rise, weigh_variable, rise_variable, weights, heights}
 use Rattle.pict_types.specs.PlainEntries.{plain_entry, plain_entries, plain_what}
-use Rattle.pict_types.proofs.Held.{HeldAlike, weigh_held, rise_held, weigh_variable_held, rise_variable_held}
+use Rattle.pict_types.proofs.Held.{alike, alike_more, HeldAlike, weigh_held, rise_held, weigh_variable_held, rise_variable_held}
 
 -- one more at the end stands in front, seen from the end
 pub last_first : {A B : Type 0} (f : A → B) (xs : List A) (x : A) → reverse (map f (xs ++ x ∷ [])) ≡ f x ∷ reverse (map f xs)
@@ -39,6 +39,13 @@ weighs_held m vs ws t h e = h ∙ ap (λ x. held (weigh x t)) e ∙ (weigh_held 
 
 pub rises_held : (m : ℕ) (vs ws : List ℕ) (t : PlainType) → m ≡ held (rise vs t) → vs ≡ map held ws → m ≡ held (rise ws t)
 rises_held m vs ws t h e = h ∙ ap (λ x. held (rise x t)) e ∙ (rise_held (held_list ws) t).same
+
+-- and under one more variable
+pub weighs_held_under : (m x : ℕ) (vs ws : List ℕ) (t : PlainType) → m ≡ held (weigh (x ∷ vs) t) → vs ≡ map held ws → m ≡ held (weigh (x ∷ ws) t)
+weighs_held_under m x vs ws t h e = h ∙ ap (λ y. held (weigh (x ∷ y) t)) e ∙ (weigh_held (alike_more alike (held_list ws)) t).same
+
+pub rises_held_under : (m x : ℕ) (vs ws : List ℕ) (t : PlainType) → m ≡ held (rise (x ∷ vs) t) → vs ≡ map held ws → m ≡ held (rise (x ∷ ws) t)
+rises_held_under m x vs ws t h e = h ∙ ap (λ y. held (rise (x ∷ y) t)) e ∙ (rise_held (alike_more alike (held_list ws)) t).same
 
 variable_weighs : (m : ℕ) (vs ws : List ℕ) (b : PlainBound) → m ≡ held (weigh_variable vs b) → vs ≡ map held ws → m ≡ held (weigh_variable ws b)
 variable_weighs m vs ws b h e = h ∙ ap (λ x. held (weigh_variable x b)) e ∙ (weigh_variable_held (held_list ws) b).same

@@ -8,7 +8,7 @@ use Rattle.pict_types.specs.Scopes.{weigh_parts, rise_parts}
 pub record Alike (a b : ℕ) : Type 0 where
   pub same : held a ≡ held b
 
-alike : {a : ℕ} → Alike a a
+pub alike : {a : ℕ} → Alike a a
 alike = record { same = refl }
 
 alike_suc : {a b : ℕ} → Alike a b → Alike (suc a) (suc b)
@@ -112,7 +112,7 @@ sum_step a m w e h = omega (arith, e, h.same)
 max_step : (a m w : ℕ) {x y : ℕ} → m ≡ held w → Alike x y → held (max (max a m) x) ≡ held (max a (max w y))
 max_step a m w e h = omega (arith, e, h.same)
 
-held_alike : (m w : ℕ) → m ≡ held w → Alike m w
+pub held_alike : (m w : ℕ) → m ≡ held w → Alike m w
 held_alike m w e = record { same = omega (arith, e) }
 
 -- one type field further: it counts held, and stands held in front

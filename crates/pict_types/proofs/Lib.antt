@@ -3,4 +3,22 @@ pub mod Scopes
 pub mod Held
 pub mod Entries
 pub mod Moving
+pub mod Renamed
+pub mod Filled
+pub mod Reaching
+pub mod Renumbered
+pub mod MeasuredAlike
+pub mod FilledReplaced
+pub mod Formed
+pub mod Past
+pub mod Within
+pub mod Sizes
+pub mod Placing
+pub mod Applied
+pub mod Making
+pub mod Inside
+pub mod Bounding
+pub mod Arguing
+pub mod Operating
+pub mod Parts
 mod Worked

@@ -11,3 +11,11 @@ pub mod Props
 pub mod PlainEntries
 pub mod PlainContext
 pub mod Normal
+pub mod Filling
+pub mod WithinLimits
+pub mod Recursion
+pub mod Limits
+pub mod Instances
+pub mod Fitting
+pub mod Putting
+pub mod Made

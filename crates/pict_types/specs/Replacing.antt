@@ -138,6 +138,11 @@ abbrev pub replacement_beyond_all : PlainBounds → Replacement → Replacement
 replacement_beyond_all no_bound s = s
 replacement_beyond_all (bounds b bs) s = replacement_beyond_all bs (replacement_beyond s)
 
+-- and under so many binders
+abbrev pub replacement_past : ℕ → Replacement → Replacement
+replacement_past zero s = s
+replacement_past (suc d) s = replacement_beyond (replacement_past d s)
+
 abbrev mutual
   pub replace : Replacement → PlainType → PlainType
   replace s Top = Top

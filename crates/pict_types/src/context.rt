@@ -44,10 +44,11 @@ pub struct Context<'a> {
 impl<'a> Context<'a> {
     ghost use Rattle.std.specs.Prelude.{◌≡◌, ◌+◌, ◌≤◌, ◌<◌, ◌^◌, [], ◌∷◌, length, drop, slice_get, Some, IfNone, IfSome, OnOk, OnErr};
     ghost use Rattle.pict_types.specs.Entries.{EntryIsWellFormed, variables};
-    ghost use Rattle.pict_types.specs.Measures.{held, height_of, weight_of};
+    ghost use Rattle.pict_types.specs.Measures.{held, height_of, heights, rise, weigh, weight_of, weights};
     ghost use Rattle.pict_types.specs.Plain.{plain, plain_bound};
     ghost use Rattle.pict_types.specs.PlainEntries.{plain_entry, plain_what};
     ghost use Rattle.pict_types.specs.PlainContext.{names_of, plain_context, type_context};
+    ghost use Rattle.pict_types.specs.Putting.{heights_inside, weights_inside};
 
     /// A context without entries. Takes no memory.
     pub fn new(alloc: Global, names: &'a Names) -> Context<'a>
@@ -136,6 +137,27 @@ impl<'a> Context<'a> {
         ensures height { result.height ≡ held (height_of (type_context self.now) (plain t.now)) }
     {
         measure(t, &Scope::Outer(&self.known))
+    }
+
+    /// The weight and the height of a type that is written under binders with these measures, the innermost last, in
+    /// the context without its `by` innermost variables.
+    pub(crate) fn measures_inside(&self, inner: &[Measures], by: u32, t: &Ty) -> Measures
+        requires by { by ≤ length (type_context self.now) }
+        ensures weight { result.weight ≡ held (weigh (weights_inside inner.now (drop by (weights (type_context self.now)))) (plain t.now)) }
+        ensures height { result.height ≡ held (rise (heights_inside inner.now (drop by (heights (type_context self.now)))) (plain t.now)) }
+    {
+        let known = self.known.as_slice();
+        let outer = &known[..known.len() - by as usize];
+        measure(t, &Scope::Inner(inner, &Scope::Outer(outer)))
+    }
+
+    /// The weight and the height of a type that is written under one more variable with these measures.
+    pub(crate) fn measures_with(&self, variable: Measures, t: &Ty) -> Measures
+        ensures weight { result.weight ≡ held (weigh (variable.weight ∷ weights (type_context self.now)) (plain t.now)) }
+        ensures height { result.height ≡ held (rise (variable.height ∷ heights (type_context self.now)) (plain t.now)) }
+    {
+        let known = [variable];
+        measure(t, &Scope::Inner(&known, &Scope::Outer(&self.known)))
     }
 }
 

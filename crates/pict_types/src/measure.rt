@@ -36,18 +36,18 @@ pub enum Scope<'a> {
 const BLOCK: usize = 64;
 
 impl Measures {
-    const NONE: Measures = Measures {
+    pub const NONE: Measures = Measures {
         weight: 0,
         height: 0,
     };
 
-    const LEAF: Measures = Measures {
+    pub const LEAF: Measures = Measures {
         weight: 1,
         height: 1,
     };
 
     /// The measures of a node over these.
-    fn above(self) -> Measures
+    pub fn above(self) -> Measures
         ensures weight { result.weight ≡ held (self.weight + 1) }
         ensures height { result.height ≡ held (self.height + 1) }
     {
@@ -58,7 +58,7 @@ impl Measures {
     }
 
     /// The measures of two parts side by side.
-    fn beside(self, other: Measures) -> Measures
+    pub fn beside(self, other: Measures) -> Measures
         ensures weight { result.weight ≡ held (self.weight + other.weight) }
         ensures height { result.height ≡ max self.height other.height }
     {

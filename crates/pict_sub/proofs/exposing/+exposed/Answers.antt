@@ -2,7 +2,7 @@
 use Rattle.std.proofs.Common.{arith}
 use Rattle.pict_types.specs.Kinds.{proper, kinds}
 use Rattle.pict_types.specs.PlainContext.{type_context}
-use Rattle.pict_sub.proofs.Forming.{kind_below, kinds_length}
+use Rattle.pict_types.proofs.Reaching.{kind_below, kinds_length}
 use Rattle.pict_sub.proofs.exposing.+exposed.Goals as goal
 
 pub exposed_variable-overflow_add-i : goal.exposed_variable-overflow_add-i

@@ -7,7 +7,7 @@ use Rattle.pict_types.specs.Plain.{plain, plain_record, plain_types, plain_bound
 use Rattle.pict_sub.specs.Scopes.{scope_context, scope_names}
 use Rattle.pict_sub.specs.Subtyping.{IsSubtype, same}
 use Rattle.pict_sub.proofs.Weighing.{size_weight_bounds, weight_positive}
-use Rattle.pict_sub.proofs.Forming.{kind_below, kinds_length}
+use Rattle.pict_types.proofs.Reaching.{kind_below, kinds_length}
 use Rattle.pict_sub.proofs.Below.{ready_as, weigh_as, parts_as, other_fields, second_decides, under_grows, label_read, label_weighs, label_rest, pass_label, take_label, miss_label, end_labels, all_found}
 use Rattle.pict_types.proofs.Rows.{labels_end}
 use Rattle.pict_sub.proofs.subtyping.+below.Goals as goal
