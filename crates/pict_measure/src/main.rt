@@ -6,6 +6,7 @@
 #![tactic(auto)]
 
 mod lexing;
+mod parsing;
 mod running;
 mod sample;
 
@@ -31,6 +32,10 @@ fn main(rt: HostRuntime) -> Result<(), Error> {
     for sample in &sample::SAMPLES {
         let text = sample::text_of(rt.alloc(), sample, size)?;
         lexing::measure(&rt, sample.name, &text, timed)?;
+    }
+    for sample in &sample::PROGRAMS {
+        let text = sample::text_of(rt.alloc(), sample, size)?;
+        parsing::measure(&rt, sample.name, &text, timed)?;
     }
     let servers = if timed { 300 } else { 10 };
     running::measure(&rt, "a ring", servers, Work::HandsOn, size, timed)?;

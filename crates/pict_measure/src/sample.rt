@@ -50,6 +50,38 @@ pub static SAMPLES: [Sample; 5] = [
     },
 ];
 
+/// Texts for the parser: declarations, as many tokens as there are bytes, one record, and brackets that nest too deep.
+pub static PROGRAMS: [Sample; 4] = [
+    Sample {
+        name: "declarations",
+        head: b"",
+        piece: b"new c:^Int run c!12 run c?n = printi!n\n",
+        closing: b"",
+        tail: b"",
+    },
+    Sample {
+        name: "values",
+        head: b"",
+        piece: b"a;",
+        closing: b"",
+        tail: b"",
+    },
+    Sample {
+        name: "a record",
+        head: b"val x=[",
+        piece: b"a ",
+        closing: b"",
+        tail: b"]",
+    },
+    Sample {
+        name: "brackets",
+        head: b"",
+        piece: b"(",
+        closing: b"",
+        tail: b"",
+    },
+];
+
 /// The bytes, so many times over.
 fn repeat(text: &mut Vec<u8>, bytes: &[u8], count: usize) -> Result<(), AllocError> {
     for _ in 0..count {

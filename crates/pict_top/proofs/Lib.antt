@@ -1,8 +1,9 @@
-pub mod Printing
-pub mod Scanning
-pub mod Programs
-pub mod BuiltRuns
 pub mod Meeting
 pub mod Files
 pub mod One
 pub mod Lists
+pub mod Continuing
+pub mod Written
+pub mod Running
+pub mod Runs
+pub mod Fronts

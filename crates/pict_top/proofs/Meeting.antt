@@ -35,10 +35,18 @@ told Owes Faults failed out err s o owes is printed tells =
     ]
 
 -- the same, where memory may run out for the text
-pub reported : (Owes Faults : Outcome → Type 0) (failed : Type 0) (out err : SinkChange) (s : Status) (o : Outcome) → Owes o → IsDecided o.status → Gained out o.printed → Untouched out → Reports o.status o.report err s → Meets Owes Faults failed out err s
-reported Owes Faults failed out err s o owes is printed none reports =
+pub reported : (Owes Faults : Outcome → Type 0) (failed : Type 0) (out err : SinkChange) (s : Status) (o : Outcome) → Owes o → IsDecided o.status → Gained out o.printed → Reports o.status o.report err s → Meets Owes Faults failed out err s
+reported Owes Faults failed out err s o owes is printed reports =
     let P : Status → Type 0 = Meets Owes Faults failed out err in
-    elim reports [ inl tells ↦ told Owes Faults failed out err s o owes is printed tells | inr (e, kept) ↦ subst P (sym e) (kept, inl none) ]
+    elim reports [
+      | inl tells ↦ told Owes Faults failed out err s o owes is printed tells
+      | inr (e, kept) ↦ subst P (sym e) (kept, inr (o, owes, front_of_all out.old_taken out.new_taken o.printed printed))
+    ]
+
+-- nothing is to be written behind it
+pub delivered : (Owes Faults : Outcome → Type 0) (failed : Type 0) (out err : SinkChange) (s : Status) (o : Outcome) → Owes o → IsDecided o.status → Gained out o.printed → Gained err o.report → s ≡ o.status → Meets Owes Faults failed out err s
+delivered Owes Faults failed out err s o owes is printed report e =
+    decided Owes Faults failed out err s (subst IsDecided (sym e) is) o owes (sym e) (record { printed = printed; reported = report })
 
 -- the shelf failed, and the text about that is written
 pub fault_reported : (Owes Faults : Outcome → Type 0) (failed : Type 0) (out err : SinkChange) (s : Status) (o : Outcome) → failed → Faults o → Untouched out → Reports ReadFault o.report err s → Meets Owes Faults failed out err s

@@ -1,12 +1,12 @@
 pub mod Numbers
 pub mod Words
 pub mod Plain
-pub mod Text
-pub mod Scan
-pub mod Found
 pub mod Reports
+pub mod Front
+pub mod Phases
 pub mod Answer
 pub mod Outcome
 pub mod Owed
 pub mod Changes
 pub mod Meets
+pub mod Printed

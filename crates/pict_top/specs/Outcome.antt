@@ -1,11 +1,12 @@
--- What a command comes to, by the answer to its file, where no device fails.
-use Rattle.std.specs.Prelude.{◌≡◌, ℕ, List, [], ◌∷◌, ◌++◌}
+-- What a command comes to, by its file and the answer to it, where no device fails.
+use Rattle.std.specs.Prelude.{◌≡◌, ℕ, List, [], Option, Some, None}
+use Rattle.pict_syntax.specs.declared.span.Span.{Span}
+use Rattle.pict_syntax.specs.Position.{line_of, column_of}
 use Rattle.pict_core.specs.Step.{Label}
-use Rattle.pict_core.specs.Run.{bytes_of}
-use Rattle.pict_core.specs.Run.{Done, FuelSpent, Trap, Misshapen}
+use Rattle.pict_core.specs.Run.{bytes_of, End, Done, FuelSpent, Trap, Misshapen}
 use Rattle.pict_top.specs.Words.{Command, Run, file_of}
 use Rattle.pict_top.specs.Answer.{Answer, Absent, Refusal, Ran}
-use Rattle.pict_top.specs.Reports.{missing_report, refusal_report, fault_report, usage_report}
+use Rattle.pict_top.specs.Reports.{missing_report, refusal_report, fault_report, usage_report, spent_report, trap_report, shape_report}
 use Rattle.pict_top.specs.declared.status.Status.{Status}
 use Rattle.pict_top.specs.declared.status.Status.TheVariants as status
 
@@ -15,18 +16,32 @@ pub record Outcome : Type 0 where
   pub printed : List ℕ
   pub report : List ℕ
 
+-- the bytes of a file; none where it isn't there
+abbrev pub text_in : Option (List ℕ) → List ℕ
+text_in None = []
+text_in (Some text) = text
+
 -- what a command writes of a run with these labels
 abbrev pub written_by : Command → List (ℕ × Label) → List ℕ
 written_by (Run options) labels = bytes_of labels
 
--- No run of a built text has another end than Done.
-abbrev pub IsOutcome : Command → Answer → Outcome → Type 0
-IsOutcome command Absent o = o ≡ record { status = status.Missing; printed = []; report = missing_report (file_of command) }
-IsOutcome command (Refusal code) o = o ≡ record { status = status.Refused; printed = []; report = refusal_report (file_of command) 1 1 code }
-IsOutcome command (Ran Done labels) o = o ≡ record { status = status.Done; printed = written_by command labels; report = [] }
-IsOutcome command (Ran FuelSpent labels) o = ⊥
-IsOutcome command (Ran (Trap at) labels) o = ⊥
-IsOutcome command (Ran Misshapen labels) o = ⊥
+abbrev pub status_of_end : End → Status
+status_of_end Done = status.Done
+status_of_end FuelSpent = status.FuelSpent
+status_of_end (Trap at) = status.Trap
+status_of_end Misshapen = status.Misshapen
+
+-- what is reported of an end: nothing of a run that is done
+abbrev pub report_of_end : List ℕ → List ℕ → End → List ℕ
+report_of_end file text Done = []
+report_of_end file text FuelSpent = spent_report
+report_of_end file text (Trap at) = trap_report file (line_of text at.start) (column_of text at.start)
+report_of_end file text Misshapen = shape_report file
+
+abbrev pub outcome_of : Command → List ℕ → Answer → Outcome
+outcome_of command text Absent = record { status = status.Missing; printed = []; report = missing_report (file_of command) }
+outcome_of command text (Refusal code span) = record { status = status.Refused; printed = []; report = refusal_report (file_of command) (line_of text span.start) (column_of text span.start) code }
+outcome_of command text (Ran end labels) = record { status = status_of_end end; printed = written_by command labels; report = report_of_end (file_of command) text end }
 
 -- the outcome where the shelf fails
 abbrev pub read_fault : Command → Outcome
@@ -35,8 +50,3 @@ read_fault command = record { status = status.ReadFault; printed = []; report = 
 -- the outcome of words of no listed shape
 abbrev pub usage_outcome : Outcome
 usage_outcome = record { status = status.Usage; printed = []; report = usage_report }
-
--- lists of bytes, one after the other
-abbrev pub joined : List (List ℕ) → List ℕ
-joined [] = []
-joined (s ∷ ss) = s ++ joined ss

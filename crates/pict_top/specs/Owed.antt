@@ -3,7 +3,7 @@ use Rattle.std.specs.Prelude.{◌≡◌, ◌⊎◌, ℕ, List, Option, Some, IfS
 use Rattle.pict_outside.specs.Texts.{Texts, text_of}
 use Rattle.pict_top.specs.Words.{Command, HasShape, HasNoShape, options_of, file_of}
 use Rattle.pict_top.specs.Answer.{Answer, IsAnswer}
-use Rattle.pict_top.specs.Outcome.{Outcome, IsOutcome, read_fault, usage_outcome}
+use Rattle.pict_top.specs.Outcome.{Outcome, outcome_of, text_in, read_fault, usage_outcome}
 
 -- a file, or nothing, that a shelf may hold under this name: what it tells, or any where it doesn't tell
 abbrev pub MayHold : Option Texts → List ℕ → Option (List ℕ) → Type 0
@@ -15,7 +15,7 @@ pub record OwesFile (held : Option Texts) (command : Command) (o : Outcome) : Ty
   pub holds : MayHold held (file_of command) file
   pub answer : Answer
   pub answers : IsAnswer (options_of command).fuel file answer
-  pub comes : IsOutcome command answer o
+  pub comes : o ≡ outcome_of command (text_in file) answer
 
 -- what the words come to
 abbrev pub OwesWords : List (List ℕ) → Option Texts → Outcome → Type 0
@@ -27,16 +27,10 @@ pub record FaultsWords (words : List (List ℕ)) (o : Outcome) : Type 0 where
   pub shape : HasShape words command
   pub comes : o ≡ read_fault command
 
--- one outcome, and no other, is owed
-pub record IsOnly (Owes : Outcome → Type 0) : Type 0 where
-  pub outcome : Outcome
-  pub owed : Owes outcome
-  pub only : (o : Outcome) → Owes o → o ≡ outcome
-
--- words over a shelf that tells its texts come to one outcome
+-- words over a shelf that tells its texts come to at most one outcome
 abbrev pub OneOutcome : Type 0
-OneOutcome = (words : List (List ℕ)) (texts : Texts) → IsOnly (OwesWords words (Some texts))
+OneOutcome = (words : List (List ℕ)) (texts : Texts) (o p : Outcome) → OwesWords words (Some texts) o → OwesWords words (Some texts) p → o ≡ p
 
 -- what a command comes to over this text
 abbrev pub OwesText : List ℕ → Command → Outcome → Type 0
-OwesText text command o = (answer : Answer) × IsAnswer (options_of command).fuel (Some text) answer × IsOutcome command answer o
+OwesText text command o = (answer : Answer) × IsAnswer (options_of command).fuel (Some text) answer × (o ≡ outcome_of command text answer)

@@ -49,6 +49,18 @@ line file rest = file ++ (rest ++ 10 ∷ [])
 abbrev pub refusal_report : List ℕ → ℕ → ℕ → Code → List ℕ
 refusal_report file row column code = file ++ (58 ∷ (decimal row ++ (58 ∷ (decimal column ++ (codes ": " ++ (text_of_code code ++ 10 ∷ []))))))
 
+-- a division by zero, at a line and a column of a file
+abbrev pub trap_report : List ℕ → ℕ → ℕ → List ℕ
+trap_report file row column = file ++ (58 ∷ (decimal row ++ (58 ∷ (decimal column ++ codes ": division by zero\n"))))
+
+-- a step that is wrong
+abbrev pub shape_report : List ℕ → List ℕ
+shape_report file = line file (codes ": message of a wrong shape")
+
+-- the fuel is spent
+abbrev pub spent_report : List ℕ
+spent_report = line (codes "fuel spent") []
+
 -- no such file
 abbrev pub missing_report : List ℕ → List ℕ
 missing_report file = line file (codes ": no such file")

@@ -1,5 +1,6 @@
 -- The words after the program's name: their shapes, and the command that each shape stands for.
-use Rattle.std.specs.Prelude.{◌≡◌, ◌≢◌, ℕ, Bool, true, List, [], ◌∷◌, slice_index, codes}
+use Rattle.std.specs.Prelude.{◌≡◌, ◌≢◌, ◌⊎◌, ℕ, ◌≤◌, Bool, true, List, [], ◌∷◌, slice_index, codes}
+use Rattle.std.specs.Fmt.{decimal}
 
 -- how a command takes its text: alone or after the prelude, for up to so many steps, and from which file
 pub record Options : Type 0 where
@@ -20,6 +21,10 @@ pub record IsFileWord (word : List ℕ) : Type 0 where
   pub not_empty : word ≢ []
   pub no_dash : slice_index word 0 ≢ 45
 
+-- the greatest fuel
+abbrev pub most_fuel : ℕ
+most_fuel = 1000000000
+
 -- `run --bare FILE`
 pub record IsBareRun (words : List (List ℕ)) (options : Options) : Type 0 where
   pub shape : words ≡ codes "run" ∷ codes "--bare" ∷ options.file ∷ []
@@ -27,9 +32,16 @@ pub record IsBareRun (words : List (List ℕ)) (options : Options) : Type 0 wher
   pub fuel : options.fuel ≡ default_fuel
   pub file : IsFileWord options.file
 
+-- `run --bare --fuel N FILE`, where N is decimal, without a sign and without a leading zero
+pub record IsBareFueledRun (words : List (List ℕ)) (options : Options) : Type 0 where
+  pub shape : words ≡ codes "run" ∷ codes "--bare" ∷ codes "--fuel" ∷ decimal options.fuel ∷ options.file ∷ []
+  pub bare : options.bare ≡ true
+  pub fuel : options.fuel ≤ most_fuel
+  pub file : IsFileWord options.file
+
 -- the words have the shape of this command
 abbrev pub HasShape : List (List ℕ) → Command → Type 0
-HasShape words (Run options) = IsBareRun words options
+HasShape words (Run options) = IsBareRun words options ⊎ IsBareFueledRun words options
 
 -- the words have no listed shape
 abbrev pub HasNoShape : List (List ℕ) → Type 0
@@ -41,7 +53,3 @@ options_of (Run options) = options
 -- the name of the file that a command reads
 abbrev pub file_of : Command → List ℕ
 file_of command = (options_of command).file
-
--- without `--fuel`
-abbrev pub IsDefault : Command → Type 0
-IsDefault command = (options_of command).fuel ≡ default_fuel

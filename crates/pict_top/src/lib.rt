@@ -1,9 +1,11 @@
 //! The commands of `pict`: what the words ask for, and the call that does it over a shelf and two sinks.
 #![tactic(auto)]
 
+mod front;
 mod print;
-mod program;
+mod printer;
 mod report;
+mod run;
 mod status;
 mod top;
 mod words;

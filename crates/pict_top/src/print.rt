@@ -3,13 +3,11 @@ ghost use Rattle.std.specs.Prelude.{◌≤◌, OnOk, OnErr};
 ghost use Rattle.std.specs.Io.KnownBytes.{Appends};
 ghost use Rattle.pict_outside.specs.Counts.{Rose};
 ghost use Rattle.pict_outside.specs.Bytes.{AppendsFront};
-ghost use Rattle.pict_top.specs.Outcome.{joined};
-ghost use Rattle.pict_top.specs.Plain.{texts_of};
 
 use pict_outside::{Sink, SinkFailed};
 
 /// Makes one write of the bytes, and none where there are no bytes.
-fn print<O: Sink>(out: &mut O, bytes: &[u8]) -> Result<(), SinkFailed>
+pub fn print<O: Sink>(out: &mut O, bytes: &[u8]) -> Result<(), SinkFailed>
     ensures all { OnOk result (Appends (O.taken out.old) (O.taken out.new) bytes.now) }
     ensures part { OnErr result (AppendsFront (O.taken out.old) (O.taken out.new) bytes.now) }
     ensures failed { OnErr result (Rose (O.faults out.old) (O.faults out.new)) }
@@ -19,20 +17,4 @@ fn print<O: Sink>(out: &mut O, bytes: &[u8]) -> Result<(), SinkFailed>
         return Ok(());
     }
     out.write(bytes)
-}
-
-/// Prints each string in turn, and stops where the sink fails.
-pub fn print_all<O: Sink>(out: &mut O, strings: &[&[u8]]) -> Result<(), SinkFailed>
-    ensures all { OnOk result (Appends (O.taken out.old) (O.taken out.new) (joined (texts_of strings.now))) }
-    ensures part { OnErr result (AppendsFront (O.taken out.old) (O.taken out.new) (joined (texts_of strings.now))) }
-    ensures failed { OnErr result (Rose (O.faults out.old) (O.faults out.new)) }
-    ensures faults_stay { O.faults out.old ≤ O.faults out.new }
-{
-    for string in strings {
-        match print(out, string) {
-            Ok(()) => {}
-            Err(failed) => return Err(failed),
-        }
-    }
-    Ok(())
 }

@@ -1,6 +1,6 @@
 // The texts that are written on the error output.
 ghost use Rattle.std.specs.Prelude.{◌≡◌, IfOk, string_bytes};
-ghost use Rattle.pict_top.specs.Reports.{text_of_code, line, refusal_report};
+ghost use Rattle.pict_top.specs.Reports.{text_of_code, line, refusal_report, trap_report};
 
 use pict_syntax::Code;
 use std::alloc::{AllocError, Global};
@@ -8,6 +8,9 @@ use std::alloc::{AllocError, Global};
 /// What is written where the words have no listed shape.
 pub const USAGE: &[u8] =
     b"usage: pict run|trace|check|code [--bare] [--fuel N] FILE, or pict load N\n";
+
+/// What is written where the fuel is spent.
+pub const SPENT: &[u8] = b"fuel spent\n";
 
 /// A code with its text.
 pub fn text_of_code(code: Code) -> &'static str
@@ -70,4 +73,11 @@ pub fn refusal(
 {
     let text = text_of_code(code);
     format!(in alloc; "{file}:{row}:{column}: {text}\n")
+}
+
+/// The report of a division by zero at a line and a column of a file, both counted from 1.
+pub fn trap(alloc: Global, file: &str, row: u32, column: u32) -> Result<String, AllocError>
+    ensures { IfOk result (λ text. string_bytes text ≡ trap_report file.now row column) }
+{
+    format!(in alloc; "{file}:{row}:{column}: division by zero\n")
 }

@@ -9,6 +9,10 @@ pub enum Status {
     Refused,
     /// The words have no listed shape.
     Usage,
+    /// The fuel is spent, and something is ready still.
+    FuelSpent,
+    /// A step divides by zero.
+    Trap,
     /// The shelf failed.
     ReadFault,
     /// The output or the error output failed.
@@ -17,6 +21,8 @@ pub enum Status {
     Memory,
     /// The shelf has no such file.
     Missing,
+    /// A step of the run is wrong: a value has another shape than what the process does with it.
+    Misshapen,
 }
 
 impl Status {
@@ -31,10 +37,13 @@ impl Status {
             Status::Done => 0,
             Status::Refused => 1,
             Status::Usage => 2,
+            Status::FuelSpent => 3,
+            Status::Trap => 4,
             Status::ReadFault => 5,
             Status::WriteFault => 6,
             Status::Memory => 7,
             Status::Missing => 8,
+            Status::Misshapen => 9,
         }
     }
 }

@@ -19,6 +19,8 @@ struct Case<'a> {
 
 const RUN: &[&str] = &["run", "--bare", "F"];
 
+const ROW: &[u8] = b"new c:^Int run c!1 run c?n = printi!n";
+
 const USAGE: &[u8] = b"usage: pict run|trace|check|code [--bare] [--fuel N] FILE, or pict load N\n";
 
 fn shelf_of(alloc: Global, text: &[u8], fails: bool) -> Result<MemoryShelf, AllocError> {
@@ -74,41 +76,239 @@ fn usage<'a>(words: &'a [&'a str]) -> Case<'a> {
     }
 }
 
+/// A run that is done.
+fn done<'a>(text: &'a [u8], out: &'a [u8]) -> Case<'a> {
+    Case { text, out, ..HELLO }
+}
+
+/// The words of a run with this fuel.
+fn with_fuel(fuel: &str) -> [&str; 5] {
+    ["run", "--bare", "--fuel", fuel, "F"]
+}
+
+/// A text that is refused.
+fn refused<'a>(text: &'a [u8], err: &'a [u8]) -> Case<'a> {
+    Case {
+        text,
+        status: Status::Refused,
+        out: b"",
+        err,
+        ..HELLO
+    }
+}
+
+/// Tries a run with fuel for this many steps, which is done, and with one step less, where it has spent its fuel.
+fn try_steps(
+    rt: &impl Abort,
+    alloc: Global,
+    text: &[u8],
+    fuels: (&str, &str),
+    outs: (&[u8], &[u8]),
+) -> Result<(), AllocError> {
+    let words = with_fuel(fuels.0);
+    try_case(
+        rt,
+        alloc,
+        &Case {
+            words: &words,
+            ..done(text, outs.0)
+        },
+    )?;
+    let words = with_fuel(fuels.1);
+    try_case(
+        rt,
+        alloc,
+        &Case {
+            words: &words,
+            text,
+            status: Status::FuelSpent,
+            out: outs.1,
+            err: b"fuel spent\n",
+            ..HELLO
+        },
+    )
+}
+
 #[test]
-fn worked_calls(rt: HostRuntime) -> Result<(), AllocError> {
+fn runs(rt: HostRuntime) -> Result<(), AllocError> {
     let cases = [
         HELLO,
+        done(b"", b""),
+        done(b" run\tprint !\r\n\"a b~\" {* a comment *}", b"a b~"),
+        done(ROW, b"1"),
+        done(
+            b"new c:^Int run c!1 run c!2 run c!3 run c?x = printi!x run c?x = printi!x run c?x = printi!x",
+            b"123",
+        ),
+        done(
+            b"new c:^Int run c?*x = printi!x run c?y = print!\"p\" run c!1 run c!2 run c!3",
+            b"1p3",
+        ),
+        done(b"new c:^Int run c!1 run c!2 run c?*x = printi!x", b"12"),
+        done(b"new c:^Int run c!1", b""),
+        done(b"new c:^Int run c?n = print!\"x\"", b""),
+        done(b"run print!\"\\x41\\n\\\\\"", b"A\n\\"),
+        done(b"run (print!\"a\" | print!\"b\")", b"ab"),
+        // The inner reader's name hides the outer one.
+        done(
+            b"new c:^^Int new d:^Int run c!d run c?d = d!7 run d?n = printi!n",
+            b"7",
+        ),
+    ];
+    for case in &cases {
+        try_case(&rt, rt.alloc(), case)?;
+    }
+    Ok(())
+}
+
+#[test]
+fn fuel(rt: HostRuntime) -> Result<(), AllocError> {
+    let a = rt.alloc();
+    try_steps(&rt, a, b"", ("1", "0"), (b"", b""))?;
+    try_steps(
+        &rt,
+        a,
+        b"run print!\"hello\"",
+        ("3", "2"),
+        (b"hello", b"hello"),
+    )?;
+    try_steps(&rt, a, ROW, ("7", "6"), (b"1", b""))?;
+    try_steps(
+        &rt,
+        a,
+        b"new c:^Int run c!1 run c!2 run c!3 run c?x = printi!x run c?x = printi!x run c?x = printi!x",
+        ("17", "16"),
+        (b"123", b"12"),
+    )?;
+    try_steps(
+        &rt,
+        a,
+        b"new c:^Int run c?*x = printi!x run c?y = print!\"p\" run c!1 run c!2 run c!3",
+        ("15", "14"),
+        (b"1p3", b"1p"),
+    )?;
+    try_steps(
+        &rt,
+        a,
+        b"new c:^Int run c!1 run c!2 run c?*x = printi!x",
+        ("12", "11"),
+        (b"12", b"1"),
+    )?;
+    try_steps(&rt, a, b"new c:^Int run c!1", ("4", "3"), (b"", b""))?;
+    try_steps(
+        &rt,
+        a,
+        b"new c:^Int run c?n = print!\"x\"",
+        ("4", "3"),
+        (b"", b""),
+    )?;
+    let words = with_fuel("1");
+    try_case(
+        &rt,
+        a,
+        &Case {
+            words: &words,
+            status: Status::FuelSpent,
+            out: b"",
+            err: b"fuel spent\n",
+            ..HELLO
+        },
+    )
+}
+
+#[test]
+fn misshapen(rt: HostRuntime) -> Result<(), AllocError> {
+    let case = Case {
+        text: b"new c:^Int run c!\"x\" run c?n = printi!n",
+        status: Status::Misshapen,
+        out: b"",
+        err: b"F: message of a wrong shape\n",
+        ..HELLO
+    };
+    try_case(&rt, rt.alloc(), &case)?;
+    // The wrong step is the seventh.
+    let words = with_fuel("6");
+    try_case(
+        &rt,
+        rt.alloc(),
+        &Case {
+            words: &words,
+            status: Status::FuelSpent,
+            err: b"fuel spent\n",
+            ..case
+        },
+    )?;
+    let words = with_fuel("7");
+    try_case(
+        &rt,
+        rt.alloc(),
+        &Case {
+            words: &words,
+            ..case
+        },
+    )
+}
+
+#[test]
+fn refusals(rt: HostRuntime) -> Result<(), AllocError> {
+    let cases = [
+        refused(b"run print!", b"F:1:11: P1 unexpected token\n"),
+        refused(b"run (a!b |)", b"F:1:11: P1 unexpected token\n"),
+        refused(b"run ()\nrun\n (0 |", b"F:3:5: P1 unexpected token\n"),
+        refused(b"run () import \"L\"", b"F:1:8: P1 unexpected token\n"),
+        refused(
+            b"run printi!9223372036854775808",
+            b"F:1:12: L4 number out of range\n",
+        ),
+        refused(b"run print!\"he", b"F:1:11: L2 literal not closed\n"),
+        refused(b"{* a {* b *} run", b"F:1:1: L5 comment not closed\n"),
+        refused(b"run print!\"\\x4\"", b"F:1:12: L3 bad escape\n"),
+        refused(
+            b"run\n\n print!\"a\" @",
+            b"F:3:12: L1 byte begins no token\n",
+        ),
+        refused(b"val x = 1", b"F:1:1: N1 form not built\n"),
+        refused(b"run ()\nrun pr!\"a\"", b"F:1:1: N1 form not built\n"),
+        refused(b"new c:Bool run ()", b"F:1:1: N1 form not built\n"),
+    ];
+    for case in &cases {
+        try_case(&rt, rt.alloc(), case)?;
+    }
+    Ok(())
+}
+
+#[test]
+fn nesting(rt: HostRuntime) -> Result<(), AllocError> {
+    let mut text = Vec::from_slice(rt.alloc(), b"type A = ")?;
+    for _ in 0..200 {
+        text.push(b'^')?;
+    }
+    text.extend_from_slice(b"Int")?;
+    try_case(
+        &rt,
+        rt.alloc(),
+        &refused(&text, b"F:1:1: N1 form not built\n"),
+    )?;
+    let mut text = Vec::from_slice(rt.alloc(), b"type A = ")?;
+    for _ in 0..201 {
+        text.push(b'^')?;
+    }
+    text.extend_from_slice(b"Int")?;
+    try_case(
+        &rt,
+        rt.alloc(),
+        &refused(&text, b"F:1:210: P2 nested too deep\n"),
+    )
+}
+
+#[test]
+fn failing_devices(rt: HostRuntime) -> Result<(), AllocError> {
+    let cases = [
         // The second printing has no bytes, so there is no second write, which would fail.
         Case {
             text: b"run print!\"a\"run print!\"\"\n",
             out_fails: Some(Fail { call: 2, takes: 0 }),
             out: b"a",
-            ..HELLO
-        },
-        Case {
-            text: b" run\tprint !\r\n\"a b~\" ",
-            out: b"a b~",
-            ..HELLO
-        },
-        Case {
-            text: b"run print!1",
-            status: Status::Refused,
-            out: b"",
-            err: b"F:1:1: N1 form not built\n",
-            ..HELLO
-        },
-        Case {
-            text: b"run print!\"a\\n\"",
-            status: Status::Refused,
-            out: b"",
-            err: b"F:1:1: N1 form not built\n",
-            ..HELLO
-        },
-        Case {
-            text: b"runprint!\"a\"",
-            status: Status::Refused,
-            out: b"",
-            err: b"F:1:1: N1 form not built\n",
             ..HELLO
         },
         Case {
@@ -134,18 +334,44 @@ fn worked_calls(rt: HostRuntime) -> Result<(), AllocError> {
             ..HELLO
         },
         Case {
+            words: &["run", "--bare", "--fuel", "2", "F"],
+            err_fails: Some(Fail { call: 1, takes: 4 }),
+            status: Status::WriteFault,
+            err: b"fuel",
+            ..HELLO
+        },
+        Case {
             words: &["run", "--bare", "G"],
             status: Status::Missing,
             out: b"",
             err: b"G: no such file\n",
             ..HELLO
         },
+    ];
+    for case in &cases {
+        try_case(&rt, rt.alloc(), case)?;
+    }
+    Ok(())
+}
+
+#[test]
+fn other_words(rt: HostRuntime) -> Result<(), AllocError> {
+    let cases = [
         usage(&[]),
         usage(&["run", "--bare"]),
         usage(&["run", "--bare", "-F"]),
         usage(&["run", "--bare", ""]),
         usage(&["run", "--fuel", "5", "--bare", "F"]),
         usage(&["run", "--bare", "--fuel", "01", "F"]),
+        usage(&["run", "--bare", "--fuel", "+1", "F"]),
+        usage(&["run", "--bare", "--fuel", "", "F"]),
+        usage(&["run", "--bare", "--fuel", "1000000001", "F"]),
+        usage(&["run", "--bare", "--fuel", "18446744073709551617", "F"]),
+        usage(&["pick", "--bare", "01", "F"]),
+        Case {
+            words: &["run", "--bare", "--fuel", "1000000000", "F"],
+            ..HELLO
+        },
     ];
     for case in &cases {
         try_case(&rt, rt.alloc(), case)?;
@@ -156,57 +382,20 @@ fn worked_calls(rt: HostRuntime) -> Result<(), AllocError> {
 #[test]
 fn texts_of_the_greatest_length(rt: HostRuntime) -> Result<(), AllocError> {
     let blanks = vec![in rt.alloc(); b' '; 1_048_576]?;
-    try_case(
-        &rt,
-        rt.alloc(),
-        &Case {
-            text: &blanks,
-            out: b"",
-            ..HELLO
-        },
-    )?;
+    try_case(&rt, rt.alloc(), &done(&blanks, b""))?;
     let more = vec![in rt.alloc(); b' '; 1_048_577]?;
     let err = b"F:1:1: B1 text longer than 1048576 bytes\n";
-    try_case(
-        &rt,
-        rt.alloc(),
-        &Case {
-            text: &more,
-            status: Status::Refused,
-            out: b"",
-            err,
-            ..HELLO
-        },
-    )
+    try_case(&rt, rt.alloc(), &refused(&more, err))
 }
 
 #[test]
-fn the_greatest_number_of_declarations(rt: HostRuntime) -> Result<(), AllocError> {
+fn the_greatest_depth(rt: HostRuntime) -> Result<(), AllocError> {
     let mut text = Vec::new(rt.alloc());
     for _ in 0..4999 {
-        text.extend_from_slice(b"run print!\"x\"\n")?;
+        text.extend_from_slice(b"run ()\n")?;
     }
-    let printed = vec![in rt.alloc(); b'x'; 4999]?;
-    try_case(
-        &rt,
-        rt.alloc(),
-        &Case {
-            text: &text,
-            out: &printed,
-            ..HELLO
-        },
-    )?;
-    text.extend_from_slice(b"run print!\"x\"\n")?;
-    let err = b"F:1:1: N1 form not built\n";
-    try_case(
-        &rt,
-        rt.alloc(),
-        &Case {
-            text: &text,
-            status: Status::Refused,
-            out: b"",
-            err,
-            ..HELLO
-        },
-    )
+    try_steps(&rt, rt.alloc(), &text, ("9999", "9998"), (b"", b""))?;
+    text.extend_from_slice(b"run ()\n")?;
+    let err = b"F:1:1: C1 process too deep\n";
+    try_case(&rt, rt.alloc(), &refused(&text, err))
 }

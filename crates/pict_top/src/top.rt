@@ -3,20 +3,22 @@ ghost use Rattle.std.specs.Prelude.{◌≡◌, ◌≤◌, ◌⊎◌, Some, IfOk,
 ghost use Rattle.pict_outside.specs.Counts.{Rose};
 ghost use Rattle.pict_outside.specs.Texts.{Texts};
 ghost use Rattle.pict_top.specs.Changes.{change_of, Untouched, Gained, GainedFront, FailedWithin};
-ghost use Rattle.pict_top.specs.Meets.{Meets, Reports, Tells, IsDecided, Delivers, Breaks, SomeOutcome};
+ghost use Rattle.pict_top.specs.Meets.{Meets, Reports, EndReports, Tells, IsDecided, Delivers, Breaks, SomeOutcome};
 ghost use Rattle.pict_top.specs.Outcome.{Outcome, read_fault};
 ghost use Rattle.pict_top.specs.Owed.{OwesText, OwesFile, OwesWords, FaultsWords, OneOutcome};
 ghost use Rattle.pict_top.specs.Plain.{plain_command, texts_of};
-ghost use Rattle.pict_top.specs.Reports.{line, refusal_report, usage_report};
-ghost use Rattle.pict_top.specs.Words.{HasNoShape, IsDefault, file_of};
+ghost use Rattle.pict_top.specs.Printed.{end_of};
+ghost use Rattle.pict_syntax.specs.Position.{line_of, column_of};
+ghost use Rattle.pict_top.specs.Reports.{line, refusal_report, trap_report, usage_report};
+ghost use Rattle.pict_top.specs.Words.{HasNoShape, file_of, most_fuel, options_of};
 
-use crate::print::print_all;
-use crate::program::read_program;
+use crate::front::{Stop, process_of};
 use crate::report;
+use crate::run::{Broken, Ended, run_core};
 use crate::status::Status;
 use crate::words::{Command, Usage, words_of};
 use pict_outside::{Fetched, Shelf, ShelfError, Sink, SinkFailed};
-use pict_syntax::Code;
+use pict_syntax::{Code, line_col};
 use std::alloc::{AllocError, Global};
 
 /// The greatest number of bytes of a text.
@@ -70,7 +72,7 @@ pub fn pict<S: Shelf, O: Sink, E: Sink>(
     run_words(alloc, words, shelf, out, err)
 }
 
-/// Over a shelf that tells its texts the words come to one outcome, and to no other.
+/// Over a shelf that tells its texts the words come to at most one outcome.
 pub fn law_one_outcome()
     ensures { OneOutcome }
 {}
@@ -105,7 +107,7 @@ fn run_file<S: Shelf, O: Sink, E: Sink>(
     out: &mut O,
     err: &mut E,
 ) -> Status
-    requires { IsDefault (plain_command command) }
+    requires fuel { (options_of (plain_command command)).fuel ≤ most_fuel }
     ensures meets { Meets (OwesFile (S.held shelf.old) (plain_command command.entry)) (λ o. o ≡ read_fault (plain_command command.entry)) (Rose (S.faults shelf.old) (S.faults shelf.new))
         (change_of O.taken O.faults out.old out.new) (change_of E.taken E.faults err.old err.new) result }
     ensures missing { result ≡ Status.Missing → Rose (S.misses shelf.old) (S.misses shelf.new) }
@@ -115,7 +117,7 @@ fn run_file<S: Shelf, O: Sink, E: Sink>(
     match shelf.fetch(alloc, command.file(), TEXT_LIMIT) {
         Ok(Fetched::Text(text)) => run_text(alloc, command, &text, out, err),
         Ok(Fetched::Missing) => report_line(alloc, command, ": no such file", Status::Missing, err),
-        Ok(Fetched::TooLong(_)) => refuse(alloc, command, Code::B1, err),
+        Ok(Fetched::TooLong(_)) => refuse(alloc, command, &[], 0, Code::B1, err),
         Err(ShelfError::Failed) => report_line(
             alloc,
             command,
@@ -135,29 +137,92 @@ fn run_text<O: Sink, E: Sink>(
     out: &mut O,
     err: &mut E,
 ) -> Status
-    requires default { IsDefault (plain_command command) }
     requires short { length text.now ≤ 1048576 }
+    requires fuel { (options_of (plain_command command)).fuel ≤ most_fuel }
     ensures meets { Meets (OwesText text.now (plain_command command.entry)) (λ o. ⊥) ⊥
         (change_of O.taken O.faults out.old out.new) (change_of E.taken E.faults err.old err.new) result }
     ensures faults_stay { O.faults out.old ≤ O.faults out.new }
     ensures err_faults_stay { E.faults err.old ≤ E.faults err.new }
 {
-    match read_program(alloc, text) {
-        Err(AllocError) => Status::Memory,
-        Ok(None) => refuse(alloc, command, Code::N1, err),
-        Ok(Some(strings)) => match print_all(out, &strings) {
-            Ok(()) => Status::Done,
-            Err(SinkFailed) => Status::WriteFault,
+    match process_of(alloc, text) {
+        Err(Stop::Memory) => Status::Memory,
+        Err(Stop::Refused(code, span)) => refuse(alloc, command, text, span.start, code, err),
+        Ok(core) => match run_core(alloc, core, command.fuel(), out) {
+            Err(Broken::Memory) => Status::Memory,
+            Err(Broken::Sink) => Status::WriteFault,
+            Ok(ended) => report_end(alloc, command, text, ended, err),
         },
     }
 }
 
-/// Reports a refusal at the first byte of the file of a command.
-fn refuse<E: Sink>(alloc: Global, command: Command<'_>, code: Code, err: &mut E) -> Status
-    ensures text { Reports Status.Refused (refusal_report (file_of (plain_command command.entry)) 1 1 code) (change_of E.taken E.faults err.old err.new) result }
+/// Reports how the run of a text ended.
+fn report_end<E: Sink>(
+    alloc: Global,
+    command: Command<'_>,
+    text: &[u8],
+    ended: Ended,
+    err: &mut E,
+) -> Status
+    requires short { length text.now ≤ 1048576 }
+    ensures text { EndReports (file_of (plain_command command.entry)) text.now (end_of ended) (change_of E.taken E.faults err.old err.new) result }
     ensures faults_stay { E.faults err.old ≤ E.faults err.new }
 {
-    match report::refusal(alloc, command.file(), 1, 1, code) {
+    match ended {
+        Ended::Done => Status::Done,
+        Ended::FuelSpent => tell(report::SPENT, Status::FuelSpent, err),
+        Ended::Trap(at) => report_trap(alloc, command, text, at.start, err),
+        Ended::Misshapen => report_line(
+            alloc,
+            command,
+            ": message of a wrong shape",
+            Status::Misshapen,
+            err,
+        ),
+    }
+}
+
+/// Reports a division by zero at a byte of the text of a command's file.
+fn report_trap<E: Sink>(
+    alloc: Global,
+    command: Command<'_>,
+    text: &[u8],
+    at: u32,
+    err: &mut E,
+) -> Status
+    requires short { length text.now ≤ 1048576 }
+    ensures text { Reports Status.Trap (trap_report (file_of (plain_command command.entry)) (line_of text.now at) (column_of text.now at)) (change_of E.taken E.faults err.old err.new) result }
+    ensures faults_stay { E.faults err.old ≤ E.faults err.new }
+{
+    let (row, column) = position(text, at);
+    match report::trap(alloc, command.file(), row, column) {
+        Err(AllocError) => Status::Memory,
+        Ok(text) => tell(text.as_bytes(), Status::Trap, err),
+    }
+}
+
+/// The line and the column of a byte of a text. Behind its end they are those of the end.
+fn position(text: &[u8], at: u32) -> (u32, u32)
+    requires short { length text.now ≤ 1048576 }
+    ensures { result ≡ (line_of text.now at, column_of text.now at) }
+{
+    line_col(text, at.min(text.len() as u32))
+}
+
+/// Reports a refusal at a byte of the text of a command's file.
+fn refuse<E: Sink>(
+    alloc: Global,
+    command: Command<'_>,
+    text: &[u8],
+    at: u32,
+    code: Code,
+    err: &mut E,
+) -> Status
+    requires short { length text.now ≤ 1048576 }
+    ensures text { Reports Status.Refused (refusal_report (file_of (plain_command command.entry)) (line_of text.now at) (column_of text.now at) code) (change_of E.taken E.faults err.old err.new) result }
+    ensures faults_stay { E.faults err.old ≤ E.faults err.new }
+{
+    let (row, column) = position(text, at);
+    match report::refusal(alloc, command.file(), row, column, code) {
         Err(AllocError) => Status::Memory,
         Ok(text) => tell(text.as_bytes(), Status::Refused, err),
     }

@@ -1,7 +1,10 @@
 // The words after the program's name.
-ghost use Rattle.std.specs.Prelude.{◌≡◌, ◌↔◌, IfOk, OnErr, IsTrue};
-ghost use Rattle.pict_top.specs.Words.{HasShape, HasNoShape, IsFileWord};
+ghost use Rattle.std.specs.Prelude.{◌≡◌, ◌≢◌, ◌↔◌, ◌≤◌, ℕ, [], ◌∷◌, IfOk, IfSome, OnErr, IsTrue, None};
+ghost use Rattle.std.specs.Fmt.{decimal};
+ghost use Rattle.pict_top.specs.Words.{HasShape, HasNoShape, IsFileWord, most_fuel};
 ghost use Rattle.pict_top.specs.Plain.{texts_of, plain_command};
+
+use itoa::Buffer;
 
 /// How a command takes its text.
 #[derive(Clone, Copy, Debug)]
@@ -28,15 +31,29 @@ pub struct Usage;
 /// The fuel of a run without `--fuel`.
 const DEFAULT_FUEL: u64 = 1_000_000;
 
+/// The greatest fuel.
+const MOST_FUEL: u64 = 1_000_000_000;
+
 /// The command that the words ask for. The error comes exactly where they have no listed shape. Takes no memory.
 pub fn words_of<'a>(words: &[&'a str]) -> Result<Command<'a>, Usage>
     ensures shape { IfOk result (λ command. HasShape (texts_of words.now) (plain_command command)) }
     ensures usage { OnErr result (HasNoShape (texts_of words.now)) }
 {
-    let [command, bare, file] = words else {
-        return Err(Usage);
-    };
-    if *command != "run" || *bare != "--bare" || !is_file_word(file) {
+    if let [command, bare, file] = words {
+        return bare_run(command, bare, file);
+    }
+    if let [command, bare, option, fuel, file] = words {
+        return fueled_run(command, bare, option, fuel, file);
+    }
+    Err(Usage)
+}
+
+/// The command of three words.
+fn bare_run<'a>(command: &str, bare: &str, file: &'a str) -> Result<Command<'a>, Usage>
+    ensures shape { IfOk result (λ asked. HasShape (command.now ∷ bare.now ∷ file.now ∷ []) (plain_command asked)) }
+    ensures usage { OnErr result (HasNoShape (command.now ∷ bare.now ∷ file.now ∷ [])) }
+{
+    if command != "run" || bare != "--bare" || !is_file_word(file) {
         return Err(Usage);
     }
     Ok(Command::Run(Options {
@@ -44,6 +61,46 @@ pub fn words_of<'a>(words: &[&'a str]) -> Result<Command<'a>, Usage>
         fuel: DEFAULT_FUEL,
         file,
     }))
+}
+
+/// The command of five words.
+fn fueled_run<'a>(
+    command: &str,
+    bare: &str,
+    option: &str,
+    fuel: &str,
+    file: &'a str,
+) -> Result<Command<'a>, Usage>
+    ensures shape { IfOk result (λ asked. HasShape (command.now ∷ bare.now ∷ option.now ∷ fuel.now ∷ file.now ∷ []) (plain_command asked)) }
+    ensures usage { OnErr result (HasNoShape (command.now ∷ bare.now ∷ option.now ∷ fuel.now ∷ file.now ∷ [])) }
+{
+    if command != "run" || bare != "--bare" || option != "--fuel" || !is_file_word(file) {
+        return Err(Usage);
+    }
+    match fuel_of(fuel) {
+        None => Err(Usage),
+        Some(fuel) => Ok(Command::Run(Options {
+            bare: true,
+            fuel,
+            file,
+        })),
+    }
+}
+
+/// The fuel that a word writes, in decimal, without a sign and without a leading zero, up to the greatest fuel.
+fn fuel_of(word: &str) -> Option<u64>
+    ensures some { IfSome result (λ fuel. (word.now ≡ decimal fuel) × (fuel ≤ most_fuel)) }
+    ensures none { result ≡ None → (fuel : ℕ) → fuel ≤ most_fuel → word.now ≢ decimal fuel }
+{
+    match word.parse::<u64>() {
+        Err(_) => None,
+        Ok(fuel) => {
+            if fuel > MOST_FUEL || Buffer::new().format(fuel) != word {
+                return None;
+            }
+            Some(fuel)
+        }
+    }
 }
 
 /// Whether the word may name a file.
@@ -57,8 +114,9 @@ fn is_file_word(word: &str) -> bool
 }
 
 impl<'a> Command<'a> {
+    ghost use Rattle.std.specs.Prelude.{◌≡◌};
     ghost use Rattle.pict_top.specs.Plain.{plain_command};
-    ghost use Rattle.pict_top.specs.Words.{file_of};
+    ghost use Rattle.pict_top.specs.Words.{file_of, options_of};
 
     /// The name of the file that it reads.
     pub fn file(self) -> &'a str
@@ -66,6 +124,15 @@ impl<'a> Command<'a> {
     {
         match self {
             Command::Run(options) => options.file,
+        }
+    }
+
+    /// The greatest number of steps of its run.
+    pub fn fuel(self) -> u64
+        ensures { result ≡ (options_of (plain_command self.entry)).fuel }
+    {
+        match self {
+            Command::Run(options) => options.fuel,
         }
     }
 }

@@ -1,11 +1,6 @@
-use Rattle.std.proofs.Common.{rules, [], refl}
-use Rattle.pict_top.proofs.Lists.{three_words}
+use Rattle.std.proofs.Common.{[]}
+use Rattle.pict_top.proofs.Lists.{no_shape_of_five}
 use Rattle.pict_top.proofs.words.words_of.Goals as goal
 
-pub returns-clause-shape : goal.returns-clause-shape
-returns-clause-shape c = record {
-  shape = three_words c.args.words.now (record { ref_ptr = (0, 0); now = [] }) _ _ c.in-len3.len_at_least c.in-len3.len_below (search rules) (search rules);
-  bare = refl;
-  fuel = refl;
-  file = search rules;
-}
+pub returns-in-len5-clause-usage : goal.returns-in-len5-clause-usage
+returns-in-len5-clause-usage c = no_shape_of_five c.args.words.now (record { ref_ptr = (0, 0); now = [] }) c.fueled_run.result c.in-len5.len_at_least c.in-len5.len_below c.fueled_run.ensures.usage
