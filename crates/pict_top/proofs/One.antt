@@ -1,9 +1,7 @@
 -- Words over a shelf that tells its texts come to at most one outcome.
-use Rattle.std.proofs.Common.{arith, refl, ◌≡◌, ℕ, ◌≤◌, ◌⊎◌, inl, inr, List, [], ◌∷◌, length, Option, Some, None, ap, sym, ◌∙◌, subst}
+use Rattle.std.proofs.Common.{arith, ◌≡◌, ℕ, ◌≤◌, inl, inr, List, length, Option, Some, None, ap, sym, ◌∙◌, subst}
 use Rattle.std.proofs.lemmas.Fmt.{decimal_injective}
-use Rattle.pict_outside.specs.Texts.{Texts, text_of}
-use Rattle.pict_syntax.specs.declared.code.Code.{Code}
-use Rattle.pict_syntax.specs.declared.span.Span.{Span}
+use Rattle.pict_outside.specs.Texts.{Texts}
 use Rattle.pict_syntax.specs.Readings.{Piece}
 use Rattle.pict_syntax.proofs.LawLemmas.{one_reading, stop_excludes_reading, one_stop}
 use Rattle.pict_automaton.specs.Verdicts.{Verdict, Program, Unexpected, TooDeep, IsVerdict}
@@ -15,9 +13,9 @@ use Rattle.pict_core.proofs.OneRun.{one_run}
 use Rattle.pict_derive.specs.Translation.{program_core}
 use Rattle.pict_top.specs.Words.{Command, Run, HasShape, HasNoShape, options_of, most_fuel}
 use Rattle.pict_top.specs.Front.{Front, Refused, Accepted, IsFront, IsTranslated, IsJudged, names_in, tokens_in}
-use Rattle.pict_top.specs.Answer.{Answer, Absent, Refusal, Ran, IsAnswer, IsRun, text_limit}
-use Rattle.pict_top.specs.Outcome.{Outcome, outcome_of, text_in, usage_outcome, status_of_end}
-use Rattle.pict_top.specs.Owed.{OwesFile, OwesWords, OneOutcome}
+use Rattle.pict_top.specs.Answer.{Answer, Absent, Refusal, Ran, IsAnswer, IsRun}
+use Rattle.pict_top.specs.Outcome.{Outcome, outcome_of, text_in}
+use Rattle.pict_top.specs.Owed.{OwesFile, OwesWords}
 use Rattle.pict_top.specs.declared.status.Status.TheVariants as status
 
 -- ---- commands
@@ -99,18 +97,18 @@ one_of_command texts command o p x y =
     let answer = one_answer (options_of command).fuel y.file x.answer y.answer (subst P same x.answers) y.answers in
     x.comes ∙ ap (λ file. outcome_of command (text_in file) x.answer) same ∙ ap (outcome_of command (text_in y.file)) answer ∙ sym y.comes
 
-pub one_outcome : OneOutcome
-one_outcome words texts o p (inl (c, s, x)) (inl (d, t, y)) =
+pub at_most_one : (words : List (List ℕ)) (texts : Texts) (o p : Outcome) → OwesWords words (Some texts) o → OwesWords words (Some texts) p → o ≡ p
+at_most_one words texts o p (inl (c, s, x)) (inl (d, t, y)) =
     let P : Command → Type 0 = λ command. OwesFile (Some texts) command o in
     one_of_command texts d o p (subst P (one_command words c d s t) x) y
-one_outcome words texts o p (inl (c, s, x)) (inr (none, e)) = absurd (none c s)
-one_outcome words texts o p (inr (none, e)) (inl (d, t, y)) = absurd (none d t)
-one_outcome words texts o p (inr (none, e)) (inr (none', e')) = e ∙ sym e'
+at_most_one words texts o p (inl (c, s, x)) (inr (none, e)) = absurd (none c s)
+at_most_one words texts o p (inr (none, e)) (inl (d, t, y)) = absurd (none d t)
+at_most_one words texts o p (inr (none, e)) (inr (none', e')) = e ∙ sym e'
 
 pub one_told : (words : List (List ℕ)) (held : Option Texts) (texts : Texts) (o p : Outcome) → held ≡ Some texts → OwesWords words held o → OwesWords words (Some texts) p → o ≡ p
 one_told words held texts o p tells x y =
     let P : Option Texts → Type 0 = λ h. OwesWords words h o in
-    one_outcome words texts o p (subst P tells x) y
+    at_most_one words texts o p (subst P tells x) y
 
 -- ---- the status Usage
 

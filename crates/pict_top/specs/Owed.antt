@@ -27,9 +27,9 @@ pub record FaultsWords (words : List (List ℕ)) (o : Outcome) : Type 0 where
   pub shape : HasShape words command
   pub comes : o ≡ read_fault command
 
--- words over a shelf that tells its texts come to at most one outcome
+-- words over a shelf that tells its texts come to exactly one outcome: to one, and to no other
 abbrev pub OneOutcome : Type 0
-OneOutcome = (words : List (List ℕ)) (texts : Texts) (o p : Outcome) → OwesWords words (Some texts) o → OwesWords words (Some texts) p → o ≡ p
+OneOutcome = (words : List (List ℕ)) (texts : Texts) → (o : Outcome) × OwesWords words (Some texts) o × ((p : Outcome) → OwesWords words (Some texts) p → p ≡ o)
 
 -- what a command comes to over this text
 abbrev pub OwesText : List ℕ → Command → Outcome → Type 0

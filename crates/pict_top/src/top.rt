@@ -72,7 +72,7 @@ pub fn pict<S: Shelf, O: Sink, E: Sink>(
     run_words(alloc, words, shelf, out, err)
 }
 
-/// Over a shelf that tells its texts the words come to at most one outcome.
+/// Over a shelf that tells its texts the words come to exactly one outcome.
 pub fn law_one_outcome()
     ensures { OneOutcome }
 {}
