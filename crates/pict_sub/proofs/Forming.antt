@@ -1,9 +1,9 @@
 -- Renaming keeps types well formed, and the bound of a variable is well formed in the whole context.
-use Rattle.std.proofs.Common.{◌≡◌, ℕ, zero, suc, ◌+◌, ◌≤◌, ◌<◌, List, [], ◌∷◌, length, Some, refl, sym, ◌∙◌, ap, subst, arith, add-zero, add-suc, add-one}
-use Rattle.pict_types.specs.Types.{PlainType, Top, Int, Char, Str, Boolean, Var, Apply, Chan, Fields, Rec, PlainTypes, no_type, types, PlainLabels, no_label, labels, PlainBound, Free, Below, Operator, PlainBounds, no_bound, bounds, TypeContext, count_types}
+use Rattle.std.proofs.Common.{◌≡◌, ℕ, zero, suc, ◌+◌, ◌≤◌, List, [], ◌∷◌, length, Some, refl, ap, subst, arith, add-zero, add-suc, add-one}
+use Rattle.pict_types.specs.Types.{PlainType, Top, Int, Char, Str, Boolean, Var, Apply, Chan, Fields, Rec, PlainTypes, no_type, types, PlainLabels, no_label, labels, PlainBound, Free, Below, Operator, PlainBounds, no_bound, bounds, TypeContext}
 use Rattle.pict_types.specs.Renaming.{beyond, beyond_all, rename, rename_types, rename_labels, rename_bounds, rename_bound, moved, bound_at}
-use Rattle.pict_types.specs.Kinds.{Kind, proper, operator_of, kind_by, kinds, kinds_under, kind_at, StandsBeforeAll, IsWellFormed, AreWellFormed, LabelsAreWellFormed, BoundsAreWellFormed, BoundIsWellFormed, ContextIsWellFormed}
-use Rattle.pict_types.specs.Room.{reach, reach_types, reach_labels, reach_bounds}
+use Rattle.pict_types.specs.Kinds.{Kind, kinds, kind_at, IsWellFormed, BoundIsWellFormed, ContextIsWellFormed}
+use Rattle.pict_types.specs.Room.{reach}
 use Rattle.pict_types.specs.Measures.{size, size_types, size_labels, size_bounds, size_bound, weight_of}
 use Rattle.pict_types.proofs.Formed.{KeepsKinds, formed_renamed}
 use Rattle.pict_types.proofs.Reaching.{kinds_length, reach_formed}

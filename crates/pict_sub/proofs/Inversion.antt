@@ -7,37 +7,13 @@ use Rattle.std.specs.Cmp.{IsTotalOrder, on_total, then_total, nat_cmp_total}
 use Rattle.std.specs.Cmp.Lexicographic.{nat_list_cmp_total}
 use Rattle.std.proofs.lemmas.Bool.{eq-eqb, ne_eqb, eqb-true}
 use Rattle.pict_syntax.specs.Names.{text_of}
-use Rattle.pict_types.specs.Types.{Capability, PlainType, Top, Int, Char, Str, Boolean, Var, Apply, Chan, Fields, Rec, PlainTypes, no_type, types, PlainLabels, no_label, labels, PlainBound, Free, Below, Operator, PlainBounds, TypeContext, under, type_at, count_types}
+use Rattle.pict_types.specs.Types.{Capability, PlainType, Top, Var, Chan, Fields, Rec, PlainTypes, no_type, types, PlainLabels, no_label, labels, PlainBound, Free, Below, Operator, PlainBounds, TypeContext, under, type_at, count_types, is_top}
 use Rattle.pict_types.specs.Renaming.{rename, rename_bound, moved, bound_at, bound_of}
 use Rattle.pict_types.specs.Kinds.{Kind, label_cmp, StandsBefore, StandsBeforeAll, LabelsAreWellFormed}
 use Rattle.pict_sub.specs.Shapes.{shape_of, variable, channel, record_}
-use Rattle.pict_sub.specs.Subtyping.{Rises, both_read, read_read, Falls, both_write, write_write, respond_respond, respond_write, IsSubtype, same, through, below_top, below_bound, upward, downward, by_fields, AreSubtypes, none, more, HasLabels, has_none, has_label, AreRecordsBelow}
+use Rattle.pict_sub.specs.Subtyping.{Rises, both_read, read_read, Falls, both_write, write_write, respond_respond, respond_write, IsSubtype, same, through, below_top, below_bound, upward, downward, by_fields, AreSubtypes, none, more, HasLabels, has_none, has_label, AreRecordsBelow, AreChannelsBelow, HasBoundBelow}
+use Rattle.pict_sub.specs.Laws.{IsChannel}
 use Rattle.pict_sub.proofs.Deciding.{Decides, d_same, d_top, d_bound, d_up, d_down, d_fields, to_decided, of_decided, of_decided_types, of_decided_labels}
-
--- the form of a type
-abbrev pub form : PlainType → ℕ
-form Top = 0
-form Int = 1
-form (Var i) = 2
-form (Apply i ts) = 3
-form (Chan m t) = 4
-form (Fields bs ps ls) = 5
-form (Rec t) = 6
-form Char = 7
-form Str = 8
-form Boolean = 9
-
-decided_form : {c : TypeContext} {s t : PlainType} → Decides c s t → (form s ≡ 2) ⊎ ((form t ≡ 0) ⊎ (form s ≡ form t))
-decided_form d_same = inr (inr refl)
-decided_form d_top = inr (inl refl)
-decided_form (d_bound b d) = inl refl
-decided_form (d_up r d) = inr (inr refl)
-decided_form (d_down f d) = inr (inr refl)
-decided_form (d_fields d e) = inr (inr refl)
-
--- only a variable is below a type of another form, but for Top
-pub other_form : (c : TypeContext) (s t : PlainType) → form s ≢ 2 → form t ≢ 0 → form s ≢ form t → IsSubtype c s t → ⊥
-other_form c s t h k l d = elim (decided_form (to_decided d)) [ inl e ↦ h e | inr (inl e) ↦ k e | inr (inr e) ↦ l e ]
 
 -- a variable
 decided_variable : {c : TypeContext} {i : ℕ} {t : PlainType} → Decides c (Var i) t → (t ≡ Var i) ⊎ ((t ≡ Top) ⊎ ((b : PlainType) × (bound_of c i ≡ Below b) × Decides c b t))
@@ -67,13 +43,34 @@ bounded_variable c i b t h k f = (forth, λ d. through _ (below_bound (ap (renam
     ]
 
 -- channels
-abbrev ChanForm : TypeContext → Capability → Capability → PlainType → PlainType → Type 0
-ChanForm c m n s t = ((m ≡ n) × (s ≡ t)) ⊎ ((Rises m n × IsSubtype c s t) ⊎ (Falls m n × IsSubtype c t s))
-
-decided_channel : {c : TypeContext} {m n : Capability} {s t : PlainType} → Decides c (Chan m s) (Chan n t) → ChanForm c m n s t
+decided_channel : {c : TypeContext} {m n : Capability} {s t : PlainType} → Decides c (Chan m s) (Chan n t) → AreChannelsBelow c m n s t
 decided_channel d_same = inl (refl, refl)
 decided_channel (d_up r d) = inr (inl (r, of_decided d))
 decided_channel (d_down f d) = inr (inr (f, of_decided d))
+
+pub channels : (c : TypeContext) (m n : Capability) (s t : PlainType) → IsSubtype c (Chan m s) (Chan n t) ↔ AreChannelsBelow c m n s t
+channels c m n s t = (λ d. decided_channel (to_decided d), λ x. elim x [ inl e ↦ subst₂ (λ x y. IsSubtype c (Chan m s) (Chan x y)) e.0 e.1 same | inr (inl y) ↦ upward y.0 y.1 | inr (inr y) ↦ downward y.0 y.1 ])
+
+decided_above_channel : {c : TypeContext} {m : Capability} {s t : PlainType} → Decides c (Chan m s) t → (t ≡ Top) ⊎ IsChannel t
+decided_above_channel d_same = inr (_, _, refl)
+decided_above_channel d_top = inl refl
+decided_above_channel (d_up r d) = inr (_, _, refl)
+decided_above_channel (d_down f d) = inr (_, _, refl)
+
+pub above_channel : (c : TypeContext) (m : Capability) (s t : PlainType) → IsSubtype c (Chan m s) t → (t ≡ Top) ⊎ IsChannel t
+above_channel c m s t d = decided_above_channel (to_decided d)
+
+bound_below : {c : TypeContext} {i : ℕ} {b t : PlainType} → bound_of c i ≡ Below b → Decides c b t → HasBoundBelow c (Var i) t
+bound_below {i = i} {b = b} e d = record { variable = i; bound = b; is = refl; bounded = e; below = of_decided d }
+
+decided_below_channel : {c : TypeContext} {n : Capability} {s t : PlainType} → Decides c s (Chan n t) → IsChannel s ⊎ HasBoundBelow c s (Chan n t)
+decided_below_channel d_same = inl (_, _, refl)
+decided_below_channel (d_bound e d) = inr (bound_below e d)
+decided_below_channel (d_up r d) = inl (_, _, refl)
+decided_below_channel (d_down f d) = inl (_, _, refl)
+
+pub below_channel : (c : TypeContext) (n : Capability) (s t : PlainType) → IsSubtype c s (Chan n t) → IsChannel s ⊎ HasBoundBelow c s (Chan n t)
+below_channel c n s t d = decided_below_channel (to_decided d)
 
 not_both : (m n : Capability) → Rises m n → Falls m n → ⊥
 not_both m n both_read f = elim f [ ]
@@ -92,18 +89,24 @@ neither c m n s t r f = (λ d. elim (decided_channel (to_decided d)) [ inl e ↦
 pub bounded_variable_1 : (c : TypeContext) (i : ℕ) (b t : PlainType) → t ≢ Var i → t ≢ Top → bound_at c i ≡ Below b → IsSubtype c (Var i) t ↔ IsSubtype c (rename (moved (i + 1) 0) b) t
 bounded_variable_1 c i b t h k f = rw add-one (bounded_variable c i b t h k f)
 
--- operator variables and recursive types
-decided_apply : {c : TypeContext} {i j : ℕ} {ss ts : PlainTypes} → Decides c (Apply i ss) (Apply j ts) → (i ≡ j) × (ss ≡ ts)
-decided_apply d_same = (refl, refl)
+-- recursive types
+decided_above_rec : {c : TypeContext} {s t : PlainType} → Decides c (Rec s) t → (t ≡ Top) ⊎ (t ≡ Rec s)
+decided_above_rec d_same = inr refl
+decided_above_rec d_top = inl refl
 
-pub applied : (c : TypeContext) (i j : ℕ) (ss ts : PlainTypes) → IsSubtype c (Apply i ss) (Apply j ts) ↔ ((i ≡ j) × (ss ≡ ts))
-applied c i j ss ts = (λ d. decided_apply (to_decided d), λ e. subst₂ (λ x y. IsSubtype c (Apply i ss) (Apply x y)) e.0 e.1 same)
+pub above_recursive : (c : TypeContext) (s t : PlainType) → IsSubtype c (Rec s) t ↔ ((t ≡ Top) ⊎ (t ≡ Rec s))
+above_recursive c s t = (λ d. decided_above_rec (to_decided d), λ x. elim x [ inl e ↦ subst (IsSubtype c (Rec s)) (sym e) below_top | inr e ↦ subst (IsSubtype c (Rec s)) (sym e) same ])
 
-decided_rec : {c : TypeContext} {s t : PlainType} → Decides c (Rec s) (Rec t) → s ≡ t
-decided_rec d_same = refl
+decided_below_rec : {c : TypeContext} {s t : PlainType} → Decides c s (Rec t) → (s ≡ Rec t) ⊎ HasBoundBelow c s (Rec t)
+decided_below_rec d_same = inl refl
+decided_below_rec (d_bound e d) = inr (bound_below e d)
 
-pub recursive : (c : TypeContext) (s t : PlainType) → IsSubtype c (Rec s) (Rec t) ↔ (s ≡ t)
-recursive c s t = (λ d. decided_rec (to_decided d), λ e. subst (λ x. IsSubtype c (Rec s) (Rec x)) e same)
+-- a variable is below what its bound is below
+from_bound : {c : TypeContext} {s t : PlainType} → HasBoundBelow c s t → IsSubtype c s t
+from_bound {c = c} {t = t} h = subst (λ s. IsSubtype c s t) (sym h.is) (through h.bound (below_bound h.bounded) h.below)
+
+pub below_recursive : (c : TypeContext) (s t : PlainType) → IsSubtype c s (Rec t) ↔ ((s ≡ Rec t) ⊎ HasBoundBelow c s (Rec t))
+below_recursive c s t = (λ d. decided_below_rec (to_decided d), λ x. elim x [ inl e ↦ subst (λ s. IsSubtype c s (Rec t)) (sym e) same | inr h ↦ from_bound h ])
 
 -- rows
 same_types : {c : TypeContext} (ts : PlainTypes) → AreSubtypes c ts ts
@@ -202,12 +205,18 @@ pub records : (ns : List (List ℕ)) (ks : List Kind) (c : TypeContext) (bs cs :
 records ns ks c bs cs ps qs ls ms f =
     (λ d. let x = decided_record ns ks f (to_decided d) in record { alike = x.0; fields = x.1; labelled = x.2 }, λ x. subst (λ y. IsSubtype c (Fields bs ps ls) (Fields y qs ms)) x.alike (by_fields x.fields x.labelled))
 
+-- whether a type is Top, as told
+pub told_top : (t : PlainType) → is_top t ≡ true → t ≡ Top
+told_top Top h = refl
+told_top _ h = absurd (cc)
+
+pub told_other : (t : PlainType) → is_top t ≡ false → t ≢ Top
+told_other t h e = let z : false ≡ true = sym h ∙ ap is_top e in cc
+
 pub top_above : (c : TypeContext) (s : PlainType) → IsSubtype c s Top
 top_above c s = below_top
 
 pub ruleset types_rules = (none, types_more, types_short, types_long)
-
-pub ruleset form_rules = (below_top, same, rising, falling, neither, applied, recursive, other_form)
 
 -- by shape, where the second type is not Top
 decided_itself : {c : TypeContext} {s t : PlainType} → Decides c s t → t ≢ Top → shape_of s ≢ variable → shape_of s ≢ channel → shape_of s ≢ record_ → s ≡ t

@@ -9,3 +9,4 @@ pub mod Followed
 pub mod Renamed
 pub mod Replaced
 pub mod Decidable
+pub mod Built

@@ -1,7 +1,7 @@
 -- Types renamed twice, and subtyping under more variables.
-use Rattle.std.proofs.Common.{◌≡◌, ℕ, zero, suc, ◌+◌, ◌∷◌, refl, sym, ◌∙◌, ap, ap₂, arith, add-one, Some, Bool, true, false}
+use Rattle.std.proofs.Common.{◌≡◌, ℕ, zero, suc, ◌+◌, ◌∷◌, refl, sym, ◌∙◌, ap, arith, add-one, Some, Bool, true, false}
 use Rattle.std.specs.Prelude.{nat_eq}
-use Rattle.pict_types.specs.Types.{PlainType, Top, Int, Char, Str, Boolean, Var, Apply, Chan, Fields, Rec, PlainTypes, no_type, types, PlainLabels, no_label, labels, PlainBound, Free, Below, Operator, PlainBounds, no_bound, bounds, TypeContext, under, type_at}
+use Rattle.pict_types.specs.Types.{PlainType, PlainTypes, PlainLabels, no_label, labels, PlainBound, Free, Below, Operator, PlainBounds, no_bound, bounds, TypeContext, under, type_at}
 use Rattle.pict_types.specs.Renaming.{beyond, beyond_all, rename, rename_types, rename_labels, rename_bounds, rename_bound, moved, bound_at, bound_of}
 use Rattle.pict_types.proofs.Renamed.{renamed_twice, bound_twice}
 use Rattle.pict_sub.specs.Subtyping.{IsSubtype, same, through, below_top, below_bound, upward, downward, by_fields, AreSubtypes, none, more, HasLabels, has_none, has_label}

@@ -1,9 +1,9 @@
 -- Renaming keeps weights, a variable weighs one more than its bound, and no type weighs less than its size.
-use Rattle.std.proofs.Common.{◌≡◌, ℕ, zero, suc, ◌+◌, ◌≤◌, List, [], ◌∷◌, refl, sym, ◌∙◌, ap, ap₂, arith, add-zero, add-suc, add-one}
-use Rattle.pict_types.specs.Types.{PlainType, Top, Int, Char, Str, Boolean, Var, Apply, Chan, Fields, Rec, PlainTypes, no_type, types, PlainLabels, no_label, labels, PlainBound, Free, Below, Operator, PlainBounds, no_bound, bounds, TypeContext, under}
-use Rattle.pict_types.specs.Renaming.{beyond, beyond_all, rename, rename_types, rename_labels, rename_bounds, rename_bound, moved, bound_at, bound_of}
-use Rattle.pict_types.specs.Measures.{measure_at, weigh, weigh_types, weigh_labels, weigh_bounds, weigh_variable, weights_under, weights, weight_of, size, size_types, size_labels, size_bounds, size_bound}
-use Rattle.pict_types.proofs.Renumbered.{Reads, weigh_renamed, weigh_variable_renamed}
+use Rattle.std.proofs.Common.{◌≡◌, ℕ, zero, suc, ◌+◌, ◌≤◌, [], ◌∷◌, refl, sym, ◌∙◌, ap, arith, add-zero, add-suc, add-one}
+use Rattle.pict_types.specs.Types.{PlainType, Var, Below, PlainBounds, no_bound, bounds, TypeContext, under}
+use Rattle.pict_types.specs.Renaming.{rename, rename_bound, moved, bound_at, bound_of}
+use Rattle.pict_types.specs.Measures.{measure_at, weigh_bounds, weigh_variable, weights_under, weights, weight_of, size, size_bounds}
+use Rattle.pict_types.proofs.Renumbered.{Reads, weigh_variable_renamed}
 use Rattle.pict_types.proofs.Sizes.{size_weigh, size_weigh_bounds, positive_weights, size_positive}
 
 -- what is left of the context behind variable i

@@ -1,10 +1,10 @@
 -- The laws of subtyping.
-use Rattle.std.specs.Prelude.{◌≡◌, ℕ, List, ◌⊎◌}
-use Rattle.pict_types.specs.Types.{PlainType, Fields, Rec, PlainTypes, PlainLabels, PlainBounds, Below, TypeContext}
+use Rattle.std.specs.Prelude.{◌≡◌, ◌≢◌, ℕ, List, ◌⊎◌, ◌↔◌}
+use Rattle.pict_types.specs.Types.{Capability, PlainType, Top, Var, Chan, Fields, Rec, PlainTypes, PlainLabels, PlainBounds, Below, TypeContext}
 use Rattle.pict_types.specs.Renaming.{bound_of, rename}
 use Rattle.pict_types.specs.Replacing.{Replacement, replace}
-use Rattle.pict_types.specs.Kinds.{IsWellFormed, ContextIsWellFormed, kinds}
-use Rattle.pict_sub.specs.Subtyping.{IsSubtype, AreRecordsBelow}
+use Rattle.pict_types.specs.Kinds.{Kind, IsWellFormed, LabelsAreWellFormed, ContextIsWellFormed, kinds}
+use Rattle.pict_sub.specs.Subtyping.{IsSubtype, AreRecordsBelow, AreChannelsBelow, HasBoundBelow}
 use Rattle.pict_sub.specs.Exposing.{ExposesTo}
 
 -- a fact holds or doesn't
@@ -33,18 +33,42 @@ abbrev pub Substitution : Type 0
 Substitution =
     (r : Replacement) (c d : TypeContext) (s t : PlainType) → IsWithinBounds r c d → IsSubtype c s t → IsSubtype d (replace r s) (replace r t)
 
--- inversion: records compare part by part
+-- inversion: channel types compare by their capabilities and their messages
+abbrev pub ChannelsByMessages : Type 0
+ChannelsByMessages = (c : TypeContext) (m n : Capability) (s t : PlainType) → IsSubtype c (Chan m s) (Chan n t) ↔ AreChannelsBelow c m n s t
+
+abbrev pub IsChannel : PlainType → Type 0
+IsChannel t = (m : Capability) × (u : PlainType) × (t ≡ Chan m u)
+
+-- above a channel type are only Top and channel types
+abbrev pub AboveChannels : Type 0
+AboveChannels = (c : TypeContext) (m : Capability) (s t : PlainType) → IsSubtype c (Chan m s) t → (t ≡ Top) ⊎ IsChannel t
+
+-- below a channel type are only channel types, and variables whose bound is below it
+abbrev pub BelowChannels : Type 0
+BelowChannels = (c : TypeContext) (n : Capability) (s t : PlainType) → IsSubtype c s (Chan n t) → IsChannel s ⊎ HasBoundBelow c s (Chan n t)
+
+-- inversion: records compare part by part, where the labelled fields of the first are well formed
 abbrev pub RecordsByParts : Type 0
 RecordsByParts =
-    (names : List (List ℕ)) (c : TypeContext) (bs cs : PlainBounds) (ps qs : PlainTypes) (ls ms : PlainLabels) → IsWellFormed names (kinds c) (Fields bs ps ls) → IsSubtype c (Fields bs ps ls) (Fields cs qs ms) → AreRecordsBelow c bs cs ps qs ls ms
+    (names : List (List ℕ)) (ks : List Kind) (c : TypeContext) (bs cs : PlainBounds) (ps qs : PlainTypes) (ls ms : PlainLabels) → LabelsAreWellFormed names ks ls → IsSubtype c (Fields bs ps ls) (Fields cs qs ms) ↔ AreRecordsBelow c bs cs ps qs ls ms
 
--- inversion: recursive types compare by equality
-abbrev pub RecursiveOnlyEqual : Type 0
-RecursiveOnlyEqual = (c : TypeContext) (s t : PlainType) → IsSubtype c (Rec s) (Rec t) → s ≡ t
+-- above a recursive type are exactly Top and itself
+abbrev pub AboveRecursive : Type 0
+AboveRecursive = (c : TypeContext) (s t : PlainType) → IsSubtype c (Rec s) t ↔ ((t ≡ Top) ⊎ (t ≡ Rec s))
 
--- a type is below what it exposes to, which is one type
+-- below a recursive type are exactly itself, and variables whose bound is below it
+abbrev pub BelowRecursive : Type 0
+BelowRecursive = (c : TypeContext) (s t : PlainType) → IsSubtype c s (Rec t) ↔ ((s ≡ Rec t) ⊎ HasBoundBelow c s (Rec t))
+
+-- a type is below what it exposes to
 abbrev pub ExposesAbove : Type 0
 ExposesAbove = (c : TypeContext) (t u : PlainType) → ExposesTo c t u → IsSubtype c t u
 
+-- and what it exposes to is below each type above it that is no variable
+abbrev pub ExposesBelow : Type 0
+ExposesBelow = (c : TypeContext) (s u t : PlainType) → ExposesTo c s u → ((i : ℕ) → t ≢ Var i) → IsSubtype c s t → IsSubtype c u t
+
+-- each type exposes to exactly one type
 abbrev pub ExposesToOne : Type 0
-ExposesToOne = (c : TypeContext) (t u v : PlainType) → ExposesTo c t u → ExposesTo c t v → u ≡ v
+ExposesToOne = (c : TypeContext) (t : PlainType) → (u : PlainType) × ExposesTo c t u × ((v : PlainType) → ExposesTo c t v → v ≡ u)

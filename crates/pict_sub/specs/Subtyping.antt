@@ -1,5 +1,5 @@
 -- Subtyping: the smallest relation that is reflexive and transitive and has these rules.
-use Rattle.std.specs.Prelude.{◌≡◌, ℕ, Some}
+use Rattle.std.specs.Prelude.{◌≡◌, ◌⊎◌, ℕ, Some}
 use Rattle.pict_types.specs.Types.{Capability, Both, Read, Write, Respond, PlainType, Top, Var, Chan, Fields, PlainTypes, no_type, types, PlainLabels, no_label, labels, PlainBounds, Below, TypeContext, under, type_at}
 use Rattle.pict_types.specs.Renaming.{bound_of}
 
@@ -41,3 +41,16 @@ pub record AreRecordsBelow (c : TypeContext) (bs cs : PlainBounds) (ps qs : Plai
   pub alike : bs ≡ cs
   pub fields : AreSubtypes (under c bs) ps qs
   pub labelled : HasLabels (under c bs) ls ms
+
+-- two channel types: both parts are the same, or the capabilities rise and the first messages are below the second, or
+-- the capabilities fall and the second messages are below the first
+abbrev pub AreChannelsBelow : TypeContext → Capability → Capability → PlainType → PlainType → Type 0
+AreChannelsBelow c m n s t = ((m ≡ n) × (s ≡ t)) ⊎ (Rises m n × IsSubtype c s t) ⊎ (Falls m n × IsSubtype c t s)
+
+-- the type s is a variable whose bound is below t
+pub record HasBoundBelow (c : TypeContext) (s t : PlainType) : Type 0 where
+  pub variable : ℕ
+  pub bound : PlainType
+  pub is : s ≡ Var variable
+  pub bounded : bound_of c variable ≡ Below bound
+  pub below : IsSubtype c bound t

@@ -1,6 +1,6 @@
 // The laws of subtyping, each as the contract of a function that does nothing.
 
-ghost use Rattle.pict_sub.specs.Laws.{ExposesAbove, ExposesToOne, RecordsByParts, RecursiveOnlyEqual, Substitution, SubtypingIsDecided, Weakening};
+ghost use Rattle.pict_sub.specs.Laws.{AboveChannels, AboveRecursive, BelowChannels, BelowRecursive, ChannelsByMessages, ExposesAbove, ExposesBelow, ExposesToOne, RecordsByParts, Substitution, SubtypingIsDecided, Weakening};
 
 /// Subtyping is kept where more variables are in scope.
 pub fn law_weakening()
@@ -17,14 +17,26 @@ pub fn law_subtyping_is_decided()
     ensures { SubtypingIsDecided }
 {}
 
-/// Records are subtypes only part by part.
+/// A channel type is a subtype of another exactly where both are the same, or their capabilities let messages go up (`?`
+/// over `?` and `^`) and the messages do, or let them go down (`!` over `!`, `/` and `^`, and `/` over `/`) and they do.
+/// Otherwise only `Top` is above a channel type, and only variables whose bound is below it are below one.
+pub fn law_channels_by_messages()
+    ensures between { ChannelsByMessages }
+    ensures above { AboveChannels }
+    ensures below { BelowChannels }
+{}
+
+/// Records are subtypes exactly part by part: the type fields are the same, the positional fields are subtypes in
+/// order, and each label of the greater is in the smaller with a subtype.
 pub fn law_records_by_parts()
     ensures { RecordsByParts }
 {}
 
-/// Recursive types are subtypes of one another only where they are equal.
+/// Above a recursive type are only `Top` and the type itself, and below it only the type itself and variables whose
+/// bound is below it. So recursive types are subtypes of one another only where they are equal.
 pub fn law_recursive_only_equal()
-    ensures { RecursiveOnlyEqual }
+    ensures above { AboveRecursive }
+    ensures below { BelowRecursive }
 {}
 
 /// A type is a subtype of what it exposes to.
@@ -32,7 +44,12 @@ pub fn law_exposes_above()
     ensures { ExposesAbove }
 {}
 
-/// A type exposes to one type.
+/// What a type exposes to is a subtype of each type above it that is no variable.
+pub fn law_exposes_below()
+    ensures { ExposesBelow }
+{}
+
+/// Each type exposes to exactly one type.
 pub fn law_exposes_to_one()
     ensures { ExposesToOne }
 {}

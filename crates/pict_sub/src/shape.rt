@@ -1,22 +1,11 @@
 // The shapes of types that subtyping tells apart.
 
-ghost use Rattle.std.specs.Prelude.{◌≡◌, ◌≢◌, ◌↔◌, IsTrue, IfNone, IfSome};
+ghost use Rattle.std.specs.Prelude.{◌≡◌, ◌≢◌, IfNone, IfSome};
 ghost use Rattle.pict_types.specs.Plain.{plain, plain_cap, plain_record};
-ghost use Rattle.pict_types.specs.Types.{Chan, Top, Var};
-ghost use Rattle.pict_sub.specs.Shapes.{channel, record_, shape_of, top, variable};
+ghost use Rattle.pict_types.specs.Types.{Chan, Var};
+ghost use Rattle.pict_sub.specs.Shapes.{channel, record_, shape_of, variable};
 
 use pict_types::{Cap, Record, Ty};
-
-/// Whether the type is `Top`.
-pub fn is_top(t: &Ty) -> bool
-    ensures yes { IsTrue result → plain t.now ≡ Top }
-    ensures no { plain t.now ≡ Top → IsTrue result }
-{
-    match t {
-        Ty::Top => true,
-        _ => false,
-    }
-}
 
 /// The variable that the type is.
 pub fn as_variable(t: &Ty) -> Option<u32>

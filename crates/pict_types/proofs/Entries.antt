@@ -4,7 +4,7 @@ use Rattle.std.specs.Prelude.{slice_get}
 use Rattle.std.proofs.lemmas.List.{map-append, reverse-append, length-map, length-reverse, get_or-reverse, get_or-map}
 use Rattle.pict_types.specs.declared.context.Entry.{Entry}
 use Rattle.pict_types.specs.declared.measure.Known.{Known}
-use Rattle.pict_types.specs.Types.{PlainBound, PlainType, TypeContext}
+use Rattle.pict_types.specs.Types.{PlainArg, PlainBound, PlainType, TypeContext}
 use Rattle.pict_types.specs.Entries.{PlainWhat, Variable, Definition, PlainEntry, PlainContext, variables, places, with_place, held_weights, held_heights, with_variable, EntriesAreWellFormed, EntryIsWellFormed}
 use Rattle.pict_types.specs.Measures.{held, measure_at, weigh, rise, weigh_variable, rise_variable, weights, heights}
 use Rattle.pict_types.specs.PlainEntries.{plain_entry, plain_entries, plain_what}
@@ -84,6 +84,9 @@ pub definition_same : {A : Type 0} (f : TypeContext → A) (es : List Entry) (e 
 definition_same f es e a is h =
     ap f (sym h ∙ ap (λ x. with_variable x (variables (plain_entries es))) (sym is) ∙ ap variables (sym (pushed es e)))
 
+pub definition_placed : {a : PlainArg} (es : List Entry) (e : Entry) → plain_what e.what ≡ Definition a → places (plain_entries (es ++ e ∷ [])) ≡ places (plain_entries es)
+definition_placed es e is = ap places (pushed es e) ∙ ap (λ w. with_place w (length (plain_entries es)) (places (plain_entries es))) is
+
 -- the places of the variables
 places_length : (c : PlainContext) → length (places c) ≡ length (variables c)
 places_length [] = refl
@@ -156,7 +159,7 @@ place_at ks c i d h k =
     ∙ ap (λ x. get_or x i 0) h
 
 -- the entry that the code reads
-entry_at : (es : List Entry) (p : ℕ) (d : Entry) → p < length es → get_or (plain_entries es) (length (plain_entries es) - 1 - p) (plain_entry d) ≡ plain_entry (get_or es p d)
+pub entry_at : (es : List Entry) (p : ℕ) (d : Entry) → p < length es → get_or (plain_entries es) (length (plain_entries es) - 1 - p) (plain_entry d) ≡ plain_entry (get_or es p d)
 entry_at es p d h =
     let m : length (map plain_entry es) ≡ length es = simp length-map refl in
     let l = entries_length es in

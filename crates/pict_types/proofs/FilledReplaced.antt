@@ -1,12 +1,12 @@
 -- Putting types for variables alone is a replacement.
 use Rattle.std.proofs.Common.{◌≡◌, ℕ, zero, suc, ◌+◌, List, [], ◌∷◌, Option, Some, None, refl, sym, ◌∙◌, ap, ap₂, add-one, arith}
-use Rattle.pict_types.specs.Types.{PlainType, Top, Int, Char, Str, Boolean, Var, Apply, Chan, Fields, Rec, PlainTypes, no_type, types, PlainLabels, no_label, labels, PlainBound, Free, Below, Operator, PlainBounds, no_bound, bounds, PlainArg, Plain}
+use Rattle.pict_types.specs.Types.{PlainType, Top, Int, Char, Str, Boolean, Var, Apply, Chan, Fields, Rec, PlainTypes, no_type, types, PlainLabels, no_label, labels, PlainBound, Free, Below, Operator, PlainBounds, no_bound, bounds, Plain}
 use Rattle.pict_types.specs.Renaming.{rename}
-use Rattle.pict_types.specs.Replacing.{bound_by, Filling, next_variable, apply_variable, filling_beyond, filling_beyond_all, fill, fill_types, fill_labels, fill_bounds, fill_bound, Head, variable, operator, nothing, apply_head, rename_head, Replacement, replacement_beyond, replacement_beyond_all, replace, replace_types, replace_labels, replace_bounds, replace_bound, arguments, unfolding_of}
+use Rattle.pict_types.specs.Replacing.{bound_by, Filling, next_variable, apply_variable, filling_beyond, filling_beyond_all, fill, fill_types, fill_labels, fill_bounds, fill_bound, Head, variable, nothing, apply_head, rename_head, Replacement, replacement_beyond, replacement_beyond_all, replace, replace_types, replace_labels, replace_bounds, replace_bound, arguments, unfolding_of}
 use Rattle.pict_types.specs.Filling.{put_for}
-use Rattle.pict_types.specs.Normal.{is_top}
+use Rattle.pict_types.specs.Types.{is_top}
 use Rattle.pict_types.specs.Measures.{weigh, rise, measure_at}
-use Rattle.pict_types.proofs.MeasuredAlike.{TopsAlike, WeighAlike, RiseAlike, weigh_filled, rise_filled, is_head}
+use Rattle.pict_types.proofs.MeasuredAlike.{TopsAlike, weigh_filled, rise_filled, is_head}
 
 abbrev head_as : Option ℕ → Head
 head_as None = nothing

@@ -73,7 +73,7 @@ mutual
 one_more_kind : (j : Kind) (js : List Kind) → KeepsKinds suc js (j ∷ js)
 one_more_kind j js = record { each = λ i k q. q }
 
-kind_bound_by : (t : PlainType) → kind_by (bound_by t) ≡ proper
+pub kind_bound_by : (t : PlainType) → kind_by (bound_by t) ≡ proper
 kind_bound_by Top = refl
 kind_bound_by Int = refl
 kind_bound_by Char = refl
@@ -85,7 +85,7 @@ kind_bound_by (Chan m t) = refl
 kind_bound_by (Fields bs ps ls) = refl
 kind_bound_by (Rec t) = refl
 
-formed_bound_by : (ns : List (List ℕ)) (ks : List Kind) (t : PlainType) → IsWellFormed ns ks t → BoundIsWellFormed ns ks (bound_by t)
+pub formed_bound_by : (ns : List (List ℕ)) (ks : List Kind) (t : PlainType) → IsWellFormed ns ks t → BoundIsWellFormed ns ks (bound_by t)
 formed_bound_by ns ks Top w = tt
 formed_bound_by ns ks Int w = w
 formed_bound_by ns ks Char w = w

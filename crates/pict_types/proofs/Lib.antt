@@ -10,15 +10,9 @@ pub mod Renumbered
 pub mod MeasuredAlike
 pub mod FilledReplaced
 pub mod Formed
-pub mod Past
-pub mod Within
 pub mod Sizes
-pub mod Placing
-pub mod Applied
-pub mod Making
 pub mod Inside
-pub mod Bounding
-pub mod Arguing
-pub mod Operating
-pub mod Parts
+pub mod Places
+pub mod Counting
+pub mod Levels
 mod Worked

@@ -1,9 +1,9 @@
 -- No type weighs less than its size, and the variables of a well formed type are not past its weight.
-use Rattle.std.proofs.Common.{◌≡◌, ℕ, zero, suc, ◌+◌, ◌≤◌, List, [], ◌∷◌, length, Some, arith}
+use Rattle.std.proofs.Common.{ℕ, zero, suc, ◌+◌, ◌≤◌, List, [], ◌∷◌, length, arith}
 use Rattle.pict_types.specs.Types.{PlainType, Top, Int, Char, Str, Boolean, Var, Apply, Chan, Fields, Rec, PlainTypes, no_type, types, PlainLabels, no_label, labels, PlainBound, Free, Below, Operator, PlainBounds, no_bound, bounds, TypeContext, count_types}
-use Rattle.pict_types.specs.Kinds.{Kind, proper, operator_of, kind_by, kinds_under, IsWellFormed, AreWellFormed, LabelsAreWellFormed, BoundsAreWellFormed, BoundIsWellFormed}
+use Rattle.pict_types.specs.Kinds.{Kind, proper, operator_of, kind_by, kinds_under, IsWellFormed, AreWellFormed, LabelsAreWellFormed, BoundsAreWellFormed}
 use Rattle.pict_types.specs.Measures.{measure_at, weigh, weigh_types, weigh_labels, weigh_bounds, weigh_variable, weights_under, weights, size, size_types, size_labels, size_bounds, size_bound}
-use Rattle.pict_types.specs.Room.{reach, reach_types, reach_labels, reach_bounds, reach_bound}
+use Rattle.pict_types.specs.Room.{reach, reach_types, reach_labels, reach_bounds}
 use Rattle.pict_types.proofs.Reaching.{kind_below}
 
 -- no variable weighs 0

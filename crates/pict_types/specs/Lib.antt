@@ -10,12 +10,11 @@ pub mod Entries
 pub mod Props
 pub mod PlainEntries
 pub mod PlainContext
-pub mod Normal
+pub mod Places
 pub mod Filling
 pub mod WithinLimits
 pub mod Recursion
-pub mod Limits
 pub mod Instances
 pub mod Fitting
-pub mod Putting
-pub mod Made
+pub mod Counting
+pub mod Levels

@@ -1,4 +1,4 @@
--- The greatest variable that is written in a type.
+-- One more than the greatest variable that is written in a type.
 use Rattle.std.specs.Prelude.{ℕ, suc, max}
 use Rattle.pict_types.specs.Types.{PlainType, Top, Int, Char, Str, Boolean, Var, Apply, Chan, Fields, Rec, PlainTypes, no_type, types, PlainLabels, no_label, labels, PlainBound, Free, Below, Operator, PlainBounds, no_bound, bounds}
 

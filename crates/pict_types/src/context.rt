@@ -1,11 +1,14 @@
 // The type variables and definitions in scope.
 
 ghost use Rattle.std.specs.Prelude.{◌≡◌, ◌<◌, ◌^◌, length, map, reverse};
+ghost use Rattle.pict_types.specs.Counting.{variables_around};
 ghost use Rattle.pict_types.specs.Entries.{EntriesAreWellFormed, held_heights, held_weights, places, variables};
 ghost use Rattle.pict_types.specs.PlainEntries.{plain_entries};
+ghost use Rattle.pict_types.specs.Places.{names_in};
 ghost use Rattle.pict_types.specs.Props.{EntriesAreWellFormed-prop};
 
 use crate::measure::{Known, Measures, Scope, measure, measure_bound};
+use crate::nearest::Nearest;
 use crate::types::{Arg, Bound, Ty};
 use pict_syntax::{Name, Names};
 use std::alloc::{AllocError, Global};
@@ -34,21 +37,28 @@ pub struct Context<'a> {
     names: &'a Names,
     entries: Vec<Entry>,
     known: Vec<Known>,
+    nearest: Nearest,
+    /// For each entry the number of type variables around it.
+    around: Vec<usize>,
     ghost formed: { EntriesAreWellFormed names.now (plain_entries entries.items) } by { EntriesAreWellFormed-prop names.now (plain_entries entries.items) },
     ghost placed: { reverse (map (λ k. k.place) known.items) ≡ places (plain_entries entries.items) },
     ghost weighed: { reverse (map (λ k. k.measures.weight) known.items) ≡ held_weights (plain_entries entries.items) },
     ghost measured: { reverse (map (λ k. k.measures.height) known.items) ≡ held_heights (plain_entries entries.items) },
+    ghost named: { nearest ≡ names_in (plain_entries entries.items) },
+    ghost counted: { reverse around.items ≡ variables_around (plain_entries entries.items) },
     ghost few: { length (variables (plain_entries entries.items)) < 2 ^ 32 },
 }
 
 impl<'a> Context<'a> {
     ghost use Rattle.std.specs.Prelude.{◌≡◌, ◌+◌, ◌≤◌, ◌<◌, ◌^◌, [], ◌∷◌, length, drop, slice_get, Some, IfNone, IfSome, OnOk, OnErr};
+    ghost use Rattle.pict_types.specs.Counting.{variables_inside};
     ghost use Rattle.pict_types.specs.Entries.{EntryIsWellFormed, variables};
     ghost use Rattle.pict_types.specs.Measures.{held, height_of, heights, rise, weigh, weight_of, weights};
     ghost use Rattle.pict_types.specs.Plain.{plain, plain_bound};
+    ghost use Rattle.pict_types.specs.Places.{IsWhatAt, arity_at, names_in, place};
     ghost use Rattle.pict_types.specs.PlainEntries.{plain_entry, plain_what};
     ghost use Rattle.pict_types.specs.PlainContext.{names_of, plain_context, type_context};
-    ghost use Rattle.pict_types.specs.Putting.{heights_inside, weights_inside};
+    ghost use Rattle.pict_types.specs.Scopes.{heights_inside, weights_inside};
 
     /// A context without entries. Takes no memory.
     pub fn new(alloc: Global, names: &'a Names) -> Context<'a>
@@ -59,6 +69,8 @@ impl<'a> Context<'a> {
             names,
             entries: Vec::new(alloc),
             known: Vec::new(alloc),
+            nearest: Nearest::new(alloc),
+            around: Vec::new(alloc),
         }
     }
 
@@ -71,11 +83,16 @@ impl<'a> Context<'a> {
         ensures names { names_of self.new ≡ names_of self.old }
     {
         self.entries.reserve(1)?;
+        self.known.reserve(1)?;
+        self.around.reserve(1)?;
+        self.nearest.bind(entry.name)?;
+        let count = self.known.as_slice().len();
+        self.around.push_reserved(count);
         match &entry.what {
             What::Variable(bound) => {
                 let measures = measure_bound(bound, &Scope::Outer(&self.known));
                 let place = self.entries.as_slice().len();
-                self.known.push(Known { place, measures })?;
+                self.known.push_reserved(Known { place, measures });
                 self.entries.push_reserved(entry);
                 Ok(())
             }
@@ -92,6 +109,8 @@ impl<'a> Context<'a> {
         ensures popped { plain_context self.new ≡ drop 1 (plain_context self.old) }
         ensures names { names_of self.new ≡ names_of self.old }
     {
+        self.nearest.unbind();
+        let _ = self.around.pop();
         if let Some(entry) = self.entries.pop()
             && let What::Variable(_) = entry.what
         {
@@ -131,8 +150,59 @@ impl<'a> Context<'a> {
         self.names
     }
 
-    /// The weight and the height of a type.
-    pub(crate) fn measures(&self, t: &Ty) -> Measures
+    /// The place of the innermost entry of a name, counted from the innermost; nothing where it has none. Takes no
+    /// memory.
+    pub fn place(&self, name: Name) -> Option<usize>
+        ensures { result ≡ place (names_in (plain_context self.now)) name.0 }
+    {
+        self.nearest.place(name)
+    }
+
+    /// What the name of entry `i` means, counted from the innermost; nothing where there is no such entry. Takes no memory.
+    pub fn what(&self, i: usize) -> Option<&What>
+        ensures none { IfNone result (length (plain_context self.now) ≤ i) }
+        ensures some { IfSome result (λ w. IsWhatAt (plain_context self.now) i (plain_what w.now)) }
+    {
+        let entries = self.entries.as_slice();
+        if i >= entries.len() {
+            return None;
+        }
+        Some(&entries[entries.len() - 1 - i].what)
+    }
+
+    /// The number of entries. Takes no memory.
+    pub fn len(&self) -> usize
+        ensures { result ≡ length (plain_context self.now) }
+    {
+        self.entries.as_slice().len()
+    }
+
+    /// How many type variables stand among the innermost `i` entries. Takes no memory.
+    pub fn variables_inside(&self, i: usize) -> u32
+        requires entries { i ≤ length (plain_context self.now) }
+        ensures { result ≡ variables_inside i (plain_context self.now) }
+    {
+        if i == 0 {
+            return 0;
+        }
+        let around = self.around.as_slice();
+        let outer = around[around.len() - i];
+        (self.known.as_slice().len() - outer) as u32
+    }
+
+    /// Of how many arguments entry `i` is an operator; nothing where it is a type, or isn't there. Takes no memory.
+    pub fn arity(&self, i: usize) -> Option<u32>
+        ensures { result ≡ arity_at (plain_context self.now) i }
+    {
+        match self.what(i) {
+            None => None,
+            Some(What::Variable(bound)) => bound.arity(),
+            Some(What::Definition(arg)) => arg.arity(),
+        }
+    }
+
+    /// The weight and the height of a type, each held at the greatest `u64`. Takes no memory.
+    pub fn measures(&self, t: &Ty) -> Measures
         ensures weight { result.weight ≡ held (weight_of (type_context self.now) (plain t.now)) }
         ensures height { result.height ≡ held (height_of (type_context self.now) (plain t.now)) }
     {
@@ -140,8 +210,8 @@ impl<'a> Context<'a> {
     }
 
     /// The weight and the height of a type that is written under binders with these measures, the innermost last, in
-    /// the context without its `by` innermost variables.
-    pub(crate) fn measures_inside(&self, inner: &[Measures], by: u32, t: &Ty) -> Measures
+    /// the context without its `by` innermost variables, each held at the greatest `u64`. Takes no memory.
+    pub fn measures_inside(&self, inner: &[Measures], by: u32, t: &Ty) -> Measures
         requires by { by ≤ length (type_context self.now) }
         ensures weight { result.weight ≡ held (weigh (weights_inside inner.now (drop by (weights (type_context self.now)))) (plain t.now)) }
         ensures height { result.height ≡ held (rise (heights_inside inner.now (drop by (heights (type_context self.now)))) (plain t.now)) }
@@ -151,8 +221,9 @@ impl<'a> Context<'a> {
         measure(t, &Scope::Inner(inner, &Scope::Outer(outer)))
     }
 
-    /// The weight and the height of a type that is written under one more variable with these measures.
-    pub(crate) fn measures_with(&self, variable: Measures, t: &Ty) -> Measures
+    /// The weight and the height of a type that is written under one more variable with these measures, each held at
+    /// the greatest `u64`. Takes no memory.
+    pub fn measures_with(&self, variable: Measures, t: &Ty) -> Measures
         ensures weight { result.weight ≡ held (weigh (variable.weight ∷ weights (type_context self.now)) (plain t.now)) }
         ensures height { result.height ≡ held (rise (variable.height ∷ heights (type_context self.now)) (plain t.now)) }
     {

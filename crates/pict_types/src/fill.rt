@@ -93,7 +93,7 @@ pub fn fill_type(alloc: Global, t: &Ty, us: &[Ty], by: u32, under: usize) -> Res
 
 /// An applied variable; `Top` where there is none.
 #[tactic(auto, using(crate::proofs::Rows::plain_apply))]
-fn apply_head(head: Option<u32>, ts: Vec<Ty>) -> Ty
+pub fn apply_head(head: Option<u32>, ts: Vec<Ty>) -> Ty
     ensures { plain result ≡ apply_variable head (plain_types ts.items) }
 {
     match head {

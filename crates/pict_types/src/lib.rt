@@ -1,26 +1,23 @@
-//! Types in nameless normal form: contexts, measures, replacement of type variables.
+//! Types in nameless normal form: contexts, measures, and one type put for another.
 #![tactic(auto)]
 
-mod arguments;
 mod context;
 mod copy;
 mod fill;
-mod instance;
 mod limits;
-mod made;
 mod measure;
 mod measures;
-mod put;
-mod puts;
-mod replacement;
+mod nearest;
 mod shift;
 mod types;
 mod unfolding;
 
 pub use context::{Context, Entry, What};
-pub use instance::instantiate;
-pub use limits::{Measure, SizeError};
+pub use fill::{apply_head, bound_by, fill_type};
+pub use limits::{Measure, SizeError, too_big};
+pub use measure::Measures;
 pub use measures::{height, weight};
+pub use nearest::Nearest;
 pub use shift::shift_type;
 pub use types::{Arg, Bound, Cap, Record, Ty};
 pub use unfolding::unfold;

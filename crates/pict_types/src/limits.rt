@@ -1,7 +1,6 @@
 // The limits of types.
 
-ghost use Rattle.std.specs.Prelude.{◌≡◌, ◌≤◌, ◌<◌, Some, IfNone, IsTrue, IsFalse};
-ghost use Rattle.pict_types.specs.Limits.{PassesLimit};
+ghost use Rattle.std.specs.Prelude.{◌≡◌, ◌≤◌, ◌<◌, Some, IfNone};
 
 use crate::measure::Measures;
 use std::alloc::AllocError;
@@ -36,9 +35,10 @@ impl From<AllocError> for SizeError {
     }
 }
 
-/// The greatest weight and the greatest height of a type.
+/// The greatest weight of a type.
 const MOST_WEIGHT: u64 = 100_000;
 
+/// The greatest height of a type.
 const MOST_HEIGHT: u64 = 1_000;
 
 /// The measure that passes its limit, the weight before the height.
@@ -54,12 +54,4 @@ pub fn too_big(measures: Measures) -> Option<Measure>
     } else {
         None
     }
-}
-
-/// Whether the measures are within the limits.
-pub fn is_within(measures: Measures) -> bool
-    ensures yes { IsTrue result → (measures.weight ≤ 100000) × (measures.height ≤ 1000) }
-    ensures no { IsFalse result → PassesLimit measures }
-{
-    measures.weight <= MOST_WEIGHT && measures.height <= MOST_HEIGHT
 }

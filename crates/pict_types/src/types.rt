@@ -1,4 +1,4 @@
-// Types in normal form: no definition and no applied operator is left, and variables have no names.
+// Types in normal form: no definition is left, only operator variables are applied, and variables have no names.
 
 ghost use Rattle.std.specs.Prelude.{◌≡◌, IfOk};
 
@@ -65,7 +65,7 @@ pub struct Record {
 pub enum Bound {
     /// Any type.
     Free,
-    /// A subtype of this type, which is not `Top`.
+    /// A subtype of this type. `Top` is no bound: where one is made, `Free` stands in its place.
     Below(Ty),
     /// An operator of so many arguments.
     Operator(u32),
@@ -78,4 +78,72 @@ pub enum Arg {
     Plain(Ty),
     /// An operator. The parameters are the innermost variables of its body, the last one at 0.
     Op { params: u32, body: Ty },
+}
+
+impl Bound {
+    ghost use Rattle.pict_types.specs.Entries.{Variable};
+    ghost use Rattle.pict_types.specs.Plain.{plain_bound};
+    ghost use Rattle.pict_types.specs.Places.{arity};
+
+    /// Of how many arguments a variable with this bound is an operator; nothing where it is a type. Takes no memory.
+    pub fn arity(&self) -> Option<u32>
+        ensures { result ≡ arity (Variable (plain_bound self.now)) }
+    {
+        match self {
+            Bound::Free => None,
+            Bound::Below(_) => None,
+            Bound::Operator(n) => Some(*n),
+        }
+    }
+}
+
+impl Arg {
+    ghost use Rattle.pict_types.specs.Entries.{Definition};
+    ghost use Rattle.pict_types.specs.Types.{is_top};
+    ghost use Rattle.pict_types.specs.Plain.{plain_arg};
+    ghost use Rattle.pict_types.specs.Places.{arity};
+    ghost use Rattle.pict_types.specs.Replacing.{type_in};
+
+    /// Of how many arguments it is an operator; nothing where it is a type. Takes no memory.
+    pub fn arity(&self) -> Option<u32>
+        ensures { result ≡ arity (Definition (plain_arg self.now)) }
+    {
+        match self {
+            Arg::Plain(_) => None,
+            Arg::Op { params, .. } => Some(*params),
+        }
+    }
+
+    /// Whether `Top` is put for a type variable by it: it is `Top`, or an operator. Takes no memory.
+    pub fn is_top(&self) -> bool
+        ensures { result ≡ is_top (type_in (plain_arg self.now)) }
+    {
+        match self {
+            Arg::Plain(t) => t.is_top(),
+            Arg::Op { .. } => true,
+        }
+    }
+}
+
+impl Ty {
+    ghost use Rattle.pict_types.specs.Types.{is_top};
+    ghost use Rattle.pict_types.specs.Plain.{plain};
+
+    /// Whether it is `Top`. Takes no memory.
+    pub fn is_top(&self) -> bool
+        ensures { result ≡ is_top (plain self.now) }
+    {
+        match self {
+            Ty::Top => true,
+            Ty::Int
+            | Ty::Char
+            | Ty::Str
+            | Ty::Bool
+            | Ty::Var(_)
+            | Ty::Apply(..)
+            | Ty::Chan(..)
+            | Ty::Fields(_)
+            | Ty::Rec(_) => false,
+        }
+    }
 }

@@ -1,0 +1,26 @@
+pub mod Past
+pub mod Meant
+pub mod Within
+pub mod Placing
+pub mod Applied
+pub mod Making
+pub mod Bounding
+pub mod Arguing
+pub mod Operating
+pub mod Parts
+pub mod RawNormal
+pub mod Trees
+pub mod RawSteps
+pub mod RawFormed
+pub mod Expanded
+pub mod Sorting
+pub mod Refused
+pub mod LabelOrder
+pub mod BecomingTop
+pub mod SameMeanings
+pub mod Behind
+pub mod BinderPlaces
+pub mod BareOperators
+pub mod Used
+pub mod Marking
+mod Worked

@@ -1,0 +1,1 @@
+-- At first no parameter is marked.

@@ -1,0 +1,13 @@
+pub mod Normal
+pub mod Putting
+pub mod Meanings
+pub mod Sizes
+pub mod Raw
+pub mod BinderEntries
+pub mod Refusals
+pub mod Around
+pub mod InOrder
+pub mod Distinct
+pub mod Made
+pub mod WrittenArguments
+pub mod Uses

@@ -1,0 +1,214 @@
+-- Normal forms of written types, and where a written type is refused.
+use Rattle.std.specs.Prelude.{ℕ, suc, nat_eq, nat_lt, if◌then◌else◌, ◌||◌, List, [], ◌∷◌, ◌++◌, Option, Some, None}
+use Rattle.std.specs.Ordering.{is_lt}
+use Rattle.pict_syntax.specs.declared.code.Code.{Code}
+use Rattle.pict_syntax.specs.declared.code.Code.TheVariants.{K1, K2, K3, K4}
+use Rattle.pict_syntax.specs.declared.span.Span.{Span}
+use Rattle.pict_syntax.specs.declared.id.Id.{Id}
+use Rattle.pict_syntax.specs.declared.type_tree.KindTree.{KindTree}
+use Rattle.pict_syntax.specs.declared.type_tree.KindTree.TheVariants.{Plain as Plain_, Operator as Operator_}
+use Rattle.pict_syntax.specs.Trees.{TypeTree, top-type, int-type, char-type, string-type, bool-type, use-type, both-type, read-type, write-type, respond-type, fields-type, apply-type, rec-type, TypeBinder, type-binder, Bound, no-bound, bound, TypeTrees, no-types, more-types, TypeBinders, no-binders, more-binders, LabelledTypes, no-labelled-types, more-labelled-types}
+use Rattle.pict_types.specs.Types.{is_top, Both, Read, Write, Respond, PlainType, Top, Int, Char, Str, Boolean, Var, Chan, Fields, Rec, PlainTypes, no_type, types, PlainLabels, no_label, labels, PlainBound, Free, Below, Operator, PlainBounds, no_bound, bounds, Plain, Op}
+use Rattle.pict_types.specs.Renaming.{rename}
+use Rattle.pict_types.specs.Replacing.{bound_by, Head, variable, operator, nothing, apply_head, rename_head}
+use Rattle.pict_types.specs.Measures.{weight_of, height_of}
+use Rattle.pict_types.specs.Kinds.{label_cmp}
+use Rattle.pict_types.specs.Entries.{PlainWhat, Variable, Definition, PlainEntry, PlainContext, variables}
+
+-- what the name of a type means: a type, or an operator of so many parameters
+pub data Meaning : Type 0 where
+  a_type : PlainType → Meaning
+  an_operator : ℕ → Head → Meaning
+
+abbrev pub of_bound : PlainBound → Meaning
+of_bound Free = a_type (Var 0)
+of_bound (Below t) = a_type (Var 0)
+of_bound (Operator n) = an_operator n (variable 0)
+
+abbrev pub of_entry : PlainWhat → Meaning
+of_entry (Variable b) = of_bound b
+of_entry (Definition (Plain t)) = a_type t
+of_entry (Definition (Op n t)) = an_operator n (operator n t)
+
+-- the same behind one more variable
+abbrev pub one_further : Meaning → Meaning
+one_further (a_type t) = a_type (rename suc t)
+one_further (an_operator n h) = an_operator n (rename_head suc h)
+
+abbrev pub behind_entry : PlainWhat → Option Meaning → Option Meaning
+behind_entry w None = None
+behind_entry (Variable b) (Some m) = Some (one_further m)
+behind_entry (Definition a) (Some m) = Some m
+
+-- the innermost entry of a name counts
+abbrev pub meaning : PlainContext → ℕ → Option Meaning
+meaning [] n = None
+meaning (e ∷ c) n = if nat_eq e.name n then Some (of_entry e.what) else behind_entry e.what (meaning c n)
+
+-- Top is in the place of what has no meaning as a type
+abbrev pub meant_type : Option Meaning → PlainType
+meant_type None = Top
+meant_type (Some (a_type t)) = t
+meant_type (Some (an_operator n h)) = Top
+
+abbrev pub meant_head : Option Meaning → Head
+meant_head None = nothing
+meant_head (Some (a_type t)) = nothing
+meant_head (Some (an_operator n h)) = h
+
+-- one more at the end
+abbrev pub and_type : PlainTypes → PlainType → PlainTypes
+and_type no_type u = types u no_type
+and_type (types t ts) u = types t (and_type ts u)
+
+abbrev pub and_bound : PlainBounds → PlainBound → PlainBounds
+and_bound no_bound d = bounds d no_bound
+and_bound (bounds b bs) d = bounds b (and_bound bs d)
+
+-- one more labelled field, before the first whose label comes after it
+abbrev pub with_label : List (List ℕ) → ℕ → PlainType → PlainLabels → PlainLabels
+with_label ns l u no_label = labels l u no_label
+with_label ns l u (labels m t ls) = if is_lt (label_cmp ns l m) then labels l u (labels m t ls) else labels m t (with_label ns l u ls)
+
+-- what is known of a type binder with this kind and this bound: an operator has no bound
+abbrev pub kind_bound : Option KindTree → PlainBound → PlainBound
+kind_bound None b = b
+kind_bound (Some Plain_) b = b
+kind_bound (Some (Operator_ n)) b = Operator n
+
+abbrev pub entry_of : Id → PlainBound → PlainEntry
+entry_of id b = record { name = id.name.0; what = Variable b }
+
+abbrev mutual
+  -- definitions are replaced by their bodies, and operators are applied
+  pub normal : List (List ℕ) → PlainContext → TypeTree → PlainType
+  normal ns c (top-type s) = Top
+  normal ns c (int-type s) = Int
+  normal ns c (char-type s) = Char
+  normal ns c (string-type s) = Str
+  normal ns c (bool-type s) = Boolean
+  normal ns c (use-type s n) = meant_type (meaning c n.0)
+  normal ns c (both-type s t) = Chan Both (normal ns c t)
+  normal ns c (read-type s t) = Chan Read (normal ns c t)
+  normal ns c (write-type s t) = Chan Write (normal ns c t)
+  normal ns c (respond-type s t) = Chan Respond (normal ns c t)
+  normal ns c (fields-type s bs ts ls) =
+      Fields (normal_binders ns c bs) (normal_types ns (under_binders ns c bs) ts) (normal_labels ns (under_binders ns c bs) ls)
+  normal ns c (apply-type s id ts) = apply_head (meant_head (meaning c id.name.0)) (normal_types ns c ts)
+  normal ns c (rec-type s id t) = Rec (normal ns (entry_of id Free ∷ c) t)
+
+  pub normal_types : List (List ℕ) → PlainContext → TypeTrees → PlainTypes
+  normal_types ns c no-types = no_type
+  normal_types ns c (more-types ts t) = and_type (normal_types ns c ts) (normal ns c t)
+
+  pub normal_labels : List (List ℕ) → PlainContext → LabelledTypes → PlainLabels
+  normal_labels ns c no-labelled-types = no_label
+  normal_labels ns c (more-labelled-types ls id t) = with_label ns id.name.0 (normal ns c t) (normal_labels ns c ls)
+
+  -- each type binder is written under those before it
+  pub normal_binders : List (List ℕ) → PlainContext → TypeBinders → PlainBounds
+  normal_binders ns c no-binders = no_bound
+  normal_binders ns c (more-binders bs b) = and_bound (normal_binders ns c bs) (normal_binder ns (under_binders ns c bs) b)
+
+  pub under_binders : List (List ℕ) → PlainContext → TypeBinders → PlainContext
+  under_binders ns c no-binders = c
+  under_binders ns c (more-binders bs b) = with_binder ns (under_binders ns c bs) b
+
+  pub with_binder : List (List ℕ) → PlainContext → TypeBinder → PlainContext
+  with_binder ns c (type-binder s id k b) = entry_of id (kind_bound k (normal_bound ns c b)) ∷ c
+
+  pub normal_binder : List (List ℕ) → PlainContext → TypeBinder → PlainBound
+  normal_binder ns c (type-binder s id k b) = kind_bound k (normal_bound ns c b)
+
+  -- a bound Top is no bound
+  pub normal_bound : List (List ℕ) → PlainContext → Bound → PlainBound
+  normal_bound ns c no-bound = Free
+  normal_bound ns c (bound t) = bound_by (normal ns c t)
+
+abbrev pub span_of : TypeTree → Span
+span_of (top-type s) = s
+span_of (int-type s) = s
+span_of (char-type s) = s
+span_of (string-type s) = s
+span_of (bool-type s) = s
+span_of (use-type s n) = s
+span_of (both-type s t) = s
+span_of (read-type s t) = s
+span_of (write-type s t) = s
+span_of (respond-type s t) = s
+span_of (fields-type s bs ts ls) = s
+span_of (apply-type s id ts) = s
+span_of (rec-type s id t) = s
+
+abbrev pub count_trees : TypeTrees → ℕ
+count_trees no-types = 0
+count_trees (more-types ts t) = suc (count_trees ts)
+
+-- a refusal and its place
+abbrev pub Stop : Type 0
+Stop = Code × Span
+
+-- a bare operator where a type stands
+abbrev pub use_stops : Span → Option Meaning → List Stop
+use_stops s None = []
+use_stops s (Some (a_type t)) = []
+use_stops s (Some (an_operator n h)) = (K2, s) ∷ []
+
+-- a type that is applied, or an operator with another number of arguments than it has
+abbrev pub apply_stops : Span → Option Meaning → ℕ → List Stop
+apply_stops s None k = []
+apply_stops s (Some (a_type t)) k = (K1, s) ∷ []
+apply_stops s (Some (an_operator n h)) k = if nat_eq n k then [] else (K1, s) ∷ []
+
+-- an operator variable with a bound, whose own refusals are given, and its normal form: one that expands to Top is none
+abbrev pub bound_stops : Id → Option KindTree → List Stop → PlainType → List Stop
+bound_stops id None stops t = stops
+bound_stops id (Some Plain_) stops t = stops
+bound_stops id (Some (Operator_ n)) [] t = if is_top t then [] else (K3, id.span) ∷ []
+bound_stops id (Some (Operator_ n)) (x ∷ stops) t = (K3, id.span) ∷ x ∷ stops
+
+abbrev mutual
+  -- where the rules of kinds fail in a written type, in reading order
+  pub kind_stops : List (List ℕ) → PlainContext → TypeTree → List Stop
+  kind_stops ns c (top-type s) = []
+  kind_stops ns c (int-type s) = []
+  kind_stops ns c (char-type s) = []
+  kind_stops ns c (string-type s) = []
+  kind_stops ns c (bool-type s) = []
+  kind_stops ns c (use-type s n) = use_stops s (meaning c n.0)
+  kind_stops ns c (both-type s t) = kind_stops ns c t
+  kind_stops ns c (read-type s t) = kind_stops ns c t
+  kind_stops ns c (write-type s t) = kind_stops ns c t
+  kind_stops ns c (respond-type s t) = kind_stops ns c t
+  kind_stops ns c (fields-type s bs ts ls) =
+      binders_stops ns c bs ++ types_stops ns (under_binders ns c bs) ts ++ labels_stops ns (under_binders ns c bs) ls
+  kind_stops ns c (apply-type s id ts) = apply_stops s (meaning c id.name.0) (count_trees ts) ++ types_stops ns c ts
+  kind_stops ns c (rec-type s id t) = kind_stops ns (entry_of id Free ∷ c) t
+
+  pub types_stops : List (List ℕ) → PlainContext → TypeTrees → List Stop
+  types_stops ns c no-types = []
+  types_stops ns c (more-types ts t) = types_stops ns c ts ++ kind_stops ns c t
+
+  pub labels_stops : List (List ℕ) → PlainContext → LabelledTypes → List Stop
+  labels_stops ns c no-labelled-types = []
+  labels_stops ns c (more-labelled-types ls id t) = labels_stops ns c ls ++ kind_stops ns c t
+
+  pub binders_stops : List (List ℕ) → PlainContext → TypeBinders → List Stop
+  binders_stops ns c no-binders = []
+  binders_stops ns c (more-binders bs b) = binders_stops ns c bs ++ binder_stops ns (under_binders ns c bs) b
+
+  pub binder_stops : List (List ℕ) → PlainContext → TypeBinder → List Stop
+  binder_stops ns c (type-binder s id k no-bound) = []
+  binder_stops ns c (type-binder s id k (bound t)) = bound_stops id k (kind_stops ns c t) (normal ns c t)
+
+-- a type past a limit is refused as a whole
+abbrev pub size_stop : PlainContext → PlainType → Span → Option Stop
+size_stop c t s = if nat_lt 100000 (weight_of (variables c) t) || nat_lt 1000 (height_of (variables c) t) then Some (K4, s) else None
+
+-- the refusal of a written type: the first where a rule of kinds fails, else its size
+abbrev pub first_stop : List Stop → Option Stop → Option Stop
+first_stop [] o = o
+first_stop (x ∷ stops) o = Some x
+
+abbrev pub kind_stop : List (List ℕ) → PlainContext → TypeTree → Option Stop
+kind_stop ns c t = first_stop (kind_stops ns c t) (size_stop c (normal ns c t) (span_of t))

@@ -1,0 +1,88 @@
+// What stands for the variables of a type.
+
+ghost use Rattle.std.specs.Prelude.{◌≡◌, ◌+◌, ◌<◌, ◌^◌, List, ℕ, length};
+ghost use Rattle.pict_types.specs.Kinds.{Kind};
+ghost use Rattle.pict_normal.specs.Meanings.{meanings};
+ghost use Rattle.pict_normal.specs.Sizes.{most_defined};
+ghost use Rattle.pict_types.specs.Plain.{plain_args};
+ghost use Rattle.pict_types.specs.PlainContext.{plain_context, type_context};
+ghost use Rattle.pict_types.specs.Instances.{ArgsAreWellFormed, most_args};
+ghost use Rattle.pict_normal.specs.Putting.{HasRoom, PutsAreWellFormed, most_of, put_head, put_type, replacement_of, variables_in};
+ghost use Rattle.pict_types.specs.Replacing.{arguments, replacement_past};
+
+use crate::put::{Put, put_of};
+use pict_types::{Arg, Context, What};
+
+/// The source of what stands for the variables of a type.
+#[derive(Clone, Copy)]
+pub enum Source<'a> {
+    /// Arguments for the innermost variables, the last one for variable 0.
+    Arguments(&'a [Arg]),
+    /// The entries of the context: variable `i` is entry `i`, counted from the innermost.
+    Entries,
+}
+
+/// What stands for the variables of a type.
+#[derive(Clone, Copy)]
+pub struct Puts<'a, 'n> {
+    pub source: Source<'a>,
+    /// The context that it is written in.
+    pub context: &'a Context<'n>,
+}
+
+/// What stands for variable `i`, where the arguments stand for the innermost variables.
+#[tactic(auto, using(crate::proofs::Past::argument_rules))]
+fn put_argument(args: &[Arg], i: u32) -> Put<'_>
+    ensures type_ { put_type result ≡ (arguments (plain_args args.now)).type_of i }
+    ensures head { put_head result ≡ (arguments (plain_args args.now)).head_of i }
+    ensures room { (ns : List (List ℕ)) (ks : List Kind) → ArgsAreWellFormed ns ks (plain_args args.now) → HasRoom (length ks) (most_args (plain_args args.now)) 0 i result }
+{
+    if (i as usize) < args.len() {
+        let place = args.len() - 1 - i as usize;
+        return put_of(&args[place]);
+    }
+    Put::Variable((i as usize - args.len()) as u32)
+}
+
+/// What stands for variable `i`, where it is entry `i` of the context.
+pub fn put_entry<'a>(c: &'a Context, i: u32) -> Put<'a>
+    ensures type_ { put_type result ≡ (meanings (plain_context c.now)).type_of i }
+    ensures head { put_head result ≡ (meanings (plain_context c.now)).head_of i }
+    ensures room { HasRoom (length (type_context c.now)) (most_defined (plain_context c.now)) 0 i result }
+{
+    match c.what(i as usize) {
+        None => Put::Variable((i as usize - c.len()) as u32 + c.variables()),
+        Some(What::Variable(_)) => Put::Variable(c.variables_inside(i as usize)),
+        Some(What::Definition(arg)) => put_of(arg).under(c.variables_inside(i as usize)),
+    }
+}
+
+impl<'a, 'n> Puts<'a, 'n> {
+    /// What stands for variable `i`.
+    fn put_at(&self, i: u32) -> Put<'a>
+        requires formed { PutsAreWellFormed self.now }
+        ensures type_ { put_type result ≡ (replacement_of self.now).type_of i }
+        ensures head { put_head result ≡ (replacement_of self.now).head_of i }
+        ensures room { HasRoom (length (variables_in self.now)) (most_of self.now) 0 i result }
+    {
+        match self.source {
+            Source::Arguments(args) => put_argument(args, i),
+            Source::Entries => put_entry(self.context, i),
+        }
+    }
+
+    /// What stands for variable `i` under so many binders, written under them.
+    pub fn put_under(&self, i: u32, depth: usize) -> Put<'a>
+        requires formed { PutsAreWellFormed self.now }
+        requires room { length (variables_in self.now) + depth < 2 ^ 32 }
+        ensures type_ { put_type result ≡ (replacement_past depth (replacement_of self.now)).type_of i }
+        ensures head { put_head result ≡ (replacement_past depth (replacement_of self.now)).head_of i }
+        ensures room { HasRoom (length (variables_in self.now)) (most_of self.now) depth i result }
+    {
+        if (i as usize) < depth {
+            return Put::Variable(i);
+        }
+        let under = depth as u32;
+        self.put_at(i - under).under(under)
+    }
+}

@@ -1,0 +1,245 @@
+// Written types as types, with the names of definitions as variables.
+
+ghost use Rattle.std.specs.Prelude.{◌≡◌, ◌+◌, ◌<◌, ◌^◌, [], ◌∷◌, length, IfOk, IfErr, OnOk};
+ghost use Rattle.pict_syntax.specs.PlainTrees.{type_of, binder_of, types-on, binders-on, labelled-types-on};
+ghost use Rattle.pict_syntax.specs.declared.span.Span.{Span};
+ghost use Rattle.pict_syntax.specs.Trees.{fields-type, no-binders, no-labelled-types, no-types};
+ghost use Rattle.pict_normal.specs.BinderEntries.{bound_entry, entries_under};
+ghost use Rattle.pict_normal.specs.Normal.{binder_stops, binders_stops, bound_stops, kind_stops, normal, labels_stops, types_stops};
+ghost use Rattle.pict_normal.specs.Around.{around, scope_of};
+ghost use Rattle.pict_types.specs.Plain.{plain, plain_bound, plain_bounds, plain_cap, plain_labels, plain_record, plain_types};
+ghost use Rattle.pict_types.specs.PlainContext.{names_of};
+ghost use Rattle.pict_types.specs.Places.{names_in};
+ghost use Rattle.pict_normal.specs.Sizes.{nodes, nodes_of_binder, nodes_of_binders, nodes_of_labels, nodes_of_types};
+ghost use Rattle.pict_normal.specs.Raw.{raw, raw_binder, raw_binders, raw_labels, raw_types};
+ghost use Rattle.pict_normal.specs.Refusals.{IsFirst};
+ghost use Rattle.pict_types.specs.Types.{Chan, Operator, Rec};
+
+use crate::binders::Binders;
+use crate::labels::sort_labels;
+use crate::stops::{KindError, raw_head, raw_use};
+use crate::tops::becomes_top;
+use pict_syntax::{Code, Id, KindTree, LabelledType, Name, TypeBinder, TypeTree};
+use pict_types::{Bound, Cap, Context, Record, Ty, apply_head, bound_by};
+use std::alloc::Global;
+
+/// The type of a tree, where each name is the variable of its binder in `inner` or of its entry, which come after
+/// these. It is refused at the first place in reading order where a rule of kinds fails.
+#[cycle(raw)]
+#[tactic(auto, unfolding(pict_syntax::specs::PlainTrees::type_of), using(crate::proofs::Trees::fields_type_is, crate::proofs::Trees::apply_type_is))]
+pub fn raw_type(
+    alloc: Global,
+    t: &TypeTree,
+    c: &Context,
+    inner: &mut Binders,
+) -> Result<Ty, KindError>
+    requires room { length (around inner.old c.now) + nodes (type_of t.now) < 2 ^ 32 }
+    ensures raw { IfOk result (λ u. plain u ≡ raw (names_of c.now) (names_in (around inner.old c.now)) (type_of t.now)) }
+    ensures kinds { IfOk result (λ _. kind_stops (names_of c.now) (around inner.old c.now) (type_of t.now) ≡ []) }
+    ensures first { IfErr result (λ e. IsFirst (kind_stops (names_of c.now) (around inner.old c.now) (type_of t.now)) e) }
+    ensures inner { OnOk result (scope_of inner.new ≡ scope_of inner.old) }
+{
+    match t {
+        TypeTree::Top(_) => Ok(Ty::Top),
+        TypeTree::Int(_) => Ok(Ty::Int),
+        TypeTree::Char(_) => Ok(Ty::Char),
+        TypeTree::String(_) => Ok(Ty::Str),
+        TypeTree::Bool(_) => Ok(Ty::Bool),
+        TypeTree::Use(span, name) => raw_use(*span, *name, c, &*inner),
+        TypeTree::Both(_, t) => raw_channel(alloc, Cap::Both, t, c, inner),
+        TypeTree::Read(_, t) => raw_channel(alloc, Cap::Read, t, c, inner),
+        TypeTree::Write(_, t) => raw_channel(alloc, Cap::Write, t, c, inner),
+        TypeTree::Respond(_, t) => raw_channel(alloc, Cap::Respond, t, c, inner),
+        TypeTree::Fields(_, bs, ts, ls) => Ok(Ty::Fields(raw_record(alloc, bs, ts, ls, c, inner)?)),
+        TypeTree::Apply(span, id, ts) => {
+            let head = raw_head(*span, id.name, ts.as_slice().len(), c, &*inner)?;
+            Ok(apply_head(head, raw_types(alloc, ts, c, inner)?))
+        }
+        TypeTree::Rec(_, id, t) => raw_recursion(alloc, id.name, t, c, inner),
+    }
+}
+
+#[cycle(raw)]
+fn raw_channel(
+    alloc: Global,
+    cap: Cap,
+    t: &TypeTree,
+    c: &Context,
+    inner: &mut Binders,
+) -> Result<Ty, KindError>
+    requires room { length (around inner.old c.now) + nodes (type_of t.now) < 2 ^ 32 }
+    ensures raw { IfOk result (λ u. plain u ≡ Chan (plain_cap cap) (raw (names_of c.now) (names_in (around inner.old c.now)) (type_of t.now))) }
+    ensures kinds { IfOk result (λ _. kind_stops (names_of c.now) (around inner.old c.now) (type_of t.now) ≡ []) }
+    ensures first { IfErr result (λ e. IsFirst (kind_stops (names_of c.now) (around inner.old c.now) (type_of t.now)) e) }
+    ensures inner { OnOk result (scope_of inner.new ≡ scope_of inner.old) }
+{
+    Ok(Ty::Chan(cap, Box::new(alloc, raw_type(alloc, t, c, inner)?)?))
+}
+
+/// A recursive type with this variable and this body.
+#[cycle(raw)]
+fn raw_recursion(
+    alloc: Global,
+    name: Name,
+    t: &TypeTree,
+    c: &Context,
+    inner: &mut Binders,
+) -> Result<Ty, KindError>
+    requires room { length (around inner.old c.now) + nodes (type_of t.now) + 1 < 2 ^ 32 }
+    ensures raw { IfOk result (λ u. plain u ≡ Rec (raw (names_of c.now) (name.0 ∷ names_in (around inner.old c.now)) (type_of t.now))) }
+    ensures kinds { IfOk result (λ _. kind_stops (names_of c.now) (bound_entry name.0 None ∷ (around inner.old c.now)) (type_of t.now) ≡ []) }
+    ensures first { IfErr result (λ e. IsFirst (kind_stops (names_of c.now) (bound_entry name.0 None ∷ (around inner.old c.now)) (type_of t.now)) e) }
+    ensures inner { OnOk result (scope_of inner.new ≡ scope_of inner.old) }
+{
+    inner.push(name, None)?;
+    let body = raw_type(alloc, t, c, inner)?;
+    inner.pop();
+    Ok(Ty::Rec(Box::new(alloc, body)?))
+}
+
+#[cycle(raw)]
+#[tactic(auto, using(crate::proofs::Trees::types_step, crate::proofs::Trees::types_end, crate::proofs::Trees::types_none, crate::proofs::Trees::nodes_of_type_item))]
+fn raw_types(
+    alloc: Global,
+    ts: &[TypeTree],
+    c: &Context,
+    inner: &mut Binders,
+) -> Result<Vec<Ty>, KindError>
+    requires room { length (around inner.old c.now) + nodes_of_types (types-on no-types ts.now) < 2 ^ 32 }
+    ensures raw { IfOk result (λ us. plain_types us.items ≡ raw_types (names_of c.now) (names_in (around inner.old c.now)) (types-on no-types ts.now)) }
+    ensures kinds { IfOk result (λ _. types_stops (names_of c.now) (around inner.old c.now) (types-on no-types ts.now) ≡ []) }
+    ensures first { IfErr result (λ e. IsFirst (types_stops (names_of c.now) (around inner.old c.now) (types-on no-types ts.now)) e) }
+    ensures inner { OnOk result (scope_of inner.new ≡ scope_of inner.old) }
+{
+    let mut types = Vec::new(alloc);
+    for t in ts {
+        types.push(raw_type(alloc, t, c, inner)?)?;
+    }
+    Ok(types)
+}
+
+#[cycle(raw)]
+fn raw_labels(
+    alloc: Global,
+    ls: &[LabelledType],
+    c: &Context,
+    inner: &mut Binders,
+) -> Result<Vec<(Name, Ty)>, KindError>
+    requires room { length (around inner.old c.now) + nodes_of_labels (labelled-types-on no-labelled-types ls.now) < 2 ^ 32 }
+    ensures raw { IfOk result (λ us. plain_labels us.items ≡ raw_labels (names_of c.now) (names_in (around inner.old c.now)) (labelled-types-on no-labelled-types ls.now)) }
+    ensures kinds { IfOk result (λ _. labels_stops (names_of c.now) (around inner.old c.now) (labelled-types-on no-labelled-types ls.now) ≡ []) }
+    ensures first { IfErr result (λ e. IsFirst (labels_stops (names_of c.now) (around inner.old c.now) (labelled-types-on no-labelled-types ls.now)) e) }
+    ensures inner { OnOk result (scope_of inner.new ≡ scope_of inner.old) }
+{
+    let mut labelled = Vec::new(alloc);
+    for l in ls {
+        labelled.push((l.label.name, raw_type(alloc, &l.of, c, inner)?))?;
+    }
+    sort_labels(c.names(), &mut labelled)?;
+    Ok(labelled)
+}
+
+/// The type fields of a record, which stay as binders in `inner`.
+#[cycle(raw)]
+fn raw_binders(
+    alloc: Global,
+    bs: &[TypeBinder],
+    c: &Context,
+    inner: &mut Binders,
+) -> Result<Vec<Bound>, KindError>
+    requires room { length (around inner.old c.now) + nodes_of_binders (binders-on no-binders bs.now) < 2 ^ 32 }
+    ensures raw { IfOk result (λ ds. plain_bounds ds.items ≡ raw_binders (names_of c.now) (names_in (around inner.old c.now)) (binders-on no-binders bs.now)) }
+    ensures kinds { IfOk result (λ _. binders_stops (names_of c.now) (around inner.old c.now) (binders-on no-binders bs.now) ≡ []) }
+    ensures first { IfErr result (λ e. IsFirst (binders_stops (names_of c.now) (around inner.old c.now) (binders-on no-binders bs.now)) e) }
+    ensures inner { OnOk result (scope_of inner.new ≡ entries_under (scope_of inner.old) (binders-on no-binders bs.now)) }
+{
+    let mut bounds = Vec::new(alloc);
+    for b in bs {
+        bounds.push(raw_binder(alloc, b, c, inner)?)?;
+        inner.push(b.id.name, b.kind)?;
+    }
+    Ok(bounds)
+}
+
+/// What is known of a type binder: an operator has no bound, and a bound `Top` is none.
+#[cycle(raw)]
+fn raw_binder(
+    alloc: Global,
+    b: &TypeBinder,
+    c: &Context,
+    inner: &mut Binders,
+) -> Result<Bound, KindError>
+    requires room { length (around inner.old c.now) + nodes_of_binder (binder_of b.now) < 2 ^ 32 }
+    ensures raw { IfOk result (λ d. plain_bound d ≡ raw_binder (names_of c.now) (names_in (around inner.old c.now)) (binder_of b.now)) }
+    ensures kinds { IfOk result (λ _. binder_stops (names_of c.now) (around inner.old c.now) (binder_of b.now) ≡ []) }
+    ensures first { IfErr result (λ e. IsFirst (binder_stops (names_of c.now) (around inner.old c.now) (binder_of b.now)) e) }
+    ensures inner { OnOk result (scope_of inner.new ≡ scope_of inner.old) }
+{
+    match &b.bound {
+        None => match b.kind {
+            None => Ok(Bound::Free),
+            Some(KindTree::Plain) => Ok(Bound::Free),
+            Some(KindTree::Operator(n)) => Ok(Bound::Operator(n)),
+        },
+        Some(t) => match b.kind {
+            None => Ok(bound_by(raw_type(alloc, t, c, inner)?)),
+            Some(KindTree::Plain) => Ok(bound_by(raw_type(alloc, t, c, inner)?)),
+            Some(KindTree::Operator(n)) => operator_bound(alloc, n, b.id, t, c, inner),
+        },
+    }
+}
+
+/// What is known of an operator with a bound, which is refused at its name unless it becomes `Top`.
+#[cycle(raw)]
+fn operator_bound(
+    alloc: Global,
+    n: u32,
+    at: Id,
+    t: &TypeTree,
+    c: &Context,
+    inner: &mut Binders,
+) -> Result<Bound, KindError>
+    requires room { length (around inner.old c.now) + nodes (type_of t.now) < 2 ^ 32 }
+    ensures raw { IfOk result (λ d. plain_bound d ≡ Operator n) }
+    ensures kinds { IfOk result (λ _. bound_stops at (Some (KindTree.Operator n)) (kind_stops (names_of c.now) (around inner.old c.now) (type_of t.now)) (normal (names_of c.now) (around inner.old c.now) (type_of t.now)) ≡ []) }
+    ensures first { IfErr result (λ e. IsFirst (bound_stops at (Some (KindTree.Operator n)) (kind_stops (names_of c.now) (around inner.old c.now) (type_of t.now)) (normal (names_of c.now) (around inner.old c.now) (type_of t.now))) e) }
+    ensures inner { OnOk result (scope_of inner.new ≡ scope_of inner.old) }
+{
+    match raw_type(alloc, t, c, inner) {
+        Ok(t) => {
+            if becomes_top(&t, c, &*inner) {
+                return Ok(Bound::Operator(n));
+            }
+            Err(KindError::Named(Code::K3, at.span))
+        }
+        Err(KindError::Memory) => Err(KindError::Memory),
+        Err(KindError::Named(_, _)) => Err(KindError::Named(Code::K3, at.span)),
+    }
+}
+
+/// A record type, with the binders in `inner` as they were.
+#[cycle(raw)]
+fn raw_record(
+    alloc: Global,
+    bs: &[TypeBinder],
+    ts: &[TypeTree],
+    ls: &[LabelledType],
+    c: &Context,
+    inner: &mut Binders,
+) -> Result<Record, KindError>
+    requires room { length (around inner.old c.now) + (nodes_of_binders (binders-on no-binders bs.now) + nodes_of_types (types-on no-types ts.now) + nodes_of_labels (labelled-types-on no-labelled-types ls.now)) < 2 ^ 32 }
+    ensures raw { (s : Span) → IfOk result (λ r. plain_record r ≡ raw (names_of c.now) (names_in (around inner.old c.now)) (fields-type s (binders-on no-binders bs.now) (types-on no-types ts.now) (labelled-types-on no-labelled-types ls.now))) }
+    ensures kinds { (s : Span) → IfOk result (λ _. kind_stops (names_of c.now) (around inner.old c.now) (fields-type s (binders-on no-binders bs.now) (types-on no-types ts.now) (labelled-types-on no-labelled-types ls.now)) ≡ []) }
+    ensures first { (s : Span) → IfErr result (λ e. IsFirst (kind_stops (names_of c.now) (around inner.old c.now) (fields-type s (binders-on no-binders bs.now) (types-on no-types ts.now) (labelled-types-on no-labelled-types ls.now))) e) }
+    ensures inner { OnOk result (scope_of inner.new ≡ scope_of inner.old) }
+{
+    let binders = raw_binders(alloc, bs, c, inner)?;
+    let positional = raw_types(alloc, ts, c, inner)?;
+    let labelled = raw_labels(alloc, ls, c, inner)?;
+    inner.pop_all(bs.len());
+    Ok(Record {
+        binders,
+        positional,
+        labelled,
+    })
+}

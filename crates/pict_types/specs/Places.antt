@@ -1,0 +1,33 @@
+-- Names and the entries of a context, by their places: the innermost has place 0.
+use Rattle.std.specs.Prelude.{◌≡◌, ℕ, zero, suc, nat_eq, if◌then◌else◌, List, [], ◌∷◌, map, Option, Some, None}
+use Rattle.pict_types.specs.Types.{Free, Below, Operator, Plain, Op}
+use Rattle.pict_types.specs.Replacing.{next_variable}
+use Rattle.pict_types.specs.Entries.{PlainWhat, Variable, Definition, PlainContext}
+
+-- the first place of a name
+abbrev pub place : List ℕ → ℕ → Option ℕ
+place [] n = None
+place (m ∷ ms) n = if nat_eq m n then Some 0 else next_variable (place ms n)
+
+-- the names of the entries
+abbrev pub names_in : PlainContext → List ℕ
+names_in c = map (λ e. e.name) c
+
+-- of how many arguments an entry is an operator; nothing where it is a type
+abbrev pub arity : PlainWhat → Option ℕ
+arity (Variable Free) = None
+arity (Variable (Below t)) = None
+arity (Variable (Operator n)) = Some n
+arity (Definition (Plain t)) = None
+arity (Definition (Op n t)) = Some n
+
+abbrev pub arity_at : PlainContext → ℕ → Option ℕ
+arity_at [] i = None
+arity_at (e ∷ c) zero = arity e.what
+arity_at (e ∷ c) (suc i) = arity_at c i
+
+-- the entry at this place means this
+abbrev pub IsWhatAt : PlainContext → ℕ → PlainWhat → Type 0
+IsWhatAt [] i w = ⊥
+IsWhatAt (e ∷ c) zero w = e.what ≡ w
+IsWhatAt (e ∷ c) (suc i) w = IsWhatAt c i w
