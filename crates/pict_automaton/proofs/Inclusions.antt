@@ -4,10 +4,10 @@ use Rattle.pict_syntax.specs.declared.name.Name.{Name}
 use Rattle.pict_syntax.specs.declared.span.Span.{Span}
 use Rattle.pict_syntax.specs.declared.token.SymbolName.{SymbolName}
 use Rattle.pict_syntax.specs.declared.token.TokenKind.{TokenKind}
-use Rattle.pict_syntax.specs.declared.token.TokenKind.TheVariants.{Identifier, Symbol, Word, Mark}
-use Rattle.pict_syntax.specs.declared.token.Keyword.{Keyword}
-use Rattle.pict_syntax.specs.declared.token.Sign.{Sign}
-use Rattle.pict_syntax.specs.Phrases.{Phrase, nothing, never, ◌▸◌, at, word, mark, name, join, led, between, closed, joined}
+use Rattle.pict_syntax.specs.declared.token.TokenKind.TheVariants.{Identifier, Symbol, Keyword, Sign}
+use Rattle.pict_syntax.specs.declared.token.Keyword.{Keyword as AnyKeyword}
+use Rattle.pict_syntax.specs.declared.token.Sign.{Sign as AnySign}
+use Rattle.pict_syntax.specs.Phrases.{Phrase, nothing, never, ◌▸◌, at, keyword, sign, name, join, led, between, closed, joined}
 
 -- each list of the one phrase is one of the other
 pub record Sub (L M : Phrase) : Type 0 where
@@ -54,52 +54,52 @@ pub join6 : {S A B C E F G V D : Phrase} → Sub (G ▸ V) D → Sub ((S ▸ (A 
 join6 g = then assoc (under (join5 g))
 
 -- single words
-pub a-word : {k : Keyword} {i : Span} → Sub (at (Word k) i) (word k)
-a-word {k} {i} = record { «in» = λ ts h. (i, h) }
+pub a_keyword : {k : AnyKeyword} {i : Span} → Sub (at (Keyword k) i) (keyword k)
+a_keyword {k} {i} = record { «in» = λ ts h. (i, h) }
 
-pub a-mark : {m : Sign} {i : Span} → Sub (at (Mark m) i) (mark m)
-a-mark {m} {i} = record { «in» = λ ts h. (i, h) }
+pub a_sign : {m : AnySign} {i : Span} → Sub (at (Sign m) i) (sign m)
+a_sign {m} {i} = record { «in» = λ ts h. (i, h) }
 
-pub an-identifier : {n : Name} {i : Span} → Sub (at (Identifier n) i) (name n i)
-an-identifier = record { «in» = λ ts h. inl h }
+pub an_identifier : {n : Name} {i : Span} → Sub (at (Identifier n) i) (name n i)
+an_identifier = record { «in» = λ ts h. inl h }
 
-pub a-symbol : {n : Name} {y : SymbolName} {i : Span} → Sub (at (Symbol y n) i) (name n i)
-a-symbol {n} {y} = record { «in» = λ ts h. inr (y, h) }
+pub a_symbol : {n : Name} {y : SymbolName} {i : Span} → Sub (at (Symbol y n) i) (name n i)
+a_symbol {n} {y} = record { «in» = λ ts h. inr (y, h) }
 
-pub add-nothing : {L : Phrase} → Sub L (L ▸ nothing)
-add-nothing {L} = record { «in» = λ ts h. (ts, [], append-nil ts, h, refl) }
+pub add_nothing : {L : Phrase} → Sub L (L ▸ nothing)
+add_nothing {L} = record { «in» = λ ts h. (ts, [], append-nil ts, h, refl) }
 
-pub from-nothing : {L : Phrase} → Sub L (nothing ▸ L)
-from-nothing {L} = record { «in» = λ ts h. ([], ts, refl, refl, h) }
+pub from_nothing : {L : Phrase} → Sub L (nothing ▸ L)
+from_nothing {L} = record { «in» = λ ts h. ([], ts, refl, refl, h) }
 
-pub drop-nothing : {L : Phrase} → Sub (nothing ▸ L) L
-drop-nothing {L} = record { «in» = λ ts h. subst L (ap (λ l. l ++ h.1) (sym h.3) ∙ h.2) h.4 }
+pub drop_nothing : {L : Phrase} → Sub (nothing ▸ L) L
+drop_nothing {L} = record { «in» = λ ts h. subst L (ap (λ l. l ++ h.1) (sym h.3) ∙ h.2) h.4 }
 
-pub never-first : {V : Phrase} → Sub (never ▸ V) never
-never-first = record { «in» = λ ts h. h.3 }
+pub never_first : {V : Phrase} → Sub (never ▸ V) never
+never_first = record { «in» = λ ts h. h.3 }
 
 pub gone : {L : Phrase} → Sub L (λ ts. Unit {0})
 gone = record { «in» = λ ts h. tt }
 
-pub from-never : {L : Phrase} → Sub never L
-from-never = record { «in» = λ ts h. absurd h }
+pub from_never : {L : Phrase} → Sub never L
+from_never = record { «in» = λ ts h. absurd h }
 
-pub never-behind : {S L V : Phrase} → Sub ((S ▸ never) ▸ V) L
-never-behind = record { «in» = λ ts h. absurd h.3.4 }
+pub never_behind : {S L V : Phrase} → Sub ((S ▸ never) ▸ V) L
+never_behind = record { «in» = λ ts h. absurd h.3.4 }
 
 -- nodes
-pub a-led : {i : Span} (e : Span) {k : TokenKind} {L : Phrase} → Sub (at k i ▸ L) (led (join i e) k L e)
-a-led {i} e = record { «in» = λ ts h. (i, refl, h) }
+pub a_led : {i : Span} (e : Span) {k : TokenKind} {L : Phrase} → Sub (at k i ▸ L) (led (join i e) k L e)
+a_led {i} e = record { «in» = λ ts h. (i, refl, h) }
 
-pub a-between : {i j : Span} {o c : Sign} {L : Phrase} → Sub (at (Mark o) i ▸ (L ▸ at (Mark c) j)) (between (join i j) o L c)
-a-between {i} {j} = record { «in» = λ ts h. (i, j, refl, h) }
+pub a_between : {i j : Span} {o c : AnySign} {L : Phrase} → Sub (at (Sign o) i ▸ (L ▸ at (Sign c) j)) (between (join i j) o L c)
+a_between {i} {j} = record { «in» = λ ts h. (i, j, refl, h) }
 
-pub a-closed : (b : Span) {j : Span} {k : TokenKind} {L : Phrase} → Sub (L ▸ at k j) (closed (join b j) b L k)
-a-closed b {j} = record { «in» = λ ts h. (j, refl, h) }
+pub a_closed : (b : Span) {j : Span} {k : TokenKind} {L : Phrase} → Sub (L ▸ at k j) (closed (join b j) b L k)
+a_closed b {j} = record { «in» = λ ts h. (j, refl, h) }
 
-pub a-joined : (b e : Span) {L : Phrase} → Sub L (joined (join b e) b e L)
-a-joined b e = record { «in» = λ ts h. (refl, h) }
+pub a_joined : (b e : Span) {L : Phrase} → Sub L (joined (join b e) b e L)
+a_joined b e = record { «in» = λ ts h. (refl, h) }
 
 -- what closes brackets
-pub closing : {i j : Span} {o c : Sign} {L : Phrase} → Sub ((at (Mark o) i ▸ L) ▸ at (Mark c) j) (between (join i j) o L c)
-closing = then assoc a-between
+pub closing : {i j : Span} {o c : AnySign} {L : Phrase} → Sub ((at (Sign o) i ▸ L) ▸ at (Sign c) j) (between (join i j) o L c)
+closing = then assoc a_between

@@ -5,26 +5,26 @@ use Rattle.pict_syntax.specs.declared.span.Span.{Span}
 use Rattle.pict_syntax.specs.Trees.{Decs}
 use Rattle.pict_automaton.specs.Places.{State, stop}
 use Rattle.pict_automaton.specs.Machine.{step, run, start, ended}
-use Rattle.pict_automaton.specs.Nesting.{greatest-nesting}
+use Rattle.pict_syntax.specs.declared.limits.TheConstants.{NESTING_LIMIT}
 use Rattle.pict_automaton.specs.Depth.{depth}
-use Rattle.pict_automaton.specs.Verdicts.{Program, Unexpected, TooDeep, IsVerdict, StandsAt, StandsAtEnd}
+use Rattle.pict_syntax.specs.Verdicts.{Program, Unexpected, TooNested, IsVerdict, StandsAt, StandsAtEnd}
 use Rattle.pict_automaton.proofs.Finish.{Going}
-use Rattle.pict_automaton.proofs.Programs.{first-wrong, wrong-end, tree-of}
-use Rattle.pict_automaton.proofs.Nestings.{Shallow, not-nested-before, too-nested-here, not-nested-at-end}
+use Rattle.pict_automaton.proofs.Programs.{first_wrong, wrong_end, tree_of}
+use Rattle.pict_automaton.proofs.Nestings.{Shallow, not_nested_before, first_too_nested, not_nested_at_end}
 
 -- a token stops it
-pub unexpected-here : (ts : List Token) (end i : ℕ) (d : Token) (x : State) (span : Span) → i < length ts → Shallow ts i → Going x → x ≡ run start (take i ts) → step (get_or ts i d).kind (get_or ts i d).span x ≡ stop → StandsAt ts i span → IsVerdict ts end (Unexpected span)
-unexpected-here ts end i d x span h sh g e s p = inl (record { index = i; wrong = first-wrong ts i d h x g e s; shallow = not-nested-before ts i sh; place = p })
+pub unexpected_here : (ts : List Token) (end i : ℕ) (d : Token) (x : State) (span : Span) → i < length ts → Shallow ts i → Going x → x ≡ run start (take i ts) → step (get_or ts i d).kind (get_or ts i d).span x ≡ stop → StandsAt ts i span → IsVerdict ts end (Unexpected span)
+unexpected_here ts end i d x span h sh g e s p = inl (record { index = i; wrong = first_wrong ts i d h x g e s; shallow = not_nested_before ts i sh; place = p })
 
 -- behind a token too much is open
-pub too-deep-here : (ts : List Token) (end i : ℕ) (y : State) (span : Span) → i < length ts → Shallow ts i → Going y → y ≡ run start (take (i + 1) ts) → greatest-nesting < depth y → StandsAt ts i span → IsVerdict ts end (TooDeep span)
-too-deep-here ts end i y span h sh g e d p = record { index = i; nested = too-nested-here ts i y h sh g e d; place = p }
+pub too_nested_here : (ts : List Token) (end i : ℕ) (y : State) (span : Span) → i < length ts → Shallow ts i → Going y → y ≡ run start (take (i + 1) ts) → NESTING_LIMIT < depth y → StandsAt ts i span → IsVerdict ts end (TooNested span)
+too_nested_here ts end i y span h sh g e d p = record { index = i; nested = first_too_nested ts i y h sh g e d; place = p }
 
 -- the text may end behind all tokens
-pub program-here : (ts : List Token) (end : ℕ) (x : State) (p : Decs) → Shallow ts (length ts) → x ≡ run start ts → ended x ≡ Some p → IsVerdict ts end (Program p)
-program-here ts end x p sh e h = record { tree = tree-of ts p (ap ended (sym e) ∙ h); shallow = λ j below. not-nested-at-end ts sh j }
+pub program_here : (ts : List Token) (end : ℕ) (x : State) (p : Decs) → Shallow ts (length ts) → x ≡ run start ts → ended x ≡ Some p → IsVerdict ts end (Program p)
+program_here ts end x p sh e h = record { tree = tree_of ts p (ap ended (sym e) ∙ h); shallow = λ j below. not_nested_at_end ts sh j }
 
 -- it may not
-pub end-here : (ts : List Token) (end : ℕ) (x : State) (span : Span) → Shallow ts (length ts) → Going x → x ≡ run start ts → ended x ≡ None → (0 < length ts → StandsAtEnd ts end span) → IsVerdict ts end (Unexpected span)
-end-here [] end x span sh g e h p = let no = sym h ∙ ap ended e in absurd cc
-end-here (t ∷ ts) end x span sh g e h p = inr (record { wrong = wrong-end (t ∷ ts) x g e h; shallow = λ j below. not-nested-at-end (t ∷ ts) sh j; place = p (omega arith) })
+pub end_here : (ts : List Token) (end : ℕ) (x : State) (span : Span) → Shallow ts (length ts) → Going x → x ≡ run start ts → ended x ≡ None → (0 < length ts → StandsAtEnd ts end span) → IsVerdict ts end (Unexpected span)
+end_here [] end x span sh g e h p = let no = sym h ∙ ap ended e in absurd cc
+end_here (t ∷ ts) end x span sh g e h p = inr (record { wrong = wrong_end (t ∷ ts) x g e h; shallow = λ j below. not_nested_at_end (t ∷ ts) sh j; place = p (omega arith) })

@@ -4,226 +4,226 @@ use Rattle.pict_syntax.specs.declared.span.Span.{Span}
 use Rattle.pict_syntax.specs.declared.id.Id.{Id}
 use Rattle.pict_syntax.specs.declared.type_tree.KindTree.{KindTree}
 use Rattle.pict_syntax.specs.declared.token.TokenKind.{TokenKind}
-use Rattle.pict_syntax.specs.declared.token.TokenKind.TheVariants.{Identifier, Word, Mark}
-use Rattle.pict_syntax.specs.declared.token.Keyword.{Keyword}
+use Rattle.pict_syntax.specs.declared.token.TokenKind.TheVariants.{Identifier, Keyword, Sign}
+use Rattle.pict_syntax.specs.declared.token.Keyword.{Keyword as AnyKeyword}
 use Rattle.pict_syntax.specs.declared.token.Keyword.TheVariants.{Rec, BoolType, CharType, IntType, StringType, TopType, TypeKind}
-use Rattle.pict_syntax.specs.declared.token.Sign.{Sign}
+use Rattle.pict_syntax.specs.declared.token.Sign.{Sign as AnySign}
 use Rattle.pict_syntax.specs.declared.token.Sign.TheVariants.{Bang, Question, Equals, OpenParen, CloseParen, OpenBracket, CloseBracket, Colon, Less, Caret, Slash, Hash, Underscore, Arrow}
-use Rattle.pict_syntax.specs.Trees.{TypeTree, top-type, int-type, char-type, string-type, bool-type, use-type, fields-type, apply-type, rec-type, TypeBinder, type-binder, no-bound, TypeTrees, no-types, more-types, TypeBinders, more-binders, LabelledTypes, no-labelled-types, RType, Pat, bind-pat, any-pat, fields-pat, fold-pat, FieldPats, field-pats, Pats, no-pats, more-pats, LabelledPats, no-labelled-pats, more-labelled-pats}
+use Rattle.pict_syntax.specs.Trees.{TypeTree, top_type, int_type, char_type, string_type, bool_type, use_type, fields_type, apply_type, rec_type, TypeBinder, type_binder, unbounded, TypeTrees, no_types, more_types, TypeBinders, more_binders, LabelledTypes, no_labelled_types, RType, Pat, bind_pat, any_pat, fields_pat, fold_pat, FieldPats, field_pats, Pats, no_pats, more_pats, LabelledPats, no_labelled_pats, more_labelled_pats}
 use Rattle.pict_syntax.specs.Phrases.{join}
-use Rattle.pict_automaton.specs.Places.{DecPlace, AbsPlace, PatPlace, in-let-pat, in-abs-pat, in-fold-pat, in-field-pat, in-label-pat, FieldPatsPlace, in-pat-record, in-params, TypePlace, in-type-field, in-type-apply, BinderPlace, of-pats, of-types, let-pat, abs-pat, pat-open, pat-rec, pat-folded, have-bind, have-any, after-binders, after-pats, pat-name, after-pat-labels, pat-label, binder-hash, binder-name, need-kind, kind-args, kind-arrow, kind-result, binder-kind, type-open, rec-word, rec-name, rec-body, type-args, after-type-binders, after-types, type-name, after-type-labels, type-label}
-use Rattle.pict_automaton.specs.Nesting.{words, type-nest, binder-nest, pat-nest, field-pats-nest}
-use Rattle.pict_automaton.specs.Depth.{pat-depth, pats-depth, type-depth, binder-depth, depth}
-use Rattle.pict_automaton.proofs.Nests.{pattern-nests, patterns-nests, type-nests, binder-nests, state-nests}
-use Rattle.pict_automaton.proofs.NestsPuts.{put-pat-nests, put-binder-nests, put-type-nests}
+use Rattle.pict_automaton.specs.Places.{DeclarationPlace, AbstractionPlace, PatternPlace, in_let_pattern, in_abstraction_pattern, in_fold_pattern, in_field_pattern, in_label_pattern, FieldPatternsPlace, in_pattern_record, in_parameters, TypePlace, in_type_field, in_type_apply, BinderPlace, of_patterns, of_types, let_pattern, abstraction_pattern, pattern_open, pattern_rec, pattern_folded, have_bind, have_any, after_binders, after_patterns, pattern_name, after_pattern_labels, pattern_label, binder_hash, binder_name, need_kind, kind_arguments, kind_arrow, kind_result, binder_kind, type_open, rec_keyword, rec_name, rec_body, operator_arguments, after_type_binders, after_types, type_name, after_type_labels, type_label}
+use Rattle.pict_syntax.specs.Nesting.{times_nest, type_nest, binder_nest, pat_nest, field_pats_nest}
+use Rattle.pict_automaton.specs.Depth.{pattern_depth, patterns_depth, type_depth, binder_depth, depth}
+use Rattle.pict_automaton.proofs.Nests.{pattern_nests, patterns_nests, type_nests, binder_nests, state_nests}
+use Rattle.pict_automaton.proofs.NestsPuts.{put_pattern_nests, put_binder_nests, put_type_nests}
 use Rattle.pict_automaton.proofs.NestsAdds.{Adds, stopped, stays, opens, shuts, ends, closes, behind}
-use Rattle.pict_automaton.specs.Machine.{begin-type-word, begin-type-sign, begin-type, step-type-open, step-rec-word, step-rec-name, step-rec-body, close-type-args, step-type-args, step-types, step-type-name, step-type-labels, step-type-label, step-type-binders, begin-pat, step-pat-open, step-pat-rec, step-pat-folded, close-pats, step-pats, step-pat-labels, step-pat-label, step-binders, step-let-pat, step-abs-pat, step-pat, step-bind, step-any, step-pat-name, step-binder, step-hash, step-binder-name, step-need-kind, kind-arrow-at, step-kind-args, step-kind-arrow, step-kind-result, step-binder-kind}
+use Rattle.pict_automaton.specs.Machine.{begin_type_keyword, begin_type_sign, begin_type, step_type_open, step_rec_keyword, step_rec_name, step_rec_body, close_operator_arguments, step_operator_arguments, step_types, step_type_name, step_type_labels, step_type_label, step_type_binders, begin_pattern, step_pattern_open, step_pattern_rec, step_pattern_folded, close_patterns, step_patterns, step_pattern_labels, step_pattern_label, step_binders, step_let_pattern, step_abstraction_pattern, step_pattern, step_bind, step_any, step_pattern_name, step_binder, step_hash, step_binder_name, step_need_kind, kind_arrow_at, step_kind_arguments, step_kind_arrow, step_kind_result, step_binder_kind}
 
-begin-type-word-nests : (k : Keyword) (i : Span) (p : TypePlace) → Adds (type-depth p) (type-nests p) (begin-type-word k i p)
-unfolding type-nest
-begin-type-word-nests TopType i p = ends (put-type-nests p (top-type i)) (λ ns. refl)
-begin-type-word-nests IntType i p = ends (put-type-nests p (int-type i)) (λ ns. refl)
-begin-type-word-nests CharType i p = ends (put-type-nests p (char-type i)) (λ ns. refl)
-begin-type-word-nests StringType i p = ends (put-type-nests p (string-type i)) (λ ns. refl)
-begin-type-word-nests BoolType i p = ends (put-type-nests p (bool-type i)) (λ ns. refl)
-begin-type-word-nests _ i p = stopped
+begin_type_keyword_nests : (k : AnyKeyword) (i : Span) (p : TypePlace) → Adds (type_depth p) (type_nests p) (begin_type_keyword k i p)
+unfolding type_nest
+begin_type_keyword_nests TopType i p = ends (put_type_nests p (top_type i)) (λ ns. refl)
+begin_type_keyword_nests IntType i p = ends (put_type_nests p (int_type i)) (λ ns. refl)
+begin_type_keyword_nests CharType i p = ends (put_type_nests p (char_type i)) (λ ns. refl)
+begin_type_keyword_nests StringType i p = ends (put_type_nests p (string_type i)) (λ ns. refl)
+begin_type_keyword_nests BoolType i p = ends (put_type_nests p (bool_type i)) (λ ns. refl)
+begin_type_keyword_nests _ i p = stopped
 
-begin-type-sign-nests : (m : Sign) (i : Span) (p : TypePlace) → Adds (type-depth p) (type-nests p) (begin-type-sign m i p)
-unfolding type-nest
-begin-type-sign-nests Caret i p = opens refl (λ ns. refl)
-begin-type-sign-nests Question i p = opens refl (λ ns. refl)
-begin-type-sign-nests Bang i p = opens refl (λ ns. refl)
-begin-type-sign-nests Slash i p = opens refl (λ ns. refl)
-begin-type-sign-nests OpenBracket i p = opens refl (λ ns. refl)
-begin-type-sign-nests OpenParen i p = opens refl (λ ns. refl)
-begin-type-sign-nests _ i p = stopped
+begin_type_sign_nests : (m : AnySign) (i : Span) (p : TypePlace) → Adds (type_depth p) (type_nests p) (begin_type_sign m i p)
+unfolding type_nest
+begin_type_sign_nests Caret i p = opens refl (λ ns. refl)
+begin_type_sign_nests Question i p = opens refl (λ ns. refl)
+begin_type_sign_nests Bang i p = opens refl (λ ns. refl)
+begin_type_sign_nests Slash i p = opens refl (λ ns. refl)
+begin_type_sign_nests OpenBracket i p = opens refl (λ ns. refl)
+begin_type_sign_nests OpenParen i p = opens refl (λ ns. refl)
+begin_type_sign_nests _ i p = stopped
 
-pub begin-type-nests : (k : TokenKind) (i : Span) (p : TypePlace) → Adds (type-depth p) (type-nests p) (begin-type k i p)
-unfolding type-nest
-begin-type-nests (Word k) i p = begin-type-word-nests k i p
-begin-type-nests (Mark m) i p = begin-type-sign-nests m i p
-begin-type-nests (Identifier n) i p = ends (put-type-nests p (use-type i n)) (λ ns. refl)
-begin-type-nests _ i p = stopped
+pub begin_type_nests : (k : TokenKind) (i : Span) (p : TypePlace) → Adds (type_depth p) (type_nests p) (begin_type k i p)
+unfolding type_nest
+begin_type_nests (Keyword k) i p = begin_type_keyword_nests k i p
+begin_type_nests (Sign m) i p = begin_type_sign_nests m i p
+begin_type_nests (Identifier n) i p = ends (put_type_nests p (use_type i n)) (λ ns. refl)
+begin_type_nests _ i p = stopped
 
-pub step-type-open-nests : (k : TokenKind) (i o : Span) (p : TypePlace) → Adds (depth (type-open o p)) (state-nests (type-open o p)) (step-type-open k i o p)
-unfolding type-nest
-step-type-open-nests (Word Rec) i o p = stays (λ ns. refl)
-step-type-open-nests (Identifier n) i o p = stays (λ ns. refl)
-step-type-open-nests _ i o p = stopped
+pub step_type_open_nests : (k : TokenKind) (i o : Span) (p : TypePlace) → Adds (depth (type_open o p)) (state_nests (type_open o p)) (step_type_open k i o p)
+unfolding type_nest
+step_type_open_nests (Keyword Rec) i o p = stays (λ ns. refl)
+step_type_open_nests (Identifier n) i o p = stays (λ ns. refl)
+step_type_open_nests _ i o p = stopped
 
-pub step-rec-word-nests : (k : TokenKind) (i o : Span) (p : TypePlace) → Adds (depth (rec-word o p)) (state-nests (rec-word o p)) (step-rec-word k i o p)
-step-rec-word-nests (Identifier n) i o p = stays (λ ns. refl)
-step-rec-word-nests _ i o p = stopped
+pub step_rec_keyword_nests : (k : TokenKind) (i o : Span) (p : TypePlace) → Adds (depth (rec_keyword o p)) (state_nests (rec_keyword o p)) (step_rec_keyword k i o p)
+step_rec_keyword_nests (Identifier n) i o p = stays (λ ns. refl)
+step_rec_keyword_nests _ i o p = stopped
 
-pub step-rec-name-nests : (k : TokenKind) (i o : Span) (x : Id) (p : TypePlace) → Adds (depth (rec-name o x p)) (state-nests (rec-name o x p)) (step-rec-name k i o x p)
-step-rec-name-nests (Mark Equals) i o x p = stays (λ ns. refl)
-step-rec-name-nests _ i o x p = stopped
+pub step_rec_name_nests : (k : TokenKind) (i o : Span) (x : Id) (p : TypePlace) → Adds (depth (rec_name o x p)) (state_nests (rec_name o x p)) (step_rec_name k i o x p)
+step_rec_name_nests (Sign Equals) i o x p = stays (λ ns. refl)
+step_rec_name_nests _ i o x p = stopped
 
-pub step-rec-body-nests : (k : TokenKind) (i o : Span) (x : Id) (t : TypeTree) (p : TypePlace) → Adds (depth (rec-body o x t p)) (state-nests (rec-body o x t p)) (step-rec-body k i o x t p)
-unfolding type-nest
-step-rec-body-nests (Mark CloseParen) i o x t p = closes (put-type-nests p (rec-type (join o i) x t)) (λ ns. simp append_assoc refl)
-step-rec-body-nests _ i o x t p = stopped
+pub step_rec_body_nests : (k : TokenKind) (i o : Span) (x : Id) (t : TypeTree) (p : TypePlace) → Adds (depth (rec_body o x t p)) (state_nests (rec_body o x t p)) (step_rec_body k i o x t p)
+unfolding type_nest
+step_rec_body_nests (Sign CloseParen) i o x t p = closes (put_type_nests p (rec_type (join o i) x t)) (λ ns. simp append_assoc refl)
+step_rec_body_nests _ i o x t p = stopped
 
-close-type-args-nests : (i o : Span) (x : Id) (ts : TypeTrees) (p : TypePlace) → Adds (depth (type-args o x ts p)) (state-nests (type-args o x ts p)) (close-type-args i o x ts p)
-unfolding type-nest
-close-type-args-nests i o x no-types p = stopped
-close-type-args-nests i o x (more-types ts t) p = closes (put-type-nests p (apply-type (join o i) x (more-types ts t))) (λ ns. simp append_assoc refl)
+close_operator_arguments_nests : (i o : Span) (x : Id) (ts : TypeTrees) (p : TypePlace) → Adds (depth (operator_arguments o x ts p)) (state_nests (operator_arguments o x ts p)) (close_operator_arguments i o x ts p)
+unfolding type_nest
+close_operator_arguments_nests i o x no_types p = stopped
+close_operator_arguments_nests i o x (more_types ts t) p = closes (put_type_nests p (apply_type (join o i) x (more_types ts t))) (λ ns. simp append_assoc refl)
 
-pub step-type-args-nests : (k : TokenKind) (i o : Span) (x : Id) (ts : TypeTrees) (p : TypePlace) → Adds (depth (type-args o x ts p)) (state-nests (type-args o x ts p)) (step-type-args k i o x ts p)
-step-type-args-nests (Mark CloseParen) i o x ts p = close-type-args-nests i o x ts p
-step-type-args-nests k i o x ts p = begin-type-nests k i (in-type-apply o x ts p)
+pub step_operator_arguments_nests : (k : TokenKind) (i o : Span) (x : Id) (ts : TypeTrees) (p : TypePlace) → Adds (depth (operator_arguments o x ts p)) (state_nests (operator_arguments o x ts p)) (step_operator_arguments k i o x ts p)
+step_operator_arguments_nests (Sign CloseParen) i o x ts p = close_operator_arguments_nests i o x ts p
+step_operator_arguments_nests k i o x ts p = begin_type_nests k i (in_type_apply o x ts p)
 
-pub step-types-nests : (k : TokenKind) (i o : Span) (bs : TypeBinders) (ts : TypeTrees) (p : TypePlace) → Adds (depth (after-types o bs ts p)) (state-nests (after-types o bs ts p)) (step-types k i o bs ts p)
-unfolding type-nest
-step-types-nests (Mark CloseBracket) i o bs ts p = closes (put-type-nests p (fields-type (join o i) bs ts no-labelled-types)) (λ ns. simp append_assoc refl)
-step-types-nests (Identifier n) i o bs ts p = stays (λ ns. refl)
-step-types-nests k i o bs ts p = begin-type-nests k i (in-type-field o bs ts p)
+pub step_types_nests : (k : TokenKind) (i o : Span) (bs : TypeBinders) (ts : TypeTrees) (p : TypePlace) → Adds (depth (after_types o bs ts p)) (state_nests (after_types o bs ts p)) (step_types k i o bs ts p)
+unfolding type_nest
+step_types_nests (Sign CloseBracket) i o bs ts p = closes (put_type_nests p (fields_type (join o i) bs ts no_labelled_types)) (λ ns. simp append_assoc refl)
+step_types_nests (Identifier n) i o bs ts p = stays (λ ns. refl)
+step_types_nests k i o bs ts p = begin_type_nests k i (in_type_field o bs ts p)
 
-pub step-type-name-nests : (k : TokenKind) (i o : Span) (bs : TypeBinders) (ts : TypeTrees) (x : Id) (p : TypePlace) → Adds (depth (type-name o bs ts x p)) (state-nests (type-name o bs ts x p)) (step-type-name k i o bs ts x p)
-unfolding type-nest
-step-type-name-nests (Mark Equals) i o bs ts x p = stays (λ ns. refl)
-step-type-name-nests k i o bs ts x p = behind (λ ns. simp append_assoc refl) (step-types-nests k i o bs (more-types ts (use-type x.span x.name)) p)
+pub step_type_name_nests : (k : TokenKind) (i o : Span) (bs : TypeBinders) (ts : TypeTrees) (x : Id) (p : TypePlace) → Adds (depth (type_name o bs ts x p)) (state_nests (type_name o bs ts x p)) (step_type_name k i o bs ts x p)
+unfolding type_nest
+step_type_name_nests (Sign Equals) i o bs ts x p = stays (λ ns. refl)
+step_type_name_nests k i o bs ts x p = behind (λ ns. simp append_assoc refl) (step_types_nests k i o bs (more_types ts (use_type x.span x.name)) p)
 
-pub step-type-labels-nests : (k : TokenKind) (i o : Span) (bs : TypeBinders) (ts : TypeTrees) (ls : LabelledTypes) (p : TypePlace) → Adds (depth (after-type-labels o bs ts ls p)) (state-nests (after-type-labels o bs ts ls p)) (step-type-labels k i o bs ts ls p)
-unfolding type-nest
-step-type-labels-nests (Mark CloseBracket) i o bs ts ls p = closes (put-type-nests p (fields-type (join o i) bs ts ls)) (λ ns. simp append_assoc refl)
-step-type-labels-nests (Identifier n) i o bs ts ls p = stays (λ ns. refl)
-step-type-labels-nests _ i o bs ts ls p = stopped
+pub step_type_labels_nests : (k : TokenKind) (i o : Span) (bs : TypeBinders) (ts : TypeTrees) (ls : LabelledTypes) (p : TypePlace) → Adds (depth (after_type_labels o bs ts ls p)) (state_nests (after_type_labels o bs ts ls p)) (step_type_labels k i o bs ts ls p)
+unfolding type_nest
+step_type_labels_nests (Sign CloseBracket) i o bs ts ls p = closes (put_type_nests p (fields_type (join o i) bs ts ls)) (λ ns. simp append_assoc refl)
+step_type_labels_nests (Identifier n) i o bs ts ls p = stays (λ ns. refl)
+step_type_labels_nests _ i o bs ts ls p = stopped
 
-pub step-type-label-nests : (k : TokenKind) (i o : Span) (bs : TypeBinders) (ts : TypeTrees) (ls : LabelledTypes) (x : Id) (p : TypePlace) → Adds (depth (type-label o bs ts ls x p)) (state-nests (type-label o bs ts ls x p)) (step-type-label k i o bs ts ls x p)
-step-type-label-nests (Mark Equals) i o bs ts ls x p = stays (λ ns. refl)
-step-type-label-nests _ i o bs ts ls x p = stopped
+pub step_type_label_nests : (k : TokenKind) (i o : Span) (bs : TypeBinders) (ts : TypeTrees) (ls : LabelledTypes) (x : Id) (p : TypePlace) → Adds (depth (type_label o bs ts ls x p)) (state_nests (type_label o bs ts ls x p)) (step_type_label k i o bs ts ls x p)
+step_type_label_nests (Sign Equals) i o bs ts ls x p = stays (λ ns. refl)
+step_type_label_nests _ i o bs ts ls x p = stopped
 
-pub step-type-binders-nests : (k : TokenKind) (i o : Span) (bs : TypeBinders) (p : TypePlace) → Adds (depth (after-type-binders o bs p)) (state-nests (after-type-binders o bs p)) (step-type-binders k i o bs p)
-unfolding type-nest
-step-type-binders-nests (Mark Hash) i o bs p = stays (λ ns. refl)
-step-type-binders-nests k i o bs p = step-types-nests k i o bs no-types p
+pub step_type_binders_nests : (k : TokenKind) (i o : Span) (bs : TypeBinders) (p : TypePlace) → Adds (depth (after_type_binders o bs p)) (state_nests (after_type_binders o bs p)) (step_type_binders k i o bs p)
+unfolding type_nest
+step_type_binders_nests (Sign Hash) i o bs p = stays (λ ns. refl)
+step_type_binders_nests k i o bs p = step_types_nests k i o bs no_types p
 
 -- patterns
-pub begin-pat-nests : (k : TokenKind) (i : Span) (p : PatPlace) → Adds (pat-depth p) (pattern-nests p) (begin-pat k i p)
-unfolding type-nest
-begin-pat-nests (Identifier n) i p = stays (λ ns. refl)
-begin-pat-nests (Mark Underscore) i p = stays (λ ns. refl)
-begin-pat-nests (Mark OpenBracket) i p = opens refl (λ ns. refl)
-begin-pat-nests (Mark OpenParen) i p = opens refl (λ ns. refl)
-begin-pat-nests _ i p = stopped
+pub begin_pattern_nests : (k : TokenKind) (i : Span) (p : PatternPlace) → Adds (pattern_depth p) (pattern_nests p) (begin_pattern k i p)
+unfolding type_nest
+begin_pattern_nests (Identifier n) i p = stays (λ ns. refl)
+begin_pattern_nests (Sign Underscore) i p = stays (λ ns. refl)
+begin_pattern_nests (Sign OpenBracket) i p = opens refl (λ ns. refl)
+begin_pattern_nests (Sign OpenParen) i p = opens refl (λ ns. refl)
+begin_pattern_nests _ i p = stopped
 
-pub step-pat-open-nests : (k : TokenKind) (i o : Span) (p : PatPlace) → Adds (depth (pat-open o p)) (state-nests (pat-open o p)) (step-pat-open k i o p)
-step-pat-open-nests (Word Rec) i o p = stays (λ ns. refl)
-step-pat-open-nests _ i o p = stopped
+pub step_pattern_open_nests : (k : TokenKind) (i o : Span) (p : PatternPlace) → Adds (depth (pattern_open o p)) (state_nests (pattern_open o p)) (step_pattern_open k i o p)
+step_pattern_open_nests (Keyword Rec) i o p = stays (λ ns. refl)
+step_pattern_open_nests _ i o p = stopped
 
-pub step-pat-rec-nests : (k : TokenKind) (i o : Span) (p : PatPlace) → Adds (depth (pat-rec o p)) (state-nests (pat-rec o p)) (step-pat-rec k i o p)
-step-pat-rec-nests (Mark Colon) i o p = stays (λ ns. refl)
-step-pat-rec-nests k i o p = begin-pat-nests k i (in-fold-pat o None p)
+pub step_pattern_rec_nests : (k : TokenKind) (i o : Span) (p : PatternPlace) → Adds (depth (pattern_rec o p)) (state_nests (pattern_rec o p)) (step_pattern_rec k i o p)
+step_pattern_rec_nests (Sign Colon) i o p = stays (λ ns. refl)
+step_pattern_rec_nests k i o p = begin_pattern_nests k i (in_fold_pattern o None p)
 
-pub step-pat-folded-nests : (k : TokenKind) (i o : Span) (r : RType) (q : Pat) (p : PatPlace) → Adds (depth (pat-folded o r q p)) (state-nests (pat-folded o r q p)) (step-pat-folded k i o r q p)
-unfolding pat-nest
-step-pat-folded-nests (Mark CloseParen) i o r q p = closes (put-pat-nests (fold-pat (join o i) r q) p) (λ ns. simp append_assoc refl)
-step-pat-folded-nests _ i o r q p = stopped
+pub step_pattern_folded_nests : (k : TokenKind) (i o : Span) (r : RType) (q : Pat) (p : PatternPlace) → Adds (depth (pattern_folded o r q p)) (state_nests (pattern_folded o r q p)) (step_pattern_folded k i o r q p)
+unfolding pat_nest
+step_pattern_folded_nests (Sign CloseParen) i o r q p = closes (put_pattern_nests (fold_pat (join o i) r q) p) (λ ns. simp append_assoc refl)
+step_pattern_folded_nests _ i o r q p = stopped
 
-close-pats-nests : (m : Sign) (i : Span) (p : FieldPatsPlace) (f : FieldPats) → Adds (pats-depth p) (λ ns. patterns-nests p (field-pats-nest (pats-depth p) f ++ ns)) (close-pats m i p f)
-unfolding pat-nest
-close-pats-nests CloseBracket i (in-pat-record o p) f = closes (put-pat-nests (fields-pat (join o i) f) p) (λ ns. simp append_assoc refl)
-close-pats-nests CloseParen i (in-params o p) f = shuts (λ ns. refl)
-close-pats-nests _ i p f = stopped
+close_patterns_nests : (m : AnySign) (i : Span) (p : FieldPatternsPlace) (f : FieldPats) → Adds (patterns_depth p) (λ ns. patterns_nests p (field_pats_nest (patterns_depth p) f ++ ns)) (close_patterns m i p f)
+unfolding pat_nest
+close_patterns_nests CloseBracket i (in_pattern_record o p) f = closes (put_pattern_nests (fields_pat (join o i) f) p) (λ ns. simp append_assoc refl)
+close_patterns_nests CloseParen i (in_parameters o p) f = shuts (λ ns. refl)
+close_patterns_nests _ i p f = stopped
 
-pub step-pats-nests : (k : TokenKind) (i : Span) (p : FieldPatsPlace) (bs : TypeBinders) (ps : Pats) → Adds (depth (after-pats p bs ps)) (state-nests (after-pats p bs ps)) (step-pats k i p bs ps)
-unfolding pat-nest
-step-pats-nests (Mark CloseBracket) i p bs ps = behind (λ ns. simp (append_assoc, append-nil) refl) (close-pats-nests CloseBracket i p (field-pats bs ps no-labelled-pats))
-step-pats-nests (Mark CloseParen) i p bs ps = behind (λ ns. simp (append_assoc, append-nil) refl) (close-pats-nests CloseParen i p (field-pats bs ps no-labelled-pats))
-step-pats-nests (Identifier n) i p bs ps = stays (λ ns. refl)
-step-pats-nests k i p bs ps = begin-pat-nests k i (in-field-pat p bs ps)
+pub step_patterns_nests : (k : TokenKind) (i : Span) (p : FieldPatternsPlace) (bs : TypeBinders) (ps : Pats) → Adds (depth (after_patterns p bs ps)) (state_nests (after_patterns p bs ps)) (step_patterns k i p bs ps)
+unfolding pat_nest
+step_patterns_nests (Sign CloseBracket) i p bs ps = behind (λ ns. simp (append_assoc, append-nil) refl) (close_patterns_nests CloseBracket i p (field_pats bs ps no_labelled_pats))
+step_patterns_nests (Sign CloseParen) i p bs ps = behind (λ ns. simp (append_assoc, append-nil) refl) (close_patterns_nests CloseParen i p (field_pats bs ps no_labelled_pats))
+step_patterns_nests (Identifier n) i p bs ps = stays (λ ns. refl)
+step_patterns_nests k i p bs ps = begin_pattern_nests k i (in_field_pattern p bs ps)
 
-pub step-pat-labels-nests : (k : TokenKind) (i : Span) (p : FieldPatsPlace) (bs : TypeBinders) (ps : Pats) (ls : LabelledPats) → Adds (depth (after-pat-labels p bs ps ls)) (state-nests (after-pat-labels p bs ps ls)) (step-pat-labels k i p bs ps ls)
-unfolding pat-nest
-step-pat-labels-nests (Mark CloseBracket) i p bs ps ls = behind (λ ns. simp append_assoc refl) (close-pats-nests CloseBracket i p (field-pats bs ps ls))
-step-pat-labels-nests (Mark CloseParen) i p bs ps ls = behind (λ ns. simp append_assoc refl) (close-pats-nests CloseParen i p (field-pats bs ps ls))
-step-pat-labels-nests (Identifier n) i p bs ps ls = stays (λ ns. refl)
-step-pat-labels-nests _ i p bs ps ls = stopped
+pub step_pattern_labels_nests : (k : TokenKind) (i : Span) (p : FieldPatternsPlace) (bs : TypeBinders) (ps : Pats) (ls : LabelledPats) → Adds (depth (after_pattern_labels p bs ps ls)) (state_nests (after_pattern_labels p bs ps ls)) (step_pattern_labels k i p bs ps ls)
+unfolding pat_nest
+step_pattern_labels_nests (Sign CloseBracket) i p bs ps ls = behind (λ ns. simp append_assoc refl) (close_patterns_nests CloseBracket i p (field_pats bs ps ls))
+step_pattern_labels_nests (Sign CloseParen) i p bs ps ls = behind (λ ns. simp append_assoc refl) (close_patterns_nests CloseParen i p (field_pats bs ps ls))
+step_pattern_labels_nests (Identifier n) i p bs ps ls = stays (λ ns. refl)
+step_pattern_labels_nests _ i p bs ps ls = stopped
 
-pub step-pat-label-nests : (k : TokenKind) (i : Span) (p : FieldPatsPlace) (bs : TypeBinders) (ps : Pats) (ls : LabelledPats) (x : Id) → Adds (depth (pat-label p bs ps ls x)) (state-nests (pat-label p bs ps ls x)) (step-pat-label k i p bs ps ls x)
-step-pat-label-nests (Mark Equals) i p bs ps ls x = stays (λ ns. refl)
-step-pat-label-nests _ i p bs ps ls x = stopped
+pub step_pattern_label_nests : (k : TokenKind) (i : Span) (p : FieldPatternsPlace) (bs : TypeBinders) (ps : Pats) (ls : LabelledPats) (x : Id) → Adds (depth (pattern_label p bs ps ls x)) (state_nests (pattern_label p bs ps ls x)) (step_pattern_label k i p bs ps ls x)
+step_pattern_label_nests (Sign Equals) i p bs ps ls x = stays (λ ns. refl)
+step_pattern_label_nests _ i p bs ps ls x = stopped
 
-pub step-binders-nests : (k : TokenKind) (i : Span) (p : FieldPatsPlace) (bs : TypeBinders) → Adds (depth (after-binders p bs)) (state-nests (after-binders p bs)) (step-binders k i p bs)
-unfolding pat-nest
-step-binders-nests (Mark Hash) i p bs = stays (λ ns. refl)
-step-binders-nests k i p bs = step-pats-nests k i p bs no-pats
+pub step_binders_nests : (k : TokenKind) (i : Span) (p : FieldPatternsPlace) (bs : TypeBinders) → Adds (depth (after_binders p bs)) (state_nests (after_binders p bs)) (step_binders k i p bs)
+unfolding pat_nest
+step_binders_nests (Sign Hash) i p bs = stays (λ ns. refl)
+step_binders_nests k i p bs = step_patterns_nests k i p bs no_pats
 
-pub step-let-pat-nests : (k : TokenKind) (i j : Span) (q : Pat) (p : DecPlace) → Adds (depth (let-pat j q p)) (state-nests (let-pat j q p)) (step-let-pat k i j q p)
-step-let-pat-nests (Mark Equals) i j q p = stays (λ ns. refl)
-step-let-pat-nests _ i j q p = stopped
+pub step_let_pattern_nests : (k : TokenKind) (i j : Span) (q : Pat) (p : DeclarationPlace) → Adds (depth (let_pattern j q p)) (state_nests (let_pattern j q p)) (step_let_pattern k i j q p)
+step_let_pattern_nests (Sign Equals) i j q p = stays (λ ns. refl)
+step_let_pattern_nests _ i j q p = stopped
 
-pub step-abs-pat-nests : (k : TokenKind) (i : Span) (q : Pat) (p : AbsPlace) → Adds (depth (abs-pat q p)) (state-nests (abs-pat q p)) (step-abs-pat k i q p)
-step-abs-pat-nests (Mark Equals) i q p = stays (λ ns. refl)
-step-abs-pat-nests _ i q p = stopped
+pub step_abstraction_pattern_nests : (k : TokenKind) (i : Span) (q : Pat) (p : AbstractionPlace) → Adds (depth (abstraction_pattern q p)) (state_nests (abstraction_pattern q p)) (step_abstraction_pattern k i q p)
+step_abstraction_pattern_nests (Sign Equals) i q p = stays (λ ns. refl)
+step_abstraction_pattern_nests _ i q p = stopped
 
-step-pat-nests : (k : TokenKind) (i : Span) (q : Pat) (p : PatPlace) → Adds (pat-depth p) (λ ns. pattern-nests p (pat-nest (pat-depth p) q ++ ns)) (step-pat k i q p)
-step-pat-nests k i q (in-let-pat j p) = behind (put-pat-nests q (in-let-pat j p)).joins (step-let-pat-nests k i j q p)
-step-pat-nests k i q (in-abs-pat p) = behind (put-pat-nests q (in-abs-pat p)).joins (step-abs-pat-nests k i q p)
-step-pat-nests k i q (in-fold-pat o r p) = behind (put-pat-nests q (in-fold-pat o r p)).joins (step-pat-folded-nests k i o r q p)
-step-pat-nests k i q (in-field-pat p bs ps) = behind (put-pat-nests q (in-field-pat p bs ps)).joins (step-pats-nests k i p bs (more-pats ps q))
-step-pat-nests k i q (in-label-pat p bs ps ls x) = behind (put-pat-nests q (in-label-pat p bs ps ls x)).joins (step-pat-labels-nests k i p bs ps (more-labelled-pats ls x q))
+step_pattern_nests : (k : TokenKind) (i : Span) (q : Pat) (p : PatternPlace) → Adds (pattern_depth p) (λ ns. pattern_nests p (pat_nest (pattern_depth p) q ++ ns)) (step_pattern k i q p)
+step_pattern_nests k i q (in_let_pattern j p) = behind (put_pattern_nests q (in_let_pattern j p)).joins (step_let_pattern_nests k i j q p)
+step_pattern_nests k i q (in_abstraction_pattern p) = behind (put_pattern_nests q (in_abstraction_pattern p)).joins (step_abstraction_pattern_nests k i q p)
+step_pattern_nests k i q (in_fold_pattern o r p) = behind (put_pattern_nests q (in_fold_pattern o r p)).joins (step_pattern_folded_nests k i o r q p)
+step_pattern_nests k i q (in_field_pattern p bs ps) = behind (put_pattern_nests q (in_field_pattern p bs ps)).joins (step_patterns_nests k i p bs (more_pats ps q))
+step_pattern_nests k i q (in_label_pattern p bs ps ls x) = behind (put_pattern_nests q (in_label_pattern p bs ps ls x)).joins (step_pattern_labels_nests k i p bs ps (more_labelled_pats ls x q))
 
-pub step-bind-nests : (k : TokenKind) (i : Span) (x : Id) (p : PatPlace) → Adds (depth (have-bind x p)) (state-nests (have-bind x p)) (step-bind k i x p)
-unfolding pat-nest
-step-bind-nests (Mark Colon) i x p = stays (λ ns. refl)
-step-bind-nests k i x p = step-pat-nests k i (bind-pat x.span x None) p
+pub step_bind_nests : (k : TokenKind) (i : Span) (x : Id) (p : PatternPlace) → Adds (depth (have_bind x p)) (state_nests (have_bind x p)) (step_bind k i x p)
+unfolding pat_nest
+step_bind_nests (Sign Colon) i x p = stays (λ ns. refl)
+step_bind_nests k i x p = step_pattern_nests k i (bind_pat x.span x None) p
 
-pub step-any-nests : (k : TokenKind) (i j : Span) (p : PatPlace) → Adds (depth (have-any j p)) (state-nests (have-any j p)) (step-any k i j p)
-unfolding pat-nest
-step-any-nests (Mark Colon) i j p = stays (λ ns. refl)
-step-any-nests k i j p = step-pat-nests k i (any-pat j None) p
+pub step_any_nests : (k : TokenKind) (i j : Span) (p : PatternPlace) → Adds (depth (have_any j p)) (state_nests (have_any j p)) (step_any k i j p)
+unfolding pat_nest
+step_any_nests (Sign Colon) i j p = stays (λ ns. refl)
+step_any_nests k i j p = step_pattern_nests k i (any_pat j None) p
 
-pub step-pat-name-nests : (k : TokenKind) (i : Span) (p : FieldPatsPlace) (bs : TypeBinders) (ps : Pats) (x : Id) → Adds (depth (pat-name p bs ps x)) (state-nests (pat-name p bs ps x)) (step-pat-name k i p bs ps x)
-unfolding pat-nest
-step-pat-name-nests (Mark Equals) i p bs ps x = stays (λ ns. refl)
-step-pat-name-nests k i p bs ps x = step-bind-nests k i x (in-field-pat p bs ps)
+pub step_pattern_name_nests : (k : TokenKind) (i : Span) (p : FieldPatternsPlace) (bs : TypeBinders) (ps : Pats) (x : Id) → Adds (depth (pattern_name p bs ps x)) (state_nests (pattern_name p bs ps x)) (step_pattern_name k i p bs ps x)
+unfolding pat_nest
+step_pattern_name_nests (Sign Equals) i p bs ps x = stays (λ ns. refl)
+step_pattern_name_nests k i p bs ps x = step_bind_nests k i x (in_field_pattern p bs ps)
 
 -- type binders
-step-binder-nests : (k : TokenKind) (i : Span) (b : TypeBinder) (p : BinderPlace) → Adds (binder-depth p) (λ ns. binder-nests p (binder-nest (binder-depth p) b ++ ns)) (step-binder k i b p)
-step-binder-nests k i b (of-pats p bs) = behind (put-binder-nests b (of-pats p bs)).joins (step-binders-nests k i p (more-binders bs b))
-step-binder-nests k i b (of-types o bs p) = behind (put-binder-nests b (of-types o bs p)).joins (step-type-binders-nests k i o (more-binders bs b) p)
+step_binder_nests : (k : TokenKind) (i : Span) (b : TypeBinder) (p : BinderPlace) → Adds (binder_depth p) (λ ns. binder_nests p (binder_nest (binder_depth p) b ++ ns)) (step_binder k i b p)
+step_binder_nests k i b (of_patterns p bs) = behind (put_binder_nests b (of_patterns p bs)).joins (step_binders_nests k i p (more_binders bs b))
+step_binder_nests k i b (of_types o bs p) = behind (put_binder_nests b (of_types o bs p)).joins (step_type_binders_nests k i o (more_binders bs b) p)
 
-pub step-hash-nests : (k : TokenKind) (i h : Span) (p : BinderPlace) → Adds (depth (binder-hash h p)) (state-nests (binder-hash h p)) (step-hash k i h p)
-step-hash-nests (Identifier n) i h p = stays (λ ns. refl)
-step-hash-nests _ i h p = stopped
+pub step_hash_nests : (k : TokenKind) (i h : Span) (p : BinderPlace) → Adds (depth (binder_hash h p)) (state_nests (binder_hash h p)) (step_hash k i h p)
+step_hash_nests (Identifier n) i h p = stays (λ ns. refl)
+step_hash_nests _ i h p = stopped
 
-pub step-binder-name-nests : (k : TokenKind) (i h : Span) (x : Id) (p : BinderPlace) → Adds (depth (binder-name h x p)) (state-nests (binder-name h x p)) (step-binder-name k i h x p)
-unfolding type-nest
-step-binder-name-nests (Mark Colon) i h x p = stays (λ ns. refl)
-step-binder-name-nests (Mark Less) i h x p = stays (λ ns. refl)
-step-binder-name-nests k i h x p = step-binder-nests k i (type-binder (join h x.span) x None no-bound) p
+pub step_binder_name_nests : (k : TokenKind) (i h : Span) (x : Id) (p : BinderPlace) → Adds (depth (binder_name h x p)) (state_nests (binder_name h x p)) (step_binder_name k i h x p)
+unfolding type_nest
+step_binder_name_nests (Sign Colon) i h x p = stays (λ ns. refl)
+step_binder_name_nests (Sign Less) i h x p = stays (λ ns. refl)
+step_binder_name_nests k i h x p = step_binder_nests k i (type_binder (join h x.span) x None unbounded) p
 
-pub step-need-kind-nests : (k : TokenKind) (i h : Span) (x : Id) (p : BinderPlace) → Adds (depth (need-kind h x p)) (state-nests (need-kind h x p)) (step-need-kind k i h x p)
-unfolding words
-step-need-kind-nests (Word TypeKind) i h x p = stays (λ ns. refl)
-step-need-kind-nests (Mark OpenParen) i h x p = opens refl (λ ns. refl)
-step-need-kind-nests _ i h x p = stopped
+pub step_need_kind_nests : (k : TokenKind) (i h : Span) (x : Id) (p : BinderPlace) → Adds (depth (need_kind h x p)) (state_nests (need_kind h x p)) (step_need_kind k i h x p)
+unfolding times_nest
+step_need_kind_nests (Keyword TypeKind) i h x p = stays (λ ns. refl)
+step_need_kind_nests (Sign OpenParen) i h x p = opens refl (λ ns. refl)
+step_need_kind_nests _ i h x p = stopped
 
-words-more : (n d : ℕ) (ns : List ℕ) → words (suc n) d ++ ns ≡ words n d ++ (d ∷ ns)
-unfolding words
-words-more zero d ns = refl
-words-more (suc n) d ns = ap (λ l. d ∷ l) (words-more n d ns)
+times_more : (n d : ℕ) (ns : List ℕ) → times_nest (suc n) d ++ ns ≡ times_nest n d ++ (d ∷ ns)
+unfolding times_nest
+times_more zero d ns = refl
+times_more (suc n) d ns = ap (λ l. d ∷ l) (times_more n d ns)
 
-kind-arrow-nests : (h : Span) (x : Id) (n : ℕ) (p : BinderPlace) → Adds (depth (kind-args h x n p)) (state-nests (kind-args h x n p)) (kind-arrow-at h x n p)
-kind-arrow-nests h x zero p = stopped
-kind-arrow-nests h x (suc n) p = stays (λ ns. refl)
+kind_arrow_nests : (h : Span) (x : Id) (n : ℕ) (p : BinderPlace) → Adds (depth (kind_arguments h x n p)) (state_nests (kind_arguments h x n p)) (kind_arrow_at h x n p)
+kind_arrow_nests h x zero p = stopped
+kind_arrow_nests h x (suc n) p = stays (λ ns. refl)
 
-pub step-kind-args-nests : (k : TokenKind) (i h : Span) (x : Id) (n : ℕ) (p : BinderPlace) → Adds (depth (kind-args h x n p)) (state-nests (kind-args h x n p)) (step-kind-args k i h x n p)
-step-kind-args-nests (Word TypeKind) i h x n p = stays (λ ns. ap (λ l. binder-nests p (binder-depth p ∷ (binder-depth p ∷ (binder-depth p ∷ (suc (binder-depth p) ∷ l))))) (words-more n (suc (binder-depth p)) ns))
-step-kind-args-nests (Mark Arrow) i h x n p = kind-arrow-nests h x n p
-step-kind-args-nests _ i h x n p = stopped
+pub step_kind_arguments_nests : (k : TokenKind) (i h : Span) (x : Id) (n : ℕ) (p : BinderPlace) → Adds (depth (kind_arguments h x n p)) (state_nests (kind_arguments h x n p)) (step_kind_arguments k i h x n p)
+step_kind_arguments_nests (Keyword TypeKind) i h x n p = stays (λ ns. ap (λ l. binder_nests p (binder_depth p ∷ (binder_depth p ∷ (binder_depth p ∷ (suc (binder_depth p) ∷ l))))) (times_more n (suc (binder_depth p)) ns))
+step_kind_arguments_nests (Sign Arrow) i h x n p = kind_arrow_nests h x n p
+step_kind_arguments_nests _ i h x n p = stopped
 
-pub step-kind-arrow-nests : (k : TokenKind) (i h : Span) (x : Id) (n : ℕ) (p : BinderPlace) → Adds (depth (kind-arrow h x n p)) (state-nests (kind-arrow h x n p)) (step-kind-arrow k i h x n p)
-step-kind-arrow-nests (Word TypeKind) i h x n p = stays (λ ns. refl)
-step-kind-arrow-nests _ i h x n p = stopped
+pub step_kind_arrow_nests : (k : TokenKind) (i h : Span) (x : Id) (n : ℕ) (p : BinderPlace) → Adds (depth (kind_arrow h x n p)) (state_nests (kind_arrow h x n p)) (step_kind_arrow k i h x n p)
+step_kind_arrow_nests (Keyword TypeKind) i h x n p = stays (λ ns. refl)
+step_kind_arrow_nests _ i h x n p = stopped
 
-pub step-kind-result-nests : (k : TokenKind) (i h : Span) (x : Id) (n : ℕ) (p : BinderPlace) → Adds (depth (kind-result h x n p)) (state-nests (kind-result h x n p)) (step-kind-result k i h x n p)
-step-kind-result-nests (Mark CloseParen) i h x n p = shuts (λ ns. simp append_assoc refl)
-step-kind-result-nests _ i h x n p = stopped
+pub step_kind_result_nests : (k : TokenKind) (i h : Span) (x : Id) (n : ℕ) (p : BinderPlace) → Adds (depth (kind_result h x n p)) (state_nests (kind_result h x n p)) (step_kind_result k i h x n p)
+step_kind_result_nests (Sign CloseParen) i h x n p = shuts (λ ns. simp append_assoc refl)
+step_kind_result_nests _ i h x n p = stopped
 
-pub step-binder-kind-nests : (k : TokenKind) (i h : Span) (x : Id) (c : KindTree) (j : Span) (p : BinderPlace) → Adds (depth (binder-kind h x c j p)) (state-nests (binder-kind h x c j p)) (step-binder-kind k i h x c j p)
-unfolding type-nest
-step-binder-kind-nests (Mark Less) i h x c j p = stays (λ ns. refl)
-step-binder-kind-nests k i h x c j p = behind (λ ns. simp append-nil refl) (step-binder-nests k i (type-binder (join h j) x (Some c) no-bound) p)
+pub step_binder_kind_nests : (k : TokenKind) (i h : Span) (x : Id) (c : KindTree) (j : Span) (p : BinderPlace) → Adds (depth (binder_kind h x c j p)) (state_nests (binder_kind h x c j p)) (step_binder_kind k i h x c j p)
+unfolding type_nest
+step_binder_kind_nests (Sign Less) i h x c j p = stays (λ ns. refl)
+step_binder_kind_nests k i h x c j p = behind (λ ns. simp append-nil refl) (step_binder_nests k i (type_binder (join h j) x (Some c) unbounded) p)

@@ -5,214 +5,214 @@ use Rattle.pict_syntax.specs.declared.id.Id.{Id}
 use Rattle.pict_syntax.specs.declared.type_tree.KindTree.{KindTree}
 use Rattle.pict_syntax.specs.declared.type_tree.KindTree.TheVariants.{Plain, Operator}
 use Rattle.pict_syntax.specs.declared.token.TokenKind.{TokenKind}
-use Rattle.pict_syntax.specs.declared.token.TokenKind.TheVariants.{Identifier, Mark}
+use Rattle.pict_syntax.specs.declared.token.TokenKind.TheVariants.{Identifier, Sign}
 use Rattle.pict_syntax.specs.declared.token.Keyword.TheVariants.{TypeKind}
 use Rattle.pict_syntax.specs.declared.token.Sign.TheVariants.{Equals, CloseParen, CloseBracket, Colon, Less, Hash}
-use Rattle.pict_syntax.specs.Trees.{TypeTree, top-type, int-type, char-type, string-type, bool-type, use-type, both-type, read-type, write-type, respond-type, fields-type, apply-type, rec-type, TypeBinder, type-binder, no-bound, bound, TypeTrees, no-types, more-types, TypeBinders, no-binders, more-binders, LabelledTypes, no-labelled-types, more-labelled-types}
-use Rattle.pict_syntax.specs.Phrases.{Phrase, ◌▸◌, word, mark, ident, times, join}
-use Rattle.pict_syntax.specs.Grammar.{type-span, IsKind, IsType, AreTypes, AreLabelledTypes, IsBinder, AreBinders}
-use Rattle.pict_automaton.specs.Places.{State, both, read, write, respond, TypePlace, in-prefix, in-type-field, in-type-label, in-type-apply, in-rec, in-bound, BinderPlace, of-pats, of-types, after-binders, binder-hash, binder-name, need-kind, kind-args, binder-kind, need-type, type-args, after-type-binders, after-types, type-name, after-type-labels, type-label}
-use Rattle.pict_automaton.specs.Machine.{step, put-type, put-binder}
-use Rattle.pict_automaton.proofs.Reading.{anything, next, Reads, Falls, then-any, one, first, some-word, first-word, first-mark, empty, no-reads, then-falls, falls-then, always, falls, led-reads, between-reads, at-some, some-then, Starts, starts-at, starts-led, starts-between, starts-never, starts-with, starts-also, Leads, leads-nothing, leads-more, leads-both, calm-next, then-next, then-leads, weaken}
-use Rattle.pict_automaton.proofs.Ahead.{Unbound, Calm, calm-unbound, BeginsType, StartsType, starts-calm, BeginsBinder, binder-unbound}
+use Rattle.pict_syntax.specs.Trees.{TypeTree, top_type, int_type, char_type, string_type, bool_type, use_type, both_type, read_type, write_type, respond_type, fields_type, apply_type, rec_type, TypeBinder, type_binder, unbounded, bound, TypeTrees, no_types, more_types, TypeBinders, no_binders, more_binders, LabelledTypes, no_labelled_types, more_labelled_types}
+use Rattle.pict_syntax.specs.Phrases.{Phrase, ◌▸◌, keyword, sign, ident, times, join}
+use Rattle.pict_syntax.specs.Grammar.{type_span, IsKind, IsType, AreTypes, AreLabelledTypes, IsBinder, AreBinders}
+use Rattle.pict_automaton.specs.Places.{State, both, read, write, respond, TypePlace, in_prefix, in_type_field, in_type_label, in_type_apply, in_rec, in_bound, BinderPlace, of_patterns, of_types, after_binders, binder_hash, binder_name, need_kind, kind_arguments, binder_kind, need_type, operator_arguments, after_type_binders, after_types, type_name, after_type_labels, type_label}
+use Rattle.pict_automaton.specs.Machine.{step, put_type, put_binder}
+use Rattle.pict_automaton.proofs.Reading.{anything, next, Reads, Falls, then_any, one, first, some_keyword, first_keyword, first_sign, empty, no_reads, then_falls, falls_then, always, falls, led_reads, between_reads, at_some, some_then, Starts, starts_at, starts_led, starts_between, starts_never, starts_with, starts_also, Leads, leads_nothing, leads_more, leads_both, calm_next, then_next, then_leads, weaken}
+use Rattle.pict_automaton.proofs.Ahead.{Unbound, Calm, calm_unbound, BeginsType, StartsType, starts_calm, BeginsBinder, binder_unbound}
 
-reads-times : (n : ℕ) (h : Span) (x : Id) (p : BinderPlace) → Reads anything (kind-args h x zero p) (times n (word TypeKind)) (kind-args h x n p)
+reads_times : (n : ℕ) (h : Span) (x : Id) (p : BinderPlace) → Reads anything (kind_arguments h x zero p) (times n (keyword TypeKind)) (kind_arguments h x n p)
 unfolding times
-reads-times zero h x p = empty
-reads-times (suc n) h x p = then-any (reads-times n h x p) (some-word (λ i. refl))
+reads_times zero h x p = empty
+reads_times (suc n) h x p = then_any (reads_times n h x p) (some_keyword (λ i. refl))
 
-pub reads-kind : (k : KindTree) (j h : Span) (x : Id) (p : BinderPlace) → Reads anything (need-kind h x p) (IsKind k j) (binder-kind h x k j p)
-reads-kind Plain j h x p = one refl
-reads-kind (Operator zero) j h x p = no-reads
-reads-kind (Operator (suc n)) j h x p =
-    first-mark (λ i. refl)
-    (then-any (reads-times n h x p)
-    (first-word (λ i. refl) (first-mark (λ i. refl) (first-word (λ i. refl) (one refl)))))
+pub reads_kind : (k : KindTree) (j h : Span) (x : Id) (p : BinderPlace) → Reads anything (need_kind h x p) (IsKind k j) (binder_kind h x k j p)
+reads_kind Plain j h x p = one refl
+reads_kind (Operator zero) j h x p = no_reads
+reads_kind (Operator (suc n)) j h x p =
+    first_sign (λ i. refl)
+    (then_any (reads_times n h x p)
+    (first_keyword (λ i. refl) (first_sign (λ i. refl) (first_keyword (λ i. refl) (one refl)))))
 
 -- a type begins with one of its tokens
-pub starts-type : (t : TypeTree) → Starts StartsType (IsType t)
+pub starts_type : (t : TypeTree) → Starts StartsType (IsType t)
 unfolding IsType
-starts-type (top-type s) = starts-at tt
-starts-type (int-type s) = starts-at tt
-starts-type (char-type s) = starts-at tt
-starts-type (string-type s) = starts-at tt
-starts-type (bool-type s) = starts-at tt
-starts-type (use-type s n) = starts-at tt
-starts-type (both-type s t) = starts-led (type-span t) tt
-starts-type (read-type s t) = starts-led (type-span t) tt
-starts-type (write-type s t) = starts-led (type-span t) tt
-starts-type (respond-type s t) = starts-led (type-span t) tt
-starts-type (fields-type s bs ts ls) = starts-between tt
-starts-type (apply-type s x no-types) = starts-never
-starts-type (apply-type s x (more-types ts t)) = starts-between tt
-starts-type (rec-type s x t) = starts-between tt
+starts_type (top_type s) = starts_at tt
+starts_type (int_type s) = starts_at tt
+starts_type (char_type s) = starts_at tt
+starts_type (string_type s) = starts_at tt
+starts_type (bool_type s) = starts_at tt
+starts_type (use_type s n) = starts_at tt
+starts_type (both_type s t) = starts_led (type_span t) tt
+starts_type (read_type s t) = starts_led (type_span t) tt
+starts_type (write_type s t) = starts_led (type_span t) tt
+starts_type (respond_type s t) = starts_led (type_span t) tt
+starts_type (fields_type s bs ts ls) = starts_between tt
+starts_type (apply_type s x no_types) = starts_never
+starts_type (apply_type s x (more_types ts t)) = starts_between tt
+starts_type (rec_type s x t) = starts_between tt
 
 -- in a record type an identifier may be a type or a label
-field-other : {L : Phrase} {y : State} (o : Span) (bs : TypeBinders) (ts : TypeTrees) (p : TypePlace) → Starts BeginsType L → Reads anything (need-type (in-type-field o bs ts p)) L y → Reads (next Calm) (after-types o bs ts p) L y
-field-other o bs ts p s f = falls-then (λ l r h c. s.begins l r h) (falls same) (always f)
+field_other : {L : Phrase} {y : State} (o : Span) (bs : TypeBinders) (ts : TypeTrees) (p : TypePlace) → Starts BeginsType L → Reads anything (need_type (in_type_field o bs ts p)) L y → Reads (next Calm) (after_types o bs ts p) L y
+field_other o bs ts p s f = falls_then (λ l r h c. s.begins l r h) (falls same) (always f)
   where
-    same : (k : TokenKind) (i : Span) → BeginsType k → step k i (after-types o bs ts p) ≡ step k i (need-type (in-type-field o bs ts p))
-    same (Mark CloseBracket) i h = absurd h
+    same : (k : TokenKind) (i : Span) → BeginsType k → step k i (after_types o bs ts p) ≡ step k i (need_type (in_type_field o bs ts p))
+    same (Sign CloseBracket) i h = absurd h
     same (Identifier n) i h = absurd h
     same k i h = refl
 
-name-falls : (o : Span) (bs : TypeBinders) (ts : TypeTrees) (x : Id) (p : TypePlace) → Falls (next Calm) (type-name o bs ts x p) (after-types o bs (more-types ts (use-type x.span x.name)) p)
-name-falls o bs ts x p = falls same
+name_falls : (o : Span) (bs : TypeBinders) (ts : TypeTrees) (x : Id) (p : TypePlace) → Falls (next Calm) (type_name o bs ts x p) (after_types o bs (more_types ts (use_type x.span x.name)) p)
+name_falls o bs ts x p = falls same
   where
-    same : (k : TokenKind) (i : Span) → Calm k → step k i (type-name o bs ts x p) ≡ step k i (after-types o bs (more-types ts (use-type x.span x.name)) p)
-    same (Mark Equals) i h = absurd h
+    same : (k : TokenKind) (i : Span) → Calm k → step k i (type_name o bs ts x p) ≡ step k i (after_types o bs (more_types ts (use_type x.span x.name)) p)
+    same (Sign Equals) i h = absurd h
     same k i h = refl
 
-field-type : (t : TypeTree) (o : Span) (bs : TypeBinders) (ts : TypeTrees) (p : TypePlace) → Reads anything (need-type (in-type-field o bs ts p)) (IsType t) (after-types o bs (more-types ts t) p) → Reads (next Calm) (after-types o bs ts p) (IsType t) (after-types o bs (more-types ts t) p)
+field_type : (t : TypeTree) (o : Span) (bs : TypeBinders) (ts : TypeTrees) (p : TypePlace) → Reads anything (need_type (in_type_field o bs ts p)) (IsType t) (after_types o bs (more_types ts t) p) → Reads (next Calm) (after_types o bs ts p) (IsType t) (after_types o bs (more_types ts t) p)
 unfolding IsType
-field-type (top-type s) o bs ts p f = field-other o bs ts p (starts-at tt) f
-field-type (int-type s) o bs ts p f = field-other o bs ts p (starts-at tt) f
-field-type (char-type s) o bs ts p f = field-other o bs ts p (starts-at tt) f
-field-type (string-type s) o bs ts p f = field-other o bs ts p (starts-at tt) f
-field-type (bool-type s) o bs ts p f = field-other o bs ts p (starts-at tt) f
-field-type (use-type s n) o bs ts p f = then-falls (one refl) (name-falls o bs ts (record { name = n; span = s }) p)
-field-type (both-type s t) o bs ts p f = field-other o bs ts p (starts-led (type-span t) tt) f
-field-type (read-type s t) o bs ts p f = field-other o bs ts p (starts-led (type-span t) tt) f
-field-type (write-type s t) o bs ts p f = field-other o bs ts p (starts-led (type-span t) tt) f
-field-type (respond-type s t) o bs ts p f = field-other o bs ts p (starts-led (type-span t) tt) f
-field-type (fields-type s cs us ls) o bs ts p f = field-other o bs ts p (starts-between tt) f
-field-type (apply-type s x no-types) o bs ts p f = no-reads
-field-type (apply-type s x (more-types us t)) o bs ts p f = field-other o bs ts p (starts-between tt) f
-field-type (rec-type s x t) o bs ts p f = field-other o bs ts p (starts-between tt) f
+field_type (top_type s) o bs ts p f = field_other o bs ts p (starts_at tt) f
+field_type (int_type s) o bs ts p f = field_other o bs ts p (starts_at tt) f
+field_type (char_type s) o bs ts p f = field_other o bs ts p (starts_at tt) f
+field_type (string_type s) o bs ts p f = field_other o bs ts p (starts_at tt) f
+field_type (bool_type s) o bs ts p f = field_other o bs ts p (starts_at tt) f
+field_type (use_type s n) o bs ts p f = then_falls (one refl) (name_falls o bs ts (record { name = n; span = s }) p)
+field_type (both_type s t) o bs ts p f = field_other o bs ts p (starts_led (type_span t) tt) f
+field_type (read_type s t) o bs ts p f = field_other o bs ts p (starts_led (type_span t) tt) f
+field_type (write_type s t) o bs ts p f = field_other o bs ts p (starts_led (type_span t) tt) f
+field_type (respond_type s t) o bs ts p f = field_other o bs ts p (starts_led (type_span t) tt) f
+field_type (fields_type s cs us ls) o bs ts p f = field_other o bs ts p (starts_between tt) f
+field_type (apply_type s x no_types) o bs ts p f = no_reads
+field_type (apply_type s x (more_types us t)) o bs ts p f = field_other o bs ts p (starts_between tt) f
+field_type (rec_type s x t) o bs ts p f = field_other o bs ts p (starts_between tt) f
 
 -- between the arguments of an operator
-argument-type : (t : TypeTree) (o : Span) (x : Id) (ts : TypeTrees) (p : TypePlace) → Reads anything (need-type (in-type-apply o x ts p)) (IsType t) (type-args o x (more-types ts t) p) → Reads anything (type-args o x ts p) (IsType t) (type-args o x (more-types ts t) p)
-argument-type t o x ts p f = falls-then (λ l r h c. (starts-type t).begins l r h) (falls same) f
+argument_type : (t : TypeTree) (o : Span) (x : Id) (ts : TypeTrees) (p : TypePlace) → Reads anything (need_type (in_type_apply o x ts p)) (IsType t) (operator_arguments o x (more_types ts t) p) → Reads anything (operator_arguments o x ts p) (IsType t) (operator_arguments o x (more_types ts t) p)
+argument_type t o x ts p f = falls_then (λ l r h c. (starts_type t).begins l r h) (falls same) f
   where
-    same : (k : TokenKind) (i : Span) → StartsType k → step k i (type-args o x ts p) ≡ step k i (need-type (in-type-apply o x ts p))
-    same (Mark CloseParen) i h = absurd h
+    same : (k : TokenKind) (i : Span) → StartsType k → step k i (operator_arguments o x ts p) ≡ step k i (need_type (in_type_apply o x ts p))
+    same (Sign CloseParen) i h = absurd h
     same k i h = refl
 
 -- behind the types of a record type and so many labelled ones
-abbrev types-end : Span → TypeBinders → TypeTrees → LabelledTypes → TypePlace → State
-types-end o bs ts no-labelled-types p = after-types o bs ts p
-types-end o bs ts (more-labelled-types ls x t) p = after-type-labels o bs ts (more-labelled-types ls x t) p
+abbrev types_end : Span → TypeBinders → TypeTrees → LabelledTypes → TypePlace → State
+types_end o bs ts no_labelled_types p = after_types o bs ts p
+types_end o bs ts (more_labelled_types ls x t) p = after_type_labels o bs ts (more_labelled_types ls x t) p
 
-abbrev label-named : Span → TypeBinders → TypeTrees → LabelledTypes → Id → TypePlace → State
-label-named o bs ts no-labelled-types y p = type-name o bs ts y p
-label-named o bs ts (more-labelled-types ls x t) y p = type-label o bs ts (more-labelled-types ls x t) y p
+abbrev label_named : Span → TypeBinders → TypeTrees → LabelledTypes → Id → TypePlace → State
+label_named o bs ts no_labelled_types y p = type_name o bs ts y p
+label_named o bs ts (more_labelled_types ls x t) y p = type_label o bs ts (more_labelled_types ls x t) y p
 
-label-begins : (ls : LabelledTypes) (o : Span) (bs : TypeBinders) (ts : TypeTrees) (y : Id) (p : TypePlace) → step (Identifier y.name) y.span (types-end o bs ts ls p) ≡ label-named o bs ts ls y p
-label-begins no-labelled-types o bs ts y p = refl
-label-begins (more-labelled-types ls x t) o bs ts y p = refl
+label_begins : (ls : LabelledTypes) (o : Span) (bs : TypeBinders) (ts : TypeTrees) (y : Id) (p : TypePlace) → step (Identifier y.name) y.span (types_end o bs ts ls p) ≡ label_named o bs ts ls y p
+label_begins no_labelled_types o bs ts y p = refl
+label_begins (more_labelled_types ls x t) o bs ts y p = refl
 
-label-equals : (ls : LabelledTypes) (o : Span) (bs : TypeBinders) (ts : TypeTrees) (y : Id) (p : TypePlace) (i : Span) → step (Mark Equals) i (label-named o bs ts ls y p) ≡ need-type (in-type-label o bs ts ls y p)
-label-equals no-labelled-types o bs ts y p i = refl
-label-equals (more-labelled-types ls x t) o bs ts y p i = refl
+label_equals : (ls : LabelledTypes) (o : Span) (bs : TypeBinders) (ts : TypeTrees) (y : Id) (p : TypePlace) (i : Span) → step (Sign Equals) i (label_named o bs ts ls y p) ≡ need_type (in_type_label o bs ts ls y p)
+label_equals no_labelled_types o bs ts y p i = refl
+label_equals (more_labelled_types ls x t) o bs ts y p i = refl
 
-types-close : (ls : LabelledTypes) (o : Span) (bs : TypeBinders) (ts : TypeTrees) (p : TypePlace) (j : Span) → step (Mark CloseBracket) j (types-end o bs ts ls p) ≡ put-type (fields-type (join o j) bs ts ls) p
-types-close no-labelled-types o bs ts p j = refl
-types-close (more-labelled-types ls x t) o bs ts p j = refl
+types_close : (ls : LabelledTypes) (o : Span) (bs : TypeBinders) (ts : TypeTrees) (p : TypePlace) (j : Span) → step (Sign CloseBracket) j (types_end o bs ts ls p) ≡ put_type (fields_type (join o j) bs ts ls) p
+types_close no_labelled_types o bs ts p j = refl
+types_close (more_labelled_types ls x t) o bs ts p j = refl
 
-leads-labelled-types : (ls : LabelledTypes) → Leads Calm (AreLabelledTypes ls)
+leads_labelled_types : (ls : LabelledTypes) → Leads Calm (AreLabelledTypes ls)
 unfolding IsType
-leads-labelled-types no-labelled-types = leads-nothing
-leads-labelled-types (more-labelled-types ls x t) = leads-more (leads-labelled-types ls) (starts-with (starts-at tt))
+leads_labelled_types no_labelled_types = leads_nothing
+leads_labelled_types (more_labelled_types ls x t) = leads_more (leads_labelled_types ls) (starts_with (starts_at tt))
 
-leads-types : (ts : TypeTrees) → Leads Calm (AreTypes ts)
+leads_types : (ts : TypeTrees) → Leads Calm (AreTypes ts)
 unfolding IsType
-leads-types no-types = leads-nothing
-leads-types (more-types ts t) = leads-more (leads-types ts) (starts-also starts-calm (starts-type t))
+leads_types no_types = leads_nothing
+leads_types (more_types ts t) = leads_more (leads_types ts) (starts_also starts_calm (starts_type t))
 
 -- behind the binders at a place
-abbrev pub binders-at : BinderPlace → State
-binders-at (of-pats p bs) = after-binders p bs
-binders-at (of-types o bs p) = after-type-binders o bs p
+abbrev pub binders_at : BinderPlace → State
+binders_at (of_patterns p bs) = after_binders p bs
+binders_at (of_types o bs p) = after_type_binders o bs p
 
-abbrev pub with-binders : BinderPlace → TypeBinders → BinderPlace
-with-binders (of-pats p cs) bs = of-pats p bs
-with-binders (of-types o cs p) bs = of-types o bs p
+abbrev pub with_binders : BinderPlace → TypeBinders → BinderPlace
+with_binders (of_patterns p cs) bs = of_patterns p bs
+with_binders (of_types o cs p) bs = of_types o bs p
 
-hash-begins : (p : BinderPlace) (i : Span) → step (Mark Hash) i (binders-at p) ≡ binder-hash i p
-hash-begins (of-pats p bs) i = refl
-hash-begins (of-types o bs p) i = refl
+hash_begins : (p : BinderPlace) (i : Span) → step (Sign Hash) i (binders_at p) ≡ binder_hash i p
+hash_begins (of_patterns p bs) i = refl
+hash_begins (of_types o bs p) i = refl
 
-bare-falls : (h : Span) (x : Id) (p : BinderPlace) → Falls (next Unbound) (binder-name h x p) (put-binder (type-binder (join h x.span) x None no-bound) p)
-bare-falls h x p = falls (λ k i u. same p k i u)
+bare_falls : (h : Span) (x : Id) (p : BinderPlace) → Falls (next Unbound) (binder_name h x p) (put_binder (type_binder (join h x.span) x None unbounded) p)
+bare_falls h x p = falls (λ k i u. same p k i u)
   where
-    same : (p : BinderPlace) (k : TokenKind) (i : Span) → Unbound k → step k i (binder-name h x p) ≡ step k i (put-binder (type-binder (join h x.span) x None no-bound) p)
-    same p (Mark Colon) i u = absurd u
-    same p (Mark Less) i u = absurd u
-    same (of-pats p bs) k i u = refl
-    same (of-types o bs p) k i u = refl
+    same : (p : BinderPlace) (k : TokenKind) (i : Span) → Unbound k → step k i (binder_name h x p) ≡ step k i (put_binder (type_binder (join h x.span) x None unbounded) p)
+    same p (Sign Colon) i u = absurd u
+    same p (Sign Less) i u = absurd u
+    same (of_patterns p bs) k i u = refl
+    same (of_types o bs p) k i u = refl
 
-kind-falls : (h : Span) (x : Id) (c : KindTree) (j : Span) (p : BinderPlace) → Falls (next Unbound) (binder-kind h x c j p) (put-binder (type-binder (join h j) x (Some c) no-bound) p)
-kind-falls h x c j p = falls (λ k i u. same p k i u)
+kind_falls : (h : Span) (x : Id) (c : KindTree) (j : Span) (p : BinderPlace) → Falls (next Unbound) (binder_kind h x c j p) (put_binder (type_binder (join h j) x (Some c) unbounded) p)
+kind_falls h x c j p = falls (λ k i u. same p k i u)
   where
-    same : (p : BinderPlace) (k : TokenKind) (i : Span) → Unbound k → step k i (binder-kind h x c j p) ≡ step k i (put-binder (type-binder (join h j) x (Some c) no-bound) p)
-    same p (Mark Less) i u = absurd u
-    same (of-pats p bs) k i u = refl
-    same (of-types o bs p) k i u = refl
+    same : (p : BinderPlace) (k : TokenKind) (i : Span) → Unbound k → step k i (binder_kind h x c j p) ≡ step k i (put_binder (type_binder (join h j) x (Some c) unbounded) p)
+    same p (Sign Less) i u = absurd u
+    same (of_patterns p bs) k i u = refl
+    same (of_types o bs p) k i u = refl
 
-binders-fall : (o : Span) (bs : TypeBinders) (p : TypePlace) → Falls (next Calm) (after-type-binders o bs p) (after-types o bs no-types p)
-binders-fall o bs p = falls same
+binders_fall : (o : Span) (bs : TypeBinders) (p : TypePlace) → Falls (next Calm) (after_type_binders o bs p) (after_types o bs no_types p)
+binders_fall o bs p = falls same
   where
-    same : (k : TokenKind) (i : Span) → Calm k → step k i (after-type-binders o bs p) ≡ step k i (after-types o bs no-types p)
-    same (Mark Hash) i h = absurd h
+    same : (k : TokenKind) (i : Span) → Calm k → step k i (after_type_binders o bs p) ≡ step k i (after_types o bs no_types p)
+    same (Sign Hash) i h = absurd h
     same k i h = refl
 
-pub starts-binder : (b : TypeBinder) → Starts BeginsBinder (IsBinder b)
+pub starts_binder : (b : TypeBinder) → Starts BeginsBinder (IsBinder b)
 unfolding IsType
-starts-binder (type-binder s x None no-bound) = starts-led x.span tt
-starts-binder (type-binder s x None (bound t)) = starts-led (type-span t) tt
-starts-binder (type-binder s x (Some k) no-bound) = record { begins = λ ts r h. (starts-led h.0 {L = ident x ▸ (mark Colon ▸ IsKind k h.0)} tt).begins ts r h.1 }
-starts-binder (type-binder s x (Some k) (bound t)) = starts-led (type-span t) tt
+starts_binder (type_binder s x None unbounded) = starts_led x.span tt
+starts_binder (type_binder s x None (bound t)) = starts_led (type_span t) tt
+starts_binder (type_binder s x (Some k) unbounded) = record { begins = λ ts r h. (starts_led h.0 {L = ident x ▸ (sign Colon ▸ IsKind k h.0)} tt).begins ts r h.1 }
+starts_binder (type_binder s x (Some k) (bound t)) = starts_led (type_span t) tt
 
 mutual
   unfolding IsType
 
-  pub reads-type : (t : TypeTree) (p : TypePlace) → Reads anything (need-type p) (IsType t) (put-type t p)
-  reads-type (top-type s) p = one refl
-  reads-type (int-type s) p = one refl
-  reads-type (char-type s) p = one refl
-  reads-type (string-type s) p = one refl
-  reads-type (bool-type s) p = one refl
-  reads-type (use-type s n) p = one refl
-  reads-type (both-type s t) p = led-reads (type-span t) (λ s. put-type (both-type s t) p) (λ i. first refl (reads-type t (in-prefix both i p)))
-  reads-type (read-type s t) p = led-reads (type-span t) (λ s. put-type (read-type s t) p) (λ i. first refl (reads-type t (in-prefix read i p)))
-  reads-type (write-type s t) p = led-reads (type-span t) (λ s. put-type (write-type s t) p) (λ i. first refl (reads-type t (in-prefix write i p)))
-  reads-type (respond-type s t) p = led-reads (type-span t) (λ s. put-type (respond-type s t) p) (λ i. first refl (reads-type t (in-prefix respond i p)))
-  reads-type (fields-type s bs ts ls) p =
-      between-reads (λ s. put-type (fields-type s bs ts ls) p) (λ i j. first refl
-      (then-next {P = Calm} (starts-at tt)
-      (then-leads (record { leads = (leads-both (leads-types ts) (leads-labelled-types ls)).leads })
-      (then-falls (weaken {C = next Unbound} (calm-next calm-unbound) (reads-binders bs (of-types i no-binders p))) (binders-fall i bs p))
-      (then-leads (leads-labelled-types ls) (reads-types ts i bs p) (always (reads-labelled-types ls i bs ts p))))
-      (one (types-close ls i bs ts p j))))
-  reads-type (apply-type s x no-types) p = no-reads
-  reads-type (apply-type s x (more-types ts t)) p =
-      between-reads (λ s. put-type (apply-type s x (more-types ts t)) p) (λ i j. first refl
-      (then-any (first refl (then-any (reads-arguments ts i x p) (argument-type t i x ts p (reads-type t (in-type-apply i x ts p))))) (one refl)))
-  reads-type (rec-type s x t) p =
-      between-reads (λ s. put-type (rec-type s x t) p) (λ i j. first refl
-      (then-any (first-word (λ k. refl) (first refl (first-mark (λ k. refl) (reads-type t (in-rec i x p))))) (one refl)))
+  pub reads_type : (t : TypeTree) (p : TypePlace) → Reads anything (need_type p) (IsType t) (put_type t p)
+  reads_type (top_type s) p = one refl
+  reads_type (int_type s) p = one refl
+  reads_type (char_type s) p = one refl
+  reads_type (string_type s) p = one refl
+  reads_type (bool_type s) p = one refl
+  reads_type (use_type s n) p = one refl
+  reads_type (both_type s t) p = led_reads (type_span t) (λ s. put_type (both_type s t) p) (λ i. first refl (reads_type t (in_prefix both i p)))
+  reads_type (read_type s t) p = led_reads (type_span t) (λ s. put_type (read_type s t) p) (λ i. first refl (reads_type t (in_prefix read i p)))
+  reads_type (write_type s t) p = led_reads (type_span t) (λ s. put_type (write_type s t) p) (λ i. first refl (reads_type t (in_prefix write i p)))
+  reads_type (respond_type s t) p = led_reads (type_span t) (λ s. put_type (respond_type s t) p) (λ i. first refl (reads_type t (in_prefix respond i p)))
+  reads_type (fields_type s bs ts ls) p =
+      between_reads (λ s. put_type (fields_type s bs ts ls) p) (λ i j. first refl
+      (then_next {P = Calm} (starts_at tt)
+      (then_leads (record { leads = (leads_both (leads_types ts) (leads_labelled_types ls)).leads })
+      (then_falls (weaken {C = next Unbound} (calm_next calm_unbound) (reads_binders bs (of_types i no_binders p))) (binders_fall i bs p))
+      (then_leads (leads_labelled_types ls) (reads_types ts i bs p) (always (reads_labelled_types ls i bs ts p))))
+      (one (types_close ls i bs ts p j))))
+  reads_type (apply_type s x no_types) p = no_reads
+  reads_type (apply_type s x (more_types ts t)) p =
+      between_reads (λ s. put_type (apply_type s x (more_types ts t)) p) (λ i j. first refl
+      (then_any (first refl (then_any (reads_arguments ts i x p) (argument_type t i x ts p (reads_type t (in_type_apply i x ts p))))) (one refl)))
+  reads_type (rec_type s x t) p =
+      between_reads (λ s. put_type (rec_type s x t) p) (λ i j. first refl
+      (then_any (first_keyword (λ k. refl) (first refl (first_sign (λ k. refl) (reads_type t (in_rec i x p))))) (one refl)))
 
-  reads-types : (ts : TypeTrees) (o : Span) (bs : TypeBinders) (p : TypePlace) → Reads (next Calm) (after-types o bs no-types p) (AreTypes ts) (after-types o bs ts p)
-  reads-types no-types o bs p = empty
-  reads-types (more-types ts t) o bs p = then-next (starts-also starts-calm (starts-type t)) (reads-types ts o bs p) (field-type t o bs ts p (reads-type t (in-type-field o bs ts p)))
+  reads_types : (ts : TypeTrees) (o : Span) (bs : TypeBinders) (p : TypePlace) → Reads (next Calm) (after_types o bs no_types p) (AreTypes ts) (after_types o bs ts p)
+  reads_types no_types o bs p = empty
+  reads_types (more_types ts t) o bs p = then_next (starts_also starts_calm (starts_type t)) (reads_types ts o bs p) (field_type t o bs ts p (reads_type t (in_type_field o bs ts p)))
 
-  reads-arguments : (ts : TypeTrees) (o : Span) (x : Id) (p : TypePlace) → Reads anything (type-args o x no-types p) (AreTypes ts) (type-args o x ts p)
-  reads-arguments no-types o x p = empty
-  reads-arguments (more-types ts t) o x p = then-any (reads-arguments ts o x p) (argument-type t o x ts p (reads-type t (in-type-apply o x ts p)))
+  reads_arguments : (ts : TypeTrees) (o : Span) (x : Id) (p : TypePlace) → Reads anything (operator_arguments o x no_types p) (AreTypes ts) (operator_arguments o x ts p)
+  reads_arguments no_types o x p = empty
+  reads_arguments (more_types ts t) o x p = then_any (reads_arguments ts o x p) (argument_type t o x ts p (reads_type t (in_type_apply o x ts p)))
 
-  reads-labelled-types : (ls : LabelledTypes) (o : Span) (bs : TypeBinders) (ts : TypeTrees) (p : TypePlace) → Reads anything (after-types o bs ts p) (AreLabelledTypes ls) (types-end o bs ts ls p)
-  reads-labelled-types no-labelled-types o bs ts p = empty
-  reads-labelled-types (more-labelled-types ls x t) o bs ts p =
-      then-any (reads-labelled-types ls o bs ts p)
-      (first (label-begins ls o bs ts x p) (first-mark (label-equals ls o bs ts x p) (reads-type t (in-type-label o bs ts ls x p))))
+  reads_labelled_types : (ls : LabelledTypes) (o : Span) (bs : TypeBinders) (ts : TypeTrees) (p : TypePlace) → Reads anything (after_types o bs ts p) (AreLabelledTypes ls) (types_end o bs ts ls p)
+  reads_labelled_types no_labelled_types o bs ts p = empty
+  reads_labelled_types (more_labelled_types ls x t) o bs ts p =
+      then_any (reads_labelled_types ls o bs ts p)
+      (first (label_begins ls o bs ts x p) (first_sign (label_equals ls o bs ts x p) (reads_type t (in_type_label o bs ts ls x p))))
 
-  pub reads-binder : (b : TypeBinder) (p : BinderPlace) → Reads (next Unbound) (binders-at p) (IsBinder b) (put-binder b p)
-  reads-binder (type-binder s x None no-bound) p = led-reads x.span (λ s. put-binder (type-binder s x None no-bound) p) (λ i. first (hash-begins p i) (then-falls (one refl) (bare-falls i x p)))
-  reads-binder (type-binder s x None (bound t)) p = led-reads (type-span t) (λ s. put-binder (type-binder s x None (bound t)) p) (λ i. first (hash-begins p i) (first refl (first-mark (λ k. refl) (always (reads-type t (in-bound i x None p))))))
-  reads-binder (type-binder s x (Some k) no-bound) p = at-some (λ j. led-reads j (λ s. put-binder (type-binder s x (Some k) no-bound) p) (λ i. first (hash-begins p i) (first refl (first-mark (λ m. refl) (then-falls (always (reads-kind k j i x p)) (kind-falls i x k j p))))))
-  reads-binder (type-binder s x (Some k) (bound t)) p = led-reads (type-span t) (λ s. put-binder (type-binder s x (Some k) (bound t)) p) (λ i. first (hash-begins p i) (first refl (first-mark (λ m. refl) (some-then (λ j. then-any (reads-kind k j i x p) (first-mark (λ m. refl) (always (reads-type t (in-bound i x (Some k) p)))))))))
+  pub reads_binder : (b : TypeBinder) (p : BinderPlace) → Reads (next Unbound) (binders_at p) (IsBinder b) (put_binder b p)
+  reads_binder (type_binder s x None unbounded) p = led_reads x.span (λ s. put_binder (type_binder s x None unbounded) p) (λ i. first (hash_begins p i) (then_falls (one refl) (bare_falls i x p)))
+  reads_binder (type_binder s x None (bound t)) p = led_reads (type_span t) (λ s. put_binder (type_binder s x None (bound t)) p) (λ i. first (hash_begins p i) (first refl (first_sign (λ k. refl) (always (reads_type t (in_bound i x None p))))))
+  reads_binder (type_binder s x (Some k) unbounded) p = at_some (λ j. led_reads j (λ s. put_binder (type_binder s x (Some k) unbounded) p) (λ i. first (hash_begins p i) (first refl (first_sign (λ m. refl) (then_falls (always (reads_kind k j i x p)) (kind_falls i x k j p))))))
+  reads_binder (type_binder s x (Some k) (bound t)) p = led_reads (type_span t) (λ s. put_binder (type_binder s x (Some k) (bound t)) p) (λ i. first (hash_begins p i) (first refl (first_sign (λ m. refl) (some_then (λ j. then_any (reads_kind k j i x p) (first_sign (λ m. refl) (always (reads_type t (in_bound i x (Some k) p)))))))))
 
-  pub reads-binders : (bs : TypeBinders) (p : BinderPlace) → Reads (next Unbound) (binders-at (with-binders p no-binders)) (AreBinders bs) (binders-at (with-binders p bs))
-  reads-binders no-binders p = empty
-  reads-binders (more-binders bs b) (of-pats f cs) = then-next (starts-also binder-unbound (starts-binder b)) (reads-binders bs (of-pats f cs)) (reads-binder b (of-pats f bs))
-  reads-binders (more-binders bs b) (of-types o cs q) = then-next (starts-also binder-unbound (starts-binder b)) (reads-binders bs (of-types o cs q)) (reads-binder b (of-types o bs q))
+  pub reads_binders : (bs : TypeBinders) (p : BinderPlace) → Reads (next Unbound) (binders_at (with_binders p no_binders)) (AreBinders bs) (binders_at (with_binders p bs))
+  reads_binders no_binders p = empty
+  reads_binders (more_binders bs b) (of_patterns f cs) = then_next (starts_also binder_unbound (starts_binder b)) (reads_binders bs (of_patterns f cs)) (reads_binder b (of_patterns f bs))
+  reads_binders (more_binders bs b) (of_types o cs q) = then_next (starts_also binder_unbound (starts_binder b)) (reads_binders bs (of_types o cs q)) (reads_binder b (of_types o bs q))

@@ -3,199 +3,199 @@ use Rattle.std.proofs.Common.{ℕ, suc, zero, List, [], ◌∷◌, Option, None,
 use Rattle.pict_syntax.specs.declared.span.Span.{Span}
 use Rattle.pict_syntax.specs.declared.id.Id.{Id}
 use Rattle.pict_syntax.specs.declared.type_tree.KindTree.{KindTree}
-use Rattle.pict_syntax.specs.declared.token.TokenKind.TheVariants.{Word, Mark}
-use Rattle.pict_syntax.specs.declared.token.Keyword.TheVariants.{Def, Else, If, New, Rec, Run, Then, TypeDefinition, Val as ValWord, TypeKind}
-use Rattle.pict_syntax.specs.declared.token.Sign.{Sign}
+use Rattle.pict_syntax.specs.declared.token.TokenKind.TheVariants.{Keyword, Sign}
+use Rattle.pict_syntax.specs.declared.token.Keyword.TheVariants.{Def, Else, If, New, Rec, Run, Then, TypeDefinition, Val as ValKeyword, TypeKind}
+use Rattle.pict_syntax.specs.declared.token.Sign.{Sign as AnySign}
 use Rattle.pict_syntax.specs.declared.token.Sign.TheVariants.{Bang, Question, QuestionStar, Equals, OpenParen, CloseParen, OpenBracket, Colon, Less, Greater, Backslash, Caret, Slash, Hash, Underscore, Arrow}
-use Rattle.pict_syntax.specs.Phrases.{Phrase, never, ◌▸◌, at, word, mark, ident, idents, times, name}
+use Rattle.pict_syntax.specs.Phrases.{Phrase, never, ◌▸◌, at, keyword, sign, ident, idents, times, name}
 use Rattle.pict_syntax.specs.Grammar.{IsKind, SomeKind, IsType, AreTypes, AreLabelledTypes, AreBinders, IsRType, IsPat, AreFieldPats, ArePats, AreLabelledPats, AreTypeArguments, AreDecs, AreDefinitionsAnd, IsAbs, IsChan, IsVal, AreVals, AreLabelledVals, IsProc, AreProcsBar}
-use Rattle.pict_automaton.specs.Places.{Side, rightward, leftward, Ask, asks-once, asks-always, Prefix, both, read, write, respond, ValPlace, in-let, in-function, in-send, in-side, in-field, in-label, in-fold, in-else, waiting, Wait, at-top, in-test, in-then, in-paren, ProcPlace, in-run, in-process, in-else-proc, in-bar, in-then-proc, EitherPlace, in-paren-either, in-then-either, ProcPlaces, proc-only, proc-either, ValPlaces, val-only, val-either, Place, for-val, for-proc, for-either, DecPlace, top-decs, paren-decs, AbsPlace, in-def, in-lambda, in-input, FieldsPlace, in-record, in-apply, PatPlace, in-let-pat, in-abs-pat, in-fold-pat, in-field-pat, in-label-pat, FieldPatsPlace, in-pat-record, in-params, TypePlace, in-new, in-alias, in-operator, in-bind, in-any, in-result, in-pat-fold-type, in-fold-type, in-bound, in-prefix, in-type-field, in-type-label, in-type-apply, in-rec, in-argument, BinderPlace, of-pats, of-types, State, stop, need, fresh-name, arguments, have-chan, have-val, have-either, have-proc, have-procs, new-word, new-name, let-pat, def-word, have-def, type-word, alias-name, operator-open, operator-params, operator-closed, need-abs, abs-open, abs-pat, abs-params, abs-result, need-pat, pat-open, pat-rec, pat-folded, have-bind, have-any, after-binders, after-pats, pat-name, after-pat-labels, pat-label, binder-hash, binder-name, need-kind, kind-args, kind-arrow, kind-result, binder-kind, need-type, type-open, rec-word, rec-name, rec-body, type-args, after-type-binders, after-types, type-name, after-type-labels, type-label, fold-word, fold-body, after-arguments, after-vals, val-name, after-labels, val-label}
+use Rattle.pict_automaton.specs.Places.{Side, rightward, leftward, Ask, asks_once, asks_always, Prefix, both, read, write, respond, ValuePlace, in_let, in_function, in_send, in_side, in_field, in_label, in_fold, in_else, waiting, Wait, at_top, in_test, in_then, in_paren, ProcessPlace, in_run, in_process, in_else_process, in_bar, in_then_process, EitherPlace, in_paren_either, in_then_either, ProcessPlaces, process_only, process_either, ValuePlaces, value_only, value_either, Place, for_value, for_process, for_either, DeclarationPlace, top_declarations, paren_declarations, AbstractionPlace, in_definition, in_lambda, in_input, FieldsPlace, in_record, in_apply, PatternPlace, in_let_pattern, in_abstraction_pattern, in_fold_pattern, in_field_pattern, in_label_pattern, FieldPatternsPlace, in_pattern_record, in_parameters, TypePlace, in_new, in_alias, in_operator, in_bind, in_any, in_result, in_pattern_fold_type, in_fold_type, in_bound, in_prefix, in_type_field, in_type_label, in_type_apply, in_rec, in_argument, BinderPlace, of_patterns, of_types, State, stop, need, fresh_name, arguments, have_channel, have_value, have_either, have_process, have_processes, new_keyword, new_name, let_pattern, definition_keyword, have_definition, type_keyword, alias_name, operator_open, operator_parameters, operator_closed, need_abstraction, abstraction_open, abstraction_pattern, abstraction_parameters, abstraction_result, need_pattern, pattern_open, pattern_rec, pattern_folded, have_bind, have_any, after_binders, after_patterns, pattern_name, after_pattern_labels, pattern_label, binder_hash, binder_name, need_kind, kind_arguments, kind_arrow, kind_result, binder_kind, need_type, type_open, rec_keyword, rec_name, rec_body, operator_arguments, after_type_binders, after_types, type_name, after_type_labels, type_label, fold_keyword, fold_body, after_arguments, after_values, value_name, after_labels, value_label}
 
-abbrev pub side-mark : Side → Sign
-side-mark rightward = Greater
-side-mark leftward = Less
+abbrev pub side_sign : Side → AnySign
+side_sign rightward = Greater
+side_sign leftward = Less
 
-abbrev pub ask-mark : Ask → Sign
-ask-mark asks-once = Question
-ask-mark asks-always = QuestionStar
+abbrev pub ask_sign : Ask → AnySign
+ask_sign asks_once = Question
+ask_sign asks_always = QuestionStar
 
-abbrev pub prefix-mark : Prefix → Sign
-prefix-mark both = Caret
-prefix-mark read = Question
-prefix-mark write = Bang
-prefix-mark respond = Slash
+abbrev pub prefix_sign : Prefix → AnySign
+prefix_sign both = Caret
+prefix_sign read = Question
+prefix_sign write = Bang
+prefix_sign respond = Slash
 
 -- an operator's words, up to its closing parenthesis, and to what stands behind it
-abbrev pub closed-operator : Span → Id → List Id → Phrase
-closed-operator i x [] = never
-closed-operator i x (y ∷ ys) = at (Word TypeDefinition) i ▸ (mark OpenParen ▸ (ident x ▸ (ident y ▸ (idents ys ▸ mark CloseParen))))
+abbrev pub closed_operator : Span → Id → List Id → Phrase
+closed_operator i x [] = never
+closed_operator i x (y ∷ ys) = at (Keyword TypeDefinition) i ▸ (sign OpenParen ▸ (ident x ▸ (ident y ▸ (idents ys ▸ sign CloseParen))))
 
-abbrev pub defined-operator : Span → Id → List Id → Phrase
-defined-operator i x [] = never
-defined-operator i x (y ∷ ys) = at (Word TypeDefinition) i ▸ (mark OpenParen ▸ (ident x ▸ (ident y ▸ (idents ys ▸ (mark CloseParen ▸ mark Equals)))))
+abbrev pub defined_operator : Span → Id → List Id → Phrase
+defined_operator i x [] = never
+defined_operator i x (y ∷ ys) = at (Keyword TypeDefinition) i ▸ (sign OpenParen ▸ (ident x ▸ (ident y ▸ (idents ys ▸ (sign CloseParen ▸ sign Equals)))))
 
 -- what stands between a binder's identifier and its bound
-abbrev pub bound-words : Option KindTree → Phrase
-bound-words None = mark Less
-bound-words (Some k) = mark Colon ▸ (SomeKind k ▸ mark Less)
+abbrev pub bound_keywords : Option KindTree → Phrase
+bound_keywords None = sign Less
+bound_keywords (Some k) = sign Colon ▸ (SomeKind k ▸ sign Less)
 
 -- a kind up to its arrow, and up to its result
-abbrev pub arrow-words : ℕ → Phrase
-arrow-words zero = never
-arrow-words (suc n) = mark OpenParen ▸ (times n (word TypeKind) ▸ (word TypeKind ▸ mark Arrow))
+abbrev pub arrow_keywords : ℕ → Phrase
+arrow_keywords zero = never
+arrow_keywords (suc n) = sign OpenParen ▸ (times n (keyword TypeKind) ▸ (keyword TypeKind ▸ sign Arrow))
 
-abbrev pub result-words : ℕ → Phrase
-result-words zero = never
-result-words (suc n) = mark OpenParen ▸ (times n (word TypeKind) ▸ (word TypeKind ▸ (mark Arrow ▸ word TypeKind)))
-
-abbrev mutual
-  pub val-says : ValPlace → Phrase
-  val-says (in-let i r p) = dec-says p ▸ (at (Word ValWord) i ▸ (IsPat r ▸ mark Equals))
-  val-says (in-function o f r p) = abs-says p ▸ (at (Mark OpenParen) o ▸ (AreFieldPats f ▸ (mark CloseParen ▸ (IsRType r ▸ mark Equals))))
-  val-says (in-send c p) = procs-says p ▸ (IsChan c ▸ mark Bang)
-  val-says (in-side d o x vs p) = place-says p ▸ (at (Mark OpenParen) o ▸ (name x.name x.span ▸ (mark (side-mark d) ▸ AreVals vs)))
-  val-says (in-field p ts vs) = fields-says p ▸ (AreTypeArguments ts ▸ AreVals vs)
-  val-says (in-label p ts vs ls x) = fields-says p ▸ (AreTypeArguments ts ▸ (AreVals vs ▸ (AreLabelledVals ls ▸ (ident x ▸ mark Equals))))
-  val-says (in-fold o r p) = place-says p ▸ (at (Mark OpenParen) o ▸ (word Rec ▸ IsRType r))
-  val-says (in-else i a b p) = vals-says p ▸ (at (Word If) i ▸ (IsVal a ▸ (word Then ▸ (IsVal b ▸ word Else))))
-  val-says (waiting w) = wait-says w
-
-  pub wait-says : Wait → Phrase
-  wait-says (at-top ds) = AreDecs ds
-  wait-says (in-test i p) = place-says p ▸ at (Word If) i
-  wait-says (in-then i a p) = val-says p ▸ (at (Word If) i ▸ (IsVal a ▸ word Then))
-  wait-says (in-paren o ds p) = val-says p ▸ (at (Mark OpenParen) o ▸ AreDecs ds)
-
-  pub proc-says : ProcPlace → Phrase
-  proc-says (in-run i p) = dec-says p ▸ at (Word Run) i
-  proc-says (in-process r p) = abs-says p ▸ (IsPat r ▸ mark Equals)
-  proc-says (in-else-proc i a r p) = procs-says p ▸ (at (Word If) i ▸ (IsVal a ▸ (word Then ▸ (IsProc r ▸ word Else))))
-  proc-says (in-bar o ds rs p) = procs-says p ▸ (at (Mark OpenParen) o ▸ (AreDecs ds ▸ AreProcsBar rs))
-  proc-says (in-then-proc i a p) = proc-says p ▸ (at (Word If) i ▸ (IsVal a ▸ word Then))
-
-  pub either-says : EitherPlace → Phrase
-  either-says (in-paren-either o ds p) = procs-says p ▸ (at (Mark OpenParen) o ▸ AreDecs ds)
-  either-says (in-then-either i a p) = either-says p ▸ (at (Word If) i ▸ (IsVal a ▸ word Then))
-
-  pub procs-says : ProcPlaces → Phrase
-  procs-says (proc-only p) = proc-says p
-  procs-says (proc-either p) = either-says p
-
-  pub vals-says : ValPlaces → Phrase
-  vals-says (val-only p) = val-says p
-  vals-says (val-either p) = either-says p
-
-  pub place-says : Place → Phrase
-  place-says (for-val p) = val-says p
-  place-says (for-proc p) = proc-says p
-  place-says (for-either p) = either-says p
-
-  pub dec-says : DecPlace → Phrase
-  dec-says (top-decs ds) = AreDecs ds
-  dec-says (paren-decs o ds p) = place-says p ▸ (at (Mark OpenParen) o ▸ AreDecs ds)
-
-  pub abs-says : AbsPlace → Phrase
-  abs-says (in-def i ds x p) = dec-says p ▸ (at (Word Def) i ▸ (AreDefinitionsAnd ds ▸ ident x))
-  abs-says (in-lambda i p) = vals-says p ▸ at (Mark Backslash) i
-  abs-says (in-input a c p) = procs-says p ▸ (IsChan c ▸ mark (ask-mark a))
-
-  pub fields-says : FieldsPlace → Phrase
-  fields-says (in-record o p) = vals-says p ▸ at (Mark OpenBracket) o
-  fields-says (in-apply o v p) = place-says p ▸ (at (Mark OpenParen) o ▸ IsVal v)
+abbrev pub result_keywords : ℕ → Phrase
+result_keywords zero = never
+result_keywords (suc n) = sign OpenParen ▸ (times n (keyword TypeKind) ▸ (keyword TypeKind ▸ (sign Arrow ▸ keyword TypeKind)))
 
 abbrev mutual
-  pub pat-says : PatPlace → Phrase
-  pat-says (in-let-pat i p) = dec-says p ▸ at (Word ValWord) i
-  pat-says (in-abs-pat p) = abs-says p
-  pat-says (in-fold-pat o r p) = pat-says p ▸ (at (Mark OpenParen) o ▸ (word Rec ▸ IsRType r))
-  pat-says (in-field-pat p bs ps) = pats-says p ▸ (AreBinders bs ▸ ArePats ps)
-  pat-says (in-label-pat p bs ps ls x) = pats-says p ▸ (AreBinders bs ▸ (ArePats ps ▸ (AreLabelledPats ls ▸ (ident x ▸ mark Equals))))
+  pub value_says : ValuePlace → Phrase
+  value_says (in_let i r p) = declaration_says p ▸ (at (Keyword ValKeyword) i ▸ (IsPat r ▸ sign Equals))
+  value_says (in_function o f r p) = abstraction_says p ▸ (at (Sign OpenParen) o ▸ (AreFieldPats f ▸ (sign CloseParen ▸ (IsRType r ▸ sign Equals))))
+  value_says (in_send c p) = processes_says p ▸ (IsChan c ▸ sign Bang)
+  value_says (in_side d o x vs p) = place_says p ▸ (at (Sign OpenParen) o ▸ (name x.name x.span ▸ (sign (side_sign d) ▸ AreVals vs)))
+  value_says (in_field p ts vs) = fields_says p ▸ (AreTypeArguments ts ▸ AreVals vs)
+  value_says (in_label p ts vs ls x) = fields_says p ▸ (AreTypeArguments ts ▸ (AreVals vs ▸ (AreLabelledVals ls ▸ (ident x ▸ sign Equals))))
+  value_says (in_fold o r p) = place_says p ▸ (at (Sign OpenParen) o ▸ (keyword Rec ▸ IsRType r))
+  value_says (in_else i a b p) = values_says p ▸ (at (Keyword If) i ▸ (IsVal a ▸ (keyword Then ▸ (IsVal b ▸ keyword Else))))
+  value_says (waiting w) = wait_says w
 
-  pub pats-says : FieldPatsPlace → Phrase
-  pats-says (in-pat-record o p) = pat-says p ▸ at (Mark OpenBracket) o
-  pats-says (in-params o p) = abs-says p ▸ at (Mark OpenParen) o
+  pub wait_says : Wait → Phrase
+  wait_says (at_top ds) = AreDecs ds
+  wait_says (in_test i p) = place_says p ▸ at (Keyword If) i
+  wait_says (in_then i a p) = value_says p ▸ (at (Keyword If) i ▸ (IsVal a ▸ keyword Then))
+  wait_says (in_paren o ds p) = value_says p ▸ (at (Sign OpenParen) o ▸ AreDecs ds)
+
+  pub process_says : ProcessPlace → Phrase
+  process_says (in_run i p) = declaration_says p ▸ at (Keyword Run) i
+  process_says (in_process r p) = abstraction_says p ▸ (IsPat r ▸ sign Equals)
+  process_says (in_else_process i a r p) = processes_says p ▸ (at (Keyword If) i ▸ (IsVal a ▸ (keyword Then ▸ (IsProc r ▸ keyword Else))))
+  process_says (in_bar o ds rs p) = processes_says p ▸ (at (Sign OpenParen) o ▸ (AreDecs ds ▸ AreProcsBar rs))
+  process_says (in_then_process i a p) = process_says p ▸ (at (Keyword If) i ▸ (IsVal a ▸ keyword Then))
+
+  pub either_says : EitherPlace → Phrase
+  either_says (in_paren_either o ds p) = processes_says p ▸ (at (Sign OpenParen) o ▸ AreDecs ds)
+  either_says (in_then_either i a p) = either_says p ▸ (at (Keyword If) i ▸ (IsVal a ▸ keyword Then))
+
+  pub processes_says : ProcessPlaces → Phrase
+  processes_says (process_only p) = process_says p
+  processes_says (process_either p) = either_says p
+
+  pub values_says : ValuePlaces → Phrase
+  values_says (value_only p) = value_says p
+  values_says (value_either p) = either_says p
+
+  pub place_says : Place → Phrase
+  place_says (for_value p) = value_says p
+  place_says (for_process p) = process_says p
+  place_says (for_either p) = either_says p
+
+  pub declaration_says : DeclarationPlace → Phrase
+  declaration_says (top_declarations ds) = AreDecs ds
+  declaration_says (paren_declarations o ds p) = place_says p ▸ (at (Sign OpenParen) o ▸ AreDecs ds)
+
+  pub abstraction_says : AbstractionPlace → Phrase
+  abstraction_says (in_definition i ds x p) = declaration_says p ▸ (at (Keyword Def) i ▸ (AreDefinitionsAnd ds ▸ ident x))
+  abstraction_says (in_lambda i p) = values_says p ▸ at (Sign Backslash) i
+  abstraction_says (in_input a c p) = processes_says p ▸ (IsChan c ▸ sign (ask_sign a))
+
+  pub fields_says : FieldsPlace → Phrase
+  fields_says (in_record o p) = values_says p ▸ at (Sign OpenBracket) o
+  fields_says (in_apply o v p) = place_says p ▸ (at (Sign OpenParen) o ▸ IsVal v)
 
 abbrev mutual
-  pub type-says : TypePlace → Phrase
-  type-says (in-new i x p) = dec-says p ▸ (at (Word New) i ▸ (ident x ▸ mark Colon))
-  type-says (in-alias i x p) = dec-says p ▸ (at (Word TypeDefinition) i ▸ (ident x ▸ mark Equals))
-  type-says (in-operator i x ys p) = dec-says p ▸ defined-operator i x ys
-  type-says (in-bind x p) = pat-says p ▸ (ident x ▸ mark Colon)
-  type-says (in-any i p) = pat-says p ▸ (at (Mark Underscore) i ▸ mark Colon)
-  type-says (in-result o f p) = abs-says p ▸ (at (Mark OpenParen) o ▸ (AreFieldPats f ▸ (mark CloseParen ▸ mark Colon)))
-  type-says (in-pat-fold-type o p) = pat-says p ▸ (at (Mark OpenParen) o ▸ (word Rec ▸ mark Colon))
-  type-says (in-fold-type o p) = place-says p ▸ (at (Mark OpenParen) o ▸ (word Rec ▸ mark Colon))
-  type-says (in-bound h x k p) = binder-says p ▸ (at (Mark Hash) h ▸ (ident x ▸ bound-words k))
-  type-says (in-prefix m i p) = type-says p ▸ at (Mark (prefix-mark m)) i
-  type-says (in-type-field o bs ts p) = type-says p ▸ (at (Mark OpenBracket) o ▸ (AreBinders bs ▸ AreTypes ts))
-  type-says (in-type-label o bs ts ls x p) = type-says p ▸ (at (Mark OpenBracket) o ▸ (AreBinders bs ▸ (AreTypes ts ▸ (AreLabelledTypes ls ▸ (ident x ▸ mark Equals)))))
-  type-says (in-type-apply o x ts p) = type-says p ▸ (at (Mark OpenParen) o ▸ (ident x ▸ AreTypes ts))
-  type-says (in-rec o x p) = type-says p ▸ (at (Mark OpenParen) o ▸ (word Rec ▸ (ident x ▸ mark Equals)))
-  type-says (in-argument p ts) = fields-says p ▸ (AreTypeArguments ts ▸ mark Hash)
+  pub pattern_says : PatternPlace → Phrase
+  pattern_says (in_let_pattern i p) = declaration_says p ▸ at (Keyword ValKeyword) i
+  pattern_says (in_abstraction_pattern p) = abstraction_says p
+  pattern_says (in_fold_pattern o r p) = pattern_says p ▸ (at (Sign OpenParen) o ▸ (keyword Rec ▸ IsRType r))
+  pattern_says (in_field_pattern p bs ps) = patterns_says p ▸ (AreBinders bs ▸ ArePats ps)
+  pattern_says (in_label_pattern p bs ps ls x) = patterns_says p ▸ (AreBinders bs ▸ (ArePats ps ▸ (AreLabelledPats ls ▸ (ident x ▸ sign Equals))))
 
-  pub binder-says : BinderPlace → Phrase
-  binder-says (of-pats p bs) = pats-says p ▸ AreBinders bs
-  binder-says (of-types o bs p) = type-says p ▸ (at (Mark OpenBracket) o ▸ AreBinders bs)
+  pub patterns_says : FieldPatternsPlace → Phrase
+  patterns_says (in_pattern_record o p) = pattern_says p ▸ at (Sign OpenBracket) o
+  patterns_says (in_parameters o p) = abstraction_says p ▸ at (Sign OpenParen) o
+
+abbrev mutual
+  pub type_says : TypePlace → Phrase
+  type_says (in_new i x p) = declaration_says p ▸ (at (Keyword New) i ▸ (ident x ▸ sign Colon))
+  type_says (in_alias i x p) = declaration_says p ▸ (at (Keyword TypeDefinition) i ▸ (ident x ▸ sign Equals))
+  type_says (in_operator i x ys p) = declaration_says p ▸ defined_operator i x ys
+  type_says (in_bind x p) = pattern_says p ▸ (ident x ▸ sign Colon)
+  type_says (in_any i p) = pattern_says p ▸ (at (Sign Underscore) i ▸ sign Colon)
+  type_says (in_result o f p) = abstraction_says p ▸ (at (Sign OpenParen) o ▸ (AreFieldPats f ▸ (sign CloseParen ▸ sign Colon)))
+  type_says (in_pattern_fold_type o p) = pattern_says p ▸ (at (Sign OpenParen) o ▸ (keyword Rec ▸ sign Colon))
+  type_says (in_fold_type o p) = place_says p ▸ (at (Sign OpenParen) o ▸ (keyword Rec ▸ sign Colon))
+  type_says (in_bound h x k p) = binder_says p ▸ (at (Sign Hash) h ▸ (ident x ▸ bound_keywords k))
+  type_says (in_prefix m i p) = type_says p ▸ at (Sign (prefix_sign m)) i
+  type_says (in_type_field o bs ts p) = type_says p ▸ (at (Sign OpenBracket) o ▸ (AreBinders bs ▸ AreTypes ts))
+  type_says (in_type_label o bs ts ls x p) = type_says p ▸ (at (Sign OpenBracket) o ▸ (AreBinders bs ▸ (AreTypes ts ▸ (AreLabelledTypes ls ▸ (ident x ▸ sign Equals)))))
+  type_says (in_type_apply o x ts p) = type_says p ▸ (at (Sign OpenParen) o ▸ (ident x ▸ AreTypes ts))
+  type_says (in_rec o x p) = type_says p ▸ (at (Sign OpenParen) o ▸ (keyword Rec ▸ (ident x ▸ sign Equals)))
+  type_says (in_argument p ts) = fields_says p ▸ (AreTypeArguments ts ▸ sign Hash)
+
+  pub binder_says : BinderPlace → Phrase
+  binder_says (of_patterns p bs) = patterns_says p ▸ AreBinders bs
+  binder_says (of_types o bs p) = type_says p ▸ (at (Sign OpenBracket) o ▸ AreBinders bs)
 
 -- what has been read; where the machine stopped, anything may have been
-abbrev pub state-says : State → Phrase
-state-says stop = λ ts. Unit {0}
-state-says (need p) = place-says p
-state-says (fresh-name o x p) = place-says p ▸ (at (Mark OpenParen) o ▸ name x.name x.span)
-state-says (arguments d o x vs p) = place-says p ▸ (at (Mark OpenParen) o ▸ (name x.name x.span ▸ (mark (side-mark d) ▸ AreVals vs)))
-state-says (have-chan c p) = procs-says p ▸ IsChan c
-state-says (have-val v w) = wait-says w ▸ IsVal v
-state-says (have-either v p) = either-says p ▸ IsVal v
-state-says (have-proc r i a p) = procs-says p ▸ (at (Word If) i ▸ (IsVal a ▸ (word Then ▸ IsProc r)))
-state-says (have-procs o ds rs r p) = procs-says p ▸ (at (Mark OpenParen) o ▸ (AreDecs ds ▸ (AreProcsBar rs ▸ IsProc r)))
-state-says (new-word i p) = dec-says p ▸ at (Word New) i
-state-says (new-name i x p) = dec-says p ▸ (at (Word New) i ▸ ident x)
-state-says (let-pat i r p) = dec-says p ▸ (at (Word ValWord) i ▸ IsPat r)
-state-says (def-word i ds p) = dec-says p ▸ (at (Word Def) i ▸ AreDefinitionsAnd ds)
-state-says (have-def i ds x a p) = dec-says p ▸ (at (Word Def) i ▸ (AreDefinitionsAnd ds ▸ (ident x ▸ IsAbs a)))
-state-says (type-word i p) = dec-says p ▸ at (Word TypeDefinition) i
-state-says (alias-name i x p) = dec-says p ▸ (at (Word TypeDefinition) i ▸ ident x)
-state-says (operator-open i p) = dec-says p ▸ (at (Word TypeDefinition) i ▸ mark OpenParen)
-state-says (operator-params i x ys p) = dec-says p ▸ (at (Word TypeDefinition) i ▸ (mark OpenParen ▸ (ident x ▸ idents ys)))
-state-says (operator-closed i x ys p) = dec-says p ▸ closed-operator i x ys
-state-says (need-abs p) = abs-says p
-state-says (abs-open o p) = abs-says p ▸ at (Mark OpenParen) o
-state-says (abs-pat r p) = abs-says p ▸ IsPat r
-state-says (abs-params o f p) = abs-says p ▸ (at (Mark OpenParen) o ▸ (AreFieldPats f ▸ mark CloseParen))
-state-says (abs-result o f t p) = abs-says p ▸ (at (Mark OpenParen) o ▸ (AreFieldPats f ▸ (mark CloseParen ▸ (mark Colon ▸ IsType t))))
-state-says (need-pat p) = pat-says p
-state-says (pat-open o p) = pat-says p ▸ at (Mark OpenParen) o
-state-says (pat-rec o p) = pat-says p ▸ (at (Mark OpenParen) o ▸ word Rec)
-state-says (pat-folded o r q p) = pat-says p ▸ (at (Mark OpenParen) o ▸ (word Rec ▸ (IsRType r ▸ IsPat q)))
-state-says (have-bind x p) = pat-says p ▸ ident x
-state-says (have-any i p) = pat-says p ▸ at (Mark Underscore) i
-state-says (after-binders p bs) = pats-says p ▸ AreBinders bs
-state-says (after-pats p bs ps) = pats-says p ▸ (AreBinders bs ▸ ArePats ps)
-state-says (pat-name p bs ps x) = pats-says p ▸ (AreBinders bs ▸ (ArePats ps ▸ ident x))
-state-says (after-pat-labels p bs ps ls) = pats-says p ▸ (AreBinders bs ▸ (ArePats ps ▸ AreLabelledPats ls))
-state-says (pat-label p bs ps ls x) = pats-says p ▸ (AreBinders bs ▸ (ArePats ps ▸ (AreLabelledPats ls ▸ ident x)))
-state-says (binder-hash h p) = binder-says p ▸ at (Mark Hash) h
-state-says (binder-name h x p) = binder-says p ▸ (at (Mark Hash) h ▸ ident x)
-state-says (need-kind h x p) = binder-says p ▸ (at (Mark Hash) h ▸ (ident x ▸ mark Colon))
-state-says (kind-args h x n p) = binder-says p ▸ (at (Mark Hash) h ▸ (ident x ▸ (mark Colon ▸ (mark OpenParen ▸ times n (word TypeKind)))))
-state-says (kind-arrow h x n p) = binder-says p ▸ (at (Mark Hash) h ▸ (ident x ▸ (mark Colon ▸ arrow-words n)))
-state-says (kind-result h x n p) = binder-says p ▸ (at (Mark Hash) h ▸ (ident x ▸ (mark Colon ▸ result-words n)))
-state-says (binder-kind h x k j p) = binder-says p ▸ (at (Mark Hash) h ▸ (ident x ▸ (mark Colon ▸ IsKind k j)))
-state-says (need-type p) = type-says p
-state-says (type-open o p) = type-says p ▸ at (Mark OpenParen) o
-state-says (rec-word o p) = type-says p ▸ (at (Mark OpenParen) o ▸ word Rec)
-state-says (rec-name o x p) = type-says p ▸ (at (Mark OpenParen) o ▸ (word Rec ▸ ident x))
-state-says (rec-body o x t p) = type-says p ▸ (at (Mark OpenParen) o ▸ (word Rec ▸ (ident x ▸ (mark Equals ▸ IsType t))))
-state-says (type-args o x ts p) = type-says p ▸ (at (Mark OpenParen) o ▸ (ident x ▸ AreTypes ts))
-state-says (after-type-binders o bs p) = type-says p ▸ (at (Mark OpenBracket) o ▸ AreBinders bs)
-state-says (after-types o bs ts p) = type-says p ▸ (at (Mark OpenBracket) o ▸ (AreBinders bs ▸ AreTypes ts))
-state-says (type-name o bs ts x p) = type-says p ▸ (at (Mark OpenBracket) o ▸ (AreBinders bs ▸ (AreTypes ts ▸ ident x)))
-state-says (after-type-labels o bs ts ls p) = type-says p ▸ (at (Mark OpenBracket) o ▸ (AreBinders bs ▸ (AreTypes ts ▸ AreLabelledTypes ls)))
-state-says (type-label o bs ts ls x p) = type-says p ▸ (at (Mark OpenBracket) o ▸ (AreBinders bs ▸ (AreTypes ts ▸ (AreLabelledTypes ls ▸ ident x))))
-state-says (fold-word o p) = place-says p ▸ (at (Mark OpenParen) o ▸ word Rec)
-state-says (fold-body o r v p) = place-says p ▸ (at (Mark OpenParen) o ▸ (word Rec ▸ (IsRType r ▸ IsVal v)))
-state-says (after-arguments p ts) = fields-says p ▸ AreTypeArguments ts
-state-says (after-vals p ts vs) = fields-says p ▸ (AreTypeArguments ts ▸ AreVals vs)
-state-says (val-name p ts vs x) = fields-says p ▸ (AreTypeArguments ts ▸ (AreVals vs ▸ ident x))
-state-says (after-labels p ts vs ls) = fields-says p ▸ (AreTypeArguments ts ▸ (AreVals vs ▸ AreLabelledVals ls))
-state-says (val-label p ts vs ls x) = fields-says p ▸ (AreTypeArguments ts ▸ (AreVals vs ▸ (AreLabelledVals ls ▸ ident x)))
+abbrev pub state_says : State → Phrase
+state_says stop = λ ts. Unit {0}
+state_says (need p) = place_says p
+state_says (fresh_name o x p) = place_says p ▸ (at (Sign OpenParen) o ▸ name x.name x.span)
+state_says (arguments d o x vs p) = place_says p ▸ (at (Sign OpenParen) o ▸ (name x.name x.span ▸ (sign (side_sign d) ▸ AreVals vs)))
+state_says (have_channel c p) = processes_says p ▸ IsChan c
+state_says (have_value v w) = wait_says w ▸ IsVal v
+state_says (have_either v p) = either_says p ▸ IsVal v
+state_says (have_process r i a p) = processes_says p ▸ (at (Keyword If) i ▸ (IsVal a ▸ (keyword Then ▸ IsProc r)))
+state_says (have_processes o ds rs r p) = processes_says p ▸ (at (Sign OpenParen) o ▸ (AreDecs ds ▸ (AreProcsBar rs ▸ IsProc r)))
+state_says (new_keyword i p) = declaration_says p ▸ at (Keyword New) i
+state_says (new_name i x p) = declaration_says p ▸ (at (Keyword New) i ▸ ident x)
+state_says (let_pattern i r p) = declaration_says p ▸ (at (Keyword ValKeyword) i ▸ IsPat r)
+state_says (definition_keyword i ds p) = declaration_says p ▸ (at (Keyword Def) i ▸ AreDefinitionsAnd ds)
+state_says (have_definition i ds x a p) = declaration_says p ▸ (at (Keyword Def) i ▸ (AreDefinitionsAnd ds ▸ (ident x ▸ IsAbs a)))
+state_says (type_keyword i p) = declaration_says p ▸ at (Keyword TypeDefinition) i
+state_says (alias_name i x p) = declaration_says p ▸ (at (Keyword TypeDefinition) i ▸ ident x)
+state_says (operator_open i p) = declaration_says p ▸ (at (Keyword TypeDefinition) i ▸ sign OpenParen)
+state_says (operator_parameters i x ys p) = declaration_says p ▸ (at (Keyword TypeDefinition) i ▸ (sign OpenParen ▸ (ident x ▸ idents ys)))
+state_says (operator_closed i x ys p) = declaration_says p ▸ closed_operator i x ys
+state_says (need_abstraction p) = abstraction_says p
+state_says (abstraction_open o p) = abstraction_says p ▸ at (Sign OpenParen) o
+state_says (abstraction_pattern r p) = abstraction_says p ▸ IsPat r
+state_says (abstraction_parameters o f p) = abstraction_says p ▸ (at (Sign OpenParen) o ▸ (AreFieldPats f ▸ sign CloseParen))
+state_says (abstraction_result o f t p) = abstraction_says p ▸ (at (Sign OpenParen) o ▸ (AreFieldPats f ▸ (sign CloseParen ▸ (sign Colon ▸ IsType t))))
+state_says (need_pattern p) = pattern_says p
+state_says (pattern_open o p) = pattern_says p ▸ at (Sign OpenParen) o
+state_says (pattern_rec o p) = pattern_says p ▸ (at (Sign OpenParen) o ▸ keyword Rec)
+state_says (pattern_folded o r q p) = pattern_says p ▸ (at (Sign OpenParen) o ▸ (keyword Rec ▸ (IsRType r ▸ IsPat q)))
+state_says (have_bind x p) = pattern_says p ▸ ident x
+state_says (have_any i p) = pattern_says p ▸ at (Sign Underscore) i
+state_says (after_binders p bs) = patterns_says p ▸ AreBinders bs
+state_says (after_patterns p bs ps) = patterns_says p ▸ (AreBinders bs ▸ ArePats ps)
+state_says (pattern_name p bs ps x) = patterns_says p ▸ (AreBinders bs ▸ (ArePats ps ▸ ident x))
+state_says (after_pattern_labels p bs ps ls) = patterns_says p ▸ (AreBinders bs ▸ (ArePats ps ▸ AreLabelledPats ls))
+state_says (pattern_label p bs ps ls x) = patterns_says p ▸ (AreBinders bs ▸ (ArePats ps ▸ (AreLabelledPats ls ▸ ident x)))
+state_says (binder_hash h p) = binder_says p ▸ at (Sign Hash) h
+state_says (binder_name h x p) = binder_says p ▸ (at (Sign Hash) h ▸ ident x)
+state_says (need_kind h x p) = binder_says p ▸ (at (Sign Hash) h ▸ (ident x ▸ sign Colon))
+state_says (kind_arguments h x n p) = binder_says p ▸ (at (Sign Hash) h ▸ (ident x ▸ (sign Colon ▸ (sign OpenParen ▸ times n (keyword TypeKind)))))
+state_says (kind_arrow h x n p) = binder_says p ▸ (at (Sign Hash) h ▸ (ident x ▸ (sign Colon ▸ arrow_keywords n)))
+state_says (kind_result h x n p) = binder_says p ▸ (at (Sign Hash) h ▸ (ident x ▸ (sign Colon ▸ result_keywords n)))
+state_says (binder_kind h x k j p) = binder_says p ▸ (at (Sign Hash) h ▸ (ident x ▸ (sign Colon ▸ IsKind k j)))
+state_says (need_type p) = type_says p
+state_says (type_open o p) = type_says p ▸ at (Sign OpenParen) o
+state_says (rec_keyword o p) = type_says p ▸ (at (Sign OpenParen) o ▸ keyword Rec)
+state_says (rec_name o x p) = type_says p ▸ (at (Sign OpenParen) o ▸ (keyword Rec ▸ ident x))
+state_says (rec_body o x t p) = type_says p ▸ (at (Sign OpenParen) o ▸ (keyword Rec ▸ (ident x ▸ (sign Equals ▸ IsType t))))
+state_says (operator_arguments o x ts p) = type_says p ▸ (at (Sign OpenParen) o ▸ (ident x ▸ AreTypes ts))
+state_says (after_type_binders o bs p) = type_says p ▸ (at (Sign OpenBracket) o ▸ AreBinders bs)
+state_says (after_types o bs ts p) = type_says p ▸ (at (Sign OpenBracket) o ▸ (AreBinders bs ▸ AreTypes ts))
+state_says (type_name o bs ts x p) = type_says p ▸ (at (Sign OpenBracket) o ▸ (AreBinders bs ▸ (AreTypes ts ▸ ident x)))
+state_says (after_type_labels o bs ts ls p) = type_says p ▸ (at (Sign OpenBracket) o ▸ (AreBinders bs ▸ (AreTypes ts ▸ AreLabelledTypes ls)))
+state_says (type_label o bs ts ls x p) = type_says p ▸ (at (Sign OpenBracket) o ▸ (AreBinders bs ▸ (AreTypes ts ▸ (AreLabelledTypes ls ▸ ident x))))
+state_says (fold_keyword o p) = place_says p ▸ (at (Sign OpenParen) o ▸ keyword Rec)
+state_says (fold_body o r v p) = place_says p ▸ (at (Sign OpenParen) o ▸ (keyword Rec ▸ (IsRType r ▸ IsVal v)))
+state_says (after_arguments p ts) = fields_says p ▸ AreTypeArguments ts
+state_says (after_values p ts vs) = fields_says p ▸ (AreTypeArguments ts ▸ AreVals vs)
+state_says (value_name p ts vs x) = fields_says p ▸ (AreTypeArguments ts ▸ (AreVals vs ▸ ident x))
+state_says (after_labels p ts vs ls) = fields_says p ▸ (AreTypeArguments ts ▸ (AreVals vs ▸ AreLabelledVals ls))
+state_says (value_label p ts vs ls x) = fields_says p ▸ (AreTypeArguments ts ▸ (AreVals vs ▸ (AreLabelledVals ls ▸ ident x)))

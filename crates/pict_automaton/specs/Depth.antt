@@ -2,156 +2,156 @@
 -- conditionals, type prefixes, and abstractions from their first token on. A place counts those in which the phrase
 -- stands that is to come there. The nesting of a token that is read is the greater of the depths before and behind it.
 use Rattle.std.specs.Prelude.{ℕ, suc, zero}
-use Rattle.pict_automaton.specs.Places.{ValPlace, in-let, in-function, in-send, in-side, in-field, in-label, in-fold, in-else, waiting, Wait, at-top, in-test, in-then, in-paren, ProcPlace, in-run, in-process, in-else-proc, in-bar, in-then-proc, EitherPlace, in-paren-either, in-then-either, ProcPlaces, proc-only, proc-either, ValPlaces, val-only, val-either, Place, for-val, for-proc, for-either, DecPlace, top-decs, paren-decs, AbsPlace, in-def, in-lambda, in-input, FieldsPlace, in-record, in-apply, PatPlace, in-let-pat, in-abs-pat, in-fold-pat, in-field-pat, in-label-pat, FieldPatsPlace, in-pat-record, in-params, TypePlace, in-new, in-alias, in-operator, in-bind, in-any, in-result, in-pat-fold-type, in-fold-type, in-bound, in-prefix, in-type-field, in-type-label, in-type-apply, in-rec, in-argument, BinderPlace, of-pats, of-types, State, stop, need, fresh-name, arguments, have-chan, have-val, have-either, have-proc, have-procs, new-word, new-name, let-pat, def-word, have-def, type-word, alias-name, operator-open, operator-params, operator-closed, need-abs, abs-open, abs-pat, abs-params, abs-result, need-pat, pat-open, pat-rec, pat-folded, have-bind, have-any, after-binders, after-pats, pat-name, after-pat-labels, pat-label, binder-hash, binder-name, need-kind, kind-args, kind-arrow, kind-result, binder-kind, need-type, type-open, rec-word, rec-name, rec-body, type-args, after-type-binders, after-types, type-name, after-type-labels, type-label, fold-word, fold-body, after-arguments, after-vals, val-name, after-labels, val-label}
+use Rattle.pict_automaton.specs.Places.{ValuePlace, in_let, in_function, in_send, in_side, in_field, in_label, in_fold, in_else, waiting, Wait, at_top, in_test, in_then, in_paren, ProcessPlace, in_run, in_process, in_else_process, in_bar, in_then_process, EitherPlace, in_paren_either, in_then_either, ProcessPlaces, process_only, process_either, ValuePlaces, value_only, value_either, Place, for_value, for_process, for_either, DeclarationPlace, top_declarations, paren_declarations, AbstractionPlace, in_definition, in_lambda, in_input, FieldsPlace, in_record, in_apply, PatternPlace, in_let_pattern, in_abstraction_pattern, in_fold_pattern, in_field_pattern, in_label_pattern, FieldPatternsPlace, in_pattern_record, in_parameters, TypePlace, in_new, in_alias, in_operator, in_bind, in_any, in_result, in_pattern_fold_type, in_fold_type, in_bound, in_prefix, in_type_field, in_type_label, in_type_apply, in_rec, in_argument, BinderPlace, of_patterns, of_types, State, stop, need, fresh_name, arguments, have_channel, have_value, have_either, have_process, have_processes, new_keyword, new_name, let_pattern, definition_keyword, have_definition, type_keyword, alias_name, operator_open, operator_parameters, operator_closed, need_abstraction, abstraction_open, abstraction_pattern, abstraction_parameters, abstraction_result, need_pattern, pattern_open, pattern_rec, pattern_folded, have_bind, have_any, after_binders, after_patterns, pattern_name, after_pattern_labels, pattern_label, binder_hash, binder_name, need_kind, kind_arguments, kind_arrow, kind_result, binder_kind, need_type, type_open, rec_keyword, rec_name, rec_body, operator_arguments, after_type_binders, after_types, type_name, after_type_labels, type_label, fold_keyword, fold_body, after_arguments, after_values, value_name, after_labels, value_label}
 
 abbrev mutual
-  pub val-depth : ValPlace → ℕ
-  val-depth (in-let i r p) = dec-depth p
-  val-depth (in-function o f r p) = suc (abs-depth p)
-  val-depth (in-send c p) = procs-depth p
-  val-depth (in-side d o x vs p) = suc (place-depth p)
-  val-depth (in-field p ts vs) = fields-depth p
-  val-depth (in-label p ts vs ls x) = fields-depth p
-  val-depth (in-fold o r p) = suc (place-depth p)
-  val-depth (in-else i a b p) = suc (vals-depth p)
-  val-depth (waiting w) = wait-depth w
+  pub value_depth : ValuePlace → ℕ
+  value_depth (in_let i r p) = declaration_depth p
+  value_depth (in_function o f r p) = suc (abstraction_depth p)
+  value_depth (in_send c p) = processes_depth p
+  value_depth (in_side d o x vs p) = suc (place_depth p)
+  value_depth (in_field p ts vs) = fields_depth p
+  value_depth (in_label p ts vs ls x) = fields_depth p
+  value_depth (in_fold o r p) = suc (place_depth p)
+  value_depth (in_else i a b p) = suc (values_depth p)
+  value_depth (waiting w) = wait_depth w
 
-  pub wait-depth : Wait → ℕ
-  wait-depth (at-top ds) = zero
-  wait-depth (in-test i p) = suc (place-depth p)
-  wait-depth (in-then i a p) = suc (val-depth p)
-  wait-depth (in-paren o ds p) = suc (val-depth p)
+  pub wait_depth : Wait → ℕ
+  wait_depth (at_top ds) = zero
+  wait_depth (in_test i p) = suc (place_depth p)
+  wait_depth (in_then i a p) = suc (value_depth p)
+  wait_depth (in_paren o ds p) = suc (value_depth p)
 
-  pub proc-depth : ProcPlace → ℕ
-  proc-depth (in-run i p) = dec-depth p
-  proc-depth (in-process r p) = suc (abs-depth p)
-  proc-depth (in-else-proc i a r p) = suc (procs-depth p)
-  proc-depth (in-bar o ds rs p) = suc (procs-depth p)
-  proc-depth (in-then-proc i a p) = suc (proc-depth p)
+  pub process_depth : ProcessPlace → ℕ
+  process_depth (in_run i p) = declaration_depth p
+  process_depth (in_process r p) = suc (abstraction_depth p)
+  process_depth (in_else_process i a r p) = suc (processes_depth p)
+  process_depth (in_bar o ds rs p) = suc (processes_depth p)
+  process_depth (in_then_process i a p) = suc (process_depth p)
 
-  pub either-depth : EitherPlace → ℕ
-  either-depth (in-paren-either o ds p) = suc (procs-depth p)
-  either-depth (in-then-either i a p) = suc (either-depth p)
+  pub either_depth : EitherPlace → ℕ
+  either_depth (in_paren_either o ds p) = suc (processes_depth p)
+  either_depth (in_then_either i a p) = suc (either_depth p)
 
-  pub procs-depth : ProcPlaces → ℕ
-  procs-depth (proc-only p) = proc-depth p
-  procs-depth (proc-either p) = either-depth p
+  pub processes_depth : ProcessPlaces → ℕ
+  processes_depth (process_only p) = process_depth p
+  processes_depth (process_either p) = either_depth p
 
-  pub vals-depth : ValPlaces → ℕ
-  vals-depth (val-only p) = val-depth p
-  vals-depth (val-either p) = either-depth p
+  pub values_depth : ValuePlaces → ℕ
+  values_depth (value_only p) = value_depth p
+  values_depth (value_either p) = either_depth p
 
-  pub place-depth : Place → ℕ
-  place-depth (for-val p) = val-depth p
-  place-depth (for-proc p) = proc-depth p
-  place-depth (for-either p) = either-depth p
+  pub place_depth : Place → ℕ
+  place_depth (for_value p) = value_depth p
+  place_depth (for_process p) = process_depth p
+  place_depth (for_either p) = either_depth p
 
-  pub dec-depth : DecPlace → ℕ
-  dec-depth (top-decs ds) = zero
-  dec-depth (paren-decs o ds p) = suc (place-depth p)
+  pub declaration_depth : DeclarationPlace → ℕ
+  declaration_depth (top_declarations ds) = zero
+  declaration_depth (paren_declarations o ds p) = suc (place_depth p)
 
   -- the abstraction that is to come isn't counted yet
-  pub abs-depth : AbsPlace → ℕ
-  abs-depth (in-def i ds x p) = dec-depth p
-  abs-depth (in-lambda i p) = vals-depth p
-  abs-depth (in-input a c p) = procs-depth p
+  pub abstraction_depth : AbstractionPlace → ℕ
+  abstraction_depth (in_definition i ds x p) = declaration_depth p
+  abstraction_depth (in_lambda i p) = values_depth p
+  abstraction_depth (in_input a c p) = processes_depth p
 
-  pub fields-depth : FieldsPlace → ℕ
-  fields-depth (in-record o p) = suc (vals-depth p)
-  fields-depth (in-apply o v p) = suc (place-depth p)
-
-abbrev mutual
-  pub pat-depth : PatPlace → ℕ
-  pat-depth (in-let-pat i p) = dec-depth p
-  pat-depth (in-abs-pat p) = suc (abs-depth p)
-  pat-depth (in-fold-pat o r p) = suc (pat-depth p)
-  pat-depth (in-field-pat p bs ps) = pats-depth p
-  pat-depth (in-label-pat p bs ps ls x) = pats-depth p
-
-  pub pats-depth : FieldPatsPlace → ℕ
-  pats-depth (in-pat-record o p) = suc (pat-depth p)
-  pats-depth (in-params o p) = suc (suc (abs-depth p))
+  pub fields_depth : FieldsPlace → ℕ
+  fields_depth (in_record o p) = suc (values_depth p)
+  fields_depth (in_apply o v p) = suc (place_depth p)
 
 abbrev mutual
-  pub type-depth : TypePlace → ℕ
-  type-depth (in-new i x p) = dec-depth p
-  type-depth (in-alias i x p) = dec-depth p
-  type-depth (in-operator i x ys p) = dec-depth p
-  type-depth (in-bind x p) = pat-depth p
-  type-depth (in-any i p) = pat-depth p
-  type-depth (in-result o f p) = suc (abs-depth p)
-  type-depth (in-pat-fold-type o p) = suc (pat-depth p)
-  type-depth (in-fold-type o p) = suc (place-depth p)
-  type-depth (in-bound h x k p) = binder-depth p
-  type-depth (in-prefix m i p) = suc (type-depth p)
-  type-depth (in-type-field o bs ts p) = suc (type-depth p)
-  type-depth (in-type-label o bs ts ls x p) = suc (type-depth p)
-  type-depth (in-type-apply o x ts p) = suc (type-depth p)
-  type-depth (in-rec o x p) = suc (type-depth p)
-  type-depth (in-argument p ts) = fields-depth p
+  pub pattern_depth : PatternPlace → ℕ
+  pattern_depth (in_let_pattern i p) = declaration_depth p
+  pattern_depth (in_abstraction_pattern p) = suc (abstraction_depth p)
+  pattern_depth (in_fold_pattern o r p) = suc (pattern_depth p)
+  pattern_depth (in_field_pattern p bs ps) = patterns_depth p
+  pattern_depth (in_label_pattern p bs ps ls x) = patterns_depth p
 
-  pub binder-depth : BinderPlace → ℕ
-  binder-depth (of-pats p bs) = pats-depth p
-  binder-depth (of-types o bs p) = suc (type-depth p)
+  pub patterns_depth : FieldPatternsPlace → ℕ
+  patterns_depth (in_pattern_record o p) = suc (pattern_depth p)
+  patterns_depth (in_parameters o p) = suc (suc (abstraction_depth p))
+
+abbrev mutual
+  pub type_depth : TypePlace → ℕ
+  type_depth (in_new i x p) = declaration_depth p
+  type_depth (in_alias i x p) = declaration_depth p
+  type_depth (in_operator i x ys p) = declaration_depth p
+  type_depth (in_bind x p) = pattern_depth p
+  type_depth (in_any i p) = pattern_depth p
+  type_depth (in_result o f p) = suc (abstraction_depth p)
+  type_depth (in_pattern_fold_type o p) = suc (pattern_depth p)
+  type_depth (in_fold_type o p) = suc (place_depth p)
+  type_depth (in_bound h x k p) = binder_depth p
+  type_depth (in_prefix m i p) = suc (type_depth p)
+  type_depth (in_type_field o bs ts p) = suc (type_depth p)
+  type_depth (in_type_label o bs ts ls x p) = suc (type_depth p)
+  type_depth (in_type_apply o x ts p) = suc (type_depth p)
+  type_depth (in_rec o x p) = suc (type_depth p)
+  type_depth (in_argument p ts) = fields_depth p
+
+  pub binder_depth : BinderPlace → ℕ
+  binder_depth (of_patterns p bs) = patterns_depth p
+  binder_depth (of_types o bs p) = suc (type_depth p)
 
 abbrev pub depth : State → ℕ
 depth stop = zero
-depth (need p) = place-depth p
-depth (fresh-name o x p) = suc (place-depth p)
-depth (arguments d o x vs p) = suc (place-depth p)
-depth (have-chan c p) = procs-depth p
-depth (have-val v w) = wait-depth w
-depth (have-either v p) = either-depth p
-depth (have-proc r i a p) = suc (procs-depth p)
-depth (have-procs o ds rs r p) = suc (procs-depth p)
-depth (new-word i p) = dec-depth p
-depth (new-name i x p) = dec-depth p
-depth (let-pat i r p) = dec-depth p
-depth (def-word i ds p) = dec-depth p
-depth (have-def i ds x a p) = dec-depth p
-depth (type-word i p) = dec-depth p
-depth (alias-name i x p) = dec-depth p
-depth (operator-open i p) = suc (dec-depth p)
-depth (operator-params i x ys p) = suc (dec-depth p)
-depth (operator-closed i x ys p) = dec-depth p
-depth (need-abs p) = abs-depth p
-depth (abs-open o p) = suc (suc (abs-depth p))
-depth (abs-pat r p) = suc (abs-depth p)
-depth (abs-params o f p) = suc (abs-depth p)
-depth (abs-result o f t p) = suc (abs-depth p)
-depth (need-pat p) = pat-depth p
-depth (pat-open o p) = suc (pat-depth p)
-depth (pat-rec o p) = suc (pat-depth p)
-depth (pat-folded o r q p) = suc (pat-depth p)
-depth (have-bind x p) = pat-depth p
-depth (have-any i p) = pat-depth p
-depth (after-binders p bs) = pats-depth p
-depth (after-pats p bs ps) = pats-depth p
-depth (pat-name p bs ps x) = pats-depth p
-depth (after-pat-labels p bs ps ls) = pats-depth p
-depth (pat-label p bs ps ls x) = pats-depth p
-depth (binder-hash h p) = binder-depth p
-depth (binder-name h x p) = binder-depth p
-depth (need-kind h x p) = binder-depth p
-depth (kind-args h x n p) = suc (binder-depth p)
-depth (kind-arrow h x n p) = suc (binder-depth p)
-depth (kind-result h x n p) = suc (binder-depth p)
-depth (binder-kind h x k j p) = binder-depth p
-depth (need-type p) = type-depth p
-depth (type-open o p) = suc (type-depth p)
-depth (rec-word o p) = suc (type-depth p)
-depth (rec-name o x p) = suc (type-depth p)
-depth (rec-body o x t p) = suc (type-depth p)
-depth (type-args o x ts p) = suc (type-depth p)
-depth (after-type-binders o bs p) = suc (type-depth p)
-depth (after-types o bs ts p) = suc (type-depth p)
-depth (type-name o bs ts x p) = suc (type-depth p)
-depth (after-type-labels o bs ts ls p) = suc (type-depth p)
-depth (type-label o bs ts ls x p) = suc (type-depth p)
-depth (fold-word o p) = suc (place-depth p)
-depth (fold-body o r v p) = suc (place-depth p)
-depth (after-arguments p ts) = fields-depth p
-depth (after-vals p ts vs) = fields-depth p
-depth (val-name p ts vs x) = fields-depth p
-depth (after-labels p ts vs ls) = fields-depth p
-depth (val-label p ts vs ls x) = fields-depth p
+depth (need p) = place_depth p
+depth (fresh_name o x p) = suc (place_depth p)
+depth (arguments d o x vs p) = suc (place_depth p)
+depth (have_channel c p) = processes_depth p
+depth (have_value v w) = wait_depth w
+depth (have_either v p) = either_depth p
+depth (have_process r i a p) = suc (processes_depth p)
+depth (have_processes o ds rs r p) = suc (processes_depth p)
+depth (new_keyword i p) = declaration_depth p
+depth (new_name i x p) = declaration_depth p
+depth (let_pattern i r p) = declaration_depth p
+depth (definition_keyword i ds p) = declaration_depth p
+depth (have_definition i ds x a p) = declaration_depth p
+depth (type_keyword i p) = declaration_depth p
+depth (alias_name i x p) = declaration_depth p
+depth (operator_open i p) = suc (declaration_depth p)
+depth (operator_parameters i x ys p) = suc (declaration_depth p)
+depth (operator_closed i x ys p) = declaration_depth p
+depth (need_abstraction p) = abstraction_depth p
+depth (abstraction_open o p) = suc (suc (abstraction_depth p))
+depth (abstraction_pattern r p) = suc (abstraction_depth p)
+depth (abstraction_parameters o f p) = suc (abstraction_depth p)
+depth (abstraction_result o f t p) = suc (abstraction_depth p)
+depth (need_pattern p) = pattern_depth p
+depth (pattern_open o p) = suc (pattern_depth p)
+depth (pattern_rec o p) = suc (pattern_depth p)
+depth (pattern_folded o r q p) = suc (pattern_depth p)
+depth (have_bind x p) = pattern_depth p
+depth (have_any i p) = pattern_depth p
+depth (after_binders p bs) = patterns_depth p
+depth (after_patterns p bs ps) = patterns_depth p
+depth (pattern_name p bs ps x) = patterns_depth p
+depth (after_pattern_labels p bs ps ls) = patterns_depth p
+depth (pattern_label p bs ps ls x) = patterns_depth p
+depth (binder_hash h p) = binder_depth p
+depth (binder_name h x p) = binder_depth p
+depth (need_kind h x p) = binder_depth p
+depth (kind_arguments h x n p) = suc (binder_depth p)
+depth (kind_arrow h x n p) = suc (binder_depth p)
+depth (kind_result h x n p) = suc (binder_depth p)
+depth (binder_kind h x k j p) = binder_depth p
+depth (need_type p) = type_depth p
+depth (type_open o p) = suc (type_depth p)
+depth (rec_keyword o p) = suc (type_depth p)
+depth (rec_name o x p) = suc (type_depth p)
+depth (rec_body o x t p) = suc (type_depth p)
+depth (operator_arguments o x ts p) = suc (type_depth p)
+depth (after_type_binders o bs p) = suc (type_depth p)
+depth (after_types o bs ts p) = suc (type_depth p)
+depth (type_name o bs ts x p) = suc (type_depth p)
+depth (after_type_labels o bs ts ls p) = suc (type_depth p)
+depth (type_label o bs ts ls x p) = suc (type_depth p)
+depth (fold_keyword o p) = suc (place_depth p)
+depth (fold_body o r v p) = suc (place_depth p)
+depth (after_arguments p ts) = fields_depth p
+depth (after_values p ts vs) = fields_depth p
+depth (value_name p ts vs x) = fields_depth p
+depth (after_labels p ts vs ls) = fields_depth p
+depth (value_label p ts vs ls x) = fields_depth p

@@ -1,203 +1,316 @@
 -- Where the parser is in a text: the constructs that are open, as places where a phrase is to come, and its states.
+-- Above each stand the lines of the grammar that it is in the middle of: what stands before the dot has been read, and
+-- what stands behind it is to come.
 use Rattle.std.specs.Prelude.{ℕ, List, Option}
 use Rattle.pict_syntax.specs.declared.span.Span.{Span}
 use Rattle.pict_syntax.specs.declared.id.Id.{Id}
 use Rattle.pict_syntax.specs.declared.type_tree.KindTree.{KindTree}
-use Rattle.pict_syntax.specs.Trees.{TypeTree, both-type, read-type, write-type, respond-type, TypeTrees, TypeBinders, LabelledTypes, RType, Pat, FieldPats, Pats, LabelledPats, Decs, Definitions, Abs, Chan, right-chan, left-chan, Val, Vals, LabelledVals, Proc, Procs}
+use Rattle.pict_syntax.specs.Trees.{TypeTree, both_type, read_type, write_type, respond_type, TypeTrees, TypeBinders, LabelledTypes, RType, Pat, FieldPats, Pats, LabelledPats, Decs, Definitions, Abs, Chan, right_chan, left_chan, Val, Vals, LabelledVals, Proc, Procs}
 
 -- the sign behind the name of `( Name > .. )` and `( Name < .. )`
 pub data Side : Type 0 where
   rightward leftward : Side
 
-abbrev pub side-chan : Side → Span → Id → Vals → Chan
-side-chan rightward s x vs = right-chan s x vs
-side-chan leftward s x vs = left-chan s x vs
+abbrev pub side_channel : Side → Span → Id → Vals → Chan
+side_channel rightward s x vs = right_chan s x vs
+side_channel leftward s x vs = left_chan s x vs
 
 -- the sign before an abstraction that receives
 pub data Ask : Type 0 where
-  asks-once asks-always : Ask
+  asks_once asks_always : Ask
 
 -- the sign before a channel's content
 pub data Prefix : Type 0 where
   both read write respond : Prefix
 
 abbrev pub prefixed : Prefix → Span → TypeTree → TypeTree
-prefixed both s t = both-type s t
-prefixed read s t = read-type s t
-prefixed write s t = write-type s t
-prefixed respond s t = respond-type s t
+prefixed both s t = both_type s t
+prefixed read s t = read_type s t
+prefixed write s t = write_type s t
+prefixed respond s t = respond_type s t
 
 mutual
   -- where a value is to come, and no process may
-  pub data ValPlace : Type 0 where
-    in-let : Span → Pat → DecPlace → ValPlace
-    in-function : Span → FieldPats → RType → AbsPlace → ValPlace
-    in-send : Chan → ProcPlaces → ValPlace
-    in-side : Side → Span → Id → Vals → Place → ValPlace
-    in-field : FieldsPlace → TypeTrees → Vals → ValPlace
-    in-label : FieldsPlace → TypeTrees → Vals → LabelledVals → Id → ValPlace
-    in-fold : Span → RType → Place → ValPlace
-    in-else : Span → Val → Val → ValPlaces → ValPlace
-    waiting : Wait → ValPlace
+  pub data ValuePlace : Type 0 where
+    -- `val Pat = . Val`
+    in_let : Span → Pat → DeclarationPlace → ValuePlace
+    -- `( FieldPats ) RType = . Val`
+    in_function : Span → FieldPats → RType → AbstractionPlace → ValuePlace
+    -- `Chan ! . Val`
+    in_send : Chan → ProcessPlaces → ValuePlace
+    -- `( Name > Val* . Val Val* )`, `( Name < Val* . Val Val* )`
+    in_side : Side → Span → Id → Vals → Place → ValuePlace
+    -- `( # Type )* Val* . Val Val* ( Id = Val )*`
+    in_field : FieldsPlace → TypeTrees → Vals → ValuePlace
+    -- `( # Type )* Val* ( Id = Val )* Id = . Val ( Id = Val )*`
+    in_label : FieldsPlace → TypeTrees → Vals → LabelledVals → Id → ValuePlace
+    -- `( rec RType . Val )`
+    in_fold : Span → RType → Place → ValuePlace
+    -- `if Val then Val else . Val`
+    in_else : Span → Val → Val → ValuePlaces → ValuePlace
+    -- the token behind the value says what it is for
+    waiting : Wait → ValuePlace
 
   -- where the token behind a value says what it is for
   pub data Wait : Type 0 where
-    at-top : Decs → Wait
-    in-test : Span → Place → Wait
-    in-then : Span → Val → ValPlace → Wait
-    in-paren : Span → Decs → ValPlace → Wait
+    -- `Dec* . Val ;`
+    at_top : Decs → Wait
+    -- `if . Val then`
+    in_test : Span → Place → Wait
+    -- `if Val then . Val else Val`
+    in_then : Span → Val → ValuePlace → Wait
+    -- `( Dec* . Val`
+    in_paren : Span → Decs → ValuePlace → Wait
 
   -- where a process is to come, and no value may
-  pub data ProcPlace : Type 0 where
-    in-run : Span → DecPlace → ProcPlace
-    in-process : Pat → AbsPlace → ProcPlace
-    in-else-proc : Span → Val → Proc → ProcPlaces → ProcPlace
-    in-bar : Span → Decs → Procs → ProcPlaces → ProcPlace
-    in-then-proc : Span → Val → ProcPlace → ProcPlace
+  pub data ProcessPlace : Type 0 where
+    -- `run . Proc`
+    in_run : Span → DeclarationPlace → ProcessPlace
+    -- `Pat = . Proc`
+    in_process : Pat → AbstractionPlace → ProcessPlace
+    -- `if Val then Proc else . Proc`
+    in_else_process : Span → Val → Proc → ProcessPlaces → ProcessPlace
+    -- `( Dec* ( Proc | )* . Proc`
+    in_bar : Span → Decs → Procs → ProcessPlaces → ProcessPlace
+    -- `if Val then . Proc else Proc`
+    in_then_process : Span → Val → ProcessPlace → ProcessPlace
 
   -- where a value or a process is to come
   pub data EitherPlace : Type 0 where
-    in-paren-either : Span → Decs → ProcPlaces → EitherPlace
-    in-then-either : Span → Val → EitherPlace → EitherPlace
+    -- `( Dec* . Val`, `( Dec* ( Proc | )* . Proc`
+    in_paren_either : Span → Decs → ProcessPlaces → EitherPlace
+    -- `if Val then . Val else Val`, `if Val then . Proc else Proc`
+    in_then_either : Span → Val → EitherPlace → EitherPlace
 
   -- where a process may come
-  pub data ProcPlaces : Type 0 where
-    proc-only : ProcPlace → ProcPlaces
-    proc-either : EitherPlace → ProcPlaces
+  pub data ProcessPlaces : Type 0 where
+    process_only : ProcessPlace → ProcessPlaces
+    process_either : EitherPlace → ProcessPlaces
 
   -- where a value may come
-  pub data ValPlaces : Type 0 where
-    val-only : ValPlace → ValPlaces
-    val-either : EitherPlace → ValPlaces
+  pub data ValuePlaces : Type 0 where
+    value_only : ValuePlace → ValuePlaces
+    value_either : EitherPlace → ValuePlaces
 
   -- where a value, a process or either may come
   pub data Place : Type 0 where
-    for-val : ValPlace → Place
-    for-proc : ProcPlace → Place
-    for-either : EitherPlace → Place
+    for_value : ValuePlace → Place
+    for_process : ProcessPlace → Place
+    for_either : EitherPlace → Place
 
   -- where a declaration stands
-  pub data DecPlace : Type 0 where
-    top-decs : Decs → DecPlace
-    paren-decs : Span → Decs → Place → DecPlace
+  pub data DeclarationPlace : Type 0 where
+    -- `Dec* . Dec`
+    top_declarations : Decs → DeclarationPlace
+    -- `( Dec* . Dec`
+    paren_declarations : Span → Decs → Place → DeclarationPlace
 
   -- where an abstraction stands
-  pub data AbsPlace : Type 0 where
-    in-def : Span → Definitions → Id → DecPlace → AbsPlace
-    in-lambda : Span → ValPlaces → AbsPlace
-    in-input : Ask → Chan → ProcPlaces → AbsPlace
+  pub data AbstractionPlace : Type 0 where
+    -- `def ( Id Abs and )* Id . Abs`
+    in_definition : Span → Definitions → Id → DeclarationPlace → AbstractionPlace
+    -- `\ . Abs`
+    in_lambda : Span → ValuePlaces → AbstractionPlace
+    -- `Chan ? . Abs`, `Chan ?* . Abs`
+    in_input : Ask → Chan → ProcessPlaces → AbstractionPlace
 
   -- where the fields of a record or of an application stand
   pub data FieldsPlace : Type 0 where
-    in-record : Span → ValPlaces → FieldsPlace
-    in-apply : Span → Val → Place → FieldsPlace
+    -- `[ . FieldVals ]`
+    in_record : Span → ValuePlaces → FieldsPlace
+    -- `( Val . FieldVals )`
+    in_apply : Span → Val → Place → FieldsPlace
 
 mutual
   -- where a pattern stands
-  pub data PatPlace : Type 0 where
-    in-let-pat : Span → DecPlace → PatPlace
-    in-abs-pat : AbsPlace → PatPlace
-    in-fold-pat : Span → RType → PatPlace → PatPlace
-    in-field-pat : FieldPatsPlace → TypeBinders → Pats → PatPlace
-    in-label-pat : FieldPatsPlace → TypeBinders → Pats → LabelledPats → Id → PatPlace
+  pub data PatternPlace : Type 0 where
+    -- `val . Pat = Val`
+    in_let_pattern : Span → DeclarationPlace → PatternPlace
+    -- `. Pat = Proc`
+    in_abstraction_pattern : AbstractionPlace → PatternPlace
+    -- `( rec RType . Pat )`
+    in_fold_pattern : Span → RType → PatternPlace → PatternPlace
+    -- `TypeBinder* Pat* . Pat Pat* ( Id = Pat )*`
+    in_field_pattern : FieldPatternsPlace → TypeBinders → Pats → PatternPlace
+    -- `TypeBinder* Pat* ( Id = Pat )* Id = . Pat ( Id = Pat )*`
+    in_label_pattern : FieldPatternsPlace → TypeBinders → Pats → LabelledPats → Id → PatternPlace
 
   -- where the patterns of the fields of a record or of a function stand
-  pub data FieldPatsPlace : Type 0 where
-    in-pat-record : Span → PatPlace → FieldPatsPlace
-    in-params : Span → AbsPlace → FieldPatsPlace
+  pub data FieldPatternsPlace : Type 0 where
+    -- `[ . FieldPats ]`
+    in_pattern_record : Span → PatternPlace → FieldPatternsPlace
+    -- `( . FieldPats ) RType = Val`
+    in_parameters : Span → AbstractionPlace → FieldPatternsPlace
 
 mutual
   -- where a type stands
   pub data TypePlace : Type 0 where
-    in-new : Span → Id → DecPlace → TypePlace
-    in-alias : Span → Id → DecPlace → TypePlace
-    in-operator : Span → Id → List Id → DecPlace → TypePlace
-    in-bind : Id → PatPlace → TypePlace
-    in-any : Span → PatPlace → TypePlace
-    in-result : Span → FieldPats → AbsPlace → TypePlace
-    in-pat-fold-type : Span → PatPlace → TypePlace
-    in-fold-type : Span → Place → TypePlace
-    in-bound : Span → Id → Option KindTree → BinderPlace → TypePlace
-    in-prefix : Prefix → Span → TypePlace → TypePlace
-    in-type-field : Span → TypeBinders → TypeTrees → TypePlace → TypePlace
-    in-type-label : Span → TypeBinders → TypeTrees → LabelledTypes → Id → TypePlace → TypePlace
-    in-type-apply : Span → Id → TypeTrees → TypePlace → TypePlace
-    in-rec : Span → Id → TypePlace → TypePlace
-    in-argument : FieldsPlace → TypeTrees → TypePlace
+    -- `new Id : . Type`
+    in_new : Span → Id → DeclarationPlace → TypePlace
+    -- `type Id = . Type`
+    in_alias : Span → Id → DeclarationPlace → TypePlace
+    -- `type ( Id Id+ ) = . Type`
+    in_operator : Span → Id → List Id → DeclarationPlace → TypePlace
+    -- `Id : . Type`
+    in_bind : Id → PatternPlace → TypePlace
+    -- `_ : . Type`
+    in_any : Span → PatternPlace → TypePlace
+    -- `( FieldPats ) : . Type = Val`
+    in_result : Span → FieldPats → AbstractionPlace → TypePlace
+    -- `( rec : . Type Pat )`
+    in_pattern_fold_type : Span → PatternPlace → TypePlace
+    -- `( rec : . Type Val )`
+    in_fold_type : Span → Place → TypePlace
+    -- `# Id : Kind < . Type`, `# Id < . Type`
+    in_bound : Span → Id → Option KindTree → BinderPlace → TypePlace
+    -- `^ . Type`, `? . Type`, `! . Type`, `/ . Type`
+    in_prefix : Prefix → Span → TypePlace → TypePlace
+    -- `[ TypeBinder* Type* . Type Type* ( Id = Type )* ]`
+    in_type_field : Span → TypeBinders → TypeTrees → TypePlace → TypePlace
+    -- `[ TypeBinder* Type* ( Id = Type )* Id = . Type ( Id = Type )* ]`
+    in_type_label : Span → TypeBinders → TypeTrees → LabelledTypes → Id → TypePlace → TypePlace
+    -- `( Id Type* . Type Type* )`
+    in_type_apply : Span → Id → TypeTrees → TypePlace → TypePlace
+    -- `( rec Id = . Type )`
+    in_rec : Span → Id → TypePlace → TypePlace
+    -- `( # Type )* # . Type ( # Type )*`
+    in_argument : FieldsPlace → TypeTrees → TypePlace
 
   -- where a type binder stands
   pub data BinderPlace : Type 0 where
-    of-pats : FieldPatsPlace → TypeBinders → BinderPlace
-    of-types : Span → TypeBinders → TypePlace → BinderPlace
+    -- `TypeBinder* . TypeBinder TypeBinder* Pat* ( Id = Pat )*`
+    of_patterns : FieldPatternsPlace → TypeBinders → BinderPlace
+    -- `[ TypeBinder* . TypeBinder TypeBinder* Type* ( Id = Type )* ]`
+    of_types : Span → TypeBinders → TypePlace → BinderPlace
 
 -- what has been read, and what is awaited: each state is named for what was read last, or for what is needed
 pub data State : Type 0 where
+  -- no phrase fits
   stop : State
   -- a value, a process or a declaration is to begin
+  -- `. Val`, `. Proc`, `. Dec`
   need : Place → State
   -- `( Name`; the arguments of `( Name > .. )` so far
-  fresh-name : Span → Id → Place → State
+  -- `( Name . > Val Val+ )`, `( Name . < Val Val+ )`
+  fresh_name : Span → Id → Place → State
+  -- `( Name > Val* . Val* )`, `( Name < Val* . Val* )`
   arguments : Side → Span → Id → Vals → Place → State
   -- whole phrases, whose use the next token says
-  have-chan : Chan → ProcPlaces → State
-  have-val : Val → Wait → State
-  have-either : Val → EitherPlace → State
-  have-proc : Proc → Span → Val → ProcPlaces → State
-  have-procs : Span → Decs → Procs → Proc → ProcPlaces → State
+  -- `Chan . ! Val`, `Chan . ? Abs`, `Chan . ?* Abs`
+  have_channel : Chan → ProcessPlaces → State
+  -- `Val . ;`, `if Val . then`, `if Val then Val . else Val`, `( Val . FieldVals )`, `( Dec+ Val . )`
+  have_value : Val → Wait → State
+  -- `Val . ;`, `if Val then Val . else Val`, `( Val . FieldVals )`, `( Dec+ Val . )`
+  have_either : Val → EitherPlace → State
+  -- `if Val then Proc . else Proc`
+  have_process : Proc → Span → Val → ProcessPlaces → State
+  -- `( Dec* Proc ( | Proc )* . ( | Proc )* )`
+  have_processes : Span → Decs → Procs → Proc → ProcessPlaces → State
   -- declarations
-  new-word : Span → DecPlace → State
-  new-name : Span → Id → DecPlace → State
-  let-pat : Span → Pat → DecPlace → State
-  def-word : Span → Definitions → DecPlace → State
-  have-def : Span → Definitions → Id → Abs → DecPlace → State
-  type-word : Span → DecPlace → State
-  alias-name : Span → Id → DecPlace → State
-  operator-open : Span → DecPlace → State
-  operator-params : Span → Id → List Id → DecPlace → State
-  operator-closed : Span → Id → List Id → DecPlace → State
+  -- `new . Id : Type`
+  new_keyword : Span → DeclarationPlace → State
+  -- `new Id . : Type`
+  new_name : Span → Id → DeclarationPlace → State
+  -- `val Pat . = Val`
+  let_pattern : Span → Pat → DeclarationPlace → State
+  -- `def ( Id Abs and )* . Id Abs ( and Id Abs )*`
+  definition_keyword : Span → Definitions → DeclarationPlace → State
+  -- `def Id Abs ( and Id Abs )* . ( and Id Abs )*`
+  have_definition : Span → Definitions → Id → Abs → DeclarationPlace → State
+  -- `type . Id = Type`, `type . ( Id Id+ ) = Type`
+  type_keyword : Span → DeclarationPlace → State
+  -- `type Id . = Type`
+  alias_name : Span → Id → DeclarationPlace → State
+  -- `type ( . Id Id+ ) = Type`
+  operator_open : Span → DeclarationPlace → State
+  -- `type ( Id Id* . Id* ) = Type`
+  operator_parameters : Span → Id → List Id → DeclarationPlace → State
+  -- `type ( Id Id+ ) . = Type`
+  operator_closed : Span → Id → List Id → DeclarationPlace → State
   -- abstractions
-  need-abs : AbsPlace → State
-  abs-open : Span → AbsPlace → State
-  abs-pat : Pat → AbsPlace → State
-  abs-params : Span → FieldPats → AbsPlace → State
-  abs-result : Span → FieldPats → TypeTree → AbsPlace → State
+  -- `. Abs`
+  need_abstraction : AbstractionPlace → State
+  -- `( . FieldPats ) RType = Val`, `( . rec RType Pat ) = Proc`
+  abstraction_open : Span → AbstractionPlace → State
+  -- `Pat . = Proc`
+  abstraction_pattern : Pat → AbstractionPlace → State
+  -- `( FieldPats ) . RType = Val`
+  abstraction_parameters : Span → FieldPats → AbstractionPlace → State
+  -- `( FieldPats ) : Type . = Val`
+  abstraction_result : Span → FieldPats → TypeTree → AbstractionPlace → State
   -- patterns
-  need-pat : PatPlace → State
-  pat-open : Span → PatPlace → State
-  pat-rec : Span → PatPlace → State
-  pat-folded : Span → RType → Pat → PatPlace → State
-  have-bind : Id → PatPlace → State
-  have-any : Span → PatPlace → State
-  after-binders : FieldPatsPlace → TypeBinders → State
-  after-pats : FieldPatsPlace → TypeBinders → Pats → State
-  pat-name : FieldPatsPlace → TypeBinders → Pats → Id → State
-  after-pat-labels : FieldPatsPlace → TypeBinders → Pats → LabelledPats → State
-  pat-label : FieldPatsPlace → TypeBinders → Pats → LabelledPats → Id → State
+  -- `. Pat`
+  need_pattern : PatternPlace → State
+  -- `( . rec RType Pat )`
+  pattern_open : Span → PatternPlace → State
+  -- `( rec . RType Pat )`
+  pattern_rec : Span → PatternPlace → State
+  -- `( rec RType Pat . )`
+  pattern_folded : Span → RType → Pat → PatternPlace → State
+  -- `Id . RType`
+  have_bind : Id → PatternPlace → State
+  -- `_ . RType`
+  have_any : Span → PatternPlace → State
+  -- `TypeBinder* . TypeBinder* Pat* ( Id = Pat )*`
+  after_binders : FieldPatternsPlace → TypeBinders → State
+  -- `TypeBinder* Pat* . Pat* ( Id = Pat )*`
+  after_patterns : FieldPatternsPlace → TypeBinders → Pats → State
+  -- `TypeBinder* Pat* Id . = Pat ( Id = Pat )*`, `TypeBinder* Pat* Id . RType Pat* ( Id = Pat )*`
+  pattern_name : FieldPatternsPlace → TypeBinders → Pats → Id → State
+  -- `TypeBinder* Pat* ( Id = Pat )* . ( Id = Pat )*`
+  after_pattern_labels : FieldPatternsPlace → TypeBinders → Pats → LabelledPats → State
+  -- `TypeBinder* Pat* ( Id = Pat )* Id . = Pat ( Id = Pat )*`
+  pattern_label : FieldPatternsPlace → TypeBinders → Pats → LabelledPats → Id → State
   -- type binders
-  binder-hash : Span → BinderPlace → State
-  binder-name : Span → Id → BinderPlace → State
-  need-kind : Span → Id → BinderPlace → State
-  kind-args : Span → Id → ℕ → BinderPlace → State
-  kind-arrow : Span → Id → ℕ → BinderPlace → State
-  kind-result : Span → Id → ℕ → BinderPlace → State
-  binder-kind : Span → Id → KindTree → Span → BinderPlace → State
+  -- `# . Id : Kind < Type`
+  binder_hash : Span → BinderPlace → State
+  -- `# Id . : Kind < Type`, `# Id . < Type`
+  binder_name : Span → Id → BinderPlace → State
+  -- `# Id : . Kind < Type`
+  need_kind : Span → Id → BinderPlace → State
+  -- `( Type* . Type* -> Type )`
+  kind_arguments : Span → Id → ℕ → BinderPlace → State
+  -- `( Type+ -> . Type )`
+  kind_arrow : Span → Id → ℕ → BinderPlace → State
+  -- `( Type+ -> Type . )`
+  kind_result : Span → Id → ℕ → BinderPlace → State
+  -- `# Id : Kind . < Type`
+  binder_kind : Span → Id → KindTree → Span → BinderPlace → State
   -- types
-  need-type : TypePlace → State
-  type-open : Span → TypePlace → State
-  rec-word : Span → TypePlace → State
-  rec-name : Span → Id → TypePlace → State
-  rec-body : Span → Id → TypeTree → TypePlace → State
-  type-args : Span → Id → TypeTrees → TypePlace → State
-  after-type-binders : Span → TypeBinders → TypePlace → State
-  after-types : Span → TypeBinders → TypeTrees → TypePlace → State
-  type-name : Span → TypeBinders → TypeTrees → Id → TypePlace → State
-  after-type-labels : Span → TypeBinders → TypeTrees → LabelledTypes → TypePlace → State
-  type-label : Span → TypeBinders → TypeTrees → LabelledTypes → Id → TypePlace → State
+  -- `. Type`
+  need_type : TypePlace → State
+  -- `( . Id Type+ )`, `( . rec Id = Type )`
+  type_open : Span → TypePlace → State
+  -- `( rec . Id = Type )`
+  rec_keyword : Span → TypePlace → State
+  -- `( rec Id . = Type )`
+  rec_name : Span → Id → TypePlace → State
+  -- `( rec Id = Type . )`
+  rec_body : Span → Id → TypeTree → TypePlace → State
+  -- `( Id Type* . Type* )`
+  operator_arguments : Span → Id → TypeTrees → TypePlace → State
+  -- `[ TypeBinder* . TypeBinder* Type* ( Id = Type )* ]`
+  after_type_binders : Span → TypeBinders → TypePlace → State
+  -- `[ TypeBinder* Type* . Type* ( Id = Type )* ]`
+  after_types : Span → TypeBinders → TypeTrees → TypePlace → State
+  -- `[ TypeBinder* Type* Id . = Type ( Id = Type )* ]`, `[ TypeBinder* Type* Id . Type* ( Id = Type )* ]`
+  type_name : Span → TypeBinders → TypeTrees → Id → TypePlace → State
+  -- `[ TypeBinder* Type* ( Id = Type )* . ( Id = Type )* ]`
+  after_type_labels : Span → TypeBinders → TypeTrees → LabelledTypes → TypePlace → State
+  -- `[ TypeBinder* Type* ( Id = Type )* Id . = Type ( Id = Type )* ]`
+  type_label : Span → TypeBinders → TypeTrees → LabelledTypes → Id → TypePlace → State
   -- folds, and the fields of records and applications
-  fold-word : Span → Place → State
-  fold-body : Span → RType → Val → Place → State
-  after-arguments : FieldsPlace → TypeTrees → State
-  after-vals : FieldsPlace → TypeTrees → Vals → State
-  val-name : FieldsPlace → TypeTrees → Vals → Id → State
-  after-labels : FieldsPlace → TypeTrees → Vals → LabelledVals → State
-  val-label : FieldsPlace → TypeTrees → Vals → LabelledVals → Id → State
+  -- `( rec . RType Val )`
+  fold_keyword : Span → Place → State
+  -- `( rec RType Val . )`
+  fold_body : Span → RType → Val → Place → State
+  -- `( # Type )* . ( # Type )* Val* ( Id = Val )*`
+  after_arguments : FieldsPlace → TypeTrees → State
+  -- `( # Type )* Val* . Val* ( Id = Val )*`
+  after_values : FieldsPlace → TypeTrees → Vals → State
+  -- `( # Type )* Val* Id . = Val ( Id = Val )*`, `( # Type )* Val* Id . Val* ( Id = Val )*`
+  value_name : FieldsPlace → TypeTrees → Vals → Id → State
+  -- `( # Type )* Val* ( Id = Val )* . ( Id = Val )*`
+  after_labels : FieldsPlace → TypeTrees → Vals → LabelledVals → State
+  -- `( # Type )* Val* ( Id = Val )* Id . = Val ( Id = Val )*`
+  value_label : FieldsPlace → TypeTrees → Vals → LabelledVals → Id → State

@@ -1,7 +1,7 @@
-//! The parser as a function on states: what each token leads to, and what its runs say about trees.
+//! A device of the proof alone: the parser as a function on states, and what its runs say of the grammar. Nothing here runs.
 #![tactic(auto)]
 
-ghost use Rattle.pict_automaton.specs.Verdicts.{OneVerdict};
+ghost use Rattle.pict_syntax.specs.Verdicts.{OneVerdict};
 ghost use Rattle.pict_syntax.specs.Place.{OneTree};
 
 /// A list of tokens is the tree of at most one program.

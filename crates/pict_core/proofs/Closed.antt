@@ -5,9 +5,9 @@ use Rattle.std.specs.List.{slice_get}
 use Rattle.pict_syntax.specs.declared.primitive.Primitive.{Primitive}
 use Rattle.pict_syntax.specs.declared.primitive.Primitive.TheVariants as primitive
 use Rattle.pict_core.specs.Term.{Val, Vals, Labelled, Pat, Pats, LabelledPats, Bind, Any, RecordPat, no_pats, more_pats, no_labelled_pats, more_labelled_pats, Process, Var, Chan, Int, Char, Boolean, Text, PrimitiveVal, Record, no_vals, more_vals, no_labelled, more_labelled, Zero, Par, New, Out, In, If}
-use Rattle.pict_core.specs.Scope.{IsOver, AreOver, LabelledOver, AllOver, IsUnder, Lacks, IsDistinct, binds, binds_all, binds_labelled}
-use Rattle.pict_core.specs.Substitution.{replace_val, replace_vals, replace_labelled, putting, put, put_var}
-use Rattle.pict_core.specs.Matching.{match_val, match_vals, match_labelled, both, in_record, at_head, at_end, field_at}
+use Rattle.pict_core.specs.Closed.{IsOver, AreOver, LabelledOver, AllOver, IsUnder, Lacks, IsDistinct, binds, binds_all, binds_labelled}
+use Rattle.pict_core.specs.Substitution.{replace_value, replace_values, replace_labelled, substitution, substitute, value_of_variable}
+use Rattle.pict_core.specs.Matching.{match_value, match_values, match_labelled, both, in_record, at_head, at_end, field_at}
 use Rattle.pict_core.specs.Primitives.{Effect, Leaves, Nothing, Answer, Trap, effect_of, at_int, at_char, at_bool, at_text, at_two, at_three, at_ints, divided_by}
 
 -- ---- more variables, more channels
@@ -47,54 +47,54 @@ value_over c [] o n i d h = h (omega arith)
 value_over c (v ∷ vs) o n zero d h = over_more 0 n c c (omega arith) (omega arith) v o.0
 value_over c (v ∷ vs) o n (suc i) d h = value_over c vs o.1 n i d (λ k. h (omega arith))
 
-put_var_over : (n m c : ℕ) (vs : List Val) → m ≡ length vs + n → AllOver 0 c vs → (level : ℕ) → level < m → IsOver n c (put_var 0 vs level)
-put_var_over n m c vs e o level h =
+variable_over : (n m c : ℕ) (vs : List Val) → m ≡ length vs + n → AllOver 0 c vs → (level : ℕ) → level < m → IsOver n c (value_of_variable 0 vs level)
+variable_over n m c vs e o level h =
     let test : nat_lt level 0 ≡ false = grind (arith, nat_tests) in
     let inner : IsOver n c (unwrap_or (slice_get vs (level - 0)) (Var (level - length vs))) = value_over c vs o n (level - 0) (Var (level - length vs)) (λ k. omega arith) in
     subst (λ b. IsOver n c (cond b (Var level) (unwrap_or (slice_get vs (level - 0)) (Var (level - length vs))))) (sym test) inner
 
-lacks_put : (vs : List Val) (label : ℕ) (ls : Labelled) → Lacks label ls → Lacks label (replace_labelled (putting 0 vs) ls)
-lacks_put vs label no_labelled k = tt
-lacks_put vs label (more_labelled l v ls) k = (k.0, lacks_put vs label ls k.1)
+lacks_substituted : (vs : List Val) (label : ℕ) (ls : Labelled) → Lacks label ls → Lacks label (replace_labelled (substitution 0 vs) ls)
+lacks_substituted vs label no_labelled k = tt
+lacks_substituted vs label (more_labelled l v ls) k = (k.0, lacks_substituted vs label ls k.1)
 
-distinct_put : (vs : List Val) (ls : Labelled) → IsDistinct ls → IsDistinct (replace_labelled (putting 0 vs) ls)
-distinct_put vs no_labelled k = tt
-distinct_put vs (more_labelled l v ls) k = (lacks_put vs l ls k.0, distinct_put vs ls k.1)
+distinct_substituted : (vs : List Val) (ls : Labelled) → IsDistinct ls → IsDistinct (replace_labelled (substitution 0 vs) ls)
+distinct_substituted vs no_labelled k = tt
+distinct_substituted vs (more_labelled l v ls) k = (lacks_substituted vs l ls k.0, distinct_substituted vs ls k.1)
 
 mutual
-  put_over : (n m c : ℕ) (vs : List Val) → m ≡ length vs + n → AllOver 0 c vs → (v : Val) → IsOver m c v → IsOver n c (replace_val (putting 0 vs) v)
-  put_over n m c vs e o (Var level) u = put_var_over n m c vs e o level u
-  put_over n m c vs e o (Chan number) u = u
-  put_over n m c vs e o (Int i) u = tt
-  put_over n m c vs e o (Char i) u = tt
-  put_over n m c vs e o (Boolean i) u = tt
-  put_over n m c vs e o (Text i) u = tt
-  put_over n m c vs e o (PrimitiveVal i) u = tt
-  put_over n m c vs e o (Record ws ls) u = (put_all_over n m c vs e o ws u.0, put_labelled_over n m c vs e o ls u.1, distinct_put vs ls u.2)
+  substitute_over : (n m c : ℕ) (vs : List Val) → m ≡ length vs + n → AllOver 0 c vs → (v : Val) → IsOver m c v → IsOver n c (replace_value (substitution 0 vs) v)
+  substitute_over n m c vs e o (Var level) u = variable_over n m c vs e o level u
+  substitute_over n m c vs e o (Chan number) u = u
+  substitute_over n m c vs e o (Int i) u = tt
+  substitute_over n m c vs e o (Char i) u = tt
+  substitute_over n m c vs e o (Boolean i) u = tt
+  substitute_over n m c vs e o (Text i) u = tt
+  substitute_over n m c vs e o (PrimitiveVal i) u = tt
+  substitute_over n m c vs e o (Record ws ls) u = (substitute_all_over n m c vs e o ws u.0, substitute_labelled_over n m c vs e o ls u.1, distinct_substituted vs ls u.2)
 
-  put_all_over : (n m c : ℕ) (vs : List Val) → m ≡ length vs + n → AllOver 0 c vs → (ws : Vals) → AreOver m c ws → AreOver n c (replace_vals (putting 0 vs) ws)
-  put_all_over n m c vs e o no_vals u = tt
-  put_all_over n m c vs e o (more_vals w ws) u = (put_over n m c vs e o w u.0, put_all_over n m c vs e o ws u.1)
+  substitute_all_over : (n m c : ℕ) (vs : List Val) → m ≡ length vs + n → AllOver 0 c vs → (ws : Vals) → AreOver m c ws → AreOver n c (replace_values (substitution 0 vs) ws)
+  substitute_all_over n m c vs e o no_vals u = tt
+  substitute_all_over n m c vs e o (more_vals w ws) u = (substitute_over n m c vs e o w u.0, substitute_all_over n m c vs e o ws u.1)
 
-  put_labelled_over : (n m c : ℕ) (vs : List Val) → m ≡ length vs + n → AllOver 0 c vs → (ls : Labelled) → LabelledOver m c ls → LabelledOver n c (replace_labelled (putting 0 vs) ls)
-  put_labelled_over n m c vs e o no_labelled u = tt
-  put_labelled_over n m c vs e o (more_labelled label w ls) u = (put_over n m c vs e o w u.0, put_labelled_over n m c vs e o ls u.1)
+  substitute_labelled_over : (n m c : ℕ) (vs : List Val) → m ≡ length vs + n → AllOver 0 c vs → (ls : Labelled) → LabelledOver m c ls → LabelledOver n c (replace_labelled (substitution 0 vs) ls)
+  substitute_labelled_over n m c vs e o no_labelled u = tt
+  substitute_labelled_over n m c vs e o (more_labelled label w ls) u = (substitute_over n m c vs e o w u.0, substitute_labelled_over n m c vs e o ls u.1)
 
--- closed values put for all but the last n variables
-pub put_under : (n m c : ℕ) (vs : List Val) → m ≡ length vs + n → AllOver 0 c vs → (p : Process) → IsUnder m c p → IsUnder n c (put 0 vs p)
-put_under n m c vs e o Zero u = tt
-put_under n m c vs e o (Par p q) u = (put_under n m c vs e o p u.0, put_under n m c vs e o q u.1)
-put_under n m c vs e o (New p) u = put_under (n + 1) (m + 1) c vs (omega arith) o p u
-put_under n m c vs e o (Out chan message at) u = (put_over n m c vs e o chan u.0, put_over n m c vs e o message u.1)
-put_under n m c vs e o (In chan replicated pattern body) u = (put_over n m c vs e o chan u.0, put_under (n + binds pattern) (m + binds pattern) c vs (omega arith) o body u.1)
-put_under n m c vs e o (If test p q) u = (put_over n m c vs e o test u.0, put_under n m c vs e o p u.1, put_under n m c vs e o q u.2)
+-- closed values in place of all but the last n variables
+pub substitute_under : (n m c : ℕ) (vs : List Val) → m ≡ length vs + n → AllOver 0 c vs → (p : Process) → IsUnder m c p → IsUnder n c (substitute 0 vs p)
+substitute_under n m c vs e o Zero u = tt
+substitute_under n m c vs e o (Par p q) u = (substitute_under n m c vs e o p u.0, substitute_under n m c vs e o q u.1)
+substitute_under n m c vs e o (New p) u = substitute_under (n + 1) (m + 1) c vs (omega arith) o p u
+substitute_under n m c vs e o (Out chan message at) u = (substitute_over n m c vs e o chan u.0, substitute_over n m c vs e o message u.1)
+substitute_under n m c vs e o (In chan replicated pattern body) u = (substitute_over n m c vs e o chan u.0, substitute_under (n + binds pattern) (m + binds pattern) c vs (omega arith) o body u.1)
+substitute_under n m c vs e o (If test p q) u = (substitute_over n m c vs e o test u.0, substitute_under n m c vs e o p u.1, substitute_under n m c vs e o q u.2)
 
 -- ---- matching
 
--- the parts are as many as the pattern binds, and closed as the value is
+-- the bound values are as many as the pattern binds, and closed as the value is
 abbrev pub Fits : ℕ → ℕ → ℕ → Option (List Val) → Type 0
 Fits n c count None = Unit {0}
-Fits n c count (Some parts) = (length parts ≡ count) × AllOver n c parts
+Fits n c count (Some bound) = (length bound ≡ count) × AllOver n c bound
 
 append_over : (n c : ℕ) (vs ws : List Val) → AllOver n c vs → AllOver n c ws → AllOver n c (vs ++ ws)
 append_over n c [] ws o u = u
@@ -139,20 +139,20 @@ found_fits n c i f h None k = tt
 found_fits n c i f h (Some v) k = h v (k v refl)
 
 mutual
-  pub match_fits : (n c : ℕ) (p : Pat) (v : Val) → IsOver n c v → Fits n c (binds p) (match_val p v)
+  pub match_fits : (n c : ℕ) (p : Pat) (v : Val) → IsOver n c v → Fits n c (binds p) (match_value p v)
   match_fits n c Bind v o = (refl, (o, tt))
   match_fits n c Any v o = (refl, tt)
-  match_fits n c (RecordPat ps ls) v o = record_fits n c (binds_all ps) (binds_labelled ls) (match_vals ps) (match_labelled ls) (match_all_fits n c ps) (match_labelled_fits n c ls) v o
+  match_fits n c (RecordPat ps ls) v o = record_fits n c (binds_all ps) (binds_labelled ls) (match_values ps) (match_labelled ls) (match_all_fits n c ps) (match_labelled_fits n c ls) v o
 
-  match_all_fits : (n c : ℕ) (ps : Pats) (vs : Vals) → AreOver n c vs → Fits n c (binds_all ps) (match_vals ps vs)
+  match_all_fits : (n c : ℕ) (ps : Pats) (vs : Vals) → AreOver n c vs → Fits n c (binds_all ps) (match_values ps vs)
   match_all_fits n c no_pats vs o = end_fits n c vs o
-  match_all_fits n c (more_pats p ps) vs o = head_fits n c (binds p) (binds_all ps) (match_val p) (match_vals ps) (match_fits n c p) (match_all_fits n c ps) vs o
+  match_all_fits n c (more_pats p ps) vs o = head_fits n c (binds p) (binds_all ps) (match_value p) (match_values ps) (match_fits n c p) (match_all_fits n c ps) vs o
 
   match_labelled_fits : (n c : ℕ) (ps : LabelledPats) (ls : Labelled) → LabelledOver n c ls → Fits n c (binds_labelled ps) (match_labelled ps ls)
   match_labelled_fits n c no_labelled_pats ls o = (refl, tt)
   match_labelled_fits n c (more_labelled_pats label p ps) ls o =
-      both_fit n c (binds p) (binds_labelled ps) (option_and_then (match_val p) (field_at label ls)) (match_labelled ps ls)
-      (found_fits n c (binds p) (match_val p) (match_fits n c p) (field_at label ls) (field_over n c label ls o)) (match_labelled_fits n c ps ls o)
+      both_fit n c (binds p) (binds_labelled ps) (option_and_then (match_value p) (field_at label ls)) (match_labelled ps ls)
+      (found_fits n c (binds p) (match_value p) (match_fits n c p) (field_at label ls) (field_over n c label ls o)) (match_labelled_fits n c ps ls o)
 
 -- ---- primitives
 

@@ -2,19 +2,19 @@
 use Rattle.std.proofs.Common.{ℕ, ◌+◌, ◌≡◌, Bool, true, false, List, [], ◌∷◌, refl, sym, subst, Option, Some, None, option_map, option_and_then, arith}
 use Rattle.pict_syntax.specs.declared.span.Span.{Span}
 use Rattle.pict_core.specs.Term.{Val, Pat, Process, Var, Chan, Int, Char, Boolean, Text, PrimitiveVal, Record, Zero, Par, New, Out, In, If}
-use Rattle.pict_core.specs.Scope.{IsOver, IsUnder, binds}
-use Rattle.pict_core.specs.Matching.{match_val}
-use Rattle.pict_core.specs.Substitution.{put}
+use Rattle.pict_core.specs.Closed.{IsOver, IsUnder, binds}
+use Rattle.pict_core.specs.Matching.{match_value}
+use Rattle.pict_core.specs.Substitution.{substitute}
 use Rattle.pict_core.specs.Primitives.{Effect, Leaves, Nothing, Answer, Trap, effect_of}
 use Rattle.pict_core.specs.Configuration.{Mark, Ready, Parked, Entry, Configuration, IsConfiguration}
-use Rattle.pict_core.specs.Step.{Label, Quiet, Outcome, Steps, Traps, Wrong, Finished, gone, kept, added, with_channel, received, served, took, meet_reader, meet_message, meet, printing, leave, perform, send, receive, choose, act, act_entry, Choice, is_ready, is_partner, NamesPartner, IsChoice, free_step, Free, least, entry_at, step_by, oldest_choice}
-use Rattle.pict_core.specs.Laws.{FreeStepsKeepConfigurations, OldestFirstStepsAreFree}
-use Rattle.pict_core.proofs.Closed.{under_more, put_under, match_fits, Fits, EffectOver, LeavesOver, effect_over}
+use Rattle.pict_core.specs.Step.{Label, Quiet, StepOutcome, Steps, Traps, Wrong, Finished, gone, kept, added, with_channel, received, served, took, meet_reader, meet_message, meet, printing, leave, perform, send, receive, choose, act, act_entry, Choice, IsWrong, next, is_ready, is_partner, NamesPartner, IsChoice, free_step, Free, least, entry_at, step_by, oldest_choice}
+use Rattle.pict_core.specs.Laws.{FreeStepsKeepConfigurations, OldestFirstStepsAreFree, WrongStepsAreWrong}
+use Rattle.pict_core.proofs.Closed.{under_more, substitute_under, match_fits, Fits, EffectOver, LeavesOver, effect_over}
 use Rattle.pict_core.proofs.Stamps.{StampsRise-without, StampsRise-with_process, StampsRise-added, AreClosed-without, AreClosed-with_process, AreClosed-added, AreClosed-more, EntryClosed, least_closed, least_passes, least_stands}
 
 -- ---- what an outcome leaves is a configuration
 
-abbrev Keeps : Outcome → Type 0
+abbrev Keeps : StepOutcome → Type 0
 Keeps (Steps D label) = IsConfiguration D
 Keeps (Traps at) = Unit {0}
 Keeps Wrong = Unit {0}
@@ -53,9 +53,9 @@ at_took c false s C h = at_gone c s C h
 
 -- ---- the rows of the table
 
-received_keeps : (c : ℕ) (parts : Option (List Val)) (pattern : Pat) (body : Process) (go : Process → Outcome) → Fits 0 c (binds pattern) parts → IsUnder (0 + binds pattern) c body → ((p : Process) → IsUnder 0 c p → Keeps (go p)) → Keeps (received parts body go)
+received_keeps : (c : ℕ) (bound : Option (List Val)) (pattern : Pat) (body : Process) (go : Process → StepOutcome) → Fits 0 c (binds pattern) bound → IsUnder (0 + binds pattern) c body → ((p : Process) → IsUnder 0 c p → Keeps (go p)) → Keeps (received bound body go)
 received_keeps c None pattern body go f u h = tt
-received_keeps c (Some parts) pattern body go f u h = h (put 0 parts body) (put_under 0 (0 + binds pattern) c parts (omega (arith, f.0)) f.1 body u)
+received_keeps c (Some bound) pattern body go f u h = h (substitute 0 bound body) (substitute_under 0 (0 + binds pattern) c bound (omega (arith, f.0)) f.1 body u)
 
 module _ (C : Configuration) (is : IsConfiguration C) (s : ℕ) where
   here : IsAt C.channels C
@@ -68,7 +68,7 @@ module _ (C : Configuration) (is : IsConfiguration C) (s : ℕ) where
   reader_keeps c message r (Out v w at) o u = tt
   reader_keeps c message r (If v p q) o u = tt
   reader_keeps c message r (In chan replicated pattern body) o u =
-      received_keeps C.channels (match_val pattern message) pattern body _ (match_fits 0 C.channels pattern message o) u.1
+      received_keeps C.channels (match_value pattern message) pattern body _ (match_fits 0 C.channels pattern message o) u.1
       (λ p k. (at_served C.channels replicated (In chan replicated pattern body) (added Ready p (gone r (gone s C))) u
       (at_added C.channels Ready p (gone r (gone s C)) k (at_gone C.channels r (gone s C) (at_gone C.channels s C here)))).is)
 
@@ -79,10 +79,10 @@ module _ (C : Configuration) (is : IsConfiguration C) (s : ℕ) where
   message_keeps c replicated pattern body r (In v x y p) k u = tt
   message_keeps c replicated pattern body r (If v p q) k u = tt
   message_keeps c replicated pattern body r (Out chan message at) k u =
-      received_keeps C.channels (match_val pattern message) pattern body _ (match_fits 0 C.channels pattern message u.1) k
+      received_keeps C.channels (match_value pattern message) pattern body _ (match_fits 0 C.channels pattern message u.1) k
       (λ p h. (at_added C.channels Ready p (gone r (took replicated s C)) h (at_gone C.channels r (took replicated s C) (at_took C.channels replicated s C here))).is)
 
-  meet_keeps : (p : Process) (go : ℕ → Process → Outcome) (partner : Option Entry) → IsUnder 0 C.channels p → EntryClosed C.channels partner → ((r : ℕ) (q : Process) → IsUnder 0 C.channels q → Keeps (go r q)) → Keeps (meet C s p go partner)
+  meet_keeps : (p : Process) (go : ℕ → Process → StepOutcome) (partner : Option Entry) → IsUnder 0 C.channels p → EntryClosed C.channels partner → ((r : ℕ) (q : Process) → IsUnder 0 C.channels q → Keeps (go r q)) → Keeps (meet C s p go partner)
   meet_keeps p go None u k h = (at_added C.channels Parked p (gone s C) u (at_gone C.channels s C here)).is
   meet_keeps p go (Some partner) u k h = h partner.stamp partner.process k
 
@@ -126,13 +126,13 @@ module _ (C : Configuration) (is : IsConfiguration C) (s : ℕ) where
   choose_keeps (PrimitiveVal f) p q u k = tt
   choose_keeps (Record x y) p q u k = tt
 
-  new_channel : (p : Process) → IsUnder (0 + 1) C.channels p → IsUnder 0 (C.channels + 1) (put 0 (Chan C.channels ∷ []) p)
-  new_channel p u = put_under 0 (0 + 1) (C.channels + 1) (Chan C.channels ∷ []) (omega arith) (omega arith, tt) p (under_more (0 + 1) C.channels (C.channels + 1) (omega arith) p u)
+  new_channel : (p : Process) → IsUnder (0 + 1) C.channels p → IsUnder 0 (C.channels + 1) (substitute 0 (Chan C.channels ∷ []) p)
+  new_channel p u = substitute_under 0 (0 + 1) (C.channels + 1) (Chan C.channels ∷ []) (omega arith) (omega arith, tt) p (under_more (0 + 1) C.channels (C.channels + 1) (omega arith) p u)
 
   act_keeps : (partner : Option Entry) (p : Process) → EntryClosed C.channels partner → IsUnder 0 C.channels p → Keeps (act C s partner p)
   act_keeps partner Zero k u = (at_gone C.channels s C here).is
   act_keeps partner (Par p q) k u = (at_added C.channels Ready q (kept s p C) u.1 (at_kept C.channels s p C u.0 here)).is
-  act_keeps partner (New p) k u = (at_kept (C.channels + 1) s (put 0 (Chan C.channels ∷ []) p) (with_channel C) (new_channel p u) (at_channel C is)).is
+  act_keeps partner (New p) k u = (at_kept (C.channels + 1) s (substitute 0 (Chan C.channels ∷ []) p) (with_channel C) (new_channel p u) (at_channel C is)).is
   act_keeps partner (If test p q) k u = choose_keeps test p q u.1 u.2
   act_keeps partner (Out chan message at) k u = send_keeps partner chan message at k u
   act_keeps partner (In chan replicated pattern body) k u = receive_keeps partner chan replicated pattern body k u
@@ -170,3 +170,10 @@ free_of C D label is (Some choice) f e = (choice, record { chosen = oldest_is_ch
 
 pub oldest_first_is_free : OldestFirstStepsAreFree
 oldest_first_is_free C D label is e = free_of C D label is (oldest_choice C) refl e
+
+wrong_of : (C : Configuration) → IsConfiguration C → (o : Option Choice) → oldest_choice C ≡ o → step_by C o ≡ Wrong → IsWrong C
+wrong_of C is None f e = cc
+wrong_of C is (Some choice) f e = record { choice = choice; chosen = oldest_is_choice C is (least is_ready C.entries) refl choice f; wrong = e }
+
+pub wrong_steps : WrongStepsAreWrong
+wrong_steps C is e = wrong_of C is (oldest_choice C) refl e

@@ -2,7 +2,7 @@
 use Rattle.std.proofs.Common.{ℕ, ◌+◌, ◌≤◌, ◌≡◌, Bool, true, false, not, nat_eq, List, [], ◌∷◌, ◌++◌, map, filter, Option, Some, None, arith, cond}
 use Rattle.std.proofs.lemmas.Bool.Decides.{nat_tests}
 use Rattle.pict_core.specs.Term.{Process}
-use Rattle.pict_core.specs.Scope.{IsUnder}
+use Rattle.pict_core.specs.Closed.{IsUnder}
 use Rattle.pict_core.specs.Configuration.{Mark, Entry, StampsRise, AreClosed}
 use Rattle.pict_core.specs.Step.{least, entry_at, with_process}
 use Rattle.pict_core.proofs.Closed.{under_more}

@@ -1,7 +1,7 @@
 -- Configurations: a number of channels, a next stamp, and a finite map from stamps to processes.
 use Rattle.std.specs.Prelude.{ℕ, ◌≤◌, ◌+◌, List, [], ◌∷◌}
 use Rattle.pict_core.specs.Term.{Process}
-use Rattle.pict_core.specs.Scope.{IsUnder}
+use Rattle.pict_core.specs.Closed.{IsUnder}
 
 -- A process may act, or waits for a partner.
 pub data Mark : Type 0 where

@@ -1,7 +1,9 @@
 -- Laws of the definitions.
 use Rattle.std.specs.Prelude.{ℕ, ◌≡◌, List}
-use Rattle.pict_core.specs.Configuration.{Configuration, IsConfiguration}
-use Rattle.pict_core.specs.Step.{Choice, Label, Steps, Free, next}
+use Rattle.pict_core.specs.Term.{Process}
+use Rattle.pict_core.specs.Closed.{IsClosed}
+use Rattle.pict_core.specs.Configuration.{Configuration, IsConfiguration, opening}
+use Rattle.pict_core.specs.Step.{Choice, Label, Steps, Wrong, Free, IsWrong, next}
 use Rattle.pict_core.specs.Run.{End, RunsFrom}
 
 -- Free steps keep what holds of configurations.
@@ -15,3 +17,11 @@ OldestFirstStepsAreFree = (C : Configuration) (D : Configuration) (label : Label
 -- A run has one end and one list of labels.
 abbrev pub RunsAreOne : Type 0
 RunsAreOne = (C : Configuration) (fuel : ℕ) (end other : End) (labels others : List (ℕ × Label)) → RunsFrom C fuel end labels → RunsFrom C fuel other others → (end ≡ other) × (labels ≡ others)
+
+-- The opening configuration of a closed process is a configuration.
+abbrev pub OpeningsAreConfigurations : Type 0
+OpeningsAreConfigurations = (p : Process) → IsClosed p → IsConfiguration (opening p)
+
+-- Where the oldest-first step is wrong the configuration is wrong.
+abbrev pub WrongStepsAreWrong : Type 0
+WrongStepsAreWrong = (C : Configuration) → IsConfiguration C → next C ≡ Wrong → IsWrong C

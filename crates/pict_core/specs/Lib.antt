@@ -3,9 +3,10 @@ pub mod Plain
 pub mod Matching
 pub mod Substitution
 pub mod Primitives
-pub mod Scope
+pub mod Closed
 pub mod Configuration
 pub mod Step
+pub mod Table
 pub mod Run
 pub mod Laws
 pub mod Found

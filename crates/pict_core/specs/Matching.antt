@@ -1,4 +1,4 @@
--- Matching: the parts of a value that a pattern binds.
+-- Matching: the values that a pattern binds.
 use Rattle.std.specs.Prelude.{ℕ, nat_eq, List, [], ◌∷◌, ◌++◌, Option, Some, None, option_and_then, option_map, if◌then◌else◌}
 use Rattle.pict_core.specs.Term.{Val, Vals, Labelled, Record, no_vals, more_vals, no_labelled, more_labelled, Pat, Pats, LabelledPats, Bind, Any, RecordPat, no_pats, more_pats, no_labelled_pats, more_labelled_pats}
 
@@ -25,17 +25,17 @@ at_end no_vals = Some []
 at_end (more_vals v vs) = None
 
 -- A record pattern fits a record with as many positional fields and at least its labels.
--- The parts stand in the pattern's order: positional fields first, then its labels, which stand in the order of their bytes.
+-- What is bound stands in the pattern's order: positional fields first, then its labels, which stand in the order of their bytes.
 abbrev mutual
-  pub match_val : Pat → Val → Option (List Val)
-  match_val Bind v = Some (v ∷ [])
-  match_val Any v = Some []
-  match_val (RecordPat positional labelled) v = in_record (λ vs ls. both (match_vals positional vs) (match_labelled labelled ls)) v
+  pub match_value : Pat → Val → Option (List Val)
+  match_value Bind v = Some (v ∷ [])
+  match_value Any v = Some []
+  match_value (RecordPat positional labelled) v = in_record (λ vs ls. both (match_values positional vs) (match_labelled labelled ls)) v
 
-  pub match_vals : Pats → Vals → Option (List Val)
-  match_vals no_pats vs = at_end vs
-  match_vals (more_pats p ps) vs = at_head (λ v rest. both (match_val p v) (match_vals ps rest)) vs
+  pub match_values : Pats → Vals → Option (List Val)
+  match_values no_pats vs = at_end vs
+  match_values (more_pats p ps) vs = at_head (λ v rest. both (match_value p v) (match_values ps rest)) vs
 
   pub match_labelled : LabelledPats → Labelled → Option (List Val)
   match_labelled no_labelled_pats ls = Some []
-  match_labelled (more_labelled_pats label p ps) ls = both (option_and_then (match_val p) (field_at label ls)) (match_labelled ps ls)
+  match_labelled (more_labelled_pats label p ps) ls = both (option_and_then (match_value p) (field_at label ls)) (match_labelled ps ls)

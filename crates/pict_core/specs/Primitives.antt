@@ -59,9 +59,9 @@ divided_by (pos zero) e = Some (record { printed = None; leaves = Trap })
 divided_by (pos (suc n)) e = e
 divided_by (negsuc n) e = e
 
--- the byte at a place from 0, or -1 out of range
+-- the byte at an index from 0, or -1 out of range
 abbrev pub byte_at : List ℕ → ℤ → ℤ
-byte_at bytes (pos place) = unwrap_or (option_map pos (slice_get bytes place)) (negsuc 0)
+byte_at bytes (pos index) = unwrap_or (option_map pos (slice_get bytes index)) (negsuc 0)
 byte_at bytes (negsuc n) = negsuc 0
 
 -- The table of primitives. Nothing where the argument has not the primitive's shape.
@@ -84,5 +84,5 @@ effect_of primitive.Ord v = at_two v (λ c k. at_char c (λ byte. answers k (Int
 effect_of primitive.Join v = at_three v (λ s t k. at_text s (λ front. at_text t (λ back. answers k (Text (front ++ back)))))
 effect_of primitive.Intstr v = at_two v (λ n k. at_int n (λ a. answers k (Text (signed_decimal a))))
 effect_of primitive.Size v = at_two v (λ s k. at_text s (λ bytes. answers k (Int (pos (length bytes)))))
-effect_of primitive.Nth v = at_three v (λ s n k. at_text s (λ bytes. at_int n (λ place. answers k (Int (byte_at bytes place)))))
+effect_of primitive.Nth v = at_three v (λ s n k. at_text s (λ bytes. at_int n (λ index. answers k (Int (byte_at bytes index)))))
 effect_of primitive.Not v = at_two v (λ b k. at_bool b (λ c. answers k (Boolean (not c))))

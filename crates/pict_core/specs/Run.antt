@@ -3,7 +3,7 @@ use Rattle.std.specs.Prelude.{ℕ, zero, suc, ◌≡◌, ◌≢◌, ◌≤◌, �
 use Rattle.pict_syntax.specs.declared.span.Span.{Span}
 use Rattle.pict_core.specs.Term.{Process}
 use Rattle.pict_core.specs.Configuration.{Configuration, opening}
-use Rattle.pict_core.specs.Step.{Label, Quiet, Comm, Print, Outcome, Steps, Traps, Wrong, Finished, next}
+use Rattle.pict_core.specs.Step.{Label, Quiet, Comm, Print, StepOutcome, Steps, Traps, Wrong, Finished, next}
 
 -- a label with the number of its step, unless it is quiet
 abbrev pub shown : ℕ → Label → List (ℕ × Label)
@@ -24,7 +24,7 @@ pub data End : Type 0 where
   Misshapen : End
 
 -- how a run with this fuel ends after so many steps, by the next step's outcome
-abbrev pub EndsAfter : ℕ → ℕ → Outcome → End → Type 0
+abbrev pub EndsAfter : ℕ → ℕ → StepOutcome → End → Type 0
 EndsAfter fuel steps outcome Done = (steps ≤ fuel) × (outcome ≡ Finished)
 EndsAfter fuel steps outcome FuelSpent = (steps ≡ fuel) × (outcome ≢ Finished)
 EndsAfter fuel steps outcome (Trap at) = (steps < fuel) × (outcome ≡ Traps at)

@@ -8,39 +8,39 @@ pub record Replacement : Type 0 where
   pub channel : ℕ → Val
 
 abbrev mutual
-  pub replace_val : Replacement → Val → Val
-  replace_val r (Var level) = r.variable level
-  replace_val r (Chan number) = r.channel number
-  replace_val r (Int n) = Int n
-  replace_val r (Char byte) = Char byte
-  replace_val r (Boolean b) = Boolean b
-  replace_val r (Text bytes) = Text bytes
-  replace_val r (PrimitiveVal p) = PrimitiveVal p
-  replace_val r (Record positional labelled) = Record (replace_vals r positional) (replace_labelled r labelled)
+  pub replace_value : Replacement → Val → Val
+  replace_value r (Var level) = r.variable level
+  replace_value r (Chan number) = r.channel number
+  replace_value r (Int n) = Int n
+  replace_value r (Char byte) = Char byte
+  replace_value r (Boolean b) = Boolean b
+  replace_value r (Text bytes) = Text bytes
+  replace_value r (PrimitiveVal p) = PrimitiveVal p
+  replace_value r (Record positional labelled) = Record (replace_values r positional) (replace_labelled r labelled)
 
-  pub replace_vals : Replacement → Vals → Vals
-  replace_vals r no_vals = no_vals
-  replace_vals r (more_vals v vs) = more_vals (replace_val r v) (replace_vals r vs)
+  pub replace_values : Replacement → Vals → Vals
+  replace_values r no_vals = no_vals
+  replace_values r (more_vals v vs) = more_vals (replace_value r v) (replace_values r vs)
 
   pub replace_labelled : Replacement → Labelled → Labelled
   replace_labelled r no_labelled = no_labelled
-  replace_labelled r (more_labelled label v vs) = more_labelled label (replace_val r v) (replace_labelled r vs)
+  replace_labelled r (more_labelled label v vs) = more_labelled label (replace_value r v) (replace_labelled r vs)
 
 abbrev pub replace : Replacement → Process → Process
 replace r Zero = Zero
 replace r (Par p q) = Par (replace r p) (replace r q)
 replace r (New p) = New (replace r p)
-replace r (Out chan message at) = Out (replace_val r chan) (replace_val r message) at
-replace r (In chan replicated pattern body) = In (replace_val r chan) replicated pattern (replace r body)
-replace r (If test p q) = If (replace_val r test) (replace r p) (replace r q)
+replace r (Out chan message at) = Out (replace_value r chan) (replace_value r message) at
+replace r (In chan replicated pattern body) = In (replace_value r chan) replicated pattern (replace r body)
+replace r (If test p q) = If (replace_value r test) (replace r p) (replace r q)
 
 -- The values stand for the levels from m on; the levels after them move down by as many.
-abbrev pub put_var : ℕ → List Val → ℕ → Val
-put_var m vs level = if nat_lt level m then Var level else unwrap_or (slice_get vs (level - m)) (Var (level - length vs))
+abbrev pub value_of_variable : ℕ → List Val → ℕ → Val
+value_of_variable m vs level = if nat_lt level m then Var level else unwrap_or (slice_get vs (level - m)) (Var (level - length vs))
 
-abbrev pub putting : ℕ → List Val → Replacement
-putting m vs = record { variable = put_var m vs; channel = Chan }
+abbrev pub substitution : ℕ → List Val → Replacement
+substitution m vs = record { variable = value_of_variable m vs; channel = Chan }
 
 -- the process with these values, each over m variables, for its variables from level m on
-abbrev pub put : ℕ → List Val → Process → Process
-put m vs p = replace (putting m vs) p
+abbrev pub substitute : ℕ → List Val → Process → Process
+substitute m vs p = replace (substitution m vs) p

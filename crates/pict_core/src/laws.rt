@@ -1,6 +1,7 @@
 // Laws of the definitions. Each is a function that does nothing: its contract is the law.
 
-ghost use Rattle.pict_core.specs.Laws.{FreeStepsKeepConfigurations, OldestFirstStepsAreFree, RunsAreOne};
+ghost use Rattle.pict_core.specs.Laws.{FreeStepsKeepConfigurations, OldestFirstStepsAreFree, RunsAreOne, OpeningsAreConfigurations, WrongStepsAreWrong};
+ghost use Rattle.pict_core.specs.Table.{StepsAreRows};
 
 /// A free step of a configuration gives a configuration: its processes are closed over its channels, no label stands
 /// twice in a record, and its stamps are distinct and below the next one.
@@ -16,4 +17,19 @@ pub fn law_oldest_first_steps_are_free()
 /// A run has one end and one list of labels.
 pub fn law_runs_are_one()
     ensures { RunsAreOne }
+{}
+
+/// What a process does in a step is a row of the table of steps, and each row is what a process does.
+pub fn law_steps_are_rows()
+    ensures { StepsAreRows }
+{}
+
+/// The opening configuration of a closed process is a configuration.
+pub fn law_openings_are_configurations()
+    ensures { OpeningsAreConfigurations }
+{}
+
+/// Where the oldest-first step is wrong the configuration is wrong.
+pub fn law_wrong_steps_are_wrong()
+    ensures { WrongStepsAreWrong }
 {}

@@ -9,12 +9,14 @@ mod substitution;
 mod value;
 
 pub use laws::{
-    law_free_steps_keep_configurations, law_oldest_first_steps_are_free, law_runs_are_one,
+    law_free_steps_keep_configurations, law_oldest_first_steps_are_free,
+    law_openings_are_configurations, law_runs_are_one, law_steps_are_rows,
+    law_wrong_steps_are_wrong,
 };
-pub use matching::parts_of;
+pub use matching::match_value;
 pub use pattern::CorePat;
 pub use process::{Core, Part, depth};
-pub use substitution::put;
+pub use substitution::substitute;
 pub use value::CoreVal;
 
 #[cfg(test)]

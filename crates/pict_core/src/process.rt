@@ -4,7 +4,7 @@ ghost use Rattle.std.specs.Prelude.{◌≡◌, ◌-◌, ◌^◌, min, IfOk};
 ghost use Rattle.pict_core.specs.Plain.{plain_core, core_of};
 ghost use Rattle.pict_core.specs.Term.{depth_of};
 
-use crate::{CorePat, CoreVal, put};
+use crate::{CorePat, CoreVal, substitute};
 use pict_syntax::Span;
 use std::alloc::{AllocError, Global};
 
@@ -115,8 +115,8 @@ impl Core {
     pub fn copy(&self, alloc: Global) -> Result<Core, AllocError>
         ensures { IfOk result (λ p. plain_core p ≡ plain_core self.now) }
     {
-        // Nothing is put in.
-        put(alloc, self, &[])
+        // No variable gets a value.
+        substitute(alloc, self, &[])
     }
 }
 

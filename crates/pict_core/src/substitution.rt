@@ -1,52 +1,52 @@
-// Closed values put for the outermost variables.
+// Substitution of closed values for the outermost variables.
 
 ghost use Rattle.std.specs.Prelude.{◌≡◌, map, IfOk};
 ghost use Rattle.pict_core.specs.Plain.{plain_core, plain_val, plain_field, plain_pat, core_of, GivesPart, GivesCore};
 ghost use Rattle.pict_core.specs.Term.{Process, Zero, Par, New, Out, In, If};
-ghost use Rattle.pict_core.specs.Substitution.{put as put_plain, put_var, replace_val, putting};
+ghost use Rattle.pict_core.specs.Substitution.{substitute as substitute_plain, value_of_variable, replace_value, substitution};
 
 use crate::{Core, CorePat, CoreVal, Part};
 use pict_syntax::{Name, Span};
 use std::alloc::{AllocError, Global};
 
-/// The process with these closed values for its first variables: the value at place n stands for level n, and the
+/// The process with these closed values for its first variables: the value at index n stands for level n, and the
 /// levels past the values move down by as many. The only error is want of memory.
-pub fn put(alloc: Global, process: &Core, values: &[CoreVal]) -> Result<Core, AllocError>
-    ensures { GivesCore result (put_plain 0 (map plain_val values.now) (plain_core process.now)) }
+pub fn substitute(alloc: Global, process: &Core, values: &[CoreVal]) -> Result<Core, AllocError>
+    ensures { GivesCore result (substitute_plain 0 (map plain_val values.now) (plain_core process.now)) }
 {
-    Ok(put_part(process, values, alloc)?.into_core())
+    Ok(substitute_part(process, values, alloc)?.into_core())
 }
 
 // The recursion. The helpers unpack the results, and the part is made in one place: so its frame is small, and a deep
 // process takes little stack.
-fn put_part(process: &Core, values: &[CoreVal], alloc: Global) -> Result<Part, AllocError>
-    ensures { GivesPart result (put_plain 0 (map plain_val values.now) (plain_core process.now)) }
+fn substitute_part(process: &Core, values: &[CoreVal], alloc: Global) -> Result<Part, AllocError>
+    ensures { GivesPart result (substitute_plain 0 (map plain_val values.now) (plain_core process.now)) }
 {
     let made = match process {
         Core::Zero => Ok(Core::Zero),
         Core::Par(left, right) => par(
-            put_part(left.core(), values, alloc),
-            put_part(right.core(), values, alloc),
+            substitute_part(left.core(), values, alloc),
+            substitute_part(right.core(), values, alloc),
         ),
-        Core::New(body) => new(put_part(body.core(), values, alloc)),
-        Core::Out { chan, message, at } => put_out(chan, message, at, values, alloc),
+        Core::New(body) => new(substitute_part(body.core(), values, alloc)),
+        Core::Out { chan, message, at } => substitute_out(chan, message, at, values, alloc),
         Core::In {
             chan,
             replicated,
             pattern,
             body,
-        } => put_in(
+        } => substitute_in(
             chan,
             *replicated,
             pattern,
-            put_part(body.core(), values, alloc),
+            substitute_part(body.core(), values, alloc),
             values,
             alloc,
         ),
-        Core::If { test, yes, no } => put_if(
+        Core::If { test, yes, no } => substitute_if(
             test,
-            put_part(yes.core(), values, alloc),
-            put_part(no.core(), values, alloc),
+            substitute_part(yes.core(), values, alloc),
+            substitute_part(no.core(), values, alloc),
             values,
             alloc,
         ),
@@ -73,23 +73,23 @@ fn new(body: Result<Part, AllocError>) -> Result<Core, AllocError>
     Ok(Core::New(body?))
 }
 
-fn put_out(
+fn substitute_out(
     chan: &CoreVal,
     message: &CoreVal,
     at: &Span,
     values: &[CoreVal],
     alloc: Global,
 ) -> Result<Core, AllocError>
-    ensures { GivesCore result (put_plain 0 (map plain_val values.now) (Out (plain_val chan.now) (plain_val message.now) at.now)) }
+    ensures { GivesCore result (substitute_plain 0 (map plain_val values.now) (Out (plain_val chan.now) (plain_val message.now) at.now)) }
 {
     Ok(Core::Out {
-        chan: put_value(chan, values, alloc)?,
-        message: put_value(message, values, alloc)?,
+        chan: substitute_value(chan, values, alloc)?,
+        message: substitute_value(message, values, alloc)?,
         at: *at,
     })
 }
 
-fn put_in(
+fn substitute_in(
     chan: &CoreVal,
     replicated: bool,
     pattern: &CorePat,
@@ -97,53 +97,59 @@ fn put_in(
     values: &[CoreVal],
     alloc: Global,
 ) -> Result<Core, AllocError>
-    ensures { (p : Process) → GivesPart body p → GivesCore result (In (replace_val (putting 0 (map plain_val values.now)) (plain_val chan.now)) replicated (plain_pat pattern.now) p) }
+    ensures { (p : Process) → GivesPart body p
+        → GivesCore result (In (replace_value (substitution 0 (map plain_val values.now)) (plain_val chan.now)) replicated (plain_pat pattern.now) p) }
 {
     let body = body?;
     Ok(Core::In {
-        chan: put_value(chan, values, alloc)?,
+        chan: substitute_value(chan, values, alloc)?,
         replicated,
         pattern: pattern.copy(alloc)?,
         body,
     })
 }
 
-fn put_if(
+fn substitute_if(
     test: &CoreVal,
     yes: Result<Part, AllocError>,
     no: Result<Part, AllocError>,
     values: &[CoreVal],
     alloc: Global,
 ) -> Result<Core, AllocError>
-    ensures { (p q : Process) → GivesPart yes p → GivesPart no q → GivesCore result (If (replace_val (putting 0 (map plain_val values.now)) (plain_val test.now)) p q) }
+    ensures { (p q : Process) → GivesPart yes p → GivesPart no q
+        → GivesCore result (If (replace_value (substitution 0 (map plain_val values.now)) (plain_val test.now)) p q) }
 {
     let yes = yes?;
     let no = no?;
     Ok(Core::If {
-        test: put_value(test, values, alloc)?,
+        test: substitute_value(test, values, alloc)?,
         yes,
         no,
     })
 }
 
 // The value of a variable.
-fn put_variable(level: u32, values: &[CoreVal], alloc: Global) -> Result<CoreVal, AllocError>
-    ensures { IfOk result (λ v. plain_val v ≡ put_var 0 (map plain_val values.now) level) }
+fn substitute_variable(level: u32, values: &[CoreVal], alloc: Global) -> Result<CoreVal, AllocError>
+    ensures { IfOk result (λ v. plain_val v ≡ value_of_variable 0 (map plain_val values.now) level) }
 {
-    let place = level as usize;
-    if place < values.len() {
-        values[place].copy(alloc)
+    let index = level as usize;
+    if index < values.len() {
+        values[index].copy(alloc)
     } else {
         Ok(CoreVal::Var(level - values.len() as u32))
     }
 }
 
-#[cycle(put_value)]
-fn put_value(value: &CoreVal, values: &[CoreVal], alloc: Global) -> Result<CoreVal, AllocError>
-    ensures { IfOk result (λ v. plain_val v ≡ replace_val (putting 0 (map plain_val values.now)) (plain_val value.now)) }
+#[cycle(substitute_value)]
+fn substitute_value(
+    value: &CoreVal,
+    values: &[CoreVal],
+    alloc: Global,
+) -> Result<CoreVal, AllocError>
+    ensures { IfOk result (λ v. plain_val v ≡ replace_value (substitution 0 (map plain_val values.now)) (plain_val value.now)) }
 {
     match value {
-        CoreVal::Var(level) => put_variable(*level, values, alloc),
+        CoreVal::Var(level) => substitute_variable(*level, values, alloc),
         CoreVal::Chan(number) => Ok(CoreVal::Chan(*number)),
         CoreVal::Int(n) => Ok(CoreVal::Int(*n)),
         CoreVal::Char(byte) => Ok(CoreVal::Char(*byte)),
@@ -154,38 +160,39 @@ fn put_value(value: &CoreVal, values: &[CoreVal], alloc: Global) -> Result<CoreV
             positional,
             labelled,
         } => Ok(CoreVal::Fields {
-            positional: put_values(positional, values, alloc)?,
-            labelled: put_fields(labelled, values, alloc)?,
+            positional: substitute_values(positional, values, alloc)?,
+            labelled: substitute_fields(labelled, values, alloc)?,
         }),
     }
 }
 
-#[cycle(put_value)]
-fn put_values(
+#[cycle(substitute_value)]
+fn substitute_values(
     parts: &[CoreVal],
     values: &[CoreVal],
     alloc: Global,
 ) -> Result<Vec<CoreVal>, AllocError>
-    ensures { IfOk result (λ v. map plain_val v.items ≡ map (λ x. replace_val (putting 0 (map plain_val values.now)) (plain_val x)) parts.now) }
+    ensures { IfOk result (λ v. map plain_val v.items ≡ map (λ x. replace_value (substitution 0 (map plain_val values.now)) (plain_val x)) parts.now) }
 {
     let mut made = Vec::new(alloc);
     for part in parts {
-        made.push(put_value(part, values, alloc)?)?;
+        made.push(substitute_value(part, values, alloc)?)?;
     }
     Ok(made)
 }
 
-#[cycle(put_value)]
-fn put_fields(
+#[cycle(substitute_value)]
+fn substitute_fields(
     fields: &[(Name, CoreVal)],
     values: &[CoreVal],
     alloc: Global,
 ) -> Result<Vec<(Name, CoreVal)>, AllocError>
-    ensures { IfOk result (λ v. map plain_field v.items ≡ map (λ e. (e.0, replace_val (putting 0 (map plain_val values.now)) (plain_val e.1))) fields.now) }
+    ensures { IfOk result (λ v. map plain_field v.items
+        ≡ map (λ e. (e.0, replace_value (substitution 0 (map plain_val values.now)) (plain_val e.1))) fields.now) }
 {
     let mut made = Vec::new(alloc);
     for field in fields {
-        made.push((field.0, put_value(&field.1, values, alloc)?))?;
+        made.push((field.0, substitute_value(&field.1, values, alloc)?))?;
     }
     Ok(made)
 }

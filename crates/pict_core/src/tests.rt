@@ -1,6 +1,6 @@
 // Core terms at their greatest depth, and the calls that take memory.
 
-use crate::{Core, CorePat, CoreVal, Part, depth, parts_of, put};
+use crate::{Core, CorePat, CoreVal, Part, depth, match_value, substitute};
 use pict_syntax::{Bytes, Name, Prim, Span};
 use std::alloc::{AllocError, Global};
 
@@ -55,7 +55,7 @@ fn nested(alloc: Global, nesting: Nesting, levels: u64) -> Result<Core, AllocErr
 }
 
 #[test]
-fn deep_processes_are_copied_put_and_dropped(rt: HostRuntime) -> Result<(), AllocError> {
+fn deep_processes_are_copied_substituted_and_dropped(rt: HostRuntime) -> Result<(), AllocError> {
     let alloc = rt.alloc();
     for nesting in [
         Nesting::Left,
@@ -68,7 +68,7 @@ fn deep_processes_are_copied_put_and_dropped(rt: HostRuntime) -> Result<(), Allo
         assert_eq!(rt; depth(&process), 5000);
         let copy = process.copy(alloc)?;
         assert_eq!(rt; depth(&copy), 5000);
-        assert_eq!(rt; depth(&put(alloc, &copy, &[CoreVal::Int(1)])?), 5000);
+        assert_eq!(rt; depth(&substitute(alloc, &copy, &[CoreVal::Int(1)])?), 5000);
     }
     let _long = nested(alloc, Nesting::Right, 200000)?;
     Ok(())
@@ -101,22 +101,22 @@ fn pattern(alloc: Global) -> Result<CorePat, AllocError> {
 }
 
 #[test]
-fn a_record_gives_its_parts(rt: HostRuntime) -> Result<(), AllocError> {
+fn a_record_pattern_binds_its_fields(rt: HostRuntime) -> Result<(), AllocError> {
     let alloc = rt.alloc();
-    let found = parts_of(
+    let found = match_value(
         alloc,
         &pattern(alloc)?.copy(alloc)?,
         &record(alloc)?.copy(alloc)?,
     )?;
     match found {
         None => assert!(rt; false),
-        Some(parts) => match parts.as_slice() {
+        Some(bound) => match bound.as_slice() {
             [CoreVal::Text(bytes), CoreVal::Bool(b)] => assert!(rt;
                 *b && bytes.slice() == b"ab".as_slice()
             ),
             _ => assert!(rt; false),
         },
     }
-    assert!(rt; parts_of(alloc, &pattern(alloc)?, &CoreVal::Int(7))?.is_none());
+    assert!(rt; match_value(alloc, &pattern(alloc)?, &CoreVal::Int(7))?.is_none());
     Ok(())
 }

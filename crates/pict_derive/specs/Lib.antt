@@ -1,5 +1,2 @@
-pub mod Scopes
-pub mod Levels
-pub mod Tables
-pub mod Translation
-pub mod Parts
+pub mod Held
+pub mod Built

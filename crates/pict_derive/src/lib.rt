@@ -1,14 +1,13 @@
-//! The translation of program trees into core processes, for the forms of the language that are built: new channels,
-//! sends, receivers, servers, and processes side by side.
+//! The translation of programs into core processes: the whole language, with the depth told before anything is built.
 #![tactic(auto)]
 
-mod built;
-mod program;
-mod scope;
-mod translation;
-mod values;
+mod build;
+mod depths;
+mod outside;
+mod parts;
+mod patterns;
+mod simple;
+mod terms;
+mod whole;
 
-pub use program::{DeriveError, derive};
-
-#[cfg(test)]
-mod tests;
+pub use whole::{DeriveError, derive};

@@ -1,4 +1,4 @@
--- A heap that grows: the parts that stand in it stay, and all words stand for what they stood for.
+-- A heap that grows: what stands in it stays, and all words stand for what they stood for.
 use Rattle.std.proofs.Common.{◌≡◌, ℕ, zero, suc, ◌+◌, ◌-◌, ◌^◌, ◌<◌, ◌≤◌, List, [], ◌∷◌, ◌++◌, length, map, take, drop, get_or, Some, sym, ◌∙◌, ap, subst, arith, length-append, length-drop}
 use Rattle.std.specs.List.{fold, All, AllByRecursion, slice_get}
 use Rattle.std.proofs.lemmas.List.{get_or_append_left, get_or_at, length_push, length-map, map-append, drop-append-le, take-append-le, drop_at, take_all, append-nil}
@@ -6,30 +6,30 @@ use Rattle.pict_syntax.specs.declared.name.Name.{Name}
 use Rattle.pict_heap.specs.HeapState.{RecordState, HeapState, word_value, record_value, more_values, values_of, IsWordOf, IsWord, KeepsWords}
 use Rattle.pict_heap.specs.Layout.{text_state, record_state, state_of, IsWithin, RecordIsWithin, IsRecordOf, AreGrounded, AreSorted, IsIndexed, IsSound}
 use Rattle.pict_heap.specs.declared.word.Word.{Word}
-use Rattle.pict_heap.specs.declared.heap.Part.{Part}
+use Rattle.pict_heap.specs.declared.heap.Slice.{Slice}
 use Rattle.pict_heap.specs.declared.heap.Record.{Record}
 use Rattle.pict_heap.specs.declared.heap.Heap.TheInside.{Inside}
 use Rattle.pict_heap.proofs.Values.{nothing, Agree, word_value-same, map-same, fold_extends, fold_texts, fold-append, values_pushed, length-values_of, grounded_pushed, grounded_more, word_of_more, all_more}
 
--- a part of a list stays when the list grows
-pub range_kept : {A : Type 0} (xs ys : List A) (part : Part) → IsWithin (length xs) part
-    → take (part.end - part.start) (drop part.start (xs ++ ys)) ≡ take (part.end - part.start) (drop part.start xs)
-range_kept xs ys part within =
-    let before : part.start ≤ length xs = omega (arith, within.ordered, within.inside) in
-    let fits : part.end - part.start ≤ length (drop part.start xs) = omega (arith, within.inside, length-drop part.start xs) in
-    ap (take (part.end - part.start)) (drop-append-le part.start xs ys before) ∙ take-append-le (part.end - part.start) (drop part.start xs) ys fits
+-- a slice of a list stays when the list grows
+pub range_kept : {A : Type 0} (xs ys : List A) (slice : Slice) → IsWithin (length xs) slice
+    → take (slice.end - slice.start) (drop slice.start (xs ++ ys)) ≡ take (slice.end - slice.start) (drop slice.start xs)
+range_kept xs ys slice within =
+    let before : slice.start ≤ length xs = omega (arith, within.ordered, within.inside) in
+    let fits : slice.end - slice.start ≤ length (drop slice.start xs) = omega (arith, within.inside, length-drop slice.start xs) in
+    ap (take (slice.end - slice.start)) (drop-append-le slice.start xs ys before) ∙ take-append-le (slice.end - slice.start) (drop slice.start xs) ys fits
 
 pub range_new : {A : Type 0} (xs ys : List A) (start end : ℕ) → start ≡ length xs → end ≡ length xs + length ys
     → take (end - start) (drop start (xs ++ ys)) ≡ ys
 range_new xs ys start end start_is end_is =
     ap (take (end - start)) (drop_at xs ys start (sym start_is)) ∙ take_all (end - start) ys (omega (arith, start_is, end_is))
 
-pub within_more : (m n : ℕ) → m ≤ n → (part : Part) → IsWithin m part → IsWithin n part
-within_more m n more part within = record { ordered = within.ordered; inside = omega (arith, within.inside, more) }
+pub within_more : (m n : ℕ) → m ≤ n → (slice : Slice) → IsWithin m slice → IsWithin n slice
+within_more m n more slice within = record { ordered = within.ordered; inside = omega (arith, within.inside, more) }
 
-pub texts_kept : (bytes more : List ℕ) (texts : List Part) → AllByRecursion (IsWithin (length bytes)) texts
+pub texts_kept : (bytes more : List ℕ) (texts : List Slice) → AllByRecursion (IsWithin (length bytes)) texts
     → map (text_state (bytes ++ more)) texts ≡ map (text_state bytes) texts
-texts_kept bytes more texts all = map-same (IsWithin (length bytes)) (text_state bytes) (text_state (bytes ++ more)) (λ part within. range_kept bytes more part within) texts all
+texts_kept bytes more texts all = map-same (IsWithin (length bytes)) (text_state bytes) (text_state (bytes ++ more)) (λ slice within. range_kept bytes more slice within) texts all
 
 pub records_kept : (words more : List Word) (labelled more' : List (Name × Word)) (records : List Record)
     → AllByRecursion (RecordIsWithin (length words) (length labelled)) records
@@ -92,12 +92,12 @@ pub record AddsText (a a' : Inside) (bytes : List ℕ) : Type 0 where
   pub records : (state_of a').records ≡ (state_of a).records
   pub sound : IsSound a'
 
-pub text_added : (a a' : Inside) (bytes : List ℕ) (part : Part) → IsSound a
-    → a'.bytes.items ≡ a.bytes.items ++ bytes → part.start ≡ length a.bytes.items → part.end ≡ length a.bytes.items + length bytes
-    → a'.texts.items ≡ a.texts.items ++ part ∷ [] → a'.words.items ≡ a.words.items → a'.labelled.items ≡ a.labelled.items → a'.sorted.items ≡ a.sorted.items
+pub text_added : (a a' : Inside) (bytes : List ℕ) (slice : Slice) → IsSound a
+    → a'.bytes.items ≡ a.bytes.items ++ bytes → slice.start ≡ length a.bytes.items → slice.end ≡ length a.bytes.items + length bytes
+    → a'.texts.items ≡ a.texts.items ++ slice ∷ [] → a'.words.items ≡ a.words.items → a'.labelled.items ≡ a.labelled.items → a'.sorted.items ≡ a.sorted.items
     → a'.records.items ≡ a.records.items
     → AddsText a a' bytes
-text_added a a' bytes part sound bytes_are start_is end_is texts_are words_are labelled_are sorted_are records_are =
+text_added a a' bytes slice sound bytes_are start_is end_is texts_are words_are labelled_are sorted_are records_are =
     let old : List ℕ = a.bytes.items in
     let lengths : length a'.bytes.items ≡ length old + length bytes = ap length bytes_are ∙ length-append old bytes in
     let records : (state_of a').records ≡ (state_of a).records =
@@ -108,13 +108,13 @@ text_added a a' bytes part sound bytes_are start_is end_is texts_are words_are l
       texts =
           ap (λ bs. map (text_state bs) a'.texts.items) bytes_are
           ∙ ap (map (text_state (old ++ bytes))) texts_are
-          ∙ map-append (text_state (old ++ bytes)) a.texts.items (part ∷ [])
-          ∙ ap (λ ts. ts ++ text_state (old ++ bytes) part ∷ []) (texts_kept old bytes a.texts.items sound.texts)
-          ∙ ap (λ t. (state_of a).texts ++ t ∷ []) (range_new old bytes part.start part.end start_is end_is);
+          ∙ map-append (text_state (old ++ bytes)) a.texts.items (slice ∷ [])
+          ∙ ap (λ ts. ts ++ text_state (old ++ bytes) slice ∷ []) (texts_kept old bytes a.texts.items sound.texts)
+          ∙ ap (λ t. (state_of a).texts ++ t ∷ []) (range_new old bytes slice.start slice.end start_is end_is);
       records = records;
       sound = record {
         texts = subst (AllByRecursion (IsWithin (length a'.bytes.items))) (sym texts_are)
-            (all_pushed (IsWithin (length a'.bytes.items)) a.texts.items part
+            (all_pushed (IsWithin (length a'.bytes.items)) a.texts.items slice
             (all_more (IsWithin (length old)) (IsWithin (length a'.bytes.items)) (within_more (length old) (length a'.bytes.items) (omega (arith, lengths))) a.texts.items sound.texts)
             (record { ordered = omega (arith, start_is, end_is); inside = omega (arith, end_is, lengths) }));
         records = subst (AllByRecursion (RecordIsWithin (length a'.words.items) (length a'.labelled.items))) (sym records_are)
@@ -127,7 +127,7 @@ text_added a a' bytes part sound bytes_are start_is end_is texts_are words_are l
             a.records.items sound.records);
         grounded = subst (AreGrounded (length a'.texts.items) 0) (sym records)
             (grounded_more (length a.texts.items) (length a'.texts.items) 0 (state_of a).records
-            (omega (arith, ap length texts_are, length_push a.texts.items part)) sound.grounded);
+            (omega (arith, ap length texts_are, length_push a.texts.items slice)) sound.grounded);
         as_long = ap length sorted_are ∙ sound.as_long ∙ sym (ap length labelled_are);
         indexed = subst (AllByRecursion (IsIndexed a'.labelled.items a'.sorted.items)) (sym records_are)
             (subst (λ ls. AllByRecursion (IsIndexed ls a'.sorted.items) a.records.items) (sym labelled_are)
@@ -152,7 +152,7 @@ index_kept labels more sorted more' r within same index =
     (subst (AreSorted (take (r.labelled.end - r.labelled.start) (drop r.labelled.start labels)))
     (sym (range_kept sorted more' r.labelled (subst (λ n. IsWithin n r.labelled) same within))) index)
 
-pub record_added : (a a' : Inside) (positional : List Word) (labelled sorted : List (Name × Word)) (p l : Part) → IsSound a
+pub record_added : (a a' : Inside) (positional : List Word) (labelled sorted : List (Name × Word)) (p l : Slice) → IsSound a
     → IsRecordOf (length a.texts.items) (length a.records.items) (record { positional = positional; labelled = labelled }) → length positional < 2 ^ 32
     → a'.words.items ≡ a.words.items ++ positional → p.start ≡ length a.words.items → p.end ≡ length a.words.items + length positional
     → a'.labelled.items ≡ a.labelled.items ++ labelled → l.start ≡ length a.labelled.items → l.end ≡ length a.labelled.items + length labelled

@@ -9,15 +9,15 @@ use Rattle.pict_core.specs.Term.{Val}
 use Rattle.pict_core.specs.Plain.{labelled_of}
 use Rattle.pict_core.specs.Matching.{field_at}
 use Rattle.pict_syntax.specs.declared.name.Name.{Name}
-use Rattle.pict_heap.specs.Parts.{positional_part, labelled_part, labelled_part_at, positional_count, text_part}
+use Rattle.pict_heap.specs.Fields.{positional_field, labelled_field, labelled_field_at, positional_count, text_bytes}
 use Rattle.pict_heap.specs.HeapState.{RecordState, HeapState, field_value, record_value, values_of, value_of, IsWordOf, IsWord, word_with_label, text_of}
-use Rattle.pict_heap.specs.Layout.{text_state, record_state, state_of, IsWithin, RecordIsWithin, IsRecordOf, IsIndexed, IsSound, part_of_word}
+use Rattle.pict_heap.specs.Layout.{text_state, record_state, state_of, IsWithin, RecordIsWithin, IsRecordOf, IsIndexed, IsSound, slice_of_word}
 use Rattle.pict_heap.specs.declared.word.Word.{Word}
 use Rattle.pict_heap.specs.declared.word.Word.TheVariants as word
-use Rattle.pict_heap.specs.declared.heap.Part.{Part}
+use Rattle.pict_heap.specs.declared.heap.Slice.{Slice}
 use Rattle.pict_heap.specs.declared.heap.Record.{Record}
 use Rattle.pict_heap.specs.declared.heap.Heap.TheInside.{Inside}
-use Rattle.pict_heap.proofs.Values.{nothing, fold_at, grounded_at, word_of_more, nth-vals_of, count-vals_of, nth-labelled_of}
+use Rattle.pict_heap.proofs.Values.{nothing, all_more, fold_at, grounded_at, word_of_more, nth-vals_of, count-vals_of, nth-labelled_of}
 use Rattle.pict_heap.proofs.Growth.{each_at}
 
 -- a record as a call reads it
@@ -27,10 +27,6 @@ pub record ReadsRecord (a : Inside) (h : HeapState) (number : ℕ) (r : Record) 
   pub value : value_of h (word.Fields number) ≡ record_value h.texts (values_of h.texts h.records) (record_state a.words.items a.labelled.items r)
   pub positional : AllByRecursion (IsWord h) (take (r.positional.end - r.positional.start) (drop r.positional.start a.words.items))
   pub labelled : AllByRecursion (λ field. IsWord h field.1) (take (r.labelled.end - r.labelled.start) (drop r.labelled.start a.labelled.items))
-
-all_words : {A : Type 0} (P Q : A → Type 0) → ((x : A) → P x → Q x) → (xs : List A) → AllByRecursion P xs → AllByRecursion Q xs
-all_words P Q more [] all = tt
-all_words P Q more (x ∷ xs) all = (more x all.0, all_words P Q more xs all.1)
 
 reads_here : (a : Inside) (number : ℕ) (r : Record) → IsSound a → number < length a.records.items → r ≡ get_or a.records.items number r
     → ReadsRecord a (state_of a) number r
@@ -52,8 +48,8 @@ reads_here a number r sound inside read =
       value =
           ap (λ n. get_or (values_of h.texts h.records) n nothing) (sym place)
           ∙ fold_at h.texts (length a.texts.items) h.records [] sound.grounded number state shown;
-      positional = all_words (IsWordOf (length a.texts.items) (0 + number)) (IsWord h) more state.positional grounded.positional;
-      labelled = all_words (λ f. IsWordOf (length a.texts.items) (0 + number) f.1) (λ f. IsWord h f.1) (λ f. more f.1) state.labelled grounded.labelled;
+      positional = all_more (IsWordOf (length a.texts.items) (0 + number)) (IsWord h) more state.positional grounded.positional;
+      labelled = all_more (λ f. IsWordOf (length a.texts.items) (0 + number) f.1) (λ f. IsWord h f.1) (λ f. more f.1) state.labelled grounded.labelled;
     }
 
 pub record_read : (a : Inside) (h : HeapState) (w : Word) (number : ℕ) (r : Record) → state_of a ≡ h → IsSound a → IsWord h w → w ≡ word.Fields number
@@ -67,18 +63,18 @@ record_read a h w number r is sound there same read =
 -- a field of a record
 pub positional_read : (a : Inside) (h : HeapState) (w : Word) (number i : ℕ) (r : Record) (result : Option Word) → ReadsRecord a h number r → w ≡ word.Fields number
     → result ≡ slice_get (take (r.positional.end - r.positional.start) (drop r.positional.start a.words.items)) i
-    → option_map (value_of h) result ≡ positional_part (value_of h w) i
+    → option_map (value_of h) result ≡ positional_field (value_of h w) i
 positional_read a h w number i r result reads same is =
     let words : List Word = take (r.positional.end - r.positional.start) (drop r.positional.start a.words.items) in
     ap (option_map (value_of h)) is
     ∙ sym (slice_get-map (value_of h) words i)
     ∙ sym (nth-vals_of (map (value_of h) words) i)
-    ∙ sym (ap (λ v. positional_part v i) (ap (value_of h) same ∙ reads.value))
+    ∙ sym (ap (λ v. positional_field v i) (ap (value_of h) same ∙ reads.value))
 
-range_length : {A : Type 0} (xs : List A) (part : Part) → part.end ≤ length xs → length (take (part.end - part.start) (drop part.start xs)) ≡ part.end - part.start
-range_length xs part inside =
-    let fits : part.end - part.start ≤ length (drop part.start xs) = omega (arith, inside, length-drop part.start xs) in
-    length-take-le (part.end - part.start) (drop part.start xs) fits
+range_length : {A : Type 0} (xs : List A) (slice : Slice) → slice.end ≤ length xs → length (take (slice.end - slice.start) (drop slice.start xs)) ≡ slice.end - slice.start
+range_length xs slice inside =
+    let fits : slice.end - slice.start ≤ length (drop slice.start xs) = omega (arith, inside, length-drop slice.start xs) in
+    length-take-le (slice.end - slice.start) (drop slice.start xs) fits
 
 pub count_read : (a : Inside) (h : HeapState) (w : Word) (number : ℕ) (r : Record) → ReadsRecord a h number r → w ≡ word.Fields number
     → Some (r.positional.end - r.positional.start) ≡ positional_count (value_of h w)
@@ -98,16 +94,16 @@ label_found h label (f ∷ fields) =
 
 pub labelled_read : (a : Inside) (h : HeapState) (w : Word) (number label : ℕ) (r : Record) (result : Option Word) → ReadsRecord a h number r → w ≡ word.Fields number
     → result ≡ word_with_label label (take (r.labelled.end - r.labelled.start) (drop r.labelled.start a.labelled.items))
-    → option_map (value_of h) result ≡ labelled_part (value_of h w) label
+    → option_map (value_of h) result ≡ labelled_field (value_of h w) label
 labelled_read a h w number label r result reads same is =
     let fields : List (Name × Word) = take (r.labelled.end - r.labelled.start) (drop r.labelled.start a.labelled.items) in
     ap (option_map (value_of h)) is
     ∙ sym (label_found h label fields)
-    ∙ sym (ap (λ v. labelled_part v label) (ap (value_of h) same ∙ reads.value))
+    ∙ sym (ap (λ v. labelled_field v label) (ap (value_of h) same ∙ reads.value))
 
 pub label_at_read : (a : Inside) (h : HeapState) (w : Word) (number i : ℕ) (r : Record) (result : Option (Name × Word)) → ReadsRecord a h number r → w ≡ word.Fields number
     → result ≡ slice_get (take (r.labelled.end - r.labelled.start) (drop r.labelled.start a.labelled.items)) i
-    → option_map (λ field. (field.0.0, value_of h field.1)) result ≡ labelled_part_at (value_of h w) i
+    → option_map (λ field. (field.0.0, value_of h field.1)) result ≡ labelled_field_at (value_of h w) i
 label_at_read a h w number i r result reads same is =
     let fields : List (Name × Word) = take (r.labelled.end - r.labelled.start) (drop r.labelled.start a.labelled.items) in
     let f = field_value h.texts (values_of h.texts h.records) in
@@ -115,7 +111,7 @@ label_at_read a h w number i r result reads same is =
     ∙ sym (joined (slice_get fields i) f (λ field. (field.0.0, field.1)))
     ∙ ap (option_map (λ field. (field.0.0, field.1))) (sym (slice_get-map f fields i))
     ∙ sym (nth-labelled_of (map f fields) i)
-    ∙ sym (ap (λ v. labelled_part_at v i) (ap (value_of h) same ∙ reads.value))
+    ∙ sym (ap (λ v. labelled_field_at v i) (ap (value_of h) same ∙ reads.value))
   where
     joined : (o : Option (Name × Word)) (f : Name × Word → Name × Val) (g : Name × Val → ℕ × Val) → option_map g (option_map f o) ≡ option_map (λ x. g (f x)) o
     joined None f g = refl
@@ -137,30 +133,30 @@ found_labelled P (f ∷ fields) label (Some w) all is =
     ] is
 
 -- a text as a call reads it
-text_here : (a : Inside) (number : ℕ) (part : Part) → IsSound a → number < length a.texts.items → part ≡ get_or a.texts.items number part
-    → value_of (state_of a) (word.Text number) ≡ term.Text (text_state a.bytes.items part)
-text_here a number part sound inside read =
+text_here : (a : Inside) (number : ℕ) (slice : Slice) → IsSound a → number < length a.texts.items → slice ≡ get_or a.texts.items number slice
+    → value_of (state_of a) (word.Text number) ≡ term.Text (text_state a.bytes.items slice)
+text_here a number slice sound inside read =
     ap term.Text
-    (get_or-map (text_state a.bytes.items) a.texts.items number part [] inside
+    (get_or-map (text_state a.bytes.items) a.texts.items number slice [] inside
     ∙ ap (text_state a.bytes.items) (sym read))
 
-pub text_read : (a : Inside) (h : HeapState) (number : ℕ) (part : Part) → state_of a ≡ h → IsSound a → IsWord h (word.Text number) → part ≡ get_or a.texts.items number part
-    → value_of h (word.Text number) ≡ term.Text (text_state a.bytes.items part)
-text_read a h number part is sound there read =
-    subst (λ x. value_of x (word.Text number) ≡ term.Text (text_state a.bytes.items part)) is
-    (text_here a number part sound (omega (arith, there, ap (λ x. length x.texts) is, length-map a.texts.items (text_state a.bytes.items))) read)
+pub text_read : (a : Inside) (h : HeapState) (number : ℕ) (slice : Slice) → state_of a ≡ h → IsSound a → IsWord h (word.Text number) → slice ≡ get_or a.texts.items number slice
+    → value_of h (word.Text number) ≡ term.Text (text_state a.bytes.items slice)
+text_read a h number slice is sound there read =
+    subst (λ x. value_of x (word.Text number) ≡ term.Text (text_state a.bytes.items slice)) is
+    (text_here a number slice sound (omega (arith, there, ap (λ x. length x.texts) is, length-map a.texts.items (text_state a.bytes.items))) read)
 
 -- the value of a record is no text
 record_no_text : (a : Inside) (h : HeapState) (number : ℕ) → state_of a ≡ h → IsSound a → IsWord h (word.Fields number)
-    → text_part (value_of h (word.Fields number)) ≡ None
+    → text_bytes (value_of h (word.Fields number)) ≡ None
 record_no_text a h number is sound there =
-    let empty : Part = record { start = 0; end = 0 } in
+    let empty : Slice = record { start = 0; end = 0 } in
     let r : Record = get_or a.records.items number (record { positional = empty; labelled = empty }) in
     let inside : number < length a.records.items = omega (arith, there, ap (λ x. length x.records) is, length-map a.records.items (record_state a.words.items a.labelled.items)) in
     let read : r ≡ get_or a.records.items number r = get_or_default a.records.items number (record { positional = empty; labelled = empty }) r inside in
-    ap text_part (record_read a h (word.Fields number) number r is sound there refl read).value
+    ap text_bytes (record_read a h (word.Fields number) number r is sound there refl read).value
 
-pub no_text : (a : Inside) (h : HeapState) (w : Word) → state_of a ≡ h → IsSound a → IsWord h w → ((number : ℕ) → w ≡ word.Text number → ⊥) → text_part (value_of h w) ≡ None
+pub no_text : (a : Inside) (h : HeapState) (w : Word) → state_of a ≡ h → IsSound a → IsWord h w → ((number : ℕ) → w ≡ word.Text number → ⊥) → text_bytes (value_of h w) ≡ None
 no_text a h (word.Int n) is sound there other = refl
 no_text a h (word.Char n) is sound there other = refl
 no_text a h (word.Bool n) is sound there other = refl
@@ -169,26 +165,26 @@ no_text a h (word.Prim n) is sound there other = refl
 no_text a h (word.Text n) is sound there other = absurd (other n refl)
 no_text a h (word.Fields n) is sound there other = record_no_text a h n is sound there
 
--- the part of a text, for a call that joins
-pub record PartOf (a : Inside) (h : HeapState) (w : Word) (part : Part) : Type 0 where
-  pub within : IsWithin (length a.bytes.items) part
-  pub bytes : text_of h w ≡ text_state a.bytes.items part
+-- the slice of a text, for a call that joins
+pub record SliceOf (a : Inside) (h : HeapState) (w : Word) (slice : Slice) : Type 0 where
+  pub within : IsWithin (length a.bytes.items) slice
+  pub bytes : text_of h w ≡ text_state a.bytes.items slice
 
-pub part_read : (a : Inside) (h : HeapState) (w : Word) (part : Part) → state_of a ≡ h → IsSound a → IsWord h w → IsSome (text_part (value_of h w))
-    → part ≡ part_of_word a.texts.items w → PartOf a h w part
-part_read a h (word.Int n) part is sound there text part_is = cc
-part_read a h (word.Char n) part is sound there text part_is = cc
-part_read a h (word.Bool n) part is sound there text part_is = cc
-part_read a h (word.Chan n) part is sound there text part_is = cc
-part_read a h (word.Prim n) part is sound there text part_is = cc
-part_read a h (word.Fields n) part is sound there text part_is = cc (ap is_some (record_no_text a h n is sound there))
-part_read a h (word.Text n) part is sound there text part_is =
+pub slice_read : (a : Inside) (h : HeapState) (w : Word) (slice : Slice) → state_of a ≡ h → IsSound a → IsWord h w → IsSome (text_bytes (value_of h w))
+    → slice ≡ slice_of_word a.texts.items w → SliceOf a h w slice
+slice_read a h (word.Int n) slice is sound there text slice_is = cc
+slice_read a h (word.Char n) slice is sound there text slice_is = cc
+slice_read a h (word.Bool n) slice is sound there text slice_is = cc
+slice_read a h (word.Chan n) slice is sound there text slice_is = cc
+slice_read a h (word.Prim n) slice is sound there text slice_is = cc
+slice_read a h (word.Fields n) slice is sound there text slice_is = cc (ap is_some (record_no_text a h n is sound there))
+slice_read a h (word.Text n) slice is sound there text slice_is =
     let inside : n < length a.texts.items = omega (arith, there, ap (λ x. length x.texts) is, length-map a.texts.items (text_state a.bytes.items)) in
-    let read : part ≡ get_or a.texts.items n part = part_is ∙ get_or_default a.texts.items n (record { start = 0; end = 0 }) part inside in
+    let read : slice ≡ get_or a.texts.items n slice = slice_is ∙ get_or_default a.texts.items n (record { start = 0; end = 0 }) slice inside in
     record {
-      within = each_at (IsWithin (length a.bytes.items)) a.texts.items n part sound.texts (slice_get_read a.texts.items (length a.texts.items) n part refl inside read);
-      bytes = ap (λ v. unwrap_or (text_part v) []) (text_read a h n part is sound there read);
+      within = each_at (IsWithin (length a.bytes.items)) a.texts.items n slice sound.texts (slice_get_read a.texts.items (length a.texts.items) n slice refl inside read);
+      bytes = ap (λ v. unwrap_or (text_bytes v) []) (text_read a h n slice is sound there read);
     }
 
-pub part_length : (a : Inside) (h : HeapState) (w : Word) (part : Part) → PartOf a h w part → length (text_of h w) ≡ part.end - part.start
-part_length a h w part of = ap length of.bytes ∙ range_length a.bytes.items part of.within.inside
+pub slice_length : (a : Inside) (h : HeapState) (w : Word) (slice : Slice) → SliceOf a h w slice → length (text_of h w) ≡ slice.end - slice.start
+slice_length a h w slice of = ap length of.bytes ∙ range_length a.bytes.items slice of.within.inside

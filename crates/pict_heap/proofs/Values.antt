@@ -7,7 +7,7 @@ use Rattle.pict_core.specs.Term as term
 use Rattle.pict_core.specs.Term.{Val, Vals, Labelled}
 use Rattle.pict_core.specs.Plain.{vals_of, labelled_of}
 use Rattle.pict_syntax.specs.declared.name.Name.{Name}
-use Rattle.pict_heap.specs.Parts.{nth, nth_labelled, count}
+use Rattle.pict_heap.specs.Fields.{nth, nth_labelled, count}
 use Rattle.pict_heap.specs.HeapState.{RecordState, word_value, field_value, record_value, more_values, values_of, IsWordOf}
 use Rattle.pict_heap.specs.Layout.{IsRecordOf, AreGrounded}
 use Rattle.pict_heap.specs.declared.word.Word.{Word}
@@ -146,7 +146,7 @@ grounded_at t n (x ∷ rs) (suc i) r grounded found =
     let place : n + 1 + i ≡ n + suc i = omega arith in
     subst (λ m. IsRecordOf t m r) place (grounded_at t (n + 1) rs i r grounded.1 found)
 
--- the parts of a record's value
+-- the fields of a record's value
 pub nth-vals_of : (vs : List Val) (i : ℕ) → nth (vals_of vs) i ≡ slice_get vs i
 nth-vals_of [] i = refl
 nth-vals_of (v ∷ vs) zero = refl

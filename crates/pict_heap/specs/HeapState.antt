@@ -2,7 +2,7 @@
 use Rattle.std.specs.Prelude.{◌≡◌, ℕ, ◌+◌, ◌<◌, ◌≤◌, List, [], ◌∷◌, ◌++◌, map, length, slice_index_or, ◌==◌, if◌then◌else◌, Option, Some, None, unwrap_or}
 use Rattle.std.specs.List.{fold}
 use Rattle.pict_core.specs.Term as term
-use Rattle.pict_heap.specs.Parts.{text_part}
+use Rattle.pict_heap.specs.Fields.{text_bytes}
 use Rattle.pict_core.specs.Plain.{vals_of, labelled_of}
 use Rattle.pict_syntax.specs.declared.name.Name.{Name}
 use Rattle.pict_heap.specs.declared.word.Word.{Word}
@@ -85,4 +85,4 @@ word_with_label label (field ∷ fields) = if label == field.0.0 then Some field
 
 -- the bytes of a word that is a text
 abbrev pub text_of : HeapState → Word → List ℕ
-text_of h w = unwrap_or (text_part (value_of h w)) []
+text_of h w = unwrap_or (text_bytes (value_of h w)) []

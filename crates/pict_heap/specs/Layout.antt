@@ -1,4 +1,4 @@
--- How texts and records lie in a heap: each is a part of one list of bytes, of words, or of labelled words.
+-- How texts and records lie in a heap: each is a slice of one list of bytes, of words, or of labelled words.
 use Rattle.std.specs.Prelude.{◌≡◌, ℕ, ◌+◌, ◌-◌, ◌^◌, ◌<◌, ◌≤◌, min, List, [], ◌∷◌, map, length, slice_range, slice_index_or, vec_len, pos}
 use Rattle.std.specs.List.{AllByRecursion}
 use Rattle.std.specs.Vec.{vec_capacity}
@@ -6,12 +6,12 @@ use Rattle.pict_syntax.specs.declared.name.Name.{Name}
 use Rattle.pict_heap.specs.HeapState.{RecordState, HeapState, IsWordOf, word_with_label}
 use Rattle.pict_heap.specs.declared.word.Word.{Word}
 use Rattle.pict_heap.specs.declared.word.Word.TheVariants as word
-use Rattle.pict_heap.specs.declared.heap.Part.{Part}
+use Rattle.pict_heap.specs.declared.heap.Slice.{Slice}
 use Rattle.pict_heap.specs.declared.heap.Record.{Record}
 use Rattle.pict_heap.specs.declared.heap.Heap.TheInside.{Inside}
 
-abbrev pub text_state : List ℕ → Part → List ℕ
-text_state bytes part = slice_range bytes part.start part.end
+abbrev pub text_state : List ℕ → Slice → List ℕ
+text_state bytes slice = slice_range bytes slice.start slice.end
 
 abbrev pub record_state : List Word → List (Name × Word) → Record → RecordState
 record_state words labelled r = record {
@@ -31,10 +31,10 @@ state_of a = record {
   };
 }
 
--- a part lies within a list of this length
-pub record IsWithin (length : ℕ) (part : Part) : Type 0 where
-  pub ordered : part.start ≤ part.end
-  pub inside : part.end ≤ length
+-- a slice lies within a list of this length
+pub record IsWithin (length : ℕ) (slice : Slice) : Type 0 where
+  pub ordered : slice.start ≤ slice.end
+  pub inside : slice.end ≤ length
 
 pub record RecordIsWithin (words labels : ℕ) (r : Record) : Type 0 where
   pub positional : IsWithin words r.positional
@@ -66,7 +66,7 @@ pub record AreSorted (fields sorted : List (Name × Word)) : Type 0 where
   pub rising : AreRising sorted
   pub same : (label : ℕ) → word_with_label label sorted ≡ word_with_label label fields
 
--- each record's part of the sorted list has its fields in order
+-- each record's slice of the sorted list has its fields in order
 abbrev pub IsIndexed : List (Name × Word) → List (Name × Word) → Record → Type 0
 IsIndexed labelled sorted r =
     AreSorted (slice_range labelled r.labelled.start r.labelled.end) (slice_range sorted r.labelled.start r.labelled.end)
@@ -78,7 +78,7 @@ pub record IsSound (a : Inside) : Type 0 where
   pub as_long : length a.sorted.items ≡ length a.labelled.items
   pub indexed : AllByRecursion (IsIndexed a.labelled.items a.sorted.items) a.records.items
 
--- the part of the bytes that a text is
-abbrev pub part_of_word : List Part → Word → Part
-part_of_word texts (word.Text number) = slice_index_or texts number (record { start = 0; end = 0 })
-part_of_word texts _ = record { start = 0; end = 0 }
+-- the slice of the bytes that a text is
+abbrev pub slice_of_word : List Slice → Word → Slice
+slice_of_word texts (word.Text number) = slice_index_or texts number (record { start = 0; end = 0 })
+slice_of_word texts _ = record { start = 0; end = 0 }

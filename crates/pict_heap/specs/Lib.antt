@@ -1,4 +1,4 @@
-pub mod Parts
+pub mod Fields
 pub mod HeapState
 pub mod Layout
 pub mod Packed

@@ -11,7 +11,7 @@ abbrev pub bool_number : Bool → ℕ
 bool_number true = 1
 bool_number false = 0
 
--- a primitive's place in the table of primitives
+-- a primitive's index in the table of primitives
 abbrev pub primitive_number : Primitive → ℕ
 primitive_number primitive.Print = 0
 primitive_number primitive.Printi = 1

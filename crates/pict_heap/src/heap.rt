@@ -6,26 +6,26 @@ ghost use Rattle.std.specs.List.Sorted.{IsPermutation, IsNonDecreasingBy};
 ghost use Rattle.std.specs.Option.{option_map};
 ghost use Rattle.pict_core.specs.Term as term;
 ghost use Rattle.pict_heap.specs.HeapState.{value_of, word_with_label, text_of, IsWord, KeepsWords, UsesRoom, record_of};
-ghost use Rattle.pict_heap.specs.Layout.{IsWithin, part_of_word, AreRising, label_of};
-ghost use Rattle.pict_heap.specs.Parts.{positional_part, labelled_part, labelled_part_at, positional_count, text_part};
+ghost use Rattle.pict_heap.specs.Layout.{IsWithin, slice_of_word, AreRising, label_of};
+ghost use Rattle.pict_heap.specs.Fields.{positional_field, labelled_field, labelled_field_at, positional_count, text_bytes};
 
 use crate::word::Word;
 use pict_syntax::Name;
 use std::alloc::{AllocError, Global};
 use std::marker::Model;
 
-/// A part of a list, from `start` to before `end`.
+/// A slice of a list, from `start` to before `end`.
 #[derive(Clone, Copy)]
-struct Part {
+struct Slice {
     start: usize,
     end: usize,
 }
 
-/// A record: a part of the words, and a part of the labelled words.
+/// A record: a slice of the words, and a slice of the labelled words.
 #[derive(Clone, Copy)]
 struct Record {
-    positional: Part,
-    labelled: Part,
+    positional: Slice,
+    labelled: Slice,
 }
 
 /// Texts and records, which never change. Contracts see, for each word, the value that it stands for, and the room for
@@ -33,7 +33,7 @@ struct Record {
 #[derive(Drop)]
 pub struct Heap {
     bytes: Vec<u8>,
-    texts: Vec<Part>,
+    texts: Vec<Slice>,
     words: Vec<Word>,
     labelled: Vec<(Name, Word)>,
     sorted: Vec<(Name, Word)>,
@@ -136,8 +136,8 @@ impl Heap {
     pub fn join_texts(&mut self, a: Word, b: Word) -> Word
         requires room { 1 ≤ self.old.room.texts }
         requires words { IsWord self.old a × IsWord self.old b }
-        requires first { IsSome (text_part (value_of self.old a)) }
-        requires second { IsSome (text_part (value_of self.old b)) }
+        requires first { IsSome (text_bytes (value_of self.old a)) }
+        requires second { IsSome (text_bytes (value_of self.old b)) }
         requires bytes { length (text_of self.old a) + length (text_of self.old b) ≤ self.old.room.bytes }
         ensures word { IsWord self.new result }
         ensures value { value_of self.new result ≡ term.Text (text_of self.old a ++ text_of self.old b) }
@@ -145,24 +145,24 @@ impl Heap {
         ensures room { UsesRoom self.old.room self.new.room 0 0 1 (length (text_of self.old a) + length (text_of self.old b)) }
     {
         let number = self.texts.len() as u64;
-        let first = part_of(&self.texts, a);
-        let second = part_of(&self.texts, b);
-        let text = append_parts(&mut self.bytes, first, second);
+        let first = slice_of(&self.texts, a);
+        let second = slice_of(&self.texts, b);
+        let text = append_slices(&mut self.bytes, first, second);
         self.texts.push_reserved(text);
         Word::Text(number)
     }
 
-    /// The positional field at place `i`, from 0, of a record, or None exactly where the value has no such field. Takes
+    /// The positional field at index `i`, from 0, of a record, or None exactly where the value has no such field. Takes
     /// no memory.
     pub fn positional(&self, w: Word, i: u32) -> Option<Word>
         requires { IsWord self.now w }
-        ensures value { option_map (value_of self.now) result ≡ positional_part (value_of self.now w) i }
+        ensures value { option_map (value_of self.now) result ≡ positional_field (value_of self.now w) i }
         ensures word { IfSome result (IsWord self.now) }
     {
         match w {
             Word::Fields(number) => {
-                let part = self.records[number as usize].positional;
-                item(&self.words[part.start..part.end], i)
+                let slice = self.records[number as usize].positional;
+                item(&self.words[slice.start..slice.end], i)
             }
             _ => None,
         }
@@ -171,29 +171,29 @@ impl Heap {
     /// The field with this label of a record, or None exactly where the value has no such field. Takes no memory.
     pub fn labelled(&self, w: Word, l: Name) -> Option<Word>
         requires { IsWord self.now w }
-        ensures value { option_map (value_of self.now) result ≡ labelled_part (value_of self.now w) l.0 }
+        ensures value { option_map (value_of self.now) result ≡ labelled_field (value_of self.now w) l.0 }
         ensures word { IfSome result (IsWord self.now) }
     {
         match w {
             Word::Fields(number) => {
-                let part = self.records[number as usize].labelled;
-                with_label(&self.sorted[part.start..part.end], l)
+                let slice = self.records[number as usize].labelled;
+                with_label(&self.sorted[slice.start..slice.end], l)
             }
             _ => None,
         }
     }
 
-    /// The labelled field at place `i`, from 0, of a record, in the record's own order, or None exactly where the value has
+    /// The labelled field at index `i`, from 0, of a record, in the record's own order, or None exactly where the value has
     /// no such field. Takes no memory.
     pub fn label_at(&self, w: Word, i: u32) -> Option<(Name, Word)>
         requires { IsWord self.now w }
-        ensures value { option_map (λ field. (field.0.0, value_of self.now field.1)) result ≡ labelled_part_at (value_of self.now w) i }
+        ensures value { option_map (λ field. (field.0.0, value_of self.now field.1)) result ≡ labelled_field_at (value_of self.now w) i }
         ensures word { IfSome result (λ field. IsWord self.now field.1) }
     {
         match w {
             Word::Fields(number) => {
-                let part = self.records[number as usize].labelled;
-                item(&self.labelled[part.start..part.end], i)
+                let slice = self.records[number as usize].labelled;
+                item(&self.labelled[slice.start..slice.end], i)
             }
             _ => None,
         }
@@ -206,8 +206,8 @@ impl Heap {
     {
         match w {
             Word::Fields(number) => {
-                let part = self.records[number as usize].positional;
-                Some((part.end - part.start) as u32)
+                let slice = self.records[number as usize].positional;
+                Some((slice.end - slice.start) as u32)
             }
             _ => None,
         }
@@ -216,49 +216,50 @@ impl Heap {
     /// The bytes of a text, or None exactly where the value is no text. Takes no memory.
     pub fn bytes(&self, w: Word) -> Option<&[u8]>
         requires { IsWord self.now w }
-        ensures { option_map (λ bytes. bytes.now) result ≡ text_part (value_of self.now w) }
+        ensures { option_map (λ bytes. bytes.now) result ≡ text_bytes (value_of self.now w) }
     {
         match w {
             Word::Text(number) => {
-                let part = self.texts[number as usize];
-                Some(&self.bytes[part.start..part.end])
+                let slice = self.texts[number as usize];
+                Some(&self.bytes[slice.start..slice.end])
             }
             _ => None,
         }
     }
 }
 
-// The part of the bytes that a text is, and an empty part for any other word.
-fn part_of(texts: &[Part], w: Word) -> Part
+// The slice of the bytes that a text is, and an empty slice for any other word.
+fn slice_of(texts: &[Slice], w: Word) -> Slice
     requires { (number : ℕ) → w ≡ Word.Text number → number < length texts.now }
-    ensures { result ≡ part_of_word texts.now w }
+    ensures { result ≡ slice_of_word texts.now w }
 {
     match w {
         Word::Text(number) => texts[number as usize],
-        _ => Part { start: 0, end: 0 },
+        _ => Slice { start: 0, end: 0 },
     }
 }
 
-// Appends two parts of a list that has room for them, and answers the part that they are.
-fn append_parts(list: &mut Vec<u8>, first: Part, second: Part) -> Part
+// Appends two slices of a list that has room for them, and answers the slice that they are.
+fn append_slices(list: &mut Vec<u8>, first: Slice, second: Slice) -> Slice
     requires first { IsWithin (vec_len list.old) first }
     requires second { IsWithin (vec_len list.old) second }
     requires room { vec_len list.old + (first.end - first.start) + (second.end - second.start) ≤ vec_capacity list.old }
-    ensures items { list.new.items ≡ list.old.items ++ (slice_range list.old.items first.start first.end ++ slice_range list.old.items second.start second.end) }
+    ensures items { list.new.items
+        ≡ list.old.items ++ (slice_range list.old.items first.start first.end ++ slice_range list.old.items second.start second.end) }
     ensures len { vec_len list.new ≡ vec_len list.old + (first.end - first.start) + (second.end - second.start) }
     ensures capacity { vec_capacity list.old ≤ vec_capacity list.new }
-    ensures part { result ≡ record { start = vec_len list.old; end = vec_len list.new } }
+    ensures slice { result ≡ record { start = vec_len list.old; end = vec_len list.new } }
 {
     let start = list.len();
     let _ = list.extend_from_within(first.start..first.end);
     let _ = list.extend_from_within(second.start..second.end);
-    Part {
+    Slice {
         start,
         end: list.len(),
     }
 }
 
-// The item at a place, if there is one.
+// The item at an index, if there is one.
 fn item<T: Copy>(items: &[T], i: u32) -> Option<T>
     ensures { result ≡ slice_get items.now i }
 {
@@ -280,7 +281,7 @@ fn with_label(fields: &[(Name, Word)], label: Name) -> Option<Word>
     }
 }
 
-// Sorts a list by label, from a place on.
+// Sorts a list by label, from an index on.
 fn sort_from(list: &mut Vec<(Name, Word)>, start: usize)
     requires { start ≤ vec_len list.old }
     ensures before { take start list.new.items ≡ take start list.old.items }
@@ -301,17 +302,17 @@ fn sort_fields(fields: &mut [(Name, Word)])
     fields.sort_unstable_by_key(|field| field.0.0);
 }
 
-// Appends items to a list that has room for them, and answers the part that they are.
-fn append<T: Copy>(list: &mut Vec<T>, items: &[T]) -> Part
+// Appends items to a list that has room for them, and answers the slice that they are.
+fn append<T: Copy>(list: &mut Vec<T>, items: &[T]) -> Slice
     requires { vec_len list.old + length items.now ≤ vec_capacity list.old }
     ensures items { list.new.items ≡ list.old.items ++ items.now }
     ensures len { vec_len list.new ≡ vec_len list.old + length items.now }
     ensures capacity { vec_capacity list.old ≤ vec_capacity list.new }
-    ensures part { result ≡ record { start = vec_len list.old; end = vec_len list.old + length items.now } }
+    ensures slice { result ≡ record { start = vec_len list.old; end = vec_len list.old + length items.now } }
 {
     let start = list.len();
     let _ = list.extend_from_slice(items);
-    Part {
+    Slice {
         start,
         end: start + items.len(),
     }

@@ -6,14 +6,15 @@ use Rattle.std.specs.Int.{IsInRange}
 use Rattle.std.specs.Str.Parse.{AllDigits, signed_digits_value}
 use Rattle.std.proofs.lemmas.Bool.{cases_lt}
 use Rattle.std.proofs.lemmas.Bool.Decides.{nat_tests}
-use Rattle.std.proofs.lemmas.List.{take-append-drop, length-append}
+use Rattle.std.proofs.lemmas.List.{take-append-drop, length-append, length-take-le}
 use Rattle.std.proofs.lemmas.Str.Parse.{digit_from_value}
 use Rattle.pict_syntax.specs.declared.token.SymbolName.TheVariants.{Plus, Minus, Star, PlusDollar, EqualsEquals, LessLess, LessEquals, GreaterGreater, GreaterEquals}
 use Rattle.pict_syntax.specs.declared.token.Keyword.{Keyword}
 use Rattle.pict_syntax.specs.declared.token.Keyword.TheVariants.{And, Def, Else, False, If, Import, New, Rec, Run, Then, True, TypeDefinition, Val, BoolType, CharType, IntType, StringType, TopType, TypeKind}
 use Rattle.pict_syntax.specs.declared.token.Sign.TheVariants.{Bang, Question, QuestionStar, Equals, Bar, OpenParen, CloseParen, OpenBracket, CloseBracket, Colon, Semicolon, Less, Greater, Backslash, Caret, Slash, Hash, Underscore, Arrow}
 use Rattle.pict_syntax.specs.Tokens.{Form, identifier, symbol, keyword, number, character, string, sign, is_word_byte, IsWord, keyword_text, IsNumber, IsWithin64Bits, Spells}
-use Rattle.pict_syntax.specs.Readings.{IsLongest, IsWithinRange, BeginsNothing, IsNumberOutOfRange}
+use Rattle.pict_syntax.specs.Cuts.{IsLongest, IsWithinRange, BeginsNothing, IsNumberOutOfRange}
+use Rattle.pict_syntax.proofs.FormLemmas.{digit_is_digit}
 use Rattle.pict_lex.specs.declared.mark.Mark.{Mark}
 use Rattle.pict_lex.specs.declared.mark.Mark.TheVariants.{Sign, Symbol}
 use Rattle.pict_lex.specs.Mark.{mark_text, mark_form}
@@ -114,10 +115,7 @@ word_inside (first ∷ more) zero h some below = absurd (omega arith)
 word_inside (first ∷ more) (suc k) h some below = all_at (λ byte. is_word_byte byte ≡ true) more k (omega arith) h.1
 
 digit_byte : (byte : ℕ) → digit_value byte < 10 → is_ascii_digit byte ≡ true
-digit_byte byte h = let range : IsInRange 48 57 byte = digit_from_value byte h in digit_in byte range
-  where
-    digit_in : (byte : ℕ) → IsInRange 48 57 byte → is_ascii_digit byte ≡ true
-    digit_in byte h = grind (arith, nat_tests)
+digit_byte byte h = let range : IsInRange 48 57 byte = digit_from_value byte h in digit_is_digit byte range
 
 digit_at_place : (digits : List ℕ) (k : ℕ) → AllDigits 10 digits → k < length digits → is_ascii_digit (get_or digits k 0) ≡ true
 digit_at_place [] k h below = absurd (omega arith)
@@ -160,16 +158,11 @@ quote_no_letter : (quote : ℕ) → (quote ≡ 34) ⊎ (quote ≡ 39) → is_asc
 quote_no_letter quote (inl e) = ap is_ascii_alphabetic e
 quote_no_letter quote (inr e) = ap is_ascii_alphabetic e
 
-pub taken_length : (xs : List ℕ) (n : ℕ) → n ≤ length xs → length (take n xs) ≡ n
-taken_length xs zero h = refl
-taken_length [] (suc n) h = absurd (omega arith)
-taken_length (x ∷ xs) (suc n) h = ap (λ k. suc k) (taken_length xs n (omega arith))
-
 -- the word at the front is the longest token
 pub word_longest : (rest : List ℕ) (len : ℕ) → 0 < len → len ≤ length rest → is_ascii_alphabetic (get_or rest 0 0) ≡ true
     → (len < length rest → is_word_byte (get_or rest len 0) ≡ false) → IsLongest (take len rest) (drop len rest)
 word_longest rest len some within letter longest others form spelled (more, e) =
-    subst (λ n. length others ≤ n) (sym (taken_length rest len within)) (by (sort_form others form spelled) (sym (take-append-drop len rest) ∙ e))
+    subst (λ n. length others ≤ n) (sym (length-take-le len rest within)) (by (sort_form others form spelled) (sym (take-append-drop len rest) ∙ e))
   where
     clash : (b : ℕ) → is_ascii_alphabetic b ≡ false → get_or rest 0 0 ≡ b → ⊥
     clash b other same = true≢false (sym letter ∙ ap is_ascii_alphabetic same ∙ other)
@@ -215,7 +208,7 @@ number_longest rest len begins within is longest others form spelled (more, e) =
     by (sort_form others form spelled) (sym (take-append-drop len rest) ∙ e)
   where
     size : length (take len rest) ≡ len
-    size = taken_length rest len within
+    size = length-take-le len rest within
 
     some : 0 < length (take len rest)
     some = number_some (take len rest) is
@@ -241,7 +234,7 @@ number_longest rest len begins within is longest others form spelled (more, e) =
 pub number_token : (rest : List ℕ) (len : ℕ) (n : ℤ) → BeginsNumber rest → len ≤ length rest → IsNumber (take len rest)
     → (len < length rest → is_ascii_digit (get_or rest len 0) ≡ false) → n ≡ signed_digits_value 10 (take len rest) → IsWithin64Bits n → IsToken rest (number n) len
 number_token rest len n begins within is longest value in_range =
-    let size : length (take len rest) ≡ len = taken_length rest len within in
+    let size : length (take len rest) ≡ len = length-take-le len rest within in
     let some : 0 < length (take len rest) = number_some (take len rest) is in
     record { some = omega arith; within = within; piece = ((is, value), in_range, number_longest rest len begins within is longest) }
 
@@ -297,7 +290,7 @@ mark_one rest others more mark none text same = elim (mark_facts mark).2 [
 pub mark_token : (rest : List ℕ) (mark : Mark) → IsOther rest → NoTwo rest → mark_text mark ≡ get_or rest 0 0 ∷ [] → IsToken rest (mark_form mark) 1
 mark_token rest mark other none same =
     let positive : 0 < length rest = other.some in
-    let size : length (take 1 rest) ≡ 1 = taken_length rest 1 (omega arith) in
+    let size : length (take 1 rest) ≡ 1 = length-take-le 1 rest (omega arith) in
     let taken : take 1 rest ≡ get_or rest 0 0 ∷ [] = one_list (take 1 rest) size ∙ ap (λ b. b ∷ []) (sym (front_at rest (take 1 rest) (drop 1 rest) 0 (sym (take-append-drop 1 rest)) (omega arith))) in
     record {
       some = omega arith;

@@ -8,14 +8,14 @@ use Rattle.pict_syntax.specs.declared.token.Token.{Token}
 use Rattle.pict_syntax.specs.declared.token.TokenKind.{TokenKind}
 use Rattle.pict_syntax.specs.Names.{with_name, with_names}
 use Rattle.pict_syntax.specs.Tokens.{identifier, symbol, keyword, number, character, string, sign}
-use Rattle.pict_syntax.specs.Readings.{Piece, blank, comment, token, IsCut, IsReading, named, extent, IsLexStop}
-use Rattle.pict_syntax.proofs.LawLemmas.{stop_excludes_reading, one_stop}
+use Rattle.pict_syntax.specs.Cuts.{Piece, blank, comment, token, IsCut, IsWholeCut, named, extent, IsLexStop}
+use Rattle.pict_syntax.proofs.LawLemmas.{stop_excludes_whole_cut, one_stop}
 use Rattle.pict_syntax.proofs.NamesLemmas.{with_there, with_absent, has_name}
 use Rattle.pict_lex.specs.declared.halt.Halt.{Halt}
 use Rattle.pict_lex.specs.declared.halt.Halt.TheVariants.{Stop, Memory as Stopped}
 use Rattle.pict_lex.specs.declared.error.LexError.{LexError}
 use Rattle.pict_lex.specs.declared.error.LexError.TheVariants.{Named, Memory}
-use Rattle.pict_lex.specs.Lex.{KeepsNames, IsRefusal, IsThisRefusal}
+use Rattle.pict_lex.specs.Lex.{KeepsNames, GainsSomeNames, IsRefusal, IsThisRefusal}
 use Rattle.pict_lex.specs.Scan.{IsHalt}
 use Rattle.pict_lex.specs.Steps.{HasStepped, HasRead, IsRefusedAt, token_at}
 use Rattle.pict_lex.proofs.StepLemmas.{with_names_grows}
@@ -30,6 +30,9 @@ pub kept_on : (old now new : List (List ℕ)) (rest : List ℕ) (kind : Option T
 kept_on old now new rest kind len (more, e) step =
     let grown : (others : List (List ℕ)) × (with_names now (named (step.piece ∷ [])) ≡ now ++ others) = with_names_grows now (named (step.piece ∷ [])) in
     (more ++ grown.0, step.names ∙ grown.1 ∙ ap (λ t. t ++ grown.0) e ∙ append_assoc old more grown.0)
+
+pub gained_by : (old now : List (List ℕ)) (source : ℕ) (text : List ℕ) (at : ℕ) (tokens : List Token) → HasRead old now source text at tokens → GainsSomeNames old now text
+gained_by old now source text at tokens had = (had.pieces, drop at text, had.cut, had.names)
 
 -- one piece adds at most one name
 one_name : (names : List (List ℕ)) (text : List ℕ) → length (with_name names text) ≤ length names + 1
@@ -59,7 +62,7 @@ token_room tokens after None span e = let size : length after ≡ length tokens 
 token_room tokens after (Some kind) span e = let size : length after ≡ length tokens + 1 = ap length e ∙ length-append tokens (token_at (Some kind) span) in omega arith
 
 -- the text is read to its end
-pub read_whole : (old now : List (List ℕ)) (source : ℕ) (text : List ℕ) (at : ℕ) (tokens : List Token) → length text ≤ at → (had : HasRead old now source text at tokens) → IsReading text had.pieces
+pub read_whole : (old now : List (List ℕ)) (source : ℕ) (text : List ℕ) (at : ℕ) (tokens : List Token) → length text ≤ at → (had : HasRead old now source text at tokens) → IsWholeCut text had.pieces
 read_whole old now source text at tokens all had =
     let size : length (drop at text) ≡ length text - at = length-drop at text in
     subst (IsCut text had.pieces) (empty (drop at text) (omega arith)) had.cut
@@ -86,6 +89,6 @@ pub refused_by : (source : ℕ) (text : List ℕ) (error : LexError) → IsRefus
 refused_by source text (Named other place) is code span stop = one_stop source text other code place span is stop
 refused_by source text Memory is code span stop = tt
 
-pub accepted_by : (source : ℕ) (text : List ℕ) (error : LexError) → IsRefusal source text error → (pieces : List Piece) → IsReading text pieces → error ≡ Memory
-accepted_by source text (Named code span) is pieces reading = absurd (stop_excludes_reading source text code span pieces is reading)
+pub accepted_by : (source : ℕ) (text : List ℕ) (error : LexError) → IsRefusal source text error → (pieces : List Piece) → IsWholeCut text pieces → error ≡ Memory
+accepted_by source text (Named code span) is pieces reading = absurd (stop_excludes_whole_cut source text code span pieces is reading)
 accepted_by source text Memory is pieces reading = refl

@@ -1,5 +1,5 @@
 -- Digits, and what stands for the value of a number.
-use Rattle.std.proofs.Common.{◌≡◌, ◌≢◌, ℕ, zero, suc, ◌<◌, ◌≤◌, true, false, List, [], ◌∷◌, length, take, drop, get_or, cond, refl, sym, ◌∙◌, ap, subst, arith, inl, inr, ◌==◌, true≢false, Result, Ok, Err, Option}
+use Rattle.std.proofs.Common.{◌≡◌, ◌≢◌, ℕ, zero, suc, ◌<◌, ◌≤◌, true, false, List, [], ◌∷◌, length, take, drop, get_or, cond, sym, ◌∙◌, ap, subst, arith, inl, inr, ◌==◌, true≢false, Result, Ok, Err, Option}
 use Rattle.std.specs.Option.{IfNone}
 use Rattle.std.specs.Result.{result_ok}
 use Rattle.std.proofs.lemmas.Int.{ints}
@@ -11,6 +11,7 @@ use Rattle.std.specs.Str.Parse.{IsNumeral, AllDigits, without_leading_sign, with
 use mir.Val.{SFits}
 use mir.Syntax.{w64}
 use Rattle.std.proofs.lemmas.Bool.{cases_lt}
+use Rattle.std.proofs.lemmas.List.{length-take-le}
 use Rattle.std.proofs.lemmas.Bool.Decides.{nat_tests}
 use Rattle.std.proofs.lemmas.Str.Parse.{digit_from_value}
 use Rattle.pict_syntax.specs.Tokens.{IsNumber, IsWithin64Bits}
@@ -26,21 +27,16 @@ digits_taken xs zero each h = tt
 digits_taken [] (suc n) each h = absurd (omega arith)
 digits_taken (x ∷ xs) (suc n) each h = (digit_below x (each zero (omega arith)), digits_taken xs n (λ k below. each (suc k) (omega arith)) (omega arith))
 
-length_taken : (xs : List ℕ) (n : ℕ) → n ≤ length xs → length (take n xs) ≡ n
-length_taken xs zero h = refl
-length_taken [] (suc n) h = absurd (omega arith)
-length_taken (x ∷ xs) (suc n) h = ap (λ k. suc k) (length_taken xs n (omega arith))
-
 -- a number without a minus
 pub plain_number : (xs : List ℕ) (n : ℕ) → 0 < n → n ≤ length xs → ((k : ℕ) → k < n → is_ascii_digit (get_or xs k 0) ≡ true) → IsNumber (take n xs)
-plain_number xs n some h each = let size : length (take n xs) ≡ n = length_taken xs n h in inl (omega arith, digits_taken xs n each h)
+plain_number xs n some h each = let size : length (take n xs) ≡ n = length-take-le n xs h in inl (omega arith, digits_taken xs n each h)
 
 -- a number with one
 pub minus_number : (xs : List ℕ) (n : ℕ) → 1 < n → n ≤ length xs → get_or xs 0 0 ≡ 45 → ((k : ℕ) → 1 ≤ k → k < n → is_ascii_digit (get_or xs k 0) ≡ true) → IsNumber (take n xs)
 minus_number xs zero some h minus each = absurd (omega arith)
 minus_number [] (suc n) some h minus each = absurd (omega arith)
 minus_number (x ∷ xs) (suc n) some h minus each =
-    let size : length (take n xs) ≡ n = length_taken xs n (omega arith) in
+    let size : length (take n xs) ≡ n = length-take-le n xs (omega arith) in
     inr (take n xs, (omega arith, digits_taken xs n (λ k below. each (suc k) (omega arith) (omega arith)) (omega arith)), ap (λ b. b ∷ take n xs) minus)
 
 no_sign : (byte : ℕ) → IsInRange 48 57 byte → ((byte == 45) ≡ false) × ((byte == 43) ≡ false)

@@ -1,14 +1,13 @@
 -- The spans of tokens and of refusals lie in their text.
 use Rattle.std.proofs.Common.{◌≡◌, ℕ, zero, suc, ◌+◌, ◌<◌, ◌≤◌, List, [], ◌∷◌, ◌++◌, length, refl, sym, ◌∙◌, ap, subst, arith, inl, inr}
-use Rattle.std.specs.List.{All, AllByRecursion, slice_index_or}
+use Rattle.std.specs.List.{All, AllByRecursion}
 use Rattle.std.proofs.lemmas.List.{length-append}
 use Rattle.pict_syntax.specs.declared.code.Code.{Code}
 use Rattle.pict_syntax.specs.declared.code.Code.TheVariants.{L1, L2, L3, L4, L5}
 use Rattle.pict_syntax.specs.declared.span.Span.{Span}
 use Rattle.pict_syntax.specs.declared.token.Token.{Token}
 use Rattle.pict_syntax.specs.Tokens.{Form, number, item_bytes, items_bytes, Spells}
-use Rattle.pict_syntax.specs.Comments.{BeginsWith, opening}
-use Rattle.pict_syntax.specs.Readings.{Piece, blank, comment, token, joined, ArePieces, IsCut, IsReading, tokens_of, IsInLiteral, Stops, extent, IsLexStop}
+use Rattle.pict_syntax.specs.Cuts.{Piece, blank, comment, token, joined, ArePieces, IsWholeCut, tokens_of, IsInLiteral, Stops, extent, IsLexStop}
 use Rattle.pict_syntax.proofs.FormLemmas.{never_empty}
 use Rattle.pict_lex.specs.declared.error.LexError.{LexError}
 use Rattle.pict_lex.specs.declared.error.LexError.TheVariants.{Named, Memory}
@@ -70,7 +69,7 @@ each_of P [] h k d below = absurd (omega arith)
 each_of P (x ∷ xs) h zero d below = h.0
 each_of P (x ∷ xs) h (suc k) d below = each_of P xs h.1 k d (omega arith)
 
-pub reading_lies : (names : List (List ℕ)) (source : ℕ) (text : List ℕ) (ps : List Piece) (tokens : List Token) → IsReading text ps → tokens ≡ tokens_of names source 0 ps
+pub reading_lies : (names : List (List ℕ)) (source : ℕ) (text : List ℕ) (ps : List Piece) (tokens : List Token) → IsWholeCut text ps → tokens ≡ tokens_of names source 0 ps
     → All (λ t. LiesIn source text t.span) tokens
 reading_lies names source text ps tokens reading e =
     let size : length text ≡ length (joined ps) + 0 = ap length reading.whole ∙ length-append (joined ps) [] in

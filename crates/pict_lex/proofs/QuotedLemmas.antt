@@ -1,10 +1,10 @@
 -- Characters and strings: the token at the front of a text, or why there is none.
-use Rattle.std.proofs.Common.{◌≡◌, ◌≢◌, ℕ, ◌+◌, ◌-◌, ◌<◌, ◌≤◌, List, [], ◌∷◌, ◌++◌, length, take, drop, map, get_or, suc, refl, sym, ◌∙◌, ap, subst, arith, inl, append_assoc}
+use Rattle.std.proofs.Common.{◌≡◌, ◌≢◌, ℕ, ◌+◌, ◌-◌, ◌<◌, ◌≤◌, List, [], ◌∷◌, ◌++◌, length, take, drop, map, get_or, suc, refl, sym, ◌∙◌, ap, subst, arith, append_assoc}
 use Rattle.std.proofs.Math.Seq.{drop-append_seam, take-append_seam, drop-cons}
 use Rattle.std.proofs.lemmas.List.{length-append, length-drop, drop-drop}
 use Rattle.pict_syntax.specs.Tokens.{Form, character, string, Item, item_bytes, item_value, IsItem, AreItems, items_bytes, Spells}
 use Rattle.pict_syntax.specs.Comments.{BeginsWith}
-use Rattle.pict_syntax.specs.Readings.{token, IsLongest, IsWithinRange, IsPiece, IsInLiteral}
+use Rattle.pict_syntax.specs.Cuts.{token, IsLongest, IsWithinRange, IsPiece}
 use Rattle.pict_syntax.proofs.ItemLemmas.{item_unique, items_unique, no_item_at_quote}
 use Rattle.pict_syntax.proofs.FormLemmas.{family_of, single, double, at_single, at_double}
 use Rattle.pict_lex.specs.Due.{IsItemAt}
@@ -81,12 +81,6 @@ pub record HasItems (rest : List ℕ) (at : ℕ) (values : List ℕ) : Type 0 wh
   pub values_are : values ≡ map item_value items
   pub place : at ≡ 1 + length (items_bytes items)
 
-pub no_items : (rest : List ℕ) → BeginsWith (34 ∷ []) rest → HasItems rest 1 []
-no_items rest (more, e) =
-    let size : length rest ≡ suc (length more) = ap length e in
-    let tail : drop 1 rest ≡ more = ap (drop 1) e in
-    record { items = []; are = tt; within = omega arith; spelled = e ∙ ap (λ t. 34 ∷ t) (sym tail); values_are = refl; place = refl }
-
 items_last : (items : List Item) (item : Item) → items_bytes (items ++ item ∷ []) ≡ items_bytes items ++ item_bytes item
 items_last [] item = append_nil (item_bytes item)
   where
@@ -135,10 +129,3 @@ string_token rest at values had (after, e) =
     let here : at ≡ 1 + length (items_bytes had.items) = had.place in
     token_from rest (34 ∷ (items_bytes had.items ++ 34 ∷ [])) after (string values) (at + 1) whole (omega arith) (omega arith)
     (had.items, had.are, refl, had.values_are) tt (longest_string had.items after had.are)
-
--- the string is here
-pub in_string : (rest : List ℕ) (at : ℕ) (values : List ℕ) → HasItems rest at values → IsInLiteral rest (drop at rest)
-in_string rest at values had = record { quote = 34; items = had.items; takes = inl refl; are = had.are; spelled = had.spelled }
-
-pub place_in_string : (rest : List ℕ) (at : ℕ) → at ≤ length rest → at + length (drop at rest) ≡ length rest
-place_in_string rest at h = let size : length (drop at rest) ≡ length rest - at = length-drop at rest in omega arith

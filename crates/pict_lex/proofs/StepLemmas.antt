@@ -1,18 +1,17 @@
 -- One piece more: what was read at the front as a step of the reading of the whole text.
 use Rattle.std.proofs.Common.{◌≡◌, ℕ, ◌+◌, ◌-◌, ◌<◌, ◌≤◌, true, List, [], ◌∷◌, ◌++◌, suc, length, take, drop, get_or, Option, Some, None, refl, sym, ◌∙◌, ap, subst, arith, append_assoc}
 use Rattle.std.specs.List.{AllByRecursion}
-use Rattle.std.proofs.lemmas.List.{take-append-drop, length-append, length-drop, drop-drop}
+use Rattle.std.proofs.lemmas.List.{take-append-drop, length-append, length-drop, length-take-le, drop-drop}
 use Rattle.pict_syntax.specs.declared.token.SymbolName.{SymbolName}
 use Rattle.pict_syntax.specs.declared.token.Token.{Token}
 use Rattle.pict_syntax.specs.declared.token.TokenKind.{TokenKind}
 use Rattle.pict_syntax.specs.declared.token.TokenKind.TheVariants.{Identifier, Symbol}
 use Rattle.pict_syntax.specs.Names.{with_name, with_names, number_of}
 use Rattle.pict_syntax.specs.Tokens.{Form, identifier, symbol, keyword, number, character, string, sign, symbol_text}
-use Rattle.pict_syntax.specs.Readings.{Piece, blank, comment, token, piece_bytes, IsBlank, IsPiece, joined, ArePieces, kind_of, tokens_of, named, named_by}
+use Rattle.pict_syntax.specs.Cuts.{Piece, blank, comment, token, piece_bytes, IsBlank, IsPiece, joined, ArePieces, kind_of, tokens_of, named, named_by}
 use Rattle.pict_lex.specs.Scan.{IsToken, IsCommentAt}
 use Rattle.pict_syntax.proofs.NamesLemmas.{has_name, has_kept, has_interned, number_kept, with_grows}
 use Rattle.pict_lex.specs.Steps.{HasStepped, HasRead, kind_of_piece, token_at}
-use Rattle.pict_lex.proofs.FrontLemmas.{taken_length}
 
 append_nil : {A : Type 0} (xs : List A) → xs ++ [] ≡ xs
 append_nil [] = refl
@@ -154,7 +153,7 @@ one_piece_more old now new source text at len tokens after kind had step pushed 
     let inside : len ≤ length (drop at text) = step.within in
     let front : drop at text ≡ piece_bytes step.piece ++ drop (at + len) text =
     sym (take-append-drop len (drop at text)) ∙ ap (λ t. take len (drop at text) ++ t) behind ∙ ap (λ t. t ++ drop (at + len) text) (sym step.bytes) in
-    let bytes : length (piece_bytes step.piece) ≡ len = ap length step.bytes ∙ taken_length (drop at text) len inside in
+    let bytes : length (piece_bytes step.piece) ≡ len = ap length step.bytes ∙ length-take-le len (drop at text) inside in
     let there : AllByRecursion (λ w. has_name now w ≡ true) (named had.pieces) = subst (λ ns. AllByRecursion (λ w. has_name ns w ≡ true) (named had.pieces)) (sym had.names) (are_there old (named had.pieces)) in
     let more : (more : List (List ℕ)) × (with_names now (named (step.piece ∷ [])) ≡ now ++ more) = with_names_grows now (named (step.piece ∷ [])) in
     let grown : new ≡ now ++ more.0 = step.names ∙ more.1 in

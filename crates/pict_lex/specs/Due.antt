@@ -3,7 +3,7 @@ use Rattle.std.specs.Prelude.{◌≡◌, ℕ, ◌<◌, ◌≤◌, List, [], ◌�
 use Rattle.pict_syntax.specs.Tokens.{item_bytes, item_value, IsItem}
 use Rattle.pict_syntax.specs.Tokens as tokens
 use Rattle.pict_syntax.specs.Comments.{BeginsWith}
-use Rattle.pict_syntax.specs.Readings.{IsCutOff, IsBadByte, IsBadEscape}
+use Rattle.pict_syntax.specs.Cuts.{IsCutOff, IsBadByte, IsBadEscape}
 use Rattle.pict_lex.specs.declared.literal.Due.{Due}
 use Rattle.pict_lex.specs.declared.literal.Due.TheVariants.{Item, Quote, CutOff, BadByte, BadEscape}
 

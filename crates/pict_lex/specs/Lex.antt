@@ -4,22 +4,26 @@ use Rattle.pict_syntax.specs.declared.code.Code.{Code}
 use Rattle.pict_syntax.specs.declared.span.Span.{Span}
 use Rattle.pict_syntax.specs.declared.token.Token.{Token}
 use Rattle.pict_syntax.specs.Names.{with_names}
-use Rattle.pict_syntax.specs.Readings.{Piece, IsReading, tokens_of, named, IsLexStop}
+use Rattle.pict_syntax.specs.Cuts.{Piece, IsWholeCut, IsCut, tokens_of, named, IsLexStop}
 use Rattle.std.specs.Prelude.{Result, Ok, Err}
 use Rattle.pict_lex.specs.declared.error.LexError.{LexError}
 use Rattle.pict_lex.specs.declared.error.LexError.TheVariants.{Named, Memory}
 
--- the tokens of a text, in its reading, where names have their numbers
+-- the tokens of a text, in its whole cut, where names have their numbers
 abbrev pub AreTokens : List (List ℕ) → ℕ → List ℕ → List Token → Type 0
-AreTokens names number text tokens = (pieces : List Piece) × IsReading text pieces × (tokens ≡ tokens_of names number 0 pieces)
+AreTokens names number text tokens = (pieces : List Piece) × IsWholeCut text pieces × (tokens ≡ tokens_of names number 0 pieces)
 
 -- the names and, at their end, those identifiers and symbol names of the text that they lacked, in the order of their first occurrences
 abbrev pub GainsNames : List (List ℕ) → List (List ℕ) → List ℕ → Type 0
-GainsNames old new text = (pieces : List Piece) × IsReading text pieces × (new ≡ with_names old (named pieces))
+GainsNames old new text = (pieces : List Piece) × IsWholeCut text pieces × (new ≡ with_names old (named pieces))
 
 -- what the names had, they have in the same places
 abbrev pub KeepsNames : List (List ℕ) → List (List ℕ) → Type 0
 KeepsNames old new = (more : List (List ℕ)) × (new ≡ old ++ more)
+
+-- the names and, at their end, those that they lacked of some pieces with which the text begins
+abbrev pub GainsSomeNames : List (List ℕ) → List (List ℕ) → List ℕ → Type 0
+GainsSomeNames old new text = (pieces : List Piece) × (rest : List ℕ) × IsCut text pieces rest × (new ≡ with_names old (named pieces))
 
 -- a refusal of the text is the place where reading stops
 abbrev pub IsRefusal : ℕ → List ℕ → LexError → Type 0

@@ -3,7 +3,7 @@ use Rattle.std.specs.Prelude.{◌≡◌, ◌≢◌, ℕ, ◌<◌, ◌≤◌, fal
 use Rattle.std.specs.Char.{is_ascii_alphabetic}
 use Rattle.pict_syntax.specs.Tokens.{Form, identifier, keyword, number, character, string}
 use Rattle.pict_syntax.specs.Comments.{BeginsWith, opening, IsComment}
-use Rattle.pict_syntax.specs.Readings.{token, IsBlank, IsPiece, Stops}
+use Rattle.pict_syntax.specs.Cuts.{token, IsBlank, IsPiece, Stops}
 use Rattle.pict_lex.specs.Mark.{mark_form}
 use Rattle.pict_lex.specs.Number.{BeginsNumber}
 use Rattle.pict_lex.specs.declared.halt.Halt.{Halt}

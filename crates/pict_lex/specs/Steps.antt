@@ -4,7 +4,7 @@ use Rattle.pict_syntax.specs.declared.token.Token.{Token}
 use Rattle.pict_syntax.specs.declared.token.TokenKind.{TokenKind}
 use Rattle.pict_syntax.specs.declared.span.Span.{Span}
 use Rattle.pict_syntax.specs.Names.{with_names}
-use Rattle.pict_syntax.specs.Readings.{Piece, blank, comment, token, piece_bytes, IsPiece, joined, IsCut, kind_of, tokens_of, named, extent}
+use Rattle.pict_syntax.specs.Cuts.{Piece, blank, comment, token, piece_bytes, IsPiece, joined, IsCut, kind_of, tokens_of, named, extent}
 use Rattle.pict_lex.specs.declared.halt.Halt.{Halt}
 use Rattle.pict_lex.specs.declared.halt.Halt.TheVariants.{Stop, Memory as Stopped}
 use Rattle.pict_lex.specs.declared.error.LexError.{LexError}

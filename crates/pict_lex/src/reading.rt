@@ -3,8 +3,8 @@
 ghost use Rattle.std.specs.Prelude.{◌≡◌, ◌+◌, ◌++◌, ◌^◌, ◌<◌, ◌≤◌, List, length, drop, All, IfOk, IfErr, OnOk, OnErr};
 ghost use Rattle.pict_syntax.specs.declared.code.Code.{Code};
 ghost use Rattle.pict_syntax.specs.declared.span.Span.{Span};
-ghost use Rattle.pict_syntax.specs.Readings.{Piece, IsReading, IsLexStop, extent};
-ghost use Rattle.pict_lex.specs.Lex.{AreTokens, GainsNames, KeepsNames, IsRefusal, IsRefused, IsAccepted, IsPlaced, LiesIn};
+ghost use Rattle.pict_syntax.specs.Cuts.{Piece, IsWholeCut, IsLexStop, extent};
+ghost use Rattle.pict_lex.specs.Lex.{AreTokens, GainsNames, KeepsNames, GainsSomeNames, IsRefusal, IsRefused, IsAccepted, IsPlaced, LiesIn};
 ghost use Rattle.pict_lex.specs.Scan.{IsHalt};
 ghost use Rattle.pict_lex.specs.Steps.{HasStepped, IsRefusedAt, token_at};
 
@@ -12,7 +12,7 @@ use crate::error::LexError;
 use crate::halt::Halt;
 use crate::mark::Mark;
 use crate::scan::{Scanned, scan};
-use pict_syntax::{Code, Names, Span, Token, TokenKind};
+use pict_syntax::{Code, Names, Span, TEXT_LIMIT, Token, TokenKind};
 use std::alloc::{AllocError, Global};
 
 /// The kind of token that was read at the front, with its name interned, and how many bytes the piece has.
@@ -38,8 +38,8 @@ fn kind_at(
             let name = names.intern(&rest[..len])?;
             Ok((Some(TokenKind::Symbol(symbol, name)), len))
         }
-        Scanned::Marked(Mark::Sign(sign), len) => Ok((Some(TokenKind::Mark(sign)), len)),
-        Scanned::Word(keyword, len) => Ok((Some(TokenKind::Word(keyword)), len)),
+        Scanned::Marked(Mark::Sign(sign), len) => Ok((Some(TokenKind::Sign(sign)), len)),
+        Scanned::Word(keyword, len) => Ok((Some(TokenKind::Keyword(keyword)), len)),
         Scanned::Number(value, len) => Ok((Some(TokenKind::Number(value)), len)),
         Scanned::Character(value, len) => Ok((Some(TokenKind::Character(value)), len)),
         Scanned::String(values, len) => Ok((Some(TokenKind::String(values)), len)),
@@ -72,7 +72,7 @@ fn extent_of(code: Code) -> usize
 
 /// The refusal where reading stops at a place of the text.
 fn refusal_at(halt: Halt, text: &[u8], at: usize, number: u32) -> LexError
-    requires short { length text.now ≤ 1048576 }
+    requires short { length text.now ≤ TEXT_LIMIT }
     requires within { at ≤ length text.now }
     requires stops { IsHalt (drop at text.now) halt }
     ensures { IsRefusedAt number at halt result }
@@ -97,15 +97,16 @@ fn refusal_at(halt: Halt, text: &[u8], at: usize, number: u32) -> LexError
 /// The tokens of a text, in their order; their spans have `number` as their text.
 ///
 /// `names` gains the identifiers and symbol names that it lacked, in the order of their first occurrences, and no
-/// others; after an error it may have gained some of them. What it had keeps its number. A refusal has a code from
-/// `L1` to `L5` and stands where reading stops: no text has both a reading and a stop.
+/// others; after an error it has gained those of some front of the text, at most one a byte. What it had keeps its
+/// number. A refusal has a code from `L1` to `L5` and stands where reading stops: no text has both a whole cut and a
+/// stop.
 pub fn lex(
     alloc: Global,
     names: &mut Names,
     text: &[u8],
     number: u32,
 ) -> Result<Vec<Token>, LexError>
-    requires short { length text.now ≤ 1048576 }
+    requires short { length text.now ≤ TEXT_LIMIT }
     requires room { length names.old + length text.now < 2 ^ 32 }
 
     // On success the tokens are those of the text, and its names are there.
@@ -114,13 +115,16 @@ pub fn lex(
     ensures few { IfOk result (λ tokens. length tokens.items ≤ length text.now) }
     ensures spans { IfOk result (λ tokens. All (λ token. LiesIn number text.now token.span) tokens.items) }
 
-    // A refusal is the stop of the text. A text with a stop is refused there, and a text with a reading isn't refused.
+    // A refusal is the stop of the text. A text with a stop is refused there, and a text with a whole cut isn't refused.
     ensures refusal { IfErr result (IsRefusal number text.now) }
     ensures refused { (code : Code) (span : Span) → IsLexStop number text.now code span → IsRefused code span result }
-    ensures accepted { (pieces : List Piece) → IsReading text.now pieces → IsAccepted result }
+    ensures accepted { (pieces : List Piece) → IsWholeCut text.now pieces → IsAccepted result }
     ensures placed { IfErr result (IsPlaced number text.now) }
 
+    // Whatever the answer: what the names had stays, and what they gained are the names of the front of the text.
     ensures kept { KeepsNames names.old names.new }
+    ensures gained { GainsSomeNames names.old names.new text.now }
+    ensures bound { length names.new ≤ length names.old + length text.now }
 {
     let mut tokens = Vec::new(alloc);
     let mut at = 0;

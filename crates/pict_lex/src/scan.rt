@@ -3,7 +3,7 @@
 ghost use Rattle.std.specs.Prelude.{◌≡◌, ◌<◌, ◌⊎◌, ◌↔◌, [], ◌∷◌, length, slice_index, true, IsTrue, IfOk, IfErr};
 ghost use Rattle.std.specs.Char.{is_ascii_alphabetic};
 ghost use Rattle.pict_syntax.specs.Comments.{BeginsWith, opening};
-ghost use Rattle.pict_syntax.specs.Readings.{IsBlank};
+ghost use Rattle.pict_syntax.specs.Cuts.{IsBlank};
 ghost use Rattle.pict_lex.specs.Number.{BeginsNumber};
 ghost use Rattle.pict_lex.specs.Scan.{IsScanned, IsHalt, IsOther};
 

@@ -92,10 +92,10 @@ fn tokens_have_their_kinds(rt: HostRuntime) -> Result<(), Fail> {
     let tokens = lex(rt.alloc(), &mut names, text, 1)?;
     match tokens.as_slice() {
         [word, name, plus, arrow, quote, string, number, again] => {
-            assert!(rt; matches!(&word.kind, TokenKind::Word(Keyword::If)));
+            assert!(rt; matches!(&word.kind, TokenKind::Keyword(Keyword::If)));
             assert!(rt; matches!(&name.kind, TokenKind::Identifier(Name(0))));
             assert!(rt; matches!(&plus.kind, TokenKind::Symbol(SymbolName::Plus, Name(1))));
-            assert!(rt; matches!(&arrow.kind, TokenKind::Mark(Sign::Arrow)));
+            assert!(rt; matches!(&arrow.kind, TokenKind::Sign(Sign::Arrow)));
             assert!(rt; matches!(&quote.kind, TokenKind::Character(b'\'')));
             match &string.kind {
                 TokenKind::String(bytes) => assert!(rt; bytes.slice() == b"a~\n".as_slice()),

@@ -5,13 +5,10 @@ use Rattle.pict_core.specs.Term.{Process}
 use Rattle.pict_core.specs.Configuration.{Entry, StampsRise}
 use Rattle.pict_core.specs.Step.{least, with_process, is_ready}
 use Rattle.pict_core.proofs.Stamps.{without, least_above}
+use Rattle.pict_core.proofs.Entries.{with_process_past, without_past}
 use Rattle.pict_machine.specs.View.{processes}
 
 -- ---- an entry goes
-
-without_above : (s low : ℕ) (es : List Entry) (next : ℕ) → s < low → StampsRise low es next → without s es ≡ es
-without_above s low [] next h r = refl
-without_above s low (u ∷ us) next h r = let ih : without s us ≡ us = without_above s (u.stamp + 1) us next (omega arith) r.1 in grind (arith, nat_tests)
 
 -- a list of processes that is not empty has a least entry
 abbrev pub HasLeast : (Entry → Bool) → List Entry → Process → Type 0
@@ -39,7 +36,7 @@ processes-least p low [] next t r e = cc
 processes-least p low (u ∷ us) next t r e =
     let ih : least p us ≡ Some t → processes p us ≡ t.process ∷ processes p (without t.stamp us) = processes-least p (u.stamp + 1) us next t r.1 in
     let above : least p us ≡ Some t → u.stamp + 1 ≤ t.stamp = least_above p (u.stamp + 1) us next t r.1 in
-    let none : without u.stamp us ≡ us = without_above u.stamp (u.stamp + 1) us next (omega arith) r.1 in
+    let none : without u.stamp us ≡ us = without_past u.stamp (u.stamp + 1) us next (omega arith) r.1 in
     grind (arith, nat_tests)
 
 -- a test that the entry fails sees nothing of its going
@@ -48,7 +45,7 @@ processes-other p q low [] next t r e f = refl
 processes-other p q low (u ∷ us) next t r e f =
     let ih : least p us ≡ Some t → processes q (without t.stamp us) ≡ processes q us = λ h. processes-other p q (u.stamp + 1) us next t r.1 h f in
     let above : least p us ≡ Some t → u.stamp + 1 ≤ t.stamp = least_above p (u.stamp + 1) us next t r.1 in
-    let none : without u.stamp us ≡ us = without_above u.stamp (u.stamp + 1) us next (omega arith) r.1 in
+    let none : without u.stamp us ≡ us = without_past u.stamp (u.stamp + 1) us next (omega arith) r.1 in
     grind (arith, nat_tests)
 
 pub least-other : (p q : Entry → Bool) (low : ℕ) (es : List Entry) (next : ℕ) (t : Entry) → StampsRise low es next → least p es ≡ Some t → q t ≡ false → least q (without t.stamp es) ≡ least q es
@@ -56,7 +53,7 @@ least-other p q low [] next t r e f = refl
 least-other p q low (u ∷ us) next t r e f =
     let ih : least p us ≡ Some t → least q (without t.stamp us) ≡ least q us = λ h. least-other p q (u.stamp + 1) us next t r.1 h f in
     let above : least p us ≡ Some t → u.stamp + 1 ≤ t.stamp = least_above p (u.stamp + 1) us next t r.1 in
-    let none : without u.stamp us ≡ us = without_above u.stamp (u.stamp + 1) us next (omega arith) r.1 in
+    let none : without u.stamp us ≡ us = without_past u.stamp (u.stamp + 1) us next (omega arith) r.1 in
     grind (arith, nat_tests)
 
 -- ---- an entry comes
@@ -67,18 +64,14 @@ processes-push p (v ∷ vs) u = let ih : processes p (vs ++ u ∷ []) ≡ proces
 
 -- ---- an entry keeps its stamp
 
-with_process_above : (s : ℕ) (x : Process) (low : ℕ) (es : List Entry) (next : ℕ) → s < low → StampsRise low es next → map (with_process s x) es ≡ es
-with_process_above s x low [] next h r = refl
-with_process_above s x low (u ∷ us) next h r = let ih : map (with_process s x) us ≡ us = with_process_above s x (u.stamp + 1) us next (omega arith) r.1 in grind (arith, nat_tests)
-
 -- the oldest ready process goes on as x
 pub ready-kept : (x : Process) (low : ℕ) (es : List Entry) (next : ℕ) (t : Entry) → StampsRise low es next → least is_ready es ≡ Some t → processes is_ready (map (with_process t.stamp x) es) ≡ x ∷ processes is_ready (without t.stamp es)
 ready-kept x low [] next t r e = cc
 ready-kept x low (u ∷ us) next t r e =
     let ih : least is_ready us ≡ Some t → processes is_ready (map (with_process t.stamp x) us) ≡ x ∷ processes is_ready (without t.stamp us) = ready-kept x (u.stamp + 1) us next t r.1 in
     let above : least is_ready us ≡ Some t → u.stamp + 1 ≤ t.stamp = least_above is_ready (u.stamp + 1) us next t r.1 in
-    let none : without u.stamp us ≡ us = without_above u.stamp (u.stamp + 1) us next (omega arith) r.1 in
-    let same : map (with_process u.stamp x) us ≡ us = with_process_above u.stamp x (u.stamp + 1) us next (omega arith) r.1 in
+    let none : without u.stamp us ≡ us = without_past u.stamp (u.stamp + 1) us next (omega arith) r.1 in
+    let same : map (with_process u.stamp x) us ≡ us = with_process_past u.stamp x (u.stamp + 1) us next (omega arith) r.1 in
     grind (arith, nat_tests)
 
 -- a test that sees only parked processes sees nothing of it
@@ -87,7 +80,7 @@ parked-kept q x low [] next t n r e = refl
 parked-kept q x low (u ∷ us) next t n r e =
     let ih : least is_ready us ≡ Some t → processes q (map (with_process t.stamp x) us) ≡ processes q us = parked-kept q x (u.stamp + 1) us next t n r.1 in
     let above : least is_ready us ≡ Some t → u.stamp + 1 ≤ t.stamp = least_above is_ready (u.stamp + 1) us next t r.1 in
-    let same : map (with_process u.stamp x) us ≡ us = with_process_above u.stamp x (u.stamp + 1) us next (omega arith) r.1 in
+    let same : map (with_process u.stamp x) us ≡ us = with_process_past u.stamp x (u.stamp + 1) us next (omega arith) r.1 in
     let before : is_ready u ≡ true → q u ≡ false = n u in
     let after : is_ready u ≡ true → q (record u { process = x }) ≡ false = n (record u { process = x }) in
     grind (arith, nat_tests)

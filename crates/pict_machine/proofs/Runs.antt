@@ -2,11 +2,11 @@
 use Rattle.std.proofs.Common.{ℕ, suc, ◌+◌, ◌<◌, ◌≤◌, ◌≡◌, ◌≢◌, inr, Bool, false, List, [], ◌∷◌, ◌++◌, refl, sym, ap, ◌∙◌, subst, Option, Some, None, IsTrue, ◌↔◌, add-one, arith}
 use Rattle.pict_syntax.specs.declared.span.Span.{Span}
 use Rattle.pict_core.specs.Configuration.{Configuration, IsConfiguration}
-use Rattle.pict_core.specs.Step.{Label, Outcome, Steps, Traps, Wrong, Finished, next}
+use Rattle.pict_core.specs.Step.{Label, StepOutcome, Steps, Traps, Wrong, Finished, next}
 use Rattle.pict_core.specs.Run as run
 use Rattle.pict_core.specs.Run.{Reaches, RunsFrom, shown}
 use Rattle.pict_machine.specs.View.{View, StandsFor}
-use Rattle.pict_machine.specs.Reading.{label_of, trap_of}
+use Rattle.pict_machine.specs.Plain.{label_of, trap_of}
 use Rattle.pict_machine.specs.Stepping.{Follows, IsStepOf}
 use Rattle.pict_machine.specs.Watching.{WhereTold, view_after, Saw, SawOrTore, Ran, BrokeOff}
 use Rattle.pict_machine.specs.declared.event.Event.{Event}
@@ -94,7 +94,7 @@ empty_of [] h = refl
 empty_of (x ∷ xs) h = absurd (h (λ e. cc))
 
 -- what isn't unfinished is finished
-finished_by : (o : Outcome) → (o ≢ Finished → ⊥) → o ≡ Finished
+finished_by : (o : StepOutcome) → (o ≢ Finished → ⊥) → o ≡ Finished
 finished_by Finished h = refl
 finished_by Wrong h = absurd (h (λ e. cc))
 finished_by (Traps at) h = absurd (h (λ e. cc))

@@ -1,5 +1,5 @@
 pub mod View
-pub mod Held
-pub mod Reading
+pub mod Lists
+pub mod Plain
 pub mod Stepping
 pub mod Watching

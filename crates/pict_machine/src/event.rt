@@ -1,11 +1,12 @@
 // What steps show, and how steps and runs end.
 
 ghost use Rattle.std.specs.Prelude.{◌≡◌};
-ghost use Rattle.pict_machine.specs.Reading.{trap_of};
+ghost use Rattle.pict_machine.specs.Plain.{trap_of};
 
 use pict_core::CoreVal;
 use pict_syntax::{Bytes, Span};
 use std::alloc::AllocError;
+use thiserror::Error;
 
 /// What a step shows.
 #[derive(Drop)]
@@ -37,22 +38,27 @@ pub enum End {
 }
 
 /// Why a step has no event.
-#[derive(Debug, Drop)]
+#[derive(Debug, Drop, Error)]
 pub enum StepError {
     /// Memory is wanting. The machine is to be dropped.
+    #[error("out of memory")]
     Memory,
     /// The step is wrong: a value has another shape than what the process does with it. The machine is unchanged.
+    #[error("a value of another shape than what is done with it")]
     Shape,
 }
 
 /// Why a run has no end.
-#[derive(Debug, Drop)]
+#[derive(Debug, Drop, Error)]
 pub enum RunError {
     /// The watcher could not show an event.
+    #[error("an event could not be shown")]
     Sink,
     /// Memory is wanting. The machine is to be dropped.
+    #[error("out of memory")]
     Memory,
     /// A step is wrong. The machine stands before it.
+    #[error("a value of another shape than what is done with it")]
     Shape,
 }
 

@@ -5,8 +5,6 @@ mod event;
 mod machine;
 mod queue;
 mod run;
-#[cfg(test)]
-mod tests;
 
 pub use event::{End, Event, RunError, StepError};
 pub use machine::Machine;

@@ -2,19 +2,19 @@
 
 ghost use Rattle.std.specs.Prelude.{◌≡◌, ◌≢◌, ◌<◌, ◌≤◌, ◌+◌, ◌^◌, ◌↔◌, ◌∷◌, ◌++◌, [], map, length, IfOk, Err, Ok, IsTrue};
 ghost use Rattle.std.specs.VecDeque.{deque_len, deque_capacity};
-ghost use Rattle.pict_core.specs.Plain.{plain_core, plain_val, plain_pat};
-ghost use Rattle.pict_core.specs.Term.{Out, In, New, If, Chan, PrimitiveVal};
-ghost use Rattle.pict_core.specs.Scope.{IsClosed};
+ghost use Rattle.pict_core.specs.Plain.{plain_core, plain_val, core_of};
+ghost use Rattle.pict_core.specs.Term.{Out, New, If, Chan, PrimitiveVal};
+ghost use Rattle.pict_core.specs.Closed.{IsClosed};
 ghost use Rattle.pict_core.specs.Configuration.{Configuration, IsConfiguration, opening};
 ghost use Rattle.pict_core.specs.Step.{next, Wrong, Finished};
 ghost use Rattle.pict_machine.specs.View.{View, StandsFor};
-ghost use Rattle.pict_machine.specs.Held.{Held, turn};
-ghost use Rattle.pict_machine.specs.Reading.{view_of, channels_of, held_of, Acts, IsStep};
+ghost use Rattle.pict_machine.specs.Lists.{Lists, turn, in_front};
+ghost use Rattle.pict_machine.specs.Plain.{view_of, channels_of, lists_of, input_of, Acts, IsStep};
 ghost use Rattle.pict_machine.specs.Stepping.{IsStepOf};
 
 use crate::event::{Event, StepError};
 use crate::queue::{Asked, Message, Offered, Queue, Reader};
-use pict_core::{Core, CoreVal, Part, put};
+use pict_core::{Core, CoreVal, Part, substitute};
 use pict_prim::{Done, attempt, printed_bytes};
 use pict_syntax::{Prim, Span};
 use std::alloc::{AllocError, Global};
@@ -35,7 +35,7 @@ pub struct Machine {
 // A replicated reader that received keeps the turn; a plain one ends.
 fn keep_turn(ready: &mut VecDeque<Core>, channel: u32, reader: Reader)
     requires { deque_len ready.old < deque_capacity ready.old }
-    ensures { map plain_core ready.new.items ≡ turn reader.replicated (In (Chan channel) reader.replicated (plain_pat reader.pattern) (plain_core reader.body.inner.value)) ++ map plain_core ready.old.items }
+    ensures { map plain_core ready.new.items ≡ turn reader.replicated (input_of (Chan channel) reader) ++ map plain_core ready.old.items }
 {
     if reader.replicated {
         ready.push_front_reserved(reader.input(channel));
@@ -77,14 +77,14 @@ impl Machine {
     // The output of the message on the channel.
     fn send(&mut self, channel: u32, message: Message) -> Result<Event, StepError>
         requires { deque_len self.old.ready < deque_capacity self.old.ready }
-        ensures { Acts (Out (Chan channel) (plain_val message.value) message.at) (held_of self.old) result (held_of self.new) }
+        ensures { Acts (Out (Chan channel) (plain_val message.value) message.at) (lists_of self.old) result (lists_of self.new) }
     {
-        let place = channel as usize;
-        if place >= self.queues.len() {
+        let index = channel as usize;
+        if index >= self.queues.len() {
             self.ready.push_front_reserved(message.output(channel));
             return Err(StepError::Shape);
         }
-        match self.queues[place].offer(self.alloc, message)? {
+        match self.queues[index].offer(self.alloc, message)? {
             Offered::Waits => Ok(Event::Quiet),
             Offered::Meets(body, value) => {
                 self.ready.push_back_reserved(body);
@@ -100,14 +100,14 @@ impl Machine {
     // The input of the reader at the channel.
     fn receive(&mut self, channel: u32, reader: Reader) -> Result<Event, StepError>
         requires { deque_len self.old.ready + 1 < deque_capacity self.old.ready }
-        ensures { Acts (In (Chan channel) reader.replicated (plain_pat reader.pattern) (plain_core reader.body.inner.value)) (held_of self.old) result (held_of self.new) }
+        ensures { Acts (input_of (Chan channel) reader) (lists_of self.old) result (lists_of self.new) }
     {
-        let place = channel as usize;
-        if place >= self.queues.len() {
+        let index = channel as usize;
+        if index >= self.queues.len() {
             self.ready.push_front_reserved(reader.input(channel));
             return Err(StepError::Shape);
         }
-        match self.queues[place].ask(self.alloc, reader)? {
+        match self.queues[index].ask(self.alloc, reader)? {
             Asked::Waits => Ok(Event::Quiet),
             Asked::Gets(reader, body, value) => {
                 self.ready.push_back_reserved(body);
@@ -124,7 +124,7 @@ impl Machine {
     // The output of the argument to the primitive.
     fn call(&mut self, primitive: Prim, argument: CoreVal, at: Span) -> Result<Event, StepError>
         requires { deque_len self.old.ready < deque_capacity self.old.ready }
-        ensures { Acts (Out (PrimitiveVal primitive) (plain_val argument) at) (held_of self.old) result (held_of self.new) }
+        ensures { Acts (Out (PrimitiveVal primitive) (plain_val argument) at) (lists_of self.old) result (lists_of self.new) }
     {
         match attempt(self.alloc, primitive, &argument)? {
             None => {
@@ -151,7 +151,7 @@ impl Machine {
     // This output has the turn.
     fn keep_output(&mut self, chan: CoreVal, message: CoreVal, at: Span)
         requires { deque_len self.old.ready < deque_capacity self.old.ready }
-        ensures { held_of self.new ≡ record { ready = Out (plain_val chan) (plain_val message) at ∷ (held_of self.old).ready; queues = (held_of self.old).queues } }
+        ensures { lists_of self.new ≡ in_front (Out (plain_val chan) (plain_val message) at) (lists_of self.old) }
     {
         self.ready
             .push_front_reserved(Core::Out { chan, message, at });
@@ -161,11 +161,11 @@ impl Machine {
     fn make_channel(&mut self, body: Part) -> Result<Event, StepError>
         requires room { deque_len self.old.ready < deque_capacity self.old.ready }
         requires few { length self.old.queues.items + 1 < 2 ^ 32 }
-        ensures { Acts (New (plain_core body.inner.value)) (held_of self.old) result (held_of self.new) }
+        ensures { Acts (New (plain_core (core_of body))) (lists_of self.old) result (lists_of self.new) }
     {
         let number = self.queues.len() as u32;
         self.queues.reserve(1)?;
-        let process = put(self.alloc, body.core(), &[CoreVal::Chan(number)])?;
+        let process = substitute(self.alloc, body.core(), &[CoreVal::Chan(number)])?;
         let queue = Queue::Messages(VecDeque::new(self.alloc));
         self.queues.push_reserved(queue);
         self.ready.push_front_reserved(process);
@@ -175,7 +175,7 @@ impl Machine {
     // The branch that the test chooses.
     fn choose(&mut self, test: CoreVal, yes: Part, no: Part) -> Result<Event, StepError>
         requires { deque_len self.old.ready < deque_capacity self.old.ready }
-        ensures { Acts (If (plain_val test) (plain_core yes.inner.value) (plain_core no.inner.value)) (held_of self.old) result (held_of self.new) }
+        ensures { Acts (If (plain_val test) (plain_core (core_of yes)) (plain_core (core_of no))) (lists_of self.old) result (lists_of self.new) }
     {
         match test {
             CoreVal::Bool(true) => {
@@ -196,7 +196,7 @@ impl Machine {
     // An output, to whatever it is sent.
     fn output(&mut self, chan: CoreVal, message: CoreVal, at: Span) -> Result<Event, StepError>
         requires { deque_len self.old.ready < deque_capacity self.old.ready }
-        ensures { Acts (Out (plain_val chan) (plain_val message) at) (held_of self.old) result (held_of self.new) }
+        ensures { Acts (Out (plain_val chan) (plain_val message) at) (lists_of self.old) result (lists_of self.new) }
     {
         match chan {
             CoreVal::Chan(channel) => self.send(channel, Message { value: message, at }),
@@ -211,7 +211,7 @@ impl Machine {
     // An input, from whatever it receives.
     fn input(&mut self, chan: CoreVal, reader: Reader) -> Result<Event, StepError>
         requires { deque_len self.old.ready + 1 < deque_capacity self.old.ready }
-        ensures { Acts (In (plain_val chan) reader.replicated (plain_pat reader.pattern) (plain_core reader.body.inner.value)) (held_of self.old) result (held_of self.new) }
+        ensures { Acts (input_of (plain_val chan) reader) (lists_of self.old) result (lists_of self.new) }
     {
         match chan {
             CoreVal::Chan(channel) => self.receive(channel, reader),
@@ -231,7 +231,7 @@ impl Machine {
     fn act(&mut self, process: Core) -> Result<Event, StepError>
         requires room { deque_len self.old.ready + 1 < deque_capacity self.old.ready }
         requires few { length self.old.queues.items + 1 < 2 ^ 32 }
-        ensures { Acts (plain_core process) (held_of self.old) result (held_of self.new) }
+        ensures { Acts (plain_core process) (lists_of self.old) result (lists_of self.new) }
     {
         match process {
             Core::Zero => Ok(Event::Quiet),
@@ -263,20 +263,23 @@ impl Machine {
     fn advance(&mut self) -> Result<Event, StepError>
         requires ready { (view_of self.old).ready ≢ [] }
         requires few { channels_of self.old + 1 < 2 ^ 32 }
-        ensures { IsStep (held_of self.old) result (held_of self.new) }
+        ensures { IsStep (lists_of self.old) result (lists_of self.new) }
     {
         self.ready.reserve(1)?;
+        // Something is ready.
         match self.ready.pop_front() {
-            None => Ok(Event::Quiet),
+            None => unreachable!(),
             Some(process) => self.act(process),
         }
     }
+
     /// One step: that of the oldest ready process, with its oldest partner.
     ///
     /// The event is the label of the oldest-first step, for each configuration that the machine stands for, and the
     /// machine stands for the next configuration. `Trapped` comes exactly where the step divides by zero, and `Shape`
     /// exactly where it is wrong; the machine is then unchanged. After `Memory` it is to be dropped. It takes time in
-    /// the size of the acting process and of its partner, however many processes wait.
+    /// the size of the acting process and of its partner, however many processes wait: amortised over the run, since a
+    /// queue that is full moves to a place twice as large.
     pub fn step(&mut self) -> Result<Event, StepError>
         requires ready { (view_of self.old).ready ≢ [] }
         requires few { channels_of self.old + 1 < 2 ^ 32 }

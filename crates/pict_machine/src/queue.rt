@@ -2,12 +2,12 @@
 
 ghost use Rattle.std.specs.Prelude.{◌≡◌, ◌<◌, ◌++◌, map, IfOk};
 ghost use Rattle.std.specs.VecDeque.{deque_len, deque_capacity};
-ghost use Rattle.pict_core.specs.Plain.{plain_core, plain_val, plain_pat};
-ghost use Rattle.pict_core.specs.Term.{Out, In, Chan};
-ghost use Rattle.pict_machine.specs.Held.{again, served};
-ghost use Rattle.pict_machine.specs.Reading.{plain_message, plain_reader, plain_queue, IsOffered, IsAsked, IsServed};
+ghost use Rattle.pict_core.specs.Plain.{plain_core, plain_val};
+ghost use Rattle.pict_core.specs.Term.{Out, Chan};
+ghost use Rattle.pict_machine.specs.Lists.{again, served};
+ghost use Rattle.pict_machine.specs.Plain.{plain_message, plain_reader, plain_queue, input_of, IsOffered, IsAsked, IsServed};
 
-use pict_core::{Core, CorePat, CoreVal, Part, parts_of, put};
+use pict_core::{Core, CorePat, CoreVal, Part, match_value, substitute};
 use pict_syntax::Span;
 use std::alloc::{AllocError, Global};
 use std::collections::VecDeque;
@@ -66,7 +66,7 @@ impl Message {
 impl Reader {
     // The input at the channel.
     pub(crate) fn input(self, channel: u32) -> Core
-        ensures { plain_core result ≡ In (Chan channel) self.replicated (plain_pat self.pattern) (plain_core self.body.inner.value) }
+        ensures { plain_core result ≡ input_of (Chan channel) self }
     {
         Core::In {
             chan: CoreVal::Chan(channel),
@@ -76,13 +76,13 @@ impl Reader {
         }
     }
 
-    // The body with the parts of the value put in; nothing where the value doesn't fit the pattern.
+    // The body with what the pattern binds of the value; nothing where the value doesn't fit the pattern.
     fn serve(&self, alloc: Global, value: &CoreVal) -> Result<Option<Core>, AllocError>
         ensures { IfOk result (λ body. IsServed body (plain_reader self.now) (plain_val value.now)) }
     {
-        match parts_of(alloc, &self.pattern, value)? {
+        match match_value(alloc, &self.pattern, value)? {
             None => Ok(None),
-            Some(parts) => Ok(Some(put(alloc, self.body.core(), &parts)?)),
+            Some(bound) => Ok(Some(substitute(alloc, self.body.core(), &bound)?)),
         }
     }
 }

@@ -6,11 +6,12 @@ ghost use Rattle.pict_core.specs.Configuration.{Configuration, IsConfiguration};
 ghost use Rattle.pict_core.specs.Step.{Label};
 ghost use Rattle.pict_core.specs.Run.{shown, Misshapen};
 ghost use Rattle.pict_machine.specs.View.{StandsFor};
-ghost use Rattle.pict_machine.specs.Reading.{view_of, channels_of, label_of, IsShown};
+ghost use Rattle.pict_machine.specs.Plain.{view_of, channels_of, label_of, IsShown};
 ghost use Rattle.pict_machine.specs.Watching.{WhereTold, Saw, SawOrTore, Ran, BrokeOff, end_of};
 
 use crate::event::{End, Event, RunError, StepError};
 use crate::machine::Machine;
+use pict_syntax::FUEL_LIMIT;
 
 /// One who is shown each event of a run that is a communication or a printing, as soon as its step is done.
 ///
@@ -52,7 +53,8 @@ pub trait Watcher {
 // Shows the event, unless it is quiet or a trap.
 fn show<W: Watcher>(watcher: &mut W, number: u64, event: &Event) -> Result<(), RunError>
     ensures seen { OnOk result (Saw (W.next watcher.old) (W.view watcher.old) (W.view watcher.new) (shown number (label_of event.now))) }
-    ensures torn { OnErr result (WhereTold (λ before after. W.torn watcher.old before number (label_of event.now) after) (W.view watcher.old) (W.view watcher.new)) }
+    ensures torn { OnErr result (WhereTold (λ before after. W.torn watcher.old before number (label_of event.now) after)
+        (W.view watcher.old) (W.view watcher.new)) }
     ensures one { OnErr result (shown number (label_of event.now) ≡ (number, label_of event.now) ∷ []) }
     ensures next_stays { (v : List ℕ) (n : ℕ) (l : Label) → W.next watcher.new v n l ≡ W.next watcher.old v n l }
     ensures torn_stays { (v : List ℕ) (n : ℕ) (l : Label) (after : List ℕ) → W.torn watcher.new v n l after ↔ W.torn watcher.old v n l after }
@@ -78,7 +80,7 @@ impl Machine {
     /// the watcher's count of faults rose. `Shape` comes exactly where a step within the fuel is wrong; the machine
     /// stands before it. After `Memory` the machine is to be dropped.
     pub fn run<W: Watcher>(&mut self, fuel: u64, watcher: &mut W) -> Result<End, RunError>
-        requires fuel { fuel ≤ 1000000000 }
+        requires fuel { fuel ≤ FUEL_LIMIT }
         requires few { channels_of self.old + fuel < 2 ^ 32 }
         ensures end { IfOk result (λ end. (C : Configuration) → IsConfiguration C → StandsFor (view_of self.old) C
             → Ran C fuel (end_of end) (view_of self.new) (Saw (W.next watcher.old) (W.view watcher.old) (W.view watcher.new))) }

@@ -2,13 +2,13 @@
 
 use anyhow::Error;
 use pict_lex::{LexError, lex};
-use pict_syntax::Names;
+use pict_syntax::{Names, TEXT_LIMIT};
 use std::alloc::Global;
 use std::time::Instant;
 
 /// How many tokens and names a text has, or nothing where it is refused or longer than a text may be.
 fn counts_of(alloc: Global, text: &[u8]) -> Result<Option<usize>, LexError> {
-    if text.len() > 1_048_576 {
+    if text.len() as u64 > TEXT_LIMIT {
         return Ok(None);
     }
     let mut names = Names::new(alloc);

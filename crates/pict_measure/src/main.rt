@@ -11,6 +11,7 @@ mod running;
 mod sample;
 
 use anyhow::Error;
+use pict_syntax::TEXT_LIMIT;
 use running::Work;
 use std::env;
 
@@ -25,8 +26,8 @@ fn wanted(rt: &HostRuntime) -> Result<(usize, bool), Error> {
 
 fn main(rt: HostRuntime) -> Result<(), Error> {
     let (size, timed) = wanted(&rt)?;
-    if size == 0 || size > 1_048_576 {
-        println!(rt; "the size is from 1 to 1048576 bytes")?;
+    if size == 0 || size as u64 > TEXT_LIMIT {
+        println!(rt; "the size is from 1 to {TEXT_LIMIT} bytes")?;
         return Ok(());
     }
     for sample in &sample::SAMPLES {

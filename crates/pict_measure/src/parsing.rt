@@ -3,13 +3,13 @@
 use anyhow::Error;
 use pict_lex::{LexError, lex};
 use pict_parse::{ParseError, parse};
-use pict_syntax::{Names, Token};
+use pict_syntax::{Names, TEXT_LIMIT, Token};
 use std::alloc::Global;
 use std::time::Instant;
 
 /// The tokens of a text, or nothing where it is refused or longer than a text may be.
 fn tokens_of(alloc: Global, text: &[u8]) -> Result<Option<Vec<Token>>, LexError> {
-    if text.len() > 1_048_576 {
+    if text.len() as u64 > TEXT_LIMIT {
         return Ok(None);
     }
     let mut names = Names::new(alloc);

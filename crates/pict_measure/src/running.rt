@@ -3,7 +3,7 @@
 use anyhow::Error;
 use pict_core::{Core, CorePat, CoreVal, Part};
 use pict_machine::{End, Event, Machine, RunError, Watcher};
-use pict_syntax::{Prim, Span};
+use pict_syntax::{FUEL_LIMIT, Prim, Span};
 use std::alloc::{AllocError, Global};
 use std::time::Instant;
 
@@ -123,7 +123,7 @@ pub fn measure(
     steps: usize,
     timed: bool,
 ) -> Result<(), Error> {
-    let fuel = (steps as u64).min(1_000_000_000);
+    let fuel = (steps as u64).min(FUEL_LIMIT);
     let mut machine = Machine::load(rt.alloc(), ring(rt.alloc(), servers, work)?)?;
     let mut counter = Counter { communications: 0 };
     let start = Instant::now(rt)?;

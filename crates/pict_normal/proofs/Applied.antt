@@ -1,21 +1,18 @@
 -- The body of an operator with its arguments measures what it does with their measures, and is the same where arguments
 -- that are too high are left out.
-use Rattle.std.proofs.Common.{◌≡◌, ℕ, zero, suc, ◌+◌, ◌*◌, ◌≤◌, List, [], ◌∷◌, ◌++◌, length, reverse, Bool, true, false, refl, sym, ◌∙◌, ap, subst, arith, append_assoc}
+use Rattle.std.proofs.Common.{◌≡◌, ℕ, zero, suc, ◌+◌, ◌≤◌, List, [], ◌∷◌, ◌++◌, length, reverse, Bool, true, false, refl, sym, ◌∙◌, ap, subst, arith, append_assoc}
 use Rattle.std.specs.Prelude.{if◌then◌else◌, nat_lt}
 use Rattle.std.proofs.lemmas.Bool.{le-ltb}
 use Rattle.std.proofs.lemmas.List.{reverse-append}
 use Rattle.pict_types.specs.Types.{PlainType, Top, Int, Char, Str, Boolean, Var, Apply, Chan, Fields, Rec, PlainTypes, no_type, types, count_types}
 use Rattle.pict_types.specs.Replacing.{Filling, fill, with_type, with_types}
 use Rattle.pict_types.specs.Filling.{moved_by, put_for}
-use Rattle.pict_types.specs.Kinds.{Kind, AreWellFormed}
-use Rattle.pict_types.specs.Measures.{held, measure_at, weigh, rise, size, size_types}
-use Rattle.pict_types.specs.Room.{reach, reach_types}
+use Rattle.pict_types.specs.Measures.{held, measure_at, weigh, rise}
 use Rattle.pict_types.specs.Types.{is_top}
-use Rattle.pict_normal.specs.Made.{kept_as, kept_of, built_as, built_of, heaviest, weigh_each, rise_each, only_used}
+use Rattle.pict_normal.specs.Made.{kept_as, kept_of, built_as, built_of, weigh_each, rise_each, only_used}
 use Rattle.pict_types.proofs.Held.{Alike, alike, HeldAlike, alike_more, weigh_held, rise_held}
 use Rattle.pict_types.proofs.MeasuredAlike.{TopsAlike, WeighAlike, RiseAlike, is_head, weigh_filled, rise_filled}
 use Rattle.pict_normal.proofs.Within.{SameWithin, fill_within}
-use Rattle.pict_types.proofs.Sizes.{Positive, reach_weighed, size_weigh}
 
 pub count_kept : (us : PlainTypes) → count_types (kept_of us) ≡ count_types us
 count_kept no_type = refl
@@ -194,46 +191,3 @@ body_built ws hs by us t p q =
     let base : SameWithin 100000 1000 ws hs (moved_by by) (moved_by by) = record { types_ = λ i x y. refl; heads_ = λ i. refl } in
     fill_within (within_args ws hs us base) t p q
     ∙ ap (λ k. fill (with_types k (built_of hs us) (moved_by by)) t) (sym (count_built hs us))
-
--- there is room for the arguments
-reach_kept_as : (u : PlainType) (n : ℕ) → reach (kept_as u n) ≤ suc n
-reach_kept_as u n = go (is_top u)
-  where
-    go : (b : Bool) → reach (if b then Top else Var n) ≤ suc n
-    go true = omega arith
-    go false = omega arith
-
-size_kept_as : (u : PlainType) (n : ℕ) → size (kept_as u n) ≡ 1
-size_kept_as u n = go (is_top u)
-  where
-    go : (b : Bool) → size (if b then Top else Var n) ≡ 1
-    go true = refl
-    go false = refl
-
-pub reach_kept : (us : PlainTypes) → reach_types (kept_of us) ≤ count_types us
-reach_kept no_type = omega arith
-reach_kept (types u us) = omega (arith, reach_kept us, reach_kept_as u (count_types us))
-
-pub size_kept : (us : PlainTypes) → size_types (kept_of us) ≡ count_types us
-size_kept no_type = refl
-size_kept (types u us) = omega (arith, size_kept us, size_kept_as u (count_types us))
-
-built_cases : (P : PlainType → Type 0) (hs : List ℕ) (u : PlainType) → P Top → P u → P (built_as hs u)
-built_cases P hs u p q = go (nat_lt 1000 (rise hs u))
-  where
-    go : (x : Bool) → P (if x then Top else u)
-    go true = p
-    go false = q
-
-pub reach_built : (ns : List (List ℕ)) (ks : List Kind) (ws hs : List ℕ) (us : PlainTypes) → AreWellFormed ns ks us → heaviest ws us ≤ 100000 → reach_types (built_of hs us) ≤ length ks + 100000
-reach_built ns ks ws hs no_type w p = omega arith
-reach_built ns ks ws hs (types u us) w p =
-    let one : reach (built_as hs u) ≤ length ks + 100000 =
-    built_cases (λ t. reach t ≤ length ks + 100000) hs u (omega arith) (omega (arith, p, reach_weighed ns ks ws u w.0)) in
-    omega (arith, one, reach_built ns ks ws hs us w.1 (omega (arith, p)))
-
-pub size_built : (ws hs : List ℕ) (us : PlainTypes) → Positive ws → heaviest ws us ≤ 100000 → size_types (built_of hs us) ≤ 100000 * count_types us
-size_built ws hs no_type q p = omega arith
-size_built ws hs (types u us) q p =
-    let one : size (built_as hs u) ≤ 100000 = built_cases (λ t. size t ≤ 100000) hs u (omega arith) (omega (arith, p, size_weigh ws u q)) in
-    omega (arith, one, size_built ws hs us q (omega (arith, p)))

@@ -1,5 +1,5 @@
 -- The arguments of an operator that were made so far.
-use Rattle.std.proofs.Common.{◌≡◌, ℕ, ◌≤◌, List, [], ◌∷◌, ◌++◌, map, refl, sym, ◌∙◌, ap, arith}
+use Rattle.std.proofs.Common.{◌≡◌, ℕ, List, [], ◌∷◌, ◌++◌, map, refl, sym, ◌∙◌, ap}
 use Rattle.std.proofs.lemmas.List.{map-append}
 use Rattle.std.proofs.Common.{append_assoc}
 use Rattle.std.proofs.lemmas.List.{append-nil}
@@ -8,7 +8,7 @@ use Rattle.pict_normal.specs.declared.made.Made.{Made}
 use Rattle.pict_types.specs.declared.measure.Measures.{Measures}
 use Rattle.pict_types.specs.declared.types.Ty.{Ty}
 use Rattle.pict_types.specs.Types.{PlainType, PlainTypes, no_type, types, count_types}
-use Rattle.pict_normal.specs.Made.{IsMade, AreArguments, kept_as, kept_of, built_as, built_of, heaviest, weigh_each, rise_each}
+use Rattle.pict_normal.specs.Made.{IsMade, AreArguments, kept_as, kept_of, built_as, built_of, weigh_each, rise_each}
 use Rattle.pict_types.specs.Measures.{held, weigh, rise}
 use Rattle.pict_normal.specs.Normal.{and_type}
 use Rattle.pict_types.specs.Plain.{plain, plain_types}
@@ -16,7 +16,6 @@ use Rattle.pict_types.proofs.Rows.{then_types, types_then_none}
 
 pub record ArgumentsSoFar (ws hs : List ℕ) (a : Arguments) (all rest : PlainTypes) : Type 0 where
   pub weights : map (λ m. m.weight) a.measures.items ++ weigh_each ws rest ≡ weigh_each ws all
-  pub light : heaviest ws rest ≤ 100000 → heaviest ws all ≤ 100000
   pub heights : map (λ m. m.height) a.measures.items ++ rise_each hs rest ≡ rise_each hs all
   pub kept : then_types (plain_types a.kept.items) (kept_of rest) ≡ kept_of all
   pub types_ : then_types (plain_types a.types.items) (built_of hs rest) ≡ built_of hs all
@@ -41,7 +40,6 @@ one_more f ms ns m x xs all e h k =
 pub arguments_more : {ws hs : List ℕ} {a : Arguments} {all : PlainTypes} (u : PlainType) (us : PlainTypes) (m : Made) (b : Arguments) → ArgumentsSoFar ws hs a all (types u us) → IsMade ws hs m u → b.measures.items ≡ a.measures.items ++ m.measures ∷ [] → plain_types b.kept.items ≡ and_type (plain_types a.kept.items) (kept_as u (count_types us)) → plain_types b.types.items ≡ and_type (plain_types a.types.items) (built_as hs u) → ArgumentsSoFar ws hs b all us
 arguments_more {ws = ws} {hs = hs} {a = a} {all = all} u us m b x h p q r = record {
   weights = one_more (λ y. y.weight) a.measures.items b.measures.items m.measures (weigh ws u) (weigh_each ws us) (weigh_each ws all) p h.weight x.weights;
-  light = λ l. x.light (omega (arith, l, h.weight, h.light));
   heights = one_more (λ y. y.height) a.measures.items b.measures.items m.measures (held (rise hs u)) (rise_each hs us) (rise_each hs all) p h.height x.heights;
   kept = ap (λ y. then_types y (kept_of us)) q ∙ and_then (plain_types a.kept.items) (kept_as u (count_types us)) (kept_of us) ∙ x.kept;
   types_ = ap (λ y. then_types y (built_of hs us)) r ∙ and_then (plain_types a.types.items) (built_as hs u) (built_of hs us) ∙ x.types_;
@@ -51,18 +49,7 @@ arguments_more {ws = ws} {hs = hs} {a = a} {all = all} u us m b x h p q r = reco
 pub arguments_done : {ws hs : List ℕ} {a : Arguments} {all : PlainTypes} → ArgumentsSoFar ws hs a all no_type → AreArguments ws hs a all
 arguments_done {ws = ws} {hs = hs} {a = a} {all = all} x = record {
   weights = sym (append-nil (map (λ m. m.weight) a.measures.items)) ∙ x.weights;
-  light = x.light (omega arith);
   heights = sym (append-nil (map (λ m. m.height) a.measures.items)) ∙ x.heights;
   kept = sym (types_then_none (plain_types a.kept.items)) ∙ x.kept;
   types_ = sym (types_then_none (plain_types a.types.items)) ∙ x.types_;
-}
-
--- no argument
-pub arguments_first : (ws hs : List ℕ) (a : Arguments) (all : PlainTypes) → a.measures.items ≡ [] → a.kept.items ≡ [] → a.types.items ≡ [] → ArgumentsSoFar ws hs a all all
-arguments_first ws hs a all p q r = record {
-  weights = ap (λ x. map (λ m. m.weight) x ++ weigh_each ws all) p;
-  light = λ l. l;
-  heights = ap (λ x. map (λ m. m.height) x ++ rise_each hs all) p;
-  kept = ap (λ x. then_types (plain_types x) (kept_of all)) q;
-  types_ = ap (λ x. then_types (plain_types x) (built_of hs all)) r;
 }

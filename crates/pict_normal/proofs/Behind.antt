@@ -8,13 +8,11 @@ use Rattle.pict_types.specs.Replacing.{fill}
 use Rattle.pict_normal.specs.Made.{kept_of, weigh_each, rise_each}
 use Rattle.pict_types.specs.Renaming.{rename, moved}
 use Rattle.pict_types.specs.Measures.{held, measure_at, weigh, rise}
-use Rattle.pict_types.specs.Scopes.{weights_inside, heights_inside}
-use Rattle.pict_normal.specs.Putting.{ArePositive}
+use Rattle.pict_types.specs.Around.{weights_inside, heights_inside}
 use Rattle.pict_normal.proofs.Applied.{Behind, body_weighs, body_rises}
 use Rattle.pict_types.proofs.Entries.{last_first}
 use Rattle.pict_types.proofs.Renumbered.{weigh_renamed, rise_renamed}
-use Rattle.pict_types.proofs.Scopes.{past_weight, past_height}
-use Rattle.pict_types.proofs.Sizes.{Positive, positive_more}
+use Rattle.pict_types.proofs.Around.{past_weight, past_height}
 
 -- one more binder
 pub weights_more : (ms : List Measures) (m : Measures) (ws : List ℕ) → weights_inside (ms ++ m ∷ []) ws ≡ m.weight ∷ weights_inside ms ws
@@ -22,15 +20,6 @@ weights_more ms m ws = ap (λ x. x ++ ws) (last_first (λ y. y.weight) ms m)
 
 pub heights_more : (ms : List Measures) (m : Measures) (ws : List ℕ) → heights_inside (ms ++ m ∷ []) ws ≡ m.height ∷ heights_inside ms ws
 heights_more ms m ws = ap (λ x. x ++ ws) (last_first (λ y. y.height) ms m)
-
--- the outermost binder
-pub weights_first : (m : Measures) (ms : List Measures) (ws : List ℕ) → weights_inside (m ∷ ms) ws ≡ weights_inside ms (m.weight ∷ ws)
-weights_first m ms ws =
-    ap (λ y. y ++ ws) (reverse-append (m.weight ∷ []) (map (λ y. y.weight) ms)) ∙ append_assoc (reverse (map (λ y. y.weight) ms)) (m.weight ∷ []) ws
-
-pub heights_first : (m : Measures) (ms : List Measures) (ws : List ℕ) → heights_inside (m ∷ ms) ws ≡ heights_inside ms (m.height ∷ ws)
-heights_first m ms ws =
-    ap (λ y. y ++ ws) (reverse-append (m.height ∷ []) (map (λ y. y.height) ms)) ∙ append_assoc (reverse (map (λ y. y.height) ms)) (m.height ∷ []) ws
 
 -- past the innermost
 pub at_behind : (ws : List ℕ) (k i : ℕ) → measure_at ws (i + k) ≡ measure_at (drop k ws) i
@@ -62,11 +51,6 @@ moved_weighs ws vs by t h = sym (weigh_renamed (record { each = λ i. h.each i }
 
 pub moved_rises : (hs vs : List ℕ) (by : ℕ) (t : PlainType) → Behind hs vs by → rise vs t ≡ rise hs (rename (moved by 0) t)
 moved_rises hs vs by t h = sym (rise_renamed (record { each = λ i. h.each i }) t)
-
-pub positive_inside : (ms : List Measures) (ws : List ℕ) → ArePositive ms → Positive ws → Positive (weights_inside ms ws)
-positive_inside [] ws p q = q
-positive_inside (m ∷ ms) ws p q =
-    subst Positive (sym (weights_first m ms ws)) (positive_inside ms (m.weight ∷ ws) p.1 (positive_more m.weight ws p.0 q))
 
 -- the body of an operator, measured over the measures of its arguments
 pub applied_weighs : (n : ℕ) (ns ms : List Measures) (ws : List ℕ) (by : ℕ) (us : PlainTypes) (cleaned t : PlainType) → length ms ≤ by → n ≡ held (weigh (weights_inside ns (drop (by - length ms) ws)) cleaned) → map (λ m. m.weight) ns ≡ weigh_each (weights_inside ms ws) us → cleaned ≡ fill (put_for (kept_of us) (count_types us)) t → n ≡ held (weigh (weights_inside ms ws) (fill (put_for us by) t))

@@ -8,8 +8,8 @@ use Rattle.pict_types.specs.Types.{Free, Below, Operator, PlainBound, Plain, Op}
 use Rattle.pict_types.specs.Replacing.{next_variable}
 use Rattle.pict_types.specs.Entries.{PlainWhat, Variable, Definition, PlainEntry, PlainContext}
 use Rattle.pict_syntax.specs.declared.type_tree.TypeBinder.{TypeBinder as RTypeBinder}
-use Rattle.pict_syntax.specs.Trees.{TypeBinders, type-binder, no-binders, more-binders}
-use Rattle.pict_syntax.specs.PlainTrees.{binder_of, binders-on}
+use Rattle.pict_syntax.specs.Trees.{TypeBinders, type_binder, no_binders, more_binders}
+use Rattle.pict_syntax.specs.PlainTrees.{binder_of, binders_on}
 use Rattle.pict_normal.specs.BinderEntries.{bound_entry, entries_of, entries_under}
 use Rattle.pict_normal.specs.Normal.{Meaning, a_type, an_operator, of_entry, behind_entry, meaning, kind_bound, use_stops}
 use Rattle.pict_types.specs.Places.{place, names_in, arity, arity_at, IsWhatAt}
@@ -17,10 +17,6 @@ use Rattle.pict_normal.specs.Raw.{IsNoDefinition}
 use Rattle.pict_normal.specs.Sizes.{nodes_of_binders}
 use Rattle.pict_types.proofs.Entries.{last_first}
 use Rattle.pict_types.proofs.Places.{is_what_at, arity_is}
-
--- binders
-pub binder_pushed : (bs : List Binder) (b : Binder) → entries_of (bs ++ b ∷ []) ≡ bound_entry b.name.0 b.kind ∷ entries_of bs
-binder_pushed bs b = last_first (λ x. bound_entry x.name.0 x.kind) bs b
 
 pub binders_length : (bs : List Binder) → length (entries_of bs) ≡ length bs
 binders_length bs =
@@ -187,31 +183,19 @@ drop_more (suc n) [] = refl
 drop_more (suc n) (x ∷ xs) = drop_more n xs
 
 abbrev count_binders : TypeBinders → ℕ
-count_binders no-binders = 0
-count_binders (more-binders bs b) = suc (count_binders bs)
+count_binders no_binders = 0
+count_binders (more_binders bs b) = suc (count_binders bs)
 
 drop_under : (e : PlainContext) (bs : TypeBinders) → drop (count_binders bs) (entries_under e bs) ≡ e
-drop_under e no-binders = refl
-drop_under e (more-binders bs b) = drop_under e bs
+drop_under e no_binders = refl
+drop_under e (more_binders bs b) = drop_under e bs
 
-count_on : (bs : TypeBinders) (xs : List RTypeBinder) → count_binders (binders-on bs xs) ≡ count_binders bs + length xs
-unfolding binders-on
+count_on : (bs : TypeBinders) (xs : List RTypeBinder) → count_binders (binders_on bs xs) ≡ count_binders bs + length xs
+unfolding binders_on
 count_on bs [] = omega arith
-count_on bs (x ∷ xs) = omega (arith, count_on (more-binders bs (binder_of x)) xs)
+count_on bs (x ∷ xs) = omega (arith, count_on (more_binders bs (binder_of x)) xs)
 
-pub forgotten : (e : PlainContext) (xs : List RTypeBinder) (n : ℕ) → n ≡ length xs → drop n (entries_under e (binders-on no-binders xs)) ≡ e
+pub forgotten : (e : PlainContext) (xs : List RTypeBinder) (n : ℕ) → n ≡ length xs → drop n (entries_under e (binders_on no_binders xs)) ≡ e
 forgotten e xs n h =
-    let k : n ≡ count_binders (binders-on no-binders xs) = omega (arith, count_on no-binders xs) in
-    ap (λ m. drop m (entries_under e (binders-on no-binders xs))) k ∙ drop_under e (binders-on no-binders xs)
-
-under_length_on : (e : PlainContext) (bs : TypeBinders) → length (entries_under e bs) ≡ length e + count_binders bs
-under_length_on e no-binders = omega arith
-under_length_on e (more-binders bs b) = omega (arith, under_length_on e bs)
-
-count_nodes : (bs : TypeBinders) → count_binders bs ≤ nodes_of_binders bs
-count_nodes no-binders = omega arith
-count_nodes (more-binders bs (type-binder s id k b)) = omega (arith, count_nodes bs)
-
--- no more binders than nodes
-pub around_length : (e c : PlainContext) (bs : TypeBinders) → length (entries_under e bs ++ c) ≤ length (e ++ c) + nodes_of_binders bs
-around_length e c bs = omega (arith, length-append (entries_under e bs) c, length-append e c, under_length_on e bs, count_nodes bs)
+    let k : n ≡ count_binders (binders_on no_binders xs) = omega (arith, count_on no_binders xs) in
+    ap (λ m. drop m (entries_under e (binders_on no_binders xs))) k ∙ drop_under e (binders_on no_binders xs)

@@ -10,7 +10,7 @@ use Rattle.pict_types.specs.declared.types.Bound.{Bound}
 use Rattle.pict_types.specs.Types.{PlainBound, PlainBounds, no_bound, bounds, count_bounds}
 use Rattle.pict_types.specs.Kinds.{BoundsAreWellFormed}
 use Rattle.pict_normal.specs.Made.{IsMadeBound, IsReason, IsRow, IsGrown}
-use Rattle.pict_types.specs.Measures.{size_bounds, weights, heights, weigh_bounds, weigh_variable, weights_under, rise_bounds, rise_variable, heights_under}
+use Rattle.pict_types.specs.Measures.{weights, heights, weigh_bounds, weigh_variable, weights_under, rise_bounds, rise_variable, heights_under}
 use Rattle.pict_types.specs.Plain.{plain_bound, plain_bounds}
 use Rattle.pict_normal.specs.Putting.{IsPlaced, IsUnder, names_in, variables_in, replacement_in, replacement_of, weights_in, heights_in}
 use Rattle.pict_types.specs.Replacing.{Replacement, replacement_past, replacement_beyond, replace_bound, replace_bounds}
@@ -19,7 +19,6 @@ use Rattle.pict_normal.proofs.Behind.{weights_more, heights_more}
 use Rattle.pict_normal.proofs.Making.{reason_by, row_first, row_step, row_alike}
 use Rattle.pict_normal.proofs.Placing.{placed_rest, one_more, bounds_next}
 use Rattle.pict_types.proofs.Rows.{then_bounds, bounds_push, bounds_end}
-use Rattle.pict_types.proofs.Sizes.{variable_positive}
 
 pub record MadeSoFar (s r : Replacement) (vs ws us hs : List ℕ) (all rest : PlainBounds) (row : Row Bound) : Type 0 where
   pub row_ : IsRow (λ xs. then_bounds (plain_bounds xs) (replace_bounds r rest)) row (weigh_bounds vs (replace_bounds s all)) (weigh_bounds ws (replace_bounds r rest)) (rise_bounds us (replace_bounds s all)) (rise_bounds hs (replace_bounds r rest)) (replace_bounds s all)
@@ -50,7 +49,7 @@ made_more {s = s} {r = r} {vs = vs} {ws = ws} {us = us} {hs = hs} {all = all} b 
 
 pub record BoundsSoFar (p : Puts) (outer inner : List Measures) (all rest : PlainBounds) (row : Row Bound) : Type 0 where
   pub made : MadeSoFar (replacement_in p outer) (replacement_in p inner) (weights_in p outer) (weights_in p inner) (heights_in p outer) (heights_in p inner) all rest row
-  pub placed : IsPlaced p inner (λ ks. BoundsAreWellFormed (names_in p) ks rest) (size_bounds rest)
+  pub placed : IsPlaced p inner (λ ks. BoundsAreWellFormed (names_in p) ks rest)
   pub outer_ : take (length outer) inner ≡ outer
   pub least : length outer ≤ length inner
   pub count : length inner + count_bounds rest ≡ length outer + count_bounds all
@@ -62,14 +61,13 @@ bounds_more {p = p} {outer = outer} {inner = inner} {all = all} b rest m next x 
     let vs = weights_in p outer in
     let us = heights_in p outer in
     let c = one_more inner m.measures in
-    let w : 1 ≤ m.measures.weight = omega (arith, h.weight, variable_positive (weights_in p inner) (replace_bound (replacement_in p inner) b)) in
     let y = made_more b rest m next x.made h g light k l n in
     let y1 = subst (λ i. MadeSoFar s (replacement_past i (replacement_of p)) vs (m.measures.weight ∷ weights_in p inner) us (m.measures.height ∷ heights_in p inner) all rest next) (sym c) y in
     let y2 = subst (λ i. MadeSoFar s (replacement_in p (inner ++ m.measures ∷ [])) vs i us (m.measures.height ∷ heights_in p inner) all rest next) (sym (weights_more inner m.measures (weights (variables_in p)))) y1 in
     let y3 = subst (λ i. MadeSoFar s (replacement_in p (inner ++ m.measures ∷ [])) vs (weights_in p (inner ++ m.measures ∷ [])) us i all rest next) (sym (heights_more inner m.measures (heights (variables_in p)))) y2 in
     record {
       made = y3;
-      placed = placed_rest b rest m.measures w x.placed;
+      placed = placed_rest b rest m.measures x.placed;
       outer_ = take-append-le (length outer) inner (m.measures ∷ []) x.least ∙ x.outer_;
       least = omega (arith, c, x.least);
       count = omega (arith, c, x.count);
@@ -82,24 +80,7 @@ bounds_done x = record {
   count = omega (arith, x.count);
   weights_ = x.made.weights_;
   heights_ = λ i. (x.made.heights_.each i).same;
-  positive = x.placed.positive;
 }
-
--- no type field
-pub bounds_first : {p : Puts} (ms : List Measures) (all : PlainBounds) (row : Row Bound) → IsPlaced p ms (λ ks. BoundsAreWellFormed (names_in p) ks all) (size_bounds all) → row.measures.weight ≡ 0 → row.measures.height ≡ 0 → IfSome row.items (λ v. v.items ≡ []) → IfNone row.items ⊥ → BoundsSoFar p ms ms all all row
-bounds_first {p = p} ms all row x a b c d =
-    let s = replacement_in p ms in
-    record {
-      made = record {
-        row_ = row_first (λ xs. then_bounds (plain_bounds xs) (replace_bounds s all)) row (weigh_bounds (weights_in p ms) (replace_bounds s all)) (rise_bounds (heights_in p ms) (replace_bounds s all)) (replace_bounds s all) a b c d refl;
-        weights_ = refl;
-        heights_ = alike_same (heights_under (heights_in p ms) (replace_bounds s all));
-      };
-      placed = x;
-      outer_ = take_all (length ms) ms (omega arith);
-      least = omega arith;
-      count = refl;
-    }
 
 pub bounds_step : {p : Puts} {outer inner : List Measures} {all : PlainBounds} {row : Row Bound} (xs : List Bound) (i : ℕ) (x : Bound) (m : MadeBound) (next : Row Bound) (ns : List Measures) → i < length xs → x ≡ get_or xs i x → ns ≡ inner ++ m.measures ∷ [] → BoundsSoFar p outer inner all (plain_bounds (drop i xs)) row → IsMadeBound (weights_in p inner) (heights_in p inner) m (replace_bound (replacement_in p inner) (plain_bound x)) → next.measures.weight ≡ row.measures.weight + m.measures.weight → next.measures.weight ≤ 100000 → next.measures.height ≡ max row.measures.height m.measures.height → IfSome next.items (λ v. IsGrown row.items m.bound v.items) → (IfNone row.items (1000 < row.measures.height) → IfNone m.bound (1000 < m.measures.height) → IfNone next.items (1000 < next.measures.height)) → BoundsSoFar p outer ns all (plain_bounds (drop (i + 1) xs)) next
 bounds_step {p = p} {outer = outer} {inner = inner} {all = all} {row = row} xs i x m next ns h e q y k w light l g n =

@@ -1,22 +1,15 @@
 -- Labelled fields in the order in which they are written, and then in that of their labels.
-use Rattle.std.proofs.Common.{◌≡◌, ℕ, Bool, true, false, List, [], ◌∷◌, ◌++◌, refl, ◌∙◌, ap}
+use Rattle.std.proofs.Common.{◌≡◌, ℕ, Bool, true, false, List, [], ◌∷◌, ◌++◌, refl, sym, ◌∙◌, ap}
 use Rattle.std.specs.Prelude.{if◌then◌else◌}
 use Rattle.std.specs.Ordering.{is_lt}
-use Rattle.std.specs.Cmp.{IsStrictWeakOrder}
-use Rattle.std.specs.List.Sorted.{IsSortedBy, IsStableBy}
-use Rattle.std.proofs.lemmas.Cmp.{then_total, on_total, nat_list_cmp_total, nat_cmp_total}
-use Rattle.std.proofs.lemmas.List.Sorted.{ranks_by}
-use Rattle.pict_syntax.specs.Names.{text_of}
+use Rattle.pict_syntax.specs.Labels.{by_number, in_label_order, label_cmp, with_label, with_labels}
 use Rattle.pict_syntax.specs.declared.name.Name.{Name}
-use Rattle.pict_syntax.specs.Trees.{LabelledTypes, no-labelled-types, more-labelled-types}
+use Rattle.pict_syntax.specs.Trees.{LabelledTypes, no_labelled_types, more_labelled_types}
 use Rattle.pict_types.specs.declared.types.Ty.{Ty}
 use Rattle.pict_types.specs.Types.{PlainType, PlainLabels, no_label, labels}
-use Rattle.pict_types.specs.Kinds.{label_cmp}
 use Rattle.pict_types.specs.Plain.{plain, plain_labels}
-use Rattle.pict_normal.specs.Normal.{with_label}
+use Rattle.pict_normal.specs.Normal.{with_labelled_type}
 use Rattle.pict_normal.specs.Raw.{raw, raw_labels}
-use Rattle.pict_normal.specs.InOrder.{in_order, with_labels}
-use Rattle.pict_normal.proofs.Sorting.{put, put_all, sorted_is}
 
 -- one more at the end
 abbrev pub and_label : PlainLabels → ℕ → PlainType → PlainLabels
@@ -24,40 +17,52 @@ and_label no_label l u = labels l u no_label
 and_label (labels m t ls) l u = labels m t (and_label ls l u)
 
 abbrev pub unsorted : List (List ℕ) → List ℕ → LabelledTypes → PlainLabels
-unsorted ns ms no-labelled-types = no_label
-unsorted ns ms (more-labelled-types ls id t) = and_label (unsorted ns ms ls) id.name.0 (raw ns ms t)
+unsorted ns ms no_labelled_types = no_label
+unsorted ns ms (more_labelled_types ls id t) = and_label (unsorted ns ms ls) id.name.0 (raw ns ms t)
 
 pub labels_and : (xs : List (Name × Ty)) (x : (Name × Ty)) → plain_labels (xs ++ x ∷ []) ≡ and_label (plain_labels xs) x.0.0 (plain x.1)
 labels_and [] x = refl
 labels_and (y ∷ xs) x = ap (labels y.0.0 (plain y.1)) (labels_and xs x)
 
-ordered_and : (ns : List (List ℕ)) (sorted ls : PlainLabels) (l : ℕ) (u : PlainType) → with_labels ns sorted (and_label ls l u) ≡ with_label ns l u (with_labels ns sorted ls)
+-- each put in turn among those that are in order
+abbrev with_labelled_types : List (List ℕ) → PlainLabels → PlainLabels → PlainLabels
+with_labelled_types ns sorted no_label = sorted
+with_labelled_types ns sorted (labels l u ls) = with_labelled_types ns (with_labelled_type ns l u sorted) ls
+
+abbrev pub in_order : List (List ℕ) → PlainLabels → PlainLabels
+in_order ns ls = with_labelled_types ns no_label ls
+
+ordered_and : (ns : List (List ℕ)) (sorted ls : PlainLabels) (l : ℕ) (u : PlainType) → with_labelled_types ns sorted (and_label ls l u) ≡ with_labelled_type ns l u (with_labelled_types ns sorted ls)
 ordered_and ns sorted no_label l u = refl
-ordered_and ns sorted (labels m t ls) l u = ordered_and ns (with_label ns m t sorted) ls l u
+ordered_and ns sorted (labels m t ls) l u = ordered_and ns (with_labelled_type ns m t sorted) ls l u
 
 pub ordered : (ns : List (List ℕ)) (ms : List ℕ) (ls : LabelledTypes) → in_order ns (unsorted ns ms ls) ≡ raw_labels ns ms ls
-ordered ns ms no-labelled-types = refl
-ordered ns ms (more-labelled-types ls id t) =
-    ordered_and ns no_label (unsorted ns ms ls) id.name.0 (raw ns ms t) ∙ ap (with_label ns id.name.0 (raw ns ms t)) (ordered ns ms ls)
+ordered ns ms no_labelled_types = refl
+ordered ns ms (more_labelled_types ls id t) =
+    ordered_and ns no_label (unsorted ns ms ls) id.name.0 (raw ns ms t) ∙ ap (with_labelled_type ns id.name.0 (raw ns ms t)) (ordered ns ms ls)
 
--- what a stable sort by the labels makes
-abbrev pub before : List (List ℕ) → (Name × Ty) → (Name × Ty) → Bool
-before ns x y = is_lt (label_cmp ns x.0.0 y.0.0)
+-- labelled items as fields
+abbrev fields_of : List (ℕ × Ty) → PlainLabels
+fields_of [] = no_label
+fields_of (x ∷ xs) = labels x.0 (plain x.1) (fields_of xs)
 
-pub label_order : (ns : List (List ℕ)) → IsStrictWeakOrder (before ns)
-label_order ns = ranks_by (then_total (on_total (text_of ns) nat_list_cmp_total) nat_cmp_total) (λ (x : Name × Ty). x.0.0)
+fields_by_number : (xs : List (Name × Ty)) → fields_of (by_number xs) ≡ plain_labels xs
+fields_by_number [] = refl
+fields_by_number (x ∷ xs) = ap (labels x.0.0 (plain x.1)) (fields_by_number xs)
 
-put_label : (ns : List (List ℕ)) (x : Name × Ty) (ys : List (Name × Ty)) → plain_labels (put (before ns) x ys) ≡ with_label ns x.0.0 (plain x.1) (plain_labels ys)
-put_label ns x [] = refl
-put_label ns x (y ∷ ys) = go (before ns x y) (put_label ns x ys)
+one_put : (ns : List (List ℕ)) (l : ℕ) (t : Ty) (xs : List (ℕ × Ty)) → fields_of (with_label ns l t xs) ≡ with_labelled_type ns l (plain t) (fields_of xs)
+one_put ns l t [] = refl
+one_put ns l t (x ∷ xs) = go (is_lt (label_cmp ns l x.0)) (one_put ns l t xs)
   where
-    go : (b : Bool) → plain_labels (put (before ns) x ys) ≡ with_label ns x.0.0 (plain x.1) (plain_labels ys) → plain_labels (if b then x ∷ y ∷ ys else y ∷ put (before ns) x ys) ≡ (if b then labels x.0.0 (plain x.1) (labels y.0.0 (plain y.1) (plain_labels ys)) else labels y.0.0 (plain y.1) (with_label ns x.0.0 (plain x.1) (plain_labels ys)))
+    go : (b : Bool) → fields_of (with_label ns l t xs) ≡ with_labelled_type ns l (plain t) (fields_of xs) → fields_of (if b then (l, t) ∷ x ∷ xs else x ∷ with_label ns l t xs) ≡ (if b then labels l (plain t) (labels x.0 (plain x.1) (fields_of xs)) else labels x.0 (plain x.1) (with_labelled_type ns l (plain t) (fields_of xs)))
     go true h = refl
-    go false h = ap (labels y.0.0 (plain y.1)) h
+    go false h = ap (labels x.0 (plain x.1)) h
 
-put_labels : (ns : List (List ℕ)) (sorted xs : List (Name × Ty)) → plain_labels (put_all (before ns) sorted xs) ≡ with_labels ns (plain_labels sorted) (plain_labels xs)
-put_labels ns sorted [] = refl
-put_labels ns sorted (x ∷ xs) = put_labels ns (put (before ns) x sorted) xs ∙ ap (λ l. with_labels ns l (plain_labels xs)) (put_label ns x sorted)
+all_put : (ns : List (List ℕ)) (sorted xs : List (ℕ × Ty)) → fields_of (with_labels ns sorted xs) ≡ with_labelled_types ns (fields_of sorted) (fields_of xs)
+all_put ns sorted [] = refl
+all_put ns sorted (x ∷ xs) =
+    all_put ns (with_label ns x.0 x.1 sorted) xs ∙ ap (λ l. with_labelled_types ns l (fields_of xs)) (one_put ns x.0 x.1 sorted)
 
-pub labels_sorted : (ns : List (List ℕ)) (xs ys : List (Name × Ty)) → IsSortedBy (before ns) ys → IsStableBy (before ns) xs ys → plain_labels ys ≡ in_order ns (plain_labels xs)
-labels_sorted ns xs ys up stable = ap plain_labels (sorted_is (before ns) (label_order ns) xs ys up stable) ∙ put_labels ns [] xs
+pub fields_sorted : (ns : List (List ℕ)) (xs ys : List (Name × Ty)) → by_number ys ≡ in_label_order ns (by_number xs) → plain_labels ys ≡ in_order ns (plain_labels xs)
+fields_sorted ns xs ys h =
+    sym (fields_by_number ys) ∙ ap fields_of h ∙ all_put ns [] (by_number xs) ∙ ap (in_order ns) (fields_by_number xs)

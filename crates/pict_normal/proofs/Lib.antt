@@ -13,7 +13,6 @@ pub mod Trees
 pub mod RawSteps
 pub mod RawFormed
 pub mod Expanded
-pub mod Sorting
 pub mod Refused
 pub mod LabelOrder
 pub mod BecomingTop
@@ -24,3 +23,4 @@ pub mod BareOperators
 pub mod Used
 pub mod Marking
 mod Worked
+pub mod Instances

@@ -5,9 +5,7 @@ use Rattle.pict_normal.specs.declared.put.Put.TheVariants.{Variable as Variable_
 use Rattle.pict_types.specs.Types.{TypeContext, PlainType, Var, PlainArg, Plain, Op}
 use Rattle.pict_types.specs.Counting.{variables_inside}
 use Rattle.pict_types.specs.Entries.{PlainWhat, Variable, Definition, PlainContext, variables, with_variable, EntryIsWellFormed, EntriesAreWellFormed}
-use Rattle.pict_types.specs.Instances.{size_arg}
 use Rattle.pict_normal.specs.Meanings.{meanings, with_what}
-use Rattle.pict_normal.specs.Sizes.{most_defined, size_of_what}
 use Rattle.pict_normal.specs.Putting.{CanMove, HasRoom}
 use Rattle.pict_types.specs.Places.{IsWhatAt}
 use Rattle.pict_types.specs.Renaming.{plus, rename, moved}
@@ -100,40 +98,22 @@ past_head [] i j h = let e : i ≡ j + 0 = omega arith in ap variable e
 past_head (e ∷ c) zero j h = absurd (omega arith)
 past_head (e ∷ c) (suc i) j h = head_past e.what (variables c) (meanings c) i j (past_head c i j (omega arith))
 
--- a definition is well formed around its place, and no greater than the greatest
-pub formed_at : (ns : List (List ℕ)) (c : PlainContext) (i : ℕ) (w : PlainWhat) → EntriesAreWellFormed ns c → IsWhatAt c i w → EntryIsWellFormed ns (variables (entries_around c i)) w
-formed_at ns [] i w f h = absurd h
-formed_at ns (e ∷ c) zero w f h = subst (EntryIsWellFormed ns (variables c)) h f.0
-formed_at ns (e ∷ c) (suc i) w f h = formed_at ns c i w f.1 h
-
-what_size : (c : PlainContext) (i : ℕ) (w : PlainWhat) → IsWhatAt c i w → size_of_what w ≤ most_defined c
-what_size [] i w h = absurd h
-what_size (e ∷ c) zero w h = let s : size_of_what e.what ≡ size_of_what w = ap size_of_what h in omega arith
-what_size (e ∷ c) (suc i) w h = omega (arith, what_size c i w h)
-
-pub definition_size : (c : PlainContext) (i : ℕ) (a : PlainArg) → IsWhatAt c i (Definition a) → size_arg a ≤ most_defined c
-definition_size c i a h = omega (arith, what_size c i (Definition a) h, same a)
-  where
-    same : (a : PlainArg) → size_arg a ≡ size_of_what (Definition a)
-    same (Plain t) = refl
-    same (Op n t) = refl
-
 -- under binders, from no binder
-pub room_from_none : (p : Put) (n most d i : ℕ) → HasRoom n most (0 + d) i p → HasRoom n most d i p
-room_from_none p n most d i h = let e : 0 + d ≡ d = omega arith in subst (λ k. HasRoom n most k i p) e h
+pub room_from_none : (p : Put) (n d i : ℕ) → HasRoom n (0 + d) i p → HasRoom n d i p
+room_from_none p n d i h = let e : 0 + d ≡ d = omega arith in subst (λ k. HasRoom n k i p) e h
 
 -- what is put has room under more binders, and seen from inside
-pub can_move : (p : Put) (n most d i m : ℕ) → HasRoom n most d i p → i + d + m < 2 ^ 32 → n + d + m < 2 ^ 32 → CanMove m p
-can_move (Variable_ k) n most d i m h a b = omega (arith, h, a)
-can_move (Proper_ t by) n most d i m h a b = omega (arith, h.1, b)
-can_move (Operator_ q t by) n most d i m h a b = omega (arith, h.1, b)
+pub can_move : (p : Put) (n d i m : ℕ) → HasRoom n d i p → i + d + m < 2 ^ 32 → n + d + m < 2 ^ 32 → CanMove m p
+can_move (Variable_ k) n d i m h a b = omega (arith, h, a)
+can_move (Proper_ t by) n d i m h a b = omega (arith, h.1, b)
+can_move (Operator_ q t by) n d i m h a b = omega (arith, h.1, b)
 
-pub room_inside : (p : Put) (n most by m i : ℕ) → n + by ≤ m → by ≤ i → HasRoom n most by 0 p → HasRoom m most 0 i p
-room_inside (Variable_ k) n most by m i a b h = omega (arith, h, b)
-room_inside (Proper_ t k) n most by m i a b h = (omega arith, omega (arith, h.1, a), omega (arith, h.2, a), h.3)
-room_inside (Operator_ q t k) n most by m i a b h = (omega arith, omega (arith, h.1, a), omega (arith, h.2, a), h.3)
+pub room_inside : (p : Put) (n by m i : ℕ) → n + by ≤ m → by ≤ i → HasRoom n by 0 p → HasRoom m 0 i p
+room_inside (Variable_ k) n by m i a b h = omega (arith, h, b)
+room_inside (Proper_ t k) n by m i a b h = (omega arith, omega (arith, h.1, a))
+room_inside (Operator_ q t k) n by m i a b h = (omega arith, omega (arith, h.1, a))
 
-pub room_under : (p : Put) (n most d i j : ℕ) → j + d ≤ i + d → HasRoom n most d j p → HasRoom n most d i p
-room_under (Variable_ k) n most d i j a h = omega (arith, h, a)
-room_under (Proper_ t k) n most d i j a h = h
-room_under (Operator_ q t k) n most d i j a h = h
+pub room_under : (p : Put) (n d i j : ℕ) → j + d ≤ i + d → HasRoom n d j p → HasRoom n d i p
+room_under (Variable_ k) n d i j a h = omega (arith, h, a)
+room_under (Proper_ t k) n d i j a h = h
+room_under (Operator_ q t k) n d i j a h = h

@@ -6,7 +6,9 @@ use Rattle.pict_types.specs.Types.{PlainType, Top, Int, Char, Str, Boolean, Var,
 use Rattle.pict_types.specs.Renaming.{beyond, beyond_all, beyond_times, plus, rename, rename_types, rename_labels, rename_bounds, rename_bound, moved}
 use Rattle.pict_types.specs.Replacing.{bound_by, Filling, next_variable, apply_variable, filling_beyond, filling_beyond_all, fill, fill_types, fill_labels, fill_bounds, fill_bound, with_type, with_types, no_filling, Head, variable, operator, nothing, rename_head, Replacement, replacement_past, replacement_beyond_all, type_in, head_in, with_arg, with_args, arguments, no_replacement}
 use Rattle.pict_types.specs.Filling.{moved_by}
-use Rattle.pict_types.proofs.Renamed.{Joins, renamed_twice, Stays, rename_same}
+use Rattle.pict_types.proofs.Renamed.{Joins, joins_beyond, renamed_twice, Stays, stays_beyond, rename_same, three}
+use Rattle.pict_types.proofs.Replaced.{beyond_after}
+use Rattle.pict_types.proofs.Composed.{IsAfter, fill_after}
 
 pub type_low : (s : Replacement) (d i : ℕ) → i < d → (replacement_past d s).type_of i ≡ Var i
 type_low s zero i h = absurd (omega arith)
@@ -29,27 +31,15 @@ type_high s (suc d) (suc i) j e =
 
 joins_times : (n : ℕ) {g f k : ℕ → ℕ} → Joins g f k → Joins (beyond_times n g) (beyond_times n f) (beyond_times n k)
 joins_times zero h = h
-joins_times (suc n) {g = g} {f = f} {k = k} h =
-    let r = joins_times n h in
-    record { each = λ i. go r i }
-  where
-    go : Joins (beyond_times n g) (beyond_times n f) (beyond_times n k) → (i : ℕ) → beyond_times (suc n) g (beyond_times (suc n) f i) ≡ beyond_times (suc n) k i
-    go r zero = refl
-    go r (suc i) = ap suc (r.each i)
+joins_times (suc n) h = joins_beyond (joins_times n h)
 
-stays_times : (n : ℕ) {f : ℕ → ℕ} → Stays f → Stays (beyond_times n f)
-stays_times zero h = h
-stays_times (suc n) {f = f} h =
-    let r = stays_times n h in
-    record { each = λ i. go r i }
-  where
-    go : Stays (beyond_times n f) → (i : ℕ) → beyond_times (suc n) f i ≡ i
-    go r zero = refl
-    go r (suc i) = ap suc (r.each i)
+stays_past : (n : ℕ) {f : ℕ → ℕ} → Stays f → Stays (beyond_times n f)
+stays_past zero h = h
+stays_past (suc n) h = stays_beyond (stays_past n h)
 
 pub head_same : {f : ℕ → ℕ} (h : Head) → Stays f → rename_head f h ≡ h
 head_same (variable i) x = ap variable (x.each i)
-head_same (operator n t) x = ap (operator n) (rename_same t (stays_times n x))
+head_same (operator n t) x = ap (operator n) (rename_same t (stays_past n x))
 head_same nothing x = refl
 
 pub head_twice : {g f k : ℕ → ℕ} (h : Head) → Joins g f k → rename_head g (rename_head f h) ≡ rename_head k h
@@ -80,59 +70,6 @@ pub all_past : (d : ℕ) (s : Replacement) (bs : PlainBounds) → replacement_be
 all_past d s no_bound = ap (λ n. replacement_past n s) (omega arith)
 all_past d s (bounds b bs) = all_past (suc d) s bs ∙ ap (λ n. replacement_past n s) (omega arith)
 
--- s after f is r
-pub record IsAfter (s : Filling) (f : ℕ → ℕ) (r : Filling) : Type 0 where
-  pub types_ : (i : ℕ) → s.type_for (f i) ≡ r.type_for i
-  pub heads_ : (i : ℕ) → s.head_for (f i) ≡ r.head_for i
-
-after_beyond : {s : Filling} {f : ℕ → ℕ} {r : Filling} → IsAfter s f r → IsAfter (filling_beyond s) (beyond f) (filling_beyond r)
-after_beyond {s = s} {f = f} {r = r} h = record { types_ = go; heads_ = go2 }
-  where
-    go : (i : ℕ) → (filling_beyond s).type_for (beyond f i) ≡ (filling_beyond r).type_for i
-    go zero = refl
-    go (suc i) = ap (rename suc) (h.types_ i)
-
-    go2 : (i : ℕ) → (filling_beyond s).head_for (beyond f i) ≡ (filling_beyond r).head_for i
-    go2 zero = refl
-    go2 (suc i) = ap next_variable (h.heads_ i)
-
-after_under : {s : Filling} {f : ℕ → ℕ} {r : Filling} (bs : PlainBounds) → IsAfter s f r → IsAfter (filling_beyond_all (rename_bounds f bs) s) (beyond_all bs f) (filling_beyond_all bs r)
-after_under no_bound h = h
-after_under (bounds b bs) h = after_under bs (after_beyond h)
-
-three : {A B C D : Type 0} (k : A → B → C → D) {a a' : A} {b b' : B} {c c' : C} → a ≡ a' → b ≡ b' → c ≡ c' → k a b c ≡ k a' b' c'
-three k p q r = cc
-
-mutual
-  pub fill_after : {s : Filling} {f : ℕ → ℕ} {r : Filling} → IsAfter s f r → (t : PlainType) → fill s (rename f t) ≡ fill r t
-  fill_after h Top = refl
-  fill_after h Int = refl
-  fill_after h Char = refl
-  fill_after h Str = refl
-  fill_after h Boolean = refl
-  fill_after h (Var i) = h.types_ i
-  fill_after h (Apply i ts) = ap₂ apply_variable (h.heads_ i) (fill_types_after h ts)
-  fill_after h (Chan m t) = ap (Chan m) (fill_after h t)
-  fill_after h (Fields bs ps ls) = three Fields (fill_bounds_after h bs) (fill_types_after (after_under bs h) ps) (fill_labels_after (after_under bs h) ls)
-  fill_after h (Rec t) = ap Rec (fill_after (after_beyond h) t)
-
-  fill_types_after : {s : Filling} {f : ℕ → ℕ} {r : Filling} → IsAfter s f r → (t : PlainTypes) → fill_types s (rename_types f t) ≡ fill_types r t
-  fill_types_after h no_type = refl
-  fill_types_after h (types t ts) = ap₂ types (fill_after h t) (fill_types_after h ts)
-
-  fill_labels_after : {s : Filling} {f : ℕ → ℕ} {r : Filling} → IsAfter s f r → (t : PlainLabels) → fill_labels s (rename_labels f t) ≡ fill_labels r t
-  fill_labels_after h no_label = refl
-  fill_labels_after h (labels l t ts) = ap₂ (labels l) (fill_after h t) (fill_labels_after h ts)
-
-  fill_bounds_after : {s : Filling} {f : ℕ → ℕ} {r : Filling} → IsAfter s f r → (t : PlainBounds) → fill_bounds s (rename_bounds f t) ≡ fill_bounds r t
-  fill_bounds_after h no_bound = refl
-  fill_bounds_after h (bounds b bs) = ap₂ bounds (fill_bound_after h b) (fill_bounds_after (after_beyond h) bs)
-
-  fill_bound_after : {s : Filling} {f : ℕ → ℕ} {r : Filling} → IsAfter s f r → (b : PlainBound) → fill_bound s (rename_bound f b) ≡ fill_bound r b
-  fill_bound_after h Free = refl
-  fill_bound_after h (Below t) = ap bound_by (fill_after h t)
-  fill_bound_after h (Operator n) = refl
-
 -- the body of an operator, moved under d binders, with arguments
 after_type : {s : Filling} {f : ℕ → ℕ} {r : Filling} (t : PlainType) → IsAfter s f r → IsAfter (with_type t s) (beyond f) (with_type t r)
 after_type {s = s} {f = f} {r = r} t h = record { types_ = go; heads_ = go2 }
@@ -145,16 +82,12 @@ after_type {s = s} {f = f} {r = r} t h = record { types_ = go; heads_ = go2 }
     go2 zero = refl
     go2 (suc i) = h.heads_ i
 
-times_beyond : (n : ℕ) (f : ℕ → ℕ) → beyond_times n (beyond f) ≡ beyond (beyond_times n f)
-times_beyond zero f = refl
-times_beyond (suc n) f = ap beyond (times_beyond n f)
-
 after_types : (n : ℕ) (us : PlainTypes) {s : Filling} {f : ℕ → ℕ} {r : Filling} → IsAfter s f r → IsAfter (with_types n us s) (beyond_times n f) (with_types n us r)
 after_types zero us h = h
 after_types (suc n) no_type {s = s} {f = f} {r = r} h =
-    subst (λ g. IsAfter (with_types n no_type (with_type Top s)) g (with_types n no_type (with_type Top r))) (times_beyond n f) (after_types n no_type (after_type Top h))
+    subst (λ g. IsAfter (with_types n no_type (with_type Top s)) g (with_types n no_type (with_type Top r))) (beyond_after n f) (after_types n no_type (after_type Top h))
 after_types (suc n) (types t ts) {s = s} {f = f} {r = r} h =
-    subst (λ g. IsAfter (with_types n ts (with_type t s)) g (with_types n ts (with_type t r))) (times_beyond n f) (after_types n ts (after_type t h))
+    subst (λ g. IsAfter (with_types n ts (with_type t s)) g (with_types n ts (with_type t r))) (beyond_after n f) (after_types n ts (after_type t h))
 
 pub applied_moved : (n d : ℕ) (us : PlainTypes) (t : PlainType) → fill (with_types n us no_filling) (rename (moved d n) t) ≡ fill (with_types n us (moved_by d)) t
 applied_moved n d us t = fill_after (after_types n us (record { types_ = λ i. refl; heads_ = λ i. refl })) t
@@ -173,7 +106,7 @@ moved_operator n d by t = renamed_twice t (joins_times n (record { each = λ i. 
     more i = omega arith
 
 pub not_moved : (n : ℕ) (t : PlainType) → rename (moved 0 n) t ≡ t
-not_moved n t = rename_same t (stays_times n (record { each = λ i. none i }))
+not_moved n t = rename_same t (stays_past n (record { each = λ i. none i }))
   where
     none : (i : ℕ) → i + 0 ≡ i
     none i = omega arith

@@ -1,28 +1,24 @@
 -- A written type in which no rule of kinds fails is well formed where every name is a variable of its kind.
 use Rattle.std.proofs.Common.{◌≡◌, ℕ, zero, suc, ◌<◌, Bool, true, false, nat_eq, List, [], ◌∷◌, ◌++◌, length, Option, Some, None, refl, sym, ◌∙◌, ap, ap₂, subst, arith}
 use Rattle.std.specs.Prelude.{if◌then◌else◌}
-use Rattle.std.specs.Ordering.{is_lt, nat_cmp, on, ordering_then, ordering_reverse}
-use Rattle.std.specs.Cmp.Lexicographic.{slice_cmp}
-use Rattle.std.specs.declared.cmp.Ordering.{Ordering}
-use Rattle.std.specs.declared.cmp.Ordering.TheVariants.{Less, Equal, Greater}
-use Rattle.std.specs.Cmp.{IsTotalOrder}
+use Rattle.std.specs.Ordering.{is_lt}
 use Rattle.std.proofs.lemmas.Bool.{eqb-true}
-use Rattle.std.proofs.lemmas.Cmp.{then_total, on_total, nat_list_cmp_total, nat_cmp_total, ranked}
-use Rattle.pict_syntax.specs.Names.{text_of}
 use Rattle.pict_syntax.specs.declared.code.Code.TheVariants.{K1}
 use Rattle.pict_syntax.specs.declared.span.Span.{Span}
 use Rattle.pict_syntax.specs.declared.type_tree.KindTree.{KindTree}
 use Rattle.pict_syntax.specs.declared.type_tree.KindTree.TheVariants.{Plain as Plain_, Operator as Operator_}
-use Rattle.pict_syntax.specs.Trees.{TypeTree, top-type, int-type, char-type, string-type, bool-type, use-type, both-type, read-type, write-type, respond-type, fields-type, apply-type, rec-type, TypeBinder, type-binder, Bound, no-bound, bound, TypeTrees, no-types, more-types, TypeBinders, no-binders, more-binders, LabelledTypes, no-labelled-types, more-labelled-types}
+use Rattle.pict_syntax.specs.Labels.{label_cmp, StandsBefore}
+use Rattle.pict_syntax.specs.Trees.{TypeTree, top_type, int_type, char_type, string_type, bool_type, use_type, both_type, read_type, write_type, respond_type, fields_type, apply_type, rec_type, TypeBinder, type_binder, Bound, unbounded, bound, TypeTrees, no_types, more_types, TypeBinders, no_binders, more_binders, LabelledTypes, no_labelled_types, more_labelled_types}
 use Rattle.pict_types.specs.Types.{PlainType, PlainTypes, no_type, types, PlainLabels, no_label, labels, PlainBound, Free, Below, Operator, PlainBounds, no_bound, bounds, Plain, Op, count_types}
 use Rattle.pict_types.specs.Replacing.{apply_variable}
-use Rattle.pict_types.specs.Kinds.{Kind, proper, operator_of, kind_by, kind_at, kinds_under, label_cmp, StandsBefore, StandsBeforeAll, IsWellFormed, AreWellFormed, LabelsAreWellFormed, BoundsAreWellFormed, BoundIsWellFormed}
+use Rattle.pict_types.specs.Kinds.{Kind, proper, operator_of, kind_by, kind_at, kinds_under, StandsBeforeAll, IsWellFormed, AreWellFormed, LabelsAreWellFormed, BoundsAreWellFormed, BoundIsWellFormed}
 use Rattle.pict_types.specs.Entries.{PlainWhat, Variable, Definition, PlainContext}
 use Rattle.pict_normal.specs.Meanings.{kind_of_what, entry_kinds}
-use Rattle.pict_normal.specs.Normal.{Meaning, a_type, an_operator, meaning, and_type, and_bound, with_label, kind_bound, entry_of, normal, normal_bound, under_binders, count_trees, Stop, use_stops, apply_stops, kind_stops, types_stops, labels_stops, binders_stops, binder_stops}
+use Rattle.pict_normal.specs.Normal.{Meaning, a_type, an_operator, meaning, and_type, and_bound, with_labelled_type, kind_bound, entry_of, normal, normal_bound, under_binders, count_trees, Stop, use_stops, apply_stops, kind_stops, types_stops, labels_stops, binders_stops, binder_stops}
 use Rattle.pict_types.specs.Places.{place, names_in, arity, arity_at}
 use Rattle.pict_normal.specs.Raw.{variable_at, names_under, raw, raw_types, raw_labels, raw_binders, raw_binder, raw_bound}
 use Rattle.pict_normal.specs.Distinct.{IsNewLabel, HasDistinctLabels, TypesHaveDistinctLabels, AreDistinct, BindersHaveDistinctLabels, BinderHasDistinctLabels}
+use Rattle.pict_syntax.proofs.LabelLemmas.{label_order, less_is, stands_after}
 use Rattle.pict_types.proofs.Formed.{formed_bound_by, kind_bound_by}
 use Rattle.pict_normal.proofs.BinderPlaces.{kind_meant, kind_there, kind_named, place_below}
 use Rattle.pict_types.proofs.Places.{names_length}
@@ -87,8 +83,8 @@ count_and no_type u = refl
 count_and (types t us) u = ap suc (count_and us u)
 
 count_raw : (ns : List (List ℕ)) (ms : List ℕ) (ts : TypeTrees) → count_types (raw_types ns ms ts) ≡ count_trees ts
-count_raw ns ms no-types = refl
-count_raw ns ms (more-types ts t) = count_and (raw_types ns ms ts) (raw ns ms t) ∙ ap suc (count_raw ns ms ts)
+count_raw ns ms no_types = refl
+count_raw ns ms (more_types ts t) = count_and (raw_types ns ms ts) (raw ns ms t) ∙ ap suc (count_raw ns ms ts)
 
 and_type_formed : (ns : List (List ℕ)) (ks : List Kind) (us : PlainTypes) (u : PlainType) → AreWellFormed ns ks us → IsWellFormed ns ks u → AreWellFormed ns ks (and_type us u)
 and_type_formed ns ks no_type u h k = (k, tt)
@@ -103,80 +99,59 @@ kinds_and ks no_bound b = refl
 kinds_and ks (bounds d bs) b = kinds_and (kind_by d ∷ ks) bs b
 
 -- labels in order
-label_total : (ns : List (List ℕ)) → IsTotalOrder (label_cmp ns)
-label_total ns = then_total (on_total (text_of ns) nat_list_cmp_total) nat_cmp_total
-
-abbrev IsNew : ℕ → PlainLabels → Type 0
+abbrev pub IsNew : ℕ → PlainLabels → Type 0
 IsNew l no_label = Unit {0}
 IsNew l (labels m t ls) = (l ≡ m → ⊥) × IsNew l ls
 
-new_with : (ns : List (List ℕ)) (l m : ℕ) (u : PlainType) (ls : PlainLabels) → (l ≡ m → ⊥) → IsNew l ls → IsNew l (with_label ns m u ls)
+pub new_with : (ns : List (List ℕ)) (l m : ℕ) (u : PlainType) (ls : PlainLabels) → (l ≡ m → ⊥) → IsNew l ls → IsNew l (with_labelled_type ns m u ls)
 new_with ns l m u no_label h k = (h, tt)
 new_with ns l m u (labels n t ls) h k = go (is_lt (label_cmp ns m n)) (new_with ns l m u ls h k.1)
   where
-    go : (b : Bool) → IsNew l (with_label ns m u ls) → IsNew l (if b then labels m u (labels n t ls) else labels n t (with_label ns m u ls))
+    go : (b : Bool) → IsNew l (with_labelled_type ns m u ls) → IsNew l (if b then labels m u (labels n t ls) else labels n t (with_labelled_type ns m u ls))
     go true r = (h, k)
     go false r = (k.0, r)
 
 new_raw : (ns : List (List ℕ)) (ms : List ℕ) (l : ℕ) (ls : LabelledTypes) → IsNewLabel l ls → IsNew l (raw_labels ns ms ls)
-new_raw ns ms l no-labelled-types h = tt
-new_raw ns ms l (more-labelled-types ls id t) h = new_with ns l id.name.0 (raw ns ms t) (raw_labels ns ms ls) h.1 (new_raw ns ms l ls h.0)
+new_raw ns ms l no_labelled_types h = tt
+new_raw ns ms l (more_labelled_types ls id t) h = new_with ns l id.name.0 (raw ns ms t) (raw_labels ns ms ls) h.1 (new_raw ns ms l ls h.0)
 
-before_with : (ns : List (List ℕ)) (m l : ℕ) (u : PlainType) (ls : PlainLabels) → StandsBefore ns m l → StandsBeforeAll ns m ls → StandsBeforeAll ns m (with_label ns l u ls)
+before_with : (ns : List (List ℕ)) (m l : ℕ) (u : PlainType) (ls : PlainLabels) → StandsBefore ns m l → StandsBeforeAll ns m ls → StandsBeforeAll ns m (with_labelled_type ns l u ls)
 before_with ns m l u no_label h k = (h, tt)
 before_with ns m l u (labels n t ls) h k = go (is_lt (label_cmp ns l n)) (before_with ns m l u ls h k.1)
   where
-    go : (b : Bool) → StandsBeforeAll ns m (with_label ns l u ls) → StandsBeforeAll ns m (if b then labels l u (labels n t ls) else labels n t (with_label ns l u ls))
+    go : (b : Bool) → StandsBeforeAll ns m (with_labelled_type ns l u ls) → StandsBeforeAll ns m (if b then labels l u (labels n t ls) else labels n t (with_labelled_type ns l u ls))
     go true r = (h, k)
     go false r = (k.0, r)
 
 before_all : (ns : List (List ℕ)) (l m : ℕ) (ls : PlainLabels) → StandsBefore ns l m → StandsBeforeAll ns m ls → StandsBeforeAll ns l ls
 before_all ns l m no_label h k = tt
-before_all ns l m (labels n t ls) h k = ((label_total ns).trans l m n h k.0, before_all ns l m ls h k.1)
+before_all ns l m (labels n t ls) h k = ((label_order ns).trans l m n h k.0, before_all ns l m ls h k.1)
 
-less_is : (o : Ordering) → is_lt o ≡ true → o ≡ Less
-less_is Less h = refl
-less_is Equal h = absurd (cc)
-less_is Greater h = absurd (cc)
-
-then_equal : (o p : Ordering) → ordering_then o p ≡ Equal → p ≡ Equal
-then_equal Less p h = absurd (cc)
-then_equal Equal p h = h
-then_equal Greater p h = absurd (cc)
-
-equal_labels : (ns : List (List ℕ)) (l m : ℕ) → label_cmp ns l m ≡ Equal → l ≡ m
-equal_labels ns l m h = ranked l m Equal (sym (then_equal (on (text_of ns) (slice_cmp nat_cmp) l m) (nat_cmp l m) h))
-
-not_less : (ns : List (List ℕ)) (l m : ℕ) (o : Ordering) → label_cmp ns l m ≡ o → is_lt o ≡ false → (l ≡ m → ⊥) → StandsBefore ns m l
-not_less ns l m Less e h d = absurd (cc)
-not_less ns l m Equal e h d = absurd (d (equal_labels ns l m e))
-not_less ns l m Greater e h d = (label_total ns).antisymm m l ∙ ap ordering_reverse e
-
-with_label_formed : (ns : List (List ℕ)) (ks : List Kind) (l : ℕ) (u : PlainType) (ls : PlainLabels) → IsNew l ls → IsWellFormed ns ks u → LabelsAreWellFormed ns ks ls → LabelsAreWellFormed ns ks (with_label ns l u ls)
-with_label_formed ns ks l u no_label d w h = (tt, (w, tt))
-with_label_formed ns ks l u (labels m t ls) d w h = go (is_lt (label_cmp ns l m)) refl (with_label_formed ns ks l u ls d.1 w h.1.1)
+pub with_labelled_type_formed : (ns : List (List ℕ)) (ks : List Kind) (l : ℕ) (u : PlainType) (ls : PlainLabels) → IsNew l ls → IsWellFormed ns ks u → LabelsAreWellFormed ns ks ls → LabelsAreWellFormed ns ks (with_labelled_type ns l u ls)
+with_labelled_type_formed ns ks l u no_label d w h = (tt, (w, tt))
+with_labelled_type_formed ns ks l u (labels m t ls) d w h = go (is_lt (label_cmp ns l m)) refl (with_labelled_type_formed ns ks l u ls d.1 w h.1.1)
   where
-    go : (b : Bool) → is_lt (label_cmp ns l m) ≡ b → LabelsAreWellFormed ns ks (with_label ns l u ls) → LabelsAreWellFormed ns ks (if b then labels l u (labels m t ls) else labels m t (with_label ns l u ls))
+    go : (b : Bool) → is_lt (label_cmp ns l m) ≡ b → LabelsAreWellFormed ns ks (with_labelled_type ns l u ls) → LabelsAreWellFormed ns ks (if b then labels l u (labels m t ls) else labels m t (with_labelled_type ns l u ls))
     go true e r =
         let f = less_is (label_cmp ns l m) e in
         ((f, before_all ns l m ls f h.0), (w, h))
-    go false e r = (before_with ns m l u ls (not_less ns l m (label_cmp ns l m) refl e d.0) h.0, (h.1.0, r))
+    go false e r = (before_with ns m l u ls (stands_after ns l m (label_cmp ns l m) refl e d.0) h.0, (h.1.0, r))
 
 -- under type binders
 kind_of_binder : (ns : List (List ℕ)) (c : PlainContext) (ms : List ℕ) (k : Option KindTree) (b : Bound) → kind_by (kind_bound k (normal_bound ns c b)) ≡ kind_by (kind_bound k (raw_bound ns ms b))
-kind_of_binder ns c ms None no-bound = refl
-kind_of_binder ns c ms (Some Plain_) no-bound = refl
+kind_of_binder ns c ms None unbounded = refl
+kind_of_binder ns c ms (Some Plain_) unbounded = refl
 kind_of_binder ns c ms (Some (Operator_ n)) b = refl
 kind_of_binder ns c ms None (bound t) = kind_bound_by (normal ns c t) ∙ sym (kind_bound_by (raw ns ms t))
 kind_of_binder ns c ms (Some Plain_) (bound t) = kind_bound_by (normal ns c t) ∙ sym (kind_bound_by (raw ns ms t))
 
 pub names_of_under : (ns : List (List ℕ)) (c : PlainContext) (bs : TypeBinders) → names_in (under_binders ns c bs) ≡ names_under (names_in c) bs
-names_of_under ns c no-binders = refl
-names_of_under ns c (more-binders bs (type-binder s id k b)) = ap (λ x. id.name.0 ∷ x) (names_of_under ns c bs)
+names_of_under ns c no_binders = refl
+names_of_under ns c (more_binders bs (type_binder s id k b)) = ap (λ x. id.name.0 ∷ x) (names_of_under ns c bs)
 
 kinds_of_under : (ns : List (List ℕ)) (c : PlainContext) (bs : TypeBinders) → entry_kinds (under_binders ns c bs) ≡ kinds_under (entry_kinds c) (raw_binders ns (names_in c) bs)
-kinds_of_under ns c no-binders = refl
-kinds_of_under ns c (more-binders bs (type-binder s id k b)) =
+kinds_of_under ns c no_binders = refl
+kinds_of_under ns c (more_binders bs (type_binder s id k b)) =
     ap₂ (λ x y. x ∷ y) (kind_of_binder ns (under_binders ns c bs) (names_under (names_in c) bs) k b) (kinds_of_under ns c bs)
     ∙ sym (kinds_and (entry_kinds c) (raw_binders ns (names_in c) bs) (kind_bound k (raw_bound ns (names_under (names_in c) bs) b)))
 
@@ -185,17 +160,17 @@ both P {a' = a'} {b = b} p q h = subst (λ y. P a' y) q (subst (λ x. P x b) p h
 
 mutual
   pub raw_formed : (ns : List (List ℕ)) (c : PlainContext) (t : TypeTree) → HasDistinctLabels t → kind_stops ns c t ≡ [] → IsWellFormed ns (entry_kinds c) (raw ns (names_in c) t)
-  raw_formed ns c (top-type s) d k = tt
-  raw_formed ns c (int-type s) d k = tt
-  raw_formed ns c (char-type s) d k = tt
-  raw_formed ns c (string-type s) d k = tt
-  raw_formed ns c (bool-type s) d k = tt
-  raw_formed ns c (use-type s n) d k = variable_formed ns c s n.0 (place (names_in c) n.0) refl k
-  raw_formed ns c (both-type s t) d k = raw_formed ns c t d k
-  raw_formed ns c (read-type s t) d k = raw_formed ns c t d k
-  raw_formed ns c (write-type s t) d k = raw_formed ns c t d k
-  raw_formed ns c (respond-type s t) d k = raw_formed ns c t d k
-  raw_formed ns c (fields-type s bs ts ls) d k =
+  raw_formed ns c (top_type s) d k = tt
+  raw_formed ns c (int_type s) d k = tt
+  raw_formed ns c (char_type s) d k = tt
+  raw_formed ns c (string_type s) d k = tt
+  raw_formed ns c (bool_type s) d k = tt
+  raw_formed ns c (use_type s n) d k = variable_formed ns c s n.0 (place (names_in c) n.0) refl k
+  raw_formed ns c (both_type s t) d k = raw_formed ns c t d k
+  raw_formed ns c (read_type s t) d k = raw_formed ns c t d k
+  raw_formed ns c (write_type s t) d k = raw_formed ns c t d k
+  raw_formed ns c (respond_type s t) d k = raw_formed ns c t d k
+  raw_formed ns c (fields_type s bs ts ls) d k =
       let u = under_binders ns c bs in
       let first = none_first (binders_stops ns c bs ++ types_stops ns u ts) (labels_stops ns u ls) k in (
         raw_binders_formed ns c bs d.0 (none_first (binders_stops ns c bs) (types_stops ns u ts) first),
@@ -206,27 +181,27 @@ mutual
               (raw_labels_formed ns u ls d.1.1 (none_second (binders_stops ns c bs ++ types_stops ns u ts) (labels_stops ns u ls) k)),
         ),
       )
-  raw_formed ns c (apply-type s id ts) d k =
+  raw_formed ns c (apply_type s id ts) d k =
       applied_formed ns c s id.name.0 (count_trees ts) (raw_types ns (names_in c) ts) (place (names_in c) id.name.0) refl
       (none_first (apply_stops s (meaning c id.name.0) (count_trees ts)) (types_stops ns c ts) k) (count_raw ns (names_in c) ts)
       (raw_types_formed ns c ts d (none_second (apply_stops s (meaning c id.name.0) (count_trees ts)) (types_stops ns c ts) k))
-  raw_formed ns c (rec-type s id t) d k = raw_formed ns (entry_of id Free ∷ c) t d k
+  raw_formed ns c (rec_type s id t) d k = raw_formed ns (entry_of id Free ∷ c) t d k
 
   raw_types_formed : (ns : List (List ℕ)) (c : PlainContext) (ts : TypeTrees) → TypesHaveDistinctLabels ts → types_stops ns c ts ≡ [] → AreWellFormed ns (entry_kinds c) (raw_types ns (names_in c) ts)
-  raw_types_formed ns c no-types d k = tt
-  raw_types_formed ns c (more-types ts t) d k =
+  raw_types_formed ns c no_types d k = tt
+  raw_types_formed ns c (more_types ts t) d k =
       and_type_formed ns (entry_kinds c) (raw_types ns (names_in c) ts) (raw ns (names_in c) t)
       (raw_types_formed ns c ts d.0 (none_first (types_stops ns c ts) (kind_stops ns c t) k)) (raw_formed ns c t d.1 (none_second (types_stops ns c ts) (kind_stops ns c t) k))
 
   raw_labels_formed : (ns : List (List ℕ)) (c : PlainContext) (ls : LabelledTypes) → AreDistinct ls → labels_stops ns c ls ≡ [] → LabelsAreWellFormed ns (entry_kinds c) (raw_labels ns (names_in c) ls)
-  raw_labels_formed ns c no-labelled-types d k = tt
-  raw_labels_formed ns c (more-labelled-types ls id t) d k =
-      with_label_formed ns (entry_kinds c) id.name.0 (raw ns (names_in c) t) (raw_labels ns (names_in c) ls) (new_raw ns (names_in c) id.name.0 ls d.1.0)
+  raw_labels_formed ns c no_labelled_types d k = tt
+  raw_labels_formed ns c (more_labelled_types ls id t) d k =
+      with_labelled_type_formed ns (entry_kinds c) id.name.0 (raw ns (names_in c) t) (raw_labels ns (names_in c) ls) (new_raw ns (names_in c) id.name.0 ls d.1.0)
       (raw_formed ns c t d.1.1 (none_second (labels_stops ns c ls) (kind_stops ns c t) k)) (raw_labels_formed ns c ls d.0 (none_first (labels_stops ns c ls) (kind_stops ns c t) k))
 
   raw_binders_formed : (ns : List (List ℕ)) (c : PlainContext) (bs : TypeBinders) → BindersHaveDistinctLabels bs → binders_stops ns c bs ≡ [] → BoundsAreWellFormed ns (entry_kinds c) (raw_binders ns (names_in c) bs)
-  raw_binders_formed ns c no-binders d k = tt
-  raw_binders_formed ns c (more-binders bs b) d k =
+  raw_binders_formed ns c no_binders d k = tt
+  raw_binders_formed ns c (more_binders bs b) d k =
       let u = under_binders ns c bs in
       and_bound_formed ns (entry_kinds c) (raw_binders ns (names_in c) bs) (raw_binder ns (names_under (names_in c) bs) b)
       (raw_binders_formed ns c bs d.0 (none_first (binders_stops ns c bs) (binder_stops ns u b) k))
@@ -234,9 +209,9 @@ mutual
       (raw_binder_formed ns u b d.1 (none_second (binders_stops ns c bs) (binder_stops ns u b) k)))
 
   raw_binder_formed : (ns : List (List ℕ)) (c : PlainContext) (b : TypeBinder) → BinderHasDistinctLabels b → binder_stops ns c b ≡ [] → BoundIsWellFormed ns (entry_kinds c) (raw_binder ns (names_in c) b)
-  raw_binder_formed ns c (type-binder s id None no-bound) d k = tt
-  raw_binder_formed ns c (type-binder s id (Some Plain_) no-bound) d k = tt
-  raw_binder_formed ns c (type-binder s id (Some (Operator_ n)) no-bound) d k = tt
-  raw_binder_formed ns c (type-binder s id None (bound t)) d k = formed_bound_by ns (entry_kinds c) (raw ns (names_in c) t) (raw_formed ns c t d k)
-  raw_binder_formed ns c (type-binder s id (Some Plain_) (bound t)) d k = formed_bound_by ns (entry_kinds c) (raw ns (names_in c) t) (raw_formed ns c t d k)
-  raw_binder_formed ns c (type-binder s id (Some (Operator_ n)) (bound t)) d k = tt
+  raw_binder_formed ns c (type_binder s id None unbounded) d k = tt
+  raw_binder_formed ns c (type_binder s id (Some Plain_) unbounded) d k = tt
+  raw_binder_formed ns c (type_binder s id (Some (Operator_ n)) unbounded) d k = tt
+  raw_binder_formed ns c (type_binder s id None (bound t)) d k = formed_bound_by ns (entry_kinds c) (raw ns (names_in c) t) (raw_formed ns c t d k)
+  raw_binder_formed ns c (type_binder s id (Some Plain_) (bound t)) d k = formed_bound_by ns (entry_kinds c) (raw ns (names_in c) t) (raw_formed ns c t d k)
+  raw_binder_formed ns c (type_binder s id (Some (Operator_ n)) (bound t)) d k = tt

@@ -4,13 +4,13 @@ use Rattle.std.specs.Prelude.{nat_eq, if◌then◌else◌}
 use Rattle.std.specs.Ordering.{is_lt}
 use Rattle.pict_syntax.specs.declared.span.Span.{Span}
 use Rattle.pict_syntax.specs.declared.type_tree.KindTree.TheVariants.{Plain as Plain_, Operator as Operator_}
-use Rattle.pict_syntax.specs.Trees.{TypeTree, top-type, int-type, char-type, string-type, bool-type, use-type, both-type, read-type, write-type, respond-type, fields-type, apply-type, rec-type, TypeBinder, type-binder, no-bound, bound, TypeTrees, no-types, more-types, TypeBinders, no-binders, more-binders, LabelledTypes, no-labelled-types, more-labelled-types}
+use Rattle.pict_syntax.specs.Trees.{TypeTree, top_type, int_type, char_type, string_type, bool_type, use_type, both_type, read_type, write_type, respond_type, fields_type, apply_type, rec_type, TypeBinder, type_binder, unbounded, bound, TypeTrees, no_types, more_types, TypeBinders, no_binders, more_binders, LabelledTypes, no_labelled_types, more_labelled_types}
 use Rattle.pict_types.specs.Types.{PlainType, Top, Int, Char, Str, Boolean, Var, Apply, Chan, Fields, Rec, Both, Read, Write, Respond, PlainTypes, no_type, types, PlainLabels, no_label, labels, PlainBound, Free, Below, Operator, PlainBounds, no_bound, bounds, PlainArg, Plain, Op}
 use Rattle.pict_types.specs.Renaming.{rename}
 use Rattle.pict_types.specs.Replacing.{bound_by, Head, apply_head, rename_head, nothing, next_variable, apply_variable, Replacement, replacement_beyond, replacement_beyond_all, replace, replace_types, replace_labels, replace_bound, replace_bounds}
-use Rattle.pict_types.specs.Kinds.{label_cmp}
+use Rattle.pict_syntax.specs.Labels.{label_cmp}
 use Rattle.pict_types.specs.Entries.{PlainWhat, Variable, Definition, PlainEntry, PlainContext}
-use Rattle.pict_normal.specs.Normal.{Meaning, a_type, an_operator, of_bound, of_entry, behind_entry, meaning, meant_type, meant_head, and_type, and_bound, with_label, kind_bound, entry_of, normal, normal_types, normal_labels, normal_binders, normal_binder, normal_bound, under_binders, count_trees, Stop, use_stops, apply_stops, kind_stops, types_stops, labels_stops, binders_stops, binder_stops}
+use Rattle.pict_normal.specs.Normal.{Meaning, a_type, an_operator, of_bound, of_entry, behind_entry, meaning, meant_type, meant_head, and_type, and_bound, with_labelled_type, kind_bound, entry_of, normal, normal_types, normal_labels, normal_binders, normal_binder, normal_bound, under_binders, count_trees, Stop, use_stops, apply_stops, kind_stops, types_stops, labels_stops, binders_stops, binder_stops}
 use Rattle.pict_normal.specs.Meanings.{meanings, with_what}
 use Rattle.pict_types.specs.Places.{place, names_in}
 use Rattle.pict_normal.specs.Raw.{variable_at, names_under, raw, raw_types, raw_labels, raw_binders, raw_binder, raw_bound}
@@ -143,8 +143,8 @@ beyond_one_more no_bound b s = refl
 beyond_one_more (bounds d bs) b s = beyond_one_more bs b (replacement_beyond s)
 
 pub means_under : (ns : List (List ℕ)) {c : PlainContext} {ms : List ℕ} {s : Replacement} (bs : TypeBinders) → Means c ms s → Means (under_binders ns c bs) (names_under ms bs) (replacement_beyond_all (raw_binders ns ms bs) s)
-means_under ns no-binders h = h
-means_under ns {c = c} {ms = ms} {s = s} (more-binders bs (type-binder sp id k b)) h =
+means_under ns no_binders h = h
+means_under ns {c = c} {ms = ms} {s = s} (more_binders bs (type_binder sp id k b)) h =
     subst (Means (entry_of id (kind_bound k (normal_bound ns (under_binders ns c bs) b)) ∷ under_binders ns c bs) (id.name.0 ∷ names_under ms bs))
     (sym (beyond_one_more (raw_binders ns ms bs) (kind_bound k (raw_bound ns (names_under ms bs) b)) s))
     (means_variable id.name.0 (kind_bound k (normal_bound ns (under_binders ns c bs) b)) (means_under ns bs h))
@@ -158,11 +158,11 @@ and_bound_replaced : (s : Replacement) (bs : PlainBounds) (b : PlainBound) → r
 and_bound_replaced s no_bound b = refl
 and_bound_replaced s (bounds d bs) b = ap (bounds (replace_bound s d)) (and_bound_replaced (replacement_beyond s) bs b)
 
-with_label_replaced : (ns : List (List ℕ)) (s : Replacement) (l : ℕ) (u : PlainType) (ls : PlainLabels) → replace_labels s (with_label ns l u ls) ≡ with_label ns l (replace s u) (replace_labels s ls)
+with_label_replaced : (ns : List (List ℕ)) (s : Replacement) (l : ℕ) (u : PlainType) (ls : PlainLabels) → replace_labels s (with_labelled_type ns l u ls) ≡ with_labelled_type ns l (replace s u) (replace_labels s ls)
 with_label_replaced ns s l u no_label = refl
 with_label_replaced ns s l u (labels m t ls) = go (is_lt (label_cmp ns l m)) (with_label_replaced ns s l u ls)
   where
-    go : (x : Bool) → replace_labels s (with_label ns l u ls) ≡ with_label ns l (replace s u) (replace_labels s ls) → replace_labels s (if x then labels l u (labels m t ls) else labels m t (with_label ns l u ls)) ≡ (if x then labels l (replace s u) (labels m (replace s t) (replace_labels s ls)) else labels m (replace s t) (with_label ns l (replace s u) (replace_labels s ls)))
+    go : (x : Bool) → replace_labels s (with_labelled_type ns l u ls) ≡ with_labelled_type ns l (replace s u) (replace_labels s ls) → replace_labels s (if x then labels l u (labels m t ls) else labels m t (with_labelled_type ns l u ls)) ≡ (if x then labels l (replace s u) (labels m (replace s t) (replace_labels s ls)) else labels m (replace s t) (with_labelled_type ns l (replace s u) (replace_labels s ls)))
     go true h = refl
     go false h = ap (labels m (replace s t)) h
 
@@ -207,58 +207,58 @@ applied_replaced s (Some i) us = refl
 
 mutual
   pub raw_replaced : (ns : List (List ℕ)) {c : PlainContext} {ms : List ℕ} {s : Replacement} → Means c ms s → (t : TypeTree) → kind_stops ns c t ≡ [] → replace s (raw ns ms t) ≡ normal ns c t
-  raw_replaced ns h (top-type sp) k = refl
-  raw_replaced ns h (int-type sp) k = refl
-  raw_replaced ns h (char-type sp) k = refl
-  raw_replaced ns h (string-type sp) k = refl
-  raw_replaced ns h (bool-type sp) k = refl
-  raw_replaced ns {c = c} {ms = ms} {s = s} h (use-type sp n) k = variable_replaced s (place ms n.0) ∙ h.types_ n.0 (type_allowed sp (meaning c n.0) k)
-  raw_replaced ns h (both-type sp t) k = ap (Chan Both) (raw_replaced ns h t k)
-  raw_replaced ns h (read-type sp t) k = ap (Chan Read) (raw_replaced ns h t k)
-  raw_replaced ns h (write-type sp t) k = ap (Chan Write) (raw_replaced ns h t k)
-  raw_replaced ns h (respond-type sp t) k = ap (Chan Respond) (raw_replaced ns h t k)
-  raw_replaced ns {c = c} h (fields-type sp bs ts ls) k =
+  raw_replaced ns h (top_type sp) k = refl
+  raw_replaced ns h (int_type sp) k = refl
+  raw_replaced ns h (char_type sp) k = refl
+  raw_replaced ns h (string_type sp) k = refl
+  raw_replaced ns h (bool_type sp) k = refl
+  raw_replaced ns {c = c} {ms = ms} {s = s} h (use_type sp n) k = variable_replaced s (place ms n.0) ∙ h.types_ n.0 (type_allowed sp (meaning c n.0) k)
+  raw_replaced ns h (both_type sp t) k = ap (Chan Both) (raw_replaced ns h t k)
+  raw_replaced ns h (read_type sp t) k = ap (Chan Read) (raw_replaced ns h t k)
+  raw_replaced ns h (write_type sp t) k = ap (Chan Write) (raw_replaced ns h t k)
+  raw_replaced ns h (respond_type sp t) k = ap (Chan Respond) (raw_replaced ns h t k)
+  raw_replaced ns {c = c} h (fields_type sp bs ts ls) k =
       let d = under_binders ns c bs in
       let first = none_first (binders_stops ns c bs ++ types_stops ns d ts) (labels_stops ns d ls) k in
       three Fields
       (raw_binders_replaced ns h bs (none_first (binders_stops ns c bs) (types_stops ns d ts) first))
       (raw_types_replaced ns (means_under ns bs h) ts (none_second (binders_stops ns c bs) (types_stops ns d ts) first))
       (raw_labels_replaced ns (means_under ns bs h) ls (none_second (binders_stops ns c bs ++ types_stops ns d ts) (labels_stops ns d ls) k))
-  raw_replaced ns {c = c} {ms = ms} {s = s} h (apply-type sp id ts) k =
+  raw_replaced ns {c = c} {ms = ms} {s = s} h (apply_type sp id ts) k =
       applied_replaced s (place ms id.name.0) (raw_types ns ms ts)
       ∙ ap₂ apply_head
       (h.heads_ id.name.0 (head_allowed sp (meaning c id.name.0) (count_trees ts) (none_first (apply_stops sp (meaning c id.name.0) (count_trees ts)) (types_stops ns c ts) k)))
       (raw_types_replaced ns h ts (none_second (apply_stops sp (meaning c id.name.0) (count_trees ts)) (types_stops ns c ts) k))
-  raw_replaced ns h (rec-type sp id t) k = ap Rec (raw_replaced ns (means_variable id.name.0 Free h) t k)
+  raw_replaced ns h (rec_type sp id t) k = ap Rec (raw_replaced ns (means_variable id.name.0 Free h) t k)
 
   pub raw_types_replaced : (ns : List (List ℕ)) {c : PlainContext} {ms : List ℕ} {s : Replacement} → Means c ms s → (ts : TypeTrees) → types_stops ns c ts ≡ [] → replace_types s (raw_types ns ms ts) ≡ normal_types ns c ts
-  raw_types_replaced ns h no-types k = refl
-  raw_types_replaced ns {c = c} {ms = ms} {s = s} h (more-types ts t) k =
+  raw_types_replaced ns h no_types k = refl
+  raw_types_replaced ns {c = c} {ms = ms} {s = s} h (more_types ts t) k =
       and_type_replaced s (raw_types ns ms ts) (raw ns ms t)
       ∙ ap₂ and_type (raw_types_replaced ns h ts (none_first (types_stops ns c ts) (kind_stops ns c t) k)) (raw_replaced ns h t (none_second (types_stops ns c ts) (kind_stops ns c t) k))
 
   pub raw_labels_replaced : (ns : List (List ℕ)) {c : PlainContext} {ms : List ℕ} {s : Replacement} → Means c ms s → (ls : LabelledTypes) → labels_stops ns c ls ≡ [] → replace_labels s (raw_labels ns ms ls) ≡ normal_labels ns c ls
-  raw_labels_replaced ns h no-labelled-types k = refl
-  raw_labels_replaced ns {c = c} {ms = ms} {s = s} h (more-labelled-types ls id t) k =
+  raw_labels_replaced ns h no_labelled_types k = refl
+  raw_labels_replaced ns {c = c} {ms = ms} {s = s} h (more_labelled_types ls id t) k =
       with_label_replaced ns s id.name.0 (raw ns ms t) (raw_labels ns ms ls)
-      ∙ ap₂ (with_label ns id.name.0) (raw_replaced ns h t (none_second (labels_stops ns c ls) (kind_stops ns c t) k)) (raw_labels_replaced ns h ls (none_first (labels_stops ns c ls) (kind_stops ns c t) k))
+      ∙ ap₂ (with_labelled_type ns id.name.0) (raw_replaced ns h t (none_second (labels_stops ns c ls) (kind_stops ns c t) k)) (raw_labels_replaced ns h ls (none_first (labels_stops ns c ls) (kind_stops ns c t) k))
 
   pub raw_binders_replaced : (ns : List (List ℕ)) {c : PlainContext} {ms : List ℕ} {s : Replacement} → Means c ms s → (bs : TypeBinders) → binders_stops ns c bs ≡ [] → replace_bounds s (raw_binders ns ms bs) ≡ normal_binders ns c bs
-  raw_binders_replaced ns h no-binders k = refl
-  raw_binders_replaced ns {c = c} {ms = ms} {s = s} h (more-binders bs b) k =
+  raw_binders_replaced ns h no_binders k = refl
+  raw_binders_replaced ns {c = c} {ms = ms} {s = s} h (more_binders bs b) k =
       let d = under_binders ns c bs in
       and_bound_replaced s (raw_binders ns ms bs) (raw_binder ns (names_under ms bs) b)
       ∙ ap₂ and_bound (raw_binders_replaced ns h bs (none_first (binders_stops ns c bs) (binder_stops ns d b) k)) (raw_binder_replaced ns (means_under ns bs h) b (none_second (binders_stops ns c bs) (binder_stops ns d b) k))
 
   raw_binder_replaced : (ns : List (List ℕ)) {c : PlainContext} {ms : List ℕ} {s : Replacement} → Means c ms s → (b : TypeBinder) → binder_stops ns c b ≡ [] → replace_bound s (raw_binder ns ms b) ≡ normal_binder ns c b
-  raw_binder_replaced ns h (type-binder sp id None no-bound) k = refl
-  raw_binder_replaced ns h (type-binder sp id (Some Plain_) no-bound) k = refl
-  raw_binder_replaced ns h (type-binder sp id (Some (Operator_ n)) no-bound) k = refl
-  raw_binder_replaced ns {ms = ms} {s = s} h (type-binder sp id None (bound t)) k =
+  raw_binder_replaced ns h (type_binder sp id None unbounded) k = refl
+  raw_binder_replaced ns h (type_binder sp id (Some Plain_) unbounded) k = refl
+  raw_binder_replaced ns h (type_binder sp id (Some (Operator_ n)) unbounded) k = refl
+  raw_binder_replaced ns {ms = ms} {s = s} h (type_binder sp id None (bound t)) k =
       bound_by_replaced s (raw ns ms t) ∙ ap bound_by (raw_replaced ns h t k)
-  raw_binder_replaced ns {ms = ms} {s = s} h (type-binder sp id (Some Plain_) (bound t)) k =
+  raw_binder_replaced ns {ms = ms} {s = s} h (type_binder sp id (Some Plain_) (bound t)) k =
       bound_by_replaced s (raw ns ms t) ∙ ap bound_by (raw_replaced ns h t k)
-  raw_binder_replaced ns h (type-binder sp id (Some (Operator_ n)) (bound t)) k = refl
+  raw_binder_replaced ns h (type_binder sp id (Some (Operator_ n)) (bound t)) k = refl
 
 -- the normal form is what the entries of the context mean, put for the names
 pub raw_normal : (ns : List (List ℕ)) (c : PlainContext) (t : TypeTree) → kind_stops ns c t ≡ [] → normal ns c t ≡ replace (meanings c) (raw ns (names_in c) t)

@@ -15,7 +15,7 @@ use Rattle.pict_normal.specs.Normal.{Meaning, a_type, an_operator, meaning, use_
 use Rattle.pict_types.specs.Types.{is_top}
 use Rattle.pict_types.specs.Places.{place, names_in, arity_at}
 use Rattle.pict_normal.specs.Raw.{raw}
-use Rattle.pict_normal.specs.Refusals.{IsHead}
+use Rattle.pict_normal.specs.Refusals.{BeginsWith}
 use Rattle.pict_normal.proofs.BinderPlaces.{kind_meant, kind_there, kind_named}
 use Rattle.pict_normal.proofs.RawNormal.{raw_normal}
 
@@ -25,7 +25,7 @@ use_kind s None h = refl
 use_kind s (Some (a_type t)) h = refl
 use_kind s (Some (an_operator n x)) h = absurd (cc)
 
-use_head : (s : Span) (o : Option Meaning) (k : ℕ) → kind_meant o ≡ Some (Some k) → IsHead (use_stops s o) (K2, s)
+use_head : (s : Span) (o : Option Meaning) (k : ℕ) → kind_meant o ≡ Some (Some k) → BeginsWith (use_stops s o) (K2, s)
 use_head s None k h = absurd (cc)
 use_head s (Some (a_type t)) k h = absurd (cc)
 use_head s (Some (an_operator n x)) k h = refl
@@ -36,7 +36,7 @@ kind_is c n i k h e = kind_named c n ∙ ap (kind_there c) h ∙ ap Some e
 pub use_type : (s : Span) (c : PlainContext) (n i : ℕ) → place (names_in c) n ≡ Some i → arity_at c i ≡ None → use_stops s (meaning c n) ≡ []
 use_type s c n i h e = use_kind s (meaning c n) (kind_is c n i None h e)
 
-pub use_operator : (s : Span) (c : PlainContext) (n i k : ℕ) → place (names_in c) n ≡ Some i → arity_at c i ≡ Some k → IsHead (use_stops s (meaning c n)) (K2, s)
+pub use_operator : (s : Span) (c : PlainContext) (n i k : ℕ) → place (names_in c) n ≡ Some i → arity_at c i ≡ Some k → BeginsWith (use_stops s (meaning c n)) (K2, s)
 use_operator s c n i k h e = use_head s (meaning c n) k (kind_is c n i (Some k) h e)
 
 -- a name with arguments
@@ -45,7 +45,7 @@ apply_none s None k h = refl
 apply_none s (Some (a_type t)) k h = absurd (cc)
 apply_none s (Some (an_operator n x)) k h = absurd (cc)
 
-apply_head_type : (s : Span) (o : Option Meaning) (k : ℕ) → kind_meant o ≡ Some None → IsHead (apply_stops s o k) (K1, s)
+apply_head_type : (s : Span) (o : Option Meaning) (k : ℕ) → kind_meant o ≡ Some None → BeginsWith (apply_stops s o k) (K1, s)
 apply_head_type s None k h = absurd (cc)
 apply_head_type s (Some (a_type t)) k h = refl
 apply_head_type s (Some (an_operator n x)) k h = absurd (cc)
@@ -55,17 +55,17 @@ apply_same s None k h = absurd (cc)
 apply_same s (Some (a_type t)) k h = absurd (cc)
 apply_same s (Some (an_operator n x)) k h = let e : n ≡ k = cc in ap (λ b. if b then [] else (K1, s) ∷ []) (eq-eqb n k e)
 
-apply_head_other : (s : Span) (o : Option Meaning) (k m : ℕ) → kind_meant o ≡ Some (Some m) → nat_eq m k ≡ false → IsHead (apply_stops s o k) (K1, s)
+apply_head_other : (s : Span) (o : Option Meaning) (k m : ℕ) → kind_meant o ≡ Some (Some m) → nat_eq m k ≡ false → BeginsWith (apply_stops s o k) (K1, s)
 apply_head_other s None k m h d = absurd (cc)
 apply_head_other s (Some (a_type t)) k m h d = absurd (cc)
 apply_head_other s (Some (an_operator n x)) k m h d =
     let e : n ≡ m = cc in
-    subst (λ b. IsHead (if b then [] else (K1, s) ∷ []) (K1, s)) (sym (ap (λ y. nat_eq y k) e ∙ d)) refl
+    subst (λ b. BeginsWith (if b then [] else (K1, s) ∷ []) (K1, s)) (sym (ap (λ y. nat_eq y k) e ∙ d)) refl
 
 pub apply_missing : (s : Span) (c : PlainContext) (n k : ℕ) → place (names_in c) n ≡ None → apply_stops s (meaning c n) k ≡ []
 apply_missing s c n k h = apply_none s (meaning c n) k (kind_named c n ∙ ap (kind_there c) h)
 
-pub apply_type : (s : Span) (c : PlainContext) (n i k : ℕ) → place (names_in c) n ≡ Some i → arity_at c i ≡ None → IsHead (apply_stops s (meaning c n) k) (K1, s)
+pub apply_type : (s : Span) (c : PlainContext) (n i k : ℕ) → place (names_in c) n ≡ Some i → arity_at c i ≡ None → BeginsWith (apply_stops s (meaning c n) k) (K1, s)
 apply_type s c n i k h e = apply_head_type s (meaning c n) k (kind_is c n i None h e)
 
 pub apply_fits : (s : Span) (c : PlainContext) (n i k m : ℕ) → place (names_in c) n ≡ Some i → arity_at c i ≡ Some m → m ≡ k → apply_stops s (meaning c n) k ≡ []
@@ -78,7 +78,7 @@ not_same m k d = go (nat_eq m k) refl
     go true e = absurd (d (eqb-true m k e))
     go false e = refl
 
-pub apply_other : (s : Span) (c : PlainContext) (n i k m : ℕ) → place (names_in c) n ≡ Some i → arity_at c i ≡ Some m → (m ≡ k → ⊥) → IsHead (apply_stops s (meaning c n) k) (K1, s)
+pub apply_other : (s : Span) (c : PlainContext) (n i k m : ℕ) → place (names_in c) n ≡ Some i → arity_at c i ≡ Some m → (m ≡ k → ⊥) → BeginsWith (apply_stops s (meaning c n) k) (K1, s)
 apply_other s c n i k m h e d = apply_head_other s (meaning c n) k m (kind_is c n i (Some m) h e) (not_same m k d)
 
 -- an operator variable with a bound
@@ -90,7 +90,7 @@ operator_fits ns d id n t u none is top =
     ap (λ x. bound_stops id (Some (Operator_ n)) x (normal ns d t)) none
     ∙ ap (λ b. if b then [] else (K3, id.span) ∷ []) (top_is ns d t u true none is top)
 
-pub operator_refused : (ns : List (List ℕ)) (d : PlainContext) (id : Id) (n : ℕ) (t : TypeTree) (u : PlainType) → kind_stops ns d t ≡ [] → u ≡ raw ns (names_in d) t → false ≡ is_top (replace (meanings d) u) → IsHead (bound_stops id (Some (Operator_ n)) (kind_stops ns d t) (normal ns d t)) (K3, id.span)
+pub operator_refused : (ns : List (List ℕ)) (d : PlainContext) (id : Id) (n : ℕ) (t : TypeTree) (u : PlainType) → kind_stops ns d t ≡ [] → u ≡ raw ns (names_in d) t → false ≡ is_top (replace (meanings d) u) → BeginsWith (bound_stops id (Some (Operator_ n)) (kind_stops ns d t) (normal ns d t)) (K3, id.span)
 operator_refused ns d id n t u none is top =
-    subst (λ x. IsHead (bound_stops id (Some (Operator_ n)) x (normal ns d t)) (K3, id.span)) (sym none)
-    (subst (λ b. IsHead (if b then [] else (K3, id.span) ∷ []) (K3, id.span)) (sym (top_is ns d t u false none is top)) refl)
+    subst (λ x. BeginsWith (bound_stops id (Some (Operator_ n)) x (normal ns d t)) (K3, id.span)) (sym none)
+    (subst (λ b. BeginsWith (if b then [] else (K3, id.span) ∷ []) (K3, id.span)) (sym (top_is ns d t u false none is top)) refl)

@@ -8,8 +8,8 @@ use Rattle.pict_syntax.specs.declared.type_tree.TypeTree.TheBlock.{hidden-the_ro
 use Rattle.pict_syntax.specs.declared.type_tree.TypeTree.{TypeTree as RTypeTree, Fields as TypeFields, Apply as TypeApply, Row_of-TypeTree, end_of-TypeTree, more_of-TypeTree, Row_of-TypeBinder, end_of-TypeBinder, more_of-TypeBinder, Row_of-LabelledType, end_of-LabelledType, more_of-LabelledType, items-the_row-TypeTree, items-the_row-TypeBinder, items-the_row-LabelledType, items_hidden-the_row-TypeBinder-0, items_hidden-the_row-TypeTree-1, items_hidden-the_row-LabelledType-2}
 use Rattle.pict_syntax.specs.declared.type_tree.TypeBinder.{TypeBinder as RTypeBinder, None', Some'}
 use Rattle.pict_syntax.specs.declared.type_tree.LabelledType.{LabelledType as RLabelledType}
-use Rattle.pict_syntax.specs.Trees.{fields-type, apply-type, TypeTrees, no-types, more-types, TypeBinders, type-binder, no-binders, more-binders, LabelledTypes, no-labelled-types, more-labelled-types}
-use Rattle.pict_syntax.specs.PlainTrees.{type_of, bound_of, binder_of, types-row, binders-row, labelled-types-row, types-on, binders-on, labelled-types-on}
+use Rattle.pict_syntax.specs.Trees.{fields_type, apply_type, TypeTrees, no_types, more_types, TypeBinders, type_binder, no_binders, more_binders, LabelledTypes, no_labelled_types, more_labelled_types}
+use Rattle.pict_syntax.specs.PlainTrees.{type_of, bound_of, binder_of, types_row, binders_row, labelled_types_row, types_on, binders_on, labelled_types_on}
 use Rattle.pict_normal.specs.declared.stops.KindError.{KindError}
 use Rattle.pict_normal.specs.declared.stops.KindError.TheVariants.{Named, Memory}
 use Rattle.pict_types.specs.declared.types.Ty.{Ty}
@@ -25,70 +25,70 @@ three : {A B C D : Type 0} (k : A → B → C → D) {a a' : A} {b b' : B} {c c'
 three k p q r = cc
 
 -- the rows that stand in trees
-types_row_on : {n : _} (ts : TypeTrees) (k : Row_of-TypeTree n) → types-row ts k ≡ types-on ts (items-the_row-TypeTree n k)
-unfolding types-on type_of
+types_row_on : {n : _} (ts : TypeTrees) (k : Row_of-TypeTree n) → types_row ts k ≡ types_on ts (items-the_row-TypeTree n k)
+unfolding types_on type_of
 types_row_on ts end_of-TypeTree = refl
-types_row_on ts (more_of-TypeTree t k) = types_row_on (more-types ts (type_of t)) k
+types_row_on ts (more_of-TypeTree t k) = types_row_on (more_types ts (type_of t)) k
 
-binders_row_on : {n : _} (bs : TypeBinders) (k : Row_of-TypeBinder n) → binders-row bs k ≡ binders-on bs (items-the_row-TypeBinder n k)
-unfolding binders-on type_of
+binders_row_on : {n : _} (bs : TypeBinders) (k : Row_of-TypeBinder n) → binders_row bs k ≡ binders_on bs (items-the_row-TypeBinder n k)
+unfolding binders_on type_of
 binders_row_on bs end_of-TypeBinder = refl
-binders_row_on bs (more_of-TypeBinder s i c None' k) = binders_row_on (more-binders bs (type-binder s i c (bound_of None'))) k
-binders_row_on bs (more_of-TypeBinder s i c (Some' p t) k) = binders_row_on (more-binders bs (type-binder s i c (bound_of (Some' p t)))) k
+binders_row_on bs (more_of-TypeBinder s i c None' k) = binders_row_on (more_binders bs (type_binder s i c (bound_of None'))) k
+binders_row_on bs (more_of-TypeBinder s i c (Some' p t) k) = binders_row_on (more_binders bs (type_binder s i c (bound_of (Some' p t)))) k
 
-labelled_row_on : {n : _} (ls : LabelledTypes) (k : Row_of-LabelledType n) → labelled-types-row ls k ≡ labelled-types-on ls (items-the_row-LabelledType n k)
-unfolding labelled-types-on type_of
+labelled_row_on : {n : _} (ls : LabelledTypes) (k : Row_of-LabelledType n) → labelled_types_row ls k ≡ labelled_types_on ls (items-the_row-LabelledType n k)
+unfolding labelled_types_on type_of
 labelled_row_on ls end_of-LabelledType = refl
-labelled_row_on ls (more_of-LabelledType i t k) = labelled_row_on (more-labelled-types ls i (type_of t)) k
+labelled_row_on ls (more_of-LabelledType i t k) = labelled_row_on (more_labelled_types ls i (type_of t)) k
 
-types_held : (ts : Vec RTypeTree Global) → types-row no-types (hidden-the_row-TypeTree-1 ts) ≡ types-on no-types ts.items
-types_held ts = types_row_on no-types (hidden-the_row-TypeTree-1 ts) ∙ ap (types-on no-types) (items_hidden-the_row-TypeTree-1 ts)
+types_held : (ts : Vec RTypeTree Global) → types_row no_types (hidden-the_row-TypeTree-1 ts) ≡ types_on no_types ts.items
+types_held ts = types_row_on no_types (hidden-the_row-TypeTree-1 ts) ∙ ap (types_on no_types) (items_hidden-the_row-TypeTree-1 ts)
 
-binders_held : (bs : Vec RTypeBinder Global) → binders-row no-binders (hidden-the_row-TypeBinder-0 bs) ≡ binders-on no-binders bs.items
-binders_held bs = binders_row_on no-binders (hidden-the_row-TypeBinder-0 bs) ∙ ap (binders-on no-binders) (items_hidden-the_row-TypeBinder-0 bs)
+binders_held : (bs : Vec RTypeBinder Global) → binders_row no_binders (hidden-the_row-TypeBinder-0 bs) ≡ binders_on no_binders bs.items
+binders_held bs = binders_row_on no_binders (hidden-the_row-TypeBinder-0 bs) ∙ ap (binders_on no_binders) (items_hidden-the_row-TypeBinder-0 bs)
 
-labelled_held : (ls : Vec RLabelledType Global) → labelled-types-row no-labelled-types (hidden-the_row-LabelledType-2 ls) ≡ labelled-types-on no-labelled-types ls.items
-labelled_held ls = labelled_row_on no-labelled-types (hidden-the_row-LabelledType-2 ls) ∙ ap (labelled-types-on no-labelled-types) (items_hidden-the_row-LabelledType-2 ls)
+labelled_held : (ls : Vec RLabelledType Global) → labelled_types_row no_labelled_types (hidden-the_row-LabelledType-2 ls) ≡ labelled_types_on no_labelled_types ls.items
+labelled_held ls = labelled_row_on no_labelled_types (hidden-the_row-LabelledType-2 ls) ∙ ap (labelled_types_on no_labelled_types) (items_hidden-the_row-LabelledType-2 ls)
 
-pub fields_type_is : (s : Span) (bs : Vec RTypeBinder Global) (ts : Vec RTypeTree Global) (ls : Vec RLabelledType Global) → type_of (TypeFields s bs ts ls) ≡ fields-type s (binders-on no-binders bs.items) (types-on no-types ts.items) (labelled-types-on no-labelled-types ls.items)
+pub fields_type_is : (s : Span) (bs : Vec RTypeBinder Global) (ts : Vec RTypeTree Global) (ls : Vec RLabelledType Global) → type_of (TypeFields s bs ts ls) ≡ fields_type s (binders_on no_binders bs.items) (types_on no_types ts.items) (labelled_types_on no_labelled_types ls.items)
 unfolding type_of
 fields_type_is s bs ts ls =
-    ap (λ x. fields-type s x (types-row no-types (hidden-the_row-TypeTree-1 ts)) (labelled-types-row no-labelled-types (hidden-the_row-LabelledType-2 ls))) (binders_held bs)
-    ∙ ap (λ x. fields-type s (binders-on no-binders bs.items) x (labelled-types-row no-labelled-types (hidden-the_row-LabelledType-2 ls))) (types_held ts)
-    ∙ ap (λ x. fields-type s (binders-on no-binders bs.items) (types-on no-types ts.items) x) (labelled_held ls)
+    ap (λ x. fields_type s x (types_row no_types (hidden-the_row-TypeTree-1 ts)) (labelled_types_row no_labelled_types (hidden-the_row-LabelledType-2 ls))) (binders_held bs)
+    ∙ ap (λ x. fields_type s (binders_on no_binders bs.items) x (labelled_types_row no_labelled_types (hidden-the_row-LabelledType-2 ls))) (types_held ts)
+    ∙ ap (λ x. fields_type s (binders_on no_binders bs.items) (types_on no_types ts.items) x) (labelled_held ls)
 
-pub apply_type_is : (s : Span) (i : Id) (ts : Vec RTypeTree Global) → type_of (TypeApply s i ts) ≡ apply-type s i (types-on no-types ts.items)
+pub apply_type_is : (s : Span) (i : Id) (ts : Vec RTypeTree Global) → type_of (TypeApply s i ts) ≡ apply_type s i (types_on no_types ts.items)
 unfolding type_of
-apply_type_is s i ts = ap (λ x. apply-type s i x) (types_held ts)
+apply_type_is s i ts = ap (λ x. apply_type s i x) (types_held ts)
 
 -- an empty list
-pub types_none : types-on no-types [] ≡ no-types
-unfolding types-on
+pub types_none : types_on no_types [] ≡ no_types
+unfolding types_on
 types_none = refl
 
-pub binders_none : binders-on no-binders [] ≡ no-binders
-unfolding binders-on
+pub binders_none : binders_on no_binders [] ≡ no_binders
+unfolding binders_on
 binders_none = refl
 
-pub labelled_none : labelled-types-on no-labelled-types [] ≡ no-labelled-types
-unfolding labelled-types-on
+pub labelled_none : labelled_types_on no_labelled_types [] ≡ no_labelled_types
+unfolding labelled_types_on
 labelled_none = refl
 
 -- one list behind another
-types_append : (ts : TypeTrees) (xs ys : List RTypeTree) → types-on ts (xs ++ ys) ≡ types-on (types-on ts xs) ys
-unfolding types-on
+types_append : (ts : TypeTrees) (xs ys : List RTypeTree) → types_on ts (xs ++ ys) ≡ types_on (types_on ts xs) ys
+unfolding types_on
 types_append ts [] ys = refl
-types_append ts (x ∷ xs) ys = types_append (more-types ts (type_of x)) xs ys
+types_append ts (x ∷ xs) ys = types_append (more_types ts (type_of x)) xs ys
 
-binders_append : (bs : TypeBinders) (xs ys : List RTypeBinder) → binders-on bs (xs ++ ys) ≡ binders-on (binders-on bs xs) ys
-unfolding binders-on
+binders_append : (bs : TypeBinders) (xs ys : List RTypeBinder) → binders_on bs (xs ++ ys) ≡ binders_on (binders_on bs xs) ys
+unfolding binders_on
 binders_append bs [] ys = refl
-binders_append bs (x ∷ xs) ys = binders_append (more-binders bs (binder_of x)) xs ys
+binders_append bs (x ∷ xs) ys = binders_append (more_binders bs (binder_of x)) xs ys
 
-labelled_append : (ls : LabelledTypes) (xs ys : List RLabelledType) → labelled-types-on ls (xs ++ ys) ≡ labelled-types-on (labelled-types-on ls xs) ys
-unfolding labelled-types-on
+labelled_append : (ls : LabelledTypes) (xs ys : List RLabelledType) → labelled_types_on ls (xs ++ ys) ≡ labelled_types_on (labelled_types_on ls xs) ys
+unfolding labelled_types_on
 labelled_append ls [] ys = refl
-labelled_append ls (x ∷ xs) ys = labelled_append (more-labelled-types ls x.label (type_of x.of)) xs ys
+labelled_append ls (x ∷ xs) ys = labelled_append (more_labelled_types ls x.label (type_of x.of)) xs ys
 
 -- a list up to one more item
 take_one_more : {A : Type 0} (xs : List A) (i : ℕ) (d : A) → i < length xs → take (i + 1) xs ≡ take i xs ++ get_or xs i d ∷ []
@@ -104,77 +104,74 @@ split_at xs zero = refl
 split_at [] (suc i) = refl
 split_at (x ∷ xs) (suc i) = ap (λ l. x ∷ l) (split_at xs i)
 
-types_one : (ts : TypeTrees) (x : RTypeTree) → types-on ts (x ∷ []) ≡ more-types ts (type_of x)
-unfolding types-on
+types_one : (ts : TypeTrees) (x : RTypeTree) → types_on ts (x ∷ []) ≡ more_types ts (type_of x)
+unfolding types_on
 types_one ts x = refl
 
-binders_one : (bs : TypeBinders) (x : RTypeBinder) → binders-on bs (x ∷ []) ≡ more-binders bs (binder_of x)
-unfolding binders-on
+binders_one : (bs : TypeBinders) (x : RTypeBinder) → binders_on bs (x ∷ []) ≡ more_binders bs (binder_of x)
+unfolding binders_on
 binders_one bs x = refl
 
-labelled_one : (ls : LabelledTypes) (x : RLabelledType) → labelled-types-on ls (x ∷ []) ≡ more-labelled-types ls x.label (type_of x.of)
-unfolding labelled-types-on
+labelled_one : (ls : LabelledTypes) (x : RLabelledType) → labelled_types_on ls (x ∷ []) ≡ more_labelled_types ls x.label (type_of x.of)
+unfolding labelled_types_on
 labelled_one ls x = refl
 
-pub types_step : (xs : List RTypeTree) (i : ℕ) (d : RTypeTree) → i < length xs → types-on no-types (take (i + 1) xs) ≡ more-types (types-on no-types (take i xs)) (type_of (get_or xs i d))
-types_step xs i d h = ap (types-on no-types) (take_one_more xs i d h) ∙ types_append no-types (take i xs) (get_or xs i d ∷ []) ∙ types_one (types-on no-types (take i xs)) (get_or xs i d)
+pub types_step : (xs : List RTypeTree) (i : ℕ) (d : RTypeTree) → i < length xs → types_on no_types (take (i + 1) xs) ≡ more_types (types_on no_types (take i xs)) (type_of (get_or xs i d))
+types_step xs i d h = ap (types_on no_types) (take_one_more xs i d h) ∙ types_append no_types (take i xs) (get_or xs i d ∷ []) ∙ types_one (types_on no_types (take i xs)) (get_or xs i d)
 
-pub binders_step : (xs : List RTypeBinder) (i : ℕ) (d : RTypeBinder) → i < length xs → binders-on no-binders (take (i + 1) xs) ≡ more-binders (binders-on no-binders (take i xs)) (binder_of (get_or xs i d))
-binders_step xs i d h = ap (binders-on no-binders) (take_one_more xs i d h) ∙ binders_append no-binders (take i xs) (get_or xs i d ∷ []) ∙ binders_one (binders-on no-binders (take i xs)) (get_or xs i d)
+pub binders_step : (xs : List RTypeBinder) (i : ℕ) (d : RTypeBinder) → i < length xs → binders_on no_binders (take (i + 1) xs) ≡ more_binders (binders_on no_binders (take i xs)) (binder_of (get_or xs i d))
+binders_step xs i d h = ap (binders_on no_binders) (take_one_more xs i d h) ∙ binders_append no_binders (take i xs) (get_or xs i d ∷ []) ∙ binders_one (binders_on no_binders (take i xs)) (get_or xs i d)
 
-pub labelled_step : (xs : List RLabelledType) (i : ℕ) (d : RLabelledType) → i < length xs → labelled-types-on no-labelled-types (take (i + 1) xs) ≡ more-labelled-types (labelled-types-on no-labelled-types (take i xs)) (get_or xs i d).label (type_of (get_or xs i d).of)
-labelled_step xs i d h = ap (labelled-types-on no-labelled-types) (take_one_more xs i d h) ∙ labelled_append no-labelled-types (take i xs) (get_or xs i d ∷ []) ∙ labelled_one (labelled-types-on no-labelled-types (take i xs)) (get_or xs i d)
+pub labelled_step : (xs : List RLabelledType) (i : ℕ) (d : RLabelledType) → i < length xs → labelled_types_on no_labelled_types (take (i + 1) xs) ≡ more_labelled_types (labelled_types_on no_labelled_types (take i xs)) (get_or xs i d).label (type_of (get_or xs i d).of)
+labelled_step xs i d h = ap (labelled_types_on no_labelled_types) (take_one_more xs i d h) ∙ labelled_append no_labelled_types (take i xs) (get_or xs i d ∷ []) ∙ labelled_one (labelled_types_on no_labelled_types (take i xs)) (get_or xs i d)
 
-pub types_end : (xs : List RTypeTree) (i : ℕ) → length xs ≤ i → types-on no-types (take i xs) ≡ types-on no-types xs
-types_end xs i h = let e : take i xs ≡ xs = take_all i xs h in ap (types-on no-types) e
+pub types_end : (xs : List RTypeTree) (i : ℕ) → length xs ≤ i → types_on no_types (take i xs) ≡ types_on no_types xs
+types_end xs i h = let e : take i xs ≡ xs = take_all i xs h in ap (types_on no_types) e
 
-pub binders_end : (xs : List RTypeBinder) (i : ℕ) → length xs ≤ i → binders-on no-binders (take i xs) ≡ binders-on no-binders xs
-binders_end xs i h = let e : take i xs ≡ xs = take_all i xs h in ap (binders-on no-binders) e
-
-pub labelled_end : (xs : List RLabelledType) (i : ℕ) → length xs ≤ i → labelled-types-on no-labelled-types (take i xs) ≡ labelled-types-on no-labelled-types xs
-labelled_end xs i h = let e : take i xs ≡ xs = take_all i xs h in ap (labelled-types-on no-labelled-types) e
+pub labelled_end : (xs : List RLabelledType) (i : ℕ) → length xs ≤ i → labelled_types_on no_labelled_types (take i xs) ≡ labelled_types_on no_labelled_types xs
+labelled_end xs i h = let e : take i xs ≡ xs = take_all i xs h in ap (labelled_types_on no_labelled_types) e
 
 -- as many trees as the list has
-count_on : (ts : TypeTrees) (xs : List RTypeTree) → count_trees (types-on ts xs) ≡ count_trees ts + length xs
-unfolding types-on
+count_on : (ts : TypeTrees) (xs : List RTypeTree) → count_trees (types_on ts xs) ≡ count_trees ts + length xs
+unfolding types_on
 count_on ts [] = omega arith
-count_on ts (x ∷ xs) = omega (arith, count_on (more-types ts (type_of x)) xs)
+count_on ts (x ∷ xs) = omega (arith, count_on (more_types ts (type_of x)) xs)
 
-pub count_trees_on : (xs : List RTypeTree) → count_trees (types-on no-types xs) ≡ length xs
-count_trees_on xs = omega (arith, count_on no-types xs)
+pub count_trees_on : (xs : List RTypeTree) → count_trees (types_on no_types xs) ≡ length xs
+count_trees_on xs = omega (arith, count_on no_types xs)
 
 -- an item has no more nodes than its list
-types_grow : (ts : TypeTrees) (xs : List RTypeTree) → nodes_of_types ts ≤ nodes_of_types (types-on ts xs)
-unfolding types-on
+types_grow : (ts : TypeTrees) (xs : List RTypeTree) → nodes_of_types ts ≤ nodes_of_types (types_on ts xs)
+unfolding types_on
 types_grow ts [] = omega arith
-types_grow ts (x ∷ xs) = omega (arith, types_grow (more-types ts (type_of x)) xs)
+types_grow ts (x ∷ xs) = omega (arith, types_grow (more_types ts (type_of x)) xs)
 
-pub nodes_of_type_item : (xs : List RTypeTree) (i : ℕ) (d : RTypeTree) → i < length xs → nodes (type_of (get_or xs i d)) ≤ nodes_of_types (types-on no-types xs)
+pub nodes_of_type_item : (xs : List RTypeTree) (i : ℕ) (d : RTypeTree) → i < length xs → nodes (type_of (get_or xs i d)) ≤ nodes_of_types (types_on no_types xs)
 nodes_of_type_item xs i d h =
-    let e : types-on no-types xs ≡ types-on (more-types (types-on no-types (take i xs)) (type_of (get_or xs i d))) (drop (i + 1) xs) = ap (types-on no-types) (split_at xs (i + 1)) ∙ types_append no-types (take (i + 1) xs) (drop (i + 1) xs) ∙ ap (λ x. types-on x (drop (i + 1) xs)) (types_step xs i d h) in
-    omega (arith, ap nodes_of_types e, types_grow (more-types (types-on no-types (take i xs)) (type_of (get_or xs i d))) (drop (i + 1) xs))
+    let e : types_on no_types xs ≡ types_on (more_types (types_on no_types (take i xs)) (type_of (get_or xs i d))) (drop (i + 1) xs) = ap (types_on no_types) (split_at xs (i + 1)) ∙ types_append no_types (take (i + 1) xs) (drop (i + 1) xs) ∙ ap (λ x. types_on x (drop (i + 1) xs)) (types_step xs i d h) in
+    omega (arith, ap nodes_of_types e, types_grow (more_types (types_on no_types (take i xs)) (type_of (get_or xs i d))) (drop (i + 1) xs))
 
-labelled_grow : (ls : LabelledTypes) (xs : List RLabelledType) → nodes_of_labels ls ≤ nodes_of_labels (labelled-types-on ls xs)
-unfolding labelled-types-on
+labelled_grow : (ls : LabelledTypes) (xs : List RLabelledType) → nodes_of_labels ls ≤ nodes_of_labels (labelled_types_on ls xs)
+unfolding labelled_types_on
 labelled_grow ls [] = omega arith
-labelled_grow ls (x ∷ xs) = omega (arith, labelled_grow (more-labelled-types ls x.label (type_of x.of)) xs)
+labelled_grow ls (x ∷ xs) = omega (arith, labelled_grow (more_labelled_types ls x.label (type_of x.of)) xs)
 
-pub nodes_of_label_item : (xs : List RLabelledType) (i : ℕ) (d : RLabelledType) → i < length xs → nodes (type_of (get_or xs i d).of) ≤ nodes_of_labels (labelled-types-on no-labelled-types xs)
+pub nodes_of_label_item : (xs : List RLabelledType) (i : ℕ) (d : RLabelledType) → i < length xs → nodes (type_of (get_or xs i d).of) ≤ nodes_of_labels (labelled_types_on no_labelled_types xs)
 nodes_of_label_item xs i d h =
     let x = get_or xs i d in
-    let l = more-labelled-types (labelled-types-on no-labelled-types (take i xs)) x.label (type_of x.of) in
-    let e : labelled-types-on no-labelled-types xs ≡ labelled-types-on l (drop (i + 1) xs) = ap (labelled-types-on no-labelled-types) (split_at xs (i + 1)) ∙ labelled_append no-labelled-types (take (i + 1) xs) (drop (i + 1) xs) ∙ ap (λ x. labelled-types-on x (drop (i + 1) xs)) (labelled_step xs i d h) in
+    let l = more_labelled_types (labelled_types_on no_labelled_types (take i xs)) x.label (type_of x.of) in
+    let e : labelled_types_on no_labelled_types xs ≡ labelled_types_on l (drop (i + 1) xs) = ap (labelled_types_on no_labelled_types) (split_at xs (i + 1)) ∙ labelled_append no_labelled_types (take (i + 1) xs) (drop (i + 1) xs) ∙ ap (λ x. labelled_types_on x (drop (i + 1) xs)) (labelled_step xs i d h) in
     omega (arith, ap nodes_of_labels e, labelled_grow l (drop (i + 1) xs))
 
-binders_grow : (bs : TypeBinders) (xs : List RTypeBinder) → nodes_of_binders bs ≤ nodes_of_binders (binders-on bs xs)
-unfolding binders-on
+binders_grow : (bs : TypeBinders) (xs : List RTypeBinder) → nodes_of_binders bs ≤ nodes_of_binders (binders_on bs xs)
+unfolding binders_on
 binders_grow bs [] = omega arith
-binders_grow bs (x ∷ xs) = omega (arith, binders_grow (more-binders bs (binder_of x)) xs)
+binders_grow bs (x ∷ xs) = omega (arith, binders_grow (more_binders bs (binder_of x)) xs)
 
-pub nodes_of_binder_item : (xs : List RTypeBinder) (i : ℕ) (d : RTypeBinder) → i < length xs → nodes_of_binders (binders-on no-binders (take i xs)) + nodes_of_binder (binder_of (get_or xs i d)) ≤ nodes_of_binders (binders-on no-binders xs)
+pub nodes_of_binder_item : (xs : List RTypeBinder) (i : ℕ) (d : RTypeBinder) → i < length xs → nodes_of_binders (binders_on no_binders (take i xs)) + nodes_of_binder (binder_of (get_or xs i d)) ≤ nodes_of_binders (binders_on no_binders xs)
 nodes_of_binder_item xs i d h =
-    let b = more-binders (binders-on no-binders (take i xs)) (binder_of (get_or xs i d)) in
-    let e : binders-on no-binders xs ≡ binders-on b (drop (i + 1) xs) = ap (binders-on no-binders) (split_at xs (i + 1)) ∙ binders_append no-binders (take (i + 1) xs) (drop (i + 1) xs) ∙ ap (λ x. binders-on x (drop (i + 1) xs)) (binders_step xs i d h) in
+    let b = more_binders (binders_on no_binders (take i xs)) (binder_of (get_or xs i d)) in
+    let e : binders_on no_binders xs ≡ binders_on b (drop (i + 1) xs) = ap (binders_on no_binders) (split_at xs (i + 1)) ∙ binders_append no_binders (take (i + 1) xs) (drop (i + 1) xs) ∙ ap (λ x. binders_on x (drop (i + 1) xs)) (binders_step xs i d h) in
     omega (arith, ap nodes_of_binders e, binders_grow b (drop (i + 1) xs))
 
 -- the first refusal of one list is the first of a longer one, and where there is none, that of the rest is
@@ -189,54 +186,54 @@ first_after xs ys e is h = subst (λ x. IsFirst (x ++ ys) e) (sym is) h
 pub none_both : (xs ys : List Stop) → xs ≡ [] → ys ≡ [] → xs ++ ys ≡ []
 none_both xs ys h k = ap₂ (λ x y. x ++ y) h k
 
-types_first_kept : (ns : List (List ℕ)) (c : PlainContext) (ts : TypeTrees) (xs : List RTypeTree) (e : KindError) → IsFirst (types_stops ns c ts) e → IsFirst (types_stops ns c (types-on ts xs)) e
-unfolding types-on
+types_first_kept : (ns : List (List ℕ)) (c : PlainContext) (ts : TypeTrees) (xs : List RTypeTree) (e : KindError) → IsFirst (types_stops ns c ts) e → IsFirst (types_stops ns c (types_on ts xs)) e
+unfolding types_on
 types_first_kept ns c ts [] e h = h
-types_first_kept ns c ts (x ∷ xs) e h = types_first_kept ns c (more-types ts (type_of x)) xs e (first_before (types_stops ns c ts) (kind_stops ns c (type_of x)) e h)
+types_first_kept ns c ts (x ∷ xs) e h = types_first_kept ns c (more_types ts (type_of x)) xs e (first_before (types_stops ns c ts) (kind_stops ns c (type_of x)) e h)
 
-pub types_first : (ns : List (List ℕ)) (c : PlainContext) (xs : List RTypeTree) (i : ℕ) (d : RTypeTree) (e : KindError) → i < length xs → types_stops ns c (types-on no-types (take i xs)) ≡ [] → IsFirst (kind_stops ns c (type_of (get_or xs i d))) e → IsFirst (types_stops ns c (types-on no-types xs)) e
+pub types_first : (ns : List (List ℕ)) (c : PlainContext) (xs : List RTypeTree) (i : ℕ) (d : RTypeTree) (e : KindError) → i < length xs → types_stops ns c (types_on no_types (take i xs)) ≡ [] → IsFirst (kind_stops ns c (type_of (get_or xs i d))) e → IsFirst (types_stops ns c (types_on no_types xs)) e
 types_first ns c xs i d e h none k =
-    let ts = types-on no-types (take i xs) in
+    let ts = types_on no_types (take i xs) in
     let x = type_of (get_or xs i d) in
-    let is : types-on no-types xs ≡ types-on (more-types ts x) (drop (i + 1) xs) = ap (types-on no-types) (split_at xs (i + 1)) ∙ types_append no-types (take (i + 1) xs) (drop (i + 1) xs) ∙ ap (λ x. types-on x (drop (i + 1) xs)) (types_step xs i d h) in
+    let is : types_on no_types xs ≡ types_on (more_types ts x) (drop (i + 1) xs) = ap (types_on no_types) (split_at xs (i + 1)) ∙ types_append no_types (take (i + 1) xs) (drop (i + 1) xs) ∙ ap (λ x. types_on x (drop (i + 1) xs)) (types_step xs i d h) in
     subst (λ l. IsFirst (types_stops ns c l) e) (sym is)
-    (types_first_kept ns c (more-types ts x) (drop (i + 1) xs) e (first_after (types_stops ns c ts) (kind_stops ns c x) e none k))
+    (types_first_kept ns c (more_types ts x) (drop (i + 1) xs) e (first_after (types_stops ns c ts) (kind_stops ns c x) e none k))
 
-labels_first_kept : (ns : List (List ℕ)) (c : PlainContext) (ls : LabelledTypes) (xs : List RLabelledType) (e : KindError) → IsFirst (labels_stops ns c ls) e → IsFirst (labels_stops ns c (labelled-types-on ls xs)) e
-unfolding labelled-types-on
+labels_first_kept : (ns : List (List ℕ)) (c : PlainContext) (ls : LabelledTypes) (xs : List RLabelledType) (e : KindError) → IsFirst (labels_stops ns c ls) e → IsFirst (labels_stops ns c (labelled_types_on ls xs)) e
+unfolding labelled_types_on
 labels_first_kept ns c ls [] e h = h
-labels_first_kept ns c ls (x ∷ xs) e h = labels_first_kept ns c (more-labelled-types ls x.label (type_of x.of)) xs e (first_before (labels_stops ns c ls) (kind_stops ns c (type_of x.of)) e h)
+labels_first_kept ns c ls (x ∷ xs) e h = labels_first_kept ns c (more_labelled_types ls x.label (type_of x.of)) xs e (first_before (labels_stops ns c ls) (kind_stops ns c (type_of x.of)) e h)
 
-pub labels_first : (ns : List (List ℕ)) (c : PlainContext) (xs : List RLabelledType) (i : ℕ) (d : RLabelledType) (e : KindError) → i < length xs → labels_stops ns c (labelled-types-on no-labelled-types (take i xs)) ≡ [] → IsFirst (kind_stops ns c (type_of (get_or xs i d).of)) e → IsFirst (labels_stops ns c (labelled-types-on no-labelled-types xs)) e
+pub labels_first : (ns : List (List ℕ)) (c : PlainContext) (xs : List RLabelledType) (i : ℕ) (d : RLabelledType) (e : KindError) → i < length xs → labels_stops ns c (labelled_types_on no_labelled_types (take i xs)) ≡ [] → IsFirst (kind_stops ns c (type_of (get_or xs i d).of)) e → IsFirst (labels_stops ns c (labelled_types_on no_labelled_types xs)) e
 labels_first ns c xs i d e h none k =
     let x = get_or xs i d in
-    let ls = labelled-types-on no-labelled-types (take i xs) in
-    let l = more-labelled-types ls x.label (type_of x.of) in
-    let is : labelled-types-on no-labelled-types xs ≡ labelled-types-on l (drop (i + 1) xs) = ap (labelled-types-on no-labelled-types) (split_at xs (i + 1)) ∙ labelled_append no-labelled-types (take (i + 1) xs) (drop (i + 1) xs) ∙ ap (λ x. labelled-types-on x (drop (i + 1) xs)) (labelled_step xs i d h) in
+    let ls = labelled_types_on no_labelled_types (take i xs) in
+    let l = more_labelled_types ls x.label (type_of x.of) in
+    let is : labelled_types_on no_labelled_types xs ≡ labelled_types_on l (drop (i + 1) xs) = ap (labelled_types_on no_labelled_types) (split_at xs (i + 1)) ∙ labelled_append no_labelled_types (take (i + 1) xs) (drop (i + 1) xs) ∙ ap (λ x. labelled_types_on x (drop (i + 1) xs)) (labelled_step xs i d h) in
     subst (λ l. IsFirst (labels_stops ns c l) e) (sym is)
     (labels_first_kept ns c l (drop (i + 1) xs) e (first_after (labels_stops ns c ls) (kind_stops ns c (type_of x.of)) e none k))
 
-binders_first_kept : (ns : List (List ℕ)) (c : PlainContext) (bs : TypeBinders) (xs : List RTypeBinder) (e : KindError) → IsFirst (binders_stops ns c bs) e → IsFirst (binders_stops ns c (binders-on bs xs)) e
-unfolding binders-on
+binders_first_kept : (ns : List (List ℕ)) (c : PlainContext) (bs : TypeBinders) (xs : List RTypeBinder) (e : KindError) → IsFirst (binders_stops ns c bs) e → IsFirst (binders_stops ns c (binders_on bs xs)) e
+unfolding binders_on
 binders_first_kept ns c bs [] e h = h
-binders_first_kept ns c bs (x ∷ xs) e h = binders_first_kept ns c (more-binders bs (binder_of x)) xs e (first_before (binders_stops ns c bs) (binder_stops ns (under_binders ns c bs) (binder_of x)) e h)
+binders_first_kept ns c bs (x ∷ xs) e h = binders_first_kept ns c (more_binders bs (binder_of x)) xs e (first_before (binders_stops ns c bs) (binder_stops ns (under_binders ns c bs) (binder_of x)) e h)
 
-pub binders_first : (ns : List (List ℕ)) (c : PlainContext) (xs : List RTypeBinder) (i : ℕ) (d : RTypeBinder) (e : KindError) → i < length xs → binders_stops ns c (binders-on no-binders (take i xs)) ≡ [] → IsFirst (binder_stops ns (under_binders ns c (binders-on no-binders (take i xs))) (binder_of (get_or xs i d))) e → IsFirst (binders_stops ns c (binders-on no-binders xs)) e
+pub binders_first : (ns : List (List ℕ)) (c : PlainContext) (xs : List RTypeBinder) (i : ℕ) (d : RTypeBinder) (e : KindError) → i < length xs → binders_stops ns c (binders_on no_binders (take i xs)) ≡ [] → IsFirst (binder_stops ns (under_binders ns c (binders_on no_binders (take i xs))) (binder_of (get_or xs i d))) e → IsFirst (binders_stops ns c (binders_on no_binders xs)) e
 binders_first ns c xs i d e h none k =
-    let bs = binders-on no-binders (take i xs) in
+    let bs = binders_on no_binders (take i xs) in
     let x = binder_of (get_or xs i d) in
-    let is : binders-on no-binders xs ≡ binders-on (more-binders bs x) (drop (i + 1) xs) = ap (binders-on no-binders) (split_at xs (i + 1)) ∙ binders_append no-binders (take (i + 1) xs) (drop (i + 1) xs) ∙ ap (λ x. binders-on x (drop (i + 1) xs)) (binders_step xs i d h) in
+    let is : binders_on no_binders xs ≡ binders_on (more_binders bs x) (drop (i + 1) xs) = ap (binders_on no_binders) (split_at xs (i + 1)) ∙ binders_append no_binders (take (i + 1) xs) (drop (i + 1) xs) ∙ ap (λ x. binders_on x (drop (i + 1) xs)) (binders_step xs i d h) in
     subst (λ l. IsFirst (binders_stops ns c l) e) (sym is)
-    (binders_first_kept ns c (more-binders bs x) (drop (i + 1) xs) e (first_after (binders_stops ns c bs) (binder_stops ns (under_binders ns c bs) x) e none k))
+    (binders_first_kept ns c (more_binders bs x) (drop (i + 1) xs) e (first_after (binders_stops ns c bs) (binder_stops ns (under_binders ns c bs) x) e none k))
 
 -- the same where the lists are read as slices
-pub fields_tree : (t : RTypeTree) (s : Span) (bs : Vec RTypeBinder Global) (ts : Vec RTypeTree Global) (ls : Vec RLabelledType Global) (xs : List RTypeBinder) (ys : List RTypeTree) (zs : List RLabelledType) → t ≡ TypeFields s bs ts ls → xs ≡ bs.items → ys ≡ ts.items → zs ≡ ls.items → type_of t ≡ fields-type s (binders-on no-binders xs) (types-on no-types ys) (labelled-types-on no-labelled-types zs)
+pub fields_tree : (t : RTypeTree) (s : Span) (bs : Vec RTypeBinder Global) (ts : Vec RTypeTree Global) (ls : Vec RLabelledType Global) (xs : List RTypeBinder) (ys : List RTypeTree) (zs : List RLabelledType) → t ≡ TypeFields s bs ts ls → xs ≡ bs.items → ys ≡ ts.items → zs ≡ ls.items → type_of t ≡ fields_type s (binders_on no_binders xs) (types_on no_types ys) (labelled_types_on no_labelled_types zs)
 fields_tree t s bs ts ls xs ys zs is p q r =
     ap type_of is ∙ fields_type_is s bs ts ls
-    ∙ three (λ x y z. fields-type s (binders-on no-binders x) (types-on no-types y) (labelled-types-on no-labelled-types z)) (sym p) (sym q) (sym r)
+    ∙ three (λ x y z. fields_type s (binders_on no_binders x) (types_on no_types y) (labelled_types_on no_labelled_types z)) (sym p) (sym q) (sym r)
 
-pub apply_tree : (t : RTypeTree) (s : Span) (i : Id) (ts : Vec RTypeTree Global) (xs : List RTypeTree) → t ≡ TypeApply s i ts → xs ≡ ts.items → type_of t ≡ apply-type s i (types-on no-types xs)
-apply_tree t s i ts xs is q = ap type_of is ∙ apply_type_is s i ts ∙ ap (λ y. apply-type s i (types-on no-types y)) (sym q)
+pub apply_tree : (t : RTypeTree) (s : Span) (i : Id) (ts : Vec RTypeTree Global) (xs : List RTypeTree) → t ≡ TypeApply s i ts → xs ≡ ts.items → type_of t ≡ apply_type s i (types_on no_types xs)
+apply_tree t s i ts xs is q = ap type_of is ∙ apply_type_is s i ts ∙ ap (λ y. apply_type s i (types_on no_types y)) (sym q)
 
 -- rows of a record with one more item
 pub types_and : (xs : List Ty) (x : Ty) → plain_types (xs ++ x ∷ []) ≡ and_type (plain_types xs) (plain x)

@@ -1,7 +1,7 @@
 -- Type binders of a written type as entries of a context, without their bounds.
 use Rattle.std.specs.Prelude.{ℕ, List, ◌∷◌, map, reverse, Option}
 use Rattle.pict_syntax.specs.declared.type_tree.KindTree.{KindTree}
-use Rattle.pict_syntax.specs.Trees.{TypeBinder, type-binder, TypeBinders, no-binders, more-binders}
+use Rattle.pict_syntax.specs.Trees.{TypeBinder, type_binder, TypeBinders, no_binders, more_binders}
 use Rattle.pict_normal.specs.declared.binders.Binder.{Binder}
 use Rattle.pict_types.specs.Types.{Free}
 use Rattle.pict_types.specs.Entries.{Variable, PlainEntry, PlainContext}
@@ -15,9 +15,9 @@ abbrev pub entries_of : List Binder → PlainContext
 entries_of bs = reverse (map (λ b. bound_entry b.name.0 b.kind) bs)
 
 abbrev pub entry_of_binder : TypeBinder → PlainEntry
-entry_of_binder (type-binder s id k b) = bound_entry id.name.0 k
+entry_of_binder (type_binder s id k b) = bound_entry id.name.0 k
 
 -- under type binders
 abbrev pub entries_under : PlainContext → TypeBinders → PlainContext
-entries_under c no-binders = c
-entries_under c (more-binders bs b) = entry_of_binder b ∷ entries_under c bs
+entries_under c no_binders = c
+entries_under c (more_binders bs b) = entry_of_binder b ∷ entries_under c bs

@@ -6,8 +6,9 @@ pub mod Raw
 pub mod BinderEntries
 pub mod Refusals
 pub mod Around
-pub mod InOrder
 pub mod Distinct
 pub mod Made
 pub mod WrittenArguments
 pub mod Uses
+pub mod Written
+pub mod Placed

@@ -74,11 +74,6 @@ abbrev pub weight_used : List ℕ → List Bool → PlainTypes → ℕ
 weight_used ws used no_type = 0
 weight_used ws used (types u us) = counted (get_or used (count_types us) false) (weigh ws u) + weight_used ws used us
 
--- the weight of the heaviest type
-abbrev pub heaviest : List ℕ → PlainTypes → ℕ
-heaviest ws no_type = 0
-heaviest ws (types u us) = max (weigh ws u) (heaviest ws us)
-
 -- an argument where its place is n: Top, or the variable n
 abbrev pub kept_as : PlainType → ℕ → PlainType
 kept_as u n = if is_top u then Top else Var n
@@ -103,10 +98,9 @@ abbrev pub rise_each : List ℕ → PlainTypes → List ℕ
 rise_each hs no_type = []
 rise_each hs (types u us) = held (rise hs u) ∷ rise_each hs us
 
--- the arguments of an operator, none of them too heavy: their measures, what stays of them, and they themselves where they aren't too high
+-- the arguments of an operator: their measures, what stays of them, and they themselves where they aren't too high
 pub record AreArguments (ws hs : List ℕ) (a : Arguments) (us : PlainTypes) : Type 0 where
   pub weights : map (λ m. m.weight) a.measures.items ≡ weigh_each ws us
-  pub light : heaviest ws us ≤ 100000
   pub heights : map (λ m. m.height) a.measures.items ≡ rise_each hs us
   pub kept : plain_types a.kept.items ≡ kept_of us
   pub types_ : plain_types a.types.items ≡ built_of hs us

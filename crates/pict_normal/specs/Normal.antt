@@ -7,12 +7,12 @@ use Rattle.pict_syntax.specs.declared.span.Span.{Span}
 use Rattle.pict_syntax.specs.declared.id.Id.{Id}
 use Rattle.pict_syntax.specs.declared.type_tree.KindTree.{KindTree}
 use Rattle.pict_syntax.specs.declared.type_tree.KindTree.TheVariants.{Plain as Plain_, Operator as Operator_}
-use Rattle.pict_syntax.specs.Trees.{TypeTree, top-type, int-type, char-type, string-type, bool-type, use-type, both-type, read-type, write-type, respond-type, fields-type, apply-type, rec-type, TypeBinder, type-binder, Bound, no-bound, bound, TypeTrees, no-types, more-types, TypeBinders, no-binders, more-binders, LabelledTypes, no-labelled-types, more-labelled-types}
+use Rattle.pict_syntax.specs.Trees.{TypeTree, top_type, int_type, char_type, string_type, bool_type, use_type, both_type, read_type, write_type, respond_type, fields_type, apply_type, rec_type, TypeBinder, type_binder, Bound, unbounded, bound, TypeTrees, no_types, more_types, TypeBinders, no_binders, more_binders, LabelledTypes, no_labelled_types, more_labelled_types}
 use Rattle.pict_types.specs.Types.{is_top, Both, Read, Write, Respond, PlainType, Top, Int, Char, Str, Boolean, Var, Chan, Fields, Rec, PlainTypes, no_type, types, PlainLabels, no_label, labels, PlainBound, Free, Below, Operator, PlainBounds, no_bound, bounds, Plain, Op}
 use Rattle.pict_types.specs.Renaming.{rename}
 use Rattle.pict_types.specs.Replacing.{bound_by, Head, variable, operator, nothing, apply_head, rename_head}
 use Rattle.pict_types.specs.Measures.{weight_of, height_of}
-use Rattle.pict_types.specs.Kinds.{label_cmp}
+use Rattle.pict_syntax.specs.Labels.{label_cmp}
 use Rattle.pict_types.specs.Entries.{PlainWhat, Variable, Definition, PlainEntry, PlainContext, variables}
 
 -- what the name of a type means: a type, or an operator of so many parameters
@@ -66,9 +66,9 @@ and_bound no_bound d = bounds d no_bound
 and_bound (bounds b bs) d = bounds b (and_bound bs d)
 
 -- one more labelled field, before the first whose label comes after it
-abbrev pub with_label : List (List ℕ) → ℕ → PlainType → PlainLabels → PlainLabels
-with_label ns l u no_label = labels l u no_label
-with_label ns l u (labels m t ls) = if is_lt (label_cmp ns l m) then labels l u (labels m t ls) else labels m t (with_label ns l u ls)
+abbrev pub with_labelled_type : List (List ℕ) → ℕ → PlainType → PlainLabels → PlainLabels
+with_labelled_type ns l u no_label = labels l u no_label
+with_labelled_type ns l u (labels m t ls) = if is_lt (label_cmp ns l m) then labels l u (labels m t ls) else labels m t (with_labelled_type ns l u ls)
 
 -- what is known of a type binder with this kind and this bound: an operator has no bound
 abbrev pub kind_bound : Option KindTree → PlainBound → PlainBound
@@ -82,67 +82,67 @@ entry_of id b = record { name = id.name.0; what = Variable b }
 abbrev mutual
   -- definitions are replaced by their bodies, and operators are applied
   pub normal : List (List ℕ) → PlainContext → TypeTree → PlainType
-  normal ns c (top-type s) = Top
-  normal ns c (int-type s) = Int
-  normal ns c (char-type s) = Char
-  normal ns c (string-type s) = Str
-  normal ns c (bool-type s) = Boolean
-  normal ns c (use-type s n) = meant_type (meaning c n.0)
-  normal ns c (both-type s t) = Chan Both (normal ns c t)
-  normal ns c (read-type s t) = Chan Read (normal ns c t)
-  normal ns c (write-type s t) = Chan Write (normal ns c t)
-  normal ns c (respond-type s t) = Chan Respond (normal ns c t)
-  normal ns c (fields-type s bs ts ls) =
+  normal ns c (top_type s) = Top
+  normal ns c (int_type s) = Int
+  normal ns c (char_type s) = Char
+  normal ns c (string_type s) = Str
+  normal ns c (bool_type s) = Boolean
+  normal ns c (use_type s n) = meant_type (meaning c n.0)
+  normal ns c (both_type s t) = Chan Both (normal ns c t)
+  normal ns c (read_type s t) = Chan Read (normal ns c t)
+  normal ns c (write_type s t) = Chan Write (normal ns c t)
+  normal ns c (respond_type s t) = Chan Respond (normal ns c t)
+  normal ns c (fields_type s bs ts ls) =
       Fields (normal_binders ns c bs) (normal_types ns (under_binders ns c bs) ts) (normal_labels ns (under_binders ns c bs) ls)
-  normal ns c (apply-type s id ts) = apply_head (meant_head (meaning c id.name.0)) (normal_types ns c ts)
-  normal ns c (rec-type s id t) = Rec (normal ns (entry_of id Free ∷ c) t)
+  normal ns c (apply_type s id ts) = apply_head (meant_head (meaning c id.name.0)) (normal_types ns c ts)
+  normal ns c (rec_type s id t) = Rec (normal ns (entry_of id Free ∷ c) t)
 
   pub normal_types : List (List ℕ) → PlainContext → TypeTrees → PlainTypes
-  normal_types ns c no-types = no_type
-  normal_types ns c (more-types ts t) = and_type (normal_types ns c ts) (normal ns c t)
+  normal_types ns c no_types = no_type
+  normal_types ns c (more_types ts t) = and_type (normal_types ns c ts) (normal ns c t)
 
   pub normal_labels : List (List ℕ) → PlainContext → LabelledTypes → PlainLabels
-  normal_labels ns c no-labelled-types = no_label
-  normal_labels ns c (more-labelled-types ls id t) = with_label ns id.name.0 (normal ns c t) (normal_labels ns c ls)
+  normal_labels ns c no_labelled_types = no_label
+  normal_labels ns c (more_labelled_types ls id t) = with_labelled_type ns id.name.0 (normal ns c t) (normal_labels ns c ls)
 
   -- each type binder is written under those before it
   pub normal_binders : List (List ℕ) → PlainContext → TypeBinders → PlainBounds
-  normal_binders ns c no-binders = no_bound
-  normal_binders ns c (more-binders bs b) = and_bound (normal_binders ns c bs) (normal_binder ns (under_binders ns c bs) b)
+  normal_binders ns c no_binders = no_bound
+  normal_binders ns c (more_binders bs b) = and_bound (normal_binders ns c bs) (normal_binder ns (under_binders ns c bs) b)
 
   pub under_binders : List (List ℕ) → PlainContext → TypeBinders → PlainContext
-  under_binders ns c no-binders = c
-  under_binders ns c (more-binders bs b) = with_binder ns (under_binders ns c bs) b
+  under_binders ns c no_binders = c
+  under_binders ns c (more_binders bs b) = with_binder ns (under_binders ns c bs) b
 
   pub with_binder : List (List ℕ) → PlainContext → TypeBinder → PlainContext
-  with_binder ns c (type-binder s id k b) = entry_of id (kind_bound k (normal_bound ns c b)) ∷ c
+  with_binder ns c (type_binder s id k b) = entry_of id (kind_bound k (normal_bound ns c b)) ∷ c
 
   pub normal_binder : List (List ℕ) → PlainContext → TypeBinder → PlainBound
-  normal_binder ns c (type-binder s id k b) = kind_bound k (normal_bound ns c b)
+  normal_binder ns c (type_binder s id k b) = kind_bound k (normal_bound ns c b)
 
   -- a bound Top is no bound
   pub normal_bound : List (List ℕ) → PlainContext → Bound → PlainBound
-  normal_bound ns c no-bound = Free
+  normal_bound ns c unbounded = Free
   normal_bound ns c (bound t) = bound_by (normal ns c t)
 
 abbrev pub span_of : TypeTree → Span
-span_of (top-type s) = s
-span_of (int-type s) = s
-span_of (char-type s) = s
-span_of (string-type s) = s
-span_of (bool-type s) = s
-span_of (use-type s n) = s
-span_of (both-type s t) = s
-span_of (read-type s t) = s
-span_of (write-type s t) = s
-span_of (respond-type s t) = s
-span_of (fields-type s bs ts ls) = s
-span_of (apply-type s id ts) = s
-span_of (rec-type s id t) = s
+span_of (top_type s) = s
+span_of (int_type s) = s
+span_of (char_type s) = s
+span_of (string_type s) = s
+span_of (bool_type s) = s
+span_of (use_type s n) = s
+span_of (both_type s t) = s
+span_of (read_type s t) = s
+span_of (write_type s t) = s
+span_of (respond_type s t) = s
+span_of (fields_type s bs ts ls) = s
+span_of (apply_type s id ts) = s
+span_of (rec_type s id t) = s
 
 abbrev pub count_trees : TypeTrees → ℕ
-count_trees no-types = 0
-count_trees (more-types ts t) = suc (count_trees ts)
+count_trees no_types = 0
+count_trees (more_types ts t) = suc (count_trees ts)
 
 -- a refusal and its place
 abbrev pub Stop : Type 0
@@ -170,36 +170,36 @@ bound_stops id (Some (Operator_ n)) (x ∷ stops) t = (K3, id.span) ∷ x ∷ st
 abbrev mutual
   -- where the rules of kinds fail in a written type, in reading order
   pub kind_stops : List (List ℕ) → PlainContext → TypeTree → List Stop
-  kind_stops ns c (top-type s) = []
-  kind_stops ns c (int-type s) = []
-  kind_stops ns c (char-type s) = []
-  kind_stops ns c (string-type s) = []
-  kind_stops ns c (bool-type s) = []
-  kind_stops ns c (use-type s n) = use_stops s (meaning c n.0)
-  kind_stops ns c (both-type s t) = kind_stops ns c t
-  kind_stops ns c (read-type s t) = kind_stops ns c t
-  kind_stops ns c (write-type s t) = kind_stops ns c t
-  kind_stops ns c (respond-type s t) = kind_stops ns c t
-  kind_stops ns c (fields-type s bs ts ls) =
+  kind_stops ns c (top_type s) = []
+  kind_stops ns c (int_type s) = []
+  kind_stops ns c (char_type s) = []
+  kind_stops ns c (string_type s) = []
+  kind_stops ns c (bool_type s) = []
+  kind_stops ns c (use_type s n) = use_stops s (meaning c n.0)
+  kind_stops ns c (both_type s t) = kind_stops ns c t
+  kind_stops ns c (read_type s t) = kind_stops ns c t
+  kind_stops ns c (write_type s t) = kind_stops ns c t
+  kind_stops ns c (respond_type s t) = kind_stops ns c t
+  kind_stops ns c (fields_type s bs ts ls) =
       binders_stops ns c bs ++ types_stops ns (under_binders ns c bs) ts ++ labels_stops ns (under_binders ns c bs) ls
-  kind_stops ns c (apply-type s id ts) = apply_stops s (meaning c id.name.0) (count_trees ts) ++ types_stops ns c ts
-  kind_stops ns c (rec-type s id t) = kind_stops ns (entry_of id Free ∷ c) t
+  kind_stops ns c (apply_type s id ts) = apply_stops s (meaning c id.name.0) (count_trees ts) ++ types_stops ns c ts
+  kind_stops ns c (rec_type s id t) = kind_stops ns (entry_of id Free ∷ c) t
 
   pub types_stops : List (List ℕ) → PlainContext → TypeTrees → List Stop
-  types_stops ns c no-types = []
-  types_stops ns c (more-types ts t) = types_stops ns c ts ++ kind_stops ns c t
+  types_stops ns c no_types = []
+  types_stops ns c (more_types ts t) = types_stops ns c ts ++ kind_stops ns c t
 
   pub labels_stops : List (List ℕ) → PlainContext → LabelledTypes → List Stop
-  labels_stops ns c no-labelled-types = []
-  labels_stops ns c (more-labelled-types ls id t) = labels_stops ns c ls ++ kind_stops ns c t
+  labels_stops ns c no_labelled_types = []
+  labels_stops ns c (more_labelled_types ls id t) = labels_stops ns c ls ++ kind_stops ns c t
 
   pub binders_stops : List (List ℕ) → PlainContext → TypeBinders → List Stop
-  binders_stops ns c no-binders = []
-  binders_stops ns c (more-binders bs b) = binders_stops ns c bs ++ binder_stops ns (under_binders ns c bs) b
+  binders_stops ns c no_binders = []
+  binders_stops ns c (more_binders bs b) = binders_stops ns c bs ++ binder_stops ns (under_binders ns c bs) b
 
   pub binder_stops : List (List ℕ) → PlainContext → TypeBinder → List Stop
-  binder_stops ns c (type-binder s id k no-bound) = []
-  binder_stops ns c (type-binder s id k (bound t)) = bound_stops id k (kind_stops ns c t) (normal ns c t)
+  binder_stops ns c (type_binder s id k unbounded) = []
+  binder_stops ns c (type_binder s id k (bound t)) = bound_stops id k (kind_stops ns c t) (normal ns c t)
 
 -- a type past a limit is refused as a whole
 abbrev pub size_stop : PlainContext → PlainType → Span → Option Stop

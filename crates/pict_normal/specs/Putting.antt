@@ -7,18 +7,15 @@ use Rattle.pict_normal.specs.declared.put.Put.TheVariants.{Variable as Variable_
 use Rattle.pict_normal.specs.declared.puts.Puts.{Puts}
 use Rattle.pict_normal.specs.declared.puts.Source.{Source}
 use Rattle.pict_normal.specs.declared.puts.Source.TheVariants.{Arguments as Arguments_, Entries as Entries_}
-use Rattle.pict_types.specs.Scopes.{weights_inside, heights_inside}
+use Rattle.pict_types.specs.Around.{weights_inside, heights_inside}
 use Rattle.pict_types.specs.Entries.{PlainContext}
 use Rattle.pict_normal.specs.Meanings.{meanings}
-use Rattle.pict_normal.specs.Sizes.{most_defined}
 use Rattle.pict_types.specs.Types.{PlainType, Top, Var, PlainBounds, count_bounds, TypeContext}
 use Rattle.pict_types.specs.Renaming.{rename, moved}
 use Rattle.pict_types.specs.Replacing.{Head, variable, operator, nothing, Replacement, replacement_past, replace_bounds, arguments}
-use Rattle.pict_types.specs.Kinds.{Kind, kinds}
+use Rattle.pict_types.specs.Kinds.{Kind}
 use Rattle.pict_types.specs.Fitting.{ReplacesKinds}
-use Rattle.pict_types.specs.Instances.{ArgsAreWellFormed, most_args}
-use Rattle.pict_types.specs.Measures.{held, measure_at, size, weights, weights_under, heights, heights_under}
-use Rattle.pict_types.specs.Room.{reach}
+use Rattle.pict_types.specs.Measures.{held, measure_at, weights, weights_under, heights, heights_under}
 use Rattle.pict_types.specs.Plain.{plain, plain_args}
 use Rattle.pict_types.specs.PlainContext.{names_of, plain_context, type_context}
 
@@ -33,11 +30,11 @@ put_head (Variable_ k) = variable k
 put_head (Proper_ t by) = nothing
 put_head (Operator_ n t by) = operator n (rename (moved by n) (plain t.now))
 
--- what stands for variable i under d binders in n variables has room there, and its size is at most `most`
-abbrev pub HasRoom : ℕ → ℕ → ℕ → ℕ → Put → Type 0
-HasRoom n most d i (Variable_ k) = k ≤ i + d
-HasRoom n most d i (Proper_ t by) = (d ≤ by) × (by ≤ n + d) × (reach (plain t.now) + by ≤ n + d + size (plain t.now)) × (size (plain t.now) ≤ most)
-HasRoom n most d i (Operator_ p t by) = (d ≤ by) × (by ≤ n + d) × (reach (plain t.now) + by ≤ n + d + p + size (plain t.now)) × (size (plain t.now) ≤ most)
+-- what stands for variable i under d binders in n variables has room there
+abbrev pub HasRoom : ℕ → ℕ → ℕ → Put → Type 0
+HasRoom n d i (Variable_ k) = k ≤ i + d
+HasRoom n d i (Proper_ t by) = (d ≤ by) × (by ≤ n + d)
+HasRoom n d i (Operator_ p t by) = (d ≤ by) × (by ≤ n + d)
 
 -- there is room for m more binders around it
 abbrev pub CanMove : ℕ → Put → Type 0
@@ -49,25 +46,11 @@ abbrev pub replacement_by : Source → PlainContext → Replacement
 replacement_by (Arguments_ args) c = arguments (plain_args args.now)
 replacement_by Entries_ c = meanings c
 
-abbrev pub most_by : Source → PlainContext → ℕ
-most_by (Arguments_ args) c = most_args (plain_args args.now)
-most_by Entries_ c = most_defined c
-
-abbrev pub AreWellFormedBy : Source → List (List ℕ) → List Kind → Type 0
-AreWellFormedBy (Arguments_ args) ns ks = ArgsAreWellFormed ns ks (plain_args args.now)
-AreWellFormedBy Entries_ ns ks = Unit {0}
-
 abbrev pub context_in : Puts → Context
 context_in p = p.context.now
 
 abbrev pub replacement_of : Puts → Replacement
 replacement_of p = replacement_by p.source (plain_context p.context.now)
-
-abbrev pub most_of : Puts → ℕ
-most_of p = most_by p.source (plain_context p.context.now)
-
-abbrev pub PutsAreWellFormed : Puts → Type 0
-PutsAreWellFormed p = AreWellFormedBy p.source (names_of p.context.now) (kinds (type_context p.context.now))
 
 abbrev pub names_in : Puts → List (List ℕ)
 names_in p = names_of (context_in p)
@@ -85,21 +68,12 @@ heights_in p ms = heights_inside ms (heights (variables_in p))
 abbrev pub replacement_in : Puts → List Measures → Replacement
 replacement_in p ms = replacement_past (length ms) (replacement_of p)
 
-abbrev pub ArePositive : List Measures → Type 0
-ArePositive [] = Unit {0}
-ArePositive (m ∷ ms) = (1 ≤ m.weight) × ArePositive ms
-
--- what is put fits the kinds of the variables in something of size n under these binders, which is well formed where F
--- says so, and there is room for it
-pub record IsPlaced (p : Puts) (ms : List Measures) (F : List Kind → Type 0) (n : ℕ) : Type 0 where
+-- what is put fits the kinds of the variables in something under these binders, which is well formed where F says so
+pub record IsPlaced (p : Puts) (ms : List Measures) (F : List Kind → Type 0) : Type 0 where
   pub sources : List Kind
   pub targets : List Kind
   pub keeps : ReplacesKinds (names_in p) (replacement_in p ms) sources targets
-  pub count : length targets ≡ length ms + length (variables_in p)
   pub formed : F sources
-  pub puts : PutsAreWellFormed p
-  pub positive : ArePositive ms
-  pub room : length (variables_in p) + length ms + n + most_of p + 100000 < 2 ^ 32
 
 -- the measures `inner` of binders, and of the type fields bs under them with what is put into them, the innermost last
 pub record IsUnder (p : Puts) (outer inner : List Measures) (bs : PlainBounds) : Type 0 where
@@ -107,4 +81,3 @@ pub record IsUnder (p : Puts) (outer inner : List Measures) (bs : PlainBounds) :
   pub count : length inner ≡ length outer + count_bounds bs
   pub weights_ : weights_in p inner ≡ weights_under (weights_in p outer) (replace_bounds (replacement_in p outer) bs)
   pub heights_ : (i : ℕ) → held (measure_at (heights_in p inner) i) ≡ held (measure_at (heights_under (heights_in p outer) (replace_bounds (replacement_in p outer) bs)) i)
-  pub positive : ArePositive inner

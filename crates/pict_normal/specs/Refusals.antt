@@ -13,13 +13,13 @@ abbrev pub IsRefusal : Option Stop → KindError → Type 0
 IsRefusal o (Named code span) = o ≡ Some (code, span)
 IsRefusal o Memory = Unit {0}
 
-abbrev pub IsHead : List Stop → Stop → Type 0
-IsHead [] p = ⊥
-IsHead (x ∷ stops) p = x ≡ p
+abbrev pub BeginsWith : List Stop → Stop → Type 0
+BeginsWith [] p = ⊥
+BeginsWith (x ∷ stops) p = x ≡ p
 
 -- the error is the first of these refusals
 abbrev pub IsFirst : List Stop → KindError → Type 0
-IsFirst stops (Named code span) = IsHead stops (code, span)
+IsFirst stops (Named code span) = BeginsWith stops (code, span)
 IsFirst stops Memory = Unit {0}
 
 -- a type that isn't made is refused as a whole, if not for want of memory

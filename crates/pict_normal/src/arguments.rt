@@ -3,13 +3,12 @@
 ghost use Rattle.std.specs.Prelude.{◌≡◌, ◌+◌, ◌≤◌, ◌<◌, ◌^◌, List, ℕ, IfErr, IfOk, OnOk, [], ◌∷◌, ◌++◌, drop, length, map};
 ghost use Rattle.pict_types.specs.Filling.{put_for};
 ghost use Rattle.pict_normal.specs.Made.{AreArguments, IsMade, IsReason, built_as, kept_as};
-ghost use Rattle.pict_types.specs.Measures.{heights, held, rise, size, size_types, weigh, weights};
+ghost use Rattle.pict_types.specs.Measures.{heights, held, rise, weigh, weights};
 ghost use Rattle.pict_normal.specs.Normal.{and_type};
 ghost use Rattle.pict_types.specs.Plain.{plain, plain_types};
 ghost use Rattle.pict_types.specs.PlainContext.{type_context};
-ghost use Rattle.pict_types.specs.Scopes.{heights_inside, weights_inside};
+ghost use Rattle.pict_types.specs.Around.{heights_inside, weights_inside};
 ghost use Rattle.pict_types.specs.Replacing.{fill};
-ghost use Rattle.pict_types.specs.Room.{reach, reach_types};
 ghost use Rattle.pict_types.specs.Types.{PlainType, PlainTypes, Var};
 
 use crate::made::{Made, MakeError, is_within, light};
@@ -44,8 +43,10 @@ impl Arguments {
     /// One more argument, which is put for the parameter `place`.
     pub fn push(&mut self, part: Made, place: u32) -> Result<(), AllocError>
         ensures measures { OnOk result (self.new.measures.items ≡ self.old.measures.items ++ part.measures ∷ []) }
-        ensures kept { OnOk result ((ws hs : List ℕ) (t : PlainType) → IsMade ws hs part t → plain_types self.new.kept.items ≡ and_type (plain_types self.old.kept.items) (kept_as t place)) }
-        ensures types { OnOk result ((ws hs : List ℕ) (t : PlainType) → IsMade ws hs part t → plain_types self.new.types.items ≡ and_type (plain_types self.old.types.items) (built_as hs t)) }
+        ensures kept { OnOk result ((ws hs : List ℕ) (t : PlainType) → IsMade ws hs part t
+            → plain_types self.new.kept.items ≡ and_type (plain_types self.old.kept.items) (kept_as t place)) }
+        ensures types { OnOk result ((ws hs : List ℕ) (t : PlainType) → IsMade ws hs part t
+            → plain_types self.new.types.items ≡ and_type (plain_types self.old.types.items) (built_as hs t)) }
     {
         self.measures.push(part.measures)?;
         self.kept.push(kept_part(&part, place))?;
@@ -88,16 +89,11 @@ pub fn applied(
 ) -> Result<Made, MakeError>
     requires under { length inner.now ≤ by }
     requires by { by ≤ length (type_context c.now) + length inner.now }
-    requires variables { reach (plain body.now) + by ≤ 2 ^ 32 }
-    requires count { length args.now.kept.items ≡ length args.now.measures.items }
-    requires parameters { length args.now.measures.items + size (plain body.now) < 2 ^ 32 }
-    requires places { reach_types (plain_types args.now.kept.items) ≤ length args.now.measures.items }
-    requires kept { size_types (plain_types args.now.kept.items) < 2 ^ 64 }
-    requires room { reach_types (plain_types args.now.types.items) + size (plain body.now) ≤ 2 ^ 32 }
-    requires depth { size_types (plain_types args.now.types.items) < 2 ^ 64 }
+    requires few { length args.now.measures.items < 2 ^ 32 }
     ensures made { IfOk result (λ m. (us : PlainTypes)
         → AreArguments (weights_inside inner.now (weights (type_context c.now))) (heights_inside inner.now (heights (type_context c.now))) args.now us
-        → IsMade (weights_inside inner.now (weights (type_context c.now))) (heights_inside inner.now (heights (type_context c.now))) m (fill (put_for us by) (plain body.now))) }
+        → IsMade (weights_inside inner.now (weights (type_context c.now))) (heights_inside inner.now (heights (type_context c.now))) m
+        (fill (put_for us by) (plain body.now))) }
     ensures reason { IfErr result (λ e. (us : PlainTypes)
         → AreArguments (weights_inside inner.now (weights (type_context c.now))) (heights_inside inner.now (heights (type_context c.now))) args.now us
         → IsReason (weigh (weights_inside inner.now (weights (type_context c.now))) (fill (put_for us by) (plain body.now))) e) }

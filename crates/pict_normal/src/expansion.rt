@@ -1,21 +1,22 @@
 // Normal forms of written types.
 
-ghost use Rattle.std.specs.Prelude.{◌≡◌, ◌+◌, ◌<◌, ◌^◌, [], length, IfErr, IfOk};
+ghost use Rattle.std.specs.Prelude.{◌≡◌, [], IfErr, IfOk};
 ghost use Rattle.std.specs.Result.{IsOkAnd};
 ghost use Rattle.pict_syntax.specs.PlainTrees.{type_of};
 ghost use Rattle.pict_normal.specs.Distinct.{HasDistinctLabels};
-ghost use Rattle.pict_types.specs.Kinds.{IsWellFormed, kinds};
+ghost use Rattle.pict_types.specs.Kinds.{IsWellFormed};
 ghost use Rattle.pict_normal.specs.Made.{IsMade, IsReason};
 ghost use Rattle.pict_normal.specs.Meanings.{entry_kinds, meanings};
-ghost use Rattle.pict_normal.specs.Sizes.{most_defined, nodes};
-ghost use Rattle.pict_types.specs.Measures.{heights, size, weight_of, weights};
-ghost use Rattle.pict_normal.specs.Normal.{kind_stop, kind_stops, normal, span_of};
+ghost use Rattle.pict_types.specs.Measures.{heights, weight_of, weights};
+ghost use Rattle.pict_normal.specs.Normal.{kind_stops, span_of};
 ghost use Rattle.pict_types.specs.Plain.{plain};
-ghost use Rattle.pict_types.specs.PlainContext.{names_of, plain_context, type_context};
+ghost use Rattle.pict_types.specs.PlainContext.{IsWrittenIn, names_of, plain_context, type_context};
 ghost use Rattle.pict_types.specs.Places.{names_in};
 ghost use Rattle.pict_normal.specs.Raw.{raw};
 ghost use Rattle.pict_normal.specs.Refusals.{IsFirst, IsRefusal, kind_error};
 ghost use Rattle.pict_types.specs.Replacing.{replace};
+ghost use Rattle.pict_types.specs.WithinLimits.{IsWithinLimits};
+ghost use Rattle.pict_normal.specs.Written.{normal_in, stop_in};
 
 use crate::binders::Binders;
 use crate::made::{Made, MakeError};
@@ -29,7 +30,7 @@ use std::alloc::Global;
 
 /// The place of a written type.
 #[tactic(auto, unfolding(pict_syntax::specs::PlainTrees::type_of))]
-pub fn span_of(t: &TypeTree) -> Span
+fn span_of(t: &TypeTree) -> Span
     ensures { result ≡ span_of (type_of t.now) }
 {
     match t {
@@ -51,7 +52,6 @@ pub fn span_of(t: &TypeTree) -> Span
 
 /// The type of a tree, where each name is the variable of its entry.
 fn raw_of(alloc: Global, c: &Context, t: &TypeTree) -> Result<Ty, KindError>
-    requires room { length (plain_context c.now) + nodes (type_of t.now) < 2 ^ 32 }
     ensures raw { IfOk result (λ u. plain u ≡ raw (names_of c.now) (names_in (plain_context c.now)) (type_of t.now)) }
     ensures kinds { IfOk result (λ _. kind_stops (names_of c.now) (plain_context c.now) (type_of t.now) ≡ []) }
     ensures first { IfErr result (λ e. IsFirst (kind_stops (names_of c.now) (plain_context c.now) (type_of t.now)) e) }
@@ -61,7 +61,7 @@ fn raw_of(alloc: Global, c: &Context, t: &TypeTree) -> Result<Ty, KindError>
 }
 
 /// The type that was made. K4 at this place where it passes a limit.
-pub fn kept(made: Result<Made, MakeError>, span: Span) -> Result<Ty, KindError>
+fn kept(made: Result<Made, MakeError>, span: Span) -> Result<Ty, KindError>
     ensures ok { IfOk result (λ u. IsOkAnd made (λ m. m.ty ≡ Some u)) }
     ensures missing { IfErr result (λ e. IfOk made (λ m. (m.ty ≡ None) × (e ≡ KindError.Named Code.K4 span))) }
     ensures reason { IfErr result (λ e. IfErr made (λ reason. e ≡ kind_error span reason)) }
@@ -77,8 +77,8 @@ pub fn kept(made: Result<Made, MakeError>, span: Span) -> Result<Ty, KindError>
 /// Puts what the entries of the context mean for the variables of `t`, of which variable `i` is entry `i`.
 fn made_entries(alloc: Global, t: &Ty, c: &Context) -> Result<Made, MakeError>
     requires formed { IsWellFormed (names_of c.now) (entry_kinds (plain_context c.now)) (plain t.now) }
-    requires room { length (type_context c.now) + (size (plain t.now) + most_defined (plain_context c.now)) + 100000 < 2 ^ 32 }
-    ensures made { IfOk result (λ m. IsMade (weights (type_context c.now)) (heights (type_context c.now)) m (replace (meanings (plain_context c.now)) (plain t.now))) }
+    ensures made { IfOk result (λ m. IsMade (weights (type_context c.now)) (heights (type_context c.now)) m
+        (replace (meanings (plain_context c.now)) (plain t.now))) }
     ensures reason { IfErr result (λ e. IsReason (weight_of (type_context c.now) (replace (meanings (plain_context c.now)) (plain t.now))) e) }
 {
     let puts = Puts {
@@ -95,15 +95,16 @@ fn made_entries(alloc: Global, t: &Ty, c: &Context) -> Result<Made, MakeError>
 /// where it passes a limit (K4). The work goes with the size of the written type and the weight of the answer: making
 /// stops at the first part that takes the weight past its limit, and an argument that an operator drops isn't made.
 ///
-/// The entries of the context, the nodes of the written type and the size of the greatest definition have to stay, with
-/// 100,000, below 2 to the power 32.
+/// The one condition is that no record of the written type has a label twice: scopes are checked before kinds, and a
+/// label twice is refused there. Contexts are well formed by themselves. `Memory` also comes where a `u32` can't number
+/// the entries and the binders around a place.
 pub fn expand(alloc: Global, c: &Context, t: &TypeTree) -> Result<Ty, KindError>
     requires labels { HasDistinctLabels (type_of t.now) }
-    requires room { length (plain_context c.now) + (nodes (type_of t.now) + most_defined (plain_context c.now)) + 100000 < 2 ^ 32 }
-    ensures normal { IfOk result (λ u. plain u ≡ normal (names_of c.now) (plain_context c.now) (type_of t.now)) }
-    ensures allowed { IfOk result (λ _. kind_stop (names_of c.now) (plain_context c.now) (type_of t.now) ≡ None) }
-    ensures formed { IfOk result (λ u. IsWellFormed (names_of c.now) (kinds (type_context c.now)) (plain u)) }
-    ensures refused { IfErr result (λ e. IsRefusal (kind_stop (names_of c.now) (plain_context c.now) (type_of t.now)) e) }
+    ensures normal { IfOk result (λ u. plain u ≡ normal_in c.now (type_of t.now)) }
+    ensures allowed { IfOk result (λ _. stop_in c.now (type_of t.now) ≡ None) }
+    ensures formed { IfOk result (λ u. IsWrittenIn c.now (plain u)) }
+    ensures within { IfOk result (λ u. IsWithinLimits (type_context c.now) (plain u)) }
+    ensures refused { IfErr result (λ e. IsRefusal (stop_in c.now (type_of t.now)) e) }
 {
     let raw = raw_of(alloc, c, t)?;
     kept(made_entries(alloc, &raw, c), span_of(t))

@@ -5,8 +5,8 @@ mod arguments;
 mod binders;
 mod expansion;
 mod instance;
-mod labels;
 mod made;
+mod numbers;
 mod operators;
 mod put;
 mod puts;
@@ -17,7 +17,7 @@ mod tops;
 mod uses;
 
 pub use expansion::expand;
-pub use instance::instantiate;
+pub use instance::{instantiate, instantiate_type};
 pub use operators::expand_arg;
 pub use stops::KindError;
 

@@ -90,7 +90,8 @@ impl Made {
     /// A type with its measures. It is dropped where it is too high.
     pub fn new(measures: Measures, ty: Ty) -> Made
         requires { measures.weight ≤ 100000 }
-        ensures made { (ws hs : List ℕ) (t : PlainType) → plain ty ≡ t → measures.weight ≡ held (weigh ws t) → measures.height ≡ held (rise hs t) → IsMade ws hs result t }
+        ensures made { (ws hs : List ℕ) (t : PlainType) → plain ty ≡ t → measures.weight ≡ held (weigh ws t)
+            → measures.height ≡ held (rise hs t) → IsMade ws hs result t }
     {
         if is_within(measures) {
             return Made {
@@ -146,7 +147,8 @@ impl<T: Drop> Row<T> {
         ensures light { IfOk result (λ r. r.measures.weight ≤ 100000) }
         ensures height { IfOk result (λ r. r.measures.height ≡ max self.measures.height measures.height) }
         ensures grown { IfOk result (λ r. IfSome r.items (λ v. IsGrown self.items part v.items)) }
-        ensures missing { IfOk result (λ r. IfNone self.items (1000 < self.measures.height) → IfNone part (1000 < measures.height) → IfNone r.items (1000 < r.measures.height)) }
+        ensures missing { IfOk result (λ r. IfNone self.items (1000 < self.measures.height) → IfNone part (1000 < measures.height)
+            → IfNone r.items (1000 < r.measures.height)) }
         ensures reason { IfErr result (λ e. IsReason (self.measures.weight + measures.weight) e) }
     {
         let measures = light(self.measures.beside(measures))?;
@@ -183,7 +185,8 @@ pub fn bound_of(part: Made) -> Result<MadeBound, MakeError>
 
 /// A type field below a type with these measures.
 fn below(measures: Measures, t: Ty) -> Result<MadeBound, MakeError>
-    ensures made { IfOk result (λ m. (ws hs : List ℕ) → measures.weight ≡ weigh ws (plain t) → measures.height ≡ held (rise hs (plain t)) → IsMadeBound ws hs m (bound_by (plain t))) }
+    ensures made { IfOk result (λ m. (ws hs : List ℕ) → measures.weight ≡ weigh ws (plain t)
+        → measures.height ≡ held (rise hs (plain t)) → IsMadeBound ws hs m (bound_by (plain t))) }
     ensures reason { IfErr result (λ e. (ws : List ℕ) → measures.weight ≡ weigh ws (plain t) → IsReason (weigh_variable ws (bound_by (plain t))) e) }
 {
     match t {
@@ -221,8 +224,10 @@ pub fn recursive(alloc: Global, body: Made) -> Result<Made, MakeError>
 
 /// An operator variable with these arguments.
 pub fn applied_variable(i: u32, args: Row<Ty>) -> Result<Made, MakeError>
-    ensures made { IfOk result (λ m. (ws hs : List ℕ) (ts : PlainTypes) → IsRow plain_types args (weigh_types ws ts) 0 (rise_types hs ts) 0 ts → IsMade ws hs m (Apply i ts)) }
-    ensures reason { IfErr result (λ e. (ws hs : List ℕ) (ts : PlainTypes) → IsRow plain_types args (weigh_types ws ts) 0 (rise_types hs ts) 0 ts → IsReason (weigh ws (Apply i ts)) e) }
+    ensures made { IfOk result (λ m. (ws hs : List ℕ) (ts : PlainTypes) → IsRow plain_types args (weigh_types ws ts) 0 (rise_types hs ts) 0 ts
+        → IsMade ws hs m (Apply i ts)) }
+    ensures reason { IfErr result (λ e. (ws hs : List ℕ) (ts : PlainTypes) → IsRow plain_types args (weigh_types ws ts) 0 (rise_types hs ts) 0 ts
+        → IsReason (weigh ws (Apply i ts)) e) }
 {
     let measures = light(args.measures.above())?;
     match args.items {

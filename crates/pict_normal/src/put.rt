@@ -1,9 +1,7 @@
 // What stands for a variable.
 
-ghost use Rattle.std.specs.Prelude.{◌≡◌, ◌+◌, ◌≤◌, List, ℕ, length};
-ghost use Rattle.pict_types.specs.Kinds.{ArgIsWellFormed, Kind};
+ghost use Rattle.std.specs.Prelude.{◌≡◌, ◌+◌, ℕ};
 ghost use Rattle.pict_types.specs.Plain.{plain_arg};
-ghost use Rattle.pict_types.specs.Instances.{size_arg};
 ghost use Rattle.pict_normal.specs.Putting.{CanMove, HasRoom, put_head, put_type};
 ghost use Rattle.pict_types.specs.Renaming.{moved, plus, rename};
 ghost use Rattle.pict_types.specs.Replacing.{head_in, rename_head, type_in};
@@ -27,7 +25,7 @@ impl<'a> Put<'a> {
         requires room { CanMove count self }
         ensures type_ { put_type result ≡ rename (moved count 0) (put_type self.entry) }
         ensures head { put_head result ≡ rename_head (plus count) (put_head self.entry) }
-        ensures room { (n most d i : ℕ) → HasRoom n most d i self.entry → HasRoom n most (d + count) i result }
+        ensures room { (n d i : ℕ) → HasRoom n d i self.entry → HasRoom n (d + count) i result }
     {
         match self {
             Put::Variable(k) => Put::Variable(k + count),
@@ -45,7 +43,7 @@ impl<'a> Put<'a> {
 pub fn put_of(arg: &Arg) -> Put<'_>
     ensures type_ { put_type result ≡ type_in (plain_arg arg.now) }
     ensures head { put_head result ≡ head_in (plain_arg arg.now) }
-    ensures room { (ns : List (List ℕ)) (ks : List Kind) (most i : ℕ) → ArgIsWellFormed ns ks (plain_arg arg.now) → size_arg (plain_arg arg.now) ≤ most → HasRoom (length ks) most 0 i result }
+    ensures room { (n i : ℕ) → HasRoom n 0 i result }
 {
     match arg {
         Arg::Plain(t) => Put::Proper(t, 0),

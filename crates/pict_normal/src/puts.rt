@@ -1,17 +1,16 @@
 // What stands for the variables of a type.
 
-ghost use Rattle.std.specs.Prelude.{◌≡◌, ◌+◌, ◌<◌, ◌^◌, List, ℕ, length};
-ghost use Rattle.pict_types.specs.Kinds.{Kind};
+ghost use Rattle.std.specs.Prelude.{◌≡◌, ℕ, IfOk, length};
 ghost use Rattle.pict_normal.specs.Meanings.{meanings};
-ghost use Rattle.pict_normal.specs.Sizes.{most_defined};
 ghost use Rattle.pict_types.specs.Plain.{plain_args};
 ghost use Rattle.pict_types.specs.PlainContext.{plain_context, type_context};
-ghost use Rattle.pict_types.specs.Instances.{ArgsAreWellFormed, most_args};
-ghost use Rattle.pict_normal.specs.Putting.{HasRoom, PutsAreWellFormed, most_of, put_head, put_type, replacement_of, variables_in};
+ghost use Rattle.pict_normal.specs.Putting.{HasRoom, put_head, put_type, replacement_of, variables_in};
 ghost use Rattle.pict_types.specs.Replacing.{arguments, replacement_past};
 
+use crate::numbers::fits;
 use crate::put::{Put, put_of};
 use pict_types::{Arg, Context, What};
+use std::alloc::AllocError;
 
 /// The source of what stands for the variables of a type.
 #[derive(Clone, Copy)]
@@ -35,7 +34,7 @@ pub struct Puts<'a, 'n> {
 fn put_argument(args: &[Arg], i: u32) -> Put<'_>
     ensures type_ { put_type result ≡ (arguments (plain_args args.now)).type_of i }
     ensures head { put_head result ≡ (arguments (plain_args args.now)).head_of i }
-    ensures room { (ns : List (List ℕ)) (ks : List Kind) → ArgsAreWellFormed ns ks (plain_args args.now) → HasRoom (length ks) (most_args (plain_args args.now)) 0 i result }
+    ensures room { (n : ℕ) → HasRoom n 0 i result }
 {
     if (i as usize) < args.len() {
         let place = args.len() - 1 - i as usize;
@@ -48,7 +47,7 @@ fn put_argument(args: &[Arg], i: u32) -> Put<'_>
 pub fn put_entry<'a>(c: &'a Context, i: u32) -> Put<'a>
     ensures type_ { put_type result ≡ (meanings (plain_context c.now)).type_of i }
     ensures head { put_head result ≡ (meanings (plain_context c.now)).head_of i }
-    ensures room { HasRoom (length (type_context c.now)) (most_defined (plain_context c.now)) 0 i result }
+    ensures room { HasRoom (length (type_context c.now)) 0 i result }
 {
     match c.what(i as usize) {
         None => Put::Variable((i as usize - c.len()) as u32 + c.variables()),
@@ -60,10 +59,9 @@ pub fn put_entry<'a>(c: &'a Context, i: u32) -> Put<'a>
 impl<'a, 'n> Puts<'a, 'n> {
     /// What stands for variable `i`.
     fn put_at(&self, i: u32) -> Put<'a>
-        requires formed { PutsAreWellFormed self.now }
         ensures type_ { put_type result ≡ (replacement_of self.now).type_of i }
         ensures head { put_head result ≡ (replacement_of self.now).head_of i }
-        ensures room { HasRoom (length (variables_in self.now)) (most_of self.now) 0 i result }
+        ensures room { HasRoom (length (variables_in self.now)) 0 i result }
     {
         match self.source {
             Source::Arguments(args) => put_argument(args, i),
@@ -71,18 +69,18 @@ impl<'a, 'n> Puts<'a, 'n> {
         }
     }
 
-    /// What stands for variable `i` under so many binders, written under them.
-    pub fn put_under(&self, i: u32, depth: usize) -> Put<'a>
-        requires formed { PutsAreWellFormed self.now }
-        requires room { length (variables_in self.now) + depth < 2 ^ 32 }
-        ensures type_ { put_type result ≡ (replacement_past depth (replacement_of self.now)).type_of i }
-        ensures head { put_head result ≡ (replacement_past depth (replacement_of self.now)).head_of i }
-        ensures room { HasRoom (length (variables_in self.now)) (most_of self.now) depth i result }
+    /// What stands for variable `i` under so many binders, written under them. An error where a `u32` can't number the
+    /// variables there.
+    pub fn put_under(&self, i: u32, depth: usize) -> Result<Put<'a>, AllocError>
+        ensures type_ { IfOk result (λ p. put_type p ≡ (replacement_past depth (replacement_of self.now)).type_of i) }
+        ensures head { IfOk result (λ p. put_head p ≡ (replacement_past depth (replacement_of self.now)).head_of i) }
+        ensures room { IfOk result (λ p. HasRoom (length (variables_in self.now)) depth i p) }
     {
         if (i as usize) < depth {
-            return Put::Variable(i);
+            return Ok(Put::Variable(i));
         }
         let under = depth as u32;
-        self.put_at(i - under).under(under)
+        fits(self.context.variables(), under)?;
+        Ok(self.put_at(i - under).under(under))
     }
 }

@@ -1,25 +1,23 @@
 // Written types as types, with the names of definitions as variables.
 
-ghost use Rattle.std.specs.Prelude.{◌≡◌, ◌+◌, ◌<◌, ◌^◌, [], ◌∷◌, length, IfOk, IfErr, OnOk};
-ghost use Rattle.pict_syntax.specs.PlainTrees.{type_of, binder_of, types-on, binders-on, labelled-types-on};
+ghost use Rattle.std.specs.Prelude.{◌≡◌, [], ◌∷◌, IfOk, IfErr, OnOk};
+ghost use Rattle.pict_syntax.specs.PlainTrees.{type_of, binder_of, types_on, binders_on, labelled_types_on};
 ghost use Rattle.pict_syntax.specs.declared.span.Span.{Span};
-ghost use Rattle.pict_syntax.specs.Trees.{fields-type, no-binders, no-labelled-types, no-types};
+ghost use Rattle.pict_syntax.specs.Trees.{no_binders, no_labelled_types, no_types};
 ghost use Rattle.pict_normal.specs.BinderEntries.{bound_entry, entries_under};
 ghost use Rattle.pict_normal.specs.Normal.{binder_stops, binders_stops, bound_stops, kind_stops, normal, labels_stops, types_stops};
-ghost use Rattle.pict_normal.specs.Around.{around, scope_of};
+ghost use Rattle.pict_normal.specs.Around.{around, operator_stops, record_tree, scope_of};
 ghost use Rattle.pict_types.specs.Plain.{plain, plain_bound, plain_bounds, plain_cap, plain_labels, plain_record, plain_types};
 ghost use Rattle.pict_types.specs.PlainContext.{names_of};
 ghost use Rattle.pict_types.specs.Places.{names_in};
-ghost use Rattle.pict_normal.specs.Sizes.{nodes, nodes_of_binder, nodes_of_binders, nodes_of_labels, nodes_of_types};
 ghost use Rattle.pict_normal.specs.Raw.{raw, raw_binder, raw_binders, raw_labels, raw_types};
 ghost use Rattle.pict_normal.specs.Refusals.{IsFirst};
 ghost use Rattle.pict_types.specs.Types.{Chan, Operator, Rec};
 
 use crate::binders::Binders;
-use crate::labels::sort_labels;
 use crate::stops::{KindError, raw_head, raw_use};
 use crate::tops::becomes_top;
-use pict_syntax::{Code, Id, KindTree, LabelledType, Name, TypeBinder, TypeTree};
+use pict_syntax::{Code, Id, KindTree, LabelledType, Name, TypeBinder, TypeTree, sort_labels};
 use pict_types::{Bound, Cap, Context, Record, Ty, apply_head, bound_by};
 use std::alloc::Global;
 
@@ -33,7 +31,6 @@ pub fn raw_type(
     c: &Context,
     inner: &mut Binders,
 ) -> Result<Ty, KindError>
-    requires room { length (around inner.old c.now) + nodes (type_of t.now) < 2 ^ 32 }
     ensures raw { IfOk result (λ u. plain u ≡ raw (names_of c.now) (names_in (around inner.old c.now)) (type_of t.now)) }
     ensures kinds { IfOk result (λ _. kind_stops (names_of c.now) (around inner.old c.now) (type_of t.now) ≡ []) }
     ensures first { IfErr result (λ e. IsFirst (kind_stops (names_of c.now) (around inner.old c.now) (type_of t.now)) e) }
@@ -67,7 +64,6 @@ fn raw_channel(
     c: &Context,
     inner: &mut Binders,
 ) -> Result<Ty, KindError>
-    requires room { length (around inner.old c.now) + nodes (type_of t.now) < 2 ^ 32 }
     ensures raw { IfOk result (λ u. plain u ≡ Chan (plain_cap cap) (raw (names_of c.now) (names_in (around inner.old c.now)) (type_of t.now))) }
     ensures kinds { IfOk result (λ _. kind_stops (names_of c.now) (around inner.old c.now) (type_of t.now) ≡ []) }
     ensures first { IfErr result (λ e. IsFirst (kind_stops (names_of c.now) (around inner.old c.now) (type_of t.now)) e) }
@@ -85,7 +81,6 @@ fn raw_recursion(
     c: &Context,
     inner: &mut Binders,
 ) -> Result<Ty, KindError>
-    requires room { length (around inner.old c.now) + nodes (type_of t.now) + 1 < 2 ^ 32 }
     ensures raw { IfOk result (λ u. plain u ≡ Rec (raw (names_of c.now) (name.0 ∷ names_in (around inner.old c.now)) (type_of t.now))) }
     ensures kinds { IfOk result (λ _. kind_stops (names_of c.now) (bound_entry name.0 None ∷ (around inner.old c.now)) (type_of t.now) ≡ []) }
     ensures first { IfErr result (λ e. IsFirst (kind_stops (names_of c.now) (bound_entry name.0 None ∷ (around inner.old c.now)) (type_of t.now)) e) }
@@ -105,10 +100,9 @@ fn raw_types(
     c: &Context,
     inner: &mut Binders,
 ) -> Result<Vec<Ty>, KindError>
-    requires room { length (around inner.old c.now) + nodes_of_types (types-on no-types ts.now) < 2 ^ 32 }
-    ensures raw { IfOk result (λ us. plain_types us.items ≡ raw_types (names_of c.now) (names_in (around inner.old c.now)) (types-on no-types ts.now)) }
-    ensures kinds { IfOk result (λ _. types_stops (names_of c.now) (around inner.old c.now) (types-on no-types ts.now) ≡ []) }
-    ensures first { IfErr result (λ e. IsFirst (types_stops (names_of c.now) (around inner.old c.now) (types-on no-types ts.now)) e) }
+    ensures raw { IfOk result (λ us. plain_types us.items ≡ raw_types (names_of c.now) (names_in (around inner.old c.now)) (types_on no_types ts.now)) }
+    ensures kinds { IfOk result (λ _. types_stops (names_of c.now) (around inner.old c.now) (types_on no_types ts.now) ≡ []) }
+    ensures first { IfErr result (λ e. IsFirst (types_stops (names_of c.now) (around inner.old c.now) (types_on no_types ts.now)) e) }
     ensures inner { OnOk result (scope_of inner.new ≡ scope_of inner.old) }
 {
     let mut types = Vec::new(alloc);
@@ -125,10 +119,10 @@ fn raw_labels(
     c: &Context,
     inner: &mut Binders,
 ) -> Result<Vec<(Name, Ty)>, KindError>
-    requires room { length (around inner.old c.now) + nodes_of_labels (labelled-types-on no-labelled-types ls.now) < 2 ^ 32 }
-    ensures raw { IfOk result (λ us. plain_labels us.items ≡ raw_labels (names_of c.now) (names_in (around inner.old c.now)) (labelled-types-on no-labelled-types ls.now)) }
-    ensures kinds { IfOk result (λ _. labels_stops (names_of c.now) (around inner.old c.now) (labelled-types-on no-labelled-types ls.now) ≡ []) }
-    ensures first { IfErr result (λ e. IsFirst (labels_stops (names_of c.now) (around inner.old c.now) (labelled-types-on no-labelled-types ls.now)) e) }
+    ensures raw { IfOk result (λ us. plain_labels us.items
+        ≡ raw_labels (names_of c.now) (names_in (around inner.old c.now)) (labelled_types_on no_labelled_types ls.now)) }
+    ensures kinds { IfOk result (λ _. labels_stops (names_of c.now) (around inner.old c.now) (labelled_types_on no_labelled_types ls.now) ≡ []) }
+    ensures first { IfErr result (λ e. IsFirst (labels_stops (names_of c.now) (around inner.old c.now) (labelled_types_on no_labelled_types ls.now)) e) }
     ensures inner { OnOk result (scope_of inner.new ≡ scope_of inner.old) }
 {
     let mut labelled = Vec::new(alloc);
@@ -147,11 +141,10 @@ fn raw_binders(
     c: &Context,
     inner: &mut Binders,
 ) -> Result<Vec<Bound>, KindError>
-    requires room { length (around inner.old c.now) + nodes_of_binders (binders-on no-binders bs.now) < 2 ^ 32 }
-    ensures raw { IfOk result (λ ds. plain_bounds ds.items ≡ raw_binders (names_of c.now) (names_in (around inner.old c.now)) (binders-on no-binders bs.now)) }
-    ensures kinds { IfOk result (λ _. binders_stops (names_of c.now) (around inner.old c.now) (binders-on no-binders bs.now) ≡ []) }
-    ensures first { IfErr result (λ e. IsFirst (binders_stops (names_of c.now) (around inner.old c.now) (binders-on no-binders bs.now)) e) }
-    ensures inner { OnOk result (scope_of inner.new ≡ entries_under (scope_of inner.old) (binders-on no-binders bs.now)) }
+    ensures raw { IfOk result (λ ds. plain_bounds ds.items ≡ raw_binders (names_of c.now) (names_in (around inner.old c.now)) (binders_on no_binders bs.now)) }
+    ensures kinds { IfOk result (λ _. binders_stops (names_of c.now) (around inner.old c.now) (binders_on no_binders bs.now) ≡ []) }
+    ensures first { IfErr result (λ e. IsFirst (binders_stops (names_of c.now) (around inner.old c.now) (binders_on no_binders bs.now)) e) }
+    ensures inner { OnOk result (scope_of inner.new ≡ entries_under (scope_of inner.old) (binders_on no_binders bs.now)) }
 {
     let mut bounds = Vec::new(alloc);
     for b in bs {
@@ -169,7 +162,6 @@ fn raw_binder(
     c: &Context,
     inner: &mut Binders,
 ) -> Result<Bound, KindError>
-    requires room { length (around inner.old c.now) + nodes_of_binder (binder_of b.now) < 2 ^ 32 }
     ensures raw { IfOk result (λ d. plain_bound d ≡ raw_binder (names_of c.now) (names_in (around inner.old c.now)) (binder_of b.now)) }
     ensures kinds { IfOk result (λ _. binder_stops (names_of c.now) (around inner.old c.now) (binder_of b.now) ≡ []) }
     ensures first { IfErr result (λ e. IsFirst (binder_stops (names_of c.now) (around inner.old c.now) (binder_of b.now)) e) }
@@ -199,10 +191,9 @@ fn operator_bound(
     c: &Context,
     inner: &mut Binders,
 ) -> Result<Bound, KindError>
-    requires room { length (around inner.old c.now) + nodes (type_of t.now) < 2 ^ 32 }
     ensures raw { IfOk result (λ d. plain_bound d ≡ Operator n) }
-    ensures kinds { IfOk result (λ _. bound_stops at (Some (KindTree.Operator n)) (kind_stops (names_of c.now) (around inner.old c.now) (type_of t.now)) (normal (names_of c.now) (around inner.old c.now) (type_of t.now)) ≡ []) }
-    ensures first { IfErr result (λ e. IsFirst (bound_stops at (Some (KindTree.Operator n)) (kind_stops (names_of c.now) (around inner.old c.now) (type_of t.now)) (normal (names_of c.now) (around inner.old c.now) (type_of t.now))) e) }
+    ensures kinds { IfOk result (λ _. operator_stops at n inner.old c.now (type_of t.now) ≡ []) }
+    ensures first { IfErr result (λ e. IsFirst (operator_stops at n inner.old c.now (type_of t.now)) e) }
     ensures inner { OnOk result (scope_of inner.new ≡ scope_of inner.old) }
 {
     match raw_type(alloc, t, c, inner) {
@@ -227,10 +218,10 @@ fn raw_record(
     c: &Context,
     inner: &mut Binders,
 ) -> Result<Record, KindError>
-    requires room { length (around inner.old c.now) + (nodes_of_binders (binders-on no-binders bs.now) + nodes_of_types (types-on no-types ts.now) + nodes_of_labels (labelled-types-on no-labelled-types ls.now)) < 2 ^ 32 }
-    ensures raw { (s : Span) → IfOk result (λ r. plain_record r ≡ raw (names_of c.now) (names_in (around inner.old c.now)) (fields-type s (binders-on no-binders bs.now) (types-on no-types ts.now) (labelled-types-on no-labelled-types ls.now))) }
-    ensures kinds { (s : Span) → IfOk result (λ _. kind_stops (names_of c.now) (around inner.old c.now) (fields-type s (binders-on no-binders bs.now) (types-on no-types ts.now) (labelled-types-on no-labelled-types ls.now)) ≡ []) }
-    ensures first { (s : Span) → IfErr result (λ e. IsFirst (kind_stops (names_of c.now) (around inner.old c.now) (fields-type s (binders-on no-binders bs.now) (types-on no-types ts.now) (labelled-types-on no-labelled-types ls.now))) e) }
+    ensures raw { (s : Span) → IfOk result (λ r. plain_record r
+        ≡ raw (names_of c.now) (names_in (around inner.old c.now)) (record_tree s bs.now ts.now ls.now)) }
+    ensures kinds { (s : Span) → IfOk result (λ _. kind_stops (names_of c.now) (around inner.old c.now) (record_tree s bs.now ts.now ls.now) ≡ []) }
+    ensures first { (s : Span) → IfErr result (λ e. IsFirst (kind_stops (names_of c.now) (around inner.old c.now) (record_tree s bs.now ts.now ls.now)) e) }
     ensures inner { OnOk result (scope_of inner.new ≡ scope_of inner.old) }
 {
     let binders = raw_binders(alloc, bs, c, inner)?;

@@ -1,12 +1,12 @@
 // Types and operators put for type variables, exactly, and not beyond what is too heavy.
 
-ghost use Rattle.std.specs.Prelude.{◌≡◌, ◌+◌, ◌≤◌, ◌<◌, ◌^◌, ◌++◌, List, ℕ, IfErr, IfOk, IfSome, None, Some, OnOk, length, map};
+ghost use Rattle.std.specs.Prelude.{◌≡◌, ◌+◌, ◌≤◌, ◌<◌, ◌^◌, List, ℕ, IfErr, IfOk, IfSome, None, Some, OnOk, length, map};
 ghost use Rattle.pict_types.specs.Kinds.{AreWellFormed, BoundIsWellFormed, BoundsAreWellFormed, IsWellFormed, LabelsAreWellFormed, kind_at, proper};
-ghost use Rattle.pict_normal.specs.Made.{AreArguments, IsMade, IsMadeBound, IsReason, IsRow, counted, only_used, used_as, weight_used};
-ghost use Rattle.pict_types.specs.Measures.{heights_under, held, rise_bounds, rise_labels, rise_types, rise_variable, size, size_bound, size_bounds, size_labels, size_types, weigh, weigh_bounds, weigh_labels, weigh_types, weigh_variable, weights_under};
+ghost use Rattle.pict_normal.specs.Made.{IsReason, IsRow, counted, only_used, used_as, weight_used};
+ghost use Rattle.pict_types.specs.Measures.{heights_under, held, rise_bounds, rise_labels, rise_types, rise_variable, weigh, weigh_bounds, weigh_labels, weigh_types, weigh_variable, weights_under};
 ghost use Rattle.pict_types.specs.Plain.{plain, plain_bound, plain_bounds, plain_labels, plain_record, plain_types};
-ghost use Rattle.pict_normal.specs.Putting.{IsPlaced, IsUnder, heights_in, names_in, replacement_in, weights_in};
-ghost use Rattle.pict_types.specs.Replacing.{replace, replace_bound, replace_bounds, replace_labels, replace_types};
+ghost use Rattle.pict_normal.specs.Putting.{IsPlaced, IsUnder, heights_in, names_in, weights_in};
+ghost use Rattle.pict_normal.specs.Placed.{AreArgumentsIn, IsMadeBoundIn, IsMadeIn, replaced, replaced_bound, replaced_bounds, replaced_labels, replaced_types};
 ghost use Rattle.pict_types.specs.Types.{Apply, Var, count_bounds};
 
 use crate::arguments::{Arguments, applied};
@@ -23,13 +23,14 @@ use std::alloc::Global;
 
 /// What stands for the variable `i` under the binders of `inner`.
 fn made_variable(alloc: Global, i: u32, puts: &Puts, inner: &[Measures]) -> Result<Made, MakeError>
-    requires placed { IsPlaced puts.now inner.now (λ ks. kind_at ks i ≡ Some proper) 1 }
-    ensures made { IfOk result (λ m. IsMade (weights_in puts.now inner.now) (heights_in puts.now inner.now) m (replace (replacement_in puts.now inner.now) (Var i))) }
-    ensures reason { IfErr result (λ e. IsReason (weigh (weights_in puts.now inner.now) (replace (replacement_in puts.now inner.now) (Var i))) e) }
+    requires placed { IsPlaced puts.now inner.now (λ ks. kind_at ks i ≡ Some proper) }
+    ensures made { IfOk result (λ m. IsMadeIn puts.now inner.now m (replaced puts.now inner.now (Var i))) }
+    ensures reason { IfErr result (λ e. IsReason (weigh (weights_in puts.now inner.now) (replaced puts.now inner.now (Var i))) e) }
 {
     let c = puts.context;
     let depth = inner.len();
-    match puts.put_under(i, depth) {
+    let put = puts.put_under(i, depth)?;
+    match put {
         Put::Variable(k) => {
             let t = Ty::Var(k);
             let measures = light(c.measures_inside(inner, 0, &t))?;
@@ -57,9 +58,9 @@ pub fn made_type(
     puts: &Puts,
     inner: &mut Vec<Measures>,
 ) -> Result<Made, MakeError>
-    requires placed { IsPlaced puts.now inner.old.items (λ ks. IsWellFormed (names_in puts.now) ks (plain t.now)) (size (plain t.now)) }
-    ensures made { IfOk result (λ m. IsMade (weights_in puts.now inner.old.items) (heights_in puts.now inner.old.items) m (replace (replacement_in puts.now inner.old.items) (plain t.now))) }
-    ensures reason { IfErr result (λ e. IsReason (weigh (weights_in puts.now inner.old.items) (replace (replacement_in puts.now inner.old.items) (plain t.now))) e) }
+    requires placed { IsPlaced puts.now inner.old.items (λ ks. IsWellFormed (names_in puts.now) ks (plain t.now)) }
+    ensures made { IfOk result (λ m. IsMadeIn puts.now inner.old.items m (replaced puts.now inner.old.items (plain t.now))) }
+    ensures reason { IfErr result (λ e. IsReason (weigh (weights_in puts.now inner.old.items) (replaced puts.now inner.old.items (plain t.now))) e) }
     ensures inner { OnOk result (inner.new.items ≡ inner.old.items) }
 {
     match t {
@@ -90,16 +91,18 @@ fn made_apply(
     puts: &Puts,
     inner: &mut Vec<Measures>,
 ) -> Result<Made, MakeError>
-    requires placed { IsPlaced puts.now inner.old.items (λ ks. IsWellFormed (names_in puts.now) ks (Apply i (plain_types ts.now))) (size_types (plain_types ts.now) + 1) }
-    ensures made { IfOk result (λ m. IsMade (weights_in puts.now inner.old.items) (heights_in puts.now inner.old.items) m (replace (replacement_in puts.now inner.old.items) (Apply i (plain_types ts.now)))) }
-    ensures reason { IfErr result (λ e. IsReason (weigh (weights_in puts.now inner.old.items) (replace (replacement_in puts.now inner.old.items) (Apply i (plain_types ts.now)))) e) }
+    requires placed { IsPlaced puts.now inner.old.items (λ ks. IsWellFormed (names_in puts.now) ks (Apply i (plain_types ts.now))) }
+    ensures made { IfOk result (λ m. IsMadeIn puts.now inner.old.items m (replaced puts.now inner.old.items (Apply i (plain_types ts.now)))) }
+    ensures reason { IfErr result (λ e. IsReason
+        (weigh (weights_in puts.now inner.old.items) (replaced puts.now inner.old.items (Apply i (plain_types ts.now)))) e) }
     ensures inner { OnOk result (inner.new.items ≡ inner.old.items) }
 {
-    match puts.put_under(i, inner.as_slice().len()) {
+    let put = puts.put_under(i, inner.as_slice().len())?;
+    match put {
         Put::Variable(k) => applied_variable(k, made_types(alloc, ts, puts, inner)?),
         Put::Proper(_, _) => Ok(Made::leaf(Ty::Top)),
-        Put::Operator { body, by, .. } => {
-            let used = used_parameters(alloc, body, ts.len() as u32)?;
+        Put::Operator { params, body, by } => {
+            let used = used_parameters(alloc, body, params)?;
             let args = made_arguments(alloc, ts, &used, puts, inner)?;
             applied(alloc, puts.context, body, &args, by, inner)
         }
@@ -115,9 +118,10 @@ fn made_argument(
     puts: &Puts,
     inner: &mut Vec<Measures>,
 ) -> Result<Made, MakeError>
-    requires placed { IsPlaced puts.now inner.old.items (λ ks. IsWellFormed (names_in puts.now) ks (plain t.now)) (size (plain t.now)) }
-    ensures made { IfOk result (λ m. IsMade (weights_in puts.now inner.old.items) (heights_in puts.now inner.old.items) m (used_as used (replace (replacement_in puts.now inner.old.items) (plain t.now)))) }
-    ensures reason { IfErr result (λ e. IsReason (weigh (weights_in puts.now inner.old.items) (used_as used (replace (replacement_in puts.now inner.old.items) (plain t.now)))) e) }
+    requires placed { IsPlaced puts.now inner.old.items (λ ks. IsWellFormed (names_in puts.now) ks (plain t.now)) }
+    ensures made { IfOk result (λ m. IsMadeIn puts.now inner.old.items m (used_as used (replaced puts.now inner.old.items (plain t.now)))) }
+    ensures reason { IfErr result (λ e. IsReason
+        (weigh (weights_in puts.now inner.old.items) (used_as used (replaced puts.now inner.old.items (plain t.now)))) e) }
     ensures inner { OnOk result (inner.new.items ≡ inner.old.items) }
 {
     if used {
@@ -149,10 +153,13 @@ fn made_arguments(
     puts: &Puts,
     inner: &mut Vec<Measures>,
 ) -> Result<Arguments, MakeError>
-    requires placed { IsPlaced puts.now inner.old.items (λ ks. AreWellFormed (names_in puts.now) ks (plain_types ts.now)) (size_types (plain_types ts.now)) }
+    requires placed { IsPlaced puts.now inner.old.items (λ ks. AreWellFormed (names_in puts.now) ks (plain_types ts.now)) }
     requires used { length used.now ≡ length ts.now }
-    ensures made { IfOk result (λ a. AreArguments (weights_in puts.now inner.old.items) (heights_in puts.now inner.old.items) a (only_used used.now (replace_types (replacement_in puts.now inner.old.items) (plain_types ts.now)))) }
-    ensures reason { IfErr result (λ e. IsReason (weight_used (weights_in puts.now inner.old.items) used.now (replace_types (replacement_in puts.now inner.old.items) (plain_types ts.now))) e) }
+    requires few { length ts.now < 2 ^ 32 }
+    ensures made { IfOk result (λ a. AreArgumentsIn puts.now inner.old.items a
+        (only_used used.now (replaced_types puts.now inner.old.items (plain_types ts.now)))) }
+    ensures reason { IfErr result (λ e. IsReason
+        (weight_used (weights_in puts.now inner.old.items) used.now (replaced_types puts.now inner.old.items (plain_types ts.now))) e) }
     ensures inner { OnOk result (inner.new.items ≡ inner.old.items) }
 {
     let mut args = Arguments::new(alloc);
@@ -174,12 +181,13 @@ pub fn made_types(
     puts: &Puts,
     inner: &mut Vec<Measures>,
 ) -> Result<Row<Ty>, MakeError>
-    requires placed { IsPlaced puts.now inner.old.items (λ ks. AreWellFormed (names_in puts.now) ks (plain_types ts.now)) (size_types (plain_types ts.now)) }
+    requires placed { IsPlaced puts.now inner.old.items (λ ks. AreWellFormed (names_in puts.now) ks (plain_types ts.now)) }
     ensures made { IfOk result (λ r. IsRow plain_types r
-        (weigh_types (weights_in puts.now inner.old.items) (replace_types (replacement_in puts.now inner.old.items) (plain_types ts.now))) 0
-        (rise_types (heights_in puts.now inner.old.items) (replace_types (replacement_in puts.now inner.old.items) (plain_types ts.now))) 0
-        (replace_types (replacement_in puts.now inner.old.items) (plain_types ts.now))) }
-    ensures reason { IfErr result (λ e. IsReason (weigh_types (weights_in puts.now inner.old.items) (replace_types (replacement_in puts.now inner.old.items) (plain_types ts.now))) e) }
+        (weigh_types (weights_in puts.now inner.old.items) (replaced_types puts.now inner.old.items (plain_types ts.now))) 0
+        (rise_types (heights_in puts.now inner.old.items) (replaced_types puts.now inner.old.items (plain_types ts.now))) 0
+        (replaced_types puts.now inner.old.items (plain_types ts.now))) }
+    ensures reason { IfErr result (λ e. IsReason
+        (weigh_types (weights_in puts.now inner.old.items) (replaced_types puts.now inner.old.items (plain_types ts.now))) e) }
     ensures inner { OnOk result (inner.new.items ≡ inner.old.items) }
 {
     let mut row = Row::new(alloc);
@@ -191,7 +199,7 @@ pub fn made_types(
 }
 
 /// A labelled field, where its type is there.
-fn with_label(label: Name, ty: Option<Ty>) -> Option<(Name, Ty)>
+fn labelled_part(label: Name, ty: Option<Ty>) -> Option<(Name, Ty)>
     ensures some { IfSome ty (λ t. result ≡ Some (label, t)) }
     ensures none { ty ≡ None → result ≡ None }
 {
@@ -209,18 +217,19 @@ pub fn made_labels(
     puts: &Puts,
     inner: &mut Vec<Measures>,
 ) -> Result<Row<(Name, Ty)>, MakeError>
-    requires placed { IsPlaced puts.now inner.old.items (λ ks. LabelsAreWellFormed (names_in puts.now) ks (plain_labels ls.now)) (size_labels (plain_labels ls.now)) }
+    requires placed { IsPlaced puts.now inner.old.items (λ ks. LabelsAreWellFormed (names_in puts.now) ks (plain_labels ls.now)) }
     ensures made { IfOk result (λ r. IsRow plain_labels r
-        (weigh_labels (weights_in puts.now inner.old.items) (replace_labels (replacement_in puts.now inner.old.items) (plain_labels ls.now))) 0
-        (rise_labels (heights_in puts.now inner.old.items) (replace_labels (replacement_in puts.now inner.old.items) (plain_labels ls.now))) 0
-        (replace_labels (replacement_in puts.now inner.old.items) (plain_labels ls.now))) }
-    ensures reason { IfErr result (λ e. IsReason (weigh_labels (weights_in puts.now inner.old.items) (replace_labels (replacement_in puts.now inner.old.items) (plain_labels ls.now))) e) }
+        (weigh_labels (weights_in puts.now inner.old.items) (replaced_labels puts.now inner.old.items (plain_labels ls.now))) 0
+        (rise_labels (heights_in puts.now inner.old.items) (replaced_labels puts.now inner.old.items (plain_labels ls.now))) 0
+        (replaced_labels puts.now inner.old.items (plain_labels ls.now))) }
+    ensures reason { IfErr result (λ e. IsReason
+        (weigh_labels (weights_in puts.now inner.old.items) (replaced_labels puts.now inner.old.items (plain_labels ls.now))) e) }
     ensures inner { OnOk result (inner.new.items ≡ inner.old.items) }
 {
     let mut row = Row::new(alloc);
     for l in ls {
         let Made { measures, ty } = made_type(alloc, &l.1, puts, inner)?;
-        row = row.with(measures, with_label(l.0, ty))?;
+        row = row.with(measures, labelled_part(l.0, ty))?;
     }
     Ok(row)
 }
@@ -233,9 +242,10 @@ fn made_bound(
     puts: &Puts,
     inner: &mut Vec<Measures>,
 ) -> Result<MadeBound, MakeError>
-    requires placed { IsPlaced puts.now inner.old.items (λ ks. BoundIsWellFormed (names_in puts.now) ks (plain_bound b.now)) (size_bound (plain_bound b.now)) }
-    ensures made { IfOk result (λ m. IsMadeBound (weights_in puts.now inner.old.items) (heights_in puts.now inner.old.items) m (replace_bound (replacement_in puts.now inner.old.items) (plain_bound b.now))) }
-    ensures reason { IfErr result (λ e. IsReason (weigh_variable (weights_in puts.now inner.old.items) (replace_bound (replacement_in puts.now inner.old.items) (plain_bound b.now))) e) }
+    requires placed { IsPlaced puts.now inner.old.items (λ ks. BoundIsWellFormed (names_in puts.now) ks (plain_bound b.now)) }
+    ensures made { IfOk result (λ m. IsMadeBoundIn puts.now inner.old.items m (replaced_bound puts.now inner.old.items (plain_bound b.now))) }
+    ensures reason { IfErr result (λ e. IsReason
+        (weigh_variable (weights_in puts.now inner.old.items) (replaced_bound puts.now inner.old.items (plain_bound b.now))) e) }
     ensures inner { OnOk result (inner.new.items ≡ inner.old.items) }
 {
     match b {
@@ -253,12 +263,13 @@ fn made_bounds(
     puts: &Puts,
     inner: &mut Vec<Measures>,
 ) -> Result<Row<Bound>, MakeError>
-    requires placed { IsPlaced puts.now inner.old.items (λ ks. BoundsAreWellFormed (names_in puts.now) ks (plain_bounds bs.now)) (size_bounds (plain_bounds bs.now)) }
+    requires placed { IsPlaced puts.now inner.old.items (λ ks. BoundsAreWellFormed (names_in puts.now) ks (plain_bounds bs.now)) }
     ensures made { IfOk result (λ r. IsRow plain_bounds r
-        (weigh_bounds (weights_in puts.now inner.old.items) (replace_bounds (replacement_in puts.now inner.old.items) (plain_bounds bs.now))) 0
-        (rise_bounds (heights_in puts.now inner.old.items) (replace_bounds (replacement_in puts.now inner.old.items) (plain_bounds bs.now))) 0
-        (replace_bounds (replacement_in puts.now inner.old.items) (plain_bounds bs.now))) }
-    ensures reason { IfErr result (λ e. IsReason (weigh_bounds (weights_in puts.now inner.old.items) (replace_bounds (replacement_in puts.now inner.old.items) (plain_bounds bs.now))) e) }
+        (weigh_bounds (weights_in puts.now inner.old.items) (replaced_bounds puts.now inner.old.items (plain_bounds bs.now))) 0
+        (rise_bounds (heights_in puts.now inner.old.items) (replaced_bounds puts.now inner.old.items (plain_bounds bs.now))) 0
+        (replaced_bounds puts.now inner.old.items (plain_bounds bs.now))) }
+    ensures reason { IfErr result (λ e. IsReason
+        (weigh_bounds (weights_in puts.now inner.old.items) (replaced_bounds puts.now inner.old.items (plain_bounds bs.now))) e) }
     ensures inner { OnOk result (IsUnder puts.now inner.old.items inner.new.items (plain_bounds bs.now)) }
 {
     let mut row = Row::new(alloc);
@@ -278,9 +289,9 @@ fn made_record(
     puts: &Puts,
     inner: &mut Vec<Measures>,
 ) -> Result<Made, MakeError>
-    requires placed { IsPlaced puts.now inner.old.items (λ ks. IsWellFormed (names_in puts.now) ks (plain_record r.now)) (size (plain_record r.now)) }
-    ensures made { IfOk result (λ m. IsMade (weights_in puts.now inner.old.items) (heights_in puts.now inner.old.items) m (replace (replacement_in puts.now inner.old.items) (plain_record r.now))) }
-    ensures reason { IfErr result (λ e. IsReason (weigh (weights_in puts.now inner.old.items) (replace (replacement_in puts.now inner.old.items) (plain_record r.now))) e) }
+    requires placed { IsPlaced puts.now inner.old.items (λ ks. IsWellFormed (names_in puts.now) ks (plain_record r.now)) }
+    ensures made { IfOk result (λ m. IsMadeIn puts.now inner.old.items m (replaced puts.now inner.old.items (plain_record r.now))) }
+    ensures reason { IfErr result (λ e. IsReason (weigh (weights_in puts.now inner.old.items) (replaced puts.now inner.old.items (plain_record r.now))) e) }
     ensures inner { OnOk result (inner.new.items ≡ inner.old.items) }
 {
     let depth = inner.as_slice().len();

@@ -1,7 +1,7 @@
 // Where the rules of kinds fail in a written type.
 
-ghost use Rattle.std.specs.Prelude.{◌≡◌, ◌+◌, ◌<◌, ◌^◌, [], length, IfOk, IfErr};
-ghost use Rattle.pict_syntax.specs.Trees.{use-type};
+ghost use Rattle.std.specs.Prelude.{◌≡◌, [], IfOk, IfErr};
+ghost use Rattle.pict_syntax.specs.Trees.{use_type};
 ghost use Rattle.pict_normal.specs.Normal.{apply_stops, kind_stops, meaning};
 ghost use Rattle.pict_normal.specs.Around.{around};
 ghost use Rattle.pict_types.specs.Plain.{plain};
@@ -11,6 +11,7 @@ ghost use Rattle.pict_normal.specs.Raw.{variable_at};
 ghost use Rattle.pict_normal.specs.Refusals.{IsFirst};
 
 use crate::binders::Binders;
+use crate::numbers::number;
 use pict_syntax::{Code, Name, Span};
 use pict_types::{Context, Ty};
 use std::alloc::{AllocError, AllocFailed};
@@ -50,16 +51,16 @@ impl<T: Drop> From<AllocFailed<T>> for KindError {
     }
 }
 
-/// The place of a name among the binders and then the entries of the context, counted from the innermost.
-fn place_of(c: &Context, inner: &Binders, name: Name) -> Option<usize>
-    requires room { length (around inner.now c.now) < 2 ^ 32 }
-    ensures { result ≡ place (names_in (around inner.now c.now)) name.0 }
+/// The place of a name among the binders and then the entries of the context, counted from the innermost. An error
+/// where a `u32` can't hold it.
+fn place_of(c: &Context, inner: &Binders, name: Name) -> Result<Option<u32>, AllocError>
+    ensures { IfOk result (λ i. i ≡ place (names_in (around inner.now c.now)) name.0) }
 {
     match inner.place(name) {
-        Some(i) => Some(i),
+        Some(i) => Ok(Some(number(i)?)),
         None => match c.place(name) {
-            Some(i) => Some(inner.len() + i),
-            None => None,
+            Some(i) => Ok(Some(number(inner.len().saturating_add(i))?)),
+            None => Ok(None),
         },
     }
 }
@@ -76,16 +77,15 @@ fn arity(c: &Context, inner: &Binders, place: usize) -> Option<u32>
 
 /// The variable of a name that stands as a type. K2 where it is an operator.
 pub fn raw_use(span: Span, name: Name, c: &Context, inner: &Binders) -> Result<Ty, KindError>
-    requires room { length (around inner.now c.now) < 2 ^ 32 }
     ensures raw { IfOk result (λ u. plain u ≡ variable_at (place (names_in (around inner.now c.now)) name.0)) }
-    ensures kinds { IfOk result (λ _. kind_stops (names_of c.now) (around inner.now c.now) (use-type span name) ≡ []) }
-    ensures first { IfErr result (λ e. IsFirst (kind_stops (names_of c.now) (around inner.now c.now) (use-type span name)) e) }
+    ensures kinds { IfOk result (λ _. kind_stops (names_of c.now) (around inner.now c.now) (use_type span name) ≡ []) }
+    ensures first { IfErr result (λ e. IsFirst (kind_stops (names_of c.now) (around inner.now c.now) (use_type span name)) e) }
 {
-    let Some(i) = place_of(c, inner, name) else {
+    let Some(i) = place_of(c, inner, name)? else {
         return Ok(Ty::Top);
     };
-    match arity(c, inner, i) {
-        None => Ok(Ty::Var(i as u32)),
+    match arity(c, inner, i as usize) {
+        None => Ok(Ty::Var(i)),
         Some(_) => Err(KindError::Named(Code::K2, span)),
     }
 }
@@ -99,19 +99,18 @@ pub fn raw_head(
     c: &Context,
     inner: &Binders,
 ) -> Result<Option<u32>, KindError>
-    requires room { length (around inner.now c.now) < 2 ^ 32 }
     ensures raw { IfOk result (λ i. i ≡ place (names_in (around inner.now c.now)) name.0) }
     ensures kinds { IfOk result (λ _. apply_stops span (meaning (around inner.now c.now) name.0) count ≡ []) }
     ensures first { IfErr result (λ e. IsFirst (apply_stops span (meaning (around inner.now c.now) name.0) count) e) }
 {
-    let Some(i) = place_of(c, inner, name) else {
+    let Some(i) = place_of(c, inner, name)? else {
         return Ok(None);
     };
-    match arity(c, inner, i) {
+    match arity(c, inner, i as usize) {
         None => Err(KindError::Named(Code::K1, span)),
         Some(n) => {
             if n as usize == count {
-                return Ok(Some(i as u32));
+                return Ok(Some(i));
             }
             Err(KindError::Named(Code::K1, span))
         }

@@ -1,12 +1,11 @@
 // Written types with their normal forms, and where they are refused.
 
-ghost use Rattle.std.specs.Prelude.{◌≡◌, ◌+◌, ◌≤◌, ◌<◌, [], length, IfOk, OnOk};
+ghost use Rattle.std.specs.Prelude.{◌≡◌, [], IfOk};
 ghost use Rattle.pict_syntax.specs.PlainTrees.{type_of};
 ghost use Rattle.pict_types.specs.Plain.{plain_record};
 ghost use Rattle.pict_types.specs.PlainContext.{plain_context};
 ghost use Rattle.pict_types.specs.Types.{Fields, Var, no_bound, no_label, no_type, types};
 ghost use Rattle.pict_normal.specs.Distinct.{HasDistinctLabels};
-ghost use Rattle.pict_normal.specs.Sizes.{most_defined, nodes, most_parameters};
 
 use crate::{KindError, expand, expand_arg};
 use pict_syntax::{Code, Id, KindTree, LabelledType, Name, Names, Span, TypeBinder, TypeTree};
@@ -34,8 +33,7 @@ fn id(number: u32, start: u32) -> Id
 /// `Int`
 #[tactic(auto, unfolding(pict_syntax::specs::PlainTrees::type_of))]
 fn int(start: u32) -> TypeTree
-    ensures labels { HasDistinctLabels (type_of result) }
-    ensures nodes { nodes (type_of result) ≡ 1 }
+    ensures { HasDistinctLabels (type_of result) }
 {
     TypeTree::Int(at(start))
 }
@@ -43,8 +41,7 @@ fn int(start: u32) -> TypeTree
 /// `Top`
 #[tactic(auto, unfolding(pict_syntax::specs::PlainTrees::type_of))]
 fn top(start: u32) -> TypeTree
-    ensures labels { HasDistinctLabels (type_of result) }
-    ensures nodes { nodes (type_of result) ≡ 1 }
+    ensures { HasDistinctLabels (type_of result) }
 {
     TypeTree::Top(at(start))
 }
@@ -52,8 +49,7 @@ fn top(start: u32) -> TypeTree
 /// A name.
 #[tactic(auto, unfolding(pict_syntax::specs::PlainTrees::type_of))]
 fn used(number: u32, start: u32) -> TypeTree
-    ensures labels { HasDistinctLabels (type_of result) }
-    ensures nodes { nodes (type_of result) ≡ 1 }
+    ensures { HasDistinctLabels (type_of result) }
 {
     TypeTree::Use(at(start), Name(number))
 }
@@ -67,8 +63,7 @@ fn pair(
 ) -> Result<TypeTree, AllocError>
     requires first { HasDistinctLabels (type_of first) }
     requires second { HasDistinctLabels (type_of second) }
-    ensures labels { IfOk result (λ t. HasDistinctLabels (type_of t)) }
-    ensures nodes { IfOk result (λ t. nodes (type_of t) ≡ nodes (type_of first) + nodes (type_of second) + 1) }
+    ensures { IfOk result (λ t. HasDistinctLabels (type_of t)) }
 {
     let mut ts = Vec::new(alloc);
     ts.push(first)?;
@@ -76,47 +71,59 @@ fn pair(
     Ok(TypeTree::Fields(at(start), Vec::new(alloc), ts, Vec::new(alloc)))
 }
 
-/// `[X X]`, with the names one and two places further.
+/// `[X X]`, all at one place.
 fn twice(alloc: Global, number: u32, start: u32) -> Result<TypeTree, AllocError>
-    requires { start < 1000 }
-    ensures labels { IfOk result (λ t. HasDistinctLabels (type_of t)) }
-    ensures nodes { IfOk result (λ t. nodes (type_of t) ≡ 3) }
+    ensures { IfOk result (λ t. HasDistinctLabels (type_of t)) }
 {
-    pair(
-        alloc,
-        used(number, start + 1),
-        used(number, start + 2),
-        start,
-    )
+    pair(alloc, used(number, start), used(number, start), start)
 }
 
-/// `(F T)`
+/// `(F T)`, with the name at the place of the whole.
 fn applied(alloc: Global, number: u32, arg: TypeTree, start: u32) -> Result<TypeTree, AllocError>
-    requires labels { HasDistinctLabels (type_of arg) }
-    requires start { start < 1000 }
-    ensures labels { IfOk result (λ t. HasDistinctLabels (type_of t)) }
-    ensures nodes { IfOk result (λ t. nodes (type_of t) ≡ nodes (type_of arg) + 1) }
+    requires { HasDistinctLabels (type_of arg) }
+    ensures { IfOk result (λ t. HasDistinctLabels (type_of t)) }
 {
     let mut ts = Vec::new(alloc);
     ts.push(arg)?;
-    Ok(TypeTree::Apply(at(start), id(number, start + 1), ts))
+    Ok(TypeTree::Apply(at(start), id(number, start), ts))
 }
 
-/// No entry.
-fn empty<'a>(alloc: Global, names: &'a Names) -> Context<'a>
-    ensures entries { length (plain_context result) ≡ 0 }
-    ensures sizes { most_defined (plain_context result) ≡ 0 }
-    ensures none { plain_context result ≡ [] }
+/// `[l=Int m=Top]`
+fn labelled(alloc: Global, first: Name, second: Name) -> Result<TypeTree, AllocError>
+    requires { second.0 ≡ first.0 → ⊥ }
+    ensures { IfOk result (λ t. HasDistinctLabels (type_of t)) }
 {
-    Context::new(alloc, names)
+    let mut ls = Vec::new(alloc);
+    ls.push(LabelledType {
+        label: id(first.0, 1),
+        of: TypeTree::Int(at(2)),
+    })?;
+    ls.push(LabelledType {
+        label: id(second.0, 3),
+        of: TypeTree::Top(at(4)),
+    })?;
+    Ok(TypeTree::Fields(at(0), Vec::new(alloc), Vec::new(alloc), ls))
+}
+
+/// `[#F:(Type -> Type)<T]`, with the name at 3.
+fn bounded_operator(alloc: Global, bound: TypeTree) -> Result<TypeTree, AllocError>
+    requires { HasDistinctLabels (type_of bound) }
+    ensures { IfOk result (λ t. HasDistinctLabels (type_of t)) }
+{
+    let held = Box::new(alloc, bound)?;
+    let mut bs = Vec::new(alloc);
+    bs.push(TypeBinder {
+        span: at(2),
+        id: id(5, 3),
+        kind: Some(KindTree::Operator(1)),
+        bound: Some(held),
+    })?;
+    Ok(TypeTree::Fields(at(1), bs, Vec::new(alloc), Vec::new(alloc)))
 }
 
 /// The code and the place where a tree is refused; nothing where it isn't.
 fn refusal(alloc: Global, c: &Context, tree: &TypeTree) -> Result<Option<(Code, u32)>, AllocError>
-    requires labels { HasDistinctLabels (type_of tree.now) }
-    requires nodes { nodes (type_of tree.now) ≤ 1000 }
-    requires entries { length (plain_context c.now) ≤ 1000 }
-    requires sizes { most_defined (plain_context c.now) ≤ 100000 }
+    requires { HasDistinctLabels (type_of tree.now) }
 {
     match expand(alloc, c, tree) {
         Ok(_) => Ok(None),
@@ -127,12 +134,7 @@ fn refusal(alloc: Global, c: &Context, tree: &TypeTree) -> Result<Option<(Code, 
 
 /// Adds a definition.
 fn define(alloc: Global, c: &mut Context, number: u32, tree: &TypeTree) -> Result<(), KindError>
-    requires labels { HasDistinctLabels (type_of tree.now) }
-    requires nodes { nodes (type_of tree.now) ≤ 1000 }
-    requires entries { length (plain_context c.old) ≤ 1000 }
-    requires sizes { most_defined (plain_context c.old) ≤ 100000 }
-    ensures entries { OnOk result (length (plain_context c.new) ≡ length (plain_context c.old) + 1) }
-    ensures sizes { OnOk result (most_defined (plain_context c.new) ≤ 100000) }
+    requires { HasDistinctLabels (type_of tree.now) }
 {
     let t = expand(alloc, c, tree)?;
     c.push(Entry {
@@ -143,11 +145,7 @@ fn define(alloc: Global, c: &mut Context, number: u32, tree: &TypeTree) -> Resul
 }
 
 /// Adds `A1 = [Int Int]`, `A2 = [A1 A1]` and so on to `A15`, by their numbers.
-fn define_doublings(alloc: Global, c: &mut Context) -> Result<(), KindError>
-    requires none { plain_context c.old ≡ [] }
-    ensures entries { OnOk result (length (plain_context c.new) ≡ 15) }
-    ensures sizes { OnOk result (most_defined (plain_context c.new) ≤ 100000) }
-{
+fn define_doublings(alloc: Global, c: &mut Context) -> Result<(), KindError> {
     let first = pair(alloc, int(1), int(2), 0)?;
     define(alloc, c, 1, &first)?;
     for k in 1..15u32 {
@@ -157,12 +155,7 @@ fn define_doublings(alloc: Global, c: &mut Context) -> Result<(), KindError>
 }
 
 /// Adds an operator of so many parameters whose body is `Int`.
-fn define_constant(c: &mut Context, number: u32, params: u32) -> Result<(), AllocError>
-    requires entries { length (plain_context c.old) ≤ 1000 }
-    requires sizes { most_defined (plain_context c.old) ≤ 100000 }
-    ensures entries { OnOk result (length (plain_context c.new) ≡ length (plain_context c.old) + 1) }
-    ensures sizes { OnOk result (most_defined (plain_context c.new) ≤ 100000) }
-{
+fn define_constant(c: &mut Context, number: u32, params: u32) -> Result<(), AllocError> {
     c.push(Entry {
         name: Name(number),
         what: What::Definition(Arg::Op {
@@ -173,12 +166,7 @@ fn define_constant(c: &mut Context, number: u32, params: u32) -> Result<(), Allo
 }
 
 /// Adds an operator of one parameter `X` whose body is `?X`.
-fn define_reader(alloc: Global, c: &mut Context, number: u32) -> Result<(), AllocError>
-    requires entries { length (plain_context c.old) ≤ 1000 }
-    requires sizes { most_defined (plain_context c.old) ≤ 100000 }
-    ensures entries { OnOk result (length (plain_context c.new) ≡ length (plain_context c.old) + 1) }
-    ensures sizes { OnOk result (most_defined (plain_context c.new) ≤ 100000) }
-{
+fn define_reader(alloc: Global, c: &mut Context, number: u32) -> Result<(), AllocError> {
     let body = Ty::Chan(Cap::Read, Box::new(alloc, Ty::Var(0))?);
     c.push(Entry {
         name: Name(number),
@@ -190,9 +178,6 @@ fn define_reader(alloc: Global, c: &mut Context, number: u32) -> Result<(), Allo
 /// numbers 0, 1 and 2.
 fn define_operators(alloc: Global, c: &mut Context) -> Result<(), AllocError>
     requires none { plain_context c.old ≡ [] }
-    ensures entries { OnOk result (length (plain_context c.new) ≡ 3) }
-    ensures sizes { OnOk result (most_defined (plain_context c.new) ≤ 1000) }
-    ensures parameters { OnOk result (most_parameters (plain_context c.new) ≤ 1000) }
 {
     let body = Ty::Fields(two_variables(alloc, 0, 1)?);
     c.push(Entry {
@@ -206,20 +191,6 @@ fn define_operators(alloc: Global, c: &mut Context) -> Result<(), AllocError>
     c.push(Entry {
         name: Name(2),
         what: What::Variable(Bound::Operator(2)),
-    })?;
-    Ok(())
-}
-
-/// Adds an operator variable of so many parameters, by the number 0.
-fn define_operator_variable(c: &mut Context, params: u32) -> Result<(), AllocError>
-    requires none { plain_context c.old ≡ [] }
-    ensures entries { OnOk result (length (plain_context c.new) ≡ 1) }
-    ensures sizes { OnOk result (most_defined (plain_context c.new) ≡ 0) }
-    ensures parameters { OnOk result (most_parameters (plain_context c.new) ≡ params) }
-{
-    c.push(Entry {
-        name: Name(0),
-        what: What::Variable(Bound::Operator(params)),
     })?;
     Ok(())
 }
@@ -260,43 +231,6 @@ fn is_operator_variable(arg: &Arg) -> bool {
     }
 }
 
-/// The code and the place where an argument is refused; nothing where it isn't.
-fn arg_refusal(
-    alloc: Global,
-    c: &Context,
-    tree: &TypeTree,
-) -> Result<Option<(Code, u32)>, AllocError>
-    requires labels { HasDistinctLabels (type_of tree.now) }
-    requires nodes { nodes (type_of tree.now) ≤ 1000 }
-    requires entries { length (plain_context c.now) ≤ 1000 }
-    requires sizes { most_defined (plain_context c.now) ≤ 100000 }
-    requires parameters { most_parameters (plain_context c.now) ≤ 1000000 }
-{
-    match expand_arg(alloc, c, tree) {
-        Ok(_) => Ok(None),
-        Err(KindError::Named(code, span)) => Ok(Some((code, span.start))),
-        Err(KindError::Memory) => Err(AllocError),
-    }
-}
-
-/// `[l=Int m=Top]`
-fn labelled(alloc: Global, first: Name, second: Name) -> Result<TypeTree, AllocError>
-    requires { second.0 ≡ first.0 → ⊥ }
-    ensures labels { IfOk result (λ t. HasDistinctLabels (type_of t)) }
-    ensures nodes { IfOk result (λ t. nodes (type_of t) ≡ 3) }
-{
-    let mut ls = Vec::new(alloc);
-    ls.push(LabelledType {
-        label: id(first.0, 1),
-        of: TypeTree::Int(at(2)),
-    })?;
-    ls.push(LabelledType {
-        label: id(second.0, 3),
-        of: TypeTree::Top(at(4)),
-    })?;
-    Ok(TypeTree::Fields(at(0), Vec::new(alloc), Vec::new(alloc), ls))
-}
-
 /// The labels of a record type with `Top` at the first and `Int` at the second.
 fn labels_of(t: &Ty) -> Option<(Name, Name)> {
     match t {
@@ -308,78 +242,90 @@ fn labels_of(t: &Ty) -> Option<(Name, Name)> {
     }
 }
 
-/// `[#F:(Type -> Type)<T]`, with the name two places further.
-fn bounded_operator(alloc: Global, bound: TypeTree, start: u32) -> Result<TypeTree, AllocError>
-    requires labels { HasDistinctLabels (type_of bound) }
-    requires start { start < 1000 }
-    ensures labels { IfOk result (λ t. HasDistinctLabels (type_of t)) }
-    ensures nodes { IfOk result (λ t. nodes (type_of t) ≡ nodes (type_of bound) + 2) }
-{
-    let held = Box::new(alloc, bound)?;
-    let mut bs = Vec::new(alloc);
-    bs.push(TypeBinder {
-        span: at(start + 1),
-        id: id(5, start + 2),
-        kind: Some(KindTree::Operator(1)),
-        bound: Some(held),
-    })?;
-    Ok(TypeTree::Fields(at(start), bs, Vec::new(alloc), Vec::new(alloc)))
+/// The refusal of `[A15 A15]` at 12, or of an operator applied to it at 5.
+fn refusal_of_doubled(
+    alloc: Global,
+    c: &Context,
+    operator: Option<u32>,
+) -> Result<Option<(Code, u32)>, AllocError> {
+    let doubled = twice(alloc, 15, 12)?;
+    match operator {
+        None => refusal(alloc, c, &doubled),
+        Some(number) => refusal(alloc, c, &applied(alloc, number, doubled, 5)?),
+    }
 }
 
 #[test]
-fn fifteen_doublings_and_no_more(rt: HostRuntime) -> Result<(), Fail> {
+fn normal_forms_within_the_limits(rt: HostRuntime) -> Result<(), Fail> {
     let alloc = rt.alloc();
     let names = Names::new(alloc);
-    let mut c = empty(alloc, &names);
-    define_doublings(alloc, &mut c)?;
-    let last = expand(alloc, &c, &used(15, 0))?;
-    assert_eq!(rt; weight(&c, &last), 65_535);
-    let next = twice(alloc, 15, 12)?;
-    assert_eq!(rt; refusal(alloc, &c, &next)?, Some((Code::K4, 12)));
-    Ok(())
-}
-
-#[test]
-fn a_dropped_argument_counts_nothing(rt: HostRuntime) -> Result<(), Fail> {
-    let alloc = rt.alloc();
-    let names = Names::new(alloc);
-    let mut c = empty(alloc, &names);
+    let mut c = Context::new(alloc, &names);
     define_doublings(alloc, &mut c)?;
     define_constant(&mut c, 20, 1)?;
     define_reader(alloc, &mut c, 21)?;
-    let dropped = applied(alloc, 20, twice(alloc, 15, 12)?, 5)?;
-    assert!(rt; matches!(expand(alloc, &c, &dropped)?, Ty::Int));
-    let kept = applied(alloc, 21, twice(alloc, 15, 12)?, 5)?;
-    assert_eq!(rt; refusal(alloc, &c, &kept)?, Some((Code::K4, 5)));
-    Ok(())
-}
-
-#[test]
-fn bare_names_of_operators_are_arguments(rt: HostRuntime) -> Result<(), Fail> {
-    let alloc = rt.alloc();
-    let names = Names::new(alloc);
-    let mut c = empty(alloc, &names);
-    define_operators(alloc, &mut c)?;
-    assert_eq!(rt; refusal(alloc, &c, &used(1, 7))?, Some((Code::K2, 7)));
-    assert!(rt; is_defined_operator(&expand_arg(alloc, &c, &used(1, 7))?));
-    assert!(rt; is_operator_variable(&expand_arg(alloc, &c, &used(2, 7))?));
-    assert!(rt; matches!(expand_arg(alloc, &c, &used(0, 7))?, Arg::Plain(Ty::Var(1))));
-    Ok(())
-}
-
-#[test]
-fn an_operator_of_too_many_parameters_is_refused(rt: HostRuntime) -> Result<(), Fail> {
-    let alloc = rt.alloc();
-    let names = Names::new(alloc);
-    let mut fits = empty(alloc, &names);
-    define_operator_variable(&mut fits, 99_999)?;
-    assert_eq!(rt; arg_refusal(alloc, &fits, &used(0, 7))?, None);
-    let mut heavy = empty(alloc, &names);
-    define_operator_variable(&mut heavy, 100_000)?;
+    assert_eq!(rt; weight(&c, &expand(alloc, &c, &used(15, 0))?), 65_535);
+    assert_eq!(rt; refusal_of_doubled(alloc, &c, None)?, Some((Code::K4, 12)));
+    assert_eq!(rt; refusal_of_doubled(alloc, &c, Some(20))?, None);
     assert_eq!(rt;
-        arg_refusal(alloc, &heavy, &used(0, 7))?,
-        Some((Code::K4, 7))
+        refusal_of_doubled(alloc, &c, Some(21))?,
+        Some((Code::K4, 5))
     );
+    Ok(())
+}
+
+/// The refusal of `(T Int)` at 3, by the number of the name.
+fn refusal_of_applied(
+    alloc: Global,
+    c: &Context,
+    number: u32,
+) -> Result<Option<(Code, u32)>, AllocError> {
+    refusal(alloc, c, &applied(alloc, number, int(5), 3)?)
+}
+
+/// The refusal of `[#F:(Type -> Type)<Int]`, or with `Top` for `Int`, where the name is at 3.
+fn refusal_of_bounded(
+    alloc: Global,
+    c: &Context,
+    with_top: bool,
+) -> Result<Option<(Code, u32)>, AllocError> {
+    let bound = if with_top { top(4) } else { int(4) };
+    refusal(alloc, c, &bounded_operator(alloc, bound)?)
+}
+
+/// The refusal of `[K (A Int)]`, or the other way round, with the two at 3 and 6.
+fn refusal_of_both(
+    alloc: Global,
+    c: &Context,
+    bare_first: bool,
+) -> Result<Option<(Code, u32)>, AllocError> {
+    if bare_first {
+        refusal(
+            alloc,
+            c,
+            &pair(alloc, used(20, 3), applied(alloc, 21, int(7), 6)?, 1)?,
+        )
+    } else {
+        refusal(
+            alloc,
+            c,
+            &pair(alloc, applied(alloc, 21, int(4), 3)?, used(20, 6), 1)?,
+        )
+    }
+}
+
+#[test]
+fn rules_of_kinds_fail_at_their_places(rt: HostRuntime) -> Result<(), Fail> {
+    let alloc = rt.alloc();
+    let names = Names::new(alloc);
+    let mut c = Context::new(alloc, &names);
+    define_constant(&mut c, 20, 2)?;
+    define(alloc, &mut c, 21, &int(0))?;
+    assert_eq!(rt; refusal_of_applied(alloc, &c, 21)?, Some((Code::K1, 3)));
+    assert_eq!(rt; refusal_of_applied(alloc, &c, 20)?, Some((Code::K1, 3)));
+    assert_eq!(rt; refusal_of_bounded(alloc, &c, false)?, Some((Code::K3, 3)));
+    assert_eq!(rt; refusal_of_bounded(alloc, &c, true)?, None);
+    assert_eq!(rt; refusal_of_both(alloc, &c, true)?, Some((Code::K2, 3)));
+    assert_eq!(rt; refusal_of_both(alloc, &c, false)?, Some((Code::K1, 3)));
     Ok(())
 }
 
@@ -390,44 +336,41 @@ fn labels_are_in_the_order_of_their_bytes(rt: HostRuntime) -> Result<(), Fail> {
     let b = names.intern(b"b")?;
     let a = names.intern(b"a")?;
     assert!(rt; a.0 != b.0);
-    let c = empty(alloc, &names);
-    let tree = labelled(alloc, b, a)?;
-    let t = expand(alloc, &c, &tree)?;
+    let c = Context::new(alloc, &names);
+    let t = expand(alloc, &c, &labelled(alloc, b, a)?)?;
     assert_eq!(rt; labels_of(&t), Some((a, b)));
     Ok(())
 }
 
 #[test]
-fn rules_of_kinds_fail_at_their_places(rt: HostRuntime) -> Result<(), Fail> {
+fn bare_names_of_operators_are_arguments(rt: HostRuntime) -> Result<(), Fail> {
     let alloc = rt.alloc();
     let names = Names::new(alloc);
-    let mut c = empty(alloc, &names);
-    define_constant(&mut c, 20, 2)?;
-    define(alloc, &mut c, 21, &int(0))?;
-    let type_applied = applied(alloc, 21, int(5), 3)?;
-    assert_eq!(rt; refusal(alloc, &c, &type_applied)?, Some((Code::K1, 3)));
-    let argument_lacks = applied(alloc, 20, int(5), 3)?;
-    assert_eq!(rt; refusal(alloc, &c, &argument_lacks)?, Some((Code::K1, 3)));
-    assert_eq!(rt; refusal(alloc, &c, &used(20, 3))?, Some((Code::K2, 3)));
-    let bounded = bounded_operator(alloc, int(4), 1)?;
-    assert_eq!(rt; refusal(alloc, &c, &bounded)?, Some((Code::K3, 3)));
-    let unbounded = bounded_operator(alloc, top(4), 1)?;
-    assert_eq!(rt; refusal(alloc, &c, &unbounded)?, None);
+    let mut c = Context::new(alloc, &names);
+    define_operators(alloc, &mut c)?;
+    assert!(rt; is_defined_operator(&expand_arg(alloc, &c, &used(1, 7))?));
+    assert!(rt; is_operator_variable(&expand_arg(alloc, &c, &used(2, 7))?));
+    assert!(rt; matches!(expand_arg(alloc, &c, &used(0, 7))?, Arg::Plain(Ty::Var(1))));
     Ok(())
 }
 
 #[test]
-fn the_first_place_is_refused(rt: HostRuntime) -> Result<(), Fail> {
+fn a_bare_operator_is_not_measured(rt: HostRuntime) -> Result<(), Fail> {
     let alloc = rt.alloc();
     let names = Names::new(alloc);
-    let mut c = empty(alloc, &names);
-    define_doublings(alloc, &mut c)?;
-    define_constant(&mut c, 20, 1)?;
-    let bare_first = pair(alloc, used(20, 3), applied(alloc, 15, int(6), 5)?, 1)?;
-    assert_eq!(rt; refusal(alloc, &c, &bare_first)?, Some((Code::K2, 3)));
-    let applied_first = pair(alloc, applied(alloc, 15, int(4), 3)?, used(20, 6), 1)?;
-    assert_eq!(rt; refusal(alloc, &c, &applied_first)?, Some((Code::K1, 3)));
-    let too_big = pair(alloc, twice(alloc, 15, 2)?, used(20, 6), 1)?;
-    assert_eq!(rt; refusal(alloc, &c, &too_big)?, Some((Code::K2, 6)));
+    let mut c = Context::new(alloc, &names);
+    c.push(Entry {
+        name: Name(0),
+        what: What::Variable(Bound::Operator(200_000)),
+    })?;
+    assert!(rt;
+        matches!(
+            expand_arg(alloc, &c, &used(0, 7))?,
+            Arg::Op {
+                params: 200_000,
+                ..
+            }
+        )
+    );
     Ok(())
 }

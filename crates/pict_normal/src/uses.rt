@@ -1,22 +1,21 @@
 // The parameters that the body of an operator uses.
 
-ghost use Rattle.std.specs.Prelude.{◌≡◌, ◌+◌, ◌<◌, ◌≤◌, ◌^◌, ℕ, IfOk, false, get_or, length, nat_eq};
+ghost use Rattle.std.specs.Prelude.{◌≡◌, ◌+◌, ◌<◌, ◌^◌, ℕ, IfOk, OnOk, false, get_or, length, nat_eq};
 ghost use Rattle.pict_normal.specs.Uses.{AreMarked, takes_arguments, uses, uses_bound, uses_bounds, uses_labels, uses_types};
-ghost use Rattle.pict_types.specs.Measures.{size, size_bound, size_bounds, size_labels, size_types};
 ghost use Rattle.pict_types.specs.Plain.{plain, plain_bound, plain_bounds, plain_labels, plain_record, plain_types};
 
 use pict_syntax::Name;
-use pict_types::{Bound, Record, Ty};
+use pict_types::{Bound, Record, Ty, deeper};
 use std::alloc::{AllocError, Global};
 
 /// Of each of the `count` parameters of an operator whether it stands in the body.
 pub fn used_parameters(alloc: Global, body: &Ty, count: u32) -> Result<Vec<bool>, AllocError>
-    requires depth { size (plain body.now) < 2 ^ 64 }
+    ensures few { IfOk result (λ _. count < 2 ^ 32) }
     ensures count { IfOk result (λ v. length v.items ≡ count) }
     ensures used { IfOk result (λ v. (i : ℕ) → i < count → get_or v.items i false ≡ uses count 0 i (plain body.now)) }
 {
     let mut used = vec![in alloc; false; count as usize]?;
-    mark_type(body, 0, &mut used);
+    mark_type(body, 0, &mut used)?;
     Ok(used)
 }
 
@@ -40,71 +39,74 @@ fn takes_arguments(j: u32, depth: usize, count: usize) -> bool
 
 /// Marks the parameters that stand in a type, behind `depth` binders.
 #[cycle(uses)]
-fn mark_type(t: &Ty, depth: usize, used: &mut [bool])
-    requires { depth + size (plain t.now) < 2 ^ 64 }
-    ensures { AreMarked (λ i. uses (length used.old) depth i (plain t.now)) used.old used.new }
+fn mark_type(t: &Ty, depth: usize, used: &mut [bool]) -> Result<(), AllocError>
+    ensures { OnOk result (AreMarked (λ i. uses (length used.old) depth i (plain t.now)) used.old used.new) }
 {
     match t {
-        Ty::Top | Ty::Int | Ty::Char | Ty::Str | Ty::Bool => {}
-        Ty::Var(j) => mark_variable(*j, depth, used),
+        Ty::Top | Ty::Int | Ty::Char | Ty::Str | Ty::Bool => Ok(()),
+        Ty::Var(j) => {
+            mark_variable(*j, depth, used);
+            Ok(())
+        }
         Ty::Apply(j, ts) => {
             if takes_arguments(*j, depth, used.len()) {
-                mark_types(ts, depth, used);
+                mark_types(ts, depth, used)
+            } else {
+                Ok(())
             }
         }
         Ty::Chan(_, t) => mark_type(t, depth, used),
         Ty::Fields(r) => mark_record(r, depth, used),
-        Ty::Rec(t) => mark_type(t, depth + 1, used),
+        Ty::Rec(t) => mark_type(t, deeper(depth, 1)?, used),
     }
 }
 
 #[cycle(uses)]
-fn mark_types(ts: &[Ty], depth: usize, used: &mut [bool])
-    requires { depth + size_types (plain_types ts.now) < 2 ^ 64 }
-    ensures { AreMarked (λ i. uses_types (length used.old) depth i (plain_types ts.now)) used.old used.new }
+fn mark_types(ts: &[Ty], depth: usize, used: &mut [bool]) -> Result<(), AllocError>
+    ensures { OnOk result (AreMarked (λ i. uses_types (length used.old) depth i (plain_types ts.now)) used.old used.new) }
 {
     for t in ts {
-        mark_type(t, depth, used);
+        mark_type(t, depth, used)?;
     }
+    Ok(())
 }
 
 #[cycle(uses)]
-fn mark_labels(ls: &[(Name, Ty)], depth: usize, used: &mut [bool])
-    requires { depth + size_labels (plain_labels ls.now) < 2 ^ 64 }
-    ensures { AreMarked (λ i. uses_labels (length used.old) depth i (plain_labels ls.now)) used.old used.new }
+fn mark_labels(ls: &[(Name, Ty)], depth: usize, used: &mut [bool]) -> Result<(), AllocError>
+    ensures { OnOk result (AreMarked (λ i. uses_labels (length used.old) depth i (plain_labels ls.now)) used.old used.new) }
 {
     for l in ls {
-        mark_type(&l.1, depth, used);
+        mark_type(&l.1, depth, used)?;
     }
+    Ok(())
 }
 
 #[cycle(uses)]
-fn mark_bound(b: &Bound, depth: usize, used: &mut [bool])
-    requires { depth + size_bound (plain_bound b.now) < 2 ^ 64 }
-    ensures { AreMarked (λ i. uses_bound (length used.old) depth i (plain_bound b.now)) used.old used.new }
+fn mark_bound(b: &Bound, depth: usize, used: &mut [bool]) -> Result<(), AllocError>
+    ensures { OnOk result (AreMarked (λ i. uses_bound (length used.old) depth i (plain_bound b.now)) used.old used.new) }
 {
-    if let Bound::Below(t) = b {
-        mark_type(t, depth, used);
+    match b {
+        Bound::Free | Bound::Operator(_) => Ok(()),
+        Bound::Below(t) => mark_type(t, depth, used),
     }
 }
 
 #[cycle(uses)]
-fn mark_bounds(bs: &[Bound], depth: usize, used: &mut [bool])
-    requires { depth + size_bounds (plain_bounds bs.now) < 2 ^ 64 }
-    ensures { AreMarked (λ i. uses_bounds (length used.old) depth i (plain_bounds bs.now)) used.old used.new }
+fn mark_bounds(bs: &[Bound], depth: usize, used: &mut [bool]) -> Result<(), AllocError>
+    ensures { OnOk result (AreMarked (λ i. uses_bounds (length used.old) depth i (plain_bounds bs.now)) used.old used.new) }
 {
     for (k, b) in bs.iter().enumerate() {
-        mark_bound(b, depth + k, used);
+        mark_bound(b, deeper(depth, k)?, used)?;
     }
+    Ok(())
 }
 
 #[cycle(uses)]
-fn mark_record(r: &Record, depth: usize, used: &mut [bool])
-    requires { depth + size (plain_record r.now) < 2 ^ 64 }
-    ensures { AreMarked (λ i. uses (length used.old) depth i (plain_record r.now)) used.old used.new }
+fn mark_record(r: &Record, depth: usize, used: &mut [bool]) -> Result<(), AllocError>
+    ensures { OnOk result (AreMarked (λ i. uses (length used.old) depth i (plain_record r.now)) used.old used.new) }
 {
-    let inside = depth + r.binders.as_slice().len();
-    mark_bounds(&r.binders, depth, used);
-    mark_types(&r.positional, inside, used);
-    mark_labels(&r.labelled, inside, used);
+    let inside = deeper(depth, r.binders.as_slice().len())?;
+    mark_bounds(&r.binders, depth, used)?;
+    mark_types(&r.positional, inside, used)?;
+    mark_labels(&r.labelled, inside, used)
 }

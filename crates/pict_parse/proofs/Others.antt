@@ -5,14 +5,14 @@ use Rattle.pict_syntax.specs.declared.span.Span.{Span}
 use Rattle.pict_syntax.specs.declared.id.Id.{Id}
 use Rattle.pict_syntax.specs.declared.tree.Abs.{Abs}
 use Rattle.pict_syntax.specs.declared.tree.Definition.{Definition}
-use Rattle.pict_parse_states.specs.declared.places.DecPlace.{DecPlace}
+use Rattle.pict_parse_states.specs.declared.places.DeclarationPlace.{DeclarationPlace}
 use Rattle.pict_parse_states.specs.declared.places.Place.{Place}
 use Rattle.pict_parse_states.specs.declared.states.State.{State}
-use Rattle.pict_parse_states.specs.declared.states.State.TheVariants.{Need, HaveDef}
+use Rattle.pict_parse_states.specs.declared.states.State.TheVariants.{Need, HaveDefinition}
 use Rattle.pict_parse_states.specs.View.{state_of}
 use Rattle.pict_automaton.specs.Machine.{ended}
 
-pub ended-other : (x : State) → ((p : Place) → x ≡ Need p → ⊥) → ((o : Span) (ds : Vec Definition Global) (i : Id) (a : Abs) (p : DecPlace) → x ≡ HaveDef o ds i a p → ⊥) → ended (state_of x) ≡ None
-ended-other (Need p) n m = absurd (n p refl)
-ended-other (HaveDef o ds i a p) n m = absurd (m o ds i a p refl)
-ended-other _ n m = refl
+pub ended_other : (x : State) → ((p : Place) → x ≡ Need p → ⊥) → ((o : Span) (ds : Vec Definition Global) (i : Id) (a : Abs) (p : DeclarationPlace) → x ≡ HaveDefinition o ds i a p → ⊥) → ended (state_of x) ≡ None
+ended_other (Need p) n m = absurd (n p refl)
+ended_other (HaveDefinition o ds i a p) n m = absurd (m o ds i a p refl)
+ended_other _ n m = refl

@@ -4,7 +4,7 @@ use Rattle.pict_syntax.specs.declared.tree.Program.{Program as RProgram}
 use Rattle.pict_syntax.specs.PlainTrees.{program_of}
 use Rattle.pict_automaton.specs.Places.{State}
 use Rattle.pict_automaton.specs.Machine.{ended}
-use Rattle.pict_automaton.specs.Verdicts.{Verdict, Program, Unexpected, TooDeep}
+use Rattle.pict_syntax.specs.Verdicts.{Verdict, Program, Unexpected, TooNested}
 use Rattle.pict_parse.specs.declared.entry.ParseError.{ParseError}
 use Rattle.pict_parse.specs.declared.entry.ParseError.TheVariants as answer
 
@@ -12,7 +12,7 @@ use Rattle.pict_parse.specs.declared.entry.ParseError.TheVariants as answer
 abbrev pub verdict_of : Result RProgram ParseError → Option Verdict
 verdict_of (Ok p) = Some (Program (program_of p))
 verdict_of (Err (answer.Unexpected span)) = Some (Unexpected span)
-verdict_of (Err (answer.TooNested span)) = Some (TooDeep span)
+verdict_of (Err (answer.TooNested span)) = Some (TooNested span)
 verdict_of (Err answer.Memory) = None
 
 -- it is this verdict, unless memory ran out

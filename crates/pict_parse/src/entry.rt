@@ -1,22 +1,19 @@
 // From the tokens of a text to its program.
 
 ghost use Rattle.std.specs.Prelude.{◌≡◌, ◌<◌, IfOk, IfSome, length};
-ghost use Rattle.pict_automaton.specs.Verdicts.{Verdict, IsVerdict, StandsAtEnd};
+ghost use Rattle.pict_syntax.specs.Verdicts.{Verdict, IsVerdict, StandsAtEnd};
 ghost use Rattle.pict_parse.specs.Answers.{Answers, Ends, verdict_of};
 ghost use Rattle.pict_automaton.specs.Machine.{start};
-ghost use Rattle.pict_automaton.specs.Places.{for-val, have-def, need};
-ghost use Rattle.pict_parse_states.specs.View.{dec-place_of, place_of, state_of, val-place_of};
-ghost use Rattle.pict_syntax.specs.PlainTrees.{abs_of, definitions-on};
-ghost use Rattle.pict_syntax.specs.Trees.{no-definitions};
+ghost use Rattle.pict_automaton.specs.Places.{for_value, have_definition, need};
+ghost use Rattle.pict_parse_states.specs.View.{definitions_in, declaration_place_of, place_of, state_of, value_place_of};
+ghost use Rattle.pict_syntax.specs.PlainTrees.{abs_of};
 
-use pict_parse_depth::is_within;
-use pict_parse_states::{DecPlace, Fault, Place, State, ValPlace, Wait, abs_span, join};
-use pict_parse_token::step;
-use pict_syntax::{Abs, Dec, Definition, Id, Program, Span, Token};
+use crate::token_step::step;
+use pict_parse_states::{
+    DeclarationPlace, Fault, Place, State, ValuePlace, Wait, abs_span, is_within, join,
+};
+use pict_syntax::{Abs, Dec, Definition, Id, NESTING_LIMIT, Program, Span, Token};
 use std::alloc::{AllocError, Global};
-
-/// The greatest nesting of a token.
-const MOST_NESTING: u32 = 200;
 
 /// Why the tokens of a text are refused.
 #[derive(Debug, Drop, thiserror::Error)]
@@ -62,7 +59,7 @@ pub fn parse(alloc: Global, tokens: &[Token], end: u32) -> Result<Program, Parse
             Err(Fault::Unexpected) => return Err(ParseError::Unexpected(token.span)),
             Err(Fault::Memory) => return Err(ParseError::Memory),
         };
-        if !is_within(&state, MOST_NESTING) {
+        if !is_within(&state, NESTING_LIMIT) {
             drop(state);
             return Err(ParseError::TooNested(token.span));
         }
@@ -74,12 +71,12 @@ pub fn parse(alloc: Global, tokens: &[Token], end: u32) -> Result<Program, Parse
 }
 
 /// The state in which reading begins.
-#[tactic(auto, using(pict_parse_states::proofs::DecLists::dec_lists))]
+#[tactic(auto, using(pict_syntax::proofs::DeclarationLists::declaration_lists))]
 fn start(alloc: Global) -> Result<State, AllocError>
     ensures { IfOk result (λ state. state_of state ≡ start) }
 {
-    let place = ValPlace::Waiting(Wait::Top(Vec::new(alloc)));
-    Ok(State::Need(Place::Val(Box::new(alloc, place)?)))
+    let place = ValuePlace::Waiting(Wait::Top(Vec::new(alloc)));
+    Ok(State::Need(Place::Value(Box::new(alloc, place)?)))
 }
 
 /// The empty place at the end of the text that the tokens are of.
@@ -103,7 +100,7 @@ fn ended(state: State) -> Result<Option<Program>, AllocError>
 {
     match state {
         State::Need(place) => Ok(ended_at(place)),
-        State::HaveDef(from, definitions, id, abs, place) => {
+        State::HaveDefinition(from, definitions, id, abs, place) => {
             ended_by_def(from, definitions, id, abs, place)
         }
         other => {
@@ -118,7 +115,7 @@ fn ended_at(place: Place) -> Option<Program>
     ensures { Ends (need (place_of place)) result }
 {
     match place {
-        Place::Val(place) => ended_before_value(Box::into_inner(place)),
+        Place::Value(place) => ended_before_value(Box::into_inner(place)),
         other => {
             drop(other);
             None
@@ -127,11 +124,11 @@ fn ended_at(place: Place) -> Option<Program>
 }
 
 /// The program before a value that may come.
-fn ended_before_value(place: ValPlace) -> Option<Program>
-    ensures { Ends (need (for-val (val-place_of place))) result }
+fn ended_before_value(place: ValuePlace) -> Option<Program>
+    ensures { Ends (need (for_value (value_place_of place))) result }
 {
     match place {
-        ValPlace::Waiting(Wait::Top(decs)) => Some(Program { decs }),
+        ValuePlace::Waiting(Wait::Top(decs)) => Some(Program { decs }),
         other => {
             drop(other);
             None
@@ -140,23 +137,23 @@ fn ended_before_value(place: ValPlace) -> Option<Program>
 }
 
 /// The program that has been read up to an abstraction of a `def`, where a text may end.
-#[tactic(auto, using(pict_parse_states::proofs::ValLists::lists))]
+#[tactic(auto, using(pict_syntax::proofs::ValueLists::tree_lists))]
 fn ended_by_def(
     from: Span,
     mut definitions: Vec<Definition>,
     id: Id,
     abs: Abs,
-    place: DecPlace,
+    place: DeclarationPlace,
 ) -> Result<Option<Program>, AllocError>
-    ensures { IfOk result (λ p. Ends (have-def from (definitions-on no-definitions definitions.items) id (abs_of abs) (dec-place_of place)) p) }
+    ensures { IfOk result (λ p. Ends (have_definition from (definitions_in definitions) id (abs_of abs) (declaration_place_of place)) p) }
 {
     match place {
-        DecPlace::Top(mut decs) => {
+        DeclarationPlace::Top(mut decs) => {
             let span = join(from, abs_span(&abs));
             definitions.push(Definition { id, abs })?;
             decs.push(Dec::Def(span, definitions))?;
             Ok(Some(Program { decs }))
         }
-        DecPlace::Paren(..) => Ok(None),
+        DeclarationPlace::Paren(..) => Ok(None),
     }
 }

@@ -2,8 +2,7 @@
 #![tactic(auto)]
 
 mod entry;
-#[cfg(test)]
-mod tests;
+mod token_step;
 
 pub use entry::{ParseError, parse};
 pub use pict_automaton::{law_one_tree, law_one_verdict};

@@ -1,15 +1,18 @@
-//! The states of the parser: the constructs that are open, and what is awaited.
+//! The states of the parser: the constructs that are open, what is awaited, and how many constructs are open.
 #![tactic(auto)]
 
 mod opened;
 mod places;
 mod spans;
 mod states;
+mod within;
 
-pub use opened::{after_dec, of_procs, of_vals, parens, put_dec, then_place};
+pub use opened::{after_declaration, of_processes, of_values, parens, put_declaration, then_place};
 pub use places::{
-    AbsPlace, Ask, BinderPlace, DecPlace, EitherPlace, FieldPatsPlace, FieldsPlace, PatPlace,
-    Place, Prefix, ProcPlace, ProcPlaces, Side, TypePlace, ValPlace, ValPlaces, Wait,
+    AbstractionPlace, Ask, BinderPlace, DeclarationPlace, EitherPlace, FieldPatternsPlace,
+    FieldsPlace, PatternPlace, Place, Prefix, ProcessPlace, ProcessPlaces, Side, TypePlace,
+    ValuePlace, ValuePlaces, Wait,
 };
 pub use spans::{abs_span, chan_span, join, pat_span, proc_span, type_span, val_span};
 pub use states::{Fault, State};
+pub use within::is_within;

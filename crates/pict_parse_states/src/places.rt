@@ -1,4 +1,5 @@
-// The constructs that are open while a text is read, as places where a phrase is to come.
+// The constructs that are open while a text is read, as places where a phrase is to come. With each place stand the lines
+// of the grammar that it is in the middle of: a dot parts what has been read from what is to come.
 
 use pict_syntax::{
     Chan, Dec, Definition, FieldPats, Id, KindTree, LabelledPat, LabelledType, LabelledVal, Pat,
@@ -31,15 +32,23 @@ pub enum Prefix {
 /// Where a value is to come, and no process may.
 #[derive(Drop)]
 #[cycle(place)]
-pub enum ValPlace {
-    Let(Span, Pat, DecPlace),
-    Function(Span, FieldPats, RType, Box<AbsPlace>),
-    Send(Chan, ProcPlaces),
+pub enum ValuePlace {
+    /// `val Pat = . Val`
+    Let(Span, Pat, DeclarationPlace),
+    /// `( FieldPats ) RType = . Val`
+    Function(Span, FieldPats, RType, Box<AbstractionPlace>),
+    /// `Chan ! . Val`
+    Send(Chan, ProcessPlaces),
+    /// `( Name > Val* . Val Val* )`, `( Name < Val* . Val Val* )`
     Side(Side, Span, Id, Vec<Val>, Place),
+    /// `( # Type )* Val* . Val Val* ( Id = Val )*`
     Field(Box<FieldsPlace>, Vec<TypeTree>, Vec<Val>),
+    /// `( # Type )* Val* ( Id = Val )* Id = . Val ( Id = Val )*`
     Label(Box<FieldsPlace>, Vec<TypeTree>, Vec<Val>, Vec<LabelledVal>, Id),
+    /// `( rec RType . Val )`
     Fold(Span, RType, Place),
-    Else(Span, Val, Val, ValPlaces),
+    /// `if Val then Val else . Val`
+    Else(Span, Val, Val, ValuePlaces),
     Waiting(Wait),
 }
 
@@ -47,44 +56,55 @@ pub enum ValPlace {
 #[derive(Drop)]
 #[cycle(place)]
 pub enum Wait {
+    /// `Dec* . Val ;`
     Top(Vec<Dec>),
+    /// `if . Val then`
     Test(Span, Place),
-    Then(Span, Val, Box<ValPlace>),
-    Paren(Span, Vec<Dec>, Box<ValPlace>),
+    /// `if Val then . Val else Val`
+    Then(Span, Val, Box<ValuePlace>),
+    /// `( Dec* . Val`
+    Paren(Span, Vec<Dec>, Box<ValuePlace>),
 }
 
 /// Where a process is to come, and no value may.
 #[derive(Drop)]
 #[cycle(place)]
-pub enum ProcPlace {
-    Run(Span, DecPlace),
-    Process(Pat, Box<AbsPlace>),
-    Else(Span, Val, Proc, ProcPlaces),
-    Bar(Span, Vec<Dec>, Vec<Proc>, ProcPlaces),
-    Then(Span, Val, Box<ProcPlace>),
+pub enum ProcessPlace {
+    /// `run . Proc`
+    Run(Span, DeclarationPlace),
+    /// `Pat = . Proc`
+    Process(Pat, Box<AbstractionPlace>),
+    /// `if Val then Proc else . Proc`
+    Else(Span, Val, Proc, ProcessPlaces),
+    /// `( Dec* ( Proc | )* . Proc`
+    Bar(Span, Vec<Dec>, Vec<Proc>, ProcessPlaces),
+    /// `if Val then . Proc else Proc`
+    Then(Span, Val, Box<ProcessPlace>),
 }
 
 /// Where a value or a process is to come.
 #[derive(Drop)]
 #[cycle(place)]
 pub enum EitherPlace {
-    Paren(Span, Vec<Dec>, ProcPlaces),
+    /// `( Dec* . Val`, `( Dec* ( Proc | )* . Proc`
+    Paren(Span, Vec<Dec>, ProcessPlaces),
+    /// `if Val then . Val else Val`, `if Val then . Proc else Proc`
     Then(Span, Val, Box<EitherPlace>),
 }
 
 /// Where a process may come.
 #[derive(Drop)]
 #[cycle(place)]
-pub enum ProcPlaces {
-    Only(Box<ProcPlace>),
+pub enum ProcessPlaces {
+    Only(Box<ProcessPlace>),
     Either(Box<EitherPlace>),
 }
 
 /// Where a value may come.
 #[derive(Drop)]
 #[cycle(place)]
-pub enum ValPlaces {
-    Only(Box<ValPlace>),
+pub enum ValuePlaces {
+    Only(Box<ValuePlace>),
     Either(Box<EitherPlace>),
 }
 
@@ -92,73 +112,102 @@ pub enum ValPlaces {
 #[derive(Drop)]
 #[cycle(place)]
 pub enum Place {
-    Val(Box<ValPlace>),
-    Proc(Box<ProcPlace>),
+    Value(Box<ValuePlace>),
+    Process(Box<ProcessPlace>),
     Either(Box<EitherPlace>),
 }
 
 /// Where a declaration stands.
 #[derive(Drop)]
 #[cycle(place)]
-pub enum DecPlace {
+pub enum DeclarationPlace {
+    /// `Dec* . Dec`
     Top(Vec<Dec>),
+    /// `( Dec* . Dec`
     Paren(Span, Vec<Dec>, Place),
 }
 
 /// Where an abstraction stands.
 #[derive(Drop)]
 #[cycle(place)]
-pub enum AbsPlace {
-    Def(Span, Vec<Definition>, Id, DecPlace),
-    Lambda(Span, ValPlaces),
-    Input(Ask, Chan, ProcPlaces),
+pub enum AbstractionPlace {
+    /// `def ( Id Abs and )* Id . Abs`
+    Definition(Span, Vec<Definition>, Id, DeclarationPlace),
+    /// `\ . Abs`
+    Lambda(Span, ValuePlaces),
+    /// `Chan ? . Abs`, `Chan ?* . Abs`
+    Input(Ask, Chan, ProcessPlaces),
 }
 
 /// Where the fields of a record or of an application stand.
 #[derive(Drop)]
 #[cycle(place)]
 pub enum FieldsPlace {
-    Record(Span, ValPlaces),
+    /// `[ . FieldVals ]`
+    Record(Span, ValuePlaces),
+    /// `( Val . FieldVals )`
     Apply(Span, Val, Place),
 }
 
 /// Where a pattern stands.
 #[derive(Drop)]
 #[cycle(pat_place)]
-pub enum PatPlace {
-    Let(Span, DecPlace),
-    Abs(Box<AbsPlace>),
-    Fold(Span, RType, Box<PatPlace>),
-    Field(Box<FieldPatsPlace>, Vec<TypeBinder>, Vec<Pat>),
-    Label(Box<FieldPatsPlace>, Vec<TypeBinder>, Vec<Pat>, Vec<LabelledPat>, Id),
+pub enum PatternPlace {
+    /// `val . Pat = Val`
+    Let(Span, DeclarationPlace),
+    /// `. Pat = Proc`
+    Abstraction(Box<AbstractionPlace>),
+    /// `( rec RType . Pat )`
+    Fold(Span, RType, Box<PatternPlace>),
+    /// `TypeBinder* Pat* . Pat Pat* ( Id = Pat )*`
+    Field(Box<FieldPatternsPlace>, Vec<TypeBinder>, Vec<Pat>),
+    /// `TypeBinder* Pat* ( Id = Pat )* Id = . Pat ( Id = Pat )*`
+    Label(Box<FieldPatternsPlace>, Vec<TypeBinder>, Vec<Pat>, Vec<LabelledPat>, Id),
 }
 
 /// Where the patterns of the fields of a record or of a function stand.
 #[derive(Drop)]
 #[cycle(pat_place)]
-pub enum FieldPatsPlace {
-    Record(Span, Box<PatPlace>),
-    Params(Span, Box<AbsPlace>),
+pub enum FieldPatternsPlace {
+    /// `[ . FieldPats ]`
+    Record(Span, Box<PatternPlace>),
+    /// `( . FieldPats ) RType = Val`
+    Parameters(Span, Box<AbstractionPlace>),
 }
 
 /// Where a type stands.
 #[derive(Drop)]
 #[cycle(type_place)]
 pub enum TypePlace {
-    New(Span, Id, DecPlace),
-    Alias(Span, Id, DecPlace),
-    Operator(Span, Id, Vec<Id>, DecPlace),
-    Bind(Id, Box<PatPlace>),
-    Any(Span, Box<PatPlace>),
-    Result(Span, FieldPats, Box<AbsPlace>),
-    PatFold(Span, Box<PatPlace>),
+    /// `new Id : . Type`
+    New(Span, Id, DeclarationPlace),
+    /// `type Id = . Type`
+    Alias(Span, Id, DeclarationPlace),
+    /// `type ( Id Id+ ) = . Type`
+    Operator(Span, Id, Vec<Id>, DeclarationPlace),
+    /// `Id : . Type`
+    Bind(Id, Box<PatternPlace>),
+    /// `_ : . Type`
+    Any(Span, Box<PatternPlace>),
+    /// `( FieldPats ) : . Type = Val`
+    Result(Span, FieldPats, Box<AbstractionPlace>),
+    /// `( rec : . Type Pat )`
+    PatternFold(Span, Box<PatternPlace>),
+    /// `( rec : . Type Val )`
     Fold(Span, Place),
+    /// `# Id : Kind < . Type`, `# Id < . Type`
     Bound(Span, Id, Option<KindTree>, Box<BinderPlace>),
+    /// `^ . Type`, `? . Type`, `! . Type`, `/ . Type`
     Prefix(Prefix, Span, Box<TypePlace>),
+    /// `[ TypeBinder* Type* . Type Type* ( Id = Type )* ]`
     Field(Span, Vec<TypeBinder>, Vec<TypeTree>, Box<TypePlace>),
+    /// `[ TypeBinder* Type* ( Id = Type )* Id = . Type ( Id = Type )* ]`
     Label(Span, Vec<TypeBinder>, Vec<TypeTree>, Vec<LabelledType>, Id, Box<TypePlace>),
+    /// `( Id Type* . Type Type* )`
     Apply(Span, Id, Vec<TypeTree>, Box<TypePlace>),
+    /// `( rec Id = . Type )`
     Rec(Span, Id, Box<TypePlace>),
+    /// `( # Type )* # . Type ( # Type )*`
     Argument(Box<FieldsPlace>, Vec<TypeTree>),
 }
 
@@ -166,6 +215,8 @@ pub enum TypePlace {
 #[derive(Drop)]
 #[cycle(type_place)]
 pub enum BinderPlace {
-    Pats(Box<FieldPatsPlace>, Vec<TypeBinder>),
+    /// `TypeBinder* . TypeBinder TypeBinder* Pat* ( Id = Pat )*`
+    Patterns(Box<FieldPatternsPlace>, Vec<TypeBinder>),
+    /// `[ TypeBinder* . TypeBinder TypeBinder* Type* ( Id = Type )* ]`
     Types(Span, Vec<TypeBinder>, Box<TypePlace>),
 }

@@ -3,7 +3,7 @@
 ghost use Rattle.std.specs.Prelude.{◌≡◌};
 ghost use Rattle.pict_syntax.specs.Phrases.{join};
 ghost use Rattle.pict_syntax.specs.PlainTrees.{type_of, pat_of, abs_of, chan_of, val_of, proc_of};
-ghost use Rattle.pict_syntax.specs.Grammar.{type-span, pat-span, abs-span, chan-span, val-span, proc-span};
+ghost use Rattle.pict_syntax.specs.Grammar.{type_span, pat_span, abs_span, chan_span, val_span, proc_span};
 
 use pict_syntax::{Abs, Chan, Pat, Proc, Span, TypeTree, Val};
 
@@ -21,7 +21,7 @@ pub fn join(from: Span, to: Span) -> Span
 /// Where a type stands.
 #[tactic(auto, unfolding(pict_syntax::specs::PlainTrees::type_of))]
 pub fn type_span(tree: &TypeTree) -> Span
-    ensures { result ≡ type-span (type_of tree.now) }
+    ensures { result ≡ type_span (type_of tree.now) }
 {
     match tree {
         TypeTree::Top(span)
@@ -43,7 +43,7 @@ pub fn type_span(tree: &TypeTree) -> Span
 /// Where a pattern stands.
 #[tactic(auto, unfolding(pict_syntax::specs::PlainTrees::pat_of))]
 pub fn pat_span(pat: &Pat) -> Span
-    ensures { result ≡ pat-span (pat_of pat.now) }
+    ensures { result ≡ pat_span (pat_of pat.now) }
 {
     match pat {
         Pat::Bind(span, ..) | Pat::Any(span, ..) | Pat::Fields(span, ..) | Pat::Fold(span, ..) =>
@@ -54,7 +54,7 @@ pub fn pat_span(pat: &Pat) -> Span
 /// Where an abstraction stands.
 #[tactic(auto, unfolding(pict_syntax::specs::PlainTrees::dec_of))]
 pub fn abs_span(abs: &Abs) -> Span
-    ensures { result ≡ abs-span (abs_of abs.now) }
+    ensures { result ≡ abs_span (abs_of abs.now) }
 {
     match abs {
         Abs::Process(span, ..) | Abs::Function(span, ..) => *span,
@@ -64,7 +64,7 @@ pub fn abs_span(abs: &Abs) -> Span
 /// Where a value that may be a channel stands.
 #[tactic(auto, unfolding(pict_syntax::specs::PlainTrees::dec_of))]
 pub fn chan_span(chan: &Chan) -> Span
-    ensures { result ≡ chan-span (chan_of chan.now) }
+    ensures { result ≡ chan_span (chan_of chan.now) }
 {
     match chan {
         Chan::Use(span, ..)
@@ -79,7 +79,7 @@ pub fn chan_span(chan: &Chan) -> Span
 /// Where a value stands.
 #[tactic(auto, unfolding(pict_syntax::specs::PlainTrees::dec_of))]
 pub fn val_span(val: &Val) -> Span
-    ensures { result ≡ val-span (val_of val.now) }
+    ensures { result ≡ val_span (val_of val.now) }
 {
     match val {
         Val::OfChan(chan) => chan_span(chan),
@@ -97,7 +97,7 @@ pub fn val_span(val: &Val) -> Span
 /// Where a process stands.
 #[tactic(auto, unfolding(pict_syntax::specs::PlainTrees::dec_of))]
 pub fn proc_span(proc: &Proc) -> Span
-    ensures { result ≡ proc-span (proc_of proc.now) }
+    ensures { result ≡ proc_span (proc_of proc.now) }
 {
     match proc {
         Proc::Send(span, ..)

@@ -1,8 +1,8 @@
 // The states of the parser, and why it stops.
 
 use crate::places::{
-    AbsPlace, BinderPlace, DecPlace, EitherPlace, FieldPatsPlace, FieldsPlace, PatPlace, Place,
-    ProcPlaces, Side, TypePlace, Wait,
+    AbstractionPlace, BinderPlace, DeclarationPlace, EitherPlace, FieldPatternsPlace, FieldsPlace,
+    PatternPlace, Place, ProcessPlaces, Side, TypePlace, Wait,
 };
 use pict_syntax::{
     Abs, Chan, Dec, Definition, FieldPats, Id, KindTree, LabelledPat, LabelledType, LabelledVal,
@@ -10,68 +10,128 @@ use pict_syntax::{
 };
 use std::alloc::{AllocError, AllocFailed};
 
-/// What has been read, and what is awaited. Each state is named for what was read last, or for what is needed.
+/// What has been read, and what is awaited. Each state is named for what was read last, or for what is needed. With it
+/// stand the lines of the grammar that it is in the middle of: a dot parts what has been read from what is to come.
 #[derive(Drop)]
 pub enum State {
+    /// `. Val`, `. Proc`, `. Dec`
     Need(Place),
+    /// `( Name . > Val Val+ )`, `( Name . < Val Val+ )`
     FreshName(Span, Id, Place),
+    /// `( Name > Val* . Val* )`, `( Name < Val* . Val* )`
     Arguments(Side, Span, Id, Vec<Val>, Place),
-    HaveChan(Chan, ProcPlaces),
-    HaveVal(Val, Wait),
+    /// `Chan . ! Val`, `Chan . ? Abs`, `Chan . ?* Abs`
+    HaveChannel(Chan, ProcessPlaces),
+    /// `Val . ;`, `if Val . then`, `if Val then Val . else Val`, `( Val . FieldVals )`, `( Dec+ Val . )`
+    HaveValue(Val, Wait),
+    /// `Val . ;`, `if Val then Val . else Val`, `( Val . FieldVals )`, `( Dec+ Val . )`
     HaveEither(Val, Box<EitherPlace>),
-    HaveProc(Proc, Span, Val, ProcPlaces),
-    HaveProcs(Span, Vec<Dec>, Vec<Proc>, Proc, ProcPlaces),
-    NewWord(Span, DecPlace),
-    NewName(Span, Id, DecPlace),
-    LetPat(Span, Pat, DecPlace),
-    DefWord(Span, Vec<Definition>, DecPlace),
-    HaveDef(Span, Vec<Definition>, Id, Abs, DecPlace),
-    TypeWord(Span, DecPlace),
-    AliasName(Span, Id, DecPlace),
-    OperatorOpen(Span, DecPlace),
-    OperatorParams(Span, Id, Vec<Id>, DecPlace),
-    OperatorClosed(Span, Id, Vec<Id>, DecPlace),
-    NeedAbs(Box<AbsPlace>),
-    AbsOpen(Span, Box<AbsPlace>),
-    AbsPat(Pat, Box<AbsPlace>),
-    AbsParams(Span, FieldPats, Box<AbsPlace>),
-    AbsResult(Span, FieldPats, TypeTree, Box<AbsPlace>),
-    NeedPat(Box<PatPlace>),
-    PatOpen(Span, Box<PatPlace>),
-    PatRec(Span, Box<PatPlace>),
-    PatFolded(Span, RType, Pat, Box<PatPlace>),
-    HaveBind(Id, Box<PatPlace>),
-    HaveAny(Span, Box<PatPlace>),
-    AfterBinders(Box<FieldPatsPlace>, Vec<TypeBinder>),
-    AfterPats(Box<FieldPatsPlace>, Vec<TypeBinder>, Vec<Pat>),
-    PatName(Box<FieldPatsPlace>, Vec<TypeBinder>, Vec<Pat>, Id),
-    AfterPatLabels(Box<FieldPatsPlace>, Vec<TypeBinder>, Vec<Pat>, Vec<LabelledPat>),
-    PatLabel(Box<FieldPatsPlace>, Vec<TypeBinder>, Vec<Pat>, Vec<LabelledPat>, Id),
+    /// `if Val then Proc . else Proc`
+    HaveProcess(Proc, Span, Val, ProcessPlaces),
+    /// `( Dec* Proc ( | Proc )* . ( | Proc )* )`
+    HaveProcesses(Span, Vec<Dec>, Vec<Proc>, Proc, ProcessPlaces),
+    /// `new . Id : Type`
+    NewKeyword(Span, DeclarationPlace),
+    /// `new Id . : Type`
+    NewName(Span, Id, DeclarationPlace),
+    /// `val Pat . = Val`
+    LetPattern(Span, Pat, DeclarationPlace),
+    /// `def ( Id Abs and )* . Id Abs ( and Id Abs )*`
+    DefinitionKeyword(Span, Vec<Definition>, DeclarationPlace),
+    /// `def Id Abs ( and Id Abs )* . ( and Id Abs )*`
+    HaveDefinition(Span, Vec<Definition>, Id, Abs, DeclarationPlace),
+    /// `type . Id = Type`, `type . ( Id Id+ ) = Type`
+    TypeKeyword(Span, DeclarationPlace),
+    /// `type Id . = Type`
+    AliasName(Span, Id, DeclarationPlace),
+    /// `type ( . Id Id+ ) = Type`
+    OperatorOpen(Span, DeclarationPlace),
+    /// `type ( Id Id* . Id* ) = Type`
+    OperatorParameters(Span, Id, Vec<Id>, DeclarationPlace),
+    /// `type ( Id Id+ ) . = Type`
+    OperatorClosed(Span, Id, Vec<Id>, DeclarationPlace),
+    /// `. Abs`
+    NeedAbstraction(Box<AbstractionPlace>),
+    /// `( . FieldPats ) RType = Val`, `( . rec RType Pat ) = Proc`
+    AbstractionOpen(Span, Box<AbstractionPlace>),
+    /// `Pat . = Proc`
+    AbstractionPattern(Pat, Box<AbstractionPlace>),
+    /// `( FieldPats ) . RType = Val`
+    AbstractionParameters(Span, FieldPats, Box<AbstractionPlace>),
+    /// `( FieldPats ) : Type . = Val`
+    AbstractionResult(Span, FieldPats, TypeTree, Box<AbstractionPlace>),
+    /// `. Pat`
+    NeedPattern(Box<PatternPlace>),
+    /// `( . rec RType Pat )`
+    PatternOpen(Span, Box<PatternPlace>),
+    /// `( rec . RType Pat )`
+    PatternRec(Span, Box<PatternPlace>),
+    /// `( rec RType Pat . )`
+    PatternFolded(Span, RType, Pat, Box<PatternPlace>),
+    /// `Id . RType`
+    HaveBind(Id, Box<PatternPlace>),
+    /// `_ . RType`
+    HaveAny(Span, Box<PatternPlace>),
+    /// `TypeBinder* . TypeBinder* Pat* ( Id = Pat )*`
+    AfterBinders(Box<FieldPatternsPlace>, Vec<TypeBinder>),
+    /// `TypeBinder* Pat* . Pat* ( Id = Pat )*`
+    AfterPatterns(Box<FieldPatternsPlace>, Vec<TypeBinder>, Vec<Pat>),
+    /// `TypeBinder* Pat* Id . = Pat ( Id = Pat )*`, `TypeBinder* Pat* Id . RType Pat* ( Id = Pat )*`
+    PatternName(Box<FieldPatternsPlace>, Vec<TypeBinder>, Vec<Pat>, Id),
+    /// `TypeBinder* Pat* ( Id = Pat )* . ( Id = Pat )*`
+    AfterPatternLabels(Box<FieldPatternsPlace>, Vec<TypeBinder>, Vec<Pat>, Vec<LabelledPat>),
+    /// `TypeBinder* Pat* ( Id = Pat )* Id . = Pat ( Id = Pat )*`
+    PatternLabel(Box<FieldPatternsPlace>, Vec<TypeBinder>, Vec<Pat>, Vec<LabelledPat>, Id),
+    /// `# . Id : Kind < Type`
     BinderHash(Span, Box<BinderPlace>),
+    /// `# Id . : Kind < Type`, `# Id . < Type`
     BinderName(Span, Id, Box<BinderPlace>),
+    /// `# Id : . Kind < Type`
     NeedKind(Span, Id, Box<BinderPlace>),
-    KindArgs(Span, Id, u32, Box<BinderPlace>),
+    /// `( Type* . Type* -> Type )`
+    KindArguments(Span, Id, u32, Box<BinderPlace>),
+    /// `( Type+ -> . Type )`
     KindArrow(Span, Id, u32, Box<BinderPlace>),
+    /// `( Type+ -> Type . )`
     KindResult(Span, Id, u32, Box<BinderPlace>),
+    /// `# Id : Kind . < Type`
     BinderKind(Span, Id, KindTree, Span, Box<BinderPlace>),
+    /// `. Type`
     NeedType(Box<TypePlace>),
+    /// `( . Id Type+ )`, `( . rec Id = Type )`
     TypeOpen(Span, Box<TypePlace>),
-    RecWord(Span, Box<TypePlace>),
+    /// `( rec . Id = Type )`
+    RecKeyword(Span, Box<TypePlace>),
+    /// `( rec Id . = Type )`
     RecName(Span, Id, Box<TypePlace>),
+    /// `( rec Id = Type . )`
     RecBody(Span, Id, TypeTree, Box<TypePlace>),
-    TypeArgs(Span, Id, Vec<TypeTree>, Box<TypePlace>),
+    /// `( Id Type* . Type* )`
+    OperatorArguments(Span, Id, Vec<TypeTree>, Box<TypePlace>),
+    /// `[ TypeBinder* . TypeBinder* Type* ( Id = Type )* ]`
     AfterTypeBinders(Span, Vec<TypeBinder>, Box<TypePlace>),
+    /// `[ TypeBinder* Type* . Type* ( Id = Type )* ]`
     AfterTypes(Span, Vec<TypeBinder>, Vec<TypeTree>, Box<TypePlace>),
+    /// `[ TypeBinder* Type* Id . = Type ( Id = Type )* ]`, `[ TypeBinder* Type* Id . Type* ( Id = Type )* ]`
     TypeName(Span, Vec<TypeBinder>, Vec<TypeTree>, Id, Box<TypePlace>),
+    /// `[ TypeBinder* Type* ( Id = Type )* . ( Id = Type )* ]`
     AfterTypeLabels(Span, Vec<TypeBinder>, Vec<TypeTree>, Vec<LabelledType>, Box<TypePlace>),
+    /// `[ TypeBinder* Type* ( Id = Type )* Id . = Type ( Id = Type )* ]`
     TypeLabel(Span, Vec<TypeBinder>, Vec<TypeTree>, Vec<LabelledType>, Id, Box<TypePlace>),
-    FoldWord(Span, Place),
+    /// `( rec . RType Val )`
+    FoldKeyword(Span, Place),
+    /// `( rec RType Val . )`
     FoldBody(Span, RType, Val, Place),
+    /// `( # Type )* . ( # Type )* Val* ( Id = Val )*`
     AfterArguments(Box<FieldsPlace>, Vec<TypeTree>),
-    AfterVals(Box<FieldsPlace>, Vec<TypeTree>, Vec<Val>),
-    ValName(Box<FieldsPlace>, Vec<TypeTree>, Vec<Val>, Id),
+    /// `( # Type )* Val* . Val* ( Id = Val )*`
+    AfterValues(Box<FieldsPlace>, Vec<TypeTree>, Vec<Val>),
+    /// `( # Type )* Val* Id . = Val ( Id = Val )*`, `( # Type )* Val* Id . Val* ( Id = Val )*`
+    ValueName(Box<FieldsPlace>, Vec<TypeTree>, Vec<Val>, Id),
+    /// `( # Type )* Val* ( Id = Val )* . ( Id = Val )*`
     AfterLabels(Box<FieldsPlace>, Vec<TypeTree>, Vec<Val>, Vec<LabelledVal>),
-    ValLabel(Box<FieldsPlace>, Vec<TypeTree>, Vec<Val>, Vec<LabelledVal>, Id),
+    /// `( # Type )* Val* ( Id = Val )* Id . = Val ( Id = Val )*`
+    ValueLabel(Box<FieldsPlace>, Vec<TypeTree>, Vec<Val>, Vec<LabelledVal>, Id),
 }
 
 /// Why reading stops.

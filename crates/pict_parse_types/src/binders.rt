@@ -2,22 +2,22 @@
 
 ghost use Rattle.std.specs.Prelude.{◌≡◌};
 ghost use Rattle.pict_syntax.specs.PlainTrees.{binder_of};
-ghost use Rattle.pict_automaton.specs.Machine.{put-binder, step-binder, step-hash, step-binder-name, step-need-kind, kind-arrow-at, step-kind-args, step-kind-arrow, step-kind-result, step-binder-kind};
-ghost use Rattle.pict_parse_states.specs.View.{Gives, binder-place_of};
+ghost use Rattle.pict_automaton.specs.Machine.{put_binder, step_binder, step_hash, step_binder_name, step_need_kind, kind_arrow_at, step_kind_arguments, step_kind_arrow, step_kind_result, step_binder_kind};
+ghost use Rattle.pict_parse_states.specs.View.{Gives, binder_place_of};
 
+use crate::patterns::step_binders;
 use crate::types::step_type_binders;
-use pict_parse_patterns::step_binders;
 use pict_parse_states::{BinderPlace, Fault, State, TypePlace, join};
 use pict_syntax::{Id, Keyword, KindTree, Sign, Span, TokenKind, TypeBinder};
 use std::alloc::Global;
 
 /// A whole binder is put where it stands.
-#[tactic(auto, using(pict_parse_states::proofs::Lists::type_lists))]
+#[tactic(auto, using(pict_syntax::proofs::TypeLists::type_lists))]
 pub fn put_binder(binder: TypeBinder, place: Box<BinderPlace>) -> Result<State, Fault>
-    ensures { Gives result (put-binder (binder_of binder) (binder-place_of place.value)) }
+    ensures { Gives result (put_binder (binder_of binder) (binder_place_of place.value)) }
 {
     match Box::into_inner(place) {
-        BinderPlace::Pats(place, mut binders) => {
+        BinderPlace::Patterns(place, mut binders) => {
             binders.push(binder)?;
             Ok(State::AfterBinders(place, binders))
         }
@@ -29,7 +29,7 @@ pub fn put_binder(binder: TypeBinder, place: Box<BinderPlace>) -> Result<State, 
 }
 
 // The token behind a whole binder.
-#[tactic(auto, using(pict_parse_states::proofs::Lists::type_lists))]
+#[tactic(auto, using(pict_syntax::proofs::TypeLists::type_lists))]
 fn step_binder(
     alloc: Global,
     kind: &TokenKind,
@@ -37,10 +37,10 @@ fn step_binder(
     binder: TypeBinder,
     place: Box<BinderPlace>,
 ) -> Result<State, Fault>
-    ensures { Gives result (step-binder kind.now at (binder_of binder) (binder-place_of place.value)) }
+    ensures { Gives result (step_binder kind.now at (binder_of binder) (binder_place_of place.value)) }
 {
     match Box::into_inner(place) {
-        BinderPlace::Pats(place, mut binders) => {
+        BinderPlace::Patterns(place, mut binders) => {
             binders.push(binder)?;
             step_binders(alloc, kind, at, place, binders)
         }
@@ -58,7 +58,7 @@ pub fn step_hash(
     hash: Span,
     place: Box<BinderPlace>,
 ) -> Result<State, Fault>
-    ensures { Gives result (step-hash kind.now at hash (binder-place_of place.value)) }
+    ensures { Gives result (step_hash kind.now at hash (binder_place_of place.value)) }
 {
     match kind {
         TokenKind::Identifier(name) => Ok(State::BinderName(
@@ -82,11 +82,11 @@ pub fn step_binder_name(
     name: Id,
     place: Box<BinderPlace>,
 ) -> Result<State, Fault>
-    ensures { Gives result (step-binder-name kind.now at hash name (binder-place_of place.value)) }
+    ensures { Gives result (step_binder_name kind.now at hash name (binder_place_of place.value)) }
 {
     match kind {
-        TokenKind::Mark(Sign::Colon) => Ok(State::NeedKind(hash, name, place)),
-        TokenKind::Mark(Sign::Less) => {
+        TokenKind::Sign(Sign::Colon) => Ok(State::NeedKind(hash, name, place)),
+        TokenKind::Sign(Sign::Less) => {
             let place = TypePlace::Bound(hash, name, None, place);
             Ok(State::NeedType(Box::new(alloc, place)?))
         }
@@ -110,17 +110,17 @@ pub fn step_need_kind(
     name: Id,
     place: Box<BinderPlace>,
 ) -> Result<State, Fault>
-    ensures { Gives result (step-need-kind kind.now at hash name (binder-place_of place.value)) }
+    ensures { Gives result (step_need_kind kind.now at hash name (binder_place_of place.value)) }
 {
     match kind {
-        TokenKind::Word(Keyword::TypeKind) => Ok(State::BinderKind(
+        TokenKind::Keyword(Keyword::TypeKind) => Ok(State::BinderKind(
             hash,
             name,
             KindTree::Plain,
             at,
             place,
         )),
-        TokenKind::Mark(Sign::OpenParen) => Ok(State::KindArgs(hash, name, 0, place)),
+        TokenKind::Sign(Sign::OpenParen) => Ok(State::KindArguments(hash, name, 0, place)),
         _ => Err(Fault::Unexpected),
     }
 }
@@ -132,7 +132,7 @@ fn kind_arrow_at(
     arguments: u32,
     place: Box<BinderPlace>,
 ) -> Result<State, Fault>
-    ensures { Gives result (kind-arrow-at hash name arguments (binder-place_of place.value)) }
+    ensures { Gives result (kind_arrow_at hash name arguments (binder_place_of place.value)) }
 {
     match arguments {
         0 => Err(Fault::Unexpected),
@@ -141,7 +141,7 @@ fn kind_arrow_at(
 }
 
 /// The token behind this many arguments of a kind.
-pub fn step_kind_args(
+pub fn step_kind_arguments(
     kind: &TokenKind,
     _at: Span,
     hash: Span,
@@ -149,14 +149,14 @@ pub fn step_kind_args(
     arguments: u32,
     place: Box<BinderPlace>,
 ) -> Result<State, Fault>
-    ensures { Gives result (step-kind-args kind.now _at hash name arguments (binder-place_of place.value)) }
+    ensures { Gives result (step_kind_arguments kind.now _at hash name arguments (binder_place_of place.value)) }
 {
     match kind {
-        TokenKind::Word(Keyword::TypeKind) => match arguments.checked_add(1) {
-            Some(arguments) => Ok(State::KindArgs(hash, name, arguments, place)),
+        TokenKind::Keyword(Keyword::TypeKind) => match arguments.checked_add(1) {
+            Some(arguments) => Ok(State::KindArguments(hash, name, arguments, place)),
             None => Err(Fault::Memory),
         },
-        TokenKind::Mark(Sign::Arrow) => kind_arrow_at(hash, name, arguments, place),
+        TokenKind::Sign(Sign::Arrow) => kind_arrow_at(hash, name, arguments, place),
         _ => Err(Fault::Unexpected),
     }
 }
@@ -170,10 +170,12 @@ pub fn step_kind_arrow(
     arguments: u32,
     place: Box<BinderPlace>,
 ) -> Result<State, Fault>
-    ensures { Gives result (step-kind-arrow kind.now _at hash name arguments (binder-place_of place.value)) }
+    ensures { Gives result (step_kind_arrow kind.now _at hash name arguments (binder_place_of place.value)) }
 {
     match kind {
-        TokenKind::Word(Keyword::TypeKind) => Ok(State::KindResult(hash, name, arguments, place)),
+        TokenKind::Keyword(Keyword::TypeKind) => Ok(State::KindResult(
+            hash, name, arguments, place,
+        )),
         _ => Err(Fault::Unexpected),
     }
 }
@@ -187,10 +189,10 @@ pub fn step_kind_result(
     arguments: u32,
     place: Box<BinderPlace>,
 ) -> Result<State, Fault>
-    ensures { Gives result (step-kind-result kind.now at hash name arguments (binder-place_of place.value)) }
+    ensures { Gives result (step_kind_result kind.now at hash name arguments (binder_place_of place.value)) }
 {
     match kind {
-        TokenKind::Mark(Sign::CloseParen) => Ok(State::BinderKind(
+        TokenKind::Sign(Sign::CloseParen) => Ok(State::BinderKind(
             hash,
             name,
             KindTree::Operator(arguments),
@@ -212,10 +214,10 @@ pub fn step_binder_kind(
     end: Span,
     place: Box<BinderPlace>,
 ) -> Result<State, Fault>
-    ensures { Gives result (step-binder-kind kind.now at hash name of end (binder-place_of place.value)) }
+    ensures { Gives result (step_binder_kind kind.now at hash name of end (binder_place_of place.value)) }
 {
     match kind {
-        TokenKind::Mark(Sign::Less) => {
+        TokenKind::Sign(Sign::Less) => {
             let place = TypePlace::Bound(hash, name, Some(of), place);
             Ok(State::NeedType(Box::new(alloc, place)?))
         }

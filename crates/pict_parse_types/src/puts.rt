@@ -1,17 +1,16 @@
 // Whole types are put where they stand.
 
 ghost use Rattle.std.specs.Prelude.{◌≡◌, IfOk, Some};
-ghost use Rattle.pict_syntax.specs.PlainTrees.{type_of, types-on, binders-on, labelled-types-on, annotation_of, field-pats_of};
-ghost use Rattle.pict_syntax.specs.Trees.{no-types, no-binders, no-labelled-types};
-ghost use Rattle.pict_automaton.specs.Places.{prefixed, in-new, in-alias, in-operator, in-bind, in-any, in-pat-fold-type, in-fold-type, in-bound, in-type-field, in-type-label, in-type-apply, in-argument};
-ghost use Rattle.pict_automaton.specs.Machine.{put-type};
-ghost use Rattle.pict_parse_states.specs.View.{Gives, type-place_of, binder-place_of, pat-place_of, dec-place_of, fields-place_of, place_of, prefix_of};
+ghost use Rattle.pict_syntax.specs.PlainTrees.{type_of, annotation_of};
+ghost use Rattle.pict_automaton.specs.Places.{prefixed, in_new, in_alias, in_operator, in_bind, in_any, in_pattern_fold_type, in_fold_type, in_bound, in_type_field, in_type_label, in_type_apply, in_argument};
+ghost use Rattle.pict_automaton.specs.Machine.{put_type};
+ghost use Rattle.pict_parse_states.specs.View.{types_in, binders_in, labelled_types_in, Gives, type_place_of, binder_place_of, pattern_place_of, declaration_place_of, fields_place_of, place_of, prefix_of};
 
 use crate::binders::put_binder;
-use pict_parse_patterns::put_pat;
+use crate::patterns::put_pattern;
 use pict_parse_states::{
-    BinderPlace, DecPlace, Fault, FieldsPlace, PatPlace, Place, Prefix, State, TypePlace, ValPlace,
-    join, put_dec, type_span,
+    BinderPlace, DeclarationPlace, Fault, FieldsPlace, PatternPlace, Place, Prefix, State,
+    TypePlace, ValuePlace, join, put_declaration, type_span,
 };
 use pict_syntax::{Dec, Id, KindTree, LabelledType, Pat, RType, Span, TypeBinder, TypeTree};
 use std::alloc::{AllocError, Global};
@@ -51,13 +50,13 @@ fn put_new(
     from: Span,
     id: Id,
     tree: TypeTree,
-    place: DecPlace,
+    place: DeclarationPlace,
 ) -> Result<State, Fault>
-    ensures { Gives result (put-type (type_of tree) (in-new from id (dec-place_of place))) }
+    ensures { Gives result (put_type (type_of tree) (in_new from id (declaration_place_of place))) }
 {
     let span = join(from, type_span(&tree));
     let tree = Box::new(alloc, tree)?;
-    put_dec(alloc, Dec::New(span, id, tree), place)
+    put_declaration(alloc, Dec::New(span, id, tree), place)
 }
 
 // The type that a name stands for.
@@ -67,13 +66,13 @@ fn put_alias(
     from: Span,
     id: Id,
     tree: TypeTree,
-    place: DecPlace,
+    place: DeclarationPlace,
 ) -> Result<State, Fault>
-    ensures { Gives result (put-type (type_of tree) (in-alias from id (dec-place_of place))) }
+    ensures { Gives result (put_type (type_of tree) (in_alias from id (declaration_place_of place))) }
 {
     let span = join(from, type_span(&tree));
     let tree = Box::new(alloc, tree)?;
-    put_dec(alloc, Dec::Alias(span, id, tree), place)
+    put_declaration(alloc, Dec::Alias(span, id, tree), place)
 }
 
 // The type that an operator stands for.
@@ -84,33 +83,38 @@ fn put_operator(
     id: Id,
     params: Vec<Id>,
     tree: TypeTree,
-    place: DecPlace,
+    place: DeclarationPlace,
 ) -> Result<State, Fault>
-    ensures { Gives result (put-type (type_of tree) (in-operator from id params.items (dec-place_of place))) }
+    ensures { Gives result (put_type (type_of tree) (in_operator from id params.items (declaration_place_of place))) }
 {
     let span = join(from, type_span(&tree));
     let tree = Box::new(alloc, tree)?;
-    put_dec(alloc, Dec::Operator(span, id, params, tree), place)
+    put_declaration(alloc, Dec::Operator(span, id, params, tree), place)
 }
 
 // The annotation of a name.
 #[tactic(auto, unfolding(pict_syntax::specs::PlainTrees::pat_of))]
-fn put_bind(alloc: Global, id: Id, tree: TypeTree, place: Box<PatPlace>) -> Result<State, Fault>
-    ensures { Gives result (put-type (type_of tree) (in-bind id (pat-place_of place.value))) }
+fn put_bind(alloc: Global, id: Id, tree: TypeTree, place: Box<PatternPlace>) -> Result<State, Fault>
+    ensures { Gives result (put_type (type_of tree) (in_bind id (pattern_place_of place.value))) }
 {
     let span = join(id.span, type_span(&tree));
     let annotation = annotation(alloc, tree)?;
-    put_pat(Pat::Bind(span, id, annotation), place)
+    put_pattern(Pat::Bind(span, id, annotation), place)
 }
 
 // The annotation of `_`.
 #[tactic(auto, unfolding(pict_syntax::specs::PlainTrees::pat_of))]
-fn put_any(alloc: Global, from: Span, tree: TypeTree, place: Box<PatPlace>) -> Result<State, Fault>
-    ensures { Gives result (put-type (type_of tree) (in-any from (pat-place_of place.value))) }
+fn put_any(
+    alloc: Global,
+    from: Span,
+    tree: TypeTree,
+    place: Box<PatternPlace>,
+) -> Result<State, Fault>
+    ensures { Gives result (put_type (type_of tree) (in_any from (pattern_place_of place.value))) }
 {
     let span = join(from, type_span(&tree));
     let annotation = annotation(alloc, tree)?;
-    put_pat(Pat::Any(span, annotation), place)
+    put_pattern(Pat::Any(span, annotation), place)
 }
 
 // The annotation of a fold that is a pattern.
@@ -118,22 +122,22 @@ fn put_pat_fold(
     alloc: Global,
     from: Span,
     tree: TypeTree,
-    place: Box<PatPlace>,
+    place: Box<PatternPlace>,
 ) -> Result<State, Fault>
-    ensures { Gives result (put-type (type_of tree) (in-pat-fold-type from (pat-place_of place.value))) }
+    ensures { Gives result (put_type (type_of tree) (in_pattern_fold_type from (pattern_place_of place.value))) }
 {
     let annotation = annotation(alloc, tree)?;
-    let place = PatPlace::Fold(from, annotation, place);
-    Ok(State::NeedPat(Box::new(alloc, place)?))
+    let place = PatternPlace::Fold(from, annotation, place);
+    Ok(State::NeedPattern(Box::new(alloc, place)?))
 }
 
 // The annotation of a fold that is a value.
 fn put_fold(alloc: Global, from: Span, tree: TypeTree, place: Place) -> Result<State, Fault>
-    ensures { Gives result (put-type (type_of tree) (in-fold-type from (place_of place))) }
+    ensures { Gives result (put_type (type_of tree) (in_fold_type from (place_of place))) }
 {
     let annotation = annotation(alloc, tree)?;
-    let place = ValPlace::Fold(from, annotation, place);
-    Ok(State::Need(Place::Val(Box::new(alloc, place)?)))
+    let place = ValuePlace::Fold(from, annotation, place);
+    Ok(State::Need(Place::Value(Box::new(alloc, place)?)))
 }
 
 // The bound of a type binder.
@@ -145,7 +149,7 @@ fn put_bound(
     tree: TypeTree,
     place: Box<BinderPlace>,
 ) -> Result<State, Fault>
-    ensures { Gives result (put-type (type_of tree) (in-bound hash id kind (binder-place_of place.value))) }
+    ensures { Gives result (put_type (type_of tree) (in_bound hash id kind (binder_place_of place.value))) }
 {
     let span = join(hash, type_span(&tree));
     let tree = Box::new(alloc, tree)?;
@@ -161,7 +165,7 @@ fn put_bound(
 }
 
 // A type among the fields of a record.
-#[tactic(auto, using(pict_parse_states::proofs::Lists::type_lists))]
+#[tactic(auto, using(pict_syntax::proofs::TypeLists::type_lists))]
 fn put_field(
     from: Span,
     binders: Vec<TypeBinder>,
@@ -169,14 +173,14 @@ fn put_field(
     tree: TypeTree,
     place: Box<TypePlace>,
 ) -> Result<State, Fault>
-    ensures { Gives result (put-type (type_of tree) (in-type-field from (binders-on no-binders binders.items) (types-on no-types types.items) (type-place_of place.value))) }
+    ensures { Gives result (put_type (type_of tree) (in_type_field from (binders_in binders) (types_in types) (type_place_of place.value))) }
 {
     types.push(tree)?;
     Ok(State::AfterTypes(from, binders, types, place))
 }
 
 // The type of a label of a record.
-#[tactic(auto, using(pict_parse_states::proofs::Lists::type_lists))]
+#[tactic(auto, using(pict_syntax::proofs::TypeLists::type_lists))]
 fn put_label(
     from: Span,
     binders: Vec<TypeBinder>,
@@ -185,14 +189,15 @@ fn put_label(
     of: LabelledType,
     place: Box<TypePlace>,
 ) -> Result<State, Fault>
-    ensures { Gives result (put-type (type_of of.of) (in-type-label from (binders-on no-binders binders.items) (types-on no-types types.items) (labelled-types-on no-labelled-types labels.items) of.label (type-place_of place.value))) }
+    ensures { Gives result (put_type (type_of of.of)
+        (in_type_label from (binders_in binders) (types_in types) (labelled_types_in labels) of.label (type_place_of place.value))) }
 {
     labels.push(of)?;
     Ok(State::AfterTypeLabels(from, binders, types, labels, place))
 }
 
 // An argument of a type operator.
-#[tactic(auto, using(pict_parse_states::proofs::Lists::type_lists))]
+#[tactic(auto, using(pict_syntax::proofs::TypeLists::type_lists))]
 fn put_operand(
     from: Span,
     id: Id,
@@ -200,20 +205,20 @@ fn put_operand(
     tree: TypeTree,
     place: Box<TypePlace>,
 ) -> Result<State, Fault>
-    ensures { Gives result (put-type (type_of tree) (in-type-apply from id (types-on no-types types.items) (type-place_of place.value))) }
+    ensures { Gives result (put_type (type_of tree) (in_type_apply from id (types_in types) (type_place_of place.value))) }
 {
     types.push(tree)?;
-    Ok(State::TypeArgs(from, id, types, place))
+    Ok(State::OperatorArguments(from, id, types, place))
 }
 
 // An argument of a value or of a record.
-#[tactic(auto, using(pict_parse_states::proofs::Lists::type_lists))]
+#[tactic(auto, using(pict_syntax::proofs::TypeLists::type_lists))]
 fn put_argument(
     place: Box<FieldsPlace>,
     mut types: Vec<TypeTree>,
     tree: TypeTree,
 ) -> Result<State, Fault>
-    ensures { Gives result (put-type (type_of tree) (in-argument (fields-place_of place.value) (types-on no-types types.items))) }
+    ensures { Gives result (put_type (type_of tree) (in_argument (fields_place_of place.value) (types_in types))) }
 {
     types.push(tree)?;
     Ok(State::AfterArguments(place, types))
@@ -221,7 +226,7 @@ fn put_argument(
 
 /// A whole type is put at its place.
 pub fn put_type(alloc: Global, place: Box<TypePlace>, tree: TypeTree) -> Result<State, Fault>
-    ensures { Gives result (put-type (type_of tree) (type-place_of place.value)) }
+    ensures { Gives result (put_type (type_of tree) (type_place_of place.value)) }
 {
     match Box::into_inner(place) {
         TypePlace::New(from, id, below) => put_new(alloc, from, id, tree, below),
@@ -231,8 +236,10 @@ pub fn put_type(alloc: Global, place: Box<TypePlace>, tree: TypeTree) -> Result<
         ),
         TypePlace::Bind(id, below) => put_bind(alloc, id, tree, below),
         TypePlace::Any(from, below) => put_any(alloc, from, tree, below),
-        TypePlace::Result(from, fields, below) => Ok(State::AbsResult(from, fields, tree, below)),
-        TypePlace::PatFold(from, below) => put_pat_fold(alloc, from, tree, below),
+        TypePlace::Result(from, fields, below) => Ok(State::AbstractionResult(
+            from, fields, tree, below,
+        )),
+        TypePlace::PatternFold(from, below) => put_pat_fold(alloc, from, tree, below),
         TypePlace::Fold(from, below) => put_fold(alloc, from, tree, below),
         TypePlace::Bound(hash, id, kind, below) => put_bound(alloc, hash, id, kind, tree, below),
         TypePlace::Prefix(prefix, from, below) => {

@@ -1,10 +1,9 @@
 // What each token leads to where types are read.
 
 ghost use Rattle.std.specs.Prelude.{◌≡◌};
-ghost use Rattle.pict_syntax.specs.PlainTrees.{type_of, types-on, binders-on, labelled-types-on};
-ghost use Rattle.pict_syntax.specs.Trees.{no-types, no-binders, no-labelled-types};
-ghost use Rattle.pict_automaton.specs.Machine.{begin-type-word, begin-type-sign, begin-type, step-type-open, step-rec-word, step-rec-name, step-rec-body, close-type-args, step-type-args, step-types, step-type-name, step-type-labels, step-type-label, step-type-binders};
-ghost use Rattle.pict_parse_states.specs.View.{Gives, type-place_of};
+ghost use Rattle.pict_syntax.specs.PlainTrees.{type_of};
+ghost use Rattle.pict_automaton.specs.Machine.{begin_type_keyword, begin_type_sign, begin_type, step_type_open, step_rec_keyword, step_rec_name, step_rec_body, close_operator_arguments, step_operator_arguments, step_types, step_type_name, step_type_labels, step_type_label, step_type_binders};
+ghost use Rattle.pict_parse_states.specs.View.{types_in, binders_in, labelled_types_in, Gives, type_place_of};
 
 use crate::puts::put_type;
 use pict_parse_states::{BinderPlace, Fault, Prefix, State, TypePlace, join};
@@ -13,13 +12,13 @@ use std::alloc::Global;
 
 // A type that is a word.
 #[tactic(auto, unfolding(pict_syntax::specs::PlainTrees::type_of))]
-fn begin_type_word(
+fn begin_type_keyword(
     alloc: Global,
     word: Keyword,
     at: Span,
     place: Box<TypePlace>,
 ) -> Result<State, Fault>
-    ensures { Gives result (begin-type-word word at (type-place_of place.value)) }
+    ensures { Gives result (begin_type_keyword word at (type_place_of place.value)) }
 {
     match word {
         Keyword::TopType => put_type(alloc, place, TypeTree::Top(at)),
@@ -32,14 +31,14 @@ fn begin_type_word(
 }
 
 // A type that begins with a sign.
-#[tactic(auto, using(pict_parse_states::proofs::Lists::type_lists))]
+#[tactic(auto, using(pict_syntax::proofs::TypeLists::type_lists))]
 fn begin_type_sign(
     alloc: Global,
     sign: Sign,
     at: Span,
     place: Box<TypePlace>,
 ) -> Result<State, Fault>
-    ensures { Gives result (begin-type-sign sign at (type-place_of place.value)) }
+    ensures { Gives result (begin_type_sign sign at (type_place_of place.value)) }
 {
     match sign {
         Sign::Caret => Ok(State::NeedType(Box::new(
@@ -72,18 +71,18 @@ pub fn begin_type(
     at: Span,
     place: Box<TypePlace>,
 ) -> Result<State, Fault>
-    ensures { Gives result (begin-type kind.now at (type-place_of place.value)) }
+    ensures { Gives result (begin_type kind.now at (type_place_of place.value)) }
 {
     match kind {
-        TokenKind::Word(word) => begin_type_word(alloc, *word, at, place),
-        TokenKind::Mark(sign) => begin_type_sign(alloc, *sign, at, place),
+        TokenKind::Keyword(word) => begin_type_keyword(alloc, *word, at, place),
+        TokenKind::Sign(sign) => begin_type_sign(alloc, *sign, at, place),
         TokenKind::Identifier(name) => put_type(alloc, place, TypeTree::Use(at, *name)),
         _ => Err(Fault::Unexpected),
     }
 }
 
 /// The token behind the `(` of a type: `rec`, or the operator that is applied.
-#[tactic(auto, using(pict_parse_states::proofs::Lists::type_lists))]
+#[tactic(auto, using(pict_syntax::proofs::TypeLists::type_lists))]
 pub fn step_type_open(
     alloc: Global,
     kind: &TokenKind,
@@ -91,29 +90,29 @@ pub fn step_type_open(
     from: Span,
     place: Box<TypePlace>,
 ) -> Result<State, Fault>
-    ensures { Gives result (step-type-open kind.now at from (type-place_of place.value)) }
+    ensures { Gives result (step_type_open kind.now at from (type_place_of place.value)) }
 {
     match kind {
-        TokenKind::Word(Keyword::Rec) => Ok(State::RecWord(from, place)),
+        TokenKind::Keyword(Keyword::Rec) => Ok(State::RecKeyword(from, place)),
         TokenKind::Identifier(name) => {
             let id = Id {
                 name: *name,
                 span: at,
             };
-            Ok(State::TypeArgs(from, id, Vec::new(alloc), place))
+            Ok(State::OperatorArguments(from, id, Vec::new(alloc), place))
         }
         _ => Err(Fault::Unexpected),
     }
 }
 
 /// The token behind the `rec` of a type: the name that its body may use.
-pub fn step_rec_word(
+pub fn step_rec_keyword(
     kind: &TokenKind,
     at: Span,
     from: Span,
     place: Box<TypePlace>,
 ) -> Result<State, Fault>
-    ensures { Gives result (step-rec-word kind.now at from (type-place_of place.value)) }
+    ensures { Gives result (step_rec_keyword kind.now at from (type_place_of place.value)) }
 {
     match kind {
         TokenKind::Identifier(name) => Ok(State::RecName(
@@ -137,10 +136,10 @@ pub fn step_rec_name(
     id: Id,
     place: Box<TypePlace>,
 ) -> Result<State, Fault>
-    ensures { Gives result (step-rec-name kind.now at from id (type-place_of place.value)) }
+    ensures { Gives result (step_rec_name kind.now at from id (type_place_of place.value)) }
 {
     match kind {
-        TokenKind::Mark(Sign::Equals) => Ok(State::NeedType(Box::new(
+        TokenKind::Sign(Sign::Equals) => Ok(State::NeedType(Box::new(
             alloc,
             TypePlace::Rec(from, id, place),
         )?)),
@@ -159,10 +158,10 @@ pub fn step_rec_body(
     body: TypeTree,
     place: Box<TypePlace>,
 ) -> Result<State, Fault>
-    ensures { Gives result (step-rec-body kind.now at from id (type_of body) (type-place_of place.value)) }
+    ensures { Gives result (step_rec_body kind.now at from id (type_of body) (type_place_of place.value)) }
 {
     match kind {
-        TokenKind::Mark(Sign::CloseParen) => {
+        TokenKind::Sign(Sign::CloseParen) => {
             let body = Box::new(alloc, body)?;
             put_type(alloc, place, TypeTree::Rec(join(from, at), id, body))
         }
@@ -171,7 +170,7 @@ pub fn step_rec_body(
 }
 
 // The arguments of an applied type end: there must be one.
-fn close_type_args(
+fn close_operator_arguments(
     alloc: Global,
     at: Span,
     from: Span,
@@ -179,7 +178,7 @@ fn close_type_args(
     types: Vec<TypeTree>,
     place: Box<TypePlace>,
 ) -> Result<State, Fault>
-    ensures { Gives result (close-type-args at from id (types-on no-types types.items) (type-place_of place.value)) }
+    ensures { Gives result (close_operator_arguments at from id (types_in types) (type_place_of place.value)) }
 {
     if types.is_empty() {
         Err(Fault::Unexpected)
@@ -189,7 +188,7 @@ fn close_type_args(
 }
 
 /// The token behind the operator of an applied type, or behind one of its arguments.
-pub fn step_type_args(
+pub fn step_operator_arguments(
     alloc: Global,
     kind: &TokenKind,
     at: Span,
@@ -198,10 +197,12 @@ pub fn step_type_args(
     types: Vec<TypeTree>,
     place: Box<TypePlace>,
 ) -> Result<State, Fault>
-    ensures { Gives result (step-type-args kind.now at from id (types-on no-types types.items) (type-place_of place.value)) }
+    ensures { Gives result (step_operator_arguments kind.now at from id (types_in types) (type_place_of place.value)) }
 {
     match kind {
-        TokenKind::Mark(Sign::CloseParen) => close_type_args(alloc, at, from, id, types, place),
+        TokenKind::Sign(Sign::CloseParen) => close_operator_arguments(
+            alloc, at, from, id, types, place,
+        ),
         _ => {
             let place = Box::new(alloc, TypePlace::Apply(from, id, types, place))?;
             begin_type(alloc, kind, at, place)
@@ -219,10 +220,10 @@ pub fn step_types(
     types: Vec<TypeTree>,
     place: Box<TypePlace>,
 ) -> Result<State, Fault>
-    ensures { Gives result (step-types kind.now at from (binders-on no-binders binders.items) (types-on no-types types.items) (type-place_of place.value)) }
+    ensures { Gives result (step_types kind.now at from (binders_in binders) (types_in types) (type_place_of place.value)) }
 {
     match kind {
-        TokenKind::Mark(Sign::CloseBracket) => {
+        TokenKind::Sign(Sign::CloseBracket) => {
             put_type(
                 alloc,
                 place,
@@ -247,7 +248,7 @@ pub fn step_types(
 }
 
 /// The token behind a name among the fields of a type: a label if `=` follows, else a type.
-#[tactic(auto, using(pict_parse_states::proofs::Lists::type_lists))]
+#[tactic(auto, using(pict_syntax::proofs::TypeLists::type_lists))]
 pub fn step_type_name(
     alloc: Global,
     kind: &TokenKind,
@@ -258,10 +259,10 @@ pub fn step_type_name(
     id: Id,
     place: Box<TypePlace>,
 ) -> Result<State, Fault>
-    ensures { Gives result (step-type-name kind.now at from (binders-on no-binders binders.items) (types-on no-types types.items) id (type-place_of place.value)) }
+    ensures { Gives result (step_type_name kind.now at from (binders_in binders) (types_in types) id (type_place_of place.value)) }
 {
     match kind {
-        TokenKind::Mark(Sign::Equals) => {
+        TokenKind::Sign(Sign::Equals) => {
             let place = TypePlace::Label(from, binders, types, Vec::new(alloc), id, place);
             Ok(State::NeedType(Box::new(alloc, place)?))
         }
@@ -283,10 +284,10 @@ pub fn step_type_labels(
     labels: Vec<LabelledType>,
     place: Box<TypePlace>,
 ) -> Result<State, Fault>
-    ensures { Gives result (step-type-labels kind.now at from (binders-on no-binders binders.items) (types-on no-types types.items) (labelled-types-on no-labelled-types labels.items) (type-place_of place.value)) }
+    ensures { Gives result (step_type_labels kind.now at from (binders_in binders) (types_in types) (labelled_types_in labels) (type_place_of place.value)) }
 {
     match kind {
-        TokenKind::Mark(Sign::CloseBracket) => {
+        TokenKind::Sign(Sign::CloseBracket) => {
             put_type(
                 alloc,
                 place,
@@ -316,10 +317,10 @@ pub fn step_type_label(
     id: Id,
     place: Box<TypePlace>,
 ) -> Result<State, Fault>
-    ensures { Gives result (step-type-label kind.now at from (binders-on no-binders binders.items) (types-on no-types types.items) (labelled-types-on no-labelled-types labels.items) id (type-place_of place.value)) }
+    ensures { Gives result (step_type_label kind.now at from (binders_in binders) (types_in types) (labelled_types_in labels) id (type_place_of place.value)) }
 {
     match kind {
-        TokenKind::Mark(Sign::Equals) => {
+        TokenKind::Sign(Sign::Equals) => {
             let place = TypePlace::Label(from, binders, types, labels, id, place);
             Ok(State::NeedType(Box::new(alloc, place)?))
         }
@@ -336,10 +337,10 @@ pub fn step_type_binders(
     binders: Vec<TypeBinder>,
     place: Box<TypePlace>,
 ) -> Result<State, Fault>
-    ensures { Gives result (step-type-binders kind.now at from (binders-on no-binders binders.items) (type-place_of place.value)) }
+    ensures { Gives result (step_type_binders kind.now at from (binders_in binders) (type_place_of place.value)) }
 {
     match kind {
-        TokenKind::Mark(Sign::Hash) => {
+        TokenKind::Sign(Sign::Hash) => {
             let place = BinderPlace::Types(from, binders, place);
             Ok(State::BinderHash(at, Box::new(alloc, place)?))
         }

@@ -35,5 +35,5 @@ one_effect _ v k = None
 -- the effect on a string and a further operand
 abbrev pub text_effect : Primitive → Val → Val → Val → Option Effect
 text_effect primitive.Join s t k = at_text s (λ front. at_text t (λ back. answers k (Text (front ++ back))))
-text_effect primitive.Nth s n k = at_text s (λ bytes. at_int n (λ place. answers k (Int (byte_at bytes place))))
+text_effect primitive.Nth s n k = at_text s (λ bytes. at_int n (λ index. answers k (Int (byte_at bytes index))))
 text_effect _ s t k = None

@@ -41,7 +41,7 @@ fn quotient(a: i64, b: i64) -> i64
     a.wrapping_div(b)
 }
 
-// What the primitive does to two numbers; nothing where it takes other operands.
+/// What the primitive does to two numbers, answering at `k`; nothing where it takes other operands.
 pub fn act_on_numbers(
     alloc: Global,
     p: Prim,

@@ -7,9 +7,10 @@ ghost use Rattle.pict_core.specs.Primitives.{Effect, at_two, at_three, at_ints};
 
 use pict_core::CoreVal;
 
-// The positional fields of a record with two of them.
+/// The positional fields of a record with two of them; nothing of any other value. Labels count nothing.
 pub fn two_fields(argument: &CoreVal) -> Option<(&CoreVal, &CoreVal)>
-    ensures { (f : Val → Val → Option Effect) → at_two (plain_val argument.now) f ≡ option_and_then (λ x. f (plain_val x.0.now) (plain_val x.1.now)) result }
+    ensures { (f : Val → Val → Option Effect) → at_two (plain_val argument.now) f
+        ≡ option_and_then (λ x. f (plain_val x.0.now) (plain_val x.1.now)) result }
 {
     match argument {
         CoreVal::Fields { positional, .. } => first_two(positional),
@@ -18,7 +19,8 @@ pub fn two_fields(argument: &CoreVal) -> Option<(&CoreVal, &CoreVal)>
 }
 
 fn first_two(fields: &[CoreVal]) -> Option<(&CoreVal, &CoreVal)>
-    ensures { (ls : Labelled) (f : Val → Val → Option Effect) → at_two (Record (vals_of (map plain_val fields.now)) ls) f ≡ option_and_then (λ x. f (plain_val x.0.now) (plain_val x.1.now)) result }
+    ensures { (ls : Labelled) (f : Val → Val → Option Effect) → at_two (Record (vals_of (map plain_val fields.now)) ls) f
+        ≡ option_and_then (λ x. f (plain_val x.0.now) (plain_val x.1.now)) result }
 {
     if fields.len() == 2 {
         Some((&fields[0], &fields[1]))
@@ -27,9 +29,10 @@ fn first_two(fields: &[CoreVal]) -> Option<(&CoreVal, &CoreVal)>
     }
 }
 
-// The positional fields of a record with three of them.
+/// The positional fields of a record with three of them; nothing of any other value. Labels count nothing.
 pub fn three_fields(argument: &CoreVal) -> Option<(&CoreVal, &CoreVal, &CoreVal)>
-    ensures { (f : Val → Val → Val → Option Effect) → at_three (plain_val argument.now) f ≡ option_and_then (λ x. f (plain_val x.0.now) (plain_val x.1.now) (plain_val x.2.now)) result }
+    ensures { (f : Val → Val → Val → Option Effect) → at_three (plain_val argument.now) f
+        ≡ option_and_then (λ x. f (plain_val x.0.now) (plain_val x.1.now) (plain_val x.2.now)) result }
 {
     match argument {
         CoreVal::Fields { positional, .. } => first_three(positional),
@@ -38,7 +41,8 @@ pub fn three_fields(argument: &CoreVal) -> Option<(&CoreVal, &CoreVal, &CoreVal)
 }
 
 fn first_three(fields: &[CoreVal]) -> Option<(&CoreVal, &CoreVal, &CoreVal)>
-    ensures { (ls : Labelled) (f : Val → Val → Val → Option Effect) → at_three (Record (vals_of (map plain_val fields.now)) ls) f ≡ option_and_then (λ x. f (plain_val x.0.now) (plain_val x.1.now) (plain_val x.2.now)) result }
+    ensures { (ls : Labelled) (f : Val → Val → Val → Option Effect) → at_three (Record (vals_of (map plain_val fields.now)) ls) f
+        ≡ option_and_then (λ x. f (plain_val x.0.now) (plain_val x.1.now) (plain_val x.2.now)) result }
 {
     if fields.len() == 3 {
         Some((&fields[0], &fields[1], &fields[2]))
@@ -47,7 +51,7 @@ fn first_three(fields: &[CoreVal]) -> Option<(&CoreVal, &CoreVal, &CoreVal)>
     }
 }
 
-// Two numbers and the third positional field of a record with three of them.
+/// Two numbers and the third positional field of a record with three of them; nothing of any other value.
 pub fn two_numbers(argument: &CoreVal) -> Option<(i64, i64, &CoreVal)>
     ensures { (f : ℤ → ℤ → Val → Option Effect) → at_ints (plain_val argument.now) f ≡ option_and_then (λ x. f x.0 x.1 (plain_val x.2.now)) result }
 {

@@ -23,7 +23,7 @@ pub enum Done {
     ZeroDivisor,
 }
 
-// The answer for k.
+/// The primitive answers this value at `k`. The only error is want of memory.
 pub fn answer(alloc: Global, k: &CoreVal, value: CoreVal) -> Result<Option<Done>, AllocError>
     ensures { Attempts result (answers (plain_val k.now) (plain_val value)) }
 {

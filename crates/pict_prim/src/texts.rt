@@ -14,7 +14,7 @@ use pict_core::CoreVal;
 use pict_syntax::Bytes;
 use std::alloc::{AllocError, Global};
 
-// The decimal text of a number.
+/// The decimal text of a number. The only error is want of memory.
 pub fn decimal(alloc: Global, n: i64) -> Result<Bytes, AllocError>
     ensures { IfOk result (λ bytes. bytes ≡ signed_decimal n) }
 {
@@ -31,19 +31,20 @@ fn joined(alloc: Global, front: &[u8], back: &[u8]) -> Result<Bytes, AllocError>
     Bytes::copy_of(alloc, &both)
 }
 
-// The byte at a place from 0, or -1.
-fn byte(bytes: &[u8], place: i64) -> i64
-    ensures { result ≡ byte_at bytes.now place }
+// The byte at an index from 0, or -1 out of range.
+fn byte(bytes: &[u8], index: i64) -> i64
+    ensures { result ≡ byte_at bytes.now index }
 {
-    if place < 0 {
+    if index < 0 {
         return -1;
     }
-    match bytes.get(place as usize) {
+    match bytes.get(index as usize) {
         None => -1,
         Some(byte) => *byte as i64,
     }
 }
 
+/// `print`: the string is printed. `None` where the argument is no string.
 pub fn print(alloc: Global, argument: &CoreVal) -> Result<Option<Done>, AllocError>
     ensures { Attempts result (at_text (plain_val argument.now) prints) }
 {
@@ -53,6 +54,7 @@ pub fn print(alloc: Global, argument: &CoreVal) -> Result<Option<Done>, AllocErr
     }
 }
 
+/// `printi`: the number is printed in decimal. `None` where the argument is no number.
 pub fn print_number(argument: &CoreVal) -> Result<Option<Done>, AllocError>
     ensures { Attempts result (at_int (plain_val argument.now) (λ n. prints (signed_decimal n))) }
 {
@@ -62,12 +64,14 @@ pub fn print_number(argument: &CoreVal) -> Result<Option<Done>, AllocError>
     }
 }
 
+/// `pr`: the string is printed, and the empty record is answered at `k`.
 pub fn print_and_answer(
     alloc: Global,
     text: &CoreVal,
     k: &CoreVal,
 ) -> Result<Option<Done>, AllocError>
-    ensures { Attempts result (at_text (plain_val text.now) (λ bytes. Some (record { printed = Some bytes; leaves = Answer (plain_val k.now) (Record no_vals no_labelled) }))) }
+    ensures { Attempts result (at_text (plain_val text.now)
+        (λ bytes. Some (record { printed = Some bytes; leaves = Answer (plain_val k.now) (Record no_vals no_labelled) }))) }
 {
     match text {
         CoreVal::Text(bytes) => {
@@ -82,6 +86,7 @@ pub fn print_and_answer(
     }
 }
 
+/// `chr`: the character of the number's remainder by 256, from 0 on.
 pub fn chr(alloc: Global, n: &CoreVal, k: &CoreVal) -> Result<Option<Done>, AllocError>
     ensures { Attempts result (at_int (plain_val n.now) (λ a. answers (plain_val k.now) (Char (unsigned_abs (int_rem_euclid a (pos 256)))))) }
 {
@@ -91,6 +96,7 @@ pub fn chr(alloc: Global, n: &CoreVal, k: &CoreVal) -> Result<Option<Done>, Allo
     }
 }
 
+/// `ord`: the number of the character.
 pub fn ord(alloc: Global, c: &CoreVal, k: &CoreVal) -> Result<Option<Done>, AllocError>
     ensures { Attempts result (at_char (plain_val c.now) (λ byte. answers (plain_val k.now) (Int (pos byte)))) }
 {
@@ -100,6 +106,7 @@ pub fn ord(alloc: Global, c: &CoreVal, k: &CoreVal) -> Result<Option<Done>, Allo
     }
 }
 
+/// `intstr`: the decimal text of the number.
 pub fn intstr(alloc: Global, n: &CoreVal, k: &CoreVal) -> Result<Option<Done>, AllocError>
     ensures { Attempts result (at_int (plain_val n.now) (λ a. answers (plain_val k.now) (Text (signed_decimal a)))) }
 {
@@ -109,6 +116,7 @@ pub fn intstr(alloc: Global, n: &CoreVal, k: &CoreVal) -> Result<Option<Done>, A
     }
 }
 
+/// `size`: how many bytes the string has.
 pub fn size(alloc: Global, text: &CoreVal, k: &CoreVal) -> Result<Option<Done>, AllocError>
     ensures { Attempts result (at_text (plain_val text.now) (λ bytes. answers (plain_val k.now) (Int (pos (length bytes))))) }
 {
@@ -118,6 +126,7 @@ pub fn size(alloc: Global, text: &CoreVal, k: &CoreVal) -> Result<Option<Done>, 
     }
 }
 
+/// `not`: the other truth value.
 pub fn negate(alloc: Global, b: &CoreVal, k: &CoreVal) -> Result<Option<Done>, AllocError>
     ensures { Attempts result (at_bool (plain_val b.now) (λ c. answers (plain_val k.now) (Boolean (not c)))) }
 {
@@ -127,13 +136,15 @@ pub fn negate(alloc: Global, b: &CoreVal, k: &CoreVal) -> Result<Option<Done>, A
     }
 }
 
+/// `+$`: both strings, one after the other.
 pub fn join(
     alloc: Global,
     s: &CoreVal,
     t: &CoreVal,
     k: &CoreVal,
 ) -> Result<Option<Done>, AllocError>
-    ensures { Attempts result (at_text (plain_val s.now) (λ front. at_text (plain_val t.now) (λ back. answers (plain_val k.now) (Text (front ++ back))))) }
+    ensures { Attempts result (at_text (plain_val s.now)
+        (λ front. at_text (plain_val t.now) (λ back. answers (plain_val k.now) (Text (front ++ back))))) }
 {
     match s {
         CoreVal::Text(front) => match t {
@@ -148,12 +159,14 @@ pub fn join(
     }
 }
 
+/// `nth`: the byte at an index from 0, as a number, or -1 out of range.
 pub fn nth(alloc: Global, s: &CoreVal, n: &CoreVal, k: &CoreVal) -> Result<Option<Done>, AllocError>
-    ensures { Attempts result (at_text (plain_val s.now) (λ bytes. at_int (plain_val n.now) (λ place. answers (plain_val k.now) (Int (byte_at bytes place))))) }
+    ensures { Attempts result (at_text (plain_val s.now)
+        (λ bytes. at_int (plain_val n.now) (λ index. answers (plain_val k.now) (Int (byte_at bytes index))))) }
 {
     match s {
         CoreVal::Text(bytes) => match n {
-            CoreVal::Int(place) => answer(alloc, k, CoreVal::Int(byte(bytes.slice(), *place))),
+            CoreVal::Int(index) => answer(alloc, k, CoreVal::Int(byte(bytes.slice(), *index))),
             _ => Ok(None),
         },
         _ => Ok(None),

@@ -6,12 +6,5 @@ chosen_least : (b : Bool) (work : ℕ) → work ≤ cond b (work + 1) work
 chosen_least true work = omega arith
 chosen_least false work = omega arith
 
-chosen_most : (b : Bool) (work : ℕ) → cond b (work + 1) work ≤ work + 1
-chosen_most true work = omega arith
-chosen_most false work = omega arith
-
 pub raised_least : (work : ℕ) → work ≤ raised work
 raised_least work = chosen_least (ltb work (2 ^ 64 - 1)) work
-
-pub raised_most : (work : ℕ) → raised work ≤ work + 1
-raised_most work = chosen_most (ltb work (2 ^ 64 - 1)) work

@@ -8,6 +8,7 @@ use Rattle.std.proofs.lemmas.List.{length-set, get_or-set_same, drop-set-lt}
 use Rattle.pict_region.specs.Chain.{chain}
 use Rattle.pict_region.specs.RegionState.{RegionState, IsLive, words_of, width_of}
 use Rattle.pict_region.proofs.Chains.{StandsIn, IsAbsent, stands_apart, stands_first, stands_later, chain-length, chain-same, distinct_rest, distinct_absent}
+use Rattle.pict_region.proofs.Calls.{some_words}
 use Rattle.pict_region.proofs.Uses.{get_inserted, get_insert_apart}
 use Rattle.pict_queue.specs.QueuesState.{link_of, KeepsContents}
 
@@ -19,15 +20,11 @@ pub record LinksBlock (r r' : RegionState) (block next : ℕ) : Type 0 where
   pub widths : (other : ℕ) → width_of r' other ≡ width_of r other
   pub live : (other : ℕ) → is_some (get r'.live other) ≡ is_some (get r.live other)
 
-found_words : (found : Option (List ℕ)) → IsSome found → found ≡ Some (unwrap_or found [])
-found_words None h = cc
-found_words (Some ws) h = refl
-
 pub link_written : (r r' : RegionState) (block next : ℕ) → IsLive r block → 1 ≤ width_of r block
     → r'.live ≡ insert r.live block (set (words_of r block) 0 next) → LinksBlock r r' block next
 link_written r r' block next live wide is =
     let ws : List ℕ = words_of r block in
-    let was : get r.live block ≡ Some ws = found_words (get r.live block) live in
+    let was : get r.live block ≡ Some ws = some_words (get r.live block) live in
     let here : get r'.live block ≡ Some (set ws 0 next) = ap (λ m. get m block) is ∙ get_inserted r.live block (set ws 0 next) in
     let apart : (other : ℕ) → other ≢ block → get r'.live other ≡ get r.live other = λ other ne.
     ap (λ m. get m other) is ∙ get_insert_apart r.live block (set ws 0 next) other ne in
@@ -54,6 +51,11 @@ pub thread_kept : (r r' : RegionState) (block next first count : ℕ) → LinksB
 thread_kept r r' block next first count links absent =
     chain-same (link_of r) (link_of r') first count (λ n stands. links.elsewhere n (stands_apart (chain (link_of r) first count) n block stands absent))
 
+pub last_stands : (ns : List ℕ) (i : ℕ) → i < length ns → StandsIn ns (get_or ns i 0)
+last_stands [] i inside = absurd (omega arith)
+last_stands (n ∷ ns) zero inside = stands_first n ns
+last_stands (n ∷ ns) (suc i) inside = stands_later (get_or ns i 0) n ns (last_stands ns i (omega arith))
+
 -- a thread becomes longer by a block that its last block names
 pub chain_pushed : (f g : ℕ → ℕ) (first count block : ℕ) → IsDistinct eqb (chain f first (suc count))
     → g (get_or (chain f first (suc count)) count 0) ≡ block
@@ -69,8 +71,3 @@ chain_pushed f g first (suc count) block distinct named same =
     ap (λ ns. first ∷ ns)
     (ap (λ n. chain g n (suc (suc count))) here
     ∙ chain_pushed f g (f first) count block (distinct_rest first rest distinct) named same)
-  where
-    last_stands : (ns : List ℕ) (i : ℕ) → i < length ns → StandsIn ns (get_or ns i 0)
-    last_stands [] i inside = absurd (omega arith)
-    last_stands (n ∷ ns) zero inside = stands_first n ns
-    last_stands (n ∷ ns) (suc i) inside = stands_later (get_or ns i 0) n ns (last_stands ns i (omega arith))

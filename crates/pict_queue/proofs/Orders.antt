@@ -17,7 +17,7 @@ use Rattle.pict_queue.specs.QueuesState.{QueueState, QueuesState, link_of, no_qu
 use Rattle.pict_queue.specs.Threads.{state_of, queue_in, thread, IsThreaded}
 use Rattle.pict_queue.specs.declared.queues.Queue.{Queue}
 use Rattle.pict_queue.specs.declared.queues.Queues.TheInside.{Inside}
-use Rattle.pict_queue.proofs.Links.{LinksBlock, thread_kept, chain_pushed}
+use Rattle.pict_queue.proofs.Links.{LinksBlock, thread_kept, chain_pushed, last_stands}
 
 -- a queue as contracts see it
 queue_seen : (queues : List Queue) (number : ℕ)
@@ -136,11 +136,6 @@ threaded_after r r' queues number queue threaded inside live widths others list 
       wide = λ block is_live. omega (arith, threaded.wide block (subst (λ b. b ≡ true) (live block) is_live), widths block);
       small = λ block is_live. threaded.small block (subst (λ b. b ≡ true) (live block) is_live);
     }
-
-last_stands : (ns : List ℕ) (i : ℕ) → i < length ns → StandsIn ns (get_or ns i 0)
-last_stands [] i inside = absurd (omega arith)
-last_stands (n ∷ ns) zero inside = stands_first n ns
-last_stands (n ∷ ns) (suc i) inside = stands_later (get_or ns i 0) n ns (last_stands ns i (omega arith))
 
 -- the last block of a queue that isn't empty
 pub last_in : (r : RegionState) (queues : List Queue) (number : ℕ) → IsThreaded r queues → 0 < (queue_in queues number).length

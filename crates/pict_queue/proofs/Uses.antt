@@ -16,9 +16,6 @@ AreWide live width = (number : ℕ) → IsSome (get live number) → length (unw
 pub wide_none : (live : Live) (width : ℕ) → live ≡ empty → AreWide live width
 wide_none live width none number is_live = cc (ap is_some (ap (λ m. get m number) none ∙ get-empty nat_cmp number))
 
-pub wide_same : (live live' : Live) (width : ℕ) → AreWide live width → live' ≡ live → AreWide live' width
-wide_same live live' width wide same = subst (λ m. AreWide m width) (sym same) wide
-
 pub wide_insert : (live live' : Live) (width number : ℕ) (block : List ℕ) → AreWide live width → length block ≡ width → live' ≡ insert live number block
     → AreWide live' width
 wide_insert live live' width number block wide is_wide is other is_live = ⊎_elim

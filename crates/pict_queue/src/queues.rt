@@ -253,7 +253,7 @@ impl Queues {
         self.region.get(b, i)
     }
 
-    /// Puts a word at place `i` of a held block, from 0. Takes no memory.
+    /// Puts a word at index `i` of a held block, from 0. Takes no memory.
     pub fn set(&mut self, b: &Block, i: u32, word: u64)
         requires held { IsHeld self.old b.now }
         requires inside { i < width_of self.old.region b.now }

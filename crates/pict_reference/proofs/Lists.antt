@@ -2,7 +2,7 @@
 use Rattle.std.proofs.Common.{ℕ, ◌≡◌, Bool, true, false, not, nat_eq, List, [], ◌∷◌, map, filter, refl, ap, cond}
 use Rattle.pict_core.specs.Configuration as plain
 use Rattle.pict_reference.specs.declared.entry.Entry.{Entry}
-use Rattle.pict_reference.specs.Reading.{plain_entry}
+use Rattle.pict_reference.specs.Plain.{plain_entry}
 
 filter_cons : (e : Entry) (xs : List Entry) (ys : List plain.Entry) (b : Bool) → map plain_entry xs ≡ ys → map plain_entry (cond b (e ∷ xs) xs) ≡ cond b (plain_entry e ∷ ys) ys
 filter_cons e xs ys true h = ap (λ zs. plain_entry e ∷ zs) h

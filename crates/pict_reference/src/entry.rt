@@ -3,7 +3,7 @@
 ghost use Rattle.std.specs.Prelude.{◌≡◌, map, option_map, IfOk};
 ghost use Rattle.pict_core.specs.Plain.{plain_core, plain_val};
 ghost use Rattle.pict_core.specs.Step.{is_channel as is_plain_channel, reads as reads_plain, sends as sends_plain, is_ready, is_parked_reader, is_parked_message, least, with_process as with_plain_process};
-ghost use Rattle.pict_reference.specs.Reading.{plain_entry};
+ghost use Rattle.pict_reference.specs.Plain.{plain_entry};
 
 use pict_core::{Core, CoreVal};
 use std::alloc::{AllocError, Global};

@@ -5,8 +5,5 @@ mod entry;
 mod outcome;
 mod reference;
 
-pub use outcome::{Label, Outcome};
+pub use outcome::{Label, StepOutcome};
 pub use reference::Reference;
-
-#[cfg(test)]
-mod tests;

@@ -16,7 +16,7 @@ pub enum Label {
 
 /// What becomes of a configuration.
 #[derive(Drop)]
-pub enum Outcome {
+pub enum StepOutcome {
     /// It steps.
     Steps(Label),
     /// Its step divides by zero, for the output at this place.

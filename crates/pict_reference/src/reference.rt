@@ -4,16 +4,16 @@ ghost use Rattle.std.specs.Prelude.{◌≡◌, ◌+◌, ◌<◌, ◌≤◌, ◌^
 ghost use Rattle.pict_core.specs.Plain.{plain_core, plain_val, plain_pat, core_of};
 ghost use Rattle.pict_core.specs.Term.{Chan, Out, In};
 ghost use Rattle.pict_core.specs.Primitives.{effect_of};
-ghost use Rattle.pict_core.specs.Substitution.{put as put_plain};
-ghost use Rattle.pict_core.specs.Matching.{match_val};
+ghost use Rattle.pict_core.specs.Substitution.{substitute as substitute_plain};
+ghost use Rattle.pict_core.specs.Matching.{match_value};
 ghost use Rattle.pict_prim.specs.Done.{effect_done, PrintsText};
 ghost use Rattle.pict_core.specs.Configuration.{IsConfiguration, opening, Ready, Parked};
-ghost use Rattle.pict_core.specs.Step.{next as next_plain, act as act_plain, send as send_plain, receive as receive_plain, choose as choose_plain, perform as perform_plain, leave as leave_plain, printing, Steps as StepsTo, Quiet as QuietLabel, gone as gone_plain, kept as kept_plain, added as added_plain, with_channel, served as served_plain, took as took_plain, meet_reader as meet_plain_reader, meet_message as meet_plain_message, is_ready, least, is_partner, is_parked_reader, is_parked_message};
-ghost use Rattle.pict_reference.specs.Reading.{configuration_of, mark_of, IsOutcome, Gives, IsCopyOf};
+ghost use Rattle.pict_core.specs.Step.{next as next_plain, send as send_plain, receive as receive_plain, choose as choose_plain, perform as perform_plain, leave as leave_plain, printing, Steps as StepsTo, Quiet as QuietLabel, gone as gone_plain, kept as kept_plain, added as added_plain, with_channel, served as served_plain, took as took_plain, meet_reader as meet_plain_reader, meet_message as meet_plain_message, is_ready, least, is_parked_reader, is_parked_message};
+ghost use Rattle.pict_reference.specs.Plain.{configuration_of, acts_in, mark_of, IsOutcome, Gives, IsCopyOf};
 
 use crate::entry::{Entry, oldest_message, oldest_reader, oldest_ready, with_process};
-use crate::outcome::{Label, Outcome};
-use pict_core::{Core, CorePat, CoreVal, Part, parts_of, put};
+use crate::outcome::{Label, StepOutcome};
+use pict_core::{Core, CorePat, CoreVal, Part, match_value, substitute};
 use pict_prim::{Done, attempt, printed_bytes};
 use pict_syntax::{Prim, Span};
 use std::alloc::{AllocError, Global};
@@ -79,73 +79,89 @@ impl Reference {
     }
 
     // The process at the stamp parks as this one.
-    fn park(&mut self, s: u64, process: Core) -> Result<Outcome, AllocError>
+    fn park(&mut self, s: u64, process: Core) -> Result<StepOutcome, AllocError>
         requires { self.old.next_stamp + 2 < 2 ^ 64 }
-        ensures { Gives result (StepsTo (added_plain Parked (plain_core process) (gone_plain s (configuration_of self.old))) QuietLabel) (configuration_of self.old) (configuration_of self.new) }
+        ensures { Gives result (StepsTo (added_plain Parked (plain_core process) (gone_plain s (configuration_of self.old))) QuietLabel)
+            (configuration_of self.old) (configuration_of self.new) }
     {
         self.gone(s);
         self.added(false, process)?;
-        Ok(Outcome::Steps(Label::Quiet))
+        Ok(StepOutcome::Steps(Label::Quiet))
     }
 
     // The part keeps the turn of the stamp.
-    fn keep_turn(&mut self, s: u64, part: Part) -> Result<Outcome, AllocError>
-        ensures { Gives result (StepsTo (kept_plain s (plain_core (core_of part)) (configuration_of self.old)) QuietLabel) (configuration_of self.old) (configuration_of self.new) }
+    fn keep_turn(&mut self, s: u64, part: Part) -> Result<StepOutcome, AllocError>
+        ensures { Gives result (StepsTo (kept_plain s (plain_core (core_of part)) (configuration_of self.old)) QuietLabel)
+            (configuration_of self.old) (configuration_of self.new) }
     {
         self.kept(s, part.core())?;
-        Ok(Outcome::Steps(Label::Quiet))
+        Ok(StepOutcome::Steps(Label::Quiet))
     }
 
-    fn split(&mut self, s: u64, left: Part, right: Part) -> Result<Outcome, AllocError>
+    fn split(&mut self, s: u64, left: Part, right: Part) -> Result<StepOutcome, AllocError>
         requires { self.old.next_stamp + 2 < 2 ^ 64 }
-        ensures { Gives result (StepsTo (added_plain Ready (plain_core (core_of right)) (kept_plain s (plain_core (core_of left)) (configuration_of self.old))) QuietLabel) (configuration_of self.old) (configuration_of self.new) }
+        ensures { Gives result (StepsTo
+            (added_plain Ready (plain_core (core_of right)) (kept_plain s (plain_core (core_of left)) (configuration_of self.old))) QuietLabel)
+            (configuration_of self.old) (configuration_of self.new) }
     {
         self.kept(s, left.core())?;
         self.added(true, right.into_core())?;
-        Ok(Outcome::Steps(Label::Quiet))
+        Ok(StepOutcome::Steps(Label::Quiet))
     }
 
-    fn make_channel(&mut self, s: u64, body: Part) -> Result<Outcome, AllocError>
+    fn make_channel(&mut self, s: u64, body: Part) -> Result<StepOutcome, AllocError>
         requires { self.old.channels + 1 < 2 ^ 32 }
-        ensures { Gives result (StepsTo (kept_plain s (put_plain 0 (Chan self.old.channels ∷ []) (plain_core (core_of body))) (with_channel (configuration_of self.old))) QuietLabel) (configuration_of self.old) (configuration_of self.new) }
+        ensures { Gives result (StepsTo
+            (kept_plain s (substitute_plain 0 (Chan self.old.channels ∷ []) (plain_core (core_of body))) (with_channel (configuration_of self.old))) QuietLabel)
+            (configuration_of self.old) (configuration_of self.new) }
     {
-        let process = put(self.alloc, body.core(), &[CoreVal::Chan(self.channels)])?;
+        let process = substitute(self.alloc, body.core(), &[CoreVal::Chan(self.channels)])?;
         self.kept(s, &process)?;
         self.channels += 1;
-        Ok(Outcome::Steps(Label::Quiet))
+        Ok(StepOutcome::Steps(Label::Quiet))
     }
 
-    fn choose(&mut self, s: u64, test: CoreVal, yes: Part, no: Part) -> Result<Outcome, AllocError>
-        ensures { Gives result (choose_plain (plain_val test) (StepsTo (kept_plain s (plain_core (core_of yes)) (configuration_of self.old)) QuietLabel) (StepsTo (kept_plain s (plain_core (core_of no)) (configuration_of self.old)) QuietLabel)) (configuration_of self.old) (configuration_of self.new) }
+    fn choose(
+        &mut self,
+        s: u64,
+        test: CoreVal,
+        yes: Part,
+        no: Part,
+    ) -> Result<StepOutcome, AllocError>
+        ensures { Gives result (choose_plain (plain_val test)
+            (StepsTo (kept_plain s (plain_core (core_of yes)) (configuration_of self.old)) QuietLabel)
+            (StepsTo (kept_plain s (plain_core (core_of no)) (configuration_of self.old)) QuietLabel))
+            (configuration_of self.old) (configuration_of self.new) }
     {
         match test {
             CoreVal::Bool(true) => self.keep_turn(s, yes),
             CoreVal::Bool(false) => self.keep_turn(s, no),
-            _ => Ok(Outcome::Wrong),
+            _ => Ok(StepOutcome::Wrong),
         }
     }
 
     // What a primitive leaves, for the output at the stamp.
-    fn leave(&mut self, s: u64, done: Done, at: Span) -> Result<Outcome, AllocError>
+    fn leave(&mut self, s: u64, done: Done, at: Span) -> Result<StepOutcome, AllocError>
         requires { PrintsText done }
-        ensures { Gives result (leave_plain (configuration_of self.old) s at (printing (effect_done done).printed) (effect_done done).leaves) (configuration_of self.old) (configuration_of self.new) }
+        ensures { Gives result (leave_plain (configuration_of self.old) s at (printing (effect_done done).printed) (effect_done done).leaves)
+            (configuration_of self.old) (configuration_of self.new) }
     {
         match done {
             Done::Printed(printed) => {
                 let bytes = printed_bytes(self.alloc, printed)?;
                 self.gone(s);
-                Ok(Outcome::Steps(Label::Print(bytes)))
+                Ok(StepOutcome::Steps(Label::Print(bytes)))
             }
             Done::Answer(chan, message) => {
                 self.kept(s, &Core::Out { chan, message, at })?;
-                Ok(Outcome::Steps(Label::Quiet))
+                Ok(StepOutcome::Steps(Label::Quiet))
             }
             Done::PrintedAnswer(printed, chan, message) => {
                 let bytes = printed_bytes(self.alloc, printed)?;
                 self.kept(s, &Core::Out { chan, message, at })?;
-                Ok(Outcome::Steps(Label::Print(bytes)))
+                Ok(StepOutcome::Steps(Label::Print(bytes)))
             }
-            Done::ZeroDivisor => Ok(Outcome::Traps(at)),
+            Done::ZeroDivisor => Ok(StepOutcome::Traps(at)),
         }
     }
 
@@ -155,11 +171,12 @@ impl Reference {
         primitive: Prim,
         message: &CoreVal,
         at: Span,
-    ) -> Result<Outcome, AllocError>
-        ensures { Gives result (perform_plain (configuration_of self.old) s at (effect_of primitive (plain_val message.now))) (configuration_of self.old) (configuration_of self.new) }
+    ) -> Result<StepOutcome, AllocError>
+        ensures { Gives result (perform_plain (configuration_of self.old) s at (effect_of primitive (plain_val message.now)))
+            (configuration_of self.old) (configuration_of self.new) }
     {
         match attempt(self.alloc, primitive, message)? {
-            None => Ok(Outcome::Wrong),
+            None => Ok(StepOutcome::Wrong),
             Some(done) => self.leave(s, done, at),
         }
     }
@@ -225,7 +242,8 @@ impl Reference {
         reader: Core,
     ) -> Result<(), AllocError>
         requires { self.old.next_stamp + 2 < 2 ^ 64 }
-        ensures { OnOk result (configuration_of self.new ≡ served_plain replicated (plain_core reader) (added_plain Ready (plain_core body) (gone_plain r (gone_plain s (configuration_of self.old))))) }
+        ensures { OnOk result (configuration_of self.new ≡ served_plain replicated (plain_core reader)
+            (added_plain Ready (plain_core body) (gone_plain r (gone_plain s (configuration_of self.old))))) }
     {
         self.gone(s);
         self.gone(r);
@@ -236,7 +254,8 @@ impl Reference {
     // The reader takes the message at stamp r.
     fn take(&mut self, s: u64, r: u64, body: Core, replicated: bool) -> Result<(), AllocError>
         requires { self.old.next_stamp + 2 < 2 ^ 64 }
-        ensures { OnOk result (configuration_of self.new ≡ added_plain Ready (plain_core body) (gone_plain r (took_plain replicated s (configuration_of self.old)))) }
+        ensures { OnOk result (configuration_of self.new ≡ added_plain Ready (plain_core body)
+            (gone_plain r (took_plain replicated s (configuration_of self.old)))) }
     {
         self.took(replicated, s);
         self.gone(r);
@@ -250,9 +269,10 @@ impl Reference {
         message: CoreVal,
         r: u64,
         reader: Core,
-    ) -> Result<Outcome, AllocError>
+    ) -> Result<StepOutcome, AllocError>
         requires { self.old.next_stamp + 2 < 2 ^ 64 }
-        ensures { Gives result (meet_plain_reader (configuration_of self.old) s c (plain_val message) r (plain_core reader)) (configuration_of self.old) (configuration_of self.new) }
+        ensures { Gives result (meet_plain_reader (configuration_of self.old) s c (plain_val message) r (plain_core reader))
+            (configuration_of self.old) (configuration_of self.new) }
     {
         match reader {
             Core::In {
@@ -261,7 +281,7 @@ impl Reference {
                 pattern,
                 body,
             } => match self.body_of(&pattern, &message, &body)? {
-                None => Ok(Outcome::Wrong),
+                None => Ok(StepOutcome::Wrong),
                 Some(process) => {
                     let again = Core::In {
                         chan,
@@ -270,10 +290,10 @@ impl Reference {
                         body,
                     };
                     self.serve(s, r, process, replicated, again)?;
-                    Ok(Outcome::Steps(Label::Comm(c, message)))
+                    Ok(StepOutcome::Steps(Label::Comm(c, message)))
                 }
             },
-            _ => Ok(Outcome::Wrong),
+            _ => Ok(StepOutcome::Wrong),
         }
     }
 
@@ -286,9 +306,11 @@ impl Reference {
         body: &Part,
         r: u64,
         sender: Core,
-    ) -> Result<Outcome, AllocError>
+    ) -> Result<StepOutcome, AllocError>
         requires { self.old.next_stamp + 2 < 2 ^ 64 }
-        ensures { Gives result (meet_plain_message (configuration_of self.old) s c replicated (plain_pat pattern.now) (plain_core (core_of body.now)) r (plain_core sender)) (configuration_of self.old) (configuration_of self.new) }
+        ensures { Gives result (meet_plain_message (configuration_of self.old) s c
+            replicated (plain_pat pattern.now) (plain_core (core_of body.now)) r (plain_core sender))
+            (configuration_of self.old) (configuration_of self.new) }
     {
         match sender {
             Core::Out {
@@ -296,13 +318,13 @@ impl Reference {
                 message,
                 at: _at,
             } => match self.body_of(pattern, &message, body)? {
-                None => Ok(Outcome::Wrong),
+                None => Ok(StepOutcome::Wrong),
                 Some(process) => {
                     self.take(s, r, process, replicated)?;
-                    Ok(Outcome::Steps(Label::Comm(c, message)))
+                    Ok(StepOutcome::Steps(Label::Comm(c, message)))
                 }
             },
-            _ => Ok(Outcome::Wrong),
+            _ => Ok(StepOutcome::Wrong),
         }
     }
 
@@ -313,17 +335,26 @@ impl Reference {
         message: &CoreVal,
         body: &Part,
     ) -> Result<Option<Core>, AllocError>
-        ensures { IfOk result (λ found. option_map plain_core found ≡ option_map (λ parts. put_plain 0 parts (plain_core (core_of body.now))) (match_val (plain_pat pattern.now) (plain_val message.now))) }
+        ensures { IfOk result (λ found. option_map plain_core found
+            ≡ option_map (λ bound. substitute_plain 0 bound (plain_core (core_of body.now))) (match_value (plain_pat pattern.now) (plain_val message.now))) }
     {
-        match parts_of(self.alloc, pattern, message)? {
+        match match_value(self.alloc, pattern, message)? {
             None => Ok(None),
-            Some(parts) => Ok(Some(put(self.alloc, body.core(), &parts)?)),
+            Some(bound) => Ok(Some(substitute(self.alloc, body.core(), &bound)?)),
         }
     }
 
-    fn send_on(&mut self, s: u64, c: u32, message: CoreVal, at: Span) -> Result<Outcome, AllocError>
+    fn send_on(
+        &mut self,
+        s: u64,
+        c: u32,
+        message: CoreVal,
+        at: Span,
+    ) -> Result<StepOutcome, AllocError>
         requires { self.old.next_stamp + 2 < 2 ^ 64 }
-        ensures { Gives result (send_plain (configuration_of self.old) s (least (is_parked_reader c) (configuration_of self.old).entries) (Chan c) (plain_val message) at) (configuration_of self.old) (configuration_of self.new) }
+        ensures { Gives result (send_plain (configuration_of self.old) s
+            (least (is_parked_reader c) (configuration_of self.old).entries) (Chan c) (plain_val message) at)
+            (configuration_of self.old) (configuration_of self.new) }
     {
         match self.reader(c)? {
             None => self.park(
@@ -344,14 +375,15 @@ impl Reference {
         chan: CoreVal,
         message: CoreVal,
         at: Span,
-    ) -> Result<Outcome, AllocError>
+    ) -> Result<StepOutcome, AllocError>
         requires { self.old.next_stamp + 2 < 2 ^ 64 }
-        ensures { Gives result (act_plain (configuration_of self.old) s (least (is_partner (Out (plain_val chan) (plain_val message) at)) (configuration_of self.old).entries) (Out (plain_val chan) (plain_val message) at)) (configuration_of self.old) (configuration_of self.new) }
+        ensures { Gives result (acts_in (configuration_of self.old) s (Out (plain_val chan) (plain_val message) at))
+            (configuration_of self.old) (configuration_of self.new) }
     {
         match chan {
             CoreVal::Chan(c) => self.send_on(s, c, message, at),
             CoreVal::Prim(primitive) => self.perform(s, primitive, &message, at),
-            _ => Ok(Outcome::Wrong),
+            _ => Ok(StepOutcome::Wrong),
         }
     }
 
@@ -362,9 +394,11 @@ impl Reference {
         replicated: bool,
         pattern: CorePat,
         body: Part,
-    ) -> Result<Outcome, AllocError>
+    ) -> Result<StepOutcome, AllocError>
         requires { self.old.next_stamp + 2 < 2 ^ 64 }
-        ensures { Gives result (receive_plain (configuration_of self.old) s (least (is_parked_message c) (configuration_of self.old).entries) (Chan c) replicated (plain_pat pattern) (plain_core (core_of body))) (configuration_of self.old) (configuration_of self.new) }
+        ensures { Gives result (receive_plain (configuration_of self.old) s
+            (least (is_parked_message c) (configuration_of self.old).entries) (Chan c) replicated (plain_pat pattern) (plain_core (core_of body)))
+            (configuration_of self.old) (configuration_of self.new) }
     {
         match self.message(c)? {
             None => self.park(
@@ -387,26 +421,28 @@ impl Reference {
         replicated: bool,
         pattern: CorePat,
         body: Part,
-    ) -> Result<Outcome, AllocError>
+    ) -> Result<StepOutcome, AllocError>
         requires { self.old.next_stamp + 2 < 2 ^ 64 }
-        ensures { Gives result (act_plain (configuration_of self.old) s (least (is_partner (In (plain_val chan) replicated (plain_pat pattern) (plain_core (core_of body)))) (configuration_of self.old).entries) (In (plain_val chan) replicated (plain_pat pattern) (plain_core (core_of body)))) (configuration_of self.old) (configuration_of self.new) }
+        ensures { Gives result (acts_in (configuration_of self.old) s (In (plain_val chan) replicated (plain_pat pattern) (plain_core (core_of body))))
+            (configuration_of self.old) (configuration_of self.new) }
     {
         match chan {
             CoreVal::Chan(c) => self.receive_on(s, c, replicated, pattern, body),
-            _ => Ok(Outcome::Wrong),
+            _ => Ok(StepOutcome::Wrong),
         }
     }
 
     // The process at the stamp acts, with its oldest partner.
-    fn act(&mut self, s: u64, process: Core) -> Result<Outcome, AllocError>
+    fn act(&mut self, s: u64, process: Core) -> Result<StepOutcome, AllocError>
         requires stamps { self.old.next_stamp + 2 < 2 ^ 64 }
         requires channels { self.old.channels + 1 < 2 ^ 32 }
-        ensures { Gives result (act_plain (configuration_of self.old) s (least (is_partner (plain_core process)) (configuration_of self.old).entries) (plain_core process)) (configuration_of self.old) (configuration_of self.new) }
+        ensures { Gives result (acts_in (configuration_of self.old) s (plain_core process))
+            (configuration_of self.old) (configuration_of self.new) }
     {
         match process {
             Core::Zero => {
                 self.gone(s);
-                Ok(Outcome::Steps(Label::Quiet))
+                Ok(StepOutcome::Steps(Label::Quiet))
             }
             Core::Par(left, right) => self.split(s, left, right),
             Core::New(body) => self.make_channel(s, body),
@@ -430,12 +466,13 @@ impl Reference {
 
     /// The oldest-first step. Where it traps or is wrong, or nothing is ready, the configuration stays as it is. The only
     /// error is want of memory.
-    pub fn next(&mut self) -> Result<Outcome, AllocError>
+    pub fn next(&mut self) -> Result<StepOutcome, AllocError>
         requires { ((configuration_of self.old).channels + 1 < 2 ^ 32) × ((configuration_of self.old).next_stamp + 2 < 2 ^ 64) }
-        ensures { IfOk result (λ made. IsConfiguration (configuration_of self.old) → IsOutcome made (next_plain (configuration_of self.old)) (configuration_of self.old) (configuration_of self.new)) }
+        ensures { IfOk result (λ made. IsConfiguration (configuration_of self.old)
+            → IsOutcome made (next_plain (configuration_of self.old)) (configuration_of self.old) (configuration_of self.new)) }
     {
         match self.actor()? {
-            None => Ok(Outcome::Finished),
+            None => Ok(StepOutcome::Finished),
             Some((s, process)) => self.act(s, process),
         }
     }

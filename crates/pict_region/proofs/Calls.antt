@@ -18,7 +18,7 @@ use Rattle.pict_region.proofs.Chains.{StandsIn, IsAbsent, chain-length}
 use Rattle.pict_region.proofs.Stores.{block_parts, store_parts, block_read, ChangesBlock, overwritten, appended, block_at_length}
 use Rattle.pict_region.proofs.Frees.{IsHeld, held_if_live, write_block, free_block, first_block, take_block, is_remove, get_live_none, get_live_kept}
 
-some_words : (found : Option (List ℕ)) → IsSome found → found ≡ Some (unwrap_or found [])
+pub some_words : (found : Option (List ℕ)) → IsSome found → found ≡ Some (unwrap_or found [])
 some_words None h = cc
 some_words (Some ws) h = refl
 

@@ -22,10 +22,10 @@ cut (suc cuts) (width ∷ rest) = take width rest ∷ cut cuts (drop width rest)
 unfoldable pub blocks_of : List ℕ → List (List ℕ)
 blocks_of store = cut (length store) store
 
--- each block with its number, which is the place of its width in the store
+-- each block with its number, which is the index of its width in the store
 unfoldable pub numbered : ℕ → List (List ℕ) → List (ℕ × List ℕ)
-numbered place [] = []
-numbered place (block ∷ blocks) = (place, block) ∷ numbered (place + 1 + length block) blocks
+numbered index [] = []
+numbered index (block ∷ blocks) = (index, block) ∷ numbered (index + 1 + length block) blocks
 
 -- a free block names the next free block of its width in its first word
 unfoldable pub next_of : List ℕ → ℕ → ℕ
@@ -54,11 +54,11 @@ state_of r = record {
   work = r.work;
 }
 
--- the block whose number is this place, if there is one
+-- the block with this number, the index of its width, if there is one
 unfoldable pub block_at : List (List ℕ) → ℕ → Option (List ℕ)
-block_at [] place = None
+block_at [] index = None
 block_at (block ∷ blocks) zero = Some block
-block_at (block ∷ blocks) (suc place) = cond (nat_lt place (length block)) None (block_at blocks (place - length block))
+block_at (block ∷ blocks) (suc index) = cond (nat_lt index (length block)) None (block_at blocks (index - length block))
 
 -- a block of this width has this number
 pub record HasBlock (store : List ℕ) (number width : ℕ) : Type 0 where

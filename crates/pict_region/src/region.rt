@@ -101,10 +101,10 @@ impl Region {
         ensures work { self.new.work ≡ raised self.old.work }
     {
         let Block { number } = b;
-        let place = number as usize;
-        let width = self.words[place] as usize;
+        let index = number as usize;
+        let width = self.words[index] as usize;
         let list = self.free[width];
-        self.words[place + 1] = list.first;
+        self.words[index + 1] = list.first;
         self.free[width] = FreeList {
             first: number,
             count: list.count + 1,
@@ -124,7 +124,7 @@ impl Region {
         word
     }
 
-    /// Puts a word at place `i` of a live block, from 0. Takes no memory.
+    /// Puts a word at index `i` of a live block, from 0. Takes no memory.
     pub fn set(&mut self, b: &Block, i: u32, word: u64)
         requires live { IsLive self.old b.now }
         requires inside { i < width_of self.old b.now }

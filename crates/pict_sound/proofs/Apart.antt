@@ -2,16 +2,18 @@
 use Rattle.std.proofs.Common.{ℕ, ◌+◌, ◌<◌, ◌≡◌, ◌⊎◌, inl, inr, Bool, true, false, not, ◌&&◌, nat_eq, List, [], ◌∷◌, ◌++◌, refl, sym, ap, subst, Option, Some, arith}
 use Rattle.std.proofs.lemmas.Bool.Decides.{nat_tests}
 use Rattle.pict_syntax.specs.declared.span.Span.{Span}
-use Rattle.pict_core.specs.Term.{Val, Pat, Process, Var, Chan, Int, Char, Boolean, Text, PrimitiveVal, Record, Out, In}
-use Rattle.pict_core.specs.Scope.{IsUnder, IsClosed}
+use Rattle.pict_core.specs.Term.{Val, Pat, Process, Chan, Out, In}
+use Rattle.pict_core.specs.Closed.{IsUnder, IsClosed}
 use Rattle.pict_core.specs.Configuration.{Mark, Ready, Parked, Entry, Configuration, IsConfiguration, StampsRise, opening}
-use Rattle.pict_core.specs.Step.{Label, Choice, Free, is_ready, is_ready_mark, is_channel, reads, sends, is_parked_reader, is_parked_message, entry_at, gone, kept, added, with_channel, served, took}
+use Rattle.pict_core.specs.Step.{Label, Choice, Free, is_ready, is_ready_mark, reads, sends, is_parked_reader, is_parked_message, entry_at, gone, kept, added, with_channel, served}
 use Rattle.pict_core.proofs.Stamps.{EntryClosed, least_closed}
 use Rattle.pict_core.proofs.Kept.{free_steps_keep}
+use Rattle.pict_core.proofs.Partners.{same_channel, channel_is, and_right}
 use Rattle.pict_sound.specs.Reached.{FreelyReaches, at_start, by_step, StandsAt}
 use Rattle.pict_sound.specs.Laws.{ParkedApart}
-use Rattle.pict_sound.proofs.Steps.{Row, ends, splits, makes, branches, performed, answered, message_parks, reader_parks, meets_reader, meets_message, Meets, Stepped, free_stepped}
-use Rattle.pict_sound.proofs.Entries.{Each, each_map, each_without, each_added, each_found, each_kept, Fails, none_passes, least_none}
+use Rattle.pict_core.specs.Table.{Row, ends, forks, makes_channel, takes_first, takes_second, primitive_ends, primitive_answers, output_parks, output_meets_reader, output_meets_server, input_parks, reader_meets_message, server_meets_message}
+use Rattle.pict_sound.proofs.Steps.{Meets, Stepped, free_stepped}
+use Rattle.pict_core.proofs.Entries.{Each, each_map, each_without, each_added, each_found, each_kept, Fails, none_passes, least_none}
 
 abbrev pub Standing : ℕ → Entry → Type 0
 Standing n e = is_ready e ≡ false → (c : ℕ) × (c < n) × StandsAt c e.process
@@ -70,9 +72,6 @@ at_kept a p C r stands ready h = record {
   apart = λ c. either (each_kept (Fails (is_parked_message c)) a.stamp p a 0 C.entries C.next_stamp r (ready_no_message c) ready stands) (each_kept (Fails (is_parked_reader c)) a.stamp p a 0 C.entries C.next_stamp r (ready_no_reader c) ready stands) (h.apart c);
 }
 
-same_channel : (c number : ℕ) → nat_eq c number ≡ true → c ≡ number
-same_channel c number h = grind (arith, nat_tests)
-
 own_channel : (c : ℕ) → nat_eq c c ≡ true
 own_channel c = grind (arith, nat_tests)
 
@@ -108,20 +107,6 @@ at_reader c r pattern body C below none h = record {
 
 -- ---- partners
 
-and_right : (a b : Bool) → not a && b ≡ true → b ≡ true
-and_right true b h = cc
-and_right false b h = h
-
-pub channel_is : (c : ℕ) (chan : Val) → is_channel c chan ≡ true → chan ≡ Chan c
-channel_is c (Var x) h = cc
-channel_is c (Chan number) h = ap Chan (sym (same_channel c number h))
-channel_is c (Int x) h = cc
-channel_is c (Char x) h = cc
-channel_is c (Boolean x) h = cc
-channel_is c (Text x) h = cc
-channel_is c (PrimitiveVal x) h = cc
-channel_is c (Record x y) h = cc
-
 -- the channel of a parked reader
 pub reader_channel : (c : ℕ) (u : Entry) (chan : Val) (r : Bool) (pattern : Pat) (body : Process) → is_parked_reader c u ≡ true → u.process ≡ In chan r pattern body → chan ≡ Chan c
 reader_channel c u chan r pattern body h e = channel_is c chan (subst (λ p. reads c p ≡ true) e (and_right (is_ready u) (reads c u.process) h))
@@ -150,28 +135,32 @@ at_served : (c : ℕ) (r : Bool) (chan : Val) (pattern : Pat) (body : Process) (
 at_served c true chan pattern body C e below none h = subst (λ x. IsApart (added Parked (In x true pattern body) C)) (sym e) (at_reader c true pattern body C below none h)
 at_served c false chan pattern body C e below none h = h
 
-at_took : (r : Bool) (s : ℕ) (C : Configuration) → IsApart C → IsApart (took r s C)
-at_took true s C h = h
-at_took false s C h = at_gone s C h
-
 module _ (C : Configuration) (is : IsConfiguration C) (h : IsApart C) (a : Entry) (stands : entry_at a.stamp C.entries ≡ Some a) (ready : is_ready a ≡ true) where
+  -- an output meets the reader that is parked at t, which leaves x
+  at_meeting : (c : ℕ) (r : Bool) (t : Entry) (chan : Val) (pattern : Pat) (body x : Process) → t.process ≡ In chan r pattern body → c < C.channels → entry_at t.stamp C.entries ≡ Some t → is_parked_reader c t ≡ true
+      → IsApart (served r (In chan r pattern body) (added Ready x (gone t.stamp (gone a.stamp C))))
+  at_meeting c r t chan pattern body x e below there reads =
+      let none : NoMessage c C.entries = no_message_beside c C t h there reads in
+      let none' : NoMessage c (gone t.stamp (gone a.stamp C)).entries = each_without (Fails (is_parked_message c)) t.stamp (gone a.stamp C).entries (each_without (Fails (is_parked_message c)) a.stamp C.entries none) in
+      at_served c r chan pattern body _ (reader_channel c t chan r pattern body reads e) below (each_added (Fails (is_parked_message c)) _ _ none' refl)
+      (at_ready _ _ (at_gone t.stamp (gone a.stamp C) (at_gone a.stamp C h)))
+
   at_row : (o : Option Entry) (p : Process) (D : Configuration) (label : Label) → Row C a.stamp o p D label → IsUnder 0 C.channels p → Meets C.entries p o → IsApart D
   at_row o p D label ends u m = at_gone a.stamp C h
-  at_row o p D label (splits {p = x} {q = y}) u m = at_ready y (kept a.stamp x C) (at_kept a x C is.stamps stands ready h)
-  at_row o p D label makes u m = at_kept a _ (with_channel C) is.stamps stands ready (at_channel C h)
-  at_row o p D label (branches b) u m = at_kept a _ C is.stamps stands ready h
-  at_row o p D label (performed e f k) u m = at_gone a.stamp C h
-  at_row o p D label (answered e f k) u m = at_kept a _ C is.stamps stands ready h
-  at_row o p D label (message_parks {c = c} {v = v} {at = at}) u m =
+  at_row o p D label (forks {p = x} {q = y}) u m = at_ready y (kept a.stamp x C) (at_kept a x C is.stamps stands ready h)
+  at_row o p D label makes_channel u m = at_kept a _ (with_channel C) is.stamps stands ready (at_channel C h)
+  at_row o p D label takes_first u m = at_kept a _ C is.stamps stands ready h
+  at_row o p D label takes_second u m = at_kept a _ C is.stamps stands ready h
+  at_row o p D label (primitive_ends f k) u m = at_gone a.stamp C h
+  at_row o p D label (primitive_answers f k) u m = at_kept a _ C is.stamps stands ready h
+  at_row o p D label (output_parks {c = c} {v = v} {at = at}) u m =
       at_message c v at (gone a.stamp C) u.0 (each_without (Fails (is_parked_reader c)) a.stamp C.entries (none_passes (is_parked_reader c) C.entries m)) (at_gone a.stamp C h)
-  at_row o p D label (reader_parks {c = c} {r = r} {pattern = pattern} {body = body}) u m =
+  at_row o p D label (input_parks {c = c} {b = r} {pattern = pattern} {body = body}) u m =
       at_reader c r pattern body (gone a.stamp C) u.0 (each_without (Fails (is_parked_message c)) a.stamp C.entries (none_passes (is_parked_message c) C.entries m)) (at_gone a.stamp C h)
-  at_row o p D label (meets_reader {c = c} {v = v} {at = at} {u = t} {chan = chan} {pattern = pattern} {body = body} {parts = parts} r e f) u m =
-      let none : NoMessage c C.entries = no_message_beside c C t h m.0 m.1 in
-      let none' : NoMessage c (gone t.stamp (gone a.stamp C)).entries = each_without (Fails (is_parked_message c)) t.stamp (gone a.stamp C).entries (each_without (Fails (is_parked_message c)) a.stamp C.entries none) in
-      at_served c r chan pattern body _ (reader_channel c t chan r pattern body m.1 e) u.0 (each_added (Fails (is_parked_message c)) _ _ none' refl)
-      (at_ready _ _ (at_gone t.stamp (gone a.stamp C) (at_gone a.stamp C h)))
-  at_row o p D label (meets_message {u = t} r e f) u m = at_ready _ _ (at_gone t.stamp (took r a.stamp C) (at_took r a.stamp C h))
+  at_row o p D label (output_meets_reader {c = c} {w = chan} {u = t} {pattern = pattern} {body = body} e f) u m = at_meeting c false t chan pattern body _ e u.0 m.0 m.1
+  at_row o p D label (output_meets_server {c = c} {w = chan} {u = t} {pattern = pattern} {body = body} e f) u m = at_meeting c true t chan pattern body _ e u.0 m.0 m.1
+  at_row o p D label (reader_meets_message {u = t} e f) u m = at_ready _ _ (at_gone t.stamp (gone a.stamp C) (at_gone a.stamp C h))
+  at_row o p D label (server_meets_message {u = t} e f) u m = at_ready _ _ (at_gone t.stamp C h)
 
 pub stepped_apart : (C : Configuration) → IsConfiguration C → IsApart C → (D : Configuration) (label : Label) → Stepped C D label → IsApart D
 stepped_apart C is h D label step =

@@ -6,7 +6,7 @@ use Rattle.pict_syntax.specs.declared.primitive.Primitive.TheVariants as primiti
 use Rattle.pict_syntax.specs.declared.span.Span.{Span}
 use Rattle.pict_core.specs.Term.{Val, Process, Var, Chan, Int, Text, PrimitiveVal, Bind, Any, Zero, Par, New, Out, In}
 use Rattle.pict_core.specs.Configuration.{Ready, Configuration, opening}
-use Rattle.pict_core.specs.Step.{Quiet, Outcome, Steps, Traps, Wrong, Finished, next, free_step}
+use Rattle.pict_core.specs.Step.{Quiet, StepOutcome, Steps, Traps, Wrong, Finished, next, free_step}
 use Rattle.pict_sound.specs.Congruence.{Congruent, reflexive, transitive, in_par, unit, commutative, extrusion}
 use Rattle.pict_sound.specs.Reduction.{IsName, variable, Reduces, communicates, up_to}
 use Rattle.pict_sound.specs.Reading.{reading}
@@ -29,7 +29,7 @@ record Walked : Type 0 where
   at : Configuration
   traffic : Traffic
 
-abbrev walked_on : (Configuration → Traffic → Walked) → Configuration → Traffic → Outcome → Walked
+abbrev walked_on : (Configuration → Traffic → Walked) → Configuration → Traffic → StepOutcome → Walked
 walked_on go C t (Steps D label) = go D (after_step 0 C label t)
 walked_on go C t (Traps at) = record { at = C; traffic = t }
 walked_on go C t Wrong = record { at = C; traffic = t }
@@ -89,7 +89,7 @@ scope = extrusion
 
 -- y?_ = 0 | (y!1 | 0) reduces to 0 | 0 under y, up to congruence
 received : Reduces 1 (Par (In (Var 0) false Any Zero) (Par (Out (Var 0) (int 1) here) Zero)) Zero
-received = up_to (transitive (in_par reflexive unit) commutative) (communicates {parts = []} variable refl) reflexive
+received = up_to (transitive (in_par reflexive unit) commutative) (communicates {bound = []} variable refl) reflexive
 
 -- a primitive is no name
 no_primitive : (f : Primitive) → IsName (PrimitiveVal f) → ⊥

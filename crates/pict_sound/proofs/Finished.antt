@@ -1,17 +1,18 @@
 -- A finished configuration has a reading that no reduction leaves; and readings along a run.
 use Rattle.std.proofs.Common.{ℕ, zero, suc, ◌<◌, ◌≡◌, ◌⊎◌, inl, inr, Bool, true, false, not, ◌&&◌, List, [], ◌∷◌, sym, ap, ◌∙◌, subst}
 use Rattle.pict_core.specs.Term.{Val, Process, Var, Chan, Zero, Par, New, Out, In, If}
-use Rattle.pict_core.specs.Scope.{IsClosed}
+use Rattle.pict_core.specs.Closed.{IsClosed}
 use Rattle.pict_core.specs.Run.{Reaches}
 use Rattle.pict_core.proofs.Kept.{oldest_first_is_free}
 use Rattle.pict_core.specs.Configuration.{Entry, Configuration, opening}
 use Rattle.pict_core.specs.Step.{Label, Steps, Finished, next, is_ready, reads, sends, is_channel}
+use Rattle.pict_core.proofs.Partners.{channel_is}
 use Rattle.pict_sound.specs.Reading.{read, composition, declare, reading}
 use Rattle.pict_sound.specs.Reached.{StandsAt}
 use Rattle.pict_sound.specs.Laws.{FinishedIsIrreducible, RunsReduce}
 use Rattle.pict_sound.proofs.Steps.{nothing_ready}
-use Rattle.pict_sound.proofs.Entries.{Each, Fails, none_passes}
-use Rattle.pict_sound.proofs.Apart.{IsReached, Standing, NoMessage, NoReader, channel_is, opening_reached, step_reached, freely_reached}
+use Rattle.pict_core.proofs.Entries.{Each, Fails, none_passes}
+use Rattle.pict_sound.proofs.Apart.{IsReached, Standing, NoMessage, NoReader, opening_reached, step_reached, freely_reached}
 use Rattle.pict_sound.specs.Congruence.{Congruent}
 use Rattle.pict_sound.specs.Reduction.{Reduces, IsIrreducible}
 use Rattle.pict_sound.proofs.Reductions.{steps_are_reductions}

@@ -7,7 +7,7 @@ use Rattle.std.proofs.lemmas.List.{length-map}
 use Rattle.std.proofs.lemmas.List.Sorted.{IsPermutation-refl, IsPermutation-trans, IsPermutation-map, IsPermutation-append}
 use Rattle.pict_syntax.specs.declared.span.Span.{Span}
 use Rattle.pict_core.specs.Term.{Val, Process, Var, Chan, Boolean, Zero, Par, Out, In, If}
-use Rattle.pict_core.specs.Substitution.{replace, replace_val, put, put_var, putting}
+use Rattle.pict_core.specs.Substitution.{replace, replace_value, substitute, value_of_variable, substitution}
 use Rattle.pict_core.specs.Primitives.{Leaves, Nothing, Answer, Trap}
 use Rattle.pict_sound.specs.Congruence.{renaming}
 use Rattle.pict_sound.specs.Reduction.{IsName, variable, channel, left_by, Reduces, up_to}
@@ -23,42 +23,42 @@ use Rattle.pict_sound.proofs.Alike.{moved, components_moved, room_first, permute
 -- ---- redexes are renamed
 
 abbrev rename_val : (ℕ → ℕ) → Val → Val
-rename_val f v = replace_val (renaming f) v
+rename_val f v = replace_value (renaming f) v
 
 part_renamed : (f : ℕ → ℕ) (vs : List Val) (i : ℕ) (d d' : Val) → (length vs ≤ i → rename_val f d ≡ d') → rename_val f (unwrap_or (slice_get vs i) d) ≡ unwrap_or (slice_get (map (rename_val f) vs) i) d'
 part_renamed f [] i d d' h = h (omega arith)
 part_renamed f (v ∷ vs) zero d d' h = refl
 part_renamed f (v ∷ vs) (suc i) d d' h = part_renamed f vs i d d' (λ k. h (omega arith))
 
-put_below : (n : ℕ) (vs : List Val) (x : ℕ) → x < n → put_var n vs x ≡ Var x
-put_below n vs x h = let t : nat_lt x n ≡ true = grind (arith, nat_tests) in ap (λ b. cond b (Var x) (unwrap_or (slice_get vs (x - n)) (Var (x - length vs)))) t
+substitute_below : (n : ℕ) (vs : List Val) (x : ℕ) → x < n → value_of_variable n vs x ≡ Var x
+substitute_below n vs x h = let t : nat_lt x n ≡ true = grind (arith, nat_tests) in ap (λ b. cond b (Var x) (unwrap_or (slice_get vs (x - n)) (Var (x - length vs)))) t
 
-put_above : (n : ℕ) (vs : List Val) (x : ℕ) → n ≤ x → put_var n vs x ≡ unwrap_or (slice_get vs (x - n)) (Var (x - length vs))
-put_above n vs x h = let t : nat_lt x n ≡ false = grind (arith, nat_tests) in ap (λ b. cond b (Var x) (unwrap_or (slice_get vs (x - n)) (Var (x - length vs)))) t
+substitute_above : (n : ℕ) (vs : List Val) (x : ℕ) → n ≤ x → value_of_variable n vs x ≡ unwrap_or (slice_get vs (x - n)) (Var (x - length vs))
+substitute_above n vs x h = let t : nat_lt x n ≡ false = grind (arith, nat_tests) in ap (λ b. cond b (Var x) (unwrap_or (slice_get vs (x - n)) (Var (x - length vs)))) t
 
 module _ (f : ℕ → ℕ) (n m : ℕ) (h : Renames f n m) where
   from_n : (x : ℕ) → n ≤ x → f x ≡ m + (x - n)
   from_n x k = let e : x ≡ n + (x - n) = omega arith in ap f e ∙ h.above (x - n)
 
-  put_var_renamed : (parts : List Val) (x : ℕ) → rename_val f (put_var n parts x) ≡ put_var m (map (rename_val f) parts) (f x)
-  put_var_renamed parts x = go (below_or x n)
+  variable_renamed : (bound : List Val) (x : ℕ) → rename_val f (value_of_variable n bound x) ≡ value_of_variable m (map (rename_val f) bound) (f x)
+  variable_renamed bound x = go (below_or x n)
     where
-      go : (x < n) ⊎ (n ≤ x) → rename_val f (put_var n parts x) ≡ put_var m (map (rename_val f) parts) (f x)
-      go (inl l) = ap (rename_val f) (put_below n parts x l) ∙ sym (put_below m (map (rename_val f) parts) (f x) (h.below x l))
+      go : (x < n) ⊎ (n ≤ x) → rename_val f (value_of_variable n bound x) ≡ value_of_variable m (map (rename_val f) bound) (f x)
+      go (inl l) = ap (rename_val f) (substitute_below n bound x l) ∙ sym (substitute_below m (map (rename_val f) bound) (f x) (h.below x l))
       go (inr l) =
           let e : f x ≡ m + (x - n) = from_n x l in
           let place : f x - m ≡ x - n = omega (arith, e) in
-          let count : length (map (rename_val f) parts) ≡ length parts = length-map parts (rename_val f) in
-          ap (rename_val f) (put_above n parts x l)
-          ∙ part_renamed f parts (x - n) (Var (x - length parts)) (Var (f x - length (map (rename_val f) parts)))
-          (λ k. let e' : f (x - length parts) ≡ m + (x - length parts - n) = from_n (x - length parts) (omega (arith, k, l)) in let e'' : m + (x - length parts - n) ≡ f x - length (map (rename_val f) parts) = omega (arith, k, l, e, count) in ap Var (e' ∙ e''))
-          ∙ sym (put_above m (map (rename_val f) parts) (f x) (omega (arith, e)) ∙ ap (λ i. unwrap_or (slice_get (map (rename_val f) parts) i) (Var (f x - length (map (rename_val f) parts)))) place)
+          let count : length (map (rename_val f) bound) ≡ length bound = length-map bound (rename_val f) in
+          ap (rename_val f) (substitute_above n bound x l)
+          ∙ part_renamed f bound (x - n) (Var (x - length bound)) (Var (f x - length (map (rename_val f) bound)))
+          (λ k. let e' : f (x - length bound) ≡ m + (x - length bound - n) = from_n (x - length bound) (omega (arith, k, l)) in let e'' : m + (x - length bound - n) ≡ f x - length (map (rename_val f) bound) = omega (arith, k, l, e, count) in ap Var (e' ∙ e''))
+          ∙ sym (substitute_above m (map (rename_val f) bound) (f x) (omega (arith, e)) ∙ ap (λ i. unwrap_or (slice_get (map (rename_val f) bound) i) (Var (f x - length (map (rename_val f) bound)))) place)
 
-  put_renamed : (parts : List Val) (body : Process) → renamed f (put n parts body) ≡ put m (map (rename_val f) parts) (renamed f body)
-  put_renamed parts body =
-      replace-after (renaming f) (putting n parts) body
-      ∙ ap (λ v. replace (record { variable = v; channel = Chan }) body) (fun_ext (put_var_renamed parts))
-      ∙ sym (replace-after (putting m (map (rename_val f) parts)) (renaming f) body)
+  substitute_renamed : (bound : List Val) (body : Process) → renamed f (substitute n bound body) ≡ substitute m (map (rename_val f) bound) (renamed f body)
+  substitute_renamed bound body =
+      replace-after (renaming f) (substitution n bound) body
+      ∙ ap (λ v. replace (record { variable = v; channel = Chan }) body) (fun_ext (variable_renamed bound))
+      ∙ sym (replace-after (substitution m (map (rename_val f) bound)) (renaming f) body)
 
   name_renamed : (x : Val) → IsName x → IsName (rename_val f x)
   name_renamed x variable = variable
@@ -74,10 +74,10 @@ module _ (f : ℕ → ℕ) (n m : ℕ) (h : Renames f n m) where
   chosen_renamed false p q = refl
 
   fires_renamed : (redex : List Process) (residual : Process) → Fires n redex residual → Fires m (map (renamed f) redex) (renamed f residual)
-  fires_renamed redex residual (communicates {x = x} {v = v} {at = at} {pattern = pattern} {body = body} {parts = parts} name e) =
-      subst (Fires m (map (renamed f) (Out x v at ∷ In x false pattern body ∷ []))) (sym (put_renamed parts body)) (communicates (name_renamed x name) (match_natural (renaming f) pattern v parts e))
-  fires_renamed redex residual (serves {x = x} {v = v} {at = at} {pattern = pattern} {body = body} {parts = parts} name e) =
-      subst (λ p. Fires m (map (renamed f) (Out x v at ∷ In x true pattern body ∷ [])) (Par p (renamed f (In x true pattern body)))) (sym (put_renamed parts body)) (serves (name_renamed x name) (match_natural (renaming f) pattern v parts e))
+  fires_renamed redex residual (communicates {x = x} {v = v} {at = at} {pattern = pattern} {body = body} {bound = bound} name e) =
+      subst (Fires m (map (renamed f) (Out x v at ∷ In x false pattern body ∷ []))) (sym (substitute_renamed bound body)) (communicates (name_renamed x name) (match_natural (renaming f) pattern v bound e))
+  fires_renamed redex residual (serves {x = x} {v = v} {at = at} {pattern = pattern} {body = body} {bound = bound} name e) =
+      subst (λ p. Fires m (map (renamed f) (Out x v at ∷ In x true pattern body ∷ [])) (Par p (renamed f (In x true pattern body)))) (sym (substitute_renamed bound body)) (serves (name_renamed x name) (match_natural (renaming f) pattern v bound e))
   fires_renamed redex residual (chooses {b = b} {p = p} {q = q}) = subst (Fires m (map (renamed f) (If (Boolean b) p q ∷ []))) (chosen_renamed b p q) chooses
   fires_renamed redex residual (performs {f = g} {v = v} {at = at} {effect = effect} {p = p} e l) = performs (effect_natural (renaming f) g v effect e) (left_renamed at effect.leaves p l)
 

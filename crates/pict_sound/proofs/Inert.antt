@@ -2,7 +2,7 @@
 -- they stand under no input and no conditional. Congruence keeps that, and no reduction leaves such a process.
 use Rattle.std.proofs.Common.{ℕ, suc, ◌<◌, ◌≡◌, ◌⊎◌, inl, inr, refl, sym, ap, ◌∙◌, subst, arith}
 use Rattle.pict_core.specs.Term.{Val, Process, Var, Chan, Int, Char, Boolean, Text, PrimitiveVal, Record, Zero, Par, New, Out, In, If}
-use Rattle.pict_core.specs.Substitution.{replace, replace_val}
+use Rattle.pict_core.specs.Substitution.{replace, replace_value}
 use Rattle.pict_sound.proofs.Renaming.{Renames, under_one, below_back, raise_below, exchange_other, exchange_renames, raise_renames, raised_below, exchanged_below}
 use Rattle.pict_sound.specs.Congruence.{Congruent, reflexive, symmetric, transitive, in_par, in_new, unit, commutative, associative, new_new, extrusion, renaming, raise, raised, exchange, exchanged}
 use Rattle.pict_sound.specs.Reduction.{IsName, variable, channel, Reduces, communicates, serves, chooses, performs, up_to}
@@ -48,7 +48,7 @@ module _ (f : ℕ → ℕ) where
   sends_there x (Par p q) (inl h) = inl (sends_there x p h)
   sends_there x (Par p q) (inr h) = inr (sends_there x q h)
   sends_there x (New p) h = sends_there x p h
-  sends_there x (Out chan v at) h = ap (replace_val (renaming f)) h
+  sends_there x (Out chan v at) h = ap (replace_value (renaming f)) h
   sends_there x (In chan r pattern body) h = h
   sends_there x (If v p q) h = h
 
@@ -58,10 +58,10 @@ module _ (f : ℕ → ℕ) where
   reads_there x (Par p q) (inr h) = inr (reads_there x q h)
   reads_there x (New p) h = reads_there x p h
   reads_there x (Out chan v at) h = h
-  reads_there x (In chan r pattern body) h = ap (replace_val (renaming f)) h
+  reads_there x (In chan r pattern body) h = ap (replace_value (renaming f)) h
   reads_there x (If v p q) h = h
 
-  variable_back : (y : ℕ) (v : Val) → replace_val (renaming f) v ≡ Var y → (x : ℕ) × (f x ≡ y) × (v ≡ Var x)
+  variable_back : (y : ℕ) (v : Val) → replace_value (renaming f) v ≡ Var y → (x : ℕ) × (f x ≡ y) × (v ≡ Var x)
   variable_back y (Var x) h = let e : f x ≡ y = cc in (x, e, refl)
   variable_back y (Chan c) h = cc
   variable_back y (Int c) h = cc
@@ -100,10 +100,10 @@ module _ (f : ℕ → ℕ) where
   apart_back : (n m : ℕ) (p q : Process) → Renames f n m → Apart m (replace (renaming f) p) (replace (renaming f) q) → Apart n p q
   apart_back n m p q h k x l s r = k (f x) (h.below x l) (sends_there f x p s) (reads_there f x q r)
 
-  below_there : (n m : ℕ) (v : Val) → Renames f n m → IsBelow n v → IsBelow m (replace_val (renaming f) v)
-  below_there n m v h k = (f k.0, h.below k.0 k.1, ap (replace_val (renaming f)) k.2)
+  below_there : (n m : ℕ) (v : Val) → Renames f n m → IsBelow n v → IsBelow m (replace_value (renaming f) v)
+  below_there n m v h k = (f k.0, h.below k.0 k.1, ap (replace_value (renaming f)) k.2)
 
-  val_below_back : (n m : ℕ) (v : Val) → Renames f n m → IsBelow m (replace_val (renaming f) v) → IsBelow n v
+  val_below_back : (n m : ℕ) (v : Val) → Renames f n m → IsBelow m (replace_value (renaming f) v) → IsBelow n v
   val_below_back n m v h k = let a = variable_back f k.0 v k.2 in (a.0, below_back f n m a.0 h (subst (λ z. z < m) (sym a.1) k.1), a.2)
 
   inert_there : (n m : ℕ) (p : Process) → Renames f n m → IsInert n p → IsInert m (replace (renaming f) p)

@@ -1,5 +1,4 @@
 pub mod Steps
-pub mod Entries
 pub mod Apart
 pub mod Order
 pub mod Replacing
@@ -11,4 +10,6 @@ pub mod Finished
 pub mod Renaming
 pub mod Alike
 pub mod Firing
+pub mod NeverWrong
 mod Examples
+mod TypingExamples

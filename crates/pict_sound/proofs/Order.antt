@@ -9,8 +9,9 @@ use Rattle.pict_core.proofs.Stamps.{without, least_above, StampsRise-without}
 use Rattle.pict_core.proofs.Kept.{oldest_first_is_free}
 use Rattle.pict_sound.specs.Traffic.{message_at, reader_at, server_at, of_entry, message_of, acting, reader_of, Traffic, no_traffic, after_step, Carries, at_start, by_step, of_parked, IsInOrder}
 use Rattle.pict_sound.specs.Laws.{ChannelsInOrder}
-use Rattle.pict_sound.proofs.Steps.{Row, ends, splits, makes, branches, performed, answered, message_parks, reader_parks, meets_reader, meets_message, Meets, Stepped, OldestStepped, oldest_stepped}
-use Rattle.pict_sound.proofs.Entries.{Each, each_map, Fails, with_process_past, without_past, without_swap, least_without, parked_is}
+use Rattle.pict_core.specs.Table.{Row, ends, forks, makes_channel, takes_first, takes_second, primitive_ends, primitive_answers, output_parks, output_meets_reader, output_meets_server, input_parks, reader_meets_message, server_meets_message}
+use Rattle.pict_sound.proofs.Steps.{Meets, Stepped, OldestStepped, oldest_stepped}
+use Rattle.pict_core.proofs.Entries.{Each, each_map, Fails, with_process_past, without_past, without_swap, least_without, parked_is}
 use Rattle.pict_sound.proofs.Apart.{IsReached, IsApart, NoMessage, NoReader, ready_no_message, ready_no_reader, no_message_beside, no_reader_beside, reader_channel, message_channel, opening_reached, step_reached}
 
 -- ---- what is parked
@@ -254,28 +255,33 @@ module _ (c : ℕ) (C : Configuration) (is : IsConfiguration C) (apart : IsApart
 
   row_moves : (o : Option Entry) (p : Process) (D : Configuration) (label : Label) → Row C a.stamp o p D label → Meets C.entries p o → least (is_partner p) C.entries ≡ o → Moves c C D o p label
   row_moves o p D label ends m h = still c C _ o p label m (λ u. refl) refl refl refl (gone_same (message_at c)) (gone_same (reader_at c))
-  row_moves o p D label (splits {p = x} {q = y}) m h = still c C _ o p label m (λ u. refl) refl refl refl (ready_none (message_at c) y (kept a.stamp x C) ∙ kept_same (message_at c) x) (ready_none (reader_at c) y (kept a.stamp x C) ∙ kept_same (reader_at c) x)
-  row_moves o p D label makes m h = still c C _ o p label m (λ u. refl) refl refl refl (kept_same (message_at c) _) (kept_same (reader_at c) _)
-  row_moves o p D label (branches b) m h = still c C _ o p label m (λ u. refl) refl refl refl (kept_same (message_at c) _) (kept_same (reader_at c) _)
-  row_moves o p D label (performed e f g) m h = still c C _ o p label m (λ u. refl) refl refl (printing_none c e.printed) (gone_same (message_at c)) (gone_same (reader_at c))
-  row_moves o p D label (answered e f g) m h = still c C _ o p label m (λ u. refl) refl refl (printing_none c e.printed) (kept_same (message_at c) _) (kept_same (reader_at c) _)
-  row_moves o p D label (message_parks {c = d} {v = v} {at = at}) m h =
+  row_moves o p D label (forks {p = x} {q = y}) m h = still c C _ o p label m (λ u. refl) refl refl refl (ready_none (message_at c) y (kept a.stamp x C) ∙ kept_same (message_at c) x) (ready_none (reader_at c) y (kept a.stamp x C) ∙ kept_same (reader_at c) x)
+  row_moves o p D label makes_channel m h = still c C _ o p label m (λ u. refl) refl refl refl (kept_same (message_at c) _) (kept_same (reader_at c) _)
+  row_moves o p D label takes_first m h = still c C _ o p label m (λ u. refl) refl refl refl (kept_same (message_at c) _) (kept_same (reader_at c) _)
+  row_moves o p D label takes_second m h = still c C _ o p label m (λ u. refl) refl refl refl (kept_same (message_at c) _) (kept_same (reader_at c) _)
+  row_moves o p D label (primitive_ends {e = e} f g) m h = still c C _ o p label m (λ u. refl) refl refl (printing_none c e.printed) (gone_same (message_at c)) (gone_same (reader_at c))
+  row_moves o p D label (primitive_answers {e = e} f g) m h = still c C _ o p label m (λ u. refl) refl refl (printing_none c e.printed) (kept_same (message_at c) _) (kept_same (reader_at c) _)
+  row_moves o p D label (output_parks {c = d} {v = v} {at = at}) m h =
       let e : Entry = record { stamp = C.next_stamp; mark = Parked; process = Out (Chan d) v at } in
       record {
         messages_move = sym (parked_added (message_at c) (without a.stamp C.entries) e ∙ ap (λ l. l ++ message_at c (Out (Chan d) v at)) (gone_same (message_at c)));
         readers_move = append-nil (readers c C.entries) ∙ sym (parked_added_none (reader_at c) (without a.stamp C.entries) e refl ∙ gone_same (reader_at c));
       }
-  row_moves o p D label (reader_parks {c = d} {r = r} {pattern = pattern} {body = body}) m h =
+  row_moves o p D label (input_parks {c = d} {b = r} {pattern = pattern} {body = body}) m h =
       let x : Process = In (Chan d) r pattern body in
       let e : Entry = record { stamp = C.next_stamp; mark = Parked; process = x } in
       record {
         messages_move = append-nil (messages c C.entries) ∙ sym (parked_added_none (message_at c) (without a.stamp C.entries) e refl ∙ gone_same (message_at c));
         readers_move = ap (λ l. readers c C.entries ++ l) (append-nil (reader_at c x)) ∙ sym (parked_added (reader_at c) (without a.stamp C.entries) e ∙ ap (λ l. l ++ reader_at c x) (gone_same (reader_at c)));
       }
-  row_moves o p D label (meets_reader {c = d} {v = v} {at = at} {u = u} {chan = chan} {pattern = pattern} {body = body} r e f) m h =
-      meets_reader_moves d v at u chan r pattern body _ e (reader_channel d u chan r pattern body m.1 e) h m.0 (parked_is (is_parked_reader d) u (ready_no_reader d) m.1) (no_message_beside d C u apart m.0 m.1)
-  row_moves o p D label (meets_message {c = d} {pattern = pattern} {body = body} {u = u} {chan = chan} {v = v} {at = at} r e f) m h =
-      meets_message_moves d r pattern body u chan v at _ e (message_channel d u chan v at m.1 e) h m.0 (parked_is (is_parked_message d) u (ready_no_message d) m.1) (no_reader_beside d C u apart m.0 m.1)
+  row_moves o p D label (output_meets_reader {c = d} {v = v} {w = chan} {at = at} {u = u} {pattern = pattern} {body = body} e f) m h =
+      meets_reader_moves d v at u chan false pattern body _ e (reader_channel d u chan false pattern body m.1 e) h m.0 (parked_is (is_parked_reader d) u (ready_no_reader d) m.1) (no_message_beside d C u apart m.0 m.1)
+  row_moves o p D label (output_meets_server {c = d} {v = v} {w = chan} {at = at} {u = u} {pattern = pattern} {body = body} e f) m h =
+      meets_reader_moves d v at u chan true pattern body _ e (reader_channel d u chan true pattern body m.1 e) h m.0 (parked_is (is_parked_reader d) u (ready_no_reader d) m.1) (no_message_beside d C u apart m.0 m.1)
+  row_moves o p D label (reader_meets_message {c = d} {v = v} {w = chan} {at = at} {u = u} {pattern = pattern} {body = body} e f) m h =
+      meets_message_moves d false pattern body u chan v at _ e (message_channel d u chan v at m.1 e) h m.0 (parked_is (is_parked_message d) u (ready_no_message d) m.1) (no_reader_beside d C u apart m.0 m.1)
+  row_moves o p D label (server_meets_message {c = d} {v = v} {w = chan} {at = at} {u = u} {pattern = pattern} {body = body} e f) m h =
+      meets_message_moves d true pattern body u chan v at _ e (message_channel d u chan v at m.1 e) h m.0 (parked_is (is_parked_message d) u (ready_no_message d) m.1) (no_reader_beside d C u apart m.0 m.1)
 
 -- ---- runs
 

@@ -4,49 +4,49 @@ use Rattle.std.proofs.lemmas.Bool.Decides.{nat_tests}
 use Rattle.std.proofs.lemmas.List.{length-map}
 use Rattle.std.specs.List.{slice_get}
 use Rattle.pict_core.specs.Term.{Val, Process, Var, Chan, Par}
-use Rattle.pict_core.specs.Scope.{IsUnder}
-use Rattle.pict_core.specs.Substitution.{replace_val, put, putting, put_var}
+use Rattle.pict_core.specs.Closed.{IsUnder}
+use Rattle.pict_core.specs.Substitution.{replace_value, substitute, substitution, value_of_variable}
 use Rattle.pict_core.specs.Configuration.{Entry, AreClosed}
-use Rattle.pict_core.proofs.Putting.{put_var-zero}
+use Rattle.pict_core.proofs.Substituting.{value_of_variable-zero}
 use Rattle.pict_sound.specs.Congruence.{renaming, raise, raised}
 use Rattle.pict_sound.specs.Reading.{naming, read, composition}
 use Rattle.pict_sound.proofs.Replacing.{after, replace-after, Agree, agrees}
 
 abbrev pub read_val : ℕ → Val → Val
-read_val n v = replace_val (naming n) v
+read_val n v = replace_value (naming n) v
 
--- ---- parts put into a body
+-- ---- a body with what is bound in place of its variables
 
 part_read : (n : ℕ) (vs : List Val) (i : ℕ) (d d' : Val) → (length vs ≤ i → read_val n d ≡ d') → read_val n (unwrap_or (slice_get vs i) d) ≡ unwrap_or (slice_get (map (read_val n) vs) i) d'
 part_read n [] i d d' h = h (omega arith)
 part_read n (v ∷ vs) zero d d' h = refl
 part_read n (v ∷ vs) (suc i) d d' h = part_read n vs i d d' (λ k. h (omega arith))
 
-put_var_from : (n : ℕ) (vs : List Val) (level : ℕ) → put_var n vs (level + n) ≡ unwrap_or (slice_get vs level) (Var (level + n - length vs))
-put_var_from n vs level =
+variable_from : (n : ℕ) (vs : List Val) (level : ℕ) → value_of_variable n vs (level + n) ≡ unwrap_or (slice_get vs level) (Var (level + n - length vs))
+variable_from n vs level =
     let test : nat_lt (level + n) n ≡ false = grind (arith, nat_tests) in
     let place : level + n - n ≡ level = omega arith in
     ap (λ b. cond b (Var (level + n)) (unwrap_or (slice_get vs (level + n - n)) (Var (level + n - length vs)))) test ∙ ap (λ i. unwrap_or (slice_get vs i) (Var (level + n - length vs))) place
 
-put_var_below : (n : ℕ) (vs : List Val) (level : ℕ) → level < n → put_var n vs level ≡ Var level
-put_var_below n vs level h =
+variable_below : (n : ℕ) (vs : List Val) (level : ℕ) → level < n → value_of_variable n vs level ≡ Var level
+variable_below n vs level h =
     let test : nat_lt level n ≡ true = grind (arith, nat_tests) in
     ap (λ b. cond b (Var level) (unwrap_or (slice_get vs (level - n)) (Var (level - length vs)))) test
 
-put_agrees : (n : ℕ) (parts : List Val) → Agree n (after (naming n) (putting 0 parts)) (after (putting n (map (read_val n) parts)) (naming n))
-put_agrees n parts = record {
+substitute_agrees : (n : ℕ) (bound : List Val) → Agree n (after (naming n) (substitution 0 bound)) (after (substitution n (map (read_val n) bound)) (naming n))
+substitute_agrees n bound = record {
   variable = λ level.
-      let same : length (map (read_val n) parts) ≡ length parts = length-map parts (read_val n) in
-      ap (read_val n) (put_var-zero parts level)
-      ∙ part_read n parts level (Var (level - length parts)) (Var (level + n - length (map (read_val n) parts))) (λ k. ap Var (omega (arith, same)))
-      ∙ sym (put_var_from n (map (read_val n) parts) level);
-  channel = λ number h. sym (put_var_below n (map (read_val n) parts) number h);
+      let same : length (map (read_val n) bound) ≡ length bound = length-map bound (read_val n) in
+      ap (read_val n) (value_of_variable-zero bound level)
+      ∙ part_read n bound level (Var (level - length bound)) (Var (level + n - length (map (read_val n) bound))) (λ k. ap Var (omega (arith, same)))
+      ∙ sym (variable_from n (map (read_val n) bound) level);
+  channel = λ number h. sym (variable_below n (map (read_val n) bound) number h);
 }
 
 -- substitution and reading commute
-pub read_put : (n m : ℕ) (parts : List Val) (body : Process) → IsUnder m n body → read n (put 0 parts body) ≡ put n (map (read_val n) parts) (read n body)
-read_put n m parts body u =
-    replace-after (naming n) (putting 0 parts) body ∙ agrees n _ _ (put_agrees n parts) m body u ∙ sym (replace-after (putting n (map (read_val n) parts)) (naming n) body)
+pub read_substituted : (n m : ℕ) (bound : List Val) (body : Process) → IsUnder m n body → read n (substitute 0 bound body) ≡ substitute n (map (read_val n) bound) (read n body)
+read_substituted n m bound body u =
+    replace-after (naming n) (substitution 0 bound) body ∙ agrees n _ _ (substitute_agrees n bound) m body u ∙ sym (replace-after (substitution n (map (read_val n) bound)) (naming n) body)
 
 -- ---- one channel more
 
@@ -69,9 +69,9 @@ pub composition_raised : (n : ℕ) (es : List Entry) → AreClosed n es → comp
 composition_raised n [] h = refl
 composition_raised n (e ∷ es) h = ap (λ p. Par p (composition (suc n) es)) (read_raised n 0 e.process h.0) ∙ ap (Par (raised n (read n e.process))) (composition_raised n es h.1)
 
-new_agrees : (n : ℕ) → Agree n (after (naming (suc n)) (putting 0 (Chan n ∷ []))) (naming n)
+new_agrees : (n : ℕ) → Agree n (after (naming (suc n)) (substitution 0 (Chan n ∷ []))) (naming n)
 new_agrees n = record {
-  variable = λ level. ap (read_val (suc n)) (put_var-zero (Chan n ∷ []) level) ∙ at level;
+  variable = λ level. ap (read_val (suc n)) (value_of_variable-zero (Chan n ∷ []) level) ∙ at level;
   channel = λ number h. refl;
 }
   where
@@ -79,6 +79,6 @@ new_agrees n = record {
     at zero = ap Var (omega arith)
     at (suc level) = ap Var (omega arith)
 
--- the new channel's name put for the variable of a new
-pub read_new : (n m : ℕ) (p : Process) → IsUnder m n p → read (suc n) (put 0 (Chan n ∷ []) p) ≡ read n p
-read_new n m p u = replace-after (naming (suc n)) (putting 0 (Chan n ∷ [])) p ∙ agrees n _ _ (new_agrees n) m p u
+-- the new channel's name in place of the variable of a new
+pub read_new : (n m : ℕ) (p : Process) → IsUnder m n p → read (suc n) (substitute 0 (Chan n ∷ []) p) ≡ read n p
+read_new n m p u = replace-after (naming (suc n)) (substitution 0 (Chan n ∷ [])) p ∙ agrees n _ _ (new_agrees n) m p u

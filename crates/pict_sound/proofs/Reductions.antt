@@ -4,9 +4,9 @@ use Rattle.std.proofs.lemmas.Bool.Decides.{nat_tests}
 use Rattle.pict_syntax.specs.declared.span.Span.{Span}
 use Rattle.pict_syntax.specs.declared.primitive.Primitive.{Primitive}
 use Rattle.pict_core.specs.Term.{Val, Pat, Process, Chan, Boolean, PrimitiveVal, Zero, Par, New, Out, In, If}
-use Rattle.pict_core.specs.Scope.{IsUnder, binds}
-use Rattle.pict_core.specs.Matching.{match_val}
-use Rattle.pict_core.specs.Substitution.{put}
+use Rattle.pict_core.specs.Closed.{IsUnder, binds}
+use Rattle.pict_core.specs.Matching.{match_value}
+use Rattle.pict_core.specs.Substitution.{substitute}
 use Rattle.pict_core.specs.Primitives.{Effect, Nothing, Answer, effect_of}
 use Rattle.pict_core.specs.Configuration.{Ready, Parked, Entry, Configuration, IsConfiguration, StampsRise}
 use Rattle.pict_core.specs.Step.{Label, is_ready, is_parked_reader, is_parked_message, entry_at, gone, kept, added, with_channel, with_process, served, took}
@@ -16,11 +16,12 @@ use Rattle.pict_sound.specs.Reduction.{IsName, variable, left_by, Reduces, commu
 use Rattle.pict_sound.specs.Reduction as reduction
 use Rattle.pict_sound.specs.Reading.{naming, read, composition, declare, reading}
 use Rattle.pict_sound.specs.Laws.{StepsAreReductions}
-use Rattle.pict_sound.proofs.Steps.{Row, ends, splits, makes, branches, performed, answered, message_parks, reader_parks, meets_reader, meets_message, Meets, Stepped, free_stepped}
-use Rattle.pict_sound.proofs.Entries.{with_process_past, without_past, without_swap, least_without, parked_is}
+use Rattle.pict_core.specs.Table.{Row, ends, forks, makes_channel, takes_first, takes_second, primitive_ends, primitive_answers, output_parks, output_meets_reader, output_meets_server, input_parks, reader_meets_message, server_meets_message}
+use Rattle.pict_sound.proofs.Steps.{Meets, Stepped, free_stepped}
+use Rattle.pict_core.proofs.Entries.{with_process_past, without_past, without_swap, least_without, parked_is}
 use Rattle.pict_sound.proofs.Apart.{reader_channel, message_channel, ready_no_message, ready_no_reader}
 use Rattle.pict_sound.proofs.Natural.{match_natural, effect_natural, replace_leaves}
-use Rattle.pict_sound.proofs.Readings.{read_put, read_new, composition_raised}
+use Rattle.pict_sound.proofs.Readings.{read_substituted, read_new, composition_raised}
 
 -- ---- congruence
 
@@ -98,14 +99,14 @@ abbrev pub remains : Bool → Process → Process → Process
 remains false reader p = p
 remains true reader p = Par p reader
 
-pub communication : (n m d : ℕ) (v : Val) (at : Span) (r : Bool) (chan : Val) (pattern : Pat) (body : Process) (parts : List Val) → chan ≡ Chan d → match_val pattern v ≡ Some parts → IsUnder m n body
-    → Reduces n (Par (read n (Out (Chan d) v at)) (read n (In chan r pattern body))) (remains r (read n (In chan r pattern body)) (read n (put 0 parts body)))
-communication n m d v at false chan pattern body parts e h u =
-    subst (λ x. Reduces n (Par (read n (Out (Chan d) v at)) (read n (In x false pattern body))) (read n (put 0 parts body))) (sym e)
-    (subst (Reduces n (Par (read n (Out (Chan d) v at)) (read n (In (Chan d) false pattern body)))) (sym (read_put n m parts body u)) (communicates variable (match_natural (naming n) pattern v parts h)))
-communication n m d v at true chan pattern body parts e h u =
-    subst (λ x. Reduces n (Par (read n (Out (Chan d) v at)) (read n (In x true pattern body))) (Par (read n (put 0 parts body)) (read n (In x true pattern body)))) (sym e)
-    (subst (λ p. Reduces n (Par (read n (Out (Chan d) v at)) (read n (In (Chan d) true pattern body))) (Par p (read n (In (Chan d) true pattern body)))) (sym (read_put n m parts body u)) (serves variable (match_natural (naming n) pattern v parts h)))
+pub communication : (n m d : ℕ) (v : Val) (at : Span) (r : Bool) (chan : Val) (pattern : Pat) (body : Process) (bound : List Val) → chan ≡ Chan d → match_value pattern v ≡ Some bound → IsUnder m n body
+    → Reduces n (Par (read n (Out (Chan d) v at)) (read n (In chan r pattern body))) (remains r (read n (In chan r pattern body)) (read n (substitute 0 bound body)))
+communication n m d v at false chan pattern body bound e h u =
+    subst (λ x. Reduces n (Par (read n (Out (Chan d) v at)) (read n (In x false pattern body))) (read n (substitute 0 bound body))) (sym e)
+    (subst (Reduces n (Par (read n (Out (Chan d) v at)) (read n (In (Chan d) false pattern body)))) (sym (read_substituted n m bound body u)) (communicates variable (match_natural (naming n) pattern v bound h)))
+communication n m d v at true chan pattern body bound e h u =
+    subst (λ x. Reduces n (Par (read n (Out (Chan d) v at)) (read n (In x true pattern body))) (Par (read n (substitute 0 bound body)) (read n (In x true pattern body)))) (sym e)
+    (subst (λ p. Reduces n (Par (read n (Out (Chan d) v at)) (read n (In (Chan d) true pattern body))) (Par p (read n (In (Chan d) true pattern body)))) (sym (read_substituted n m bound body u)) (serves variable (match_natural (naming n) pattern v bound h)))
 
 -- ---- the rows
 
@@ -128,9 +129,9 @@ module _ (C : Configuration) (is : IsConfiguration C) (a : Entry) (stands : entr
   becomes : (p q : Process) (es : List Entry) → a.process ≡ p → Reduces C.channels (read C.channels p) q → Congruent C.channels (composition C.channels es) (Par q others) → Reduces C.channels (composition C.channels C.entries) (composition C.channels es)
   becomes p q es e h k = up_to (front p e) (reduction.in_par h) (symmetric k)
 
-  new_row : (p : Process) → a.process ≡ New p → Congruent 0 (reading C) (reading (kept a.stamp (put 0 (Chan C.channels ∷ []) p) (with_channel C)))
+  new_row : (p : Process) → a.process ≡ New p → Congruent 0 (reading C) (reading (kept a.stamp (substitute 0 (Chan C.channels ∷ []) p) (with_channel C)))
   new_row p e =
-      let x : Process = put 0 (Chan C.channels ∷ []) p in
+      let x : Process = substitute 0 (Chan C.channels ∷ []) p in
       let u : IsUnder (0 + 1) C.channels p = subst (IsUnder 0 C.channels) e actor_closed in
       let below : Congruent (suc C.channels) (composition (suc C.channels) (map (with_process a.stamp x) C.entries)) (Par (read C.channels p) (raised C.channels others)) =
       transitive (kept_pulled (suc C.channels) (suc C.channels) a.stamp x a 0 C.entries C.next_stamp is.stamps stands)
@@ -183,45 +184,57 @@ module _ (C : Configuration) (is : IsConfiguration C) (a : Entry) (stands : entr
   same_channels : (E : Configuration) → E.channels ≡ C.channels → Reduces C.channels (composition C.channels C.entries) (composition C.channels E.entries) → Reduces 0 (reading C) (reading E)
   same_channels E e h = subst (λ n. Reduces 0 (reading C) (declare n (composition n E.entries))) (sym e) (declared_reduces C.channels _ _ h)
 
+  -- an output meets a parked reader
+  reader_advances : (r : Bool) (d : ℕ) (v : Val) (at : Span) (u : Entry) (chan : Val) (pattern : Pat) (body : Process) (bound : List Val) → u.process ≡ In chan r pattern body → match_value pattern v ≡ Some bound
+      → a.process ≡ Out (Chan d) v at → entry_at u.stamp C.entries ≡ Some u → is_parked_reader d u ≡ true → IsUnder 0 C.channels u.process
+      → Advances 0 (reading C) (reading (served r (In chan r pattern body) (added Ready (substitute 0 bound body) (gone u.stamp (gone a.stamp C)))))
+  reader_advances r d v at u chan pattern body bound f h e there reads under =
+      let parked : is_ready u ≡ false = parked_is (is_parked_reader d) u (ready_no_reader d) reads in
+      let closed : IsUnder 0 C.channels (In chan r pattern body) = subst (IsUnder 0 C.channels) f under in
+      let x : Process = substitute 0 bound body in
+      let q : Process = In chan r pattern body in
+      inr (same_channels (served r q (added Ready x (gone u.stamp (gone a.stamp C)))) (served_channels r q (added Ready x (gone u.stamp (gone a.stamp C)))) (up_to
+      (transitive (both_front u there parked (Out (Chan d) v at) q e f) (symmetric associative))
+      (reduction.in_par (communication C.channels (0 + binds pattern) d v at r chan pattern body bound (reader_channel d u chan r pattern body reads f) h closed.1))
+      (symmetric (served_front u there parked r chan pattern body x (added Ready x (gone u.stamp (gone a.stamp C))) refl (added_pulled C.channels C.channels _ _)))))
+
+  -- an input meets a parked message
+  message_advances : (r : Bool) (d : ℕ) (v : Val) (at : Span) (u : Entry) (chan : Val) (pattern : Pat) (body : Process) (bound : List Val) → u.process ≡ Out chan v at → match_value pattern v ≡ Some bound
+      → a.process ≡ In (Chan d) r pattern body → entry_at u.stamp C.entries ≡ Some u → is_parked_message d u ≡ true
+      → Advances 0 (reading C) (reading (added Ready (substitute 0 bound body) (gone u.stamp (took r a.stamp C))))
+  message_advances r d v at u chan pattern body bound f h e there sends =
+      let parked : is_ready u ≡ false = parked_is (is_parked_message d) u (ready_no_message d) sends in
+      let closed : IsUnder 0 C.channels (In (Chan d) r pattern body) = subst (IsUnder 0 C.channels) e actor_closed in
+      let x : Process = substitute 0 bound body in
+      let q : Process = In (Chan d) r pattern body in
+      let written : u.process ≡ Out (Chan d) v at = f ∙ ap (λ y. Out y v at) (message_channel d u chan v at sends f) in
+      inr (same_channels (added Ready x (gone u.stamp (took r a.stamp C))) (took_channels r) (up_to
+      (transitive (both_front u there parked q (Out (Chan d) v at) e written) gather)
+      (reduction.in_par (communication C.channels (0 + binds pattern) d v at r (Chan d) pattern body bound refl h closed.1))
+      (symmetric (took_front u there parked r (Chan d) pattern body x e))))
+
   row_advances : (o : Option Entry) (p : Process) (D : Configuration) (label : Label) → Row C a.stamp o p D label → a.process ≡ p → Meets C.entries p o → ((u : Entry) → o ≡ Some u → IsUnder 0 C.channels u.process) → Advances 0 (reading C) (reading D)
   row_advances o p D label ends e m k = inl (declared_congruent C.channels _ _ (transitive (front Zero e) unit_front))
-  row_advances o p D label (splits {p = x} {q = y}) e m k =
+  row_advances o p D label (forks {p = x} {q = y}) e m k =
       inl (declared_congruent C.channels _ _ (transitive (front (Par x y) e) (symmetric
       (transitive (added_pulled C.channels C.channels (map (with_process a.stamp x) C.entries) (record { stamp = C.next_stamp; mark = Ready; process = y })) (transitive (in_par reflexive (kept_front x)) gather)))))
-  row_advances o p D label (makes {p = x}) e m k = inl (new_row x e)
-  row_advances o p D label (branches {p = x} {q = y} b) e m k =
-      inr (declared_reduces C.channels _ _ (becomes (If (Boolean b) x y) (cond b (read C.channels x) (read C.channels y)) _ e chooses (chosen b)))
-    where
-      chosen : (b : Bool) → Congruent C.channels (composition C.channels (map (with_process a.stamp (cond b x y)) C.entries)) (Par (cond b (read C.channels x) (read C.channels y)) others)
-      chosen true = kept_front x
-      chosen false = kept_front y
-  row_advances o p D label (performed {f = f} {v = v} {at = at} x h l) e m k =
+  row_advances o p D label (makes_channel {p = x}) e m k = inl (new_row x e)
+  row_advances o p D label (takes_first {p = x} {q = y}) e m k =
+      inr (declared_reduces C.channels _ _ (becomes (If (Boolean true) x y) (read C.channels x) _ e chooses (kept_front x)))
+  row_advances o p D label (takes_second {p = x} {q = y}) e m k =
+      inr (declared_reduces C.channels _ _ (becomes (If (Boolean false) x y) (read C.channels y) _ e chooses (kept_front y)))
+  row_advances o p D label (primitive_ends {f = f} {v = v} {at = at} {e = x} h l) e m k =
       inr (declared_reduces C.channels _ _ (becomes (Out (PrimitiveVal f) v at) Zero _ e (printed_leaves C.channels f v at x h l) (symmetric unit_front)))
-  row_advances o p D label (answered {f = f} {v = v} {at = at} {k = y} {a = z} x h l) e m k =
+  row_advances o p D label (primitive_answers {f = f} {v = v} {k = y} {a = z} {at = at} {e = x} h l) e m k =
       inr (declared_reduces C.channels _ _ (becomes (Out (PrimitiveVal f) v at) (read C.channels (Out y z at)) _ e (answer_leaves C.channels f v at x y z h l) (kept_front (Out y z at))))
-  row_advances o p D label (message_parks {c = d} {v = v} {at = at}) e m k =
+  row_advances o p D label (output_parks {c = d} {v = v} {at = at}) e m k =
       inl (declared_congruent C.channels _ _ (transitive (front (Out (Chan d) v at) e) (symmetric (added_pulled C.channels C.channels (without a.stamp C.entries) _))))
-  row_advances o p D label (reader_parks {c = d} {r = r} {pattern = pattern} {body = body}) e m k =
+  row_advances o p D label (input_parks {c = d} {b = r} {pattern = pattern} {body = body}) e m k =
       inl (declared_congruent C.channels _ _ (transitive (front (In (Chan d) r pattern body) e) (symmetric (added_pulled C.channels C.channels (without a.stamp C.entries) _))))
-  row_advances o p D label (meets_reader {c = d} {v = v} {at = at} {u = u} {chan = chan} {pattern = pattern} {body = body} {parts = parts} r f h) e m k =
-      let parked : is_ready u ≡ false = parked_is (is_parked_reader d) u (ready_no_reader d) m.1 in
-      let closed : IsUnder 0 C.channels (In chan r pattern body) = subst (IsUnder 0 C.channels) f (k u refl) in
-      let x : Process = put 0 parts body in
-      let q : Process = In chan r pattern body in
-      inr (same_channels D (served_channels r q (added Ready x (gone u.stamp (gone a.stamp C)))) (up_to
-      (transitive (both_front u m.0 parked (Out (Chan d) v at) q e f) (symmetric associative))
-      (reduction.in_par (communication C.channels (0 + binds pattern) d v at r chan pattern body parts (reader_channel d u chan r pattern body m.1 f) h closed.1))
-      (symmetric (served_front u m.0 parked r chan pattern body x (added Ready x (gone u.stamp (gone a.stamp C))) refl (added_pulled C.channels C.channels _ _)))))
-  row_advances o p D label (meets_message {c = d} {pattern = pattern} {body = body} {u = u} {chan = chan} {v = v} {at = at} {parts = parts} r f h) e m k =
-      let parked : is_ready u ≡ false = parked_is (is_parked_message d) u (ready_no_message d) m.1 in
-      let closed : IsUnder 0 C.channels (In (Chan d) r pattern body) = subst (IsUnder 0 C.channels) e actor_closed in
-      let x : Process = put 0 parts body in
-      let q : Process = In (Chan d) r pattern body in
-      let there : u.process ≡ Out (Chan d) v at = f ∙ ap (λ y. Out y v at) (message_channel d u chan v at m.1 f) in
-      inr (same_channels D (took_channels r) (up_to
-      (transitive (both_front u m.0 parked q (Out (Chan d) v at) e there) gather)
-      (reduction.in_par (communication C.channels (0 + binds pattern) d v at r (Chan d) pattern body parts refl h closed.1))
-      (symmetric (took_front u m.0 parked r (Chan d) pattern body x e))))
+  row_advances o p D label (output_meets_reader {c = d} {v = v} {w = chan} {at = at} {u = u} {pattern = pattern} {body = body} {bound = bound} f h) e m k = reader_advances false d v at u chan pattern body bound f h e m.0 m.1 (k u refl)
+  row_advances o p D label (output_meets_server {c = d} {v = v} {w = chan} {at = at} {u = u} {pattern = pattern} {body = body} {bound = bound} f h) e m k = reader_advances true d v at u chan pattern body bound f h e m.0 m.1 (k u refl)
+  row_advances o p D label (reader_meets_message {c = d} {v = v} {w = chan} {at = at} {u = u} {pattern = pattern} {body = body} {bound = bound} f h) e m k = message_advances false d v at u chan pattern body bound f h e m.0 m.1
+  row_advances o p D label (server_meets_message {c = d} {v = v} {w = chan} {at = at} {u = u} {pattern = pattern} {body = body} {bound = bound} f h) e m k = message_advances true d v at u chan pattern body bound f h e m.0 m.1
 
 partner_closed : (C : Configuration) → IsConfiguration C → (p : Process) (o : Option Entry) → Meets C.entries p o → (u : Entry) → o ≡ Some u → IsUnder 0 C.channels u.process
 partner_closed C is p None m u e = cc

@@ -3,7 +3,7 @@ use Rattle.std.proofs.Common.{ℕ, suc, ◌+◌, ◌<◌, ◌≤◌, ◌≡◌, 
 use Rattle.std.specs.Prelude.{◌-◌}
 use Rattle.std.proofs.lemmas.Bool.Decides.{nat_tests}
 use Rattle.pict_core.specs.Term.{Val, Vals, Labelled, Process, Var, Chan, Int, Char, Boolean, Text, PrimitiveVal, Record, no_vals, more_vals, no_labelled, more_labelled, Zero, Par, New, Out, In, If}
-use Rattle.pict_core.specs.Substitution.{replace_val, replace_vals, replace_labelled}
+use Rattle.pict_core.specs.Substitution.{replace_value, replace_values, replace_labelled}
 use Rattle.pict_sound.specs.Congruence.{renaming, raise, exchange}
 use Rattle.pict_sound.specs.Components.{renamed, make_room}
 use Rattle.pict_sound.proofs.Replacing.{two, replace-after}
@@ -17,14 +17,11 @@ then f g x = g (f x)
 pub renamed-then : (f g : ℕ → ℕ) (p : Process) → renamed g (renamed f p) ≡ renamed (then f g) p
 renamed-then f g p = replace-after (renaming g) (renaming f) p
 
-pub renamed_as : (f g : ℕ → ℕ) → ((x : ℕ) → f x ≡ g x) → (p : Process) → renamed f p ≡ renamed g p
-renamed_as f g h p = ap (λ k. renamed k p) (fun_ext h)
-
 abbrev pub same : ℕ → ℕ
 same x = x
 
 mutual
-  val_same : (v : Val) → replace_val (renaming same) v ≡ v
+  val_same : (v : Val) → replace_value (renaming same) v ≡ v
   val_same (Var level) = refl
   val_same (Chan number) = refl
   val_same (Int x) = refl
@@ -34,7 +31,7 @@ mutual
   val_same (PrimitiveVal x) = refl
   val_same (Record vs ls) = two Record (vals_same vs) (labelled_same ls)
 
-  vals_same : (vs : Vals) → replace_vals (renaming same) vs ≡ vs
+  vals_same : (vs : Vals) → replace_values (renaming same) vs ≡ vs
   vals_same no_vals = refl
   vals_same (more_vals v vs) = two more_vals (val_same v) (vals_same vs)
 

@@ -1,7 +1,7 @@
 -- The laws, each the contract of a public function that does nothing.
 use Rattle.std.specs.Prelude.{ℕ, ◌≡◌, ◌⊎◌, List}
 use Rattle.pict_core.specs.Term.{Process}
-use Rattle.pict_core.specs.Scope.{IsClosed}
+use Rattle.pict_core.specs.Closed.{IsClosed}
 use Rattle.pict_core.specs.Configuration.{Configuration, IsConfiguration, opening}
 use Rattle.pict_core.specs.Step.{Label, Choice, Free, Steps, Finished, next}
 use Rattle.pict_core.specs.Run.{Reaches}

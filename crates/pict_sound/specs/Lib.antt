@@ -6,3 +6,4 @@ pub mod Redex
 pub mod Reached
 pub mod Traffic
 pub mod Laws
+pub mod TypingLaws

@@ -3,8 +3,8 @@ use Rattle.std.specs.Prelude.{ℕ, suc, ◌≡◌, Bool, true, false, List, Opti
 use Rattle.pict_syntax.specs.declared.primitive.Primitive.{Primitive}
 use Rattle.pict_syntax.specs.declared.span.Span.{Span}
 use Rattle.pict_core.specs.Term.{Val, Pat, Process, Var, Chan, Boolean, PrimitiveVal, Zero, Par, New, Out, In, If}
-use Rattle.pict_core.specs.Substitution.{put}
-use Rattle.pict_core.specs.Matching.{match_val}
+use Rattle.pict_core.specs.Substitution.{substitute}
+use Rattle.pict_core.specs.Matching.{match_value}
 use Rattle.pict_core.specs.Primitives.{Effect, Leaves, Nothing, Answer, Trap, effect_of}
 use Rattle.pict_sound.specs.Congruence.{Congruent}
 
@@ -21,14 +21,14 @@ left_by at Trap = None
 
 -- One reduction of a process under n variables.
 pub data Reduces : ℕ → Process → Process → Type 0 where
-  -- x!v | x?p = P  becomes  P with the parts of v
-  communicates : {n : ℕ} {x v : Val} {at : Span} {pattern : Pat} {body : Process} {parts : List Val}
-      → IsName x → match_val pattern v ≡ Some parts
-      → Reduces n (Par (Out x v at) (In x false pattern body)) (put n parts body)
-  -- x!v | x?*p = P  becomes  P with the parts of v, beside x?*p = P
-  serves : {n : ℕ} {x v : Val} {at : Span} {pattern : Pat} {body : Process} {parts : List Val}
-      → IsName x → match_val pattern v ≡ Some parts
-      → Reduces n (Par (Out x v at) (In x true pattern body)) (Par (put n parts body) (In x true pattern body))
+  -- x!v | x?p = P  becomes  P with what p binds of v in place of its variables
+  communicates : {n : ℕ} {x v : Val} {at : Span} {pattern : Pat} {body : Process} {bound : List Val}
+      → IsName x → match_value pattern v ≡ Some bound
+      → Reduces n (Par (Out x v at) (In x false pattern body)) (substitute n bound body)
+  -- x!v | x?*p = P  becomes  P with what p binds of v in place of its variables, beside x?*p = P
+  serves : {n : ℕ} {x v : Val} {at : Span} {pattern : Pat} {body : Process} {bound : List Val}
+      → IsName x → match_value pattern v ≡ Some bound
+      → Reduces n (Par (Out x v at) (In x true pattern body)) (Par (substitute n bound body) (In x true pattern body))
   -- if b P Q  becomes  P or Q
   chooses : {n : ℕ} {b : Bool} {p q : Process} → Reduces n (If (Boolean b) p q) (if b then p else q)
   -- an output to a primitive becomes what the primitive leaves

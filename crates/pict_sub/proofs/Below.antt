@@ -12,7 +12,6 @@ use Rattle.pict_types.specs.Entries.{PlainWhat, Variable, Definition, PlainConte
 use Rattle.pict_sub.specs.Subtyping.{IsSubtype, AreSubtypes, HasLabels, has_none}
 use Rattle.pict_types.proofs.Rows.{labels_drop, labels_end}
 use Rattle.pict_sub.proofs.Inversion.{as_many, records, label_other, label_alike, no_label_left}
-use Rattle.pict_types.proofs.Sizes.{variable_positive}
 use Rattle.pict_sub.proofs.Weighing.{weights_under_is}
 
 pub types_weigh : (ws : List ℕ) (xs : List Ty) (i : ℕ) (d : Ty) → i < length xs → weigh ws (plain (get_or xs i d)) ≤ weigh_types ws (plain_types xs)
@@ -46,15 +45,11 @@ types_below_length c xs ys d = sym (types_counted xs) ∙ as_many d ∙ types_co
 pub weigh_record : (c : TypeContext) (bs : PlainBounds) (ps : PlainTypes) (ls : PlainLabels) → weight_of c (Fields bs ps ls) ≡ suc (weigh_bounds (weights c) bs + (weigh_types (weights (under c bs)) ps + weigh_labels (weights (under c bs)) ls))
 weigh_record c bs ps ls = rw (weights_under_is c bs) (omega arith)
 
-kinds_under_is : (c : TypeContext) (bs : PlainBounds) → kinds (under c bs) ≡ kinds_under (kinds c) bs
+pub kinds_under_is : (c : TypeContext) (bs : PlainBounds) → kinds (under c bs) ≡ kinds_under (kinds c) bs
 kinds_under_is c no_bound = refl
 kinds_under_is c (bounds b bs) = kinds_under_is (b ∷ c) bs
 
-pub under_grows : (c : TypeContext) (bs : PlainBounds) → length (under c bs) ≤ length c + weigh_bounds (weights c) bs
-under_grows c no_bound = omega arith
-under_grows c (bounds b bs) = omega (arith, under_grows (b ∷ c) bs, variable_positive (weights c) b)
-
-formed_under : (ns : List (List ℕ)) (c : TypeContext) (bs : PlainBounds) → ContextIsWellFormed ns c → BoundsAreWellFormed ns (kinds c) bs → ContextIsWellFormed ns (under c bs)
+pub formed_under : (ns : List (List ℕ)) (c : TypeContext) (bs : PlainBounds) → ContextIsWellFormed ns c → BoundsAreWellFormed ns (kinds c) bs → ContextIsWellFormed ns (under c bs)
 formed_under ns c no_bound w f = w
 formed_under ns c (bounds b bs) w f = formed_under ns (b ∷ c) bs (f.0, w) f.1
 

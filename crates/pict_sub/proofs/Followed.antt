@@ -1,15 +1,17 @@
 -- Bounds followed with the code's sums; exposing gives one type, above the given one, and loses no subtyping.
-use Rattle.std.proofs.Common.{◌≡◌, ◌≢◌, ℕ, zero, suc, ◌+◌, ◌≤◌, length, refl, sym, ◌∙◌, ap, subst, arith, add-one}
+use Rattle.std.proofs.Common.{◌≡◌, ◌≢◌, ℕ, suc, ◌+◌, ◌≤◌, List, refl, sym, ◌∙◌, ap, subst, arith, add-one}
 use Rattle.pict_types.specs.Types.{PlainType, Var, PlainBound, Free, Below, Operator, TypeContext}
 use Rattle.pict_types.specs.Renaming.{rename, rename_bound, moved, bound_at, bound_of}
+use Rattle.pict_types.specs.Kinds.{IsWellFormed, ContextIsWellFormed, kinds}
+use Rattle.pict_types.specs.Measures.{weight_of}
+use Rattle.pict_types.proofs.Renamed.{bound_before}
 use Rattle.pict_sub.specs.Shapes.{shape_of, variable}
-use Rattle.pict_sub.specs.Exposing.{HasNoBound, ExposesTo, stays, follows}
+use Rattle.pict_sub.specs.Exposing.{HasNoBound, ExposesTo, stays, follows, exposure}
 use Rattle.pict_sub.specs.Subtyping.{IsSubtype, same, through, below_bound}
-use Rattle.pict_sub.proofs.Scopes.{no_variable}
+use Rattle.pict_sub.proofs.Weighing.{weigh_bound}
+use Rattle.pict_sub.proofs.Forming.{bound_is_formed}
+use Rattle.pict_sub.proofs.Exposed.{exposes}
 use Rattle.pict_sub.proofs.Deciding.{Decides, d_same, d_top, d_bound, to_decided, of_decided}
-
-pub not_variable : (c : TypeContext) (t : PlainType) → shape_of t ≢ variable → ExposesTo c t t
-not_variable c t h = stays (λ i b e. absurd (h (ap shape_of e)))
 
 unbounded : (c : TypeContext) (i : ℕ) → ((b : PlainType) → bound_at c i ≢ Below b) → HasNoBound c (Var i)
 unbounded c i h j b e q = go (bound_at c i) h (subst (λ x. bound_of c x ≡ Below b) (var_same e) q)
@@ -21,12 +23,6 @@ unbounded c i h j b e q = go (bound_at c i) h (subst (λ x. bound_of c x ≡ Bel
     go Free g e = cc
     go (Below z) g e = g z refl
     go (Operator n) g e = cc
-
-pub no_bound : (c : TypeContext) (i : ℕ) → ((b : PlainType) → bound_at c i ≢ Below b) → ExposesTo c (Var i) (Var i)
-no_bound c i h = stays (unbounded c i h)
-
-pub bound_followed : (c : TypeContext) (i : ℕ) (b u : PlainType) → bound_at c i ≡ Below b → ExposesTo c (rename (moved (i + 1) 0) b) u → ExposesTo c (Var i) u
-bound_followed c i b u h d = follows (ap (rename_bound (moved (suc i) 0)) h) (subst (λ n. ExposesTo c (rename (moved n 0) b) u) (add-one i) d)
 
 -- a type is below what it exposes to
 pub below_exposed : {c : TypeContext} {t u : PlainType} → ExposesTo c t u → IsSubtype c t u
@@ -60,28 +56,36 @@ one_exposed {u = u} (follows {c = c} {b = b} h d) (follows {b = b2} k e) =
     let z : b2 ≡ b = cc in
     one_exposed d (subst (λ x. ExposesTo c x u) z e)
 
--- each type exposes to some type: a bound stands further out than its variable
-abbrev Exposes : TypeContext → PlainType → Type 0
-Exposes c t = (u : PlainType) × ExposesTo c t u
+pub exactly_one_exposed : (c : TypeContext) (t : PlainType) → ExposesTo c t (exposure c t) × ((u : PlainType) → ExposesTo c t u → u ≡ exposure c t)
+exactly_one_exposed c t = (exposes c t, λ u d. one_exposed d (exposes c t))
 
-exposes_but_for_variables : (c : TypeContext) (k : ℕ) (b : PlainType) → ((j : ℕ) → Exposes c (Var (j + k))) → Exposes c (rename (moved k 0) b)
-exposes_but_for_variables c k (Var j) f = f j
-exposes_but_for_variables c k _ f = (_, not_variable c _ (λ e. cc))
+-- the ways in which the code ends
+pub not_variable : (c : TypeContext) (t : PlainType) → shape_of t ≢ variable → exposure c t ≡ t
+not_variable c t h = one_exposed (exposes c t) (stays (λ i b e. absurd (h (ap shape_of e))))
 
-exposes_by_bound : (c : TypeContext) (i : ℕ) (y : PlainBound) → bound_at c i ≡ y → ((j : ℕ) → Exposes c (Var (j + suc i))) → Exposes c (Var i)
-exposes_by_bound c i Free e f = (Var i, no_bound c i (λ b q. let z : Free ≡ Below b = sym e ∙ q in absurd (cc)))
-exposes_by_bound c i (Operator n) e f = (Var i, no_bound c i (λ b q. let z : Operator n ≡ Below b = sym e ∙ q in absurd (cc)))
-exposes_by_bound c i (Below b) e f =
-    let x = exposes_but_for_variables c (suc i) b f in
-    (x.0, follows (ap (rename_bound (moved (suc i) 0)) e) x.1)
+pub no_bound : (c : TypeContext) (i : ℕ) → ((b : PlainType) → bound_at c i ≢ Below b) → exposure c (Var i) ≡ Var i
+no_bound c i h = one_exposed (exposes c (Var i)) (stays (unbounded c i h))
 
-variable_exposes : (n : ℕ) (c : TypeContext) (i : ℕ) → length c ≤ i + n → Exposes c (Var i)
-variable_exposes zero c i h = (Var i, no_bound c i (λ b q. let z : Free ≡ Below b = sym (no_variable c i (omega arith)) ∙ q in absurd (cc)))
-variable_exposes (suc n) c i h = exposes_by_bound c i (bound_at c i) refl (λ j. variable_exposes n c (j + suc i) (omega arith))
+pub bound_followed : (c : TypeContext) (i : ℕ) (b : PlainType) → bound_at c i ≡ Below b → exposure c (Var i) ≡ exposure c (rename (moved (i + 1) 0) b)
+bound_followed c i b h =
+    let u = exposure c (rename (moved (i + 1) 0) b) in
+    let moved_past = subst (λ n. ExposesTo c (rename (moved n 0) b) u) (add-one i) (exposes c (rename (moved (i + 1) 0) b)) in
+    one_exposed (exposes c (Var i)) (follows (ap (rename_bound (moved (suc i) 0)) h) moved_past)
 
-exposes : (c : TypeContext) (t : PlainType) → Exposes c t
-exposes c (Var i) = variable_exposes (length c) c i (omega arith)
-exposes c t = (t, not_variable c t (λ e. cc))
+-- what a type exposes to weighs no more, and is well formed where the type is
+exposed_lighter : {c : TypeContext} {t u : PlainType} → ExposesTo c t u → weight_of c u ≤ weight_of c t
+exposed_lighter (stays h) = omega arith
+exposed_lighter {c = c} (follows {i = i} {b = b} e d) = omega (arith, weigh_bound c i b e, exposed_lighter d)
 
-pub exactly_one_exposed : (c : TypeContext) (t : PlainType) → (u : PlainType) × ExposesTo c t u × ((v : PlainType) → ExposesTo c t v → v ≡ u)
-exactly_one_exposed c t = let x = exposes c t in (x.0, x.1, λ v d. one_exposed d x.1)
+pub exposure_lighter : (c : TypeContext) (t : PlainType) → weight_of c (exposure c t) ≤ weight_of c t
+exposure_lighter c t = exposed_lighter (exposes c t)
+
+exposed_formed : (ns : List (List ℕ)) {c : TypeContext} {t u : PlainType} → ContextIsWellFormed ns c → ExposesTo c t u → IsWellFormed ns (kinds c) t → IsWellFormed ns (kinds c) u
+exposed_formed ns w (stays h) f = f
+exposed_formed ns {c = c} w (follows {i = i} {b = b} e d) f =
+    let x = bound_before (moved (suc i) 0) (bound_at c i) b e in
+    let g : IsWellFormed ns (kinds c) (rename (moved (i + 1) 0) x.0) = bound_is_formed ns c i x.0 w x.1 in
+    exposed_formed ns w d (subst (IsWellFormed ns (kinds c)) (ap (λ n. rename (moved n 0) x.0) (add-one i) ∙ x.2) g)
+
+pub exposure_formed : (ns : List (List ℕ)) (c : TypeContext) (t : PlainType) → ContextIsWellFormed ns c → IsWellFormed ns (kinds c) t → IsWellFormed ns (kinds c) (exposure c t)
+exposure_formed ns c t w f = exposed_formed ns w (exposes c t) f

@@ -1,15 +1,12 @@
 -- What subtyping says at each form of its two types.
 use Rattle.std.proofs.Common.{◌≡◌, ◌≢◌, ℕ, suc, ◌+◌, List, refl, sym, ◌∙◌, ap, subst, subst₂, add-one, Bool, true, false, ◌⊎◌, inl, inr, ◌↔◌, Some}
 use Rattle.std.specs.Prelude.{nat_eq}
-use Rattle.std.specs.Ordering.{ordering_reverse}
-use Rattle.std.specs.declared.cmp.Ordering.TheVariants.{Less, Greater}
-use Rattle.std.specs.Cmp.{IsTotalOrder, on_total, then_total, nat_cmp_total}
-use Rattle.std.specs.Cmp.Lexicographic.{nat_list_cmp_total}
 use Rattle.std.proofs.lemmas.Bool.{eq-eqb, ne_eqb, eqb-true}
-use Rattle.pict_syntax.specs.Names.{text_of}
+use Rattle.pict_syntax.specs.Labels.{StandsBefore}
+use Rattle.pict_syntax.proofs.LabelLemmas.{label_order, other_label}
 use Rattle.pict_types.specs.Types.{Capability, PlainType, Top, Var, Chan, Fields, Rec, PlainTypes, no_type, types, PlainLabels, no_label, labels, PlainBound, Free, Below, Operator, PlainBounds, TypeContext, under, type_at, count_types, is_top}
 use Rattle.pict_types.specs.Renaming.{rename, rename_bound, moved, bound_at, bound_of}
-use Rattle.pict_types.specs.Kinds.{Kind, label_cmp, StandsBefore, StandsBeforeAll, LabelsAreWellFormed}
+use Rattle.pict_types.specs.Kinds.{Kind, StandsBeforeAll, LabelsAreWellFormed}
 use Rattle.pict_sub.specs.Shapes.{shape_of, variable, channel, record_}
 use Rattle.pict_sub.specs.Subtyping.{Rises, both_read, read_read, Falls, both_write, write_write, respond_respond, respond_write, IsSubtype, same, through, below_top, below_bound, upward, downward, by_fields, AreSubtypes, none, more, HasLabels, has_none, has_label, AreRecordsBelow, AreChannelsBelow, HasBoundBelow}
 use Rattle.pict_sub.specs.Laws.{IsChannel}
@@ -130,13 +127,6 @@ as_many none = refl
 as_many (more d ds) = ap suc (as_many ds)
 
 -- labels stand in a strict order, so each is found at its place
-order : (ns : List (List ℕ)) → IsTotalOrder (label_cmp ns)
-order ns = then_total (on_total (text_of ns) nat_list_cmp_total) nat_cmp_total
-
-not_itself : (ns : List (List ℕ)) (l : ℕ) → StandsBefore ns l l → ⊥
-not_itself ns l h =
-    let e : Less ≡ Greater = sym h ∙ (order ns).antisymm l l ∙ ap ordering_reverse h in cc
-
 label_passed : (l m : ℕ) (s : PlainType) (ss : PlainLabels) → l ≢ m → type_at l (labels m s ss) ≡ type_at l ss
 label_passed l m s ss h = let e : nat_eq l m ≡ false = ne_eqb l m h in rw e refl
 
@@ -152,9 +142,6 @@ found_after ns m l (labels n s ss) v h e = go (nat_eq l n) refl (λ k. found_aft
     go true q r = subst (StandsBefore ns m) (sym (eqb-true l n q)) h.0
     go false q r = r (rw q at e)
 
-other_label : (ns : List (List ℕ)) (m l : ℕ) → StandsBefore ns m l → l ≢ m
-other_label ns m l h e = not_itself ns m (subst (StandsBefore ns m) e h)
-
 -- one more label in the smaller, in front of all the others
 wider : {c : TypeContext} (ns : List (List ℕ)) (m : ℕ) (s : PlainType) (ss ts : PlainLabels) → StandsBeforeAll ns m ss → HasLabels c ss ts → HasLabels c (labels m s ss) ts
 wider ns m s ss no_label h has_none = has_none
@@ -163,7 +150,7 @@ wider ns m s ss (labels l t ts) h (has_label {s = v} e d r) =
 
 before_further : (ns : List (List ℕ)) (m l : ℕ) (ts : PlainLabels) → StandsBefore ns m l → StandsBeforeAll ns l ts → StandsBeforeAll ns m ts
 before_further ns m l no_label h k = tt
-before_further ns m l (labels n t ts) h k = ((order ns).trans m l n h k.0, before_further ns m l ts h k.1)
+before_further ns m l (labels n t ts) h k = ((label_order ns).trans m l n h k.0, before_further ns m l ts h k.1)
 
 -- and one less, where it is none of the greater's
 narrower : {c : TypeContext} (ns : List (List ℕ)) (m : ℕ) (s : PlainType) (ss ts : PlainLabels) → StandsBeforeAll ns m ts → HasLabels c (labels m s ss) ts → HasLabels c ss ts

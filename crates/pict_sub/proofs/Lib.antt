@@ -5,6 +5,7 @@ pub mod Forming
 pub mod Alike
 pub mod Scopes
 pub mod Below
+pub mod Exposed
 pub mod Followed
 pub mod Renamed
 pub mod Replaced

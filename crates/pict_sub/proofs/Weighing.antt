@@ -25,7 +25,7 @@ measure_bound [] i = refl
 measure_bound (b ∷ c) zero = refl
 measure_bound (b ∷ c) (suc i) = measure_bound c i
 
-weigh_bound : (c : TypeContext) (i : ℕ) (b : PlainType) → bound_of c i ≡ Below b → weight_of c (Var i) ≡ suc (weight_of c b)
+pub weigh_bound : (c : TypeContext) (i : ℕ) (b : PlainType) → bound_of c i ≡ Below b → weight_of c (Var i) ≡ suc (weight_of c b)
 weigh_bound c i b h =
     measure_bound c i ∙ sym (weigh_variable_renamed (reads_behind c i) (bound_at c i)) ∙ ap (weigh_variable (weights c)) h
 

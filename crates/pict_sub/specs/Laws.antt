@@ -3,18 +3,17 @@ use Rattle.std.specs.Prelude.{◌≡◌, ◌≢◌, ℕ, List, ◌⊎◌, ◌↔
 use Rattle.pict_types.specs.Types.{Capability, PlainType, Top, Var, Chan, Fields, Rec, PlainTypes, PlainLabels, PlainBounds, Below, TypeContext}
 use Rattle.pict_types.specs.Renaming.{bound_of, rename}
 use Rattle.pict_types.specs.Replacing.{Replacement, replace}
-use Rattle.pict_types.specs.Kinds.{Kind, IsWellFormed, LabelsAreWellFormed, ContextIsWellFormed, kinds}
+use Rattle.pict_types.specs.Kinds.{Kind, LabelsAreWellFormed}
 use Rattle.pict_sub.specs.Subtyping.{IsSubtype, AreRecordsBelow, AreChannelsBelow, HasBoundBelow}
-use Rattle.pict_sub.specs.Exposing.{ExposesTo}
+use Rattle.pict_sub.specs.Exposing.{ExposesTo, exposure}
 
 -- a fact holds or doesn't
 abbrev pub IsDecided : Type 0 → Type 0
 IsDecided A = A ⊎ (A → ⊥)
 
--- for all well formed types it is decided whether one is a subtype of the other
+-- of any two types it is decided whether one is a subtype of the other
 abbrev pub SubtypingIsDecided : Type 0
-SubtypingIsDecided =
-    (names : List (List ℕ)) (c : TypeContext) (s t : PlainType) → ContextIsWellFormed names c → IsWellFormed names (kinds c) s → IsWellFormed names (kinds c) t → IsDecided (IsSubtype c s t)
+SubtypingIsDecided = (c : TypeContext) (s t : PlainType) → IsDecided (IsSubtype c s t)
 
 -- f takes the variables of c to variables of d with the same bounds
 pub record KeepsBounds (f : ℕ → ℕ) (c d : TypeContext) : Type 0 where
@@ -69,6 +68,6 @@ ExposesAbove = (c : TypeContext) (t u : PlainType) → ExposesTo c t u → IsSub
 abbrev pub ExposesBelow : Type 0
 ExposesBelow = (c : TypeContext) (s u t : PlainType) → ExposesTo c s u → ((i : ℕ) → t ≢ Var i) → IsSubtype c s t → IsSubtype c u t
 
--- each type exposes to exactly one type
+-- each type exposes to exactly one type, its exposure
 abbrev pub ExposesToOne : Type 0
-ExposesToOne = (c : TypeContext) (t : PlainType) → (u : PlainType) × ExposesTo c t u × ((v : PlainType) → ExposesTo c t v → v ≡ u)
+ExposesToOne = (c : TypeContext) (t : PlainType) → ExposesTo c t (exposure c t) × ((u : PlainType) → ExposesTo c t u → u ≡ exposure c t)

@@ -12,7 +12,7 @@ pub fn law_substitution()
     ensures { Substitution }
 {}
 
-/// Of two well formed types one is a subtype of the other, or it isn't.
+/// Of any two types it is decided whether the first is a subtype of the second, whether they are well formed or not.
 pub fn law_subtyping_is_decided()
     ensures { SubtypingIsDecided }
 {}
@@ -49,7 +49,7 @@ pub fn law_exposes_below()
     ensures { ExposesBelow }
 {}
 
-/// Each type exposes to exactly one type.
+/// Each type exposes to exactly one type, and `exposure` is the function that gives it.
 pub fn law_exposes_to_one()
     ensures { ExposesToOne }
 {}

@@ -11,10 +11,11 @@ mod subtyping;
 mod tests;
 
 pub use equality::equal;
-pub use exposing::expose;
+pub use exposing::{expose, expose_in};
 pub use laws::{
     law_channels_by_messages, law_exposes_above, law_exposes_below, law_exposes_to_one,
     law_records_by_parts, law_recursive_only_equal, law_substitution, law_subtyping_is_decided,
     law_weakening,
 };
-pub use subtyping::subtype;
+pub use scope::TypeScope;
+pub use subtyping::{is_subtype, subtype};

@@ -1,4 +1,4 @@
-// The bounds of variables in a context and under the type fields of records within it.
+// The bounds of variables in a context, and within the records and recursive types around a place.
 
 ghost use Rattle.std.specs.Prelude.{◌≡◌, ◌≢◌, IfNone, IfSome};
 ghost use Rattle.pict_types.specs.Plain.{plain};
@@ -8,25 +8,30 @@ ghost use Rattle.pict_sub.specs.Scopes.{scope_context};
 
 use pict_types::{Bound, Context, Ty};
 
-/// A context, and the type fields of records around the place.
+/// The type variables at a place within a type: those of a context, and those of the records and recursive types
+/// around the place.
 #[derive(Clone, Copy)]
-pub enum Scope<'a, 'n> {
+pub enum TypeScope<'a, 'n> {
+    /// A context alone.
     Outer(&'a Context<'n>),
-    Inner(&'a [Bound], &'a Scope<'a, 'n>),
+    /// Under the type fields of a record, or the first of them.
+    Inner(&'a [Bound], &'a TypeScope<'a, 'n>),
+    /// In the body of a recursive type, whose variable has no bound.
+    Recursive(&'a TypeScope<'a, 'n>),
 }
 
 /// The type that bounds variable `i`, written where the variable was bound; nothing where it has none.
 #[tactic(auto, using(crate::proofs::Scopes::bound_rules))]
-pub fn bound_in<'a, 'n>(i: u32, scope: &Scope<'a, 'n>) -> Option<&'a Ty>
+pub fn bound_in<'a, 'n>(i: u32, scope: &TypeScope<'a, 'n>) -> Option<&'a Ty>
     ensures none { IfNone result ((b : PlainType) → bound_at (scope_context scope.now) i ≢ Below b) }
     ensures some { IfSome result (λ b. bound_at (scope_context scope.now) i ≡ Below (plain b.now)) }
 {
     match scope {
-        Scope::Outer(c) => match c.bound(i) {
+        TypeScope::Outer(c) => match c.bound(i) {
             Some(Bound::Below(t)) => Some(t),
             _ => None,
         },
-        Scope::Inner(bs, outer) => {
+        TypeScope::Inner(bs, outer) => {
             if (i as usize) >= bs.len() {
                 return bound_in(i - bs.len() as u32, outer);
             }
@@ -35,6 +40,12 @@ pub fn bound_in<'a, 'n>(i: u32, scope: &Scope<'a, 'n>) -> Option<&'a Ty>
                 Bound::Free => None,
                 Bound::Operator(_) => None,
             }
+        }
+        TypeScope::Recursive(outer) => {
+            if i == 0 {
+                return None;
+            }
+            bound_in(i - 1, outer)
         }
     }
 }

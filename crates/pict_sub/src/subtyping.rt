@@ -1,21 +1,21 @@
 // Subtyping, decided by the form of the two types.
 
-ghost use Rattle.std.specs.Prelude.{◌≡◌, ◌≢◌, ◌+◌, ◌≤◌, ◌<◌, ◌^◌, ◌↔◌, length, IsTrue, IfOk};
-ghost use Rattle.pict_types.specs.Kinds.{AreWellFormed, ContextIsWellFormed, IsWellFormed, LabelsAreWellFormed, kinds};
+ghost use Rattle.std.specs.Prelude.{◌≡◌, ◌≢◌, ◌+◌, ◌≤◌, ◌<◌, ◌↔◌, IsTrue, IfOk};
 ghost use Rattle.pict_types.specs.Measures.{weigh_labels, weigh_types, weight_of, weights};
 ghost use Rattle.pict_types.specs.Plain.{plain, plain_cap, plain_labels, plain_record, plain_types};
-ghost use Rattle.pict_types.specs.PlainContext.{names_of, type_context};
+ghost use Rattle.pict_types.specs.PlainContext.{IsWrittenIn, type_context};
 ghost use Rattle.pict_types.specs.Types.{Chan, Top, Var};
-ghost use Rattle.pict_sub.specs.Scopes.{scope_context, scope_names};
+ghost use Rattle.pict_sub.specs.Scopes.{AreWrittenAt, IsWrittenAt, LabelsAreWrittenAt, ScopeIsWellFormed, scope_context};
 ghost use Rattle.pict_sub.specs.Subtyping.{AreSubtypes, Falls, HasLabels, IsSubtype, Rises};
 
 use crate::equality::{equal_bounds, equal_types, same_cap};
-use crate::scope::{Scope, bound_in};
+use crate::scope::{TypeScope, bound_in};
 use crate::shape::{as_channel, as_record, as_variable};
 use pict_syntax::{Name, Steps};
 use pict_types::{Cap, Context, Record, Ty, shift_type};
 use std::alloc::{AllocError, Global};
-use std::sync::ledger::Ledger;
+use std::marker::Brand;
+use std::sync::ledger::{Blank, Ledger};
 
 /// Whether channel types with these capabilities go up with their messages.
 #[tactic(auto, using(crate::specs::Subtyping::both_read, crate::specs::Subtyping::read_read))]
@@ -49,13 +49,12 @@ fn is_below<L: Ledger>(
     alloc: Global,
     s: &Ty,
     t: &Ty,
-    scope: &Scope,
+    scope: &TypeScope,
     steps: &mut Steps<L>,
 ) -> Result<bool, AllocError>
-    requires context { ContextIsWellFormed (scope_names scope.now) (scope_context scope.now) }
-    requires s { IsWellFormed (scope_names scope.now) (kinds (scope_context scope.now)) (plain s.now) }
-    requires t { IsWellFormed (scope_names scope.now) (kinds (scope_context scope.now)) (plain t.now) }
-    requires room { length (scope_context scope.now) + (weight_of (scope_context scope.now) (plain s.now) + weight_of (scope_context scope.now) (plain t.now)) < 2 ^ 32 }
+    requires context { ScopeIsWellFormed scope.now }
+    requires s { IsWrittenAt scope.now (plain s.now) }
+    requires t { IsWrittenAt scope.now (plain t.now) }
     ensures answer { IfOk result (λ yes. IsTrue yes ↔ IsSubtype (scope_context scope.now) (plain s.now) (plain t.now)) }
     ensures cost { steps.new ≤ steps.old + (weight_of (scope_context scope.now) (plain s.now) + weight_of (scope_context scope.now) (plain t.now)) }
 {
@@ -82,13 +81,12 @@ fn variable_is_below<L: Ledger>(
     alloc: Global,
     i: u32,
     t: &Ty,
-    scope: &Scope,
+    scope: &TypeScope,
     steps: &mut Steps<L>,
 ) -> Result<bool, AllocError>
-    requires context { ContextIsWellFormed (scope_names scope.now) (scope_context scope.now) }
-    requires i { IsWellFormed (scope_names scope.now) (kinds (scope_context scope.now)) (Var i) }
-    requires t { IsWellFormed (scope_names scope.now) (kinds (scope_context scope.now)) (plain t.now) }
-    requires room { length (scope_context scope.now) + (weight_of (scope_context scope.now) (Var i) + weight_of (scope_context scope.now) (plain t.now)) < 2 ^ 32 }
+    requires context { ScopeIsWellFormed scope.now }
+    requires i { IsWrittenAt scope.now (Var i) }
+    requires t { IsWrittenAt scope.now (plain t.now) }
     requires not_top { plain t.now ≢ Top }
     ensures answer { IfOk result (λ yes. IsTrue yes ↔ IsSubtype (scope_context scope.now) (Var i) (plain t.now)) }
     ensures cost { steps.new ≤ steps.old + (weight_of (scope_context scope.now) (Var i) + weight_of (scope_context scope.now) (plain t.now)) }
@@ -104,18 +102,17 @@ fn variable_is_below<L: Ledger>(
 
 /// The same where `t` is another type too.
 #[cycle(below)]
-#[tactic(auto, using(crate::proofs::Weighing::weight_positive, crate::proofs::Weighing::weigh_bound_1, crate::proofs::Forming::bound_is_formed, crate::proofs::Forming::bound_has_room, crate::proofs::Forming::size_bound_weight, crate::proofs::Inversion::unbounded_variable, crate::proofs::Inversion::bounded_variable_1))]
+#[tactic(auto, using(crate::proofs::Weighing::weight_positive, crate::proofs::Weighing::weigh_bound_1, crate::proofs::Forming::bound_is_formed, crate::proofs::Inversion::unbounded_variable, crate::proofs::Inversion::bounded_variable_1))]
 fn bound_is_below<L: Ledger>(
     alloc: Global,
     i: u32,
     t: &Ty,
-    scope: &Scope,
+    scope: &TypeScope,
     steps: &mut Steps<L>,
 ) -> Result<bool, AllocError>
-    requires context { ContextIsWellFormed (scope_names scope.now) (scope_context scope.now) }
-    requires i { IsWellFormed (scope_names scope.now) (kinds (scope_context scope.now)) (Var i) }
-    requires t { IsWellFormed (scope_names scope.now) (kinds (scope_context scope.now)) (plain t.now) }
-    requires room { length (scope_context scope.now) + (weight_of (scope_context scope.now) (Var i) + weight_of (scope_context scope.now) (plain t.now)) < 2 ^ 32 }
+    requires context { ScopeIsWellFormed scope.now }
+    requires i { IsWrittenAt scope.now (Var i) }
+    requires t { IsWrittenAt scope.now (plain t.now) }
     requires not_top { plain t.now ≢ Top }
     requires not_same { plain t.now ≢ Var i }
     ensures answer { IfOk result (λ yes. IsTrue yes ↔ IsSubtype (scope_context scope.now) (Var i) (plain t.now)) }
@@ -125,7 +122,8 @@ fn bound_is_below<L: Ledger>(
     match bound_in(i, scope) {
         None => Ok(false),
         Some(b) => {
-            let b = shift_type(alloc, b, i + 1, 0)?;
+            let further = i.checked_add(1).ok_or(AllocError)?;
+            let b = shift_type(alloc, b, further, 0)?;
             is_below(alloc, &b, t, scope, steps)
         }
     }
@@ -139,13 +137,12 @@ fn channel_is_below<L: Ledger>(
     m: Cap,
     a: &Ty,
     t: &Ty,
-    scope: &Scope,
+    scope: &TypeScope,
     steps: &mut Steps<L>,
 ) -> Result<bool, AllocError>
-    requires context { ContextIsWellFormed (scope_names scope.now) (scope_context scope.now) }
-    requires s { IsWellFormed (scope_names scope.now) (kinds (scope_context scope.now)) (Chan (plain_cap m) (plain a.now)) }
-    requires t { IsWellFormed (scope_names scope.now) (kinds (scope_context scope.now)) (plain t.now) }
-    requires room { length (scope_context scope.now) + (weight_of (scope_context scope.now) (Chan (plain_cap m) (plain a.now)) + weight_of (scope_context scope.now) (plain t.now)) < 2 ^ 32 }
+    requires context { ScopeIsWellFormed scope.now }
+    requires s { IsWrittenAt scope.now (Chan (plain_cap m) (plain a.now)) }
+    requires t { IsWrittenAt scope.now (plain t.now) }
     requires not_top { plain t.now ≢ Top }
     ensures answer { IfOk result (λ yes. IsTrue yes ↔ IsSubtype (scope_context scope.now) (Chan (plain_cap m) (plain a.now)) (plain t.now)) }
     ensures cost { steps.new ≤ steps.old + (weight_of (scope_context scope.now) (Chan (plain_cap m) (plain a.now)) + weight_of (scope_context scope.now) (plain t.now)) }
@@ -172,13 +169,12 @@ fn record_is_below<L: Ledger>(
     alloc: Global,
     r: &Record,
     t: &Ty,
-    scope: &Scope,
+    scope: &TypeScope,
     steps: &mut Steps<L>,
 ) -> Result<bool, AllocError>
-    requires context { ContextIsWellFormed (scope_names scope.now) (scope_context scope.now) }
-    requires s { IsWellFormed (scope_names scope.now) (kinds (scope_context scope.now)) (plain_record r.now) }
-    requires t { IsWellFormed (scope_names scope.now) (kinds (scope_context scope.now)) (plain t.now) }
-    requires room { length (scope_context scope.now) + (weight_of (scope_context scope.now) (plain_record r.now) + weight_of (scope_context scope.now) (plain t.now)) < 2 ^ 32 }
+    requires context { ScopeIsWellFormed scope.now }
+    requires s { IsWrittenAt scope.now (plain_record r.now) }
+    requires t { IsWrittenAt scope.now (plain t.now) }
     requires not_top { plain t.now ≢ Top }
     ensures answer { IfOk result (λ yes. IsTrue yes ↔ IsSubtype (scope_context scope.now) (plain_record r.now) (plain t.now)) }
     ensures cost { steps.new ≤ steps.old + (weight_of (scope_context scope.now) (plain_record r.now) + weight_of (scope_context scope.now) (plain t.now)) }
@@ -196,20 +192,19 @@ fn fields_are_below<L: Ledger>(
     alloc: Global,
     r: &Record,
     q: &Record,
-    scope: &Scope,
+    scope: &TypeScope,
     steps: &mut Steps<L>,
 ) -> Result<bool, AllocError>
-    requires context { ContextIsWellFormed (scope_names scope.now) (scope_context scope.now) }
-    requires r { IsWellFormed (scope_names scope.now) (kinds (scope_context scope.now)) (plain_record r.now) }
-    requires q { IsWellFormed (scope_names scope.now) (kinds (scope_context scope.now)) (plain_record q.now) }
-    requires room { length (scope_context scope.now) + (weight_of (scope_context scope.now) (plain_record r.now) + weight_of (scope_context scope.now) (plain_record q.now)) < 2 ^ 32 }
+    requires context { ScopeIsWellFormed scope.now }
+    requires r { IsWrittenAt scope.now (plain_record r.now) }
+    requires q { IsWrittenAt scope.now (plain_record q.now) }
     ensures answer { IfOk result (λ yes. IsTrue yes ↔ IsSubtype (scope_context scope.now) (plain_record r.now) (plain_record q.now)) }
     ensures cost { steps.new + 1 ≤ steps.old + (weight_of (scope_context scope.now) (plain_record r.now) + weight_of (scope_context scope.now) (plain_record q.now)) }
 {
     if !equal_bounds(&r.binders, &q.binders, steps) {
         return Ok(false);
     }
-    let inner = Scope::Inner(&r.binders, &*scope);
+    let inner = TypeScope::Inner(&r.binders, &*scope);
     if !rows_are_below(alloc, &r.positional, &q.positional, &inner, steps)? {
         return Ok(false);
     }
@@ -223,13 +218,12 @@ fn rows_are_below<L: Ledger>(
     alloc: Global,
     ss: &[Ty],
     ts: &[Ty],
-    scope: &Scope,
+    scope: &TypeScope,
     steps: &mut Steps<L>,
 ) -> Result<bool, AllocError>
-    requires context { ContextIsWellFormed (scope_names scope.now) (scope_context scope.now) }
-    requires ss { AreWellFormed (scope_names scope.now) (kinds (scope_context scope.now)) (plain_types ss.now) }
-    requires ts { AreWellFormed (scope_names scope.now) (kinds (scope_context scope.now)) (plain_types ts.now) }
-    requires room { length (scope_context scope.now) + (weigh_types (weights (scope_context scope.now)) (plain_types ss.now) + weigh_types (weights (scope_context scope.now)) (plain_types ts.now)) < 2 ^ 32 }
+    requires context { ScopeIsWellFormed scope.now }
+    requires ss { AreWrittenAt scope.now (plain_types ss.now) }
+    requires ts { AreWrittenAt scope.now (plain_types ts.now) }
     ensures answer { IfOk result (λ yes. IsTrue yes ↔ AreSubtypes (scope_context scope.now) (plain_types ss.now) (plain_types ts.now)) }
     ensures cost { steps.new ≤ steps.old + (weigh_types (weights (scope_context scope.now)) (plain_types ss.now) + weigh_types (weights (scope_context scope.now)) (plain_types ts.now)) }
 {
@@ -252,13 +246,12 @@ fn labels_are_below<L: Ledger>(
     alloc: Global,
     ls: &[(Name, Ty)],
     ms: &[(Name, Ty)],
-    scope: &Scope,
+    scope: &TypeScope,
     steps: &mut Steps<L>,
 ) -> Result<bool, AllocError>
-    requires context { ContextIsWellFormed (scope_names scope.now) (scope_context scope.now) }
-    requires ls { LabelsAreWellFormed (scope_names scope.now) (kinds (scope_context scope.now)) (plain_labels ls.now) }
-    requires ms { LabelsAreWellFormed (scope_names scope.now) (kinds (scope_context scope.now)) (plain_labels ms.now) }
-    requires room { length (scope_context scope.now) + (weigh_labels (weights (scope_context scope.now)) (plain_labels ls.now) + weigh_labels (weights (scope_context scope.now)) (plain_labels ms.now)) < 2 ^ 32 }
+    requires context { ScopeIsWellFormed scope.now }
+    requires ls { LabelsAreWrittenAt scope.now (plain_labels ls.now) }
+    requires ms { LabelsAreWrittenAt scope.now (plain_labels ms.now) }
     ensures answer { IfOk result (λ yes. IsTrue yes ↔ HasLabels (scope_context scope.now) (plain_labels ls.now) (plain_labels ms.now)) }
     ensures cost { steps.new ≤ steps.old + (weigh_labels (weights (scope_context scope.now)) (plain_labels ls.now) + weigh_labels (weights (scope_context scope.now)) (plain_labels ms.now)) }
 {
@@ -280,13 +273,11 @@ fn labels_are_below<L: Ledger>(
     Ok(j == ms.len())
 }
 
-/// Whether `s` is a subtype of `t`, both written in `c`. The only error is want of memory.
+/// Whether `s` is a subtype of `t`, both written in `c`. The only error is want of memory, and a variable past the
+/// greatest `u32` is one.
 ///
 /// Counts at most the weights of `s` and `t` together: a pair of nodes compared counts one, in an equality too, and a
 /// type field is a node; a label passed over counts one; a pair at which a bound is followed counts once, for the bound.
-///
-/// The variables of the context and the weights of both types have to stay below 2 to the power 32 together. The limit
-/// on weights, 100,000 for each type, gives this in every context of fewer than 4,000,000,000 variables.
 pub fn subtype<L: Ledger>(
     alloc: Global,
     c: &Context,
@@ -294,12 +285,38 @@ pub fn subtype<L: Ledger>(
     t: &Ty,
     steps: &mut Steps<L>,
 ) -> Result<bool, AllocError>
-    requires s { IsWellFormed (names_of c.now) (kinds (type_context c.now)) (plain s.now) }
-    requires t { IsWellFormed (names_of c.now) (kinds (type_context c.now)) (plain t.now) }
-    requires room { length (type_context c.now) + (weight_of (type_context c.now) (plain s.now) + weight_of (type_context c.now) (plain t.now)) < 2 ^ 32 }
+    requires s { IsWrittenIn c.now (plain s.now) }
+    requires t { IsWrittenIn c.now (plain t.now) }
     ensures answer { IfOk result (λ yes. IsTrue yes ↔ IsSubtype (type_context c.now) (plain s.now) (plain t.now)) }
     ensures cost { steps.new ≤ steps.old + (weight_of (type_context c.now) (plain s.now) + weight_of (type_context c.now) (plain t.now)) }
 {
-    let scope = Scope::Outer(c);
+    let scope = TypeScope::Outer(c);
     is_below(alloc, s, t, &scope, steps)
+}
+
+fn subtype_from<L: Ledger>(
+    alloc: Global,
+    c: &Context,
+    s: &Ty,
+    t: &Ty,
+    blank: Blank,
+) -> Result<bool, AllocError>
+    requires name { blank.name ≡ L.name }
+    requires parts { blank.parts ≡ L.parts }
+    requires some { 0 < L.parts }
+    requires s { IsWrittenIn c.now (plain s.now) }
+    requires t { IsWrittenIn c.now (plain t.now) }
+    ensures answer { IfOk result (λ yes. IsTrue yes ↔ IsSubtype (type_context c.now) (plain s.now) (plain t.now)) }
+{
+    let mut steps: Steps<L> = Steps::new(blank);
+    subtype(alloc, c, s, t, &mut steps)
+}
+
+/// `subtype` for callers that promise no count: it makes a fresh counter.
+pub fn is_subtype(alloc: Global, c: &Context, s: &Ty, t: &Ty) -> Result<bool, AllocError>
+    requires s { IsWrittenIn c.now (plain s.now) }
+    requires t { IsWrittenIn c.now (plain t.now) }
+    ensures answer { IfOk result (λ yes. IsTrue yes ↔ IsSubtype (type_context c.now) (plain s.now) (plain t.now)) }
+{
+    subtype_from::<Brand>(alloc, c, s, t, Blank::new(1))
 }

@@ -1,59 +1,23 @@
 // Types compared and exposed: what only examples show, and the largest types.
 
-ghost use Rattle.std.specs.Prelude.{◌≡◌, ◌+◌, ◌<◌, ◌^◌, length, IfOk};
-ghost use Rattle.pict_types.specs.Kinds.{IsWellFormed, StandsBefore, kinds};
+ghost use Rattle.std.specs.Prelude.{◌≡◌, ◌+◌, IfOk};
+ghost use Rattle.pict_syntax.specs.Labels.{StandsBefore};
 ghost use Rattle.pict_types.specs.Measures.{weight_of};
-ghost use Rattle.pict_types.specs.Plain.{plain, plain_bound, plain_bounds, plain_cap, plain_labels, plain_types};
-ghost use Rattle.pict_types.specs.PlainContext.{names_of, type_context};
-ghost use Rattle.pict_types.specs.Types.{Chan, Fields, Int, bounds, labels, no_bound, no_label, no_type, types};
+ghost use Rattle.pict_types.specs.Plain.{plain, plain_bounds, plain_labels, plain_types};
+ghost use Rattle.pict_types.specs.PlainContext.{IsWrittenIn, names_of, type_context};
+ghost use Rattle.pict_types.specs.Types.{Fields};
 
-use crate::{equal, expose, subtype};
-use pict_syntax::{Name, Names, Steps};
+use crate::{TypeScope, equal, expose, expose_in, is_subtype};
+use pict_syntax::{Name, Names};
 use pict_types::{Bound, Cap, Context, Entry, Record, Ty, What, height, weight};
 use std::alloc::{AllocError, Global};
-use std::marker::Brand;
-use std::sync::ledger::{Blank, Ledger};
-
-fn counted<L: Ledger>(
-    alloc: Global,
-    c: &Context,
-    s: &Ty,
-    t: &Ty,
-    blank: Blank,
-) -> Result<bool, AllocError>
-    requires name { blank.name ≡ L.name }
-    requires parts { blank.parts ≡ L.parts }
-    requires some { 0 < L.parts }
-    requires s { IsWellFormed (names_of c.now) (kinds (type_context c.now)) (plain s.now) }
-    requires t { IsWellFormed (names_of c.now) (kinds (type_context c.now)) (plain t.now) }
-    requires room { length (type_context c.now) + (weight_of (type_context c.now) (plain s.now) + weight_of (type_context c.now) (plain t.now)) < 2 ^ 32 }
-{
-    let mut steps: Steps<L> = Steps::new(blank);
-    subtype(alloc, c, s, t, &mut steps)
-}
-
-fn is_subtype(alloc: Global, c: &Context, s: &Ty, t: &Ty) -> Result<bool, AllocError>
-    requires s { IsWellFormed (names_of c.now) (kinds (type_context c.now)) (plain s.now) }
-    requires t { IsWellFormed (names_of c.now) (kinds (type_context c.now)) (plain t.now) }
-    requires room { length (type_context c.now) + (weight_of (type_context c.now) (plain s.now) + weight_of (type_context c.now) (plain t.now)) < 2 ^ 32 }
-{
-    counted::<Brand>(alloc, c, s, t, Blank::new(1))
-}
 
 /// Whether the first type is a subtype of the second, and the second of the first.
 fn both_ways(alloc: Global, c: &Context, s: &Ty, t: &Ty) -> Result<(bool, bool), AllocError>
-    requires s { IsWellFormed (names_of c.now) (kinds (type_context c.now)) (plain s.now) }
-    requires t { IsWellFormed (names_of c.now) (kinds (type_context c.now)) (plain t.now) }
-    requires room { length (type_context c.now) + (weight_of (type_context c.now) (plain s.now) + weight_of (type_context c.now) (plain t.now)) < 2 ^ 32 }
+    requires s { IsWrittenIn c.now (plain s.now) }
+    requires t { IsWrittenIn c.now (plain t.now) }
 {
     Ok((is_subtype(alloc, c, s, t)?, is_subtype(alloc, c, t, s)?))
-}
-
-/// The channel type with this capability and these messages.
-fn channel(alloc: Global, cap: Cap, t: Ty) -> Result<Ty, AllocError>
-    ensures { IfOk result (λ r. plain r ≡ Chan (plain_cap cap) (plain t)) }
-{
-    Ok(Ty::Chan(cap, Box::new(alloc, t)?))
 }
 
 /// The record type of these fields.
@@ -68,48 +32,68 @@ fn fields(binders: Vec<Bound>, positional: Vec<Ty>, labelled: Vec<(Name, Ty)>) -
 }
 
 /// The record type `[T]`.
-fn row(alloc: Global, t: Ty) -> Result<Ty, AllocError>
-    ensures { IfOk result (λ r. plain r ≡ Fields no_bound (types (plain t) no_type) no_label) }
+fn row(alloc: Global, c: &Context, t: Ty) -> Result<Ty, AllocError>
+    requires t { IsWrittenIn c.now (plain t) }
+    ensures { IfOk result (λ r. IsWrittenIn c.now (plain r)) }
 {
     let mut positional = Vec::new(alloc);
     positional.push(t)?;
     Ok(fields(Vec::new(alloc), positional, Vec::new(alloc)))
 }
 
-/// The record type with one type field of this bound and one positional field under it.
-fn package(alloc: Global, bound: Bound, t: Ty) -> Result<Ty, AllocError>
-    ensures { IfOk result (λ r. plain r ≡ Fields (bounds (plain_bound bound) no_bound) (types (plain t) no_type) no_label) }
+/// The channel type with this capability and these messages.
+fn channel(alloc: Global, c: &Context, cap: Cap, t: Ty) -> Result<Ty, AllocError>
+    requires t { IsWrittenIn c.now (plain t) }
+    ensures { IfOk result (λ r. IsWrittenIn c.now (plain r)) }
+{
+    Ok(Ty::Chan(cap, Box::new(alloc, t)?))
+}
+
+/// The record type `[a=Int]`, or `[a=Int b=Int]` where it has both.
+fn labelled(alloc: Global, c: &Context, a: Name, b: Name, both: bool) -> Result<Ty, AllocError>
+    requires order { StandsBefore (names_of c.now) a.0 b.0 }
+    ensures { IfOk result (λ r. IsWrittenIn c.now (plain r)) }
+{
+    let mut labelled = Vec::new(alloc);
+    labelled.push((a, Ty::Int))?;
+    if both {
+        labelled.push((b, Ty::Int))?;
+    }
+    Ok(fields(Vec::new(alloc), Vec::new(alloc), labelled))
+}
+
+/// One of `[#X<Int X]`, `[#X<Int Int]`, `[#X X]` and `[#X Int]`.
+fn package(alloc: Global, c: &Context, bounded: bool, own: bool) -> Result<Ty, AllocError>
+    ensures { IfOk result (λ r. IsWrittenIn c.now (plain r)) }
 {
     let mut binders = Vec::new(alloc);
-    binders.push(bound)?;
+    binders.push(if bounded {
+        Bound::Below(Ty::Int)
+    } else {
+        Bound::Free
+    })?;
     let mut positional = Vec::new(alloc);
-    positional.push(t)?;
+    positional.push(if own { Ty::Var(0) } else { Ty::Int })?;
     Ok(fields(binders, positional, Vec::new(alloc)))
 }
 
-/// The record type `[a=Int]`.
-fn one_label(alloc: Global, a: Name) -> Result<Ty, AllocError>
-    ensures { IfOk result (λ r. plain r ≡ Fields no_bound no_type (labels a.0 Int no_label)) }
+/// The record type `[#F:(Type -> Type) (F T)]`, where T is `Int` or `Top`.
+fn applied(alloc: Global, c: &Context, to_int: bool) -> Result<Ty, AllocError>
+    ensures { IfOk result (λ r. IsWrittenIn c.now (plain r)) }
 {
-    let mut labelled = Vec::new(alloc);
-    labelled.push((a, Ty::Int))?;
-    Ok(fields(Vec::new(alloc), Vec::new(alloc), labelled))
-}
-
-/// The record type `[a=Int b=Int]`.
-fn two_labels(alloc: Global, a: Name, b: Name) -> Result<Ty, AllocError>
-    ensures { IfOk result (λ r. plain r ≡ Fields no_bound no_type (labels a.0 Int (labels b.0 Int no_label))) }
-{
-    let mut labelled = Vec::new(alloc);
-    labelled.push((a, Ty::Int))?;
-    labelled.push((b, Ty::Int))?;
-    Ok(fields(Vec::new(alloc), Vec::new(alloc), labelled))
+    let mut binders = Vec::new(alloc);
+    binders.push(Bound::Operator(1))?;
+    let mut arguments = Vec::new(alloc);
+    arguments.push(if to_int { Ty::Int } else { Ty::Top })?;
+    let mut positional = Vec::new(alloc);
+    positional.push(Ty::Apply(0, arguments))?;
+    Ok(fields(binders, positional, Vec::new(alloc)))
 }
 
 /// The record type of so many positional fields `Int`.
 #[tactic(auto, using(crate::proofs::Built::formed_pushed, crate::proofs::Built::weigh_pushed))]
 fn wide(alloc: Global, c: &Context, count: u32) -> Result<Ty, AllocError>
-    ensures formed { IfOk result (λ t. IsWellFormed (names_of c.now) (kinds (type_context c.now)) (plain t)) }
+    ensures formed { IfOk result (λ t. IsWrittenIn c.now (plain t)) }
     ensures weight { IfOk result (λ t. weight_of (type_context c.now) (plain t) ≡ count + 1) }
 {
     let mut positional = Vec::new(alloc);
@@ -121,7 +105,7 @@ fn wide(alloc: Global, c: &Context, count: u32) -> Result<Ty, AllocError>
 
 /// `Int` under so many `?`.
 fn high(alloc: Global, c: &Context, count: u32) -> Result<Ty, AllocError>
-    ensures formed { IfOk result (λ t. IsWellFormed (names_of c.now) (kinds (type_context c.now)) (plain t)) }
+    ensures formed { IfOk result (λ t. IsWrittenIn c.now (plain t)) }
     ensures weight { IfOk result (λ t. weight_of (type_context c.now) (plain t) ≡ count + 1) }
 {
     let mut t = Ty::Int;
@@ -131,80 +115,76 @@ fn high(alloc: Global, c: &Context, count: u32) -> Result<Ty, AllocError>
     Ok(t)
 }
 
-/// Whether channels of this capability with messages `[a=Int b=Int]` are channels with messages `[a=Int]`, and the
-/// other way.
-fn compared(
+/// A context with one variable, which is below `Int`.
+fn below_int<'a>(alloc: Global, names: &'a Names) -> Result<Context<'a>, AllocError>
+    ensures { IfOk result (λ c. IsWrittenIn c (Var 0)) }
+{
+    let mut c = Context::new(alloc, names);
+    c.push(Entry {
+        name: Name(0),
+        what: What::Variable(Bound::Below(Ty::Int)),
+    })?;
+    Ok(c)
+}
+
+/// Whether channels of a capability with messages of one label, or of both, are below channels of another.
+fn is_channel_below(
     alloc: Global,
     c: &Context,
-    cap: Cap,
-    a: Name,
-    b: Name,
-) -> Result<(bool, bool), AllocError>
-    requires order { StandsBefore (names_of c.now) a.0 b.0 }
-    requires room { length (type_context c.now) < 1000 }
+    labels: (Name, Name),
+    below: (Cap, bool),
+    above: (Cap, bool),
+) -> Result<bool, AllocError>
+    requires order { StandsBefore (names_of c.now) labels.0.0 labels.1.0 }
 {
-    let two = channel(alloc, cap, two_labels(alloc, a, b)?)?;
-    let one = channel(alloc, cap, one_label(alloc, a)?)?;
-    both_ways(alloc, c, &two, &one)
+    let messages = labelled(alloc, c, labels.0, labels.1, below.1)?;
+    let s = channel(alloc, c, below.0, messages)?;
+    let messages = labelled(alloc, c, labels.0, labels.1, above.1)?;
+    let t = channel(alloc, c, above.0, messages)?;
+    is_subtype(alloc, c, &s, &t)
+}
+
+/// Whether one of the packages is below another.
+fn is_package_below(
+    alloc: Global,
+    c: &Context,
+    below: (bool, bool),
+    above: (bool, bool),
+) -> Result<bool, AllocError> {
+    let s = package(alloc, c, below.0, below.1)?;
+    let t = package(alloc, c, above.0, above.1)?;
+    is_subtype(alloc, c, &s, &t)
 }
 
 #[test]
-fn a_responsive_channel_is_a_sending_one(rt: HostRuntime) -> Result<(), AllocError> {
-    let alloc = rt.alloc();
-    let names = Names::new(alloc);
-    let c = Context::new(alloc, &names);
-    let respond = channel(alloc, Cap::Respond, Ty::Int)?;
-    let write = channel(alloc, Cap::Write, Ty::Int)?;
-    let read = channel(alloc, Cap::Read, Ty::Int)?;
-    let (up, down) = both_ways(alloc, &c, &respond, &write)?;
-    assert!(rt; up && !down);
-    let (up, down) = both_ways(alloc, &c, &write, &read)?;
-    assert!(rt; !up && !down);
-    Ok(())
-}
-
-#[test]
-fn fewer_labels_are_read_and_more_are_written(rt: HostRuntime) -> Result<(), AllocError> {
+fn channels_compare_by_capability_and_messages(rt: HostRuntime) -> Result<(), AllocError> {
     let alloc = rt.alloc();
     let mut names = Names::new(alloc);
     let a = names.intern(b"a")?;
     let b = names.intern(b"b")?;
     let c = Context::new(alloc, &names);
-    let (fewer, more) = compared(alloc, &c, Cap::Read, a, b)?;
-    assert!(rt; fewer && !more);
-    let (fewer, more) = compared(alloc, &c, Cap::Write, a, b)?;
-    assert!(rt; more && !fewer);
-    Ok(())
-}
-
-#[test]
-fn a_bound_is_followed(rt: HostRuntime) -> Result<(), AllocError> {
-    let alloc = rt.alloc();
-    let names = Names::new(alloc);
-    let mut c = Context::new(alloc, &names);
-    c.push(Entry {
-        name: Name(0),
-        what: What::Variable(Bound::Below(Ty::Int)),
-    })?;
-    let (up, down) = both_ways(alloc, &c, &Ty::Var(0), &Ty::Int)?;
-    assert!(rt; up && !down);
-    assert!(rt; matches!(expose(alloc, &c, &Ty::Var(0))?, Ty::Int));
-    Ok(())
-}
-
-#[test]
-fn a_bound_is_followed_in_a_record(rt: HostRuntime) -> Result<(), AllocError> {
-    let alloc = rt.alloc();
-    let names = Names::new(alloc);
-    let mut c = Context::new(alloc, &names);
-    c.push(Entry {
-        name: Name(0),
-        what: What::Variable(Bound::Below(Ty::Int)),
-    })?;
-    let variable = row(alloc, Ty::Var(0))?;
-    let number = row(alloc, Ty::Int)?;
-    let (up, down) = both_ways(alloc, &c, &variable, &number)?;
-    assert!(rt; up && !down);
+    // a capability, and whether the messages have both labels; so of another type; and whether the first is below it
+    for (below, above, yes) in [
+        ((Cap::Respond, false), (Cap::Respond, true), true),
+        ((Cap::Respond, true), (Cap::Respond, false), false),
+        ((Cap::Respond, false), (Cap::Write, true), true),
+        ((Cap::Respond, true), (Cap::Write, false), false),
+        ((Cap::Write, true), (Cap::Respond, true), false),
+        ((Cap::Write, false), (Cap::Write, true), true),
+        ((Cap::Write, true), (Cap::Write, false), false),
+        ((Cap::Read, true), (Cap::Read, false), true),
+        ((Cap::Read, false), (Cap::Read, true), false),
+        ((Cap::Write, true), (Cap::Read, true), false),
+        ((Cap::Both, true), (Cap::Read, false), true),
+        ((Cap::Both, false), (Cap::Read, true), false),
+        ((Cap::Both, false), (Cap::Write, true), true),
+        ((Cap::Both, true), (Cap::Both, true), true),
+        ((Cap::Both, true), (Cap::Both, false), false),
+        ((Cap::Both, true), (Cap::Respond, true), false),
+        ((Cap::Read, true), (Cap::Both, true), false),
+    ] {
+        assert_eq!(rt; is_channel_below(alloc, &c, (a, b), below, above)?, yes);
+    }
     Ok(())
 }
 
@@ -213,13 +193,67 @@ fn type_fields_have_the_same_bounds(rt: HostRuntime) -> Result<(), AllocError> {
     let alloc = rt.alloc();
     let names = Names::new(alloc);
     let c = Context::new(alloc, &names);
-    let own = package(alloc, Bound::Below(Ty::Int), Ty::Var(0))?;
-    let bounded = package(alloc, Bound::Below(Ty::Int), Ty::Int)?;
-    let free = package(alloc, Bound::Free, Ty::Int)?;
-    let (up, down) = both_ways(alloc, &c, &own, &bounded)?;
-    assert!(rt; up && !down);
-    let (up, down) = both_ways(alloc, &c, &own, &free)?;
+    // whether the type field is below Int, and whether the field is of its type; so of another; and whether it is below
+    for (below, above, yes) in [
+        ((true, true), (true, false), true),
+        ((true, false), (true, true), false),
+        ((true, true), (false, true), false),
+        ((true, true), (false, false), false),
+        ((true, false), (false, false), false),
+        ((false, false), (true, false), false),
+        ((false, true), (false, false), false),
+        ((false, true), (false, true), true),
+    ] {
+        assert_eq!(rt; is_package_below(alloc, &c, below, above)?, yes);
+    }
+    let (up, down) = both_ways(
+        alloc,
+        &c,
+        &applied(alloc, &c, true)?,
+        &applied(alloc, &c, false)?,
+    )?;
     assert!(rt; !up && !down);
+    let (up, down) = both_ways(alloc, &c, &applied(alloc, &c, true)?, &Ty::Top)?;
+    assert!(rt; up && !down);
+    Ok(())
+}
+
+#[test]
+fn a_bound_is_followed(rt: HostRuntime) -> Result<(), AllocError> {
+    let alloc = rt.alloc();
+    let names = Names::new(alloc);
+    let c = below_int(alloc, &names)?;
+    let (up, down) = both_ways(alloc, &c, &Ty::Var(0), &Ty::Int)?;
+    assert!(rt; up && !down);
+    let variable = row(alloc, &c, Ty::Var(0))?;
+    let number = row(alloc, &c, Ty::Int)?;
+    let (up, down) = both_ways(alloc, &c, &variable, &number)?;
+    assert!(rt; up && !down);
+    let (up, down) = both_ways(
+        alloc,
+        &c,
+        &channel(alloc, &c, Cap::Write, variable)?,
+        &channel(alloc, &c, Cap::Write, number)?,
+    )?;
+    assert!(rt; !up && down);
+    assert!(rt; matches!(expose(alloc, &c, &Ty::Var(0))?, Ty::Int));
+    Ok(())
+}
+
+#[test]
+fn a_recursive_type_has_a_variable_without_bound(rt: HostRuntime) -> Result<(), AllocError> {
+    let alloc = rt.alloc();
+    let names = Names::new(alloc);
+    let c = below_int(alloc, &names)?;
+    let s = Ty::Rec(Box::new(alloc, Ty::Chan(Cap::Both, Box::new(alloc, Ty::Var(0))?))?);
+    let t = Ty::Rec(Box::new(alloc, Ty::Chan(Cap::Read, Box::new(alloc, Ty::Var(0))?))?);
+    let (up, down) = both_ways(alloc, &c, &s, &t)?;
+    assert!(rt; !up && !down);
+    assert!(rt; is_subtype(alloc, &c, &s, &s)?);
+    let outer = TypeScope::Outer(&c);
+    let inner = TypeScope::Recursive(&outer);
+    assert!(rt; matches!(expose_in(alloc, &inner, &Ty::Var(0))?, Ty::Var(0)));
+    assert!(rt; matches!(expose_in(alloc, &inner, &Ty::Var(1))?, Ty::Int));
     Ok(())
 }
 

@@ -14,7 +14,7 @@ use Rattle.pict_syntax.specs.declared.token.Keyword.TheVariants.{And, Def, Else,
 use Rattle.pict_syntax.specs.declared.token.Sign.{Sign}
 use Rattle.pict_syntax.specs.declared.token.Sign.TheVariants.{Bang, Question, QuestionStar, Equals, Bar, OpenParen, CloseParen, OpenBracket, CloseBracket, Colon, Semicolon, Less, Greater, Backslash, Caret, Slash, Hash, Underscore, Arrow}
 use Rattle.pict_syntax.specs.Tokens.{Form, identifier, symbol, keyword, number, character, string, sign, IsWord, keyword_text, symbol_text, sign_text, IsNumber, item_bytes, item_value, items_bytes, Spells}
-use Rattle.pict_syntax.specs.Readings.{IsLongest, IsBlank}
+use Rattle.pict_syntax.specs.Cuts.{IsLongest, IsBlank}
 use Rattle.pict_syntax.proofs.ItemLemmas.{item_unique, items_unique, no_item_at_quote}
 
 -- what the first bytes of a token tell
@@ -96,7 +96,7 @@ sign_family s = elim s as (λ s. family (sign_text s) ≡ other) [ Bang ↦ refl
 digit_no_letter : (byte : ℕ) → IsInRange 48 57 byte → is_ascii_alphabetic byte ≡ false
 digit_no_letter byte h = grind (arith, nat_tests)
 
-digit_is_digit : (byte : ℕ) → IsInRange 48 57 byte → is_ascii_digit byte ≡ true
+pub digit_is_digit : (byte : ℕ) → IsInRange 48 57 byte → is_ascii_digit byte ≡ true
 digit_is_digit byte h = grind (arith, nat_tests)
 
 digit_family : (byte : ℕ) (more : List ℕ) → digit_value byte < 10 → family (byte ∷ more) ≡ numeral

@@ -3,6 +3,12 @@ pub mod ItemLemmas
 pub mod CommentLemmas
 pub mod FormLemmas
 pub mod LiteralLemmas
-pub mod ReadingLemmas
+pub mod CutLemmas
 pub mod OutcomeLemmas
 pub mod LawLemmas
+pub mod Sorting
+pub mod LabelLemmas
+pub mod TypeLists
+pub mod PatternLists
+pub mod DeclarationLists
+pub mod ValueLists

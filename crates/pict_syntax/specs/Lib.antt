@@ -2,10 +2,13 @@ pub mod Names
 pub mod Position
 pub mod Tokens
 pub mod Comments
-pub mod Readings
+pub mod Cuts
 pub mod Laws
 pub mod Trees
 pub mod PlainTrees
 pub mod Phrases
 pub mod Grammar
 pub mod Place
+pub mod Labels
+pub mod Nesting
+pub mod Verdicts

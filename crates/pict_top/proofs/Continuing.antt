@@ -2,7 +2,7 @@
 use Rattle.std.proofs.Common.{◌≡◌, ◌≢◌, ℕ, zero, suc, ◌+◌, ◌-◌, ◌<◌, ◌≤◌, List, [], ◌∷◌, ◌++◌, refl, sym, ◌∙◌, ap, subst, append_assoc, arith}
 use Rattle.std.proofs.lemmas.List.{append-nil}
 use Rattle.pict_core.specs.Configuration.{Configuration}
-use Rattle.pict_core.specs.Step.{Label, Outcome, Steps, Traps, Wrong, Finished, next}
+use Rattle.pict_core.specs.Step.{Label, StepOutcome, Steps, Traps, Wrong, Finished, next}
 use Rattle.pict_core.specs.Run.{shown, Reaches, End, Done, FuelSpent, Trap, Misshapen, EndsAfter, RunsFrom}
 
 -- a run whose labels begin with these
@@ -22,14 +22,14 @@ goes_beyond C fuel front more beyond =
     record { end = beyond.end; rest = more ++ beyond.rest; runs = subst P (append_assoc front more beyond.rest) beyond.runs }
 
 -- the next step, where fuel is left, or the end
-step_on : (k n : ℕ) (C : Configuration) (fuel : ℕ) (ls : List (ℕ × Label)) (D : Configuration) (outcome : Outcome) → ((E : Configuration) (label : Label) → Reaches (suc n) C (ls ++ shown (suc n) label) E → RunsBeyond C fuel (ls ++ shown (suc n) label)) → n < fuel → Reaches n C ls D → next D ≡ outcome → RunsBeyond C fuel ls
+step_on : (k n : ℕ) (C : Configuration) (fuel : ℕ) (ls : List (ℕ × Label)) (D : Configuration) (outcome : StepOutcome) → ((E : Configuration) (label : Label) → Reaches (suc n) C (ls ++ shown (suc n) label) E → RunsBeyond C fuel (ls ++ shown (suc n) label)) → n < fuel → Reaches n C ls D → next D ≡ outcome → RunsBeyond C fuel ls
 step_on k n C fuel ls D (Steps E label) on left reached is = goes_beyond C fuel ls (shown (suc n) label) (on E label (D, ls, label, reached, is, refl))
 step_on k n C fuel ls D (Traps at) on left reached is = ends_here C fuel n ls D (Trap at) reached (left, is)
 step_on k n C fuel ls D Wrong on left reached is = ends_here C fuel n ls D Misshapen reached (left, is)
 step_on k n C fuel ls D Finished on left reached is = ends_here C fuel n ls D Done reached (omega arith, is)
 
 -- the end, where no fuel is left
-stop_here : (n : ℕ) (C : Configuration) (ls : List (ℕ × Label)) (D : Configuration) (fuel : ℕ) (outcome : Outcome) → n ≡ fuel → Reaches n C ls D → next D ≡ outcome → RunsBeyond C fuel ls
+stop_here : (n : ℕ) (C : Configuration) (ls : List (ℕ × Label)) (D : Configuration) (fuel : ℕ) (outcome : StepOutcome) → n ≡ fuel → Reaches n C ls D → next D ≡ outcome → RunsBeyond C fuel ls
 stop_here n C ls D fuel (Steps E label) spent reached is = ends_here C fuel n ls D FuelSpent reached (spent, λ e. let other = sym is ∙ e in cc)
 stop_here n C ls D fuel (Traps at) spent reached is = ends_here C fuel n ls D FuelSpent reached (spent, λ e. let other = sym is ∙ e in cc)
 stop_here n C ls D fuel Wrong spent reached is = ends_here C fuel n ls D FuelSpent reached (spent, λ e. let other = sym is ∙ e in cc)

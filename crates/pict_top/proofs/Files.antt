@@ -2,6 +2,7 @@
 use Rattle.std.proofs.Common.{◌≡◌, ℕ, ◌<◌, ◌≤◌, inl, inr, List, [], length, Option, Some, None, refl, arith, IfSome, replicate}
 use Rattle.std.proofs.lemmas.List.{length-replicate}
 use Rattle.std.specs.Prelude.{IsSomeAnd}
+use Rattle.pict_syntax.specs.declared.limits.TheConstants.{TEXT_LIMIT}
 use Rattle.pict_outside.specs.Texts.{Texts, text_of}
 use Rattle.pict_syntax.specs.declared.code.Code.{Code}
 use Rattle.pict_syntax.specs.declared.code.Code.TheVariants.{B1}
@@ -11,14 +12,14 @@ use Rattle.pict_core.specs.Step.{Label}
 use Rattle.pict_core.specs.Run.{End, Runs}
 use Rattle.pict_top.specs.Words.{Command, options_of, file_of}
 use Rattle.pict_top.specs.Front.{Refused, Accepted, IsFront, first_place}
-use Rattle.pict_top.specs.Answer.{Absent, Refusal, Ran, text_limit}
+use Rattle.pict_top.specs.Answer.{Absent, Refusal, Ran}
 use Rattle.pict_top.specs.Outcome.{Outcome, outcome_of}
 use Rattle.pict_top.specs.Owed.{OwesText, OwesFile}
 
-pub owes_refusal : (text : List ℕ) (command : Command) (code : Code) (span : Span) → length text ≤ text_limit → IsFront text (Refused code span) → OwesText text command (outcome_of command text (Refusal code span))
+pub owes_refusal : (text : List ℕ) (command : Command) (code : Code) (span : Span) → length text ≤ TEXT_LIMIT → IsFront text (Refused code span) → OwesText text command (outcome_of command text (Refusal code span))
 owes_refusal text command code span short stands = (Refusal code span, inr (record { short = short; front = Refused code span; stands = stands; runs = refl }), refl)
 
-pub owes_run : (text : List ℕ) (command : Command) (process : Process) (end : End) (labels : List (ℕ × Label)) → length text ≤ text_limit → IsFront text (Accepted process) → Runs process (options_of command).fuel end labels → OwesText text command (outcome_of command text (Ran end labels))
+pub owes_run : (text : List ℕ) (command : Command) (process : Process) (end : End) (labels : List (ℕ × Label)) → length text ≤ TEXT_LIMIT → IsFront text (Accepted process) → Runs process (options_of command).fuel end labels → OwesText text command (outcome_of command text (Ran end labels))
 owes_run text command process end labels short stands runs = (
   Ran end labels,
   inr (record { short = short; front = Accepted process; stands = stands; runs = (end, labels, runs, refl) }),
@@ -32,10 +33,10 @@ pub owes_absent : (held : Option Texts) (command : Command) → IfSome held (λ 
 owes_absent held command lacks = record { file = None; holds = lacks; answer = Absent; answers = refl; comes = refl }
 
 -- a refusal at the first byte is the same in each text
-long_text : (held : Option Texts) (command : Command) (file : Option (List ℕ)) (n : ℕ) → text_limit < n → IfSome held (λ texts. text_of texts (file_of command) ≡ file) → IsSomeAnd file (λ text. n ≤ length text) → OwesFile held command (outcome_of command [] (Refusal B1 first_place))
+long_text : (held : Option Texts) (command : Command) (file : Option (List ℕ)) (n : ℕ) → TEXT_LIMIT < n → IfSome held (λ texts. text_of texts (file_of command) ≡ file) → IsSomeAnd file (λ text. n ≤ length text) → OwesFile held command (outcome_of command [] (Refusal B1 first_place))
 long_text held command None n above holds long = absurd long
 long_text held command (Some text) n above holds long = record { file = Some text; holds = holds; answer = Refusal B1 first_place; answers = inl (record { long = omega arith; refused = refl }); comes = refl }
 
-pub owes_too_long : (held : Option Texts) (command : Command) (n : ℕ) → text_limit < n → IfSome held (λ texts. IsSomeAnd (text_of texts (file_of command)) (λ text. n ≤ length text)) → OwesFile held command (outcome_of command [] (Refusal B1 first_place))
+pub owes_too_long : (held : Option Texts) (command : Command) (n : ℕ) → TEXT_LIMIT < n → IfSome held (λ texts. IsSomeAnd (text_of texts (file_of command)) (λ text. n ≤ length text)) → OwesFile held command (outcome_of command [] (Refusal B1 first_place))
 owes_too_long None command n above long = long_text None command (Some (replicate n 0)) n above tt (omega (arith, length-replicate {A = ℕ} n 0))
 owes_too_long (Some texts) command n above long = long_text (Some texts) command (text_of texts (file_of command)) n above refl long

@@ -49,17 +49,6 @@ delivered Owes Faults failed out err s o owes is printed report e =
     decided Owes Faults failed out err s (subst IsDecided (sym e) is) o owes (sym e) (record { printed = printed; reported = report })
 
 -- the shelf failed, and the text about that is written
-pub fault_reported : (Owes Faults : Outcome → Type 0) (failed : Type 0) (out err : SinkChange) (s : Status) (o : Outcome) → failed → Faults o → Untouched out → Reports ReadFault o.report err s → Meets Owes Faults failed out err s
-fault_reported Owes Faults failed out err s o rose faults none reports =
-    let P : Status → Type 0 = Meets Owes Faults failed out err in
-    elim reports [
-      | inl tells ↦ elim tells [
-        | inl (e, text) ↦ subst P (sym e) (rose, (o, faults, (none, text)))
-        | inr (e, text) ↦ subst P (sym e) (inr (rose, (o, faults, (none, text))))
-      ]
-      | inr (e, kept) ↦ subst P (sym e) (kept, inl none)
-    ]
-
 pub when_decided : (Owes Faults : Outcome → Type 0) (failed : Type 0) (out err : SinkChange) (s : Status) → Meets Owes Faults failed out err s → IsDecided s → SomeOutcome Owes (λ o. (o.status ≡ s) × Delivers out err o)
 when_decided Owes Faults failed out err ReadFault m is = absurd is
 when_decided Owes Faults failed out err WriteFault m is = absurd is

@@ -1,17 +1,18 @@
 -- Words over a shelf that tells its texts come to at most one outcome.
 use Rattle.std.proofs.Common.{arith, ◌≡◌, ℕ, ◌≤◌, inl, inr, List, length, Option, Some, None, ap, sym, ◌∙◌, subst}
 use Rattle.std.proofs.lemmas.Fmt.{decimal_injective}
+use Rattle.pict_syntax.specs.declared.limits.TheConstants.{FUEL_LIMIT}
 use Rattle.pict_outside.specs.Texts.{Texts}
-use Rattle.pict_syntax.specs.Readings.{Piece}
-use Rattle.pict_syntax.proofs.LawLemmas.{one_reading, stop_excludes_reading, one_stop}
-use Rattle.pict_automaton.specs.Verdicts.{Verdict, Program, Unexpected, TooDeep, IsVerdict}
-use Rattle.pict_automaton.proofs.OneVerdict.{one-verdict}
+use Rattle.pict_syntax.specs.Cuts.{Piece}
+use Rattle.pict_syntax.proofs.LawLemmas.{one_whole_cut, stop_excludes_whole_cut, one_stop}
+use Rattle.pict_syntax.specs.Verdicts.{Verdict, Program, Unexpected, TooNested, IsVerdict}
+use Rattle.pict_automaton.proofs.OneVerdict.{one_verdict}
 use Rattle.pict_core.specs.Term.{Process}
 use Rattle.pict_core.specs.Configuration.{opening}
 use Rattle.pict_core.specs.Run.{Done, FuelSpent, Trap, Misshapen}
 use Rattle.pict_core.proofs.OneRun.{one_run}
-use Rattle.pict_derive.specs.Translation.{program_core}
-use Rattle.pict_top.specs.Words.{Command, Run, HasShape, HasNoShape, options_of, most_fuel}
+use Rattle.pict_channels.specs.Translation.{program_core}
+use Rattle.pict_top.specs.Words.{Command, Run, HasShape, HasNoShape, options_of}
 use Rattle.pict_top.specs.Front.{Front, Refused, Accepted, IsFront, IsTranslated, IsJudged, names_in, tokens_in}
 use Rattle.pict_top.specs.Answer.{Answer, Absent, Refusal, Ran, IsAnswer, IsRun}
 use Rattle.pict_top.specs.Outcome.{Outcome, outcome_of, text_in}
@@ -20,7 +21,7 @@ use Rattle.pict_top.specs.declared.status.Status.TheVariants as status
 
 -- ---- commands
 
-pub within_fuel : (words : List (List ℕ)) (command : Command) → HasShape words command → (options_of command).fuel ≤ most_fuel
+pub within_fuel : (words : List (List ℕ)) (command : Command) → HasShape words command → (options_of command).fuel ≤ FUEL_LIMIT
 within_fuel words (Run o) (inl s) = let e = s.fuel in omega arith
 within_fuel words (Run o) (inr s) = s.fuel
 
@@ -52,21 +53,21 @@ one_translated (Some process) f g (inr a) (inr b) = a.1 ∙ sym b.1
 one_judged : (names : List (List ℕ)) (v : Verdict) (f g : Front) → IsJudged names v f → IsJudged names v g → f ≡ g
 one_judged names (Program p) f g a b = one_translated (program_core names p) f g a b
 one_judged names (Unexpected span) f g a b = a ∙ sym b
-one_judged names (TooDeep span) f g a b = a ∙ sym b
+one_judged names (TooNested span) f g a b = a ∙ sym b
 
 one_read : (text : List ℕ) (pieces : List Piece) (v w : Verdict) (f g : Front) → IsVerdict (tokens_in pieces) (length text) v → IsVerdict (tokens_in pieces) (length text) w → IsJudged (names_in pieces) v f → IsJudged (names_in pieces) w g → f ≡ g
 one_read text pieces v w f g a b x y =
     let P : Verdict → Type 0 = λ u. IsJudged (names_in pieces) u f in
-    one_judged (names_in pieces) w f g (subst P (one-verdict (tokens_in pieces) (length text) v w a b) x) y
+    one_judged (names_in pieces) w f g (subst P (one_verdict (tokens_in pieces) (length text) v w a b) x) y
 
 one_front : (text : List ℕ) (f g : Front) → IsFront text f → IsFront text g → f ≡ g
 one_front text f g (inl a) (inl b) =
     let same = one_stop 1 text a.code b.code a.span b.span a.stop b.stop in
     a.refused ∙ ap (λ c. Refused c a.span) same.0 ∙ ap (Refused b.code) same.1 ∙ sym b.refused
-one_front text f g (inl a) (inr b) = absurd (stop_excludes_reading 1 text a.code a.span b.pieces a.stop b.reading)
-one_front text f g (inr a) (inl b) = absurd (stop_excludes_reading 1 text b.code b.span a.pieces b.stop a.reading)
+one_front text f g (inl a) (inr b) = absurd (stop_excludes_whole_cut 1 text a.code a.span b.pieces a.stop b.reading)
+one_front text f g (inr a) (inl b) = absurd (stop_excludes_whole_cut 1 text b.code b.span a.pieces b.stop a.reading)
 one_front text f g (inr a) (inr b) =
-    let same = one_reading text a.pieces b.pieces a.reading b.reading in
+    let same = one_whole_cut text a.pieces b.pieces a.reading b.reading in
     let P : List Piece → Type 0 = λ pieces. IsVerdict (tokens_in pieces) (length text) a.verdict × IsJudged (names_in pieces) a.verdict f in
     let moved = subst P same (a.given, a.judged) in
     one_read text b.pieces a.verdict b.verdict f g moved.0 b.given moved.1 b.judged

@@ -4,19 +4,20 @@ use Rattle.std.specs.Fmt.{decimal}
 use Rattle.std.specs.Str.Parse.{digits_value}
 use Rattle.std.proofs.lemmas.Bool.{cases_lt}
 use Rattle.std.proofs.lemmas.Fmt.{decimal_is_IsNumeral}
+use Rattle.pict_syntax.specs.declared.limits.TheConstants.{DEPTH_LIMIT, FUEL_LIMIT, TEXT_LIMIT}
 use Rattle.pict_outside.specs.Texts.{Texts, text_of}
 use Rattle.pict_syntax.specs.declared.code.Code.TheVariants.{B1, P1, P2, N1, C1}
-use Rattle.pict_syntax.specs.Readings.{Piece, IsReading}
-use Rattle.pict_automaton.specs.Verdicts.{Verdict, Program, Unexpected, TooDeep}
+use Rattle.pict_syntax.specs.Cuts.{Piece, IsWholeCut}
+use Rattle.pict_syntax.specs.Verdicts.{Verdict, Program, Unexpected, TooNested}
 use Rattle.pict_total.proofs.Choices.{same_or_not, same_text_or_not}
 use Rattle.pict_total.proofs.Judged.{some_verdict}
-use Rattle.pict_total.proofs.Readings.{some_reading}
+use Rattle.pict_total.proofs.Cuts.{some_whole_cut}
 use Rattle.pict_core.specs.Term.{Process, depth_of}
 use Rattle.pict_core.specs.Configuration.{opening}
-use Rattle.pict_derive.specs.Translation.{program_core}
-use Rattle.pict_top.specs.Words.{Command, Run, HasShape, HasNoShape, IsFileWord, options_of, file_of, default_fuel, most_fuel}
-use Rattle.pict_top.specs.Front.{Front, Refused, Accepted, IsFront, IsTranslated, IsJudged, names_in, tokens_in, first_place, depth_limit}
-use Rattle.pict_top.specs.Answer.{Answer, Absent, Refusal, Ran, IsAnswer, IsRun, text_limit}
+use Rattle.pict_channels.specs.Translation.{program_core}
+use Rattle.pict_top.specs.Words.{Command, Run, HasShape, HasNoShape, IsFileWord, options_of, file_of, default_fuel}
+use Rattle.pict_top.specs.Front.{Front, Refused, Accepted, IsFront, IsTranslated, IsJudged, names_in, tokens_in, first_place}
+use Rattle.pict_top.specs.Answer.{Answer, Absent, Refusal, Ran, IsAnswer, IsRun}
 use Rattle.pict_top.specs.Outcome.{Outcome, outcome_of, text_in, usage_outcome}
 use Rattle.pict_top.specs.Owed.{OwesFile, OwesWords, OneOutcome}
 use Rattle.pict_top.proofs.Continuing.{continues_from}
@@ -33,15 +34,15 @@ file_word_or_not (x ∷ xs) = elim (same_or_not x 45) [
 
 -- the word writes a fuel
 abbrev Writes : List ℕ → Type 0
-Writes word = (fuel : ℕ) × (fuel ≤ most_fuel) × (word ≡ decimal fuel)
+Writes word = (fuel : ℕ) × (fuel ≤ FUEL_LIMIT) × (word ≡ decimal fuel)
 
 value_written : (word : List ℕ) (w : Writes word) → digits_value 10 word ≡ w.0
-value_written word w = let few : w.0 ≤ most_fuel = w.1 in ap (digits_value 10) w.2 ∙ (decimal_is_IsNumeral w.0 (omega arith)).1
+value_written word w = let few : w.0 ≤ FUEL_LIMIT = w.1 in ap (digits_value 10) w.2 ∙ (decimal_is_IsNumeral w.0 (omega arith)).1
 
 fuel_or_not : (word : List ℕ) → Writes word ⊎ ¬ Writes word
 fuel_or_not word = elim (same_text_or_not word (decimal (digits_value 10 word))) [
-  | inl e ↦ elim (cases_lt most_fuel (digits_value 10 word)) [
-    | inl big ↦ inr (λ w. let few : w.0 ≤ most_fuel = w.1 in let same = value_written word w in omega arith)
+  | inl e ↦ elim (cases_lt FUEL_LIMIT (digits_value 10 word)) [
+    | inl big ↦ inr (λ w. let few : w.0 ≤ FUEL_LIMIT = w.1 in let same = value_written word w in omega arith)
     | inr fits ↦ inl (digits_value 10 word, fits, e)
   ]
   | inr other ↦ inr (λ w. other (w.2 ∙ ap decimal (sym (value_written word w))))
@@ -98,7 +99,7 @@ command_or_not (a ∷ b ∷ c ∷ d ∷ e ∷ f ∷ more) = inr (other_length (a
 
 translated : (process : Option Process) → (f : Front) × IsTranslated process f
 translated None = (Refused N1 first_place, refl)
-translated (Some process) = elim (cases_lt depth_limit (depth_of process)) [
+translated (Some process) = elim (cases_lt DEPTH_LIMIT (depth_of process)) [
   | inl deep ↦ (Refused C1 first_place, inl (deep, refl))
   | inr fits ↦ (Accepted process, inr (fits, refl))
 ]
@@ -106,16 +107,16 @@ translated (Some process) = elim (cases_lt depth_limit (depth_of process)) [
 judged : (names : List (List ℕ)) (v : Verdict) → (f : Front) × IsJudged names v f
 judged names (Program p) = translated (program_core names p)
 judged names (Unexpected span) = (Refused P1 span, refl)
-judged names (TooDeep span) = (Refused P2 span, refl)
+judged names (TooNested span) = (Refused P2 span, refl)
 
-front_read : (text : List ℕ) (pieces : List Piece) → IsReading text pieces → (f : Front) × IsFront text f
+front_read : (text : List ℕ) (pieces : List Piece) → IsWholeCut text pieces → (f : Front) × IsFront text f
 front_read text pieces reading =
     let v = some_verdict (tokens_in pieces) (length text) in
     let f = judged (names_in pieces) v.0 in
     (f.0, inr (record { pieces = pieces; reading = reading; verdict = v.0; given = v.1; judged = f.1 }))
 
 some_front : (text : List ℕ) → (f : Front) × IsFront text f
-some_front text = elim (some_reading 1 text) [
+some_front text = elim (some_whole_cut 1 text) [
   | inl r ↦ front_read text r.0 r.1
   | inr s ↦ (Refused s.0 s.1, inl (record { code = s.0; span = s.1; stop = s.2; refused = refl }))
 ]
@@ -130,7 +131,7 @@ some_ran fuel (Accepted process) =
 
 some_answer : (fuel : ℕ) (file : Option (List ℕ)) → (a : Answer) × IsAnswer fuel file a
 some_answer fuel None = (Absent, refl)
-some_answer fuel (Some text) = elim (cases_lt text_limit (length text)) [
+some_answer fuel (Some text) = elim (cases_lt TEXT_LIMIT (length text)) [
   | inl long ↦ (Refusal B1 first_place, inl (record { long = long; refused = refl }))
   | inr short ↦
       let f = some_front text in

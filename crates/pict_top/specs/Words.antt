@@ -1,6 +1,7 @@
 -- The words after the program's name: their shapes, and the command that each shape stands for.
 use Rattle.std.specs.Prelude.{◌≡◌, ◌≢◌, ◌⊎◌, ℕ, ◌≤◌, Bool, true, List, [], ◌∷◌, slice_index, codes}
 use Rattle.std.specs.Fmt.{decimal}
+use Rattle.pict_syntax.specs.declared.limits.TheConstants.{FUEL_LIMIT}
 
 -- how a command takes its text: alone or after the prelude, for up to so many steps, and from which file
 pub record Options : Type 0 where
@@ -21,10 +22,6 @@ pub record IsFileWord (word : List ℕ) : Type 0 where
   pub not_empty : word ≢ []
   pub no_dash : slice_index word 0 ≢ 45
 
--- the greatest fuel
-abbrev pub most_fuel : ℕ
-most_fuel = 1000000000
-
 -- `run --bare FILE`
 pub record IsBareRun (words : List (List ℕ)) (options : Options) : Type 0 where
   pub shape : words ≡ codes "run" ∷ codes "--bare" ∷ options.file ∷ []
@@ -36,7 +33,7 @@ pub record IsBareRun (words : List (List ℕ)) (options : Options) : Type 0 wher
 pub record IsBareFueledRun (words : List (List ℕ)) (options : Options) : Type 0 where
   pub shape : words ≡ codes "run" ∷ codes "--bare" ∷ codes "--fuel" ∷ decimal options.fuel ∷ options.file ∷ []
   pub bare : options.bare ≡ true
-  pub fuel : options.fuel ≤ most_fuel
+  pub fuel : options.fuel ≤ FUEL_LIMIT
   pub file : IsFileWord options.file
 
 -- the words have the shape of this command

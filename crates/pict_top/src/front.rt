@@ -1,17 +1,17 @@
 // The phases before the run: tokens, grammar, translation.
 ghost use Rattle.std.specs.Prelude.{◌≡◌, ◌≤◌, IfOk, IfSome, length};
 ghost use Rattle.pict_core.specs.Plain.{plain_core};
-ghost use Rattle.pict_core.specs.Scope.{IsClosed};
-ghost use Rattle.pict_derive.specs.Translation.{program_core};
+ghost use Rattle.pict_core.specs.Closed.{IsClosed};
+ghost use Rattle.pict_channels.specs.Translation.{program_core};
 ghost use Rattle.pict_syntax.specs.PlainTrees.{program_of};
 ghost use Rattle.pict_top.specs.Front.{IsFront, IsTranslated};
 ghost use Rattle.pict_top.specs.Phases.{front_of, stop_of};
 
+use pict_channels::{DeriveError, derive};
 use pict_core::Core;
-use pict_derive::{DeriveError, derive};
 use pict_lex::{LexError, lex};
 use pict_parse::{ParseError, parse};
-use pict_syntax::{Code, Names, Program, Span};
+use pict_syntax::{Code, Names, Program, Span, TEXT_LIMIT};
 use std::alloc::Global;
 
 /// The number of the text of the file, in places.
@@ -35,7 +35,7 @@ pub enum Stop {
 
 /// The core process of a program text, or the first place where a phase refuses the text.
 pub fn process_of(alloc: Global, text: &[u8]) -> Result<Core, Stop>
-    requires short { length text.now ≤ 1048576 }
+    requires short { length text.now ≤ TEXT_LIMIT }
     ensures stands { IfSome (front_of result) (IsFront text.now) }
     ensures closed { IfOk result (λ core. IsClosed (plain_core core)) }
 {

@@ -4,9 +4,9 @@ ghost use Rattle.pict_outside.specs.Counts.{Rose};
 ghost use Rattle.pict_core.specs.Configuration.{Configuration, IsConfiguration};
 ghost use Rattle.pict_core.specs.Run.{Misshapen};
 ghost use Rattle.pict_core.specs.Plain.{plain_core};
-ghost use Rattle.pict_core.specs.Scope.{IsClosed};
+ghost use Rattle.pict_core.specs.Closed.{IsClosed};
 ghost use Rattle.pict_machine.specs.View.{StandsFor};
-ghost use Rattle.pict_machine.specs.Reading.{view_of, channels_of};
+ghost use Rattle.pict_machine.specs.Plain.{view_of, channels_of};
 ghost use Rattle.pict_machine.specs.Watching as watching;
 ghost use Rattle.pict_machine.specs.Watching.{Ran, BrokeOff, Saw, SawOrTore};
 ghost use Rattle.pict_top.specs.Changes.{change_of, GainedFront, FailedWithin};
@@ -16,7 +16,7 @@ use crate::printer::Printer;
 use pict_core::Core;
 use pict_machine::{End, Machine, RunError};
 use pict_outside::Sink;
-use pict_syntax::Span;
+use pict_syntax::{FUEL_LIMIT, Span};
 use std::alloc::{AllocError, Global};
 
 /// How a run ends.
@@ -45,7 +45,7 @@ pub enum Broken {
 /// written; `Sink` comes only where the sink's count of faults rose.
 pub fn run_core<O: Sink>(alloc: Global, core: Core, fuel: u64, out: &mut O) -> Result<Ended, Broken>
     requires closed { IsClosed (plain_core core) }
-    requires fuel { fuel ≤ 1000000000 }
+    requires fuel { fuel ≤ FUEL_LIMIT }
     ensures ran { IfOk result (λ ended. HasRun (plain_core core) fuel (end_of ended) (change_of O.taken O.faults out.old out.new)) }
     ensures sink { result ≡ Err Broken.Sink → SomeRun (plain_core core) fuel (FailedWithin (change_of O.taken O.faults out.old out.new)) }
     ensures memory { result ≡ Err Broken.Memory → SomeRun (plain_core core) fuel (GainedFront (change_of O.taken O.faults out.old out.new)) }
@@ -65,7 +65,7 @@ pub fn run_core<O: Sink>(alloc: Global, core: Core, fuel: u64, out: &mut O) -> R
 
 /// Runs a machine, and writes what it prints.
 fn run_on<O: Sink>(machine: &mut Machine, fuel: u64, out: &mut O) -> Result<End, RunError>
-    requires fuel { fuel ≤ 1000000000 }
+    requires fuel { fuel ≤ FUEL_LIMIT }
     requires few { channels_of machine.old + fuel < 2 ^ 32 }
     ensures end { IfOk result (λ end. (C : Configuration) → IsConfiguration C → StandsFor (view_of machine.old) C
         → Ran C fuel (watching.end_of end) (view_of machine.new) (Saw written_after (O.taken out.old) (O.taken out.new))) }

@@ -10,7 +10,7 @@ ghost use Rattle.pict_top.specs.Plain.{plain_command, texts_of};
 ghost use Rattle.pict_top.specs.Printed.{end_of};
 ghost use Rattle.pict_syntax.specs.Position.{line_of, column_of};
 ghost use Rattle.pict_top.specs.Reports.{line, refusal_report, trap_report, usage_report};
-ghost use Rattle.pict_top.specs.Words.{HasNoShape, file_of, most_fuel, options_of};
+ghost use Rattle.pict_top.specs.Words.{HasNoShape, file_of, options_of};
 
 use crate::front::{Stop, process_of};
 use crate::report;
@@ -18,11 +18,8 @@ use crate::run::{Broken, Ended, run_core};
 use crate::status::Status;
 use crate::words::{Command, Usage, words_of};
 use pict_outside::{Fetched, Shelf, ShelfError, Sink, SinkFailed};
-use pict_syntax::{Code, line_col};
+use pict_syntax::{Code, FUEL_LIMIT, TEXT_LIMIT, line_col};
 use std::alloc::{AllocError, Global};
-
-/// The greatest number of bytes of a text.
-const TEXT_LIMIT: u64 = 1_048_576;
 
 /// Does what the words ask for, and answers how it ended.
 ///
@@ -51,11 +48,13 @@ pub fn pict<S: Shelf, O: Sink, E: Sink>(
 
     // The shelf failed, and that was reported.
     ensures read_fault { let out = change_of O.taken O.faults out.old out.new in let err = change_of E.taken E.faults err.old err.new in
-        result ≡ Status.ReadFault → Rose (S.faults shelf.old) (S.faults shelf.new) × SomeOutcome (FaultsWords (texts_of words.now)) (λ o. Untouched out × Gained err o.report) }
+        result ≡ Status.ReadFault → Rose (S.faults shelf.old) (S.faults shelf.new)
+        × SomeOutcome (FaultsWords (texts_of words.now)) (λ o. Untouched out × Gained err o.report) }
 
     // Memory ran out: a beginning of what the program prints was written, and nothing was reported.
     ensures memory { let out = change_of O.taken O.faults out.old out.new in let err = change_of E.taken E.faults err.old err.new in
-        result ≡ Status.Memory → Untouched err × (Untouched out ⊎ SomeOutcome (OwesWords (texts_of words.now) (S.held shelf.old)) (λ o. GainedFront out o.printed)) }
+        result ≡ Status.Memory → Untouched err
+        × (Untouched out ⊎ SomeOutcome (OwesWords (texts_of words.now) (S.held shelf.old)) (λ o. GainedFront out o.printed)) }
 
     // Whatever the status, `out` has gained a beginning of what the program prints.
     ensures printed { let out = change_of O.taken O.faults out.old out.new in
@@ -67,7 +66,8 @@ pub fn pict<S: Shelf, O: Sink, E: Sink>(
     ensures usage_only { result ≡ Status.Usage → HasNoShape (texts_of words.now) }
 
     ensures held { S.held shelf.new ≡ S.held shelf.old }
-    ensures counts { (S.faults shelf.old ≤ S.faults shelf.new) × (S.misses shelf.old ≤ S.misses shelf.new) × (O.faults out.old ≤ O.faults out.new) × (E.faults err.old ≤ E.faults err.new) }
+    ensures counts { (S.faults shelf.old ≤ S.faults shelf.new) × (S.misses shelf.old ≤ S.misses shelf.new)
+        × (O.faults out.old ≤ O.faults out.new) × (E.faults err.old ≤ E.faults err.new) }
 {
     run_words(alloc, words, shelf, out, err)
 }
@@ -85,13 +85,14 @@ fn run_words<S: Shelf, O: Sink, E: Sink>(
     out: &mut O,
     err: &mut E,
 ) -> Status
-    ensures meets { Meets (OwesWords (texts_of words.now) (S.held shelf.old)) (FaultsWords (texts_of words.now)) (Rose (S.faults shelf.old) (S.faults shelf.new))
-        (change_of O.taken O.faults out.old out.new) (change_of E.taken E.faults err.old err.new) result }
+    ensures meets { Meets (OwesWords (texts_of words.now) (S.held shelf.old)) (FaultsWords (texts_of words.now))
+        (Rose (S.faults shelf.old) (S.faults shelf.new)) (change_of O.taken O.faults out.old out.new) (change_of E.taken E.faults err.old err.new) result }
     ensures usage { HasNoShape (texts_of words.now) → Untouched (change_of O.taken O.faults out.old out.new)
         × Tells Status.Usage usage_report (change_of E.taken E.faults err.old err.new) result }
     ensures missing { result ≡ Status.Missing → Rose (S.misses shelf.old) (S.misses shelf.new) }
     ensures held { S.held shelf.new ≡ S.held shelf.old }
-    ensures counts { (S.faults shelf.old ≤ S.faults shelf.new) × (S.misses shelf.old ≤ S.misses shelf.new) × (O.faults out.old ≤ O.faults out.new) × (E.faults err.old ≤ E.faults err.new) }
+    ensures counts { (S.faults shelf.old ≤ S.faults shelf.new) × (S.misses shelf.old ≤ S.misses shelf.new)
+        × (O.faults out.old ≤ O.faults out.new) × (E.faults err.old ≤ E.faults err.new) }
 {
     match words_of(words) {
         Err(Usage) => tell(report::USAGE, Status::Usage, err),
@@ -107,12 +108,13 @@ fn run_file<S: Shelf, O: Sink, E: Sink>(
     out: &mut O,
     err: &mut E,
 ) -> Status
-    requires fuel { (options_of (plain_command command)).fuel ≤ most_fuel }
-    ensures meets { Meets (OwesFile (S.held shelf.old) (plain_command command.entry)) (λ o. o ≡ read_fault (plain_command command.entry)) (Rose (S.faults shelf.old) (S.faults shelf.new))
-        (change_of O.taken O.faults out.old out.new) (change_of E.taken E.faults err.old err.new) result }
+    requires fuel { (options_of (plain_command command)).fuel ≤ FUEL_LIMIT }
+    ensures meets { Meets (OwesFile (S.held shelf.old) (plain_command command.entry)) (λ o. o ≡ read_fault (plain_command command.entry))
+        (Rose (S.faults shelf.old) (S.faults shelf.new)) (change_of O.taken O.faults out.old out.new) (change_of E.taken E.faults err.old err.new) result }
     ensures missing { result ≡ Status.Missing → Rose (S.misses shelf.old) (S.misses shelf.new) }
     ensures held { S.held shelf.new ≡ S.held shelf.old }
-    ensures counts { (S.faults shelf.old ≤ S.faults shelf.new) × (S.misses shelf.old ≤ S.misses shelf.new) × (O.faults out.old ≤ O.faults out.new) × (E.faults err.old ≤ E.faults err.new) }
+    ensures counts { (S.faults shelf.old ≤ S.faults shelf.new) × (S.misses shelf.old ≤ S.misses shelf.new)
+        × (O.faults out.old ≤ O.faults out.new) × (E.faults err.old ≤ E.faults err.new) }
 {
     match shelf.fetch(alloc, command.file(), TEXT_LIMIT) {
         Ok(Fetched::Text(text)) => run_text(alloc, command, &text, out, err),
@@ -137,8 +139,8 @@ fn run_text<O: Sink, E: Sink>(
     out: &mut O,
     err: &mut E,
 ) -> Status
-    requires short { length text.now ≤ 1048576 }
-    requires fuel { (options_of (plain_command command)).fuel ≤ most_fuel }
+    requires short { length text.now ≤ TEXT_LIMIT }
+    requires fuel { (options_of (plain_command command)).fuel ≤ FUEL_LIMIT }
     ensures meets { Meets (OwesText text.now (plain_command command.entry)) (λ o. ⊥) ⊥
         (change_of O.taken O.faults out.old out.new) (change_of E.taken E.faults err.old err.new) result }
     ensures faults_stay { O.faults out.old ≤ O.faults out.new }
@@ -163,7 +165,7 @@ fn report_end<E: Sink>(
     ended: Ended,
     err: &mut E,
 ) -> Status
-    requires short { length text.now ≤ 1048576 }
+    requires short { length text.now ≤ TEXT_LIMIT }
     ensures text { EndReports (file_of (plain_command command.entry)) text.now (end_of ended) (change_of E.taken E.faults err.old err.new) result }
     ensures faults_stay { E.faults err.old ≤ E.faults err.new }
 {
@@ -189,8 +191,9 @@ fn report_trap<E: Sink>(
     at: u32,
     err: &mut E,
 ) -> Status
-    requires short { length text.now ≤ 1048576 }
-    ensures text { Reports Status.Trap (trap_report (file_of (plain_command command.entry)) (line_of text.now at) (column_of text.now at)) (change_of E.taken E.faults err.old err.new) result }
+    requires short { length text.now ≤ TEXT_LIMIT }
+    ensures text { Reports Status.Trap (trap_report (file_of (plain_command command.entry)) (line_of text.now at) (column_of text.now at))
+        (change_of E.taken E.faults err.old err.new) result }
     ensures faults_stay { E.faults err.old ≤ E.faults err.new }
 {
     let (row, column) = position(text, at);
@@ -202,7 +205,7 @@ fn report_trap<E: Sink>(
 
 /// The line and the column of a byte of a text. Behind its end they are those of the end.
 fn position(text: &[u8], at: u32) -> (u32, u32)
-    requires short { length text.now ≤ 1048576 }
+    requires short { length text.now ≤ TEXT_LIMIT }
     ensures { result ≡ (line_of text.now at, column_of text.now at) }
 {
     line_col(text, at.min(text.len() as u32))
@@ -217,8 +220,9 @@ fn refuse<E: Sink>(
     code: Code,
     err: &mut E,
 ) -> Status
-    requires short { length text.now ≤ 1048576 }
-    ensures text { Reports Status.Refused (refusal_report (file_of (plain_command command.entry)) (line_of text.now at) (column_of text.now at) code) (change_of E.taken E.faults err.old err.new) result }
+    requires short { length text.now ≤ TEXT_LIMIT }
+    ensures text { Reports Status.Refused (refusal_report (file_of (plain_command command.entry)) (line_of text.now at) (column_of text.now at) code)
+        (change_of E.taken E.faults err.old err.new) result }
     ensures faults_stay { E.faults err.old ≤ E.faults err.new }
 {
     let (row, column) = position(text, at);

@@ -1,10 +1,11 @@
 // The words after the program's name.
 ghost use Rattle.std.specs.Prelude.{◌≡◌, ◌≢◌, ◌↔◌, ◌≤◌, ℕ, [], ◌∷◌, IfOk, IfSome, OnErr, IsTrue, None};
 ghost use Rattle.std.specs.Fmt.{decimal};
-ghost use Rattle.pict_top.specs.Words.{HasShape, HasNoShape, IsFileWord, most_fuel};
+ghost use Rattle.pict_top.specs.Words.{HasShape, HasNoShape, IsFileWord};
 ghost use Rattle.pict_top.specs.Plain.{texts_of, plain_command};
 
 use itoa::Buffer;
+use pict_syntax::FUEL_LIMIT;
 
 /// How a command takes its text.
 #[derive(Clone, Copy, Debug)]
@@ -30,9 +31,6 @@ pub struct Usage;
 
 /// The fuel of a run without `--fuel`.
 const DEFAULT_FUEL: u64 = 1_000_000;
-
-/// The greatest fuel.
-const MOST_FUEL: u64 = 1_000_000_000;
 
 /// The command that the words ask for. The error comes exactly where they have no listed shape. Takes no memory.
 pub fn words_of<'a>(words: &[&'a str]) -> Result<Command<'a>, Usage>
@@ -89,13 +87,13 @@ fn fueled_run<'a>(
 
 /// The fuel that a word writes, in decimal, without a sign and without a leading zero, up to the greatest fuel.
 fn fuel_of(word: &str) -> Option<u64>
-    ensures some { IfSome result (λ fuel. (word.now ≡ decimal fuel) × (fuel ≤ most_fuel)) }
-    ensures none { result ≡ None → (fuel : ℕ) → fuel ≤ most_fuel → word.now ≢ decimal fuel }
+    ensures some { IfSome result (λ fuel. (word.now ≡ decimal fuel) × (fuel ≤ FUEL_LIMIT)) }
+    ensures none { result ≡ None → (fuel : ℕ) → fuel ≤ FUEL_LIMIT → word.now ≢ decimal fuel }
 {
     match word.parse::<u64>() {
         Err(_) => None,
         Ok(fuel) => {
-            if fuel > MOST_FUEL || Buffer::new().format(fuel) != word {
+            if fuel > FUEL_LIMIT || Buffer::new().format(fuel) != word {
                 return None;
             }
             Some(fuel)

@@ -3,4 +3,4 @@ pub mod Choices
 pub mod Words
 pub mod Marks
 pub mod Literals
-pub mod Readings
+pub mod Cuts

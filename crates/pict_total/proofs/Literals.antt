@@ -9,9 +9,9 @@ use Rattle.std.proofs.lemmas.List.{length-append}
 use Rattle.pict_syntax.specs.declared.code.Code.TheVariants.{L1, L2, L3}
 use Rattle.pict_syntax.specs.Tokens.{character, string, Item, plain, newline, tab, backslash, double_quote, single_quote, hexadecimal, item_bytes, item_value, IsItem, AreItems, items_bytes, IsPrintable}
 use Rattle.pict_syntax.specs.Comments.{BeginsWith}
-use Rattle.pict_syntax.specs.Readings.{IsInLiteral, IsBadByte, IsCutOff, IsBadEscape}
+use Rattle.pict_syntax.specs.Cuts.{IsInLiteral, IsBadByte, IsCutOff, IsBadEscape}
 use Rattle.pict_syntax.proofs.LiteralLemmas.{printable_tested}
-use Rattle.pict_syntax.proofs.ReadingLemmas.{stop}
+use Rattle.pict_syntax.proofs.CutLemmas.{stop}
 use Rattle.pict_lex.proofs.DueLemmas.{item_at}
 use Rattle.pict_lex.proofs.QuotedLemmas.{character_token, HasItems, string_token}
 use Rattle.pict_total.proofs.Choices.{same_or_not}

@@ -8,10 +8,10 @@ use Rattle.pict_syntax.specs.declared.token.Sign.{Sign}
 use Rattle.pict_syntax.specs.declared.token.Sign.TheVariants.{Bang, Question, QuestionStar, Equals, Bar, OpenParen, CloseParen, OpenBracket, CloseBracket, Colon, Semicolon, Less, Greater, Backslash, Caret, Slash, Hash, Underscore, Arrow}
 use Rattle.pict_syntax.specs.Tokens.{Form, identifier, symbol, keyword, number, character, string, sign, symbol_text, sign_text, Spells}
 use Rattle.pict_syntax.specs.Comments.{BeginsWith, opening}
-use Rattle.pict_syntax.specs.Readings.{token, IsLongest, IsWithinRange, IsBlank}
+use Rattle.pict_syntax.specs.Cuts.{token, IsLongest, IsWithinRange, IsBlank}
 use Rattle.pict_syntax.proofs.FormLemmas.{family, family_of, other, none, family_spelled, first_byte, never_empty, never_none}
 use Rattle.pict_syntax.proofs.ItemLemmas.{different}
-use Rattle.pict_syntax.proofs.ReadingLemmas.{piece, stop}
+use Rattle.pict_syntax.proofs.CutLemmas.{piece, stop}
 use Rattle.pict_total.proofs.Choices.{same_or_not, find, one_or_none}
 use Rattle.pict_total.proofs.Words.{HasOutcome}
 

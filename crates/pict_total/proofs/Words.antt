@@ -12,8 +12,8 @@ use Rattle.pict_syntax.specs.declared.code.Code.TheVariants.{L4}
 use Rattle.pict_syntax.specs.declared.token.Keyword.{Keyword}
 use Rattle.pict_syntax.specs.declared.token.Keyword.TheVariants.{And, Def, Else, False, If, Import, New, Rec, Run, Then, True, TypeDefinition, Val, BoolType, CharType, IntType, StringType, TopType, TypeKind}
 use Rattle.pict_syntax.specs.Tokens.{Form, identifier, keyword, number, is_word_byte, IsWord, keyword_text, IsNumber, IsWithin64Bits}
-use Rattle.pict_syntax.specs.Readings.{token}
-use Rattle.pict_syntax.proofs.ReadingLemmas.{Outcome, piece, stop, IsOutcome}
+use Rattle.pict_syntax.specs.Cuts.{token}
+use Rattle.pict_syntax.proofs.CutLemmas.{Outcome, piece, stop, IsOutcome}
 use Rattle.pict_lex.specs.Number.{BeginsNumber}
 use Rattle.pict_lex.specs.Scan.{IsToken}
 use Rattle.pict_lex.proofs.RunLemmas.{word_taken}

@@ -3,12 +3,12 @@ use Rattle.std.specs.Prelude.{◌⊎◌, ℕ, List}
 use Rattle.pict_syntax.specs.declared.code.Code.{Code}
 use Rattle.pict_syntax.specs.declared.span.Span.{Span}
 use Rattle.pict_syntax.specs.declared.token.Token.{Token}
-use Rattle.pict_syntax.specs.Readings.{Piece, IsReading, IsLexStop}
-use Rattle.pict_automaton.specs.Verdicts.{Verdict, IsVerdict}
+use Rattle.pict_syntax.specs.Cuts.{Piece, IsWholeCut, IsLexStop}
+use Rattle.pict_syntax.specs.Verdicts.{Verdict, IsVerdict}
 
--- every text has a reading, or reading it stops
-abbrev pub SomeReading : Type 0
-SomeReading = (text : ℕ) (bytes : List ℕ) → ((pieces : List Piece) × IsReading bytes pieces) ⊎ ((code : Code) × (span : Span) × IsLexStop text bytes code span)
+-- every text has a whole cut, or reading it stops
+abbrev pub SomeWholeCut : Type 0
+SomeWholeCut = (text : ℕ) (bytes : List ℕ) → ((pieces : List Piece) × IsWholeCut bytes pieces) ⊎ ((code : Code) × (span : Span) × IsLexStop text bytes code span)
 
 -- every list of tokens has a verdict
 abbrev pub SomeVerdict : Type 0

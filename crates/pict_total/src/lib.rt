@@ -1,11 +1,11 @@
-//! Every text has a reading or a stop, and every list of tokens has a verdict.
+//! Every text has a whole cut or a stop, and every list of tokens has a verdict.
 #![tactic(auto)]
 
-ghost use Rattle.pict_total.specs.Laws.{SomeReading, SomeVerdict};
+ghost use Rattle.pict_total.specs.Laws.{SomeWholeCut, SomeVerdict};
 
-/// Every text has a reading, or reading it stops. By the laws of readings none has both, and none two of either.
-pub fn law_some_reading()
-    ensures { SomeReading }
+/// Every text has a whole cut, or reading it stops. By the laws of cuts none has both, and none two of either.
+pub fn law_some_whole_cut()
+    ensures { SomeWholeCut }
 {}
 
 /// Every list of tokens has a verdict: its program, its first unexpected token, the end, or the first token that is

@@ -1,9 +1,9 @@
 -- Renaming, filling and replacing keep types well formed.
 use Rattle.std.proofs.Common.{◌≡◌, ℕ, zero, suc, List, [], ◌∷◌, Option, Some, None, refl, sym, ◌∙◌, ap, subst}
-use Rattle.pict_types.specs.Types.{PlainType, Top, Int, Char, Str, Boolean, Var, Apply, Chan, Fields, Rec, PlainTypes, no_type, types, PlainLabels, no_label, labels, PlainBound, Free, Below, Operator, PlainBounds, no_bound, bounds, PlainArg, Plain, Op, count_types}
+use Rattle.pict_types.specs.Types.{PlainType, Top, Int, Char, Str, Boolean, Var, Apply, Chan, Fields, Rec, PlainTypes, no_type, types, PlainLabels, no_label, labels, PlainBound, Free, Below, Operator, PlainBounds, no_bound, bounds, PlainArg, Plain, Op, count_types, is_top}
 use Rattle.pict_types.specs.Renaming.{beyond, beyond_all, beyond_times, rename, rename_types, rename_labels, rename_bounds, rename_bound}
 use Rattle.pict_types.specs.Replacing.{bound_by, Filling, next_variable, apply_variable, filling_beyond, filling_beyond_all, fill, fill_types, fill_labels, fill_bounds, fill_bound, with_type, with_types, no_filling, Head, variable, operator, nothing, apply_head, rename_head, Replacement, replacement_beyond, replacement_beyond_all, replace, replace_types, replace_labels, replace_bounds, replace_bound, type_in, head_in, with_arg, with_args, arguments, unfolding_of, instance_of, IsOfKind, FitTheirFields}
-use Rattle.pict_types.specs.Fitting.{IsHead, ReplacesKinds}
+use Rattle.pict_types.specs.Fitting.{StandsForOperator, ReplacesKinds}
 use Rattle.pict_types.specs.Kinds.{Kind, proper, operator_of, kind_by, kinds_under, kind_at, with_parameters, StandsBeforeAll, IsWellFormed, AreWellFormed, LabelsAreWellFormed, BoundsAreWellFormed, BoundIsWellFormed, ArgIsWellFormed}
 use Rattle.pict_types.specs.Instances.{ArgsAreWellFormed}
 
@@ -18,22 +18,34 @@ keeps_beyond {f = f} {ks = ks} {js = js} {k = k} {j = j} e h = record { each = g
     go zero l q = ap Some (sym e) ∙ q
     go (suc i) l q = h.each i l q
 
-same_kind : (f : ℕ → ℕ) (b : PlainBound) → kind_by b ≡ kind_by (rename_bound f b)
+pub same_kind : (f : ℕ → ℕ) (b : PlainBound) → kind_by b ≡ kind_by (rename_bound f b)
 same_kind f Free = refl
 same_kind f (Below t) = refl
 same_kind f (Operator n) = refl
 
-keeps_under : {f : ℕ → ℕ} {ks js : List Kind} (bs : PlainBounds) → KeepsKinds f ks js → KeepsKinds (beyond_all bs f) (kinds_under ks bs) (kinds_under js (rename_bounds f bs))
+pub keeps_under : {f : ℕ → ℕ} {ks js : List Kind} (bs : PlainBounds) → KeepsKinds f ks js → KeepsKinds (beyond_all bs f) (kinds_under ks bs) (kinds_under js (rename_bounds f bs))
 keeps_under no_bound h = h
 keeps_under {f = f} (bounds b bs) h = keeps_under bs (keeps_beyond (same_kind f b) h)
 
-count_renamed : (f : ℕ → ℕ) (ts : PlainTypes) → count_types (rename_types f ts) ≡ count_types ts
+pub count_renamed : (f : ℕ → ℕ) (ts : PlainTypes) → count_types (rename_types f ts) ≡ count_types ts
 count_renamed f no_type = refl
 count_renamed f (types t ts) = ap suc (count_renamed f ts)
 
-before_renamed : (ns : List (List ℕ)) (f : ℕ → ℕ) (l : ℕ) (ls : PlainLabels) → StandsBeforeAll ns l ls → StandsBeforeAll ns l (rename_labels f ls)
+pub before_renamed : (ns : List (List ℕ)) (f : ℕ → ℕ) (l : ℕ) (ls : PlainLabels) → StandsBeforeAll ns l ls → StandsBeforeAll ns l (rename_labels f ls)
 before_renamed ns f l no_label h = tt
 before_renamed ns f l (labels m t ls) h = (h.0, before_renamed ns f l ls h.1)
+
+pub top_renamed : (f : ℕ → ℕ) (t : PlainType) → is_top (rename f t) ≡ is_top t
+top_renamed f Top = refl
+top_renamed f Int = refl
+top_renamed f Char = refl
+top_renamed f Str = refl
+top_renamed f Boolean = refl
+top_renamed f (Var i) = refl
+top_renamed f (Apply i ts) = refl
+top_renamed f (Chan m t) = refl
+top_renamed f (Fields bs ps ls) = refl
+top_renamed f (Rec t) = refl
 
 mutual
   pub formed_renamed : {f : ℕ → ℕ} {ks js : List Kind} (ns : List (List ℕ)) (t : PlainType) → KeepsKinds f ks js → IsWellFormed ns ks t → IsWellFormed ns js (rename f t)
@@ -50,23 +62,23 @@ mutual
       (formed_bounds_renamed ns bs h w.0, (formed_types_renamed ns ps (keeps_under bs h) w.1.0, formed_labels_renamed ns ls (keeps_under bs h) w.1.1))
   formed_renamed ns (Rec t) h w = formed_renamed ns t (keeps_beyond refl h) w
 
-  formed_types_renamed : {f : ℕ → ℕ} {ks js : List Kind} (ns : List (List ℕ)) (ts : PlainTypes) → KeepsKinds f ks js → AreWellFormed ns ks ts → AreWellFormed ns js (rename_types f ts)
+  pub formed_types_renamed : {f : ℕ → ℕ} {ks js : List Kind} (ns : List (List ℕ)) (ts : PlainTypes) → KeepsKinds f ks js → AreWellFormed ns ks ts → AreWellFormed ns js (rename_types f ts)
   formed_types_renamed ns no_type h w = tt
   formed_types_renamed ns (types t ts) h w = (formed_renamed ns t h w.0, formed_types_renamed ns ts h w.1)
 
-  formed_labels_renamed : {f : ℕ → ℕ} {ks js : List Kind} (ns : List (List ℕ)) (ls : PlainLabels) → KeepsKinds f ks js → LabelsAreWellFormed ns ks ls → LabelsAreWellFormed ns js (rename_labels f ls)
+  pub formed_labels_renamed : {f : ℕ → ℕ} {ks js : List Kind} (ns : List (List ℕ)) (ls : PlainLabels) → KeepsKinds f ks js → LabelsAreWellFormed ns ks ls → LabelsAreWellFormed ns js (rename_labels f ls)
   formed_labels_renamed ns no_label h w = tt
   formed_labels_renamed {f = f} ns (labels l t ls) h w =
       (before_renamed ns f l ls w.0, (formed_renamed ns t h w.1.0, formed_labels_renamed ns ls h w.1.1))
 
-  formed_bounds_renamed : {f : ℕ → ℕ} {ks js : List Kind} (ns : List (List ℕ)) (bs : PlainBounds) → KeepsKinds f ks js → BoundsAreWellFormed ns ks bs → BoundsAreWellFormed ns js (rename_bounds f bs)
+  pub formed_bounds_renamed : {f : ℕ → ℕ} {ks js : List Kind} (ns : List (List ℕ)) (bs : PlainBounds) → KeepsKinds f ks js → BoundsAreWellFormed ns ks bs → BoundsAreWellFormed ns js (rename_bounds f bs)
   formed_bounds_renamed ns no_bound h w = tt
   formed_bounds_renamed {f = f} ns (bounds b bs) h w =
       (formed_bound_renamed ns b h w.0, formed_bounds_renamed ns bs (keeps_beyond (same_kind f b) h) w.1)
 
-  formed_bound_renamed : {f : ℕ → ℕ} {ks js : List Kind} (ns : List (List ℕ)) (b : PlainBound) → KeepsKinds f ks js → BoundIsWellFormed ns ks b → BoundIsWellFormed ns js (rename_bound f b)
+  pub formed_bound_renamed : {f : ℕ → ℕ} {ks js : List Kind} (ns : List (List ℕ)) (b : PlainBound) → KeepsKinds f ks js → BoundIsWellFormed ns ks b → BoundIsWellFormed ns js (rename_bound f b)
   formed_bound_renamed ns Free h w = tt
-  formed_bound_renamed ns (Below t) h w = formed_renamed ns t h w
+  formed_bound_renamed {f = f} ns (Below t) h w = (top_renamed f t ∙ w.0, formed_renamed ns t h w.1)
   formed_bound_renamed ns (Operator n) h w = tt
 
 -- one more variable in front
@@ -87,15 +99,15 @@ kind_bound_by (Rec t) = refl
 
 pub formed_bound_by : (ns : List (List ℕ)) (ks : List Kind) (t : PlainType) → IsWellFormed ns ks t → BoundIsWellFormed ns ks (bound_by t)
 formed_bound_by ns ks Top w = tt
-formed_bound_by ns ks Int w = w
-formed_bound_by ns ks Char w = w
-formed_bound_by ns ks Str w = w
-formed_bound_by ns ks Boolean w = w
-formed_bound_by ns ks (Var i) w = w
-formed_bound_by ns ks (Apply i ts) w = w
-formed_bound_by ns ks (Chan m t) w = w
-formed_bound_by ns ks (Fields bs ps ls) w = w
-formed_bound_by ns ks (Rec t) w = w
+formed_bound_by ns ks Int w = (refl, w)
+formed_bound_by ns ks Char w = (refl, w)
+formed_bound_by ns ks Str w = (refl, w)
+formed_bound_by ns ks Boolean w = (refl, w)
+formed_bound_by ns ks (Var i) w = (refl, w)
+formed_bound_by ns ks (Apply i ts) w = (refl, w)
+formed_bound_by ns ks (Chan m t) w = (refl, w)
+formed_bound_by ns ks (Fields bs ps ls) w = (refl, w)
+formed_bound_by ns ks (Rec t) w = (refl, w)
 
 -- an operator variable stays one of so many arguments
 abbrev pub IsOperator : List Kind → ℕ → Option ℕ → Type 0
@@ -174,7 +186,7 @@ mutual
 
   fill_bound_formed : {s : Filling} {ks js : List Kind} (ns : List (List ℕ)) (b : PlainBound) → FillsKinds ns s ks js → BoundIsWellFormed ns ks b → BoundIsWellFormed ns js (fill_bound s b)
   fill_bound_formed ns Free h w = tt
-  fill_bound_formed {s = s} {js = js} ns (Below t) h w = formed_bound_by ns js (fill s t) (fill_formed ns t h w)
+  fill_bound_formed {s = s} {js = js} ns (Below t) h w = formed_bound_by ns js (fill s t) (fill_formed ns t h w.1)
   fill_bound_formed ns (Operator n) h w = tt
 
 -- the parameters of an operator have its arguments put for them
@@ -207,7 +219,7 @@ keeps_parameters : (m : ℕ) {f : ℕ → ℕ} {ks js : List Kind} → KeepsKind
 keeps_parameters zero h = h
 keeps_parameters (suc m) h = keeps_beyond refl (keeps_parameters m h)
 
-head_further : (ns : List (List ℕ)) (j : Kind) (js : List Kind) (n : ℕ) (h : Head) → IsHead ns js n h → IsHead ns (j ∷ js) n (rename_head suc h)
+head_further : (ns : List (List ℕ)) (j : Kind) (js : List Kind) (n : ℕ) (h : Head) → StandsForOperator ns js n h → StandsForOperator ns (j ∷ js) n (rename_head suc h)
 head_further ns j js n (variable i) w = w
 head_further ns j js n (operator m t) w = (w.0, formed_renamed ns t (keeps_parameters m (one_more_kind j js)) w.1)
 head_further ns j js n nothing w = w
@@ -219,7 +231,7 @@ replaces_beyond {ns = ns} {s = s} {ks = ks} {js = js} k j e h = record { types_ 
     go zero q = ap Some (sym e) ∙ q
     go (suc i) q = formed_renamed ns (s.type_of i) (one_more_kind j js) (h.types_ i q)
 
-    go2 : (i n : ℕ) → kind_at (k ∷ ks) i ≡ Some (operator_of n) → IsHead ns (j ∷ js) n ((replacement_beyond s).head_of i)
+    go2 : (i n : ℕ) → kind_at (k ∷ ks) i ≡ Some (operator_of n) → StandsForOperator ns (j ∷ js) n ((replacement_beyond s).head_of i)
     go2 zero n q = ap Some (sym e) ∙ q
     go2 (suc i) n q = head_further ns j js n (s.head_of i) (h.heads_ i n q)
 
@@ -240,7 +252,7 @@ before_replaced : (ns : List (List ℕ)) (s : Replacement) (l : ℕ) (ls : Plain
 before_replaced ns s l no_label h = tt
 before_replaced ns s l (labels m t ls) h = (h.0, before_replaced ns s l ls h.1)
 
-pub head_formed : (ns : List (List ℕ)) (js : List Kind) (n : ℕ) (h : Head) (us : PlainTypes) → count_types us ≡ n → IsHead ns js n h → AreWellFormed ns js us → IsWellFormed ns js (apply_head h us)
+head_formed : (ns : List (List ℕ)) (js : List Kind) (n : ℕ) (h : Head) (us : PlainTypes) → count_types us ≡ n → StandsForOperator ns js n h → AreWellFormed ns js us → IsWellFormed ns js (apply_head h us)
 head_formed ns js n (variable j) us e h w = (h ∙ ap (λ m. Some (operator_of m)) (sym e), w)
 head_formed ns js n (operator m t) us e h w = fill_formed ns t (fills_types m us (e ∙ sym h.0) w (fills_itself ns js)) h.1
 head_formed ns js n nothing us e h w = absurd h
@@ -276,7 +288,7 @@ mutual
 
   replace_bound_formed : {s : Replacement} {ks js : List Kind} (ns : List (List ℕ)) (b : PlainBound) → ReplacesKinds ns s ks js → BoundIsWellFormed ns ks b → BoundIsWellFormed ns js (replace_bound s b)
   replace_bound_formed ns Free h w = tt
-  replace_bound_formed {s = s} {js = js} ns (Below t) h w = formed_bound_by ns js (replace s t) (replace_formed ns t h w)
+  replace_bound_formed {s = s} {js = js} ns (Below t) h w = formed_bound_by ns js (replace s t) (replace_formed ns t h w.1)
   replace_bound_formed ns (Operator n) h w = tt
 
 -- the unfolding of a well formed type is well formed
@@ -287,12 +299,12 @@ unfolding_formed ns ks t w = replace_formed ns t (record { types_ = go; heads_ =
     go zero q = w
     go (suc i) q = q
 
-    go2 : (i n : ℕ) → kind_at (proper ∷ ks) i ≡ Some (operator_of n) → IsHead ns ks n ((arguments (Plain (Rec t) ∷ [])).head_of i)
+    go2 : (i n : ℕ) → kind_at (proper ∷ ks) i ≡ Some (operator_of n) → StandsForOperator ns ks n ((arguments (Plain (Rec t) ∷ [])).head_of i)
     go2 zero n q = absurd (cc)
     go2 (suc i) n q = q
 
 -- arguments of the kinds of the type fields fit them
-arg_keeps : {ns : List (List ℕ)} {s : Replacement} {ks js : List Kind} (a : PlainArg) (b : PlainBound) → IsOfKind a b → ArgIsWellFormed ns js a → ReplacesKinds ns s ks js → ReplacesKinds ns (with_arg a s) (kind_by b ∷ ks) js
+pub arg_keeps : {ns : List (List ℕ)} {s : Replacement} {ks js : List Kind} (a : PlainArg) (b : PlainBound) → IsOfKind a b → ArgIsWellFormed ns js a → ReplacesKinds ns s ks js → ReplacesKinds ns (with_arg a s) (kind_by b ∷ ks) js
 arg_keeps {ns = ns} {s = s} {ks = ks} {js = js} a b f w h = record { types_ = go; heads_ = go2 }
   where
     type_first : (a : PlainArg) (b : PlainBound) → IsOfKind a b → ArgIsWellFormed ns js a → Some (kind_by b) ≡ Some proper → IsWellFormed ns js (type_in a)
@@ -303,7 +315,7 @@ arg_keeps {ns = ns} {s = s} {ks = ks} {js = js} a b f w h = record { types_ = go
     type_first (Op m t) (Below u) f w q = absurd f
     type_first (Op m t) (Operator n) f w q = absurd (cc)
 
-    head_first : (a : PlainArg) (b : PlainBound) (n : ℕ) → IsOfKind a b → ArgIsWellFormed ns js a → Some (kind_by b) ≡ Some (operator_of n) → IsHead ns js n (head_in a)
+    head_first : (a : PlainArg) (b : PlainBound) (n : ℕ) → IsOfKind a b → ArgIsWellFormed ns js a → Some (kind_by b) ≡ Some (operator_of n) → StandsForOperator ns js n (head_in a)
     head_first (Plain t) Free n f w q = absurd (cc)
     head_first (Plain t) (Below u) n f w q = absurd (cc)
     head_first (Plain t) (Operator k) n f w q = absurd f
@@ -315,7 +327,7 @@ arg_keeps {ns = ns} {s = s} {ks = ks} {js = js} a b f w h = record { types_ = go
     go zero q = type_first a b f w q
     go (suc i) q = h.types_ i q
 
-    go2 : (i n : ℕ) → kind_at (kind_by b ∷ ks) i ≡ Some (operator_of n) → IsHead ns js n ((with_arg a s).head_of i)
+    go2 : (i n : ℕ) → kind_at (kind_by b ∷ ks) i ≡ Some (operator_of n) → StandsForOperator ns js n ((with_arg a s).head_of i)
     go2 zero n q = head_first a b n f w q
     go2 (suc i) n q = h.heads_ i n q
 

@@ -2,7 +2,7 @@
 use Rattle.std.proofs.Common.{◌≡◌, ℕ, zero, suc, ◌+◌, max, List, ◌∷◌, refl, ◌∙◌, ap, arith}
 use Rattle.pict_types.specs.Types.{PlainType, Top, Int, Char, Str, Boolean, Var, Apply, Chan, Fields, Rec, PlainTypes, no_type, types, PlainLabels, no_label, labels, PlainBound, Free, Below, Operator, PlainBounds, no_bound, bounds}
 use Rattle.pict_types.specs.Measures.{held, measure_at, weigh, weigh_types, weigh_labels, weigh_bounds, weigh_variable, weights_under, rise, rise_types, rise_labels, rise_bounds, rise_variable, heights_under}
-use Rattle.pict_types.specs.Scopes.{weigh_parts, rise_parts}
+use Rattle.pict_types.specs.Around.{weigh_parts, rise_parts}
 
 -- two numbers that a u64 holds alike
 pub record Alike (a b : ℕ) : Type 0 where

@@ -5,7 +5,7 @@ use Rattle.std.proofs.Math.Seq.{drop-append_seam}
 use Rattle.pict_types.specs.declared.measure.Measures.{Measures}
 use Rattle.pict_types.specs.Types.{PlainType}
 use Rattle.pict_types.specs.Measures.{held, weigh, rise}
-use Rattle.pict_types.specs.Scopes.{weights_inside, heights_inside}
+use Rattle.pict_types.specs.Around.{weights_inside, heights_inside}
 use Rattle.pict_types.proofs.Entries.{held_list}
 use Rattle.pict_types.proofs.Held.{alike, HeldAlike, alike_more, weigh_held, rise_held}
 

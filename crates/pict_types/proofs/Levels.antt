@@ -8,7 +8,7 @@ use Rattle.std.specs.BTreeMap.{BTreeMap, get}
 use Rattle.std.proofs.lemmas.Bool.{eqb-true, eq-eqb}
 use Rattle.pict_types.specs.Replacing.{next_variable}
 use Rattle.pict_types.specs.Places.{place}
-use Rattle.pict_types.specs.Levels.{level_of, names_onto, names_of, KeepOuter, StandsFor}
+use Rattle.pict_types.specs.Levels.{level_of, names_onto, bound_names, KeepOuter, StandsFor}
 use Rattle.pict_types.specs.declared.nearest.Binding.{Binding}
 
 pub names_onto_snoc : (around : List ℕ) (bs : List Binding) (b : Binding) → names_onto around (bs ++ b ∷ []) ≡ b.name ∷ names_onto around bs
@@ -19,7 +19,7 @@ length_names_onto : (around : List ℕ) (bs : List Binding) → length (names_on
 length_names_onto around [] = omega arith
 length_names_onto around (c ∷ bs) = omega (arith, length_names_onto (c.name ∷ around) bs)
 
-pub length_names : (bs : List Binding) → length (names_of bs) ≡ length bs
+pub length_names : (bs : List Binding) → length (bound_names bs) ≡ length bs
 length_names bs = omega (arith, length_names_onto [] bs)
 
 -- the level of a name, and its place
@@ -88,7 +88,7 @@ pub bound : (bs : List Binding) (b : Binding) (old new : BTreeMap ℕ ℕ) (leve
 bound bs b old new level stands set is outer = record {
   table = λ q. set.each q
       ∙ ap (λ l. if nat_eq b.name q then Some level else l) (stands.table q)
-      ∙ ap (λ l. if nat_eq b.name q then Some l else level_of (names_of bs) q) (is ∙ sym (length_names bs))
+      ∙ ap (λ l. if nat_eq b.name q then Some l else level_of (bound_names bs) q) (is ∙ sym (length_names bs))
       ∙ ap (λ names. level_of names q) (sym (names_onto_snoc [] bs b));
   outer = keep_one_more [] bs b stands.outer (outer ∙ stands.table b.name);
 }
@@ -98,12 +98,12 @@ one_of true = inl refl
 one_of false = inr refl
 
 -- the innermost binder is forgotten
-unbound_at : (bs : List Binding) (b : Binding) (old new : BTreeMap ℕ ℕ) (q : ℕ) → StandsFor (bs ++ b ∷ []) old → SetsLevel old new b.name b.outer → (nat_eq b.name q ≡ true) ⊎ (nat_eq b.name q ≡ false) → get nat_cmp new q ≡ level_of (names_of bs) q
+unbound_at : (bs : List Binding) (b : Binding) (old new : BTreeMap ℕ ℕ) (q : ℕ) → StandsFor (bs ++ b ∷ []) old → SetsLevel old new b.name b.outer → (nat_eq b.name q ≡ true) ⊎ (nat_eq b.name q ≡ false) → get nat_cmp new q ≡ level_of (bound_names bs) q
 unbound_at bs b old new q stands set (inl same) =
-    set.each q ∙ ap (λ t. if t then b.outer else get nat_cmp old q) same ∙ (keep_one_less [] bs b stands.outer).last ∙ ap (level_of (names_of bs)) (eqb-true b.name q same)
+    set.each q ∙ ap (λ t. if t then b.outer else get nat_cmp old q) same ∙ (keep_one_less [] bs b stands.outer).last ∙ ap (level_of (bound_names bs)) (eqb-true b.name q same)
 unbound_at bs b old new q stands set (inr other) =
     set.each q ∙ ap (λ t. if t then b.outer else get nat_cmp old q) other ∙ stands.table q ∙ ap (λ names. level_of names q) (names_onto_snoc [] bs b)
-    ∙ ap (λ t. if t then Some (length (names_of bs)) else level_of (names_of bs) q) other
+    ∙ ap (λ t. if t then Some (length (bound_names bs)) else level_of (bound_names bs) q) other
 
 pub unbound : (bs : List Binding) (b : Binding) (old new : BTreeMap ℕ ℕ) → StandsFor (bs ++ b ∷ []) old → SetsLevel old new b.name b.outer → StandsFor bs new
 unbound bs b old new stands set = record {
@@ -113,4 +113,4 @@ unbound bs b old new stands set = record {
 
 pub has_level : (bs : List Binding) (b : Binding) (levels : BTreeMap ℕ ℕ) → StandsFor (bs ++ b ∷ []) levels → get nat_cmp levels b.name ≡ Some (length bs)
 has_level bs b levels stands =
-    stands.table b.name ∙ ap (λ names. level_of names b.name) (names_onto_snoc [] bs b) ∙ ap (λ t. if t then Some (length (names_of bs)) else level_of (names_of bs) b.name) (eq-eqb b.name b.name refl) ∙ ap Some (length_names bs)
+    stands.table b.name ∙ ap (λ names. level_of names b.name) (names_onto_snoc [] bs b) ∙ ap (λ t. if t then Some (length (bound_names bs)) else level_of (bound_names bs) b.name) (eq-eqb b.name b.name refl) ∙ ap Some (length_names bs)

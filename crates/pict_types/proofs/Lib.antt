@@ -1,5 +1,5 @@
 pub mod Rows
-pub mod Scopes
+pub mod Around
 pub mod Held
 pub mod Entries
 pub mod Moving
@@ -15,4 +15,9 @@ pub mod Inside
 pub mod Places
 pub mod Counting
 pub mod Levels
+pub mod Replaced
+pub mod Replacements
+pub mod Composed
+pub mod Mentioned
+pub mod Among
 mod Worked

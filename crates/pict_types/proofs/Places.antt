@@ -1,5 +1,5 @@
 -- Entries of a context by their places.
-use Rattle.std.proofs.Common.{◌≡◌, ℕ, zero, suc, ◌-◌, ◌≤◌, ◌<◌, List, [], ◌∷◌, ◌++◌, length, get_or, None, refl, ◌∙◌, ap, subst, arith}
+use Rattle.std.proofs.Common.{◌≡◌, ℕ, zero, suc, ◌+◌, ◌-◌, ◌≤◌, ◌<◌, List, [], ◌∷◌, ◌++◌, length, get_or, None, refl, ◌∙◌, ap, subst, arith}
 use Rattle.std.proofs.lemmas.List.{length-map}
 use Rattle.pict_types.specs.declared.context.Entry.{Entry}
 use Rattle.pict_types.specs.Types.{TypeContext}
@@ -14,6 +14,10 @@ names_pushed es e = ap names_in (pushed es e)
 pub at_least : (w : PlainWhat) (c : TypeContext) → length c ≤ length (with_variable w c)
 at_least (Variable b) c = omega arith
 at_least (Definition a) c = omega arith
+
+pub one_at_most : (w : PlainWhat) (c : TypeContext) → length (with_variable w c) ≤ length c + 1
+one_at_most (Variable b) c = omega arith
+one_at_most (Definition a) c = omega arith
 
 -- with an entry less there are no more variables
 pub fewer : (es : List Entry) (e : Entry) (n : ℕ) → length (variables (plain_entries (es ++ e ∷ []))) < n → length (variables (plain_entries es)) < n

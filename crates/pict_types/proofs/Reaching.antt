@@ -52,7 +52,7 @@ mutual
   pub reach_bounds_formed : (ns : List (List ℕ)) (ks : List Kind) (bs : PlainBounds) → BoundsAreWellFormed ns ks bs → reach_bounds bs ≤ length ks + size_bounds bs
   reach_bounds_formed ns ks no_bound w = omega arith
   reach_bounds_formed ns ks (bounds Free bs) w = omega (arith, reach_bounds_formed ns (proper ∷ ks) bs w.1)
-  reach_bounds_formed ns ks (bounds (Below t) bs) w = omega (arith, reach_formed ns ks t w.0, reach_bounds_formed ns (proper ∷ ks) bs w.1)
+  reach_bounds_formed ns ks (bounds (Below t) bs) w = omega (arith, reach_formed ns ks t w.0.1, reach_bounds_formed ns (proper ∷ ks) bs w.1)
   reach_bounds_formed ns ks (bounds (Operator n) bs) w = omega (arith, reach_bounds_formed ns (operator_of n ∷ ks) bs w.1)
 
 parameters_length : (n : ℕ) (ks : List Kind) → length (with_parameters n ks) ≡ n + length ks

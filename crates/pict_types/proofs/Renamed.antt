@@ -1,23 +1,24 @@
--- Types renamed twice, and types renamed to themselves.
-use Rattle.std.proofs.Common.{◌≡◌, ℕ, zero, suc, refl, ap, ap₂}
-use Rattle.pict_types.specs.Types.{PlainType, Top, Int, Char, Str, Boolean, Var, Apply, Chan, Fields, Rec, PlainTypes, no_type, types, PlainLabels, no_label, labels, PlainBound, Free, Below, Operator, PlainBounds, no_bound, bounds}
-use Rattle.pict_types.specs.Renaming.{beyond, beyond_all, rename, rename_types, rename_labels, rename_bounds, rename_bound}
+-- Types renamed twice, types renamed to themselves, and the bounds of variables one further in.
+use Rattle.std.proofs.Common.{◌≡◌, ℕ, zero, suc, ◌+◌, ◌∷◌, Some, Bool, true, false, refl, sym, ◌∙◌, ap, ap₂, arith, add-one}
+use Rattle.std.specs.Prelude.{nat_eq}
+use Rattle.pict_types.specs.Types.{PlainType, Top, Int, Char, Str, Boolean, Var, Apply, Chan, Fields, Rec, PlainTypes, no_type, types, PlainLabels, no_label, labels, PlainBound, Free, Below, Operator, PlainBounds, no_bound, bounds, TypeContext, type_at}
+use Rattle.pict_types.specs.Renaming.{beyond, beyond_all, beyond_times, rename, rename_types, rename_labels, rename_bounds, rename_bound, moved, bound_at, bound_of}
 
-three : {A B C D : Type 0} (k : A → B → C → D) {a a' : A} {b b' : B} {c c' : C} → a ≡ a' → b ≡ b' → c ≡ c' → k a b c ≡ k a' b' c'
+pub three : {A B C D : Type 0} (k : A → B → C → D) {a a' : A} {b b' : B} {c c' : C} → a ≡ a' → b ≡ b' → c ≡ c' → k a b c ≡ k a' b' c'
 three k p q r = cc
 
 -- two renamings do to each variable what one does
 pub record Joins (g f k : ℕ → ℕ) : Type 0 where
   pub each : (i : ℕ) → g (f i) ≡ k i
 
-joins_beyond : {g f k : ℕ → ℕ} → Joins g f k → Joins (beyond g) (beyond f) (beyond k)
+pub joins_beyond : {g f k : ℕ → ℕ} → Joins g f k → Joins (beyond g) (beyond f) (beyond k)
 joins_beyond {g = g} {f = f} {k = k} x = record { each = go }
   where
     go : (i : ℕ) → beyond g (beyond f i) ≡ beyond k i
     go zero = refl
     go (suc i) = ap suc (x.each i)
 
-joins_under : {g f k : ℕ → ℕ} (bs : PlainBounds) → Joins g f k → Joins (beyond_all (rename_bounds f bs) g) (beyond_all bs f) (beyond_all bs k)
+pub joins_under : {g f k : ℕ → ℕ} (bs : PlainBounds) → Joins g f k → Joins (beyond_all (rename_bounds f bs) g) (beyond_all bs f) (beyond_all bs k)
 joins_under no_bound x = x
 joins_under (bounds b bs) x = joins_under bs (joins_beyond x)
 
@@ -34,15 +35,15 @@ mutual
   renamed_twice (Fields bs ps ls) x = three Fields (bounds_twice bs x) (types_twice ps (joins_under bs x)) (labels_twice ls (joins_under bs x))
   renamed_twice (Rec t) x = ap Rec (renamed_twice t (joins_beyond x))
 
-  types_twice : {g f k : ℕ → ℕ} (t : PlainTypes) → Joins g f k → rename_types g (rename_types f t) ≡ rename_types k t
+  pub types_twice : {g f k : ℕ → ℕ} (t : PlainTypes) → Joins g f k → rename_types g (rename_types f t) ≡ rename_types k t
   types_twice no_type x = refl
   types_twice (types t ts) x = ap₂ types (renamed_twice t x) (types_twice ts x)
 
-  labels_twice : {g f k : ℕ → ℕ} (t : PlainLabels) → Joins g f k → rename_labels g (rename_labels f t) ≡ rename_labels k t
+  pub labels_twice : {g f k : ℕ → ℕ} (t : PlainLabels) → Joins g f k → rename_labels g (rename_labels f t) ≡ rename_labels k t
   labels_twice no_label x = refl
   labels_twice (labels l t ts) x = ap₂ (labels l) (renamed_twice t x) (labels_twice ts x)
 
-  bounds_twice : {g f k : ℕ → ℕ} (t : PlainBounds) → Joins g f k → rename_bounds g (rename_bounds f t) ≡ rename_bounds k t
+  pub bounds_twice : {g f k : ℕ → ℕ} (t : PlainBounds) → Joins g f k → rename_bounds g (rename_bounds f t) ≡ rename_bounds k t
   bounds_twice no_bound x = refl
   bounds_twice (bounds b bs) x = ap₂ bounds (bound_twice b x) (bounds_twice bs (joins_beyond x))
 
@@ -55,14 +56,18 @@ mutual
 pub record Stays (f : ℕ → ℕ) : Type 0 where
   pub each : (i : ℕ) → f i ≡ i
 
-stays_beyond : {f : ℕ → ℕ} → Stays f → Stays (beyond f)
+pub stays_beyond : {f : ℕ → ℕ} → Stays f → Stays (beyond f)
 stays_beyond {f = f} x = record { each = go }
   where
     go : (i : ℕ) → beyond f i ≡ i
     go zero = refl
     go (suc i) = ap suc (x.each i)
 
-stays_under : {f : ℕ → ℕ} (bs : PlainBounds) → Stays f → Stays (beyond_all bs f)
+pub stays_times : (n : ℕ) → Stays (beyond_times n (λ j. j))
+stays_times zero = record { each = λ j. refl }
+stays_times (suc n) = stays_beyond (stays_times n)
+
+pub stays_under : {f : ℕ → ℕ} (bs : PlainBounds) → Stays f → Stays (beyond_all bs f)
 stays_under no_bound x = x
 stays_under (bounds b bs) x = stays_under bs (stays_beyond x)
 
@@ -79,19 +84,55 @@ mutual
   rename_same (Fields bs ps ls) x = three Fields (bounds_same bs x) (types_same ps (stays_under bs x)) (labels_same ls (stays_under bs x))
   rename_same (Rec t) x = ap Rec (rename_same t (stays_beyond x))
 
-  types_same : {f : ℕ → ℕ} (t : PlainTypes) → Stays f → rename_types f t ≡ t
+  pub types_same : {f : ℕ → ℕ} (t : PlainTypes) → Stays f → rename_types f t ≡ t
   types_same no_type x = refl
   types_same (types t ts) x = ap₂ types (rename_same t x) (types_same ts x)
 
-  labels_same : {f : ℕ → ℕ} (t : PlainLabels) → Stays f → rename_labels f t ≡ t
+  pub labels_same : {f : ℕ → ℕ} (t : PlainLabels) → Stays f → rename_labels f t ≡ t
   labels_same no_label x = refl
   labels_same (labels l t ts) x = ap₂ (labels l) (rename_same t x) (labels_same ts x)
 
-  bounds_same : {f : ℕ → ℕ} (t : PlainBounds) → Stays f → rename_bounds f t ≡ t
+  pub bounds_same : {f : ℕ → ℕ} (t : PlainBounds) → Stays f → rename_bounds f t ≡ t
   bounds_same no_bound x = refl
   bounds_same (bounds b bs) x = ap₂ bounds (bound_same b x) (bounds_same bs (stays_beyond x))
 
-  bound_same : {f : ℕ → ℕ} (b : PlainBound) → Stays f → rename_bound f b ≡ b
+  pub bound_same : {f : ℕ → ℕ} (b : PlainBound) → Stays f → rename_bound f b ≡ b
   bound_same Free x = refl
   bound_same (Below t) x = ap Below (rename_same t x)
   bound_same (Operator n) x = refl
+
+-- two renamings that do what two others do
+pub renamed_alike : (g f k h : ℕ → ℕ) (t : PlainType) → ((i : ℕ) → g (f i) ≡ k (h i)) → rename g (rename f t) ≡ rename k (rename h t)
+renamed_alike g f k h t e = renamed_twice t (record { each = e }) ∙ sym (renamed_twice t (record { each = λ i. refl }))
+
+pub bound_alike : (g f k h : ℕ → ℕ) (b : PlainBound) → ((i : ℕ) → g (f i) ≡ k (h i)) → rename_bound g (rename_bound f b) ≡ rename_bound k (rename_bound h b)
+bound_alike g f k h b e = bound_twice b (record { each = e }) ∙ sym (bound_twice b (record { each = λ i. refl }))
+
+-- the bound of a variable one further in
+pub bound_further : (b : PlainBound) (c : TypeContext) (i : ℕ) → bound_of (b ∷ c) (suc i) ≡ rename_bound suc (bound_of c i)
+bound_further b c i = sym (bound_twice (bound_at c i) (record { each = λ j. sym_suc j i }))
+  where
+    sym_suc : (j i : ℕ) → suc (j + suc i) ≡ j + suc (suc i)
+    sym_suc j i = omega arith
+
+-- a variable one further in is the same as one more variable
+pub moved_is_suc : moved 1 0 ≡ suc
+moved_is_suc = λ j i. add-one i j
+
+-- what renames to a bound is one
+pub bound_before : (f : ℕ → ℕ) (x : PlainBound) (t : PlainType) → rename_bound f x ≡ Below t → (s : PlainType) × (x ≡ Below s) × (rename f s ≡ t)
+bound_before f Free t h = absurd (cc)
+bound_before f (Below s) t h = (s, refl, cc)
+bound_before f (Operator n) t h = absurd (cc)
+
+-- the type at a label, renamed
+pub type_at_renamed : (f : ℕ → ℕ) (l : ℕ) (ls : PlainLabels) (s : PlainType) → type_at l ls ≡ Some s → type_at l (rename_labels f ls) ≡ Some (rename f s)
+type_at_renamed f l no_label s h = absurd (cc)
+type_at_renamed f l (labels m t ts) s h = go (nat_eq l m) refl (type_at_renamed f l ts s)
+  where
+    go : (b : Bool) → nat_eq l m ≡ b → (type_at l ts ≡ Some s → type_at l (rename_labels f ts) ≡ Some (rename f s)) → type_at l (rename_labels f (labels m t ts)) ≡ Some (rename f s)
+    go true q r =
+        let h2 : Some t ≡ Some s = rw q at h in
+        let e : t ≡ s = cc in
+        rw q (ap (λ x. Some (rename f x)) e)
+    go false q r = rw q (r (rw q at h))

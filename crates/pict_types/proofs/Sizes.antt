@@ -105,5 +105,5 @@ mutual
   reach_bounds_weighed : (ns : List (List ℕ)) (ks : List Kind) (ws : List ℕ) (bs : PlainBounds) → BoundsAreWellFormed ns ks bs → reach_bounds bs ≤ length ks + weigh_bounds ws bs
   reach_bounds_weighed ns ks ws no_bound w = omega arith
   reach_bounds_weighed ns ks ws (bounds Free bs) w = omega (arith, reach_bounds_weighed ns (proper ∷ ks) (weigh_variable ws Free ∷ ws) bs w.1)
-  reach_bounds_weighed ns ks ws (bounds (Below t) bs) w = omega (arith, reach_weighed ns ks ws t w.0, reach_bounds_weighed ns (proper ∷ ks) (weigh_variable ws (Below t) ∷ ws) bs w.1)
+  reach_bounds_weighed ns ks ws (bounds (Below t) bs) w = omega (arith, reach_weighed ns ks ws t w.0.1, reach_bounds_weighed ns (proper ∷ ks) (weigh_variable ws (Below t) ∷ ws) bs w.1)
   reach_bounds_weighed ns ks ws (bounds (Operator n) bs) w = omega (arith, reach_bounds_weighed ns (operator_of n ∷ ks) (weigh_variable ws (Operator n) ∷ ws) bs w.1)

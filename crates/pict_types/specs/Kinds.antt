@@ -1,11 +1,8 @@
--- Well formed types: each variable has a binder and stands as its kind wants, and labels are distinct and in order.
+-- Well formed types: each variable has a binder and stands as its kind wants, labels are distinct and in order, and no
+-- bound is Top.
 use Rattle.std.specs.Prelude.{◌≡◌, ℕ, zero, suc, List, [], ◌∷◌, Option, Some, None}
-use Rattle.std.specs.Ordering.{nat_cmp, on, then_cmp}
-use Rattle.std.specs.declared.cmp.Ordering.{Ordering}
-use Rattle.std.specs.declared.cmp.Ordering.TheVariants.{Less}
-use Rattle.std.specs.Cmp.Lexicographic.{slice_cmp}
-use Rattle.pict_syntax.specs.Names.{text_of}
-use Rattle.pict_types.specs.Types.{PlainType, Top, Int, Char, Str, Boolean, Var, Apply, Chan, Fields, Rec, PlainTypes, no_type, types, PlainLabels, no_label, labels, PlainBound, Free, Below, Operator, PlainBounds, no_bound, bounds, PlainArg, Plain, Op, TypeContext, count_types}
+use Rattle.pict_syntax.specs.Labels.{StandsBefore}
+use Rattle.pict_types.specs.Types.{PlainType, Top, Int, Char, Str, Boolean, Var, Apply, Chan, Fields, Rec, PlainTypes, no_type, types, PlainLabels, no_label, labels, PlainBound, Free, Below, Operator, PlainBounds, no_bound, bounds, PlainArg, Plain, Op, TypeContext, count_types, IsNotTop}
 
 -- types, and operators of so many arguments
 pub data Kind : Type 0 where
@@ -31,14 +28,6 @@ abbrev pub kind_at : List Kind → ℕ → Option Kind
 kind_at [] i = None
 kind_at (k ∷ ks) zero = Some k
 kind_at (k ∷ ks) (suc i) = kind_at ks i
-
--- labels in order: by their bytes, and labels with the same bytes by their numbers
-abbrev pub label_cmp : List (List ℕ) → ℕ → ℕ → Ordering
-label_cmp ns = then_cmp (on (text_of ns) (slice_cmp nat_cmp)) nat_cmp
-
--- one label comes before another
-abbrev pub StandsBefore : List (List ℕ) → ℕ → ℕ → Type 0
-StandsBefore ns l m = label_cmp ns l m ≡ Less
 
 -- one label comes before each of these
 abbrev pub StandsBeforeAll : List (List ℕ) → ℕ → PlainLabels → Type 0
@@ -73,9 +62,10 @@ abbrev mutual
   BoundsAreWellFormed ns ks no_bound = Unit {0}
   BoundsAreWellFormed ns ks (bounds b bs) = BoundIsWellFormed ns ks b × BoundsAreWellFormed ns (kind_by b ∷ ks) bs
 
+  -- a bound Top is none
   pub BoundIsWellFormed : List (List ℕ) → List Kind → PlainBound → Type 0
   BoundIsWellFormed ns ks Free = Unit {0}
-  BoundIsWellFormed ns ks (Below t) = IsWellFormed ns ks t
+  BoundIsWellFormed ns ks (Below t) = IsNotTop t × IsWellFormed ns ks t
   BoundIsWellFormed ns ks (Operator n) = Unit {0}
 
 -- the kinds with those of the n parameters of an operator

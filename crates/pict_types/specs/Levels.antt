@@ -14,8 +14,8 @@ abbrev pub names_onto : List ℕ → List Binding → List ℕ
 names_onto around [] = around
 names_onto around (b ∷ bs) = names_onto (b.name ∷ around) bs
 
-abbrev pub names_of : List Binding → List ℕ
-names_of binders = names_onto [] binders
+abbrev pub bound_names : List Binding → List ℕ
+bound_names binders = names_onto [] binders
 
 -- each binder keeps the level that its name had around it
 abbrev pub KeepOuter : List ℕ → List Binding → Type 0
@@ -23,5 +23,5 @@ KeepOuter around [] = Unit {0}
 KeepOuter around (b ∷ bs) = (b.outer ≡ level_of around b.name) × KeepOuter (b.name ∷ around) bs
 
 pub record StandsFor (binders : List Binding) (levels : BTreeMap ℕ ℕ) : Type 0 where
-  pub table : (name : ℕ) → get nat_cmp levels name ≡ level_of (names_of binders) name
+  pub table : (name : ℕ) → get nat_cmp levels name ≡ level_of (bound_names binders) name
   pub outer : KeepOuter [] binders

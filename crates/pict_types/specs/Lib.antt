@@ -1,10 +1,11 @@
 pub mod Types
+pub mod PrimitiveTypes
 pub mod Renaming
 pub mod Replacing
 pub mod Measures
 pub mod Kinds
 pub mod Plain
-pub mod Scopes
+pub mod Around
 pub mod Room
 pub mod Entries
 pub mod Props
@@ -18,3 +19,9 @@ pub mod Instances
 pub mod Fitting
 pub mod Counting
 pub mod Levels
+pub mod NormalTypes
+pub mod Mentions
+pub mod Composing
+pub mod Laws
+pub mod Renumbering
+pub mod Among

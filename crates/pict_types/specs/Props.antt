@@ -1,8 +1,8 @@
 -- There is one way only for a type to be well formed.
-use Rattle.std.specs.Prelude.{◌≡◌, ℕ, List, [], ◌∷◌, Option, Some, None, refl}
-use Rattle.std.specs.Coded.{Coded, Coded-set, coded_ℕ, coded_option, code_by, ×_prop, Unit-prop}
+use Rattle.std.specs.Prelude.{◌≡◌, ℕ, List, [], ◌∷◌, Option, Some, None, false, refl}
+use Rattle.std.specs.Coded.{Coded, Coded-set, coded_ℕ, coded_bool, coded_option, code_by, ×_prop, Unit-prop}
 use Rattle.std.specs.Ordering.{Ordering-set}
-use Rattle.pict_types.specs.Types.{PlainType, Top, Int, Char, Str, Boolean, Var, Apply, Chan, Fields, Rec, PlainTypes, no_type, types, PlainLabels, no_label, labels, PlainBound, Free, Below, Operator, PlainBounds, no_bound, bounds, Plain, Op, TypeContext, count_types}
+use Rattle.pict_types.specs.Types.{PlainType, Top, Int, Char, Str, Boolean, Var, Apply, Chan, Fields, Rec, PlainTypes, no_type, types, PlainLabels, no_label, labels, PlainBound, Free, Below, Operator, PlainBounds, no_bound, bounds, Plain, Op, TypeContext, count_types, is_top}
 use Rattle.pict_types.specs.Kinds.{Kind, proper, operator_of, kind_by, kinds, kinds_under, kind_at, StandsBeforeAll, IsWellFormed, AreWellFormed, LabelsAreWellFormed, BoundsAreWellFormed, BoundIsWellFormed, with_parameters}
 use Rattle.pict_types.specs.Entries.{PlainWhat, Variable, Definition, PlainContext, variables, EntryIsWellFormed, EntriesAreWellFormed}
 
@@ -58,7 +58,7 @@ mutual
 
   BoundIsWellFormed-prop : (ns : List (List ℕ)) (ks : List Kind) (b : PlainBound) → IsProp (BoundIsWellFormed ns ks b)
   BoundIsWellFormed-prop ns ks Free = Unit-prop
-  BoundIsWellFormed-prop ns ks (Below t) = IsWellFormed-prop ns ks t
+  BoundIsWellFormed-prop ns ks (Below t) = ×_prop (Coded-set coded_bool (is_top t) false) (IsWellFormed-prop ns ks t)
   BoundIsWellFormed-prop ns ks (Operator n) = Unit-prop
 
 entry_prop : (ns : List (List ℕ)) (c : TypeContext) (w : PlainWhat) → IsProp (EntryIsWellFormed ns c w)

@@ -56,10 +56,6 @@ plus k i = i + k
 abbrev pub moved : ℕ → ℕ → ℕ → ℕ
 moved k d = beyond_times d (plus k)
 
--- the type with k more variables between it and its context
-abbrev pub shifted_by : ℕ → PlainType → PlainType
-shifted_by k t = rename (moved k 0) t
-
 -- what is known of variable i, as it was written when the variable was pushed
 abbrev pub bound_at : TypeContext → ℕ → PlainBound
 bound_at [] i = Free

@@ -7,7 +7,7 @@ ghost use Rattle.pict_types.specs.PlainEntries.{plain_entries};
 ghost use Rattle.pict_types.specs.Places.{names_in};
 ghost use Rattle.pict_types.specs.Props.{EntriesAreWellFormed-prop};
 
-use crate::measure::{Known, Measures, Scope, measure, measure_bound};
+use crate::measure::{Around, Known, Measures, inside, measure, measure_bound};
 use crate::nearest::Nearest;
 use crate::types::{Arg, Bound, Ty};
 use pict_syntax::{Name, Names};
@@ -58,7 +58,7 @@ impl<'a> Context<'a> {
     ghost use Rattle.pict_types.specs.Places.{IsWhatAt, arity_at, names_in, place};
     ghost use Rattle.pict_types.specs.PlainEntries.{plain_entry, plain_what};
     ghost use Rattle.pict_types.specs.PlainContext.{names_of, plain_context, type_context};
-    ghost use Rattle.pict_types.specs.Scopes.{heights_inside, weights_inside};
+    ghost use Rattle.pict_types.specs.Around.{heights_inside, weights_inside};
 
     /// A context without entries. Takes no memory.
     pub fn new(alloc: Global, names: &'a Names) -> Context<'a>
@@ -74,14 +74,17 @@ impl<'a> Context<'a> {
         }
     }
 
-    /// Adds the entry as the innermost. The only error is want of memory, and it leaves the context as it was.
+    /// Adds the entry as the innermost. The only error is want of memory, also where a `u32` couldn't
+    /// number the variables, and it leaves the context as it was.
     pub fn push(&mut self, entry: Entry) -> Result<(), AllocError>
         requires formed { EntryIsWellFormed (names_of self.old) (type_context self.old) (plain_what entry.what) }
-        requires room { length (variables (plain_entry entry ∷ plain_context self.old)) < 2 ^ 32 }
         ensures pushed { OnOk result (plain_context self.new ≡ plain_entry entry ∷ plain_context self.old) }
         ensures err { OnErr result (plain_context self.new ≡ plain_context self.old) }
         ensures names { names_of self.new ≡ names_of self.old }
     {
+        if self.known.as_slice().len() >= u32::MAX as usize {
+            return Err(AllocError);
+        }
         self.entries.reserve(1)?;
         self.known.reserve(1)?;
         self.around.reserve(1)?;
@@ -90,7 +93,7 @@ impl<'a> Context<'a> {
         self.around.push_reserved(count);
         match &entry.what {
             What::Variable(bound) => {
-                let measures = measure_bound(bound, &Scope::Outer(&self.known));
+                let measures = measure_bound(bound, &Around::Outer(&self.known));
                 let place = self.entries.as_slice().len();
                 self.known.push_reserved(Known { place, measures });
                 self.entries.push_reserved(entry);
@@ -103,19 +106,29 @@ impl<'a> Context<'a> {
         }
     }
 
+    /// Takes the innermost entry out; nothing where there is none. Takes no memory.
+    pub fn take(&mut self) -> Option<Entry>
+        ensures none { IfNone result (plain_context self.old ≡ []) }
+        ensures some { IfSome result (λ e. plain_context self.old ≡ plain_entry e ∷ plain_context self.new) }
+        ensures left { plain_context self.new ≡ drop 1 (plain_context self.old) }
+        ensures names { names_of self.new ≡ names_of self.old }
+    {
+        self.nearest.unbind();
+        let _ = self.around.pop();
+        let entry = self.entries.pop()?;
+        if let What::Variable(_) = entry.what {
+            let _ = self.known.pop();
+        }
+        Some(entry)
+    }
+
     /// Drops the innermost entry. Takes no memory.
     pub fn pop(&mut self)
         requires some { 0 < length (plain_context self.old) }
         ensures popped { plain_context self.new ≡ drop 1 (plain_context self.old) }
         ensures names { names_of self.new ≡ names_of self.old }
     {
-        self.nearest.unbind();
-        let _ = self.around.pop();
-        if let Some(entry) = self.entries.pop()
-            && let What::Variable(_) = entry.what
-        {
-            let _ = self.known.pop();
-        }
+        let _ = self.take();
     }
 
     /// The number of type variables. Takes no memory.
@@ -206,7 +219,7 @@ impl<'a> Context<'a> {
         ensures weight { result.weight ≡ held (weight_of (type_context self.now) (plain t.now)) }
         ensures height { result.height ≡ held (height_of (type_context self.now) (plain t.now)) }
     {
-        measure(t, &Scope::Outer(&self.known))
+        measure(t, &Around::Outer(&self.known))
     }
 
     /// The weight and the height of a type that is written under binders with these measures, the innermost last, in
@@ -218,7 +231,7 @@ impl<'a> Context<'a> {
     {
         let known = self.known.as_slice();
         let outer = &known[..known.len() - by as usize];
-        measure(t, &Scope::Inner(inner, &Scope::Outer(outer)))
+        measure(t, &inside(inner, &Around::Outer(outer)))
     }
 
     /// The weight and the height of a type that is written under one more variable with these measures, each held at
@@ -228,7 +241,7 @@ impl<'a> Context<'a> {
         ensures height { result.height ≡ held (rise (variable.height ∷ heights (type_context self.now)) (plain t.now)) }
     {
         let known = [variable];
-        measure(t, &Scope::Inner(&known, &Scope::Outer(&self.known)))
+        measure(t, &inside(&known, &Around::Outer(&self.known)))
     }
 }
 
@@ -257,6 +270,8 @@ mod tests {
         assert!(rt; c.bound(2).is_none());
         c.pop();
         assert_eq!(rt; c.variables(), 1);
+        assert!(rt; matches!(c.take(), Some(Entry { name: Name(0), .. })));
+        assert!(rt; c.take().is_none());
         Ok(())
     }
 }

@@ -1,12 +1,11 @@
 // Types put for the innermost type variables.
 
-ghost use Rattle.std.specs.Prelude.{◌≡◌, ◌+◌, ◌≤◌, ◌<◌, ◌^◌, IfOk, length};
+ghost use Rattle.std.specs.Prelude.{◌≡◌, IfOk};
 ghost use Rattle.pict_types.specs.Filling.{filling_past, put_for};
-ghost use Rattle.pict_types.specs.Measures.{size, size_bound, size_bounds, size_labels, size_types};
 ghost use Rattle.pict_types.specs.Plain.{plain, plain_bound, plain_bounds, plain_labels, plain_record, plain_types};
 ghost use Rattle.pict_types.specs.Replacing.{apply_variable, bound_by, fill, fill_bound, fill_bounds, fill_labels, fill_types};
-ghost use Rattle.pict_types.specs.Room.{reach, reach_bound, reach_bounds, reach_labels, reach_types};
 
+use crate::renumber::deeper;
 use crate::shift::shift_type;
 use crate::types::{Bound, Record, Ty};
 use pict_syntax::Name;
@@ -25,12 +24,8 @@ pub fn bound_by(t: Ty) -> Bound
 
 /// What variable `i` becomes under the `under` innermost binders, where `us` are put for the innermost variables
 /// beyond them and there are `by` more binders for the others.
-#[tactic(auto, using(crate::proofs::Filled::fill_rules, crate::proofs::Rows::reach_types_item, crate::proofs::Rows::size_types_item))]
+#[tactic(auto, using(crate::proofs::Filled::fill_rules))]
 fn fill_variable(alloc: Global, i: u32, us: &[Ty], by: u32, under: usize) -> Result<Ty, AllocError>
-    requires variable { i + by < 2 ^ 32 + length us.now }
-    requires room { reach_types (plain_types us.now) + under ≤ 2 ^ 32 }
-    requires depth { size_types (plain_types us.now) < 2 ^ 64 }
-    requires under { under < 2 ^ 32 }
     ensures { IfOk result (λ u. plain u ≡ (filling_past under (put_for (plain_types us.now) by)).type_for i) }
 {
     if (i as usize) < under {
@@ -40,34 +35,32 @@ fn fill_variable(alloc: Global, i: u32, us: &[Ty], by: u32, under: usize) -> Res
     if beyond < us.len() {
         return shift_type(alloc, &us[us.len() - 1 - beyond], under as u32, 0);
     }
-    Ok(Ty::Var((i as usize - us.len()) as u32 + by))
+    let beyond = (i as usize - us.len()) as u32;
+    Ok(Ty::Var(beyond.checked_add(by).ok_or(AllocError)?))
 }
 
 /// What an applied variable `i` becomes; nothing where a type is put for it.
 #[tactic(auto, using(crate::proofs::Filled::head_rules))]
-fn fill_head(i: u32, us: &[Ty], by: u32, under: usize) -> Option<u32>
-    requires variable { i + by < 2 ^ 32 + length us.now }
-    ensures { result ≡ (filling_past under (put_for (plain_types us.now) by)).head_for i }
+fn fill_head(i: u32, us: &[Ty], by: u32, under: usize) -> Result<Option<u32>, AllocError>
+    ensures { IfOk result (λ o. o ≡ (filling_past under (put_for (plain_types us.now) by)).head_for i) }
 {
     if (i as usize) < under {
-        return Some(i);
+        return Ok(Some(i));
     }
     if (i as usize) - under < us.len() {
-        return None;
+        return Ok(None);
     }
-    Some((i as usize - us.len()) as u32 + by)
+    let beyond = (i as usize - us.len()) as u32;
+    Ok(Some(beyond.checked_add(by).ok_or(AllocError)?))
 }
 
 /// The type with `us` put for the innermost variables, the last one for variable 0, and `by` more binders between it
 /// and its context; the `under` innermost variables stay.
 ///
-/// The only error is want of memory.
+/// The only error is want of memory, and a variable past the greatest `u32` is one.
 #[cycle(fill)]
 #[tactic(auto, using(crate::proofs::Rows::plain_apply, crate::proofs::Rows::plain_fields))]
 pub fn fill_type(alloc: Global, t: &Ty, us: &[Ty], by: u32, under: usize) -> Result<Ty, AllocError>
-    requires variables { reach (plain t.now) + by ≤ 2 ^ 32 + length us.now }
-    requires room { reach_types (plain_types us.now) + (under + size (plain t.now)) ≤ 2 ^ 32 }
-    requires depth { size_types (plain_types us.now) < 2 ^ 64 }
     ensures { IfOk result (λ u. plain u ≡ fill (filling_past under (put_for (plain_types us.now) by)) (plain t.now)) }
 {
     match t {
@@ -78,7 +71,7 @@ pub fn fill_type(alloc: Global, t: &Ty, us: &[Ty], by: u32, under: usize) -> Res
         Ty::Bool => Ok(Ty::Bool),
         Ty::Var(i) => fill_variable(alloc, *i, us, by, under),
         Ty::Apply(i, ts) => {
-            let head = fill_head(*i, us, by, under);
+            let head = fill_head(*i, us, by, under)?;
             let ts = fill_types(alloc, ts, us, by, under)?;
             Ok(apply_head(head, ts))
         }
@@ -87,7 +80,10 @@ pub fn fill_type(alloc: Global, t: &Ty, us: &[Ty], by: u32, under: usize) -> Res
             Box::new(alloc, fill_type(alloc, t, us, by, under)?)?,
         )),
         Ty::Fields(r) => Ok(Ty::Fields(fill_record(alloc, r, us, by, under)?)),
-        Ty::Rec(t) => Ok(Ty::Rec(Box::new(alloc, fill_type(alloc, t, us, by, under + 1)?)?)),
+        Ty::Rec(t) => Ok(Ty::Rec(Box::new(
+            alloc,
+            fill_type(alloc, t, us, by, deeper(under, 1)?)?,
+        )?)),
     }
 }
 
@@ -111,12 +107,9 @@ fn fill_record(
     by: u32,
     under: usize,
 ) -> Result<Record, AllocError>
-    requires variables { reach (plain_record r.now) + by ≤ 2 ^ 32 + length us.now }
-    requires room { reach_types (plain_types us.now) + (under + size (plain_record r.now)) ≤ 2 ^ 32 }
-    requires depth { size_types (plain_types us.now) < 2 ^ 64 }
     ensures { IfOk result (λ u. plain_record u ≡ fill (filling_past under (put_for (plain_types us.now) by)) (plain_record r.now)) }
 {
-    let inside = under + r.binders.as_slice().len();
+    let inside = deeper(under, r.binders.as_slice().len())?;
     Ok(Record {
         binders: fill_bounds(alloc, &r.binders, us, by, under)?,
         positional: fill_types(alloc, &r.positional, us, by, inside)?,
@@ -132,9 +125,6 @@ fn fill_bound(
     by: u32,
     under: usize,
 ) -> Result<Bound, AllocError>
-    requires variables { reach_bound (plain_bound b.now) + by ≤ 2 ^ 32 + length us.now }
-    requires room { reach_types (plain_types us.now) + (under + size_bound (plain_bound b.now)) ≤ 2 ^ 32 }
-    requires depth { size_types (plain_types us.now) < 2 ^ 64 }
     ensures { IfOk result (λ u. plain_bound u ≡ fill_bound (filling_past under (put_for (plain_types us.now) by)) (plain_bound b.now)) }
 {
     match b {
@@ -145,7 +135,7 @@ fn fill_bound(
 }
 
 #[cycle(fill)]
-#[tactic(auto, using(crate::proofs::Rows::types_push, crate::proofs::Rows::types_drop, crate::proofs::Rows::types_end, crate::proofs::Rows::types_then_none, crate::proofs::Rows::size_types_item, crate::proofs::Rows::reach_types_item))]
+#[tactic(auto, using(crate::proofs::Rows::types_push, crate::proofs::Rows::types_drop, crate::proofs::Rows::types_end, crate::proofs::Rows::types_then_none, crate::proofs::Rows::size_types_item))]
 fn fill_types(
     alloc: Global,
     ts: &[Ty],
@@ -153,9 +143,6 @@ fn fill_types(
     by: u32,
     under: usize,
 ) -> Result<Vec<Ty>, AllocError>
-    requires variables { reach_types (plain_types ts.now) + by ≤ 2 ^ 32 + length us.now }
-    requires room { reach_types (plain_types us.now) + (under + size_types (plain_types ts.now)) ≤ 2 ^ 32 }
-    requires depth { size_types (plain_types us.now) < 2 ^ 64 }
     ensures { IfOk result (λ xs. plain_types xs.items ≡ fill_types (filling_past under (put_for (plain_types us.now) by)) (plain_types ts.now)) }
 {
     let mut filled = Vec::new(alloc);
@@ -166,7 +153,7 @@ fn fill_types(
 }
 
 #[cycle(fill)]
-#[tactic(auto, using(crate::proofs::Rows::labels_push, crate::proofs::Rows::labels_drop, crate::proofs::Rows::labels_end, crate::proofs::Rows::labels_then_none, crate::proofs::Rows::size_labels_item, crate::proofs::Rows::reach_labels_item))]
+#[tactic(auto, using(crate::proofs::Rows::labels_push, crate::proofs::Rows::labels_drop, crate::proofs::Rows::labels_end, crate::proofs::Rows::labels_then_none, crate::proofs::Rows::size_labels_item))]
 fn fill_labels(
     alloc: Global,
     ls: &[(Name, Ty)],
@@ -174,9 +161,6 @@ fn fill_labels(
     by: u32,
     under: usize,
 ) -> Result<Vec<(Name, Ty)>, AllocError>
-    requires variables { reach_labels (plain_labels ls.now) + by ≤ 2 ^ 32 + length us.now }
-    requires room { reach_types (plain_types us.now) + (under + size_labels (plain_labels ls.now)) ≤ 2 ^ 32 }
-    requires depth { size_types (plain_types us.now) < 2 ^ 64 }
     ensures { IfOk result (λ xs. plain_labels xs.items ≡ fill_labels (filling_past under (put_for (plain_types us.now) by)) (plain_labels ls.now)) }
 {
     let mut filled = Vec::new(alloc);
@@ -187,7 +171,7 @@ fn fill_labels(
 }
 
 #[cycle(fill)]
-#[tactic(auto, using(crate::proofs::Rows::bounds_push, crate::proofs::Rows::bounds_drop, crate::proofs::Rows::bounds_end, crate::proofs::Rows::bounds_then_none, crate::proofs::Rows::size_bounds_item, crate::proofs::Rows::size_bounds_reach, crate::proofs::Rows::reach_bounds_item))]
+#[tactic(auto, using(crate::proofs::Rows::bounds_push, crate::proofs::Rows::bounds_drop, crate::proofs::Rows::bounds_end, crate::proofs::Rows::bounds_then_none, crate::proofs::Rows::size_bounds_item))]
 fn fill_bounds(
     alloc: Global,
     bs: &[Bound],
@@ -195,14 +179,11 @@ fn fill_bounds(
     by: u32,
     under: usize,
 ) -> Result<Vec<Bound>, AllocError>
-    requires variables { reach_bounds (plain_bounds bs.now) + by ≤ 2 ^ 32 + length us.now }
-    requires room { reach_types (plain_types us.now) + (under + size_bounds (plain_bounds bs.now)) ≤ 2 ^ 32 }
-    requires depth { size_types (plain_types us.now) < 2 ^ 64 }
     ensures { IfOk result (λ xs. plain_bounds xs.items ≡ fill_bounds (filling_past under (put_for (plain_types us.now) by)) (plain_bounds bs.now)) }
 {
     let mut filled = Vec::new(alloc);
     for (i, b) in bs.iter().enumerate() {
-        filled.push(fill_bound(alloc, b, us, by, under + i)?)?;
+        filled.push(fill_bound(alloc, b, us, by, deeper(under, i)?)?)?;
     }
     Ok(filled)
 }

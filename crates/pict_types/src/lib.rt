@@ -4,20 +4,29 @@
 mod context;
 mod copy;
 mod fill;
+mod laws;
 mod limits;
 mod measure;
 mod measures;
+mod mentioning;
 mod nearest;
+mod renumber;
 mod shift;
 mod types;
 mod unfolding;
 
 pub use context::{Context, Entry, What};
 pub use fill::{apply_head, bound_by, fill_type};
+pub use laws::{
+    law_arguments_one_by_one, law_itself_changes_nothing, law_one_after_the_other_is_one,
+    law_only_what_is_mentioned_counts,
+};
 pub use limits::{Measure, SizeError, too_big};
 pub use measure::Measures;
 pub use measures::{height, weight};
+pub use mentioning::{Variables, mentions};
 pub use nearest::Nearest;
-pub use shift::shift_type;
+pub use renumber::deeper;
+pub use shift::{lower_type, shift_type};
 pub use types::{Arg, Bound, Cap, Record, Ty};
 pub use unfolding::unfold;

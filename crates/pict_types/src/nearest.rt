@@ -26,11 +26,11 @@ pub struct Nearest {
 
 impl Model for Nearest {
     ghost use Rattle.std.specs.Prelude.{List, ℕ};
-    ghost use Rattle.pict_types.specs.Levels.{names_of, StandsFor};
+    ghost use Rattle.pict_types.specs.Levels.{bound_names, StandsFor};
 
     ghost Value = { List ℕ };
 
-    ghost view = { λ n. names_of n.bound.items };
+    ghost view = { λ n. bound_names n.bound.items };
 
     ghost invariant = { λ n. StandsFor n.bound.items n.levels };
 }

@@ -1,122 +1,58 @@
-// Types moved under more binders.
+// Types moved under more binders, and out of binders that they don't mention.
 
-ghost use Rattle.std.specs.Prelude.{◌≡◌, ◌+◌, ◌≤◌, ◌<◌, ◌^◌, IfOk};
-ghost use Rattle.pict_types.specs.Measures.{size, size_bound, size_bounds, size_labels, size_types};
-ghost use Rattle.pict_types.specs.Plain.{plain, plain_bound, plain_bounds, plain_labels, plain_record, plain_types};
-ghost use Rattle.pict_types.specs.Renaming.{moved, rename, rename_bound, rename_bounds, rename_labels, rename_types};
-ghost use Rattle.pict_types.specs.Room.{reach, reach_bound, reach_bounds, reach_labels, reach_types};
+ghost use Rattle.std.specs.Prelude.{◌≡◌, IfOk};
+ghost use Rattle.pict_types.specs.Mentions.{lowered};
+ghost use Rattle.pict_types.specs.Plain.{plain};
+ghost use Rattle.pict_types.specs.Renaming.{moved, rename};
 
-use crate::types::{Bound, Record, Ty};
-use pict_syntax::Name;
+use crate::renumber::{Renumbering, renumber_type};
+use crate::types::Ty;
 use std::alloc::{AllocError, Global};
-
-/// Variable `i` with `by` more variables, which come after the `from` innermost ones.
-#[tactic(auto, using(crate::proofs::Moving::moved_low, crate::proofs::Moving::moved_high))]
-fn shift_variable(i: u32, by: u32, from: usize) -> u32
-    requires room { i + by < 2 ^ 32 }
-    ensures { result ≡ moved by from i }
-{
-    if (i as usize) < from { i } else { i + by }
-}
 
 /// The type with `by` more variables between it and its context; the `from` innermost variables stay.
 ///
-/// The only error is want of memory.
-#[cycle(shift)]
-#[tactic(auto, using(crate::proofs::Rows::plain_apply, crate::proofs::Rows::plain_fields))]
+/// The only error is want of memory, and a variable past the greatest `u32` is one.
 pub fn shift_type(alloc: Global, t: &Ty, by: u32, from: usize) -> Result<Ty, AllocError>
-    requires room { reach (plain t.now) + by ≤ 2 ^ 32 }
-    requires depth { from + size (plain t.now) < 2 ^ 64 }
     ensures { IfOk result (λ u. plain u ≡ rename (moved by from) (plain t.now)) }
 {
-    match t {
-        Ty::Top => Ok(Ty::Top),
-        Ty::Int => Ok(Ty::Int),
-        Ty::Char => Ok(Ty::Char),
-        Ty::Str => Ok(Ty::Str),
-        Ty::Bool => Ok(Ty::Bool),
-        Ty::Var(i) => Ok(Ty::Var(shift_variable(*i, by, from))),
-        Ty::Apply(i, ts) => {
-            let i = shift_variable(*i, by, from);
-            Ok(Ty::Apply(i, shift_types(alloc, ts, by, from)?))
+    renumber_type(alloc, t, Renumbering::Up(by), from)
+}
+
+/// The type without the `by` innermost variables of its context. One that mentions none of them means the same there.
+///
+/// The only error is want of memory.
+pub fn lower_type(alloc: Global, t: &Ty, by: u32) -> Result<Ty, AllocError>
+    ensures { IfOk result (λ u. plain u ≡ lowered by (plain t.now)) }
+{
+    renumber_type(alloc, t, Renumbering::Down(by), 0)
+}
+
+#[cfg(test)]
+mod tests {
+    use super::lower_type;
+    use crate::mentioning::{Variables, mentions};
+    use crate::types::{Cap, Ty};
+    use std::alloc::AllocError;
+
+    /// The variable of whose values the type is a channel; the greatest number where it is no such type.
+    fn variable_in(t: &Ty) -> u32 {
+        match t {
+            Ty::Chan(_, inner) => match &**inner {
+                Ty::Var(i) => *i,
+                _ => u32::MAX,
+            },
+            _ => u32::MAX,
         }
-        Ty::Chan(cap, t) => Ok(Ty::Chan(*cap, Box::new(alloc, shift_type(alloc, t, by, from)?)?)),
-        Ty::Fields(r) => Ok(Ty::Fields(shift_record(alloc, r, by, from)?)),
-        Ty::Rec(t) => Ok(Ty::Rec(Box::new(alloc, shift_type(alloc, t, by, from + 1)?)?)),
     }
-}
 
-#[cycle(shift)]
-#[tactic(auto, using(crate::proofs::Moving::moved_all, crate::proofs::Rows::count_bounds_length, crate::proofs::Rows::count_size_bounds))]
-fn shift_record(alloc: Global, r: &Record, by: u32, from: usize) -> Result<Record, AllocError>
-    requires room { reach (plain_record r.now) + by ≤ 2 ^ 32 }
-    requires depth { from + size (plain_record r.now) < 2 ^ 64 }
-    ensures { IfOk result (λ u. plain_record u ≡ rename (moved by from) (plain_record r.now)) }
-{
-    let under = from + r.binders.as_slice().len();
-    Ok(Record {
-        binders: shift_bounds(alloc, &r.binders, by, from)?,
-        positional: shift_types(alloc, &r.positional, by, under)?,
-        labelled: shift_labels(alloc, &r.labelled, by, under)?,
-    })
-}
-
-#[cycle(shift)]
-fn shift_bound(alloc: Global, b: &Bound, by: u32, from: usize) -> Result<Bound, AllocError>
-    requires room { reach_bound (plain_bound b.now) + by ≤ 2 ^ 32 }
-    requires depth { from + size_bound (plain_bound b.now) < 2 ^ 64 }
-    ensures { IfOk result (λ u. plain_bound u ≡ rename_bound (moved by from) (plain_bound b.now)) }
-{
-    match b {
-        Bound::Free => Ok(Bound::Free),
-        Bound::Below(t) => Ok(Bound::Below(shift_type(alloc, t, by, from)?)),
-        Bound::Operator(n) => Ok(Bound::Operator(*n)),
+    #[test]
+    fn a_channel_of_variable_2(rt: HostRuntime) -> Result<(), AllocError> {
+        let t = Ty::Chan(Cap::Both, Box::new(rt.alloc(), Ty::Var(2))?);
+        assert!(rt; !mentions(&t, &Variables::Innermost(2))?);
+        assert!(rt; mentions(&t, &Variables::Innermost(3))?);
+        assert!(rt; mentions(&t, &Variables::Marked(&[true, false, false]))?);
+        assert!(rt; !mentions(&t, &Variables::Marked(&[false, true, true]))?);
+        assert_eq!(rt; variable_in(&lower_type(rt.alloc(), &t, 2)?), 0);
+        Ok(())
     }
-}
-
-#[cycle(shift)]
-#[tactic(auto, using(crate::proofs::Rows::types_push, crate::proofs::Rows::types_drop, crate::proofs::Rows::types_end, crate::proofs::Rows::types_then_none, crate::proofs::Rows::size_types_item, crate::proofs::Rows::reach_types_item))]
-fn shift_types(alloc: Global, ts: &[Ty], by: u32, from: usize) -> Result<Vec<Ty>, AllocError>
-    requires room { reach_types (plain_types ts.now) + by ≤ 2 ^ 32 }
-    requires depth { from + size_types (plain_types ts.now) < 2 ^ 64 }
-    ensures { IfOk result (λ us. plain_types us.items ≡ rename_types (moved by from) (plain_types ts.now)) }
-{
-    let mut moved = Vec::new(alloc);
-    for t in ts {
-        moved.push(shift_type(alloc, t, by, from)?)?;
-    }
-    Ok(moved)
-}
-
-#[cycle(shift)]
-#[tactic(auto, using(crate::proofs::Rows::labels_push, crate::proofs::Rows::labels_drop, crate::proofs::Rows::labels_end, crate::proofs::Rows::labels_then_none, crate::proofs::Rows::size_labels_item, crate::proofs::Rows::reach_labels_item))]
-fn shift_labels(
-    alloc: Global,
-    ls: &[(Name, Ty)],
-    by: u32,
-    from: usize,
-) -> Result<Vec<(Name, Ty)>, AllocError>
-    requires room { reach_labels (plain_labels ls.now) + by ≤ 2 ^ 32 }
-    requires depth { from + size_labels (plain_labels ls.now) < 2 ^ 64 }
-    ensures { IfOk result (λ us. plain_labels us.items ≡ rename_labels (moved by from) (plain_labels ls.now)) }
-{
-    let mut moved = Vec::new(alloc);
-    for l in ls {
-        moved.push((l.0, shift_type(alloc, &l.1, by, from)?))?;
-    }
-    Ok(moved)
-}
-
-#[cycle(shift)]
-#[tactic(auto, using(crate::proofs::Rows::bounds_push, crate::proofs::Rows::bounds_drop, crate::proofs::Rows::bounds_end, crate::proofs::Rows::bounds_then_none, crate::proofs::Rows::size_bounds_item, crate::proofs::Rows::size_bounds_reach, crate::proofs::Rows::reach_bounds_item))]
-fn shift_bounds(alloc: Global, bs: &[Bound], by: u32, from: usize) -> Result<Vec<Bound>, AllocError>
-    requires room { reach_bounds (plain_bounds bs.now) + by ≤ 2 ^ 32 }
-    requires depth { from + size_bounds (plain_bounds bs.now) < 2 ^ 64 }
-    ensures { IfOk result (λ us. plain_bounds us.items ≡ rename_bounds (moved by from) (plain_bounds bs.now)) }
-{
-    let mut moved = Vec::new(alloc);
-    for (i, b) in bs.iter().enumerate() {
-        moved.push(shift_bound(alloc, b, by, from + i)?)?;
-    }
-    Ok(moved)
 }

@@ -6,7 +6,7 @@ ghost use Rattle.pict_types.specs.Kinds.{IsWellFormed, kinds, proper};
 ghost use Rattle.pict_types.specs.WithinLimits.{IsTooHeavy, IsTooHigh, IsWithinLimits};
 ghost use Rattle.pict_types.specs.Measures.{held, height_of, size, weight_of};
 ghost use Rattle.pict_types.specs.Plain.{plain};
-ghost use Rattle.pict_types.specs.PlainContext.{names_of, type_context};
+ghost use Rattle.pict_types.specs.PlainContext.{IsWrittenIn, type_context};
 ghost use Rattle.pict_types.specs.Recursion.{IsRecursive, unfolded};
 ghost use Rattle.pict_types.specs.Replacing.{unfolding_of};
 ghost use Rattle.pict_types.specs.Room.{reach};
@@ -23,8 +23,6 @@ use std::slice;
 /// The measures of the unfolding of `t`, whose body is `body`. What is built for them is no greater than the body.
 fn unfolded_measures(alloc: Global, c: &Context, t: &Ty, body: &Ty) -> Result<Measures, AllocError>
     requires body { plain t.now ≡ Rec (plain body.now) }
-    requires variables { reach (plain body.now) + 1 ≤ 2 ^ 32 }
-    requires room { size (plain body.now) < 2 ^ 32 }
     ensures weight { IfOk result (λ m. m.weight ≡ held (weight_of (type_context c.now) (unfolding_of (plain body.now)))) }
     ensures height { IfOk result (λ m. m.height ≡ held (height_of (type_context c.now) (unfolding_of (plain body.now)))) }
 {
@@ -38,10 +36,9 @@ fn unfolded_measures(alloc: Global, c: &Context, t: &Ty, body: &Ty) -> Result<Me
 /// `TooBig` comes where a measure of the unfolding passes its limit, and nothing so big is built.
 pub fn unfold(alloc: Global, c: &Context, t: &Ty) -> Result<Ty, SizeError>
     requires recursive { IsRecursive (plain t.now) }
-    requires t { IsWellFormed (names_of c.now) (kinds (type_context c.now)) (plain t.now) }
-    requires room { length (type_context c.now) + (size (plain t.now) + size (plain t.now)) < 2 ^ 32 }
+    requires t { IsWrittenIn c.now (plain t.now) }
     ensures unfolding { IfOk result (λ u. plain u ≡ unfolded (plain t.now)) }
-    ensures formed { IfOk result (λ u. IsWellFormed (names_of c.now) (kinds (type_context c.now)) (plain u)) }
+    ensures formed { IfOk result (λ u. IsWrittenIn c.now (plain u)) }
     ensures within { IfOk result (λ u. IsWithinLimits (type_context c.now) (unfolded (plain t.now))) }
     ensures too_heavy { result ≡ Err (SizeError.TooBig Measure.Weight) → IsTooHeavy (type_context c.now) (unfolded (plain t.now)) }
     ensures too_high { result ≡ Err (SizeError.TooBig Measure.Height) → IsTooHigh (type_context c.now) (unfolded (plain t.now)) }

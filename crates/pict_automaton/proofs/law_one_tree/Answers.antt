@@ -1,6 +1,6 @@
 -- The machine that reads programs comes to one end.
-use Rattle.pict_automaton.proofs.Programs.{one-tree}
+use Rattle.pict_automaton.proofs.Programs.{one_tree}
 use Rattle.pict_automaton.proofs.law_one_tree.Goals as goal
 
 pub returns : goal.returns
-returns c = one-tree
+returns c = one_tree

@@ -8,6 +8,7 @@ invariant-pieces l = record {
   read : HasRead l.fn.names l.names l.number l.text l.at l.tokens.items;
   within : l.at ≤ length l.text;
   few : length l.tokens.items ≤ l.at;
+  gained : length l.names ≤ length l.fn.names + l.at;
   room : length l.names + (length l.text - l.at) < 2 ^ 32;
 }
 

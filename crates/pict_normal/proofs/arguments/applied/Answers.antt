@@ -6,19 +6,13 @@ use Rattle.pict_normal.specs.Made.{AreArguments, IsReason, kept_of}
 use Rattle.pict_types.specs.Measures.{weigh, weights, rise, heights}
 use Rattle.pict_types.specs.Plain.{plain, plain_types}
 use Rattle.pict_types.specs.PlainContext.{type_context}
-use Rattle.pict_types.specs.Scopes.{weights_inside, heights_inside}
+use Rattle.pict_types.specs.Around.{weights_inside, heights_inside}
 use Rattle.pict_types.specs.Replacing.{fill}
 use Rattle.pict_normal.proofs.Applied.{body_built}
 use Rattle.pict_normal.proofs.Behind.{applied_weighs, applied_rises}
 use Rattle.pict_normal.proofs.Making.{passed_on, reason_by}
 use Rattle.pict_normal.proofs.Operating.{arguments_count}
 use Rattle.pict_normal.proofs.arguments.applied.Goals as goal
-
-pub fill_type-requires-clause-variables : goal.fill_type-requires-clause-variables
-fill_type-requires-clause-variables c =
-    let m = ap length c.as_slice.ensures.value in
-    let n = ap length c.deref.ensures.value in
-    omega (arith, m, n, c.requires.count, c.requires.variables)
 
 pub returns-in_err-measures-clause-reason : goal.returns-in_err-measures-clause-reason
 returns-in_err-measures-clause-reason c =

@@ -11,7 +11,7 @@ use Rattle.pict_types.specs.Kinds.{IsWellFormed, kinds}
 use Rattle.pict_normal.specs.declared.made.MakeError.{MakeError}
 use Rattle.pict_normal.specs.declared.made.MakeError.TheVariants.{TooHeavy, Memory}
 use Rattle.pict_normal.specs.Made.{IsReason}
-use Rattle.pict_types.specs.Measures.{weight_of, height_of, size}
+use Rattle.pict_types.specs.Measures.{weight_of, height_of}
 use Rattle.pict_normal.specs.Meanings.{entry_kinds, meanings}
 use Rattle.pict_normal.specs.Normal.{kind_stop, kind_stops, normal, size_stop, span_of}
 use Rattle.pict_types.specs.Entries.{PlainContext, variables}
@@ -21,24 +21,19 @@ use Rattle.pict_types.specs.Places.{names_in}
 use Rattle.pict_normal.specs.Raw.{raw}
 use Rattle.pict_normal.specs.Refusals.{IsRefusal, kind_error}
 use Rattle.pict_types.specs.Replacing.{replace}
+use Rattle.pict_types.specs.WithinLimits.{IsWithinLimits}
 use Rattle.pict_normal.proofs.RawNormal.{raw_normal}
 use Rattle.pict_normal.proofs.RawFormed.{raw_formed}
 use Rattle.pict_normal.proofs.RawSteps.{passed_up}
 use Rattle.pict_normal.proofs.Making.{err_both, ok_both}
-use Rattle.pict_normal.proofs.Expanded.{normal_formed, allowed, refused_whole, first_refusal, raw_size, variables_length}
+use Rattle.pict_normal.proofs.Expanded.{normal_formed, allowed, refused_whole, first_refusal}
 use Rattle.pict_normal.proofs.expansion.expand.Goals as goal
 
-pub made_entries-requires-clause-formed : goal.made_entries-requires-clause-formed
-made_entries-requires-clause-formed c =
+pub made_entries-requires : goal.made_entries-requires
+made_entries-requires c =
     let ns = names_of c.args.c.now in
     let d = plain_context c.args.c.now in
-    subst (IsWellFormed ns (entry_kinds d)) (sym c.in_ok-raw.ensures.raw) (raw_formed ns d (type_of c.args.t.now) c.requires.labels c.in_ok-raw.ensures.kinds)
-
-pub made_entries-requires-clause-room : goal.made_entries-requires-clause-room
-made_entries-requires-clause-room c =
-    let d = plain_context c.args.c.now in
-    let e : size (plain c.in_ok-raw.raw) ≡ size (raw (names_of c.args.c.now) (names_in d) (type_of c.args.t.now)) = ap size c.in_ok-raw.ensures.raw in
-    omega (arith, e, raw_size (names_of c.args.c.now) (names_in d) (type_of c.args.t.now), variables_length d, c.requires.room)
+    record { formed = subst (IsWellFormed ns (entry_kinds d)) (sym c.in_ok-raw.ensures.raw) (raw_formed ns d (type_of c.args.t.now) c.requires.labels c.in_ok-raw.ensures.kinds) }
 
 pub returns-in_err-raw-clause-refused : goal.returns-in_err-raw-clause-refused
 returns-in_err-raw-clause-refused c =
@@ -80,6 +75,20 @@ returns-clause-allowed c =
     (λ u p. ok_both c.made_entries.result (λ m h e.
     let low = subst (λ o. IfSome o (λ v. m.measures.height ≤ 1000)) e h.low in
     allowed ns d t c.in_ok-raw.ensures.kinds (omega (arith, w, h.weight, h.light)) (omega (arith, r, h.height, low))) c.made_entries.ensures.made p)
+    c.kept.ensures.ok
+
+pub returns-clause-within : goal.returns-clause-within
+returns-clause-within c =
+    let d = plain_context c.args.c.now in
+    let k = type_context c.args.c.now in
+    let t = replace (meanings d) (plain c.in_ok-raw.raw) in
+    IfOk-weaker c.kept.result (λ u. IsOkAnd c.made_entries.result (λ m. m.ty ≡ Some u)) (λ u. IsWithinLimits k (plain u))
+    (λ u p. ok_both c.made_entries.result (λ m h e.
+    let same : plain u ≡ t = subst (λ o. IfSome o (λ v. plain v ≡ t)) e h.made in
+    let low : m.measures.height ≤ 1000 = subst (λ o. IfSome o (λ v. m.measures.height ≤ 1000)) e h.low in
+    let w = ap (weight_of k) same in
+    let r = ap (height_of k) same in
+    (omega (arith, w, h.weight, h.light), omega (arith, r, h.height, low))) c.made_entries.ensures.made p)
     c.kept.ensures.ok
 
 refused_by : (ns : List (List ℕ)) (d : PlainContext) (t : TypeTree) (s : Span) (reason : MakeError) (n : ℕ) → s ≡ span_of t → kind_stops ns d t ≡ [] → n ≡ weight_of (variables d) (normal ns d t) → IsReason n reason → IsRefusal (kind_stop ns d t) (kind_error s reason)

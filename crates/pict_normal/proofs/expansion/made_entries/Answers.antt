@@ -5,7 +5,7 @@ use Rattle.pict_normal.specs.declared.puts.Puts.{Puts}
 use Rattle.pict_normal.specs.declared.puts.Source.TheVariants.{Entries as Entries_}
 use Rattle.pict_types.specs.Kinds.{IsWellFormed}
 use Rattle.pict_normal.specs.Made.{IsMade, IsReason}
-use Rattle.pict_types.specs.Measures.{size, weigh}
+use Rattle.pict_types.specs.Measures.{weigh}
 use Rattle.pict_normal.specs.Meanings.{entry_kinds}
 use Rattle.pict_types.specs.Plain.{plain}
 use Rattle.pict_types.specs.PlainContext.{names_of, plain_context}
@@ -21,7 +21,7 @@ made_type-requires c =
     let ns = names_of c.args.c.now in
     let d = plain_context c.args.c.now in
     record {
-      placed = placed_first {p = p} {F = λ ks. IsWellFormed ns ks (plain c.args.t.now)} {n = size (plain c.args.t.now)} c.new-inner.result.items (entry_kinds d) c.new-inner.ensures.items (meanings_keep ns d c.args.c.now.formed) tt c.requires.formed (omega (arith, c.requires.room));
+      placed = placed_first {p = p} {F = λ ks. IsWellFormed ns ks (plain c.args.t.now)} c.new-inner.result.items (entry_kinds d) c.new-inner.ensures.items (meanings_keep ns d c.args.c.now.formed) c.requires.formed;
     }
 
 pub returns-clause-made : goal.returns-clause-made

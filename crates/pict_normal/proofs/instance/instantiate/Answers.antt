@@ -4,7 +4,7 @@ use Rattle.pict_normal.specs.declared.puts.Puts.{Puts}
 use Rattle.pict_normal.specs.declared.puts.Source.TheVariants.{Arguments as Arguments_}
 use Rattle.pict_types.specs.Types.{Fields}
 use Rattle.pict_types.specs.Kinds.{IsWellFormed, AreWellFormed, LabelsAreWellFormed, kinds, kinds_under}
-use Rattle.pict_types.specs.Measures.{size_types, size_labels, weigh_types, weigh_labels, weight_of, weights}
+use Rattle.pict_types.specs.Measures.{weigh_types, weigh_labels, weight_of, weights}
 use Rattle.pict_types.specs.Plain.{plain_args, plain_bounds, plain_labels, plain_record, plain_types}
 use Rattle.pict_types.specs.PlainContext.{names_of, type_context}
 use Rattle.pict_normal.specs.Putting.{replacement_in, weights_in}
@@ -21,9 +21,8 @@ made_types-requires c =
     let ns = names_of c.args.c.now in
     let bs = plain_bounds r.binders.items in
     let same : plain_types r.positional.items ≡ plain_types c.deref.result.now = ap plain_types (sym c.deref.ensures.value) in
-    let z : size_types (plain_types r.positional.items) ≡ size_types (plain_types c.deref.result.now) = ap size_types same in
     record {
-      placed = placed_first {p = p} c.new-inner.result.items (kinds_under (kinds (type_context c.args.c.now)) bs) c.new-inner.ensures.items (arguments_keep ns (kinds (type_context c.args.c.now)) (plain_args c.args.args.now) bs c.requires.fit c.requires.args) c.requires.args (subst (AreWellFormed ns (kinds_under (kinds (type_context c.args.c.now)) bs)) same c.requires.r.1.0) (omega (arith, z, c.requires.room));
+      placed = placed_first {p = p} c.new-inner.result.items (kinds_under (kinds (type_context c.args.c.now)) bs) c.new-inner.ensures.items (arguments_keep ns (kinds (type_context c.args.c.now)) (plain_args c.args.args.now) bs c.requires.fit c.requires.args) (subst (AreWellFormed ns (kinds_under (kinds (type_context c.args.c.now)) bs)) same c.requires.r.1.0);
     }
 
 pub made_labels-requires : goal.made_labels-requires
@@ -33,9 +32,8 @@ made_labels-requires c =
     let ns = names_of c.args.c.now in
     let bs = plain_bounds r.binders.items in
     let same : plain_labels r.labelled.items ≡ plain_labels c.deref-2.result.now = ap plain_labels (sym c.deref-2.ensures.value) in
-    let z : size_labels (plain_labels r.labelled.items) ≡ size_labels (plain_labels c.deref-2.result.now) = ap size_labels same in
     record {
-      placed = placed_first {p = p} c.made_types.new.inner.items (kinds_under (kinds (type_context c.args.c.now)) bs) (c.in_ok-positional.ensures.inner ∙ c.new-inner.ensures.items) (arguments_keep ns (kinds (type_context c.args.c.now)) (plain_args c.args.args.now) bs c.requires.fit c.requires.args) c.requires.args (subst (LabelsAreWellFormed ns (kinds_under (kinds (type_context c.args.c.now)) bs)) same c.requires.r.1.1) (omega (arith, z, c.requires.room));
+      placed = placed_first {p = p} c.made_types.new.inner.items (kinds_under (kinds (type_context c.args.c.now)) bs) (c.in_ok-positional.ensures.inner ∙ c.new-inner.ensures.items) (arguments_keep ns (kinds (type_context c.args.c.now)) (plain_args c.args.args.now) bs c.requires.fit c.requires.args) (subst (LabelsAreWellFormed ns (kinds_under (kinds (type_context c.args.c.now)) bs)) same c.requires.r.1.1);
     }
 
 pub returns-in_err-positional-clause-too_heavy : goal.returns-in_err-positional-clause-too_heavy

@@ -1,24 +1,17 @@
 -- The body of an operator is well formed.
 use Rattle.std.proofs.Common.{◌≡◌, sym, subst}
-use Rattle.std.specs.Prelude.{IfSome}
 use Rattle.pict_types.specs.Entries.{variables}
 use Rattle.pict_types.specs.Kinds.{kinds, with_parameters, IsWellFormed}
-use Rattle.pict_types.specs.Plain.{plain}
 use Rattle.pict_types.specs.PlainContext.{names_of, plain_context}
 use Rattle.pict_normal.specs.Meanings.{meanings}
-use Rattle.pict_normal.specs.WrittenArguments.{body_of}
 use Rattle.pict_normal.proofs.BareOperators.{body_formed, head_is}
 use Rattle.pict_normal.proofs.Expanded.{meanings_keep}
-use Rattle.pict_normal.proofs.Making.{ok_both}
 use Rattle.pict_normal.proofs.operators.expand_arg.Goals as goal
 
-pub returns-in_ok-body-in-Some-clause-formed : goal.returns-in_ok-body-in-Some-clause-formed
-returns-in_ok-body-in-Some-clause-formed c =
+pub returns-in_ok-operator_body-in-Some-clause-formed : goal.returns-in_ok-operator_body-in-Some-clause-formed
+returns-in_ok-operator_body-in-Some-clause-formed c =
     let ns = names_of c.args.c.now in
     let d = plain_context c.args.c.now in
     let o = c.in-Some.operator in
-    let body = body_of o.params ((meanings d).head_of o.entry) in
-    let is : plain c.in_ok-body-in-Some.body ≡ body =
-    ok_both c.made_operator.result (λ m h e. subst (λ x. IfSome x (λ u. plain u ≡ body)) e h.made) c.made_operator.ensures.made c.in_ok-body-in-Some.ensures.ok in
-    subst (IsWellFormed ns (with_parameters o.params (kinds (variables d)))) (sym is)
+    subst (IsWellFormed ns (with_parameters o.params (kinds (variables d)))) (sym c.in_ok-operator_body-in-Some.ensures)
     (body_formed ns (kinds (variables d)) o.params ((meanings d).head_of o.entry) (head_is ns d o.entry o.params (meanings_keep ns d c.args.c.now.formed) c.in-Some.ensures.arity))

@@ -1,16 +1,14 @@
 -- A name of an entry that is an operator, and what is none.
-use Rattle.std.proofs.Common.{◌≡◌, Option, Some, None, sym, ◌∙◌, ap, subst, arith}
+use Rattle.std.proofs.Common.{◌≡◌, Option, Some, None, sym, ◌∙◌, ap, subst}
 use Rattle.std.specs.Prelude.{IfNone}
 use Rattle.pict_syntax.specs.PlainTrees.{type_of}
-use Rattle.pict_syntax.specs.Trees.{use-type}
-use Rattle.pict_types.specs.Places.{names_in}
+use Rattle.pict_syntax.specs.Trees.{use_type}
 use Rattle.pict_types.specs.PlainContext.{names_of, plain_context}
 use Rattle.pict_types.specs.Types.{Plain}
 use Rattle.pict_normal.specs.Normal.{kind_stop, meaning, normal}
 use Rattle.pict_normal.specs.WrittenArguments.{arg_stop, normal_arg, named}
-use Rattle.pict_types.proofs.Places.{names_length}
 use Rattle.pict_normal.proofs.BareOperators.{arg_of_none, arg_of_type, stop_of_none, stop_of_type, operator_meant}
-use Rattle.pict_normal.proofs.BinderPlaces.{kind_named, kind_there, place_below}
+use Rattle.pict_normal.proofs.BinderPlaces.{kind_named, kind_there}
 use Rattle.pict_normal.proofs.Refused.{kind_is}
 use Rattle.pict_normal.proofs.operators.named_operator.Goals as goal
 
@@ -26,7 +24,7 @@ returns-in_err-entry-clause-no_arg c =
     let n = c.in-Use.name.0 in
     let k = kind_named d n ∙ ap (kind_there d) (sym c.place.ensures ∙ c.in_err-entry.was) in
     if_none c.from_residual.result
-    (subst (λ t. normal_arg ns d t ≡ Plain (normal ns d t)) (sym (ap type_of c.in-Use.is)) (arg_of_none (meaning d n) (normal ns d (use-type c.in-Use.field-0 c.in-Use.name)) k))
+    (subst (λ t. normal_arg ns d t ≡ Plain (normal ns d t)) (sym (ap type_of c.in-Use.is)) (arg_of_none (meaning d n) (normal ns d (use_type c.in-Use.field-0 c.in-Use.name)) k))
 
 pub returns-in_err-entry-clause-no_stop : goal.returns-in_err-entry-clause-no_stop
 unfolding type_of
@@ -36,7 +34,7 @@ returns-in_err-entry-clause-no_stop c =
     let n = c.in-Use.name.0 in
     let k = kind_named d n ∙ ap (kind_there d) (sym c.place.ensures ∙ c.in_err-entry.was) in
     if_none c.from_residual.result
-    (subst (λ t. arg_stop ns d t ≡ kind_stop ns d t) (sym (ap type_of c.in-Use.is)) (stop_of_none d c.in-Use.field-0 (meaning d n) (kind_stop ns d (use-type c.in-Use.field-0 c.in-Use.name)) k))
+    (subst (λ t. arg_stop ns d t ≡ kind_stop ns d t) (sym (ap type_of c.in-Use.is)) (stop_of_none (meaning d n) (kind_stop ns d (use_type c.in-Use.field-0 c.in-Use.name)) k))
 
 pub returns-in_err-params-clause-no_arg : goal.returns-in_err-params-clause-no_arg
 unfolding type_of
@@ -46,7 +44,7 @@ returns-in_err-params-clause-no_arg c =
     let n = c.in-Use.name.0 in
     let k = kind_is d n c.in_ok-entry.entry None (sym c.place.ensures ∙ c.in_ok-entry.was) (sym c.arity.ensures ∙ c.in_err-params.was) in
     if_none c.from_residual-in_err-params.result
-    (subst (λ t. normal_arg ns d t ≡ Plain (normal ns d t)) (sym (ap type_of c.in-Use.is)) (arg_of_type (meaning d n) (normal ns d (use-type c.in-Use.field-0 c.in-Use.name)) k))
+    (subst (λ t. normal_arg ns d t ≡ Plain (normal ns d t)) (sym (ap type_of c.in-Use.is)) (arg_of_type (meaning d n) (normal ns d (use_type c.in-Use.field-0 c.in-Use.name)) k))
 
 pub returns-in_err-params-clause-no_stop : goal.returns-in_err-params-clause-no_stop
 unfolding type_of
@@ -56,12 +54,7 @@ returns-in_err-params-clause-no_stop c =
     let n = c.in-Use.name.0 in
     let k = kind_is d n c.in_ok-entry.entry None (sym c.place.ensures ∙ c.in_ok-entry.was) (sym c.arity.ensures ∙ c.in_err-params.was) in
     if_none c.from_residual-in_err-params.result
-    (subst (λ t. arg_stop ns d t ≡ kind_stop ns d t) (sym (ap type_of c.in-Use.is)) (stop_of_type d c.in-Use.field-0 (meaning d n) (kind_stop ns d (use-type c.in-Use.field-0 c.in-Use.name)) k))
-
-pub overflow_cast-result : goal.overflow_cast-result
-overflow_cast-result c =
-    let d = plain_context c.args.c.now in
-    omega (arith, place_below (names_in d) c.in-Use.name.0 c.in_ok-entry.entry (sym c.place.ensures ∙ c.in_ok-entry.was), names_length d, c.requires.room)
+    (subst (λ t. arg_stop ns d t ≡ kind_stop ns d t) (sym (ap type_of c.in-Use.is)) (stop_of_type (meaning d n) (kind_stop ns d (use_type c.in-Use.field-0 c.in-Use.name)) k))
 
 pub returns-clause-named : goal.returns-clause-named
 unfolding type_of

@@ -2,9 +2,8 @@
 use Rattle.std.proofs.Common.{◌≡◌, ◌-◌, ◌+◌, ◌<◌, ◌≤◌, ◌^◌, ◌∙◌, length, sym, ap, subst, arith}
 use Rattle.pict_types.specs.Entries.{Definition, variables}
 use Rattle.pict_types.specs.Kinds.{kinds}
-use Rattle.pict_normal.specs.Sizes.{most_defined}
 use Rattle.pict_types.specs.Plain.{plain_arg}
-use Rattle.pict_types.specs.PlainContext.{names_of, plain_context}
+use Rattle.pict_types.specs.PlainContext.{plain_context}
 use Rattle.pict_types.specs.PlainEntries.{plain_what}
 use Rattle.pict_normal.specs.Putting.{HasRoom}
 use Rattle.pict_types.specs.Places.{IsWhatAt}
@@ -13,7 +12,7 @@ use Rattle.pict_types.specs.Replacing.{variable, head_in, rename_head, type_in}
 use Rattle.pict_types.specs.Types.{Var}
 use Rattle.pict_types.proofs.Counting.{entries_around, inside_few, inside_length, outer_length}
 use Rattle.pict_normal.proofs.Expanded.{variables_length}
-use Rattle.pict_normal.proofs.Meant.{room_from_none, can_move, definition_head, definition_size, definition_type, formed_at, own_head, own_type, past_head, past_type, room_inside, variable_head, variable_type}
+use Rattle.pict_normal.proofs.Meant.{room_from_none, can_move, definition_head, definition_type, own_head, own_type, past_head, past_type, room_inside, variable_head, variable_type}
 use Rattle.pict_types.proofs.Reaching.{kinds_length}
 use Rattle.pict_normal.proofs.puts.put_entry.Goals as goal
 
@@ -73,7 +72,7 @@ under-requires c =
     let n : length ks + c.variables_inside-in-Some-Definition.result < 2 ^ 32 =
     omega (arith, kinds_length (variables (entries_around d i)), outer_length d i (Definition a) there, c.variables_inside-in-Some-Definition.ensures, c.args.c.now.few) in
     record {
-      room = can_move c.put_of.result (length ks) (most_defined d) 0 0 c.variables_inside-in-Some-Definition.result (c.put_of.ensures.room (names_of c.args.c.now) ks (most_defined d) 0 (formed_at (names_of c.args.c.now) d i (Definition a) c.args.c.now.formed there) (definition_size d i a there)) (omega (arith, n)) (omega (arith, n));
+      room = can_move c.put_of.result (length ks) 0 0 c.variables_inside-in-Some-Definition.result (c.put_of.ensures.room (length ks) 0) (omega (arith, n)) (omega (arith, n));
     }
 
 pub returns-in-Some-Definition-clause-type_ : goal.returns-in-Some-Definition-clause-type_
@@ -104,9 +103,8 @@ returns-in-Some-Definition-clause-room c =
     let there : IsWhatAt d i (Definition a) = subst (λ x. IsWhatAt d i (plain_what x)) c.in-Some-Definition.field-0-is c.in-Some-Definition.ensures.some in
     let vs = variables (entries_around d i) in
     let ks = kinds vs in
-    let most = most_defined d in
     let by = c.variables_inside-in-Some-Definition.result in
-    let room : HasRoom (length ks) most 0 0 c.put_of.result = c.put_of.ensures.room (names_of c.args.c.now) ks most 0 (formed_at (names_of c.args.c.now) d i (Definition a) c.args.c.now.formed there) (definition_size d i a there) in
+    let room : HasRoom (length ks) 0 0 c.put_of.result = c.put_of.ensures.room (length ks) 0 in
     let all : length ks + by ≤ length (variables d) = omega (arith, kinds_length vs, outer_length d i (Definition a) there, c.variables_inside-in-Some-Definition.ensures) in
     let few : by ≤ i = omega (arith, c.variables_inside-in-Some-Definition.ensures, inside_few i d) in
-    room_inside c.under.result (length ks) most by (length (variables d)) i all few (room_from_none c.under.result (length ks) most by 0 (c.under.ensures.room (length ks) most 0 0 room))
+    room_inside c.under.result (length ks) by (length (variables d)) i all few (room_from_none c.under.result (length ks) by 0 (c.under.ensures.room (length ks) 0 0 room))

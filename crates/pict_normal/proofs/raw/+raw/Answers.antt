@@ -1,10 +1,9 @@
 -- Lists, binders and records of raw forms, and the first refusal among them.
 use Rattle.std.proofs.Common.{◌≡◌, suc, ◌+◌, true, false, ◌∷◌, ◌++◌, length, take, drop, refl, sym, ◌∙◌, ap, ap₂, subst, arith, rules}
-use Rattle.pict_syntax.specs.Trees.{no-types, no-binders, no-labelled-types, fields-type}
-use Rattle.pict_syntax.specs.PlainTrees.{type_of, binder_of, types-on, binders-on, labelled-types-on}
+use Rattle.pict_syntax.specs.Trees.{no_types, no_binders, no_labelled_types, fields_type}
+use Rattle.pict_syntax.specs.PlainTrees.{type_of, binder_of, types_on, binders_on, labelled_types_on}
 use Rattle.pict_normal.specs.Around.{around, scope_of}
 use Rattle.pict_normal.specs.BinderEntries.{bound_entry, entries_under}
-use Rattle.pict_normal.specs.InOrder.{in_order}
 use Rattle.pict_normal.specs.Meanings.{meanings}
 use Rattle.pict_types.specs.Types.{is_top}
 use Rattle.pict_normal.specs.Normal.{meaning, count_trees, apply_stops, kind_stops, types_stops, labels_stops, binders_stops, binder_stops}
@@ -15,8 +14,8 @@ use Rattle.pict_normal.specs.Sizes.{nodes, nodes_of_binder, nodes_of_binders, no
 use Rattle.pict_normal.specs.Raw.{raw, raw_binders, raw_binder}
 use Rattle.pict_normal.specs.Refusals.{IsFirst}
 use Rattle.pict_types.specs.Replacing.{apply_variable, replace}
-use Rattle.pict_normal.proofs.LabelOrder.{unsorted, ordered}
-use Rattle.pict_normal.proofs.BinderPlaces.{around_length, forgotten}
+use Rattle.pict_normal.proofs.LabelOrder.{unsorted, in_order, ordered, fields_sorted}
+use Rattle.pict_normal.proofs.BinderPlaces.{forgotten}
 use Rattle.pict_types.proofs.Rows.{plain_fields}
 use Rattle.pict_normal.proofs.Refused.{operator_fits, operator_refused}
 use Rattle.pict_normal.proofs.RawSteps.{passed_up, types_raw, types_kinds, types_refused, labels_raw, labels_kinds, labels_refused, binders_raw, binders_kinds, binders_refused, binders_inner, record_raw, record_kinds, record_refused_types, record_refused_labels}
@@ -52,9 +51,7 @@ raw_binders-raw_binder-requires t c =
     let ctx = plain_context c.args.c.now in
     let h = nodes_of_binder_item bs i c.b-item.result c.loop-b-test.true in
     let e = ap (λ y. nodes_of_binder (binder_of y)) c.b-item.is in
-    let l = around_length (scope_of c.args.inner.now) ctx (binders-on no-binders (take i bs)) in
-    let s = ap (λ y. length (y ++ ctx)) c.loop-b.invariant.inner in
-    (omega (arith, h, e), omega (arith, h, e, l, s, c.requires.room))
+    omega (arith, h, e)
 
 pub raw_binders-returns-in_err-raw_binder-clause-first : goal.raw_binders-returns-in_err-raw_binder-clause-first
 raw_binders-returns-in_err-raw_binder-clause-first t c =
@@ -62,7 +59,7 @@ raw_binders-returns-in_err-raw_binder-clause-first t c =
     let ctx = plain_context c.args.c.now in
     let s = scope_of c.loop-b.inner in
     let err = c.in_err-raw_binder.field-0.0 in
-    passed_up c.from_residual.result err (λ e. IsFirst (binders_stops ns (around c.args.inner.now c.args.c.now) (binders-on no-binders c.args.bs.now)) e) c.from_residual.ensures.1
+    passed_up c.from_residual.result err (λ e. IsFirst (binders_stops ns (around c.args.inner.now c.args.c.now) (binders_on no_binders c.args.bs.now)) e) c.from_residual.ensures.1
     (binders_refused ns ctx (scope_of c.args.inner.now) s c.args.bs.now c.loop-b.b-index c.b-item.result err c.loop-b-test.true c.loop-b.invariant.inner c.loop-b.invariant.kinds
     (subst (λ y. IsFirst (binder_stops ns (s ++ ctx) (binder_of y)) err) c.b-item.is c.in_err-raw_binder.ensures.first))
 
@@ -104,8 +101,7 @@ raw_labels-raw_type-requires t c =
     let ls = c.args.ls.now in
     let h = nodes_of_label_item ls c.loop-l.l-index c.l-item.result c.loop-l-test.true in
     let e = ap (λ y. nodes (type_of y.of)) c.l-item.is in
-    let s = ap (λ y. length (y ++ plain_context c.args.c.now)) c.loop-l.invariant.inner in
-    (omega (arith, h, e), omega (arith, h, e, s, c.requires.room))
+    omega (arith, h, e)
 
 pub raw_labels-returns-in_err-raw_type-clause-first : goal.raw_labels-returns-in_err-raw_type-clause-first
 raw_labels-returns-in_err-raw_type-clause-first t c =
@@ -113,7 +109,7 @@ raw_labels-returns-in_err-raw_type-clause-first t c =
     let ctx = plain_context c.args.c.now in
     let e = scope_of c.loop-l.inner in
     let err = c.in_err-raw_type.field-0.0 in
-    passed_up _ err (λ e. IsFirst (labels_stops ns (around c.args.inner.now c.args.c.now) (labelled-types-on no-labelled-types c.args.ls.now)) e) (search rules)
+    passed_up _ err (λ e. IsFirst (labels_stops ns (around c.args.inner.now c.args.c.now) (labelled_types_on no_labelled_types c.args.ls.now)) e) (search rules)
     (labels_refused ns ctx (scope_of c.args.inner.now) e c.args.ls.now c.loop-l.l-index c.l-item.result err c.loop-l-test.true c.loop-l.invariant.inner c.loop-l.invariant.kinds
     (subst (λ y. IsFirst (kind_stops ns (e ++ ctx) (type_of y.of)) err) c.l-item.is c.in_err-raw_type.ensures.first))
 
@@ -143,9 +139,9 @@ raw_labels-returns-clause-raw t c =
     let ns = names_of c.args.c.now in
     let ms = names_in (around c.args.inner.now c.args.c.now) in
     let ls = c.args.ls.now in
-    c.in_ok-sort_labels.ensures
+    fields_sorted c.names.result.now c.loop-l.labelled.items c.sort_labels.new.items.items c.in_ok-sort_labels.ensures.sorted
     ∙ ap₂ in_order c.names.ensures.same (c.loop-l.invariant.raw ∙ ap (unsorted ns ms) (labelled_end ls c.loop-l.l-index c.loop-l-test.false))
-    ∙ ordered ns ms (labelled-types-on no-labelled-types ls)
+    ∙ ordered ns ms (labelled_types_on no_labelled_types ls)
 
 pub raw_types-returns-in_err-raw_type-clause-first : goal.raw_types-returns-in_err-raw_type-clause-first
 raw_types-returns-in_err-raw_type-clause-first t c =
@@ -153,7 +149,7 @@ raw_types-returns-in_err-raw_type-clause-first t c =
     let ctx = plain_context c.args.c.now in
     let e = scope_of c.loop-t.inner in
     let err = c.in_err-raw_type.field-0.0 in
-    passed_up _ err (λ e. IsFirst (types_stops ns (around c.args.inner.now c.args.c.now) (types-on no-types c.args.ts.now)) e) (search rules)
+    passed_up _ err (λ e. IsFirst (types_stops ns (around c.args.inner.now c.args.c.now) (types_on no_types c.args.ts.now)) e) (search rules)
     (types_refused ns ctx (scope_of c.args.inner.now) e c.args.ts.now c.loop-t.t-index c.t-item.result err c.loop-t-test.true c.loop-t.invariant.inner c.loop-t.invariant.kinds
     (subst (λ y. IsFirst (kind_stops ns (e ++ ctx) (type_of y)) err) c.t-item.is c.in_err-raw_type.ensures.first))
 
@@ -178,53 +174,39 @@ raw_types-loop-t-preserved t c =
       inner = c.in_ok-raw_type.ensures.inner ∙ c.loop-t.invariant.inner;
     }
 
-pub raw_record-raw_types-requires : goal.raw_record-raw_types-requires
-raw_record-raw_types-requires t c =
-    let ctx = plain_context c.args.c.now in
-    let s = ap (λ y. length (y ++ ctx)) c.in_ok-binders.ensures.inner in
-    let l = around_length (scope_of c.args.inner.now) ctx (binders-on no-binders c.args.bs.now) in
-    (omega arith, omega (arith, s, l, c.requires.room))
-
 pub raw_record-returns-in_err-positional-clause-first : goal.raw_record-returns-in_err-positional-clause-first
 raw_record-returns-in_err-positional-clause-first t c = λ sp.
     let ns = names_of c.args.c.now in
     let ctx = plain_context c.args.c.now in
-    let bs = binders-on no-binders c.args.bs.now in
-    let ts = types-on no-types c.args.ts.now in
-    let ls = labelled-types-on no-labelled-types c.args.ls.now in
+    let bs = binders_on no_binders c.args.bs.now in
+    let ts = types_on no_types c.args.ts.now in
+    let ls = labelled_types_on no_labelled_types c.args.ls.now in
     let err = c.in_err-positional.field-0.0 in
-    passed_up _ err (λ e. IsFirst (kind_stops ns (around c.args.inner.now c.args.c.now) (fields-type sp bs ts ls)) e) (search rules)
+    passed_up _ err (λ e. IsFirst (kind_stops ns (around c.args.inner.now c.args.c.now) (fields_type sp bs ts ls)) e) (search rules)
     (record_refused_types ns ctx (scope_of c.args.inner.now) (scope_of c.raw_binders.new.inner) sp bs ts ls err c.in_ok-binders.ensures.inner c.in_ok-binders.ensures.kinds c.in_err-positional.ensures.first)
-
-pub raw_record-raw_labels-requires : goal.raw_record-raw_labels-requires
-raw_record-raw_labels-requires t c =
-    let ctx = plain_context c.args.c.now in
-    let s = ap (λ y. length (y ++ ctx)) (c.in_ok-positional.ensures.inner ∙ c.in_ok-binders.ensures.inner) in
-    let l = around_length (scope_of c.args.inner.now) ctx (binders-on no-binders c.args.bs.now) in
-    (omega arith, omega (arith, s, l, c.requires.room))
 
 pub raw_record-returns-in_err-labelled-clause-first : goal.raw_record-returns-in_err-labelled-clause-first
 raw_record-returns-in_err-labelled-clause-first t c = λ sp.
     let ns = names_of c.args.c.now in
     let ctx = plain_context c.args.c.now in
-    let bs = binders-on no-binders c.args.bs.now in
-    let ts = types-on no-types c.args.ts.now in
-    let ls = labelled-types-on no-labelled-types c.args.ls.now in
+    let bs = binders_on no_binders c.args.bs.now in
+    let ts = types_on no_types c.args.ts.now in
+    let ls = labelled_types_on no_labelled_types c.args.ls.now in
     let err = c.in_err-labelled.field-0.0 in
-    passed_up _ err (λ e. IsFirst (kind_stops ns (around c.args.inner.now c.args.c.now) (fields-type sp bs ts ls)) e) (search rules)
+    passed_up _ err (λ e. IsFirst (kind_stops ns (around c.args.inner.now c.args.c.now) (fields_type sp bs ts ls)) e) (search rules)
     (record_refused_labels ns ctx (scope_of c.args.inner.now) (scope_of c.raw_binders.new.inner) (scope_of c.raw_types.new.inner) sp bs ts ls err c.in_ok-binders.ensures.inner c.in_ok-positional.ensures.inner c.in_ok-binders.ensures.kinds c.in_ok-positional.ensures.kinds c.in_err-labelled.ensures.first)
 
 pub raw_record-returns-clause-raw : goal.raw_record-returns-clause-raw
 raw_record-returns-clause-raw t c = λ sp.
     let ctx = plain_context c.args.c.now in
-    record_raw (names_of c.args.c.now) ctx (scope_of c.args.inner.now) (scope_of c.raw_binders.new.inner) (scope_of c.raw_types.new.inner) sp (binders-on no-binders c.args.bs.now) (types-on no-types c.args.ts.now) (labelled-types-on no-labelled-types c.args.ls.now)
+    record_raw (names_of c.args.c.now) ctx (scope_of c.args.inner.now) (scope_of c.raw_binders.new.inner) (scope_of c.raw_types.new.inner) sp (binders_on no_binders c.args.bs.now) (types_on no_types c.args.ts.now) (labelled_types_on no_labelled_types c.args.ls.now)
     (plain_bounds c.in_ok-binders.binders.items) (plain_types c.in_ok-positional.positional.items) (plain_labels c.in_ok-labelled.labelled.items)
     c.in_ok-binders.ensures.inner c.in_ok-positional.ensures.inner c.in_ok-binders.ensures.raw c.in_ok-positional.ensures.raw c.in_ok-labelled.ensures.raw
 
 pub raw_record-returns-clause-kinds : goal.raw_record-returns-clause-kinds
 raw_record-returns-clause-kinds t c = λ sp.
     let ctx = plain_context c.args.c.now in
-    record_kinds (names_of c.args.c.now) ctx (scope_of c.args.inner.now) (scope_of c.raw_binders.new.inner) (scope_of c.raw_types.new.inner) sp (binders-on no-binders c.args.bs.now) (types-on no-types c.args.ts.now) (labelled-types-on no-labelled-types c.args.ls.now)
+    record_kinds (names_of c.args.c.now) ctx (scope_of c.args.inner.now) (scope_of c.raw_binders.new.inner) (scope_of c.raw_types.new.inner) sp (binders_on no_binders c.args.bs.now) (types_on no_types c.args.ts.now) (labelled_types_on no_labelled_types c.args.ls.now)
     c.in_ok-binders.ensures.inner c.in_ok-positional.ensures.inner c.in_ok-binders.ensures.kinds c.in_ok-positional.ensures.kinds c.in_ok-labelled.ensures.kinds
 
 pub raw_record-returns-clause-inner : goal.raw_record-returns-clause-inner
@@ -237,8 +219,8 @@ raw_record-returns-clause-inner t c =
 pub raw_type-raw_record-requires : goal.raw_type-raw_record-requires
 raw_type-raw_record-requires t c =
     let e = fields_tree c.args.t.now c.in-Fields.field-0 c.in-Fields.bs c.in-Fields.ts c.in-Fields.ls c.deref-in-Fields.result.now c.deref-in-Fields-2.result.now c.deref-in-Fields-3.result.now c.in-Fields.is c.deref-in-Fields.ensures.value c.deref-in-Fields-2.ensures.value c.deref-in-Fields-3.ensures.value in
-    let h : nodes (type_of c.args.t.now) ≡ suc (nodes_of_binders (binders-on no-binders c.deref-in-Fields.result.now) + nodes_of_types (types-on no-types c.deref-in-Fields-2.result.now) + nodes_of_labels (labelled-types-on no-labelled-types c.deref-in-Fields-3.result.now)) = ap nodes e in
-    (omega (arith, h), omega (arith, h, c.requires.room))
+    let h : nodes (type_of c.args.t.now) ≡ suc (nodes_of_binders (binders_on no_binders c.deref-in-Fields.result.now) + nodes_of_types (types_on no_types c.deref-in-Fields-2.result.now) + nodes_of_labels (labelled_types_on no_labelled_types c.deref-in-Fields-3.result.now)) = ap nodes e in
+    omega (arith, h)
 
 pub raw_type-returns-in_err-raw_record-in-Fields-clause-first : goal.raw_type-returns-in_err-raw_record-in-Fields-clause-first
 raw_type-returns-in_err-raw_record-in-Fields-clause-first t c =
@@ -265,7 +247,7 @@ raw_type-returns-in_err-head-in-Apply-clause-first t c =
     let ns = names_of c.args.c.now in
     let d = around c.args.inner.now c.args.c.now in
     let err = c.in_err-head-in-Apply.field-0.0 in
-    let ts = types-on no-types c.in-Apply.ts.items in
+    let ts = types_on no_types c.in-Apply.ts.items in
     let m = meaning d c.in-Apply.id.name.0 in
     let e = apply_tree c.args.t.now c.in-Apply.span c.in-Apply.id c.in-Apply.ts c.in-Apply.ts.items c.in-Apply.is refl in
     let n : length c.as_slice.result.now ≡ count_trees ts = ap length c.as_slice.ensures.value ∙ sym (count_trees_on c.in-Apply.ts.items) in
@@ -276,8 +258,8 @@ raw_type-returns-in_err-head-in-Apply-clause-first t c =
 pub raw_type-raw_types-requires : goal.raw_type-raw_types-requires
 raw_type-raw_types-requires t c =
     let e = apply_tree c.args.t.now c.in-Apply.span c.in-Apply.id c.in-Apply.ts c.deref-in-Apply.result.now c.in-Apply.is c.deref-in-Apply.ensures.value in
-    let h : nodes (type_of c.args.t.now) ≡ suc (nodes_of_types (types-on no-types c.deref-in-Apply.result.now)) = ap nodes e in
-    (omega (arith, h), omega (arith, h, c.requires.room))
+    let h : nodes (type_of c.args.t.now) ≡ suc (nodes_of_types (types_on no_types c.deref-in-Apply.result.now)) = ap nodes e in
+    omega (arith, h)
 
 pub raw_type-returns-in_err-raw_types-in-Apply-clause-first : goal.raw_type-returns-in_err-raw_types-in-Apply-clause-first
 raw_type-returns-in_err-raw_types-in-Apply-clause-first t c =
@@ -285,7 +267,7 @@ raw_type-returns-in_err-raw_types-in-Apply-clause-first t c =
     let d = around c.args.inner.now c.args.c.now in
     let err = c.in_err-raw_types-in-Apply.field-0.0 in
     let xs = c.deref-in-Apply.result.now in
-    let ts = types-on no-types xs in
+    let ts = types_on no_types xs in
     let m = meaning d c.in-Apply.id.name.0 in
     let e = apply_tree c.args.t.now c.in-Apply.span c.in-Apply.id c.in-Apply.ts xs c.in-Apply.is c.deref-in-Apply.ensures.value in
     let n : length c.as_slice.result.now ≡ count_trees ts = ap length (c.as_slice.ensures.value ∙ sym c.deref-in-Apply.ensures.value) ∙ sym (count_trees_on xs) in
@@ -304,7 +286,7 @@ raw_type-returns-in_ok-raw_types-in-Apply-clause-kinds t c =
     let ns = names_of c.args.c.now in
     let d = around c.args.inner.now c.args.c.now in
     let xs = c.deref-in-Apply.result.now in
-    let ts = types-on no-types xs in
+    let ts = types_on no_types xs in
     let m = meaning d c.in-Apply.id.name.0 in
     let e = apply_tree c.args.t.now c.in-Apply.span c.in-Apply.id c.in-Apply.ts xs c.in-Apply.is c.deref-in-Apply.ensures.value in
     let n : length c.as_slice.result.now ≡ count_trees ts = ap length (c.as_slice.ensures.value ∙ sym c.deref-in-Apply.ensures.value) ∙ sym (count_trees_on xs) in

@@ -8,17 +8,16 @@ use Rattle.pict_normal.specs.Made.{AreArguments, IsMade, IsMadeBound, IsReason, 
 use Rattle.pict_types.specs.Measures.{size, size_types, size_labels, size_bounds, weigh, weigh_types, weigh_labels, weigh_bounds, weigh_variable}
 use Rattle.pict_types.specs.Filling.{put_for}
 use Rattle.pict_types.specs.Plain.{plain, plain_cap, plain_bound, plain_record, plain_types, plain_labels, plain_bounds}
-use Rattle.pict_normal.specs.Putting.{HasRoom, put_head, names_in, variables_in, most_of, weights_in, heights_in, replacement_in, replacement_of}
+use Rattle.pict_normal.specs.Putting.{HasRoom, put_head, names_in, variables_in, weights_in, heights_in, replacement_in, replacement_of}
 use Rattle.pict_types.specs.Renaming.{rename, moved}
 use Rattle.pict_types.specs.Replacing.{variable, apply_head, bound_by, fill, replacement_past, replacement_beyond, replace, replace_bound, replace_bounds, replace_labels, replace_types}
 use Rattle.pict_normal.proofs.Bounding.{bounds_step, bounds_all, bounds_done, bounds_reason}
 use Rattle.pict_normal.proofs.Making.{fields_done, if_err, if_ok, leaf_is, passed_on, reason_by}
-use Rattle.pict_normal.proofs.Operating.{HasRoomFor, operator_room, operator_count, count_items, count_size_types}
+use Rattle.pict_normal.proofs.Operating.{measured_count, operator_count, operator_items}
 use Rattle.pict_normal.proofs.Parts.{part_same, makes_same, leaf_made, body_made, body_reason, head_made, operator_is, reason_same, reasons_same, record_fields, types_step, types_all, types_reason, labels_step, labels_all, labels_reason, arguments_step, arguments_all, arguments_reason, weight_reason, weight_step, types_under_reason, labels_under_reason}
 use Rattle.pict_normal.proofs.Placing.{placed_part, placed_same, placed_rec, placed_under, placed_item, placed_label, placed_bound, item_size, label_size, bound_size}
 use Rattle.pict_normal.proofs.Used.{AreTheUsed, only_used_same, used_weigh}
 use Rattle.pict_normal.proofs.Within.{bound_weight}
-use Rattle.pict_types.proofs.Formed.{count_replaced}
 use Rattle.pict_types.proofs.Rows.{apply_is, plain_fields}
 use Rattle.pict_normal.proofs.replacement.+made.Goals as goal
 
@@ -58,7 +57,7 @@ made_type-made_apply-requires t c =
     let ts = plain_types c.deref-in-Apply.result.now in
     let e = apply_is c.args.t.now c.in-Apply.i c.in-Apply.ts c.deref-in-Apply.result.now c.in-Apply.is c.deref-in-Apply.ensures.value in
     let h : size (plain c.args.t.now) ≡ suc (size_types ts) = ap size e in
-    (omega (arith, h), placed_part (λ ks. IsWellFormed (names_in p) ks (Apply c.in-Apply.i ts)) (size_types ts + 1) (λ ks w. subst (IsWellFormed (names_in p) ks) e w) (omega (arith, h)) c.requires.placed)
+    (omega (arith, h), placed_part (λ ks. IsWellFormed (names_in p) ks (Apply c.in-Apply.i ts)) (λ ks w. subst (IsWellFormed (names_in p) ks) e w) c.requires.placed)
 
 pub made_type-returns-in-Apply-clause-made : goal.made_type-returns-in-Apply-clause-made
 made_type-returns-in-Apply-clause-made t c =
@@ -80,7 +79,7 @@ made_type-made_record-requires t c =
     let r = c.in-Fields.r in
     let e : plain c.args.t.now ≡ plain_record r = ap plain c.in-Fields.is ∙ plain_fields r in
     let h : size (plain c.args.t.now) ≡ size (plain_record r) = ap size e in
-    (omega (arith, h), placed_part (λ ks. IsWellFormed (names_in p) ks (plain_record r)) (size (plain_record r)) (λ ks w. subst (IsWellFormed (names_in p) ks) e w) (omega (arith, h)) c.requires.placed)
+    (omega (arith, h), placed_part (λ ks. IsWellFormed (names_in p) ks (plain_record r)) (λ ks w. subst (IsWellFormed (names_in p) ks) e w) c.requires.placed)
 
 pub made_type-returns-in-Fields-clause-made : goal.made_type-returns-in-Fields-clause-made
 made_type-returns-in-Fields-clause-made t c =
@@ -104,8 +103,8 @@ made_type-made_type-requires-in-Rec t c =
     let b = plain c.deref-in-Rec.result.now in
     let e : plain c.args.t.now ≡ Rec b = ap plain c.in-Rec.is ∙ ap (λ x. Rec (plain x)) (sym c.deref-in-Rec.ensures) in
     let h : size (plain c.args.t.now) ≡ suc (size b) = ap size e in
-    let whole = placed_part (λ ks. IsWellFormed (names_in p) ks (Rec b)) (size (Rec b)) (λ ks w. subst (IsWellFormed (names_in p) ks) e w) (omega (arith, h)) c.requires.placed in
-    (omega (arith, h), placed_same {ms = c.args.inner.now.items ++ record { weight = 1; height = 1 } ∷ []} c.push.new.self.items c.in_ok-push-in-Rec.ensures.items (placed_rec b (record { weight = 1; height = 1 }) (omega arith) whole))
+    let whole = placed_part (λ ks. IsWellFormed (names_in p) ks (Rec b)) (λ ks w. subst (IsWellFormed (names_in p) ks) e w) c.requires.placed in
+    (omega (arith, h), placed_same {ms = c.args.inner.now.items ++ record { weight = 1; height = 1 } ∷ []} c.push.new.self.items c.in_ok-push-in-Rec.ensures.items (placed_rec b (record { weight = 1; height = 1 }) whole))
 
 pub made_type-returns-in_ok-body-in-Rec-clause-made : goal.made_type-returns-in_ok-body-in-Rec-clause-made
 made_type-returns-in_ok-body-in-Rec-clause-made t c =
@@ -163,24 +162,15 @@ made_apply-applied-requires t c =
     let ms = c.args.inner.now.items in
     let ts = plain_types c.args.ts.now in
     let n = c.in-Operator.params in
-    let body = plain c.in-Operator.body.now in
-    let by = c.in-Operator.by in
     let depth : length c.as_slice.result.now ≡ length ms = ap length c.as_slice.ensures.value in
     let inner : length c.deref-in-Operator.result.now ≡ length ms = ap length (c.deref-in-Operator.ensures.value ∙ c.in_ok-args-in-Operator.ensures.inner) in
-    let fits = subst (HasRoom (length (variables_in p)) (most_of p) (length c.as_slice.result.now) c.args.i) c.in-Operator.is c.put_under.ensures.room in
-    let head = sym (ap put_head c.in-Operator.is) ∙ c.put_under.ensures.head ∙ ap (λ y. (replacement_past (length y) (replacement_of p)).head_of c.args.i) c.as_slice.ensures.value in
-    let r : HasRoomFor body by c.in_ok-args-in-Operator.args =
-    operator_room c.args.i ts n (rename (moved by n) body) body by c.deref.result.now c.in_ok-args-in-Operator.args c.requires.placed head (omega (arith, fits.2, depth)) fits.3 c.in_ok-args-in-Operator.ensures.made in
+    let fits = subst (HasRoom (length (variables_in p)) (length c.as_slice.result.now) c.args.i) c.in-Operator.is c.in_ok-put.ensures.room in
+    let head = sym (ap put_head c.in-Operator.is) ∙ c.in_ok-put.ensures.head ∙ ap (λ y. (replacement_past (length y) (replacement_of p)).head_of c.args.i) c.as_slice.ensures.value in
+    let count = operator_count c.args.i ts n (rename (moved c.in-Operator.by n) (plain c.in-Operator.body.now)) c.requires.placed head in
     record {
       under = omega (arith, fits.0, depth, inner);
       by = omega (arith, fits.1, depth, inner);
-      variables = r.variables_;
-      count = r.count;
-      parameters = r.parameters;
-      places = r.places;
-      kept = r.kept;
-      room = r.room;
-      depth = r.deep;
+      few = omega (arith, c.in_ok-used-in-Operator.ensures.few, count, measured_count c.in_ok-args-in-Operator.args (replace_types (replacement_in p ms) ts) c.deref.result.now c.in_ok-args-in-Operator.ensures.made);
     }
 
 pub made_apply-returns-in_ok-made_types-in-Variable-clause-made : goal.made_apply-returns-in_ok-made_types-in-Variable-clause-made
@@ -188,7 +178,7 @@ made_apply-returns-in_ok-made_types-in-Variable-clause-made t c =
     let p = c.args.puts.now in
     let ms = c.args.inner.now.items in
     let ts = plain_types c.args.ts.now in
-    let head = sym (ap put_head c.in-Variable.is) ∙ c.put_under.ensures.head ∙ ap (λ y. (replacement_past (length y) (replacement_of p)).head_of c.args.i) c.as_slice.ensures.value in
+    let head = sym (ap put_head c.in-Variable.is) ∙ c.in_ok-put.ensures.head ∙ ap (λ y. (replacement_past (length y) (replacement_of p)).head_of c.args.i) c.as_slice.ensures.value in
     if_ok c.applied_variable.result (λ m f. head_made {m = m} (replacement_in p ms) c.args.i ts (variable c.in-Variable.k) head (f (weights_in p ms) (heights_in p ms) (replace_types (replacement_in p ms) ts) c.in_ok-made_types-in-Variable.ensures.made)) c.applied_variable.ensures.made
 
 pub made_apply-returns-in_ok-made_types-in-Variable-clause-reason : goal.made_apply-returns-in_ok-made_types-in-Variable-clause-reason
@@ -196,7 +186,7 @@ made_apply-returns-in_ok-made_types-in-Variable-clause-reason t c =
     let p = c.args.puts.now in
     let ms = c.args.inner.now.items in
     let ts = plain_types c.args.ts.now in
-    let head = sym (ap put_head c.in-Variable.is) ∙ c.put_under.ensures.head ∙ ap (λ y. (replacement_past (length y) (replacement_of p)).head_of c.args.i) c.as_slice.ensures.value in
+    let head = sym (ap put_head c.in-Variable.is) ∙ c.in_ok-put.ensures.head ∙ ap (λ y. (replacement_past (length y) (replacement_of p)).head_of c.args.i) c.as_slice.ensures.value in
     let us = replace_types (replacement_in p ms) ts in
     let is : Apply c.in-Variable.k us ≡ replace (replacement_in p ms) (Apply c.args.i ts) = ap (λ k. apply_head k us) head in
     if_err c.applied_variable.result (λ y f. subst (λ u. IsReason (weigh (weights_in p ms) u) y) is (f (weights_in p ms) (heights_in p ms) us c.in_ok-made_types-in-Variable.ensures.made)) c.applied_variable.ensures.reason
@@ -206,11 +196,11 @@ made_apply-returns-in_err-made_types-in-Variable-clause-reason t c =
     let p = c.args.puts.now in
     let ms = c.args.inner.now.items in
     let ts = plain_types c.args.ts.now in
-    let head = sym (ap put_head c.in-Variable.is) ∙ c.put_under.ensures.head ∙ ap (λ y. (replacement_past (length y) (replacement_of p)).head_of c.args.i) c.as_slice.ensures.value in
+    let head = sym (ap put_head c.in-Variable.is) ∙ c.in_ok-put.ensures.head ∙ ap (λ y. (replacement_past (length y) (replacement_of p)).head_of c.args.i) c.as_slice.ensures.value in
     let us = replace_types (replacement_in p ms) ts in
     let is : Apply c.in-Variable.k us ≡ replace (replacement_in p ms) (Apply c.args.i ts) = ap (λ k. apply_head k us) head in
     let err = c.in_err-made_types-in-Variable.field-0.0 in
-    passed_on (IsReason (weigh (weights_in p ms) (replace (replacement_in p ms) (Apply c.args.i ts)))) c.from_residual.result err c.from_residual.ensures.1
+    passed_on (IsReason (weigh (weights_in p ms) (replace (replacement_in p ms) (Apply c.args.i ts)))) c.from_residual-in_err-made_types-in-Variable.result err c.from_residual-in_err-made_types-in-Variable.ensures.1
     (subst (λ u. IsReason (weigh (weights_in p ms) u) err) is
     (reason_by (weigh_types (weights_in p ms) us) (weigh (weights_in p ms) (Apply c.in-Variable.k us)) err (λ h. omega (arith, h)) c.in_err-made_types-in-Variable.ensures.reason))
 
@@ -223,13 +213,12 @@ made_apply-returns-in_err-args-in-Operator-clause-reason t c =
     let body = plain c.in-Operator.body.now in
     let by = c.in-Operator.by in
     let us = replace_types (replacement_in p ms) ts in
-    let head = sym (ap put_head c.in-Operator.is) ∙ c.put_under.ensures.head ∙ ap (λ y. (replacement_past (length y) (replacement_of p)).head_of c.args.i) c.as_slice.ensures.value in
+    let head = sym (ap put_head c.in-Operator.is) ∙ c.in_ok-put.ensures.head ∙ ap (λ y. (replacement_past (length y) (replacement_of p)).head_of c.args.i) c.as_slice.ensures.value in
     let count = operator_count c.args.i ts n (rename (moved by n) body) c.requires.placed head in
     let whole = operator_is n by (replacement_in p ms) c.args.i ts body count head in
     let used = c.in_ok-used-in-Operator.used.items in
     let given : c.deref.result.now ≡ used = c.deref.ensures.value in
-    let as_many : length c.args.ts.now ≡ count_types us = sym (count_replaced (replacement_in p ms) ts ∙ count_items c.args.ts.now) in
-    let marks : AreTheUsed used (count_types us) body = subst (λ k. AreTheUsed used k body) as_many c.in_ok-used-in-Operator.ensures.used in
+    let marks : AreTheUsed used (count_types us) body = subst (λ k. AreTheUsed used k body) count c.in_ok-used-in-Operator.ensures.used in
     let err = c.in_err-args-in-Operator.field-0.0 in
     passed_on (IsReason (weigh (weights_in p ms) (replace (replacement_in p ms) (Apply c.args.i ts)))) c.from_residual-in_err-args-in-Operator.result err c.from_residual-in_err-args-in-Operator.ensures.1
     (subst (λ u. IsReason (weigh (weights_in p ms) u) err) whole
@@ -245,13 +234,12 @@ made_apply-returns-in_ok-args-in-Operator-clause-reason t c =
     let body = plain c.in-Operator.body.now in
     let by = c.in-Operator.by in
     let us = replace_types (replacement_in p ms) ts in
-    let head = sym (ap put_head c.in-Operator.is) ∙ c.put_under.ensures.head ∙ ap (λ y. (replacement_past (length y) (replacement_of p)).head_of c.args.i) c.as_slice.ensures.value in
+    let head = sym (ap put_head c.in-Operator.is) ∙ c.in_ok-put.ensures.head ∙ ap (λ y. (replacement_past (length y) (replacement_of p)).head_of c.args.i) c.as_slice.ensures.value in
     let count = operator_count c.args.i ts n (rename (moved by n) body) c.requires.placed head in
     let whole = operator_is n by (replacement_in p ms) c.args.i ts body count head in
     let used = c.in_ok-used-in-Operator.used.items in
     let given : c.deref.result.now ≡ used = c.deref.ensures.value in
-    let as_many : length c.args.ts.now ≡ count_types us = sym (count_replaced (replacement_in p ms) ts ∙ count_items c.args.ts.now) in
-    let marks : AreTheUsed used (count_types us) body = subst (λ k. AreTheUsed used k body) as_many c.in_ok-used-in-Operator.ensures.used in
+    let marks : AreTheUsed used (count_types us) body = subst (λ k. AreTheUsed used k body) count c.in_ok-used-in-Operator.ensures.used in
     let a = c.in_ok-args-in-Operator.args in
     let same = c.deref-in-Operator.ensures.value ∙ c.in_ok-args-in-Operator.ensures.inner in
     let args = subst (λ y. AreArguments (weights_in p ms) (heights_in p ms) a (only_used y us)) given c.in_ok-args-in-Operator.ensures.made in
@@ -259,21 +247,14 @@ made_apply-returns-in_ok-args-in-Operator-clause-reason t c =
     if_err c.applied.result (λ y f. subst (λ u. IsReason (weigh (weights_in p ms) u) y) is
     (subst (λ k. (vs : PlainTypes) → AreArguments (weights_in p k) (heights_in p k) a vs → IsReason (weigh (weights_in p k) (fill (put_for vs by) body)) y) same f (only_used used us) args)) c.applied.ensures.reason
 
-pub made_apply-used_parameters-requires : goal.made_apply-used_parameters-requires
-made_apply-used_parameters-requires t c =
-    let p = c.args.puts.now in
-    let fits = subst (HasRoom (length (variables_in p)) (most_of p) (length c.as_slice.result.now) c.args.i) c.in-Operator.is c.put_under.ensures.room in
-    record { depth = omega (arith, fits.3, c.requires.placed.room) }
-
-pub made_apply-overflow_cast-ts : goal.made_apply-overflow_cast-ts
-made_apply-overflow_cast-ts t c =
-    omega (arith, count_items c.args.ts.now, count_size_types (plain_types c.args.ts.now), c.requires.placed.room)
-
 pub made_apply-made_arguments-requires : goal.made_apply-made_arguments-requires
 made_apply-made_arguments-requires t c =
     let p = c.args.puts.now in
     let ts = plain_types c.args.ts.now in
-    (omega arith, (placed_part (λ ks. AreWellFormed (names_in p) ks ts) (size_types ts) (λ ks w. w.1) (omega arith) c.requires.placed, ap length c.deref.ensures.value ∙ c.in_ok-used-in-Operator.ensures.count))
+    let n = c.in-Operator.params in
+    let head = sym (ap put_head c.in-Operator.is) ∙ c.in_ok-put.ensures.head ∙ ap (λ y. (replacement_past (length y) (replacement_of p)).head_of c.args.i) c.as_slice.ensures.value in
+    let items : n ≡ length c.args.ts.now = operator_items c.args.i c.args.ts.now n (rename (moved c.in-Operator.by n) (plain c.in-Operator.body.now)) c.requires.placed head in
+    (omega arith, (placed_part (λ ks. AreWellFormed (names_in p) ks ts) (λ ks w. w.1) c.requires.placed, (ap length c.deref.ensures.value ∙ c.in_ok-used-in-Operator.ensures.count ∙ items, omega (arith, items, c.in_ok-used-in-Operator.ensures.few))))
 
 pub made_apply-returns-in_ok-args-in-Operator-clause-made : goal.made_apply-returns-in_ok-args-in-Operator-clause-made
 made_apply-returns-in_ok-args-in-Operator-clause-made t c =
@@ -284,13 +265,12 @@ made_apply-returns-in_ok-args-in-Operator-clause-made t c =
     let body = plain c.in-Operator.body.now in
     let by = c.in-Operator.by in
     let us = replace_types (replacement_in p ms) ts in
-    let head = sym (ap put_head c.in-Operator.is) ∙ c.put_under.ensures.head ∙ ap (λ y. (replacement_past (length y) (replacement_of p)).head_of c.args.i) c.as_slice.ensures.value in
+    let head = sym (ap put_head c.in-Operator.is) ∙ c.in_ok-put.ensures.head ∙ ap (λ y. (replacement_past (length y) (replacement_of p)).head_of c.args.i) c.as_slice.ensures.value in
     let count = operator_count c.args.i ts n (rename (moved by n) body) c.requires.placed head in
     let whole = operator_is n by (replacement_in p ms) c.args.i ts body count head in
     let used = c.in_ok-used-in-Operator.used.items in
     let given : c.deref.result.now ≡ used = c.deref.ensures.value in
-    let as_many : length c.args.ts.now ≡ count_types us = sym (count_replaced (replacement_in p ms) ts ∙ count_items c.args.ts.now) in
-    let marks : AreTheUsed used (count_types us) body = subst (λ k. AreTheUsed used k body) as_many c.in_ok-used-in-Operator.ensures.used in
+    let marks : AreTheUsed used (count_types us) body = subst (λ k. AreTheUsed used k body) count c.in_ok-used-in-Operator.ensures.used in
     let a = c.in_ok-args-in-Operator.args in
     let same = c.deref-in-Operator.ensures.value ∙ c.in_ok-args-in-Operator.ensures.inner in
     let args = subst (λ y. AreArguments (weights_in p ms) (heights_in p ms) a (only_used y us)) given c.in_ok-args-in-Operator.ensures.made in
@@ -305,8 +285,7 @@ made_arguments-made_argument-requires t c =
     (omega (arith, h), placed_item c.loop-k.inner.items c.args.ts.now c.loop-k.k x c.loop-k.invariant.inner c.loop-k-test.true c.index-ts-k.is c.requires.placed)
 
 pub made_arguments-overflow_cast-place : goal.made_arguments-overflow_cast-place
-made_arguments-overflow_cast-place t c =
-    omega (arith, count_items c.args.ts.now, count_size_types (plain_types c.args.ts.now), c.requires.placed.room)
+made_arguments-overflow_cast-place t c = omega (arith, c.requires.few)
 
 pub made_arguments-loop-k-preserved : goal.made_arguments-loop-k-preserved
 made_arguments-loop-k-preserved t c =
@@ -401,7 +380,7 @@ made_labels-made_type-requires t c =
 
 pub made_labels-loop-l-preserved : goal.made_labels-loop-l-preserved
 made_labels-loop-l-preserved t c = record {
-  row = labels_step c.args.puts.now c.args.inner.now.items c.loop-l.inner.items c.args.ls.now c.loop-l.l-index c.l-item.result c.in_ok-measures.field-0 c.with_label.result c.in_ok-row.row c.loop-l-test.true c.l-item.is c.loop-l.invariant.inner c.loop-l.invariant.row c.in_ok-measures.ensures.made c.with_label.ensures.some c.with_label.ensures.none c.in_ok-row.ensures.weight c.in_ok-row.ensures.light c.in_ok-row.ensures.height c.in_ok-row.ensures.grown c.in_ok-row.ensures.missing;
+  row = labels_step c.args.puts.now c.args.inner.now.items c.loop-l.inner.items c.args.ls.now c.loop-l.l-index c.l-item.result c.in_ok-measures.field-0 c.labelled_part.result c.in_ok-row.row c.loop-l-test.true c.l-item.is c.loop-l.invariant.inner c.loop-l.invariant.row c.in_ok-measures.ensures.made c.labelled_part.ensures.some c.labelled_part.ensures.none c.in_ok-row.ensures.weight c.in_ok-row.ensures.light c.in_ok-row.ensures.height c.in_ok-row.ensures.grown c.in_ok-row.ensures.missing;
   inner = c.in_ok-measures.ensures.inner ∙ c.loop-l.invariant.inner;
 }
 
@@ -498,7 +477,7 @@ made_record-made_types-requires t c =
     let fields : plain_types r.positional.items ≡ ps = ap plain_types (sym c.deref-2.ensures.value) in
     let e : plain_record r ≡ Fields bs ps (plain_labels r.labelled.items) = three Fields same fields refl in
     let h : size (plain_record r) ≡ suc (size_bounds bs + size_types ps + size_labels (plain_labels r.labelled.items)) = ap size e in
-    (omega (arith, h), placed_under c.made_bounds.new.inner.items bs (λ ks. AreWellFormed (names_in p) ks ps) (size_types ps) c.in_ok-binders.ensures.inner (λ ks w. (subst (IsWellFormed (names_in p) ks) e w).1.0) (omega (arith, h)) c.requires.placed)
+    (omega (arith, h), placed_under c.made_bounds.new.inner.items bs (λ ks. AreWellFormed (names_in p) ks ps) c.in_ok-binders.ensures.inner (λ ks w. (subst (IsWellFormed (names_in p) ks) e w).1.0) c.requires.placed)
 
 pub made_record-made_labels-requires : goal.made_record-made_labels-requires
 made_record-made_labels-requires t c =
@@ -510,7 +489,7 @@ made_record-made_labels-requires t c =
     let fields : plain_labels r.labelled.items ≡ ls = ap plain_labels (sym c.deref-3.ensures.value) in
     let e : plain_record r ≡ Fields bs (plain_types r.positional.items) ls = three Fields same refl fields in
     let h : size (plain_record r) ≡ suc (size_bounds bs + size_types (plain_types r.positional.items) + size_labels ls) = ap size e in
-    (omega (arith, h), placed_same c.made_types.new.inner.items c.in_ok-positional.ensures.inner (placed_under c.made_bounds.new.inner.items bs (λ ks. LabelsAreWellFormed (names_in p) ks ls) (size_labels ls) c.in_ok-binders.ensures.inner (λ ks w. (subst (IsWellFormed (names_in p) ks) e w).1.1) (omega (arith, h)) c.requires.placed))
+    (omega (arith, h), placed_same c.made_types.new.inner.items c.in_ok-positional.ensures.inner (placed_under c.made_bounds.new.inner.items bs (λ ks. LabelsAreWellFormed (names_in p) ks ls) c.in_ok-binders.ensures.inner (λ ks w. (subst (IsWellFormed (names_in p) ks) e w).1.1) c.requires.placed))
 
 pub made_record-returns-clause-made : goal.made_record-returns-clause-made
 made_record-returns-clause-made t c =

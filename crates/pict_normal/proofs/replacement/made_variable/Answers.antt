@@ -3,7 +3,7 @@ use Rattle.std.proofs.Common.{◌≡◌, ◌-◌, ◌∙◌, length, drop, refl,
 use Rattle.pict_types.specs.Types.{Top, Var}
 use Rattle.pict_types.specs.Measures.{held, weigh, weights, rise, heights}
 use Rattle.pict_types.specs.Plain.{plain}
-use Rattle.pict_normal.specs.Putting.{HasRoom, put_type, weights_in, heights_in, replacement_in, variables_in, most_of}
+use Rattle.pict_normal.specs.Putting.{HasRoom, put_type, weights_in, heights_in, replacement_in, variables_in}
 use Rattle.pict_types.specs.Renaming.{rename, moved}
 use Rattle.pict_types.specs.Replacing.{replace}
 use Rattle.pict_normal.proofs.Behind.{weights_behind, heights_behind, moved_weighs, moved_rises}
@@ -15,7 +15,7 @@ pub returns-in_ok-measures-in-Variable : goal.returns-in_ok-measures-in-Variable
 returns-in_ok-measures-in-Variable c =
     let p = c.args.puts.now in
     let ms = c.args.inner.now in
-    let e : Var c.in-Variable.k ≡ replace (replacement_in p ms) (Var c.args.i) = sym (ap put_type c.in-Variable.is) ∙ c.put_under.ensures.type_ in
+    let e : Var c.in-Variable.k ≡ replace (replacement_in p ms) (Var c.args.i) = sym (ap put_type c.in-Variable.is) ∙ c.in_ok-put.ensures.type_ in
     let same = c.in_ok-measures-in-Variable.ensures.same in
     record {
       made =
@@ -29,9 +29,9 @@ pub returns-in_err-measures-in-Variable-clause-reason : goal.returns-in_err-meas
 returns-in_err-measures-in-Variable-clause-reason c =
     let p = c.args.puts.now in
     let ms = c.args.inner.now in
-    let e : Var c.in-Variable.k ≡ replace (replacement_in p ms) (Var c.args.i) = sym (ap put_type c.in-Variable.is) ∙ c.put_under.ensures.type_ in
+    let e : Var c.in-Variable.k ≡ replace (replacement_in p ms) (Var c.args.i) = sym (ap put_type c.in-Variable.is) ∙ c.in_ok-put.ensures.type_ in
     let weight = c.measures_inside.ensures.weight ∙ ap (λ x. held (weigh (weights_in p ms) x)) e in
-    passed_reason c.from_residual.result c.in_err-measures-in-Variable.field-0.0 c.measures_inside.result.weight (weigh (weights_in p ms) (replace (replacement_in p ms) (Var c.args.i))) c.from_residual.ensures.1 (λ h. omega (arith, h, weight)) c.in_err-measures-in-Variable.ensures.reason
+    passed_reason c.from_residual-in_err-measures-in-Variable.result c.in_err-measures-in-Variable.field-0.0 c.measures_inside.result.weight (weigh (weights_in p ms) (replace (replacement_in p ms) (Var c.args.i))) c.from_residual-in_err-measures-in-Variable.ensures.1 (λ h. omega (arith, h, weight)) c.in_err-measures-in-Variable.ensures.reason
 
 pub returns-in_err-measures-in-Proper-clause-reason : goal.returns-in_err-measures-in-Proper-clause-reason
 returns-in_err-measures-in-Proper-clause-reason c =
@@ -39,8 +39,8 @@ returns-in_err-measures-in-Proper-clause-reason c =
     let ms = c.args.inner.now in
     let t = plain c.in-Proper.t.now in
     let by = c.in-Proper.by in
-    let fits = subst (HasRoom (length (variables_in p)) (most_of p) (length ms) c.args.i) c.in-Proper.is c.put_under.ensures.room in
-    let e : rename (moved by 0) t ≡ replace (replacement_in p ms) (Var c.args.i) = sym (ap put_type c.in-Proper.is) ∙ c.put_under.ensures.type_ in
+    let fits = subst (HasRoom (length (variables_in p)) (length ms) c.args.i) c.in-Proper.is c.in_ok-put.ensures.room in
+    let e : rename (moved by 0) t ≡ replace (replacement_in p ms) (Var c.args.i) = sym (ap put_type c.in-Proper.is) ∙ c.in_ok-put.ensures.type_ in
     let weighs = moved_weighs (weights_in p ms) (drop (by - length ms) (weights (variables_in p))) by t (weights_behind ms (weights (variables_in p)) by fits.0) in
     let weight = c.measures_inside-in-Proper.ensures.weight ∙ ap held (weighs ∙ ap (weigh (weights_in p ms)) e) in
     passed_reason c.from_residual-in_err-measures-in-Proper.result c.in_err-measures-in-Proper.field-0.0 c.measures_inside-in-Proper.result.weight (weigh (weights_in p ms) (replace (replacement_in p ms) (Var c.args.i))) c.from_residual-in_err-measures-in-Proper.ensures.1 (λ h. omega (arith, h, weight)) c.in_err-measures-in-Proper.ensures.reason
@@ -51,8 +51,8 @@ returns-then-is_within c =
     let ms = c.args.inner.now in
     let t = plain c.in-Proper.t.now in
     let by = c.in-Proper.by in
-    let fits = subst (HasRoom (length (variables_in p)) (most_of p) (length ms) c.args.i) c.in-Proper.is c.put_under.ensures.room in
-    let e : rename (moved by 0) t ≡ replace (replacement_in p ms) (Var c.args.i) = sym (ap put_type c.in-Proper.is) ∙ c.put_under.ensures.type_ in
+    let fits = subst (HasRoom (length (variables_in p)) (length ms) c.args.i) c.in-Proper.is c.in_ok-put.ensures.room in
+    let e : rename (moved by 0) t ≡ replace (replacement_in p ms) (Var c.args.i) = sym (ap put_type c.in-Proper.is) ∙ c.in_ok-put.ensures.type_ in
     let weighs = moved_weighs (weights_in p ms) (drop (by - length ms) (weights (variables_in p))) by t (weights_behind ms (weights (variables_in p)) by fits.0) in
     let weight = c.measures_inside-in-Proper.ensures.weight ∙ ap held (weighs ∙ ap (weigh (weights_in p ms)) e) in
     let rises = moved_rises (heights_in p ms) (drop (by - length ms) (heights (variables_in p))) by t (heights_behind ms (heights (variables_in p)) by fits.0) in
@@ -72,8 +72,8 @@ returns-else-is_within c =
     let ms = c.args.inner.now in
     let t = plain c.in-Proper.t.now in
     let by = c.in-Proper.by in
-    let fits = subst (HasRoom (length (variables_in p)) (most_of p) (length ms) c.args.i) c.in-Proper.is c.put_under.ensures.room in
-    let e : rename (moved by 0) t ≡ replace (replacement_in p ms) (Var c.args.i) = sym (ap put_type c.in-Proper.is) ∙ c.put_under.ensures.type_ in
+    let fits = subst (HasRoom (length (variables_in p)) (length ms) c.args.i) c.in-Proper.is c.in_ok-put.ensures.room in
+    let e : rename (moved by 0) t ≡ replace (replacement_in p ms) (Var c.args.i) = sym (ap put_type c.in-Proper.is) ∙ c.in_ok-put.ensures.type_ in
     let weighs = moved_weighs (weights_in p ms) (drop (by - length ms) (weights (variables_in p))) by t (weights_behind ms (weights (variables_in p)) by fits.0) in
     let weight = c.measures_inside-in-Proper.ensures.weight ∙ ap held (weighs ∙ ap (weigh (weights_in p ms)) e) in
     let rises = moved_rises (heights_in p ms) (drop (by - length ms) (heights (variables_in p))) by t (heights_behind ms (heights (variables_in p)) by fits.0) in
@@ -97,7 +97,7 @@ pub returns-in-Operator : goal.returns-in-Operator
 returns-in-Operator c =
     let p = c.args.puts.now in
     let ms = c.args.inner.now in
-    let e : Top ≡ replace (replacement_in p ms) (Var c.args.i) = sym (ap put_type c.in-Operator.is) ∙ c.put_under.ensures.type_ in
+    let e : Top ≡ replace (replacement_in p ms) (Var c.args.i) = sym (ap put_type c.in-Operator.is) ∙ c.in_ok-put.ensures.type_ in
     record {
       made = leaf_is c.leaf.result Top_ (replace (replacement_in p ms) (Var c.args.i)) c.leaf.ensures.measures c.leaf.ensures.ty e (sym (ap (weigh (weights_in p ms)) e)) (sym (ap (rise (heights_in p ms)) e));
       reason = tt;

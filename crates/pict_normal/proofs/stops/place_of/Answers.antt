@@ -1,25 +1,19 @@
 -- The place of a name among the binders, or else behind them.
-use Rattle.std.proofs.Common.{◌+◌, ◌∙◌, sym, ap, Some, arith, length-append}
+use Rattle.std.proofs.Common.{◌≡◌, ◌+◌, ◌∙◌, length, sym, ap, Some, arith}
 use Rattle.pict_normal.specs.Around.{scope_of}
 use Rattle.pict_types.specs.PlainContext.{plain_context}
-use Rattle.pict_types.specs.Places.{names_in}
-use Rattle.pict_normal.proofs.BinderPlaces.{place_first, place_rest, place_neither, place_below}
-use Rattle.pict_types.proofs.Places.{names_length}
+use Rattle.pict_normal.proofs.BinderPlaces.{place_first, place_rest, place_neither}
 use Rattle.pict_normal.proofs.stops.place_of.Goals as goal
 
-pub overflow_add-result : goal.overflow_add-result
-overflow_add-result c =
-    let d = plain_context c.args.c.now in
-    let h = place_below (names_in d) c.args.name.0 c.in-Some-place.i (sym c.place-in-None.ensures ∙ c.in-Some-place.is) in
-    omega (arith, h, names_length d, c.len.ensures, length-append (scope_of c.args.inner.now) d)
+pub returns-in_ok-number-in-Some : goal.returns-in_ok-number-in-Some
+returns-in_ok-number-in-Some c =
+    ap Some c.in_ok-number-in-Some.ensures
+    ∙ sym (place_first (scope_of c.args.inner.now) (plain_context c.args.c.now) c.args.name.0 c.in-Some.i (sym c.place.ensures ∙ c.in-Some.is))
 
-pub returns-in-Some : goal.returns-in-Some
-returns-in-Some c =
-    sym (place_first (scope_of c.args.inner.now) (plain_context c.args.c.now) c.args.name.0 c.in-Some.i (sym c.place.ensures ∙ c.in-Some.is))
-
-pub returns-in-Some-place : goal.returns-in-Some-place
-returns-in-Some-place c =
-    ap (λ n. Some (n + c.in-Some-place.i)) c.len.ensures
+pub returns-in_ok-number-in-Some-place : goal.returns-in_ok-number-in-Some-place
+returns-in_ok-number-in-Some-place c =
+    let e : c.in_ok-number-in-Some-place.field-0 ≡ length (scope_of c.args.inner.now) + c.in-Some-place.i = omega (arith, c.in_ok-number-in-Some-place.ensures, c.saturating_add.ensures, c.len.ensures) in
+    ap Some e
     ∙ sym (place_rest (scope_of c.args.inner.now) (plain_context c.args.c.now) c.args.name.0 c.in-Some-place.i (sym c.place.ensures ∙ c.in-None.is) (sym c.place-in-None.ensures ∙ c.in-Some-place.is))
 
 pub returns-in-None-place : goal.returns-in-None-place

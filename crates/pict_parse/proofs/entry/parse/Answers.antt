@@ -1,20 +1,20 @@
 use Rattle.std.proofs.Common.{◌≡◌, Ok, Err, length, subst, arith}
 use Rattle.pict_automaton.specs.Machine.{step}
 use Rattle.pict_automaton.specs.Places.{stop}
-use Rattle.pict_automaton.proofs.Nestings.{shallow-start}
+use Rattle.pict_automaton.proofs.Nestings.{shallow_start}
 use Rattle.pict_parse_states.specs.View.{Gives, state_of}
 use Rattle.pict_parse.specs.Answers.{Ends}
 use Rattle.pict_parse.specs.declared.entry.ParseError.TheVariants as answer
-use Rattle.pict_parse.proofs.Exact.{exact-of}
-use Rattle.pict_parse.proofs.Loop.{unexpected, kept-on, too-deep, program, no-program}
+use Rattle.pict_parse.proofs.Exact.{exact_of}
+use Rattle.pict_parse.proofs.Loop.{unexpected, kept_on, too_nested, program, no_program}
 use Rattle.pict_parse.proofs.entry.parse.Goals as goal
 
 pub loop-token-init : goal.loop-token-init
-loop-token-init c = (c.in_ok-state.ensures, shallow-start c.args.tokens.now)
+loop-token-init c = (c.in_ok-state.ensures, shallow_start c.args.tokens.now)
 
 pub loop-token-preserved : goal.loop-token-preserved
 loop-token-preserved c =
-    kept-on c.args.tokens.now c.loop-token.token-index c.token-item.result c.loop-token.state c.in-Ok.next c.loop-token-test.true c.token-item.is c.loop-token.invariant (c.in-Ok.ensures) (c.if-not-is_within.ensures)
+    kept_on c.args.tokens.now c.loop-token.token-index c.token-item.result c.loop-token.state c.in-Ok.next c.loop-token-test.true c.token-item.is c.loop-token.invariant (c.in-Ok.ensures) (c.if-not-is_within.ensures)
 
 pub returns-in-Err-Unexpected-clause-verdict : goal.returns-in-Err-Unexpected-clause-verdict
 returns-in-Err-Unexpected-clause-verdict c =
@@ -24,7 +24,7 @@ returns-in-Err-Unexpected-clause-verdict c =
 
 pub returns-then-not-is_within-clause-verdict : goal.returns-then-not-is_within-clause-verdict
 returns-then-not-is_within-clause-verdict c =
-    too-deep c.args.tokens.now c.args.end c.loop-token.token-index c.token-item.result c.loop-token.state c.in-Ok.next c.loop-token-test.true c.token-item.is c.loop-token.invariant (c.in-Ok.ensures) (c.if-not-is_within.ensures)
+    too_nested c.args.tokens.now c.args.end c.loop-token.token-index c.token-item.result c.loop-token.state c.in-Ok.next c.loop-token-test.true c.token-item.is c.loop-token.invariant (c.in-Ok.ensures) (c.if-not-is_within.ensures)
 
 pub returns-in-Some-clause-verdict : goal.returns-in-Some-clause-verdict
 returns-in-Some-clause-verdict c =
@@ -34,19 +34,19 @@ returns-in-Some-clause-verdict c =
 pub returns-in-None-clause-verdict : goal.returns-in-None-clause-verdict
 returns-in-None-clause-verdict c =
     let whole : c.loop-token.token-index ≡ length c.args.tokens.now = omega arith in
-    no-program c.args.tokens.now c.args.end c.loop-token.token-index c.loop-token.state c.end_of.result whole c.loop-token.invariant (subst (Ends (state_of c.loop-token.state)) c.in-None.is (c.in_ok-program.ensures)) c.end_of.ensures
+    no_program c.args.tokens.now c.args.end c.loop-token.token-index c.loop-token.state c.end_of.result whole c.loop-token.invariant (subst (Ends (state_of c.loop-token.state)) c.in-None.is (c.in_ok-program.ensures)) c.end_of.ensures
 
 pub returns-in-Err-Unexpected-clause-exact : goal.returns-in-Err-Unexpected-clause-exact
 returns-in-Err-Unexpected-clause-exact c =
-    exact-of c.args.tokens.now c.args.end (Err (answer.Unexpected c.token-item.result.span)) (returns-in-Err-Unexpected-clause-verdict c)
+    exact_of c.args.tokens.now c.args.end (Err (answer.Unexpected c.token-item.result.span)) (returns-in-Err-Unexpected-clause-verdict c)
 
 pub returns-then-not-is_within-clause-exact : goal.returns-then-not-is_within-clause-exact
 returns-then-not-is_within-clause-exact c =
-    exact-of c.args.tokens.now c.args.end (Err (answer.TooNested c.token-item.result.span)) (returns-then-not-is_within-clause-verdict c)
+    exact_of c.args.tokens.now c.args.end (Err (answer.TooNested c.token-item.result.span)) (returns-then-not-is_within-clause-verdict c)
 
 pub returns-in-Some-clause-exact : goal.returns-in-Some-clause-exact
-returns-in-Some-clause-exact c = exact-of c.args.tokens.now c.args.end (Ok c.in-Some.program) (returns-in-Some-clause-verdict c)
+returns-in-Some-clause-exact c = exact_of c.args.tokens.now c.args.end (Ok c.in-Some.program) (returns-in-Some-clause-verdict c)
 
 pub returns-in-None-clause-exact : goal.returns-in-None-clause-exact
 returns-in-None-clause-exact c =
-    exact-of c.args.tokens.now c.args.end (Err (answer.Unexpected c.end_of.result)) (returns-in-None-clause-verdict c)
+    exact_of c.args.tokens.now c.args.end (Err (answer.Unexpected c.end_of.result)) (returns-in-None-clause-verdict c)

@@ -1,10 +1,10 @@
 use Rattle.std.proofs.Common.{◌≡◌, length, ap, sym, ◌∙◌, subst, arith}
 use Rattle.std.proofs.lemmas.Bool.Decides.{nat_tests}
-use Rattle.pict_syntax.specs.Trees.{inert-proc}
+use Rattle.pict_syntax.specs.Trees.{inert_proc}
 use Rattle.pict_syntax.specs.PlainTrees.{proc_of}
-use Rattle.pict_automaton.specs.Machine.{put-procs}
-use Rattle.pict_parse_states.specs.View.{procs-place_of, Gives}
-use Rattle.pict_parse_values.proofs.Others.{close-inert-first, close-inert-behind}
+use Rattle.pict_automaton.specs.Machine.{put_processes}
+use Rattle.pict_parse_states.specs.View.{processes_place_of, Gives}
+use Rattle.pict_parse_values.proofs.Behind.{close_inert_first, close_inert_behind}
 use Rattle.pict_parse_values.proofs.begins.close_inert.Goals as goal
 
 pub returns-then-is_empty : goal.returns-then-is_empty
@@ -13,12 +13,12 @@ returns-then-is_empty c =
     let at = c.in-Paren in
     let none : length at.decs.items ≡ 0 = grind (arith, nat_tests) in
     let put =
-    ap (λ s. put-procs (inert-proc s) (procs-place_of at.below)) c.join.ensures
-    ∙ sym (close-inert-first at.decs.items none c.args.at at.from (procs-place_of at.below)) in
-    rw (← c.into_inner.ensures, at.is) (subst (Gives c.put_procs.result) put c.put_procs.ensures)
+    ap (λ s. put_processes (inert_proc s) (processes_place_of at.below)) c.join.ensures
+    ∙ sym (close_inert_first at.decs.items none c.args.at at.from (processes_place_of at.below)) in
+    rw (← c.into_inner.ensures, at.is) (subst (Gives c.put_processes.result) put c.put_processes.ensures)
 
 pub returns-in-Paren : goal.returns-in-Paren
 returns-in-Paren c =
     let at = c.in-Paren in
     let some : length at.decs.items ≡ 0 → ⊥ = λ e. grind (arith, nat_tests) in
-    rw (← c.into_inner.ensures, at.is) (close-inert-behind at.decs.items some c.args.at at.from (procs-place_of at.below))
+    rw (← c.into_inner.ensures, at.is) (close_inert_behind at.decs.items some c.args.at at.from (processes_place_of at.below))

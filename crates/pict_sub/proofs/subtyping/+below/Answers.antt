@@ -1,21 +1,15 @@
 -- The answers on records and on their labels.
 use Rattle.std.proofs.Common.{◌≡◌, suc, ◌+◌, ◌<◌, length, drop, refl, sym, ◌∙◌, ap, subst, arith, true, false}
 use Rattle.pict_types.specs.Types.{Var, under}
-use Rattle.pict_types.specs.Kinds.{proper, kinds}
+use Rattle.pict_types.specs.Kinds.{kinds}
 use Rattle.pict_types.specs.Measures.{weigh_types, weigh_labels, weigh_bounds, weights, weight_of}
 use Rattle.pict_types.specs.Plain.{plain, plain_record, plain_types, plain_bounds, plain_labels}
 use Rattle.pict_sub.specs.Scopes.{scope_context, scope_names}
 use Rattle.pict_sub.specs.Subtyping.{IsSubtype, same}
 use Rattle.pict_sub.proofs.Weighing.{size_weight_bounds, weight_positive}
-use Rattle.pict_types.proofs.Reaching.{kind_below, kinds_length}
-use Rattle.pict_sub.proofs.Below.{ready_as, weigh_as, parts_as, other_fields, second_decides, under_grows, label_read, label_weighs, label_rest, pass_label, take_label, miss_label, end_labels, all_found}
+use Rattle.pict_sub.proofs.Below.{ready_as, weigh_as, parts_as, other_fields, second_decides, label_read, label_weighs, label_rest, pass_label, take_label, miss_label, end_labels, all_found}
 use Rattle.pict_types.proofs.Rows.{labels_end}
 use Rattle.pict_sub.proofs.subtyping.+below.Goals as goal
-
-pub bound_is_below-overflow_add-i : goal.bound_is_below-overflow_add-i
-bound_is_below-overflow_add-i g t c =
-    let ctx = scope_context c.args.scope.now in
-    omega (arith, kind_below (kinds ctx) c.args.i proper c.requires.i, kinds_length ctx, c.requires.room)
 
 pub variable_is_below-returns-clause-answer : goal.variable_is_below-returns-clause-answer
 variable_is_below-returns-clause-answer g t c =
@@ -57,11 +51,9 @@ fields_are_below-rows_are_below-requires g t c =
     let xs = plain_bounds c.deref-3.result.now in
     let wr : weight_of ctx (plain_record r) ≡ suc (weigh_bounds (weights ctx) xs + (weigh_types (weights (under ctx xs)) (plain_types c.deref-4.result.now) + weigh_labels (weights (under ctx xs)) (plain_labels r.labelled.items))) = weigh_as ctx xs (plain_bounds r.binders.items) _ (plain_types r.positional.items) _ (plain_labels r.labelled.items) bs3 ps4 ls6 in
     let wq : weight_of ctx (plain_record q) ≡ suc (weigh_bounds (weights ctx) xs + (weigh_types (weights (under ctx xs)) (plain_types c.deref-5.result.now) + weigh_labels (weights (under ctx xs)) (plain_labels q.labelled.items))) = weigh_as ctx xs (plain_bounds q.binders.items) _ (plain_types q.positional.items) _ (plain_labels q.labelled.items) (bs3 ∙ both) qs5 ms7 in
-    let grow = under_grows ctx xs in
-    let room : length ctx + (weight_of ctx (plain_record r) + weight_of ctx (plain_record q)) < 4294967296 = c.requires.room in
     let rr = ready_as ns ctx (plain_bounds c.deref-3.result.now) (plain_bounds r.binders.items) _ (plain_types r.positional.items) _ (plain_labels r.labelled.items) bs3 ps4 ls6 c.requires.context c.requires.r in
     let rq = ready_as ns ctx (plain_bounds c.deref-3.result.now) (plain_bounds q.binders.items) _ (plain_types q.positional.items) _ (plain_labels q.labelled.items) (bs3 ∙ both) qs5 ms7 c.requires.context c.requires.q in
-    λ κs h. (omega (arith, wr, wq), (h, (rr.context, (rr.rows, (rq.rows, omega (arith, wr, wq, grow, room))))))
+    λ κs h. (omega (arith, wr, wq), (h, (rr.context, (rr.rows, rq.rows))))
 
 pub fields_are_below-labels_are_below-requires : goal.fields_are_below-labels_are_below-requires
 fields_are_below-labels_are_below-requires g t c =
@@ -79,11 +71,9 @@ fields_are_below-labels_are_below-requires g t c =
     let xs = plain_bounds c.deref-3.result.now in
     let wr : weight_of ctx (plain_record r) ≡ suc (weigh_bounds (weights ctx) xs + (weigh_types (weights (under ctx xs)) (plain_types c.deref-4.result.now) + weigh_labels (weights (under ctx xs)) (plain_labels c.deref-6.result.now))) = weigh_as ctx xs (plain_bounds r.binders.items) _ (plain_types r.positional.items) _ (plain_labels r.labelled.items) bs3 ps4 ls6 in
     let wq : weight_of ctx (plain_record q) ≡ suc (weigh_bounds (weights ctx) xs + (weigh_types (weights (under ctx xs)) (plain_types c.deref-5.result.now) + weigh_labels (weights (under ctx xs)) (plain_labels c.deref-7.result.now))) = weigh_as ctx xs (plain_bounds q.binders.items) _ (plain_types q.positional.items) _ (plain_labels q.labelled.items) (bs3 ∙ both) qs5 ms7 in
-    let grow = under_grows ctx xs in
-    let room : length ctx + (weight_of ctx (plain_record r) + weight_of ctx (plain_record q)) < 4294967296 = c.requires.room in
     let rr = ready_as ns ctx (plain_bounds c.deref-3.result.now) (plain_bounds r.binders.items) _ (plain_types r.positional.items) _ (plain_labels r.labelled.items) bs3 ps4 ls6 c.requires.context c.requires.r in
     let rq = ready_as ns ctx (plain_bounds c.deref-3.result.now) (plain_bounds q.binders.items) _ (plain_types q.positional.items) _ (plain_labels q.labelled.items) (bs3 ∙ both) qs5 ms7 c.requires.context c.requires.q in
-    λ κs h. (omega (arith, wr, wq), (h, (rr.context, (rr.labelled, (rq.labelled, omega (arith, wr, wq, grow, room))))))
+    λ κs h. (omega (arith, wr, wq), (h, (rr.context, (rr.labelled, rq.labelled))))
 
 pub fields_are_below-returns-in_err-rows_are_below-clause-cost : goal.fields_are_below-returns-in_err-rows_are_below-clause-cost
 fields_are_below-returns-in_err-rows_are_below-clause-cost g t c =
@@ -101,8 +91,6 @@ fields_are_below-returns-in_err-rows_are_below-clause-cost g t c =
     let xs = plain_bounds c.deref-3.result.now in
     let wr : weight_of ctx (plain_record r) ≡ suc (weigh_bounds (weights ctx) xs + (weigh_types (weights (under ctx xs)) (plain_types c.deref-4.result.now) + weigh_labels (weights (under ctx xs)) (plain_labels r.labelled.items))) = weigh_as ctx xs (plain_bounds r.binders.items) _ (plain_types r.positional.items) _ (plain_labels r.labelled.items) bs3 ps4 ls6 in
     let wq : weight_of ctx (plain_record q) ≡ suc (weigh_bounds (weights ctx) xs + (weigh_types (weights (under ctx xs)) (plain_types c.deref-5.result.now) + weigh_labels (weights (under ctx xs)) (plain_labels q.labelled.items))) = weigh_as ctx xs (plain_bounds q.binders.items) _ (plain_types q.positional.items) _ (plain_labels q.labelled.items) (bs3 ∙ both) qs5 ms7 in
-    let grow = under_grows ctx xs in
-    let room : length ctx + (weight_of ctx (plain_record r) + weight_of ctx (plain_record q)) < 4294967296 = c.requires.room in
     let paid : weigh_bounds (weights ctx) (plain_bounds c.deref.result.now) ≡ weigh_bounds (weights ctx) (plain_bounds c.deref-3.result.now) = ap (λ x. weigh_bounds (weights ctx) (plain_bounds x)) (c.deref.ensures.value ∙ sym c.deref-3.ensures.value) in
     let size = size_weight_bounds ctx (plain_bounds c.deref.result.now) in
     omega (arith, wr, wq, paid, size, c.equal_bounds.ensures.cost, c.rows_are_below.ensures.cost)
@@ -123,8 +111,6 @@ fields_are_below-returns-then-not-branch-clause-cost g t c =
     let xs = plain_bounds c.deref-3.result.now in
     let wr : weight_of ctx (plain_record r) ≡ suc (weigh_bounds (weights ctx) xs + (weigh_types (weights (under ctx xs)) (plain_types c.deref-4.result.now) + weigh_labels (weights (under ctx xs)) (plain_labels r.labelled.items))) = weigh_as ctx xs (plain_bounds r.binders.items) _ (plain_types r.positional.items) _ (plain_labels r.labelled.items) bs3 ps4 ls6 in
     let wq : weight_of ctx (plain_record q) ≡ suc (weigh_bounds (weights ctx) xs + (weigh_types (weights (under ctx xs)) (plain_types c.deref-5.result.now) + weigh_labels (weights (under ctx xs)) (plain_labels q.labelled.items))) = weigh_as ctx xs (plain_bounds q.binders.items) _ (plain_types q.positional.items) _ (plain_labels q.labelled.items) (bs3 ∙ both) qs5 ms7 in
-    let grow = under_grows ctx xs in
-    let room : length ctx + (weight_of ctx (plain_record r) + weight_of ctx (plain_record q)) < 4294967296 = c.requires.room in
     let paid : weigh_bounds (weights ctx) (plain_bounds c.deref.result.now) ≡ weigh_bounds (weights ctx) (plain_bounds c.deref-3.result.now) = ap (λ x. weigh_bounds (weights ctx) (plain_bounds x)) (c.deref.ensures.value ∙ sym c.deref-3.ensures.value) in
     let size = size_weight_bounds ctx (plain_bounds c.deref.result.now) in
     omega (arith, wr, wq, paid, size, c.equal_bounds.ensures.cost, c.rows_are_below.ensures.cost)
@@ -145,8 +131,6 @@ fields_are_below-returns-clause-cost g t c =
     let xs = plain_bounds c.deref-3.result.now in
     let wr : weight_of ctx (plain_record r) ≡ suc (weigh_bounds (weights ctx) xs + (weigh_types (weights (under ctx xs)) (plain_types c.deref-4.result.now) + weigh_labels (weights (under ctx xs)) (plain_labels c.deref-6.result.now))) = weigh_as ctx xs (plain_bounds r.binders.items) _ (plain_types r.positional.items) _ (plain_labels r.labelled.items) bs3 ps4 ls6 in
     let wq : weight_of ctx (plain_record q) ≡ suc (weigh_bounds (weights ctx) xs + (weigh_types (weights (under ctx xs)) (plain_types c.deref-5.result.now) + weigh_labels (weights (under ctx xs)) (plain_labels c.deref-7.result.now))) = weigh_as ctx xs (plain_bounds q.binders.items) _ (plain_types q.positional.items) _ (plain_labels q.labelled.items) (bs3 ∙ both) qs5 ms7 in
-    let grow = under_grows ctx xs in
-    let room : length ctx + (weight_of ctx (plain_record r) + weight_of ctx (plain_record q)) < 4294967296 = c.requires.room in
     let paid : weigh_bounds (weights ctx) (plain_bounds c.deref.result.now) ≡ weigh_bounds (weights ctx) (plain_bounds c.deref-3.result.now) = ap (λ x. weigh_bounds (weights ctx) (plain_bounds x)) (c.deref.ensures.value ∙ sym c.deref-3.ensures.value) in
     let size = size_weight_bounds ctx (plain_bounds c.deref.result.now) in
     omega (arith, wr, wq, paid, size, c.equal_bounds.ensures.cost, c.rows_are_below.ensures.cost, c.labels_are_below.ensures.cost)

@@ -1,5 +1,5 @@
 use Rattle.pict_syntax.specs.PlainTrees.{program_of}
-use Rattle.pict_automaton.specs.Verdicts.{Program}
+use Rattle.pict_syntax.specs.Verdicts.{Program}
 use Rattle.pict_top.specs.Phases.{front_of}
 use Rattle.pict_top.proofs.Fronts.{judged_program, judged_stop}
 use Rattle.pict_top.proofs.front.process_of.Goals as goal

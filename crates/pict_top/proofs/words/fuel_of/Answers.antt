@@ -2,16 +2,16 @@ use Rattle.std.proofs.Common.{arith, ◌≡◌, ℕ, sym, ap, ◌∙◌, not}
 use Rattle.std.specs.Fmt.{decimal}
 use Rattle.std.proofs.lemmas.Fmt.{parse-decimal}
 use Rattle.std.proofs.lemmas.Slice.Eq.{bytes_eq-Decides}
-use Rattle.pict_top.proofs.words.fuel_of.Goals.{then-fuel-gt-MOST_FUEL-via-then-fuel-gt-MOST_FUEL, then-fuel-gt-MOST_FUEL-via-else-fuel-gt-MOST_FUEL+then-ne}
+use Rattle.pict_top.proofs.words.fuel_of.Goals.{then-fuel-gt-FUEL_LIMIT-via-then-fuel-gt-FUEL_LIMIT, then-fuel-gt-FUEL_LIMIT-via-else-fuel-gt-FUEL_LIMIT+then-ne}
 use Rattle.pict_top.proofs.words.fuel_of.Goals as goal
 
-pub returns-then-fuel-gt-MOST_FUEL-clause-none : goal.returns-then-fuel-gt-MOST_FUEL-clause-none
-returns-then-fuel-gt-MOST_FUEL-clause-none c e fuel below is =
+pub returns-then-fuel-gt-FUEL_LIMIT-clause-none : goal.returns-then-fuel-gt-FUEL_LIMIT-clause-none
+returns-then-fuel-gt-FUEL_LIMIT-clause-none c e fuel below is =
     let parsed = parse-decimal 64 fuel c.args.word.now c.parse.result (omega (arith, below)) (omega (arith, below)) is c.parse.ensures.value.0 in
     let same : c.in-Ok.fuel ≡ fuel = cc in
-    elim c.then-fuel-gt-MOST_FUEL.branch [
-      | then-fuel-gt-MOST_FUEL-via-then-fuel-gt-MOST_FUEL w ↦ omega (arith, w.if-fuel-gt-MOST_FUEL.true, same, below)
-      | then-fuel-gt-MOST_FUEL-via-else-fuel-gt-MOST_FUEL+then-ne w ↦
+    elim c.then-fuel-gt-FUEL_LIMIT.branch [
+      | then-fuel-gt-FUEL_LIMIT-via-then-fuel-gt-FUEL_LIMIT w ↦ omega (arith, w.if-fuel-gt-FUEL_LIMIT.true, same, below)
+      | then-fuel-gt-FUEL_LIMIT-via-else-fuel-gt-FUEL_LIMIT+then-ne w ↦
           let alike = (bytes_eq-Decides w.format.result.now c.args.word.now).1 (w.format.ensures.text ∙ ap decimal same ∙ sym is) in
           let no = sym w.if-ne.true ∙ w.ne.ensures ∙ ap not alike in
           cc

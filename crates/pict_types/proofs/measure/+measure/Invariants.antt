@@ -2,7 +2,7 @@
 use Rattle.std.proofs.Common.{◌≡◌, ◌+◌, ◌*◌, ◌<◌, ◌^◌, max, drop, take, map, reverse, ◌++◌}
 use Rattle.pict_types.specs.Measures.{held, weigh_types, weigh_labels, rise_types, rise_labels, size, size_bound, size_types, size_labels, size_bounds}
 use Rattle.pict_types.specs.Plain.{plain, plain_bound, plain_types, plain_bounds, plain_labels}
-use Rattle.pict_types.specs.Scopes.{scope_weights, scope_heights, weigh_parts, rise_parts}
+use Rattle.pict_types.specs.Around.{around_weights, around_heights, weigh_parts, rise_parts}
 use Rattle.pict_types.proofs.measure.+measure.Given as goal
 
 abbrev pub decreases-measure : goal.decreases-measure
@@ -25,24 +25,24 @@ decreases-measure_block l = 4 * (size_bounds (plain_bounds l.binders.now) + size
 
 abbrev pub invariant-measure_types-loop-t : goal.invariant-measure_types-loop-t
 invariant-measure_types-loop-t l = record {
-  weight : held (l.all.weight + weigh_types (scope_weights l.scope) (plain_types (drop l.t-index l.ts))) ≡ held (weigh_types (scope_weights l.scope) (plain_types l.ts));
-  height : held (max l.all.height (rise_types (scope_heights l.scope) (plain_types (drop l.t-index l.ts)))) ≡ held (rise_types (scope_heights l.scope) (plain_types l.ts));
+  weight : held (l.all.weight + weigh_types (around_weights l.around) (plain_types (drop l.t-index l.ts))) ≡ held (weigh_types (around_weights l.around) (plain_types l.ts));
+  height : held (max l.all.height (rise_types (around_heights l.around) (plain_types (drop l.t-index l.ts)))) ≡ held (rise_types (around_heights l.around) (plain_types l.ts));
   weight_fits : l.all.weight < 2 ^ 64;
   height_fits : l.all.height < 2 ^ 64;
 }
 
 abbrev pub invariant-measure_labels-loop-l : goal.invariant-measure_labels-loop-l
 invariant-measure_labels-loop-l l = record {
-  weight : held (l.all.weight + weigh_labels (scope_weights l.scope) (plain_labels (drop l.l-index l.ls))) ≡ held (weigh_labels (scope_weights l.scope) (plain_labels l.ls));
-  height : held (max l.all.height (rise_labels (scope_heights l.scope) (plain_labels (drop l.l-index l.ls)))) ≡ held (rise_labels (scope_heights l.scope) (plain_labels l.ls));
+  weight : held (l.all.weight + weigh_labels (around_weights l.around) (plain_labels (drop l.l-index l.ls))) ≡ held (weigh_labels (around_weights l.around) (plain_labels l.ls));
+  height : held (max l.all.height (rise_labels (around_heights l.around) (plain_labels (drop l.l-index l.ls)))) ≡ held (rise_labels (around_heights l.around) (plain_labels l.ls));
   weight_fits : l.all.weight < 2 ^ 64;
   height_fits : l.all.height < 2 ^ 64;
 }
 
 abbrev pub invariant-measure_block-loop-k : goal.invariant-measure_block-loop-k
 invariant-measure_block-loop-k l = record {
-  weight : held (l.all.weight + weigh_parts (reverse (map (λ m. m.weight) (take l.k l.known)) ++ scope_weights l.scope) (plain_bounds (drop l.k l.binders)) (plain_types l.r.positional.items) (plain_labels l.r.labelled.items)) ≡ held (weigh_parts (scope_weights l.scope) (plain_bounds l.binders) (plain_types l.r.positional.items) (plain_labels l.r.labelled.items));
-  height : held (max l.all.height (rise_parts (reverse (map (λ m. m.height) (take l.k l.known)) ++ scope_heights l.scope) (plain_bounds (drop l.k l.binders)) (plain_types l.r.positional.items) (plain_labels l.r.labelled.items))) ≡ held (rise_parts (scope_heights l.scope) (plain_bounds l.binders) (plain_types l.r.positional.items) (plain_labels l.r.labelled.items));
+  weight : held (l.all.weight + weigh_parts (reverse (map (λ m. m.weight) (take l.k l.known)) ++ around_weights l.around) (plain_bounds (drop l.k l.binders)) (plain_types l.r.positional.items) (plain_labels l.r.labelled.items)) ≡ held (weigh_parts (around_weights l.around) (plain_bounds l.binders) (plain_types l.r.positional.items) (plain_labels l.r.labelled.items));
+  height : held (max l.all.height (rise_parts (reverse (map (λ m. m.height) (take l.k l.known)) ++ around_heights l.around) (plain_bounds (drop l.k l.binders)) (plain_types l.r.positional.items) (plain_labels l.r.labelled.items))) ≡ held (rise_parts (around_heights l.around) (plain_bounds l.binders) (plain_types l.r.positional.items) (plain_labels l.r.labelled.items));
   weight_fits : l.all.weight < 2 ^ 64;
   height_fits : l.all.height < 2 ^ 64;
 }

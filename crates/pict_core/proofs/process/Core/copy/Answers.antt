@@ -1,7 +1,7 @@
 use Rattle.std.proofs.Common.{◌≡◌, IfOk, subst}
 use Rattle.pict_core.specs.Plain.{plain_core}
-use Rattle.pict_core.proofs.Putting.{put-none}
+use Rattle.pict_core.proofs.Substituting.{substitute-none}
 use Rattle.pict_core.proofs.process.Core.copy.Goals as goal
 
 pub returns : goal.returns
-returns c = subst (λ q. IfOk c.put.result (λ p. plain_core p ≡ q)) (put-none (plain_core c.args.self.now)) c.put.ensures
+returns c = subst (λ q. IfOk c.substitute.result (λ p. plain_core p ≡ q)) (substitute-none (plain_core c.args.self.now)) c.substitute.ensures

@@ -20,7 +20,7 @@ unfolding after
 adds c =
     let words : c.self.inside.words.len ≡ length c.self.inside.words.items = c.self.inside.words.ok.0 in
     let labels : c.self.inside.labelled.len ≡ length c.self.inside.labelled.items = c.self.inside.labelled.ok.0 in
-    let start : c.append-by_label.result.start ≡ length c.self.inside.sorted.items = ap (λ p. p.start) c.append-by_label.ensures.part ∙ c.self.inside.sorted.ok.0 in
+    let start : c.append-by_label.result.start ≡ length c.self.inside.sorted.items = ap (λ p. p.start) c.append-by_label.ensures.slice ∙ c.self.inside.sorted.ok.0 in
     let tail = tail_sorted c.self.inside.sorted.items c.sort_from.new.list.items c.args.labelled.now c.append-by_label.result.start start
     (c.sort_from.ensures.before ∙ ap (take c.append-by_label.result.start) c.append-by_label.ensures.items)
     (subst (λ fs. IsPermutation (drop c.append-by_label.result.start fs) (drop c.append-by_label.result.start c.sort_from.new.list.items)) c.append-by_label.ensures.items c.sort_from.ensures.after)
@@ -28,11 +28,11 @@ adds c =
     record_added c.self.inside (after c) c.args.positional.now c.args.labelled.now (drop c.append-by_label.result.start c.sort_from.new.list.items) c.append-positional.result c.append-labelled.result c.self.invariant
     (given_words c.self.inside _ c.args.positional.now c.args.labelled.now c.self.view_is c.requires.words c.requires.labelled_words) c.requires.countable
     c.append-positional.ensures.items
-    (ap (λ p. p.start) c.append-positional.ensures.part ∙ words)
-    (ap (λ p. p.end) c.append-positional.ensures.part ∙ ap (λ n. n + length c.args.positional.now) words)
+    (ap (λ p. p.start) c.append-positional.ensures.slice ∙ words)
+    (ap (λ p. p.end) c.append-positional.ensures.slice ∙ ap (λ n. n + length c.args.positional.now) words)
     c.append-labelled.ensures.items
-    (ap (λ p. p.start) c.append-labelled.ensures.part ∙ labels)
-    (ap (λ p. p.end) c.append-labelled.ensures.part ∙ ap (λ n. n + length c.args.labelled.now) labels)
+    (ap (λ p. p.start) c.append-labelled.ensures.slice ∙ labels)
+    (ap (λ p. p.end) c.append-labelled.ensures.slice ∙ ap (λ n. n + length c.args.labelled.now) labels)
     c.push_reserved.ensures.items refl refl tail.whole tail.in_order tail.as_many
 
 pub invariant_of-self : goal.invariant_of-self

@@ -18,8 +18,8 @@ unfolding after
 adds c =
     let len : c.self.inside.bytes.len ≡ length c.self.inside.bytes.items = c.self.inside.bytes.ok.0 in
     text_added c.self.inside (after c) c.args.bytes.now c.append-text.result c.self.invariant c.append-text.ensures.items
-    (ap (λ p. p.start) c.append-text.ensures.part ∙ len)
-    (ap (λ p. p.end) c.append-text.ensures.part ∙ ap (λ n. n + length c.args.bytes.now) len)
+    (ap (λ p. p.start) c.append-text.ensures.slice ∙ len)
+    (ap (λ p. p.end) c.append-text.ensures.slice ∙ ap (λ n. n + length c.args.bytes.now) len)
     c.push_reserved.ensures.items refl refl refl refl
 
 pub invariant_of-self : goal.invariant_of-self

@@ -1,34 +1,34 @@
 use Rattle.std.proofs.Common.{◌≡◌, ◌∙◌, ◌+◌, ◌-◌, ◌++◌, ℕ, List, length, refl, ap, sym, arith, length-append}
 use Rattle.pict_core.specs.Term as term
 use Rattle.pict_heap.specs.HeapState.{text_of}
-use Rattle.pict_heap.specs.Layout.{text_state, part_of_word}
+use Rattle.pict_heap.specs.Layout.{text_state, slice_of_word}
 use Rattle.pict_heap.specs.declared.heap.Heap.TheInside.{Inside}
 use Rattle.pict_heap.proofs.Growth.{AddsText, text_added, kept_by_text, new_text}
-use Rattle.pict_heap.proofs.Look.{PartOf, part_read, part_length}
+use Rattle.pict_heap.proofs.Look.{SliceOf, slice_read, slice_length}
 use Rattle.pict_heap.proofs.heap.Heap.join_texts.Goals as goal
 
-pub append_parts-text-requires-clause-room : goal.append_parts-text-requires-clause-room
-append_parts-text-requires-clause-room c =
-    let first = part_read c.self.inside _ c.args.a c.part_of-first.result c.self.view_is c.self.invariant c.requires.words.0 c.requires.first (c.part_of-first.ensures ∙ ap (λ ts. part_of_word ts c.args.a) c.deref.ensures.value) in
-    let second = part_read c.self.inside _ c.args.b c.part_of-second.result c.self.view_is c.self.invariant c.requires.words.1 c.requires.second (c.part_of-second.ensures ∙ ap (λ ts. part_of_word ts c.args.b) c.deref-2.ensures.value) in
+pub append_slices-text-requires-clause-room : goal.append_slices-text-requires-clause-room
+append_slices-text-requires-clause-room c =
+    let first = slice_read c.self.inside _ c.args.a c.slice_of-first.result c.self.view_is c.self.invariant c.requires.words.0 c.requires.first (c.slice_of-first.ensures ∙ ap (λ ts. slice_of_word ts c.args.a) c.deref.ensures.value) in
+    let second = slice_read c.self.inside _ c.args.b c.slice_of-second.result c.self.view_is c.self.invariant c.requires.words.1 c.requires.second (c.slice_of-second.ensures ∙ ap (λ ts. slice_of_word ts c.args.b) c.deref-2.ensures.value) in
     omega (
       arith,
       c.requires.bytes,
-      part_length c.self.inside _ _ _ first,
-      part_length c.self.inside _ _ _ second,
+      slice_length c.self.inside _ _ _ first,
+      slice_length c.self.inside _ _ _ second,
       ap (λ h. h.room.bytes) c.self.view_is,
       c.self.inside.bytes.ok,
     )
 
-first : (c : goal.After-push_reserved) → PartOf c.self.inside c.args.self.now c.args.a c.part_of-first.result
-first c = part_read c.self.inside _ c.args.a c.part_of-first.result c.self.view_is c.self.invariant c.requires.words.0 c.requires.first (c.part_of-first.ensures ∙ ap (λ ts. part_of_word ts c.args.a) c.deref.ensures.value)
+first : (c : goal.After-push_reserved) → SliceOf c.self.inside c.args.self.now c.args.a c.slice_of-first.result
+first c = slice_read c.self.inside _ c.args.a c.slice_of-first.result c.self.view_is c.self.invariant c.requires.words.0 c.requires.first (c.slice_of-first.ensures ∙ ap (λ ts. slice_of_word ts c.args.a) c.deref.ensures.value)
 
-second : (c : goal.After-push_reserved) → PartOf c.self.inside c.args.self.now c.args.b c.part_of-second.result
-second c = part_read c.self.inside _ c.args.b c.part_of-second.result c.self.view_is c.self.invariant c.requires.words.1 c.requires.second (c.part_of-second.ensures ∙ ap (λ ts. part_of_word ts c.args.b) c.deref-2.ensures.value)
+second : (c : goal.After-push_reserved) → SliceOf c.self.inside c.args.self.now c.args.b c.slice_of-second.result
+second c = slice_read c.self.inside _ c.args.b c.slice_of-second.result c.self.view_is c.self.invariant c.requires.words.1 c.requires.second (c.slice_of-second.ensures ∙ ap (λ ts. slice_of_word ts c.args.b) c.deref-2.ensures.value)
 
 after : (c : goal.After-push_reserved) → Inside
 after c = record {
-  bytes = c.append_parts-text.new.list;
+  bytes = c.append_slices-text.new.list;
   texts = c.push_reserved.new.self;
   words = c.self.inside.words;
   labelled = c.self.inside.labelled;
@@ -37,25 +37,25 @@ after c = record {
 }
 
 joined : (c : goal.After-push_reserved) → List ℕ
-joined c = text_state c.self.inside.bytes.items c.part_of-first.result ++ text_state c.self.inside.bytes.items c.part_of-second.result
+joined c = text_state c.self.inside.bytes.items c.slice_of-first.result ++ text_state c.self.inside.bytes.items c.slice_of-second.result
 
 adds : (c : goal.After-push_reserved) → AddsText c.self.inside (after c) (joined c)
 unfolding after joined
 adds c =
     let len : c.self.inside.bytes.len ≡ length c.self.inside.bytes.items = c.self.inside.bytes.ok.0 in
-    let long : length (joined c) ≡ (c.part_of-first.result.end - c.part_of-first.result.start) + (c.part_of-second.result.end - c.part_of-second.result.start) =
+    let long : length (joined c) ≡ (c.slice_of-first.result.end - c.slice_of-first.result.start) + (c.slice_of-second.result.end - c.slice_of-second.result.start) =
     omega (
       arith,
-      length-append (text_state c.self.inside.bytes.items c.part_of-first.result) (text_state c.self.inside.bytes.items c.part_of-second.result),
-      part_length c.self.inside _ _ _ (first c),
-      part_length c.self.inside _ _ _ (second c),
+      length-append (text_state c.self.inside.bytes.items c.slice_of-first.result) (text_state c.self.inside.bytes.items c.slice_of-second.result),
+      slice_length c.self.inside _ _ _ (first c),
+      slice_length c.self.inside _ _ _ (second c),
       ap length (first c).bytes,
       ap length (second c).bytes,
     ) in
-    let end : c.append_parts-text.result.end ≡ length c.self.inside.bytes.items + length (joined c) =
-    omega (arith, ap (λ p. p.end) c.append_parts-text.ensures.part, c.append_parts-text.ensures.len, len, long) in
-    text_added c.self.inside (after c) (joined c) c.append_parts-text.result c.self.invariant c.append_parts-text.ensures.items
-    (ap (λ p. p.start) c.append_parts-text.ensures.part ∙ len) end c.push_reserved.ensures.items refl refl refl refl
+    let end : c.append_slices-text.result.end ≡ length c.self.inside.bytes.items + length (joined c) =
+    omega (arith, ap (λ p. p.end) c.append_slices-text.ensures.slice, c.append_slices-text.ensures.len, len, long) in
+    text_added c.self.inside (after c) (joined c) c.append_slices-text.result c.self.invariant c.append_slices-text.ensures.items
+    (ap (λ p. p.start) c.append_slices-text.ensures.slice ∙ len) end c.push_reserved.ensures.items refl refl refl refl
 
 pub invariant_of-self : goal.invariant_of-self
 unfolding after
@@ -67,7 +67,7 @@ returns-clause-value c =
     let texts : c.self.inside.texts.len ≡ length c.self.inside.texts.items = c.self.inside.texts.ok.0 in
     ap term.Text (new_text c.self.inside (after c) c.len-number.result (joined c) (adds c) (c.len-number.ensures ∙ texts)
     ∙ sym (ap (λ ws. ws ++ text_of c.args.self.now c.args.b) (first c).bytes
-    ∙ ap (λ ws. text_state c.self.inside.bytes.items c.part_of-first.result ++ ws) (second c).bytes))
+    ∙ ap (λ ws. text_state c.self.inside.bytes.items c.slice_of-first.result ++ ws) (second c).bytes))
 
 pub returns-clause-keeps : goal.returns-clause-keeps
 unfolding after
@@ -81,9 +81,9 @@ returns-clause-room c = record {
   bytes_left = omega (
     arith,
     ap (λ h. h.room.bytes) c.self.view_is,
-    c.append_parts-text.ensures.len,
-    c.append_parts-text.ensures.capacity,
-    part_length c.self.inside _ _ _ (first c),
-    part_length c.self.inside _ _ _ (second c),
+    c.append_slices-text.ensures.len,
+    c.append_slices-text.ensures.capacity,
+    slice_length c.self.inside _ _ _ (first c),
+    slice_length c.self.inside _ _ _ (second c),
   );
 }

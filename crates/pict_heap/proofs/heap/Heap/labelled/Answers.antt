@@ -18,5 +18,5 @@ returns-in-Fields-clause-word c =
 pub with_label-requires : goal.with_label-requires
 with_label-requires c =
     let reads = record_read c.self.inside _ _ _ _ c.self.view_is c.self.invariant c.requires c.in-Fields.is c.index.ensures in
-    let part = c.index.result.now.labelled in
-    subst (λ ws. AreRising (slice_range ws part.start part.end)) (sym c.deref.ensures.value) reads.index.rising
+    let slice = c.index.result.now.labelled in
+    subst (λ ws. AreRising (slice_range ws slice.start slice.end)) (sym c.deref.ensures.value) reads.index.rising

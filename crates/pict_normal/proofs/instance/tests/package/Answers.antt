@@ -12,4 +12,4 @@ returns-clause-formed c = λ names ks.
     let one : plain_bounds c.push.new.self.items ≡ bounds Free no_bound = ap plain_bounds (c.in_ok-push.ensures.items ∙ ap (λ x. x ++ Free_ ∷ []) c.new-binders.ensures.items) in
     let none : plain_labels c.new.result.items ≡ no_label = ap plain_labels c.new.ensures.items in
     subst (λ bs. BoundsAreWellFormed names ks bs × (AreWellFormed names (kinds_under ks bs) ts × LabelsAreWellFormed names (kinds_under ks bs) (plain_labels c.new.result.items))) (sym one)
-    ((tt, tt), (c.in_ok-variables.ensures.formed names ks, subst (λ ls. LabelsAreWellFormed names (kinds_under ks (bounds Free no_bound)) ls) (sym none) tt))
+    ((tt, tt), (c.in_ok-variables.ensures names ks, subst (λ ls. LabelsAreWellFormed names (kinds_under ks (bounds Free no_bound)) ls) (sym none) tt))

@@ -1,9 +1,8 @@
 -- One variable more.
-use Rattle.std.proofs.Common.{◌≡◌, ◌+◌, ℕ, List, ◌∷◌, refl, sym, ◌∙◌, ap, subst, arith}
+use Rattle.std.proofs.Common.{◌≡◌, ℕ, List, ◌∷◌, refl, sym, ◌∙◌, ap, subst}
 use Rattle.pict_types.specs.declared.types.Ty.TheVariants.{Var as Var_}
 use Rattle.pict_types.specs.Types.{PlainType, Var, PlainTypes, no_type, types}
 use Rattle.pict_types.specs.Kinds.{Kind, AreWellFormed, IsWellFormed, proper}
-use Rattle.pict_types.specs.Measures.{size, size_types}
 use Rattle.pict_types.specs.Plain.{plain_types}
 use Rattle.pict_normal.specs.Normal.{and_type}
 use Rattle.pict_normal.proofs.Arguing.{types_last}
@@ -13,15 +12,8 @@ formed_and : (ns : List (List ℕ)) (ks : List Kind) (ts : PlainTypes) (u : Plai
 formed_and ns ks no_type u w v = (v, tt)
 formed_and ns ks (types t ts) u w v = (w.0, formed_and ns ks ts u w.1 v)
 
-size_and : (ts : PlainTypes) (u : PlainType) → size_types (and_type ts u) ≡ size_types ts + size u
-size_and no_type u = omega arith
-size_and (types t ts) u = omega (arith, size_and ts u)
-
 pub loop-preserved : goal.loop-preserved
 loop-preserved c =
     let ts = plain_types c.loop.ts.items in
     let is : plain_types c.push.new.self.items ≡ and_type ts (Var 0) = ap plain_types c.in_ok-push.ensures.items ∙ types_last c.loop.ts.items (Var_ 0) in
-    record {
-      formed = λ names ks. subst (AreWellFormed names (proper ∷ ks)) (sym is) (formed_and names (proper ∷ ks) ts (Var 0) (c.loop.invariant.formed names ks) refl);
-      size = omega (arith, ap size_types is, size_and ts (Var 0), c.loop.invariant.size);
-    }
+    λ names ks. subst (AreWellFormed names (proper ∷ ks)) (sym is) (formed_and names (proper ∷ ks) ts (Var 0) (c.loop.invariant names ks) refl)

@@ -29,19 +29,19 @@ returns-in-Operator-clause-head c =
     ∙ sym (ap (λ x. rename_head (plus c.args.count) (put_head x)) c.in-Operator.is)
 
 pub returns-in-Variable-clause-room : goal.returns-in-Variable-clause-room
-returns-in-Variable-clause-room c = λ n most d i h.
-    let r = subst (HasRoom n most d i) c.in-Variable.is h in
+returns-in-Variable-clause-room c = λ n d i h.
+    let r = subst (HasRoom n d i) c.in-Variable.is h in
     omega (arith, r)
 
 pub returns-in-Proper-clause-room : goal.returns-in-Proper-clause-room
-returns-in-Proper-clause-room c = λ n most d i h.
-    let r = subst (HasRoom n most d i) c.in-Proper.is h in
-    (omega (arith, r.0), omega (arith, r.1), omega (arith, r.2), r.3)
+returns-in-Proper-clause-room c = λ n d i h.
+    let r = subst (HasRoom n d i) c.in-Proper.is h in
+    (omega (arith, r.0), omega (arith, r.1))
 
 pub returns-in-Operator-clause-room : goal.returns-in-Operator-clause-room
-returns-in-Operator-clause-room c = λ n most d i h.
-    let r = subst (HasRoom n most d i) c.in-Operator.is h in
-    (omega (arith, r.0), omega (arith, r.1), omega (arith, r.2), r.3)
+returns-in-Operator-clause-room c = λ n d i h.
+    let r = subst (HasRoom n d i) c.in-Operator.is h in
+    (omega (arith, r.0), omega (arith, r.1))
 
 pub overflow_add-result : goal.overflow_add-result
 overflow_add-result c =

@@ -1,6 +1,6 @@
 -- What stands for a variable outside, moved under the binders.
 use Rattle.std.proofs.Common.{◌-◌, length, sym, arith}
-use Rattle.pict_normal.specs.Putting.{most_of, put_head, put_type, replacement_of, variables_in}
+use Rattle.pict_normal.specs.Putting.{put_head, put_type, replacement_of, variables_in}
 use Rattle.pict_normal.proofs.Meant.{room_from_none, can_move, room_under}
 use Rattle.pict_normal.proofs.Past.{type_low, head_low, type_under, head_under}
 use Rattle.pict_normal.proofs.puts.Puts.put_under.Goals as goal
@@ -13,7 +13,7 @@ returns-then-i-depth-clause-head c = sym (head_low (replacement_of c.args.self.n
 
 pub under-requires : goal.under-requires
 under-requires c = record {
-  room = can_move c.put_at.result (length (variables_in c.args.self.now)) (most_of c.args.self.now) 0 (c.args.i - c.args.depth) c.args.depth c.put_at.ensures.room (omega (arith, c.ranges.i)) (omega (arith, c.requires.room));
+  room = can_move c.put_at.result (length (variables_in c.args.self.now)) 0 (c.args.i - c.args.depth) c.args.depth c.put_at.ensures.room (omega (arith, c.ranges.i)) (omega (arith, c.variables.ensures.count, c.in_ok-fits.ensures));
 }
 
 pub returns-clause-type_ : goal.returns-clause-type_
@@ -27,5 +27,4 @@ returns-clause-head c =
 pub returns-clause-room : goal.returns-clause-room
 returns-clause-room c =
     let n = length (variables_in c.args.self.now) in
-    let most = most_of c.args.self.now in
-    room_under c.under.result n most c.args.depth c.args.i (c.args.i - c.args.depth) (omega arith) (room_from_none c.under.result n most c.args.depth (c.args.i - c.args.depth) (c.under.ensures.room n most 0 (c.args.i - c.args.depth) c.put_at.ensures.room))
+    room_under c.under.result n c.args.depth c.args.i (c.args.i - c.args.depth) (omega arith) (room_from_none c.under.result n c.args.depth (c.args.i - c.args.depth) (c.under.ensures.room n 0 (c.args.i - c.args.depth) c.put_at.ensures.room))

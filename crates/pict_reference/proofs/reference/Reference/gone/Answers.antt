@@ -2,7 +2,7 @@ use Rattle.std.proofs.Common.{◌≡◌, ◌∙◌, ap, rules, not, nat_eq, map,
 use Rattle.std.proofs.lemmas.Fn.{filter_same}
 use Rattle.pict_core.specs.Configuration as plain
 use Rattle.pict_reference.specs.declared.entry.Entry.{Entry}
-use Rattle.pict_reference.specs.Reading.{plain_entry}
+use Rattle.pict_reference.specs.Plain.{plain_entry}
 use Rattle.pict_reference.proofs.Lists.{map-filter_stamp}
 use Rattle.pict_reference.proofs.reference.Reference.gone.Goals as goal
 

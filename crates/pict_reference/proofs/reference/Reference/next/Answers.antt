@@ -1,5 +1,5 @@
 use Rattle.std.proofs.Common.{sym, ap, ◌∙◌, option_map}
-use Rattle.pict_reference.specs.Reading.{plain_found}
+use Rattle.pict_reference.specs.Plain.{plain_found}
 use Rattle.pict_reference.proofs.Nexts.{next_found}
 use Rattle.pict_reference.proofs.reference.Reference.next.Goals as goal
 

@@ -39,8 +39,8 @@ index-list-requires c =
     let width_is = get_or_read c.self.inside.words.items c.b.inside.number c.index.result.now inside c.index.ensures 0 ∙ at.width_is in
     omega (arith, at.listed, width_is, c.self.inside.free.ok)
 
-pub overflow_add-place : goal.overflow_add-place
-overflow_add-place c =
+pub overflow_add-index : goal.overflow_add-index
+overflow_add-index c =
     omega (arith, (width_read c.self.inside _ _ _ c.self.view_is c.self.invariant c.b.view_is c.requires).inside, c.self.inside.words.ok, c.self.inside.words.small)
 
 pub index_mut-requires : goal.index_mut-requires

@@ -1,7 +1,7 @@
 -- What is measured over the held measures of the outer variables is held itself.
 use Rattle.std.proofs.Common.{◌≡◌, ◌-◌, ◌∙◌, ap, length, map, reverse, take, drop, arith}
 use Rattle.std.proofs.lemmas.List.{drop-map}
-use Rattle.pict_types.specs.Measures.{held, weights, heights}
+use Rattle.pict_types.specs.Measures.{held, weigh, rise, weights, heights}
 use Rattle.pict_types.specs.Plain.{plain}
 use Rattle.pict_types.specs.PlainContext.{plain_context, type_context}
 use Rattle.pict_types.proofs.Entries.{count_known}
@@ -26,7 +26,7 @@ returns-clause-weight c =
     ∙ ap (λ x. drop c.args.by (reverse (map (λ k. k.measures.weight) x))) c.as_slice-known.ensures.value
     ∙ ap (drop c.args.by) s.weighed
     ∙ drop-map held c.args.by ws in
-    weighs_inside c.measure.result.weight c.args.inner.now (reverse (map (λ k. k.measures.weight) (take (length xs - c.args.by) xs))) (drop c.args.by ws) (plain c.args.t.now) c.measure.ensures.weight outer
+    weighs_inside c.measure.result.weight c.args.inner.now (reverse (map (λ k. k.measures.weight) (take (length xs - c.args.by) xs))) (drop c.args.by ws) (plain c.args.t.now) (c.measure.ensures.weight ∙ ap (λ x. held (weigh x (plain c.args.t.now))) c.inside.ensures.weights) outer
 
 pub returns-clause-height : goal.returns-clause-height
 returns-clause-height c =
@@ -40,4 +40,4 @@ returns-clause-height c =
     ∙ ap (λ x. drop c.args.by (reverse (map (λ k. k.measures.height) x))) c.as_slice-known.ensures.value
     ∙ ap (drop c.args.by) s.measured
     ∙ drop-map held c.args.by ws in
-    rises_inside c.measure.result.height c.args.inner.now (reverse (map (λ k. k.measures.height) (take (length xs - c.args.by) xs))) (drop c.args.by ws) (plain c.args.t.now) c.measure.ensures.height outer
+    rises_inside c.measure.result.height c.args.inner.now (reverse (map (λ k. k.measures.height) (take (length xs - c.args.by) xs))) (drop c.args.by ws) (plain c.args.t.now) (c.measure.ensures.height ∙ ap (λ x. held (rise x (plain c.args.t.now))) c.inside.ensures.heights) outer

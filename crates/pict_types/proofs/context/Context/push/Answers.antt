@@ -1,5 +1,5 @@
 -- The invariants of a context with one more entry.
-use Rattle.std.proofs.Common.{◌≡◌, ◌<◌, ◌^◌, [], ◌∷◌, ◌++◌, length, map, reverse, sym, ◌∙◌, ap, subst}
+use Rattle.std.proofs.Common.{◌≡◌, ◌<◌, ◌^◌, [], ◌∷◌, ◌++◌, length, map, reverse, sym, ◌∙◌, ap, subst, arith}
 use Rattle.pict_types.specs.declared.measure.Known.{Known}
 use Rattle.pict_types.specs.Plain.{plain_bound}
 use Rattle.pict_types.specs.PlainEntries.{plain_entries, plain_what}
@@ -9,7 +9,7 @@ use Rattle.pict_types.specs.Counting.{variables_around}
 use Rattle.pict_types.specs.Places.{names_in}
 use Rattle.pict_types.proofs.Counting.{count_pushed}
 use Rattle.pict_types.proofs.Entries.{count_known, last_first, pushed, variable_placed, variable_weighed, variable_measured, entry_formed, definition_placed}
-use Rattle.pict_types.proofs.Places.{names_pushed}
+use Rattle.pict_types.proofs.Places.{names_pushed, one_at_most}
 use Rattle.pict_types.proofs.context.Context.push.Goals as goal
 
 pub invariant_of-self-in-Variable-clause-formed : goal.invariant_of-self-in-Variable-clause-formed
@@ -65,7 +65,9 @@ pub invariant_of-self-in-Variable-clause-few : goal.invariant_of-self-in-Variabl
 invariant_of-self-in-Variable-clause-few c =
     let s = c.args.self.now in
     let is = c.push_reserved-in-Variable-2.ensures.items ∙ ap (λ x. x ++ c.args.entry ∷ []) c.reserve.ensures.items in
-    subst (λ x. length (variables x) < 2 ^ 32) (sym (ap plain_entries is ∙ pushed s.entries.items c.args.entry)) c.requires.room
+    let n : length c.as_slice.result.now ≡ length (variables (plain_entries s.entries.items)) =
+    ap length c.as_slice.ensures.value ∙ count_known s.known.items (plain_entries s.entries.items) s.placed in
+    subst (λ x. length (variables x) < 2 ^ 32) (sym (ap plain_entries is ∙ pushed s.entries.items c.args.entry)) (omega (arith, n, c.if-as_slice.false, one_at_most (plain_what c.args.entry.what) (variables (plain_entries s.entries.items))))
 
 pub invariant_of-self-in-Variable-clause-counted : goal.invariant_of-self-in-Variable-clause-counted
 invariant_of-self-in-Variable-clause-counted c =
@@ -106,4 +108,6 @@ pub invariant_of-self-in-Definition-clause-few : goal.invariant_of-self-in-Defin
 invariant_of-self-in-Definition-clause-few c =
     let s = c.args.self.now in
     let is = c.push_reserved-in-Definition.ensures.items ∙ ap (λ x. x ++ c.args.entry ∷ []) c.reserve.ensures.items in
-    subst (λ x. length (variables x) < 2 ^ 32) (sym (ap plain_entries is ∙ pushed s.entries.items c.args.entry)) c.requires.room
+    let n : length c.as_slice.result.now ≡ length (variables (plain_entries s.entries.items)) =
+    ap length c.as_slice.ensures.value ∙ count_known s.known.items (plain_entries s.entries.items) s.placed in
+    subst (λ x. length (variables x) < 2 ^ 32) (sym (ap plain_entries is ∙ pushed s.entries.items c.args.entry)) (omega (arith, n, c.if-as_slice.false, one_at_most (plain_what c.args.entry.what) (variables (plain_entries s.entries.items))))

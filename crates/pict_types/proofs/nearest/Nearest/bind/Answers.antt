@@ -1,6 +1,6 @@
 -- One more name is bound.
 use Rattle.std.proofs.Common.{rules, ◌≡◌, ◌∷◌, [], ◌++◌, ◌∙◌, ap, length, Some}
-use Rattle.pict_types.specs.Levels.{names_of}
+use Rattle.pict_types.specs.Levels.{bound_names}
 use Rattle.pict_types.specs.declared.nearest.Binding.{Binding}
 use Rattle.pict_types.proofs.Levels.{bound, names_onto_snoc, sets_level}
 use Rattle.pict_types.proofs.nearest.Nearest.bind.Goals as goal
@@ -19,5 +19,5 @@ returns-clause-ok c =
     let old = c.self.inside.bound.items in
     let b : Binding = record { name = c.args.name.0; outer = c.in_ok-outer.outer } in
     let items : c.push_reserved.new.self.items ≡ old ++ b ∷ [] = c.push_reserved.ensures.items ∙ ap (λ l. l ++ b ∷ []) c.reserve.ensures.items in
-    let view : names_of old ≡ c.args.self.now = search rules in
+    let view : bound_names old ≡ c.args.self.now = search rules in
     rw items (names_onto_snoc [] old b ∙ ap (λ l. c.args.name.0 ∷ l) view)

@@ -2,7 +2,7 @@
 use Rattle.std.proofs.Common.{rules, ◌≡◌, [], ◌∙◌, ap, sym, subst, drop, length, Some, None}
 use Rattle.std.specs.Ordering.{nat_cmp}
 use Rattle.std.specs.BTreeMap.{get}
-use Rattle.pict_types.specs.Levels.{names_of, StandsFor}
+use Rattle.pict_types.specs.Levels.{bound_names, StandsFor}
 use Rattle.pict_types.specs.declared.nearest.Binding.{Binding}
 use Rattle.pict_types.proofs.Levels.{unbound, has_level, names_onto_snoc, sets_level, SetsLevel}
 use Rattle.pict_types.proofs.nearest.Nearest.unbind.Goals as goal
@@ -34,10 +34,10 @@ unreachable-requires c =
 
 pub returns-in-None : goal.returns-in-None
 returns-in-None c =
-    let view : names_of c.self.inside.bound.items ≡ c.args.self.now = search rules in
-    sym (ap (drop 1) (sym view ∙ ap names_of c.in-Some.ensures.items ∙ names_onto_snoc [] c.pop.new.self.items c.in-Some.last))
+    let view : bound_names c.self.inside.bound.items ≡ c.args.self.now = search rules in
+    sym (ap (drop 1) (sym view ∙ ap bound_names c.in-Some.ensures.items ∙ names_onto_snoc [] c.pop.new.self.items c.in-Some.last))
 
 pub returns-in-Ok : goal.returns-in-Ok
 returns-in-Ok c =
-    let view : names_of c.self.inside.bound.items ≡ c.args.self.now = search rules in
-    sym (ap (drop 1) (sym view ∙ ap names_of c.in-Some.ensures.items ∙ names_onto_snoc [] c.pop.new.self.items c.in-Some.last))
+    let view : bound_names c.self.inside.bound.items ≡ c.args.self.now = search rules in
+    sym (ap (drop 1) (sym view ∙ ap bound_names c.in-Some.ensures.items ∙ names_onto_snoc [] c.pop.new.self.items c.in-Some.last))

@@ -1,0 +1,8 @@
+//! The names that are bound around a place of a program, each name's nearest binder in constant time.
+#![tactic(auto)]
+
+mod binders;
+mod nearest;
+
+pub use binders::{Binder, Binders};
+pub use nearest::Nearest;

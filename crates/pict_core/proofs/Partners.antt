@@ -1,0 +1,24 @@
+-- What stands at a channel.
+use Rattle.std.proofs.Common.{ℕ, ◌≡◌, Bool, true, false, not, nat_eq, sym, ap, arith}
+use Rattle.std.proofs.lemmas.Bool.Decides.{nat_tests}
+use Rattle.std.specs.Prelude.{◌&&◌}
+use Rattle.pict_core.specs.Term.{Val, Var, Chan, Int, Char, Boolean, Text, PrimitiveVal, Record}
+use Rattle.pict_core.specs.Step.{is_channel}
+
+pub same_channel : (c number : ℕ) → nat_eq c number ≡ true → c ≡ number
+same_channel c number h = grind (arith, nat_tests)
+
+pub channel_is : (c : ℕ) (chan : Val) → is_channel c chan ≡ true → chan ≡ Chan c
+channel_is c (Var x) h = cc
+channel_is c (Chan number) h = ap Chan (sym (same_channel c number h))
+channel_is c (Int x) h = cc
+channel_is c (Char x) h = cc
+channel_is c (Boolean x) h = cc
+channel_is c (Text x) h = cc
+channel_is c (PrimitiveVal x) h = cc
+channel_is c (Record x y) h = cc
+
+-- what is parked and passes a test passes it
+pub and_right : (a b : Bool) → not a && b ≡ true → b ≡ true
+and_right true b h = cc
+and_right false b h = h

@@ -1,0 +1,9 @@
+-- A depth that is held at the greatest `u64`, against the limit of depths.
+use Rattle.std.proofs.Common.{◌≡◌, ℕ, ◌<◌, ◌≤◌, min, arith}
+use Rattle.pict_syntax.specs.declared.limits.TheConstants.{DEPTH_LIMIT}
+
+pub above : (result depth d told : ℕ) → result ≡ min told 18446744073709551615 → d ≡ told → result ≡ depth → DEPTH_LIMIT < result → (DEPTH_LIMIT < d) × (depth ≡ min d 18446744073709551615)
+above result depth d told is deep same more = (omega arith, omega arith)
+
+pub within : (result d told : ℕ) → result ≡ min told 18446744073709551615 → d ≡ told → result ≤ DEPTH_LIMIT → d ≤ DEPTH_LIMIT
+within result d told is deep less = omega arith

@@ -1,8 +1,0 @@
-use Rattle.std.proofs.Common.{rules}
-use Rattle.pict_parse_states.proofs.Others.{need-abs-other}
-use Rattle.pict_parse_patterns.proofs.abstractions.step_need_abs.Goals as goal
-
-pub returns-in_ok-place-in_default : goal.returns-in_ok-place-in_default
-returns-in_ok-place-in_default c =
-    rw (need-abs-other c.args.kind.now (λ e. search rules))
-    (rw c.in_ok-place-in_default.ensures.ok at c.begin_pat.ensures)

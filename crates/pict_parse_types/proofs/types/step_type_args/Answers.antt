@@ -1,8 +1,0 @@
-use Rattle.std.proofs.Common.{rules}
-use Rattle.pict_parse_types.proofs.Others.{type-args-other}
-use Rattle.pict_parse_types.proofs.types.step_type_args.Goals as goal
-
-pub returns-in_ok-place-in_default : goal.returns-in_ok-place-in_default
-returns-in_ok-place-in_default c =
-    rw (type-args-other c.args.kind.now (λ e. search rules))
-    (rw c.in_ok-place-in_default.ensures.ok at c.begin_type.ensures)

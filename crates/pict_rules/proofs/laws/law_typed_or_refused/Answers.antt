@@ -1,0 +1,5 @@
+use Rattle.pict_rules.proofs.TypedOrStuck.{typed_or_refused}
+use Rattle.pict_rules.proofs.laws.law_typed_or_refused.Goals as goal
+
+pub returns : goal.returns
+returns c = typed_or_refused

@@ -1,0 +1,19 @@
+-- How many values, patterns, type binders and definitions are written.
+use Rattle.std.specs.Prelude.{ℕ, suc}
+use Rattle.pict_syntax.specs.Trees.{Pats, no_pats, more_pats, TypeBinders, no_binders, more_binders, Vals, no_vals, more_vals, Definitions, no_definitions, more_definitions}
+
+abbrev pub count_vals : Vals → ℕ
+count_vals no_vals = 0
+count_vals (more_vals vs v) = suc (count_vals vs)
+
+abbrev pub count_pats : Pats → ℕ
+count_pats no_pats = 0
+count_pats (more_pats ps p) = suc (count_pats ps)
+
+abbrev pub count_binders : TypeBinders → ℕ
+count_binders no_binders = 0
+count_binders (more_binders bs b) = suc (count_binders bs)
+
+abbrev pub count_definitions : Definitions → ℕ
+count_definitions no_definitions = 0
+count_definitions (more_definitions ds x a) = suc (count_definitions ds)

@@ -1,0 +1,15 @@
+pub mod Found
+pub mod Counts
+pub mod Environments
+pub mod Complete
+pub mod Rules
+pub mod Shapes
+pub mod Clauses
+pub mod Typing
+pub mod Derivations
+pub mod Laws
+pub mod Reached
+pub mod DistinctLabels
+pub mod SameNames
+pub mod Regular
+pub mod Worked

@@ -1,0 +1,8 @@
+pub mod Numbers
+pub mod Layering
+pub mod Groups
+pub mod Clean
+pub mod Growing
+pub mod Reading
+pub mod TypeForms
+pub mod PatternForms

@@ -1,0 +1,12 @@
+pub mod PrimitiveNames
+pub mod Numbered
+pub mod Layers
+pub mod Around
+pub mod Marks
+pub mod Outlines
+pub mod Forms
+pub mod Scopes
+pub mod Reads
+pub mod Steps
+pub mod Held
+pub mod Laws

@@ -1,0 +1,24 @@
+// The laws of scopes, each as the contract of a function that does nothing.
+
+ghost use Rattle.pict_scope.specs.Laws.{OneScopeStop, PartsAreScoped, StandsOnce, UsesAreBound};
+
+/// A program has at most one scope stop.
+pub fn law_one_scope_stop()
+    ensures { OneScopeStop }
+{}
+
+/// In a program without scope stop each use of a value has a binder or is a primitive, each use of a type has a binder,
+/// and no name stands twice where it may stand once.
+pub fn law_uses_are_bound()
+    ensures { UsesAreBound }
+{}
+
+/// Where an outline after another has no stop, neither has one.
+pub fn law_parts_are_scoped()
+    ensures { PartsAreScoped }
+{}
+
+/// A name that may stand once, and is not refused, stands for the first time in its group.
+pub fn law_stands_once()
+    ensures { StandsOnce }
+{}

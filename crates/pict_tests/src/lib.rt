@@ -1,0 +1,9 @@
+//! Tests that cross crates: what one crate does is compared with what another defines. Nothing else stands here.
+#![tactic(auto)]
+
+#[cfg(test)]
+mod parsing;
+#[cfg(test)]
+mod steps;
+#[cfg(test)]
+mod translation;

@@ -1,0 +1,5 @@
+pub mod DepthLemmas
+pub mod LayerLemmas
+pub mod OverLemmas
+pub mod ClosedLemmas
+pub mod PatternLemmas

@@ -1,0 +1,9 @@
+pub mod Placed
+pub mod Arguments
+pub mod Patterns
+pub mod Simple
+pub mod Translation
+pub mod Depth
+pub mod Layers
+pub mod Distinct
+pub mod Laws

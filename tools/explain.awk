@@ -1,0 +1,47 @@
+# After a report on FILE: the line of its place with a caret below, and the entry of PAGE whose heading is the report's text.
+BEGIN {
+    file = ENVIRON["FILE"]
+    page = ENVIRON["PAGE"]
+}
+$0 == "fuel spent" || /^usage: / { entry($0) }
+file != "" && index($0, file ":") == 1 {
+    rest = substr($0, length(file) + 2)
+    if (match(rest, /^[0-9]+:[0-9]+: /)) {
+        split(rest, at, ":")
+        place(at[1] + 0, at[2] + 0)
+        rest = substr(rest, RLENGTH)
+    }
+    sub(/^ /, "", rest)
+    entry(rest)
+}
+
+# Of a long line a part is shown. Bytes that don't begin a character take no column, and those that can't be shown are `?`.
+function place(row, column,    number, text, from, before) {
+    for (number = 0; number < row && (getline text < file) > 0; number++) ;
+    close(file)
+    if (number < row) text = ""
+    from = column > 100 ? column - 80 : 1
+    before = shown(substr(text, from, column - from))
+    text = shown(substr(text, from, 140))
+    gsub(/[^\t]/, " ", before)
+    printf "%6d | %s\n       | %s^\n", row, text, before
+}
+function shown(text) {
+    gsub(/[\001-\010\013-\037\177]/, "?", text)
+    gsub(/[\200-\277]/, "", text)
+    return text
+}
+function entry(heading,    line, inside, example, last) {
+    while ((getline line < page) > 0) {
+        if (line ~ /^##? /) {
+            inside = line == "## " heading
+            last = ""
+        } else if (line ~ /^```/) {
+            example = line != "```"
+        } else if (inside && !example && (line != "" || last != "")) {
+            if (line != "") print (last == "" ? "\n  " : "  ") line
+            last = line
+        }
+    }
+    close(page)
+}
