@@ -81,9 +81,6 @@ never_first = record { «in» = λ ts h. h.3 }
 pub gone : {L : Phrase} → Sub L (λ ts. Unit {0})
 gone = record { «in» = λ ts h. tt }
 
-pub from_never : {L : Phrase} → Sub never L
-from_never = record { «in» = λ ts h. absurd h }
-
 pub never_behind : {S L V : Phrase} → Sub ((S ▸ never) ▸ V) L
 never_behind = record { «in» = λ ts h. absurd h.3.4 }
 

@@ -1,5 +1,4 @@
 -- How deep the tokens of a program are nested, told by the depths of the machine's states, and which token is the first too deep.
-use Rattle.std.proofs.Math.Seq.{take-append_seam}
 use Rattle.std.proofs.lemmas.Bool.{cases_lt}
 use Rattle.std.proofs.lemmas.List.{take-append-drop, take-append-le, length-append, length-take-le}
 use Rattle.std.proofs.Common.{ℕ, suc, zero, List, [], ◌∷◌, ◌++◌, ◌+◌, ◌<◌, ◌≤◌, ◌≡◌, ◌⊎◌, inl, inr, refl, ap, sym, subst, ◌∙◌, append-nil, add-one, length, take, drop, get_or, max, None, Some, arith}
@@ -64,25 +63,6 @@ nestings_run ts p t =
     ∙ start_nests (run_nests start ts ++ [])
     ∙ append-nil (run_nests start ts)
 
-nests_append : (x : State) (a b : List Token) → run_nests x (a ++ b) ≡ run_nests x a ++ run_nests (run x a) b
-nests_append x [] b = refl
-nests_append x (t ∷ a) b = ap (λ l. max (depth x) (depth (step t.kind t.span x)) ∷ l) (nests_append (step t.kind t.span x) a b)
-
-nests_length : (x : State) (ts : List Token) → length (run_nests x ts) ≡ length ts
-nests_length x [] = refl
-nests_length x (t ∷ ts) = ap suc (nests_length (step t.kind t.span x) ts)
-
--- one token begins at most two constructs
-pub step_depth : (k : TokenKind) (i : Span) (x : State) → depth (step k i x) ≤ depth x + 2
-step_depth k i x = omega (arith, (step_nests k i x).rises)
-
--- also where only the first tokens of a program have been read
-pub nestings_so_far : (ts rest : List Token) (p : Decs) → Tree (ts ++ rest) p → take (length ts) (nestings p) ≡ run_nests start ts
-nestings_so_far ts rest p t =
-    ap (take (length ts)) (nestings_run (ts ++ rest) p t ∙ nests_append start ts rest)
-    ∙ ap (λ n. take n (run_nests start ts ++ run_nests (run start ts) rest)) (sym (nests_length start ts))
-    ∙ take-append_seam (run_nests start ts) (run_nests (run start ts) rest)
-
 -- one token of a run
 nest_at : (x : State) (ts : List Token) (i : ℕ) → i < length ts → get_or (run_nests x ts) i 0 ≡ max (depth (run x (take i ts))) (depth (run x (take (suc i) ts)))
 nest_at x [] i h = absurd (omega (arith, h))
@@ -128,13 +108,6 @@ not_nested_behind ts i e j h n =
     let all : take (i + 1) ts ++ drop (i + 1) us ≡ us = ap (λ a. a ++ drop (i + 1) us) (sym l) ∙ take-append-drop (i + 1) us in
     no_prefix (take (i + 1) ts) e (drop (i + 1) us, n.2, subst (λ a. Tree a n.2) (sym all) n.3)
 
-going_or_stop : (x : State) → (x ≡ stop) ⊎ Going x
-going_or_stop stop = inl refl
-going_or_stop _ = inr tt
-
-pub nests_going : (ts : List Token) (i : ℕ) → IsTooNestedAt ts i → Going (run start (take (i + 1) ts))
-nests_going ts i n = elim (going_or_stop (run start (take (i + 1) ts))) [ inl e ↦ absurd (not_nested_behind ts i e i (omega arith) n) | inr g ↦ g ]
-
 -- no state up to the one behind the first `n` tokens is too deep
 abbrev pub Shallow : List Token → ℕ → Type 0
 Shallow ts n = (j : ℕ) → j ≤ n → depth_behind ts j ≤ NESTING_LIMIT
@@ -163,10 +136,6 @@ first_too_nested ts i y h s g e d =
     let m : NESTING_LIMIT < depth_behind ts (i + 1) = subst (λ x. NESTING_LIMIT < depth x) e d in
     (nests_at ts i h (subst Going e g) (omega (arith, m)), not_nested_before ts i s)
 
--- where the machine stops before that, no token is nested too deep
-pub not_nested_at_stop : (ts : List Token) (i : ℕ) → Shallow ts i → run start (take (i + 1) ts) ≡ stop → (j : ℕ) → IsTooNestedAt ts j → ⊥
-not_nested_at_stop ts i s e j n = elim (cases_lt j i) [ inl h ↦ not_nested_before ts i s j h n | inr h ↦ not_nested_behind ts i e j h n ]
-
--- nor where all tokens have been read before that
+-- where all tokens have been read before that, no token is nested too deep
 pub not_nested_at_end : (ts : List Token) → Shallow ts (length ts) → (j : ℕ) → IsTooNestedAt ts j → ⊥
 not_nested_at_end ts s j n = not_nested_before ts (length ts) s j n.0 n
