@@ -9,6 +9,7 @@ mod lexing;
 mod parsing;
 mod running;
 mod sample;
+mod scoping;
 
 use anyhow::Error;
 use pict_syntax::TEXT_LIMIT;
@@ -38,6 +39,10 @@ fn main(rt: HostRuntime) -> Result<(), Error> {
         let text = sample::text_of(rt.alloc(), sample, size)?;
         parsing::measure(&rt, sample.name, &text, timed)?;
     }
+    let text = scoping::many_names(rt.alloc(), size)?;
+    scoping::measure(&rt, "many names", &text, timed)?;
+    let text = scoping::deep(rt.alloc())?;
+    scoping::measure(&rt, "a deep record", &text, timed)?;
     let servers = if timed { 300 } else { 10 };
     running::measure(&rt, "a ring", servers, Work::HandsOn, size, timed)?;
     running::measure(
