@@ -19,7 +19,7 @@ use Rattle.pict_types.specs.Measures.{weight_of, height_of, weights, size, size_
 use Rattle.pict_normal.specs.Normal.{Stop, normal, span_of, and_type, and_bound, with_labelled_type, kind_stops, size_stop, first_stop, kind_stop}
 use Rattle.pict_normal.specs.Raw.{variable_at, raw, raw_types, raw_labels, raw_binders, raw_binder, names_under}
 use Rattle.pict_normal.specs.Sizes.{nodes, nodes_of_types, nodes_of_labels, nodes_of_binders, nodes_of_binder}
-use Rattle.pict_types.specs.Places.{names_in, place}
+use Rattle.pict_types.specs.Places.{names_in}
 use Rattle.pict_normal.specs.Refusals.{IsFirst, IsRefusal}
 use Rattle.pict_normal.specs.Distinct.{HasDistinctLabels}
 use Rattle.pict_types.specs.Fitting.{ReplacesKinds, StandsForOperator}

@@ -14,7 +14,6 @@ pub mod Sizes
 pub mod Inside
 pub mod Places
 pub mod Counting
-pub mod Levels
 pub mod Replaced
 pub mod Replacements
 pub mod Composed
