@@ -20,7 +20,7 @@ use Rattle.pict_types.specs.Places.{names_in, arity, arity_at}
 use Rattle.pict_normal.specs.Raw.{variable_at, names_under, raw, raw_types, raw_labels, raw_binders, raw_binder, raw_bound}
 use Rattle.pict_normal.specs.Distinct.{IsNewLabel, HasDistinctLabels, TypesHaveDistinctLabels, AreDistinct, BindersHaveDistinctLabels, BinderHasDistinctLabels}
 use Rattle.pict_syntax.proofs.LabelLemmas.{label_order, less_is, stands_after}
-use Rattle.pict_types.proofs.Formed.{formed_bound_by, kind_bound_by}
+use Rattle.pict_types.proofs.Formed.{formed_bound_by, kind_bound_by, before_further}
 use Rattle.pict_normal.proofs.BinderPlaces.{kind_meant, kind_there, kind_named, place_below}
 use Rattle.pict_types.proofs.Places.{names_length}
 use Rattle.pict_normal.proofs.RawNormal.{none_first, none_second}
@@ -87,11 +87,11 @@ count_raw : (ns : List (List ℕ)) (ms : List ℕ) (ts : TypeTrees) → count_ty
 count_raw ns ms no_types = refl
 count_raw ns ms (more_types ts t) = count_and (raw_types ns ms ts) (raw ns ms t) ∙ ap suc (count_raw ns ms ts)
 
-and_type_formed : (ns : List (List ℕ)) (ks : List Kind) (us : PlainTypes) (u : PlainType) → AreWellFormed ns ks us → IsWellFormed ns ks u → AreWellFormed ns ks (and_type us u)
+pub and_type_formed : (ns : List (List ℕ)) (ks : List Kind) (us : PlainTypes) (u : PlainType) → AreWellFormed ns ks us → IsWellFormed ns ks u → AreWellFormed ns ks (and_type us u)
 and_type_formed ns ks no_type u h k = (k, tt)
 and_type_formed ns ks (types t us) u h k = (h.0, and_type_formed ns ks us u h.1 k)
 
-and_bound_formed : (ns : List (List ℕ)) (ks : List Kind) (bs : PlainBounds) (b : PlainBound) → BoundsAreWellFormed ns ks bs → BoundIsWellFormed ns (kinds_under ks bs) b → BoundsAreWellFormed ns ks (and_bound bs b)
+pub and_bound_formed : (ns : List (List ℕ)) (ks : List Kind) (bs : PlainBounds) (b : PlainBound) → BoundsAreWellFormed ns ks bs → BoundIsWellFormed ns (kinds_under ks bs) b → BoundsAreWellFormed ns ks (and_bound bs b)
 and_bound_formed ns ks no_bound b h k = (k, tt)
 and_bound_formed ns ks (bounds d bs) b h k = (h.0, and_bound_formed ns (kind_by d ∷ ks) bs b h.1 k)
 
@@ -124,10 +124,6 @@ before_with ns m l u (labels n t ls) h k = go (is_lt (label_cmp ns l n)) (before
     go true r = (h, k)
     go false r = (k.0, r)
 
-before_all : (ns : List (List ℕ)) (l m : ℕ) (ls : PlainLabels) → StandsBefore ns l m → StandsBeforeAll ns m ls → StandsBeforeAll ns l ls
-before_all ns l m no_label h k = tt
-before_all ns l m (labels n t ls) h k = ((label_order ns).trans l m n h k.0, before_all ns l m ls h k.1)
-
 pub with_labelled_type_formed : (ns : List (List ℕ)) (ks : List Kind) (l : ℕ) (u : PlainType) (ls : PlainLabels) → IsNew l ls → IsWellFormed ns ks u → LabelsAreWellFormed ns ks ls → LabelsAreWellFormed ns ks (with_labelled_type ns l u ls)
 with_labelled_type_formed ns ks l u no_label d w h = (tt, (w, tt))
 with_labelled_type_formed ns ks l u (labels m t ls) d w h = go (is_lt (label_cmp ns l m)) refl (with_labelled_type_formed ns ks l u ls d.1 w h.1.1)
@@ -135,7 +131,7 @@ with_labelled_type_formed ns ks l u (labels m t ls) d w h = go (is_lt (label_cmp
     go : (b : Bool) → is_lt (label_cmp ns l m) ≡ b → LabelsAreWellFormed ns ks (with_labelled_type ns l u ls) → LabelsAreWellFormed ns ks (if b then labels l u (labels m t ls) else labels m t (with_labelled_type ns l u ls))
     go true e r =
         let f = less_is (label_cmp ns l m) e in
-        ((f, before_all ns l m ls f h.0), (w, h))
+        ((f, before_further ns l m ls f h.0), (w, h))
     go false e r = (before_with ns m l u ls (stands_after ns l m (label_cmp ns l m) refl e d.0) h.0, (h.1.0, r))
 
 -- under type binders

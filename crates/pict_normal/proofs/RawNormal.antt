@@ -15,9 +15,8 @@ use Rattle.pict_normal.specs.Meanings.{meanings, with_what}
 use Rattle.pict_binders.specs.Names.{place_of}
 use Rattle.pict_types.specs.Places.{names_in}
 use Rattle.pict_normal.specs.Raw.{variable_at, names_under, raw, raw_types, raw_labels, raw_binders, raw_binder, raw_bound}
-
-three : {A B C D : Type 0} (k : A → B → C → D) {a a' : A} {b b' : B} {c c' : C} → a ≡ a' → b ≡ b' → c ≡ c' → k a b c ≡ k a' b' c'
-three k p q r = cc
+use Rattle.pict_types.proofs.Congruent.{three}
+use Rattle.pict_types.proofs.Composed.{replace_made}
 
 -- a name may stand alone, or with arguments
 abbrev pub IsType : Option Meaning → Type 0
@@ -167,18 +166,6 @@ with_label_replaced ns s l u (labels m t ls) = go (is_lt (label_cmp ns l m)) (wi
     go true h = refl
     go false h = ap (labels m (replace s t)) h
 
-bound_by_replaced : (s : Replacement) (t : PlainType) → replace_bound s (bound_by t) ≡ bound_by (replace s t)
-bound_by_replaced s Top = refl
-bound_by_replaced s Int = refl
-bound_by_replaced s Char = refl
-bound_by_replaced s Str = refl
-bound_by_replaced s Boolean = refl
-bound_by_replaced s (Var i) = refl
-bound_by_replaced s (Apply i ts) = refl
-bound_by_replaced s (Chan m t) = refl
-bound_by_replaced s (Fields bs ps ls) = refl
-bound_by_replaced s (Rec t) = refl
-
 -- no stop in two lists is none in each
 pub none_first : (xs ys : List Stop) → xs ++ ys ≡ [] → xs ≡ []
 none_first [] ys h = refl
@@ -256,9 +243,9 @@ mutual
   raw_binder_replaced ns h (type_binder sp id (Some Plain_) unbounded) k = refl
   raw_binder_replaced ns h (type_binder sp id (Some (Operator_ n)) unbounded) k = refl
   raw_binder_replaced ns {ms = ms} {s = s} h (type_binder sp id None (bound t)) k =
-      bound_by_replaced s (raw ns ms t) ∙ ap bound_by (raw_replaced ns h t k)
+      replace_made s (raw ns ms t) ∙ ap bound_by (raw_replaced ns h t k)
   raw_binder_replaced ns {ms = ms} {s = s} h (type_binder sp id (Some Plain_) (bound t)) k =
-      bound_by_replaced s (raw ns ms t) ∙ ap bound_by (raw_replaced ns h t k)
+      replace_made s (raw ns ms t) ∙ ap bound_by (raw_replaced ns h t k)
   raw_binder_replaced ns h (type_binder sp id (Some (Operator_ n)) (bound t)) k = refl
 
 -- the normal form is what the entries of the context mean, put for the names

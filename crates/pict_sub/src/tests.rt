@@ -91,7 +91,7 @@ fn applied(alloc: Global, c: &Context, to_int: bool) -> Result<Ty, AllocError>
 }
 
 /// The record type of so many positional fields `Int`.
-#[tactic(auto, using(crate::proofs::Built::formed_pushed, crate::proofs::Built::weigh_pushed))]
+#[tactic(auto, using(pict_types::proofs::Items::formed_pushed, pict_types::proofs::Items::weigh_pushed))]
 fn wide(alloc: Global, c: &Context, count: u32) -> Result<Ty, AllocError>
     ensures formed { IfOk result (λ t. IsWrittenIn c.now (plain t)) }
     ensures weight { IfOk result (λ t. weight_of (type_context c.now) (plain t) ≡ count + 1) }

@@ -1,3 +1,4 @@
+pub mod Congruent
 pub mod Rows
 pub mod Around
 pub mod Held
@@ -19,4 +20,9 @@ pub mod Replacements
 pub mod Composed
 pub mod Mentioned
 pub mod Among
+pub mod Alike
+pub mod Contexts
+pub mod Items
+pub mod Past
+pub mod Within
 mod Worked

@@ -7,6 +7,7 @@ use Rattle.pict_types.specs.Plain.{plain_arg, plain_args}
 use Rattle.pict_types.specs.Instances.{ArgsAreWellFormed, most_args, size_arg}
 use Rattle.pict_types.specs.Room.{reach, reach_types, reach_labels, reach_bounds}
 use Rattle.pict_types.specs.Measures.{size, size_types, size_labels, size_bounds, size_bound}
+use Rattle.pict_types.proofs.Rows.{size_bound_positive}
 
 pub kind_below : (ks : List Kind) (i : ℕ) (k : Kind) → kind_at ks i ≡ Some k → i < length ks
 kind_below [] i k h = absurd (cc)
@@ -19,12 +20,7 @@ kinds_length (b ∷ c) = ap suc (kinds_length c)
 
 under_length : (ks : List Kind) (bs : PlainBounds) → length (kinds_under ks bs) ≤ length ks + size_bounds bs
 under_length ks no_bound = omega arith
-under_length ks (bounds b bs) = omega (arith, under_length (kind_by b ∷ ks) bs, one_each b)
-  where
-    one_each : (b : PlainBound) → 1 ≤ size_bound b
-    one_each Free = omega arith
-    one_each (Below t) = omega arith
-    one_each (Operator n) = omega arith
+under_length ks (bounds b bs) = omega (arith, under_length (kind_by b ∷ ks) bs, size_bound_positive b)
 
 mutual
   -- no variable of a well formed type is past those in scope and the binders around it

@@ -6,9 +6,10 @@ use Rattle.pict_types.specs.Types.{PlainType, Top, Int, Char, Str, Boolean, Var,
 use Rattle.pict_types.specs.Renaming.{beyond, beyond_all, beyond_times, plus, rename, rename_types, rename_labels, rename_bounds, rename_bound, moved}
 use Rattle.pict_types.specs.Replacing.{bound_by, Filling, next_variable, apply_variable, filling_beyond, filling_beyond_all, fill, fill_types, fill_labels, fill_bounds, fill_bound, with_type, with_types, no_filling, Head, variable, operator, nothing, rename_head, Replacement, replacement_past, replacement_beyond_all, type_in, head_in, with_arg, with_args, arguments, no_replacement}
 use Rattle.pict_types.specs.Filling.{moved_by}
-use Rattle.pict_types.proofs.Renamed.{Joins, joins_beyond, renamed_twice, Stays, stays_beyond, rename_same, three}
+use Rattle.pict_types.proofs.Renamed.{Joins, joins_beyond, renamed_twice, Stays, stays_beyond, rename_same}
 use Rattle.pict_types.proofs.Replaced.{beyond_after}
 use Rattle.pict_types.proofs.Composed.{IsAfter, fill_after}
+use Rattle.pict_types.proofs.Congruent.{three}
 
 pub type_low : (s : Replacement) (d i : ℕ) → i < d → (replacement_past d s).type_of i ≡ Var i
 type_low s zero i h = absurd (omega arith)
