@@ -55,10 +55,6 @@ parameters_length : (n : ℕ) (ks : List Kind) → length (with_parameters n ks)
 parameters_length zero ks = omega arith
 parameters_length (suc n) ks = omega (arith, parameters_length n ks)
 
--- and of the body of an operator
-pub reach_body : (ns : List (List ℕ)) (ks : List Kind) (n : ℕ) (t : PlainType) → IsWellFormed ns (with_parameters n ks) t → reach t ≤ length ks + n + size t
-reach_body ns ks n t w = omega (arith, reach_formed ns (with_parameters n ks) t w, parameters_length n ks)
-
 -- each argument is well formed, and none is greater than the greatest
 pub args_formed : (ns : List (List ℕ)) (ks : List Kind) (xs : List Arg) (i : ℕ) (d : Arg) → i < length xs → ArgsAreWellFormed ns ks (plain_args xs) → ArgIsWellFormed ns ks (plain_arg (get_or xs i d))
 args_formed ns ks [] i d h w = absurd (omega arith)
