@@ -1,9 +1,10 @@
 // Types compared and exposed: what only examples show, and the largest types.
 
 ghost use Rattle.std.specs.Prelude.{◌≡◌, ◌∷◌, List, ℕ, IfOk};
+ghost use Rattle.pict_syntax.specs.Labels.{StandsBefore};
 ghost use Rattle.pict_types.specs.Kinds.{BoundIsWellFormed, IsWellFormed, Kind, kind_by, proper};
 ghost use Rattle.pict_types.specs.Plain.{plain, plain_bound, plain_bounds, plain_labels, plain_types};
-ghost use Rattle.pict_types.specs.PlainContext.{IsWrittenIn};
+ghost use Rattle.pict_types.specs.PlainContext.{IsWrittenIn, names_of};
 ghost use Rattle.pict_types.specs.Types.{Fields, Var};
 
 use crate::{TypeScope, equal, expose, expose_in, is_subtype};
@@ -58,29 +59,27 @@ fn one_label(alloc: Global, c: &Context, a: Name) -> Result<Ty, AllocError>
     Ok(fields(Vec::new(alloc), Vec::new(alloc), labelled))
 }
 
-/// The record type `[a=Int b=Int]`. Labels that don't stand in this order are an error too.
+/// The record type `[a=Int b=Int]`.
 fn two_labels(alloc: Global, c: &Context, a: Name, b: Name) -> Result<Ty, AllocError>
+    requires order { StandsBefore (names_of c.now) a.0 b.0 }
     ensures { IfOk result (λ r. IsWrittenIn c.now (plain r)) }
 {
-    match compare_labels(c.names(), a, b) {
-        Ordering::Less => {
-            let mut labelled = Vec::new(alloc);
-            labelled.push((a, Ty::Int))?;
-            labelled.push((b, Ty::Int))?;
-            Ok(fields(Vec::new(alloc), Vec::new(alloc), labelled))
-        }
-        _ => Err(AllocError),
-    }
+    let mut labelled = Vec::new(alloc);
+    labelled.push((a, Ty::Int))?;
+    labelled.push((b, Ty::Int))?;
+    Ok(fields(Vec::new(alloc), Vec::new(alloc), labelled))
 }
 
-/// The record type `[a=Int]`, or `[a=Int b=Int]` where it has both.
+/// The record type `[a=Int]`, or `[a=Int b=Int]` where it has both. Labels in another order are an error.
 fn labelled(alloc: Global, c: &Context, a: Name, b: Name, both: bool) -> Result<Ty, AllocError>
     ensures { IfOk result (λ r. IsWrittenIn c.now (plain r)) }
 {
-    if both {
-        two_labels(alloc, c, a, b)
-    } else {
-        one_label(alloc, c, a)
+    if !both {
+        return one_label(alloc, c, a);
+    }
+    match compare_labels(c.names(), a, b) {
+        Ordering::Less => two_labels(alloc, c, a, b),
+        _ => Err(AllocError),
     }
 }
 

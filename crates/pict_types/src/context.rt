@@ -5,7 +5,7 @@ ghost use Rattle.pict_types.specs.Counting.{variables_around};
 ghost use Rattle.pict_types.specs.Entries.{EntriesAreWellFormed, held_heights, held_weights, places, variables};
 ghost use Rattle.pict_types.specs.PlainEntries.{plain_entries};
 ghost use Rattle.pict_types.specs.Places.{names_in};
-ghost use Rattle.pict_types.specs.Props.{EntriesAreWellFormed-prop};
+ghost use Rattle.pict_types.specs.Props.{entries_prop};
 
 use crate::measure::{Around, Known, Measures, inside, measure, measure_bound};
 use crate::types::{Arg, Bound, Ty};
@@ -40,7 +40,7 @@ pub struct Context<'a> {
     nearest: Nearest,
     /// For each entry the number of type variables around it.
     around: Vec<usize>,
-    ghost formed: { EntriesAreWellFormed names.now (plain_entries entries.items) } by { EntriesAreWellFormed-prop names.now (plain_entries entries.items) },
+    ghost formed: { EntriesAreWellFormed names.now (plain_entries entries.items) } by { entries_prop names.now (plain_entries entries.items) },
     ghost placed: { reverse (map (λ k. k.place) known.items) ≡ places (plain_entries entries.items) },
     ghost weighed: { reverse (map (λ k. k.measures.weight) known.items) ≡ held_weights (plain_entries entries.items) },
     ghost measured: { reverse (map (λ k. k.measures.height) known.items) ≡ held_heights (plain_entries entries.items) },

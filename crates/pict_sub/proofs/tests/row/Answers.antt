@@ -11,4 +11,4 @@ pub returns : goal.returns
 returns c =
     let items = c.in_ok-push.ensures.items ∙ ap (λ x. x ++ c.args.t ∷ []) c.new-positional.ensures.items in
     let is = c.fields.ensures ∙ three Fields (ap plain_bounds c.new.ensures.items) (ap plain_types items) (ap plain_labels c.new-2.ensures.items) in
-    subst (IsWellFormed (names_of c.args.c.now) (kinds (type_context c.args.c.now))) (sym is) (tt, ((c.requires, tt), tt))
+    subst (IsWellFormed (names_of c.args.c.now) (kinds (type_context c.args.c.now))) (sym is) (tt, ((c.requires.t, tt), tt))
