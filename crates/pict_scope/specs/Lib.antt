@@ -10,3 +10,4 @@ pub mod Reads
 pub mod Steps
 pub mod Held
 pub mod Laws
+pub mod DistinctLabels
