@@ -21,7 +21,7 @@ use Rattle.pict_normal.specs.Raw.{variable_at, raw, raw_types, raw_labels, raw_b
 use Rattle.pict_normal.specs.Sizes.{nodes, nodes_of_types, nodes_of_labels, nodes_of_binders, nodes_of_binder}
 use Rattle.pict_types.specs.Places.{names_in, place}
 use Rattle.pict_normal.specs.Refusals.{IsFirst, IsRefusal}
-use Rattle.pict_normal.specs.Distinct.{HasDistinctLabels}
+use Rattle.pict_scope.specs.DistinctLabels.{HasDistinctLabels}
 use Rattle.pict_types.specs.Fitting.{ReplacesKinds, StandsForOperator}
 use Rattle.pict_types.proofs.Formed.{replaces_beyond, replace_formed}
 use Rattle.pict_types.proofs.Sizes.{positive_weights, size_weigh}

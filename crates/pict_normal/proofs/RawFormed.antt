@@ -17,7 +17,7 @@ use Rattle.pict_normal.specs.Meanings.{kind_of_what, entry_kinds}
 use Rattle.pict_normal.specs.Normal.{Meaning, a_type, an_operator, meaning, and_type, and_bound, with_labelled_type, kind_bound, entry_of, normal, normal_bound, under_binders, count_trees, Stop, use_stops, apply_stops, kind_stops, types_stops, labels_stops, binders_stops, binder_stops}
 use Rattle.pict_types.specs.Places.{place, names_in, arity, arity_at}
 use Rattle.pict_normal.specs.Raw.{variable_at, names_under, raw, raw_types, raw_labels, raw_binders, raw_binder, raw_bound}
-use Rattle.pict_normal.specs.Distinct.{IsNewLabel, HasDistinctLabels, TypesHaveDistinctLabels, AreDistinct, BindersHaveDistinctLabels, BinderHasDistinctLabels}
+use Rattle.pict_scope.specs.DistinctLabels.{IsNewLabel, HasDistinctLabels, TypesHaveDistinctLabels, AreDistinct, BindersHaveDistinctLabels, BinderHasDistinctLabels}
 use Rattle.pict_syntax.proofs.LabelLemmas.{label_order, less_is, stands_after}
 use Rattle.pict_types.proofs.Formed.{formed_bound_by, kind_bound_by}
 use Rattle.pict_normal.proofs.BinderPlaces.{kind_meant, kind_there, kind_named, place_below}

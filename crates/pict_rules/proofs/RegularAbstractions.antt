@@ -15,7 +15,7 @@ use Rattle.pict_rules.specs.Regular.{IsRegular, IsTypeIn, kinds_in, AreFieldsIn}
 use Rattle.pict_rules.proofs.Results.{Property, ResultProperty, Each, gives_, refuses, needs, parts}
 use Rattle.pict_rules.proofs.Regularity.{Step, IfFormed}
 use Rattle.pict_sub.proofs.Followed.{exposure_formed}
-use Rattle.pict_rules.specs.DistinctLabels.{AbsHasDistinctLabels}
+use Rattle.pict_scope.specs.DistinctLabels.{AbsHasDistinctLabels}
 use Rattle.pict_rules.proofs.RegularExpanded.{expands_well}
 use Rattle.pict_sub.proofs.Below.{formed_under, kinds_under_is}
 use Rattle.pict_rules.proofs.RegularProcesses.{context_formed}

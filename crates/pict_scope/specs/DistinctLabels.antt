@@ -2,9 +2,7 @@
 use Rattle.std.specs.Prelude.{◌≡◌, ℕ, Some, None}
 use Rattle.pict_syntax.specs.Trees.{TypeTree, top_type, int_type, char_type, string_type, bool_type, use_type, both_type, read_type, write_type, respond_type, fields_type, apply_type, rec_type, TypeBinder, type_binder, Bound, unbounded, bound, TypeTrees, no_types, more_types, TypeBinders, no_binders, more_binders, LabelledTypes, no_labelled_types, more_labelled_types, RType, Pat, bind_pat, any_pat, fields_pat, fold_pat, FieldPats, field_pats, Pats, no_pats, more_pats, LabelledPats, no_labelled_pats, more_labelled_pats, Dec, new_dec, run_dec, let_dec, def_dec, alias_dec, operator_dec, await_dec, Decs, no_decs, more_decs, Definitions, no_definitions, more_definitions, Abs, process_abs, function_abs, Chan, use_chan, fold_chan, block_chan, apply_chan, right_chan, left_chan, Val, of_chan, number_val, character_val, string_val, true_val, false_val, fields_val, if_val, lambda_val, Vals, no_vals, more_vals, FieldVals, field_vals, LabelledVals, no_labelled_vals, more_labelled_vals, Proc, send_proc, receive_proc, serve_proc, if_proc, inert_proc, group_proc, Procs, no_procs, more_procs}
 
--- ---- written types
-
--- the label is none of these
+-- types. The label is none of these
 abbrev pub IsNewLabel : ℕ → LabelledTypes → Type 0
 IsNewLabel l no_labelled_types = Unit {0}
 IsNewLabel l (more_labelled_types ls id t) = IsNewLabel l ls × (l ≡ id.name.0 → ⊥)
@@ -45,9 +43,7 @@ abbrev mutual
   BoundHasDistinctLabels unbounded = Unit {0}
   BoundHasDistinctLabels (bound t) = HasDistinctLabels t
 
--- ---- patterns, values and processes
-
--- the label is none of these
+-- patterns, values, declarations and processes. The label is none of these
 abbrev pub IsNewPattern : ℕ → LabelledPats → Type 0
 IsNewPattern l no_labelled_pats = Unit {0}
 IsNewPattern l (more_labelled_pats ls x p) = IsNewPattern l ls × (l ≡ x.name.0 → ⊥)
