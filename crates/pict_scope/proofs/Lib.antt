@@ -6,3 +6,6 @@ pub mod Growing
 pub mod Reading
 pub mod TypeForms
 pub mod PatternForms
+pub mod ValueForms
+pub mod Placing
+pub mod Resolved

@@ -289,4 +289,13 @@ pub behind_refused : (o p : Outline) (w : Opened) (a b : Reader) (e : ScopeError
 unfolding opens marks
 behind_refused o p w a b e h k = record { is_first = refused_then (marks o (before_pattern (around a))) _ e h.goes.answers.none_stops (refused_at (marks p) e h.goes.around_ k.is_first) }
 
+-- the scope of a pattern
+pub scope_read : (o p : Outline) (at : Place) (w : Opened) (a b c d e : Reader) → IsAt at a → ReadsPattern o w a b → Moves (enters w) b c → Reads p c d → GoesBack at d e → Reads (closed (pattern o empty ▸ p)) a e
+scope_read o p at w a b c d e h k l m n = closed_read (pattern o empty ▸ p) at a d e h (then_read (pattern o empty) p a c d (pattern_read o empty w a b b c k (empty_read b) l) m) n
+
+pub scope_refused : (o p : Outline) (w : Opened) (a b c : Reader) (e : ScopeError) → ReadsPattern o w a b → Moves (enters w) b c → Refuses p c e → Refuses (closed (pattern o empty ▸ p)) a e
+scope_refused o p w a b c e k l m = closed_refused (pattern o empty ▸ p) a e (then_refused (pattern o empty) p a c e (pattern_read o empty w a b b c k (empty_read b) l) m)
+
+pub ruleset scoping = (scope_refused, memory_refused)
+
 pub ruleset reading = (empty_read, memory_refused, then_read, then_refused, first_refused, then_any, closed_read, closed_refused, group_read, group_refused, type_read, type_refused, each_none, each_more, each_refused, each_all, pattern_type_read, pattern_type_refused, pattern_type_again, whole_pattern, whole_pattern_refused, pattern_memory, pattern_read, pattern_refused, behind_refused)

@@ -5,11 +5,14 @@ mod error;
 mod laws;
 mod layer;
 mod patterns;
+mod places;
 mod primitives;
 mod reader;
+mod resolving;
 mod steps;
 mod target;
 mod types;
+mod values;
 
 pub use error::ScopeError;
 pub use laws::{
@@ -17,4 +20,5 @@ pub use laws::{
     law_uses_are_bound,
 };
 pub use primitives::primitive_named;
+pub use resolving::resolve;
 pub use target::{Scoped, Target};
