@@ -18,7 +18,7 @@ use Rattle.pict_normal.specs.Normal.{Stop, normal, kind_stops, size_stop, first_
 use Rattle.pict_normal.specs.Raw.{raw}
 use Rattle.pict_types.specs.Places.{names_in}
 use Rattle.pict_normal.specs.Refusals.{IsFirst, IsRefusal}
-use Rattle.pict_normal.specs.Distinct.{HasDistinctLabels}
+use Rattle.pict_scope.specs.DistinctLabels.{HasDistinctLabels}
 use Rattle.pict_types.specs.Fitting.{ReplacesKinds, StandsForOperator}
 use Rattle.pict_types.proofs.Formed.{replaces_beyond, replace_formed}
 use Rattle.pict_normal.proofs.RawFormed.{raw_formed}

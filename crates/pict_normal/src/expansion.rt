@@ -3,7 +3,7 @@
 ghost use Rattle.std.specs.Prelude.{◌≡◌, [], IfErr, IfOk};
 ghost use Rattle.std.specs.Result.{IsOkAnd};
 ghost use Rattle.pict_syntax.specs.PlainTrees.{type_of};
-ghost use Rattle.pict_normal.specs.Distinct.{HasDistinctLabels};
+ghost use Rattle.pict_scope.specs.DistinctLabels.{HasDistinctLabels};
 ghost use Rattle.pict_types.specs.Kinds.{IsWellFormed};
 ghost use Rattle.pict_normal.specs.Made.{IsMade, IsReason};
 ghost use Rattle.pict_normal.specs.Meanings.{entry_kinds, meanings};

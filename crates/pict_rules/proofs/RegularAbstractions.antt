@@ -15,7 +15,7 @@ use Rattle.pict_rules.specs.Regular.{IsRegular, IsTypeIn, kinds_in, AreFieldsIn}
 use Rattle.pict_rules.proofs.Results.{Property, ResultProperty, Each, gives_, refuses, needs, parts}
 use Rattle.pict_rules.proofs.Regularity.{Step, IfFormed}
 use Rattle.pict_sub.proofs.Followed.{exposure_formed}
-use Rattle.pict_rules.specs.DistinctLabels.{AbsHasDistinctLabels}
+use Rattle.pict_scope.specs.DistinctLabels.{AbsHasDistinctLabels}
 use Rattle.pict_rules.proofs.RegularExpanded.{expands_well}
 use Rattle.pict_rules.proofs.RegularValues.{unless_clear}
 use Rattle.pict_rules.proofs.RegularPatterns.{within_adds}

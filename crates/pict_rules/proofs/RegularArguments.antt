@@ -11,7 +11,7 @@ use Rattle.pict_types.specs.Instances.{ArgsAreWellFormed}
 use Rattle.pict_types.proofs.Formed.{arguments_keep, replace_formed}
 use Rattle.pict_normal.specs.Normal.{count_trees, size_stop}
 use Rattle.pict_normal.specs.WrittenArguments.{normal_arg, arg_stop}
-use Rattle.pict_normal.specs.Distinct.{TypesHaveDistinctLabels}
+use Rattle.pict_scope.specs.DistinctLabels.{TypesHaveDistinctLabels}
 use Rattle.pict_sub.specs.Exposing.{exposure}
 use Rattle.pict_rules.specs.Found.{Slot, open_slot, filled, Found, none_found, mentions_missing, argument_in, with_found, all_found, matched}
 use Rattle.pict_rules.specs.Counts.{count_vals}

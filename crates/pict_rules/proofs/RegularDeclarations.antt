@@ -20,7 +20,7 @@ use Rattle.pict_rules.proofs.Regularity.{Step}
 use Rattle.pict_rules.proofs.RegularJoined.{kinds_inside, keeps_past, values_renamed, values_first, values_both}
 use Rattle.pict_rules.proofs.RegularValues.{unless_clear, without_clear, shifted_formed, lowered_back, count_inner}
 use Rattle.pict_rules.proofs.RegularPatterns.{one_adds, within_adds, both_entries, same_growth}
-use Rattle.pict_rules.specs.DistinctLabels.{AbsHasDistinctLabels, DecHasDistinctLabels}
+use Rattle.pict_scope.specs.DistinctLabels.{AbsHasDistinctLabels, DecHasDistinctLabels}
 use Rattle.pict_rules.proofs.RegularExpanded.{expands_well}
 use Rattle.pict_rules.proofs.RegularFields.{own_kinds, own_regular}
 use Rattle.pict_normal.proofs.RawFormed.{and_type_formed}

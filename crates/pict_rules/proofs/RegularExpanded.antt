@@ -8,7 +8,7 @@ use Rattle.pict_types.specs.Fitting.{StandsForOperator}
 use Rattle.pict_types.proofs.Formed.{head_further}
 use Rattle.pict_normal.specs.Normal.{Meaning, a_type, an_operator, of_entry, behind_entry, meaning, normal, Stop, first_stop, kind_stops, kind_stop}
 use Rattle.pict_normal.specs.WrittenArguments.{named, arg_meant, normal_arg, stop_meant, arg_stop}
-use Rattle.pict_normal.specs.Distinct.{HasDistinctLabels}
+use Rattle.pict_scope.specs.DistinctLabels.{HasDistinctLabels}
 use Rattle.pict_normal.proofs.Expanded.{normal_formed}
 use Rattle.pict_normal.proofs.BareOperators.{body_formed}
 

@@ -18,7 +18,7 @@ use Rattle.pict_rules.proofs.Results.{Property, ResultProperty, Each, gives_, re
 use Rattle.pict_rules.proofs.Regularity.{Step, label_formed, labels_formed_at}
 use Rattle.pict_rules.proofs.OwnBinders.{own_context}
 use Rattle.pict_types.proofs.Formed.{formed_bound_by}
-use Rattle.pict_normal.specs.Distinct.{BinderHasDistinctLabels, BindersHaveDistinctLabels}
+use Rattle.pict_scope.specs.DistinctLabels.{BinderHasDistinctLabels, BindersHaveDistinctLabels}
 use Rattle.pict_rules.proofs.RegularExpanded.{expands_well}
 use Rattle.pict_rules.proofs.RegularJoined.{joined_adds, keeps_past, values_renamed}
 use Rattle.pict_rules.proofs.RegularValues.{unless_clear}

@@ -24,7 +24,7 @@ use Rattle.pict_rules.proofs.Results.{Property, ResultProperty, Each, with_resul
 use Rattle.pict_rules.proofs.Regularity.{IsRightlyAsked, IsGoodResult, Step, IfFormed}
 use Rattle.pict_types.proofs.Formed.{formed_renamed, unfolding_formed}
 use Rattle.pict_types.proofs.Mentioned.{lowered_formed}
-use Rattle.pict_rules.specs.DistinctLabels.{ValHasDistinctLabels}
+use Rattle.pict_scope.specs.DistinctLabels.{ValHasDistinctLabels}
 use Rattle.pict_rules.proofs.RegularExpanded.{expands_well}
 use Rattle.pict_types.proofs.Reaching.{kinds_length}
 

@@ -15,7 +15,8 @@ use Rattle.pict_syntax.specs.Grammar.{type_span, val_span}
 use Rattle.pict_rules.specs.Counts.{count_vals, count_pats}
 use Rattle.pict_normal.specs.WrittenArguments.{arg_stop, normal_arg}
 use Rattle.pict_rules.specs.Shapes.{all_written, none_written, nth_bound, nth_type, applicable, written_bound, vals_onto, applied_to, right_nested, left_nested, from_first}
-use Rattle.pict_scope.specs.Around.{Around, nearest, or_primitive}
+use Rattle.pict_binders.specs.Numbered.{nearest}
+use Rattle.pict_scope.specs.Around.{Around, or_primitive}
 use Rattle.pict_scope.specs.Marks.{Mark, value_used}
 use Rattle.pict_scope.specs.Outlines.{Outline, empty, ◌▸◌, closed, value_use, pattern, group, opens, marks}
 use Rattle.pict_scope.specs.Forms.{in_dec, in_types, in_pattern_binders, in_pat, in_pats, in_labelled_pats, in_labelled_vals, in_field_vals, in_field_pats, in_annotation, in_val, in_vals, in_chan, in_abs, in_decs, in_definitions, in_proc, in_procs}

@@ -8,7 +8,7 @@ use Rattle.pict_syntax.specs.Trees.{Decs, of_chan, use_chan}
 use Rattle.pict_types.specs.Types.{PlainType}
 use Rattle.pict_types.specs.Entries.{PlainContext}
 use Rattle.pict_scope.specs.PrimitiveNames.{primitive_named}
-use Rattle.pict_scope.specs.declared.binders.Binder.{Binder}
+use Rattle.pict_binders.specs.declared.binders.Binder.{Binder}
 use Rattle.pict_scope.specs.Around.{Around}
 use Rattle.pict_scope.specs.Marks.{Mark, or_later}
 use Rattle.pict_scope.specs.Outlines.{Outline, empty, ◌▸◌, marks}
@@ -16,7 +16,6 @@ use Rattle.pict_scope.specs.Forms.{in_types, in_pattern_binders, in_pat, in_fiel
 use Rattle.pict_scope.specs.Scopes.{program_marks, scope_stop}
 use Rattle.pict_rules.specs.Environments.{Environment, KnownValue, extended, known_type}
 use Rattle.pict_rules.specs.Rules.{Sort, type_, Judgement, gives, has, is_condition, values_give, labelled_values_give, application, fields_fit, written_arguments, values_fit, labelled_values_fit, value_fits, given_fits, abstraction_gives, abstraction_against, pattern_gives, fields_give, binders_give, patterns_give, labelled_patterns_give, pattern_against, fields_against, binders_against, patterns_against, labelled_patterns_against, declaration, declarations, signatures, signature, bodies, body, process, processes, receives, Signature, Body, process_body, value_body}
-use Rattle.pict_rules.specs.DistinctLabels.{DecsHaveDistinctLabels}
 use Rattle.pict_rules.specs.Reached.{Reached}
 
 -- the names, the nearest first
@@ -146,7 +145,3 @@ abbrev pub UsesAreKnown : Type 0
 UsesAreKnown =
     (names : List (List ℕ)) (p : Decs) (e : Environment) (i : Span) (n : Name) → scope_stop names p ≡ None
     → Reached names p type_ e (gives (of_chan (use_chan i n))) → IsKnownValue e n.0
-
--- and in a program in which no rule of scopes fails no label stands twice
-abbrev pub LabelsAreDistinct : Type 0
-LabelsAreDistinct = (names : List (List ℕ)) (p : Decs) → scope_stop names p ≡ None → DecsHaveDistinctLabels p

@@ -1,9 +1,49 @@
 -- Phrases in which no label stands twice: in no record, record pattern, function, application or record type.
 use Rattle.std.specs.Prelude.{◌≡◌, ℕ, Some, None}
-use Rattle.pict_syntax.specs.Trees.{RType, Pat, bind_pat, any_pat, fields_pat, fold_pat, FieldPats, field_pats, Pats, no_pats, more_pats, LabelledPats, no_labelled_pats, more_labelled_pats, Dec, new_dec, run_dec, let_dec, def_dec, alias_dec, operator_dec, await_dec, Decs, no_decs, more_decs, Definitions, no_definitions, more_definitions, Abs, process_abs, function_abs, Chan, use_chan, fold_chan, block_chan, apply_chan, right_chan, left_chan, Val, of_chan, number_val, character_val, string_val, true_val, false_val, fields_val, if_val, lambda_val, Vals, no_vals, more_vals, FieldVals, field_vals, LabelledVals, no_labelled_vals, more_labelled_vals, Proc, send_proc, receive_proc, serve_proc, if_proc, inert_proc, group_proc, Procs, no_procs, more_procs}
-use Rattle.pict_normal.specs.Distinct.{HasDistinctLabels, TypesHaveDistinctLabels, BindersHaveDistinctLabels}
+use Rattle.pict_syntax.specs.Trees.{TypeTree, top_type, int_type, char_type, string_type, bool_type, use_type, both_type, read_type, write_type, respond_type, fields_type, apply_type, rec_type, TypeBinder, type_binder, Bound, unbounded, bound, TypeTrees, no_types, more_types, TypeBinders, no_binders, more_binders, LabelledTypes, no_labelled_types, more_labelled_types, RType, Pat, bind_pat, any_pat, fields_pat, fold_pat, FieldPats, field_pats, Pats, no_pats, more_pats, LabelledPats, no_labelled_pats, more_labelled_pats, Dec, new_dec, run_dec, let_dec, def_dec, alias_dec, operator_dec, await_dec, Decs, no_decs, more_decs, Definitions, no_definitions, more_definitions, Abs, process_abs, function_abs, Chan, use_chan, fold_chan, block_chan, apply_chan, right_chan, left_chan, Val, of_chan, number_val, character_val, string_val, true_val, false_val, fields_val, if_val, lambda_val, Vals, no_vals, more_vals, FieldVals, field_vals, LabelledVals, no_labelled_vals, more_labelled_vals, Proc, send_proc, receive_proc, serve_proc, if_proc, inert_proc, group_proc, Procs, no_procs, more_procs}
 
--- the label is none of these
+-- types. The label is none of these
+abbrev pub IsNewLabel : ℕ → LabelledTypes → Type 0
+IsNewLabel l no_labelled_types = Unit {0}
+IsNewLabel l (more_labelled_types ls id t) = IsNewLabel l ls × (l ≡ id.name.0 → ⊥)
+
+abbrev mutual
+  pub HasDistinctLabels : TypeTree → Type 0
+  HasDistinctLabels (top_type s) = Unit {0}
+  HasDistinctLabels (int_type s) = Unit {0}
+  HasDistinctLabels (char_type s) = Unit {0}
+  HasDistinctLabels (string_type s) = Unit {0}
+  HasDistinctLabels (bool_type s) = Unit {0}
+  HasDistinctLabels (use_type s n) = Unit {0}
+  HasDistinctLabels (both_type s t) = HasDistinctLabels t
+  HasDistinctLabels (read_type s t) = HasDistinctLabels t
+  HasDistinctLabels (write_type s t) = HasDistinctLabels t
+  HasDistinctLabels (respond_type s t) = HasDistinctLabels t
+  HasDistinctLabels (fields_type s bs ts ls) = BindersHaveDistinctLabels bs × (TypesHaveDistinctLabels ts × AreDistinct ls)
+  HasDistinctLabels (apply_type s id ts) = TypesHaveDistinctLabels ts
+  HasDistinctLabels (rec_type s id t) = HasDistinctLabels t
+
+  pub TypesHaveDistinctLabels : TypeTrees → Type 0
+  TypesHaveDistinctLabels no_types = Unit {0}
+  TypesHaveDistinctLabels (more_types ts t) = TypesHaveDistinctLabels ts × HasDistinctLabels t
+
+  -- the labels are distinct, and those within their types
+  pub AreDistinct : LabelledTypes → Type 0
+  AreDistinct no_labelled_types = Unit {0}
+  AreDistinct (more_labelled_types ls id t) = AreDistinct ls × (IsNewLabel id.name.0 ls × HasDistinctLabels t)
+
+  pub BindersHaveDistinctLabels : TypeBinders → Type 0
+  BindersHaveDistinctLabels no_binders = Unit {0}
+  BindersHaveDistinctLabels (more_binders bs b) = BindersHaveDistinctLabels bs × BinderHasDistinctLabels b
+
+  pub BinderHasDistinctLabels : TypeBinder → Type 0
+  BinderHasDistinctLabels (type_binder s id k b) = BoundHasDistinctLabels b
+
+  pub BoundHasDistinctLabels : Bound → Type 0
+  BoundHasDistinctLabels unbounded = Unit {0}
+  BoundHasDistinctLabels (bound t) = HasDistinctLabels t
+
+-- patterns, values, declarations and processes. The label is none of these
 abbrev pub IsNewPattern : ℕ → LabelledPats → Type 0
 IsNewPattern l no_labelled_pats = Unit {0}
 IsNewPattern l (more_labelled_pats ls x p) = IsNewPattern l ls × (l ≡ x.name.0 → ⊥)

@@ -1,21 +1,20 @@
 -- Where no rule of scopes fails in a program, no label stands twice in a phrase of it.
-use Rattle.std.proofs.Common.{◌≡◌, ℕ, List, [], ◌∷◌, Bool, true, false, ◌||◌, Some, None, refl, sym, ◌∙◌, subst, inl}
+use Rattle.std.proofs.Common.{◌≡◌, ℕ, List, [], ◌∷◌, Bool, true, false, ◌||◌, Some, None, refl, sym, ◌∙◌, subst}
 use Rattle.std.specs.Prelude.{nat_eq}
 use Rattle.std.proofs.lemmas.Bool.{eq-eqb}
 use Rattle.pict_syntax.specs.declared.code.Code.{Code}
 use Rattle.pict_syntax.specs.declared.code.Code.TheVariants.{S4}
 use Rattle.pict_syntax.specs.declared.id.Id.{Id}
 use Rattle.pict_syntax.specs.Trees.{TypeTree, top_type, int_type, char_type, string_type, bool_type, use_type, both_type, read_type, write_type, respond_type, fields_type, apply_type, rec_type, TypeBinder, type_binder, Bound, unbounded, bound, TypeTrees, no_types, more_types, TypeBinders, no_binders, more_binders, LabelledTypes, no_labelled_types, more_labelled_types, RType, Pat, bind_pat, any_pat, fields_pat, fold_pat, FieldPats, field_pats, Pats, no_pats, more_pats, LabelledPats, no_labelled_pats, more_labelled_pats, Dec, new_dec, run_dec, let_dec, def_dec, alias_dec, operator_dec, await_dec, Decs, no_decs, more_decs, Definitions, no_definitions, more_definitions, Abs, process_abs, function_abs, Chan, use_chan, fold_chan, block_chan, apply_chan, right_chan, left_chan, Val, of_chan, number_val, character_val, string_val, true_val, false_val, fields_val, if_val, lambda_val, Vals, no_vals, more_vals, FieldVals, field_vals, LabelledVals, no_labelled_vals, more_labelled_vals, Proc, send_proc, receive_proc, serve_proc, if_proc, inert_proc, group_proc, Procs, no_procs, more_procs}
-use Rattle.pict_normal.specs.Distinct.{IsNewLabel, HasDistinctLabels, TypesHaveDistinctLabels, AreDistinct, BindersHaveDistinctLabels, BinderHasDistinctLabels, BoundHasDistinctLabels}
-use Rattle.pict_scope.specs.Around.{Around, is_among, with_values}
-use Rattle.pict_scope.specs.Marks.{stands_twice}
-use Rattle.pict_scope.specs.Outlines.{Outline, empty, ◌▸◌, closed, value_use, type_use, binds_value, binds_type, binds_all, defines, pattern_value, pattern_type, pattern, group, once, opens, marks, twice_if}
+use Rattle.pict_binders.specs.Numbered.{nearest}
+use Rattle.pict_scope.specs.Around.{Around, is_among, with_values, with_group, past_type, before_pattern, behind_pattern}
+use Rattle.pict_scope.specs.Marks.{first_stop}
+use Rattle.pict_scope.specs.Outlines.{Outline, empty, ◌▸◌, closed, value_use, type_use, binds_value, binds_type, binds_all, defines, pattern_value, pattern_type, pattern, group, once, opens, marks, twice_if, twice_if_bound}
 use Rattle.pict_scope.specs.Forms.{in_type, in_types, in_labelled_types, in_binders, in_binder, in_bound, in_annotation, in_pattern_binder, in_pattern_binders, in_pat, in_field_pats, in_pats, in_labelled_pats, in_dec, in_decs, in_definitions, in_abs, in_chan, in_val, in_vals, in_field_vals, in_labelled_vals, in_proc, in_procs}
-use Rattle.pict_scope.specs.Scopes.{scope_stop, program_marks, outermost}
-use Rattle.pict_rules.specs.DistinctLabels.{IsNewPattern, IsNewValue, AnnotationHasDistinctLabels, PatHasDistinctLabels, FieldPatsHaveDistinctLabels, PatsHaveDistinctLabels, LabelledPatsAreDistinct, DecHasDistinctLabels, DecsHaveDistinctLabels, DefinitionsHaveDistinctLabels, AbsHasDistinctLabels, ChanHasDistinctLabels, ValHasDistinctLabels, ValsHaveDistinctLabels, FieldValsHaveDistinctLabels, LabelledValsAreDistinct, ProcHasDistinctLabels, ProcsHaveDistinctLabels}
-use Rattle.pict_rules.specs.SameNames.{EachMark, IsNoStop}
-use Rattle.pict_rules.proofs.SameNamesAsked.{left, right}
-use Rattle.pict_rules.proofs.ReachedNames.{none_stops}
+use Rattle.pict_scope.specs.Scopes.{outermost}
+use Rattle.pict_scope.specs.DistinctLabels.{IsNewLabel, HasDistinctLabels, TypesHaveDistinctLabels, AreDistinct, BindersHaveDistinctLabels, BinderHasDistinctLabels, BoundHasDistinctLabels, IsNewPattern, IsNewValue, AnnotationHasDistinctLabels, PatHasDistinctLabels, FieldPatsHaveDistinctLabels, PatsHaveDistinctLabels, LabelledPatsAreDistinct, DecHasDistinctLabels, DecsHaveDistinctLabels, DefinitionsHaveDistinctLabels, AbsHasDistinctLabels, ChanHasDistinctLabels, ValHasDistinctLabels, ValsHaveDistinctLabels, FieldValsHaveDistinctLabels, LabelledValsAreDistinct, ProcHasDistinctLabels, ProcsHaveDistinctLabels}
+use Rattle.pict_scope.specs.Laws.{NoLabelTwice}
+use Rattle.pict_scope.proofs.Clean.{left_clean, right_clean}
 
 -- what stands in the group of a place stands in it further on
 values_group : (xs : List Id) (a : Around) → (with_values xs a).group ≡ a.group
@@ -65,25 +64,22 @@ not_before o a n h = go (is_among a.group n) refl
     go true e = absurd (no_way (group_grows o a n e) h)
 
 -- a name that is no refusal isn't in the group yet
-not_yet : (b : Bool) (c : Code) (x : Id) → EachMark IsNoStop (twice_if b c x) → b ≡ false
+not_yet : (b : Bool) (c : Code) (x : Id) → first_stop (twice_if b c x) ≡ None → b ≡ false
 not_yet false c x h = refl
-not_yet true c x h = absurd (stopped (h.each (stands_twice c x.span) (inl refl)))
-  where
-    stopped : IsNoStop (stands_twice c x.span) → ⊥
-    stopped e = cc
+not_yet true c x h = absurd cc
 
 -- an outline in which no rule fails, at some place
 record IsClean (o : Outline) : Type 0 where
   around : Around
-  clean : EachMark IsNoStop (marks o around)
+  clean : first_stop (marks o around) ≡ None
 
 first : {o p : Outline} → IsClean (o ▸ p) → IsClean o
 unfolding marks
-first h = record { around = h.around; clean = left _ _ h.clean }
+first {o = o} {p = p} h = record { around = h.around; clean = left_clean (marks o h.around) (marks p (opens o h.around)) h.clean }
 
 second : {o p : Outline} → IsClean (o ▸ p) → IsClean p
 unfolding marks
-second {o = o} h = record { around = opens o h.around; clean = right (marks o h.around) _ h.clean }
+second {o = o} {p = p} h = record { around = opens o h.around; clean = right_clean (marks o h.around) (marks p (opens o h.around)) h.clean }
 
 in_closed : {o : Outline} → IsClean (closed o) → IsClean o
 unfolding marks
@@ -91,28 +87,36 @@ in_closed h = record { around = h.around; clean = h.clean }
 
 in_group : {o : Outline} → IsClean (group o) → IsClean o
 unfolding marks
-in_group h = record { around = _; clean = h.clean }
+in_group h = record { around = with_group [] h.around; clean = h.clean }
 
 in_binding : {x : Id} {o : Outline} → IsClean (binds_type x o) → IsClean o
 unfolding marks
-in_binding h = record { around = _; clean = h.clean }
+in_binding h = record { around = past_type h.around; clean = h.clean }
 
 in_pattern_type : {x : Id} {o : Outline} → IsClean (pattern_type x o) → IsClean o
 unfolding marks
-in_pattern_type h = record { around = _; clean = right _ _ h.clean }
+in_pattern_type {x = x} {o = o} h = record { around = past_type h.around; clean = right_clean (twice_if_bound (nearest h.around.pattern_types x.name.0) x) (marks o (past_type h.around)) h.clean }
 
 of_pattern : {o p : Outline} → IsClean (pattern o p) → IsClean o
 unfolding marks
-of_pattern h = record { around = _; clean = left _ _ h.clean }
+of_pattern {o = o} {p = p} h =
+    let a = before_pattern h.around in
+    record { around = a; clean = left_clean (marks o a) (marks p (behind_pattern h.around (opens o a))) h.clean }
 
 behind_pattern_ : {o p : Outline} → IsClean (pattern o p) → IsClean p
 unfolding marks
-behind_pattern_ {o = o} h = record { around = _; clean = right (marks o _) _ h.clean }
+behind_pattern_ {o = o} {p = p} h =
+    let a = before_pattern h.around in
+    let b = behind_pattern h.around (opens o a) in
+    record { around = b; clean = right_clean (marks o a) (marks p b) h.clean }
 
 -- a list that grows by a label and what it labels: the label is not in the group before it
 label_new : {o p : Outline} {c : Code} {x : Id} (h : IsClean (o ▸ once c x ▸ p)) → is_among (opens o h.around).group x.name.0 ≡ false
 unfolding marks
-label_new {o = o} {c = c} {x = x} h = not_yet (is_among (opens o h.around).group x.name.0) c x (left _ _ (right (marks o h.around) _ h.clean))
+label_new {o = o} {p = p} {c = c} {x = x} h =
+    let a = opens o h.around in
+    let b = is_among a.group x.name.0 in
+    not_yet b c x (left_clean (twice_if b c x) (marks p (opens (once c x) a)) (right_clean (marks o h.around) (marks (once c x ▸ p) a) h.clean))
 
 new_type : (n : ℕ) (ls : LabelledTypes) (a : Around) → is_among (opens (in_labelled_types ls) a).group n ≡ false → IsNewLabel n ls
 unfolding opens
@@ -266,5 +270,5 @@ mutual
   procs_distinct no_procs h = tt
   procs_distinct (more_procs ps p) h = (procs_distinct ps (first h), proc_distinct p (second h))
 
-pub scoped_distinct : (names : List (List ℕ)) (p : Decs) → scope_stop names p ≡ None → DecsHaveDistinctLabels p
-scoped_distinct names p h = decs_distinct p (record { around = outermost names; clean = record { each = none_stops (program_marks names p) h } })
+pub scoped_distinct : NoLabelTwice
+scoped_distinct texts p h = decs_distinct p (record { around = outermost texts; clean = h })
