@@ -11,6 +11,7 @@ mod lexing;
 mod parsing;
 mod running;
 mod sample;
+mod scoping;
 
 use anyhow::Error;
 use pict_syntax::TEXT_LIMIT;
@@ -47,6 +48,10 @@ fn main(rt: HostRuntime) -> Result<(), Error> {
         deriving::measure_groups(&rt, groups, size, timed)?;
     }
     deep::try_all(&rt)?;
+    let text = scoping::many_names(rt.alloc(), size)?;
+    scoping::measure(&rt, "many names", &text, timed)?;
+    let text = scoping::deep(rt.alloc())?;
+    scoping::measure(&rt, "a deep record", &text, timed)?;
     let servers = if timed { 300 } else { 10 };
     running::measure(&rt, "a ring", servers, Work::HandsOn, size, timed)?;
     running::measure(
