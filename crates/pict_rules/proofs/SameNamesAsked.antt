@@ -82,9 +82,6 @@ reads r v = record { around = r.around; types_ = r.types_; values = v; each_mark
 reads_types : {Q : Mark → Type 0} {s : Sort} {e : Environment} {j : Judgement s} → IsReadAs Q s e j → ReadsTypes Q e (outline_of j)
 reads_types r = record { around = r.around; types_ = r.types_; each_mark = r.each_mark }
 
-its_types : {Q : Mark → Type 0} {e : Environment} {o : Outline} → Reads Q e o → ReadsTypes Q e o
-its_types x = record { around = x.around; types_ = x.types_; each_mark = x.each_mark }
-
 knows_of : {Q : Mark → Type 0} {e : Environment} {o : Outline} (x : Reads Q e o) → Knows e x.around
 knows_of x = record { types_ = x.types_; values = x.values }
 

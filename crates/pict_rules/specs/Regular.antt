@@ -208,9 +208,13 @@ IsGood e _ x = Unit {0}
 -- regularity: what is judged in a regular environment, with what is well formed and without a label twice, gives what is well
 -- formed
 abbrev pub Regularity : Type 0
-Regularity = (s : Sort) (e : Environment) (j : Judgement s) (x : Result s) → IsLabelledOnce j → IsRegular e → IsAsked e j → Runs (rule e j) (ok x) → IsGood e j x
+Regularity =
+    (s : Sort) (e : Environment) (j : Judgement s) (x : Result s) → IsLabelledOnce j → IsRegular e → IsAsked e j
+    → Runs (rule e j) (ok x) → IsGood e j x
 
 -- so in a program in which no rule of scopes fails: each judgement that the rules reach is made in a regular environment, of what
 -- is well formed
 abbrev pub ReachedIsRegular : Type 0
-ReachedIsRegular = (names : List (List ℕ)) (p : Decs) (s : Sort) (e : Environment) (j : Judgement s) → scope_stop names p ≡ None → Reached names p s e j → IsLabelledOnce j × (IsRegular e × IsAsked e j)
+ReachedIsRegular =
+    (names : List (List ℕ)) (p : Decs) (s : Sort) (e : Environment) (j : Judgement s) → scope_stop names p ≡ None
+    → Reached names p s e j → IsLabelledOnce j × (IsRegular e × IsAsked e j)

@@ -120,7 +120,9 @@ IsRead Q s e j = IsReadAs Q s e j
 -- whatever judgement the rules reach from a program, in an environment, the scopes of the program read what is judged at a
 -- place around which the names are those of the environment
 abbrev pub SameNames : Type 0
-SameNames = (names : List (List ℕ)) (p : Decs) (s : Sort) (e : Environment) (j : Judgement s) → Reached names p s e j → IsRead (StandsIn (program_marks names p)) s e j
+SameNames =
+    (names : List (List ℕ)) (p : Decs) (s : Sort) (e : Environment) (j : Judgement s) → Reached names p s e j
+    → IsRead (StandsIn (program_marks names p)) s e j
 
 -- a mark that is no refusal
 abbrev pub IsNoStop : Mark → Type 0
@@ -128,12 +130,18 @@ IsNoStop m = or_later m None ≡ None
 
 -- and no rule of scopes fails there, where none fails in the program
 abbrev pub NoStopIsReached : Type 0
-NoStopIsReached = (names : List (List ℕ)) (p : Decs) (s : Sort) (e : Environment) (j : Judgement s) → scope_stop names p ≡ None → Reached names p s e j → IsRead IsNoStop s e j
+NoStopIsReached =
+    (names : List (List ℕ)) (p : Decs) (s : Sort) (e : Environment) (j : Judgement s) → scope_stop names p ≡ None
+    → Reached names p s e j → IsRead IsNoStop s e j
 
 -- a use of a value has a binder among the values of the environment, or else it is a primitive
 abbrev pub IsKnownValue : Environment → ℕ → Type 0
-IsKnownValue e n = ((t : PlainType) × (known_type e.values n ≡ Some t)) ⊎ ((known_type e.values n ≡ None) × ((p : Primitive) × (primitive_named (text_of e.names n) ≡ Some p)))
+IsKnownValue e n =
+    ((t : PlainType) × (known_type e.values n ≡ Some t))
+    ⊎ ((known_type e.values n ≡ None) × ((p : Primitive) × (primitive_named (text_of e.names n) ≡ Some p)))
 
 -- so each value that is used is known, where no rule of scopes fails
 abbrev pub UsesAreKnown : Type 0
-UsesAreKnown = (names : List (List ℕ)) (p : Decs) (e : Environment) (i : Span) (n : Name) → scope_stop names p ≡ None → Reached names p type_ e (gives (of_chan (use_chan i n))) → IsKnownValue e n.0
+UsesAreKnown =
+    (names : List (List ℕ)) (p : Decs) (e : Environment) (i : Span) (n : Name) → scope_stop names p ≡ None
+    → Reached names p type_ e (gives (of_chan (use_chan i n))) → IsKnownValue e n.0

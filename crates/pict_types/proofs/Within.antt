@@ -5,6 +5,7 @@ use Rattle.pict_types.specs.Renaming.{rename}
 use Rattle.pict_types.specs.Replacing.{bound_by, Filling, next_variable, apply_variable, filling_beyond, filling_beyond_all, fill, fill_types, fill_labels, fill_bounds, fill_bound}
 use Rattle.pict_types.specs.Measures.{weigh, weigh_types, weigh_labels, weigh_bounds, weigh_variable, weights_under, rise, rise_types, rise_labels, rise_bounds, rise_variable, heights_under}
 use Rattle.pict_types.proofs.Renumbered.{weigh_renamed, rise_renamed}
+use Rattle.pict_types.proofs.Congruent.{three}
 
 -- a variable with the bound that a type makes measures no less than the type
 pub bound_weight : (ws : List ℕ) (t : PlainType) (n : ℕ) → weigh_variable ws (bound_by t) ≤ n → weigh ws t ≤ n
@@ -54,9 +55,6 @@ within_under : (bs : PlainBounds) {w h : ℕ} {ws hs : List ℕ} {s r : Filling}
 within_under no_bound e = e
 within_under (bounds b bs) {ws = ws} {hs = hs} {s = s} e =
     within_under bs (within_beyond (weigh_variable ws (fill_bound s b)) (rise_variable hs (fill_bound s b)) e)
-
-three : {A B C D : Type 0} (k : A → B → C → D) {a a' : A} {b b' : B} {c c' : C} → a ≡ a' → b ≡ b' → c ≡ c' → k a b c ≡ k a' b' c'
-three k p q r = cc
 
 applied_within : (w h : ℕ) (ws hs : List ℕ) (o : Option ℕ) (us vs : PlainTypes) → (weigh_types ws us ≤ w → rise_types hs us ≤ h → us ≡ vs) → weigh ws (apply_variable o us) ≤ w → rise hs (apply_variable o us) ≤ h → apply_variable o us ≡ apply_variable o vs
 applied_within w h ws hs None us vs k p q = refl
