@@ -417,7 +417,10 @@ fn outputs_have_these_places(rt: HostRuntime) -> Result<(), Fail> {
         (b"val x = [1 2]", b"8-13 "),
         (b"val f = \\x:Int = printi!x", b"17-25 8-25 "),
         // a fold of a simple value has the fold's place, any other fold that of what is in it
-        (b"new c:^Top val x = (rec c) val y = (rec (+ 1 2))", b"40-47 19-26 "),
+        (
+            b"new c:^Top val x = (rec c) val y = (rec (+ 1 2))",
+            b"40-47 19-26 ",
+        ),
     ];
     for (text, wanted) in rows {
         assert!(rt; has_places(rt.alloc(), text, wanted)?);
