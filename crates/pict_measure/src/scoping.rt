@@ -74,7 +74,7 @@ pub fn deep(alloc: Global) -> Result<Vec<u8>, AllocError> {
 }
 
 /// The program of a text, or nothing where it is refused or longer than a text may be.
-fn program_of(alloc: Global, names: &mut Names, text: &[u8]) -> Result<Option<Program>, Error> {
+pub fn program_of(alloc: Global, names: &mut Names, text: &[u8]) -> Result<Option<Program>, Error> {
     if text.len() as u64 > TEXT_LIMIT {
         return Ok(None);
     }
