@@ -25,9 +25,10 @@ fn write_primitive(p: Prim, out: &mut Vec<u8>) -> Result<(), AllocError> {
     out.extend_from_slice(name)
 }
 
+/// Writes a number below 100.
 fn write_number(n: u64, out: &mut Vec<u8>) -> Result<(), AllocError> {
     if n >= 10 {
-        write_number(n / 10, out)?;
+        out.push(b'0' + (n / 10 % 10) as u8)?;
     }
     out.push(b'0' + (n % 10) as u8)?;
     Ok(())
