@@ -75,13 +75,13 @@ pub fn deep(alloc: Global) -> Result<Vec<u8>, AllocError> {
 
 /// A program with its names.
 #[derive(Drop)]
-struct Parsed {
-    names: Names,
-    program: Program,
+pub struct Parsed {
+    pub names: Names,
+    pub program: Program,
 }
 
 /// The program of a text, or nothing where it is refused or longer than a text may be.
-fn parsed(alloc: Global, text: &[u8]) -> Result<Option<Parsed>, Error> {
+pub fn parsed(alloc: Global, text: &[u8]) -> Result<Option<Parsed>, Error> {
     if text.len() as u64 > TEXT_LIMIT {
         return Ok(None);
     }
