@@ -1,5 +1,5 @@
 pub mod Numbering
-mod Rebuilding
+pub mod Rebuilding
 mod Agreeing
 pub mod Levels
 mod Framed
