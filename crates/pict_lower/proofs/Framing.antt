@@ -48,8 +48,8 @@ pub is_frame : (n : ℕ) (p : Process) (levels : List ℕ) → Rises 0 levels
 is_frame n p levels rises same =
     same_levels 0 levels (frame_of n p) rises (frame_rises n p)
     (λ level. same level
-      ∙ cut_each (nat_lt level n) (in_operands level p) (has level (frame_at (parts n p) 0)) (has level (frame_at (parts n p) 1)) (occurs level p) (in_one_of n level p)
-      ∙ sym (frame_has n p level))
+    ∙ cut_each (nat_lt level n) (in_operands level p) (has level (frame_at (parts n p) 0)) (has level (frame_at (parts n p) 1)) (occurs level p) (in_one_of n level p)
+    ∙ sym (frame_has n p level))
 
 option_rises : (q : Option Place) → Rises 0 (frame_of_option q)
 option_rises None = tt
@@ -82,9 +82,9 @@ without_operands n p first second left right union none raw e f l r u rises empt
     let is : raw ≡ [] = nil_from_length raw (grind (arith, nat_tests)) in
     is_frame n p union rises
     (λ level.
-      let nothing : in_operands level p ≡ false = sym (ap (λ x. has level x || in_operands level p) empty) ∙ sym (operands level) ∙ ap (has level) is in
-      parts_has n p first second left right union e f l r u level
-      ∙ ap (λ b. b || ((nat_lt level n && has level (frame_at (parts n p) 0)) || (nat_lt level n && has level (frame_at (parts n p) 1)))) (and_none (nat_lt level n) ∙ ap (λ b. nat_lt level n && b) (sym nothing)))
+    let nothing : in_operands level p ≡ false = sym (ap (λ x. has level x || in_operands level p) empty) ∙ sym (operands level) ∙ ap (has level) is in
+    parts_has n p first second left right union e f l r u level
+    ∙ ap (λ b. b || ((nat_lt level n && has level (frame_at (parts n p) 0)) || (nat_lt level n && has level (frame_at (parts n p) 1)))) (and_none (nat_lt level n) ∙ ap (λ b. nat_lt level n && b) (sym nothing)))
 
 -- with them in order, each once, and cut at n
 pub with_operands : (n : ℕ) (p : Process) (first second left right union none raw ordered lent cut whole : List ℕ) → first ≡ frame_at (parts n p) 0 → second ≡ frame_at (parts n p) 1
@@ -95,9 +95,9 @@ pub with_operands : (n : ℕ) (p : Process) (first second left right union none 
 with_operands n p first second left right union none raw ordered lent cut whole e f l r u empty operands same is below rises both =
     is_frame n p whole rises
     (λ level.
-      let own : has level lent ≡ in_operands level p = ap (has level) is ∙ same level ∙ operands level ∙ ap (λ x. has level x || in_operands level p) empty in
-      both level ∙ ap (λ b. b || has level union) (below level ∙ ap (λ b. nat_lt level n && b) own)
-      ∙ ap (λ b. (nat_lt level n && in_operands level p) || b) (parts_has n p first second left right union e f l r u level))
+    let own : has level lent ≡ in_operands level p = ap (has level) is ∙ same level ∙ operands level ∙ ap (λ x. has level x || in_operands level p) empty in
+    both level ∙ ap (λ b. b || has level union) (below level ∙ ap (λ b. nat_lt level n && b) own)
+    ∙ ap (λ b. (nat_lt level n && in_operands level p) || b) (parts_has n p first second left right union e f l r u level))
 
 pub both_ok : {T E : Type 0} {P Q S : T → Type 0} (r : Result T E) → ((x : T) → P x → Q x → S x) → IfOk r P → IfOk r Q → IfOk r S
 both_ok (Ok x) f h k = f x h k

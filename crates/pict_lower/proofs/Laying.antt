@@ -37,8 +37,8 @@ frame_there nodes k x h is =
     let count : length (map plain_node nodes) ≡ length nodes = length-map nodes plain_node in
     let turned : length (reverse (map plain_node nodes)) ≡ length nodes = length-reverse (map plain_node nodes) ∙ count in
     let found : get_or (reverse (map plain_node nodes)) k (plain_node x) ≡ plain_node x =
-      get_or-reverse (map plain_node nodes) k (plain_node x) (omega arith) ∙ ap (λ n. get_or (map plain_node nodes) (n - 1 - k) (plain_node x)) count
-      ∙ get_map plain_node nodes (length nodes - 1 - k) x ∙ ap plain_node (sym is) in
+    get_or-reverse (map plain_node nodes) k (plain_node x) (omega arith) ∙ ap (λ n. get_or (map plain_node nodes) (n - 1 - k) (plain_node x)) count
+    ∙ get_map plain_node nodes (length nodes - 1 - k) x ∙ ap plain_node (sym is) in
     ap (λ (n : Node). n.frame) (sym found) ∙ ap frame_or_none (sym (slice_get-get_or (reverse (map plain_node nodes)) k (plain_node x) (omega arith)))
 
 pub frame_past : (nodes : List code.Node) (k : ℕ) → length nodes ≤ k → [] ≡ frame_back true (reverse (map plain_node nodes)) k
@@ -156,10 +156,10 @@ pub laid_more : (number : ℕ) (p : Place) (rest : List Place) (nodes nodes' : L
     → IsLaid (number + 1) (all_places (parts_of p ++ rest)) nodes sizes → IsLaid number (all_places (p ∷ rest)) nodes' sizes'
 laid_more number p rest nodes nodes' sizes sizes' node count e f is same laid = record {
   nodes = ap (λ l. reverse (map plain_node l)) e ∙ ap reverse (map-append plain_node nodes (node ∷ [])) ∙ reverse-append (map plain_node nodes) (plain_node node ∷ [])
-    ∙ ap (λ n. n ∷ reverse (map plain_node nodes)) is ∙ ap (λ l. node_of number p ∷ l) (laid.nodes ∙ ap (λ k. nodes_from k (all_places (parts_of p ++ rest))) (omega arith))
-    ∙ ap (nodes_from number) (sym (opened p rest));
+      ∙ ap (λ n. n ∷ reverse (map plain_node nodes)) is ∙ ap (λ l. node_of number p ∷ l) (laid.nodes ∙ ap (λ k. nodes_from k (all_places (parts_of p ++ rest))) (omega arith))
+      ∙ ap (nodes_from number) (sym (opened p rest));
   sizes = ap reverse f ∙ reverse-append sizes (count ∷ []) ∙ ap (λ n. n ∷ reverse sizes) same ∙ ap (λ l. size p.process ∷ l) laid.sizes
-    ∙ ap (map (λ (q : Place). size q.process)) (sym (opened p rest));
+      ∙ ap (map (λ (q : Place). size q.process)) (sym (opened p rest));
 }
 
 map_reverse : {A B : Type 0} (f : A → B) (xs : List A) → map f (reverse xs) ≡ reverse (map f xs)
@@ -185,7 +185,7 @@ next_from ps i x h is f =
     let count : length (map plain_place ps) ≡ length ps = length-map ps plain_place in
     let head : get_or (map plain_place ps) i (plain_place x) ≡ plain_place x = get_map plain_place ps i x ∙ ap plain_place (sym is) in
     let front : plain_place x ∷ drop (i + 1) (map plain_place ps) ≡ f.first ∷ all_places (parts_of f.first ++ f.rest) =
-      ap (λ p. p ∷ drop (i + 1) (map plain_place ps)) (sym head) ∙ sym (drop_more (map plain_place ps) i (plain_place x) (omega arith)) ∙ f.here ∙ opened f.first f.rest in
+    ap (λ p. p ∷ drop (i + 1) (map plain_place ps)) (sym head) ∙ sym (drop_more (map plain_place ps) i (plain_place x) (omega arith)) ∙ f.here ∙ opened f.first f.rest in
     let same : f.first ≡ plain_place x = cc in
     record {
       rest = f.rest;

@@ -41,9 +41,11 @@ rises_from : (low : ℕ) (xs : List ℕ) → (0 < length xs → low ≤ get_or x
 rises_from low [] h up = tt
 rises_from low (x ∷ []) h up = (h (omega arith), tt)
 rises_from low (x ∷ y ∷ ys) h up =
-    let next : x + 1 ≤ y = let less : x < y = up 0 (omega arith) in omega arith in
-    (h (omega arith), rises_from (x + 1) (y ∷ ys) (λ _. next)
-      (λ k within. let e : suc k + 1 ≡ suc (k + 1) = omega arith in subst (λ j. get_or (y ∷ ys) k 0 < get_or (x ∷ y ∷ ys) j 0) e (up (suc k) (omega (arith, within)))))
+    let next : x + 1 ≤ y = let less : x < y = up 0 (omega arith) in omega arith in (
+      h (omega arith),
+      rises_from (x + 1) (y ∷ ys) (λ _. next)
+          (λ k within. let e : suc k + 1 ≡ suc (k + 1) = omega arith in subst (λ j. get_or (y ∷ ys) k 0 < get_or (x ∷ y ∷ ys) j 0) e (up (suc k) (omega (arith, within)))),
+    )
 
 pub rises : (xs : List ℕ) → IsStrictlyIncreasing xs → Rises 0 xs
 rises xs up = rises_from 0 xs (λ _. omega arith) up
@@ -95,7 +97,7 @@ all_below limit level low zero (x ∷ y ∷ ys) r e h = absurd (omega arith)
 all_below limit level low (suc n) (x ∷ xs) r e h =
     let less : x + 1 ≤ get_or xs n 0 = rises_to (x + 1) n xs r.1 (omega arith) in
     both_low (nat_lt level limit) (level == x) (has level xs) (λ is. let same : level ≡ x = grind (arith, nat_tests) in grind (arith, nat_tests))
-      (all_below limit level (x + 1) n xs r.1 (omega arith) h)
+    (all_below limit level (x + 1) n xs r.1 (omega arith) h)
 
 -- the last of the first levels is not below the limit
 pub cut_once : (limit : ℕ) (levels : List ℕ) (count : ℕ) → 0 < count → count ≤ length levels → limit ≤ get_or levels (count - 1) 0
@@ -116,4 +118,4 @@ cut_done limit levels (suc n) r within low level =
     let last : get_or levels n 0 < limit = subst (λ k. get_or levels k 0 < limit) e (low (omega arith)) in
     let counted : suc n ≡ length (take (suc n) levels) = sym (length-take-le (suc n) levels within) in
     all_below limit level 0 n (take (suc n) levels) (rises_taken 0 (suc n) levels r) counted
-      (subst (λ x. x < limit) (sym (get_or-take (suc n) levels n 0 (omega arith))) last)
+    (subst (λ x. x < limit) (sym (get_or-take (suc n) levels n 0 (omega arith))) last)

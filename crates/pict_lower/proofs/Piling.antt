@@ -43,7 +43,7 @@ pub fewer : (old left new : List code.Place) (p : code.Place) → old ≡ left +
     → length (all_places (waiting new)) < length (all_places (waiting old))
 fewer old left new p e g =
     let f : length (all_places (waiting old)) ≡ suc (length (all_places (waiting new))) =
-      ap (λ l. length (all_places l)) (pushed left old p e) ∙ ap length (opened (plain_place p) (waiting left)) ∙ ap (λ l. suc (length (all_places l))) (sym g) in
+    ap (λ l. length (all_places l)) (pushed left old p e) ∙ ap length (opened (plain_place p) (waiting left)) ∙ ap (λ l. suc (length (all_places l))) (sym g) in
     omega arith
 
 -- ---- from a place on

@@ -53,7 +53,7 @@ module _ (L R made : List ℕ) (l r : ℕ) (ls rs : List ℕ) (m : Merging L R m
     before_left = subst (Rises 0) (sym (append_assoc made (l ∷ []) ls)) m.before_left;
     before_right = subst (Rises 0) (sym (append_assoc made (l ∷ []) rs)) (subst (λ x. Rises 0 (made ++ x ∷ rs)) (sym e) m.before_right);
     same = λ level. ap (λ b. b || (has level ls || has level rs)) (has_append level made (l ∷ [])) ∙ moved_both (has level made) (level == l) (has level ls) (has level rs)
-      ∙ ap (λ x. has level made || (has level (l ∷ ls) || ((level == x) || has level rs))) e ∙ m.same level;
+        ∙ ap (λ x. has level made || (has level (l ∷ ls) || ((level == x) || has level rs))) e ∙ m.same level;
   }
 
 -- one turn of the loop: the lesser of the two, and each rest that begins with it goes on
@@ -75,32 +75,32 @@ module _ (L R made : List ℕ) (i j : ℕ) (in_left : i < length L) (in_right : 
   put : (made' : List ℕ) (x y k k' n n' : ℕ) → made' ≡ made ++ x ∷ [] → x ≡ y → k ≡ k' → n ≡ n' → Merging L R (made ++ y ∷ []) (drop k' L) (drop n' R) → Merging L R made' (drop k L) (drop n R)
   put made' x y k k' n n' e f g h done =
       subst (λ l. Merging L R l (drop k L) (drop n R)) (sym e) (subst (λ z. Merging L R (made ++ z ∷ []) (drop k L) (drop n R)) (sym f)
-        (subst (λ z. Merging L R (made ++ y ∷ []) (drop z L) (drop n R)) (sym g) (subst (λ z. Merging L R (made ++ y ∷ []) (drop k' L) (drop z R)) (sym h) done)))
+      (subst (λ z. Merging L R (made ++ y ∷ []) (drop z L) (drop n R)) (sym g) (subst (λ z. Merging L R (made ++ y ∷ []) (drop k' L) (drop z R)) (sym h) done)))
 
   pub step : (made' : List ℕ) (x k n : ℕ) → made' ≡ made ++ x ∷ [] → x ≡ min (get_or L i 0) (get_or R j 0)
       → k ≡ i + from_bool (nat_le (get_or L i 0) (get_or R j 0)) → n ≡ j + from_bool (nat_le (get_or R j 0) (get_or L i 0)) → Merging L R made' (drop k L) (drop n R)
   step made' x k n e f g h =
       ⊎_elim
       (λ (less : get_or L i 0 < get_or R j 0).
-        let a : nat_le (get_or L i 0) (get_or R j 0) ≡ true = grind (arith, nat_tests) in
-        let b : nat_le (get_or R j 0) (get_or L i 0) ≡ false = grind (arith, nat_tests) in
-        let lesser : x ≡ get_or L i 0 = omega arith in
-        let on : n ≡ j = h ∙ ap (λ t. j + from_bool t) b ∙ omega arith in
-        put made' x (get_or L i 0) k (i + 1) n j e lesser (g ∙ ap (λ t. i + from_bool t) a) on (left_goes less))
+      let a : nat_le (get_or L i 0) (get_or R j 0) ≡ true = grind (arith, nat_tests) in
+      let b : nat_le (get_or R j 0) (get_or L i 0) ≡ false = grind (arith, nat_tests) in
+      let lesser : x ≡ get_or L i 0 = omega arith in
+      let on : n ≡ j = h ∙ ap (λ t. j + from_bool t) b ∙ omega arith in
+      put made' x (get_or L i 0) k (i + 1) n j e lesser (g ∙ ap (λ t. i + from_bool t) a) on (left_goes less))
       (λ (high : get_or R j 0 ≤ get_or L i 0). ⊎_elim
-        (λ (more : get_or R j 0 < get_or L i 0).
-          let a : nat_le (get_or L i 0) (get_or R j 0) ≡ false = grind (arith, nat_tests) in
-          let b : nat_le (get_or R j 0) (get_or L i 0) ≡ true = grind (arith, nat_tests) in
-          let lesser : x ≡ get_or R j 0 = omega arith in
-          let on : k ≡ i = g ∙ ap (λ t. i + from_bool t) a ∙ omega arith in
-          put made' x (get_or R j 0) k i n (j + 1) e lesser on (h ∙ ap (λ t. j + from_bool t) b) (right_goes more))
-        (λ (low : get_or L i 0 ≤ get_or R j 0).
-          let same : get_or L i 0 ≡ get_or R j 0 = omega arith in
-          let a : nat_le (get_or L i 0) (get_or R j 0) ≡ true = grind (arith, nat_tests) in
-          let b : nat_le (get_or R j 0) (get_or L i 0) ≡ true = grind (arith, nat_tests) in
-          let lesser : x ≡ get_or L i 0 = omega arith in
-          put made' x (get_or L i 0) k (i + 1) n (j + 1) e lesser (g ∙ ap (λ t. i + from_bool t) a) (h ∙ ap (λ t. j + from_bool t) b) (both_go same))
-        (cases_lt (get_or R j 0) (get_or L i 0)))
+      (λ (more : get_or R j 0 < get_or L i 0).
+      let a : nat_le (get_or L i 0) (get_or R j 0) ≡ false = grind (arith, nat_tests) in
+      let b : nat_le (get_or R j 0) (get_or L i 0) ≡ true = grind (arith, nat_tests) in
+      let lesser : x ≡ get_or R j 0 = omega arith in
+      let on : k ≡ i = g ∙ ap (λ t. i + from_bool t) a ∙ omega arith in
+      put made' x (get_or R j 0) k i n (j + 1) e lesser on (h ∙ ap (λ t. j + from_bool t) b) (right_goes more))
+      (λ (low : get_or L i 0 ≤ get_or R j 0).
+      let same : get_or L i 0 ≡ get_or R j 0 = omega arith in
+      let a : nat_le (get_or L i 0) (get_or R j 0) ≡ true = grind (arith, nat_tests) in
+      let b : nat_le (get_or R j 0) (get_or L i 0) ≡ true = grind (arith, nat_tests) in
+      let lesser : x ≡ get_or L i 0 = omega arith in
+      put made' x (get_or L i 0) k (i + 1) n (j + 1) e lesser (g ∙ ap (λ t. i + from_bool t) a) (h ∙ ap (λ t. j + from_bool t) b) (both_go same))
+      (cases_lt (get_or R j 0) (get_or L i 0)))
       (cases_lt (get_or L i 0) (get_or R j 0))
 
 -- one of the rests is empty at the end
@@ -128,5 +128,5 @@ pub ended : (L R made mid new : List ℕ) (i j : ℕ) → mid ≡ made ++ take (
     → (level : ℕ) → has level new ≡ has level L || has level R
 ended L R made mid new i j e f m level =
     let whole : new ≡ (made ++ drop i L) ++ drop j R =
-      f ∙ ap (λ l. l ++ take (length R - j) (drop j R)) (e ∙ ap (λ l. made ++ l) (take_rest L i)) ∙ ap (λ l. (made ++ drop i L) ++ l) (take_rest R j) in
+    f ∙ ap (λ l. l ++ take (length R - j) (drop j R)) (e ∙ ap (λ l. made ++ l) (take_rest L i)) ∙ ap (λ l. (made ++ drop i L) ++ l) (take_rest R j) in
     ap (has level) whole ∙ ends_same L R made (drop i L) (drop j R) m level

@@ -40,10 +40,7 @@ fn field_variables(levels: &mut Vec<u32>, fields: &[CoreVal]) -> Result<(), Allo
 }
 
 #[cycle(variables)]
-fn labelled_variables(
-    levels: &mut Vec<u32>,
-    fields: &[(Name, CoreVal)],
-) -> Result<(), AllocError>
+fn labelled_variables(levels: &mut Vec<u32>, fields: &[(Name, CoreVal)]) -> Result<(), AllocError>
     ensures { OnOk result ((level : ℕ)
         → has level levels.new.items ≡ has level levels.old.items || in_labelled level (labelled_of (map plain_field fields.now))) }
 {

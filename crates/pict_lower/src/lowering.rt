@@ -31,7 +31,13 @@ pub fn lower(alloc: Global, core: &Core) -> Result<Code, AllocError>
     // A part's own parts stand behind it, so the last one is the first to get its frame.
     while number > 0 {
         number -= 1;
-        add_node(alloc, &mut nodes, &mut sizes, number, places[number as usize])?;
+        add_node(
+            alloc,
+            &mut nodes,
+            &mut sizes,
+            number,
+            places[number as usize],
+        )?;
     }
     nodes.reverse();
     Ok(Code { nodes })
@@ -128,12 +134,7 @@ fn size_back(wanted: bool, sizes: &[u32], back: u32) -> u32
 }
 
 /// The instruction of a part with this number, whose first part has this size.
-fn op_of<'a>(
-    alloc: Global,
-    number: u32,
-    first: u32,
-    place: Place<'a>,
-) -> Result<Op, AllocError>
+fn op_of<'a>(alloc: Global, number: u32, first: u32, place: Place<'a>) -> Result<Op, AllocError>
     ensures { IfOk result (λ op. first ≡ size_at (parts_of (plain_place place.entry)) 0
         → plain_op op ≡ op_of number place.entry.around (plain_core place.entry.process.now)) }
 {
@@ -150,7 +151,14 @@ fn op_of<'a>(
             replicated,
             pattern,
             ..
-        } => input(alloc, place.around, chan, *replicated, pattern, sum(number, 1)?),
+        } => input(
+            alloc,
+            place.around,
+            chan,
+            *replicated,
+            pattern,
+            sum(number, 1)?,
+        ),
         Core::If { test, .. } => {
             let left = sum(number, 1)?;
             Ok(Op::If(test.copy(alloc)?, left, sum(left, first)?))
@@ -159,12 +167,7 @@ fn op_of<'a>(
 }
 
 /// The instruction of an output.
-fn output(
-    alloc: Global,
-    chan: &CoreVal,
-    message: &CoreVal,
-    at: Span,
-) -> Result<Op, AllocError>
+fn output(alloc: Global, chan: &CoreVal, message: &CoreVal, at: Span) -> Result<Op, AllocError>
     ensures { IfOk result (λ op. plain_op op ≡ instruction.Out (plain_val chan.now) (plain_val message.now) at) }
 {
     Ok(Op::Out(chan.copy(alloc)?, message.copy(alloc)?, at))

@@ -15,16 +15,16 @@ pub returns-then-is_empty : goal.returns-then-is_empty
 returns-then-is_empty c =
     let count : length c.operands.new.levels.items ≡ vec_len c.operands.new.levels = omega (arith, c.operands.new.levels.ok.0) in
     without_operands c.args.place.around (plain_core c.args.place.process.now) c.args.first.now c.args.second.now c.below.result.now c.below-2.result.now c.in_ok-parts.parts.items
-      c.new-levels.result.items c.operands.new.levels.items c.requires.first c.requires.second c.below.ensures.below c.below-2.ensures.below c.in_ok-parts.ensures.both c.in_ok-parts.ensures.rises
-      c.new-levels.ensures.items c.in_ok-operands.ensures (ap (λ n. n == 0) count ∙ sym c.is_empty.ensures ∙ c.if-is_empty.true)
+    c.new-levels.result.items c.operands.new.levels.items c.requires.first c.requires.second c.below.ensures.below c.below-2.ensures.below c.in_ok-parts.ensures.both c.in_ok-parts.ensures.rises
+    c.new-levels.ensures.items c.in_ok-operands.ensures (ap (λ n. n == 0) count ∙ sym c.is_empty.ensures ∙ c.if-is_empty.true)
 
 pub returns : goal.returns
 returns c =
     both_ok c.united-2.result
-      (λ whole rises both.
-        with_operands c.args.place.around (plain_core c.args.place.process.now) c.args.first.now c.args.second.now c.below.result.now c.below-2.result.now c.in_ok-parts.parts.items
-          c.new-levels.result.items c.operands.new.levels.items c.in_order-levels.result.items c.deref.result.now c.below-3.result.now whole.items
-          c.requires.first c.requires.second c.below.ensures.below c.below-2.ensures.below c.in_ok-parts.ensures.both
-          c.new-levels.ensures.items c.in_ok-operands.ensures c.in_order-levels.ensures.same c.deref.ensures.value c.below-3.ensures.below rises
-          (λ level. both level ∙ ap (λ l. has level c.below-3.result.now || has level l) c.deref-2.ensures.value))
-      c.united-2.ensures.rises c.united-2.ensures.both
+    (λ whole rises both.
+    with_operands c.args.place.around (plain_core c.args.place.process.now) c.args.first.now c.args.second.now c.below.result.now c.below-2.result.now c.in_ok-parts.parts.items
+    c.new-levels.result.items c.operands.new.levels.items c.in_order-levels.result.items c.deref.result.now c.below-3.result.now whole.items
+    c.requires.first c.requires.second c.below.ensures.below c.below-2.ensures.below c.in_ok-parts.ensures.both
+    c.new-levels.ensures.items c.in_ok-operands.ensures c.in_order-levels.ensures.same c.deref.ensures.value c.below-3.ensures.below rises
+    (λ level. both level ∙ ap (λ l. has level c.below-3.result.now || has level l) c.deref-2.ensures.value))
+    c.united-2.ensures.rises c.united-2.ensures.both

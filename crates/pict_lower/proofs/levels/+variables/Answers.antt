@@ -11,6 +11,6 @@ variables-returns-in_ok-push-in-Var t c = one_variable c.args.levels.now.items c
 pub variables-returns-in_ok-field_variables-in-Fields : goal.variables-returns-in_ok-field_variables-in-Fields
 variables-returns-in_ok-field_variables-in-Fields t c =
     on_ok c.labelled_variables.result
-      (λ second. record_variables c.args.levels.now.items c.field_variables.new.levels.items c.labelled_variables.new.levels.items c.args.value.now c.in-Fields.positional c.in-Fields.labelled
-        c.deref.result.now c.deref-in-Fields.result.now c.in-Fields.is c.deref.ensures.value c.deref-in-Fields.ensures.value c.in_ok-field_variables-in-Fields.ensures second)
-      c.labelled_variables.ensures
+    (λ second. record_variables c.args.levels.now.items c.field_variables.new.levels.items c.labelled_variables.new.levels.items c.args.value.now c.in-Fields.positional c.in-Fields.labelled
+    c.deref.result.now c.deref-in-Fields.result.now c.in-Fields.is c.deref.ensures.value c.deref-in-Fields.ensures.value c.in_ok-field_variables-in-Fields.ensures second)
+    c.labelled_variables.ensures

@@ -16,8 +16,8 @@ returns-clause-rises c = rises_taken 0 c.loop-count.count c.args.levels.now c.re
 pub returns-clause-below : goal.returns-clause-below
 returns-clause-below c =
     λ level.
-      let low : 0 < c.loop-count.count → get_or c.args.levels.now (c.loop-count.count - 1) 0 < c.args.limit = elim c.loop-count-test.branch [
-          then-loop-count-test+else-levels-count w ↦ λ _. omega (arith, w.if-levels-count.false)
-        | else-loop-count-test w ↦ λ h. absurd (omega (arith, h, w.loop-count-test.false))
-        ] in
-      cut_done c.args.limit c.args.levels.now c.loop-count.count c.requires c.loop-count.invariant.0 low level ∙ c.loop-count.invariant.1 level
+    let low : 0 < c.loop-count.count → get_or c.args.levels.now (c.loop-count.count - 1) 0 < c.args.limit = elim c.loop-count-test.branch [
+      | then-loop-count-test+else-levels-count w ↦ λ _. omega (arith, w.if-levels-count.false)
+      | else-loop-count-test w ↦ λ h. absurd (omega (arith, h, w.loop-count-test.false))
+    ] in
+    cut_done c.args.limit c.args.levels.now c.loop-count.count c.requires c.loop-count.invariant.0 low level ∙ c.loop-count.invariant.1 level

@@ -16,10 +16,10 @@ loop-i-preserved c =
       omega (arith, one, c.from-i.ensures),
       omega (arith, other, c.from-j.ensures),
       step L R c.loop-i.made.items i j (omega arith) (omega arith) c.loop-i.invariant.2 c.push.new.self.items c.min.result (i + c.from-i.result) (j + c.from-j.result)
-        c.in_ok-push.ensures.items c.min.ensures (ap (λ n. i + n) c.from-i.ensures) (ap (λ n. j + n) c.from-j.ensures),
+          c.in_ok-push.ensures.items c.min.ensures (ap (λ n. i + n) c.from-i.ensures) (ap (λ n. j + n) c.from-j.ensures),
     )
 
 pub returns-clause-both : goal.returns-clause-both
 returns-clause-both c =
     ended c.args.left.now c.args.right.now c.loop-i.made.items c.extend_from_slice.new.self.items c.extend_from_slice-2.new.self.items c.loop-i.i c.loop-i.j
-      c.in_ok-extend_from_slice.ensures.items c.in_ok-extend_from_slice-2.ensures.items c.loop-i.invariant.2
+    c.in_ok-extend_from_slice.ensures.items c.in_ok-extend_from_slice-2.ensures.items c.loop-i.invariant.2

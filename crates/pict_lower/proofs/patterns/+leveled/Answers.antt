@@ -7,10 +7,10 @@ use Rattle.pict_lower.proofs.patterns.+leveled.Goals as goal
 pub leveled-returns-in_ok-leveled_labelled-in-Fields-clause-pattern : goal.leveled-returns-in_ok-leveled_labelled-in-Fields-clause-pattern
 leveled-returns-in_ok-leveled_labelled-in-Fields-clause-pattern t c =
     record_levels c.args.level.now c.leveled_fields.new.level c.args.pattern.now c.in-Fields.positional c.in-Fields.labelled
-      c.in_ok-leveled_fields-in-Fields.field-0 c.in_ok-leveled_labelled-in-Fields.field-0 c.in-Fields.is
-      (c.in_ok-leveled_fields-in-Fields.ensures.fields ∙ ap (λ l. leveled_each c.args.level.now (map plain_pat l)) c.deref.ensures.value)
-      (c.in_ok-leveled_fields-in-Fields.ensures.level ∙ ap (λ l. c.args.level.now + binds_each (map plain_pat l)) c.deref.ensures.value)
-      (c.in_ok-leveled_labelled-in-Fields.ensures.fields ∙ ap (λ l. leveled_each_labelled c.leveled_fields.new.level (map plain_pat_field l)) c.deref-in-Fields.ensures.value)
+    c.in_ok-leveled_fields-in-Fields.field-0 c.in_ok-leveled_labelled-in-Fields.field-0 c.in-Fields.is
+    (c.in_ok-leveled_fields-in-Fields.ensures.fields ∙ ap (λ l. leveled_each c.args.level.now (map plain_pat l)) c.deref.ensures.value)
+    (c.in_ok-leveled_fields-in-Fields.ensures.level ∙ ap (λ l. c.args.level.now + binds_each (map plain_pat l)) c.deref.ensures.value)
+    (c.in_ok-leveled_labelled-in-Fields.ensures.fields ∙ ap (λ l. leveled_each_labelled c.leveled_fields.new.level (map plain_pat_field l)) c.deref-in-Fields.ensures.value)
 
 pub leveled-returns-in_ok-leveled_labelled-in-Fields-clause-level : goal.leveled-returns-in_ok-leveled_labelled-in-Fields-clause-level
 leveled-returns-in_ok-leveled_labelled-in-Fields-clause-level t c =
