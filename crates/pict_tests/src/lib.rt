@@ -6,6 +6,8 @@ mod codes;
 #[cfg(test)]
 mod parsing;
 #[cfg(test)]
+mod scoping;
+#[cfg(test)]
 mod steps;
 #[cfg(test)]
 mod translation;
