@@ -13,7 +13,7 @@ use Rattle.pict_erase.specs.Embedding.{erased_context}
 
 -- ---- renaming
 
-same_beyond_all : (bs : PlainBounds) (f : ℕ → ℕ) → beyond_all (erased_bounds bs) f ≡ beyond_all bs f
+pub same_beyond_all : (bs : PlainBounds) (f : ℕ → ℕ) → beyond_all (erased_bounds bs) f ≡ beyond_all bs f
 same_beyond_all no_bound f = refl
 same_beyond_all (bounds b bs) f = same_beyond_all bs (beyond f)
 
