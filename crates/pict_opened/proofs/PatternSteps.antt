@@ -280,7 +280,8 @@ module _ (names : List (List ℕ)) (program : Decs) (clean : scope_stop names pr
   gives_step e (fold_pat s None p) r = refuses
   gives_step e (fold_pat s (Some a) p) r =
       unless (kind_stop e.names e.context a) (λ q.
-      in_recursives (normal e.names e.context a) _ _ (λ b is. unless _ (λ z. parts (λ y d r2 g. gives_ (subst (λ u. OpensAgainst e (fold_pat s (Some a) p) u y) (sym is) (fold_opens e s (Some a) p b y g))))))
+      in_recursives (normal e.names e.context a) _ _ (λ b u is un. limits e u s (parts (λ y d2 r2 g. gives_ (
+      subst (λ z. OpensAgainst e (fold_pat s (Some a) p) z y) (sym is) (fold_opens e s (Some a) p b y (subst (λ z. OpensAgainst e p z y) un g)))))))
 
   positional_gives : (e : Environment) (ps : Pats) → Step patterns_ e (patterns_give ps)
   positional_gives e no_pats r = gives_ (no_fields e)
