@@ -1,1 +1,4 @@
 pub mod Standing
+pub mod NamesOnce
+pub mod Binding
+pub mod Realised
