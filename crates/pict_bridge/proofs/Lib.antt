@@ -2,3 +2,4 @@ pub mod Standing
 pub mod NamesOnce
 pub mod Binding
 pub mod Realised
+pub mod SentLists
