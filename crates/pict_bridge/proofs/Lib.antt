@@ -3,3 +3,5 @@ pub mod NamesOnce
 pub mod Binding
 pub mod Realised
 pub mod SentLists
+pub mod FoundStays
+pub mod Meant
