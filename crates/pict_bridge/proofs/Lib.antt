@@ -5,3 +5,4 @@ pub mod Realised
 pub mod SentLists
 pub mod FoundStays
 pub mod Meant
+pub mod Records

@@ -51,19 +51,19 @@ pub data LabelsAreSent (w : World) (a : Around) : LabelledVals → List (ℕ × 
 
 -- ---- longer worlds
 
-all_longer : {w v : World} (us : List core.Val) (ts : List PlainType) → AreClosedTypes w.names w.messages → Longer w v → HaveAll w us ts → HaveAll v us ts
+pub all_longer : {w v : World} (us : List core.Val) (ts : List PlainType) → AreClosedTypes w.names w.messages → Longer w v → HaveAll w us ts → HaveAll v us ts
 all_longer [] [] k l h = tt
 all_longer [] (t ∷ ts) k l h = absurd h
 all_longer (u ∷ us) [] k l h = absurd h
 all_longer (u ∷ us) (t ∷ ts) k l h = (has_longer k l h.0, all_longer us ts k l h.1)
 
-labels_longer : {w v : World} (us : List (ℕ × core.Val)) (ts : List (ℕ × PlainType)) → AreClosedTypes w.names w.messages → Longer w v → HaveAtLabels w us ts → HaveAtLabels v us ts
+pub labels_longer : {w v : World} (us : List (ℕ × core.Val)) (ts : List (ℕ × PlainType)) → AreClosedTypes w.names w.messages → Longer w v → HaveAtLabels w us ts → HaveAtLabels v us ts
 labels_longer [] [] k l h = tt
 labels_longer [] (t ∷ ts) k l h = absurd h
 labels_longer (u ∷ us) [] k l h = absurd h
 labels_longer (u ∷ us) (t ∷ ts) k l h = (h.0, has_longer k l h.1, labels_longer us ts k l h.2)
 
-one_more_has : (w : World) (us : List core.Val) (ts : List PlainType) (u : core.Val) (t : PlainType) → HaveAll w us ts → HasType w u t → HaveAll w (us ++ u ∷ []) (ts ++ t ∷ [])
+pub one_more_has : (w : World) (us : List core.Val) (ts : List PlainType) (u : core.Val) (t : PlainType) → HaveAll w us ts → HasType w u t → HaveAll w (us ++ u ∷ []) (ts ++ t ∷ [])
 one_more_has w [] [] u t h k = (k, tt)
 one_more_has w [] (s ∷ ts) u t h k = absurd h
 one_more_has w (x ∷ us) [] u t h k = absurd h
@@ -113,7 +113,7 @@ labels_sent_longer {a = a} k l (label_sent {v = v} t h f s) = label_sent t (labe
 
 -- ---- simple values
 
-abbrev HaveWhereSome : World → Option (List core.Val) → List PlainType → Type 0
+abbrev pub HaveWhereSome : World → Option (List core.Val) → List PlainType → Type 0
 HaveWhereSome w None ts = Unit {0}
 HaveWhereSome w (Some us) ts = HaveAll w us ts
 
@@ -127,7 +127,7 @@ unfolding simple
 simple_have w a no_vals ts none_sent = tt
 simple_have w a (more_vals vs v) ts' (more_sent {ts = ts} t h f s) = one_more_some w (simple_vals a vs) (simple a v) (sending a v) ts t (simple_have w a vs ts h) s.on_its_way
 
-abbrev LabelsWhereSome : World → Option (List (ℕ × core.Val)) → List (ℕ × PlainType) → Type 0
+abbrev pub LabelsWhereSome : World → Option (List (ℕ × core.Val)) → List (ℕ × PlainType) → Type 0
 LabelsWhereSome w None ts = Unit {0}
 LabelsWhereSome w (Some us) ts = HaveAtLabels w us ts
 
