@@ -6,3 +6,6 @@ pub mod SentLists
 pub mod FoundStays
 pub mod Meant
 pub mod Records
+pub mod Judged
+pub mod Whole
+pub mod ValueForms

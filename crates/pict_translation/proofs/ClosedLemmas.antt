@@ -175,7 +175,7 @@ application_over n f s a b of x y = record {
 
 right_over : (n : ℕ) (f : Val) (s : _) (xs : List Argument) → IsOver n 0 f → AllArguments n xs → ArgumentOver n (right f s xs)
 unfolding AllArguments SomeOver Sends
-right_over n f s [] of o = record { value = tt; sends = λ m k le ok. (ok, ok) }
+right_over n f s [] of o = record { value = tt; sends = λ m k le ok. (ok, tt) }
 right_over n f s (a ∷ []) of o = o.0
 right_over n f s (a ∷ b ∷ xs) of o = application_over n f s a (right f s (b ∷ xs)) of o.0 (right_over n f s (b ∷ xs) of o.1)
 
@@ -186,7 +186,7 @@ left_after_over n f s a (b ∷ xs) of one o = left_after_over n f s (application
 
 left_over : (n : ℕ) (f : Val) (s : _) (xs : List Argument) → IsOver n 0 f → AllArguments n xs → ArgumentOver n (left f s xs)
 unfolding AllArguments SomeOver Sends
-left_over n f s [] of o = record { value = tt; sends = λ m k le ok. (ok, ok) }
+left_over n f s [] of o = record { value = tt; sends = λ m k le ok. (ok, tt) }
 left_over n f s (a ∷ xs) of o = left_after_over n f s a xs of o.0 o.1
 
 -- ---- lists of processes and of servers
