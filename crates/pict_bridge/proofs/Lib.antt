@@ -9,3 +9,4 @@ pub mod Records
 pub mod Judged
 pub mod Whole
 pub mod ValueForms
+pub mod FieldForms
