@@ -10,3 +10,5 @@ pub mod Judged
 pub mod Whole
 pub mod ValueForms
 pub mod FieldForms
+pub mod ValueSteps
+pub mod FieldSteps

@@ -226,7 +226,7 @@ one_more_type n no_type h = absurd (omega (arith, h))
 one_more_type zero (types t ts) h = refl
 one_more_type (suc n) (types t ts) h = ap (types t) (one_more_type n ts (omega (arith, h)))
 
-all_types : (n : ℕ) (ts : PlainTypes) → n ≡ count_types ts → first_types n ts ≡ ts
+pub all_types : (n : ℕ) (ts : PlainTypes) → n ≡ count_types ts → first_types n ts ≡ ts
 all_types zero no_type h = refl
 all_types (suc n) no_type h = refl
 all_types zero (types t ts) h = absurd (omega (arith, h))
