@@ -12,3 +12,4 @@ pub mod ValueForms
 pub mod FieldForms
 pub mod ValueSteps
 pub mod FieldSteps
+pub mod ReadForms

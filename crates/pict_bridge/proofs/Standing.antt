@@ -73,7 +73,7 @@ last_variable : (vs : List PlainType) (t : PlainType) → slice_get (vs ++ t ∷
 last_variable [] t = refl
 last_variable (v ∷ vs) t = last_variable vs t
 
-same_shift : (ts : List PlainType) → map (shifted 0) ts ≡ ts
+pub same_shift : (ts : List PlainType) → map (shifted 0) ts ≡ ts
 same_shift [] = refl
 same_shift (t ∷ ts) = ap₂ (λ a b. a ∷ b) (rename_same t (record { each = λ j. omega arith })) (same_shift ts)
 

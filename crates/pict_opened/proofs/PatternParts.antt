@@ -165,6 +165,7 @@ fields_slots names a ps ls = (named (names_in (all_opened names ps)) ++ unnamed_
 -- what the rules add for them is what is opened; the answer's channel has its type, written in what stands after them
 pub record FieldsAdd (e : Environment) (a : Option PlainType) (ps : Pats) (ls : LabelledPats) (own : List KnownType) (ts : PlainTypes) (ms : PlainLabels) (x : Extension) (f : ℕ → ℕ) (c : TypeContext) : Type 0 where
   pub adds : AddsWhatIsOpened e (within own x) f (fields_slots e.names a ps ls) (Opens e.names c (fields_pattern e.names a ps ls) (meaning f (Fields (bounds_of own) (types_and ts a) ms)))
+  pub inside : Embeds (λ i. adds.placed.later (i + opened x)) (erased_context (context_of (with_own e own))) adds.context
   pub answer_at : AnswerHas a (length (names_in (all_opened e.names ps))) x adds.placed.later adds.types_
 
 pub fields_add : (e : Environment) (a : Option PlainType) (ps : Pats) (ls : LabelledPats) (own : List KnownType) (ts : PlainTypes) (ms : PlainLabels) (x : Extension) (c : TypeContext) (f : ℕ → ℕ) → PatternFields e ps ls own ts ms x → Embeds f (erased_context (context_of e)) c → FieldsAdd e a ps ls own ts ms x f c
@@ -176,6 +177,7 @@ fields_add e a ps ls own ts ms x c f g i = record {
       opens = package_opens c f (bounds_of own) (types_and ts a) ms (subst (λ p. Opens e.names under_own p (meaning inner (Fields no_bound (types_and ts a) ms)) r.context r.more r.types_) pattern_same (subst (λ z. Opens e.names under_own (RecordPat (part_pats (and_answer a xs)) (labelled_pats ys)) (meaning inner (Fields no_bound z ms)) r.context r.more r.types_) types_same r.opens));
       as_many = ap length (sym slots_same) ∙ r.as_many;
       placed = record { later = one.later; embeds = within_embeds e own x one.later r.context one.embeds; extends_ = within_extends own x f one.later r.more one.extends_; each = one.each } };
+    inside = subst (λ g. Embeds g (erased_context (context_of e1)) r.context) (λ j i. sym (one.extends_ i) j) r.embeds;
     answer_at = answer_has a (length (part_slots xs)) (length (names_in (all_opened e.names ps))) x inner r.more one.later r.types_ (ap length (parts_named g.positional.fields) ∙ length_named (names_in (map (λ y. y.opened_) g.positional.fields)) ∙ ap (λ z. length (names_in z)) (sym g.positional.are)) one.extends_ r.answer_at }
   where
     e1 : Environment
