@@ -13,3 +13,4 @@ pub mod FieldForms
 pub mod ValueSteps
 pub mod FieldSteps
 pub mod ReadForms
+pub mod DeclarationForms
