@@ -14,3 +14,6 @@ pub mod ValueSteps
 pub mod FieldSteps
 pub mod ReadForms
 pub mod DeclarationForms
+pub mod AbstractionSteps
+pub mod ProcessSteps
+pub mod SourceToCore

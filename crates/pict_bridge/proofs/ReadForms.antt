@@ -40,7 +40,7 @@ use Rattle.pict_opened.specs.Opening.{meaning, named, AddsWhatIsOpened}
 use Rattle.pict_opened.proofs.Joining.{type_after}
 use Rattle.pict_opened.proofs.Opened.{opens_embeds}
 use Rattle.pict_opened.proofs.FieldsOpen.{slice_second}
-use Rattle.pict_opened.proofs.PatternParts.{PatternFields, FieldsAdd, fields_add}
+use Rattle.pict_opened.proofs.PatternParts.{FieldsAdd}
 use Rattle.pict_opened.proofs.PatternSteps.{OpensAgainst}
 use Rattle.pict_bridge.specs.Standing.{Stands}
 use Rattle.pict_bridge.specs.Realising.{around, Realises}
@@ -118,7 +118,7 @@ last_formed : (ns : List (List ℕ)) (ks : List Kind) (ts : PlainTypes) (t : Pla
 last_formed ns ks no_type t h = h.0
 last_formed ns ks (types s ts) t h = last_formed ns ks ts t h.1
 
-pub function_reads : (e : Environment) (s : Span) (bs : TypeBinders) (ps : Pats) (ls : LabelledPats) (o : RType) (v : Val) (own : List KnownType) (ts : PlainTypes) (ms : PlainLabels) (last t : PlainType) (x : Extension) → PatternFields e ps ls own ts ms x
+pub function_reads : (e : Environment) (s : Span) (bs : TypeBinders) (ps : Pats) (ls : LabelledPats) (o : RType) (v : Val) (own : List KnownType) (ts : PlainTypes) (ms : PlainLabels) (last t : PlainType) (x : Extension) → ((c : TypeContext) (f : ℕ → ℕ) → Embeds f (erased_context (context_of e)) c → FieldsAdd e (Some last) ps ls own ts ms x f c)
     → ((m : ℕ) → times m (id_names (field_value_ids (field_pats bs ps ls))) ≤ 1) → value_names x.values ≡ id_names (field_value_ids (field_pats bs ps ls)) → IsTypeIn e (Fields (bounds_of own) (and_type ts last) ms) → IsTypeIn (with_own e own) t → Answers (with_own e own) last t
     → SentBy (extended e (within own x)) v (shifted_by (opened x) t) → ReadsAt e (function_abs s (field_pats bs ps ls) o v) (Fields (bounds_of own) (and_type ts last) ms)
 unfolding sending
@@ -145,7 +145,7 @@ function_reads e s bs ps ls o v own ts ms last t x fields once names q qt ans h 
     slots = (named before ++ None ∷ []) ++ named after
 
     fa : FieldsAdd e (Some last) ps ls own ts ms x f w.type_variables
-    fa = fields_add e (Some last) ps ls own ts ms x w.type_variables f fields r.embeds
+    fa = fields w.type_variables f r.embeds
 
     a : AddsWhatIsOpened e (within own x) f slots (Opens e.names w.type_variables (function_pat e.names fs) (meaning f R))
     a = fa.adds
