@@ -20,7 +20,7 @@ use Rattle.pict_sub.proofs.Exposed.{exposes}
 use Rattle.pict_sub.proofs.Followed.{below_exposed, exposure_formed}
 use Rattle.pict_rules.specs.Shapes.{Function, function_by, with_last, with_answer, sendable, split_last}
 use Rattle.pict_rules.specs.Environments.{Environment, Extension, KnownType, KnownValue, context_of, extended, opened, bounds_of, within, shifted_by}
-use Rattle.pict_rules.specs.Rules.{nothing_, type_, signatures_, signature_, abstraction_gives, abstraction_against, signatures, signature, bodies, body, Signature, Body, process_body, value_body, TypedFields, TypedPattern, OpenedFields, pattern_gives, pattern_against, fields_give, fields_against, Judgement, Sort}
+use Rattle.pict_rules.specs.Rules.{nothing_, type_, signatures_, signature_, abstraction_gives, abstraction_against, signatures, signature, bodies, body, Signature, Body, process_body, value_body, TypedFields, TypedPattern, OpenedFields, give, within_limits, pattern_gives, pattern_against, fields_give, fields_against, Judgement, Sort}
 use Rattle.pict_rules.specs.Clauses.{with_own, argument_type, answering}
 use Rattle.pict_rules.specs.Derivations.{Holds}
 use Rattle.pict_rules.specs.Reached.{Reached}
@@ -180,7 +180,7 @@ module _ (names : List (List ℕ)) (program : Decs) (clean : scope_stop names pr
       function_reads e s bs ps ls (Some a) v g.own g.positional g.labelled (Chan Respond t) t g.adds (given_fields e bs ps ls g (Chan Respond t) r2 d) (function_names_once s (field_pats bs ps ls) (Some a) v once.around once.each_mark) (result_has (fields_named e (field_pats bs ps ls)) d).adds_.values (argument_formed e g t w.0 qt) qt (answers_itself (with_own e g.own) t) h)))))
   abstraction_step e (function_abs s (field_pats bs ps ls) None v) r =
       let once : IsReadAs IsNoStop _ e (abstraction_gives (function_abs s (field_pats bs ps ls) None v)) = no_stop_is_reached names program _ e (abstraction_gives (function_abs s (field_pats bs ps ls) None v)) clean r in
-      parts (λ g d r2 u. parts (λ t d3 r3 h. outside (opened g.adds) t Y14 (val_span v) (λ z is m. limits e (argument_type g z) s (gives_ (
+      parts (λ g d r2 u. parts (λ t d3 r3 h. outside (opened g.adds) t Y14 (val_span v) {k = λ z. within_limits e (argument_type g z) s (give (argument_type g z))} (λ z is m. limits e (argument_type g z) s (gives_ (
       let w = well g clean r2 d in
       let qt : IsTypeIn (with_own e g.own) z = subst (IsTypeIn (with_own e g.own)) (sym is) (lowered_out e g.own g.adds t m (well t clean r3 d3)) in
       let back : shifted_by (opened g.adds) z ≡ t = ap (shifted_by (opened g.adds)) is ∙ lowered_moved (opened g.adds) t m in

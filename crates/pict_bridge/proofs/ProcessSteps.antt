@@ -15,9 +15,9 @@ use Rattle.pict_sub.proofs.Exposed.{exposes}
 use Rattle.pict_sub.proofs.Followed.{below_exposed}
 use Rattle.pict_rules.specs.Complete.{is_complete}
 use Rattle.pict_rules.specs.Environments.{Environment, context_of, extended, one_value, defined}
-use Rattle.pict_rules.specs.Rules.{nothing_, environment_, declaration, declarations, process, processes, receives}
+use Rattle.pict_rules.specs.Rules.{nothing_, environment_, declaration, declarations, process, processes, receives, pattern_gives, pattern_against, TypedPattern}
 use Rattle.pict_rules.specs.Clauses.{with_parameters_in, may_send, may_receive}
-use Rattle.pict_rules.specs.Regular.{IsTypeIn}
+use Rattle.pict_rules.specs.Regular.{IsTypeIn, IsGood}
 use Rattle.pict_rules.specs.SameNames.{IsReadAs, IsNoStop}
 use Rattle.pict_rules.proofs.Results.{result_has}
 use Rattle.pict_rules.proofs.ReachedNames.{no_stop_is_reached}
@@ -137,6 +137,9 @@ more_processes : (e : Environment) (ps : Procs) (p : Proc) → ProcessesStand e 
 unfolding sending
 more_processes e ps p h k vs f w r = each_last (Stands w) (procs_core (around e vs) ps) (proc_core (around e vs) p) (h vs f w r) (k vs f w r)
 
+pattern_type : (e : Environment) (p : Pat) (g : TypedPattern) → IsGood e (pattern_gives p) g → IsTypeIn e g.has
+pattern_type e p g h = h.0
+
 -- ---- the steps
 
 module _ (names : List (List ℕ)) (program : Decs) (clean : scope_stop names program ≡ None) where
@@ -150,8 +153,8 @@ module _ (names : List (List ℕ)) (program : Decs) (clean : scope_stop names pr
       let once : IsReadAs IsNoStop _ e (declaration (let_dec s p v)) = no_stop_is_reached names program _ e (declaration (let_dec s p v)) clean r in
       let one : (m : ℕ) → times m (id_names (value_ids p)) ≤ 1 = λ m. pattern_once p (in_val v) once.around m once.each_mark in
       splits (is_complete e.names e.context p)
-      (λ c. parts (λ g d r2 u. parts (λ x d3 r3 h. gives_ (let_declared e s p v g.has g.adds (patterns_open names program clean e _ g r2 d) one (result_has (pattern_named e p) d).values (well g clean r2 d).0 h))))
-      (λ c. parts (λ t d r2 h. parts (λ x d3 r3 u. gives_ (let_declared e s p v t x (patterns_open names program clean e _ x r3 d3) one (result_has (against_named e p t) d3).values (well t clean r2 d) h))))
+      (λ c. parts (λ g d r2 u. parts (λ x d3 r3 h. gives_ (let_declared e s p v g.has g.adds (patterns_open names program clean e (pattern_gives p) g r2 d) one (result_has (pattern_named e p) d).values (pattern_type e p g (well g clean r2 d)) h))))
+      (λ c. parts (λ t d r2 h. parts (λ x d3 r3 u. gives_ (let_declared e s p v t x (patterns_open names program clean e (pattern_against p t) x r3 d3) one (result_has (against_named e p t) d3).values (well t clean r2 d) h))))
   declaration_step e (def_dec s ds) r = parts (λ ss d r2 h. parts (λ x d3 r3 k. gives_ (def_declared e s ds ss (well ss clean r2 d) h k)))
   declaration_step e (alias_dec s x t) r = unless (kind_stop e.names e.context t) (λ q. gives_ (same_declared e _ (alias_dec s x t) (alias_is s x t) refl (defined_realised e x _)))
   declaration_step e (operator_dec s x xs t) r = unless (kind_stop e.names (with_parameters_in e xs).context t) (λ q. gives_ (same_declared e _ (operator_dec s x xs t) (operator_is s x xs t) refl (defined_realised e x _)))

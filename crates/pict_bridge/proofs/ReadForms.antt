@@ -114,7 +114,7 @@ pub record Answers (e : Environment) (last t : PlainType) : Type 0 where
   pub sends : IsSubtype (context_of e) last (Chan capability type_)
   pub below : IsSubtype (context_of e) t type_
 
-last_formed : (ns : List (List ℕ)) (ks : List Kind) (ts : PlainTypes) (t : PlainType) → AreWellFormed ns ks (and_type ts t) → IsWellFormed ns ks t
+pub last_formed : (ns : List (List ℕ)) (ks : List Kind) (ts : PlainTypes) (t : PlainType) → AreWellFormed ns ks (and_type ts t) → IsWellFormed ns ks t
 last_formed ns ks no_type t h = h.0
 last_formed ns ks (types s ts) t h = last_formed ns ks ts t h.1
 
