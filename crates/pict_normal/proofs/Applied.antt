@@ -1,7 +1,7 @@
 -- The body of an operator with its arguments measures what it does with their measures, and is the same where arguments
 -- that are too high are left out.
-use Rattle.std.proofs.Common.{◌≡◌, ℕ, zero, suc, ◌+◌, ◌≤◌, List, [], ◌∷◌, ◌++◌, length, reverse, Bool, true, false, refl, sym, ◌∙◌, ap, subst, arith, append_assoc}
-use Rattle.std.specs.Prelude.{if◌then◌else◌, nat_lt}
+use Rattle.std.proofs.Common.{◌≡◌, ℕ, zero, suc, ◌+◌, ◌≤◌, List, [], ◌∷◌, ◌++◌, length, reverse, Bool, refl, sym, ◌∙◌, ap, subst, arith, append_assoc}
+use Rattle.std.specs.Prelude.{if◌then◌else◌}
 use Rattle.std.proofs.lemmas.Bool.{le-ltb}
 use Rattle.std.proofs.lemmas.List.{reverse-append}
 use Rattle.pict_types.specs.Types.{PlainType, Top, Int, Char, Str, Boolean, Var, Apply, Chan, Fields, Rec, PlainTypes, no_type, types, count_types}
@@ -12,7 +12,7 @@ use Rattle.pict_types.specs.Types.{is_top}
 use Rattle.pict_normal.specs.Made.{kept_as, kept_of, built_as, built_of, weigh_each, rise_each, only_used}
 use Rattle.pict_types.proofs.Held.{Alike, alike, HeldAlike, alike_more, weigh_held, rise_held}
 use Rattle.pict_types.proofs.MeasuredAlike.{TopsAlike, WeighAlike, RiseAlike, is_head, weigh_filled, rise_filled}
-use Rattle.pict_normal.proofs.Within.{SameWithin, fill_within}
+use Rattle.pict_types.proofs.Within.{SameWithin, fill_within}
 
 pub count_kept : (us : PlainTypes) → count_types (kept_of us) ≡ count_types us
 count_kept no_type = refl

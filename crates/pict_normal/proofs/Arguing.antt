@@ -6,12 +6,11 @@ use Rattle.std.proofs.lemmas.List.{append-nil}
 use Rattle.pict_normal.specs.declared.arguments.Arguments.{Arguments}
 use Rattle.pict_normal.specs.declared.made.Made.{Made}
 use Rattle.pict_types.specs.declared.measure.Measures.{Measures}
-use Rattle.pict_types.specs.declared.types.Ty.{Ty}
 use Rattle.pict_types.specs.Types.{PlainType, PlainTypes, no_type, types, count_types}
 use Rattle.pict_normal.specs.Made.{IsMade, AreArguments, kept_as, kept_of, built_as, built_of, weigh_each, rise_each}
 use Rattle.pict_types.specs.Measures.{held, weigh, rise}
 use Rattle.pict_normal.specs.Normal.{and_type}
-use Rattle.pict_types.specs.Plain.{plain, plain_types}
+use Rattle.pict_types.specs.Plain.{plain_types}
 use Rattle.pict_types.proofs.Rows.{then_types, types_then_none}
 
 pub record ArgumentsSoFar (ws hs : List ℕ) (a : Arguments) (all rest : PlainTypes) : Type 0 where
@@ -19,10 +18,6 @@ pub record ArgumentsSoFar (ws hs : List ℕ) (a : Arguments) (all rest : PlainTy
   pub heights : map (λ m. m.height) a.measures.items ++ rise_each hs rest ≡ rise_each hs all
   pub kept : then_types (plain_types a.kept.items) (kept_of rest) ≡ kept_of all
   pub types_ : then_types (plain_types a.types.items) (built_of hs rest) ≡ built_of hs all
-
-pub types_last : (xs : List Ty) (x : Ty) → plain_types (xs ++ x ∷ []) ≡ and_type (plain_types xs) (plain x)
-types_last [] x = refl
-types_last (y ∷ xs) x = ap (types (plain y)) (types_last xs x)
 
 and_then : (ts : PlainTypes) (u : PlainType) (us : PlainTypes) → then_types (and_type ts u) us ≡ then_types ts (types u us)
 and_then no_type u us = refl

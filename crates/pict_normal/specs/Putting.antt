@@ -1,5 +1,5 @@
 -- What stands for a variable, and for the variables of a type.
-use Rattle.std.specs.Prelude.{◌≡◌, ℕ, ◌+◌, ◌≤◌, ◌<◌, ◌^◌, List, [], ◌∷◌, length, take}
+use Rattle.std.specs.Prelude.{◌≡◌, ℕ, ◌+◌, ◌≤◌, ◌<◌, ◌^◌, List, [], length, take}
 use Rattle.pict_types.specs.declared.context.Context.{Context}
 use Rattle.pict_types.specs.declared.measure.Measures.{Measures}
 use Rattle.pict_normal.specs.declared.put.Put.{Put}
@@ -80,4 +80,5 @@ pub record IsUnder (p : Puts) (outer inner : List Measures) (bs : PlainBounds) :
   pub outer_ : take (length outer) inner ≡ outer
   pub count : length inner ≡ length outer + count_bounds bs
   pub weights_ : weights_in p inner ≡ weights_under (weights_in p outer) (replace_bounds (replacement_in p outer) bs)
-  pub heights_ : (i : ℕ) → held (measure_at (heights_in p inner) i) ≡ held (measure_at (heights_under (heights_in p outer) (replace_bounds (replacement_in p outer) bs)) i)
+  pub heights_ : (i : ℕ)
+      → held (measure_at (heights_in p inner) i) ≡ held (measure_at (heights_under (heights_in p outer) (replace_bounds (replacement_in p outer) bs)) i)

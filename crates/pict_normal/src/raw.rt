@@ -24,7 +24,7 @@ use std::alloc::Global;
 /// The type of a tree, where each name is the variable of its binder in `inner` or of its entry, which come after
 /// these. It is refused at the first place in reading order where a rule of kinds fails.
 #[cycle(raw)]
-#[tactic(auto, unfolding(pict_syntax::specs::PlainTrees::type_of), using(crate::proofs::Trees::fields_type_is, crate::proofs::Trees::apply_type_is))]
+#[tactic(auto, unfolding(pict_syntax::specs::PlainTrees::type_of), using(crate::proofs::Trees::list_forms))]
 pub fn raw_type(
     alloc: Global,
     t: &TypeTree,
@@ -93,7 +93,7 @@ fn raw_recursion(
 }
 
 #[cycle(raw)]
-#[tactic(auto, using(crate::proofs::Trees::types_step, crate::proofs::Trees::types_end, crate::proofs::Trees::types_none, crate::proofs::Trees::nodes_of_type_item))]
+#[tactic(auto, using(crate::proofs::Trees::types_read))]
 fn raw_types(
     alloc: Global,
     ts: &[TypeTree],

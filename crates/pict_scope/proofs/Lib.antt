@@ -1,8 +1,14 @@
-pub mod Numbers
 pub mod Layering
 pub mod Groups
 pub mod Clean
+pub mod LabelsScoped
 pub mod Growing
 pub mod Reading
+pub mod LookUp
+pub mod KnownBinders
+pub mod BindersRead
 pub mod TypeForms
 pub mod PatternForms
+pub mod ValueForms
+pub mod Placing
+pub mod Resolved
