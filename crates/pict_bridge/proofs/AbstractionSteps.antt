@@ -26,7 +26,7 @@ use Rattle.pict_rules.specs.Derivations.{Holds}
 use Rattle.pict_rules.specs.Reached.{Reached}
 use Rattle.pict_rules.specs.Regular.{IsRegular, IsTypeIn, kinds_in, IsGood}
 use Rattle.pict_rules.specs.SameNames.{IsReadAs, IsNoStop, EachMark}
-use Rattle.pict_rules.specs.DistinctLabels.{AnnotationHasDistinctLabels}
+use Rattle.pict_scope.specs.DistinctLabels.{AnnotationHasDistinctLabels}
 use Rattle.pict_rules.proofs.Results.{result_has}
 use Rattle.pict_rules.proofs.ReachedNames.{no_stop_is_reached}
 use Rattle.pict_rules.proofs.SameNamesAsked.{left}
@@ -34,7 +34,7 @@ use Rattle.pict_rules.proofs.BoundIds.{value_ids, field_value_ids}
 use Rattle.pict_rules.proofs.Names.{id_names, pattern_named, against_named, fields_named, fields_against_named}
 use Rattle.pict_rules.proofs.OwnBinders.{own_context}
 use Rattle.pict_rules.proofs.RegularExpanded.{expands_well}
-use Rattle.pict_rules.proofs.RegularProcesses.{exposed_formed, context_formed}
+use Rattle.pict_rules.proofs.RegularProcesses.{exposed_formed}
 use Rattle.pict_rules.proofs.RegularFields.{own_kinds, own_regular}
 use Rattle.pict_rules.proofs.RegularDeclarations.{argument_formed, lowered_out}
 use Rattle.pict_typing.specs.Erasing.{erased_capability}

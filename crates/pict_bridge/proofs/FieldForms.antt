@@ -15,7 +15,7 @@ use Rattle.pict_normal.specs.Normal.{and_type}
 use Rattle.pict_rules.specs.Shapes.{Function, applicable, function_by, respond_or_write, split_last, put_first, with_last, with_answer}
 use Rattle.pict_rules.specs.Environments.{Environment, context_of}
 use Rattle.pict_rules.specs.Regular.{IsTypeIn, kinds_in}
-use Rattle.pict_rules.specs.DistinctLabels.{LabelledValsAreDistinct}
+use Rattle.pict_scope.specs.DistinctLabels.{LabelledValsAreDistinct}
 use Rattle.pict_translation.specs.Placed.{output}
 use Rattle.pict_translation.specs.Simple.{Around, fields_of, simple}
 use Rattle.pict_translation.specs.Translation.{sending, sending_chan}

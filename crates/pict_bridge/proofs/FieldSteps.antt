@@ -24,7 +24,7 @@ use Rattle.pict_rules.specs.Shapes.{Function, applicable, is_written, all_writte
 use Rattle.pict_rules.specs.Environments.{Environment, context_of}
 use Rattle.pict_rules.specs.Rules.{Sort, Result, types_, labels_, arguments_, found_, type_, Rule, values_give, labelled_values_give, application, fields_fit, written_arguments, values_fit, labelled_values_fit, value_fits, given_fits}
 use Rattle.pict_rules.specs.Clauses.{within_bound, within_bounds, is_of_kind, in_order, found_first}
-use Rattle.pict_rules.specs.DistinctLabels.{LabelledValsAreDistinct, FieldValsHaveDistinctLabels}
+use Rattle.pict_scope.specs.DistinctLabels.{LabelledValsAreDistinct, FieldValsHaveDistinctLabels}
 use Rattle.pict_rules.specs.Regular.{IsTypeIn}
 use Rattle.pict_rules.proofs.RegularArguments.{with_found_formed}
 use Rattle.pict_rules.proofs.RegularProcesses.{exposed_formed}

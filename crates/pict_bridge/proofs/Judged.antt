@@ -19,7 +19,7 @@ use Rattle.pict_rules.specs.Typing.{rule}
 use Rattle.pict_rules.specs.Derivations.{Holds}
 use Rattle.pict_rules.specs.Reached.{Reached}
 use Rattle.pict_rules.specs.Regular.{IsLabelledOnce, IsRegular, IsAsked, IsGood, IsTypeIn}
-use Rattle.pict_rules.specs.DistinctLabels.{LabelledValsAreDistinct}
+use Rattle.pict_scope.specs.DistinctLabels.{LabelledValsAreDistinct}
 use Rattle.pict_rules.proofs.RegularAll.{regularity, reached_regular}
 use Rattle.pict_translation.specs.Placed.{Placed}
 use Rattle.pict_translation.specs.Simple.{Around, simple_chan}

@@ -11,9 +11,10 @@ use Rattle.pict_types.specs.Kinds.{Kind, kinds, AreWellFormed, LabelsAreWellForm
 use Rattle.pict_sub.specs.Subtyping.{IsSubtype, same, by_fields, AreSubtypes, none, more, HasLabels, has_none, has_label}
 use Rattle.pict_core.specs.Term as core
 use Rattle.pict_core.specs.Closed as closed
-use Rattle.pict_rules.specs.DistinctLabels.{LabelledValsAreDistinct}
+use Rattle.pict_scope.specs.DistinctLabels.{LabelledValsAreDistinct}
 use Rattle.pict_translation.specs.Placed.{Placed, output}
-use Rattle.pict_translation.specs.Arguments.{vals_of, labelled_of}
+use Rattle.pict_core.specs.Plain.{vals_of}
+use Rattle.pict_translation.specs.Arguments.{labelled_of}
 use Rattle.pict_translation.specs.Simple.{Around, fields_of, simple, simple_vals, simple_labelled}
 use Rattle.pict_translation.specs.Translation.{sending, with_fields, with_labelled}
 use Rattle.pict_typing.specs.Worlds.{World, IsType}

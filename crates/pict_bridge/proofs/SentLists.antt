@@ -11,10 +11,11 @@ use Rattle.pict_core.specs.Term as core
 use Rattle.pict_core.specs.Closed as closed
 use Rattle.pict_normal.specs.Normal.{with_labelled_type}
 use Rattle.pict_normal.proofs.RawFormed.{IsNew, with_labelled_type_formed}
-use Rattle.pict_rules.specs.DistinctLabels.{IsNewValue, LabelledValsAreDistinct}
+use Rattle.pict_scope.specs.DistinctLabels.{IsNewValue, LabelledValsAreDistinct}
 use Rattle.pict_rules.specs.Regular.{Lacks}
 use Rattle.pict_translation.specs.Placed.{Placed}
-use Rattle.pict_translation.specs.Arguments.{vals_of, labelled_of}
+use Rattle.pict_core.specs.Plain.{vals_of}
+use Rattle.pict_translation.specs.Arguments.{labelled_of}
 use Rattle.pict_translation.specs.Simple.{Around, one_more, simple, simple_vals, simple_labelled}
 use Rattle.pict_translation.specs.Translation.{sending, with_vals, with_labelled}
 use Rattle.pict_typing.specs.Worlds.{World, IsType}

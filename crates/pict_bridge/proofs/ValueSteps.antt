@@ -16,7 +16,7 @@ use Rattle.pict_rules.specs.Environments.{Environment, context_of, opened_since,
 use Rattle.pict_rules.specs.Rules.{nothing_, type_, Result, gives, has, is_condition, values_give, labelled_values_give, give}
 use Rattle.pict_rules.specs.Clauses.{gives_below}
 use Rattle.pict_rules.specs.Regular.{IsTypeIn, IsGood}
-use Rattle.pict_rules.specs.DistinctLabels.{FieldValsHaveDistinctLabels}
+use Rattle.pict_scope.specs.DistinctLabels.{FieldValsHaveDistinctLabels}
 use Rattle.pict_rules.proofs.RegularExpanded.{expands_well}
 use Rattle.pict_rules.proofs.RegularValues.{use_formed}
 use Rattle.pict_translation.specs.Simple.{use_of, simple}

@@ -5,7 +5,7 @@ use Rattle.pict_types.specs.Types.{Capability, Both, Read, Write, Respond, Plain
 use Rattle.pict_types.specs.Renaming.{beyond, beyond_all, beyond_times, rename, rename_types, rename_labels, rename_bounds, rename_bound, bound_at, bound_of, moved}
 use Rattle.pict_types.specs.Replacing.{bound_by, Filling, next_variable, apply_variable, filling_beyond, filling_beyond_all, fill, fill_types, fill_labels, fill_bound, fill_bounds, with_type, with_types, no_filling, applied, Head, variable, operator, nothing, apply_head, rename_head, Replacement, replacement_beyond, replacement_beyond_all, replace, replace_types, replace_labels, replace_bound, replace_bounds, arguments, with_args, with_arg, type_in, head_in, no_replacement, unfolding_of}
 use Rattle.pict_types.specs.Kinds.{Kind, proper, operator_of, kind_by, kinds, kinds_under, with_parameters, StandsBeforeAll, IsWellFormed, AreWellFormed, LabelsAreWellFormed, BoundsAreWellFormed, BoundIsWellFormed, ArgIsWellFormed}
-use Rattle.pict_types.proofs.Renamed.{three}
+use Rattle.pict_types.proofs.Congruent.{three}
 use Rattle.pict_sub.specs.Subtyping.{Rises, read_read, both_read, Falls, write_write, respond_write, both_write, respond_respond, IsSubtype, same, through, below_top, below_bound, upward, downward, by_fields, AreSubtypes, none, more, HasLabels, has_none, has_label}
 use Rattle.pict_typing.specs.Erasing.{erased, erased_types, erased_labels, erased_bound, erased_bounds, erased_capability}
 use Rattle.pict_typing.specs.Worlds.{IsTypeIn}

@@ -34,7 +34,7 @@ use Rattle.pict_rules.specs.Rules.{Sort, Result, Judgement, gives, has, is_condi
 use Rattle.pict_rules.specs.Derivations.{Holds}
 use Rattle.pict_rules.specs.Typing.{rule}
 use Rattle.pict_rules.specs.Reached.{Reached}
-use Rattle.pict_rules.specs.DistinctLabels.{IsNewPattern, LabelledPatsAreDistinct}
+use Rattle.pict_scope.specs.DistinctLabels.{IsNewPattern, LabelledPatsAreDistinct}
 use Rattle.pict_rules.specs.Regular.{IsLabelledOnce, IsRegular, IsAsked, IsGood, IsTypeIn, kinds_in, Lacks, AreOfPatterns}
 use Rattle.pict_rules.proofs.RegularAll.{regularity, reached_regular}
 use Rattle.pict_rules.proofs.RegularExpanded.{expands_well}
