@@ -46,7 +46,8 @@ use Rattle.pict_opened.proofs.PatternParts.{PatternFields, FieldsAdd, fields_add
 use Rattle.pict_opened.proofs.PatternSteps.{OpensAgainst, patterns_open}
 use Rattle.pict_bridge.proofs.NamesOnce.{times, pattern_once, function_once}
 use Rattle.pict_bridge.proofs.Realised.{type_means, below_means}
-use Rattle.pict_bridge.proofs.Judged.{Values, SentBy, ProcessStands, ReadsAt, BodyStands, BodiesStand, with_known, SignatureReads, SignaturesRead, no_signature, more_signatures, IsSound, Step, rightly, well}
+use Rattle.pict_bridge.proofs.Judged.{Values, SentBy, ProcessStands, ReadsAt, BodyStands, BodiesStand, with_known, SignatureReads, SignaturesRead, no_signature, more_signatures, IsSound, Step}
+use Rattle.pict_opened.proofs.Rightly.{rightly, well}
 use Rattle.pict_bridge.proofs.FieldForms.{last_and}
 use Rattle.pict_bridge.proofs.ReadForms.{Answers, last_formed, process_reads, function_reads}
 

@@ -15,7 +15,7 @@ use Rattle.pict_normal.specs.Normal.{and_type}
 use Rattle.pict_rules.specs.Shapes.{Function, applicable, function_by, respond_or_write, split_last, put_first, with_last, with_answer}
 use Rattle.pict_rules.specs.Environments.{Environment, context_of}
 use Rattle.pict_rules.specs.Regular.{IsTypeIn, kinds_in}
-use Rattle.pict_scope.specs.DistinctLabels.{LabelledValsAreDistinct}
+use Rattle.pict_scope.specs.DistinctLabels.{LabelledValsAreDistinct, FieldValsHaveDistinctLabels}
 use Rattle.pict_translation.specs.Placed.{output}
 use Rattle.pict_translation.specs.Simple.{Around, fields_of, simple}
 use Rattle.pict_translation.specs.Translation.{sending, sending_chan}
@@ -33,12 +33,15 @@ use Rattle.pict_bridge.proofs.Standing.{longer_more, has_longer, type_longer, cl
 use Rattle.pict_bridge.proofs.Realised.{type_means, below_means, realises_longer}
 use Rattle.pict_bridge.proofs.SentLists.{HaveAll, HaveAtLabels, LabelsAreSent, all_sent_longer, labels_sent_longer, one_more_has, types_list, labels_list}
 use Rattle.pict_bridge.proofs.Records.{fewer_labels, record_sent, record_type, fields_stand, fields_sent}
-use Rattle.pict_bridge.proofs.Meant.{all_meant, instances_mean, label_instances_mean, may_stand, AreWithinBounds}
+use Rattle.pict_bridge.proofs.Meant.{beyond_last, all_meant, instances_mean, label_instances_mean, may_stand, AreWithinBounds}
 use Rattle.pict_bridge.proofs.Judged.{Values, SentBy, FieldsFit, AllFieldsFit, FieldsSent, AllSentBy, LabelsGiven, Wherever, ApplicationSent, meant_types}
 
 -- no label stands twice among the values of fields
 abbrev pub LabelsStandOnce : FieldVals → Type 0
 LabelsStandOnce (field_vals tys us ls) = LabelledValsAreDistinct ls
+
+pub stand_once : (f : FieldVals) → FieldValsHaveDistinctLabels f → LabelsStandOnce f
+stand_once (field_vals ts vs ls) h = h.1.1
 
 pub meant_list : (f : ℕ → ℕ) (ts : PlainTypes) → types_list (meant_types f ts) ≡ meanings f ts
 meant_list f no_type = refl
@@ -46,15 +49,11 @@ meant_list f (types t ts) = ap (types (meaning f t)) (meant_list f ts)
 
 -- ---- packages
 
-beyond_inside : (n : ℕ) (f : ℕ → ℕ) → beyond_times n (beyond f) ≡ beyond (beyond_times n f)
-beyond_inside zero f = refl
-beyond_inside (suc n) f = ap beyond (beyond_inside n f)
-
 under_arguments : (args : List PlainArg) (bs : PlainBounds) (f : ℕ → ℕ) → FitTheirFields args bs → beyond_times (length args) f ≡ beyond_all (erased_bounds bs) f
 under_arguments [] no_bound f h = refl
 under_arguments [] (bounds b bs) f h = absurd h
 under_arguments (a ∷ args) no_bound f h = absurd h
-under_arguments (a ∷ args) (bounds b bs) f h = sym (beyond_inside (length args) f) ∙ under_arguments args bs (beyond f) h.1
+under_arguments (a ∷ args) (bounds b bs) f h = sym (beyond_last (length args) f) ∙ under_arguments args bs (beyond f) h.1
 
 abbrev package_type : (ℕ → ℕ) → (ℕ → ℕ) → PlainBounds → PlainTypes → PlainLabels → PlainType
 package_type f g bs ps ms = Fields (rename_bounds f (erased_bounds bs)) (rename_types g (erased_types ps)) (rename_labels g (erased_labels ms))

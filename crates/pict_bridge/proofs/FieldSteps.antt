@@ -24,7 +24,7 @@ use Rattle.pict_rules.specs.Shapes.{Function, applicable, is_written, all_writte
 use Rattle.pict_rules.specs.Environments.{Environment, context_of}
 use Rattle.pict_rules.specs.Rules.{Sort, Result, types_, labels_, arguments_, found_, type_, Rule, values_give, labelled_values_give, application, fields_fit, written_arguments, values_fit, labelled_values_fit, value_fits, given_fits}
 use Rattle.pict_rules.specs.Clauses.{within_bound, within_bounds, is_of_kind, in_order, found_first}
-use Rattle.pict_scope.specs.DistinctLabels.{LabelledValsAreDistinct, FieldValsHaveDistinctLabels}
+use Rattle.pict_scope.specs.DistinctLabels.{LabelledValsAreDistinct}
 use Rattle.pict_rules.specs.Regular.{IsTypeIn}
 use Rattle.pict_rules.proofs.RegularArguments.{with_found_formed}
 use Rattle.pict_rules.proofs.RegularProcesses.{exposed_formed}
@@ -38,11 +38,12 @@ use Rattle.pict_opened.proofs.PatternSteps.{first_types, all_types}
 use Rattle.pict_bridge.specs.Realising.{around, Realises}
 use Rattle.pict_bridge.proofs.Realised.{type_means}
 use Rattle.pict_bridge.proofs.SentLists.{AreSent, none_sent, more_sent, LabelsAreSent, no_label_sent, label_sent, labels_list, labels_new, put_labels_list, list_lacks}
-use Rattle.pict_bridge.proofs.FoundStays.{Stays, stays_same, stays_on, found_same, given_stay, matched_stays}
+use Rattle.pict_bridge.proofs.FoundStays.{both_true, Stays, stays_same, stays_on, found_same, given_stay, matched_stays}
 use Rattle.pict_bridge.proofs.Meant.{IsWithinBound, AreWithinBounds}
-use Rattle.pict_bridge.proofs.Judged.{Values, Wherever, SentBy, AllSentBy, LabelsGiven, found_types, ValuesFit, LabelsFound, LabelsFit, ValueFits, GivenFits, FieldsSent, FieldsFit, AllFieldsFit, meant_types, IsExpectedAbove, IsSound, Step, rightly, well}
+use Rattle.pict_bridge.proofs.Judged.{Values, Wherever, SentBy, AllSentBy, LabelsGiven, found_types, ValuesFit, LabelsFound, LabelsFit, ValueFits, GivenFits, FieldsSent, FieldsFit, AllFieldsFit, meant_types, IsExpectedAbove, IsSound, Step}
+use Rattle.pict_opened.proofs.Rightly.{rightly, well}
 use Rattle.pict_bridge.proofs.Whole.{sent_above}
-use Rattle.pict_bridge.proofs.FieldForms.{LabelsStandOnce, is_applied, application_sent}
+use Rattle.pict_bridge.proofs.FieldForms.{stand_once, is_applied, application_sent}
 
 -- ---- values that give their types
 
@@ -125,13 +126,13 @@ label_fits e ls l u ms found g h distinct x q y = record { stays = stays_on foun
 
 -- ---- type arguments
 
+none_within : (e : Environment) (bs : PlainBounds) (earlier : List PlainArg) → AreWithinBounds e bs earlier []
+none_within e no_bound earlier = tt
+none_within e (bounds b bs) earlier = tt
+
 within_last : (e : Environment) (bs : PlainBounds) (earlier args : List PlainArg) (a : PlainArg) → AreWithinBounds e bs earlier args → IsWithinBound e (nth_bound (length args) bs) (earlier ++ args) a → AreWithinBounds e bs earlier (args ++ a ∷ [])
 within_last e no_bound earlier args a h k = tt
-within_last e (bounds b bs) earlier [] a h k = (subst (λ z. IsWithinBound e b z a) (append-nil earlier) k, nothing_more bs (earlier ++ a ∷ []))
-  where
-    nothing_more : (bs : PlainBounds) (earlier : List PlainArg) → AreWithinBounds e bs earlier []
-    nothing_more no_bound earlier = tt
-    nothing_more (bounds b bs) earlier = tt
+within_last e (bounds b bs) earlier [] a h k = (subst (λ z. IsWithinBound e b z a) (append-nil earlier) k, none_within e bs (earlier ++ a ∷ []))
 within_last e (bounds b bs) earlier (x ∷ args) a h k = (h.0, within_last e bs (earlier ++ x ∷ []) args a h.1 (subst (λ z. IsWithinBound e (nth_bound (length args) bs) z a) (sym (append_assoc earlier (x ∷ []) args)) k))
 
 -- ---- fields
@@ -147,10 +148,6 @@ labels_replaced f h l t (labels m u ms) e = go (nat_eq l m) refl (labels_replace
     go : (b : Bool) → nat_eq l m ≡ b → (type_at l (label_meanings f (replace_labels (arguments (map argument_in h)) ms)) ≡ Some t → (s : PlainType) × (type_at l ms ≡ Some s) × (meaning f (with_found h s) ≡ t)) → (s : PlainType) × (type_at l (labels m u ms) ≡ Some s) × (meaning f (with_found h s) ≡ t)
     go true q k = let e2 : Some (meaning f (with_found h u)) ≡ Some t = rw q at e in let i : meaning f (with_found h u) ≡ t = cc in (u, rw q refl, i)
     go false q k = let z = k (rw q at e) in (z.0, rw q z.1, z.2)
-
-both_true : (a b : Bool) → (a && b) ≡ true → (a ≡ true) × (b ≡ true)
-both_true true b h = (refl, h)
-both_true false b h = absurd cc
 
 label_written : (ls : LabelledVals) (l : ℕ) (s : PlainType) (ms : PlainLabels) → all_written ms ls ≡ true → type_at l ms ≡ Some s → is_written l ls ≡ true
 label_written ls l s no_label h e = absurd (cc)
@@ -175,9 +172,6 @@ all_fit e us ls bs ps ms found g h args n written is within_ x y = record {
     types_same : found_types h (first_types (count_vals us) ps) ≡ replace_types (arguments args) ps
     types_same = ap (found_types h) (all_types (count_vals us) ps n) ∙ found_replaced h ps ∙ ap (λ args2. replace_types (arguments args2) ps) is
 
-stand_once : (f : FieldVals) → FieldValsHaveDistinctLabels f → LabelsStandOnce f
-stand_once (field_vals ts vs ls) h = h.1.1
-
 -- ---- the steps
 
 module _ (names : List (List ℕ)) (program : Decs) (clean : scope_stop names program ≡ None) where
@@ -200,11 +194,7 @@ module _ (names : List (List ℕ)) (program : Decs) (clean : scope_stop names pr
   labelled_step e (more_labelled_vals ls l u) r = parts (λ ms d r2 h. parts (λ t d2 r3 k. gives_ (one_more_label e ls l u ms t (well t clean r3 d2) h k)))
 
   pub written_step : (e : Environment) (s : Span) (ts : TypeTrees) (bs : PlainBounds) → Step names program arguments_ e (written_arguments s ts bs)
-  written_step e s no_types bs r = gives_ (nothing_more bs)
-    where
-      nothing_more : (bs : PlainBounds) → AreWithinBounds e bs [] []
-      nothing_more no_bound = tt
-      nothing_more (bounds b bs) = tt
+  written_step e s no_types bs r = gives_ (none_within e bs [])
   written_step e s (more_types ts t) bs r =
       parts (λ args d r2 h. unless (arg_stop e.names e.context t) (λ q. ensures (is_of_kind (normal_arg e.names e.context t) (nth_bound (count_trees ts) bs)) K1 (type_span t) (λ z.
       within_ e s (nth_bound (count_trees ts) bs) args (normal_arg e.names e.context t) Y9 (type_span t) (λ k. gives_ (

@@ -135,7 +135,7 @@ set_stays (filled a ∷ f) zero x h = absurd cc
 set_stays (open_slot b ∷ f) zero x h = (tt, stays_same f)
 set_stays (y ∷ f) (suc n) x h = (slot_same y, set_stays f n x h)
 
-both_true : (a b : Bool) → (a && b) ≡ true → (a ≡ true) × (b ≡ true)
+pub both_true : (a b : Bool) → (a && b) ≡ true → (a ≡ true) × (b ≡ true)
 both_true true b h = (refl, h)
 both_true false b h = absurd cc
 

@@ -20,7 +20,6 @@ use Rattle.pict_rules.specs.Derivations.{Holds}
 use Rattle.pict_rules.specs.Reached.{Reached}
 use Rattle.pict_rules.specs.Regular.{IsLabelledOnce, IsRegular, IsAsked, IsGood, IsTypeIn}
 use Rattle.pict_scope.specs.DistinctLabels.{LabelledValsAreDistinct}
-use Rattle.pict_rules.proofs.RegularAll.{regularity, reached_regular}
 use Rattle.pict_translation.specs.Placed.{Placed}
 use Rattle.pict_translation.specs.Simple.{Around, simple_chan}
 use Rattle.pict_translation.specs.Translation.{sending_chan, proc_core, procs_core, reader, dec_core, decs_core}
@@ -205,10 +204,3 @@ IsSound t e j x = Unit {0}
 
 abbrev pub Step : List (List ℕ) → Decs → (s : Sort) → Environment → Judgement s → Type 0
 Step names program s e j = Reached names program s e j → Gives names program IsSound s (IsSound s e j) (rule e j)
-
--- what is judged is rightly asked, and what it gives is well formed
-pub rightly : {names : List (List ℕ)} {program : Decs} {s : Sort} {e : Environment} {j : Judgement s} → scope_stop names program ≡ None → Reached names program s e j → IsLabelledOnce j × (IsRegular e × IsAsked e j)
-rightly {names = names} {program = program} {s = s} {e = e} {j = j} clean r = reached_regular names program s e j clean r
-
-pub well : {names : List (List ℕ)} {program : Decs} {s : Sort} {e : Environment} {j : Judgement s} (x : Result s) → scope_stop names program ≡ None → Reached names program s e j → Holds e j x → IsGood e j x
-well {s = s} {e = e} {j = j} x clean r d = let k = rightly clean r in regularity s e j x k.0 k.1.0 k.1.1 d

@@ -55,7 +55,7 @@ one_crosses {q = q} {r = r} {g = g} {f = f} a x = record { types_ = go; heads_ =
     go2 zero = first_head a
     go2 (suc i) = x.heads_ i
 
-beyond_last : (n : ℕ) (g : ℕ → ℕ) → beyond_times n (beyond g) ≡ beyond (beyond_times n g)
+pub beyond_last : (n : ℕ) (g : ℕ → ℕ) → beyond_times n (beyond g) ≡ beyond (beyond_times n g)
 beyond_last zero g = refl
 beyond_last (suc n) g = ap beyond (beyond_last n g)
 

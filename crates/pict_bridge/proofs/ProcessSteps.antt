@@ -35,14 +35,15 @@ use Rattle.pict_typing.specs.Worlds.{World, IsType}
 use Rattle.pict_typing.specs.Processes as typed
 use Rattle.pict_opened.specs.Opening.{meaning}
 use Rattle.pict_opened.proofs.Reaching.{Gives, gives_, refuses, needs, parts, splits, ensures, unless, in_channels, in_boths}
-use Rattle.pict_opened.proofs.FieldsOpen.{Each}
+use Rattle.pict_opened.proofs.FieldsOpen.{Each, each_last}
 use Rattle.pict_opened.proofs.PatternSteps.{patterns_open}
 use Rattle.pict_bridge.specs.Standing.{Stands, OnItsWay}
 use Rattle.pict_bridge.specs.Realising.{around, Realises}
 use Rattle.pict_bridge.proofs.Standing.{has_longer, type_longer, way_up, with_stands}
 use Rattle.pict_bridge.proofs.NamesOnce.{times, pattern_once}
 use Rattle.pict_bridge.proofs.Realised.{type_means, below_means, realises_longer}
-use Rattle.pict_bridge.proofs.Judged.{Values, SentBy, ProcessStands, ProcessesStand, ReadsAt, Receives, Declares, IsSound, Step, rightly, well}
+use Rattle.pict_bridge.proofs.Judged.{Values, SentBy, ProcessStands, ProcessesStand, ReadsAt, Receives, Declares, IsSound, Step}
+use Rattle.pict_opened.proofs.Rightly.{rightly, well}
 use Rattle.pict_bridge.proofs.DeclarationForms.{follows_longer, none_declared, more_declared, new_declared, run_declared, let_declared, await_declared, same_declared, def_declared}
 
 -- ---- declarations of types leave nothing
@@ -124,10 +125,6 @@ group_stands e d s ds ps n h k vs f w r =
 inert_stands : (e : Environment) (s : Span) → ProcessStands e (inert_proc s)
 unfolding sending
 inert_stands e s vs f w r = typed.inert
-
-each_last : {A : Type 0} (P : A → Type 0) (xs : List A) (y : A) → Each P xs → P y → Each P (xs ++ y ∷ [])
-each_last P [] y h k = (k, tt)
-each_last P (x ∷ xs) y h k = (h.0, each_last P xs y h.1 k)
 
 no_process : (e : Environment) → ProcessesStand e no_procs
 unfolding sending

@@ -40,7 +40,7 @@ use Rattle.pict_opened.specs.Opening.{meaning, named, AddsWhatIsOpened}
 use Rattle.pict_opened.proofs.Joining.{type_after}
 use Rattle.pict_opened.proofs.Opened.{opens_embeds}
 use Rattle.pict_opened.proofs.FieldsOpen.{slice_second}
-use Rattle.pict_opened.proofs.PatternParts.{FieldsAdd}
+use Rattle.pict_opened.proofs.PatternParts.{FieldsAdd, length_named}
 use Rattle.pict_opened.proofs.PatternSteps.{OpensAgainst}
 use Rattle.pict_bridge.specs.Standing.{Stands}
 use Rattle.pict_bridge.specs.Realising.{around, Realises}
@@ -63,10 +63,6 @@ count_inside w n ts = length-append (map (shifted n) w.variables) ts ∙ ap (λ 
 -- what follows what is opened
 pub opened_follows : (e : Environment) (x : Extension) (f : ℕ → ℕ) (w : World) (slots : List (Option ℕ)) (opening : TypeContext → ℕ → List PlainType → Type 0) (p : AddsWhatIsOpened e x f slots opening) → Embeds (moved p.more 0) w.type_variables p.context → Follows e f w (extended e x) p.placed.later (worlds.opened p.context p.more p.types_ w)
 opened_follows e x f w slots opening p i = record { more = p.more; count = opened x; grows = opened_grows w p.context p.more p.types_ i; length_ = count_added x.binders e.context; extends_ = p.placed.extends_ }
-
-length_named : (ns : List ℕ) → length (named ns) ≡ length ns
-length_named [] = refl
-length_named (n ∷ ns) = ap suc (length_named ns)
 
 -- x?p = rest, where the rest stands after the pattern
 pub pattern_reads : (e : Environment) (p : Pat) (t : PlainType) (x : Extension) (rest : Around → Placed) → OpensAgainst e p t x → ((m : ℕ) → times m (id_names (value_ids p)) ≤ 1) → value_names x.values ≡ id_names (value_ids p) → IsTypeIn e t

@@ -4,13 +4,13 @@ use Rattle.pict_syntax.specs.Trees.{Decs}
 use Rattle.pict_core.specs.Term as core
 use Rattle.pict_scope.specs.Scopes.{scope_stop}
 use Rattle.pict_rules.specs.Environments.{Environment, no_environment}
-use Rattle.pict_rules.specs.Rules.{Sort, Judgement, gives, has, is_condition, values_give, labelled_values_give, application, fields_fit, written_arguments, values_fit, labelled_values_fit, value_fits, given_fits, abstraction_gives, abstraction_against, pattern_gives, fields_give, binders_give, patterns_give, labelled_patterns_give, pattern_against, fields_against, binders_against, patterns_against, labelled_patterns_against, declaration, declarations, signatures, signature, bodies, body, process, processes, receives, Rule, give, refuse, need, either, part}
+use Rattle.pict_rules.specs.Rules.{Sort, Judgement, gives, has, is_condition, values_give, labelled_values_give, application, fields_fit, written_arguments, values_fit, labelled_values_fit, value_fits, given_fits, abstraction_gives, abstraction_against, pattern_gives, fields_give, binders_give, patterns_give, labelled_patterns_give, pattern_against, fields_against, binders_against, patterns_against, labelled_patterns_against, declaration, declarations, signatures, signature, bodies, body, process, processes, receives}
 use Rattle.pict_rules.specs.Reached.{whole}
 use Rattle.pict_translation.specs.Translation.{decs_core}
 use Rattle.pict_typing.specs.Worlds.{World, over}
 use Rattle.pict_typing.specs.Processes as typed
 use Rattle.pict_opened.proofs.Opened.{embeds_same}
-use Rattle.pict_opened.proofs.Reaching.{Gives, gives_, refuses, needs, chooses, parts, by_steps}
+use Rattle.pict_opened.proofs.Reaching.{any_lines, by_steps}
 use Rattle.pict_bridge.specs.Laws.{SourceToCore}
 use Rattle.pict_bridge.specs.Realising.{Realises}
 use Rattle.pict_bridge.proofs.Judged.{Declares, IsSound, Step}
@@ -20,14 +20,6 @@ use Rattle.pict_bridge.proofs.AbstractionSteps.{abstraction_step, against_step, 
 use Rattle.pict_bridge.proofs.ProcessSteps.{declaration_step, declarations_step, process_step, processes_step, receives_step}
 
 module _ (names : List (List ℕ)) (program : Decs) (clean : scope_stop names program ≡ None) where
-  -- nothing more is wanted of patterns
-  any_lines : {s : Sort} (r : Rule s) → Gives names program IsSound s (λ x. Unit {0}) r
-  any_lines (give x) = gives_ tt
-  any_lines (refuse c i) = refuses
-  any_lines (need q c i r) = needs (λ h. any_lines r)
-  any_lines (either q r r') = chooses (λ h. any_lines r) (any_lines r')
-  any_lines (part e j k) = parts (λ x d r g. any_lines (k x))
-
   step : (s : Sort) (e : Environment) (j : Judgement s) → Step names program s e j
   step s e (gives v) r = gives_step names program clean e v r
   step s e (has v t) r = has_step names program clean e v t r
@@ -52,16 +44,16 @@ module _ (names : List (List ℕ)) (program : Decs) (clean : scope_stop names pr
   step s e (process p) r = process_step names program clean e p r
   step s e (processes ps) r = processes_step names program clean e ps r
   step s e (receives c a) r = receives_step names program clean e c a r
-  step s e (pattern_gives p) r = any_lines _
-  step s e (fields_give f) r = any_lines _
-  step s e (binders_give bs) r = any_lines _
-  step s e (patterns_give ps) r = any_lines _
-  step s e (labelled_patterns_give ls) r = any_lines _
-  step s e (pattern_against p t) r = any_lines _
-  step s e (fields_against i f bs ps ms) r = any_lines _
-  step s e (binders_against bs rs) r = any_lines _
-  step s e (patterns_against ps ts) r = any_lines _
-  step s e (labelled_patterns_against ls ms) r = any_lines _
+  step s e (pattern_gives p) r = any_lines names program IsSound _
+  step s e (fields_give f) r = any_lines names program IsSound _
+  step s e (binders_give bs) r = any_lines names program IsSound _
+  step s e (patterns_give ps) r = any_lines names program IsSound _
+  step s e (labelled_patterns_give ls) r = any_lines names program IsSound _
+  step s e (pattern_against p t) r = any_lines names program IsSound _
+  step s e (fields_against i f bs ps ms) r = any_lines names program IsSound _
+  step s e (binders_against bs rs) r = any_lines names program IsSound _
+  step s e (patterns_against ps ts) r = any_lines names program IsSound _
+  step s e (labelled_patterns_against ls ms) r = any_lines names program IsSound _
 
 -- before anything is declared
 nothing_realised : (names : List (List ℕ)) → Realises (no_environment names) [] (λ i. i) (over names [])

@@ -16,7 +16,6 @@ use Rattle.pict_rules.specs.Environments.{Environment, context_of, opened_since,
 use Rattle.pict_rules.specs.Rules.{nothing_, type_, Result, gives, has, is_condition, values_give, labelled_values_give, give}
 use Rattle.pict_rules.specs.Clauses.{gives_below}
 use Rattle.pict_rules.specs.Regular.{IsTypeIn, IsGood}
-use Rattle.pict_scope.specs.DistinctLabels.{FieldValsHaveDistinctLabels}
 use Rattle.pict_rules.proofs.RegularExpanded.{expands_well}
 use Rattle.pict_rules.proofs.RegularValues.{use_formed}
 use Rattle.pict_translation.specs.Simple.{use_of, simple}
@@ -25,10 +24,11 @@ use Rattle.pict_typing.specs.Values.{int_has, char_has, text_has, boolean_has}
 use Rattle.pict_opened.proofs.Reaching.{Gives, gives_, refuses, needs, chooses, parts, ensures, unless, limits, in_records, in_recursives, in_sents, outside}
 use Rattle.pict_bridge.specs.Realising.{around}
 use Rattle.pict_bridge.proofs.Realised.{type_means}
-use Rattle.pict_bridge.proofs.Judged.{SentBy, ReadsAt, ApplicationSent, IsExpectedAbove, IsSound, Step, rightly, well}
+use Rattle.pict_bridge.proofs.Judged.{SentBy, ReadsAt, ApplicationSent, IsExpectedAbove, IsSound, Step}
+use Rattle.pict_opened.proofs.Rightly.{rightly, well}
 use Rattle.pict_bridge.proofs.Whole.{whole_sends, only_sent, sent_above, use_has}
 use Rattle.pict_bridge.proofs.ValueForms.{if_sent_by, lambda_sent_by, fold_sent_by, block_given, block_had, right_sent_by, left_sent_by}
-use Rattle.pict_bridge.proofs.FieldForms.{LabelsStandOnce, fields_had, fields_given}
+use Rattle.pict_bridge.proofs.FieldForms.{stand_once, fields_had, fields_given}
 
 -- ---- values that are sent whole
 
@@ -72,9 +72,6 @@ application_had e s v us t u p q h = sent_above e (of_chan (apply_chan s v us)) 
 
 record_formed : (e : Environment) (vs : Vals) (ls : LabelledVals) (ps : PlainTypes) (ms : PlainLabels) → IsGood e (values_give vs) ps → IsGood e (labelled_values_give ls) ms → IsTypeIn e (Fields no_bound ps ms)
 record_formed e vs ls ps ms h k = (tt, (h, k.0))
-
-stand_once : (f : FieldVals) → FieldValsHaveDistinctLabels f → LabelsStandOnce f
-stand_once (field_vals ts vs ls) h = h.1.1
 
 module _ (names : List (List ℕ)) (program : Decs) (clean : scope_stop names program ≡ None) where
   -- the value gives a subtype of the type

@@ -26,6 +26,14 @@ pub each_by : {A : Type 0} (P Q : A → Type 0) → ((x : A) → P x → Q x) �
 each_by P Q k [] h = tt
 each_by P Q k (x ∷ xs) h = (k x h.0, each_by P Q k xs h.1)
 
+pub each_last : {A : Type 0} (P : A → Type 0) (xs : List A) (y : A) → Each P xs → P y → Each P (xs ++ y ∷ [])
+each_last P [] y h k = (k, tt)
+each_last P (x ∷ xs) y h k = (h.0, each_last P xs y h.1 k)
+
+pub last_of_each : {A : Type 0} (P : A → Type 0) (xs : List A) (y : A) → Each P (xs ++ y ∷ []) → Each P xs × P y
+last_of_each P [] y h = (tt, h.0)
+last_of_each P (x ∷ xs) y h = let z = last_of_each P xs y h.1 in ((h.0, z.0), z.1)
+
 pub slice_first : {A : Type 0} (xs ys : List A) (i : ℕ) (x : A) → slice_get xs i ≡ Some x → slice_get (xs ++ ys) i ≡ Some x
 slice_first [] ys i x e = absurd (cc)
 slice_first (y ∷ xs) ys zero x e = e

@@ -5,5 +5,6 @@ pub mod Placed
 pub mod FieldsOpen
 pub mod Packages
 pub mod Ordered
+pub mod Rightly
 pub mod PatternParts
 pub mod PatternSteps

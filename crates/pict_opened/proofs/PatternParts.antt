@@ -54,7 +54,7 @@ abbrev pub AnswerHas : Option PlainType → ℕ → Extension → (ℕ → ℕ) 
 AnswerHas None place x later ts = Unit {0}
 AnswerHas (Some u) place x later ts = slice_get ts place ≡ Some (meaning later (shifted_by (opened x) u))
 
-length_named : (ns : List ℕ) → length (named ns) ≡ length ns
+pub length_named : (ns : List ℕ) → length (named ns) ≡ length ns
 length_named [] = refl
 length_named (n ∷ ns) = ap suc (length_named ns)
 

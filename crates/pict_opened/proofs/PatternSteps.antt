@@ -36,16 +36,16 @@ use Rattle.pict_rules.specs.Typing.{rule}
 use Rattle.pict_rules.specs.Reached.{Reached}
 use Rattle.pict_scope.specs.DistinctLabels.{IsNewPattern, LabelledPatsAreDistinct}
 use Rattle.pict_rules.specs.Regular.{IsLabelledOnce, IsRegular, IsAsked, IsGood, IsTypeIn, kinds_in, Lacks, AreOfPatterns}
-use Rattle.pict_rules.proofs.RegularAll.{regularity, reached_regular}
 use Rattle.pict_rules.proofs.RegularExpanded.{expands_well}
 use Rattle.pict_rules.proofs.RegularProcesses.{exposed_formed}
 use Rattle.pict_translation.specs.Patterns.{Opened, opened as opened_pattern, all_opened, labelled_opened, pat_core, pat_names, record_pat, names_in, labelled_names_in}
 use Rattle.pict_opened.specs.Opening.{meaning, named, IsBoundAs, IsPlaced, AddsWhatIsOpened}
-use Rattle.pict_opened.proofs.Reaching.{ResultProperty, Gives, gives_, refuses, needs, chooses, parts, ensures, unless, limits, in_records, in_recursives, in_labels, by_steps}
+use Rattle.pict_opened.proofs.Reaching.{ResultProperty, Gives, gives_, refuses, needs, chooses, parts, ensures, unless, limits, in_records, in_recursives, in_labels, any_lines, by_steps}
+use Rattle.pict_opened.proofs.Rightly.{rightly, well}
 use Rattle.pict_opened.proofs.Joining.{type_after}
 use Rattle.pict_opened.proofs.Opened.{embeds_same, embeds_after}
 use Rattle.pict_opened.proofs.Placed.{placed_none, placed_joined}
-use Rattle.pict_opened.proofs.FieldsOpen.{Each, each_by, OpensAnywhere, IsTypedAt, Part, part_types}
+use Rattle.pict_opened.proofs.FieldsOpen.{Each, each_last, last_of_each, each_by, OpensAnywhere, IsTypedAt, Part, part_types}
 use Rattle.pict_opened.proofs.PatternParts.{Field, as_part, as_parts, StandForOne, PositionalFields, LabelledFields, PatternFields, fields_slots, FieldsAdd, fields_add}
 use Rattle.pict_opened.proofs.Ordered.{ordered_last, to_each, put_each, each_put, put_each_of, LabelsOnce, once_put, type_at_new, type_at_other}
 
@@ -159,14 +159,6 @@ types_last : (xs : List Field) (y : Field) → part_types (as_parts (xs ++ y ∷
 types_last [] y = refl
 types_last (x ∷ xs) y = ap (types x.type_) (types_last xs y)
 
-each_last : {A : Type 0} (P : A → Type 0) (xs : List A) (y : A) → Each P xs → P y → Each P (xs ++ y ∷ [])
-each_last P [] y h k = (k, tt)
-each_last P (x ∷ xs) y h k = (h.0, each_last P xs y h.1 k)
-
-last_of : {A : Type 0} (P : A → Type 0) (xs : List A) (y : A) → Each P (xs ++ y ∷ []) → Each P xs × P y
-last_of P [] y h = (tt, h.0)
-last_of P (x ∷ xs) y h = let z = last_of P xs y h.1 in ((h.0, z.0), z.1)
-
 and_field : (e : Environment) (ps : Pats) (p : Pat) (ts : PlainTypes) (t : PlainType) (x y : Extension) → PositionalFields e ps ts x → OpensAgainst e p t y → PositionalFields e (more_pats ps p) (and_type ts t) (joined x y)
 unfolding opened_pattern
 and_field e ps p ts t x y g o = record {
@@ -175,7 +167,7 @@ and_field e ps p ts t x y g o = record {
     typed = types_last g.fields z ∙ ap (λ k. and_type k t) g.typed;
     opens_ = subst (Each (OpensAnywhere e.names e)) (sym (map-append as_part g.fields (z ∷ []))) (each_last (OpensAnywhere e.names e) (as_parts g.fields) (as_part z) g.opens_ o);
     one = λ f d n slots us i h.
-        let k = last_of (IsPlaced e f d n slots us) (map (λ w. w.adds) g.fields) y (subst (Each (IsPlaced e f d n slots us)) (map-append (λ w. w.adds) g.fields (z ∷ [])) h) in
+        let k = last_of_each (IsPlaced e f d n slots us) (map (λ w. w.adds) g.fields) y (subst (Each (IsPlaced e f d n slots us)) (map-append (λ w. w.adds) g.fields (z ∷ [])) h) in
         placed_joined e f d n slots us x y (g.one f d n slots us i k.0) k.1 }
   where
     z : Field
@@ -241,33 +233,27 @@ module _ (names : List (List ℕ)) (program : Decs) (clean : scope_stop names pr
   abbrev Step : (s : Sort) → Environment → Judgement s → Type 0
   Step s e j = Reached names program s e j → Gives names program PatternProperty s (PatternProperty s e j) (rule e j)
 
-  rightly : {s : Sort} {e : Environment} {j : Judgement s} → Reached names program s e j → IsLabelledOnce j × (IsRegular e × IsAsked e j)
-  rightly {s = s} {e = e} {j = j} r = reached_regular names program s e j clean r
-
-  well : {s : Sort} {e : Environment} {j : Judgement s} (x : Result s) → Reached names program s e j → Holds e j x → IsGood e j x
-  well {s = s} {e = e} {j = j} x r d = let k = rightly r in regularity s e j x k.0 k.1.0 k.1.1 d
-
   against_step : (e : Environment) (p : Pat) (t : PlainType) → Step extension_ e (pattern_against p t)
   against_step e (bind_pat s x None) t r = gives_ (bind_opens e s x None t)
   against_step e (bind_pat s x (Some a)) t r =
-      let k = rightly r in
+      let k = rightly clean r in
       unless (kind_stop e.names e.context a) (λ q. needs (λ d. gives_ (against_below e (bind_pat s x (Some a)) t (normal e.names e.context a) (one_value x (normal e.names e.context a)) (expands_well e.names e.context a k.1.0.entries k.0 q) d (bind_opens e s x (Some a) (normal e.names e.context a)))))
   against_step e (any_pat s None) t r = gives_ (any_opens e s None t)
   against_step e (any_pat s (Some a)) t r = unless (kind_stop e.names e.context a) (λ q. needs (λ d. gives_ (any_opens e s (Some a) t)))
   against_step e (fields_pat s f) t r =
-      let k = rightly r in
+      let k = rightly clean r in
       in_records (exposure (context_of e) t) (λ bs ps ls q. parts (λ y d r2 g. gives_ (
-      let o = well y r2 d in
+      let o = well y clean r2 d in
       let w : IsTypeIn e (Fields bs ps ls) = subst (IsTypeIn e) q (exposed_formed e t k.1.0 k.1.1) in
       let below : IsSubtype (context_of e) t (Fields bs ps ls) = subst (IsSubtype (context_of e) t) q (below_exposed (exposes (context_of e) t)) in
       against_below e (fields_pat s f) t (Fields bs ps ls) (within y.own y.adds) w below (subst (λ z. OpensAgainst e (fields_pat s f) (Fields z ps ls) (within y.own y.adds)) o.0 (record_opens_ e s f y.own ps ls y.adds g))))) refuses
   against_step e (fold_pat s (Some a) p) t r =
-      let k = rightly r in
+      let k = rightly clean r in
       unless (kind_stop e.names e.context a) (λ q.
       in_recursives (normal e.names e.context a) _ _ (λ b u is un. needs (λ d. limits e u s (parts (λ y d2 r2 g. gives_ (
       against_below e (fold_pat s (Some a) p) t (normal e.names e.context a) y (expands_well e.names e.context a k.1.0.entries k.0.0 q) d (subst (λ z. OpensAgainst e (fold_pat s (Some a) p) z y) (sym is) (fold_opens e s (Some a) p b y (subst (λ z. OpensAgainst e p z y) un g)))))))))
   against_step e (fold_pat s None p) t r =
-      let k = rightly r in
+      let k = rightly clean r in
       in_recursives (exposure (context_of e) t) _ _ (λ b u is un. limits e u s (parts (λ y d2 r2 g. gives_ (
       against_below e (fold_pat s None p) t (exposure (context_of e) t) y (exposed_formed e t k.1.0 k.1.1) (below_exposed (exposes (context_of e) t)) (subst (λ z. OpensAgainst e (fold_pat s None p) z y) (sym is) (fold_opens e s None p b y (subst (λ z. OpensAgainst e p z y) un g)))))))
 
@@ -295,16 +281,16 @@ module _ (names : List (List ℕ)) (program : Decs) (clean : scope_stop names pr
   labelled_gives : (e : Environment) (ls : LabelledPats) → Step labelled_patterns_ e (labelled_patterns_give ls)
   labelled_gives e no_labelled_pats r = gives_ (no_labels e no_label)
   labelled_gives e (more_labelled_pats ls l p) r =
-      let k = rightly r in
+      let k = rightly clean r in
       parts (λ g d r2 h. parts (λ y d2 r3 o.
-      let w = well g r2 d in
+      let w = well g clean r2 d in
       let lacks : Lacks g.have l.name.0 = w.1.0 l.name.0 k.0.1.0 in
       gives_ (and_label e ls l p g.have (with_labelled_type e.names l.name.0 y.has g.have) y.has g.adds y.adds k.0.1.0 h o (λ m q. type_at_other e.names m l.name.0 y.has g.have q) (type_at_new e.names l.name.0 y.has g.have lacks))))
 
   labelled_against : (e : Environment) (ls : LabelledPats) (ms : PlainLabels) → Step extension_ e (labelled_patterns_against ls ms)
   labelled_against e no_labelled_pats ms r = gives_ (no_labels e ms)
   labelled_against e (more_labelled_pats ls l p) ms r =
-      let k = rightly r in
+      let k = rightly clean r in
       parts (λ x d r2 g. in_labels (type_at l.name.0 ms) (λ t q. parts (λ y d2 r3 o. gives_ (and_label e ls l p ms ms t x y k.0.1.0 g o (λ m z. refl) q))) (λ q. refuses))
 
   fields_give_step : (e : Environment) (f : FieldPats) → Step fields_ e (fields_give f)
@@ -317,13 +303,6 @@ module _ (names : List (List ℕ)) (program : Decs) (clean : scope_stop names pr
       let m : count_pats ps ≡ count_types ts = eqb-true (count_pats ps) (count_types ts) n in
       parts (λ own d r2 u. parts (λ x d2 r3 g. parts (λ y d3 r4 h. gives_ (record { firsts = x; seconds = y; positional = subst (λ z. PositionalFields (with_own e own) ps z x) (all_types (count_pats ps) ts m) (g (omega (arith, m))); labelled = h.fields; is = refl }))))))
 
-  any_lines : {s : Sort} (r : Rule s) → Gives names program PatternProperty s (λ x. Unit {0}) r
-  any_lines (give x) = gives_ tt
-  any_lines (refuse c i) = refuses
-  any_lines (need q c i r) = needs (λ h. any_lines r)
-  any_lines (either q r r') = chooses (λ h. any_lines r) (any_lines r')
-  any_lines (part e j k) = parts (λ x d r g. any_lines (k x))
-
   pattern_step : (s : Sort) (e : Environment) (j : Judgement s) → Step s e j
   pattern_step s e (pattern_against p t) r = against_step e p t r
   pattern_step s e (pattern_gives p) r = gives_step e p r
@@ -333,31 +312,31 @@ module _ (names : List (List ℕ)) (program : Decs) (clean : scope_stop names pr
   pattern_step s e (labelled_patterns_give ls) r = labelled_gives e ls r
   pattern_step s e (fields_against i f bs ps ls) r = fields_against_step e i f bs ps ls r
   pattern_step s e (fields_give f) r = fields_give_step e f r
-  pattern_step s e (gives v) r = any_lines _
-  pattern_step s e (has v t) r = any_lines _
-  pattern_step s e (is_condition v) r = any_lines _
-  pattern_step s e (values_give vs) r = any_lines _
-  pattern_step s e (labelled_values_give ls) r = any_lines _
-  pattern_step s e (application i f vs t) r = any_lines _
-  pattern_step s e (fields_fit i f bs ps ls g) r = any_lines _
-  pattern_step s e (written_arguments i ts bs) r = any_lines _
-  pattern_step s e (values_fit i vs ps g) r = any_lines _
-  pattern_step s e (labelled_values_fit i ls ms g) r = any_lines _
-  pattern_step s e (value_fits i v t g) r = any_lines _
-  pattern_step s e (given_fits i v t u g) r = any_lines _
-  pattern_step s e (abstraction_gives f) r = any_lines _
-  pattern_step s e (abstraction_against f t) r = any_lines _
-  pattern_step s e (binders_give bs) r = any_lines _
-  pattern_step s e (binders_against bs rs) r = any_lines _
-  pattern_step s e (declaration d) r = any_lines _
-  pattern_step s e (declarations ds) r = any_lines _
-  pattern_step s e (signatures ds) r = any_lines _
-  pattern_step s e (signature x f) r = any_lines _
-  pattern_step s e (bodies ss) r = any_lines _
-  pattern_step s e (body b) r = any_lines _
-  pattern_step s e (process p) r = any_lines _
-  pattern_step s e (processes ps) r = any_lines _
-  pattern_step s e (receives c f) r = any_lines _
+  pattern_step s e (gives v) r = any_lines names program PatternProperty _
+  pattern_step s e (has v t) r = any_lines names program PatternProperty _
+  pattern_step s e (is_condition v) r = any_lines names program PatternProperty _
+  pattern_step s e (values_give vs) r = any_lines names program PatternProperty _
+  pattern_step s e (labelled_values_give ls) r = any_lines names program PatternProperty _
+  pattern_step s e (application i f vs t) r = any_lines names program PatternProperty _
+  pattern_step s e (fields_fit i f bs ps ls g) r = any_lines names program PatternProperty _
+  pattern_step s e (written_arguments i ts bs) r = any_lines names program PatternProperty _
+  pattern_step s e (values_fit i vs ps g) r = any_lines names program PatternProperty _
+  pattern_step s e (labelled_values_fit i ls ms g) r = any_lines names program PatternProperty _
+  pattern_step s e (value_fits i v t g) r = any_lines names program PatternProperty _
+  pattern_step s e (given_fits i v t u g) r = any_lines names program PatternProperty _
+  pattern_step s e (abstraction_gives f) r = any_lines names program PatternProperty _
+  pattern_step s e (abstraction_against f t) r = any_lines names program PatternProperty _
+  pattern_step s e (binders_give bs) r = any_lines names program PatternProperty _
+  pattern_step s e (binders_against bs rs) r = any_lines names program PatternProperty _
+  pattern_step s e (declaration d) r = any_lines names program PatternProperty _
+  pattern_step s e (declarations ds) r = any_lines names program PatternProperty _
+  pattern_step s e (signatures ds) r = any_lines names program PatternProperty _
+  pattern_step s e (signature x f) r = any_lines names program PatternProperty _
+  pattern_step s e (bodies ss) r = any_lines names program PatternProperty _
+  pattern_step s e (body b) r = any_lines names program PatternProperty _
+  pattern_step s e (process p) r = any_lines names program PatternProperty _
+  pattern_step s e (processes ps) r = any_lines names program PatternProperty _
+  pattern_step s e (receives c f) r = any_lines names program PatternProperty _
 
   -- what the rules find of patterns
   pub patterns_open : {s : Sort} (e : Environment) (j : Judgement s) (x : Result s) → Reached names program s e j → Holds e j x → PatternProperty s e j x

@@ -153,6 +153,14 @@ module _ {names : List (List ℕ)} {p : Decs} {G : ResultProperty} {s : Sort} {P
   expects e None u c i h k = k refl
   expects e (Some t) u c i h k = needs (λ q. h t refl q)
 
+-- nothing is wanted
+pub any_lines : (names : List (List ℕ)) (p : Decs) (G : ResultProperty) {s : Sort} (r : Rule s) → Gives names p G s (λ x. Unit {0}) r
+any_lines names p G (give x) = gives_ tt
+any_lines names p G (refuse c i) = refuses
+any_lines names p G (need q c i r) = needs (λ h. any_lines names p G r)
+any_lines names p G (either q r r') = chooses (λ h. any_lines names p G r) (any_lines names p G r')
+any_lines names p G (part e j k) = parts (λ x d r g. any_lines names p G (k x))
+
 pub in_sents : {names : List (List ℕ)} {p : Decs} {G : ResultProperty} {P : Result nothing_ → Type 0} (t : PlainType) {k : PlainType → Rule nothing_} {r : Rule nothing_} → ((u : PlainType) → t ≡ Chan Respond u → Gives names p G nothing_ P (k u)) → ((u : PlainType) → t ≡ Chan Write u → Gives names p G nothing_ P (k u)) → Gives names p G nothing_ P r → Gives names p G nothing_ P (if_sent t k r)
 in_sents Top f g h = h
 in_sents Int f g h = h
