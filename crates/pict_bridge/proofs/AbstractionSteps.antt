@@ -73,9 +73,10 @@ adds_known vs p = record { context = p.context; more = p.more; types_ = p.types_
 
 fields_known : {e : Environment} {a : Option PlainType} {ps : Pats} {ls : LabelledPats} {own : List KnownType} {ts : PlainTypes} {ms : PlainLabels} {x : Extension} {f : ℕ → ℕ} {c : TypeContext} (vs : List KnownValue) → FieldsAdd e a ps ls own ts ms x f c → FieldsAdd (with_known e vs) a ps ls own ts ms x f c
 fields_known vs p = record {
-    adds = record { context = p.adds.context; more = p.adds.more; types_ = p.adds.types_; opens = p.adds.opens; as_many = p.adds.as_many; placed = record { later = p.adds.placed.later; embeds = p.adds.placed.embeds; extends_ = p.adds.placed.extends_; each = p.adds.placed.each } };
-    inside = p.inside;
-    answer_at = p.answer_at }
+  adds = record { context = p.adds.context; more = p.adds.more; types_ = p.adds.types_; opens = p.adds.opens; as_many = p.adds.as_many; placed = record { later = p.adds.placed.later; embeds = p.adds.placed.embeds; extends_ = p.adds.placed.extends_; each = p.adds.placed.each } };
+  inside = p.inside;
+  answer_at = p.answer_at;
+}
 
 -- ---- the type that a function goes against
 
@@ -252,10 +253,11 @@ module _ (names : List (List ℕ)) (program : Decs) (clean : scope_stop names pr
   signature_step e x (process_abs s p q) r =
       let once : IsReadAs IsNoStop _ e (signature x (process_abs s p q)) = no_stop_is_reached names program _ e (signature x (process_abs s p q)) clean r in
       parts (λ g d r2 u. limits e (Chan Respond g.has) s (gives_ (record {
-      name_ = refl;
-      takes = g.has;
-      has_ = refl;
-      reads = λ vs h. process_reads (with_known e vs) s p q g.has g.adds (λ c f i. adds_known vs (gives_opens e p g r2 d c f i)) (process_names_once s p q once.around once.each_mark) (result_has (pattern_named e p) d).values (well g clean r2 d).0 h })))
+        name_ = refl;
+        takes = g.has;
+        has_ = refl;
+        reads = λ vs h. process_reads (with_known e vs) s p q g.has g.adds (λ c f i. adds_known vs (gives_opens e p g r2 d c f i)) (process_names_once s p q once.around once.each_mark) (result_has (pattern_named e p) d).values (well g clean r2 d).0 h;
+      })))
   signature_step e x (function_abs s (field_pats bs ps ls) None v) r = parts (λ g d r2 u. refuses)
   signature_step e x (function_abs s (field_pats bs ps ls) (Some a) v) r =
       let once : IsReadAs IsNoStop _ e (signature x (function_abs s (field_pats bs ps ls) (Some a) v)) = no_stop_is_reached names program _ e (signature x (function_abs s (field_pats bs ps ls) (Some a) v)) clean r in
@@ -265,10 +267,11 @@ module _ (names : List (List ℕ)) (program : Decs) (clean : scope_stop names pr
       let w = well g clean r2 d in
       let qt = annotated e g.own a k.1.0 w.0.0 k.0.1.0 q in
       limits e (argument_type g t) s (limits e (Chan Respond (argument_type g t)) s (gives_ (record {
-      name_ = refl;
-      takes = argument_type g t;
-      has_ = refl;
-      reads = λ vs h. function_reads (with_known e vs) s bs ps ls (Some a) v g.own g.positional g.labelled (Chan Respond t) t g.adds (λ c f i. fields_known vs (given_fields e bs ps ls g (Chan Respond t) r2 d c f i)) (function_names_once s (field_pats bs ps ls) (Some a) v once.around once.each_mark) (result_has (fields_named e (field_pats bs ps ls)) d).adds_.values (argument_formed e g t w.0 qt) qt (answers_itself (with_own (with_known e vs) g.own) t) h })))))
+        name_ = refl;
+        takes = argument_type g t;
+        has_ = refl;
+        reads = λ vs h. function_reads (with_known e vs) s bs ps ls (Some a) v g.own g.positional g.labelled (Chan Respond t) t g.adds (λ c f i. fields_known vs (given_fields e bs ps ls g (Chan Respond t) r2 d c f i)) (function_names_once s (field_pats bs ps ls) (Some a) v once.around once.each_mark) (result_has (fields_named e (field_pats bs ps ls)) d).adds_.values (argument_formed e g t w.0 qt) qt (answers_itself (with_own (with_known e vs) g.own) t) h;
+      })))))
 
   pub signatures_step : (e : Environment) (ds : Definitions) → Step names program signatures_ e (signatures ds)
   signatures_step e no_definitions r = gives_ no_signature

@@ -73,8 +73,9 @@ unnamed_at (n ∷ ns) (suc j) m e = unnamed_at ns j m e
 -- the names of a pattern
 pub names_bind : (ns : List ℕ) (level : ℕ) (before : List (ℕ × core.Val)) → ((m : ℕ) → times m ns ≤ 1) → Binds (named ns) level before (binding ns (variables level (length ns)) before)
 names_bind ns level before h = record {
-    at_ = λ m place e. let z : length ns ≡ length ns + 0 = omega arith in ap (λ i. value_at (binding ns (variables level i) before) m) z ∙ placed_at m place level 0 ns before (h m) (unnamed_at ns place m e);
-    others = λ m e. passed m ns (variables level (length ns)) before (sym (named_times m ns) ∙ e) }
+  at_ = λ m place e. let z : length ns ≡ length ns + 0 = omega arith in ap (λ i. value_at (binding ns (variables level i) before) m) z ∙ placed_at m place level 0 ns before (h m) (unnamed_at ns place m e);
+  others = λ m e. passed m ns (variables level (length ns)) before (sym (named_times m ns) ∙ e);
+}
 
 -- ---- the names of a function's fields, with a variable without a name between them
 

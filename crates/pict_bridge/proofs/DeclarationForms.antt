@@ -45,29 +45,32 @@ use Rattle.pict_bridge.proofs.ReadForms.{pattern_reads}
 
 grows_on : {g h : ℕ → ℕ} (k : ℕ → ℕ) {w v u : World} → Grows g w v → Grows h v u → ((i : ℕ) → h (g i) ≡ k i) → Grows k w u
 grows_on {g = g} {h = h} k x y e = record {
-    names_ = y.names_ ∙ x.names_;
-    messages_ = y.messages_ ∙ x.messages_;
-    embeds = embeds_after k x.embeds y.embeds e;
-    variables_ = λ l t q. y.variables_ l (rename g t) (x.variables_ l t q) ∙ ap Some (type_after h g k t e) }
+  names_ = y.names_ ∙ x.names_;
+  messages_ = y.messages_ ∙ x.messages_;
+  embeds = embeds_after k x.embeds y.embeds e;
+  variables_ = λ l t q. y.variables_ l (rename g t) (x.variables_ l t q) ∙ ap Some (type_after h g k t e);
+}
 
 pub follows_longer : {e : Environment} {f : ℕ → ℕ} {w u : World} {d : Environment} → length (context_of d) ≡ length (context_of e) → Longer w u → Follows e f w d f u
 follows_longer {f = f} {w = w} {u = u} n l = record {
-    more = 0;
-    count = 0;
-    grows = subst (λ g. Grows g w u) (λ j i. none i j) (longer_grows l);
-    length_ = n ∙ omega arith;
-    extends_ = λ i. ap f (omega arith) ∙ none (f i) }
+  more = 0;
+  count = 0;
+  grows = subst (λ g. Grows g w u) (λ j i. none i j) (longer_grows l);
+  length_ = n ∙ omega arith;
+  extends_ = λ i. ap f (omega arith) ∙ none (f i);
+}
   where
     none : (i : ℕ) → i ≡ i + 0
     none i = omega arith
 
 pub follows_on : {e d c : Environment} {f g h : ℕ → ℕ} {w v u : World} → Follows e f w d g v → Follows d g v c h u → Follows e f w c h u
 follows_on {f = f} {h = h} x y = record {
-    more = x.more + y.more;
-    count = x.count + y.count;
-    grows = grows_on (moved (x.more + y.more) 0) x.grows y.grows (λ i. omega arith);
-    length_ = y.length_ ∙ ap (λ n. n + y.count) x.length_ ∙ omega arith;
-    extends_ = λ i. ap h (omega arith) ∙ y.extends_ (i + x.count) ∙ ap (λ n. n + y.more) (x.extends_ i) ∙ omega arith }
+  more = x.more + y.more;
+  count = x.count + y.count;
+  grows = grows_on (moved (x.more + y.more) 0) x.grows y.grows (λ i. omega arith);
+  length_ = y.length_ ∙ ap (λ n. n + y.count) x.length_ ∙ omega arith;
+  extends_ = λ i. ap h (omega arith) ∙ y.extends_ (i + x.count) ∙ ap (λ n. n + y.more) (x.extends_ i) ∙ omega arith;
+}
 
 -- ---- declarations in order
 
@@ -109,8 +112,8 @@ unfolding sending
 let_declared e s p v t x o once names q h vs f w r rest k =
     new_stands w T (λ c. beside (input c true (pat_core e.names p) (λ xs. rest (pat_bound p xs (around e vs)))) (sending (around e vs) v c)) whole
     (typed.beside
-      (pattern_reads e p t x rest o once names q vs f inner (realises_longer longer r) (λ us g u fo m. k us g u (follows_on (follows_longer refl longer) fo) m) (core.Var (length w.variables)) true (last_receives T w whole))
-      ((h vs f inner (realises_longer longer r)).sends inner (core.Var (length w.variables)) (not_longer inner) (last_sends T w whole)))
+    (pattern_reads e p t x rest o once names q vs f inner (realises_longer longer r) (λ us g u fo m. k us g u (follows_on (follows_longer refl longer) fo) m) (core.Var (length w.variables)) true (last_receives T w whole))
+    ((h vs f inner (realises_longer longer r)).sends inner (core.Var (length w.variables)) (not_longer inner) (last_sends T w whole)))
   where
     T : PlainType
     T = meaning f t
@@ -130,8 +133,8 @@ unfolding sending
 await_declared e s v h vs f w r rest k =
     new_stands w T (λ c. beside (input c true unit_pat (λ xs. rest (around e vs))) (sending (around e vs) v c)) (tt, (tt, tt))
     (typed.beside
-      (typed.input T (tt, (tt, tt)) (last_receives T w (tt, (tt, tt))) (opens_record tt opens_none opens_no_label) (subst (λ z. IsTyped (record inner { variables = z }) (rest (around e vs) (length inner.variables + (0 + 0)))) (sym (append-nil (map (shifted 0) inner.variables) ∙ same_shift inner.variables)) (subst (λ n. IsTyped inner (rest (around e vs) n)) (omega arith) (k vs f inner (follows_longer refl longer) (realises_longer longer r)))))
-      ((h vs f inner (realises_longer longer r)).sends inner (core.Var (length w.variables)) (not_longer inner) (last_sends T w (tt, (tt, tt)))))
+    (typed.input T (tt, (tt, tt)) (last_receives T w (tt, (tt, tt))) (opens_record tt opens_none opens_no_label) (subst (λ z. IsTyped (record inner { variables = z }) (rest (around e vs) (length inner.variables + (0 + 0)))) (sym (append-nil (map (shifted 0) inner.variables) ∙ same_shift inner.variables)) (subst (λ n. IsTyped inner (rest (around e vs) n)) (omega arith) (k vs f inner (follows_longer refl longer) (realises_longer longer r)))))
+    ((h vs f inner (realises_longer longer r)).sends inner (core.Var (length w.variables)) (not_longer inner) (last_sends T w (tt, (tt, tt)))))
   where
     T : PlainType
     T = Fields no_bound no_type no_label
@@ -215,8 +218,9 @@ signed e (more_signatures {ds = ds} {x = x} {a = a} {ss = ss} {s = s} h k) =
       take = take_last ss y.takes s k.takes y.take k.has_;
       names_ = ap₂ (λ ns (i : Id). ns ++ i.name.0 ∷ []) y.names_ (sym k.name_) ∙ sym (names_last ss s);
       serve = λ zs bodies vs f w r.
-        let b = bodies_last (record { names = e.names; context = e.context; values = zs }) ss s bodies in
-        serve_last w f (servers (around e vs) ds) y.takes (λ c. reader (around e vs) a c true) k.takes (y.serve zs b.0 vs f w r) (λ c m. k.reads zs b.1 vs f w r c true m) }
+          let b = bodies_last (record { names = e.names; context = e.context; values = zs }) ss s bodies in
+          serve_last w f (servers (around e vs) ds) y.takes (λ c. reader (around e vs) a c true) k.takes (y.serve zs b.0 vs f w r) (λ c m. k.reads zs b.1 vs f w r c true m);
+    }
 
 abbrev with_all : Environment → List Signature → Environment
 with_all e ss = record { names = e.names; context = e.context; values = values_of ss e.values }

@@ -254,4 +254,4 @@ application_sent e s v (field_vals tys us ls) t r args q app h fit distinct head
         let r3 = realises_longer l23 r1 in
         typed.output (meaning f whole) (type_means whole r3 whole_in) (has_longer (closed_longer l2 r1.closed) l3 n)
         (record_package e vs f v3 args r.binders (and_type r.positional app.last) r.labelled us ls (xs ++ k ∷ []) ws (meant_types f qs ++ Chan Write (meaning f u) ∷ []) y.types_ r3 whole_in h fit x.within_ distinct (labels_sent_longer r1.closed l23 y.labelled)
-          (one_more_has v3 xs (meant_types f qs) k (Chan Write (meaning f u)) b (has_longer r1.closed l23 m)) c types_same y.at_)))
+        (one_more_has v3 xs (meant_types f qs) k (Chan Write (meaning f u)) b (has_longer r1.closed l23 m)) c types_same y.at_)))

@@ -68,7 +68,8 @@ one_more_label e ls l u ms t q h k vs f w r =
     record {
       types_ = x.types_ ++ (l.name.0, meaning f t) ∷ [];
       sent = label_sent (meaning f t) x.sent (type_means t r q) (k vs f w r);
-      same_ = ap labels_list (ordered_last e.names x.types_ l.name.0 (meaning f t)) ∙ put_labels_list e.names l.name.0 (meaning f t) (in_label_order e.names x.types_) ∙ ap (with_labelled_type e.names l.name.0 (meaning f t)) x.same_ ∙ sym (labels_meant e.names f l.name.0 t ms) }
+      same_ = ap labels_list (ordered_last e.names x.types_ l.name.0 (meaning f t)) ∙ put_labels_list e.names l.name.0 (meaning f t) (in_label_order e.names x.types_) ∙ ap (with_labelled_type e.names l.name.0 (meaning f t)) x.same_ ∙ sym (labels_meant e.names f l.name.0 t ms);
+    }
 
 -- ---- values in their fields
 
@@ -83,10 +84,11 @@ sent_later e v t found g h x k = let q = found_same g h t k x.known in (subst (S
 
 one_more_fits : (e : Environment) (us : Vals) (u : Val) (ts : PlainTypes) (found g h : Found) → suc (count_vals us) ≤ count_types ts → ValuesFit e us ts found g → ValueFits e u (nth_type (count_vals us) ts) g h → ValuesFit e (more_vals us u) ts found h
 one_more_fits e us u ts found g h le x y = record {
-    stays = stays_on found g h x.stays y.stays;
-    sent = λ i k.
+  stays = stays_on found g h x.stays y.stays;
+  sent = λ i k.
       let z = sent_later e u (nth_type (count_vals us) ts) g h i y k in
-      subst (AllSentBy e (more_vals us u)) (sym (found_last i (count_vals us) ts le)) (one_more_sent e us u (found_types i (first_types (count_vals us) ts)) (with_found i (nth_type (count_vals us) ts)) z.1 (x.sent i (stays_on g h i y.stays k)) z.0) }
+      subst (AllSentBy e (more_vals us u)) (sym (found_last i (count_vals us) ts le)) (one_more_sent e us u (found_types i (first_types (count_vals us) ts)) (with_found i (nth_type (count_vals us) ts)) z.1 (x.sent i (stays_on g h i y.stays k)) z.0);
+}
 
 no_label_fits : (e : Environment) (ms : PlainLabels) (found : Found) → LabelsFit e no_labelled_vals ms found found
 no_label_fits e ms found = record { stays = stays_same found; sent = λ h k vs f w r. record { types_ = []; sent = no_label_sent; at_ = λ l t q b. absurd (cc) } }
@@ -100,9 +102,10 @@ label_fits e ls l u ms found g h distinct x q y = record { stays = stays_on foun
 
     at_once : (i : Found) (z : (t : PlainType) × SentBy e u t × IsTypeIn e t × ((s : PlainType) → type_at n ms ≡ Some s → t ≡ with_found i s)) (vs : Values) (f : ℕ → ℕ) (w : World) → Realises e vs f w → LabelsFound e ls ms i vs f w → LabelsFound e (more_labelled_vals ls l u) ms i vs f w
     at_once i z vs f w r old = record {
-        types_ = old.types_ ++ (n, meaning f z.0) ∷ [];
-        sent = label_sent (meaning f z.0) old.sent (type_means z.0 r z.2) (z.1 vs f w r);
-        at_ = λ m t a b. ap (type_at m) all_same ∙ here m t a (nat_eq m n) refl b }
+      types_ = old.types_ ++ (n, meaning f z.0) ∷ [];
+      sent = label_sent (meaning f z.0) old.sent (type_means z.0 r z.2) (z.1 vs f w r);
+      at_ = λ m t a b. ap (type_at m) all_same ∙ here m t a (nat_eq m n) refl b;
+    }
       where
         sorted : PlainLabels
         sorted = labels_list (in_label_order e.names old.types_)
@@ -160,14 +163,16 @@ label_written ls l s (labels m u ms) h e = go (nat_eq l m) refl (label_written l
 -- once all is found, the fields are sent at their types with the arguments put in
 all_fit : (e : Environment) (us : Vals) (ls : LabelledVals) (bs : PlainBounds) (ps : PlainTypes) (ms : PlainLabels) (found g h : Found) (args : List PlainArg) → count_vals us ≡ count_types ps → all_written ms ls ≡ true → map argument_in h ≡ args → AreWithinBounds e bs [] args → ValuesFit e us ps found g → LabelsFit e ls ms g h → FieldsFit e us ls bs ps ms args
 all_fit e us ls bs ps ms found g h args n written is within_ x y = record {
-    within_ = within_;
-    sent = λ vs f w r. let z = y.sent h (stays_same h) vs f w r in record {
-      sent = subst (λ ts. AreSent w (around e vs) us (meant_types f ts)) types_same (x.sent h y.stays vs f w r);
-      types_ = z.types_;
-      labelled = z.sent;
-      at_ = λ l t q.
+  within_ = within_;
+  sent = λ vs f w r. let z = y.sent h (stays_same h) vs f w r in record {
+    sent = subst (λ ts. AreSent w (around e vs) us (meant_types f ts)) types_same (x.sent h y.stays vs f w r);
+    types_ = z.types_;
+    labelled = z.sent;
+    at_ = λ l t q.
         let k = labels_replaced f h l t ms (subst (λ args2. type_at l (label_meanings f (replace_labels (arguments args2) ms)) ≡ Some t) (sym is) q) in
-        z.at_ l k.0 k.1 (label_written ls l k.0 ms written k.1) ∙ ap Some k.2 } }
+        z.at_ l k.0 k.1 (label_written ls l k.0 ms written k.1) ∙ ap Some k.2;
+  };
+}
   where
     types_same : found_types h (first_types (count_vals us) ps) ≡ replace_types (arguments args) ps
     types_same = ap (found_types h) (all_types (count_vals us) ps n) ∙ found_replaced h ps ∙ ap (λ args2. replace_types (arguments args2) ps) is
@@ -211,10 +216,10 @@ module _ (names : List (List ℕ)) (program : Decs) (clean : scope_stop names pr
   value_fits_step e s v t found r =
       splits (mentions_missing found t)
       (λ m. parts (λ u d r2 h. parts (λ x d2 r3 k. gives_ (
-        let g = matched (context_of e) 0 t u found in
-        let a = (rightly clean r3).1.1 in
-        let w : IsTypeIn e (with_found g t) = with_found_formed e g t a.1.1 a.0 in
-        subst (ValueFits e v t found) (sym k.is) (record { stays = matched_stays (context_of e) 0 t u found; known = k.known; formed = w; sent = sent_above e v u (with_found g t) a.1.0 w k.below h })))))
+      let g = matched (context_of e) 0 t u found in
+      let a = (rightly clean r3).1.1 in
+      let w : IsTypeIn e (with_found g t) = with_found_formed e g t a.1.1 a.0 in
+      subst (ValueFits e v t found) (sym k.is) (record { stays = matched_stays (context_of e) 0 t u found; known = k.known; formed = w; sent = sent_above e v u (with_found g t) a.1.0 w k.below h })))))
       (λ m. limits e (with_found found t) s (parts (λ x d r2 h. gives_ (record { stays = stays_same found; known = m; formed = (rightly clean r2).1.1; sent = h }))))
 
   pub values_fit_step : (e : Environment) (s : Span) (us : Vals) (ts : PlainTypes) (found : Found) → Step names program found_ e (values_fit s us ts found)
@@ -244,10 +249,10 @@ module _ (names : List (List ℕ)) (program : Decs) (clean : scope_stop names pr
       let m : count_vals us ≡ count_types ps = eqb-true (count_vals us) (count_types ps) n in
       splits (not (none_written tys))
       (λ b. parts (λ args d r2 h. limits e (instance_of args ps ms) s (parts (λ g d2 r3 x. parts (λ i d3 r4 y. gives_ (
-        let z = x (omega (arith, m)) in
-        all_fit e us ls bs ps ms (map filled args) g i args m written (given_stay args i (stays_on (map filled args) g i z.stays y.stays)) h z y))))))
+      let z = x (omega (arith, m)) in
+      all_fit e us ls bs ps ms (map filled args) g i args m written (given_stay args i (stays_on (map filled args) g i z.stays y.stays)) h z y))))))
       (λ b. parts (λ g d2 r3 x. parts (λ i d3 r4 y. ensures (all_found i) _ s (λ a. all_within e s bs [] (map argument_in i) Y9 (λ q. gives_ (
-        all_fit e us ls bs ps ms found g i (map argument_in i) m written refl q (x (omega (arith, m))) y)))))))))
+      all_fit e us ls bs ps ms found g i (map argument_in i) m written refl q (x (omega (arith, m))) y)))))))))
 
   pub application_step : (e : Environment) (s : Span) (v : Val) (us : FieldVals) (o : Option PlainType) → Step names program type_ e (application s v us o)
   application_step e s v us o r =

@@ -144,8 +144,9 @@ pub may_stand : {e : Environment} {vs : List (ℕ × core.Val)} {f : ℕ → ℕ
 may_stand no_bound earlier [] r h k d = tt
 may_stand no_bound earlier (a ∷ args) r h k d = absurd k
 may_stand (bounds b bs) earlier [] r h k d = absurd k
-may_stand {f = f} {w = w} (bounds b bs) earlier (a ∷ args) r h k d =
-    (one_may b a earlier r h.0 k.0 d.0,
-    subst (λ z. MayStandInOrder w z (all_meant f args) (rename_bounds (beyond (beyond_times (length earlier) f)) (erased_bounds bs))) (meant_last f earlier a)
-    (subst (λ n. MayStandInOrder w (all_meant f (earlier ++ a ∷ [])) (all_meant f args) (rename_bounds (beyond_times n f) (erased_bounds bs))) (one_longer earlier a)
-    (may_stand bs (earlier ++ a ∷ []) args r h.1 k.1 d.1)))
+may_stand {f = f} {w = w} (bounds b bs) earlier (a ∷ args) r h k d = (
+  one_may b a earlier r h.0 k.0 d.0,
+  subst (λ z. MayStandInOrder w z (all_meant f args) (rename_bounds (beyond (beyond_times (length earlier) f)) (erased_bounds bs))) (meant_last f earlier a)
+      (subst (λ n. MayStandInOrder w (all_meant f (earlier ++ a ∷ [])) (all_meant f args) (rename_bounds (beyond_times n f) (erased_bounds bs))) (one_longer earlier a)
+      (may_stand bs (earlier ++ a ∷ []) args r h.1 k.1 d.1)),
+)

@@ -131,6 +131,7 @@ times_ids m xs ys = ap (times m) (ids_both xs ys) ∙ times_both m (id_names xs)
 
 mutual
   unfolding opened
+
   pub same_times : (names : List (List ℕ)) (p : Pat) (m : ℕ) → times m (pat_names names p) ≡ times m (id_names (value_ids p))
   same_times names (bind_pat s x r) m = refl
   same_times names (any_pat s r) m = refl

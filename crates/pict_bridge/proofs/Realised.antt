@@ -48,11 +48,12 @@ meaning_later later f count more t e =
 
 pub realises_longer : {e : Environment} {vs : List (ℕ × core.Val)} {f : ℕ → ℕ} {w v : World} → Longer w v → Realises e vs f w → Realises e vs f v
 realises_longer {e = e} {vs = vs} {f = f} {w = w} {v = v} l r = record {
-    world_names = ap (λ (z : World). z.names) l.is ∙ r.world_names;
-    closed = closed_longer l r.closed;
-    embeds = subst (λ (z : World). Embeds f (erased_context (context_of e)) z.type_variables) (sym l.is) r.embeds;
-    known = λ n t q. let x = r.known n t q in record { value = x.value; is = x.is; has_ = has_longer r.closed l x.has_ };
-    unknown = r.unknown }
+  world_names = ap (λ (z : World). z.names) l.is ∙ r.world_names;
+  closed = closed_longer l r.closed;
+  embeds = subst (λ (z : World). Embeds f (erased_context (context_of e)) z.type_variables) (sym l.is) r.embeds;
+  known = λ n t q. let x = r.known n t q in record { value = x.value; is = x.is; has_ = has_longer r.closed l x.has_ };
+  unknown = r.unknown;
+}
 
 -- ---- look-up in two lists
 
@@ -84,18 +85,20 @@ unknown_renamed f (v ∷ vs) m e = go (nat_eq v.name m) refl (unknown_renamed f 
 
 pub opened_grows : (w : World) (d : TypeContext) (n : ℕ) (ts : List PlainType) → Embeds (moved n 0) w.type_variables d → Grows (moved n 0) w (worlds.opened d n ts w)
 opened_grows w d n ts j = record {
-    names_ = refl;
-    messages_ = refl;
-    embeds = j;
-    variables_ = λ l t q. slice_first (map (shifted n) w.variables) ts l (shifted n t) (slice_get-map (shifted n) w.variables l ∙ ap (option_map (shifted n)) q) }
+  names_ = refl;
+  messages_ = refl;
+  embeds = j;
+  variables_ = λ l t q. slice_first (map (shifted n) w.variables) ts l (shifted n t) (slice_get-map (shifted n) w.variables l ∙ ap (option_map (shifted n)) q);
+}
 
 pub realises_after : {e : Environment} {vs us : List (ℕ × core.Val)} {f : ℕ → ℕ} {w : World} (x : Extension) (slots : List (Option ℕ)) (d : TypeContext) (n : ℕ) (ts : List PlainType) → Realises e vs f w → (p : IsPlaced e f d n slots ts x) → Embeds (moved n 0) w.type_variables d → Binds slots (length w.variables) vs us → ((m : ℕ) → known_type x.values m ≡ None → slot_times m slots ≡ 0) → Realises (extended e x) us p.later (worlds.opened d n ts w)
 realises_after {e = e} {vs = vs} {us = us} {f = f} {w = w} x slots d n ts r p j b only = record {
-    world_names = r.world_names;
-    closed = r.closed;
-    embeds = p.embeds;
-    known = λ m t q. known_ m t (known_before x.values outer m) q;
-    unknown = λ m q. unknown_ m (known_before x.values outer m) q }
+  world_names = r.world_names;
+  closed = r.closed;
+  embeds = p.embeds;
+  known = λ m t q. known_ m t (known_before x.values outer m) q;
+  unknown = λ m q. unknown_ m (known_before x.values outer m) q;
+}
   where
     outer : List KnownValue
     outer = rename_values (moved (opened x) 0) e.values
@@ -110,7 +113,8 @@ realises_after {e = e} {vs = vs} {us = us} {f = f} {w = w} x slots d n ts r p j 
         record {
           value = Var (length w.variables + y.place);
           is = b.at_ m y.place y.named_;
-          has_ = variable_has (subst (λ z. slice_get (map (shifted n) w.variables ++ ts) (z + y.place) ≡ Some (meaning p.later t)) (length-map w.variables (shifted n)) (slice_second (map (shifted n) w.variables) ts y.place (meaning p.later t) y.typed)) }
+          has_ = variable_has (subst (λ z. slice_get (map (shifted n) w.variables ++ ts) (z + y.place) ≡ Some (meaning p.later t)) (length-map w.variables (shifted n)) (slice_second (map (shifted n) w.variables) ts y.place (meaning p.later t) y.typed));
+        }
     known_ m t (after q s) k =
         let u = known_renamed (moved (opened x) 0) e.values m t (s ∙ k) in
         let y = r.known m u.0 u.1 in
@@ -118,7 +122,8 @@ realises_after {e = e} {vs = vs} {us = us} {f = f} {w = w} x slots d n ts r p j 
         record {
           value = y.value;
           is = b.others m (only m q) ∙ y.is;
-          has_ = subst (HasType inside y.value) means (value_grown r.closed (opened_grows w d n ts j) y.has_) }
+          has_ = subst (HasType inside y.value) means (value_grown r.closed (opened_grows w d n ts j) y.has_);
+        }
 
     unknown_ : (m : ℕ) → KnownBefore x.values outer m (known_type (extended e x).values m) → known_type (extended e x).values m ≡ None → value_at us m ≡ None
     unknown_ m (before {t = u} q s) k = absurd (let i : Some u ≡ None = sym s ∙ k in cc)
@@ -131,11 +136,12 @@ with_name e n t = record { names = e.names; context = e.context; values = record
 
 pub realises_one : {e : Environment} {vs : List (ℕ × core.Val)} {f : ℕ → ℕ} {w : World} (n : ℕ) (t : PlainType) (u : core.Val) → Realises e vs f w → HasType w u (meaning f t) → Realises (with_name e n t) ((n, u) ∷ vs) f w
 realises_one {e = e} {vs = vs} {f = f} {w = w} n t u r h = record {
-    world_names = r.world_names;
-    closed = r.closed;
-    embeds = r.embeds;
-    known = λ m s q. known_ m s (nat_eq n m) refl (nat_eq m n) refl q;
-    unknown = λ m q. unknown_ m (nat_eq n m) refl (nat_eq m n) refl q }
+  world_names = r.world_names;
+  closed = r.closed;
+  embeds = r.embeds;
+  known = λ m s q. known_ m s (nat_eq n m) refl (nat_eq m n) refl q;
+  unknown = λ m q. unknown_ m (nat_eq n m) refl (nat_eq m n) refl q;
+}
   where
     swap : (m : ℕ) → nat_eq n m ≡ true → nat_eq m n ≡ true
     swap m q = eq-eqb m n (sym (eqb-true n m q))

@@ -58,11 +58,12 @@ module _ (names : List (List ℕ)) (program : Decs) (clean : scope_stop names pr
 -- before anything is declared
 nothing_realised : (names : List (List ℕ)) → Realises (no_environment names) [] (λ i. i) (over names [])
 nothing_realised names = record {
-    world_names = refl;
-    closed = tt;
-    embeds = embeds_same [];
-    known = λ n t q. absurd (cc);
-    unknown = λ n q. refl }
+  world_names = refl;
+  closed = tt;
+  embeds = embeds_same [];
+  known = λ n t q. absurd (cc);
+  unknown = λ n q. refl;
+}
 
 pub source_to_core : SourceToCore
 source_to_core names program t =

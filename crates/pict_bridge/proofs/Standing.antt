@@ -30,15 +30,17 @@ longer_by ts w = record w { variables = w.variables ++ ts }
 
 pub longer_more : {w v u : World} → Longer w v → Longer v u → Longer w u
 longer_more {w = w} {v = v} {u = u} x y = record {
-    further = x.further ++ y.further;
-    is = y.is ∙ ap (longer_by y.further) x.is ∙ ap (λ z. record w { variables = z }) (append_assoc w.variables x.further y.further) }
+  further = x.further ++ y.further;
+  is = y.is ∙ ap (longer_by y.further) x.is ∙ ap (λ z. record w { variables = z }) (append_assoc w.variables x.further y.further);
+}
 
 pub longer_grows : {w v : World} → Longer w v → Grows (λ i. i) w v
 longer_grows {w = w} l = subst (Grows (λ i. i) w) (sym l.is) (record {
-    names_ = refl;
-    messages_ = refl;
-    embeds = embeds_same w.type_variables;
-    variables_ = λ i t e. slice_first w.variables l.further i (rename (λ j. j) t) (e ∙ ap Some (sym (rename_same t (record { each = λ j. refl })))) })
+  names_ = refl;
+  messages_ = refl;
+  embeds = embeds_same w.type_variables;
+  variables_ = λ i t e. slice_first w.variables l.further i (rename (λ j. j) t) (e ∙ ap Some (sym (rename_same t (record { each = λ j. refl }))));
+})
 
 pub has_longer : {w v : World} {u : Val} {t : PlainType} → AreClosedTypes w.names w.messages → Longer w v → HasType w u t → HasType v u t
 has_longer {v = v} {u = u} {t = t} k l h = subst (HasType v u) (rename_same t (record { each = λ j. refl })) (value_grown k (longer_grows l) h)

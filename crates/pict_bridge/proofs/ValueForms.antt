@@ -63,8 +63,8 @@ lambda_sent_by e s a r q h vs f w k = record { on_its_way = go; sends = go }
         let t = type_means r k2 q in
         new_stands v R (λ x. beside (reader (around e vs) a x true) (output c x s)) t
         (typed.beside
-          (h vs f (with_variable (Chan Both R) v) (realises_longer (one_longer (Chan Both R) v) k2) (core.Var (length v.variables)) true (last_receives R v t))
-          (typed.output (Chan Write R) (type_longer R (one_longer (Chan Both R) v) t) (has_longer k2.closed (one_longer (Chan Both R) v) m) (last_sends R v t)))
+        (h vs f (with_variable (Chan Both R) v) (realises_longer (one_longer (Chan Both R) v) k2) (core.Var (length v.variables)) true (last_receives R v t))
+        (typed.output (Chan Write R) (type_longer R (one_longer (Chan Both R) v) t) (has_longer k2.closed (one_longer (Chan Both R) v) m) (last_sends R v t)))
 
 -- ---- (rec v), which hands its channel on
 
@@ -109,7 +109,7 @@ block_sent e d s ds v t u n h k q vs f w r = record { on_its_way = go; sends = g
         let x = k us g w3 rd in
         let since : opened_since e d ≡ fo.count = since_is e d fo.count fo.length_ in
         let same : shifted fo.more (meaning f t) ≡ meaning g u =
-            sym (meaning_later g f fo.count fo.more t fo.extends_) ∙ ap (λ i. meaning g (rename (moved i 0) t)) (sym since) ∙ ap (meaning g) q in
+        sym (meaning_later g f fo.count fo.more t fo.extends_) ∙ ap (λ i. meaning g (rename (moved i 0) t)) (sym since) ∙ ap (meaning g) q in
         let y : HasType w3 c (Chan Write (meaning g u)) = subst (λ z. HasType w3 c (Chan Write z)) same (value_grown (realises_longer l r).closed fo.grows m) in
         subst (λ ns. Stands w3 (sending (record { names = ns; values = us }) v c)) n (x.sends w3 c (not_longer w3) y))
 

@@ -44,7 +44,8 @@ sent_above e v s t p q d h vs f w r =
     let x = h vs f w r in
     record {
       on_its_way = way_up w (meaning f s) (meaning f t) (simple (around e vs) v) (sending (around e vs) v) (type_means s r p) (type_means t r q) (below_means r d) x.on_its_way;
-      sends = sends_up (sending (around e vs) v) (type_means s r p) (type_means t r q) (below_means r d) x.sends }
+      sends = sends_up (sending (around e vs) v) (type_means s r p) (type_means t r q) (below_means r d) x.sends;
+    }
 
 -- new x, P
 pub new_stands : (w : World) (t : PlainType) (F : core.Val → Placed) → IsType w t → Stands (with_variable (Chan Both t) w) (F (core.Var (length w.variables))) → Stands w (new_channel F)

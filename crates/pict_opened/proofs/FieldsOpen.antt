@@ -17,7 +17,6 @@ use Rattle.pict_opened.specs.Opening.{meaning, IsBoundAs, IsPlaced, AddsWhatIsOp
 use Rattle.pict_opened.proofs.Joining.{type_after}
 use Rattle.pict_opened.proofs.Opened.{embeds_after, opens_embeds, types_embed, labels_embed}
 
-
 abbrev pub Each : {A : Type 0} → (A → Type 0) → List A → Type 0
 Each P [] = Unit {0}
 Each P (x ∷ xs) = P x × Each P xs
@@ -114,25 +113,29 @@ counted slots others n ts us x y = length-append slots others ∙ ap₂ (λ a b.
 -- what is opened first, and what is opened after it
 placed_first : (e : Environment) (f : ℕ → ℕ) (c d : TypeContext) (m n : ℕ) (slots others : List (Option ℕ)) (ts us : List PlainType) (x : Extension) → Embeds (moved n 0) c d → IsPlaced e f c m slots ts x → IsPlaced e f d (m + n) (slots ++ others) (map (shifted n) ts ++ us) x
 placed_first e f c d m n slots others ts us x i p = record {
-    later = λ k. p.later k + n;
-    embeds = embeds_after (λ k. p.later k + n) p.embeds i (λ k. refl);
-    extends_ = λ k. ap (λ z. z + n) (p.extends_ k) ∙ omega arith;
-    each = λ l t q. let b = p.each l t q in record {
-        place = b.place;
-        named_ = slice_first slots others b.place (Some l) b.named_;
-        typed = slice_first (map (shifted n) ts) us b.place (meaning (λ k. p.later k + n) t) (slice_get-map (shifted n) ts b.place ∙ ap (option_map (shifted n)) b.typed ∙ ap Some (type_after (moved n 0) p.later (λ k. p.later k + n) (erased t) (λ k. refl))) } }
+  later = λ k. p.later k + n;
+  embeds = embeds_after (λ k. p.later k + n) p.embeds i (λ k. refl);
+  extends_ = λ k. ap (λ z. z + n) (p.extends_ k) ∙ omega arith;
+  each = λ l t q. let b = p.each l t q in record {
+    place = b.place;
+    named_ = slice_first slots others b.place (Some l) b.named_;
+    typed = slice_first (map (shifted n) ts) us b.place (meaning (λ k. p.later k + n) t) (slice_get-map (shifted n) ts b.place ∙ ap (option_map (shifted n)) b.typed ∙ ap Some (type_after (moved n 0) p.later (λ k. p.later k + n) (erased t) (λ k. refl)));
+  };
+}
 
 placed_second : (e : Environment) (f : ℕ → ℕ) (d : TypeContext) (m n : ℕ) (slots others : List (Option ℕ)) (ts us : List PlainType) (x : Extension) → length slots ≡ length ts → IsPlaced e (λ k. f k + m) d n others us x → IsPlaced e f d (m + n) (slots ++ others) (map (shifted n) ts ++ us) x
 placed_second e f d m n slots others ts us x l p = record {
-    later = p.later;
-    embeds = p.embeds;
-    extends_ = λ k. p.extends_ k ∙ omega arith;
-    each = λ i t q. let b = p.each i t q in
-        let k : length slots ≡ length (map (shifted n) ts) = l ∙ sym (length_shifted n ts) in
-        record {
-          place = length slots + b.place;
-          named_ = slice_second slots others b.place (Some i) b.named_;
-          typed = subst (λ z. slice_get (map (shifted n) ts ++ us) (z + b.place) ≡ Some (meaning p.later t)) (sym k) (slice_second (map (shifted n) ts) us b.place (meaning p.later t) b.typed) } }
+  later = p.later;
+  embeds = p.embeds;
+  extends_ = λ k. p.extends_ k ∙ omega arith;
+  each = λ i t q. let b = p.each i t q in
+      let k : length slots ≡ length (map (shifted n) ts) = l ∙ sym (length_shifted n ts) in
+      record {
+        place = length slots + b.place;
+        named_ = slice_second slots others b.place (Some i) b.named_;
+        typed = subst (λ z. slice_get (map (shifted n) ts ++ us) (z + b.place) ≡ Some (meaning p.later t)) (sym k) (slice_second (map (shifted n) ts) us b.place (meaning p.later t) b.typed);
+      };
+}
 
 -- ---- positional fields
 
@@ -169,14 +172,17 @@ types_open names e a (x ∷ xs) c f i o = first (o.0 c f i) (λ d g j. types_ope
   where
     first : AddsWhatIsOpened e x.adds f x.slots (Opens names c x.pattern_ (meaning f x.type_)) → ((d : TypeContext) (g : ℕ → ℕ) → Embeds g (erased_context (context_of e)) d → AllOpened e g (part_slots (and_answer a xs)) (map (λ y. y.adds) xs) a (length (part_slots xs)) (OpenTypes names d (part_pats (and_answer a xs)) (meanings g (part_types (and_answer a xs))))) → AllOpened e f (x.slots ++ part_slots (and_answer a xs)) (x.adds ∷ map (λ y. y.adds) xs) a (length (x.slots ++ part_slots xs)) (OpenTypes names c (more_pats x.pattern_ (part_pats (and_answer a xs))) (types (meaning f x.type_) (meanings f (part_types (and_answer a xs)))))
     first p rest = record {
-        context = r.context;
-        more = p.more + r.more;
-        types_ = map (shifted r.more) p.types_ ++ r.types_;
-        opens = opens_more p.opens (subst (λ k. OpenTypes names p.context (part_pats (and_answer a xs)) k r.context r.more r.types_) (sym (types_later f p.more (part_types (and_answer a xs)))) r.opens);
-        as_many = counted x.slots (part_slots (and_answer a xs)) r.more p.types_ r.types_ p.as_many r.as_many;
-        placed = (placed_first e f p.context r.context p.more r.more x.slots (part_slots (and_answer a xs)) p.types_ r.types_ x.adds (types_embed r.opens) p.placed,
-            each_by (IsPlaced e g r.context r.more (part_slots (and_answer a xs)) r.types_) _ (λ y z. placed_second e f r.context p.more r.more x.slots (part_slots (and_answer a xs)) p.types_ r.types_ y p.as_many z) (map (λ y. y.adds) xs) r.placed);
-        answer_at = answer_second a f p.more r.more (length (part_slots xs)) x.slots (part_slots xs) p.types_ r.types_ p.as_many refl r.answer_at }
+      context = r.context;
+      more = p.more + r.more;
+      types_ = map (shifted r.more) p.types_ ++ r.types_;
+      opens = opens_more p.opens (subst (λ k. OpenTypes names p.context (part_pats (and_answer a xs)) k r.context r.more r.types_) (sym (types_later f p.more (part_types (and_answer a xs)))) r.opens);
+      as_many = counted x.slots (part_slots (and_answer a xs)) r.more p.types_ r.types_ p.as_many r.as_many;
+      placed = (
+        placed_first e f p.context r.context p.more r.more x.slots (part_slots (and_answer a xs)) p.types_ r.types_ x.adds (types_embed r.opens) p.placed,
+        each_by (IsPlaced e g r.context r.more (part_slots (and_answer a xs)) r.types_) _ (λ y z. placed_second e f r.context p.more r.more x.slots (part_slots (and_answer a xs)) p.types_ r.types_ y p.as_many z) (map (λ y. y.adds) xs) r.placed,
+      );
+      answer_at = answer_second a f p.more r.more (length (part_slots xs)) x.slots (part_slots xs) p.types_ r.types_ p.as_many refl r.answer_at;
+    }
       where
         g : ℕ → ℕ
         g k = f k + p.more
@@ -192,14 +198,17 @@ labels_open names e ls (x ∷ xs) c f i h o = first (o.0 c f i) (λ d g j. label
   where
     first : AddsWhatIsOpened e x.1.adds f x.1.slots (Opens names c x.1.pattern_ (meaning f x.1.type_)) → ((d : TypeContext) (g : ℕ → ℕ) → Embeds g (erased_context (context_of e)) d → AllOpened e g (labelled_slots xs) (map (λ y. y.1.adds) xs) None 0 (OpenLabels names d (labelled_pats xs) (label_meanings g ls))) → AllOpened e f (x.1.slots ++ labelled_slots xs) (x.1.adds ∷ map (λ y. y.1.adds) xs) None 0 (OpenLabels names c (more_labelled_pats x.0 x.1.pattern_ (labelled_pats xs)) (label_meanings f ls))
     first p rest = record {
-        context = r.context;
-        more = p.more + r.more;
-        types_ = map (shifted r.more) p.types_ ++ r.types_;
-        opens = opens_label (type_at_renamed f x.0 (erased_labels ls) (erased x.1.type_) (type_at_erased x.0 ls x.1.type_ h.0)) p.opens (subst (λ k. OpenLabels names p.context (labelled_pats xs) k r.context r.more r.types_) (sym (labels_later f p.more ls)) r.opens);
-        as_many = counted x.1.slots (labelled_slots xs) r.more p.types_ r.types_ p.as_many r.as_many;
-        placed = (placed_first e f p.context r.context p.more r.more x.1.slots (labelled_slots xs) p.types_ r.types_ x.1.adds (labels_embed r.opens) p.placed,
-            each_by (IsPlaced e g r.context r.more (labelled_slots xs) r.types_) _ (λ y z. placed_second e f r.context p.more r.more x.1.slots (labelled_slots xs) p.types_ r.types_ y p.as_many z) (map (λ y. y.1.adds) xs) r.placed);
-        answer_at = tt }
+      context = r.context;
+      more = p.more + r.more;
+      types_ = map (shifted r.more) p.types_ ++ r.types_;
+      opens = opens_label (type_at_renamed f x.0 (erased_labels ls) (erased x.1.type_) (type_at_erased x.0 ls x.1.type_ h.0)) p.opens (subst (λ k. OpenLabels names p.context (labelled_pats xs) k r.context r.more r.types_) (sym (labels_later f p.more ls)) r.opens);
+      as_many = counted x.1.slots (labelled_slots xs) r.more p.types_ r.types_ p.as_many r.as_many;
+      placed = (
+        placed_first e f p.context r.context p.more r.more x.1.slots (labelled_slots xs) p.types_ r.types_ x.1.adds (labels_embed r.opens) p.placed,
+        each_by (IsPlaced e g r.context r.more (labelled_slots xs) r.types_) _ (λ y z. placed_second e f r.context p.more r.more x.1.slots (labelled_slots xs) p.types_ r.types_ y p.as_many z) (map (λ y. y.1.adds) xs) r.placed,
+      );
+      answer_at = tt;
+    }
       where
         g : ℕ → ℕ
         g k = f k + p.more
@@ -236,15 +245,16 @@ record_opens names e a xs ls ys c f i o h k distinct = both (types_open names e 
     both : AllOpened e f ss (map (λ x. x.adds) xs) a (length (part_slots xs)) (OpenTypes names c (part_pats (and_answer a xs)) (meanings f (part_types (and_answer a xs)))) → ((d : TypeContext) (g : ℕ → ℕ) → Embeds g (erased_context (context_of e)) d → AllOpened e g (labelled_slots ys) (map (λ y. y.1.adds) ys) None 0 (OpenLabels names d (labelled_pats ys) (label_meanings g ls)))
         → FieldsOpen names e a xs ls ys c f
     both p rest = record {
-        context = r.context;
-        more = p.more + r.more;
-        types_ = map (shifted r.more) p.types_ ++ r.types_;
-        opens = opens_record distinct p.opens (subst (λ z. OpenLabels names p.context (labelled_pats ys) z r.context r.more r.types_) (sym (labels_later f p.more ls)) r.opens);
-        as_many = counted ss (labelled_slots ys) r.more p.types_ r.types_ p.as_many r.as_many;
-        embeds = embeds_after (λ z. f z + (p.more + r.more)) (embeds_after g i (types_embed p.opens) (λ z. refl)) (labels_embed r.opens) (λ z. omega arith);
-        positional = each_by (IsPlaced e f p.context p.more ss p.types_) _ (λ y z. placed_first e f p.context r.context p.more r.more ss (labelled_slots ys) p.types_ r.types_ y (labels_embed r.opens) z) (map (λ x. x.adds) xs) p.placed;
-        labelled = each_by (IsPlaced e g r.context r.more (labelled_slots ys) r.types_) _ (λ y z. placed_second e f r.context p.more r.more ss (labelled_slots ys) p.types_ r.types_ y p.as_many z) (map (λ y. y.1.adds) ys) r.placed;
-        answer_at = answer_first a f p.more r.more (length (part_slots xs)) p.types_ r.types_ p.answer_at }
+      context = r.context;
+      more = p.more + r.more;
+      types_ = map (shifted r.more) p.types_ ++ r.types_;
+      opens = opens_record distinct p.opens (subst (λ z. OpenLabels names p.context (labelled_pats ys) z r.context r.more r.types_) (sym (labels_later f p.more ls)) r.opens);
+      as_many = counted ss (labelled_slots ys) r.more p.types_ r.types_ p.as_many r.as_many;
+      embeds = embeds_after (λ z. f z + (p.more + r.more)) (embeds_after g i (types_embed p.opens) (λ z. refl)) (labels_embed r.opens) (λ z. omega arith);
+      positional = each_by (IsPlaced e f p.context p.more ss p.types_) _ (λ y z. placed_first e f p.context r.context p.more r.more ss (labelled_slots ys) p.types_ r.types_ y (labels_embed r.opens) z) (map (λ x. x.adds) xs) p.placed;
+      labelled = each_by (IsPlaced e g r.context r.more (labelled_slots ys) r.types_) _ (λ y z. placed_second e f r.context p.more r.more ss (labelled_slots ys) p.types_ r.types_ y p.as_many z) (map (λ y. y.1.adds) ys) r.placed;
+      answer_at = answer_first a f p.more r.more (length (part_slots xs)) p.types_ r.types_ p.answer_at;
+    }
       where
         g : ℕ → ℕ
         g z = f z + p.more

@@ -95,7 +95,6 @@ pub kind_past : (xs : List PlainBound) (c : TypeContext) (i : ℕ) → kind_at (
 kind_past [] c i = let e : i + 0 ≡ i = omega arith in ap (kind_at (kinds c)) e
 kind_past (x ∷ xs) c i = let e : i + suc (length xs) ≡ suc (i + length xs) = omega arith in ap (kind_at (kinds (x ∷ (xs ++ c)))) e ∙ kind_past xs c i
 
-
 kind_first : (k : ℕ) (ys : List PlainBound) (c d : TypeContext) (i : ℕ) → i < length ys → kind_at (kinds (moved_bounds k ys ++ c)) i ≡ kind_at (kinds (ys ++ d)) i
 kind_first k [] c d i h = absurd (omega (arith, h))
 kind_first k (y ∷ ys) c d zero h = ap Some (sym (same_kind (moved k (length ys)) y))

@@ -14,14 +14,16 @@ embeds_same c = record { keeps = record { each = λ i b e. e ∙ ap Below (sym (
 
 embeds_none : (c : TypeContext) → Embeds (moved 0 0) c c
 embeds_none c = record {
-    keeps = record { each = λ i b e. ap (bound_of c) (omega arith) ∙ e ∙ ap Below (sym (rename_same b (record { each = λ j. omega arith }))) };
-    kept = λ i k e. ap (kind_at (kinds c)) (omega arith) ∙ e }
+  keeps = record { each = λ i b e. ap (bound_of c) (omega arith) ∙ e ∙ ap Below (sym (rename_same b (record { each = λ j. omega arith }))) };
+  kept = λ i k e. ap (kind_at (kinds c)) (omega arith) ∙ e;
+}
 
 -- g after f is h
 pub embeds_after : {g f : ℕ → ℕ} (h : ℕ → ℕ) {b c d : TypeContext} → Embeds f b c → Embeds g c d → ((i : ℕ) → g (f i) ≡ h i) → Embeds h b d
 embeds_after {g = g} {f = f} h {d = d} x y e = record {
-    keeps = record { each = λ i b q. ap (bound_of d) (sym (e i)) ∙ y.keeps.each (f i) (rename f b) (x.keeps.each i b q) ∙ ap Below (type_after g f h b e) };
-    kept = λ i k q. ap (kind_at (kinds d)) (sym (e i)) ∙ y.kept (f i) k (x.kept i k q) }
+  keeps = record { each = λ i b q. ap (bound_of d) (sym (e i)) ∙ y.keeps.each (f i) (rename f b) (x.keeps.each i b q) ∙ ap Below (type_after g f h b e) };
+  kept = λ i k q. ap (kind_at (kinds d)) (sym (e i)) ∙ y.kept (f i) k (x.kept i k q);
+}
 
 further_in : (b : PlainBound) (c : TypeContext) → Embeds suc c (b ∷ c)
 further_in b c = record { keeps = record { each = λ i t q. bound_further b c i ∙ ap (rename_bound suc) q }; kept = λ i k q. q }

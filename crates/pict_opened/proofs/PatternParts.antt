@@ -170,15 +170,17 @@ pub record FieldsAdd (e : Environment) (a : Option PlainType) (ps : Pats) (ls : 
 
 pub fields_add : (e : Environment) (a : Option PlainType) (ps : Pats) (ls : LabelledPats) (own : List KnownType) (ts : PlainTypes) (ms : PlainLabels) (x : Extension) (c : TypeContext) (f : ℕ → ℕ) → PatternFields e ps ls own ts ms x → Embeds f (erased_context (context_of e)) c → FieldsAdd e a ps ls own ts ms x f c
 fields_add e a ps ls own ts ms x c f g i = record {
-    adds = record {
-      context = r.context;
-      more = r.more + count_bounds (bounds_of own);
-      types_ = r.types_;
-      opens = package_opens c f (bounds_of own) (types_and ts a) ms (subst (λ p. Opens e.names under_own p (meaning inner (Fields no_bound (types_and ts a) ms)) r.context r.more r.types_) pattern_same (subst (λ z. Opens e.names under_own (RecordPat (part_pats (and_answer a xs)) (labelled_pats ys)) (meaning inner (Fields no_bound z ms)) r.context r.more r.types_) types_same r.opens));
-      as_many = ap length (sym slots_same) ∙ r.as_many;
-      placed = record { later = one.later; embeds = within_embeds e own x one.later r.context one.embeds; extends_ = within_extends own x f one.later r.more one.extends_; each = one.each } };
-    inside = subst (λ g. Embeds g (erased_context (context_of e1)) r.context) (λ j i. sym (one.extends_ i) j) r.embeds;
-    answer_at = answer_has a (length (part_slots xs)) (length (names_in (all_opened e.names ps))) x inner r.more one.later r.types_ (ap length (parts_named g.positional.fields) ∙ length_named (names_in (map (λ y. y.opened_) g.positional.fields)) ∙ ap (λ z. length (names_in z)) (sym g.positional.are)) one.extends_ r.answer_at }
+  adds = record {
+    context = r.context;
+    more = r.more + count_bounds (bounds_of own);
+    types_ = r.types_;
+    opens = package_opens c f (bounds_of own) (types_and ts a) ms (subst (λ p. Opens e.names under_own p (meaning inner (Fields no_bound (types_and ts a) ms)) r.context r.more r.types_) pattern_same (subst (λ z. Opens e.names under_own (RecordPat (part_pats (and_answer a xs)) (labelled_pats ys)) (meaning inner (Fields no_bound z ms)) r.context r.more r.types_) types_same r.opens));
+    as_many = ap length (sym slots_same) ∙ r.as_many;
+    placed = record { later = one.later; embeds = within_embeds e own x one.later r.context one.embeds; extends_ = within_extends own x f one.later r.more one.extends_; each = one.each };
+  };
+  inside = subst (λ g. Embeds g (erased_context (context_of e1)) r.context) (λ j i. sym (one.extends_ i) j) r.embeds;
+  answer_at = answer_has a (length (part_slots xs)) (length (names_in (all_opened e.names ps))) x inner r.more one.later r.types_ (ap length (parts_named g.positional.fields) ∙ length_named (names_in (map (λ y. y.opened_) g.positional.fields)) ∙ ap (λ z. length (names_in z)) (sym g.positional.are)) one.extends_ r.answer_at;
+}
   where
     e1 : Environment
     e1 = with_own e own

@@ -92,16 +92,18 @@ adds_by k p = record { context = p.context; more = p.more; types_ = p.types_; op
 bind_opens : (e : Environment) (s : Span) (x : Id) (r : Option TypeTree) (t : PlainType) → OpensAgainst e (bind_pat s x r) t (one_value x t)
 unfolding opened_pattern
 bind_opens e s x r t c f i = record {
-    context = c;
-    more = 0;
-    types_ = meaning f t ∷ [];
-    opens = binds_one;
-    as_many = refl;
-    placed = record {
-      later = f;
-      embeds = i;
-      extends_ = λ k. let q : k + 0 ≡ k = omega arith in let z : f k ≡ f k + 0 = omega arith in ap f q ∙ z;
-      each = λ m u q. go m u (nat_eq x.name.0 m) refl q } }
+  context = c;
+  more = 0;
+  types_ = meaning f t ∷ [];
+  opens = binds_one;
+  as_many = refl;
+  placed = record {
+    later = f;
+    embeds = i;
+    extends_ = λ k. let q : k + 0 ≡ k = omega arith in let z : f k ≡ f k + 0 = omega arith in ap f q ∙ z;
+    each = λ m u q. go m u (nat_eq x.name.0 m) refl q;
+  };
+}
   where
     go : (m : ℕ) (u : PlainType) (b : Bool) → nat_eq x.name.0 m ≡ b → known_type (one_value x t).values m ≡ Some u → IsBoundAs (Some x.name.0 ∷ []) (meaning f t ∷ []) f m u
     go m u true q k =
@@ -113,12 +115,13 @@ bind_opens e s x r t c f i = record {
 any_opens : (e : Environment) (s : Span) (r : Option TypeTree) (t : PlainType) → OpensAgainst e (any_pat s r) t no_extension
 unfolding opened_pattern
 any_opens e s r t c f i = record {
-    context = c;
-    more = 0;
-    types_ = [];
-    opens = binds_none;
-    as_many = refl;
-    placed = placed_none e f c 0 [] [] (embeds_after (λ k. f k + 0) i (embeds_same c) (λ k. omega arith)) }
+  context = c;
+  more = 0;
+  types_ = [];
+  opens = binds_none;
+  as_many = refl;
+  placed = placed_none e f c 0 [] [] (embeds_after (λ k. f k + 0) i (embeds_same c) (λ k. omega arith));
+}
 
 -- against a type below another one
 against_below : (e : Environment) (p : Pat) (t u : PlainType) (x : Extension) → IsTypeIn e u → IsSubtype (context_of e) t u → OpensAgainst e p u x → OpensAgainst e p t x
@@ -162,13 +165,14 @@ types_last (x ∷ xs) y = ap (types x.type_) (types_last xs y)
 and_field : (e : Environment) (ps : Pats) (p : Pat) (ts : PlainTypes) (t : PlainType) (x y : Extension) → PositionalFields e ps ts x → OpensAgainst e p t y → PositionalFields e (more_pats ps p) (and_type ts t) (joined x y)
 unfolding opened_pattern
 and_field e ps p ts t x y g o = record {
-    fields = g.fields ++ z ∷ [];
-    are = ap (λ k. k ++ opened_pattern e.names p ∷ []) g.are ∙ sym (map-append (λ k. k.opened_) g.fields (z ∷ []));
-    typed = types_last g.fields z ∙ ap (λ k. and_type k t) g.typed;
-    opens_ = subst (Each (OpensAnywhere e.names e)) (sym (map-append as_part g.fields (z ∷ []))) (each_last (OpensAnywhere e.names e) (as_parts g.fields) (as_part z) g.opens_ o);
-    one = λ f d n slots us i h.
-        let k = last_of_each (IsPlaced e f d n slots us) (map (λ w. w.adds) g.fields) y (subst (Each (IsPlaced e f d n slots us)) (map-append (λ w. w.adds) g.fields (z ∷ [])) h) in
-        placed_joined e f d n slots us x y (g.one f d n slots us i k.0) k.1 }
+  fields = g.fields ++ z ∷ [];
+  are = ap (λ k. k ++ opened_pattern e.names p ∷ []) g.are ∙ sym (map-append (λ k. k.opened_) g.fields (z ∷ []));
+  typed = types_last g.fields z ∙ ap (λ k. and_type k t) g.typed;
+  opens_ = subst (Each (OpensAnywhere e.names e)) (sym (map-append as_part g.fields (z ∷ []))) (each_last (OpensAnywhere e.names e) (as_parts g.fields) (as_part z) g.opens_ o);
+  one = λ f d n slots us i h.
+      let k = last_of_each (IsPlaced e f d n slots us) (map (λ w. w.adds) g.fields) y (subst (Each (IsPlaced e f d n slots us)) (map-append (λ w. w.adds) g.fields (z ∷ [])) h) in
+      placed_joined e f d n slots us x y (g.one f d n slots us i k.0) k.1;
+}
   where
     z : Field
     z = record { opened_ = opened_pattern e.names p; type_ = t; adds = y }
@@ -189,16 +193,18 @@ adds_placed e f d n slots us (y ∷ ys) h = (h.0, adds_placed e f d n slots us y
 and_label : (e : Environment) (ls : LabelledPats) (l : Id) (p : Pat) (ms rs : PlainLabels) (t : PlainType) (x y : Extension) → IsNewPattern l.name.0 ls → LabelsOpen_ e ls ms x → OpensAgainst e p t y → ((m : ℕ) → m ≢ l.name.0 → type_at m rs ≡ type_at m ms) → type_at l.name.0 rs ≡ Some t → LabelsOpen_ e (more_labelled_pats ls l p) rs (joined x y)
 unfolding opened_pattern
 and_label e ls l p ms rs t x y w g o other this = record {
-    fields = record {
-      fields = all;
-      are = ordered_last e.names (labelled_opened e.names ls) n (opened_pattern e.names p) ∙ ap (with_label e.names n (opened_pattern e.names p)) g.fields.are ∙ sym (put_each (λ k. k.opened_) e.names n z g.fields.fields);
-      typed = each_put (λ (k : ℕ × Field). IsTypedAt rs (k.0, as_part k.1)) e.names n z g.fields.fields this (still_typed g.fields.fields (g.new n w) g.fields.typed);
-      opens_ = each_put (λ (k : ℕ × Field). OpensAnywhere e.names e (as_part k.1)) e.names n z g.fields.fields o g.fields.opens_;
-      once = once_put e.names n z g.fields.fields (g.new n w) g.fields.once;
-      one = λ f d i slots us j h.
-          let k = put_each_of (λ (q : ℕ × Field). IsPlaced e f d i slots us q.1.adds) e.names n z g.fields.fields (placed_adds e f d i slots us all h) in
-          placed_joined e f d i slots us x y (g.fields.one f d i slots us j (adds_placed e f d i slots us g.fields.fields k.1)) k.0 };
-    new = λ m h. each_put (λ (k : ℕ × Field). m ≢ k.0) e.names n z g.fields.fields h.1 (g.new m h.0) }
+  fields = record {
+    fields = all;
+    are = ordered_last e.names (labelled_opened e.names ls) n (opened_pattern e.names p) ∙ ap (with_label e.names n (opened_pattern e.names p)) g.fields.are ∙ sym (put_each (λ k. k.opened_) e.names n z g.fields.fields);
+    typed = each_put (λ (k : ℕ × Field). IsTypedAt rs (k.0, as_part k.1)) e.names n z g.fields.fields this (still_typed g.fields.fields (g.new n w) g.fields.typed);
+    opens_ = each_put (λ (k : ℕ × Field). OpensAnywhere e.names e (as_part k.1)) e.names n z g.fields.fields o g.fields.opens_;
+    once = once_put e.names n z g.fields.fields (g.new n w) g.fields.once;
+    one = λ f d i slots us j h.
+        let k = put_each_of (λ (q : ℕ × Field). IsPlaced e f d i slots us q.1.adds) e.names n z g.fields.fields (placed_adds e f d i slots us all h) in
+        placed_joined e f d i slots us x y (g.fields.one f d i slots us j (adds_placed e f d i slots us g.fields.fields k.1)) k.0;
+  };
+  new = λ m h. each_put (λ (k : ℕ × Field). m ≢ k.0) e.names n z g.fields.fields h.1 (g.new m h.0);
+}
   where
     n : ℕ
     n = l.name.0

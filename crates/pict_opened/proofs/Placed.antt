@@ -81,19 +81,21 @@ known_in (v ∷ vs) ws m t e = go (nat_eq v.name m) refl (known_in vs ws m t)
 
 pub placed_none : (e : Environment) (f : ℕ → ℕ) (d : TypeContext) (n : ℕ) (slots : List (Option ℕ)) (ts : List PlainType) → Embeds (λ i. f i + n) (erased_context (context_of e)) d → IsPlaced e f d n slots ts no_extension
 placed_none e f d n slots ts x = record {
-    later = λ i. f i + n;
-    embeds = x;
-    extends_ = λ i. ap (λ j. f j + n) (omega arith);
-    each = λ m t k. absurd (cc) }
+  later = λ i. f i + n;
+  embeds = x;
+  extends_ = λ i. ap (λ j. f j + n) (omega arith);
+  each = λ m t k. absurd (cc);
+}
 
 -- two that stand in the same context stand there joined, in whichever order they were opened
 pub placed_joined : (e : Environment) (f : ℕ → ℕ) (d : TypeContext) (n : ℕ) (slots : List (Option ℕ)) (ts : List PlainType) (x y : Extension) → IsPlaced e f d n slots ts x → IsPlaced e f d n slots ts y → IsPlaced e f d n slots ts (joined x y)
 placed_joined e f d n slots ts x y p q = record {
-    later = g;
-    embeds = subst (λ k. Embeds g k d) (sym (joined_context e x y)) (subst (λ k. Embeds (joined_by k p.later q.later) (joined_bounds (erased_list x.binders) (erased_list y.binders) (erased_context (context_of e))) d) (length_erased y.binders)
-        (joins (erased_list x.binders) (erased_list y.binders) (erased_context (context_of e)) d p.later q.later (subst (λ k. Embeds p.later k d) (with_binders x.binders e.context) p.embeds) (subst (λ k. Embeds q.later k d) (with_binders y.binders e.context) q.embeds) agree));
-    extends_ = λ i. ap g (sums i) ∙ joined_outside (opened y) p.later q.later (i + opened x) ∙ p.extends_ i;
-    each = λ m t k. named_ m t (known_in (rename_values (moved (opened x) (opened y)) y.values) (rename_values (moved (opened y) 0) x.values) m t k) }
+  later = g;
+  embeds = subst (λ k. Embeds g k d) (sym (joined_context e x y)) (subst (λ k. Embeds (joined_by k p.later q.later) (joined_bounds (erased_list x.binders) (erased_list y.binders) (erased_context (context_of e))) d) (length_erased y.binders)
+      (joins (erased_list x.binders) (erased_list y.binders) (erased_context (context_of e)) d p.later q.later (subst (λ k. Embeds p.later k d) (with_binders x.binders e.context) p.embeds) (subst (λ k. Embeds q.later k d) (with_binders y.binders e.context) q.embeds) agree));
+  extends_ = λ i. ap g (sums i) ∙ joined_outside (opened y) p.later q.later (i + opened x) ∙ p.extends_ i;
+  each = λ m t k. named_ m t (known_in (rename_values (moved (opened x) (opened y)) y.values) (rename_values (moved (opened y) 0) x.values) m t k);
+}
   where
     g : ℕ → ℕ
     g = joined_by (opened y) p.later q.later
