@@ -1,0 +1,5 @@
+pub mod Slots
+pub mod Shown
+pub mod Lists
+pub mod Records
+pub mod Rebound

@@ -1,0 +1,167 @@
+-- Operator variables, records, and one more of a row.
+use Rattle.std.proofs.Common.{◌≡◌, suc, ◌+◌, ◌<◌, length, drop, get_or, refl, sym, ◌∙◌, ap, subst, arith}
+use Rattle.std.specs.Prelude.{IfOk}
+use Rattle.pict_types.specs.Types.{Apply, under}
+use Rattle.pict_types.specs.Kinds.{AreWellFormed, BoundIsWellFormed, IsWellFormed, kinds}
+use Rattle.pict_types.specs.Measures.{size, size_types, size_labels}
+use Rattle.pict_types.specs.Plain.{plain, plain_bound, plain_bounds, plain_labels, plain_record, plain_types}
+use Rattle.pict_types.proofs.Rows.{apply_is, plain_fields, labels_end}
+use Rattle.pict_sub.specs.Exposing.{exposure}
+use Rattle.pict_sub.specs.Scopes.{scope_context}
+use Rattle.pict_sub.proofs.Below.{label_read, ready_as, types_formed}
+use Rattle.pict_rules.specs.Found.{matched, matched_labels}
+use Rattle.pict_match.specs.Formed.{IsFormed, AreFormed, LabelsAreFormed, BoundIsFormed}
+use Rattle.pict_match.specs.Parts.{by_arguments}
+use Rattle.pict_match.specs.PlainFound.{found_in}
+use Rattle.pict_match.proofs.Lists.{IsLeft, bound_formed_at, bounds_next, context_at, given_bound_at, given_type, labels_out, pass_given, pass_wanted, size_bound_at, size_label_at, size_type_at, take_both, type_formed_at, wanted_type}
+use Rattle.pict_match.proofs.Records.{formed_labelled, formed_positional}
+use Rattle.pict_match.proofs.Shown.{arguments_same, formed_arguments, shown_arguments, shown_fields}
+use Rattle.pict_match.proofs.matching.+matching.Goals as goal
+
+pub match_at-match_arguments-requires : goal.match_at-match_arguments-requires
+match_at-match_arguments-requires t c =
+    let e = apply_is c.args.wanted.now c.in-Apply.i c.in-Apply.ws c.deref.result.now c.in-Apply.is c.deref.ensures.value in
+    let h : size (plain c.args.wanted.now) ≡ suc (size_types (plain_types c.deref.result.now)) = ap size e in
+    (omega (arith, h), (c.requires.context, (formed_arguments (subst (IsFormed c.args.names.now) e c.requires.wanted), c.requires.given)))
+
+pub match_at-returns-in-Apply : goal.match_at-returns-in-Apply
+match_at-returns-in-Apply t c =
+    let e = apply_is c.args.wanted.now c.in-Apply.i c.in-Apply.ws c.deref.result.now c.in-Apply.is c.deref.ensures.value in
+    subst (λ x. IfOk c.match_arguments.result (λ _. found_in c.match_arguments.new.found ≡ matched (scope_context c.args.scope.now) c.args.inner x (plain c.args.given.now) (found_in c.args.found.now))) (sym e) c.match_arguments.ensures
+
+pub match_arguments-match_types-requires : goal.match_arguments-match_types-requires
+match_arguments-match_types-requires t c =
+    let e : Apply c.in-Apply.j (plain_types c.deref.result.now) ≡ exposure (scope_context c.args.scope.now) (plain c.args.given.now) =
+    sym (apply_is c.shown.result.now c.in-Apply.j c.in-Apply.us c.deref.result.now c.in-Apply.is c.deref.ensures.value) ∙ c.shown.ensures ∙ c.in_ok-followed.ensures in
+    (omega arith, (c.requires.context, (c.requires.wanted, shown_arguments c.args.names.now (scope_context c.args.scope.now) (plain c.args.given.now) c.in-Apply.j (plain_types c.deref.result.now) c.requires.context c.requires.given e)))
+
+pub match_arguments-returns-then-is_same_head : goal.match_arguments-returns-then-is_same_head
+match_arguments-returns-then-is_same_head t c =
+    let ctx = scope_context c.args.scope.now in
+    let f = found_in c.args.found.now in
+    let ws = plain_types c.args.wanted.now in
+    let us = plain_types c.deref.result.now in
+    let e : Apply c.in-Apply.j us ≡ exposure ctx (plain c.args.given.now) =
+    sym (apply_is c.shown.result.now c.in-Apply.j c.in-Apply.us c.deref.result.now c.in-Apply.is c.deref.ensures.value) ∙ c.shown.ensures ∙ c.in_ok-followed.ensures in
+    let is = arguments_same ctx c.args.inner c.args.i c.in-Apply.j ws us (plain c.args.given.now) f e (sym c.is_same_head.ensures ∙ c.if-is_same_head.true) in
+    subst (λ x. IfOk c.match_types.result (λ _. found_in c.match_types.new.found ≡ x)) is c.match_types.ensures
+
+pub match_record-match_records-requires : goal.match_record-match_records-requires
+match_record-match_records-requires t c =
+    let e : plain_record c.in-Fields.q ≡ exposure (scope_context c.args.scope.now) (plain c.args.given.now) =
+    sym (plain_fields c.in-Fields.q) ∙ ap plain (sym c.in-Fields.is) ∙ c.shown.ensures ∙ c.in_ok-followed.ensures in
+    (omega arith, (c.requires.context, (c.requires.wanted, shown_fields c.args.names.now (scope_context c.args.scope.now) (plain c.args.given.now) _ _ _ c.requires.context c.requires.given e)))
+
+pub match_records-match_types-requires : goal.match_records-match_types-requires
+match_records-match_types-requires t c =
+    let names = c.args.names.now in
+    let ctx = scope_context c.args.scope.now in
+    let r = c.args.wanted.now in
+    let q = c.args.given.now in
+    let rows = ready_as names ctx (plain_bounds c.deref-3.result.now) (plain_bounds q.binders.items) (plain_types c.deref-5.result.now) (plain_types q.positional.items) (plain_labels q.labelled.items) (plain_labels q.labelled.items) (ap plain_bounds c.deref-3.ensures.value) (ap plain_types c.deref-5.ensures.value) refl c.requires.context c.requires.given in
+    let less : size_types (plain_types c.deref-4.result.now) ≡ size_types (plain_types r.positional.items) = ap (λ x. size_types (plain_types x)) c.deref-4.ensures.value in
+    let formed = subst (λ x. AreFormed names (plain_types x)) (sym c.deref-4.ensures.value) (formed_positional c.requires.wanted) in
+    (omega (arith, less), (rows.context, (formed, rows.rows)))
+
+pub match_records-match_labels-requires : goal.match_records-match_labels-requires
+match_records-match_labels-requires t c =
+    let names = c.args.names.now in
+    let ctx = scope_context c.args.scope.now in
+    let r = c.args.wanted.now in
+    let q = c.args.given.now in
+    let rows = ready_as names ctx (plain_bounds c.deref-3.result.now) (plain_bounds q.binders.items) (plain_types q.positional.items) (plain_types q.positional.items) (plain_labels c.deref-7.result.now) (plain_labels q.labelled.items) (ap plain_bounds c.deref-3.ensures.value) refl (ap plain_labels c.deref-7.ensures.value) c.requires.context c.requires.given in
+    let less : size_labels (plain_labels c.deref-6.result.now) ≡ size_labels (plain_labels r.labelled.items) = ap (λ x. size_labels (plain_labels x)) c.deref-6.ensures.value in
+    let formed = subst (λ x. LabelsAreFormed names (plain_labels x)) (sym c.deref-6.ensures.value) (formed_labelled c.requires.wanted) in
+    (omega (arith, less), (rows.context, (formed, rows.labelled)))
+
+pub match_types-match_at-requires : goal.match_types-match_at-requires
+match_types-match_at-requires t c =
+    let names = c.args.names.now in
+    let ks = kinds (scope_context c.args.scope.now) in
+    let i = c.loop-i.i in
+    let in_wanted : i < length c.args.wanted.now = c.loop-i-test.true in
+    let in_given : i < length c.args.given.now = omega arith in
+    let formed = subst (λ x. IsFormed names (plain x)) (sym c.index-wanted-i.is) (type_formed_at c.args.wanted.now i c.index-wanted-i.result c.requires.wanted in_wanted) in
+    let given = subst (λ x. IsWellFormed names ks (plain x)) (sym c.index-given-i.is) (types_formed names ks c.args.given.now i c.index-given-i.result c.requires.given in_given) in
+    let less = size_type_at c.args.wanted.now i c.index-wanted-i.result c.index-wanted-i.is in_wanted in
+    (omega (arith, less), (c.requires.context, (formed, given)))
+
+pub match_labels-loop-i-preserved-in-Less : goal.match_labels-loop-i-preserved-in-Less
+match_labels-loop-i-preserved-in-Less t c =
+    let i = c.loop-i.i in
+    let j = c.loop-i.j in
+    let w = c.index-wanted-i.result in
+    let g = c.index-given-j.result in
+    let p = label_read c.args.wanted.now i w c.index-wanted-i.is c.loop-i-test.true in
+    let q = label_read c.args.given.now j g c.index-given-j.is c.if-j-given.true in
+    record {
+      wanted_in = omega arith;
+      given_in = c.loop-i.invariant.given_in;
+      left = pass_wanted c.args.names.now (scope_context c.args.scope.now) c.args.inner w.0.0 g.0.0 (plain w.1) (plain g.1) _ _ p q c.loop-i.invariant.left (sym c.compare_labels.ensures ∙ c.in-Less.is);
+    }
+
+pub match_labels-loop-i-preserved-in-Greater : goal.match_labels-loop-i-preserved-in-Greater
+match_labels-loop-i-preserved-in-Greater t c =
+    let i = c.loop-i.i in
+    let j = c.loop-i.j in
+    let w = c.index-wanted-i.result in
+    let g = c.index-given-j.result in
+    let p = label_read c.args.wanted.now i w c.index-wanted-i.is c.loop-i-test.true in
+    let q = label_read c.args.given.now j g c.index-given-j.is c.if-j-given.true in
+    record {
+      wanted_in = c.loop-i.invariant.wanted_in;
+      given_in = omega arith;
+      left = pass_given c.args.names.now (scope_context c.args.scope.now) c.args.inner w.0.0 g.0.0 (plain w.1) (plain g.1) _ _ p q c.loop-i.invariant.left (sym c.compare_labels.ensures ∙ c.in-Greater.is);
+    }
+
+pub match_labels-match_at-requires : goal.match_labels-match_at-requires
+match_labels-match_at-requires t c =
+    let names = c.args.names.now in
+    let ctx = scope_context c.args.scope.now in
+    let i = c.loop-i.i in
+    let j = c.loop-i.j in
+    let w = c.index-wanted-i.result in
+    let g = c.index-given-j.result in
+    let p = label_read c.args.wanted.now i w c.index-wanted-i.is c.loop-i-test.true in
+    let q = label_read c.args.given.now j g c.index-given-j.is c.if-j-given.true in
+    let less = size_label_at c.args.wanted.now i w c.index-wanted-i.is c.loop-i-test.true in
+    (omega (arith, less), (c.requires.context, (
+    wanted_type names ctx c.args.inner w.0.0 g.0.0 (plain w.1) (plain g.1) _ _ p q c.loop-i.invariant.left,
+    given_type names ctx c.args.inner w.0.0 g.0.0 (plain w.1) (plain g.1) _ _ p q c.loop-i.invariant.left)))
+
+pub match_labels-loop-i-preserved : goal.match_labels-loop-i-preserved
+match_labels-loop-i-preserved t c =
+    let names = c.args.names.now in
+    let ctx = scope_context c.args.scope.now in
+    let i = c.loop-i.i in
+    let j = c.loop-i.j in
+    let w = c.index-wanted-i.result in
+    let g = c.index-given-j.result in
+    let p = label_read c.args.wanted.now i w c.index-wanted-i.is c.loop-i-test.true in
+    let q = label_read c.args.given.now j g c.index-given-j.is c.if-j-given.true in
+    let next = take_both names ctx c.args.inner w.0.0 g.0.0 (plain w.1) (plain g.1) _ _ p q c.loop-i.invariant.left (sym c.compare_labels.ensures ∙ c.in-Equal.is) in
+    record {
+      wanted_in = omega arith;
+      given_in = omega arith;
+      left = subst (λ f. IsLeft names ctx c.args.inner (plain_labels (drop (i + 1) c.args.wanted.now)) (plain_labels (drop (j + 1) c.args.given.now)) f (matched_labels ctx c.args.inner (plain_labels c.args.wanted.now) (plain_labels c.args.given.now) (found_in c.args.found.now))) (sym c.in_ok-match_at-in-Equal.ensures) next;
+    }
+
+pub match_labels-returns-else-j-given : goal.match_labels-returns-else-j-given
+match_labels-returns-else-j-given t c =
+    labels_out c.args.names.now (scope_context c.args.scope.now) c.args.inner _ _ (found_in c.loop-i.found) _ (labels_end c.args.given.now c.loop-i.j c.if-j-given.false) c.loop-i.invariant.left
+
+pub match_bounds-match_bound-requires : goal.match_bounds-match_bound-requires
+match_bounds-match_bound-requires t c =
+    let names = c.args.names.now in
+    let ctx = scope_context c.args.scope.now in
+    let i = c.loop-i.i in
+    let in_wanted : i < length c.args.wanted.now = c.loop-i-test.true in
+    let in_given : i < length c.args.given.now = omega arith in
+    let formed = subst (λ x. BoundIsFormed names (plain_bound x)) (sym c.index-wanted-i.is) (bound_formed_at c.args.wanted.now i c.index-wanted-i.result c.requires.wanted in_wanted) in
+    let given = given_bound_at names ctx c.args.given.now i c.index-given-i.result c.index-given-i.is c.requires.given in_given in
+    let less = size_bound_at c.args.wanted.now i c.index-wanted-i.result c.index-wanted-i.is in_wanted in
+    (omega (arith, less), (context_at names ctx c.args.given.now i c.requires.context c.requires.given (omega arith), (formed, given)))
+
+pub match_bounds-loop-i-preserved : goal.match_bounds-loop-i-preserved
+match_bounds-loop-i-preserved t c =
+    bounds_next (scope_context c.args.scope.now) c.args.inner c.in_ok-deeper.field-0 c.args.wanted.now c.args.given.now c.loop-i.i c.index-wanted-i.result c.index-given-i.result (found_in c.loop-i.found) _ _ (omega arith) (omega arith) c.index-wanted-i.is c.index-given-i.is c.in_ok-deeper.ensures c.in_ok-match_bound.ensures c.loop-i.invariant

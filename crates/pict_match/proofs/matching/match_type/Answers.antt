@@ -1,0 +1,32 @@
+-- The context is well formed, and what is found hangs on no bound.
+use Rattle.std.proofs.Common.{◌≡◌, sym, subst}
+use Rattle.std.proofs.lemmas.Result.{IfOk-weaker}
+use Rattle.pict_types.specs.Kinds.{ContextIsWellFormed, IsWellFormed, kinds}
+use Rattle.pict_types.specs.Plain.{plain}
+use Rattle.pict_types.specs.PlainContext.{names_of, plain_context, type_context}
+use Rattle.pict_types.specs.Types.{PlainBounds}
+use Rattle.pict_sub.proofs.Below.{entries_context}
+use Rattle.pict_rules.specs.Found.{matched}
+use Rattle.pict_match.specs.Formed.{IsFormed}
+use Rattle.pict_match.specs.PlainFound.{found_in, found_of}
+use Rattle.pict_match.proofs.Rebound.{with_bounds}
+use Rattle.pict_match.proofs.matching.match_type.Goals as goal
+
+pub match_at-requires : goal.match_at-requires
+match_at-requires c =
+    let d = c.args.c.now in
+    let same = sym c.names.ensures.same in
+    let context = entries_context (names_of d) (plain_context d) d.formed in
+    record {
+      context = subst (λ n. ContextIsWellFormed n (type_context d)) same context;
+      wanted = subst (λ n. IsFormed n (plain c.args.wanted.now)) same c.requires.wanted;
+      given = subst (λ n. IsWellFormed n (kinds (type_context d)) (plain c.args.given.now)) same c.requires.given;
+    }
+
+pub returns : goal.returns
+returns c =
+    let d = type_context c.args.c.now in
+    let w = plain c.args.wanted.now in
+    let g = plain c.args.given.now in
+    IfOk-weaker c.match_at.result (λ _. found_in c.match_at.new.found ≡ matched d 0 w g (found_in c.args.found.now)) (λ _. (bs : PlainBounds) → found_of bs c.match_at.new.found ≡ matched d 0 w g (found_of bs c.args.found.now))
+    (λ _ h. with_bounds d 0 w g c.args.found.now.list.items c.match_at.new.found.list.items h) c.match_at.ensures
