@@ -3,3 +3,4 @@ pub mod Shown
 pub mod Lists
 pub mod Records
 pub mod Rebound
+pub mod Growing

@@ -174,11 +174,11 @@ bounds_further c d (b ∷ bs) (g ∷ cs) (suc i) x y f h k =
     ∙ bounds_further (plain_bound g ∷ c) (suc d) bs cs i x y f (omega arith) (omega arith)
     ∙ ap (λ m. matched_bounds (under (plain_bound g ∷ c) (plain_bounds (take i cs))) m (plain_bounds (drop i bs)) (plain_bounds (drop i cs)) f) (omega arith)
 
-pub bounds_next : (c : TypeContext) (d n : ℕ) (bs cs : List Bound) (i : ℕ) (w g : Bound) (f h k : Found) → i < length bs → i < length cs → w ≡ get_or bs i w → g ≡ get_or cs i g → n ≡ d + i → h ≡ matched_bound (under c (plain_bounds (take i cs))) n (plain_bound w) (plain_bound g) f → matched_bounds (under c (plain_bounds (take i cs))) (d + i) (plain_bounds (drop i bs)) (plain_bounds (drop i cs)) f ≡ k → matched_bounds (under c (plain_bounds (take (i + 1) cs))) (d + (i + 1)) (plain_bounds (drop (i + 1) bs)) (plain_bounds (drop (i + 1) cs)) h ≡ k
-bounds_next c d n bs cs i w g f h k l m p q e r z =
+pub bounds_next : (c : TypeContext) (d n : ℕ) (bs cs : List Bound) (i : ℕ) (w g : Bound) (f : Found) → i < length bs → i < length cs → w ≡ get_or bs i w → g ≡ get_or cs i g → n ≡ d + i → matched_bounds (under c (plain_bounds (take (i + 1) cs))) (d + (i + 1)) (plain_bounds (drop (i + 1) bs)) (plain_bounds (drop (i + 1) cs)) (matched_bound (under c (plain_bounds (take i cs))) n (plain_bound w) (plain_bound g) f) ≡ matched_bounds (under c (plain_bounds (take i cs))) (d + i) (plain_bounds (drop i bs)) (plain_bounds (drop i cs)) f
+bounds_next c d n bs cs i w g f l m p q e =
     ap₂ (λ x y. matched_bounds (under c (plain_bounds (take x cs))) (d + x) (plain_bounds (drop x bs)) (plain_bounds (drop x cs)) y) (add-one i)
-        (r ∙ ap (λ x. matched_bound (under c (plain_bounds (take i cs))) x (plain_bound w) (plain_bound g) f) e ∙ ap₂ (λ x y. matched_bound (under c (plain_bounds (take i cs))) (d + i) (plain_bound x) (plain_bound y) f) p q)
-    ∙ bounds_further c d bs cs i w g f l m ∙ z
+        (ap (λ x. matched_bound (under c (plain_bounds (take i cs))) x (plain_bound w) (plain_bound g) f) e ∙ ap₂ (λ x y. matched_bound (under c (plain_bounds (take i cs))) (d + i) (plain_bound x) (plain_bound y) f) p q)
+    ∙ bounds_further c d bs cs i w g f l m
 
 pub bounds_done : (c : TypeContext) (d : ℕ) (bs gs : List Bound) (i : ℕ) (f : Found) → length bs ≤ i → matched_bounds c d (plain_bounds (drop i bs)) (plain_bounds (drop i gs)) f ≡ f
 bounds_done c d bs gs i f h = ap (λ z. matched_bounds c d z (plain_bounds (drop i gs)) f) (bounds_end bs i h)

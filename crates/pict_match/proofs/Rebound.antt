@@ -1,13 +1,14 @@
 -- Matching hangs on no bound of a type field: with other bounds it finds the same.
-use Rattle.std.proofs.Common.{◌≡◌, ℕ, zero, suc, ◌+◌, ◌-◌, nat_eq, nat_le, nat_lt, Bool, true, false, ◌&&◌, not, List, [], ◌∷◌, length, refl, sym, ◌∙◌, ap}
-use Rattle.std.specs.Prelude.{Option, Some, None, set, if◌then◌else◌}
+use Rattle.std.proofs.Common.{◌≡◌, ℕ, zero, suc, ◌+◌, ◌-◌, nat_eq, nat_le, nat_lt, Bool, true, false, ◌&&◌, not, List, [], ◌∷◌, length, ◌⊎◌, inl, inr, refl, sym, ◌∙◌, ap, subst, subst₂}
+use Rattle.std.specs.Prelude.{Option, Some, None, Result, Ok, Err, set, slice_get, if◌then◌else◌}
+use Rattle.std.specs.declared.alloc.AllocError.{AllocError}
 use Rattle.pict_types.specs.declared.types.Ty.{Ty}
 use Rattle.pict_types.specs.Types.{PlainType, Top, Int, Char, Str, Boolean, Var, Apply, Chan, Fields, Rec, PlainTypes, no_type, types, PlainLabels, no_label, labels, PlainBound, Free, Below, Operator, PlainBounds, no_bound, bounds, PlainArg, Plain, TypeContext, under, count_types, count_bounds, type_at}
 use Rattle.pict_types.specs.Mentions.{mentions_innermost, lowered}
 use Rattle.pict_types.specs.Plain.{plain}
 use Rattle.pict_sub.specs.Exposing.{exposure}
-use Rattle.pict_rules.specs.Found.{Found, open_slot, filled, is_missing, is_missing_variable, find, is_same_head, match_channel, match_recursive, match_applied, match_record, match_label, matched, matched_types, matched_labels, matched_bounds, matched_bound}
-use Rattle.pict_match.specs.PlainFound.{first_bound, later_bounds, slots}
+use Rattle.pict_rules.specs.Found.{Slot, Found, open_slot, filled, is_missing, is_missing_variable, find, is_same_head, match_channel, match_recursive, match_applied, match_record, match_label, matched, matched_types, matched_labels, matched_bounds, matched_bound}
+use Rattle.pict_match.specs.PlainFound.{IsPartly, Finds, first_bound, later_bounds, slots}
 
 -- the same is found, and what is open has these bounds
 abbrev pub rebound : PlainBounds → Found → Found
@@ -121,7 +122,41 @@ mutual
   bound_rebound bs c d Free g f = refl
   bound_rebound bs c d (Operator n) g f = refl
 
+-- a part is a part with other bounds too: what stands at a place hangs on the bound at that place alone
+abbrev bound_in : PlainBounds → ℕ → PlainBound
+bound_in bs zero = first_bound bs
+bound_in bs (suc i) = bound_in (later_bounds bs) i
+
+abbrev slot_with : PlainBound → Option Slot → Option Slot
+slot_with b None = None
+slot_with b (Some (open_slot x)) = Some (open_slot b)
+slot_with b (Some (filled a)) = Some (filled a)
+
+slot_rebound : (bs : PlainBounds) (f : Found) (i : ℕ) → slice_get (rebound bs f) i ≡ slot_with (bound_in bs i) (slice_get f i)
+slot_rebound bs [] i = refl
+slot_rebound bs (open_slot b ∷ f) zero = refl
+slot_rebound bs (filled a ∷ f) zero = refl
+slot_rebound bs (open_slot b ∷ f) (suc i) = slot_rebound (later_bounds bs) f i
+slot_rebound bs (filled a ∷ f) (suc i) = slot_rebound (later_bounds bs) f i
+
+partly_rebound : (bs : PlainBounds) {f t h : Found} → IsPartly f t h → IsPartly (rebound bs f) (rebound bs t) (rebound bs h)
+partly_rebound bs {f} {t} {h} p = record { each = λ i. by i (p.each i) }
+  where
+    same : (x : Found) (i : ℕ) → slice_get h i ≡ slice_get x i → slice_get (rebound bs h) i ≡ slice_get (rebound bs x) i
+    same x i e = slot_rebound bs h i ∙ ap (slot_with (bound_in bs i)) e ∙ sym (slot_rebound bs x i)
+
+    by : (i : ℕ) → (slice_get h i ≡ slice_get f i) ⊎ (slice_get h i ≡ slice_get t i) → (slice_get (rebound bs h) i ≡ slice_get (rebound bs f) i) ⊎ (slice_get (rebound bs h) i ≡ slice_get (rebound bs t) i)
+    by i (inl e) = inl (same f i e)
+    by i (inr e) = inr (same t i e)
+
 -- what is found without the bounds is found with them
-pub with_bounds : (c : TypeContext) (d : ℕ) (w g : PlainType) (old new : List (Option Ty)) → slots no_bound new ≡ matched c d w g (slots no_bound old) → (bs : PlainBounds) → slots bs new ≡ matched c d w g (slots bs old)
-with_bounds c d w g old new h bs =
-    slots_rebound bs no_bound new ∙ ap (rebound bs) h ∙ matched_rebound bs c d w g (slots no_bound old) ∙ ap (matched c d w g) (sym (slots_rebound bs no_bound old))
+module _ (c : TypeContext) (d : ℕ) (w g : PlainType) (old new : List (Option Ty)) (bs : PlainBounds) where
+  all_rebound : rebound bs (matched c d w g (slots no_bound old)) ≡ matched c d w g (slots bs old)
+  all_rebound = matched_rebound bs c d w g (slots no_bound old) ∙ ap (matched c d w g) (sym (slots_rebound bs no_bound old))
+
+  pub with_bounds : (r : Result (Unit {0}) AllocError) → Finds r (matched c d w g) (slots no_bound old) (slots no_bound new) → Finds r (matched c d w g) (slots bs old) (slots bs new)
+  with_bounds (Ok x) h = slots_rebound bs no_bound new ∙ ap (rebound bs) h ∙ all_rebound
+  with_bounds (Err e) h =
+      let there = partly_rebound bs h in
+      let old_there = subst (λ x. IsPartly x (rebound bs (matched c d w g (slots no_bound old))) (rebound bs (slots no_bound new))) (sym (slots_rebound bs no_bound old)) there in
+      subst₂ (λ x y. IsPartly (slots bs old) x y) all_rebound (sym (slots_rebound bs no_bound new)) old_there

@@ -10,6 +10,7 @@ use Rattle.pict_types.specs.Plain.{plain_types, plain_bounds}
 use Rattle.pict_rules.specs.Found.{Found, matched_types, matched_labels, matched_bounds}
 use Rattle.pict_match.specs.Formed.{IsFormed, AreFormed, LabelsAreFormed, BoundsAreFormed}
 use Rattle.pict_match.specs.Parts.{by_fields}
+use Rattle.pict_match.proofs.Growing.{partly_none}
 
 pub formed_bounds : {names : List (List ℕ)} {bs : PlainBounds} {ps : PlainTypes} {ls : PlainLabels} → IsFormed names (Fields bs ps ls) → BoundsAreFormed names bs
 formed_bounds f = record { kinds_ = f.kinds_; formed = f.formed.0 }
@@ -51,14 +52,13 @@ module _ (c : TypeContext) (d : ℕ) (bs cs : List Bound) (ws us : List Ty) (ls 
   pub types_differ : length ws ≢ length us → f ≡ by_fields c d (plain_bounds bs) (plain_types ws) ls (plain_bounds cs) (plain_types us) ms f
   types_differ h = differ_too (nat_eq (count_bounds (plain_bounds bs)) (count_bounds (plain_bounds cs))) (nat_eq (count_types (plain_types ws)) (count_types (plain_types us))) _ f (not_equal _ _ (λ e. h (sym (types_count ws) ∙ e ∙ types_count us)))
 
-  pub records_agree : (n : ℕ) (g h k : Found) → length bs ≡ length cs → length ws ≡ length us → n ≡ d + length bs → g ≡ matched_bounds c d (plain_bounds bs) (plain_bounds cs) f → h ≡ matched_types (under c (plain_bounds cs)) n (plain_types ws) (plain_types us) g → k ≡ matched_labels (under c (plain_bounds cs)) n ls ms h → k ≡ by_fields c d (plain_bounds bs) (plain_types ws) ls (plain_bounds cs) (plain_types us) ms f
-  records_agree n g h k p q m a b e =
+  -- all that the parts find
+  pub records_total : (n : ℕ) → length bs ≡ length cs → length ws ≡ length us → n ≡ d + length bs → matched_labels (under c (plain_bounds cs)) n ls ms (matched_types (under c (plain_bounds cs)) n (plain_types ws) (plain_types us) (matched_bounds c d (plain_bounds bs) (plain_bounds cs) f)) ≡ by_fields c d (plain_bounds bs) (plain_types ws) ls (plain_bounds cs) (plain_types us) ms f
+  records_total n p q m =
     let n_is : n ≡ d + count_bounds (plain_bounds bs) = m ∙ ap (λ x. d + x) (sym (bounds_count bs)) in
-    e
-    ∙ ap (matched_labels (under c (plain_bounds cs)) n ls ms) (b ∙ ap (matched_types (under c (plain_bounds cs)) n (plain_types ws) (plain_types us)) a)
-    ∙ ap (λ x. matched_labels (under c (plain_bounds cs)) x ls ms (matched_types (under c (plain_bounds cs)) x (plain_types ws) (plain_types us) (matched_bounds c d (plain_bounds bs) (plain_bounds cs) f))) n_is
+    ap (λ x. matched_labels (under c (plain_bounds cs)) x ls ms (matched_types (under c (plain_bounds cs)) x (plain_types ws) (plain_types us) (matched_bounds c d (plain_bounds bs) (plain_bounds cs) f))) n_is
     ∙ agree_by (nat_eq (count_bounds (plain_bounds bs)) (count_bounds (plain_bounds cs))) (nat_eq (count_types (plain_types ws)) (count_types (plain_types us))) _ f
         (rw (bounds_count bs ∙ p ∙ sym (bounds_count cs)) (same_equal (count_bounds (plain_bounds cs))))
         (rw (types_count ws ∙ q ∙ sym (types_count us)) (same_equal (count_types (plain_types us))))
 
-pub ruleset record_rules = (bounds_differ, types_differ, records_agree)
+pub ruleset record_rules = (partly_none, bounds_differ, types_differ)

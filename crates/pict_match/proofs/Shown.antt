@@ -11,6 +11,7 @@ use Rattle.pict_sub.specs.Shapes.{shape_of, variable}
 use Rattle.pict_sub.proofs.Followed.{not_variable, exposure_formed}
 use Rattle.pict_rules.specs.Found.{Found, is_same_head, match_applied, matched_types}
 use Rattle.pict_match.specs.Parts.{by_arguments}
+use Rattle.pict_match.proofs.Growing.{partly_none}
 use Rattle.pict_match.specs.Formed.{IsFormed, AreFormed}
 
 stands : (c : TypeContext) (t : PlainType) → shape_of t ≢ variable → t ≡ exposure c t
@@ -63,4 +64,4 @@ arguments_same c d i j ws us g f e h =
 
 pub ruleset shown_rules = (shows)
 pub ruleset forms = (plain_apply, plain_fields, formed_contents, formed_body, formed_arguments)
-pub ruleset parts = (plain_apply, plain_fields, shown_contents, shown_body, shown_arguments, shown_fields)
+pub ruleset parts = (partly_none, plain_apply, plain_fields, shown_contents, shown_body, shown_arguments, shown_fields)

@@ -1,5 +1,6 @@
 -- What is found, as the rules of typing see it.
-use Rattle.std.specs.Prelude.{List, [], ◌∷◌, Option, Some, None}
+use Rattle.std.specs.Prelude.{◌≡◌, ◌⊎◌, ℕ, List, [], ◌∷◌, Option, Some, None, Result, Ok, Err, slice_get}
+use Rattle.std.specs.declared.alloc.AllocError.{AllocError}
 use Rattle.pict_types.specs.declared.types.Ty.{Ty}
 use Rattle.pict_types.specs.Types.{PlainBound, Free, PlainBounds, no_bound, bounds, Plain}
 use Rattle.pict_types.specs.Plain.{plain}
@@ -28,3 +29,12 @@ found_of bs f = slots bs f.list.items
 -- the same without the bounds, on which no matching hangs
 abbrev pub found_in : Found → Rules.Found
 found_in f = found_of no_bound f
+
+-- each type field stands as it did before, or as it does where all is found
+pub record IsPartly (before all now : Rules.Found) : Type 0 where
+  pub each : (i : ℕ) → (slice_get now i ≡ slice_get before i) ⊎ (slice_get now i ≡ slice_get all i)
+
+-- a call adds this to what was found before, or a part of it, where it wants memory
+abbrev pub Finds : Result (Unit {0}) AllocError → (Rules.Found → Rules.Found) → Rules.Found → Rules.Found → Type 0
+Finds (Ok x) adds before now = now ≡ adds before
+Finds (Err e) adds before now = IsPartly before (adds before) now

@@ -1,6 +1,6 @@
 // What is found for the type fields of a record.
 
-ghost use Rattle.std.specs.Prelude.{◌≡◌, ◌-◌, ◌<◌, ◌&&◌, nat_le, true, false, length, vec_len, IfOk, IfNone, IfSome};
+ghost use Rattle.std.specs.Prelude.{◌≡◌, ◌-◌, ◌<◌, ◌&&◌, nat_le, true, false, length, vec_len, IfOk, IfNone, IfSome, OnErr};
 ghost use Rattle.pict_types.specs.Plain.{plain};
 ghost use Rattle.pict_rules.specs.Found.{find, is_missing_variable, is_same_head};
 ghost use Rattle.pict_match.specs.PlainFound.{found_in};
@@ -44,7 +44,8 @@ fn missing_place(inner: usize, i: u32, found: &Found) -> Option<usize>
 /// The only error is want of memory, and it leaves what is found as it was.
 #[tactic(auto, using(crate::proofs::Slots::find_rules))]
 pub fn find(alloc: Global, inner: usize, i: u32, given: &Ty, found: &mut Found) -> Result<(), AllocError>
-    ensures { IfOk result (λ _. found_in found.new ≡ find inner i (plain given.now) (found_in found.old)) }
+    ensures found { IfOk result (λ _. found_in found.new ≡ find inner i (plain given.now) (found_in found.old)) }
+    ensures same { OnErr result (found_in found.new ≡ found_in found.old) }
 {
     let Some(place) = missing_place(inner, i, found) else {
         return Ok(());

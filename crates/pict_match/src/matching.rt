@@ -10,7 +10,7 @@ ghost use Rattle.pict_sub.specs.Scopes.{scope_context};
 ghost use Rattle.pict_rules.specs.Found.{matched, matched_bound, matched_bounds, matched_labels, matched_types};
 ghost use Rattle.pict_match.specs.Formed.{AreFormed, BoundIsFormed, BoundsAreFormed, IsFormed, LabelsAreFormed};
 ghost use Rattle.pict_match.specs.Parts.{by_arguments, by_body, by_channel, by_record, by_records, followed_or};
-ghost use Rattle.pict_match.specs.PlainFound.{found_in, found_of};
+ghost use Rattle.pict_match.specs.PlainFound.{Finds, found_in, found_of};
 
 use crate::found::{Found, find, is_same_head};
 use pict_sub::{TypeScope, expose_in};
@@ -56,7 +56,7 @@ fn match_at(
     requires context { ContextIsWellFormed names.now (scope_context scope.now) }
     requires wanted { IsFormed names.now (plain wanted.now) }
     requires given { IsWellFormed names.now (kinds (scope_context scope.now)) (plain given.now) }
-    ensures { IfOk result (λ _. found_in found.new ≡ matched (scope_context scope.now) inner (plain wanted.now) (plain given.now) (found_in found.old)) }
+    ensures { Finds result (matched (scope_context scope.now) inner (plain wanted.now) (plain given.now)) (found_in found.old) (found_in found.new) }
 {
     match wanted {
         Ty::Top => Ok(()),
@@ -87,7 +87,7 @@ fn match_contents(
     requires context { ContextIsWellFormed names.now (scope_context scope.now) }
     requires wanted { IsFormed names.now (plain wanted.now) }
     requires given { IsWellFormed names.now (kinds (scope_context scope.now)) (plain given.now) }
-    ensures { IfOk result (λ _. found_in found.new ≡ by_channel (scope_context scope.now) inner (plain wanted.now) (plain given.now) (found_in found.old)) }
+    ensures { Finds result (by_channel (scope_context scope.now) inner (plain wanted.now) (plain given.now)) (found_in found.old) (found_in found.new) }
 {
     let followed = followed(alloc, scope, given)?;
     match shown(&followed, given) {
@@ -111,7 +111,7 @@ fn match_body(
     requires context { ContextIsWellFormed names.now (scope_context scope.now) }
     requires wanted { IsFormed names.now (plain wanted.now) }
     requires given { IsWellFormed names.now (kinds (scope_context scope.now)) (plain given.now) }
-    ensures { IfOk result (λ _. found_in found.new ≡ by_body (scope_context scope.now) inner (plain wanted.now) (plain given.now) (found_in found.old)) }
+    ensures { Finds result (by_body (scope_context scope.now) inner (plain wanted.now) (plain given.now)) (found_in found.old) (found_in found.new) }
 {
     let followed = followed(alloc, scope, given)?;
     match shown(&followed, given) {
@@ -139,7 +139,10 @@ fn match_arguments(
     requires context { ContextIsWellFormed names.now (scope_context scope.now) }
     requires wanted { AreFormed names.now (plain_types wanted.now) }
     requires given { IsWellFormed names.now (kinds (scope_context scope.now)) (plain given.now) }
-    ensures { IfOk result (λ _. found_in found.new ≡ by_arguments (scope_context scope.now) inner i (plain_types wanted.now) (plain given.now) (found_in found.old)) }
+    ensures {
+        Finds result (by_arguments (scope_context scope.now) inner i (plain_types wanted.now) (plain given.now))
+        (found_in found.old) (found_in found.new)
+    }
 {
     let followed = followed(alloc, scope, given)?;
     match shown(&followed, given) {
@@ -169,7 +172,7 @@ fn match_record(
     requires context { ContextIsWellFormed names.now (scope_context scope.now) }
     requires wanted { IsFormed names.now (plain_record wanted.now) }
     requires given { IsWellFormed names.now (kinds (scope_context scope.now)) (plain given.now) }
-    ensures { IfOk result (λ _. found_in found.new ≡ by_record (scope_context scope.now) inner wanted.now (plain given.now) (found_in found.old)) }
+    ensures { Finds result (by_record (scope_context scope.now) inner wanted.now (plain given.now)) (found_in found.old) (found_in found.new) }
 {
     let followed = followed(alloc, scope, given)?;
     match shown(&followed, given) {
@@ -193,7 +196,7 @@ fn match_records(
     requires context { ContextIsWellFormed names.now (scope_context scope.now) }
     requires wanted { IsFormed names.now (plain_record wanted.now) }
     requires given { IsWellFormed names.now (kinds (scope_context scope.now)) (plain_record given.now) }
-    ensures { IfOk result (λ _. found_in found.new ≡ by_records (scope_context scope.now) inner wanted.now given.now (found_in found.old)) }
+    ensures { Finds result (by_records (scope_context scope.now) inner wanted.now given.now) (found_in found.old) (found_in found.new) }
 {
     if wanted.binders.len() != given.binders.len() {
         return Ok(());
@@ -223,7 +226,10 @@ fn match_types(
     requires context { ContextIsWellFormed names.now (scope_context scope.now) }
     requires wanted { AreFormed names.now (plain_types wanted.now) }
     requires given { AreWellFormed names.now (kinds (scope_context scope.now)) (plain_types given.now) }
-    ensures { IfOk result (λ _. found_in found.new ≡ matched_types (scope_context scope.now) inner (plain_types wanted.now) (plain_types given.now) (found_in found.old)) }
+    ensures {
+        Finds result (matched_types (scope_context scope.now) inner (plain_types wanted.now) (plain_types given.now))
+        (found_in found.old) (found_in found.new)
+    }
 {
     for i in 0..wanted.len() {
         if i == given.len() {
@@ -249,7 +255,10 @@ fn match_labels(
     requires context { ContextIsWellFormed names.now (scope_context scope.now) }
     requires wanted { LabelsAreFormed names.now (plain_labels wanted.now) }
     requires given { LabelsAreWellFormed names.now (kinds (scope_context scope.now)) (plain_labels given.now) }
-    ensures { IfOk result (λ _. found_in found.new ≡ matched_labels (scope_context scope.now) inner (plain_labels wanted.now) (plain_labels given.now) (found_in found.old)) }
+    ensures {
+        Finds result (matched_labels (scope_context scope.now) inner (plain_labels wanted.now) (plain_labels given.now))
+        (found_in found.old) (found_in found.new)
+    }
 {
     let mut i = 0;
     let mut j = 0;
@@ -285,7 +294,10 @@ fn match_bounds(
     requires context { ContextIsWellFormed names.now (scope_context scope.now) }
     requires wanted { BoundsAreFormed names.now (plain_bounds wanted.now) }
     requires given { BoundsAreWellFormed names.now (kinds (scope_context scope.now)) (plain_bounds given.now) }
-    ensures { IfOk result (λ _. found_in found.new ≡ matched_bounds (scope_context scope.now) inner (plain_bounds wanted.now) (plain_bounds given.now) (found_in found.old)) }
+    ensures {
+        Finds result (matched_bounds (scope_context scope.now) inner (plain_bounds wanted.now) (plain_bounds given.now))
+        (found_in found.old) (found_in found.new)
+    }
 {
     for i in 0..wanted.len() {
         let before = TypeScope::Inner(&given[..i], &*scope);
@@ -308,7 +320,10 @@ fn match_bound(
     requires context { ContextIsWellFormed names.now (scope_context scope.now) }
     requires wanted { BoundIsFormed names.now (plain_bound wanted.now) }
     requires given { BoundIsWellFormed names.now (kinds (scope_context scope.now)) (plain_bound given.now) }
-    ensures { IfOk result (λ _. found_in found.new ≡ matched_bound (scope_context scope.now) inner (plain_bound wanted.now) (plain_bound given.now) (found_in found.old)) }
+    ensures {
+        Finds result (matched_bound (scope_context scope.now) inner (plain_bound wanted.now) (plain_bound given.now))
+        (found_in found.old) (found_in found.new)
+    }
 {
     match (wanted, given) {
         (Bound::Below(w), Bound::Below(g)) => match_at(alloc, names, scope, inner, w, g, found),
@@ -332,7 +347,10 @@ pub fn match_type(
 ) -> Result<(), AllocError>
     requires wanted { IsFormed (names_of c.now) (plain wanted.now) }
     requires given { IsWrittenIn c.now (plain given.now) }
-    ensures { IfOk result (λ _. (bs : PlainBounds) → found_of bs found.new ≡ matched (type_context c.now) 0 (plain wanted.now) (plain given.now) (found_of bs found.old)) }
+    ensures {
+        (bs : PlainBounds) → Finds result (matched (type_context c.now) 0 (plain wanted.now) (plain given.now))
+        (found_of bs found.old) (found_of bs found.new)
+    }
 {
     let scope = TypeScope::Outer(c);
     match_at(alloc, c.names(), &scope, 0, wanted, given, found)

@@ -24,9 +24,4 @@ match_at-requires c =
     }
 
 pub returns : goal.returns
-returns c =
-    let d = type_context c.args.c.now in
-    let w = plain c.args.wanted.now in
-    let g = plain c.args.given.now in
-    IfOk-weaker c.match_at.result (λ _. found_in c.match_at.new.found ≡ matched d 0 w g (found_in c.args.found.now)) (λ _. (bs : PlainBounds) → found_of bs c.match_at.new.found ≡ matched d 0 w g (found_of bs c.args.found.now))
-    (λ _ h. with_bounds d 0 w g c.args.found.now.list.items c.match_at.new.found.list.items h) c.match_at.ensures
+returns c = λ bs. with_bounds (type_context c.args.c.now) 0 (plain c.args.wanted.now) (plain c.args.given.now) c.args.found.now.list.items c.match_at.new.found.list.items bs c.match_at.result c.match_at.ensures
