@@ -10,9 +10,9 @@ use Rattle.pict_types.specs.declared.types.Bound.{Bound}
 use Rattle.pict_types.specs.Types.{PlainType, PlainTypes, no_type, types, PlainLabels, no_label, labels, PlainBound, PlainBounds, bounds, TypeContext, under, type_at}
 use Rattle.pict_types.specs.Kinds.{Kind, StandsBeforeAll, IsWellFormed, AreWellFormed, LabelsAreWellFormed, BoundIsWellFormed, BoundsAreWellFormed, ContextIsWellFormed, kinds}
 use Rattle.pict_types.specs.Plain.{plain, plain_bound, plain_types, plain_bounds, plain_labels}
-use Rattle.pict_types.specs.Measures.{size, size_types, size_labels, size_bound, size_bounds}
-use Rattle.pict_types.proofs.Rows.{types_drop, types_end, labels_end, bounds_end, size_types_item, size_labels_item, size_bounds_item}
-use Rattle.pict_sub.proofs.Below.{types_formed}
+use Rattle.pict_types.proofs.Rows.{types_drop, types_end, labels_end, bounds_end}
+use Rattle.pict_types.proofs.Formed.{before_further}
+use Rattle.pict_types.proofs.Items.{types_formed}
 use Rattle.pict_rules.specs.Found.{Found, match_label, matched, matched_types, matched_labels, matched_bounds, matched_bound}
 use Rattle.pict_match.specs.Formed.{IsFormed, AreFormed, LabelsAreFormed, BoundIsFormed, BoundsAreFormed}
 
@@ -44,10 +44,6 @@ absent names l no_label h = refl
 absent names l (labels m t ms) h =
     let e : nat_eq l m ≡ false = ne_eqb l m (λ q. other_label names l m h.0 (sym q)) in
     rw e (absent names l ms h.1)
-
-before_all : (names : List (List ℕ)) (l m : ℕ) (ms : PlainLabels) → StandsBefore names l m → StandsBeforeAll names m ms → StandsBeforeAll names l ms
-before_all names l m no_label h k = tt
-before_all names l m (labels n t ms) h k = ((label_order names).trans l m n h k.0, before_all names l m ms h k.1)
 
 -- one that the given labels lack finds nothing
 lacking : (names : List (List ℕ)) (c : TypeContext) (d : ℕ) (l : ℕ) (w : PlainType) (ls ms : PlainLabels) (f : Found) → StandsBeforeAll names l ms → matched_labels c d (labels l w ls) ms f ≡ matched_labels c d ls ms f
@@ -98,7 +94,7 @@ module _ (names : List (List ℕ)) (c : TypeContext) (d : ℕ) {ls ms : PlainLab
   pass_wanted e = record {
     wanted = wanted_rest;
     given = left.given;
-    gives = ap (λ y. matched_labels c d ls' y f) q ∙ sym (lacking names c d l w ls' (labels m g ms') f (e, before_all names l m ms' e given_now.0)) ∙ gives_now;
+    gives = ap (λ y. matched_labels c d ls' y f) q ∙ sym (lacking names c d l w ls' (labels m g ms') f (e, before_further names l m ms' e given_now.0)) ∙ gives_now;
   }
 
   pub pass_given : label_cmp names l m ≡ Greater → IsLeft names c d ls ms' f h
@@ -107,7 +103,7 @@ module _ (names : List (List ℕ)) (c : TypeContext) (d : ℕ) {ls ms : PlainLab
     record {
       wanted = left.wanted;
       given = given_now.1.1;
-      gives = ap (λ x. matched_labels c d x ms' f) p ∙ sym (unwanted names c d m g (labels l w ls') ms' f (b, before_all names m l ls' b wanted_now.formed.0)) ∙ gives_now;
+      gives = ap (λ x. matched_labels c d x ms' f) p ∙ sym (unwanted names c d m g (labels l w ls') ms' f (b, before_further names m l ls' b wanted_now.formed.0)) ∙ gives_now;
     }
 
   pub take_both : label_cmp names l m ≡ Equal → IsLeft names c d ls' ms' (matched c d w g f) h
@@ -132,16 +128,6 @@ none_there c d (labels l w ls) f = none_there c d ls f
 
 pub labels_out : (names : List (List ℕ)) (c : TypeContext) (d : ℕ) (ls ms : PlainLabels) (f h : Found) → ms ≡ no_label → IsLeft names c d ls ms f h → f ≡ h
 labels_out names c d ls ms f h e left = sym (none_there c d ls f) ∙ ap (λ x. matched_labels c d ls x f) (sym e) ∙ left.gives
-
--- an item of a row is no greater than the row
-pub size_type_at : (ts : List Ty) (i : ℕ) (t : Ty) → t ≡ get_or ts i t → i < length ts → size (plain t) ≤ size_types (plain_types ts)
-size_type_at ts i t e h = subst (λ x. size (plain x) ≤ size_types (plain_types ts)) (sym e) (size_types_item ts i t h)
-
-pub size_label_at : (ls : List (Name × Ty)) (i : ℕ) (l : Name × Ty) → l ≡ get_or ls i l → i < length ls → size (plain l.1) ≤ size_labels (plain_labels ls)
-size_label_at ls i l e h = subst (λ x. size (plain x.1) ≤ size_labels (plain_labels ls)) (sym e) (size_labels_item ls i l h)
-
-pub size_bound_at : (bs : List Bound) (i : ℕ) (b : Bound) → b ≡ get_or bs i b → i < length bs → size_bound (plain_bound b) ≤ size_bounds (plain_bounds bs)
-size_bound_at bs i b e h = subst (λ x. size_bound (plain_bound x) ≤ size_bounds (plain_bounds bs)) (sym e) (size_bounds_item bs i b h)
 
 -- bounds: the given ones so far stand around
 bounds_apart : (names : List (List ℕ)) (ks : List Kind) (bs : List Bound) (i : ℕ) (d : Bound) → BoundsAreWellFormed names ks (plain_bounds bs) → i < length bs → BoundIsFormed names (plain_bound (get_or bs i d))

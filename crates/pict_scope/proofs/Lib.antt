@@ -1,7 +1,7 @@
-pub mod Numbers
 pub mod Layering
 pub mod Groups
 pub mod Clean
+pub mod LabelsScoped
 pub mod Growing
 pub mod Reading
 pub mod TypeForms

@@ -1,27 +1,24 @@
 -- Reading one outline after another: what is known before and behind each part gives what is known of the whole.
-use Rattle.std.proofs.Common.{◌≡◌, ℕ, ◌+◌, ◌-◌, ◌<◌, ◌≤◌, List, [], ◌∷◌, ◌++◌, length, get_or, take, take-suc, drop, Some, None, refl, sym, ◌∙◌, ap, subst, append_assoc, append-nil, add-one, arith}
+use Rattle.std.proofs.Common.{◌≡◌, ℕ, ◌+◌, ◌-◌, ◌<◌, ◌≤◌, List, [], ◌∷◌, ◌++◌, length, get_or, take, take-suc, drop, Some, None, refl, sym, ◌∙◌, ap, subst, append_assoc, append-nil, add-one}
 use Rattle.std.specs.Prelude.{Result, Ok, Err}
 use Rattle.std.proofs.lemmas.List.{take_all, take-append-drop}
-use Rattle.pict_syntax.specs.declared.code.Code.{Code}
 use Rattle.pict_syntax.specs.declared.code.Code.TheVariants.{S3}
-use Rattle.pict_syntax.specs.declared.span.Span.{Span}
 use Rattle.pict_syntax.specs.declared.id.Id.{Id}
-use Rattle.pict_scope.specs.declared.binders.Binder.{Binder}
+use Rattle.pict_binders.specs.declared.binders.Binder.{Binder}
 use Rattle.pict_scope.specs.declared.error.ScopeError.{ScopeError}
 use Rattle.pict_scope.specs.declared.error.ScopeError.TheVariants.{Named, Memory}
 use Rattle.pict_scope.specs.declared.reader.Reader.{Reader}
 use Rattle.pict_scope.specs.declared.reader.Place.{Place}
 use Rattle.pict_scope.specs.declared.reader.Opened.{Opened}
-use Rattle.pict_scope.specs.declared.target.Target.{Target}
-use Rattle.pict_scope.specs.Numbered.{names_of}
+use Rattle.pict_binders.specs.Numbered.{names_of, nearest}
 use Rattle.pict_scope.specs.Layers.{here, outside}
-use Rattle.pict_scope.specs.Around.{Around, nearest, with_group, with_type, with_pattern_type, past_type, before_pattern, behind_pattern, behind}
+use Rattle.pict_scope.specs.Around.{Around, with_group, with_type, with_pattern_type, past_type, before_pattern, behind_pattern, behind}
 use Rattle.pict_scope.specs.Marks.{Mark, value_used, type_used, value_bound, stands_twice, Stop, first_stop, value_meanings, type_meanings, binders_read}
 use Rattle.pict_scope.specs.Outlines.{Outline, empty, ◌▸◌, closed, binds_type, pattern_type, pattern, group, opens, marks, twice_if_bound}
 use Rattle.pict_scope.specs.Held.{each_on, each}
-use Rattle.pict_scope.specs.Reads.{around, Answers, KeepsOutside, Goes, Moves, Reads, IsRefusal, Refuses, IsRead}
+use Rattle.pict_scope.specs.Reads.{around, Answers, KeepsOutside, Moves, Reads, IsRefusal, Refuses, IsRead}
 use Rattle.pict_scope.specs.Steps.{IsAt, GoesBack, back_at, OpensGroup, ClosesGroup, OpensPattern, ClosesPattern, ReadsPattern, RefusesPattern, enters}
-use Rattle.pict_scope.proofs.Growing.{Grows, grows, cut_back}
+use Rattle.pict_scope.proofs.Growing.{grows, cut_back}
 
 -- marks one after the other
 pub first_then : (ms ns : List Mark) → first_stop ms ≡ None → first_stop (ms ++ ns) ≡ first_stop ns

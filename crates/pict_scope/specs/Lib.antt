@@ -1,5 +1,4 @@
 pub mod PrimitiveNames
-pub mod Numbered
 pub mod Layers
 pub mod Around
 pub mod Marks
@@ -9,4 +8,5 @@ pub mod Scopes
 pub mod Reads
 pub mod Steps
 pub mod Held
+pub mod DistinctLabels
 pub mod Laws

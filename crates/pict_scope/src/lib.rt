@@ -1,7 +1,6 @@
 //! Scopes: what each use of a name means, and the first place in reading order where a rule of scopes fails.
 #![tactic(auto)]
 
-mod binders;
 mod error;
 mod laws;
 mod layer;
@@ -13,6 +12,9 @@ mod target;
 mod types;
 
 pub use error::ScopeError;
-pub use laws::{law_one_scope_stop, law_parts_are_scoped, law_stands_once, law_uses_are_bound};
+pub use laws::{
+    law_no_label_twice, law_one_scope_stop, law_parts_are_scoped, law_stands_once,
+    law_uses_are_bound,
+};
 pub use primitives::primitive_named;
 pub use target::{Scoped, Target};

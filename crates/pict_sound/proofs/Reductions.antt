@@ -19,9 +19,10 @@ use Rattle.pict_sound.specs.Laws.{StepsAreReductions}
 use Rattle.pict_core.specs.Table.{Row, ends, forks, makes_channel, takes_first, takes_second, primitive_ends, primitive_answers, output_parks, output_meets_reader, output_meets_server, input_parks, reader_meets_message, server_meets_message}
 use Rattle.pict_sound.proofs.Steps.{Meets, Stepped, free_stepped}
 use Rattle.pict_core.proofs.Entries.{with_process_past, without_past, without_swap, least_without, parked_is}
-use Rattle.pict_sound.proofs.Apart.{reader_channel, message_channel, ready_no_message, ready_no_reader}
+use Rattle.pict_sound.proofs.Apart.{reader_channel, message_channel}
 use Rattle.pict_sound.proofs.Natural.{match_natural, effect_natural, replace_leaves}
 use Rattle.pict_sound.proofs.Readings.{read_substituted, read_new, composition_raised}
+use Rattle.pict_core.proofs.Partners.{ready_no_message, ready_no_reader}
 
 -- ---- congruence
 

@@ -9,14 +9,15 @@ use Rattle.pict_types.specs.Plain.{plain, plain_bound, plain_bounds, plain_label
 use Rattle.pict_types.proofs.Rows.{apply_is, plain_fields, labels_end}
 use Rattle.pict_sub.specs.Exposing.{exposure}
 use Rattle.pict_sub.specs.Scopes.{scope_context}
-use Rattle.pict_sub.proofs.Below.{label_read, ready_as, types_formed}
+use Rattle.pict_types.proofs.Items.{bound_size, item_size, label_read, label_size, types_formed}
+use Rattle.pict_sub.proofs.Below.{ready_as}
 use Rattle.pict_rules.specs.Found as Rules
 use Rattle.pict_rules.specs.Found.{matched, matched_bound, matched_bounds, matched_labels, matched_types}
 use Rattle.pict_match.specs.Formed.{IsFormed, AreFormed, LabelsAreFormed, BoundIsFormed}
 use Rattle.pict_match.specs.Parts.{by_arguments, by_records}
 use Rattle.pict_match.specs.PlainFound.{Finds, IsPartly, found_in}
 use Rattle.pict_match.proofs.Growing.{bound_grows, bounds_grow, finds_err, finds_last, finds_same, grows_not, grows_on, labels_grow, matched_grows, partly_none, step_on, step_stops, types_grow}
-use Rattle.pict_match.proofs.Lists.{IsLeft, bound_formed_at, bounds_next, context_at, given_bound_at, given_type, labels_out, pass_given, pass_wanted, size_bound_at, size_label_at, size_type_at, take_both, types_next, type_formed_at, wanted_type}
+use Rattle.pict_match.proofs.Lists.{IsLeft, bound_formed_at, bounds_next, context_at, given_bound_at, given_type, labels_out, pass_given, pass_wanted, take_both, types_next, type_formed_at, wanted_type}
 use Rattle.pict_match.proofs.Records.{formed_labelled, formed_positional, records_total}
 use Rattle.pict_match.proofs.Shown.{arguments_same, formed_arguments, shown_arguments, shown_fields}
 use Rattle.pict_match.proofs.matching.+matching.Goals as goal
@@ -86,7 +87,7 @@ match_types-match_at-requires t c =
     let in_given : i < length c.args.given.now = omega arith in
     let formed = subst (λ x. IsFormed names (plain x)) (sym c.index-wanted-i.is) (type_formed_at c.args.wanted.now i c.index-wanted-i.result c.requires.wanted in_wanted) in
     let given = subst (λ x. IsWellFormed names ks (plain x)) (sym c.index-given-i.is) (types_formed names ks c.args.given.now i c.index-given-i.result c.requires.given in_given) in
-    let less = size_type_at c.args.wanted.now i c.index-wanted-i.result c.index-wanted-i.is in_wanted in
+    let less = item_size c.args.wanted.now i c.index-wanted-i.result in_wanted c.index-wanted-i.is in
     (omega (arith, less), (c.requires.context, (formed, given)))
 
 pub match_labels-loop-i-preserved-in-Less : goal.match_labels-loop-i-preserved-in-Less
@@ -129,7 +130,7 @@ match_labels-match_at-requires t c =
     let g = c.index-given-j.result in
     let p = label_read c.args.wanted.now i w c.index-wanted-i.is c.loop-i-test.true in
     let q = label_read c.args.given.now j g c.index-given-j.is c.if-j-given.true in
-    let less = size_label_at c.args.wanted.now i w c.index-wanted-i.is c.loop-i-test.true in
+    let less = label_size c.args.wanted.now i w c.loop-i-test.true c.index-wanted-i.is in
     (omega (arith, less), (c.requires.context, (
     wanted_type names ctx c.args.inner w.0.0 g.0.0 (plain w.1) (plain g.1) _ _ p q c.loop-i.invariant.left,
     given_type names ctx c.args.inner w.0.0 g.0.0 (plain w.1) (plain g.1) _ _ p q c.loop-i.invariant.left)))
@@ -165,7 +166,7 @@ match_bounds-match_bound-requires t c =
     let in_given : i < length c.args.given.now = omega arith in
     let formed = subst (λ x. BoundIsFormed names (plain_bound x)) (sym c.index-wanted-i.is) (bound_formed_at c.args.wanted.now i c.index-wanted-i.result c.requires.wanted in_wanted) in
     let given = given_bound_at names ctx c.args.given.now i c.index-given-i.result c.index-given-i.is c.requires.given in_given in
-    let less = size_bound_at c.args.wanted.now i c.index-wanted-i.result c.index-wanted-i.is in_wanted in
+    let less = bound_size c.args.wanted.now i c.index-wanted-i.result in_wanted c.index-wanted-i.is in
     (omega (arith, less), (context_at names ctx c.args.given.now i c.requires.context c.requires.given (omega arith), (formed, given)))
 
 pub match_bounds-loop-i-preserved : goal.match_bounds-loop-i-preserved

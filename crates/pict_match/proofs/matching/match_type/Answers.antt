@@ -5,7 +5,7 @@ use Rattle.pict_types.specs.Kinds.{ContextIsWellFormed, IsWellFormed, kinds}
 use Rattle.pict_types.specs.Plain.{plain}
 use Rattle.pict_types.specs.PlainContext.{names_of, plain_context, type_context}
 use Rattle.pict_types.specs.Types.{PlainBounds}
-use Rattle.pict_sub.proofs.Below.{entries_context}
+use Rattle.pict_types.proofs.Contexts.{entries_context}
 use Rattle.pict_rules.specs.Found.{matched}
 use Rattle.pict_match.specs.Formed.{IsFormed}
 use Rattle.pict_match.specs.PlainFound.{found_in, found_of}
