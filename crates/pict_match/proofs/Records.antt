@@ -1,5 +1,5 @@
 -- Two records, part by part.
-use Rattle.std.proofs.Common.{◌≡◌, ◌≢◌, ℕ, suc, ◌+◌, nat_eq, Bool, true, false, ◌&&◌, List, [], ◌∷◌, length, refl, sym, ◌∙◌, ap, ap₂, arith}
+use Rattle.std.proofs.Common.{◌≡◌, ◌≢◌, ℕ, ◌+◌, nat_eq, Bool, true, false, ◌&&◌, List, length, refl, sym, ◌∙◌, ap, arith}
 use Rattle.std.specs.Prelude.{if◌then◌else◌}
 use Rattle.std.proofs.lemmas.Bool.Decides.{nat_tests}
 use Rattle.pict_types.specs.declared.types.Ty.{Ty}
@@ -7,6 +7,7 @@ use Rattle.pict_types.specs.declared.types.Bound.{Bound}
 use Rattle.pict_types.specs.Types.{Fields, PlainTypes, PlainLabels, PlainBounds, TypeContext, under, count_types, count_bounds}
 use Rattle.pict_types.specs.Kinds.{kinds_under}
 use Rattle.pict_types.specs.Plain.{plain_types, plain_bounds}
+use Rattle.pict_types.proofs.Rows.{count_bounds_length, count_types_length}
 use Rattle.pict_rules.specs.Found.{Found, matched_types, matched_labels, matched_bounds}
 use Rattle.pict_match.specs.Formed.{IsFormed, AreFormed, LabelsAreFormed, BoundsAreFormed}
 use Rattle.pict_match.specs.Parts.{by_fields}
@@ -20,14 +21,6 @@ formed_positional {bs = bs} f = record { kinds_ = kinds_under f.kinds_ bs; forme
 
 pub formed_labelled : {names : List (List ℕ)} {bs : PlainBounds} {ps : PlainTypes} {ls : PlainLabels} → IsFormed names (Fields bs ps ls) → LabelsAreFormed names ls
 formed_labelled {bs = bs} f = record { kinds_ = kinds_under f.kinds_ bs; formed = f.formed.1.1 }
-
-bounds_count : (bs : List Bound) → count_bounds (plain_bounds bs) ≡ length bs
-bounds_count [] = refl
-bounds_count (b ∷ bs) = ap suc (bounds_count bs)
-
-types_count : (ts : List Ty) → count_types (plain_types ts) ≡ length ts
-types_count [] = refl
-types_count (t ∷ ts) = ap suc (types_count ts)
 
 not_equal : (m n : ℕ) → m ≢ n → nat_eq m n ≡ false
 not_equal m n h = grind (arith, nat_tests, h)
@@ -47,18 +40,18 @@ agree_by p q x f h k = rw (h, k) refl
 
 module _ (c : TypeContext) (d : ℕ) (bs cs : List Bound) (ws us : List Ty) (ls ms : PlainLabels) (f : Found) where
   pub bounds_differ : length bs ≢ length cs → f ≡ by_fields c d (plain_bounds bs) (plain_types ws) ls (plain_bounds cs) (plain_types us) ms f
-  bounds_differ h = differ_by (nat_eq (count_bounds (plain_bounds bs)) (count_bounds (plain_bounds cs))) _ _ f (not_equal _ _ (λ e. h (sym (bounds_count bs) ∙ e ∙ bounds_count cs)))
+  bounds_differ h = differ_by (nat_eq (count_bounds (plain_bounds bs)) (count_bounds (plain_bounds cs))) _ _ f (not_equal _ _ (λ e. h (sym (count_bounds_length bs) ∙ e ∙ count_bounds_length cs)))
 
   pub types_differ : length ws ≢ length us → f ≡ by_fields c d (plain_bounds bs) (plain_types ws) ls (plain_bounds cs) (plain_types us) ms f
-  types_differ h = differ_too (nat_eq (count_bounds (plain_bounds bs)) (count_bounds (plain_bounds cs))) (nat_eq (count_types (plain_types ws)) (count_types (plain_types us))) _ f (not_equal _ _ (λ e. h (sym (types_count ws) ∙ e ∙ types_count us)))
+  types_differ h = differ_too (nat_eq (count_bounds (plain_bounds bs)) (count_bounds (plain_bounds cs))) (nat_eq (count_types (plain_types ws)) (count_types (plain_types us))) _ f (not_equal _ _ (λ e. h (sym (count_types_length ws) ∙ e ∙ count_types_length us)))
 
   -- all that the parts find
   pub records_total : (n : ℕ) → length bs ≡ length cs → length ws ≡ length us → n ≡ d + length bs → matched_labels (under c (plain_bounds cs)) n ls ms (matched_types (under c (plain_bounds cs)) n (plain_types ws) (plain_types us) (matched_bounds c d (plain_bounds bs) (plain_bounds cs) f)) ≡ by_fields c d (plain_bounds bs) (plain_types ws) ls (plain_bounds cs) (plain_types us) ms f
   records_total n p q m =
-    let n_is : n ≡ d + count_bounds (plain_bounds bs) = m ∙ ap (λ x. d + x) (sym (bounds_count bs)) in
+    let n_is : n ≡ d + count_bounds (plain_bounds bs) = m ∙ ap (λ x. d + x) (sym (count_bounds_length bs)) in
     ap (λ x. matched_labels (under c (plain_bounds cs)) x ls ms (matched_types (under c (plain_bounds cs)) x (plain_types ws) (plain_types us) (matched_bounds c d (plain_bounds bs) (plain_bounds cs) f))) n_is
     ∙ agree_by (nat_eq (count_bounds (plain_bounds bs)) (count_bounds (plain_bounds cs))) (nat_eq (count_types (plain_types ws)) (count_types (plain_types us))) _ f
-        (rw (bounds_count bs ∙ p ∙ sym (bounds_count cs)) (same_equal (count_bounds (plain_bounds cs))))
-        (rw (types_count ws ∙ q ∙ sym (types_count us)) (same_equal (count_types (plain_types us))))
+        (rw (count_bounds_length bs ∙ p ∙ sym (count_bounds_length cs)) (same_equal (count_bounds (plain_bounds cs))))
+        (rw (count_types_length ws ∙ q ∙ sym (count_types_length us)) (same_equal (count_types (plain_types us))))
 
 pub ruleset record_rules = (partly_none, bounds_differ, types_differ)
