@@ -8,7 +8,7 @@ use Rattle.pict_core.specs.Substitution.{substitute}
 use Rattle.pict_core.specs.Matching.{match_value}
 use Rattle.pict_core.specs.Configuration.{Entry, Ready, Parked, Configuration, StampsRise}
 use Rattle.pict_core.specs.Step as step
-use Rattle.pict_core.specs.Step.{Label, Quiet, Comm, StepOutcome, Steps, least, gone, added, is_ready, is_parked_reader, is_parked_message}
+use Rattle.pict_core.specs.Step.{Quiet, Comm, Steps, least, gone, added, is_ready, is_parked_reader, is_parked_message}
 use Rattle.pict_core.proofs.Stamps.{without, StampsRise-without}
 use Rattle.pict_machine.specs.View.{processes}
 use Rattle.pict_machine.specs.Lists as lists

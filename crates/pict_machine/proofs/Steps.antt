@@ -1,13 +1,13 @@
 -- Steps of the lists that meet no partner are steps of each configuration that the lists hold.
-use Rattle.std.proofs.Common.{ℕ, zero, suc, ◌≡◌, Bool, true, false, not, ◌&&◌, List, [], ◌∷◌, ◌++◌, length, refl, sym, ap, ◌∙◌, Option, Some, None, arith, append-nil, length-append}
+use Rattle.std.proofs.Common.{ℕ, zero, suc, ◌≡◌, true, false, List, [], ◌∷◌, ◌++◌, length, refl, sym, ap, ◌∙◌, Option, Some, None, arith, append-nil, length-append}
 use Rattle.std.specs.List.{slice_get}
 use Rattle.pict_syntax.specs.declared.span.Span.{Span}
 use Rattle.pict_core.specs.Term.{Process, Val, Zero, Par, New, Out, If, Chan, Var, Int, Char, Boolean, Text, PrimitiveVal, Record}
 use Rattle.pict_core.specs.Substitution.{substitute}
 use Rattle.pict_core.specs.Primitives.{Effect, Leaves, Nothing, Answer, Trap}
-use Rattle.pict_core.specs.Configuration.{Mark, Ready, Parked, Entry, Configuration, StampsRise}
+use Rattle.pict_core.specs.Configuration.{Ready, Entry, Configuration, StampsRise}
 use Rattle.pict_core.specs.Step as step
-use Rattle.pict_core.specs.Step.{Label, StepOutcome, Steps, Traps, Wrong, Finished, least, gone, kept, added, with_channel, is_ready, is_ready_mark, is_parked_reader, is_parked_message, printing}
+use Rattle.pict_core.specs.Step.{Label, StepOutcome, Steps, Traps, Wrong, Finished, least, gone, kept, added, is_ready, is_parked_reader, is_parked_message, printing}
 use Rattle.pict_core.proofs.Stamps.{without}
 use Rattle.pict_machine.specs.View.{processes}
 use Rattle.pict_machine.specs.Lists as lists

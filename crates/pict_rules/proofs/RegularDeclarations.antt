@@ -1,10 +1,10 @@
 -- Steps of regularity: function abstractions and declarations.
-use Rattle.std.proofs.Common.{◌≡◌, ℕ, zero, suc, List, [], ◌∷◌, ◌++◌, map, length, false, Some, None, refl, sym, ◌∙◌, ap, subst}
+use Rattle.std.proofs.Common.{◌≡◌, ℕ, suc, List, [], ◌∷◌, ◌++◌, map, length, false, Some, None, refl, sym, ◌∙◌, ap, subst}
 use Rattle.pict_syntax.specs.declared.id.Id.{Id}
 use Rattle.pict_syntax.specs.declared.code.Code.TheVariants.{Y14}
 use Rattle.pict_syntax.specs.Trees.{Dec, new_dec, run_dec, let_dec, def_dec, alias_dec, operator_dec, await_dec, Definitions, no_definitions, more_definitions, Abs, process_abs, function_abs}
 use Rattle.pict_types.specs.Types.{PlainType, Chan, Respond, Free}
-use Rattle.pict_types.specs.Kinds.{Kind, proper, kinds, kind_by, with_parameters, IsWellFormed}
+use Rattle.pict_types.specs.Kinds.{Kind, kinds, kind_by, with_parameters, IsWellFormed}
 use Rattle.pict_types.specs.Renaming.{moved}
 use Rattle.pict_types.specs.Mentions.{mentions_innermost, lowered}
 use Rattle.pict_normal.specs.Normal.{normal, kind_stop, size_stop, entry_of}

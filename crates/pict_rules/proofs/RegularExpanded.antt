@@ -1,13 +1,11 @@
 -- What is written in a regular environment, without a label twice and without a refusal, is well formed there.
-use Rattle.std.proofs.Common.{◌≡◌, ℕ, zero, suc, if◌then◌else◌, nat_eq, Bool, true, false, List, [], ◌∷◌, Option, Some, None, refl}
+use Rattle.std.proofs.Common.{◌≡◌, ℕ, if◌then◌else◌, nat_eq, Bool, true, false, List, [], ◌∷◌, Option, Some, None, refl}
 use Rattle.pict_syntax.specs.Trees.{TypeTree, top_type, int_type, char_type, string_type, bool_type, use_type, both_type, read_type, write_type, respond_type, fields_type, apply_type, rec_type}
 use Rattle.pict_types.specs.Types.{Free, Below, Operator, Plain, Op}
-use Rattle.pict_types.specs.Kinds.{Kind, kind_by, kinds, with_parameters, IsWellFormed, ArgIsWellFormed}
-use Rattle.pict_types.specs.Renaming.{beyond_times}
-use Rattle.pict_types.specs.Replacing.{Head, variable, operator, nothing, rename_head}
+use Rattle.pict_types.specs.Kinds.{Kind, kind_by, kinds, IsWellFormed, ArgIsWellFormed}
 use Rattle.pict_types.specs.Entries.{PlainWhat, Variable, Definition, PlainContext, variables, with_variable, EntryIsWellFormed, EntriesAreWellFormed}
 use Rattle.pict_types.specs.Fitting.{StandsForOperator}
-use Rattle.pict_types.proofs.Formed.{KeepsKinds, keeps_beyond, formed_renamed, head_further}
+use Rattle.pict_types.proofs.Formed.{head_further}
 use Rattle.pict_normal.specs.Normal.{Meaning, a_type, an_operator, of_entry, behind_entry, meaning, normal, Stop, first_stop, kind_stops, kind_stop}
 use Rattle.pict_normal.specs.WrittenArguments.{named, arg_meant, normal_arg, stop_meant, arg_stop}
 use Rattle.pict_scope.specs.DistinctLabels.{HasDistinctLabels}

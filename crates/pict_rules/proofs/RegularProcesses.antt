@@ -3,10 +3,8 @@ use Rattle.std.proofs.Common.{ℕ, List, [], ◌∷◌}
 use Rattle.pict_syntax.specs.declared.code.Code.{Code}
 use Rattle.pict_syntax.specs.declared.span.Span.{Span}
 use Rattle.pict_syntax.specs.Trees.{Val, Abs, Chan, Vals, no_vals, more_vals, Proc, send_proc, receive_proc, serve_proc, if_proc, inert_proc, group_proc, Procs, no_procs, more_procs}
-use Rattle.pict_types.specs.Types.{Capability, PlainType, Top, Int, Char, Str, Boolean, Var, Apply, Chan as Chan_, Fields, Rec, PlainTypes, no_type, types}
-use Rattle.pict_types.specs.Kinds.{Kind, IsWellFormed, AreWellFormed, ContextIsWellFormed}
-use Rattle.pict_normal.specs.Normal.{and_type}
-use Rattle.pict_types.specs.Entries.{PlainContext, variables, EntriesAreWellFormed}
+use Rattle.pict_types.specs.Types.{Capability, PlainType, Top, Int, Char, Str, Boolean, Var, Apply, Chan as Chan_, Fields, Rec}
+use Rattle.pict_types.specs.Kinds.{Kind, IsWellFormed}
 use Rattle.pict_sub.specs.Exposing.{exposure}
 use Rattle.pict_rules.specs.Environments.{Environment, context_of}
 use Rattle.pict_rules.specs.Rules.{Sort, nothing_, types_, Rule, Result, is_condition, values_give, process, processes, receives, body, bodies, Body, process_body, value_body, Signature}

@@ -1,11 +1,11 @@
 -- Steps of regularity: values.
-use Rattle.std.proofs.Common.{◌≡◌, ℕ, suc, ◌+◌, nat_eq, if◌then◌else◌, Bool, true, false, List, [], ◌∷◌, ◌++◌, length, Option, Some, None, refl, sym, ◌∙◌, ap, subst, arith, add-zero, add-suc, length-append}
+use Rattle.std.proofs.Common.{◌≡◌, ℕ, ◌+◌, nat_eq, if◌then◌else◌, Bool, true, false, List, [], ◌∷◌, ◌++◌, length, Option, Some, None, refl, sym, ◌∙◌, ap, subst, arith, add-zero, add-suc, length-append}
 use Rattle.pict_syntax.specs.declared.code.Code.{Code}
 use Rattle.pict_syntax.specs.declared.span.Span.{Span}
 use Rattle.pict_syntax.specs.Names.{text_of}
 use Rattle.pict_syntax.specs.Trees.{use_chan, fold_chan, block_chan, apply_chan, right_chan, left_chan, Val, of_chan, number_val, character_val, string_val, true_val, false_val, fields_val, if_val, lambda_val, field_vals}
-use Rattle.pict_types.specs.Types.{Both, Read, Write, Respond, PlainType, Top, Int, Char, Str, Boolean, Var, Apply, Chan as Chan_, Fields, Rec, PlainTypes, PlainLabels, PlainBounds, no_bound, bounds, TypeContext}
-use Rattle.pict_types.specs.Kinds.{Kind, kinds, kind_by, kind_at, IsWellFormed}
+use Rattle.pict_types.specs.Types.{Both, Read, Write, Respond, PlainType, Top, Int, Char, Str, Boolean, Var, Apply, Chan as Chan_, Fields, Rec, PlainTypes, PlainLabels, PlainBounds, no_bound, bounds}
+use Rattle.pict_types.specs.Kinds.{Kind, kind_by, kind_at, IsWellFormed}
 use Rattle.pict_types.specs.Replacing.{unfolding_of}
 use Rattle.pict_normal.specs.Normal.{Stop, normal, kind_stop}
 use Rattle.pict_types.specs.Mentions.{mentions_innermost, lowered}

@@ -6,7 +6,7 @@ use Rattle.pict_syntax.specs.Trees.{Val, Decs}
 use Rattle.pict_types.specs.Types.{PlainType}
 use Rattle.pict_scope.specs.Scopes.{scope_stop}
 use Rattle.pict_rules.specs.Environments.{Environment, no_environment}
-use Rattle.pict_rules.specs.Rules.{Sort, Result, Judgement, gives, has, declarations, Condition, IsMet, Rule, give, refuse, need, either, part, Answer, ok, stuck}
+use Rattle.pict_rules.specs.Rules.{Sort, Result, Judgement, gives, declarations, Condition, IsMet, Rule, give, refuse, need, either, part, Answer, ok, stuck}
 use Rattle.pict_rules.specs.Typing.{rule}
 
 pub data RunsTo : (s : Sort) → Rule s → Answer s → Type 0 where

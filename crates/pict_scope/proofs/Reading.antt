@@ -39,7 +39,7 @@ first_stays (type_used s (Some t) ∷ ms) ns x h = first_stays ms ns x h
 first_stays (value_bound n ∷ ms) ns x h = first_stays ms ns x h
 first_stays (stands_twice c s ∷ ms) ns x h = h
 
-values_both : (ms ns : List Mark) → value_meanings (ms ++ ns) ≡ value_meanings ms ++ value_meanings ns
+pub values_both : (ms ns : List Mark) → value_meanings (ms ++ ns) ≡ value_meanings ms ++ value_meanings ns
 values_both [] ns = refl
 values_both (value_used s None ∷ ms) ns = values_both ms ns
 values_both (value_used s (Some t) ∷ ms) ns = ap (λ l. t ∷ l) (values_both ms ns)
@@ -47,7 +47,7 @@ values_both (type_used s t ∷ ms) ns = values_both ms ns
 values_both (value_bound n ∷ ms) ns = values_both ms ns
 values_both (stands_twice c s ∷ ms) ns = values_both ms ns
 
-types_both : (ms ns : List Mark) → type_meanings (ms ++ ns) ≡ type_meanings ms ++ type_meanings ns
+pub types_both : (ms ns : List Mark) → type_meanings (ms ++ ns) ≡ type_meanings ms ++ type_meanings ns
 types_both [] ns = refl
 types_both (value_used s t ∷ ms) ns = types_both ms ns
 types_both (type_used s None ∷ ms) ns = types_both ms ns
@@ -288,5 +288,14 @@ pattern_refused o p a e h = record { is_first = refused_before (marks o (before_
 pub behind_refused : (o p : Outline) (w : Opened) (a b : Reader) (e : ScopeError) → ReadsPattern o w a b → Refuses p b e → Refuses (pattern o p) a e
 unfolding opens marks
 behind_refused o p w a b e h k = record { is_first = refused_then (marks o (before_pattern (around a))) _ e h.goes.answers.none_stops (refused_at (marks p) e h.goes.around_ k.is_first) }
+
+-- the scope of a pattern
+pub scope_read : (o p : Outline) (at : Place) (w : Opened) (a b c d e : Reader) → IsAt at a → ReadsPattern o w a b → Moves (enters w) b c → Reads p c d → GoesBack at d e → Reads (closed (pattern o empty ▸ p)) a e
+scope_read o p at w a b c d e h k l m n = closed_read (pattern o empty ▸ p) at a d e h (then_read (pattern o empty) p a c d (pattern_read o empty w a b b c k (empty_read b) l) m) n
+
+pub scope_refused : (o p : Outline) (w : Opened) (a b c : Reader) (e : ScopeError) → ReadsPattern o w a b → Moves (enters w) b c → Refuses p c e → Refuses (closed (pattern o empty ▸ p)) a e
+scope_refused o p w a b c e k l m = closed_refused (pattern o empty ▸ p) a e (then_refused (pattern o empty) p a c e (pattern_read o empty w a b b c k (empty_read b) l) m)
+
+pub ruleset scoping = (scope_refused, memory_refused)
 
 pub ruleset reading = (empty_read, memory_refused, then_read, then_refused, first_refused, then_any, closed_read, closed_refused, group_read, group_refused, type_read, type_refused, each_none, each_more, each_refused, each_all, pattern_type_read, pattern_type_refused, pattern_type_again, whole_pattern, whole_pattern_refused, pattern_memory, pattern_read, pattern_refused, behind_refused)

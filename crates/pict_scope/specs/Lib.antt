@@ -5,6 +5,8 @@ pub mod Marks
 pub mod Outlines
 pub mod Forms
 pub mod Scopes
+pub mod Refusals
+pub mod Places
 pub mod Reads
 pub mod Steps
 pub mod Held

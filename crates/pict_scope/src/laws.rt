@@ -1,6 +1,6 @@
 // The laws of scopes, each as the contract of a function that does nothing.
 
-ghost use Rattle.pict_scope.specs.Laws.{NoLabelTwice, OneScopeStop, PartsAreScoped, StandsOnce, UsesAreBound};
+ghost use Rattle.pict_scope.specs.Laws.{NoLabelTwice, OneScopeStop, PartsAreScoped, StandsOnce, TypesByLookUp, UsesAreBound, ValuesByLookUp};
 
 /// A program has at most one scope stop.
 pub fn law_one_scope_stop()
@@ -27,4 +27,11 @@ pub fn law_stands_once()
 /// type.
 pub fn law_no_label_twice()
     ensures { NoLabelTwice }
+{}
+
+/// What the uses mean, in reading order, is what look-up finds at each in the binders around it, the nearest first: so
+/// whoever goes over a program with the binders around each place may take the one for the other.
+pub fn law_look_up()
+    ensures values { ValuesByLookUp }
+    ensures types { TypesByLookUp }
 {}

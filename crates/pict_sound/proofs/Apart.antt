@@ -1,6 +1,5 @@
 -- Parked processes stand at channels, and no channel has a parked message and a parked reader at once.
-use Rattle.std.proofs.Common.{ℕ, ◌+◌, ◌<◌, ◌≡◌, ◌⊎◌, inl, inr, Bool, true, false, not, ◌&&◌, nat_eq, List, [], ◌∷◌, ◌++◌, refl, sym, ap, subst, Option, Some, arith}
-use Rattle.std.proofs.lemmas.Bool.Decides.{nat_tests}
+use Rattle.std.proofs.Common.{ℕ, ◌+◌, ◌<◌, ◌≡◌, ◌⊎◌, inl, inr, Bool, true, false, nat_eq, List, [], ◌∷◌, ◌++◌, refl, sym, subst, Option, Some, arith}
 use Rattle.pict_syntax.specs.declared.span.Span.{Span}
 use Rattle.pict_core.specs.Term.{Val, Pat, Process, Chan, Out, In}
 use Rattle.pict_core.specs.Closed.{IsUnder, IsClosed}

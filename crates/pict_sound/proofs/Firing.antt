@@ -10,7 +10,7 @@ use Rattle.pict_core.specs.Term.{Val, Process, Var, Chan, Boolean, Zero, Par, Ou
 use Rattle.pict_core.specs.Substitution.{replace, replace_value, substitute, value_of_variable, substitution}
 use Rattle.pict_core.specs.Primitives.{Leaves, Nothing, Answer, Trap}
 use Rattle.pict_sound.specs.Congruence.{renaming}
-use Rattle.pict_sound.specs.Reduction.{IsName, variable, channel, left_by, Reduces, up_to}
+use Rattle.pict_sound.specs.Reduction.{IsName, variable, channel, left_by, up_to}
 use Rattle.pict_sound.specs.Reduction as reduction
 use Rattle.pict_sound.specs.Components.{Components, renamed, make_room, beside, components, Permutes, AreAlike}
 use Rattle.pict_sound.specs.Redex.{Fires, communicates, serves, chooses, performs, left_beside, Reacts}

@@ -12,7 +12,7 @@ use Rattle.pict_core.specs.Configuration.{Ready, Parked, Entry, Configuration, I
 use Rattle.pict_core.specs.Step.{Label, is_ready, is_parked_reader, is_parked_message, entry_at, gone, kept, added, with_channel, with_process, served, took}
 use Rattle.pict_core.proofs.Stamps.{without, StampsRise-without, AreClosed-without, EntryClosed, least_closed}
 use Rattle.pict_sound.specs.Congruence.{Congruent, reflexive, symmetric, transitive, in_par, in_new, unit, commutative, associative, extrusion, raised}
-use Rattle.pict_sound.specs.Reduction.{IsName, variable, left_by, Reduces, communicates, serves, chooses, performs, up_to}
+use Rattle.pict_sound.specs.Reduction.{variable, left_by, Reduces, communicates, serves, chooses, performs, up_to}
 use Rattle.pict_sound.specs.Reduction as reduction
 use Rattle.pict_sound.specs.Reading.{naming, read, composition, declare, reading}
 use Rattle.pict_sound.specs.Laws.{StepsAreReductions}

@@ -1,18 +1,17 @@
 -- The parts of records: what each weighs, that it is well formed, and where a row ends.
-use Rattle.std.proofs.Common.{◌≡◌, ◌≢◌, ℕ, zero, suc, ◌+◌, ◌≤◌, ◌<◌, List, [], ◌∷◌, length, get_or, drop, length-drop, refl, sym, ◌∙◌, ap, ap₂, subst, subst₂, ◌↔◌, ◌⊎◌, inl, inr, Bool, Result, Ok, Err, arith}
+use Rattle.std.proofs.Common.{◌≡◌, ◌≢◌, ℕ, suc, ◌+◌, ◌≤◌, ◌<◌, List, [], ◌∷◌, length, drop, length-drop, refl, sym, ◌∙◌, ap, ap₂, subst, subst₂, ◌↔◌, ◌⊎◌, inl, inr, Bool, Result, Ok, Err, arith}
 use Rattle.std.specs.Prelude.{IfOk, IsTrue, nat_eq}
 use Rattle.std.proofs.lemmas.Bool.{cases_lt, eq-eqb, eqb-true}
 use Rattle.pict_syntax.specs.declared.name.Name.{Name}
 use Rattle.pict_types.specs.declared.types.Ty.{Ty}
-use Rattle.pict_types.specs.Types.{PlainType, Fields, PlainTypes, PlainLabels, no_label, labels, PlainBounds, no_bound, bounds, TypeContext, under, count_types}
-use Rattle.pict_types.specs.Kinds.{Kind, IsWellFormed, AreWellFormed, LabelsAreWellFormed, BoundsAreWellFormed, ContextIsWellFormed, kinds, kinds_under}
-use Rattle.pict_types.specs.Measures.{weigh, weigh_types, weigh_labels, weigh_bounds, weights, weight_of}
+use Rattle.pict_types.specs.Types.{PlainType, Fields, PlainTypes, PlainLabels, no_label, labels, PlainBounds, TypeContext, under}
+use Rattle.pict_types.specs.Kinds.{Kind, IsWellFormed, AreWellFormed, LabelsAreWellFormed, ContextIsWellFormed, kinds}
+use Rattle.pict_types.specs.Measures.{weigh_types, weigh_labels, weigh_bounds, weights, weight_of}
 use Rattle.pict_types.specs.Plain.{plain, plain_types, plain_labels}
-use Rattle.pict_types.specs.Entries.{PlainWhat, Variable, Definition, PlainContext, variables, with_variable, EntryIsWellFormed, EntriesAreWellFormed}
 use Rattle.pict_sub.specs.Subtyping.{IsSubtype, AreSubtypes, HasLabels, has_none}
-use Rattle.pict_types.proofs.Rows.{labels_drop, labels_end, count_types_length}
+use Rattle.pict_types.proofs.Rows.{labels_end, count_types_length}
 use Rattle.pict_sub.proofs.Inversion.{as_many, records, label_other, label_alike, no_label_left, types_rules}
-use Rattle.pict_types.proofs.Contexts.{weights_under_is, weigh_record, kinds_under_is, formed_under}
+use Rattle.pict_types.proofs.Contexts.{weigh_record, kinds_under_is, formed_under}
 use Rattle.pict_types.proofs.Sizes.{weight_positive}
 
 pub types_below_length : (c : TypeContext) (xs ys : List Ty) → AreSubtypes c (plain_types xs) (plain_types ys) → length xs ≡ length ys

@@ -1,6 +1,6 @@
 -- Bounds followed with the code's sums; exposing gives one type, above the given one, and loses no subtyping.
 use Rattle.std.proofs.Common.{◌≡◌, ◌≢◌, ℕ, suc, ◌+◌, ◌≤◌, List, refl, sym, ◌∙◌, ap, subst, arith, add-one}
-use Rattle.pict_types.specs.Types.{PlainType, Var, PlainBound, Free, Below, Operator, TypeContext}
+use Rattle.pict_types.specs.Types.{PlainType, Var, Below, TypeContext}
 use Rattle.pict_types.specs.Renaming.{rename, rename_bound, moved, bound_at, bound_of}
 use Rattle.pict_types.specs.Kinds.{IsWellFormed, ContextIsWellFormed, kinds}
 use Rattle.pict_types.specs.Measures.{weight_of}

@@ -3,8 +3,8 @@ use Rattle.std.proofs.Common.{◌≡◌, ◌≢◌, ℕ, suc, ◌+◌, List, ref
 use Rattle.std.specs.Prelude.{nat_eq}
 use Rattle.std.proofs.lemmas.Bool.{eq-eqb, ne_eqb, eqb-true}
 use Rattle.pict_syntax.specs.Labels.{StandsBefore}
-use Rattle.pict_syntax.proofs.LabelLemmas.{label_order, other_label}
-use Rattle.pict_types.specs.Types.{Capability, PlainType, Top, Var, Chan, Fields, Rec, PlainTypes, no_type, types, PlainLabels, no_label, labels, PlainBound, Free, Below, Operator, PlainBounds, TypeContext, under, type_at, count_types, is_top}
+use Rattle.pict_syntax.proofs.LabelLemmas.{other_label}
+use Rattle.pict_types.specs.Types.{Capability, PlainType, Top, Var, Chan, Fields, Rec, PlainTypes, no_type, types, PlainLabels, no_label, labels, Below, PlainBounds, TypeContext, under, type_at, count_types, is_top}
 use Rattle.pict_types.specs.Renaming.{rename, rename_bound, moved, bound_at, bound_of}
 use Rattle.pict_types.specs.Kinds.{Kind, StandsBeforeAll, LabelsAreWellFormed}
 use Rattle.pict_sub.specs.Shapes.{shape_of, variable, channel, record_}

@@ -1,7 +1,7 @@
 -- Variables renumbered under binders.
 use Rattle.std.proofs.Common.{◌≡◌, ℕ, zero, suc, ◌+◌, ◌-◌, ◌≤◌, ◌<◌, refl, ◌∙◌, ap, arith}
 use Rattle.pict_types.specs.Types.{PlainBounds, no_bound, bounds, count_bounds}
-use Rattle.pict_types.specs.Renaming.{beyond_all, beyond_times, plus, moved}
+use Rattle.pict_types.specs.Renaming.{beyond_all, beyond_times, plus}
 
 pub times_low : (f : ℕ → ℕ) (d i : ℕ) → i < d → beyond_times d f i ≡ i
 times_low f zero i h = absurd (omega arith)

@@ -1,15 +1,14 @@
 -- What stands for the variables of a type under binders, where types and operators are put for others.
-use Rattle.std.proofs.Common.{◌≡◌, ℕ, zero, suc, ◌+◌, ◌-◌, ◌<◌, ◌≤◌, List, [], ◌∷◌, length, get_or, refl, sym, ◌∙◌, ap, ap₂, subst, arith}
+use Rattle.std.proofs.Common.{◌≡◌, ℕ, zero, suc, ◌+◌, ◌-◌, ◌<◌, ◌≤◌, List, [], ◌∷◌, length, get_or, refl, sym, ◌∙◌, ap, subst, arith}
 use Rattle.pict_types.specs.declared.types.Arg.{Arg}
 use Rattle.pict_types.specs.Plain.{plain_arg, plain_args}
-use Rattle.pict_types.specs.Types.{PlainType, Top, Int, Char, Str, Boolean, Var, Apply, Chan, Fields, Rec, PlainTypes, no_type, types, PlainLabels, no_label, labels, PlainBound, Free, Below, Operator, PlainBounds, no_bound, bounds, count_bounds}
-use Rattle.pict_types.specs.Renaming.{beyond, beyond_all, beyond_times, plus, rename, rename_types, rename_labels, rename_bounds, rename_bound, moved}
-use Rattle.pict_types.specs.Replacing.{bound_by, Filling, next_variable, apply_variable, filling_beyond, filling_beyond_all, fill, fill_types, fill_labels, fill_bounds, fill_bound, with_type, with_types, no_filling, Head, variable, operator, nothing, rename_head, Replacement, replacement_past, replacement_beyond_all, type_in, head_in, with_arg, with_args, arguments, no_replacement}
+use Rattle.pict_types.specs.Types.{PlainType, Top, Var, PlainTypes, no_type, types, PlainBounds, no_bound, bounds, count_bounds}
+use Rattle.pict_types.specs.Renaming.{beyond, beyond_times, plus, rename, moved}
+use Rattle.pict_types.specs.Replacing.{Filling, fill, with_type, with_types, no_filling, Head, variable, operator, nothing, rename_head, Replacement, replacement_past, replacement_beyond_all, type_in, head_in, with_arg, with_args, arguments, no_replacement}
 use Rattle.pict_types.specs.Filling.{moved_by}
 use Rattle.pict_types.proofs.Renamed.{Joins, joins_beyond, renamed_twice, Stays, stays_beyond, rename_same}
 use Rattle.pict_types.proofs.Replaced.{beyond_after}
 use Rattle.pict_types.proofs.Composed.{IsAfter, fill_after}
-use Rattle.pict_types.proofs.Congruent.{three}
 
 pub type_low : (s : Replacement) (d i : ℕ) → i < d → (replacement_past d s).type_of i ≡ Var i
 type_low s zero i h = absurd (omega arith)

@@ -1,12 +1,12 @@
 -- The variables of a well formed type.
 use Rattle.std.proofs.Common.{◌≡◌, ℕ, zero, suc, ◌+◌, ◌≤◌, ◌<◌, List, [], ◌∷◌, length, get_or, Some, refl, ap, arith}
-use Rattle.pict_types.specs.Types.{PlainType, Top, Int, Char, Str, Boolean, Var, Apply, Chan, Fields, Rec, PlainTypes, no_type, types, PlainLabels, no_label, labels, PlainBound, Free, Below, Operator, PlainBounds, no_bound, bounds, TypeContext, count_types}
-use Rattle.pict_types.specs.Kinds.{Kind, proper, operator_of, kind_by, kinds, kinds_under, kind_at, with_parameters, IsWellFormed, AreWellFormed, LabelsAreWellFormed, BoundsAreWellFormed, ArgIsWellFormed}
+use Rattle.pict_types.specs.Types.{PlainType, Top, Int, Char, Str, Boolean, Var, Apply, Chan, Fields, Rec, PlainTypes, no_type, types, PlainLabels, no_label, labels, Free, Below, Operator, PlainBounds, no_bound, bounds, TypeContext, count_types}
+use Rattle.pict_types.specs.Kinds.{Kind, proper, operator_of, kind_by, kinds, kinds_under, kind_at, IsWellFormed, AreWellFormed, LabelsAreWellFormed, BoundsAreWellFormed, ArgIsWellFormed}
 use Rattle.pict_types.specs.declared.types.Arg.{Arg}
 use Rattle.pict_types.specs.Plain.{plain_arg, plain_args}
 use Rattle.pict_types.specs.Instances.{ArgsAreWellFormed, most_args, size_arg}
 use Rattle.pict_types.specs.Room.{reach, reach_types, reach_labels, reach_bounds}
-use Rattle.pict_types.specs.Measures.{size, size_types, size_labels, size_bounds, size_bound}
+use Rattle.pict_types.specs.Measures.{size, size_types, size_labels, size_bounds}
 use Rattle.pict_types.proofs.Rows.{size_bound_positive}
 
 pub kind_below : (ks : List Kind) (i : ℕ) (k : Kind) → kind_at ks i ≡ Some k → i < length ks

@@ -1,5 +1,5 @@
 -- One field more, and the record of all.
-use Rattle.std.proofs.Common.{[], ◌∷◌, ◌++◌, refl, sym, ◌∙◌, ap, subst}
+use Rattle.std.proofs.Common.{[], refl, sym, ◌∙◌, ap, subst}
 use Rattle.pict_types.specs.declared.types.Ty.TheVariants.{Int as Int_}
 use Rattle.pict_types.specs.Kinds.{AreWellFormed}
 use Rattle.pict_types.proofs.Items.{formed_pushed}
