@@ -99,25 +99,25 @@ module _ (names : List (List ℕ)) (c : TypeContext) (d : ℕ) {ls ms : PlainLab
 
   pub pass_given : label_cmp names l m ≡ Greater → IsLeft names c d ls ms' f h
   pass_given e =
-    let b : StandsBefore names m l = (label_order names).antisymm m l ∙ ap ordering_reverse e in
-    record {
-      wanted = left.wanted;
-      given = given_now.1.1;
-      gives = ap (λ x. matched_labels c d x ms' f) p ∙ sym (unwanted names c d m g (labels l w ls') ms' f (b, before_further names m l ls' b wanted_now.formed.0)) ∙ gives_now;
-    }
+      let b : StandsBefore names m l = (label_order names).antisymm m l ∙ ap ordering_reverse e in
+      record {
+        wanted = left.wanted;
+        given = given_now.1.1;
+        gives = ap (λ x. matched_labels c d x ms' f) p ∙ sym (unwanted names c d m g (labels l w ls') ms' f (b, before_further names m l ls' b wanted_now.formed.0)) ∙ gives_now;
+      }
 
   pub take_both : label_cmp names l m ≡ Equal → IsLeft names c d ls' ms' (matched c d w g f) h
   take_both e =
-    let same : l ≡ m = equal_labels names l m e in
-    let here : type_at l (labels m g ms') ≡ Some g = rw (eq-eqb l m same) refl in
-    let after : StandsBeforeAll names m ls' = subst (λ x. StandsBeforeAll names x ls') same wanted_now.formed.0 in
-    record {
-      wanted = wanted_rest;
-      given = given_now.1.1;
-      gives = sym (unwanted names c d m g ls' ms' (matched c d w g f) after)
-        ∙ sym (ap (λ x. matched_labels c d ls' (labels m g ms') (match_label x (λ u. matched c d w u f) f)) here)
-        ∙ gives_now;
-    }
+      let same : l ≡ m = equal_labels names l m e in
+      let here : type_at l (labels m g ms') ≡ Some g = rw (eq-eqb l m same) refl in
+      let after : StandsBeforeAll names m ls' = subst (λ x. StandsBeforeAll names x ls') same wanted_now.formed.0 in
+      record {
+        wanted = wanted_rest;
+        given = given_now.1.1;
+        gives = sym (unwanted names c d m g ls' ms' (matched c d w g f) after)
+            ∙ sym (ap (λ x. matched_labels c d ls' (labels m g ms') (match_label x (λ u. matched c d w u f) f)) here)
+            ∙ gives_now;
+      }
 
 pub labels_done : (names : List (List ℕ)) (c : TypeContext) (d : ℕ) (ls ms : PlainLabels) (f h : Found) → ls ≡ no_label → IsLeft names c d ls ms f h → f ≡ h
 labels_done names c d ls ms f h e left = ap (λ x. matched_labels c d x ms f) (sym e) ∙ left.gives
@@ -163,12 +163,14 @@ bounds_further c d (b ∷ bs) (g ∷ cs) (suc i) x y f h k =
 pub bounds_next : (c : TypeContext) (d n : ℕ) (bs cs : List Bound) (i : ℕ) (w g : Bound) (f : Found) → i < length bs → i < length cs → w ≡ get_or bs i w → g ≡ get_or cs i g → n ≡ d + i → matched_bounds (under c (plain_bounds (take (i + 1) cs))) (d + (i + 1)) (plain_bounds (drop (i + 1) bs)) (plain_bounds (drop (i + 1) cs)) (matched_bound (under c (plain_bounds (take i cs))) n (plain_bound w) (plain_bound g) f) ≡ matched_bounds (under c (plain_bounds (take i cs))) (d + i) (plain_bounds (drop i bs)) (plain_bounds (drop i cs)) f
 bounds_next c d n bs cs i w g f l m p q e =
     ap₂ (λ x y. matched_bounds (under c (plain_bounds (take x cs))) (d + x) (plain_bounds (drop x bs)) (plain_bounds (drop x cs)) y) (add-one i)
-        (ap (λ x. matched_bound (under c (plain_bounds (take i cs))) x (plain_bound w) (plain_bound g) f) e ∙ ap₂ (λ x y. matched_bound (under c (plain_bounds (take i cs))) (d + i) (plain_bound x) (plain_bound y) f) p q)
+    (ap (λ x. matched_bound (under c (plain_bounds (take i cs))) x (plain_bound w) (plain_bound g) f) e ∙ ap₂ (λ x y. matched_bound (under c (plain_bounds (take i cs))) (d + i) (plain_bound x) (plain_bound y) f) p q)
     ∙ bounds_further c d bs cs i w g f l m
 
 pub bounds_done : (c : TypeContext) (d : ℕ) (bs gs : List Bound) (i : ℕ) (f : Found) → length bs ≤ i → matched_bounds c d (plain_bounds (drop i bs)) (plain_bounds (drop i gs)) f ≡ f
 bounds_done c d bs gs i f h = ap (λ z. matched_bounds c d z (plain_bounds (drop i gs)) f) (bounds_end bs i h)
 
 pub ruleset type_rules = (types_next, types_done, types_out)
+
 pub ruleset label_rules = (labels_done, labels_end)
+
 pub ruleset bound_rules = (bounds_done)

@@ -48,10 +48,10 @@ module _ (c : TypeContext) (d : ℕ) (bs cs : List Bound) (ws us : List Ty) (ls 
   -- all that the parts find
   pub records_total : (n : ℕ) → length bs ≡ length cs → length ws ≡ length us → n ≡ d + length bs → matched_labels (under c (plain_bounds cs)) n ls ms (matched_types (under c (plain_bounds cs)) n (plain_types ws) (plain_types us) (matched_bounds c d (plain_bounds bs) (plain_bounds cs) f)) ≡ by_fields c d (plain_bounds bs) (plain_types ws) ls (plain_bounds cs) (plain_types us) ms f
   records_total n p q m =
-    let n_is : n ≡ d + count_bounds (plain_bounds bs) = m ∙ ap (λ x. d + x) (sym (count_bounds_length bs)) in
-    ap (λ x. matched_labels (under c (plain_bounds cs)) x ls ms (matched_types (under c (plain_bounds cs)) x (plain_types ws) (plain_types us) (matched_bounds c d (plain_bounds bs) (plain_bounds cs) f))) n_is
-    ∙ agree_by (nat_eq (count_bounds (plain_bounds bs)) (count_bounds (plain_bounds cs))) (nat_eq (count_types (plain_types ws)) (count_types (plain_types us))) _ f
-        (rw (count_bounds_length bs ∙ p ∙ sym (count_bounds_length cs)) (same_equal (count_bounds (plain_bounds cs))))
-        (rw (count_types_length ws ∙ q ∙ sym (count_types_length us)) (same_equal (count_types (plain_types us))))
+      let n_is : n ≡ d + count_bounds (plain_bounds bs) = m ∙ ap (λ x. d + x) (sym (count_bounds_length bs)) in
+      ap (λ x. matched_labels (under c (plain_bounds cs)) x ls ms (matched_types (under c (plain_bounds cs)) x (plain_types ws) (plain_types us) (matched_bounds c d (plain_bounds bs) (plain_bounds cs) f))) n_is
+      ∙ agree_by (nat_eq (count_bounds (plain_bounds bs)) (count_bounds (plain_bounds cs))) (nat_eq (count_types (plain_types ws)) (count_types (plain_types us))) _ f
+      (rw (count_bounds_length bs ∙ p ∙ sym (count_bounds_length cs)) (same_equal (count_bounds (plain_bounds cs))))
+      (rw (count_types_length ws ∙ q ∙ sym (count_types_length us)) (same_equal (count_types (plain_types us))))
 
 pub ruleset record_rules = (partly_none, bounds_differ, types_differ)

@@ -63,5 +63,7 @@ arguments_same c d i j ws us g f e h =
     ∙ ap (λ x. match_applied x (λ j us. if is_same_head d (length f) i j then matched_types c d ws us f else f) f) e
 
 pub ruleset shown_rules = (shows)
+
 pub ruleset forms = (plain_apply, plain_fields, formed_contents, formed_body, formed_arguments)
+
 pub ruleset parts = (partly_none, plain_apply, plain_fields, shown_contents, shown_body, shown_arguments, shown_fields)

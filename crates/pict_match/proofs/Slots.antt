@@ -112,5 +112,7 @@ pub head_outside : (inner n i j : ℕ) → inner ≤ i → (nat_le n (i - inner)
 head_outside inner n i j h = grind (arith, nat_tests)
 
 pub ruleset slot_rules = (inside_is_none, outside_is_none, found_is_none, missing_is, place_is)
+
 pub ruleset find_rules = (find_nothing, find_inner, find_new, slot_set, slots_length)
+
 pub ruleset head_rules = (head_inside, head_outside, slots_length)

@@ -43,7 +43,13 @@ fn missing_place(inner: usize, i: u32, found: &Found) -> Option<usize>
 ///
 /// The only error is want of memory, and it leaves what is found as it was.
 #[tactic(auto, using(crate::proofs::Slots::find_rules))]
-pub fn find(alloc: Global, inner: usize, i: u32, given: &Ty, found: &mut Found) -> Result<(), AllocError>
+pub fn find(
+    alloc: Global,
+    inner: usize,
+    i: u32,
+    given: &Ty,
+    found: &mut Found,
+) -> Result<(), AllocError>
     ensures found { IfOk result (λ _. found_in found.new ≡ find inner i (plain given.now) (found_in found.old)) }
     ensures same { OnErr result (found_in found.new ≡ found_in found.old) }
 {

@@ -139,10 +139,8 @@ fn match_arguments(
     requires context { ContextIsWellFormed names.now (scope_context scope.now) }
     requires wanted { AreFormed names.now (plain_types wanted.now) }
     requires given { IsWellFormed names.now (kinds (scope_context scope.now)) (plain given.now) }
-    ensures {
-        Finds result (by_arguments (scope_context scope.now) inner i (plain_types wanted.now) (plain given.now))
-        (found_in found.old) (found_in found.new)
-    }
+    ensures { Finds result (by_arguments (scope_context scope.now) inner i (plain_types wanted.now) (plain given.now))
+        (found_in found.old) (found_in found.new) }
 {
     let followed = followed(alloc, scope, given)?;
     match shown(&followed, given) {
@@ -205,10 +203,34 @@ fn match_records(
         return Ok(());
     }
     let under = deeper(inner, wanted.binders.len())?;
-    match_bounds(alloc, names, scope, inner, &wanted.binders, &given.binders, found)?;
+    match_bounds(
+        alloc,
+        names,
+        scope,
+        inner,
+        &wanted.binders,
+        &given.binders,
+        found,
+    )?;
     let inside = TypeScope::Inner(&given.binders, &*scope);
-    match_types(alloc, names, &inside, under, &wanted.positional, &given.positional, found)?;
-    match_labels(alloc, names, &inside, under, &wanted.labelled, &given.labelled, found)
+    match_types(
+        alloc,
+        names,
+        &inside,
+        under,
+        &wanted.positional,
+        &given.positional,
+        found,
+    )?;
+    match_labels(
+        alloc,
+        names,
+        &inside,
+        under,
+        &wanted.labelled,
+        &given.labelled,
+        found,
+    )
 }
 
 /// As many types, in order.
@@ -226,10 +248,8 @@ fn match_types(
     requires context { ContextIsWellFormed names.now (scope_context scope.now) }
     requires wanted { AreFormed names.now (plain_types wanted.now) }
     requires given { AreWellFormed names.now (kinds (scope_context scope.now)) (plain_types given.now) }
-    ensures {
-        Finds result (matched_types (scope_context scope.now) inner (plain_types wanted.now) (plain_types given.now))
-        (found_in found.old) (found_in found.new)
-    }
+    ensures { Finds result (matched_types (scope_context scope.now) inner (plain_types wanted.now) (plain_types given.now))
+        (found_in found.old) (found_in found.new) }
 {
     for i in 0..wanted.len() {
         if i == given.len() {
@@ -255,10 +275,8 @@ fn match_labels(
     requires context { ContextIsWellFormed names.now (scope_context scope.now) }
     requires wanted { LabelsAreFormed names.now (plain_labels wanted.now) }
     requires given { LabelsAreWellFormed names.now (kinds (scope_context scope.now)) (plain_labels given.now) }
-    ensures {
-        Finds result (matched_labels (scope_context scope.now) inner (plain_labels wanted.now) (plain_labels given.now))
-        (found_in found.old) (found_in found.new)
-    }
+    ensures { Finds result (matched_labels (scope_context scope.now) inner (plain_labels wanted.now) (plain_labels given.now))
+        (found_in found.old) (found_in found.new) }
 {
     let mut i = 0;
     let mut j = 0;
@@ -294,14 +312,20 @@ fn match_bounds(
     requires context { ContextIsWellFormed names.now (scope_context scope.now) }
     requires wanted { BoundsAreFormed names.now (plain_bounds wanted.now) }
     requires given { BoundsAreWellFormed names.now (kinds (scope_context scope.now)) (plain_bounds given.now) }
-    ensures {
-        Finds result (matched_bounds (scope_context scope.now) inner (plain_bounds wanted.now) (plain_bounds given.now))
-        (found_in found.old) (found_in found.new)
-    }
+    ensures { Finds result (matched_bounds (scope_context scope.now) inner (plain_bounds wanted.now) (plain_bounds given.now))
+        (found_in found.old) (found_in found.new) }
 {
     for i in 0..wanted.len() {
         let before = TypeScope::Inner(&given[..i], &*scope);
-        match_bound(alloc, names, &before, deeper(inner, i)?, &wanted[i], &given[i], found)?;
+        match_bound(
+            alloc,
+            names,
+            &before,
+            deeper(inner, i)?,
+            &wanted[i],
+            &given[i],
+            found,
+        )?;
     }
     Ok(())
 }
@@ -320,10 +344,8 @@ fn match_bound(
     requires context { ContextIsWellFormed names.now (scope_context scope.now) }
     requires wanted { BoundIsFormed names.now (plain_bound wanted.now) }
     requires given { BoundIsWellFormed names.now (kinds (scope_context scope.now)) (plain_bound given.now) }
-    ensures {
-        Finds result (matched_bound (scope_context scope.now) inner (plain_bound wanted.now) (plain_bound given.now))
-        (found_in found.old) (found_in found.new)
-    }
+    ensures { Finds result (matched_bound (scope_context scope.now) inner (plain_bound wanted.now) (plain_bound given.now))
+        (found_in found.old) (found_in found.new) }
 {
     match (wanted, given) {
         (Bound::Below(w), Bound::Below(g)) => match_at(alloc, names, scope, inner, w, g, found),
@@ -347,10 +369,8 @@ pub fn match_type(
 ) -> Result<(), AllocError>
     requires wanted { IsFormed (names_of c.now) (plain wanted.now) }
     requires given { IsWrittenIn c.now (plain given.now) }
-    ensures {
-        (bs : PlainBounds) → Finds result (matched (type_context c.now) 0 (plain wanted.now) (plain given.now))
-        (found_of bs found.old) (found_of bs found.new)
-    }
+    ensures { (bs : PlainBounds) → Finds result (matched (type_context c.now) 0 (plain wanted.now) (plain given.now))
+        (found_of bs found.old) (found_of bs found.new) }
 {
     let scope = TypeScope::Outer(c);
     match_at(alloc, c.names(), &scope, 0, wanted, given, found)

@@ -135,7 +135,12 @@ fn bounds_are_followed_where_no_variable_is_wanted(rt: HostRuntime) -> Result<()
     let c = below_channel(alloc, &names)?;
     let wanted = channel(alloc, Cap::Both, Ty::Var(0))?;
     assert!(rt; matches!(found_for(alloc, &c, &wanted, &Ty::Var(0))?, Some(Ty::Int)));
-    assert!(rt; matches!(found_for(alloc, &c, &Ty::Var(0), &Ty::Var(0))?, Some(Ty::Var(0))));
+    assert!(rt;
+        matches!(
+            found_for(alloc, &c, &Ty::Var(0), &Ty::Var(0))?,
+            Some(Ty::Var(0))
+        )
+    );
     Ok(())
 }
 

@@ -130,10 +130,16 @@ match_labels-match_at-requires t c =
     let g = c.index-given-j.result in
     let p = label_read c.args.wanted.now i w c.index-wanted-i.is c.loop-i-test.true in
     let q = label_read c.args.given.now j g c.index-given-j.is c.if-j-given.true in
-    let less = label_size c.args.wanted.now i w c.loop-i-test.true c.index-wanted-i.is in
-    (omega (arith, less), (c.requires.context, (
-    wanted_type names ctx c.args.inner w.0.0 g.0.0 (plain w.1) (plain g.1) _ _ p q c.loop-i.invariant.left,
-    given_type names ctx c.args.inner w.0.0 g.0.0 (plain w.1) (plain g.1) _ _ p q c.loop-i.invariant.left)))
+    let less = label_size c.args.wanted.now i w c.loop-i-test.true c.index-wanted-i.is in (
+      omega (arith, less),
+      (
+        c.requires.context,
+        (
+          wanted_type names ctx c.args.inner w.0.0 g.0.0 (plain w.1) (plain g.1) _ _ p q c.loop-i.invariant.left,
+          given_type names ctx c.args.inner w.0.0 g.0.0 (plain w.1) (plain g.1) _ _ p q c.loop-i.invariant.left,
+        ),
+      ),
+    )
 
 pub match_labels-loop-i-preserved : goal.match_labels-loop-i-preserved
 match_labels-loop-i-preserved t c =
