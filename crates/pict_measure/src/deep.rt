@@ -91,14 +91,28 @@ fn try_nested(rt: &HostRuntime) -> Result<(), Error> {
         nested("blocks", b"val x=", b"(val y=", 200, b"1", b" y)"),
         nested("abstractions", b"val f=", b"\\x=print!", 200, b"1", b""),
         nested("functions", b"val f=", b"\\()=", 199, b"1", b""),
-        nested("branches", b"val x=", b"if true then 1 else ", 200, b"1", b""),
+        nested(
+            "branches",
+            b"val x=",
+            b"if true then 1 else ",
+            200,
+            b"1",
+            b"",
+        ),
         nested("tests", b"val x=", b"if ", 200, b"true", b" then 1 else 1"),
         nested("right forms", b"val x=", b"(+ > 1 ", 200, b"1", b")"),
         nested("left forms", b"val x=", b"(+ < ", 200, b"1", b" 1)"),
         nested("folds", b"val x=", b"(rec ", 199, b"(+ 1 1)", b")"),
         nested("groups", b"run ", b"(new x:Top ", 199, b"()", b")"),
         nested("receivers", b"new c:Top run ", b"c?x=", 199, b"()", b""),
-        nested("choices", b"run ", b"if true then () else ", 199, b"()", b""),
+        nested(
+            "choices",
+            b"run ",
+            b"if true then () else ",
+            199,
+            b"()",
+            b"",
+        ),
     ];
     for deep in &forms {
         try_one(rt, deep)?;

@@ -73,18 +73,26 @@ pub fn deep(alloc: Global) -> Result<Vec<u8>, AllocError> {
     Ok(text)
 }
 
+/// A program with its names.
+#[derive(Drop)]
+pub struct Parsed {
+    pub names: Names,
+    pub program: Program,
+}
+
 /// The program of a text, or nothing where it is refused or longer than a text may be.
-fn program_of(alloc: Global, names: &mut Names, text: &[u8]) -> Result<Option<Program>, Error> {
+pub fn parsed(alloc: Global, text: &[u8]) -> Result<Option<Parsed>, Error> {
     if text.len() as u64 > TEXT_LIMIT {
         return Ok(None);
     }
-    let tokens = match lex(alloc, names, text, 1) {
+    let mut names = Names::new(alloc);
+    let tokens = match lex(alloc, &mut names, text, 1) {
         Ok(tokens) => tokens,
         Err(LexError::Named(_, _)) => return Ok(None),
         Err(LexError::Memory) => return Err(LexError::Memory.into()),
     };
     match parse(alloc, &tokens, 0) {
-        Ok(program) => Ok(Some(program)),
+        Ok(program) => Ok(Some(Parsed { names, program })),
         Err(ParseError::Memory) => Err(ParseError::Memory.into()),
         Err(_) => Ok(None),
     }
@@ -92,8 +100,7 @@ fn program_of(alloc: Global, names: &mut Names, text: &[u8]) -> Result<Option<Pr
 
 /// Prints how many uses a text has, and with `timed` how long it took to find what they mean.
 pub fn measure(rt: &HostRuntime, name: &str, text: &[u8], timed: bool) -> Result<(), Error> {
-    let mut names = Names::new(rt.alloc());
-    let Some(program) = program_of(rt.alloc(), &mut names, text)? else {
+    let Some(Parsed { names, program }) = parsed(rt.alloc(), text)? else {
         println!(rt; "resolve {name}: no program")?;
         return Ok(());
     };

@@ -55,7 +55,7 @@ types_both (type_used s (Some t) ∷ ms) ns = ap (λ l. t ∷ l) (types_both ms 
 types_both (value_bound n ∷ ms) ns = types_both ms ns
 types_both (stands_twice c s ∷ ms) ns = types_both ms ns
 
-binders_both : (ms ns : List Mark) → binders_read (ms ++ ns) ≡ binders_read ms ++ binders_read ns
+pub binders_both : (ms ns : List Mark) → binders_read (ms ++ ns) ≡ binders_read ms ++ binders_read ns
 binders_both [] ns = refl
 binders_both (value_used s t ∷ ms) ns = binders_both ms ns
 binders_both (type_used s t ∷ ms) ns = binders_both ms ns

@@ -1,15 +1,16 @@
 -- The laws of scopes.
-use Rattle.std.specs.Prelude.{◌≡◌, ℕ, List, [], ◌∷◌, ◌++◌, Some, None, IsSome, IsTrue, not}
+use Rattle.std.specs.Prelude.{◌≡◌, ℕ, ◌<◌, List, [], ◌∷◌, ◌++◌, length, Some, None, IsSome, IsTrue, not}
 use Rattle.pict_syntax.specs.declared.code.Code.{Code}
 use Rattle.pict_syntax.specs.declared.span.Span.{Span}
 use Rattle.pict_syntax.specs.declared.id.Id.{Id}
 use Rattle.pict_syntax.specs.Trees.{Decs}
 use Rattle.pict_binders.specs.Numbered.{nearest}
 use Rattle.pict_scope.specs.declared.target.Target.{Target}
+use Rattle.pict_scope.specs.declared.target.Target.TheVariants.{Prim, Binder}
 use Rattle.pict_scope.specs.Around.{Around, meaning, is_among}
-use Rattle.pict_scope.specs.Marks.{Mark, value_used, type_used, value_bound, stands_twice, first_stop, value_meanings, type_meanings}
+use Rattle.pict_scope.specs.Marks.{Mark, value_used, type_used, value_bound, stands_twice, first_stop, value_meanings, type_meanings, binders_read}
 use Rattle.pict_scope.specs.Outlines.{Outline, ◌▸◌, value_use, type_use, opens, marks, once}
-use Rattle.pict_scope.specs.Scopes.{program_marks, scope_stop}
+use Rattle.pict_scope.specs.Scopes.{program_marks, scope_stop, value_targets}
 use Rattle.pict_scope.specs.DistinctLabels.{DecsHaveDistinctLabels}
 
 -- a program has at most one scope stop
@@ -30,6 +31,19 @@ AreInOrder (m ∷ ms) = IsInOrder m × AreInOrder ms
 -- where nothing is refused, each use has its binder or is a primitive, and no name stands twice
 abbrev pub UsesAreBound : Type 0
 UsesAreBound = (texts : List (List ℕ)) (p : Decs) → scope_stop texts p ≡ None → AreInOrder (program_marks texts p)
+
+-- a target that is no primitive is one of so many binders
+abbrev pub IsAmongBinders : ℕ → Target → Type 0
+IsAmongBinders count (Prim p) = Unit {0}
+IsAmongBinders count (Binder place) = place < count
+
+abbrev pub AreAmongBinders : ℕ → List Target → Type 0
+AreAmongBinders count [] = Unit {0}
+AreAmongBinders count (t ∷ ts) = IsAmongBinders count t × AreAmongBinders count ts
+
+-- and so each target is a primitive or one of the program's binders of values
+abbrev pub TargetsAreBinders : Type 0
+TargetsAreBinders = (texts : List (List ℕ)) (p : Decs) → scope_stop texts p ≡ None → AreAmongBinders (length (binders_read (program_marks texts p))) (value_targets texts p)
 
 -- where nothing is refused in one outline after another, nothing is refused in either
 abbrev pub PartsAreScoped : Type 0

@@ -1,6 +1,6 @@
 // The laws of scopes, each as the contract of a function that does nothing.
 
-ghost use Rattle.pict_scope.specs.Laws.{NoLabelTwice, OneScopeStop, PartsAreScoped, StandsOnce, TypesByLookUp, UsesAreBound, ValuesByLookUp};
+ghost use Rattle.pict_scope.specs.Laws.{NoLabelTwice, OneScopeStop, PartsAreScoped, StandsOnce, TargetsAreBinders, TypesByLookUp, UsesAreBound, ValuesByLookUp};
 
 /// A program has at most one scope stop.
 pub fn law_one_scope_stop()
@@ -8,9 +8,11 @@ pub fn law_one_scope_stop()
 {}
 
 /// In a program without scope stop each use of a value has a binder or is a primitive, each use of a type has a binder,
-/// and no name stands twice where it may stand once.
+/// and no name stands twice where it may stand once. A target that is no primitive is the place of one of the program's
+/// binders of values.
 pub fn law_uses_are_bound()
-    ensures { UsesAreBound }
+    ensures uses { UsesAreBound }
+    ensures targets { TargetsAreBinders }
 {}
 
 /// Where an outline after another has no stop, neither has one.
