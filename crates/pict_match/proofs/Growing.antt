@@ -1,12 +1,12 @@
 -- Matching only fills what is open, so what was found on the way is a part of all that is found.
-use Rattle.std.proofs.Common.{◌≡◌, ℕ, zero, suc, ◌+◌, ◌-◌, ◌<◌, nat_eq, nat_le, nat_lt, Bool, true, false, ◌&&◌, not, List, [], ◌∷◌, length, ◌⊎◌, inl, inr, refl, sym, ◌∙◌, ap, subst}
+use Rattle.std.proofs.Common.{◌≡◌, ℕ, zero, suc, ◌+◌, ◌-◌, nat_eq, nat_le, nat_lt, Bool, true, false, ◌&&◌, not, [], ◌∷◌, length, ◌⊎◌, inl, inr, refl, sym, ◌∙◌, subst}
 use Rattle.std.specs.Prelude.{Option, Some, None, Result, Ok, Err, set, slice_get, if◌then◌else◌}
 use Rattle.std.specs.Result.{IsErrAnd}
 use Rattle.std.specs.declared.alloc.AllocError.{AllocError}
 use Rattle.pict_types.specs.Types.{PlainType, Top, Int, Char, Str, Boolean, Var, Apply, Chan, Fields, Rec, PlainTypes, no_type, types, PlainLabels, no_label, labels, PlainBound, Free, Below, Operator, PlainBounds, no_bound, bounds, PlainArg, Plain, TypeContext, under, count_types, count_bounds, type_at}
 use Rattle.pict_types.specs.Mentions.{mentions_innermost, lowered}
 use Rattle.pict_sub.specs.Exposing.{exposure}
-use Rattle.pict_rules.specs.Found.{Slot, Found, open_slot, filled, is_missing, is_missing_variable, find, is_same_head, match_channel, match_recursive, match_applied, match_record, match_label, matched, matched_types, matched_labels, matched_bounds, matched_bound}
+use Rattle.pict_rules.specs.Found.{Slot, Found, open_slot, filled, is_missing, find, is_same_head, match_channel, match_recursive, match_applied, match_record, match_label, matched, matched_types, matched_labels, matched_bounds, matched_bound}
 use Rattle.pict_match.specs.Parts.{by_fields}
 use Rattle.pict_match.specs.PlainFound.{IsPartly, Finds}
 

@@ -1,15 +1,14 @@
 -- One more of a row is matched, and what is left gives the whole.
-use Rattle.std.proofs.Common.{◌≡◌, ℕ, zero, suc, ◌+◌, ◌≤◌, ◌<◌, nat_eq, Bool, true, false, List, [], ◌∷◌, length, get_or, drop, take, Option, Some, None, refl, sym, ◌∙◌, ap, ap₂, subst, add-one, arith, eq-eqb, ne_eqb}
+use Rattle.std.proofs.Common.{◌≡◌, ℕ, zero, suc, ◌+◌, ◌≤◌, ◌<◌, nat_eq, false, List, [], ◌∷◌, length, get_or, drop, take, Some, None, refl, sym, ◌∙◌, ap, ap₂, subst, add-one, arith, eq-eqb, ne_eqb}
 use Rattle.std.specs.Ordering.{ordering_reverse}
 use Rattle.std.specs.declared.cmp.Ordering.TheVariants.{Less, Equal, Greater}
-use Rattle.pict_syntax.specs.declared.name.Name.{Name}
 use Rattle.pict_syntax.specs.Labels.{label_cmp, StandsBefore}
 use Rattle.pict_syntax.proofs.LabelLemmas.{label_order, other_label, equal_labels}
 use Rattle.pict_types.specs.declared.types.Ty.{Ty}
 use Rattle.pict_types.specs.declared.types.Bound.{Bound}
-use Rattle.pict_types.specs.Types.{PlainType, PlainTypes, no_type, types, PlainLabels, no_label, labels, PlainBound, PlainBounds, bounds, TypeContext, under, type_at}
-use Rattle.pict_types.specs.Kinds.{Kind, StandsBeforeAll, IsWellFormed, AreWellFormed, LabelsAreWellFormed, BoundIsWellFormed, BoundsAreWellFormed, ContextIsWellFormed, kinds}
-use Rattle.pict_types.specs.Plain.{plain, plain_bound, plain_types, plain_bounds, plain_labels}
+use Rattle.pict_types.specs.Types.{PlainType, PlainTypes, no_type, types, PlainLabels, no_label, labels, bounds, TypeContext, under, type_at}
+use Rattle.pict_types.specs.Kinds.{Kind, StandsBeforeAll, IsWellFormed, LabelsAreWellFormed, BoundIsWellFormed, BoundsAreWellFormed, ContextIsWellFormed, kinds}
+use Rattle.pict_types.specs.Plain.{plain, plain_bound, plain_types, plain_bounds}
 use Rattle.pict_types.proofs.Rows.{types_drop, types_end, labels_end, bounds_end}
 use Rattle.pict_types.proofs.Formed.{before_further}
 use Rattle.pict_types.proofs.Items.{types_formed}

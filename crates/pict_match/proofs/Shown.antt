@@ -1,8 +1,8 @@
 -- Types with a variable followed, and what the parts of a type inherit.
-use Rattle.std.proofs.Common.{◌≡◌, ◌≢◌, ℕ, suc, true, if◌then◌else◌, List, ◌∷◌, length, refl, sym, ◌∙◌, ap, subst}
+use Rattle.std.proofs.Common.{◌≡◌, ◌≢◌, ℕ, true, if◌then◌else◌, List, ◌∷◌, length, refl, sym, ◌∙◌, ap, subst}
 use Rattle.pict_types.specs.declared.types.Ty.{Ty}
 use Rattle.pict_types.specs.declared.types.Ty.TheVariants.{Top as Top_, Int as Int_, Char as Char_, Str as Str_, Bool as Bool_, Var as Var_, Apply' as Apply_, Chan' as Chan_, Fields' as Fields_, Rec' as Rec_}
-use Rattle.pict_types.specs.Types.{Capability, PlainType, Top, Int, Char, Str, Boolean, Var, Apply, Chan, Fields, Rec, PlainTypes, PlainLabels, PlainBounds, TypeContext}
+use Rattle.pict_types.specs.Types.{Capability, PlainType, Top, Int, Char, Str, Boolean, Apply, Chan, Fields, Rec, PlainTypes, PlainLabels, PlainBounds, TypeContext}
 use Rattle.pict_types.specs.Kinds.{IsWellFormed, AreWellFormed, ContextIsWellFormed, kinds, proper}
 use Rattle.pict_types.specs.Plain.{plain}
 use Rattle.pict_types.proofs.Rows.{plain_apply, plain_fields}

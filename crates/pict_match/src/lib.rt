@@ -3,8 +3,6 @@
 
 mod found;
 mod matching;
-#[cfg(test)]
-mod tests;
 
 pub use found::Found;
 pub use matching::match_type;

@@ -1,6 +1,6 @@
 // A wanted type matched against the type that is given.
 
-ghost use Rattle.std.specs.Prelude.{◌≡◌, ◌+◌, ℕ, length, IfOk};
+ghost use Rattle.std.specs.Prelude.{◌≡◌, length, IfOk};
 ghost use Rattle.pict_types.specs.Kinds.{AreWellFormed, BoundIsWellFormed, BoundsAreWellFormed, ContextIsWellFormed, IsWellFormed, LabelsAreWellFormed, kinds};
 ghost use Rattle.pict_types.specs.Plain.{plain, plain_bound, plain_bounds, plain_labels, plain_record, plain_types};
 ghost use Rattle.pict_types.specs.PlainContext.{IsWrittenIn, names_of, type_context};

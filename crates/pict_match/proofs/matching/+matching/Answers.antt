@@ -1,9 +1,8 @@
 -- Operator variables, records, and one more of a row.
-use Rattle.std.proofs.Common.{◌≡◌, suc, ◌+◌, ◌<◌, length, drop, get_or, refl, sym, ◌∙◌, ap, ap₂, subst, subst₂, take, List, arith}
-use Rattle.std.specs.Prelude.{IfOk}
+use Rattle.std.proofs.Common.{◌≡◌, suc, ◌+◌, ◌<◌, length, drop, refl, sym, ◌∙◌, ap, ap₂, subst, subst₂, take, List, arith}
 use Rattle.pict_types.specs.declared.types.Bound.{Bound}
 use Rattle.pict_types.specs.Types.{Apply, under}
-use Rattle.pict_types.specs.Kinds.{AreWellFormed, BoundIsWellFormed, IsWellFormed, kinds}
+use Rattle.pict_types.specs.Kinds.{IsWellFormed, kinds}
 use Rattle.pict_types.specs.Measures.{size, size_types, size_labels}
 use Rattle.pict_types.specs.Plain.{plain, plain_bound, plain_bounds, plain_labels, plain_record, plain_types}
 use Rattle.pict_types.proofs.Rows.{apply_is, plain_fields, labels_end}

@@ -1,14 +1,10 @@
 -- The context is well formed, and what is found hangs on no bound.
-use Rattle.std.proofs.Common.{◌≡◌, sym, subst}
-use Rattle.std.proofs.lemmas.Result.{IfOk-weaker}
+use Rattle.std.proofs.Common.{sym, subst}
 use Rattle.pict_types.specs.Kinds.{ContextIsWellFormed, IsWellFormed, kinds}
 use Rattle.pict_types.specs.Plain.{plain}
 use Rattle.pict_types.specs.PlainContext.{names_of, plain_context, type_context}
-use Rattle.pict_types.specs.Types.{PlainBounds}
 use Rattle.pict_types.proofs.Contexts.{entries_context}
-use Rattle.pict_rules.specs.Found.{matched}
 use Rattle.pict_match.specs.Formed.{IsFormed}
-use Rattle.pict_match.specs.PlainFound.{found_in, found_of}
 use Rattle.pict_match.proofs.Rebound.{with_bounds}
 use Rattle.pict_match.proofs.matching.match_type.Goals as goal
 
