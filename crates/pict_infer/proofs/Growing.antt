@@ -9,7 +9,7 @@ use Rattle.pict_types.specs.Renaming.{moved}
 use Rattle.pict_types.specs.Entries.{PlainEntry, PlainContext, Variable, variables, EntryIsWellFormed, EntriesAreWellFormed}
 use Rattle.pict_types.specs.PlainContext.{type_context}
 use Rattle.pict_types.proofs.Inside.{known_behind}
-use Rattle.pict_types.proofs.Renamed.{three}
+use Rattle.pict_types.proofs.Congruent.{three}
 use Rattle.pict_rules.specs.Environments.{Environment, KnownType, KnownValue, entries_of, extended, only_types, rename_values}
 use Rattle.pict_infer.specs.declared.env.Env.{Env}
 use Rattle.pict_infer.specs.declared.env.Place.{Place}
