@@ -9,7 +9,8 @@ use Rattle.pict_syntax.specs.Labels.{label_cmp, with_label, in_label_order}
 use Rattle.pict_syntax.specs.Trees.{RType, Pat, bind_pat, any_pat, fields_pat, fold_pat, FieldPats, field_pats, Pats, no_pats, more_pats, LabelledPats, no_labelled_pats, more_labelled_pats}
 use Rattle.pict_types.specs.Types.{PlainType}
 use Rattle.pict_binders.specs.declared.binders.Binder.{Binder}
-use Rattle.pict_scope.specs.Around.{Around, nearest, with_values, with_value, before_pattern}
+use Rattle.pict_binders.specs.Numbered.{nearest}
+use Rattle.pict_scope.specs.Around.{Around, with_values, with_value, before_pattern}
 use Rattle.pict_scope.specs.Marks.{stands_twice}
 use Rattle.pict_scope.specs.Outlines.{Outline, empty, ◌▸◌, closed, value_use, type_use, binds_value, binds_type, binds_all, defines, pattern_value, pattern_type, pattern, group, once, opens, marks, twice_if_bound}
 use Rattle.pict_scope.specs.Forms.{in_pat, in_field_pats, in_annotation}
