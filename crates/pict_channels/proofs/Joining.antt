@@ -1,5 +1,5 @@
 -- Processes side by side, joined from the last one on.
-use Rattle.std.proofs.Common.{◌≡◌, List, [], ◌∷◌, ◌++◌, Some, refl, sym, ◌∙◌, ap, append_assoc}
+use Rattle.std.proofs.Common.{◌≡◌, List, [], ◌∷◌, ◌++◌, refl, sym, ◌∙◌, ap, append_assoc}
 use Rattle.std.specs.Option.{option_map}
 use Rattle.std.proofs.lemmas.List.{map-append}
 use Rattle.pict_core.specs.Term.{Process, Par}
@@ -23,6 +23,3 @@ joined_one_more parts rest left right both is par =
     ∙ ap side_by_side (append_assoc (processes_of rest) (process_of left ∷ []) (process_of right ∷ []))
     ∙ side_by_side-end (processes_of rest) (process_of left) (process_of right)
     ∙ ap (λ p. side_by_side (processes_of rest ++ p ∷ [])) (sym par)
-
-pub joined_all : (parts : List Built) (rest : Built) → parts ≡ [] → side_by_side (processes_of parts ++ process_of rest ∷ []) ≡ Some (process_of rest)
-joined_all parts rest none = ap (λ bs. side_by_side (processes_of bs ++ process_of rest ∷ [])) none

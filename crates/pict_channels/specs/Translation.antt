@@ -9,6 +9,7 @@ use Rattle.pict_syntax.specs.declared.primitive.Primitive.{Primitive}
 use Rattle.pict_syntax.specs.declared.primitive.Primitive.TheVariants.{Print, Printi}
 use Rattle.pict_core.specs.Term as core
 use Rattle.pict_binders.specs.Names.{level_of}
+use Rattle.pict_syntax.specs.declared.span.Span.{Span}
 
 -- Int, String, and ^T of such a type. Types are read and not compared.
 abbrev pub is_built_type : TypeTree → Bool
@@ -54,10 +55,14 @@ abbrev pub bound_name : Pat → Option Name
 bound_name (bind_pat s x None) = Some x.name
 bound_name _ = None
 
+-- an output, where its channel and its message are there
+abbrev pub send_core : List (List ℕ) → List ℕ → Chan → Val → Span → Option core.Process
+send_core names around c v s = both (chan_core names around c) (val_core names around v) (λ x y. core.Out x y s)
+
 -- c!v: c!v.  c?x = P and c?*x = P: the input of P, with x bound.  ( ): 0.  ( P1 | .. | Pn ): P1 | (P2 | (.. | Pn)).
 unfoldable mutual
   pub proc_core : List (List ℕ) → List ℕ → Proc → Option core.Process
-  proc_core names around (send_proc s c v) = both (chan_core names around c) (val_core names around v) (λ x y. core.Out x y s)
+  proc_core names around (send_proc s c v) = send_core names around c v s
   proc_core names around (receive_proc s c a) = reader_core names around (chan_core names around c) false a
   proc_core names around (serve_proc s c a) = reader_core names around (chan_core names around c) true a
   proc_core names around (inert_proc s) = Some core.Zero
@@ -65,7 +70,8 @@ unfoldable mutual
   proc_core names around _ = None
 
   pub reader_core : List (List ℕ) → List ℕ → Option core.Val → Bool → Abs → Option core.Process
-  reader_core names around c replicated (process_abs s (bind_pat i x None) p) = both c (proc_core names (x.name.0 ∷ around) p) (λ v body. core.In v replicated core.Bind body)
+  reader_core names around c replicated (process_abs s (bind_pat i x None) p) =
+      both c (proc_core names (x.name.0 ∷ around) p) (λ v body. core.In v replicated core.Bind body)
   reader_core names around c replicated _ = None
 
   pub procs_core : List (List ℕ) → List ℕ → Procs → Option (List core.Process)

@@ -4,9 +4,9 @@ ghost use Rattle.std.specs.Option.{option_map};
 ghost use Rattle.pict_syntax.specs.PlainTrees.{abs_of, chan_of, val_of, proc_of, procs_on};
 ghost use Rattle.pict_syntax.specs.Trees.{no_procs};
 ghost use Rattle.pict_core.specs.Plain.{plain_val};
-ghost use Rattle.pict_core.specs.Term.{Out, In, Bind};
-ghost use Rattle.pict_channels.specs.Parts.{process_of, processes_of};
-ghost use Rattle.pict_channels.specs.Translation.{both, chan_core, val_core, proc_core, procs_core, reader_core, side_by_side};
+ghost use Rattle.pict_core.specs.Term.{In, Bind};
+ghost use Rattle.pict_channels.specs.Parts.{found_process, processes_of};
+ghost use Rattle.pict_channels.specs.Translation.{both, proc_core, procs_core, reader_core, send_core, side_by_side};
 
 use crate::built::{Built, beside, inert, input, output};
 use crate::values::{bound_name, channel, value};
@@ -24,7 +24,7 @@ pub fn process(
     scope: &mut Nearest,
     tree: &Proc,
 ) -> Result<Option<Built>, AllocError>
-    ensures core { IfOk result (λ found. option_map process_of found ≡ proc_core names.now scope.old (proc_of tree.now)) }
+    ensures core { IfOk result (λ found. found_process found ≡ proc_core names.now scope.old (proc_of tree.now)) }
     ensures scope { OnOk result (scope.new ≡ scope.old) }
 {
     match tree {
@@ -58,7 +58,7 @@ fn reader(
     replicated: bool,
     abs: &Abs,
 ) -> Result<Option<Built>, AllocError>
-    ensures core { IfOk result (λ found. option_map process_of found ≡ reader_core names.now scope.old (option_map plain_val chan) replicated (abs_of abs.now)) }
+    ensures core { IfOk result (λ found. found_process found ≡ reader_core names.now scope.old (option_map plain_val chan) replicated (abs_of abs.now)) }
     ensures scope { OnOk result (scope.new ≡ scope.old) }
 {
     match abs {
@@ -83,7 +83,7 @@ fn group(
     scope: &mut Nearest,
     trees: &[Proc],
 ) -> Result<Option<Built>, AllocError>
-    ensures core { IfOk result (λ found. option_map process_of found ≡ option_and_then side_by_side (procs_core names.now scope.old (procs_on no_procs trees.now))) }
+    ensures core { IfOk result (λ found. found_process found ≡ option_and_then side_by_side (procs_core names.now scope.old (procs_on no_procs trees.now))) }
     ensures scope { OnOk result (scope.new ≡ scope.old) }
 {
     let mut parts = Vec::new(alloc);
@@ -105,7 +105,7 @@ fn send(
     chan: &Chan,
     message: &Val,
 ) -> Result<Option<Built>, AllocError>
-    ensures { IfOk result (λ found. option_map process_of found ≡ both (chan_core names.now scope.now (chan_of chan.now)) (val_core names.now scope.now (val_of message.now)) (λ x y. Out x y at)) }
+    ensures { IfOk result (λ found. found_process found ≡ send_core names.now scope.now (chan_of chan.now) (val_of message.now) at) }
 {
     let message = value(alloc, names, scope, message)?;
     match (channel(names, scope, chan), message) {
@@ -121,7 +121,7 @@ fn received(
     replicated: bool,
     body: Option<Built>,
 ) -> Result<Option<Built>, AllocError>
-    ensures { IfOk result (λ found. option_map process_of found ≡ both (option_map plain_val chan) (option_map process_of body) (λ v p. In v replicated Bind p)) }
+    ensures { IfOk result (λ found. found_process found ≡ both (option_map plain_val chan) (found_process body) (λ v p. In v replicated Bind p)) }
 {
     match (chan, body) {
         (Some(chan), Some(body)) => Ok(Some(input(alloc, chan, replicated, body)?)),
@@ -131,7 +131,7 @@ fn received(
 
 /// The first before the second, and so on; nothing where there is none.
 fn put_side_by_side(alloc: Global, mut parts: Vec<Built>) -> Result<Option<Built>, AllocError>
-    ensures { IfOk result (λ found. option_map process_of found ≡ side_by_side (processes_of parts.items)) }
+    ensures { IfOk result (λ found. found_process found ≡ side_by_side (processes_of parts.items)) }
 {
     let Some(last) = parts.pop() else {
         return Ok(None);

@@ -44,7 +44,7 @@ pub uneven_slices : (ps : List CorePat) (vs : List CoreVal) (old : List Val) →
 uneven_slices ps vs old n = subst (λ o. Extends false o old old) (sym (uneven (map plain_pat ps) (map plain_val vs) (λ e. n (omega (arith, length-map ps plain_pat, length-map vs plain_val))))) refl
 
 -- a list from a place on begins with the item there
-from_place : {A : Type 0} (xs : List A) (i : ℕ) (x : A) → i < length xs → x ≡ get_or xs i x → drop i xs ≡ x ∷ drop (i + 1) xs
+pub from_place : {A : Type 0} (xs : List A) (i : ℕ) (x : A) → i < length xs → x ≡ get_or xs i x → drop i xs ≡ x ∷ drop (i + 1) xs
 from_place xs i x h a = drop-cons xs i x h ∙ ap (λ y. y ∷ drop (suc i) xs) (sym a) ∙ ap (λ n. x ∷ drop n xs) (sym (add-one i))
 
 pub positional_step : (ps : List CorePat) (vs : List CoreVal) (i : ℕ) (p : CorePat) (v : CoreVal) → i < length ps → i < length vs → p ≡ get_or ps i p → v ≡ get_or vs i v

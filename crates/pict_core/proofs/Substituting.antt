@@ -1,5 +1,5 @@
 -- Substitution at a variable and at a record.
-use Rattle.std.proofs.Common.{ℕ, zero, suc, ◌-◌, ◌<◌, ◌≤◌, ◌≡◌, false, List, [], ◌∷◌, length, get_or, map, rules, arith, ap, ◌∙◌, sym, Vec, Global, refl, cond, unwrap_or, nat_lt}
+use Rattle.std.proofs.Common.{ℕ, zero, suc, ◌-◌, ◌<◌, ◌≤◌, ◌≡◌, true, false, List, [], ◌∷◌, length, get_or, map, rules, arith, ap, ◌∙◌, sym, Vec, Global, refl, cond, unwrap_or, nat_lt}
 use Rattle.std.proofs.lemmas.Bool.Decides.{nat_tests}
 use Rattle.std.proofs.lemmas.List.{length-map}
 use Rattle.std.specs.List.{slice_get}
@@ -89,3 +89,9 @@ substitute-none (term.New p) = cc (substitute-none p)
 substitute-none (term.Out chan message at) = cc (replace_value-none chan, replace_value-none message)
 substitute-none (term.In chan replicated pattern body) = cc (replace_value-none chan, substitute-none body)
 substitute-none (term.If test p q) = cc (replace_value-none test, substitute-none p, substitute-none q)
+
+-- the variables outside stay
+pub value_of_variable-below : (n : ℕ) (vs : List Val) (level : ℕ) → level < n → value_of_variable n vs level ≡ Var level
+value_of_variable-below n vs level h =
+    let test : nat_lt level n ≡ true = grind (arith, nat_tests) in
+    ap (λ b. cond b (Var level) (unwrap_or (slice_get vs (level - n)) (Var (level - length vs)))) test

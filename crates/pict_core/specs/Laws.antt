@@ -8,15 +8,19 @@ use Rattle.pict_core.specs.Run.{End, RunsFrom}
 
 -- Free steps keep what holds of configurations.
 abbrev pub FreeStepsKeepConfigurations : Type 0
-FreeStepsKeepConfigurations = (C : Configuration) (choice : Choice) (D : Configuration) (label : Label) → IsConfiguration C → Free C choice D label → IsConfiguration D
+FreeStepsKeepConfigurations =
+    (C : Configuration) (choice : Choice) (D : Configuration) (label : Label) → IsConfiguration C → Free C choice D label → IsConfiguration D
 
 -- An oldest-first step is a free step.
 abbrev pub OldestFirstStepsAreFree : Type 0
-OldestFirstStepsAreFree = (C : Configuration) (D : Configuration) (label : Label) → IsConfiguration C → next C ≡ Steps D label → (choice : Choice) × Free C choice D label
+OldestFirstStepsAreFree =
+    (C : Configuration) (D : Configuration) (label : Label) → IsConfiguration C → next C ≡ Steps D label → (choice : Choice) × Free C choice D label
 
 -- A run has one end and one list of labels.
 abbrev pub RunsAreOne : Type 0
-RunsAreOne = (C : Configuration) (fuel : ℕ) (end other : End) (labels others : List (ℕ × Label)) → RunsFrom C fuel end labels → RunsFrom C fuel other others → (end ≡ other) × (labels ≡ others)
+RunsAreOne =
+    (C : Configuration) (fuel : ℕ) (end other : End) (labels others : List (ℕ × Label)) → RunsFrom C fuel end labels
+    → RunsFrom C fuel other others → (end ≡ other) × (labels ≡ others)
 
 -- The opening configuration of a closed process is a configuration.
 abbrev pub OpeningsAreConfigurations : Type 0

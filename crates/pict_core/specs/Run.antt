@@ -14,7 +14,9 @@ shown n (Print bytes) = (n, Print bytes) ∷ []
 -- n oldest-first steps lead from C to D, and show these labels
 abbrev pub Reaches : ℕ → Configuration → List (ℕ × Label) → Configuration → Type 0
 Reaches zero C labels D = (C ≡ D) × (labels ≡ [])
-Reaches (suc n) C labels D = (M : Configuration) × (before : List (ℕ × Label)) × (label : Label) × Reaches n C before M × (next M ≡ Steps D label) × (labels ≡ before ++ shown (suc n) label)
+Reaches (suc n) C labels D =
+    (M : Configuration) × (before : List (ℕ × Label)) × (label : Label) × Reaches n C before M × (next M ≡ Steps D label)
+    × (labels ≡ before ++ shown (suc n) label)
 
 -- Nothing is ready; the fuel is spent; a step divides by zero at this place; or a step is wrong.
 pub data End : Type 0 where

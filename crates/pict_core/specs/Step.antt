@@ -68,7 +68,8 @@ took false s C = gone s C
 -- the output of a message, at stamp s, meets the reader that is parked at stamp r
 abbrev pub meet_reader : Configuration → ℕ → ℕ → Val → ℕ → Process → StepOutcome
 meet_reader C s c message r (In chan replicated pattern body) =
-    received (match_value pattern message) body (λ p. Steps (served replicated (In chan replicated pattern body) (added Ready p (gone r (gone s C)))) (Comm c message))
+    received (match_value pattern message) body
+    (λ p. Steps (served replicated (In chan replicated pattern body) (added Ready p (gone r (gone s C)))) (Comm c message))
 meet_reader C s c message r _ = Wrong
 
 -- the reader at stamp s meets the message that is parked at stamp r
@@ -194,7 +195,10 @@ pub record IsWrong (C : Configuration) : Type 0 where
 
 -- the least stamp that is ready, and the least stamp of its partners
 abbrev pub oldest_choice : Configuration → Option Choice
-oldest_choice C = option_map (λ (e : Entry). record { acting = e.stamp; partner = option_map (λ (u : Entry). u.stamp) (least (is_partner e.process) C.entries) }) (least is_ready C.entries)
+oldest_choice C =
+    option_map
+    (λ (e : Entry). record { acting = e.stamp; partner = option_map (λ (u : Entry). u.stamp) (least (is_partner e.process) C.entries) })
+    (least is_ready C.entries)
 
 abbrev pub step_by : Configuration → Option Choice → StepOutcome
 step_by C None = Finished

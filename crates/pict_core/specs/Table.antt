@@ -39,7 +39,8 @@ pub data Row (C : Configuration) (s : ℕ) : Option Entry → Process → Config
   -- c!v with a parked replicated reader: the reader stays parked and gets the stamp after its body's
   output_meets_server : {c : ℕ} {v w : Val} {at : Span} {u : Entry} {pattern : Pat} {body : Process} {bound : List Val}
       → u.process ≡ In w true pattern body → match_value pattern v ≡ Some bound
-      → Row C s (Some u) (Out (Chan c) v at) (added Parked (In w true pattern body) (added Ready (substitute 0 bound body) (gone u.stamp (gone s C)))) (Comm c v)
+      → Row C s (Some u) (Out (Chan c) v at)
+      (added Parked (In w true pattern body) (added Ready (substitute 0 bound body) (gone u.stamp (gone s C)))) (Comm c v)
   -- c?p = P or c?*p = P without a parked message: it parks with the next stamp
   input_parks : {c : ℕ} {b : Bool} {pattern : Pat} {body : Process}
       → Row C s None (In (Chan c) b pattern body) (added Parked (In (Chan c) b pattern body) (gone s C)) Quiet
@@ -54,4 +55,6 @@ pub data Row (C : Configuration) (s : ℕ) : Option Entry → Process → Config
 
 -- What a process does in a step is a row of the table, and each row is what a process does.
 abbrev pub StepsAreRows : Type 0
-StepsAreRows = (C : Configuration) (s : ℕ) (o : Option Entry) (p : Process) (D : Configuration) (label : Label) → act C s o p ≡ Steps D label ↔ Row C s o p D label
+StepsAreRows =
+    (C : Configuration) (s : ℕ) (o : Option Entry) (p : Process) (D : Configuration) (label : Label)
+    → act C s o p ≡ Steps D label ↔ Row C s o p D label

@@ -10,6 +10,7 @@ use Rattle.pict_syntax.specs.PlainTrees.{val_of, vals_on, procs_on, definitions_
 use Rattle.pict_core.specs.Term as core
 use Rattle.pict_core.specs.Closed.{binds}
 use Rattle.pict_core.specs.Plain.{plain_val}
+use Rattle.pict_core.proofs.Matched.{from_place}
 use Rattle.pict_core.specs.declared.value.CoreVal.{CoreVal}
 use Rattle.pict_core.specs.declared.value.CoreVal.TheVariants as value
 use Rattle.pict_binders.specs.declared.binders.Binder.{Binder}
@@ -22,7 +23,7 @@ use Rattle.pict_translation.specs.Translation.{sending, arguments, procs_core, s
 use Rattle.pict_derive.specs.declared.outside.Outside.{Outside}
 use Rattle.pict_derive.specs.Built.{Extends, surround, three}
 use Rattle.pict_derive.proofs.LevelLemmas.{cut_back}
-use Rattle.pict_derive.proofs.BuildSteps.{argument_of, arguments_are, process_of, procs_are, server_of, servers_are, right_first, right_sends, left_last, left_sends, side_first, drop_one, drop_all}
+use Rattle.pict_derive.proofs.BuildSteps.{argument_of, arguments_are, process_of, procs_are, server_of, servers_are, right_first, right_sends, left_last, left_sends, side_first, drop_all}
 use Rattle.pict_derive.proofs.Surrounding.{plain_var}
 
 -- what was found of a value, in the place of the question
@@ -66,7 +67,7 @@ pub one_value : {A B : Type 0} (f : A → B) (old new : List A) (x : A) → new 
 one_value f old new x is = sym (ap (map f) is ∙ map-append f old (x ∷ []))
 
 pub server_put : (e : Around) (o : Outside) (xs : List Definition) (i : ℕ) (x : Definition) (level : ℕ) (rest : Placed) → i < length xs → x ≡ get_or xs i x → surround o (served (map (server_of e) (drop i xs)) (variables level (length (drop i xs))) rest) ≡ surround o (beside (server_of e x (core.Var level)) (served (map (server_of e) (drop (i + 1) xs)) (variables (level + 1) (length (drop (i + 1) xs))) rest))
-server_put e o xs i x level rest within is = ap (λ l. surround o (served (map (server_of e) l) (variables level (length l)) rest)) (drop_one xs i x within is)
+server_put e o xs i x level rest within is = ap (λ l. surround o (served (map (server_of e) l) (variables level (length l)) rest)) (from_place xs i x within is)
 
 pub servers_done : (e : Around) (o : Outside) (xs : List Definition) (i level : ℕ) (rest : Placed) → length xs ≤ i → surround o (served (map (server_of e) (drop i xs)) (variables level (length (drop i xs))) rest) ≡ surround o rest
 servers_done e o xs i level rest le = ap (λ l. surround o (served (map (server_of e) l) (variables level (length l)) rest)) (drop_all xs i le)
@@ -82,7 +83,7 @@ group_none e all d is = sym (ap (λ ps. side_by_side ps d) (procs_are e all ∙ 
 
 pub group_put : (e : Around) (o : Outside) (xs : List Proc) (i : ℕ) (x last : Proc) → i < length xs → x ≡ get_or xs i x → surround o (side_by_side (map (process_of e) (drop i xs) ++ process_of e last ∷ [])) ≡ surround o (beside (process_of e x) (side_by_side (map (process_of e) (drop (i + 1) xs) ++ process_of e last ∷ [])))
 group_put e o xs i x last within is =
-    ap (λ l. surround o (side_by_side (map (process_of e) l ++ process_of e last ∷ []))) (drop_one xs i x within is)
+    ap (λ l. surround o (side_by_side (map (process_of e) l ++ process_of e last ∷ []))) (from_place xs i x within is)
     ∙ ap (surround o) (side_first (process_of e x) (map (process_of e) (drop (i + 1) xs)) (process_of e last))
 
 pub group_last : (e : Around) (o : Outside) (xs : List Proc) (i : ℕ) (last : Proc) → length xs ≤ i → surround o (side_by_side (map (process_of e) (drop i xs) ++ process_of e last ∷ [])) ≡ surround o (process_of e last)
@@ -117,7 +118,7 @@ pub right_put : (e : Around) (o : Outside) (f : core.Val) (s : Span) (xs : List 
 right_put e o f s xs i x second last k within is =
     let rest = map (argument_of e) (drop (i + 1) xs) in
     let r = right f s (rest ++ argument_of e second ∷ argument_of e last ∷ []) in
-    ap (λ l. surround o ((right f s (map (argument_of e) l ++ argument_of e second ∷ argument_of e last ∷ [])).sent k)) (drop_one xs i x within is)
+    ap (λ l. surround o ((right f s (map (argument_of e) l ++ argument_of e second ∷ argument_of e last ∷ [])).sent k)) (from_place xs i x within is)
     ∙ ap (λ a. surround o (a.sent k)) (right_first f s (argument_of e x) rest (argument_of e second) (argument_of e last))
     ∙ ap (λ n. surround o (with_value (simple e (val_of x)) (sending e (val_of x)) (λ u. with_value n r.sent (λ y. output f (three u y k) s)))) (right_sends f s rest (argument_of e second) (argument_of e last))
 

@@ -20,23 +20,11 @@ use Rattle.pict_derive.proofs.SimpleForms.{vals_taken, labelled_taken}
 
 -- ---- what is left of a list
 
-drop_next : {A : Type 0} (xs : List A) (i : ℕ) (x : A) → i < length xs → x ≡ get_or xs i x → drop i xs ≡ x ∷ drop (suc i) xs
-drop_next [] i x within is = absurd (omega (arith, within))
-drop_next (y ∷ xs) zero x within is = ap (λ z. z ∷ xs) (sym is)
-drop_next (y ∷ xs) (suc i) x within is = drop_next xs i x (omega (arith, within)) is
-
-pub drop_one : {A : Type 0} (xs : List A) (i : ℕ) (x : A) → i < length xs → x ≡ get_or xs i x → drop i xs ≡ x ∷ drop (i + 1) xs
-drop_one xs i x within is = let one : suc i ≡ i + 1 = omega arith in drop_next xs i x within is ∙ ap (λ n. x ∷ drop n xs) one
-
 pub drop_all : {A : Type 0} (xs : List A) (i : ℕ) → length xs ≤ i → drop i xs ≡ []
 drop_all [] zero le = refl
 drop_all [] (suc i) le = refl
 drop_all (x ∷ xs) zero le = absurd (omega (arith, le))
 drop_all (x ∷ xs) (suc i) le = drop_all xs i (omega (arith, le))
-
-pub empty : {A : Type 0} (xs : List A) → length xs ≡ 0 → xs ≡ []
-empty [] is = refl
-empty (x ∷ xs) is = cc
 
 -- ---- values and declarations, taken from the left
 

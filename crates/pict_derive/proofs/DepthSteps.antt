@@ -1,6 +1,7 @@
 -- Lists of trees gone through from their ends: what one more tree does to the depth so far, and what is left at the end.
 use Rattle.std.proofs.Common.{◌≡◌, ℕ, zero, suc, ◌+◌, ◌<◌, ◌≤◌, max, min, List, [], ◌∷◌, ◌++◌, length, map, take, get_or, Option, Some, refl, ap, sym, ◌∙◌, arith, append_assoc}
 use Rattle.std.proofs.Math.Seq.{take-suc}
+use Rattle.std.proofs.lemmas.List.{length-map}
 use Rattle.pict_syntax.specs.declared.tree.Val.{Val}
 use Rattle.pict_syntax.specs.declared.tree.LabelledVal.{LabelledVal}
 use Rattle.pict_syntax.specs.declared.tree.Dec.{Dec}
@@ -13,11 +14,8 @@ use Rattle.pict_syntax.proofs.DeclarationLists.{decs_more, definitions_more}
 use Rattle.pict_translation.specs.Depth.{put_with, application_depth, right_depth, left_depth, side_depth, served_depth, sent_depth, withs_depth, labelled_depth, depths, abs_depth, abs_depths, dec_depth, decs_depth, proc_depth, proc_depths}
 use Rattle.pict_derive.specs.Held.{held, held_option}
 use Rattle.pict_derive.proofs.HeldDepths.{max_held, put_held, application_held, withs_held, labelled_held, decs_held, served_held, right_held, right_last, left_last, side_held, side_last, served_last}
+use Rattle.pict_derive.proofs.LevelLemmas.{empty, take_all}
 use Rattle.pict_derive.proofs.DepthForms.{depths_on, abs_depths_on}
-
-pub no_length : {A : Type 0} (xs : List A) → length xs ≡ 0 → xs ≡ []
-no_length [] is = refl
-no_length (x ∷ xs) is = cc
 
 pub values_step : (all left new : List Val) (x : Val) (start inner put depth : Option ℕ) → held_option (withs_depth (vals_on no_vals all) start) ≡ held_option (withs_depth (vals_on no_vals left) inner) → left ≡ new ++ x ∷ [] → held_option depth ≡ held_option (sent_depth (val_of x)) → held_option put ≡ held_option (put_with depth inner) → held_option (withs_depth (vals_on no_vals all) start) ≡ held_option (withs_depth (vals_on no_vals new) put)
 unfolding withs_depth
@@ -29,7 +27,7 @@ values_step all left new x start inner put depth so_far is deep made =
 
 pub values_end : (all left : List Val) (start inner : Option ℕ) → held_option (withs_depth (vals_on no_vals all) start) ≡ held_option (withs_depth (vals_on no_vals left) inner) → length left ≡ 0 → held_option inner ≡ held_option (withs_depth (vals_on no_vals all) start)
 unfolding withs_depth vals_on
-values_end all left start inner so_far is = sym (so_far ∙ ap (λ xs. held_option (withs_depth (vals_on no_vals xs) inner)) (no_length left is))
+values_end all left start inner so_far is = sym (so_far ∙ ap (λ xs. held_option (withs_depth (vals_on no_vals xs) inner)) (empty left is))
 
 pub labelled_step : (all left new : List LabelledVal) (x : LabelledVal) (start inner put depth : Option ℕ) → held_option (labelled_depth (labelled_vals_on no_labelled_vals all) start) ≡ held_option (labelled_depth (labelled_vals_on no_labelled_vals left) inner) → left ≡ new ++ x ∷ [] → held_option depth ≡ held_option (sent_depth (val_of x.value)) → held_option put ≡ held_option (put_with depth inner) → held_option (labelled_depth (labelled_vals_on no_labelled_vals all) start) ≡ held_option (labelled_depth (labelled_vals_on no_labelled_vals new) put)
 unfolding labelled_depth
@@ -41,7 +39,7 @@ labelled_step all left new x start inner put depth so_far is deep made =
 
 pub labelled_end : (all left : List LabelledVal) (start inner : Option ℕ) → held_option (labelled_depth (labelled_vals_on no_labelled_vals all) start) ≡ held_option (labelled_depth (labelled_vals_on no_labelled_vals left) inner) → length left ≡ 0 → held_option inner ≡ held_option (labelled_depth (labelled_vals_on no_labelled_vals all) start)
 unfolding labelled_depth labelled_vals_on
-labelled_end all left start inner so_far is = sym (so_far ∙ ap (λ xs. held_option (labelled_depth (labelled_vals_on no_labelled_vals xs) inner)) (no_length left is))
+labelled_end all left start inner so_far is = sym (so_far ∙ ap (λ xs. held_option (labelled_depth (labelled_vals_on no_labelled_vals xs) inner)) (empty left is))
 
 pub decs_step : (all left new : List Dec) (x : Dec) (start inner put : ℕ) → held (decs_depth (decs_on no_decs all) start) ≡ held (decs_depth (decs_on no_decs left) inner) → left ≡ new ++ x ∷ [] → held put ≡ held (dec_depth (dec_of x) inner) → held (decs_depth (decs_on no_decs all) start) ≡ held (decs_depth (decs_on no_decs new) put)
 unfolding decs_depth
@@ -53,7 +51,7 @@ decs_step all left new x start inner put so_far is made =
 
 pub decs_end : (all left : List Dec) (start inner : ℕ) → held (decs_depth (decs_on no_decs all) start) ≡ held (decs_depth (decs_on no_decs left) inner) → length left ≡ 0 → held inner ≡ held (decs_depth (decs_on no_decs all) start)
 unfolding decs_depth decs_on
-decs_end all left start inner so_far is = sym (so_far ∙ ap (λ xs. held (decs_depth (decs_on no_decs xs) inner)) (no_length left is))
+decs_end all left start inner so_far is = sym (so_far ∙ ap (λ xs. held (decs_depth (decs_on no_decs xs) inner)) (empty left is))
 
 -- ---- lists of depths
 
@@ -85,7 +83,7 @@ right_step whole left new x inner depth put so_far is same made =
 
 pub right_end : (whole : Option ℕ) (left : List Val) (inner : Option ℕ) → held_option whole ≡ held_option (right_depth (depths (vals_on no_vals left) ++ inner ∷ [])) → length left ≡ 0 → held_option inner ≡ held_option whole
 unfolding depths vals_on
-right_end whole left inner so_far is = sym (so_far ∙ ap (λ xs. held_option (right_depth (depths (vals_on no_vals xs) ++ inner ∷ []))) (no_length left is))
+right_end whole left inner so_far is = sym (so_far ∙ ap (λ xs. held_option (right_depth (depths (vals_on no_vals xs) ++ inner ∷ []))) (empty left is))
 
 pub left_begin : (all rest : List Val) (first : Val) (head : Option ℕ) → all ≡ first ∷ rest → held_option head ≡ held_option (sent_depth (val_of first)) → held_option head ≡ held_option (left_depth (depths (vals_on no_vals (take (0 + 1) all))))
 unfolding depths vals_on
@@ -115,12 +113,6 @@ left_step all rest first x d i head depth put is within item so_far same made =
     made
     ∙ application_held head _ depth _ (so_far ∙ ap (λ xs. held_option (left_depth (depths (vals_on no_vals xs)))) (so_far_of all rest first i is)) same
     ∙ sym (ap held_option (ap (λ xs. left_depth (depths (vals_on no_vals xs))) (next_of all rest first x d i is within item) ∙ left_more first (take i rest) x))
-
-take_all : {A : Type 0} (xs : List A) (n : ℕ) → length xs ≤ n → take n xs ≡ xs
-take_all [] zero le = refl
-take_all [] (suc n) le = refl
-take_all (x ∷ xs) zero le = absurd (omega arith)
-take_all (x ∷ xs) (suc n) le = ap (λ ys. x ∷ ys) (take_all xs n (omega arith))
 
 pub left_end : (all : List Val) (i : ℕ) (head : Option ℕ) → length all ≤ i + 1 → held_option head ≡ held_option (left_depth (depths (vals_on no_vals (take (i + 1) all)))) → held_option head ≡ held_option (left_depth (depths (vals_on no_vals all)))
 left_end all i head long so_far = so_far ∙ ap (λ xs. held_option (left_depth (depths (vals_on no_vals xs)))) (take_all all (i + 1) long)
@@ -153,7 +145,7 @@ side_step whole left new x inner depth put so_far is same made =
 
 pub side_end : (whole : ℕ) (left : List Proc) (inner : ℕ) → held whole ≡ held (side_depth (proc_depths (procs_on no_procs left) ++ inner ∷ [])) → length left ≡ 0 → held inner ≡ held whole
 unfolding proc_depths procs_on
-side_end whole left inner so_far is = sym (so_far ∙ ap (λ xs. held (side_depth (proc_depths (procs_on no_procs xs) ++ inner ∷ []))) (no_length left is))
+side_end whole left inner so_far is = sym (so_far ∙ ap (λ xs. held (side_depth (proc_depths (procs_on no_procs xs) ++ inner ∷ []))) (empty left is))
 
 pub served_step : (whole : ℕ) (left new : List Definition) (x : Definition) (inner depth put : ℕ) → held whole ≡ held (served_depth (abs_depths (definitions_on no_definitions left)) inner) → left ≡ new ++ x ∷ [] → held depth ≡ held (abs_depth (abs_of x.abs)) → held put ≡ held (max depth inner + 1) → held whole ≡ held (served_depth (abs_depths (definitions_on no_definitions new)) put)
 served_step whole left new x inner depth put so_far is same made =
@@ -162,15 +154,11 @@ served_step whole left new x inner depth put so_far is same made =
     ∙ ap held (served_last (abs_depths (definitions_on no_definitions new)) (abs_depth (abs_of x.abs)) inner)
     ∙ served_held (abs_depths (definitions_on no_definitions new)) _ put (sym (made ∙ max_held depth inner (abs_depth (abs_of x.abs)) inner same refl))
 
-map_length : {A B : Type 0} (f : A → B) (xs : List A) → length (map f xs) ≡ length xs
-map_length f [] = refl
-map_length f (x ∷ xs) = ap suc (map_length f xs)
-
 added : (r n k m : ℕ) → r ≡ min (n + k) 18446744073709551615 → held n ≡ held m → held r ≡ held (k + m)
 added r n k m is same = omega arith
 
 pub served_end : (all left : List Definition) (start inner result : ℕ) → held (served_depth (abs_depths (definitions_on no_definitions all)) start) ≡ held (served_depth (abs_depths (definitions_on no_definitions left)) inner) → length left ≡ 0 → result ≡ min (inner + length all) 18446744073709551615 → held result ≡ held (length (abs_depths (definitions_on no_definitions all)) + served_depth (abs_depths (definitions_on no_definitions all)) start)
 unfolding abs_depths definitions_on
 served_end all left start inner result so_far is made =
-    added result inner (length all) _ made (sym (so_far ∙ ap (λ xs. held (served_depth (abs_depths (definitions_on no_definitions xs)) inner)) (no_length left is)))
-    ∙ ap (λ n. held (n + served_depth (abs_depths (definitions_on no_definitions all)) start)) (sym (ap length (abs_depths_on no_definitions all) ∙ map_length _ all))
+    added result inner (length all) _ made (sym (so_far ∙ ap (λ xs. held (served_depth (abs_depths (definitions_on no_definitions xs)) inner)) (empty left is)))
+    ∙ ap (λ n. held (n + served_depth (abs_depths (definitions_on no_definitions all)) start)) (sym (ap length (abs_depths_on no_definitions all) ∙ length-map all _))

@@ -15,7 +15,7 @@ use Rattle.pict_core.specs.declared.pattern.CorePat.{CorePat}
 use Rattle.pict_core.specs.Term as core
 use Rattle.pict_core.specs.Plain as plain
 use Rattle.pict_core.specs.Plain.{plain_val, plain_pat, plain_field, plain_pat_field}
-use Rattle.pict_translation.specs.Arguments.{vals_of, labelled_of}
+use Rattle.pict_translation.specs.Arguments.{labelled_of}
 use Rattle.pict_translation.specs.Patterns.{Opened, patterns_in, labelled_patterns_in, names_in, labelled_names_in}
 use Rattle.pict_derive.specs.Built.{field_of, pattern_of}
 
@@ -48,10 +48,6 @@ sorted_are names f old new is = sym (by_number_then f new) ∙ ap (relabelled f)
 
 -- ---- the fields of records and patterns
 
-pub vals_are : (vs : List core.Val) → plain.vals_of vs ≡ vals_of vs
-vals_are [] = refl
-vals_are (v ∷ vs) = ap (core.more_vals v) (vals_are vs)
-
 pub labelled_are : (fs : List (Name × CoreVal)) → plain.labelled_of (map plain_field fs) ≡ labelled_of (map field_of fs)
 labelled_are [] = refl
 labelled_are (f ∷ fs) = ap (core.more_labelled f.0.0 (plain_val f.1)) (labelled_are fs)
@@ -59,8 +55,7 @@ labelled_are (f ∷ fs) = ap (core.more_labelled f.0.0 (plain_val f.1)) (labelle
 pub record_is : (names : List (List ℕ)) (ps : Vec CoreVal Global) (old new : Vec (Name × CoreVal) Global) → by_number new.items ≡ in_label_order names (by_number old.items) → plain_val (value.Fields ps new) ≡ fields_of (place names []) (map plain_val ps.items) (map field_of old.items)
 record_is names ps old new sorted =
     plain_val-Fields ps new
-    ∙ ap (λ vs. core.Record vs (plain.labelled_of (map plain_field new.items))) (vals_are (map plain_val ps.items))
-    ∙ ap (core.Record (vals_of (map plain_val ps.items))) (labelled_are new.items ∙ ap labelled_of (sorted_are names plain_val old.items new.items sorted))
+    ∙ ap (core.Record (plain.vals_of (map plain_val ps.items))) (labelled_are new.items ∙ ap labelled_of (sorted_are names plain_val old.items new.items sorted))
 
 pub patterns_are : (ps : List CorePat) (os : List Opened) → map plain_pat ps ≡ map (λ o. o.pattern) os → plain.pats_of (map plain_pat ps) ≡ patterns_in os
 patterns_are ps os same = ap plain.pats_of same ∙ go os

@@ -2,7 +2,7 @@
 use Rattle.std.proofs.Common.{◌≡◌, ℕ, zero, suc, ◌+◌, ◌-◌, Bool, true, false, nat_eq, List, [], ◌∷◌, ◌++◌, length, map, take, drop, get_or, Some, refl, sym, ◌∙◌, ap, arith, append_assoc, option_map, add-one, ◌<◌, ◌≤◌, ◌⊎◌, inl, inr}
 use Rattle.std.specs.Prelude.{if◌then◌else◌, ◌≢◌}
 use Rattle.std.proofs.lemmas.Bool.Decides.{eqb_tells}
-use Rattle.std.proofs.lemmas.List.{length-append, map-append, append-nil}
+use Rattle.std.proofs.lemmas.List.{length-append, length-map, map-append, append-nil}
 use Rattle.std.proofs.Math.Seq.{drop-append_seam, get_or-append_seam, take-suc}
 use Rattle.pict_syntax.specs.declared.tree.Definition.{Definition as RDefinition}
 use Rattle.pict_syntax.specs.PlainTrees.{abs_of, definitions_on}
@@ -83,6 +83,10 @@ binding_stops (n ∷ ns) level m around more = binding_stops ns (level + 1) m ((
 pub taken : {A : Type 0} (xs : List A) (i : ℕ) (x : A) → i < length xs → x ≡ get_or xs i x → take (i + 1) xs ≡ take i xs ++ x ∷ []
 taken xs i x within is = rw (add-one, take-suc xs i x within) (ap (λ y. take i xs ++ y ∷ []) (sym is))
 
+pub empty : {A : Type 0} (xs : List A) → length xs ≡ 0 → xs ≡ []
+empty [] is = refl
+empty (x ∷ xs) is = cc
+
 pub take_all : {A : Type 0} (xs : List A) (i : ℕ) → length xs ≤ i → take i xs ≡ xs
 take_all [] zero le = refl
 take_all [] (suc i) le = refl
@@ -123,12 +127,8 @@ names_on ds (x ∷ xs) = names_on (more_definitions ds x.id (abs_of x.abs)) xs �
 pub definition_names_are : (xs : List RDefinition) → definition_names (definitions_on no_definitions xs) ≡ map (λ d. d.id.name.0) xs
 definition_names_are xs = names_on no_definitions xs
 
-pub map_length : {A B : Type 0} (f : A → B) (xs : List A) → length (map f xs) ≡ length xs
-map_length f [] = refl
-map_length f (x ∷ xs) = ap suc (map_length f xs)
-
 pub names_count : (xs : List RDefinition) → length (definition_names (definitions_on no_definitions xs)) ≡ length xs
-names_count xs = ap length (definition_names_are xs) ∙ map_length (λ d. d.id.name.0) xs
+names_count xs = ap length (definition_names_are xs) ∙ length-map xs (λ d. d.id.name.0)
 
 -- ---- the names of patterns
 

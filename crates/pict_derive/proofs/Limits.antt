@@ -7,3 +7,10 @@ above result depth d told is deep same more = (omega arith, omega arith)
 
 pub within : (result d told : ℕ) → result ≡ min told 18446744073709551615 → d ≡ told → result ≤ DEPTH_LIMIT → d ≤ DEPTH_LIMIT
 within result d told is deep less = omega arith
+
+pub not_above : (d : ℕ) → d ≤ DEPTH_LIMIT → DEPTH_LIMIT < d → ⊥
+not_above d less more = omega arith
+
+-- the depth that was told
+pub the_depth : (result depth d told : ℕ) → result ≡ min told 18446744073709551615 → d ≡ told → depth ≡ min d 18446744073709551615 → result ≡ depth
+the_depth result depth d told is deep at = omega arith

@@ -14,11 +14,17 @@ use Rattle.pict_core.specs.declared.pattern.CorePat.{the_lemmas as pattern_lemma
 use Rattle.pict_core.specs.declared.pattern.CorePat.TheVariants as pattern
 use Rattle.pict_core.specs.declared.process.Core.{Core}
 use Rattle.pict_translation.specs.Placed.{Placed, new_channel, new_channels, each}
-use Rattle.pict_translation.specs.Layers.{around}
-use Rattle.pict_translation.proofs.LayerLemmas.{around-append}
+use Rattle.pict_derive.specs.Layers as layers
+use Rattle.pict_derive.specs.Layers.{around, NewLayer, BesideLayer, ReaderLayer}
 use Rattle.pict_derive.specs.declared.outside.Layer.{Layer}
 use Rattle.pict_derive.specs.declared.outside.Outside.{Outside}
 use Rattle.pict_derive.specs.Built.{layer_of, layers_of, surround}
+
+around-append : (ls ms : List layers.Layer) (rest : core.Process) → around (ls ++ ms) rest ≡ around ls (around ms rest)
+around-append [] ms rest = refl
+around-append (NewLayer ∷ ls) ms rest = ap core.New (around-append ls ms rest)
+around-append (BesideLayer p ∷ ls) ms rest = ap (core.Par p) (around-append ls ms rest)
+around-append (ReaderLayer x p s ∷ ls) ms rest = ap (λ r. core.Par (core.In x true p r) s) (around-append ls ms rest)
 
 pub more_layers : (old new : List Layer) (layer : Layer) (p : core.Process) → new ≡ old ++ layer ∷ [] → around (layers_of new) p ≡ around (layers_of old) (around (layer_of layer ∷ []) p)
 more_layers old new layer p is =

@@ -3,16 +3,14 @@
 // What is built stands under the names of `scope`, each with the level of its variable, and under `depth` variables.
 // Every function gives the scope back as it was, but for those that read declarations, which leave what these bind. The
 // only error is want of memory, also for a level of more than 32 bits.
-ghost use Rattle.std.specs.Prelude.{◌≡◌, ◌+◌, [], ◌∷◌, length, map, ℕ, List, IfOk, OnOk};
+ghost use Rattle.std.specs.Prelude.{◌≡◌, length, IfOk, OnOk};
 ghost use Rattle.pict_core.specs.Plain.{plain_core, plain_val};
-ghost use Rattle.pict_core.specs.Term.{Val as PlainVal, Var, Out, In, If};
+ghost use Rattle.pict_core.specs.Term.{Var};
 ghost use Rattle.pict_syntax.specs.PlainTrees.{abs_of, dec_of, chan_of, val_of, proc_of, field_vals_of, vals_on, labelled_vals_on, decs_on, procs_on, definitions_on};
 ghost use Rattle.pict_syntax.specs.Trees.{no_vals, no_labelled_vals, no_decs, no_procs, no_definitions};
-ghost use Rattle.pict_translation.specs.Arguments.{with_value, right, left};
-ghost use Rattle.pict_translation.specs.Placed.{Placed, new_channels, served, side_by_side, variables};
-ghost use Rattle.pict_translation.specs.Simple.{Around, simple, simple_chan, use_of};
-ghost use Rattle.pict_translation.specs.Translation.{sending, sending_chan, with_vals, with_labelled, with_fields, arguments, reader, dec_core, decs_core, definition_names, servers, proc_core, procs_core};
-ghost use Rattle.pict_derive.specs.Built.{Extends, field_of, place, surround, three, with_levels};
+ghost use Rattle.pict_translation.specs.Placed.{side_by_side};
+ghost use Rattle.pict_translation.specs.Translation.{sending, sending_chan, reader, dec_core, decs_core, proc_core, procs_core};
+ghost use Rattle.pict_derive.specs.Built.{Declares, Defines, Extends, Serves, Takes, TakesAll, TakesChan, TakesFields, TakesLabelled, place, sending_lambda, sending_left, sending_right};
 
 use crate::outside::{Outside, level_after};
 use crate::parts::{applied, bind_all, channels, nothing_sent, unit_pattern};
@@ -69,14 +67,37 @@ fn value(
             let rest = choice(alloc, test, yes, no)?;
             Ok(outer.around(alloc, rest)?)
         }
-        Val::Lambda(at, abs) => {
-            let mut outer = Outside::new(alloc, depth);
-            let f = outer.new_channel()?;
-            let server = abstraction(alloc, names, scope, abs, CoreVal::Var(f), true, outer.depth)?;
-            outer.beside(server)?;
-            Ok(outer.around(alloc, output(CoreVal::Var(k), CoreVal::Var(f), *at))?)
-        }
+        Val::Lambda(at, abs) => Ok(lambda(alloc, names, scope, abs, *at, k, depth)?),
     }
+}
+
+/// `new f (A at f | k!f)`, for the abstraction A.
+#[cycle(build)]
+fn lambda(
+    alloc: Global,
+    names: &Names,
+    scope: &mut Binders,
+    tree: &Abs,
+    at: Span,
+    k: u32,
+    depth: u32,
+) -> Result<Core, AllocError>
+    ensures core { IfOk result (λ core. plain_core core ≡ sending_lambda (place names.now scope.old) (abs_of tree.now) at (Var k) depth) }
+    ensures scope { OnOk result (scope.new ≡ scope.old) }
+{
+    let mut outer = Outside::new(alloc, depth);
+    let f = outer.new_channel()?;
+    let server = abstraction(
+        alloc,
+        names,
+        scope,
+        tree,
+        CoreVal::Var(f),
+        true,
+        outer.depth,
+    )?;
+    outer.beside(server)?;
+    Ok(outer.around(alloc, output(CoreVal::Var(k), CoreVal::Var(f), at))?)
 }
 
 /// The same for a value that stands as a channel.
@@ -132,7 +153,7 @@ fn operand(
     tree: &Val,
     outer: &mut Outside,
 ) -> Result<CoreVal, AllocError>
-    ensures core { IfOk result (λ x. (f : PlainVal → Placed) → surround outer.old (with_value (simple (place names.now scope.old) (val_of tree.now)) (sending (place names.now scope.old) (val_of tree.now)) f) ≡ surround outer.new (f (plain_val x))) }
+    ensures core { IfOk result (Takes outer.old outer.new (place names.now scope.old) (val_of tree.now)) }
     ensures scope { OnOk result (scope.new ≡ scope.old) }
 {
     match simple(alloc, names, scope, tree)? {
@@ -155,7 +176,7 @@ fn channel_operand(
     tree: &Chan,
     outer: &mut Outside,
 ) -> Result<CoreVal, AllocError>
-    ensures core { IfOk result (λ x. (f : PlainVal → Placed) → surround outer.old (with_value (simple_chan (place names.now scope.old) (chan_of tree.now)) (sending_chan (place names.now scope.old) (chan_of tree.now)) f) ≡ surround outer.new (f (plain_val x))) }
+    ensures core { IfOk result (TakesChan outer.old outer.new (place names.now scope.old) (chan_of tree.now)) }
     ensures scope { OnOk result (scope.new ≡ scope.old) }
 {
     match simple_channel(alloc, names, scope, tree)? {
@@ -178,7 +199,7 @@ fn fields(
     parts: &FieldVals,
     outer: &mut Outside,
 ) -> Result<Taken, AllocError>
-    ensures core { IfOk result (λ t. (f : List PlainVal → List (ℕ × PlainVal) → Placed) → surround outer.old (with_fields (place names.now scope.old) (field_vals_of parts.now) f) ≡ surround outer.new (f (map plain_val t.positional.items) (map field_of t.labelled.items))) }
+    ensures core { IfOk result (TakesFields outer.old outer.new (place names.now scope.old) (field_vals_of parts.now)) }
     ensures scope { OnOk result (scope.new ≡ scope.old) }
 {
     let positional = values(alloc, names, scope, &parts.positional, outer)?;
@@ -197,7 +218,7 @@ fn values(
     trees: &[Val],
     outer: &mut Outside,
 ) -> Result<Vec<CoreVal>, AllocError>
-    ensures core { IfOk result (λ us. (f : List PlainVal → Placed) → surround outer.old (with_vals (place names.now scope.old) (vals_on no_vals trees.now) f) ≡ surround outer.new (f (map plain_val us.items))) }
+    ensures core { IfOk result (λ xs. TakesAll outer.old outer.new (place names.now scope.old) (vals_on no_vals trees.now) xs.items) }
     ensures scope { OnOk result (scope.new ≡ scope.old) }
 {
     let mut found = Vec::new(alloc);
@@ -216,7 +237,7 @@ fn labelled(
     trees: &[LabelledVal],
     outer: &mut Outside,
 ) -> Result<Vec<(Name, CoreVal)>, AllocError>
-    ensures core { IfOk result (λ us. (f : List (ℕ × PlainVal) → Placed) → surround outer.old (with_labelled (place names.now scope.old) (labelled_vals_on no_labelled_vals trees.now) f) ≡ surround outer.new (f (map field_of us.items))) }
+    ensures core { IfOk result (λ xs. TakesLabelled outer.old outer.new (place names.now scope.old) (labelled_vals_on no_labelled_vals trees.now) xs.items) }
     ensures scope { OnOk result (scope.new ≡ scope.old) }
 {
     let mut found = Vec::new(alloc);
@@ -239,7 +260,7 @@ fn right(
     k: u32,
     depth: u32,
 ) -> Result<Core, AllocError>
-    ensures core { IfOk result (λ core. plain_core core ≡ (right (use_of (place names.now scope.old) head.0) at (arguments (place names.now scope.old) (vals_on no_vals trees.now))).sent (Var k) depth) }
+    ensures core { IfOk result (λ core. plain_core core ≡ sending_right (place names.now scope.old) head.0 at (vals_on no_vals trees.now) (Var k) depth) }
     ensures scope { OnOk result (scope.new ≡ scope.old) }
 {
     let Some((last, before)) = trees.split_last() else {
@@ -276,7 +297,7 @@ fn left(
     k: u32,
     depth: u32,
 ) -> Result<Core, AllocError>
-    ensures core { IfOk result (λ core. plain_core core ≡ (left (use_of (place names.now scope.old) head.0) at (arguments (place names.now scope.old) (vals_on no_vals trees.now))).sent (Var k) depth) }
+    ensures core { IfOk result (λ core. plain_core core ≡ sending_left (place names.now scope.old) head.0 at (vals_on no_vals trees.now) (Var k) depth) }
     ensures scope { OnOk result (scope.new ≡ scope.old) }
 {
     let Some((first, after)) = trees.split_first() else {
@@ -348,7 +369,7 @@ pub fn decs(
     trees: &[Dec],
     outer: &mut Outside,
 ) -> Result<(), AllocError>
-    ensures core { OnOk result ((rest : Around → Placed) → surround outer.old (decs_core (place names.now scope.old) (decs_on no_decs trees.now) rest) ≡ surround outer.new (rest (place names.now scope.new))) }
+    ensures core { OnOk result (Declares outer.old outer.new (decs_core (place names.now scope.old) (decs_on no_decs trees.now)) (place names.now scope.new)) }
     ensures scope { OnOk result (Extends scope.old scope.new) }
 {
     for tree in trees {
@@ -365,7 +386,7 @@ fn dec(
     tree: &Dec,
     outer: &mut Outside,
 ) -> Result<(), AllocError>
-    ensures core { OnOk result ((rest : Around → Placed) → surround outer.old (dec_core (place names.now scope.old) (dec_of tree.now) rest) ≡ surround outer.new (rest (place names.now scope.new))) }
+    ensures core { OnOk result (Declares outer.old outer.new (dec_core (place names.now scope.old) (dec_of tree.now)) (place names.now scope.new)) }
     ensures scope { OnOk result (Extends scope.old scope.new) }
 {
     match tree {
@@ -390,12 +411,7 @@ fn dec(
             outer.read(k, opened.pattern, inside, sent)?;
             Ok(())
         }
-        Dec::Def(_, parts) => {
-            let first = outer.depth;
-            channels(scope, parts, outer)?;
-            serve(alloc, names, scope, parts, first, outer)?;
-            Ok(())
-        }
+        Dec::Def(_, parts) => Ok(definitions(alloc, names, scope, parts, outer)?),
         Dec::Alias(_, _, _) => Ok(()),
         Dec::Operator(_, _, _, _) => Ok(()),
         Dec::Await(_, sent) => {
@@ -408,6 +424,24 @@ fn dec(
     }
 }
 
+/// A `def`: its channels around the rest, and its abstractions beside it.
+#[cycle(build)]
+fn definitions(
+    alloc: Global,
+    names: &Names,
+    scope: &mut Binders,
+    parts: &[Definition],
+    outer: &mut Outside,
+) -> Result<(), AllocError>
+    ensures core { OnOk result (Defines outer.old outer.new (place names.now scope.old) (definitions_on no_definitions parts.now) (place names.now scope.new)) }
+    ensures scope { OnOk result (Extends scope.old scope.new) }
+{
+    let first = outer.depth;
+    channels(scope, parts, outer)?;
+    serve(alloc, names, scope, parts, first, outer)?;
+    Ok(())
+}
+
 /// The abstractions of a `def` beside the rest, each at its channel, of which the first has this level.
 #[cycle(build)]
 fn serve(
@@ -418,7 +452,7 @@ fn serve(
     first: u32,
     outer: &mut Outside,
 ) -> Result<(), AllocError>
-    ensures core { OnOk result ((rest : Placed) → surround outer.old (served (servers (place names.now scope.old) (definitions_on no_definitions parts.now)) (variables first (length parts.now)) rest) ≡ surround outer.new rest) }
+    ensures core { OnOk result (Serves outer.old outer.new (place names.now scope.old) (definitions_on no_definitions parts.now) first (length parts.now)) }
     ensures scope { OnOk result (scope.new ≡ scope.old) }
 {
     let mut level = first;

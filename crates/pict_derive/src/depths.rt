@@ -1,8 +1,8 @@
 // The depth of the core of each phrase, told from its tree. Nothing is built.
-ghost use Rattle.std.specs.Prelude.{◌≡◌, ◌+◌, ◌∷◌, ◌++◌, [], length, max, Some, None};
+ghost use Rattle.std.specs.Prelude.{◌≡◌, ◌+◌, ◌∷◌, ◌++◌, [], max, Some, None};
 ghost use Rattle.pict_syntax.specs.Trees.{no_vals, no_labelled_vals, no_decs, no_procs, no_definitions};
 ghost use Rattle.pict_syntax.specs.PlainTrees.{abs_of, dec_of, chan_of, val_of, proc_of, field_vals_of, vals_on, labelled_vals_on, decs_on, procs_on, definitions_on, program_of};
-ghost use Rattle.pict_translation.specs.Depth.{or_one, put_with, right_depth, left_depth, left_depth_after, side_depth, served_depth, application_depth, sent_depth, sent_chan_depth, fields_depth, withs_depth, labelled_depth, depths, abs_depth, dec_depth, decs_depth, abs_depths, proc_depth, proc_depths, program_depth};
+ghost use Rattle.pict_translation.specs.Depth.{or_one, put_with, right_depth, left_depth, left_depth_after, side_depth, definitions_depth, application_depth, sent_depth, sent_chan_depth, fields_depth, withs_depth, labelled_depth, depths, abs_depth, dec_depth, decs_depth, abs_depths, proc_depth, proc_depths, program_depth};
 ghost use Rattle.pict_derive.specs.Held.{held, held_option};
 
 use pict_syntax::{Abs, Chan, Dec, Definition, FieldVals, LabelledVal, Proc, Program, Val};
@@ -145,7 +145,7 @@ fn dec(tree: &Dec, rest: u64) -> u64
 
 #[cycle(depths)]
 fn definitions(parts: &[Definition], rest: u64) -> u64
-    ensures { held result ≡ held (length (abs_depths (definitions_on no_definitions parts.now)) + served_depth (abs_depths (definitions_on no_definitions parts.now)) rest) }
+    ensures { held result ≡ held (definitions_depth (abs_depths (definitions_on no_definitions parts.now)) rest) }
 {
     let mut inner = rest;
     for part in parts.iter().rev() {

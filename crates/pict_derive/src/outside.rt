@@ -1,8 +1,8 @@
 // What stands around the rest of a process while the rest isn't built yet.
 ghost use Rattle.std.specs.Prelude.{◌≡◌, ◌+◌, [], ◌∷◌, ◌++◌, IfOk, OnOk};
 ghost use Rattle.pict_core.specs.Plain.{plain_core, plain_pat};
-ghost use Rattle.pict_translation.specs.Layers.{around};
 ghost use Rattle.pict_derive.specs.Built.{layer_of, layers_of};
+ghost use Rattle.pict_derive.specs.Layers.{around};
 
 use crate::terms::input;
 use pict_core::{Core, CorePat, CoreVal, Part};
@@ -37,7 +37,7 @@ impl Outside {
     ghost use Rattle.pict_core.specs.Term.{Val, Var};
     ghost use Rattle.pict_translation.specs.Arguments.{with_value};
     ghost use Rattle.pict_translation.specs.Placed.{Placed, beside, each, input, new_channel, variables};
-    ghost use Rattle.pict_derive.specs.Built.{layers_of, surround};
+    ghost use Rattle.pict_derive.specs.Built.{Nests, PutsOneReader, PutsReader, layers_of, surround};
 
     /// Nothing, under so many variables. Takes no memory.
     pub fn new(alloc: Global, depth: u32) -> Outside
@@ -80,7 +80,7 @@ impl Outside {
         inside: u32,
         sent: Core,
     ) -> Result<(), AllocError>
-        ensures { OnOk result ((f : List Val → Placed) (s : Placed) → plain_core sent ≡ s self.old.depth → inside ≡ self.old.depth + binds (plain_pat pattern) → surround self.old (beside (input (Var chan) true (plain_pat pattern) f) s) ≡ surround self.new (f (variables self.old.depth (binds (plain_pat pattern))))) }
+        ensures { OnOk result (PutsReader self.old self.new chan (plain_pat pattern) inside (plain_core sent)) }
     {
         self.layers.push(Layer::Reader {
             chan,
@@ -93,7 +93,7 @@ impl Outside {
 
     /// `(chan?*x = the rest) | sent`: the level of x.
     pub fn read_one(&mut self, chan: u32, sent: Core) -> Result<u32, AllocError>
-        ensures { IfOk result (λ x. (f : Val → Placed) (s : Placed) → plain_core sent ≡ s self.old.depth → surround self.old (beside (each (Var chan) f) s) ≡ surround self.new (f (Var x))) }
+        ensures { IfOk result (PutsOneReader self.old self.new chan (plain_core sent)) }
     {
         let level = self.depth;
         let inside = level_after(level)?;
@@ -103,7 +103,7 @@ impl Outside {
 
     /// `new k ((k?*x = body) | the rest)`: the level of k. The body stands under two variables more than the rest did.
     pub fn nest(&mut self, alloc: Global, body: Core) -> Result<u32, AllocError>
-        ensures { IfOk result (λ k. (f s : Val → Placed) → plain_core body ≡ f (Var (self.old.depth + 1)) (self.old.depth + 2) → surround self.old (with_value None s f) ≡ surround self.new (s (Var k))) }
+        ensures { IfOk result (Nests self.old self.new (plain_core body)) }
     {
         let level = self.new_channel()?;
         let reader = input(alloc, CoreVal::Var(level), true, CorePat::Bind, body)?;

@@ -7,7 +7,7 @@ ghost use Rattle.pict_syntax.specs.Trees.{no_definitions};
 ghost use Rattle.pict_translation.specs.Arguments.{no_argument};
 ghost use Rattle.pict_translation.specs.Placed.{Placed, new_channels, variables};
 ghost use Rattle.pict_translation.specs.Translation.{definition_names, unit_pat};
-ghost use Rattle.pict_derive.specs.Built.{numbers_of, surround, three, with_levels};
+ghost use Rattle.pict_derive.specs.Built.{OpensChannels, numbers_of, surround, three, with_levels};
 
 use crate::outside::{Outside, level_after};
 use crate::terms::output;
@@ -47,7 +47,7 @@ pub fn nothing_sent(k: u32) -> Core
 {
     output(
         CoreVal::Var(k),
-        CoreVal::Var(k),
+        CoreVal::Bool(true),
         Span {
             text: 0,
             start: 0,
@@ -88,7 +88,7 @@ pub fn channels(
     parts: &[Definition],
     outer: &mut Outside,
 ) -> Result<(), AllocError>
-    ensures core { OnOk result ((f : List Val → Placed) → surround outer.old (new_channels (length parts.now) f) ≡ surround outer.new (f (variables outer.old.depth (length parts.now)))) }
+    ensures core { OnOk result (OpensChannels outer.old outer.new (length parts.now)) }
     ensures scope { OnOk result (scope.new ≡ with_levels (definition_names (definitions_on no_definitions parts.now)) outer.old.depth scope.old) }
 {
     for part in parts {

@@ -1,12 +1,10 @@
 // Patterns of the source as core patterns, with the names that they bind.
 ghost use Rattle.std.specs.Prelude.{◌≡◌, ◌++◌, [], ◌∷◌, map, IfOk};
 ghost use Rattle.pict_core.specs.Plain.{plain_pat};
-ghost use Rattle.pict_core.specs.Term.{RecordPat};
-ghost use Rattle.pict_syntax.specs.Labels.{in_label_order};
 ghost use Rattle.pict_syntax.specs.PlainTrees.{pat_of, field_pats_of, pats_on, labelled_pats_on};
 ghost use Rattle.pict_syntax.specs.Trees.{no_pats, no_labelled_pats};
-ghost use Rattle.pict_translation.specs.Patterns.{opened, all_opened, labelled_opened, names_in, labelled_names_in, function_pat, names_before, names_after};
-ghost use Rattle.pict_derive.specs.Built.{opened_of, opened_field, numbers_of, pattern_of, patterns_of, labelled_patterns_of};
+ghost use Rattle.pict_translation.specs.Patterns.{opened, all_opened, fields_in_order, names_in, labelled_names_in, function_pat, names_before, names_after};
+ghost use Rattle.pict_derive.specs.Built.{opened_of, opened_field, numbers_of, pattern_of, patterns_in_order, record_pattern_of};
 
 use pict_core::CorePat;
 use pict_syntax::{FieldPats, LabelledPat, Name, Names, Pat, sort_labels};
@@ -92,8 +90,8 @@ fn open_labelled(
     names: &Names,
     trees: &[LabelledPat],
 ) -> Result<Labelled, AllocError>
-    ensures patterns { IfOk result (λ p. map pattern_of p.patterns.items ≡ map (λ f. (f.0, f.1.pattern)) (in_label_order names.now (labelled_opened names.now (labelled_pats_on no_labelled_pats trees.now)))) }
-    ensures names { IfOk result (λ p. numbers_of p.names.items ≡ labelled_names_in (in_label_order names.now (labelled_opened names.now (labelled_pats_on no_labelled_pats trees.now)))) }
+    ensures patterns { IfOk result (λ p. map pattern_of p.patterns.items ≡ patterns_in_order names.now (labelled_pats_on no_labelled_pats trees.now)) }
+    ensures names { IfOk result (λ p. numbers_of p.names.items ≡ labelled_names_in (fields_in_order names.now (labelled_pats_on no_labelled_pats trees.now))) }
 {
     let mut fields = Vec::new(alloc);
     for tree in trees {
@@ -129,7 +127,7 @@ pub fn open_function(
 
 /// The pattern of a record.
 fn joined(positional: Positional, labelled: Labelled) -> Result<Opened, AllocError>
-    ensures pattern { IfOk result (λ o. plain_pat o.pattern ≡ RecordPat (patterns_of positional.patterns.items) (labelled_patterns_of labelled.patterns.items)) }
+    ensures pattern { IfOk result (λ o. plain_pat o.pattern ≡ record_pattern_of positional.patterns.items labelled.patterns.items) }
     ensures names { IfOk result (λ o. numbers_of o.names.items ≡ numbers_of positional.names.items ++ numbers_of labelled.names.items) }
 {
     let mut bound = positional.names;

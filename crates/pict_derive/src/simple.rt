@@ -5,7 +5,7 @@ ghost use Rattle.pict_core.specs.Plain.{plain_val};
 ghost use Rattle.pict_syntax.specs.PlainTrees.{chan_of, val_of, field_vals_of, vals_on, labelled_vals_on};
 ghost use Rattle.pict_syntax.specs.Trees.{no_vals, no_labelled_vals};
 ghost use Rattle.pict_translation.specs.Simple.{fields_of, simple, simple_chan, simple_fields, simple_vals, simple_labelled, use_of};
-ghost use Rattle.pict_derive.specs.Built.{field_of, place};
+ghost use Rattle.pict_derive.specs.Built.{field_of, fields_found, place, values_found};
 
 use pict_binders::Binders;
 use pict_core::CoreVal;
@@ -113,7 +113,7 @@ fn simple_values(
     scope: &Binders,
     trees: &[Val],
 ) -> Result<Option<Vec<CoreVal>>, AllocError>
-    ensures { IfOk result (λ found. option_map (λ us. map plain_val us.items) found ≡ simple_vals (place names.now scope.now) (vals_on no_vals trees.now)) }
+    ensures { IfOk result (λ found. values_found found ≡ simple_vals (place names.now scope.now) (vals_on no_vals trees.now)) }
 {
     let mut values = Vec::new(alloc);
     for tree in trees {
@@ -132,7 +132,7 @@ fn simple_labelled(
     scope: &Binders,
     trees: &[LabelledVal],
 ) -> Result<Option<Vec<(Name, CoreVal)>>, AllocError>
-    ensures { IfOk result (λ found. option_map (λ us. map field_of us.items) found ≡ simple_labelled (place names.now scope.now) (labelled_vals_on no_labelled_vals trees.now)) }
+    ensures { IfOk result (λ found. fields_found found ≡ simple_labelled (place names.now scope.now) (labelled_vals_on no_labelled_vals trees.now)) }
 {
     let mut fields = Vec::new(alloc);
     for tree in trees {

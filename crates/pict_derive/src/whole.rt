@@ -1,11 +1,12 @@
 // The translation of whole programs.
-ghost use Rattle.std.specs.Prelude.{◌≡◌, ◌<◌, ◌≤◌, ◌-◌, ◌^◌, min, ℕ, Err, IfOk};
+ghost use Rattle.std.specs.Prelude.{◌≡◌, ◌≤◌, ◌↔◌, ℕ, Err, IfOk};
 ghost use Rattle.pict_syntax.specs.PlainTrees.{program_of};
+ghost use Rattle.pict_scope.specs.DistinctLabels.{DecsHaveDistinctLabels};
 ghost use Rattle.pict_core.specs.Closed.{IsClosed};
 ghost use Rattle.pict_core.specs.Plain.{plain_core};
 ghost use Rattle.pict_core.specs.Term.{depth_of};
-ghost use Rattle.pict_translation.specs.Distinct.{DecsAreDistinct};
 ghost use Rattle.pict_translation.specs.Translation.{program_core};
+ghost use Rattle.pict_derive.specs.Built.{IsTooDeep};
 
 use crate::build::decs;
 use crate::depths::program_depth;
@@ -42,9 +43,9 @@ impl From<AllocError> for DeriveError {
 /// its numbers stand for. Its depth is told before anything is built.
 pub fn derive(alloc: Global, names: &Names, program: &Program) -> Result<Core, DeriveError>
     ensures core { IfOk result (λ core. plain_core core ≡ program_core names.now (program_of program.now)) }
-    ensures closed { DecsAreDistinct (program_of program.now) → IfOk result (λ core. IsClosed (plain_core core)) }
+    ensures closed { DecsHaveDistinctLabels (program_of program.now) → IfOk result (λ core. IsClosed (plain_core core)) }
     ensures shallow { IfOk result (λ core. depth_of (plain_core core) ≤ DEPTH_LIMIT) }
-    ensures too_deep { (depth : ℕ) → result ≡ Err (DeriveError.TooDeep depth) → (DEPTH_LIMIT < depth_of (program_core names.now (program_of program.now))) × (depth ≡ min (depth_of (program_core names.now (program_of program.now))) (2 ^ 64 - 1)) }
+    ensures too_deep { (depth : ℕ) → (result ≡ Err (DeriveError.TooDeep depth)) ↔ IsTooDeep (program_core names.now (program_of program.now)) depth }
 {
     let depth = program_depth(program);
     if depth > DEPTH_LIMIT {

@@ -8,14 +8,15 @@ use Rattle.pict_core.specs.Substitution.{substitute}
 use Rattle.pict_core.specs.Matching.{match_value}
 use Rattle.pict_core.specs.Configuration.{Entry, Ready, Parked, Configuration, StampsRise}
 use Rattle.pict_core.specs.Step as step
-use Rattle.pict_core.specs.Step.{Label, Quiet, Comm, StepOutcome, Steps, least, gone, added, is_ready, is_parked_reader, is_parked_message}
+use Rattle.pict_core.specs.Step.{Quiet, Comm, Steps, least, gone, added, is_ready, is_parked_reader, is_parked_message}
 use Rattle.pict_core.proofs.Stamps.{without, StampsRise-without}
 use Rattle.pict_machine.specs.View.{processes}
 use Rattle.pict_machine.specs.Lists as lists
 use Rattle.pict_machine.proofs.Holds.{Holds, in_queue, readers_at, messages_at}
 use Rattle.pict_machine.proofs.Entries.{least_of, least_none, least-other}
-use Rattle.pict_machine.proofs.Steps.{Turn, StepsTo, Simulates, holds_gone, holds_ready, no_reader, no_message}
+use Rattle.pict_machine.proofs.Steps.{Turn, StepsTo, Simulates, holds_gone, holds_ready}
 use Rattle.pict_machine.proofs.Parks.{park_message, park_reader, take_reader, take_message, slice_get-set_same}
+use Rattle.pict_core.proofs.Partners.{ready_no_reader, ready_no_message}
 
 module _ (C : Configuration) (t : Entry) (rest : List Process) (queues : List lists.Queue) (turn : Turn C t rest queues) (c : ℕ) (h : c < length queues) where
   rise_gone : StampsRise 0 (without t.stamp C.entries) C.next_stamp
@@ -34,7 +35,7 @@ module _ (C : Configuration) (t : Entry) (rest : List Process) (queues : List li
       → (q : lists.Queue) → readers_at c q ≡ lists.inputs c rs → messages_at c q ≡ [] → (x : Process)
       → Holds (record { ready = rest ++ x ∷ []; queues = set queues c q }) (added Ready x (gone u.stamp (gone t.stamp C)))
   served m r rs u e first passes is q readers messages x =
-      let first' : least (is_parked_reader c) (without t.stamp C.entries) ≡ Some u = least-other is_ready (is_parked_reader c) 0 C.entries C.next_stamp t turn.rise turn.front (no_reader c t turn.passes) ∙ first in
+      let first' : least (is_parked_reader c) (without t.stamp C.entries) ≡ Some u = least-other is_ready (is_parked_reader c) 0 C.entries C.next_stamp t turn.rise turn.front (ready_no_reader c t turn.passes) ∙ first in
       holds_ready (gone u.stamp (gone t.stamp C)) (record { ready = rest; queues = set queues c q }) x
       (take_reader (gone t.stamp C) (record { ready = rest; queues = queues }) c q u r (holds_gone C t rest queues turn) rise_gone h first' passes is
       (ap (in_queue (readers_at c)) e ∙ ap (λ ps. In (Chan c) r.replicated r.pattern r.body ∷ ps) (sym readers))
@@ -91,7 +92,7 @@ module _ (C : Configuration) (t : Entry) (rest : List Process) (queues : List li
       (step.received parts body (λ p. Steps (added Ready p (gone u.stamp (step.took replicated t.stamp C))) (Comm c m.value)))
   gets replicated pattern body m ms u e first passes is acting all None = refl
   gets false pattern body m ms u e first passes is acting all (Some parts) =
-      let first' : least (is_parked_message c) (without t.stamp C.entries) ≡ Some u = least-other is_ready (is_parked_message c) 0 C.entries C.next_stamp t turn.rise turn.front (no_message c t turn.passes) ∙ first in
+      let first' : least (is_parked_message c) (without t.stamp C.entries) ≡ Some u = least-other is_ready (is_parked_message c) 0 C.entries C.next_stamp t turn.rise turn.front (ready_no_message c t turn.passes) ∙ first in
       let rise : StampsRise 0 (without t.stamp C.entries) C.next_stamp = StampsRise-without t.stamp 0 C.entries C.next_stamp turn.rise in (
         refl,
         holds_ready (gone u.stamp (gone t.stamp C)) (record { ready = rest; queues = set queues c (lists.Messages ms) }) (substitute 0 parts body)

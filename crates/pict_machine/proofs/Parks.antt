@@ -1,6 +1,6 @@
 -- What waits at one channel changes.
-use Rattle.std.proofs.Common.{ℕ, zero, suc, ◌<◌, ◌≡◌, ◌≢◌, Bool, true, false, not, ◌&&◌, nat_eq, List, [], ◌∷◌, ◌++◌, length, set, refl, sym, ap, ◌∙◌, Some, arith, cond, append-nil, length-set, inl, inr, ◌⊎◌}
-use Rattle.std.proofs.lemmas.Bool.Decides.{nat_tests}
+use Rattle.std.proofs.Common.{ℕ, zero, suc, ◌<◌, ◌≡◌, ◌≢◌, Bool, true, false, not, ◌&&◌, nat_eq, List, [], ◌∷◌, ◌++◌, length, set, refl, sym, ap, ◌∙◌, Some, arith, cond, append-nil, length-set, inl, inr}
+use Rattle.std.proofs.lemmas.Bool.Decides.{nat_tests, eqb_tells}
 use Rattle.std.specs.List.{slice_get}
 use Rattle.pict_core.specs.Term.{Process, Out, In, Chan}
 use Rattle.pict_core.specs.Configuration.{Mark, Ready, Parked, Entry, Configuration, StampsRise}
@@ -11,6 +11,7 @@ use Rattle.pict_machine.specs.Lists as lists
 use Rattle.pict_machine.specs.Lists.{Lists}
 use Rattle.pict_machine.proofs.Holds.{Holds, in_queue, readers_at, messages_at}
 use Rattle.pict_machine.proofs.Entries.{processes-least, processes-other, processes-push}
+use Rattle.pict_core.proofs.Partners.{own_channel}
 
 pub slice_get-set_same : (qs : List lists.Queue) (c : ℕ) (q : lists.Queue) → c < length qs → slice_get (set qs c q) c ≡ Some q
 slice_get-set_same [] c q h = absurd (omega arith)
@@ -24,25 +25,16 @@ slice_get-set_other (x ∷ xs) zero (suc d) q h = refl
 slice_get-set_other (x ∷ xs) (suc c) zero q h = refl
 slice_get-set_other (x ∷ xs) (suc c) (suc d) q h = slice_get-set_other xs c d q (λ e. h (ap suc e))
 
-same_or_not : (d c : ℕ) → (d ≡ c) ⊎ (d ≢ c)
-same_or_not zero zero = inl refl
-same_or_not zero (suc c) = inr (λ e. omega arith)
-same_or_not (suc d) zero = inr (λ e. omega arith)
-same_or_not (suc d) (suc c) = elim (same_or_not d c) [ inl e ↦ inl (ap suc e) | inr n ↦ inr (λ e. n (omega arith)) ]
-
 -- a fact at each channel, from that at the one that changed and those at the others
 pointwise : (f : ℕ → lists.Queue → List Process) (P : ℕ → List Process) (qs : List lists.Queue) (c : ℕ) (q : lists.Queue) → c < length qs → P c ≡ f c q
     → ((d : ℕ) → d ≢ c → P d ≡ in_queue (f d) (slice_get qs d)) → (d : ℕ) → P d ≡ in_queue (f d) (slice_get (set qs c q) d)
-pointwise f P qs c q h at others d = elim (same_or_not d c) [
-  | inl e ↦ rw e (at ∙ sym (ap (in_queue (f c)) (slice_get-set_same qs c q h)))
-  | inr n ↦ others d n ∙ sym (ap (in_queue (f d)) (slice_get-set_other qs c d q n))
+pointwise f P qs c q h at others d = elim (eqb_tells d c) [
+  | inl e ↦ rw e.1 (at ∙ sym (ap (in_queue (f c)) (slice_get-set_same qs c q h)))
+  | inr n ↦ others d n.1 ∙ sym (ap (in_queue (f d)) (slice_get-set_other qs c d q n.1))
 ]
 
 other_channel : (d c : ℕ) → d ≢ c → nat_eq d c ≡ false
 other_channel d c n = grind (arith, nat_tests)
-
-same_channel : (c : ℕ) → nat_eq c c ≡ true
-same_channel c = grind (arith, nat_tests)
 
 -- an output parks
 pub park_message : (D : Configuration) (v : Lists) (c : ℕ) (q : lists.Queue) (m : lists.Message) → Holds v D → c < length v.queues
@@ -55,7 +47,7 @@ park_message D v c q m s h ms rs = record {
       (processes-push (is_parked_reader c) D.entries _ ∙ append-nil _ ∙ s.readers c ∙ sym rs)
       (λ d n. processes-push (is_parked_reader d) D.entries _ ∙ append-nil _ ∙ s.readers d);
   messages = pointwise messages_at (λ d. processes (is_parked_message d) (added Parked (Out (Chan c) m.value m.at) D).entries) v.queues c q h
-      (processes-push (is_parked_message c) D.entries _ ∙ ap (λ b. processes (is_parked_message c) D.entries ++ cond b (Out (Chan c) m.value m.at ∷ []) []) (same_channel c) ∙ ap (λ ps. ps ++ Out (Chan c) m.value m.at ∷ []) (s.messages c) ∙ sym ms)
+      (processes-push (is_parked_message c) D.entries _ ∙ ap (λ b. processes (is_parked_message c) D.entries ++ cond b (Out (Chan c) m.value m.at ∷ []) []) (own_channel c) ∙ ap (λ ps. ps ++ Out (Chan c) m.value m.at ∷ []) (s.messages c) ∙ sym ms)
       (λ d n. processes-push (is_parked_message d) D.entries _ ∙ ap (λ b. processes (is_parked_message d) D.entries ++ cond b (Out (Chan c) m.value m.at ∷ []) []) (other_channel d c n) ∙ append-nil _ ∙ s.messages d);
 }
 
@@ -70,7 +62,7 @@ park_reader D v c q r s h rs ms = record {
       (processes-push (is_parked_message c) D.entries _ ∙ append-nil _ ∙ s.messages c ∙ sym ms)
       (λ d n. processes-push (is_parked_message d) D.entries _ ∙ append-nil _ ∙ s.messages d);
   readers = pointwise readers_at (λ d. processes (is_parked_reader d) (added Parked (In (Chan c) r.replicated r.pattern r.body) D).entries) v.queues c q h
-      (processes-push (is_parked_reader c) D.entries _ ∙ ap (λ b. processes (is_parked_reader c) D.entries ++ cond b (In (Chan c) r.replicated r.pattern r.body ∷ []) []) (same_channel c) ∙ ap (λ ps. ps ++ In (Chan c) r.replicated r.pattern r.body ∷ []) (s.readers c) ∙ sym rs)
+      (processes-push (is_parked_reader c) D.entries _ ∙ ap (λ b. processes (is_parked_reader c) D.entries ++ cond b (In (Chan c) r.replicated r.pattern r.body ∷ []) []) (own_channel c) ∙ ap (λ ps. ps ++ In (Chan c) r.replicated r.pattern r.body ∷ []) (s.readers c) ∙ sym rs)
       (λ d n. processes-push (is_parked_reader d) D.entries _ ∙ ap (λ b. processes (is_parked_reader d) D.entries ++ cond b (In (Chan c) r.replicated r.pattern r.body ∷ []) []) (other_channel d c n) ∙ append-nil _ ∙ s.readers d);
 }
 

@@ -1,19 +1,20 @@
 -- Steps of the lists that meet no partner are steps of each configuration that the lists hold.
-use Rattle.std.proofs.Common.{ℕ, zero, suc, ◌≡◌, Bool, true, false, not, ◌&&◌, List, [], ◌∷◌, ◌++◌, length, refl, sym, ap, ◌∙◌, Option, Some, None, arith, append-nil, length-append}
+use Rattle.std.proofs.Common.{ℕ, zero, suc, ◌≡◌, true, false, List, [], ◌∷◌, ◌++◌, length, refl, sym, ap, ◌∙◌, Option, Some, None, arith, append-nil, length-append}
 use Rattle.std.specs.List.{slice_get}
 use Rattle.pict_syntax.specs.declared.span.Span.{Span}
 use Rattle.pict_core.specs.Term.{Process, Val, Zero, Par, New, Out, If, Chan, Var, Int, Char, Boolean, Text, PrimitiveVal, Record}
 use Rattle.pict_core.specs.Substitution.{substitute}
 use Rattle.pict_core.specs.Primitives.{Effect, Leaves, Nothing, Answer, Trap}
-use Rattle.pict_core.specs.Configuration.{Mark, Ready, Parked, Entry, Configuration, StampsRise}
+use Rattle.pict_core.specs.Configuration.{Ready, Entry, Configuration, StampsRise}
 use Rattle.pict_core.specs.Step as step
-use Rattle.pict_core.specs.Step.{Label, StepOutcome, Steps, Traps, Wrong, Finished, least, gone, kept, added, with_channel, is_ready, is_ready_mark, is_parked_reader, is_parked_message, printing}
+use Rattle.pict_core.specs.Step.{Label, StepOutcome, Steps, Traps, Wrong, Finished, least, gone, kept, added, is_ready, is_parked_reader, is_parked_message, printing}
 use Rattle.pict_core.proofs.Stamps.{without}
 use Rattle.pict_machine.specs.View.{processes}
 use Rattle.pict_machine.specs.Lists as lists
 use Rattle.pict_machine.specs.Lists.{Lists}
 use Rattle.pict_machine.proofs.Holds.{Holds, in_queue, readers_at, messages_at}
 use Rattle.pict_machine.proofs.Entries.{processes-other, processes-push, ready-kept, parked-kept}
+use Rattle.pict_core.proofs.Partners.{ready_no_reader, ready_no_message}
 
 -- the outcome has this label, and the lists hold the configuration after it
 abbrev pub StepsTo : StepOutcome → Label → Lists → Type 0
@@ -27,16 +28,6 @@ Simulates (lists.Moves h label) o = StepsTo o label h
 Simulates (lists.Stops at) o = o ≡ Traps at
 Simulates lists.Misshapen o = o ≡ Wrong
 Simulates lists.Over o = o ≡ Finished
-
-not_parked : (m : Mark) (b : Bool) → is_ready_mark m ≡ true → not (is_ready_mark m) && b ≡ false
-not_parked Ready b h = refl
-not_parked Parked b h = cc
-
-pub no_reader : (c : ℕ) (u : Entry) → is_ready u ≡ true → is_parked_reader c u ≡ false
-no_reader c u h = not_parked u.mark _ h
-
-pub no_message : (c : ℕ) (u : Entry) → is_ready u ≡ true → is_parked_message c u ≡ false
-no_message c u h = not_parked u.mark _ h
 
 -- an entry that has the turn, and what the lists have beside it
 pub record Turn (C : Configuration) (t : Entry) (rest : List Process) (queues : List lists.Queue) : Type 0 where
@@ -53,16 +44,16 @@ module _ (C : Configuration) (t : Entry) (rest : List Process) (queues : List li
   holds_gone = record {
     channels = turn.count;
     ready = turn.others;
-    readers = λ c. processes-other is_ready (is_parked_reader c) 0 C.entries C.next_stamp t turn.rise turn.front (no_reader c t turn.passes) ∙ turn.readers c;
-    messages = λ c. processes-other is_ready (is_parked_message c) 0 C.entries C.next_stamp t turn.rise turn.front (no_message c t turn.passes) ∙ turn.messages c;
+    readers = λ c. processes-other is_ready (is_parked_reader c) 0 C.entries C.next_stamp t turn.rise turn.front (ready_no_reader c t turn.passes) ∙ turn.readers c;
+    messages = λ c. processes-other is_ready (is_parked_message c) 0 C.entries C.next_stamp t turn.rise turn.front (ready_no_message c t turn.passes) ∙ turn.messages c;
   }
 
   pub holds_kept : (x : Process) → Holds (record { ready = x ∷ rest; queues = queues }) (kept t.stamp x C)
   holds_kept x = record {
     channels = turn.count;
     ready = ready-kept x 0 C.entries C.next_stamp t turn.rise turn.front ∙ ap (λ ps. x ∷ ps) turn.others;
-    readers = λ c. parked-kept (is_parked_reader c) x 0 C.entries C.next_stamp t (no_reader c) turn.rise turn.front ∙ turn.readers c;
-    messages = λ c. parked-kept (is_parked_message c) x 0 C.entries C.next_stamp t (no_message c) turn.rise turn.front ∙ turn.messages c;
+    readers = λ c. parked-kept (is_parked_reader c) x 0 C.entries C.next_stamp t (ready_no_reader c) turn.rise turn.front ∙ turn.readers c;
+    messages = λ c. parked-kept (is_parked_message c) x 0 C.entries C.next_stamp t (ready_no_message c) turn.rise turn.front ∙ turn.messages c;
   }
 
 -- one more ready process

@@ -103,7 +103,8 @@ send rest queues c m (Some q) = after_offer rest queues c m (offered q m)
 
 abbrev pub after_ask : List Process → List Queue → ℕ → Bool → Process → Ask → Moved
 after_ask rest queues c replicated p (Waits q) = Moves (record { ready = rest; queues = slice_set queues c q }) Quiet
-after_ask rest queues c replicated p (Gets b value q) = Moves (record { ready = turn replicated p ++ (rest ++ b ∷ []); queues = slice_set queues c q }) (Comm c value)
+after_ask rest queues c replicated p (Gets b value q) =
+    Moves (record { ready = turn replicated p ++ (rest ++ b ∷ []); queues = slice_set queues c q }) (Comm c value)
 after_ask rest queues c replicated p Misfit = Misshapen
 
 abbrev pub receive : List Process → List Queue → ℕ → Reader → Process → Option Queue → Moved
@@ -136,9 +137,11 @@ abbrev pub act : Process → List Process → List Queue → Moved
 act Zero rest queues = Moves (record { ready = rest; queues = queues }) Quiet
 act (Par p q) rest queues = Moves (record { ready = p ∷ (rest ++ q ∷ []); queues = queues }) Quiet
 act (New p) rest queues = Moves (record { ready = substitute 0 (Chan (length queues) ∷ []) p ∷ rest; queues = queues ++ Messages [] ∷ [] }) Quiet
-act (If test p q) rest queues = choose test (Moves (record { ready = p ∷ rest; queues = queues }) Quiet) (Moves (record { ready = q ∷ rest; queues = queues }) Quiet)
+act (If test p q) rest queues =
+    choose test (Moves (record { ready = p ∷ rest; queues = queues }) Quiet) (Moves (record { ready = q ∷ rest; queues = queues }) Quiet)
 act (Out chan message at) rest queues = output rest queues chan message at
-act (In chan replicated pattern body) rest queues = input rest queues chan (record { replicated = replicated; pattern = pattern; body = body }) (In chan replicated pattern body)
+act (In chan replicated pattern body) rest queues =
+    input rest queues chan (record { replicated = replicated; pattern = pattern; body = body }) (In chan replicated pattern body)
 
 abbrev pub next_of : List Process → List Queue → Moved
 next_of [] queues = Over

@@ -25,7 +25,8 @@ Saw next before after labels = WhereTold (λ b a. a ≡ view_after next b labels
 
 -- the showing of the last of these labels was refused
 abbrev pub IsTorn : (List ℕ → ℕ → Label → List ℕ) → (List ℕ → ℕ → Label → List ℕ → Type 0) → List (ℕ × Label) → List ℕ → List ℕ → Type 0
-IsTorn next torn labels before after = (front : List (ℕ × Label)) × (last : ℕ × Label) × (labels ≡ front ++ last ∷ []) × torn (view_after next before front) last.0 last.1 after
+IsTorn next torn labels before after =
+    (front : List (ℕ × Label)) × (last : ℕ × Label) × (labels ≡ front ++ last ∷ []) × torn (view_after next before front) last.0 last.1 after
 
 -- the watcher has seen exactly these labels, or the showing of the last one was refused
 abbrev pub SawOrTore : (List ℕ → ℕ → Label → List ℕ) → (List ℕ → ℕ → Label → List ℕ → Type 0) → Option (List ℕ) → Option (List ℕ) → List (ℕ × Label) → Type 0

@@ -12,7 +12,7 @@ use Rattle.pict_types.specs.Types.{is_top}
 use Rattle.pict_normal.specs.Made.{kept_as, kept_of, built_as, built_of, weigh_each, rise_each, only_used}
 use Rattle.pict_types.proofs.Held.{Alike, alike, HeldAlike, alike_more, weigh_held, rise_held}
 use Rattle.pict_types.proofs.MeasuredAlike.{TopsAlike, WeighAlike, RiseAlike, is_head, weigh_filled, rise_filled}
-use Rattle.pict_normal.proofs.Within.{SameWithin, fill_within}
+use Rattle.pict_types.proofs.Within.{SameWithin, fill_within}
 
 pub count_kept : (us : PlainTypes) → count_types (kept_of us) ≡ count_types us
 count_kept no_type = refl

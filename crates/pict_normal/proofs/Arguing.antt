@@ -20,10 +20,6 @@ pub record ArgumentsSoFar (ws hs : List ℕ) (a : Arguments) (all rest : PlainTy
   pub kept : then_types (plain_types a.kept.items) (kept_of rest) ≡ kept_of all
   pub types_ : then_types (plain_types a.types.items) (built_of hs rest) ≡ built_of hs all
 
-pub types_last : (xs : List Ty) (x : Ty) → plain_types (xs ++ x ∷ []) ≡ and_type (plain_types xs) (plain x)
-types_last [] x = refl
-types_last (y ∷ xs) x = ap (types (plain y)) (types_last xs x)
-
 and_then : (ts : PlainTypes) (u : PlainType) (us : PlainTypes) → then_types (and_type ts u) us ≡ then_types ts (types u us)
 and_then no_type u us = refl
 and_then (types t ts) u us = ap (types t) (and_then ts u us)

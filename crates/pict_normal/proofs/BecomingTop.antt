@@ -10,18 +10,9 @@ use Rattle.pict_normal.specs.Meanings.{meanings, with_what}
 use Rattle.pict_types.specs.Types.{is_top}
 use Rattle.pict_types.specs.Places.{IsWhatAt}
 use Rattle.pict_normal.specs.Raw.{IsNoDefinition}
-
-pub top_renamed : (f : ℕ → ℕ) (t : PlainType) → is_top (rename f t) ≡ is_top t
-top_renamed f Top = refl
-top_renamed f Int = refl
-top_renamed f Char = refl
-top_renamed f Str = refl
-top_renamed f Boolean = refl
-top_renamed f (Var i) = refl
-top_renamed f (Apply i ts) = refl
-top_renamed f (Chan m t) = refl
-top_renamed f (Fields bs ps ls) = refl
-top_renamed f (Rec t) = refl
+use Rattle.pict_types.proofs.Renamed.{top_renamed}
+use Rattle.pict_types.proofs.Moving.{times_low, times_high}
+use Rattle.std.proofs.lemmas.Bool.{cases_lt}
 
 -- the parameters of an operator have its arguments, and the other variables lose them
 pub argument_past : (n : ℕ) (us : PlainTypes) (s : Filling) (i : ℕ) → (with_types n us s).type_for (i + n) ≡ s.type_for i
@@ -89,35 +80,19 @@ top_other_head n i ts us h =
     ∙ ap (λ x. is_top (apply_variable x (fill_types (with_types n us no_filling) ts))) (head_past n us no_filling (i - n))
 
 -- the body of an operator behind one more variable
-times_low : (f : ℕ → ℕ) (n i : ℕ) → i < n → beyond_times n f i ≡ i
-times_low f zero i h = absurd (omega arith)
-times_low f (suc n) zero h = refl
-times_low f (suc n) (suc i) h = ap suc (times_low f n i (omega arith))
-
-times_high : (n i : ℕ) → n ≤ i → beyond_times n suc i ≡ suc i
-times_high zero i h = refl
-times_high (suc n) zero h = absurd (omega arith)
-times_high (suc n) (suc i) h = ap suc (times_high n i (omega arith))
-
-below : (i n : ℕ) → (i < n) ⊎ (n ≤ i)
-below i zero = inr (omega arith)
-below zero (suc n) = inl (omega arith)
-below (suc i) (suc n) = go (below i n)
-  where
-    go : (i < n) ⊎ (n ≤ i) → (suc i < suc n) ⊎ (suc n ≤ suc i)
-    go (inl h) = inl (omega arith)
-    go (inr h) = inr (omega arith)
+past_suc : (n i : ℕ) → n ≤ i → beyond_times n suc i ≡ suc i
+past_suc n i h = times_high suc n i h ∙ omega arith
 
 top_moved_variable : (n i : ℕ) (us : PlainTypes) → (i < n) ⊎ (n ≤ i) → is_top (applied n (Var (beyond_times n suc i)) us) ≡ is_top (applied n (Var i) us)
 top_moved_variable n i us (inl h) = ap (λ k. is_top (applied n (Var k) us)) (times_low suc n i h)
-top_moved_variable n i us (inr h) = ap (λ k. is_top (applied n (Var k) us)) (times_high n i h) ∙ top_other n (suc i) us (omega arith) ∙ sym (top_other n i us h)
+top_moved_variable n i us (inr h) = ap (λ k. is_top (applied n (Var k) us)) (past_suc n i h) ∙ top_other n (suc i) us (omega arith) ∙ sym (top_other n i us h)
 
 top_moved_head : (n i : ℕ) (ts xs us : PlainTypes) → (i < n) ⊎ (n ≤ i) → is_top (applied n (Apply (beyond_times n suc i) xs) us) ≡ is_top (applied n (Apply i ts) us)
 top_moved_head n i ts xs us (inl h) =
     let e : beyond_times n suc i < n = omega (arith, times_low suc n i h) in
     top_no_head n (beyond_times n suc i) xs us e ∙ sym (top_no_head n i ts us h)
 top_moved_head n i ts xs us (inr h) =
-    let e : n ≤ beyond_times n suc i = omega (arith, times_high n i h) in
+    let e : n ≤ beyond_times n suc i = omega (arith, past_suc n i h) in
     top_other_head n (beyond_times n suc i) xs us e ∙ sym (top_other_head n i ts us h)
 
 top_moved : (n : ℕ) (t : PlainType) (us : PlainTypes) → is_top (applied n (rename (beyond_times n suc) t) us) ≡ is_top (applied n t us)
@@ -126,8 +101,8 @@ top_moved n Int us = refl
 top_moved n Char us = refl
 top_moved n Str us = refl
 top_moved n Boolean us = refl
-top_moved n (Var i) us = top_moved_variable n i us (below i n)
-top_moved n (Apply i ts) us = top_moved_head n i ts (rename_types (beyond_times n suc) ts) us (below i n)
+top_moved n (Var i) us = top_moved_variable n i us (cases_lt i n)
+top_moved n (Apply i ts) us = top_moved_head n i ts (rename_types (beyond_times n suc) ts) us (cases_lt i n)
 top_moved n (Chan m t) us = refl
 top_moved n (Fields bs ps ls) us = refl
 top_moved n (Rec t) us = refl

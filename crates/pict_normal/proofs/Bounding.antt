@@ -17,8 +17,9 @@ use Rattle.pict_types.specs.Replacing.{Replacement, replacement_past, replacemen
 use Rattle.pict_types.proofs.Held.{HeldAlike, alike_more, alike_same, held_alike, rise_bounds_held, heights_under_held}
 use Rattle.pict_normal.proofs.Behind.{weights_more, heights_more}
 use Rattle.pict_normal.proofs.Making.{reason_by, row_first, row_step, row_alike}
-use Rattle.pict_normal.proofs.Placing.{placed_rest, one_more, bounds_next}
+use Rattle.pict_normal.proofs.Placing.{placed_rest, one_more}
 use Rattle.pict_types.proofs.Rows.{then_bounds, bounds_push, bounds_end}
+use Rattle.pict_types.proofs.Items.{bounds_next}
 
 pub record MadeSoFar (s r : Replacement) (vs ws us hs : List ℕ) (all rest : PlainBounds) (row : Row Bound) : Type 0 where
   pub row_ : IsRow (λ xs. then_bounds (plain_bounds xs) (replace_bounds r rest)) row (weigh_bounds vs (replace_bounds s all)) (weigh_bounds ws (replace_bounds r rest)) (rise_bounds us (replace_bounds s all)) (rise_bounds hs (replace_bounds r rest)) (replace_bounds s all)

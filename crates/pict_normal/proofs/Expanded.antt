@@ -16,17 +16,18 @@ use Rattle.pict_types.specs.Replacing.{bound_by, Replacement, apply_variable, wi
 use Rattle.pict_types.specs.Entries.{PlainWhat, Variable, Definition, PlainContext, variables, with_variable, EntryIsWellFormed, EntriesAreWellFormed}
 use Rattle.pict_normal.specs.Meanings.{meanings, with_what, kind_of_what, entry_kinds}
 use Rattle.pict_types.specs.Measures.{weight_of, height_of, weights, size, size_types, size_labels, size_bounds, size_bound}
-use Rattle.pict_normal.specs.Normal.{Stop, normal, span_of, and_type, and_bound, with_labelled_type, kind_stops, size_stop, first_stop, kind_stop}
+use Rattle.pict_normal.specs.Normal.{Stop, normal, and_type, and_bound, with_labelled_type, kind_stops, size_stop, first_stop, kind_stop}
 use Rattle.pict_normal.specs.Raw.{variable_at, raw, raw_types, raw_labels, raw_binders, raw_binder, names_under}
 use Rattle.pict_normal.specs.Sizes.{nodes, nodes_of_types, nodes_of_labels, nodes_of_binders, nodes_of_binder}
-use Rattle.pict_types.specs.Places.{names_in, place}
+use Rattle.pict_types.specs.Places.{names_in}
 use Rattle.pict_normal.specs.Refusals.{IsFirst, IsRefusal}
-use Rattle.pict_normal.specs.Distinct.{HasDistinctLabels}
+use Rattle.pict_scope.specs.DistinctLabels.{HasDistinctLabels}
 use Rattle.pict_types.specs.Fitting.{ReplacesKinds, StandsForOperator}
 use Rattle.pict_types.proofs.Formed.{replaces_beyond, replace_formed}
 use Rattle.pict_types.proofs.Sizes.{positive_weights, size_weigh}
 use Rattle.pict_normal.proofs.RawFormed.{raw_formed}
 use Rattle.pict_normal.proofs.RawNormal.{raw_normal}
+use Rattle.pict_syntax.specs.Grammar.{type_span}
 
 -- what the entries mean is well formed
 replaces_definition : {ns : List (List ℕ)} {s : Replacement} {ks js : List Kind} (a : PlainArg) → ArgIsWellFormed ns js a → ReplacesKinds ns s ks js → ReplacesKinds ns (with_arg a s) (kind_of_what (Definition a) ∷ ks) js
@@ -82,7 +83,7 @@ within_limits c t s w h = go (nat_lt 100000 (weight_of (variables c) t)) (nat_lt
 
 pub allowed : (ns : List (List ℕ)) (c : PlainContext) (t : TypeTree) → kind_stops ns c t ≡ [] → weight_of (variables c) (normal ns c t) ≤ 100000 → height_of (variables c) (normal ns c t) ≤ 1000 → kind_stop ns c t ≡ None
 allowed ns c t k w h =
-    ap (λ x. first_stop x (size_stop c (normal ns c t) (span_of t))) k ∙ within_limits c (normal ns c t) (span_of t) w h
+    ap (λ x. first_stop x (size_stop c (normal ns c t) (type_span t))) k ∙ within_limits c (normal ns c t) (type_span t) w h
 
 -- a measure past its limit
 pub too_big : (c : PlainContext) (t : PlainType) (s : Span) → (weight_of (variables c) t ≤ 100000 → height_of (variables c) t ≤ 1000 → ⊥) → size_stop c t s ≡ Some (K4, s)
@@ -93,9 +94,9 @@ too_big c t s past = go (nat_lt 100000 (weight_of (variables c) t)) (nat_lt 1000
     go false true q r = refl
     go false false q r = absurd (past (ltb-false 100000 (weight_of (variables c) t) q) (ltb-false 1000 (height_of (variables c) t) r))
 
-pub refused_whole : (ns : List (List ℕ)) (c : PlainContext) (t : TypeTree) → kind_stops ns c t ≡ [] → (weight_of (variables c) (normal ns c t) ≤ 100000 → height_of (variables c) (normal ns c t) ≤ 1000 → ⊥) → kind_stop ns c t ≡ Some (K4, span_of t)
+pub refused_whole : (ns : List (List ℕ)) (c : PlainContext) (t : TypeTree) → kind_stops ns c t ≡ [] → (weight_of (variables c) (normal ns c t) ≤ 100000 → height_of (variables c) (normal ns c t) ≤ 1000 → ⊥) → kind_stop ns c t ≡ Some (K4, type_span t)
 refused_whole ns c t k past =
-    ap (λ x. first_stop x (size_stop c (normal ns c t) (span_of t))) k ∙ too_big c (normal ns c t) (span_of t) past
+    ap (λ x. first_stop x (size_stop c (normal ns c t) (type_span t))) k ∙ too_big c (normal ns c t) (type_span t) past
 
 pub first_refusal : (stops : List Stop) (o : Option Stop) (e : KindError) → IsFirst stops e → IsRefusal (first_stop stops o) e
 first_refusal [] o (Named code span) h = absurd h

@@ -1,6 +1,4 @@
-pub mod Past
 pub mod Meant
-pub mod Within
 pub mod Placing
 pub mod Applied
 pub mod Making

@@ -11,8 +11,8 @@ use Rattle.pict_types.specs.Places.{IsWhatAt}
 use Rattle.pict_types.specs.Renaming.{plus, rename, moved}
 use Rattle.pict_types.specs.Replacing.{Head, variable, rename_head, Replacement, type_in, head_in}
 use Rattle.pict_types.proofs.Counting.{entries_around}
-use Rattle.pict_normal.proofs.Past.{not_moved, head_same, head_twice}
 use Rattle.pict_types.proofs.Renamed.{renamed_twice}
+use Rattle.pict_types.proofs.Past.{not_moved, head_same, head_twice}
 
 -- what an entry stands for, in the variables of its own place
 abbrev pub own_type : PlainWhat → PlainType

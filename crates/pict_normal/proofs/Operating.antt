@@ -14,10 +14,7 @@ use Rattle.pict_normal.specs.Putting.{IsPlaced, names_in, replacement_in}
 use Rattle.pict_types.specs.Replacing.{operator, replace_types}
 use Rattle.pict_normal.proofs.Applied.{count_used, weigh_each_length}
 use Rattle.pict_types.proofs.Formed.{count_replaced}
-
-pub count_items : (xs : List Ty) → count_types (plain_types xs) ≡ length xs
-count_items [] = refl
-count_items (x ∷ xs) = ap suc (count_items xs)
+use Rattle.pict_types.proofs.Rows.{count_types_length}
 
 pub arguments_count : {ws hs : List ℕ} {us : PlainTypes} (a : Arguments) → AreArguments ws hs a us → length a.measures.items ≡ count_types us
 arguments_count {ws = ws} {us = us} a x =
@@ -31,7 +28,7 @@ operator_count {p = p} {ms = ms} i ts n t x e =
 
 pub operator_items : {p : Puts} {ms : List Measures} (i : ℕ) (xs : List Ty) (n : ℕ) (t : PlainType) → IsPlaced p ms (λ ks. IsWellFormed (names_in p) ks (Apply i (plain_types xs))) → operator n t ≡ (replacement_in p ms).head_of i → n ≡ length xs
 operator_items {p = p} {ms = ms} i xs n t x e =
-    operator_count i (plain_types xs) n t x e ∙ count_replaced (replacement_in p ms) (plain_types xs) ∙ count_items xs
+    operator_count i (plain_types xs) n t x e ∙ count_replaced (replacement_in p ms) (plain_types xs) ∙ count_types_length xs
 
 -- the arguments that are used, with Top for the others, are as many as the parameters
 pub measured_count : {ws hs : List ℕ} (a : Arguments) (s : PlainTypes) (used : List Bool) → AreArguments ws hs a (only_used used s) → length a.measures.items ≡ count_types s

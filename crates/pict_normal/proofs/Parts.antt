@@ -25,10 +25,9 @@ use Rattle.pict_normal.proofs.Making.{reason_by, row_alike, types_more, types_do
 use Rattle.pict_normal.proofs.Arguing.{ArgumentsSoFar, arguments_more, arguments_done}
 use Rattle.pict_types.proofs.Formed.{count_replaced}
 use Rattle.pict_normal.proofs.Applied.{count_used}
-use Rattle.pict_normal.proofs.Operating.{count_items}
-use Rattle.pict_types.proofs.Rows.{then_types, types_drop, types_end, then_labels, labels_drop, labels_end}
-use Rattle.pict_normal.proofs.Past.{all_past, applied_moved}
+use Rattle.pict_types.proofs.Rows.{then_types, types_drop, types_end, then_labels, labels_drop, labels_end, count_types_length}
 use Rattle.pict_normal.proofs.Placing.{one_more}
+use Rattle.pict_types.proofs.Past.{all_past, applied_moved}
 
 abbrev pub Makes : {E : Type 0} → Puts → List Measures → Result Made E → PlainType → Type 0
 Makes p ms r t = IfOk r (λ m. IsMade (weights_in p ms) (heights_in p ms) m (replace (replacement_in p ms) t))
@@ -152,7 +151,7 @@ place_of : (s : Replacement) (xs : List Ty) (i place : ℕ) → i < length xs �
 place_of s xs i place h d =
     let rest = drop (i + 1) xs in
     let dropped : length rest ≡ length xs - (i + 1) = simp length-drop refl in
-    omega (arith, d, h, count_replaced s (plain_types rest), count_items rest, dropped)
+    omega (arith, d, h, count_replaced s (plain_types rest), count_types_length rest, dropped)
 
 pub arguments_step : (p : Puts) {a : Arguments} (ms ns : List Measures) (xs : List Ty) (used : List Bool) (i : ℕ) (x : Ty) (mark : Bool) (m : Made) (place : ℕ) (b : Arguments) → i < length xs → x ≡ get_or xs i x → ns ≡ ms → place ≡ length xs - 1 - i → mark ≡ get_or used place false → ArgumentsSoFar (weights_in p ms) (heights_in p ms) a (Used p ms used (plain_types xs)) (Used p ms used (plain_types (drop i xs))) → IsUsedPart p ns m mark (plain x) → b.measures.items ≡ a.measures.items ++ m.measures ∷ [] → ((ws hs : List ℕ) (t : PlainType) → IsMade ws hs m t → plain_types b.kept.items ≡ and_type (plain_types a.kept.items) (kept_as t place)) → ((ws hs : List ℕ) (t : PlainType) → IsMade ws hs m t → plain_types b.types.items ≡ and_type (plain_types a.types.items) (built_as hs t)) → ArgumentsSoFar (weights_in p ms) (heights_in p ms) b (Used p ms used (plain_types xs)) (Used p ms used (plain_types (drop (i + 1) xs)))
 arguments_step p {a = a} ms ns xs used i x mark m place b h e q d z y k f g j =

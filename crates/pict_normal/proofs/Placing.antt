@@ -13,8 +13,9 @@ use Rattle.pict_types.specs.Plain.{plain, plain_bound, plain_types, plain_labels
 use Rattle.pict_types.specs.Replacing.{Replacement, replacement_past, replacement_beyond, replace_bound, replace_bounds}
 use Rattle.pict_normal.specs.Putting.{IsPlaced, IsUnder, names_in, variables_in, replacement_in, replacement_of}
 use Rattle.pict_types.proofs.Formed.{replaces_beyond, replaces_under, replaced_kind}
-use Rattle.pict_normal.proofs.Past.{all_past}
 use Rattle.pict_types.proofs.Rows.{size_types_item, size_labels_item, size_bounds_item, bounds_drop}
+use Rattle.pict_types.proofs.Past.{all_past}
+use Rattle.pict_types.proofs.Items.{types_formed, labels_formed, bounds_next}
 
 pub placed_part : {p : Puts} {ms : List Measures} {F : List Kind → Type 0} (G : List Kind → Type 0) → ((ks : List Kind) → F ks → G ks) → IsPlaced p ms F → IsPlaced p ms G
 placed_part G go x = record {
@@ -61,36 +62,13 @@ placed_under {p = p} {ms = ms} ks bs G u go x =
       formed = go x.sources x.formed;
     }
 
--- one of a row
-types_formed : (ns : List (List ℕ)) (ks : List Kind) (xs : List Ty) (i : ℕ) (d : Ty) → i < length xs → AreWellFormed ns ks (plain_types xs) → IsWellFormed ns ks (plain (get_or xs i d))
-types_formed ns ks [] i d h w = absurd (omega arith)
-types_formed ns ks (x ∷ xs) zero d h w = w.0
-types_formed ns ks (x ∷ xs) (suc i) d h w = types_formed ns ks xs i d (omega arith) w.1
-
-labels_formed : (ns : List (List ℕ)) (ks : List Kind) (xs : List (Name × Ty)) (i : ℕ) (d : Name × Ty) → i < length xs → LabelsAreWellFormed ns ks (plain_labels xs) → IsWellFormed ns ks (plain (get_or xs i d).1)
-labels_formed ns ks [] i d h w = absurd (omega arith)
-labels_formed ns ks (x ∷ xs) zero d h w = w.1.0
-labels_formed ns ks (x ∷ xs) (suc i) d h w = labels_formed ns ks xs i d (omega arith) w.1.1
-
-pub item_size : (xs : List Ty) (i : ℕ) (x : Ty) → i < length xs → x ≡ get_or xs i x → size (plain x) ≤ size_types (plain_types xs)
-item_size xs i x h e = let s : size (plain x) ≡ size (plain (get_or xs i x)) = ap (λ y. size (plain y)) e in omega (arith, s, size_types_item xs i x h)
-
-pub label_size : (xs : List (Name × Ty)) (i : ℕ) (x : Name × Ty) → i < length xs → x ≡ get_or xs i x → size (plain x.1) ≤ size_labels (plain_labels xs)
-label_size xs i x h e = let s : size (plain x.1) ≡ size (plain (get_or xs i x).1) = ap (λ y. size (plain y.1)) e in omega (arith, s, size_labels_item xs i x h)
-
-pub bound_size : (xs : List Bound) (i : ℕ) (x : Bound) → i < length xs → x ≡ get_or xs i x → size_bound (plain_bound x) ≤ size_bounds (plain_bounds xs)
-bound_size xs i x h e = let s : size_bound (plain_bound x) ≡ size_bound (plain_bound (get_or xs i x)) = ap (λ y. size_bound (plain_bound y)) e in omega (arith, s, size_bounds_item xs i x h)
-
 pub placed_item : {p : Puts} {ms : List Measures} (ns : List Measures) (xs : List Ty) (i : ℕ) (x : Ty) → ns ≡ ms → i < length xs → x ≡ get_or xs i x → IsPlaced p ms (λ ks. AreWellFormed (names_in p) ks (plain_types xs)) → IsPlaced p ns (λ ks. IsWellFormed (names_in p) ks (plain x))
 placed_item {p = p} ns xs i x q h e y =
-    placed_same ns q (placed_part (λ ks. IsWellFormed (names_in p) ks (plain x)) (λ ks w. subst (λ z. IsWellFormed (names_in p) ks (plain z)) (sym e) (types_formed (names_in p) ks xs i x h w)) y)
+    placed_same ns q (placed_part (λ ks. IsWellFormed (names_in p) ks (plain x)) (λ ks w. subst (λ z. IsWellFormed (names_in p) ks (plain z)) (sym e) (types_formed (names_in p) ks xs i x w h)) y)
 
 pub placed_label : {p : Puts} {ms : List Measures} (ns : List Measures) (xs : List (Name × Ty)) (i : ℕ) (x : Name × Ty) → ns ≡ ms → i < length xs → x ≡ get_or xs i x → IsPlaced p ms (λ ks. LabelsAreWellFormed (names_in p) ks (plain_labels xs)) → IsPlaced p ns (λ ks. IsWellFormed (names_in p) ks (plain x.1))
 placed_label {p = p} ns xs i x q h e y =
-    placed_same ns q (placed_part (λ ks. IsWellFormed (names_in p) ks (plain x.1)) (λ ks w. subst (λ z. IsWellFormed (names_in p) ks (plain z.1)) (sym e) (labels_formed (names_in p) ks xs i x h w)) y)
-
-pub bounds_next : (xs : List Bound) (i : ℕ) (x : Bound) → i < length xs → x ≡ get_or xs i x → plain_bounds (drop i xs) ≡ bounds (plain_bound x) (plain_bounds (drop (i + 1) xs))
-bounds_next xs i x h e = bounds_drop xs i x h ∙ ap (λ y. bounds (plain_bound y) (plain_bounds (drop (i + 1) xs))) (sym e)
+    placed_same ns q (placed_part (λ ks. IsWellFormed (names_in p) ks (plain x.1)) (λ ks w. subst (λ z. IsWellFormed (names_in p) ks (plain z.1)) (sym e) (labels_formed (names_in p) ks xs i x w h)) y)
 
 pub placed_bound : {p : Puts} {ms : List Measures} (xs : List Bound) (i : ℕ) (x : Bound) → i < length xs → x ≡ get_or xs i x → IsPlaced p ms (λ ks. BoundsAreWellFormed (names_in p) ks (plain_bounds (drop i xs))) → IsPlaced p ms (λ ks. BoundIsWellFormed (names_in p) ks (plain_bound x))
 placed_bound {p = p} xs i x h e y =

@@ -15,11 +15,12 @@ use Rattle.pict_types.specs.Kinds.{Kind, proper, operator_of, kind_by, kind_at, 
 use Rattle.pict_types.specs.Entries.{PlainWhat, Variable, Definition, PlainContext}
 use Rattle.pict_normal.specs.Meanings.{kind_of_what, entry_kinds}
 use Rattle.pict_normal.specs.Normal.{Meaning, a_type, an_operator, meaning, and_type, and_bound, with_labelled_type, kind_bound, entry_of, normal, normal_bound, under_binders, count_trees, Stop, use_stops, apply_stops, kind_stops, types_stops, labels_stops, binders_stops, binder_stops}
-use Rattle.pict_types.specs.Places.{place, names_in, arity, arity_at}
+use Rattle.pict_binders.specs.Names.{place_of}
+use Rattle.pict_types.specs.Places.{names_in, arity, arity_at}
 use Rattle.pict_normal.specs.Raw.{variable_at, names_under, raw, raw_types, raw_labels, raw_binders, raw_binder, raw_bound}
-use Rattle.pict_normal.specs.Distinct.{IsNewLabel, HasDistinctLabels, TypesHaveDistinctLabels, AreDistinct, BindersHaveDistinctLabels, BinderHasDistinctLabels}
+use Rattle.pict_scope.specs.DistinctLabels.{IsNewLabel, HasDistinctLabels, TypesHaveDistinctLabels, AreDistinct, BindersHaveDistinctLabels, BinderHasDistinctLabels}
 use Rattle.pict_syntax.proofs.LabelLemmas.{label_order, less_is, stands_after}
-use Rattle.pict_types.proofs.Formed.{formed_bound_by, kind_bound_by}
+use Rattle.pict_types.proofs.Formed.{formed_bound_by, kind_bound_by, before_further}
 use Rattle.pict_normal.proofs.BinderPlaces.{kind_meant, kind_there, kind_named, place_below}
 use Rattle.pict_types.proofs.Places.{names_length}
 use Rattle.pict_normal.proofs.RawNormal.{none_first, none_second}
@@ -41,7 +42,7 @@ entry_kind [] i h = absurd (omega arith)
 entry_kind (e ∷ c) zero h = ap Some (kind_of_entry e.what)
 entry_kind (e ∷ c) (suc i) h = entry_kind c i (omega arith)
 
-named_kind : (c : PlainContext) (n i : ℕ) (k : Option ℕ) → place (names_in c) n ≡ Some i → kind_meant (meaning c n) ≡ Some k → kind_at (entry_kinds c) i ≡ Some (kind_of_arity k)
+named_kind : (c : PlainContext) (n i : ℕ) (k : Option ℕ) → place_of (names_in c) n ≡ Some i → kind_meant (meaning c n) ≡ Some k → kind_at (entry_kinds c) i ≡ Some (kind_of_arity k)
 named_kind c n i k h m =
     let s : Some (arity_at c i) ≡ Some k = sym (ap (kind_there c) h) ∙ sym (kind_named c n) ∙ m in
     let e : arity_at c i ≡ k = cc in
@@ -65,14 +66,14 @@ head_kind s (Some (an_operator n x)) m k h e = let f : Some n ≡ k = cc in sym 
     go true d r = eqb-true n m d
     go false d r = absurd (cc)
 
-found : (c : PlainContext) (n i : ℕ) → place (names_in c) n ≡ Some i → kind_meant (meaning c n) ≡ Some (arity_at c i)
+found : (c : PlainContext) (n i : ℕ) → place_of (names_in c) n ≡ Some i → kind_meant (meaning c n) ≡ Some (arity_at c i)
 found c n i h = kind_named c n ∙ ap (kind_there c) h
 
-variable_formed : (ns : List (List ℕ)) (c : PlainContext) (s : Span) (n : ℕ) (o : Option ℕ) → place (names_in c) n ≡ o → use_stops s (meaning c n) ≡ [] → IsWellFormed ns (entry_kinds c) (variable_at o)
+variable_formed : (ns : List (List ℕ)) (c : PlainContext) (s : Span) (n : ℕ) (o : Option ℕ) → place_of (names_in c) n ≡ o → use_stops s (meaning c n) ≡ [] → IsWellFormed ns (entry_kinds c) (variable_at o)
 variable_formed ns c s n None h k = tt
 variable_formed ns c s n (Some i) h k = named_kind c n i None h (found c n i h ∙ ap Some (type_kind s (meaning c n) (arity_at c i) k (found c n i h)))
 
-applied_formed : (ns : List (List ℕ)) (c : PlainContext) (s : Span) (n m : ℕ) (us : PlainTypes) (o : Option ℕ) → place (names_in c) n ≡ o → apply_stops s (meaning c n) m ≡ [] → count_types us ≡ m → AreWellFormed ns (entry_kinds c) us → IsWellFormed ns (entry_kinds c) (apply_variable o us)
+applied_formed : (ns : List (List ℕ)) (c : PlainContext) (s : Span) (n m : ℕ) (us : PlainTypes) (o : Option ℕ) → place_of (names_in c) n ≡ o → apply_stops s (meaning c n) m ≡ [] → count_types us ≡ m → AreWellFormed ns (entry_kinds c) us → IsWellFormed ns (entry_kinds c) (apply_variable o us)
 applied_formed ns c s n m us None h k e w = tt
 applied_formed ns c s n m us (Some i) h k e w =
     (named_kind c n i (Some m) h (found c n i h ∙ ap Some (head_kind s (meaning c n) m (arity_at c i) k (found c n i h))) ∙ ap (λ x. Some (operator_of x)) (sym e), w)
@@ -86,11 +87,11 @@ count_raw : (ns : List (List ℕ)) (ms : List ℕ) (ts : TypeTrees) → count_ty
 count_raw ns ms no_types = refl
 count_raw ns ms (more_types ts t) = count_and (raw_types ns ms ts) (raw ns ms t) ∙ ap suc (count_raw ns ms ts)
 
-and_type_formed : (ns : List (List ℕ)) (ks : List Kind) (us : PlainTypes) (u : PlainType) → AreWellFormed ns ks us → IsWellFormed ns ks u → AreWellFormed ns ks (and_type us u)
+pub and_type_formed : (ns : List (List ℕ)) (ks : List Kind) (us : PlainTypes) (u : PlainType) → AreWellFormed ns ks us → IsWellFormed ns ks u → AreWellFormed ns ks (and_type us u)
 and_type_formed ns ks no_type u h k = (k, tt)
 and_type_formed ns ks (types t us) u h k = (h.0, and_type_formed ns ks us u h.1 k)
 
-and_bound_formed : (ns : List (List ℕ)) (ks : List Kind) (bs : PlainBounds) (b : PlainBound) → BoundsAreWellFormed ns ks bs → BoundIsWellFormed ns (kinds_under ks bs) b → BoundsAreWellFormed ns ks (and_bound bs b)
+pub and_bound_formed : (ns : List (List ℕ)) (ks : List Kind) (bs : PlainBounds) (b : PlainBound) → BoundsAreWellFormed ns ks bs → BoundIsWellFormed ns (kinds_under ks bs) b → BoundsAreWellFormed ns ks (and_bound bs b)
 and_bound_formed ns ks no_bound b h k = (k, tt)
 and_bound_formed ns ks (bounds d bs) b h k = (h.0, and_bound_formed ns (kind_by d ∷ ks) bs b h.1 k)
 
@@ -123,10 +124,6 @@ before_with ns m l u (labels n t ls) h k = go (is_lt (label_cmp ns l n)) (before
     go true r = (h, k)
     go false r = (k.0, r)
 
-before_all : (ns : List (List ℕ)) (l m : ℕ) (ls : PlainLabels) → StandsBefore ns l m → StandsBeforeAll ns m ls → StandsBeforeAll ns l ls
-before_all ns l m no_label h k = tt
-before_all ns l m (labels n t ls) h k = ((label_order ns).trans l m n h k.0, before_all ns l m ls h k.1)
-
 pub with_labelled_type_formed : (ns : List (List ℕ)) (ks : List Kind) (l : ℕ) (u : PlainType) (ls : PlainLabels) → IsNew l ls → IsWellFormed ns ks u → LabelsAreWellFormed ns ks ls → LabelsAreWellFormed ns ks (with_labelled_type ns l u ls)
 with_labelled_type_formed ns ks l u no_label d w h = (tt, (w, tt))
 with_labelled_type_formed ns ks l u (labels m t ls) d w h = go (is_lt (label_cmp ns l m)) refl (with_labelled_type_formed ns ks l u ls d.1 w h.1.1)
@@ -134,7 +131,7 @@ with_labelled_type_formed ns ks l u (labels m t ls) d w h = go (is_lt (label_cmp
     go : (b : Bool) → is_lt (label_cmp ns l m) ≡ b → LabelsAreWellFormed ns ks (with_labelled_type ns l u ls) → LabelsAreWellFormed ns ks (if b then labels l u (labels m t ls) else labels m t (with_labelled_type ns l u ls))
     go true e r =
         let f = less_is (label_cmp ns l m) e in
-        ((f, before_all ns l m ls f h.0), (w, h))
+        ((f, before_further ns l m ls f h.0), (w, h))
     go false e r = (before_with ns m l u ls (stands_after ns l m (label_cmp ns l m) refl e d.0) h.0, (h.1.0, r))
 
 -- under type binders
@@ -165,7 +162,7 @@ mutual
   raw_formed ns c (char_type s) d k = tt
   raw_formed ns c (string_type s) d k = tt
   raw_formed ns c (bool_type s) d k = tt
-  raw_formed ns c (use_type s n) d k = variable_formed ns c s n.0 (place (names_in c) n.0) refl k
+  raw_formed ns c (use_type s n) d k = variable_formed ns c s n.0 (place_of (names_in c) n.0) refl k
   raw_formed ns c (both_type s t) d k = raw_formed ns c t d k
   raw_formed ns c (read_type s t) d k = raw_formed ns c t d k
   raw_formed ns c (write_type s t) d k = raw_formed ns c t d k
@@ -182,7 +179,7 @@ mutual
         ),
       )
   raw_formed ns c (apply_type s id ts) d k =
-      applied_formed ns c s id.name.0 (count_trees ts) (raw_types ns (names_in c) ts) (place (names_in c) id.name.0) refl
+      applied_formed ns c s id.name.0 (count_trees ts) (raw_types ns (names_in c) ts) (place_of (names_in c) id.name.0) refl
       (none_first (apply_stops s (meaning c id.name.0) (count_trees ts)) (types_stops ns c ts) k) (count_raw ns (names_in c) ts)
       (raw_types_formed ns c ts d (none_second (apply_stops s (meaning c id.name.0) (count_trees ts)) (types_stops ns c ts) k))
   raw_formed ns c (rec_type s id t) d k = raw_formed ns (entry_of id Free ∷ c) t d k

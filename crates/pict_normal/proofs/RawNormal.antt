@@ -12,11 +12,11 @@ use Rattle.pict_syntax.specs.Labels.{label_cmp}
 use Rattle.pict_types.specs.Entries.{PlainWhat, Variable, Definition, PlainEntry, PlainContext}
 use Rattle.pict_normal.specs.Normal.{Meaning, a_type, an_operator, of_bound, of_entry, behind_entry, meaning, meant_type, meant_head, and_type, and_bound, with_labelled_type, kind_bound, entry_of, normal, normal_types, normal_labels, normal_binders, normal_binder, normal_bound, under_binders, count_trees, Stop, use_stops, apply_stops, kind_stops, types_stops, labels_stops, binders_stops, binder_stops}
 use Rattle.pict_normal.specs.Meanings.{meanings, with_what}
-use Rattle.pict_types.specs.Places.{place, names_in}
+use Rattle.pict_binders.specs.Names.{place_of}
+use Rattle.pict_types.specs.Places.{names_in}
 use Rattle.pict_normal.specs.Raw.{variable_at, names_under, raw, raw_types, raw_labels, raw_binders, raw_binder, raw_bound}
-
-three : {A B C D : Type 0} (k : A → B → C → D) {a a' : A} {b b' : B} {c c' : C} → a ≡ a' → b ≡ b' → c ≡ c' → k a b c ≡ k a' b' c'
-three k p q r = cc
+use Rattle.pict_types.proofs.Congruent.{three}
+use Rattle.pict_types.proofs.Composed.{replace_made}
 
 -- a name may stand alone, or with arguments
 abbrev pub IsType : Option Meaning → Type 0
@@ -40,8 +40,8 @@ head_put s (Some i) = s.head_of i
 
 -- the replacement puts for the place of each name what the name means in the context
 pub record Means (c : PlainContext) (ms : List ℕ) (s : Replacement) : Type 0 where
-  pub types_ : (n : ℕ) → IsType (meaning c n) → type_put s (place ms n) ≡ meant_type (meaning c n)
-  pub heads_ : (n : ℕ) → MayBeApplied (meaning c n) → head_put s (place ms n) ≡ meant_head (meaning c n)
+  pub types_ : (n : ℕ) → IsType (meaning c n) → type_put s (place_of ms n) ≡ meant_type (meaning c n)
+  pub heads_ : (n : ℕ) → MayBeApplied (meaning c n) → head_put s (place_of ms n) ≡ meant_head (meaning c n)
 
 type_before : (b : PlainBound) (o : Option Meaning) → IsType (behind_entry (Variable b) o) → IsType o
 type_before b None h = tt
@@ -85,13 +85,13 @@ head_put_further s (Some i) = refl
 pub means_variable : {c : PlainContext} {ms : List ℕ} {s : Replacement} (n : ℕ) (b : PlainBound) → Means c ms s → Means (record { name = n; what = Variable b } ∷ c) (n ∷ ms) (replacement_beyond s)
 means_variable {c = c} {ms = ms} {s = s} n b h = record { types_ = λ m. go m (nat_eq n m); heads_ = λ m. go2 m (nat_eq n m) }
   where
-    go : (m : ℕ) (x : Bool) → IsType (if x then Some (of_bound b) else behind_entry (Variable b) (meaning c m)) → type_put (replacement_beyond s) (if x then Some 0 else next_variable (place ms m)) ≡ meant_type (if x then Some (of_bound b) else behind_entry (Variable b) (meaning c m))
+    go : (m : ℕ) (x : Bool) → IsType (if x then Some (of_bound b) else behind_entry (Variable b) (meaning c m)) → type_put (replacement_beyond s) (if x then Some 0 else next_variable (place_of ms m)) ≡ meant_type (if x then Some (of_bound b) else behind_entry (Variable b) (meaning c m))
     go m true k = type_first b k
-    go m false k = type_put_further s (place ms m) ∙ ap (rename suc) (h.types_ m (type_before b (meaning c m) k)) ∙ type_further b (meaning c m)
+    go m false k = type_put_further s (place_of ms m) ∙ ap (rename suc) (h.types_ m (type_before b (meaning c m) k)) ∙ type_further b (meaning c m)
 
-    go2 : (m : ℕ) (x : Bool) → MayBeApplied (if x then Some (of_bound b) else behind_entry (Variable b) (meaning c m)) → head_put (replacement_beyond s) (if x then Some 0 else next_variable (place ms m)) ≡ meant_head (if x then Some (of_bound b) else behind_entry (Variable b) (meaning c m))
+    go2 : (m : ℕ) (x : Bool) → MayBeApplied (if x then Some (of_bound b) else behind_entry (Variable b) (meaning c m)) → head_put (replacement_beyond s) (if x then Some 0 else next_variable (place_of ms m)) ≡ meant_head (if x then Some (of_bound b) else behind_entry (Variable b) (meaning c m))
     go2 m true k = head_first s b k
-    go2 m false k = head_put_further s (place ms m) ∙ ap (rename_head suc) (h.heads_ m (applied_before b (meaning c m) k)) ∙ head_further b (meaning c m)
+    go2 m false k = head_put_further s (place_of ms m) ∙ ap (rename_head suc) (h.heads_ m (applied_before b (meaning c m) k)) ∙ head_further b (meaning c m)
 
 -- one more definition in front
 definition_same : (a : PlainArg) (o : Option Meaning) → behind_entry (Definition a) o ≡ o
@@ -117,13 +117,13 @@ head_put_definition a s (Some i) = refl
 means_definition : {c : PlainContext} {ms : List ℕ} {s : Replacement} (n : ℕ) (a : PlainArg) → Means c ms s → Means (record { name = n; what = Definition a } ∷ c) (n ∷ ms) (with_what (Definition a) s)
 means_definition {c = c} {ms = ms} {s = s} n a h = record { types_ = λ m. go m (nat_eq n m); heads_ = λ m. go2 m (nat_eq n m) }
   where
-    go : (m : ℕ) (x : Bool) → IsType (if x then Some (of_entry (Definition a)) else behind_entry (Definition a) (meaning c m)) → type_put (with_what (Definition a) s) (if x then Some 0 else next_variable (place ms m)) ≡ meant_type (if x then Some (of_entry (Definition a)) else behind_entry (Definition a) (meaning c m))
+    go : (m : ℕ) (x : Bool) → IsType (if x then Some (of_entry (Definition a)) else behind_entry (Definition a) (meaning c m)) → type_put (with_what (Definition a) s) (if x then Some 0 else next_variable (place_of ms m)) ≡ meant_type (if x then Some (of_entry (Definition a)) else behind_entry (Definition a) (meaning c m))
     go m true k = type_defined a s
-    go m false k = type_put_definition a s (place ms m) ∙ h.types_ m (subst IsType (definition_same a (meaning c m)) k) ∙ ap meant_type (sym (definition_same a (meaning c m)))
+    go m false k = type_put_definition a s (place_of ms m) ∙ h.types_ m (subst IsType (definition_same a (meaning c m)) k) ∙ ap meant_type (sym (definition_same a (meaning c m)))
 
-    go2 : (m : ℕ) (x : Bool) → MayBeApplied (if x then Some (of_entry (Definition a)) else behind_entry (Definition a) (meaning c m)) → head_put (with_what (Definition a) s) (if x then Some 0 else next_variable (place ms m)) ≡ meant_head (if x then Some (of_entry (Definition a)) else behind_entry (Definition a) (meaning c m))
+    go2 : (m : ℕ) (x : Bool) → MayBeApplied (if x then Some (of_entry (Definition a)) else behind_entry (Definition a) (meaning c m)) → head_put (with_what (Definition a) s) (if x then Some 0 else next_variable (place_of ms m)) ≡ meant_head (if x then Some (of_entry (Definition a)) else behind_entry (Definition a) (meaning c m))
     go2 m true k = head_defined a s
-    go2 m false k = head_put_definition a s (place ms m) ∙ h.heads_ m (subst MayBeApplied (definition_same a (meaning c m)) k) ∙ ap meant_head (sym (definition_same a (meaning c m)))
+    go2 m false k = head_put_definition a s (place_of ms m) ∙ h.heads_ m (subst MayBeApplied (definition_same a (meaning c m)) k) ∙ ap meant_head (sym (definition_same a (meaning c m)))
 
 pub means_entry : (e : PlainEntry) {c : PlainContext} {ms : List ℕ} {s : Replacement} → Means c ms s → Means (e ∷ c) (e.name ∷ ms) (with_what e.what s)
 means_entry e {c = c} {ms = ms} {s = s} h = go e.what
@@ -166,18 +166,6 @@ with_label_replaced ns s l u (labels m t ls) = go (is_lt (label_cmp ns l m)) (wi
     go true h = refl
     go false h = ap (labels m (replace s t)) h
 
-bound_by_replaced : (s : Replacement) (t : PlainType) → replace_bound s (bound_by t) ≡ bound_by (replace s t)
-bound_by_replaced s Top = refl
-bound_by_replaced s Int = refl
-bound_by_replaced s Char = refl
-bound_by_replaced s Str = refl
-bound_by_replaced s Boolean = refl
-bound_by_replaced s (Var i) = refl
-bound_by_replaced s (Apply i ts) = refl
-bound_by_replaced s (Chan m t) = refl
-bound_by_replaced s (Fields bs ps ls) = refl
-bound_by_replaced s (Rec t) = refl
-
 -- no stop in two lists is none in each
 pub none_first : (xs ys : List Stop) → xs ++ ys ≡ [] → xs ≡ []
 none_first [] ys h = refl
@@ -212,7 +200,7 @@ mutual
   raw_replaced ns h (char_type sp) k = refl
   raw_replaced ns h (string_type sp) k = refl
   raw_replaced ns h (bool_type sp) k = refl
-  raw_replaced ns {c = c} {ms = ms} {s = s} h (use_type sp n) k = variable_replaced s (place ms n.0) ∙ h.types_ n.0 (type_allowed sp (meaning c n.0) k)
+  raw_replaced ns {c = c} {ms = ms} {s = s} h (use_type sp n) k = variable_replaced s (place_of ms n.0) ∙ h.types_ n.0 (type_allowed sp (meaning c n.0) k)
   raw_replaced ns h (both_type sp t) k = ap (Chan Both) (raw_replaced ns h t k)
   raw_replaced ns h (read_type sp t) k = ap (Chan Read) (raw_replaced ns h t k)
   raw_replaced ns h (write_type sp t) k = ap (Chan Write) (raw_replaced ns h t k)
@@ -225,7 +213,7 @@ mutual
       (raw_types_replaced ns (means_under ns bs h) ts (none_second (binders_stops ns c bs) (types_stops ns d ts) first))
       (raw_labels_replaced ns (means_under ns bs h) ls (none_second (binders_stops ns c bs ++ types_stops ns d ts) (labels_stops ns d ls) k))
   raw_replaced ns {c = c} {ms = ms} {s = s} h (apply_type sp id ts) k =
-      applied_replaced s (place ms id.name.0) (raw_types ns ms ts)
+      applied_replaced s (place_of ms id.name.0) (raw_types ns ms ts)
       ∙ ap₂ apply_head
       (h.heads_ id.name.0 (head_allowed sp (meaning c id.name.0) (count_trees ts) (none_first (apply_stops sp (meaning c id.name.0) (count_trees ts)) (types_stops ns c ts) k)))
       (raw_types_replaced ns h ts (none_second (apply_stops sp (meaning c id.name.0) (count_trees ts)) (types_stops ns c ts) k))
@@ -255,9 +243,9 @@ mutual
   raw_binder_replaced ns h (type_binder sp id (Some Plain_) unbounded) k = refl
   raw_binder_replaced ns h (type_binder sp id (Some (Operator_ n)) unbounded) k = refl
   raw_binder_replaced ns {ms = ms} {s = s} h (type_binder sp id None (bound t)) k =
-      bound_by_replaced s (raw ns ms t) ∙ ap bound_by (raw_replaced ns h t k)
+      replace_made s (raw ns ms t) ∙ ap bound_by (raw_replaced ns h t k)
   raw_binder_replaced ns {ms = ms} {s = s} h (type_binder sp id (Some Plain_) (bound t)) k =
-      bound_by_replaced s (raw ns ms t) ∙ ap bound_by (raw_replaced ns h t k)
+      replace_made s (raw ns ms t) ∙ ap bound_by (raw_replaced ns h t k)
   raw_binder_replaced ns h (type_binder sp id (Some (Operator_ n)) (bound t)) k = refl
 
 -- the normal form is what the entries of the context mean, put for the names

@@ -23,9 +23,7 @@ use Rattle.pict_normal.specs.Refusals.{IsFirst}
 use Rattle.pict_normal.proofs.Trees.{types_step, binders_step, labelled_step, types_and, bounds_and, none_both, types_first, labels_first, binders_first, first_before, first_after}
 use Rattle.pict_normal.proofs.LabelOrder.{and_label, unsorted, labels_and}
 use Rattle.pict_normal.proofs.SameMeanings.{entries_same, names_entries, binder_stops_same, types_stops_same, labels_stops_same}
-
-three : {A B C D : Type 0} (k : A → B → C → D) {a a' : A} {b b' : B} {c c' : C} → a ≡ a' → b ≡ b' → c ≡ c' → k a b c ≡ k a' b' c'
-three k p q r = cc
+use Rattle.pict_types.proofs.Congruent.{three}
 
 pub passed_up : {T E : Type 0} (r : Result T E) (e : E) (P : E → Type 0) → IsErrAnd r (λ y. y ≡ e) → P e → IfErr r P
 passed_up (Ok x) e P is p = tt

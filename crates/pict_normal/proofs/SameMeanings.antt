@@ -11,9 +11,7 @@ use Rattle.pict_normal.specs.BinderEntries.{entries_under}
 use Rattle.pict_types.specs.Places.{names_in}
 use Rattle.pict_normal.specs.Raw.{names_under}
 use Rattle.pict_normal.specs.Normal.{Meaning, of_bound, behind_entry, meaning, meant_type, meant_head, and_type, and_bound, with_labelled_type, kind_bound, normal, normal_types, normal_labels, normal_binders, normal_binder, normal_bound, under_binders, count_trees, use_stops, apply_stops, bound_stops, kind_stops, types_stops, labels_stops, binders_stops, binder_stops}
-
-three : {A B C D : Type 0} (k : A → B → C → D) {a a' : A} {b b' : B} {c c' : C} → a ≡ a' → b ≡ b' → c ≡ c' → k a b c ≡ k a' b' c'
-three k p q r = cc
+use Rattle.pict_types.proofs.Congruent.{three}
 
 pub record SameMeanings (c d : PlainContext) : Type 0 where
   pub each : (n : ℕ) → meaning c n ≡ meaning d n

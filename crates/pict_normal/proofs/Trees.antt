@@ -1,15 +1,14 @@
 -- Lists of written types, of type binders and of labelled fields, item by item, with their refusals.
 use Rattle.std.proofs.Common.{◌≡◌, ℕ, zero, suc, ◌+◌, ◌≤◌, ◌<◌, List, [], ◌∷◌, ◌++◌, length, get_or, take, drop, refl, sym, ◌∙◌, ap, ap₂, subst, arith, add-one, Global}
 use Rattle.std.specs.Prelude.{Vec}
-use Rattle.std.proofs.lemmas.List.{take_all}
+use Rattle.std.proofs.lemmas.List.{take_all, take_more, take-append-drop}
 use Rattle.pict_syntax.specs.declared.span.Span.{Span}
 use Rattle.pict_syntax.specs.declared.id.Id.{Id}
-use Rattle.pict_syntax.specs.declared.type_tree.TypeTree.TheBlock.{hidden-the_row-TypeBinder-0, hidden-the_row-TypeTree-1, hidden-the_row-LabelledType-2}
-use Rattle.pict_syntax.specs.declared.type_tree.TypeTree.{TypeTree as RTypeTree, Fields as TypeFields, Apply as TypeApply, Row_of-TypeTree, end_of-TypeTree, more_of-TypeTree, Row_of-TypeBinder, end_of-TypeBinder, more_of-TypeBinder, Row_of-LabelledType, end_of-LabelledType, more_of-LabelledType, items-the_row-TypeTree, items-the_row-TypeBinder, items-the_row-LabelledType, items_hidden-the_row-TypeBinder-0, items_hidden-the_row-TypeTree-1, items_hidden-the_row-LabelledType-2}
-use Rattle.pict_syntax.specs.declared.type_tree.TypeBinder.{TypeBinder as RTypeBinder, None', Some'}
+use Rattle.pict_syntax.specs.declared.type_tree.TypeTree.{TypeTree as RTypeTree, Fields as TypeFields, Apply as TypeApply}
+use Rattle.pict_syntax.specs.declared.type_tree.TypeBinder.{TypeBinder as RTypeBinder}
 use Rattle.pict_syntax.specs.declared.type_tree.LabelledType.{LabelledType as RLabelledType}
 use Rattle.pict_syntax.specs.Trees.{fields_type, apply_type, TypeTrees, no_types, more_types, TypeBinders, type_binder, no_binders, more_binders, LabelledTypes, no_labelled_types, more_labelled_types}
-use Rattle.pict_syntax.specs.PlainTrees.{type_of, bound_of, binder_of, types_row, binders_row, labelled_types_row, types_on, binders_on, labelled_types_on}
+use Rattle.pict_syntax.specs.PlainTrees.{type_of, binder_of, types_on, binders_on, labelled_types_on}
 use Rattle.pict_normal.specs.declared.stops.KindError.{KindError}
 use Rattle.pict_normal.specs.declared.stops.KindError.TheVariants.{Named, Memory}
 use Rattle.pict_types.specs.declared.types.Ty.{Ty}
@@ -20,59 +19,8 @@ use Rattle.pict_types.specs.Entries.{PlainContext}
 use Rattle.pict_normal.specs.Normal.{Stop, and_type, and_bound, count_trees, kind_stops, types_stops, labels_stops, binders_stops, binder_stops, under_binders}
 use Rattle.pict_normal.specs.Sizes.{nodes, nodes_of_types, nodes_of_labels, nodes_of_binders, nodes_of_binder}
 use Rattle.pict_normal.specs.Refusals.{IsFirst}
-
-three : {A B C D : Type 0} (k : A → B → C → D) {a a' : A} {b b' : B} {c c' : C} → a ≡ a' → b ≡ b' → c ≡ c' → k a b c ≡ k a' b' c'
-three k p q r = cc
-
--- the rows that stand in trees
-types_row_on : {n : _} (ts : TypeTrees) (k : Row_of-TypeTree n) → types_row ts k ≡ types_on ts (items-the_row-TypeTree n k)
-unfolding types_on type_of
-types_row_on ts end_of-TypeTree = refl
-types_row_on ts (more_of-TypeTree t k) = types_row_on (more_types ts (type_of t)) k
-
-binders_row_on : {n : _} (bs : TypeBinders) (k : Row_of-TypeBinder n) → binders_row bs k ≡ binders_on bs (items-the_row-TypeBinder n k)
-unfolding binders_on type_of
-binders_row_on bs end_of-TypeBinder = refl
-binders_row_on bs (more_of-TypeBinder s i c None' k) = binders_row_on (more_binders bs (type_binder s i c (bound_of None'))) k
-binders_row_on bs (more_of-TypeBinder s i c (Some' p t) k) = binders_row_on (more_binders bs (type_binder s i c (bound_of (Some' p t)))) k
-
-labelled_row_on : {n : _} (ls : LabelledTypes) (k : Row_of-LabelledType n) → labelled_types_row ls k ≡ labelled_types_on ls (items-the_row-LabelledType n k)
-unfolding labelled_types_on type_of
-labelled_row_on ls end_of-LabelledType = refl
-labelled_row_on ls (more_of-LabelledType i t k) = labelled_row_on (more_labelled_types ls i (type_of t)) k
-
-types_held : (ts : Vec RTypeTree Global) → types_row no_types (hidden-the_row-TypeTree-1 ts) ≡ types_on no_types ts.items
-types_held ts = types_row_on no_types (hidden-the_row-TypeTree-1 ts) ∙ ap (types_on no_types) (items_hidden-the_row-TypeTree-1 ts)
-
-binders_held : (bs : Vec RTypeBinder Global) → binders_row no_binders (hidden-the_row-TypeBinder-0 bs) ≡ binders_on no_binders bs.items
-binders_held bs = binders_row_on no_binders (hidden-the_row-TypeBinder-0 bs) ∙ ap (binders_on no_binders) (items_hidden-the_row-TypeBinder-0 bs)
-
-labelled_held : (ls : Vec RLabelledType Global) → labelled_types_row no_labelled_types (hidden-the_row-LabelledType-2 ls) ≡ labelled_types_on no_labelled_types ls.items
-labelled_held ls = labelled_row_on no_labelled_types (hidden-the_row-LabelledType-2 ls) ∙ ap (labelled_types_on no_labelled_types) (items_hidden-the_row-LabelledType-2 ls)
-
-pub fields_type_is : (s : Span) (bs : Vec RTypeBinder Global) (ts : Vec RTypeTree Global) (ls : Vec RLabelledType Global) → type_of (TypeFields s bs ts ls) ≡ fields_type s (binders_on no_binders bs.items) (types_on no_types ts.items) (labelled_types_on no_labelled_types ls.items)
-unfolding type_of
-fields_type_is s bs ts ls =
-    ap (λ x. fields_type s x (types_row no_types (hidden-the_row-TypeTree-1 ts)) (labelled_types_row no_labelled_types (hidden-the_row-LabelledType-2 ls))) (binders_held bs)
-    ∙ ap (λ x. fields_type s (binders_on no_binders bs.items) x (labelled_types_row no_labelled_types (hidden-the_row-LabelledType-2 ls))) (types_held ts)
-    ∙ ap (λ x. fields_type s (binders_on no_binders bs.items) (types_on no_types ts.items) x) (labelled_held ls)
-
-pub apply_type_is : (s : Span) (i : Id) (ts : Vec RTypeTree Global) → type_of (TypeApply s i ts) ≡ apply_type s i (types_on no_types ts.items)
-unfolding type_of
-apply_type_is s i ts = ap (λ x. apply_type s i x) (types_held ts)
-
--- an empty list
-pub types_none : types_on no_types [] ≡ no_types
-unfolding types_on
-types_none = refl
-
-pub binders_none : binders_on no_binders [] ≡ no_binders
-unfolding binders_on
-binders_none = refl
-
-pub labelled_none : labelled_types_on no_labelled_types [] ≡ no_labelled_types
-unfolding labelled_types_on
-labelled_none = refl
+use Rattle.pict_types.proofs.Congruent.{three}
+use Rattle.pict_syntax.proofs.TypeLists.{types_more, binders_more, labelled_types_more, fields_type_is, apply_type_is, types_none}
 
 -- one list behind another
 types_append : (ts : TypeTrees) (xs ys : List RTypeTree) → types_on ts (xs ++ ys) ≡ types_on (types_on ts xs) ys
@@ -90,40 +38,14 @@ unfolding labelled_types_on
 labelled_append ls [] ys = refl
 labelled_append ls (x ∷ xs) ys = labelled_append (more_labelled_types ls x.label (type_of x.of)) xs ys
 
--- a list up to one more item
-take_one_more : {A : Type 0} (xs : List A) (i : ℕ) (d : A) → i < length xs → take (i + 1) xs ≡ take i xs ++ get_or xs i d ∷ []
-take_one_more xs i d h = ap (λ n. take n xs) (add-one i) ∙ go xs i h
-  where
-    go : (xs : List _) (i : ℕ) → i < length xs → take (suc i) xs ≡ take i xs ++ get_or xs i d ∷ []
-    go [] i h = absurd (omega arith)
-    go (x ∷ xs) zero h = refl
-    go (x ∷ xs) (suc i) h = ap (λ l. x ∷ l) (go xs i (omega arith))
-
-split_at : {A : Type 0} (xs : List A) (i : ℕ) → xs ≡ take i xs ++ drop i xs
-split_at xs zero = refl
-split_at [] (suc i) = refl
-split_at (x ∷ xs) (suc i) = ap (λ l. x ∷ l) (split_at xs i)
-
-types_one : (ts : TypeTrees) (x : RTypeTree) → types_on ts (x ∷ []) ≡ more_types ts (type_of x)
-unfolding types_on
-types_one ts x = refl
-
-binders_one : (bs : TypeBinders) (x : RTypeBinder) → binders_on bs (x ∷ []) ≡ more_binders bs (binder_of x)
-unfolding binders_on
-binders_one bs x = refl
-
-labelled_one : (ls : LabelledTypes) (x : RLabelledType) → labelled_types_on ls (x ∷ []) ≡ more_labelled_types ls x.label (type_of x.of)
-unfolding labelled_types_on
-labelled_one ls x = refl
-
 pub types_step : (xs : List RTypeTree) (i : ℕ) (d : RTypeTree) → i < length xs → types_on no_types (take (i + 1) xs) ≡ more_types (types_on no_types (take i xs)) (type_of (get_or xs i d))
-types_step xs i d h = ap (types_on no_types) (take_one_more xs i d h) ∙ types_append no_types (take i xs) (get_or xs i d ∷ []) ∙ types_one (types_on no_types (take i xs)) (get_or xs i d)
+types_step xs i d h = ap (types_on no_types) (take_more xs i d h) ∙ types_more no_types (take i xs) (get_or xs i d)
 
 pub binders_step : (xs : List RTypeBinder) (i : ℕ) (d : RTypeBinder) → i < length xs → binders_on no_binders (take (i + 1) xs) ≡ more_binders (binders_on no_binders (take i xs)) (binder_of (get_or xs i d))
-binders_step xs i d h = ap (binders_on no_binders) (take_one_more xs i d h) ∙ binders_append no_binders (take i xs) (get_or xs i d ∷ []) ∙ binders_one (binders_on no_binders (take i xs)) (get_or xs i d)
+binders_step xs i d h = ap (binders_on no_binders) (take_more xs i d h) ∙ binders_more no_binders (take i xs) (get_or xs i d)
 
 pub labelled_step : (xs : List RLabelledType) (i : ℕ) (d : RLabelledType) → i < length xs → labelled_types_on no_labelled_types (take (i + 1) xs) ≡ more_labelled_types (labelled_types_on no_labelled_types (take i xs)) (get_or xs i d).label (type_of (get_or xs i d).of)
-labelled_step xs i d h = ap (labelled_types_on no_labelled_types) (take_one_more xs i d h) ∙ labelled_append no_labelled_types (take i xs) (get_or xs i d ∷ []) ∙ labelled_one (labelled_types_on no_labelled_types (take i xs)) (get_or xs i d)
+labelled_step xs i d h = ap (labelled_types_on no_labelled_types) (take_more xs i d h) ∙ labelled_types_more no_labelled_types (take i xs) (get_or xs i d)
 
 pub types_end : (xs : List RTypeTree) (i : ℕ) → length xs ≤ i → types_on no_types (take i xs) ≡ types_on no_types xs
 types_end xs i h = let e : take i xs ≡ xs = take_all i xs h in ap (types_on no_types) e
@@ -148,7 +70,7 @@ types_grow ts (x ∷ xs) = omega (arith, types_grow (more_types ts (type_of x)) 
 
 pub nodes_of_type_item : (xs : List RTypeTree) (i : ℕ) (d : RTypeTree) → i < length xs → nodes (type_of (get_or xs i d)) ≤ nodes_of_types (types_on no_types xs)
 nodes_of_type_item xs i d h =
-    let e : types_on no_types xs ≡ types_on (more_types (types_on no_types (take i xs)) (type_of (get_or xs i d))) (drop (i + 1) xs) = ap (types_on no_types) (split_at xs (i + 1)) ∙ types_append no_types (take (i + 1) xs) (drop (i + 1) xs) ∙ ap (λ x. types_on x (drop (i + 1) xs)) (types_step xs i d h) in
+    let e : types_on no_types xs ≡ types_on (more_types (types_on no_types (take i xs)) (type_of (get_or xs i d))) (drop (i + 1) xs) = ap (types_on no_types) (sym (take-append-drop (i + 1) xs)) ∙ types_append no_types (take (i + 1) xs) (drop (i + 1) xs) ∙ ap (λ x. types_on x (drop (i + 1) xs)) (types_step xs i d h) in
     omega (arith, ap nodes_of_types e, types_grow (more_types (types_on no_types (take i xs)) (type_of (get_or xs i d))) (drop (i + 1) xs))
 
 labelled_grow : (ls : LabelledTypes) (xs : List RLabelledType) → nodes_of_labels ls ≤ nodes_of_labels (labelled_types_on ls xs)
@@ -160,7 +82,7 @@ pub nodes_of_label_item : (xs : List RLabelledType) (i : ℕ) (d : RLabelledType
 nodes_of_label_item xs i d h =
     let x = get_or xs i d in
     let l = more_labelled_types (labelled_types_on no_labelled_types (take i xs)) x.label (type_of x.of) in
-    let e : labelled_types_on no_labelled_types xs ≡ labelled_types_on l (drop (i + 1) xs) = ap (labelled_types_on no_labelled_types) (split_at xs (i + 1)) ∙ labelled_append no_labelled_types (take (i + 1) xs) (drop (i + 1) xs) ∙ ap (λ x. labelled_types_on x (drop (i + 1) xs)) (labelled_step xs i d h) in
+    let e : labelled_types_on no_labelled_types xs ≡ labelled_types_on l (drop (i + 1) xs) = ap (labelled_types_on no_labelled_types) (sym (take-append-drop (i + 1) xs)) ∙ labelled_append no_labelled_types (take (i + 1) xs) (drop (i + 1) xs) ∙ ap (λ x. labelled_types_on x (drop (i + 1) xs)) (labelled_step xs i d h) in
     omega (arith, ap nodes_of_labels e, labelled_grow l (drop (i + 1) xs))
 
 binders_grow : (bs : TypeBinders) (xs : List RTypeBinder) → nodes_of_binders bs ≤ nodes_of_binders (binders_on bs xs)
@@ -171,7 +93,7 @@ binders_grow bs (x ∷ xs) = omega (arith, binders_grow (more_binders bs (binder
 pub nodes_of_binder_item : (xs : List RTypeBinder) (i : ℕ) (d : RTypeBinder) → i < length xs → nodes_of_binders (binders_on no_binders (take i xs)) + nodes_of_binder (binder_of (get_or xs i d)) ≤ nodes_of_binders (binders_on no_binders xs)
 nodes_of_binder_item xs i d h =
     let b = more_binders (binders_on no_binders (take i xs)) (binder_of (get_or xs i d)) in
-    let e : binders_on no_binders xs ≡ binders_on b (drop (i + 1) xs) = ap (binders_on no_binders) (split_at xs (i + 1)) ∙ binders_append no_binders (take (i + 1) xs) (drop (i + 1) xs) ∙ ap (λ x. binders_on x (drop (i + 1) xs)) (binders_step xs i d h) in
+    let e : binders_on no_binders xs ≡ binders_on b (drop (i + 1) xs) = ap (binders_on no_binders) (sym (take-append-drop (i + 1) xs)) ∙ binders_append no_binders (take (i + 1) xs) (drop (i + 1) xs) ∙ ap (λ x. binders_on x (drop (i + 1) xs)) (binders_step xs i d h) in
     omega (arith, ap nodes_of_binders e, binders_grow b (drop (i + 1) xs))
 
 -- the first refusal of one list is the first of a longer one, and where there is none, that of the rest is
@@ -195,7 +117,7 @@ pub types_first : (ns : List (List ℕ)) (c : PlainContext) (xs : List RTypeTree
 types_first ns c xs i d e h none k =
     let ts = types_on no_types (take i xs) in
     let x = type_of (get_or xs i d) in
-    let is : types_on no_types xs ≡ types_on (more_types ts x) (drop (i + 1) xs) = ap (types_on no_types) (split_at xs (i + 1)) ∙ types_append no_types (take (i + 1) xs) (drop (i + 1) xs) ∙ ap (λ x. types_on x (drop (i + 1) xs)) (types_step xs i d h) in
+    let is : types_on no_types xs ≡ types_on (more_types ts x) (drop (i + 1) xs) = ap (types_on no_types) (sym (take-append-drop (i + 1) xs)) ∙ types_append no_types (take (i + 1) xs) (drop (i + 1) xs) ∙ ap (λ x. types_on x (drop (i + 1) xs)) (types_step xs i d h) in
     subst (λ l. IsFirst (types_stops ns c l) e) (sym is)
     (types_first_kept ns c (more_types ts x) (drop (i + 1) xs) e (first_after (types_stops ns c ts) (kind_stops ns c x) e none k))
 
@@ -209,7 +131,7 @@ labels_first ns c xs i d e h none k =
     let x = get_or xs i d in
     let ls = labelled_types_on no_labelled_types (take i xs) in
     let l = more_labelled_types ls x.label (type_of x.of) in
-    let is : labelled_types_on no_labelled_types xs ≡ labelled_types_on l (drop (i + 1) xs) = ap (labelled_types_on no_labelled_types) (split_at xs (i + 1)) ∙ labelled_append no_labelled_types (take (i + 1) xs) (drop (i + 1) xs) ∙ ap (λ x. labelled_types_on x (drop (i + 1) xs)) (labelled_step xs i d h) in
+    let is : labelled_types_on no_labelled_types xs ≡ labelled_types_on l (drop (i + 1) xs) = ap (labelled_types_on no_labelled_types) (sym (take-append-drop (i + 1) xs)) ∙ labelled_append no_labelled_types (take (i + 1) xs) (drop (i + 1) xs) ∙ ap (λ x. labelled_types_on x (drop (i + 1) xs)) (labelled_step xs i d h) in
     subst (λ l. IsFirst (labels_stops ns c l) e) (sym is)
     (labels_first_kept ns c l (drop (i + 1) xs) e (first_after (labels_stops ns c ls) (kind_stops ns c (type_of x.of)) e none k))
 
@@ -222,7 +144,7 @@ pub binders_first : (ns : List (List ℕ)) (c : PlainContext) (xs : List RTypeBi
 binders_first ns c xs i d e h none k =
     let bs = binders_on no_binders (take i xs) in
     let x = binder_of (get_or xs i d) in
-    let is : binders_on no_binders xs ≡ binders_on (more_binders bs x) (drop (i + 1) xs) = ap (binders_on no_binders) (split_at xs (i + 1)) ∙ binders_append no_binders (take (i + 1) xs) (drop (i + 1) xs) ∙ ap (λ x. binders_on x (drop (i + 1) xs)) (binders_step xs i d h) in
+    let is : binders_on no_binders xs ≡ binders_on (more_binders bs x) (drop (i + 1) xs) = ap (binders_on no_binders) (sym (take-append-drop (i + 1) xs)) ∙ binders_append no_binders (take (i + 1) xs) (drop (i + 1) xs) ∙ ap (λ x. binders_on x (drop (i + 1) xs)) (binders_step xs i d h) in
     subst (λ l. IsFirst (binders_stops ns c l) e) (sym is)
     (binders_first_kept ns c (more_binders bs x) (drop (i + 1) xs) e (first_after (binders_stops ns c bs) (binder_stops ns (under_binders ns c bs) x) e none k))
 
@@ -243,3 +165,6 @@ types_and (y ∷ xs) x = ap (types (plain y)) (types_and xs x)
 pub bounds_and : (xs : List RBound) (x : RBound) → plain_bounds (xs ++ x ∷ []) ≡ and_bound (plain_bounds xs) (plain_bound x)
 bounds_and [] x = refl
 bounds_and (y ∷ xs) x = ap (bounds (plain_bound y)) (bounds_and xs x)
+
+-- what a loop over written types needs
+pub ruleset types_read = (types_step, types_end, types_none, nodes_of_type_item)

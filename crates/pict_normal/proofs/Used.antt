@@ -14,7 +14,8 @@ use Rattle.pict_types.proofs.Renumbered.{weigh_renamed}
 use Rattle.pict_normal.specs.Made.{counted, only_used, used_as, weight_used}
 use Rattle.pict_normal.specs.Uses.{takes_arguments, uses, uses_types, uses_labels, uses_bound, uses_bounds}
 use Rattle.pict_normal.proofs.Applied.{count_used}
-use Rattle.pict_normal.proofs.Within.{bound_weight}
+use Rattle.pict_types.proofs.Congruent.{three}
+use Rattle.pict_types.proofs.Within.{bound_weight}
 
 or_left : (a b : Bool) → a ≡ true → (a || b) ≡ true
 or_left a b e = ap (λ x. x || b) e
@@ -27,7 +28,7 @@ or_cases : (a b : Bool) → (a || b) ≡ true → (a ≡ true) ⊎ (b ≡ true)
 or_cases true b e = inl refl
 or_cases false b e = inr e
 
-and_cases : (a b : Bool) → (a && b) ≡ true → (a ≡ true) × (b ≡ true)
+pub and_cases : (a b : Bool) → (a && b) ≡ true → (a ≡ true) × (b ≡ true)
 and_cases true b e = (refl, e)
 and_cases false b e = absurd (cc)
 
@@ -76,9 +77,6 @@ same_under no_bound {n = n} {d = d} {used = used} {s = s} {r = r} k e h =
     let same : d ≡ k = omega arith in
     subst (λ x. SameUsed n x used s r) same h
 same_under (bounds b bs) k e h = same_under bs k (omega arith) (same_beyond h)
-
-three : {A B C D : Type 0} (k : A → B → C → D) {a a' : A} {b b' : B} {c c' : C} → a ≡ a' → b ≡ b' → c ≡ c' → k a b c ≡ k a' b' c'
-three k p q r = cc
 
 applied_same : {n d : ℕ} {used : ℕ → Bool} {s r : Filling} (j : ℕ) (us vs : PlainTypes) → SameUsed n d used s r → (takes_arguments n d j ≡ true → us ≡ vs) → apply_variable (s.head_for j) us ≡ apply_variable (r.head_for j) vs
 applied_same {n = n} {d = d} {s = s} {r = r} j us vs h f = go (takes_arguments n d j) refl

@@ -6,7 +6,6 @@ pub mod Raw
 pub mod BinderEntries
 pub mod Refusals
 pub mod Around
-pub mod Distinct
 pub mod Made
 pub mod WrittenArguments
 pub mod Uses

@@ -14,6 +14,7 @@ use Rattle.pict_types.specs.Replacing.{bound_by, Head, variable, operator, nothi
 use Rattle.pict_types.specs.Measures.{weight_of, height_of}
 use Rattle.pict_syntax.specs.Labels.{label_cmp}
 use Rattle.pict_types.specs.Entries.{PlainWhat, Variable, Definition, PlainEntry, PlainContext, variables}
+use Rattle.pict_syntax.specs.Grammar.{type_span}
 
 -- what the name of a type means: a type, or an operator of so many parameters
 pub data Meaning : Type 0 where
@@ -125,21 +126,6 @@ abbrev mutual
   normal_bound ns c unbounded = Free
   normal_bound ns c (bound t) = bound_by (normal ns c t)
 
-abbrev pub span_of : TypeTree → Span
-span_of (top_type s) = s
-span_of (int_type s) = s
-span_of (char_type s) = s
-span_of (string_type s) = s
-span_of (bool_type s) = s
-span_of (use_type s n) = s
-span_of (both_type s t) = s
-span_of (read_type s t) = s
-span_of (write_type s t) = s
-span_of (respond_type s t) = s
-span_of (fields_type s bs ts ls) = s
-span_of (apply_type s id ts) = s
-span_of (rec_type s id t) = s
-
 abbrev pub count_trees : TypeTrees → ℕ
 count_trees no_types = 0
 count_trees (more_types ts t) = suc (count_trees ts)
@@ -211,4 +197,4 @@ first_stop [] o = o
 first_stop (x ∷ stops) o = Some x
 
 abbrev pub kind_stop : List (List ℕ) → PlainContext → TypeTree → Option Stop
-kind_stop ns c t = first_stop (kind_stops ns c t) (size_stop c (normal ns c t) (span_of t))
+kind_stop ns c t = first_stop (kind_stops ns c t) (size_stop c (normal ns c t) (type_span t))

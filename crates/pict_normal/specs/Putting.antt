@@ -80,4 +80,5 @@ pub record IsUnder (p : Puts) (outer inner : List Measures) (bs : PlainBounds) :
   pub outer_ : take (length outer) inner ≡ outer
   pub count : length inner ≡ length outer + count_bounds bs
   pub weights_ : weights_in p inner ≡ weights_under (weights_in p outer) (replace_bounds (replacement_in p outer) bs)
-  pub heights_ : (i : ℕ) → held (measure_at (heights_in p inner) i) ≡ held (measure_at (heights_under (heights_in p outer) (replace_bounds (replacement_in p outer) bs)) i)
+  pub heights_ : (i : ℕ)
+      → held (measure_at (heights_in p inner) i) ≡ held (measure_at (heights_under (heights_in p outer) (replace_bounds (replacement_in p outer) bs)) i)

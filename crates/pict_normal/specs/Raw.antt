@@ -3,7 +3,8 @@ use Rattle.std.specs.Prelude.{ℕ, List, ◌∷◌, Option, Some, None}
 use Rattle.pict_syntax.specs.Trees.{TypeTree, top_type, int_type, char_type, string_type, bool_type, use_type, both_type, read_type, write_type, respond_type, fields_type, apply_type, rec_type, TypeBinder, type_binder, Bound, unbounded, bound, TypeTrees, no_types, more_types, TypeBinders, no_binders, more_binders, LabelledTypes, no_labelled_types, more_labelled_types}
 use Rattle.pict_types.specs.Types.{Both, Read, Write, Respond, PlainType, Top, Int, Char, Str, Boolean, Var, Chan, Fields, Rec, PlainTypes, no_type, PlainLabels, no_label, PlainBound, Free, PlainBounds, no_bound, PlainArg}
 use Rattle.pict_types.specs.Replacing.{bound_by, apply_variable}
-use Rattle.pict_types.specs.Places.{place, IsWhatAt}
+use Rattle.pict_binders.specs.Names.{place_of}
+use Rattle.pict_types.specs.Places.{IsWhatAt}
 use Rattle.pict_types.specs.Entries.{Definition, PlainContext}
 use Rattle.pict_normal.specs.Normal.{and_type, and_bound, with_labelled_type, kind_bound}
 
@@ -28,14 +29,14 @@ abbrev mutual
   raw ns ms (char_type s) = Char
   raw ns ms (string_type s) = Str
   raw ns ms (bool_type s) = Boolean
-  raw ns ms (use_type s n) = variable_at (place ms n.0)
+  raw ns ms (use_type s n) = variable_at (place_of ms n.0)
   raw ns ms (both_type s t) = Chan Both (raw ns ms t)
   raw ns ms (read_type s t) = Chan Read (raw ns ms t)
   raw ns ms (write_type s t) = Chan Write (raw ns ms t)
   raw ns ms (respond_type s t) = Chan Respond (raw ns ms t)
   raw ns ms (fields_type s bs ts ls) =
       Fields (raw_binders ns ms bs) (raw_types ns (names_under ms bs) ts) (raw_labels ns (names_under ms bs) ls)
-  raw ns ms (apply_type s id ts) = apply_variable (place ms id.name.0) (raw_types ns ms ts)
+  raw ns ms (apply_type s id ts) = apply_variable (place_of ms id.name.0) (raw_types ns ms ts)
   raw ns ms (rec_type s id t) = Rec (raw ns (id.name.0 ∷ ms) t)
 
   pub raw_types : List (List ℕ) → List ℕ → TypeTrees → PlainTypes

@@ -7,8 +7,8 @@ ghost use Rattle.pict_normal.specs.Normal.{kind_bound};
 ghost use Rattle.pict_types.specs.Places.{arity, names_in};
 ghost use Rattle.pict_types.specs.Types.{Free};
 
+use pict_binders::Nearest;
 use pict_syntax::{KindTree, Name};
-use pict_types::Nearest;
 use std::alloc::{AllocError, Global};
 
 /// A type binder: its name, and its kind where it is written.
@@ -30,7 +30,8 @@ pub struct Binders {
 
 impl Binders {
     ghost use Rattle.pict_normal.specs.Around.{scope_of};
-    ghost use Rattle.pict_types.specs.Places.{arity_at, place};
+    ghost use Rattle.pict_binders.specs.Names.{place_of};
+    ghost use Rattle.pict_types.specs.Places.{arity_at};
 
     /// No binder. Takes no memory.
     pub fn new(alloc: Global) -> Binders
@@ -52,7 +53,7 @@ impl Binders {
     /// The place of the nearest binder of a name, counted from the innermost; nothing where it isn't bound. Takes no
     /// memory.
     pub fn place(&self, name: Name) -> Option<usize>
-        ensures { result ≡ place (names_in (scope_of self.now)) name.0 }
+        ensures { result ≡ place_of (names_in (scope_of self.now)) name.0 }
     {
         self.names.place(name)
     }
@@ -80,7 +81,7 @@ impl Binders {
     pub fn pop(&mut self)
         ensures { scope_of self.new ≡ drop 1 (scope_of self.old) }
     {
-        self.names.unbind();
+        let _ = self.names.unbind();
         let _ = self.binders.pop();
     }
 

@@ -3,12 +3,13 @@
 ghost use Rattle.std.specs.Prelude.{◌≡◌, [], IfErr, IfOk};
 ghost use Rattle.std.specs.Result.{IsOkAnd};
 ghost use Rattle.pict_syntax.specs.PlainTrees.{type_of};
-ghost use Rattle.pict_normal.specs.Distinct.{HasDistinctLabels};
+ghost use Rattle.pict_scope.specs.DistinctLabels.{HasDistinctLabels};
 ghost use Rattle.pict_types.specs.Kinds.{IsWellFormed};
 ghost use Rattle.pict_normal.specs.Made.{IsMade, IsReason};
 ghost use Rattle.pict_normal.specs.Meanings.{entry_kinds, meanings};
 ghost use Rattle.pict_types.specs.Measures.{heights, weight_of, weights};
-ghost use Rattle.pict_normal.specs.Normal.{kind_stops, span_of};
+ghost use Rattle.pict_normal.specs.Normal.{kind_stops};
+ghost use Rattle.pict_syntax.specs.Grammar.{type_span};
 ghost use Rattle.pict_types.specs.Plain.{plain};
 ghost use Rattle.pict_types.specs.PlainContext.{IsWrittenIn, names_of, plain_context, type_context};
 ghost use Rattle.pict_types.specs.Places.{names_in};
@@ -31,7 +32,7 @@ use std::alloc::Global;
 /// The place of a written type.
 #[tactic(auto, unfolding(pict_syntax::specs::PlainTrees::type_of))]
 fn span_of(t: &TypeTree) -> Span
-    ensures { result ≡ span_of (type_of t.now) }
+    ensures { result ≡ type_span (type_of t.now) }
 {
     match t {
         TypeTree::Top(span)

@@ -6,7 +6,7 @@ ghost use Rattle.pict_types.specs.Places.{arity_at};
 ghost use Rattle.pict_types.specs.Plain.{plain, plain_arg, plain_types};
 ghost use Rattle.pict_types.specs.PlainContext.{plain_context, type_context};
 ghost use Rattle.pict_types.specs.Types.{Plain};
-ghost use Rattle.pict_normal.specs.Distinct.{HasDistinctLabels};
+ghost use Rattle.pict_scope.specs.DistinctLabels.{HasDistinctLabels};
 ghost use Rattle.pict_normal.specs.Meanings.{meanings};
 ghost use Rattle.pict_normal.specs.Normal.{an_operator};
 ghost use Rattle.pict_normal.specs.Refusals.{IsRefusal};

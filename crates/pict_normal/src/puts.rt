@@ -30,7 +30,7 @@ pub struct Puts<'a, 'n> {
 }
 
 /// What stands for variable `i`, where the arguments stand for the innermost variables.
-#[tactic(auto, using(crate::proofs::Past::argument_rules))]
+#[tactic(auto, using(pict_types::proofs::Past::argument_rules))]
 fn put_argument(args: &[Arg], i: u32) -> Put<'_>
     ensures type_ { put_type result ≡ (arguments (plain_args args.now)).type_of i }
     ensures head { put_head result ≡ (arguments (plain_args args.now)).head_of i }

@@ -93,7 +93,7 @@ fn raw_recursion(
 }
 
 #[cycle(raw)]
-#[tactic(auto, using(crate::proofs::Trees::types_step, crate::proofs::Trees::types_end, crate::proofs::Trees::types_none, crate::proofs::Trees::nodes_of_type_item))]
+#[tactic(auto, using(crate::proofs::Trees::types_read))]
 fn raw_types(
     alloc: Global,
     ts: &[TypeTree],

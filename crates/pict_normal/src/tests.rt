@@ -5,7 +5,7 @@ ghost use Rattle.pict_syntax.specs.PlainTrees.{type_of};
 ghost use Rattle.pict_types.specs.Plain.{plain_record};
 ghost use Rattle.pict_types.specs.PlainContext.{plain_context};
 ghost use Rattle.pict_types.specs.Types.{Fields, Var, no_bound, no_label, no_type, types};
-ghost use Rattle.pict_normal.specs.Distinct.{HasDistinctLabels};
+ghost use Rattle.pict_scope.specs.DistinctLabels.{HasDistinctLabels};
 
 use crate::{KindError, expand, expand_arg};
 use pict_syntax::{Code, Id, KindTree, LabelledType, Name, Names, Span, TypeBinder, TypeTree};

@@ -10,7 +10,7 @@ use Rattle.pict_types.specs.Types.{Chan as Chan_, Respond, PlainType, PlainTypes
 use Rattle.pict_types.specs.Replacing.{instance_of}
 use Rattle.pict_normal.specs.Normal.{normal, kind_stop, size_stop, count_trees}
 use Rattle.pict_normal.specs.WrittenArguments.{arg_stop, normal_arg}
-use Rattle.pict_normal.specs.Distinct.{TypesHaveDistinctLabels, BindersHaveDistinctLabels}
+use Rattle.pict_scope.specs.DistinctLabels.{TypesHaveDistinctLabels, BindersHaveDistinctLabels, PatHasDistinctLabels, FieldPatsHaveDistinctLabels, PatsHaveDistinctLabels, LabelledPatsAreDistinct, DecHasDistinctLabels, DecsHaveDistinctLabels, DefinitionsHaveDistinctLabels, AbsHasDistinctLabels, ChanHasDistinctLabels, ValHasDistinctLabels, ValsHaveDistinctLabels, FieldValsHaveDistinctLabels, LabelledValsAreDistinct, ProcHasDistinctLabels, ProcsHaveDistinctLabels}
 use Rattle.pict_sub.specs.Exposing.{exposure}
 use Rattle.pict_rules.specs.Found.{Found, mentions_missing, all_found, filled, argument_in}
 use Rattle.pict_rules.specs.Counts.{count_vals}
@@ -20,7 +20,6 @@ use Rattle.pict_rules.specs.Complete.{is_complete}
 use Rattle.pict_rules.specs.Rules.{Sort, nothing_, type_, types_, labels_, arguments_, found_, environment_, extension_, pattern_, patterns_, labelled_patterns_, binders_, fields_, opened_, signatures_, signature_, Judgement, gives, has, is_condition, values_give, labelled_values_give, application, fields_fit, written_arguments, values_fit, labelled_values_fit, value_fits, given_fits, abstraction_gives, abstraction_against, pattern_gives, fields_give, binders_give, patterns_give, labelled_patterns_give, pattern_against, fields_against, binders_against, patterns_against, labelled_patterns_against, declaration, declarations, signatures, signature, bodies, body, process, processes, receives, Signature, Body, process_body, value_body, Rule}
 use Rattle.pict_rules.specs.Clauses.{gives_below, in_order, is_of_kind, with_own, argument_type, answering}
 use Rattle.pict_rules.specs.Typing.{rule}
-use Rattle.pict_rules.specs.DistinctLabels.{PatHasDistinctLabels, FieldPatsHaveDistinctLabels, PatsHaveDistinctLabels, LabelledPatsAreDistinct, DecHasDistinctLabels, DecsHaveDistinctLabels, DefinitionsHaveDistinctLabels, AbsHasDistinctLabels, ChanHasDistinctLabels, ValHasDistinctLabels, ValsHaveDistinctLabels, FieldValsHaveDistinctLabels, LabelledValsAreDistinct, ProcHasDistinctLabels, ProcsHaveDistinctLabels}
 use Rattle.pict_rules.specs.Regular.{BodyHasDistinctLabels, BodiesHaveDistinctLabels, IsLabelledOnce}
 use Rattle.pict_rules.proofs.Results.{Property, Each, IsResult, any_given, result_has, gives_, refuses, needs, chooses, parts, splits, ensures, unless, in_records, in_recursives, in_channels, in_sents, in_boths, in_functions, withouts, expects, within_bound_, within_bounds_, same_bounds, at_labels}
 use Rattle.pict_rules.proofs.Declared.{AllFollow, FollowsAbs, signatures_follow}

@@ -12,7 +12,6 @@ pub mod Opened
 pub mod Declared
 pub mod SameNamesAsked
 pub mod ReachedNames
-pub mod LabelsScoped
 pub mod LabelledOnce
 pub mod Regularity
 pub mod OwnBinders

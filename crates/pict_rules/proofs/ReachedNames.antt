@@ -8,8 +8,9 @@ use Rattle.pict_types.specs.Types.{PlainType}
 use Rattle.pict_scope.specs.declared.target.Target.{Target}
 use Rattle.pict_scope.specs.declared.target.Target.TheVariants.{Prim}
 use Rattle.pict_scope.specs.PrimitiveNames.{primitive_named}
-use Rattle.pict_scope.specs.declared.binders.Binder.{Binder}
-use Rattle.pict_scope.specs.Around.{Around, nearest, or_primitive}
+use Rattle.pict_binders.specs.declared.binders.Binder.{Binder}
+use Rattle.pict_binders.specs.Numbered.{nearest}
+use Rattle.pict_scope.specs.Around.{Around, or_primitive}
 use Rattle.pict_scope.specs.Marks.{Stop, Mark, value_used, type_used, value_bound, stands_twice, or_later, first_stop}
 use Rattle.pict_scope.specs.Outlines.{value_use, marks}
 use Rattle.pict_scope.specs.Scopes.{outermost, program_marks}

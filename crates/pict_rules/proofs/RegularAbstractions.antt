@@ -15,14 +15,13 @@ use Rattle.pict_rules.specs.Regular.{IsRegular, IsTypeIn, kinds_in, AreFieldsIn}
 use Rattle.pict_rules.proofs.Results.{Property, ResultProperty, Each, gives_, refuses, needs, parts}
 use Rattle.pict_rules.proofs.Regularity.{Step, IfFormed}
 use Rattle.pict_sub.proofs.Followed.{exposure_formed}
-use Rattle.pict_rules.specs.DistinctLabels.{AbsHasDistinctLabels}
+use Rattle.pict_scope.specs.DistinctLabels.{AbsHasDistinctLabels}
 use Rattle.pict_rules.proofs.RegularExpanded.{expands_well}
-use Rattle.pict_sub.proofs.Below.{formed_under, kinds_under_is}
-use Rattle.pict_rules.proofs.RegularProcesses.{context_formed}
 use Rattle.pict_rules.proofs.RegularValues.{unless_clear}
 use Rattle.pict_rules.proofs.RegularPatterns.{within_adds}
 use Rattle.pict_rules.proofs.RegularFields.{own_kinds, own_regular}
 use Rattle.pict_rules.proofs.RegularDeclarations.{shifted_in}
+use Rattle.pict_types.proofs.Contexts.{formed_under, kinds_under_is, entries_context}
 
 sendable_formed : (ns : List (List ℕ)) (ks : List Kind) (t : PlainType) → IsWellFormed ns ks t → IfFormed ns ks (sendable t)
 sendable_formed ns ks Top w = tt
@@ -78,7 +77,7 @@ function_formed e f (Fields bs ps ls) w k = last_formed e (f bs) bs ls (split_la
 
 answering_formed : (e : Environment) (t : PlainType) → IsRegular e → IsTypeIn e t → FunctionFormed e (answering e t)
 answering_formed e t r w =
-    let c = context_formed e.names e.context r.entries in
+    let c = entries_context e.names e.context r.entries in
     function_formed e (λ bs last. sendable (exposure (under (context_of e) bs) last)) (exposure (context_of e) t) (exposure_formed e.names (context_of e) t c w) (λ bs u h k.
     let ks = kinds_under_is (context_of e) bs in
     sendable_formed e.names (kinds_under (kinds_in e) bs) (exposure (under (context_of e) bs) u)

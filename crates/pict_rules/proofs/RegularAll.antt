@@ -10,7 +10,7 @@ use Rattle.pict_rules.specs.Regular.{IsLabelledOnce, IsRegular, IsAsked, IsGood,
 use Rattle.pict_rules.proofs.Results.{Property, Each, with_result, by_steps, beside, asked_by_steps}
 use Rattle.pict_rules.proofs.Regularity.{IsRightlyAsked, IsGoodResult, Step}
 use Rattle.pict_rules.proofs.LabelledOnce.{all_labelled_once}
-use Rattle.pict_rules.proofs.LabelsScoped.{scoped_distinct}
+use Rattle.pict_scope.proofs.LabelsScoped.{scoped_distinct}
 use Rattle.pict_rules.proofs.RegularProcesses.{condition_regular, process_regular, processes_regular, receives_regular, body_regular, bodies_regular, positional_regular}
 use Rattle.pict_rules.proofs.RegularValues.{has_regular, gives_regular}
 use Rattle.pict_rules.proofs.RegularPatterns.{pattern_regular, patterns_regular, against_regular, patterns_against_regular, declarations_regular}

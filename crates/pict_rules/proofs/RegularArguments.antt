@@ -11,7 +11,7 @@ use Rattle.pict_types.specs.Instances.{ArgsAreWellFormed}
 use Rattle.pict_types.proofs.Formed.{arguments_keep, replace_formed}
 use Rattle.pict_normal.specs.Normal.{count_trees, size_stop}
 use Rattle.pict_normal.specs.WrittenArguments.{normal_arg, arg_stop}
-use Rattle.pict_normal.specs.Distinct.{TypesHaveDistinctLabels}
+use Rattle.pict_scope.specs.DistinctLabels.{TypesHaveDistinctLabels}
 use Rattle.pict_sub.specs.Exposing.{exposure}
 use Rattle.pict_rules.specs.Found.{Slot, open_slot, filled, Found, none_found, mentions_missing, argument_in, with_found, all_found, matched}
 use Rattle.pict_rules.specs.Counts.{count_vals}
@@ -24,10 +24,11 @@ use Rattle.pict_rules.proofs.Results.{Each, with_result, gives_, parts, splits, 
 use Rattle.pict_rules.proofs.Regularity.{IsRightlyAsked, IsGoodResult, Step, IfFormed}
 use Rattle.pict_rules.proofs.RegularExpanded.{argument_well}
 use Rattle.pict_rules.proofs.RegularMatched.{head_same, tail_same, within_same, matched_in}
-use Rattle.pict_rules.proofs.RegularProcesses.{context_formed, exposed_formed}
+use Rattle.pict_rules.proofs.RegularProcesses.{exposed_formed}
 use Rattle.pict_rules.proofs.RegularValues.{unless_clear, none_kinds, none_fits}
 use Rattle.pict_rules.proofs.RegularFields.{ensures_known}
 use Rattle.pict_rules.proofs.RegularAbstractions.{FunctionFormed, function_formed, functions_formed}
+use Rattle.pict_types.proofs.Contexts.{entries_context}
 
 -- what is found as arguments: they fit type fields of their kinds
 abbrev bound_of : Slot → PlainBound
@@ -170,7 +171,7 @@ pub value_regular : (e : Environment) (s : Span) (v : Val) (t : PlainType) (g : 
 value_regular e s v t g r w =
     splits (mentions_missing g t)
     (parts (r, tt) (λ u h.
-    let k = matched_in e (context_of e) t u g (context_formed e.names e.context r.entries) refl w.0 h.1 w.1 in
+    let k = matched_in e (context_of e) t u g (entries_context e.names e.context r.entries) refl w.0 h.1 w.1 in
     parts (r, (subst (λ ks. IsWellFormed e.names ks t) (sym (within_same (kinds_in e) (matched (context_of e) 0 t u g) g k.kinds_)) w.0, (h.1, k.fits))) (λ x i.
     gives_ (i.1.0 ∙ k.kinds_, i.1.1))))
     (unless (size_stop e.context (with_found g t) s) (parts (r, with_found_formed e g t w.1 w.0) (λ x h. gives_ (refl, w.1))))
@@ -259,7 +260,7 @@ first_found e (field_vals ts vs ls) g (Some t) r x w = go (none_written ts)
     go : (b : Bool) → FoundBefore e g.binders (if b then matched (context_of e) 0 g.answer t (none_found g.binders) else none_found g.binders)
     go false = record { kinds_ = none_kinds g.binders; fits = none_fits e g.binders }
     go true =
-        let k = matched_in e (context_of e) g.answer t (none_found g.binders) (context_formed e.names e.context r.entries) refl (subst (λ ks. IsWellFormed e.names ks g.answer) (fields_kinds (kinds_in e) (none_found g.binders) g.binders (none_kinds g.binders)) w.1) x (none_fits e g.binders) in
+        let k = matched_in e (context_of e) g.answer t (none_found g.binders) (entries_context e.names e.context r.entries) refl (subst (λ ks. IsWellFormed e.names ks g.answer) (fields_kinds (kinds_in e) (none_found g.binders) g.binders (none_kinds g.binders)) w.1) x (none_fits e g.binders) in
         record { kinds_ = k.kinds_ ∙ none_kinds g.binders; fits = k.fits }
 
 pub application_regular : (e : Environment) (s : Span) (f : Val) (vs : FieldVals) (o : Option PlainType) → IsRegular e → IsExpected e o → Step type_ e (application s f vs o)

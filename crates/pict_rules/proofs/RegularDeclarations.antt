@@ -1,10 +1,10 @@
 -- Steps of regularity: function abstractions and declarations.
-use Rattle.std.proofs.Common.{◌≡◌, ℕ, zero, suc, List, [], ◌∷◌, ◌++◌, map, length, false, Some, None, refl, sym, ◌∙◌, ap, subst}
+use Rattle.std.proofs.Common.{◌≡◌, ℕ, suc, List, [], ◌∷◌, ◌++◌, map, length, false, Some, None, refl, sym, ◌∙◌, ap, subst}
 use Rattle.pict_syntax.specs.declared.id.Id.{Id}
 use Rattle.pict_syntax.specs.declared.code.Code.TheVariants.{Y14}
 use Rattle.pict_syntax.specs.Trees.{Dec, new_dec, run_dec, let_dec, def_dec, alias_dec, operator_dec, await_dec, Definitions, no_definitions, more_definitions, Abs, process_abs, function_abs}
 use Rattle.pict_types.specs.Types.{PlainType, Chan, Respond, Free}
-use Rattle.pict_types.specs.Kinds.{Kind, proper, kinds, kind_by, with_parameters, IsWellFormed}
+use Rattle.pict_types.specs.Kinds.{Kind, kinds, kind_by, with_parameters, IsWellFormed}
 use Rattle.pict_types.specs.Renaming.{moved}
 use Rattle.pict_types.specs.Mentions.{mentions_innermost, lowered}
 use Rattle.pict_normal.specs.Normal.{normal, kind_stop, size_stop, entry_of}
@@ -18,12 +18,13 @@ use Rattle.pict_rules.specs.Regular.{IsRegular, IsTypeIn, kinds_in, GrowsFrom, A
 use Rattle.pict_rules.proofs.Results.{gives_, refuses, parts, splits, unless, in_boths}
 use Rattle.pict_rules.proofs.Regularity.{Step}
 use Rattle.pict_rules.proofs.RegularJoined.{kinds_inside, keeps_past, values_renamed, values_first, values_both}
-use Rattle.pict_rules.proofs.RegularProcesses.{and_type_formed}
 use Rattle.pict_rules.proofs.RegularValues.{unless_clear, without_clear, shifted_formed, lowered_back, count_inner}
 use Rattle.pict_rules.proofs.RegularPatterns.{one_adds, within_adds, both_entries, same_growth}
-use Rattle.pict_rules.specs.DistinctLabels.{AbsHasDistinctLabels, DecHasDistinctLabels}
+use Rattle.pict_scope.specs.DistinctLabels.{AbsHasDistinctLabels, DecHasDistinctLabels}
 use Rattle.pict_rules.proofs.RegularExpanded.{expands_well}
 use Rattle.pict_rules.proofs.RegularFields.{own_kinds, own_regular}
+use Rattle.pict_normal.proofs.RawFormed.{and_type_formed}
+use Rattle.pict_types.proofs.Formed.{parameters_further}
 
 -- environments with what an extension adds
 abbrev inner_of : List KnownType → List Kind
@@ -120,14 +121,9 @@ still_signed e vs (s ∷ ss) r h = (
   ),
 )
 
--- declarations
-more_parameters : (n : ℕ) (ks : List Kind) → with_parameters n (proper ∷ ks) ≡ proper ∷ with_parameters n ks
-more_parameters zero ks = refl
-more_parameters (suc n) ks = ap (λ z. proper ∷ z) (more_parameters n ks)
-
 parameters_kinds : (xs : List Id) (c : PlainContext) → kinds (variables (with_parameters_named xs c)) ≡ with_parameters (length xs) (kinds (variables c))
 parameters_kinds [] c = refl
-parameters_kinds (x ∷ xs) c = parameters_kinds xs (entry_of x Free ∷ c) ∙ more_parameters (length xs) (kinds (variables c))
+parameters_kinds (x ∷ xs) c = parameters_kinds xs (entry_of x Free ∷ c) ∙ parameters_further (length xs) (kinds (variables c))
 
 parameters_entries : (ns : List (List ℕ)) (xs : List Id) (c : PlainContext) → EntriesAreWellFormed ns c → EntriesAreWellFormed ns (with_parameters_named xs c)
 parameters_entries ns [] c h = h

@@ -1,16 +1,14 @@
 -- What is written in a regular environment, without a label twice and without a refusal, is well formed there.
-use Rattle.std.proofs.Common.{◌≡◌, ℕ, zero, suc, if◌then◌else◌, nat_eq, Bool, true, false, List, [], ◌∷◌, Option, Some, None, refl}
+use Rattle.std.proofs.Common.{◌≡◌, ℕ, if◌then◌else◌, nat_eq, Bool, true, false, List, [], ◌∷◌, Option, Some, None, refl}
 use Rattle.pict_syntax.specs.Trees.{TypeTree, top_type, int_type, char_type, string_type, bool_type, use_type, both_type, read_type, write_type, respond_type, fields_type, apply_type, rec_type}
 use Rattle.pict_types.specs.Types.{Free, Below, Operator, Plain, Op}
-use Rattle.pict_types.specs.Kinds.{Kind, kind_by, kinds, with_parameters, IsWellFormed, ArgIsWellFormed}
-use Rattle.pict_types.specs.Renaming.{beyond_times}
-use Rattle.pict_types.specs.Replacing.{Head, variable, operator, nothing, rename_head}
+use Rattle.pict_types.specs.Kinds.{Kind, kind_by, kinds, IsWellFormed, ArgIsWellFormed}
 use Rattle.pict_types.specs.Entries.{PlainWhat, Variable, Definition, PlainContext, variables, with_variable, EntryIsWellFormed, EntriesAreWellFormed}
 use Rattle.pict_types.specs.Fitting.{StandsForOperator}
-use Rattle.pict_types.proofs.Formed.{KeepsKinds, keeps_beyond, formed_renamed}
+use Rattle.pict_types.proofs.Formed.{head_further}
 use Rattle.pict_normal.specs.Normal.{Meaning, a_type, an_operator, of_entry, behind_entry, meaning, normal, Stop, first_stop, kind_stops, kind_stop}
 use Rattle.pict_normal.specs.WrittenArguments.{named, arg_meant, normal_arg, stop_meant, arg_stop}
-use Rattle.pict_normal.specs.Distinct.{HasDistinctLabels}
+use Rattle.pict_scope.specs.DistinctLabels.{HasDistinctLabels}
 use Rattle.pict_normal.proofs.Expanded.{normal_formed}
 use Rattle.pict_normal.proofs.BareOperators.{body_formed}
 
@@ -33,15 +31,6 @@ entry_means ns c (Variable (Below t)) h = tt
 entry_means ns c (Variable (Operator n)) h = refl
 entry_means ns c (Definition (Plain t)) h = tt
 entry_means ns c (Definition (Op n t)) h = (refl, h)
-
-behind_parameters : (n : ℕ) (k : Kind) (ks : List Kind) → KeepsKinds (beyond_times n suc) (with_parameters n ks) (with_parameters n (k ∷ ks))
-behind_parameters zero k ks = record { each = λ i l h. h }
-behind_parameters (suc n) k ks = keeps_beyond refl (behind_parameters n k ks)
-
-head_further : (ns : List (List ℕ)) (k : Kind) (ks : List Kind) (n : ℕ) (h : Head) → StandsForOperator ns ks n h → StandsForOperator ns (k ∷ ks) n (rename_head suc h)
-head_further ns k ks n (variable i) w = w
-head_further ns k ks n (operator m t) w = (w.0, formed_renamed ns t (behind_parameters m k ks) w.1)
-head_further ns k ks n nothing w = w
 
 further_means : (ns : List (List ℕ)) (c : PlainContext) (w : PlainWhat) (o : Option Meaning) → MeansOperator ns (kinds (variables c)) o → MeansOperator ns (kinds (with_variable w (variables c))) (behind_entry w o)
 further_means ns c w None h = tt

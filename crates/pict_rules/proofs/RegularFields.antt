@@ -14,21 +14,17 @@ use Rattle.pict_rules.specs.Environments.{Environment, KnownType, context_of, en
 use Rattle.pict_rules.specs.Rules.{Sort, extension_, fields_, binders_, opened_, Rule, Result, fields_give, binders_give, fields_against, binders_against, labelled_patterns_against, ensure}
 use Rattle.pict_rules.specs.Clauses.{with_own, own_bound}
 use Rattle.pict_rules.specs.Regular.{IsRegular, kinds_in, AreFieldsIn, first_bounds}
-use Rattle.pict_sub.proofs.Below.{kinds_under_is}
 use Rattle.pict_rules.proofs.Results.{Property, ResultProperty, Each, gives_, refuses, parts, ensures, unless, same_bounds}
 use Rattle.pict_rules.proofs.Regularity.{Step, label_formed, labels_formed_at}
 use Rattle.pict_rules.proofs.OwnBinders.{own_context}
 use Rattle.pict_types.proofs.Formed.{formed_bound_by}
-use Rattle.pict_normal.specs.Distinct.{BinderHasDistinctLabels, BindersHaveDistinctLabels}
+use Rattle.pict_scope.specs.DistinctLabels.{BinderHasDistinctLabels, BindersHaveDistinctLabels}
 use Rattle.pict_rules.proofs.RegularExpanded.{expands_well}
 use Rattle.pict_rules.proofs.RegularJoined.{joined_adds, keeps_past, values_renamed}
 use Rattle.pict_rules.proofs.RegularValues.{unless_clear}
 use Rattle.pict_rules.proofs.RegularPatterns.{none_adds}
-
--- one more bound at the end
-and_bound_formed : (ns : List (List ℕ)) (ks : List Kind) (bs : PlainBounds) (b : PlainBound) → BoundsAreWellFormed ns ks bs → BoundIsWellFormed ns (kinds_under ks bs) b → BoundsAreWellFormed ns ks (and_bound bs b)
-and_bound_formed ns ks no_bound b h k = (k, tt)
-and_bound_formed ns ks (bounds d bs) b h k = (h.0, and_bound_formed ns (kind_by d ∷ ks) bs b h.1 k)
+use Rattle.pict_types.proofs.Contexts.{kinds_under_is}
+use Rattle.pict_normal.proofs.RawFormed.{and_bound_formed}
 
 and_bound_parts : (ns : List (List ℕ)) (ks : List Kind) (bs : PlainBounds) (b : PlainBound) → BoundsAreWellFormed ns ks (and_bound bs b) → BoundsAreWellFormed ns ks bs × BoundIsWellFormed ns (kinds_under ks bs) b
 and_bound_parts ns ks no_bound b h = (tt, h.0)

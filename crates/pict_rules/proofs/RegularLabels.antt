@@ -6,7 +6,7 @@ use Rattle.pict_normal.specs.Normal.{with_labelled_type}
 use Rattle.pict_normal.proofs.RawFormed.{IsNew, new_with, with_labelled_type_formed}
 use Rattle.pict_rules.specs.Environments.{Environment}
 use Rattle.pict_rules.specs.Rules.{labels_, labelled_patterns_, labelled_values_give, labelled_patterns_give}
-use Rattle.pict_rules.specs.DistinctLabels.{LabelledPatsAreDistinct, LabelledValsAreDistinct}
+use Rattle.pict_scope.specs.DistinctLabels.{LabelledPatsAreDistinct, LabelledValsAreDistinct}
 use Rattle.pict_rules.specs.Regular.{IsRegular, Lacks, kinds_in}
 use Rattle.pict_rules.proofs.Results.{gives_, parts}
 use Rattle.pict_rules.proofs.Regularity.{Step}

@@ -7,11 +7,12 @@ use Rattle.pict_types.specs.Kinds.{Kind, proper, kind_by, kind_at, kinds, kinds_
 use Rattle.pict_types.specs.Mentions.{mentions_innermost, lowered}
 use Rattle.pict_types.proofs.Mentioned.{lowered_formed}
 use Rattle.pict_sub.specs.Exposing.{exposure}
-use Rattle.pict_sub.proofs.Below.{formed_under, kinds_under_is}
 use Rattle.pict_sub.proofs.Followed.{exposure_formed}
 use Rattle.pict_rules.specs.Found.{open_slot, filled, Found, is_missing, is_missing_variable, find, is_same_head, match_channel, match_recursive, match_applied, match_record, match_label, matched, matched_types, matched_labels, matched_bounds, matched_bound}
 use Rattle.pict_rules.specs.Environments.{Environment}
 use Rattle.pict_rules.specs.Regular.{kinds_in, kind_of_slot, kinds_found, kinds_within, FoundFits}
+use Rattle.pict_types.proofs.Contexts.{formed_under, kinds_under_is}
+use Rattle.pict_normal.proofs.Used.{and_cases}
 
 -- what is kept: the kinds of the type fields, and that what is found is written outside them
 pub record Keeps (e : Environment) (f h : Found) : Type 0 where
@@ -67,19 +68,15 @@ record IsPlace (e : Environment) (c : TypeContext) (d : ℕ) (wanted : List Kind
   given_ : length inner ≡ d
   wanted_ : length wanted ≡ d
 
-both_true : (a b : Bool) → (a && b) ≡ true → (a ≡ true) × (b ≡ true)
-both_true true b h = (refl, h)
-both_true false b h = absurd cc
-
 not_true : (b : Bool) → not b ≡ true → b ≡ false
 not_true false h = refl
 not_true true h = absurd cc
 
 found_one : (e : Environment) (c : TypeContext) (d i : ℕ) (wanted : List Kind) (g : PlainType) (f : Found) → IsPlace e c d wanted → kind_at (wanted ++ kinds_within (kinds_in e) f) i ≡ Some proper → IsWellFormed e.names (kinds c) g → FoundFits e f → (nat_le d i && (is_missing_variable f (i - d) && not (mentions_innermost d g))) ≡ true → Keeps e f (set f (length f - 1 - (i - d)) (filled (Plain (lowered d g))))
 found_one e c d i wanted g f p k w h q =
-    let a = both_true (nat_le d i) _ q in
-    let b = both_true (is_missing_variable f (i - d)) _ a.1 in
-    let m = both_true (nat_lt (i - d) (length f)) _ b.0 in
+    let a = and_cases (nat_le d i) _ q in
+    let b = and_cases (is_missing_variable f (i - d)) _ a.1 in
+    let m = and_cases (nat_lt (i - d) (length f)) _ b.0 in
     let low : d ≤ i = leb-true d i a.0 in
     let inside : i - d < length f = ltb-true (i - d) (length f) m.0 in
     let free : mentions_innermost d g ≡ false = not_true (mentions_innermost d g) b.1 in
@@ -212,7 +209,7 @@ mutual
   matched_keeps e c d wanted (Fields bs ws ls) g f p x y h =
       at_record (Keeps e f) e.names (kinds c) (exposure c g) _ f (exposure_formed e.names c g p.context y) (λ cs us ms z.
       known (Keeps e f) (nat_eq (count_bounds bs) (count_bounds cs) && nat_eq (count_types ws) (count_types us)) (λ q.
-      fields_keep e c d wanted bs ws ls cs us ms f p (eqb-true (count_bounds bs) (count_bounds cs) (both_true (nat_eq (count_bounds bs) (count_bounds cs)) _ q).0) x z
+      fields_keep e c d wanted bs ws ls cs us ms f p (eqb-true (count_bounds bs) (count_bounds cs) (and_cases (nat_eq (count_bounds bs) (count_bounds cs)) _ q).0) x z
       (bounds_keep e c d wanted bs cs f p x.0 z.0 h)
       (λ k r u v w. types_keep e (under c cs) (d + count_bounds bs) (kinds_under wanted bs) ws us k r u v w)
       (λ k r u v w. labels_keep e (under c cs) (d + count_bounds bs) (kinds_under wanted bs) ls ms k r u v w)) (unchanged f h)) (unchanged f h)

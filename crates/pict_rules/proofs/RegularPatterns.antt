@@ -17,10 +17,11 @@ use Rattle.pict_rules.specs.Regular.{IsRegular, IsTypeIn, kinds_in, ValuesAreWel
 use Rattle.pict_rules.proofs.Results.{gives_, refuses, needs, parts, unless}
 use Rattle.pict_rules.proofs.Regularity.{Step}
 use Rattle.pict_rules.proofs.RegularJoined.{joined_adds, kinds_inside, keeps_past, values_renamed, values_first, values_both}
-use Rattle.pict_rules.proofs.RegularProcesses.{exposed_formed, and_type_formed}
-use Rattle.pict_rules.specs.DistinctLabels.{PatHasDistinctLabels}
+use Rattle.pict_rules.proofs.RegularProcesses.{exposed_formed}
+use Rattle.pict_scope.specs.DistinctLabels.{PatHasDistinctLabels}
 use Rattle.pict_rules.proofs.RegularExpanded.{expands_well}
 use Rattle.pict_rules.proofs.RegularValues.{unless_clear, records_formed, recursives_formed}
+use Rattle.pict_normal.proofs.RawFormed.{and_type_formed}
 
 -- what is added
 pub none_adds : (e : Environment) → IsRegular e → Adds e no_extension

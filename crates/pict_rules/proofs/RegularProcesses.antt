@@ -3,10 +3,8 @@ use Rattle.std.proofs.Common.{ℕ, List, [], ◌∷◌}
 use Rattle.pict_syntax.specs.declared.code.Code.{Code}
 use Rattle.pict_syntax.specs.declared.span.Span.{Span}
 use Rattle.pict_syntax.specs.Trees.{Val, Abs, Chan, Vals, no_vals, more_vals, Proc, send_proc, receive_proc, serve_proc, if_proc, inert_proc, group_proc, Procs, no_procs, more_procs}
-use Rattle.pict_types.specs.Types.{Capability, PlainType, Top, Int, Char, Str, Boolean, Var, Apply, Chan as Chan_, Fields, Rec, PlainTypes, no_type, types}
-use Rattle.pict_types.specs.Kinds.{Kind, IsWellFormed, AreWellFormed, ContextIsWellFormed}
-use Rattle.pict_normal.specs.Normal.{and_type}
-use Rattle.pict_types.specs.Entries.{PlainContext, variables, EntriesAreWellFormed}
+use Rattle.pict_types.specs.Types.{Capability, PlainType, Top, Int, Char, Str, Boolean, Var, Apply, Chan as Chan_, Fields, Rec}
+use Rattle.pict_types.specs.Kinds.{Kind, IsWellFormed}
 use Rattle.pict_sub.specs.Exposing.{exposure}
 use Rattle.pict_rules.specs.Environments.{Environment, context_of}
 use Rattle.pict_rules.specs.Rules.{Sort, nothing_, types_, Rule, Result, is_condition, values_give, process, processes, receives, body, bodies, Body, process_body, value_body, Signature}
@@ -14,16 +12,13 @@ use Rattle.pict_rules.specs.Clauses.{need_channel}
 use Rattle.pict_rules.specs.Regular.{IsRegular, IsBodyIn, AreSignatures, kinds_in}
 use Rattle.pict_rules.proofs.Results.{Property, ResultProperty, Each, gives_, refuses, needs, parts, ensures}
 use Rattle.pict_rules.proofs.Regularity.{Step}
-use Rattle.pict_sub.proofs.Below.{entries_context}
 use Rattle.pict_sub.proofs.Followed.{exposure_formed}
-
--- the bounds of an environment are well formed
-pub context_formed : (ns : List (List ℕ)) (c : PlainContext) → EntriesAreWellFormed ns c → ContextIsWellFormed ns (variables c)
-context_formed ns c h = entries_context ns c h
+use Rattle.pict_types.proofs.Contexts.{entries_context}
+use Rattle.pict_normal.proofs.RawFormed.{and_type_formed}
 
 -- a type that is exposed stays well formed
 pub exposed_formed : (e : Environment) (t : PlainType) → IsRegular e → IsWellFormed e.names (kinds_in e) t → IsWellFormed e.names (kinds_in e) (exposure (context_of e) t)
-exposed_formed e t r w = exposure_formed e.names (context_of e) t (context_formed e.names e.context r.entries) w
+exposed_formed e t r w = exposure_formed e.names (context_of e) t (entries_context e.names e.context r.entries) w
 
 -- a channel type's part is well formed
 channels_formed : {A : Property} {G : ResultProperty} {s : Sort} {P : Result s → Type 0} (ns : List (List ℕ)) (ks : List Kind) (t : PlainType) (c : Code) (i : Span) {k : Capability → PlainType → Rule s} → IsWellFormed ns ks t → ((m : Capability) (u : PlainType) → IsWellFormed ns ks u → Each A G s P (k m u)) → Each A G s P (need_channel t c i k)
@@ -67,10 +62,6 @@ body_regular e (value_body v t) r w = parts (r, w) (λ x h. gives_ tt)
 pub bodies_regular : (e : Environment) (ss : List Signature) → IsRegular e → AreSignatures e ss → Step nothing_ e (bodies ss)
 bodies_regular e [] r w = gives_ tt
 bodies_regular e (s ∷ ss) r w = parts (w.1.0, w.1.1.0) (λ x h. parts (r, w.1.1.1) (λ y i. gives_ tt))
-
-pub and_type_formed : (ns : List (List ℕ)) (ks : List Kind) (ts : PlainTypes) (t : PlainType) → AreWellFormed ns ks ts → IsWellFormed ns ks t → AreWellFormed ns ks (and_type ts t)
-and_type_formed ns ks no_type t h k = (k, tt)
-and_type_formed ns ks (types u ts) t h k = (h.0, and_type_formed ns ks ts t h.1 k)
 
 pub positional_regular : (e : Environment) (vs : Vals) → IsRegular e → Step types_ e (values_give vs)
 positional_regular e no_vals r = gives_ tt

@@ -1,11 +1,11 @@
 -- Steps of regularity: values.
-use Rattle.std.proofs.Common.{◌≡◌, ℕ, suc, ◌+◌, nat_eq, if◌then◌else◌, Bool, true, false, List, [], ◌∷◌, ◌++◌, length, Option, Some, None, refl, sym, ◌∙◌, ap, subst, arith, add-zero, add-suc, length-append}
+use Rattle.std.proofs.Common.{◌≡◌, ℕ, ◌+◌, nat_eq, if◌then◌else◌, Bool, true, false, List, [], ◌∷◌, ◌++◌, length, Option, Some, None, refl, sym, ◌∙◌, ap, subst, arith, add-zero, add-suc, length-append}
 use Rattle.pict_syntax.specs.declared.code.Code.{Code}
 use Rattle.pict_syntax.specs.declared.span.Span.{Span}
 use Rattle.pict_syntax.specs.Names.{text_of}
 use Rattle.pict_syntax.specs.Trees.{use_chan, fold_chan, block_chan, apply_chan, right_chan, left_chan, Val, of_chan, number_val, character_val, string_val, true_val, false_val, fields_val, if_val, lambda_val, field_vals}
-use Rattle.pict_types.specs.Types.{Both, Read, Write, Respond, PlainType, Top, Int, Char, Str, Boolean, Var, Apply, Chan as Chan_, Fields, Rec, PlainTypes, PlainLabels, PlainBounds, no_bound, bounds, TypeContext}
-use Rattle.pict_types.specs.Kinds.{Kind, kinds, kind_by, kind_at, IsWellFormed}
+use Rattle.pict_types.specs.Types.{Both, Read, Write, Respond, PlainType, Top, Int, Char, Str, Boolean, Var, Apply, Chan as Chan_, Fields, Rec, PlainTypes, PlainLabels, PlainBounds, no_bound, bounds}
+use Rattle.pict_types.specs.Kinds.{Kind, kind_by, kind_at, IsWellFormed}
 use Rattle.pict_types.specs.Replacing.{unfolding_of}
 use Rattle.pict_normal.specs.Normal.{Stop, normal, kind_stop}
 use Rattle.pict_types.specs.Mentions.{mentions_innermost, lowered}
@@ -24,8 +24,9 @@ use Rattle.pict_rules.proofs.Results.{Property, ResultProperty, Each, with_resul
 use Rattle.pict_rules.proofs.Regularity.{IsRightlyAsked, IsGoodResult, Step, IfFormed}
 use Rattle.pict_types.proofs.Formed.{formed_renamed, unfolding_formed}
 use Rattle.pict_types.proofs.Mentioned.{lowered_formed}
-use Rattle.pict_rules.specs.DistinctLabels.{ValHasDistinctLabels}
+use Rattle.pict_scope.specs.DistinctLabels.{ValHasDistinctLabels}
 use Rattle.pict_rules.proofs.RegularExpanded.{expands_well}
+use Rattle.pict_types.proofs.Reaching.{kinds_length}
 
 -- uses
 if_formed : (ns : List (List ℕ)) (ks : List Kind) (b : Bool) (t : PlainType) (o : Option PlainType) → IsWellFormed ns ks t → IfFormed ns ks o → IfFormed ns ks (if b then Some t else o)
@@ -80,14 +81,9 @@ or_primitive_formed ns ks (Some t) text h = h
 use_formed : (e : Environment) (n : ℕ) → IsRegular e → IsTypeIn e (type_of_use e n)
 use_formed e n r = or_primitive_formed e.names (kinds_in e) (known_type e.values n) (text_of e.names n) (known_formed e.names (kinds_in e) e.values n r.known)
 
--- into more variables, and out of them
-pub count_kinds : (c : TypeContext) → length (kinds c) ≡ length c
-count_kinds [] = refl
-count_kinds (b ∷ c) = ap suc (count_kinds c)
-
 pub count_inner : {e d : Environment} (g : GrowsFrom e d) → opened_since e d ≡ length g.inner
 count_inner {e = e} {d = d} g =
-    let h : length (context_of d) ≡ length g.inner + length (context_of e) = sym (count_kinds (context_of d)) ∙ (ap length g.kinds_ ∙ (length-append g.inner (kinds_in e) ∙ ap (λ n. length g.inner + n) (count_kinds (context_of e)))) in
+    let h : length (context_of d) ≡ length g.inner + length (context_of e) = sym (kinds_length (context_of d)) ∙ (ap length g.kinds_ ∙ (length-append g.inner (kinds_in e) ∙ ap (λ n. length g.inner + n) (kinds_length (context_of e)))) in
     omega (arith, h)
 
 pub past_inner : (inner ks : List Kind) (i : ℕ) → kind_at (inner ++ ks) (i + length inner) ≡ kind_at ks i

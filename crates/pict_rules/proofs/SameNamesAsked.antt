@@ -15,7 +15,8 @@ use Rattle.pict_syntax.specs.Grammar.{type_span, val_span}
 use Rattle.pict_rules.specs.Counts.{count_vals, count_pats}
 use Rattle.pict_normal.specs.WrittenArguments.{arg_stop, normal_arg}
 use Rattle.pict_rules.specs.Shapes.{all_written, none_written, nth_bound, nth_type, applicable, written_bound, vals_onto, applied_to, right_nested, left_nested, from_first}
-use Rattle.pict_scope.specs.Around.{Around, nearest, or_primitive}
+use Rattle.pict_binders.specs.Numbered.{nearest}
+use Rattle.pict_scope.specs.Around.{Around, or_primitive}
 use Rattle.pict_scope.specs.Marks.{Mark, value_used}
 use Rattle.pict_scope.specs.Outlines.{Outline, empty, ◌▸◌, closed, value_use, pattern, group, opens, marks}
 use Rattle.pict_scope.specs.Forms.{in_dec, in_types, in_pattern_binders, in_pat, in_pats, in_labelled_pats, in_labelled_vals, in_field_vals, in_field_pats, in_annotation, in_val, in_vals, in_chan, in_abs, in_decs, in_definitions, in_proc, in_procs}
@@ -80,9 +81,6 @@ reads r v = record { around = r.around; types_ = r.types_; values = v; each_mark
 
 reads_types : {Q : Mark → Type 0} {s : Sort} {e : Environment} {j : Judgement s} → IsReadAs Q s e j → ReadsTypes Q e (outline_of j)
 reads_types r = record { around = r.around; types_ = r.types_; each_mark = r.each_mark }
-
-its_types : {Q : Mark → Type 0} {e : Environment} {o : Outline} → Reads Q e o → ReadsTypes Q e o
-its_types x = record { around = x.around; types_ = x.types_; each_mark = x.each_mark }
 
 knows_of : {Q : Mark → Type 0} {e : Environment} {o : Outline} (x : Reads Q e o) → Knows e x.around
 knows_of x = record { types_ = x.types_; values = x.values }

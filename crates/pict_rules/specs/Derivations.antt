@@ -6,7 +6,7 @@ use Rattle.pict_syntax.specs.Trees.{Val, Decs}
 use Rattle.pict_types.specs.Types.{PlainType}
 use Rattle.pict_scope.specs.Scopes.{scope_stop}
 use Rattle.pict_rules.specs.Environments.{Environment, no_environment}
-use Rattle.pict_rules.specs.Rules.{Sort, Result, Judgement, gives, has, declarations, Condition, IsMet, Rule, give, refuse, need, either, part, Answer, ok, stuck}
+use Rattle.pict_rules.specs.Rules.{Sort, Result, Judgement, gives, declarations, Condition, IsMet, Rule, give, refuse, need, either, part, Answer, ok, stuck}
 use Rattle.pict_rules.specs.Typing.{rule}
 
 pub data RunsTo : (s : Sort) → Rule s → Answer s → Type 0 where
@@ -19,8 +19,10 @@ pub data RunsTo : (s : Sort) → Rule s → Answer s → Type 0 where
   yes : {s : Sort} {q : Condition} {r r' : Rule s} {a : Answer s} → IsMet q → RunsTo s r a → RunsTo s (either q r r') a
   no : {s : Sort} {q : Condition} {r r' : Rule s} {a : Answer s} → (IsMet q → ⊥) → RunsTo s r' a → RunsTo s (either q r r') a
   -- a part that has a result, and one that is refused
-  part_ok : {s t : Sort} {e : Environment} {j : Judgement t} {k : Result t → Rule s} {x : Result t} {a : Answer s} → RunsTo t (rule e j) (ok x) → RunsTo s (k x) a → RunsTo s (part e j k) a
-  part_stuck : {s t : Sort} {e : Environment} {j : Judgement t} {k : Result t → Rule s} {c : Code} {i : Span} → RunsTo t (rule e j) (stuck c i) → RunsTo s (part e j k) (stuck c i)
+  part_ok : {s t : Sort} {e : Environment} {j : Judgement t} {k : Result t → Rule s} {x : Result t} {a : Answer s}
+      → RunsTo t (rule e j) (ok x) → RunsTo s (k x) a → RunsTo s (part e j k) a
+  part_stuck : {s t : Sort} {e : Environment} {j : Judgement t} {k : Result t → Rule s} {c : Code} {i : Span}
+      → RunsTo t (rule e j) (stuck c i) → RunsTo s (part e j k) (stuck c i)
 
 abbrev pub Runs : {s : Sort} → Rule s → Answer s → Type 0
 Runs {s = s} r a = RunsTo s r a
@@ -35,9 +37,6 @@ IsStuck e j c i = Runs (rule e j) (stuck c i)
 
 abbrev pub Gives : Environment → Val → PlainType → Type 0
 Gives e v t = Holds e (gives v) t
-
-abbrev pub Has : Environment → Val → PlainType → Type 0
-Has e v t = Holds e (has v t) tt
 
 -- no rule of scopes fails in the program, and its declarations are typed in order
 abbrev pub IsTyped : List (List ℕ) → Decs → Type 0

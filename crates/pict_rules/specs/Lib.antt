@@ -9,7 +9,6 @@ pub mod Typing
 pub mod Derivations
 pub mod Laws
 pub mod Reached
-pub mod DistinctLabels
 pub mod SameNames
 pub mod Regular
 pub mod Worked

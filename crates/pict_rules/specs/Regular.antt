@@ -7,7 +7,7 @@ use Rattle.pict_types.specs.Entries.{EntriesAreWellFormed}
 use Rattle.pict_types.specs.Replacing.{IsOfKind, FitTheirFields}
 use Rattle.pict_types.specs.Instances.{ArgsAreWellFormed}
 use Rattle.pict_normal.specs.Normal.{count_trees}
-use Rattle.pict_normal.specs.Distinct.{TypesHaveDistinctLabels, BindersHaveDistinctLabels}
+use Rattle.pict_scope.specs.DistinctLabels.{TypesHaveDistinctLabels, BindersHaveDistinctLabels, IsNewPattern, IsNewValue, PatHasDistinctLabels, FieldPatsHaveDistinctLabels, PatsHaveDistinctLabels, LabelledPatsAreDistinct, DecHasDistinctLabels, DecsHaveDistinctLabels, DefinitionsHaveDistinctLabels, AbsHasDistinctLabels, ChanHasDistinctLabels, ValHasDistinctLabels, ValsHaveDistinctLabels, FieldValsHaveDistinctLabels, LabelledValsAreDistinct, ProcHasDistinctLabels, ProcsHaveDistinctLabels}
 use Rattle.pict_scope.specs.Scopes.{scope_stop}
 use Rattle.pict_rules.specs.Counts.{count_binders}
 use Rattle.pict_rules.specs.Found.{Slot, open_slot, filled, Found}
@@ -15,7 +15,6 @@ use Rattle.pict_rules.specs.Environments.{Environment, Extension, KnownValue, co
 use Rattle.pict_rules.specs.Rules.{Sort, Result, Judgement, gives, has, is_condition, values_give, labelled_values_give, application, fields_fit, written_arguments, values_fit, labelled_values_fit, value_fits, given_fits, abstraction_gives, abstraction_against, pattern_gives, fields_give, binders_give, patterns_give, labelled_patterns_give, pattern_against, fields_against, binders_against, patterns_against, labelled_patterns_against, declaration, declarations, signatures, signature, bodies, body, process, processes, receives, Signature, Body, process_body, value_body, ok}
 use Rattle.pict_rules.specs.Typing.{rule}
 use Rattle.pict_rules.specs.Derivations.{Runs}
-use Rattle.pict_rules.specs.DistinctLabels.{IsNewPattern, IsNewValue, PatHasDistinctLabels, FieldPatsHaveDistinctLabels, PatsHaveDistinctLabels, LabelledPatsAreDistinct, DecHasDistinctLabels, DecsHaveDistinctLabels, DefinitionsHaveDistinctLabels, AbsHasDistinctLabels, ChanHasDistinctLabels, ValHasDistinctLabels, ValsHaveDistinctLabels, FieldValsHaveDistinctLabels, LabelledValsAreDistinct, ProcHasDistinctLabels, ProcsHaveDistinctLabels}
 use Rattle.pict_rules.specs.Reached.{Reached}
 
 abbrev pub kinds_in : Environment → List Kind
@@ -209,9 +208,13 @@ IsGood e _ x = Unit {0}
 -- regularity: what is judged in a regular environment, with what is well formed and without a label twice, gives what is well
 -- formed
 abbrev pub Regularity : Type 0
-Regularity = (s : Sort) (e : Environment) (j : Judgement s) (x : Result s) → IsLabelledOnce j → IsRegular e → IsAsked e j → Runs (rule e j) (ok x) → IsGood e j x
+Regularity =
+    (s : Sort) (e : Environment) (j : Judgement s) (x : Result s) → IsLabelledOnce j → IsRegular e → IsAsked e j
+    → Runs (rule e j) (ok x) → IsGood e j x
 
 -- so in a program in which no rule of scopes fails: each judgement that the rules reach is made in a regular environment, of what
 -- is well formed
 abbrev pub ReachedIsRegular : Type 0
-ReachedIsRegular = (names : List (List ℕ)) (p : Decs) (s : Sort) (e : Environment) (j : Judgement s) → scope_stop names p ≡ None → Reached names p s e j → IsLabelledOnce j × (IsRegular e × IsAsked e j)
+ReachedIsRegular =
+    (names : List (List ℕ)) (p : Decs) (s : Sort) (e : Environment) (j : Judgement s) → scope_stop names p ≡ None
+    → Reached names p s e j → IsLabelledOnce j × (IsRegular e × IsAsked e j)

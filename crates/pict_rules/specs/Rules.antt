@@ -52,7 +52,8 @@ pub record Signature : Type 0 where
   pub body : Body
 
 pub data Sort : Type 0 where
-  nothing_ type_ types_ labels_ arguments_ found_ environment_ extension_ pattern_ patterns_ labelled_patterns_ binders_ fields_ opened_ signatures_ signature_ : Sort
+  nothing_ type_ types_ labels_ arguments_ found_ environment_ extension_ : Sort
+  pattern_ patterns_ labelled_patterns_ binders_ fields_ opened_ signatures_ signature_ : Sort
 
 -- what a judgement of this sort gives
 abbrev pub Result : Sort → Type 0

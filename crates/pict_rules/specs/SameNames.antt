@@ -8,7 +8,7 @@ use Rattle.pict_syntax.specs.Trees.{Decs, of_chan, use_chan}
 use Rattle.pict_types.specs.Types.{PlainType}
 use Rattle.pict_types.specs.Entries.{PlainContext}
 use Rattle.pict_scope.specs.PrimitiveNames.{primitive_named}
-use Rattle.pict_scope.specs.declared.binders.Binder.{Binder}
+use Rattle.pict_binders.specs.declared.binders.Binder.{Binder}
 use Rattle.pict_scope.specs.Around.{Around}
 use Rattle.pict_scope.specs.Marks.{Mark, or_later}
 use Rattle.pict_scope.specs.Outlines.{Outline, empty, ◌▸◌, marks}
@@ -16,7 +16,6 @@ use Rattle.pict_scope.specs.Forms.{in_types, in_pattern_binders, in_pat, in_fiel
 use Rattle.pict_scope.specs.Scopes.{program_marks, scope_stop}
 use Rattle.pict_rules.specs.Environments.{Environment, KnownValue, extended, known_type}
 use Rattle.pict_rules.specs.Rules.{Sort, type_, Judgement, gives, has, is_condition, values_give, labelled_values_give, application, fields_fit, written_arguments, values_fit, labelled_values_fit, value_fits, given_fits, abstraction_gives, abstraction_against, pattern_gives, fields_give, binders_give, patterns_give, labelled_patterns_give, pattern_against, fields_against, binders_against, patterns_against, labelled_patterns_against, declaration, declarations, signatures, signature, bodies, body, process, processes, receives, Signature, Body, process_body, value_body}
-use Rattle.pict_rules.specs.DistinctLabels.{DecsHaveDistinctLabels}
 use Rattle.pict_rules.specs.Reached.{Reached}
 
 -- the names, the nearest first
@@ -121,7 +120,9 @@ IsRead Q s e j = IsReadAs Q s e j
 -- whatever judgement the rules reach from a program, in an environment, the scopes of the program read what is judged at a
 -- place around which the names are those of the environment
 abbrev pub SameNames : Type 0
-SameNames = (names : List (List ℕ)) (p : Decs) (s : Sort) (e : Environment) (j : Judgement s) → Reached names p s e j → IsRead (StandsIn (program_marks names p)) s e j
+SameNames =
+    (names : List (List ℕ)) (p : Decs) (s : Sort) (e : Environment) (j : Judgement s) → Reached names p s e j
+    → IsRead (StandsIn (program_marks names p)) s e j
 
 -- a mark that is no refusal
 abbrev pub IsNoStop : Mark → Type 0
@@ -129,16 +130,18 @@ IsNoStop m = or_later m None ≡ None
 
 -- and no rule of scopes fails there, where none fails in the program
 abbrev pub NoStopIsReached : Type 0
-NoStopIsReached = (names : List (List ℕ)) (p : Decs) (s : Sort) (e : Environment) (j : Judgement s) → scope_stop names p ≡ None → Reached names p s e j → IsRead IsNoStop s e j
+NoStopIsReached =
+    (names : List (List ℕ)) (p : Decs) (s : Sort) (e : Environment) (j : Judgement s) → scope_stop names p ≡ None
+    → Reached names p s e j → IsRead IsNoStop s e j
 
 -- a use of a value has a binder among the values of the environment, or else it is a primitive
 abbrev pub IsKnownValue : Environment → ℕ → Type 0
-IsKnownValue e n = ((t : PlainType) × (known_type e.values n ≡ Some t)) ⊎ ((known_type e.values n ≡ None) × ((p : Primitive) × (primitive_named (text_of e.names n) ≡ Some p)))
+IsKnownValue e n =
+    ((t : PlainType) × (known_type e.values n ≡ Some t))
+    ⊎ ((known_type e.values n ≡ None) × ((p : Primitive) × (primitive_named (text_of e.names n) ≡ Some p)))
 
 -- so each value that is used is known, where no rule of scopes fails
 abbrev pub UsesAreKnown : Type 0
-UsesAreKnown = (names : List (List ℕ)) (p : Decs) (e : Environment) (i : Span) (n : Name) → scope_stop names p ≡ None → Reached names p type_ e (gives (of_chan (use_chan i n))) → IsKnownValue e n.0
-
--- and in a program in which no rule of scopes fails no label stands twice
-abbrev pub LabelsAreDistinct : Type 0
-LabelsAreDistinct = (names : List (List ℕ)) (p : Decs) → scope_stop names p ≡ None → DecsHaveDistinctLabels p
+UsesAreKnown =
+    (names : List (List ℕ)) (p : Decs) (e : Environment) (i : Span) (n : Name) → scope_stop names p ≡ None
+    → Reached names p type_ e (gives (of_chan (use_chan i n))) → IsKnownValue e n.0

@@ -23,18 +23,25 @@ new_c = new_dec (from 0 10) (named 0 (from 4 5)) (both_type (from 6 10) (int_typ
 
 -- `new c:^Int run c!1`: a message of the channel's type
 abbrev pub number_sent : Decs
-number_sent = more_decs (more_decs no_decs new_c) (run_dec (from 11 18) (send_proc (from 15 18) (use_chan (from 15 16) (record { 0 = 0 })) (number_val (from 17 18) (pos 1))))
+number_sent =
+    more_decs (more_decs no_decs new_c) (run_dec (from 11 18)
+    (send_proc (from 15 18) (use_chan (from 15 16) (record { 0 = 0 })) (number_val (from 17 18) (pos 1))))
 
 -- `new c:^Int run c!"x"`: a message of another type
 abbrev pub text_sent : Decs
-text_sent = more_decs (more_decs no_decs new_c) (run_dec (from 11 20) (send_proc (from 15 20) (use_chan (from 15 16) (record { 0 = 0 })) (string_val (from 17 20) (codes "x"))))
+text_sent =
+    more_decs (more_decs no_decs new_c) (run_dec (from 11 20)
+    (send_proc (from 15 20) (use_chan (from 15 16) (record { 0 = 0 })) (string_val (from 17 20) (codes "x"))))
 
 -- `def f [c:?Int] = c!1`: no right to send
 abbrev pub sent_on_input : Decs
 sent_on_input =
     more_decs no_decs (def_dec (from 0 20) (more_definitions no_definitions (named 1 (from 4 5))
     (process_abs (from 6 20)
-    (fields_pat (from 6 14) (field_pats no_binders (more_pats no_pats (bind_pat (from 7 13) (named 0 (from 7 8)) (Some (read_type (from 9 13) (int_type (from 10 13)))))) no_labelled_pats))
+    (fields_pat (from 6 14)
+    (field_pats no_binders
+    (more_pats no_pats (bind_pat (from 7 13) (named 0 (from 7 8)) (Some (read_type (from 9 13) (int_type (from 10 13))))))
+    no_labelled_pats))
     (send_proc (from 17 20) (use_chan (from 17 18) (record { 0 = 0 })) (number_val (from 19 20) (pos 1))))))
 
 -- the first is typed; the second is refused at its string, and the third at its channel

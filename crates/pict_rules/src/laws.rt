@@ -2,7 +2,7 @@
 
 ghost use Rattle.pict_rules.specs.Laws.{AtMostOneAnswer, SomeAnswer, TypedOrRefused, TypedOrStuck};
 ghost use Rattle.pict_rules.specs.Regular.{ReachedIsRegular, Regularity};
-ghost use Rattle.pict_rules.specs.SameNames.{LabelsAreDistinct, NoStopIsReached, SameNames, UsesAreKnown};
+ghost use Rattle.pict_rules.specs.SameNames.{NoStopIsReached, SameNames, UsesAreKnown};
 ghost use Rattle.pict_rules.specs.Worked.{WorkedTexts};
 
 /// A judgement has at most one answer: one result, or one refusal with its code and its place.
@@ -33,12 +33,11 @@ pub fn law_same_names()
     ensures { SameNames }
 {}
 
-/// In a program in which no rule of scopes fails, none fails in what the rules judge, each value that is used has a
-/// binder in the environment or is a primitive, and no label stands twice.
+/// In a program in which no rule of scopes fails, none fails in what the rules judge, and each value that is used has a
+/// binder in the environment or is a primitive.
 pub fn law_scoped()
     ensures stops { NoStopIsReached }
     ensures uses { UsesAreKnown }
-    ensures labels { LabelsAreDistinct }
 {}
 
 /// What is judged in an environment in which all is well formed, of types that are well formed and of a phrase in which

@@ -1,15 +1,15 @@
 -- A name in its group: it stands there already, or for the first time.
-use Rattle.std.proofs.Common.{◌≡◌, ℕ, Bool, true, false, nat_eq, List, [], ◌∷◌, ◌++◌, Option, Some, None, refl, sym, ◌∙◌, ap, append-nil}
+use Rattle.std.proofs.Common.{◌≡◌, ℕ, Bool, true, false, nat_eq, List, [], ◌∷◌, ◌++◌, Some, None, refl, sym, ◌∙◌, ap, append-nil}
 use Rattle.std.specs.Prelude.{◌||◌, if◌then◌else◌}
 use Rattle.pict_syntax.specs.declared.code.Code.{Code}
 use Rattle.pict_syntax.specs.declared.id.Id.{Id}
-use Rattle.pict_scope.specs.declared.binders.Binder.{Binder}
+use Rattle.pict_binders.specs.declared.binders.Binder.{Binder}
 use Rattle.pict_scope.specs.declared.layer.Layer.{Layer}
 use Rattle.pict_scope.specs.declared.error.ScopeError.TheVariants.{Named}
 use Rattle.pict_scope.specs.declared.reader.Reader.{Reader}
-use Rattle.pict_scope.specs.Numbered.{names_of}
+use Rattle.pict_binders.specs.Numbered.{names_of, nearest}
 use Rattle.pict_scope.specs.Layers.{here, outside}
-use Rattle.pict_scope.specs.Around.{binder_of, nearest, is_among, with_group}
+use Rattle.pict_scope.specs.Around.{binder_of, is_among, with_group}
 use Rattle.pict_scope.specs.Marks.{first_stop, value_meanings, type_meanings, binders_read}
 use Rattle.pict_scope.specs.Outlines.{once, opens, marks, twice_if}
 use Rattle.pict_scope.specs.Reads.{around, Reads, Refuses}

@@ -3,9 +3,8 @@ use Rattle.std.proofs.Common.{◌≡◌, ℕ, zero, suc, ◌<◌, ◌≤◌, Boo
 use Rattle.std.specs.Prelude.{if◌then◌else◌}
 use Rattle.std.specs.Option.{option_map}
 use Rattle.pict_binders.specs.Names.{place_of}
-use Rattle.pict_scope.specs.declared.binders.Binder.{Binder}
-use Rattle.pict_scope.specs.Numbered.{names_of}
-use Rattle.pict_scope.specs.Around.{nearest}
+use Rattle.pict_binders.specs.declared.binders.Binder.{Binder}
+use Rattle.pict_binders.specs.Numbered.{names_of, nearest}
 
 pub place_within : (bs : List Binder) (k n i : ℕ) → place_of (names_of bs) n ≡ Some i → i < k → nearest (take k bs) n ≡ nearest bs n
 place_within [] zero n i h l = refl

@@ -1,8 +1,11 @@
-pub mod Numbers
 pub mod Layering
 pub mod Groups
 pub mod Clean
+pub mod LabelsScoped
 pub mod Growing
 pub mod Reading
 pub mod TypeForms
 pub mod PatternForms
+pub mod ValueForms
+pub mod Placing
+pub mod Resolved

@@ -1,10 +1,10 @@
 -- The outlines of patterns whose parts stand in vectors and boxes.
-use Rattle.std.proofs.Common.{◌≡◌, List, [], ◌∷◌, refl, sym, ◌∙◌, ap, subst, Box, Global}
-use Rattle.std.specs.Prelude.{Vec, Result}
+use Rattle.std.proofs.Common.{◌≡◌, List, [], ◌∷◌, refl, sym, ◌∙◌, ap, Box, Global}
+use Rattle.std.specs.Prelude.{Result}
 use Rattle.pict_syntax.specs.declared.span.Span.{Span}
 use Rattle.pict_syntax.specs.declared.type_tree.TypeBinder.{TypeBinder as RTypeBinder}
 use Rattle.pict_syntax.specs.declared.pattern.Pat.{Pat as RPat, Fields}
-use Rattle.pict_syntax.specs.declared.pattern.FieldPats.{FieldPats as RFieldPats, roll-FieldPats}
+use Rattle.pict_syntax.specs.declared.pattern.FieldPats.{FieldPats as RFieldPats}
 use Rattle.pict_syntax.specs.declared.pattern.LabelledPat.{LabelledPat as RLabelledPat}
 use Rattle.pict_syntax.specs.declared.pattern.Pat.TheViews.{out-FieldPats, roll-out-FieldPats}
 use Rattle.pict_syntax.specs.Trees.{TypeBinders, no_binders, more_binders, Pats, no_pats, more_pats, LabelledPats, no_labelled_pats, more_labelled_pats, field_pats}
@@ -12,10 +12,10 @@ use Rattle.pict_syntax.specs.PlainTrees.{pat_of, field_pats_of, binder_of, binde
 use Rattle.pict_syntax.proofs.PatternLists.{field_pats_is}
 use Rattle.pict_scope.specs.declared.error.ScopeError.{ScopeError}
 use Rattle.pict_scope.specs.declared.reader.Reader.{Reader}
-use Rattle.pict_scope.specs.Outlines.{Outline, empty, ◌▸◌, closed, group, pattern_type}
+use Rattle.pict_scope.specs.Outlines.{◌▸◌, closed, group, pattern_type}
 use Rattle.pict_scope.specs.Forms.{in_pat, in_field_pats, in_pats, in_labelled_pats, in_pattern_binders}
 use Rattle.pict_scope.specs.Held.{each_on, each, in_pattern_binder_tree, in_pat_tree, in_labelled_pat}
-use Rattle.pict_scope.specs.Reads.{Reads, IsRead}
+use Rattle.pict_scope.specs.Reads.{IsRead}
 use Rattle.pict_scope.proofs.TypeForms.{bound_is, read_as}
 
 binders_each : (bs : TypeBinders) (xs : List RTypeBinder) → each_on in_pattern_binder_tree (in_pattern_binders bs) xs ≡ in_pattern_binders (binders_on bs xs)

@@ -1,27 +1,24 @@
 -- Reading one outline after another: what is known before and behind each part gives what is known of the whole.
-use Rattle.std.proofs.Common.{◌≡◌, ℕ, ◌+◌, ◌-◌, ◌<◌, ◌≤◌, List, [], ◌∷◌, ◌++◌, length, get_or, take, take-suc, drop, Some, None, refl, sym, ◌∙◌, ap, subst, append_assoc, append-nil, add-one, arith}
+use Rattle.std.proofs.Common.{◌≡◌, ℕ, ◌+◌, ◌-◌, ◌<◌, ◌≤◌, List, [], ◌∷◌, ◌++◌, length, get_or, take, take-suc, drop, Some, None, refl, sym, ◌∙◌, ap, subst, append_assoc, append-nil, add-one}
 use Rattle.std.specs.Prelude.{Result, Ok, Err}
 use Rattle.std.proofs.lemmas.List.{take_all, take-append-drop}
-use Rattle.pict_syntax.specs.declared.code.Code.{Code}
 use Rattle.pict_syntax.specs.declared.code.Code.TheVariants.{S3}
-use Rattle.pict_syntax.specs.declared.span.Span.{Span}
 use Rattle.pict_syntax.specs.declared.id.Id.{Id}
-use Rattle.pict_scope.specs.declared.binders.Binder.{Binder}
+use Rattle.pict_binders.specs.declared.binders.Binder.{Binder}
 use Rattle.pict_scope.specs.declared.error.ScopeError.{ScopeError}
 use Rattle.pict_scope.specs.declared.error.ScopeError.TheVariants.{Named, Memory}
 use Rattle.pict_scope.specs.declared.reader.Reader.{Reader}
 use Rattle.pict_scope.specs.declared.reader.Place.{Place}
 use Rattle.pict_scope.specs.declared.reader.Opened.{Opened}
-use Rattle.pict_scope.specs.declared.target.Target.{Target}
-use Rattle.pict_scope.specs.Numbered.{names_of}
+use Rattle.pict_binders.specs.Numbered.{names_of, nearest}
 use Rattle.pict_scope.specs.Layers.{here, outside}
-use Rattle.pict_scope.specs.Around.{Around, nearest, with_group, with_type, with_pattern_type, past_type, before_pattern, behind_pattern, behind}
+use Rattle.pict_scope.specs.Around.{Around, with_group, with_type, with_pattern_type, past_type, before_pattern, behind_pattern, behind}
 use Rattle.pict_scope.specs.Marks.{Mark, value_used, type_used, value_bound, stands_twice, Stop, first_stop, value_meanings, type_meanings, binders_read}
 use Rattle.pict_scope.specs.Outlines.{Outline, empty, ◌▸◌, closed, binds_type, pattern_type, pattern, group, opens, marks, twice_if_bound}
 use Rattle.pict_scope.specs.Held.{each_on, each}
-use Rattle.pict_scope.specs.Reads.{around, Answers, KeepsOutside, Goes, Moves, Reads, IsRefusal, Refuses, IsRead}
+use Rattle.pict_scope.specs.Reads.{around, Answers, KeepsOutside, Moves, Reads, IsRefusal, Refuses, IsRead}
 use Rattle.pict_scope.specs.Steps.{IsAt, GoesBack, back_at, OpensGroup, ClosesGroup, OpensPattern, ClosesPattern, ReadsPattern, RefusesPattern, enters}
-use Rattle.pict_scope.proofs.Growing.{Grows, grows, cut_back}
+use Rattle.pict_scope.proofs.Growing.{grows, cut_back}
 
 -- marks one after the other
 pub first_then : (ms ns : List Mark) → first_stop ms ≡ None → first_stop (ms ++ ns) ≡ first_stop ns
@@ -291,5 +288,14 @@ pattern_refused o p a e h = record { is_first = refused_before (marks o (before_
 pub behind_refused : (o p : Outline) (w : Opened) (a b : Reader) (e : ScopeError) → ReadsPattern o w a b → Refuses p b e → Refuses (pattern o p) a e
 unfolding opens marks
 behind_refused o p w a b e h k = record { is_first = refused_then (marks o (before_pattern (around a))) _ e h.goes.answers.none_stops (refused_at (marks p) e h.goes.around_ k.is_first) }
+
+-- the scope of a pattern
+pub scope_read : (o p : Outline) (at : Place) (w : Opened) (a b c d e : Reader) → IsAt at a → ReadsPattern o w a b → Moves (enters w) b c → Reads p c d → GoesBack at d e → Reads (closed (pattern o empty ▸ p)) a e
+scope_read o p at w a b c d e h k l m n = closed_read (pattern o empty ▸ p) at a d e h (then_read (pattern o empty) p a c d (pattern_read o empty w a b b c k (empty_read b) l) m) n
+
+pub scope_refused : (o p : Outline) (w : Opened) (a b c : Reader) (e : ScopeError) → ReadsPattern o w a b → Moves (enters w) b c → Refuses p c e → Refuses (closed (pattern o empty ▸ p)) a e
+scope_refused o p w a b c e k l m = closed_refused (pattern o empty ▸ p) a e (then_refused (pattern o empty) p a c e (pattern_read o empty w a b b c k (empty_read b) l) m)
+
+pub ruleset scoping = (scope_refused, memory_refused)
 
 pub ruleset reading = (empty_read, memory_refused, then_read, then_refused, first_refused, then_any, closed_read, closed_refused, group_read, group_refused, type_read, type_refused, each_none, each_more, each_refused, each_all, pattern_type_read, pattern_type_refused, pattern_type_again, whole_pattern, whole_pattern_refused, pattern_memory, pattern_read, pattern_refused, behind_refused)

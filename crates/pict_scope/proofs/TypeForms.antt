@@ -1,5 +1,5 @@
 -- The outlines of written types whose parts stand in vectors and boxes.
-use Rattle.std.proofs.Common.{◌≡◌, ℕ, List, [], ◌∷◌, Some, None, refl, sym, ◌∙◌, ap, subst, Box, Global}
+use Rattle.std.proofs.Common.{◌≡◌, List, [], ◌∷◌, Some, None, refl, sym, ◌∙◌, ap, subst, Box, Global}
 use Rattle.std.specs.Prelude.{Vec, Option, Result}
 use Rattle.pict_syntax.specs.declared.code.Code.TheVariants.{S3}
 use Rattle.pict_syntax.specs.declared.span.Span.{Span}
@@ -15,7 +15,7 @@ use Rattle.pict_scope.specs.declared.reader.Reader.{Reader}
 use Rattle.pict_scope.specs.Outlines.{Outline, empty, ◌▸◌, closed, group, once, binds_type, type_use}
 use Rattle.pict_scope.specs.Forms.{in_type, in_types, in_binders, in_labelled_types, in_bound, in_annotation}
 use Rattle.pict_scope.specs.Held.{each_on, each, in_held, in_type_tree, in_binder_tree, in_labelled_type}
-use Rattle.pict_scope.specs.Reads.{Reads, IsRead}
+use Rattle.pict_scope.specs.Reads.{IsRead}
 
 pub read_as : {T : Type 0} (o p : Outline) (a b : Reader) (r : Result T ScopeError) → o ≡ p → IsRead o a b r → IsRead p a b r
 read_as o p a b r is h = subst (λ q. IsRead q a b r) is h

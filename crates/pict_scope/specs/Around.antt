@@ -1,10 +1,11 @@
 -- What stands around a place of a program: the binders in whose scope it is, the nearest first.
-use Rattle.std.specs.Prelude.{ℕ, suc, nat_eq, Bool, false, ◌||◌, if◌then◌else◌, List, [], ◌∷◌, ◌++◌, Option, Some, None}
+use Rattle.std.specs.Prelude.{ℕ, suc, nat_eq, Bool, false, ◌||◌, List, [], ◌∷◌, ◌++◌, Option, Some, None}
 use Rattle.std.specs.Option.{option_map}
 use Rattle.pict_syntax.specs.declared.id.Id.{Id}
 use Rattle.pict_syntax.specs.Names.{text_of}
 use Rattle.pict_scope.specs.PrimitiveNames.{primitive_named}
-use Rattle.pict_scope.specs.declared.binders.Binder.{Binder}
+use Rattle.pict_binders.specs.declared.binders.Binder.{Binder}
+use Rattle.pict_binders.specs.Numbered.{nearest}
 use Rattle.pict_scope.specs.declared.target.Target.{Target}
 use Rattle.pict_scope.specs.declared.target.Target.TheVariants.{Prim, Binder as BinderTarget}
 
@@ -22,11 +23,6 @@ pub record Around : Type 0 where
   -- the numbers of the next binders. Values and types are numbered apart, in the order in which they are bound
   pub next_value : ℕ
   pub next_type : ℕ
-
--- the nearest binder of a name
-abbrev pub nearest : List Binder → ℕ → Option ℕ
-nearest [] n = None
-nearest (b ∷ bs) n = if nat_eq b.name n then Some b.number else nearest bs n
 
 -- what a value use means: its nearest binder, or else the primitive
 abbrev pub or_primitive : Option ℕ → List ℕ → Option Target

@@ -8,6 +8,7 @@ use Rattle.pict_scope.specs.Around.{Around, is_among}
 use Rattle.pict_scope.specs.Marks.{Mark, value_used, type_used, value_bound, stands_twice, first_stop}
 use Rattle.pict_scope.specs.Outlines.{Outline, ◌▸◌, opens, marks, once}
 use Rattle.pict_scope.specs.Scopes.{program_marks, scope_stop}
+use Rattle.pict_scope.specs.DistinctLabels.{DecsHaveDistinctLabels}
 
 -- a program has at most one scope stop
 abbrev pub OneScopeStop : Type 0
@@ -35,3 +36,7 @@ PartsAreScoped = (o p : Outline) (a : Around) → first_stop (marks (o ▸ p) a)
 -- where a name that may stand once isn't refused, it is none of those before it in its group
 abbrev pub StandsOnce : Type 0
 StandsOnce = (c : Code) (x : Id) (a : Around) → first_stop (marks (once c x) a) ≡ None → IsTrue (not (is_among a.group x.name.0))
+
+-- where nothing is refused, no label stands twice
+abbrev pub NoLabelTwice : Type 0
+NoLabelTwice = (texts : List (List ℕ)) (p : Decs) → scope_stop texts p ≡ None → DecsHaveDistinctLabels p

@@ -1,12 +1,14 @@
 pub mod PrimitiveNames
-pub mod Numbered
 pub mod Layers
 pub mod Around
 pub mod Marks
 pub mod Outlines
 pub mod Forms
 pub mod Scopes
+pub mod Refusals
+pub mod Places
 pub mod Reads
 pub mod Steps
 pub mod Held
+pub mod DistinctLabels
 pub mod Laws

@@ -1,10 +1,11 @@
 -- Outlines: of a piece of program, what uses names, what binds them, and how far.
-use Rattle.std.specs.Prelude.{ℕ, Bool, true, false, List, [], ◌∷◌, ◌++◌, Option, Some, None, if◌then◌else◌}
+use Rattle.std.specs.Prelude.{ℕ, Bool, true, false, List, [], ◌∷◌, ◌++◌, Option, Some, None}
 use Rattle.pict_syntax.specs.declared.code.Code.{Code}
 use Rattle.pict_syntax.specs.declared.code.Code.TheVariants.{S3}
 use Rattle.pict_syntax.specs.declared.span.Span.{Span}
 use Rattle.pict_syntax.specs.declared.id.Id.{Id}
-use Rattle.pict_scope.specs.Around.{Around, nearest, meaning, is_among, with_value, with_values, with_pattern_value, past_type, with_type, with_pattern_type, with_group, behind, before_pattern, behind_pattern, in_pattern}
+use Rattle.pict_binders.specs.Numbered.{nearest}
+use Rattle.pict_scope.specs.Around.{Around, meaning, is_among, with_value, with_values, with_pattern_value, past_type, with_type, with_pattern_type, with_group, behind, before_pattern, behind_pattern, in_pattern}
 use Rattle.pict_scope.specs.Marks.{Mark, value_used, type_used, value_bound, stands_twice}
 
 infixr 60 ◌▸◌

@@ -1,11 +1,9 @@
 -- What a reader knows and has answered, and what reading an outline makes of it.
-use Rattle.std.specs.Prelude.{◌≡◌, ℕ, List, [], ◌++◌, Some, None, Result, Ok, Err}
-use Rattle.pict_scope.specs.declared.binders.Binder.{Binder}
+use Rattle.std.specs.Prelude.{◌≡◌, List, [], ◌++◌, Some, None, Result, Ok, Err}
 use Rattle.pict_scope.specs.declared.error.ScopeError.{ScopeError}
 use Rattle.pict_scope.specs.declared.error.ScopeError.TheVariants.{Named, Memory}
 use Rattle.pict_scope.specs.declared.reader.Reader.{Reader}
-use Rattle.pict_scope.specs.declared.target.Target.{Target}
-use Rattle.pict_scope.specs.Numbered.{names_of}
+use Rattle.pict_binders.specs.Numbered.{names_of}
 use Rattle.pict_scope.specs.Layers.{here, outside}
 use Rattle.pict_scope.specs.Around.{Around}
 use Rattle.pict_scope.specs.Marks.{Mark, first_stop, value_meanings, type_meanings, binders_read}

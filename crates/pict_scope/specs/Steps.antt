@@ -1,5 +1,5 @@
 -- What the reader's smaller steps do.
-use Rattle.std.specs.Prelude.{◌≡◌, ℕ, ◌-◌, List, [], ◌++◌, length, drop, Result, Ok, Err}
+use Rattle.std.specs.Prelude.{◌≡◌, ℕ, ◌-◌, [], ◌++◌, length, drop, Result, Ok, Err}
 use Rattle.pict_scope.specs.declared.error.ScopeError.{ScopeError}
 use Rattle.pict_scope.specs.declared.reader.Reader.{Reader}
 use Rattle.pict_scope.specs.declared.reader.Place.{Place}

@@ -1,6 +1,6 @@
 // The laws of scopes, each as the contract of a function that does nothing.
 
-ghost use Rattle.pict_scope.specs.Laws.{OneScopeStop, PartsAreScoped, StandsOnce, UsesAreBound};
+ghost use Rattle.pict_scope.specs.Laws.{NoLabelTwice, OneScopeStop, PartsAreScoped, StandsOnce, UsesAreBound};
 
 /// A program has at most one scope stop.
 pub fn law_one_scope_stop()
@@ -21,4 +21,10 @@ pub fn law_parts_are_scoped()
 /// A name that may stand once, and is not refused, stands for the first time in its group.
 pub fn law_stands_once()
     ensures { StandsOnce }
+{}
+
+/// In a program without scope stop no label stands twice: in no record, record pattern, function, application or record
+/// type.
+pub fn law_no_label_twice()
+    ensures { NoLabelTwice }
 {}

@@ -1,10 +1,10 @@
 // The binders of one group of names, or of one pattern, inside those of others.
 
 ghost use Rattle.std.specs.Prelude.{◌≡◌, ◌∷◌, [], OnOk, IfOk};
-ghost use Rattle.pict_scope.specs.Around.{nearest};
+ghost use Rattle.pict_binders.specs.Numbered.{nearest};
 ghost use Rattle.pict_scope.specs.Layers.{here, outside};
 
-use crate::binders::{Binder, Binders};
+use pict_binders::{Binder, Binders};
 use pict_syntax::Name;
 use std::alloc::{AllocError, Global};
 

@@ -6,11 +6,11 @@ ghost use Rattle.pict_scope.specs.Outlines.{binds_type, binds_value, defines, em
 ghost use Rattle.pict_scope.specs.Reads.{IsRead, Moves, around};
 ghost use Rattle.pict_scope.specs.Scopes.{outermost};
 
-use crate::binders::{Binder, Binders};
 use crate::error::ScopeError;
 use crate::layer::Layer;
 use crate::primitives::primitive_named;
 use crate::target::Target;
+use pict_binders::{Binder, Binders};
 use pict_syntax::{Code, Id, Name, Names, Span};
 use std::alloc::{AllocError, Global};
 

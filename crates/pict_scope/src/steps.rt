@@ -4,8 +4,8 @@ ghost use Rattle.std.specs.Prelude.{◌≡◌, ◌++◌, IfOk, OnOk};
 ghost use Rattle.pict_scope.specs.Reads.{Moves};
 ghost use Rattle.pict_scope.specs.Steps.{ClosesGroup, ClosesPattern, GoesBack, IsAt, OpensGroup, OpensPattern, enters};
 
-use crate::binders::{Binder, Binders};
 use crate::reader::{Opened, Place, Reader};
+use pict_binders::{Binder, Binders};
 use std::alloc::AllocError;
 
 /// How many binders there are around the place. Takes no memory.

@@ -1,6 +1,5 @@
 -- Parked processes stand at channels, and no channel has a parked message and a parked reader at once.
-use Rattle.std.proofs.Common.{ℕ, ◌+◌, ◌<◌, ◌≡◌, ◌⊎◌, inl, inr, Bool, true, false, not, ◌&&◌, nat_eq, List, [], ◌∷◌, ◌++◌, refl, sym, ap, subst, Option, Some, arith}
-use Rattle.std.proofs.lemmas.Bool.Decides.{nat_tests}
+use Rattle.std.proofs.Common.{ℕ, ◌+◌, ◌<◌, ◌≡◌, ◌⊎◌, inl, inr, Bool, true, false, nat_eq, List, [], ◌∷◌, ◌++◌, refl, sym, subst, Option, Some, arith}
 use Rattle.pict_syntax.specs.declared.span.Span.{Span}
 use Rattle.pict_core.specs.Term.{Val, Pat, Process, Chan, Out, In}
 use Rattle.pict_core.specs.Closed.{IsUnder, IsClosed}
@@ -8,7 +7,7 @@ use Rattle.pict_core.specs.Configuration.{Mark, Ready, Parked, Entry, Configurat
 use Rattle.pict_core.specs.Step.{Label, Choice, Free, is_ready, is_ready_mark, reads, sends, is_parked_reader, is_parked_message, entry_at, gone, kept, added, with_channel, served}
 use Rattle.pict_core.proofs.Stamps.{EntryClosed, least_closed}
 use Rattle.pict_core.proofs.Kept.{free_steps_keep}
-use Rattle.pict_core.proofs.Partners.{same_channel, channel_is, and_right}
+use Rattle.pict_core.proofs.Partners.{same_channel, channel_is, and_right, own_channel, ready_no_message, ready_no_reader}
 use Rattle.pict_sound.specs.Reached.{FreelyReaches, at_start, by_step, StandsAt}
 use Rattle.pict_sound.specs.Laws.{ParkedApart}
 use Rattle.pict_core.specs.Table.{Row, ends, forks, makes_channel, takes_first, takes_second, primitive_ends, primitive_answers, output_parks, output_meets_reader, output_meets_server, input_parks, reader_meets_message, server_meets_message}
@@ -32,12 +31,6 @@ pub record IsApart (C : Configuration) : Type 0 where
 
 ready_stands : (n : ℕ) (e : Entry) → is_ready e ≡ true → Standing n e
 ready_stands n e h k = cc
-
-pub ready_no_message : (c : ℕ) (e : Entry) → is_ready e ≡ true → is_parked_message c e ≡ false
-ready_no_message c e h = ap (λ b. not b && sends c e.process) h
-
-pub ready_no_reader : (c : ℕ) (e : Entry) → is_ready e ≡ true → is_parked_reader c e ≡ false
-ready_no_reader c e h = ap (λ b. not b && reads c e.process) h
 
 either : {A B A' B' : Type 0} → (A → A') → (B → B') → A ⊎ B → A' ⊎ B'
 either f g (inl x) = inl (f x)
@@ -71,9 +64,6 @@ at_kept a p C r stands ready h = record {
   standing = each_kept (Standing C.channels) a.stamp p a 0 C.entries C.next_stamp r (ready_stands C.channels) ready stands h.standing;
   apart = λ c. either (each_kept (Fails (is_parked_message c)) a.stamp p a 0 C.entries C.next_stamp r (ready_no_message c) ready stands) (each_kept (Fails (is_parked_reader c)) a.stamp p a 0 C.entries C.next_stamp r (ready_no_reader c) ready stands) (h.apart c);
 }
-
-own_channel : (c : ℕ) → nat_eq c c ≡ true
-own_channel c = grind (arith, nat_tests)
 
 -- an output parks where no reader is parked
 at_message : (c : ℕ) (v : Val) (at : Span) (C : Configuration) → c < C.channels → NoReader c C.entries → IsApart C → IsApart (added Parked (Out (Chan c) v at) C)

@@ -10,7 +10,7 @@ use Rattle.pict_core.specs.Term.{Val, Process, Var, Chan, Boolean, Zero, Par, Ou
 use Rattle.pict_core.specs.Substitution.{replace, replace_value, substitute, value_of_variable, substitution}
 use Rattle.pict_core.specs.Primitives.{Leaves, Nothing, Answer, Trap}
 use Rattle.pict_sound.specs.Congruence.{renaming}
-use Rattle.pict_sound.specs.Reduction.{IsName, variable, channel, left_by, Reduces, up_to}
+use Rattle.pict_sound.specs.Reduction.{IsName, variable, channel, left_by, up_to}
 use Rattle.pict_sound.specs.Reduction as reduction
 use Rattle.pict_sound.specs.Components.{Components, renamed, make_room, beside, components, Permutes, AreAlike}
 use Rattle.pict_sound.specs.Redex.{Fires, communicates, serves, chooses, performs, left_beside, Reacts}
@@ -19,6 +19,7 @@ use Rattle.pict_sound.proofs.Replacing.{two, replace-after}
 use Rattle.pict_sound.proofs.Natural.{match_natural, effect_natural, replace_leaves}
 use Rattle.pict_sound.proofs.Renaming.{fun_ext, then, same, each-then, each_as, each-same, each-append, each_square, room_below, room_above, below_or, Renames}
 use Rattle.pict_sound.proofs.Alike.{moved, components_moved, room_first, permutes_inverse, stays_below, blocks, blocks_permutes, blocks_first, zone, zone_below, zone_above, zone_second, equal_lists, alike_same, alike_symmetric, alike_transitive, alike_par, alike_new, no_room, counted, congruent_are_alike}
+use Rattle.pict_core.proofs.Substituting.{value_of_variable-below}
 
 -- ---- redexes are renamed
 
@@ -29,9 +30,6 @@ part_renamed : (f : ℕ → ℕ) (vs : List Val) (i : ℕ) (d d' : Val) → (len
 part_renamed f [] i d d' h = h (omega arith)
 part_renamed f (v ∷ vs) zero d d' h = refl
 part_renamed f (v ∷ vs) (suc i) d d' h = part_renamed f vs i d d' (λ k. h (omega arith))
-
-substitute_below : (n : ℕ) (vs : List Val) (x : ℕ) → x < n → value_of_variable n vs x ≡ Var x
-substitute_below n vs x h = let t : nat_lt x n ≡ true = grind (arith, nat_tests) in ap (λ b. cond b (Var x) (unwrap_or (slice_get vs (x - n)) (Var (x - length vs)))) t
 
 substitute_above : (n : ℕ) (vs : List Val) (x : ℕ) → n ≤ x → value_of_variable n vs x ≡ unwrap_or (slice_get vs (x - n)) (Var (x - length vs))
 substitute_above n vs x h = let t : nat_lt x n ≡ false = grind (arith, nat_tests) in ap (λ b. cond b (Var x) (unwrap_or (slice_get vs (x - n)) (Var (x - length vs)))) t
@@ -44,7 +42,7 @@ module _ (f : ℕ → ℕ) (n m : ℕ) (h : Renames f n m) where
   variable_renamed bound x = go (below_or x n)
     where
       go : (x < n) ⊎ (n ≤ x) → rename_val f (value_of_variable n bound x) ≡ value_of_variable m (map (rename_val f) bound) (f x)
-      go (inl l) = ap (rename_val f) (substitute_below n bound x l) ∙ sym (substitute_below m (map (rename_val f) bound) (f x) (h.below x l))
+      go (inl l) = ap (rename_val f) (value_of_variable-below n bound x l) ∙ sym (value_of_variable-below m (map (rename_val f) bound) (f x) (h.below x l))
       go (inr l) =
           let e : f x ≡ m + (x - n) = from_n x l in
           let place : f x - m ≡ x - n = omega (arith, e) in

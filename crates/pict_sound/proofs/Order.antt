@@ -12,7 +12,8 @@ use Rattle.pict_sound.specs.Laws.{ChannelsInOrder}
 use Rattle.pict_core.specs.Table.{Row, ends, forks, makes_channel, takes_first, takes_second, primitive_ends, primitive_answers, output_parks, output_meets_reader, output_meets_server, input_parks, reader_meets_message, server_meets_message}
 use Rattle.pict_sound.proofs.Steps.{Meets, Stepped, OldestStepped, oldest_stepped}
 use Rattle.pict_core.proofs.Entries.{Each, each_map, Fails, with_process_past, without_past, without_swap, least_without, parked_is}
-use Rattle.pict_sound.proofs.Apart.{IsReached, IsApart, NoMessage, NoReader, ready_no_message, ready_no_reader, no_message_beside, no_reader_beside, reader_channel, message_channel, opening_reached, step_reached}
+use Rattle.pict_sound.proofs.Apart.{IsReached, IsApart, NoMessage, NoReader, no_message_beside, no_reader_beside, reader_channel, message_channel, opening_reached, step_reached}
+use Rattle.pict_core.proofs.Partners.{ready_no_message, ready_no_reader, same_channel}
 
 -- ---- what is parked
 
@@ -118,9 +119,6 @@ commute : {A : Type 0} (xs ys : List A) (b : Bool) → (b ≡ true → xs ≡ []
 commute xs ys true f g = ap (λ l. l ++ ys) (f refl) ∙ sym (ap (λ l. ys ++ l) (f refl) ∙ append-nil ys)
 commute xs ys false f g = ap (λ l. xs ++ l) (g refl) ∙ append-nil xs ∙ sym (ap (λ l. l ++ xs) (g refl))
 
-is_same : (c d : ℕ) → nat_eq c d ≡ true → c ≡ d
-is_same c d h = grind (arith, nat_tests)
-
 abbrev served_by : ℕ → Process → Option Entry → List Process
 served_by c p None = []
 served_by c p (Some u) = reader_at c p ++ reader_at c u.process
@@ -188,16 +186,16 @@ module _ (c : ℕ) (C : Configuration) (is : IsConfiguration C) (apart : IsApart
   ready_none f p M = parked_added_none f M.entries _ refl
 
   no_messages : (d : ℕ) → NoMessage d C.entries → nat_eq c d ≡ true → messages c C.entries ≡ []
-  no_messages d h e = parked_none (message_at c) C.entries (each_map (Fails (is_parked_message c)) (λ x. here (message_at c) x ≡ []) (no_message c) C.entries (subst (λ n. NoMessage n C.entries) (sym (is_same c d e)) h))
+  no_messages d h e = parked_none (message_at c) C.entries (each_map (Fails (is_parked_message c)) (λ x. here (message_at c) x ≡ []) (no_message c) C.entries (subst (λ n. NoMessage n C.entries) (sym (same_channel c d e)) h))
 
   no_readers : (d : ℕ) → NoReader d C.entries → nat_eq c d ≡ true → readers c C.entries ≡ []
-  no_readers d h e = parked_none (reader_at c) C.entries (each_map (Fails (is_parked_reader c)) (λ x. here (reader_at c) x ≡ []) (no_reader c) C.entries (subst (λ n. NoReader n C.entries) (sym (is_same c d e)) h))
+  no_readers d h e = parked_none (reader_at c) C.entries (each_map (Fails (is_parked_reader c)) (λ x. here (reader_at c) x ≡ []) (no_reader c) C.entries (subst (λ n. NoReader n C.entries) (sym (same_channel c d e)) h))
 
   -- the partner of an output on channel d is the first of its readers
   reader_first : (d : ℕ) (u : Entry) (q : Process) → u.process ≡ q → least (is_parked_reader d) C.entries ≡ Some u → entry_at u.stamp C.entries ≡ Some u → is_ready u ≡ false
       → (nat_eq c d ≡ false → reader_at c q ≡ []) → (b : Bool) → nat_eq c d ≡ b → readers c C.entries ≡ reader_at c q ++ readers c (without u.stamp (without a.stamp C.entries))
   reader_first d u q e h k parked g true t =
-      both_gone (reader_at c) (is_parked_reader c) u (no_reader c) (subst (λ n. least (is_parked_reader n) C.entries ≡ Some u) (sym (is_same c d t)) h) k parked
+      both_gone (reader_at c) (is_parked_reader c) u (no_reader c) (subst (λ n. least (is_parked_reader n) C.entries ≡ Some u) (sym (same_channel c d t)) h) k parked
       ∙ ap (λ l. l ++ readers c (without u.stamp (without a.stamp C.entries))) (ap (λ b. cond b [] (reader_at c u.process)) parked ∙ ap (reader_at c) e)
   reader_first d u q e h k parked g false t =
       sym (both_gone_none (reader_at c) u (ap (λ b. cond b [] (reader_at c u.process)) parked ∙ ap (reader_at c) e ∙ g t) k parked) ∙ sym (ap (λ l. l ++ readers c (without u.stamp (without a.stamp C.entries))) (g t))
@@ -205,7 +203,7 @@ module _ (c : ℕ) (C : Configuration) (is : IsConfiguration C) (apart : IsApart
   message_first : (d : ℕ) (u : Entry) (q : Process) → u.process ≡ q → least (is_parked_message d) C.entries ≡ Some u → entry_at u.stamp C.entries ≡ Some u → is_ready u ≡ false
       → (nat_eq c d ≡ false → message_at c q ≡ []) → (b : Bool) → nat_eq c d ≡ b → messages c C.entries ≡ message_at c q ++ messages c (without u.stamp (without a.stamp C.entries))
   message_first d u q e h k parked g true t =
-      both_gone (message_at c) (is_parked_message c) u (no_message c) (subst (λ n. least (is_parked_message n) C.entries ≡ Some u) (sym (is_same c d t)) h) k parked
+      both_gone (message_at c) (is_parked_message c) u (no_message c) (subst (λ n. least (is_parked_message n) C.entries ≡ Some u) (sym (same_channel c d t)) h) k parked
       ∙ ap (λ l. l ++ messages c (without u.stamp (without a.stamp C.entries))) (ap (λ b. cond b [] (message_at c u.process)) parked ∙ ap (message_at c) e)
   message_first d u q e h k parked g false t =
       sym (both_gone_none (message_at c) u (ap (λ b. cond b [] (message_at c u.process)) parked ∙ ap (message_at c) e ∙ g t) k parked) ∙ sym (ap (λ l. l ++ messages c (without u.stamp (without a.stamp C.entries))) (g t))

@@ -1,5 +1,5 @@
 -- The reading of a process: substitution and renaming on it.
-use Rattle.std.proofs.Common.{ℕ, zero, suc, ◌+◌, ◌-◌, ◌<◌, ◌≤◌, ◌≡◌, true, false, nat_lt, cond, List, [], ◌∷◌, map, length, refl, sym, ap, ◌∙◌, arith, unwrap_or}
+use Rattle.std.proofs.Common.{ℕ, zero, suc, ◌+◌, ◌-◌, ◌≤◌, ◌≡◌, true, false, nat_lt, cond, List, [], ◌∷◌, map, length, refl, sym, ap, ◌∙◌, arith, unwrap_or}
 use Rattle.std.proofs.lemmas.Bool.Decides.{nat_tests}
 use Rattle.std.proofs.lemmas.List.{length-map}
 use Rattle.std.specs.List.{slice_get}
@@ -7,7 +7,7 @@ use Rattle.pict_core.specs.Term.{Val, Process, Var, Chan, Par}
 use Rattle.pict_core.specs.Closed.{IsUnder}
 use Rattle.pict_core.specs.Substitution.{replace_value, substitute, substitution, value_of_variable}
 use Rattle.pict_core.specs.Configuration.{Entry, AreClosed}
-use Rattle.pict_core.proofs.Substituting.{value_of_variable-zero}
+use Rattle.pict_core.proofs.Substituting.{value_of_variable-zero, value_of_variable-below}
 use Rattle.pict_sound.specs.Congruence.{renaming, raise, raised}
 use Rattle.pict_sound.specs.Reading.{naming, read, composition}
 use Rattle.pict_sound.proofs.Replacing.{after, replace-after, Agree, agrees}
@@ -28,11 +28,6 @@ variable_from n vs level =
     let place : level + n - n ≡ level = omega arith in
     ap (λ b. cond b (Var (level + n)) (unwrap_or (slice_get vs (level + n - n)) (Var (level + n - length vs)))) test ∙ ap (λ i. unwrap_or (slice_get vs i) (Var (level + n - length vs))) place
 
-variable_below : (n : ℕ) (vs : List Val) (level : ℕ) → level < n → value_of_variable n vs level ≡ Var level
-variable_below n vs level h =
-    let test : nat_lt level n ≡ true = grind (arith, nat_tests) in
-    ap (λ b. cond b (Var level) (unwrap_or (slice_get vs (level - n)) (Var (level - length vs)))) test
-
 substitute_agrees : (n : ℕ) (bound : List Val) → Agree n (after (naming n) (substitution 0 bound)) (after (substitution n (map (read_val n) bound)) (naming n))
 substitute_agrees n bound = record {
   variable = λ level.
@@ -40,7 +35,7 @@ substitute_agrees n bound = record {
       ap (read_val n) (value_of_variable-zero bound level)
       ∙ part_read n bound level (Var (level - length bound)) (Var (level + n - length (map (read_val n) bound))) (λ k. ap Var (omega (arith, same)))
       ∙ sym (variable_from n (map (read_val n) bound) level);
-  channel = λ number h. sym (variable_below n (map (read_val n) bound) number h);
+  channel = λ number h. sym (value_of_variable-below n (map (read_val n) bound) number h);
 }
 
 -- substitution and reading commute

@@ -12,16 +12,17 @@ use Rattle.pict_core.specs.Configuration.{Ready, Parked, Entry, Configuration, I
 use Rattle.pict_core.specs.Step.{Label, is_ready, is_parked_reader, is_parked_message, entry_at, gone, kept, added, with_channel, with_process, served, took}
 use Rattle.pict_core.proofs.Stamps.{without, StampsRise-without, AreClosed-without, EntryClosed, least_closed}
 use Rattle.pict_sound.specs.Congruence.{Congruent, reflexive, symmetric, transitive, in_par, in_new, unit, commutative, associative, extrusion, raised}
-use Rattle.pict_sound.specs.Reduction.{IsName, variable, left_by, Reduces, communicates, serves, chooses, performs, up_to}
+use Rattle.pict_sound.specs.Reduction.{variable, left_by, Reduces, communicates, serves, chooses, performs, up_to}
 use Rattle.pict_sound.specs.Reduction as reduction
 use Rattle.pict_sound.specs.Reading.{naming, read, composition, declare, reading}
 use Rattle.pict_sound.specs.Laws.{StepsAreReductions}
 use Rattle.pict_core.specs.Table.{Row, ends, forks, makes_channel, takes_first, takes_second, primitive_ends, primitive_answers, output_parks, output_meets_reader, output_meets_server, input_parks, reader_meets_message, server_meets_message}
 use Rattle.pict_sound.proofs.Steps.{Meets, Stepped, free_stepped}
 use Rattle.pict_core.proofs.Entries.{with_process_past, without_past, without_swap, least_without, parked_is}
-use Rattle.pict_sound.proofs.Apart.{reader_channel, message_channel, ready_no_message, ready_no_reader}
+use Rattle.pict_sound.proofs.Apart.{reader_channel, message_channel}
 use Rattle.pict_sound.proofs.Natural.{match_natural, effect_natural, replace_leaves}
 use Rattle.pict_sound.proofs.Readings.{read_substituted, read_new, composition_raised}
+use Rattle.pict_core.proofs.Partners.{ready_no_message, ready_no_reader}
 
 -- ---- congruence
 

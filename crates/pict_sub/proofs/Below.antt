@@ -1,57 +1,21 @@
 -- The parts of records: what each weighs, that it is well formed, and where a row ends.
-use Rattle.std.proofs.Common.{◌≡◌, ◌≢◌, ℕ, zero, suc, ◌+◌, ◌≤◌, ◌<◌, List, [], ◌∷◌, length, get_or, drop, length-drop, refl, sym, ◌∙◌, ap, ap₂, subst, subst₂, ◌↔◌, ◌⊎◌, inl, inr, Bool, Result, Ok, Err, arith}
+use Rattle.std.proofs.Common.{◌≡◌, ◌≢◌, ℕ, suc, ◌+◌, ◌≤◌, ◌<◌, List, [], ◌∷◌, length, drop, length-drop, refl, sym, ◌∙◌, ap, ap₂, subst, subst₂, ◌↔◌, ◌⊎◌, inl, inr, Bool, Result, Ok, Err, arith}
 use Rattle.std.specs.Prelude.{IfOk, IsTrue, nat_eq}
 use Rattle.std.proofs.lemmas.Bool.{cases_lt, eq-eqb, eqb-true}
 use Rattle.pict_syntax.specs.declared.name.Name.{Name}
 use Rattle.pict_types.specs.declared.types.Ty.{Ty}
-use Rattle.pict_types.specs.Types.{PlainType, Fields, PlainTypes, PlainLabels, no_label, labels, PlainBounds, no_bound, bounds, TypeContext, under, count_types}
-use Rattle.pict_types.specs.Kinds.{Kind, IsWellFormed, AreWellFormed, LabelsAreWellFormed, BoundsAreWellFormed, ContextIsWellFormed, kinds, kinds_under}
-use Rattle.pict_types.specs.Measures.{weigh, weigh_types, weigh_labels, weigh_bounds, weights, weight_of}
+use Rattle.pict_types.specs.Types.{PlainType, Fields, PlainTypes, PlainLabels, no_label, labels, PlainBounds, TypeContext, under}
+use Rattle.pict_types.specs.Kinds.{Kind, IsWellFormed, AreWellFormed, LabelsAreWellFormed, ContextIsWellFormed, kinds}
+use Rattle.pict_types.specs.Measures.{weigh_types, weigh_labels, weigh_bounds, weights, weight_of}
 use Rattle.pict_types.specs.Plain.{plain, plain_types, plain_labels}
-use Rattle.pict_types.specs.Entries.{PlainWhat, Variable, Definition, PlainContext, variables, with_variable, EntryIsWellFormed, EntriesAreWellFormed}
 use Rattle.pict_sub.specs.Subtyping.{IsSubtype, AreSubtypes, HasLabels, has_none}
-use Rattle.pict_types.proofs.Rows.{labels_drop, labels_end}
-use Rattle.pict_sub.proofs.Inversion.{as_many, records, label_other, label_alike, no_label_left}
-use Rattle.pict_sub.proofs.Weighing.{weights_under_is}
-
-pub types_weigh : (ws : List ℕ) (xs : List Ty) (i : ℕ) (d : Ty) → i < length xs → weigh ws (plain (get_or xs i d)) ≤ weigh_types ws (plain_types xs)
-types_weigh ws [] i d h = absurd (omega arith)
-types_weigh ws (x ∷ xs) zero d h = omega arith
-types_weigh ws (x ∷ xs) (suc i) d h = omega (arith, types_weigh ws xs i d (omega arith))
-
-pub labels_weigh : (ws : List ℕ) (xs : List (Name × Ty)) (i : ℕ) (d : Name × Ty) → i < length xs → weigh ws (plain (get_or xs i d).1) ≤ weigh_labels ws (plain_labels xs)
-labels_weigh ws [] i d h = absurd (omega arith)
-labels_weigh ws (x ∷ xs) zero d h = omega arith
-labels_weigh ws (x ∷ xs) (suc i) d h = omega (arith, labels_weigh ws xs i d (omega arith))
-
-pub types_formed : (ns : List (List ℕ)) (ks : List Kind) (xs : List Ty) (i : ℕ) (d : Ty) → AreWellFormed ns ks (plain_types xs) → i < length xs → IsWellFormed ns ks (plain (get_or xs i d))
-types_formed ns ks [] i d w h = absurd (omega arith)
-types_formed ns ks (x ∷ xs) zero d w h = w.0
-types_formed ns ks (x ∷ xs) (suc i) d w h = types_formed ns ks xs i d w.1 (omega arith)
-
-pub labels_formed : (ns : List (List ℕ)) (ks : List Kind) (xs : List (Name × Ty)) (i : ℕ) (d : Name × Ty) → LabelsAreWellFormed ns ks (plain_labels xs) → i < length xs → IsWellFormed ns ks (plain (get_or xs i d).1)
-labels_formed ns ks [] i d w h = absurd (omega arith)
-labels_formed ns ks (x ∷ xs) zero d w h = w.1.0
-labels_formed ns ks (x ∷ xs) (suc i) d w h = labels_formed ns ks xs i d w.1.1 (omega arith)
-
-types_counted : (xs : List Ty) → count_types (plain_types xs) ≡ length xs
-types_counted [] = refl
-types_counted (x ∷ xs) = ap suc (types_counted xs)
+use Rattle.pict_types.proofs.Rows.{labels_end, count_types_length}
+use Rattle.pict_sub.proofs.Inversion.{as_many, records, label_other, label_alike, no_label_left, types_rules}
+use Rattle.pict_types.proofs.Contexts.{weigh_record, kinds_under_is, formed_under}
+use Rattle.pict_types.proofs.Sizes.{weight_positive}
 
 pub types_below_length : (c : TypeContext) (xs ys : List Ty) → AreSubtypes c (plain_types xs) (plain_types ys) → length xs ≡ length ys
-types_below_length c xs ys d = sym (types_counted xs) ∙ as_many d ∙ types_counted ys
-
--- a record's weight, part by part under its type fields
-pub weigh_record : (c : TypeContext) (bs : PlainBounds) (ps : PlainTypes) (ls : PlainLabels) → weight_of c (Fields bs ps ls) ≡ suc (weigh_bounds (weights c) bs + (weigh_types (weights (under c bs)) ps + weigh_labels (weights (under c bs)) ls))
-weigh_record c bs ps ls = rw (weights_under_is c bs) (omega arith)
-
-pub kinds_under_is : (c : TypeContext) (bs : PlainBounds) → kinds (under c bs) ≡ kinds_under (kinds c) bs
-kinds_under_is c no_bound = refl
-kinds_under_is c (bounds b bs) = kinds_under_is (b ∷ c) bs
-
-pub formed_under : (ns : List (List ℕ)) (c : TypeContext) (bs : PlainBounds) → ContextIsWellFormed ns c → BoundsAreWellFormed ns (kinds c) bs → ContextIsWellFormed ns (under c bs)
-formed_under ns c no_bound w f = w
-formed_under ns c (bounds b bs) w f = formed_under ns (b ∷ c) bs (f.0, w) f.1
+types_below_length c xs ys d = sym (count_types_length xs) ∙ as_many d ∙ count_types_length ys
 
 -- what is well formed where the fields of a record stand
 pub record IsReady (ns : List (List ℕ)) (c : TypeContext) (bs : PlainBounds) (ps : PlainTypes) (ls : PlainLabels) : Type 0 where
@@ -65,15 +29,6 @@ ready ns c bs ps ls w f = record {
   rows = subst (λ k. AreWellFormed ns k ps) (sym (kinds_under_is c bs)) f.1.0;
   labelled = subst (λ k. LabelsAreWellFormed ns k ls) (sym (kinds_under_is c bs)) f.1.1;
 }
-
--- a context's bounds are well formed where its entries are
-pub entries_context : (ns : List (List ℕ)) (c : PlainContext) → EntriesAreWellFormed ns c → ContextIsWellFormed ns (variables c)
-entries_context ns [] w = tt
-entries_context ns (e ∷ c) w = go e.what w.0 (entries_context ns c w.1)
-  where
-    go : (x : PlainWhat) → EntryIsWellFormed ns (variables c) x → ContextIsWellFormed ns (variables c) → ContextIsWellFormed ns (with_variable x (variables c))
-    go (Variable b) f k = (f, k)
-    go (Definition a) f k = k
 
 -- one label further in two rows, where X says what the rows from here on do
 pub pass_label : {X : Type 0} (ns : List (List ℕ)) (ks : List Kind) (c : TypeContext) {A B : PlainLabels} (A' B' : PlainLabels) (m l : ℕ) (s t : PlainType) → A ≡ labels m s A' → B ≡ labels l t B' → m ≢ l → LabelsAreWellFormed ns ks A → LabelsAreWellFormed ns ks B → (X ↔ HasLabels c A B) → (X ↔ HasLabels c A' B)
@@ -137,16 +92,6 @@ pub second_decides : {E : Type 0} {A B X : Type 0} (r : Result Bool E) → A →
 second_decides (Ok b) a e h = (λ y. e.1 (a, h.0 y), λ x. h.1 (e.0 x).1)
 second_decides (Err e) a k h = h
 
--- the labelled field that is read
-pub label_read : (xs : List (Name × Ty)) (i : ℕ) (d : Name × Ty) → d ≡ get_or xs i d → i < length xs → plain_labels (drop i xs) ≡ labels d.0.0 (plain d.1) (plain_labels (drop (i + 1) xs))
-label_read xs i d e h = labels_drop xs i d h ∙ ap (λ x. labels x.0.0 (plain x.1) (plain_labels (drop (i + 1) xs))) (sym e)
-
-pub label_weighs : (ws : List ℕ) {A : PlainLabels} (l : ℕ) (t : PlainType) (ls : PlainLabels) → A ≡ labels l t ls → weigh_labels ws A ≡ weigh ws t + weigh_labels ws ls
-label_weighs ws l t ls e = ap (weigh_labels ws) e
-
-pub label_rest : (ns : List (List ℕ)) (ks : List Kind) {A : PlainLabels} (l : ℕ) (t : PlainType) (ls : PlainLabels) → A ≡ labels l t ls → LabelsAreWellFormed ns ks A → LabelsAreWellFormed ns ks ls
-label_rest ns ks l t ls e w = (subst (LabelsAreWellFormed ns ks) e w).1.1
-
 -- at the end of the smaller row the greater has to be at its end too
 pub all_found : {X : Type 0} (c : TypeContext) (xs ys : List (Name × Ty)) (i j : ℕ) → length xs ≤ i → j ≤ length ys → (X ↔ HasLabels c (plain_labels (drop i xs)) (plain_labels (drop j ys))) → IsTrue (nat_eq j (length ys)) ↔ X
 all_found {X = X} c xs ys i j h k e = go (cases_lt j (length ys))
@@ -162,3 +107,5 @@ all_found {X = X} c xs ys i j h k e = go (cases_lt j (length ys))
     go (inr m) =
         let q : j ≡ length ys = omega arith in
         (λ t. end_labels c (labels_end ys j m) e, λ x. eq-eqb j (length ys) q)
+
+pub ruleset rows_rules = (types_below_length, weight_positive, types_rules)

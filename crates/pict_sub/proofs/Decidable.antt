@@ -8,10 +8,10 @@ use Rattle.pict_types.specs.Measures.{weigh, weigh_types, weigh_labels, weights,
 use Rattle.pict_sub.specs.Shapes.{shape_of, variable, channel, record_}
 use Rattle.pict_sub.specs.Subtyping.{Rises, both_read, read_read, Falls, both_write, write_write, respond_write, respond_respond, IsSubtype, same, below_top, AreSubtypes, none, by_fields, HasLabels, has_label, has_none}
 use Rattle.pict_sub.specs.Laws.{IsDecided}
-use Rattle.pict_sub.proofs.Weighing.{weight_positive, weigh_bound_1}
 use Rattle.pict_sub.proofs.Deciding.{Decides, d_same, d_fields, to_decided, of_decided_types, of_decided_labels}
 use Rattle.pict_sub.proofs.Inversion.{unbounded_variable, bounded_variable_1, rising, falling, neither, only_itself, not_channel, not_record, types_short, types_long, types_more}
-use Rattle.pict_sub.proofs.Below.{weigh_record}
+use Rattle.pict_types.proofs.Sizes.{weight_positive}
+use Rattle.pict_types.proofs.Contexts.{weigh_bound_1, weigh_record}
 
 by_iff : {A B : Type 0} → A ↔ B → IsDecided B → IsDecided A
 by_iff e (inl b) = inl (e.1 b)

@@ -1,6 +1,6 @@
 -- Bounds followed with the code's sums; exposing gives one type, above the given one, and loses no subtyping.
 use Rattle.std.proofs.Common.{◌≡◌, ◌≢◌, ℕ, suc, ◌+◌, ◌≤◌, List, refl, sym, ◌∙◌, ap, subst, arith, add-one}
-use Rattle.pict_types.specs.Types.{PlainType, Var, PlainBound, Free, Below, Operator, TypeContext}
+use Rattle.pict_types.specs.Types.{PlainType, Var, Below, TypeContext}
 use Rattle.pict_types.specs.Renaming.{rename, rename_bound, moved, bound_at, bound_of}
 use Rattle.pict_types.specs.Kinds.{IsWellFormed, ContextIsWellFormed, kinds}
 use Rattle.pict_types.specs.Measures.{weight_of}
@@ -8,21 +8,15 @@ use Rattle.pict_types.proofs.Renamed.{bound_before}
 use Rattle.pict_sub.specs.Shapes.{shape_of, variable}
 use Rattle.pict_sub.specs.Exposing.{HasNoBound, ExposesTo, stays, follows, exposure}
 use Rattle.pict_sub.specs.Subtyping.{IsSubtype, same, through, below_bound}
-use Rattle.pict_sub.proofs.Weighing.{weigh_bound}
-use Rattle.pict_sub.proofs.Forming.{bound_is_formed}
 use Rattle.pict_sub.proofs.Exposed.{exposes}
 use Rattle.pict_sub.proofs.Deciding.{Decides, d_same, d_top, d_bound, to_decided, of_decided}
+use Rattle.pict_types.proofs.Contexts.{weigh_bound, bound_is_formed}
 
 unbounded : (c : TypeContext) (i : ℕ) → ((b : PlainType) → bound_at c i ≢ Below b) → HasNoBound c (Var i)
-unbounded c i h j b e q = go (bound_at c i) h (subst (λ x. bound_of c x ≡ Below b) (var_same e) q)
-  where
-    var_same : Var i ≡ Var j → j ≡ i
-    var_same e = cc
-
-    go : (y : PlainBound) → ((b : PlainType) → y ≢ Below b) → {b : PlainType} → rename_bound (moved (suc i) 0) y ≡ Below b → ⊥
-    go Free g e = cc
-    go (Below z) g e = g z refl
-    go (Operator n) g e = cc
+unbounded c i h j b e q =
+    let same_variable : j ≡ i = cc in
+    let z = bound_before (moved (suc i) 0) (bound_at c i) b (subst (λ x. bound_of c x ≡ Below b) same_variable q) in
+    h z.0 z.1
 
 -- a type is below what it exposes to
 pub below_exposed : {c : TypeContext} {t u : PlainType} → ExposesTo c t u → IsSubtype c t u
@@ -89,3 +83,5 @@ exposed_formed ns {c = c} w (follows {i = i} {b = b} e d) f =
 
 pub exposure_formed : (ns : List (List ℕ)) (c : TypeContext) (t : PlainType) → ContextIsWellFormed ns c → IsWellFormed ns (kinds c) t → IsWellFormed ns (kinds c) (exposure c t)
 exposure_formed ns c t w f = exposed_formed ns w (exposes c t) f
+
+pub ruleset exposing_rules = (no_bound, bound_followed)

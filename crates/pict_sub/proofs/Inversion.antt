@@ -3,14 +3,16 @@ use Rattle.std.proofs.Common.{◌≡◌, ◌≢◌, ℕ, suc, ◌+◌, List, ref
 use Rattle.std.specs.Prelude.{nat_eq}
 use Rattle.std.proofs.lemmas.Bool.{eq-eqb, ne_eqb, eqb-true}
 use Rattle.pict_syntax.specs.Labels.{StandsBefore}
-use Rattle.pict_syntax.proofs.LabelLemmas.{label_order, other_label}
-use Rattle.pict_types.specs.Types.{Capability, PlainType, Top, Var, Chan, Fields, Rec, PlainTypes, no_type, types, PlainLabels, no_label, labels, PlainBound, Free, Below, Operator, PlainBounds, TypeContext, under, type_at, count_types, is_top}
+use Rattle.pict_syntax.proofs.LabelLemmas.{other_label}
+use Rattle.pict_types.specs.Types.{Capability, PlainType, Top, Var, Chan, Fields, Rec, PlainTypes, no_type, types, PlainLabels, no_label, labels, Below, PlainBounds, TypeContext, under, type_at, count_types, is_top}
 use Rattle.pict_types.specs.Renaming.{rename, rename_bound, moved, bound_at, bound_of}
 use Rattle.pict_types.specs.Kinds.{Kind, StandsBeforeAll, LabelsAreWellFormed}
 use Rattle.pict_sub.specs.Shapes.{shape_of, variable, channel, record_}
 use Rattle.pict_sub.specs.Subtyping.{Rises, both_read, read_read, Falls, both_write, write_write, respond_respond, respond_write, IsSubtype, same, through, below_top, below_bound, upward, downward, by_fields, AreSubtypes, none, more, HasLabels, has_none, has_label, AreRecordsBelow, AreChannelsBelow, HasBoundBelow}
 use Rattle.pict_sub.specs.Laws.{IsChannel}
 use Rattle.pict_sub.proofs.Deciding.{Decides, d_same, d_top, d_bound, d_up, d_down, d_fields, to_decided, of_decided, of_decided_types, of_decided_labels}
+use Rattle.pict_types.proofs.Formed.{before_further}
+use Rattle.pict_types.proofs.Renamed.{bound_before}
 
 -- a variable
 decided_variable : {c : TypeContext} {i : ℕ} {t : PlainType} → Decides c (Var i) t → (t ≡ Var i) ⊎ ((t ≡ Top) ⊎ ((b : PlainType) × (bound_of c i ≡ Below b) × Decides c b t))
@@ -19,12 +21,11 @@ decided_variable d_top = inr (inl refl)
 decided_variable (d_bound {b = b} e d) = inr (inr (b, e, d))
 
 pub unbounded_variable : (c : TypeContext) (i : ℕ) (t : PlainType) → t ≢ Var i → t ≢ Top → ((b : PlainType) → bound_at c i ≢ Below b) → IsSubtype c (Var i) t → ⊥
-unbounded_variable c i t h k f d = elim (decided_variable (to_decided d)) [ inl e ↦ h e | inr (inl e) ↦ k e | inr (inr x) ↦ none_shifts (bound_at c i) f x.1 ]
-  where
-    none_shifts : (y : PlainBound) → ((b : PlainType) → y ≢ Below b) → {b : PlainType} → rename_bound (moved (suc i) 0) y ≡ Below b → ⊥
-    none_shifts Free g e = cc
-    none_shifts (Below z) g e = g z refl
-    none_shifts (Operator n) g e = cc
+unbounded_variable c i t h k f d = elim (decided_variable (to_decided d)) [
+  | inl e ↦ h e
+  | inr (inl e) ↦ k e
+  | inr (inr x) ↦ let z = bound_before (moved (suc i) 0) (bound_at c i) x.0 x.1 in f z.0 z.1
+]
 
 pub bounded_variable : (c : TypeContext) (i : ℕ) (b t : PlainType) → t ≢ Var i → t ≢ Top → bound_at c i ≡ Below b → IsSubtype c (Var i) t ↔ IsSubtype c (rename (moved (suc i) 0) b) t
 bounded_variable c i b t h k f = (forth, λ d. through _ (below_bound (ap (rename_bound (moved (suc i) 0)) f)) d)
@@ -148,10 +149,6 @@ wider ns m s ss no_label h has_none = has_none
 wider ns m s ss (labels l t ts) h (has_label {s = v} e d r) =
     has_label (label_passed l m s ss (other_label ns m l (found_after ns m l ss v h e)) ∙ e) d (wider ns m s ss ts h r)
 
-before_further : (ns : List (List ℕ)) (m l : ℕ) (ts : PlainLabels) → StandsBefore ns m l → StandsBeforeAll ns l ts → StandsBeforeAll ns m ts
-before_further ns m l no_label h k = tt
-before_further ns m l (labels n t ts) h k = ((label_order ns).trans m l n h k.0, before_further ns m l ts h k.1)
-
 -- and one less, where it is none of the greater's
 narrower : {c : TypeContext} (ns : List (List ℕ)) (m : ℕ) (s : PlainType) (ss ts : PlainLabels) → StandsBeforeAll ns m ts → HasLabels c (labels m s ss) ts → HasLabels c ss ts
 narrower ns m s ss no_label h has_none = has_none
@@ -233,3 +230,14 @@ decided_record_only (d_fields d e) nt nr = nr refl
 
 pub not_record : (c : TypeContext) (bs : PlainBounds) (ps : PlainTypes) (ls : PlainLabels) (t : PlainType) → t ≢ Top → shape_of t ≢ record_ → IsSubtype c (Fields bs ps ls) t → ⊥
 not_record c bs ps ls t nt nr d = decided_record_only (to_decided d) nt nr
+
+pub ruleset other_rules = (told_top, told_other, top_above, only_itself)
+
+pub ruleset variable_rules = (unbounded_variable, bounded_variable_1)
+
+pub ruleset channel_rules = (not_channel, rising, falling, neither)
+
+-- the pairs of capabilities that rise, and those that fall
+pub ruleset rising_rows = (both_read, read_read)
+
+pub ruleset falling_rows = (both_write, write_write, respond_write, respond_respond)

@@ -1,13 +1,8 @@
 pub mod Deciding
 pub mod Inversion
-pub mod Weighing
-pub mod Forming
-pub mod Alike
-pub mod Scopes
 pub mod Below
 pub mod Exposed
 pub mod Followed
 pub mod Renamed
 pub mod Replaced
 pub mod Decidable
-pub mod Built

@@ -50,7 +50,8 @@ BelowChannels = (c : TypeContext) (n : Capability) (s t : PlainType) → IsSubty
 -- inversion: records compare part by part, where the labelled fields of the first are well formed
 abbrev pub RecordsByParts : Type 0
 RecordsByParts =
-    (names : List (List ℕ)) (ks : List Kind) (c : TypeContext) (bs cs : PlainBounds) (ps qs : PlainTypes) (ls ms : PlainLabels) → LabelsAreWellFormed names ks ls → IsSubtype c (Fields bs ps ls) (Fields cs qs ms) ↔ AreRecordsBelow c bs cs ps qs ls ms
+    (names : List (List ℕ)) (ks : List Kind) (c : TypeContext) (bs cs : PlainBounds) (ps qs : PlainTypes) (ls ms : PlainLabels)
+    → LabelsAreWellFormed names ks ls → IsSubtype c (Fields bs ps ls) (Fields cs qs ms) ↔ AreRecordsBelow c bs cs ps qs ls ms
 
 -- above a recursive type are exactly Top and itself
 abbrev pub AboveRecursive : Type 0

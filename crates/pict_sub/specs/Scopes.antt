@@ -1,11 +1,12 @@
 -- The variables at a place within a type, the names of its context, and types that are written there.
-use Rattle.std.specs.Prelude.{ℕ, List, ◌∷◌}
+use Rattle.std.specs.Prelude.{ℕ, ◌+◌, List, ◌∷◌}
 use Rattle.pict_types.specs.Types.{PlainType, PlainTypes, PlainLabels, Free, TypeContext, under}
 use Rattle.pict_types.specs.Kinds.{ContextIsWellFormed, IsWellFormed, AreWellFormed, LabelsAreWellFormed, kinds}
 use Rattle.pict_types.specs.Plain.{plain_bounds}
 use Rattle.pict_types.specs.PlainContext.{type_context, names_of}
 use Rattle.pict_sub.specs.declared.scope.TypeScope.{TypeScope}
 use Rattle.pict_sub.specs.declared.scope.TypeScope.TheVariants.{Outer, Inner', Recursive'}
+use Rattle.pict_types.specs.Measures.{weigh_labels, weigh_types, weight_of, weights}
 
 -- what is known of the type variables, the innermost first
 abbrev pub scope_context : TypeScope → TypeContext
@@ -31,3 +32,13 @@ AreWrittenAt s ts = AreWellFormed (scope_names s) (kinds (scope_context s)) ts
 
 abbrev pub LabelsAreWrittenAt : TypeScope → PlainLabels → Type 0
 LabelsAreWrittenAt s ls = LabelsAreWellFormed (scope_names s) (kinds (scope_context s)) ls
+
+-- the weights of two types together; so of two rows of types, and of labelled ones
+abbrev pub weights_of : TypeScope → PlainType → PlainType → ℕ
+weights_of s t u = weight_of (scope_context s) t + weight_of (scope_context s) u
+
+abbrev pub weights_of_types : TypeScope → PlainTypes → PlainTypes → ℕ
+weights_of_types s ts us = weigh_types (weights (scope_context s)) ts + weigh_types (weights (scope_context s)) us
+
+abbrev pub weights_of_labels : TypeScope → PlainLabels → PlainLabels → ℕ
+weights_of_labels s ls ms = weigh_labels (weights (scope_context s)) ls + weigh_labels (weights (scope_context s)) ms

@@ -24,7 +24,8 @@ mutual
     upward : {c : TypeContext} {m n : Capability} {s t : PlainType} → Rises m n → IsSubtype c s t → IsSubtype c (Chan m s) (Chan n t)
     downward : {c : TypeContext} {m n : Capability} {s t : PlainType} → Falls m n → IsSubtype c t s → IsSubtype c (Chan m s) (Chan n t)
     -- the same type fields; the fields compare under them
-    by_fields : {c : TypeContext} {bs : PlainBounds} {ps qs : PlainTypes} {ls ms : PlainLabels} → AreSubtypes (under c bs) ps qs → HasLabels (under c bs) ls ms → IsSubtype c (Fields bs ps ls) (Fields bs qs ms)
+    by_fields : {c : TypeContext} {bs : PlainBounds} {ps qs : PlainTypes} {ls ms : PlainLabels}
+        → AreSubtypes (under c bs) ps qs → HasLabels (under c bs) ls ms → IsSubtype c (Fields bs ps ls) (Fields bs qs ms)
 
   -- as many types, each a subtype in order
   pub data AreSubtypes : TypeContext → PlainTypes → PlainTypes → Type 0 where
@@ -34,7 +35,8 @@ mutual
   -- every label of the second is in the first, with a subtype
   pub data HasLabels : TypeContext → PlainLabels → PlainLabels → Type 0 where
     has_none : {c : TypeContext} {ls : PlainLabels} → HasLabels c ls no_label
-    has_label : {c : TypeContext} {l : ℕ} {s t : PlainType} {ls ms : PlainLabels} → type_at l ls ≡ Some s → IsSubtype c s t → HasLabels c ls ms → HasLabels c ls (labels l t ms)
+    has_label : {c : TypeContext} {l : ℕ} {s t : PlainType} {ls ms : PlainLabels}
+        → type_at l ls ≡ Some s → IsSubtype c s t → HasLabels c ls ms → HasLabels c ls (labels l t ms)
 
 -- two records, part by part
 pub record AreRecordsBelow (c : TypeContext) (bs cs : PlainBounds) (ps qs : PlainTypes) (ls ms : PlainLabels) : Type 0 where

@@ -67,7 +67,7 @@ fn equal_bound<L: Ledger>(b: &Bound, d: &Bound, steps: &mut Steps<L>) -> bool
 }
 
 #[cycle(equal)]
-#[tactic(auto, using(pict_types::proofs::Rows::types_drop, pict_types::proofs::Rows::types_end, crate::proofs::Alike::types_alike, crate::proofs::Alike::types_length))]
+#[tactic(auto, using(pict_types::proofs::Alike::types_compared))]
 fn equal_rows<L: Ledger>(ss: &[Ty], ts: &[Ty], steps: &mut Steps<L>) -> bool
     ensures answer { IsTrue result ↔ (plain_types ss.now ≡ plain_types ts.now) }
     ensures cost { steps.new ≤ steps.old + size_types (plain_types ss.now) }
@@ -84,7 +84,7 @@ fn equal_rows<L: Ledger>(ss: &[Ty], ts: &[Ty], steps: &mut Steps<L>) -> bool
 }
 
 #[cycle(equal)]
-#[tactic(auto, using(pict_types::proofs::Rows::labels_drop, pict_types::proofs::Rows::labels_end, crate::proofs::Alike::labels_alike, crate::proofs::Alike::labels_length))]
+#[tactic(auto, using(pict_types::proofs::Alike::labels_compared))]
 fn equal_labels<L: Ledger>(ls: &[(Name, Ty)], ms: &[(Name, Ty)], steps: &mut Steps<L>) -> bool
     ensures answer { IsTrue result ↔ (plain_labels ls.now ≡ plain_labels ms.now) }
     ensures cost { steps.new ≤ steps.old + size_labels (plain_labels ls.now) }
@@ -104,7 +104,7 @@ fn equal_labels<L: Ledger>(ls: &[(Name, Ty)], ms: &[(Name, Ty)], steps: &mut Ste
 
 /// Whether the type fields are the same. Counts at most the nodes of `bs`, in which each type field is one.
 #[cycle(equal)]
-#[tactic(auto, using(pict_types::proofs::Rows::bounds_drop, pict_types::proofs::Rows::bounds_end, crate::proofs::Alike::bounds_alike, crate::proofs::Alike::bounds_length))]
+#[tactic(auto, using(pict_types::proofs::Alike::bounds_compared))]
 pub fn equal_bounds<L: Ledger>(bs: &[Bound], cs: &[Bound], steps: &mut Steps<L>) -> bool
     ensures answer { IsTrue result ↔ (plain_bounds bs.now ≡ plain_bounds cs.now) }
     ensures cost { steps.new ≤ steps.old + size_bounds (plain_bounds bs.now) }

@@ -15,7 +15,7 @@ use std::alloc::{AllocError, Global};
 
 /// `expose` of a type that is written at a place within a type.
 #[cycle(exposed)]
-#[tactic(auto, using(crate::proofs::Weighing::weight_positive, crate::proofs::Followed::not_variable))]
+#[tactic(auto, using(pict_types::proofs::Sizes::weight_positive, crate::proofs::Followed::not_variable))]
 pub fn expose_in(alloc: Global, scope: &TypeScope, t: &Ty) -> Result<Ty, AllocError>
     ensures { IfOk result (λ u. plain u ≡ exposure (scope_context scope.now) (plain t.now)) }
 {
@@ -26,7 +26,7 @@ pub fn expose_in(alloc: Global, scope: &TypeScope, t: &Ty) -> Result<Ty, AllocEr
 }
 
 #[cycle(exposed)]
-#[tactic(auto, using(crate::proofs::Weighing::weight_positive, crate::proofs::Weighing::weigh_bound_1, crate::proofs::Followed::no_bound, crate::proofs::Followed::bound_followed))]
+#[tactic(auto, using(pict_types::proofs::Sizes::weight_positive, pict_types::proofs::Contexts::weigh_bound_1, crate::proofs::Followed::exposing_rules))]
 fn expose_variable(alloc: Global, scope: &TypeScope, i: u32) -> Result<Ty, AllocError>
     ensures { IfOk result (λ u. plain u ≡ exposure (scope_context scope.now) (Var i)) }
 {

@@ -21,7 +21,7 @@ pub enum TypeScope<'a, 'n> {
 }
 
 /// The type that bounds variable `i`, written where the variable was bound; nothing where it has none.
-#[tactic(auto, using(crate::proofs::Scopes::bound_rules))]
+#[tactic(auto, using(pict_types::proofs::Contexts::bound_rules))]
 pub fn bound_in<'a, 'n>(i: u32, scope: &TypeScope<'a, 'n>) -> Option<&'a Ty>
     ensures none { IfNone result ((b : PlainType) → bound_at (scope_context scope.now) i ≢ Below b) }
     ensures some { IfSome result (λ b. bound_at (scope_context scope.now) i ≡ Below (plain b.now)) }

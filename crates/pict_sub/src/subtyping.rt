@@ -1,11 +1,11 @@
 // Subtyping, decided by the form of the two types.
 
 ghost use Rattle.std.specs.Prelude.{◌≡◌, ◌≢◌, ◌+◌, ◌≤◌, ◌<◌, ◌↔◌, IsTrue, IfOk};
-ghost use Rattle.pict_types.specs.Measures.{weigh_labels, weigh_types, weight_of, weights};
+ghost use Rattle.pict_types.specs.Measures.{weight_of};
 ghost use Rattle.pict_types.specs.Plain.{plain, plain_cap, plain_labels, plain_record, plain_types};
 ghost use Rattle.pict_types.specs.PlainContext.{IsWrittenIn, type_context};
 ghost use Rattle.pict_types.specs.Types.{Chan, Top, Var};
-ghost use Rattle.pict_sub.specs.Scopes.{AreWrittenAt, IsWrittenAt, LabelsAreWrittenAt, ScopeIsWellFormed, scope_context};
+ghost use Rattle.pict_sub.specs.Scopes.{AreWrittenAt, IsWrittenAt, LabelsAreWrittenAt, ScopeIsWellFormed, scope_context, weights_of, weights_of_labels, weights_of_types};
 ghost use Rattle.pict_sub.specs.Subtyping.{AreSubtypes, Falls, HasLabels, IsSubtype, Rises};
 
 use crate::equality::{equal_bounds, equal_types, same_cap};
@@ -18,7 +18,7 @@ use std::marker::Brand;
 use std::sync::ledger::{Blank, Ledger};
 
 /// Whether channel types with these capabilities go up with their messages.
-#[tactic(auto, using(crate::specs::Subtyping::both_read, crate::specs::Subtyping::read_read))]
+#[tactic(auto, using(crate::proofs::Inversion::rising_rows))]
 fn rises(m: Cap, n: Cap) -> bool
     ensures { IsTrue result ↔ Rises (plain_cap m) (plain_cap n) }
 {
@@ -26,7 +26,7 @@ fn rises(m: Cap, n: Cap) -> bool
 }
 
 /// Whether channel types with these capabilities go down with their messages.
-#[tactic(auto, using(crate::specs::Subtyping::both_write, crate::specs::Subtyping::write_write, crate::specs::Subtyping::respond_write, crate::specs::Subtyping::respond_respond))]
+#[tactic(auto, using(crate::proofs::Inversion::falling_rows))]
 fn falls(m: Cap, n: Cap) -> bool
     ensures { IsTrue result ↔ Falls (plain_cap m) (plain_cap n) }
 {
@@ -44,7 +44,7 @@ fn falls(m: Cap, n: Cap) -> bool
 /// Counts at most the weights of both: a pair of nodes compared counts one, in an equality too, and a type field is a
 /// node; a label passed over counts one; a pair at which a bound is followed counts once, for the bound.
 #[cycle(below)]
-#[tactic(auto, using(crate::proofs::Weighing::weight_positive, crate::proofs::Weighing::size_weight, crate::proofs::Inversion::told_top, crate::proofs::Inversion::told_other, crate::proofs::Inversion::top_above, crate::proofs::Inversion::only_itself))]
+#[tactic(auto, using(pict_types::proofs::Sizes::weight_rules, crate::proofs::Inversion::other_rules))]
 fn is_below<L: Ledger>(
     alloc: Global,
     s: &Ty,
@@ -56,7 +56,7 @@ fn is_below<L: Ledger>(
     requires s { IsWrittenAt scope.now (plain s.now) }
     requires t { IsWrittenAt scope.now (plain t.now) }
     ensures answer { IfOk result (λ yes. IsTrue yes ↔ IsSubtype (scope_context scope.now) (plain s.now) (plain t.now)) }
-    ensures cost { steps.new ≤ steps.old + (weight_of (scope_context scope.now) (plain s.now) + weight_of (scope_context scope.now) (plain t.now)) }
+    ensures cost { steps.new ≤ steps.old + weights_of scope.now (plain s.now) (plain t.now) }
 {
     if t.is_top() {
         steps.tick();
@@ -76,7 +76,7 @@ fn is_below<L: Ledger>(
 
 /// The same where `s` is variable `i`, and `t` isn't `Top`.
 #[cycle(below)]
-#[tactic(auto, using(crate::proofs::Weighing::weight_positive))]
+#[tactic(auto, using(pict_types::proofs::Sizes::weight_positive))]
 fn variable_is_below<L: Ledger>(
     alloc: Global,
     i: u32,
@@ -89,7 +89,7 @@ fn variable_is_below<L: Ledger>(
     requires t { IsWrittenAt scope.now (plain t.now) }
     requires not_top { plain t.now ≢ Top }
     ensures answer { IfOk result (λ yes. IsTrue yes ↔ IsSubtype (scope_context scope.now) (Var i) (plain t.now)) }
-    ensures cost { steps.new ≤ steps.old + (weight_of (scope_context scope.now) (Var i) + weight_of (scope_context scope.now) (plain t.now)) }
+    ensures cost { steps.new ≤ steps.old + weights_of scope.now (Var i) (plain t.now) }
 {
     if let Some(j) = as_variable(t)
         && i == j
@@ -102,7 +102,7 @@ fn variable_is_below<L: Ledger>(
 
 /// The same where `t` is another type too.
 #[cycle(below)]
-#[tactic(auto, using(crate::proofs::Weighing::weight_positive, crate::proofs::Weighing::weigh_bound_1, crate::proofs::Forming::bound_is_formed, crate::proofs::Inversion::unbounded_variable, crate::proofs::Inversion::bounded_variable_1))]
+#[tactic(auto, using(pict_types::proofs::Sizes::weight_positive, pict_types::proofs::Contexts::followed_rules, crate::proofs::Inversion::variable_rules))]
 fn bound_is_below<L: Ledger>(
     alloc: Global,
     i: u32,
@@ -116,7 +116,7 @@ fn bound_is_below<L: Ledger>(
     requires not_top { plain t.now ≢ Top }
     requires not_same { plain t.now ≢ Var i }
     ensures answer { IfOk result (λ yes. IsTrue yes ↔ IsSubtype (scope_context scope.now) (Var i) (plain t.now)) }
-    ensures cost { steps.new ≤ steps.old + (weight_of (scope_context scope.now) (Var i) + weight_of (scope_context scope.now) (plain t.now)) }
+    ensures cost { steps.new ≤ steps.old + weights_of scope.now (Var i) (plain t.now) }
 {
     steps.tick();
     match bound_in(i, scope) {
@@ -131,7 +131,7 @@ fn bound_is_below<L: Ledger>(
 
 /// The same where `s` is a channel type, and `t` isn't `Top`.
 #[cycle(below)]
-#[tactic(auto, using(crate::proofs::Weighing::weight_positive, crate::proofs::Weighing::size_weight, crate::proofs::Inversion::not_channel, crate::proofs::Inversion::rising, crate::proofs::Inversion::falling, crate::proofs::Inversion::neither))]
+#[tactic(auto, using(pict_types::proofs::Sizes::weight_rules, crate::proofs::Inversion::channel_rules))]
 fn channel_is_below<L: Ledger>(
     alloc: Global,
     m: Cap,
@@ -145,7 +145,7 @@ fn channel_is_below<L: Ledger>(
     requires t { IsWrittenAt scope.now (plain t.now) }
     requires not_top { plain t.now ≢ Top }
     ensures answer { IfOk result (λ yes. IsTrue yes ↔ IsSubtype (scope_context scope.now) (Chan (plain_cap m) (plain a.now)) (plain t.now)) }
-    ensures cost { steps.new ≤ steps.old + (weight_of (scope_context scope.now) (Chan (plain_cap m) (plain a.now)) + weight_of (scope_context scope.now) (plain t.now)) }
+    ensures cost { steps.new ≤ steps.old + weights_of scope.now (Chan (plain_cap m) (plain a.now)) (plain t.now) }
 {
     steps.tick();
     match as_channel(t) {
@@ -164,7 +164,7 @@ fn channel_is_below<L: Ledger>(
 
 /// The same where `s` is a record type, and `t` isn't `Top`.
 #[cycle(below)]
-#[tactic(auto, using(crate::proofs::Weighing::weight_positive, crate::proofs::Inversion::not_record))]
+#[tactic(auto, using(pict_types::proofs::Sizes::weight_positive, crate::proofs::Inversion::not_record))]
 fn record_is_below<L: Ledger>(
     alloc: Global,
     r: &Record,
@@ -177,7 +177,7 @@ fn record_is_below<L: Ledger>(
     requires t { IsWrittenAt scope.now (plain t.now) }
     requires not_top { plain t.now ≢ Top }
     ensures answer { IfOk result (λ yes. IsTrue yes ↔ IsSubtype (scope_context scope.now) (plain_record r.now) (plain t.now)) }
-    ensures cost { steps.new ≤ steps.old + (weight_of (scope_context scope.now) (plain_record r.now) + weight_of (scope_context scope.now) (plain t.now)) }
+    ensures cost { steps.new ≤ steps.old + weights_of scope.now (plain_record r.now) (plain t.now) }
 {
     steps.tick();
     match as_record(t) {
@@ -199,7 +199,7 @@ fn fields_are_below<L: Ledger>(
     requires r { IsWrittenAt scope.now (plain_record r.now) }
     requires q { IsWrittenAt scope.now (plain_record q.now) }
     ensures answer { IfOk result (λ yes. IsTrue yes ↔ IsSubtype (scope_context scope.now) (plain_record r.now) (plain_record q.now)) }
-    ensures cost { steps.new + 1 ≤ steps.old + (weight_of (scope_context scope.now) (plain_record r.now) + weight_of (scope_context scope.now) (plain_record q.now)) }
+    ensures cost { steps.new + 1 ≤ steps.old + weights_of scope.now (plain_record r.now) (plain_record q.now) }
 {
     if !equal_bounds(&r.binders, &q.binders, steps) {
         return Ok(false);
@@ -213,7 +213,7 @@ fn fields_are_below<L: Ledger>(
 
 /// Whether there are as many types, each a subtype in order.
 #[cycle(below)]
-#[tactic(auto, using(pict_types::proofs::Rows::types_drop, pict_types::proofs::Rows::types_end, crate::proofs::Below::types_weigh, crate::proofs::Below::types_formed, crate::proofs::Below::types_below_length, crate::proofs::Weighing::weight_positive, crate::proofs::Inversion::types_rules))]
+#[tactic(auto, using(pict_types::proofs::Items::types_read, crate::proofs::Below::rows_rules))]
 fn rows_are_below<L: Ledger>(
     alloc: Global,
     ss: &[Ty],
@@ -225,7 +225,7 @@ fn rows_are_below<L: Ledger>(
     requires ss { AreWrittenAt scope.now (plain_types ss.now) }
     requires ts { AreWrittenAt scope.now (plain_types ts.now) }
     ensures answer { IfOk result (λ yes. IsTrue yes ↔ AreSubtypes (scope_context scope.now) (plain_types ss.now) (plain_types ts.now)) }
-    ensures cost { steps.new ≤ steps.old + (weigh_types (weights (scope_context scope.now)) (plain_types ss.now) + weigh_types (weights (scope_context scope.now)) (plain_types ts.now)) }
+    ensures cost { steps.new ≤ steps.old + weights_of_types scope.now (plain_types ss.now) (plain_types ts.now) }
 {
     if ss.len() != ts.len() {
         return Ok(false);
@@ -241,7 +241,7 @@ fn rows_are_below<L: Ledger>(
 /// Whether every label of `ms` is in `ls` with a subtype. Both are in order, so a label of `ls` that isn't the next
 /// one of `ms` is passed over.
 #[cycle(below)]
-#[tactic(auto, using(pict_types::proofs::Rows::labels_drop, pict_types::proofs::Rows::labels_end, crate::proofs::Below::labels_weigh, crate::proofs::Below::labels_formed, crate::proofs::Weighing::weight_positive))]
+#[tactic(auto, using(pict_types::proofs::Items::labels_read, pict_types::proofs::Sizes::weight_positive))]
 fn labels_are_below<L: Ledger>(
     alloc: Global,
     ls: &[(Name, Ty)],
@@ -253,7 +253,7 @@ fn labels_are_below<L: Ledger>(
     requires ls { LabelsAreWrittenAt scope.now (plain_labels ls.now) }
     requires ms { LabelsAreWrittenAt scope.now (plain_labels ms.now) }
     ensures answer { IfOk result (λ yes. IsTrue yes ↔ HasLabels (scope_context scope.now) (plain_labels ls.now) (plain_labels ms.now)) }
-    ensures cost { steps.new ≤ steps.old + (weigh_labels (weights (scope_context scope.now)) (plain_labels ls.now) + weigh_labels (weights (scope_context scope.now)) (plain_labels ms.now)) }
+    ensures cost { steps.new ≤ steps.old + weights_of_labels scope.now (plain_labels ls.now) (plain_labels ms.now) }
 {
     let mut j = 0;
     for l in ls {

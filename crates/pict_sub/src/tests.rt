@@ -1,16 +1,17 @@
 // Types compared and exposed: what only examples show, and the largest types.
 
-ghost use Rattle.std.specs.Prelude.{◌≡◌, ◌+◌, IfOk};
+ghost use Rattle.std.specs.Prelude.{◌≡◌, ◌∷◌, List, ℕ, IfOk};
 ghost use Rattle.pict_syntax.specs.Labels.{StandsBefore};
-ghost use Rattle.pict_types.specs.Measures.{weight_of};
-ghost use Rattle.pict_types.specs.Plain.{plain, plain_bounds, plain_labels, plain_types};
-ghost use Rattle.pict_types.specs.PlainContext.{IsWrittenIn, names_of, type_context};
-ghost use Rattle.pict_types.specs.Types.{Fields};
+ghost use Rattle.pict_types.specs.Kinds.{BoundIsWellFormed, IsWellFormed, Kind, kind_by, proper};
+ghost use Rattle.pict_types.specs.Plain.{plain, plain_bound, plain_bounds, plain_labels, plain_types};
+ghost use Rattle.pict_types.specs.PlainContext.{IsWrittenIn, names_of};
+ghost use Rattle.pict_types.specs.Types.{Fields, Var};
 
 use crate::{TypeScope, equal, expose, expose_in, is_subtype};
-use pict_syntax::{Name, Names};
+use pict_syntax::{Name, Names, compare_labels};
 use pict_types::{Bound, Cap, Context, Entry, Record, Ty, What, height, weight};
 use std::alloc::{AllocError, Global};
+use std::cmp::Ordering;
 
 /// Whether the first type is a subtype of the second, and the second of the first.
 fn both_ways(alloc: Global, c: &Context, s: &Ty, t: &Ty) -> Result<(bool, bool), AllocError>
@@ -49,17 +50,56 @@ fn channel(alloc: Global, c: &Context, cap: Cap, t: Ty) -> Result<Ty, AllocError
     Ok(Ty::Chan(cap, Box::new(alloc, t)?))
 }
 
-/// The record type `[a=Int]`, or `[a=Int b=Int]` where it has both.
-fn labelled(alloc: Global, c: &Context, a: Name, b: Name, both: bool) -> Result<Ty, AllocError>
+/// The record type `[a=Int]`.
+fn one_label(alloc: Global, c: &Context, a: Name) -> Result<Ty, AllocError>
+    ensures { IfOk result (λ r. IsWrittenIn c.now (plain r)) }
+{
+    let mut labelled = Vec::new(alloc);
+    labelled.push((a, Ty::Int))?;
+    Ok(fields(Vec::new(alloc), Vec::new(alloc), labelled))
+}
+
+/// The record type `[a=Int b=Int]`.
+fn two_labels(alloc: Global, c: &Context, a: Name, b: Name) -> Result<Ty, AllocError>
     requires order { StandsBefore (names_of c.now) a.0 b.0 }
     ensures { IfOk result (λ r. IsWrittenIn c.now (plain r)) }
 {
     let mut labelled = Vec::new(alloc);
     labelled.push((a, Ty::Int))?;
-    if both {
-        labelled.push((b, Ty::Int))?;
-    }
+    labelled.push((b, Ty::Int))?;
     Ok(fields(Vec::new(alloc), Vec::new(alloc), labelled))
+}
+
+/// The record type `[a=Int]`, or `[a=Int b=Int]` where it has both. Labels in another order are an error.
+fn labelled(alloc: Global, c: &Context, a: Name, b: Name, both: bool) -> Result<Ty, AllocError>
+    ensures { IfOk result (λ r. IsWrittenIn c.now (plain r)) }
+{
+    if !both {
+        return one_label(alloc, c, a);
+    }
+    match compare_labels(c.names(), a, b) {
+        Ordering::Less => two_labels(alloc, c, a, b),
+        _ => Err(AllocError),
+    }
+}
+
+/// The bound of a type field below `Int`, or of a free one.
+fn bound_of(bounded: bool) -> Bound
+    ensures formed { (names : List (List ℕ)) (ks : List Kind) → BoundIsWellFormed names ks (plain_bound result) }
+    ensures kind { kind_by (plain_bound result) ≡ proper }
+{
+    if bounded {
+        Bound::Below(Ty::Int)
+    } else {
+        Bound::Free
+    }
+}
+
+/// The type of a field: the innermost variable, or `Int`.
+fn field_of(own: bool) -> Ty
+    ensures { (names : List (List ℕ)) (ks : List Kind) → IsWellFormed names (proper ∷ ks) (plain result) }
+{
+    if own { Ty::Var(0) } else { Ty::Int }
 }
 
 /// One of `[#X<Int X]`, `[#X<Int Int]`, `[#X X]` and `[#X Int]`.
@@ -67,14 +107,17 @@ fn package(alloc: Global, c: &Context, bounded: bool, own: bool) -> Result<Ty, A
     ensures { IfOk result (λ r. IsWrittenIn c.now (plain r)) }
 {
     let mut binders = Vec::new(alloc);
-    binders.push(if bounded {
-        Bound::Below(Ty::Int)
-    } else {
-        Bound::Free
-    })?;
+    binders.push(bound_of(bounded))?;
     let mut positional = Vec::new(alloc);
-    positional.push(if own { Ty::Var(0) } else { Ty::Int })?;
+    positional.push(field_of(own))?;
     Ok(fields(binders, positional, Vec::new(alloc)))
+}
+
+/// The argument `Int` or `Top`.
+fn argument_of(to_int: bool) -> Ty
+    ensures { (names : List (List ℕ)) (ks : List Kind) → IsWellFormed names ks (plain result) }
+{
+    if to_int { Ty::Int } else { Ty::Top }
 }
 
 /// The record type `[#F:(Type -> Type) (F T)]`, where T is `Int` or `Top`.
@@ -84,20 +127,18 @@ fn applied(alloc: Global, c: &Context, to_int: bool) -> Result<Ty, AllocError>
     let mut binders = Vec::new(alloc);
     binders.push(Bound::Operator(1))?;
     let mut arguments = Vec::new(alloc);
-    arguments.push(if to_int { Ty::Int } else { Ty::Top })?;
+    arguments.push(argument_of(to_int))?;
     let mut positional = Vec::new(alloc);
     positional.push(Ty::Apply(0, arguments))?;
     Ok(fields(binders, positional, Vec::new(alloc)))
 }
 
 /// The record type of so many positional fields `Int`.
-#[tactic(auto, using(crate::proofs::Built::formed_pushed, crate::proofs::Built::weigh_pushed))]
 fn wide(alloc: Global, c: &Context, count: u32) -> Result<Ty, AllocError>
-    ensures formed { IfOk result (λ t. IsWrittenIn c.now (plain t)) }
-    ensures weight { IfOk result (λ t. weight_of (type_context c.now) (plain t) ≡ count + 1) }
+    ensures { IfOk result (λ t. IsWrittenIn c.now (plain t)) }
 {
     let mut positional = Vec::new(alloc);
-    for k in 0..count {
+    for _ in 0..count {
         positional.push(Ty::Int)?;
     }
     Ok(fields(Vec::new(alloc), positional, Vec::new(alloc)))
@@ -105,11 +146,10 @@ fn wide(alloc: Global, c: &Context, count: u32) -> Result<Ty, AllocError>
 
 /// `Int` under so many `?`.
 fn high(alloc: Global, c: &Context, count: u32) -> Result<Ty, AllocError>
-    ensures formed { IfOk result (λ t. IsWrittenIn c.now (plain t)) }
-    ensures weight { IfOk result (λ t. weight_of (type_context c.now) (plain t) ≡ count + 1) }
+    ensures { IfOk result (λ t. IsWrittenIn c.now (plain t)) }
 {
     let mut t = Ty::Int;
-    for k in 0..count {
+    for _ in 0..count {
         t = Ty::Chan(Cap::Read, Box::new(alloc, t)?);
     }
     Ok(t)
@@ -134,9 +174,7 @@ fn is_channel_below(
     labels: (Name, Name),
     below: (Cap, bool),
     above: (Cap, bool),
-) -> Result<bool, AllocError>
-    requires order { StandsBefore (names_of c.now) labels.0.0 labels.1.0 }
-{
+) -> Result<bool, AllocError> {
     let messages = labelled(alloc, c, labels.0, labels.1, below.1)?;
     let s = channel(alloc, c, below.0, messages)?;
     let messages = labelled(alloc, c, labels.0, labels.1, above.1)?;

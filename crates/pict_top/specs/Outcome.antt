@@ -40,8 +40,10 @@ report_of_end file text Misshapen = shape_report file
 
 abbrev pub outcome_of : Command → List ℕ → Answer → Outcome
 outcome_of command text Absent = record { status = status.Missing; printed = []; report = missing_report (file_of command) }
-outcome_of command text (Refusal code span) = record { status = status.Refused; printed = []; report = refusal_report (file_of command) (line_of text span.start) (column_of text span.start) code }
-outcome_of command text (Ran end labels) = record { status = status_of_end end; printed = written_by command labels; report = report_of_end (file_of command) text end }
+outcome_of command text (Refusal code span) =
+    record { status = status.Refused; printed = []; report = refusal_report (file_of command) (line_of text span.start) (column_of text span.start) code }
+outcome_of command text (Ran end labels) =
+    record { status = status_of_end end; printed = written_by command labels; report = report_of_end (file_of command) text end }
 
 -- the outcome where the shelf fails
 abbrev pub read_fault : Command → Outcome

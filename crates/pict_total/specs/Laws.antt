@@ -8,7 +8,8 @@ use Rattle.pict_syntax.specs.Verdicts.{Verdict, IsVerdict}
 
 -- every text has a whole cut, or reading it stops
 abbrev pub SomeWholeCut : Type 0
-SomeWholeCut = (text : ℕ) (bytes : List ℕ) → ((pieces : List Piece) × IsWholeCut bytes pieces) ⊎ ((code : Code) × (span : Span) × IsLexStop text bytes code span)
+SomeWholeCut =
+    (text : ℕ) (bytes : List ℕ) → ((pieces : List Piece) × IsWholeCut bytes pieces) ⊎ ((code : Code) × (span : Span) × IsLexStop text bytes code span)
 
 -- every list of tokens has a verdict
 abbrev pub SomeVerdict : Type 0

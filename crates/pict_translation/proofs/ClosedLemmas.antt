@@ -8,12 +8,12 @@ use Rattle.pict_core.specs.Term.{Val, Var}
 use Rattle.pict_core.specs.Closed.{IsOver, IsUnder, AllOver, IsClosed, binds}
 use Rattle.pict_scope.specs.PrimitiveNames.{primitive_named}
 use Rattle.pict_translation.specs.Placed.{Placed, new_channels, side_by_side, served, variables, input}
-use Rattle.pict_translation.specs.Arguments.{Argument, with_value, with_argument, sent_as_one, application, right, left_after, left, vals_of, labelled_of}
+use Rattle.pict_translation.specs.Arguments.{Argument, with_value, with_argument, sent_as_one, application, right, left_after, left}
 use Rattle.pict_translation.specs.Patterns.{pat_core, function_pat, pat_names, names_before, names_after}
 use Rattle.pict_translation.specs.Simple.{Around, value_at, binding, bound, pat_bound, function_bound, answer_channel, or_primitive, use_of, unit, fields_of, one_more, simple, simple_chan, simple_fields, simple_vals, simple_labelled}
 use Rattle.pict_translation.specs.Translation.{program_core, definition_names, sending, sending_chan, decs_core, dec_core, proc_core, procs_core, reader, with_fields, arguments, with_vals, with_labelled, servers}
-use Rattle.pict_translation.specs.Distinct.{labels_of, HasNoRepeats, IsDistinct, ChanIsDistinct, FieldsAreDistinct, ValsAreDistinct, LabelledAreDistinct, AbsIsDistinct, DecIsDistinct, DecsAreDistinct, DefinitionsAreDistinct, ProcIsDistinct, ProcsAreDistinct}
-use Rattle.pict_translation.proofs.OverLemmas.{over_more, all_more, all_one_more, variables_over, FieldsOver, labels_in, fields_one_more, fields_more, labels_one_more, record_over}
+use Rattle.pict_scope.specs.DistinctLabels.{DecHasDistinctLabels, DecsHaveDistinctLabels, DefinitionsHaveDistinctLabels, AbsHasDistinctLabels, ChanHasDistinctLabels, ValHasDistinctLabels, ValsHaveDistinctLabels, FieldValsHaveDistinctLabels, LabelledValsAreDistinct, ProcHasDistinctLabels, ProcsHaveDistinctLabels}
+use Rattle.pict_translation.proofs.OverLemmas.{over_more, all_more, all_one_more, variables_over, FieldsOver, labels_in, fields_one_more, fields_more, labels_one_more, record_over, HasNoRepeats, labels_of, no_repeats}
 
 -- in every larger number of variables, with a value over them, the process stands under them
 Sends : ℕ → (Val → Placed) → Type 0
@@ -107,9 +107,9 @@ record_some n e labels (Some vs) None o p q = tt
 record_some n e labels None fs o p q = tt
 
 mutual
-  unfolding simple simple_chan simple_fields simple_vals simple_labelled SomeOver AllSome LabelledSome IsDistinct FieldsAreDistinct labels_in FieldsOver
+  unfolding simple simple_chan simple_fields simple_vals simple_labelled SomeOver AllSome LabelledSome labels_in FieldsOver
 
-  simple_over : (n : ℕ) (e : Around) (v : tree.Val) → ValuesOver n e.values → IsDistinct v → SomeOver n (simple e v)
+  simple_over : (n : ℕ) (e : Around) (v : tree.Val) → ValuesOver n e.values → ValHasDistinctLabels v → SomeOver n (simple e v)
   simple_over n e (of_chan c) o d = simple_chan_over n e c o d
   simple_over n e (number_val s i) o d = tt
   simple_over n e (character_val s b) o d = tt
@@ -120,24 +120,24 @@ mutual
   simple_over n e (if_val s c v w) o d = tt
   simple_over n e (lambda_val s a) o d = tt
 
-  simple_chan_over : (n : ℕ) (e : Around) (c : Chan) → ValuesOver n e.values → ChanIsDistinct c → SomeOver n (simple_chan e c)
+  simple_chan_over : (n : ℕ) (e : Around) (c : Chan) → ValuesOver n e.values → ChanHasDistinctLabels c → SomeOver n (simple_chan e c)
   simple_chan_over n e (use_chan s x) o d = use_over n e x.0 o
-  simple_chan_over n e (fold_chan s t v) o d = simple_over n e v o d
+  simple_chan_over n e (fold_chan s t v) o d = simple_over n e v o d.1
   simple_chan_over n e (block_chan s ds v) o d = tt
   simple_chan_over n e (apply_chan s f a) o d = tt
   simple_chan_over n e (right_chan s f vs) o d = tt
   simple_chan_over n e (left_chan s f vs) o d = tt
 
-  simple_fields_over : (n : ℕ) (e : Around) (f : FieldVals) → ValuesOver n e.values → FieldsAreDistinct f → SomeOver n (simple_fields e f)
-  simple_fields_over n e (field_vals ts vs ls) o d = record_some n e (labels_of ls) (simple_vals e vs) (simple_labelled e ls) (simple_vals_over n e vs o d.0) (simple_labelled_over n e ls o d.1) d.2
+  simple_fields_over : (n : ℕ) (e : Around) (f : FieldVals) → ValuesOver n e.values → FieldValsHaveDistinctLabels f → SomeOver n (simple_fields e f)
+  simple_fields_over n e (field_vals ts vs ls) o d = record_some n e (labels_of ls) (simple_vals e vs) (simple_labelled e ls) (simple_vals_over n e vs o d.1.0) (simple_labelled_over n e ls o d.1.1) (no_repeats ls d.1.1)
 
-  simple_vals_over : (n : ℕ) (e : Around) (vs : Vals) → ValuesOver n e.values → ValsAreDistinct vs → AllSome n (simple_vals e vs)
+  simple_vals_over : (n : ℕ) (e : Around) (vs : Vals) → ValuesOver n e.values → ValsHaveDistinctLabels vs → AllSome n (simple_vals e vs)
   simple_vals_over n e no_vals o d = tt
   simple_vals_over n e (more_vals vs v) o d = all_some_more n (simple_vals e vs) (simple e v) (simple_vals_over n e vs o d.0) (simple_over n e v o d.1)
 
-  simple_labelled_over : (n : ℕ) (e : Around) (ls : LabelledVals) → ValuesOver n e.values → LabelledAreDistinct ls → LabelledSome n (labels_of ls) (simple_labelled e ls)
+  simple_labelled_over : (n : ℕ) (e : Around) (ls : LabelledVals) → ValuesOver n e.values → LabelledValsAreDistinct ls → LabelledSome n (labels_of ls) (simple_labelled e ls)
   simple_labelled_over n e no_labelled_vals o d = (tt, refl)
-  simple_labelled_over n e (more_labelled_vals ls l v) o d = labelled_some_more n (labels_of ls) (simple_labelled e ls) l.name.0 (simple e v) (simple_labelled_over n e ls o d.0) (simple_over n e v o d.1)
+  simple_labelled_over n e (more_labelled_vals ls l v) o d = labelled_some_more n (labels_of ls) (simple_labelled e ls) l.name.0 (simple e v) (simple_labelled_over n e ls o d.0) (simple_over n e v o d.1.1)
 
 -- ---- nested applications
 
@@ -175,7 +175,7 @@ application_over n f s a b of x y = record {
 
 right_over : (n : ℕ) (f : Val) (s : _) (xs : List Argument) → IsOver n 0 f → AllArguments n xs → ArgumentOver n (right f s xs)
 unfolding AllArguments SomeOver Sends
-right_over n f s [] of o = record { value = tt; sends = λ m k le ok. (ok, ok) }
+right_over n f s [] of o = record { value = tt; sends = λ m k le ok. (ok, tt) }
 right_over n f s (a ∷ []) of o = o.0
 right_over n f s (a ∷ b ∷ xs) of o = application_over n f s a (right f s (b ∷ xs)) of o.0 (right_over n f s (b ∷ xs) of o.1)
 
@@ -186,7 +186,7 @@ left_after_over n f s a (b ∷ xs) of one o = left_after_over n f s (application
 
 left_over : (n : ℕ) (f : Val) (s : _) (xs : List Argument) → IsOver n 0 f → AllArguments n xs → ArgumentOver n (left f s xs)
 unfolding AllArguments SomeOver Sends
-left_over n f s [] of o = record { value = tt; sends = λ m k le ok. (ok, ok) }
+left_over n f s [] of o = record { value = tt; sends = λ m k le ok. (ok, tt) }
 left_over n f s (a ∷ xs) of o = left_after_over n f s a xs of o.0 o.1
 
 -- ---- lists of processes and of servers
@@ -248,9 +248,9 @@ whole_under n (Some u) k s p o ok h = (ok, o)
 whole_under n None k s p o ok h = h
 
 mutual
-  unfolding sending sending_chan decs_core dec_core proc_core procs_core reader with_fields arguments with_vals with_labelled servers IsDistinct FieldsAreDistinct FieldsOver labels_in AllArguments AllUnder AllServe Sends
+  unfolding sending sending_chan decs_core dec_core proc_core procs_core reader with_fields arguments with_vals with_labelled servers FieldsOver labels_in AllArguments AllUnder AllServe Sends
 
-  val_under : (e : Around) (v : tree.Val) → IsDistinct v → (n : ℕ) → ValuesOver n e.values → (k : Val) → IsOver n 0 k → IsUnder n 0 (sending e v k n)
+  val_under : (e : Around) (v : tree.Val) → ValHasDistinctLabels v → (n : ℕ) → ValuesOver n e.values → (k : Val) → IsOver n 0 k → IsUnder n 0 (sending e v k n)
   val_under e (of_chan c) d n o k ok = chan_under e c d n o k ok
   val_under e (number_val s i) d n o k ok = (ok, tt)
   val_under e (character_val s b) d n o k ok = (ok, tt)
@@ -258,65 +258,65 @@ mutual
   val_under e (true_val s) d n o k ok = (ok, tt)
   val_under e (false_val s) d n o k ok = (ok, tt)
   val_under e (fields_val s f) d n o k ok = fields_under e f d n o _ (λ m us ws le a b c. (over_more n m k le ok, record_over e.names m us ws a b c))
-  val_under e (if_val s c v w) d n o k ok = with_at n (simple e c) (sending e c) _ (simple_over n e c o d.0) (lifted n e (sending e c) (val_under e c d.0) o) (λ m b le ob. (ob, val_under e v d.1 m (values_more n m e.values le o) k (over_more n m k le ok), val_under e w d.2 m (values_more n m e.values le o) k (over_more n m k le ok)))
+  val_under e (if_val s c v w) d n o k ok = with_at n (simple e c) (sending e c) _ (simple_over n e c o d.0) (lifted n e (sending e c) (val_under e c d.0) o) (λ m b le ob. (ob, val_under e v d.1.0 m (values_more n m e.values le o) k (over_more n m k le ok), val_under e w d.1.1 m (values_more n m e.values le o) k (over_more n m k le ok)))
   val_under e (lambda_val s a) d n o k ok = (abs_under e a d (n + 1) (values_more n (n + 1) e.values (omega arith) o) (Var n) true (omega arith), (over_more n (n + 1) k (omega arith) ok, (omega arith)))
 
-  chan_under : (e : Around) (c : Chan) → ChanIsDistinct c → (n : ℕ) → ValuesOver n e.values → (k : Val) → IsOver n 0 k → IsUnder n 0 (sending_chan e c k n)
+  chan_under : (e : Around) (c : Chan) → ChanHasDistinctLabels c → (n : ℕ) → ValuesOver n e.values → (k : Val) → IsOver n 0 k → IsUnder n 0 (sending_chan e c k n)
   chan_under e (use_chan s x) d n o k ok = (ok, use_over n e x.0 o)
-  chan_under e (fold_chan s t v) d n o k ok = whole_under n (simple e v) k s (sending e v k) (simple_over n e v o d) ok (val_under e v d n o k ok)
+  chan_under e (fold_chan s t v) d n o k ok = whole_under n (simple e v) k s (sending e v k) (simple_over n e v o d.1) ok (val_under e v d.1 n o k ok)
   chan_under e (block_chan s ds v) d n o k ok = decs_under e ds d.0 n o _ (λ m e2 le o2. val_under e2 v d.1 m o2 k (over_more n m k le ok))
   chan_under e (apply_chan s f a) d n o k ok = with_at n (simple e f) (sending e f) _ (simple_over n e f o d.0) (lifted n e (sending e f) (val_under e f d.0) o) (λ m g le og. fields_under e a d.1 m (values_more n m e.values le o) _ (λ m2 us ws le2 p q r. (over_more m m2 g le2 og, record_over e.names m2 (us ++ k ∷ []) ws (all_one_more m2 us k p (over_more n m2 k (omega arith) ok)) q r)))
   chan_under e (right_chan s f vs) d n o k ok = (right_over n (use_of e f.name.0) s (arguments e vs) (use_over n e f.name.0 o) (arguments_over e vs d n o)).sends n k (omega arith) ok
   chan_under e (left_chan s f vs) d n o k ok = (left_over n (use_of e f.name.0) s (arguments e vs) (use_over n e f.name.0 o) (arguments_over e vs d n o)).sends n k (omega arith) ok
 
-  arguments_over : (e : Around) (vs : Vals) → ValsAreDistinct vs → (n : ℕ) → ValuesOver n e.values → AllArguments n (arguments e vs)
+  arguments_over : (e : Around) (vs : Vals) → ValsHaveDistinctLabels vs → (n : ℕ) → ValuesOver n e.values → AllArguments n (arguments e vs)
   arguments_over e no_vals d n o = tt
   arguments_over e (more_vals vs v) d n o = one_more_argument n (arguments e vs) _ (arguments_over e vs d.0 n o) (record { value = simple_over n e v o d.1; sends = lifted n e (sending e v) (val_under e v d.1) o })
 
-  fields_under : (e : Around) (f : FieldVals) → FieldsAreDistinct f → (n : ℕ) → ValuesOver n e.values → (E : List Val → List (ℕ × Val) → Placed) → ((m : ℕ) (us : List Val) (ws : List (ℕ × Val)) → n ≤ m → AllOver m 0 us → FieldsOver m ws → HasNoRepeats (labels_in ws) → IsUnder m 0 (E us ws m)) → IsUnder n 0 (with_fields e f E n)
-  fields_under e (field_vals ts vs ls) d n o E h = withs_under e vs d.0 n o _ (λ m us le a. labelled_under e ls d.1 m (values_more n m e.values le o) _ (λ m2 ws le2 b c. h m2 us ws (omega arith) (all_more m m2 us le2 a) b (subst HasNoRepeats (sym c) d.2)))
+  fields_under : (e : Around) (f : FieldVals) → FieldValsHaveDistinctLabels f → (n : ℕ) → ValuesOver n e.values → (E : List Val → List (ℕ × Val) → Placed) → ((m : ℕ) (us : List Val) (ws : List (ℕ × Val)) → n ≤ m → AllOver m 0 us → FieldsOver m ws → HasNoRepeats (labels_in ws) → IsUnder m 0 (E us ws m)) → IsUnder n 0 (with_fields e f E n)
+  fields_under e (field_vals ts vs ls) d n o E h = withs_under e vs d.1.0 n o _ (λ m us le a. labelled_under e ls d.1.1 m (values_more n m e.values le o) _ (λ m2 ws le2 b c. h m2 us ws (omega arith) (all_more m m2 us le2 a) b (subst HasNoRepeats (sym c) (no_repeats ls d.1.1))))
 
-  withs_under : (e : Around) (vs : Vals) → ValsAreDistinct vs → (n : ℕ) → ValuesOver n e.values → (E : List Val → Placed) → ((m : ℕ) (us : List Val) → n ≤ m → AllOver m 0 us → IsUnder m 0 (E us m)) → IsUnder n 0 (with_vals e vs E n)
+  withs_under : (e : Around) (vs : Vals) → ValsHaveDistinctLabels vs → (n : ℕ) → ValuesOver n e.values → (E : List Val → Placed) → ((m : ℕ) (us : List Val) → n ≤ m → AllOver m 0 us → IsUnder m 0 (E us m)) → IsUnder n 0 (with_vals e vs E n)
   withs_under e no_vals d n o E h = h n [] (omega arith) tt
   withs_under e (more_vals vs v) d n o E h = withs_under e vs d.0 n o _ (λ m us le a. with_at m (simple e v) (sending e v) _ (simple_over m e v (values_more n m e.values le o) d.1) (lifted m e (sending e v) (val_under e v d.1) (values_more n m e.values le o)) (λ m2 u le2 ou. h m2 (us ++ u ∷ []) (omega arith) (all_one_more m2 us u (all_more m m2 us le2 a) ou)))
 
-  labelled_under : (e : Around) (ls : LabelledVals) → LabelledAreDistinct ls → (n : ℕ) → ValuesOver n e.values → (E : List (ℕ × Val) → Placed) → ((m : ℕ) (ws : List (ℕ × Val)) → n ≤ m → FieldsOver m ws → labels_in ws ≡ labels_of ls → IsUnder m 0 (E ws m)) → IsUnder n 0 (with_labelled e ls E n)
+  labelled_under : (e : Around) (ls : LabelledVals) → LabelledValsAreDistinct ls → (n : ℕ) → ValuesOver n e.values → (E : List (ℕ × Val) → Placed) → ((m : ℕ) (ws : List (ℕ × Val)) → n ≤ m → FieldsOver m ws → labels_in ws ≡ labels_of ls → IsUnder m 0 (E ws m)) → IsUnder n 0 (with_labelled e ls E n)
   labelled_under e no_labelled_vals d n o E h = h n [] (omega arith) tt refl
-  labelled_under e (more_labelled_vals ls l v) d n o E h = labelled_under e ls d.0 n o _ (λ m ws le a same. with_at m (simple e v) (sending e v) _ (simple_over m e v (values_more n m e.values le o) d.1) (lifted m e (sending e v) (val_under e v d.1) (values_more n m e.values le o)) (λ m2 u le2 ou. h m2 (ws ++ (l.name.0, u) ∷ []) (omega arith) (fields_one_more m2 ws l.name.0 u (fields_more m m2 ws le2 a) ou) (labels_one_more ws l.name.0 u ∙ ap (λ ls. ls ++ l.name.0 ∷ []) same)))
+  labelled_under e (more_labelled_vals ls l v) d n o E h = labelled_under e ls d.0 n o _ (λ m ws le a same. with_at m (simple e v) (sending e v) _ (simple_over m e v (values_more n m e.values le o) d.1.1) (lifted m e (sending e v) (val_under e v d.1.1) (values_more n m e.values le o)) (λ m2 u le2 ou. h m2 (ws ++ (l.name.0, u) ∷ []) (omega arith) (fields_one_more m2 ws l.name.0 u (fields_more m m2 ws le2 a) ou) (labels_one_more ws l.name.0 u ∙ ap (λ ls. ls ++ l.name.0 ∷ []) same)))
 
-  abs_under : (e : Around) (a : Abs) → AbsIsDistinct a → (n : ℕ) → ValuesOver n e.values → (x : Val) (replicated : Bool) → IsOver n 0 x → IsUnder n 0 (reader e a x replicated n)
-  abs_under e (process_abs s p q) d n o x replicated ox = (ox, proc_under (pat_bound p (variables n (binds (pat_core e.names p))) e) q d (n + binds (pat_core e.names p)) (pat_over n (binds (pat_core e.names p)) (pat_names e.names p) e.values o))
-  abs_under e (function_abs s f t v) d n o x replicated ox = (ox, val_under (function_bound f (variables n (binds (function_pat e.names f))) e) v d (n + binds (function_pat e.names f)) (function_over n (binds (function_pat e.names f)) f e o) (answer_channel e.names f (variables n (binds (function_pat e.names f)))) (answer_over n (binds (function_pat e.names f)) e.names f))
+  abs_under : (e : Around) (a : Abs) → AbsHasDistinctLabels a → (n : ℕ) → ValuesOver n e.values → (x : Val) (replicated : Bool) → IsOver n 0 x → IsUnder n 0 (reader e a x replicated n)
+  abs_under e (process_abs s p q) d n o x replicated ox = (ox, proc_under (pat_bound p (variables n (binds (pat_core e.names p))) e) q d.1 (n + binds (pat_core e.names p)) (pat_over n (binds (pat_core e.names p)) (pat_names e.names p) e.values o))
+  abs_under e (function_abs s f t v) d n o x replicated ox = (ox, val_under (function_bound f (variables n (binds (function_pat e.names f))) e) v d.1.1 (n + binds (function_pat e.names f)) (function_over n (binds (function_pat e.names f)) f e o) (answer_channel e.names f (variables n (binds (function_pat e.names f)))) (answer_over n (binds (function_pat e.names f)) e.names f))
 
-  dec_under : (e : Around) (x : Dec) → DecIsDistinct x → (n : ℕ) → ValuesOver n e.values → (rest : Around → Placed) → ((m : ℕ) (e : Around) → n ≤ m → ValuesOver m e.values → IsUnder m 0 (rest e m)) → IsUnder n 0 (dec_core e x rest n)
+  dec_under : (e : Around) (x : Dec) → DecHasDistinctLabels x → (n : ℕ) → ValuesOver n e.values → (rest : Around → Placed) → ((m : ℕ) (e : Around) → n ≤ m → ValuesOver m e.values → IsUnder m 0 (rest e m)) → IsUnder n 0 (dec_core e x rest n)
   dec_under e (new_dec s x t) d n o rest h = h (n + 1) _ (omega arith) (binding_over (n + 1) (x.name.0 ∷ []) (Var n ∷ []) e.values ((omega arith), tt) (values_more n (n + 1) e.values (omega arith) o))
   dec_under e (run_dec s p) d n o rest h = (proc_under e p d n o, h n e (omega arith) o)
-  dec_under e (let_dec s p v) d n o rest h = (((omega arith), h (n + 1 + binds (pat_core e.names p)) (pat_bound p (variables (n + 1) (binds (pat_core e.names p))) e) (omega arith) (pat_over (n + 1) (binds (pat_core e.names p)) (pat_names e.names p) e.values (values_more n (n + 1) e.values (omega arith) o))), val_under e v d (n + 1) (values_more n (n + 1) e.values (omega arith) o) (Var n) (omega arith))
+  dec_under e (let_dec s p v) d n o rest h = (((omega arith), h (n + 1 + binds (pat_core e.names p)) (pat_bound p (variables (n + 1) (binds (pat_core e.names p))) e) (omega arith) (pat_over (n + 1) (binds (pat_core e.names p)) (pat_names e.names p) e.values (values_more n (n + 1) e.values (omega arith) o))), val_under e v d.1 (n + 1) (values_more n (n + 1) e.values (omega arith) o) (Var n) (omega arith))
   dec_under e (def_dec s ds) d n o rest h = channels_under n (length (definition_names ds)) _ (λ xs a. let more = binding_over (n + length (definition_names ds)) (definition_names ds) xs e.values a (values_more n _ e.values (omega arith) o) in served_under (n + length (definition_names ds)) _ xs _ (servers_under _ ds d _ more) a (h _ _ (omega arith) more))
   dec_under e (alias_dec s x t) d n o rest h = h n e (omega arith) o
   dec_under e (operator_dec s x xs t) d n o rest h = h n e (omega arith) o
   dec_under e (await_dec s v) d n o rest h = (((omega arith), h _ e (omega arith) (values_more n _ e.values (omega arith) o)), val_under e v d (n + 1) (values_more n (n + 1) e.values (omega arith) o) (Var n) (omega arith))
 
-  decs_under : (e : Around) (ds : Decs) → DecsAreDistinct ds → (n : ℕ) → ValuesOver n e.values → (rest : Around → Placed) → ((m : ℕ) (e : Around) → n ≤ m → ValuesOver m e.values → IsUnder m 0 (rest e m)) → IsUnder n 0 (decs_core e ds rest n)
+  decs_under : (e : Around) (ds : Decs) → DecsHaveDistinctLabels ds → (n : ℕ) → ValuesOver n e.values → (rest : Around → Placed) → ((m : ℕ) (e : Around) → n ≤ m → ValuesOver m e.values → IsUnder m 0 (rest e m)) → IsUnder n 0 (decs_core e ds rest n)
   decs_under e no_decs d n o rest h = h n e (omega arith) o
   decs_under e (more_decs ds x) d n o rest h = decs_under e ds d.0 n o _ (λ m e2 le o2. dec_under e2 x d.1 m o2 rest (λ m2 e3 le2 o3. h m2 e3 (omega arith) o3))
 
-  servers_under : (e : Around) (ds : Definitions) → DefinitionsAreDistinct ds → (n : ℕ) → ValuesOver n e.values → AllServe n (servers e ds)
+  servers_under : (e : Around) (ds : Definitions) → DefinitionsHaveDistinctLabels ds → (n : ℕ) → ValuesOver n e.values → AllServe n (servers e ds)
   servers_under e no_definitions d n o = tt
   servers_under e (more_definitions ds x a) d n o = one_more_serves n (servers e ds) _ (servers_under e ds d.0 n o) (λ f of. abs_under e a d.1 n o f true of)
 
-  proc_under : (e : Around) (p : Proc) → ProcIsDistinct p → (n : ℕ) → ValuesOver n e.values → IsUnder n 0 (proc_core e p n)
+  proc_under : (e : Around) (p : Proc) → ProcHasDistinctLabels p → (n : ℕ) → ValuesOver n e.values → IsUnder n 0 (proc_core e p n)
   proc_under e (send_proc s c v) d n o = with_at n (simple_chan e c) (sending_chan e c) _ (simple_chan_over n e c o d.0) (lifted n e (sending_chan e c) (chan_under e c d.0) o) (λ m x le ox. with_at m (simple e v) (sending e v) _ (simple_over m e v (values_more n m e.values le o) d.1) (lifted m e (sending e v) (val_under e v d.1) (values_more n m e.values le o)) (λ m2 y le2 oy. (over_more m m2 x le2 ox, oy)))
   proc_under e (receive_proc s c a) d n o = with_at n (simple_chan e c) (sending_chan e c) _ (simple_chan_over n e c o d.0) (lifted n e (sending_chan e c) (chan_under e c d.0) o) (λ m x le ox. abs_under e a d.1 m (values_more n m e.values le o) x false ox)
   proc_under e (serve_proc s c a) d n o = with_at n (simple_chan e c) (sending_chan e c) _ (simple_chan_over n e c o d.0) (lifted n e (sending_chan e c) (chan_under e c d.0) o) (λ m x le ox. abs_under e a d.1 m (values_more n m e.values le o) x true ox)
-  proc_under e (if_proc s c p q) d n o = with_at n (simple e c) (sending e c) _ (simple_over n e c o d.0) (lifted n e (sending e c) (val_under e c d.0) o) (λ m b le ob. (ob, proc_under e p d.1 m (values_more n m e.values le o), proc_under e q d.2 m (values_more n m e.values le o)))
+  proc_under e (if_proc s c p q) d n o = with_at n (simple e c) (sending e c) _ (simple_over n e c o d.0) (lifted n e (sending e c) (val_under e c d.0) o) (λ m b le ob. (ob, proc_under e p d.1.0 m (values_more n m e.values le o), proc_under e q d.1.1 m (values_more n m e.values le o)))
   proc_under e (inert_proc s) d n o = tt
   proc_under e (group_proc s ds ps) d n o = decs_under e ds d.0 n o _ (λ m e2 le o2. side_under m (procs_core e2 ps) (procs_under e2 ps d.1 m o2))
 
-  procs_under : (e : Around) (ps : Procs) → ProcsAreDistinct ps → (n : ℕ) → ValuesOver n e.values → AllUnder n (procs_core e ps)
+  procs_under : (e : Around) (ps : Procs) → ProcsHaveDistinctLabels ps → (n : ℕ) → ValuesOver n e.values → AllUnder n (procs_core e ps)
   procs_under e no_procs d n o = tt
   procs_under e (more_procs ps p) d n o = one_more_under n (procs_core e ps) (proc_core e p) (procs_under e ps d.0 n o) (proc_under e p d.1 n o)
 
-pub program_closed : (names : List (List ℕ)) (ds : Decs) → DecsAreDistinct ds → IsClosed (program_core names ds)
+pub program_closed : (names : List (List ℕ)) (ds : Decs) → DecsHaveDistinctLabels ds → IsClosed (program_core names ds)
 unfolding ValuesOver
 program_closed names ds d = decs_under _ ds d 0 tt _ (λ m e le o. tt)

@@ -1,5 +1,4 @@
 pub mod DepthLemmas
-pub mod LayerLemmas
 pub mod OverLemmas
 pub mod ClosedLemmas
 pub mod PatternLemmas

@@ -4,6 +4,4 @@ pub mod Patterns
 pub mod Simple
 pub mod Translation
 pub mod Depth
-pub mod Layers
-pub mod Distinct
 pub mod Laws

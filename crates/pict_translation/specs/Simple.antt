@@ -7,7 +7,8 @@ use Rattle.pict_core.specs.Term as core
 use Rattle.pict_syntax.specs.Labels.{in_label_order}
 use Rattle.pict_scope.specs.PrimitiveNames.{primitive_named}
 use Rattle.pict_translation.specs.Patterns.{pat_names, names_before, names_after}
-use Rattle.pict_translation.specs.Arguments.{vals_of, labelled_of}
+use Rattle.pict_core.specs.Plain.{vals_of}
+use Rattle.pict_translation.specs.Arguments.{labelled_of}
 
 -- the record without fields
 abbrev pub unit : core.Val

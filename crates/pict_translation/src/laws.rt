@@ -1,8 +1,8 @@
 // What holds of every translation.
 ghost use Rattle.pict_translation.specs.Laws.{TranslationIsClosed, TranslationIsAsDeep};
 
-/// A program in whose records no label stands twice has a closed core process, which names no channel and has no
-/// label twice in a record.
+/// A program in which no label stands twice has a closed core process, which names no channel and has no label twice in a
+/// record.
 pub fn law_translation_is_closed()
     ensures { TranslationIsClosed }
 {}

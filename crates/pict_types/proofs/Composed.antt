@@ -7,9 +7,10 @@ use Rattle.pict_types.specs.Filling.{filling_past}
 use Rattle.pict_types.specs.NormalTypes.{ArgIsNormal, ArgsAreNormal, HeadIsNormal, FillsNormal, ReplacesNormal}
 pub use Rattle.pict_types.specs.Composing.{replace_head, replace_arg}
 use Rattle.pict_types.specs.Composing.{renamed_variable, variable_through, head_of_variable, head_through, fill_head, filling_then_renaming, replacement_then_renaming, renaming_then_replacement}
-use Rattle.pict_types.proofs.Renamed.{three, rename_same, stays_times}
+use Rattle.pict_types.proofs.Renamed.{rename_same, stays_times}
 use Rattle.pict_types.proofs.Replaced.{FillCrosses, fill_crosses_beyond, fill_renamed, Crosses, crosses_beyond, replace_renamed, one_binder, replace_further}
 use Rattle.pict_types.proofs.Replacements.{fills_normal_beyond, fills_normal_under, fills_normal_types, no_filling_normal, normal_beyond, replace_types_normal, no_filling_still, still_past, fill_same, arg_normal, nothing_normal, replace_normal, replace_same, nothing_changed, past_same}
+use Rattle.pict_types.proofs.Congruent.{three}
 
 pub record IsAfter (s : Filling) (f : ℕ → ℕ) (r : Filling) : Type 0 where
   pub types_ : (i : ℕ) → s.type_for (f i) ≡ r.type_for i

@@ -7,6 +7,7 @@ use Rattle.pict_types.specs.Filling.{put_for}
 use Rattle.pict_types.specs.Types.{is_top}
 use Rattle.pict_types.specs.Measures.{weigh, rise, measure_at}
 use Rattle.pict_types.proofs.MeasuredAlike.{TopsAlike, weigh_filled, rise_filled, is_head}
+use Rattle.pict_types.proofs.Congruent.{three}
 
 abbrev head_as : Option ℕ → Head
 head_as None = nothing
@@ -39,9 +40,6 @@ filling_further {s = s} {r = r} h = record { types_ = go; heads_ = go2 }
 filling_under : {s : Filling} {r : Replacement} (bs : PlainBounds) → IsFilling s r → IsFilling (filling_beyond_all bs s) (replacement_beyond_all bs r)
 filling_under no_bound h = h
 filling_under (bounds b bs) h = filling_under bs (filling_further h)
-
-three : {A B C D : Type 0} (k : A → B → C → D) {a a' : A} {b b' : B} {c c' : C} → a ≡ a' → b ≡ b' → c ≡ c' → k a b c ≡ k a' b' c'
-three k p q r = cc
 
 mutual
   pub fill_replaces : {s : Filling} {r : Replacement} → IsFilling s r → (t : PlainType) → fill s t ≡ replace r t

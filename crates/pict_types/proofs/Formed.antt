@@ -1,11 +1,14 @@
 -- Renaming, filling and replacing keep types well formed.
 use Rattle.std.proofs.Common.{◌≡◌, ℕ, zero, suc, List, [], ◌∷◌, Option, Some, None, refl, sym, ◌∙◌, ap, subst}
-use Rattle.pict_types.specs.Types.{PlainType, Top, Int, Char, Str, Boolean, Var, Apply, Chan, Fields, Rec, PlainTypes, no_type, types, PlainLabels, no_label, labels, PlainBound, Free, Below, Operator, PlainBounds, no_bound, bounds, PlainArg, Plain, Op, count_types, is_top}
+use Rattle.pict_types.specs.Types.{PlainType, Top, Int, Char, Str, Boolean, Var, Apply, Chan, Fields, Rec, PlainTypes, no_type, types, PlainLabels, no_label, labels, PlainBound, Free, Below, Operator, PlainBounds, no_bound, bounds, PlainArg, Plain, Op, count_types}
 use Rattle.pict_types.specs.Renaming.{beyond, beyond_all, beyond_times, rename, rename_types, rename_labels, rename_bounds, rename_bound}
 use Rattle.pict_types.specs.Replacing.{bound_by, Filling, next_variable, apply_variable, filling_beyond, filling_beyond_all, fill, fill_types, fill_labels, fill_bounds, fill_bound, with_type, with_types, no_filling, Head, variable, operator, nothing, apply_head, rename_head, Replacement, replacement_beyond, replacement_beyond_all, replace, replace_types, replace_labels, replace_bounds, replace_bound, type_in, head_in, with_arg, with_args, arguments, unfolding_of, instance_of, IsOfKind, FitTheirFields}
 use Rattle.pict_types.specs.Fitting.{StandsForOperator, ReplacesKinds}
 use Rattle.pict_types.specs.Kinds.{Kind, proper, operator_of, kind_by, kinds_under, kind_at, with_parameters, StandsBeforeAll, IsWellFormed, AreWellFormed, LabelsAreWellFormed, BoundsAreWellFormed, BoundIsWellFormed, ArgIsWellFormed}
 use Rattle.pict_types.specs.Instances.{ArgsAreWellFormed}
+use Rattle.pict_types.proofs.Renamed.{top_renamed}
+use Rattle.pict_syntax.specs.Labels.{StandsBefore}
+use Rattle.pict_syntax.proofs.LabelLemmas.{label_order}
 
 -- f takes variables to variables of their kinds
 pub record KeepsKinds (f : ℕ → ℕ) (ks js : List Kind) : Type 0 where
@@ -31,21 +34,14 @@ pub count_renamed : (f : ℕ → ℕ) (ts : PlainTypes) → count_types (rename_
 count_renamed f no_type = refl
 count_renamed f (types t ts) = ap suc (count_renamed f ts)
 
+-- what stands before the first of some labels stands before them all
+pub before_further : (ns : List (List ℕ)) (l m : ℕ) (ls : PlainLabels) → StandsBefore ns l m → StandsBeforeAll ns m ls → StandsBeforeAll ns l ls
+before_further ns l m no_label h k = tt
+before_further ns l m (labels n t ls) h k = ((label_order ns).trans l m n h k.0, before_further ns l m ls h k.1)
+
 pub before_renamed : (ns : List (List ℕ)) (f : ℕ → ℕ) (l : ℕ) (ls : PlainLabels) → StandsBeforeAll ns l ls → StandsBeforeAll ns l (rename_labels f ls)
 before_renamed ns f l no_label h = tt
 before_renamed ns f l (labels m t ls) h = (h.0, before_renamed ns f l ls h.1)
-
-pub top_renamed : (f : ℕ → ℕ) (t : PlainType) → is_top (rename f t) ≡ is_top t
-top_renamed f Top = refl
-top_renamed f Int = refl
-top_renamed f Char = refl
-top_renamed f Str = refl
-top_renamed f Boolean = refl
-top_renamed f (Var i) = refl
-top_renamed f (Apply i ts) = refl
-top_renamed f (Chan m t) = refl
-top_renamed f (Fields bs ps ls) = refl
-top_renamed f (Rec t) = refl
 
 mutual
   pub formed_renamed : {f : ℕ → ℕ} {ks js : List Kind} (ns : List (List ℕ)) (t : PlainType) → KeepsKinds f ks js → IsWellFormed ns ks t → IsWellFormed ns js (rename f t)
@@ -190,7 +186,7 @@ mutual
   fill_bound_formed ns (Operator n) h w = tt
 
 -- the parameters of an operator have its arguments put for them
-parameters_further : (n : ℕ) (ks : List Kind) → with_parameters n (proper ∷ ks) ≡ proper ∷ with_parameters n ks
+pub parameters_further : (n : ℕ) (ks : List Kind) → with_parameters n (proper ∷ ks) ≡ proper ∷ with_parameters n ks
 parameters_further zero ks = refl
 parameters_further (suc n) ks = ap (λ x. proper ∷ x) (parameters_further n ks)
 
@@ -219,7 +215,7 @@ keeps_parameters : (m : ℕ) {f : ℕ → ℕ} {ks js : List Kind} → KeepsKind
 keeps_parameters zero h = h
 keeps_parameters (suc m) h = keeps_beyond refl (keeps_parameters m h)
 
-head_further : (ns : List (List ℕ)) (j : Kind) (js : List Kind) (n : ℕ) (h : Head) → StandsForOperator ns js n h → StandsForOperator ns (j ∷ js) n (rename_head suc h)
+pub head_further : (ns : List (List ℕ)) (j : Kind) (js : List Kind) (n : ℕ) (h : Head) → StandsForOperator ns js n h → StandsForOperator ns (j ∷ js) n (rename_head suc h)
 head_further ns j js n (variable i) w = w
 head_further ns j js n (operator m t) w = (w.0, formed_renamed ns t (keeps_parameters m (one_more_kind j js)) w.1)
 head_further ns j js n nothing w = w

@@ -1,3 +1,4 @@
+pub mod Congruent
 pub mod Rows
 pub mod Around
 pub mod Held
@@ -14,10 +15,14 @@ pub mod Sizes
 pub mod Inside
 pub mod Places
 pub mod Counting
-pub mod Levels
 pub mod Replaced
 pub mod Replacements
 pub mod Composed
 pub mod Mentioned
 pub mod Among
+pub mod Alike
+pub mod Contexts
+pub mod Items
+pub mod Past
+pub mod Within
 mod Worked

@@ -2,11 +2,12 @@
 use Rattle.std.proofs.Common.{◌≡◌, ℕ, zero, suc, ◌+◌, max, List, ◌∷◌, Bool, true, false, Option, Some, None, refl, sym, ◌∙◌, ap, ap₂}
 use Rattle.std.specs.Prelude.{if◌then◌else◌}
 use Rattle.pict_types.specs.Types.{PlainType, Top, Int, Char, Str, Boolean, Var, Apply, Chan, Fields, Rec, PlainTypes, no_type, types, PlainLabels, no_label, labels, PlainBound, Free, Below, Operator, PlainBounds, no_bound, bounds}
-use Rattle.pict_types.specs.Renaming.{rename}
 use Rattle.pict_types.specs.Replacing.{bound_by, Filling, next_variable, apply_variable, filling_beyond, filling_beyond_all, fill, fill_types, fill_labels, fill_bounds, fill_bound}
 use Rattle.pict_types.specs.Measures.{weigh, weigh_types, weigh_labels, weigh_bounds, weigh_variable, weights_under, rise, rise_types, rise_labels, rise_bounds, rise_variable, heights_under}
 use Rattle.pict_types.specs.Types.{is_top}
 use Rattle.pict_types.proofs.Renumbered.{weigh_renamed, rise_renamed}
+use Rattle.pict_types.proofs.Congruent.{sum3, max3}
+use Rattle.pict_types.proofs.Renamed.{top_renamed}
 
 abbrev pub is_head : Option ℕ → Bool
 is_head None = false
@@ -15,18 +16,6 @@ is_head (Some i) = true
 head_further : (o : Option ℕ) → is_head (next_variable o) ≡ is_head o
 head_further None = refl
 head_further (Some i) = refl
-
-top_renamed : (f : ℕ → ℕ) (t : PlainType) → is_top (rename f t) ≡ is_top t
-top_renamed f Top = refl
-top_renamed f Int = refl
-top_renamed f Char = refl
-top_renamed f Str = refl
-top_renamed f Boolean = refl
-top_renamed f (Var i) = refl
-top_renamed f (Apply i ts) = refl
-top_renamed f (Chan m t) = refl
-top_renamed f (Fields bs ps ls) = refl
-top_renamed f (Rec t) = refl
 
 -- a variable with the bound that a type makes
 weigh_bound_by : (ws : List ℕ) (t : PlainType) → weigh_variable ws (bound_by t) ≡ (if is_top t then 1 else suc (weigh ws t))
@@ -98,12 +87,6 @@ weigh_beyond {x = x} {y = y} {vs = vs} {ws = ws} {s = s} {r = r} e h = record { 
     go zero = e
     go (suc i) =
         weigh_renamed (record { each = λ j. refl }) (s.type_for i) ∙ h.weights i ∙ sym (weigh_renamed (record { each = λ j. refl }) (r.type_for i))
-
-sum3 : {a b c d e f : ℕ} → a ≡ d → b ≡ e → c ≡ f → suc (a + b + c) ≡ suc (d + e + f)
-sum3 p q r = cc
-
-max3 : {a b c d e f : ℕ} → a ≡ d → b ≡ e → c ≡ f → suc (max a (max b c)) ≡ suc (max d (max e f))
-max3 p q r = cc
 
 weigh_applied : (ws : List ℕ) (o : Option ℕ) (us : PlainTypes) → weigh ws (apply_variable o us) ≡ (if is_head o then suc (weigh_types ws us) else 1)
 weigh_applied ws None us = refl

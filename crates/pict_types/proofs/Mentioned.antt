@@ -8,9 +8,10 @@ use Rattle.pict_types.specs.Renaming.{beyond, beyond_all, rename, rename_types, 
 use Rattle.pict_types.specs.Replacing.{bound_by, Replacement, rename_head, replacement_beyond, replacement_beyond_all, no_replacement, apply_head, replace, replace_types, replace_labels, replace_bounds, replace_bound}
 use Rattle.pict_types.specs.NormalTypes.{IsNormal}
 use Rattle.pict_types.specs.Mentions.{outside, outside_all, mentions, mentions_types, mentions_labels, mentions_bound, mentions_bounds, mentions_innermost, lowered, IsClosed}
-use Rattle.pict_types.proofs.Renamed.{three, renamed_twice, rename_same}
+use Rattle.pict_types.proofs.Renamed.{renamed_twice, rename_same, top_renamed}
 use Rattle.pict_types.proofs.Replacements.{replace_same, nothing_changed}
-use Rattle.pict_types.proofs.Formed.{same_kind, count_renamed, before_renamed, top_renamed}
+use Rattle.pict_types.proofs.Formed.{same_kind, count_renamed, before_renamed}
+use Rattle.pict_types.proofs.Congruent.{three}
 
 first_false : (a b : Bool) → (a || b) ≡ false → a ≡ false
 first_false false b h = refl
@@ -204,7 +205,7 @@ none_under : {p : ℕ → Bool} (bs : PlainBounds) → MarksNone p → MarksNone
 none_under no_bound x = x
 none_under (bounds b bs) x = none_under bs (none_beyond x)
 
-neither : {a b : Bool} → a ≡ false → b ≡ false → (a || b) ≡ false
+pub neither : {a b : Bool} → a ≡ false → b ≡ false → (a || b) ≡ false
 neither h k = ap₂ (λ a b. a || b) h k
 
 mutual

@@ -1,7 +1,7 @@
 -- Variables renumbered under binders.
 use Rattle.std.proofs.Common.{◌≡◌, ℕ, zero, suc, ◌+◌, ◌-◌, ◌≤◌, ◌<◌, refl, ◌∙◌, ap, arith}
 use Rattle.pict_types.specs.Types.{PlainBounds, no_bound, bounds, count_bounds}
-use Rattle.pict_types.specs.Renaming.{beyond_all, beyond_times, plus, moved}
+use Rattle.pict_types.specs.Renaming.{beyond_all, beyond_times, plus}
 
 pub times_low : (f : ℕ → ℕ) (d i : ℕ) → i < d → beyond_times d f i ≡ i
 times_low f zero i h = absurd (omega arith)
@@ -28,12 +28,3 @@ times_up k d i h = omega (arith, times_high (plus k) d i h)
 
 pub times_down : (k d i : ℕ) → d ≤ i → i - d - k + d ≡ beyond_times d (λ j. j - k) i
 times_down k d i h = omega (arith, times_high (λ j. j - k) d i h)
-
-pub moved_low : (k d i : ℕ) → i < d → moved k d i ≡ i
-moved_low k d i h = times_low (plus k) d i h
-
-pub moved_high : (k d i : ℕ) → d ≤ i → moved k d i ≡ i + k
-moved_high k d i h = omega (arith, times_up k d i h)
-
-pub moved_all : (k d : ℕ) (bs : PlainBounds) → beyond_all bs (moved k d) ≡ moved k (d + count_bounds bs)
-moved_all k d bs = times_all (plus k) d bs

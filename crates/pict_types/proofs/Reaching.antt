@@ -1,12 +1,13 @@
 -- The variables of a well formed type.
 use Rattle.std.proofs.Common.{◌≡◌, ℕ, zero, suc, ◌+◌, ◌≤◌, ◌<◌, List, [], ◌∷◌, length, get_or, Some, refl, ap, arith}
-use Rattle.pict_types.specs.Types.{PlainType, Top, Int, Char, Str, Boolean, Var, Apply, Chan, Fields, Rec, PlainTypes, no_type, types, PlainLabels, no_label, labels, PlainBound, Free, Below, Operator, PlainBounds, no_bound, bounds, TypeContext, count_types}
-use Rattle.pict_types.specs.Kinds.{Kind, proper, operator_of, kind_by, kinds, kinds_under, kind_at, with_parameters, IsWellFormed, AreWellFormed, LabelsAreWellFormed, BoundsAreWellFormed, ArgIsWellFormed}
+use Rattle.pict_types.specs.Types.{PlainType, Top, Int, Char, Str, Boolean, Var, Apply, Chan, Fields, Rec, PlainTypes, no_type, types, PlainLabels, no_label, labels, Free, Below, Operator, PlainBounds, no_bound, bounds, TypeContext, count_types}
+use Rattle.pict_types.specs.Kinds.{Kind, proper, operator_of, kind_by, kinds, kinds_under, kind_at, IsWellFormed, AreWellFormed, LabelsAreWellFormed, BoundsAreWellFormed, ArgIsWellFormed}
 use Rattle.pict_types.specs.declared.types.Arg.{Arg}
 use Rattle.pict_types.specs.Plain.{plain_arg, plain_args}
 use Rattle.pict_types.specs.Instances.{ArgsAreWellFormed, most_args, size_arg}
 use Rattle.pict_types.specs.Room.{reach, reach_types, reach_labels, reach_bounds}
-use Rattle.pict_types.specs.Measures.{size, size_types, size_labels, size_bounds, size_bound}
+use Rattle.pict_types.specs.Measures.{size, size_types, size_labels, size_bounds}
+use Rattle.pict_types.proofs.Rows.{size_bound_positive}
 
 pub kind_below : (ks : List Kind) (i : ℕ) (k : Kind) → kind_at ks i ≡ Some k → i < length ks
 kind_below [] i k h = absurd (cc)
@@ -19,12 +20,7 @@ kinds_length (b ∷ c) = ap suc (kinds_length c)
 
 under_length : (ks : List Kind) (bs : PlainBounds) → length (kinds_under ks bs) ≤ length ks + size_bounds bs
 under_length ks no_bound = omega arith
-under_length ks (bounds b bs) = omega (arith, under_length (kind_by b ∷ ks) bs, one_each b)
-  where
-    one_each : (b : PlainBound) → 1 ≤ size_bound b
-    one_each Free = omega arith
-    one_each (Below t) = omega arith
-    one_each (Operator n) = omega arith
+under_length ks (bounds b bs) = omega (arith, under_length (kind_by b ∷ ks) bs, size_bound_positive b)
 
 mutual
   -- no variable of a well formed type is past those in scope and the binders around it
@@ -54,14 +50,6 @@ mutual
   reach_bounds_formed ns ks (bounds Free bs) w = omega (arith, reach_bounds_formed ns (proper ∷ ks) bs w.1)
   reach_bounds_formed ns ks (bounds (Below t) bs) w = omega (arith, reach_formed ns ks t w.0.1, reach_bounds_formed ns (proper ∷ ks) bs w.1)
   reach_bounds_formed ns ks (bounds (Operator n) bs) w = omega (arith, reach_bounds_formed ns (operator_of n ∷ ks) bs w.1)
-
-parameters_length : (n : ℕ) (ks : List Kind) → length (with_parameters n ks) ≡ n + length ks
-parameters_length zero ks = omega arith
-parameters_length (suc n) ks = omega (arith, parameters_length n ks)
-
--- and of the body of an operator
-pub reach_body : (ns : List (List ℕ)) (ks : List Kind) (n : ℕ) (t : PlainType) → IsWellFormed ns (with_parameters n ks) t → reach t ≤ length ks + n + size t
-reach_body ns ks n t w = omega (arith, reach_formed ns (with_parameters n ks) t w, parameters_length n ks)
 
 -- each argument is well formed, and none is greater than the greatest
 pub args_formed : (ns : List (List ℕ)) (ks : List Kind) (xs : List Arg) (i : ℕ) (d : Arg) → i < length xs → ArgsAreWellFormed ns ks (plain_args xs) → ArgIsWellFormed ns ks (plain_arg (get_or xs i d))

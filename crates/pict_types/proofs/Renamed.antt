@@ -1,11 +1,9 @@
 -- Types renamed twice, types renamed to themselves, and the bounds of variables one further in.
 use Rattle.std.proofs.Common.{◌≡◌, ℕ, zero, suc, ◌+◌, ◌∷◌, Some, Bool, true, false, refl, sym, ◌∙◌, ap, ap₂, arith, add-one}
 use Rattle.std.specs.Prelude.{nat_eq}
-use Rattle.pict_types.specs.Types.{PlainType, Top, Int, Char, Str, Boolean, Var, Apply, Chan, Fields, Rec, PlainTypes, no_type, types, PlainLabels, no_label, labels, PlainBound, Free, Below, Operator, PlainBounds, no_bound, bounds, TypeContext, type_at}
+use Rattle.pict_types.specs.Types.{PlainType, Top, Int, Char, Str, Boolean, Var, Apply, Chan, Fields, Rec, PlainTypes, no_type, types, PlainLabels, no_label, labels, PlainBound, Free, Below, Operator, PlainBounds, no_bound, bounds, TypeContext, type_at, is_top}
 use Rattle.pict_types.specs.Renaming.{beyond, beyond_all, beyond_times, rename, rename_types, rename_labels, rename_bounds, rename_bound, moved, bound_at, bound_of}
-
-pub three : {A B C D : Type 0} (k : A → B → C → D) {a a' : A} {b b' : B} {c c' : C} → a ≡ a' → b ≡ b' → c ≡ c' → k a b c ≡ k a' b' c'
-three k p q r = cc
+use Rattle.pict_types.proofs.Congruent.{three}
 
 -- two renamings do to each variable what one does
 pub record Joins (g f k : ℕ → ℕ) : Type 0 where
@@ -136,3 +134,16 @@ type_at_renamed f l (labels m t ts) s h = go (nat_eq l m) refl (type_at_renamed 
         let e : t ≡ s = cc in
         rw q (ap (λ x. Some (rename f x)) e)
     go false q r = rw q (r (rw q at h))
+
+-- what is Top stays Top, and what isn't is none
+pub top_renamed : (f : ℕ → ℕ) (t : PlainType) → is_top (rename f t) ≡ is_top t
+top_renamed f Top = refl
+top_renamed f Int = refl
+top_renamed f Char = refl
+top_renamed f Str = refl
+top_renamed f Boolean = refl
+top_renamed f (Var i) = refl
+top_renamed f (Apply i ts) = refl
+top_renamed f (Chan m t) = refl
+top_renamed f (Fields bs ps ls) = refl
+top_renamed f (Rec t) = refl

@@ -3,6 +3,7 @@ use Rattle.std.proofs.Common.{◌≡◌, ℕ, zero, suc, ◌+◌, max, List, ◌
 use Rattle.pict_types.specs.Types.{PlainType, Top, Int, Char, Str, Boolean, Var, Apply, Chan, Fields, Rec, PlainTypes, no_type, types, PlainLabels, no_label, labels, PlainBound, Free, Below, Operator, PlainBounds, no_bound, bounds}
 use Rattle.pict_types.specs.Renaming.{beyond, beyond_all, rename, rename_types, rename_labels, rename_bounds, rename_bound}
 use Rattle.pict_types.specs.Measures.{measure_at, weigh, weigh_types, weigh_labels, weigh_bounds, weigh_variable, weights_under, rise, rise_types, rise_labels, rise_bounds, rise_variable, heights_under}
+use Rattle.pict_types.proofs.Congruent.{sum3, max3}
 
 -- the measures vs, read through f, are ws
 pub record Reads (f : ℕ → ℕ) (vs ws : List ℕ) : Type 0 where
@@ -14,12 +15,6 @@ reads_beyond {f = f} {x = x} {y = y} {vs = vs} {ws = ws} e h = record { each = g
     go : (i : ℕ) → measure_at (x ∷ vs) (beyond f i) ≡ measure_at (y ∷ ws) i
     go zero = e
     go (suc i) = h.each i
-
-sum3 : {a b c d e f : ℕ} → a ≡ d → b ≡ e → c ≡ f → suc (a + b + c) ≡ suc (d + e + f)
-sum3 p q r = cc
-
-max3 : {a b c d e f : ℕ} → a ≡ d → b ≡ e → c ≡ f → suc (max a (max b c)) ≡ suc (max d (max e f))
-max3 p q r = cc
 
 mutual
   pub weigh_renamed : {f : ℕ → ℕ} {vs ws : List ℕ} → Reads f vs ws → (t : PlainType) → weigh vs (rename f t) ≡ weigh ws t

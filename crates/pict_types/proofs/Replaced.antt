@@ -5,7 +5,8 @@ use Rattle.pict_types.specs.Types.{PlainType, Top, Int, Char, Str, Boolean, Var,
 use Rattle.pict_types.specs.Renaming.{beyond, beyond_all, beyond_times, rename, rename_types, rename_labels, rename_bounds, rename_bound}
 use Rattle.pict_types.specs.Replacing.{bound_by, Filling, next_variable, filling_beyond, filling_beyond_all, apply_variable, fill, fill_types, fill_labels, fill_bounds, fill_bound, with_type, with_types, no_filling, Head, variable, operator, nothing, apply_head, Replacement, rename_head, replacement_beyond, replacement_beyond_all, replace, replace_types, replace_labels, replace_bounds, replace_bound}
 use Rattle.pict_types.specs.Composing.{renamed_variable}
-use Rattle.pict_types.proofs.Renamed.{three, renamed_alike}
+use Rattle.pict_types.proofs.Renamed.{renamed_alike}
+use Rattle.pict_types.proofs.Congruent.{three}
 
 pub bound_by_renamed : (f : ℕ → ℕ) (t : PlainType) → bound_by (rename f t) ≡ rename_bound f (bound_by t)
 bound_by_renamed f Top = refl

@@ -6,8 +6,8 @@ use Rattle.pict_types.specs.Replacing.{bound_by, Filling, next_variable, filling
 use Rattle.pict_types.specs.Filling.{filling_past}
 use Rattle.pict_types.specs.NormalTypes.{IsNormal, AreNormal, LabelsAreNormal, BoundIsNormal, BoundsAreNormal, ArgIsNormal, ContextIsNormal, HeadIsNormal, FillsNormal, ReplacesNormal}
 use Rattle.pict_types.specs.Kinds.{Kind, kind_by, kinds, kinds_under, proper, with_parameters, IsWellFormed, AreWellFormed, LabelsAreWellFormed, BoundsAreWellFormed, BoundIsWellFormed, ArgIsWellFormed, ContextIsWellFormed}
-use Rattle.pict_types.proofs.Renamed.{three}
-use Rattle.pict_types.proofs.Formed.{top_renamed}
+use Rattle.pict_types.proofs.Congruent.{three}
+use Rattle.pict_types.proofs.Renamed.{top_renamed}
 
 pub bound_by_self : (t : PlainType) → is_top t ≡ false → bound_by t ≡ Below t
 bound_by_self Top h = absurd (cc)

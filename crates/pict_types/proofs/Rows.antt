@@ -10,10 +10,11 @@ use Rattle.pict_types.specs.declared.types.Ty.TheVariants.{Apply as Apply_, Appl
 use Rattle.pict_types.specs.declared.types.Record.{Record}
 use Rattle.pict_types.specs.declared.types.Bound.{Bound}
 use Rattle.pict_types.specs.declared.types.Bound.TheBlock.{Row_of-Ty, end_of-Ty, more_of-Ty, items-the_row-Ty, items_hidden-the_row-Ty-0, Row_of-Bound, end_of-Bound, more_of-Bound, items-the_row-Bound, items_hidden-the_row-Bound-1, Row_of-Record-labelled-2, end_of-Record-labelled-2, more_of-Record-labelled-2, items-the_row-Record-labelled-2, items_hidden-the_row-Record-labelled-2-2}
-use Rattle.pict_types.specs.Types.{Apply, Fields, PlainTypes, no_type, types, PlainLabels, no_label, labels, PlainBound, Free, Below, Operator, PlainBounds, no_bound, bounds, count_bounds}
+use Rattle.pict_types.specs.Types.{Apply, Fields, PlainTypes, no_type, types, PlainLabels, no_label, labels, PlainBound, Free, Below, Operator, PlainBounds, no_bound, bounds, count_types, count_bounds}
 use Rattle.pict_types.specs.Room.{reach, reach_types, reach_labels, reach_bounds, reach_bound}
 use Rattle.pict_types.specs.Measures.{size, size_types, size_bounds, size_bound, size_labels}
 use Rattle.pict_types.specs.Plain.{plain, plain_bound, plain_record, plain_row, plain_bound_row, plain_label_row, plain_types, plain_bounds, plain_labels}
+use Rattle.pict_types.proofs.Congruent.{three}
 
 row_items : (n : _) (r : Row_of-Ty n) → plain_row r ≡ plain_types (items-the_row-Ty n r)
 row_items n end_of-Ty = refl
@@ -44,9 +45,6 @@ pub plain_apply : (i : ℕ) (v : Vec Ty Global) → plain (Apply_ i v) ≡ Apply
 plain_apply i v =
     let r = row_of (Apply_ i v) in
     ap (Apply i) (row_items r.0 r.1 ∙ ap plain_types (items_hidden-the_row-Ty-0 v))
-
-three : {A B C D : Type 0} (k : A → B → C → D) {a a' : A} {b b' : B} {c c' : C} → a ≡ a' → b ≡ b' → c ≡ c' → k a b c ≡ k a' b' c'
-three k p q r = cc
 
 pub plain_fields : (r : Record) → plain (Fields_ r) ≡ plain_record r
 plain_fields r =
@@ -128,15 +126,15 @@ size_labels_item [] i d h = absurd (omega arith)
 size_labels_item (x ∷ xs) zero d h = omega arith
 size_labels_item (x ∷ xs) (suc i) d h = omega (arith, size_labels_item xs i d (omega arith))
 
+pub size_bound_positive : (b : PlainBound) → 1 ≤ size_bound b
+size_bound_positive Free = omega arith
+size_bound_positive (Below t) = omega arith
+size_bound_positive (Operator m) = omega arith
+
 pub size_bounds_drop : (xs : List Bound) (n : ℕ) → n ≤ length xs → size_bounds (plain_bounds (drop n xs)) + n ≤ size_bounds (plain_bounds xs)
 size_bounds_drop xs zero h = omega arith
 size_bounds_drop [] (suc n) h = absurd (omega arith)
-size_bounds_drop (x ∷ xs) (suc n) h = omega (arith, size_bounds_drop xs n (omega arith), size_bound_pos (plain_bound x))
-  where
-    size_bound_pos : (b : PlainBound) → 1 ≤ size_bound b
-    size_bound_pos Free = omega arith
-    size_bound_pos (Below t) = omega arith
-    size_bound_pos (Operator m) = omega arith
+size_bounds_drop (x ∷ xs) (suc n) h = omega (arith, size_bounds_drop xs n (omega arith), size_bound_positive (plain_bound x))
 
 -- an applied variable, told by what it is
 pub plain_is_apply : (t : Ty) (i : ℕ) (v : Vec Ty Global) → t ≡ Apply_ i v → plain t ≡ Apply i (plain_types v.items)
@@ -170,12 +168,12 @@ reach_bounds_item (x ∷ xs) (suc i) d h = omega (arith, reach_bounds_item xs i 
 pub size_bounds_reach : (xs : List Bound) (i : ℕ) (d : Bound) → i < length xs → i + size_bound (plain_bound (get_or xs i d)) ≤ size_bounds (plain_bounds xs)
 size_bounds_reach [] i d h = absurd (omega arith)
 size_bounds_reach (x ∷ xs) zero d h = omega arith
-size_bounds_reach (x ∷ xs) (suc i) d h = omega (arith, size_bounds_reach xs i d (omega arith), one_each (plain_bound x))
-  where
-    one_each : (b : PlainBound) → 1 ≤ size_bound b
-    one_each Free = omega arith
-    one_each (Below t) = omega arith
-    one_each (Operator m) = omega arith
+size_bounds_reach (x ∷ xs) (suc i) d h = omega (arith, size_bounds_reach xs i d (omega arith), size_bound_positive (plain_bound x))
+
+-- as many as the list has
+pub count_types_length : (xs : List Ty) → count_types (plain_types xs) ≡ length xs
+count_types_length [] = refl
+count_types_length (x ∷ xs) = ap suc (count_types_length xs)
 
 pub count_bounds_length : (xs : List Bound) → count_bounds (plain_bounds xs) ≡ length xs
 count_bounds_length [] = refl
@@ -190,3 +188,10 @@ count_size_bounds (bounds (Operator n) bs) = omega (arith, count_size_bounds bs)
 -- the same where its arguments are read as a slice
 pub apply_is : (t : Ty) (i : ℕ) (v : Vec Ty Global) (xs : List Ty) → t ≡ Apply_ i v → xs ≡ v.items → plain t ≡ Apply i (plain_types xs)
 apply_is t i v xs e h = plain_is_apply t i v e ∙ ap (λ x. Apply i (plain_types x)) (sym h)
+
+-- what a loop over a row needs
+pub ruleset types_rules = (types_push, types_drop, types_end, types_then_none, size_types_item)
+
+pub ruleset bounds_rules = (bounds_push, bounds_drop, bounds_end, bounds_then_none, size_bounds_item)
+
+pub ruleset labels_rules = (labels_push, labels_drop, labels_end, labels_then_none, size_labels_item)

@@ -2,7 +2,7 @@
 use Rattle.std.proofs.Common.{ℕ, zero, suc, ◌+◌, ◌≤◌, List, [], ◌∷◌, length, arith}
 use Rattle.pict_types.specs.Types.{PlainType, Top, Int, Char, Str, Boolean, Var, Apply, Chan, Fields, Rec, PlainTypes, no_type, types, PlainLabels, no_label, labels, PlainBound, Free, Below, Operator, PlainBounds, no_bound, bounds, TypeContext, count_types}
 use Rattle.pict_types.specs.Kinds.{Kind, proper, operator_of, kind_by, kinds_under, IsWellFormed, AreWellFormed, LabelsAreWellFormed, BoundsAreWellFormed}
-use Rattle.pict_types.specs.Measures.{measure_at, weigh, weigh_types, weigh_labels, weigh_bounds, weigh_variable, weights_under, weights, size, size_types, size_labels, size_bounds, size_bound}
+use Rattle.pict_types.specs.Measures.{measure_at, weigh, weigh_types, weigh_labels, weigh_bounds, weigh_variable, weights_under, weights, weight_of, size, size_types, size_labels, size_bounds, size_bound}
 use Rattle.pict_types.specs.Room.{reach, reach_types, reach_labels, reach_bounds}
 use Rattle.pict_types.proofs.Reaching.{kind_below}
 
@@ -107,3 +107,15 @@ mutual
   reach_bounds_weighed ns ks ws (bounds Free bs) w = omega (arith, reach_bounds_weighed ns (proper ∷ ks) (weigh_variable ws Free ∷ ws) bs w.1)
   reach_bounds_weighed ns ks ws (bounds (Below t) bs) w = omega (arith, reach_weighed ns ks ws t w.0.1, reach_bounds_weighed ns (proper ∷ ks) (weigh_variable ws (Below t) ∷ ws) bs w.1)
   reach_bounds_weighed ns ks ws (bounds (Operator n) bs) w = omega (arith, reach_bounds_weighed ns (operator_of n ∷ ks) (weigh_variable ws (Operator n) ∷ ws) bs w.1)
+
+-- the same in a context
+pub size_weight : (c : TypeContext) (t : PlainType) → size t ≤ weight_of c t
+size_weight c t = size_weigh (weights c) t (positive_weights c)
+
+pub size_weight_bounds : (c : TypeContext) (bs : PlainBounds) → size_bounds bs ≤ weigh_bounds (weights c) bs
+size_weight_bounds c bs = size_weigh_bounds (weights c) bs (positive_weights c)
+
+pub weight_positive : (c : TypeContext) (t : PlainType) → 1 ≤ weight_of c t
+weight_positive c t = omega (arith, size_weight c t, size_positive t)
+
+pub ruleset weight_rules = (weight_positive, size_weight)

@@ -18,7 +18,6 @@ pub mod Recursion
 pub mod Instances
 pub mod Fitting
 pub mod Counting
-pub mod Levels
 pub mod NormalTypes
 pub mod Mentions
 pub mod Composing

@@ -1,13 +1,7 @@
 -- Names and the entries of a context, by their places: the innermost has place 0.
-use Rattle.std.specs.Prelude.{◌≡◌, ℕ, zero, suc, nat_eq, if◌then◌else◌, List, [], ◌∷◌, map, Option, Some, None}
+use Rattle.std.specs.Prelude.{◌≡◌, ℕ, zero, suc, List, [], ◌∷◌, map, Option, Some, None}
 use Rattle.pict_types.specs.Types.{Free, Below, Operator, Plain, Op}
-use Rattle.pict_types.specs.Replacing.{next_variable}
 use Rattle.pict_types.specs.Entries.{PlainWhat, Variable, Definition, PlainContext}
-
--- the first place of a name
-abbrev pub place : List ℕ → ℕ → Option ℕ
-place [] n = None
-place (m ∷ ms) n = if nat_eq m n then Some 0 else next_variable (place ms n)
 
 -- the names of the entries
 abbrev pub names_in : PlainContext → List ℕ

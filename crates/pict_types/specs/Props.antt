@@ -30,42 +30,42 @@ before_prop ns l no_label = Unit-prop
 before_prop ns l (labels m t ls) = ×_prop (Ordering-set _ _) (before_prop ns l ls)
 
 mutual
-  pub IsWellFormed-prop : (ns : List (List ℕ)) (ks : List Kind) (t : PlainType) → IsProp (IsWellFormed ns ks t)
-  IsWellFormed-prop ns ks Top = Unit-prop
-  IsWellFormed-prop ns ks Int = Unit-prop
-  IsWellFormed-prop ns ks Char = Unit-prop
-  IsWellFormed-prop ns ks Str = Unit-prop
-  IsWellFormed-prop ns ks Boolean = Unit-prop
-  IsWellFormed-prop ns ks (Var i) = kind_prop ks i proper
-  IsWellFormed-prop ns ks (Apply i ts) = ×_prop (kind_prop ks i (operator_of (count_types ts))) (AreWellFormed-prop ns ks ts)
-  IsWellFormed-prop ns ks (Chan m t) = IsWellFormed-prop ns ks t
-  IsWellFormed-prop ns ks (Fields bs ps ls) =
-      ×_prop (BoundsAreWellFormed-prop ns ks bs) (×_prop (AreWellFormed-prop ns (kinds_under ks bs) ps) (LabelsAreWellFormed-prop ns (kinds_under ks bs) ls))
-  IsWellFormed-prop ns ks (Rec t) = IsWellFormed-prop ns (proper ∷ ks) t
+  pub type_prop : (ns : List (List ℕ)) (ks : List Kind) (t : PlainType) → IsProp (IsWellFormed ns ks t)
+  type_prop ns ks Top = Unit-prop
+  type_prop ns ks Int = Unit-prop
+  type_prop ns ks Char = Unit-prop
+  type_prop ns ks Str = Unit-prop
+  type_prop ns ks Boolean = Unit-prop
+  type_prop ns ks (Var i) = kind_prop ks i proper
+  type_prop ns ks (Apply i ts) = ×_prop (kind_prop ks i (operator_of (count_types ts))) (types_prop ns ks ts)
+  type_prop ns ks (Chan m t) = type_prop ns ks t
+  type_prop ns ks (Fields bs ps ls) =
+      ×_prop (bounds_prop ns ks bs) (×_prop (types_prop ns (kinds_under ks bs) ps) (labels_prop ns (kinds_under ks bs) ls))
+  type_prop ns ks (Rec t) = type_prop ns (proper ∷ ks) t
 
-  AreWellFormed-prop : (ns : List (List ℕ)) (ks : List Kind) (ts : PlainTypes) → IsProp (AreWellFormed ns ks ts)
-  AreWellFormed-prop ns ks no_type = Unit-prop
-  AreWellFormed-prop ns ks (types t ts) = ×_prop (IsWellFormed-prop ns ks t) (AreWellFormed-prop ns ks ts)
+  types_prop : (ns : List (List ℕ)) (ks : List Kind) (ts : PlainTypes) → IsProp (AreWellFormed ns ks ts)
+  types_prop ns ks no_type = Unit-prop
+  types_prop ns ks (types t ts) = ×_prop (type_prop ns ks t) (types_prop ns ks ts)
 
-  LabelsAreWellFormed-prop : (ns : List (List ℕ)) (ks : List Kind) (ls : PlainLabels) → IsProp (LabelsAreWellFormed ns ks ls)
-  LabelsAreWellFormed-prop ns ks no_label = Unit-prop
-  LabelsAreWellFormed-prop ns ks (labels l t ls) =
-      ×_prop (before_prop ns l ls) (×_prop (IsWellFormed-prop ns ks t) (LabelsAreWellFormed-prop ns ks ls))
+  labels_prop : (ns : List (List ℕ)) (ks : List Kind) (ls : PlainLabels) → IsProp (LabelsAreWellFormed ns ks ls)
+  labels_prop ns ks no_label = Unit-prop
+  labels_prop ns ks (labels l t ls) =
+      ×_prop (before_prop ns l ls) (×_prop (type_prop ns ks t) (labels_prop ns ks ls))
 
-  BoundsAreWellFormed-prop : (ns : List (List ℕ)) (ks : List Kind) (bs : PlainBounds) → IsProp (BoundsAreWellFormed ns ks bs)
-  BoundsAreWellFormed-prop ns ks no_bound = Unit-prop
-  BoundsAreWellFormed-prop ns ks (bounds b bs) = ×_prop (BoundIsWellFormed-prop ns ks b) (BoundsAreWellFormed-prop ns (kind_by b ∷ ks) bs)
+  bounds_prop : (ns : List (List ℕ)) (ks : List Kind) (bs : PlainBounds) → IsProp (BoundsAreWellFormed ns ks bs)
+  bounds_prop ns ks no_bound = Unit-prop
+  bounds_prop ns ks (bounds b bs) = ×_prop (bound_prop ns ks b) (bounds_prop ns (kind_by b ∷ ks) bs)
 
-  BoundIsWellFormed-prop : (ns : List (List ℕ)) (ks : List Kind) (b : PlainBound) → IsProp (BoundIsWellFormed ns ks b)
-  BoundIsWellFormed-prop ns ks Free = Unit-prop
-  BoundIsWellFormed-prop ns ks (Below t) = ×_prop (Coded-set coded_bool (is_top t) false) (IsWellFormed-prop ns ks t)
-  BoundIsWellFormed-prop ns ks (Operator n) = Unit-prop
+  bound_prop : (ns : List (List ℕ)) (ks : List Kind) (b : PlainBound) → IsProp (BoundIsWellFormed ns ks b)
+  bound_prop ns ks Free = Unit-prop
+  bound_prop ns ks (Below t) = ×_prop (Coded-set coded_bool (is_top t) false) (type_prop ns ks t)
+  bound_prop ns ks (Operator n) = Unit-prop
 
 entry_prop : (ns : List (List ℕ)) (c : TypeContext) (w : PlainWhat) → IsProp (EntryIsWellFormed ns c w)
-entry_prop ns c (Variable b) = BoundIsWellFormed-prop ns (kinds c) b
-entry_prop ns c (Definition (Plain t)) = IsWellFormed-prop ns (kinds c) t
-entry_prop ns c (Definition (Op n t)) = IsWellFormed-prop ns (with_parameters n (kinds c)) t
+entry_prop ns c (Variable b) = bound_prop ns (kinds c) b
+entry_prop ns c (Definition (Plain t)) = type_prop ns (kinds c) t
+entry_prop ns c (Definition (Op n t)) = type_prop ns (with_parameters n (kinds c)) t
 
-pub EntriesAreWellFormed-prop : (ns : List (List ℕ)) (c : PlainContext) → IsProp (EntriesAreWellFormed ns c)
-EntriesAreWellFormed-prop ns [] = Unit-prop
-EntriesAreWellFormed-prop ns (e ∷ c) = ×_prop (entry_prop ns (variables c) e.what) (EntriesAreWellFormed-prop ns c)
+pub entries_prop : (ns : List (List ℕ)) (c : PlainContext) → IsProp (EntriesAreWellFormed ns c)
+entries_prop ns [] = Unit-prop
+entries_prop ns (e ∷ c) = ×_prop (entry_prop ns (variables c) e.what) (entries_prop ns c)

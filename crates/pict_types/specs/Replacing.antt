@@ -1,5 +1,6 @@
 -- Types and operators put for type variables.
 use Rattle.std.specs.Prelude.{◌≡◌, ℕ, zero, suc, List, [], ◌∷◌, Option, Some, None}
+use Rattle.std.specs.Option.{option_map}
 use Rattle.pict_types.specs.Types.{PlainType, Top, Int, Char, Str, Boolean, Var, Apply, Chan, Fields, Rec, PlainTypes, no_type, types, PlainLabels, no_label, labels, PlainBound, Free, Below, Operator, PlainBounds, no_bound, bounds, PlainArg, Plain, Op}
 use Rattle.pict_types.specs.Renaming.{beyond_times, rename}
 
@@ -26,8 +27,7 @@ type_beyond f zero = Var zero
 type_beyond f (suc i) = rename suc (f i)
 
 abbrev pub next_variable : Option ℕ → Option ℕ
-next_variable None = None
-next_variable (Some i) = Some (suc i)
+next_variable o = option_map suc o
 
 abbrev pub variable_beyond : (ℕ → Option ℕ) → ℕ → Option ℕ
 variable_beyond f zero = Some zero

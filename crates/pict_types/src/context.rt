@@ -5,11 +5,11 @@ ghost use Rattle.pict_types.specs.Counting.{variables_around};
 ghost use Rattle.pict_types.specs.Entries.{EntriesAreWellFormed, held_heights, held_weights, places, variables};
 ghost use Rattle.pict_types.specs.PlainEntries.{plain_entries};
 ghost use Rattle.pict_types.specs.Places.{names_in};
-ghost use Rattle.pict_types.specs.Props.{EntriesAreWellFormed-prop};
+ghost use Rattle.pict_types.specs.Props.{entries_prop};
 
 use crate::measure::{Around, Known, Measures, inside, measure, measure_bound};
-use crate::nearest::Nearest;
 use crate::types::{Arg, Bound, Ty};
+use pict_binders::Nearest;
 use pict_syntax::{Name, Names};
 use std::alloc::{AllocError, Global};
 
@@ -40,7 +40,7 @@ pub struct Context<'a> {
     nearest: Nearest,
     /// For each entry the number of type variables around it.
     around: Vec<usize>,
-    ghost formed: { EntriesAreWellFormed names.now (plain_entries entries.items) } by { EntriesAreWellFormed-prop names.now (plain_entries entries.items) },
+    ghost formed: { EntriesAreWellFormed names.now (plain_entries entries.items) } by { entries_prop names.now (plain_entries entries.items) },
     ghost placed: { reverse (map (λ k. k.place) known.items) ≡ places (plain_entries entries.items) },
     ghost weighed: { reverse (map (λ k. k.measures.weight) known.items) ≡ held_weights (plain_entries entries.items) },
     ghost measured: { reverse (map (λ k. k.measures.height) known.items) ≡ held_heights (plain_entries entries.items) },
@@ -55,7 +55,8 @@ impl<'a> Context<'a> {
     ghost use Rattle.pict_types.specs.Entries.{EntryIsWellFormed, variables};
     ghost use Rattle.pict_types.specs.Measures.{held, height_of, heights, rise, weigh, weight_of, weights};
     ghost use Rattle.pict_types.specs.Plain.{plain, plain_bound};
-    ghost use Rattle.pict_types.specs.Places.{IsWhatAt, arity_at, names_in, place};
+    ghost use Rattle.pict_binders.specs.Names.{place_of};
+    ghost use Rattle.pict_types.specs.Places.{IsWhatAt, arity_at, names_in};
     ghost use Rattle.pict_types.specs.PlainEntries.{plain_entry, plain_what};
     ghost use Rattle.pict_types.specs.PlainContext.{names_of, plain_context, type_context};
     ghost use Rattle.pict_types.specs.Around.{heights_inside, weights_inside};
@@ -75,7 +76,7 @@ impl<'a> Context<'a> {
     }
 
     /// Adds the entry as the innermost. The only error is want of memory, also where a `u32` couldn't
-    /// number the variables, and it leaves the context as it was.
+    /// number the entries, and it leaves the context as it was.
     pub fn push(&mut self, entry: Entry) -> Result<(), AllocError>
         requires formed { EntryIsWellFormed (names_of self.old) (type_context self.old) (plain_what entry.what) }
         ensures pushed { OnOk result (plain_context self.new ≡ plain_entry entry ∷ plain_context self.old) }
@@ -113,7 +114,7 @@ impl<'a> Context<'a> {
         ensures left { plain_context self.new ≡ drop 1 (plain_context self.old) }
         ensures names { names_of self.new ≡ names_of self.old }
     {
-        self.nearest.unbind();
+        let _ = self.nearest.unbind();
         let _ = self.around.pop();
         let entry = self.entries.pop()?;
         if let What::Variable(_) = entry.what {
@@ -166,7 +167,7 @@ impl<'a> Context<'a> {
     /// The place of the innermost entry of a name, counted from the innermost; nothing where it has none. Takes no
     /// memory.
     pub fn place(&self, name: Name) -> Option<usize>
-        ensures { result ≡ place (names_in (plain_context self.now)) name.0 }
+        ensures { result ≡ place_of (names_in (plain_context self.now)) name.0 }
     {
         self.nearest.place(name)
     }

@@ -49,7 +49,7 @@ fn copy_bound(alloc: Global, b: &Bound) -> Result<Bound, AllocError>
 }
 
 #[cycle(copy)]
-#[tactic(auto, using(crate::proofs::Rows::types_push, crate::proofs::Rows::types_drop, crate::proofs::Rows::types_end, crate::proofs::Rows::types_then_none, crate::proofs::Rows::size_types_item))]
+#[tactic(auto, using(crate::proofs::Rows::types_rules))]
 fn copy_types(alloc: Global, ts: &[Ty]) -> Result<Vec<Ty>, AllocError>
     ensures { IfOk result (λ us. plain_types us.items ≡ plain_types ts.now) }
 {
@@ -61,7 +61,7 @@ fn copy_types(alloc: Global, ts: &[Ty]) -> Result<Vec<Ty>, AllocError>
 }
 
 #[cycle(copy)]
-#[tactic(auto, using(crate::proofs::Rows::bounds_push, crate::proofs::Rows::bounds_drop, crate::proofs::Rows::bounds_end, crate::proofs::Rows::bounds_then_none, crate::proofs::Rows::size_bounds_item))]
+#[tactic(auto, using(crate::proofs::Rows::bounds_rules))]
 fn copy_bounds(alloc: Global, bs: &[Bound]) -> Result<Vec<Bound>, AllocError>
     ensures { IfOk result (λ us. plain_bounds us.items ≡ plain_bounds bs.now) }
 {
@@ -73,7 +73,7 @@ fn copy_bounds(alloc: Global, bs: &[Bound]) -> Result<Vec<Bound>, AllocError>
 }
 
 #[cycle(copy)]
-#[tactic(auto, using(crate::proofs::Rows::labels_push, crate::proofs::Rows::labels_drop, crate::proofs::Rows::labels_end, crate::proofs::Rows::labels_then_none, crate::proofs::Rows::size_labels_item))]
+#[tactic(auto, using(crate::proofs::Rows::labels_rules))]
 fn copy_labels(alloc: Global, ls: &[(Name, Ty)]) -> Result<Vec<(Name, Ty)>, AllocError>
     ensures { IfOk result (λ us. plain_labels us.items ≡ plain_labels ls.now) }
 {

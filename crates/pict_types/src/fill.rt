@@ -135,7 +135,7 @@ fn fill_bound(
 }
 
 #[cycle(fill)]
-#[tactic(auto, using(crate::proofs::Rows::types_push, crate::proofs::Rows::types_drop, crate::proofs::Rows::types_end, crate::proofs::Rows::types_then_none, crate::proofs::Rows::size_types_item))]
+#[tactic(auto, using(crate::proofs::Rows::types_rules))]
 fn fill_types(
     alloc: Global,
     ts: &[Ty],
@@ -153,7 +153,7 @@ fn fill_types(
 }
 
 #[cycle(fill)]
-#[tactic(auto, using(crate::proofs::Rows::labels_push, crate::proofs::Rows::labels_drop, crate::proofs::Rows::labels_end, crate::proofs::Rows::labels_then_none, crate::proofs::Rows::size_labels_item))]
+#[tactic(auto, using(crate::proofs::Rows::labels_rules))]
 fn fill_labels(
     alloc: Global,
     ls: &[(Name, Ty)],
@@ -171,7 +171,7 @@ fn fill_labels(
 }
 
 #[cycle(fill)]
-#[tactic(auto, using(crate::proofs::Rows::bounds_push, crate::proofs::Rows::bounds_drop, crate::proofs::Rows::bounds_end, crate::proofs::Rows::bounds_then_none, crate::proofs::Rows::size_bounds_item))]
+#[tactic(auto, using(crate::proofs::Rows::bounds_rules))]
 fn fill_bounds(
     alloc: Global,
     bs: &[Bound],

@@ -105,7 +105,7 @@ fn renumber_bound(
 }
 
 #[cycle(renumber)]
-#[tactic(auto, using(crate::proofs::Rows::types_push, crate::proofs::Rows::types_drop, crate::proofs::Rows::types_end, crate::proofs::Rows::types_then_none, crate::proofs::Rows::size_types_item))]
+#[tactic(auto, using(crate::proofs::Rows::types_rules))]
 fn renumber_types(
     alloc: Global,
     ts: &[Ty],
@@ -122,7 +122,7 @@ fn renumber_types(
 }
 
 #[cycle(renumber)]
-#[tactic(auto, using(crate::proofs::Rows::labels_push, crate::proofs::Rows::labels_drop, crate::proofs::Rows::labels_end, crate::proofs::Rows::labels_then_none, crate::proofs::Rows::size_labels_item))]
+#[tactic(auto, using(crate::proofs::Rows::labels_rules))]
 fn renumber_labels(
     alloc: Global,
     ls: &[(Name, Ty)],
@@ -139,7 +139,7 @@ fn renumber_labels(
 }
 
 #[cycle(renumber)]
-#[tactic(auto, using(crate::proofs::Rows::bounds_push, crate::proofs::Rows::bounds_drop, crate::proofs::Rows::bounds_end, crate::proofs::Rows::bounds_then_none, crate::proofs::Rows::size_bounds_item))]
+#[tactic(auto, using(crate::proofs::Rows::bounds_rules))]
 fn renumber_bounds(
     alloc: Global,
     bs: &[Bound],

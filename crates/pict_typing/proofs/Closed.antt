@@ -1,5 +1,5 @@
 -- A type that is well formed without variables mentions none: it stays as it is where they are replaced or renamed.
-use Rattle.std.proofs.Common.{◌≡◌, ℕ, zero, suc, Bool, false, ◌||◌, List, [], ◌∷◌, refl, subst, Some}
+use Rattle.std.proofs.Common.{◌≡◌, ℕ, zero, suc, Bool, false, List, [], ◌∷◌, refl, subst, Some}
 use Rattle.std.specs.Prelude.{slice_get}
 use Rattle.pict_types.specs.Types.{PlainType, Top, Int, Char, Str, Boolean, Var, Apply, Chan, Fields, Rec, PlainTypes, no_type, types, PlainLabels, no_label, labels, PlainBound, Free, Below, Operator, PlainBounds, no_bound, bounds}
 use Rattle.pict_types.specs.Renaming.{rename}
@@ -10,6 +10,7 @@ use Rattle.pict_types.proofs.Mentioned as mentioned
 use Rattle.pict_types.proofs.Replacements.{formed_normal}
 use Rattle.pict_typing.specs.Worlds.{IsTypeIn}
 use Rattle.pict_typing.specs.Processes.{AreClosedTypes}
+use Rattle.pict_types.proofs.Mentioned.{neither}
 
 -- no variable of these kinds is one of p
 record Misses (p : ℕ → Bool) (ks : List Kind) : Type 0 where
@@ -25,9 +26,6 @@ misses_beyond {p = p} {ks = ks} k x = record { each = go }
 misses_under : {p : ℕ → Bool} {ks : List Kind} (bs : PlainBounds) → Misses p ks → Misses (outside_all bs p) (kinds_under ks bs)
 misses_under no_bound x = x
 misses_under (bounds b bs) x = misses_under bs (misses_beyond (kind_by b) x)
-
-neither : {a b : Bool} → a ≡ false → b ≡ false → (a || b) ≡ false
-neither x y = rw x y
 
 module _ (names : List (List ℕ)) where
   mutual

@@ -13,10 +13,10 @@ use Rattle.pict_translation.specs.Patterns.{pat_core, function_pat}
 use Rattle.pict_translation.specs.Simple.{Around, answer_channel, bound, fields_of, function_bound, pat_bound, simple, simple_chan, use_of}
 use Rattle.pict_translation.specs.Translation.{sending, sending_chan, with_vals, with_labelled, with_fields, decs_core, dec_core, definition_names, servers, reader, proc_core, procs_core, unit_pat}
 use Rattle.pict_derive.specs.Built.{field_of, numbers_of, place, surround, three, with_levels}
-use Rattle.pict_derive.proofs.LevelLemmas.{take_all, extends_none, extends_then, extends_with, names_count, pattern_place, pattern_size, function_answer, function_size, both_bound, place_bound}
+use Rattle.pict_derive.proofs.LevelLemmas.{empty, take_all, extends_none, extends_then, extends_with, names_count, pattern_place, pattern_size, function_answer, function_size, both_bound, place_bound}
 use Rattle.pict_derive.proofs.Surrounding.{plain_var}
 use Rattle.pict_derive.proofs.BuildForms.{chan_sent, number_sent, character_sent, string_sent, true_sent, false_sent, fields_sent, if_sent, lambda_sent, use_sent, fold_sent, block_sent, apply_sent, right_sent, left_sent, parts_taken, process_read, function_read, new_built, run_built, let_built, def_built, alias_built, operator_built, await_built, send_built, receive_built, serve_built, if_built, inert_built, group_built}
-use Rattle.pict_derive.proofs.BuildSteps.{argument_of, process_of, server_of, vals_step, vals_begin, labelled_step, labelled_begin, decs_step, decs_begin, empty}
+use Rattle.pict_derive.proofs.BuildSteps.{argument_of, process_of, server_of, vals_step, vals_begin, labelled_step, labelled_begin, decs_step, decs_begin}
 use Rattle.pict_derive.proofs.BuildParts.{found_value, out_made, choice_made, applied_made, fields_and, input_made, given_back, extends_same, extends_bound, one_value, server_put, servers_done, servers_begin, group_begin, group_none, group_put, group_last, right_none, left_none, right_one, left_one, right_begin, left_begin, right_put, right_last, left_put, left_first, opened_names, opened_pattern}
 use Rattle.pict_derive.proofs.build.+build.Goals as goal
 
@@ -64,18 +64,20 @@ value-returns-in_ok-around-in-If-clause-core t c =
     ∙ c.new-outer-in-If.ensures.core (with_value (simple e (val_of c.in-If.test.value)) (sending e (val_of c.in-If.test.value)) (λ b. choice b yes no))
     ∙ sym (if_sent e _ _ _ _ _ k _ c.in-If.is)
 
-pub value-returns-in_ok-around-in-Lambda-clause-core : goal.value-returns-in_ok-around-in-Lambda-clause-core
-value-returns-in_ok-around-in-Lambda-clause-core t c =
+pub value-returns-in_ok-lambda-in-Lambda-clause-core : goal.value-returns-in_ok-lambda-in-Lambda-clause-core
+value-returns-in_ok-lambda-in-Lambda-clause-core t c = rw c.deref-in-Lambda.ensures at c.in_ok-lambda-in-Lambda.ensures.core ∙ sym (lambda_sent _ _ _ _ _ _ c.in-Lambda.is)
+
+pub lambda-returns-clause-core : goal.lambda-returns-clause-core
+lambda-returns-clause-core t c =
     let e = place c.args.names.now c.args.scope.now in
     let k = Var c.args.k in
-    let f = c.in_ok-f-in-Lambda.f in
-    let server = reader e (abs_of c.in-Lambda.abs.value) in
-    let made = rw (plain_var f, c.deref-in-Lambda.ensures) at c.in_ok-server-in-Lambda.ensures.core in
-    c.in_ok-around-in-Lambda.ensures (output k (Var f) c.in-Lambda.at) (out_made _ _ _ _ _ c.output-in-Lambda.ensures (plain_var f))
-    ∙ sym (c.in_ok-beside-in-Lambda.ensures.core (server (Var f) true) (output k (Var f) c.in-Lambda.at) made)
-    ∙ sym (c.in_ok-f-in-Lambda.ensures.core (λ f. beside (server f true) (output k f c.in-Lambda.at)))
-    ∙ c.new-outer-in-Lambda.ensures.core (new_channel (λ f. beside (server f true) (output k f c.in-Lambda.at)))
-    ∙ sym (lambda_sent e _ _ _ k _ c.in-Lambda.is)
+    let f = c.in_ok-f.f in
+    let server = reader e (abs_of c.args.tree.now) in
+    let made = rw (plain_var f) at c.in_ok-server.ensures.core in
+    c.in_ok-around.ensures (output k (Var f) c.args.at) (out_made _ _ _ _ _ c.output.ensures (plain_var f))
+    ∙ sym (c.in_ok-beside.ensures.core (server (Var f) true) (output k (Var f) c.args.at) made)
+    ∙ sym (c.in_ok-f.ensures.core (λ f. beside (server f true) (output k f c.args.at)))
+    ∙ c.new-outer.ensures.core (new_channel (λ f. beside (server f true) (output k f c.args.at)))
 
 -- ---- values that stand as channels
 
@@ -409,30 +411,33 @@ pub dec-returns-in_ok-read-in-Let-clause-scope : goal.dec-returns-in_ok-read-in-
 dec-returns-in_ok-read-in-Let-clause-scope t c =
     extends_with (numbers_of c.in_ok-opened-in-Let.opened.names.items) c.new_channel-in-Let.new.self.depth _ _ (rw (c.deref-in-Let-2.ensures.value, c.in_ok-sent-in-Let.ensures.scope) at c.in_ok-inside-in-Let.ensures.scope)
 
-pub dec-returns-in_ok-serve-in-Def-clause-core : goal.dec-returns-in_ok-serve-in-Def-clause-core
-dec-returns-in_ok-serve-in-Def-clause-core t c rest =
+pub dec-returns-in_ok-definitions-in-Def-clause-core : goal.dec-returns-in_ok-definitions-in-Def-clause-core
+dec-returns-in_ok-definitions-in-Def-clause-core t c rest =
+    ap (λ p. surround c.args.outer.now p) (def_built (place c.args.names.now c.args.scope.now) _ _ _ rest c.in-Def.is)
+    ∙ rw c.deref-in-Def.ensures.value at (c.in_ok-definitions-in-Def.ensures.core rest)
+
+pub definitions-returns-clause-core : goal.definitions-returns-clause-core
+definitions-returns-clause-core t c rest =
     let names = c.args.names.now in
     let old = c.args.scope.now in
     let e = place names old in
-    let ds = definitions_on no_definitions c.in-Def.parts.items in
+    let ds = definitions_on no_definitions c.args.parts.now in
     let dn = definition_names ds in
-    let n = length c.in-Def.parts.items in
+    let n = length c.args.parts.now in
     let d = c.args.outer.now.depth in
     let inner = place names c.channels.new.scope in
     let all : List Val → Placed = λ xs. served (servers (bound dn xs e) ds) xs (rest (bound dn xs e)) in
-    let count = names_count c.in-Def.parts.items in
-    let scope = rw c.deref-in-Def.ensures.value at c.in_ok-channels-in-Def.ensures.scope in
-    let bound_is = ap (place names) scope ∙ place_bound names dn d old ∙ ap (λ m. bound dn (variables d m) e) count in
-    ap (λ p. surround c.args.outer.now p) (def_built e _ _ _ rest c.in-Def.is)
-    ∙ ap (λ m. surround c.args.outer.now (new_channels m all)) count
-    ∙ rw c.deref-in-Def.ensures.value at (c.in_ok-channels-in-Def.ensures.core all)
+    let count = names_count c.args.parts.now in
+    let bound_is = ap (place names) c.in_ok-channels.ensures.scope ∙ place_bound names dn d old ∙ ap (λ m. bound dn (variables d m) e) count in
+    ap (λ m. surround c.args.outer.now (new_channels m all)) count
+    ∙ c.in_ok-channels.ensures.core all
     ∙ ap (λ x. surround c.channels.new.outer (served (servers x ds) (variables d n) (rest x))) (sym bound_is)
-    ∙ rw c.deref-in-Def-2.ensures.value at (c.in_ok-serve-in-Def.ensures.core (rest inner))
-    ∙ ap (λ s. surround c.serve.new.outer (rest (place names s))) (sym c.in_ok-serve-in-Def.ensures.scope)
+    ∙ c.in_ok-serve.ensures.core (rest inner)
+    ∙ ap (λ s. surround c.serve.new.outer (rest (place names s))) (sym c.in_ok-serve.ensures.scope)
 
-pub dec-returns-in_ok-serve-in-Def-clause-scope : goal.dec-returns-in_ok-serve-in-Def-clause-scope
-dec-returns-in_ok-serve-in-Def-clause-scope t c =
-    extends_with (definition_names (definitions_on no_definitions c.in-Def.parts.items)) c.args.outer.now.depth _ _ (c.in_ok-serve-in-Def.ensures.scope ∙ rw c.deref-in-Def.ensures.value at c.in_ok-channels-in-Def.ensures.scope)
+pub definitions-returns-clause-scope : goal.definitions-returns-clause-scope
+definitions-returns-clause-scope t c =
+    extends_with (definition_names (definitions_on no_definitions c.args.parts.now)) c.args.outer.now.depth _ _ (c.in_ok-serve.ensures.scope ∙ c.in_ok-channels.ensures.scope)
 
 pub dec-returns-in_ok-read-in-Await-clause-core : goal.dec-returns-in_ok-read-in-Await-clause-core
 dec-returns-in_ok-read-in-Await-clause-core t c rest =

@@ -3,7 +3,7 @@ use Rattle.std.proofs.Common.{◌∙◌, ap, sym, refl, arith, Some}
 use Rattle.pict_derive.specs.Held.{held, held_option}
 use Rattle.pict_derive.proofs.HeldDepths.{one_more_held, max_held, read_held, one_held, some_held, put_held, larger, lambda_held, decs_held}
 use Rattle.pict_derive.proofs.DepthForms.{chan_is, number_is, character_is, string_is, true_is, false_is, fields_is, if_is, lambda_is, use_is, fold_is, block_depth, apply_is, right_depth_is, left_depth_is, fields_held, process_is, function_is, new_is, run_is, let_is, def_depth, alias_is, operator_is, await_is, send_is, receive_is, serve_is, if_proc_is, inert_is, group_depth}
-use Rattle.pict_derive.proofs.DepthSteps.{values_step, values_end, labelled_step, labelled_end, decs_step, decs_end, right_begin, right_step, right_end, left_begin, left_step, left_end, no_length, none_right, none_left, none_beside, side_begin, side_step, side_end, served_step, served_end}
+use Rattle.pict_derive.proofs.DepthSteps.{values_step, values_end, labelled_step, labelled_end, decs_step, decs_end, right_begin, right_step, right_end, left_begin, left_step, left_end, empty, none_right, none_left, none_beside, side_begin, side_step, side_end, served_step, served_end}
 use Rattle.pict_derive.proofs.depths.+depths.Goals as goal
 
 pub abstraction-returns-in-Process : goal.abstraction-returns-in-Process
@@ -156,7 +156,7 @@ pub values-returns : goal.values-returns
 values-returns t c = values_end c.args.trees.now _ c.args.inner _ c.loop-tree.invariant c.in-None.ensures.steps.0
 
 pub right-returns-in_default : goal.right-returns-in_default
-right-returns-in_default t c = none_right _ (no_length _ c.in_default.ensures.cases)
+right-returns-in_default t c = none_right _ (empty _ c.in_default.ensures.cases)
 
 pub right-loop-tree-init : goal.right-loop-tree-init
 right-loop-tree-init t c =
@@ -170,7 +170,7 @@ pub right-returns : goal.right-returns
 right-returns t c = right_end _ _ _ c.loop-tree.invariant c.in-None.ensures.steps.0
 
 pub left-returns-in_default : goal.left-returns-in_default
-left-returns-in_default t c = none_left _ (no_length _ c.in_default.ensures.cases)
+left-returns-in_default t c = none_left _ (empty _ c.in_default.ensures.cases)
 
 pub left-loop-tree-init : goal.left-loop-tree-init
 left-loop-tree-init t c = left_begin _ _ _ _ c.in-Some.ensures.cases.0 c.value-head.ensures
@@ -182,7 +182,7 @@ pub left-returns : goal.left-returns
 left-returns t c = left_end c.args.trees.now c.loop-tree.tree-index _ (let l = c.in-Some.ensures.cases.1 in omega arith) c.loop-tree.invariant
 
 pub side_by_side-returns-in_default : goal.side_by_side-returns-in_default
-side_by_side-returns-in_default t c = none_beside _ (no_length _ c.in_default.ensures.cases)
+side_by_side-returns-in_default t c = none_beside _ (empty _ c.in_default.ensures.cases)
 
 pub side_by_side-loop-tree-init : goal.side_by_side-loop-tree-init
 side_by_side-loop-tree-init t c =

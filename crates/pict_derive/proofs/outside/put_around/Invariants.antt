@@ -1,6 +1,6 @@
 use Rattle.std.proofs.Common.{◌≡◌, vec_len}
 use Rattle.pict_core.specs.Plain.{plain_core}
-use Rattle.pict_translation.specs.Layers.{around}
+use Rattle.pict_derive.specs.Layers.{around}
 use Rattle.pict_derive.specs.Built.{layers_of}
 use Rattle.pict_derive.proofs.outside.put_around.Given as goal
 

@@ -1,7 +1,8 @@
 -- One name more.
 use Rattle.std.proofs.Common.{◌≡◌, ◌∙◌, ◌+◌, ap, sym, length, arith}
+use Rattle.std.proofs.lemmas.List.{length-map}
 use Rattle.pict_derive.specs.Built.{numbers_of, with_levels}
-use Rattle.pict_derive.proofs.LevelLemmas.{levels_read, map_length, take_all}
+use Rattle.pict_derive.proofs.LevelLemmas.{levels_read, take_all}
 use Rattle.pict_derive.proofs.parts.bind_all.Goals as goal
 
 pub loop-name-preserved : goal.loop-name-preserved
@@ -15,7 +16,7 @@ loop-name-preserved c =
 pub returns-clause-level : goal.returns-clause-level
 returns-clause-level c =
     let is : c.loop-name.name-index ≡ length c.args.names.now = omega arith in
-    c.loop-name.invariant.level ∙ ap (λ n. c.args.first + n) (is ∙ sym (map_length (λ n. n.0) c.args.names.now))
+    c.loop-name.invariant.level ∙ ap (λ n. c.args.first + n) (is ∙ sym (length-map c.args.names.now (λ n. n.0)))
 
 pub returns-clause-scope : goal.returns-clause-scope
 returns-clause-scope c =

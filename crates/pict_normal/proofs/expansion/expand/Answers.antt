@@ -13,7 +13,7 @@ use Rattle.pict_normal.specs.declared.made.MakeError.TheVariants.{TooHeavy, Memo
 use Rattle.pict_normal.specs.Made.{IsReason}
 use Rattle.pict_types.specs.Measures.{weight_of, height_of}
 use Rattle.pict_normal.specs.Meanings.{entry_kinds, meanings}
-use Rattle.pict_normal.specs.Normal.{kind_stop, kind_stops, normal, size_stop, span_of}
+use Rattle.pict_normal.specs.Normal.{kind_stop, kind_stops, normal, size_stop}
 use Rattle.pict_types.specs.Entries.{PlainContext, variables}
 use Rattle.pict_types.specs.Plain.{plain}
 use Rattle.pict_types.specs.PlainContext.{names_of, plain_context, type_context}
@@ -28,6 +28,7 @@ use Rattle.pict_normal.proofs.RawSteps.{passed_up}
 use Rattle.pict_normal.proofs.Making.{err_both, ok_both}
 use Rattle.pict_normal.proofs.Expanded.{normal_formed, allowed, refused_whole, first_refusal}
 use Rattle.pict_normal.proofs.expansion.expand.Goals as goal
+use Rattle.pict_syntax.specs.Grammar.{type_span}
 
 pub made_entries-requires : goal.made_entries-requires
 made_entries-requires c =
@@ -41,7 +42,7 @@ returns-in_err-raw-clause-refused c =
     let d = plain_context c.args.c.now in
     let t = type_of c.args.t.now in
     passed_up _ c.in_err-raw.field-0.0 (λ e. IsRefusal (kind_stop ns d t) e) (search rules)
-    (first_refusal (kind_stops ns d t) (size_stop d (normal ns d t) (span_of t)) c.in_err-raw.field-0.0 c.in_err-raw.ensures.first)
+    (first_refusal (kind_stops ns d t) (size_stop d (normal ns d t) (type_span t)) c.in_err-raw.field-0.0 c.in_err-raw.ensures.first)
 
 pub returns-clause-normal : goal.returns-clause-normal
 returns-clause-normal c =
@@ -91,7 +92,7 @@ returns-clause-within c =
     (omega (arith, w, h.weight, h.light), omega (arith, r, h.height, low))) c.made_entries.ensures.made p)
     c.kept.ensures.ok
 
-refused_by : (ns : List (List ℕ)) (d : PlainContext) (t : TypeTree) (s : Span) (reason : MakeError) (n : ℕ) → s ≡ span_of t → kind_stops ns d t ≡ [] → n ≡ weight_of (variables d) (normal ns d t) → IsReason n reason → IsRefusal (kind_stop ns d t) (kind_error s reason)
+refused_by : (ns : List (List ℕ)) (d : PlainContext) (t : TypeTree) (s : Span) (reason : MakeError) (n : ℕ) → s ≡ type_span t → kind_stops ns d t ≡ [] → n ≡ weight_of (variables d) (normal ns d t) → IsReason n reason → IsRefusal (kind_stop ns d t) (kind_error s reason)
 refused_by ns d t s TooHeavy n e k w h = refused_whole ns d t k (λ a b. omega (arith, a, w, h)) ∙ ap (λ x. Some (K4, x)) (sym e)
 refused_by ns d t s Memory n e k w h = tt
 

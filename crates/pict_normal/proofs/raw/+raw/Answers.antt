@@ -19,8 +19,9 @@ use Rattle.pict_normal.proofs.BinderPlaces.{forgotten}
 use Rattle.pict_types.proofs.Rows.{plain_fields}
 use Rattle.pict_normal.proofs.Refused.{operator_fits, operator_refused}
 use Rattle.pict_normal.proofs.RawSteps.{passed_up, types_raw, types_kinds, types_refused, labels_raw, labels_kinds, labels_refused, binders_raw, binders_kinds, binders_refused, binders_inner, record_raw, record_kinds, record_refused_types, record_refused_labels}
-use Rattle.pict_normal.proofs.Trees.{fields_tree, apply_tree, count_trees_on, first_before, first_after, none_both, binders_none, labelled_none, labelled_end, nodes_of_binder_item, nodes_of_label_item}
+use Rattle.pict_normal.proofs.Trees.{fields_tree, apply_tree, count_trees_on, first_before, first_after, none_both, labelled_end, nodes_of_binder_item, nodes_of_label_item}
 use Rattle.pict_normal.proofs.raw.+raw.Goals as goal
+use Rattle.pict_syntax.proofs.TypeLists.{binders_none, labelled_types_none}
 
 pub operator_bound-returns-then-becomes_top-clause-kinds : goal.operator_bound-returns-then-becomes_top-clause-kinds
 operator_bound-returns-then-becomes_top-clause-kinds t c =
@@ -39,9 +40,9 @@ raw_binders-loop-b-init t c =
     let ns = names_of c.args.c.now in
     let d = around c.args.inner.now c.args.c.now in
     record {
-      raw = ap plain_bounds c.new-bounds.ensures.items ∙ sym (ap (raw_binders ns (names_in d)) binders_none);
-      kinds = ap (binders_stops ns d) binders_none;
-      inner = sym (ap (entries_under (scope_of c.args.inner.now)) binders_none);
+      raw = ap plain_bounds c.new-bounds.ensures.items ∙ sym (ap (raw_binders ns (names_in d)) (binders_none no_binders));
+      kinds = ap (binders_stops ns d) (binders_none no_binders);
+      inner = sym (ap (entries_under (scope_of c.args.inner.now)) (binders_none no_binders));
     }
 
 pub raw_binders-raw_binder-requires : goal.raw_binders-raw_binder-requires
@@ -91,8 +92,8 @@ raw_labels-loop-l-init t c =
     let ns = names_of c.args.c.now in
     let d = around c.args.inner.now c.args.c.now in
     record {
-      raw = ap plain_labels c.new-labelled.ensures.items ∙ sym (ap (unsorted ns (names_in d)) labelled_none);
-      kinds = ap (labels_stops ns d) labelled_none;
+      raw = ap plain_labels c.new-labelled.ensures.items ∙ sym (ap (unsorted ns (names_in d)) (labelled_types_none no_labelled_types));
+      kinds = ap (labels_stops ns d) (labelled_types_none no_labelled_types);
       inner = refl;
     }
 

@@ -15,11 +15,12 @@ use Rattle.pict_normal.proofs.Bounding.{bounds_step, bounds_all, bounds_done, bo
 use Rattle.pict_normal.proofs.Making.{fields_done, if_err, if_ok, leaf_is, passed_on, reason_by}
 use Rattle.pict_normal.proofs.Operating.{measured_count, operator_count, operator_items}
 use Rattle.pict_normal.proofs.Parts.{part_same, makes_same, leaf_made, body_made, body_reason, head_made, operator_is, reason_same, reasons_same, record_fields, types_step, types_all, types_reason, labels_step, labels_all, labels_reason, arguments_step, arguments_all, arguments_reason, weight_reason, weight_step, types_under_reason, labels_under_reason}
-use Rattle.pict_normal.proofs.Placing.{placed_part, placed_same, placed_rec, placed_under, placed_item, placed_label, placed_bound, item_size, label_size, bound_size}
+use Rattle.pict_normal.proofs.Placing.{placed_part, placed_same, placed_rec, placed_under, placed_item, placed_label, placed_bound}
 use Rattle.pict_normal.proofs.Used.{AreTheUsed, only_used_same, used_weigh}
-use Rattle.pict_normal.proofs.Within.{bound_weight}
 use Rattle.pict_types.proofs.Rows.{apply_is, plain_fields}
 use Rattle.pict_normal.proofs.replacement.+made.Goals as goal
+use Rattle.pict_types.proofs.Within.{bound_weight}
+use Rattle.pict_types.proofs.Items.{item_size, label_size, bound_size}
 
 pub made_type-returns-in-Top-clause-made : goal.made_type-returns-in-Top-clause-made
 made_type-returns-in-Top-clause-made t c =

@@ -2,7 +2,7 @@
 use Rattle.std.proofs.Common.{[], ◌∷◌, ◌++◌, refl, sym, ◌∙◌, ap, subst}
 use Rattle.pict_syntax.specs.declared.type_tree.TypeTree.{Apply as TypeApply}
 use Rattle.pict_syntax.specs.PlainTrees.{types_on}
-use Rattle.pict_normal.specs.Distinct.{HasDistinctLabels}
+use Rattle.pict_scope.specs.DistinctLabels.{HasDistinctLabels}
 use Rattle.pict_normal.proofs.Trees.{apply_tree}
 use Rattle.pict_normal.proofs.tests.applied.Goals as goal
 

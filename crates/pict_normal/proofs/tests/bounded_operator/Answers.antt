@@ -4,7 +4,7 @@ use Rattle.pict_syntax.specs.declared.type_tree.KindTree.TheVariants.{Operator a
 use Rattle.pict_syntax.specs.declared.type_tree.TypeBinder.{TypeBinder as RTypeBinder}
 use Rattle.pict_syntax.specs.declared.type_tree.TypeTree.{Fields as TypeFields}
 use Rattle.pict_syntax.specs.PlainTrees.{type_of, types_on, binders_on, labelled_types_on}
-use Rattle.pict_normal.specs.Distinct.{HasDistinctLabels}
+use Rattle.pict_scope.specs.DistinctLabels.{HasDistinctLabels}
 use Rattle.pict_normal.proofs.Trees.{fields_tree}
 use Rattle.pict_normal.proofs.tests.bounded_operator.Goals as goal
 

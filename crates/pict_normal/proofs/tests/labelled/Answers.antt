@@ -3,7 +3,7 @@ use Rattle.std.proofs.Common.{[], ◌∷◌, ◌++◌, refl, sym, ◌∙◌, ap,
 use Rattle.pict_syntax.specs.declared.type_tree.LabelledType.{LabelledType as RLabelledType}
 use Rattle.pict_syntax.specs.declared.type_tree.TypeTree.{Fields as TypeFields, Int as TypeInt, Top as TypeTop}
 use Rattle.pict_syntax.specs.PlainTrees.{type_of, types_on, binders_on, labelled_types_on}
-use Rattle.pict_normal.specs.Distinct.{HasDistinctLabels}
+use Rattle.pict_scope.specs.DistinctLabels.{HasDistinctLabels}
 use Rattle.pict_normal.proofs.Trees.{fields_tree}
 use Rattle.pict_normal.proofs.tests.labelled.Goals as goal
 

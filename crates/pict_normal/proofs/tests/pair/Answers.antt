@@ -2,7 +2,7 @@
 use Rattle.std.proofs.Common.{[], ◌∷◌, ◌++◌, refl, sym, ◌∙◌, ap, subst}
 use Rattle.pict_syntax.specs.declared.type_tree.TypeTree.{Fields as TypeFields}
 use Rattle.pict_syntax.specs.PlainTrees.{types_on, binders_on, labelled_types_on}
-use Rattle.pict_normal.specs.Distinct.{HasDistinctLabels}
+use Rattle.pict_scope.specs.DistinctLabels.{HasDistinctLabels}
 use Rattle.pict_normal.proofs.Trees.{fields_tree}
 use Rattle.pict_normal.proofs.tests.pair.Goals as goal
 

@@ -8,8 +8,8 @@ use Rattle.pict_types.specs.Plain.{plain, plain_bound, plain_record, plain_types
 use Rattle.pict_types.proofs.Rows.{apply_is, plain_fields, count_bounds_length, count_size_bounds, size_bounds_reach}
 use Rattle.pict_normal.specs.Uses.{uses, uses_types, uses_labels, uses_bounds}
 use Rattle.pict_normal.proofs.Marking.{marked_as, marked_three}
-use Rattle.pict_normal.proofs.Placing.{item_size, label_size}
 use Rattle.pict_normal.proofs.uses.+uses.Goals as goal
+use Rattle.pict_types.proofs.Items.{item_size, label_size}
 
 pub mark_bounds-mark_bound-requires : goal.mark_bounds-mark_bound-requires
 mark_bounds-mark_bound-requires t c =

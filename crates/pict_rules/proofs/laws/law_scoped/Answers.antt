@@ -1,5 +1,4 @@
 use Rattle.pict_rules.proofs.ReachedNames.{no_stop_is_reached, uses_are_known}
-use Rattle.pict_rules.proofs.LabelsScoped.{scoped_distinct}
 use Rattle.pict_rules.proofs.laws.law_scoped.Goals as goal
 
 pub returns-clause-stops : goal.returns-clause-stops
@@ -7,6 +6,3 @@ returns-clause-stops c = no_stop_is_reached
 
 pub returns-clause-uses : goal.returns-clause-uses
 returns-clause-uses c = uses_are_known
-
-pub returns-clause-labels : goal.returns-clause-labels
-returns-clause-labels c = scoped_distinct

@@ -1,5 +1,5 @@
 -- Patterns: what is read part by part is what the outline of the whole says.
-use Rattle.std.proofs.Common.{rules, ◌≡◌, ◌<◌, length, refl, sym}
+use Rattle.std.proofs.Common.{rules, ◌<◌, length, refl}
 use Rattle.std.specs.Prelude.{Ok}
 use Rattle.pict_scope.specs.Held.{each, in_labelled_pat, in_pat_tree}
 use Rattle.pict_scope.proofs.Reading.{reading, then_read, then_any, closed_read, group_read, each_none, each_more}

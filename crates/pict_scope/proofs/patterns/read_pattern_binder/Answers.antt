@@ -1,6 +1,6 @@
 -- A type binder of a pattern is numbered, and bound behind its bound.
 use Rattle.std.proofs.Common.{rules, ◌≡◌, None}
-use Rattle.pict_scope.specs.Around.{nearest}
+use Rattle.pict_binders.specs.Numbered.{nearest}
 use Rattle.pict_scope.specs.Layers.{here}
 use Rattle.pict_scope.specs.Held.{in_held}
 use Rattle.pict_scope.proofs.Reading.{pattern_type_read}

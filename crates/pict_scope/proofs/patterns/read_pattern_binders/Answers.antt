@@ -1,6 +1,6 @@
 -- One type binder after the other.
 use Rattle.std.proofs.Common.{rules, ◌<◌, length}
-use Rattle.pict_scope.specs.Held.{each, in_pattern_binder_tree}
+use Rattle.pict_scope.specs.Held.{in_pattern_binder_tree}
 use Rattle.pict_scope.proofs.Reading.{each_none, each_more}
 use Rattle.pict_scope.proofs.patterns.read_pattern_binders.Goals as goal
 

@@ -1,10 +1,9 @@
 -- Types: what is read part by part is what the outline of the whole says.
-use Rattle.std.proofs.Common.{rules, ◌≡◌, ◌<◌, length, refl, sym}
+use Rattle.std.proofs.Common.{rules, ◌<◌, length, refl}
 use Rattle.std.specs.Prelude.{Ok}
 use Rattle.pict_scope.specs.Held.{each, in_binder_tree, in_held, in_labelled_type, in_type_tree}
-use Rattle.pict_scope.specs.Outlines.{Outline, empty, ◌▸◌, closed, group, once, binds_type, type_use}
-use Rattle.pict_scope.specs.Reads.{Reads}
-use Rattle.pict_scope.proofs.Reading.{reading, then_read, then_any, closed_read, group_read, type_read, each_none, each_more, each_refused}
+use Rattle.pict_scope.specs.Outlines.{once, binds_type, type_use}
+use Rattle.pict_scope.proofs.Reading.{reading, then_read, then_any, closed_read, group_read, type_read, each_none, each_more}
 use Rattle.pict_scope.proofs.TypeForms.{record_type_read, applied_type_read, rec_type_read}
 use Rattle.pict_scope.proofs.types.+types.Goals as goal
 

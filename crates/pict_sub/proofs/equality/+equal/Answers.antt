@@ -3,8 +3,8 @@ use Rattle.std.proofs.Common.{◌≡◌, suc, ap, arith}
 use Rattle.pict_types.specs.Measures.{size, size_types}
 use Rattle.pict_types.specs.Plain.{plain, plain_types}
 use Rattle.pict_types.proofs.Rows.{apply_is}
-use Rattle.pict_sub.proofs.Alike.{told_alike}
 use Rattle.pict_sub.proofs.equality.+equal.Goals as goal
+use Rattle.pict_types.proofs.Alike.{told_alike}
 
 pub equal_types-returns-then-i-j-clause-answer : goal.equal_types-returns-then-i-j-clause-answer
 equal_types-returns-then-i-j-clause-answer g t c =

@@ -4,9 +4,9 @@ use Rattle.std.proofs.lemmas.Result.{IfOk-weaker}
 use Rattle.pict_types.specs.Plain.{plain}
 use Rattle.pict_types.specs.PlainContext.{IsWrittenIn, names_of, plain_context, type_context}
 use Rattle.pict_sub.specs.Exposing.{exposure}
-use Rattle.pict_sub.proofs.Below.{entries_context}
 use Rattle.pict_sub.proofs.Followed.{exposure_formed}
 use Rattle.pict_sub.proofs.exposing.expose.Goals as goal
+use Rattle.pict_types.proofs.Contexts.{entries_context}
 
 pub returns-clause-formed : goal.returns-clause-formed
 returns-clause-formed c =

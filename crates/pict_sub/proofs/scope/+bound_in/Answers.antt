@@ -4,8 +4,8 @@ use Rattle.pict_types.specs.Types.{Free, Below, Operator}
 use Rattle.pict_types.specs.Plain.{plain_bound}
 use Rattle.pict_types.specs.Renaming.{bound_at}
 use Rattle.pict_sub.specs.Scopes.{scope_context}
-use Rattle.pict_sub.proofs.Scopes.{bound_inside}
 use Rattle.pict_sub.proofs.scope.+bound_in.Goals as goal
+use Rattle.pict_types.proofs.Contexts.{bound_inside}
 
 pub returns-in-Below-clause-some : goal.returns-in-Below-clause-some
 returns-in-Below-clause-some t c =

@@ -6,10 +6,11 @@ use Rattle.pict_types.specs.Measures.{weigh_types, weigh_labels, weigh_bounds, w
 use Rattle.pict_types.specs.Plain.{plain, plain_record, plain_types, plain_bounds, plain_labels}
 use Rattle.pict_sub.specs.Scopes.{scope_context, scope_names}
 use Rattle.pict_sub.specs.Subtyping.{IsSubtype, same}
-use Rattle.pict_sub.proofs.Weighing.{size_weight_bounds, weight_positive}
-use Rattle.pict_sub.proofs.Below.{ready_as, weigh_as, parts_as, other_fields, second_decides, label_read, label_weighs, label_rest, pass_label, take_label, miss_label, end_labels, all_found}
+use Rattle.pict_sub.proofs.Below.{ready_as, weigh_as, parts_as, other_fields, second_decides, pass_label, take_label, miss_label, end_labels, all_found}
 use Rattle.pict_types.proofs.Rows.{labels_end}
 use Rattle.pict_sub.proofs.subtyping.+below.Goals as goal
+use Rattle.pict_types.proofs.Sizes.{size_weight_bounds, weight_positive}
+use Rattle.pict_types.proofs.Items.{label_read, label_weighs, label_rest}
 
 pub variable_is_below-returns-clause-answer : goal.variable_is_below-returns-clause-answer
 variable_is_below-returns-clause-answer g t c =

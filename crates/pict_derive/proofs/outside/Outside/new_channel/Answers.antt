@@ -1,7 +1,7 @@
 -- One layer more, and one variable more.
 use Rattle.std.proofs.Common.{◌∙◌, ap, sym}
 use Rattle.pict_core.specs.Term.{New, Var}
-use Rattle.pict_translation.specs.Layers.{around}
+use Rattle.pict_derive.specs.Layers.{around}
 use Rattle.pict_derive.specs.Built.{layers_of}
 use Rattle.pict_derive.specs.declared.outside.Layer.TheVariants as layer
 use Rattle.pict_derive.proofs.Surrounding.{more_layers}

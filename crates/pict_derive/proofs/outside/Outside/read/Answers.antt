@@ -4,7 +4,7 @@ use Rattle.pict_core.specs.Term.{Par, In, Var}
 use Rattle.pict_core.specs.Plain.{plain_pat, plain_core}
 use Rattle.pict_core.specs.Closed.{binds}
 use Rattle.pict_translation.specs.Placed.{variables}
-use Rattle.pict_translation.specs.Layers.{around}
+use Rattle.pict_derive.specs.Layers.{around}
 use Rattle.pict_derive.specs.Built.{layers_of}
 use Rattle.pict_derive.specs.declared.outside.Layer.TheVariants as layer
 use Rattle.pict_derive.proofs.Surrounding.{more_layers}

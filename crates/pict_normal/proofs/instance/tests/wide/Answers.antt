@@ -4,9 +4,9 @@ use Rattle.pict_types.specs.declared.types.Record.{Record}
 use Rattle.pict_types.specs.Types.{Fields}
 use Rattle.pict_types.specs.Kinds.{IsWellFormed, proper}
 use Rattle.pict_types.specs.Plain.{plain_bounds, plain_labels}
-use Rattle.pict_types.proofs.Renamed.{three}
 use Rattle.pict_types.proofs.Rows.{plain_fields}
 use Rattle.pict_normal.proofs.instance.tests.wide.Goals as goal
+use Rattle.pict_types.proofs.Congruent.{three}
 
 pub returns : goal.returns
 returns c = λ names ks.

@@ -4,8 +4,8 @@ use Rattle.pict_types.specs.Plain.{plain}
 use Rattle.pict_normal.specs.Putting.{CanMove, HasRoom, put_head, put_type}
 use Rattle.pict_types.specs.Renaming.{moved, plus, rename}
 use Rattle.pict_types.specs.Replacing.{operator, rename_head}
-use Rattle.pict_normal.proofs.Past.{moved_type, moved_operator}
 use Rattle.pict_normal.proofs.put.Put.under.Goals as goal
+use Rattle.pict_types.proofs.Past.{moved_type, moved_operator}
 
 pub returns-in-Variable-clause-type_ : goal.returns-in-Variable-clause-type_
 returns-in-Variable-clause-type_ c = sym (ap (λ x. rename (moved c.args.count 0) (put_type x)) c.in-Variable.is)

@@ -2,8 +2,8 @@
 use Rattle.std.proofs.Common.{◌-◌, length, sym, arith}
 use Rattle.pict_normal.specs.Putting.{put_head, put_type, replacement_of, variables_in}
 use Rattle.pict_normal.proofs.Meant.{room_from_none, can_move, room_under}
-use Rattle.pict_normal.proofs.Past.{type_low, head_low, type_under, head_under}
 use Rattle.pict_normal.proofs.puts.Puts.put_under.Goals as goal
+use Rattle.pict_types.proofs.Past.{type_low, head_low, type_under, head_under}
 
 pub returns-then-i-depth-clause-type_ : goal.returns-then-i-depth-clause-type_
 returns-then-i-depth-clause-type_ c = sym (type_low (replacement_of c.args.self.now) c.args.depth c.args.i (omega arith))

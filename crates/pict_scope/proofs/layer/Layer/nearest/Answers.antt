@@ -1,7 +1,7 @@
 -- A name whose nearest binder stands outside.
 use Rattle.std.proofs.Common.{rules, ◌≡◌, sym, Some}
 use Rattle.pict_binders.specs.Names.{place_of}
-use Rattle.pict_scope.specs.Numbered.{names_of}
+use Rattle.pict_binders.specs.Numbered.{names_of}
 use Rattle.pict_scope.proofs.Layering.{place_outside}
 use Rattle.pict_scope.proofs.layer.Layer.nearest.Goals as goal
 
