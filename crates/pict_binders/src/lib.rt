@@ -1,4 +1,4 @@
-//! The names that are bound around a place of a program, each name's nearest binder in constant time.
+//! The names that are bound around a place of a program, each name's nearest binder by one look into a map.
 #![tactic(auto)]
 
 mod binders;

@@ -1,10 +1,13 @@
 // The names around a place, with the level of each name's nearest binder at hand.
 
 ghost use Rattle.std.specs.Prelude.{◌≡◌, Some, IsSome, OnOk, OnErr};
-ghost use Rattle.pict_binders.specs.Tables.{level_in, SetsLevel, SameLevels};
+ghost use Rattle.std.specs.BTreeMap.{IsUnchanged, get};
+ghost use Rattle.std.specs.Ordering.{nat_cmp};
+ghost use Rattle.pict_binders.specs.Tables.{SetsLevel};
 
 use pict_syntax::Name;
 use std::alloc::{AllocError, Global};
+use std::collections::BTreeMap;
 use std::marker::Model;
 
 /// A name, and the level that it had before it was bound here.
@@ -15,13 +18,13 @@ struct Binder {
 }
 
 /// The names around a place. The level of a binder is the number of those around it, and its place the number of those
-/// inside it. Both are found in constant time.
+/// inside it. Both are found in a map of the names that are bound, whatever numbers they have.
 ///
 /// Contracts see the list of the names, the innermost first.
 #[derive(Drop)]
 pub struct Nearest {
     binders: Vec<Binder>,
-    levels: Vec<Option<u32>>,
+    levels: BTreeMap<u32, u32>,
 }
 
 impl Model for Nearest {
@@ -32,7 +35,7 @@ impl Model for Nearest {
 
     ghost view = { λ n. names_of n.binders.items };
 
-    ghost invariant = { λ n. StandsFor n.binders.items n.levels.items };
+    ghost invariant = { λ n. StandsFor n.binders.items n.levels };
 }
 
 impl Nearest {
@@ -46,7 +49,7 @@ impl Nearest {
     {
         Nearest {
             binders: Vec::new(alloc),
-            levels: Vec::new(alloc),
+            levels: BTreeMap::new(alloc),
         }
     }
 
@@ -109,34 +112,36 @@ impl Nearest {
     }
 }
 
-fn level_at(levels: &[Option<u32>], name: u32) -> Option<u32>
-    ensures { result ≡ level_in levels.now name }
+fn level_at(levels: &BTreeMap<u32, u32>, name: u32) -> Option<u32>
+    ensures { result ≡ get nat_cmp levels.now name }
 {
-    match levels.get(name as usize) {
+    match levels.get(&name) {
         None => None,
-        Some(level) => *level,
+        Some(level) => Some(*level),
     }
 }
 
-/// Gives a name a level. On the error, which is want of memory, no name has another level than before.
-fn set_level(levels: &mut Vec<Option<u32>>, name: u32, level: u32) -> Result<(), AllocError>
-    ensures set { OnOk result (SetsLevel levels.old.items levels.new.items name (Some level)) }
-    ensures err { OnErr result (SameLevels levels.old.items levels.new.items) }
+/// Gives a name a level. The only error is want of memory, and it leaves the levels as they were.
+fn set_level(levels: &mut BTreeMap<u32, u32>, name: u32, level: u32) -> Result<(), AllocError>
+    ensures set { OnOk result (SetsLevel levels.old levels.new name (Some level)) }
+    ensures err { OnErr result (IsUnchanged levels.old levels.new) }
 {
-    let index = name as usize;
-    while levels.len() <= index {
-        levels.push(None)?;
-    }
-    levels[index] = Some(level);
+    let _ = levels.insert(name, level)?;
     Ok(())
 }
 
-/// Gives a name that has a level another one, or none.
-fn restore_level(levels: &mut Vec<Option<u32>>, name: u32, level: Option<u32>)
-    ensures { IsSome (level_in levels.old.items name) → SetsLevel levels.old.items levels.new.items name level }
+/// Gives a name that has a level another one, or none. Takes no memory.
+fn restore_level(levels: &mut BTreeMap<u32, u32>, name: u32, level: Option<u32>)
+    requires { IsSome (get nat_cmp levels.old name) }
+    ensures { SetsLevel levels.old levels.new name level }
 {
-    let index = name as usize;
-    if index < levels.len() {
-        levels[index] = level;
+    match level {
+        None => {
+            let _ = levels.remove(&name);
+        }
+        Some(level) => match levels.insert(name, level) {
+            Ok(_) => {}
+            Err(_) => unreachable!(),
+        },
     }
 }

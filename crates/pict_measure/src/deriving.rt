@@ -1,41 +1,22 @@
 // The translation, measured.
 
 use crate::sample::{Sample, repeat, text_of};
+use crate::scoping::parsed;
 use anyhow::Error;
 use pict_core::{Core, depth};
 use pict_derive::{DeriveError, derive};
-use pict_lex::{LexError, lex};
-use pict_parse::{ParseError, parse};
-use pict_syntax::{Names, Program, TEXT_LIMIT};
 use std::alloc::{AllocError, Global};
 use std::time::Instant;
 
-/// The tree of a text, nothing where it is refused or longer than a text may be.
-fn program_of(alloc: Global, names: &mut Names, text: &[u8]) -> Result<Option<Program>, Error> {
-    if text.len() as u64 > TEXT_LIMIT {
-        return Ok(None);
-    }
-    match lex(alloc, names, text, 1) {
-        Err(LexError::Memory) => Err(LexError::Memory)?,
-        Err(LexError::Named(_, _)) => Ok(None),
-        Ok(tokens) => match parse(alloc, &tokens, text.len() as u32) {
-            Err(ParseError::Memory) => Err(ParseError::Memory)?,
-            Err(_) => Ok(None),
-            Ok(program) => Ok(Some(program)),
-        },
-    }
-}
-
 /// The core process of a text, nothing where the text is refused or its process is too deep.
 pub fn derived(alloc: Global, text: &[u8]) -> Result<Option<Core>, Error> {
-    let mut names = Names::new(alloc);
-    let Some(program) = program_of(alloc, &mut names, text)? else {
+    let Some(found) = parsed(alloc, text)? else {
         return Ok(None);
     };
-    match derive(alloc, &names, &program) {
+    match derive(alloc, &found.names, &found.program) {
         Ok(core) => Ok(Some(core)),
         Err(DeriveError::TooDeep(_)) => Ok(None),
-        Err(DeriveError::Memory) => Err(DeriveError::Memory)?,
+        Err(DeriveError::Memory) => Err(DeriveError::Memory.into()),
     }
 }
 
@@ -121,15 +102,14 @@ fn text_in_groups(alloc: Global, groups: &Groups, size: usize) -> Result<Vec<u8>
 /// Prints how large and how deep the core process of a text is, and with `timed` how long it took to derive and drop it.
 fn measure_text(rt: &HostRuntime, name: &str, text: &[u8], timed: bool) -> Result<(), Error> {
     let alloc = rt.alloc();
-    let mut names = Names::new(alloc);
-    let Some(program) = program_of(alloc, &mut names, text)? else {
+    let Some(found) = parsed(alloc, text)? else {
         println!(rt; "derive {name}: no program")?;
         return Ok(());
     };
     let start = Instant::now(rt)?;
-    let found = derive(alloc, &names, &program);
+    let derived = derive(alloc, &found.names, &found.program);
     let spent = start.elapsed(rt)?;
-    match found {
+    match derived {
         Ok(core) => {
             let size = size_of(&core);
             let deep = depth(&core);
@@ -144,7 +124,7 @@ fn measure_text(rt: &HostRuntime, name: &str, text: &[u8], timed: bool) -> Resul
             }
         }
         Err(DeriveError::TooDeep(deep)) => println!(rt; "derive {name}: too deep, {deep}")?,
-        Err(DeriveError::Memory) => Err(DeriveError::Memory)?,
+        Err(DeriveError::Memory) => return Err(DeriveError::Memory.into()),
     }
     Ok(())
 }

@@ -6,12 +6,11 @@ use Rattle.std.proofs.lemmas.List.{append-nil}
 use Rattle.pict_normal.specs.declared.arguments.Arguments.{Arguments}
 use Rattle.pict_normal.specs.declared.made.Made.{Made}
 use Rattle.pict_types.specs.declared.measure.Measures.{Measures}
-use Rattle.pict_types.specs.declared.types.Ty.{Ty}
 use Rattle.pict_types.specs.Types.{PlainType, PlainTypes, no_type, types, count_types}
 use Rattle.pict_normal.specs.Made.{IsMade, AreArguments, kept_as, kept_of, built_as, built_of, weigh_each, rise_each}
 use Rattle.pict_types.specs.Measures.{held, weigh, rise}
 use Rattle.pict_normal.specs.Normal.{and_type}
-use Rattle.pict_types.specs.Plain.{plain, plain_types}
+use Rattle.pict_types.specs.Plain.{plain_types}
 use Rattle.pict_types.proofs.Rows.{then_types, types_then_none}
 
 pub record ArgumentsSoFar (ws hs : List ℕ) (a : Arguments) (all rest : PlainTypes) : Type 0 where

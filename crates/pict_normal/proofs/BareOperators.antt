@@ -2,7 +2,7 @@
 use Rattle.std.proofs.Common.{◌≡◌, ℕ, zero, suc, ◌+◌, ◌-◌, ◌≤◌, ◌<◌, List, [], ◌∷◌, ◌++◌, Option, Some, None, refl, sym, ◌∙◌, ap, ap₂, subst, arith}
 use Rattle.pict_types.specs.declared.types.Ty.{Ty}
 use Rattle.pict_types.specs.declared.types.Ty.TheVariants.{Var as Var_}
-use Rattle.pict_types.specs.Types.{PlainType, Var, Apply, PlainTypes, no_type, types, count_types, Free, Below, Operator, Plain, Op}
+use Rattle.pict_types.specs.Types.{PlainType, Var, PlainTypes, no_type, types, count_types, Free, Below, Operator, Plain, Op}
 use Rattle.pict_types.specs.Entries.{PlainWhat, Variable, Definition, PlainContext, variables}
 use Rattle.pict_types.specs.Fitting.{StandsForOperator, ReplacesKinds}
 use Rattle.pict_types.specs.Kinds.{Kind, proper, operator_of, kind_at, kinds, with_parameters, IsWellFormed, AreWellFormed}

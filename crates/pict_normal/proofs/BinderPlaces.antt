@@ -1,5 +1,5 @@
 -- Type binders, and the entries behind them, by their places.
-use Rattle.std.proofs.Common.{◌≡◌, ℕ, zero, suc, ◌+◌, ◌-◌, ◌≤◌, ◌<◌, Bool, true, false, nat_eq, List, [], ◌∷◌, ◌++◌, length, drop, get_or, map, Option, Some, None, refl, sym, ◌∙◌, ap, subst, arith, length-append}
+use Rattle.std.proofs.Common.{◌≡◌, ℕ, zero, suc, ◌+◌, ◌-◌, ◌≤◌, ◌<◌, Bool, true, false, nat_eq, List, [], ◌∷◌, ◌++◌, length, drop, get_or, map, Option, Some, None, refl, sym, ◌∙◌, ap, subst, arith}
 use Rattle.std.specs.Prelude.{if◌then◌else◌}
 use Rattle.std.proofs.lemmas.List.{get_or-reverse, get_or-map, length-map, length-reverse}
 use Rattle.pict_syntax.specs.declared.span.Span.{Span}
@@ -8,15 +8,13 @@ use Rattle.pict_types.specs.Types.{Free, Below, Operator, PlainBound, Plain, Op}
 use Rattle.pict_types.specs.Replacing.{next_variable}
 use Rattle.pict_types.specs.Entries.{PlainWhat, Variable, Definition, PlainEntry, PlainContext}
 use Rattle.pict_syntax.specs.declared.type_tree.TypeBinder.{TypeBinder as RTypeBinder}
-use Rattle.pict_syntax.specs.Trees.{TypeBinders, type_binder, no_binders, more_binders}
+use Rattle.pict_syntax.specs.Trees.{TypeBinders, no_binders, more_binders}
 use Rattle.pict_syntax.specs.PlainTrees.{binder_of, binders_on}
 use Rattle.pict_normal.specs.BinderEntries.{bound_entry, entries_of, entries_under}
 use Rattle.pict_normal.specs.Normal.{Meaning, a_type, an_operator, of_entry, behind_entry, meaning, kind_bound, use_stops}
 use Rattle.pict_binders.specs.Names.{place_of}
 use Rattle.pict_types.specs.Places.{names_in, arity, arity_at, IsWhatAt}
 use Rattle.pict_normal.specs.Raw.{IsNoDefinition}
-use Rattle.pict_normal.specs.Sizes.{nodes_of_binders}
-use Rattle.pict_types.proofs.Entries.{last_first}
 use Rattle.pict_types.proofs.Places.{is_what_at, arity_is}
 
 pub binders_length : (bs : List Binder) → length (entries_of bs) ≡ length bs

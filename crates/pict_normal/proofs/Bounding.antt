@@ -1,6 +1,6 @@
 -- The type fields of a record that were made so far.
 use Rattle.std.proofs.Common.{◌≡◌, ℕ, ◌+◌, ◌≤◌, ◌<◌, max, List, [], ◌∷◌, ◌++◌, length, get_or, take, drop, Option, Some, None, IfSome, IfNone, refl, sym, ◌∙◌, ap, subst, arith}
-use Rattle.std.proofs.lemmas.List.{take-append-le, take_all}
+use Rattle.std.proofs.lemmas.List.{take-append-le}
 use Rattle.pict_normal.specs.declared.made.MadeBound.{MadeBound}
 use Rattle.pict_normal.specs.declared.made.MakeError.{MakeError}
 use Rattle.pict_normal.specs.declared.made.Row.{Row}
@@ -16,7 +16,7 @@ use Rattle.pict_normal.specs.Putting.{IsPlaced, IsUnder, names_in, variables_in,
 use Rattle.pict_types.specs.Replacing.{Replacement, replacement_past, replacement_beyond, replace_bound, replace_bounds}
 use Rattle.pict_types.proofs.Held.{HeldAlike, alike_more, alike_same, held_alike, rise_bounds_held, heights_under_held}
 use Rattle.pict_normal.proofs.Behind.{weights_more, heights_more}
-use Rattle.pict_normal.proofs.Making.{reason_by, row_first, row_step, row_alike}
+use Rattle.pict_normal.proofs.Making.{reason_by, row_step, row_alike}
 use Rattle.pict_normal.proofs.Placing.{placed_rest, one_more}
 use Rattle.pict_types.proofs.Rows.{then_bounds, bounds_push, bounds_end}
 use Rattle.pict_types.proofs.Items.{bounds_next}

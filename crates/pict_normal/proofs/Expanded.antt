@@ -1,30 +1,26 @@
 -- Normal forms of written types: they are well formed, and within the limits or refused.
-use Rattle.std.proofs.Common.{◌≡◌, ℕ, zero, suc, ◌+◌, ◌≤◌, Bool, true, false, nat_lt, List, [], ◌∷◌, length, Option, Some, None, refl, sym, ◌∙◌, ap, subst, arith}
+use Rattle.std.proofs.Common.{◌≡◌, ℕ, zero, suc, ◌≤◌, Bool, true, false, nat_lt, List, [], ◌∷◌, length, Option, Some, None, refl, sym, ◌∙◌, ap, subst, arith}
 use Rattle.std.specs.Prelude.{if◌then◌else◌, ◌||◌}
-use Rattle.std.specs.Ordering.{is_lt}
 use borrow.Author.Tests.{ltb-true}
 use Rattle.std.proofs.lemmas.Bool.{ltb-false}
 use Rattle.pict_syntax.specs.declared.span.Span.{Span}
-use Rattle.pict_syntax.specs.declared.type_tree.KindTree.TheVariants.{Plain as Plain_, Operator as Operator_}
 use Rattle.pict_syntax.specs.declared.code.Code.TheVariants.{K4}
-use Rattle.pict_syntax.specs.Trees.{TypeTree, top_type, int_type, char_type, string_type, bool_type, use_type, both_type, read_type, write_type, respond_type, fields_type, apply_type, rec_type, TypeBinder, type_binder, unbounded, bound, TypeTrees, no_types, more_types, TypeBinders, no_binders, more_binders, LabelledTypes, no_labelled_types, more_labelled_types}
+use Rattle.pict_syntax.specs.Trees.{TypeTree}
 use Rattle.pict_normal.specs.declared.stops.KindError.{KindError}
 use Rattle.pict_normal.specs.declared.stops.KindError.TheVariants.{Named, Memory}
-use Rattle.pict_types.specs.Types.{TypeContext, PlainType, Top, Int, Char, Str, Boolean, Var, Apply, Chan, Fields, Rec, PlainTypes, no_type, types, PlainLabels, no_label, labels, PlainBound, PlainBounds, no_bound, bounds, PlainArg, Plain, Op}
+use Rattle.pict_types.specs.Types.{TypeContext, PlainType, PlainArg, Plain, Op}
 use Rattle.pict_types.specs.Kinds.{Kind, proper, operator_of, kind_at, kind_by, kinds, IsWellFormed, ArgIsWellFormed}
-use Rattle.pict_types.specs.Replacing.{bound_by, Replacement, apply_variable, with_arg}
+use Rattle.pict_types.specs.Replacing.{Replacement, with_arg}
 use Rattle.pict_types.specs.Entries.{PlainWhat, Variable, Definition, PlainContext, variables, with_variable, EntryIsWellFormed, EntriesAreWellFormed}
 use Rattle.pict_normal.specs.Meanings.{meanings, with_what, kind_of_what, entry_kinds}
-use Rattle.pict_types.specs.Measures.{weight_of, height_of, weights, size, size_types, size_labels, size_bounds, size_bound}
-use Rattle.pict_normal.specs.Normal.{Stop, normal, and_type, and_bound, with_labelled_type, kind_stops, size_stop, first_stop, kind_stop}
-use Rattle.pict_normal.specs.Raw.{variable_at, raw, raw_types, raw_labels, raw_binders, raw_binder, names_under}
-use Rattle.pict_normal.specs.Sizes.{nodes, nodes_of_types, nodes_of_labels, nodes_of_binders, nodes_of_binder}
+use Rattle.pict_types.specs.Measures.{weight_of, height_of}
+use Rattle.pict_normal.specs.Normal.{Stop, normal, kind_stops, size_stop, first_stop, kind_stop}
+use Rattle.pict_normal.specs.Raw.{raw}
 use Rattle.pict_types.specs.Places.{names_in}
 use Rattle.pict_normal.specs.Refusals.{IsFirst, IsRefusal}
 use Rattle.pict_scope.specs.DistinctLabels.{HasDistinctLabels}
 use Rattle.pict_types.specs.Fitting.{ReplacesKinds, StandsForOperator}
 use Rattle.pict_types.proofs.Formed.{replaces_beyond, replace_formed}
-use Rattle.pict_types.proofs.Sizes.{positive_weights, size_weigh}
 use Rattle.pict_normal.proofs.RawFormed.{raw_formed}
 use Rattle.pict_normal.proofs.RawNormal.{raw_normal}
 use Rattle.pict_syntax.specs.Grammar.{type_span}

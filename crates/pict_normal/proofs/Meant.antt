@@ -1,16 +1,15 @@
 -- What the entries of a context stand for, entry by entry.
-use Rattle.std.proofs.Common.{◌≡◌, ℕ, zero, suc, ◌+◌, ◌≤◌, ◌<◌, ◌^◌, List, [], ◌∷◌, length, refl, sym, ◌∙◌, ap, subst, arith}
+use Rattle.std.proofs.Common.{◌≡◌, ℕ, zero, suc, ◌+◌, ◌≤◌, ◌<◌, ◌^◌, [], ◌∷◌, length, refl, sym, ◌∙◌, ap, subst, arith}
 use Rattle.pict_normal.specs.declared.put.Put.{Put}
 use Rattle.pict_normal.specs.declared.put.Put.TheVariants.{Variable as Variable_, Proper as Proper_, Operator as Operator_}
-use Rattle.pict_types.specs.Types.{TypeContext, PlainType, Var, PlainArg, Plain, Op}
+use Rattle.pict_types.specs.Types.{TypeContext, PlainType, Var, PlainArg}
 use Rattle.pict_types.specs.Counting.{variables_inside}
-use Rattle.pict_types.specs.Entries.{PlainWhat, Variable, Definition, PlainContext, variables, with_variable, EntryIsWellFormed, EntriesAreWellFormed}
+use Rattle.pict_types.specs.Entries.{PlainWhat, Variable, Definition, PlainContext, variables, with_variable}
 use Rattle.pict_normal.specs.Meanings.{meanings, with_what}
 use Rattle.pict_normal.specs.Putting.{CanMove, HasRoom}
 use Rattle.pict_types.specs.Places.{IsWhatAt}
 use Rattle.pict_types.specs.Renaming.{plus, rename, moved}
 use Rattle.pict_types.specs.Replacing.{Head, variable, rename_head, Replacement, type_in, head_in}
-use Rattle.pict_types.proofs.Counting.{entries_around}
 use Rattle.pict_types.proofs.Renamed.{renamed_twice}
 use Rattle.pict_types.proofs.Past.{not_moved, head_same, head_twice}
 

@@ -1,5 +1,5 @@
 -- What is placed under binders is placed in its parts.
-use Rattle.std.proofs.Common.{◌≡◌, ℕ, zero, suc, ◌+◌, ◌≤◌, ◌<◌, ◌^◌, List, [], ◌∷◌, ◌++◌, length, get_or, drop, refl, sym, ◌∙◌, ap, subst, arith}
+use Rattle.std.proofs.Common.{◌≡◌, ℕ, suc, ◌+◌, ◌<◌, List, [], ◌∷◌, ◌++◌, length, get_or, drop, refl, sym, ◌∙◌, ap, subst}
 use Rattle.pict_types.specs.declared.measure.Measures.{Measures}
 use Rattle.pict_normal.specs.declared.puts.Puts.{Puts}
 use Rattle.pict_types.specs.declared.types.Bound.{Bound}
@@ -8,12 +8,10 @@ use Rattle.pict_syntax.specs.declared.name.Name.{Name}
 use Rattle.pict_types.specs.Types.{PlainType, Rec, PlainBound, PlainBounds, bounds, count_bounds}
 use Rattle.pict_types.specs.Kinds.{Kind, proper, kind_by, kinds, kinds_under, IsWellFormed, AreWellFormed, LabelsAreWellFormed, BoundsAreWellFormed, BoundIsWellFormed}
 use Rattle.pict_types.specs.Fitting.{ReplacesKinds}
-use Rattle.pict_types.specs.Measures.{size, size_types, size_labels, size_bound, size_bounds}
 use Rattle.pict_types.specs.Plain.{plain, plain_bound, plain_types, plain_labels, plain_bounds}
-use Rattle.pict_types.specs.Replacing.{Replacement, replacement_past, replacement_beyond, replace_bound, replace_bounds}
+use Rattle.pict_types.specs.Replacing.{replacement_past, replace_bound, replace_bounds}
 use Rattle.pict_normal.specs.Putting.{IsPlaced, IsUnder, names_in, variables_in, replacement_in, replacement_of}
 use Rattle.pict_types.proofs.Formed.{replaces_beyond, replaces_under, replaced_kind}
-use Rattle.pict_types.proofs.Rows.{size_types_item, size_labels_item, size_bounds_item, bounds_drop}
 use Rattle.pict_types.proofs.Past.{all_past}
 use Rattle.pict_types.proofs.Items.{types_formed, labels_formed, bounds_next}
 

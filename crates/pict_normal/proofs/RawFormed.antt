@@ -19,7 +19,7 @@ use Rattle.pict_binders.specs.Names.{place_of}
 use Rattle.pict_types.specs.Places.{names_in, arity, arity_at}
 use Rattle.pict_normal.specs.Raw.{variable_at, names_under, raw, raw_types, raw_labels, raw_binders, raw_binder, raw_bound}
 use Rattle.pict_scope.specs.DistinctLabels.{IsNewLabel, HasDistinctLabels, TypesHaveDistinctLabels, AreDistinct, BindersHaveDistinctLabels, BinderHasDistinctLabels}
-use Rattle.pict_syntax.proofs.LabelLemmas.{label_order, less_is, stands_after}
+use Rattle.pict_syntax.proofs.LabelLemmas.{less_is, stands_after}
 use Rattle.pict_types.proofs.Formed.{formed_bound_by, kind_bound_by, before_further}
 use Rattle.pict_normal.proofs.BinderPlaces.{kind_meant, kind_there, kind_named, place_below}
 use Rattle.pict_types.proofs.Places.{names_length}

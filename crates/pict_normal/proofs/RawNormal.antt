@@ -5,7 +5,7 @@ use Rattle.std.specs.Ordering.{is_lt}
 use Rattle.pict_syntax.specs.declared.span.Span.{Span}
 use Rattle.pict_syntax.specs.declared.type_tree.KindTree.TheVariants.{Plain as Plain_, Operator as Operator_}
 use Rattle.pict_syntax.specs.Trees.{TypeTree, top_type, int_type, char_type, string_type, bool_type, use_type, both_type, read_type, write_type, respond_type, fields_type, apply_type, rec_type, TypeBinder, type_binder, unbounded, bound, TypeTrees, no_types, more_types, TypeBinders, no_binders, more_binders, LabelledTypes, no_labelled_types, more_labelled_types}
-use Rattle.pict_types.specs.Types.{PlainType, Top, Int, Char, Str, Boolean, Var, Apply, Chan, Fields, Rec, Both, Read, Write, Respond, PlainTypes, no_type, types, PlainLabels, no_label, labels, PlainBound, Free, Below, Operator, PlainBounds, no_bound, bounds, PlainArg, Plain, Op}
+use Rattle.pict_types.specs.Types.{PlainType, Top, Var, Chan, Fields, Rec, Both, Read, Write, Respond, PlainTypes, no_type, types, PlainLabels, no_label, labels, PlainBound, Free, Below, Operator, PlainBounds, no_bound, bounds, PlainArg, Plain, Op}
 use Rattle.pict_types.specs.Renaming.{rename}
 use Rattle.pict_types.specs.Replacing.{bound_by, Head, apply_head, rename_head, nothing, next_variable, apply_variable, Replacement, replacement_beyond, replacement_beyond_all, replace, replace_types, replace_labels, replace_bound, replace_bounds}
 use Rattle.pict_syntax.specs.Labels.{label_cmp}

@@ -1,5 +1,5 @@
 -- Lists of written types, of type binders and of labelled fields, item by item, with their refusals.
-use Rattle.std.proofs.Common.{◌≡◌, ℕ, zero, suc, ◌+◌, ◌≤◌, ◌<◌, List, [], ◌∷◌, ◌++◌, length, get_or, take, drop, refl, sym, ◌∙◌, ap, ap₂, subst, arith, add-one, Global}
+use Rattle.std.proofs.Common.{◌≡◌, ℕ, ◌+◌, ◌≤◌, ◌<◌, List, [], ◌∷◌, ◌++◌, length, get_or, take, drop, refl, sym, ◌∙◌, ap, ap₂, subst, arith, Global}
 use Rattle.std.specs.Prelude.{Vec}
 use Rattle.std.proofs.lemmas.List.{take_all, take_more, take-append-drop}
 use Rattle.pict_syntax.specs.declared.span.Span.{Span}
@@ -7,7 +7,7 @@ use Rattle.pict_syntax.specs.declared.id.Id.{Id}
 use Rattle.pict_syntax.specs.declared.type_tree.TypeTree.{TypeTree as RTypeTree, Fields as TypeFields, Apply as TypeApply}
 use Rattle.pict_syntax.specs.declared.type_tree.TypeBinder.{TypeBinder as RTypeBinder}
 use Rattle.pict_syntax.specs.declared.type_tree.LabelledType.{LabelledType as RLabelledType}
-use Rattle.pict_syntax.specs.Trees.{fields_type, apply_type, TypeTrees, no_types, more_types, TypeBinders, type_binder, no_binders, more_binders, LabelledTypes, no_labelled_types, more_labelled_types}
+use Rattle.pict_syntax.specs.Trees.{fields_type, apply_type, TypeTrees, no_types, more_types, TypeBinders, no_binders, more_binders, LabelledTypes, no_labelled_types, more_labelled_types}
 use Rattle.pict_syntax.specs.PlainTrees.{type_of, binder_of, types_on, binders_on, labelled_types_on}
 use Rattle.pict_normal.specs.declared.stops.KindError.{KindError}
 use Rattle.pict_normal.specs.declared.stops.KindError.TheVariants.{Named, Memory}
@@ -168,3 +168,6 @@ bounds_and (y ∷ xs) x = ap (bounds (plain_bound y)) (bounds_and xs x)
 
 -- what a loop over written types needs
 pub ruleset types_read = (types_step, types_end, types_none, nodes_of_type_item)
+
+-- the trees that hold lists
+pub ruleset list_forms = (fields_type_is, apply_type_is)

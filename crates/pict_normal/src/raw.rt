@@ -24,7 +24,7 @@ use std::alloc::Global;
 /// The type of a tree, where each name is the variable of its binder in `inner` or of its entry, which come after
 /// these. It is refused at the first place in reading order where a rule of kinds fails.
 #[cycle(raw)]
-#[tactic(auto, unfolding(pict_syntax::specs::PlainTrees::type_of), using(crate::proofs::Trees::fields_type_is, crate::proofs::Trees::apply_type_is))]
+#[tactic(auto, unfolding(pict_syntax::specs::PlainTrees::type_of), using(crate::proofs::Trees::list_forms))]
 pub fn raw_type(
     alloc: Global,
     t: &TypeTree,

@@ -52,11 +52,11 @@ no_way : {b : Bool} → b ≡ true → b ≡ false → ⊥
 no_way p q = let z : true ≡ false = sym p ∙ q in cc
 
 -- one name more: what isn't in the group behind it is another name, and wasn't in the group before
-other_name : (c : Code) (x : Id) (o : Outline) (a : Around) (n : ℕ) → is_among (opens (once c x ▸ o) a).group n ≡ false → n ≡ x.name.0 → ⊥
+pub other_name : (c : Code) (x : Id) (o : Outline) (a : Around) (n : ℕ) → is_among (opens (once c x ▸ o) a).group n ≡ false → n ≡ x.name.0 → ⊥
 unfolding opens
 other_name c x o a n h e = no_way (group_grows o _ n (subst (λ m. is_among (x.name.0 ∷ a.group) m ≡ true) (sym e) (itself x.name.0 a.group))) h
 
-not_before : (o : Outline) (a : Around) (n : ℕ) → is_among (opens o a).group n ≡ false → is_among a.group n ≡ false
+pub not_before : (o : Outline) (a : Around) (n : ℕ) → is_among (opens o a).group n ≡ false → is_among a.group n ≡ false
 not_before o a n h = go (is_among a.group n) refl
   where
     go : (b : Bool) → is_among a.group n ≡ b → is_among a.group n ≡ false
@@ -64,7 +64,7 @@ not_before o a n h = go (is_among a.group n) refl
     go true e = absurd (no_way (group_grows o a n e) h)
 
 -- a name that is no refusal isn't in the group yet
-not_yet : (b : Bool) (c : Code) (x : Id) → first_stop (twice_if b c x) ≡ None → b ≡ false
+pub not_yet : (b : Bool) (c : Code) (x : Id) → first_stop (twice_if b c x) ≡ None → b ≡ false
 not_yet false c x h = refl
 not_yet true c x h = absurd cc
 

@@ -4,6 +4,9 @@ pub mod Clean
 pub mod LabelsScoped
 pub mod Growing
 pub mod Reading
+pub mod LookUp
+pub mod KnownBinders
+pub mod BindersRead
 pub mod TypeForms
 pub mod PatternForms
 pub mod ValueForms

@@ -39,7 +39,7 @@ first_stays (type_used s (Some t) ∷ ms) ns x h = first_stays ms ns x h
 first_stays (value_bound n ∷ ms) ns x h = first_stays ms ns x h
 first_stays (stands_twice c s ∷ ms) ns x h = h
 
-values_both : (ms ns : List Mark) → value_meanings (ms ++ ns) ≡ value_meanings ms ++ value_meanings ns
+pub values_both : (ms ns : List Mark) → value_meanings (ms ++ ns) ≡ value_meanings ms ++ value_meanings ns
 values_both [] ns = refl
 values_both (value_used s None ∷ ms) ns = values_both ms ns
 values_both (value_used s (Some t) ∷ ms) ns = ap (λ l. t ∷ l) (values_both ms ns)
@@ -47,7 +47,7 @@ values_both (type_used s t ∷ ms) ns = values_both ms ns
 values_both (value_bound n ∷ ms) ns = values_both ms ns
 values_both (stands_twice c s ∷ ms) ns = values_both ms ns
 
-types_both : (ms ns : List Mark) → type_meanings (ms ++ ns) ≡ type_meanings ms ++ type_meanings ns
+pub types_both : (ms ns : List Mark) → type_meanings (ms ++ ns) ≡ type_meanings ms ++ type_meanings ns
 types_both [] ns = refl
 types_both (value_used s t ∷ ms) ns = types_both ms ns
 types_both (type_used s None ∷ ms) ns = types_both ms ns
@@ -55,7 +55,7 @@ types_both (type_used s (Some t) ∷ ms) ns = ap (λ l. t ∷ l) (types_both ms 
 types_both (value_bound n ∷ ms) ns = types_both ms ns
 types_both (stands_twice c s ∷ ms) ns = types_both ms ns
 
-binders_both : (ms ns : List Mark) → binders_read (ms ++ ns) ≡ binders_read ms ++ binders_read ns
+pub binders_both : (ms ns : List Mark) → binders_read (ms ++ ns) ≡ binders_read ms ++ binders_read ns
 binders_both [] ns = refl
 binders_both (value_used s t ∷ ms) ns = binders_both ms ns
 binders_both (type_used s t ∷ ms) ns = binders_both ms ns

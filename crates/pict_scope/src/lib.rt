@@ -16,7 +16,7 @@ mod values;
 
 pub use error::ScopeError;
 pub use laws::{
-    law_no_label_twice, law_one_scope_stop, law_parts_are_scoped, law_stands_once,
+    law_look_up, law_no_label_twice, law_one_scope_stop, law_parts_are_scoped, law_stands_once,
     law_uses_are_bound,
 };
 pub use primitives::primitive_named;

@@ -16,8 +16,8 @@ use std::alloc::Global;
 /// The program with what its uses mean, or the first place in reading order where a rule of scopes fails: a value (S1) or
 /// a type (S2) without binder, a name bound twice in one pattern, the fields of one function, one `def`, one list of
 /// parameters or one record type (S3), a label twice in one record, record pattern, function, record type or application
-/// (S4), each at the second. The other error is want of memory, also for 2 to the power 32 binders. Takes time
-/// linear in the program's size, and stack along its nesting alone.
+/// (S4), each at the second. The other error is want of memory, also for 2 to the power 32 binders. Goes over the program
+/// once, with one look-up in a map of the nearest binders at each use and each binder, and recurses along its nesting alone.
 pub fn resolve(alloc: Global, names: &Names, program: Program) -> Result<Scoped, ScopeError>
     ensures program { IfOk result (λ s. s.program ≡ program) }
     ensures no_stop { IfOk result (λ _. scope_stop names.now (program_of program) ≡ None) }

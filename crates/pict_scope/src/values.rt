@@ -199,10 +199,10 @@ fn read_dec(r: &mut Reader, d: &Dec) -> Result<(), ScopeError>
             read_type(r, t)
         }
         Dec::Run(_, p) => read_proc(r, p),
-        Dec::Let(_, p, v) => {
-            let opened = read_pattern(r, p)?;
-            read_val(r, v)?;
-            enter(r, opened)?;
+        Dec::Let(_, pattern, value) => {
+            let bound = read_pattern(r, pattern)?;
+            read_val(r, value)?;
+            enter(r, bound)?;
             Ok(())
         }
         Dec::Def(_, ds) => {

@@ -194,6 +194,60 @@ fn is_package_below(
     is_subtype(alloc, c, &s, &t)
 }
 
+/// Whether `[#F:(Type -> Type) (F S)]` is below the same with T, where these are `Int` or `Top`.
+fn is_applied_below(
+    alloc: Global,
+    c: &Context,
+    below: bool,
+    above: bool,
+) -> Result<bool, AllocError> {
+    let s = applied(alloc, c, below)?;
+    let t = applied(alloc, c, above)?;
+    is_subtype(alloc, c, &s, &t)
+}
+
+/// Whether `[#F:(Type -> Type) (F Int)]` is below `Top`, and whether `Top` is below it.
+fn applied_and_top(alloc: Global, c: &Context) -> Result<(bool, bool), AllocError> {
+    let s = applied(alloc, c, true)?;
+    both_ways(alloc, c, &s, &Ty::Top)
+}
+
+/// The same of `[X]` and `[Int]`, with X for variable 0.
+fn variable_and_int_in_rows(alloc: Global, c: &Context) -> Result<(bool, bool), AllocError>
+    requires { IsWrittenIn c.now (Var 0) }
+{
+    let s = row(alloc, c, Ty::Var(0))?;
+    let t = row(alloc, c, Ty::Int)?;
+    both_ways(alloc, c, &s, &t)
+}
+
+/// The same of `![X]` and `![Int]`, with X for variable 0.
+fn variable_and_int_in_writers(alloc: Global, c: &Context) -> Result<(bool, bool), AllocError>
+    requires { IsWrittenIn c.now (Var 0) }
+{
+    let messages = row(alloc, c, Ty::Var(0))?;
+    let s = channel(alloc, c, Cap::Write, messages)?;
+    let messages = row(alloc, c, Ty::Int)?;
+    let t = channel(alloc, c, Cap::Write, messages)?;
+    both_ways(alloc, c, &s, &t)
+}
+
+/// `(rec X = ^X)`, or with another capability.
+fn recursive(alloc: Global, c: &Context, cap: Cap) -> Result<Ty, AllocError>
+    ensures { IfOk result (λ t. IsWrittenIn c.now (plain t)) }
+{
+    let body = Ty::Chan(cap, Box::new(alloc, Ty::Var(0))?);
+    Ok(Ty::Rec(Box::new(alloc, body)?))
+}
+
+/// Whether `(rec X = ^X)` is below itself, and below and above `(rec X = ?X)`.
+fn recursive_below(alloc: Global, c: &Context) -> Result<(bool, bool, bool), AllocError> {
+    let s = recursive(alloc, c, Cap::Both)?;
+    let t = recursive(alloc, c, Cap::Read)?;
+    let (up, down) = both_ways(alloc, c, &s, &t)?;
+    Ok((is_subtype(alloc, c, &s, &s)?, up, down))
+}
+
 #[test]
 fn channels_compare_by_capability_and_messages(rt: HostRuntime) -> Result<(), AllocError> {
     let alloc = rt.alloc();
@@ -244,15 +298,18 @@ fn type_fields_have_the_same_bounds(rt: HostRuntime) -> Result<(), AllocError> {
     ] {
         assert_eq!(rt; is_package_below(alloc, &c, below, above)?, yes);
     }
-    let (up, down) = both_ways(
-        alloc,
-        &c,
-        &applied(alloc, &c, true)?,
-        &applied(alloc, &c, false)?,
-    )?;
-    assert!(rt; !up && !down);
-    let (up, down) = both_ways(alloc, &c, &applied(alloc, &c, true)?, &Ty::Top)?;
-    assert!(rt; up && !down);
+    Ok(())
+}
+
+#[test]
+fn arguments_of_a_variable_are_the_same(rt: HostRuntime) -> Result<(), AllocError> {
+    let alloc = rt.alloc();
+    let names = Names::new(alloc);
+    let c = Context::new(alloc, &names);
+    assert!(rt; !is_applied_below(alloc, &c, true, false)?);
+    assert!(rt; !is_applied_below(alloc, &c, false, true)?);
+    assert!(rt; is_applied_below(alloc, &c, true, true)?);
+    assert_eq!(rt; applied_and_top(alloc, &c)?, (true, false));
     Ok(())
 }
 
@@ -261,19 +318,9 @@ fn a_bound_is_followed(rt: HostRuntime) -> Result<(), AllocError> {
     let alloc = rt.alloc();
     let names = Names::new(alloc);
     let c = below_int(alloc, &names)?;
-    let (up, down) = both_ways(alloc, &c, &Ty::Var(0), &Ty::Int)?;
-    assert!(rt; up && !down);
-    let variable = row(alloc, &c, Ty::Var(0))?;
-    let number = row(alloc, &c, Ty::Int)?;
-    let (up, down) = both_ways(alloc, &c, &variable, &number)?;
-    assert!(rt; up && !down);
-    let (up, down) = both_ways(
-        alloc,
-        &c,
-        &channel(alloc, &c, Cap::Write, variable)?,
-        &channel(alloc, &c, Cap::Write, number)?,
-    )?;
-    assert!(rt; !up && down);
+    assert_eq!(rt; both_ways(alloc, &c, &Ty::Var(0), &Ty::Int)?, (true, false));
+    assert_eq!(rt; variable_and_int_in_rows(alloc, &c)?, (true, false));
+    assert_eq!(rt; variable_and_int_in_writers(alloc, &c)?, (false, true));
     assert!(rt; matches!(expose(alloc, &c, &Ty::Var(0))?, Ty::Int));
     Ok(())
 }
@@ -283,11 +330,7 @@ fn a_recursive_type_has_a_variable_without_bound(rt: HostRuntime) -> Result<(), 
     let alloc = rt.alloc();
     let names = Names::new(alloc);
     let c = below_int(alloc, &names)?;
-    let s = Ty::Rec(Box::new(alloc, Ty::Chan(Cap::Both, Box::new(alloc, Ty::Var(0))?))?);
-    let t = Ty::Rec(Box::new(alloc, Ty::Chan(Cap::Read, Box::new(alloc, Ty::Var(0))?))?);
-    let (up, down) = both_ways(alloc, &c, &s, &t)?;
-    assert!(rt; !up && !down);
-    assert!(rt; is_subtype(alloc, &c, &s, &s)?);
+    assert_eq!(rt; recursive_below(alloc, &c)?, (true, false, false));
     let outer = TypeScope::Outer(&c);
     let inner = TypeScope::Recursive(&outer);
     assert!(rt; matches!(expose_in(alloc, &inner, &Ty::Var(0))?, Ty::Var(0)));

@@ -4,6 +4,8 @@
 #[cfg(test)]
 mod parsing;
 #[cfg(test)]
+mod scoping;
+#[cfg(test)]
 mod steps;
 #[cfg(test)]
 mod translation;

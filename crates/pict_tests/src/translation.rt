@@ -25,9 +25,10 @@ fn write_primitive(p: Prim, out: &mut Vec<u8>) -> Result<(), AllocError> {
     out.extend_from_slice(name)
 }
 
+/// Writes a number below 100.
 fn write_number(n: u64, out: &mut Vec<u8>) -> Result<(), AllocError> {
     if n >= 10 {
-        write_number(n / 10, out)?;
+        out.push(b'0' + (n / 10 % 10) as u8)?;
     }
     out.push(b'0' + (n % 10) as u8)?;
     Ok(())
@@ -417,7 +418,10 @@ fn outputs_have_these_places(rt: HostRuntime) -> Result<(), Fail> {
         (b"val x = [1 2]", b"8-13 "),
         (b"val f = \\x:Int = printi!x", b"17-25 8-25 "),
         // a fold of a simple value has the fold's place, any other fold that of what is in it
-        (b"new c:^Top val x = (rec c) val y = (rec (+ 1 2))", b"40-47 19-26 "),
+        (
+            b"new c:^Top val x = (rec c) val y = (rec (+ 1 2))",
+            b"40-47 19-26 ",
+        ),
     ];
     for (text, wanted) in rows {
         assert!(rt; has_places(rt.alloc(), text, wanted)?);

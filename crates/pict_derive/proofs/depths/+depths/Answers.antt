@@ -3,7 +3,8 @@ use Rattle.std.proofs.Common.{◌∙◌, ap, sym, refl, arith, Some}
 use Rattle.pict_derive.specs.Held.{held, held_option}
 use Rattle.pict_derive.proofs.HeldDepths.{one_more_held, max_held, read_held, one_held, some_held, put_held, larger, lambda_held, decs_held}
 use Rattle.pict_derive.proofs.DepthForms.{chan_is, number_is, character_is, string_is, true_is, false_is, fields_is, if_is, lambda_is, use_is, fold_is, block_depth, apply_is, right_depth_is, left_depth_is, fields_held, process_is, function_is, new_is, run_is, let_is, def_depth, alias_is, operator_is, await_is, send_is, receive_is, serve_is, if_proc_is, inert_is, group_depth}
-use Rattle.pict_derive.proofs.DepthSteps.{values_step, values_end, labelled_step, labelled_end, decs_step, decs_end, right_begin, right_step, right_end, left_begin, left_step, left_end, empty, none_right, none_left, none_beside, side_begin, side_step, side_end, served_step, served_end}
+use Rattle.pict_derive.proofs.LevelLemmas.{empty}
+use Rattle.pict_derive.proofs.DepthSteps.{values_step, values_end, labelled_step, labelled_end, decs_step, decs_end, right_begin, right_step, right_end, left_begin, left_step, left_end, none_right, none_left, none_beside, side_begin, side_step, side_end, served_step, served_end}
 use Rattle.pict_derive.proofs.depths.+depths.Goals as goal
 
 pub abstraction-returns-in-Process : goal.abstraction-returns-in-Process

@@ -7,33 +7,30 @@ use Rattle.pict_translation.specs.Depth.{program_depth}
 use Rattle.pict_translation.proofs.ClosedLemmas.{program_closed}
 use Rattle.pict_translation.proofs.DepthLemmas.{program_deep}
 use Rattle.pict_derive.specs.declared.whole.DeriveError.TheVariants.{TooDeep}
-use Rattle.pict_derive.proofs.Limits.{above, not_above, the_depth, within}
+use Rattle.pict_derive.proofs.Limits.{above, never_too_deep, not_above, the_depth, within}
 use Rattle.pict_derive.proofs.whole.derive.Goals as goal
 
 pub returns-then-depth-gt-DEPTH_LIMIT-clause-too_deep : goal.returns-then-depth-gt-DEPTH_LIMIT-clause-too_deep
 returns-then-depth-gt-DEPTH_LIMIT-clause-too_deep c depth =
     let told = c.program_depth-depth.ensures in
     let deep = program_deep c.args.names.now (program_of c.args.program.now) in
-    let more = c.if-depth-gt-DEPTH_LIMIT.true in
-    (
+    let more = c.if-depth-gt-DEPTH_LIMIT.true in (
       λ is. (let same : c.program_depth-depth.result ≡ depth = cc in above _ depth _ (program_depth (program_of c.args.program.now)) told deep same more),
-      λ at. ap (λ n. Err (TooDeep n)) (the_depth _ depth _ (program_depth (program_of c.args.program.now)) told deep at.1)
+      λ at. ap (λ n. Err (TooDeep n)) (the_depth _ depth _ (program_depth (program_of c.args.program.now)) told deep at.1),
     )
 
 pub returns-in_err-core-clause-too_deep : goal.returns-in_err-core-clause-too_deep
 returns-in_err-core-clause-too_deep c depth =
-    let deep = program_deep c.args.names.now (program_of c.args.program.now) in
-    (
-      λ is. (cc),
-      λ at. absurd (not_above _ (within c.program_depth-depth.result _ (program_depth (program_of c.args.program.now)) c.program_depth-depth.ensures deep c.if-depth-gt-DEPTH_LIMIT.false) at.0)
+    let deep = program_deep c.args.names.now (program_of c.args.program.now) in (
+      λ is. absurd (never_too_deep c.from_residual.result depth c.from_residual.ensures.1 is),
+      λ at. absurd (not_above _ (within c.program_depth-depth.result _ (program_depth (program_of c.args.program.now)) c.program_depth-depth.ensures deep c.if-depth-gt-DEPTH_LIMIT.false) at.0),
     )
 
 pub returns-clause-too_deep : goal.returns-clause-too_deep
 returns-clause-too_deep c depth =
-    let deep = program_deep c.args.names.now (program_of c.args.program.now) in
-    (
+    let deep = program_deep c.args.names.now (program_of c.args.program.now) in (
       λ is. (cc),
-      λ at. absurd (not_above _ (within c.program_depth-depth.result _ (program_depth (program_of c.args.program.now)) c.program_depth-depth.ensures deep c.if-depth-gt-DEPTH_LIMIT.false) at.0)
+      λ at. absurd (not_above _ (within c.program_depth-depth.result _ (program_depth (program_of c.args.program.now)) c.program_depth-depth.ensures deep c.if-depth-gt-DEPTH_LIMIT.false) at.0),
     )
 
 pub returns-clause-closed : goal.returns-clause-closed

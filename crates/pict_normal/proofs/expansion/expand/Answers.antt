@@ -17,7 +17,6 @@ use Rattle.pict_normal.specs.Normal.{kind_stop, kind_stops, normal, size_stop}
 use Rattle.pict_types.specs.Entries.{PlainContext, variables}
 use Rattle.pict_types.specs.Plain.{plain}
 use Rattle.pict_types.specs.PlainContext.{names_of, plain_context, type_context}
-use Rattle.pict_types.specs.Places.{names_in}
 use Rattle.pict_normal.specs.Raw.{raw}
 use Rattle.pict_normal.specs.Refusals.{IsRefusal, kind_error}
 use Rattle.pict_types.specs.Replacing.{replace}

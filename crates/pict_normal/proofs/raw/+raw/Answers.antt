@@ -1,5 +1,5 @@
 -- Lists, binders and records of raw forms, and the first refusal among them.
-use Rattle.std.proofs.Common.{◌≡◌, suc, ◌+◌, true, false, ◌∷◌, ◌++◌, length, take, drop, refl, sym, ◌∙◌, ap, ap₂, subst, arith, rules}
+use Rattle.std.proofs.Common.{◌≡◌, suc, ◌+◌, true, false, ◌∷◌, ◌++◌, length, drop, refl, sym, ◌∙◌, ap, ap₂, subst, arith, rules}
 use Rattle.pict_syntax.specs.Trees.{no_types, no_binders, no_labelled_types, fields_type}
 use Rattle.pict_syntax.specs.PlainTrees.{type_of, binder_of, types_on, binders_on, labelled_types_on}
 use Rattle.pict_normal.specs.Around.{around, scope_of}

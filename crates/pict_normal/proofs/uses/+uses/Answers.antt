@@ -5,7 +5,7 @@ use Rattle.std.proofs.lemmas.Result.{on_ok_weaker}
 use Rattle.pict_types.specs.Types.{count_bounds}
 use Rattle.pict_types.specs.Measures.{size, size_bound, size_types, size_labels, size_bounds}
 use Rattle.pict_types.specs.Plain.{plain, plain_bound, plain_record, plain_types, plain_labels, plain_bounds}
-use Rattle.pict_types.proofs.Rows.{apply_is, plain_fields, count_bounds_length, count_size_bounds, size_bounds_reach}
+use Rattle.pict_types.proofs.Rows.{apply_is, plain_fields, count_bounds_length, size_bounds_reach}
 use Rattle.pict_normal.specs.Uses.{uses, uses_types, uses_labels, uses_bounds}
 use Rattle.pict_normal.proofs.Marking.{marked_as, marked_three}
 use Rattle.pict_normal.proofs.uses.+uses.Goals as goal

@@ -150,14 +150,14 @@ read_proc-returns-in_ok-read_procs-in-Group t c =
 pub read_dec-returns-in_err-read_val-in-Let : goal.read_dec-returns-in_err-read_val-in-Let
 read_dec-returns-in_err-read_val-in-Let t c =
     let i = c.in-Let in
-    let refused = behind_refused (in_pat (pat_of i.p)) (in_val (val_of c.deref-in-Let.result.now)) c.in_ok-opened-in-Let.opened c.args.r.now c.read_pattern.new.r c.in_err-read_val-in-Let.field-0.0 c.in_ok-opened-in-Let.ensures c.in_err-read_val-in-Let.ensures in
-    let_read c.args.d.now _ i.p i.v i.p c.deref-in-Let.result.now c.args.r.now _ c.from_residual-in_err-read_val-in-Let.result i.is refl c.deref-in-Let.ensures (search rules)
+    let refused = behind_refused (in_pat (pat_of i.pattern)) (in_val (val_of c.deref-in-Let.result.now)) c.in_ok-bound-in-Let.bound c.args.r.now c.read_pattern.new.r c.in_err-read_val-in-Let.field-0.0 c.in_ok-bound-in-Let.ensures c.in_err-read_val-in-Let.ensures in
+    let_read c.args.d.now _ i.pattern i.value i.pattern c.deref-in-Let.result.now c.args.r.now _ c.from_residual-in_err-read_val-in-Let.result i.is refl c.deref-in-Let.ensures (search rules)
 
 pub read_dec-returns-in_ok-enter-in-Let : goal.read_dec-returns-in_ok-enter-in-Let
 read_dec-returns-in_ok-enter-in-Let t c =
     let i = c.in-Let in
-    let_read c.args.d.now _ i.p i.v i.p c.deref-in-Let.result.now c.args.r.now c.enter.new.r (Ok (tt {0})) i.is refl c.deref-in-Let.ensures
-    (pattern_read _ _ c.in_ok-opened-in-Let.opened c.args.r.now c.read_pattern.new.r c.read_val.new.r c.enter.new.r c.in_ok-opened-in-Let.ensures c.in_ok-read_val-in-Let.ensures c.in_ok-enter-in-Let.ensures)
+    let_read c.args.d.now _ i.pattern i.value i.pattern c.deref-in-Let.result.now c.args.r.now c.enter.new.r (Ok (tt {0})) i.is refl c.deref-in-Let.ensures
+    (pattern_read _ _ c.in_ok-bound-in-Let.bound c.args.r.now c.read_pattern.new.r c.read_val.new.r c.enter.new.r c.in_ok-bound-in-Let.ensures c.in_ok-read_val-in-Let.ensures c.in_ok-enter-in-Let.ensures)
 
 pub read_dec-returns-in_err-bind_all-in-Def : goal.read_dec-returns-in_err-bind_all-in-Def
 read_dec-returns-in_err-bind_all-in-Def t c =

@@ -10,7 +10,7 @@ invariant_of-self-2 c =
     let old = c.self.inside.binders.items in
     let b : Binder = record { name = c.args.name.0; outer = c.level_at-outer.result } in
     let items : c.push_reserved.new.self.items ≡ old ++ b ∷ [] = c.push_reserved.ensures.items ∙ ap (λ l. l ++ b ∷ []) c.in_ok-reserve.ensures.items in
-    rw items (bound old b c.self.inside.levels.items c.set_level.new.levels.items c.in-Ok.level c.self.invariant c.in_ok-set_level.ensures.set (search rules) (search rules))
+    rw items (bound old b c.self.inside.levels c.set_level.new.levels c.in-Ok.level c.self.invariant c.in_ok-set_level.ensures.set (search rules) (search rules))
 
 pub returns-clause-ok : goal.returns-clause-ok
 returns-clause-ok c =
