@@ -18,4 +18,6 @@ mod tests;
 mod word;
 
 pub use error::LexError;
+pub use literal::{Due, due_at};
 pub use reading::lex;
+pub use word::{keyword_of, word_len};

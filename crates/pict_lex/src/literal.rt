@@ -5,7 +5,7 @@ ghost use Rattle.std.specs.Char.{digit_value, is_ascii_hexdigit};
 ghost use Rattle.pict_lex.specs.Due.{IsDue};
 
 /// What stands where one more item or the quote of a literal is due.
-pub(crate) enum Due {
+pub enum Due {
     /// An item: the byte that it stands for, and how many bytes it has.
     Item(u8, usize),
     /// The quote.
@@ -87,7 +87,7 @@ fn byte_due(quote: u8, after: &[u8]) -> Due
 }
 
 /// What stands at the front of `after`, where an item of a literal with this quote or the quote is due.
-pub(crate) fn due_at(quote: u8, after: &[u8]) -> Due
+pub fn due_at(quote: u8, after: &[u8]) -> Due
     requires { quote ≢ 92 }
     ensures { IsDue quote after.now result }
 {

@@ -8,7 +8,7 @@ ghost use Rattle.pict_syntax.specs.Tokens.{keyword_text, is_word_byte, IsWord};
 use pict_syntax::Keyword;
 
 /// The keyword with this text.
-pub(crate) fn keyword_of(word: &[u8]) -> Option<Keyword>
+pub fn keyword_of(word: &[u8]) -> Option<Keyword>
     ensures found { IfSome result (λ keyword. word.now ≡ keyword_text keyword) }
     ensures none { IfNone result ((keyword : Keyword) → word.now ≢ keyword_text keyword) }
 {
@@ -44,7 +44,7 @@ fn is_word_byte(byte: u8) -> bool
 }
 
 /// How many bytes the word at the front has.
-pub(crate) fn word_len(rest: &[u8]) -> usize
+pub fn word_len(rest: &[u8]) -> usize
     requires some { 0 < length rest.now }
     requires letter { IsTrue (is_ascii_alphabetic (slice_index rest.now 0)) }
     ensures some { 0 < result }

@@ -70,7 +70,7 @@ found_formed : (e : Environment) (f : Found) → FoundFits e f → ArgsAreWellFo
 found_formed e [] h = tt
 found_formed e (x ∷ f) h = (slot_formed e x (h.0, tt), found_formed e f h.1)
 
-with_found_formed : (e : Environment) (f : Found) (t : PlainType) → FoundFits e f → IsWellFormed e.names (kinds_within (kinds_in e) f) t → IsTypeIn e (with_found f t)
+pub with_found_formed : (e : Environment) (f : Found) (t : PlainType) → FoundFits e f → IsWellFormed e.names (kinds_within (kinds_in e) f) t → IsTypeIn e (with_found f t)
 with_found_formed e f t h w =
     replace_formed e.names t (arguments_keep e.names (kinds_in e) (map argument_in f) (bounds_found f) (found_fit f) (found_formed e f h)) (subst (λ ks. IsWellFormed e.names ks t) (sym (kinds_bound (kinds_in e) f)) w)
 

@@ -53,13 +53,13 @@ shifted_in e own x t w =
     let g = fields_grow e own x in
     subst (λ n. IsTypeIn (with_fields e own x) (shifted_by n t)) (count_inner {e = with_own e own} {d = with_fields e own x} g ∙ sym (count_of x.binders)) (shifted_formed {e = with_own e own} {d = with_fields e own x} g t w)
 
-lowered_out : (e : Environment) (own : List KnownType) (x : Extension) (t : PlainType) → mentions_innermost (opened x) t ≡ false → IsTypeIn (with_fields e own x) t → IsTypeIn (with_own e own) (lowered (opened x) t)
+pub lowered_out : (e : Environment) (own : List KnownType) (x : Extension) (t : PlainType) → mentions_innermost (opened x) t ≡ false → IsTypeIn (with_fields e own x) t → IsTypeIn (with_own e own) (lowered (opened x) t)
 lowered_out e own x t m w =
     let g = fields_grow e own x in
     let n : opened_since (with_own e own) (with_fields e own x) ≡ opened x = count_inner {e = with_own e own} {d = with_fields e own x} g ∙ sym (count_of x.binders) in
     subst (λ k. IsTypeIn (with_own e own) (lowered k t)) n (lowered_back {e = with_own e own} {d = with_fields e own x} g t (subst (λ k. mentions_innermost k t ≡ false) (sym n) m) w)
 
-argument_formed : (e : Environment) (g : TypedFields) (t : PlainType) → AreFieldsIn e (bounds_of g.own) g.positional g.labelled → IsTypeIn (with_own e g.own) t → IsTypeIn e (argument_type g t)
+pub argument_formed : (e : Environment) (g : TypedFields) (t : PlainType) → AreFieldsIn e (bounds_of g.own) g.positional g.labelled → IsTypeIn (with_own e g.own) t → IsTypeIn e (argument_type g t)
 argument_formed e g t h w = (h.0, (and_type_formed e.names _ g.positional (Chan Respond t) h.1.0 (subst (λ ks. IsWellFormed e.names ks t) (own_kinds e g.own) w), h.1.1))
 
 pub abstraction_regular : (e : Environment) (a : Abs) → AbsHasDistinctLabels a → IsRegular e → Step type_ e (abstraction_gives a)

@@ -78,7 +78,7 @@ or_primitive_formed : (ns : List (List ℕ)) (ks : List Kind) (o : Option PlainT
 or_primitive_formed ns ks None text h = or_top_formed ns ks (primitive_type text) (if_primitive_formed ns ks (primitive_named text))
 or_primitive_formed ns ks (Some t) text h = h
 
-use_formed : (e : Environment) (n : ℕ) → IsRegular e → IsTypeIn e (type_of_use e n)
+pub use_formed : (e : Environment) (n : ℕ) → IsRegular e → IsTypeIn e (type_of_use e n)
 use_formed e n r = or_primitive_formed e.names (kinds_in e) (known_type e.values n) (text_of e.names n) (known_formed e.names (kinds_in e) e.values n r.known)
 
 pub count_inner : {e d : Environment} (g : GrowsFrom e d) → opened_since e d ≡ length g.inner

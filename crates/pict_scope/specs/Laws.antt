@@ -15,7 +15,8 @@ use Rattle.pict_scope.specs.DistinctLabels.{DecsHaveDistinctLabels}
 
 -- a program has at most one scope stop
 abbrev pub OneScopeStop : Type 0
-OneScopeStop = (texts : List (List ℕ)) (p : Decs) (c d : Code) (s t : Span) → scope_stop texts p ≡ Some (c, s) → scope_stop texts p ≡ Some (d, t) → (c ≡ d) × (s ≡ t)
+OneScopeStop = (texts : List (List ℕ)) (p : Decs) (c d : Code) (s t : Span)
+    → scope_stop texts p ≡ Some (c, s) → scope_stop texts p ≡ Some (d, t) → (c ≡ d) × (s ≡ t)
 
 -- each use has a meaning, and no name stands twice
 abbrev pub IsInOrder : Mark → Type 0
@@ -43,11 +44,13 @@ AreAmongBinders count (t ∷ ts) = IsAmongBinders count t × AreAmongBinders cou
 
 -- and so each target is a primitive or one of the program's binders of values
 abbrev pub TargetsAreBinders : Type 0
-TargetsAreBinders = (texts : List (List ℕ)) (p : Decs) → scope_stop texts p ≡ None → AreAmongBinders (length (binders_read (program_marks texts p))) (value_targets texts p)
+TargetsAreBinders = (texts : List (List ℕ)) (p : Decs) → scope_stop texts p ≡ None
+    → AreAmongBinders (length (binders_read (program_marks texts p))) (value_targets texts p)
 
 -- where nothing is refused in one outline after another, nothing is refused in either
 abbrev pub PartsAreScoped : Type 0
-PartsAreScoped = (o p : Outline) (a : Around) → first_stop (marks (o ▸ p) a) ≡ None → (first_stop (marks o a) ≡ None) × (first_stop (marks p (opens o a)) ≡ None)
+PartsAreScoped = (o p : Outline) (a : Around) → first_stop (marks (o ▸ p) a) ≡ None
+    → (first_stop (marks o a) ≡ None) × (first_stop (marks p (opens o a)) ≡ None)
 
 -- where a name that may stand once isn't refused, it is none of those before it in its group
 abbrev pub StandsOnce : Type 0
@@ -60,8 +63,10 @@ NoLabelTwice = (texts : List (List ℕ)) (p : Decs) → scope_stop texts p ≡ N
 -- what a use of a value means is what look-up finds in what stands around it. It stands, in reading order, behind what the
 -- uses before it mean, and before what those after it mean
 abbrev pub ValuesByLookUp : Type 0
-ValuesByLookUp = (o p : Outline) (a : Around) (s : Span) (n : ℕ) (t : Target) → meaning (opens o a) n ≡ Some t → value_meanings (marks (o ▸ value_use s n ▸ p) a) ≡ value_meanings (marks o a) ++ t ∷ value_meanings (marks p (opens o a))
+ValuesByLookUp = (o p : Outline) (a : Around) (s : Span) (n : ℕ) (t : Target) → meaning (opens o a) n ≡ Some t
+    → value_meanings (marks (o ▸ value_use s n ▸ p) a) ≡ value_meanings (marks o a) ++ t ∷ value_meanings (marks p (opens o a))
 
 -- and so is the binder of a use of a type
 abbrev pub TypesByLookUp : Type 0
-TypesByLookUp = (o p : Outline) (a : Around) (s : Span) (n k : ℕ) → nearest (opens o a).types_ n ≡ Some k → type_meanings (marks (o ▸ type_use s n ▸ p) a) ≡ type_meanings (marks o a) ++ k ∷ type_meanings (marks p (opens o a))
+TypesByLookUp = (o p : Outline) (a : Around) (s : Span) (n k : ℕ) → nearest (opens o a).types_ n ≡ Some k
+    → type_meanings (marks (o ▸ type_use s n ▸ p) a) ≡ type_meanings (marks o a) ++ k ∷ type_meanings (marks p (opens o a))

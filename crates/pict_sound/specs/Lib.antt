@@ -7,3 +7,4 @@ pub mod Reached
 pub mod Traffic
 pub mod Laws
 pub mod TypingLaws
+pub mod SourceLaws

@@ -190,7 +190,7 @@ fn write_core(core: &Core, names: &Names, out: &mut Vec<u8>) -> Result<(), Alloc
 }
 
 /// The core process of a text, and the names of the text; nothing where it is refused before.
-fn derived(alloc: Global, names: &mut Names, text: &[u8]) -> Option<Result<Core, DeriveError>> {
+pub fn derived(alloc: Global, names: &mut Names, text: &[u8]) -> Option<Result<Core, DeriveError>> {
     if text.len() > 1_048_576 {
         return None;
     }

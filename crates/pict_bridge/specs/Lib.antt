@@ -1,0 +1,3 @@
+pub mod Standing
+pub mod Realising
+pub mod Laws

@@ -1,0 +1,8 @@
+// From source to core. It is a function that does nothing: its contract is the law.
+
+ghost use Rattle.pict_bridge.specs.Laws.{SourceToCore};
+
+/// A program in which no rule of scopes fails and which the typing rules accept has a typed core process.
+pub fn law_source_to_core()
+    ensures { SourceToCore }
+{}

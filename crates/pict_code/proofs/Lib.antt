@@ -1,0 +1,8 @@
+pub mod Numbering
+pub mod Rebuilding
+mod Agreeing
+pub mod Levels
+mod Framed
+mod Closings
+mod Lines
+mod Rows

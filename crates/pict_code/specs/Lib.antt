@@ -1,0 +1,10 @@
+pub mod Instruction
+pub mod Plain
+pub mod Frames
+pub mod Nodes
+pub mod Standing
+pub mod ReadBack
+pub mod Listing
+pub mod Laws
+pub mod Written
+pub mod Levels

@@ -1,0 +1,5 @@
+pub mod Depths
+pub mod Beside
+pub mod Growing
+pub mod Forming
+pub mod RecordTypes

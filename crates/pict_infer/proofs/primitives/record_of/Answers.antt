@@ -1,0 +1,6 @@
+-- A record type without type fields and labels.
+use Rattle.pict_infer.proofs.RecordTypes.{only_positional}
+use Rattle.pict_infer.proofs.primitives.record_of.Goals as goal
+
+pub returns : goal.returns
+returns c = only_positional c.new-binders.result c.args.positional c.new-labelled.result c.new-binders.ensures.items c.new-labelled.ensures.items

@@ -1,0 +1,12 @@
+-- The fields are the operands and the channel.
+use Rattle.std.proofs.Common.{◌∙◌, ap}
+use Rattle.pict_types.specs.Plain.{plain, plain_types}
+use Rattle.pict_types.specs.Types.{Fields, no_bound, no_label, no_type, types}
+use Rattle.pict_infer.proofs.RecordTypes.{three_items}
+use Rattle.pict_infer.proofs.primitives.two_operands.Goals as goal
+
+pub returns : goal.returns
+returns c =
+    c.record_of.ensures
+    ∙ ap (λ z. Fields no_bound (plain_types z) no_label) (three_items _ _ _ _ _ _ _ c.new-positional.ensures.items c.in_ok-push.ensures.items c.in_ok-push-2.ensures.items c.in_ok-push-3.ensures.items)
+    ∙ ap (λ u. Fields no_bound (types (plain c.args.s) (types (plain c.args.t) (types u no_type))) no_label) c.in_ok-answer.ensures

@@ -1,0 +1,36 @@
+-- Steps that the rules have in common, each as a rule that ends there.
+use Rattle.std.specs.Prelude.{Option, Some, None}
+use Rattle.pict_syntax.specs.declared.code.Code.{Code}
+use Rattle.pict_syntax.specs.declared.code.Code.TheVariants.{Y13}
+use Rattle.pict_syntax.specs.declared.span.Span.{Span}
+use Rattle.pict_syntax.specs.Trees.{TypeTree}
+use Rattle.pict_types.specs.declared.types.Ty.{Ty}
+use Rattle.pict_types.specs.Types.{PlainType}
+use Rattle.pict_types.specs.Plain.{plain}
+use Rattle.pict_types.specs.Recursion as recursion
+use Rattle.pict_rules.specs.Environments.{Environment, context_of}
+use Rattle.pict_rules.specs.Rules.{nothing_, type_, Rule, give, need, is_subtype, expand, within_limits}
+use Rattle.pict_rules.specs.Clauses.{done, need_recursive}
+
+-- a written type is expanded
+abbrev pub expanded : Environment → TypeTree → Rule type_
+expanded e t = expand e t give
+
+-- a type is within the limits
+abbrev pub limited : Environment → PlainType → Span → Rule nothing_
+limited e t s = within_limits e t s done
+
+abbrev pub below : Environment → PlainType → PlainType → Code → Span → Rule nothing_
+below e s t code span = need (is_subtype (context_of e) s t) code span done
+
+abbrev pub recursive : PlainType → Span → Rule nothing_
+recursive t s = need_recursive t Y13 s (λ u. done)
+
+-- the unfolding of a recursive type is within the limits
+abbrev pub unfolded : Environment → PlainType → Span → Rule type_
+unfolded e t s = within_limits e (recursion.unfolded t) s (give (recursion.unfolded t))
+
+-- what is exposed, if anything is, or the type itself
+abbrev pub shown : Option Ty → Ty → PlainType
+shown None t = plain t
+shown (Some u) t = plain u

@@ -1,0 +1,16 @@
+//! What is known at a place of a program, and what patterns add to it.
+#![tactic(auto)]
+
+mod added;
+mod env;
+mod error;
+mod formed;
+mod known;
+mod primitives;
+
+pub use added::Added;
+pub use env::{Env, Place};
+pub use error::InferError;
+pub use formed::{below, expanded, followed, recursive, shown, unfolded, within_limits};
+pub use known::{Binder, Known};
+pub use primitives::type_of;

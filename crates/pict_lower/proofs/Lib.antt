@@ -1,0 +1,7 @@
+mod Leveling
+mod Framing
+mod Piling
+mod Ordered
+mod United
+mod Collected
+mod Laying

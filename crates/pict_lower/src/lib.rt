@@ -1,0 +1,14 @@
+//! Lowering: the instructions of a core process.
+#![tactic(auto)]
+
+mod frames;
+mod levels;
+mod lowering;
+mod patterns;
+mod places;
+mod sums;
+
+pub use lowering::lower;
+
+#[cfg(test)]
+mod tests;

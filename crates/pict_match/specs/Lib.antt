@@ -1,0 +1,3 @@
+pub mod PlainFound
+pub mod Parts
+pub mod Formed

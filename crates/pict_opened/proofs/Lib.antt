@@ -1,0 +1,10 @@
+pub mod Reaching
+pub mod Joining
+pub mod Opened
+pub mod Placed
+pub mod FieldsOpen
+pub mod Packages
+pub mod Ordered
+pub mod Rightly
+pub mod PatternParts
+pub mod PatternSteps

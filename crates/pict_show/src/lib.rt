@@ -1,0 +1,11 @@
+//! Core values as texts: as trace lines and listings show them.
+#![tactic(auto)]
+
+mod quoted;
+mod value;
+
+pub use quoted::write_quoted;
+pub use value::{write_numbered, write_value};
+
+#[cfg(test)]
+mod tests;

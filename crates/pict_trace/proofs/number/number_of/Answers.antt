@@ -1,0 +1,23 @@
+use Rattle.std.proofs.Common.{◌≡◌, ℕ, ◌<◌, ◌^◌, sym, ◌∙◌, ap, subst, arith, not}
+use Rattle.std.specs.Fmt.{decimal}
+use Rattle.std.specs.Str.{IsAscii}
+use Rattle.std.proofs.lemmas.Fmt.{parse-decimal, IsAscii-decimal}
+use Rattle.std.proofs.lemmas.Str.{IsUtf8-from_ascii}
+use Rattle.std.proofs.lemmas.Slice.Eq.{bytes_eq-Decides}
+use Rattle.pict_trace.proofs.number.number_of.Goals as goal
+
+pub returns-in-Err-clause-none : goal.returns-in-Err-clause-none
+returns-in-Err-clause-none c e n below is = c.in-Err.ensures.cases.0 (IsUtf8-from_ascii c.args.word.now (subst IsAscii (sym is) (IsAscii-decimal n below)))
+
+pub returns-in-Err-parse-clause-none : goal.returns-in-Err-parse-clause-none
+returns-in-Err-parse-clause-none c e n below is =
+    let parsed = parse-decimal 64 n c.in-Ok.text.now c.parse.result below below (c.in-Ok.ensures.cases.0 ∙ is) c.parse.ensures.value.0 in
+    absurd cc
+
+pub returns-then-ne-clause-none : goal.returns-then-ne-clause-none
+returns-then-ne-clause-none c e n below is =
+    let parsed = parse-decimal 64 n c.in-Ok.text.now c.parse.result below below (c.in-Ok.ensures.cases.0 ∙ is) c.parse.ensures.value.0 in
+    let same : c.in-Ok-parse.n ≡ n = cc in
+    let alike = (bytes_eq-Decides c.format.result.now c.in-Ok.text.now).1 (c.format.ensures.text ∙ ap decimal same ∙ sym is ∙ sym c.in-Ok.ensures.cases.0) in
+    let no = sym c.if-ne.true ∙ c.ne.ensures ∙ ap not alike in
+    cc

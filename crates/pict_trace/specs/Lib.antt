@@ -1,0 +1,8 @@
+pub mod Lines
+pub mod Readable
+pub mod Plain
+pub mod Pending
+pub mod Reading
+pub mod Found
+pub mod Ordered
+pub mod Laws

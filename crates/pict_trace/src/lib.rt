@@ -1,0 +1,25 @@
+//! Trace lines: the line of what a step shows, and what lines say.
+#![tactic(auto)]
+
+mod bare;
+mod event;
+mod found;
+mod front;
+mod label;
+mod laws;
+mod lines;
+mod literal;
+mod number;
+mod quoted;
+mod read;
+mod write;
+
+pub use event::line;
+pub use laws::{
+    law_free_steps_keep_order, law_lines_are_read_once, law_runs_are_read_back, law_values_end_once,
+};
+pub use lines::{TraceError, TraceLabel, TraceLine, VALUE_NESTING_LIMIT, read_lines};
+pub use write::write_value;
+
+#[cfg(test)]
+mod tests;

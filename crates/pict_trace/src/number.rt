@@ -1,0 +1,71 @@
+// Numbers in decimal.
+
+ghost use Rattle.std.specs.Prelude.{◌≡◌, ◌≢◌, ◌++◌, ◌∷◌, ◌<◌, ◌^◌, ℕ, ℤ, List, length, OnOk, IfSome, None, FitsSigned};
+ghost use Rattle.std.specs.Int.{w64};
+ghost use Rattle.std.specs.Fmt.{decimal, signed_decimal};
+
+use itoa::Buffer;
+use std::alloc::AllocError;
+
+// Writes a number.
+pub(crate) fn write_number(out: &mut Vec<u8>, n: u64) -> Result<(), AllocError>
+    ensures { OnOk result (out.new.items ≡ out.old.items ++ decimal n) }
+{
+    let mut buffer = Buffer::new();
+    out.extend_from_slice(buffer.format(n).as_bytes())
+}
+
+// Writes a number with its sign.
+pub(crate) fn write_signed(out: &mut Vec<u8>, n: i64) -> Result<(), AllocError>
+    ensures text { OnOk result (out.new.items ≡ out.old.items ++ signed_decimal n) }
+    ensures grows { OnOk result (length out.old.items < length out.new.items) }
+{
+    let mut buffer = Buffer::new();
+    out.extend_from_slice(buffer.format(n).as_bytes())
+}
+
+// Writes a letter and a number.
+pub(crate) fn write_numbered(out: &mut Vec<u8>, letter: u8, number: u32) -> Result<(), AllocError>
+    ensures { OnOk result (out.new.items ≡ out.old.items ++ (letter ∷ decimal number)) }
+{
+    out.push(letter)?;
+    write_number(out, u64::from(number))
+}
+
+// The number that these bytes write, in decimal, without a sign and without a leading zero.
+pub(crate) fn number_of(word: &[u8]) -> Option<u64>
+    ensures some { IfSome result (λ n. word.now ≡ decimal n) }
+    ensures none { result ≡ None → (n : ℕ) → n < 2 ^ 64 → word.now ≢ decimal n }
+{
+    match str::from_utf8(word) {
+        Err(_) => None,
+        Ok(text) => match text.parse::<u64>() {
+            Err(_) => None,
+            Ok(n) => {
+                if Buffer::new().format(n) != text {
+                    return None;
+                }
+                Some(n)
+            }
+        },
+    }
+}
+
+// The number that these bytes write, in decimal, with `-` where it is negative, and without a leading zero.
+pub(crate) fn signed_of(word: &[u8]) -> Option<i64>
+    ensures some { IfSome result (λ n. word.now ≡ signed_decimal n) }
+    ensures none { result ≡ None → (n : ℤ) → FitsSigned w64 n → word.now ≢ signed_decimal n }
+{
+    match str::from_utf8(word) {
+        Err(_) => None,
+        Ok(text) => match text.parse::<i64>() {
+            Err(_) => None,
+            Ok(z) => {
+                if Buffer::new().format(z) != text {
+                    return None;
+                }
+                Some(z)
+            }
+        },
+    }
+}
