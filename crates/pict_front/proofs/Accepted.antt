@@ -3,8 +3,8 @@ use Rattle.std.proofs.Common.{◌≡◌, ℕ, List, Option, Some, None, refl, su
 use Rattle.pict_syntax.specs.Trees.{Decs}
 use Rattle.pict_scope.specs.Scopes.{scope_stop}
 use Rattle.pict_translation.specs.Translation.{program_core}
-use Rattle.pict_front.specs.Phases.{Phase, accepts, refuses, Then, Each}
-use Rattle.pict_front.specs.Front.{Stop, Front, Lexes, Parses, Checks, Translates, Judges, IsFront, texts_in_order, names_in, joined, stopped_by}
+use Rattle.pict_front.specs.Phases.{Phase, accepts, Then, Each}
+use Rattle.pict_front.specs.Front.{Stop, Front, Lexes, Parses, Checks, Translates, Judges, texts_in_order, names_in, joined, stopped_by}
 use Rattle.pict_front.specs.Laws.{IsAccepted, AcceptedIsTyped}
 use Rattle.pict_front.proofs.OneAfterAnother.{accepted_then}
 

@@ -1,5 +1,5 @@
 -- Each phase has exactly one answer, by its own laws.
-use Rattle.std.proofs.Common.{◌≡◌, ◌⊎◌, inl, inr, ℕ, ◌<◌, ◌≤◌, refl, sym, ◌∙◌, ap, subst, List, length, Option, Some, None, arith}
+use Rattle.std.proofs.Common.{◌≡◌, inl, inr, ℕ, ◌<◌, ◌≤◌, refl, sym, ◌∙◌, ap, List, length, Option, Some, None, arith}
 use Rattle.std.proofs.lemmas.Bool.{cases_lt}
 use Rattle.pict_syntax.specs.declared.limits.TheConstants.{DEPTH_LIMIT}
 use Rattle.pict_syntax.specs.declared.code.Code.{Code}
@@ -14,12 +14,12 @@ use Rattle.pict_total.proofs.Judged.{some_verdict}
 use Rattle.pict_total.proofs.Cuts.{some_whole_cut}
 use Rattle.pict_scope.specs.Scopes.{scope_stop}
 use Rattle.pict_rules.specs.Laws.{Refusal, IsTypedOrStuck}
-use Rattle.pict_rules.specs.Derivations.{IsTyped, IsStuckAt}
+use Rattle.pict_rules.specs.Derivations.{IsTyped}
 use Rattle.pict_rules.proofs.TypedOrStuck.{typed_or_stuck}
 use Rattle.pict_core.specs.Term.{depth_of}
 use Rattle.pict_translation.specs.Translation.{program_core}
 use Rattle.pict_front.specs.Phases.{Phase, accepts, refuses, Then, Each, Exactly}
-use Rattle.pict_front.specs.Front.{Stop, Front, Numbered, Cut, texts_in_order, names_in, tokens_in, Lexes, Parses, joined, stopped_by, Checks, Translates, Judges, IsFront, first_place}
+use Rattle.pict_front.specs.Front.{Stop, Front, Numbered, Cut, texts_in_order, names_in, tokens_in, Lexes, Parses, joined, stopped_by, Checks, Translates, Judges, first_place}
 use Rattle.pict_front.specs.Laws.{OneFront}
 use Rattle.pict_front.proofs.OneAfterAnother.{one_then, one_each}
 
@@ -40,31 +40,31 @@ one_lexes t = elim (some_whole_cut t.number t.text) [
     against_stop code span stop (accepts c) (pieces, whole, is) = absurd (stop_excludes_whole_cut t.number t.text code span pieces stop whole)
     against_stop code span stop (refuses (c, i)) s = let both = one_stop t.number t.text c code i span s stop in same_refusal c code i span both.0 both.1
 
+abbrev HasVerdict : List (List ℕ) → Cut → Verdict → Type 0
+HasVerdict names c v = IsVerdict (tokens_in names c) c.end v
+
 one_parses : (names : List (List ℕ)) (c : Cut) → Exactly (Parses names c)
 one_parses names c = let some = some_verdict (tokens_in names c) c.end in answer some.0 some.1
   where
-    abbrev Judged : Verdict → Type 0
-    Judged v = IsVerdict (tokens_in names c) c.end v
-
-    one : (v w : Verdict) → Judged v → Judged w → v ≡ w
+    one : (v w : Verdict) → HasVerdict names c v → HasVerdict names c w → v ≡ w
     one v w = one_verdict (tokens_in names c) c.end v w
 
-    against_program : (p : Decs) → Judged (Program p) → (other : Phase Stop Decs) → Parses names c other → other ≡ accepts p
+    against_program : (p : Decs) → HasVerdict names c (Program p) → (other : Phase Stop Decs) → Parses names c other → other ≡ accepts p
     against_program p is (accepts q) also = let e = one (Program q) (Program p) also is in cc
     against_program p is (refuses (d, i)) (inl (e, also)) = let f = one (Unexpected i) (Program p) also is in cc
     against_program p is (refuses (d, i)) (inr (e, also)) = let f = one (TooNested i) (Program p) also is in cc
 
-    against_unexpected : (span : Span) → Judged (Unexpected span) → (other : Phase Stop Decs) → Parses names c other → other ≡ refuses (P1, span)
+    against_unexpected : (span : Span) → HasVerdict names c (Unexpected span) → (other : Phase Stop Decs) → Parses names c other → other ≡ refuses (P1, span)
     against_unexpected span is (accepts q) also = let e = one (Program q) (Unexpected span) also is in cc
     against_unexpected span is (refuses (d, i)) (inl (e, also)) = let f = one (Unexpected i) (Unexpected span) also is in cc
     against_unexpected span is (refuses (d, i)) (inr (e, also)) = let f = one (TooNested i) (Unexpected span) also is in cc
 
-    against_nested : (span : Span) → Judged (TooNested span) → (other : Phase Stop Decs) → Parses names c other → other ≡ refuses (P2, span)
+    against_nested : (span : Span) → HasVerdict names c (TooNested span) → (other : Phase Stop Decs) → Parses names c other → other ≡ refuses (P2, span)
     against_nested span is (accepts q) also = let e = one (Program q) (TooNested span) also is in cc
     against_nested span is (refuses (d, i)) (inl (e, also)) = let f = one (Unexpected i) (TooNested span) also is in cc
     against_nested span is (refuses (d, i)) (inr (e, also)) = let f = one (TooNested i) (TooNested span) also is in cc
 
-    answer : (v : Verdict) → Judged v → Exactly (Parses names c)
+    answer : (v : Verdict) → HasVerdict names c v → Exactly (Parses names c)
     answer (Program p) is = (accepts p, is, against_program p is)
     answer (Unexpected span) is = (refuses (P1, span), inl (refl, is), against_unexpected span is)
     answer (TooNested span) is = (refuses (P2, span), inr (refl, is), against_nested span is)
@@ -97,13 +97,14 @@ one_translates names p = elim (cases_lt DEPTH_LIMIT (depth_of (program_core name
     against_fitting fits other (inl (d, e)) = absurd (omega (arith, d, fits))
     against_fitting fits other (inr (f, e)) = e
 
--- behind the scopes: types and the translation where no rule of scopes fails
+-- the phases behind the scopes
+abbrev Typed : List (List ℕ) → Decs → Unit {0} → Phase Stop Front → Type 0
+Typed names p scoped = Then (Checks names p) (λ typed. Translates names p)
+
+-- types and the translation where no rule of scopes fails, else its refusal
 one_judges : (names : List (List ℕ)) (p : Decs) → Exactly (Judges names p)
 one_judges names p = by_scopes (scope_stop names p) refl
   where
-    abbrev Typed : Unit {0} → Phase Stop Front → Type 0
-    Typed scoped = Then (Checks names p) (λ typed. Translates names p)
-
     refused : (stop : Stop) → scope_stop names p ≡ Some stop → (other : Phase Stop Front) → Judges names p other → other ≡ refuses stop
     refused stop is other (accepts x, said, next) = absurd (let e = ap stopped_by is in cc)
     refused stop is other (refuses s, said, next) = let e = ap stopped_by is in cc
@@ -111,7 +112,7 @@ one_judges names p = by_scopes (scope_stop names p) refl
     by_scopes : (s : Option Stop) → scope_stop names p ≡ s → Exactly (Judges names p)
     by_scopes (Some stop) is = (refuses stop, (refuses stop, sym (ap stopped_by is), refl), refused stop is)
     by_scopes None is =
-        one_then (λ said. said ≡ stopped_by (scope_stop names p)) Typed (stopped_by (scope_stop names p), refl, λ s e. e) (λ scoped.
+        one_then (λ said. said ≡ stopped_by (scope_stop names p)) (Typed names p) (stopped_by (scope_stop names p), refl, λ s e. e) (λ scoped.
         one_then (Checks names p) (λ typed. Translates names p) (one_checks names p is) (λ typed. one_translates names p))
 
 pub one_front : OneFront

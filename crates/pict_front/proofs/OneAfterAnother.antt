@@ -8,10 +8,13 @@ one_follows (refuses e) Next next = (refuses e, refl, λ s is. is)
 
 pub one_then : {E A B : Type 0} (First : Phase E A → Type 0) (Next : A → Phase E B → Type 0) → Exactly First → ((x : A) → Exactly (Next x)) → Exactly (Then First Next)
 one_then {E = E} {A = A} {B = B} First Next (said, is, only) next =
-    let one = one_follows said Next next in
-    (one.0, (said, is, one.1), λ answer (other, also, comes).
-        let P : Phase E A → Type 0 = λ s. Follows s Next answer in
-        one.2 answer (subst P (only other also) comes))
+    let one = one_follows said Next next in (
+      one.0,
+      (said, is, one.1),
+      λ answer (other, also, comes).
+          let P : Phase E A → Type 0 = λ s. Follows s Next answer in
+          one.2 answer (subst P (only other also) comes),
+    )
 
 pub one_each : {E A B : Type 0} (One : A → Phase E B → Type 0) (xs : List A) → ((x : A) → Exactly (One x)) → Exactly (Each One xs)
 one_each One [] one = (accepts [], refl, λ s is. is)
