@@ -1,0 +1,3 @@
+pub mod OneAfterAnother
+pub mod EachPhase
+pub mod Accepted
