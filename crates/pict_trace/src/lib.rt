@@ -20,6 +20,3 @@ pub use laws::{
 };
 pub use lines::{TraceError, TraceLabel, TraceLine, VALUE_NESTING_LIMIT, read_lines};
 pub use write::write_value;
-
-#[cfg(test)]
-mod tests;
