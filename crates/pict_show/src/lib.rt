@@ -4,7 +4,7 @@
 mod quoted;
 mod value;
 
-pub use quoted::write_quoted;
+pub use quoted::{write_quoted, written};
 pub use value::{write_numbered, write_value};
 
 #[cfg(test)]

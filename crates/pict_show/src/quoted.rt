@@ -1,5 +1,5 @@
 // Byte strings between quotes.
-ghost use Rattle.std.specs.Prelude.{◌⊎◌, false, ◌≡◌, ◌++◌, ◌<◌, OnOk};
+ghost use Rattle.std.specs.Prelude.{◌⊎◌, false, ◌≡◌, ◌++◌, ◌<◌, ◌≤◌, take, OnOk};
 ghost use Rattle.std.specs.Fmt.{digit_glyph};
 ghost use Rattle.pict_syntax.specs.Tokens.{item_bytes};
 ghost use Rattle.pict_show.specs.Values.{item_of, quoted};
@@ -18,27 +18,28 @@ fn digit(number: u8) -> u8
     }
 }
 
-/// Writes a byte as it stands between quotes of this kind.
-fn write_byte(out: &mut Vec<u8>, quote: u8, byte: u8) -> Result<(), AllocError>
+/// How a byte stands between quotes of this kind, `"` or `'`: the first so many of these bytes.
+pub fn written(quote: u8, byte: u8) -> ([u8; 4], usize)
     requires { (quote ≡ 34) ⊎ (quote ≡ 39) }
-    ensures { OnOk result (out.new.items ≡ out.old.items ++ item_bytes (item_of quote byte)) }
+    ensures bytes { take result.1 result.0 ≡ item_bytes (item_of quote byte) }
+    ensures within { result.1 ≤ 4 }
 {
     if byte == b'\\' {
-        return out.extend_from_slice(b"\\\\");
+        return ([b'\\', b'\\', 0, 0], 2);
     }
     if byte == b'\n' {
-        return out.extend_from_slice(b"\\n");
+        return ([b'\\', b'n', 0, 0], 2);
     }
     if byte == b'\t' {
-        return out.extend_from_slice(b"\\t");
+        return ([b'\\', b't', 0, 0], 2);
     }
     if byte == quote {
-        return out.extend_from_slice(&[b'\\', quote]);
+        return ([b'\\', quote, 0, 0], 2);
     }
-    if 32 <= byte && byte <= 126 {
-        return out.extend_from_slice(&[byte]);
+    if b' ' <= byte && byte <= b'~' {
+        return ([byte, 0, 0, 0], 1);
     }
-    out.extend_from_slice(&[b'\\', b'x', digit(byte / 16), digit(byte % 16)])
+    ([b'\\', b'x', digit(byte / 16), digit(byte % 16)], 4)
 }
 
 /// Writes a byte string behind what is there, between quotes `"` or `'`, as a literal of the language: bytes 0x20 to 0x7E
@@ -50,7 +51,8 @@ pub fn write_quoted(out: &mut Vec<u8>, quote: u8, bytes: &[u8]) -> Result<(), Al
 {
     out.push(quote)?;
     for byte in bytes {
-        write_byte(out, quote, *byte)?;
+        let (item, len) = written(quote, *byte);
+        out.extend_from_slice(&item[..len])?;
     }
     out.push(quote)?;
     Ok(())

@@ -4,7 +4,7 @@ use Rattle.std.specs.Cmp.Lexicographic.{slice_cmp}
 use Rattle.pict_syntax.specs.Names.{text_of}
 use Rattle.pict_syntax.specs.Tokens.{IsWord}
 use Rattle.pict_core.specs.Term.{Val, Vals, Labelled, Var, Chan, Int, Char, Boolean, Text, PrimitiveVal, Record, no_vals, more_vals, no_labelled, more_labelled}
-use Rattle.pict_trace.specs.Lines.{value_text, positional_texts, labelled_texts, in_brackets}
+use Rattle.pict_show.specs.Values.{value_text, positional_texts, labelled_texts, in_brackets}
 use Rattle.pict_trace.specs.Readable.{IsIdentifier, IsOrderly, AreOrderly, LabelsAfter}
 use Rattle.pict_trace.specs.Reading.{spaced_labels}
 use Rattle.pict_trace.proofs.Unique.{spaced, name_stands}

@@ -1,4 +1,3 @@
-pub mod Pieces
 pub mod Unique
 pub mod Strings
 pub mod Numbers

@@ -6,7 +6,7 @@ use Rattle.pict_core.specs.Plain.{plain_val}
 use Rattle.pict_core.specs.declared.value.CoreVal.{CoreVal, the_lemmas}
 use Rattle.pict_core.specs.declared.value.CoreVal.TheVariants as value
 use Rattle.pict_core.specs.Term.{Val, Var, Chan, Int, Char, Boolean, Text, PrimitiveVal, Record}
-use Rattle.pict_trace.specs.Lines.{value_text, item_of}
+use Rattle.pict_show.specs.Values.{value_text, item_of}
 use Rattle.pict_trace.specs.Readable.{AreBytes, IsOrderly, nesting}
 use Rattle.pict_trace.specs.Reading.{Ends, BeginsNoByte, EndsString, string_end, Reads, BeginsNoValue}
 use Rattle.pict_trace.proofs.Unique.{lead, lead_of, lead_value, tail, quoted_unique}

@@ -6,8 +6,8 @@ use Rattle.pict_syntax.specs.Names.{text_of}
 use Rattle.pict_syntax.specs.declared.name.Name.{Name}
 use Rattle.pict_core.specs.Term.{Val, Vals, Labelled, Var, Chan, Int, Char, Boolean, Text, PrimitiveVal, Record, no_vals, more_vals, no_labelled, more_labelled}
 use Rattle.pict_core.specs.Plain.{vals_of, labelled_of}
-use Rattle.pict_trace.specs.Lines.{value_text}
-use Rattle.pict_trace.specs.Pending.{fields_text}
+use Rattle.pict_show.specs.Values.{value_text}
+use Rattle.pict_show.specs.Pending.{fields_text}
 use Rattle.pict_trace.specs.Readable.{IsIdentifier, IsOrderly, AreOrderly, LabelsAfter, labels_of, nesting, nesting_all, nesting_labelled}
 use Rattle.pict_trace.specs.Reading.{Ends, Reads, ReadsFields, ReadsLabelled, BeginsNoValue, BeginsNoFields, BeginsNoLabel, BeginsNoLabelAfter, BeginsNoLabelled, spaced_labels}
 use Rattle.pict_trace.proofs.Unique.{spaced, ends_spaced, ends_labels, closes_labels, Closes, opened, tail, never_same, lead, lead_of, lead_value, lead_word, value_ends, record_ends, no_label, label_unique}

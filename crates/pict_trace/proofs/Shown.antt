@@ -7,7 +7,8 @@ use Rattle.pict_lex.proofs.RunLemmas.{slice_rest}
 use Rattle.pict_syntax.specs.Names.{with_names}
 use Rattle.pict_core.specs.Term.{Val}
 use Rattle.pict_core.specs.Step.{Label, Quiet, Comm, Print}
-use Rattle.pict_trace.specs.Lines.{value_text, shown_text, line_text, lines_text, quoted}
+use Rattle.pict_show.specs.Values.{value_text, quoted}
+use Rattle.pict_trace.specs.Lines.{shown_text, line_text, lines_text}
 use Rattle.pict_trace.specs.Readable.{IsReadable, IsReadableLabel, IsOrderly, BeginsWithLine, BeginsWithLines, IsFirstBad, labels_of, labels_in_line, labels_in, nesting}
 use Rattle.pict_trace.specs.Reading.{is_end, Ends, EndsString, EndsNoString, Reads, BeginsNoValue, ReadsShown, BeginsNoShown, ReadsLine, Grows}
 use Rattle.pict_trace.proofs.Growing.{same_names}

@@ -6,7 +6,7 @@ use Rattle.pict_syntax.proofs.ItemLemmas.{item_unique, NoItem, no_item_at, no_it
 use Rattle.pict_lex.specs.Due.{IsDue}
 use Rattle.pict_lex.specs.declared.literal.Due.{Due}
 use Rattle.pict_lex.specs.declared.literal.Due.TheVariants as Due
-use Rattle.pict_trace.specs.Lines.{item_of}
+use Rattle.pict_show.specs.Values.{item_of}
 use Rattle.pict_trace.specs.Readable.{AreBytes}
 use Rattle.pict_trace.specs.Reading.{BeginsNoByte, EndsString, EndsNoString, string_end}
 use Rattle.pict_trace.proofs.Unique.{item_for, tail, no_backslash}

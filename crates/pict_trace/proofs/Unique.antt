@@ -15,12 +15,13 @@ use Rattle.pict_syntax.specs.Tokens.{IsWord, is_word_byte, Item, plain, newline,
 use Rattle.pict_syntax.specs.declared.primitive.Primitive.TheVariants as primitive
 use Rattle.pict_core.specs.Term.{Val, Vals, Labelled, Var, Chan, Int, Char, Boolean, Text, PrimitiveVal, Record, no_vals, more_vals, no_labelled, more_labelled}
 use Rattle.pict_core.specs.Step.{Label, Quiet, Comm, Print}
-use Rattle.pict_trace.specs.Lines.{item_of, shown_text, line_text, lines_text, value_text, primitive_text, truth_text, quoted, positional_texts, labelled_texts}
+use Rattle.pict_show.specs.Values.{item_of, value_text, primitive_text, truth_text, quoted, positional_texts, labelled_texts}
+use Rattle.pict_trace.specs.Lines.{shown_text, line_text, lines_text}
 use Rattle.pict_trace.specs.Readable.{IsReadable, IsReadableLabel, IsOrderly, AreOrderly, LabelsAfter, IsIdentifier, AreBytes}
 use Rattle.pict_trace.specs.Reading.{is_end, Ends, IsBare, spaced_labels}
-use Rattle.pict_trace.specs.Pending.{rest_text, fields_text}
+use Rattle.pict_show.specs.Pending.{rest_text, fields_text}
 use Rattle.pict_syntax.proofs.ItemLemmas.{items_unique, no_item_at_quote, NoItem}
-use Rattle.pict_trace.proofs.Pieces.{first_positional, first_labelled, rest_positional, rest_labelled}
+use Rattle.pict_show.proofs.Pieces.{first_positional, first_labelled, rest_positional, rest_labelled}
 
 -- ---- a run of bytes of one class
 

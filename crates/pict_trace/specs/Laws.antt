@@ -6,7 +6,8 @@ use Rattle.pict_core.specs.Term.{Val, Process}
 use Rattle.pict_core.specs.Configuration.{Configuration, opening}
 use Rattle.pict_core.specs.Step.{Label, Choice, Free}
 use Rattle.pict_core.specs.Run.{Reaches}
-use Rattle.pict_trace.specs.Lines.{value_text, lines_text}
+use Rattle.pict_show.specs.Values.{value_text}
+use Rattle.pict_trace.specs.Lines.{lines_text}
 use Rattle.pict_trace.specs.Ordered.{IsOrderedProcess, IsOrderedConfiguration, IsOrderedLabel, FitsLine}
 use Rattle.pict_trace.specs.Readable.{IsLines, IsOrderly}
 use Rattle.pict_trace.specs.Reading.{Ends}

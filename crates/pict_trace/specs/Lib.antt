@@ -1,7 +1,6 @@
 pub mod Lines
 pub mod Readable
 pub mod Plain
-pub mod Pending
 pub mod Reading
 pub mod Found
 pub mod Ordered

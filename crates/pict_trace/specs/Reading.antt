@@ -7,7 +7,8 @@ use Rattle.pict_syntax.specs.Tokens.{item_bytes, items_bytes}
 use Rattle.pict_core.specs.Term.{Val, Vals, Labelled, Int, Chan, Boolean, PrimitiveVal, Record, no_labelled, more_labelled}
 use Rattle.pict_syntax.specs.Names.{text_of}
 use Rattle.pict_core.specs.Step.{Label}
-use Rattle.pict_trace.specs.Lines.{value_text, item_of, shown_text, line_text}
+use Rattle.pict_show.specs.Values.{value_text, item_of}
+use Rattle.pict_trace.specs.Lines.{shown_text, line_text}
 use Rattle.pict_trace.specs.Readable.{IsIdentifier, IsOrderly, AreBytes, LabelsAfter, GainsLabels, IsReadable, IsReadableLabel, nesting, nesting_labelled}
 
 -- ---- values without quotes and brackets

@@ -4,10 +4,9 @@ ghost use Rattle.std.specs.Prelude.{◌≡◌, IfOk};
 ghost use Rattle.pict_machine.specs.Plain.{IsShown, label_of};
 ghost use Rattle.pict_trace.specs.Lines.{line_text};
 
-use crate::number::{write_number, write_numbered};
-use crate::quoted::write_quoted;
-use crate::write::write_value;
+use crate::number::write_number;
 use pict_machine::Event;
+use pict_show::{write_numbered, write_quoted, write_value};
 use pict_syntax::Names;
 use std::alloc::{AllocError, Global};
 

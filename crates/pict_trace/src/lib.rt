@@ -10,16 +10,10 @@ mod laws;
 mod lines;
 mod literal;
 mod number;
-mod quoted;
 mod read;
-mod write;
 
 pub use event::line;
 pub use laws::{
     law_free_steps_keep_order, law_lines_are_read_once, law_runs_are_read_back, law_values_end_once,
 };
 pub use lines::{TraceError, TraceLabel, TraceLine, VALUE_NESTING_LIMIT, read_lines};
-pub use write::write_value;
-
-#[cfg(test)]
-mod tests;

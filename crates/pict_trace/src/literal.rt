@@ -3,14 +3,14 @@
 ghost use Rattle.std.specs.Prelude.{◌≡◌, ◌<◌, ◌^◌, ◌⊎◌, ◌∷◌, ◌++◌, ◌↔◌, ℕ, List, IfSome, IfOk, IsTrue, None, Ok, Err};
 ghost use Rattle.pict_syntax.specs.Tokens.{item_bytes};
 ghost use Rattle.pict_core.specs.Plain.{plain_val};
-ghost use Rattle.pict_trace.specs.Lines.{item_of};
+ghost use Rattle.pict_show.specs.Values.{item_of};
 ghost use Rattle.pict_trace.specs.Reading.{BeginsNoByte, EndsString, EndsNoString, Reads, BeginsNoValue};
 
 use crate::found::{Found, ReadError};
 use crate::front::{at_end, behind};
-use crate::quoted::written;
 use pict_core::CoreVal;
 use pict_lex::{Due, due_at};
+use pict_show::written;
 use pict_syntax::Bytes;
 use std::alloc::{AllocError, Global};
 

@@ -1,6 +1,6 @@
 // Numbers in decimal.
 
-ghost use Rattle.std.specs.Prelude.{◌≡◌, ◌≢◌, ◌++◌, ◌∷◌, ◌<◌, ◌^◌, ℕ, ℤ, List, length, OnOk, IfSome, None, FitsSigned};
+ghost use Rattle.std.specs.Prelude.{◌≡◌, ◌≢◌, ◌++◌, ◌<◌, ◌^◌, ℕ, ℤ, OnOk, IfSome, None, FitsSigned};
 ghost use Rattle.std.specs.Int.{w64};
 ghost use Rattle.std.specs.Fmt.{decimal, signed_decimal};
 
@@ -13,23 +13,6 @@ pub(crate) fn write_number(out: &mut Vec<u8>, n: u64) -> Result<(), AllocError>
 {
     let mut buffer = Buffer::new();
     out.extend_from_slice(buffer.format(n).as_bytes())
-}
-
-// Writes a number with its sign.
-pub(crate) fn write_signed(out: &mut Vec<u8>, n: i64) -> Result<(), AllocError>
-    ensures text { OnOk result (out.new.items ≡ out.old.items ++ signed_decimal n) }
-    ensures grows { OnOk result (length out.old.items < length out.new.items) }
-{
-    let mut buffer = Buffer::new();
-    out.extend_from_slice(buffer.format(n).as_bytes())
-}
-
-// Writes a letter and a number.
-pub(crate) fn write_numbered(out: &mut Vec<u8>, letter: u8, number: u32) -> Result<(), AllocError>
-    ensures { OnOk result (out.new.items ≡ out.old.items ++ (letter ∷ decimal number)) }
-{
-    out.push(letter)?;
-    write_number(out, u64::from(number))
 }
 
 // The number that these bytes write, in decimal, without a sign and without a leading zero.

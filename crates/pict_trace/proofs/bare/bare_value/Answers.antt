@@ -1,7 +1,7 @@
 use Rattle.std.proofs.Common.{◌≡◌, ◌≢◌, ◌∷◌, ℕ, ℤ, Bool, ◌<◌, ◌^◌, FitsSigned, w64, refl, sym, ◌∙◌, ap, rules}
 use Rattle.std.specs.Fmt.{decimal, signed_decimal}
 use Rattle.pict_syntax.specs.declared.primitive.Primitive.{Primitive}
-use Rattle.pict_trace.specs.Lines.{primitive_text, truth_text}
+use Rattle.pict_show.specs.Values.{primitive_text, truth_text}
 use Rattle.pict_trace.proofs.Bares.{no_bare, letter_no_number}
 use Rattle.pict_trace.proofs.Unique.{tail}
 use Rattle.pict_trace.proofs.bare.bare_value.Goals as goal

@@ -2,7 +2,7 @@ use Rattle.std.proofs.Common.{◌≡◌, ◌∷◌, ◌++◌, length, take, drop
 use Rattle.std.proofs.Math.Seq.{take-append_seam}
 use Rattle.std.proofs.lemmas.Bool.{false≢true}
 use Rattle.pict_syntax.specs.Tokens.{item_bytes}
-use Rattle.pict_trace.specs.Lines.{item_of}
+use Rattle.pict_show.specs.Values.{item_of}
 use Rattle.pict_trace.proofs.Strings.{no_byte, no_byte_as_written, no_item_due}
 use Rattle.pict_trace.proofs.literal.byte_at.Goals as goal
 

@@ -1,6 +1,6 @@
 use Rattle.std.proofs.Common.{◌≡◌, ◌++◌, ◌∷◌, ℕ, List, length, map}
 use Rattle.pict_syntax.specs.Tokens.{items_bytes}
-use Rattle.pict_trace.specs.Lines.{item_of}
+use Rattle.pict_show.specs.Values.{item_of}
 use Rattle.pict_trace.specs.Readable.{AreBytes}
 use Rattle.pict_trace.proofs.Strings.{Must}
 use Rattle.pict_trace.proofs.literal.string_bytes.Given as goal

@@ -1,6 +1,0 @@
-use Rattle.std.proofs.Common.{◌≡◌, ◌++◌, ◌<◌, [], length, rules}
-use Rattle.pict_trace.proofs.Pieces.{on_ok, number_grows}
-use Rattle.pict_trace.proofs.number.write_signed.Goals as goal
-
-pub returns-clause-grows : goal.returns-clause-grows
-returns-clause-grows c = on_ok c.extend_from_slice.result (number_grows c.args.out.now.items c.extend_from_slice.new.self.items c.args.n c.ranges.n) (search rules)
