@@ -1,5 +1,5 @@
 -- Values without quotes and brackets, read back from their texts.
-use Rattle.std.proofs.Common.{◌≡◌, ◌≢◌, ℕ, zero, suc, ◌+◌, ◌-◌, ◌<◌, ◌≤◌, ◌^◌, Bool, true, false, List, [], ◌∷◌, ◌++◌, length, take, drop, get_or, ℤ, pos, negsuc, FitsSigned, w64, if◌then◌else◌, not, refl, sym, ◌∙◌, ap, subst, arith, take-append-drop}
+use Rattle.std.proofs.Common.{◌≡◌, ◌≢◌, ℕ, zero, suc, ◌-◌, ◌<◌, ◌≤◌, ◌^◌, Bool, true, false, List, [], ◌∷◌, ◌++◌, length, take, drop, get_or, ℤ, pos, negsuc, FitsSigned, w64, if◌then◌else◌, not, refl, sym, ◌∙◌, ap, subst, arith, take-append-drop}
 use Rattle.std.specs.Fmt.{decimal, signed_decimal}
 use Rattle.pict_lex.proofs.RunLemmas.{slice_rest}
 use Rattle.pict_syntax.specs.declared.primitive.Primitive.{Primitive}
@@ -58,9 +58,11 @@ bare_bad text n no_string no_character before ends none others w after x = by w 
   where
     bare : (w : Val) → IsBare w → IsOrderly others w → text ≡ value_text others w ++ after → ⊥
     bare w b o e = none others w (record {
-      bare = b; orderly = o;
+      bare = b;
+      orderly = o;
       is = (run_same is_solid (take n text) (value_text others w) (drop n text) after (solid_taken n text before) (bare_solid others w b o) (stops_solid (drop n text) (ends_drop n text ends)) (stops_solid after x.ends) (take-append-drop n text ∙ e)).0;
     })
+
     by : (w : Val) → IsOrderly others w → nesting w ≤ 0 → text ≡ value_text others w ++ after → ⊥
     by (Int n) o l e = bare (Int n) tt o e
     by (Chan n) o l e = bare (Chan n) tt o e

@@ -1,17 +1,17 @@
 -- One field with a label, as the reader meets it.
-use Rattle.std.proofs.Common.{◌≡◌, ◌≢◌, ℕ, suc, zero, ◌+◌, ◌-◌, ◌<◌, ◌≤◌, List, [], ◌∷◌, ◌++◌, length, map, take, drop, get_or, nat_cmp, Some, refl, sym, ◌∙◌, ap, subst, append_assoc, append-nil, arith, take-append-drop, slice_get, unwrap_or, Result, Ok, Err, IfOk}
+use Rattle.std.proofs.Common.{◌≡◌, ◌≢◌, ℕ, suc, zero, ◌+◌, ◌-◌, ◌<◌, List, [], ◌∷◌, ◌++◌, length, take, drop, get_or, nat_cmp, sym, ◌∙◌, ap, subst, append_assoc, append-nil, arith, unwrap_or}
 use Rattle.std.specs.Cmp.Lexicographic.{slice_cmp}
 use Rattle.std.specs.declared.cmp.Ordering.TheVariants.{Less}
 use Rattle.pict_lex.proofs.RunLemmas.{slice_rest}
 use Rattle.pict_syntax.specs.declared.name.Name.{Name}
 use Rattle.pict_syntax.specs.Names.{text_of, with_name, with_names}
-use Rattle.pict_core.specs.Term.{Val, Vals, Labelled, Var, Chan, Int, Char, Boolean, Text, PrimitiveVal, Record, no_vals, more_vals, no_labelled, more_labelled}
+use Rattle.pict_core.specs.Term.{Val, Labelled, Record}
 use Rattle.pict_core.specs.Plain.{vals_of, labelled_of}
-use Rattle.pict_trace.specs.Readable.{IsIdentifier, IsOrderly, AreOrderly, LabelsAfter, labels_of, labels_of_all, labels_of_labelled}
+use Rattle.pict_trace.specs.Readable.{IsIdentifier, AreOrderly, LabelsAfter, labels_of, labels_of_all, labels_of_labelled}
 use Rattle.pict_trace.specs.Reading.{Reads, BeginsNoLabel, BeginsNoLabelAfter, IsLabelAfter}
 use Rattle.pict_trace.proofs.Unique.{label_unique}
 use Rattle.pict_trace.proofs.Kept.{Extends, text_kept, extends_on}
-use Rattle.pict_trace.proofs.Gained.{with_names_append, names_extend, labels_kept, all_kept, labelled_kept}
+use Rattle.pict_trace.proofs.Gained.{with_names_append, names_extend, all_kept, labelled_kept}
 use Rattle.pict_trace.proofs.Records.{IsField}
 
 -- the label, its `=` (61), and what is behind it

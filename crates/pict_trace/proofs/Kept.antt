@@ -50,9 +50,10 @@ mutual
   kept_labels old more before (more_labelled l v ls) h =
       let t = text_kept old more l h.0.0 in
       let a = kept_value old more v h.2 in
-      let b = kept_labels old more (text_of old l) ls h.3 in
-      (ap (λ x. (x ++ (61 ∷ value_text (old ++ more) v)) ∷ labelled_texts (old ++ more) ls) t ∙ ap (λ x. (text_of old l ++ (61 ∷ x)) ∷ labelled_texts (old ++ more) ls) a.0 ∙ ap (λ x. (text_of old l ++ (61 ∷ value_text old v)) ∷ x) b.0,
-        (subst IsIdentifier (sym t) h.0, ap (slice_cmp nat_cmp before) t ∙ h.1, a.1, subst (λ x. LabelsAfter (old ++ more) x ls) (sym t) b.1))
+      let b = kept_labels old more (text_of old l) ls h.3 in (
+        ap (λ x. (x ++ (61 ∷ value_text (old ++ more) v)) ∷ labelled_texts (old ++ more) ls) t ∙ ap (λ x. (text_of old l ++ (61 ∷ x)) ∷ labelled_texts (old ++ more) ls) a.0 ∙ ap (λ x. (text_of old l ++ (61 ∷ value_text old v)) ∷ x) b.0,
+        (subst IsIdentifier (sym t) h.0, ap (slice_cmp nat_cmp before) t ∙ h.1, a.1, subst (λ x. LabelsAfter (old ++ more) x ls) (sym t) b.1),
+      )
 
 pub kept_spaced : (old more : List (List ℕ)) (vs : Vals) (r : List ℕ) → AreOrderly old vs → spaced (old ++ more) vs r ≡ spaced old vs r
 kept_spaced old more no_vals r h = refl

@@ -1,14 +1,14 @@
 -- Characters and strings, read back from their texts.
-use Rattle.std.proofs.Common.{◌≡◌, ◌≢◌, ◌⊎◌, inl, inr, ℕ, zero, suc, ◌<◌, ◌≤◌, ◌^◌, List, [], ◌∷◌, ◌++◌, map, length, get_or, refl, sym, ◌∙◌, ap, subst, append_assoc, append-nil, arith, rules}
+use Rattle.std.proofs.Common.{◌≡◌, ◌≢◌, inl, inr, ℕ, ◌<◌, ◌^◌, List, [], ◌∷◌, ◌++◌, map, refl, sym, ◌∙◌, ap, append_assoc, append-nil, arith, rules}
 use Rattle.pict_syntax.specs.Tokens.{item_bytes, items_bytes}
 use Rattle.pict_syntax.specs.declared.bytes.Bytes.{Bytes}
 use Rattle.pict_core.specs.Plain.{plain_val}
-use Rattle.pict_core.specs.declared.value.CoreVal.{CoreVal, the_lemmas}
+use Rattle.pict_core.specs.declared.value.CoreVal.{the_lemmas}
 use Rattle.pict_core.specs.declared.value.CoreVal.TheVariants as value
-use Rattle.pict_core.specs.Term.{Val, Var, Chan, Int, Char, Boolean, Text, PrimitiveVal, Record}
+use Rattle.pict_core.specs.Term.{Val, Char, Text}
 use Rattle.pict_show.specs.Values.{value_text, item_of}
-use Rattle.pict_trace.specs.Readable.{AreBytes, IsOrderly, nesting}
-use Rattle.pict_trace.specs.Reading.{Ends, BeginsNoByte, EndsString, string_end, Reads, BeginsNoValue}
+use Rattle.pict_trace.specs.Readable.{IsOrderly}
+use Rattle.pict_trace.specs.Reading.{Ends, EndsString, string_end, Reads, BeginsNoValue}
 use Rattle.pict_trace.proofs.Unique.{lead, lead_of, lead_value, tail, quoted_unique}
 use Rattle.pict_trace.proofs.Strings.{byte_same}
 

@@ -1,5 +1,5 @@
 -- Numbers that are read back from their decimal texts.
-use Rattle.std.proofs.Common.{◌≡◌, ℕ, suc, ◌<◌, ◌≤◌, ◌^◌, List, ◌∷◌, length, Result, Ok, Err, ℤ, pos, negsuc, FitsSigned, w64, inl, inr, refl, sym, ◌∙◌, ap, subst, arith}
+use Rattle.std.proofs.Common.{◌≡◌, ℕ, suc, ◌<◌, ◌≤◌, ◌^◌, List, ◌∷◌, length, Result, Ok, Err, ℤ, pos, negsuc, FitsSigned, w64, inl, inr, refl, ◌∙◌, ap, subst, arith}
 use Rattle.std.specs.Fmt.{decimal, signed_decimal}
 use Rattle.std.specs.Str.{IsAscii}
 use Rattle.std.specs.Str.Parse.{AllDigits, digits_value, ParsesSigned}

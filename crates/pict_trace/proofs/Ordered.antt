@@ -1,16 +1,16 @@
 -- Steps keep the order of labels.
-use Rattle.std.proofs.Common.{ℕ, zero, suc, ℤ, pos, negsuc, ◌≡◌, ◌-◌, nat_lt, nat_eq, Bool, true, false, not, List, [], ◌∷◌, ◌++◌, Option, Some, None, option_map, option_and_then, slice_get, unwrap_or, filter, map, if◌then◌else◌, refl, sym, subst, length}
+use Rattle.std.proofs.Common.{ℕ, zero, suc, ℤ, pos, negsuc, ◌-◌, nat_lt, nat_eq, Bool, true, false, List, [], ◌∷◌, ◌++◌, Option, Some, None, option_and_then, slice_get, unwrap_or, filter, map, if◌then◌else◌, sym, subst, length}
 use Rattle.std.specs.List.{AllByRecursion}
 use Rattle.pict_syntax.specs.Names.{text_of}
 use Rattle.pict_syntax.specs.declared.span.Span.{Span}
 use Rattle.pict_syntax.specs.declared.primitive.Primitive.{Primitive}
 use Rattle.pict_syntax.specs.declared.primitive.Primitive.TheVariants as primitive
 use Rattle.pict_core.specs.Term.{Val, Vals, Labelled, Var, Chan, Int, Char, Boolean, Text, PrimitiveVal, Record, no_vals, more_vals, no_labelled, more_labelled, Pat, Pats, LabelledPats, Bind, Any, RecordPat, no_pats, more_pats, no_labelled_pats, more_labelled_pats, Process, Zero, Par, New, Out, In, If}
-use Rattle.pict_core.specs.Matching.{field_at, match_value, match_values, match_labelled, both, in_record, at_head, at_end}
+use Rattle.pict_core.specs.Matching.{field_at, match_value, match_values, match_labelled, both}
 use Rattle.pict_core.specs.Substitution.{Replacement, replace_value, replace_values, replace_labelled, replace, value_of_variable, substitution, substitute}
 use Rattle.pict_core.specs.Primitives.{Effect, Leaves, Nothing, Answer, Trap, at_int, at_char, at_bool, at_text, at_two, at_three, at_ints, divided_by, effect_of}
 use Rattle.pict_core.specs.Configuration.{Mark, Ready, Parked, Entry, Configuration, opening}
-use Rattle.pict_core.specs.Step.{Label, Quiet, Comm, Print, StepOutcome, Steps, Traps, Wrong, Finished, gone, kept, added, with_process, with_channel, received, served, took, meet_reader, meet_message, meet, printing, leave, perform, send, receive, choose, act, act_entry, Choice, free_step, Free, least, entry_at, step_by, oldest_choice, next}
+use Rattle.pict_core.specs.Step.{Label, Quiet, Comm, Print, StepOutcome, Steps, Traps, Wrong, Finished, gone, kept, added, with_process, with_channel, received, served, took, meet_reader, meet_message, meet, printing, leave, perform, send, receive, choose, act, act_entry, Choice, free_step, Free, least, entry_at, step_by, oldest_choice}
 use Rattle.pict_core.specs.Run.{Reaches, shown}
 use Rattle.pict_trace.specs.Ordered.{IsOrdered, AreOrdered, LabelsRise, IsOrderedProcess, IsOrderedConfiguration, IsOrderedLabel}
 
@@ -107,8 +107,8 @@ module _ (names : List (List ℕ)) where
     matched_labelled no_labelled_pats before ls h = tt
     matched_labelled (more_labelled_pats label p qs) before ls h =
         both_bound (option_and_then (match_value p) (field_at label ls)) (match_labelled qs ls)
-          (elim (field_at label ls) as (λ o. Found o → Bound (option_and_then (match_value p) o)) [ None ↦ λ k. tt | Some v ↦ λ k. matched p v k ] (field_found label before ls h))
-          (matched_labelled qs before ls h)
+        (elim (field_at label ls) as (λ o. Found o → Bound (option_and_then (match_value p) o)) [ None ↦ λ k. tt | Some v ↦ λ k. matched p v k ] (field_found label before ls h))
+        (matched_labelled qs before ls h)
 
   -- ---- primitives
 
@@ -120,6 +120,7 @@ module _ (names : List (List ℕ)) where
   abbrev EffectOrdered : Option Effect → Type 0
   EffectOrdered None = Unit {0}
   EffectOrdered (Some e) = LeavesOrdered e.leaves
+
   int_ordered : (v : Val) (f : ℤ → Option Effect) → ((i : ℤ) → EffectOrdered (f i)) → EffectOrdered (at_int v f)
   int_ordered (Var x) f h = tt
   int_ordered (Chan x) f h = tt
@@ -291,13 +292,13 @@ module _ (names : List (List ℕ)) where
     reader_keeps : (c : ℕ) (message : Val) (r : ℕ) (p : Process) → IsOrdered names message → IsOrderedProcess names p → Keeps (meet_reader C s c message r p)
     reader_keeps c message r (In chan replicated pattern body) o u =
         received_keeps (match_value pattern message) body _ (matched pattern message o) u.1
-          (λ p k. (is_served replicated (In chan replicated pattern body) (added Ready p (gone r (gone s C))) u (is_added Ready p (gone r (gone s C)) k (is_gone r (gone s C) (is_gone s C is))), o))
+        (λ p k. (is_served replicated (In chan replicated pattern body) (added Ready p (gone r (gone s C))) u (is_added Ready p (gone r (gone s C)) k (is_gone r (gone s C) (is_gone s C is))), o))
     reader_keeps c message r p o u = tt
 
     message_keeps : (c : ℕ) (replicated : Bool) (pattern : Pat) (body : Process) (r : ℕ) (p : Process) → IsOrderedProcess names body → IsOrderedProcess names p → Keeps (meet_message C s c replicated pattern body r p)
     message_keeps c replicated pattern body r (Out chan message at) k u =
         received_keeps (match_value pattern message) body _ (matched pattern message u.1) k
-          (λ p h. (is_added Ready p (gone r (took replicated s C)) h (is_gone r (took replicated s C) (is_took replicated s C is)), u.1))
+        (λ p h. (is_added Ready p (gone r (took replicated s C)) h (is_gone r (took replicated s C) (is_took replicated s C is)), u.1))
     message_keeps c replicated pattern body r p k u = tt
 
     meet_keeps : (p : Process) (go : ℕ → Process → StepOutcome) (partner : Option Entry) → IsOrderedProcess names p → At partner → ((r : ℕ) (q : Process) → IsOrderedProcess names q → Keeps (go r q)) → Keeps (meet C s p go partner)

@@ -1,11 +1,11 @@
 -- What a run writes is read back as its labels.
-use Rattle.std.proofs.Common.{ℕ, ◌≡◌, List, [], ◌∷◌, ◌++◌, refl, sym, ◌∙◌, append-nil}
+use Rattle.std.proofs.Common.{ℕ, List, [], ◌∷◌, sym, ◌∙◌, append-nil}
 use Rattle.std.specs.List.{AllByRecursion}
-use Rattle.pict_syntax.specs.Names.{text_of, HasNoRepeats}
+use Rattle.pict_syntax.specs.Names.{text_of}
 use Rattle.pict_core.specs.Term.{Val, Vals, Labelled, Var, Chan, Int, Char, Boolean, Text, PrimitiveVal, Record, no_vals, more_vals, no_labelled, more_labelled}
 use Rattle.pict_core.specs.Step.{Label, Quiet, Comm, Print}
 use Rattle.pict_trace.specs.Lines.{lines_text}
-use Rattle.pict_trace.specs.Readable.{IsOrderly, AreOrderly, LabelsAfter, IsReadable, IsLines}
+use Rattle.pict_trace.specs.Readable.{IsOrderly, AreOrderly, LabelsAfter, IsReadable}
 use Rattle.pict_trace.specs.Ordered.{IsOrdered, AreOrdered, LabelsRise, IsOrderedLabel, IsInRange, AreInRange, LabelledInRange, FitsLine}
 use Rattle.pict_trace.specs.Laws.{RunsAreReadBack}
 use Rattle.pict_trace.proofs.Unique.{lines_unique}
@@ -42,6 +42,7 @@ module _ (names : List (List ℕ)) where
 
 pub runs_are_read_back : RunsAreReadBack
 runs_are_read_back names p n labels C distinct ordered reached fits =
-    let all = all_readable names labels (runs_show_order names p n labels C ordered reached) fits in
-    (record { shown = all; whole = sym (append-nil (lines_text names labels)) },
-      λ others read. lines_unique names distinct others labels read.shown all (sym (append-nil (lines_text names others)) ∙ sym read.whole))
+    let all = all_readable names labels (runs_show_order names p n labels C ordered reached) fits in (
+      record { shown = all; whole = sym (append-nil (lines_text names labels)) },
+      λ others read. lines_unique names distinct others labels read.shown all (sym (append-nil (lines_text names others)) ∙ sym read.whole),
+    )

@@ -1,17 +1,17 @@
 -- Reading the fields of a record.
-use Rattle.std.proofs.Common.{◌⊎◌, inl, inr, ◌≡◌, ◌≢◌, ℕ, suc, zero, ◌+◌, ◌≤◌, max, List, [], ◌∷◌, ◌++◌, length, nat_cmp, refl, sym, ◌∙◌, ap, subst, arith}
+use Rattle.std.proofs.Common.{◌⊎◌, inl, inr, ◌≡◌, ◌≢◌, ℕ, ◌+◌, ◌≤◌, List, [], ◌∷◌, ◌++◌, nat_cmp, refl, sym, ◌∙◌, ap, subst, arith}
 use Rattle.std.specs.Cmp.Lexicographic.{slice_cmp}
 use Rattle.std.specs.declared.cmp.Ordering.TheVariants.{Less}
 use Rattle.pict_syntax.specs.Names.{text_of}
 use Rattle.pict_syntax.specs.declared.name.Name.{Name}
-use Rattle.pict_core.specs.Term.{Val, Vals, Labelled, Var, Chan, Int, Char, Boolean, Text, PrimitiveVal, Record, no_vals, more_vals, no_labelled, more_labelled}
+use Rattle.pict_core.specs.Term.{Val, Vals, Labelled, Record, no_vals, more_vals, no_labelled, more_labelled}
 use Rattle.pict_core.specs.Plain.{vals_of, labelled_of}
 use Rattle.pict_show.specs.Values.{value_text}
 use Rattle.pict_show.specs.Pending.{fields_text}
 use Rattle.pict_trace.specs.Readable.{IsIdentifier, IsOrderly, AreOrderly, LabelsAfter, labels_of, nesting, nesting_all, nesting_labelled}
 use Rattle.pict_trace.specs.Reading.{Ends, Reads, ReadsFields, ReadsLabelled, BeginsNoValue, BeginsNoFields, BeginsNoLabel, BeginsNoLabelAfter, BeginsNoLabelled, spaced_labels}
 use Rattle.pict_trace.proofs.Unique.{spaced, ends_spaced, ends_labels, closes_labels, Closes, opened, tail, never_same, lead, lead_of, lead_value, lead_word, value_ends, record_ends, no_label, label_unique}
-use Rattle.pict_trace.proofs.Kept.{Extends, text_kept, kept_value, kept_vals, kept_labels, kept_spaced, kept_spaced_labels}
+use Rattle.pict_trace.proofs.Kept.{Extends, text_kept, kept_vals, kept_labels, kept_spaced, kept_spaced_labels}
 
 -- ---- what is left
 
@@ -85,9 +85,13 @@ fields_left : (others : List (List ℕ)) (depth : ℕ) (text : List ℕ) (vs : V
 fields_left others depth text vs ls after x =
     let low = x.low in
     elim (opened others vs ls after x.orderly.0 x.orderly.1) [
-      inl o ↦ inl (ap tail x.whole ∙ o.0)
-    | inr o ↦ inr (record {
-        values = vs; orderly = x.orderly.0; low = omega (arith, low); middle = spaced_labels others ls (93 ∷ after); whole = ap (λ t. 32 ∷ t) (ap tail x.whole) ∙ o.0;
+      | inl o ↦ inl (ap tail x.whole ∙ o.0)
+      | inr o ↦ inr (record {
+        values = vs;
+        orderly = x.orderly.0;
+        low = omega (arith, low);
+        middle = spaced_labels others ls (93 ∷ after);
+        whole = ap (λ t. 32 ∷ t) (ap tail x.whole) ∙ o.0;
         labels = record { labels = ls; orderly = x.orderly.1; low = omega (arith, low); whole = refl };
       })
     ]
@@ -122,7 +126,11 @@ must_step others names depth rest after r v x read none = by x.values x.orderly 
     by : (vs : Vals) → AreOrderly others vs → nesting_all vs ≤ depth → 32 ∷ rest ≡ spaced others vs x.middle → Left others depth r after
     by no_vals h n f = absurd (no_labels_left others depth [] rest after none (subst (λ m. LeftLabelled others depth [] m after) (sym f) x.labels))
     by (more_vals w ws) h n f = record {
-      values = ws; orderly = h.1; low = omega (arith, n); middle = x.middle; labels = x.labels;
+      values = ws;
+      orderly = h.1;
+      low = omega (arith, n);
+      middle = x.middle;
+      labels = x.labels;
       whole = value_ends names others v w r (spaced others ws x.middle) read.orderly h.0 read.ends (ends_spaced others ws x.middle (closes others depth [] x.middle after x.labels)) (sym read.whole ∙ ap tail f);
     }
 
@@ -132,11 +140,13 @@ none_left others depth rest after x no_value none = by x.values x.orderly x.low 
     by : (vs : Vals) → AreOrderly others vs → nesting_all vs ≤ depth → 32 ∷ rest ≡ spaced others vs x.middle → ⊥
     by no_vals h n f = no_labels_left others depth [] rest after none (subst (λ m. LeftLabelled others depth [] m after) (sym f) x.labels)
     by (more_vals w ws) h n f = no_value others w (spaced others ws x.middle)
-      (record { orderly = h.0; low = omega (arith, n); ends = ends_spaced others ws x.middle (closes others depth [] x.middle after x.labels); whole = ap tail f })
+        (record { orderly = h.0; low = omega (arith, n); ends = ends_spaced others ws x.middle (closes others depth [] x.middle after x.labels); whole = ap tail f })
 
 pub begun : (names : List (List ℕ)) (depth : ℕ) (text : List ℕ) → ((a : List ℕ) → text ≢ 93 ∷ a) → Midway names depth text [] text
 begun names depth text h = record {
-  orderly = tt; low = omega arith; sofar = refl;
+  orderly = tt;
+  low = omega arith;
+  sofar = refl;
   must = λ others vs ls after x. elim (fields_left others depth text vs ls after x) [ inl y ↦ absurd (h after y) | inr y ↦ y ];
 }
 
@@ -155,9 +165,10 @@ behind_bad names new depth text vs rest r v m none read no_end no_space others w
 
 kept_midway : (names new : List (List ℕ)) (depth : ℕ) (text : List ℕ) (vs : List Val) (rest : List ℕ) → Midway names depth text vs rest → Extends names new
     → AreOrderly new (vals_of vs) × (32 ∷ text ≡ spaced new (vals_of vs) (32 ∷ rest))
-kept_midway names new depth text vs rest m (more, grown) =
-    (subst (λ n. AreOrderly n (vals_of vs)) (sym grown) (kept_vals names more (vals_of vs) m.orderly).1,
-      m.sofar ∙ sym (ap (λ n. spaced n (vals_of vs) (32 ∷ rest)) grown ∙ kept_spaced names more (vals_of vs) (32 ∷ rest) m.orderly))
+kept_midway names new depth text vs rest m (more, grown) = (
+  subst (λ n. AreOrderly n (vals_of vs)) (sym grown) (kept_vals names more (vals_of vs) m.orderly).1,
+  m.sofar ∙ sym (ap (λ n. spaced n (vals_of vs) (32 ∷ rest)) grown ∙ kept_spaced names more (vals_of vs) (32 ∷ rest) m.orderly),
+)
 
 -- one field more
 pub stepped : (names new : List (List ℕ)) (depth : ℕ) (text : List ℕ) (vs : List Val) (rest r rest' : List ℕ) (v : Val) → Midway names depth text vs rest → Extends names new → BeginsNoLabel rest → Reads new depth rest v r
@@ -175,9 +186,9 @@ stepped names new depth text vs rest r rest' v m grown none read e =
 all_fields : (names : List (List ℕ)) (vs : Vals) (ls : Labelled) (text after : List ℕ) → AreOrderly names vs → LabelsAfter names [] ls → 32 ∷ text ≡ spaced names vs (spaced_labels names ls (93 ∷ after))
     → text ≡ fields_text names vs ls ++ after
 all_fields names vs ls text after h k all = elim (opened names vs ls after h k) [
-    inl o ↦ absurd (never_same after text (sym (all ∙ ap (λ l. spaced names l (spaced_labels names ls (93 ∷ after))) o.1 ∙ ap (λ l. spaced_labels names l (93 ∷ after)) o.2)))
+  | inl o ↦ absurd (never_same after text (sym (all ∙ ap (λ l. spaced names l (spaced_labels names ls (93 ∷ after))) o.1 ∙ ap (λ l. spaced_labels names l (93 ∷ after)) o.2)))
   | inr o ↦ ap tail (all ∙ sym o.0)
-  ]
+]
 
 -- the end of a record behind a positional field
 pub closed : (names new : List (List ℕ)) (depth : ℕ) (text : List ℕ) (vs : List Val) (rest r rest' : List ℕ) (v : Val) → Midway names depth text vs rest → Extends names new → Reads new depth rest v r
@@ -190,7 +201,7 @@ closed names new depth text vs rest r rest' v m grown read e =
       orderly = (orderly, tt);
       low = omega (arith, low);
       whole = ap (λ t. 91 ∷ t) (all_fields new (vals_of (vs ++ v ∷ [])) no_labelled text rest' orderly tt
-        (kept.1 ∙ ap (λ t. spaced new (vals_of vs) (32 ∷ t)) (read.whole ∙ ap (λ t. value_text new v ++ t) e) ∙ sym (spaced_more new vs v (93 ∷ rest'))));
+          (kept.1 ∙ ap (λ t. spaced new (vals_of vs) (32 ∷ t)) (read.whole ∙ ap (λ t. value_text new v ++ t) e) ∙ sym (spaced_more new vs v (93 ∷ rest'))));
     }
 
 -- the end of a record behind a field with a label
@@ -219,7 +230,7 @@ pub fields_value : (names : List (List ℕ)) (depth : ℕ) (text : List ℕ) (vs
     → Reads names (depth + 1) (91 ∷ text) v r
 fields_value names depth text vs ls v rest r x ends e f =
     subst (λ w. Reads names (depth + 1) (91 ∷ text) w r) (sym e) (subst (λ t. Reads names (depth + 1) (91 ∷ text) (Record vs ls) t) (sym f)
-      (record { orderly = x.orderly; low = x.low; ends = ends; whole = x.whole }))
+    (record { orderly = x.orderly; low = x.low; ends = ends; whole = x.whole }))
 
 -- a value behind a bracket is a record
 record_only : (depth : ℕ) (text : List ℕ) → ((others : List (List ℕ)) (vs : Vals) (ls : Labelled) (after : List ℕ) → Ends after → ¬ ReadsFields others depth text vs ls after) → BeginsNoValue (depth + 1) (91 ∷ text)
@@ -333,7 +344,9 @@ labelled_step : (others names : List (List ℕ)) (depth : ℕ) (before rest afte
     → LeftLabelled others depth word r after
 labelled_step others names depth before rest after word name v r x field =
     first_left others depth before rest after word field.more (LeftLabelled others depth word r after) x field.is field.whole (λ w ls less o n k m e. record {
-      labels = ls; orderly = k; low = m;
+      labels = ls;
+      orderly = k;
+      low = m;
       whole = value_ends names others v w r (spaced_labels others ls (93 ∷ after)) field.value.orderly o field.value.ends (ends_labels others ls after) (sym field.value.whole ∙ e);
     })
 
@@ -346,6 +359,7 @@ label_bad names depth text fs before rest m none others ls after x = by left.lab
   where
     left : LeftLabelled others depth before (32 ∷ rest) after
     left = m.must others after (left_of others depth text ls after x)
+
     by : (ks : Labelled) → LabelsAfter others before ks → 32 ∷ rest ≡ spaced_labels others ks (93 ∷ after) → ⊥
     by no_labelled h f = never_same _ _ (sym f)
     by (more_labelled l v ks) h f = none (text_of others l) (value_text others v ++ spaced_labels others ks (93 ∷ after)) h.0 h.1 (ap tail f)
@@ -354,7 +368,7 @@ pub value_bad : (names : List (List ℕ)) (depth : ℕ) (text : List ℕ) (fs : 
     → BeginsNoValue depth more → BeginsNoLabelled depth text
 value_bad names depth text fs before rest word more m is e none others ls after x =
     first_left others depth before rest after word more ⊥ (m.must others after (left_of others depth text ls after x)) is e
-      (λ w ks less o n k l f. none others w (spaced_labels others ks (93 ∷ after)) (record { orderly = o; low = n; ends = ends_labels others ks after; whole = f }))
+    (λ w ks less o n k l f. none others w (spaced_labels others ks (93 ∷ after)) (record { orderly = o; low = n; ends = ends_labels others ks after; whole = f }))
 
 pub after_bad : (names new : List (List ℕ)) (depth : ℕ) (text : List ℕ) (fs : List (Name × Val)) (before rest word : List ℕ) (name : ℕ) (v : Val) (r : List ℕ) → MidLabelled names depth text fs before rest
     → IsField new depth rest word name v r → ((a : List ℕ) → r ≢ 93 ∷ a) → ((a : List ℕ) → r ≢ 32 ∷ a) → BeginsNoLabelled depth text

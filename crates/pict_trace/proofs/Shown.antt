@@ -1,6 +1,5 @@
 -- Lines, read back from their texts.
-use Rattle.std.proofs.Common.{◌≡◌, ◌≢◌, ◌⊎◌, inl, inr, ℕ, zero, suc, ◌+◌, ◌-◌, ◌<◌, ◌≤◌, ◌^◌, true, false, List, [], ◌∷◌, ◌++◌, length, map, take, drop, get_or, codes, refl, sym, ◌∙◌, ap, subst, append_assoc, append-nil, arith, take-append-drop, ◌==◌}
-use Rattle.std.proofs.lemmas.List.{map-append, length-append}
+use Rattle.std.proofs.Common.{◌≡◌, ◌≢◌, ℕ, ◌+◌, ◌-◌, ◌<◌, ◌^◌, true, false, List, [], ◌∷◌, ◌++◌, length, take, drop, get_or, codes, refl, sym, ◌∙◌, ap, subst, append_assoc, append-nil, arith, take-append-drop, ◌==◌}
 use Rattle.std.specs.List.{AllByRecursion}
 use Rattle.std.specs.Fmt.{decimal}
 use Rattle.pict_lex.proofs.RunLemmas.{slice_rest}
@@ -9,13 +8,13 @@ use Rattle.pict_core.specs.Term.{Val}
 use Rattle.pict_core.specs.Step.{Label, Quiet, Comm, Print}
 use Rattle.pict_show.specs.Values.{value_text, quoted}
 use Rattle.pict_trace.specs.Lines.{shown_text, line_text, lines_text}
-use Rattle.pict_trace.specs.Readable.{IsReadable, IsReadableLabel, IsOrderly, BeginsWithLine, BeginsWithLines, IsFirstBad, labels_of, labels_in_line, labels_in, nesting}
-use Rattle.pict_trace.specs.Reading.{is_end, Ends, EndsString, EndsNoString, Reads, BeginsNoValue, ReadsShown, BeginsNoShown, ReadsLine, Grows}
+use Rattle.pict_trace.specs.Readable.{IsReadable, IsReadableLabel, BeginsWithLine, BeginsWithLines, IsFirstBad, labels_in_line, labels_in}
+use Rattle.pict_trace.specs.Reading.{is_end, EndsString, EndsNoString, Reads, BeginsNoValue, ReadsShown, BeginsNoShown, ReadsLine, Grows}
 use Rattle.pict_trace.proofs.Growing.{same_names}
 use Rattle.pict_trace.proofs.Unique.{tail, first_of_bytes, is_solid, run_same, stops_solid, digits_all, digit_solid, numeral, number_unique, value_ends}
 use Rattle.pict_trace.proofs.Bares.{ends_drop, solid_taken}
 use Rattle.pict_trace.proofs.Literals.{string_closed, string_same}
-use Rattle.pict_trace.proofs.Kept.{Extends, kept_value}
+use Rattle.pict_trace.proofs.Kept.{kept_value}
 use Rattle.pict_trace.proofs.Gained.{with_names_append, labels_kept}
 use Rattle.pict_trace.proofs.Fields.{labels_extend}
 
@@ -91,8 +90,8 @@ no_value_bad text value n e few none =
 pub no_end_bad : (names : List (List ℕ)) (text value r : List ℕ) (n : ℕ) (v : Val) → text ≡ decimal n ++ (32 ∷ value) → n < 2 ^ 64 → Reads names 1000 value v r → ((rest : List ℕ) → r ≢ 10 ∷ rest) → BeginsNoShown (99 ∷ text)
 no_end_bad names text value r n v e few read none =
     communication_only text (λ others channel other w rest small f x.
-      let same = number_unique n channel value other few (omega (arith, small)) (sym e ∙ f) in
-      none rest (value_ends names others v w r (10 ∷ rest) read.orderly x.orderly read.ends refl (sym read.whole ∙ same.1 ∙ x.whole)))
+    let same = number_unique n channel value other few (omega (arith, small)) (sym e ∙ f) in
+    none rest (value_ends names others v w r (10 ∷ rest) read.orderly x.orderly read.ends refl (sym read.whole ∙ same.1 ∙ x.whole)))
 
 -- neither
 pub no_label_shown : (text : List ℕ) → ((rest : List ℕ) → text ≢ codes "print \"" ++ rest) → ((rest : List ℕ) → text ≢ 99 ∷ rest) → BeginsNoShown text

@@ -4,7 +4,7 @@ use Rattle.std.proofs.lemmas.List.{map-append}
 use Rattle.pict_syntax.specs.declared.name.Name.{Name}
 use Rattle.pict_syntax.specs.Names.{with_names}
 use Rattle.pict_core.specs.declared.value.CoreVal.{CoreVal}
-use Rattle.pict_core.specs.Term.{Val, Vals, Labelled, Record, no_vals, no_labelled}
+use Rattle.pict_core.specs.Term.{Val, Vals, Record, no_vals, no_labelled}
 use Rattle.pict_core.specs.Plain.{plain_val, plain_field, vals_of, labelled_of}
 use Rattle.pict_trace.specs.Readable.{labels_of}
 use Rattle.pict_trace.specs.Reading.{Reads, ReadsFields, BeginsNoValue}
@@ -17,7 +17,7 @@ pub none_read : (names : List (List ℕ)) (depth : ℕ) (text rest : List ℕ) (
     → ReadsFields names depth text (vals_of (map plain_val xs)) (labelled_of (map plain_field ys)) rest
 none_read names depth text rest xs ys e f g =
     subst (λ l. ReadsFields names depth text (vals_of (map plain_val l)) (labelled_of (map plain_field ys)) rest) (sym e)
-      (subst (λ l. ReadsFields names depth text no_vals (labelled_of (map plain_field l)) rest) (sym f) (empty_fields names depth text rest g))
+    (subst (λ l. ReadsFields names depth text no_vals (labelled_of (map plain_field l)) rest) (sym f) (empty_fields names depth text rest g))
 
 pub none_gained : (names : List (List ℕ)) (xs : List CoreVal) (ys : List (Name × CoreVal)) → xs ≡ [] → ys ≡ [] → names ≡ with_names names (labels_of names (Record (vals_of (map plain_val xs)) (labelled_of (map plain_field ys))))
 none_gained names xs ys e f = ap (λ l. with_names names (labels_of names (Record (vals_of (map plain_val l)) no_labelled))) (sym e) ∙ ap (λ l. with_names names (labels_of names (Record (vals_of (map plain_val xs)) (labelled_of (map plain_field l))))) (sym f)

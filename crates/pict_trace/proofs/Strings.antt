@@ -1,15 +1,13 @@
 -- Reading bytes between quotes.
-use Rattle.std.proofs.Common.{◌≡◌, ◌≢◌, ◌⊎◌, inl, inr, ℕ, ◌<◌, ◌^◌, List, [], ◌∷◌, ◌++◌, map, length, refl, sym, ◌∙◌, ap, subst, append_assoc, append-nil, arith, length-append, IsTrue, ◌*◌, ◌+◌, drop, take}
+use Rattle.std.proofs.Common.{◌≡◌, ◌≢◌, ◌⊎◌, inl, inr, ℕ, ◌<◌, ◌^◌, List, [], ◌∷◌, ◌++◌, map, refl, sym, ◌∙◌, ap, subst, append_assoc, append-nil, arith}
 use Rattle.pict_syntax.specs.Tokens.{Item, IsItem, item_bytes, item_value, items_bytes}
-use Rattle.pict_syntax.specs.Comments.{BeginsWith}
 use Rattle.pict_syntax.proofs.ItemLemmas.{item_unique, NoItem, no_item_at, no_item_at_quote, no_item_at_end, no_item_at_backslash, no_escape}
 use Rattle.pict_lex.specs.Due.{IsDue}
 use Rattle.pict_lex.specs.declared.literal.Due.{Due}
-use Rattle.pict_lex.specs.declared.literal.Due.TheVariants as Due
 use Rattle.pict_show.specs.Values.{item_of}
 use Rattle.pict_trace.specs.Readable.{AreBytes}
-use Rattle.pict_trace.specs.Reading.{BeginsNoByte, EndsString, EndsNoString, string_end}
-use Rattle.pict_trace.proofs.Unique.{item_for, tail, no_backslash}
+use Rattle.pict_trace.specs.Reading.{BeginsNoByte, EndsNoString, string_end}
+use Rattle.pict_trace.proofs.Unique.{item_for, no_backslash}
 
 -- what reads the whole string reads the rest of it from here
 abbrev pub Must : List ℕ → List ℕ → Type 0
@@ -46,7 +44,7 @@ must_step after rest more byte must small e bytes end are f = let m = must bytes
     by [] h g = absurd (no_item_at_quote 34 end (λ f. omega (arith, f)) (item_of 34 byte) (item_for 34 byte (inl refl) small).is (more, sym g ∙ e))
     by (m ∷ ms) h g =
         let same = byte_same 34 byte m more (items_bytes (map (item_of 34) ms) ++ (34 ∷ end)) (inl refl) small h.0
-              (sym e ∙ g ∙ append_assoc (item_bytes (item_of 34 m)) (items_bytes (map (item_of 34) ms)) (34 ∷ end)) in
+        (sym e ∙ g ∙ append_assoc (item_bytes (item_of 34 m)) (items_bytes (map (item_of 34) ms)) (34 ∷ end)) in
         (ms, h.1, same.1)
 
 -- no string goes on here

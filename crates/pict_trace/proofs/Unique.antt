@@ -1,23 +1,23 @@
 -- The text of a value tells the value, and where it ends.
-use Rattle.std.proofs.Common.{◌≡◌, ◌≢◌, ℕ, suc, zero, ◌+◌, ◌<◌, ◌≤◌, ◌^◌, Bool, true, false, not, ◌||◌, List, [], ◌∷◌, ◌++◌, Option, Some, None, length, map, ℤ, pos, negsuc, FitsSigned, w64, refl, sym, ◌∙◌, ap, subst, if◌then◌else◌, ◌==◌, inl, inr, ◌⊎◌, append_assoc, append-nil, arith, slice_get, unwrap_or, ◌*◌, ◌/◌, ◌%◌, ◌&&◌, nat_le, IsTrue, ⊎_elim}
+use Rattle.std.proofs.Common.{◌≡◌, ◌≢◌, ℕ, suc, zero, ◌+◌, ◌<◌, ◌^◌, Bool, true, false, not, List, [], ◌∷◌, ◌++◌, Option, Some, None, map, pos, negsuc, refl, sym, ◌∙◌, ap, subst, if◌then◌else◌, ◌==◌, inl, inr, ◌⊎◌, append_assoc, append-nil, arith, slice_get, unwrap_or, ◌*◌, ◌/◌, ◌%◌, ◌&&◌, nat_le, IsTrue, ⊎_elim}
 use Rattle.std.specs.Char.{digit_value, is_ascii_alphabetic, is_ascii_digit, is_ascii_hexdigit}
 use Rattle.std.specs.Int.{IsInRange}
 use Rattle.std.specs.Str.{bytes_eq}
-use Rattle.std.specs.Fmt.{decimal, signed_decimal, digit_glyph}
+use Rattle.std.specs.Fmt.{decimal, digit_glyph}
 use Rattle.std.specs.List.{flat_map, AllByRecursion}
 use Rattle.std.specs.Str.Parse.{IsNumeral, AllDigits}
 use Rattle.std.proofs.lemmas.Bool.{cases_Bool, false≢true}
 use Rattle.std.proofs.lemmas.Bool.Decides.{nat_tests, Decides-eqb}
-use Rattle.std.proofs.lemmas.Fmt.{decimal_is_IsNumeral, decimal_injective, signed_decimal_injective}
+use Rattle.std.proofs.lemmas.Fmt.{decimal_is_IsNumeral, decimal_injective}
 use Rattle.std.proofs.lemmas.Str.Parse.{digit_from_value}
 use Rattle.pict_syntax.specs.Names.{text_of, HasNoRepeats}
 use Rattle.pict_syntax.specs.Tokens.{IsWord, is_word_byte, Item, plain, newline, tab, backslash, double_quote, single_quote, hexadecimal, IsItem, item_value, AreItems, items_bytes}
 use Rattle.pict_syntax.specs.declared.primitive.Primitive.TheVariants as primitive
 use Rattle.pict_core.specs.Term.{Val, Vals, Labelled, Var, Chan, Int, Char, Boolean, Text, PrimitiveVal, Record, no_vals, more_vals, no_labelled, more_labelled}
 use Rattle.pict_core.specs.Step.{Label, Quiet, Comm, Print}
-use Rattle.pict_show.specs.Values.{item_of, value_text, primitive_text, truth_text, quoted, positional_texts, labelled_texts}
+use Rattle.pict_show.specs.Values.{item_of, value_text, primitive_text, quoted, positional_texts, labelled_texts}
 use Rattle.pict_trace.specs.Lines.{shown_text, line_text, lines_text}
-use Rattle.pict_trace.specs.Readable.{IsReadable, IsReadableLabel, IsOrderly, AreOrderly, LabelsAfter, IsIdentifier, AreBytes}
+use Rattle.pict_trace.specs.Readable.{IsReadable, IsReadableLabel, IsOrderly, AreOrderly, LabelsAfter, AreBytes}
 use Rattle.pict_trace.specs.Reading.{is_end, Ends, IsBare, spaced_labels}
 use Rattle.pict_show.specs.Pending.{rest_text, fields_text}
 use Rattle.pict_syntax.proofs.ItemLemmas.{items_unique, no_item_at_quote, NoItem}
@@ -36,9 +36,9 @@ Stops p (b ∷ bs) = p b ≡ false
 
 pub all_parts : (p : ℕ → Bool) (b : ℕ) (bs : List ℕ) → all_of p (b ∷ bs) ≡ true → (p b ≡ true) × (all_of p bs ≡ true)
 all_parts p b bs h = elim (cases_Bool (p b)) [
-    inl t ↦ (t, sym (ap (λ t. if t then all_of p bs else false) t) ∙ h)
+  | inl t ↦ (t, sym (ap (λ t. if t then all_of p bs else false) t) ∙ h)
   | inr f ↦ absurd (false≢true (sym (ap (λ t. if t then all_of p bs else false) f) ∙ h))
-  ]
+]
 
 pub run_same : (p : ℕ → Bool) (xs ys a b : List ℕ) → all_of p xs ≡ true → all_of p ys ≡ true → Stops p a → Stops p b → xs ++ a ≡ ys ++ b → (xs ≡ ys) × (a ≡ b)
 run_same p [] [] a b h k s t e = (refl, e)
@@ -206,17 +206,17 @@ IsQuote quote = (quote ≡ 34) ⊎ (quote ≡ 39)
 pub item_for : (quote byte : ℕ) → (quote ≡ 34) ⊎ (quote ≡ 39) → byte < 2 ^ 8 → IsItemFor quote byte (item_of quote byte)
 item_for quote byte q h =
     let plain_or : byte ≢ 92 → byte ≢ quote → IsItemFor quote byte (if nat_le 32 byte && nat_le byte 126 then plain byte else hexadecimal (digit_glyph false (byte / 16)) (digit_glyph false (byte % 16)))
-        = λ n m. picked (IsItemFor quote byte) (nat_le 32 byte && nat_le byte 126) (plain byte) (hexadecimal (digit_glyph false (byte / 16)) (digit_glyph false (byte % 16)))
-          (λ t. record { is = (grind (arith, nat_tests, t), n, m); value = refl })
-          (λ f. let high = glyph_value (byte / 16) (omega arith) in let low = glyph_value (byte % 16) (omega arith) in record { is = (high.1, low.1); value = ap (λ a. 16 * a + digit_value (digit_glyph false (byte % 16))) high.0 ∙ ap (λ a. 16 * (byte / 16) + a) low.0 ∙ omega arith }) in
+    = λ n m. picked (IsItemFor quote byte) (nat_le 32 byte && nat_le byte 126) (plain byte) (hexadecimal (digit_glyph false (byte / 16)) (digit_glyph false (byte % 16)))
+    (λ t. record { is = (grind (arith, nat_tests, t), n, m); value = refl })
+    (λ f. let high = glyph_value (byte / 16) (omega arith) in let low = glyph_value (byte % 16) (omega arith) in record { is = (high.1, low.1); value = ap (λ a. 16 * a + digit_value (digit_glyph false (byte % 16))) high.0 ∙ ap (λ a. 16 * (byte / 16) + a) low.0 ∙ omega arith }) in
     picked (IsItemFor quote byte) (byte == 92) backslash _ (λ t. record { is = tt; value = sym ((Decides-eqb byte 92).0 t) }) (λ n92.
     picked (IsItemFor quote byte) (byte == 10) newline _ (λ t. record { is = tt; value = sym ((Decides-eqb byte 10).0 t) }) (λ n10.
     picked (IsItemFor quote byte) (byte == 9) tab _ (λ t. record { is = tt; value = sym ((Decides-eqb byte 9).0 t) }) (λ n9.
     picked (IsItemFor quote byte) (byte == quote) _ _
-      (λ t. picked (IsItemFor quote byte) (quote == 34) double_quote single_quote
-        (λ u. record { is = tt; value = sym ((Decides-eqb quote 34).0 u) ∙ sym ((Decides-eqb byte quote).0 t) })
-        (λ u. record { is = tt; value = ⊎_elim (λ e. absurd (grind (arith, nat_tests, u, e))) (λ e. sym e) q ∙ sym ((Decides-eqb byte quote).0 t) }))
-      (λ m. plain_or (λ e. grind (arith, nat_tests, n92, e)) (λ e. grind (arith, nat_tests, m, e))))))
+    (λ t. picked (IsItemFor quote byte) (quote == 34) double_quote single_quote
+    (λ u. record { is = tt; value = sym ((Decides-eqb quote 34).0 u) ∙ sym ((Decides-eqb byte quote).0 t) })
+    (λ u. record { is = tt; value = ⊎_elim (λ e. absurd (grind (arith, nat_tests, u, e))) (λ e. sym e) q ∙ sym ((Decides-eqb byte quote).0 t) }))
+    (λ m. plain_or (λ e. grind (arith, nat_tests, n92, e)) (λ e. grind (arith, nat_tests, m, e))))))
 
 pub items_are : (quote : ℕ) (bytes : List ℕ) → (quote ≡ 34) ⊎ (quote ≡ 39) → AreBytes bytes → AreItems quote (map (item_of quote) bytes)
 items_are quote [] q h = tt
@@ -236,7 +236,7 @@ quoted_unique quote xs ys a c q h k e =
     let js = map (item_of quote) ys in
     let none : (more : List ℕ) → NoItem quote (quote ∷ more) = λ more. no_item_at_quote quote more (no_backslash quote q) in
     let t : items_bytes is ++ (quote ∷ a) ≡ items_bytes js ++ (quote ∷ c)
-        = sym (append_assoc (items_bytes is) (quote ∷ []) a) ∙ ap tail e ∙ append_assoc (items_bytes js) (quote ∷ []) c in
+    = sym (append_assoc (items_bytes is) (quote ∷ []) a) ∙ ap tail e ∙ append_assoc (items_bytes js) (quote ∷ []) c in
     let r : (is ≡ js) × (quote ∷ a ≡ quote ∷ c) = items_unique quote is js (quote ∷ a) (quote ∷ c) (items_are quote xs q h) (items_are quote ys q k) (none a) (none c) t in
     (sym (items_back quote xs q h) ∙ ap (map item_value) r.0 ∙ items_back quote ys q k, ap tail r.1)
 
@@ -339,6 +339,7 @@ no_label names v x a c h w ends e = by v h e (sym (lead_value names v a h) ∙ a
   where
     bare : (v : Val) → IsBare v → lead_of v ≡ 0 → IsOrderly names v → value_text names v ++ a ≡ x ++ (61 ∷ c) → ⊥
     bare v b l h e = text_no_label (value_text names v) x a c (bare_worded names v b h) (λ f. omega (arith, sym (ap lead (append-nil (value_text names v))) ∙ lead_value names v [] h, l, f)) w ends e
+
     by : (v : Val) → IsOrderly names v → value_text names v ++ a ≡ x ++ (61 ∷ c) → lead_of v ≡ 0 → ⊥
     by (Int n) h e l = bare (Int n) tt l h e
     by (Chan n) h e l = bare (Chan n) tt l h e
@@ -388,11 +389,15 @@ pub opened : (names : List (List ℕ)) (vs : Vals) (ls : Labelled) (a : List ℕ
     → ((fields_text names vs ls ++ a ≡ 93 ∷ a) × (vs ≡ no_vals) × (ls ≡ no_labelled)) ⊎ ((32 ∷ (fields_text names vs ls ++ a) ≡ spaced names vs (spaced_labels names ls (93 ∷ a))) × (lead (fields_text names vs ls ++ a) ≢ 4))
 opened names no_vals no_labelled a h k = inl (refl, refl, refl)
 opened names no_vals (more_labelled l v ls) a h k =
-    inr (ap (λ t. t ++ a) (sym (rest_labelled names l v ls)) ∙ rest_spaced names no_vals (more_labelled l v ls) a,
-      λ f. omega (arith, sym (ap lead (ap (λ t. t ++ a) (first_labelled names l v ls) ∙ append_assoc (text_of names l) (61 ∷ (value_text names v ++ rest_text names no_vals ls)) a) ∙ lead_word (text_of names l) ((61 ∷ (value_text names v ++ rest_text names no_vals ls)) ++ a) k.0.0) ∙ f))
+    inr (
+      ap (λ t. t ++ a) (sym (rest_labelled names l v ls)) ∙ rest_spaced names no_vals (more_labelled l v ls) a,
+      λ f. omega (arith, sym (ap lead (ap (λ t. t ++ a) (first_labelled names l v ls) ∙ append_assoc (text_of names l) (61 ∷ (value_text names v ++ rest_text names no_vals ls)) a) ∙ lead_word (text_of names l) ((61 ∷ (value_text names v ++ rest_text names no_vals ls)) ++ a) k.0.0) ∙ f),
+    )
 opened names (more_vals v vs) ls a h k =
-    inr (ap (λ t. t ++ a) (sym (rest_positional names v vs ls)) ∙ rest_spaced names (more_vals v vs) ls a,
-      λ f. let g : lead_of v ≡ 4 = sym (ap lead (ap (λ t. t ++ a) (first_positional names v vs ls) ∙ append_assoc (value_text names v) (rest_text names vs ls) a) ∙ lead_value names v (rest_text names vs ls ++ a) h.0) ∙ f in no_four v g)
+    inr (
+      ap (λ t. t ++ a) (sym (rest_positional names v vs ls)) ∙ rest_spaced names (more_vals v vs) ls a,
+      λ f. let g : lead_of v ≡ 4 = sym (ap lead (ap (λ t. t ++ a) (first_positional names v vs ls) ∙ append_assoc (value_text names v) (rest_text names vs ls) a) ∙ lead_value names v (rest_text names vs ls ++ a) h.0) ∙ f in no_four v g,
+    )
   where
     no_four : (v : Val) → lead_of v ≢ 4
     no_four v e = grind arith
@@ -449,17 +454,17 @@ mutual
   value_by names d (Record vs ls) (Record vs' ls') a c h k s t e f =
       let inner : fields_text names vs ls ++ a ≡ fields_text names vs' ls' ++ c = ap tail e in
       elim (opened names vs ls a h.0 h.1) [
-        inl x ↦ elim (opened names vs' ls' c k.0 k.1) [
-            inl y ↦ (ap (λ l. Record l ls) (x.1 ∙ sym y.1) ∙ ap (Record vs') (x.2 ∙ sym y.2), ap tail (sym x.0 ∙ inner ∙ y.0))
+        | inl x ↦ elim (opened names vs' ls' c k.0 k.1) [
+          | inl y ↦ (ap (λ l. Record l ls) (x.1 ∙ sym y.1) ∙ ap (Record vs') (x.2 ∙ sym y.2), ap tail (sym x.0 ∙ inner ∙ y.0))
           | inr y ↦ absurd (y.1 (ap lead (sym inner ∙ x.0)))
-          ]
-      | inr x ↦ elim (opened names vs' ls' c k.0 k.1) [
-            inl y ↦ absurd (x.1 (ap lead (inner ∙ y.0)))
+        ]
+        | inr x ↦ elim (opened names vs' ls' c k.0 k.1) [
+          | inl y ↦ absurd (x.1 (ap lead (inner ∙ y.0)))
           | inr y ↦
               (let all = vals_by names d vs vs' (spaced_labels names ls (93 ∷ a)) (spaced_labels names ls' (93 ∷ c)) h.0 k.0 (closes_labels names [] ls a h.1) (closes_labels names [] ls' c k.1) (sym x.0 ∙ ap (λ t. 32 ∷ t) inner ∙ y.0) in
               let others = labels_by names d ls ls' [] [] a c h.1 k.1 all.1 in
               (ap (λ l. Record l ls) all.0 ∙ ap (Record vs') others.0, others.1))
-          ]
+        ]
       ]
   value_by names d (Record vs ls) w a c h k s t e f = absurd (omega (arith, f))
   value_by names d (Char x) (Char y) a c h k s t e f = let r : (x ∷ [] ≡ y ∷ []) × (a ≡ c) = quoted_unique 39 (x ∷ []) (y ∷ []) a c (inr refl) (h, tt) (k, tt) e in let same : x ≡ y = (let g = r.0 in cc) in (ap Char same, r.1)
@@ -513,16 +518,16 @@ mutual
   ends_by names others (Record vs ls) (Record vs' ls') a c h k s t e f =
       let inner : fields_text names vs ls ++ a ≡ fields_text others vs' ls' ++ c = ap tail e in
       elim (opened names vs ls a h.0 h.1) [
-        inl x ↦ elim (opened others vs' ls' c k.0 k.1) [
-            inl y ↦ ap tail (sym x.0 ∙ inner ∙ y.0)
+        | inl x ↦ elim (opened others vs' ls' c k.0 k.1) [
+          | inl y ↦ ap tail (sym x.0 ∙ inner ∙ y.0)
           | inr y ↦ absurd (y.1 (ap lead (sym inner ∙ x.0)))
-          ]
-      | inr x ↦ elim (opened others vs' ls' c k.0 k.1) [
-            inl y ↦ absurd (x.1 (ap lead (inner ∙ y.0)))
+        ]
+        | inr x ↦ elim (opened others vs' ls' c k.0 k.1) [
+          | inl y ↦ absurd (x.1 (ap lead (inner ∙ y.0)))
           | inr y ↦
               labels_end names others ls ls' [] [] a c h.1 k.1
-                (vals_end names others vs vs' (spaced_labels names ls (93 ∷ a)) (spaced_labels others ls' (93 ∷ c)) h.0 k.0 (closes_labels names [] ls a h.1) (closes_labels others [] ls' c k.1) (sym x.0 ∙ ap (λ t. 32 ∷ t) inner ∙ y.0))
-          ]
+              (vals_end names others vs vs' (spaced_labels names ls (93 ∷ a)) (spaced_labels others ls' (93 ∷ c)) h.0 k.0 (closes_labels names [] ls a h.1) (closes_labels others [] ls' c k.1) (sym x.0 ∙ ap (λ t. 32 ∷ t) inner ∙ y.0))
+        ]
       ]
   ends_by names others (Record vs ls) w a c h k s t e f = absurd (omega (arith, f))
   ends_by names others (Char x) (Char y) a c h k s t e f = (quoted_unique 39 (x ∷ []) (y ∷ []) a c (inr refl) (h, tt) (k, tt) e).1
@@ -551,24 +556,24 @@ mutual
   labels_end names others (more_labelled l v ls) (more_labelled m w ms) x y a c h k e =
       let r = label_unique (text_of names l) (text_of others m) (value_text names v ++ spaced_labels names ls (93 ∷ a)) (value_text others w ++ spaced_labels others ms (93 ∷ c)) h.0.0 k.0.0 (ap tail e) in
       labels_end names others ls ms (text_of names l) (text_of others m) a c h.3 k.3
-        (ends_by names others v w (spaced_labels names ls (93 ∷ a)) (spaced_labels others ms (93 ∷ c)) h.2 k.2 (ends_labels names ls a) (ends_labels others ms c) r.1 (other_lead names others v w (spaced_labels names ls (93 ∷ a)) (spaced_labels others ms (93 ∷ c)) h.2 k.2 r.1))
+      (ends_by names others v w (spaced_labels names ls (93 ∷ a)) (spaced_labels others ms (93 ∷ c)) h.2 k.2 (ends_labels names ls a) (ends_labels others ms c) r.1 (other_lead names others v w (spaced_labels names ls (93 ∷ a)) (spaced_labels others ms (93 ∷ c)) h.2 k.2 r.1))
 
 -- Two records end at the same place, whatever is behind them.
 pub record_ends : (names others : List (List ℕ)) (vs ws : Vals) (ls ms : Labelled) (a c : List ℕ) → IsOrderly names (Record vs ls) → IsOrderly others (Record ws ms) → value_text names (Record vs ls) ++ a ≡ value_text others (Record ws ms) ++ c → a ≡ c
 record_ends names others vs ws ls ms a c h k e =
     let inner : fields_text names vs ls ++ a ≡ fields_text others ws ms ++ c = ap tail e in
-      elim (opened names vs ls a h.0 h.1) [
-        inl x ↦ elim (opened others ws ms c k.0 k.1) [
-            inl y ↦ ap tail (sym x.0 ∙ inner ∙ y.0)
-          | inr y ↦ absurd (y.1 (ap lead (sym inner ∙ x.0)))
-          ]
-      | inr x ↦ elim (opened others ws ms c k.0 k.1) [
-            inl y ↦ absurd (x.1 (ap lead (inner ∙ y.0)))
-          | inr y ↦
-              labels_end names others ls ms [] [] a c h.1 k.1
-                (vals_end names others vs ws (spaced_labels names ls (93 ∷ a)) (spaced_labels others ms (93 ∷ c)) h.0 k.0 (closes_labels names [] ls a h.1) (closes_labels others [] ms c k.1) (sym x.0 ∙ ap (λ t. 32 ∷ t) inner ∙ y.0))
-          ]
+    elim (opened names vs ls a h.0 h.1) [
+      | inl x ↦ elim (opened others ws ms c k.0 k.1) [
+        | inl y ↦ ap tail (sym x.0 ∙ inner ∙ y.0)
+        | inr y ↦ absurd (y.1 (ap lead (sym inner ∙ x.0)))
       ]
+      | inr x ↦ elim (opened others ws ms c k.0 k.1) [
+        | inl y ↦ absurd (x.1 (ap lead (inner ∙ y.0)))
+        | inr y ↦
+            labels_end names others ls ms [] [] a c h.1 k.1
+            (vals_end names others vs ws (spaced_labels names ls (93 ∷ a)) (spaced_labels others ms (93 ∷ c)) h.0 k.0 (closes_labels names [] ls a h.1) (closes_labels others [] ms c k.1) (sym x.0 ∙ ap (λ t. 32 ∷ t) inner ∙ y.0))
+      ]
+    ]
 
 -- Two values with the same text in front, each followed by a space, a newline or `]`, end at the same place, whatever
 -- their tables of names are.
@@ -592,7 +597,7 @@ shown_unique names d Quiet k a c h i e = absurd h
 shown_unique names d l Quiet a c h i e = absurd i
 shown_unique names d (Comm m v) (Comm n w) a c h i e =
     let e' : decimal m ++ (32 ∷ (value_text names v ++ (10 ∷ a))) ≡ decimal n ++ (32 ∷ (value_text names w ++ (10 ∷ c)))
-        = sym (append_assoc (decimal m) (32 ∷ value_text names v) (10 ∷ a)) ∙ ap tail e ∙ append_assoc (decimal n) (32 ∷ value_text names w) (10 ∷ c) in
+    = sym (append_assoc (decimal m) (32 ∷ value_text names v) (10 ∷ a)) ∙ ap tail e ∙ append_assoc (decimal n) (32 ∷ value_text names w) (10 ∷ c) in
     let r = number_unique m n (value_text names v ++ (10 ∷ a)) (value_text names w ++ (10 ∷ c)) (let b = h.0 in omega (arith, b)) (let b = i.0 in omega (arith, b)) e' in
     let q = value_unique names d v w (10 ∷ a) (10 ∷ c) h.1.0 i.1.0 refl refl r.1 in
     (ap (λ t. Comm t v) r.0 ∙ ap (Comm n) q.0, ap tail q.1)
@@ -606,8 +611,8 @@ line_unique : (names : List (List ℕ)) → HasNoRepeats names → (l k : ℕ ×
     → line_text names l.0 l.1 ++ a ≡ line_text names k.0 k.1 ++ c → (l ≡ k) × (a ≡ c)
 line_unique names d (m, l) (n, k) a c h i e =
     let e' : decimal m ++ (32 ∷ (shown_text names l ++ (10 ∷ a))) ≡ decimal n ++ (32 ∷ (shown_text names k ++ (10 ∷ c)))
-        = ap (λ t. decimal m ++ (32 ∷ t)) (sym (append_assoc (shown_text names l) (10 ∷ []) a)) ∙ sym (append_assoc (decimal m) (32 ∷ (shown_text names l ++ 10 ∷ [])) a)
-        ∙ e ∙ append_assoc (decimal n) (32 ∷ (shown_text names k ++ 10 ∷ [])) c ∙ ap (λ t. decimal n ++ (32 ∷ t)) (append_assoc (shown_text names k) (10 ∷ []) c) in
+    = ap (λ t. decimal m ++ (32 ∷ t)) (sym (append_assoc (shown_text names l) (10 ∷ []) a)) ∙ sym (append_assoc (decimal m) (32 ∷ (shown_text names l ++ 10 ∷ [])) a)
+    ∙ e ∙ append_assoc (decimal n) (32 ∷ (shown_text names k ++ 10 ∷ [])) c ∙ ap (λ t. decimal n ++ (32 ∷ t)) (append_assoc (shown_text names k) (10 ∷ []) c) in
     let r = number_unique m n (shown_text names l ++ (10 ∷ a)) (shown_text names k ++ (10 ∷ c)) h.0 i.0 e' in
     let q = shown_unique names d l k a c h.1 i.1 r.1 in
     (ap (λ t. (t, l)) r.0 ∙ ap (λ t. (n, t)) q.0, q.1)

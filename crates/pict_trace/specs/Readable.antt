@@ -1,5 +1,5 @@
 -- The lines that are read: those of values whose records have distinct identifiers as labels, in the order of their bytes.
-use Rattle.std.specs.Prelude.{◌≡◌, ◌≢◌, ℕ, ◌+◌, ◌^◌, ◌<◌, ◌≤◌, max, FitsSigned, List, [], ◌∷◌, ◌++◌, length, slice_get, Option, Some}
+use Rattle.std.specs.Prelude.{◌≡◌, ◌≢◌, ℕ, ◌+◌, ◌^◌, ◌<◌, ◌≤◌, max, FitsSigned, List, [], ◌∷◌, ◌++◌, length}
 use Rattle.std.specs.Ordering.{nat_cmp}
 use Rattle.std.specs.Int.{w64}
 use Rattle.std.specs.List.{AllByRecursion}

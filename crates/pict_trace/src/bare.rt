@@ -8,9 +8,9 @@ ghost use Rattle.pict_core.specs.Plain.{plain_val};
 ghost use Rattle.pict_show.specs.Values.{primitive_text, truth_text};
 ghost use Rattle.pict_trace.specs.Reading.{is_end, IsBareText, IsNoBareText, Reads, BeginsNoValue};
 
-use crate::number::{number_of, signed_of};
 use crate::found::{Found, ReadError};
 use crate::front::{behind, is_end};
+use crate::number::{number_of, signed_of};
 use pict_core::CoreVal;
 use pict_syntax::Prim;
 

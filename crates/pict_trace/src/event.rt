@@ -11,12 +11,7 @@ use pict_syntax::Names;
 use std::alloc::{AllocError, Global};
 
 /// The line of what a step shows: its number, what it shows, and a newline. The only error is want of memory.
-pub fn line(
-    alloc: Global,
-    names: &Names,
-    number: u64,
-    event: &Event,
-) -> Result<Vec<u8>, AllocError>
+pub fn line(alloc: Global, names: &Names, number: u64, event: &Event) -> Result<Vec<u8>, AllocError>
     requires shown { IsShown event.now }
     ensures line { IfOk result (λ line. line.items ≡ line_text names.now number (label_of event.now)) }
 {

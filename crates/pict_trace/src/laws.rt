@@ -4,24 +4,20 @@ ghost use Rattle.pict_trace.specs.Laws.{FreeStepsKeepOrder, LinesAreReadOnce, Ru
 /// A text is the lines of at most one list of numbered labels.
 pub fn law_lines_are_read_once()
     ensures { LinesAreReadOnce }
-{
-}
+{}
 
 /// No value's text is a proper beginning of another's where a space, a newline or `]` follows each, whatever the names.
 pub fn law_values_end_once()
     ensures { ValuesEndOnce }
-{
-}
+{}
 
 /// Free steps keep that records have identifiers as labels, in the order of their bytes, and show values of which this holds.
 pub fn law_free_steps_keep_order()
     ensures { FreeStepsKeepOrder }
-{
-}
+{}
 
 /// Where it holds of a process, what a run of it writes is read back as its labels, as far as their numbers and their
 /// nesting fit, and as nothing else.
 pub fn law_runs_are_read_back()
     ensures { RunsAreReadBack }
-{
-}
+{}

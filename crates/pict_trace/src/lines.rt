@@ -115,10 +115,7 @@ fn number_before<'a>(text: &'a [u8]) -> Result<(u64, &'a [u8]), ReadError>
 }
 
 // The bytes of the string whose quote stood before this text, and the text behind its closing quote.
-fn string_before<'a>(
-    alloc: Global,
-    text: &'a [u8],
-) -> Result<(Vec<u8>, &'a [u8]), ReadError>
+fn string_before<'a>(alloc: Global, text: &'a [u8]) -> Result<(Vec<u8>, &'a [u8]), ReadError>
     ensures some { IfOk result (λ r. EndsString text.now r.0.items r.1.now) }
     ensures bad { result ≡ Err ReadError.Bad → EndsNoString text.now }
 {
@@ -190,11 +187,7 @@ fn read_communication<'a>(
 }
 
 // What a step shows, at the front of a text.
-fn read_shown<'a>(
-    alloc: Global,
-    names: &mut Names,
-    text: &'a [u8],
-) -> Result<Shown<'a>, ReadError>
+fn read_shown<'a>(alloc: Global, names: &mut Names, text: &'a [u8]) -> Result<Shown<'a>, ReadError>
     requires room { length names.old + length text.now < 2 ^ 32 }
     ensures ok { IfOk result (λ r. ReadsShown names.new text.now (plain_label r.label) r.rest.now) }
     ensures bad { result ≡ Err ReadError.Bad → BeginsNoShown text.now }

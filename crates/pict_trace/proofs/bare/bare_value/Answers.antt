@@ -1,5 +1,4 @@
-use Rattle.std.proofs.Common.{◌≡◌, ◌≢◌, ◌∷◌, ℕ, ℤ, Bool, ◌<◌, ◌^◌, FitsSigned, w64, refl, sym, ◌∙◌, ap, rules}
-use Rattle.std.specs.Fmt.{decimal, signed_decimal}
+use Rattle.std.proofs.Common.{◌≡◌, ◌≢◌, ◌∷◌, Bool, sym, ◌∙◌, ap, rules}
 use Rattle.pict_syntax.specs.declared.primitive.Primitive.{Primitive}
 use Rattle.pict_show.specs.Values.{primitive_text, truth_text}
 use Rattle.pict_trace.proofs.Bares.{no_bare, letter_no_number}

@@ -1,4 +1,3 @@
-use Rattle.std.proofs.Common.{◌≡◌}
 use Rattle.pict_trace.proofs.Bares.{bare_found, bare_bad}
 use Rattle.pict_trace.proofs.bare.read_bare.Goals as goal
 

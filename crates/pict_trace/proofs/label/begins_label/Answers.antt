@@ -1,4 +1,4 @@
-use Rattle.std.proofs.Common.{◌≡◌, take}
+use Rattle.std.proofs.Common.{take}
 use Rattle.pict_trace.proofs.Fields.{label_and_rest}
 use Rattle.pict_trace.proofs.label.begins_label.Goals as goal
 

@@ -1,4 +1,4 @@
-use Rattle.std.proofs.Common.{◌≡◌, sym, ◌∙◌}
+use Rattle.std.proofs.Common.{sym, ◌∙◌}
 use Rattle.pict_trace.proofs.Labels.{front_same, not_at_end, equals_at}
 use Rattle.pict_trace.proofs.label.label_len.Goals as goal
 use Rattle.pict_trace.proofs.label.label_len.Goals.{then-len-text-via-then-len-text, then-len-text-via-else-len-text+then-text-len-ne61}

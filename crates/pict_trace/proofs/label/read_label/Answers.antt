@@ -1,4 +1,4 @@
-use Rattle.std.proofs.Common.{◌≡◌, ◌≢◌, ◌∷◌, ℕ, List, take, length, sym, ◌∙◌, inl, inr, ◌⊎◌}
+use Rattle.std.proofs.Common.{take, sym, ◌∙◌, inl, inr}
 use Rattle.pict_trace.proofs.Fields.{label_and_rest, other_label, no_label_after}
 use Rattle.pict_trace.proofs.label.read_label.Goals as goal
 
@@ -9,7 +9,7 @@ pub returns-in-Equal-clause-bad : goal.returns-in-Equal-clause-bad
 returns-in-Equal-clause-bad c e =
     let l = c.in-Some.ensures in
     other_label c.args.before.now c.args.text.now (take c.in-Some.len c.args.text.now) _ l.identifier (label_and_rest c.args.text.now c.in-Some.len l.within l.equals)
-      (λ less. let same = c.cmp.ensures ∙ less in elim c.in-Equal.is [ inl a ↦ cc | inr a ↦ cc ])
+    (λ less. let same = c.cmp.ensures ∙ less in elim c.in-Equal.is [ inl a ↦ cc | inr a ↦ cc ])
 
 pub returns-in_ok-name-in-Less-clause-label : goal.returns-in_ok-name-in-Less-clause-label
 returns-in_ok-name-in-Less-clause-label c =

@@ -1,4 +1,3 @@
-use Rattle.std.proofs.Common.{◌≡◌}
 use Rattle.pict_trace.proofs.Shown.{number_found, number_none, space_none}
 use Rattle.pict_trace.proofs.lines.number_at.Goals as goal
 

@@ -1,4 +1,4 @@
-use Rattle.std.proofs.Common.{◌≡◌, ◌++◌, sym, ◌∙◌, ap, Err}
+use Rattle.std.proofs.Common.{sym, ◌∙◌, ap, Err}
 use Rattle.pict_trace.specs.Plain.{plain_label}
 use Rattle.pict_trace.proofs.Shown.{line_found, line_number_bad, line_shown_bad, number_grows}
 use Rattle.pict_trace.proofs.Growing.{gained_on, grown_on}
@@ -11,7 +11,7 @@ pub returns-in_err-found-clause-bad : goal.returns-in_err-found-clause-bad
 returns-in_err-found-clause-bad c e =
     let n = c.in_ok-number.number in
     line_shown_bad c.args.text.now n.1.now n.0 c.in_ok-number.ensures.small c.in_ok-number.ensures.some
-      (c.read_shown.ensures.bad (let k = rw e at c.from_residual-in_err-found.ensures.1 in c.in_err-found.was ∙ ap Err (sym k)))
+    (c.read_shown.ensures.bad (let k = rw e at c.from_residual-in_err-found.ensures.1 in c.in_err-found.was ∙ ap Err (sym k)))
 
 pub returns-in_err-found-clause-kept : goal.returns-in_err-found-clause-kept
 returns-in_err-found-clause-kept c =

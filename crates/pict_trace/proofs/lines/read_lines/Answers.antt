@@ -1,4 +1,4 @@
-use Rattle.std.proofs.Common.{◌≡◌, ◌+◌, [], map, length, sym, ◌∙◌, ap, subst, Err, arith}
+use Rattle.std.proofs.Common.{◌≡◌, ◌+◌, map, length, sym, ◌∙◌, ap, subst, Err, arith}
 use Rattle.std.proofs.lemmas.List.{length-map}
 use Rattle.pict_syntax.specs.Names.{with_names}
 use Rattle.pict_trace.specs.Plain.{plain_line}
@@ -25,7 +25,7 @@ lines-preserved c =
     let items = pushed plain_line c.lines.lines.items c.push.new.self.items c.in-Ok.found.line c.in_ok-push-in-Ok.ensures.items in
     record {
       before = subst (λ l. BeginsWithLines new c.args.text.now l c.in-Ok.found.rest.now) (sym items)
-        (one_line_more c.lines.names new c.args.text.now c.lines.rest.now c.in-Ok.found.rest.now lines line c.lines.invariant.before c.in-Ok.ensures.gained c.in-Ok.ensures.ok);
+          (one_line_more c.lines.names new c.args.text.now c.lines.rest.now c.in-Ok.found.rest.now lines line c.lines.invariant.before c.in-Ok.ensures.gained c.in-Ok.ensures.ok);
       gained = lines_gained c.args.names.now c.lines.names new lines line c.lines.invariant.before.shown c.lines.invariant.gained c.in-Ok.ensures.gained ∙ ap (λ l. with_names c.args.names.now (labels_in new l)) (sym items);
       grown = grown_on c.args.text.now c.lines.rest.now c.in-Ok.found.rest.now c.args.names.now c.lines.names new c.lines.invariant.grown c.in-Ok.ensures.grows;
     }
@@ -38,7 +38,7 @@ returns-in-Err-Bad-clause-bad c number e =
     let same : c.len.result + 1 ≡ number = cc in
     let count : length (map plain_line c.lines.lines.items) ≡ length c.lines.lines.items = length-map c.lines.lines.items plain_line in
     first_bad c.lines.names c.args.text.now c.lines.rest.now (map plain_line c.lines.lines.items) number c.lines.invariant.before (let k = c.len.ensures in omega (arith, same, k, count))
-      (some_left c.lines.rest.now (sym c.is_empty.ensures ∙ c.lines-test.true)) (c.read_line.ensures.bad (c.in-Err-Bad.is ∙ ap Err c.in-Err-Bad.field-0-is))
+    (some_left c.lines.rest.now (sym c.is_empty.ensures ∙ c.lines-test.true)) (c.read_line.ensures.bad (c.in-Err-Bad.is ∙ ap Err c.in-Err-Bad.field-0-is))
 
 pub returns-in-Err-Bad-clause-kept : goal.returns-in-Err-Bad-clause-kept
 returns-in-Err-Bad-clause-kept c = gained_on c.args.text.now c.lines.rest.now c.args.names.now c.lines.names c.read_line.new.names c.lines.invariant.grown c.read_line.ensures.kept

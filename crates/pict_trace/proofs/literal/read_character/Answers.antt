@@ -1,4 +1,4 @@
-use Rattle.std.proofs.Common.{◌≡◌, ◌∷◌}
+use Rattle.std.proofs.Common.{◌∷◌}
 use Rattle.pict_trace.proofs.Literals.{character_only}
 use Rattle.pict_trace.proofs.literal.read_character.Goals as goal
 

@@ -1,9 +1,7 @@
-use Rattle.std.proofs.Common.{◌≡◌, ◌∷◌, ◌++◌, [], map, sym, ◌∙◌, ap, append_assoc, arith}
-use Rattle.std.proofs.lemmas.List.{map-append}
-use Rattle.std.specs.List.{flat_map}
-use Rattle.pict_syntax.specs.Tokens.{item_bytes, items_bytes}
+use Rattle.std.proofs.Common.{◌++◌, map, ◌∙◌, ap}
+use Rattle.pict_syntax.specs.Tokens.{items_bytes}
 use Rattle.pict_show.specs.Values.{item_of}
-use Rattle.pict_trace.proofs.Strings.{must_begin, must_step, string_bad, bytes_more, are_more}
+use Rattle.pict_trace.proofs.Strings.{must_step, string_bad, bytes_more, are_more}
 use Rattle.pict_trace.proofs.literal.string_bytes.Goals as goal
 
 pub items-preserved : goal.items-preserved

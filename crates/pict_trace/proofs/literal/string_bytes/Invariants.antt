@@ -1,4 +1,4 @@
-use Rattle.std.proofs.Common.{◌≡◌, ◌++◌, ◌∷◌, ℕ, List, length, map}
+use Rattle.std.proofs.Common.{◌≡◌, ◌++◌, length, map}
 use Rattle.pict_syntax.specs.Tokens.{items_bytes}
 use Rattle.pict_show.specs.Values.{item_of}
 use Rattle.pict_trace.specs.Readable.{AreBytes}
