@@ -12,5 +12,3 @@ pub use laws::{law_nodes_stand, law_process_is_read_back};
 pub use pattern::CodePat;
 pub use writing::{ListError, listing};
 
-#[cfg(test)]
-mod tests;

@@ -10,5 +10,3 @@ mod sums;
 
 pub use lowering::lower;
 
-#[cfg(test)]
-mod tests;

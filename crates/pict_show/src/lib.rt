@@ -7,5 +7,3 @@ mod value;
 pub use quoted::{write_quoted, written};
 pub use value::{write_numbered, write_value};
 
-#[cfg(test)]
-mod tests;
