@@ -11,4 +11,3 @@ pub use instruction::{Code, Node, Op, Operand};
 pub use laws::{law_nodes_stand, law_process_is_read_back};
 pub use pattern::CodePat;
 pub use writing::{ListError, listing};
-

@@ -9,4 +9,3 @@ mod places;
 mod sums;
 
 pub use lowering::lower;
-

@@ -6,4 +6,3 @@ mod value;
 
 pub use quoted::{write_quoted, written};
 pub use value::{write_numbered, write_value};
-
