@@ -100,14 +100,6 @@ nests_at ts i h g m =
 pub nests_depth : (ts : List Token) (i : ℕ) → IsTooNestedAt ts i → NESTING_LIMIT < max (depth_behind ts i) (depth_behind ts (i + 1))
 nests_depth ts i n = subst (λ m. NESTING_LIMIT < m) (nesting_of ts i n.1 n.2 n.0 n.3) n.4
 
--- and where it stops, neither that token nor one behind it is
-pub not_nested_behind : (ts : List Token) (i : ℕ) → run start (take (i + 1) ts) ≡ stop → (j : ℕ) → i ≤ j → IsTooNestedAt ts j → ⊥
-not_nested_behind ts i e j h n =
-    let us : List Token = take (j + 1) ts ++ n.1 in
-    let l : take (i + 1) us ≡ take (i + 1) ts = take_part (i + 1) (j + 1) ts n.1 (omega (arith, h)) (omega (arith, n.0)) in
-    let all : take (i + 1) ts ++ drop (i + 1) us ≡ us = ap (λ a. a ++ drop (i + 1) us) (sym l) ∙ take-append-drop (i + 1) us in
-    no_prefix (take (i + 1) ts) e (drop (i + 1) us, n.2, subst (λ a. Tree a n.2) (sym all) n.3)
-
 -- no state up to the one behind the first `n` tokens is too deep
 abbrev pub Shallow : List Token → ℕ → Type 0
 Shallow ts n = (j : ℕ) → j ≤ n → depth_behind ts j ≤ NESTING_LIMIT

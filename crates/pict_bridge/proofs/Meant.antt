@@ -14,7 +14,7 @@ use Rattle.pict_typing.specs.Erasing.{erased, erased_types, erased_labels, erase
 use Rattle.pict_typing.specs.Worlds.{World, MayStandFor, IsBelow}
 use Rattle.pict_erase.specs.Embedding.{MayStandInOrder}
 use Rattle.pict_erase.proofs.Erased.{same_kinds, erased_arg, erased_args, arguments_erased, replace_erased, replace_types_erased, replace_labels_erased, arg_erased}
-use Rattle.pict_erase.proofs.Growing.{rename_arg}
+use Rattle.pict_erase.proofs.Growing.{rename_arg, type_in_renamed, head_in_renamed, kinds_with}
 use Rattle.pict_rules.specs.Environments.{Environment, context_of}
 use Rattle.pict_rules.specs.Regular.{IsTypeIn, kinds_in}
 use Rattle.pict_opened.specs.Opening.{meaning}
@@ -39,20 +39,12 @@ renamed_args f (a ∷ args) = rename_arg f a ∷ renamed_args f args
 one_crosses : {q r : Replacement} {g f : ℕ → ℕ} (a : PlainArg) → Crosses q r g f → Crosses (with_arg (rename_arg f a) q) (with_arg a r) (beyond g) f
 one_crosses {q = q} {r = r} {g = g} {f = f} a x = record { types_ = go; heads_ = go2 }
   where
-    first : (a : PlainArg) → type_in (rename_arg f a) ≡ rename f (type_in a)
-    first (Plain t) = refl
-    first (Op n t) = refl
-
-    first_head : (a : PlainArg) → head_in (rename_arg f a) ≡ rename_head f (head_in a)
-    first_head (Plain t) = refl
-    first_head (Op n t) = refl
-
     go : (i : ℕ) → (with_arg (rename_arg f a) q).type_of (beyond g i) ≡ rename f ((with_arg a r).type_of i)
-    go zero = first a
+    go zero = type_in_renamed f a
     go (suc i) = x.types_ i
 
     go2 : (i : ℕ) → (with_arg (rename_arg f a) q).head_of (beyond g i) ≡ rename_head f ((with_arg a r).head_of i)
-    go2 zero = first_head a
+    go2 zero = head_in_renamed f a
     go2 (suc i) = x.heads_ i
 
 pub beyond_last : (n : ℕ) (g : ℕ → ℕ) → beyond_times n (beyond g) ≡ beyond (beyond_times n g)
@@ -102,15 +94,11 @@ AreWithinBounds e no_bound earlier args = Unit {0}
 AreWithinBounds e (bounds b bs) earlier [] = Unit {0}
 AreWithinBounds e (bounds b bs) earlier (a ∷ args) = IsWithinBound e b earlier a × AreWithinBounds e bs (earlier ++ a ∷ []) args
 
-kinds_past : {f : ℕ → ℕ} {ks js : List Kind} (n : ℕ) → KeepsKinds f ks js → KeepsKinds (beyond_times n f) (with_parameters n ks) (with_parameters n js)
-kinds_past zero x = x
-kinds_past (suc n) x = keeps_beyond refl (kinds_past n x)
-
 arg_means : {e : Environment} {vs : List (ℕ × core.Val)} {f : ℕ → ℕ} {w : World} (a : PlainArg) → Realises e vs f w → ArgIsWellFormed e.names (kinds_in e) a → ArgIsWellFormed w.names (kinds w.type_variables) (meant f a)
 arg_means (Plain t) r h = type_means t r h
 arg_means {e = e} {f = f} {w = w} (Op n t) r h =
     subst (λ ns. IsWellFormed ns (with_parameters n (kinds w.type_variables)) (rename (beyond_times n f) (erased t))) (sym r.world_names)
-    (formed_renamed e.names (erased t) (kinds_past n (record { each = λ i k q. r.embeds.kept i k (ap (λ z. kind_at z i) (same_kinds (context_of e)) ∙ q) })) (arg_erased e.names (kinds_in e) (Op n t) h))
+    (formed_renamed e.names (erased t) (kinds_with n (record { each = λ i k q. r.embeds.kept i k (ap (λ z. kind_at z i) (same_kinds (context_of e)) ∙ q) })) (arg_erased e.names (kinds_in e) (Op n t) h))
 
 one_may : {e : Environment} {vs : List (ℕ × core.Val)} {f : ℕ → ℕ} {w : World} (b : PlainBound) (a : PlainArg) (earlier : List PlainArg) → Realises e vs f w → ArgIsWellFormed e.names (kinds_in e) a → IsOfKind a b → IsWithinBound e b earlier a → MayStandFor w (replace_bound (arguments (all_meant f earlier)) (rename_bound (beyond_times (length earlier) f) (erased_bound b))) (meant f a)
 one_may Free (Plain t) earlier r h k d = record { formed = arg_means (Plain t) r h; of_kind = tt; below = tt }

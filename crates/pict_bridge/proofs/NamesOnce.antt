@@ -18,11 +18,12 @@ use Rattle.pict_rules.specs.Environments.{KnownValue, known_type}
 use Rattle.pict_rules.specs.SameNames.{value_names, bound_names, EachMark, IsNoStop}
 use Rattle.pict_rules.proofs.SameNamesAsked.{left, right}
 use Rattle.pict_rules.proofs.BoundIds.{value_ids, field_value_ids, field_type_ids, pats_value_ids, labelled_value_ids}
-use Rattle.pict_rules.proofs.Names.{id_names}
+use Rattle.pict_rules.proofs.Names.{id_names, ids_of_both}
 use Rattle.pict_rules.proofs.Opened.{InPattern, binds_pat, binds_fields, then_binds, binds_none}
 use Rattle.pict_rules.proofs.Kept.{pattern_keeps_annotation}
 use Rattle.pict_translation.specs.Patterns.{Opened, opened, all_opened, labelled_opened, pat_names, names_in, labelled_names_in, names_before, names_after}
 use Rattle.pict_opened.proofs.Ordered.{ordered_last}
+use Rattle.pict_scope.proofs.BindersRead.{same_patterns}
 
 eq_itself : (n : ℕ) → nat_eq n n ≡ true
 eq_itself n = eq-eqb n n refl
@@ -58,10 +59,6 @@ no_name_twice (Some n) x h = absurd (stopped (h.each (stands_twice S3 x.span) (i
     stopped : IsNoStop (stands_twice S3 x.span) → ⊥
     stopped e = cc
 
-values_pattern : (xs : List Id) (a : Around) → (with_values xs a).pattern_values ≡ a.pattern_values
-values_pattern [] a = refl
-values_pattern (x ∷ xs) a = values_pattern xs (with_value x a)
-
 abbrev IsOnce : ℕ → Around → Type 0
 IsOnce m a = times m (bound_names a.pattern_values) ≤ 1
 
@@ -74,7 +71,7 @@ once_kept (value_use s n) a m c h = h
 once_kept (type_use s n) a m c h = h
 once_kept (binds_value x) a m c h = h
 once_kept (binds_type x o) a m c h = once_kept o _ m c h
-once_kept (binds_all xs) a m c h = subst (λ bs. times m (bound_names bs) ≤ 1) (sym (values_pattern xs a)) h
+once_kept (binds_all xs) a m c h = subst (λ bs. times m (bound_names bs) ≤ 1) (sym (same_patterns xs a)) h
 once_kept (defines x) a m c h = h
 once_kept (pattern_value x) a m c h = go (nat_eq m x.name.0) refl
   where
@@ -123,12 +120,8 @@ labelled_put names l y (x ∷ xs) m = go (is_lt (label_cmp names l x.0)) (labell
         let f = times_both m x.1.names (labelled_names_in xs) in
         omega (arith, e, f, k)
 
-ids_both : (xs ys : List Id) → id_names (xs ++ ys) ≡ id_names xs ++ id_names ys
-ids_both [] ys = refl
-ids_both (x ∷ xs) ys = ap (λ ns. x.name.0 ∷ ns) (ids_both xs ys)
-
 times_ids : (m : ℕ) (xs ys : List Id) → times m (id_names (xs ++ ys)) ≡ times m (id_names xs) + times m (id_names ys)
-times_ids m xs ys = ap (times m) (ids_both xs ys) ∙ times_both m (id_names xs) (id_names ys)
+times_ids m xs ys = ap (times m) (ids_of_both xs ys) ∙ times_both m (id_names xs) (id_names ys)
 
 mutual
   unfolding opened

@@ -49,12 +49,9 @@ use Rattle.pict_bridge.proofs.NamesOnce.{times, unknown_times, same_times, funct
 use Rattle.pict_bridge.proofs.Binding.{slot_times, named_times, slots_both, Binds, names_bind, function_names_bind, answer_is}
 use Rattle.pict_bridge.proofs.Realised.{type_means, opened_grows, realises_after}
 use Rattle.pict_bridge.proofs.Judged.{Values, SentBy, ProcessStands, ReadsAt, Follows, RestStands}
+use Rattle.pict_rules.proofs.OwnBinders.{opened_count}
 
 -- ---- what follows a pattern
-
-count_added : (bs : List KnownType) (c : PlainContext) → length (variables (entries_of bs ++ c)) ≡ length (variables c) + length bs
-count_added [] c = omega arith
-count_added (b ∷ bs) c = let e = count_added bs c in omega (arith, e)
 
 -- more variables after those of w, and as many names
 count_inside : (w : World) (n : ℕ) (ts : List PlainType) → length (map (shifted n) w.variables ++ ts) ≡ length w.variables + length ts
@@ -62,7 +59,7 @@ count_inside w n ts = length-append (map (shifted n) w.variables) ts ∙ ap (λ 
 
 -- what follows what is opened
 pub opened_follows : (e : Environment) (x : Extension) (f : ℕ → ℕ) (w : World) (slots : List (Option ℕ)) (opening : TypeContext → ℕ → List PlainType → Type 0) (p : AddsWhatIsOpened e x f slots opening) → Embeds (moved p.more 0) w.type_variables p.context → Follows e f w (extended e x) p.placed.later (worlds.opened p.context p.more p.types_ w)
-opened_follows e x f w slots opening p i = record { more = p.more; count = opened x; grows = opened_grows w p.context p.more p.types_ i; length_ = count_added x.binders e.context; extends_ = p.placed.extends_ }
+opened_follows e x f w slots opening p i = record { more = p.more; count = opened x; grows = opened_grows w p.context p.more p.types_ i; length_ = opened_count x.binders e.context; extends_ = p.placed.extends_ }
 
 -- x?p = rest, where the rest stands after the pattern
 pub pattern_reads : (e : Environment) (p : Pat) (t : PlainType) (x : Extension) (rest : Around → Placed) → OpensAgainst e p t x → ((m : ℕ) → times m (id_names (value_ids p)) ≤ 1) → value_names x.values ≡ id_names (value_ids p) → IsTypeIn e t

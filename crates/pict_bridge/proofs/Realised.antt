@@ -24,11 +24,12 @@ use Rattle.pict_erase.proofs.Growing.{type_grown, value_grown}
 use Rattle.pict_opened.specs.Opening.{meaning, IsPlaced}
 use Rattle.pict_opened.proofs.Joining.{type_after}
 use Rattle.pict_opened.proofs.Placed.{known_renamed}
-use Rattle.pict_opened.proofs.FieldsOpen.{slice_first, slice_second}
+use Rattle.pict_opened.proofs.FieldsOpen.{slice_second}
 use Rattle.pict_bridge.specs.Standing.{Longer}
 use Rattle.pict_bridge.specs.Realising.{IsRealised, Realises}
 use Rattle.pict_bridge.proofs.Standing.{has_longer, closed_longer}
 use Rattle.pict_bridge.proofs.Binding.{slot_times, Binds}
+use Rattle.pict_typing.proofs.ValuesPut.{stays_before}
 
 -- ---- meanings
 
@@ -88,7 +89,7 @@ opened_grows w d n ts j = record {
   names_ = refl;
   messages_ = refl;
   embeds = j;
-  variables_ = λ l t q. slice_first (map (shifted n) w.variables) ts l (shifted n t) (slice_get-map (shifted n) w.variables l ∙ ap (option_map (shifted n)) q);
+  variables_ = λ l t q. stays_before (map (shifted n) w.variables) ts l (shifted n t) (slice_get-map (shifted n) w.variables l ∙ ap (option_map (shifted n)) q);
 }
 
 pub realises_after : {e : Environment} {vs us : List (ℕ × core.Val)} {f : ℕ → ℕ} {w : World} (x : Extension) (slots : List (Option ℕ)) (d : TypeContext) (n : ℕ) (ts : List PlainType) → Realises e vs f w → (p : IsPlaced e f d n slots ts x) → Embeds (moved n 0) w.type_variables d → Binds slots (length w.variables) vs us → ((m : ℕ) → known_type x.values m ≡ None → slot_times m slots ≡ 0) → Realises (extended e x) us p.later (worlds.opened d n ts w)

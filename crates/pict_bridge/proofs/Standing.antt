@@ -17,8 +17,8 @@ use Rattle.pict_translation.specs.Arguments.{with_value}
 use Rattle.pict_erase.specs.Embedding.{Embeds, Grows}
 use Rattle.pict_erase.proofs.Growing.{value_grown}
 use Rattle.pict_opened.proofs.Opened.{embeds_same}
-use Rattle.pict_opened.proofs.FieldsOpen.{slice_first}
 use Rattle.pict_bridge.specs.Standing.{Stands, Longer, Sends, Takes, OnItsWay}
+use Rattle.pict_typing.proofs.ValuesPut.{stays_before}
 
 -- ---- longer worlds
 
@@ -39,7 +39,7 @@ longer_grows {w = w} l = subst (Grows (λ i. i) w) (sym l.is) (record {
   names_ = refl;
   messages_ = refl;
   embeds = embeds_same w.type_variables;
-  variables_ = λ i t e. slice_first w.variables l.further i (rename (λ j. j) t) (e ∙ ap Some (sym (rename_same t (record { each = λ j. refl }))));
+  variables_ = λ i t e. stays_before w.variables l.further i (rename (λ j. j) t) (e ∙ ap Some (sym (rename_same t (record { each = λ j. refl }))));
 })
 
 pub has_longer : {w v : World} {u : Val} {t : PlainType} → AreClosedTypes w.names w.messages → Longer w v → HasType w u t → HasType v u t

@@ -15,14 +15,11 @@ use Rattle.pict_code.specs.Instruction.{Node, RecordPat}
 use Rattle.pict_code.specs.Plain.{plain_pat, plain_pat_field, pats_of, labelled_pats_of, plain_node}
 use Rattle.pict_code.specs.Listing.{pattern_text, pattern_texts, labelled_pattern_texts, line_text, lines_from}
 use Rattle.pict_code.specs.Written.{gap, spaced}
+use Rattle.pict_show.proofs.Pieces.{join_rest}
 
 more_joined : (x : List ℕ) (xs : List (List ℕ)) (y : List ℕ) → join_with_byte 32 (x ∷ xs ++ y ∷ []) ≡ join_with_byte 32 (x ∷ xs) ++ (32 ∷ y)
 more_joined x [] y = refl
 more_joined x (z ∷ zs) y = ap (λ t. x ++ (32 ∷ t)) (more_joined z zs y) ∙ sym (append_assoc x (32 ∷ join_with_byte 32 (z ∷ zs)) (32 ∷ y))
-
-joined_rest : (x : List ℕ) (ys : List (List ℕ)) → join_with_byte 32 (x ∷ ys) ≡ x ++ flat_map (λ t. 32 ∷ t) ys
-joined_rest x [] = sym (append-nil x)
-joined_rest x (y ∷ ys) = ap (λ t. x ++ (32 ∷ t)) (joined_rest y ys)
 
 more_spaced : (xs : List (List ℕ)) (y : List ℕ) → flat_map (λ t. 32 ∷ t) (xs ++ y ∷ []) ≡ flat_map (λ t. 32 ∷ t) xs ++ (32 ∷ y)
 more_spaced [] y = ap (λ t. 32 ∷ t) (append-nil y)
@@ -78,7 +75,7 @@ two_spaced [] ys true e = refl
 two_spaced [] ys false e = cc
 two_spaced (x ∷ xs) ys true e = absurd (grind (arith, nat_tests))
 two_spaced (x ∷ []) [] false e = sym (append-nil x)
-two_spaced (x ∷ []) (y ∷ ys) false e = ap (λ t. x ++ (32 ∷ t)) (joined_rest y ys)
+two_spaced (x ∷ []) (y ∷ ys) false e = ap (λ t. x ++ (32 ∷ t)) (join_rest y ys)
 two_spaced (x ∷ z ∷ zs) ys false e =
     let later : (length (z ∷ zs) == 0) ≡ false = grind (arith, nat_tests) in
     ap (λ t. x ++ (32 ∷ t)) (two_spaced (z ∷ zs) ys false later) ∙ sym (append_assoc x (32 ∷ join_with_byte 32 (z ∷ zs)) (spaced false ys))

@@ -7,8 +7,7 @@ ghost use Rattle.pict_code.specs.Listing.{pattern_text, frame_text, line_text};
 ghost use Rattle.pict_code.specs.Written.{gap, fields_text, labelled_text, op_text, input_text};
 
 use crate::{CodePat, Node, Op, Operand};
-use itoa::Buffer;
-use pict_show::{write_numbered, write_value};
+use pict_show::{write_decimal, write_numbered, write_value};
 use pict_syntax::{Name, Names};
 use std::alloc::{AllocError, Global};
 
@@ -29,14 +28,6 @@ pub fn line_of(
     write_op(alloc, &mut line, names, &node.op)?;
     line.push(b'\n')?;
     Ok(line)
-}
-
-/// Writes a number in decimal.
-fn write_decimal(line: &mut Vec<u8>, number: u64) -> Result<(), AllocError>
-    ensures { OnOk result (line.new.items ≡ line.old.items ++ decimal number) }
-{
-    let mut buffer = Buffer::new();
-    line.extend_from_slice(buffer.format(number).as_bytes())
 }
 
 /// Writes a space and the number of a part.

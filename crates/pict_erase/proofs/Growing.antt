@@ -31,29 +31,29 @@ abbrev pub rename_arg : (ℕ → ℕ) → PlainArg → PlainArg
 rename_arg f (Plain t) = Plain (rename f t)
 rename_arg f (Op n t) = Op n (rename (beyond_times n f) t)
 
+pub type_in_renamed : (f : ℕ → ℕ) (a : PlainArg) → type_in (rename_arg f a) ≡ rename f (type_in a)
+type_in_renamed f (Plain t) = refl
+type_in_renamed f (Op n t) = refl
+
+pub head_in_renamed : (f : ℕ → ℕ) (a : PlainArg) → head_in (rename_arg f a) ≡ rename_head f (head_in a)
+head_in_renamed f (Plain t) = refl
+head_in_renamed f (Op n t) = refl
+
 arg_crosses : (a : PlainArg) (f : ℕ → ℕ) → Crosses (arguments (rename_arg f a ∷ [])) (arguments (a ∷ [])) (beyond f) f
 arg_crosses a f = record { types_ = go; heads_ = go2 }
   where
-    first : (a : PlainArg) → type_in (rename_arg f a) ≡ rename f (type_in a)
-    first (Plain t) = refl
-    first (Op n t) = refl
-
-    first_head_ : (a : PlainArg) → head_in (rename_arg f a) ≡ rename_head f (head_in a)
-    first_head_ (Plain t) = refl
-    first_head_ (Op n t) = refl
-
     go : (i : ℕ) → (arguments (rename_arg f a ∷ [])).type_of (beyond f i) ≡ rename f ((arguments (a ∷ [])).type_of i)
-    go zero = first a
+    go zero = type_in_renamed f a
     go (suc i) = refl
 
     go2 : (i : ℕ) → (arguments (rename_arg f a ∷ [])).head_of (beyond f i) ≡ rename_head f ((arguments (a ∷ [])).head_of i)
-    go2 zero = first_head_ a
+    go2 zero = head_in_renamed f a
     go2 (suc i) = refl
 
 pub arg_renamed : (a : PlainArg) (f : ℕ → ℕ) (t : PlainType) → replace (arguments (rename_arg f a ∷ [])) (rename (beyond f) t) ≡ rename f (replace (arguments (a ∷ [])) t)
 arg_renamed a f t = replace_renamed t (arg_crosses a f)
 
-kinds_with : {f : ℕ → ℕ} {ks js : List Kind} (n : ℕ) → KeepsKinds f ks js → KeepsKinds (beyond_times n f) (with_parameters n ks) (with_parameters n js)
+pub kinds_with : {f : ℕ → ℕ} {ks js : List Kind} (n : ℕ) → KeepsKinds f ks js → KeepsKinds (beyond_times n f) (with_parameters n ks) (with_parameters n js)
 kinds_with zero x = x
 kinds_with (suc n) x = keeps_beyond refl (kinds_with n x)
 

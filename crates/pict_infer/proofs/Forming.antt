@@ -58,9 +58,6 @@ not_past m n h = go (nat_lt m n) refl
     go false e = refl
     go true e = absurd (omega (arith, h, ltb-true m n e))
 
-pub size_clear : (c : PlainContext) (t : PlainType) (s : Span) → weight_of (variables c) t ≤ 100000 → height_of (variables c) t ≤ 1000 → size_stop c t s ≡ None
-size_clear c t s w h = rw (not_past 100000 (weight_of (variables c) t) w, not_past 1000 (height_of (variables c) t) h) refl
-
 pub size_past : (c : PlainContext) (t : PlainType) (s : Span) → (weight_of (variables c) t ≤ 100000 → height_of (variables c) t ≤ 1000 → ⊥) → IsStopped (size_stop c t s) (Named K4 s)
 size_past c t s h = too_big c t s h
 

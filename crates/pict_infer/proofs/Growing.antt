@@ -21,17 +21,11 @@ use Rattle.pict_infer.specs.Adding.{extension_of}
 use Rattle.pict_infer.specs.Environments.{environment_of, known_entries, known_names, with_value, GrewFrom, HasGrownFrom, IsPlaceOf, MayBeAdded}
 use Rattle.pict_infer.proofs.Depths.{values_more, values_both, types_length, deepest_both, deepest_one, values_opened, names_more}
 use Rattle.pict_infer.proofs.Beside.{value_here}
-
-pub on_ok : {A E P Q : Type 0} (r : Result A E) → (P → Q) → OnOk r P → OnOk r Q
-on_ok (Ok x) f h = f h
-on_ok (Err e) f h = tt
+use Rattle.pict_syntax.proofs.ListLemmas.{map_reverse}
+use Rattle.pict_rules.proofs.OwnBinders.{opened_count}
 
 pub environment : (ns ms : List (List ℕ)) (c d : PlainContext) (vs ws : List KnownValue) → ns ≡ ms → c ≡ d → vs ≡ ws → (let e : Environment = record { names = ns; context = c; values = vs } in e) ≡ record { names = ms; context = d; values = ws }
 environment ns ms c d vs ws p q r = three (λ (n : List (List ℕ)) (x : PlainContext) (v : List KnownValue). let e : Environment = record { names = n; context = x; values = v } in e) p q r
-
-pub opened_count : (bs : List KnownType) (c : PlainContext) → length (variables (entries_of bs ++ c)) ≡ length (variables c) + length bs
-opened_count [] c = omega arith
-opened_count (b ∷ bs) c = omega (arith, opened_count bs c)
 
 -- type variables are opened
 pub opened_types : (e : Env) (ns : List (List ℕ)) (c : PlainContext) (bs : List KnownType) → ns ≡ known_names e → c ≡ entries_of bs ++ known_entries e → (let d : Environment = record { names = ns; context = c; values = known_values (length (variables c)) e.values.items } in d) ≡ extended (environment_of e) (only_types bs)
@@ -59,12 +53,6 @@ added_all e x ns c vs p q r b =
 
 pub grew_types : (e d : Env) (inner : PlainContext) → known_names d ≡ known_names e → known_entries d ≡ inner ++ known_entries e → d.values.items ≡ e.values.items → GrewFrom e d
 grew_types e d inner p q r = record { texts = p; inner = inner; entries = q; nearer = []; values = r ∙ sym (append-nil e.values.items) }
-
-pub map_reverse : {A B : Type 0} (f : A → B) (xs : List A) → map f (reverse xs) ≡ reverse (map f xs)
-map_reverse f [] = refl
-map_reverse f (x ∷ xs) =
-    ap (map f) (reverse-append (x ∷ []) xs) ∙ map-append f (reverse xs) (x ∷ []) ∙ ap (λ z. z ++ f x ∷ []) (map_reverse f xs)
-    ∙ sym (reverse-append (f x ∷ []) (map f xs))
 
 -- the type variables that are still to be opened, the next one last
 pub all_left : (bs : List Binder) (c : PlainContext) → entries_of (map known_type (reverse bs)) ++ c ≡ entries_of (known_types bs) ++ c

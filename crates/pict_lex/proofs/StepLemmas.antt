@@ -70,7 +70,7 @@ named_last (blank byte ∷ ps) p = named_last ps p
 named_last (comment bytes ∷ ps) p = named_last ps p
 named_last (token bytes form ∷ ps) p = ap (λ t. named_by form ++ t) (named_last ps p) ∙ sym (append_assoc (named_by form) (named ps) (named (p ∷ [])))
 
-with_names_last : (names xs ys : List (List ℕ)) → with_names names (xs ++ ys) ≡ with_names (with_names names xs) ys
+pub with_names_last : (names xs ys : List (List ℕ)) → with_names names (xs ++ ys) ≡ with_names (with_names names xs) ys
 with_names_last names [] ys = refl
 with_names_last names (x ∷ xs) ys = with_names_last (with_name names x) xs ys
 

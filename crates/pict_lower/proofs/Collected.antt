@@ -10,10 +10,6 @@ use Rattle.pict_code.specs.Frames.{in_value, in_values, in_labelled}
 use Rattle.pict_code.specs.Levels.{has}
 use Rattle.pict_code.proofs.Levels.{has_append}
 
-pub on_ok : {T E P Q : Type 0} (r : Result T E) → (P → Q) → OnOk r P → OnOk r Q
-on_ok (Ok x) f h = f h
-on_ok (Err e) f h = tt
-
 or_none : (a : Bool) → a || false ≡ a
 or_none true = refl
 or_none false = refl

@@ -18,6 +18,7 @@ use Rattle.pict_lower.specs.Parts.{parts, parts_of, all_places, plain_place, fra
 use Rattle.pict_lower.specs.Laid.{IsLaid, IsNext, has_first, has_second, frame_or_none, frame_back, size_back}
 use Rattle.pict_lower.specs.declared.places.Place as made
 use Rattle.pict_lower.proofs.Piling.{parts_follow, opened, From, from}
+use Rattle.pict_syntax.proofs.ListLemmas.{map_reverse}
 
 -- ---- reading from the end
 
@@ -30,24 +31,6 @@ get_map : {A B : Type 0} (f : A → B) (xs : List A) (k : ℕ) (d : A) → get_o
 get_map f [] k d = refl
 get_map f (x ∷ xs) zero d = refl
 get_map f (x ∷ xs) (suc k) d = get_map f xs k d
-
-pub frame_there : (nodes : List code.Node) (k : ℕ) (x : code.Node) → k < length nodes → x ≡ get_or nodes (length nodes - 1 - k) x
-    → x.frame.items ≡ frame_back true (reverse (map plain_node nodes)) k
-frame_there nodes k x h is =
-    let count : length (map plain_node nodes) ≡ length nodes = length-map nodes plain_node in
-    let turned : length (reverse (map plain_node nodes)) ≡ length nodes = length-reverse (map plain_node nodes) ∙ count in
-    let found : get_or (reverse (map plain_node nodes)) k (plain_node x) ≡ plain_node x =
-    get_or-reverse (map plain_node nodes) k (plain_node x) (omega arith) ∙ ap (λ n. get_or (map plain_node nodes) (n - 1 - k) (plain_node x)) count
-    ∙ get_map plain_node nodes (length nodes - 1 - k) x ∙ ap plain_node (sym is) in
-    ap (λ (n : Node). n.frame) (sym found) ∙ ap frame_or_none (sym (slice_get-get_or (reverse (map plain_node nodes)) k (plain_node x) (omega arith)))
-
-pub frame_past : (nodes : List code.Node) (k : ℕ) → length nodes ≤ k → [] ≡ frame_back true (reverse (map plain_node nodes)) k
-frame_past nodes k h =
-    let turned : length (reverse (map plain_node nodes)) ≡ length nodes = length-reverse (map plain_node nodes) ∙ length-map nodes plain_node in
-    ap frame_or_none (sym (past (reverse (map plain_node nodes)) k (omega arith)))
-
-pub size_there : (sizes : List ℕ) (k : ℕ) → k < length sizes → get_or sizes (length sizes - 1 - k) 0 ≡ size_back true (reverse sizes) k
-size_there sizes k h = sym (get_or-reverse sizes k 0 h) ∙ sym (unwrap_or-slice_get (reverse sizes) k 0)
 
 pub size_past : (sizes : List ℕ) (k : ℕ) → length sizes ≤ k → 0 ≡ size_back true (reverse sizes) k
 size_past sizes k h =
@@ -161,11 +144,6 @@ laid_more number p rest nodes nodes' sizes sizes' node count e f is same laid = 
   sizes = ap reverse f ∙ reverse-append sizes (count ∷ []) ∙ ap (λ n. n ∷ reverse sizes) same ∙ ap (λ l. size p.process ∷ l) laid.sizes
       ∙ ap (map (λ (q : Place). size q.process)) (sym (opened p rest));
 }
-
-map_reverse : {A B : Type 0} (f : A → B) (xs : List A) → map f (reverse xs) ≡ reverse (map f xs)
-map_reverse f [] = refl
-map_reverse f (x ∷ xs) =
-    ap (map f) (reverse-append (x ∷ []) xs) ∙ map-append f (reverse xs) (x ∷ []) ∙ ap (λ l. l ++ f x ∷ []) (map_reverse f xs) ∙ sym (reverse-append (f x ∷ []) (map f xs))
 
 -- ---- the loop
 

@@ -69,8 +69,8 @@ not_past m n h = go (nat_lt m n) refl
     go false e = refl
     go true e = absurd (omega (arith, ltb-true m n e))
 
-within_limits : (c : PlainContext) (t : PlainType) (s : Span) → weight_of (variables c) t ≤ 100000 → height_of (variables c) t ≤ 1000 → size_stop c t s ≡ None
-within_limits c t s w h = go (nat_lt 100000 (weight_of (variables c) t)) (nat_lt 1000 (height_of (variables c) t)) (not_past 100000 (weight_of (variables c) t) w) (not_past 1000 (height_of (variables c) t) h)
+pub size_clear : (c : PlainContext) (t : PlainType) (s : Span) → weight_of (variables c) t ≤ 100000 → height_of (variables c) t ≤ 1000 → size_stop c t s ≡ None
+size_clear c t s w h = go (nat_lt 100000 (weight_of (variables c) t)) (nat_lt 1000 (height_of (variables c) t)) (not_past 100000 (weight_of (variables c) t) w) (not_past 1000 (height_of (variables c) t) h)
   where
     go : (a b : Bool) → a ≡ false → b ≡ false → whole a b s ≡ None
     go true b q r = absurd (cc)
@@ -79,7 +79,7 @@ within_limits c t s w h = go (nat_lt 100000 (weight_of (variables c) t)) (nat_lt
 
 pub allowed : (ns : List (List ℕ)) (c : PlainContext) (t : TypeTree) → kind_stops ns c t ≡ [] → weight_of (variables c) (normal ns c t) ≤ 100000 → height_of (variables c) (normal ns c t) ≤ 1000 → kind_stop ns c t ≡ None
 allowed ns c t k w h =
-    ap (λ x. first_stop x (size_stop c (normal ns c t) (type_span t))) k ∙ within_limits c (normal ns c t) (type_span t) w h
+    ap (λ x. first_stop x (size_stop c (normal ns c t) (type_span t))) k ∙ size_clear c (normal ns c t) (type_span t) w h
 
 -- a measure past its limit
 pub too_big : (c : PlainContext) (t : PlainType) (s : Span) → (weight_of (variables c) t ≤ 100000 → height_of (variables c) t ≤ 1000 → ⊥) → size_stop c t s ≡ Some (K4, s)

@@ -145,17 +145,6 @@ if_none : {T : Type 0} (P : Type 0) (o : Option T) → IfNone o ⊥ → IfNone o
 if_none P None h = absurd h
 if_none P (Some x) h = tt
 
--- a row without parts
-pub row_first : {T A : Type 0} (whole : List T → A) (r : Row T) (w h : ℕ) (all : A) → r.measures.weight ≡ 0 → r.measures.height ≡ 0 → IfSome r.items (λ v. v.items ≡ []) → IfNone r.items ⊥ → whole [] ≡ all → IsRow whole r w w h h all
-row_first whole r w h all p q x y e = record {
-  weight = omega (arith, p);
-  height = omega (arith, q);
-  light = omega (arith, p);
-  height_fits = omega (arith, q);
-  made = if_some r.items (λ v i. ap whole i ∙ e) x;
-  missing = if_none (1000 < r.measures.height) r.items y;
-}
-
 -- a row with all its parts
 row_whole : {T A : Type 0} {whole : List T → A} {r : Row T} {w h : ℕ} {all : A} (next : List T → A) → ((xs : List T) → next xs ≡ whole xs) → IsRow whole r w 0 h 0 all → IsRow next r w 0 h 0 all
 row_whole {r = r} next e x = record {

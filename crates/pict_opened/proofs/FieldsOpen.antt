@@ -16,6 +16,7 @@ use Rattle.pict_rules.specs.Environments.{Environment, Extension, context_of, no
 use Rattle.pict_opened.specs.Opening.{meaning, IsBoundAs, IsPlaced, AddsWhatIsOpened}
 use Rattle.pict_opened.proofs.Joining.{type_after}
 use Rattle.pict_opened.proofs.Opened.{embeds_after, opens_embeds, types_embed, labels_embed}
+use Rattle.pict_typing.proofs.ValuesPut.{stays_before}
 
 abbrev pub Each : {A : Type 0} → (A → Type 0) → List A → Type 0
 Each P [] = Unit {0}
@@ -32,11 +33,6 @@ each_last P (x ∷ xs) y h k = (h.0, each_last P xs y h.1 k)
 pub last_of_each : {A : Type 0} (P : A → Type 0) (xs : List A) (y : A) → Each P (xs ++ y ∷ []) → Each P xs × P y
 last_of_each P [] y h = (tt, h.0)
 last_of_each P (x ∷ xs) y h = let z = last_of_each P xs y h.1 in ((h.0, z.0), z.1)
-
-pub slice_first : {A : Type 0} (xs ys : List A) (i : ℕ) (x : A) → slice_get xs i ≡ Some x → slice_get (xs ++ ys) i ≡ Some x
-slice_first [] ys i x e = absurd (cc)
-slice_first (y ∷ xs) ys zero x e = e
-slice_first (y ∷ xs) ys (suc i) x e = slice_first xs ys i x e
 
 pub slice_second : {A : Type 0} (xs ys : List A) (i : ℕ) (x : A) → slice_get ys i ≡ Some x → slice_get (xs ++ ys) (length xs + i) ≡ Some x
 slice_second [] ys i x e = let q : 0 + i ≡ i = omega arith in rw q e
@@ -118,8 +114,8 @@ placed_first e f c d m n slots others ts us x i p = record {
   extends_ = λ k. ap (λ z. z + n) (p.extends_ k) ∙ omega arith;
   each = λ l t q. let b = p.each l t q in record {
     place = b.place;
-    named_ = slice_first slots others b.place (Some l) b.named_;
-    typed = slice_first (map (shifted n) ts) us b.place (meaning (λ k. p.later k + n) t) (slice_get-map (shifted n) ts b.place ∙ ap (option_map (shifted n)) b.typed ∙ ap Some (type_after (moved n 0) p.later (λ k. p.later k + n) (erased t) (λ k. refl)));
+    named_ = stays_before slots others b.place (Some l) b.named_;
+    typed = stays_before (map (shifted n) ts) us b.place (meaning (λ k. p.later k + n) t) (slice_get-map (shifted n) ts b.place ∙ ap (option_map (shifted n)) b.typed ∙ ap Some (type_after (moved n 0) p.later (λ k. p.later k + n) (erased t) (λ k. refl)));
   };
 }
 
@@ -163,7 +159,7 @@ answer_second (Some u) f m n place slots others ts us l q h =
 answer_first : (o : Option PlainType) (f : ℕ → ℕ) (m n place : ℕ) (ts us : List PlainType) → AnswerIsAt o place f m ts → AnswerIsAt o place f (m + n) (map (shifted n) ts ++ us)
 answer_first None f m n place ts us h = tt
 answer_first (Some u) f m n place ts us h =
-    slice_first (map (shifted n) ts) us place (meaning (λ i. f i + (m + n)) u) (slice_get-map (shifted n) ts place ∙ ap (option_map (shifted n)) h ∙ ap Some (type_after (moved n 0) (λ i. f i + m) (λ i. f i + (m + n)) (erased u) (λ i. omega arith)))
+    stays_before (map (shifted n) ts) us place (meaning (λ i. f i + (m + n)) u) (slice_get-map (shifted n) ts place ∙ ap (option_map (shifted n)) h ∙ ap Some (type_after (moved n 0) (λ i. f i + m) (λ i. f i + (m + n)) (erased u) (λ i. omega arith)))
 
 pub types_open : (names : List (List ℕ)) (e : Environment) (a : Option PlainType) (xs : List Part) (c : TypeContext) (f : ℕ → ℕ) → Embeds f (erased_context (context_of e)) c → Each (OpensAnywhere names e) xs → AllOpened e f (part_slots (and_answer a xs)) (map (λ x. x.adds) xs) a (length (part_slots xs)) (OpenTypes names c (part_pats (and_answer a xs)) (meanings f (part_types (and_answer a xs))))
 types_open names e None [] c f i o = record { context = c; more = 0; types_ = []; opens = opens_none; as_many = refl; placed = tt; answer_at = tt }

@@ -17,19 +17,13 @@ use Rattle.pict_rules.specs.Clauses.{with_own}
 use Rattle.pict_rules.proofs.OwnBinders.{own_context}
 use Rattle.pict_rules.proofs.RegularPatterns.{both_entries}
 use Rattle.pict_opened.specs.Opening.{meaning}
+use Rattle.pict_sub.proofs.Renamed.{keeps_beyond}
 
 -- ---- contexts under one more variable, and under type fields
 
 embeds_beyond : {f : ℕ → ℕ} {c d : TypeContext} (b : PlainBound) → Embeds f c d → Embeds (beyond f) (b ∷ c) (rename_bound f b ∷ d)
-embeds_beyond {f = f} {c = c} {d = d} b x = record { keeps = record { each = bounds_ }; kept = kinds_ }
+embeds_beyond {f = f} {c = c} {d = d} b x = record { keeps = keeps_beyond x.keeps b; kept = kinds_ }
   where
-    bounds_ : (i : ℕ) (t : PlainType) → bound_of (b ∷ c) i ≡ Below t → bound_of (rename_bound f b ∷ d) (beyond f i) ≡ Below (rename (beyond f) t)
-    bounds_ zero t h = bound_alike (moved 1 0) f (beyond f) (moved 1 0) b (λ i. add-one (f i) ∙ sym (ap (beyond f) (add-one i))) ∙ ap (rename_bound (beyond f)) h
-    bounds_ (suc i) t h =
-        let u = bound_before suc (bound_of c i) t (sym (bound_further b c i) ∙ h) in
-        let e : rename suc (rename f u.0) ≡ rename (beyond f) t = renamed_alike suc f (beyond f) suc u.0 (λ j. refl) ∙ ap (rename (beyond f)) u.2 in
-        bound_further (rename_bound f b) d (f i) ∙ ap (rename_bound suc) (x.keeps.each i u.0 u.1) ∙ ap Below e
-
     kinds_ : (i : ℕ) (k : Kind) → kind_at (kinds (b ∷ c)) i ≡ Some k → kind_at (kinds (rename_bound f b ∷ d)) (beyond f i) ≡ Some k
     kinds_ zero k h = ap Some (sym (same_kind f b)) ∙ h
     kinds_ (suc i) k h = x.kept i k h

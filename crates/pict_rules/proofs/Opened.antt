@@ -15,6 +15,7 @@ use Rattle.pict_rules.specs.SameNames.{entry_names, bound_names, HasTypesOf, Has
 use Rattle.pict_rules.proofs.BoundIds.{binder_ids, value_ids, field_value_ids, pats_value_ids, labelled_value_ids, type_ids, field_type_ids, pats_type_ids, labelled_type_ids, definition_ids}
 use Rattle.pict_rules.proofs.Names.{id_names, binder_names, AddsNames, renamed_names, names_of_both, ids_of_both, each}
 use Rattle.pict_rules.proofs.Kept.{same_texts, Keeps, KeepsPattern, keeps_empty, keeps_both, keeps_closed, keeps_once, keeps_annotation, keeps_bound, pattern_keeps_annotation, pattern_keeps_bound}
+use Rattle.pict_scope.proofs.ValueForms.{values_more}
 
 further : (vs ws : List Id) (xs : List ℕ) {ys zs : List ℕ} → ys ≡ id_names vs ++ xs → zs ≡ id_names ws ++ ys → zs ≡ id_names (ws ++ vs) ++ xs
 further vs ws xs p q =
@@ -162,15 +163,11 @@ pub past_fields : (a : Around) (f : FieldPats) (r : RType) → GoesTo a (opens (
 past_fields a f r = past_pattern a (field_value_ids f) (field_type_ids f) (then_binds (field_value_ids f) [] (field_type_ids f) [] (binds_fields f) (binds_none (pattern_keeps_annotation r))) keeps_empty
 
 -- the names of a `def`
-one_more_value : (xs : List Id) (x : Id) (a : Around) → with_values (xs ++ x ∷ []) a ≡ with_value x (with_values xs a)
-one_more_value [] x a = refl
-one_more_value (y ∷ xs) x a = one_more_value xs x (with_value y a)
-
 pub past_definitions : (a : Around) (ds : Definitions) → GoesTo a (with_values (defined ds) a) (definition_ids ds) []
 past_definitions a no_definitions = record { texts = refl; values = refl; types_ = refl }
 past_definitions a (more_definitions ds x f) =
     let h = past_definitions a ds in
-    let e = one_more_value (defined ds) x a in
+    let e = values_more (defined ds) x a in
     record {
       texts = ap (λ b. b.texts) e ∙ h.texts;
       values = ap (λ b. bound_names b.values) e ∙ ap (λ z. x.name.0 ∷ z) h.values;

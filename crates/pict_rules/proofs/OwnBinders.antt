@@ -1,5 +1,5 @@
 -- The environment with a record pattern's own binders has the context of the record's fields.
-use Rattle.std.proofs.Common.{◌≡◌, List, [], ◌∷◌, ◌++◌, refl, sym, ◌∙◌, ap}
+use Rattle.std.proofs.Common.{◌≡◌, ◌+◌, List, [], ◌∷◌, ◌++◌, length, refl, sym, ◌∙◌, ap, arith}
 use Rattle.pict_types.specs.Types.{PlainBound, PlainBounds, no_bound, bounds, TypeContext, under}
 use Rattle.pict_normal.specs.Normal.{and_bound}
 use Rattle.pict_types.specs.Entries.{PlainContext, variables}
@@ -16,3 +16,8 @@ own_variables c (b ∷ own) = ap (λ d. b.bound ∷ d) (own_variables c own) ∙
 
 pub own_context : (e : Environment) (own : List KnownType) → context_of (with_own e own) ≡ under (context_of e) (bounds_of own)
 own_context e own = own_variables e.context own
+
+-- as many variables more as there are binders
+pub opened_count : (bs : List KnownType) (c : PlainContext) → length (variables (entries_of bs ++ c)) ≡ length (variables c) + length bs
+opened_count [] c = omega arith
+opened_count (b ∷ bs) c = omega (arith, opened_count bs c)

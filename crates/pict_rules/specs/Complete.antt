@@ -1,9 +1,10 @@
 -- Complete patterns.
 use Rattle.std.specs.Prelude.{ℕ, Bool, true, false, ◌&&◌, not, is_some, List, [], ◌∷◌, Some, None}
 use Rattle.pict_syntax.specs.Trees.{TypeBinder, type_binder, Bound, unbounded, bound, TypeBinders, no_binders, more_binders, Pat, bind_pat, any_pat, fields_pat, fold_pat, FieldPats, field_pats, Pats, no_pats, more_pats, LabelledPats, no_labelled_pats, more_labelled_pats}
-use Rattle.pict_types.specs.Types.{PlainType, Free, is_top}
+use Rattle.pict_types.specs.Types.{PlainType, is_top}
 use Rattle.pict_types.specs.Entries.{PlainContext}
-use Rattle.pict_normal.specs.Normal.{Stop, kind_stops, normal, kind_bound, entry_of}
+use Rattle.pict_normal.specs.Normal.{Stop, kind_stops, normal}
+use Rattle.pict_normal.specs.BinderEntries.{entries_under}
 
 -- Top, of a written type in which no rule of kinds fails
 abbrev pub is_top_without : List Stop → PlainType → Bool
@@ -19,17 +20,10 @@ abbrev pub has_kind_or_bound : List (List ℕ) → PlainContext → TypeBinder �
 has_kind_or_bound ns c (type_binder s x None b) = is_bounded ns c b
 has_kind_or_bound ns c (type_binder s x (Some k) b) = true
 
--- type binders by their names and kinds alone: what a name means hangs on no bound
-abbrev pub with_name_of : PlainContext → TypeBinder → PlainContext
-with_name_of c (type_binder s x k b) = entry_of x (kind_bound k Free) ∷ c
-
-abbrev pub under_names : PlainContext → TypeBinders → PlainContext
-under_names c no_binders = c
-under_names c (more_binders bs b) = with_name_of (under_names c bs) b
-
+-- type binders are entered by their names and kinds alone: what a name means hangs on no bound
 abbrev pub are_bounded : List (List ℕ) → PlainContext → TypeBinders → Bool
 are_bounded ns c no_binders = true
-are_bounded ns c (more_binders bs b) = are_bounded ns c bs && has_kind_or_bound ns (under_names c bs) b
+are_bounded ns c (more_binders bs b) = are_bounded ns c bs && has_kind_or_bound ns (entries_under c bs) b
 
 abbrev mutual
   -- every variable, wildcard and fold is annotated, and every type binder has a kind or a bound
@@ -41,7 +35,7 @@ abbrev mutual
 
   pub are_fields_complete : List (List ℕ) → PlainContext → FieldPats → Bool
   are_fields_complete ns c (field_pats bs ps ls) =
-      are_bounded ns c bs && (are_complete ns (under_names c bs) ps && are_labels_complete ns (under_names c bs) ls)
+      are_bounded ns c bs && (are_complete ns (entries_under c bs) ps && are_labels_complete ns (entries_under c bs) ls)
 
   pub are_complete : List (List ℕ) → PlainContext → Pats → Bool
   are_complete ns c no_pats = true

@@ -193,7 +193,7 @@ all_known all (x ∷ xs) a h k l =
     let mine : StandsIn all a.next_value = l.0 a.next_value (nearest_past xs (with_value x a) x.name.0 h.0 ∙ own_number x a) in
     all_known all xs (with_value x a) h.1 (mine, k) l.1
 
-same_patterns : (xs : List Id) (a : Around) → (with_values xs a).pattern_values ≡ a.pattern_values
+pub same_patterns : (xs : List Id) (a : Around) → (with_values xs a).pattern_values ≡ a.pattern_values
 same_patterns [] a = refl
 same_patterns (x ∷ xs) a = same_patterns xs (with_value x a)
 

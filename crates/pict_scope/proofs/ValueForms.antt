@@ -133,7 +133,7 @@ operator_read t s i is u xs v a b r e p q h =
     read_as _ _ a b r (ap (λ l. binds_type i (closed (group (each in_parameter l) ▸ in_type (type_of v)))) p ∙ (ap (λ x. binds_type i (closed (group (each in_parameter is.items) ▸ in_type (type_of x)))) q ∙ (ap (λ o. binds_type i (closed (group o ▸ in_type (type_of u.value)))) (parameters_each empty is.items) ∙ ap (λ x. in_dec (dec_of x)) (sym e)))) h
 
 -- the names of a `def`, one after the other
-values_more : (xs : List Id) (x : Id) (a : Around) → with_values (xs ++ x ∷ []) a ≡ with_value x (with_values xs a)
+pub values_more : (xs : List Id) (x : Id) (a : Around) → with_values (xs ++ x ∷ []) a ≡ with_value x (with_values xs a)
 values_more [] x a = refl
 values_more (y ∷ xs) x a = values_more xs x (with_value y a)
 

@@ -1,27 +1,23 @@
 -- The names of the primitives in programs.
-use Rattle.std.specs.Prelude.{ℕ, List, [], ◌∷◌, ◌++◌, codes, Option, Some, None, if◌then◌else◌}
+use Rattle.std.specs.Prelude.{ℕ, List, [], ◌∷◌, ◌++◌, map, Option, Some, None, if◌then◌else◌}
 use Rattle.std.specs.Str.{bytes_eq}
 use Rattle.pict_syntax.specs.declared.primitive.Primitive.{Primitive}
+use Rattle.pict_syntax.specs.PrimitiveTexts.{primitive_text}
 use Rattle.pict_syntax.specs.declared.primitive.Primitive.TheVariants.{Print, Printi, Pr, Add, Subtract, Multiply, Divide, Remainder, Equal, Less, AtMost, Greater, AtLeast, Chr, Ord, Join, Intstr, Size, Nth, Not}
 
 pub record Named : Type 0 where
   pub text : List ℕ
   pub primitive : Primitive
 
-abbrev is : List ℕ → Primitive → Named
-is text primitive = record { text = text; primitive = primitive }
+abbrev named : Primitive → Named
+named primitive = record { text = primitive_text primitive; primitive = primitive }
 
 -- the primitives that are named by signs, and those that are named by words
 abbrev pub signs : List Named
-signs =
-    is (codes "+") Add ∷ is (codes "-") Subtract ∷ is (codes "*") Multiply ∷ is (codes "+$") Join ∷ is (codes "==") Equal
-    ∷ is (codes "<<") Less ∷ is (codes "<=") AtMost ∷ is (codes ">>") Greater ∷ is (codes ">=") AtLeast ∷ []
+signs = map named (Add ∷ Subtract ∷ Multiply ∷ Join ∷ Equal ∷ Less ∷ AtMost ∷ Greater ∷ AtLeast ∷ [])
 
 abbrev pub words : List Named
-words =
-    is (codes "print") Print ∷ is (codes "printi") Printi ∷ is (codes "pr") Pr ∷ is (codes "div") Divide ∷ is (codes "mod") Remainder
-    ∷ is (codes "chr") Chr ∷ is (codes "ord") Ord ∷ is (codes "intstr") Intstr ∷ is (codes "size") Size ∷ is (codes "nth") Nth
-    ∷ is (codes "not") Not ∷ []
+words = map named (Print ∷ Printi ∷ Pr ∷ Divide ∷ Remainder ∷ Chr ∷ Ord ∷ Intstr ∷ Size ∷ Nth ∷ Not ∷ [])
 
 abbrev pub first_named : List Named → List ℕ → Option Primitive
 first_named [] text = None

@@ -17,7 +17,7 @@ pub pending_push : (names : List (List ℕ)) (ps : List Piece) (p : Piece) (afte
 pending_push names [] p after = refl
 pending_push names (q ∷ qs) p after = pending_push names qs p (piece_text names q ++ after)
 
-join_rest : (x : List ℕ) (ys : List (List ℕ)) → join_with_byte 32 (x ∷ ys) ≡ x ++ flat_map (λ t. 32 ∷ t) ys
+pub join_rest : (x : List ℕ) (ys : List (List ℕ)) → join_with_byte 32 (x ∷ ys) ≡ x ++ flat_map (λ t. 32 ∷ t) ys
 join_rest x [] = sym (append-nil x)
 join_rest x (y ∷ ys) = ap (λ t. x ++ (32 ∷ t)) (join_rest y ys)
 
@@ -95,10 +95,6 @@ rest_ends names (v ∷ vs) fs none none' = absurd (omega arith)
 -- a byte, and then what is behind it
 pub byte_written : (byte : ℕ) (out mid fin pend text old whole : List ℕ) → mid ≡ out ++ byte ∷ [] → fin ++ pend ≡ mid ++ (text ++ old) → whole ≡ byte ∷ text → fin ++ pend ≡ out ++ (whole ++ old)
 byte_written byte out mid fin pend text old whole e f g = f ∙ ap (λ t. t ++ (text ++ old)) e ∙ append_assoc out (byte ∷ []) (text ++ old) ∙ ap (λ t. out ++ (t ++ old)) (sym g)
-
-pub on_ok : {T E P Q : Type 0} (r : Result T E) → (P → Q) → OnOk r P → OnOk r Q
-on_ok (Ok x) f h = f h
-on_ok (Err e) f h = tt
 
 -- one turn of the loop
 pub turned : (names : List (List ℕ)) (out out' : List ℕ) (ps taken ps' : List Piece) (p : Piece) → ps ≡ taken ++ p ∷ []

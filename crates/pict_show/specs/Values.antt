@@ -4,31 +4,8 @@ use Rattle.std.specs.Fmt.{decimal, signed_decimal, digit_glyph}
 use Rattle.std.specs.List.{join_with_byte}
 use Rattle.pict_syntax.specs.Names.{text_of}
 use Rattle.pict_syntax.specs.Tokens.{Item, plain, newline, tab, backslash, double_quote, single_quote, hexadecimal, items_bytes}
-use Rattle.pict_syntax.specs.declared.primitive.Primitive.{Primitive}
-use Rattle.pict_syntax.specs.declared.primitive.Primitive.TheVariants as primitive
+use Rattle.pict_syntax.specs.PrimitiveTexts.{primitive_text}
 use Rattle.pict_core.specs.Term.{Val, Vals, Labelled, Var, Chan, Int, Char, Boolean, Text, PrimitiveVal, Record, no_vals, more_vals, no_labelled, more_labelled}
-
-abbrev pub primitive_text : Primitive → List ℕ
-primitive_text primitive.Print = codes "print"
-primitive_text primitive.Printi = codes "printi"
-primitive_text primitive.Pr = codes "pr"
-primitive_text primitive.Add = codes "+"
-primitive_text primitive.Subtract = codes "-"
-primitive_text primitive.Multiply = codes "*"
-primitive_text primitive.Divide = codes "div"
-primitive_text primitive.Remainder = codes "mod"
-primitive_text primitive.Equal = codes "=="
-primitive_text primitive.Less = codes "<<"
-primitive_text primitive.AtMost = codes "<="
-primitive_text primitive.Greater = codes ">>"
-primitive_text primitive.AtLeast = codes ">="
-primitive_text primitive.Chr = codes "chr"
-primitive_text primitive.Ord = codes "ord"
-primitive_text primitive.Join = codes "+$"
-primitive_text primitive.Intstr = codes "intstr"
-primitive_text primitive.Size = codes "size"
-primitive_text primitive.Nth = codes "nth"
-primitive_text primitive.Not = codes "not"
 
 abbrev pub truth_text : Bool → List ℕ
 truth_text true = codes "true"

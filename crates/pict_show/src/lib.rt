@@ -5,4 +5,4 @@ mod quoted;
 mod value;
 
 pub use quoted::{write_quoted, written};
-pub use value::{write_numbered, write_value};
+pub use value::{write_decimal, write_numbered, write_value};

@@ -2,7 +2,8 @@
 ghost use Rattle.std.specs.Prelude.{◌≡◌, ◌++◌, ◌∷◌, ◌<◌, ◌≤◌, length, OnOk};
 ghost use Rattle.std.specs.Fmt.{decimal, signed_decimal};
 ghost use Rattle.pict_core.specs.Plain.{plain_val};
-ghost use Rattle.pict_show.specs.Values.{value_text, primitive_text, truth_text};
+ghost use Rattle.pict_show.specs.Values.{value_text, truth_text};
+ghost use Rattle.pict_syntax.specs.PrimitiveTexts.{primitive_text};
 ghost use Rattle.pict_show.specs.Pending.{IsSimple, Grows, rest_of, fields_of, piece_text};
 
 use crate::write_quoted;
@@ -58,6 +59,14 @@ pub fn write_numbered(out: &mut Vec<u8>, letter: u8, number: u32) -> Result<(), 
 {
     let mut buffer = Buffer::new();
     out.push(letter)?;
+    out.extend_from_slice(buffer.format(number).as_bytes())
+}
+
+/// Writes a number in decimal behind what is there. The only error is want of memory; what was there stays in front.
+pub fn write_decimal(out: &mut Vec<u8>, number: u64) -> Result<(), AllocError>
+    ensures { OnOk result (out.new.items ≡ out.old.items ++ decimal number) }
+{
+    let mut buffer = Buffer::new();
     out.extend_from_slice(buffer.format(number).as_bytes())
 }
 

@@ -6,7 +6,7 @@ use Rattle.pict_types.proofs.Renamed.{renamed_alike, bound_alike, bound_further,
 use Rattle.pict_sub.specs.Subtyping.{IsSubtype, same, through, below_top, below_bound, upward, downward, by_fields, AreSubtypes, none, more, HasLabels, has_none, has_label}
 use Rattle.pict_sub.specs.Laws.{KeepsBounds}
 
-keeps_beyond : {f : ℕ → ℕ} {c d : TypeContext} → KeepsBounds f c d → (b : PlainBound) → KeepsBounds (beyond f) (b ∷ c) (rename_bound f b ∷ d)
+pub keeps_beyond : {f : ℕ → ℕ} {c d : TypeContext} → KeepsBounds f c d → (b : PlainBound) → KeepsBounds (beyond f) (b ∷ c) (rename_bound f b ∷ d)
 keeps_beyond {f = f} {c = c} {d = d} x b = record { each = go }
   where
     go : (i : ℕ) (t : PlainType) → bound_of (b ∷ c) i ≡ Below t → bound_of (rename_bound f b ∷ d) (beyond f i) ≡ Below (rename (beyond f) t)

@@ -11,8 +11,9 @@ use Rattle.pict_trace.specs.Readable.{IsIdentifier, AreOrderly, LabelsAfter, lab
 use Rattle.pict_trace.specs.Reading.{Reads, BeginsNoLabel, BeginsNoLabelAfter, IsLabelAfter}
 use Rattle.pict_trace.proofs.Unique.{label_unique}
 use Rattle.pict_trace.proofs.Kept.{Extends, text_kept, extends_on}
-use Rattle.pict_trace.proofs.Gained.{with_names_append, names_extend, all_kept, labelled_kept}
+use Rattle.pict_trace.proofs.Gained.{names_extend, all_kept, labelled_kept}
 use Rattle.pict_trace.proofs.Records.{IsField}
+use Rattle.pict_lex.proofs.StepLemmas.{with_names_last}
 
 -- the label, its `=` (61), and what is behind it
 pub label_front : (rest : List ℕ) (n : ℕ) → n < length rest → get_or rest n 0 ≡ 61 → rest ≡ take n rest ++ (61 ∷ drop (suc n) rest)
@@ -63,7 +64,7 @@ pub values_gained : (old names new : List (List ℕ)) (vs : List Val) (v : Val) 
     → new ≡ with_names old (labels_of_all new (vals_of (vs ++ v ∷ [])))
 values_gained old names new vs v o e f =
     let x = labels_extend names new (labels_of new v) f in
-    f ∙ ap (λ n. with_names n (labels_of new v)) e ∙ sym (with_names_append old (labels_of_all names (vals_of vs)) (labels_of new v))
+    f ∙ ap (λ n. with_names n (labels_of new v)) e ∙ sym (with_names_last old (labels_of_all names (vals_of vs)) (labels_of new v))
     ∙ ap (λ ls. with_names old (ls ++ labels_of new v)) (sym (ap (λ n. labels_of_all n (vals_of vs)) x.1 ∙ all_kept names x.0 (vals_of vs) o))
     ∙ ap (with_names old) (sym (all_more new vs v))
 
@@ -73,7 +74,7 @@ pub labels_gained : (old names mid new : List (List ℕ)) (fs : List (Name × Va
 labels_gained old names mid new fs name v word before o e f text g =
     let x = extends_on names mid new (label_extends names mid word f) (labels_extend mid new (labels_of new v) g) in
     let more = word ∷ labels_of new v in
-    g ∙ ap (λ n. with_names n (labels_of new v)) f ∙ ap (λ n. with_names n more) e ∙ sym (with_names_append old (labels_of_labelled names (labelled_of fs)) more)
+    g ∙ ap (λ n. with_names n (labels_of new v)) f ∙ ap (λ n. with_names n more) e ∙ sym (with_names_last old (labels_of_labelled names (labelled_of fs)) more)
     ∙ ap (λ ls. with_names old (ls ++ more)) (sym (ap (λ n. labels_of_labelled n (labelled_of fs)) x.1 ∙ labelled_kept names x.0 before (labelled_of fs) o))
     ∙ ap (λ w. with_names old (labels_of_labelled new (labelled_of fs) ++ (w ∷ labels_of new v))) (sym text)
     ∙ ap (with_names old) (sym (labelled_more_labels new fs name v))
@@ -83,5 +84,5 @@ pub record_gained : (old names new : List (List ℕ)) (vs : List Val) (ls : Labe
     → new ≡ with_names old (labels_of new (Record (vals_of vs) ls))
 record_gained old names new vs ls o e f =
     let x = labels_extend names new (labels_of_labelled new ls) f in
-    f ∙ ap (λ n. with_names n (labels_of_labelled new ls)) e ∙ sym (with_names_append old (labels_of_all names (vals_of vs)) (labels_of_labelled new ls))
+    f ∙ ap (λ n. with_names n (labels_of_labelled new ls)) e ∙ sym (with_names_last old (labels_of_all names (vals_of vs)) (labels_of_labelled new ls))
     ∙ ap (λ ks. with_names old (ks ++ labels_of_labelled new ls)) (sym (ap (λ n. labels_of_all n (vals_of vs)) x.1 ∙ all_kept names x.0 (vals_of vs) o))

@@ -7,10 +7,6 @@ use Rattle.pict_core.specs.Term.{Val, Vals, Labelled, Var, Chan, Int, Char, Bool
 use Rattle.pict_trace.specs.Readable.{IsOrderly, AreOrderly, LabelsAfter, labels_of, labels_of_all, labels_of_labelled}
 use Rattle.pict_trace.proofs.Kept.{Extends, text_kept, extends_on}
 
-pub with_names_append : (names xs ys : List (List ℕ)) → with_names names (xs ++ ys) ≡ with_names (with_names names xs) ys
-with_names_append names [] ys = refl
-with_names_append names (x ∷ xs) ys = with_names_append (with_name names x) xs ys
-
 name_extends : (names : List (List ℕ)) (x : List ℕ) → Extends names (with_name names x)
 name_extends names x = by (list_any (bytes_eq x) names)
   where

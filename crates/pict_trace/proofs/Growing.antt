@@ -5,7 +5,7 @@ use Rattle.std.specs.Str.{bytes_eq}
 use Rattle.pict_syntax.specs.Names.{with_name, with_names}
 use Rattle.pict_trace.specs.Readable.{IsIdentifier, IsLabelIn, GainsLabels}
 use Rattle.pict_trace.specs.Reading.{Grows}
-use Rattle.pict_trace.proofs.Gained.{with_names_append}
+use Rattle.pict_lex.proofs.StepLemmas.{with_names_last}
 
 pub nothing_gained : (text : List ℕ) (names : List (List ℕ)) → GainsLabels text names names
 nothing_gained text names = record { labels = []; stand = tt; gained = refl }
@@ -31,7 +31,7 @@ pub gained_on : (text rest : List ℕ) (a b c : List (List ℕ)) → Grows text 
 gained_on text rest a b c x y = record {
   labels = x.kept.labels ++ y.labels;
   stand = labels_in_both text x.front rest x.kept.labels y.labels x.behind x.kept.stand y.stand;
-  gained = y.gained ∙ ap (λ n. with_names n y.labels) x.kept.gained ∙ sym (with_names_append a x.kept.labels y.labels);
+  gained = y.gained ∙ ap (λ n. with_names n y.labels) x.kept.gained ∙ sym (with_names_last a x.kept.labels y.labels);
 }
 
 pub grown_on : (text rest rest' : List ℕ) (a b c : List (List ℕ)) → Grows text a b rest → Grows rest b c rest' → Grows text a c rest'

@@ -29,9 +29,6 @@ string_only after none others w rest x = by w x.orderly x.whole (ap lead x.whole
 character_closed : (byte : ℕ) (rest : List ℕ) → ((item_bytes (item_of 39 byte) ++ []) ++ 39 ∷ []) ++ rest ≡ item_bytes (item_of 39 byte) ++ (39 ∷ rest)
 character_closed byte rest = append_assoc (item_bytes (item_of 39 byte) ++ []) (39 ∷ []) rest ∙ ap (λ t. t ++ (39 ∷ rest)) (append-nil (item_bytes (item_of 39 byte)))
 
-pub character_found : (names : List (List ℕ)) (byte : ℕ) (rest : List ℕ) → byte < 2 ^ 8 → Ends rest → Reads names 0 (39 ∷ (item_bytes (item_of 39 byte) ++ (39 ∷ rest))) (Char byte) rest
-character_found names byte rest small ends = record { orderly = small; low = omega arith; ends = ends; whole = ap (λ t. 39 ∷ t) (sym (character_closed byte rest)) }
-
 -- a value behind a single quote is a character
 pub character_only : (after : List ℕ) → ((byte : ℕ) (rest : List ℕ) → byte < 2 ^ 8 → Ends rest → after ≢ item_bytes (item_of 39 byte) ++ (39 ∷ rest)) → BeginsNoValue 0 (39 ∷ after)
 character_only after none others w rest x = by w x.orderly x.whole (ap lead x.whole ∙ lead_value others w rest x.orderly)

@@ -44,13 +44,6 @@ labelled_lead others depth before rest after x e = by x.labels x.orderly x.whole
     by no_labelled h f = never_same _ _ (sym f)
     by (more_labelled l v ls) h f = omega (arith, sym e ∙ ap lead (ap tail f) ∙ lead_word (text_of others l) (61 ∷ (value_text others v ++ spaced_labels others ls (93 ∷ after))) h.0.0)
 
-left_lead : (others : List (List ℕ)) (depth : ℕ) (rest after : List ℕ) → Left others depth (32 ∷ rest) after → lead rest ≢ 4
-left_lead others depth rest after x e = by x.values x.orderly x.whole
-  where
-    by : (vs : Vals) → AreOrderly others vs → 32 ∷ rest ≡ spaced others vs x.middle → ⊥
-    by no_vals h f = labelled_lead others depth [] rest after (subst (λ m. LeftLabelled others depth [] m after) (sym f) x.labels) e
-    by (more_vals v vs) h f = no_four v (sym (ap lead (ap tail f) ∙ lead_value others v (spaced others vs x.middle) h.0) ∙ e)
-
 labelled_head : (others : List (List ℕ)) (depth : ℕ) (before r after : List ℕ) → LeftLabelled others depth before r after → (r ≡ 93 ∷ after) ⊎ ((more : List ℕ) × (r ≡ 32 ∷ more))
 labelled_head others depth before r after x = by x.labels x.whole
   where
@@ -283,9 +276,6 @@ pub record MidLabelled (names : List (List ℕ)) (depth : ℕ) (text : List ℕ)
   pub low : nesting_labelled (labelled_of fs) ≤ depth
   pub sofar : 32 ∷ text ≡ spaced_labels names (labelled_of fs) (32 ∷ rest)
   pub must : (others : List (List ℕ)) (after : List ℕ) → LeftLabelled others depth [] (32 ∷ text) after → LeftLabelled others depth before (32 ∷ rest) after
-
-pub begun_labelled : (names : List (List ℕ)) (depth : ℕ) (text : List ℕ) → MidLabelled names depth text [] [] text
-begun_labelled names depth text = record { orderly = tt; last = refl; low = omega arith; sofar = refl; must = λ others after x. x }
 
 -- a label, and the value behind it
 pub record IsField (names : List (List ℕ)) (depth : ℕ) (rest word : List ℕ) (name : ℕ) (v : Val) (r : List ℕ) : Type 0 where

@@ -15,8 +15,9 @@ use Rattle.pict_trace.proofs.Unique.{tail, first_of_bytes, is_solid, run_same, s
 use Rattle.pict_trace.proofs.Bares.{ends_drop, solid_taken}
 use Rattle.pict_trace.proofs.Literals.{string_closed, string_same}
 use Rattle.pict_trace.proofs.Kept.{kept_value}
-use Rattle.pict_trace.proofs.Gained.{with_names_append, labels_kept}
+use Rattle.pict_trace.proofs.Gained.{labels_kept}
 use Rattle.pict_trace.proofs.Fields.{labels_extend}
+use Rattle.pict_lex.proofs.StepLemmas.{with_names_last}
 
 -- ---- the number in front
 
@@ -174,7 +175,7 @@ pub lines_gained : (old names new : List (List ℕ)) (lines : List (ℕ × Label
     → new ≡ with_names old (labels_in new (lines ++ line ∷ []))
 lines_gained old names new lines line shown e gained =
     let grown = labels_extend names new (labels_in_line new line) gained in
-    gained ∙ ap (λ n. with_names n (labels_in_line new line)) e ∙ sym (with_names_append old (labels_in names lines) (labels_in_line new line))
+    gained ∙ ap (λ n. with_names n (labels_in_line new line)) e ∙ sym (with_names_last old (labels_in names lines) (labels_in_line new line))
     ∙ ap (λ ls. with_names old (ls ++ labels_in_line new line)) (sym (ap (λ n. labels_in n lines) grown.1 ∙ kept_labels_in names grown.0 lines shown))
     ∙ ap (with_names old) (sym (labels_in_more new lines line))
 

@@ -13,9 +13,6 @@ use Rattle.pict_trace.proofs.Unique.{item_for, no_backslash}
 abbrev pub Must : List ℕ → List ℕ → Type 0
 Must after rest = (bytes end : List ℕ) → AreBytes bytes → after ≡ string_end bytes end → (more : List ℕ) × AreBytes more × (rest ≡ string_end more end)
 
-pub must_begin : (after : List ℕ) → Must after after
-must_begin after bytes end are e = (bytes, are, e)
-
 -- where no item begins no byte does
 pub no_byte : (quote : ℕ) (after : List ℕ) → (quote ≡ 34) ⊎ (quote ≡ 39) → NoItem quote after → BeginsNoByte quote after
 no_byte quote after q none byte rest small e = none (item_of quote byte) (item_for quote byte q small).is (rest, e)

@@ -15,7 +15,8 @@ use Rattle.pict_syntax.specs.Tokens.{IsWord, is_word_byte, Item, plain, newline,
 use Rattle.pict_syntax.specs.declared.primitive.Primitive.TheVariants as primitive
 use Rattle.pict_core.specs.Term.{Val, Vals, Labelled, Var, Chan, Int, Char, Boolean, Text, PrimitiveVal, Record, no_vals, more_vals, no_labelled, more_labelled}
 use Rattle.pict_core.specs.Step.{Label, Quiet, Comm, Print}
-use Rattle.pict_show.specs.Values.{item_of, value_text, primitive_text, quoted, positional_texts, labelled_texts}
+use Rattle.pict_show.specs.Values.{item_of, value_text, quoted, positional_texts, labelled_texts}
+use Rattle.pict_syntax.specs.PrimitiveTexts.{primitive_text}
 use Rattle.pict_trace.specs.Lines.{shown_text, line_text, lines_text}
 use Rattle.pict_trace.specs.Readable.{IsReadable, IsReadableLabel, IsOrderly, AreOrderly, LabelsAfter, AreBytes}
 use Rattle.pict_trace.specs.Reading.{is_end, Ends, IsBare, spaced_labels}
@@ -199,9 +200,6 @@ glyph_value (suc (suc (suc (suc (suc (suc (suc (suc (suc (suc (suc (suc (suc zer
 glyph_value (suc (suc (suc (suc (suc (suc (suc (suc (suc (suc (suc (suc (suc (suc zero)))))))))))))) h = (refl, refl)
 glyph_value (suc (suc (suc (suc (suc (suc (suc (suc (suc (suc (suc (suc (suc (suc (suc zero))))))))))))))) h = (refl, refl)
 glyph_value (suc (suc (suc (suc (suc (suc (suc (suc (suc (suc (suc (suc (suc (suc (suc (suc d)))))))))))))))) h = absurd (omega arith)
-
-IsQuote : ℕ → Type 0
-IsQuote quote = (quote ≡ 34) ⊎ (quote ≡ 39)
 
 pub item_for : (quote byte : ℕ) → (quote ≡ 34) ⊎ (quote ≡ 39) → byte < 2 ^ 8 → IsItemFor quote byte (item_of quote byte)
 item_for quote byte q h =
@@ -582,9 +580,6 @@ pub value_ends : (names others : List (List ℕ)) (v w : Val) (a c : List ℕ) �
 value_ends names others v w a c h k s t e = ends_by names others v w a c h k s t e (other_lead names others v w a c h k e)
 
 -- ---- lines
-
-stops_digit_space : (more : List ℕ) → Stops is_ascii_digit (32 ∷ more)
-stops_digit_space more = refl
 
 pub number_unique : (m n : ℕ) (a c : List ℕ) → m < 2 ^ 64 → n < 2 ^ 64 → decimal m ++ (32 ∷ a) ≡ decimal n ++ (32 ∷ c) → (m ≡ n) × (a ≡ c)
 number_unique m n a c h k e =

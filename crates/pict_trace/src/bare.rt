@@ -5,7 +5,8 @@ ghost use Rattle.std.specs.Int.{w64};
 ghost use Rattle.std.specs.Fmt.{decimal, signed_decimal};
 ghost use Rattle.pict_syntax.specs.declared.primitive.Primitive.{Primitive};
 ghost use Rattle.pict_core.specs.Plain.{plain_val};
-ghost use Rattle.pict_show.specs.Values.{primitive_text, truth_text};
+ghost use Rattle.pict_show.specs.Values.{truth_text};
+ghost use Rattle.pict_syntax.specs.PrimitiveTexts.{primitive_text};
 ghost use Rattle.pict_trace.specs.Reading.{is_end, IsBareText, IsNoBareText, Reads, BeginsNoValue};
 
 use crate::found::{Found, ReadError};

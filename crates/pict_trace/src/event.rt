@@ -4,9 +4,8 @@ ghost use Rattle.std.specs.Prelude.{◌≡◌, IfOk};
 ghost use Rattle.pict_machine.specs.Plain.{IsShown, label_of};
 ghost use Rattle.pict_trace.specs.Lines.{line_text};
 
-use crate::number::write_number;
 use pict_machine::Event;
-use pict_show::{write_numbered, write_quoted, write_value};
+use pict_show::{write_decimal, write_numbered, write_quoted, write_value};
 use pict_syntax::Names;
 use std::alloc::{AllocError, Global};
 
@@ -16,7 +15,7 @@ pub fn line(alloc: Global, names: &Names, number: u64, event: &Event) -> Result<
     ensures line { IfOk result (λ line. line.items ≡ line_text names.now number (label_of event.now)) }
 {
     let mut out = Vec::new(alloc);
-    write_number(&mut out, number)?;
+    write_decimal(&mut out, number)?;
     out.push(b' ')?;
     match event {
         Event::Comm { channel, value } => {

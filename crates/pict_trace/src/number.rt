@@ -1,19 +1,10 @@
-// Numbers in decimal.
+// Numbers read from their decimal texts.
 
-ghost use Rattle.std.specs.Prelude.{◌≡◌, ◌≢◌, ◌++◌, ◌<◌, ◌^◌, ℕ, ℤ, OnOk, IfSome, None, FitsSigned};
+ghost use Rattle.std.specs.Prelude.{◌≡◌, ◌≢◌, ◌<◌, ◌^◌, ℕ, ℤ, IfSome, None, FitsSigned};
 ghost use Rattle.std.specs.Int.{w64};
 ghost use Rattle.std.specs.Fmt.{decimal, signed_decimal};
 
 use itoa::Buffer;
-use std::alloc::AllocError;
-
-// Writes a number.
-pub(crate) fn write_number(out: &mut Vec<u8>, n: u64) -> Result<(), AllocError>
-    ensures { OnOk result (out.new.items ≡ out.old.items ++ decimal n) }
-{
-    let mut buffer = Buffer::new();
-    out.extend_from_slice(buffer.format(n).as_bytes())
-}
 
 // The number that these bytes write, in decimal, without a sign and without a leading zero.
 pub(crate) fn number_of(word: &[u8]) -> Option<u64>

@@ -62,7 +62,7 @@ has_anywhere w {v = v} {t = t} k h =
     let g : HasType u v t = subst (HasType u v) (closed_replaced w.names no_replacement t (has_closed w.names w.messages k h)) (has_instantiated (over w.names w.messages) k i h) in
     has_more u w.messages w.variables (λ c s e. e) (λ l s e. absurd (cc)) g
 
-stays_before : {A : Type 0} (xs ys : List A) (i : ℕ) (x : A) → slice_get xs i ≡ Some x → slice_get (xs ++ ys) i ≡ Some x
+pub stays_before : {A : Type 0} (xs ys : List A) (i : ℕ) (x : A) → slice_get xs i ≡ Some x → slice_get (xs ++ ys) i ≡ Some x
 stays_before [] ys i x e = absurd (cc)
 stays_before (y ∷ xs) ys zero x e = e
 stays_before (y ∷ xs) ys (suc i) x e = stays_before xs ys i x e

@@ -7,8 +7,9 @@ use Rattle.pict_normal.specs.Normal.{size_stop}
 use Rattle.pict_infer.specs.Answering.{IsRefused}
 use Rattle.pict_infer.specs.Places.{environment_in}
 use Rattle.pict_infer.specs.Steps as steps
-use Rattle.pict_infer.proofs.Forming.{expanded_ok, size_clear, unfolded_err}
+use Rattle.pict_infer.proofs.Forming.{expanded_ok, unfolded_err}
 use Rattle.pict_infer.proofs.formed.unfolded.Goals as goal
+use Rattle.pict_normal.proofs.Expanded.{size_clear}
 
 pub returns-in-Ok-clause-answer : goal.returns-in-Ok-clause-answer
 returns-in-Ok-clause-answer c =

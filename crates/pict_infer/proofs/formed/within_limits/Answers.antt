@@ -8,8 +8,9 @@ use Rattle.pict_normal.specs.Normal.{size_stop}
 use Rattle.pict_rules.specs.Clauses.{done}
 use Rattle.pict_rules.specs.Derivations.{give_}
 use Rattle.pict_infer.specs.declared.error.InferError.TheVariants.{Named}
-use Rattle.pict_infer.proofs.Forming.{clear, stopped, size_clear, size_past, past_limit}
+use Rattle.pict_infer.proofs.Forming.{clear, stopped, size_past, past_limit}
 use Rattle.pict_infer.proofs.formed.within_limits.Goals as goal
+use Rattle.pict_normal.proofs.Expanded.{size_clear}
 
 pub returns-in-None : goal.returns-in-None
 returns-in-None c =

@@ -3,8 +3,9 @@ use Rattle.pict_core.specs.Plain.{plain_val, plain_field, vals_of, labelled_of}
 use Rattle.pict_show.specs.Values.{value_text}
 use Rattle.pict_show.specs.Pending.{pending, fields_text, piece_text}
 use Rattle.pict_core.proofs.Fields.{plain_val-Fields}
-use Rattle.pict_show.proofs.Pieces.{on_ok, byte_written}
+use Rattle.pict_show.proofs.Pieces.{byte_written}
 use Rattle.pict_show.proofs.value.write_piece.Goals as goal
+use Rattle.pict_syntax.proofs.ListLemmas.{on_ok}
 
 pub returns-in_ok-push-in-Fields-clause-text : goal.returns-in_ok-push-in-Fields-clause-text
 returns-in_ok-push-in-Fields-clause-text c =

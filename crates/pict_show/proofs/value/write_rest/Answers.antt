@@ -1,9 +1,10 @@
 use Rattle.std.proofs.Common.{◌≡◌, ◌++◌, ◌∷◌, [], map, sym, length, arith}
 use Rattle.pict_core.specs.Plain.{plain_val, plain_field, vals_of, labelled_of}
 use Rattle.pict_show.specs.Pending.{pending, fields_text, rest_text}
-use Rattle.pict_show.proofs.Pieces.{on_ok, byte_written, rest_is}
+use Rattle.pict_show.proofs.Pieces.{byte_written, rest_is}
 use Rattle.pict_show.proofs.value.write_rest.Goals as goal
 use Rattle.pict_show.proofs.value.write_rest.Goals.{else-is_empty-via-then-is_empty+else-is_empty-2, else-is_empty-via-else-is_empty}
+use Rattle.pict_syntax.proofs.ListLemmas.{on_ok}
 
 pub returns-clause-text : goal.returns-clause-text
 returns-clause-text c =

@@ -4,8 +4,10 @@ use Rattle.pict_types.specs.Entries.{variables}
 use Rattle.pict_types.specs.PlainContext.{names_of, plain_context, type_context}
 use Rattle.pict_infer.specs.Knowing.{known_types}
 use Rattle.pict_infer.proofs.Depths.{types_length}
-use Rattle.pict_infer.proofs.Growing.{added_all, on_ok, opened_count}
+use Rattle.pict_infer.proofs.Growing.{added_all}
 use Rattle.pict_infer.proofs.env.Env.add.Goals as goal
+use Rattle.pict_syntax.proofs.ListLemmas.{on_ok}
+use Rattle.pict_rules.proofs.OwnBinders.{opened_count}
 
 pub invariant_of-self-2-clause-named : goal.invariant_of-self-2-clause-named
 invariant_of-self-2-clause-named c = c.add_values.ensures.named

@@ -2,8 +2,9 @@
 use Rattle.std.proofs.Common.{refl, [], ◌∷◌}
 use Rattle.pict_types.specs.Plain.{plain_bound}
 use Rattle.pict_types.specs.PlainContext.{names_of, plain_context}
-use Rattle.pict_infer.proofs.Growing.{on_ok, grew_types, opened_types}
+use Rattle.pict_infer.proofs.Growing.{grew_types, opened_types}
 use Rattle.pict_infer.proofs.env.Env.push_type.Goals as goal
+use Rattle.pict_syntax.proofs.ListLemmas.{on_ok}
 
 pub returns-clause-known : goal.returns-clause-known
 returns-clause-known c =
