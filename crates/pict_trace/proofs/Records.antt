@@ -37,13 +37,6 @@ closes others depth before rest after x = subst Closes (sym x.whole) (closes_lab
 no_four : (v : Val) → lead_of v ≢ 4
 no_four v e = grind arith
 
-labelled_lead : (others : List (List ℕ)) (depth : ℕ) (before rest after : List ℕ) → LeftLabelled others depth before (32 ∷ rest) after → lead rest ≢ 4
-labelled_lead others depth before rest after x e = by x.labels x.orderly x.whole
-  where
-    by : (ls : Labelled) → LabelsAfter others before ls → 32 ∷ rest ≡ spaced_labels others ls (93 ∷ after) → ⊥
-    by no_labelled h f = never_same _ _ (sym f)
-    by (more_labelled l v ls) h f = omega (arith, sym e ∙ ap lead (ap tail f) ∙ lead_word (text_of others l) (61 ∷ (value_text others v ++ spaced_labels others ls (93 ∷ after))) h.0.0)
-
 labelled_head : (others : List (List ℕ)) (depth : ℕ) (before r after : List ℕ) → LeftLabelled others depth before r after → (r ≡ 93 ∷ after) ⊎ ((more : List ℕ) × (r ≡ 32 ∷ more))
 labelled_head others depth before r after x = by x.labels x.whole
   where
