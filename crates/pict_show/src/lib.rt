@@ -2,6 +2,8 @@
 #![tactic(auto)]
 
 mod quoted;
+#[cfg(test)]
+mod tests;
 mod value;
 
 pub use quoted::{write_quoted, written};
