@@ -9,9 +9,9 @@ use Rattle.pict_typing.specs.Worlds.{over}
 use Rattle.pict_typing.specs.Processes.{IsTyped, IsWellTyped}
 use Rattle.pict_typing.proofs.Rows.{free_step_typed, not_wrong}
 use Rattle.pict_typing.proofs.Within.{typed_are_closed}
-use Rattle.pict_sound.specs.Reached.{FreelyReaches, at_start, by_step}
+use Rattle.pict_reduction.specs.Reached.{FreelyReaches, at_start, by_step}
 use Rattle.pict_sound.specs.TypingLaws.{FreeStepsKeepTyping, WellTypedIsNotWrong, nowhere, first, NoChoicesGoWrong, TypedIsNeverWrong, TypedStepsAreNotWrong, TypedRunsAreNotWrong}
-use Rattle.pict_sound.proofs.Apart.{opening_reached}
+use Rattle.pict_reduction.proofs.Apart.{opening_reached}
 
 pub free_steps_keep_typing : FreeStepsKeepTyping
 free_steps_keep_typing = free_step_typed

@@ -12,7 +12,7 @@ use Rattle.pict_typing.specs.Worlds.{World, IsTypeIn, over}
 use Rattle.pict_typing.specs.Values.{HasType, variable_has, int_has, primitive_has, record_has, packed, folded, sends_unfolding, raised, none_have, more_have, none_labelled}
 use Rattle.pict_typing.specs.Opening.{Opens, binds_one, opens_unfolding, opens_field, opens_record, opens_none, opens_more, opens_no_label}
 use Rattle.pict_typing.specs.Processes.{IsTyped, fresh, beside, output, input, test}
-use Rattle.pict_sound.specs.Reached.{at_start}
+use Rattle.pict_reduction.specs.Reached.{at_start}
 use Rattle.pict_sound.proofs.NeverWrong.{typed_is_never_wrong}
 
 abbrev nowhere : Span

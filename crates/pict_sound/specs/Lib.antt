@@ -1,10 +1,2 @@
-pub mod Congruence
-pub mod Reduction
-pub mod Reading
-pub mod Components
-pub mod Redex
-pub mod Reached
-pub mod Traffic
-pub mod Laws
 pub mod TypingLaws
 pub mod SourceLaws

@@ -6,7 +6,7 @@ use Rattle.pict_core.specs.Step.{Label, IsWrong, Wrong, next}
 use Rattle.pict_core.specs.Run.{Reaches, Misshapen, Runs}
 use Rattle.pict_rules.specs.Derivations.{IsTyped}
 use Rattle.pict_translation.specs.Translation.{program_core}
-use Rattle.pict_sound.specs.Reached.{FreelyReaches}
+use Rattle.pict_reduction.specs.Reached.{FreelyReaches}
 
 -- No configuration that free steps reach from the opening one of a typed program's core process is wrong.
 abbrev pub ProgramIsNeverWrong : Type 0

@@ -6,7 +6,7 @@ use Rattle.pict_core.specs.Step.{Label, Choice, Free, IsWrong, Wrong, next}
 use Rattle.pict_core.specs.Run.{Reaches, Misshapen, Runs}
 use Rattle.pict_typing.specs.Worlds.{over}
 use Rattle.pict_typing.specs.Processes.{IsTyped, IsWellTyped}
-use Rattle.pict_sound.specs.Reached.{FreelyReaches}
+use Rattle.pict_reduction.specs.Reached.{FreelyReaches}
 
 -- Each free step of a well typed configuration gives a well typed one.
 abbrev pub FreeStepsKeepTyping : Type 0

@@ -1,15 +1,10 @@
-//! Laws of core terms and their steps over the definitions alone: structural congruence, reduction, order on a channel,
-//! typing, which free steps keep, and typed programs, which are never wrong.
+//! Laws of core typing and of typed programs over the definitions alone: free steps keep typing, and typed programs are never
+//! wrong.
 #![tactic(auto)]
 
-mod laws;
 mod source_laws;
 mod typing_laws;
 
-pub use laws::{
-    law_channel_order, law_components, law_done, law_parked, law_reading, law_redex,
-    law_runs_reduce,
-};
 pub use pict_bridge::law_source_to_core;
 pub use source_laws::law_never_wrong;
 pub use typing_laws::{

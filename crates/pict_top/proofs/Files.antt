@@ -8,21 +8,20 @@ use Rattle.pict_syntax.specs.declared.code.Code.{Code}
 use Rattle.pict_syntax.specs.declared.code.Code.TheVariants.{B1}
 use Rattle.pict_syntax.specs.declared.span.Span.{Span}
 use Rattle.pict_core.specs.Term.{Process}
-use Rattle.pict_core.specs.Step.{Label}
-use Rattle.pict_core.specs.Run.{End, Runs}
-use Rattle.pict_top.specs.Words.{Command, options_of, file_of}
+use Rattle.pict_core.specs.Run.{End}
+use Rattle.pict_top.specs.Words.{Command, file_of}
 use Rattle.pict_top.specs.Front.{Refused, Accepted, IsFront, first_place}
-use Rattle.pict_top.specs.Answer.{Absent, Refusal, Ran}
+use Rattle.pict_top.specs.Answer.{Absent, Refusal, Ended, Does}
 use Rattle.pict_top.specs.Outcome.{Outcome, outcome_of}
 use Rattle.pict_top.specs.Owed.{OwesText, OwesFile}
 
 pub owes_refusal : (text : List ℕ) (command : Command) (code : Code) (span : Span) → length text ≤ TEXT_LIMIT → IsFront text (Refused code span) → OwesText text command (outcome_of command text (Refusal code span))
-owes_refusal text command code span short stands = (Refusal code span, inr (record { short = short; front = Refused code span; stands = stands; runs = refl }), refl)
+owes_refusal text command code span short stands = (Refusal code span, inr (record { short = short; front = Refused code span; stands = stands; done = refl }), refl)
 
-pub owes_run : (text : List ℕ) (command : Command) (process : Process) (end : End) (labels : List (ℕ × Label)) → length text ≤ TEXT_LIMIT → IsFront text (Accepted process) → Runs process (options_of command).fuel end labels → OwesText text command (outcome_of command text (Ran end labels))
-owes_run text command process end labels short stands runs = (
-  Ran end labels,
-  inr (record { short = short; front = Accepted process; stands = stands; runs = (end, labels, runs, refl) }),
+pub owes_work : (text : List ℕ) (command : Command) (names : List (List ℕ)) (process : Process) (end : End) (bytes : List ℕ) → length text ≤ TEXT_LIMIT → IsFront text (Accepted names process) → Does command names process end bytes → OwesText text command (outcome_of command text (Ended end bytes))
+owes_work text command names process end bytes short stands does = (
+  Ended end bytes,
+  inr (record { short = short; front = Accepted names process; stands = stands; done = (end, bytes, does, refl) }),
   refl,
 )
 

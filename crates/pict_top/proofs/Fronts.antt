@@ -1,10 +1,9 @@
 -- What the phases before the run say of a text.
-use Rattle.std.proofs.Common.{◌≡◌, ℕ, ◌<◌, List, [], length, Option, Some, None, inl, inr, refl, sym, ap, ◌∙◌, subst, IfSome, Ok, Err}
-use Rattle.std.specs.Prelude.{Result, IsSomeAnd}
+use Rattle.std.proofs.Common.{◌≡◌, ℕ, ◌<◌, List, [], length, Option, Some, None, inl, inr, refl, sym, ap, ◌∙◌, subst, IfSome, Err}
+use Rattle.std.specs.Prelude.{IsSomeAnd}
 use Rattle.pict_syntax.specs.declared.limits.TheConstants.{DEPTH_LIMIT}
 use Rattle.pict_syntax.specs.declared.token.Token.{Token}
 use Rattle.pict_syntax.specs.declared.code.Code.TheVariants.{C1}
-use Rattle.pict_syntax.specs.declared.tree.Program.{Program}
 use Rattle.pict_syntax.specs.Names.{with_names}
 use Rattle.pict_syntax.specs.Cuts.{named, tokens_of}
 use Rattle.pict_syntax.proofs.LawLemmas.{one_whole_cut}
@@ -12,7 +11,6 @@ use Rattle.pict_syntax.specs.Verdicts.{Verdict, IsVerdict}
 use Rattle.pict_syntax.specs.Verdicts as verdict
 use Rattle.pict_lex.specs.Lex.{AreTokens, GainsNames}
 use Rattle.pict_core.specs.Term.{Process, depth_of}
-use Rattle.pict_core.specs.declared.process.Core.{Core}
 use Rattle.pict_parse.specs.declared.entry.ParseError.{ParseError}
 use Rattle.pict_parse.specs.declared.entry.ParseError.TheVariants as parse
 use Rattle.pict_parse.specs.Answers.{verdict_of}
@@ -20,9 +18,9 @@ use Rattle.pict_top.specs.Front.{Front, Refused, IsFront, IsTranslated, IsJudged
 use Rattle.pict_top.specs.Phases.{front_of, stop_of}
 use Rattle.pict_top.specs.declared.front.Stop.{Stop}
 
-pub too_deep : (P : Process → Type 0) (process : Option Process) → IsSomeAnd process (λ p. (DEPTH_LIMIT < depth_of p) × P p) → IsTranslated process (Refused C1 first_place)
-too_deep P None h = absurd h
-too_deep P (Some p) h = inl (h.0, refl)
+pub too_deep : (names : List (List ℕ)) (P : Process → Type 0) (process : Option Process) → IsSomeAnd process (λ p. (DEPTH_LIMIT < depth_of p) × P p) → IsTranslated names process (Refused C1 first_place)
+too_deep names P None h = absurd h
+too_deep names P (Some p) h = inl (h.0, refl)
 
 -- the tokens have a verdict
 pub judged : (text : List ℕ) (old new : List (List ℕ)) (tokens : List Token) → old ≡ [] → AreTokens new 1 text tokens → GainsNames old new text → (v : Verdict) → IsVerdict tokens (length text) v → (f : Front) → IsJudged new v f → IsFront text f

@@ -1,6 +1,7 @@
-pub mod Meeting
 pub mod Files
 pub mod One
+pub mod Sound
+pub mod Meeting
 pub mod Lists
 pub mod Continuing
 pub mod Written

@@ -1,5 +1,5 @@
 -- Lists of a known length.
-use Rattle.std.proofs.Common.{◌≡◌, ℕ, ◌<◌, ◌≤◌, List, [], ◌∷◌, length, get_or, arith, Bor, refl, sym, subst, Result, Ok, Err}
+use Rattle.std.proofs.Common.{◌≡◌, ℕ, ◌<◌, ◌≤◌, List, [], ◌∷◌, length, get_or, arith, Bor, refl, sym, subst, Result}
 use Rattle.std.specs.Prelude.{OnErr}
 use Rattle.pict_top.specs.Plain.{texts_of}
 use Rattle.pict_top.specs.Words.{HasNoShape}

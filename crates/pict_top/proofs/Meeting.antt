@@ -1,11 +1,19 @@
 -- How a call meets what is owed.
-use Rattle.std.proofs.Common.{◌≡◌, ap, refl, sym, ◌∙◌, subst, ◌⊎◌, inl, inr}
+use Rattle.std.proofs.Common.{◌≡◌, ℕ, List, ap, refl, sym, ◌∙◌, subst, ◌⊎◌, inl, inr}
+use Rattle.pict_outside.specs.Counts.{Rose}
 use Rattle.pict_outside.proofs.Gaining.{front_of_all}
 use Rattle.pict_top.specs.Outcome.{Outcome}
 use Rattle.pict_top.specs.Changes.{SinkChange, Gained, GainedFront, Untouched, Failed}
 use Rattle.pict_top.specs.Meets.{Meets, Reports, Tells, IsDecided, Delivers, SomeOutcome}
+use Rattle.pict_top.specs.Headline.{Headline, ShelfChange, ShelfFailed}
+use Rattle.pict_top.specs.Owed.{OwesWords, FaultsWords}
+use Rattle.pict_top.specs.Reports.{usage_report}
+use Rattle.pict_top.specs.Words.{HasNoShape}
 use Rattle.pict_top.specs.declared.status.Status.{Status}
+use Rattle.pict_top.specs.declared.status.Status.TheVariants as status
 use Rattle.pict_top.specs.declared.status.Status.TheVariants.{ReadFault, WriteFault, Memory}
+use Rattle.pict_top.proofs.Sound.{accepted_sound}
+use Rattle.pict_top.proofs.One.{at_most_one, usage_is_for_no_shape}
 
 decided : (Owes Faults : Outcome → Type 0) (failed : Type 0) (out err : SinkChange) (s : Status) → IsDecided s → (o : Outcome) → Owes o → o.status ≡ s → Delivers out err o → Meets Owes Faults failed out err s
 decided Owes Faults failed out err ReadFault is o owes e d = absurd is
@@ -55,19 +63,21 @@ when_decided Owes Faults failed out err WriteFault m is = absurd is
 when_decided Owes Faults failed out err Memory m is = absurd is
 when_decided Owes Faults failed out err s m is = m
 
-pub when : (Owes Faults : Outcome → Type 0) (failed : Type 0) (out err : SinkChange) (s t : Status) → Meets Owes Faults failed out err s → s ≡ t → Meets Owes Faults failed out err t
-when Owes Faults failed out err s t m e = let P : Status → Type 0 = Meets Owes Faults failed out err in subst P e m
-
--- where no count rose, the status is that of what is owed, or memory ran out
-pub when_no_fault : (Owes Faults : Outcome → Type 0) (failed : Type 0) (out err : SinkChange) (s : Status) (o : Outcome) → Meets Owes Faults failed out err s → ((p : Outcome) → Owes p → p ≡ o) → ¬ failed → ¬ (Failed out) → ¬ (Failed err) → (s ≡ o.status) ⊎ (s ≡ Memory)
-when_no_fault Owes Faults failed out err ReadFault o m one a b c = absurd (a m.0)
-when_no_fault Owes Faults failed out err WriteFault o m one a b c =
+-- where no count rose the status is decided, or memory ran out
+pub when_no_fault : (Owes Faults : Outcome → Type 0) (failed : Type 0) (out err : SinkChange) (s : Status) → Meets Owes Faults failed out err s → ¬ failed → ¬ (Failed out) → ¬ (Failed err) → IsDecided s ⊎ (s ≡ Memory)
+when_no_fault Owes Faults failed out err ReadFault m a b c = absurd (a m.0)
+when_no_fault Owes Faults failed out err WriteFault m a b c =
     elim m [
       | inl (p, owes, broke) ↦ elim broke [ inl (f, kept) ↦ absurd (b f.failed) | inr (printed, f) ↦ absurd (c f.failed) ]
       | inr (rose, more) ↦ absurd (a rose)
     ]
-when_no_fault Owes Faults failed out err Memory o m one a b c = inr refl
-when_no_fault Owes Faults failed out err s o m one a b c = inl (sym m.2.0 ∙ ap (λ x. x.status) (one m.0 m.1))
+when_no_fault Owes Faults failed out err Memory m a b c = inr refl
+when_no_fault Owes Faults failed out err s m a b c = inl tt
+
+-- then it is that of the outcome, where only one is owed
+one_status : (Owes Faults : Outcome → Type 0) (failed : Type 0) (out err : SinkChange) (s : Status) (o : Outcome) → ((p : Outcome) → Owes p → p ≡ o) → Meets Owes Faults failed out err s → IsDecided s ⊎ (s ≡ Memory) → (s ≡ o.status) ⊎ (s ≡ Memory)
+one_status Owes Faults failed out err s o one m (inl is) = let some = when_decided Owes Faults failed out err s m is in inl (sym some.2.0 ∙ ap (λ x. x.status) (one some.0 some.1))
+one_status Owes Faults failed out err s o one m (inr is) = inr is
 
 -- whatever the status, a beginning of what is owed was printed
 pub front_printed : (Owes Faults : Outcome → Type 0) (failed : Type 0) (out err : SinkChange) (s : Status) → Meets Owes Faults failed out err s → Untouched out ⊎ SomeOutcome Owes (λ o. GainedFront out o.printed)
@@ -79,3 +89,27 @@ front_printed Owes Faults failed out err WriteFault m =
     ]
 front_printed Owes Faults failed out err Memory m = m.1
 front_printed Owes Faults failed out err s m = inr (m.0, m.1, front_of_all out.old_taken out.new_taken m.0.printed m.2.1.printed)
+
+pub when : (Owes Faults : Outcome → Type 0) (failed : Type 0) (out err : SinkChange) (s t : Status) → Meets Owes Faults failed out err s → s ≡ t → Meets Owes Faults failed out err t
+when Owes Faults failed out err s t m e = let P : Status → Type 0 = Meets Owes Faults failed out err in subst P e m
+
+-- what `pict` promises, from what its parts do
+pub headline : (words : List (List ℕ)) (shelf : ShelfChange) (out err : SinkChange) (s : Status) → Meets (OwesWords words shelf.held) (FaultsWords words) (ShelfFailed shelf) out err s
+    → (HasNoShape words → Untouched out × Tells status.Usage usage_report err s) → (s ≡ status.Missing → Rose shelf.old_misses shelf.new_misses) → Headline words shelf out err s
+headline words shelf out err s m usage missing =
+    let Owes = OwesWords words shelf.held in
+    let Faults = FaultsWords words in
+    record {
+      complete = λ texts o told owes a b c. one_status Owes Faults (ShelfFailed shelf) out err s o
+          (λ p q. at_most_one words texts p o (subst (λ held. OwesWords words held p) told q) owes) m (when_no_fault Owes Faults (ShelfFailed shelf) out err s m a b c);
+      answered = when_no_fault Owes Faults (ShelfFailed shelf) out err s m;
+      decided = when_decided Owes Faults (ShelfFailed shelf) out err s m;
+      write_fault = λ e. when Owes Faults (ShelfFailed shelf) out err s WriteFault m e;
+      read_fault = λ e. when Owes Faults (ShelfFailed shelf) out err s ReadFault m e;
+      memory = λ e. (when Owes Faults (ShelfFailed shelf) out err s Memory m e).0;
+      printed = front_printed Owes Faults (ShelfFailed shelf) out err s m;
+      missing = missing;
+      usage = usage;
+      sound = accepted_sound words shelf.held;
+      usage_only = λ e. let o = when Owes Faults (ShelfFailed shelf) out err s status.Usage m e in usage_is_for_no_shape words shelf.held o.0 o.1 o.2.0;
+    }

@@ -1,5 +1,5 @@
 -- Words over a shelf that tells its texts come to at most one outcome.
-use Rattle.std.proofs.Common.{arith, ◌≡◌, ℕ, ◌≤◌, inl, inr, List, length, Option, Some, None, ap, sym, ◌∙◌, subst}
+use Rattle.std.proofs.Common.{arith, ◌≡◌, ℕ, ◌≤◌, inl, inr, List, [], length, get_or, Option, Some, None, ap, sym, ◌∙◌, subst}
 use Rattle.std.proofs.lemmas.Fmt.{decimal_injective}
 use Rattle.pict_syntax.specs.declared.limits.TheConstants.{FUEL_LIMIT}
 use Rattle.pict_outside.specs.Texts.{Texts}
@@ -9,12 +9,13 @@ use Rattle.pict_syntax.specs.Verdicts.{Verdict, Program, Unexpected, TooNested, 
 use Rattle.pict_automaton.proofs.OneVerdict.{one_verdict}
 use Rattle.pict_core.specs.Term.{Process}
 use Rattle.pict_core.specs.Configuration.{opening}
-use Rattle.pict_core.specs.Run.{Done, FuelSpent, Trap, Misshapen}
+use Rattle.pict_core.specs.Step.{Label}
+use Rattle.pict_core.specs.Run.{End, Done, FuelSpent, Trap, Misshapen}
 use Rattle.pict_core.proofs.OneRun.{one_run}
 use Rattle.pict_channels.specs.Translation.{program_core}
-use Rattle.pict_top.specs.Words.{Command, Run, HasShape, HasNoShape, options_of}
+use Rattle.pict_top.specs.Words.{Command, Run, Trace, Code, Options, HasShape, HasNoShape, word_of, options_of}
 use Rattle.pict_top.specs.Front.{Front, Refused, Accepted, IsFront, IsTranslated, IsJudged, names_in, tokens_in}
-use Rattle.pict_top.specs.Answer.{Answer, Absent, Refusal, Ran, IsAnswer, IsRun}
+use Rattle.pict_top.specs.Answer.{Answer, Absent, Refusal, Ended, IsAnswer, IsDone, Does, Shows}
 use Rattle.pict_top.specs.Outcome.{Outcome, outcome_of, text_in}
 use Rattle.pict_top.specs.Owed.{OwesFile, OwesWords}
 use Rattle.pict_top.specs.declared.status.Status.TheVariants as status
@@ -22,36 +23,54 @@ use Rattle.pict_top.specs.declared.status.Status.TheVariants as status
 -- ---- commands
 
 pub within_fuel : (words : List (List ℕ)) (command : Command) → HasShape words command → (options_of command).fuel ≤ FUEL_LIMIT
-within_fuel words (Run o) (inl s) = let e = s.fuel in omega arith
-within_fuel words (Run o) (inr s) = s.fuel
+within_fuel words command (inl s) = let e = s.fuel in omega arith
+within_fuel words command (inr s) = s.fuel
+
+-- a command is known by its word and its options
+same_command : (a b : Command) → word_of a ≡ word_of b → options_of a ≡ options_of b → a ≡ b
+same_command (Run o) (Run p) e f = ap Run f
+same_command (Run o) (Trace p) e f = absurd cc
+same_command (Run o) (Code p) e f = absurd cc
+same_command (Trace o) (Run p) e f = absurd cc
+same_command (Trace o) (Trace p) e f = ap Trace f
+same_command (Trace o) (Code p) e f = absurd cc
+same_command (Code o) (Run p) e f = absurd cc
+same_command (Code o) (Trace p) e f = absurd cc
+same_command (Code o) (Code p) e f = ap Code f
+
+-- and options by their parts
+same_options : (o p : Options) → o.bare ≡ p.bare → o.fuel ≡ p.fuel → o.file ≡ p.file → o ≡ p
+same_options o p bare fuel file i = record { bare = bare i; fuel = fuel i; file = file i }
+
+-- the words of a list that are the same in both
+same_at : (xs ys : List (List ℕ)) (n : ℕ) → xs ≡ ys → get_or xs n [] ≡ get_or ys n []
+same_at xs ys n e = ap (λ ws. get_or ws n []) e
+
+pub three_five : (n : ℕ) → n ≡ 3 → n ≡ 5 → ⊥
+three_five n a b = omega (arith, a, b)
 
 one_command : (words : List (List ℕ)) (a b : Command) → HasShape words a → HasShape words b → a ≡ b
-one_command words (Run o) (Run p) (inl s) (inl t) =
-    let words_same = sym s.shape ∙ t.shape in
-    let file : o.file ≡ p.file = cc in
-    let bare : o.bare ≡ p.bare = s.bare ∙ sym t.bare in
-    let fuel : o.fuel ≡ p.fuel = s.fuel ∙ sym t.fuel in
-    λ i. Run (record { bare = bare i; fuel = fuel i; file = file i })
-one_command words (Run o) (Run p) (inl s) (inr t) = let words_same = sym s.shape ∙ t.shape in absurd cc
-one_command words (Run o) (Run p) (inr s) (inl t) = let words_same = sym s.shape ∙ t.shape in absurd cc
-one_command words (Run o) (Run p) (inr s) (inr t) =
-    let words_same = sym s.shape ∙ t.shape in
-    let file : o.file ≡ p.file = cc in
-    let bare : o.bare ≡ p.bare = s.bare ∙ sym t.bare in
-    let fuel : o.fuel ≡ p.fuel = decimal_injective o.fuel p.fuel (omega (arith, s.fuel)) (omega (arith, t.fuel)) cc in
-    λ i. Run (record { bare = bare i; fuel = fuel i; file = file i })
+one_command words a b (inl s) (inl t) =
+    let same = sym s.shape ∙ t.shape in
+    same_command a b (same_at _ _ 0 same) (same_options (options_of a) (options_of b) (s.bare ∙ sym t.bare) (s.fuel ∙ sym t.fuel) (same_at _ _ 2 same))
+one_command words a b (inl s) (inr t) = absurd (three_five (length words) (ap length s.shape) (ap length t.shape))
+one_command words a b (inr s) (inl t) = absurd (three_five (length words) (ap length t.shape) (ap length s.shape))
+one_command words a b (inr s) (inr t) =
+    let same = sym s.shape ∙ t.shape in
+    let fuel = decimal_injective (options_of a).fuel (options_of b).fuel (omega (arith, s.fuel)) (omega (arith, t.fuel)) (same_at _ _ 3 same) in
+    same_command a b (same_at _ _ 0 same) (same_options (options_of a) (options_of b) (s.bare ∙ sym t.bare) fuel (same_at _ _ 4 same))
 
 -- ---- the phases before the run
 
-one_translated : (process : Option Process) (f g : Front) → IsTranslated process f → IsTranslated process g → f ≡ g
-one_translated None f g a b = a ∙ sym b
-one_translated (Some process) f g (inl a) (inl b) = a.1 ∙ sym b.1
-one_translated (Some process) f g (inl a) (inr b) = let x = a.0 in let y = b.0 in absurd (omega arith)
-one_translated (Some process) f g (inr a) (inl b) = let x = a.0 in let y = b.0 in absurd (omega arith)
-one_translated (Some process) f g (inr a) (inr b) = a.1 ∙ sym b.1
+one_translated : (names : List (List ℕ)) (process : Option Process) (f g : Front) → IsTranslated names process f → IsTranslated names process g → f ≡ g
+one_translated names None f g a b = a ∙ sym b
+one_translated names (Some process) f g (inl a) (inl b) = a.1 ∙ sym b.1
+one_translated names (Some process) f g (inl a) (inr b) = let x = a.0 in let y = b.0 in absurd (omega arith)
+one_translated names (Some process) f g (inr a) (inl b) = let x = a.0 in let y = b.0 in absurd (omega arith)
+one_translated names (Some process) f g (inr a) (inr b) = a.1 ∙ sym b.1
 
 one_judged : (names : List (List ℕ)) (v : Verdict) (f g : Front) → IsJudged names v f → IsJudged names v g → f ≡ g
-one_judged names (Program p) f g a b = one_translated (program_core names p) f g a b
+one_judged names (Program p) f g a b = one_translated names (program_core names p) f g a b
 one_judged names (Unexpected span) f g a b = a ∙ sym b
 one_judged names (TooNested span) f g a b = a ∙ sym b
 
@@ -74,28 +93,39 @@ one_front text f g (inr a) (inr b) =
 
 -- ---- answers
 
-one_ran : (fuel : ℕ) (f : Front) (a b : Answer) → IsRun fuel f a → IsRun fuel f b → a ≡ b
-one_ran fuel (Refused code span) a b x y = x ∙ sym y
-one_ran fuel (Accepted process) a b (e, ls, r, x) (g, ms, s, y) =
-    let one = one_run (opening process) fuel e g ls ms r s in
-    x ∙ ap (λ end. Ran end ls) one.0 ∙ ap (Ran g) one.1 ∙ sym y
+one_shown : (p : Process) (fuel : ℕ) (written : List (ℕ × Label) → List ℕ) (e g : End) (a b : List ℕ) → Shows p fuel written e a → Shows p fuel written g b → (e ≡ g) × (a ≡ b)
+one_shown p fuel written e g a b x y =
+    let one = one_run (opening p) fuel e g x.labels y.labels x.runs y.runs in
+    (one.0, x.shows ∙ ap written one.1 ∙ sym y.shows)
 
-one_answer : (fuel : ℕ) (file : Option (List ℕ)) (a b : Answer) → IsAnswer fuel file a → IsAnswer fuel file b → a ≡ b
-one_answer fuel None a b x y = x ∙ sym y
-one_answer fuel (Some text) a b (inl x) (inl y) = x.refused ∙ sym y.refused
-one_answer fuel (Some text) a b (inl x) (inr y) = let l = x.long in let s = y.short in absurd (omega arith)
-one_answer fuel (Some text) a b (inr x) (inl y) = let l = y.long in let s = x.short in absurd (omega arith)
-one_answer fuel (Some text) a b (inr x) (inr y) =
-    let P : Front → Type 0 = λ f. IsRun fuel f a in
-    one_ran fuel y.front a b (subst P (one_front text x.front y.front x.stands y.stands) x.runs) y.runs
+-- a command's work has one end, and writes the same bytes
+one_work : (command : Command) (names : List (List ℕ)) (p : Process) (e g : End) (a b : List ℕ) → Does command names p e a → Does command names p g b → (e ≡ g) × (a ≡ b)
+one_work (Run o) names p e g a b x y = one_shown p o.fuel _ e g a b x y
+one_work (Trace o) names p e g a b x y = one_shown p o.fuel _ e g a b x y
+one_work (Code o) names p e g a b x y = (x.done ∙ sym y.done, x.listing ∙ sym y.listing)
+
+one_done : (command : Command) (f : Front) (a b : Answer) → IsDone command f a → IsDone command f b → a ≡ b
+one_done command (Refused code span) a b x y = x ∙ sym y
+one_done command (Accepted names process) a b (e, ls, r, x) (g, ms, s, y) =
+    let one = one_work command names process e g ls ms r s in
+    x ∙ ap (λ end. Ended end ls) one.0 ∙ ap (Ended g) one.1 ∙ sym y
+
+one_answer : (command : Command) (file : Option (List ℕ)) (a b : Answer) → IsAnswer command file a → IsAnswer command file b → a ≡ b
+one_answer command None a b x y = x ∙ sym y
+one_answer command (Some text) a b (inl x) (inl y) = x.refused ∙ sym y.refused
+one_answer command (Some text) a b (inl x) (inr y) = let l = x.long in let s = y.short in absurd (omega arith)
+one_answer command (Some text) a b (inr x) (inl y) = let l = y.long in let s = x.short in absurd (omega arith)
+one_answer command (Some text) a b (inr x) (inr y) =
+    let P : Front → Type 0 = λ f. IsDone command f a in
+    one_done command y.front a b (subst P (one_front text x.front y.front x.stands y.stands) x.done) y.done
 
 -- ---- outcomes
 
 one_of_command : (texts : Texts) (command : Command) (o p : Outcome) → OwesFile (Some texts) command o → OwesFile (Some texts) command p → o ≡ p
 one_of_command texts command o p x y =
     let same : x.file ≡ y.file = sym x.holds ∙ y.holds in
-    let P : Option (List ℕ) → Type 0 = λ file. IsAnswer (options_of command).fuel file x.answer in
-    let answer = one_answer (options_of command).fuel y.file x.answer y.answer (subst P same x.answers) y.answers in
+    let P : Option (List ℕ) → Type 0 = λ file. IsAnswer command file x.answer in
+    let answer = one_answer command y.file x.answer y.answer (subst P same x.answers) y.answers in
     x.comes ∙ ap (λ file. outcome_of command (text_in file) x.answer) same ∙ ap (outcome_of command (text_in y.file)) answer ∙ sym y.comes
 
 pub at_most_one : (words : List (List ℕ)) (texts : Texts) (o p : Outcome) → OwesWords words (Some texts) o → OwesWords words (Some texts) p → o ≡ p
@@ -106,20 +136,15 @@ at_most_one words texts o p (inl (c, s, x)) (inr (none, e)) = absurd (none c s)
 at_most_one words texts o p (inr (none, e)) (inl (d, t, y)) = absurd (none d t)
 at_most_one words texts o p (inr (none, e)) (inr (none', e')) = e ∙ sym e'
 
-pub one_told : (words : List (List ℕ)) (held : Option Texts) (texts : Texts) (o p : Outcome) → held ≡ Some texts → OwesWords words held o → OwesWords words (Some texts) p → o ≡ p
-one_told words held texts o p tells x y =
-    let P : Option Texts → Type 0 = λ h. OwesWords words h o in
-    at_most_one words texts o p (subst P tells x) y
-
 -- ---- the status Usage
 
 decides_else : (command : Command) (text : List ℕ) (a : Answer) → (outcome_of command text a).status ≡ status.Usage → ⊥
 decides_else command text Absent is = cc
 decides_else command text (Refusal code span) is = cc
-decides_else command text (Ran Done labels) is = cc
-decides_else command text (Ran FuelSpent labels) is = cc
-decides_else command text (Ran (Trap at) labels) is = cc
-decides_else command text (Ran Misshapen labels) is = cc
+decides_else command text (Ended Done bytes) is = cc
+decides_else command text (Ended FuelSpent bytes) is = cc
+decides_else command text (Ended (Trap at) bytes) is = cc
+decides_else command text (Ended Misshapen bytes) is = cc
 
 pub usage_is_for_no_shape : (words : List (List ℕ)) (held : Option Texts) (o : Outcome) → OwesWords words held o → o.status ≡ status.Usage → HasNoShape words
 usage_is_for_no_shape words held o (inl (command, shape, owes)) is =

@@ -1,36 +1,64 @@
 -- What the machine's run says of the run of a process.
-use Rattle.std.proofs.Common.{◌≡◌, ℕ, ◌≤◌, List, [], Option, refl, sym, subst, arith}
-use Rattle.std.specs.Io.KnownBytes.{Keeps}
-use Rattle.pict_outside.specs.Counts.{Rose}
+use Rattle.std.proofs.Common.{◌≡◌, ℕ, List, [], ◌∷◌, ◌++◌, refl, ap, subst, arith}
 use Rattle.pict_outside.proofs.Gaining.{front_of_none}
 use Rattle.pict_core.specs.Term.{Process}
 use Rattle.pict_core.specs.Configuration.{Configuration, opening}
-use Rattle.pict_core.specs.Run.{End, bytes_of}
+use Rattle.pict_core.specs.Step.{Label}
+use Rattle.pict_core.specs.Run.{End, printed_by}
 use Rattle.pict_machine.specs.View.{View}
 use Rattle.pict_machine.specs.Watching.{Ran, BrokeOff, Saw, SawOrTore}
+use Rattle.pict_top.specs.Answer.{Shows}
 use Rattle.pict_top.specs.Changes.{SinkChange, Gained, GainedFront, FailedWithin, Failed, Untouched}
-use Rattle.pict_top.specs.Printed.{written_after, WrittenInPart, HasRun, SomeRun}
+use Rattle.pict_top.specs.Printed.{form_of, shown_in, written_in, written_after, WrittenInPart, Finished, Somehow}
+use Rattle.pict_top.specs.declared.form.Form.{Form}
+use Rattle.pict_top.specs.declared.form.Form.TheVariants.{Printed, Line}
 use Rattle.pict_top.proofs.Continuing.{continues_from}
 use Rattle.pict_top.proofs.Written.{saw_all, saw_part}
 
-pub has_run : (p : Process) (fuel : ℕ) (v : View) (out : SinkChange) (machine_end end : End) → machine_end ≡ end → Ran (opening p) fuel machine_end v (Saw written_after out.old_taken out.new_taken) → HasRun p fuel end out
-has_run p fuel v out machine_end end is ran =
-    let P : End → Type 0 = λ e. HasRun p fuel e out in
-    subst P is (record { labels = ran.labels; runs = ran.runs; written = saw_all out.old_taken out.new_taken ran.labels ran.seen })
+-- what is written label by label is what is shown of all
+written_is_shown : (form : Form) (names : List (List ℕ)) (labels : List (ℕ × Label)) → written_in (form_of form names) labels ≡ shown_in form names labels
+written_is_shown Printed names [] = refl
+written_is_shown Printed names (l ∷ ls) = ap (λ b. printed_by l.1 ++ b) (written_is_shown Printed names ls)
+written_is_shown Line names labels = refl
 
--- a run that broke off wrote a beginning of the whole run's bytes
-pub some_run_part : (p : Process) (fuel : ℕ) (Stands : Configuration → Type 0) (out : SinkChange) → BrokeOff (opening p) fuel Stands (SawOrTore written_after WrittenInPart out.old_taken out.new_taken) → SomeRun p fuel (GainedFront out)
-some_run_part p fuel Stands out broke =
-    let on = continues_from broke.steps (opening p) fuel broke.labels broke.last broke.few broke.reached in
-    record { end = on.end; labels = _; runs = on.runs; holds = saw_part out.old_taken out.new_taken broke.labels on.rest broke.seen }
+module _ (form : Form) (names : List (List ℕ)) (p : Process) (fuel : ℕ) where
+  pub has_run : (v : View) (out : SinkChange) (machine_end end : End) → machine_end ≡ end → Ran (opening p) fuel machine_end v (Saw (written_after (form_of form names)) out.old_taken out.new_taken)
+      → Finished (Shows p fuel (shown_in form names)) end out
+  has_run v out machine_end end is ran =
+      let P : End → Type 0 = λ e. Finished (Shows p fuel (shown_in form names)) e out in
+      let written = saw_all (form_of form names) out.old_taken out.new_taken ran.labels ran.seen in
+      subst P is (record {
+        bytes = shown_in form names ran.labels;
+        does = record { labels = ran.labels; runs = ran.runs; shows = refl };
+        written = subst (Gained out) (written_is_shown form names ran.labels) written;
+      })
 
-pub some_run_failed : (p : Process) (fuel : ℕ) (Stands : Configuration → Type 0) (out : SinkChange) → BrokeOff (opening p) fuel Stands (SawOrTore written_after WrittenInPart out.old_taken out.new_taken) → Failed out → SomeRun p fuel (FailedWithin out)
-some_run_failed p fuel Stands out broke failed =
-    let some = some_run_part p fuel Stands out broke in
-    record { end = some.end; labels = some.labels; runs = some.runs; holds = record { part = some.holds; failed = failed } }
+  -- work that broke off wrote a beginning of what is written of the whole run
+  pub some_run_part : (Stands : Configuration → Type 0) (out : SinkChange) → BrokeOff (opening p) fuel Stands (SawOrTore (written_after (form_of form names)) (WrittenInPart (form_of form names)) out.old_taken out.new_taken)
+      → Somehow (Shows p fuel (shown_in form names)) (GainedFront out)
+  some_run_part Stands out broke =
+      let on = continues_from broke.steps (opening p) fuel broke.labels broke.last broke.few broke.reached in
+      let labels : List (ℕ × Label) = broke.labels ++ on.rest in
+      record {
+        end = on.end;
+        bytes = shown_in form names labels;
+        does = record { labels = labels; runs = on.runs; shows = refl };
+        holds = subst (GainedFront out) (written_is_shown form names labels) (saw_part (form_of form names) out.old_taken out.new_taken broke.labels on.rest broke.seen);
+      }
 
--- each process has a run
-pub some_run : (p : Process) (fuel : ℕ) (out : SinkChange) → Untouched out → SomeRun p fuel (GainedFront out)
-some_run p fuel out kept =
-    let on = continues_from 0 (opening p) fuel [] (opening p) (omega arith) (refl, refl) in
-    record { end = on.end; labels = on.rest; runs = on.runs; holds = front_of_none out.old_taken out.new_taken (bytes_of on.rest) kept }
+  pub some_run_failed : (Stands : Configuration → Type 0) (out : SinkChange) → BrokeOff (opening p) fuel Stands (SawOrTore (written_after (form_of form names)) (WrittenInPart (form_of form names)) out.old_taken out.new_taken)
+      → Failed out → Somehow (Shows p fuel (shown_in form names)) (FailedWithin out)
+  some_run_failed Stands out broke failed =
+      let some = some_run_part Stands out broke in
+      record { end = some.end; bytes = some.bytes; does = some.does; holds = record { part = some.holds; failed = failed } }
+
+  -- each process has a run
+  pub some_run : (out : SinkChange) → Untouched out → Somehow (Shows p fuel (shown_in form names)) (GainedFront out)
+  some_run out kept =
+      let on = continues_from 0 (opening p) fuel [] (opening p) (omega arith) (refl, refl) in
+      record {
+        end = on.end;
+        bytes = shown_in form names on.rest;
+        does = record { labels = on.rest; runs = on.runs; shows = refl };
+        holds = front_of_none out.old_taken out.new_taken (shown_in form names on.rest) kept;
+      }

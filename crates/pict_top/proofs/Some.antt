@@ -1,5 +1,5 @@
 -- Words over a shelf that tells its texts come to an outcome, and so to exactly one.
-use Rattle.std.proofs.Common.{◌≡◌, ◌≢◌, ℕ, ◌≤◌, ◌⊎◌, true, inl, inr, List, [], ◌∷◌, length, Option, Some, None, refl, sym, ◌∙◌, ap, subst, arith, codes}
+use Rattle.std.proofs.Common.{◌≡◌, ◌≢◌, ℕ, ◌≤◌, ◌⊎◌, true, inl, inr, List, [], ◌∷◌, length, get_or, Option, Some, None, refl, sym, ◌∙◌, ap, subst, arith, codes}
 use Rattle.std.specs.Fmt.{decimal}
 use Rattle.std.specs.Str.Parse.{digits_value}
 use Rattle.std.proofs.lemmas.Bool.{cases_lt}
@@ -14,14 +14,18 @@ use Rattle.pict_total.proofs.Judged.{some_verdict}
 use Rattle.pict_total.proofs.Cuts.{some_whole_cut}
 use Rattle.pict_core.specs.Term.{Process, depth_of}
 use Rattle.pict_core.specs.Configuration.{opening}
+use Rattle.pict_core.specs.Step.{Label}
+use Rattle.pict_core.specs.Run.{End, Done}
+use Rattle.pict_code.specs.Nodes.{nodes_of}
+use Rattle.pict_code.specs.Listing.{listing_text}
 use Rattle.pict_channels.specs.Translation.{program_core}
-use Rattle.pict_top.specs.Words.{Command, Run, HasShape, HasNoShape, IsFileWord, options_of, file_of, default_fuel}
+use Rattle.pict_top.specs.Words.{Command, Run, Trace, Code, Options, IsBare, IsBareFueled, HasShape, HasNoShape, IsFileWord, word_of, options_of, takes_fuel, file_of, default_fuel}
 use Rattle.pict_top.specs.Front.{Front, Refused, Accepted, IsFront, IsTranslated, IsJudged, names_in, tokens_in, first_place}
-use Rattle.pict_top.specs.Answer.{Answer, Absent, Refusal, Ran, IsAnswer, IsRun}
+use Rattle.pict_top.specs.Answer.{Answer, Absent, Refusal, Ended, IsAnswer, IsDone, Does, Shows}
 use Rattle.pict_top.specs.Outcome.{Outcome, outcome_of, text_in, usage_outcome}
 use Rattle.pict_top.specs.Owed.{OwesFile, OwesWords, OneOutcome}
 use Rattle.pict_top.proofs.Continuing.{continues_from}
-use Rattle.pict_top.proofs.One.{at_most_one}
+use Rattle.pict_top.proofs.One.{at_most_one, three_five}
 
 -- ---- commands
 
@@ -53,34 +57,113 @@ both_or_not (inl a) (inl b) = inl (a, b)
 both_or_not (inr not_a) b = inr (λ h. not_a h.0)
 both_or_not a (inr not_b) = inr (λ h. not_b h.1)
 
+-- the command that a word asks for, with these options
+command_of : (word : List ℕ) (options : Options) → ((command : Command) × (word ≡ word_of command) × (options_of command ≡ options)) ⊎ ((command : Command) → word ≢ word_of command)
+command_of word options = elim (same_text_or_not word (codes "run")) [
+  | inl e ↦ inl (Run options, e, refl)
+  | inr no_run ↦ elim (same_text_or_not word (codes "trace")) [
+    | inl e ↦ inl (Trace options, e, refl)
+    | inr no_trace ↦ elim (same_text_or_not word (codes "code")) [ inl e ↦ inl (Code options, e, refl) | inr no_code ↦ inr (none no_run no_trace no_code) ]
+  ]
+]
+  where
+    none : word ≢ codes "run" → word ≢ codes "trace" → word ≢ codes "code" → (command : Command) → word ≢ word_of command
+    none no_run no_trace no_code (Run o) e = no_run e
+    none no_run no_trace no_code (Trace o) e = no_trace e
+    none no_run no_trace no_code (Code o) e = no_code e
+
+-- a command that takes fuel
+fueled_or_not : (command : Command) → (takes_fuel command ≡ true) ⊎ (takes_fuel command ≢ true)
+fueled_or_not (Run o) = inl refl
+fueled_or_not (Trace o) = inl refl
+fueled_or_not (Code o) = inr (λ e. cc)
+
+-- whether a command takes fuel hangs on its word alone
+same_fueled : (a b : Command) → word_of a ≡ word_of b → takes_fuel a ≡ takes_fuel b
+same_fueled (Run o) (Run p) e = refl
+same_fueled (Run o) (Trace p) e = refl
+same_fueled (Run o) (Code p) e = absurd cc
+same_fueled (Trace o) (Run p) e = refl
+same_fueled (Trace o) (Trace p) e = refl
+same_fueled (Trace o) (Code p) e = absurd cc
+same_fueled (Code o) (Run p) e = absurd cc
+same_fueled (Code o) (Trace p) e = absurd cc
+same_fueled (Code o) (Code p) e = refl
+
+-- the first word is that of the command
+first_word : (a : List ℕ) (more : List (List ℕ)) (command : Command) → HasShape (a ∷ more) command → a ≡ word_of command
+first_word a more command (inl s) = ap (λ ws. get_or ws 0 []) s.shape
+first_word a more command (inr s) = ap (λ ws. get_or ws 0 []) s.shape
+
 -- three words, and five, of a shape
-abbrev IsThree : List ℕ → List ℕ → List ℕ → Type 0
-IsThree a b file = (a ≡ codes "run") × ((b ≡ codes "--bare") × IsFileWord file)
+abbrev IsThree : List ℕ → List ℕ → Type 0
+IsThree b file = (b ≡ codes "--bare") × IsFileWord file
 
-abbrev IsFive : List ℕ → List ℕ → List ℕ → List ℕ → List ℕ → Type 0
-IsFive a b c fuel file = (a ≡ codes "run") × ((b ≡ codes "--bare") × ((c ≡ codes "--fuel") × (Writes fuel × IsFileWord file)))
+abbrev IsFive : List ℕ → List ℕ → List ℕ → List ℕ → Type 0
+IsFive b c fuel file = (b ≡ codes "--bare") × ((c ≡ codes "--fuel") × (Writes fuel × IsFileWord file))
 
-three : (a b file : List ℕ) → IsThree a b file ⊎ ¬ IsThree a b file → ((command : Command) × HasShape (a ∷ b ∷ file ∷ []) command) ⊎ HasNoShape (a ∷ b ∷ file ∷ [])
-three a b file (inl (run, (bare, is))) = inl (Run (record { bare = true; fuel = default_fuel; file = file }), inl (record { shape = cc; bare = refl; fuel = refl; file = is }))
+abbrev Shapes : List (List ℕ) → Type 0
+Shapes words = ((command : Command) × HasShape words command) ⊎ HasNoShape words
+
+bare_shape : (a b : List ℕ) (command : Command) (options : Options) → a ≡ word_of command → options_of command ≡ options → options.bare ≡ true → options.fuel ≡ default_fuel → b ≡ codes "--bare" → IsFileWord options.file → IsBare (a ∷ b ∷ options.file ∷ []) command
+bare_shape a b command options word same is fuel bare file = record {
+  shape = λ i. word i ∷ bare i ∷ (sym same i).file ∷ [];
+  bare = ap (λ o. o.bare) same ∙ is;
+  fuel = ap (λ o. o.fuel) same ∙ fuel;
+  file = subst (λ o. IsFileWord o.file) (sym same) file;
+}
+
+three : (a b file : List ℕ) → IsThree b file ⊎ ¬ IsThree b file → Shapes (a ∷ b ∷ file ∷ [])
+three a b file (inl (bare, is)) =
+    let options : Options = record { bare = true; fuel = default_fuel; file = file } in
+    elim (command_of a options) [
+      | inl (command, word, same) ↦ inl (command, inl (bare_shape a b command options word same refl refl bare is))
+      | inr other ↦ inr (λ command shape. other command (first_word a (b ∷ file ∷ []) command shape))
+    ]
 three a b file (inr not_three) = inr none
   where
     none : HasNoShape (a ∷ b ∷ file ∷ [])
-    none (Run o) (inl s) = let e = s.shape in let same : o.file ≡ file = cc in not_three (cc, (cc, subst IsFileWord same s.file))
-    none (Run o) (inr s) = let e = s.shape in cc
+    none command (inl s) = not_three (ap (λ ws. get_or ws 1 []) s.shape, subst IsFileWord (sym (ap (λ ws. get_or ws 2 []) s.shape)) s.file)
+    none command (inr s) = three_five 3 refl (ap length s.shape)
 
-five : (a b c fuel file : List ℕ) → IsFive a b c fuel file ⊎ ¬ IsFive a b c fuel file
-    → ((command : Command) × HasShape (a ∷ b ∷ c ∷ fuel ∷ file ∷ []) command) ⊎ HasNoShape (a ∷ b ∷ c ∷ fuel ∷ file ∷ [])
-five a b c fuel file (inl (run, (bare, (option, ((n, few, writes), is))))) =
-    inl (Run (record { bare = true; fuel = n; file = file }), inr (record { shape = cc; bare = refl; fuel = few; file = is }))
+fueled_shape : (a b c fuel : List ℕ) (command : Command) (options : Options) → a ≡ word_of command → takes_fuel command ≡ true → options_of command ≡ options → options.bare ≡ true → options.fuel ≤ FUEL_LIMIT → b ≡ codes "--bare" → c ≡ codes "--fuel"
+    → fuel ≡ decimal options.fuel → IsFileWord options.file → IsBareFueled (a ∷ b ∷ c ∷ fuel ∷ options.file ∷ []) command
+fueled_shape a b c fuel command options word takes same is few bare option writes file = record {
+  shape = λ i. word i ∷ bare i ∷ option i ∷ (writes ∙ ap (λ o. decimal o.fuel) (sym same)) i ∷ (sym same i).file ∷ [];
+  takes = takes;
+  bare = ap (λ o. o.bare) same ∙ is;
+  fuel = subst (λ o. o.fuel ≤ FUEL_LIMIT) (sym same) few;
+  file = subst (λ o. IsFileWord o.file) (sym same) file;
+}
+
+five : (a b c fuel file : List ℕ) → IsFive b c fuel file ⊎ ¬ IsFive b c fuel file → Shapes (a ∷ b ∷ c ∷ fuel ∷ file ∷ [])
+five a b c fuel file (inl (bare, (option, ((n, few, writes), is)))) =
+    let options : Options = record { bare = true; fuel = n; file = file } in
+    elim (command_of a options) [
+      | inl (command, word, same) ↦ elim (fueled_or_not command) [
+        | inl takes ↦ inl (command, inr (fueled_shape a b c fuel command options word takes same refl few bare option writes is))
+        | inr never ↦ inr (unfueled command word never)
+      ]
+      | inr other ↦ inr (λ command shape. other command (first_word a (b ∷ c ∷ fuel ∷ file ∷ []) command shape))
+    ]
+  where
+    unfueled : (command : Command) → a ≡ word_of command → takes_fuel command ≢ true → HasNoShape (a ∷ b ∷ c ∷ fuel ∷ file ∷ [])
+    unfueled command word never other (inl s) = three_five 5 (ap length s.shape) refl
+    unfueled command word never other (inr s) =
+        let first = first_word a (b ∷ c ∷ fuel ∷ file ∷ []) other (inr s) in never (same_fueled command other (sym word ∙ first) ∙ s.takes)
 five a b c fuel file (inr not_five) = inr none
   where
     none : HasNoShape (a ∷ b ∷ c ∷ fuel ∷ file ∷ [])
-    none (Run o) (inl s) = let e = s.shape in cc
-    none (Run o) (inr s) = let e = s.shape in let same : o.file ≡ file = cc in not_five (cc, (cc, (cc, ((o.fuel, s.fuel, cc), subst IsFileWord same s.file))))
+    none command (inl s) = three_five 5 (ap length s.shape) refl
+    none command (inr s) =
+        not_five (
+          ap (λ ws. get_or ws 1 []) s.shape,
+          (ap (λ ws. get_or ws 2 []) s.shape, (((options_of command).fuel, s.fuel, ap (λ ws. get_or ws 3 []) s.shape), subst IsFileWord (sym (ap (λ ws. get_or ws 4 []) s.shape)) s.file)),
+        )
 
 shape_length : (words : List (List ℕ)) (command : Command) → HasShape words command → (length words ≡ 3) ⊎ (length words ≡ 5)
-shape_length words (Run o) (inl s) = inl (ap length s.shape)
-shape_length words (Run o) (inr s) = inr (ap length s.shape)
+shape_length words command (inl s) = inl (ap length s.shape)
+shape_length words command (inr s) = inr (ap length s.shape)
 
 other_length : (words : List (List ℕ)) → length words ≢ 3 → length words ≢ 5 → HasNoShape words
 other_length words no_three no_five command shape = elim (shape_length words command shape) [ inl e ↦ no_three e | inr e ↦ no_five e ]
@@ -89,23 +172,23 @@ command_or_not : (words : List (List ℕ)) → ((command : Command) × HasShape 
 command_or_not [] = inr (other_length [] (λ e. omega (arith, e)) (λ e. omega (arith, e)))
 command_or_not (a ∷ []) = inr (other_length (a ∷ []) (λ e. omega (arith, e)) (λ e. omega (arith, e)))
 command_or_not (a ∷ b ∷ []) = inr (other_length (a ∷ b ∷ []) (λ e. omega (arith, e)) (λ e. omega (arith, e)))
-command_or_not (a ∷ b ∷ c ∷ []) = three a b c (both_or_not (same_text_or_not a (codes "run")) (both_or_not (same_text_or_not b (codes "--bare")) (file_word_or_not c)))
+command_or_not (a ∷ b ∷ c ∷ []) = three a b c (both_or_not (same_text_or_not b (codes "--bare")) (file_word_or_not c))
 command_or_not (a ∷ b ∷ c ∷ d ∷ []) = inr (other_length (a ∷ b ∷ c ∷ d ∷ []) (λ e. omega (arith, e)) (λ e. omega (arith, e)))
 command_or_not (a ∷ b ∷ c ∷ d ∷ e ∷ []) =
-    five a b c d e (both_or_not (same_text_or_not a (codes "run")) (both_or_not (same_text_or_not b (codes "--bare")) (both_or_not (same_text_or_not c (codes "--fuel")) (both_or_not (fuel_or_not d) (file_word_or_not e)))))
+    five a b c d e (both_or_not (same_text_or_not b (codes "--bare")) (both_or_not (same_text_or_not c (codes "--fuel")) (both_or_not (fuel_or_not d) (file_word_or_not e))))
 command_or_not (a ∷ b ∷ c ∷ d ∷ e ∷ f ∷ more) = inr (other_length (a ∷ b ∷ c ∷ d ∷ e ∷ f ∷ more) (λ h. omega (arith, h)) (λ h. omega (arith, h)))
 
 -- ---- the phases before the run
 
-translated : (process : Option Process) → (f : Front) × IsTranslated process f
-translated None = (Refused N1 first_place, refl)
-translated (Some process) = elim (cases_lt DEPTH_LIMIT (depth_of process)) [
+translated : (names : List (List ℕ)) (process : Option Process) → (f : Front) × IsTranslated names process f
+translated names None = (Refused N1 first_place, refl)
+translated names (Some process) = elim (cases_lt DEPTH_LIMIT (depth_of process)) [
   | inl deep ↦ (Refused C1 first_place, inl (deep, refl))
-  | inr fits ↦ (Accepted process, inr (fits, refl))
+  | inr fits ↦ (Accepted names process, inr (fits, refl))
 ]
 
 judged : (names : List (List ℕ)) (v : Verdict) → (f : Front) × IsJudged names v f
-judged names (Program p) = translated (program_core names p)
+judged names (Program p) = translated names (program_core names p)
 judged names (Unexpected span) = (Refused P1 span, refl)
 judged names (TooNested span) = (Refused P2 span, refl)
 
@@ -123,20 +206,31 @@ some_front text = elim (some_whole_cut 1 text) [
 
 -- ---- answers
 
-some_ran : (fuel : ℕ) (f : Front) → (a : Answer) × IsRun fuel f a
-some_ran fuel (Refused code span) = (Refusal code span, refl)
-some_ran fuel (Accepted process) =
-    let on = continues_from 0 (opening process) fuel [] (opening process) (omega arith) (refl, refl) in
-    (Ran on.end on.rest, (on.end, on.rest, on.runs, refl))
+some_shown : (p : Process) (fuel : ℕ) (written : List (ℕ × Label) → List ℕ) → (e : End) × (bytes : List ℕ) × Shows p fuel written e bytes
+some_shown p fuel written =
+    let on = continues_from 0 (opening p) fuel [] (opening p) (omega arith) (refl, refl) in
+    (on.end, written on.rest, record { labels = on.rest; runs = on.runs; shows = refl })
 
-some_answer : (fuel : ℕ) (file : Option (List ℕ)) → (a : Answer) × IsAnswer fuel file a
-some_answer fuel None = (Absent, refl)
-some_answer fuel (Some text) = elim (cases_lt TEXT_LIMIT (length text)) [
+-- a command's work ends somehow
+some_work : (command : Command) (names : List (List ℕ)) (p : Process) → (e : End) × (bytes : List ℕ) × Does command names p e bytes
+some_work (Run o) names p = some_shown p o.fuel _
+some_work (Trace o) names p = some_shown p o.fuel _
+some_work (Code o) names p = (Done, listing_text names (nodes_of p), record { done = refl; listing = refl })
+
+some_done : (command : Command) (f : Front) → (a : Answer) × IsDone command f a
+some_done command (Refused code span) = (Refusal code span, refl)
+some_done command (Accepted names process) =
+    let some = some_work command names process in
+    (Ended some.0 some.1, (some.0, some.1, some.2, refl))
+
+some_answer : (command : Command) (file : Option (List ℕ)) → (a : Answer) × IsAnswer command file a
+some_answer command None = (Absent, refl)
+some_answer command (Some text) = elim (cases_lt TEXT_LIMIT (length text)) [
   | inl long ↦ (Refusal B1 first_place, inl (record { long = long; refused = refl }))
   | inr short ↦
       let f = some_front text in
-      let a = some_ran fuel f.0 in
-      (a.0, inr (record { short = short; front = f.0; stands = f.1; runs = a.1 }))
+      let a = some_done command f.0 in
+      (a.0, inr (record { short = short; front = f.0; stands = f.1; done = a.1 }))
 ]
 
 -- ---- outcomes
@@ -144,7 +238,7 @@ some_answer fuel (Some text) = elim (cases_lt TEXT_LIMIT (length text)) [
 some_of_command : (texts : Texts) (command : Command) → (o : Outcome) × OwesFile (Some texts) command o
 some_of_command texts command =
     let file : Option (List ℕ) = text_of texts (file_of command) in
-    let a = some_answer (options_of command).fuel file in
+    let a = some_answer command file in
     (outcome_of command (text_in file) a.0, record { file = file; holds = refl; answer = a.0; answers = a.1; comes = refl })
 
 some_outcome : (words : List (List ℕ)) (texts : Texts) → (o : Outcome) × OwesWords words (Some texts) o

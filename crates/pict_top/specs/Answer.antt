@@ -1,33 +1,63 @@
--- The answer to a file by the definitions: it isn't there, or its text is refused, or its program is run.
+-- The answer to a file by the definitions: it isn't there, or its text is refused, or the command does its work with the
+-- program.
 use Rattle.std.specs.Prelude.{◌≡◌, ◌⊎◌, ℕ, ◌<◌, ◌≤◌, List, length, Option, Some, None}
 use Rattle.pict_syntax.specs.declared.limits.TheConstants.{TEXT_LIMIT}
-use Rattle.pict_syntax.specs.declared.code.Code.{Code}
+use Rattle.pict_syntax.specs.declared.code.Code as refusals
 use Rattle.pict_syntax.specs.declared.code.Code.TheVariants.{B1}
 use Rattle.pict_syntax.specs.declared.span.Span.{Span}
+use Rattle.pict_core.specs.Term.{Process}
 use Rattle.pict_core.specs.Step.{Label}
-use Rattle.pict_core.specs.Run.{End, Runs}
+use Rattle.pict_core.specs.Run.{End, Done, Runs, bytes_of}
+use Rattle.pict_code.specs.Nodes.{nodes_of}
+use Rattle.pict_code.specs.Listing.{listing_text}
+use Rattle.pict_trace.specs.Lines.{lines_text}
+use Rattle.pict_top.specs.Words.{Command, Run, Trace, Code}
 use Rattle.pict_top.specs.Front.{Front, Refused, Accepted, IsFront, first_place}
+
+-- What a command does with an accepted text: how it ends, and which bytes it writes.
+abbrev pub Work : Type 1
+Work = End → List ℕ → Type 0
+
+-- The process runs with this fuel, and what is written are these bytes of the labels of its steps.
+pub record Shows (process : Process) (fuel : ℕ) (written : List (ℕ × Label) → List ℕ) (end : End) (bytes : List ℕ) : Type 0 where
+  pub labels : List (ℕ × Label)
+  pub runs : Runs process fuel end labels
+  pub shows : bytes ≡ written labels
+
+-- The listing of the process' instructions is written, and that is all.
+pub record Lists (names : List (List ℕ)) (process : Process) (end : End) (bytes : List ℕ) : Type 0 where
+  pub done : end ≡ Done
+  pub listing : bytes ≡ listing_text names (nodes_of process)
+
+-- what a command does with the names and the core process of a text: a row for each command
+abbrev pub Does : Command → List (List ℕ) → Process → Work
+-- what the program prints
+Does (Run options) names process = Shows process options.fuel bytes_of
+-- a line for each communication and each printing
+Does (Trace options) names process = Shows process options.fuel (lines_text names)
+-- the listing of its instructions
+Does (Code options) names process = Lists names process
 
 pub data Answer : Type 0 where
   Absent : Answer
-  Refusal : Code → Span → Answer
-  Ran : End → List (ℕ × Label) → Answer
+  Refusal : refusals.Code → Span → Answer
+  Ended : End → List ℕ → Answer
 
--- behind the phases before the run, with this fuel
-abbrev pub IsRun : ℕ → Front → Answer → Type 0
-IsRun fuel (Refused code span) answer = answer ≡ Refusal code span
-IsRun fuel (Accepted process) answer = (end : End) × (labels : List (ℕ × Label)) × Runs process fuel end labels × (answer ≡ Ran end labels)
+-- behind the phases before the command's own work
+abbrev pub IsDone : Command → Front → Answer → Type 0
+IsDone command (Refused code span) answer = answer ≡ Refusal code span
+IsDone command (Accepted names process) answer = (end : End) × (bytes : List ℕ) × Does command names process end bytes × (answer ≡ Ended end bytes)
 
 pub record IsTooLong (text : List ℕ) (answer : Answer) : Type 0 where
   pub long : TEXT_LIMIT < length text
   pub refused : answer ≡ Refusal B1 first_place
 
-pub record IsAnswered (fuel : ℕ) (text : List ℕ) (answer : Answer) : Type 0 where
+pub record IsAnswered (command : Command) (text : List ℕ) (answer : Answer) : Type 0 where
   pub short : length text ≤ TEXT_LIMIT
   pub front : Front
   pub stands : IsFront text front
-  pub runs : IsRun fuel front answer
+  pub done : IsDone command front answer
 
-abbrev pub IsAnswer : ℕ → Option (List ℕ) → Answer → Type 0
-IsAnswer fuel None answer = answer ≡ Absent
-IsAnswer fuel (Some text) answer = IsTooLong text answer ⊎ IsAnswered fuel text answer
+abbrev pub IsAnswer : Command → Option (List ℕ) → Answer → Type 0
+IsAnswer command None answer = answer ≡ Absent
+IsAnswer command (Some text) answer = IsTooLong text answer ⊎ IsAnswered command text answer

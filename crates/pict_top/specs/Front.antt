@@ -1,4 +1,4 @@
--- What the phases before the run say of a program text: where it is refused, or its core process. Each phase speaks
+-- What the phases before the run say of a program text: where it is refused, or its names and its core process. Each phase speaks
 -- only where the one before accepted the whole text.
 use Rattle.std.specs.Prelude.{◌≡◌, ◌⊎◌, ℕ, ◌<◌, ◌≤◌, List, [], length, Option, Some, None}
 use Rattle.pict_syntax.specs.declared.limits.TheConstants.{DEPTH_LIMIT}
@@ -14,7 +14,7 @@ use Rattle.pict_channels.specs.Translation.{program_core}
 
 pub data Front : Type 0 where
   Refused : Code → Span → Front
-  Accepted : Process → Front
+  Accepted : List (List ℕ) → Process → Front
 
 -- the first byte of the file
 abbrev pub first_place : Span
@@ -28,15 +28,15 @@ abbrev pub tokens_in : List Piece → List Token
 tokens_in pieces = tokens_of (names_in pieces) 1 0 pieces
 
 -- a program's core process, if the program is built of the forms that are translated and all its names are bound
-abbrev pub IsTranslated : Option Process → Front → Type 0
-IsTranslated None front = front ≡ Refused N1 first_place
-IsTranslated (Some process) front =
+abbrev pub IsTranslated : List (List ℕ) → Option Process → Front → Type 0
+IsTranslated names None front = front ≡ Refused N1 first_place
+IsTranslated names (Some process) front =
     ((DEPTH_LIMIT < depth_of process) × (front ≡ Refused C1 first_place))
-    ⊎ ((depth_of process ≤ DEPTH_LIMIT) × (front ≡ Accepted process))
+    ⊎ ((depth_of process ≤ DEPTH_LIMIT) × (front ≡ Accepted names process))
 
 -- behind what the grammar says
 abbrev pub IsJudged : List (List ℕ) → Verdict → Front → Type 0
-IsJudged names (Program p) front = IsTranslated (program_core names p) front
+IsJudged names (Program p) front = IsTranslated names (program_core names p) front
 IsJudged names (Unexpected span) front = front ≡ Refused P1 span
 IsJudged names (TooNested span) front = front ≡ Refused P2 span
 

@@ -10,3 +10,5 @@ pub mod Owed
 pub mod Changes
 pub mod Meets
 pub mod Printed
+pub mod Soundness
+pub mod Headline

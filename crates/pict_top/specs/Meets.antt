@@ -46,7 +46,7 @@ Tells status text err result = ((result ≡ status) × Gained err text) ⊎ ((re
 abbrev pub Reports : Status → List ℕ → SinkChange → Status → Type 0
 Reports status text err result = Tells status text err result ⊎ ((result ≡ Memory) × Untouched err)
 
--- what is reported behind the end of a run: nothing of one that is done
+-- what is reported behind the end of the work: nothing of work that is done
 abbrev pub EndReports : List ℕ → List ℕ → End → SinkChange → Status → Type 0
 EndReports file text Done err result = (result ≡ status.Done) × Untouched err
 EndReports file text FuelSpent err result = Tells status.FuelSpent spent_report err result

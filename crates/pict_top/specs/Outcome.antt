@@ -1,11 +1,9 @@
 -- What a command comes to, by its file and the answer to it, where no device fails.
-use Rattle.std.specs.Prelude.{◌≡◌, ℕ, List, [], Option, Some, None}
-use Rattle.pict_syntax.specs.declared.span.Span.{Span}
+use Rattle.std.specs.Prelude.{ℕ, List, [], Option, Some, None}
 use Rattle.pict_syntax.specs.Position.{line_of, column_of}
-use Rattle.pict_core.specs.Step.{Label}
-use Rattle.pict_core.specs.Run.{bytes_of, End, Done, FuelSpent, Trap, Misshapen}
-use Rattle.pict_top.specs.Words.{Command, Run, file_of}
-use Rattle.pict_top.specs.Answer.{Answer, Absent, Refusal, Ran}
+use Rattle.pict_core.specs.Run.{End, Done, FuelSpent, Trap, Misshapen}
+use Rattle.pict_top.specs.Words.{Command, file_of}
+use Rattle.pict_top.specs.Answer.{Answer, Absent, Refusal, Ended}
 use Rattle.pict_top.specs.Reports.{missing_report, refusal_report, fault_report, usage_report, spent_report, trap_report, shape_report}
 use Rattle.pict_top.specs.declared.status.Status.{Status}
 use Rattle.pict_top.specs.declared.status.Status.TheVariants as status
@@ -21,17 +19,13 @@ abbrev pub text_in : Option (List ℕ) → List ℕ
 text_in None = []
 text_in (Some text) = text
 
--- what a command writes of a run with these labels
-abbrev pub written_by : Command → List (ℕ × Label) → List ℕ
-written_by (Run options) labels = bytes_of labels
-
 abbrev pub status_of_end : End → Status
 status_of_end Done = status.Done
 status_of_end FuelSpent = status.FuelSpent
 status_of_end (Trap at) = status.Trap
 status_of_end Misshapen = status.Misshapen
 
--- what is reported of an end: nothing of a run that is done
+-- what is reported of an end: nothing of work that is done
 abbrev pub report_of_end : List ℕ → List ℕ → End → List ℕ
 report_of_end file text Done = []
 report_of_end file text FuelSpent = spent_report
@@ -42,8 +36,8 @@ abbrev pub outcome_of : Command → List ℕ → Answer → Outcome
 outcome_of command text Absent = record { status = status.Missing; printed = []; report = missing_report (file_of command) }
 outcome_of command text (Refusal code span) =
     record { status = status.Refused; printed = []; report = refusal_report (file_of command) (line_of text span.start) (column_of text span.start) code }
-outcome_of command text (Ran end labels) =
-    record { status = status_of_end end; printed = written_by command labels; report = report_of_end (file_of command) text end }
+outcome_of command text (Ended end bytes) =
+    record { status = status_of_end end; printed = bytes; report = report_of_end (file_of command) text end }
 
 -- the outcome where the shelf fails
 abbrev pub read_fault : Command → Outcome

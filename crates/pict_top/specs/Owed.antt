@@ -1,7 +1,10 @@
 -- What the words come to over a shelf, where no device fails.
-use Rattle.std.specs.Prelude.{◌≡◌, ◌⊎◌, ℕ, List, Option, Some, IfSome}
+use Rattle.std.specs.Prelude.{◌≡◌, ◌⊎◌, ℕ, ◌≤◌, List, length, Option, Some, IfSome}
+use Rattle.pict_syntax.specs.declared.limits.TheConstants.{TEXT_LIMIT}
 use Rattle.pict_outside.specs.Texts.{Texts, text_of}
-use Rattle.pict_top.specs.Words.{Command, HasShape, HasNoShape, options_of, file_of}
+use Rattle.pict_core.specs.Term.{Process}
+use Rattle.pict_top.specs.Words.{Command, HasShape, HasNoShape, file_of}
+use Rattle.pict_top.specs.Front.{Accepted, IsFront}
 use Rattle.pict_top.specs.Answer.{Answer, IsAnswer}
 use Rattle.pict_top.specs.Outcome.{Outcome, outcome_of, text_in, read_fault, usage_outcome}
 
@@ -14,12 +17,21 @@ pub record OwesFile (held : Option Texts) (command : Command) (o : Outcome) : Ty
   pub file : Option (List ℕ)
   pub holds : MayHold held (file_of command) file
   pub answer : Answer
-  pub answers : IsAnswer (options_of command).fuel file answer
+  pub answers : IsAnswer command file answer
   pub comes : o ≡ outcome_of command (text_in file) answer
 
 -- what the words come to
 abbrev pub OwesWords : List (List ℕ) → Option Texts → Outcome → Type 0
 OwesWords words held o = ((command : Command) × HasShape words command × OwesFile held command o) ⊎ (HasNoShape words × (o ≡ usage_outcome))
+
+-- the file of the words, as a shelf may hold it, is accepted: it has these names and this core process
+pub record Accepts (words : List (List ℕ)) (held : Option Texts) (names : List (List ℕ)) (process : Process) : Type 0 where
+  pub command : Command
+  pub shape : HasShape words command
+  pub text : List ℕ
+  pub holds : MayHold held (file_of command) (Some text)
+  pub short : length text ≤ TEXT_LIMIT
+  pub front : IsFront text (Accepted names process)
 
 -- what the words come to where the shelf fails
 pub record FaultsWords (words : List (List ℕ)) (o : Outcome) : Type 0 where
@@ -33,4 +45,4 @@ OneOutcome = (words : List (List ℕ)) (texts : Texts) → (o : Outcome) × Owes
 
 -- what a command comes to over this text
 abbrev pub OwesText : List ℕ → Command → Outcome → Type 0
-OwesText text command o = (answer : Answer) × IsAnswer (options_of command).fuel (Some text) answer × (o ≡ outcome_of command text answer)
+OwesText text command o = (answer : Answer) × IsAnswer command (Some text) answer × (o ≡ outcome_of command text answer)

@@ -1,36 +1,58 @@
--- What is printed of a run, and how a run on a sink ends.
+-- What is written of a command's work, and how it ends.
 use Rattle.std.specs.Prelude.{◌≡◌, ℕ, List, ◌++◌}
+use Rattle.std.specs.List.{flat_map}
 use Rattle.pict_outside.specs.Bytes.{IsFrontOf}
-use Rattle.pict_core.specs.Term.{Process}
 use Rattle.pict_core.specs.Step.{Label}
-use Rattle.pict_core.specs.Run.{End, Done, FuelSpent, Trap, Misshapen, Runs, printed_by, bytes_of}
+use Rattle.pict_core.specs.Run.{End, Done, FuelSpent, Trap, Misshapen, printed_by, bytes_of}
+use Rattle.pict_trace.specs.Lines.{line_text, lines_text}
+use Rattle.pict_top.specs.Answer.{Work}
 use Rattle.pict_top.specs.Changes.{SinkChange, Gained}
-use Rattle.pict_top.specs.declared.run.Ended.{Ended}
-use Rattle.pict_top.specs.declared.run.Ended.TheVariants as ended
+use Rattle.pict_top.specs.declared.form.Form as declared
+use Rattle.pict_top.specs.declared.form.Form.TheVariants.{Printed, Line}
+use Rattle.pict_top.specs.declared.run.Finish.{Finish}
+use Rattle.pict_top.specs.declared.run.Finish.TheVariants as finish
+
+-- what is written of a label with its step number
+abbrev pub Form : Type 0
+Form = ℕ → Label → List ℕ
+
+-- by the names of a text
+abbrev pub form_of : declared.Form → List (List ℕ) → Form
+form_of Printed names = λ number label. printed_by label
+form_of Line names = line_text names
+
+-- what is written of the labels of a run
+abbrev pub shown_in : declared.Form → List (List ℕ) → List (ℕ × Label) → List ℕ
+shown_in Printed names = bytes_of
+shown_in Line names = lines_text names
+
+-- what is written of these labels, one after the other
+abbrev pub written_in : Form → List (ℕ × Label) → List ℕ
+written_in form labels = flat_map (λ l. form l.0 l.1) labels
 
 -- what is written, once a label was shown
-abbrev pub written_after : List ℕ → ℕ → Label → List ℕ
-written_after bytes number label = bytes ++ printed_by label
+abbrev pub written_after : Form → List ℕ → ℕ → Label → List ℕ
+written_after form bytes number label = bytes ++ form number label
 
--- a beginning of what a label prints was written
-abbrev pub WrittenInPart : List ℕ → ℕ → Label → List ℕ → Type 0
-WrittenInPart bytes number label after = (front : List ℕ) × IsFrontOf front (printed_by label) × (after ≡ bytes ++ front)
+-- a beginning of what is written of a label was written
+abbrev pub WrittenInPart : Form → List ℕ → ℕ → Label → List ℕ → Type 0
+WrittenInPart form bytes number label after = (front : List ℕ) × IsFrontOf front (form number label) × (after ≡ bytes ++ front)
 
-abbrev pub end_of : Ended → End
-end_of ended.Done = Done
-end_of ended.FuelSpent = FuelSpent
-end_of (ended.Trap at) = Trap at
-end_of ended.Misshapen = Misshapen
+abbrev pub end_of : Finish → End
+end_of finish.Done = Done
+end_of finish.FuelSpent = FuelSpent
+end_of (finish.Trap at) = Trap at
+end_of finish.Misshapen = Misshapen
 
--- the run of this process with this fuel has this end, and its bytes were written
-pub record HasRun (process : Process) (fuel : ℕ) (end : End) (out : SinkChange) : Type 0 where
-  pub labels : List (ℕ × Label)
-  pub runs : Runs process fuel end labels
-  pub written : Gained out (bytes_of labels)
+-- the work has this end, and its bytes were written
+pub record Finished (work : Work) (end : End) (out : SinkChange) : Type 0 where
+  pub bytes : List ℕ
+  pub does : work end bytes
+  pub written : Gained out bytes
 
--- the run of this process with this fuel, whatever its end, and P of its bytes
-pub record SomeRun (process : Process) (fuel : ℕ) (P : List ℕ → Type 0) : Type 0 where
+-- the work, whatever its end, and P of its bytes
+pub record Somehow (work : Work) (P : List ℕ → Type 0) : Type 0 where
   pub end : End
-  pub labels : List (ℕ × Label)
-  pub runs : Runs process fuel end labels
-  pub holds : P (bytes_of labels)
+  pub bytes : List ℕ
+  pub does : work end bytes
+  pub holds : P bytes

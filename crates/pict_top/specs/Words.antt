@@ -1,5 +1,5 @@
 -- The words after the program's name: their shapes, and the command that each shape stands for.
-use Rattle.std.specs.Prelude.{◌≡◌, ◌≢◌, ◌⊎◌, ℕ, ◌≤◌, Bool, true, List, [], ◌∷◌, slice_index, codes}
+use Rattle.std.specs.Prelude.{◌≡◌, ◌≢◌, ◌⊎◌, ℕ, ◌≤◌, Bool, true, false, List, [], ◌∷◌, slice_index, codes}
 use Rattle.std.specs.Fmt.{decimal}
 use Rattle.pict_syntax.specs.declared.limits.TheConstants.{FUEL_LIMIT}
 
@@ -12,8 +12,31 @@ pub record Options : Type 0 where
 -- what a list of words asks for
 pub data Command : Type 0 where
   Run : Options → Command
+  Trace : Options → Command
+  Code : Options → Command
 
--- the fuel of a run without `--fuel`
+-- the word of a command
+abbrev pub word_of : Command → List ℕ
+word_of (Run options) = codes "run"
+word_of (Trace options) = codes "trace"
+word_of (Code options) = codes "code"
+
+abbrev pub options_of : Command → Options
+options_of (Run options) = options
+options_of (Trace options) = options
+options_of (Code options) = options
+
+-- whether a command runs the program, so that its fuel may be given
+abbrev pub takes_fuel : Command → Bool
+takes_fuel (Run options) = true
+takes_fuel (Trace options) = true
+takes_fuel (Code options) = false
+
+-- the name of the file that a command reads
+abbrev pub file_of : Command → List ℕ
+file_of command = (options_of command).file
+
+-- the fuel without `--fuel`
 abbrev pub default_fuel : ℕ
 default_fuel = 1000000
 
@@ -22,31 +45,25 @@ pub record IsFileWord (word : List ℕ) : Type 0 where
   pub not_empty : word ≢ []
   pub no_dash : slice_index word 0 ≢ 45
 
--- `run --bare FILE`
-pub record IsBareRun (words : List (List ℕ)) (options : Options) : Type 0 where
-  pub shape : words ≡ codes "run" ∷ codes "--bare" ∷ options.file ∷ []
-  pub bare : options.bare ≡ true
-  pub fuel : options.fuel ≡ default_fuel
-  pub file : IsFileWord options.file
+-- `COMMAND --bare FILE`
+pub record IsBare (words : List (List ℕ)) (command : Command) : Type 0 where
+  pub shape : words ≡ word_of command ∷ codes "--bare" ∷ file_of command ∷ []
+  pub bare : (options_of command).bare ≡ true
+  pub fuel : (options_of command).fuel ≡ default_fuel
+  pub file : IsFileWord (file_of command)
 
--- `run --bare --fuel N FILE`, where N is decimal, without a sign and without a leading zero
-pub record IsBareFueledRun (words : List (List ℕ)) (options : Options) : Type 0 where
-  pub shape : words ≡ codes "run" ∷ codes "--bare" ∷ codes "--fuel" ∷ decimal options.fuel ∷ options.file ∷ []
-  pub bare : options.bare ≡ true
-  pub fuel : options.fuel ≤ FUEL_LIMIT
-  pub file : IsFileWord options.file
+-- `COMMAND --bare --fuel N FILE`, where N is decimal, without a sign and without a leading zero
+pub record IsBareFueled (words : List (List ℕ)) (command : Command) : Type 0 where
+  pub shape : words ≡ word_of command ∷ codes "--bare" ∷ codes "--fuel" ∷ decimal (options_of command).fuel ∷ file_of command ∷ []
+  pub takes : takes_fuel command ≡ true
+  pub bare : (options_of command).bare ≡ true
+  pub fuel : (options_of command).fuel ≤ FUEL_LIMIT
+  pub file : IsFileWord (file_of command)
 
 -- the words have the shape of this command
 abbrev pub HasShape : List (List ℕ) → Command → Type 0
-HasShape words (Run options) = IsBareRun words options ⊎ IsBareFueledRun words options
+HasShape words command = IsBare words command ⊎ IsBareFueled words command
 
 -- the words have no listed shape
 abbrev pub HasNoShape : List (List ℕ) → Type 0
 HasNoShape words = (command : Command) → HasShape words command → ⊥
-
-abbrev pub options_of : Command → Options
-options_of (Run options) = options
-
--- the name of the file that a command reads
-abbrev pub file_of : Command → List ℕ
-file_of command = (options_of command).file

@@ -33,11 +33,20 @@ pub enum Stop {
     Memory,
 }
 
-/// The core process of a program text, or the first place where a phase refuses the text.
-pub fn process_of(alloc: Global, text: &[u8]) -> Result<Core, Stop>
+/// A text that is accepted: its names, and its core process.
+#[derive(Drop)]
+pub struct Ready {
+    /// The names of the text.
+    pub names: Names,
+    /// The process.
+    pub core: Core,
+}
+
+/// The names and the core process of a program text, or the first place where a phase refuses the text.
+pub fn front(alloc: Global, text: &[u8]) -> Result<Ready, Stop>
     requires short { length text.now ≤ TEXT_LIMIT }
     ensures stands { IfSome (front_of result) (IsFront text.now) }
-    ensures closed { IfOk result (λ core. IsClosed (plain_core core)) }
+    ensures closed { IfOk result (λ ready. IsClosed (plain_core ready.core)) }
 {
     let mut names = Names::new(alloc);
     let tokens = match lex(alloc, &mut names, text, FILE) {
@@ -46,7 +55,7 @@ pub fn process_of(alloc: Global, text: &[u8]) -> Result<Core, Stop>
         Err(LexError::Memory) => return Err(Stop::Memory),
     };
     match parse(alloc, &tokens, text.len() as u32) {
-        Ok(program) => translate(alloc, &names, &program),
+        Ok(program) => translate(alloc, names, &program),
         Err(error) => Err(stop_of(error)),
     }
 }
@@ -62,13 +71,13 @@ fn stop_of(error: ParseError) -> Stop
     }
 }
 
-/// The core process of a program, if it is built of the forms that are translated and isn't too deep.
-fn translate(alloc: Global, names: &Names, program: &Program) -> Result<Core, Stop>
-    ensures stands { IfSome (front_of result) (IsTranslated (program_core names.now (program_of program.now))) }
-    ensures closed { IfOk result (λ core. IsClosed (plain_core core)) }
+/// The names and the core process of a program, if it is built of the forms that are translated and isn't too deep.
+fn translate(alloc: Global, names: Names, program: &Program) -> Result<Ready, Stop>
+    ensures stands { IfSome (front_of result) (IsTranslated names (program_core names (program_of program.now))) }
+    ensures closed { IfOk result (λ ready. IsClosed (plain_core ready.core)) }
 {
-    match derive(alloc, names, program) {
-        Ok(core) => Ok(core),
+    match derive(alloc, &names, program) {
+        Ok(core) => Ok(Ready { names, core }),
         Err(DeriveError::Unbuilt) => Err(Stop::Refused(Code::N1, FIRST_PLACE)),
         Err(DeriveError::TooDeep(_)) => Err(Stop::Refused(Code::C1, FIRST_PLACE)),
         Err(DeriveError::Memory) => Err(Stop::Memory),

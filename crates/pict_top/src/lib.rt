@@ -1,6 +1,7 @@
 //! The commands of `pict`: what the words ask for, and the call that does it over a shelf and two sinks.
 #![tactic(auto)]
 
+mod form;
 mod front;
 mod print;
 mod printer;
@@ -9,6 +10,7 @@ mod run;
 mod status;
 mod top;
 mod words;
+mod work;
 
 pub use status::Status;
 pub use top::{law_one_outcome, pict};

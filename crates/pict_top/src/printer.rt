@@ -1,24 +1,31 @@
-// The watcher that writes what a run prints.
-use crate::print::print;
+// The watcher that writes what the steps of a run show.
+use crate::form::Form;
+use crate::print::{print_event, write_some};
 use pict_machine::{Event, RunError, Watcher};
-use pict_outside::{Sink, SinkFailed};
+use pict_outside::Sink;
+use pict_syntax::Names;
+use pict_trace::line;
+use std::alloc::{AllocError, Global};
 
-/// Writes each printing on a sink, right after its step.
+/// Writes what each step shows on a sink, right after the step, in one write; nothing where there are no bytes.
 #[derive(Drop)]
 pub struct Printer<'a, O: Sink> {
+    pub alloc: Global,
+    pub form: Form,
+    pub names: &'a Names,
     pub out: &'a mut O,
 }
 
 impl<'a, O: Sink> Watcher for Printer<'a, O> {
     ghost use Rattle.std.specs.Prelude.{◌≡◌, refl};
     ghost use Rattle.std.proofs.Common.{◌∙◌};
-    ghost use Rattle.pict_top.specs.Printed.{written_after, WrittenInPart};
+    ghost use Rattle.pict_top.specs.Printed.{form_of, written_after, WrittenInPart};
 
     ghost view = { λ p. O.taken p.out.now };
 
-    ghost next = { λ p. written_after };
+    ghost next = { λ p. written_after (form_of p.form p.names.now) };
 
-    ghost torn = { λ p. WrittenInPart };
+    ghost torn = { λ p. WrittenInPart (form_of p.form p.names.now) };
 
     ghost faults = { λ p. O.faults p.out.now };
 
@@ -29,12 +36,12 @@ impl<'a, O: Sink> Watcher for Printer<'a, O> {
     ghost same_along = { λ p q r e f. f ∙ e };
 
     fn see(&mut self, number: u64, event: &Event) -> Result<(), RunError> {
-        match event {
-            Event::Print(bytes) => match print(self.out, bytes.slice()) {
-                Ok(()) => Ok(()),
-                Err(SinkFailed) => Err(RunError::Sink),
+        match self.form {
+            Form::Printed => print_event(self.out, event),
+            Form::Line => match line(self.alloc, self.names, number, event) {
+                Err(AllocError) => Err(RunError::Memory),
+                Ok(line) => write_some(self.out, &line),
             },
-            _ => Ok(()),
         }
     }
 }

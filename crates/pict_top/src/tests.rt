@@ -161,6 +161,116 @@ fn runs(rt: HostRuntime) -> Result<(), AllocError> {
     Ok(())
 }
 
+/// What a command writes that ends well.
+fn written<'a>(words: &'a [&'a str], text: &'a [u8], out: &'a [u8]) -> Case<'a> {
+    Case {
+        words,
+        text,
+        out,
+        ..HELLO
+    }
+}
+
+#[test]
+fn traces(rt: HostRuntime) -> Result<(), AllocError> {
+    let words: &[&str] = &["trace", "--bare", "F"];
+    let cases = [
+        written(words, ROW, b"5 c0 1\n7 print \"1\"\n"),
+        written(
+            words,
+            b"new c:^Int run c!1 run c!2 run c!3 run c?x = printi!x run c?x = printi!x run c?x = printi!x",
+            b"9 c0 1\n11 c0 2\n12 print \"1\"\n14 c0 3\n15 print \"2\"\n17 print \"3\"\n",
+        ),
+        written(
+            words,
+            b"new c:^Int run c?*x = printi!x run c?y = print!\"p\" run c!1 run c!2 run c!3",
+            b"7 c0 1\n9 c0 2\n10 print \"1\"\n12 c0 3\n13 print \"p\"\n15 print \"3\"\n",
+        ),
+        written(
+            words,
+            b"new c:^Int run c!1 run c!2 run c?*x = printi!x",
+            b"7 c0 1\n8 c0 2\n11 print \"1\"\n12 print \"2\"\n",
+        ),
+        // A channel sent on a channel; a printing of no bytes has its line.
+        written(
+            words,
+            b"new c:^^Int new d:^Int run c!d run c?d = print!\"\"",
+            b"6 c0 c1\n8 print \"\"\n",
+        ),
+        written(
+            &["trace", "--bare", "--fuel", "5", "F"],
+            b"run print!\"a\\n\\\\\\\"\"",
+            b"2 print \"a\\n\\\\\\\"\"\n",
+        ),
+        Case {
+            words: &["trace", "--bare", "--fuel", "6", "F"],
+            text: ROW,
+            status: Status::FuelSpent,
+            out: b"5 c0 1\n",
+            err: b"fuel spent\n",
+            ..HELLO
+        },
+        // The second line's write fails.
+        Case {
+            words,
+            text: ROW,
+            out_fails: Some(Fail { call: 2, takes: 3 }),
+            status: Status::WriteFault,
+            out: b"5 c0 1\n7 p",
+            ..HELLO
+        },
+        Case {
+            words: &["trace", "--bare", "G"],
+            status: Status::Missing,
+            out: b"",
+            err: b"G: no such file\n",
+            ..HELLO
+        },
+        usage(&["trace", "F"]),
+        usage(&["trace", "--bare", "--fuel", "01", "F"]),
+    ];
+    for case in &cases {
+        try_case(&rt, rt.alloc(), case)?;
+    }
+    Ok(())
+}
+
+#[test]
+fn listings(rt: HostRuntime) -> Result<(), AllocError> {
+    let words: &[&str] = &["code", "--bare", "F"];
+    let cases = [
+        written(
+            words,
+            ROW,
+            b"0 {} new s0 1\n1 {s0} par 2 3\n2 {s0} out s0 1\n3 {s0} par 4 6\n4 {s0} in s0 s1 5\n5 {s1} out printi s1\n6 {} zero\n",
+        ),
+        written(words, b"", b"0 {} zero\n"),
+        // The second line's write fails.
+        Case {
+            words,
+            text: ROW,
+            out_fails: Some(Fail { call: 2, takes: 4 }),
+            status: Status::WriteFault,
+            out: b"0 {} new s0 1\n1 {s",
+            ..HELLO
+        },
+        Case {
+            words,
+            text: b"val x = 1",
+            status: Status::Refused,
+            out: b"",
+            err: b"F:1:1: N1 form not built\n",
+            ..HELLO
+        },
+        usage(&["code", "F"]),
+        usage(&["code", "--bare", "--fuel", "1", "F"]),
+    ];
+    for case in &cases {
+        try_case(&rt, rt.alloc(), case)?;
+    }
+    Ok(())
+}
+
 #[test]
 fn fuel(rt: HostRuntime) -> Result<(), AllocError> {
     let a = rt.alloc();

@@ -1,10 +1,14 @@
 // The top call: what the words ask for, done over a shelf and two sinks.
 ghost use Rattle.std.specs.Prelude.{◌≡◌, ◌≤◌, ◌⊎◌, Some, IfOk, string_bytes, length};
 ghost use Rattle.pict_outside.specs.Counts.{Rose};
-ghost use Rattle.pict_outside.specs.Texts.{Texts};
-ghost use Rattle.pict_top.specs.Changes.{change_of, Untouched, Gained, GainedFront, FailedWithin};
-ghost use Rattle.pict_top.specs.Meets.{Meets, Reports, EndReports, Tells, IsDecided, Delivers, Breaks, SomeOutcome};
-ghost use Rattle.pict_top.specs.Outcome.{Outcome, read_fault};
+ghost use Rattle.pict_core.specs.Closed.{IsClosed};
+ghost use Rattle.pict_core.specs.Plain.{plain_core};
+ghost use Rattle.pict_top.specs.Changes.{change_of, Untouched};
+ghost use Rattle.pict_top.specs.Front.{IsFront};
+ghost use Rattle.pict_top.specs.Headline.{Headline, shelf_change};
+ghost use Rattle.pict_top.specs.Meets.{Meets, Reports, EndReports, Tells};
+ghost use Rattle.pict_top.specs.Phases.{plain_program};
+ghost use Rattle.pict_top.specs.Outcome.{read_fault};
 ghost use Rattle.pict_top.specs.Owed.{OwesText, OwesFile, OwesWords, FaultsWords, OneOutcome};
 ghost use Rattle.pict_top.specs.Plain.{plain_command, texts_of};
 ghost use Rattle.pict_top.specs.Printed.{end_of};
@@ -12,19 +16,21 @@ ghost use Rattle.pict_syntax.specs.Position.{line_of, column_of};
 ghost use Rattle.pict_top.specs.Reports.{line, refusal_report, trap_report, usage_report};
 ghost use Rattle.pict_top.specs.Words.{HasNoShape, file_of, options_of};
 
-use crate::front::{Stop, process_of};
+use crate::front::{Ready, Stop, front};
 use crate::report;
-use crate::run::{Broken, Ended, run_core};
+use crate::run::{Broken, Finish};
 use crate::status::Status;
 use crate::words::{Command, Usage, words_of};
+use crate::work::perform;
 use pict_outside::{Fetched, Shelf, ShelfError, Sink, SinkFailed};
 use pict_syntax::{Code, FUEL_LIMIT, TEXT_LIMIT, line_col};
 use std::alloc::{AllocError, Global};
 
 /// Does what the words ask for, and answers how it ended.
 ///
-/// It reads the file from the shelf, writes what the program prints on `out`, each printing that isn't empty in one
-/// write right after its step, and the text of the status, if it has one, on `err` in one write.
+/// It reads the file from the shelf and runs its program. `run` writes what the program prints on `out`, each printing that
+/// isn't empty in one write right after its step; `trace` writes a line for each communication and each printing, each in
+/// one write right after its step. The text of the status, if it has one, is written on `err` in one write.
 pub fn pict<S: Shelf, O: Sink, E: Sink>(
     alloc: Global,
     words: &[&str],
@@ -32,39 +38,8 @@ pub fn pict<S: Shelf, O: Sink, E: Sink>(
     out: &mut O,
     err: &mut E,
 ) -> Status
-    // Where the shelf tells its texts and no device failed, the status is that of the one outcome, or memory ran out.
-    ensures complete { (texts : Texts) (o : Outcome) → S.held shelf.old ≡ Some texts → OwesWords (texts_of words.now) (Some texts) o
-        → ¬ (Rose (S.faults shelf.old) (S.faults shelf.new)) → ¬ (Rose (O.faults out.old) (O.faults out.new)) → ¬ (Rose (E.faults err.old) (E.faults err.new))
-        → (result ≡ o.status) ⊎ (result ≡ Status.Memory) }
-
-    // After any status but a fault and Memory the outcome of that status was written whole.
-    ensures decided { let out = change_of O.taken O.faults out.old out.new in let err = change_of E.taken E.faults err.old err.new in
-        IsDecided result → SomeOutcome (OwesWords (texts_of words.now) (S.held shelf.old)) (λ o. (o.status ≡ result) × Delivers out err o) }
-
-    // A sink failed on the way, and took a beginning of what was to be written on it.
-    ensures write_fault { let out = change_of O.taken O.faults out.old out.new in let err = change_of E.taken E.faults err.old err.new in
-        result ≡ Status.WriteFault → SomeOutcome (OwesWords (texts_of words.now) (S.held shelf.old)) (Breaks out err)
-        ⊎ (Rose (S.faults shelf.old) (S.faults shelf.new) × SomeOutcome (FaultsWords (texts_of words.now)) (λ o. Untouched out × FailedWithin err o.report)) }
-
-    // The shelf failed, and that was reported.
-    ensures read_fault { let out = change_of O.taken O.faults out.old out.new in let err = change_of E.taken E.faults err.old err.new in
-        result ≡ Status.ReadFault → Rose (S.faults shelf.old) (S.faults shelf.new)
-        × SomeOutcome (FaultsWords (texts_of words.now)) (λ o. Untouched out × Gained err o.report) }
-
-    // Memory ran out: a beginning of what the program prints was written, and nothing was reported.
-    ensures memory { let out = change_of O.taken O.faults out.old out.new in let err = change_of E.taken E.faults err.old err.new in
-        result ≡ Status.Memory → Untouched err
-        × (Untouched out ⊎ SomeOutcome (OwesWords (texts_of words.now) (S.held shelf.old)) (λ o. GainedFront out o.printed)) }
-
-    // Whatever the status, `out` has gained a beginning of what the program prints.
-    ensures printed { let out = change_of O.taken O.faults out.old out.new in
-        Untouched out ⊎ SomeOutcome (OwesWords (texts_of words.now) (S.held shelf.old)) (λ o. GainedFront out o.printed) }
-
-    ensures missing { result ≡ Status.Missing → Rose (S.misses shelf.old) (S.misses shelf.new) }
-    ensures usage { let out = change_of O.taken O.faults out.old out.new in let err = change_of E.taken E.faults err.old err.new in
-        HasNoShape (texts_of words.now) → Untouched out × Tells Status.Usage usage_report err result }
-    ensures usage_only { result ≡ Status.Usage → HasNoShape (texts_of words.now) }
-
+    ensures headline { Headline (texts_of words.now) (shelf_change S.held S.faults S.misses shelf.old shelf.new)
+        (change_of O.taken O.faults out.old out.new) (change_of E.taken E.faults err.old err.new) result }
     ensures held { S.held shelf.new ≡ S.held shelf.old }
     ensures counts { (S.faults shelf.old ≤ S.faults shelf.new) × (S.misses shelf.old ≤ S.misses shelf.new)
         × (O.faults out.old ≤ O.faults out.new) × (E.faults err.old ≤ E.faults err.new) }
@@ -146,34 +121,55 @@ fn run_text<O: Sink, E: Sink>(
     ensures faults_stay { O.faults out.old ≤ O.faults out.new }
     ensures err_faults_stay { E.faults err.old ≤ E.faults err.new }
 {
-    match process_of(alloc, text) {
+    match front(alloc, text) {
         Err(Stop::Memory) => Status::Memory,
         Err(Stop::Refused(code, span)) => refuse(alloc, command, text, span.start, code, err),
-        Ok(core) => match run_core(alloc, core, command.fuel(), out) {
-            Err(Broken::Memory) => Status::Memory,
-            Err(Broken::Sink) => Status::WriteFault,
-            Ok(ended) => report_end(alloc, command, text, ended, err),
-        },
+        Ok(ready) => run_ready(alloc, command, text, ready, out, err),
     }
 }
 
-/// Reports how the run of a text ended.
+/// Does with an accepted text what a command does.
+fn run_ready<O: Sink, E: Sink>(
+    alloc: Global,
+    command: Command<'_>,
+    text: &[u8],
+    ready: Ready,
+    out: &mut O,
+    err: &mut E,
+) -> Status
+    requires short { length text.now ≤ TEXT_LIMIT }
+    requires fuel { (options_of (plain_command command)).fuel ≤ FUEL_LIMIT }
+    requires stands { IsFront text.now (plain_program ready) }
+    requires closed { IsClosed (plain_core ready.core) }
+    ensures meets { Meets (OwesText text.now (plain_command command.entry)) (λ o. ⊥) ⊥
+        (change_of O.taken O.faults out.old out.new) (change_of E.taken E.faults err.old err.new) result }
+    ensures faults_stay { O.faults out.old ≤ O.faults out.new }
+    ensures err_faults_stay { E.faults err.old ≤ E.faults err.new }
+{
+    match perform(alloc, command, ready, out) {
+        Err(Broken::Memory) => Status::Memory,
+        Err(Broken::Sink) => Status::WriteFault,
+        Ok(finish) => report_end(alloc, command, text, finish, err),
+    }
+}
+
+/// Reports how a command's work ended.
 fn report_end<E: Sink>(
     alloc: Global,
     command: Command<'_>,
     text: &[u8],
-    ended: Ended,
+    finish: Finish,
     err: &mut E,
 ) -> Status
     requires short { length text.now ≤ TEXT_LIMIT }
-    ensures text { EndReports (file_of (plain_command command.entry)) text.now (end_of ended) (change_of E.taken E.faults err.old err.new) result }
+    ensures text { EndReports (file_of (plain_command command.entry)) text.now (end_of finish) (change_of E.taken E.faults err.old err.new) result }
     ensures faults_stay { E.faults err.old ≤ E.faults err.new }
 {
-    match ended {
-        Ended::Done => Status::Done,
-        Ended::FuelSpent => tell(report::SPENT, Status::FuelSpent, err),
-        Ended::Trap(at) => report_trap(alloc, command, text, at.start, err),
-        Ended::Misshapen => report_line(
+    match finish {
+        Finish::Done => Status::Done,
+        Finish::FuelSpent => tell(report::SPENT, Status::FuelSpent, err),
+        Finish::Trap(at) => report_trap(alloc, command, text, at.start, err),
+        Finish::Misshapen => report_line(
             alloc,
             command,
             ": message of a wrong shape",

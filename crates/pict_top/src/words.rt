@@ -1,8 +1,9 @@
 // The words after the program's name.
-ghost use Rattle.std.specs.Prelude.{◌≡◌, ◌≢◌, ◌↔◌, ◌≤◌, ℕ, [], ◌∷◌, IfOk, IfSome, OnErr, IsTrue, None};
+ghost use Rattle.std.specs.Prelude.{◌≡◌, ◌≢◌, ◌↔◌, ◌≤◌, ℕ, [], ◌∷◌, IfOk, IfSome, IfNone, OnErr, IsTrue, None};
 ghost use Rattle.std.specs.Fmt.{decimal};
-ghost use Rattle.pict_top.specs.Words.{HasShape, HasNoShape, IsFileWord};
-ghost use Rattle.pict_top.specs.Plain.{texts_of, plain_command};
+ghost use Rattle.pict_top.specs.Words as words;
+ghost use Rattle.pict_top.specs.Words.{HasShape, HasNoShape, IsFileWord, word_of, options_of};
+ghost use Rattle.pict_top.specs.Plain.{texts_of, plain_command, plain_options};
 
 use itoa::Buffer;
 use pict_syntax::FUEL_LIMIT;
@@ -23,6 +24,10 @@ pub struct Options<'a> {
 pub enum Command<'a> {
     /// `run`: checks and runs a program, and writes what it prints.
     Run(Options<'a>),
+    /// `trace`: the same run, of which it writes a line for each communication and each printing.
+    Trace(Options<'a>),
+    /// `code`: checks a program, and writes the listing of its instructions.
+    Code(Options<'a>),
 }
 
 /// The words have no listed shape.
@@ -38,31 +43,46 @@ pub fn words_of<'a>(words: &[&'a str]) -> Result<Command<'a>, Usage>
     ensures usage { OnErr result (HasNoShape (texts_of words.now)) }
 {
     if let [command, bare, file] = words {
-        return bare_run(command, bare, file);
+        return bare_command(command, bare, file);
     }
     if let [command, bare, option, fuel, file] = words {
-        return fueled_run(command, bare, option, fuel, file);
+        return fueled_command(command, bare, option, fuel, file);
     }
     Err(Usage)
 }
 
+/// The command that this word asks for, with these options.
+fn command_of<'a>(word: &str, options: Options<'a>) -> Result<Command<'a>, Usage>
+    ensures found { IfOk result (λ command. word.now ≡ word_of (plain_command command)) }
+    ensures options { IfOk result (λ command. options_of (plain_command command) ≡ plain_options options.entry) }
+    ensures none { OnErr result ((command : words.Command) → word.now ≢ word_of command) }
+{
+    match word {
+        "run" => Ok(Command::Run(options)),
+        "trace" => Ok(Command::Trace(options)),
+        "code" => Ok(Command::Code(options)),
+        _ => Err(Usage),
+    }
+}
+
 /// The command of three words.
-fn bare_run<'a>(command: &str, bare: &str, file: &'a str) -> Result<Command<'a>, Usage>
+fn bare_command<'a>(command: &str, bare: &str, file: &'a str) -> Result<Command<'a>, Usage>
     ensures shape { IfOk result (λ asked. HasShape (command.now ∷ bare.now ∷ file.now ∷ []) (plain_command asked)) }
     ensures usage { OnErr result (HasNoShape (command.now ∷ bare.now ∷ file.now ∷ [])) }
 {
-    if command != "run" || bare != "--bare" || !is_file_word(file) {
+    if bare != "--bare" || !is_file_word(file) {
         return Err(Usage);
     }
-    Ok(Command::Run(Options {
+    let options = Options {
         bare: true,
         fuel: DEFAULT_FUEL,
         file,
-    }))
+    };
+    command_of(command, options)
 }
 
 /// The command of five words.
-fn fueled_run<'a>(
+fn fueled_command<'a>(
     command: &str,
     bare: &str,
     option: &str,
@@ -72,16 +92,23 @@ fn fueled_run<'a>(
     ensures shape { IfOk result (λ asked. HasShape (command.now ∷ bare.now ∷ option.now ∷ fuel.now ∷ file.now ∷ []) (plain_command asked)) }
     ensures usage { OnErr result (HasNoShape (command.now ∷ bare.now ∷ option.now ∷ fuel.now ∷ file.now ∷ [])) }
 {
-    if command != "run" || bare != "--bare" || option != "--fuel" || !is_file_word(file) {
+    if bare != "--bare" || option != "--fuel" || !is_file_word(file) {
         return Err(Usage);
     }
     match fuel_of(fuel) {
         None => Err(Usage),
-        Some(fuel) => Ok(Command::Run(Options {
-            bare: true,
-            fuel,
-            file,
-        })),
+        Some(fuel) => {
+            let options = Options {
+                bare: true,
+                fuel,
+                file,
+            };
+            let command = command_of(command, options)?;
+            if !command.takes_fuel() {
+                return Err(Usage);
+            }
+            Ok(command)
+        }
     }
 }
 
@@ -113,24 +140,35 @@ fn is_file_word(word: &str) -> bool
 
 impl<'a> Command<'a> {
     ghost use Rattle.std.specs.Prelude.{◌≡◌};
-    ghost use Rattle.pict_top.specs.Plain.{plain_command};
-    ghost use Rattle.pict_top.specs.Words.{file_of, options_of};
+    ghost use Rattle.pict_top.specs.Plain.{plain_command, plain_options};
+    ghost use Rattle.pict_top.specs.Words.{file_of, options_of, takes_fuel};
+
+    /// How it takes its text.
+    fn options(self) -> Options<'a>
+        ensures { plain_options result ≡ options_of (plain_command self.entry) }
+    {
+        match self {
+            Command::Run(options) => options,
+            Command::Trace(options) => options,
+            Command::Code(options) => options,
+        }
+    }
+
+    /// Whether it runs the program, so that its fuel may be given.
+    fn takes_fuel(self) -> bool
+        ensures { result ≡ takes_fuel (plain_command self.entry) }
+    {
+        match self {
+            Command::Run(_) => true,
+            Command::Trace(_) => true,
+            Command::Code(_) => false,
+        }
+    }
 
     /// The name of the file that it reads.
     pub fn file(self) -> &'a str
         ensures { result.now ≡ file_of (plain_command self.entry) }
     {
-        match self {
-            Command::Run(options) => options.file,
-        }
-    }
-
-    /// The greatest number of steps of its run.
-    pub fn fuel(self) -> u64
-        ensures { result ≡ (options_of (plain_command self.entry)).fuel }
-    {
-        match self {
-            Command::Run(options) => options.fuel,
-        }
+        self.options().file
     }
 }

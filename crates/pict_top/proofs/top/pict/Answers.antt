@@ -1,16 +1,11 @@
-use Rattle.pict_top.proofs.One.{one_told, usage_is_for_no_shape}
-use Rattle.pict_top.proofs.Meeting.{when, when_no_fault, front_printed}
-use Rattle.pict_top.specs.declared.status.Status.TheVariants.{Usage}
+use Rattle.pict_top.specs.Changes.{change_of}
+use Rattle.pict_top.specs.Headline.{shelf_change}
+use Rattle.pict_top.specs.Plain.{texts_of}
+use Rattle.pict_top.proofs.Meeting.{headline}
 use Rattle.pict_top.proofs.top.pict.Goals as goal
 
-pub returns-clause-complete : goal.returns-clause-complete
-returns-clause-complete g c texts o held owes a b d =
-    when_no_fault _ _ _ _ _ _ o c.run_words.ensures.meets (λ p owed. one_told _ _ texts p o held owed owes) a b d
-
-pub returns-clause-printed : goal.returns-clause-printed
-returns-clause-printed g c = front_printed _ _ _ _ _ _ c.run_words.ensures.meets
-
-pub returns-clause-usage_only : goal.returns-clause-usage_only
-returns-clause-usage_only g c is =
-    let m = when _ _ _ _ _ _ Usage c.run_words.ensures.meets is in
-    usage_is_for_no_shape _ _ m.0 m.1 m.2.0
+pub returns-clause-headline : goal.returns-clause-headline
+returns-clause-headline g c =
+    headline (texts_of c.args.words.now) (shelf_change g.S.Shelf.held g.S.Shelf.faults g.S.Shelf.misses c.args.shelf.now c.run_words.new.shelf)
+    (change_of g.O.Sink.taken g.O.Sink.faults c.args.out.now c.run_words.new.out) (change_of g.E.Sink.taken g.E.Sink.faults c.args.err.now c.run_words.new.err)
+    c.run_words.result c.run_words.ensures.meets c.run_words.ensures.usage c.run_words.ensures.missing
