@@ -30,7 +30,8 @@ use std::alloc::{AllocError, Global};
 ///
 /// It reads the file from the shelf and runs its program. `run` writes what the program prints on `out`, each printing that
 /// isn't empty in one write right after its step; `trace` writes a line for each communication and each printing, each in
-/// one write right after its step. The text of the status, if it has one, is written on `err` in one write.
+/// one write right after its step; `code` runs nothing, and writes the listing of the program's instructions, each line in
+/// one write. The text of the status, if it has one, is written on `err` in one write.
 pub fn pict<S: Shelf, O: Sink, E: Sink>(
     alloc: Global,
     words: &[&str],
