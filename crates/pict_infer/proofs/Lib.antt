@@ -3,3 +3,7 @@ pub mod Beside
 pub mod Growing
 pub mod Forming
 pub mod RecordTypes
+pub mod Asked
+pub mod Unused
+pub mod Through
+pub mod Forms
