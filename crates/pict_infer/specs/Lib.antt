@@ -8,5 +8,3 @@ pub mod Places
 pub mod Steps
 pub mod Shaping
 pub mod Opening
-pub mod Patterns
-pub mod Ordering
