@@ -3,3 +3,11 @@ pub mod Beside
 pub mod Growing
 pub mod Forming
 pub mod RecordTypes
+pub mod Asked
+pub mod Unused
+pub mod Through
+pub mod Forms
+pub mod BinderLines
+pub mod OpenedBinders
+pub mod Taking
+pub mod Handed

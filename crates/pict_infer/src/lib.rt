@@ -2,6 +2,7 @@
 #![tactic(auto)]
 
 mod added;
+mod binders;
 mod env;
 mod error;
 mod formed;
@@ -11,6 +12,8 @@ mod primitives;
 pub use added::Added;
 pub use env::{Env, Place};
 pub use error::InferError;
-pub use formed::{below, expanded, followed, recursive, shown, unfolded, within_limits};
+pub use formed::{
+    annotated, as_record, below, expanded, followed, recursive, shown, unfolded, within_limits,
+};
 pub use known::{Binder, Known};
 pub use primitives::type_of;
