@@ -13,7 +13,8 @@ use Rattle.pict_rules.specs.Environments.{KnownType, entries_of}
 use Rattle.pict_infer.specs.declared.known.Binder.{Binder}
 use Rattle.pict_infer.specs.Knowing.{known_type, known_types}
 use Rattle.pict_infer.specs.Places.{IsUnderVariables}
-use Rattle.pict_infer.proofs.Growing.{map_reverse, one_opened}
+use Rattle.pict_infer.proofs.Growing.{one_opened}
+use Rattle.pict_syntax.proofs.ListLemmas.{map_reverse}
 
 length_under : (bs : List KnownType) (c : PlainContext) → length c ≤ length (entries_of bs ++ c)
 length_under [] c = omega arith
