@@ -3,3 +3,4 @@ pub mod Beside
 pub mod Growing
 pub mod Forming
 pub mod RecordTypes
+pub mod LabelPlaces

@@ -6,6 +6,7 @@ mod env;
 mod error;
 mod formed;
 mod known;
+mod labels;
 mod primitives;
 
 pub use added::Added;
@@ -13,4 +14,5 @@ pub use env::{Env, Place};
 pub use error::InferError;
 pub use formed::{below, expanded, followed, recursive, shown, unfolded, within_limits};
 pub use known::{Binder, Known};
+pub use labels::labelled_type;
 pub use primitives::type_of;
