@@ -4,3 +4,7 @@ pub mod Growing
 pub mod Forming
 pub mod RecordTypes
 pub mod LabelPlaces
+pub mod Asked
+pub mod Unused
+pub mod Through
+pub mod Forms

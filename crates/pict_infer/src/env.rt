@@ -24,7 +24,7 @@ pub struct Place {
 /// that to open and to close a variable moves no type.
 #[derive(Drop)]
 pub struct Env<'a> {
-    context: Context<'a>,
+    pub(crate) context: Context<'a>,
     /// The values, the nearest last.
     values: Vec<Known>,
     names: Nearest,

@@ -5,7 +5,7 @@ use Rattle.pict_scope.specs.Scopes.{scope_stop}
 use Rattle.pict_rules.specs.Environments.{Environment}
 use Rattle.pict_rules.specs.Rules.{Sort, Judgement, gives, has, is_condition, values_give, labelled_values_give, application, fields_fit, written_arguments, values_fit, labelled_values_fit, value_fits, given_fits, abstraction_gives, abstraction_against, pattern_gives, fields_give, binders_give, patterns_give, labelled_patterns_give, pattern_against, fields_against, binders_against, patterns_against, labelled_patterns_against, declaration, declarations, signatures, signature, bodies, body, process, processes, receives}
 use Rattle.pict_rules.specs.Typing.{rule}
-use Rattle.pict_rules.specs.Reached.{Reached, whole, asked_by}
+use Rattle.pict_rules.specs.Reached.{Asks, Reached, whole, asked_by}
 use Rattle.pict_rules.specs.Regular.{IsLabelledOnce, IsRegular, IsAsked, IsGood, Regularity, ReachedIsRegular}
 use Rattle.pict_rules.proofs.Results.{Property, Each, with_result, by_steps, beside, asked_by_steps}
 use Rattle.pict_rules.proofs.Regularity.{IsRightlyAsked, IsGoodResult, Step}
@@ -71,3 +71,7 @@ reached_right names p h (asked_by {s = s} {e = e} {j = j} r a) = asked_by_steps 
 
 pub reached_regular : ReachedIsRegular
 reached_regular names p s e j h r = reached_right names p h r
+
+-- so what a rule asks is asked of what is well formed, without a label twice, where the rule's judgement is
+pub asked_right : {s t : Sort} {e d : Environment} (j : Judgement s) {i : Judgement t} → IsLabelledOnce j → IsRegular e → IsAsked e j → Asks s (rule e j) t d i → IsLabelledOnce i × (IsRegular d × IsAsked d i)
+asked_right {e = e} j l r a h = asked_by_steps IsRight IsGoodResult right_step e j (l, (r, a)) h

@@ -1,0 +1,66 @@
+-- What each form of a pattern stands for, and lists of patterns.
+use Rattle.std.proofs.Common.{◌≡◌, ℕ, suc, ◌+◌, ◌<◌, ◌≤◌, List, [], ◌∷◌, ◌++◌, length, take, drop, get_or, refl, sym, ◌∙◌, ap, Box, Global, arith, add-one, take-suc}
+use Rattle.std.proofs.lemmas.List.{take-append-drop, take_all}
+use Rattle.pict_syntax.specs.declared.span.Span.{Span}
+use Rattle.pict_syntax.specs.declared.id.Id.{Id}
+use Rattle.pict_syntax.specs.declared.type_tree.RType.{RType}
+use Rattle.pict_syntax.specs.declared.type_tree.TypeBinder.{TypeBinder}
+use Rattle.pict_syntax.specs.declared.pattern.Pat.{Pat, Bind, Any, Fields, Fold}
+use Rattle.pict_syntax.specs.declared.pattern.Pat.TheViews.{out-FieldPats, roll-out-FieldPats}
+use Rattle.pict_syntax.specs.declared.pattern.FieldPats.{FieldPats}
+use Rattle.pict_syntax.specs.declared.pattern.LabelledPat.{LabelledPat}
+use Rattle.pict_syntax.specs.Trees as trees
+use Rattle.pict_syntax.specs.Trees.{bind_pat, any_pat, fields_pat, fold_pat, field_pats, no_binders, more_binders, no_pats, more_pats, no_labelled_pats, more_labelled_pats}
+use Rattle.pict_syntax.specs.PlainTrees.{annotation_of, pat_of, field_pats_of, binder_of, binders_on, pats_on, labelled_pats_on}
+use Rattle.pict_syntax.proofs.PatternLists.{pats_more, labelled_pats_more, field_pats_is}
+use Rattle.pict_syntax.proofs.TypeLists.{binders_more}
+use Rattle.pict_rules.specs.Counts.{count_pats, count_binders}
+
+pub bind_is : (p : Pat) (s : Span) (x : Id) (r : RType) → p ≡ Bind s x r → pat_of p ≡ bind_pat s x (annotation_of r)
+unfolding pat_of
+bind_is p s x r is = ap pat_of is
+
+pub any_is : (p : Pat) (s : Span) (r : RType) → p ≡ Any s r → pat_of p ≡ any_pat s (annotation_of r)
+unfolding pat_of
+any_is p s r is = ap pat_of is
+
+pub fields_is : (p : Pat) (s : Span) (f : Box FieldPats Global) → p ≡ Fields s f → pat_of p ≡ fields_pat s (field_pats_of f.value)
+unfolding pat_of
+fields_is p s f is = ap pat_of is
+
+pub fold_is : (p : Pat) (s : Span) (r : RType) (q : Box Pat Global) → p ≡ Fold s r q → pat_of p ≡ fold_pat s (annotation_of r) (pat_of q.value)
+unfolding pat_of
+fold_is p s r q is = ap pat_of is
+
+pub parts_are : (f : FieldPats) → field_pats_of f ≡ field_pats (binders_on no_binders (out-FieldPats f).binders.items) (pats_on no_pats (out-FieldPats f).positional.items) (labelled_pats_on no_labelled_pats (out-FieldPats f).labelled.items)
+parts_are f = ap field_pats_of (sym (roll-out-FieldPats f)) ∙ field_pats_is (out-FieldPats f).binders (out-FieldPats f).positional (out-FieldPats f).labelled
+
+-- one more of a list
+taken : {A : Type 0} (xs : List A) (i : ℕ) (x : A) → i < length xs → x ≡ get_or xs i x → take (i + 1) xs ≡ take i xs ++ x ∷ []
+taken xs i x h is = rw add-one (take-suc xs i x h ∙ ap (λ z. take i xs ++ z ∷ []) (sym is))
+
+pub next_binder : (xs : List TypeBinder) (i : ℕ) (x : TypeBinder) → i < length xs → x ≡ get_or xs i x → binders_on no_binders (take (i + 1) xs) ≡ more_binders (binders_on no_binders (take i xs)) (binder_of x)
+next_binder xs i x h is = ap (binders_on no_binders) (taken xs i x h is) ∙ binders_more no_binders (take i xs) x
+
+pub next_pat : (xs : List Pat) (i : ℕ) (x : Pat) → i < length xs → x ≡ get_or xs i x → pats_on no_pats (take (i + 1) xs) ≡ more_pats (pats_on no_pats (take i xs)) (pat_of x)
+next_pat xs i x h is = ap (pats_on no_pats) (taken xs i x h is) ∙ pats_more no_pats (take i xs) x
+
+pub next_labelled : (xs : List LabelledPat) (i : ℕ) (x : LabelledPat) → i < length xs → x ≡ get_or xs i x → labelled_pats_on no_labelled_pats (take (i + 1) xs) ≡ more_labelled_pats (labelled_pats_on no_labelled_pats (take i xs)) x.label (pat_of x.pat)
+next_labelled xs i x h is = ap (labelled_pats_on no_labelled_pats) (taken xs i x h is) ∙ labelled_pats_more no_labelled_pats (take i xs) x
+
+-- how many
+binders_count : (bs : trees.TypeBinders) (xs : List TypeBinder) → count_binders (binders_on bs xs) ≡ count_binders bs + length xs
+unfolding binders_on
+binders_count bs [] = omega arith
+binders_count bs (x ∷ xs) = omega (arith, binders_count (more_binders bs (binder_of x)) xs)
+
+pub count_of_binders : (xs : List TypeBinder) → count_binders (binders_on no_binders xs) ≡ length xs
+count_of_binders xs = omega (arith, binders_count no_binders xs)
+
+pats_count : (ps : trees.Pats) (xs : List Pat) → count_pats (pats_on ps xs) ≡ count_pats ps + length xs
+unfolding pats_on
+pats_count ps [] = omega arith
+pats_count ps (x ∷ xs) = omega (arith, pats_count (more_pats ps (pat_of x)) xs)
+
+pub count_of_pats : (xs : List Pat) → count_pats (pats_on no_pats xs) ≡ length xs
+count_of_pats xs = omega (arith, pats_count no_pats xs)
