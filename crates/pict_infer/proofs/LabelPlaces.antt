@@ -1,8 +1,8 @@
 -- The type at a label, found among labels that stand in order.
-use Rattle.std.proofs.Common.{◌≡◌, ◌<◌, ◌≤◌, ◌+◌, ℕ, zero, suc, nat_eq, Bool, true, false, if◌then◌else◌, List, [], ◌∷◌, length, get_or, Option, Some, None, refl, sym, ◌∙◌, ap, subst, arith, eqb-true}
+use Rattle.std.proofs.Common.{◌≡◌, ◌<◌, ◌≤◌, ◌+◌, ℕ, zero, suc, nat_eq, Bool, true, false, if◌then◌else◌, nat_lt, List, [], ◌∷◌, length, get_or, Option, Some, None, refl, sym, ◌∙◌, ap, subst, arith, eqb-true, ltb-true, ltb-false}
 use Rattle.std.proofs.lemmas.Bool.{eqb-false}
-use Rattle.std.specs.List.Sorted.{IsNonDecreasingBy}
-use Rattle.std.specs.Ordering.{ordering_index}
+use Rattle.std.specs.List.Sorted.{IsNonDecreasingBy, IsPartitionPoint}
+use Rattle.std.specs.Ordering.{ordering_index, ordering_reverse}
 use Rattle.std.specs.declared.cmp.Ordering.{Ordering}
 use Rattle.std.specs.declared.cmp.Ordering.TheVariants.{Less, Equal, Greater}
 use Rattle.pict_syntax.specs.declared.name.Name.{Name}
@@ -89,3 +89,14 @@ label_at ns l (suc i) (f ∷ fs) d h n e =
     let before : StandsBefore ns f.0.0 l = subst (λ m. StandsBefore ns f.0.0 m) e (first_before ns f.0.0 i fs d h.0 inside) in
     ap (λ b. if b then Some (plain f.1) else type_at l (plain_labels fs)) (not_equal l f.0.0 (λ same. other_label ns f.0.0 l before (sym same)))
     ∙ label_at ns l i fs d h.1 inside e
+
+-- no field has it where those before a place come before it, and those from there on after it
+pub label_absent : (ns : List (List ℕ)) (l at : ℕ) (fs : List (Name × Ty)) → IsPartitionPoint (λ (f : Name × Ty). label_cmp ns f.0.0 l ≡ Less) (λ (f : Name × Ty). label_cmp ns f.0.0 l ≡ Greater) fs at
+    → type_at l (plain_labels fs) ≡ None
+label_absent ns l at fs p = no_label_at l fs (λ k d n e. go k d n e (nat_lt k at) refl)
+  where
+    go : (k : ℕ) (d : Name × Ty) → k < length fs → (get_or fs k d).0.0 ≡ l → (b : Bool) → nat_lt k at ≡ b → ⊥
+    go k d n e true t = never_before_itself ns l (subst (λ m. label_cmp ns m l ≡ Less) e (p.0 k d (omega arith) (ltb-true k at t)))
+    go k d n e false t =
+        let after : label_cmp ns l l ≡ Greater = subst (λ m. label_cmp ns m l ≡ Greater) e (p.1 k d (ltb-false k at t) n) in
+        never_before_itself ns l ((label_order ns).antisymm l l ∙ ap ordering_reverse after)

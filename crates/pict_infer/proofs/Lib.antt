@@ -8,3 +8,10 @@ pub mod Asked
 pub mod Unused
 pub mod Through
 pub mod Forms
+pub mod PatternPlaces
+pub mod TakenBack
+pub mod GivingLines
+pub mod GivingAsked
+pub mod MadeKnown
+pub mod MadeGiven
+pub mod Uses
