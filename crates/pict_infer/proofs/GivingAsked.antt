@@ -13,6 +13,8 @@ use Rattle.pict_rules.specs.Typing.{rule}
 use Rattle.pict_rules.specs.Derivations.{Runs}
 use Rattle.pict_rules.specs.Reached.{this_part, past_part}
 use Rattle.pict_rules.specs.Regular.{IsTypeIn}
+use Rattle.pict_infer.specs.declared.error.InferError.{InferError}
+use Rattle.pict_infer.specs.Answering.{IsRefused}
 use Rattle.pict_infer.specs.Asking.{IsWellAsked}
 use Rattle.pict_infer.proofs.Asked.{asked_of}
 use Rattle.pict_infer.proofs.PatternPlaces.{pat_distinct, labelled_distinct}
@@ -21,8 +23,11 @@ use Rattle.pict_infer.proofs.PatternPlaces.{pat_distinct, labelled_distinct}
 pub asked_in : {s : Sort} {j : Judgement s} (d e : Environment) → d ≡ e → IsWellAsked s e j → IsWellAsked s d j
 asked_in {s = s} {j = j} d e h = subst (λ f. IsWellAsked s f j) (sym h)
 
-pub runs_in : {s : Sort} {j : Judgement s} {a : Answer s} (d e : Environment) → d ≡ e → Runs (rule d j) a → Runs (rule e j) a
-runs_in {s = s} {j = j} {a = a} d e h = subst (λ f. Runs (rule f j) a) h
+pub runs_in : {s : Sort} (j : Judgement s) {a : Answer s} (d e : Environment) → d ≡ e → Runs (rule d j) a → Runs (rule e j) a
+runs_in {s = s} j {a = a} d e h = subst (λ f. Runs (rule f j) a) h
+
+pub refused_in : {s : Sort} (j : Judgement s) (y : InferError) (d e : Environment) → d ≡ e → IsRefused (rule d j) y → IsRefused (rule e j) y
+refused_in j y d e h = subst (λ f. IsRefused (rule f j) y) h
 
 pub inner_asked : (e : Environment) (s : Span) (a : RType) (p : Pat) (u : PlainType) → IsWellAsked pattern_ e (pattern_gives (fold_pat s a p)) → IsTypeIn e u → IsWellAsked extension_ e (pattern_against p u)
 inner_asked e s a p u h t = record { labels = h.labels.1; regular = h.regular; asked = t }

@@ -3,14 +3,21 @@ use Rattle.std.proofs.Common.{◌≡◌, ◌<◌, ◌≤◌, ◌+◌, ℕ, List,
 use Rattle.std.proofs.lemmas.List.{take_all}
 use Rattle.pict_syntax.specs.declared.code.Code.TheVariants.{Y13}
 use Rattle.pict_syntax.specs.declared.id.Id.{Id}
+use Rattle.pict_syntax.specs.declared.name.Name.{Name}
 use Rattle.pict_syntax.specs.declared.span.Span.{Span}
 use Rattle.pict_syntax.specs.declared.pattern.Pat.{Pat as RPat}
 use Rattle.pict_syntax.specs.declared.pattern.LabelledPat.{LabelledPat as RLabelledPat}
 use Rattle.pict_syntax.specs.Trees.{RType, Pat, bind_pat, any_pat, fields_pat, fold_pat, FieldPats, field_pats, TypeBinders, Pats, no_pats, more_pats, LabelledPats, no_labelled_pats, more_labelled_pats}
 use Rattle.pict_syntax.specs.PlainTrees.{pat_of, pats_on, labelled_pats_on}
-use Rattle.pict_types.specs.Types.{PlainType, Top, Int, Char, Str, Boolean, Var, Apply, Chan, Fields, Rec, no_type, no_label}
+use Rattle.pict_syntax.specs.Labels.{by_number, in_label_order}
+use Rattle.pict_syntax.proofs.PatternLists.{labelled_pats_none, pats_none}
+use Rattle.pict_types.specs.declared.types.Ty.{Ty}
+use Rattle.pict_types.specs.Plain.{plain, plain_labels, plain_types}
+use Rattle.pict_types.specs.Types.{PlainType, PlainTypes, PlainLabels, Top, Int, Char, Str, Boolean, Var, Apply, Chan, Fields, Rec, no_type, no_label}
 use Rattle.pict_types.specs.Recursion.{unfolded}
 use Rattle.pict_normal.specs.Normal.{kind_stop, size_stop, and_type, with_labelled_type}
+use Rattle.pict_normal.proofs.LabelOrder.{fields_sorted, in_order, in_order_and, labels_and}
+use Rattle.pict_normal.proofs.Trees.{types_and}
 use Rattle.pict_rules.specs.Environments.{Environment, Extension, KnownType, bounds_of, joined, no_extension, one_value, within}
 use Rattle.pict_rules.specs.Rules.{Sort, nothing_, type_, pattern_, patterns_, labelled_patterns_, fields_, Result as Given, Rule, give, part, ok, TypedPattern, TypedPatterns, TypedLabels, TypedFields, pattern_gives, fields_give, binders_give, patterns_give, labelled_patterns_give, pattern_against, within_limits}
 use Rattle.pict_rules.specs.Clauses.{need_recursive, with_own}
@@ -198,3 +205,37 @@ label_refused e xs i l g y n is r h =
 
 pub all_labels : (e : Environment) (xs : List RLabelledPat) (i : ℕ) (g : TypedLabels) → length xs ≤ i → Runs (rule e (labelled_patterns_give (labelled_pats_on no_labelled_pats (take i xs)))) (ok g) → Runs (rule e (labelled_patterns_give (labelled_pats_on no_labelled_pats xs))) (ok g)
 all_labels e xs i g h r = subst (λ ys. Runs (rule e (labelled_patterns_give (labelled_pats_on no_labelled_pats ys))) (ok g)) (take_all i xs h) r
+
+-- lists that the code keeps: none of them, one more, and all
+pub patterns_start : (e : Environment) (us : List Ty) (x : Extension) → us ≡ [] → x ≡ no_extension → Runs (rule e (patterns_give (pats_on no_pats []))) (ok (record { have = plain_types us; adds = x }))
+patterns_start e us x h k =
+    subst (λ ps. Runs (rule e (patterns_give ps)) (ok (record { have = plain_types us; adds = x }))) (sym (pats_none no_pats))
+    (gives_this {s = patterns_} (record { have = no_type; adds = no_extension }) (record { have = plain_types us; adds = x }) (ap₂ (λ (vs : List Ty) (w : Extension). let g : TypedPatterns = record { have = plain_types vs; adds = w } in g) (sym h) (sym k)))
+
+pub patterns_more : (e : Environment) (xs : List RPat) (i : ℕ) (p : RPat) (us vs : List Ty) (u : Ty) (x y z : Extension) → i < length xs → p ≡ get_or xs i p → Runs (rule e (patterns_give (pats_on no_pats (take i xs)))) (ok (record { have = plain_types us; adds = x }))
+    → Runs (rule e (pattern_gives (pat_of p))) (ok (record { has = plain u; adds = y })) → vs ≡ us ++ u ∷ [] → z ≡ joined x y → Runs (rule e (patterns_give (pats_on no_pats (take (i + 1) xs)))) (ok (record { have = plain_types vs; adds = z }))
+patterns_more e xs i p us vs u x y z n is r k h q =
+    let have : and_type (plain_types us) (plain u) ≡ plain_types vs = sym (ap plain_types h ∙ types_and us u) in
+    subst (λ (g : TypedPatterns). Runs (rule e (patterns_give (pats_on no_pats (take (i + 1) xs)))) (ok g)) (ap₂ (λ (ts : PlainTypes) (w : Extension). let g : TypedPatterns = record { have = ts; adds = w } in g) have (sym q))
+    (one_pattern_more e xs i p (record { have = plain_types us; adds = x }) (record { has = plain u; adds = y }) n is r k)
+
+pub labels_start : (e : Environment) (us : List (Name × Ty)) (x : Extension) → us ≡ [] → x ≡ no_extension → Runs (rule e (labelled_patterns_give (labelled_pats_on no_labelled_pats []))) (ok (record { have = in_order e.names (plain_labels us); adds = x }))
+labels_start e us x h k =
+    subst (λ ls. Runs (rule e (labelled_patterns_give ls)) (ok (record { have = in_order e.names (plain_labels us); adds = x }))) (sym (labelled_pats_none no_labelled_pats))
+    (gives_this {s = labelled_patterns_} (record { have = no_label; adds = no_extension }) (record { have = in_order e.names (plain_labels us); adds = x })
+    (ap₂ (λ (vs : List (Name × Ty)) (w : Extension). let g : TypedLabels = record { have = in_order e.names (plain_labels vs); adds = w } in g) (sym h) (sym k)))
+
+pub labels_more : (e : Environment) (xs : List RLabelledPat) (i : ℕ) (l : RLabelledPat) (us vs : List (Name × Ty)) (u : Ty) (x y z : Extension) → i < length xs → l ≡ get_or xs i l
+    → Runs (rule e (labelled_patterns_give (labelled_pats_on no_labelled_pats (take i xs)))) (ok (record { have = in_order e.names (plain_labels us); adds = x })) → Runs (rule e (pattern_gives (pat_of l.pat))) (ok (record { has = plain u; adds = y }))
+    → vs ≡ us ++ (l.label.name, u) ∷ [] → z ≡ joined x y → Runs (rule e (labelled_patterns_give (labelled_pats_on no_labelled_pats (take (i + 1) xs)))) (ok (record { have = in_order e.names (plain_labels vs); adds = z }))
+labels_more e xs i l us vs u x y z n is r k h q =
+    let have : with_labelled_type e.names l.label.name.0 (plain u) (in_order e.names (plain_labels us)) ≡ in_order e.names (plain_labels vs) =
+        sym (ap (λ ws. in_order e.names (plain_labels ws)) h ∙ ap (in_order e.names) (labels_and us (l.label.name, u)) ∙ in_order_and e.names (plain_labels us) l.label.name.0 (plain u)) in
+    subst (λ (g : TypedLabels). Runs (rule e (labelled_patterns_give (labelled_pats_on no_labelled_pats (take (i + 1) xs)))) (ok g)) (ap₂ (λ (ts : PlainLabels) (w : Extension). let g : TypedLabels = record { have = ts; adds = w } in g) have (sym q))
+    (one_label_more e xs i l (record { have = in_order e.names (plain_labels us); adds = x }) (record { has = plain u; adds = y }) n is r k)
+
+pub labels_end : (e : Environment) (xs : List RLabelledPat) (i : ℕ) (us vs : List (Name × Ty)) (x : Extension) → length xs ≤ i → Runs (rule e (labelled_patterns_give (labelled_pats_on no_labelled_pats (take i xs)))) (ok (record { have = in_order e.names (plain_labels us); adds = x }))
+    → by_number vs ≡ in_label_order e.names (by_number us) → Runs (rule e (labelled_patterns_give (labelled_pats_on no_labelled_pats xs))) (ok (record { have = plain_labels vs; adds = x }))
+labels_end e xs i us vs x n r h =
+    subst (λ (g : TypedLabels). Runs (rule e (labelled_patterns_give (labelled_pats_on no_labelled_pats xs))) (ok g)) (ap (λ (ts : PlainLabels). let g : TypedLabels = record { have = ts; adds = x } in g) (sym (fields_sorted e.names us vs h)))
+    (all_labels e xs i (record { have = in_order e.names (plain_labels us); adds = x }) n r)

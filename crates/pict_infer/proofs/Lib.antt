@@ -15,3 +15,7 @@ pub mod GivingAsked
 pub mod MadeKnown
 pub mod MadeGiven
 pub mod Uses
+pub mod Handed
+pub mod OpenedBinders
+pub mod Closed
+pub mod GivingClosed
