@@ -1,6 +1,7 @@
 -- The calls on patterns that give: what is judged without values, and what becomes known.
-use Rattle.std.proofs.Common.{◌≡◌, ◌≤◌, ◌+◌, ℕ, List, [], ◌∷◌, ◌++◌, length, Result, Ok, Err, refl, sym, ◌∙◌, ap, ap₂, subst, arith}
-use Rattle.std.specs.Prelude.{IfOk, OnOk}
+use Rattle.std.proofs.Common.{◌≡◌, ◌≤◌, ◌+◌, ℕ, List, [], ◌∷◌, ◌++◌, length, Global, Result, Ok, Err, refl, sym, ◌∙◌, ap, ap₂, subst, arith}
+use Rattle.std.specs.Prelude.{IfOk, OnErr, OnOk, Vec}
+use Rattle.std.specs.declared.alloc.AllocError.{AllocError}
 use Rattle.pict_syntax.specs.Trees.{Pat, FieldPats}
 use Rattle.pict_types.specs.declared.context.Context.{Context}
 use Rattle.pict_types.specs.Entries.{PlainContext, variables, EntriesAreWellFormed}
@@ -18,6 +19,7 @@ use Rattle.pict_infer.specs.declared.env.Env.{Env}
 use Rattle.pict_infer.specs.declared.env.Place.{Place}
 use Rattle.pict_infer.specs.declared.error.InferError.{InferError}
 use Rattle.pict_infer.specs.declared.error.InferError.TheVariants.{Named, Memory}
+use Rattle.pict_infer.specs.declared.known.Binder.{Binder}
 use Rattle.pict_infer.specs.declared.giving.Typed.{Typed}
 use Rattle.pict_infer.specs.declared.giving.TypedFields.{TypedFields as GivenFields}
 use Rattle.pict_infer.specs.Knowing.{deepest, known_types, known_values}
@@ -161,3 +163,28 @@ closed p before now new own taken inner x i u k l n v m b is =
             (subst (λ ns. EntriesAreWellFormed ns (entries_of (known_types inner.binders.items) ++ known_entries now)) (sym n) m.formed)));
       };
     }
+
+-- values are still written in the type variables that are left
+pub still_placed : (p : Place) (now : Env) (c : Context) (r : Result (Vec Binder Global) AllocError) → HasOpenedOwn p now → IfOk r (λ own. known_entries now ≡ entries_of (known_types own.items) ++ plain_context c)
+    → OnOk r (length (plain_context c) ≡ p.entries) → OnErr r (plain_context c ≡ known_entries now) → deepest now.values.items ≤ length (type_context c)
+still_placed p now c (Ok taken) h k l e =
+    let back = own_back p h.before now h.own (known_types taken.items) (plain_context c) h.place h.under k l in
+    let outside : deepest now.values.items ≡ deepest h.before.values.items = ap deepest h.under.items in
+    let as_many : length (type_context c) ≡ length (type_context h.before.context) = ap (λ d. length (variables d)) back.left_ in
+    omega (arith, outside, as_many, h.before.placed)
+still_placed p now c (Err y) h k l e =
+    let as_many : length (type_context c) ≡ length (type_context now.context) = ap (λ d. length (variables d)) e in
+    omega (arith, as_many, now.placed)
+
+pub own_within : (p : Place) (now : Env) (c : Context) (taken : List Binder) (inner : Added) → HasOpenedOwn p now → MayBeAdded now inner → known_entries now ≡ entries_of (known_types taken) ++ plain_context c → length (plain_context c) ≡ p.entries → length taken ≤ inner.base
+own_within p now c taken inner h m k l =
+    let back = own_back p h.before now h.own (known_types taken) (plain_context c) h.place h.under k l in
+    let own : length (known_types taken) ≡ length h.own = ap length back.own_ in
+    omega (arith, m.base, count_under h.before now h.own h.under, own, types_length taken)
+
+pub closed_answer : (p : Place) (now new : Env) (taken : List Binder) (inner : Added) (r : Result Added AllocError) → known_entries now ≡ entries_of (known_types taken) ++ known_entries new → length (known_entries new) ≡ p.entries → known_names new ≡ known_names now
+    → new.values.items ≡ now.values.items → MayBeAdded now inner → IfOk r (λ x. x.base + length taken ≡ inner.base) → IfOk r (λ x. extension_of x ≡ within (known_types taken) (extension_of inner))
+    → IfOk r (λ x. (before : Env) (own : List KnownType) → IsPlaceOf p before → IsUnderOwn before now own → IsClosed before new own inner x)
+closed_answer p now new taken inner (Ok x) k l n v m b is =
+    λ before own i u. closed p before now new own (known_types taken) inner x i u k l n v m (omega (arith, b, types_length taken)) is
+closed_answer p now new taken inner (Err y) k l n v m b is = tt
