@@ -8,7 +8,4 @@ pub mod Places
 pub mod Steps
 pub mod Shaping
 pub mod Opening
-pub mod Giving
-pub mod Given
-pub mod Patterns
 pub mod Ordering

@@ -71,16 +71,24 @@ fn written_bound(alloc: Global, c: &Context, b: &TypeBinder) -> Result<Option<Ty
     }
 }
 
-/// What is known of a type binder with this kind and this bound: an operator has no bound, and a bound `Top` is none.
-fn own_bound(kind: Option<KindTree>, written: Option<Ty>) -> Bound
-    ensures { plain_bound result ≡ kind_bound kind (bound_or_free (held_type written)) }
+/// The bound that is written, if any: `Top` is none.
+fn bound_or_free(written: Option<Ty>) -> Bound
+    ensures { plain_bound result ≡ bound_or_free (held_type written) }
 {
-    if let Some(KindTree::Operator(n)) = kind {
-        return Bound::Operator(n);
-    }
     match written {
         None => Bound::Free,
         Some(t) => bound_by(t),
+    }
+}
+
+/// What is known of a type binder with this kind and this bound: an operator has no bound.
+fn own_bound(kind: Option<KindTree>, written: Option<Ty>) -> Bound
+    ensures { plain_bound result ≡ kind_bound kind (bound_or_free (held_type written)) }
+{
+    match kind {
+        Some(KindTree::Operator(n)) => Bound::Operator(n),
+        Some(KindTree::Plain) => bound_or_free(written),
+        None => bound_or_free(written),
     }
 }
 
