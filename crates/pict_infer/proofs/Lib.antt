@@ -11,3 +11,5 @@ pub mod BinderLines
 pub mod OpenedBinders
 pub mod Taking
 pub mod Handed
+pub mod LabelPlaces
+pub mod Uses

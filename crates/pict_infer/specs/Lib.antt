@@ -8,3 +8,4 @@ pub mod Places
 pub mod Steps
 pub mod Shaping
 pub mod Opening
+pub mod Ordering

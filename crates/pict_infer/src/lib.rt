@@ -7,6 +7,7 @@ mod env;
 mod error;
 mod formed;
 mod known;
+mod labels;
 mod primitives;
 
 pub use added::Added;
@@ -16,4 +17,5 @@ pub use formed::{
     annotated, as_record, below, expanded, followed, recursive, shown, unfolded, within_limits,
 };
 pub use known::{Binder, Known};
+pub use labels::labelled_type;
 pub use primitives::type_of;
