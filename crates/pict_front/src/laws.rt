@@ -1,6 +1,6 @@
 // The laws of the phases before a run, each as the contract of a function that does nothing.
 
-ghost use Rattle.pict_front.specs.Laws.{AcceptedIsTyped, OneFront};
+ghost use Rattle.pict_front.specs.Laws.{AcceptedIsOrdered, AcceptedIsReadBack, AcceptedIsTyped, OneFront};
 
 /// Every text, behind a prelude or without one, has exactly one answer by the phases: the core process of a program, or a
 /// refusal with one code at one place.
@@ -12,4 +12,16 @@ pub fn law_one_front()
 /// typed, and it is within the limit of depth.
 pub fn law_accepted_is_typed()
     ensures { AcceptedIsTyped }
+{}
+
+/// The records in the core process of an accepted text have identifiers as labels, in the order of their bytes and so
+/// distinct; and no two of its names are the same.
+pub fn law_accepted_is_ordered()
+    ensures { AcceptedIsOrdered }
+{}
+
+/// What a run of an accepted text writes, a line for each step that shows something, is read back as the labels of these
+/// steps, as far as their numbers and their nesting fit, and as nothing else.
+pub fn law_accepted_is_read_back()
+    ensures { AcceptedIsReadBack }
 {}

@@ -3,4 +3,6 @@
 
 mod laws;
 
-pub use laws::{law_accepted_is_typed, law_one_front};
+pub use laws::{
+    law_accepted_is_ordered, law_accepted_is_read_back, law_accepted_is_typed, law_one_front,
+};
