@@ -6,7 +6,7 @@ use Rattle.pict_types.specs.Types.{PlainType}
 use Rattle.pict_rules.specs.Environments.{KnownValue, known_type, type_or_primitive}
 use Rattle.pict_infer.specs.declared.known.Known.{Known}
 use Rattle.pict_infer.specs.Knowing.{known_value, known_values, names_known, deepest}
-use Rattle.pict_infer.proofs.Growing.{map_reverse}
+use Rattle.pict_syntax.proofs.ListLemmas.{map_reverse}
 
 level_within : (n i : ℕ) (rs : List Known) → level_of (map (λ (v : Known). v.name.0) rs) n ≡ Some i → i < length rs
 level_within n i [] h = absurd (cc)
