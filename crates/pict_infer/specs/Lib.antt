@@ -8,3 +8,6 @@ pub mod Places
 pub mod Steps
 pub mod Shaping
 pub mod Opening
+pub mod Patterns
+pub mod Ordering
+pub mod Against

@@ -2,11 +2,14 @@
 #![tactic(auto)]
 
 mod added;
+mod against;
 mod binders;
 mod env;
 mod error;
 mod formed;
 mod known;
+mod labels;
+mod patterns;
 mod primitives;
 
 pub use added::Added;
@@ -16,4 +19,5 @@ pub use formed::{
     annotated, as_record, below, expanded, followed, recursive, shown, unfolded, within_limits,
 };
 pub use known::{Binder, Known};
+pub use patterns::{fields_against, open_fields_against, pattern_against};
 pub use primitives::type_of;
