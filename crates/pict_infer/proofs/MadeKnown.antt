@@ -1,6 +1,12 @@
 -- The calls on environments: what is judged without values, and what becomes known.
-use Rattle.std.proofs.Common.{◌≡◌, ◌≤◌, ◌+◌, ℕ, List, [], ◌∷◌, ◌++◌, length, refl, sym, ◌∙◌, ap, ap₂, subst, arith, append_assoc, length-append}
+use Rattle.std.proofs.Common.{Result, Ok, Err, ◌≡◌, ◌≤◌, ◌+◌, ℕ, List, [], ◌∷◌, ◌++◌, length, refl, sym, ◌∙◌, ap, ap₂, subst, arith, append_assoc, length-append}
+use Rattle.std.specs.Prelude.{IfOk}
+use Rattle.std.specs.Result.{IsErrAnd}
+use Rattle.pict_syntax.specs.declared.name.Name.{Name}
 use Rattle.pict_syntax.specs.declared.span.Span.{Span}
+use Rattle.pict_types.specs.declared.types.Bound.{Bound}
+use Rattle.pict_types.specs.declared.types.Ty.{Ty}
+use Rattle.pict_types.specs.Plain.{plain_bounds, plain_labels, plain_types}
 use Rattle.pict_syntax.specs.Trees.{Pat, FieldPats}
 use Rattle.pict_types.specs.declared.context.Context.{Context}
 use Rattle.pict_types.specs.Types.{PlainType, PlainTypes, PlainLabels, PlainBounds}
@@ -24,7 +30,9 @@ use Rattle.pict_infer.specs.Adding.{extension_of}
 use Rattle.pict_infer.specs.Answering.{IsRefused}
 use Rattle.pict_infer.specs.Asking.{IsWellAsked}
 use Rattle.pict_infer.specs.Environments.{environment_of, known_entries, known_names, GrewFrom, MayBeAdded}
-use Rattle.pict_infer.specs.Patterns.{AreKnown, AreOpen, IsKnown}
+use Rattle.pict_infer.specs.Opening.{OpensAgainst, against_fields}
+use Rattle.pict_infer.specs.Patterns.{AreKnown, AreOpen, FieldsOpenAgainst, GoesAgainst, IsKnown}
+use Rattle.pict_infer.specs.Places.{environment_in}
 use Rattle.pict_infer.proofs.Growing.{environment, grew_types, opened_types}
 use Rattle.pict_infer.proofs.Unused.{against_passes, fields_against_pass}
 
@@ -125,3 +133,18 @@ become_known old mid new j x o k g = record {
   known = k ∙ ap₂ extended o.known o.adds ∙ own_then_parts (environment_of old) o.fields.own o.fields.adds;
   grew = grew_twice old mid new o.grew g;
 }
+
+-- errors that are handed on
+pub goes_err : (old new : Env) (j : Judgement extension_) (x : Result (Unit {0}) InferError) (y : InferError) → IsErrAnd x (λ z. z ≡ y) → IsRefused (rule (environment_of old) j) y → GoesAgainst old new j x
+goes_err old new j (Ok v) y is h = absurd is
+goes_err old new j (Err z) y is h = subst (λ w. IsRefused (rule (environment_of old) j) w) (sym is) h
+
+-- fields whose own type variables are open, or that are refused
+pub fields_open_answer : (old new : Env) (s : Span) (f : FieldPats) (bs : List Bound) (ps : List Ty) (ls : List (Name × Ty)) (x : Result Added InferError) → IsWellAsked opened_ (environment_of old) (against_fields s f bs ps ls) → new.values.items ≡ old.values.items
+    → OpensAgainst (environment_in old.context) (environment_in new.context) (against_fields s f bs ps ls) x → IfOk x (λ z. z.base ≡ length (type_context new.context)) → FieldsOpenAgainst old new (against_fields s f bs ps ls) x
+fields_open_answer old new s f bs ps ls (Ok x) a v h b =
+    let p : known_names new ≡ known_names old = ap (λ (z : Environment). z.names) h.inside in
+    let q : known_entries new ≡ entries_of h.given.own ++ known_entries old = ap (λ (z : Environment). z.context) h.inside in
+    let same = environment (known_names new) (known_names new) (known_entries new) (known_entries new) _ _ refl refl (ap (known_values (length (type_context new.context))) v) in
+    fields_open old new s f (plain_bounds bs) (plain_types ps) (plain_labels ls) h.given x a h.gives p q v (same ∙ opened_types old (known_names new) (known_entries new) h.given.own p q) h.adds b
+fields_open_answer old new s f bs ps ls (Err y) a v h b = fields_are_refused (environment_of old) s f (plain_bounds bs) (plain_types ps) (plain_labels ls) y h

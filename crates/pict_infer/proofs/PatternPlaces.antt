@@ -24,7 +24,7 @@ pub kept_on : (P : Pats → Type 0) → ((ps : Pats) (p : Pat) → P ps → P (m
     → P (more_pats (pats_on no_pats (take i xs)) (pat_of x)) → P (pats_on no_pats xs)
 kept_on P f xs i x h is p =
     let whole : pats_on no_pats xs ≡ pats_on (more_pats (pats_on no_pats (take i xs)) (pat_of x)) (drop (i + 1) xs) =
-        ap (pats_on no_pats) (sym (take-append-drop (i + 1) xs)) ∙ pats_both no_pats (take (i + 1) xs) (drop (i + 1) xs) ∙ ap (λ ps. pats_on ps (drop (i + 1) xs)) (next_pat xs i x h is) in
+    ap (pats_on no_pats) (sym (take-append-drop (i + 1) xs)) ∙ pats_both no_pats (take (i + 1) xs) (drop (i + 1) xs) ∙ ap (λ ps. pats_on ps (drop (i + 1) xs)) (next_pat xs i x h is) in
     subst P (sym whole) (kept P f (more_pats (pats_on no_pats (take i xs)) (pat_of x)) (drop (i + 1) xs) p)
 
 labelled_both : (ls : LabelledPats) (xs ys : List RLabelledPat) → labelled_pats_on ls (xs ++ ys) ≡ labelled_pats_on (labelled_pats_on ls xs) ys
@@ -41,8 +41,8 @@ pub labelled_kept_on : (P : LabelledPats → Type 0) → ((ls : LabelledPats) (l
     → P (more_labelled_pats (labelled_pats_on no_labelled_pats (take i xs)) x.label (pat_of x.pat)) → P (labelled_pats_on no_labelled_pats xs)
 labelled_kept_on P f xs i x h is p =
     let whole : labelled_pats_on no_labelled_pats xs ≡ labelled_pats_on (more_labelled_pats (labelled_pats_on no_labelled_pats (take i xs)) x.label (pat_of x.pat)) (drop (i + 1) xs) =
-        ap (labelled_pats_on no_labelled_pats) (sym (take-append-drop (i + 1) xs)) ∙ labelled_both no_labelled_pats (take (i + 1) xs) (drop (i + 1) xs)
-        ∙ ap (λ ls. labelled_pats_on ls (drop (i + 1) xs)) (next_labelled xs i x h is) in
+    ap (labelled_pats_on no_labelled_pats) (sym (take-append-drop (i + 1) xs)) ∙ labelled_both no_labelled_pats (take (i + 1) xs) (drop (i + 1) xs)
+    ∙ ap (λ ls. labelled_pats_on ls (drop (i + 1) xs)) (next_labelled xs i x h is) in
     subst P (sym whole) (labelled_kept P f (more_labelled_pats (labelled_pats_on no_labelled_pats (take i xs)) x.label (pat_of x.pat)) (drop (i + 1) xs) p)
 
 -- so the labels within one of the patterns are distinct where those within all are

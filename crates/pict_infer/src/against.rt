@@ -212,7 +212,15 @@ fn parts_against(
     ensures grows { length (type_context c.old) ≤ length (type_context c.new) }
 {
     let before = c.len();
-    let adds = open_parts_against(alloc, c, parts, &r.binders, &r.positional, &r.labelled, span)?;
+    let adds = open_parts_against(
+        alloc,
+        c,
+        parts,
+        &r.binders,
+        &r.positional,
+        &r.labelled,
+        span,
+    )?;
     let own = taken(alloc, c, before)?;
     Ok(adds.under(own)?)
 }

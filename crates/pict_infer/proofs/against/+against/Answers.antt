@@ -66,10 +66,11 @@ against-against-requires t c =
     let e = environment_in c.args.c.now in
     let u = plain c.args.t.now in
     let r = annotation_of c.in-Fold.annotation in
-    let a = subst (λ z. IsWellAsked extension_ e (pattern_against z u)) (fold_is c.args.p.now c.in-Fold.span c.in-Fold.annotation c.in-Fold.inner c.in-Fold.is) c.requires.right in
-    (search (rules, the_lemmas),
-    subst (λ q. IsWellAsked extension_ e (pattern_against (pat_of q) (plain c.in_ok-unfolding-in-Fold.unfolding))) (sym c.deref-in-Fold.ensures)
-    (inner_asked e c.in-Fold.span r (pat_of c.in-Fold.inner.value) u (plain c.in_ok-unfolding-in-Fold.unfolding) a c.in_ok-unfolding-in-Fold.ensures.formed))
+    let a = subst (λ z. IsWellAsked extension_ e (pattern_against z u)) (fold_is c.args.p.now c.in-Fold.span c.in-Fold.annotation c.in-Fold.inner c.in-Fold.is) c.requires.right in (
+      search (rules, the_lemmas),
+      subst (λ q. IsWellAsked extension_ e (pattern_against (pat_of q) (plain c.in_ok-unfolding-in-Fold.unfolding))) (sym c.deref-in-Fold.ensures)
+          (inner_asked e c.in-Fold.span r (pat_of c.in-Fold.inner.value) u (plain c.in_ok-unfolding-in-Fold.unfolding) a c.in_ok-unfolding-in-Fold.ensures.formed),
+    )
 
 pub against-returns-in-Bind-clause-answer : goal.against-returns-in-Bind-clause-answer
 against-returns-in-Bind-clause-answer t c =
@@ -103,10 +104,11 @@ all_against-loop-i-init t c = record {
 
 pub all_against-against-requires : goal.all_against-against-requires
 all_against-against-requires t c =
-    let k : c.loop-i.i < length c.args.ts.now = omega (arith, c.loop-i-test.true, c.requires.count) in
-    (search (rules, the_lemmas),
-    pattern_asked (environment_in c.args.c.now) (environment_in c.loop-i.c) c.args.ps.now c.args.ts.now c.loop-i.i c.index-ps-i.result c.index-ts-i.result c.requires.right c.loop-i-test.true c.index-ps-i.is k c.index-ts-i.is
-    c.loop-i.invariant.same)
+    let k : c.loop-i.i < length c.args.ts.now = omega (arith, c.loop-i-test.true, c.requires.count) in (
+      search (rules, the_lemmas),
+      pattern_asked (environment_in c.args.c.now) (environment_in c.loop-i.c) c.args.ps.now c.args.ts.now c.loop-i.i c.index-ps-i.result c.index-ts-i.result c.requires.right c.loop-i-test.true c.index-ps-i.is k c.index-ts-i.is
+          c.loop-i.invariant.same,
+    )
 
 pub all_against-returns-in_err-one-clause-answer : goal.all_against-returns-in_err-one-clause-answer
 all_against-returns-in_err-one-clause-answer t c =
@@ -147,11 +149,16 @@ labelled_against-loop-l-init t c = record {
 
 pub labelled_against-label_against-requires : goal.labelled_against-label_against-requires
 labelled_against-label_against-requires t c =
-    let e = environment_in c.args.c.now in
-    (search (rules, the_lemmas),
-    (labelled_distinct c.args.ls.now c.loop-l.l-index c.l-item.result c.loop-l-test.true c.l-item.is c.requires.right.labels,
-    (subst (λ z. IsRegular z) (sym c.loop-l.invariant.same) c.requires.right.regular,
-    subst (λ (z : Environment). LabelsAreWellFormed z.names (kinds_in z) (plain_labels c.args.fields.now)) (sym c.loop-l.invariant.same) c.requires.right.asked)))
+    let e = environment_in c.args.c.now in (
+      search (rules, the_lemmas),
+      (
+        labelled_distinct c.args.ls.now c.loop-l.l-index c.l-item.result c.loop-l-test.true c.l-item.is c.requires.right.labels,
+        (
+          subst (λ z. IsRegular z) (sym c.loop-l.invariant.same) c.requires.right.regular,
+          subst (λ (z : Environment). LabelsAreWellFormed z.names (kinds_in z) (plain_labels c.args.fields.now)) (sym c.loop-l.invariant.same) c.requires.right.asked,
+        ),
+      ),
+    )
 
 pub labelled_against-returns-in_err-one-clause-answer : goal.labelled_against-returns-in_err-one-clause-answer
 labelled_against-returns-in_err-one-clause-answer t c =
@@ -195,13 +202,14 @@ pub label_against-against-requires : goal.label_against-against-requires
 label_against-against-requires t c =
     let e = environment_in c.args.c.now in
     let l = c.args.l.now in
-    let ms = plain_labels c.args.fields.now in
-    (search (rules, the_lemmas),
-    record {
-      labels = c.requires.labels;
-      regular = c.requires.regular;
-      asked = formed_at e.names (kinds_in e) (type_at l.label.name.0 ms) (plain c.in-Some.t.now) c.in-Some.ensures.some (label_formed e.names (kinds_in e) l.label.name.0 ms c.requires.formed);
-    })
+    let ms = plain_labels c.args.fields.now in (
+      search (rules, the_lemmas),
+      record {
+        labels = c.requires.labels;
+        regular = c.requires.regular;
+        asked = formed_at e.names (kinds_in e) (type_at l.label.name.0 ms) (plain c.in-Some.t.now) c.in-Some.ensures.some (label_formed e.names (kinds_in e) l.label.name.0 ms c.requires.formed);
+      },
+    )
 
 pub label_against-returns-in-Some-clause-answer : goal.label_against-returns-in-Some-clause-answer
 label_against-returns-in-Some-clause-answer t c =
@@ -218,10 +226,11 @@ pub record_against-parts_against-requires : goal.record_against-parts_against-re
 record_against-parts_against-requires t c =
     let u = c.args.t.now in
     let r = c.in-Some.r.now in
-    let is = c.shown.ensures ∙ shown_is (exposure (type_context c.args.c.now) (plain u)) c.in_ok-followed.followed u c.in_ok-followed.ensures.none c.in_ok-followed.ensures.some in
-    (search (rules, the_lemmas),
-    fields_asked (environment_in c.args.c.now) c.args.span (field_pats_of c.args.parts.now) (plain u) (plain_bounds r.binders.items) (plain_types r.positional.items) (plain_labels r.labelled.items) c.requires.right
-    (sym is ∙ c.in-Some.ensures.some))
+    let is = c.shown.ensures ∙ shown_is (exposure (type_context c.args.c.now) (plain u)) c.in_ok-followed.followed u c.in_ok-followed.ensures.none c.in_ok-followed.ensures.some in (
+      search (rules, the_lemmas),
+      fields_asked (environment_in c.args.c.now) c.args.span (field_pats_of c.args.parts.now) (plain u) (plain_bounds r.binders.items) (plain_types r.positional.items) (plain_labels r.labelled.items) c.requires.right
+          (sym is ∙ c.in-Some.ensures.some),
+    )
 
 pub record_against-returns-clause-answer : goal.record_against-returns-clause-answer
 record_against-returns-clause-answer t c =
@@ -340,10 +349,13 @@ open_parts_against-all_against-requires t c =
     let n : length c.deref.result.now ≡ length c.args.binders.now = omega (arith, c.if-len-binders.false, c.len.ensures, (out-FieldPats f).binders.ok.0, ap length c.deref.ensures.value) in
     let m : length c.deref-2.result.now ≡ length c.args.positional.now = omega (arith, c.if-len-positional.false, c.len-2.ensures, (out-FieldPats f).positional.ok.0, ap length c.deref-2.ensures.value) in
     let is = parts_read f c.deref.result.now c.deref-2.result.now _ c.deref.ensures.value c.deref-2.ensures.value refl in
-    let asked = subst (λ g. IsWellAsked opened_ e (fields_against c.args.span g (plain_bounds c.args.binders.now) (plain_types c.args.positional.now) (plain_labels c.args.labelled.now))) is c.requires.right in
-    (search (rules, the_lemmas),
-    (m,
-    positional_asked e (environment_in c.open_against.new.c) c.args.span _ _ _ _ _ _ o.own asked (as_many_binders c.deref.result.now c.args.binders.now n) (as_many_patterns c.deref-2.result.now c.args.positional.now m) o.gives o.inside))
+    let asked = subst (λ g. IsWellAsked opened_ e (fields_against c.args.span g (plain_bounds c.args.binders.now) (plain_types c.args.positional.now) (plain_labels c.args.labelled.now))) is c.requires.right in (
+      search (rules, the_lemmas),
+      (
+        m,
+        positional_asked e (environment_in c.open_against.new.c) c.args.span _ _ _ _ _ _ o.own asked (as_many_binders c.deref.result.now c.args.binders.now n) (as_many_patterns c.deref-2.result.now c.args.positional.now m) o.gives o.inside,
+      ),
+    )
 
 pub open_parts_against-returns-in_err-first-clause-answer : goal.open_parts_against-returns-in_err-first-clause-answer
 open_parts_against-returns-in_err-first-clause-answer t c =
@@ -371,9 +383,10 @@ open_parts_against-labelled_against-requires t c =
     let m : length c.deref-2.result.now ≡ length c.args.positional.now = omega (arith, c.if-len-positional.false, c.len-2.ensures, (out-FieldPats f).positional.ok.0, ap length c.deref-2.ensures.value) in
     let is = parts_read f c.deref.result.now c.deref-2.result.now c.deref-3.result.now c.deref.ensures.value c.deref-2.ensures.value c.deref-3.ensures.value in
     let asked = subst (λ g. IsWellAsked opened_ e (fields_against c.args.span g (plain_bounds c.args.binders.now) (plain_types c.args.positional.now) (plain_labels c.args.labelled.now))) is c.requires.right in
-    let first = subst (λ z. Runs (rule z (patterns_against (pats_on no_pats c.deref-2.result.now) (plain_types c.args.positional.now))) (ok x)) (sym c.in_ok-first.ensures.same) c.in_ok-first.ensures.answer in
-    (search (rules, the_lemmas),
-    labelled_asked e d c.args.span _ _ _ _ _ _ o.own x asked (as_many_binders c.deref.result.now c.args.binders.now n) (as_many_patterns c.deref-2.result.now c.args.positional.now m) o.gives (c.in_ok-first.ensures.same ∙ o.inside) first)
+    let first = subst (λ z. Runs (rule z (patterns_against (pats_on no_pats c.deref-2.result.now) (plain_types c.args.positional.now))) (ok x)) (sym c.in_ok-first.ensures.same) c.in_ok-first.ensures.answer in (
+      search (rules, the_lemmas),
+      labelled_asked e d c.args.span _ _ _ _ _ _ o.own x asked (as_many_binders c.deref.result.now c.args.binders.now n) (as_many_patterns c.deref-2.result.now c.args.positional.now m) o.gives (c.in_ok-first.ensures.same ∙ o.inside) first,
+    )
 
 pub open_parts_against-returns-in_err-second-clause-answer : goal.open_parts_against-returns-in_err-second-clause-answer
 open_parts_against-returns-in_err-second-clause-answer t c =

@@ -9,12 +9,12 @@ returns c =
     let p = c.args.p.now in
     let s = c.in-Bind.span in
     elim c.in-Bind.is [
-      inl h ↦ sym (ap pat_span (bind_is p s h.0 h.1 h.2))
-    | inr k ↦ elim k [
-        inl h ↦ sym (ap pat_span (any_is p s h.0 h.1))
+      | inl h ↦ sym (ap pat_span (bind_is p s h.0 h.1 h.2))
       | inr k ↦ elim k [
-          inl h ↦ sym (ap pat_span (fields_is p s h.0 h.1))
-        | inr h ↦ sym (ap pat_span (fold_is p s h.0 h.1 h.2))
+        | inl h ↦ sym (ap pat_span (any_is p s h.0 h.1))
+        | inr k ↦ elim k [
+          | inl h ↦ sym (ap pat_span (fields_is p s h.0 h.1))
+          | inr h ↦ sym (ap pat_span (fold_is p s h.0 h.1 h.2))
         ]
       ]
     ]
