@@ -18,3 +18,4 @@ pub mod LabelPlaces
 pub mod Taking
 pub mod Handed
 pub mod Closed
+pub mod Uses

@@ -19,5 +19,6 @@ pub use formed::{
     annotated, as_record, below, expanded, followed, recursive, shown, unfolded, within_limits,
 };
 pub use known::{Binder, Known};
+pub use labels::labelled_type;
 pub use patterns::{fields_against, open_fields_against, pattern_against};
 pub use primitives::type_of;
