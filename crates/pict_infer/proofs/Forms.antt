@@ -15,6 +15,12 @@ use Rattle.pict_syntax.specs.Trees.{bind_pat, any_pat, fields_pat, fold_pat, fie
 use Rattle.pict_syntax.specs.PlainTrees.{annotation_of, held_annotation, type_of, pat_of, field_pats_of, binder_of, binders_on, pats_on, labelled_pats_on}
 use Rattle.pict_syntax.proofs.PatternLists.{pats_more, labelled_pats_more, field_pats_is}
 use Rattle.pict_syntax.proofs.TypeLists.{binders_more}
+use Rattle.pict_types.specs.declared.types.Bound.{Bound}
+use Rattle.pict_types.specs.declared.types.Ty.{Ty}
+use Rattle.pict_types.specs.Plain.{plain_bounds, plain_types}
+use Rattle.pict_types.specs.Types.{count_bounds, count_types}
+use Rattle.pict_types.proofs.Congruent.{three}
+use Rattle.pict_types.proofs.Rows.{count_bounds_length, count_types_length}
 use Rattle.pict_rules.specs.Counts.{count_pats, count_binders}
 
 pub bind_is : (p : Pat) (s : Span) (x : Id) (r : RType) → p ≡ Bind s x r → pat_of p ≡ bind_pat s x (annotation_of r)
@@ -42,6 +48,12 @@ annotated_by r t is = ap held_annotation is
 
 pub parts_are : (f : FieldPats) → field_pats_of f ≡ field_pats (binders_on no_binders (out-FieldPats f).binders.items) (pats_on no_pats (out-FieldPats f).positional.items) (labelled_pats_on no_labelled_pats (out-FieldPats f).labelled.items)
 parts_are f = ap field_pats_of (sym (roll-out-FieldPats f)) ∙ field_pats_is (out-FieldPats f).binders (out-FieldPats f).positional (out-FieldPats f).labelled
+
+-- the parts of fields, as the code reads them
+pub parts_read : (f : FieldPats) (xs : List TypeBinder) (ys : List Pat) (zs : List LabelledPat) → xs ≡ (out-FieldPats f).binders.items → ys ≡ (out-FieldPats f).positional.items → zs ≡ (out-FieldPats f).labelled.items
+    → field_pats_of f ≡ field_pats (binders_on no_binders xs) (pats_on no_pats ys) (labelled_pats_on no_labelled_pats zs)
+parts_read f xs ys zs p q r =
+    parts_are f ∙ three (λ (us : List TypeBinder) (vs : List Pat) (ws : List LabelledPat). field_pats (binders_on no_binders us) (pats_on no_pats vs) (labelled_pats_on no_labelled_pats ws)) (sym p) (sym q) (sym r)
 
 -- one more of a list
 pub taken : {A : Type 0} (xs : List A) (i : ℕ) (x : A) → i < length xs → x ≡ get_or xs i x → take (i + 1) xs ≡ take i xs ++ x ∷ []
@@ -78,3 +90,10 @@ pats_count ps (x ∷ xs) = omega (arith, pats_count (more_pats ps (pat_of x)) xs
 
 pub count_of_pats : (xs : List Pat) → count_pats (pats_on no_pats xs) ≡ length xs
 count_of_pats xs = omega (arith, pats_count no_pats xs)
+
+-- as many as the fields of a record
+pub as_many_binders : (xs : List TypeBinder) (bs : List Bound) → length xs ≡ length bs → count_binders (binders_on no_binders xs) ≡ count_bounds (plain_bounds bs)
+as_many_binders xs bs h = count_of_binders xs ∙ h ∙ sym (count_bounds_length bs)
+
+pub as_many_patterns : (xs : List Pat) (ts : List Ty) → length xs ≡ length ts → count_pats (pats_on no_pats xs) ≡ count_types (plain_types ts)
+as_many_patterns xs ts h = count_of_pats xs ∙ h ∙ sym (count_types_length ts)

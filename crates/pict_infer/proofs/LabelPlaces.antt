@@ -1,5 +1,5 @@
 -- The type at a label, found among labels that stand in order.
-use Rattle.std.proofs.Common.{◌≡◌, ◌<◌, ◌≤◌, ◌+◌, ℕ, zero, suc, nat_eq, Bool, true, false, if◌then◌else◌, nat_lt, List, [], ◌∷◌, length, get_or, Option, Some, None, refl, sym, ◌∙◌, ap, subst, arith, eqb-true, ltb-true, ltb-false}
+use Rattle.std.proofs.Common.{◌≡◌, ◌<◌, ◌≤◌, ℕ, zero, suc, nat_eq, Bool, true, false, if◌then◌else◌, nat_lt, List, [], ◌∷◌, length, get_or, Some, None, refl, sym, ◌∙◌, ap, subst, arith, eqb-true, ltb-true, ltb-false}
 use Rattle.std.proofs.lemmas.Bool.{eqb-false}
 use Rattle.std.specs.List.Sorted.{IsNonDecreasingBy, IsPartitionPoint}
 use Rattle.std.specs.Ordering.{ordering_index, ordering_reverse}
@@ -9,7 +9,7 @@ use Rattle.pict_syntax.specs.declared.name.Name.{Name}
 use Rattle.pict_syntax.specs.Labels.{label_cmp, StandsBefore}
 use Rattle.pict_syntax.proofs.LabelLemmas.{label_order, equal_labels, other_label, never_before_itself}
 use Rattle.pict_types.specs.declared.types.Ty.{Ty}
-use Rattle.pict_types.specs.Types.{PlainType, PlainLabels, no_label, labels, type_at}
+use Rattle.pict_types.specs.Types.{PlainLabels, no_label, labels, type_at}
 use Rattle.pict_types.specs.Kinds.{Kind, StandsBeforeAll, LabelsAreWellFormed}
 use Rattle.pict_types.specs.Plain.{plain, plain_labels}
 use Rattle.pict_infer.specs.Ordering.{AreInOrder}

@@ -9,7 +9,16 @@ pub mod Through
 pub mod Forms
 pub mod BinderLines
 pub mod OpenedBinders
+pub mod PatternLines
+pub mod AskedParts
+pub mod MadeKnown
+pub mod PatternPlaces
+pub mod TakenBack
+pub mod LabelPlaces
 pub mod Taking
 pub mod Handed
-pub mod LabelPlaces
+pub mod Closed
 pub mod Uses
+pub mod GivingLines
+pub mod GivingAsked
+pub mod MadeGiven

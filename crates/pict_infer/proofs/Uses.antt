@@ -1,9 +1,8 @@
 -- The nearest value of a name, from the level that the table of names gives.
-use Rattle.std.proofs.Common.{◌≡◌, ◌≢◌, ◌<◌, ◌≤◌, ◌-◌, ◌+◌, ℕ, zero, suc, nat_eq, Bool, true, false, if◌then◌else◌, List, [], ◌∷◌, length, map, reverse, get_or, max, Option, Some, None, refl, sym, ◌∙◌, ap, ap₂, subst, arith}
+use Rattle.std.proofs.Common.{◌≡◌, ◌<◌, ◌≤◌, ◌-◌, ℕ, zero, suc, nat_eq, Bool, true, false, if◌then◌else◌, List, [], ◌∷◌, length, map, reverse, get_or, Some, None, refl, sym, ◌∙◌, ap, arith}
 use Rattle.std.proofs.lemmas.List.{get_or-reverse, length-map, length-reverse}
 use Rattle.pict_binders.specs.Names.{level_of}
-use Rattle.pict_types.specs.Types.{PlainType}
-use Rattle.pict_rules.specs.Environments.{KnownValue, known_type, type_or_primitive}
+use Rattle.pict_rules.specs.Environments.{known_type}
 use Rattle.pict_infer.specs.declared.known.Known.{Known}
 use Rattle.pict_infer.specs.Knowing.{known_value, known_values, names_known, deepest}
 use Rattle.pict_syntax.proofs.ListLemmas.{map_reverse}

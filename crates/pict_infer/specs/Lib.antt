@@ -8,4 +8,8 @@ pub mod Places
 pub mod Steps
 pub mod Shaping
 pub mod Opening
+pub mod Patterns
+pub mod Giving
+pub mod Given
 pub mod Ordering
+pub mod Against
