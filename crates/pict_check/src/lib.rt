@@ -1,0 +1,18 @@
+//! The checker: a program is typed, or refused at its one stuck place.
+#![tactic(auto)]
+
+mod fields;
+mod functions;
+mod parts;
+mod spans;
+mod steps;
+mod values;
+
+#[cfg(test)]
+mod tests {
+    use std::alloc::AllocError;
+    #[test]
+    fn nothing(_rt: HostRuntime) -> Result<(), AllocError> {
+        Ok(())
+    }
+}
