@@ -1,4 +1,5 @@
 pub mod Ends
 pub mod Rows
 pub mod ValueEnds
+pub mod HasEnds
 pub mod Forms

@@ -1,17 +1,19 @@
 -- The lines in which rules end, each as a rule of its own.
-use Rattle.std.specs.Prelude.{ℕ, Bool, if◌then◌else◌, List, [], map, Option, Some, None}
-use Rattle.pict_syntax.specs.declared.code.Code.TheVariants.{Y4, Y8, Y9, Y10, Y11, Y14}
+use Rattle.std.specs.Prelude.{ℕ, Bool, if◌then◌else◌, List, [], ◌∷◌, ◌++◌, length, map, Option, Some, None}
+use Rattle.pict_syntax.specs.declared.code.Code.TheVariants.{K1, Y4, Y7, Y8, Y9, Y10, Y11, Y13, Y14}
 use Rattle.pict_syntax.specs.declared.span.Span.{Span}
-use Rattle.pict_syntax.specs.Trees.{FieldVals, true_val}
-use Rattle.pict_types.specs.Types.{PlainType, PlainArg, PlainBound, PlainBounds}
+use Rattle.pict_syntax.specs.Trees.{TypeTree, RType, Val, Vals, FieldVals, field_vals, LabelledVals, true_val}
+use Rattle.pict_syntax.specs.declared.id.Id.{Id}
+use Rattle.pict_syntax.specs.Grammar.{type_span}
+use Rattle.pict_types.specs.Types.{PlainType, PlainTypes, no_type, types, PlainLabels, PlainArg, PlainBound, PlainBounds, type_at}
 use Rattle.pict_types.specs.Replacing.{arguments, replace}
 use Rattle.pict_sub.specs.Exposing.{exposure}
 use Rattle.pict_rules.specs.Found.{Found, argument_in, matched, none_found}
 use Rattle.pict_rules.specs.Found as found
 use Rattle.pict_rules.specs.Shapes.{Function, applicable}
 use Rattle.pict_rules.specs.Environments.{Environment, context_of}
-use Rattle.pict_rules.specs.Rules.{Rule, nothing_, type_, arguments_, found_, is_subtype, give, refuse, either, part, ensure, within_limits, fields_fit, given_fits}
-use Rattle.pict_rules.specs.Clauses.{done, expect, found_first, need_function, need_outside, within_bound, within_bounds}
+use Rattle.pict_rules.specs.Rules.{Rule, nothing_, type_, types_, arguments_, found_, is_subtype, give, refuse, either, part, ensure, expand, expand_argument, within_limits, gives, fields_fit, value_fits, given_fits}
+use Rattle.pict_rules.specs.Clauses.{done, expect, found_first, if_labelled, is_of_kind, need_function, need_outside, need_recursive, within_bound, within_bounds}
 use Rattle.pict_rules.specs.Typing.{rule}
 
 -- a type that a rule forms is within the limits, and is given
@@ -66,3 +68,43 @@ within_one e s b earlier a at = within_bound e s b earlier a Y9 at done
 
 abbrev pub within_all : Environment → Span → PlainBounds → List PlainArg → Rule nothing_
 within_all e s bs args = within_bounds e s bs [] args Y9 done
+
+-- a written type argument, and one after the earlier ones, for a type field with this bound
+abbrev pub argument_expanded : Environment → TypeTree → Rule arguments_
+argument_expanded e t = expand_argument e t (λ a. give (a ∷ []))
+
+abbrev pub argument_after : Environment → Span → TypeTree → PlainBound → List PlainArg → Rule arguments_
+argument_after e s t b args =
+    expand_argument e t (λ a.
+    ensure (is_of_kind a b) K1 (type_span t) (
+    within_bound e s b args a Y9 (type_span t) (
+    give (args ++ a ∷ []))))
+
+-- the unfolding of a recursive type to go by, and an annotation with its unfolding
+abbrev pub fold_of : Environment → PlainType → Span → Rule type_
+fold_of e t s = need_recursive t Y13 s (λ u. within_limits e u s (give u))
+
+abbrev pub fold_annotated : Environment → RType → Span → Rule types_
+fold_annotated e None s = refuse Y7 s
+fold_annotated e (Some a) s =
+    expand e a (λ t.
+    need_recursive t Y13 (type_span a) (λ u.
+    within_limits e u s (
+    give (types t (types u no_type)))))
+
+-- how many type variables are known
+abbrev pub variables : Environment → ℕ
+variables e = length (context_of e)
+
+-- the values of fields
+abbrev pub positional_of : FieldVals → Vals
+positional_of (field_vals ts vs ls) = vs
+
+abbrev pub labelled_of : FieldVals → LabelledVals
+labelled_of (field_vals ts vs ls) = ls
+
+-- a labelled value fits the type at its label, if there is one
+abbrev pub labelled_value_fits : Environment → Span → Id → Val → PlainLabels → Found → Rule found_
+labelled_value_fits e s l v ms g =
+    if_labelled (type_at l.name.0 ms) (λ t. part e (value_fits s v t g) give) (
+    part e (gives v) (λ _. give g))

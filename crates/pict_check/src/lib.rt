@@ -1,9 +1,12 @@
 //! The checker: a program is typed, or refused at its one stuck place.
 #![tactic(auto)]
 
+mod counts;
 mod fields;
+mod folds;
 mod functions;
 mod parts;
+mod records;
 mod spans;
 mod steps;
 mod values;

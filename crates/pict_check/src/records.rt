@@ -1,0 +1,136 @@
+// Records and the fields of applications: counts, written type arguments, and the type of a record.
+
+ghost use Rattle.std.specs.Prelude.{◌≡◌, ◌≤◌, ◌++◌, ◌∷◌, [], length, IfOk};
+ghost use Rattle.pict_syntax.specs.PlainTrees.{type_of, types_on};
+ghost use Rattle.pict_syntax.specs.Trees.{no_types};
+ghost use Rattle.pict_types.specs.Kinds.{ArgIsWellFormed, BoundIsWellFormed};
+ghost use Rattle.pict_types.specs.Instances.{ArgsAreWellFormed};
+ghost use Rattle.pict_types.specs.Plain.{plain, plain_arg, plain_args, plain_bound, plain_bounds, plain_labels, plain_record, plain_types};
+ghost use Rattle.pict_types.specs.Replacing.{FitTheirFields};
+ghost use Rattle.pict_types.specs.Types.{Fields, no_bound};
+ghost use Rattle.pict_normal.specs.Written.{kinds_with, record_with};
+ghost use Rattle.pict_scope.specs.DistinctLabels.{HasDistinctLabels};
+ghost use Rattle.pict_rules.specs.Clauses.{is_of_kind};
+ghost use Rattle.pict_rules.specs.Regular.{IsTypeIn, kinds_in};
+ghost use Rattle.pict_rules.specs.Rules.{arguments_, written_arguments};
+ghost use Rattle.pict_rules.specs.Typing.{rule};
+ghost use Rattle.pict_infer.specs.Answering.{IsAnswer};
+ghost use Rattle.pict_infer.specs.Asking.{IsWellAsked};
+ghost use Rattle.pict_infer.specs.Environments.{environment_of};
+ghost use Rattle.pict_check.specs.Lines.{argument_after, argument_expanded, formed};
+
+use crate::fields::within_bound;
+use crate::spans::type_span;
+use crate::steps::within_limits;
+use pict_infer::{Env, InferError, refusal, size_refusal};
+use pict_normal::{expand_arg, instantiate};
+use pict_syntax::{Code, Name, Span, TypeTree};
+use pict_types::{Arg, Bound, Record, Ty};
+use std::alloc::Global;
+
+/// The type of a record with fields of these types. K4 at the place where it passes a limit.
+pub fn record_type(
+    alloc: Global,
+    env: &Env,
+    positional: Vec<Ty>,
+    labelled: Vec<(Name, Ty)>,
+    span: Span,
+) -> Result<Ty, InferError>
+    ensures { IsAnswer (formed (environment_of env.now) (Fields no_bound (plain_types positional.items) (plain_labels labelled.items)) span) plain result }
+{
+    let t = Ty::Fields(Record {
+        binders: Vec::new(alloc),
+        positional,
+        labelled,
+    });
+    within_limits(env, &t, span)?;
+    Ok(t)
+}
+
+/// The record with these arguments put for its type fields. K4 at the place where it passes a limit.
+pub fn record_instance(
+    alloc: Global,
+    env: &Env,
+    r: &Record,
+    args: &[Arg],
+    span: Span,
+) -> Result<Record, InferError>
+    requires r { IsTypeIn (environment_of env.now) (plain_record r.now) }
+    requires args { ArgsAreWellFormed (environment_of env.now).names (kinds_in (environment_of env.now)) (plain_args args.now) }
+    requires fit { FitTheirFields (plain_args args.now) (plain_bounds r.now.binders.items) }
+    ensures answer { IsAnswer (formed (environment_of env.now) (record_with (plain_args args.now) r.now) span) plain_record result }
+    ensures formed { IfOk result (λ q. IsTypeIn (environment_of env.now) (plain_record q)) }
+{
+    match instantiate(alloc, env.context(), r, args) {
+        Ok(q) => Ok(q),
+        Err(e) => Err(size_refusal(e, span)),
+    }
+}
+
+/// Whether an argument is of the kind of its type field. Takes no memory.
+fn is_of_kind(a: &Arg, b: &Bound) -> bool
+    ensures { result ≡ is_of_kind (plain_arg a.now) (plain_bound b.now) }
+{
+    match (a, b) {
+        (Arg::Op { params, .. }, Bound::Operator(n)) => *params == *n,
+        (Arg::Op { .. }, Bound::Free) => false,
+        (Arg::Op { .. }, Bound::Below(_)) => false,
+        (Arg::Plain(_), Bound::Operator(_)) => false,
+        (Arg::Plain(_), Bound::Free) => true,
+        (Arg::Plain(_), Bound::Below(_)) => true,
+    }
+}
+
+/// A written type argument, expanded. The refusals are K1 to K4 where they stand in it.
+fn expanded_argument(alloc: Global, env: &Env, t: &TypeTree) -> Result<Arg, InferError>
+    requires labels { HasDistinctLabels (type_of t.now) }
+    ensures answer { IsAnswer (argument_expanded (environment_of env.now) (type_of t.now)) (λ a. plain_arg a ∷ []) result }
+    ensures formed { IfOk result (λ a. ArgIsWellFormed (environment_of env.now).names (kinds_in (environment_of env.now)) (plain_arg a)) }
+{
+    match expand_arg(alloc, env.context(), t) {
+        Ok(a) => Ok(a),
+        Err(e) => Err(refusal(e)),
+    }
+}
+
+/// A written type argument after the earlier ones: expanded, of its field's kind, and below the field's bound.
+fn written_argument(
+    alloc: Global,
+    env: &Env,
+    t: &TypeTree,
+    b: &Bound,
+    earlier: &[Arg],
+    span: Span,
+) -> Result<Arg, InferError>
+    requires labels { HasDistinctLabels (type_of t.now) }
+    requires b { BoundIsWellFormed (environment_of env.now).names (kinds_with (plain_args earlier.now) (kinds_in (environment_of env.now))) (plain_bound b.now) }
+    requires earlier { ArgsAreWellFormed (environment_of env.now).names (kinds_in (environment_of env.now)) (plain_args earlier.now) }
+    ensures answer { IsAnswer (argument_after (environment_of env.now) span (type_of t.now) (plain_bound b.now) (plain_args earlier.now)) (λ a. plain_args earlier.now ++ plain_arg a ∷ []) result }
+{
+    let a = expanded_argument(alloc, env, t)?;
+    if !is_of_kind(&a, b) {
+        return Err(InferError::Named(Code::K1, type_span(t)));
+    }
+    within_bound(alloc, env, b, earlier, &a, type_span(t), span)?;
+    Ok(a)
+}
+
+/// Written type arguments, in order.
+pub fn written_arguments(
+    alloc: Global,
+    env: &Env,
+    ts: &[TypeTree],
+    bs: &[Bound],
+    span: Span,
+) -> Result<Vec<Arg>, InferError>
+    requires right { IsWellAsked arguments_ (environment_of env.now) (written_arguments span (types_on no_types ts.now) (plain_bounds bs.now)) }
+    requires count { length ts.now ≤ length bs.now }
+    ensures { IsAnswer (rule (environment_of env.now) (written_arguments span (types_on no_types ts.now) (plain_bounds bs.now))) (λ args. plain_args args.items) result }
+{
+    let mut args = Vec::new(alloc);
+    for (i, t) in ts.iter().enumerate() {
+        let a = written_argument(alloc, env, t, &bs[i], &args, span)?;
+        args.push(a)?;
+    }
+    Ok(args)
+}
