@@ -3,7 +3,8 @@ use Rattle.std.proofs.Common.{◌≡◌, ◌∙◌, ap, sym, subst, refl, Bool, 
 use Rattle.pict_syntax.specs.declared.code.Code.{Code}
 use Rattle.pict_syntax.specs.declared.span.Span.{Span}
 use Rattle.pict_types.specs.Types.{PlainType}
-use Rattle.pict_normal.specs.Normal.{Stop, size_stop}
+use Rattle.pict_syntax.specs.Trees.{TypeTree}
+use Rattle.pict_normal.specs.Normal.{Stop, kind_stop, size_stop}
 use Rattle.pict_rules.specs.Environments.{Environment, context_of}
 use Rattle.pict_rules.specs.Rules.{Sort, nothing_, type_, Judgement, Condition, is_subtype, Rule, Answer, give, refuse, need, part, ok, stuck, unless_stopped, within_limits, expand}
 use Rattle.pict_rules.specs.Rules as rules
@@ -54,3 +55,6 @@ limits e u at r = unstopped (size_stop e.context u at) given
 
 pub belows : {t : Sort} (e : Environment) (u v : PlainType) (c : Code) (at : Span) (r : Rule t) → GoesOn nothing_ t (below e u v c at) (need (is_subtype (context_of e) u v) c at r) (λ x. r)
 belows e u v c at r = needed given
+
+pub expands : {t : Sort} (e : Environment) (a : TypeTree) (k : PlainType → Rule t) → GoesOn type_ t (expanded e a) (expand e a k) k
+expands e a k = unstopped (kind_stop e.names e.context a) given

@@ -9,7 +9,7 @@ use Rattle.pict_rules.specs.Found.{none_found}
 use Rattle.pict_rules.specs.Rules.{Sort, nothing_, type_, arguments_, gives, has, is_condition, fields_fit, abstraction_against, Rule, ok}
 use Rattle.pict_rules.specs.Clauses.{check, done, gives_below, if_record, if_sent}
 use Rattle.pict_rules.specs.Typing.{rule}
-use Rattle.pict_rules.specs.Derivations.{Runs, give_}
+use Rattle.pict_rules.specs.Derivations.{Runs, give_, part_ok}
 use Rattle.pict_rules.specs.Reached.{Asks, this_part, past_part}
 use Rattle.pict_infer.specs.declared.error.InferError.{InferError}
 use Rattle.pict_infer.specs.Answering.{IsRefused, IsAnswer, nothing}
@@ -114,4 +114,4 @@ pub record_refused : (e : Environment) (s : Span) (f : FieldVals) (bs : PlainBou
 record_refused e s f bs ps ls y h = refused_here y h
 
 pub record_done : (e : Environment) (s : Span) (f : FieldVals) (bs : PlainBounds) (ps : PlainTypes) (ls : PlainLabels) (args : List PlainArg) → Runs (rule e (fields_fit s f bs ps ls (none_found bs))) (ok args) → Runs (rule e (has (fields_val s f) (Fields bs ps ls))) (ok tt)
-record_done e s f bs ps ls args h = past args (Ok tt) h give_
+record_done e s f bs ps ls args h = part_ok h give_

@@ -21,9 +21,9 @@ pub record Row (A : Type 0) (s : Sort) (e : Environment) : Type 0 where
 
 -- a refusal of the first ones is one of all
 refused_on : {A : Type 0} {s : Sort} {e : Environment} (w : Row A s e) (xs ys : List A) (y : InferError) → IsRefused (rule e (w.judged xs)) y → IsRefused (rule e (w.judged (xs ++ ys))) y
-refused_on w xs [] y h = subst (λ z. IsRefused (rule _ (w.judged z)) y) (sym (append-nil xs)) h
-refused_on w xs (z ∷ ys) (Named c i) h =
-    subst (λ l. IsRefused (rule _ (w.judged l)) (Named c i)) (append_assoc xs (z ∷ []) ys)
+refused_on {e = e} w xs [] y h = subst (λ z. IsRefused (rule e (w.judged z)) y) (sym (append-nil xs)) h
+refused_on {e = e} w xs (z ∷ ys) (Named c i) h =
+    subst (λ l. IsRefused (rule e (w.judged l)) (Named c i)) (append_assoc xs (z ∷ []) ys)
     (refused_on w (xs ++ z ∷ []) ys (Named c i) (subst (λ r. Runs r (stuck c i)) (sym (w.more xs z)) (part_stuck h)))
 refused_on w xs (z ∷ ys) Memory h = tt
 

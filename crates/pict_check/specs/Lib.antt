@@ -3,3 +3,4 @@ pub mod Functions
 pub mod Reading
 pub mod Folds
 pub mod Counts
+pub mod Records

@@ -1,11 +1,12 @@
 -- The lines in which rules end, each as a rule of its own.
 use Rattle.std.specs.Prelude.{ℕ, Bool, if◌then◌else◌, List, [], ◌∷◌, ◌++◌, length, map, Option, Some, None}
-use Rattle.pict_syntax.specs.declared.code.Code.TheVariants.{K1, Y4, Y7, Y8, Y9, Y10, Y11, Y13, Y14}
+use Rattle.pict_syntax.specs.declared.code.Code.TheVariants.{K1, Y1, Y4, Y7, Y8, Y9, Y10, Y11, Y13, Y14}
+use Rattle.pict_syntax.specs.declared.code.Code.{Code}
 use Rattle.pict_syntax.specs.declared.span.Span.{Span}
 use Rattle.pict_syntax.specs.Trees.{TypeTree, RType, Val, Vals, FieldVals, field_vals, LabelledVals, true_val}
 use Rattle.pict_syntax.specs.declared.id.Id.{Id}
 use Rattle.pict_syntax.specs.Grammar.{type_span}
-use Rattle.pict_types.specs.Types.{PlainType, PlainTypes, no_type, types, PlainLabels, PlainArg, PlainBound, PlainBounds, type_at}
+use Rattle.pict_types.specs.Types.{Capability, PlainType, PlainTypes, no_type, types, PlainLabels, PlainArg, PlainBound, PlainBounds, type_at}
 use Rattle.pict_types.specs.Replacing.{arguments, replace}
 use Rattle.pict_sub.specs.Exposing.{exposure}
 use Rattle.pict_rules.specs.Found.{Found, argument_in, matched, none_found}
@@ -13,7 +14,7 @@ use Rattle.pict_rules.specs.Found as found
 use Rattle.pict_rules.specs.Shapes.{Function, applicable}
 use Rattle.pict_rules.specs.Environments.{Environment, context_of}
 use Rattle.pict_rules.specs.Rules.{Rule, nothing_, type_, types_, arguments_, found_, is_subtype, give, refuse, either, part, ensure, expand, expand_argument, within_limits, gives, fields_fit, value_fits, given_fits}
-use Rattle.pict_rules.specs.Clauses.{done, expect, found_first, if_labelled, is_of_kind, need_function, need_outside, need_recursive, within_bound, within_bounds}
+use Rattle.pict_rules.specs.Clauses.{done, expect, found_first, if_labelled, is_of_kind, need_channel, need_function, need_outside, need_recursive, within_bound, within_bounds}
 use Rattle.pict_rules.specs.Typing.{rule}
 
 -- a type that a rule forms is within the limits, and is given
@@ -108,3 +109,7 @@ abbrev pub labelled_value_fits : Environment → Span → Id → Val → PlainLa
 labelled_value_fits e s l v ms g =
     if_labelled (type_at l.name.0 ms) (λ t. part e (value_fits s v t g) give) (
     part e (gives v) (λ _. give g))
+
+-- the messages of a channel type, which may be used so
+abbrev pub channel_messages : (Capability → Bool) → Code → Span → PlainType → Rule type_
+channel_messages may c at t = need_channel t Y1 at (λ m u. ensure (may m) c at (give u))
