@@ -39,7 +39,7 @@ pub fold_refused : (e : Environment) (s : Span) (r : RType) (v : Val) (y : Infer
 fold_refused e s r v y h = refused_on y (folds e s r v) h
 
 pub fold_value_refused : (e : Environment) (s : Span) (r : RType) (v : Val) (t u : PlainType) (y : InferError) → Runs (fold_annotated e r s) (ok (types t (types u no_type))) → IsRefused (rule e (has v u)) y → IsRefused (rule e (gives (of_chan (fold_chan s r v)))) y
-fold_value_refused e s r v t u y p h = refused_past (types t (types u no_type)) y (folds e s r v) p (refused_here y h)
+fold_value_refused e s r v t u y p h = refused_past (types t (types u no_type)) y (folds e s r v) p (refused_here _ _ _ y h)
 
 pub fold_done : (e : Environment) (s : Span) (r : RType) (v : Val) (t u : PlainType) → Runs (fold_annotated e r s) (ok (types t (types u no_type))) → Runs (rule e (has v u)) (ok tt) → Runs (rule e (gives (of_chan (fold_chan s r v)))) (ok t)
 fold_done e s r v t u p h = (folds e s r v).on_ok (types t (types u no_type)) (ok t) p (part_ok h give_)
@@ -55,7 +55,7 @@ pub open_fold_refused : (e : Environment) (s : Span) (v : Val) (t : PlainType) (
 open_fold_refused e s v t y h = refused_on y (open_folds e s v t) h
 
 pub open_fold_end : (e : Environment) (s : Span) (v : Val) (t u : PlainType) (r : Result (Unit {0}) InferError) → Runs (fold_of e t s) (ok u) → IsAnswer (rule e (has v u)) nothing r → IsAnswer (rule e (has (of_chan (fold_chan s None v)) t)) nothing r
-open_fold_end e s v t u r p h = answer_past u r (open_folds e s v t) p (ends_with r (λ x. give_) h)
+open_fold_end e s v t u r p h = answer_past _ u r (open_folds e s v t) p (ends_with _ _ _ _ _ r (λ x. give_) h)
 
 pub open_fold_asked : (e : Environment) (s : Span) (v : Val) (t u : PlainType) → IsWellAsked nothing_ e (has (of_chan (fold_chan s None v)) t) → IsTypeIn e u → IsWellAsked nothing_ e (has v u)
 open_fold_asked e s v t u h w = record { labels = h.labels.1; regular = h.regular; asked = w }
@@ -69,13 +69,13 @@ pub body_asked : (e d : Environment) (s : Span) (ds : Decs) (v : Val) → IsWell
 body_asked e d s ds v h p = asked_of (gives (of_chan (block_chan s ds v))) h (past_part p this_part)
 
 pub block_refused : (e : Environment) (s : Span) (ds : Decs) (v : Val) (y : InferError) → IsRefused (rule e (declarations ds)) y → IsRefused (rule e (gives (of_chan (block_chan s ds v)))) y
-block_refused e s ds v y h = refused_here y h
+block_refused e s ds v y h = refused_here _ _ _ y h
 
 pub body_refused : (e d : Environment) (s : Span) (ds : Decs) (v : Val) (y : InferError) → Runs (rule e (declarations ds)) (ok d) → IsRefused (rule d (gives v)) y → IsRefused (rule e (gives (of_chan (block_chan s ds v)))) y
-body_refused e d s ds v y p h = past_refused d y p (refused_here y h)
+body_refused e d s ds v y p h = past_refused _ _ _ d y p (refused_here _ _ _ y h)
 
 pub outside_refused : (e d : Environment) (s : Span) (ds : Decs) (v : Val) (t : PlainType) (y : InferError) → Runs (rule e (declarations ds)) (ok d) → Runs (rule d (gives v)) (ok t) → IsRefused (outside (opened_since e d) t s) y → IsRefused (rule e (gives (of_chan (block_chan s ds v)))) y
-outside_refused e d s ds v t y p q h = past_refused d y p (past_refused t y q h)
+outside_refused e d s ds v t y p q h = past_refused _ _ _ d y p (past_refused _ _ _ t y q h)
 
 pub block_done : (e d : Environment) (s : Span) (ds : Decs) (v : Val) (t u : PlainType) → Runs (rule e (declarations ds)) (ok d) → Runs (rule d (gives v)) (ok t) → Runs (outside (opened_since e d) t s) (ok u) → Runs (rule e (gives (of_chan (block_chan s ds v)))) (ok u)
 block_done e d s ds v t u p q h = part_ok p (part_ok q h)
@@ -87,10 +87,10 @@ pub has_body_asked : (e d : Environment) (s : Span) (ds : Decs) (v : Val) (t : P
 has_body_asked e d s ds v t h p = asked_of (has (of_chan (block_chan s ds v)) t) h (past_part p this_part)
 
 pub has_block_refused : (e : Environment) (s : Span) (ds : Decs) (v : Val) (t : PlainType) (y : InferError) → IsRefused (rule e (declarations ds)) y → IsRefused (rule e (has (of_chan (block_chan s ds v)) t)) y
-has_block_refused e s ds v t y h = refused_here y h
+has_block_refused e s ds v t y h = refused_here _ _ _ y h
 
 pub has_body_refused : (e d : Environment) (s : Span) (ds : Decs) (v : Val) (t : PlainType) (y : InferError) → Runs (rule e (declarations ds)) (ok d) → IsRefused (rule d (has v (shifted_by (opened_since e d) t))) y → IsRefused (rule e (has (of_chan (block_chan s ds v)) t)) y
-has_body_refused e d s ds v t y p h = past_refused d y p (refused_here y h)
+has_body_refused e d s ds v t y p h = past_refused _ _ _ d y p (refused_here _ _ _ y h)
 
 pub has_block_done : (e d : Environment) (s : Span) (ds : Decs) (v : Val) (t : PlainType) → Runs (rule e (declarations ds)) (ok d) → Runs (rule d (has v (shifted_by (opened_since e d) t))) (ok tt) → Runs (rule e (has (of_chan (block_chan s ds v)) t)) (ok tt)
 has_block_done e d s ds v t p h = part_ok p (part_ok h give_)
@@ -104,19 +104,19 @@ pub applied_asked : (e : Environment) (s : Span) (f : Val) (vs : FieldVals) (x :
 applied_asked e s f vs x h = asked_of (application s f vs x) h this_part
 
 pub applied_refused : (e : Environment) (s : Span) (f : Val) (vs : FieldVals) (x : Option PlainType) (y : InferError) → IsRefused (rule e (gives f)) y → IsRefused (rule e (application s f vs x)) y
-applied_refused e s f vs x y h = refused_here y h
+applied_refused e s f vs x y h = refused_here _ _ _ y h
 
-pub apply_end : {T : Type 0} {g : T → PlainType} (e : Environment) (s : Span) (f : Val) (vs : FieldVals) (r : Result T InferError) → IsAnswer (rule e (application s f vs None)) g r → IsAnswer (rule e (gives (of_chan (apply_chan s f vs)))) g r
-apply_end e s f vs r h = ends_with r (λ x. give_) h
+pub apply_end : {T : Type 0} (g : T → PlainType) (e : Environment) (s : Span) (f : Val) (vs : FieldVals) (r : Result T InferError) → IsAnswer (rule e (application s f vs None)) g r → IsAnswer (rule e (gives (of_chan (apply_chan s f vs)))) g r
+apply_end g e s f vs r h = ends_with _ _ _ _ _ r (λ x. give_) h
 
 pub apply_refused : (e : Environment) (s : Span) (f : Val) (vs : FieldVals) (y : InferError) → IsRefused (rule e (application s f vs None)) y → IsRefused (rule e (gives (of_chan (apply_chan s f vs)))) y
-apply_refused e s f vs y h = refused_here y h
+apply_refused e s f vs y h = refused_here _ _ _ y h
 
 pub has_head_asked : (e : Environment) (s : Span) (f : Val) (vs : FieldVals) (t : PlainType) → IsWellAsked nothing_ e (has (of_chan (apply_chan s f vs)) t) → IsWellAsked type_ e (application s f vs (Some t))
 has_head_asked e s f vs t h = asked_of (has (of_chan (apply_chan s f vs)) t) h this_part
 
 pub has_apply_refused : (e : Environment) (s : Span) (f : Val) (vs : FieldVals) (t : PlainType) (y : InferError) → IsRefused (rule e (application s f vs (Some t))) y → IsRefused (rule e (has (of_chan (apply_chan s f vs)) t)) y
-has_apply_refused e s f vs t y h = refused_here y h
+has_apply_refused e s f vs t y h = refused_here _ _ _ y h
 
 pub has_apply_done : (e : Environment) (s : Span) (f : Val) (vs : FieldVals) (t u : PlainType) → Runs (rule e (application s f vs (Some t))) (ok u) → Runs (rule e (has (of_chan (apply_chan s f vs)) t)) (ok tt)
 has_apply_done e s f vs t u h = part_ok h give_

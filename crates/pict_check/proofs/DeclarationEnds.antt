@@ -26,7 +26,7 @@ pub run_asked : (e : Environment) (s : Span) (p : Proc) → IsWellAsked environm
 run_asked e s p h = asked_of (declaration (run_dec s p)) h this_part
 
 pub run_refused : (e : Environment) (s : Span) (p : Proc) (y : InferError) → IsRefused (rule e (process p)) y → IsRefused (rule e (declaration (run_dec s p))) y
-run_refused e s p y h = refused_here y h
+run_refused e s p y h = refused_here _ _ _ y h
 
 pub run_done : (e d : Environment) (s : Span) (p : Proc) → d ≡ e → Runs (rule e (process p)) (ok tt) → Runs (rule e (declaration (run_dec s p))) (ok d)
 run_done e d s p k h = subst (λ z. Runs (rule e (declaration (run_dec s p))) (ok z)) (sym k) (part_ok h give_)
@@ -37,7 +37,7 @@ pub await_asked : (e : Environment) (s : Span) (v : Val) → IsWellAsked environ
 await_asked e s v h = asked_of (declaration (await_dec s v)) h this_part
 
 pub await_refused : (e : Environment) (s : Span) (v : Val) (y : InferError) → IsRefused (rule e (has v empty_record)) y → IsRefused (rule e (declaration (await_dec s v))) y
-await_refused e s v y h = refused_here y h
+await_refused e s v y h = refused_here _ _ _ y h
 
 pub await_done : (e d : Environment) (s : Span) (v : Val) → d ≡ e → Runs (rule e (has v empty_record)) (ok tt) → Runs (rule e (declaration (await_dec s v))) (ok d)
 await_done e d s v k h = subst (λ z. Runs (rule e (declaration (await_dec s v))) (ok z)) (sym k) (part_ok h give_)
@@ -57,13 +57,13 @@ pub let_value_asked : (e : Environment) (s : Span) (p : Pat) (v : Val) → is_co
 let_value_asked e s p v c h = asked_of (declaration (let_dec s p v)) h (subst (λ z. Asks environment_ z type_ e (gives v)) (sym (let_rule e s p v false c)) this_part)
 
 pub let_value_refused : (e : Environment) (s : Span) (p : Pat) (v : Val) (y : InferError) → is_complete e.names e.context p ≡ false → IsRefused (rule e (gives v)) y → IsRefused (rule e (declaration (let_dec s p v))) y
-let_value_refused e s p v y c h = subst (λ z. IsRefused z y) (sym (let_rule e s p v false c)) (refused_here y h)
+let_value_refused e s p v y c h = subst (λ z. IsRefused z y) (sym (let_rule e s p v false c)) (refused_here _ _ _ y h)
 
 pub let_against_asked : (e : Environment) (s : Span) (p : Pat) (v : Val) (t : PlainType) → is_complete e.names e.context p ≡ false → IsWellAsked environment_ e (declaration (let_dec s p v)) → Runs (rule e (gives v)) (ok t) → IsWellAsked extension_ e (pattern_against p t)
 let_against_asked e s p v t c h q = asked_of (declaration (let_dec s p v)) h (subst (λ z. Asks environment_ z extension_ e (pattern_against p t)) (sym (let_rule e s p v false c)) (past_part q this_part))
 
 pub let_against_refused : (e : Environment) (s : Span) (p : Pat) (v : Val) (t : PlainType) (y : InferError) → is_complete e.names e.context p ≡ false → Runs (rule e (gives v)) (ok t) → IsRefused (rule e (pattern_against p t)) y → IsRefused (rule e (declaration (let_dec s p v))) y
-let_against_refused e s p v t y c q h = subst (λ z. IsRefused z y) (sym (let_rule e s p v false c)) (past_refused t y q (refused_here y h))
+let_against_refused e s p v t y c q h = subst (λ z. IsRefused z y) (sym (let_rule e s p v false c)) (past_refused _ _ _ t y q (refused_here _ _ _ y h))
 
 pub let_against_done : (e d : Environment) (s : Span) (p : Pat) (v : Val) (t : PlainType) (x : Extension) → is_complete e.names e.context p ≡ false → Runs (rule e (gives v)) (ok t) → Runs (rule e (pattern_against p t)) (ok x) → d ≡ extended e x → Runs (rule e (declaration (let_dec s p v))) (ok d)
 let_against_done e d s p v t x c q r k = subst (λ z. Runs z (ok d)) (sym (let_rule e s p v false c)) (part_ok q (part_ok r (subst (λ z. Runs {s = environment_} (give (extended e x)) (ok z)) (sym k) give_)))
@@ -74,7 +74,7 @@ pub declaration_more : (e d f : Environment) (xs : List RDec) (i : ℕ) (a : RDe
 declaration_more e d f xs i a h p q = row_more (declarations_row e) xs i a d f h p (part_ok q give_)
 
 pub declaration_refused : (e d : Environment) (xs : List RDec) (i : ℕ) (a : RDec) (y : InferError) → i < length xs → Runs (rule e (declarations (decs_on no_decs (take i xs)))) (ok d) → IsRefused (rule d (declaration (dec_of (get_or xs i a)))) y → IsRefused (rule e (declarations (decs_on no_decs xs))) y
-declaration_refused e d xs i a y h p q = row_refused (declarations_row e) xs i a d y h p (refused_here y q)
+declaration_refused e d xs i a y h p q = row_refused (declarations_row e) xs i a d y h p (refused_here _ _ _ y q)
 
 pub declaration_asked : (e d : Environment) (xs : List RDec) (i : ℕ) (a : RDec) → i < length xs → IsWellAsked environment_ e (declarations (decs_on no_decs xs)) → Runs (rule e (declarations (decs_on no_decs (take i xs)))) (ok d) → IsWellAsked environment_ d (declaration (dec_of (get_or xs i a)))
 declaration_asked e d xs i a h q p = row_asked (declarations_row e) xs i a d h q p this_part

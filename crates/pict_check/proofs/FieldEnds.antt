@@ -42,7 +42,7 @@ no_function (Some f) at k (Named c i) h = elim h [ ]
 no_function (Some f) at k Memory h = tt
 
 pub head_refused : (e : Environment) (s : Span) (f : Val) (vs : FieldVals) (x : Option PlainType) (t : PlainType) (y : InferError) → Runs (rule e (gives f)) (ok t) → IsNoFunction (applicable (exposure (context_of e) t)) (val_span f) y → IsRefused (rule e (application s f vs x)) y
-head_refused e s f vs x t y p h = past_refused t y p (no_function (applicable (exposure (context_of e) t)) (val_span f) _ y h)
+head_refused e s f vs x t y p h = past_refused _ _ _ t y p (no_function (applicable (exposure (context_of e) t)) (val_span f) _ y h)
 
 -- the function that the head may be applied as
 headed : (e : Environment) (s : Span) (at : Span) (t : PlainType) (vs : FieldVals) (x : Option PlainType) (r : Function) → applicable (exposure (context_of e) t) ≡ Some r → application_of e s at t vs x ≡ part e (fields_fit s vs r.binders r.positional r.labelled (found_first e vs r x)) (λ args. application_end e s r.answer args x)
@@ -53,10 +53,10 @@ fields_asked e s f vs x t r a p h =
     asked_of (application s f vs x) a (past_part p (subst (λ z. Asks type_ z arguments_ e (fields_fit s vs r.binders r.positional r.labelled (found_first e vs r x))) (sym (headed e s (val_span f) t vs x r h)) this_part))
 
 pub fields_refused : (e : Environment) (s : Span) (f : Val) (vs : FieldVals) (x : Option PlainType) (t : PlainType) (r : Function) (y : InferError) → Runs (rule e (gives f)) (ok t) → applicable (exposure (context_of e) t) ≡ Some r → IsRefused (rule e (fields_fit s vs r.binders r.positional r.labelled (found_first e vs r x))) y → IsRefused (rule e (application s f vs x)) y
-fields_refused e s f vs x t r y p h k = past_refused t y p (subst (λ z. IsRefused z y) (sym (headed e s (val_span f) t vs x r h)) (refused_here y k))
+fields_refused e s f vs x t r y p h k = past_refused _ _ _ t y p (subst (λ z. IsRefused z y) (sym (headed e s (val_span f) t vs x r h)) (refused_here _ _ _ y k))
 
-pub application_done : {T : Type 0} {g : T → PlainType} (e : Environment) (s : Span) (f : Val) (vs : FieldVals) (x : Option PlainType) (t : PlainType) (r : Function) (args : List PlainArg) (a : Result T InferError) → Runs (rule e (gives f)) (ok t) → applicable (exposure (context_of e) t) ≡ Some r → Runs (rule e (fields_fit s vs r.binders r.positional r.labelled (found_first e vs r x))) (ok args) → IsAnswer (application_end e s r.answer args x) g a → IsAnswer (rule e (application s f vs x)) g a
-application_done {g = g} e s f vs x t r args a p h q k = past t a p (subst (λ z. IsAnswer z g a) (sym (headed e s (val_span f) t vs x r h)) (past args a q k))
+pub application_done : {T : Type 0} (g : T → PlainType) (e : Environment) (s : Span) (f : Val) (vs : FieldVals) (x : Option PlainType) (t : PlainType) (r : Function) (args : List PlainArg) (a : Result T InferError) → Runs (rule e (gives f)) (ok t) → applicable (exposure (context_of e) t) ≡ Some r → Runs (rule e (fields_fit s vs r.binders r.positional r.labelled (found_first e vs r x))) (ok args) → IsAnswer (application_end e s r.answer args x) g a → IsAnswer (rule e (application s f vs x)) g a
+application_done g e s f vs x t r args a p h q k = past _ _ _ _ t a p (subst (λ z. IsAnswer z g a) (sym (headed e s (val_span f) t vs x r h)) (past _ _ _ _ args a q k))
 
 -- FIELDS
 
@@ -113,12 +113,16 @@ values_on {t = t} e s vs ls ps ms g k = record { on_ok = on_ok; on_stuck = on_st
 
 -- VALUES OF FIELDS
 
+-- what is given is what is answered
+given_is : (s : Sort) (x y : rules.Result s) → Runs (give x) (ok y) → y ≡ x
+given_is s x y give_ = refl
+
 -- a type that was formed is within the limits, and is the one that is given
 pub formed_is : (e : Environment) (w u : PlainType) (s : Span) → Runs (formed e w s) (ok u) → (size_stop e.context w s ≡ None) × (u ≡ w)
 formed_is e w u s h = go (size_stop e.context w s) h
   where
     go : (o : Option Stop) → Runs {s = type_} (unless_stopped o (give w)) (ok u) → (o ≡ None) × (u ≡ w)
-    go None give_ = (refl, refl)
+    go None h = (refl, given_is type_ w u h)
     go (Some x) h = elim h [ ]
 
 -- and how a rule goes on with it
@@ -142,12 +146,12 @@ value_given_asked e s v t g f m h p =
     asked_of (value_fits s v t f) h (subst (λ z. Asks found_ z found_ e (given_fits s v t g (matched (context_of e) 0 t g f))) (sym (value_rule e s v t f true m)) (past_part p this_part))
 
 pub value_gives_refused : (e : Environment) (s : Span) (v : Val) (t : PlainType) (f : Found) (y : InferError) → mentions_missing f t ≡ true → IsRefused (rule e (gives v)) y → IsRefused (rule e (value_fits s v t f)) y
-value_gives_refused e s v t f y m h = subst (λ z. IsRefused z y) (sym (value_rule e s v t f true m)) (refused_here y h)
+value_gives_refused e s v t f y m h = subst (λ z. IsRefused z y) (sym (value_rule e s v t f true m)) (refused_here _ _ _ y h)
 
 pub value_given : {T : Type 0} (e : Environment) (s : Span) (v : Val) (t g : PlainType) (f h : Found) (r : Result T InferError) → mentions_missing f t ≡ true → Runs (rule e (gives v)) (ok g) → h ≡ matched (context_of e) 0 t g f → IsAnswer (given_lines e s (val_span v) t g h) (λ x. h) r → IsAnswer (rule e (value_fits s v t f)) (λ x. h) r
 value_given e s v t g f h r m p is k =
     subst (λ z. IsAnswer z (λ x. h) r) (sym (value_rule e s v t f true m))
-    (past g r p (ends_with r (λ x. give_) (subst (λ z. IsAnswer (given_lines e s (val_span v) t g z) (λ x. h) r) is k)))
+    (past _ _ _ _ g r p (ends_with _ _ _ _ _ r (λ x. give_) (subst (λ z. IsAnswer (given_lines e s (val_span v) t g z) (λ x. h) r) is k)))
 
 pub value_limits : (e : Environment) (s : Span) (v : Val) (t : PlainType) (f : Found) (y : InferError) → mentions_missing f t ≡ false → IsRefused (formed e (with_found f t) s) y → IsRefused (rule e (value_fits s v t f)) y
 value_limits e s v t f y m h = subst (λ z. IsRefused z y) (sym (value_rule e s v t f false m)) (refused_on y (formed_on e (with_found f t) s (check e (has v (with_found f t)) (give f))) h)
@@ -163,8 +167,8 @@ pub value_had : {T : Type 0} (e : Environment) (s : Span) (v : Val) (t u : Plain
 value_had e s v t u f g r m p h =
     let k = formed_is e (with_found f t) u s p in
     subst (λ z. IsAnswer z (λ x. f) r) (sym (value_rule e s v t f false m))
-    (answer_past u r (formed_on e (with_found f t) s (check e (has v (with_found f t)) (give f))) p
-    (ends_with r (λ x. give_) (subst (λ w. IsAnswer (rule e (has v w)) g r) k.1 h)))
+    (answer_past _ u r (formed_on e (with_found f t) s (check e (has v (with_found f t)) (give f))) p
+    (ends_with _ _ _ _ _ r (λ x. give_) (subst (λ w. IsAnswer (rule e (has v w)) g r) k.1 h)))
 
 -- FIELDS, FROM THEIR VALUES
 
@@ -179,39 +183,39 @@ counted_refused e s f ts vs ls bs ps ms g y is h =
     (refused_on y (counts s (field_vals ts vs ls) bs ps ms (if not (none_written ts) then Written e s ts vs ls bs ps ms else Omitted e s vs ls bs ps ms g)) k)
 
 -- once the counts are right
-counted_as : {T : Type 0} {f : T → List PlainArg} (e : Environment) (s : Span) (v : FieldVals) (ts : TypeTrees) (vs : Vals) (ls : LabelledVals) (bs : PlainBounds) (ps : PlainTypes) (ms : PlainLabels) (g : Found) (b : Bool) (r : Result T InferError) → IsFields v ts vs ls → none_written ts ≡ b → Runs (counted s v bs ps ms) (ok tt) → IsAnswer (if not b then Written e s ts vs ls bs ps ms else Omitted e s vs ls bs ps ms g) f r → IsAnswer (rule e (fields_fit s v bs ps ms g)) f r
-counted_as {f = f} e s v ts vs ls bs ps ms g b r is w p h =
+counted_as : {T : Type 0} (f : T → List PlainArg) (e : Environment) (s : Span) (v : FieldVals) (ts : TypeTrees) (vs : Vals) (ls : LabelledVals) (bs : PlainBounds) (ps : PlainTypes) (ms : PlainLabels) (g : Found) (b : Bool) (r : Result T InferError) → IsFields v ts vs ls → none_written ts ≡ b → Runs (counted s v bs ps ms) (ok tt) → IsAnswer (if not b then Written e s ts vs ls bs ps ms else Omitted e s vs ls bs ps ms g) f r → IsAnswer (rule e (fields_fit s v bs ps ms g)) f r
+counted_as f e s v ts vs ls bs ps ms g b r is w p h =
     subst (λ z. IsAnswer (rule e (fields_fit s z bs ps ms g)) f r) (sym is)
     (subst (λ z. IsAnswer z f r) (sym (fit_rule e s ts vs ls bs ps ms g b w))
-    (answer_past tt r (counts s (field_vals ts vs ls) bs ps ms (if not b then Written e s ts vs ls bs ps ms else Omitted e s vs ls bs ps ms g)) (subst (λ z. Runs (counted s z bs ps ms) (ok tt)) is p) h))
+    (answer_past _ tt r (counts s (field_vals ts vs ls) bs ps ms (if not b then Written e s ts vs ls bs ps ms else Omitted e s vs ls bs ps ms g)) (subst (λ z. Runs (counted s z bs ps ms) (ok tt)) is p) h))
 
 counted_to : (e : Environment) (s : Span) (v : FieldVals) (ts : TypeTrees) (vs : Vals) (ls : LabelledVals) (bs : PlainBounds) (ps : PlainTypes) (ms : PlainLabels) (g : Found) (b : Bool) (y : InferError) → IsFields v ts vs ls → none_written ts ≡ b → Runs (counted s v bs ps ms) (ok tt) → IsRefused (if not b then Written e s ts vs ls bs ps ms else Omitted e s vs ls bs ps ms g) y → IsRefused (rule e (fields_fit s v bs ps ms g)) y
-counted_to e s v ts vs ls bs ps ms g b y is w p h = counted_as {T = Unit {0}} {f = λ x. []} e s v ts vs ls bs ps ms g b (Err y) is w p h
+counted_to e s v ts vs ls bs ps ms g b y is w p h = counted_as {T = Unit {0}} (λ x. []) e s v ts vs ls bs ps ms g b (Err y) is w p h
 
 -- no type argument is written
 pub omitted_refused : (e : Environment) (s : Span) (v : FieldVals) (ts : TypeTrees) (vs : Vals) (ls : LabelledVals) (bs : PlainBounds) (ps : PlainTypes) (ms : PlainLabels) (g : Found) (y : InferError) → IsFields v ts vs ls → none_written ts ≡ true → Runs (counted s v bs ps ms) (ok tt) → IsRefused {s = found_} (in_order e s vs ls ps ms g give) y → IsRefused (rule e (fields_fit s v bs ps ms g)) y
 omitted_refused e s v ts vs ls bs ps ms g y is w p h = counted_to e s v ts vs ls bs ps ms g true y is w p (refused_on y (values_on e s vs ls ps ms g (λ h. fields_end e s bs h)) h)
 
-pub omitted_end : {T : Type 0} {f : T → List PlainArg} (e : Environment) (s : Span) (v : FieldVals) (ts : TypeTrees) (vs : Vals) (ls : LabelledVals) (bs : PlainBounds) (ps : PlainTypes) (ms : PlainLabels) (g h : Found) (r : Result T InferError) → IsFields v ts vs ls → none_written ts ≡ true → Runs (counted s v bs ps ms) (ok tt) → Runs {s = found_} (in_order e s vs ls ps ms g give) (ok h) → IsAnswer (fields_end e s bs h) f r → IsAnswer (rule e (fields_fit s v bs ps ms g)) f r
-omitted_end e s v ts vs ls bs ps ms g h r is w p q k = counted_as e s v ts vs ls bs ps ms g true r is w p (answer_past h r (values_on e s vs ls ps ms g (λ h. fields_end e s bs h)) q k)
+pub omitted_end : {T : Type 0} (f : T → List PlainArg) (e : Environment) (s : Span) (v : FieldVals) (ts : TypeTrees) (vs : Vals) (ls : LabelledVals) (bs : PlainBounds) (ps : PlainTypes) (ms : PlainLabels) (g h : Found) (r : Result T InferError) → IsFields v ts vs ls → none_written ts ≡ true → Runs (counted s v bs ps ms) (ok tt) → Runs {s = found_} (in_order e s vs ls ps ms g give) (ok h) → IsAnswer (fields_end e s bs h) f r → IsAnswer (rule e (fields_fit s v bs ps ms g)) f r
+omitted_end f e s v ts vs ls bs ps ms g h r is w p q k = counted_as f e s v ts vs ls bs ps ms g true r is w p (answer_past _ h r (values_on e s vs ls ps ms g (λ h. fields_end e s bs h)) q k)
 
 -- some are
 pub written_refused : (e : Environment) (s : Span) (v : FieldVals) (ts : TypeTrees) (vs : Vals) (ls : LabelledVals) (bs : PlainBounds) (ps : PlainTypes) (ms : PlainLabels) (g : Found) (y : InferError) → IsFields v ts vs ls → none_written ts ≡ false → Runs (counted s v bs ps ms) (ok tt) → IsRefused (rule e (written_arguments s ts bs)) y → IsRefused (rule e (fields_fit s v bs ps ms g)) y
-written_refused e s v ts vs ls bs ps ms g y is w p h = counted_to e s v ts vs ls bs ps ms g false y is w p (refused_here y h)
+written_refused e s v ts vs ls bs ps ms g y is w p h = counted_to e s v ts vs ls bs ps ms g false y is w p (refused_here _ _ _ y h)
 
 pub instance_refused : (e : Environment) (s : Span) (v : FieldVals) (ts : TypeTrees) (vs : Vals) (ls : LabelledVals) (bs : PlainBounds) (ps : PlainTypes) (ms : PlainLabels) (g : Found) (args : List PlainArg) (y : InferError) → IsFields v ts vs ls → none_written ts ≡ false → Runs (counted s v bs ps ms) (ok tt) → Runs (rule e (written_arguments s ts bs)) (ok args) → IsRefused (formed e (instance_of args ps ms) s) y → IsRefused (rule e (fields_fit s v bs ps ms g)) y
 instance_refused e s v ts vs ls bs ps ms g args y is w p q h =
     counted_to e s v ts vs ls bs ps ms g false y is w p
-    (past_refused args y q (refused_on y (formed_on e (instance_of args ps ms) s (in_order e s vs ls ps ms (map filled args) (λ x. give args))) h))
+    (past_refused _ _ _ args y q (refused_on y (formed_on e (instance_of args ps ms) s (in_order e s vs ls ps ms (map filled args) (λ x. give args))) h))
 
 pub written_values_refused : (e : Environment) (s : Span) (v : FieldVals) (ts : TypeTrees) (vs : Vals) (ls : LabelledVals) (bs : PlainBounds) (ps : PlainTypes) (ms : PlainLabels) (g : Found) (args : List PlainArg) (u : PlainType) (y : InferError) → IsFields v ts vs ls → none_written ts ≡ false → Runs (counted s v bs ps ms) (ok tt) → Runs (rule e (written_arguments s ts bs)) (ok args) → Runs (formed e (instance_of args ps ms) s) (ok u) → IsRefused {s = found_} (in_order e s vs ls ps ms (map filled args) give) y → IsRefused (rule e (fields_fit s v bs ps ms g)) y
 written_values_refused e s v ts vs ls bs ps ms g args u y is w p q k h =
     counted_to e s v ts vs ls bs ps ms g false y is w p
-    (past_refused args y q (refused_past u y (formed_on e (instance_of args ps ms) s (in_order e s vs ls ps ms (map filled args) (λ x. give args))) k
+    (past_refused _ _ _ args y q (refused_past u y (formed_on e (instance_of args ps ms) s (in_order e s vs ls ps ms (map filled args) (λ x. give args))) k
     (refused_on y (values_on e s vs ls ps ms (map filled args) (λ x. give args)) h)))
 
 pub written_done : (e : Environment) (s : Span) (v : FieldVals) (ts : TypeTrees) (vs : Vals) (ls : LabelledVals) (bs : PlainBounds) (ps : PlainTypes) (ms : PlainLabels) (g h : Found) (args : List PlainArg) (u : PlainType) → IsFields v ts vs ls → none_written ts ≡ false → Runs (counted s v bs ps ms) (ok tt) → Runs (rule e (written_arguments s ts bs)) (ok args) → Runs (formed e (instance_of args ps ms) s) (ok u) → Runs {s = found_} (in_order e s vs ls ps ms (map filled args) give) (ok h) → Runs (rule e (fields_fit s v bs ps ms g)) (ok args)
 written_done e s v ts vs ls bs ps ms g h args u is w p q k r =
-    counted_as {T = Unit {0}} {f = λ x. args} e s v ts vs ls bs ps ms g false (Ok tt) is w p
+    counted_as {T = Unit {0}} (λ x. args) e s v ts vs ls bs ps ms g false (Ok tt) is w p
     (part_ok q ((formed_on e (instance_of args ps ms) s (in_order e s vs ls ps ms (map filled args) (λ x. give args))).on_ok u (ok args) k
     ((values_on e s vs ls ps ms (map filled args) (λ x. give args)).on_ok h (ok args) r give_)))

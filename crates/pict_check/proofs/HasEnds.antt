@@ -30,13 +30,13 @@ pub has_no_asked : (e : Environment) (s : Span) (c v w : Val) (t : PlainType) �
 has_no_asked e s c v w t h p q = asked_of (has (if_val s c v w) t) h (past_part p (past_part q this_part))
 
 pub has_test : (e : Environment) (s : Span) (c v w : Val) (t : PlainType) (y : InferError) → IsRefused (gives_below e c Boolean Y12) y → IsRefused (rule e (has (if_val s c v w) t)) y
-has_test e s c v w t y h = refused_here {j = is_condition c} y h
+has_test e s c v w t y h = refused_here _ (is_condition c) _ y h
 
 pub has_yes : (e : Environment) (s : Span) (c v w : Val) (t : PlainType) (y : InferError) → Runs (gives_below e c Boolean Y12) (ok tt) → IsRefused (rule e (has v t)) y → IsRefused (rule e (has (if_val s c v w) t)) y
-has_yes e s c v w t y p h = past_refused {j = is_condition c} tt y p (refused_here y h)
+has_yes e s c v w t y p h = past_refused _ (is_condition c) _ tt y p (refused_here _ _ _ y h)
 
 pub has_end : (e : Environment) (s : Span) (c v w : Val) (t : PlainType) (r : Result (Unit {0}) InferError) → Runs (gives_below e c Boolean Y12) (ok tt) → Runs (rule e (has v t)) (ok tt) → IsAnswer (rule e (has w t)) nothing r → IsAnswer (rule e (has (if_val s c v w) t)) nothing r
-has_end e s c v w t r p q h = past {j = is_condition c} tt r p (past tt r q (ends_with r (λ x. give_) h))
+has_end e s c v w t r p q h = past _ (is_condition c) _ _ tt r p (past _ _ _ _ tt r q (ends_with _ _ _ _ _ r (λ x. give_) h))
 
 -- a lambda, against a type that is sent on, and against another
 if_sent_some : (t r : PlainType) (k : PlainType → Rule nothing_) (d : Rule nothing_) → sent t ≡ Some r → if_sent t k d ≡ k r
@@ -76,7 +76,7 @@ pub lambda_sent_asked : (e : Environment) (s : Span) (a : Abs) (t r : PlainType)
 lambda_sent_asked e s a t r k h = asked_of (has (lambda_val s a) t) h (subst (λ z. Asks nothing_ z nothing_ e (abstraction_against a r)) (sym (sent_rule e s a t r k)) this_part)
 
 pub lambda_sent_end : (e : Environment) (s : Span) (a : Abs) (t r : PlainType) (x : Result (Unit {0}) InferError) → sent t ≡ Some r → IsAnswer (rule e (abstraction_against a r)) nothing x → IsAnswer (rule e (has (lambda_val s a) t)) nothing x
-lambda_sent_end e s a t r x k h = subst (λ z. IsAnswer z nothing x) (sym (sent_rule e s a t r k)) (ends_with x (λ u. give_) h)
+lambda_sent_end e s a t r x k h = subst (λ z. IsAnswer z nothing x) (sym (sent_rule e s a t r k)) (ends_with _ _ _ _ _ x (λ u. give_) h)
 
 other_rule : (e : Environment) (s : Span) (a : Abs) (t : PlainType) → sent t ≡ None → rule e (has (lambda_val s a) t) ≡ gives_below e (lambda_val s a) t Y4
 other_rule e s a t h = if_sent_none t (λ u. check e (abstraction_against a u) done) (gives_below e (lambda_val s a) t Y4) h
@@ -111,7 +111,7 @@ pub record_asked : (e : Environment) (s : Span) (f : FieldVals) (bs : PlainBound
 record_asked e s f bs ps ls h = asked_of (has (fields_val s f) (Fields bs ps ls)) h this_part
 
 pub record_refused : (e : Environment) (s : Span) (f : FieldVals) (bs : PlainBounds) (ps : PlainTypes) (ls : PlainLabels) (y : InferError) → IsRefused (rule e (fields_fit s f bs ps ls (none_found bs))) y → IsRefused (rule e (has (fields_val s f) (Fields bs ps ls))) y
-record_refused e s f bs ps ls y h = refused_here y h
+record_refused e s f bs ps ls y h = refused_here _ _ _ y h
 
 pub record_done : (e : Environment) (s : Span) (f : FieldVals) (bs : PlainBounds) (ps : PlainTypes) (ls : PlainLabels) (args : List PlainArg) → Runs (rule e (fields_fit s f bs ps ls (none_found bs))) (ok args) → Runs (rule e (has (fields_val s f) (Fields bs ps ls))) (ok tt)
 record_done e s f bs ps ls args h = part_ok h give_

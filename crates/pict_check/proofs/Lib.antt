@@ -1,4 +1,5 @@
 pub mod Ends
+pub mod Stepping
 pub mod Rows
 pub mod RowEnds
 pub mod ValueEnds
@@ -9,4 +10,5 @@ pub mod ProcessEnds
 pub mod AbstractionEnds
 pub mod DeclarationEnds
 pub mod Written
+pub mod Finding
 pub mod Forms

@@ -38,13 +38,13 @@ pub proc_no_asked : (e : Environment) (s : Span) (c : Val) (p q : Proc) → IsWe
 proc_no_asked e s c p q h k l = asked_of (process (if_proc s c p q)) h (past_part k (past_part l this_part))
 
 pub proc_test : (e : Environment) (s : Span) (c : Val) (p q : Proc) (y : InferError) → IsRefused (gives_below e c Boolean Y12) y → IsRefused (rule e (process (if_proc s c p q))) y
-proc_test e s c p q y h = refused_here {j = is_condition c} y h
+proc_test e s c p q y h = refused_here _ (is_condition c) _ y h
 
 pub proc_yes : (e : Environment) (s : Span) (c : Val) (p q : Proc) (y : InferError) → Runs (gives_below e c Boolean Y12) (ok tt) → IsRefused (rule e (process p)) y → IsRefused (rule e (process (if_proc s c p q))) y
-proc_yes e s c p q y k h = past_refused {j = is_condition c} tt y k (refused_here y h)
+proc_yes e s c p q y k h = past_refused _ (is_condition c) _ tt y k (refused_here _ _ _ y h)
 
 pub proc_if_end : (e : Environment) (s : Span) (c : Val) (p q : Proc) (r : Result (Unit {0}) InferError) → Runs (gives_below e c Boolean Y12) (ok tt) → Runs (rule e (process p)) (ok tt) → IsAnswer (rule e (process q)) nothing r → IsAnswer (rule e (process (if_proc s c p q))) nothing r
-proc_if_end e s c p q r k l h = past {j = is_condition c} tt r k (past tt r l (ends_with r (λ x. give_) h))
+proc_if_end e s c p q r k l h = past _ (is_condition c) _ _ tt r k (past _ _ _ _ tt r l (ends_with _ _ _ _ _ r (λ x. give_) h))
 
 -- A GROUP
 
@@ -55,10 +55,10 @@ pub inside_asked : (e d : Environment) (s : Span) (ds : Decs) (ps : Procs) → I
 inside_asked e d s ds ps h p = asked_of (process (group_proc s ds ps)) h (past_part p this_part)
 
 pub group_refused : (e : Environment) (s : Span) (ds : Decs) (ps : Procs) (y : InferError) → IsRefused (rule e (declarations ds)) y → IsRefused (rule e (process (group_proc s ds ps))) y
-group_refused e s ds ps y h = refused_here y h
+group_refused e s ds ps y h = refused_here _ _ _ y h
 
 pub inside_refused : (e d : Environment) (s : Span) (ds : Decs) (ps : Procs) (y : InferError) → Runs (rule e (declarations ds)) (ok d) → IsRefused (rule d (processes ps)) y → IsRefused (rule e (process (group_proc s ds ps))) y
-inside_refused e d s ds ps y p h = past_refused d y p (refused_here y h)
+inside_refused e d s ds ps y p h = past_refused _ _ _ d y p (refused_here _ _ _ y h)
 
 pub group_done : (e d : Environment) (s : Span) (ds : Decs) (ps : Procs) → Runs (rule e (declarations ds)) (ok d) → Runs (rule d (processes ps)) (ok tt) → Runs (rule e (process (group_proc s ds ps))) (ok tt)
 group_done e d s ds ps p h = part_ok p (part_ok h give_)
@@ -69,7 +69,7 @@ pub process_more : (e : Environment) (xs : List RProc) (i : ℕ) (d : RProc) →
 process_more e xs i d h p q = row_more (processes_row e) xs i d tt tt h p (part_ok q give_)
 
 pub process_refused : (e : Environment) (xs : List RProc) (i : ℕ) (d : RProc) (y : InferError) → i < length xs → Runs (rule e (processes (procs_on no_procs (take i xs)))) (ok tt) → IsRefused (rule e (process (proc_of (get_or xs i d)))) y → IsRefused (rule e (processes (procs_on no_procs xs))) y
-process_refused e xs i d y h p q = row_refused (processes_row e) xs i d tt y h p (refused_here y q)
+process_refused e xs i d y h p q = row_refused (processes_row e) xs i d tt y h p (refused_here _ _ _ y q)
 
 pub process_asked : (e : Environment) (xs : List RProc) (i : ℕ) (d : RProc) → i < length xs → IsWellAsked nothing_ e (processes (procs_on no_procs xs)) → Runs (rule e (processes (procs_on no_procs (take i xs)))) (ok tt) → IsWellAsked nothing_ e (process (proc_of (get_or xs i d)))
 process_asked e xs i d h q p = row_asked (processes_row e) xs i d tt h q p this_part
@@ -103,27 +103,27 @@ pub send_channel_asked : (e : Environment) (s : Span) (c : Chan) (v : Val) → I
 send_channel_asked e s c v h = asked_of (process (send_proc s c v)) h this_part
 
 pub send_channel_refused : (e : Environment) (s : Span) (c : Chan) (v : Val) (y : InferError) → IsRefused (rule e (gives (of_chan c))) y → IsRefused (rule e (process (send_proc s c v))) y
-send_channel_refused e s c v y h = refused_here y h
+send_channel_refused e s c v y h = refused_here _ _ _ y h
 
 pub send_refused : (e : Environment) (s : Span) (c : Chan) (v : Val) (t : PlainType) (y : InferError) → Runs (rule e (gives (of_chan c))) (ok t) → IsRefused (channel_messages may_send Y2 (chan_span c) (exposure (context_of e) t)) y → IsRefused (rule e (process (send_proc s c v))) y
-send_refused e s c v t y p h = past_refused t y p (refused_on y (used may_send Y2 (chan_span c) (λ u. check e (has v u) done) (exposure (context_of e) t)) h)
+send_refused e s c v t y p h = past_refused _ _ _ t y p (refused_on y (used may_send Y2 (chan_span c) (λ u. check e (has v u) done) (exposure (context_of e) t)) h)
 
 pub send_end : (e : Environment) (s : Span) (c : Chan) (v : Val) (t u : PlainType) (r : Result (Unit {0}) InferError) → Runs (rule e (gives (of_chan c))) (ok t) → Runs (channel_messages may_send Y2 (chan_span c) (exposure (context_of e) t)) (ok u) → IsAnswer (rule e (has v u)) nothing r → IsAnswer (rule e (process (send_proc s c v))) nothing r
 send_end e s c v t u r p q h =
-    past t r p (answer_past u r (used may_send Y2 (chan_span c) (λ u. check e (has v u) done) (exposure (context_of e) t)) q (ends_with r (λ x. give_) h))
+    past _ _ _ _ t r p (answer_past _ u r (used may_send Y2 (chan_span c) (λ u. check e (has v u) done) (exposure (context_of e) t)) q (ends_with _ _ _ _ _ r (λ x. give_) h))
 
 pub receives_channel_asked : (e : Environment) (c : Chan) (a : Abs) → IsWellAsked nothing_ e (receives c a) → IsWellAsked type_ e (gives (of_chan c))
 receives_channel_asked e c a h = asked_of (receives c a) h this_part
 
 pub receives_channel_refused : (e : Environment) (c : Chan) (a : Abs) (y : InferError) → IsRefused (rule e (gives (of_chan c))) y → IsRefused (rule e (receives c a)) y
-receives_channel_refused e c a y h = refused_here y h
+receives_channel_refused e c a y h = refused_here _ _ _ y h
 
 pub receives_refused : (e : Environment) (c : Chan) (a : Abs) (t : PlainType) (y : InferError) → Runs (rule e (gives (of_chan c))) (ok t) → IsRefused (channel_messages may_receive Y3 (chan_span c) (exposure (context_of e) t)) y → IsRefused (rule e (receives c a)) y
-receives_refused e c a t y p h = past_refused t y p (refused_on y (used may_receive Y3 (chan_span c) (λ u. check e (abstraction_against a u) done) (exposure (context_of e) t)) h)
+receives_refused e c a t y p h = past_refused _ _ _ t y p (refused_on y (used may_receive Y3 (chan_span c) (λ u. check e (abstraction_against a u) done) (exposure (context_of e) t)) h)
 
 pub receives_end : (e : Environment) (c : Chan) (a : Abs) (t u : PlainType) (r : Result (Unit {0}) InferError) → Runs (rule e (gives (of_chan c))) (ok t) → Runs (channel_messages may_receive Y3 (chan_span c) (exposure (context_of e) t)) (ok u) → IsAnswer (rule e (abstraction_against a u)) nothing r → IsAnswer (rule e (receives c a)) nothing r
 receives_end e c a t u r p q h =
-    past t r p (answer_past u r (used may_receive Y3 (chan_span c) (λ u. check e (abstraction_against a u) done) (exposure (context_of e) t)) q (ends_with r (λ x. give_) h))
+    past _ _ _ _ t r p (answer_past _ u r (used may_receive Y3 (chan_span c) (λ u. check e (abstraction_against a u) done) (exposure (context_of e) t)) q (ends_with _ _ _ _ _ r (λ x. give_) h))
 
 pub receive_asked : (e : Environment) (s : Span) (c : Chan) (a : Abs) → IsWellAsked nothing_ e (process (receive_proc s c a)) → IsWellAsked nothing_ e (receives c a)
 receive_asked e s c a h = asked_of (process (receive_proc s c a)) h this_part
@@ -132,7 +132,7 @@ pub serve_asked : (e : Environment) (s : Span) (c : Chan) (a : Abs) → IsWellAs
 serve_asked e s c a h = asked_of (process (serve_proc s c a)) h this_part
 
 pub receive_end : (e : Environment) (s : Span) (c : Chan) (a : Abs) (r : Result (Unit {0}) InferError) → IsAnswer (rule e (receives c a)) nothing r → IsAnswer (rule e (process (receive_proc s c a))) nothing r
-receive_end e s c a r h = ends_with r (λ x. give_) h
+receive_end e s c a r h = ends_with _ _ _ _ _ r (λ x. give_) h
 
 pub serve_end : (e : Environment) (s : Span) (c : Chan) (a : Abs) (r : Result (Unit {0}) InferError) → IsAnswer (rule e (receives c a)) nothing r → IsAnswer (rule e (process (serve_proc s c a))) nothing r
-serve_end e s c a r h = ends_with r (λ x. give_) h
+serve_end e s c a r h = ends_with _ _ _ _ _ r (λ x. give_) h

@@ -32,42 +32,42 @@ use Rattle.pict_check.specs.Lines.{labelled_value_fits}
 use Rattle.pict_check.proofs.Ends.{past, past_refused, refused_here}
 use Rattle.pict_check.proofs.Rows.{Row, row_all, row_asked, row_more, row_refused}
 
-pub values_row : (e : Environment) → Row RVal types_ e
+abbrev pub values_row : (e : Environment) → Row RVal types_ e
 values_row e = record {
   judged = λ xs. values_give (vals_on no_vals xs);
   next = λ xs x ts. part e (gives (val_of x)) (λ t. give (and_type ts t));
   more = λ xs x. ap (λ vs. rule e (values_give vs)) (vals_more no_vals xs x);
 }
 
-pub labelled_row : (e : Environment) → Row RLabelledVal labels_ e
+abbrev pub labelled_row : (e : Environment) → Row RLabelledVal labels_ e
 labelled_row e = record {
   judged = λ xs. labelled_values_give (labelled_vals_on no_labelled_vals xs);
   next = λ xs x ms. part e (gives (val_of x.value)) (λ t. give (with_labelled_type e.names x.label.name.0 t ms));
   more = λ xs x. ap (λ vs. rule e (labelled_values_give vs)) (labelled_vals_more no_labelled_vals xs x);
 }
 
-pub fit_row : (e : Environment) (s : Span) (ps : PlainTypes) (g : Found) → Row RVal found_ e
+abbrev pub fit_row : (e : Environment) (s : Span) (ps : PlainTypes) (g : Found) → Row RVal found_ e
 fit_row e s ps g = record {
   judged = λ xs. values_fit s (vals_on no_vals xs) ps g;
   next = λ xs x h. part e (value_fits s (val_of x) (nth_type (count_vals (vals_on no_vals xs)) ps) h) give;
   more = λ xs x. ap (λ vs. rule e (values_fit s vs ps g)) (vals_more no_vals xs x);
 }
 
-pub labelled_fit_row : (e : Environment) (s : Span) (ms : PlainLabels) (g : Found) → Row RLabelledVal found_ e
+abbrev pub labelled_fit_row : (e : Environment) (s : Span) (ms : PlainLabels) (g : Found) → Row RLabelledVal found_ e
 labelled_fit_row e s ms g = record {
   judged = λ xs. labelled_values_fit s (labelled_vals_on no_labelled_vals xs) ms g;
   next = λ xs x h. labelled_value_fits e s x.label (val_of x.value) ms h;
   more = λ xs x. ap (λ vs. rule e (labelled_values_fit s vs ms g)) (labelled_vals_more no_labelled_vals xs x);
 }
 
-pub processes_row : (e : Environment) → Row RProc nothing_ e
+abbrev pub processes_row : (e : Environment) → Row RProc nothing_ e
 processes_row e = record {
   judged = λ xs. processes (procs_on no_procs xs);
   next = λ xs x h. check e (process (proc_of x)) done;
   more = λ xs x. ap (λ ps. rule e (processes ps)) (procs_more no_procs xs x);
 }
 
-pub declarations_row : (e : Environment) → Row RDec environment_ e
+abbrev pub declarations_row : (e : Environment) → Row RDec environment_ e
 declarations_row e = record {
   judged = λ xs. declarations (decs_on no_decs xs);
   next = λ xs x d. part d (declaration (dec_of x)) give;
@@ -96,7 +96,7 @@ value_more e xs i d ts us t h is p q =
     (row_more (values_row e) xs i d (plain_types ts) (and_type (plain_types ts) (plain t)) h p (part_ok q give_))
 
 pub value_refused : (e : Environment) (xs : List RVal) (i : ℕ) (d : RVal) (ts : PlainTypes) (y : InferError) → i < length xs → Runs (rule e (values_give (vals_on no_vals (take i xs)))) (ok ts) → IsRefused (rule e (gives (val_of (get_or xs i d)))) y → IsRefused (rule e (values_give (vals_on no_vals xs))) y
-value_refused e xs i d ts y h p q = row_refused (values_row e) xs i d ts y h p (refused_here y q)
+value_refused e xs i d ts y h p q = row_refused (values_row e) xs i d ts y h p (refused_here _ _ _ y q)
 
 pub value_asked : (e : Environment) (xs : List RVal) (i : ℕ) (d : RVal) (ts : PlainTypes) → i < length xs → IsWellAsked types_ e (values_give (vals_on no_vals xs)) → Runs (rule e (values_give (vals_on no_vals (take i xs)))) (ok ts) → IsWellAsked type_ e (gives (val_of (get_or xs i d)))
 value_asked e xs i d ts h q p = row_asked (values_row e) xs i d ts h q p this_part
@@ -119,7 +119,7 @@ fit_more e s xs i d ts t g h k l n is p q =
 pub fit_refused : (e : Environment) (s : Span) (xs : List RVal) (i : ℕ) (d : RVal) (ts : List Ty) (t : Ty) (g h : Found) (y : InferError) → i < length xs → length xs ≡ length ts → t ≡ get_or ts i t → Runs (rule e (values_fit s (vals_on no_vals (take i xs)) (plain_types ts) g)) (ok h) → IsRefused (rule e (value_fits s (val_of (get_or xs i d)) (plain t) h)) y → IsRefused (rule e (values_fit s (vals_on no_vals xs) (plain_types ts) g)) y
 fit_refused e s xs i d ts t g h y l n is p q =
     row_refused (fit_row e s (plain_types ts) g) xs i d h y l p
-    (refused_here y (subst (λ z. IsRefused (rule e (value_fits s (val_of (get_or xs i d)) z h)) y) (sym (field_at xs i ts t l n is)) q))
+    (refused_here _ _ _ y (subst (λ z. IsRefused (rule e (value_fits s (val_of (get_or xs i d)) z h)) y) (sym (field_at xs i ts t l n is)) q))
 
 pub fit_asked : (e : Environment) (s : Span) (xs : List RVal) (i : ℕ) (d : RVal) (ts : List Ty) (t : Ty) (g h : Found) → i < length xs → length xs ≡ length ts → t ≡ get_or ts i t → IsWellAsked found_ e (values_fit s (vals_on no_vals xs) (plain_types ts) g) → Runs (rule e (values_fit s (vals_on no_vals (take i xs)) (plain_types ts) g)) (ok h) → IsWellAsked found_ e (value_fits s (val_of (get_or xs i d)) (plain t) h)
 fit_asked e s xs i d ts t g h l n is q p =

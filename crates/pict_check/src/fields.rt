@@ -147,7 +147,7 @@ pub fn none_found(alloc: Global, bs: &[Bound]) -> Result<Found, AllocError>
     ensures none { IfOk result (λ f. found_for bs.now f ≡ none_found (plain_bounds bs.now)) }
 {
     let mut list = Vec::new(alloc);
-    for _ in bs {
+    while list.len() < bs.len() {
         list.push(None)?;
     }
     Ok(Found { list })
@@ -161,12 +161,12 @@ pub fn found_first(
     f: &Function,
     none_written: bool,
     expected: Option<&Ty>,
-) -> Result<Found, InferError>
+) -> Result<Found, AllocError>
     requires f { FunctionIsFormed (environment_of env.now) (function_of f.now) }
     requires expected { IsExpected (environment_of env.now) (option_map (λ t. plain t.now) expected) }
     ensures count { IfOk result (λ x. length x.list.items ≡ length f.now.fields.binders.items) }
     ensures found { IfOk result (λ x. found_for f.now.fields.binders.items x
-        ≡ found_before (environment_of env.now) (function_of f.now) none_written (option_map (λ t. plain t.now) expected)) }
+        ≡ found_before (environment_of env.now) (function_of f.now) none_written (option_map (λ t. plain t.now) expected.entry)) }
 {
     let mut found = none_found(alloc, &f.fields.binders)?;
     if none_written && let Some(t) = expected {
@@ -176,13 +176,13 @@ pub fn found_first(
 }
 
 /// The arguments that were found. Y10 at the place where one is missing.
-fn all_found(alloc: Global, found: Found, node: Span) -> Result<Vec<Arg>, InferError>
-    ensures { (bs : PlainBounds) → IsAnswer (all_found (found_of bs found) node) (λ args. plain_args args.items) result }
+fn all_found(alloc: Global, found: &Found, node: Span) -> Result<Vec<Arg>, InferError>
+    ensures { (bs : PlainBounds) → IsAnswer (all_found (found_of bs found.now) node) (λ args. plain_args args.items) result }
 {
     let mut args = Vec::new(alloc);
-    for x in found.list {
+    for x in &found.list {
         match x {
-            Some(t) => args.push(Arg::Plain(t))?,
+            Some(t) => args.push(Arg::Plain(t.copy(alloc)?))?,
             None => return Err(InferError::Named(Code::Y10, node)),
         }
     }
@@ -245,9 +245,11 @@ pub fn fields_end(
     requires bounds { BoundsAreWellFormed (environment_of env.now).names (kinds_in (environment_of env.now)) (plain_bounds bs.now) }
     requires kinds { kinds_found (found_for bs.now found) ≡ kinds_of_fields (plain_bounds bs.now) }
     requires fits { FoundFits (environment_of env.now) (found_for bs.now found) }
-    ensures { IsAnswer (fields_end (environment_of env.now) node (plain_bounds bs.now) (found_for bs.now found)) (λ args. plain_args args.items) result }
+    ensures answer { IsAnswer (fields_end (environment_of env.now) node (plain_bounds bs.now) (found_for bs.now found)) (λ args. plain_args args.items) result }
+    ensures formed { IfOk result (λ args. ArgsAreWellFormed (environment_of env.now).names (kinds_in (environment_of env.now)) (plain_args args.items)) }
+    ensures fit { IfOk result (λ args. FitTheirFields (plain_args args.items) (plain_bounds bs.now)) }
 {
-    let args = all_found(alloc, found, node)?;
+    let args = all_found(alloc, &found, node)?;
     within_bounds(alloc, env, bs, &args, node)?;
     Ok(args)
 }
@@ -265,7 +267,7 @@ pub fn application_end(
     requires answer { IsWellFormed (environment_of env.now).names (kinds_with (plain_args args.now) (kinds_in (environment_of env.now))) (plain answer) }
     requires args { ArgsAreWellFormed (environment_of env.now).names (kinds_in (environment_of env.now)) (plain_args args.now) }
     requires expected { IsExpected (environment_of env.now) (option_map (λ t. plain t.now) expected) }
-    ensures { IsAnswer (application_end (environment_of env.now) node (plain answer) (plain_args args.now) (option_map (λ t. plain t.now) expected)) plain result }
+    ensures { IsAnswer (application_end (environment_of env.now) node (plain answer) (plain_args args.now) (option_map (λ t. plain t.now) expected.entry)) plain result }
 {
     let t = instance(alloc, env, &answer, args, node)?;
     if let Some(wanted) = expected {

@@ -9,7 +9,6 @@ mod parts;
 mod records;
 mod spans;
 mod steps;
-mod values;
 
 #[cfg(test)]
 mod tests {
