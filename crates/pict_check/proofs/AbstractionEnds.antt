@@ -1,23 +1,21 @@
 -- Abstractions, one lemma for each way that a body ends.
-use Rattle.std.proofs.Common.{◌≡◌, ℕ, Bool, true, false, if◌then◌else◌, List, refl, sym, ap, subst, Result, Ok, Err, Option, Some, None}
-use Rattle.pict_syntax.specs.declared.code.Code.TheVariants.{Y4, Y8, Y14}
+use Rattle.std.proofs.Common.{◌≡◌, ℕ, Bool, true, false, if◌then◌else◌, sym, subst, Result, Some, None}
+use Rattle.pict_syntax.specs.declared.code.Code.TheVariants.{Y14}
 use Rattle.pict_syntax.specs.declared.span.Span.{Span}
-use Rattle.pict_syntax.specs.Grammar.{type_span, val_span}
+use Rattle.pict_syntax.specs.Grammar.{val_span}
 use Rattle.pict_syntax.specs.Trees.{FieldPats, Pat, Proc, RType, TypeTree, Val, process_abs, function_abs}
 use Rattle.pict_types.specs.Types.{PlainType}
 use Rattle.pict_types.specs.Mentions.{lowered, mentions_innermost}
-use Rattle.pict_normal.specs.Normal.{kind_stop, normal, size_stop}
-use Rattle.pict_rules.specs.Environments.{Environment, Extension, context_of, extended, opened, shifted_by}
-use Rattle.pict_rules.specs.Shapes.{Function}
-use Rattle.pict_rules.specs.Rules.{Sort, nothing_, type_, pattern_, fields_, opened_, extension_, TypedPattern, TypedFields, OpenedFields, gives, has, abstraction_gives, abstraction_against, fields_give, fields_against, pattern_gives, pattern_against, process, Rule, give, refuse, is_subtype, need, ok, part, expand, unless_stopped, within_limits}
+use Rattle.pict_rules.specs.Environments.{Environment, Extension, extended, opened, shifted_by}
+use Rattle.pict_rules.specs.Rules.{Sort, nothing_, type_, pattern_, fields_, extension_, TypedPattern, TypedFields, gives, has, abstraction_gives, abstraction_against, fields_give, pattern_gives, pattern_against, process, Rule, give, refuse, ok}
 use Rattle.pict_rules.specs.Clauses.{argument_type, check, need_outside, with_fields, with_own}
 use Rattle.pict_rules.specs.Typing.{rule}
 use Rattle.pict_rules.specs.Derivations.{Runs, give_, part_ok}
-use Rattle.pict_rules.specs.Reached.{Asks, this_part, past_part}
+use Rattle.pict_rules.specs.Reached.{this_part, past_part}
 use Rattle.pict_infer.specs.declared.error.InferError.{InferError}
-use Rattle.pict_infer.specs.Answering.{IsRefused, IsAnswer, nothing}
+use Rattle.pict_infer.specs.Answering.{IsRefused, IsAnswer}
 use Rattle.pict_infer.specs.Asking.{IsWellAsked}
-use Rattle.pict_infer.specs.Steps.{below, expanded}
+use Rattle.pict_infer.specs.Steps.{expanded}
 use Rattle.pict_infer.proofs.Asked.{asked_of}
 use Rattle.pict_infer.proofs.Through.{GoesOn, given, refused, refused_on, refused_past}
 use Rattle.pict_check.specs.Lines.{formed, outside}

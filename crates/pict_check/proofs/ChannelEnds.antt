@@ -1,27 +1,26 @@
 -- Folds and blocks, one lemma for each way that a body ends.
-use Rattle.std.proofs.Common.{◌≡◌, ◌-◌, length, List, [], ◌∷◌, refl, sym, ap, subst, Result, Ok, Err, Option, Some, None}
-use Rattle.pict_syntax.specs.declared.code.Code.TheVariants.{Y4, Y7, Y13}
+use Rattle.std.proofs.Common.{Result, Option, Some, None}
+use Rattle.pict_syntax.specs.declared.code.Code.TheVariants.{Y13}
 use Rattle.pict_syntax.specs.declared.span.Span.{Span}
 use Rattle.pict_syntax.specs.Grammar.{type_span}
 use Rattle.pict_syntax.specs.Trees.{Val, Decs, FieldVals, RType, of_chan, fold_chan, block_chan, apply_chan}
 use Rattle.pict_types.specs.Types.{PlainType, PlainTypes, no_type, types}
-use Rattle.pict_types.specs.Replacing.{unfolding_of}
 use Rattle.pict_normal.specs.Normal.{kind_stop, normal, size_stop}
-use Rattle.pict_rules.specs.Environments.{Environment, context_of, opened_since, shifted_by}
+use Rattle.pict_rules.specs.Environments.{Environment, opened_since, shifted_by}
 use Rattle.pict_rules.specs.Regular.{IsTypeIn}
-use Rattle.pict_rules.specs.Rules.{Sort, nothing_, type_, types_, environment_, gives, has, application, declarations, Rule, give, ok, unless_stopped, within_limits}
-use Rattle.pict_rules.specs.Clauses.{check, done, gives_below}
+use Rattle.pict_rules.specs.Rules.{nothing_, type_, types_, environment_, gives, has, application, declarations, Rule, give, ok}
+use Rattle.pict_rules.specs.Clauses.{check, done}
 use Rattle.pict_rules.specs.Shapes.{nth_type}
 use Rattle.pict_rules.specs.Typing.{rule}
 use Rattle.pict_rules.specs.Derivations.{Runs, give_, part_ok}
-use Rattle.pict_rules.specs.Reached.{Asks, this_part, past_part}
+use Rattle.pict_rules.specs.Reached.{this_part, past_part}
 use Rattle.pict_infer.specs.declared.error.InferError.{InferError}
 use Rattle.pict_infer.specs.Answering.{IsRefused, IsAnswer, nothing}
 use Rattle.pict_infer.specs.Asking.{IsWellAsked}
 use Rattle.pict_infer.proofs.Asked.{asked_of}
 use Rattle.pict_infer.proofs.Through.{GoesOn, refused_on, refused_past, refused, unstopped, cased_recursive, given}
 use Rattle.pict_check.specs.Lines.{fold_annotated, fold_of, outside}
-use Rattle.pict_check.proofs.Ends.{answer_past, ends_with, past, past_refused, refused_here}
+use Rattle.pict_check.proofs.Ends.{answer_past, ends_with, past_refused, refused_here}
 
 -- FOLDS
 

@@ -1,5 +1,5 @@
 -- Declarations, one lemma for each way that a body ends.
-use Rattle.std.proofs.Common.{◌≡◌, ℕ, ◌+◌, ◌<◌, ◌≤◌, List, length, get_or, take, Bool, true, false, if◌then◌else◌, sym, ap, subst}
+use Rattle.std.proofs.Common.{◌≡◌, ℕ, ◌+◌, ◌<◌, ◌≤◌, List, length, get_or, take, Bool, false, if◌then◌else◌, sym, ap, subst}
 use Rattle.pict_syntax.specs.declared.span.Span.{Span}
 use Rattle.pict_syntax.specs.declared.tree.Dec.{Dec as RDec}
 use Rattle.pict_syntax.specs.Trees.{Pat, Proc, Val, no_decs, run_dec, let_dec, await_dec}
@@ -7,7 +7,7 @@ use Rattle.pict_syntax.specs.PlainTrees.{dec_of, decs_on}
 use Rattle.pict_types.specs.Types.{PlainType}
 use Rattle.pict_rules.specs.Complete.{is_complete}
 use Rattle.pict_rules.specs.Environments.{Environment, Extension, extended}
-use Rattle.pict_rules.specs.Rules.{Sort, nothing_, type_, environment_, extension_, gives, has, declaration, declarations, pattern_gives, pattern_against, process, Rule, give, ok, part}
+use Rattle.pict_rules.specs.Rules.{nothing_, type_, environment_, extension_, gives, has, declaration, declarations, pattern_gives, pattern_against, process, Rule, give, ok, part}
 use Rattle.pict_rules.specs.Clauses.{check, empty_record}
 use Rattle.pict_rules.specs.Typing.{rule}
 use Rattle.pict_rules.specs.Derivations.{Runs, give_, part_ok}

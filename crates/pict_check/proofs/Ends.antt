@@ -1,24 +1,23 @@
 -- Rules by their lines: what a call on a part answers, and how the rule goes on then.
-use Rattle.std.proofs.Common.{◌≡◌, ◌∙◌, ap, sym, subst, refl, Bool, true, false, if◌then◌else◌, Option, Some, None, Result, Ok, Err}
+use Rattle.std.proofs.Common.{Result, Ok, Err}
 use Rattle.pict_syntax.specs.declared.code.Code.{Code}
 use Rattle.pict_syntax.specs.declared.span.Span.{Span}
 use Rattle.pict_types.specs.Types.{PlainType}
 use Rattle.pict_syntax.specs.Trees.{TypeTree}
-use Rattle.pict_normal.specs.Normal.{Stop, kind_stop, size_stop}
+use Rattle.pict_normal.specs.Normal.{kind_stop, size_stop}
 use Rattle.pict_rules.specs.Environments.{Environment, context_of}
 use Rattle.pict_rules.specs.Rules.{Sort, nothing_, type_, Judgement, Condition, is_subtype, Rule, Answer, give, refuse, need, part, ok, stuck, unless_stopped, within_limits, expand}
 use Rattle.pict_rules.specs.Rules as rules
-use Rattle.pict_rules.specs.Clauses.{done, check}
 use Rattle.pict_rules.specs.Typing.{rule}
-use Rattle.pict_rules.specs.Derivations.{Runs, give_, refuse_, met, failed, part_ok, part_stuck}
+use Rattle.pict_rules.specs.Derivations.{Runs, part_ok, part_stuck}
 use Rattle.pict_rules.specs.Regular.{IsGood}
 use Rattle.pict_rules.proofs.RegularAll.{regularity}
 use Rattle.pict_infer.specs.declared.error.InferError.{InferError}
 use Rattle.pict_infer.specs.declared.error.InferError.TheVariants.{Named, Memory}
-use Rattle.pict_infer.specs.Answering.{IsRefused, IsAnswer, nothing}
+use Rattle.pict_infer.specs.Answering.{IsRefused, IsAnswer}
 use Rattle.pict_infer.specs.Asking.{IsWellAsked}
 use Rattle.pict_infer.specs.Steps.{below, expanded, limited}
-use Rattle.pict_infer.proofs.Through.{GoesOn, refused_on, refused_past, unstopped, given, needed}
+use Rattle.pict_infer.proofs.Through.{GoesOn, refused_past, unstopped, given, needed}
 
 -- what is well asked gives what is well formed
 pub good_of : {s : Sort} {e : Environment} {j : Judgement s} {x : rules.Result s} → IsWellAsked s e j → Runs (rule e j) (ok x) → IsGood e j x

@@ -1,12 +1,11 @@
 -- Applications and fields, one lemma for each way that a body ends.
-use Rattle.std.proofs.Common.{◌≡◌, ◌||◌, nat_eq, List, [], ◌∷◌, refl, sym, ap, subst, Bool, true, false, not, if◌then◌else◌, map, Result, Ok, Err, Option, Some, None}
+use Rattle.std.proofs.Common.{◌≡◌, ◌||◌, nat_eq, List, [], refl, sym, ap, subst, Bool, true, false, not, if◌then◌else◌, map, Result, Ok, Err, Option, Some, None}
 use Rattle.pict_syntax.specs.declared.code.Code.{Code}
-use Rattle.pict_syntax.specs.declared.code.Code.TheVariants.{Y4, Y5, Y6, Y8, Y9, Y10}
+use Rattle.pict_syntax.specs.declared.code.Code.TheVariants.{Y5, Y6, Y8}
 use Rattle.pict_syntax.specs.declared.span.Span.{Span}
-use Rattle.pict_syntax.specs.declared.id.Id.{Id}
 use Rattle.pict_syntax.specs.Grammar.{val_span}
 use Rattle.pict_syntax.specs.Trees.{Val, Vals, FieldVals, field_vals, LabelledVals, TypeTrees}
-use Rattle.pict_types.specs.Types.{PlainType, PlainTypes, PlainLabels, PlainBounds, PlainArg, count_types, count_bounds, type_at}
+use Rattle.pict_types.specs.Types.{PlainType, PlainTypes, PlainLabels, PlainBounds, PlainArg, count_types, count_bounds}
 use Rattle.pict_types.specs.Replacing.{instance_of}
 use Rattle.pict_normal.specs.Normal.{Stop, count_trees, size_stop}
 use Rattle.pict_rules.specs.Counts.{count_vals}
@@ -16,21 +15,20 @@ use Rattle.pict_rules.specs.Found.{Found, filled, matched, mentions_missing, wit
 use Rattle.pict_rules.specs.Shapes.{Function, all_written, applicable, none_written}
 use Rattle.pict_rules.specs.Rules.{Sort, nothing_, type_, arguments_, found_, Judgement, gives, has, application, fields_fit, written_arguments, values_fit, labelled_values_fit, value_fits, given_fits, Rule, Answer, give, refuse, part, ok, stuck, ensure, unless_stopped, within_limits}
 use Rattle.pict_rules.specs.Rules as rules
-use Rattle.pict_rules.specs.Clauses.{check, done, found_first, if_labelled, in_order, need_function}
+use Rattle.pict_rules.specs.Clauses.{check, done, found_first, in_order, need_function}
 use Rattle.pict_rules.specs.Typing.{rule}
 use Rattle.pict_rules.specs.Derivations.{Runs, give_, refuse_, part_ok, part_stuck}
 use Rattle.pict_rules.specs.Reached.{Asks, this_part, past_part}
 use Rattle.pict_infer.specs.declared.error.InferError.{InferError}
 use Rattle.pict_infer.specs.declared.error.InferError.TheVariants.{Named, Memory}
-use Rattle.pict_infer.specs.Answering.{IsRefused, IsAnswer, nothing}
+use Rattle.pict_infer.specs.Answering.{IsRefused, IsAnswer}
 use Rattle.pict_infer.specs.Asking.{IsWellAsked}
-use Rattle.pict_infer.specs.Steps.{limited}
 use Rattle.pict_infer.proofs.Asked.{asked_of}
 use Rattle.pict_infer.proofs.Through.{GoesOn, refused_on, refused_past, refused, unstopped}
 use Rattle.pict_check.specs.Counts.{counted}
 use Rattle.pict_check.specs.Functions.{IsNoFunction}
 use Rattle.pict_check.specs.Lines.{application_end, application_of, fields_end, formed, given_lines}
-use Rattle.pict_check.proofs.Ends.{answer_past, ends_with, limits, past, past_refused, refused_here}
+use Rattle.pict_check.proofs.Ends.{answer_past, ends_with, past, past_refused, refused_here}
 
 -- APPLICATIONS
 

@@ -1,22 +1,17 @@
 -- The plain trees of values, channels, abstractions, declarations and processes, form by form.
-use Rattle.std.proofs.Common.{◌≡◌, ℕ, ℤ, List, [], ◌∷◌, ap, ◌∙◌, refl, Box, Global, Option, None, Some}
+use Rattle.std.proofs.Common.{◌≡◌, ℕ, ℤ, List, ap, ◌∙◌, Box, Global}
 use Rattle.std.specs.Prelude.{Vec}
 use Rattle.pict_syntax.specs.declared.span.Span.{Span}
 use Rattle.pict_syntax.specs.declared.id.Id.{Id}
 use Rattle.pict_syntax.specs.declared.name.Name.{Name}
-use Rattle.pict_syntax.specs.declared.type_tree.TypeTree.{TypeTree as RTypeTree}
 use Rattle.pict_syntax.specs.declared.type_tree.RType.{RType as RRType}
-use Rattle.pict_syntax.specs.declared.pattern.Pat.{Pat as RPat}
-use Rattle.pict_syntax.specs.declared.pattern.FieldPats.{FieldPats as RFieldPats}
-use Rattle.pict_syntax.specs.declared.tree.Abs.{Abs as RAbs, Process, Function}
-use Rattle.pict_syntax.specs.declared.tree.Abs.TheViews.{out-FieldVals}
+use Rattle.pict_syntax.specs.declared.tree.Abs.{Abs as RAbs}
 use Rattle.pict_syntax.specs.declared.tree.Chan.{Chan as RChan, Use, Fold, Block, Apply, Right, Left}
 use Rattle.pict_syntax.specs.declared.tree.Val.{Val as RVal, OfChan, Number, Character, String, True, False, Fields, If, Lambda}
-use Rattle.pict_syntax.specs.declared.tree.Dec.{Dec as RDec, New, Run, Let, Def, Alias, Operator, Await}
-use Rattle.pict_syntax.specs.declared.tree.Proc.{Proc as RProc, Send, Receive, Serve, If as IfProc, Inert, Group}
+use Rattle.pict_syntax.specs.declared.tree.Dec.{Dec as RDec}
 use Rattle.pict_syntax.specs.declared.tree.FieldVals.{FieldVals as RFieldVals}
-use Rattle.pict_syntax.specs.Trees.{no_types, no_vals, no_labelled_vals, no_decs, no_procs, of_chan, number_val, character_val, string_val, true_val, false_val, fields_val, if_val, lambda_val, use_chan, fold_chan, block_chan, apply_chan, right_chan, left_chan, field_vals}
-use Rattle.pict_syntax.specs.PlainTrees.{field_vals_of, field_pats_of, abs_of, chan_of, val_of, dec_of, proc_of, pat_of, type_of, types_on, annotation_of, vals_on, labelled_vals_on, decs_on, procs_on}
+use Rattle.pict_syntax.specs.Trees.{no_vals, no_decs, of_chan, number_val, character_val, string_val, true_val, false_val, fields_val, if_val, lambda_val, use_chan, fold_chan, block_chan, apply_chan, right_chan, left_chan}
+use Rattle.pict_syntax.specs.PlainTrees.{field_vals_of, abs_of, chan_of, val_of, annotation_of, vals_on, decs_on}
 use Rattle.pict_syntax.proofs.ValueLists.{block_is, right_is, left_is}
 
 -- values

@@ -1,13 +1,13 @@
 -- What values have, one lemma for each way that a body ends.
-use Rattle.std.proofs.Common.{◌≡◌, List, [], ◌∷◌, refl, sym, ap, subst, Result, Ok, Err, Option, Some, None}
+use Rattle.std.proofs.Common.{◌≡◌, List, refl, sym, ap, subst, Result, Some, None}
 use Rattle.pict_syntax.specs.declared.code.Code.TheVariants.{Y4, Y12}
 use Rattle.pict_syntax.specs.declared.span.Span.{Span}
 use Rattle.pict_syntax.specs.Trees.{Val, Abs, FieldVals, fields_val, if_val, lambda_val}
-use Rattle.pict_types.specs.Types.{Capability, Both, Read, Write, Respond, PlainType, Top, Int, Char, Str, Boolean, Var, Apply, Chan, Fields, Rec, PlainTypes, PlainLabels, PlainBounds, PlainArg}
+use Rattle.pict_types.specs.Types.{Both, Read, Write, Respond, PlainType, Top, Int, Char, Str, Boolean, Var, Apply, Chan, Fields, Rec, PlainTypes, PlainLabels, PlainBounds, PlainArg}
 use Rattle.pict_rules.specs.Environments.{Environment}
 use Rattle.pict_rules.specs.Found.{none_found}
-use Rattle.pict_rules.specs.Rules.{Sort, nothing_, type_, arguments_, gives, has, is_condition, fields_fit, abstraction_against, Rule, ok}
-use Rattle.pict_rules.specs.Clauses.{check, done, gives_below, if_record, if_sent}
+use Rattle.pict_rules.specs.Rules.{nothing_, type_, arguments_, gives, has, is_condition, fields_fit, abstraction_against, Rule, ok}
+use Rattle.pict_rules.specs.Clauses.{check, done, gives_below, if_sent}
 use Rattle.pict_rules.specs.Typing.{rule}
 use Rattle.pict_rules.specs.Derivations.{Runs, give_, part_ok}
 use Rattle.pict_rules.specs.Reached.{Asks, this_part, past_part}

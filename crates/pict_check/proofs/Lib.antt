@@ -11,4 +11,5 @@ pub mod AbstractionEnds
 pub mod DeclarationEnds
 pub mod Written
 pub mod Finding
+pub mod HeadForms
 pub mod Forms

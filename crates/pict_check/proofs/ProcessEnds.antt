@@ -1,5 +1,5 @@
 -- Processes, one lemma for each way that a body ends.
-use Rattle.std.proofs.Common.{◌≡◌, ℕ, ◌+◌, ◌<◌, ◌≤◌, List, length, get_or, take, Bool, true, false, refl, sym, ap, subst, Result, Ok, Err, Option, Some, None}
+use Rattle.std.proofs.Common.{ℕ, ◌+◌, ◌<◌, ◌≤◌, List, length, get_or, take, Bool, true, false, Result}
 use Rattle.pict_syntax.specs.declared.code.Code.{Code}
 use Rattle.pict_syntax.specs.declared.code.Code.TheVariants.{Y1, Y2, Y3, Y12}
 use Rattle.pict_syntax.specs.declared.span.Span.{Span}
@@ -11,11 +11,11 @@ use Rattle.pict_types.specs.Types.{Capability, PlainType, Boolean}
 use Rattle.pict_types.specs.Types as types
 use Rattle.pict_sub.specs.Exposing.{exposure}
 use Rattle.pict_rules.specs.Environments.{Environment, context_of}
-use Rattle.pict_rules.specs.Rules.{Sort, nothing_, type_, environment_, gives, has, is_condition, abstraction_against, declarations, process, processes, receives, Rule, give, ok, ensure}
+use Rattle.pict_rules.specs.Rules.{nothing_, type_, environment_, gives, has, is_condition, abstraction_against, declarations, process, processes, receives, Rule, give, ok, ensure}
 use Rattle.pict_rules.specs.Clauses.{check, done, gives_below, may_receive, may_send, need_channel}
 use Rattle.pict_rules.specs.Typing.{rule}
 use Rattle.pict_rules.specs.Derivations.{Runs, give_, part_ok}
-use Rattle.pict_rules.specs.Reached.{Asks, this_part, past_part}
+use Rattle.pict_rules.specs.Reached.{this_part, past_part}
 use Rattle.pict_infer.specs.declared.error.InferError.{InferError}
 use Rattle.pict_infer.specs.Answering.{IsRefused, IsAnswer, nothing}
 use Rattle.pict_infer.specs.Asking.{IsWellAsked}

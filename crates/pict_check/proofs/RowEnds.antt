@@ -1,18 +1,17 @@
 -- The lists that the rules go through: values, labelled values, and values that fit fields.
-use Rattle.std.proofs.Common.{◌≡◌, ℕ, zero, suc, ◌+◌, ◌<◌, ◌≤◌, List, [], ◌∷◌, ◌++◌, length, get_or, take, take-suc, refl, sym, ◌∙◌, ap, subst, arith, add-one, Result, Ok, Err, Option, Some, None}
+use Rattle.std.proofs.Common.{◌≡◌, ℕ, zero, suc, ◌+◌, ◌<◌, ◌≤◌, List, [], ◌∷◌, ◌++◌, length, get_or, take, refl, sym, ◌∙◌, ap, subst, arith}
 use Rattle.std.proofs.lemmas.List.{length-take-le}
 use Rattle.pict_syntax.specs.declared.span.Span.{Span}
-use Rattle.pict_syntax.specs.declared.name.Name.{Name}
 use Rattle.pict_syntax.specs.declared.tree.Val.{Val as RVal}
 use Rattle.pict_syntax.specs.declared.tree.LabelledVal.{LabelledVal as RLabelledVal}
 use Rattle.pict_syntax.specs.declared.tree.Dec.{Dec as RDec}
 use Rattle.pict_syntax.specs.declared.tree.Proc.{Proc as RProc}
-use Rattle.pict_syntax.specs.Trees.{Val, Vals, no_vals, more_vals, no_labelled_vals, no_decs, no_procs}
+use Rattle.pict_syntax.specs.Trees.{Vals, no_vals, more_vals, no_labelled_vals, no_decs, no_procs}
 use Rattle.pict_syntax.specs.PlainTrees.{dec_of, proc_of, val_of, vals_on, labelled_vals_on, decs_on, procs_on}
 use Rattle.pict_syntax.proofs.ValueLists.{vals_more, labelled_vals_more, procs_more}
 use Rattle.pict_syntax.proofs.DeclarationLists.{decs_more}
 use Rattle.pict_types.specs.declared.types.Ty.{Ty}
-use Rattle.pict_types.specs.Types.{PlainType, PlainTypes, PlainLabels}
+use Rattle.pict_types.specs.Types.{PlainTypes, PlainLabels}
 use Rattle.pict_types.specs.Plain.{plain, plain_types}
 use Rattle.pict_normal.specs.Normal.{and_type, with_labelled_type}
 use Rattle.pict_normal.proofs.Trees.{types_and}
@@ -26,10 +25,10 @@ use Rattle.pict_rules.specs.Typing.{rule}
 use Rattle.pict_rules.specs.Derivations.{Runs, give_, part_ok}
 use Rattle.pict_rules.specs.Reached.{this_part}
 use Rattle.pict_infer.specs.declared.error.InferError.{InferError}
-use Rattle.pict_infer.specs.Answering.{IsRefused, IsAnswer}
+use Rattle.pict_infer.specs.Answering.{IsRefused}
 use Rattle.pict_infer.specs.Asking.{IsWellAsked}
 use Rattle.pict_check.specs.Lines.{labelled_value_fits}
-use Rattle.pict_check.proofs.Ends.{past, past_refused, refused_here}
+use Rattle.pict_check.proofs.Ends.{refused_here}
 use Rattle.pict_check.proofs.Rows.{Row, row_all, row_asked, row_more, row_refused}
 
 abbrev pub values_row : (e : Environment) → Row RVal types_ e

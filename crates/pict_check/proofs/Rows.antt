@@ -1,5 +1,5 @@
 -- Lists that the rules go through: a list with one more is judged by the list and then by the one.
-use Rattle.std.proofs.Common.{◌≡◌, ℕ, ◌+◌, ◌<◌, ◌≤◌, List, [], ◌∷◌, ◌++◌, length, get_or, take, take-suc, drop, drop-cons, refl, sym, ◌∙◌, ap, subst, add-one, append_assoc, Result, Ok, Err, arith}
+use Rattle.std.proofs.Common.{◌≡◌, ℕ, ◌+◌, ◌<◌, ◌≤◌, List, [], ◌∷◌, ◌++◌, length, get_or, take, take-suc, drop, refl, sym, ◌∙◌, ap, subst, add-one, append_assoc}
 use Rattle.std.proofs.lemmas.List.{append-nil, take_all, take-append-drop}
 use Rattle.pict_rules.specs.Environments.{Environment}
 use Rattle.pict_rules.specs.Rules.{Sort, Judgement, Rule, Answer, part, ok, stuck}

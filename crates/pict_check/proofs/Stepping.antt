@@ -1,9 +1,9 @@
 -- The steps of the checker, by what the calls below answer.
-use Rattle.std.proofs.Common.{◌≡◌, ◌≤◌, ◌<◌, ◌-◌, ℕ, Bool, true, false, if◌then◌else◌, List, [], ◌∷◌, ◌++◌, refl, sym, ◌∙◌, ap, subst, arith, Result, Ok, Err, Option, Some, None}
+use Rattle.std.proofs.Common.{◌≡◌, ◌-◌, ℕ, true, false, [], ◌∷◌, sym, ◌∙◌, ap, subst, arith, Result, Option, None}
 use Rattle.pict_syntax.specs.declared.code.Code.{Code}
 use Rattle.pict_syntax.specs.declared.code.Code.TheVariants.{Y11, Y13, Y14}
 use Rattle.pict_syntax.specs.declared.span.Span.{Span}
-use Rattle.pict_types.specs.Types.{PlainType, Top, Int, Char, Str, Boolean, Var, Apply, Chan, Fields, Rec, PlainArg, TypeContext}
+use Rattle.pict_types.specs.Types.{PlainType, Top, Int, Char, Str, Boolean, Var, Apply, Chan, Fields, Rec, PlainArg}
 use Rattle.pict_types.specs.Recursion.{IsRecursive}
 use Rattle.pict_types.specs.Mentions.{lowered, mentions_innermost}
 use Rattle.pict_types.proofs.Renamed.{rename_same}
@@ -16,7 +16,7 @@ use Rattle.pict_normal.specs.Normal.{Stop, size_stop}
 use Rattle.pict_rules.specs.Environments.{Environment, context_of}
 use Rattle.pict_rules.specs.Rules.{Sort, nothing_, type_, arguments_, Rule, Answer, give, refuse, either, is_subtype, ok, stuck, unless_stopped, within_limits}
 use Rattle.pict_rules.specs.Rules as rules
-use Rattle.pict_rules.specs.Clauses.{done, need_recursive}
+use Rattle.pict_rules.specs.Clauses.{need_recursive}
 use Rattle.pict_rules.specs.Derivations.{Runs, give_, refuse_, yes, no}
 use Rattle.pict_sub.specs.Subtyping.{IsSubtype}
 use Rattle.pict_infer.specs.declared.error.InferError.{InferError}

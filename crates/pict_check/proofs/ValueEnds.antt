@@ -1,19 +1,19 @@
 -- What values give and have, one lemma for each way that a body ends.
-use Rattle.std.proofs.Common.{◌≡◌, List, [], ◌∷◌, refl, sym, ap, subst, Result, Ok, Err, Option, Some, None}
+use Rattle.std.proofs.Common.{Result}
 use Rattle.pict_syntax.specs.declared.code.Code.{Code}
-use Rattle.pict_syntax.specs.declared.code.Code.TheVariants.{Y4, Y12}
+use Rattle.pict_syntax.specs.declared.code.Code.TheVariants.{Y12}
 use Rattle.pict_syntax.specs.declared.span.Span.{Span}
 use Rattle.pict_syntax.specs.Grammar.{val_span}
 use Rattle.pict_syntax.specs.Trees.{Val, if_val, lambda_val, Abs}
 use Rattle.pict_types.specs.Types.{PlainType, Boolean, Chan, Respond}
 use Rattle.pict_types.specs.declared.types.Ty.{Ty}
 use Rattle.pict_types.specs.Plain.{plain}
-use Rattle.pict_rules.specs.Environments.{Environment, context_of}
-use Rattle.pict_rules.specs.Rules.{Sort, nothing_, type_, gives, has, is_condition, abstraction_gives, Rule, ok}
+use Rattle.pict_rules.specs.Environments.{Environment}
+use Rattle.pict_rules.specs.Rules.{type_, gives, is_condition, abstraction_gives, ok}
 use Rattle.pict_rules.specs.Clauses.{gives_below}
 use Rattle.pict_rules.specs.Typing.{rule}
 use Rattle.pict_rules.specs.Derivations.{Runs}
-use Rattle.pict_rules.specs.Reached.{Asks, this_part, past_part}
+use Rattle.pict_rules.specs.Reached.{this_part, past_part}
 use Rattle.pict_infer.specs.declared.error.InferError.{InferError}
 use Rattle.pict_infer.specs.Answering.{IsRefused, IsAnswer, nothing}
 use Rattle.pict_infer.specs.Asking.{IsWellAsked}

@@ -1,5 +1,5 @@
 -- What is applied, as the rules see it.
-use Rattle.std.specs.Prelude.{◌≡◌, Option, None, Some}
+use Rattle.std.specs.Prelude.{Option}
 use Rattle.pict_syntax.specs.declared.code.Code.TheVariants.{Y8}
 use Rattle.pict_syntax.specs.declared.span.Span.{Span}
 use Rattle.pict_types.specs.declared.types.Record.{Record}
@@ -9,7 +9,7 @@ use Rattle.pict_rules.specs.Shapes as rules
 use Rattle.pict_types.specs.Kinds.{IsWellFormed, kinds_under}
 use Rattle.pict_rules.specs.Environments.{Environment}
 use Rattle.pict_rules.specs.Regular.{AreFieldsIn, kinds_in}
-use Rattle.pict_rules.specs.Rules.{Rule, nothing_}
+use Rattle.pict_rules.specs.Rules.{nothing_}
 use Rattle.pict_rules.specs.Clauses.{done, need_function}
 use Rattle.pict_infer.specs.declared.error.InferError.{InferError}
 use Rattle.pict_infer.specs.Answering.{IsRefused}

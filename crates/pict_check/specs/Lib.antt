@@ -1,6 +1,5 @@
 pub mod Lines
 pub mod Functions
 pub mod Reading
-pub mod Folds
 pub mod Counts
 pub mod Records

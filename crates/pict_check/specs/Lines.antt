@@ -6,7 +6,7 @@ use Rattle.pict_syntax.specs.declared.span.Span.{Span}
 use Rattle.pict_syntax.specs.Trees.{TypeTree, RType, Val, Vals, FieldVals, field_vals, LabelledVals, true_val}
 use Rattle.pict_syntax.specs.declared.id.Id.{Id}
 use Rattle.pict_syntax.specs.Grammar.{type_span}
-use Rattle.pict_types.specs.Types.{Capability, PlainType, PlainTypes, no_type, types, PlainLabels, PlainArg, PlainBound, PlainBounds, type_at}
+use Rattle.pict_types.specs.Types.{Capability, PlainType, no_type, types, PlainLabels, PlainArg, PlainBound, PlainBounds, type_at}
 use Rattle.pict_types.specs.Replacing.{arguments, replace}
 use Rattle.pict_sub.specs.Exposing.{exposure}
 use Rattle.pict_rules.specs.Found.{Found, argument_in, matched, none_found}

@@ -38,17 +38,6 @@ fn marks(alloc: Global, found: &[Option<Ty>]) -> Result<Vec<bool>, AllocError>
     Ok(marks)
 }
 
-/// Whether the type of a field mentions a type field that isn't found yet.
-pub fn mentions_missing(alloc: Global, t: &Ty, found: &Found) -> Result<bool, AllocError>
-    ensures { IfOk result (λ b. (bs : PlainBounds) → b ≡ mentions_missing (found_of bs found.now) (plain t.now)) }
-{
-    if found.list.is_empty() {
-        return Ok(false);
-    }
-    let marks = marks(alloc, &found.list)?;
-    mentions(t, &Variables::Marked(&marks))
-}
-
 /// What stands for a type field: the argument that is found; `Top`, as a type or as an operator, where none is.
 fn argument(alloc: Global, b: &Bound, x: &Option<Ty>) -> Result<Arg, AllocError>
     ensures { IfOk result (λ a. plain_arg a ≡ argument_in (slot (plain_bound b.now) x.now)) }
@@ -91,56 +80,6 @@ fn instance(alloc: Global, env: &Env, t: &Ty, args: &[Arg], at: Span) -> Result<
     }
 }
 
-/// The type that the value of a field is wanted to have, with what is found put in; nothing where there are no type
-/// fields, and it is the field's own. K4 at the place where it passes a limit.
-pub fn wanted(
-    alloc: Global,
-    env: &Env,
-    t: &Ty,
-    bs: &[Bound],
-    found: &Found,
-    at: Span,
-) -> Result<Option<Ty>, InferError>
-    requires count { length bs.now ≡ length found.now.list.items }
-    requires t { IsWellFormed (environment_of env.now).names (kinds_within (kinds_in (environment_of env.now)) (found_for bs.now found.now)) (plain t.now) }
-    requires fits { FoundFits (environment_of env.now) (found_for bs.now found.now) }
-    ensures answer { IsAnswer (formed (environment_of env.now) (with_found (found_for bs.now found.now) (plain t.now)) at) (λ o. shown o t.now) result }
-    ensures formed { IfOk result (λ o. IsTypeIn (environment_of env.now) (shown o t.now)) }
-{
-    if found.list.is_empty() {
-        within_limits(env, t, at)?;
-        return Ok(None);
-    }
-    let args = arguments(alloc, bs, found)?;
-    Ok(Some(instance(alloc, env, t, &args, at)?))
-}
-
-/// A value at a place gave a type, against which the type of its field was matched. Y10 there where the field's type
-/// mentions a type field that isn't found still, and Y4 there where the given type is no subtype of it.
-pub fn given_fits(
-    alloc: Global,
-    env: &Env,
-    t: &Ty,
-    given: &Ty,
-    bs: &[Bound],
-    found: &Found,
-    at: Span,
-    node: Span,
-) -> Result<(), InferError>
-    requires count { length bs.now ≡ length found.now.list.items }
-    requires t { IsWellFormed (environment_of env.now).names (kinds_within (kinds_in (environment_of env.now)) (found_for bs.now found.now)) (plain t.now) }
-    requires given { IsTypeIn (environment_of env.now) (plain given.now) }
-    requires fits { FoundFits (environment_of env.now) (found_for bs.now found.now) }
-    ensures { IsAnswer (given_lines (environment_of env.now) node at (plain t.now) (plain given.now) (found_for bs.now found.now))
-        (λ _. found_for bs.now found.now) result }
-{
-    if mentions_missing(alloc, t, found)? {
-        return Err(InferError::Named(Code::Y10, at));
-    }
-    let put = wanted(alloc, env, t, bs, found, node)?;
-    below(alloc, env, given, shown(&put, t), Code::Y4, at)
-}
-
 /// Nothing is found yet for these type fields.
 pub fn none_found(alloc: Global, bs: &[Bound]) -> Result<Found, AllocError>
     ensures count { IfOk result (λ f. length f.list.items ≡ length bs.now) }
@@ -151,28 +90,6 @@ pub fn none_found(alloc: Global, bs: &[Bound]) -> Result<Found, AllocError>
         list.push(None)?;
     }
     Ok(Found { list })
-}
-
-/// What is found before the values: where a type is expected, and no type argument is written, the type of the answer is
-/// matched against it.
-pub fn found_first(
-    alloc: Global,
-    env: &Env,
-    f: &Function,
-    none_written: bool,
-    expected: Option<&Ty>,
-) -> Result<Found, AllocError>
-    requires f { FunctionIsFormed (environment_of env.now) (function_of f.now) }
-    requires expected { IsExpected (environment_of env.now) (option_map (λ t. plain t.now) expected) }
-    ensures count { IfOk result (λ x. length x.list.items ≡ length f.now.fields.binders.items) }
-    ensures found { IfOk result (λ x. found_for f.now.fields.binders.items x
-        ≡ found_before (environment_of env.now) (function_of f.now) none_written (option_map (λ t. plain t.now) expected.entry)) }
-{
-    let mut found = none_found(alloc, &f.fields.binders)?;
-    if none_written && let Some(t) = expected {
-        match_type(alloc, env.context(), &f.answer, t, &mut found)?;
-    }
-    Ok(found)
 }
 
 /// The arguments that were found. Y10 at the place where one is missing.
@@ -187,91 +104,4 @@ fn all_found(alloc: Global, found: &Found, node: Span) -> Result<Vec<Arg>, Infer
         }
     }
     Ok(args)
-}
-
-/// An argument is below the bound of its type field, with the earlier arguments put in.
-pub fn within_bound(
-    alloc: Global,
-    env: &Env,
-    b: &Bound,
-    earlier: &[Arg],
-    a: &Arg,
-    at: Span,
-    node: Span,
-) -> Result<(), InferError>
-    requires b { BoundIsWellFormed (environment_of env.now).names (kinds_with (plain_args earlier.now) (kinds_in (environment_of env.now))) (plain_bound b.now) }
-    requires earlier { ArgsAreWellFormed (environment_of env.now).names (kinds_in (environment_of env.now)) (plain_args earlier.now) }
-    requires a { ArgIsWellFormed (environment_of env.now).names (kinds_in (environment_of env.now)) (plain_arg a.now) }
-    ensures { IsAnswer (within_one (environment_of env.now) node (plain_bound b.now) (plain_args earlier.now) (plain_arg a.now) at) nothing result }
-{
-    let Bound::Below(t) = b else {
-        return Ok(());
-    };
-    let bound = instance(alloc, env, t, earlier, node)?;
-    match a {
-        Arg::Plain(t) => below(alloc, env, t, &bound, Code::Y9, at),
-        Arg::Op { .. } => below(alloc, env, &Ty::Top, &bound, Code::Y9, at),
-    }
-}
-
-/// Arguments are below the bounds of their type fields.
-fn within_bounds(
-    alloc: Global,
-    env: &Env,
-    bs: &[Bound],
-    args: &[Arg],
-    node: Span,
-) -> Result<(), InferError>
-    requires bounds { BoundsAreWellFormed (environment_of env.now).names (kinds_in (environment_of env.now)) (plain_bounds bs.now) }
-    requires args { ArgsAreWellFormed (environment_of env.now).names (kinds_in (environment_of env.now)) (plain_args args.now) }
-    requires fit { FitTheirFields (plain_args args.now) (plain_bounds bs.now) }
-    ensures { IsAnswer (within_all (environment_of env.now) node (plain_bounds bs.now) (plain_args args.now)) nothing result }
-{
-    for (i, b) in bs.iter().enumerate() {
-        within_bound(alloc, env, b, &args[..i], &args[i], node, node)?;
-    }
-    Ok(())
-}
-
-/// The arguments that the values of fields found. Y10 where one is missing, Y9 where one is not below its type field's
-/// bound, and K4 where such a bound passes a limit, at the place of the fields.
-pub fn fields_end(
-    alloc: Global,
-    env: &Env,
-    bs: &[Bound],
-    found: Found,
-    node: Span,
-) -> Result<Vec<Arg>, InferError>
-    requires bounds { BoundsAreWellFormed (environment_of env.now).names (kinds_in (environment_of env.now)) (plain_bounds bs.now) }
-    requires kinds { kinds_found (found_for bs.now found) ≡ kinds_of_fields (plain_bounds bs.now) }
-    requires fits { FoundFits (environment_of env.now) (found_for bs.now found) }
-    ensures answer { IsAnswer (fields_end (environment_of env.now) node (plain_bounds bs.now) (found_for bs.now found)) (λ args. plain_args args.items) result }
-    ensures formed { IfOk result (λ args. ArgsAreWellFormed (environment_of env.now).names (kinds_in (environment_of env.now)) (plain_args args.items)) }
-    ensures fit { IfOk result (λ args. FitTheirFields (plain_args args.items) (plain_bounds bs.now)) }
-{
-    let args = all_found(alloc, &found, node)?;
-    within_bounds(alloc, env, bs, &args, node)?;
-    Ok(args)
-}
-
-/// The type of an application's answer with the arguments put in: K4 where it passes a limit, Y4 where it is no subtype
-/// of the type that is expected, at the application.
-pub fn application_end(
-    alloc: Global,
-    env: &Env,
-    answer: Ty,
-    args: &[Arg],
-    expected: Option<&Ty>,
-    node: Span,
-) -> Result<Ty, InferError>
-    requires answer { IsWellFormed (environment_of env.now).names (kinds_with (plain_args args.now) (kinds_in (environment_of env.now))) (plain answer) }
-    requires args { ArgsAreWellFormed (environment_of env.now).names (kinds_in (environment_of env.now)) (plain_args args.now) }
-    requires expected { IsExpected (environment_of env.now) (option_map (λ t. plain t.now) expected) }
-    ensures { IsAnswer (application_end (environment_of env.now) node (plain answer) (plain_args args.now) (option_map (λ t. plain t.now) expected.entry)) plain result }
-{
-    let t = instance(alloc, env, &answer, args, node)?;
-    if let Some(wanted) = expected {
-        below(alloc, env, &t, wanted, Code::Y4, node)?;
-    }
-    Ok(t)
 }

@@ -1,49 +1,17 @@
-// Folds: the recursive type of an annotation, or the one to go by, and its unfolding.
+// Folds against a type, and how many type variables are known.
 
 ghost use Rattle.std.specs.Prelude.{◌≡◌, IfOk};
-ghost use Rattle.pict_syntax.specs.PlainTrees.{annotation_of};
 ghost use Rattle.pict_types.specs.Plain.{plain};
-ghost use Rattle.pict_scope.specs.DistinctLabels.{AnnotationHasDistinctLabels};
-ghost use Rattle.pict_rules.specs.Environments.{context_of};
 ghost use Rattle.pict_rules.specs.Regular.{IsTypeIn};
 ghost use Rattle.pict_infer.specs.Answering.{IsAnswer};
 ghost use Rattle.pict_infer.specs.Environments.{environment_of};
-ghost use Rattle.pict_check.specs.Lines.{fold_annotated, fold_of, variables};
-ghost use Rattle.pict_check.specs.Folds.{annotated_types};
+ghost use Rattle.pict_check.specs.Lines.{fold_of, variables};
 
-use crate::spans::type_span;
-use crate::steps::{expanded, unfolded};
+use crate::steps::unfolded;
 use pict_infer::{Env, InferError, recursive};
-use pict_syntax::{Code, RType, Span};
+use pict_syntax::Span;
 use pict_types::Ty;
 use std::alloc::Global;
-
-/// A recursive type and its unfolding.
-#[derive(Drop)]
-pub struct Fold {
-    pub folded: Ty,
-    pub unfolding: Ty,
-}
-
-/// The annotation of a fold and its unfolding. Y7 and K4 at the fold, Y13 at the annotation's type.
-pub fn annotated_fold(
-    alloc: Global,
-    env: &Env,
-    annotation: &RType,
-    span: Span,
-) -> Result<Fold, InferError>
-    requires labels { AnnotationHasDistinctLabels (annotation_of annotation.now) }
-    ensures answer { IsAnswer (fold_annotated (environment_of env.now) (annotation_of annotation.now) span) annotated_types result }
-    ensures formed { IfOk result (λ f. IsTypeIn (environment_of env.now) (plain f.unfolding)) }
-{
-    let Some(t) = &annotation.of else {
-        return Err(InferError::Named(Code::Y7, span));
-    };
-    let folded = expanded(alloc, env, t)?;
-    recursive(&folded, type_span(t))?;
-    let unfolding = unfolded(alloc, env, &folded, span)?;
-    Ok(Fold { folded, unfolding })
-}
 
 /// The unfolding of a type to go by. Y13 and K4 at the fold.
 pub fn fold_unfolding(alloc: Global, env: &Env, t: &Ty, span: Span) -> Result<Ty, InferError>

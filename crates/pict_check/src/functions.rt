@@ -1,9 +1,9 @@
 // What is applied: the fields that it takes, and the type of its answer.
 
 ghost use Rattle.std.specs.Prelude.{◌≡◌, None, Some, IfNone, IfOk, IfSome, IfErr};
-ghost use Rattle.pict_types.specs.Plain.{plain, plain_bounds, plain_labels, plain_types};
+ghost use Rattle.pict_types.specs.Plain.{plain};
 ghost use Rattle.pict_rules.specs.Environments.{context_of};
-ghost use Rattle.pict_rules.specs.Shapes.{applicable, respond_or_write, split_last, with_last};
+ghost use Rattle.pict_rules.specs.Shapes.{applicable, function_by, respond_or_write};
 ghost use Rattle.pict_sub.specs.Exposing.{exposure};
 ghost use Rattle.pict_infer.specs.Environments.{environment_of};
 ghost use Rattle.pict_check.specs.Functions.{function_of, IsNoFunction, function_in};
@@ -43,6 +43,19 @@ fn function_in(r: Record) -> Option<Function>
     Some(Function { fields, answer })
 }
 
+/// The function that takes the fields of a record type; nothing where the type is none, or its last positional field is
+/// no channel for the answer.
+#[tactic(auto, using(pict_types::proofs::Rows::plain_fields))]
+fn function_by(r: Ty) -> Option<Function>
+    ensures none { IfNone result (function_by (λ bs. respond_or_write) (plain r) ≡ None) }
+    ensures some { IfSome result (λ f. function_by (λ bs. respond_or_write) (plain r) ≡ Some (function_of f)) }
+{
+    match r {
+        Ty::Fields(r) => function_in(r),
+        _ => None,
+    }
+}
+
 /// A type that may be applied: `^R`, `!R` or `/R`, where R is a record whose last positional field is `/U` or `!U`.
 /// Takes no memory.
 fn applicable(t: Ty) -> Option<Function>
@@ -50,10 +63,9 @@ fn applicable(t: Ty) -> Option<Function>
     ensures some { IfSome result (λ f. applicable (plain t) ≡ Some (function_of f)) }
 {
     match t {
-        Ty::Chan(Cap::Both | Cap::Write | Cap::Respond, r) => match Box::into_inner(r) {
-            Ty::Fields(r) => function_in(r),
-            _ => None,
-        },
+        Ty::Chan(Cap::Both, r) => function_by(Box::into_inner(r)),
+        Ty::Chan(Cap::Write, r) => function_by(Box::into_inner(r)),
+        Ty::Chan(Cap::Respond, r) => function_by(Box::into_inner(r)),
         _ => None,
     }
 }

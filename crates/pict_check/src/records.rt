@@ -1,32 +1,38 @@
-// Records and the fields of applications: counts, written type arguments, and the type of a record.
+// The types of records, records with arguments put in, and written type arguments.
 
-ghost use Rattle.std.specs.Prelude.{◌≡◌, ◌≤◌, ◌++◌, ◌∷◌, [], length, IfOk};
-ghost use Rattle.pict_syntax.specs.PlainTrees.{type_of, types_on};
-ghost use Rattle.pict_syntax.specs.Trees.{no_types};
-ghost use Rattle.pict_types.specs.Kinds.{ArgIsWellFormed, BoundIsWellFormed};
+ghost use Rattle.std.specs.Prelude.{◌≡◌, ◌∷◌, [], IfOk};
+ghost use Rattle.pict_syntax.specs.PlainTrees.{type_of};
+ghost use Rattle.pict_types.specs.Kinds.{ArgIsWellFormed};
 ghost use Rattle.pict_types.specs.Instances.{ArgsAreWellFormed};
 ghost use Rattle.pict_types.specs.Plain.{plain, plain_arg, plain_args, plain_bound, plain_bounds, plain_labels, plain_record, plain_types};
 ghost use Rattle.pict_types.specs.Replacing.{FitTheirFields};
 ghost use Rattle.pict_types.specs.Types.{Fields, no_bound};
-ghost use Rattle.pict_normal.specs.Written.{kinds_with, record_with};
+ghost use Rattle.pict_normal.specs.Written.{record_with};
 ghost use Rattle.pict_scope.specs.DistinctLabels.{HasDistinctLabels};
 ghost use Rattle.pict_rules.specs.Clauses.{is_of_kind};
 ghost use Rattle.pict_rules.specs.Regular.{IsTypeIn, kinds_in};
-ghost use Rattle.pict_rules.specs.Rules.{arguments_, written_arguments};
-ghost use Rattle.pict_rules.specs.Typing.{rule};
 ghost use Rattle.pict_infer.specs.Answering.{IsAnswer};
-ghost use Rattle.pict_infer.specs.Asking.{IsWellAsked};
 ghost use Rattle.pict_infer.specs.Environments.{environment_of};
-ghost use Rattle.pict_check.specs.Lines.{argument_after, argument_expanded, formed};
+ghost use Rattle.pict_check.specs.Lines.{argument_expanded, formed};
 
-use crate::fields::within_bound;
-use crate::spans::type_span;
-use crate::steps::within_limits;
+use crate::parts::limited;
 use pict_infer::{Env, InferError, refusal, size_refusal};
 use pict_normal::{expand_arg, instantiate};
-use pict_syntax::{Code, Name, Span, TypeTree};
+use pict_syntax::{Name, Span, TypeTree};
 use pict_types::{Arg, Bound, Record, Ty};
 use std::alloc::Global;
+
+/// The record type of these fields.
+fn fields_type(alloc: Global, positional: Vec<Ty>, labelled: Vec<(Name, Ty)>) -> Ty
+    ensures { plain result ≡ Fields no_bound (plain_types positional.items) (plain_labels labelled.items) }
+{
+    let binders = Vec::new(alloc);
+    Ty::Fields(Record {
+        binders,
+        positional,
+        labelled,
+    })
+}
 
 /// The type of a record with fields of these types. K4 at the place where it passes a limit.
 pub fn record_type(
@@ -38,13 +44,8 @@ pub fn record_type(
 ) -> Result<Ty, InferError>
     ensures { IsAnswer (formed (environment_of env.now) (Fields no_bound (plain_types positional.items) (plain_labels labelled.items)) span) plain result }
 {
-    let t = Ty::Fields(Record {
-        binders: Vec::new(alloc),
-        positional,
-        labelled,
-    });
-    within_limits(env, &t, span)?;
-    Ok(t)
+    let t = fields_type(alloc, positional, labelled);
+    limited(env, t, span)
 }
 
 /// The record with these arguments put for its type fields. K4 at the place where it passes a limit.
@@ -91,46 +92,4 @@ fn expanded_argument(alloc: Global, env: &Env, t: &TypeTree) -> Result<Arg, Infe
         Ok(a) => Ok(a),
         Err(e) => Err(refusal(e)),
     }
-}
-
-/// A written type argument after the earlier ones: expanded, of its field's kind, and below the field's bound.
-fn written_argument(
-    alloc: Global,
-    env: &Env,
-    t: &TypeTree,
-    b: &Bound,
-    earlier: &[Arg],
-    span: Span,
-) -> Result<Arg, InferError>
-    requires labels { HasDistinctLabels (type_of t.now) }
-    requires b { BoundIsWellFormed (environment_of env.now).names (kinds_with (plain_args earlier.now) (kinds_in (environment_of env.now))) (plain_bound b.now) }
-    requires earlier { ArgsAreWellFormed (environment_of env.now).names (kinds_in (environment_of env.now)) (plain_args earlier.now) }
-    ensures answer { IsAnswer (argument_after (environment_of env.now) span (type_of t.now) (plain_bound b.now) (plain_args earlier.now)) (λ a. plain_args earlier.now ++ plain_arg a ∷ []) result }
-{
-    let a = expanded_argument(alloc, env, t)?;
-    if !is_of_kind(&a, b) {
-        return Err(InferError::Named(Code::K1, type_span(t)));
-    }
-    within_bound(alloc, env, b, earlier, &a, type_span(t), span)?;
-    Ok(a)
-}
-
-/// Written type arguments, in order.
-pub fn written_arguments(
-    alloc: Global,
-    env: &Env,
-    ts: &[TypeTree],
-    bs: &[Bound],
-    span: Span,
-) -> Result<Vec<Arg>, InferError>
-    requires right { IsWellAsked arguments_ (environment_of env.now) (written_arguments span (types_on no_types ts.now) (plain_bounds bs.now)) }
-    requires count { length ts.now ≤ length bs.now }
-    ensures { IsAnswer (rule (environment_of env.now) (written_arguments span (types_on no_types ts.now) (plain_bounds bs.now))) (λ args. plain_args args.items) result }
-{
-    let mut args = Vec::new(alloc);
-    for (i, t) in ts.iter().enumerate() {
-        let a = written_argument(alloc, env, t, &bs[i], &args, span)?;
-        args.push(a)?;
-    }
-    Ok(args)
 }

@@ -5,4 +5,4 @@ use Rattle.pict_check.proofs.Finding.{AreFound}
 use Rattle.pict_check.proofs.fields.all_found.Given as goal
 
 abbrev pub invariant-loop-x : goal.invariant-loop-x
-invariant-loop-x l = AreFound (take l.x-index l.found.list.items) (plain_args l.args.items)
+invariant-loop-x l = AreFound (take l.x-index l.x-items) (plain_args l.args.items)

@@ -6,4 +6,4 @@ use Rattle.pict_match.specs.PlainFound.{slots}
 use Rattle.pict_check.proofs.fields.arguments.Given as goal
 
 abbrev pub invariant-loop-i : goal.invariant-loop-i
-invariant-loop-i l = plain_args l.args.items ≡ map argument_in (slots (plain_bounds l.bs) (take l.i l.found.list.items))
+invariant-loop-i l = plain_args l.args.items ≡ map argument_in (slots (plain_bounds l.bs) (take l.i l.x-items))
