@@ -26,23 +26,23 @@ pub refused_past : {s t : Sort} {r : Rule s} {q : Rule t} {k : Result s → Rule
 refused_past x (Named c i) g p h = g.on_ok x (stuck c i) p h
 refused_past x Memory g p h = tt
 
-given_ok : {s t : Sort} {x : Result s} {k : Result s → Rule t} (y : Result s) (a : Answer t) → Runs (give x) (ok y) → Runs (k y) a → Runs (k x) a
-given_ok y a give_ h = h
+given_ok : {s t : Sort} {x : Result s} (k : Result s → Rule t) (y : Result s) (a : Answer t) → Runs (give x) (ok y) → Runs (k y) a → Runs (k x) a
+given_ok k y a give_ h = h
 
 given_stuck : {s t : Sort} {x : Result s} {q : Rule t} (c : Code) (i : Span) → Runs (give x) (stuck c i) → Runs q (stuck c i)
 given_stuck c i h = elim h [ ]
 
 pub given : {s t : Sort} {x : Result s} {k : Result s → Rule t} → GoesOn s t (give x) (k x) k
-given = record { on_ok = given_ok; on_stuck = given_stuck }
+given {k = k} = record { on_ok = given_ok k; on_stuck = given_stuck }
 
-refused_ok : {s t : Sort} {c : Code} {i : Span} {q : Rule t} {k : Result s → Rule t} (y : Result s) (a : Answer t) → Runs {s = s} (refuse c i) (ok y) → Runs (k y) a → Runs q a
-refused_ok y a h p = elim h [ ]
+refused_ok : {s t : Sort} {c : Code} {i : Span} {q : Rule t} (k : Result s → Rule t) (y : Result s) (a : Answer t) → Runs {s = s} (refuse c i) (ok y) → Runs (k y) a → Runs q a
+refused_ok k y a h p = elim h [ ]
 
 refused_stuck : {s t : Sort} {d : Code} {j : Span} (c : Code) (i : Span) → Runs {s = s} (refuse d j) (stuck c i) → Runs {s = t} (refuse d j) (stuck c i)
 refused_stuck c i refuse_ = refuse_
 
 pub refused : {s t : Sort} {c : Code} {i : Span} {k : Result s → Rule t} → GoesOn s t (refuse c i) (refuse c i) k
-refused = record { on_ok = refused_ok; on_stuck = refused_stuck }
+refused {k = k} = record { on_ok = refused_ok k; on_stuck = refused_stuck }
 
 needed_ok : {s t : Sort} {q : Condition} {c : Code} {i : Span} {r : Rule s} {l : Rule t} {k : Result s → Rule t} → GoesOn s t r l k → (x : Result s) (a : Answer t) → Runs (need q c i r) (ok x) → Runs (k x) a → Runs (need q c i l) a
 needed_ok g x a (met m p) h = met m (g.on_ok x a p h)

@@ -6,3 +6,4 @@ pub mod Answering
 pub mod Places
 pub mod Steps
 pub mod Shaping
+pub mod Asking

@@ -2,6 +2,18 @@
 use Rattle.std.specs.Prelude.{Bool, true, false}
 use Rattle.pict_types.specs.Types.{PlainType, Top, Int, Char, Str, Boolean, Var, Apply, Chan, Fields, Rec}
 
+abbrev pub IsNoRecord : PlainType → Type 0
+IsNoRecord Top = Unit {0}
+IsNoRecord Int = Unit {0}
+IsNoRecord Char = Unit {0}
+IsNoRecord Str = Unit {0}
+IsNoRecord Boolean = Unit {0}
+IsNoRecord (Var i) = Unit {0}
+IsNoRecord (Apply i ts) = Unit {0}
+IsNoRecord (Chan m t) = Unit {0}
+IsNoRecord (Fields bs ps ls) = ⊥
+IsNoRecord (Rec t) = Unit {0}
+
 abbrev pub is_recursive : PlainType → Bool
 is_recursive Top = false
 is_recursive Int = false

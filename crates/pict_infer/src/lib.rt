@@ -10,7 +10,7 @@ mod primitives;
 
 pub use added::Added;
 pub use env::{Env, Place};
-pub use error::InferError;
+pub use error::{InferError, refusal, size_refusal};
 pub use formed::{below, expanded, followed, recursive, shown, unfolded, within_limits};
 pub use known::{Binder, Known};
 pub use primitives::type_of;
