@@ -1,15 +1,18 @@
 -- Steps that form types: expansion, limits, subtypes and unfoldings.
 use Rattle.std.proofs.Common.{◌≡◌, ◌≤◌, ◌<◌, ℕ, Bool, true, false, List, [], ◌∷◌, Option, Some, None, refl, sym, ◌∙◌, ap, subst, arith, ◌≢◌, ◌↔◌, ◌||◌, if◌then◌else◌}
-use Rattle.std.specs.Prelude.{nat_lt}
+use Rattle.std.specs.Prelude.{nat_lt, IfNone, IfSome}
 use borrow.Author.Tests.{ltb-true, ltb-false}
 use Rattle.pict_syntax.specs.declared.code.Code.{Code}
 use Rattle.pict_syntax.specs.declared.code.Code.TheVariants.{K4, Y13}
 use Rattle.pict_syntax.specs.declared.span.Span.{Span}
 use Rattle.pict_types.specs.Types.{PlainType, Top, Int, Char, Str, Boolean, Var, Apply, Chan, Fields, Rec, TypeContext}
+use Rattle.pict_types.specs.declared.types.Ty.{Ty}
+use Rattle.pict_types.specs.Plain.{plain}
 use Rattle.pict_types.specs.declared.limits.Measure.{Measure}
 use Rattle.pict_types.specs.declared.limits.SizeError.{SizeError}
 use Rattle.pict_types.specs.declared.limits.SizeError.TheVariants.{TooBig, Memory as SizeMemory}
 use Rattle.pict_types.specs.declared.limits.Measure.TheVariants.{Weight, Height}
+use Rattle.pict_types.specs.Recursion.{IsRecursive}
 use Rattle.pict_types.specs.Measures.{weight_of, height_of}
 use Rattle.pict_types.specs.Entries.{PlainContext, variables}
 use Rattle.pict_normal.specs.declared.stops.KindError.{KindError}
@@ -27,6 +30,7 @@ use Rattle.pict_infer.specs.declared.error.InferError.{InferError}
 use Rattle.pict_infer.specs.declared.error.InferError.TheVariants.{Named, Memory}
 use Rattle.pict_infer.specs.Answering.{IsRefused, IsStopped, of_kind_error, of_size_error}
 use Rattle.pict_infer.specs.Shaping.{is_recursive, is_variable}
+use Rattle.pict_infer.specs.Steps.{shown}
 
 -- a rule behind a stop
 pub clear : {s : Sort} (o : Option Stop) {r : Rule s} {a : Answer s} → o ≡ None → Runs r a → Runs (unless_stopped o r) a
@@ -89,6 +93,18 @@ recursive_no (Chan m t) s h = refuse_
 recursive_no (Fields bs ps ls) s h = refuse_
 recursive_no (Rec t) s h = absurd (cc)
 
+pub recursive_is : (t : PlainType) (s : Span) → Runs (need_recursive t Y13 s (λ u. done)) (ok tt) → IsRecursive t
+recursive_is Top s h = elim h [ ]
+recursive_is Int s h = elim h [ ]
+recursive_is Char s h = elim h [ ]
+recursive_is Str s h = elim h [ ]
+recursive_is Boolean s h = elim h [ ]
+recursive_is (Var i) s h = elim h [ ]
+recursive_is (Apply i ts) s h = elim h [ ]
+recursive_is (Chan m t) s h = elim h [ ]
+recursive_is (Fields bs ps ls) s h = elim h [ ]
+recursive_is (Rec t) s h = tt
+
 -- a type that is no variable is its own exposure
 no_variable : (t : PlainType) → is_variable t ≡ false → shape_of t ≢ variable
 no_variable Top h e = cc
@@ -121,3 +137,22 @@ holds b h f = f.0 h
 
 pub fails : {P : Type 0} (b : Bool) → b ≡ false → (b ≡ true ↔ P) → P → ⊥
 fails b h f p = let e : true ≡ false = sym (f.1 p) ∙ h in cc
+
+-- what an expansion answered
+pub expanded_is : (o : Option Stop) (n u : PlainType) → Runs {s = type_} (unless_stopped o (give n)) (ok u) → (o ≡ None) × (u ≡ n)
+expanded_is None n u give_ = (refl, refl)
+expanded_is (Some x) n u h = elim h [ ]
+
+pub refused_is : (o : Option Stop) (n : PlainType) (y : InferError) → IsRefused {s = type_} (unless_stopped o (give n)) y → IsStopped o y
+refused_is None n (Named c i) h = elim h [ ]
+refused_is (Some x) n (Named c i) refuse_ = refl
+refused_is o n Memory h = tt
+
+-- what is exposed
+pub shown_is : (x : PlainType) (o : Option Ty) (t : Ty) → IfNone o (x ≡ plain t) → IfSome o (λ u. plain u ≡ x) → shown o t ≡ x
+shown_is x None t n s = sym n
+shown_is x (Some u) t n s = s
+
+pub shown_formed : (P : PlainType → Type 0) (o : Option Ty) (t : Ty) → P (plain t) → IfSome o (λ u. P (plain t) → P (plain u)) → P (shown o t)
+shown_formed P None t h s = h
+shown_formed P (Some u) t h s = s h

@@ -1,9 +1,10 @@
 -- What each form of a pattern stands for, and lists of patterns.
-use Rattle.std.proofs.Common.{◌≡◌, ℕ, suc, ◌+◌, ◌<◌, ◌≤◌, List, [], ◌∷◌, ◌++◌, length, take, drop, get_or, refl, sym, ◌∙◌, ap, Box, Global, arith, add-one, take-suc}
+use Rattle.std.proofs.Common.{◌≡◌, ℕ, zero, suc, ◌+◌, ◌<◌, ◌≤◌, List, [], ◌∷◌, Option, Some, None, ◌++◌, length, take, drop, get_or, refl, sym, ◌∙◌, ap, Box, Global, arith, add-one, take-suc}
 use Rattle.std.proofs.lemmas.List.{take-append-drop, take_all}
 use Rattle.pict_syntax.specs.declared.span.Span.{Span}
 use Rattle.pict_syntax.specs.declared.id.Id.{Id}
 use Rattle.pict_syntax.specs.declared.type_tree.RType.{RType}
+use Rattle.pict_syntax.specs.declared.type_tree.TypeTree.{TypeTree}
 use Rattle.pict_syntax.specs.declared.type_tree.TypeBinder.{TypeBinder}
 use Rattle.pict_syntax.specs.declared.pattern.Pat.{Pat, Bind, Any, Fields, Fold}
 use Rattle.pict_syntax.specs.declared.pattern.Pat.TheViews.{out-FieldPats, roll-out-FieldPats}
@@ -11,7 +12,7 @@ use Rattle.pict_syntax.specs.declared.pattern.FieldPats.{FieldPats}
 use Rattle.pict_syntax.specs.declared.pattern.LabelledPat.{LabelledPat}
 use Rattle.pict_syntax.specs.Trees as trees
 use Rattle.pict_syntax.specs.Trees.{bind_pat, any_pat, fields_pat, fold_pat, field_pats, no_binders, more_binders, no_pats, more_pats, no_labelled_pats, more_labelled_pats}
-use Rattle.pict_syntax.specs.PlainTrees.{annotation_of, pat_of, field_pats_of, binder_of, binders_on, pats_on, labelled_pats_on}
+use Rattle.pict_syntax.specs.PlainTrees.{annotation_of, held_annotation, type_of, pat_of, field_pats_of, binder_of, binders_on, pats_on, labelled_pats_on}
 use Rattle.pict_syntax.proofs.PatternLists.{pats_more, labelled_pats_more, field_pats_is}
 use Rattle.pict_syntax.proofs.TypeLists.{binders_more}
 use Rattle.pict_rules.specs.Counts.{count_pats, count_binders}
@@ -32,11 +33,18 @@ pub fold_is : (p : Pat) (s : Span) (r : RType) (q : Box Pat Global) → p ≡ Fo
 unfolding pat_of
 fold_is p s r q is = ap pat_of is
 
+-- an annotation that is there, and one that isn't
+pub not_annotated : (r : RType) → r.of ≡ None → annotation_of r ≡ None
+not_annotated r is = ap held_annotation is
+
+pub annotated_by : (r : RType) (t : Box TypeTree Global) → r.of ≡ Some t → annotation_of r ≡ Some (type_of t.value)
+annotated_by r t is = ap held_annotation is
+
 pub parts_are : (f : FieldPats) → field_pats_of f ≡ field_pats (binders_on no_binders (out-FieldPats f).binders.items) (pats_on no_pats (out-FieldPats f).positional.items) (labelled_pats_on no_labelled_pats (out-FieldPats f).labelled.items)
 parts_are f = ap field_pats_of (sym (roll-out-FieldPats f)) ∙ field_pats_is (out-FieldPats f).binders (out-FieldPats f).positional (out-FieldPats f).labelled
 
 -- one more of a list
-taken : {A : Type 0} (xs : List A) (i : ℕ) (x : A) → i < length xs → x ≡ get_or xs i x → take (i + 1) xs ≡ take i xs ++ x ∷ []
+pub taken : {A : Type 0} (xs : List A) (i : ℕ) (x : A) → i < length xs → x ≡ get_or xs i x → take (i + 1) xs ≡ take i xs ++ x ∷ []
 taken xs i x h is = rw add-one (take-suc xs i x h ∙ ap (λ z. take i xs ++ z ∷ []) (sym is))
 
 pub next_binder : (xs : List TypeBinder) (i : ℕ) (x : TypeBinder) → i < length xs → x ≡ get_or xs i x → binders_on no_binders (take (i + 1) xs) ≡ more_binders (binders_on no_binders (take i xs)) (binder_of x)
@@ -47,6 +55,12 @@ next_pat xs i x h is = ap (pats_on no_pats) (taken xs i x h is) ∙ pats_more no
 
 pub next_labelled : (xs : List LabelledPat) (i : ℕ) (x : LabelledPat) → i < length xs → x ≡ get_or xs i x → labelled_pats_on no_labelled_pats (take (i + 1) xs) ≡ more_labelled_pats (labelled_pats_on no_labelled_pats (take i xs)) x.label (pat_of x.pat)
 next_labelled xs i x h is = ap (labelled_pats_on no_labelled_pats) (taken xs i x h is) ∙ labelled_pats_more no_labelled_pats (take i xs) x
+
+-- one list after another
+pub binders_both : (bs : trees.TypeBinders) (xs ys : List TypeBinder) → binders_on bs (xs ++ ys) ≡ binders_on (binders_on bs xs) ys
+unfolding binders_on
+binders_both bs [] ys = refl
+binders_both bs (x ∷ xs) ys = binders_both (more_binders bs (binder_of x)) xs ys
 
 -- how many
 binders_count : (bs : trees.TypeBinders) (xs : List TypeBinder) → count_binders (binders_on bs xs) ≡ count_binders bs + length xs

@@ -7,3 +7,9 @@ pub mod Asked
 pub mod Unused
 pub mod Through
 pub mod Forms
+pub mod BinderLines
+pub mod OpenedBinders
+pub mod Taking
+pub mod Handed
+pub mod LabelPlaces
+pub mod Uses

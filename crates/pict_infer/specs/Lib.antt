@@ -3,7 +3,9 @@ pub mod Beside
 pub mod Adding
 pub mod Environments
 pub mod Answering
+pub mod Asking
 pub mod Places
 pub mod Steps
 pub mod Shaping
-pub mod Asking
+pub mod Opening
+pub mod Ordering

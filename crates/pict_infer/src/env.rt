@@ -1,16 +1,19 @@
 // What is known at a place: type variables and definitions, and values with their types.
 
-ghost use Rattle.std.specs.Prelude.{◌≡◌, ◌-◌, ◌≤◌, ◌++◌, length, drop, max, take, OnOk};
+ghost use Rattle.std.specs.Prelude.{◌≡◌, ◌-◌, ◌≤◌, ◌++◌, length, drop, max, take, IfOk, None, OnOk};
 ghost use Rattle.pict_types.specs.Entries.{EntriesAreWellFormed};
 ghost use Rattle.pict_types.specs.PlainContext.{names_of, plain_context, type_context};
-ghost use Rattle.pict_rules.specs.Environments.{entries_of};
+ghost use Rattle.pict_types.specs.Plain.{plain};
+ghost use Rattle.pict_rules.specs.Environments.{entries_of, type_or_primitive};
 ghost use Rattle.pict_infer.specs.Knowing.{deepest, known_types, names_known};
 
 use crate::added::Added;
 use crate::known::{Binder, Known};
+use crate::primitives::type_of;
 use pict_binders::Nearest;
+use pict_scope::primitive_named;
 use pict_syntax::{Id, Name, Names};
-use pict_types::{Arg, Bound, Context, Entry, Ty, What};
+use pict_types::{Arg, Bound, Context, Entry, Ty, What, shift_type};
 use std::alloc::{AllocError, Global};
 
 /// How many entries of types and how many values are known somewhere.
@@ -24,7 +27,7 @@ pub struct Place {
 /// that to open and to close a variable moves no type.
 #[derive(Drop)]
 pub struct Env<'a> {
-    context: Context<'a>,
+    pub(crate) context: Context<'a>,
     /// The values, the nearest last.
     values: Vec<Known>,
     names: Nearest,
@@ -33,7 +36,7 @@ pub struct Env<'a> {
 }
 
 impl<'a> Env<'a> {
-    ghost use Rattle.std.specs.Prelude.{◌≡◌, ◌∷◌, [], OnOk};
+    ghost use Rattle.std.specs.Prelude.{◌≡◌, ◌∷◌, [], IfOk, OnOk};
     ghost use Rattle.pict_types.specs.Kinds.{BoundIsWellFormed, ArgIsWellFormed};
     ghost use Rattle.pict_types.specs.Plain.{plain, plain_arg, plain_bound};
     ghost use Rattle.pict_types.specs.PlainContext.{names_of, plain_context, type_context};
@@ -59,6 +62,20 @@ impl<'a> Env<'a> {
         ensures entries { plain_context result.now ≡ known_entries self.now }
     {
         &self.context
+    }
+
+    /// The type of the nearest value of a name, or else of the primitive, written in all the type variables. The only
+    /// error is want of memory.
+    pub fn type_of_use(&self, alloc: Global, name: Name) -> Result<Ty, AllocError>
+        ensures { IfOk result (λ t. plain t ≡ type_of_use (environment_of self.now) name.0) }
+    {
+        match self.names.level(name) {
+            None => primitive_use(alloc, self.context.names().text(name)),
+            Some(level) => {
+                let known = &self.values[level as usize];
+                shift_type(alloc, &known.has, self.context.variables() - known.depth, 0)
+            }
+        }
     }
 
     /// One value more, the nearest, whose type is written in all the type variables. The only error is want of memory.
@@ -191,5 +208,15 @@ fn cut_entries(context: &mut Context, left: usize)
 {
     while context.len() > left {
         context.pop();
+    }
+}
+
+/// The type of the primitive of this name; `Top` where there is none.
+fn primitive_use(alloc: Global, text: &[u8]) -> Result<Ty, AllocError>
+    ensures { IfOk result (λ t. plain t ≡ type_or_primitive None text.now) }
+{
+    match primitive_named(text) {
+        None => Ok(Ty::Top),
+        Some(primitive) => type_of(alloc, primitive),
     }
 }

@@ -1,22 +1,22 @@
 // The steps of the rules that form types: written types expanded, bounds followed, unfoldings, subtypes and limits.
 
 ghost use Rattle.std.specs.Prelude.{◌≡◌, IfOk, IfNone, IfSome};
-ghost use Rattle.pict_syntax.specs.PlainTrees.{type_of};
-ghost use Rattle.pict_types.specs.Plain.{plain};
+ghost use Rattle.pict_syntax.specs.PlainTrees.{annotation_of, type_of};
+ghost use Rattle.pict_types.specs.Plain.{plain, plain_record};
 ghost use Rattle.pict_types.specs.PlainContext.{IsWrittenIn, type_context};
 ghost use Rattle.pict_types.specs.Recursion.{IsRecursive};
-ghost use Rattle.pict_scope.specs.DistinctLabels.{HasDistinctLabels};
+ghost use Rattle.pict_scope.specs.DistinctLabels.{AnnotationHasDistinctLabels, HasDistinctLabels};
 ghost use Rattle.pict_sub.specs.Exposing.{exposure};
 ghost use Rattle.pict_infer.specs.Answering.{IsAnswer, nothing};
-ghost use Rattle.pict_infer.specs.Shaping.{is_recursive, is_variable};
-ghost use Rattle.pict_infer.specs.Steps.{below, expanded, limited, recursive, shown, unfolded};
+ghost use Rattle.pict_infer.specs.Shaping.{is_recursive, is_variable, IsNoRecord};
+ghost use Rattle.pict_infer.specs.Steps.{annotated, below, expanded, limited, recursive, shown, unfolded};
 ghost use Rattle.pict_infer.specs.Places.{environment_in};
 
 use crate::error::{InferError, refusal, size_refusal};
 use pict_normal::expand;
 use pict_sub::{expose, is_subtype};
-use pict_syntax::{Code, Span, TypeTree};
-use pict_types::{Context, Ty, too_big, unfold};
+use pict_syntax::{Code, RType, Span, TypeTree};
+use pict_types::{Context, Record, Ty, too_big, unfold};
 use std::alloc::{AllocError, Global};
 
 /// A written type, expanded. The refusals are K1 to K4.
@@ -28,6 +28,23 @@ pub fn expanded(alloc: Global, c: &Context, t: &TypeTree) -> Result<Ty, InferErr
     match expand(alloc, c, t) {
         Ok(u) => Ok(u),
         Err(e) => Err(refusal(e)),
+    }
+}
+
+/// An annotation, expanded. Y7 at the place where there is none, and K1 to K4.
+pub fn annotated(
+    alloc: Global,
+    c: &Context,
+    annotation: &RType,
+    span: Span,
+) -> Result<Ty, InferError>
+    requires labels { AnnotationHasDistinctLabels (annotation_of annotation.now) }
+    ensures answer { IsAnswer (annotated (environment_in c.now) (annotation_of annotation.now) span) plain result }
+    ensures formed { IfOk result (λ u. IsWrittenIn c.now (plain u)) }
+{
+    match &annotation.of {
+        None => Err(InferError::Named(Code::Y7, span)),
+        Some(t) => expanded(alloc, c, t),
     }
 }
 
@@ -94,6 +111,26 @@ fn is_variable(t: &Ty) -> bool
         | Ty::Chan(..)
         | Ty::Fields(_)
         | Ty::Rec(_) => false,
+    }
+}
+
+/// The record of a record type; nothing where it is none. Takes no memory.
+#[tactic(auto, using(pict_types::proofs::Rows::plain_fields))]
+pub fn as_record(t: &Ty) -> Option<&Record>
+    ensures none { IfNone result (IsNoRecord (plain t.now)) }
+    ensures some { IfSome result (λ r. plain t.now ≡ plain_record r.now) }
+{
+    match t {
+        Ty::Fields(r) => Some(r),
+        Ty::Top
+        | Ty::Int
+        | Ty::Char
+        | Ty::Str
+        | Ty::Bool
+        | Ty::Var(_)
+        | Ty::Apply(..)
+        | Ty::Chan(..)
+        | Ty::Rec(_) => None,
     }
 }
 

@@ -66,3 +66,7 @@ all_put ns sorted (x ∷ xs) =
 pub fields_sorted : (ns : List (List ℕ)) (xs ys : List (Name × Ty)) → by_number ys ≡ in_label_order ns (by_number xs) → plain_labels ys ≡ in_order ns (plain_labels xs)
 fields_sorted ns xs ys h =
     sym (fields_by_number ys) ∙ ap fields_of h ∙ all_put ns [] (by_number xs) ∙ ap (in_order ns) (fields_by_number xs)
+
+-- and so with one more that is written after them
+pub in_order_and : (ns : List (List ℕ)) (ls : PlainLabels) (l : ℕ) (u : PlainType) → in_order ns (and_label ls l u) ≡ with_labelled_type ns l u (in_order ns ls)
+in_order_and ns ls l u = ordered_and ns no_label ls l u
