@@ -1,30 +1,25 @@
-// Fields of a record or an application that fit a record type: what is found for its type fields, and the ends.
+// What is found for the type fields of a record, and types with arguments put in.
 
 ghost use Rattle.std.specs.Prelude.{◌≡◌, length, map, is_none, IfOk};
-ghost use Rattle.pict_types.specs.Kinds.{ArgIsWellFormed, BoundIsWellFormed, BoundsAreWellFormed, IsWellFormed};
+ghost use Rattle.pict_types.specs.Kinds.{IsWellFormed};
 ghost use Rattle.pict_types.specs.Instances.{ArgsAreWellFormed};
 ghost use Rattle.pict_types.specs.Plain.{plain, plain_arg, plain_args, plain_bound, plain_bounds};
-ghost use Rattle.pict_normal.specs.Written.{kinds_with};
-ghost use Rattle.pict_types.specs.Replacing.{FitTheirFields, arguments, replace};
+ghost use Rattle.pict_types.specs.Replacing.{arguments, replace};
 ghost use Rattle.pict_types.specs.Types.{PlainBounds};
-ghost use Rattle.pict_rules.specs.Found.{argument_in, mentions_missing, none_found, with_found};
-ghost use Rattle.pict_rules.specs.Regular.{FoundFits, IsExpected, IsTypeIn, kinds_found, kinds_in, kinds_of_fields, kinds_within};
-ghost use Rattle.pict_infer.specs.Answering.{IsAnswer, nothing};
-ghost use Rattle.pict_infer.specs.Environments.{environment_of};
+ghost use Rattle.pict_normal.specs.Written.{kinds_with};
+ghost use Rattle.pict_rules.specs.Found.{argument_in, none_found};
+ghost use Rattle.pict_rules.specs.Regular.{IsTypeIn, kinds_in};
 ghost use Rattle.pict_match.specs.PlainFound.{found_of};
-ghost use Rattle.pict_infer.specs.Steps.{shown};
-ghost use Rattle.pict_check.specs.Functions.{function_of, FunctionIsFormed};
-ghost use Rattle.pict_check.specs.Lines.{all_found, application_end, fields_end, formed, found_before, given_lines, within_all, within_one};
-ghost use Rattle.std.specs.Option.{option_map};
+ghost use Rattle.pict_infer.specs.Answering.{IsAnswer};
+ghost use Rattle.pict_infer.specs.Environments.{environment_of};
+ghost use Rattle.pict_check.specs.Lines.{all_found, formed};
 ghost use Rattle.pict_check.specs.Reading.{found_for, slot};
 
-use crate::functions::Function;
-use crate::steps::{below, within_limits};
-use pict_infer::{Env, InferError, shown, size_refusal};
-use pict_match::{Found, match_type};
+use pict_infer::{Env, InferError, size_refusal};
+use pict_match::Found;
 use pict_normal::instantiate_type;
 use pict_syntax::{Code, Span};
-use pict_types::{Arg, Bound, Ty, Variables, mentions};
+use pict_types::{Arg, Bound, Ty};
 use std::alloc::{AllocError, Global};
 
 /// For each type field a mark where it isn't found yet.
