@@ -43,7 +43,7 @@ impl<'a> Env<'a> {
     ghost use Rattle.pict_rules.specs.Environments.{defined, extended, no_environment, one_value, only_types, type_of_use};
     ghost use Rattle.pict_rules.specs.Regular.{kinds_in};
     ghost use Rattle.pict_infer.specs.Adding.{extension_of};
-    ghost use Rattle.pict_infer.specs.Environments.{environment_of, known_entries, known_names, with_value, GrewFrom, HasGrownFrom, IsPlaceOf, MayBeAdded};
+    ghost use Rattle.pict_infer.specs.Environments.{environment_of, known_entries, known_names, with_value, GrewFrom, HasGrownFrom, IsAsBefore, IsPlaceOf, MayBeAdded};
 
     /// Nothing is known. Takes no memory.
     pub fn new(alloc: Global, names: &'a Names) -> Env<'a>
@@ -142,7 +142,7 @@ impl<'a> Env<'a> {
     /// Forgets what has become known since. Takes no memory.
     pub fn cut(&mut self, to: Place)
         requires grown { HasGrownFrom to self.old }
-        ensures { (before : Env) → IsPlaceOf to before → GrewFrom before self.old → environment_of self.new ≡ environment_of before }
+        ensures { (before : Env) → IsPlaceOf to before → GrewFrom before self.old → IsAsBefore before self.new }
     {
         cut_values(&mut self.values, &mut self.names, to.values);
         cut_entries(&mut self.context, to.entries);

@@ -1,0 +1,15 @@
+pub mod Ends
+pub mod Stepping
+pub mod Rows
+pub mod RowEnds
+pub mod ValueEnds
+pub mod HasEnds
+pub mod FieldEnds
+pub mod ChannelEnds
+pub mod ProcessEnds
+pub mod AbstractionEnds
+pub mod DeclarationEnds
+pub mod Written
+pub mod Finding
+pub mod HeadForms
+pub mod Forms

@@ -1,0 +1,5 @@
+pub mod Lines
+pub mod Functions
+pub mod Reading
+pub mod Counts
+pub mod Records

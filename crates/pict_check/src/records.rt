@@ -1,0 +1,95 @@
+// The types of records, records with arguments put in, and written type arguments.
+
+ghost use Rattle.std.specs.Prelude.{◌≡◌, ◌∷◌, [], IfOk};
+ghost use Rattle.pict_syntax.specs.PlainTrees.{type_of};
+ghost use Rattle.pict_types.specs.Kinds.{ArgIsWellFormed};
+ghost use Rattle.pict_types.specs.Instances.{ArgsAreWellFormed};
+ghost use Rattle.pict_types.specs.Plain.{plain, plain_arg, plain_args, plain_bound, plain_bounds, plain_labels, plain_record, plain_types};
+ghost use Rattle.pict_types.specs.Replacing.{FitTheirFields};
+ghost use Rattle.pict_types.specs.Types.{Fields, no_bound};
+ghost use Rattle.pict_normal.specs.Written.{record_with};
+ghost use Rattle.pict_scope.specs.DistinctLabels.{HasDistinctLabels};
+ghost use Rattle.pict_rules.specs.Clauses.{is_of_kind};
+ghost use Rattle.pict_rules.specs.Regular.{IsTypeIn, kinds_in};
+ghost use Rattle.pict_infer.specs.Answering.{IsAnswer};
+ghost use Rattle.pict_infer.specs.Environments.{environment_of};
+ghost use Rattle.pict_check.specs.Lines.{argument_expanded, formed};
+
+use crate::parts::limited;
+use pict_infer::{Env, InferError, refusal, size_refusal};
+use pict_normal::{expand_arg, instantiate};
+use pict_syntax::{Name, Span, TypeTree};
+use pict_types::{Arg, Bound, Record, Ty};
+use std::alloc::Global;
+
+/// The record type of these fields.
+fn fields_type(alloc: Global, positional: Vec<Ty>, labelled: Vec<(Name, Ty)>) -> Ty
+    ensures { plain result ≡ Fields no_bound (plain_types positional.items) (plain_labels labelled.items) }
+{
+    let binders = Vec::new(alloc);
+    Ty::Fields(Record {
+        binders,
+        positional,
+        labelled,
+    })
+}
+
+/// The type of a record with fields of these types. K4 at the place where it passes a limit.
+pub fn record_type(
+    alloc: Global,
+    env: &Env,
+    positional: Vec<Ty>,
+    labelled: Vec<(Name, Ty)>,
+    span: Span,
+) -> Result<Ty, InferError>
+    ensures { IsAnswer (formed (environment_of env.now) (Fields no_bound (plain_types positional.items) (plain_labels labelled.items)) span) plain result }
+{
+    let t = fields_type(alloc, positional, labelled);
+    limited(env, t, span)
+}
+
+/// The record with these arguments put for its type fields. K4 at the place where it passes a limit.
+pub fn record_instance(
+    alloc: Global,
+    env: &Env,
+    r: &Record,
+    args: &[Arg],
+    span: Span,
+) -> Result<Record, InferError>
+    requires r { IsTypeIn (environment_of env.now) (plain_record r.now) }
+    requires args { ArgsAreWellFormed (environment_of env.now).names (kinds_in (environment_of env.now)) (plain_args args.now) }
+    requires fit { FitTheirFields (plain_args args.now) (plain_bounds r.now.binders.items) }
+    ensures answer { IsAnswer (formed (environment_of env.now) (record_with (plain_args args.now) r.now) span) plain_record result }
+    ensures formed { IfOk result (λ q. IsTypeIn (environment_of env.now) (plain_record q)) }
+{
+    match instantiate(alloc, env.context(), r, args) {
+        Ok(q) => Ok(q),
+        Err(e) => Err(size_refusal(e, span)),
+    }
+}
+
+/// Whether an argument is of the kind of its type field. Takes no memory.
+fn is_of_kind(a: &Arg, b: &Bound) -> bool
+    ensures { result ≡ is_of_kind (plain_arg a.now) (plain_bound b.now) }
+{
+    match (a, b) {
+        (Arg::Op { params, .. }, Bound::Operator(n)) => *params == *n,
+        (Arg::Op { .. }, Bound::Free) => false,
+        (Arg::Op { .. }, Bound::Below(_)) => false,
+        (Arg::Plain(_), Bound::Operator(_)) => false,
+        (Arg::Plain(_), Bound::Free) => true,
+        (Arg::Plain(_), Bound::Below(_)) => true,
+    }
+}
+
+/// A written type argument, expanded. The refusals are K1 to K4 where they stand in it.
+fn expanded_argument(alloc: Global, env: &Env, t: &TypeTree) -> Result<Arg, InferError>
+    requires labels { HasDistinctLabels (type_of t.now) }
+    ensures answer { IsAnswer (argument_expanded (environment_of env.now) (type_of t.now)) (λ a. plain_arg a ∷ []) result }
+    ensures formed { IfOk result (λ a. ArgIsWellFormed (environment_of env.now).names (kinds_in (environment_of env.now)) (plain_arg a)) }
+{
+    match expand_arg(alloc, env.context(), t) {
+        Ok(a) => Ok(a),
+        Err(e) => Err(refusal(e)),
+    }
+}
