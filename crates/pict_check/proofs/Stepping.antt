@@ -25,10 +25,11 @@ use Rattle.pict_infer.specs.Answering.{IsAnswer, IsRefused, of_kind_error, of_si
 use Rattle.pict_infer.specs.Steps.{limited, recursive, unfolded}
 use Rattle.pict_normal.specs.declared.stops.KindError.{KindError}
 use Rattle.pict_normal.specs.Refusals.{IsRefusal}
-use Rattle.pict_infer.proofs.Forming.{clear, expanded_ok, size_clear, stopped, stopped_by, unfolded_err}
+use Rattle.pict_infer.proofs.Forming.{clear, expanded_ok, stopped, stopped_by, unfolded_err}
 use Rattle.pict_infer.proofs.Through.{refused_on}
 use Rattle.pict_check.specs.Lines.{either_type, fold_of, formed, outside}
 use Rattle.pict_check.proofs.Ends.{limits}
+use Rattle.pict_normal.proofs.Expanded.{size_clear}
 
 -- a type within the limits is formed
 pub limited_ok : (e : Environment) (w : PlainType) (s : Span) → Runs (limited e w s) (ok tt) → Runs (formed e w s) (ok w)

@@ -9,9 +9,10 @@ use Rattle.pict_infer.specs.declared.known.Binder.{Binder}
 use Rattle.pict_infer.specs.Knowing.{known_types}
 use Rattle.pict_infer.specs.Places.{IsUnderVariables, environment_in}
 use Rattle.pict_infer.proofs.Depths.{types_length}
-use Rattle.pict_infer.proofs.Growing.{environment, opened_count}
+use Rattle.pict_infer.proofs.Growing.{environment}
 use Rattle.pict_infer.proofs.OpenedBinders.{alone}
 use Rattle.pict_infer.proofs.TakenBack.{taken_back}
+use Rattle.pict_rules.proofs.OwnBinders.{opened_count}
 
 -- what was taken is what was open, and the environment is as it was
 pub record IsClosed (before after : Environment) (own taken : List KnownType) : Type 0 where

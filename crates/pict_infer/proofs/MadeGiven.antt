@@ -32,10 +32,11 @@ use Rattle.pict_infer.specs.Environments.{environment_of, known_entries, known_n
 use Rattle.pict_infer.specs.Giving.{typed_pattern, OpensFields}
 use Rattle.pict_infer.specs.Given.{AreGiven, AreGivenOpen, FieldsOpen, GivesType, HasOpenedOwn, IsClosed, IsGiven, IsTyped, IsUnderOwn, record_given}
 use Rattle.pict_infer.proofs.Depths.{types_length}
-use Rattle.pict_infer.proofs.Growing.{environment, grew_types, opened_count, opened_types}
+use Rattle.pict_infer.proofs.Growing.{environment, grew_types, opened_types}
 use Rattle.pict_infer.proofs.MadeKnown.{formed_in, grew_twice, own_then_parts, without_values}
 use Rattle.pict_infer.proofs.TakenBack.{IsTakenBack, taken_back}
 use Rattle.pict_infer.proofs.Unused.{pattern_passes, fields_pass}
+use Rattle.pict_rules.proofs.OwnBinders.{opened_count}
 
 pub giving_alone : (e : Environment) (p : Pat) → IsWellAsked pattern_ e (pattern_gives p) → IsWellAsked pattern_ (without_values e) (pattern_gives p)
 giving_alone e p a = record { labels = a.labels; regular = record { entries = a.regular.entries; known = tt }; asked = tt }
