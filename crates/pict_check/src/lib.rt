@@ -1,4 +1,5 @@
-//! The checker: a program is typed, or refused at its one stuck place.
+//! The steps of the checker, each of which answers what the rule that ends with it gives. The calls on whole values,
+//! processes and programs aren't there yet.
 #![tactic(auto)]
 
 mod fields;
