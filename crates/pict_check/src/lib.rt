@@ -4,6 +4,8 @@
 mod fields;
 mod folds;
 mod functions;
+mod nested;
+mod operators;
 mod parts;
 mod records;
 mod spans;
