@@ -16,6 +16,7 @@ use Rattle.pict_infer.specs.Answering.{IsRefused, IsStopped}
 use Rattle.pict_check.specs.Judging.{IsFor, IsRefusedFor}
 use Rattle.pict_check.specs.Lines.{fields_end, application_end}
 use Rattle.pict_check.specs.Chains.{Operator, head, two, IsHead, nested_left, before_fields, wanted_first, room_stop, field_lines, IsBegun, AreBegun, wanted_within}
+use Rattle.pict_check.proofs.Rights.{one_longer}
 use Rattle.pict_check.proofs.Applying.{Field1, Both, On, field_by, after_by, refused_by, roomless_by, both_ok, both_first, both_second, both_end, on_ok, on_fields, on_end, for_on, for_refused}
 
 -- the application to the first n values
@@ -131,12 +132,8 @@ pub record IsTurn (e e' : Environment) (s : Span) (f : Id) (o : Operator) (vs : 
   pub inner : IsFor e (Taken s f n vs) (wanted_within o x all) given
   pub same : e' ≡ e
 
-longer_by : (fs : List Found) (g : Found) → length (fs ++ g ∷ []) ≡ suc (length fs)
-longer_by [] g = refl
-longer_by (f ∷ fs) g = ap suc (longer_by fs g)
-
 pub turn_count : {e e' : Environment} {s : Span} {f : Id} {o : Operator} {vs : List Val} {x : Option PlainType} {all fs : List Found} {g : Found} {n : ℕ} {at : Span} {given : Option PlainType} → IsTurn e e' s f o vs x all fs g n at given → suc n + length fs ≡ length vs
-turn_count {fs = fs} {g = g} p = omega (arith, p.count, ap length p.items, longer_by fs g)
+turn_count {fs = fs} {g = g} p = omega (arith, p.count, ap length p.items, one_longer fs g)
 
 pub turn_begun : {e e' : Environment} {s : Span} {f : Id} {o : Operator} {vs : List Val} {x : Option PlainType} {all fs : List Found} {g : Found} {n : ℕ} {at : Span} {given : Option PlainType} → IsTurn e e' s f o vs x all fs g n at given → AreBegun e s o x (fs ++ g ∷ [])
 turn_begun {e = e} {s = s} {o = o} {x = x} p = subst (AreBegun e s o x) p.items p.begun

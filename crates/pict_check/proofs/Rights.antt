@@ -158,7 +158,7 @@ pub record IsLevel (e e' : Environment) (s : Span) (f : Id) (o : Operator) (vs :
   pub inner : IsFor e (nested s f (drop (length all) vs)) (wanted_inside o x all) given
   pub same : e' ≡ e
 
-one_longer : (fs : List Found) (g : Found) → length (fs ++ g ∷ []) ≡ suc (length fs)
+pub one_longer : (fs : List Found) (g : Found) → length (fs ++ g ∷ []) ≡ suc (length fs)
 one_longer [] g = refl
 one_longer (f ∷ fs) g = ap suc (one_longer fs g)
 
