@@ -33,7 +33,7 @@ use Rattle.pict_check.proofs.Ends.{answer_past, ends_with, past, past_refused, r
 -- APPLICATIONS
 
 -- the head may not be applied
-no_function : {t : Sort} (o : Option Function) (at : Span) (k : Function → Rule t) (y : InferError) → IsRefused {s = nothing_} (need_function o Y8 at (λ f. done)) y → IsRefused (need_function o Y8 at k) y
+pub no_function : {t : Sort} (o : Option Function) (at : Span) (k : Function → Rule t) (y : InferError) → IsRefused {s = nothing_} (need_function o Y8 at (λ f. done)) y → IsRefused (need_function o Y8 at k) y
 no_function None at k (Named c i) refuse_ = refuse_
 no_function None at k Memory h = tt
 no_function (Some f) at k (Named c i) h = elim h [ ]

@@ -13,3 +13,13 @@ pub mod Written
 pub mod Finding
 pub mod HeadForms
 pub mod Forms
+pub mod Applying
+pub mod Rights
+pub mod Lefts
+pub mod Heads
+pub mod AppliedAsked
+pub mod NestedAsked
+pub mod NestedFormed
+pub mod NestedForms
+pub mod NestedLevels
+pub mod Frames

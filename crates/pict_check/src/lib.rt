@@ -5,6 +5,8 @@
 mod fields;
 mod folds;
 mod functions;
+mod nested;
+mod operators;
 mod parts;
 mod records;
 mod spans;

@@ -66,7 +66,7 @@ slot_formed e (open_slot (Below t)) h = tt
 slot_formed e (open_slot (Operator n)) h = tt
 slot_formed e (filled a) h = h.0
 
-found_formed : (e : Environment) (f : Found) → FoundFits e f → ArgsAreWellFormed e.names (kinds_in e) (map argument_in f)
+pub found_formed : (e : Environment) (f : Found) → FoundFits e f → ArgsAreWellFormed e.names (kinds_in e) (map argument_in f)
 found_formed e [] h = tt
 found_formed e (x ∷ f) h = (slot_formed e x (h.0, tt), found_formed e f h.1)
 
@@ -92,14 +92,14 @@ of_its_kind (filled (Op m s)) Free h = absurd cc
 of_its_kind (filled (Op m s)) (Below t) h = absurd cc
 of_its_kind (filled (Op m s)) (Operator n) h = cc
 
-fit_fields : (f : Found) (bs : PlainBounds) → kinds_found f ≡ kinds_of_fields bs → FitTheirFields (map argument_in f) bs
+pub fit_fields : (f : Found) (bs : PlainBounds) → kinds_found f ≡ kinds_of_fields bs → FitTheirFields (map argument_in f) bs
 fit_fields [] no_bound h = tt
 fit_fields [] (bounds b bs) h = absurd cc
 fit_fields (x ∷ f) no_bound h = absurd cc
 fit_fields (x ∷ f) (bounds b bs) h = (of_its_kind x b (head_same h), fit_fields f bs (tail_same h))
 
 -- under the record's type fields are the kinds of what is found
-fields_kinds : (ks : List Kind) (f : Found) (bs : PlainBounds) → kinds_found f ≡ kinds_of_fields bs → kinds_under ks bs ≡ kinds_within ks f
+pub fields_kinds : (ks : List Kind) (f : Found) (bs : PlainBounds) → kinds_found f ≡ kinds_of_fields bs → kinds_under ks bs ≡ kinds_within ks f
 fields_kinds ks [] no_bound h = refl
 fields_kinds ks [] (bounds b bs) h = absurd cc
 fields_kinds ks (x ∷ f) no_bound h = absurd cc
@@ -234,7 +234,7 @@ answer_taken ns ks (Rec t) w = tt
 function_taken : (e : Environment) (r : PlainType) → IsTypeIn e r → FunctionFormed e (function_by (λ bs. respond_or_write) r)
 function_taken e r w = function_formed e (λ bs. respond_or_write) r w (λ bs u h k. answer_taken e.names (kinds_under (kinds_in e) bs) u k)
 
-applied_formed : (e : Environment) (t : PlainType) → IsTypeIn e t → FunctionFormed e (applicable t)
+pub applied_formed : (e : Environment) (t : PlainType) → IsTypeIn e t → FunctionFormed e (applicable t)
 applied_formed e Top w = tt
 applied_formed e Int w = tt
 applied_formed e Char w = tt
