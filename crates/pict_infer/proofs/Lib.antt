@@ -19,3 +19,6 @@ pub mod Taking
 pub mod Handed
 pub mod Closed
 pub mod Uses
+pub mod GivingLines
+pub mod GivingAsked
+pub mod MadeGiven

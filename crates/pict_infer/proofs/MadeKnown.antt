@@ -69,7 +69,7 @@ pattern_may old mid p t x a r q b = record {
 pub same_known : (e : Env) (ns : List (List ℕ)) (c : PlainContext) → ns ≡ known_names e → c ≡ known_entries e → (let d : Environment = record { names = ns; context = c; values = known_values (length (variables c)) e.values.items } in d) ≡ environment_of e
 same_known e ns c p q = environment ns (known_names e) c (known_entries e) _ _ p q (ap (λ z. known_values (length (variables z)) e.values.items) q)
 
-grew_twice : (old mid new : Env) → GrewFrom old mid → GrewFrom mid new → GrewFrom old new
+pub grew_twice : (old mid new : Env) → GrewFrom old mid → GrewFrom mid new → GrewFrom old new
 grew_twice old mid new g h = record {
   texts = h.texts ∙ g.texts;
   inner = h.inner ++ g.inner;

@@ -47,6 +47,11 @@ pub record HasGrownFrom (p : Place) (now : Env) : Type 0 where
   pub place : IsPlaceOf p before
   pub grew : GrewFrom before now
 
+-- as much is known as before
+pub record IsAsBefore (old new : Env) : Type 0 where
+  pub known : environment_of new ≡ environment_of old
+  pub items : new.values.items ≡ old.values.items
+
 -- what a pattern adds here: its type variables are well formed
 pub record MayBeAdded (e : Env) (x : Added) : Type 0 where
   pub base : x.base ≡ length (type_context e.context)

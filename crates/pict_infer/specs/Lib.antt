@@ -9,5 +9,7 @@ pub mod Steps
 pub mod Shaping
 pub mod Opening
 pub mod Patterns
+pub mod Giving
+pub mod Given
 pub mod Ordering
 pub mod Against

@@ -7,6 +7,8 @@ mod binders;
 mod env;
 mod error;
 mod formed;
+mod given;
+mod giving;
 mod known;
 mod labels;
 mod patterns;
@@ -18,6 +20,8 @@ pub use error::InferError;
 pub use formed::{
     annotated, as_record, below, expanded, followed, recursive, shown, unfolded, within_limits,
 };
+pub use given::{close_fields, fields_give, open_fields, pattern_gives, typed_pattern};
+pub use giving::{Typed, TypedFields};
 pub use known::{Binder, Known};
 pub use labels::labelled_type;
 pub use patterns::{fields_against, open_fields_against, pattern_against};
