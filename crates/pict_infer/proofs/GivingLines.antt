@@ -135,9 +135,6 @@ record_typed e s f g t x p is h k =
     (gives_this {s = pattern_} (record { has = fields_type g; adds = within g.own g.adds }) (record { has = t; adds = x }) (ap₂ (λ (u : PlainType) (w : Extension). let q : TypedPattern = record { has = u; adds = w } in q) (sym is) (sym k))))
 
 -- the fields: the type binders, then the positional ones, then the labelled ones
-abbrev and_positional : Environment → List KnownType → TypedPatterns → LabelledPats → Rule fields_
-and_positional e own g ls = part (with_own e own) (labelled_patterns_give ls) (λ h. give (record { own = own; positional = g.have; labelled = h.have; adds = joined g.adds h.adds }))
-
 pub binders_refused : (e : Environment) (bs : TypeBinders) (ps : Pats) (ls : LabelledPats) (y : InferError) → IsRefused (rule e (binders_give bs)) y → IsRefused (rule e (fields_give (field_pats bs ps ls))) y
 binders_refused e bs ps ls (Named c i) h = part_stuck h
 binders_refused e bs ps ls Memory h = tt
