@@ -1,33 +1,29 @@
 -- What the rules of patterns against a type ask of their parts.
-use Rattle.std.proofs.Common.{◌≡◌, ◌<◌, ◌≤◌, ◌+◌, ℕ, zero, suc, nat_eq, List, [], ◌∷◌, ◌++◌, length, take, drop, get_or, Option, Some, None, refl, sym, ◌∙◌, ap, subst, arith, eq-eqb}
-use Rattle.pict_syntax.specs.declared.code.Code.{Code}
+use Rattle.std.proofs.Common.{◌≡◌, ◌<◌, ℕ, zero, suc, List, [], ◌∷◌, length, get_or, Option, Some, sym, ap, subst, arith, eq-eqb}
 use Rattle.pict_syntax.specs.declared.code.Code.TheVariants.{Y5}
 use Rattle.pict_syntax.specs.declared.span.Span.{Span}
-use Rattle.pict_syntax.specs.declared.name.Name.{Name}
 use Rattle.pict_syntax.specs.declared.pattern.Pat.{Pat as RPat}
-use Rattle.pict_syntax.specs.declared.pattern.LabelledPat.{LabelledPat as RLabelledPat}
-use Rattle.pict_syntax.specs.Trees.{FieldPats, field_pats, TypeBinders, Pats, no_pats, more_pats, LabelledPats, no_labelled_pats, more_labelled_pats, RType, Pat, fields_pat, fold_pat}
-use Rattle.pict_syntax.specs.PlainTrees.{pat_of, pats_on, labelled_pats_on}
+use Rattle.pict_syntax.specs.Trees.{FieldPats, field_pats, TypeBinders, Pats, no_pats, LabelledPats, RType, Pat, fields_pat, fold_pat}
+use Rattle.pict_syntax.specs.PlainTrees.{pat_of, pats_on}
 use Rattle.pict_types.specs.declared.types.Ty.{Ty}
-use Rattle.pict_types.specs.Types.{PlainType, Fields, PlainTypes, PlainLabels, PlainBounds, count_bounds, count_types, type_at}
-use Rattle.pict_types.specs.Kinds.{Kind, AreWellFormed, IsWellFormed, LabelsAreWellFormed}
+use Rattle.pict_types.specs.Types.{PlainType, Fields, PlainTypes, PlainLabels, PlainBounds, count_bounds, count_types}
+use Rattle.pict_types.specs.Kinds.{Kind, IsWellFormed}
 use Rattle.pict_types.specs.Plain.{plain, plain_types}
 use Rattle.pict_sub.specs.Exposing.{exposure}
-use Rattle.pict_scope.specs.DistinctLabels.{LabelledPatsAreDistinct, PatHasDistinctLabels, PatsHaveDistinctLabels}
 use Rattle.pict_rules.specs.Counts.{count_binders, count_pats}
 use Rattle.pict_rules.specs.Shapes.{nth_type}
-use Rattle.pict_rules.specs.Environments.{Environment, Extension, KnownType, context_of, joined, within}
-use Rattle.pict_rules.specs.Rules.{Sort, binders_, extension_, opened_, Judgement, Rule, OpenedFields, binders_against, ensure, fields_against, give, labelled_patterns_against, ok, part, pattern_against, patterns_against, refuse}
+use Rattle.pict_rules.specs.Environments.{Environment, Extension, KnownType, context_of, within}
+use Rattle.pict_rules.specs.Rules.{Sort, binders_, extension_, opened_, Judgement, binders_against, fields_against, give, labelled_patterns_against, ok, part, pattern_against, patterns_against, refuse}
 use Rattle.pict_rules.specs.Clauses.{if_record, with_own}
 use Rattle.pict_rules.specs.Reached.{Asks, this_part, past_part}
 use Rattle.pict_rules.specs.Regular.{IsTypeIn, kinds_in}
 use Rattle.pict_rules.specs.Typing.{rule}
 use Rattle.pict_rules.specs.Derivations.{Runs}
 use Rattle.pict_rules.proofs.RegularPatterns.{number_formed}
-use Rattle.pict_rules.proofs.Regularity.{IfFormed, label_formed}
+use Rattle.pict_rules.proofs.Regularity.{IfFormed}
 use Rattle.pict_infer.specs.Asking.{IsWellAsked}
 use Rattle.pict_infer.proofs.Asked.{asked_of}
-use Rattle.pict_infer.proofs.PatternPlaces.{labelled_distinct, pat_distinct}
+use Rattle.pict_infer.proofs.PatternPlaces.{pat_distinct}
 use Rattle.pict_infer.proofs.PatternLines.{after_counts}
 
 -- a record pattern asks of its fields
@@ -83,12 +79,3 @@ pattern_asked e d xs ts i p t a h is k at same =
 -- one labelled pattern of a list
 pub formed_at : (ns : List (List ℕ)) (ks : List Kind) (o : Option PlainType) (t : PlainType) → o ≡ Some t → IfFormed ns ks o → IsWellFormed ns ks t
 formed_at ns ks o t is h = subst (λ z. IfFormed ns ks z) is h
-
-pub label_asked : (e d : Environment) (xs : List RLabelledPat) (ms : PlainLabels) (i : ℕ) (l : RLabelledPat) (t : PlainType) → IsWellAsked extension_ e (labelled_patterns_against (labelled_pats_on no_labelled_pats xs) ms) → i < length xs → l ≡ get_or xs i l → type_at l.label.name.0 ms ≡ Some t → d ≡ e
-    → IsWellAsked extension_ d (pattern_against (pat_of l.pat) t)
-label_asked e d xs ms i l t a h is at same =
-    subst (λ z. IsWellAsked extension_ z (pattern_against (pat_of l.pat) t)) (sym same) (record {
-      labels = labelled_distinct xs i l h is a.labels;
-      regular = a.regular;
-      asked = formed_at e.names (kinds_in e) (type_at l.label.name.0 ms) t at (label_formed e.names (kinds_in e) l.label.name.0 ms a.asked);
-    })

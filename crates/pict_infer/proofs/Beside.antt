@@ -1,18 +1,16 @@
 -- Values and type variables of patterns side by side.
-use Rattle.std.proofs.Common.{◌≡◌, ℕ, zero, suc, ◌+◌, ◌-◌, ◌<◌, ◌≤◌, List, [], ◌∷◌, ◌++◌, length, max, refl, sym, ◌∙◌, ap, ap₂, arith}
-use Rattle.std.proofs.lemmas.List.{append_assoc}
-use Rattle.pict_syntax.specs.declared.id.Id.{Id}
-use Rattle.pict_types.specs.Types.{PlainType, PlainBound}
-use Rattle.pict_types.specs.Plain.{plain, plain_bound}
-use Rattle.pict_types.specs.Renaming.{rename, rename_bound, moved}
-use Rattle.pict_rules.specs.Environments.{Extension, KnownType, KnownValue, joined, moved_binders, no_extension, one_value, opened, rename_values, shifted_by}
+use Rattle.std.proofs.Common.{◌≡◌, ℕ, ◌+◌, ◌-◌, ◌≤◌, List, [], ◌∷◌, ◌++◌, length, refl, sym, ◌∙◌, ap, ap₂, arith}
+use Rattle.pict_types.specs.Types.{PlainType}
+use Rattle.pict_types.specs.Plain.{plain}
+use Rattle.pict_types.specs.Renaming.{rename, moved}
+use Rattle.pict_rules.specs.Environments.{Extension, KnownType, KnownValue, joined, moved_binders, opened, rename_values, shifted_by}
 use Rattle.pict_infer.specs.declared.known.Known.{Known}
 use Rattle.pict_infer.specs.declared.known.Binder.{Binder}
 use Rattle.pict_infer.specs.declared.added.Added.{Added}
-use Rattle.pict_infer.specs.Knowing.{known_value, known_values, known_type, known_types, deepest}
+use Rattle.pict_infer.specs.Knowing.{known_value, known_values, known_types, deepest}
 use Rattle.pict_infer.specs.Beside.{IsMovedPast, AreSideBySide}
 use Rattle.pict_infer.specs.Adding.{extension_of}
-use Rattle.pict_infer.proofs.Depths.{unmoved, kept_joins, kept_outside, values_more, types_more, types_length, deepest_one, values_opened}
+use Rattle.pict_infer.proofs.Depths.{unmoved, kept_joins, kept_outside, values_more, types_length, deepest_one, values_opened}
 
 -- a value that no variable comes before
 pub past_none : (base more : ℕ) (v : Known) → v.depth ≤ base + more → IsMovedPast base 0 more v v
@@ -58,17 +56,6 @@ one_beside base k more outer inner all v w m h = record {
   where
     head : known_value (base + (k + more)) w ≡ record { name = v.name.0; has = rename (moved k more) (known_value (base + more) v).has }
     head = ap₂ (λ (n : ℕ) (t : PlainType). let z : KnownValue = record { name = n; has = t } in z) m.names m.types_
-
--- one more binder goes past k others
-pub binder_beside : (k from : ℕ) (outer inner all : List Binder) (b d : Binder) → length all ≡ k + length inner → from ≡ length all - k → known_types all ≡ moved_binders k (known_types inner) ++ known_types outer → d.name.0 ≡ b.name.0 → plain_bound d.bound ≡ rename_bound (moved k from) (plain_bound b.bound) → known_types (all ++ d ∷ []) ≡ moved_binders k (known_types (inner ++ b ∷ [])) ++ known_types outer
-binder_beside k from outer inner all b d n f h p q =
-    types_more all d ∙ ap₂ (λ (z : KnownType) (zs : List KnownType). z ∷ zs) head h ∙ sym (ap (λ z. moved_binders k z ++ known_types outer) (types_more inner b))
-  where
-    count : from ≡ length (known_types inner)
-    count = omega (arith, n, f, types_length inner)
-
-    head : known_type d ≡ record { name = b.name.0; bound = rename_bound (moved k (length (known_types inner))) (plain_bound b.bound) }
-    head = ap₂ (λ (m : ℕ) (u : PlainBound). let z : KnownType = record { name = m; bound = u } in z) p (q ∙ ap (λ i. rename_bound (moved k i) (plain_bound b.bound)) count)
 
 pub extension : (bs cs : List KnownType) (vs ws : List KnownValue) → bs ≡ cs → vs ≡ ws → (let x : Extension = record { binders = bs; values = vs } in x) ≡ record { binders = cs; values = ws }
 extension bs cs vs ws p q = ap₂ (λ (b : List KnownType) (v : List KnownValue). let z : Extension = record { binders = b; values = v } in z) p q

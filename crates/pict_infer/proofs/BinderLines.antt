@@ -1,23 +1,20 @@
 -- The own type binders of a pattern or of a function: what is written, and what is opened.
-use Rattle.std.proofs.Common.{◌≡◌, ◌≢◌, ◌<◌, ◌≤◌, ◌+◌, ◌↔◌, ℕ, zero, suc, Bool, true, false, if◌then◌else◌, IsTrue, List, [], ◌∷◌, ◌++◌, length, take, drop, get_or, Option, Some, None, refl, sym, ◌∙◌, ap, ap₂, subst, arith}
-use Rattle.pict_syntax.specs.declared.code.Code.TheVariants.{K3, Y16}
-use Rattle.pict_syntax.specs.declared.id.Id.{Id}
+use Rattle.std.proofs.Common.{◌≡◌, Bool, true, false, if◌then◌else◌, Option, None, refl, sym, ap₂, subst}
+use Rattle.pict_syntax.specs.declared.code.Code.TheVariants.{Y16}
 use Rattle.pict_syntax.specs.declared.span.Span.{Span}
 use Rattle.pict_syntax.specs.declared.type_tree.KindTree.{KindTree}
 use Rattle.pict_syntax.specs.declared.type_tree.TypeBinder.{TypeBinder as RTypeBinder}
 use Rattle.pict_syntax.specs.PlainTrees.{binder_of, held_bound}
-use Rattle.pict_syntax.specs.Trees.{Bound, unbounded, bound, TypeBinder, type_binder, TypeTree}
-use Rattle.pict_types.specs.Types.{PlainType, Top, Int, Char, Str, Boolean, Var, Apply, Chan, Fields, Rec, PlainBound, Free, Below, Operator, is_top}
+use Rattle.pict_syntax.specs.Trees.{Bound, unbounded, bound, TypeBinder, type_binder}
+use Rattle.pict_types.specs.Types.{PlainType, PlainBound, is_top}
 use Rattle.pict_types.specs.Replacing.{bound_by}
-use Rattle.pict_types.specs.Entries.{PlainContext}
-use Rattle.pict_normal.specs.Normal.{Stop, normal, normal_bound, kind_stops, size_stop, first_stop, bound_stops}
+use Rattle.pict_normal.specs.Normal.{normal, normal_bound}
 use Rattle.pict_rules.specs.Shapes.{kind_agrees, written_bound}
 use Rattle.pict_rules.specs.Environments.{Environment}
-use Rattle.pict_rules.specs.Rules.{Rule, nothing_, need, is_same, ok, stuck, ensure}
+use Rattle.pict_rules.specs.Rules.{nothing_, need, is_same, ok, stuck, ensure}
 use Rattle.pict_rules.specs.Clauses.{done, need_same_bound, stop_of_binder, written_kind, binder_span}
 use Rattle.pict_rules.specs.Derivations.{Runs, give_, refuse_, met, failed}
 use Rattle.pict_infer.specs.declared.error.InferError.{InferError}
-use Rattle.pict_infer.specs.declared.error.InferError.TheVariants.{Named, Memory}
 use Rattle.pict_infer.specs.Answering.{IsRefused, IsStopped}
 use Rattle.pict_infer.specs.Opening.{binder_agrees, bound_or_free, expanded_bound, IsTheSame, SaysTheSame}
 use Rattle.pict_infer.proofs.Forming.{clear, stopped}

@@ -1,5 +1,5 @@
 -- The own type variables of a record pattern are taken back.
-use Rattle.std.proofs.Common.{◌≡◌, ◌≤◌, ◌+◌, ℕ, List, [], ◌++◌, length, refl, sym, ◌∙◌, ap, ap₂, arith}
+use Rattle.std.proofs.Common.{◌≡◌, ◌≤◌, ◌+◌, ℕ, List, [], ◌++◌, length, refl, sym, ◌∙◌, ap, arith}
 use Rattle.pict_types.specs.declared.context.Context.{Context}
 use Rattle.pict_types.specs.Entries.{PlainContext, variables}
 use Rattle.pict_types.specs.PlainContext.{names_of, plain_context, type_context}
@@ -7,7 +7,7 @@ use Rattle.pict_rules.specs.Environments.{Environment, KnownType, entries_of}
 use Rattle.pict_rules.specs.Clauses.{with_own}
 use Rattle.pict_infer.specs.declared.known.Binder.{Binder}
 use Rattle.pict_infer.specs.Knowing.{known_types}
-use Rattle.pict_infer.specs.Places.{IsUnderVariables, environment_in}
+use Rattle.pict_infer.specs.Places.{environment_in}
 use Rattle.pict_infer.proofs.Depths.{types_length}
 use Rattle.pict_infer.proofs.Growing.{environment}
 use Rattle.pict_infer.proofs.OpenedBinders.{alone}
@@ -23,10 +23,6 @@ pub closed : (n0 n1 n2 : List (List ℕ)) (c0 c1 c2 : PlainContext) (own taken :
 closed n0 n1 n2 c0 c1 c2 own taken i t l n =
     let b = taken_back c0 own taken c1 c2 (ap (λ (z : Environment). z.context) i) t l in
     record { own_ = b.own_; same = environment n2 n0 c2 c0 [] [] (n ∙ ap (λ (z : Environment). z.names) i) b.left_ refl }
-
--- type variables are open there
-pub open_under : (n0 n1 : List (List ℕ)) (c0 c1 : PlainContext) (own : List KnownType) (left : ℕ) → alone n1 c1 ≡ with_own (alone n0 c0) own → left ≡ length c0 → IsUnderVariables left c1
-open_under n0 n1 c0 c1 own left i l = record { own = own; outer = c0; all = ap (λ (z : Environment). z.context) i; count = l }
 
 -- so many more than before
 pub more_open : (n0 n1 : List (List ℕ)) (c0 c1 : PlainContext) (own : List KnownType) (taken : List Binder) → alone n1 c1 ≡ with_own (alone n0 c0) own → known_types taken ≡ own → length (variables c1) ≡ length (variables c0) + length taken

@@ -8,7 +8,7 @@ use Rattle.pict_types.specs.Renaming.{rename, rename_bound, moved, plus}
 use Rattle.pict_types.proofs.Entries.{last_first}
 use Rattle.pict_types.proofs.Moving.{times_low, times_high}
 use Rattle.pict_types.proofs.Renamed.{Stays, stays_beyond, rename_same, bound_same, renamed_twice, renamed_alike}
-use Rattle.pict_rules.specs.Environments.{KnownType, KnownValue, rename_values, shifted_by}
+use Rattle.pict_rules.specs.Environments.{KnownValue, rename_values, shifted_by}
 use Rattle.pict_infer.specs.declared.known.Known.{Known}
 use Rattle.pict_infer.specs.declared.known.Binder.{Binder}
 use Rattle.pict_infer.specs.Knowing.{known_value, known_values, known_type, known_types, names_known, deepest}

@@ -1,8 +1,7 @@
 -- Steps that form types: expansion, limits, subtypes and unfoldings.
-use Rattle.std.proofs.Common.{◌≡◌, ◌≤◌, ◌<◌, ℕ, Bool, true, false, List, [], ◌∷◌, Option, Some, None, refl, sym, ◌∙◌, ap, subst, arith, ◌≢◌, ◌↔◌, ◌||◌, if◌then◌else◌}
+use Rattle.std.proofs.Common.{◌≡◌, ◌≤◌, ◌<◌, ℕ, Bool, true, false, Option, Some, None, refl, sym, ◌∙◌, ap, subst, arith, ◌≢◌, ◌↔◌, ◌||◌, if◌then◌else◌}
 use Rattle.std.specs.Prelude.{nat_lt, IfNone, IfSome}
-use borrow.Author.Tests.{ltb-true, ltb-false}
-use Rattle.pict_syntax.specs.declared.code.Code.{Code}
+use borrow.Author.Tests.{ltb-true}
 use Rattle.pict_syntax.specs.declared.code.Code.TheVariants.{K4, Y13}
 use Rattle.pict_syntax.specs.declared.span.Span.{Span}
 use Rattle.pict_types.specs.Types.{PlainType, Top, Int, Char, Str, Boolean, Var, Apply, Chan, Fields, Rec, TypeContext}
@@ -23,7 +22,7 @@ use Rattle.pict_normal.proofs.Expanded.{too_big}
 use Rattle.pict_sub.specs.Exposing.{exposure}
 use Rattle.pict_sub.specs.Shapes.{shape_of, variable}
 use Rattle.pict_sub.proofs.Followed.{not_variable}
-use Rattle.pict_rules.specs.Rules.{Sort, nothing_, type_, Result, Rule, Answer, give, refuse, ok, stuck, unless_stopped}
+use Rattle.pict_rules.specs.Rules.{Sort, type_, Rule, Answer, give, ok, stuck, unless_stopped}
 use Rattle.pict_rules.specs.Clauses.{done, need_recursive}
 use Rattle.pict_rules.specs.Derivations.{Runs, give_, refuse_}
 use Rattle.pict_infer.specs.declared.error.InferError.{InferError}

@@ -1,10 +1,8 @@
 -- What each form of a pattern stands for, and lists of patterns.
-use Rattle.std.proofs.Common.{◌≡◌, ℕ, zero, suc, ◌+◌, ◌<◌, ◌≤◌, List, [], ◌∷◌, Option, Some, None, ◌++◌, length, take, drop, get_or, refl, sym, ◌∙◌, ap, Box, Global, arith, add-one, take-suc}
-use Rattle.std.proofs.lemmas.List.{take-append-drop, take_all}
+use Rattle.std.proofs.Common.{◌≡◌, ℕ, ◌+◌, ◌<◌, List, [], ◌∷◌, None, ◌++◌, length, take, get_or, refl, sym, ◌∙◌, ap, Box, Global, arith, add-one, take-suc}
 use Rattle.pict_syntax.specs.declared.span.Span.{Span}
 use Rattle.pict_syntax.specs.declared.id.Id.{Id}
 use Rattle.pict_syntax.specs.declared.type_tree.RType.{RType}
-use Rattle.pict_syntax.specs.declared.type_tree.TypeTree.{TypeTree}
 use Rattle.pict_syntax.specs.declared.type_tree.TypeBinder.{TypeBinder}
 use Rattle.pict_syntax.specs.declared.pattern.Pat.{Pat, Bind, Any, Fields, Fold}
 use Rattle.pict_syntax.specs.declared.pattern.Pat.TheViews.{out-FieldPats, roll-out-FieldPats}
@@ -12,7 +10,7 @@ use Rattle.pict_syntax.specs.declared.pattern.FieldPats.{FieldPats}
 use Rattle.pict_syntax.specs.declared.pattern.LabelledPat.{LabelledPat}
 use Rattle.pict_syntax.specs.Trees as trees
 use Rattle.pict_syntax.specs.Trees.{bind_pat, any_pat, fields_pat, fold_pat, field_pats, no_binders, more_binders, no_pats, more_pats, no_labelled_pats, more_labelled_pats}
-use Rattle.pict_syntax.specs.PlainTrees.{annotation_of, held_annotation, type_of, pat_of, field_pats_of, binder_of, binders_on, pats_on, labelled_pats_on}
+use Rattle.pict_syntax.specs.PlainTrees.{annotation_of, held_annotation, pat_of, field_pats_of, binder_of, binders_on, pats_on, labelled_pats_on}
 use Rattle.pict_syntax.proofs.PatternLists.{pats_more, labelled_pats_more, field_pats_is}
 use Rattle.pict_syntax.proofs.TypeLists.{binders_more}
 use Rattle.pict_types.specs.declared.types.Bound.{Bound}
@@ -42,9 +40,6 @@ fold_is p s r q is = ap pat_of is
 -- an annotation that is there, and one that isn't
 pub not_annotated : (r : RType) → r.of ≡ None → annotation_of r ≡ None
 not_annotated r is = ap held_annotation is
-
-pub annotated_by : (r : RType) (t : Box TypeTree Global) → r.of ≡ Some t → annotation_of r ≡ Some (type_of t.value)
-annotated_by r t is = ap held_annotation is
 
 pub parts_are : (f : FieldPats) → field_pats_of f ≡ field_pats (binders_on no_binders (out-FieldPats f).binders.items) (pats_on no_pats (out-FieldPats f).positional.items) (labelled_pats_on no_labelled_pats (out-FieldPats f).labelled.items)
 parts_are f = ap field_pats_of (sym (roll-out-FieldPats f)) ∙ field_pats_is (out-FieldPats f).binders (out-FieldPats f).positional (out-FieldPats f).labelled

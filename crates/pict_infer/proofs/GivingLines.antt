@@ -1,5 +1,5 @@
 -- The rules of patterns that give their type, step by step.
-use Rattle.std.proofs.Common.{◌≡◌, ◌<◌, ◌≤◌, ◌+◌, ℕ, List, [], ◌∷◌, ◌++◌, length, take, get_or, Some, None, refl, sym, ◌∙◌, ap, ap₂, subst}
+use Rattle.std.proofs.Common.{◌≡◌, ◌<◌, ◌≤◌, ◌+◌, ℕ, List, [], ◌∷◌, ◌++◌, length, take, get_or, Some, None, sym, ◌∙◌, ap, ap₂, subst}
 use Rattle.std.proofs.lemmas.List.{take_all}
 use Rattle.pict_syntax.specs.declared.code.Code.TheVariants.{Y13}
 use Rattle.pict_syntax.specs.declared.id.Id.{Id}
@@ -135,9 +135,6 @@ record_typed e s f g t x p is h k =
     (gives_this {s = pattern_} (record { has = fields_type g; adds = within g.own g.adds }) (record { has = t; adds = x }) (ap₂ (λ (u : PlainType) (w : Extension). let q : TypedPattern = record { has = u; adds = w } in q) (sym is) (sym k))))
 
 -- the fields: the type binders, then the positional ones, then the labelled ones
-abbrev and_positional : Environment → List KnownType → TypedPatterns → LabelledPats → Rule fields_
-and_positional e own g ls = part (with_own e own) (labelled_patterns_give ls) (λ h. give (record { own = own; positional = g.have; labelled = h.have; adds = joined g.adds h.adds }))
-
 pub binders_refused : (e : Environment) (bs : TypeBinders) (ps : Pats) (ls : LabelledPats) (y : InferError) → IsRefused (rule e (binders_give bs)) y → IsRefused (rule e (fields_give (field_pats bs ps ls))) y
 binders_refused e bs ps ls (Named c i) h = part_stuck h
 binders_refused e bs ps ls Memory h = tt

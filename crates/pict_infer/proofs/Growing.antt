@@ -1,10 +1,8 @@
 -- Environments that grow, and that are cut back.
-use Rattle.std.proofs.Common.{◌≡◌, ℕ, zero, suc, ◌+◌, ◌-◌, ◌<◌, ◌≤◌, List, [], ◌∷◌, ◌++◌, length, map, reverse, take, drop, max, Result, Ok, Err, refl, sym, ◌∙◌, ap, ap₂, subst, arith}
+use Rattle.std.proofs.Common.{◌≡◌, ℕ, suc, ◌+◌, ◌-◌, ◌<◌, ◌≤◌, List, [], ◌∷◌, ◌++◌, length, map, reverse, take, drop, max, Result, Ok, Err, refl, sym, ◌∙◌, ap, ap₂, arith}
 use Rattle.std.specs.Prelude.{OnOk}
 use Rattle.std.proofs.lemmas.List.{append-nil, append_assoc, length-map, length-reverse, map-append, reverse-append, take_all, take-append-le}
-use Rattle.pict_syntax.specs.declared.id.Id.{Id}
-use Rattle.pict_types.specs.Types.{PlainType, TypeContext}
-use Rattle.pict_types.specs.Plain.{plain, plain_bound}
+use Rattle.pict_types.specs.Plain.{plain_bound}
 use Rattle.pict_types.specs.Renaming.{moved}
 use Rattle.pict_types.specs.Entries.{PlainEntry, PlainContext, Variable, variables, EntryIsWellFormed, EntriesAreWellFormed}
 use Rattle.pict_types.specs.PlainContext.{type_context}
@@ -18,9 +16,8 @@ use Rattle.pict_infer.specs.declared.known.Binder.{Binder}
 use Rattle.pict_infer.specs.declared.added.Added.{Added}
 use Rattle.pict_infer.specs.Knowing.{known_values, known_type, known_types, names_known, deepest}
 use Rattle.pict_infer.specs.Adding.{extension_of}
-use Rattle.pict_infer.specs.Environments.{environment_of, known_entries, known_names, with_value, GrewFrom, HasGrownFrom, IsPlaceOf, MayBeAdded}
-use Rattle.pict_infer.proofs.Depths.{values_more, values_both, types_length, deepest_both, deepest_one, values_opened, names_more}
-use Rattle.pict_infer.proofs.Beside.{value_here}
+use Rattle.pict_infer.specs.Environments.{environment_of, known_entries, known_names, GrewFrom, IsPlaceOf}
+use Rattle.pict_infer.proofs.Depths.{values_both, types_length, deepest_both, values_opened}
 use Rattle.pict_syntax.proofs.ListLemmas.{map_reverse}
 use Rattle.pict_rules.proofs.OwnBinders.{opened_count}
 

@@ -1,14 +1,14 @@
 -- The calls on patterns that give: what is judged without values, and what becomes known.
-use Rattle.std.proofs.Common.{◌≡◌, ◌≤◌, ◌+◌, ℕ, List, [], ◌∷◌, ◌++◌, length, Global, Result, Ok, Err, refl, sym, ◌∙◌, ap, ap₂, subst, arith}
+use Rattle.std.proofs.Common.{◌≡◌, ◌≤◌, ◌+◌, List, [], ◌++◌, length, Global, Result, Ok, Err, sym, ◌∙◌, ap, ap₂, subst, arith}
 use Rattle.std.specs.Prelude.{IfOk, OnErr, OnOk, Vec}
 use Rattle.std.specs.declared.alloc.AllocError.{AllocError}
 use Rattle.pict_syntax.specs.Trees.{Pat, FieldPats}
 use Rattle.pict_types.specs.declared.context.Context.{Context}
 use Rattle.pict_types.specs.Entries.{PlainContext, variables, EntriesAreWellFormed}
-use Rattle.pict_types.specs.PlainContext.{names_of, plain_context, type_context}
-use Rattle.pict_types.specs.Plain.{plain, plain_record}
+use Rattle.pict_types.specs.PlainContext.{plain_context, type_context}
+use Rattle.pict_types.specs.Plain.{plain_record}
 use Rattle.pict_rules.specs.Environments.{Environment, Extension, KnownType, entries_of, extended, within}
-use Rattle.pict_rules.specs.Rules.{pattern_, fields_, ok, stuck, TypedPattern, TypedFields, pattern_gives, fields_give}
+use Rattle.pict_rules.specs.Rules.{pattern_, fields_, ok, stuck, pattern_gives, fields_give}
 use Rattle.pict_rules.specs.Clauses.{with_own}
 use Rattle.pict_rules.specs.Typing.{rule}
 use Rattle.pict_rules.specs.Derivations.{Runs}
@@ -30,7 +30,7 @@ use Rattle.pict_infer.specs.Places.{environment_in, IsUnderVariables}
 use Rattle.pict_infer.specs.Opening.{HasFields}
 use Rattle.pict_infer.specs.Environments.{environment_of, known_entries, known_names, GrewFrom, IsAsBefore, IsPlaceOf, MayBeAdded}
 use Rattle.pict_infer.specs.Giving.{typed_pattern, OpensFields}
-use Rattle.pict_infer.specs.Given.{AreGiven, AreGivenOpen, FieldsOpen, GivesType, HasOpenedOwn, IsClosed, IsGiven, IsTyped, IsUnderOwn, record_given}
+use Rattle.pict_infer.specs.Given.{AreGiven, AreGivenOpen, FieldsOpen, GivesType, HasOpenedOwn, IsClosed, IsGiven, IsTyped, IsUnderOwn}
 use Rattle.pict_infer.proofs.Depths.{types_length}
 use Rattle.pict_infer.proofs.Growing.{environment, grew_types, opened_types}
 use Rattle.pict_infer.proofs.MadeKnown.{formed_in, grew_twice, own_then_parts, without_values}

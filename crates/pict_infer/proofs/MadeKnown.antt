@@ -1,5 +1,5 @@
 -- The calls on environments: what is judged without values, and what becomes known.
-use Rattle.std.proofs.Common.{Result, Ok, Err, ◌≡◌, ◌≤◌, ◌+◌, ℕ, List, [], ◌∷◌, ◌++◌, length, refl, sym, ◌∙◌, ap, ap₂, subst, arith, append_assoc, length-append}
+use Rattle.std.proofs.Common.{Result, Ok, Err, ◌≡◌, ◌+◌, ℕ, List, [], ◌∷◌, ◌++◌, length, refl, sym, ◌∙◌, ap, ap₂, subst, arith, append_assoc, length-append}
 use Rattle.std.specs.Prelude.{IfOk}
 use Rattle.std.specs.Result.{IsErrAnd}
 use Rattle.pict_syntax.specs.declared.name.Name.{Name}
@@ -8,10 +8,9 @@ use Rattle.pict_types.specs.declared.types.Bound.{Bound}
 use Rattle.pict_types.specs.declared.types.Ty.{Ty}
 use Rattle.pict_types.specs.Plain.{plain_bounds, plain_labels, plain_types}
 use Rattle.pict_syntax.specs.Trees.{Pat, FieldPats}
-use Rattle.pict_types.specs.declared.context.Context.{Context}
 use Rattle.pict_types.specs.Types.{PlainType, PlainTypes, PlainLabels, PlainBounds}
 use Rattle.pict_types.specs.Entries.{PlainContext, variables, EntriesAreWellFormed}
-use Rattle.pict_types.specs.PlainContext.{names_of, plain_context, type_context}
+use Rattle.pict_types.specs.PlainContext.{type_context}
 use Rattle.pict_types.specs.Renaming.{moved}
 use Rattle.pict_types.proofs.Renamed.{renamed_twice}
 use Rattle.pict_rules.specs.Environments.{Environment, Extension, KnownType, KnownValue, entries_of, extended, opened, rename_values}
@@ -39,12 +38,6 @@ use Rattle.pict_infer.proofs.Unused.{against_passes, fields_against_pass}
 -- the environment without its values
 abbrev pub without_values : Environment → Environment
 without_values e = record { names = e.names; context = e.context; values = [] }
-
-pub pattern_alone : (e : Environment) (p : Pat) (t : PlainType) → IsWellAsked extension_ e (pattern_against p t) → IsWellAsked extension_ (without_values e) (pattern_against p t)
-pattern_alone e p t a = record { labels = a.labels; regular = record { entries = a.regular.entries; known = tt }; asked = a.asked }
-
-pub fields_alone : (e : Environment) (s : Span) (f : FieldPats) (bs : PlainBounds) (ps : PlainTypes) (ls : PlainLabels) → IsWellAsked opened_ e (fields_against s f bs ps ls) → IsWellAsked opened_ (without_values e) (fields_against s f bs ps ls)
-fields_alone e s f bs ps ls a = record { labels = a.labels; regular = record { entries = a.regular.entries; known = tt }; asked = a.asked }
 
 pub pattern_holds : (e : Environment) (p : Pat) (t : PlainType) (x : Extension) → Runs (rule (without_values e) (pattern_against p t)) (ok x) → Runs (rule e (pattern_against p t)) (ok x)
 pattern_holds e p t x h = (against_passes p (without_values e) e.values t).on (ok x) h

@@ -1,5 +1,5 @@
 -- Type binders that are opened one after the other.
-use Rattle.std.proofs.Common.{◌≡◌, ◌<◌, ◌≤◌, ◌+◌, ℕ, zero, suc, Bool, true, false, if◌then◌else◌, List, [], ◌∷◌, ◌++◌, length, take, drop, get_or, Option, Some, None, refl, sym, ◌∙◌, ap, ap₂, subst, arith}
+use Rattle.std.proofs.Common.{◌≡◌, ◌<◌, ◌≤◌, ◌+◌, ℕ, zero, suc, Bool, true, false, if◌then◌else◌, List, [], ◌∷◌, ◌++◌, length, take, drop, get_or, None, refl, sym, ◌∙◌, ap, subst, arith}
 use Rattle.std.proofs.lemmas.List.{length-take-le, take_all, take-append-drop}
 use Rattle.pict_syntax.specs.declared.code.Code.{Code}
 use Rattle.pict_syntax.specs.declared.code.Code.TheVariants.{Y16}
@@ -34,7 +34,7 @@ use Rattle.pict_infer.specs.Opening.{HasOpened, binder_agrees}
 use Rattle.pict_infer.proofs.Forming.{clear, stopped}
 use Rattle.pict_infer.proofs.Forms.{binders_both, next_binder, count_of_binders, taken}
 use Rattle.pict_infer.proofs.Growing.{environment}
-use Rattle.pict_infer.proofs.Through.{GoesOn, given, refused, refused_past, needed, unstopped}
+use Rattle.pict_infer.proofs.Through.{GoesOn, given, refused, needed, unstopped}
 
 -- the environment of these entries, without values, and the entry of a type variable
 abbrev pub alone : List (List ℕ) → PlainContext → Environment
@@ -107,9 +107,6 @@ one_fits ns ms c c1 xs i b x u h is a o s k =
     let n : KnownType = record { name = b.id.name.0; bound = u } in
     fits_next e (alone ms c1) o.own n a.regular
     (regularity binders_ e (binders_give bs) (n ∷ o.own) (first_labels xs (i + 1) a.labels) a.regular tt (gives_next e (alone ms c1) xs i o.own b u h is o.gives o.inside s k)) o.inside
-
-pub all_opened : (e d : Environment) (xs : List RTypeBinder) (i : ℕ) (x : PlainBounds) → length xs ≤ i → HasOpened e d (rule e (binders_give (binders_on no_binders (take i xs)))) x → HasOpened e d (rule e (binders_give (binders_on no_binders xs))) x
-all_opened e d xs i x h o = subst (λ ys. HasOpened e d (rule e (binders_give (binders_on no_binders ys))) x) (take_all i xs h) o
 
 give_refused_on : (e : Environment) (bs : TypeBinders) (xs : List RTypeBinder) (y : InferError) → IsRefused (rule e (binders_give bs)) y → IsRefused (rule e (binders_give (binders_on bs xs))) y
 unfolding binders_on

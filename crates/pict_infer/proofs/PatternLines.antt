@@ -1,6 +1,5 @@
 -- The rules of patterns against a type, step by step.
-use Rattle.std.proofs.Common.{◌≡◌, ◌<◌, ◌≤◌, ◌+◌, ℕ, zero, suc, nat_eq, eqb-true, Bool, true, false, List, [], ◌∷◌, ◌++◌, length, take, drop, get_or, Option, Some, None, Result, Ok, Err, refl, sym, ◌∙◌, ap, subst, arith, add-one, eq-eqb, Box, Global}
-use Rattle.std.proofs.lemmas.Bool.{eqb-false}
+use Rattle.std.proofs.Common.{◌≡◌, ◌<◌, ◌≤◌, ◌+◌, ℕ, nat_eq, eqb-true, Bool, true, false, List, length, take, get_or, Option, Some, None, Result, Ok, Err, refl, sym, ◌∙◌, ap, subst, arith, eq-eqb}
 use Rattle.std.proofs.lemmas.List.{length-take-le, take_all}
 use Rattle.pict_syntax.specs.declared.code.Code.{Code}
 use Rattle.pict_syntax.specs.declared.code.Code.TheVariants.{Y4, Y5, Y6, Y13}
@@ -13,18 +12,17 @@ use Rattle.pict_syntax.specs.PlainTrees.{pat_of, pats_on, labelled_pats_on}
 use Rattle.pict_syntax.specs.Grammar.{pat_span}
 use Rattle.pict_types.specs.declared.types.Ty.{Ty}
 use Rattle.pict_types.specs.Types.{PlainType, Top, Int, Char, Str, Boolean, Var, Apply, Chan, Fields, Rec, PlainTypes, PlainLabels, PlainBounds, count_types, count_bounds, type_at}
-use Rattle.pict_types.specs.Plain.{plain, plain_types}
-use Rattle.pict_types.specs.Recursion.{IsRecursive, unfolded}
-use Rattle.pict_normal.specs.Normal.{Stop, normal, kind_stop, size_stop}
+use Rattle.pict_types.specs.Plain.{plain}
+use Rattle.pict_types.specs.Recursion.{unfolded}
+use Rattle.pict_normal.specs.Normal.{normal, kind_stop, size_stop}
 use Rattle.pict_sub.specs.Exposing.{exposure}
-use Rattle.pict_sub.specs.Subtyping.{IsSubtype}
 use Rattle.pict_rules.specs.Counts.{count_pats, count_binders}
 use Rattle.pict_rules.specs.Shapes.{nth_type}
 use Rattle.pict_rules.specs.Environments.{Environment, Extension, KnownType, context_of, joined, no_extension, one_value, within}
-use Rattle.pict_rules.specs.Rules.{Sort, nothing_, type_, extension_, opened_, Result as Given, Judgement, Rule, Answer, give, refuse, need, part, ok, stuck, is_subtype, OpenedFields, ensure, pattern_against, fields_against, binders_against, patterns_against, labelled_patterns_against, expand, within_limits, unless_stopped}
-use Rattle.pict_rules.specs.Clauses.{done, if_labelled, if_record, need_recursive, with_own}
+use Rattle.pict_rules.specs.Rules.{Sort, nothing_, type_, extension_, opened_, Result as Given, Judgement, Rule, Answer, give, refuse, need, part, ok, stuck, is_subtype, OpenedFields, ensure, pattern_against, fields_against, binders_against, patterns_against, labelled_patterns_against, within_limits}
+use Rattle.pict_rules.specs.Clauses.{if_labelled, if_record, need_recursive, with_own}
 use Rattle.pict_rules.specs.Typing.{rule}
-use Rattle.pict_rules.specs.Derivations.{Runs, give_, refuse_, met, failed, part_ok, part_stuck}
+use Rattle.pict_rules.specs.Derivations.{Runs, give_, refuse_, part_ok, part_stuck}
 use Rattle.pict_infer.specs.declared.error.InferError.{InferError}
 use Rattle.pict_infer.specs.declared.error.InferError.TheVariants.{Named, Memory}
 use Rattle.pict_infer.specs.Answering.{IsRefused, IsAnswer}

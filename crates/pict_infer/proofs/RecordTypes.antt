@@ -6,7 +6,7 @@ use Rattle.pict_types.specs.declared.types.Ty.{Ty}
 use Rattle.pict_types.specs.declared.types.Ty.TheVariants.{Fields as Fields_}
 use Rattle.pict_types.specs.declared.types.Bound.{Bound}
 use Rattle.pict_types.specs.Plain.{plain, plain_bounds, plain_labels, plain_types}
-use Rattle.pict_types.specs.Types.{PlainType, Fields, no_bound, no_label}
+use Rattle.pict_types.specs.Types.{Fields, no_bound, no_label}
 use Rattle.pict_types.proofs.Rows.{plain_fields}
 
 pub only_positional : (bs : Vec Bound Global) (ps : Vec Ty Global) (ls : Vec (Name × Ty) Global) → bs.items ≡ [] → ls.items ≡ [] → plain (Fields_ (record { binders = bs; positional = ps; labelled = ls })) ≡ Fields no_bound (plain_types ps.items) no_label

@@ -1,8 +1,8 @@
 -- Type variables that are taken back, and what is left.
-use Rattle.std.proofs.Common.{◌≡◌, ℕ, suc, ◌+◌, List, [], ◌∷◌, ◌++◌, length, refl, sym, ◌∙◌, ap, ap₂, arith}
+use Rattle.std.proofs.Common.{◌≡◌, ℕ, ◌+◌, List, [], ◌∷◌, ◌++◌, length, refl, sym, ◌∙◌, ap, ap₂, arith}
 use Rattle.pict_types.specs.Types.{PlainBound}
 use Rattle.pict_types.specs.Entries.{PlainContext, PlainEntry, Variable}
-use Rattle.pict_rules.specs.Environments.{Environment, KnownType, entries_of}
+use Rattle.pict_rules.specs.Environments.{KnownType, entries_of}
 
 length_entries : (bs : List KnownType) (c : PlainContext) → length (entries_of bs ++ c) ≡ length bs + length c
 length_entries [] c = omega arith

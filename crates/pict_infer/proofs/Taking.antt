@@ -1,13 +1,12 @@
 -- The innermost entries, which are type variables, are taken out one after the other.
-use Rattle.std.proofs.Common.{◌≡◌, ◌<◌, ◌≤◌, ◌+◌, ℕ, List, [], ◌∷◌, ◌++◌, length, map, reverse, refl, sym, ◌∙◌, ap, subst, arith}
+use Rattle.std.proofs.Common.{◌≡◌, ◌<◌, ℕ, List, [], ◌∷◌, ◌++◌, length, map, reverse, sym, ◌∙◌, ap, subst, arith}
 use Rattle.std.proofs.lemmas.List.{reverse-reverse}
 use Rattle.pict_types.specs.declared.context.Entry.{Entry}
 use Rattle.pict_types.specs.declared.context.What.{What}
 use Rattle.pict_types.specs.declared.context.What.TheVariants.{Variable as Variable_, Definition as Definition_}
 use Rattle.pict_types.specs.declared.types.Bound.{Bound}
 use Rattle.pict_types.specs.declared.types.Arg.{Arg}
-use Rattle.pict_types.specs.Entries.{PlainEntry, PlainContext, PlainWhat, Variable, Definition}
-use Rattle.pict_types.specs.Plain.{plain_bound}
+use Rattle.pict_types.specs.Entries.{PlainEntry, PlainContext, Variable}
 use Rattle.pict_types.specs.PlainEntries.{plain_entry, plain_what}
 use Rattle.pict_rules.specs.Environments.{KnownType, entries_of}
 use Rattle.pict_infer.specs.declared.known.Binder.{Binder}
@@ -15,13 +14,6 @@ use Rattle.pict_infer.specs.Knowing.{known_type, known_types}
 use Rattle.pict_infer.specs.Places.{IsUnderVariables}
 use Rattle.pict_infer.proofs.Growing.{one_opened}
 use Rattle.pict_syntax.proofs.ListLemmas.{map_reverse}
-
-length_under : (bs : List KnownType) (c : PlainContext) → length c ≤ length (entries_of bs ++ c)
-length_under [] c = omega arith
-length_under (b ∷ bs) c = omega (arith, length_under bs c)
-
-pub at_least : (left : ℕ) (c : PlainContext) → IsUnderVariables left c → left ≤ length c
-at_least left c h = omega (arith, h.count, ap length h.all, length_under h.own h.outer)
 
 under_next : (left : ℕ) (e : PlainEntry) (c : PlainContext) (own : List KnownType) (outer : PlainContext) → e ∷ c ≡ entries_of own ++ outer → left ≡ length outer → left < length (e ∷ c) → IsUnderVariables left c
 under_next left e c [] outer h n l = absurd (omega (arith, n, l, ap length h))

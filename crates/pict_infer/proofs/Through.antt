@@ -1,5 +1,5 @@
 -- Rules that go on after a step, from the rule that ends with it.
-use Rattle.std.proofs.Common.{◌≡◌, Option, Some, None, subst}
+use Rattle.std.proofs.Common.{◌≡◌, Option, Some, None}
 use Rattle.pict_syntax.specs.declared.code.Code.{Code}
 use Rattle.pict_syntax.specs.declared.span.Span.{Span}
 use Rattle.pict_types.specs.Types.{PlainType, Top, Int, Char, Str, Boolean, Var, Apply, Chan, Fields, Rec}

@@ -1,5 +1,5 @@
 -- Patterns use no value: the rules answer the same of them whatever values are known.
-use Rattle.std.proofs.Common.{◌≡◌, ℕ, length, Bool, true, false, if◌then◌else◌, List, [], Option, Some, None}
+use Rattle.std.proofs.Common.{length, Bool, true, false, if◌then◌else◌, List, Option, Some, None}
 use Rattle.pict_syntax.specs.declared.code.Code.{Code}
 use Rattle.pict_syntax.specs.declared.span.Span.{Span}
 use Rattle.pict_syntax.specs.Trees.{Bound, unbounded, bound, TypeBinders, no_binders, more_binders, Pat, bind_pat, any_pat, fields_pat, fold_pat, FieldPats, field_pats, Pats, no_pats, more_pats, LabelledPats, no_labelled_pats, more_labelled_pats}
@@ -9,10 +9,10 @@ use Rattle.pict_normal.specs.Normal.{Stop, normal}
 use Rattle.pict_sub.specs.Exposing.{exposure}
 use Rattle.pict_rules.specs.Environments.{Environment, KnownType, KnownValue, context_of, rename_values}
 use Rattle.pict_rules.specs.Shapes.{written_bound}
-use Rattle.pict_rules.specs.Rules.{Sort, extension_, pattern_, fields_, binders_, patterns_, labelled_patterns_, opened_, Result, Judgement, pattern_gives, fields_give, binders_give, patterns_give, labelled_patterns_give, pattern_against, fields_against, binders_against, patterns_against, labelled_patterns_against, Condition, Rule, give, refuse, need, part, Answer, unless_stopped, ensure}
+use Rattle.pict_rules.specs.Rules.{Sort, extension_, pattern_, fields_, binders_, patterns_, labelled_patterns_, opened_, Result, Judgement, pattern_gives, fields_give, binders_give, patterns_give, labelled_patterns_give, pattern_against, fields_against, binders_against, patterns_against, labelled_patterns_against, Condition, Rule, need, part, Answer, unless_stopped, ensure}
 use Rattle.pict_rules.specs.Clauses.{if_record, need_recursive, if_labelled, need_same_bound, with_own}
 use Rattle.pict_rules.specs.Typing.{rule}
-use Rattle.pict_rules.specs.Derivations.{Runs, give_, refuse_, met, failed, part_ok, part_stuck}
+use Rattle.pict_rules.specs.Derivations.{Runs, met, failed, part_ok, part_stuck}
 
 -- the environment with other values
 abbrev pub with_others : List KnownValue → Environment → Environment

@@ -1,5 +1,5 @@
 -- What an environment of the code stands for, and how it grows.
-use Rattle.std.specs.Prelude.{◌≡◌, ℕ, List, [], ◌∷◌, ◌++◌, length}
+use Rattle.std.specs.Prelude.{◌≡◌, ℕ, List, ◌∷◌, ◌++◌, length}
 use Rattle.pict_syntax.specs.declared.id.Id.{Id}
 use Rattle.pict_types.specs.Types.{PlainType}
 use Rattle.pict_types.specs.Entries.{PlainContext, EntriesAreWellFormed}

@@ -10,17 +10,16 @@ use Rattle.pict_types.specs.Replacing.{bound_by}
 use Rattle.pict_types.specs.declared.types.Ty.{Ty}
 use Rattle.pict_types.specs.declared.types.Bound.{Bound as TheBound}
 use Rattle.pict_syntax.specs.declared.name.Name.{Name}
-use Rattle.pict_types.specs.Plain.{plain, plain_bounds, plain_labels, plain_record, plain_types}
+use Rattle.pict_types.specs.Plain.{plain, plain_bounds, plain_labels, plain_types}
 use Rattle.pict_normal.specs.Normal.{Stop, normal, kind_stops, bound_stops, first_stop}
 use Rattle.pict_rules.specs.Shapes.{bound_size_stop, kind_agrees, written_bound}
 use Rattle.pict_rules.specs.Environments.{Environment, KnownType, bounds_of}
-use Rattle.pict_rules.specs.Rules.{Sort, nothing_, fields_against, binders_, opened_, Judgement, TypedFields, OpenedFields, Rule, ok, fields_give, ensure, unless_stopped}
+use Rattle.pict_rules.specs.Rules.{nothing_, fields_against, binders_, opened_, Judgement, TypedFields, OpenedFields, Rule, ok, fields_give, ensure, unless_stopped}
 use Rattle.pict_rules.specs.Clauses.{done, with_own, stop_of_binder, written_kind, binder_span, need_same_bound}
 use Rattle.pict_rules.specs.Typing.{rule}
 use Rattle.pict_rules.specs.Derivations.{Runs}
 use Rattle.pict_syntax.specs.declared.code.Code.TheVariants.{Y16}
 use Rattle.pict_infer.specs.declared.error.InferError.{InferError}
-use Rattle.pict_infer.specs.declared.error.InferError.TheVariants.{Named, Memory}
 use Rattle.pict_infer.specs.declared.added.Added.{Added}
 use Rattle.pict_infer.specs.Adding.{extension_of}
 use Rattle.pict_infer.specs.Answering.{IsRefused}

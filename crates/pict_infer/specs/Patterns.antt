@@ -1,9 +1,7 @@
 -- What the calls on patterns answer, and what is known after them.
 use Rattle.std.specs.Prelude.{◌≡◌, Result, Ok, Err}
-use Rattle.pict_syntax.specs.Trees.{Pat, FieldPats}
-use Rattle.pict_types.specs.Types.{PlainType}
 use Rattle.pict_rules.specs.Environments.{Extension, extended}
-use Rattle.pict_rules.specs.Rules.{extension_, opened_, Judgement, OpenedFields, ok, pattern_against}
+use Rattle.pict_rules.specs.Rules.{extension_, opened_, Judgement, OpenedFields, ok}
 use Rattle.pict_rules.specs.Clauses.{with_fields, with_own}
 use Rattle.pict_rules.specs.Typing.{rule}
 use Rattle.pict_rules.specs.Derivations.{Runs}

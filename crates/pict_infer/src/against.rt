@@ -39,7 +39,8 @@ fn annotated_variable(
 ) -> Result<Added, InferError>
     requires labels { HasDistinctLabels (type_of annotation.now) }
     requires t { IsWrittenIn c.now (plain t.now) }
-    ensures answer { IsAnswer (rule (environment_in c.now) (pattern_against (bind_pat span id (Some (type_of annotation.now))) (plain t.now))) extension_of result }
+    ensures answer { IsAnswer (rule (environment_in c.now) (pattern_against (bind_pat span id (Some (type_of annotation.now))) (plain t.now)))
+        extension_of result }
     ensures base { IfOk result (λ x. x.base ≡ length (type_context c.now)) }
 {
     let has = expanded(alloc, c, annotation)?;
@@ -58,7 +59,8 @@ fn variable_against(
 ) -> Result<Added, InferError>
     requires labels { AnnotationHasDistinctLabels (annotation_of annotation.now) }
     requires t { IsWrittenIn c.now (plain t.now) }
-    ensures answer { IsAnswer (rule (environment_in c.now) (pattern_against (bind_pat span id (annotation_of annotation.now)) (plain t.now))) extension_of result }
+    ensures answer { IsAnswer (rule (environment_in c.now) (pattern_against (bind_pat span id (annotation_of annotation.now)) (plain t.now)))
+        extension_of result }
     ensures base { IfOk result (λ x. x.base ≡ length (type_context c.now)) }
 {
     match &annotation.of {
@@ -238,7 +240,8 @@ pub fn open_parts_against(
     span: Span,
 ) -> Result<Added, InferError>
     requires right { IsWellAsked opened_ (environment_in c.old) (against_fields span (field_pats_of parts.now) binders.now positional.now labelled.now) }
-    ensures answer { OpensAgainst (environment_in c.old) (environment_in c.new) (against_fields span (field_pats_of parts.now) binders.now positional.now labelled.now) result }
+    ensures answer { OpensAgainst (environment_in c.old) (environment_in c.new)
+        (against_fields span (field_pats_of parts.now) binders.now positional.now labelled.now) result }
     ensures base { IfOk result (λ x. x.base ≡ length (type_context c.new)) }
     ensures grows { length (type_context c.old) ≤ length (type_context c.new) }
 {
@@ -304,7 +307,8 @@ fn labelled_against(
     ls: &[LabelledPat],
     fields: &[(Name, Ty)],
 ) -> Result<Added, InferError>
-    requires right { IsWellAsked extension_ (environment_in c.old) (labelled_patterns_against (labelled_pats_on no_labelled_pats ls.now) (plain_labels fields.now)) }
+    requires right { IsWellAsked extension_ (environment_in c.old)
+        (labelled_patterns_against (labelled_pats_on no_labelled_pats ls.now) (plain_labels fields.now)) }
     ensures answer { IsAnswer (rule (environment_in c.old) (labelled_patterns_against (labelled_pats_on no_labelled_pats ls.now) (plain_labels fields.now)))
         extension_of result }
     ensures base { IfOk result (λ x. x.base ≡ length (type_context c.old)) }

@@ -92,7 +92,8 @@ fn fold_gives(
     span: Span,
 ) -> Result<Typed, InferError>
     requires right { IsWellAsked pattern_ (environment_in c.old) (pattern_gives (fold_pat span (annotation_of annotation.now) (pat_of inner.now))) }
-    ensures answer { IsAnswer (rule (environment_in c.old) (pattern_gives (fold_pat span (annotation_of annotation.now) (pat_of inner.now)))) typed_pattern result }
+    ensures answer { IsAnswer (rule (environment_in c.old) (pattern_gives (fold_pat span (annotation_of annotation.now) (pat_of inner.now))))
+        typed_pattern result }
     ensures base { IfOk result (λ x. x.adds.base ≡ length (type_context c.old)) }
     ensures same { OnOk result (environment_in c.new ≡ environment_in c.old) }
     ensures grows { length (type_context c.old) ≤ length (type_context c.new) }

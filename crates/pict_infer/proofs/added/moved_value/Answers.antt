@@ -1,5 +1,5 @@
 -- A value past the variables of another pattern.
-use Rattle.std.proofs.Common.{◌≤◌, ℕ, ◌+◌, refl, sym, subst, arith}
+use Rattle.std.proofs.Common.{refl, sym, subst, arith}
 use Rattle.pict_infer.specs.Beside.{IsMovedPast}
 use Rattle.pict_infer.proofs.Beside.{past_none, past_outside, past_inside}
 use Rattle.pict_infer.proofs.added.moved_value.Goals as goal

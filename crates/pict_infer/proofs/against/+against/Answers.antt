@@ -1,19 +1,18 @@
 -- Each way in which a pattern ends against a type, and what its parts are asked.
-use Rattle.std.proofs.Common.{rules, ◌≡◌, ◌<◌, ◌≤◌, ◌+◌, ◌∙◌, List, Some, ap, ap₂, arith, length, refl, sym, subst, take}
+use Rattle.std.proofs.Common.{rules, ◌≡◌, ◌<◌, ◌+◌, ◌∙◌, ap, ap₂, arith, length, refl, sym, subst, take}
 use Rattle.pict_syntax.specs.declared.code.Code.TheVariants.{Y5}
 use Rattle.pict_syntax.specs.declared.pattern.Pat.{the_lemmas}
 use Rattle.pict_syntax.specs.declared.pattern.Pat.TheViews.{out-FieldPats}
-use Rattle.pict_syntax.specs.PlainTrees.{annotation_of, binders_on, field_pats_of, labelled_pats_on, pat_of, pats_on}
-use Rattle.pict_syntax.specs.Trees.{FieldPats, Pat, fields_pat, no_binders, no_labelled_pats, no_pats}
-use Rattle.pict_types.specs.Entries.{variables}
+use Rattle.pict_syntax.specs.PlainTrees.{annotation_of, field_pats_of, labelled_pats_on, pat_of, pats_on}
+use Rattle.pict_syntax.specs.Trees.{fields_pat, no_labelled_pats, no_pats}
 use Rattle.pict_types.specs.Kinds.{kinds, LabelsAreWellFormed}
 use Rattle.pict_types.specs.Plain.{plain, plain_bounds, plain_labels, plain_types}
-use Rattle.pict_types.specs.PlainContext.{names_of, plain_context, type_context}
-use Rattle.pict_types.specs.Types.{PlainType, type_at}
+use Rattle.pict_types.specs.PlainContext.{names_of, type_context}
+use Rattle.pict_types.specs.Types.{type_at}
 use Rattle.pict_sub.specs.Exposing.{exposure}
 use Rattle.pict_scope.specs.DistinctLabels.{PatHasDistinctLabels}
-use Rattle.pict_rules.specs.Environments.{Environment, Extension, context_of, joined, within}
-use Rattle.pict_rules.specs.Regular.{IsRegular, IsTypeIn, kinds_in}
+use Rattle.pict_rules.specs.Environments.{Environment, joined, within}
+use Rattle.pict_rules.specs.Regular.{IsRegular, kinds_in}
 use Rattle.pict_types.proofs.Congruent.{three}
 use Rattle.pict_types.proofs.Rows.{count_bounds_length, count_types_length}
 use Rattle.pict_rules.specs.Rules.{extension_, fields_against, labelled_patterns_against, ok, opened_, OpenedFields, pattern_against, patterns_against, stuck}
@@ -33,7 +32,7 @@ use Rattle.pict_infer.proofs.Forming.{shown_is}
 use Rattle.pict_infer.proofs.Forms.{any_is, as_many_binders, as_many_patterns, bind_is, count_of_binders, count_of_pats, fields_is, fold_is, parts_are, parts_read}
 use Rattle.pict_infer.proofs.Handed.{against_err, answer_err}
 use Rattle.pict_infer.proofs.LabelPlaces.{formed_in_order}
-use Rattle.pict_infer.proofs.PatternLines.{all_labels, all_patterns, at_label_lacks, at_label_there, all_typed, binders_differ, closed_ok, closed_refused, counted, counted_refused, fold_inner, fold_refused_first, label_refused, labelled_refused, no_label, no_pattern, no_record, one_label_more, one_pattern_more, own_refused, pattern_refused, patterns_differ, positional_refused, record_answer}
+use Rattle.pict_infer.proofs.PatternLines.{at_label_lacks, at_label_there, all_typed, binders_differ, closed_ok, closed_refused, counted, counted_refused, fold_inner, fold_refused_first, label_refused, labelled_refused, no_label, no_pattern, no_record, one_label_more, one_pattern_more, own_refused, pattern_refused, patterns_differ, positional_refused, record_answer}
 use Rattle.pict_infer.proofs.PatternPlaces.{labelled_distinct}
 use Rattle.pict_infer.proofs.against.+against.Goals as goal
 

@@ -1,5 +1,5 @@
 -- What a type exposes to is recursive, or it isn't.
-use Rattle.std.proofs.Common.{◌≡◌, None, ◌∙◌, subst, sym}
+use Rattle.std.proofs.Common.{None, ◌∙◌, subst, sym}
 use Rattle.pict_types.specs.Plain.{plain}
 use Rattle.pict_types.specs.PlainContext.{IsWrittenIn, type_context}
 use Rattle.pict_sub.specs.Exposing.{exposure}

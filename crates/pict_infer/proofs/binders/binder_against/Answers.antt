@@ -1,5 +1,5 @@
 -- A type binder that says what the field says, and one that doesn't.
-use Rattle.std.proofs.Common.{◌∙◌, sym, subst, true, false}
+use Rattle.std.proofs.Common.{◌∙◌, sym}
 use Rattle.pict_syntax.specs.PlainTrees.{binder_of}
 use Rattle.pict_types.specs.Plain.{plain_bound}
 use Rattle.pict_infer.specs.Answering.{nothing}

@@ -1,6 +1,6 @@
 -- One type binder more is open against its field, or is refused.
-use Rattle.std.proofs.Common.{◌≡◌, ◌+◌, ◌<◌, ◌≤◌, length, refl, ◌∙◌, ap, arith}
-use Rattle.pict_syntax.specs.PlainTrees.{binder_of, binders_on}
+use Rattle.std.proofs.Common.{◌≡◌, ◌+◌, ◌<◌, length, ◌∙◌, ap, arith}
+use Rattle.pict_syntax.specs.PlainTrees.{binders_on}
 use Rattle.pict_syntax.specs.Trees.{no_binders}
 use Rattle.pict_types.specs.Entries.{variables}
 use Rattle.pict_types.specs.Plain.{plain_bound, plain_bounds}

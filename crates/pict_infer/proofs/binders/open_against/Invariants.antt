@@ -1,5 +1,5 @@
 -- The type binders so far are open, with the bounds of the first type fields.
-use Rattle.std.proofs.Common.{◌≡◌, ◌≤◌, length, take}
+use Rattle.std.proofs.Common.{◌≤◌, length, take}
 use Rattle.pict_syntax.specs.Trees.{no_binders}
 use Rattle.pict_syntax.specs.PlainTrees.{binders_on}
 use Rattle.pict_types.specs.Plain.{plain_bounds}

@@ -1,7 +1,7 @@
 -- One type binder more is open, or is refused.
-use Rattle.std.proofs.Common.{◌≡◌, ◌+◌, ◌≤◌, length, refl, ◌∙◌, ap, arith, Global}
+use Rattle.std.proofs.Common.{◌≡◌, ◌+◌, length, ◌∙◌, ap, arith, Global}
 use Rattle.std.specs.Prelude.{Vec}
-use Rattle.pict_syntax.specs.PlainTrees.{binder_of, binders_on, held_bound}
+use Rattle.pict_syntax.specs.PlainTrees.{binders_on, held_bound}
 use Rattle.pict_syntax.specs.Trees.{no_binders}
 use Rattle.pict_types.specs.declared.types.Bound.{Bound}
 use Rattle.pict_types.specs.Entries.{variables}
@@ -9,7 +9,6 @@ use Rattle.pict_types.specs.Plain.{plain_bound, plain_bounds}
 use Rattle.pict_types.specs.PlainContext.{names_of, plain_context, type_context}
 use Rattle.pict_normal.specs.Normal.{and_bound, kind_bound}
 use Rattle.pict_normal.proofs.Trees.{bounds_and}
-use Rattle.pict_rules.specs.Clauses.{own_bound}
 use Rattle.pict_rules.specs.Rules.{binders_give}
 use Rattle.pict_rules.specs.Typing.{rule}
 use Rattle.pict_infer.specs.Opening.{bound_or_free}

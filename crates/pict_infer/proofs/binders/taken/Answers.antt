@@ -1,5 +1,5 @@
 -- The next variable is taken, and there is no definition among them.
-use Rattle.std.proofs.Common.{◌≡◌, ◌<◌, ◌+◌, ◌++◌, [], ◌∷◌, length, map, sym, ◌∙◌, ap, arith}
+use Rattle.std.proofs.Common.{◌≡◌, ◌<◌, ◌++◌, [], ◌∷◌, length, map, sym, ◌∙◌, ap, arith}
 use Rattle.pict_types.specs.PlainContext.{plain_context}
 use Rattle.pict_types.specs.PlainEntries.{plain_entry}
 use Rattle.pict_rules.specs.Environments.{entries_of}

@@ -1,5 +1,5 @@
 -- The next type variable.
-use Rattle.std.proofs.Common.{◌≡◌, ◌+◌, ◌≤◌, ◌++◌, ◌∷◌, [], length, map, refl, sym, ◌∙◌, ap, subst, arith}
+use Rattle.std.proofs.Common.{◌≡◌, ◌+◌, ◌++◌, length, map, refl, sym, ◌∙◌, ap, subst, arith}
 use Rattle.std.specs.Option.{option_to_list}
 use Rattle.pict_types.specs.Entries.{EntriesAreWellFormed, EntryIsWellFormed, Variable, variables}
 use Rattle.pict_types.specs.Plain.{plain_bound}

@@ -1,5 +1,5 @@
 -- No type is written deeper than before.
-use Rattle.std.proofs.Common.{◌≡◌, ◌≤◌, max, reverse, ap, arith}
+use Rattle.std.proofs.Common.{◌≡◌, reverse, ap, arith}
 use Rattle.pict_infer.specs.Knowing.{deepest}
 use Rattle.pict_infer.proofs.Growing.{placed_so_far}
 use Rattle.pict_infer.proofs.env.add_values.Goals as goal

@@ -1,5 +1,5 @@
 -- One name less, and as many as values in the end.
-use Rattle.std.proofs.Common.{◌≡◌, ◌<◌, ◌≤◌, ◌-◌, length, drop, sym, ◌∙◌, ap, arith, rules}
+use Rattle.std.proofs.Common.{◌≡◌, ◌<◌, ◌≤◌, ◌-◌, length, drop, sym, ◌∙◌, ap, arith}
 use Rattle.pict_infer.specs.Knowing.{names_known}
 use Rattle.pict_infer.proofs.Growing.{cut_more, names_cut, names_length, nothing_cut}
 use Rattle.pict_infer.proofs.env.cut_values.Goals as goal

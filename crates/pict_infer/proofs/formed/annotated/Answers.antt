@@ -1,5 +1,5 @@
 -- There is no annotation.
-use Rattle.std.proofs.Common.{None, sym, subst}
+use Rattle.std.proofs.Common.{sym, subst}
 use Rattle.pict_syntax.specs.declared.code.Code.TheVariants.{Y7}
 use Rattle.pict_rules.specs.Rules.{stuck}
 use Rattle.pict_rules.specs.Derivations.{Runs, refuse_}

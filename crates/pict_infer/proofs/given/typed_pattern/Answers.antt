@@ -1,8 +1,7 @@
 -- Patterns use no value, so that what is judged without values is judged with them.
 use Rattle.std.proofs.Common.{refl}
 use Rattle.pict_syntax.specs.PlainTrees.{pat_of}
-use Rattle.pict_infer.specs.Environments.{environment_of}
-use Rattle.pict_infer.proofs.MadeGiven.{giving_alone, typed_answer}
+use Rattle.pict_infer.proofs.MadeGiven.{typed_answer}
 use Rattle.pict_infer.proofs.given.typed_pattern.Goals as goal
 
 pub returns : goal.returns

@@ -1,5 +1,5 @@
 -- What a pattern adds becomes known, or it is refused.
-use Rattle.std.proofs.Common.{◌≡◌, ap, refl}
+use Rattle.std.proofs.Common.{ap, refl}
 use Rattle.pict_syntax.specs.PlainTrees.{pat_of}
 use Rattle.pict_types.specs.Plain.{plain}
 use Rattle.pict_types.specs.PlainContext.{names_of, plain_context}

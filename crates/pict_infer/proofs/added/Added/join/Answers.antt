@@ -1,5 +1,5 @@
 -- Two patterns side by side.
-use Rattle.std.proofs.Common.{◌≡◌, ◌+◌, ◌≤◌, length, refl, subst, arith}
+use Rattle.std.proofs.Common.{◌+◌, ◌≤◌, length, refl, subst, arith}
 use Rattle.pict_infer.specs.Knowing.{deepest}
 use Rattle.pict_infer.proofs.Beside.{both_beside}
 use Rattle.pict_infer.proofs.added.Added.join.Goals as goal

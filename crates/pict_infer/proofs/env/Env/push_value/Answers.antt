@@ -1,5 +1,5 @@
 -- One value more.
-use Rattle.std.proofs.Common.{◌≡◌, ◌≤◌, ◌++◌, ◌∷◌, [], length, refl, sym, ◌∙◌, ap, subst, arith}
+use Rattle.std.proofs.Common.{◌≡◌, ◌++◌, ◌∷◌, [], length, refl, sym, ◌∙◌, ap, arith}
 use Rattle.pict_types.specs.PlainContext.{names_of, plain_context, type_context}
 use Rattle.pict_infer.specs.declared.known.Known.{Known}
 use Rattle.pict_infer.specs.Knowing.{deepest, known_values, names_known}
