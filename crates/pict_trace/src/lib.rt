@@ -17,3 +17,6 @@ pub use laws::{
     law_free_steps_keep_order, law_lines_are_read_once, law_runs_are_read_back, law_values_end_once,
 };
 pub use lines::{TraceError, TraceLabel, TraceLine, VALUE_NESTING_LIMIT, read_lines};
+
+#[cfg(test)]
+mod tests;
