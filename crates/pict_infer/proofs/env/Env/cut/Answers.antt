@@ -19,6 +19,6 @@ returns c = λ before p g.
     let items = c.cut_values.ensures.values ∙ values_back c.args.to before c.args.self.now p g in
     record {
       known = environment (names_of new) (known_names before) (plain_context new) (known_entries before) _ _ (c.cut_entries.ensures.names ∙ g.texts) entries
-        (ap₂ (λ n vs. known_values n vs) (ap (λ x. length (variables x)) entries) items);
+          (ap₂ (λ n vs. known_values n vs) (ap (λ x. length (variables x)) entries) items);
       items = items;
     }
