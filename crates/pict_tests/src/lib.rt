@@ -2,7 +2,11 @@
 #![tactic(auto)]
 
 #[cfg(test)]
+mod codes;
+#[cfg(test)]
 mod parsing;
+#[cfg(test)]
+mod scoping;
 #[cfg(test)]
 mod steps;
 #[cfg(test)]

@@ -207,7 +207,7 @@ fn expect_end<R: Abort>(
 }
 
 // The process takes so many steps until nothing is ready: one less is too little fuel, and one more changes nothing.
-fn expect_done<R: Abort>(
+pub fn expect_done<R: Abort>(
     rt: &R,
     alloc: Global,
     process: Core,

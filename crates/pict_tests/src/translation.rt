@@ -1,8 +1,10 @@
 // Program texts and their core processes, written out.
 
+use crate::steps::expect_done;
 use pict_core::{Core, CorePat, CoreVal};
 use pict_derive::{DeriveError, derive};
 use pict_lex::lex;
+use pict_machine::{End, Event, Machine, RunError, Watcher};
 use pict_parse::parse;
 use pict_syntax::{Name, Names, Prim};
 use std::alloc::{AllocError, Global};
@@ -17,12 +19,17 @@ fn write_primitive(p: Prim, out: &mut Vec<u8>) -> Result<(), AllocError> {
         Prim::Pr => b"pr".as_slice(),
         Prim::Add => b"+".as_slice(),
         Prim::Subtract => b"-".as_slice(),
+        Prim::Equal => b"==".as_slice(),
         _ => b"other".as_slice(),
     };
     out.extend_from_slice(name)
 }
 
-fn write_digit(n: u64, out: &mut Vec<u8>) -> Result<(), AllocError> {
+/// Writes a number below 100.
+fn write_number(n: u64, out: &mut Vec<u8>) -> Result<(), AllocError> {
+    if n >= 10 {
+        out.push(b'0' + (n / 10 % 10) as u8)?;
+    }
     out.push(b'0' + (n % 10) as u8)?;
     Ok(())
 }
@@ -32,9 +39,9 @@ fn write_value(v: &CoreVal, names: &Names, out: &mut Vec<u8>) -> Result<(), Allo
     match v {
         CoreVal::Var(level) => {
             out.push(b'v')?;
-            write_digit(*level as u64, out)
+            write_number(*level as u64, out)
         }
-        CoreVal::Int(n) => write_digit(n.unsigned_abs(), out),
+        CoreVal::Int(n) => write_number(n.unsigned_abs(), out),
         CoreVal::Text(bytes) => {
             out.push(b'"')?;
             out.extend_from_slice(bytes.slice())?;
@@ -183,7 +190,7 @@ fn write_core(core: &Core, names: &Names, out: &mut Vec<u8>) -> Result<(), Alloc
 }
 
 /// The core process of a text, and the names of the text; nothing where it is refused before.
-fn derived(alloc: Global, names: &mut Names, text: &[u8]) -> Option<Result<Core, DeriveError>> {
+pub fn derived(alloc: Global, names: &mut Names, text: &[u8]) -> Option<Result<Core, DeriveError>> {
     if text.len() > 1_048_576 {
         return None;
     }
@@ -215,7 +222,7 @@ fn is_written(alloc: Global, text: &[u8], wanted: &[u8]) -> Result<bool, Fail> {
 
 #[test]
 fn texts_have_these_processes(rt: HostRuntime) -> Result<(), Fail> {
-    let rows: [(&[u8], &[u8]); 10] = [
+    let rows: [(&[u8], &[u8]); 14] = [
         (b"", b"0"),
         // an outer name hides a primitive
         (b"new print:^Int run print!1", b"^(v0!1|0)"),
@@ -225,22 +232,40 @@ fn texts_have_these_processes(rt: HostRuntime) -> Result<(), Fail> {
             b"(^(v0?*x.printi!v1|^(v1?*x.^(v3?*x.+![v2 v4 v0 ]|+![3 4 v3 ])|+![1 2 v1 ]))|0)",
         ),
         (
-            b"run printi!(+ > 1 2 3)",
-            b"(^(v0?*x.printi!v1|^(v1?*x.+![1 v2 v0 ]|+![2 3 v1 ]))|0)",
+            b"run printi!(- > 10 3 2)",
+            b"(^(v0?*x.printi!v1|^(v1?*x.-![10 v2 v0 ]|-![3 2 v1 ]))|0)",
         ),
         (
-            b"run printi!(- < 9 2 3)",
-            b"(^(v0?*x.printi!v1|^(v1?*x.-![v2 3 v0 ]|-![9 2 v1 ]))|0)",
+            b"run printi!(- < 10 3 2)",
+            b"(^(v0?*x.printi!v1|^(v1?*x.-![v2 2 v0 ]|-![10 3 v1 ]))|0)",
+        ),
+        // effects in the order in which they are written
+        (
+            b"def f (s:String):Int = ((pr s); 1) run printi!(+ (f \"a\") (f \"b\"))",
+            b"^(v0?*[x x ].^(v3?*[].v2!1|pr![v1 v3 ])|(^(v1?*x.printi!v2|^(v2?*x.^(v4?*x.+![v3 v5 v1 ]|v0![\"b\" v4 ])|v0![\"a\" v2 ]))|0))",
         ),
         // labels in the order of their bytes, in values and in patterns
         (
             b"val [b=y a=z] = [b=2 a=1] run printi!z",
             b"^(v0?*[a=x b=x ].(printi!v1|0)|v0![a=1 b=2 ])",
         ),
+        (
+            b"val [x b=y a=z] = [3 b=2 a=1] run printi!y",
+            b"^(v0?*[x a=x b=x ].(printi!v3|0)|v0![3 a=1 b=2 ])",
+        ),
         // a function answers on the channel after its positional fields
         (
             b"def f (x:Int):Int = (+ x 1) run printi!(f 2)",
             b"^(v0?*[x x ].+![v1 1 v2 ]|(^(v1?*x.printi!v2|v0![2 v1 ])|0))",
+        ),
+        (
+            b"val f = \\(x:Int) = (+ x 1) run printi!(f 2)",
+            b"^(v0?*x.(^(v2?*x.printi!v3|v1![2 v2 ])|0)|^(v1?*[x x ].+![v2 1 v3 ]|v0!v1))",
+        ),
+        // folds leave nothing
+        (
+            b"type S = (rec X = ^X) new c:^S run c!(rec c) run c?(rec d) = print!\"ok\"",
+            b"^(v0!v0|(v0?x.print!\"ok\"|0))",
         ),
         (
             b"def a x:Int = b!x and b y:Int = a!y",
@@ -257,6 +282,244 @@ fn texts_have_these_processes(rt: HostRuntime) -> Result<(), Fail> {
     ];
     for (text, wanted) in rows {
         assert!(rt; is_written(rt.alloc(), text, wanted)?);
+    }
+    Ok(())
+}
+
+// ---- the counter server, with the prelude before it
+
+const PRELUDE: &[u8] = b"type (List X) = (rec L = /[/[] /[X L]])
+type (Ref X) = [get=/[/X] set=/[X /[]]]
+type Lock = [acquire=/[/[]] release=/[/[]]]
+def nil (#X):(List X) = (rec \\[n _] = n![])
+def cons (#X x:X l:(List X)):(List X) = (rec \\[_ c] = c![x l])
+def foldl [#X #A f:/[A X /A] a:A l:(List X) r:/A] = (
+  val (rec u) = l
+  u![\\[] = r!a \\[x t] = foldl![f (f a x) t r]])
+def ref (#X init:X):(Ref X) = (
+  new c:^X
+  run c!init
+  def get [r:/X] = c?v = (c!v | r!v)
+  def set [v:X r:/[]] = c?_ = (c!v | r![])
+  [get=get set=set])
+def lock ():Lock = (
+  new c:^[]
+  run c![]
+  def acquire [r:/[]] = c?[] = r![]
+  def release [r:/[]] = (c![] | r![])
+  [acquire=acquire release=release])
+";
+
+const COUNTER: &[u8] = b"val [get=get set=set] = (ref 0)
+val [acquire=acquire release=release] = (lock)
+val clients = (cons 1 (cons 2 (cons 3 (nil))))
+new done:^[]
+def client (n:Int):[] = (
+  (acquire);
+  val v = (get)
+  (set (+ v n));
+  (release);
+  [])
+def start (u:[] n:Int):[] = (run ((client n); done![]) [])
+(foldl start [] clients);
+run done?[] = done?[] = done?[] = ((pr \"total \"); printi!(get))
+";
+
+/// Its core process, a line for each declaration, then what sends the values of the three `val`s, innermost first.
+const COUNTER_CORE: [&[u8]; 15] = [
+    // nil, cons, foldl
+    b"^(v0?*[x ].^(v2?*[x _ ].v3![]|v1!v2)|",
+    b"^(v1?*[x x x ].^(v5?*[_ x ].v6![v2 v3 ]|v4!v5)|",
+    b"^(v2?*[x x x x ].^(v7?*x.^(v9?*x.v8!v10|^(v10?*x.^(v12?*x.v9![v11 v13 ]|^(v13?*[x x ].^(v16?*x.v2!v17|",
+    b"^(v17?*x.v16![v3 v18 v15 v6 ]|v3![v4 v14 v17 ]))|v12!v13))|^(v11?*[].v6!v4|v10!v11)))|v7!v5)|",
+    // ref, lock
+    b"^(v3?*[x x ].^(v6!v4|^(v7?*[x ].v6?x.(v6!v9|v8!v9)|^(v8?*[x x ].v6?_.(v6!v9|v10![])|v5![get=v7 set=v8 ])))|",
+    b"^(v4?*[x ].^(v6![]|^(v7?*[x ].v6?[].v8![]|^(v8?*[x ].(v6![]|v9![])|v5![acquire=v7 release=v8 ])))|",
+    // the three `val`s, done
+    b"^(v5?*[get=x set=x ].^(v8?*[acquire=x release=x ].^(v11?*x.^",
+    // client, start
+    b"^(v14?*[x x ].^(v17?*[].^(v18?*x.^(v20?*[].^(v21?*[].v16![]|v10![v21 ])|",
+    b"^(v21?*x.v7![v22 v20 ]|+![v19 v15 v21 ]))|v6![v18 ])|v9![v17 ])|",
+    b"^(v15?*[x x x ].(^(v19?*[].v13![]|v14![v17 v19 ])|v18![])|",
+    // the fold, the last process
+    b"^(v16?*[].(v13?[].v13?[].v13?[].^(v17?*[].^(v18?*x.printi!v19|v6![v18 ])|pr![\"total \" v17 ])|0)|",
+    b"v2![v15 [] v12 v16 ])))|",
+    // clients, the lock, the counter
+    b"^(v12?*x.v1![1 v13 v11 ]|^(v13?*x.v1![2 v14 v12 ]|^(v14?*x.v1![3 v15 v13 ]|v0![v14 ]))))|",
+    b"v4![v8 ])|",
+    b"v3![0 v5 ]))))))",
+];
+
+/// These texts, one after the other.
+fn joined(alloc: Global, texts: &[&[u8]]) -> Result<Vec<u8>, AllocError> {
+    let mut whole = Vec::new(alloc);
+    for text in texts {
+        whole.extend_from_slice(text)?;
+    }
+    Ok(whole)
+}
+
+#[test]
+fn the_counter_server_has_this_process(rt: HostRuntime) -> Result<(), Fail> {
+    let alloc = rt.alloc();
+    let text = joined(alloc, &[PRELUDE, COUNTER])?;
+    let wanted = joined(alloc, &COUNTER_CORE)?;
+    assert!(rt; is_written(alloc, &text, &wanted)?);
+    Ok(())
+}
+
+// ---- the places of outputs
+
+/// Writes the place of each output, in the order in which they stand in the process.
+fn write_places(core: &Core, out: &mut Vec<u8>) -> Result<(), AllocError> {
+    match core {
+        Core::Zero => Ok(()),
+        Core::Par(left, right) => {
+            write_places(left.core(), out)?;
+            write_places(right.core(), out)
+        }
+        Core::New(body) => write_places(body.core(), out),
+        Core::Out { at, .. } => {
+            write_number(at.start as u64, out)?;
+            out.push(b'-')?;
+            write_number(at.end as u64, out)?;
+            out.push(b' ')?;
+            Ok(())
+        }
+        Core::In { body, .. } => write_places(body.core(), out),
+        Core::If { yes, no, .. } => {
+            write_places(yes.core(), out)?;
+            write_places(no.core(), out)
+        }
+    }
+}
+
+fn has_places(alloc: Global, text: &[u8], wanted: &[u8]) -> Result<bool, Fail> {
+    let mut names = Names::new(alloc);
+    match derived(alloc, &mut names, text) {
+        Some(Ok(core)) => {
+            let mut out = Vec::new(alloc);
+            write_places(&core, &mut out)?;
+            Ok(out.as_slice() == wanted)
+        }
+        _ => Ok(false),
+    }
+}
+
+#[test]
+fn outputs_have_these_places(rt: HostRuntime) -> Result<(), Fail> {
+    let rows: [(&[u8], &[u8]); 6] = [
+        // a send has its own place, an application its own
+        (b"run printi!(+ (+ 1 2) 3)", b"4-24 11-24 14-21 "),
+        // each application of a nested one has the place of the whole
+        (b"run printi!(- > 10 3 2)", b"4-23 11-23 11-23 "),
+        (b"run printi!(- < 10 3 2)", b"4-23 11-23 11-23 "),
+        // a value that is sent as it stands has its place, an abstraction its own from the backslash on
+        (b"val x = [1 2]", b"8-13 "),
+        (b"val f = \\x:Int = printi!x", b"17-25 8-25 "),
+        // a fold of a simple value has the fold's place, any other fold that of what is in it
+        (
+            b"new c:^Top val x = (rec c) val y = (rec (+ 1 2))",
+            b"40-47 19-26 ",
+        ),
+    ];
+    for (text, wanted) in rows {
+        assert!(rt; has_places(rt.alloc(), text, wanted)?);
+    }
+    Ok(())
+}
+
+// ---- runs
+
+/// A watcher that keeps what is printed.
+#[derive(Drop)]
+struct Printed {
+    text: Vec<u8>,
+}
+
+impl Watcher for Printed {
+    ghost use Rattle.std.specs.Prelude.{None};
+
+    ghost view = { λ _. None };
+
+    ghost next = { λ _ v n l. v };
+
+    ghost torn = { λ _ v n l w. Unit {0} };
+
+    ghost faults = { λ _. 0 };
+
+    ghost same = { λ _ _. Unit {0} };
+
+    ghost same_itself = { λ _. tt };
+
+    ghost same_along = { λ _ _ _ _ _. tt };
+
+    fn see(&mut self, _number: u64, event: &Event) -> Result<(), RunError> {
+        match event {
+            Event::Print(bytes) => match self.text.extend_from_slice(bytes.slice()) {
+                Ok(()) => Ok(()),
+                Err(_) => Err(RunError::Memory),
+            },
+            _ => Ok(()),
+        }
+    }
+}
+
+/// Whether a text runs to its end and prints this.
+fn prints(alloc: Global, text: &[u8], wanted: &[u8]) -> Result<bool, Fail> {
+    let mut names = Names::new(alloc);
+    match derived(alloc, &mut names, text) {
+        Some(Ok(core)) => {
+            let mut printed = Printed {
+                text: Vec::new(alloc),
+            };
+            let mut machine = Machine::load(alloc, core)?;
+            let ends = matches!(machine.run(100_000, &mut printed), Ok(End::Done));
+            Ok(ends && printed.text.as_slice() == wanted)
+        }
+        _ => Ok(false),
+    }
+}
+
+#[test]
+fn texts_print_this(rt: HostRuntime) -> Result<(), Fail> {
+    let alloc = rt.alloc();
+    let counter = joined(alloc, &[PRELUDE, COUNTER])?;
+    let rows: [(&[u8], &[u8]); 5] = [
+        (b"run printi!(- > 10 3 2)", b"9"),
+        (b"run printi!(- < 10 3 2)", b"5"),
+        (
+            b"def f (s:String):Int = ((pr s); 1) run printi!(+ (f \"a\") (f \"b\"))",
+            b"ab2",
+        ),
+        (b"val [x b=y a=z] = [3 b=2 a=1] run printi!y", b"2"),
+        (&counter, b"total 6"),
+    ];
+    for (text, wanted) in rows {
+        assert!(rt; prints(alloc, text, wanted)?);
+    }
+    Ok(())
+}
+
+#[test]
+fn a_function_and_a_fold_are_traced(rt: HostRuntime) -> Result<(), Fail> {
+    let alloc = rt.alloc();
+    let mut names = Names::new(alloc);
+    let function = b"val f = \\(x:Int) = (+ x 1) run printi!(f 2)";
+    match derived(alloc, &mut names, function) {
+        Some(Ok(core)) => expect_done(
+            &rt,
+            alloc,
+            core,
+            16,
+            b"7 c0 c1\n13 c1 [2,c2,]\n15 c2 3\n16 print 3\n",
+        )?,
+        _ => assert!(rt; false),
+    }
+    let fold = b"type S = (rec X = ^X) new c:^S run c!(rec c) run c?(rec d) = print!\"ok\"";
+    match derived(alloc, &mut names, fold) {
+        Some(Ok(core)) => expect_done(&rt, alloc, core, 7, b"5 c0 c0\n7 print ok\n")?,
+        _ => assert!(rt; false),
     }
     Ok(())
 }

@@ -1,0 +1,150 @@
+// Program texts and their codes: listings, and how many nodes and levels they have.
+
+use crate::translation::derived;
+use pict_code::{Code, listing};
+use pict_lower::lower;
+use pict_outside::MemorySink;
+use pict_syntax::Names;
+use std::alloc::{AllocError, Global};
+use std::test::Fail;
+
+fn is_listed(alloc: Global, text: &[u8], wanted: &[u8]) -> Result<bool, Fail> {
+    let mut names = Names::new(alloc);
+    match derived(alloc, &mut names, text) {
+        Some(Ok(core)) => {
+            let code = lower(alloc, &core)?;
+            let mut out = MemorySink::new(alloc, 10000, Vec::new(alloc))?;
+            let listed = listing(alloc, &names, &code, &mut out);
+            Ok(listed.is_ok() && out.taken() == wanted)
+        }
+        _ => Ok(false),
+    }
+}
+
+#[test]
+fn texts_have_these_listings(rt: HostRuntime) -> Result<(), Fail> {
+    let rows: [(&[u8], &[u8]); 5] = [
+        (b"", b"0 {} zero\n"),
+        (
+            b"new c:^Int run c!1 run c?n = printi!n",
+            b"0 {} new s0 1\n1 {s0} par 2 3\n2 {s0} out s0 1\n3 {s0} par 4 6\n4 {s0} in s0 s1 5\n5 {s1} out printi s1\n6 {} zero\n",
+        ),
+        // levels in the order of the labels' bytes
+        (
+            b"val [b=y a=z] = [b=2 a=1] run printi!z",
+            b"0 {} new s0 1\n1 {s0} par 2 6\n2 {s0} serve s0 [a=s1 b=s2] 3\n3 {s1} par 4 5\n4 {s1} out printi s1\n5 {} zero\n6 {s0} out s0 [a=1 b=2]\n",
+        ),
+        (
+            b"def f (x:Int):Int = (+ x 1) run printi!(f 2)",
+            b"0 {} new s0 1\n1 {s0} par 2 4\n2 {s0} serve s0 [s1 s2] 3\n3 {s1 s2} out + [s1 1 s2]\n4 {s0} par 5 10\n5 {s0} new s1 6\n6 {s0 s1} par 7 9\n7 {s1} serve s1 s2 8\n8 {s2} out printi s2\n9 {s0 s1} out s0 [2 s1]\n10 {} zero\n",
+        ),
+        (
+            b"run if true then print!\"a\\n\" else ()",
+            b"0 {} par 1 4\n1 {} if true 2 3\n2 {} out print \"a\\n\"\n3 {} zero\n4 {} zero\n",
+        ),
+    ];
+    for (text, wanted) in rows {
+        assert!(rt; is_listed(rt.alloc(), text, wanted)?);
+    }
+    Ok(())
+}
+
+/// How many nodes a code has, how many levels its frames have together, and the longest of them.
+fn measured(code: &Code) -> (u64, u64, u64) {
+    let mut nodes: u64 = 0;
+    let mut levels: u64 = 0;
+    let mut longest: u64 = 0;
+    for node in &code.nodes {
+        let length = node.frame.len() as u64;
+        nodes = nodes.saturating_add(1);
+        levels = levels.saturating_add(length);
+        longest = longest.max(length);
+    }
+    (nodes, levels, longest)
+}
+
+fn measures(alloc: Global, text: &[u8], wanted: (u64, u64, u64)) -> Result<bool, Fail> {
+    let mut names = Names::new(alloc);
+    match derived(alloc, &mut names, text) {
+        Some(Ok(core)) => Ok(measured(&lower(alloc, &core)?) == wanted),
+        _ => Ok(false),
+    }
+}
+
+// Lists, a cell and a lock, and three clients that count with them.
+const COUNTER: &[u8] = b"type (List X) = (rec L = /[/[] /[X L]])
+type (Ref X) = [get=/[/X] set=/[X /[]]]
+type Lock = [acquire=/[/[]] release=/[/[]]]
+def nil (#X):(List X) = (rec \\[n _] = n![])
+def cons (#X x:X l:(List X)):(List X) = (rec \\[_ c] = c![x l])
+def foldl [#X #A f:/[A X /A] a:A l:(List X) r:/A] = (
+  val (rec u) = l
+  u![\\[] = r!a \\[x t] = foldl![f (f a x) t r]])
+def ref (#X init:X):(Ref X) = (
+  new c:^X
+  run c!init
+  def get [r:/X] = c?v = (c!v | r!v)
+  def set [v:X r:/[]] = c?_ = (c!v | r![])
+  [get=get set=set])
+def lock ():Lock = (
+  new c:^[]
+  run c![]
+  def acquire [r:/[]] = c?[] = r![]
+  def release [r:/[]] = (c![] | r![])
+  [acquire=acquire release=release])
+val [get=get set=set] = (ref 0)
+val [acquire=acquire release=release] = (lock)
+val clients = (cons 1 (cons 2 (cons 3 (nil))))
+new done:^[]
+def client (n:Int):[] = (
+  (acquire);
+  val v = (get)
+  (set (+ v n));
+  (release);
+  [])
+def start (u:[] n:Int):[] = (run ((client n); done![]) [])
+(foldl start [] clients);
+run done?[] = done?[] = done?[] = ((pr \"total \"); printi!(get))
+";
+
+#[test]
+fn a_counter_server(rt: HostRuntime) -> Result<(), Fail> {
+    assert!(rt; measures(rt.alloc(), COUNTER, (168, 550, 8))?);
+    Ok(())
+}
+
+/// A ring of channels that hand a number on, one less each time.
+fn write_ring(
+    alloc: Global,
+    text: &mut Vec<u8>,
+    ring: u32,
+    size: u32,
+    token: u32,
+) -> Result<(), AllocError> {
+    for channel in 0..size {
+        let line = format!(in alloc; "new c{ring}_{channel}:^Int\n")?;
+        text.extend_from_slice(line.as_bytes())?;
+    }
+    for channel in 0..size {
+        let next = if channel + 1 == size { 0 } else { channel + 1 };
+        let line = format!(in alloc;
+            "run c{ring}_{channel}?*n = if (== n 0) then print!\".\" else c{ring}_{next}!(- n 1)\n"
+        )?;
+        text.extend_from_slice(line.as_bytes())?;
+    }
+    let line = format!(in alloc; "run c{ring}_0!{token}\n")?;
+    text.extend_from_slice(line.as_bytes())?;
+    Ok(())
+}
+
+#[test]
+fn three_rings(rt: HostRuntime) -> Result<(), Fail> {
+    let alloc = rt.alloc();
+    let mut text = Vec::new(alloc);
+    write_ring(alloc, &mut text, 0, 183, 13097)?;
+    write_ring(alloc, &mut text, 1, 124, 19955)?;
+    write_ring(alloc, &mut text, 2, 155, 11566)?;
+    assert_eq!(rt; text.len(), 35553);
+    assert!(rt; measures(alloc, &text, (6475, 85367, 183))?);
+    Ok(())
+}
