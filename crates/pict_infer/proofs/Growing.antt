@@ -1,7 +1,6 @@
 -- Environments that grow, and that are cut back.
-use Rattle.std.proofs.Common.{◌≡◌, ℕ, suc, ◌+◌, ◌-◌, ◌<◌, ◌≤◌, List, [], ◌∷◌, ◌++◌, length, map, reverse, take, drop, max, Result, Ok, Err, refl, sym, ◌∙◌, ap, ap₂, arith}
-use Rattle.std.specs.Prelude.{OnOk}
-use Rattle.std.proofs.lemmas.List.{append-nil, append_assoc, length-map, length-reverse, map-append, reverse-append, take_all, take-append-le}
+use Rattle.std.proofs.Common.{◌≡◌, ℕ, suc, ◌+◌, ◌-◌, ◌<◌, ◌≤◌, List, [], ◌∷◌, ◌++◌, length, map, reverse, take, drop, max, refl, sym, ◌∙◌, ap, ap₂, arith}
+use Rattle.std.proofs.lemmas.List.{append-nil, length-map, length-reverse, take_all, take-append-le}
 use Rattle.pict_types.specs.Plain.{plain_bound}
 use Rattle.pict_types.specs.Renaming.{moved}
 use Rattle.pict_types.specs.Entries.{PlainEntry, PlainContext, Variable, variables, EntryIsWellFormed, EntriesAreWellFormed}
@@ -64,8 +63,6 @@ one_opened [] b c = refl
 one_opened (x ∷ rest) b c = ap (λ (z : PlainContext). let y : PlainEntry = record { name = x.name.0; what = Variable (plain_bound x.bound) } in y ∷ z) (one_opened rest b c)
 
 -- a value that is known next
-pub one_known : (vs rest : List Known) (v : Known) → vs ++ reverse (rest ++ v ∷ []) ≡ (vs ++ v ∷ []) ++ reverse rest
-one_known vs rest v = ap (λ z. vs ++ z) (reverse-append rest (v ∷ [])) ∙ sym (append_assoc vs (v ∷ []) (reverse rest))
 
 pub placed_so_far : (vs rest : List Known) (all more : List Known) → vs ++ rest ≡ all ++ more → deepest vs ≤ max (deepest all) (deepest more)
 placed_so_far vs rest all more h = omega (arith, deepest_both vs rest, deepest_both all more, ap deepest h)

@@ -1,5 +1,5 @@
 -- The calls on patterns that give: what is judged without values, and what becomes known.
-use Rattle.std.proofs.Common.{◌≡◌, ◌≤◌, ◌+◌, List, [], ◌++◌, length, Global, Result, Ok, Err, sym, ◌∙◌, ap, ap₂, subst, arith}
+use Rattle.std.proofs.Common.{◌≡◌, ◌≤◌, ◌+◌, List, ◌++◌, length, Global, Result, Ok, Err, sym, ◌∙◌, ap, ap₂, subst, arith}
 use Rattle.std.specs.Prelude.{IfOk, OnErr, OnOk, Vec}
 use Rattle.std.specs.declared.alloc.AllocError.{AllocError}
 use Rattle.pict_syntax.specs.Trees.{Pat, FieldPats}
@@ -30,19 +30,13 @@ use Rattle.pict_infer.specs.Places.{environment_in, IsUnderVariables}
 use Rattle.pict_infer.specs.Opening.{HasFields}
 use Rattle.pict_infer.specs.Environments.{environment_of, known_entries, known_names, GrewFrom, IsAsBefore, IsPlaceOf, MayBeAdded}
 use Rattle.pict_infer.specs.Giving.{typed_pattern, OpensFields}
-use Rattle.pict_infer.specs.Given.{AreGiven, AreGivenOpen, FieldsOpen, GivesType, HasOpenedOwn, IsClosed, IsGiven, IsTyped, IsUnderOwn}
+use Rattle.pict_infer.specs.Given.{AreGiven, AreGivenOpen, FieldsOpen, GivesType, HasOpenedOwn, IsClosed, IsTyped, IsUnderOwn}
 use Rattle.pict_infer.proofs.Depths.{types_length}
 use Rattle.pict_infer.proofs.Growing.{environment, grew_types, opened_types}
 use Rattle.pict_infer.proofs.MadeKnown.{formed_in, grew_twice, own_then_parts, without_values}
 use Rattle.pict_infer.proofs.TakenBack.{IsTakenBack, taken_back}
 use Rattle.pict_infer.proofs.Unused.{pattern_passes, fields_pass}
 use Rattle.pict_rules.proofs.OwnBinders.{opened_count}
-
-pub giving_alone : (e : Environment) (p : Pat) → IsWellAsked pattern_ e (pattern_gives p) → IsWellAsked pattern_ (without_values e) (pattern_gives p)
-giving_alone e p a = record { labels = a.labels; regular = record { entries = a.regular.entries; known = tt }; asked = tt }
-
-pub parts_alone : (e : Environment) (f : FieldPats) → IsWellAsked fields_ e (fields_give f) → IsWellAsked fields_ (without_values e) (fields_give f)
-parts_alone e f a = record { labels = a.labels; regular = record { entries = a.regular.entries; known = tt }; asked = tt }
 
 giving_refused : (e : Environment) (p : Pat) (y : InferError) → IsRefused (rule (without_values e) (pattern_gives p)) y → IsRefused (rule e (pattern_gives p)) y
 giving_refused e p (Named c i) h = (pattern_passes p (without_values e) e.values).on (stuck c i) h
@@ -79,14 +73,6 @@ pub typed_answer : (old new : Env) (p : Pat) (r : Result Typed InferError) → I
     → IfOk r (λ x. x.adds.base ≡ length (type_context old.context)) → OnOk r (environment_in new.context ≡ environment_in old.context) → new.values.items ≡ old.values.items → GivesType old new p r
 typed_answer old new p (Ok x) a h b q v = typed old new p x a h b q v
 typed_answer old new p (Err y) a h b q v = giving_refused (environment_of old) p y h
-
-pub becomes_given : (old mid new : Env) (p : Pat) (x : Typed) → IsTyped old mid p x → environment_of new ≡ extended (environment_of mid) (extension_of x.adds) → GrewFrom mid new → IsGiven old new p x.has
-becomes_given old mid new p x t k g = record {
-  adds = extension_of x.adds;
-  holds = t.holds;
-  known = k ∙ ap (λ z. extended z (extension_of x.adds)) t.same.known;
-  grew = grew_twice old mid new (grew_types old mid [] (ap (λ (z : Environment). z.names) t.same.known) (ap (λ (z : Environment). z.context) t.same.known) t.same.items) g;
-}
 
 -- type variables that became known
 pub under_own : (old new : Env) (own : List KnownType) → environment_in new.context ≡ with_own (environment_in old.context) own → new.values.items ≡ old.values.items → IsUnderOwn old new own

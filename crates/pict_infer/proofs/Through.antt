@@ -1,5 +1,5 @@
 -- Rules that go on after a step, from the rule that ends with it.
-use Rattle.std.proofs.Common.{◌≡◌, Option, Some, None}
+use Rattle.std.proofs.Common.{Option, Some, None}
 use Rattle.pict_syntax.specs.declared.code.Code.{Code}
 use Rattle.pict_syntax.specs.declared.span.Span.{Span}
 use Rattle.pict_types.specs.Types.{PlainType, Top, Int, Char, Str, Boolean, Var, Apply, Chan, Fields, Rec}
@@ -75,5 +75,3 @@ pub parted : {s t : Sort} {e : Environment} {j : Judgement s} {k : Result s → 
 parted = record { on_ok = λ x a p h. part_ok p h; on_stuck = λ c i p. part_stuck p }
 
 -- a rule that is another one
-pub same_rule : {s : Sort} {r q : Rule s} {a : Answer s} → r ≡ q → Runs q a → Runs r a
-same_rule {a = a} e h = rw e h

@@ -1,4 +1,5 @@
 // What each token leads to where a value, a process or either begins.
+#![tactic(auto, using(pict_syntax::proofs::ValueLists::tree_lists), unfolding(pict_syntax::specs::PlainTrees::type_of, pict_syntax::specs::PlainTrees::pat_of, pict_syntax::specs::PlainTrees::dec_of))]
 
 ghost use Rattle.pict_syntax.specs.Trees.{no_decs};
 ghost use Rattle.pict_automaton.specs.Places.{paren_declarations, waiting};
@@ -15,7 +16,6 @@ use pict_syntax::{Chan, Id, Keyword, Name, Proc, Sign, Span, TokenKind, Val};
 use std::alloc::Global;
 
 // A keyword right behind `(`.
-#[tactic(auto, using(pict_syntax::proofs::ValueLists::tree_lists), unfolding(pict_syntax::specs::PlainTrees::type_of, pict_syntax::specs::PlainTrees::pat_of, pict_syntax::specs::PlainTrees::dec_of))]
 fn begin_first(
     alloc: Global,
     word: Keyword,
@@ -37,7 +37,6 @@ fn begin_first(
 }
 
 // A name where the token behind a value says what the value is for.
-#[tactic(auto, using(pict_syntax::proofs::ValueLists::tree_lists), unfolding(pict_syntax::specs::PlainTrees::type_of, pict_syntax::specs::PlainTrees::pat_of, pict_syntax::specs::PlainTrees::dec_of))]
 fn name_waiting(name: Name, at: Span, wait: Wait) -> Result<State, Fault>
     ensures { Gives result (name_value name at (waiting (wait_of wait))) }
 {
@@ -56,7 +55,6 @@ fn name_waiting(name: Name, at: Span, wait: Wait) -> Result<State, Fault>
 }
 
 // A name where a value begins.
-#[tactic(auto, using(pict_syntax::proofs::ValueLists::tree_lists), unfolding(pict_syntax::specs::PlainTrees::type_of, pict_syntax::specs::PlainTrees::pat_of, pict_syntax::specs::PlainTrees::dec_of))]
 fn name_value(alloc: Global, name: Name, at: Span, place: Box<ValuePlace>) -> Result<State, Fault>
     ensures { Gives result (name_value name at (value_place_of place.value)) }
 {
@@ -67,7 +65,6 @@ fn name_value(alloc: Global, name: Name, at: Span, place: Box<ValuePlace>) -> Re
 }
 
 // A word of a declaration where a value begins.
-#[tactic(auto, using(pict_syntax::proofs::ValueLists::tree_lists), unfolding(pict_syntax::specs::PlainTrees::type_of, pict_syntax::specs::PlainTrees::pat_of, pict_syntax::specs::PlainTrees::dec_of))]
 fn declaration_value(
     alloc: Global,
     word: Keyword,
@@ -96,7 +93,6 @@ fn declaration_value(
 }
 
 // A word where a value begins.
-#[tactic(auto, using(pict_syntax::proofs::ValueLists::tree_lists), unfolding(pict_syntax::specs::PlainTrees::type_of, pict_syntax::specs::PlainTrees::pat_of, pict_syntax::specs::PlainTrees::dec_of))]
 fn keyword_value(
     alloc: Global,
     word: Keyword,
@@ -117,7 +113,6 @@ fn keyword_value(
 }
 
 // A sign where a value begins.
-#[tactic(auto, using(pict_syntax::proofs::ValueLists::tree_lists), unfolding(pict_syntax::specs::PlainTrees::type_of, pict_syntax::specs::PlainTrees::pat_of, pict_syntax::specs::PlainTrees::dec_of))]
 fn sign_value(alloc: Global, sign: Sign, at: Span, place: Box<ValuePlace>) -> Result<State, Fault>
     ensures { Gives result (sign_value sign at (value_place_of place.value)) }
 {
@@ -139,7 +134,6 @@ fn sign_value(alloc: Global, sign: Sign, at: Span, place: Box<ValuePlace>) -> Re
 }
 
 /// A value begins.
-#[tactic(auto, using(pict_syntax::proofs::ValueLists::tree_lists), unfolding(pict_syntax::specs::PlainTrees::type_of, pict_syntax::specs::PlainTrees::pat_of, pict_syntax::specs::PlainTrees::dec_of))]
 pub fn begin_value(
     alloc: Global,
     kind: &TokenKind,
@@ -163,7 +157,6 @@ pub fn begin_value(
 }
 
 // A process begins.
-#[tactic(auto, using(pict_syntax::proofs::ValueLists::tree_lists), unfolding(pict_syntax::specs::PlainTrees::type_of, pict_syntax::specs::PlainTrees::pat_of, pict_syntax::specs::PlainTrees::dec_of))]
 fn begin_process(
     alloc: Global,
     kind: &TokenKind,
@@ -194,7 +187,6 @@ fn begin_process(
 }
 
 // A name where a value or a process begins.
-#[tactic(auto, using(pict_syntax::proofs::ValueLists::tree_lists), unfolding(pict_syntax::specs::PlainTrees::type_of, pict_syntax::specs::PlainTrees::pat_of, pict_syntax::specs::PlainTrees::dec_of))]
 fn name_either(alloc: Global, name: Name, at: Span, place: Box<EitherPlace>) -> Result<State, Fault>
     ensures { Gives result (name_either name at (either_place_of place.value)) }
 {
@@ -216,7 +208,6 @@ fn name_either(alloc: Global, name: Name, at: Span, place: Box<EitherPlace>) -> 
 }
 
 // A word of a declaration where a value or a process begins.
-#[tactic(auto, using(pict_syntax::proofs::ValueLists::tree_lists), unfolding(pict_syntax::specs::PlainTrees::type_of, pict_syntax::specs::PlainTrees::pat_of, pict_syntax::specs::PlainTrees::dec_of))]
 fn declaration_either(
     alloc: Global,
     word: Keyword,
@@ -239,7 +230,6 @@ fn declaration_either(
 }
 
 // A word where a value or a process begins.
-#[tactic(auto, using(pict_syntax::proofs::ValueLists::tree_lists), unfolding(pict_syntax::specs::PlainTrees::type_of, pict_syntax::specs::PlainTrees::pat_of, pict_syntax::specs::PlainTrees::dec_of))]
 fn keyword_either(
     alloc: Global,
     word: Keyword,
@@ -260,7 +250,6 @@ fn keyword_either(
 }
 
 // The `)` of `()`, the process that does nothing.
-#[tactic(auto, using(pict_syntax::proofs::ValueLists::tree_lists), unfolding(pict_syntax::specs::PlainTrees::type_of, pict_syntax::specs::PlainTrees::pat_of, pict_syntax::specs::PlainTrees::dec_of))]
 fn close_inert(alloc: Global, at: Span, place: Box<EitherPlace>) -> Result<State, Fault>
     ensures { Gives result (close_inert at (either_place_of place.value)) }
 {
@@ -277,7 +266,6 @@ fn close_inert(alloc: Global, at: Span, place: Box<EitherPlace>) -> Result<State
 }
 
 // A sign where a value or a process begins.
-#[tactic(auto, using(pict_syntax::proofs::ValueLists::tree_lists), unfolding(pict_syntax::specs::PlainTrees::type_of, pict_syntax::specs::PlainTrees::pat_of, pict_syntax::specs::PlainTrees::dec_of))]
 fn sign_either(alloc: Global, sign: Sign, at: Span, place: Box<EitherPlace>) -> Result<State, Fault>
     ensures { Gives result (sign_either sign at (either_place_of place.value)) }
 {
@@ -300,7 +288,6 @@ fn sign_either(alloc: Global, sign: Sign, at: Span, place: Box<EitherPlace>) -> 
 }
 
 // A value or a process begins.
-#[tactic(auto, using(pict_syntax::proofs::ValueLists::tree_lists), unfolding(pict_syntax::specs::PlainTrees::type_of, pict_syntax::specs::PlainTrees::pat_of, pict_syntax::specs::PlainTrees::dec_of))]
 fn begin_either(
     alloc: Global,
     kind: &TokenKind,
@@ -324,7 +311,6 @@ fn begin_either(
 }
 
 /// A value, a process or a declaration begins where it is to come.
-#[tactic(auto, using(pict_syntax::proofs::ValueLists::tree_lists), unfolding(pict_syntax::specs::PlainTrees::type_of, pict_syntax::specs::PlainTrees::pat_of, pict_syntax::specs::PlainTrees::dec_of))]
 pub fn step_need(alloc: Global, kind: &TokenKind, at: Span, place: Place) -> Result<State, Fault>
     ensures { Gives result (step_need kind.now at (place_of place)) }
 {

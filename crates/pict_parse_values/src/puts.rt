@@ -1,4 +1,5 @@
 // Whole declarations, abstractions, processes and values are put where they stand.
+#![tactic(auto, using(pict_syntax::proofs::ValueLists::tree_lists), unfolding(pict_syntax::specs::PlainTrees::type_of, pict_syntax::specs::PlainTrees::pat_of, pict_syntax::specs::PlainTrees::dec_of))]
 
 ghost use Rattle.pict_syntax.specs.PlainTrees.{abs_of, chan_of, val_of, proc_of};
 ghost use Rattle.pict_automaton.specs.Machine.{put_abstraction, put_process, put_processes, put_value, put_values, put_channel};
@@ -13,7 +14,6 @@ use pict_syntax::{Abs, Chan, Dec, LabelledVal, Proc, Val};
 use std::alloc::Global;
 
 /// A whole abstraction is put at its place.
-#[tactic(auto, using(pict_syntax::proofs::ValueLists::tree_lists), unfolding(pict_syntax::specs::PlainTrees::type_of, pict_syntax::specs::PlainTrees::pat_of, pict_syntax::specs::PlainTrees::dec_of))]
 #[cycle(put)]
 pub fn put_abstraction(
     alloc: Global,
@@ -44,7 +44,6 @@ pub fn put_abstraction(
 }
 
 /// A whole process is put at its place.
-#[tactic(auto, using(pict_syntax::proofs::ValueLists::tree_lists), unfolding(pict_syntax::specs::PlainTrees::type_of, pict_syntax::specs::PlainTrees::pat_of, pict_syntax::specs::PlainTrees::dec_of))]
 #[cycle(put)]
 pub fn put_process(alloc: Global, place: Box<ProcessPlace>, proc: Proc) -> Result<State, Fault>
     ensures { Gives result (put_process (proc_of proc) (process_place_of place.value)) }
@@ -77,7 +76,6 @@ pub fn put_process(alloc: Global, place: Box<ProcessPlace>, proc: Proc) -> Resul
 }
 
 /// A whole process is put where a process may come.
-#[tactic(auto, using(pict_syntax::proofs::ValueLists::tree_lists), unfolding(pict_syntax::specs::PlainTrees::type_of, pict_syntax::specs::PlainTrees::pat_of, pict_syntax::specs::PlainTrees::dec_of))]
 #[cycle(put)]
 pub fn put_processes(alloc: Global, place: ProcessPlaces, proc: Proc) -> Result<State, Fault>
     ensures { Gives result (put_processes (proc_of proc) (processes_place_of place)) }
@@ -96,7 +94,6 @@ pub fn put_processes(alloc: Global, place: ProcessPlaces, proc: Proc) -> Result<
 }
 
 /// A whole value, of which no more is to come, is put at its place.
-#[tactic(auto, using(pict_syntax::proofs::ValueLists::tree_lists), unfolding(pict_syntax::specs::PlainTrees::type_of, pict_syntax::specs::PlainTrees::pat_of, pict_syntax::specs::PlainTrees::dec_of))]
 #[cycle(put)]
 pub fn put_value(alloc: Global, place: Box<ValuePlace>, val: Val) -> Result<State, Fault>
     ensures { Gives result (put_value (val_of val) (value_place_of place.value)) }
@@ -105,7 +102,6 @@ pub fn put_value(alloc: Global, place: Box<ValuePlace>, val: Val) -> Result<Stat
 }
 
 // A whole value, of which no more is to come, is put at a place that stands in no box.
-#[tactic(auto, using(pict_syntax::proofs::ValueLists::tree_lists), unfolding(pict_syntax::specs::PlainTrees::type_of, pict_syntax::specs::PlainTrees::pat_of, pict_syntax::specs::PlainTrees::dec_of))]
 #[cycle(put)]
 pub(crate) fn put_unboxed(alloc: Global, place: ValuePlace, val: Val) -> Result<State, Fault>
     ensures { Gives result (put_value (val_of val) (value_place_of place)) }
@@ -155,7 +151,6 @@ pub(crate) fn put_unboxed(alloc: Global, place: ValuePlace, val: Val) -> Result<
 }
 
 /// A whole value, of which no more is to come, is put where a value may come.
-#[tactic(auto, using(pict_syntax::proofs::ValueLists::tree_lists), unfolding(pict_syntax::specs::PlainTrees::type_of, pict_syntax::specs::PlainTrees::pat_of, pict_syntax::specs::PlainTrees::dec_of))]
 #[cycle(put)]
 pub fn put_values(alloc: Global, place: ValuePlaces, val: Val) -> Result<State, Fault>
     ensures { Gives result (put_values (val_of val) (values_place_of place)) }
@@ -167,7 +162,6 @@ pub fn put_values(alloc: Global, place: ValuePlaces, val: Val) -> Result<State, 
 }
 
 /// A value that may be a channel is put at its place.
-#[tactic(auto, using(pict_syntax::proofs::ValueLists::tree_lists), unfolding(pict_syntax::specs::PlainTrees::type_of, pict_syntax::specs::PlainTrees::pat_of, pict_syntax::specs::PlainTrees::dec_of))]
 pub fn put_channel(alloc: Global, place: Place, chan: Chan) -> Result<State, Fault>
     ensures { Gives result (put_channel (chan_of chan) (place_of place)) }
 {
