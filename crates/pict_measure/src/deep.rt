@@ -127,7 +127,7 @@ fn try_listed(rt: &HostRuntime) -> Result<(), Error> {
         listed("channels", b"", b"new x:Top ", 4999, b""),
         listed("values", b"", b"val x=1 ", 1666, b""),
         listed("awaited values", b"", b"1;", 1666, b""),
-        listed("servers", b"def f()=1", b" and f()=1", 2498, b""),
+        listed("servers", b"", b"def f()=1 ", 2499, b""),
         listed("processes", b"run (()", b"|()", 4998, b")"),
         listed("right arguments", b"val x=(+ >", b" 1", 2500, b")"),
         listed("left arguments", b"val x=(+ <", b" 1", 2500, b")"),

@@ -1,7 +1,7 @@
 // The translation, measured.
 
 use crate::sample::{Sample, repeat, text_of};
-use crate::scoping::parsed;
+use crate::scoping::scoped;
 use anyhow::Error;
 use pict_core::{Core, depth};
 use pict_derive::{DeriveError, derive};
@@ -10,10 +10,10 @@ use std::time::Instant;
 
 /// The core process of a text, nothing where the text is refused or its process is too deep.
 pub fn derived(alloc: Global, text: &[u8]) -> Result<Option<Core>, Error> {
-    let Some(found) = parsed(alloc, text)? else {
+    let Some((names, program)) = scoped(alloc, text)? else {
         return Ok(None);
     };
-    match derive(alloc, &found.names, &found.program) {
+    match derive(alloc, &names, &program) {
         Ok(core) => Ok(Some(core)),
         Err(DeriveError::TooDeep(_)) => Ok(None),
         Err(DeriveError::Memory) => Err(DeriveError::Memory.into()),
@@ -102,12 +102,12 @@ fn text_in_groups(alloc: Global, groups: &Groups, size: usize) -> Result<Vec<u8>
 /// Prints how large and how deep the core process of a text is, and with `timed` how long it took to derive and drop it.
 fn measure_text(rt: &HostRuntime, name: &str, text: &[u8], timed: bool) -> Result<(), Error> {
     let alloc = rt.alloc();
-    let Some(found) = parsed(alloc, text)? else {
+    let Some((names, program)) = scoped(alloc, text)? else {
         println!(rt; "derive {name}: no program")?;
         return Ok(());
     };
     let start = Instant::now(rt)?;
-    let derived = derive(alloc, &found.names, &found.program);
+    let derived = derive(alloc, &names, &program);
     let spent = start.elapsed(rt)?;
     match derived {
         Ok(core) => {

@@ -82,7 +82,7 @@ pub static PROGRAMS: [Sample; 4] = [
     },
 ];
 
-/// Texts for the translation: servers, a record, one with labels, and a record in 198 others, whose last field isn't simple,
+/// Texts for the translation: servers, a record, one of records with labels, and a record in 198 others, whose last field isn't simple,
 /// so that it is looked at again for each of them.
 pub static TRANSLATED: [Sample; 4] = [
     Sample {
@@ -102,7 +102,7 @@ pub static TRANSLATED: [Sample; 4] = [
     Sample {
         name: "labels",
         head: b"val x=[",
-        piece: b"b=1 a=2 ",
+        piece: b"[b=1 a=2] ",
         closing: b"",
         tail: b"]",
     },

@@ -3,7 +3,7 @@
 use anyhow::Error;
 use pict_lex::{LexError, lex};
 use pict_parse::{ParseError, parse};
-use pict_scope::{ScopeError, resolve};
+use pict_scope::{ScopeError, Scoped, resolve};
 use pict_syntax::{Names, Program, TEXT_LIMIT};
 use std::alloc::{AllocError, Global};
 use std::time::Instant;
@@ -95,6 +95,18 @@ pub fn parsed(alloc: Global, text: &[u8]) -> Result<Option<Parsed>, Error> {
         Ok(program) => Ok(Some(Parsed { names, program })),
         Err(ParseError::Memory) => Err(ParseError::Memory.into()),
         Err(_) => Ok(None),
+    }
+}
+
+/// The resolved program of a text with its names, or nothing where the text is refused or longer than a text may be.
+pub fn scoped(alloc: Global, text: &[u8]) -> Result<Option<(Names, Scoped)>, Error> {
+    let Some(Parsed { names, program }) = parsed(alloc, text)? else {
+        return Ok(None);
+    };
+    match resolve(alloc, &names, program) {
+        Ok(scoped) => Ok(Some((names, scoped))),
+        Err(ScopeError::Named(_, _)) => Ok(None),
+        Err(ScopeError::Memory) => Err(ScopeError::Memory.into()),
     }
 }
 
