@@ -82,8 +82,8 @@ pub static PROGRAMS: [Sample; 4] = [
     },
 ];
 
-/// Texts for the translation: servers, a record, one of records with labels, and a record in 198 others, whose last field isn't simple,
-/// so that it is looked at again for each of them.
+/// Texts for the translation: servers, a record, one of records with labels, and a record in 198 others, whose last field
+/// isn't simple, so that it is looked at again for each of them.
 pub static TRANSLATED: [Sample; 4] = [
     Sample {
         name: "servers",
