@@ -23,3 +23,7 @@ pub mod NestedFormed
 pub mod NestedForms
 pub mod NestedLevels
 pub mod Frames
+pub mod Marks
+pub mod PutIn
+pub mod WithinBounds
+pub mod AnswerFound
