@@ -26,4 +26,8 @@ pub mod Frames
 pub mod Marks
 pub mod PutIn
 pub mod WithinBounds
+pub mod Arguments
+pub mod Labels
+pub mod CountEnds
+pub mod PutFields
 pub mod AnswerFound
