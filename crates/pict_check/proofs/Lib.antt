@@ -23,3 +23,11 @@ pub mod NestedFormed
 pub mod NestedForms
 pub mod NestedLevels
 pub mod Frames
+pub mod Marks
+pub mod PutIn
+pub mod WithinBounds
+pub mod Arguments
+pub mod Labels
+pub mod CountEnds
+pub mod PutFields
+pub mod AnswerFound

@@ -2,6 +2,7 @@
 //! processes and programs aren't there yet.
 #![tactic(auto)]
 
+mod counts;
 mod fields;
 mod folds;
 mod functions;
