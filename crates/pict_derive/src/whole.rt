@@ -13,6 +13,7 @@ use crate::depths::program_depth;
 use crate::outside::Outside;
 use pict_binders::Binders;
 use pict_core::Core;
+use pict_scope::Scoped;
 use pict_syntax::{DEPTH_LIMIT, Names, Program};
 use std::alloc::{AllocError, Global};
 use thiserror::Error;
@@ -40,18 +41,20 @@ impl From<AllocError> for DeriveError {
 }
 
 /// The core process of a program: its declarations around the inert process. The program is taken with the names that
-/// its numbers stand for. Its depth is told before anything is built.
-pub fn derive(alloc: Global, names: &Names, program: &Program) -> Result<Core, DeriveError>
-    ensures core { IfOk result (λ core. plain_core core ≡ program_core names.now (program_of program.now)) }
-    ensures closed { DecsHaveDistinctLabels (program_of program.now) → IfOk result (λ core. IsClosed (plain_core core)) }
+/// its numbers stand for; a use means its nearest binder by name, so the lists of targets aren't looked at. Its depth is
+/// told before anything is built.
+pub fn derive(alloc: Global, names: &Names, scoped: &Scoped) -> Result<Core, DeriveError>
+    ensures core { IfOk result (λ core. plain_core core ≡ program_core names.now (program_of scoped.now.program)) }
+    ensures closed { DecsHaveDistinctLabels (program_of scoped.now.program) → IfOk result (λ core. IsClosed (plain_core core)) }
     ensures shallow { IfOk result (λ core. depth_of (plain_core core) ≤ DEPTH_LIMIT) }
-    ensures too_deep { (depth : ℕ) → (result ≡ Err (DeriveError.TooDeep depth)) ↔ IsTooDeep (program_core names.now (program_of program.now)) depth }
+    ensures too_deep { (depth : ℕ) → (result ≡ Err (DeriveError.TooDeep depth))
+        ↔ IsTooDeep (program_core names.now (program_of scoped.now.program)) depth }
 {
-    let depth = program_depth(program);
+    let depth = program_depth(&scoped.program);
     if depth > DEPTH_LIMIT {
         return Err(DeriveError::TooDeep(depth));
     }
-    let core = whole(alloc, names, program)?;
+    let core = whole(alloc, names, &scoped.program)?;
     Ok(core)
 }
 

@@ -1,4 +1,4 @@
-// Why a pattern is refused.
+// Why a phrase is refused.
 
 ghost use Rattle.std.specs.Prelude.{◌≡◌};
 ghost use Rattle.pict_infer.specs.Answering.{of_kind_error, of_size_error};
@@ -9,10 +9,10 @@ use pict_types::SizeError;
 use std::alloc::{AllocError, AllocFailed};
 use thiserror::Error;
 
-/// Why the typing rules refuse a pattern.
+/// Why the typing rules refuse a phrase.
 #[derive(Debug, Drop, Error)]
 pub enum InferError {
-    /// The first line of the rules that is false, by its code and at its place: Y4 to Y7, Y13, Y16 and K1 to K4.
+    /// The first line of the rules that is false, by its code and at its place: K1 to K4 and Y1 to Y16.
     #[error("{0:?} at {1:?}")]
     Named(Code, Span),
     /// Want of memory.

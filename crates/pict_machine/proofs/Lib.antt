@@ -1,9 +1,2 @@
 pub mod Sends
-pub mod Entries
-pub mod Holds
-pub mod Steps
-pub mod Parks
-pub mod Meets
-pub mod Simulated
-pub mod Growing
-pub mod Runs
+pub mod Events

@@ -2,13 +2,19 @@
 use Rattle.std.specs.Prelude.{ℕ, ◌≡◌, length, map, Option, Some, None, option_map, Result, Err, IfOk}
 use Rattle.pict_syntax.specs.declared.span.Span.{Span}
 use Rattle.pict_core.specs.declared.process.Core.{Core}
-use Rattle.pict_core.specs.Term.{Val, Process, In, Chan}
+use Rattle.pict_core.specs.Term.{Val, Process, In}
 use Rattle.pict_core.specs.Plain.{plain_core, plain_val, plain_pat, core_of}
 use Rattle.pict_core.specs.Matching.{match_value}
 use Rattle.pict_core.specs.Substitution.{substitute}
 use Rattle.pict_core.specs.Step as step
-use Rattle.pict_machine.specs.View.{View}
-use Rattle.pict_machine.specs.Lists as lists
+use Rattle.pict_core.specs.Run as run
+use Rattle.pict_view.specs.View.{View}
+use Rattle.pict_view.specs.Moved as moved
+use Rattle.pict_view.specs.Moved.{Moved}
+use Rattle.pict_view.specs.Held as held
+use Rattle.pict_view.specs.Held.{Held, view_of_held}
+use Rattle.pict_machine.specs.declared.event.End.{End}
+use Rattle.pict_machine.specs.declared.event.End.TheVariants as end
 use Rattle.pict_machine.specs.declared.event.Event.{Event}
 use Rattle.pict_machine.specs.declared.event.Event.TheVariants as event
 use Rattle.pict_machine.specs.declared.event.StepError.{StepError}
@@ -42,32 +48,35 @@ IsShown (event.Comm channel value) = Unit {0}
 IsShown (event.Print bytes) = Unit {0}
 IsShown _ = ⊥
 
+-- ---- ends
+
+abbrev pub end_of : End → run.End
+end_of end.Done = run.Done
+end_of end.FuelSpent = run.FuelSpent
+end_of (end.Trap at) = run.Trap at
+
 -- ---- machines
 
-abbrev pub plain_message : Message → lists.Message
+abbrev pub plain_message : Message → held.Message
 plain_message m = record { value = plain_val m.value; at = m.at }
 
-abbrev pub plain_reader : Reader → lists.Reader
+abbrev pub plain_reader : Reader → held.Reader
 plain_reader r = record { replicated = r.replicated; pattern = plain_pat r.pattern; body = plain_core (core_of r.body) }
 
 -- the process that the reader is at this channel value
 abbrev pub input_of : Val → Reader → Process
 input_of chan r = In chan r.replicated (plain_pat r.pattern) (plain_core (core_of r.body))
 
-abbrev pub plain_queue : Queue → lists.Queue
-plain_queue (queue.Messages q) = lists.Messages (map plain_message q.items)
-plain_queue (queue.Readers q) = lists.Readers (map plain_reader q.items)
+abbrev pub plain_queue : Queue → held.Queue
+plain_queue (queue.Messages q) = held.Messages (map plain_message q.items)
+plain_queue (queue.Readers q) = held.Readers (map plain_reader q.items)
 
-abbrev pub lists_of : Machine → lists.Lists
-lists_of m = record { ready = map plain_core m.ready.items; queues = map plain_queue m.queues.items }
-
--- the lists of processes that the queues hold
-abbrev pub view_of_lists : lists.Lists → View
-view_of_lists h = record { ready = h.ready; channels = lists.parked_from 0 h.queues }
+abbrev pub held_of : Machine → Held
+held_of m = record { ready = map plain_core m.ready.items; queues = map plain_queue m.queues.items }
 
 -- the view of a machine
 abbrev pub view_of : Machine → View
-view_of m = view_of_lists (lists_of m)
+view_of m = view_of_held (held_of m)
 
 -- how many channels are made
 abbrev pub channels_of : Machine → ℕ
@@ -76,32 +85,32 @@ channels_of m = length m.queues.items
 -- ---- what the machine's parts answer
 
 -- the body of a reader with what it binds of a value, or nothing where the value doesn't fit
-abbrev pub IsServed : Option Core → lists.Reader → Val → Type 0
+abbrev pub IsServed : Option Core → held.Reader → Val → Type 0
 IsServed None r v = match_value r.pattern v ≡ None
 IsServed (Some p) r v = option_map (λ bound. substitute 0 bound r.body) (match_value r.pattern v) ≡ Some (plain_core p)
 
-abbrev pub IsOffered : Offered → lists.Queue → lists.Message → lists.Queue → Type 0
-IsOffered offered.Waits old m new = lists.offered old m ≡ lists.Parks new
-IsOffered (offered.Meets p v) old m new = (lists.offered old m ≡ lists.Meets (plain_core p) new) × (plain_val v ≡ m.value)
-IsOffered (offered.Misfits n) old m new = (lists.offered old m ≡ lists.Unfit) × (plain_message n ≡ m) × (new ≡ old)
+abbrev pub IsOffered : Offered → held.Queue → held.Message → held.Queue → Type 0
+IsOffered offered.Waits old m new = held.offered old m ≡ held.Parks new
+IsOffered (offered.Meets p v) old m new = (held.offered old m ≡ held.Meets (plain_core p) new) × (plain_val v ≡ m.value)
+IsOffered (offered.Misfits n) old m new = (held.offered old m ≡ held.Unfit) × (plain_message n ≡ m) × (new ≡ old)
 
-abbrev pub IsAsked : Asked → lists.Queue → lists.Reader → lists.Queue → Type 0
-IsAsked asked.Waits old r new = lists.asked old r ≡ lists.Waits new
-IsAsked (asked.Gets s p v) old r new = (lists.asked old r ≡ lists.Gets (plain_core p) (plain_val v) new) × (plain_reader s ≡ r)
-IsAsked (asked.Misfits s) old r new = (lists.asked old r ≡ lists.Misfit) × (plain_reader s ≡ r) × (new ≡ old)
+abbrev pub IsAsked : Asked → held.Queue → held.Reader → held.Queue → Type 0
+IsAsked asked.Waits old r new = held.asked old r ≡ held.Waits new
+IsAsked (asked.Gets s p v) old r new = (held.asked old r ≡ held.Gets (plain_core p) (plain_val v) new) × (plain_reader s ≡ r)
+IsAsked (asked.Misfits s) old r new = (held.asked old r ≡ held.Misfit) × (plain_reader s ≡ r) × (new ≡ old)
 
--- the event of a step of the lists, and the lists after it
-abbrev pub HasEvent : Event → lists.Moved → lists.Lists → lists.Lists → Type 0
-HasEvent (event.Trapped at) m old new = (m ≡ lists.Stops at) × (new ≡ old)
-HasEvent event.Quiet m old new = m ≡ lists.Moves new step.Quiet
-HasEvent (event.Comm channel value) m old new = m ≡ lists.Moves new (step.Comm channel (plain_val value))
-HasEvent (event.Print bytes) m old new = m ≡ lists.Moves new (step.Print bytes)
+-- the event of a step of what is held, and what is held after it
+abbrev pub HasEvent : Event → Moved Held → Held → Held → Type 0
+HasEvent (event.Trapped at) m old new = (m ≡ moved.Stops at) × (new ≡ old)
+HasEvent event.Quiet m old new = m ≡ moved.Moves new step.Quiet
+HasEvent (event.Comm channel value) m old new = m ≡ moved.Moves new (step.Comm channel (plain_val value))
+HasEvent (event.Print bytes) m old new = m ≡ moved.Moves new (step.Print bytes)
 
--- what the machine's step answers, and what it does to the lists
-pub record IsStep (old : lists.Lists) (result : Result Event StepError) (new : lists.Lists) : Type 0 where
-  pub ok : IfOk result (λ e. HasEvent e (lists.next_lists old) old new)
-  pub shape : result ≡ Err fault.Shape → (lists.next_lists old ≡ lists.Misshapen) × (new ≡ old)
+-- what the machine's step answers, and what it does to what is held
+pub record IsStep (old : Held) (result : Result Event StepError) (new : Held) : Type 0 where
+  pub ok : IfOk result (λ e. HasEvent e (held.next_held old) old new)
+  pub shape : result ≡ Err fault.Shape → (held.next_held old ≡ moved.Misshapen) × (new ≡ old)
 
 -- the same of a process that has the turn, before the others
-abbrev pub Acts : Process → lists.Lists → Result Event StepError → lists.Lists → Type 0
-Acts p rest result new = IsStep (lists.in_front p rest) result new
+abbrev pub Acts : Process → Held → Result Event StepError → Held → Type 0
+Acts p rest result new = IsStep (held.in_front p rest) result new

@@ -7,10 +7,11 @@ ghost use Rattle.pict_core.specs.Term.{Out, New, If, Chan, PrimitiveVal};
 ghost use Rattle.pict_core.specs.Closed.{IsClosed};
 ghost use Rattle.pict_core.specs.Configuration.{Configuration, IsConfiguration, opening};
 ghost use Rattle.pict_core.specs.Step.{next, Wrong, Finished};
-ghost use Rattle.pict_machine.specs.View.{View, StandsFor};
-ghost use Rattle.pict_machine.specs.Lists.{Lists, turn, in_front};
-ghost use Rattle.pict_machine.specs.Plain.{view_of, channels_of, lists_of, input_of, Acts, IsStep};
-ghost use Rattle.pict_machine.specs.Stepping.{IsStepOf};
+ghost use Rattle.pict_view.specs.View.{View, StandsFor};
+ghost use Rattle.pict_view.specs.Moved.{if_replicated};
+ghost use Rattle.pict_view.specs.Held.{Held, in_front};
+ghost use Rattle.pict_view.specs.Stepping.{IsStepOf};
+ghost use Rattle.pict_machine.specs.Plain.{view_of, channels_of, held_of, input_of, label_of, trap_of, Acts, IsStep};
 
 use crate::event::{Event, StepError};
 use crate::queue::{Asked, Message, Offered, Queue, Reader};
@@ -35,7 +36,7 @@ pub struct Machine {
 // A replicated reader that received keeps the turn; a plain one ends.
 fn keep_turn(ready: &mut VecDeque<Core>, channel: u32, reader: Reader)
     requires { deque_len ready.old < deque_capacity ready.old }
-    ensures { map plain_core ready.new.items ≡ turn reader.replicated (input_of (Chan channel) reader) ++ map plain_core ready.old.items }
+    ensures { map plain_core ready.new.items ≡ if_replicated reader.replicated (input_of (Chan channel) reader) ++ map plain_core ready.old.items }
 {
     if reader.replicated {
         ready.push_front_reserved(reader.input(channel));
@@ -77,7 +78,7 @@ impl Machine {
     // The output of the message on the channel.
     fn send(&mut self, channel: u32, message: Message) -> Result<Event, StepError>
         requires { deque_len self.old.ready < deque_capacity self.old.ready }
-        ensures { Acts (Out (Chan channel) (plain_val message.value) message.at) (lists_of self.old) result (lists_of self.new) }
+        ensures { Acts (Out (Chan channel) (plain_val message.value) message.at) (held_of self.old) result (held_of self.new) }
     {
         let index = channel as usize;
         if index >= self.queues.len() {
@@ -100,7 +101,7 @@ impl Machine {
     // The input of the reader at the channel.
     fn receive(&mut self, channel: u32, reader: Reader) -> Result<Event, StepError>
         requires { deque_len self.old.ready + 1 < deque_capacity self.old.ready }
-        ensures { Acts (input_of (Chan channel) reader) (lists_of self.old) result (lists_of self.new) }
+        ensures { Acts (input_of (Chan channel) reader) (held_of self.old) result (held_of self.new) }
     {
         let index = channel as usize;
         if index >= self.queues.len() {
@@ -124,7 +125,7 @@ impl Machine {
     // The output of the argument to the primitive.
     fn call(&mut self, primitive: Prim, argument: CoreVal, at: Span) -> Result<Event, StepError>
         requires { deque_len self.old.ready < deque_capacity self.old.ready }
-        ensures { Acts (Out (PrimitiveVal primitive) (plain_val argument) at) (lists_of self.old) result (lists_of self.new) }
+        ensures { Acts (Out (PrimitiveVal primitive) (plain_val argument) at) (held_of self.old) result (held_of self.new) }
     {
         match attempt(self.alloc, primitive, &argument)? {
             None => {
@@ -151,7 +152,7 @@ impl Machine {
     // This output has the turn.
     fn keep_output(&mut self, chan: CoreVal, message: CoreVal, at: Span)
         requires { deque_len self.old.ready < deque_capacity self.old.ready }
-        ensures { lists_of self.new ≡ in_front (Out (plain_val chan) (plain_val message) at) (lists_of self.old) }
+        ensures { held_of self.new ≡ in_front (Out (plain_val chan) (plain_val message) at) (held_of self.old) }
     {
         self.ready
             .push_front_reserved(Core::Out { chan, message, at });
@@ -161,7 +162,7 @@ impl Machine {
     fn make_channel(&mut self, body: Part) -> Result<Event, StepError>
         requires room { deque_len self.old.ready < deque_capacity self.old.ready }
         requires few { length self.old.queues.items + 1 < 2 ^ 32 }
-        ensures { Acts (New (plain_core (core_of body))) (lists_of self.old) result (lists_of self.new) }
+        ensures { Acts (New (plain_core (core_of body))) (held_of self.old) result (held_of self.new) }
     {
         let number = self.queues.len() as u32;
         self.queues.reserve(1)?;
@@ -175,7 +176,7 @@ impl Machine {
     // The branch that the test chooses.
     fn choose(&mut self, test: CoreVal, yes: Part, no: Part) -> Result<Event, StepError>
         requires { deque_len self.old.ready < deque_capacity self.old.ready }
-        ensures { Acts (If (plain_val test) (plain_core (core_of yes)) (plain_core (core_of no))) (lists_of self.old) result (lists_of self.new) }
+        ensures { Acts (If (plain_val test) (plain_core (core_of yes)) (plain_core (core_of no))) (held_of self.old) result (held_of self.new) }
     {
         match test {
             CoreVal::Bool(true) => {
@@ -196,7 +197,7 @@ impl Machine {
     // An output, to whatever it is sent.
     fn output(&mut self, chan: CoreVal, message: CoreVal, at: Span) -> Result<Event, StepError>
         requires { deque_len self.old.ready < deque_capacity self.old.ready }
-        ensures { Acts (Out (plain_val chan) (plain_val message) at) (lists_of self.old) result (lists_of self.new) }
+        ensures { Acts (Out (plain_val chan) (plain_val message) at) (held_of self.old) result (held_of self.new) }
     {
         match chan {
             CoreVal::Chan(channel) => self.send(channel, Message { value: message, at }),
@@ -211,7 +212,7 @@ impl Machine {
     // An input, from whatever it receives.
     fn input(&mut self, chan: CoreVal, reader: Reader) -> Result<Event, StepError>
         requires { deque_len self.old.ready + 1 < deque_capacity self.old.ready }
-        ensures { Acts (input_of (plain_val chan) reader) (lists_of self.old) result (lists_of self.new) }
+        ensures { Acts (input_of (plain_val chan) reader) (held_of self.old) result (held_of self.new) }
     {
         match chan {
             CoreVal::Chan(channel) => self.receive(channel, reader),
@@ -231,7 +232,7 @@ impl Machine {
     fn act(&mut self, process: Core) -> Result<Event, StepError>
         requires room { deque_len self.old.ready + 1 < deque_capacity self.old.ready }
         requires few { length self.old.queues.items + 1 < 2 ^ 32 }
-        ensures { Acts (plain_core process) (lists_of self.old) result (lists_of self.new) }
+        ensures { Acts (plain_core process) (held_of self.old) result (held_of self.new) }
     {
         match process {
             Core::Zero => Ok(Event::Quiet),
@@ -259,11 +260,11 @@ impl Machine {
         }
     }
 
-    // The step, as the lists see it.
+    // The step, as the queues see it.
     fn advance(&mut self) -> Result<Event, StepError>
         requires ready { (view_of self.old).ready ≢ [] }
         requires few { channels_of self.old + 1 < 2 ^ 32 }
-        ensures { IsStep (lists_of self.old) result (lists_of self.new) }
+        ensures { IsStep (held_of self.old) result (held_of self.new) }
     {
         self.ready.reserve(1)?;
         // Something is ready.
@@ -283,7 +284,7 @@ impl Machine {
     pub fn step(&mut self) -> Result<Event, StepError>
         requires ready { (view_of self.old).ready ≢ [] }
         requires few { channels_of self.old + 1 < 2 ^ 32 }
-        ensures ok { IfOk result (λ event. (C : Configuration) → IsConfiguration C → StandsFor (view_of self.old) C → IsStepOf C event (view_of self.new)) }
+        ensures ok { IfOk result (λ event. (C : Configuration) → IsConfiguration C → StandsFor (view_of self.old) C → IsStepOf C (label_of event) (trap_of event) (view_of self.new)) }
         ensures shape { result ≡ Err StepError.Shape → (C : Configuration) → IsConfiguration C → StandsFor (view_of self.old) C → next C ≡ Wrong }
         ensures unchanged { result ≡ Err StepError.Shape → view_of self.new ≡ view_of self.old }
         ensures trapped { (at : Span) → result ≡ Ok (Event.Trapped at) → view_of self.new ≡ view_of self.old }

@@ -4,7 +4,7 @@ ghost use Rattle.std.specs.Prelude.{◌≡◌, ◌<◌, ◌++◌, map, IfOk};
 ghost use Rattle.std.specs.VecDeque.{deque_len, deque_capacity};
 ghost use Rattle.pict_core.specs.Plain.{plain_core, plain_val};
 ghost use Rattle.pict_core.specs.Term.{Out, Chan};
-ghost use Rattle.pict_machine.specs.Lists.{again, served};
+ghost use Rattle.pict_view.specs.Moved.{if_replicated};
 ghost use Rattle.pict_machine.specs.Plain.{plain_message, plain_reader, plain_queue, input_of, IsOffered, IsAsked, IsServed};
 
 use pict_core::{Core, CorePat, CoreVal, Part, match_value, substitute};
@@ -90,7 +90,7 @@ impl Reader {
 // A replicated reader that served goes behind the others; a plain one ends.
 fn requeue(readers: &mut VecDeque<Reader>, reader: Reader)
     requires { deque_len readers.old < deque_capacity readers.old }
-    ensures { map plain_reader readers.new.items ≡ map plain_reader readers.old.items ++ again reader.replicated (plain_reader reader) }
+    ensures { map plain_reader readers.new.items ≡ map plain_reader readers.old.items ++ if_replicated reader.replicated (plain_reader reader) }
 {
     if reader.replicated {
         readers.push_back_reserved(reader);

@@ -5,9 +5,9 @@ ghost use Rattle.pict_outside.specs.Counts.{Rose};
 ghost use Rattle.pict_core.specs.Configuration.{Configuration, IsConfiguration};
 ghost use Rattle.pict_core.specs.Step.{Label};
 ghost use Rattle.pict_core.specs.Run.{shown, Misshapen};
-ghost use Rattle.pict_machine.specs.View.{StandsFor};
-ghost use Rattle.pict_machine.specs.Plain.{view_of, channels_of, label_of, IsShown};
-ghost use Rattle.pict_machine.specs.Watching.{WhereTold, Saw, SawOrTore, Ran, BrokeOff, end_of};
+ghost use Rattle.pict_view.specs.View.{StandsFor};
+ghost use Rattle.pict_view.specs.Watching.{WhereTold, Saw, SawOrTore, Ran, BrokeOff};
+ghost use Rattle.pict_machine.specs.Plain.{view_of, channels_of, label_of, end_of, IsShown};
 
 use crate::event::{End, Event, RunError, StepError};
 use crate::machine::Machine;

@@ -358,8 +358,9 @@ fn match_bound(
 /// In `wanted` the type fields are the innermost variables, the last one at 0, and the variables of `c` come after them;
 /// `given` and the types that are found are written in `c`. A type field that isn't found yet becomes what stands in its
 /// place in `given`, where that mentions no variable bound within the two types; otherwise the two are taken apart side by
-/// side, variables of `given` by their bounds. The first place in reading order counts. The only error is want of
-/// memory, after which `found` may have gained some of these.
+/// side, variables of `given` by their bounds. The first place counts, in this order: bounds, positional fields, then
+/// labels in the order of their bytes. `found` has one entry a type field. The only error is want of memory, after which
+/// `found` may have gained some of these.
 pub fn match_type(
     alloc: Global,
     c: &Context,

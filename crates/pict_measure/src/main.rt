@@ -1,14 +1,18 @@
 //! Measures how fast the phases of the compiler work.
 //!
-//! Without a word it works on texts of 1,000 bytes and prints what it found in them, and runs 1,000 steps of rings of
-//! servers. With a number from 1 to 1,048,576 as its word it works on texts of so many bytes and runs so many steps, and
-//! prints how long each took and how many bytes or steps that is in a second: `rt run -- 1048576`.
+//! Without a word it works on texts of 1,000 bytes and prints what it found in them, translates programs at the limits of
+//! nesting and of depth, and runs 1,000 steps of rings of servers. With a number from 1 to 1,048,576 as its word it works
+//! on texts of so many bytes and runs so many steps, and prints how long each took and how many bytes or steps that is in
+//! a second: `rt run -- 1048576`.
 #![tactic(auto)]
 
+mod deep;
+mod deriving;
 mod lexing;
 mod parsing;
 mod running;
 mod sample;
+mod scoping;
 
 use anyhow::Error;
 use pict_syntax::TEXT_LIMIT;
@@ -38,6 +42,17 @@ fn main(rt: HostRuntime) -> Result<(), Error> {
         let text = sample::text_of(rt.alloc(), sample, size)?;
         parsing::measure(&rt, sample.name, &text, timed)?;
     }
+    let text = scoping::many_names(rt.alloc(), size)?;
+    scoping::measure(&rt, "many names", &text, timed)?;
+    let text = scoping::deep(rt.alloc())?;
+    scoping::measure(&rt, "a deep record", &text, timed)?;
+    for sample in &sample::TRANSLATED {
+        deriving::measure(&rt, sample, size, timed)?;
+    }
+    for groups in &deriving::GROUPS {
+        deriving::measure_groups(&rt, groups, size, timed)?;
+    }
+    deep::try_all(&rt)?;
     let servers = if timed { 300 } else { 10 };
     running::measure(&rt, "a ring", servers, Work::HandsOn, size, timed)?;
     running::measure(

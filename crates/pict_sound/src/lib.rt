@@ -6,6 +6,7 @@ mod source_laws;
 mod typing_laws;
 
 pub use pict_bridge::law_source_to_core;
+pub use pict_reduction::{law_channel_order, law_done, law_parked, law_reading};
 pub use source_laws::law_never_wrong;
 pub use typing_laws::{
     law_free_step_keeps, law_no_choices_go_wrong, law_not_wrong, law_typed_runs_are_right,

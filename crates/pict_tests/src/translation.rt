@@ -6,6 +6,7 @@ use pict_derive::{DeriveError, derive};
 use pict_lex::lex;
 use pict_machine::{End, Event, Machine, RunError, Watcher};
 use pict_parse::parse;
+use pict_scope::resolve;
 use pict_syntax::{Name, Names, Prim};
 use std::alloc::{AllocError, Global};
 use std::test::Fail;
@@ -199,11 +200,14 @@ pub fn derived(alloc: Global, names: &mut Names, text: &[u8]) -> Option<Result<C
         Err(_) => None,
         Ok(tokens) => match parse(alloc, &tokens, text.len() as u32) {
             Err(_) => None,
-            Ok(program) => {
-                let core = derive(alloc, &fresh, &program);
-                *names = fresh;
-                Some(core)
-            }
+            Ok(program) => match resolve(alloc, &fresh, program) {
+                Err(_) => None,
+                Ok(scoped) => {
+                    let core = derive(alloc, &fresh, &scoped);
+                    *names = fresh;
+                    Some(core)
+                }
+            },
         },
     }
 }

@@ -5,8 +5,8 @@ use Rattle.pict_core.specs.Term.{Process}
 use Rattle.pict_core.specs.Configuration.{Configuration, opening}
 use Rattle.pict_core.specs.Step.{Label}
 use Rattle.pict_core.specs.Run.{End, printed_by}
-use Rattle.pict_machine.specs.View.{View}
-use Rattle.pict_machine.specs.Watching.{Ran, BrokeOff, Saw, SawOrTore}
+use Rattle.pict_view.specs.View.{View}
+use Rattle.pict_view.specs.Watching.{Ran, BrokeOff, Saw, SawOrTore}
 use Rattle.pict_top.specs.Answer.{Shows}
 use Rattle.pict_top.specs.Changes.{SinkChange, Gained, GainedFront, FailedWithin, Failed, Untouched}
 use Rattle.pict_top.specs.Printed.{form_of, shown_in, written_in, written_after, WrittenInPart, Finished, Somehow}

@@ -4,7 +4,7 @@ use Rattle.std.proofs.lemmas.List.{append-nil}
 use Rattle.std.specs.Io.KnownBytes.{Appends}
 use Rattle.pict_outside.specs.Bytes.{AppendsFront, IsFrontOf}
 use Rattle.pict_core.specs.Step.{Label}
-use Rattle.pict_machine.specs.Watching.{view_after, Saw, SawOrTore, IsTorn}
+use Rattle.pict_view.specs.Watching.{view_after, Saw, SawOrTore, IsTorn}
 use Rattle.pict_top.specs.Printed.{Form, written_in, written_after, WrittenInPart}
 
 module _ (form : Form) where

@@ -5,10 +5,10 @@ ghost use Rattle.pict_core.specs.Configuration.{Configuration, IsConfiguration};
 ghost use Rattle.pict_core.specs.Run.{Misshapen};
 ghost use Rattle.pict_core.specs.Plain.{plain_core};
 ghost use Rattle.pict_core.specs.Closed.{IsClosed};
-ghost use Rattle.pict_machine.specs.View.{StandsFor};
+ghost use Rattle.pict_view.specs.View.{StandsFor};
 ghost use Rattle.pict_machine.specs.Plain.{view_of, channels_of};
-ghost use Rattle.pict_machine.specs.Watching as watching;
-ghost use Rattle.pict_machine.specs.Watching.{Ran, BrokeOff, Saw, SawOrTore};
+ghost use Rattle.pict_machine.specs.Plain as plain;
+ghost use Rattle.pict_view.specs.Watching.{Ran, BrokeOff, Saw, SawOrTore};
 ghost use Rattle.pict_top.specs.Changes.{change_of, GainedFront, FailedWithin};
 ghost use Rattle.pict_top.specs.Answer.{Shows};
 ghost use Rattle.pict_top.specs.Printed.{end_of, form_of, shown_in, written_after, WrittenInPart, Finished, Somehow};
@@ -84,7 +84,7 @@ fn run_on<O: Sink>(
     requires fuel { fuel ≤ FUEL_LIMIT }
     requires few { channels_of machine.old + fuel < 2 ^ 32 }
     ensures end { IfOk result (λ end. (C : Configuration) → IsConfiguration C → StandsFor (view_of machine.old) C
-        → Ran C fuel (watching.end_of end) (view_of machine.new) (Saw (written_after (form_of form names.now)) (O.taken out.old) (O.taken out.new))) }
+        → Ran C fuel (plain.end_of end) (view_of machine.new) (Saw (written_after (form_of form names.now)) (O.taken out.old) (O.taken out.new))) }
     ensures shape { result ≡ Err RunError.Shape → (C : Configuration) → IsConfiguration C → StandsFor (view_of machine.old) C
         → Ran C fuel Misshapen (view_of machine.new) (Saw (written_after (form_of form names.now)) (O.taken out.old) (O.taken out.new)) }
     ensures refused { result ≡ Err RunError.Sink → (C : Configuration) → IsConfiguration C → StandsFor (view_of machine.old) C
@@ -105,7 +105,7 @@ fn run_on<O: Sink>(
 
 /// How a run ended, as the end of a command's work.
 fn finish_of(end: End) -> Finish
-    ensures { end_of result ≡ watching.end_of end }
+    ensures { end_of result ≡ plain.end_of end }
 {
     match end {
         End::Done => Finish::Done,

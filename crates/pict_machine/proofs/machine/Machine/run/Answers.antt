@@ -1,5 +1,6 @@
 use Rattle.std.proofs.Common.{◌≡◌, false, arith, refl, sym, ◌∙◌}
-use Rattle.pict_machine.proofs.Runs.{is_done, is_spent, is_trapped, is_misshapen, one_more, saw_more, refused, refused_lost}
+use Rattle.pict_view.proofs.Runs.{is_done, is_spent, is_trapped, is_misshapen, one_more, saw_more, refused, refused_lost}
+use Rattle.pict_machine.specs.Plain.{label_of, trap_of}
 use Rattle.pict_machine.proofs.machine.Machine.run.Goals as goal
 
 pub returns-then-not-ready-clause-end : goal.returns-then-not-ready-clause-end
@@ -14,15 +15,15 @@ returns-in-Err-Shape-clause-shape g c e C is s =
 
 pub returns-in-Some-clause-end : goal.returns-in-Some-clause-end
 returns-in-Some-clause-end g c C is s =
-    is_trapped _ _ _ _ _ _ c.in-Ok.event _ (omega arith) c.in-Ok.ensures.ok (sym c.in-Some.ensures) (c.loop-step.invariant.stood C is s)
+    is_trapped _ _ _ _ _ _ (label_of c.in-Ok.event) (trap_of c.in-Ok.event) _ (omega arith) c.in-Ok.ensures.ok (sym c.in-Some.ensures) (c.loop-step.invariant.stood C is s)
 
 pub returns-in-Err-clause-refused : goal.returns-in-Err-clause-refused
 returns-in-Err-clause-refused g c e C is s =
-    refused _ _ _ _ _ c.in-Ok.event _ _ _ _ _ _ (omega arith) (c.loop-step.invariant.stood C is s) c.in-Ok.ensures.ok (sym c.in-None.ensures) c.loop-step.invariant.torn_stays c.in-Err.ensures.torn c.in-Err.ensures.one
+    refused _ _ _ _ _ (label_of c.in-Ok.event) (trap_of c.in-Ok.event) _ _ _ _ _ _ (omega arith) (c.loop-step.invariant.stood C is s) c.in-Ok.ensures.ok (sym c.in-None.ensures) c.loop-step.invariant.torn_stays c.in-Err.ensures.torn c.in-Err.ensures.one
 
 pub returns-in-Err-clause-memory : goal.returns-in-Err-clause-memory
 returns-in-Err-clause-memory g c e C is s =
-    refused_lost _ _ _ _ _ c.in-Ok.event _ _ _ _ _ _ (omega arith) (c.loop-step.invariant.stood C is s) c.in-Ok.ensures.ok (sym c.in-None.ensures) c.loop-step.invariant.torn_stays c.in-Err.ensures.torn c.in-Err.ensures.one
+    refused_lost _ _ _ _ _ (label_of c.in-Ok.event) (trap_of c.in-Ok.event) _ _ _ _ _ _ (omega arith) (c.loop-step.invariant.stood C is s) c.in-Ok.ensures.ok (sym c.in-None.ensures) c.loop-step.invariant.torn_stays c.in-Err.ensures.torn c.in-Err.ensures.one
 
 pub loop-step-preserved : goal.loop-step-preserved
 loop-step-preserved g c = record {
@@ -31,7 +32,7 @@ loop-step-preserved g c = record {
   torn_stays = λ v n x after. (λ t. (c.loop-step.invariant.torn_stays v n x after).0 ((c.show.ensures.torn_stays v n x after).0 t), λ t. (c.show.ensures.torn_stays v n x after).1 ((c.loop-step.invariant.torn_stays v n x after).1 t));
   faults_stay = omega (arith, c.loop-step.invariant.faults_stay, c.show.ensures.faults_stay);
   same = g.met.W.Watcher.same_along _ _ _ c.loop-step.invariant.same c.show.ensures.same;
-  stood = λ C is s. one_more _ _ _ _ c.in-Ok.event _ _ (c.loop-step.invariant.stood C is s) c.in-Ok.ensures.ok (sym c.in-None.ensures)
+  stood = λ C is s. one_more _ _ _ _ (label_of c.in-Ok.event) (trap_of c.in-Ok.event) _ _ (c.loop-step.invariant.stood C is s) c.in-Ok.ensures.ok (sym c.in-None.ensures)
       (λ ls d. saw_more _ _ c.loop-step.invariant.next_stays _ _ _ _ c.in-Ok-show.ensures.seen ls d);
 }
 

@@ -1,10 +1,10 @@
 use Rattle.std.proofs.Common.{◌≡◌, ◌≤◌, ◌+◌, ◌↔◌, ℕ, List}
 use Rattle.pict_core.specs.Configuration.{Configuration, IsConfiguration}
 use Rattle.pict_core.specs.Step.{Label}
-use Rattle.pict_machine.specs.View.{StandsFor}
+use Rattle.pict_view.specs.View.{StandsFor}
 use Rattle.pict_machine.specs.Plain.{view_of, channels_of}
-use Rattle.pict_machine.specs.Watching.{Saw}
-use Rattle.pict_machine.proofs.Runs.{Stood}
+use Rattle.pict_view.specs.Watching.{Saw}
+use Rattle.pict_view.proofs.Runs.{Stood}
 use Rattle.pict_machine.proofs.machine.Machine.run.Given as goal
 
 abbrev pub invariant-loop-step : goal.invariant-loop-step

@@ -2,7 +2,7 @@ use Rattle.std.proofs.Common.{◌∙◌, ap, map, arith, ◌<◌, length, ◌∷
 use Rattle.std.proofs.lemmas.List.{map-append}
 use Rattle.pict_core.specs.Term.{Out, Chan}
 use Rattle.pict_core.specs.Plain.{plain_core}
-use Rattle.pict_machine.specs.Lists as lists
+use Rattle.pict_view.specs.Held as held
 use Rattle.pict_machine.proofs.Sends.{send_parked, send_met, send_refused}
 use Rattle.pict_machine.proofs.machine.Machine.send.Goals as goal
 
@@ -23,4 +23,4 @@ returns-in-Misfits c =
     let e = rw c.in-Misfits.is at c.in_ok-offer.ensures in
     send_refused _ _ _ _ _ _ h c.index_mut.ensures.value _ e.0 e.2
     (ap (map plain_core) c.push_front_reserved-in-Misfits.ensures.items
-    ∙ ap (λ p. p ∷ map plain_core c.args.self.now.ready.items) (c.output-in-Misfits.ensures ∙ ap (λ (x : lists.Message). Out (Chan c.args.channel) x.value x.at) e.1))
+    ∙ ap (λ p. p ∷ map plain_core c.args.self.now.ready.items) (c.output-in-Misfits.ensures ∙ ap (λ (x : held.Message). Out (Chan c.args.channel) x.value x.at) e.1))

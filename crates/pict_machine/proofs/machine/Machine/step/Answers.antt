@@ -1,6 +1,6 @@
 use Rattle.std.proofs.Common.{refl}
-use Rattle.pict_machine.proofs.Growing.{steps_grow}
-use Rattle.pict_machine.proofs.Simulated.{steps_of, wrong_of}
+use Rattle.pict_view.proofs.Simulated.{wrong_of}
+use Rattle.pict_machine.proofs.Events.{steps_of, steps_grow}
 use Rattle.pict_machine.proofs.machine.Machine.step.Goals as goal
 
 pub returns-clause-ok : goal.returns-clause-ok

@@ -5,23 +5,23 @@ use Rattle.std.specs.List.{slice_get}
 use Rattle.pict_core.specs.Term.{Process, Zero, Par, New, Out, In, If, Chan}
 use Rattle.pict_core.specs.Configuration.{Entry, Configuration}
 use Rattle.pict_core.specs.Step.{is_ready, is_parked_reader, is_parked_message, reads, sends}
-use Rattle.pict_machine.specs.View.{StandsFor, processes, is_parked_at, list_at}
-use Rattle.pict_machine.specs.Lists as lists
-use Rattle.pict_machine.specs.Plain.{view_of_lists}
+use Rattle.pict_view.specs.View.{StandsFor, processes, is_parked_at, list_at}
+use Rattle.pict_view.specs.Held as held
+use Rattle.pict_view.specs.Held.{Held, view_of_held}
 
-abbrev pub readers_at : ℕ → lists.Queue → List Process
-readers_at c (lists.Messages ms) = []
-readers_at c (lists.Readers rs) = lists.inputs c rs
+abbrev pub readers_at : ℕ → held.Queue → List Process
+readers_at c (held.Messages ms) = []
+readers_at c (held.Readers rs) = held.inputs c rs
 
-abbrev pub messages_at : ℕ → lists.Queue → List Process
-messages_at c (lists.Messages ms) = lists.outputs c ms
-messages_at c (lists.Readers rs) = []
+abbrev pub messages_at : ℕ → held.Queue → List Process
+messages_at c (held.Messages ms) = held.outputs c ms
+messages_at c (held.Readers rs) = []
 
-abbrev pub in_queue : (lists.Queue → List Process) → Option lists.Queue → List Process
+abbrev pub in_queue : (held.Queue → List Process) → Option held.Queue → List Process
 in_queue f None = []
 in_queue f (Some q) = f q
 
-pub record Holds (h : lists.Lists) (C : Configuration) : Type 0 where
+pub record Holds (h : Held) (C : Configuration) : Type 0 where
   pub channels : length h.queues ≡ C.channels
   pub ready : processes is_ready C.entries ≡ h.ready
   pub readers : (c : ℕ) → processes (is_parked_reader c) C.entries ≡ in_queue (readers_at c) (slice_get h.queues c)
@@ -76,22 +76,22 @@ not_both (New p) e = cc
 not_both (Out chan message at) e = cc
 not_both (If test p q) e = cc
 
-only_inputs : (c : ℕ) (rs : List lists.Reader) → filter is_input (lists.inputs c rs) ≡ lists.inputs c rs
+only_inputs : (c : ℕ) (rs : List held.Reader) → filter is_input (held.inputs c rs) ≡ held.inputs c rs
 unfolding is_input
 only_inputs c [] = refl
 only_inputs c (r ∷ rs) = ap (λ ps. In (Chan c) r.replicated r.pattern r.body ∷ ps) (only_inputs c rs)
 
-no_inputs : (c : ℕ) (ms : List lists.Message) → filter is_input (lists.outputs c ms) ≡ []
+no_inputs : (c : ℕ) (ms : List held.Message) → filter is_input (held.outputs c ms) ≡ []
 unfolding is_input
 no_inputs c [] = refl
 no_inputs c (m ∷ ms) = no_inputs c ms
 
-only_outputs : (c : ℕ) (ms : List lists.Message) → filter is_output (lists.outputs c ms) ≡ lists.outputs c ms
+only_outputs : (c : ℕ) (ms : List held.Message) → filter is_output (held.outputs c ms) ≡ held.outputs c ms
 unfolding is_output
 only_outputs c [] = refl
 only_outputs c (m ∷ ms) = ap (λ ps. Out (Chan c) m.value m.at ∷ ps) (only_outputs c ms)
 
-no_outputs : (c : ℕ) (rs : List lists.Reader) → filter is_output (lists.inputs c rs) ≡ []
+no_outputs : (c : ℕ) (rs : List held.Reader) → filter is_output (held.inputs c rs) ≡ []
 unfolding is_output
 no_outputs c [] = refl
 no_outputs c (r ∷ rs) = no_outputs c rs
@@ -168,36 +168,36 @@ without_readers c (e ∷ es) h =
 
 -- ---- the lists of the channels
 
-list_from : (b : ℕ) (qs : List lists.Queue) (c : ℕ) → list_at c (lists.parked_from b qs) ≡ in_queue (lists.parked_in (b + c)) (slice_get qs c)
+list_from : (b : ℕ) (qs : List held.Queue) (c : ℕ) → list_at c (held.lists_from b qs) ≡ in_queue (held.parked_in (b + c)) (slice_get qs c)
 list_from b [] c = refl
-list_from b (q ∷ qs) zero = ap (λ n. lists.parked_in n q) (sym (add-zero b))
-list_from b (q ∷ qs) (suc c) = list_from (suc b) qs c ∙ ap (λ n. in_queue (lists.parked_in n) (slice_get qs c)) (omega arith)
+list_from b (q ∷ qs) zero = ap (λ n. held.parked_in n q) (sym (add-zero b))
+list_from b (q ∷ qs) (suc c) = list_from (suc b) qs c ∙ ap (λ n. in_queue (held.parked_in n) (slice_get qs c)) (omega arith)
 
-list_of : (qs : List lists.Queue) (c : ℕ) → list_at c (lists.parked_from 0 qs) ≡ in_queue (lists.parked_in c) (slice_get qs c)
-list_of qs c = list_from 0 qs c ∙ ap (λ n. in_queue (lists.parked_in n) (slice_get qs c)) (omega arith)
+list_of : (qs : List held.Queue) (c : ℕ) → list_at c (held.lists_from 0 qs) ≡ in_queue (held.parked_in c) (slice_get qs c)
+list_of qs c = list_from 0 qs c ∙ ap (λ n. in_queue (held.parked_in n) (slice_get qs c)) (omega arith)
 
-length_from : (b : ℕ) (qs : List lists.Queue) → length (lists.parked_from b qs) ≡ length qs
+pub length_from : (b : ℕ) (qs : List held.Queue) → length (held.lists_from b qs) ≡ length qs
 length_from b [] = refl
 length_from b (q ∷ qs) = ap suc (length_from (suc b) qs)
 
-inputs_in : (c : ℕ) (o : Option lists.Queue) → filter is_input (in_queue (lists.parked_in c) o) ≡ in_queue (readers_at c) o
+inputs_in : (c : ℕ) (o : Option held.Queue) → filter is_input (in_queue (held.parked_in c) o) ≡ in_queue (readers_at c) o
 inputs_in c None = refl
-inputs_in c (Some (lists.Messages ms)) = no_inputs c ms
-inputs_in c (Some (lists.Readers rs)) = only_inputs c rs
+inputs_in c (Some (held.Messages ms)) = no_inputs c ms
+inputs_in c (Some (held.Readers rs)) = only_inputs c rs
 
-outputs_in : (c : ℕ) (o : Option lists.Queue) → filter is_output (in_queue (lists.parked_in c) o) ≡ in_queue (messages_at c) o
+outputs_in : (c : ℕ) (o : Option held.Queue) → filter is_output (in_queue (held.parked_in c) o) ≡ in_queue (messages_at c) o
 outputs_in c None = refl
-outputs_in c (Some (lists.Messages ms)) = only_outputs c ms
-outputs_in c (Some (lists.Readers rs)) = no_outputs c rs
+outputs_in c (Some (held.Messages ms)) = only_outputs c ms
+outputs_in c (Some (held.Readers rs)) = no_outputs c rs
 
-parked_by : (c : ℕ) (es : List Entry) (o : Option lists.Queue) → processes (is_parked_reader c) es ≡ in_queue (readers_at c) o → processes (is_parked_message c) es ≡ in_queue (messages_at c) o
-    → processes (is_parked_at c) es ≡ in_queue (lists.parked_in c) o
+parked_by : (c : ℕ) (es : List Entry) (o : Option held.Queue) → processes (is_parked_reader c) es ≡ in_queue (readers_at c) o → processes (is_parked_message c) es ≡ in_queue (messages_at c) o
+    → processes (is_parked_at c) es ≡ in_queue (held.parked_in c) o
 parked_by c es None r m = without_messages c es m ∙ r
-parked_by c es (Some (lists.Messages ms)) r m = without_readers c es r ∙ m
-parked_by c es (Some (lists.Readers rs)) r m = without_messages c es m ∙ r
+parked_by c es (Some (held.Messages ms)) r m = without_readers c es r ∙ m
+parked_by c es (Some (held.Readers rs)) r m = without_messages c es m ∙ r
 
 -- the view of what the queues hold stands for exactly what holds of them
-pub holds_of : (h : lists.Lists) (C : Configuration) → StandsFor (view_of_lists h) C → Holds h C
+pub holds_of : (h : Held) (C : Configuration) → StandsFor (view_of_held h) C → Holds h C
 holds_of h C s = record {
   channels = sym (length_from 0 h.queues) ∙ s.channels;
   ready = s.ready;
@@ -205,7 +205,7 @@ holds_of h C s = record {
   messages = λ c. messages_of c C.entries ∙ ap (filter is_output) (s.parked c ∙ list_of h.queues c) ∙ outputs_in c (slice_get h.queues c);
 }
 
-pub stands_of : (h : lists.Lists) (C : Configuration) → Holds h C → StandsFor (view_of_lists h) C
+pub stands_of : (h : Held) (C : Configuration) → Holds h C → StandsFor (view_of_held h) C
 stands_of h C s = record {
   channels = length_from 0 h.queues ∙ s.channels;
   ready = s.ready;

@@ -1,5 +1,5 @@
--- Each step of the lists is the oldest-first step of every configuration that they hold.
-use Rattle.std.proofs.Common.{◌≡◌, ◌≢◌, Bool, List, [], ◌∷◌, refl, sym, ap, ◌∙◌, Option, Some, None, option_map, option_and_then, subst, Result, Ok, Err, IfOk, IsTrue, ◌↔◌}
+-- Each step of what queues hold is the oldest-first step of every configuration that it stands for.
+use Rattle.std.proofs.Common.{◌≡◌, ◌≢◌, Bool, List, [], ◌∷◌, refl, sym, ap, ◌∙◌, subst, IsTrue, ◌↔◌}
 use Rattle.std.proofs.Common.{arith}
 use Rattle.std.proofs.lemmas.Bool.Decides.{nat_tests}
 use Rattle.std.specs.List.{slice_get}
@@ -13,24 +13,22 @@ use Rattle.pict_core.specs.Step.{Choice, StepOutcome, Steps, Traps, Wrong, Finis
 use Rattle.pict_core.proofs.Stamps.{without, EntryClosed, least_closed}
 use Rattle.pict_core.proofs.Nexts.{next_acts, next_finished}
 use Rattle.pict_core.proofs.Kept.{free_steps_keep, oldest_first_is_free}
-use Rattle.pict_machine.specs.View.{StandsFor, processes}
-use Rattle.pict_machine.specs.Lists as lists
-use Rattle.pict_machine.specs.Lists.{Lists, next_lists}
-use Rattle.pict_machine.specs.Plain.{view_of_lists, HasEvent}
-use Rattle.pict_machine.specs.Stepping.{Follows, IsStepOf}
-use Rattle.pict_machine.specs.declared.event.Event.{Event}
-use Rattle.pict_machine.specs.declared.event.Event.TheVariants as event
-use Rattle.pict_machine.specs.declared.event.StepError.{StepError}
-use Rattle.pict_machine.proofs.Entries.{least_of, least_none, processes-least}
-use Rattle.pict_machine.proofs.Holds.{Holds, holds_of, stands_of}
-use Rattle.pict_machine.proofs.Steps.{Turn, StepsTo, Simulates, step_zero, step_par, step_if, step_new, step_primitive}
-use Rattle.pict_machine.proofs.Meets.{send_by, receive_by}
+use Rattle.pict_view.specs.View.{StandsFor, processes}
+use Rattle.pict_view.specs.Held as held
+use Rattle.pict_view.specs.Held.{Held, next_held, view_of_held}
+use Rattle.pict_view.specs.Moved as moved
+use Rattle.pict_view.specs.Moved.{Moved}
+use Rattle.pict_view.specs.Stepping.{Follows}
+use Rattle.pict_view.proofs.Entries.{least_of, least_none, processes-least}
+use Rattle.pict_view.proofs.Holds.{Holds, holds_of, stands_of}
+use Rattle.pict_view.proofs.Steps.{Turn, StepsTo, Simulates, step_zero, step_par, step_if, step_new, step_primitive}
+use Rattle.pict_view.proofs.Meets.{send_by, receive_by}
 
 -- ---- by the form of the process
 
-module _ (C : Configuration) (t : Entry) (rest : List Process) (queues : List lists.Queue) (turn : Turn C t rest queues) (all : processes is_ready C.entries ≡ t.process ∷ rest) where
+module _ (C : Configuration) (t : Entry) (rest : List Process) (queues : List held.Queue) (turn : Turn C t rest queues) (all : processes is_ready C.entries ≡ t.process ∷ rest) where
   abbrev Does : Process → Type 0
-  Does p = Simulates (lists.act p rest queues) (step.act C t.stamp (least (is_partner p) C.entries) p)
+  Does p = Simulates (held.act p rest queues) (step.act C t.stamp (least (is_partner p) C.entries) p)
 
   step_out : (chan message : Val) (at : Span) → IsUnder 0 C.channels (Out chan message at) → Does (Out chan message at)
   step_out (Chan c) message at u = send_by C t rest queues turn c u.0 (record { value = message; at = at }) (slice_get queues c) refl
@@ -63,7 +61,7 @@ module _ (C : Configuration) (t : Entry) (rest : List Process) (queues : List li
 tail_of : (x y : Process) (xs ys : List Process) → x ∷ xs ≡ y ∷ ys → xs ≡ ys
 tail_of x y xs ys e = cc
 
-simulates_of : (C : Configuration) (ready : List Process) (queues : List lists.Queue) → IsConfiguration C → Holds (record { ready = ready; queues = queues }) C → Simulates (lists.next_of ready queues) (next C)
+simulates_of : (C : Configuration) (ready : List Process) (queues : List held.Queue) → IsConfiguration C → Holds (record { ready = ready; queues = queues }) C → Simulates (held.next_of ready queues) (next C)
 simulates_of C [] queues is s = next_finished C (least_none is_ready C.entries s.ready)
 simulates_of C (p ∷ rest) queues is s =
     let l = least_of is_ready C.entries p rest s.ready in
@@ -71,66 +69,58 @@ simulates_of C (p ∷ rest) queues is s =
     let others : processes is_ready (without l.0.stamp C.entries) ≡ rest = tail_of _ _ _ _ (sym front ∙ s.ready) in
     let turn : Turn C l.0 rest queues = record { rise = is.stamps; front = l.1; passes = l.3; others = others; count = s.channels; readers = s.readers; messages = s.messages } in
     let under : IsUnder 0 C.channels l.0.process = subst (EntryClosed C.channels) l.1 (least_closed C.channels is_ready C.entries is.closed) in
-    subst (λ o. Simulates (lists.act p rest queues) o) (sym (next_acts C is l.0 l.1))
-    (subst (λ q. Simulates (lists.act q rest queues) (step.act C l.0.stamp (least (is_partner l.0.process) C.entries) l.0.process)) l.2
+    subst (λ o. Simulates (held.act p rest queues) o) (sym (next_acts C is l.0 l.1))
+    (subst (λ q. Simulates (held.act q rest queues) (step.act C l.0.stamp (least (is_partner l.0.process) C.entries) l.0.process)) l.2
     (step_any C l.0 rest queues turn (s.ready ∙ ap (λ q. q ∷ rest) (sym l.2)) l.0.process refl under))
 
-pub simulates : (h : Lists) (C : Configuration) → IsConfiguration C → Holds h C → Simulates (next_lists h) (next C)
+pub simulates : (h : Held) (C : Configuration) → IsConfiguration C → Holds h C → Simulates (next_held h) (next C)
 simulates h C is s = simulates_of C h.ready h.queues is s
 
--- ---- what the public step says
+-- ---- what a step of the queues says of the view
 
 next_keeps : (C D : Configuration) (label : step.Label) → IsConfiguration C → next C ≡ Steps D label → IsConfiguration D
 next_keeps C D label is e = let f = oldest_first_is_free C D label is e in free_steps_keep C f.0 D label is f.1
 
-follows_of : (C : Configuration) (label : step.Label) (h : Lists) (o : StepOutcome) → IsConfiguration C → next C ≡ o → StepsTo o label h → Follows C label (view_of_lists h)
+follows_of : (C : Configuration) (label : step.Label) (h : Held) (o : StepOutcome) → IsConfiguration C → next C ≡ o → StepsTo o label h → Follows C label (view_of_held h)
 follows_of C label h (Steps D l) is e s = let e' : next C ≡ Steps D label = e ∙ ap (Steps D) s.0 in
     record { after = D; steps = e'; is = next_keeps C D label is e'; stands = stands_of h D s.1 }
 follows_of C label h (Traps at) is e s = absurd s
 follows_of C label h Wrong is e s = absurd s
 follows_of C label h Finished is e s = absurd s
 
-moves : (C : Configuration) (old new : Lists) (label : step.Label) → IsConfiguration C → StandsFor (view_of_lists old) C → next_lists old ≡ lists.Moves new label → Follows C label (view_of_lists new)
+-- the queues move: the configuration follows
+pub moves : (C : Configuration) (old new : Held) (label : step.Label) → IsConfiguration C → StandsFor (view_of_held old) C → next_held old ≡ moved.Moves new label → Follows C label (view_of_held new)
 moves C old new label is s e = follows_of C label new (next C) is refl (subst (λ m. Simulates m (next C)) e (simulates old C is (holds_of old C s)))
 
-step_of : (e : Event) (old new : Lists) → HasEvent e (next_lists old) old new → (C : Configuration) → IsConfiguration C → StandsFor (view_of_lists old) C → IsStepOf C e (view_of_lists new)
-step_of event.Quiet old new h C is s = moves C old new step.Quiet is s h
-step_of (event.Comm c v) old new h C is s = moves C old new _ is s h
-step_of (event.Print bytes) old new h C is s = moves C old new _ is s h
-step_of (event.Trapped at) old new h C is s =
-    (subst (λ m. Simulates m (next C)) h.0 (simulates old C is (holds_of old C s)), subst (λ x. StandsFor (view_of_lists x) C) (sym h.1) s)
+pub trapped_of : (old : Held) (at : Span) → next_held old ≡ moved.Stops at → (C : Configuration) → IsConfiguration C → StandsFor (view_of_held old) C → next C ≡ Traps at
+trapped_of old at h C is s = subst (λ m. Simulates m (next C)) h (simulates old C is (holds_of old C s))
 
-pub steps_of : (r : Result Event StepError) (old new : Lists) → IfOk r (λ e. HasEvent e (next_lists old) old new)
-    → IfOk r (λ e. (C : Configuration) → IsConfiguration C → StandsFor (view_of_lists old) C → IsStepOf C e (view_of_lists new))
-steps_of (Ok e) old new h = step_of e old new h
-steps_of (Err e) old new h = tt
-
-pub wrong_of : (old : Lists) → next_lists old ≡ lists.Misshapen → (C : Configuration) → IsConfiguration C → StandsFor (view_of_lists old) C → next C ≡ Wrong
+pub wrong_of : (old : Held) → next_held old ≡ moved.Misshapen → (C : Configuration) → IsConfiguration C → StandsFor (view_of_held old) C → next C ≡ Wrong
 wrong_of old h C is s = subst (λ m. Simulates m (next C)) h (simulates old C is (holds_of old C s))
 
 -- ---- nothing is ready exactly where the configuration is finished
 
-finished_of : (C : Configuration) (ready : List Process) (queues : List lists.Queue) → ready ≡ [] → IsConfiguration C → Holds (record { ready = ready; queues = queues }) C → next C ≡ Finished
+finished_of : (C : Configuration) (ready : List Process) (queues : List held.Queue) → ready ≡ [] → IsConfiguration C → Holds (record { ready = ready; queues = queues }) C → next C ≡ Finished
 finished_of C [] queues e is s = simulates (record { ready = []; queues = queues }) C is s
 finished_of C (p ∷ rest) queues e is s = cc
 
-not_finished : (m : lists.Moved) (o : StepOutcome) → m ≢ lists.Over → Simulates m o → o ≢ Finished
-not_finished (lists.Moves h label) (Steps C l) n s e = cc
-not_finished (lists.Moves h label) (Traps at) n s e = s
-not_finished (lists.Moves h label) Wrong n s e = s
-not_finished (lists.Moves h label) Finished n s e = s
-not_finished (lists.Stops at) o n s e = let w : o ≡ Traps at = s in cc
-not_finished lists.Misshapen o n s e = let w : o ≡ Wrong = s in cc
-not_finished lists.Over o n s e = n refl
+not_finished : (m : Moved Held) (o : StepOutcome) → m ≢ moved.Over → Simulates m o → o ≢ Finished
+not_finished (moved.Moves h label) (Steps C l) n s e = cc
+not_finished (moved.Moves h label) (Traps at) n s e = s
+not_finished (moved.Moves h label) Wrong n s e = s
+not_finished (moved.Moves h label) Finished n s e = s
+not_finished (moved.Stops at) o n s e = let w : o ≡ Traps at = s in cc
+not_finished moved.Misshapen o n s e = let w : o ≡ Wrong = s in cc
+not_finished moved.Over o n s e = n refl
 
-not_over : (p : Process) (rest : List Process) (queues : List lists.Queue) → lists.act p rest queues ≢ lists.Over
+not_over : (p : Process) (rest : List Process) (queues : List held.Queue) → held.act p rest queues ≢ moved.Over
 not_over p rest queues e = grind (arith, nat_tests)
 
-unfinished_of : (C : Configuration) (ready : List Process) (queues : List lists.Queue) → ready ≢ [] → IsConfiguration C → Holds (record { ready = ready; queues = queues }) C → next C ≢ Finished
+unfinished_of : (C : Configuration) (ready : List Process) (queues : List held.Queue) → ready ≢ [] → IsConfiguration C → Holds (record { ready = ready; queues = queues }) C → next C ≢ Finished
 unfinished_of C [] queues e is s = absurd (e refl)
-unfinished_of C (p ∷ rest) queues e is s = not_finished (lists.act p rest queues) (next C) (not_over p rest queues) (simulates (record { ready = p ∷ rest; queues = queues }) C is s)
+unfinished_of C (p ∷ rest) queues e is s = not_finished (held.act p rest queues) (next C) (not_over p rest queues) (simulates (record { ready = p ∷ rest; queues = queues }) C is s)
 
-pub ready_is : (h : Lists) (b : Bool) → IsTrue b ↔ (h.ready ≢ []) → (C : Configuration) → IsConfiguration C → StandsFor (view_of_lists h) C → IsTrue b ↔ (next C ≢ Finished)
+pub ready_is : (h : Held) (b : Bool) → IsTrue b ↔ (h.ready ≢ []) → (C : Configuration) → IsConfiguration C → StandsFor (view_of_held h) C → IsTrue b ↔ (next C ≢ Finished)
 ready_is h b r C is s = (
   λ t. unfinished_of C h.ready h.queues (r.0 t) is (holds_of h C s),
   λ n. r.1 (λ e. n (finished_of C h.ready h.queues e is (holds_of h C s))),

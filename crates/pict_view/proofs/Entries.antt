@@ -1,12 +1,12 @@
 -- The processes of a configuration's entries, by their stamps.
-use Rattle.std.proofs.Common.{ℕ, ◌+◌, ◌<◌, ◌≤◌, ◌≡◌, Bool, true, false, List, [], ◌∷◌, ◌++◌, map, refl, Some, None, arith, cond}
+use Rattle.std.proofs.Common.{ℕ, ◌+◌, ◌≤◌, ◌≡◌, Bool, true, false, List, [], ◌∷◌, ◌++◌, map, refl, Some, None, arith, cond}
 use Rattle.std.proofs.lemmas.Bool.Decides.{nat_tests}
 use Rattle.pict_core.specs.Term.{Process}
 use Rattle.pict_core.specs.Configuration.{Entry, StampsRise}
 use Rattle.pict_core.specs.Step.{least, with_process, is_ready}
 use Rattle.pict_core.proofs.Stamps.{without, least_above}
 use Rattle.pict_core.proofs.Entries.{with_process_past, without_past}
-use Rattle.pict_machine.specs.View.{processes}
+use Rattle.pict_view.specs.View.{processes}
 
 -- ---- an entry goes
 

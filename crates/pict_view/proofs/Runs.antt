@@ -5,12 +5,9 @@ use Rattle.pict_core.specs.Configuration.{Configuration, IsConfiguration}
 use Rattle.pict_core.specs.Step.{Label, StepOutcome, Steps, Traps, Wrong, Finished, next}
 use Rattle.pict_core.specs.Run as run
 use Rattle.pict_core.specs.Run.{Reaches, RunsFrom, shown}
-use Rattle.pict_machine.specs.View.{View, StandsFor}
-use Rattle.pict_machine.specs.Plain.{label_of, trap_of}
-use Rattle.pict_machine.specs.Stepping.{Follows, IsStepOf}
-use Rattle.pict_machine.specs.Watching.{WhereTold, view_after, Saw, SawOrTore, Ran, BrokeOff}
-use Rattle.pict_machine.specs.declared.event.Event.{Event}
-use Rattle.pict_machine.specs.declared.event.Event.TheVariants as event
+use Rattle.pict_view.specs.View.{View, StandsFor}
+use Rattle.pict_view.specs.Stepping.{Follows, IsStepOf}
+use Rattle.pict_view.specs.Watching.{WhereTold, view_after, Saw, SawOrTore, Ran, BrokeOff}
 
 -- after n steps from C the view stands for the configuration, and the labels are as was seen
 pub record Stood (n : ℕ) (C : Configuration) (v : View) (Seen : List (ℕ × Label) → Type 0) : Type 0 where
@@ -27,18 +24,14 @@ start C v Seen is s seen = record { labels = []; last = C; reached = (refl, refl
 
 -- ---- one more step
 
--- an event that is no trap has a label, and the configuration follows
-event_follows : (e : Event) (C : Configuration) (v : View) → trap_of e ≡ None → IsStepOf C e v → Follows C (label_of e) v
-event_follows event.Quiet C v t f = f
-event_follows (event.Comm c w) C v t f = f
-event_follows (event.Print bytes) C v t f = f
-event_follows (event.Trapped at) C v t f = cc
+-- without a trap the configuration follows
+follows_of : (label : Label) (trap : Option Span) (C : Configuration) (v : View) → trap ≡ None → IsStepOf C label trap v → Follows C label v
+follows_of label None C v t f = f
+follows_of label (Some at) C v t f = cc
 
-event_traps : (e : Event) (at : Span) (C : Configuration) (v : View) → trap_of e ≡ Some at → IsStepOf C e v → (next C ≡ Traps at) × StandsFor v C
-event_traps event.Quiet at C v t f = cc
-event_traps (event.Comm c w) at C v t f = cc
-event_traps (event.Print bytes) at C v t f = cc
-event_traps (event.Trapped place) at C v t f = let e : place ≡ at = cc in (f.0 ∙ ap Traps e, f.1)
+traps_of : (label : Label) (trap : Option Span) (at : Span) (C : Configuration) (v : View) → trap ≡ Some at → IsStepOf C label trap v → (next C ≡ Traps at) × StandsFor v C
+traps_of label None at C v t f = cc
+traps_of label (Some place) at C v t f = let e : place ≡ at = cc in (f.0 ∙ ap Traps e, f.1)
 
 more_of : (n : ℕ) (C : Configuration) (v v' : View) (label : Label) (Seen Seen' : List (ℕ × Label) → Type 0) → (s : Stood n C v Seen) → Follows s.last label v'
     → ((ls : List (ℕ × Label)) → Seen ls → Seen' (ls ++ shown (suc n) label)) → Stood (suc n) C v' Seen'
@@ -52,12 +45,12 @@ more_of n C v v' label Seen Seen' s f more = record {
 }
 
 -- one more step, and what was seen of it
-pub one_more : (n : ℕ) (C : Configuration) (v v' : View) (e : Event) (Seen Seen' : List (ℕ × Label) → Type 0) → Stood n C v Seen
-    → ((D : Configuration) → IsConfiguration D → StandsFor v D → IsStepOf D e v') → trap_of e ≡ None
-    → ((ls : List (ℕ × Label)) → Seen ls → Seen' (ls ++ shown (n + 1) (label_of e))) → Stood (n + 1) C v' Seen'
-one_more n C v v' e Seen Seen' s f t more =
-    subst (λ k. ((ls : List (ℕ × Label)) → Seen ls → Seen' (ls ++ shown k (label_of e))) → Stood k C v' Seen') (sym (add-one n))
-    (more_of n C v v' (label_of e) Seen Seen' s (event_follows e s.last v' t (f s.last s.is s.stands))) more
+pub one_more : (n : ℕ) (C : Configuration) (v v' : View) (label : Label) (trap : Option Span) (Seen Seen' : List (ℕ × Label) → Type 0) → Stood n C v Seen
+    → ((D : Configuration) → IsConfiguration D → StandsFor v D → IsStepOf D label trap v') → trap ≡ None
+    → ((ls : List (ℕ × Label)) → Seen ls → Seen' (ls ++ shown (n + 1) label)) → Stood (n + 1) C v' Seen'
+one_more n C v v' label trap Seen Seen' s f t more =
+    subst (λ k. ((ls : List (ℕ × Label)) → Seen ls → Seen' (ls ++ shown k label)) → Stood k C v' Seen') (sym (add-one n))
+    (more_of n C v v' label Seen Seen' s (follows_of label trap s.last v' t (f s.last s.is s.stands))) more
 
 -- ---- what a watcher has seen of more labels
 
@@ -114,10 +107,10 @@ pub is_spent : (n fuel : ℕ) (C : Configuration) (v : View) (Seen : List (ℕ �
 is_spent n fuel C v Seen b same t r s =
     record { labels = s.labels; runs = record { steps = n; last = s.last; reached = s.reached; ends = (same, (r s.last s.is s.stands).0 t) }; stands = s.stands; seen = s.seen }
 
-pub is_trapped : (n fuel : ℕ) (C : Configuration) (v v' : View) (Seen : List (ℕ × Label) → Type 0) (e : Event) (at : Span) → n < fuel
-    → ((D : Configuration) → IsConfiguration D → StandsFor v D → IsStepOf D e v') → trap_of e ≡ Some at → Stood n C v Seen → Ran C fuel (run.Trap at) v' Seen
-is_trapped n fuel C v v' Seen e at lt f t s =
-    let x = event_traps e at s.last v' t (f s.last s.is s.stands) in
+pub is_trapped : (n fuel : ℕ) (C : Configuration) (v v' : View) (Seen : List (ℕ × Label) → Type 0) (label : Label) (trap : Option Span) (at : Span) → n < fuel
+    → ((D : Configuration) → IsConfiguration D → StandsFor v D → IsStepOf D label trap v') → trap ≡ Some at → Stood n C v Seen → Ran C fuel (run.Trap at) v' Seen
+is_trapped n fuel C v v' Seen label trap at lt f t s =
+    let x = traps_of label trap at s.last v' t (f s.last s.is s.stands) in
     record { labels = s.labels; runs = record { steps = n; last = s.last; reached = s.reached; ends = (lt, x.0) }; stands = x.1; seen = s.seen }
 
 pub is_misshapen : (n fuel : ℕ) (C : Configuration) (v v' : View) (Seen : List (ℕ × Label) → Type 0) → n < fuel
@@ -127,12 +120,12 @@ is_misshapen n fuel C v v' Seen lt f same s =
 
 -- ---- breaking off
 
-module _ (n fuel : ℕ) (C : Configuration) (v v' : View) (e : Event) (f : List ℕ → ℕ → Label → List ℕ) (T U : List ℕ → ℕ → Label → List ℕ → Type 0) (before mid after : Option (List ℕ)) (lt : n < fuel)
-    (s : Stood n C v (Saw f before mid)) (steps : (D : Configuration) → IsConfiguration D → StandsFor v D → IsStepOf D e v') (t : trap_of e ≡ None) (same : (w : List ℕ) (k : ℕ) (l : Label) (a : List ℕ) → U w k l a ↔ T w k l a)
-    (torn : WhereTold (λ b a. U b (n + 1) (label_of e) a) mid after) (one : shown (n + 1) (label_of e) ≡ (n + 1, label_of e) ∷ []) where
+module _ (n fuel : ℕ) (C : Configuration) (v v' : View) (label : Label) (trap : Option Span) (f : List ℕ → ℕ → Label → List ℕ) (T U : List ℕ → ℕ → Label → List ℕ → Type 0) (before mid after : Option (List ℕ)) (lt : n < fuel)
+    (s : Stood n C v (Saw f before mid)) (steps : (D : Configuration) → IsConfiguration D → StandsFor v D → IsStepOf D label trap v') (t : trap ≡ None) (same : (w : List ℕ) (k : ℕ) (l : Label) (a : List ℕ) → U w k l a ↔ T w k l a)
+    (torn : WhereTold (λ b a. U b (n + 1) label a) mid after) (one : shown (n + 1) label ≡ (n + 1, label) ∷ []) where
   torn_stood : Stood (n + 1) C v' (SawOrTore f T before after)
-  torn_stood = one_more n C v v' e (Saw f before mid) (SawOrTore f T before after) s steps t
-      (λ ls d. subst (λ ks. SawOrTore f T before after (ls ++ ks)) (sym one) (tore_last f T U same (n + 1) (label_of e) before mid after torn ls d))
+  torn_stood = one_more n C v v' label trap (Saw f before mid) (SawOrTore f T before after) s steps t
+      (λ ls d. subst (λ ks. SawOrTore f T before after (ls ++ ks)) (sym one) (tore_last f T U same (n + 1) label before mid after torn ls d))
 
   -- the showing of the step's label was refused
   pub refused : BrokeOff C fuel (StandsFor v') (SawOrTore f T before after)

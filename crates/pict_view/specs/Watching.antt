@@ -1,12 +1,9 @@
--- What a watcher has seen of a run.
+-- What a watcher of a run has seen, and how a run ends.
 use Rattle.std.specs.Prelude.{ℕ, ◌≡◌, ◌≤◌, ◌⊎◌, List, [], ◌∷◌, ◌++◌, Option, Some, None}
 use Rattle.pict_core.specs.Configuration.{Configuration}
 use Rattle.pict_core.specs.Step.{Label}
-use Rattle.pict_core.specs.Run as run
-use Rattle.pict_core.specs.Run.{Reaches, RunsFrom}
-use Rattle.pict_machine.specs.View.{View, StandsFor}
-use Rattle.pict_machine.specs.declared.event.End.{End}
-use Rattle.pict_machine.specs.declared.event.End.TheVariants as end
+use Rattle.pict_core.specs.Run.{End, Reaches, RunsFrom}
+use Rattle.pict_view.specs.View.{View, StandsFor}
 
 -- Where a view is told, it is told afterwards too, and is then as P says.
 abbrev pub WhereTold : (List ℕ → List ℕ → Type 0) → Option (List ℕ) → Option (List ℕ) → Type 0
@@ -34,14 +31,9 @@ SawOrTore next torn before after labels = WhereTold (λ b a. (a ≡ view_after n
 
 -- ---- runs
 
-abbrev pub end_of : End → run.End
-end_of end.Done = run.Done
-end_of end.FuelSpent = run.FuelSpent
-end_of (end.Trap at) = run.Trap at
-
 -- The run from C with this fuel has this end. The view stands for its last configuration, and what was seen fits its
 -- labels.
-pub record Ran (C : Configuration) (fuel : ℕ) (end : run.End) (v : View) (Seen : List (ℕ × Label) → Type 0) : Type 0 where
+pub record Ran (C : Configuration) (fuel : ℕ) (end : End) (v : View) (Seen : List (ℕ × Label) → Type 0) : Type 0 where
   pub labels : List (ℕ × Label)
   pub runs : RunsFrom C fuel end labels
   pub stands : StandsFor v runs.last

@@ -6,19 +6,19 @@ use Rattle.pict_core.specs.Term.{Process, Out, In, Chan}
 use Rattle.pict_core.specs.Configuration.{Mark, Ready, Parked, Entry, Configuration, StampsRise}
 use Rattle.pict_core.specs.Step.{least, gone, added, is_ready, is_ready_mark, is_parked_reader, is_parked_message, reads, sends}
 use Rattle.pict_core.proofs.Stamps.{without}
-use Rattle.pict_machine.specs.View.{processes}
-use Rattle.pict_machine.specs.Lists as lists
-use Rattle.pict_machine.specs.Lists.{Lists}
-use Rattle.pict_machine.proofs.Holds.{Holds, in_queue, readers_at, messages_at}
-use Rattle.pict_machine.proofs.Entries.{processes-least, processes-other, processes-push}
+use Rattle.pict_view.specs.View.{processes}
+use Rattle.pict_view.specs.Held as held
+use Rattle.pict_view.specs.Held.{Held}
+use Rattle.pict_view.proofs.Holds.{Holds, in_queue, readers_at, messages_at}
+use Rattle.pict_view.proofs.Entries.{processes-least, processes-other, processes-push}
 use Rattle.pict_core.proofs.Partners.{own_channel}
 
-pub slice_get-set_same : (qs : List lists.Queue) (c : ℕ) (q : lists.Queue) → c < length qs → slice_get (set qs c q) c ≡ Some q
+pub slice_get-set_same : (qs : List held.Queue) (c : ℕ) (q : held.Queue) → c < length qs → slice_get (set qs c q) c ≡ Some q
 slice_get-set_same [] c q h = absurd (omega arith)
 slice_get-set_same (x ∷ xs) zero q h = refl
 slice_get-set_same (x ∷ xs) (suc c) q h = slice_get-set_same xs c q (omega arith)
 
-slice_get-set_other : (qs : List lists.Queue) (c d : ℕ) (q : lists.Queue) → d ≢ c → slice_get (set qs c q) d ≡ slice_get qs d
+slice_get-set_other : (qs : List held.Queue) (c d : ℕ) (q : held.Queue) → d ≢ c → slice_get (set qs c q) d ≡ slice_get qs d
 slice_get-set_other [] c d q h = refl
 slice_get-set_other (x ∷ xs) zero zero q h = absurd (h refl)
 slice_get-set_other (x ∷ xs) zero (suc d) q h = refl
@@ -26,7 +26,7 @@ slice_get-set_other (x ∷ xs) (suc c) zero q h = refl
 slice_get-set_other (x ∷ xs) (suc c) (suc d) q h = slice_get-set_other xs c d q (λ e. h (ap suc e))
 
 -- a fact at each channel, from that at the one that changed and those at the others
-pointwise : (f : ℕ → lists.Queue → List Process) (P : ℕ → List Process) (qs : List lists.Queue) (c : ℕ) (q : lists.Queue) → c < length qs → P c ≡ f c q
+pointwise : (f : ℕ → held.Queue → List Process) (P : ℕ → List Process) (qs : List held.Queue) (c : ℕ) (q : held.Queue) → c < length qs → P c ≡ f c q
     → ((d : ℕ) → d ≢ c → P d ≡ in_queue (f d) (slice_get qs d)) → (d : ℕ) → P d ≡ in_queue (f d) (slice_get (set qs c q) d)
 pointwise f P qs c q h at others d = elim (eqb_tells d c) [
   | inl e ↦ rw e.1 (at ∙ sym (ap (in_queue (f c)) (slice_get-set_same qs c q h)))
@@ -37,7 +37,7 @@ other_channel : (d c : ℕ) → d ≢ c → nat_eq d c ≡ false
 other_channel d c n = grind (arith, nat_tests)
 
 -- an output parks
-pub park_message : (D : Configuration) (v : Lists) (c : ℕ) (q : lists.Queue) (m : lists.Message) → Holds v D → c < length v.queues
+pub park_message : (D : Configuration) (v : Held) (c : ℕ) (q : held.Queue) (m : held.Message) → Holds v D → c < length v.queues
     → messages_at c q ≡ in_queue (messages_at c) (slice_get v.queues c) ++ Out (Chan c) m.value m.at ∷ [] → readers_at c q ≡ in_queue (readers_at c) (slice_get v.queues c)
     → Holds (record { ready = v.ready; queues = set v.queues c q }) (added Parked (Out (Chan c) m.value m.at) D)
 park_message D v c q m s h ms rs = record {
@@ -52,7 +52,7 @@ park_message D v c q m s h ms rs = record {
 }
 
 -- an input parks
-pub park_reader : (D : Configuration) (v : Lists) (c : ℕ) (q : lists.Queue) (r : lists.Reader) → Holds v D → c < length v.queues
+pub park_reader : (D : Configuration) (v : Held) (c : ℕ) (q : held.Queue) (r : held.Reader) → Holds v D → c < length v.queues
     → readers_at c q ≡ in_queue (readers_at c) (slice_get v.queues c) ++ In (Chan c) r.replicated r.pattern r.body ∷ [] → messages_at c q ≡ in_queue (messages_at c) (slice_get v.queues c)
     → Holds (record { ready = v.ready; queues = set v.queues c q }) (added Parked (In (Chan c) r.replicated r.pattern r.body) D)
 park_reader D v c q r s h rs ms = record {
@@ -75,7 +75,7 @@ and_false true b h = h
 and_false false b h = refl
 
 -- an input that waits goes
-pub take_reader : (D : Configuration) (v : Lists) (c : ℕ) (q : lists.Queue) (u : Entry) (r : lists.Reader) → Holds v D → StampsRise 0 D.entries D.next_stamp → c < length v.queues
+pub take_reader : (D : Configuration) (v : Held) (c : ℕ) (q : held.Queue) (u : Entry) (r : held.Reader) → Holds v D → StampsRise 0 D.entries D.next_stamp → c < length v.queues
     → least (is_parked_reader c) D.entries ≡ Some u → is_parked_reader c u ≡ true → u.process ≡ In (Chan c) r.replicated r.pattern r.body
     → in_queue (readers_at c) (slice_get v.queues c) ≡ In (Chan c) r.replicated r.pattern r.body ∷ readers_at c q → messages_at c q ≡ in_queue (messages_at c) (slice_get v.queues c)
     → Holds (record { ready = v.ready; queues = set v.queues c q }) (gone u.stamp D)
@@ -96,7 +96,7 @@ take_reader D v c q u r s rise h first passes is rs ms =
     }
 
 -- an output that waits goes
-pub take_message : (D : Configuration) (v : Lists) (c : ℕ) (q : lists.Queue) (u : Entry) (m : lists.Message) → Holds v D → StampsRise 0 D.entries D.next_stamp → c < length v.queues
+pub take_message : (D : Configuration) (v : Held) (c : ℕ) (q : held.Queue) (u : Entry) (m : held.Message) → Holds v D → StampsRise 0 D.entries D.next_stamp → c < length v.queues
     → least (is_parked_message c) D.entries ≡ Some u → is_parked_message c u ≡ true → u.process ≡ Out (Chan c) m.value m.at
     → in_queue (messages_at c) (slice_get v.queues c) ≡ Out (Chan c) m.value m.at ∷ messages_at c q → readers_at c q ≡ in_queue (readers_at c) (slice_get v.queues c)
     → Holds (record { ready = v.ready; queues = set v.queues c q }) (gone u.stamp D)

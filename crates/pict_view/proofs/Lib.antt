@@ -1,0 +1,10 @@
+pub mod Entries
+pub mod Holds
+pub mod Steps
+pub mod Parks
+pub mod Meets
+pub mod Simulated
+pub mod Viewed
+pub mod AnyMachine
+pub mod Growing
+pub mod Runs

@@ -1,0 +1,19 @@
+-- What a label or a trap says of a step of a configuration.
+use Rattle.std.specs.Prelude.{◌≡◌, Option, Some, None}
+use Rattle.pict_syntax.specs.declared.span.Span.{Span}
+use Rattle.pict_core.specs.Configuration.{Configuration, IsConfiguration}
+use Rattle.pict_core.specs.Step.{Label, Steps, Traps, next}
+use Rattle.pict_view.specs.View.{View, StandsFor}
+
+-- the oldest-first step from C has this label, and the view stands for the configuration after it
+pub record Follows (C : Configuration) (label : Label) (v : View) : Type 0 where
+  pub after : Configuration
+  pub steps : next C ≡ Steps after label
+  pub is : IsConfiguration after
+  pub stands : StandsFor v after
+
+-- The oldest-first step from C has this label, and the view stands for the configuration after it. Where there is a
+-- trap the step traps there, and the view still stands for C.
+abbrev pub IsStepOf : Configuration → Label → Option Span → View → Type 0
+IsStepOf C label None v = Follows C label v
+IsStepOf C label (Some at) v = (next C ≡ Traps at) × StandsFor v C
