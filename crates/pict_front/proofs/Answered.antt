@@ -1,5 +1,6 @@
 -- What the calls of the phases answer is what the phases say, one after another.
-use Rattle.std.proofs.Common.{◌≡◌, ℕ, List, [], ◌∷◌, ◌++◌, length, Option, Some, None, Result, Ok, Err, IfSome, AllByRecursion, true, refl, sym, ◌∙◌, ap, subst, append-nil}
+use Rattle.std.proofs.Common.{◌≡◌, ℕ, List, [], ◌∷◌, ◌++◌, length, Option, Some, None, Result, Ok, Err, IfSome, true, refl, sym, ◌∙◌, ap, subst, append-nil}
+use Rattle.std.specs.List.{AllByRecursion}
 use Rattle.pict_syntax.specs.declared.token.Token.{Token}
 use Rattle.pict_syntax.specs.Names.{with_names}
 use Rattle.pict_syntax.proofs.NamesLemmas.{has_name}
@@ -53,7 +54,7 @@ lexes : (number : ℕ) (text : List ℕ) (names : List (List ℕ)) (tokens : Lis
 lexes number text names tokens ps r = (ps, r.cut, refl)
 
 -- the tokens that a call answers, and the names that it gains, are of the same pieces
-reading : (number : ℕ) (text : List ℕ) (old new : List (List ℕ)) (tokens : List Token) → AreTokens new number text tokens → GainsNames old new text
+abbrev reading : (number : ℕ) (text : List ℕ) (old new : List (List ℕ)) (tokens : List Token) → AreTokens new number text tokens → GainsNames old new text
     → (ps : List Piece) × IsRead number text new tokens ps × (new ≡ with_names old (named ps))
 reading number text old new tokens (ps, cut, tokens_are) (qs, also, names) =
     (ps, record { cut = cut; tokens_are = tokens_are }, names ∙ ap (λ z. with_names old (named z)) (one_whole_cut text qs ps also cut))
@@ -63,10 +64,10 @@ abbrev Parsed : List Cut → Phase Stop Front → Type 0
 Parsed texts = Then (Each (Parses (names_in texts)) texts) (λ programs. Judges (names_in texts) (joined programs))
 
 -- a refusal by one phase is one of all phases
-handed_on : {A B C : Type 0} {P : Phase Stop B → Type 0} {Q : Phase Stop C → Type 0} (f : A → B) (e : Refusal)
+handed_on : {A B C : Type 0} (P : Phase Stop B → Type 0) (Q : Phase Stop C → Type 0) (f : A → B) (e : Refusal)
     → ((s : Stop) → P (refuses s) → Q (refuses s)) → IfSome (said_by f (Err e)) P → {D : Type 0} (g : D → C) → IfSome (said_by g (Err e)) Q
-handed_on f (Named code span) h is g = h (code, span) is
-handed_on f Memory h is g = tt
+handed_on P Q f (Named code span) h is g = h (code, span) is
+handed_on P Q f Memory h is g = tt
 
 -- so for what the last phase says
 pub answered : {A : Type 0} {P Q : A → Type 0} (o : Option A) → ((x : A) → P x → Q x) → IfSome o P → IfSome o Q
@@ -80,10 +81,10 @@ alone_cut_short text (Named code span) stop g = then_not (Each Lexes (numbered 1
 alone_cut_short text Memory stop g = tt
 
 module _ (text : List ℕ) (old new : List (List ℕ)) (tokens : List Token) (none : old ≡ []) (are : AreTokens new 1 text tokens) (gained : GainsNames old new text) where
-  ps : List Piece
+  abbrev ps : List Piece
   ps = (reading 1 text old new tokens are gained).0
 
-  texts : List Cut
+  abbrev texts : List Cut
   texts = cut_of 1 text ps ∷ []
 
   is_read : IsRead 1 text new tokens ps
@@ -99,7 +100,7 @@ module _ (text : List ℕ) (old new : List (List ℕ)) (tokens : List Token) (no
   whole answer is = then_on (Each Lexes (numbered 1 text ∷ [])) Parsed texts answer (each_one Lexes (numbered 1 text) (cut_of 1 text ps) (lexes 1 text new tokens ps is_read)) is
 
   pub alone_refused : {A : Type 0} (f : A → Decs) (e : Refusal) → IfSome (said_by f (Err e)) (HasVerdict tokens (length text)) → {D : Type 0} (g : D → Front) → IfSome (said_by g (Err e)) (IsFront None text)
-  alone_refused f e = handed_on f e (λ s is. whole (refuses s) (then_not _ _ s (first_not (Parses (names_in texts)) (cut_of 1 text ps) [] s (subst (λ ts. HasVerdict ts (length text) (refuses s)) same_tokens is))))
+  alone_refused f e = handed_on (HasVerdict tokens (length text)) (IsFront None text) f e (λ s is. whole (refuses s) (then_not _ _ s (first_not (Parses (names_in texts)) (cut_of 1 text ps) [] s (subst (λ ts. HasVerdict ts (length text) (refuses s)) same_tokens is))))
 
   pub alone_judged : (p : Decs) → HasVerdict tokens (length text) (accepts p) → (o : Option (Phase Stop Front)) → IfSome o (Judges new p) → IfSome o (IsFront None text)
   alone_judged p is o = answered o (λ answer judges.
@@ -124,19 +125,19 @@ second_cut_short prelude text old mid first are gained Memory stop g = tt
 
 module _ (prelude text : List ℕ) (old mid new : List (List ℕ)) (first own : List Token) (none : old ≡ []) (are : AreTokens mid 0 prelude first) (gained : GainsNames old mid prelude)
     (are_own : AreTokens new 1 text own) (gained_own : GainsNames mid new text) where
-  as_ : List Piece
+  abbrev as_ : List Piece
   as_ = (reading 0 prelude old mid first are gained).0
 
-  bs : List Piece
+  abbrev bs : List Piece
   bs = (reading 1 text mid new own are_own gained_own).0
 
-  before : Cut
+  abbrev before : Cut
   before = cut_of 0 prelude as_
 
-  after : Cut
+  abbrev after : Cut
   after = cut_of 1 text bs
 
-  both : List Cut
+  abbrev both : List Cut
   both = before ∷ after ∷ []
 
   a_read : IsRead 0 prelude mid first as_
@@ -173,12 +174,12 @@ module _ (prelude text : List ℕ) (old mid new : List (List ℕ)) (first own : 
 
   pub first_refused : {A : Type 0} (f : A → Decs) (e : Refusal) → IfSome (said_by f (Err e)) (HasVerdict first (length prelude)) → {D : Type 0} (g : D → Front)
       → IfSome (said_by g (Err e)) (IsFront (Some prelude) text)
-  first_refused f e = handed_on f e (λ s is.
+  first_refused f e = handed_on (HasVerdict first (length prelude)) (IsFront (Some prelude) text) f e (λ s is.
       entire (refuses s) (then_not _ _ s (first_not (Parses (names_in both)) before (after ∷ []) s (subst (λ ts. HasVerdict ts (length prelude) (refuses s)) first_tokens is))))
 
   pub second_refused : (p : Decs) → HasVerdict first (length prelude) (accepts p) → {A : Type 0} (f : A → Decs) (e : Refusal) → IfSome (said_by f (Err e)) (HasVerdict own (length text))
       → {D : Type 0} (g : D → Front) → IfSome (said_by g (Err e)) (IsFront (Some prelude) text)
-  second_refused p h f e = handed_on f e (λ s is.
+  second_refused p h f e = handed_on (HasVerdict own (length text)) (IsFront (Some prelude) text) f e (λ s is.
       entire (refuses s) (then_not _ _ s (second_not (Parses (names_in both)) before after p s
       (subst (λ ts. HasVerdict ts (length prelude) (accepts p)) first_tokens h) (subst (λ ts. HasVerdict ts (length text) (refuses s)) own_tokens is))))
 
@@ -193,10 +194,12 @@ module _ (prelude text : List ℕ) (old mid new : List (List ℕ)) (first own : 
 -- ---- the declarations of two programs
 
 behind_on : (first own : Decs) (ds : List Dec) → decs_on (behind first own) ds ≡ behind first (decs_on own ds)
+unfolding decs_on
 behind_on first own [] = refl
 behind_on first own (d ∷ ds) = behind_on first (more_decs own (dec_of d)) ds
 
 on_both : (first : Decs) (xs ys : List Dec) → decs_on first (xs ++ ys) ≡ decs_on (decs_on first xs) ys
+unfolding decs_on
 on_both first [] ys = refl
 on_both first (x ∷ xs) ys = on_both (more_decs first (dec_of x)) xs ys
 

@@ -13,3 +13,4 @@ pub mod KindPlaces
 pub mod StuckPlaces
 pub mod Placed
 pub mod Answered
+pub mod Said

@@ -129,7 +129,7 @@ joined_stand P names (t ∷ ts) [] ps are f each = absurd are
 joined_stand P names (t ∷ ts) (c ∷ cs) ps are f each =
     let read = each_accepted (Parses names) c cs ps each in
     let stands : (s : Span) → s.text ≡ c.number → s.start ≤ s.end → s.end ≤ c.end → P s =
-        λ s named ordered within. f s (inl (record { named = named ∙ are.0.number; ordered = ordered; within = omega (arith, within, are.0.end) })) in
+    λ s named ordered within. f s (inl (record { named = named ∙ are.0.number; ordered = ordered; within = omega (arith, within, are.0.end) })) in
     let first = tree_stands c.number c.end P stands names t.text c.pieces read.0 are.0.end are.0.cut read.2 in
     subst (λ ds. DecsStand P (joined ds)) (sym read.4) (behind_stands P read.0 (joined read.1) first (joined_stand P names ts cs read.1 are.1 (λ s h. f s (inr h)) read.3))
 

@@ -150,7 +150,7 @@ module _ (n finish : ℕ) (P : Span → Type 0) (stands : (s : Span) → s.text 
   kind_stands (Operator zero) j = λ low high us is a. absurd is
   kind_stands (Operator (suc m)) j = λ low high us is a.
       let (p, o, (q, t, (r, y, (u, w, (v, z, l))))) =
-          both (sign OpenParen) _ (signed OpenParen) (both (times m (keyword TypeKind)) _ (times_span m) (both (keyword TypeKind) _ (keyworded TypeKind) (both (sign Arrow) _ (signed Arrow) (both (keyword TypeKind) _ (keyworded TypeKind) (one (Sign CloseParen) j))))) low high us is a in
+      both (sign OpenParen) _ (signed OpenParen) (both (times m (keyword TypeKind)) _ (times_span m) (both (keyword TypeKind) _ (keyworded TypeKind) (both (sign Arrow) _ (signed Arrow) (both (keyword TypeKind) _ (keyworded TypeKind) (one (Sign CloseParen) j))))) low high us is a in
       wider low v high j (omega (arith, o, t, y, w, z)) l
 
   some_kind : (k : KindTree) → Says (SomeKind k) Spanned
@@ -181,16 +181,16 @@ module _ (n finish : ℕ) (P : Span → Type 0) (stands : (s : Span) → s.text 
         between_stands s OpenParen (ident x ▸ (AreTypes ts ▸ IsType t)) CloseParen
         (both _ _ (identified x) (both _ _ (types_stand ts) (type_stands t)))
         (λ low high (m, i, (k, t', l)).
-            let a : low ≤ m = spans low m x.span i.0 in
-            let c : k ≤ high = spans k high (type_span t) l.0 in
-            (omega (arith, a, t'.0, c), (i.1, (t'.1, l.1))))
+        let a : low ≤ m = spans low m x.span i.0 in
+        let c : k ≤ high = spans k high (type_span t) l.0 in
+        (omega (arith, a, t'.0, c), (i.1, (t'.1, l.1))))
     type_stands (rec_type s x t) =
         between_stands s OpenParen (keyword Rec ▸ (ident x ▸ (sign Equals ▸ IsType t))) CloseParen
         (both _ _ (keyworded Rec) (both _ _ (identified x) (both _ _ (signed Equals) (type_stands t))))
         (λ low high (m, r, (k, i, (j, q, l))).
-            let a : m ≤ k = spans m k x.span i.0 in
-            let c : j ≤ high = spans j high (type_span t) l.0 in
-            (omega (arith, r, a, q, c), (i.1, l.1)))
+        let a : m ≤ k = spans m k x.span i.0 in
+        let c : j ≤ high = spans j high (type_span t) l.0 in
+        (omega (arith, r, a, q, c), (i.1, l.1)))
 
     types_stand : (ts : TypeTrees) → Says (AreTypes ts) (Lists (TypesStand P ts))
     types_stand no_types low high us is a = (empty low high us is a, tt)
@@ -213,16 +213,16 @@ module _ (n finish : ℕ) (P : Span → Type 0) (stands : (s : Span) → s.text 
         (spans low high s r.0, (r.1.0, (r.1.1, tt)))
     binder_stands (type_binder s x None (bound t)) low high us is a =
         let r = led_stands s (Sign Hash) (ident x ▸ (sign Less ▸ IsType t)) (type_span t) (both _ _ (identified x) (both _ _ (signed Less) (type_stands t)))
-            (λ l h (m, i, (k, q, y)). let b : l ≤ m = spans l m x.span i.0 in (wider l k h (type_span t) (omega (arith, b, q)) y.0, (i.1, y.1))) low high us is a in
+        (λ l h (m, i, (k, q, y)). let b : l ≤ m = spans l m x.span i.0 in (wider l k h (type_span t) (omega (arith, b, q)) y.0, (i.1, y.1))) low high us is a in
         (spans low high s r.0, (r.1.0, r.1.1))
     binder_stands (type_binder s x (Some kind) unbounded) low high us (j, is) a =
         let r = led_stands s (Sign Hash) (ident x ▸ (sign Colon ▸ IsKind kind j)) j (both _ _ (identified x) (both _ _ (signed Colon) (kind_stands kind j)))
-            (λ l h (m, i, (k, q, y)). let b : l ≤ m = spans l m x.span i.0 in (wider l k h j (omega (arith, b, q)) y, i.1)) low high us is a in
+        (λ l h (m, i, (k, q, y)). let b : l ≤ m = spans l m x.span i.0 in (wider l k h j (omega (arith, b, q)) y, i.1)) low high us is a in
         (spans low high s r.0, (r.1.0, (r.1.1, tt)))
     binder_stands (type_binder s x (Some kind) (bound t)) low high us is a =
         let r = led_stands s (Sign Hash) (ident x ▸ (sign Colon ▸ (SomeKind kind ▸ (sign Less ▸ IsType t)))) (type_span t)
-            (both _ _ (identified x) (both _ _ (signed Colon) (both _ _ (some_kind kind) (both _ _ (signed Less) (type_stands t)))))
-            (λ l h (m, i, (k, q, (o, d, (w, z, y)))). let b : l ≤ m = spans l m x.span i.0 in (wider l w h (type_span t) (omega (arith, b, q, d, z)) y.0, (i.1, y.1))) low high us is a in
+        (both _ _ (identified x) (both _ _ (signed Colon) (both _ _ (some_kind kind) (both _ _ (signed Less) (type_stands t)))))
+        (λ l h (m, i, (k, q, (o, d, (w, z, y)))). let b : l ≤ m = spans l m x.span i.0 in (wider l w h (type_span t) (omega (arith, b, q, d, z)) y.0, (i.1, y.1))) low high us is a in
         (spans low high s r.0, (r.1.0, r.1.1))
 
     binders_stand : (bs : TypeBinders) → Says (AreBinders bs) (Lists (BindersStand P bs))
@@ -307,10 +307,10 @@ module _ (n finish : ℕ) (P : Span → Type 0) (stands : (s : Span) → s.text 
       between_stands s OpenParen (name x.name x.span ▸ (sign o ▸ (AreVals vs ▸ (IsVal v ▸ IsVal w)))) CloseParen
       (both _ _ (named x.name x.span) (both _ _ (signed o) (both _ _ first (both _ _ second third))))
       (λ l h (m, i, (k, g, (j, u, (z, y, q)))).
-          let b : l ≤ m = spans l m x.span i.0 in
-          let c : j ≤ z = spans j z (val_span v) y.0 in
-          let d : z ≤ h = spans z h (val_span w) q.0 in
-          (omega (arith, b, g, u.0, c, d), (i.1, ((u.1, y.1), q.1))))
+      let b : l ≤ m = spans l m x.span i.0 in
+      let c : j ≤ z = spans j z (val_span v) y.0 in
+      let d : z ≤ h = spans z h (val_span w) q.0 in
+      (omega (arith, b, g, u.0, c, d), (i.1, ((u.1, y.1), q.1))))
 
   -- a channel, and an abstraction of what is received
   received : (s : Span) (c : Chan) (o : AnySign) (f : Abs) → Says (IsChan c) (λ low high. In low high (chan_span c) × ChanStands P c) → Says (IsAbs f) (λ low high. In low high (abs_span f) × AbsStands P f)
@@ -325,31 +325,31 @@ module _ (n finish : ℕ) (P : Span → Type 0) (stands : (s : Span) → s.text 
     dec_stands : (d : Dec) → Says (IsDec d) (Lists (DecStands P d))
     dec_stands (new_dec s x t) low high ts is a =
         let r = led_stands s (Keyword New) (ident x ▸ (sign Colon ▸ IsType t)) (type_span t) (both _ _ (identified x) (both _ _ (signed Colon) (type_stands t)))
-            (λ l h (m, i, (k, q, y)). let b : l ≤ m = spans l m x.span i.0 in (wider l k h (type_span t) (omega (arith, b, q)) y.0, (i.1, y.1))) low high ts is a in
+        (λ l h (m, i, (k, q, y)). let b : l ≤ m = spans l m x.span i.0 in (wider l k h (type_span t) (omega (arith, b, q)) y.0, (i.1, y.1))) low high ts is a in
         (spans low high s r.0, r.1)
     dec_stands (run_dec s p) low high ts is a =
         let r = led_stands s (Keyword Run) (IsProc p) (proc_span p) (proc_stands p) (λ l h x. x) low high ts is a in (spans low high s r.0, r.1)
     dec_stands (let_dec s p v) low high ts is a =
         let r = led_stands s (Keyword ValKeyword) (IsPat p ▸ (sign Equals ▸ IsVal v)) (val_span v) (both _ _ (pat_stands p) (both _ _ (signed Equals) (val_stands v)))
-            (λ l h (m, i, (k, q, y)). let b : l ≤ m = spans l m (pat_span p) i.0 in (wider l k h (val_span v) (omega (arith, b, q)) y.0, (i.1, y.1))) low high ts is a in
+        (λ l h (m, i, (k, q, y)). let b : l ≤ m = spans l m (pat_span p) i.0 in (wider l k h (val_span v) (omega (arith, b, q)) y.0, (i.1, y.1))) low high ts is a in
         (spans low high s r.0, r.1)
     dec_stands (def_dec s no_definitions) low high ts is a = absurd is
     dec_stands (def_dec s (more_definitions ds x f)) low high ts is a =
         let r = led_stands s (Keyword Def) (AreDefinitionsAnd ds ▸ (ident x ▸ IsAbs f)) (abs_span f) (both _ _ (definitions_stand ds) (both _ _ (identified x) (abs_stands f)))
-            (λ l h (m, d, (k, i, y)). let b : m ≤ k = spans m k x.span i.0 in (wider l k h (abs_span f) (omega (arith, d.0, b)) y.0, (d.1, (i.1, y.1)))) low high ts is a in
+        (λ l h (m, d, (k, i, y)). let b : m ≤ k = spans m k x.span i.0 in (wider l k h (abs_span f) (omega (arith, d.0, b)) y.0, (d.1, (i.1, y.1)))) low high ts is a in
         (spans low high s r.0, r.1)
     dec_stands (alias_dec s x t) low high ts is a =
         let r = led_stands s (Keyword TypeDefinition) (ident x ▸ (sign Equals ▸ IsType t)) (type_span t) (both _ _ (identified x) (both _ _ (signed Equals) (type_stands t)))
-            (λ l h (m, i, (k, q, y)). let b : l ≤ m = spans l m x.span i.0 in (wider l k h (type_span t) (omega (arith, b, q)) y.0, (i.1, y.1))) low high ts is a in
+        (λ l h (m, i, (k, q, y)). let b : l ≤ m = spans l m x.span i.0 in (wider l k h (type_span t) (omega (arith, b, q)) y.0, (i.1, y.1))) low high ts is a in
         (spans low high s r.0, r.1)
     dec_stands (operator_dec s x [] t) low high ts is a = absurd is
     dec_stands (operator_dec s x (y ∷ ys) t) low high ts is a =
         let r = led_stands s (Keyword TypeDefinition) (sign OpenParen ▸ (ident x ▸ (ident y ▸ (idents ys ▸ (sign CloseParen ▸ (sign Equals ▸ IsType t)))))) (type_span t)
-            (both _ _ (signed OpenParen) (both _ _ (identified x) (both _ _ (identified y) (both _ _ (ids_stand ys) (both _ _ (signed CloseParen) (both _ _ (signed Equals) (type_stands t)))))))
-            (λ l h (m, o, (k, i, (j, u, (w, v, (z, q, (c, g, f)))))).
-                let b : m ≤ k = spans m k x.span i.0 in
-                let d : k ≤ j = spans k j y.span u.0 in
-                (wider l c h (type_span t) (omega (arith, o, b, d, v.0, q, g)) f.0, (i.1, ((u.1, v.1), f.1)))) low high ts is a in
+        (both _ _ (signed OpenParen) (both _ _ (identified x) (both _ _ (identified y) (both _ _ (ids_stand ys) (both _ _ (signed CloseParen) (both _ _ (signed Equals) (type_stands t)))))))
+        (λ l h (m, o, (k, i, (j, u, (w, v, (z, q, (c, g, f)))))).
+        let b : m ≤ k = spans m k x.span i.0 in
+        let d : k ≤ j = spans k j y.span u.0 in
+        (wider l c h (type_span t) (omega (arith, o, b, d, v.0, q, g)) f.0, (i.1, ((u.1, v.1), f.1)))) low high ts is a in
         (spans low high s r.0, r.1)
     dec_stands (await_dec s v) low high ts is a =
         let r = closed_stands s (val_span v) (IsVal v) (Sign Semicolon) (val_stands v) (λ l h x. x) low high ts is a in (spans low high s r.0, r.1)
@@ -407,9 +407,9 @@ module _ (n finish : ℕ) (P : Span → Type 0) (stands : (s : Span) → s.text 
         led_stands s (Keyword If) (IsVal b ▸ (keyword Then ▸ (IsVal c ▸ (keyword Else ▸ IsVal d)))) (val_span d)
         (both _ _ (val_stands b) (both _ _ (keyworded Then) (both _ _ (val_stands c) (both _ _ (keyworded Else) (val_stands d)))))
         (λ l h (m, i, (k, g, (j, u, (z, y, q)))).
-            let p : l ≤ m = spans l m (val_span b) i.0 in
-            let r : k ≤ j = spans k j (val_span c) u.0 in
-            (wider l z h (val_span d) (omega (arith, p, g, r, y)) q.0, (i.1, (u.1, q.1)))) low high ts is a
+        let p : l ≤ m = spans l m (val_span b) i.0 in
+        let r : k ≤ j = spans k j (val_span c) u.0 in
+        (wider l z h (val_span d) (omega (arith, p, g, r, y)) q.0, (i.1, (u.1, q.1)))) low high ts is a
     val_stands (lambda_val s f) low high ts is a = led_stands s (Sign Backslash) (IsAbs f) (abs_span f) (abs_stands f) (λ l h x. x) low high ts is a
 
     field_vals_stand : (f : FieldVals) → Says (AreFieldVals f) (Lists (FieldValsStand P f))
@@ -442,9 +442,9 @@ module _ (n finish : ℕ) (P : Span → Type 0) (stands : (s : Span) → s.text 
         led_stands s (Keyword If) (IsVal b ▸ (keyword Then ▸ (IsProc p ▸ (keyword Else ▸ IsProc q)))) (proc_span q)
         (both _ _ (val_stands b) (both _ _ (keyworded Then) (both _ _ (proc_stands p) (both _ _ (keyworded Else) (proc_stands q)))))
         (λ l h (m, i, (k, g, (j, u, (z, y, w)))).
-            let c : l ≤ m = spans l m (val_span b) i.0 in
-            let r : k ≤ j = spans k j (proc_span p) u.0 in
-            (wider l z h (proc_span q) (omega (arith, c, g, r, y)) w.0, (i.1, (u.1, w.1)))) low high ts is a
+        let c : l ≤ m = spans l m (val_span b) i.0 in
+        let r : k ≤ j = spans k j (proc_span p) u.0 in
+        (wider l z h (proc_span q) (omega (arith, c, g, r, y)) w.0, (i.1, (u.1, w.1)))) low high ts is a
     proc_stands (inert_proc s) low high ts is a =
         let r = between_stands s OpenParen nothing CloseParen {Y = Unit {0}} empty (λ l h x. (x, tt)) low high ts is a in (r.0, r.1.0)
     proc_stands (group_proc s ds no_procs) low high ts is a = absurd is

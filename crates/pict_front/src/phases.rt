@@ -18,7 +18,7 @@ use pict_check::check;
 use pict_derive::derive;
 use pict_lex::lex;
 use pict_parse::parse;
-use pict_scope::resolve;
+use pict_scope::{Scoped, resolve};
 use pict_syntax::{Names, Program, TEXT_LIMIT, Token};
 use std::alloc::{AllocError, Global};
 
@@ -35,8 +35,8 @@ const FILE: u32 = 1;
 pub fn front(alloc: Global, prelude: Option<&[u8]>, text: &[u8]) -> Result<Front, Refusal>
     requires short { length text.now ≤ TEXT_LIMIT }
     requires short_prelude { IfSome prelude (λ bytes. length bytes.now ≤ TEXT_LIMIT) }
-    ensures answer { IfSome (said_by plain_front result) (IsFront (lent prelude) text.now) }
-    ensures placed { IfErr result (IsPlaced (lent prelude) text.now) }
+    ensures answer { IfSome (said_by plain_front result) (IsFront (lent prelude.entry) text.now) }
+    ensures placed { IfErr result (IsPlaced (lent prelude.entry) text.now) }
     ensures closed { IfOk result (λ front. IsClosed (plain_core front.core)) }
 {
     match prelude {
@@ -126,12 +126,7 @@ fn read_program(alloc: Global, tokens: &[Token], end: u32) -> Result<Program, Re
 }
 
 /// What scopes, types and translation say of the declarations of two programs, one behind the other.
-fn joined(
-    alloc: Global,
-    names: Names,
-    program: Program,
-    more: Program,
-) -> Result<Front, Refusal>
+fn joined(alloc: Global, names: Names, program: Program, more: Program) -> Result<Front, Refusal>
     ensures answer { IfSome (said_by plain_front result) (Judges names (phases.behind (program_of program) (program_of more))) }
     ensures closed { IfOk result (λ front. IsClosed (plain_core front.core)) }
 {
@@ -152,19 +147,19 @@ fn judged(alloc: Global, names: Names, program: Program) -> Result<Front, Refusa
         Ok(scoped) => scoped,
         Err(error) => return Err(of_scope_error(error)),
     };
-    match check(alloc, &names, &scoped.program) {
-        Ok(()) => translated(alloc, names, &scoped.program),
+    match check(alloc, &names, &scoped) {
+        Ok(()) => translated(alloc, names, &scoped),
         Err(error) => Err(of_type_error(error)),
     }
 }
 
 /// The core process of a program in which no rule of scopes fails.
-fn translated(alloc: Global, names: Names, program: &Program) -> Result<Front, Refusal>
-    requires scoped { scope_stop names (program_of program.now) ≡ None }
-    ensures answer { IfSome (said_by plain_front result) (Translates names (program_of program.now)) }
+fn translated(alloc: Global, names: Names, scoped: &Scoped) -> Result<Front, Refusal>
+    requires scoped { scope_stop names (program_of scoped.now.program) ≡ None }
+    ensures answer { IfSome (said_by plain_front result) (Translates names (program_of scoped.now.program)) }
     ensures closed { IfOk result (λ front. IsClosed (plain_core front.core)) }
 {
-    match derive(alloc, &names, program) {
+    match derive(alloc, &names, scoped) {
         Ok(core) => Ok(Front { core, names }),
         Err(error) => Err(of_derive_error(error)),
     }

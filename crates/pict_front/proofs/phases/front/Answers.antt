@@ -1,0 +1,10 @@
+use Rattle.std.proofs.Common.{None, Some}
+use Rattle.pict_front.specs.Answers.{plain_front}
+use Rattle.pict_front.proofs.Said.{placed}
+use Rattle.pict_front.proofs.phases.front.Goals as goal
+
+pub returns-in-None-clause-placed : goal.returns-in-None-clause-placed
+returns-in-None-clause-placed c = rw (c.in-None.is) (placed plain_front None c.args.text.now c.alone.result c.alone.ensures.answer)
+
+pub returns-in-Some-clause-placed : goal.returns-in-Some-clause-placed
+returns-in-Some-clause-placed c = rw (c.in-Some.is) (placed plain_front (Some c.in-Some.first.now) c.args.text.now c.behind.result c.behind.ensures.answer)
