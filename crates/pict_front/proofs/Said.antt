@@ -1,5 +1,5 @@
 -- What the answers of the calls say of the phases behind the grammar.
-use Rattle.std.proofs.Common.{◌≡◌, ℕ, ◌≤◌, ◌<◌, List, Option, Some, None, Result, Ok, Err, IfSome, IfErr, refl, sym, subst, inl, inr}
+use Rattle.std.proofs.Common.{◌≡◌, ℕ, ◌≤◌, ◌<◌, List, Option, Some, None, Result, Ok, Err, IfSome, IfErr, IfOk, refl, sym, subst, inl, inr}
 use Rattle.pict_syntax.specs.declared.limits.TheConstants.{DEPTH_LIMIT}
 use Rattle.pict_syntax.specs.declared.code.Code.TheVariants.{C1}
 use Rattle.pict_syntax.specs.Trees.{Decs}
@@ -18,9 +18,10 @@ use Rattle.pict_front.specs.declared.refusal.Refusal.{Refusal}
 use Rattle.pict_front.specs.declared.refusal.Refusal.TheVariants.{Named, Memory}
 use Rattle.pict_front.specs.Phases.{Phase, accepts, refuses, Then}
 use Rattle.pict_front.specs.Front.{Stop, Front, Checks, Translates, Judges, stopped_by, first_place, IsFront}
-use Rattle.pict_front.specs.Laws.{RefusedIsPlaced}
+use Rattle.pict_front.specs.Laws.{IsAccepted}
 use Rattle.pict_front.specs.Answers.{IsPlaced, said_by, of_derive_error, of_type_error}
 use Rattle.pict_front.proofs.Placed.{refused_is_placed}
+use Rattle.pict_front.proofs.TypedPrograms.{accepted_is_typed}
 
 -- a core process within the limit of depth
 pub translated : (names : List (List ℕ)) (p : Decs) (core : Process) → core ≡ program_core names p → depth_of core ≤ DEPTH_LIMIT
@@ -63,3 +64,8 @@ pub placed : {A : Type 0} (f : A → Front) (prelude : Option (List ℕ)) (text 
 placed f prelude text (Ok x) h = tt
 placed f prelude text (Err (Named code span)) h = refused_is_placed prelude text code span h
 placed f prelude text (Err Memory) h = tt
+
+-- an answer's core process comes from a typed program
+pub accepted : {A : Type 0} (f : A → Front) (prelude : Option (List ℕ)) (text : List ℕ) (r : Result A Refusal) → IfSome (said_by f r) (IsFront prelude text) → IfOk r (λ x. IsAccepted (f x))
+accepted f prelude text (Ok x) h = accepted_is_typed prelude text (f x) h
+accepted f prelude text (Err e) h = tt

@@ -9,6 +9,7 @@ ghost use Rattle.pict_core.specs.Plain.{plain_core};
 ghost use Rattle.pict_front.specs.Answers.{IsCutShort, IsPlaced, lent, plain_front, said_by};
 ghost use Rattle.pict_front.specs.Front as phases;
 ghost use Rattle.pict_front.specs.Front.{HasVerdict, IsFront, Judges, Translates};
+ghost use Rattle.pict_front.specs.Laws.{IsAccepted};
 
 use crate::accepted::Front;
 use crate::refusal::{
@@ -36,6 +37,7 @@ pub fn front(alloc: Global, prelude: Option<&[u8]>, text: &[u8]) -> Result<Front
     requires short { length text.now ≤ TEXT_LIMIT }
     requires short_prelude { IfSome prelude (λ bytes. length bytes.now ≤ TEXT_LIMIT) }
     ensures answer { IfSome (said_by plain_front result) (IsFront (lent prelude.entry) text.now) }
+    ensures accepted { IfOk result (λ front. IsAccepted (plain_front front)) }
     ensures placed { IfErr result (IsPlaced (lent prelude.entry) text.now) }
     ensures closed { IfOk result (λ front. IsClosed (plain_core front.core)) }
 {
