@@ -13,3 +13,6 @@ pub use laws::{
 };
 pub use phases::front;
 pub use refusal::Refusal;
+
+#[cfg(test)]
+mod tests;
