@@ -1,4 +1,4 @@
-//! Runs each example of the folder `examples` for up to 100 steps, and writes its name, what it prints, what is reported
+//! Runs each example of the folder `examples` that needs no prelude, and writes its name, what it prints, what is reported
 //! and the number of its status.
 #![tactic(auto)]
 
@@ -7,17 +7,40 @@ use pict_outside::{FolderShelf, StreamSink};
 use pict_top::pict;
 
 /// The examples, in the order in which they are best read.
-const EXAMPLES: [&str; 5] = [
+const EXAMPLES: [&str; 24] = [
     "hello.pi",
     "message.pi",
     "server.pi",
     "answer.pi",
     "forever.pi",
+    "pingpong.pi",
+    "handover.pi",
+    "account.pi",
+    "lock.pi",
+    "deadlock.pi",
+    "philosophers.pi",
+    "race.pi",
+    "buffer.pi",
+    "future.pi",
+    "fib.pi",
+    "ring.pi",
+    "daisy.pi",
+    "skynet.pi",
+    "session.pi",
+    "queue.pi",
+    "truth.pi",
+    "numerals.pi",
+    "lambda.pi",
+    "abstract.pi",
 ];
+
+/// The example that runs without end.
+const WITHOUT_END: &str = "forever.pi";
 
 fn run_example(rt: &HostRuntime, name: &str) -> Result<(), Error> {
     println!(rt; "{name}")?;
-    let words = ["run", "--bare", "--fuel", "100", name];
+    let fuel = if name == WITHOUT_END { "100" } else { "100000" };
+    let words = ["run", "--bare", "--fuel", fuel, name];
     let mut shelf = FolderShelf::new(rt);
     let mut out = StreamSink::new(rt.stdout());
     let mut err = StreamSink::new(rt.stdout());

@@ -40,31 +40,31 @@ one_lexes t = elim (some_whole_cut t.number t.text) [
     against_stop code span stop (accepts c) (pieces, whole, is) = absurd (stop_excludes_whole_cut t.number t.text code span pieces stop whole)
     against_stop code span stop (refuses (c, i)) s = let both = one_stop t.number t.text c code i span s stop in same_refusal c code i span both.0 both.1
 
-abbrev HasVerdict : List (List ℕ) → Cut → Verdict → Type 0
-HasVerdict names c v = IsVerdict (tokens_in names c) c.end v
+abbrev IsVerdictOn : List (List ℕ) → Cut → Verdict → Type 0
+IsVerdictOn names c v = IsVerdict (tokens_in names c) c.end v
 
 one_parses : (names : List (List ℕ)) (c : Cut) → Exactly (Parses names c)
 one_parses names c = let some = some_verdict (tokens_in names c) c.end in answer some.0 some.1
   where
-    one : (v w : Verdict) → HasVerdict names c v → HasVerdict names c w → v ≡ w
+    one : (v w : Verdict) → IsVerdictOn names c v → IsVerdictOn names c w → v ≡ w
     one v w = one_verdict (tokens_in names c) c.end v w
 
-    against_program : (p : Decs) → HasVerdict names c (Program p) → (other : Phase Stop Decs) → Parses names c other → other ≡ accepts p
+    against_program : (p : Decs) → IsVerdictOn names c (Program p) → (other : Phase Stop Decs) → Parses names c other → other ≡ accepts p
     against_program p is (accepts q) also = let e = one (Program q) (Program p) also is in cc
     against_program p is (refuses (d, i)) (inl (e, also)) = let f = one (Unexpected i) (Program p) also is in cc
     against_program p is (refuses (d, i)) (inr (e, also)) = let f = one (TooNested i) (Program p) also is in cc
 
-    against_unexpected : (span : Span) → HasVerdict names c (Unexpected span) → (other : Phase Stop Decs) → Parses names c other → other ≡ refuses (P1, span)
+    against_unexpected : (span : Span) → IsVerdictOn names c (Unexpected span) → (other : Phase Stop Decs) → Parses names c other → other ≡ refuses (P1, span)
     against_unexpected span is (accepts q) also = let e = one (Program q) (Unexpected span) also is in cc
     against_unexpected span is (refuses (d, i)) (inl (e, also)) = let f = one (Unexpected i) (Unexpected span) also is in cc
     against_unexpected span is (refuses (d, i)) (inr (e, also)) = let f = one (TooNested i) (Unexpected span) also is in cc
 
-    against_nested : (span : Span) → HasVerdict names c (TooNested span) → (other : Phase Stop Decs) → Parses names c other → other ≡ refuses (P2, span)
+    against_nested : (span : Span) → IsVerdictOn names c (TooNested span) → (other : Phase Stop Decs) → Parses names c other → other ≡ refuses (P2, span)
     against_nested span is (accepts q) also = let e = one (Program q) (TooNested span) also is in cc
     against_nested span is (refuses (d, i)) (inl (e, also)) = let f = one (Unexpected i) (TooNested span) also is in cc
     against_nested span is (refuses (d, i)) (inr (e, also)) = let f = one (TooNested i) (TooNested span) also is in cc
 
-    answer : (v : Verdict) → HasVerdict names c v → Exactly (Parses names c)
+    answer : (v : Verdict) → IsVerdictOn names c v → Exactly (Parses names c)
     answer (Program p) is = (accepts p, is, against_program p is)
     answer (Unexpected span) is = (refuses (P1, span), inl (refl, is), against_unexpected span is)
     answer (TooNested span) is = (refuses (P2, span), inr (refl, is), against_nested span is)

@@ -12,8 +12,8 @@ use Rattle.pict_trace.proofs.ReadBack.{runs_are_read_back}
 use Rattle.pict_front.specs.Phases.{Phase, accepts, Then, Each}
 use Rattle.pict_front.specs.Front.{Front, Numbered, Cut, Lexes, Parses, Judges, texts_in_order, named_in, names_in, tokens_in, behind, joined}
 use Rattle.pict_front.specs.Laws.{AcceptedIsOrdered, AcceptedIsReadBack}
-use Rattle.pict_front.proofs.OneAfterAnother.{accepted_then}
-use Rattle.pict_front.proofs.Accepted.{judged}
+use Rattle.pict_front.proofs.OneAfterAnother.{accepted_then, each_accepted}
+use Rattle.pict_front.proofs.TypedPrograms.{judged}
 use Rattle.pict_front.proofs.Labelled.{DecsLabels}
 use Rattle.pict_front.proofs.Rising.{IsLabel}
 use Rattle.pict_front.proofs.Ordering.{program_ordered}
@@ -67,21 +67,6 @@ tokens_hold names n place (token bytes (string values) ∷ ps) rest are all = (t
 tokens_hold names n place (token bytes (sign s) ∷ ps) rest are all = (tt, tokens_hold names n (place + length bytes) ps rest are.1 all)
 
 -- ---- texts
-
--- what a phase over each item of a list went through that accepted
-each_accepted : {E A B : Type 0} (One : A → Phase E B → Type 0) (x : A) (xs : List A) (cs : List B) → Each One (x ∷ xs) (accepts cs) → (y : B) × (ys : List B) × One x (accepts y) × Each One xs (accepts ys) × (cs ≡ y ∷ ys)
-each_accepted {E = E} {B = B} One x xs cs each =
-    let Whole : B → List B → Phase E (List B) → Type 0 = λ y ys all. all ≡ accepts (y ∷ ys) in
-    let head = accepted_then (One x) (λ y. Then (Each One xs) (Whole y)) cs each in
-    let tail = accepted_then (Each One xs) (Whole head.0) cs head.2 in
-    (head.0, tail.0, head.1, tail.1, same (accepts cs) (accepts (head.0 ∷ tail.0)) tail.2)
-  where
-    got : Phase E (List B) → List B → List B
-    got (accepts all) other = all
-    got _ other = other
-
-    same : (p q : Phase E (List B)) → p ≡ q → got p cs ≡ got q cs
-    same p q e = ap (λ r. got r cs) e
 
 abbrev AreCut : List Cut → Type 0
 AreCut [] = Unit {0}

@@ -1,8 +1,16 @@
 pub mod OneAfterAnother
 pub mod EachPhase
-pub mod Accepted
+pub mod TypedPrograms
 pub mod Labelled
 pub mod Rising
 pub mod Tokens
 pub mod Ordering
 pub mod InOrder
+pub mod Standing
+pub mod Spans
+pub mod ScopePlaces
+pub mod KindPlaces
+pub mod StuckPlaces
+pub mod Placed
+pub mod Answered
+pub mod Said

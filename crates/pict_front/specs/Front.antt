@@ -62,11 +62,13 @@ abbrev pub tokens_in : List (List ℕ) → Cut → List Token
 tokens_in names c = tokens_of names c.number 0 c.pieces
 
 -- GRAMMAR: the tokens are those of a program; else the first one that no program has there, or that is nested too deep
+abbrev pub HasVerdict : List Token → ℕ → Phase Stop Decs → Type 0
+HasVerdict tokens end (accepts p) = IsVerdict tokens end (Program p)
+HasVerdict tokens end (refuses (code, span)) =
+    ((code ≡ P1) × IsVerdict tokens end (Unexpected span)) ⊎ ((code ≡ P2) × IsVerdict tokens end (TooNested span))
+
 abbrev pub Parses : List (List ℕ) → Cut → Phase Stop Decs → Type 0
-Parses names c (accepts p) = IsVerdict (tokens_in names c) c.end (Program p)
-Parses names c (refuses (code, span)) =
-    ((code ≡ P1) × IsVerdict (tokens_in names c) c.end (Unexpected span))
-    ⊎ ((code ≡ P2) × IsVerdict (tokens_in names c) c.end (TooNested span))
+Parses names c = HasVerdict (tokens_in names c) c.end
 
 -- the declarations of one program behind those of another
 abbrev pub behind : Decs → Decs → Decs

@@ -14,12 +14,19 @@ use Rattle.pict_trace.specs.Lines.{lines_text}
 use Rattle.pict_trace.specs.Readable.{IsLines}
 use Rattle.pict_trace.specs.Ordered.{IsOrderedProcess, FitsLine}
 use Rattle.pict_translation.specs.Translation.{program_core}
-use Rattle.pict_front.specs.Phases.{accepts, Exactly}
-use Rattle.pict_front.specs.Front.{Front, IsFront}
+use Rattle.pict_syntax.specs.declared.code.Code.{Code}
+use Rattle.pict_syntax.specs.declared.span.Span.{Span}
+use Rattle.pict_front.specs.Phases.{accepts, refuses, Exactly}
+use Rattle.pict_front.specs.Front.{Front, IsFront, texts_in_order}
+use Rattle.pict_front.specs.Places.{StandsInOneOf}
 
 -- a text, behind a prelude or none, has exactly one answer: one core process, or one refusal with its code and place
 abbrev pub OneFront : Type 0
 OneFront = (prelude : Option (List ℕ)) (text : List ℕ) → Exactly (IsFront prelude text)
+
+-- the place of each refusal lies in the text that it names: the text, or the prelude before it
+abbrev pub RefusedIsPlaced : Type 0
+RefusedIsPlaced = (prelude : Option (List ℕ)) (text : List ℕ) (code : Code) (span : Span) → IsFront prelude text (refuses (code, span)) → StandsInOneOf (texts_in_order prelude text) span
 
 -- a core process comes from declarations in which no rule of scopes fails, that are typed, and of which it is the translation
 pub record IsAccepted (f : Front) : Type 0 where

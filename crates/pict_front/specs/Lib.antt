@@ -1,3 +1,5 @@
 pub mod Phases
 pub mod Front
+pub mod Places
 pub mod Laws
+pub mod Answers

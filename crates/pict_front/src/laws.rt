@@ -1,11 +1,16 @@
 // The laws of the phases before a run, each as the contract of a function that does nothing.
 
-ghost use Rattle.pict_front.specs.Laws.{AcceptedIsOrdered, AcceptedIsReadBack, AcceptedIsTyped, OneFront};
+ghost use Rattle.pict_front.specs.Laws.{AcceptedIsOrdered, AcceptedIsReadBack, AcceptedIsTyped, OneFront, RefusedIsPlaced};
 
 /// Every text, behind a prelude or without one, has exactly one answer by the phases: the core process of a program, or a
 /// refusal with one code at one place.
 pub fn law_one_front()
     ensures { OneFront }
+{}
+
+/// The place of each refusal lies in the text that it names, from its first byte to its end.
+pub fn law_refused_is_placed()
+    ensures { RefusedIsPlaced }
 {}
 
 /// The core process of an accepted text is the translation of declarations in which no rule of scopes fails and that are

@@ -83,7 +83,7 @@ with_names_grows names (x ∷ xs) =
     (first.0 ++ others.0, others.1 ∙ ap (λ t. t ++ others.0) first.1 ∙ append_assoc names first.0 others.0)
 
 -- each interned text is there
-are_there : (names xs : List (List ℕ)) → AllByRecursion (λ text. has_name (with_names names xs) text ≡ true) xs
+pub are_there : (names xs : List (List ℕ)) → AllByRecursion (λ text. has_name (with_names names xs) text ≡ true) xs
 are_there names [] = tt
 are_there names (x ∷ xs) =
     let more : (more : List (List ℕ)) × (with_names (with_name names x) xs ≡ with_name names x ++ more) = with_names_grows (with_name names x) xs in (
@@ -109,7 +109,7 @@ kind_kept names more (string values) h = refl
 kind_kept names more (sign s) h = refl
 
 -- tokens stay when names come
-tokens_kept : (names more : List (List ℕ)) (source place : ℕ) (ps : List Piece) → AllByRecursion (λ text. has_name names text ≡ true) (named ps)
+pub tokens_kept : (names more : List (List ℕ)) (source place : ℕ) (ps : List Piece) → AllByRecursion (λ text. has_name names text ≡ true) (named ps)
     → tokens_of (names ++ more) source place ps ≡ tokens_of names source place ps
 tokens_kept names more source place [] h = refl
 tokens_kept names more source place (blank byte ∷ ps) h = tokens_kept names more source (place + 1) ps h

@@ -7,21 +7,21 @@ use Rattle.pict_outside.specs.Texts.{Texts, text_of}
 use Rattle.pict_syntax.specs.declared.code.Code.{Code}
 use Rattle.pict_syntax.specs.declared.code.Code.TheVariants.{B1}
 use Rattle.pict_syntax.specs.declared.span.Span.{Span}
-use Rattle.pict_core.specs.Term.{Process}
 use Rattle.pict_core.specs.Run.{End}
 use Rattle.pict_top.specs.Words.{Command, file_of}
-use Rattle.pict_top.specs.Front.{Refused, Accepted, IsFront, first_place}
+use Rattle.pict_front.specs.Phases.{accepts, refuses}
+use Rattle.pict_front.specs.Front.{Front, IsFront, first_place}
 use Rattle.pict_top.specs.Answer.{Absent, Refusal, Ended, Does}
 use Rattle.pict_top.specs.Outcome.{Outcome, outcome_of}
 use Rattle.pict_top.specs.Owed.{OwesText, OwesFile}
 
-pub owes_refusal : (text : List ℕ) (command : Command) (code : Code) (span : Span) → length text ≤ TEXT_LIMIT → IsFront text (Refused code span) → OwesText text command (outcome_of command text (Refusal code span))
-owes_refusal text command code span short stands = (Refusal code span, inr (record { short = short; front = Refused code span; stands = stands; done = refl }), refl)
+pub owes_refusal : (text : List ℕ) (command : Command) (code : Code) (span : Span) → length text ≤ TEXT_LIMIT → IsFront None text (refuses (code, span)) → OwesText text command (outcome_of command text (Refusal code span))
+owes_refusal text command code span short stands = (Refusal code span, inr (record { short = short; said = refuses (code, span); front = stands; done = refl }), refl)
 
-pub owes_work : (text : List ℕ) (command : Command) (names : List (List ℕ)) (process : Process) (end : End) (bytes : List ℕ) → length text ≤ TEXT_LIMIT → IsFront text (Accepted names process) → Does command names process end bytes → OwesText text command (outcome_of command text (Ended end bytes))
-owes_work text command names process end bytes short stands does = (
+pub owes_work : (text : List ℕ) (command : Command) (front : Front) (end : End) (bytes : List ℕ) → length text ≤ TEXT_LIMIT → IsFront None text (accepts front) → Does command front.names front.core end bytes → OwesText text command (outcome_of command text (Ended end bytes))
+owes_work text command front end bytes short stands does = (
   Ended end bytes,
-  inr (record { short = short; front = Accepted names process; stands = stands; done = (end, bytes, does, refl) }),
+  inr (record { short = short; said = accepts front; front = stands; done = (end, bytes, does, refl) }),
   refl,
 )
 

@@ -7,5 +7,4 @@ pub mod Continuing
 pub mod Written
 pub mod Running
 pub mod Runs
-pub mod Fronts
 pub mod Some

@@ -3,18 +3,15 @@ use Rattle.std.proofs.Common.{arith, ◌≡◌, ℕ, ◌≤◌, inl, inr, List, 
 use Rattle.std.proofs.lemmas.Fmt.{decimal_injective}
 use Rattle.pict_syntax.specs.declared.limits.TheConstants.{FUEL_LIMIT}
 use Rattle.pict_outside.specs.Texts.{Texts}
-use Rattle.pict_syntax.specs.Cuts.{Piece}
-use Rattle.pict_syntax.proofs.LawLemmas.{one_whole_cut, stop_excludes_whole_cut, one_stop}
-use Rattle.pict_syntax.specs.Verdicts.{Verdict, Program, Unexpected, TooNested, IsVerdict}
-use Rattle.pict_automaton.proofs.OneVerdict.{one_verdict}
 use Rattle.pict_core.specs.Term.{Process}
 use Rattle.pict_core.specs.Configuration.{opening}
 use Rattle.pict_core.specs.Step.{Label}
 use Rattle.pict_core.specs.Run.{End, Done, FuelSpent, Trap, Misshapen}
 use Rattle.pict_core.proofs.OneRun.{one_run}
-use Rattle.pict_channels.specs.Translation.{program_core}
-use Rattle.pict_top.specs.Words.{Command, Run, Trace, Code, Options, HasShape, HasNoShape, word_of, options_of}
-use Rattle.pict_top.specs.Front.{Front, Refused, Accepted, IsFront, IsTranslated, IsJudged, names_in, tokens_in}
+use Rattle.pict_top.specs.Words.{Command, Run, Trace, Check, Code, Options, HasShape, HasNoShape, word_of, options_of}
+use Rattle.pict_front.specs.Phases.{Phase, accepts, refuses}
+use Rattle.pict_front.specs.Front.{Stop, Front}
+use Rattle.pict_front.proofs.EachPhase.{one_front}
 use Rattle.pict_top.specs.Answer.{Answer, Absent, Refusal, Ended, IsAnswer, IsDone, Does, Shows}
 use Rattle.pict_top.specs.Outcome.{Outcome, outcome_of, text_in}
 use Rattle.pict_top.specs.Owed.{OwesFile, OwesWords}
@@ -30,12 +27,19 @@ within_fuel words command (inr s) = s.fuel
 same_command : (a b : Command) → word_of a ≡ word_of b → options_of a ≡ options_of b → a ≡ b
 same_command (Run o) (Run p) e f = ap Run f
 same_command (Run o) (Trace p) e f = absurd cc
+same_command (Run o) (Check p) e f = absurd cc
 same_command (Run o) (Code p) e f = absurd cc
 same_command (Trace o) (Run p) e f = absurd cc
 same_command (Trace o) (Trace p) e f = ap Trace f
+same_command (Trace o) (Check p) e f = absurd cc
 same_command (Trace o) (Code p) e f = absurd cc
+same_command (Check o) (Run p) e f = absurd cc
+same_command (Check o) (Trace p) e f = absurd cc
+same_command (Check o) (Check p) e f = ap Check f
+same_command (Check o) (Code p) e f = absurd cc
 same_command (Code o) (Run p) e f = absurd cc
 same_command (Code o) (Trace p) e f = absurd cc
+same_command (Code o) (Check p) e f = absurd cc
 same_command (Code o) (Code p) e f = ap Code f
 
 -- and options by their parts
@@ -60,37 +64,6 @@ one_command words a b (inr s) (inr t) =
     let fuel = decimal_injective (options_of a).fuel (options_of b).fuel (omega (arith, s.fuel)) (omega (arith, t.fuel)) (same_at _ _ 3 same) in
     same_command a b (same_at _ _ 0 same) (same_options (options_of a) (options_of b) (s.bare ∙ sym t.bare) fuel (same_at _ _ 4 same))
 
--- ---- the phases before the run
-
-one_translated : (names : List (List ℕ)) (process : Option Process) (f g : Front) → IsTranslated names process f → IsTranslated names process g → f ≡ g
-one_translated names None f g a b = a ∙ sym b
-one_translated names (Some process) f g (inl a) (inl b) = a.1 ∙ sym b.1
-one_translated names (Some process) f g (inl a) (inr b) = let x = a.0 in let y = b.0 in absurd (omega arith)
-one_translated names (Some process) f g (inr a) (inl b) = let x = a.0 in let y = b.0 in absurd (omega arith)
-one_translated names (Some process) f g (inr a) (inr b) = a.1 ∙ sym b.1
-
-one_judged : (names : List (List ℕ)) (v : Verdict) (f g : Front) → IsJudged names v f → IsJudged names v g → f ≡ g
-one_judged names (Program p) f g a b = one_translated names (program_core names p) f g a b
-one_judged names (Unexpected span) f g a b = a ∙ sym b
-one_judged names (TooNested span) f g a b = a ∙ sym b
-
-one_read : (text : List ℕ) (pieces : List Piece) (v w : Verdict) (f g : Front) → IsVerdict (tokens_in pieces) (length text) v → IsVerdict (tokens_in pieces) (length text) w → IsJudged (names_in pieces) v f → IsJudged (names_in pieces) w g → f ≡ g
-one_read text pieces v w f g a b x y =
-    let P : Verdict → Type 0 = λ u. IsJudged (names_in pieces) u f in
-    one_judged (names_in pieces) w f g (subst P (one_verdict (tokens_in pieces) (length text) v w a b) x) y
-
-one_front : (text : List ℕ) (f g : Front) → IsFront text f → IsFront text g → f ≡ g
-one_front text f g (inl a) (inl b) =
-    let same = one_stop 1 text a.code b.code a.span b.span a.stop b.stop in
-    a.refused ∙ ap (λ c. Refused c a.span) same.0 ∙ ap (Refused b.code) same.1 ∙ sym b.refused
-one_front text f g (inl a) (inr b) = absurd (stop_excludes_whole_cut 1 text a.code a.span b.pieces a.stop b.reading)
-one_front text f g (inr a) (inl b) = absurd (stop_excludes_whole_cut 1 text b.code b.span a.pieces b.stop a.reading)
-one_front text f g (inr a) (inr b) =
-    let same = one_whole_cut text a.pieces b.pieces a.reading b.reading in
-    let P : List Piece → Type 0 = λ pieces. IsVerdict (tokens_in pieces) (length text) a.verdict × IsJudged (names_in pieces) a.verdict f in
-    let moved = subst P same (a.given, a.judged) in
-    one_read text b.pieces a.verdict b.verdict f g moved.0 b.given moved.1 b.judged
-
 -- ---- answers
 
 one_shown : (p : Process) (fuel : ℕ) (written : List (ℕ × Label) → List ℕ) (e g : End) (a b : List ℕ) → Shows p fuel written e a → Shows p fuel written g b → (e ≡ g) × (a ≡ b)
@@ -102,12 +75,13 @@ one_shown p fuel written e g a b x y =
 one_work : (command : Command) (names : List (List ℕ)) (p : Process) (e g : End) (a b : List ℕ) → Does command names p e a → Does command names p g b → (e ≡ g) × (a ≡ b)
 one_work (Run o) names p e g a b x y = one_shown p o.fuel _ e g a b x y
 one_work (Trace o) names p e g a b x y = one_shown p o.fuel _ e g a b x y
+one_work (Check o) names p e g a b x y = (x.done ∙ sym y.done, x.nothing ∙ sym y.nothing)
 one_work (Code o) names p e g a b x y = (x.done ∙ sym y.done, x.listing ∙ sym y.listing)
 
-one_done : (command : Command) (f : Front) (a b : Answer) → IsDone command f a → IsDone command f b → a ≡ b
-one_done command (Refused code span) a b x y = x ∙ sym y
-one_done command (Accepted names process) a b (e, ls, r, x) (g, ms, s, y) =
-    let one = one_work command names process e g ls ms r s in
+one_done : (command : Command) (said : Phase Stop Front) (a b : Answer) → IsDone command said a → IsDone command said b → a ≡ b
+one_done command (refuses (code, span)) a b x y = x ∙ sym y
+one_done command (accepts front) a b (e, ls, r, x) (g, ms, s, y) =
+    let one = one_work command front.names front.core e g ls ms r s in
     x ∙ ap (λ end. Ended end ls) one.0 ∙ ap (Ended g) one.1 ∙ sym y
 
 one_answer : (command : Command) (file : Option (List ℕ)) (a b : Answer) → IsAnswer command file a → IsAnswer command file b → a ≡ b
@@ -116,8 +90,9 @@ one_answer command (Some text) a b (inl x) (inl y) = x.refused ∙ sym y.refused
 one_answer command (Some text) a b (inl x) (inr y) = let l = x.long in let s = y.short in absurd (omega arith)
 one_answer command (Some text) a b (inr x) (inl y) = let l = y.long in let s = x.short in absurd (omega arith)
 one_answer command (Some text) a b (inr x) (inr y) =
-    let P : Front → Type 0 = λ f. IsDone command f a in
-    one_done command y.front a b (subst P (one_front text x.front y.front x.stands y.stands) x.done) y.done
+    let P : Phase Stop Front → Type 0 = λ said. IsDone command said a in
+    let one = one_front None text in
+    one_done command y.said a b (subst P (one.2 x.said x.front ∙ sym (one.2 y.said y.front)) x.done) y.done
 
 -- ---- outcomes
 

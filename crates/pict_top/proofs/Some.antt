@@ -4,23 +4,20 @@ use Rattle.std.specs.Fmt.{decimal}
 use Rattle.std.specs.Str.Parse.{digits_value}
 use Rattle.std.proofs.lemmas.Bool.{cases_lt}
 use Rattle.std.proofs.lemmas.Fmt.{decimal_is_IsNumeral}
-use Rattle.pict_syntax.specs.declared.limits.TheConstants.{DEPTH_LIMIT, FUEL_LIMIT, TEXT_LIMIT}
+use Rattle.pict_syntax.specs.declared.limits.TheConstants.{FUEL_LIMIT, TEXT_LIMIT}
 use Rattle.pict_outside.specs.Texts.{Texts, text_of}
-use Rattle.pict_syntax.specs.declared.code.Code.TheVariants.{B1, P1, P2, N1, C1}
-use Rattle.pict_syntax.specs.Cuts.{Piece, IsWholeCut}
-use Rattle.pict_syntax.specs.Verdicts.{Verdict, Program, Unexpected, TooNested}
+use Rattle.pict_syntax.specs.declared.code.Code.TheVariants.{B1}
 use Rattle.pict_total.proofs.Choices.{same_or_not, same_text_or_not}
-use Rattle.pict_total.proofs.Judged.{some_verdict}
-use Rattle.pict_total.proofs.Cuts.{some_whole_cut}
-use Rattle.pict_core.specs.Term.{Process, depth_of}
+use Rattle.pict_core.specs.Term.{Process}
 use Rattle.pict_core.specs.Configuration.{opening}
 use Rattle.pict_core.specs.Step.{Label}
 use Rattle.pict_core.specs.Run.{End, Done}
 use Rattle.pict_code.specs.Nodes.{nodes_of}
 use Rattle.pict_code.specs.Listing.{listing_text}
-use Rattle.pict_channels.specs.Translation.{program_core}
-use Rattle.pict_top.specs.Words.{Command, Run, Trace, Code, Options, IsBare, IsBareFueled, HasShape, HasNoShape, IsFileWord, word_of, options_of, takes_fuel, file_of, default_fuel}
-use Rattle.pict_top.specs.Front.{Front, Refused, Accepted, IsFront, IsTranslated, IsJudged, names_in, tokens_in, first_place}
+use Rattle.pict_top.specs.Words.{Command, Run, Trace, Check, Code, Options, IsBare, IsBareFueled, HasShape, HasNoShape, IsFileWord, word_of, options_of, takes_fuel, file_of, default_fuel}
+use Rattle.pict_front.specs.Phases.{Phase, accepts, refuses}
+use Rattle.pict_front.specs.Front.{Stop, Front, first_place}
+use Rattle.pict_front.proofs.EachPhase.{one_front}
 use Rattle.pict_top.specs.Answer.{Answer, Absent, Refusal, Ended, IsAnswer, IsDone, Does, Shows}
 use Rattle.pict_top.specs.Outcome.{Outcome, outcome_of, text_in, usage_outcome}
 use Rattle.pict_top.specs.Owed.{OwesFile, OwesWords, OneOutcome}
@@ -63,31 +60,43 @@ command_of word options = elim (same_text_or_not word (codes "run")) [
   | inl e ↦ inl (Run options, e, refl)
   | inr no_run ↦ elim (same_text_or_not word (codes "trace")) [
     | inl e ↦ inl (Trace options, e, refl)
-    | inr no_trace ↦ elim (same_text_or_not word (codes "code")) [ inl e ↦ inl (Code options, e, refl) | inr no_code ↦ inr (none no_run no_trace no_code) ]
+    | inr no_trace ↦ elim (same_text_or_not word (codes "check")) [
+      | inl e ↦ inl (Check options, e, refl)
+      | inr no_check ↦ elim (same_text_or_not word (codes "code")) [ inl e ↦ inl (Code options, e, refl) | inr no_code ↦ inr (none no_run no_trace no_check no_code) ]
+    ]
   ]
 ]
   where
-    none : word ≢ codes "run" → word ≢ codes "trace" → word ≢ codes "code" → (command : Command) → word ≢ word_of command
-    none no_run no_trace no_code (Run o) e = no_run e
-    none no_run no_trace no_code (Trace o) e = no_trace e
-    none no_run no_trace no_code (Code o) e = no_code e
+    none : word ≢ codes "run" → word ≢ codes "trace" → word ≢ codes "check" → word ≢ codes "code" → (command : Command) → word ≢ word_of command
+    none no_run no_trace no_check no_code (Run o) e = no_run e
+    none no_run no_trace no_check no_code (Trace o) e = no_trace e
+    none no_run no_trace no_check no_code (Check o) e = no_check e
+    none no_run no_trace no_check no_code (Code o) e = no_code e
 
 -- a command that takes fuel
 fueled_or_not : (command : Command) → (takes_fuel command ≡ true) ⊎ (takes_fuel command ≢ true)
 fueled_or_not (Run o) = inl refl
 fueled_or_not (Trace o) = inl refl
+fueled_or_not (Check o) = inr (λ e. cc)
 fueled_or_not (Code o) = inr (λ e. cc)
 
 -- whether a command takes fuel hangs on its word alone
 same_fueled : (a b : Command) → word_of a ≡ word_of b → takes_fuel a ≡ takes_fuel b
 same_fueled (Run o) (Run p) e = refl
 same_fueled (Run o) (Trace p) e = refl
+same_fueled (Run o) (Check p) e = absurd cc
 same_fueled (Run o) (Code p) e = absurd cc
 same_fueled (Trace o) (Run p) e = refl
 same_fueled (Trace o) (Trace p) e = refl
+same_fueled (Trace o) (Check p) e = absurd cc
 same_fueled (Trace o) (Code p) e = absurd cc
+same_fueled (Check o) (Run p) e = absurd cc
+same_fueled (Check o) (Trace p) e = absurd cc
+same_fueled (Check o) (Check p) e = refl
+same_fueled (Check o) (Code p) e = refl
 same_fueled (Code o) (Run p) e = absurd cc
 same_fueled (Code o) (Trace p) e = absurd cc
+same_fueled (Code o) (Check p) e = refl
 same_fueled (Code o) (Code p) e = refl
 
 -- the first word is that of the command
@@ -178,32 +187,6 @@ command_or_not (a ∷ b ∷ c ∷ d ∷ e ∷ []) =
     five a b c d e (both_or_not (same_text_or_not b (codes "--bare")) (both_or_not (same_text_or_not c (codes "--fuel")) (both_or_not (fuel_or_not d) (file_word_or_not e))))
 command_or_not (a ∷ b ∷ c ∷ d ∷ e ∷ f ∷ more) = inr (other_length (a ∷ b ∷ c ∷ d ∷ e ∷ f ∷ more) (λ h. omega (arith, h)) (λ h. omega (arith, h)))
 
--- ---- the phases before the run
-
-translated : (names : List (List ℕ)) (process : Option Process) → (f : Front) × IsTranslated names process f
-translated names None = (Refused N1 first_place, refl)
-translated names (Some process) = elim (cases_lt DEPTH_LIMIT (depth_of process)) [
-  | inl deep ↦ (Refused C1 first_place, inl (deep, refl))
-  | inr fits ↦ (Accepted names process, inr (fits, refl))
-]
-
-judged : (names : List (List ℕ)) (v : Verdict) → (f : Front) × IsJudged names v f
-judged names (Program p) = translated names (program_core names p)
-judged names (Unexpected span) = (Refused P1 span, refl)
-judged names (TooNested span) = (Refused P2 span, refl)
-
-front_read : (text : List ℕ) (pieces : List Piece) → IsWholeCut text pieces → (f : Front) × IsFront text f
-front_read text pieces reading =
-    let v = some_verdict (tokens_in pieces) (length text) in
-    let f = judged (names_in pieces) v.0 in
-    (f.0, inr (record { pieces = pieces; reading = reading; verdict = v.0; given = v.1; judged = f.1 }))
-
-some_front : (text : List ℕ) → (f : Front) × IsFront text f
-some_front text = elim (some_whole_cut 1 text) [
-  | inl r ↦ front_read text r.0 r.1
-  | inr s ↦ (Refused s.0 s.1, inl (record { code = s.0; span = s.1; stop = s.2; refused = refl }))
-]
-
 -- ---- answers
 
 some_shown : (p : Process) (fuel : ℕ) (written : List (ℕ × Label) → List ℕ) → (e : End) × (bytes : List ℕ) × Shows p fuel written e bytes
@@ -215,12 +198,13 @@ some_shown p fuel written =
 some_work : (command : Command) (names : List (List ℕ)) (p : Process) → (e : End) × (bytes : List ℕ) × Does command names p e bytes
 some_work (Run o) names p = some_shown p o.fuel _
 some_work (Trace o) names p = some_shown p o.fuel _
+some_work (Check o) names p = (Done, [], record { done = refl; nothing = refl })
 some_work (Code o) names p = (Done, listing_text names (nodes_of p), record { done = refl; listing = refl })
 
-some_done : (command : Command) (f : Front) → (a : Answer) × IsDone command f a
-some_done command (Refused code span) = (Refusal code span, refl)
-some_done command (Accepted names process) =
-    let some = some_work command names process in
+some_done : (command : Command) (said : Phase Stop Front) → (a : Answer) × IsDone command said a
+some_done command (refuses (code, span)) = (Refusal code span, refl)
+some_done command (accepts front) =
+    let some = some_work command front.names front.core in
     (Ended some.0 some.1, (some.0, some.1, some.2, refl))
 
 some_answer : (command : Command) (file : Option (List ℕ)) → (a : Answer) × IsAnswer command file a
@@ -228,9 +212,9 @@ some_answer command None = (Absent, refl)
 some_answer command (Some text) = elim (cases_lt TEXT_LIMIT (length text)) [
   | inl long ↦ (Refusal B1 first_place, inl (record { long = long; refused = refl }))
   | inr short ↦
-      let f = some_front text in
-      let a = some_done command f.0 in
-      (a.0, inr (record { short = short; front = f.0; stands = f.1; done = a.1 }))
+      let one = one_front None text in
+      let a = some_done command one.0 in
+      (a.0, inr (record { short = short; said = one.0; front = one.1; done = a.1 }))
 ]
 
 -- ---- outcomes

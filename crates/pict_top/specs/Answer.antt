@@ -1,6 +1,6 @@
 -- The answer to a file by the definitions: it isn't there, or its text is refused, or the command does its work with the
 -- program.
-use Rattle.std.specs.Prelude.{◌≡◌, ◌⊎◌, ℕ, ◌<◌, ◌≤◌, List, length, Option, Some, None}
+use Rattle.std.specs.Prelude.{◌≡◌, ◌⊎◌, ℕ, ◌<◌, ◌≤◌, List, [], length, Option, Some, None}
 use Rattle.pict_syntax.specs.declared.limits.TheConstants.{TEXT_LIMIT}
 use Rattle.pict_syntax.specs.declared.code.Code as refusals
 use Rattle.pict_syntax.specs.declared.code.Code.TheVariants.{B1}
@@ -11,8 +11,9 @@ use Rattle.pict_core.specs.Run.{End, Done, Runs, bytes_of}
 use Rattle.pict_code.specs.Nodes.{nodes_of}
 use Rattle.pict_code.specs.Listing.{listing_text}
 use Rattle.pict_trace.specs.Lines.{lines_text}
-use Rattle.pict_top.specs.Words.{Command, Run, Trace, Code}
-use Rattle.pict_top.specs.Front.{Front, Refused, Accepted, IsFront, first_place}
+use Rattle.pict_front.specs.Phases.{Phase, accepts, refuses}
+use Rattle.pict_front.specs.Front.{Stop, Front, IsFront, first_place}
+use Rattle.pict_top.specs.Words.{Command, Run, Trace, Check, Code}
 
 -- What a command does with an accepted text: how it ends, and which bytes it writes.
 abbrev pub Work : Type 1
@@ -29,12 +30,19 @@ pub record Lists (names : List (List ℕ)) (process : Process) (end : End) (byte
   pub done : end ≡ Done
   pub listing : bytes ≡ listing_text names (nodes_of process)
 
+-- The text is accepted, and that is all: nothing is written.
+pub record IsChecked (end : End) (bytes : List ℕ) : Type 0 where
+  pub done : end ≡ Done
+  pub nothing : bytes ≡ []
+
 -- what a command does with the names and the core process of a text: a row for each command
 abbrev pub Does : Command → List (List ℕ) → Process → Work
 -- what the program prints
 Does (Run options) names process = Shows process options.fuel bytes_of
 -- a line for each communication and each printing
 Does (Trace options) names process = Shows process options.fuel (lines_text names)
+-- nothing
+Does (Check options) names process = IsChecked
 -- the listing of its instructions
 Does (Code options) names process = Lists names process
 
@@ -44,9 +52,9 @@ pub data Answer : Type 0 where
   Ended : End → List ℕ → Answer
 
 -- behind the phases before the command's own work
-abbrev pub IsDone : Command → Front → Answer → Type 0
-IsDone command (Refused code span) answer = answer ≡ Refusal code span
-IsDone command (Accepted names process) answer = (end : End) × (bytes : List ℕ) × Does command names process end bytes × (answer ≡ Ended end bytes)
+abbrev pub IsDone : Command → Phase Stop Front → Answer → Type 0
+IsDone command (refuses (code, span)) answer = answer ≡ Refusal code span
+IsDone command (accepts front) answer = (end : End) × (bytes : List ℕ) × Does command front.names front.core end bytes × (answer ≡ Ended end bytes)
 
 pub record IsTooLong (text : List ℕ) (answer : Answer) : Type 0 where
   pub long : TEXT_LIMIT < length text
@@ -54,9 +62,9 @@ pub record IsTooLong (text : List ℕ) (answer : Answer) : Type 0 where
 
 pub record IsAnswered (command : Command) (text : List ℕ) (answer : Answer) : Type 0 where
   pub short : length text ≤ TEXT_LIMIT
-  pub front : Front
-  pub stands : IsFront text front
-  pub done : IsDone command front answer
+  pub said : Phase Stop Front
+  pub front : IsFront None text said
+  pub done : IsDone command said answer
 
 abbrev pub IsAnswer : Command → Option (List ℕ) → Answer → Type 0
 IsAnswer command None answer = answer ≡ Absent

@@ -2,7 +2,7 @@
 use Rattle.std.specs.Prelude.{◌≡◌, ◌⊎◌, ℕ, List, Option, Some}
 use Rattle.pict_outside.specs.Counts.{Rose}
 use Rattle.pict_outside.specs.Texts.{Texts}
-use Rattle.pict_core.specs.Term.{Process}
+use Rattle.pict_front.specs.Front.{Front}
 use Rattle.pict_top.specs.Changes.{SinkChange, Untouched, Gained, GainedFront, Failed, FailedWithin}
 use Rattle.pict_top.specs.Meets.{IsDecided, SomeOutcome, Delivers, Breaks, Tells}
 use Rattle.pict_top.specs.Outcome.{Outcome}
@@ -55,4 +55,4 @@ pub record Headline (words : List (List ℕ)) (shelf : ShelfChange) (out err : S
   pub usage_only : status ≡ Usage → HasNoShape words
   -- each step of an accepted program leaves its reading congruent or is one reduction of it, and where the run is finished no
   -- reduction is left
-  pub sound : (names : List (List ℕ)) (process : Process) → Accepts words shelf.held names process → IsSound process
+  pub sound : (accepted : Front) → Accepts words shelf.held accepted → IsSound accepted.core

@@ -2,8 +2,6 @@ pub mod Numbers
 pub mod Words
 pub mod Plain
 pub mod Reports
-pub mod Front
-pub mod Phases
 pub mod Answer
 pub mod Outcome
 pub mod Owed

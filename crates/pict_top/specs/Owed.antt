@@ -1,10 +1,10 @@
 -- What the words come to over a shelf, where no device fails.
-use Rattle.std.specs.Prelude.{◌≡◌, ◌⊎◌, ℕ, ◌≤◌, List, length, Option, Some, IfSome}
+use Rattle.std.specs.Prelude.{◌≡◌, ◌⊎◌, ℕ, ◌≤◌, List, length, Option, Some, None, IfSome}
 use Rattle.pict_syntax.specs.declared.limits.TheConstants.{TEXT_LIMIT}
 use Rattle.pict_outside.specs.Texts.{Texts, text_of}
-use Rattle.pict_core.specs.Term.{Process}
 use Rattle.pict_top.specs.Words.{Command, HasShape, HasNoShape, file_of}
-use Rattle.pict_top.specs.Front.{Accepted, IsFront}
+use Rattle.pict_front.specs.Phases.{accepts}
+use Rattle.pict_front.specs.Front.{Front, IsFront}
 use Rattle.pict_top.specs.Answer.{Answer, IsAnswer}
 use Rattle.pict_top.specs.Outcome.{Outcome, outcome_of, text_in, read_fault, usage_outcome}
 
@@ -24,14 +24,14 @@ pub record OwesFile (held : Option Texts) (command : Command) (o : Outcome) : Ty
 abbrev pub OwesWords : List (List ℕ) → Option Texts → Outcome → Type 0
 OwesWords words held o = ((command : Command) × HasShape words command × OwesFile held command o) ⊎ (HasNoShape words × (o ≡ usage_outcome))
 
--- the file of the words, as a shelf may hold it, is accepted: it has these names and this core process
-pub record Accepts (words : List (List ℕ)) (held : Option Texts) (names : List (List ℕ)) (process : Process) : Type 0 where
+-- the file of the words, as a shelf may hold it, is accepted: its names and its core process are these
+pub record Accepts (words : List (List ℕ)) (held : Option Texts) (accepted : Front) : Type 0 where
   pub command : Command
   pub shape : HasShape words command
   pub text : List ℕ
   pub holds : MayHold held (file_of command) (Some text)
   pub short : length text ≤ TEXT_LIMIT
-  pub front : IsFront text (Accepted names process)
+  pub front : IsFront None text (accepts accepted)
 
 -- what the words come to where the shelf fails
 pub record FaultsWords (words : List (List ℕ)) (o : Outcome) : Type 0 where

@@ -4,7 +4,7 @@ use Rattle.std.specs.Borrow.{Bor}
 use Rattle.pict_top.specs.Words as words
 use Rattle.pict_top.specs.declared.words.Options.{Options}
 use Rattle.pict_top.specs.declared.words.Command.{Command}
-use Rattle.pict_top.specs.declared.words.Command.TheVariants.{Run, Trace, Code}
+use Rattle.pict_top.specs.declared.words.Command.TheVariants.{Run, Trace, Check, Code}
 
 -- borrowed texts as the texts themselves
 abbrev pub texts_of : List (Bor (List ℕ)) → List (List ℕ)
@@ -16,4 +16,5 @@ plain_options options = record { bare = options.bare; fuel = options.fuel; file 
 abbrev pub plain_command : Command → words.Command
 plain_command (Run options) = words.Run (plain_options options)
 plain_command (Trace options) = words.Trace (plain_options options)
+plain_command (Check options) = words.Check (plain_options options)
 plain_command (Code options) = words.Code (plain_options options)

@@ -13,23 +13,27 @@ pub record Options : Type 0 where
 pub data Command : Type 0 where
   Run : Options → Command
   Trace : Options → Command
+  Check : Options → Command
   Code : Options → Command
 
 -- the word of a command
 abbrev pub word_of : Command → List ℕ
 word_of (Run options) = codes "run"
 word_of (Trace options) = codes "trace"
+word_of (Check options) = codes "check"
 word_of (Code options) = codes "code"
 
 abbrev pub options_of : Command → Options
 options_of (Run options) = options
 options_of (Trace options) = options
+options_of (Check options) = options
 options_of (Code options) = options
 
 -- whether a command runs the program, so that its fuel may be given
 abbrev pub takes_fuel : Command → Bool
 takes_fuel (Run options) = true
 takes_fuel (Trace options) = true
+takes_fuel (Check options) = false
 takes_fuel (Code options) = false
 
 -- the name of the file that a command reads

@@ -2,7 +2,6 @@
 #![tactic(auto)]
 
 mod form;
-mod front;
 mod print;
 mod printer;
 mod report;

@@ -256,10 +256,10 @@ fn listings(rt: HostRuntime) -> Result<(), AllocError> {
         },
         Case {
             words,
-            text: b"val x = 1",
+            text: b"run x!1",
             status: Status::Refused,
             out: b"",
-            err: b"F:1:1: N1 form not built\n",
+            err: b"F:1:5: S1 unbound name\n",
             ..HELLO
         },
         usage(&["code", "F"]),
@@ -326,18 +326,88 @@ fn fuel(rt: HostRuntime) -> Result<(), AllocError> {
     )
 }
 
+/// A text that is accepted, and is not run.
 #[test]
-fn misshapen(rt: HostRuntime) -> Result<(), AllocError> {
+fn checks(rt: HostRuntime) -> Result<(), AllocError> {
+    let words: &[&str] = &["check", "--bare", "F"];
+    let cases = [
+        written(words, b"run print!\"hello\"", b""),
+        written(words, b"def loop [] = loop![] run loop![]", b""),
+        written(words, b"run printi!(div 1 0)", b""),
+        written(words, b"val p:[#X<Int X] = [#Int 3]", b""),
+        Case {
+            words,
+            text: b"new c:^Int run c!\"x\"",
+            status: Status::Refused,
+            out: b"",
+            err: b"F:1:18: Y4 not a subtype\n",
+            ..HELLO
+        },
+        Case {
+            words: &["check", "--bare", "G"],
+            status: Status::Missing,
+            out: b"",
+            err: b"G: no such file\n",
+            ..HELLO
+        },
+        usage(&["check", "F"]),
+        usage(&["check", "--bare", "--fuel", "1", "F"]),
+    ];
+    for case in &cases {
+        try_case(&rt, rt.alloc(), case)?;
+    }
+    Ok(())
+}
+
+/// Every form of the language, and what the programs print.
+#[test]
+fn forms(rt: HostRuntime) -> Result<(), AllocError> {
+    let cases = [
+        done(
+            b"run printi!(+ 9223372036854775807 1)",
+            b"-9223372036854775808",
+        ),
+        done(
+            b"run printi!(div -9223372036854775808 -1)",
+            b"-9223372036854775808",
+        ),
+        done(b"run printi!(mod -9223372036854775808 -1)", b"0"),
+        done(b"run printi!(div -7 2)", b"-3"),
+        done(b"run printi!(mod -7 2)", b"-1"),
+        done(b"val f = \\(x:Int) = (+ x 1) run printi!(f 2)", b"3"),
+        done(b"run printi!(- > 10 3 2)", b"9"),
+        done(b"run printi!(- < 10 3 2)", b"5"),
+        done(
+            b"def f (s:String):Int = ((pr s); 1) run printi!(+ (f \"a\") (f \"b\"))",
+            b"ab2",
+        ),
+        done(
+            b"type S = (rec X = ^X) new c:^S run c!(rec c) run c?(rec d) = print!\"ok\"",
+            b"ok",
+        ),
+        done(b"run print!(+$ \"a\\x41\\n\" (intstr -5))", b"aA\n-5"),
+        done(b"run printi!(ord (chr -1))", b"255"),
+        done(b"run printi!(nth \"abc\" 3)", b"-1"),
+        done(b"run printi!(size \"\")", b"0"),
+    ];
+    for case in &cases {
+        try_case(&rt, rt.alloc(), case)?;
+    }
+    Ok(())
+}
+
+/// A division by zero, at the place of the application in the text, is a step.
+#[test]
+fn traps(rt: HostRuntime) -> Result<(), AllocError> {
     let case = Case {
-        text: b"new c:^Int run c!\"x\" run c?n = printi!n",
-        status: Status::Misshapen,
-        out: b"",
-        err: b"F: message of a wrong shape\n",
+        text: b"(pr \"a\"); run printi!(div 1 0)",
+        status: Status::Trap,
+        out: b"a",
+        err: b"F:1:22: division by zero\n",
         ..HELLO
     };
     try_case(&rt, rt.alloc(), &case)?;
-    // The wrong step is the seventh.
-    let words = with_fuel("6");
+    let words = with_fuel("10");
     try_case(
         &rt,
         rt.alloc(),
@@ -348,12 +418,24 @@ fn misshapen(rt: HostRuntime) -> Result<(), AllocError> {
             ..case
         },
     )?;
-    let words = with_fuel("7");
+    let words = with_fuel("11");
     try_case(
         &rt,
         rt.alloc(),
         &Case {
             words: &words,
+            ..case
+        },
+    )?;
+    // The call is on the second line, the division in the first.
+    let text = b"def f (n:Int):Int = (div 1 n)\nrun printi!(f 0)";
+    try_case(
+        &rt,
+        rt.alloc(),
+        &Case {
+            text,
+            out: b"",
+            err: b"F:1:21: division by zero\n",
             ..case
         },
     )
@@ -377,9 +459,31 @@ fn refusals(rt: HostRuntime) -> Result<(), AllocError> {
             b"run\n\n print!\"a\" @",
             b"F:3:12: L1 byte begins no token\n",
         ),
-        refused(b"val x = 1", b"F:1:1: N1 form not built\n"),
-        refused(b"run ()\nrun pr!\"a\"", b"F:1:1: N1 form not built\n"),
-        refused(b"new c:Bool run ()", b"F:1:1: N1 form not built\n"),
+        refused(b"run x!1", b"F:1:5: S1 unbound name\n"),
+        refused(b"new c:Bool run ()", b"F:1:7: Y15 new needs a ^ type\n"),
+        refused(b"new c:^Int run c!\"x\"", b"F:1:18: Y4 not a subtype\n"),
+        refused(b"def f [c:?Int] = c!1", b"F:1:18: Y2 no right to send\n"),
+        refused(
+            b"new c:^Int def f [d:/Int] = d!1 run f![c]",
+            b"F:1:40: Y4 not a subtype\n",
+        ),
+        refused(
+            b"val p:[#X X] = [#Int 3]\nval y = (val [#X x] = p x)\n",
+            b"F:2:9: Y14 type variable escapes\n",
+        ),
+        refused(
+            b"val p:[#X<Int X] = [#Int 3]\nval q:[#X X] = p\n",
+            b"F:2:16: Y4 not a subtype\n",
+        ),
+        // A program whose run would do no harm.
+        refused(
+            b"run if true then () else print!1",
+            b"F:1:32: Y4 not a subtype\n",
+        ),
+        // The first phase that refuses answers: a token, then the grammar, then scopes.
+        refused(b"run x!1 run y!(\n@", b"F:2:1: L1 byte begins no token\n"),
+        refused(b"run x!1 run print!", b"F:1:19: P1 unexpected token\n"),
+        refused(b"run print!1 run x!1", b"F:1:17: S1 unbound name\n"),
     ];
     for case in &cases {
         try_case(&rt, rt.alloc(), case)?;
@@ -394,11 +498,7 @@ fn nesting(rt: HostRuntime) -> Result<(), AllocError> {
         text.push(b'^')?;
     }
     text.extend_from_slice(b"Int")?;
-    try_case(
-        &rt,
-        rt.alloc(),
-        &refused(&text, b"F:1:1: N1 form not built\n"),
-    )?;
+    try_case(&rt, rt.alloc(), &done(&text, b""))?;
     let mut text = Vec::from_slice(rt.alloc(), b"type A = ")?;
     for _ in 0..201 {
         text.push(b'^')?;

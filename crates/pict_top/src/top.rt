@@ -1,13 +1,14 @@
 // The top call: what the words ask for, done over a shelf and two sinks.
-ghost use Rattle.std.specs.Prelude.{◌≡◌, ◌≤◌, ◌⊎◌, Some, IfOk, string_bytes, length};
+ghost use Rattle.std.specs.Prelude.{◌≡◌, ◌≤◌, ◌⊎◌, Some, None, IfOk, string_bytes, length};
 ghost use Rattle.pict_outside.specs.Counts.{Rose};
 ghost use Rattle.pict_core.specs.Closed.{IsClosed};
 ghost use Rattle.pict_core.specs.Plain.{plain_core};
+ghost use Rattle.pict_front.specs.Answers.{plain_front};
+ghost use Rattle.pict_front.specs.Front.{IsFront};
+ghost use Rattle.pict_front.specs.Phases.{accepts};
 ghost use Rattle.pict_top.specs.Changes.{change_of, Untouched};
-ghost use Rattle.pict_top.specs.Front.{IsFront};
 ghost use Rattle.pict_top.specs.Headline.{Headline, shelf_change};
 ghost use Rattle.pict_top.specs.Meets.{Meets, Reports, EndReports, Tells};
-ghost use Rattle.pict_top.specs.Phases.{plain_program};
 ghost use Rattle.pict_top.specs.Outcome.{read_fault};
 ghost use Rattle.pict_top.specs.Owed.{OwesText, OwesFile, OwesWords, FaultsWords, OneOutcome};
 ghost use Rattle.pict_top.specs.Plain.{plain_command, texts_of};
@@ -16,22 +17,23 @@ ghost use Rattle.pict_syntax.specs.Position.{line_of, column_of};
 ghost use Rattle.pict_top.specs.Reports.{line, refusal_report, trap_report, usage_report};
 ghost use Rattle.pict_top.specs.Words.{HasNoShape, file_of, options_of};
 
-use crate::front::{Ready, Stop, front};
 use crate::report;
 use crate::run::{Broken, Finish};
 use crate::status::Status;
 use crate::words::{Command, Usage, words_of};
 use crate::work::perform;
+use pict_front::{Front, Refusal, front};
 use pict_outside::{Fetched, Shelf, ShelfError, Sink, SinkFailed};
 use pict_syntax::{Code, FUEL_LIMIT, TEXT_LIMIT, line_col};
 use std::alloc::{AllocError, Global};
 
 /// Does what the words ask for, and answers how it ended.
 ///
-/// It reads the file from the shelf and runs its program. `run` writes what the program prints on `out`, each printing that
-/// isn't empty in one write right after its step; `trace` writes a line for each communication and each printing, each in
-/// one write right after its step; `code` runs nothing, and writes the listing of the program's instructions, each line in
-/// one write. The text of the status, if it has one, is written on `err` in one write.
+/// It reads the file from the shelf, and checks its text. `check` ends there. `run` runs the program and writes what it
+/// prints on `out`, each printing that isn't empty in one write right after its step; `trace` writes a line for each
+/// communication and each printing, each in one write right after its step; `code` runs nothing, and writes the listing of
+/// the program's instructions, each line in one write. The text of the status, if it has one, is written on `err` in one
+/// write.
 pub fn pict<S: Shelf, O: Sink, E: Sink>(
     alloc: Global,
     words: &[&str],
@@ -122,10 +124,10 @@ fn run_text<O: Sink, E: Sink>(
     ensures faults_stay { O.faults out.old ≤ O.faults out.new }
     ensures err_faults_stay { E.faults err.old ≤ E.faults err.new }
 {
-    match front(alloc, text) {
-        Err(Stop::Memory) => Status::Memory,
-        Err(Stop::Refused(code, span)) => refuse(alloc, command, text, span.start, code, err),
-        Ok(ready) => run_ready(alloc, command, text, ready, out, err),
+    match front(alloc, None, text) {
+        Err(Refusal::Memory) => Status::Memory,
+        Err(Refusal::Named(code, span)) => refuse(alloc, command, text, span.start, code, err),
+        Ok(front) => run_ready(alloc, command, text, front, out, err),
     }
 }
 
@@ -134,20 +136,20 @@ fn run_ready<O: Sink, E: Sink>(
     alloc: Global,
     command: Command<'_>,
     text: &[u8],
-    ready: Ready,
+    front: Front,
     out: &mut O,
     err: &mut E,
 ) -> Status
     requires short { length text.now ≤ TEXT_LIMIT }
     requires fuel { (options_of (plain_command command)).fuel ≤ FUEL_LIMIT }
-    requires stands { IsFront text.now (plain_program ready) }
-    requires closed { IsClosed (plain_core ready.core) }
+    requires stands { IsFront None text.now (accepts (plain_front front)) }
+    requires closed { IsClosed (plain_core front.core) }
     ensures meets { Meets (OwesText text.now (plain_command command.entry)) (λ o. ⊥) ⊥
         (change_of O.taken O.faults out.old out.new) (change_of E.taken E.faults err.old err.new) result }
     ensures faults_stay { O.faults out.old ≤ O.faults out.new }
     ensures err_faults_stay { E.faults err.old ≤ E.faults err.new }
 {
-    match perform(alloc, command, ready, out) {
+    match perform(alloc, command, front, out) {
         Err(Broken::Memory) => Status::Memory,
         Err(Broken::Sink) => Status::WriteFault,
         Ok(finish) => report_end(alloc, command, text, finish, err),

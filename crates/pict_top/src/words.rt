@@ -26,6 +26,8 @@ pub enum Command<'a> {
     Run(Options<'a>),
     /// `trace`: the same run, of which it writes a line for each communication and each printing.
     Trace(Options<'a>),
+    /// `check`: checks a program, and writes nothing.
+    Check(Options<'a>),
     /// `code`: checks a program, and writes the listing of its instructions.
     Code(Options<'a>),
 }
@@ -60,6 +62,7 @@ fn command_of<'a>(word: &str, options: Options<'a>) -> Result<Command<'a>, Usage
     match word {
         "run" => Ok(Command::Run(options)),
         "trace" => Ok(Command::Trace(options)),
+        "check" => Ok(Command::Check(options)),
         "code" => Ok(Command::Code(options)),
         _ => Err(Usage),
     }
@@ -150,6 +153,7 @@ impl<'a> Command<'a> {
         match self {
             Command::Run(options) => options,
             Command::Trace(options) => options,
+            Command::Check(options) => options,
             Command::Code(options) => options,
         }
     }
@@ -161,6 +165,7 @@ impl<'a> Command<'a> {
         match self {
             Command::Run(_) => true,
             Command::Trace(_) => true,
+            Command::Check(_) => false,
             Command::Code(_) => false,
         }
     }

@@ -9,11 +9,11 @@ ghost use Rattle.pict_top.specs.Printed.{end_of, Finished, Somehow};
 ghost use Rattle.pict_top.specs.Words.{options_of};
 
 use crate::form::Form;
-use crate::front::Ready;
 use crate::run::{Broken, Finish, run_core};
 use crate::words::Command;
 use pict_code::{ListError, listing};
 use pict_core::Core;
+use pict_front::Front;
 use pict_lower::lower;
 use pict_outside::Sink;
 use pict_syntax::{FUEL_LIMIT, Names};
@@ -24,23 +24,24 @@ use std::alloc::{AllocError, Global};
 pub fn perform<O: Sink>(
     alloc: Global,
     command: Command<'_>,
-    ready: Ready,
+    front: Front,
     out: &mut O,
 ) -> Result<Finish, Broken>
-    requires closed { IsClosed (plain_core ready.core) }
+    requires closed { IsClosed (plain_core front.core) }
     requires fuel { (options_of (plain_command command)).fuel ≤ FUEL_LIMIT }
-    ensures done { IfOk result (λ finish. Finished (Does (plain_command command.entry) ready.names (plain_core ready.core)) (end_of finish)
+    ensures done { IfOk result (λ finish. Finished (Does (plain_command command.entry) front.names (plain_core front.core)) (end_of finish)
         (change_of O.taken O.faults out.old out.new)) }
-    ensures sink { result ≡ Err Broken.Sink → Somehow (Does (plain_command command.entry) ready.names (plain_core ready.core))
+    ensures sink { result ≡ Err Broken.Sink → Somehow (Does (plain_command command.entry) front.names (plain_core front.core))
         (FailedWithin (change_of O.taken O.faults out.old out.new)) }
-    ensures memory { result ≡ Err Broken.Memory → Somehow (Does (plain_command command.entry) ready.names (plain_core ready.core))
+    ensures memory { result ≡ Err Broken.Memory → Somehow (Does (plain_command command.entry) front.names (plain_core front.core))
         (GainedFront (change_of O.taken O.faults out.old out.new)) }
     ensures faults_stay { O.faults out.old ≤ O.faults out.new }
 {
-    let Ready { names, core } = ready;
+    let Front { core, names } = front;
     match command {
         Command::Run(options) => run_core(alloc, Form::Printed, &names, core, options.fuel, out),
         Command::Trace(options) => run_core(alloc, Form::Line, &names, core, options.fuel, out),
+        Command::Check(_) => Ok(Finish::Done),
         Command::Code(_) => list_core(alloc, &names, &core, out),
     }
 }
