@@ -9,6 +9,9 @@ pub mod ChannelEnds
 pub mod ProcessEnds
 pub mod AbstractionEnds
 pub mod DeclarationEnds
+pub mod DefinitionEnds
+pub mod Answering
+pub mod AbstractionForms
 pub mod Written
 pub mod Finding
 pub mod HeadForms

@@ -27,7 +27,7 @@ refused_on {e = e} w xs (z ∷ ys) (Named c i) h =
     (refused_on w (xs ++ z ∷ []) ys (Named c i) (subst (λ r. Runs r (stuck c i)) (sym (w.more xs z)) (part_stuck h)))
 refused_on w xs (z ∷ ys) Memory h = tt
 
-one_more : {A : Type 0} (xs : List A) (i : ℕ) (d : A) → i < length xs → take (i + 1) xs ≡ take i xs ++ get_or xs i d ∷ []
+pub one_more : {A : Type 0} (xs : List A) (i : ℕ) (d : A) → i < length xs → take (i + 1) xs ≡ take i xs ++ get_or xs i d ∷ []
 one_more xs i d h = rw (add-one, take-suc xs i d h) refl
 
 all_of : {A : Type 0} (xs : List A) (i : ℕ) (d : A) → i < length xs → xs ≡ (take i xs ++ get_or xs i d ∷ []) ++ drop (i + 1) xs
@@ -47,7 +47,7 @@ pub row_all : {A : Type 0} {s : Sort} {e : Environment} (w : Row A s e) (xs : Li
 row_all {e = e} w xs i x h p = subst (λ z. Runs (rule e (w.judged z)) (ok x)) (take_all i xs h) p
 
 -- the first ones are well asked where all are
-first_asked : {A : Type 0} {s : Sort} {e : Environment} (w : Row A s e) (xs ys : List A) → IsWellAsked s e (w.judged (xs ++ ys)) → IsWellAsked s e (w.judged xs)
+pub first_asked : {A : Type 0} {s : Sort} {e : Environment} (w : Row A s e) (xs ys : List A) → IsWellAsked s e (w.judged (xs ++ ys)) → IsWellAsked s e (w.judged xs)
 first_asked {s = s} {e = e} w xs [] h = subst (λ z. IsWellAsked s e (w.judged z)) (append-nil xs) h
 first_asked {s = s} {e = e} w xs (z ∷ ys) h =
     asked_of (w.judged (xs ++ z ∷ []))

@@ -2,6 +2,9 @@
 //! processes and programs aren't there yet.
 #![tactic(auto)]
 
+mod abstractions;
+mod answers;
+mod definitions;
 mod fields;
 mod folds;
 mod functions;
@@ -9,5 +12,6 @@ mod nested;
 mod operators;
 mod parts;
 mod records;
+mod signatures;
 mod spans;
 mod steps;
