@@ -133,7 +133,7 @@ Given e s v t f = part e (gives v) (λ g. part e (given_fits s v t g (matched (c
 abbrev Had : Environment → Span → Val → PlainType → Found → Rule found_
 Had e s v t f = within_limits e (with_found f t) s (check e (has v (with_found f t)) (give f))
 
-value_rule : (e : Environment) (s : Span) (v : Val) (t : PlainType) (f : Found) (b : Bool) → mentions_missing f t ≡ b → rule e (value_fits s v t f) ≡ (if b then Given e s v t f else Had e s v t f)
+pub value_rule : (e : Environment) (s : Span) (v : Val) (t : PlainType) (f : Found) (b : Bool) → mentions_missing f t ≡ b → rule e (value_fits s v t f) ≡ (if b then Given e s v t f else Had e s v t f)
 value_rule e s v t f b h = ap (λ (z : Bool). if z then Given e s v t f else Had e s v t f) h
 
 pub value_gives_asked : (e : Environment) (s : Span) (v : Val) (t : PlainType) (f : Found) → mentions_missing f t ≡ true → IsWellAsked found_ e (value_fits s v t f) → IsWellAsked type_ e (gives v)

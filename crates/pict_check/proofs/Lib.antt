@@ -23,3 +23,10 @@ pub mod NestedFormed
 pub mod NestedForms
 pub mod NestedLevels
 pub mod Frames
+pub mod Kept
+pub mod Read
+pub mod RecordEnds
+pub mod PutFits
+pub mod FitEnds
+pub mod ApplyEnds
+pub mod FieldsAsked

@@ -54,6 +54,9 @@ first_asked {s = s} {e = e} w xs (z ∷ ys) h =
     (first_asked w (xs ++ z ∷ []) ys (subst (λ l. IsWellAsked s e (w.judged l)) (sym (append_assoc xs (z ∷ []) ys)) h))
     (subst (λ r. Asks s r s e (w.judged xs)) (sym (w.more xs z)) this_part)
 
+pub first_of : {A : Type 0} {s : Sort} {e : Environment} (w : Row A s e) (xs : List A) (i : ℕ) → IsWellAsked s e (w.judged xs) → IsWellAsked s e (w.judged (take i xs))
+first_of {s = s} {e = e} w xs i h = first_asked w (take i xs) (drop i xs) (subst (λ z. IsWellAsked s e (w.judged z)) (sym (take-append-drop i xs)) h)
+
 -- and what is asked of the next one
 pub row_asked : {A : Type 0} {s t : Sort} {e d : Environment} {j : Judgement t} (w : Row A s e) (xs : List A) (i : ℕ) (a : A) (x : rules.Result s) → i < length xs → IsWellAsked s e (w.judged xs) → Runs (rule e (w.judged (take i xs))) (ok x) → Asks s (w.next (take i xs) (get_or xs i a) x) t d j → IsWellAsked t d j
 row_asked {s = s} {t = t} {e = e} {d = d} {j = j} w xs i a x h q p k =

