@@ -1,5 +1,5 @@
 -- Written type arguments, one after the other.
-use Rattle.std.proofs.Common.{◌≡◌, ◌<◌, ◌≤◌, ◌+◌, ℕ, zero, suc, List, [], ◌∷◌, ◌++◌, length, get_or, take, refl, sym, ◌∙◌, ap, subst, arith, Option, Some, None, Bool, true, false, not}
+use Rattle.std.proofs.Common.{◌≡◌, ◌<◌, ◌≤◌, ◌+◌, ℕ, List, [], ◌∷◌, ◌++◌, length, get_or, take, sym, ◌∙◌, ap, subst, arith, Option, Some, None, Bool, true, false}
 use Rattle.std.proofs.lemmas.List.{length-take-le}
 use Rattle.pict_syntax.specs.declared.code.Code.TheVariants.{K1, Y9}
 use Rattle.pict_syntax.specs.declared.span.Span.{Span}

@@ -1,18 +1,17 @@
 -- The counts of fields, one lemma for each way that they end.
-use Rattle.std.proofs.Common.{◌≡◌, ℕ, zero, suc, ◌+◌, List, [], ◌∷◌, length, Bool, true, false, ◌||◌, nat_eq, refl, sym, ◌∙◌, ap, ap₂, subst, arith}
+use Rattle.std.proofs.Common.{◌≡◌, List, [], ◌∷◌, length, Bool, true, false, ◌||◌, nat_eq, refl, sym, ◌∙◌, ap, ap₂, subst, arith}
 use Rattle.pict_syntax.specs.declared.code.Code.TheVariants.{Y5, Y6}
 use Rattle.pict_syntax.specs.declared.span.Span.{Span}
 use Rattle.pict_syntax.specs.declared.type_tree.TypeTree.{TypeTree as RTypeTree}
 use Rattle.pict_syntax.specs.declared.tree.Val.{Val as RVal}
-use Rattle.pict_syntax.specs.declared.tree.LabelledVal.{LabelledVal as RLabelledVal}
 use Rattle.pict_syntax.specs.declared.tree.FieldVals.{FieldVals as RFieldVals}
 use Rattle.pict_syntax.specs.declared.tree.Abs.TheViews.{out-FieldVals, roll-out-FieldVals}
-use Rattle.pict_syntax.specs.PlainTrees.{type_of, types_on, val_of, vals_on, labelled_vals_on, field_vals_of}
+use Rattle.pict_syntax.specs.PlainTrees.{type_of, types_on, vals_on, labelled_vals_on, field_vals_of}
 use Rattle.pict_syntax.specs.Trees.{TypeTrees, no_types, more_types, no_vals, no_labelled_vals, field_vals}
 use Rattle.pict_syntax.proofs.ValueLists.{field_vals_is}
 use Rattle.pict_types.specs.declared.types.Ty.{Ty}
 use Rattle.pict_types.specs.declared.types.Bound.{Bound}
-use Rattle.pict_types.specs.Types.{PlainTypes, PlainLabels, PlainBounds, count_bounds, count_types}
+use Rattle.pict_types.specs.Types.{PlainTypes, PlainLabels, PlainBounds, count_bounds}
 use Rattle.pict_types.specs.Plain.{plain_bounds, plain_types}
 use Rattle.pict_types.proofs.Rows.{count_bounds_length, count_types_length}
 use Rattle.pict_normal.specs.Normal.{count_trees}
