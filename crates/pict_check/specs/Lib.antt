@@ -6,4 +6,5 @@ pub mod Records
 pub mod Judging
 pub mod Chains
 pub mod Operators
+pub mod Fields
 pub mod Folds

@@ -2,10 +2,7 @@
 //! processes and programs aren't there yet.
 #![tactic(auto)]
 
-mod abstractions;
-mod channels;
 mod counts;
-mod declarations;
 mod fields;
 mod fitting;
 mod folds;
