@@ -1,4 +1,4 @@
-// Fields of a record or an application that fit a record type: what is found for its type fields, and the ends.
+// What is found for the type fields of a record, and types with arguments put in.
 
 ghost use Rattle.std.specs.Prelude.{◌≡◌, length, map, is_none, option_map, true, Some, IfOk};
 ghost use Rattle.pict_types.specs.Plain.{plain, plain_arg, plain_args, plain_bound, plain_bounds};

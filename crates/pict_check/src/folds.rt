@@ -79,24 +79,3 @@ pub fn variables(env: &Env) -> u32
 {
     env.context().variables()
 }
-
-/// A recursive type and its unfolding.
-#[derive(Drop)]
-pub struct Fold {
-    pub folded: Ty,
-    pub unfolding: Ty,
-}
-
-/// The annotation of a fold and its unfolding. Y7 and K4 at the fold, Y13 at the annotation's type.
-pub fn annotated_fold(
-    alloc: Global,
-    env: &Env,
-    annotation: &RType,
-    span: Span,
-) -> Result<Fold, InferError>
-    requires labels { AnnotationHasDistinctLabels (annotation_of annotation.now) }
-    ensures answer { IsAnswer (fold_annotated (environment_of env.now) (annotation_of annotation.now) span) annotated_types result }
-    ensures formed { IfOk result (λ f. IsTypeIn (environment_of env.now) (plain f.unfolding)) }
-{
-    Err(InferError::Memory)
-}

@@ -2,7 +2,10 @@
 //! processes and programs aren't there yet.
 #![tactic(auto)]
 
+mod abstractions;
+mod channels;
 mod counts;
+mod declarations;
 mod fields;
 mod fitting;
 mod folds;
