@@ -6,3 +6,4 @@ pub mod Records
 pub mod Judging
 pub mod Chains
 pub mod Operators
+pub mod Nesting

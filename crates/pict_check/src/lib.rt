@@ -5,9 +5,11 @@
 mod fields;
 mod folds;
 mod functions;
+mod left;
 mod nested;
 mod operators;
 mod parts;
 mod records;
+mod right;
 mod spans;
 mod steps;
