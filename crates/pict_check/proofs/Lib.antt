@@ -29,3 +29,7 @@ pub mod Entering
 pub mod Finishing
 pub mod Leaving
 pub mod WholeForms
+pub mod Marks
+pub mod PutIn
+pub mod WithinBounds
+pub mod AnswerFound

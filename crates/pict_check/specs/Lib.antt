@@ -7,3 +7,4 @@ pub mod Judging
 pub mod Chains
 pub mod Operators
 pub mod Nesting
+pub mod Fields
