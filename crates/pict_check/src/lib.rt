@@ -2,6 +2,7 @@
 //! processes and programs aren't there yet.
 #![tactic(auto)]
 
+mod chains;
 mod fields;
 mod folds;
 mod functions;
@@ -13,3 +14,4 @@ mod records;
 mod right;
 mod spans;
 mod steps;
+mod values;
