@@ -1,5 +1,5 @@
 -- Into the applications of a form from the left.
-use Rattle.std.proofs.Common.{◌≡◌, ℕ, suc, ◌+◌, ◌-◌, ◌<◌, ◌≤◌, refl, sym, ◌∙◌, ap, subst, List, [], ◌∷◌, ◌++◌, length, Option, None, arith, length-append}
+use Rattle.std.proofs.Common.{◌≡◌, suc, ◌+◌, ◌-◌, ◌<◌, ◌≤◌, refl, sym, ◌∙◌, ap, subst, List, [], ◌∷◌, ◌++◌, length, Option, None, arith, length-append}
 use Rattle.pict_syntax.specs.declared.tree.Val.{Val as RVal}
 use Rattle.pict_syntax.specs.Trees.{true_val}
 use Rattle.pict_types.specs.declared.types.Ty.{Ty}

@@ -1,5 +1,5 @@
 -- Out of the applications of a form from the left.
-use Rattle.std.proofs.Common.{◌≡◌, ℕ, suc, ◌-◌, ◌<◌, ◌≤◌, refl, sym, ◌∙◌, ap, subst, List, [], ◌∷◌, ◌++◌, length, get_or, take, Option, Some, arith, length-append}
+use Rattle.std.proofs.Common.{◌≡◌, ℕ, suc, ◌-◌, ◌<◌, refl, sym, ◌∙◌, ap, subst, List, [], ◌∷◌, ◌++◌, length, get_or, Option, Some, arith, length-append}
 use Rattle.pict_syntax.specs.declared.span.Span.{Span}
 use Rattle.pict_syntax.specs.declared.tree.Val.{Val as RVal}
 use Rattle.pict_syntax.specs.Grammar.{val_span}
@@ -13,7 +13,7 @@ use Rattle.pict_types.specs.Plain.{plain_args}
 use Rattle.pict_types.specs.Types.{PlainType}
 use Rattle.pict_match.specs.declared.found.Found.{Found}
 use Rattle.pict_rules.specs.Environments.{Environment}
-use Rattle.pict_rules.specs.Regular.{IsExpected, IsRegular, IsTypeIn, kinds_in}
+use Rattle.pict_rules.specs.Regular.{IsExpected, IsRegular, kinds_in}
 use Rattle.pict_rules.specs.Rules.{found_, value_fits, ok}
 use Rattle.pict_rules.specs.Derivations.{Runs}
 use Rattle.pict_rules.specs.Typing.{rule}
@@ -28,7 +28,7 @@ use Rattle.pict_check.specs.Nesting.{AreAllBegun, IsLeftForm, left_first, left_f
 use Rattle.pict_check.specs.Operators.{AreFoundFor, HaveRoom, IsFoundFor, IsOperatorIn, found_by, frames_by, operator_of, type_if, vals_of}
 use Rattle.pict_check.specs.Reading.{found_for}
 use Rattle.pict_check.proofs.Frames.{frames_more, length_frames, length_vals, val_at}
-use Rattle.pict_check.proofs.Lefts.{IsHalf, IsTurn, Taken, half, half_answer, half_done, half_end, half_second, half_span, left_all, turn_first_refused, turn_left}
+use Rattle.pict_check.proofs.Lefts.{IsHalf, IsTurn, Taken, half, half_answer, half_done, half_end, half_second, half_span, left_all, turn_first_refused}
 use Rattle.pict_check.proofs.Lefts as lefts
 use Rattle.pict_check.proofs.NestedFormed.{after_found, first_formed, operator_formed, regular_for}
 use Rattle.pict_check.proofs.NestedLevels.{half_asked, turn_found, turn_room, turn_wanted}

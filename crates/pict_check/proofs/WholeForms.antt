@@ -1,5 +1,5 @@
 -- Forms from the right and from the left, once their operators are known: the value that is looked at between the ways in and out.
-use Rattle.std.proofs.Common.{◌≡◌, suc, ◌-◌, ◌<◌, refl, sym, ◌∙◌, ap, subst, List, [], length, get_or, Option, arith}
+use Rattle.std.proofs.Common.{◌≡◌, suc, ◌-◌, refl, sym, ◌∙◌, ap, subst, List, length, get_or, Option, arith}
 use Rattle.pict_syntax.specs.declared.id.Id.{Id}
 use Rattle.pict_syntax.specs.declared.span.Span.{Span}
 use Rattle.pict_syntax.specs.declared.tree.Val.{Val as RVal}

@@ -15,6 +15,7 @@ ghost use Rattle.pict_check.specs.Judging.{IsAnswerFor, IsAskedFor, IsFor, IsRef
 ghost use Rattle.pict_check.specs.Nesting.{AreAllBegun, AreAllEntered, IsLeftForm, IsRightForm, left_first, left_form, right_form, wanted_left};
 ghost use Rattle.pict_check.specs.Operators.{type_if, vals_of};
 
+use crate::fitting::value_fits;
 use crate::left::begin;
 use crate::nested::{
     copied, end_application, end_fields, field_given, field_wanted, first, operator, second, start,
@@ -23,7 +24,7 @@ use crate::nested::{
 use crate::operators::Operator;
 use crate::right::leave;
 use crate::spans::val_span;
-use crate::values::{gives, has, value_fits};
+use crate::values::{gives, has};
 use pict_infer::{Env, InferError};
 use pict_match::Found;
 use pict_syntax::{Id, Span, Val};

@@ -4,6 +4,7 @@
 
 mod chains;
 mod fields;
+mod fitting;
 mod folds;
 mod functions;
 mod left;

@@ -1,5 +1,5 @@
 -- The ends of the bodies, each by one lemma.
-use Rattle.std.proofs.Common.{rules, ◌≡◌, ◌-◌, length, sym, arith, subst, ◌∙◌, ap, refl, None, Some}
+use Rattle.std.proofs.Common.{rules, ◌-◌, length, sym, arith, subst, ◌∙◌, ap, refl, None, Some}
 use Rattle.pict_syntax.specs.declared.tree.Val.{the_lemmas}
 use Rattle.pict_syntax.specs.PlainTrees.{val_of}
 use Rattle.pict_syntax.specs.Trees.{true_val}

@@ -4,7 +4,7 @@ use Rattle.pict_types.specs.Kinds.{IsWellFormed}
 use Rattle.pict_types.specs.Plain.{plain}
 use Rattle.pict_rules.specs.Regular.{FoundFits, IsExpected, kinds_in, kinds_within}
 use Rattle.pict_infer.specs.Environments.{environment_of}
-use Rattle.pict_check.specs.Operators.{IsFoundFor, found_by, operator_of, type_if}
+use Rattle.pict_check.specs.Operators.{found_by, operator_of, type_if}
 use Rattle.pict_check.specs.Reading.{found_for}
 use Rattle.pict_check.proofs.Frames.{found_count}
 use Rattle.pict_check.proofs.NestedSteps.{known_given, matched_found, nothing_given, on_any, within_fields}
