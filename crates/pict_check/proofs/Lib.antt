@@ -23,6 +23,12 @@ pub mod NestedFormed
 pub mod NestedForms
 pub mod NestedLevels
 pub mod Frames
+pub mod NestedSteps
+pub mod Beginning
+pub mod Entering
+pub mod Finishing
+pub mod Leaving
+pub mod WholeForms
 pub mod Marks
 pub mod PutIn
 pub mod WithinBounds

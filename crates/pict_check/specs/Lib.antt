@@ -6,5 +6,6 @@ pub mod Records
 pub mod Judging
 pub mod Chains
 pub mod Operators
+pub mod Nesting
 pub mod Fields
 pub mod Folds
