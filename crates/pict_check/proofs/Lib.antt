@@ -23,3 +23,9 @@ pub mod NestedFormed
 pub mod NestedForms
 pub mod NestedLevels
 pub mod Frames
+pub mod Kept
+pub mod Grown
+pub mod DeclarationForms
+pub mod TypeEnds
+pub mod CompleteEnds
+pub mod ProgramEnds

@@ -6,3 +6,5 @@ pub mod Records
 pub mod Judging
 pub mod Chains
 pub mod Operators
+pub mod Declaring
+pub mod Refused

@@ -2,12 +2,18 @@
 //! processes and programs aren't there yet.
 #![tactic(auto)]
 
+mod complete;
+mod error;
 mod fields;
 mod folds;
 mod functions;
+mod messages;
 mod nested;
 mod operators;
 mod parts;
 mod records;
 mod spans;
 mod steps;
+mod types;
+
+pub use error::TypeError;
