@@ -41,3 +41,8 @@ pub mod Kept
 pub mod Read
 pub mod RecordEnds
 pub mod ApplyEnds
+pub mod Grown
+pub mod DeclarationForms
+pub mod CompleteEnds
+pub mod ProgramEnds
+pub mod TypeEnds

@@ -9,3 +9,5 @@ pub mod Operators
 pub mod Nesting
 pub mod Fields
 pub mod Folds
+pub mod Declaring
+pub mod Refused

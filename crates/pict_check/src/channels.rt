@@ -14,6 +14,7 @@ ghost use Rattle.pict_infer.specs.Answering.{IsAnswer, nothing};
 ghost use Rattle.pict_infer.specs.Asking.{IsWellAsked};
 ghost use Rattle.pict_infer.specs.Environments.{environment_of, IsAsBefore};
 
+use crate::chains::{left_gives, left_has, right_gives, right_has};
 use crate::declarations::declarations;
 use crate::fields::{application_end, found_first};
 use crate::fitting::fields_fit;
@@ -55,8 +56,8 @@ pub fn channel_gives(alloc: Global, env: &mut Env, c: &Chan) -> Result<Ty, Infer
             let t = gives(alloc, env, f)?;
             application(alloc, env, fields, f, t, None, *span)
         }
-        Chan::Right(..) => Err(InferError::Memory),
-        Chan::Left(..) => Err(InferError::Memory),
+        Chan::Right(span, name, vs) => right_gives(alloc, env, vs, *name, *span),
+        Chan::Left(span, name, vs) => left_gives(alloc, env, vs, *name, *span),
     }
 }
 
@@ -91,8 +92,8 @@ pub fn channel_has(alloc: Global, env: &mut Env, c: &Chan, t: &Ty) -> Result<(),
             let _ = application(alloc, env, fields, f, head, Some(t), *span)?;
             Ok(())
         }
-        Chan::Right(..) => Err(InferError::Memory),
-        Chan::Left(..) => Err(InferError::Memory),
+        Chan::Right(span, name, vs) => right_has(alloc, env, vs, *name, *span, t),
+        Chan::Left(span, name, vs) => left_has(alloc, env, vs, *name, *span, t),
     }
 }
 

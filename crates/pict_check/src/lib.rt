@@ -3,14 +3,18 @@
 #![tactic(auto)]
 
 mod abstractions;
+mod chains;
 mod channels;
+mod complete;
 mod counts;
 mod declarations;
+mod error;
 mod fields;
 mod fitting;
 mod folds;
 mod functions;
 mod left;
+mod messages;
 mod nested;
 mod operators;
 mod parts;
@@ -18,4 +22,7 @@ mod records;
 mod right;
 mod spans;
 mod steps;
+mod types;
 mod values;
+
+pub use error::TypeError;
