@@ -1,9 +1,10 @@
 -- Steps of the rules of declarations and processes.
-use Rattle.std.specs.Prelude.{Bool, true, false}
+use Rattle.std.specs.Prelude.{Bool, true, false, List}
 use Rattle.pict_syntax.specs.declared.code.Code.TheVariants.{Y15}
+use Rattle.pict_syntax.specs.declared.id.Id.{Id}
 use Rattle.pict_syntax.specs.declared.span.Span.{Span}
 use Rattle.pict_syntax.specs.Grammar.{type_span, val_span}
-use Rattle.pict_syntax.specs.Trees.{Dec, Definitions, Pat, TypeTree, Val, def_dec, let_dec}
+use Rattle.pict_syntax.specs.Trees.{Dec, Definitions, Pat, TypeTree, Val, def_dec, let_dec, operator_dec}
 use Rattle.pict_types.specs.Types.{PlainType, Both, Read, Write, Respond, Top, Int, Char, Str, Boolean, Var, Apply, Chan, Fields, Rec}
 use Rattle.pict_rules.specs.Environments.{Environment}
 use Rattle.pict_rules.specs.Rules.{Rule, type_, give, expand}
@@ -41,7 +42,10 @@ is_both (Rec u) = false
 abbrev pub channel_type : Environment → TypeTree → Rule type_
 channel_type e t = expand e t (λ u. need_both u Y15 (type_span t) (give u))
 
--- a value with its pattern, and definitions: their rules don't look at the place of the declaration
+-- an operator, a value with its pattern, and definitions: their rules don't look at the place of the declaration
+abbrev pub new_operator : Id → List Id → TypeTree → Dec
+new_operator x xs t = operator_dec x.span x xs t
+
 abbrev pub valued : Pat → Val → Dec
 valued p v = let_dec (val_span v) p v
 

@@ -1,5 +1,4 @@
-//! The steps of the checker, each of which answers what the rule that ends with it gives. The calls on whole values,
-//! processes and programs aren't there yet.
+//! The checker of types: whether the typing rules accept a program, or the first of their lines that is false.
 #![tactic(auto)]
 
 mod abstractions;
@@ -18,6 +17,7 @@ mod messages;
 mod nested;
 mod operators;
 mod parts;
+mod processes;
 mod records;
 mod right;
 mod spans;
@@ -26,3 +26,5 @@ mod types;
 mod values;
 
 pub use error::TypeError;
+pub use pict_rules::law_typed_or_stuck;
+pub use whole::check;

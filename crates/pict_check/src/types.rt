@@ -2,7 +2,7 @@
 
 ghost use Rattle.std.specs.Prelude.{◌≡◌, ◌+◌, length, OnOk};
 ghost use Rattle.pict_syntax.specs.PlainTrees.{type_of};
-ghost use Rattle.pict_syntax.specs.Trees.{alias_dec, new_dec, operator_dec};
+ghost use Rattle.pict_syntax.specs.Trees.{alias_dec, new_dec};
 ghost use Rattle.pict_types.specs.Plain.{plain};
 ghost use Rattle.pict_rules.specs.Clauses.{empty_record, with_parameters_in};
 ghost use Rattle.pict_rules.specs.Rules.{declaration, environment_};
@@ -11,7 +11,7 @@ ghost use Rattle.pict_scope.specs.DistinctLabels.{HasDistinctLabels};
 ghost use Rattle.pict_infer.specs.Answering.{IsAnswer};
 ghost use Rattle.pict_infer.specs.Asking.{IsWellAsked};
 ghost use Rattle.pict_infer.specs.Environments.{environment_of, known_entries, known_names, GrewFrom};
-ghost use Rattle.pict_check.specs.Declaring.{channel_type, is_both};
+ghost use Rattle.pict_check.specs.Declaring.{channel_type, is_both, new_operator};
 
 use crate::folds::variables;
 use crate::records::fields_type;
@@ -104,8 +104,8 @@ pub fn operator(
     params: &[Id],
     t: &TypeTree,
 ) -> Result<(), InferError>
-    requires right { IsWellAsked environment_ (environment_of env.old) (declaration (operator_dec id.span id params.now (type_of t.now))) }
-    ensures answer { IsAnswer (rule (environment_of env.old) (declaration (operator_dec id.span id params.now (type_of t.now)))) (λ _. environment_of env.new) result }
+    requires right { IsWellAsked environment_ (environment_of env.old) (declaration (new_operator id params.now (type_of t.now))) }
+    ensures answer { IsAnswer (rule (environment_of env.old) (declaration (new_operator id params.now (type_of t.now)))) (λ _. environment_of env.new) result }
     ensures grew { OnOk result (GrewFrom env.old env.new) }
 {
     let outer = env.place();
