@@ -24,6 +24,7 @@ mod spans;
 mod steps;
 mod types;
 mod values;
+mod whole;
 
 pub use error::TypeError;
 pub use pict_rules::law_typed_or_stuck;

@@ -12,10 +12,11 @@ ghost use Rattle.pict_infer.specs.Asking.{IsWellAsked};
 ghost use Rattle.pict_infer.specs.Environments.{environment_of, IsAsBefore};
 
 use crate::abstractions::abstraction_against;
+use crate::channels::channel_gives;
 use crate::declarations::declarations;
 use crate::messages::{messages_received, messages_sent};
 use crate::spans::chan_span;
-use crate::values::{channel_gives, gives_below, has};
+use crate::values::{gives_below, has};
 use pict_infer::{Env, InferError};
 use pict_syntax::{Abs, Chan, Code, Proc};
 use pict_types::Ty;
