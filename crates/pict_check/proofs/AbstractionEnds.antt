@@ -1,5 +1,5 @@
 -- Abstractions, one lemma for each way that a body ends.
-use Rattle.std.proofs.Common.{◌≡◌, ◌-◌, ℕ, List, length, take, Bool, true, false, if◌then◌else◌, refl, sym, ◌∙◌, ap, ap₂, subst, Result, Ok, Err, OnOk, Option, Some, None}
+use Rattle.std.proofs.Common.{◌≡◌, ◌-◌, ℕ, List, length, take, Bool, true, false, if◌then◌else◌, refl, sym, ◌∙◌, ap, ap₂, subst, Result, Option, Some, None}
 use Rattle.pict_syntax.specs.declared.code.Code.TheVariants.{Y4, Y8, Y14}
 use Rattle.std.specs.Prelude.{IfNone, IfSome}
 use Rattle.pict_syntax.specs.declared.name.Name.{Name}
@@ -267,8 +267,8 @@ answering_formed e t r w =
     (subst (λ z. IsWellFormed e.names z (exposure (under (context_of e) bs) u)) ks
     (exposure_formed e.names (under (context_of e) bs) u (formed_under e.names (context_of e) bs c h) (subst (λ z. IsWellFormed e.names z u) (sym ks) k))))
 
-pub answer_formed : (e d : Environment) (s : Span) (f : FieldPats) (a : RType) (v : Val) (t : PlainType) (g : Function) (x : OpenedFields) → answering e t ≡ Some g → d ≡ with_own e x.own → IsWellAsked nothing_ e (abstraction_against (function_abs s f a v) t) → Runs (rule e (fields_against s f g.binders g.positional g.labelled)) (ok x) → IsTypeIn d g.answer
-answer_formed e d s f a v t g x is k h r =
+pub result_formed : (e d : Environment) (s : Span) (f : FieldPats) (a : RType) (v : Val) (t : PlainType) (g : Function) (x : OpenedFields) → answering e t ≡ Some g → d ≡ with_own e x.own → IsWellAsked nothing_ e (abstraction_against (function_abs s f a v) t) → Runs (rule e (fields_against s f g.binders g.positional g.labelled)) (ok x) → IsTypeIn d g.answer
+result_formed e d s f a v t g x is k h r =
     let w = subst (FunctionFormed e) is (answering_formed e t h.regular h.asked) in
     let b = good_of (taken_asked e s f a v t g is h) r in
     subst (λ z. IsTypeIn z g.answer) (sym k)
@@ -281,24 +281,24 @@ fields_known e d b own x y k is h = h ∙ ap₂ extended k is ∙ own_then_parts
 -- AS THE CODE HAS IT
 
 -- the type of a body outside so many variables, at its place
-pub outside_refused : (n m : ℕ) (t : PlainType) (s at : Span) (y : InferError) → n ≡ m → s ≡ at → IsRefused (outside n t s) y → IsRefused (outside m t at) y
-outside_refused n m t s at y h k p = subst (λ z. IsRefused (outside m t z) y) k (subst (λ z. IsRefused (outside z t s) y) h p)
+pub outside_refused_at : (n m : ℕ) (t : PlainType) (s at : Span) (y : InferError) → n ≡ m → s ≡ at → IsRefused (outside n t s) y → IsRefused (outside m t at) y
+outside_refused_at n m t s at y h k p = subst (λ z. IsRefused (outside m t z) y) k (subst (λ z. IsRefused (outside z t s) y) h p)
 
-pub outside_given : (n m : ℕ) (t u : PlainType) (s at : Span) → n ≡ m → s ≡ at → Runs (outside n t s) (ok u) → Runs (outside m t at) (ok u)
-outside_given n m t u s at h k p = subst (λ z. Runs (outside m t z) (ok u)) k (subst (λ z. Runs (outside z t s) (ok u)) h p)
+pub outside_given_at : (n m : ℕ) (t u : PlainType) (s at : Span) → n ≡ m → s ≡ at → Runs (outside n t s) (ok u) → Runs (outside m t at) (ok u)
+outside_given_at n m t u s at h k p = subst (λ z. Runs (outside m t z) (ok u)) k (subst (λ z. Runs (outside z t s) (ok u)) h p)
 
 -- what a type exposes to, by what is shown of it
 pub exposure_is : (e : Environment) (c : Context) (o : Option Ty) (t : Ty) (u : PlainType) → plain_context c ≡ e.context → IfNone o (exposure (type_context c) (plain t) ≡ plain t) → IfSome o (λ v. plain v ≡ exposure (type_context c) (plain t)) → u ≡ shown o t → exposure (context_of e) (plain t) ≡ u
 exposure_is e c o t u k n s is = ap (λ z. exposure (variables z) (plain t)) (sym k) ∙ sym (shown_is (exposure (type_context c) (plain t)) o t n s) ∙ sym is
 
 -- an abstraction against a type that exposes to a record
-pub record_answer : (e : Environment) (b : Abs) (s : Span) (f : FieldPats) (a : RType) (v : Val) (t : PlainType) (r : Record) (x : Result (Unit {0}) InferError) → b ≡ function_abs s f a v → exposure (context_of e) t ≡ plain_record r → IsAnswer (rule e (abstraction_against (function_abs s f a v) (plain_record r))) nothing x → IsAnswer (rule e (abstraction_against b t)) nothing x
-record_answer e b s f a v t r x is h k =
+pub against_record_answer : (e : Environment) (b : Abs) (s : Span) (f : FieldPats) (a : RType) (v : Val) (t : PlainType) (r : Record) (x : Result (Unit {0}) InferError) → b ≡ function_abs s f a v → exposure (context_of e) t ≡ plain_record r → IsAnswer (rule e (abstraction_against (function_abs s f a v) (plain_record r))) nothing x → IsAnswer (rule e (abstraction_against b t)) nothing x
+against_record_answer e b s f a v t r x is h k =
     subst (λ z. IsAnswer (rule e (abstraction_against z t)) nothing x) (sym is)
     (subst (λ z. IsAnswer z nothing x) (sym (exposed_rule e s f a v t (plain_record r) h (exposed_itself (context_of e) (plain_record r) refl))) k)
 
-pub record_asked : (e : Environment) (b : Abs) (s : Span) (f : FieldPats) (a : RType) (v : Val) (t : PlainType) (r : Record) → b ≡ function_abs s f a v → exposure (context_of e) t ≡ plain_record r → IsWellAsked nothing_ e (abstraction_against b t) → IsWellAsked nothing_ e (abstraction_against (function_abs s f a v) (plain_record r))
-record_asked e b s f a v t r is h k = exposed_asked e (function_abs s f a v) t (plain_record r) h (subst (λ z. IsWellAsked nothing_ e (abstraction_against z t)) is k)
+pub against_record_asked : (e : Environment) (b : Abs) (s : Span) (f : FieldPats) (a : RType) (v : Val) (t : PlainType) (r : Record) → b ≡ function_abs s f a v → exposure (context_of e) t ≡ plain_record r → IsWellAsked nothing_ e (abstraction_against b t) → IsWellAsked nothing_ e (abstraction_against (function_abs s f a v) (plain_record r))
+against_record_asked e b s f a v t r is h k = exposed_asked e (function_abs s f a v) t (plain_record r) h (subst (λ z. IsWellAsked nothing_ e (abstraction_against z t)) is k)
 
 pub no_record_refused : (e : Environment) (b : Abs) (s : Span) (f : FieldPats) (a : RType) (v : Val) (t u : PlainType) → b ≡ function_abs s f a v → exposure (context_of e) t ≡ u → IsNoRecord u → Runs (rule e (abstraction_against b t)) (stuck Y8 s)
 no_record_refused e b s f a v t u is h n =
@@ -312,8 +312,3 @@ record_answering e r o h = ap (function_by (λ bs last. sendable (exposure (unde
 pub fields_of_record : (s : Span) (f : FieldPats) (r : Record) (u : PlainType) (bs : List Bound) (ps : List Ty) (ls : List (Name × Ty)) → bs ≡ r.binders.items → ps ≡ take (length r.positional.items - 1) r.positional.items → ls ≡ r.labelled.items
     → against_fields s f bs ps ls ≡ (let g = function_with r u in fields_against s f g.binders g.positional g.labelled)
 fields_of_record s f r u bs ps ls h i k = three (against_fields s f) h i k
-
--- a fact that holds holds on success
-pub on_any : {T E P : Type 0} (r : Result T E) → P → OnOk r P
-on_any (Ok x) p = p
-on_any (Err y) p = tt

@@ -158,11 +158,11 @@ all_signed old new ds i xs l g w = record {
 
 -- SIGNATURES
 
-pub pattern_asked : (e : Environment) (x : Id) (s : Span) (p : Pat) (q : Proc) → IsWellAsked signature_ e (signature x (process_abs s p q)) → IsWellAsked pattern_ e (pattern_gives p)
-pattern_asked e x s p q h = asked_of (signature x (process_abs s p q)) h this_part
+pub signed_pattern_asked : (e : Environment) (x : Id) (s : Span) (p : Pat) (q : Proc) → IsWellAsked signature_ e (signature x (process_abs s p q)) → IsWellAsked pattern_ e (pattern_gives p)
+signed_pattern_asked e x s p q h = asked_of (signature x (process_abs s p q)) h this_part
 
-pub own_asked : (e : Environment) (x : Id) (s : Span) (f : FieldPats) (a : RType) (v : Val) → IsWellAsked signature_ e (signature x (function_abs s f a v)) → IsWellAsked fields_ e (fields_give f)
-own_asked e x s f a v h = record { labels = h.labels.0; regular = h.regular; asked = tt }
+pub signed_fields_asked : (e : Environment) (x : Id) (s : Span) (f : FieldPats) (a : RType) (v : Val) → IsWellAsked signature_ e (signature x (function_abs s f a v)) → IsWellAsked fields_ e (fields_give f)
+signed_fields_asked e x s f a v h = record { labels = h.labels.0; regular = h.regular; asked = tt }
 
 pub result_labels : (e : Environment) (x : Id) (s : Span) (f : FieldPats) (a : RType) (v : Val) → IsWellAsked signature_ e (signature x (function_abs s f a v)) → AnnotationHasDistinctLabels a
 result_labels e x s f a v h = h.labels.1.0
@@ -308,8 +308,8 @@ one_past e d n i a x ss k is p h = record {
       (past _ _ _ nothing tt r (subst (λ z. Runs (rule (extended z k.given.adds) (body k.given.body)) (ok tt)) is h) (ends_with _ _ _ nothing nothing r (λ y. give_) q)));
 }
 
-pub body_refused : (e d : Environment) (n i : ℕ) (a : Abs) (x : Inside) (ss : List Signature) (y : InferError) (k : IsNext n a x ss i) → d ≡ e → ArePast e ss i → IsRefused (rule (extended d k.given.adds) (body k.given.body)) y → IsRefused (rule e (bodies ss)) y
-body_refused e d n i a x ss y k is p h =
+pub next_body_refused : (e d : Environment) (n i : ℕ) (a : Abs) (x : Inside) (ss : List Signature) (y : InferError) (k : IsNext n a x ss i) → d ≡ e → ArePast e ss i → IsRefused (rule (extended d k.given.adds) (body k.given.body)) y → IsRefused (rule e (bodies ss)) y
+next_body_refused e d n i a x ss y k is p h =
     p.on (Err y) (subst (λ z. IsRefused (rule e (bodies z)) y) (sym k.here) (refused_here _ _ _ y (subst (λ z. IsRefused (rule (extended z k.given.adds) (body k.given.body)) y) is h)))
 
 none_left : {A : Type 0} (xs : List A) (i : ℕ) → length xs ≤ i → drop i xs ≡ []
@@ -361,8 +361,8 @@ left_asked e ss zero h = h
 left_asked e [] (suc i) h = h
 left_asked e (s ∷ ss) (suc i) h = left_asked e ss i (record { labels = h.labels.1; regular = h.regular; asked = h.asked.1.1.1 })
 
-pub body_asked : (e d : Environment) (ds : List RDefinition) (xs : List Inside) (i : ℕ) (b : RDefinition) (x : Inside) → d ≡ e → i < length ds → b ≡ get_or ds i b → x ≡ get_or xs i x → AreAskedInside e ds xs → IsAskedInside d (abs_of b.abs) x
-body_asked e d ds xs i b x is l js ks h =
+pub next_body_asked : (e d : Environment) (ds : List RDefinition) (xs : List Inside) (i : ℕ) (b : RDefinition) (x : Inside) → d ≡ e → i < length ds → b ≡ get_or ds i b → x ≡ get_or xs i x → AreAskedInside e ds xs → IsAskedInside d (abs_of b.abs) x
+next_body_asked e d ds xs i b x is l js ks h =
     let k = next_body (length (context_of e)) ds xs h.given i b x h.inside l js ks in
     subst (λ z. IsAskedInside z (abs_of b.abs) x) (sym is)
     (record {
@@ -387,8 +387,8 @@ process_is : (s : Span) (p : Pat) (q : Proc) (o : Option PlainType) (b : Body) �
 process_is s p q None b h = h
 process_is s p q (Some t) b h = absurd h
 
-pub process_asked : (e : Environment) (a : Abs) (s : Span) (p : Pat) (q : Proc) (o : Option PlainType) → a ≡ process_abs s p q → IsAskedOfBody e a o → IsWellAsked nothing_ e (process q)
-process_asked e a s p q o is h =
+pub judged_process_asked : (e : Environment) (a : Abs) (s : Span) (p : Pat) (q : Proc) (o : Option PlainType) → a ≡ process_abs s p q → IsAskedOfBody e a o → IsWellAsked nothing_ e (process q)
+judged_process_asked e a s p q o is h =
     asked_of (body (process_body q))
     (subst (λ b. IsWellAsked nothing_ e (body b)) (process_is s p q o h.given (subst (λ z. IsBody z o h.given) is h.is)) h.asked) this_part
 
@@ -399,8 +399,8 @@ process_judged e a s p q o b r is h k =
 value_is : (s : Span) (f : FieldPats) (a : RType) (v : Val) (t : PlainType) (o : Option PlainType) (b : Body) → o ≡ Some t → IsBody (function_abs s f a v) o b → b ≡ value_body v t
 value_is s f a v t o b is h = subst (λ z. IsBody (function_abs s f a v) z b) is h
 
-pub value_asked : (e : Environment) (a : Abs) (s : Span) (f : FieldPats) (r : RType) (v : Val) (t : PlainType) (o : Option PlainType) → a ≡ function_abs s f r v → o ≡ Some t → IsAskedOfBody e a o → IsWellAsked nothing_ e (has v t)
-value_asked e a s f r v t o is k h =
+pub judged_value_asked : (e : Environment) (a : Abs) (s : Span) (f : FieldPats) (r : RType) (v : Val) (t : PlainType) (o : Option PlainType) → a ≡ function_abs s f r v → o ≡ Some t → IsAskedOfBody e a o → IsWellAsked nothing_ e (has v t)
+judged_value_asked e a s f r v t o is k h =
     asked_of (body (value_body v t))
     (subst (λ b. IsWellAsked nothing_ e (body b)) (value_is s f r v t o h.given k (subst (λ z. IsBody z o h.given) is h.is)) h.asked) this_part
 
@@ -413,23 +413,22 @@ never_without e a s f r v o is k h = subst (λ z. IsBody (function_abs s f r v) 
 
 -- THE WHOLE GROUP
 
-pub group_asked : (old new : Env) (ds : List RDefinition) (xs : List Inside) → IsWellAsked environment_ (environment_of old) (declaration (defined (definitions_on no_definitions ds))) → AreSigned old new ds xs → AreAskedInside (environment_of new) ds xs
-group_asked old new ds xs h w =
+pub bodies_asked : (old new : Env) (ds : List RDefinition) (xs : List Inside) → IsWellAsked environment_ (environment_of old) (declaration (defined (definitions_on no_definitions ds))) → AreSigned old new ds xs → AreAskedInside (environment_of new) ds xs
+bodies_asked old new ds xs h w =
     subst (λ z. AreAskedInside z ds xs) (sym w.known)
     (record { given = w.given; inside = w.inside; asked = asked_of (declaration (defined (definitions_on no_definitions ds))) h (past_part w.holds this_part) })
 
-pub group_refused : (e : Environment) (ds : Definitions) (y : InferError) → IsRefused (rule e (signatures ds)) y → IsRefused (rule e (declaration (defined ds))) y
-group_refused e ds y h = refused_here _ _ _ y h
+pub signatures_refused : (e : Environment) (ds : Definitions) (y : InferError) → IsRefused (rule e (signatures ds)) y → IsRefused (rule e (declaration (defined ds))) y
+signatures_refused e ds y h = refused_here _ _ _ y h
 
-group_end : (e d : Environment) (ds : Definitions) (ss : List Signature) (r : Result (Unit {0}) InferError) → Runs (rule e (signatures ds)) (ok ss) → IsAnswer (rule (with_signatures e ss) (bodies ss)) nothing r → OnOk r (d ≡ with_signatures e ss) → IsAnswer (rule e (declaration (defined ds))) (λ _. d) r
-group_end e d ds ss (Ok x) p h k = part_ok p (part_ok h (subst (λ z. Runs {s = environment_} (give (with_signatures e ss)) (ok z)) (sym k) give_))
-group_end e d ds ss (Err (Named c i)) p h k = part_ok p (part_stuck h)
-group_end e d ds ss (Err Memory) p h k = tt
+definitions_end : (e d : Environment) (ds : Definitions) (ss : List Signature) (r : Result (Unit {0}) InferError) → Runs (rule e (signatures ds)) (ok ss) → IsAnswer (rule (with_signatures e ss) (bodies ss)) nothing r → OnOk r (d ≡ with_signatures e ss) → IsAnswer (rule e (declaration (defined ds))) (λ _. d) r
+definitions_end e d ds ss (Ok x) p h k = part_ok p (part_ok h (subst (λ z. Runs {s = environment_} (give (with_signatures e ss)) (ok z)) (sym k) give_))
+definitions_end e d ds ss (Err (Named c i)) p h k = part_ok p (part_stuck h)
+definitions_end e d ds ss (Err Memory) p h k = tt
 
-pub group_answer : (old mid new : Env) (ds : List RDefinition) (xs : List Inside) (r : Result (Unit {0}) InferError) → AreSigned old mid ds xs → ((ss : List Signature) → AreInside (length (context_of (environment_of mid))) ds xs ss → IsAnswer (rule (environment_of mid) (bodies ss)) nothing r) → OnOk r (IsAsBefore mid new) → IsAnswer (rule (environment_of old) (declaration (defined (definitions_on no_definitions ds)))) (λ _. environment_of new) r
-group_answer old mid new ds xs r w h k =
+pub definitions_answer : (old mid new : Env) (ds : List RDefinition) (xs : List Inside) (r : Result (Unit {0}) InferError) → AreSigned old mid ds xs → ((ss : List Signature) → AreInside (length (context_of (environment_of mid))) ds xs ss → IsAnswer (rule (environment_of mid) (bodies ss)) nothing r) → OnOk r (IsAsBefore mid new) → IsAnswer (rule (environment_of old) (declaration (defined (definitions_on no_definitions ds)))) (λ _. environment_of new) r
+definitions_answer old mid new ds xs r w h k =
     let inside = subst (λ (z : Environment). AreInside (length (context_of z)) ds xs w.given) (sym w.known) w.inside in
-    group_end (environment_of old) (environment_of new) (definitions_on no_definitions ds) w.given r w.holds
+    definitions_end (environment_of old) (environment_of new) (definitions_on no_definitions ds) w.given r w.holds
     (subst (λ z. IsAnswer (rule z (bodies w.given)) nothing r) w.known (h w.given inside))
     (on_ok r (λ (s : IsAsBefore mid new). s.known ∙ w.known) k)
-

@@ -54,9 +54,16 @@ first_asked {s = s} {e = e} w xs (z ∷ ys) h =
     (first_asked w (xs ++ z ∷ []) ys (subst (λ l. IsWellAsked s e (w.judged l)) (sym (append_assoc xs (z ∷ []) ys)) h))
     (subst (λ r. Asks s r s e (w.judged xs)) (sym (w.more xs z)) this_part)
 
+-- so many, and one more of them
+pub row_first : {A : Type 0} {s : Sort} {e : Environment} (w : Row A s e) (xs : List A) (i : ℕ) (a : A) → i < length xs → IsWellAsked s e (w.judged xs) → IsWellAsked s e (w.judged (take i xs ++ get_or xs i a ∷ []))
+row_first {s = s} {e = e} w xs i a h q = first_asked w (take i xs ++ get_or xs i a ∷ []) (drop (i + 1) xs) (subst (λ z. IsWellAsked s e (w.judged z)) (all_of xs i a h) q)
+
+pub row_before : {A : Type 0} {s : Sort} {e : Environment} (w : Row A s e) (xs : List A) (i : ℕ) (a : A) → i < length xs → IsWellAsked s e (w.judged xs) → IsWellAsked s e (w.judged (take i xs))
+row_before w xs i a h q = first_asked w (take i xs) (get_or xs i a ∷ []) (row_first w xs i a h q)
+
 -- and what is asked of the next one
 pub row_asked : {A : Type 0} {s t : Sort} {e d : Environment} {j : Judgement t} (w : Row A s e) (xs : List A) (i : ℕ) (a : A) (x : rules.Result s) → i < length xs → IsWellAsked s e (w.judged xs) → Runs (rule e (w.judged (take i xs))) (ok x) → Asks s (w.next (take i xs) (get_or xs i a) x) t d j → IsWellAsked t d j
 row_asked {s = s} {t = t} {e = e} {d = d} {j = j} w xs i a x h q p k =
     asked_of (w.judged (take i xs ++ get_or xs i a ∷ []))
-    (first_asked w (take i xs ++ get_or xs i a ∷ []) (drop (i + 1) xs) (subst (λ z. IsWellAsked s e (w.judged z)) (all_of xs i a h) q))
+    (row_first w xs i a h q)
     (subst (λ r. Asks s r t d j) (sym (w.more (take i xs) (get_or xs i a))) (past_part p k))

@@ -7,3 +7,8 @@ pub mod Judging
 pub mod Chains
 pub mod Operators
 pub mod Definitions
+pub mod Nesting
+pub mod Fields
+pub mod Folds
+pub mod Declaring
+pub mod Refused

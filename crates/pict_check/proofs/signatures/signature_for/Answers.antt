@@ -7,7 +7,7 @@ use Rattle.pict_infer.specs.Asking.{IsWellAsked}
 use Rattle.pict_infer.specs.Environments.{environment_of}
 use Rattle.pict_check.specs.Definitions.{Signs}
 use Rattle.pict_check.proofs.AbstractionForms.{function_form, process_form}
-use Rattle.pict_check.proofs.DefinitionEnds.{own_asked, pattern_asked, result_labels}
+use Rattle.pict_check.proofs.DefinitionEnds.{signed_fields_asked, signed_pattern_asked, result_labels}
 use Rattle.pict_check.proofs.signatures.signature_for.Goals as goal
 
 pub process_signature-requires : goal.process_signature-requires
@@ -15,7 +15,7 @@ process_signature-requires c =
     let i = c.in-Process in
     let is = process_form c.args.d.now.abs i.span i.p i.field-2 i.is in
     record {
-      right = pattern_asked (environment_of c.args.env.now) c.args.d.now.id i.span (pat_of i.p) (proc_of i.field-2.value)
+      right = signed_pattern_asked (environment_of c.args.env.now) c.args.d.now.id i.span (pat_of i.p) (proc_of i.field-2.value)
           (subst (λ a. IsWellAsked signature_ (environment_of c.args.env.now) (signature c.args.d.now.id a)) is c.requires.right);
     }
 
@@ -23,7 +23,7 @@ pub function_signature-requires-clause-right : goal.function_signature-requires-
 function_signature-requires-clause-right c =
     let i = c.in-Function in
     let is = function_form c.args.d.now.abs i.span i.fields i.annotation i.field-3 i.is ∙ ap (λ f. function_abs i.span (field_pats_of f) (annotation_of i.annotation) (val_of i.field-3.value)) (sym c.deref.ensures) in
-    own_asked (environment_of c.args.env.now) c.args.d.now.id i.span (field_pats_of c.deref.result.now) (annotation_of i.annotation) (val_of i.field-3.value)
+    signed_fields_asked (environment_of c.args.env.now) c.args.d.now.id i.span (field_pats_of c.deref.result.now) (annotation_of i.annotation) (val_of i.field-3.value)
     (subst (λ a. IsWellAsked signature_ (environment_of c.args.env.now) (signature c.args.d.now.id a)) is c.requires.right)
 
 pub function_signature-requires-clause-labels : goal.function_signature-requires-clause-labels
