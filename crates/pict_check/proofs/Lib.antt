@@ -31,3 +31,7 @@ pub mod Labels
 pub mod CountEnds
 pub mod PutFields
 pub mod AnswerFound
+pub mod Kept
+pub mod Read
+pub mod RecordEnds
+pub mod ApplyEnds

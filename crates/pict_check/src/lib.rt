@@ -2,8 +2,12 @@
 //! processes and programs aren't there yet.
 #![tactic(auto)]
 
+mod abstractions;
+mod channels;
 mod counts;
+mod declarations;
 mod fields;
+mod fitting;
 mod folds;
 mod functions;
 mod nested;
@@ -12,3 +16,4 @@ mod parts;
 mod records;
 mod spans;
 mod steps;
+mod values;
