@@ -35,3 +35,5 @@ pub mod Kept
 pub mod Read
 pub mod RecordEnds
 pub mod ApplyEnds
+pub mod FitEnds
+pub mod FieldsAsked
