@@ -1,14 +1,15 @@
 -- Values that fit fields with written arguments put in fit the fields themselves, with the arguments found.
-use Rattle.std.proofs.Common.{◌≡◌, ℕ, zero, suc, List, [], ◌∷◌, map, length, refl, sym, ◌∙◌, ap, subst, Bool, true, false, nat_eq, Option, Some, None}
+use Rattle.std.proofs.Common.{◌≡◌, ℕ, zero, suc, List, [], ◌∷◌, map, length, refl, sym, ◌∙◌, ap, subst, Bool, true, false, nat_eq, Option, Some, None, arith}
 use Rattle.std.specs.Prelude.{option_map, if◌then◌else◌}
 use Rattle.pict_syntax.specs.declared.code.Code.{Code}
 use Rattle.pict_syntax.specs.declared.span.Span.{Span}
 use Rattle.pict_syntax.specs.Trees.{Val, Vals, no_vals, more_vals, LabelledVals, no_labelled_vals, more_labelled_vals}
 use Rattle.pict_types.specs.declared.types.Record.{Record}
 use Rattle.pict_types.specs.declared.types.Bound.{Bound}
-use Rattle.pict_types.specs.Types.{PlainType, Fields, PlainTypes, no_type, types, PlainLabels, no_label, labels, PlainBounds, no_bound, PlainArg, type_at}
+use Rattle.pict_types.specs.Types.{PlainType, Fields, PlainTypes, no_type, types, PlainLabels, no_label, labels, PlainBounds, no_bound, PlainArg, count_types, type_at}
 use Rattle.pict_types.specs.Kinds.{AreWellFormed, LabelsAreWellFormed}
 use Rattle.pict_types.specs.Plain.{plain_bounds, plain_labels, plain_record, plain_types}
+use Rattle.pict_types.proofs.Rows.{count_types_length}
 use Rattle.pict_types.specs.Replacing.{Replacement, arguments, replace, replace_labels, replace_types}
 use Rattle.pict_normal.specs.Normal.{Stop, size_stop}
 use Rattle.pict_normal.specs.Written.{record_with}
@@ -180,6 +181,16 @@ no_bounds (b ∷ bs) h = absurd cc
 
 pub put_count : (e : Environment) (s : Span) (args : List PlainArg) (r q : Record) → Runs (formed e (record_with args r) s) (ok (plain_record q)) → length q.binders.items ≡ 0
 put_count e s args r q h = no_bounds q.binders.items (put_is e s args r q h).bounds_
+
+count_replaced : (r : Replacement) (ps : PlainTypes) → count_types (replace_types r ps) ≡ count_types ps
+count_replaced r no_type = refl
+count_replaced r (types t ts) = ap suc (count_replaced r ts)
+
+-- and as many positional ones
+pub put_positional : (e : Environment) (s : Span) (args : List PlainArg) (r q : Record) → Runs (formed e (record_with args r) s) (ok (plain_record q)) → length q.positional.items ≡ length r.positional.items
+put_positional e s args r q h =
+    let k = ap count_types (put_is e s args r q h).positional_ ∙ count_replaced (arguments args) (plain_types r.positional.items) in
+    omega (arith, k, count_types_length q.positional.items, count_types_length r.positional.items)
 
 put_fields : (e : Environment) (s : Span) (args : List PlainArg) (r q : Record) → Runs (formed e (record_with args r) s) (ok (plain_record q)) → IsTypeIn e (plain_record q) → AreWellFormed e.names (kinds_in e) (plain_types q.positional.items) × LabelsAreWellFormed e.names (kinds_in e) (plain_labels q.labelled.items)
 put_fields e s args r q h w =

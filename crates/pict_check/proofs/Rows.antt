@@ -58,8 +58,8 @@ first_asked {s = s} {e = e} w xs (z ∷ ys) h =
 pub row_first : {A : Type 0} {s : Sort} {e : Environment} (w : Row A s e) (xs : List A) (i : ℕ) (a : A) → i < length xs → IsWellAsked s e (w.judged xs) → IsWellAsked s e (w.judged (take i xs ++ get_or xs i a ∷ []))
 row_first {s = s} {e = e} w xs i a h q = first_asked w (take i xs ++ get_or xs i a ∷ []) (drop (i + 1) xs) (subst (λ z. IsWellAsked s e (w.judged z)) (all_of xs i a h) q)
 
-pub row_before : {A : Type 0} {s : Sort} {e : Environment} (w : Row A s e) (xs : List A) (i : ℕ) (a : A) → i < length xs → IsWellAsked s e (w.judged xs) → IsWellAsked s e (w.judged (take i xs))
-row_before w xs i a h q = first_asked w (take i xs) (get_or xs i a ∷ []) (row_first w xs i a h q)
+pub first_of : {A : Type 0} {s : Sort} {e : Environment} (w : Row A s e) (xs : List A) (i : ℕ) → IsWellAsked s e (w.judged xs) → IsWellAsked s e (w.judged (take i xs))
+first_of {s = s} {e = e} w xs i q = first_asked w (take i xs) (drop i xs) (subst (λ z. IsWellAsked s e (w.judged z)) (sym (take-append-drop i xs)) q)
 
 -- and what is asked of the next one
 pub row_asked : {A : Type 0} {s t : Sort} {e d : Environment} {j : Judgement t} (w : Row A s e) (xs : List A) (i : ℕ) (a : A) (x : rules.Result s) → i < length xs → IsWellAsked s e (w.judged xs) → Runs (rule e (w.judged (take i xs))) (ok x) → Asks s (w.next (take i xs) (get_or xs i a) x) t d j → IsWellAsked t d j
