@@ -49,3 +49,5 @@ pub mod DeclarationForms
 pub mod CompleteEnds
 pub mod ProgramEnds
 pub mod TypeEnds
+pub mod FieldsAsked
+pub mod FitEnds
