@@ -120,9 +120,11 @@ fn application(
     expected: Option<&Ty>,
     span: Span,
 ) -> Result<Ty, InferError>
-    requires right { IsWellAsked type_ (environment_of env.old) (application span (val_of f.now) (field_vals_of fields.now) (option_map (λ u. plain u.now) expected)) }
+    requires right { IsWellAsked type_ (environment_of env.old)
+        (application span (val_of f.now) (field_vals_of fields.now) (option_map (λ u. plain u.now) expected)) }
     requires head { Runs (rule (environment_of env.old) (gives (val_of f.now))) (ok (plain t)) }
-    ensures answer { IsAnswer (rule (environment_of env.old) (application span (val_of f.now) (field_vals_of fields.now) (option_map (λ u. plain u.now) expected.entry))) plain result }
+    ensures answer { IsAnswer (rule (environment_of env.old)
+        (application span (val_of f.now) (field_vals_of fields.now) (option_map (λ u. plain u.now) expected.entry))) plain result }
     ensures same { OnOk result (IsAsBefore env.old env.new) }
 {
     let function = head(alloc, env, t, val_span(f))?;

@@ -26,7 +26,8 @@ use std::alloc::Global;
 #[cycle(values)]
 pub fn definitions(alloc: Global, env: &mut Env, ds: &[Definition]) -> Result<(), InferError>
     requires right { IsWellAsked environment_ (environment_of env.old) (declaration (defined (definitions_on no_definitions ds.now))) }
-    ensures answer { IsAnswer (rule (environment_of env.old) (declaration (defined (definitions_on no_definitions ds.now)))) (λ _. environment_of env.new) result }
+    ensures answer { IsAnswer (rule (environment_of env.old) (declaration (defined (definitions_on no_definitions ds.now))))
+        (λ _. environment_of env.new) result }
     ensures grew { OnOk result (GrewFrom env.old env.new) }
 {
     let insides = signed(alloc, env, ds)?;

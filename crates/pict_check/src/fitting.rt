@@ -40,7 +40,8 @@ pub fn fields_fit(
 ) -> Result<Vec<Arg>, InferError>
     requires right { IsWellAsked arguments_ (environment_of env.old) (fits_record span (field_vals_of fields.now) r.now (found_for r.now.binders.items found)) }
     requires count { length found.list.items ≡ length r.now.binders.items }
-    ensures answer { IsAnswer (rule (environment_of env.old) (fits_record span (field_vals_of fields.now) r.now (found_for r.now.binders.items found))) (λ args. plain_args args.items) result }
+    ensures answer { IsAnswer (rule (environment_of env.old) (fits_record span (field_vals_of fields.now) r.now (found_for r.now.binders.items found)))
+        (λ args. plain_args args.items) result }
     ensures same { OnOk result (IsAsBefore env.old env.new) }
 {
     counted(alloc, fields, r, span)?;
@@ -68,12 +69,15 @@ fn in_order(
     found: &mut Found,
     span: Span,
 ) -> Result<(), InferError>
-    requires positional { IsWellAsked found_ (environment_of env.old) (values_fit span (positional_of (field_vals_of fields.now)) (plain_types r.now.positional.items) (found_for r.now.binders.items found.old)) }
+    requires positional { IsWellAsked found_ (environment_of env.old)
+        (values_fit span (positional_of (field_vals_of fields.now)) (plain_types r.now.positional.items) (found_for r.now.binders.items found.old)) }
     requires labels { LabelledValsAreDistinct (labelled_of (field_vals_of fields.now)) }
-    requires labelled { LabelsAreWellFormed (environment_of env.old).names (kinds_within (kinds_in (environment_of env.old)) (found_for r.now.binders.items found.old)) (plain_labels r.now.labelled.items) }
+    requires labelled { LabelsAreWellFormed (environment_of env.old).names
+        (kinds_within (kinds_in (environment_of env.old)) (found_for r.now.binders.items found.old)) (plain_labels r.now.labelled.items) }
     requires few { length (out-FieldVals fields.now).positional.items ≡ length r.now.positional.items }
     requires count { length found.old.list.items ≡ length r.now.binders.items }
-    ensures answer { IsAnswer (values_in_order (environment_of env.old) span (field_vals_of fields.now) r.now (found_for r.now.binders.items found.old)) (λ _. found_for r.now.binders.items found.new) result }
+    ensures answer { IsAnswer (values_in_order (environment_of env.old) span (field_vals_of fields.now) r.now (found_for r.now.binders.items found.old))
+        (λ _. found_for r.now.binders.items found.new) result }
     ensures count { OnOk result (length found.new.list.items ≡ length r.now.binders.items) }
     ensures same { OnOk result (IsAsBefore env.old env.new) }
 {
@@ -111,7 +115,8 @@ fn values_fit(
     requires right { IsWellAsked found_ (environment_of env.old) (values_fit span (vals_on no_vals vs.now) (plain_types ts.now) (found_for bs.now found.old)) }
     requires few { length vs.now ≡ length ts.now }
     requires count { length found.old.list.items ≡ length bs.now }
-    ensures answer { IsAnswer (rule (environment_of env.old) (values_fit span (vals_on no_vals vs.now) (plain_types ts.now) (found_for bs.now found.old))) (λ _. found_for bs.now found.new) result }
+    ensures answer { IsAnswer (rule (environment_of env.old) (values_fit span (vals_on no_vals vs.now) (plain_types ts.now) (found_for bs.now found.old)))
+        (λ _. found_for bs.now found.new) result }
     ensures count { OnOk result (length found.new.list.items ≡ length bs.now) }
     ensures same { OnOk result (IsAsBefore env.old env.new) }
 {
@@ -132,9 +137,12 @@ fn labelled_values_fit(
     found: &mut Found,
     span: Span,
 ) -> Result<(), InferError>
-    requires right { IsWellAsked found_ (environment_of env.old) (labelled_values_fit span (labelled_vals_on no_labelled_vals ls.now) (plain_labels ts.now) (found_for bs.now found.old)) }
+    requires right { IsWellAsked found_ (environment_of env.old)
+        (labelled_values_fit span (labelled_vals_on no_labelled_vals ls.now) (plain_labels ts.now) (found_for bs.now found.old)) }
     requires count { length found.old.list.items ≡ length bs.now }
-    ensures answer { IsAnswer (rule (environment_of env.old) (labelled_values_fit span (labelled_vals_on no_labelled_vals ls.now) (plain_labels ts.now) (found_for bs.now found.old))) (λ _. found_for bs.now found.new) result }
+    ensures answer { IsAnswer (rule (environment_of env.old)
+        (labelled_values_fit span (labelled_vals_on no_labelled_vals ls.now) (plain_labels ts.now) (found_for bs.now found.old)))
+        (λ _. found_for bs.now found.new) result }
     ensures count { OnOk result (length found.new.list.items ≡ length bs.now) }
     ensures same { OnOk result (IsAsBefore env.old env.new) }
 {
@@ -157,10 +165,12 @@ fn labelled_value_fits(
 ) -> Result<(), InferError>
     requires labels { ValHasDistinctLabels (val_of l.now.value) }
     requires regular { IsRegular (environment_of env.old) }
-    requires labelled { LabelsAreWellFormed (environment_of env.old).names (kinds_within (kinds_in (environment_of env.old)) (found_for bs.now found.old)) (plain_labels ts.now) }
+    requires labelled { LabelsAreWellFormed (environment_of env.old).names (kinds_within (kinds_in (environment_of env.old)) (found_for bs.now found.old))
+        (plain_labels ts.now) }
     requires fits { FoundFits (environment_of env.old) (found_for bs.now found.old) }
     requires count { length found.old.list.items ≡ length bs.now }
-    ensures answer { IsAnswer (labelled_value_fits (environment_of env.old) span l.now.label (val_of l.now.value) (plain_labels ts.now) (found_for bs.now found.old)) (λ _. found_for bs.now found.new) result }
+    ensures answer { IsAnswer (labelled_value_fits (environment_of env.old) span l.now.label (val_of l.now.value) (plain_labels ts.now)
+        (found_for bs.now found.old)) (λ _. found_for bs.now found.new) result }
     ensures count { OnOk result (length found.new.list.items ≡ length bs.now) }
     ensures same { OnOk result (IsAsBefore env.old env.new) }
 {
@@ -186,7 +196,8 @@ pub fn value_fits(
 ) -> Result<(), InferError>
     requires right { IsWellAsked found_ (environment_of env.old) (value_fits span (val_of v.now) (plain t.now) (found_for bs.now found.old)) }
     requires count { length found.old.list.items ≡ length bs.now }
-    ensures answer { IsAnswer (rule (environment_of env.old) (value_fits span (val_of v.now) (plain t.now) (found_for bs.now found.old))) (λ _. found_for bs.now found.new) result }
+    ensures answer { IsAnswer (rule (environment_of env.old) (value_fits span (val_of v.now) (plain t.now) (found_for bs.now found.old)))
+        (λ _. found_for bs.now found.new) result }
     ensures count { OnOk result (length found.new.list.items ≡ length bs.now) }
     ensures same { OnOk result (IsAsBefore env.old env.new) }
 {

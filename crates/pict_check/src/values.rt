@@ -161,7 +161,8 @@ fn labelled_values_give(
     ls: &[LabelledVal],
 ) -> Result<Vec<(Name, Ty)>, InferError>
     requires right { IsWellAsked labels_ (environment_of env.old) (labelled_values_give (labelled_vals_on no_labelled_vals ls.now)) }
-    ensures answer { IsAnswer (rule (environment_of env.old) (labelled_values_give (labelled_vals_on no_labelled_vals ls.now))) (λ ts. plain_labels ts.items) result }
+    ensures answer { IsAnswer (rule (environment_of env.old) (labelled_values_give (labelled_vals_on no_labelled_vals ls.now)))
+        (λ ts. plain_labels ts.items) result }
     ensures same { OnOk result (IsAsBefore env.old env.new) }
 {
     let mut types = Vec::new(alloc);
