@@ -1,5 +1,5 @@
 -- Written type arguments, one after the other.
-use Rattle.std.proofs.Common.{◌≡◌, ◌<◌, ◌≤◌, ◌+◌, ℕ, zero, suc, List, [], ◌∷◌, ◌++◌, length, get_or, take, refl, sym, ◌∙◌, ap, subst, arith, Option, Some, None, Bool, true, false, not}
+use Rattle.std.proofs.Common.{◌≡◌, ◌<◌, ◌≤◌, ◌+◌, ℕ, List, [], ◌∷◌, ◌++◌, length, get_or, take, sym, ◌∙◌, ap, subst, arith, Option, Some, None, Bool, true, false}
 use Rattle.std.proofs.lemmas.List.{length-take-le}
 use Rattle.pict_syntax.specs.declared.code.Code.TheVariants.{K1, Y9}
 use Rattle.pict_syntax.specs.declared.span.Span.{Span}
@@ -36,7 +36,7 @@ use Rattle.pict_check.proofs.Ends.{good_of}
 use Rattle.pict_check.proofs.FieldEnds.{ensured, given_is}
 use Rattle.pict_check.proofs.Finding.{args_more}
 use Rattle.pict_check.proofs.PutIn.{bound_under}
-use Rattle.pict_check.proofs.Rows.{Row, row_all, row_before, row_first, row_more, row_refused}
+use Rattle.pict_check.proofs.Rows.{Row, first_of, row_all, row_first, row_more, row_refused}
 use Rattle.pict_check.proofs.WithinBounds.{bound_read, within_then}
 
 -- ONE ARGUMENT
@@ -138,7 +138,7 @@ argument_labels e s xs i t bs h at q =
     (labels_of_last (types_on no_types (take i xs)) (type_of (get_or xs i t)) (types_on no_types (take i xs ++ get_or xs i t ∷ [])) (types_more no_types (take i xs) (get_or xs i t)) (row_first (arguments_row e s (plain_bounds bs)) xs i t h q).labels)
 
 good_so_far : (e : Environment) (s : Span) (xs : List RTypeTree) (i : ℕ) (t : RTypeTree) (bs : List Bound) (args : List PlainArg) → i < length xs → IsAskedOf e s xs bs → Runs (rule e (written_arguments s (types_on no_types (take i xs)) (plain_bounds bs))) (ok args) → IsGood e (written_arguments s (types_on no_types (take i xs)) (plain_bounds bs)) args
-good_so_far e s xs i t bs args h q p = good_of (row_before (arguments_row e s (plain_bounds bs)) xs i t h q) p
+good_so_far e s xs i t bs args h q p = good_of (first_of (arguments_row e s (plain_bounds bs)) xs i q) p
 
 pub arguments_so_far : (e : Environment) (s : Span) (xs : List RTypeTree) (i : ℕ) (t : RTypeTree) (bs : List Bound) (args : List PlainArg) → i < length xs → IsAskedOf e s xs bs → Runs (rule e (written_arguments s (types_on no_types (take i xs)) (plain_bounds bs))) (ok args) → ArgsAreWellFormed e.names (kinds_in e) args
 arguments_so_far e s xs i t bs args h q p = (good_so_far e s xs i t bs args h q p).0

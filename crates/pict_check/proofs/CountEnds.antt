@@ -1,18 +1,16 @@
 -- The counts of fields, one lemma for each way that they end.
-use Rattle.std.proofs.Common.{◌≡◌, ℕ, zero, suc, ◌+◌, List, [], ◌∷◌, length, Bool, true, false, ◌||◌, nat_eq, refl, sym, ◌∙◌, ap, ap₂, subst, arith}
+use Rattle.std.proofs.Common.{◌≡◌, List, [], ◌∷◌, length, Bool, true, false, ◌||◌, nat_eq, refl, sym, ◌∙◌, ap, ap₂, subst, arith}
 use Rattle.pict_syntax.specs.declared.code.Code.TheVariants.{Y5, Y6}
 use Rattle.pict_syntax.specs.declared.span.Span.{Span}
 use Rattle.pict_syntax.specs.declared.type_tree.TypeTree.{TypeTree as RTypeTree}
 use Rattle.pict_syntax.specs.declared.tree.Val.{Val as RVal}
-use Rattle.pict_syntax.specs.declared.tree.LabelledVal.{LabelledVal as RLabelledVal}
 use Rattle.pict_syntax.specs.declared.tree.FieldVals.{FieldVals as RFieldVals}
-use Rattle.pict_syntax.specs.declared.tree.Abs.TheViews.{out-FieldVals, roll-out-FieldVals}
-use Rattle.pict_syntax.specs.PlainTrees.{type_of, types_on, val_of, vals_on, labelled_vals_on, field_vals_of}
+use Rattle.pict_syntax.specs.declared.tree.Abs.TheViews.{out-FieldVals}
+use Rattle.pict_syntax.specs.PlainTrees.{type_of, types_on, vals_on, labelled_vals_on, field_vals_of}
 use Rattle.pict_syntax.specs.Trees.{TypeTrees, no_types, more_types, no_vals, no_labelled_vals, field_vals}
-use Rattle.pict_syntax.proofs.ValueLists.{field_vals_is}
 use Rattle.pict_types.specs.declared.types.Ty.{Ty}
 use Rattle.pict_types.specs.declared.types.Bound.{Bound}
-use Rattle.pict_types.specs.Types.{PlainTypes, PlainLabels, PlainBounds, count_bounds, count_types}
+use Rattle.pict_types.specs.Types.{PlainTypes, PlainLabels, PlainBounds, count_bounds}
 use Rattle.pict_types.specs.Plain.{plain_bounds, plain_types}
 use Rattle.pict_types.proofs.Rows.{count_bounds_length, count_types_length}
 use Rattle.pict_normal.specs.Normal.{count_trees}
@@ -23,11 +21,8 @@ use Rattle.pict_rules.specs.Clauses.{done}
 use Rattle.pict_rules.specs.Derivations.{Runs, give_, refuse_}
 use Rattle.pict_check.specs.Counts.{as_many, counted, none_or_as_many}
 use Rattle.pict_check.proofs.Arguments.{counted_on}
+use Rattle.pict_check.proofs.Read.{parts_are}
 use Rattle.pict_check.proofs.RowEnds as rows
-
--- the parts of fields
-pub fields_are : (f : RFieldVals) → field_vals_of f ≡ field_vals (types_on no_types (out-FieldVals f).type_arguments.items) (vals_on no_vals (out-FieldVals f).positional.items) (labelled_vals_on no_labelled_vals (out-FieldVals f).labelled.items)
-fields_are f = ap field_vals_of (sym (roll-out-FieldVals f)) ∙ field_vals_is (out-FieldVals f).type_arguments (out-FieldVals f).positional (out-FieldVals f).labelled
 
 -- how many there are
 some_written : (ts : TypeTrees) (t : RTypeTree) (xs : List RTypeTree) → none_written (types_on (more_types ts (type_of t)) xs) ≡ false
@@ -70,7 +65,7 @@ abbrev labels_in : RFieldVals → PlainLabels → Bool
 labels_in f ms = all_written ms (labelled_vals_on no_labelled_vals (out-FieldVals f).labelled.items)
 
 lines_of : (s : Span) (f : RFieldVals) (bs : PlainBounds) (ps : PlainTypes) (ms : PlainLabels) → counted s (field_vals_of f) bs ps ms ≡ Lines s (arguments_in f bs) (values_in f ps) (labels_in f ms)
-lines_of s f bs ps ms = ap (λ z. counted s z bs ps ms) (fields_are f)
+lines_of s f bs ps ms = ap (λ z. counted s z bs ps ms) (parts_are f)
 
 pub other_arguments : (s : Span) (f : RFieldVals) (bs : PlainBounds) (ps : PlainTypes) (ms : PlainLabels) → arguments_in f bs ≡ false → Runs (counted s (field_vals_of f) bs ps ms) (stuck Y5 s)
 other_arguments s f bs ps ms a =

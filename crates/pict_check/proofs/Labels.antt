@@ -1,20 +1,17 @@
 -- The labels that are written, and those of a record type among them.
-use Rattle.std.proofs.Common.{◌≡◌, ℕ, suc, ◌+◌, ◌<◌, ◌≤◌, Bool, true, false, cond, ◌&&◌, ◌||◌, not, nat_eq, nat_lt, List, [], ◌∷◌, ◌++◌, length, get_or, take, drop, refl, sym, ◌∙◌, ap, ap₂, subst, arith}
+use Rattle.std.proofs.Common.{◌≡◌, ℕ, ◌+◌, ◌<◌, ◌≤◌, Bool, true, false, cond, ◌&&◌, ◌||◌, nat_eq, nat_lt, List, [], ◌∷◌, ◌++◌, length, get_or, take, drop, refl, sym, ◌∙◌, ap, subst, arith}
 use Rattle.std.specs.Ordering.{nat_cmp, is_eq}
 use Rattle.std.specs.declared.cmp.Ordering.TheVariants.{Less, Equal, Greater}
 use Rattle.std.specs.BTreeSet.{BTreeSet, contains}
 use Rattle.std.specs.List.{list_any}
 use Rattle.std.proofs.lemmas.Bool.{eq-eqb, eqb-true, ltb-true}
 use Rattle.std.proofs.lemmas.List.{take-append-drop, take_all}
-use Rattle.pict_syntax.specs.declared.code.Code.TheVariants.{Y5, Y6}
 use Rattle.pict_syntax.specs.declared.name.Name.{Name}
-use Rattle.pict_syntax.specs.declared.span.Span.{Span}
 use Rattle.pict_syntax.specs.declared.tree.LabelledVal.{LabelledVal}
-use Rattle.pict_syntax.specs.Trees.{LabelledVals, no_labelled_vals, more_labelled_vals}
+use Rattle.pict_syntax.specs.Trees.{LabelledVals, no_labelled_vals}
 use Rattle.pict_syntax.specs.PlainTrees.{labelled_vals_on}
 use Rattle.pict_syntax.proofs.ValueLists.{labelled_vals_more}
 use Rattle.pict_types.specs.declared.types.Ty.{Ty}
-use Rattle.pict_types.specs.Types.{PlainLabels, no_label, labels}
 use Rattle.pict_types.specs.Plain.{plain_labels}
 use Rattle.pict_rules.specs.Shapes.{all_written, is_written}
 use Rattle.pict_check.specs.Counts.{AddsLabel, HasLabels}

@@ -9,6 +9,9 @@ pub mod ChannelEnds
 pub mod ProcessEnds
 pub mod AbstractionEnds
 pub mod DeclarationEnds
+pub mod DefinitionEnds
+pub mod Answering
+pub mod AbstractionForms
 pub mod Written
 pub mod Finding
 pub mod HeadForms
@@ -23,6 +26,12 @@ pub mod NestedFormed
 pub mod NestedForms
 pub mod NestedLevels
 pub mod Frames
+pub mod NestedSteps
+pub mod Beginning
+pub mod Entering
+pub mod Finishing
+pub mod Leaving
+pub mod WholeForms
 pub mod Marks
 pub mod PutIn
 pub mod WithinBounds
@@ -31,3 +40,14 @@ pub mod Labels
 pub mod CountEnds
 pub mod PutFields
 pub mod AnswerFound
+pub mod Kept
+pub mod Read
+pub mod RecordEnds
+pub mod ApplyEnds
+pub mod Grown
+pub mod DeclarationForms
+pub mod CompleteEnds
+pub mod ProgramEnds
+pub mod TypeEnds
+pub mod FieldsAsked
+pub mod FitEnds

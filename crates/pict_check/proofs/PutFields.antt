@@ -1,15 +1,15 @@
 -- Values that fit fields with written arguments put in fit the fields themselves, with the arguments found.
-use Rattle.std.proofs.Common.{◌≡◌, ℕ, zero, suc, List, [], ◌∷◌, map, length, refl, sym, ◌∙◌, ap, subst, arith, Bool, true, false, nat_eq, Option, Some, None, Result, Ok, Err}
+use Rattle.std.proofs.Common.{◌≡◌, ℕ, zero, suc, List, [], ◌∷◌, map, length, refl, sym, ◌∙◌, ap, subst, Bool, true, false, nat_eq, Option, Some, None, arith}
 use Rattle.std.specs.Prelude.{option_map, if◌then◌else◌}
 use Rattle.pict_syntax.specs.declared.code.Code.{Code}
 use Rattle.pict_syntax.specs.declared.span.Span.{Span}
-use Rattle.pict_syntax.specs.declared.id.Id.{Id}
 use Rattle.pict_syntax.specs.Trees.{Val, Vals, no_vals, more_vals, LabelledVals, no_labelled_vals, more_labelled_vals}
 use Rattle.pict_types.specs.declared.types.Record.{Record}
 use Rattle.pict_types.specs.declared.types.Bound.{Bound}
-use Rattle.pict_types.specs.Types.{PlainType, Fields, PlainTypes, no_type, types, PlainLabels, no_label, labels, PlainBounds, no_bound, bounds, PlainArg, type_at}
+use Rattle.pict_types.specs.Types.{PlainType, Fields, PlainTypes, no_type, types, PlainLabels, no_label, labels, PlainBounds, no_bound, PlainArg, count_types, type_at}
 use Rattle.pict_types.specs.Kinds.{AreWellFormed, LabelsAreWellFormed}
 use Rattle.pict_types.specs.Plain.{plain_bounds, plain_labels, plain_record, plain_types}
+use Rattle.pict_types.proofs.Rows.{count_types_length}
 use Rattle.pict_types.specs.Replacing.{Replacement, arguments, replace, replace_labels, replace_types}
 use Rattle.pict_normal.specs.Normal.{Stop, size_stop}
 use Rattle.pict_normal.specs.Written.{record_with}
@@ -18,19 +18,18 @@ use Rattle.pict_rules.specs.Counts.{count_vals}
 use Rattle.pict_rules.specs.Environments.{Environment}
 use Rattle.pict_rules.specs.Found.{Found, filled, mentions_missing, with_found}
 use Rattle.pict_rules.specs.Regular.{kinds_in, IsRegular, IsTypeIn}
-use Rattle.pict_rules.specs.Rules.{Sort, nothing_, type_, found_, Judgement, gives, has, values_fit, labelled_values_fit, value_fits, Rule, Answer, give, part, ok, stuck, unless_stopped, within_limits}
-use Rattle.pict_rules.specs.Rules as rules
+use Rattle.pict_rules.specs.Rules.{Sort, found_, Judgement, gives, has, values_fit, labelled_values_fit, value_fits, Rule, give, part, ok, stuck, unless_stopped, within_limits}
 use Rattle.pict_rules.specs.Shapes.{nth_type}
 use Rattle.pict_rules.specs.Typing.{rule}
 use Rattle.pict_rules.specs.Derivations.{Runs, give_, refuse_, part_ok, part_stuck}
 use Rattle.pict_rules.proofs.RegularPatterns.{number_formed}
-use Rattle.pict_scope.specs.DistinctLabels.{LabelledValsAreDistinct, ValsHaveDistinctLabels}
+use Rattle.pict_scope.specs.DistinctLabels.{ValsHaveDistinctLabels}
 use Rattle.pict_infer.specs.declared.error.InferError.{InferError}
 use Rattle.pict_infer.specs.declared.error.InferError.TheVariants.{Named, Memory}
-use Rattle.pict_infer.specs.Answering.{IsAnswer, IsRefused}
+use Rattle.pict_infer.specs.Answering.{IsRefused}
 use Rattle.pict_infer.specs.Asking.{IsWellAsked}
 use Rattle.pict_check.specs.Lines.{formed}
-use Rattle.pict_check.proofs.FieldEnds.{Had, formed_is, value_rule}
+use Rattle.pict_check.proofs.FieldEnds.{formed_is, value_rule}
 use Rattle.pict_check.proofs.Written.{filled_mentions, filled_put, nothing_mentions, nothing_put}
 
 -- the second rule answers as the first, which finds nothing, but finds this
@@ -182,6 +181,16 @@ no_bounds (b ∷ bs) h = absurd cc
 
 pub put_count : (e : Environment) (s : Span) (args : List PlainArg) (r q : Record) → Runs (formed e (record_with args r) s) (ok (plain_record q)) → length q.binders.items ≡ 0
 put_count e s args r q h = no_bounds q.binders.items (put_is e s args r q h).bounds_
+
+count_replaced : (r : Replacement) (ps : PlainTypes) → count_types (replace_types r ps) ≡ count_types ps
+count_replaced r no_type = refl
+count_replaced r (types t ts) = ap suc (count_replaced r ts)
+
+-- and as many positional ones
+pub put_positional : (e : Environment) (s : Span) (args : List PlainArg) (r q : Record) → Runs (formed e (record_with args r) s) (ok (plain_record q)) → length q.positional.items ≡ length r.positional.items
+put_positional e s args r q h =
+    let k = ap count_types (put_is e s args r q h).positional_ ∙ count_replaced (arguments args) (plain_types r.positional.items) in
+    omega (arith, k, count_types_length q.positional.items, count_types_length r.positional.items)
 
 put_fields : (e : Environment) (s : Span) (args : List PlainArg) (r q : Record) → Runs (formed e (record_with args r) s) (ok (plain_record q)) → IsTypeIn e (plain_record q) → AreWellFormed e.names (kinds_in e) (plain_types q.positional.items) × LabelsAreWellFormed e.names (kinds_in e) (plain_labels q.labelled.items)
 put_fields e s args r q h w =

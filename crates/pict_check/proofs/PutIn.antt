@@ -1,5 +1,5 @@
 -- Types with what is found put in for the type fields, as the code forms them.
-use Rattle.std.proofs.Common.{◌≡◌, ◌<◌, ℕ, suc, List, [], ◌∷◌, map, length, refl, sym, ◌∙◌, ap, subst, arith, Option, Some, None, Result, Bool, true, false, not}
+use Rattle.std.proofs.Common.{◌≡◌, ◌<◌, ℕ, List, [], ◌∷◌, map, length, refl, sym, ◌∙◌, ap, subst, arith, Option, Result, Bool, true, false, not}
 use Rattle.pict_syntax.specs.declared.code.Code.TheVariants.{Y4, Y10}
 use Rattle.pict_syntax.specs.declared.span.Span.{Span}
 use Rattle.pict_types.specs.declared.types.Ty.{Ty}
@@ -12,7 +12,7 @@ use Rattle.pict_normal.proofs.Instances.{kinds_fit}
 use Rattle.pict_rules.specs.Environments.{Environment, context_of}
 use Rattle.pict_rules.specs.Found.{Slot, open_slot, filled, Found, argument_in, mentions_missing, with_found}
 use Rattle.pict_rules.specs.Regular.{kind_of_slot, kinds_in, kinds_within, FoundFits, FitFirst, IsTypeIn}
-use Rattle.pict_rules.specs.Rules.{nothing_, found_, Rule, ensure, give, is_subtype, need, within_limits, ok, stuck}
+use Rattle.pict_rules.specs.Rules.{found_, Rule, ensure, give, is_subtype, need, within_limits, ok, stuck}
 use Rattle.pict_rules.specs.Shapes.{nth_bound}
 use Rattle.pict_rules.specs.Derivations.{Runs, give_, refuse_}
 use Rattle.pict_rules.proofs.RegularArguments.{found_formed}

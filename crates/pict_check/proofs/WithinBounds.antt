@@ -1,5 +1,5 @@
 -- Arguments below the bounds of their type fields, one after the other; and the ends of fields and of applications.
-use Rattle.std.proofs.Common.{◌≡◌, ◌<◌, ◌≤◌, ◌+◌, ℕ, zero, suc, List, [], ◌∷◌, ◌++◌, map, length, get_or, take, drop, drop-cons, refl, sym, ◌∙◌, ap, ap₂, subst, add-one, arith, Option, Some, None, option_map, Result, Bool, true, false}
+use Rattle.std.proofs.Common.{◌≡◌, ◌<◌, ◌≤◌, ◌+◌, ℕ, zero, suc, List, [], ◌∷◌, ◌++◌, map, length, get_or, take, drop, drop-cons, refl, sym, ◌∙◌, ap, subst, add-one, arith, Option, Some, None, option_map, Result, Bool, true, false}
 use Rattle.std.proofs.lemmas.List.{length-take-le}
 use Rattle.pict_syntax.specs.declared.code.Code.TheVariants.{Y4, Y9, Y10}
 use Rattle.pict_syntax.specs.declared.span.Span.{Span}
@@ -30,7 +30,7 @@ use Rattle.pict_infer.specs.Answering.{IsAnswer, IsRefused, nothing}
 use Rattle.pict_infer.specs.Steps.{below}
 use Rattle.pict_infer.proofs.Through.{GoesOn, given, needed, refused, refused_on, refused_past, unstopped}
 use Rattle.pict_check.specs.Lines.{all_found, application_end, as_expected, fields_end, formed, within_all, within_one}
-use Rattle.pict_check.proofs.Ends.{answer_end, answer_past, belows}
+use Rattle.pict_check.proofs.Ends.{answer_past}
 use Rattle.pict_check.proofs.FieldEnds.{ensured, formed_is, formed_on, given_is}
 use Rattle.pict_check.proofs.Finding.{args_more, next_taken}
 use Rattle.pict_check.proofs.PutIn.{bound_under}

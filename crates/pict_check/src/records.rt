@@ -28,7 +28,7 @@ use pict_types::{Arg, Bound, Record, Ty};
 use std::alloc::Global;
 
 /// The record type of these fields.
-fn fields_type(alloc: Global, positional: Vec<Ty>, labelled: Vec<(Name, Ty)>) -> Ty
+pub fn fields_type(alloc: Global, positional: Vec<Ty>, labelled: Vec<(Name, Ty)>) -> Ty
     ensures { plain result ≡ Fields no_bound (plain_types positional.items) (plain_labels labelled.items) }
 {
     let binders = Vec::new(alloc);

@@ -1,5 +1,5 @@
 -- One argument after the other.
-use Rattle.std.proofs.Common.{length, sym, subst, arith}
+use Rattle.std.proofs.Common.{sym, subst, arith}
 use Rattle.std.proofs.lemmas.List.{length-take-le}
 use Rattle.pict_types.proofs.Reaching.{args_formed}
 use Rattle.pict_rules.specs.Regular.{kinds_in}
