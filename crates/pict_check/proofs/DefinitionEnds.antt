@@ -50,7 +50,7 @@ use Rattle.pict_check.specs.Lines.{formed}
 use Rattle.pict_check.specs.Operators.{type_if}
 use Rattle.pict_check.proofs.Ends.{ends_with, expands, past, past_refused, refused_here}
 use Rattle.pict_check.proofs.FieldEnds.{formed_is, formed_on}
-use Rattle.pict_check.proofs.Grown.{grew_until}
+use Rattle.pict_check.proofs.Kept.{grew_kept}
 use Rattle.pict_check.proofs.Rows.{Row, first_asked, one_more, row_all, row_asked, row_more, row_refused}
 
 -- A SIGNATURE USES NO VALUE

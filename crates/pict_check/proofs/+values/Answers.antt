@@ -76,7 +76,7 @@ use Rattle.pict_check.specs.Declaring.{defined, valued}
 use Rattle.pict_check.proofs.CompleteEnds.{complete_still}
 use Rattle.pict_check.proofs.DeclarationEnds.{against_end, against_grew, all_declarations, await_asked, await_end, declaration_asked, declaration_more, declaration_refused, let_against_asked, let_has_asked, let_has_done, let_has_refused, let_pattern_asked, let_pattern_refused, let_value_asked, let_value_refused, placed, run_asked, run_end}
 use Rattle.pict_check.proofs.DeclarationForms.{alias_read, await_read, def_read, group_read, if_proc_read, inert_form, let_form, let_read, new_read, operator_read, receive_read, run_read, send_read, serve_read}
-use Rattle.pict_check.proofs.Grown.{as_before_grew, grew_after, result_grew, still_may, as_before_twice, grew_until, grown_since}
+use Rattle.pict_check.proofs.Grown.{as_before_grew, grew_after, result_grew, still_may}
 use Rattle.pict_check.proofs.ProcessEnds.{group_asked, group_done, group_refused, inside_asked, inside_refused, message_asked, messages_there, proc_if_end, proc_no_asked, proc_test, proc_test_asked, proc_yes, proc_yes_asked, process_asked, process_more, process_refused, receive_asked, receive_end, receive_refused, receiver_asked, receives_channel_asked, receives_channel_refused, receives_end, receives_refused, send_channel_asked, send_channel_refused, send_end, send_refused, serve_asked, serve_end, serve_refused}
 use Rattle.pict_check.proofs.AbstractionEnds.{against_body_asked, against_body_refused, against_pattern_asked, against_pattern_refused, against_process_asked, against_process_refused, result_formed, body_type_refused, exposure_is, fields_known, fields_of_record, function_against, no_answer, no_record_refused, outside_given_at, outside_refused_at, own_fields_refused, pattern_asked, pattern_refused, process_against, process_body_asked, process_body_refused, process_gives, against_record_answer, record_answering, against_record_asked, taken_asked, taken_refused, typed_body_asked, typed_body_refused, typed_end, typed_result_refused, untyped_body_asked, untyped_body_refused, untyped_end, untyped_refused}
 use Rattle.pict_check.proofs.AbstractionForms.{annotation_read, function_form, function_read, process_form}
@@ -1327,11 +1327,11 @@ fitting::value_fits-returns-clause-answer t c =
 -- A LABELLED VALUE
 
 pub fitting::labelled_value_fits-labelled_type-requires : goal.fitting::labelled_value_fits-labelled_type-requires
-fitting::labelled_value_fits-labelled_type-requires t c = (
-  search (rules, the_lemmas),
-  subst (λ ns. AreInOrder ns (plain_labels c.args.ts.now)) (sym (c.names.ensures.same ∙ c.context.ensures.names))
-      (formed_in_order (environment_of c.args.env.now).names (kinds_within (kinds_in (environment_of c.args.env.now)) (found_for c.args.bs.now c.args.found.now)) (plain_labels c.args.ts.now) c.requires.labelled),
-)
+fitting::labelled_value_fits-labelled_type-requires t c =
+    record {
+      ordered = subst (λ ns. AreInOrder ns (plain_labels c.args.ts.now)) (sym (c.names.ensures.same ∙ c.context.ensures.names))
+          (formed_in_order (environment_of c.args.env.now).names (kinds_within (kinds_in (environment_of c.args.env.now)) (found_for c.args.bs.now c.args.found.now)) (plain_labels c.args.ts.now) c.requires.labelled);
+    }
 
 pub fitting::labelled_value_fits-value_fits-requires : goal.fitting::labelled_value_fits-value_fits-requires
 fitting::labelled_value_fits-value_fits-requires t c =
@@ -2773,7 +2773,7 @@ pub abstractions::abstraction_gives-cut-requires : goal.abstractions::abstractio
 abstractions::abstraction_gives-cut-requires t c =
     let w = c.in_ok-given-in-Process.ensures.answer in
     record {
-      grown = grown_since c.place-outer.result c.args.env.now c.process.new.env c.place-outer.ensures (grew_until c.args.env.now c.pattern_gives.new.env c.process.new.env w.grew c.in_ok-process-in-Process.ensures.same);
+      grown = grown_from c.place-outer.result c.args.env.now c.process.new.env c.place-outer.ensures (grew_kept c.args.env.now c.pattern_gives.new.env c.process.new.env w.grew c.in_ok-process-in-Process.ensures.same);
     }
 
 pub abstractions::abstraction_gives-returns-in_ok-process-in-Process-clause-answer : goal.abstractions::abstraction_gives-returns-in_ok-process-in-Process-clause-answer
@@ -2868,8 +2868,8 @@ abstractions::untyped_gives-returns-in_err-answer-clause-answer t c =
 pub abstractions::untyped_gives-cut-requires : goal.abstractions::untyped_gives-cut-requires
 abstractions::untyped_gives-cut-requires t c =
     let w = c.in_ok-own.ensures.answer in
-    let grew = grew_until c.args.env.now c.add.new.self c.gives.new.env (grew_twice c.args.env.now c.open_fields.new.env c.add.new.self w.grew c.in_ok-add.ensures.grew) c.in_ok-given.ensures.same in
-    record { grown = grown_since c.place-outer.result c.args.env.now c.gives.new.env c.place-outer.ensures grew }
+    let grew = grew_kept c.args.env.now c.add.new.self c.gives.new.env (grew_twice c.args.env.now c.open_fields.new.env c.add.new.self w.grew c.in_ok-add.ensures.grew) c.in_ok-given.ensures.same in
+    record { grown = grown_from c.place-outer.result c.args.env.now c.gives.new.env c.place-outer.ensures grew }
 
 pub abstractions::untyped_gives-returns-clause-answer : goal.abstractions::untyped_gives-returns-clause-answer
 abstractions::untyped_gives-returns-clause-answer t c =
@@ -2878,7 +2878,7 @@ abstractions::untyped_gives-returns-clause-answer t c =
     let f = field_pats_of c.args.fields.now in
     let v = val_of c.args.v.now in
     let w = c.in_ok-own.ensures.answer in
-    let grew = grew_until c.args.env.now c.add.new.self c.gives.new.env (grew_twice c.args.env.now c.open_fields.new.env c.add.new.self w.grew c.in_ok-add.ensures.grew) c.in_ok-given.ensures.same in
+    let grew = grew_kept c.args.env.now c.add.new.self c.gives.new.env (grew_twice c.args.env.now c.open_fields.new.env c.add.new.self w.grew c.in_ok-add.ensures.grew) c.in_ok-given.ensures.same in
     let d = environment_of c.add.new.self in
     let known = fields_known e (environment_of c.open_fields.new.env) d w.fields.own w.fields.adds (extension_of c.in_ok-own.own.adds) w.under.known w.adds c.in_ok-add.ensures.known in
     untyped_end plain e d s f v w.fields (plain c.in_ok-given.given) (plain c.in_ok-answer.answer) c.argument.result known w.holds c.in_ok-given.ensures.answer
@@ -2888,7 +2888,7 @@ abstractions::untyped_gives-returns-clause-answer t c =
 pub abstractions::untyped_gives-returns-clause-same : goal.abstractions::untyped_gives-returns-clause-same
 abstractions::untyped_gives-returns-clause-same t c =
     let w = c.in_ok-own.ensures.answer in
-    let grew = grew_until c.args.env.now c.add.new.self c.gives.new.env (grew_twice c.args.env.now c.open_fields.new.env c.add.new.self w.grew c.in_ok-add.ensures.grew) c.in_ok-given.ensures.same in
+    let grew = grew_kept c.args.env.now c.add.new.self c.gives.new.env (grew_twice c.args.env.now c.open_fields.new.env c.add.new.self w.grew c.in_ok-add.ensures.grew) c.in_ok-given.ensures.same in
     on_any_abstractions c.argument.result (c.cut.ensures c.args.env.now c.place-outer.ensures grew)
 
 -- a function with one
@@ -2950,8 +2950,8 @@ abstractions::typed_gives-returns-in_err-has-clause-answer t c =
 pub abstractions::typed_gives-cut-requires : goal.abstractions::typed_gives-cut-requires
 abstractions::typed_gives-cut-requires t c =
     let w = c.in_ok-own.ensures.answer in
-    let grew = grew_until c.args.env.now c.add.new.self c.has.new.env (grew_twice c.args.env.now c.open_fields.new.env c.add.new.self w.grew c.in_ok-add.ensures.grew) c.in_ok-has.ensures.same in
-    record { grown = grown_since c.place-outer.result c.args.env.now c.has.new.env c.place-outer.ensures grew }
+    let grew = grew_kept c.args.env.now c.add.new.self c.has.new.env (grew_twice c.args.env.now c.open_fields.new.env c.add.new.self w.grew c.in_ok-add.ensures.grew) c.in_ok-has.ensures.same in
+    record { grown = grown_from c.place-outer.result c.args.env.now c.has.new.env c.place-outer.ensures grew }
 
 pub abstractions::typed_gives-returns-clause-answer : goal.abstractions::typed_gives-returns-clause-answer
 abstractions::typed_gives-returns-clause-answer t c =
@@ -2961,7 +2961,7 @@ abstractions::typed_gives-returns-clause-answer t c =
     let a = type_of c.args.a.now in
     let v = val_of c.args.v.now in
     let w = c.in_ok-own.ensures.answer in
-    let grew = grew_until c.args.env.now c.add.new.self c.has.new.env (grew_twice c.args.env.now c.open_fields.new.env c.add.new.self w.grew c.in_ok-add.ensures.grew) c.in_ok-has.ensures.same in
+    let grew = grew_kept c.args.env.now c.add.new.self c.has.new.env (grew_twice c.args.env.now c.open_fields.new.env c.add.new.self w.grew c.in_ok-add.ensures.grew) c.in_ok-has.ensures.same in
     let d = environment_of c.add.new.self in
     let known = fields_known e (environment_of c.open_fields.new.env) d w.fields.own w.fields.adds (extension_of c.in_ok-own.own.adds) w.under.known w.adds c.in_ok-add.ensures.known in
     let past : plain c.shown.result.now ≡ shifted_by (opened w.fields.adds) (plain c.in_ok-answer.answer) = c.shown.ensures ∙ c.in_ok-wanted.ensures ∙ ap (λ x. shifted_by (opened x) (plain c.in_ok-answer.answer)) w.adds in
@@ -2972,7 +2972,7 @@ abstractions::typed_gives-returns-clause-answer t c =
 pub abstractions::typed_gives-returns-clause-same : goal.abstractions::typed_gives-returns-clause-same
 abstractions::typed_gives-returns-clause-same t c =
     let w = c.in_ok-own.ensures.answer in
-    let grew = grew_until c.args.env.now c.add.new.self c.has.new.env (grew_twice c.args.env.now c.open_fields.new.env c.add.new.self w.grew c.in_ok-add.ensures.grew) c.in_ok-has.ensures.same in
+    let grew = grew_kept c.args.env.now c.add.new.self c.has.new.env (grew_twice c.args.env.now c.open_fields.new.env c.add.new.self w.grew c.in_ok-add.ensures.grew) c.in_ok-has.ensures.same in
     on_any_abstractions c.argument.result (c.cut.ensures c.args.env.now c.place-outer.ensures grew)
 
 -- a process abstraction against a type
@@ -3033,7 +3033,7 @@ pub abstractions::abstraction_against-cut-requires : goal.abstractions::abstract
 abstractions::abstraction_against-cut-requires t c =
     let w = c.in_ok-pattern_against-in-Process.ensures.answer in
     record {
-      grown = grown_since c.place-outer.result c.args.env.now c.process.new.env c.place-outer.ensures (grew_until c.args.env.now c.pattern_against.new.env c.process.new.env w.grew c.in_ok-process-in-Process.ensures.same);
+      grown = grown_from c.place-outer.result c.args.env.now c.process.new.env c.place-outer.ensures (grew_kept c.args.env.now c.pattern_against.new.env c.process.new.env w.grew c.in_ok-process-in-Process.ensures.same);
     }
 
 pub abstractions::abstraction_against-returns-in-Process-clause-answer : goal.abstractions::abstraction_against-returns-in-Process-clause-answer
@@ -3215,8 +3215,8 @@ abstractions::function_against-returns-in_err-has-clause-answer t c =
 
 pub abstractions::function_against-cut-requires : goal.abstractions::function_against-cut-requires
 abstractions::function_against-cut-requires t c =
-    let grew = grew_until c.args.env.now c.add.new.self c.has.new.env (grew_twice c.args.env.now c.open_fields_against.new.env c.add.new.self c.in_ok-adds.ensures.answer.grew c.in_ok-add.ensures.grew) c.in_ok-has.ensures.same in
-    record { grown = grown_since c.place-outer.result c.args.env.now c.has.new.env c.place-outer.ensures grew }
+    let grew = grew_kept c.args.env.now c.add.new.self c.has.new.env (grew_twice c.args.env.now c.open_fields_against.new.env c.add.new.self c.in_ok-adds.ensures.answer.grew c.in_ok-add.ensures.grew) c.in_ok-has.ensures.same in
+    record { grown = grown_from c.place-outer.result c.args.env.now c.has.new.env c.place-outer.ensures grew }
 
 pub abstractions::function_against-returns-clause-answer : goal.abstractions::function_against-returns-clause-answer
 abstractions::function_against-returns-clause-answer t c =
@@ -3241,7 +3241,7 @@ abstractions::function_against-returns-clause-answer t c =
 
 pub abstractions::function_against-returns-clause-same : goal.abstractions::function_against-returns-clause-same
 abstractions::function_against-returns-clause-same t c =
-    let grew = grew_until c.args.env.now c.add.new.self c.has.new.env (grew_twice c.args.env.now c.open_fields_against.new.env c.add.new.self c.in_ok-adds.ensures.answer.grew c.in_ok-add.ensures.grew) c.in_ok-has.ensures.same in
+    let grew = grew_kept c.args.env.now c.add.new.self c.has.new.env (grew_twice c.args.env.now c.open_fields_against.new.env c.add.new.self c.in_ok-adds.ensures.answer.grew c.in_ok-add.ensures.grew) c.in_ok-has.ensures.same in
     c.cut.ensures c.args.env.now c.place-outer.ensures grew
 
 -- the signatures, and then the bodies
@@ -3293,7 +3293,7 @@ definitions::bodies-loop-d-preserved t c =
           let next = next_body (length (context_of e)) c.args.ds.now c.args.insides.items ss c.loop-d.d-index c.d-item.result c.in-Some.inside h c.loop-d-test.true c.d-item.is taken.item in
           let here = subst (λ z. IsInside (length (context_of z)) a c.in-Some.inside next.given) (sym c.loop-d.invariant.same.known) next.inside in
           one_past e d (length (context_of e)) c.loop-d.d-index a c.in-Some.inside ss next c.loop-d.invariant.same.known (c.loop-d.invariant.past ss h) (c.in_ok-body.ensures.answer next.given here);
-      same = as_before_twice c.args.env.now c.loop-d.env c.body.new.env c.loop-d.invariant.same c.in_ok-body.ensures.same;
+      same = kept_twice c.args.env.now c.loop-d.env c.body.new.env c.loop-d.invariant.same c.in_ok-body.ensures.same;
     }
 
 pub definitions::bodies-returns-clause-answer : goal.definitions::bodies-returns-clause-answer
@@ -3315,7 +3315,7 @@ definitions::body-returns-in_err-judged_body-clause-answer t c = λ s h.
 
 pub definitions::body-cut-requires : goal.definitions::body-cut-requires
 definitions::body-cut-requires t c = record {
-  grown = grown_since c.place-outer.result c.args.env.now c.judged_body.new.env c.place-outer.ensures (grew_until c.args.env.now c.add.new.self c.judged_body.new.env c.in_ok-add.ensures.grew c.in_ok-judged_body.ensures.same);
+  grown = grown_from c.place-outer.result c.args.env.now c.judged_body.new.env c.place-outer.ensures (grew_kept c.args.env.now c.add.new.self c.judged_body.new.env c.in_ok-add.ensures.grew c.in_ok-judged_body.ensures.same);
 }
 
 pub definitions::body-returns-clause-answer : goal.definitions::body-returns-clause-answer

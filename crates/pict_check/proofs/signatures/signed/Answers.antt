@@ -5,7 +5,8 @@ use Rattle.pict_rules.specs.Environments.{Environment}
 use Rattle.pict_infer.specs.Environments.{environment_of, with_value}
 use Rattle.pict_infer.proofs.MadeKnown.{grew_twice}
 use Rattle.pict_check.proofs.DefinitionEnds.{all_signed, none_signed, one_signed, sign_err, signature_asked, signature_refused}
-use Rattle.pict_check.proofs.Grown.{as_before_grew, grew_until}
+use Rattle.pict_check.proofs.Grown.{as_before_grew}
+use Rattle.pict_check.proofs.Kept.{grew_kept}
 use Rattle.pict_check.proofs.signatures.signed.Goals as goal
 
 pub loop-d-init : goal.loop-d-init
@@ -31,7 +32,7 @@ loop-d-preserved c =
     record {
       so_far = one_signed (environment_of c.args.env.now) (environment_of c.loop-d.env) _ c.args.ds.now c.loop-d.d-index d c.loop-d.insides.items c.push.new.self.items c.in_ok-s.s c.loop-d-test.true c.d-item.is c.loop-d.invariant.so_far c.in_ok-s.ensures.answer
           (c.in_ok-push_value.ensures.known ∙ ap (λ (b : Environment). with_value b d.id (plain c.in_ok-s.s.has)) c.in_ok-s.ensures.same.known) c.in_ok-push.ensures.items;
-      grew = grew_twice c.args.env.now c.signature_for.new.env c.push_value.new.self (grew_until c.args.env.now c.loop-d.env c.signature_for.new.env c.loop-d.invariant.grew c.in_ok-s.ensures.same) c.in_ok-push_value.ensures.grew;
+      grew = grew_twice c.args.env.now c.signature_for.new.env c.push_value.new.self (grew_kept c.args.env.now c.loop-d.env c.signature_for.new.env c.loop-d.invariant.grew c.in_ok-s.ensures.same) c.in_ok-push_value.ensures.grew;
     }
 
 pub returns : goal.returns
