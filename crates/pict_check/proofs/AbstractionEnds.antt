@@ -1,25 +1,54 @@
 -- Abstractions, one lemma for each way that a body ends.
-use Rattle.std.proofs.Common.{◌≡◌, ℕ, Bool, true, false, if◌then◌else◌, sym, subst, Result, Some, None}
-use Rattle.pict_syntax.specs.declared.code.Code.TheVariants.{Y14}
+use Rattle.std.proofs.Common.{◌≡◌, ◌-◌, ℕ, List, length, take, Bool, true, false, if◌then◌else◌, refl, sym, ◌∙◌, ap, ap₂, subst, Result, Option, Some, None}
+use Rattle.pict_syntax.specs.declared.code.Code.TheVariants.{Y4, Y8, Y14}
+use Rattle.std.specs.Prelude.{IfNone, IfSome}
+use Rattle.pict_syntax.specs.declared.name.Name.{Name}
 use Rattle.pict_syntax.specs.declared.span.Span.{Span}
-use Rattle.pict_syntax.specs.Grammar.{val_span}
-use Rattle.pict_syntax.specs.Trees.{FieldPats, Pat, Proc, RType, TypeTree, Val, process_abs, function_abs}
-use Rattle.pict_types.specs.Types.{PlainType}
+use Rattle.pict_syntax.specs.Grammar.{type_span, val_span}
+use Rattle.pict_syntax.specs.Trees.{Abs, FieldPats, Pat, Proc, RType, TypeTree, Val, process_abs, function_abs}
+use Rattle.pict_types.specs.Types.{Both, PlainType, Read, Respond, Write, under}
+use Rattle.pict_types.specs.Types as types
+use Rattle.pict_types.specs.declared.context.Context.{Context}
+use Rattle.pict_types.specs.declared.types.Bound.{Bound}
+use Rattle.pict_types.specs.declared.types.Record.{Record}
+use Rattle.pict_types.specs.declared.types.Ty.{Ty}
+use Rattle.pict_types.specs.Entries.{variables}
+use Rattle.pict_types.specs.Plain.{plain, plain_record}
+use Rattle.pict_types.specs.PlainContext.{plain_context, type_context}
+use Rattle.pict_types.specs.Kinds.{Kind, kinds_under, IsWellFormed}
 use Rattle.pict_types.specs.Mentions.{lowered, mentions_innermost}
-use Rattle.pict_rules.specs.Environments.{Environment, Extension, extended, opened, shifted_by}
-use Rattle.pict_rules.specs.Rules.{Sort, nothing_, type_, pattern_, fields_, extension_, TypedPattern, TypedFields, gives, has, abstraction_gives, abstraction_against, fields_give, pattern_gives, pattern_against, process, Rule, give, refuse, ok}
-use Rattle.pict_rules.specs.Clauses.{argument_type, check, need_outside, with_fields, with_own}
+use Rattle.pict_types.proofs.Congruent.{three}
+use Rattle.pict_types.proofs.Contexts.{entries_context, formed_under, kinds_under_is}
+use Rattle.pict_normal.specs.Normal.{Stop, kind_stop, normal}
+use Rattle.pict_sub.specs.Exposing.{exposure}
+use Rattle.pict_sub.proofs.Followed.{exposure_formed}
+use Rattle.pict_rules.specs.Environments.{Environment, Extension, KnownType, context_of, extended, opened, shifted_by}
+use Rattle.pict_rules.specs.Regular.{IsRegular, IsTypeIn, kinds_in}
+use Rattle.pict_rules.specs.Rules.{Sort, nothing_, type_, pattern_, fields_, opened_, extension_, OpenedFields, TypedPattern, TypedFields, gives, has, abstraction_gives, abstraction_against, fields_against, fields_give, pattern_gives, pattern_against, process, is_subtype, Rule, expand, give, need, part, refuse, ok, stuck, unless_stopped}
+use Rattle.pict_rules.specs.Clauses.{answering, argument_type, check, done, need_function, need_outside, with_fields, with_own}
+use Rattle.pict_rules.specs.Shapes.{Function, function_by, sendable}
 use Rattle.pict_rules.specs.Typing.{rule}
-use Rattle.pict_rules.specs.Derivations.{Runs, give_, part_ok}
-use Rattle.pict_rules.specs.Reached.{this_part, past_part}
+use Rattle.pict_rules.specs.Derivations.{Runs, give_, met, part_ok, refuse_}
+use Rattle.pict_rules.specs.Reached.{Asks, this_part, past_need, past_part}
+use Rattle.pict_rules.proofs.Regularity.{IfFormed}
+use Rattle.pict_rules.proofs.RegularAbstractions.{FunctionFormed, function_formed}
+use Rattle.pict_rules.proofs.RegularFields.{own_kinds}
+use Rattle.pict_rules.proofs.RegularProcesses.{exposed_formed}
 use Rattle.pict_infer.specs.declared.error.InferError.{InferError}
-use Rattle.pict_infer.specs.Answering.{IsRefused, IsAnswer}
+use Rattle.pict_infer.specs.Answering.{IsRefused, IsAnswer, nothing}
 use Rattle.pict_infer.specs.Asking.{IsWellAsked}
-use Rattle.pict_infer.specs.Steps.{expanded}
+use Rattle.pict_infer.specs.Opening.{against_fields}
+use Rattle.pict_infer.specs.Steps.{expanded, shown}
 use Rattle.pict_infer.proofs.Asked.{asked_of}
-use Rattle.pict_infer.proofs.Through.{GoesOn, given, refused, refused_on, refused_past}
+use Rattle.pict_infer.proofs.Forming.{exposed_itself, shown_is}
+use Rattle.pict_infer.proofs.MadeKnown.{own_then_parts}
+use Rattle.pict_infer.proofs.Through.{GoesOn, given, needed, refused, refused_on, refused_past, unstopped}
+use Rattle.pict_infer.specs.Shaping.{IsNoRecord}
+use Rattle.pict_check.specs.Definitions.{body_type, function_with, record_answers}
+use Rattle.pict_check.specs.Functions.{IsNoFunction}
 use Rattle.pict_check.specs.Lines.{formed, outside}
-use Rattle.pict_check.proofs.Ends.{answer_past, expands, past, past_refused, refused_here}
+use Rattle.pict_check.proofs.Ends.{answer_past, expands, good_of, past, past_refused, refused_here}
+use Rattle.pict_check.proofs.FieldEnds.{no_function}
 
 -- A PROCESS ABSTRACTION GIVES A TYPE
 
@@ -56,10 +85,6 @@ pub process_against : (e d : Environment) (s : Span) (p : Pat) (q : Proc) (t : P
 process_against e d s p q t x k r h = part_ok r (part_ok (subst (λ z. Runs (rule z (process q)) (ok tt)) k h) give_)
 
 -- A FUNCTION WITHOUT A RESULT TYPE GIVES A TYPE
-
-pub own_fields_asked : (e : Environment) (s : Span) (f : FieldPats) (a : RType) (v : Val) → IsWellAsked type_ e (abstraction_gives (function_abs s f a v)) → IsWellAsked fields_ e (fields_give f)
-own_fields_asked e s f None v h = asked_of (abstraction_gives (function_abs s f None v)) h this_part
-own_fields_asked e s f (Some a) v h = asked_of (abstraction_gives (function_abs s f (Some a) v)) h this_part
 
 pub own_fields_refused : (e : Environment) (s : Span) (f : FieldPats) (a : RType) (v : Val) (y : InferError) → IsRefused (rule e (fields_give f)) y → IsRefused (rule e (abstraction_gives (function_abs s f a v))) y
 own_fields_refused e s f None v y h = refused_here _ _ _ y h
@@ -105,3 +130,185 @@ pub typed_end : {T : Type 0} (w : T → PlainType) (e d b : Environment) (s : Sp
 typed_end w e d b s f a v g t r k l p x h q =
     past _ _ _ _ g r p (answer_past _ t r (expands (with_own e g.own) a (λ t. check (with_fields e g.own g.adds) (has v (shifted_by (opened g.adds) t)) (formed e (argument_type g t) s)))
     (subst (λ z. Runs (expanded z a) (ok t)) k x) (past _ _ _ _ tt r (subst (λ z. Runs (rule z (has v (shifted_by (opened g.adds) t))) (ok tt)) l h) q))
+
+-- A FUNCTION AGAINST A TYPE
+
+-- how its rule goes on with the type that its body has
+abbrev Bodied : Environment → RType → PlainType → (PlainType → Rule nothing_) → Rule nothing_
+Bodied d None u k = k u
+Bodied d (Some a) u k = expand d a (λ t. need (is_subtype (context_of d) t u) Y4 (type_span a) (k t))
+
+bodied : (d : Environment) (a : RType) (u : PlainType) (k : PlainType → Rule nothing_) → GoesOn type_ nothing_ (body_type d a u) (Bodied d a u k) k
+bodied d None u k = given
+bodied d (Some a) u k = unstopped (kind_stop d.names d.context a) (needed given)
+
+-- and with the function that the type stands for
+abbrev InsideBody : Environment → Val → OpenedFields → PlainType → Rule nothing_
+InsideBody e v x t = check (with_fields e x.own x.adds) (has v (shifted_by (opened x.adds) t)) done
+
+abbrev AfterFields : Environment → Span → FieldPats → RType → Val → Function → Rule nothing_
+AfterFields e s f a v g = part e (fields_against s f g.binders g.positional g.labelled) (λ x. Bodied (with_own e x.own) a g.answer (InsideBody e v x))
+
+function_rule : (e : Environment) (s : Span) (f : FieldPats) (a : RType) (v : Val) (t : PlainType) → rule e (abstraction_against (function_abs s f a v) t) ≡ need_function (answering e t) Y8 s (AfterFields e s f a v)
+function_rule e s f None v t = refl
+function_rule e s f (Some a) v t = refl
+
+answered : (e : Environment) (s : Span) (f : FieldPats) (a : RType) (v : Val) (t : PlainType) (g : Function) → answering e t ≡ Some g → rule e (abstraction_against (function_abs s f a v) t) ≡ AfterFields e s f a v g
+answered e s f a v t g h = function_rule e s f a v t ∙ ap (λ (o : Option Function). need_function o Y8 s (AfterFields e s f a v)) h
+
+-- the same for all types that expose to the same
+exposes_alike : (e : Environment) (t u : PlainType) → exposure (context_of e) t ≡ u → exposure (context_of e) u ≡ u → answering e t ≡ answering e u
+exposes_alike e t u h k = ap (function_by (λ bs last. sendable (exposure (under (context_of e) bs) last))) (h ∙ sym k)
+
+pub exposed_rule : (e : Environment) (s : Span) (f : FieldPats) (a : RType) (v : Val) (t u : PlainType) → exposure (context_of e) t ≡ u → exposure (context_of e) u ≡ u → rule e (abstraction_against (function_abs s f a v) t) ≡ rule e (abstraction_against (function_abs s f a v) u)
+exposed_rule e s f a v t u h k =
+    function_rule e s f a v t ∙ ap (λ (o : Option Function). need_function o Y8 s (AfterFields e s f a v)) (exposes_alike e t u h k) ∙ sym (function_rule e s f a v u)
+
+pub exposed_asked : (e : Environment) (a : Abs) (t u : PlainType) → exposure (context_of e) t ≡ u → IsWellAsked nothing_ e (abstraction_against a t) → IsWellAsked nothing_ e (abstraction_against a u)
+exposed_asked e a t u h k = record { labels = k.labels; regular = k.regular; asked = subst (IsTypeIn e) h (exposed_formed e t k.regular k.asked) }
+
+-- no record, and so no function
+none_of : (e : Environment) (t : PlainType) → IsNoRecord (exposure (context_of e) t) → answering e t ≡ None
+none_of e t h = go (exposure (context_of e) t) h
+  where
+    go : (u : PlainType) → IsNoRecord u → function_by (λ bs last. sendable (exposure (under (context_of e) bs) last)) u ≡ None
+    go types.Top k = refl
+    go types.Int k = refl
+    go types.Char k = refl
+    go types.Str k = refl
+    go types.Boolean k = refl
+    go (types.Var i) k = refl
+    go (types.Apply i ts) k = refl
+    go (types.Chan m u) k = refl
+    go (types.Fields bs ps ls) k = absurd k
+    go (types.Rec u) k = refl
+
+pub no_record : (e : Environment) (s : Span) (f : FieldPats) (a : RType) (v : Val) (t : PlainType) → IsNoRecord (exposure (context_of e) t) → Runs (rule e (abstraction_against (function_abs s f a v) t)) (stuck Y8 s)
+no_record e s f a v t h =
+    subst (λ r. Runs r (stuck Y8 s)) (sym (function_rule e s f a v t ∙ ap (λ (o : Option Function). need_function o Y8 s (AfterFields e s f a v)) (none_of e t h))) refuse_
+
+pub no_answer : (e : Environment) (s : Span) (f : FieldPats) (a : RType) (v : Val) (t : PlainType) (y : InferError) → IsNoFunction (answering e t) s y → IsRefused (rule e (abstraction_against (function_abs s f a v) t)) y
+no_answer e s f a v t y h = subst (λ r. IsRefused r y) (sym (function_rule e s f a v t)) (no_function (answering e t) s (AfterFields e s f a v) y h)
+
+pub taken_asked : (e : Environment) (s : Span) (f : FieldPats) (a : RType) (v : Val) (t : PlainType) (g : Function) → answering e t ≡ Some g → IsWellAsked nothing_ e (abstraction_against (function_abs s f a v) t) → IsWellAsked opened_ e (fields_against s f g.binders g.positional g.labelled)
+taken_asked e s f a v t g is h =
+    asked_of (abstraction_against (function_abs s f a v) t) h (subst (λ r. Asks nothing_ r opened_ e (fields_against s f g.binders g.positional g.labelled)) (sym (answered e s f a v t g is)) this_part)
+
+pub taken_refused : (e : Environment) (s : Span) (f : FieldPats) (a : RType) (v : Val) (t : PlainType) (g : Function) (y : InferError) → answering e t ≡ Some g → IsRefused (rule e (fields_against s f g.binders g.positional g.labelled)) y → IsRefused (rule e (abstraction_against (function_abs s f a v) t)) y
+taken_refused e s f a v t g y is h = subst (λ r. IsRefused r y) (sym (answered e s f a v t g is)) (refused_here _ _ _ y h)
+
+pub body_type_refused : (e d : Environment) (s : Span) (f : FieldPats) (a : RType) (v : Val) (t : PlainType) (g : Function) (x : OpenedFields) (y : InferError) → answering e t ≡ Some g → d ≡ with_own e x.own → Runs (rule e (fields_against s f g.binders g.positional g.labelled)) (ok x) → IsRefused (body_type d a g.answer) y → IsRefused (rule e (abstraction_against (function_abs s f a v) t)) y
+body_type_refused e d s f a v t g x y is k r h =
+    subst (λ q. IsRefused q y) (sym (answered e s f a v t g is))
+    (past_refused _ _ _ x y r (refused_on y (bodied (with_own e x.own) a g.answer (InsideBody e v x)) (subst (λ z. IsRefused (body_type z a g.answer) y) k h)))
+
+-- what its body is asked
+bodied_asks : (d b : Environment) (a : RType) (u w : PlainType) (v : Val) (k : PlainType → PlainType) → Runs (body_type d a u) (ok w) → Asks nothing_ (Bodied d a u (λ t. check b (has v (k t)) done)) nothing_ b (has v (k w))
+bodied_asks d b None u w v k give_ = this_part
+bodied_asks d b (Some a) u w v k h = go (kind_stop d.names d.context a) (normal d.names d.context a) h
+  where
+    go : (o : Option Stop) (n : PlainType) → Runs {s = type_} (unless_stopped o (need (is_subtype (context_of d) n u) Y4 (type_span a) (give n))) (ok w) → Asks nothing_ (unless_stopped o (need (is_subtype (context_of d) n u) Y4 (type_span a) (check b (has v (k n)) done))) nothing_ b (has v (k w))
+    go None n (met m give_) = past_need m this_part
+    go (Some x) n p = elim p [ ]
+
+pub against_body_asked : (e d b : Environment) (s : Span) (f : FieldPats) (a : RType) (v : Val) (t : PlainType) (g : Function) (x : OpenedFields) (w : PlainType) → answering e t ≡ Some g → d ≡ with_own e x.own → b ≡ with_fields e x.own x.adds → IsWellAsked nothing_ e (abstraction_against (function_abs s f a v) t) → Runs (rule e (fields_against s f g.binders g.positional g.labelled)) (ok x) → Runs (body_type d a g.answer) (ok w) → IsWellAsked nothing_ b (has v (shifted_by (opened x.adds) w))
+against_body_asked e d b s f a v t g x w is k l h r p =
+    subst (λ z. IsWellAsked nothing_ z (has v (shifted_by (opened x.adds) w))) (sym l)
+    (asked_of (abstraction_against (function_abs s f a v) t) h
+    (subst (λ q. Asks nothing_ q nothing_ (with_fields e x.own x.adds) (has v (shifted_by (opened x.adds) w))) (sym (answered e s f a v t g is))
+    (past_part r (bodied_asks (with_own e x.own) (with_fields e x.own x.adds) a g.answer w v (shifted_by (opened x.adds)) (subst (λ z. Runs (body_type z a g.answer) (ok w)) k p)))))
+
+pub against_body_refused : (e d b : Environment) (s : Span) (f : FieldPats) (a : RType) (v : Val) (t : PlainType) (g : Function) (x : OpenedFields) (w : PlainType) (y : InferError) → answering e t ≡ Some g → d ≡ with_own e x.own → b ≡ with_fields e x.own x.adds → Runs (rule e (fields_against s f g.binders g.positional g.labelled)) (ok x) → Runs (body_type d a g.answer) (ok w) → IsRefused (rule b (has v (shifted_by (opened x.adds) w))) y → IsRefused (rule e (abstraction_against (function_abs s f a v) t)) y
+against_body_refused e d b s f a v t g x w y is k l r p h =
+    subst (λ q. IsRefused q y) (sym (answered e s f a v t g is))
+    (past_refused _ _ _ x y r
+    (refused_past w y (bodied (with_own e x.own) a g.answer (InsideBody e v x)) (subst (λ z. Runs (body_type z a g.answer) (ok w)) k p)
+    (refused_here _ _ _ y (subst (λ z. IsRefused (rule z (has v (shifted_by (opened x.adds) w))) y) l h))))
+
+pub function_against : (e d b : Environment) (s : Span) (f : FieldPats) (a : RType) (v : Val) (t : PlainType) (g : Function) (x : OpenedFields) (w : PlainType) → answering e t ≡ Some g → d ≡ with_own e x.own → b ≡ with_fields e x.own x.adds → Runs (rule e (fields_against s f g.binders g.positional g.labelled)) (ok x) → Runs (body_type d a g.answer) (ok w) → Runs (rule b (has v (shifted_by (opened x.adds) w))) (ok tt) → Runs (rule e (abstraction_against (function_abs s f a v) t)) (ok tt)
+function_against e d b s f a v t g x w is k l r p h =
+    subst (λ q. Runs q (ok tt)) (sym (answered e s f a v t g is))
+    (part_ok r ((bodied (with_own e x.own) a g.answer (InsideBody e v x)).on_ok w (ok tt) (subst (λ z. Runs (body_type z a g.answer) (ok w)) k p)
+    (part_ok (subst (λ z. Runs (rule z (has v (shifted_by (opened x.adds) w))) (ok tt)) l h) give_)))
+
+-- what its body is asked where a result type is written and nothing goes against it
+pub typed_body_asked : (e d b : Environment) (s : Span) (f : FieldPats) (a : TypeTree) (v : Val) (g : TypedFields) (t : PlainType) → d ≡ with_own e g.own → b ≡ with_fields e g.own g.adds → IsWellAsked type_ e (abstraction_gives (function_abs s f (Some a) v)) → Runs (rule e (fields_give f)) (ok g) → Runs (expanded d a) (ok t) → IsWellAsked nothing_ b (has v (shifted_by (opened g.adds) t))
+typed_body_asked e d b s f a v g t k l h r p =
+    subst (λ z. IsWellAsked nothing_ z (has v (shifted_by (opened g.adds) t))) (sym l)
+    (asked_of (abstraction_gives (function_abs s f (Some a) v)) h (past_part r (go (kind_stop e.names (with_own e g.own).context a) (normal e.names (with_own e g.own).context a) (subst (λ z. Runs (expanded z a) (ok t)) k p))))
+  where
+    go : (o : Option Stop) (n : PlainType) → Runs {s = type_} (unless_stopped o (give n)) (ok t) → Asks type_ (unless_stopped o (check (with_fields e g.own g.adds) (has v (shifted_by (opened g.adds) n)) (formed e (argument_type g n) s))) nothing_ (with_fields e g.own g.adds) (has v (shifted_by (opened g.adds) t))
+    go None n give_ = this_part
+    go (Some x) n q = elim q [ ]
+
+-- THE TYPE OF AN ANSWER IS WELL FORMED
+
+sendable_formed : (ns : List (List ℕ)) (ks : List Kind) (t : PlainType) → IsWellFormed ns ks t → IfFormed ns ks (sendable t)
+sendable_formed ns ks types.Top w = tt
+sendable_formed ns ks types.Int w = tt
+sendable_formed ns ks types.Char w = tt
+sendable_formed ns ks types.Str w = tt
+sendable_formed ns ks types.Boolean w = tt
+sendable_formed ns ks (types.Var i) w = tt
+sendable_formed ns ks (types.Apply i ts) w = tt
+sendable_formed ns ks (types.Chan Respond t) w = w
+sendable_formed ns ks (types.Chan Write t) w = w
+sendable_formed ns ks (types.Chan Both t) w = w
+sendable_formed ns ks (types.Chan Read t) w = tt
+sendable_formed ns ks (types.Fields bs ps ls) w = tt
+sendable_formed ns ks (types.Rec t) w = tt
+
+answering_formed : (e : Environment) (t : PlainType) → IsRegular e → IsTypeIn e t → FunctionFormed e (answering e t)
+answering_formed e t r w =
+    let c = entries_context e.names e.context r.entries in
+    function_formed e (λ bs last. sendable (exposure (under (context_of e) bs) last)) (exposure (context_of e) t) (exposed_formed e t r w) (λ bs u h k.
+    let ks = kinds_under_is (context_of e) bs in
+    sendable_formed e.names (kinds_under (kinds_in e) bs) (exposure (under (context_of e) bs) u)
+    (subst (λ z. IsWellFormed e.names z (exposure (under (context_of e) bs) u)) ks
+    (exposure_formed e.names (under (context_of e) bs) u (formed_under e.names (context_of e) bs c h) (subst (λ z. IsWellFormed e.names z u) (sym ks) k))))
+
+pub result_formed : (e d : Environment) (s : Span) (f : FieldPats) (a : RType) (v : Val) (t : PlainType) (g : Function) (x : OpenedFields) → answering e t ≡ Some g → d ≡ with_own e x.own → IsWellAsked nothing_ e (abstraction_against (function_abs s f a v) t) → Runs (rule e (fields_against s f g.binders g.positional g.labelled)) (ok x) → IsTypeIn d g.answer
+result_formed e d s f a v t g x is k h r =
+    let w = subst (FunctionFormed e) is (answering_formed e t h.regular h.asked) in
+    let b = good_of (taken_asked e s f a v t g is h) r in
+    subst (λ z. IsTypeIn z g.answer) (sym k)
+    (subst (λ z. IsWellFormed e.names z g.answer) (sym (own_kinds e x.own ∙ ap (λ z. kinds_under (kinds_in e) z) b.0)) w.1)
+
+-- type variables, and then what the parts under them add
+pub fields_known : (e d b : Environment) (own : List KnownType) (x y : Extension) → d ≡ with_own e own → y ≡ x → b ≡ extended d y → b ≡ with_fields e own x
+fields_known e d b own x y k is h = h ∙ ap₂ extended k is ∙ own_then_parts e own x
+
+-- AS THE CODE HAS IT
+
+-- the type of a body outside so many variables, at its place
+pub outside_refused_at : (n m : ℕ) (t : PlainType) (s at : Span) (y : InferError) → n ≡ m → s ≡ at → IsRefused (outside n t s) y → IsRefused (outside m t at) y
+outside_refused_at n m t s at y h k p = subst (λ z. IsRefused (outside m t z) y) k (subst (λ z. IsRefused (outside z t s) y) h p)
+
+pub outside_given_at : (n m : ℕ) (t u : PlainType) (s at : Span) → n ≡ m → s ≡ at → Runs (outside n t s) (ok u) → Runs (outside m t at) (ok u)
+outside_given_at n m t u s at h k p = subst (λ z. Runs (outside m t z) (ok u)) k (subst (λ z. Runs (outside z t s) (ok u)) h p)
+
+-- what a type exposes to, by what is shown of it
+pub exposure_is : (e : Environment) (c : Context) (o : Option Ty) (t : Ty) (u : PlainType) → plain_context c ≡ e.context → IfNone o (exposure (type_context c) (plain t) ≡ plain t) → IfSome o (λ v. plain v ≡ exposure (type_context c) (plain t)) → u ≡ shown o t → exposure (context_of e) (plain t) ≡ u
+exposure_is e c o t u k n s is = ap (λ z. exposure (variables z) (plain t)) (sym k) ∙ sym (shown_is (exposure (type_context c) (plain t)) o t n s) ∙ sym is
+
+-- an abstraction against a type that exposes to a record
+pub against_record_answer : (e : Environment) (b : Abs) (s : Span) (f : FieldPats) (a : RType) (v : Val) (t : PlainType) (r : Record) (x : Result (Unit {0}) InferError) → b ≡ function_abs s f a v → exposure (context_of e) t ≡ plain_record r → IsAnswer (rule e (abstraction_against (function_abs s f a v) (plain_record r))) nothing x → IsAnswer (rule e (abstraction_against b t)) nothing x
+against_record_answer e b s f a v t r x is h k =
+    subst (λ z. IsAnswer (rule e (abstraction_against z t)) nothing x) (sym is)
+    (subst (λ z. IsAnswer z nothing x) (sym (exposed_rule e s f a v t (plain_record r) h (exposed_itself (context_of e) (plain_record r) refl))) k)
+
+pub against_record_asked : (e : Environment) (b : Abs) (s : Span) (f : FieldPats) (a : RType) (v : Val) (t : PlainType) (r : Record) → b ≡ function_abs s f a v → exposure (context_of e) t ≡ plain_record r → IsWellAsked nothing_ e (abstraction_against b t) → IsWellAsked nothing_ e (abstraction_against (function_abs s f a v) (plain_record r))
+against_record_asked e b s f a v t r is h k = exposed_asked e (function_abs s f a v) t (plain_record r) h (subst (λ z. IsWellAsked nothing_ e (abstraction_against z t)) is k)
+
+pub no_record_refused : (e : Environment) (b : Abs) (s : Span) (f : FieldPats) (a : RType) (v : Val) (t u : PlainType) → b ≡ function_abs s f a v → exposure (context_of e) t ≡ u → IsNoRecord u → Runs (rule e (abstraction_against b t)) (stuck Y8 s)
+no_record_refused e b s f a v t u is h n =
+    subst (λ z. Runs (rule e (abstraction_against z t)) (stuck Y8 s)) (sym is) (no_record e s f a v t (subst IsNoRecord (sym h) n))
+
+-- the function that a record answers
+pub record_answering : (e : Environment) (r : Record) (o : Option Function) → record_answers e r ≡ o → answering e (plain_record r) ≡ o
+record_answering e r o h = ap (function_by (λ bs last. sendable (exposure (under (context_of e) bs) last))) (exposed_itself (context_of e) (plain_record r) refl) ∙ h
+
+-- the fields of that record but for the last positional one
+pub fields_of_record : (s : Span) (f : FieldPats) (r : Record) (u : PlainType) (bs : List Bound) (ps : List Ty) (ls : List (Name × Ty)) → bs ≡ r.binders.items → ps ≡ take (length r.positional.items - 1) r.positional.items → ls ≡ r.labelled.items
+    → against_fields s f bs ps ls ≡ (let g = function_with r u in fields_against s f g.binders g.positional g.labelled)
+fields_of_record s f r u bs ps ls h i k = three (against_fields s f) h i k

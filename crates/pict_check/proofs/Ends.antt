@@ -17,7 +17,7 @@ use Rattle.pict_infer.specs.declared.error.InferError.TheVariants.{Named, Memory
 use Rattle.pict_infer.specs.Answering.{IsRefused, IsAnswer}
 use Rattle.pict_infer.specs.Asking.{IsWellAsked}
 use Rattle.pict_infer.specs.Steps.{below, expanded, limited}
-use Rattle.pict_infer.proofs.Through.{GoesOn, refused_past, unstopped, given, needed}
+use Rattle.pict_infer.proofs.Through.{GoesOn, refused_on, refused_past, unstopped, given, needed}
 
 -- what is well asked gives what is well formed
 pub good_of : {s : Sort} {e : Environment} {j : Judgement s} {x : rules.Result s} → IsWellAsked s e j → Runs (rule e j) (ok x) → IsGood e j x
@@ -47,6 +47,11 @@ ends_with e j k f g (Err Memory) h p = tt
 pub answer_past : {s t : Sort} {T : Type 0} {r : Rule s} {q : Rule t} {k : rules.Result s → Rule t} (f : T → rules.Result t) (x : rules.Result s) (a : Result T InferError) → GoesOn s t r q k → Runs r (ok x) → IsAnswer (k x) f a → IsAnswer q f a
 answer_past f x (Ok y) g p h = g.on_ok x (ok _) p h
 answer_past f x (Err y) g p h = refused_past x y g p h
+
+-- and the step is the last
+pub answer_end : {s t : Sort} {T : Type 0} {r : Rule s} {q : Rule t} {k : rules.Result s → Rule t} (f : T → rules.Result s) (g : T → rules.Result t) (a : Result T InferError) → GoesOn s t r q k → ((x : T) → Runs (k (f x)) (ok (g x))) → IsAnswer r f a → IsAnswer q g a
+answer_end f g (Ok x) w h p = w.on_ok (f x) (ok (g x)) p (h x)
+answer_end f g (Err y) w h p = refused_on y w p
 
 -- limits, subtypes and written types, each as a step
 pub limits : {t : Sort} (e : Environment) (u : PlainType) (at : Span) (r : Rule t) → GoesOn nothing_ t (limited e u at) (within_limits e u at r) (λ x. r)

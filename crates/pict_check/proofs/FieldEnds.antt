@@ -58,7 +58,7 @@ application_done g e s f vs x t r args a p h q k = past _ _ _ _ t a p (subst (λ
 
 -- FIELDS
 
-ensured : {s t : Sort} (b : Bool) (c : Code) (i : Span) {r : Rule s} {l : Rule t} {k : rules.Result s → Rule t} → GoesOn s t r l k → GoesOn s t (ensure b c i r) (ensure b c i l) k
+pub ensured : {s t : Sort} (b : Bool) (c : Code) (i : Span) {r : Rule s} {l : Rule t} {k : rules.Result s → Rule t} → GoesOn s t r l k → GoesOn s t (ensure b c i r) (ensure b c i l) k
 ensured true c i g = g
 ensured false c i g = refused
 
@@ -112,7 +112,7 @@ values_on {t = t} e s vs ls ps ms g k = record { on_ok = on_ok; on_stuck = on_st
 -- VALUES OF FIELDS
 
 -- what is given is what is answered
-given_is : (s : Sort) (x y : rules.Result s) → Runs (give x) (ok y) → y ≡ x
+pub given_is : (s : Sort) (x y : rules.Result s) → Runs (give x) (ok y) → y ≡ x
 given_is s x y give_ = refl
 
 -- a type that was formed is within the limits, and is the one that is given
@@ -127,13 +127,13 @@ formed_is e w u s h = go (size_stop e.context w s) h
 pub formed_on : {t : Sort} (e : Environment) (w : PlainType) (s : Span) (r : Rule t) → GoesOn type_ t (formed e w s) (within_limits e w s r) (λ x. r)
 formed_on e w s r = unstopped (size_stop e.context w s) (record { on_ok = λ x a p h. h; on_stuck = λ c i p. elim p [ ] })
 
-abbrev Given : Environment → Span → Val → PlainType → Found → Rule found_
+abbrev pub Given : Environment → Span → Val → PlainType → Found → Rule found_
 Given e s v t f = part e (gives v) (λ g. part e (given_fits s v t g (matched (context_of e) 0 t g f)) give)
 
-abbrev Had : Environment → Span → Val → PlainType → Found → Rule found_
+abbrev pub Had : Environment → Span → Val → PlainType → Found → Rule found_
 Had e s v t f = within_limits e (with_found f t) s (check e (has v (with_found f t)) (give f))
 
-value_rule : (e : Environment) (s : Span) (v : Val) (t : PlainType) (f : Found) (b : Bool) → mentions_missing f t ≡ b → rule e (value_fits s v t f) ≡ (if b then Given e s v t f else Had e s v t f)
+pub value_rule : (e : Environment) (s : Span) (v : Val) (t : PlainType) (f : Found) (b : Bool) → mentions_missing f t ≡ b → rule e (value_fits s v t f) ≡ (if b then Given e s v t f else Had e s v t f)
 value_rule e s v t f b h = ap (λ (z : Bool). if z then Given e s v t f else Had e s v t f) h
 
 pub value_gives_asked : (e : Environment) (s : Span) (v : Val) (t : PlainType) (f : Found) → mentions_missing f t ≡ true → IsWellAsked found_ e (value_fits s v t f) → IsWellAsked type_ e (gives v)

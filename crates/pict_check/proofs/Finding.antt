@@ -81,10 +81,10 @@ pub missing_refused : (bs : PlainBounds) (xs : List (Option Ty)) (i : ℕ) (d : 
 missing_refused bs xs i d s n h = rw (one_missing bs xs i d n h) refuse_
 
 -- loops over what is found: one type field more
-next_taken : {A : Type 0} (xs : List A) (i : ℕ) (d : A) → i < length xs → d ≡ get_or xs i d → take (i + 1) xs ≡ take i xs ++ d ∷ []
+pub next_taken : {A : Type 0} (xs : List A) (i : ℕ) (d : A) → i < length xs → d ≡ get_or xs i d → take (i + 1) xs ≡ take i xs ++ d ∷ []
 next_taken xs i d h is = rw (add-one, take-suc xs i d h) (ap (λ z. take i xs ++ z ∷ []) (sym is))
 
-args_more : (args : List Arg) (a : Arg) → plain_args (args ++ a ∷ []) ≡ plain_args args ++ plain_arg a ∷ []
+pub args_more : (args : List Arg) (a : Arg) → plain_args (args ++ a ∷ []) ≡ plain_args args ++ plain_arg a ∷ []
 args_more [] a = refl
 args_more (b ∷ args) a = ap (λ z. plain_arg b ∷ z) (args_more args a)
 

@@ -30,12 +30,12 @@ pub frame_at : (o : Operator) (fs : List Found) (i : ℕ) (d : Found) → i < le
 frame_at o fs i d h = get_or-map (found_by o) fs i d (found_by o d) h
 
 -- as many are found as there are type fields
-kinds_length : (bs : PlainBounds) (xs : List (Option Ty)) → length (kinds_found (slots bs xs)) ≡ length xs
+pub kinds_length : (bs : PlainBounds) (xs : List (Option Ty)) → length (kinds_found (slots bs xs)) ≡ length xs
 kinds_length bs [] = refl
 kinds_length bs (None ∷ xs) = ap suc (kinds_length (later_bounds bs) xs)
 kinds_length bs (Some t ∷ xs) = ap suc (kinds_length (later_bounds bs) xs)
 
-fields_length : (bs : List Bound) → length (kinds_of_fields (plain_bounds bs)) ≡ length bs
+pub fields_length : (bs : List Bound) → length (kinds_of_fields (plain_bounds bs)) ≡ length bs
 fields_length [] = refl
 fields_length (b ∷ bs) = ap suc (fields_length bs)
 

@@ -38,6 +38,16 @@ has_yes e s c v w t y p h = past_refused _ (is_condition c) _ tt y p (refused_he
 pub has_end : (e : Environment) (s : Span) (c v w : Val) (t : PlainType) (r : Result (Unit {0}) InferError) → Runs (gives_below e c Boolean Y12) (ok tt) → Runs (rule e (has v t)) (ok tt) → IsAnswer (rule e (has w t)) nothing r → IsAnswer (rule e (has (if_val s c v w) t)) nothing r
 has_end e s c v w t r p q h = past _ (is_condition c) _ _ tt r p (past _ _ _ _ tt r q (ends_with _ _ _ _ _ r (λ x. give_) h))
 
+-- a value that gives a subtype of the type, by its form
+pub other_asked : (e : Environment) (v w : Val) (t : PlainType) → v ≡ w → rule e (has w t) ≡ gives_below e w t Y4 → IsWellAsked nothing_ e (has v t) → IsWellAsked type_ e (gives v)
+other_asked e v w t is k h =
+    subst (λ (x : Val). IsWellAsked type_ e (gives x)) (sym is)
+    (asked_of (has w t) (subst (λ (x : Val). IsWellAsked nothing_ e (has x t)) is h) (subst (λ z. Asks nothing_ z type_ e (gives w)) (sym k) this_part))
+
+pub other_end : (e : Environment) (v w : Val) (t : PlainType) (r : Result (Unit {0}) InferError) → v ≡ w → rule e (has w t) ≡ gives_below e w t Y4 → IsAnswer (gives_below e v t Y4) nothing r → IsAnswer (rule e (has v t)) nothing r
+other_end e v w t r is k h =
+    subst (λ (x : Val). IsAnswer (rule e (has x t)) nothing r) (sym is) (subst (λ z. IsAnswer z nothing r) (sym k) (subst (λ (x : Val). IsAnswer (gives_below e x t Y4) nothing r) is h))
+
 -- a lambda, against a type that is sent on, and against another
 if_sent_some : (t r : PlainType) (k : PlainType → Rule nothing_) (d : Rule nothing_) → sent t ≡ Some r → if_sent t k d ≡ k r
 if_sent_some Top r k d h = absurd (cc)

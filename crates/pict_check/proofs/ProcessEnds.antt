@@ -1,5 +1,5 @@
 -- Processes, one lemma for each way that a body ends.
-use Rattle.std.proofs.Common.{ℕ, ◌+◌, ◌<◌, ◌≤◌, List, length, get_or, take, Bool, true, false, Result}
+use Rattle.std.proofs.Common.{◌≡◌, ℕ, ◌+◌, ◌<◌, ◌≤◌, List, length, get_or, take, Bool, true, false, subst, Result}
 use Rattle.pict_syntax.specs.declared.code.Code.{Code}
 use Rattle.pict_syntax.specs.declared.code.Code.TheVariants.{Y1, Y2, Y3, Y12}
 use Rattle.pict_syntax.specs.declared.span.Span.{Span}
@@ -11,16 +11,17 @@ use Rattle.pict_types.specs.Types.{Capability, PlainType, Boolean}
 use Rattle.pict_types.specs.Types as types
 use Rattle.pict_sub.specs.Exposing.{exposure}
 use Rattle.pict_rules.specs.Environments.{Environment, context_of}
-use Rattle.pict_rules.specs.Rules.{nothing_, type_, environment_, gives, has, is_condition, abstraction_against, declarations, process, processes, receives, Rule, give, ok, ensure}
+use Rattle.pict_rules.specs.Rules.{Sort, Judgement, nothing_, type_, environment_, gives, has, is_condition, abstraction_against, declarations, process, processes, receives, Rule, give, ok, stuck, ensure}
 use Rattle.pict_rules.specs.Clauses.{check, done, gives_below, may_receive, may_send, need_channel}
 use Rattle.pict_rules.specs.Typing.{rule}
-use Rattle.pict_rules.specs.Derivations.{Runs, give_, part_ok}
-use Rattle.pict_rules.specs.Reached.{this_part, past_part}
+use Rattle.pict_rules.specs.Derivations.{Runs, give_, refuse_, part_ok}
+use Rattle.pict_rules.specs.Reached.{Asks, this_part, past_part}
 use Rattle.pict_infer.specs.declared.error.InferError.{InferError}
 use Rattle.pict_infer.specs.Answering.{IsRefused, IsAnswer, nothing}
 use Rattle.pict_infer.specs.Asking.{IsWellAsked}
 use Rattle.pict_infer.proofs.Asked.{asked_of}
 use Rattle.pict_infer.proofs.Through.{GoesOn, given, refused, refused_on}
+use Rattle.pict_check.specs.Declaring.{IsNoChannel}
 use Rattle.pict_check.specs.Lines.{channel_messages}
 use Rattle.pict_check.proofs.Ends.{answer_past, ends_with, past, past_refused, refused_here}
 use Rattle.pict_check.proofs.Rows.{row_all, row_asked, row_more, row_refused}
@@ -99,6 +100,46 @@ used may c at k (types.Chan m u) = go (may m)
 used may c at k (types.Fields bs ps ls) = refused
 used may c at k (types.Rec u) = refused
 
+-- what is asked then
+used_asks : {s : Sort} {e : Environment} {j : Judgement s} (may : Capability → Bool) (c : Code) (at : Span) (k : PlainType → Rule nothing_) (t u : PlainType) → Runs (channel_messages may c at t) (ok u) → Asks nothing_ (k u) s e j → Asks nothing_ (Used may c at k t) s e j
+used_asks may c at k types.Top u h q = elim h [ ]
+used_asks may c at k types.Int u h q = elim h [ ]
+used_asks may c at k types.Char u h q = elim h [ ]
+used_asks may c at k types.Str u h q = elim h [ ]
+used_asks may c at k types.Boolean u h q = elim h [ ]
+used_asks may c at k (types.Var i) u h q = elim h [ ]
+used_asks may c at k (types.Apply i ts) u h q = elim h [ ]
+used_asks {s = s} {e = e} {j = j} may c at k (types.Chan m v) u h q = go (may m) u h q
+  where
+    go : (b : Bool) (w : PlainType) → Runs {s = type_} (ensure b c at (give v)) (ok w) → Asks nothing_ (k w) s e j → Asks nothing_ (ensure b c at (k v)) s e j
+    go true w give_ r = r
+    go false w p r = elim p [ ]
+used_asks may c at k (types.Fields bs ps ls) u h q = elim h [ ]
+used_asks may c at k (types.Rec v) u h q = elim h [ ]
+
+-- what a call says of a channel's messages where as much is known, and the channel stands
+pub messages_there : (P : Rule type_ → Type 0) (may : Capability → Bool) (c : Code) (d e : Environment) (at place : Span) (t : PlainType) → d ≡ e → at ≡ place → P (channel_messages may c at (exposure (context_of d) t)) → P (channel_messages may c place (exposure (context_of e) t))
+messages_there P may c d e at place t p q h = subst (λ s. P (channel_messages may c s (exposure (context_of e) t))) q (subst (λ z. P (channel_messages may c at (exposure (context_of z) t))) p h)
+
+-- whether it is a channel
+pub no_channel : (may : Capability → Bool) (c : Code) (at : Span) (t : PlainType) → IsNoChannel t → Runs (channel_messages may c at t) (stuck Y1 at)
+no_channel may c at types.Top h = refuse_
+no_channel may c at types.Int h = refuse_
+no_channel may c at types.Char h = refuse_
+no_channel may c at types.Str h = refuse_
+no_channel may c at types.Boolean h = refuse_
+no_channel may c at (types.Var i) h = refuse_
+no_channel may c at (types.Apply i ts) h = refuse_
+no_channel may c at (types.Chan m u) h = absurd h
+no_channel may c at (types.Fields bs ps ls) h = refuse_
+no_channel may c at (types.Rec u) h = refuse_
+
+pub may_not : (may : Capability → Bool) (c : Code) (at : Span) (t u : PlainType) (m : Capability) → t ≡ types.Chan m u → may m ≡ false → Runs (channel_messages may c at t) (stuck c at)
+may_not may c at t u m h k = rw (h, k) refuse_
+
+pub may_be : (may : Capability → Bool) (c : Code) (at : Span) (t u : PlainType) (m : Capability) → t ≡ types.Chan m u → may m ≡ true → Runs (channel_messages may c at t) (ok u)
+may_be may c at t u m h k = rw (h, k) give_
+
 pub send_channel_asked : (e : Environment) (s : Span) (c : Chan) (v : Val) → IsWellAsked nothing_ e (process (send_proc s c v)) → IsWellAsked type_ e (gives (of_chan c))
 send_channel_asked e s c v h = asked_of (process (send_proc s c v)) h this_part
 
@@ -111,6 +152,10 @@ send_refused e s c v t y p h = past_refused _ _ _ t y p (refused_on y (used may_
 pub send_end : (e : Environment) (s : Span) (c : Chan) (v : Val) (t u : PlainType) (r : Result (Unit {0}) InferError) → Runs (rule e (gives (of_chan c))) (ok t) → Runs (channel_messages may_send Y2 (chan_span c) (exposure (context_of e) t)) (ok u) → IsAnswer (rule e (has v u)) nothing r → IsAnswer (rule e (process (send_proc s c v))) nothing r
 send_end e s c v t u r p q h =
     past _ _ _ _ t r p (answer_past _ u r (used may_send Y2 (chan_span c) (λ u. check e (has v u) done) (exposure (context_of e) t)) q (ends_with _ _ _ _ _ r (λ x. give_) h))
+
+pub message_asked : (e : Environment) (s : Span) (c : Chan) (v : Val) (t u : PlainType) → IsWellAsked nothing_ e (process (send_proc s c v)) → Runs (rule e (gives (of_chan c))) (ok t)
+    → Runs (channel_messages may_send Y2 (chan_span c) (exposure (context_of e) t)) (ok u) → IsWellAsked nothing_ e (has v u)
+message_asked e s c v t u a p q = asked_of (process (send_proc s c v)) a (past_part p (used_asks may_send Y2 (chan_span c) (λ w. check e (has v w) done) (exposure (context_of e) t) u q this_part))
 
 pub receives_channel_asked : (e : Environment) (c : Chan) (a : Abs) → IsWellAsked nothing_ e (receives c a) → IsWellAsked type_ e (gives (of_chan c))
 receives_channel_asked e c a h = asked_of (receives c a) h this_part
@@ -125,6 +170,10 @@ pub receives_end : (e : Environment) (c : Chan) (a : Abs) (t u : PlainType) (r :
 receives_end e c a t u r p q h =
     past _ _ _ _ t r p (answer_past _ u r (used may_receive Y3 (chan_span c) (λ u. check e (abstraction_against a u) done) (exposure (context_of e) t)) q (ends_with _ _ _ _ _ r (λ x. give_) h))
 
+pub receiver_asked : (e : Environment) (c : Chan) (a : Abs) (t u : PlainType) → IsWellAsked nothing_ e (receives c a) → Runs (rule e (gives (of_chan c))) (ok t)
+    → Runs (channel_messages may_receive Y3 (chan_span c) (exposure (context_of e) t)) (ok u) → IsWellAsked nothing_ e (abstraction_against a u)
+receiver_asked e c a t u h p q = asked_of (receives c a) h (past_part p (used_asks may_receive Y3 (chan_span c) (λ w. check e (abstraction_against a w) done) (exposure (context_of e) t) u q this_part))
+
 pub receive_asked : (e : Environment) (s : Span) (c : Chan) (a : Abs) → IsWellAsked nothing_ e (process (receive_proc s c a)) → IsWellAsked nothing_ e (receives c a)
 receive_asked e s c a h = asked_of (process (receive_proc s c a)) h this_part
 
@@ -136,3 +185,9 @@ receive_end e s c a r h = ends_with _ _ _ _ _ r (λ x. give_) h
 
 pub serve_end : (e : Environment) (s : Span) (c : Chan) (a : Abs) (r : Result (Unit {0}) InferError) → IsAnswer (rule e (receives c a)) nothing r → IsAnswer (rule e (process (serve_proc s c a))) nothing r
 serve_end e s c a r h = ends_with _ _ _ _ _ r (λ x. give_) h
+
+pub receive_refused : (e : Environment) (s : Span) (c : Chan) (a : Abs) (y : InferError) → IsRefused (rule e (receives c a)) y → IsRefused (rule e (process (receive_proc s c a))) y
+receive_refused e s c a y h = refused_here _ _ _ y h
+
+pub serve_refused : (e : Environment) (s : Span) (c : Chan) (a : Abs) (y : InferError) → IsRefused (rule e (receives c a)) y → IsRefused (rule e (process (serve_proc s c a))) y
+serve_refused e s c a y h = refused_here _ _ _ y h

@@ -74,7 +74,7 @@ declarations_row e = record {
 }
 
 -- how many values there are
-counted_on : (vs : Vals) (xs : List RVal) → count_vals (vals_on vs xs) ≡ count_vals vs + length xs
+pub counted_on : (vs : Vals) (xs : List RVal) → count_vals (vals_on vs xs) ≡ count_vals vs + length xs
 unfolding vals_on
 counted_on vs [] = omega arith
 counted_on vs (x ∷ xs) = omega (arith, counted_on (more_vals vs (val_of x)) xs)

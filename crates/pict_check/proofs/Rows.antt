@@ -27,7 +27,7 @@ refused_on {e = e} w xs (z ∷ ys) (Named c i) h =
     (refused_on w (xs ++ z ∷ []) ys (Named c i) (subst (λ r. Runs r (stuck c i)) (sym (w.more xs z)) (part_stuck h)))
 refused_on w xs (z ∷ ys) Memory h = tt
 
-one_more : {A : Type 0} (xs : List A) (i : ℕ) (d : A) → i < length xs → take (i + 1) xs ≡ take i xs ++ get_or xs i d ∷ []
+pub one_more : {A : Type 0} (xs : List A) (i : ℕ) (d : A) → i < length xs → take (i + 1) xs ≡ take i xs ++ get_or xs i d ∷ []
 one_more xs i d h = rw (add-one, take-suc xs i d h) refl
 
 all_of : {A : Type 0} (xs : List A) (i : ℕ) (d : A) → i < length xs → xs ≡ (take i xs ++ get_or xs i d ∷ []) ++ drop (i + 1) xs
@@ -47,16 +47,23 @@ pub row_all : {A : Type 0} {s : Sort} {e : Environment} (w : Row A s e) (xs : Li
 row_all {e = e} w xs i x h p = subst (λ z. Runs (rule e (w.judged z)) (ok x)) (take_all i xs h) p
 
 -- the first ones are well asked where all are
-first_asked : {A : Type 0} {s : Sort} {e : Environment} (w : Row A s e) (xs ys : List A) → IsWellAsked s e (w.judged (xs ++ ys)) → IsWellAsked s e (w.judged xs)
+pub first_asked : {A : Type 0} {s : Sort} {e : Environment} (w : Row A s e) (xs ys : List A) → IsWellAsked s e (w.judged (xs ++ ys)) → IsWellAsked s e (w.judged xs)
 first_asked {s = s} {e = e} w xs [] h = subst (λ z. IsWellAsked s e (w.judged z)) (append-nil xs) h
 first_asked {s = s} {e = e} w xs (z ∷ ys) h =
     asked_of (w.judged (xs ++ z ∷ []))
     (first_asked w (xs ++ z ∷ []) ys (subst (λ l. IsWellAsked s e (w.judged l)) (sym (append_assoc xs (z ∷ []) ys)) h))
     (subst (λ r. Asks s r s e (w.judged xs)) (sym (w.more xs z)) this_part)
 
+-- so many, and one more of them
+pub row_first : {A : Type 0} {s : Sort} {e : Environment} (w : Row A s e) (xs : List A) (i : ℕ) (a : A) → i < length xs → IsWellAsked s e (w.judged xs) → IsWellAsked s e (w.judged (take i xs ++ get_or xs i a ∷ []))
+row_first {s = s} {e = e} w xs i a h q = first_asked w (take i xs ++ get_or xs i a ∷ []) (drop (i + 1) xs) (subst (λ z. IsWellAsked s e (w.judged z)) (all_of xs i a h) q)
+
+pub first_of : {A : Type 0} {s : Sort} {e : Environment} (w : Row A s e) (xs : List A) (i : ℕ) → IsWellAsked s e (w.judged xs) → IsWellAsked s e (w.judged (take i xs))
+first_of {s = s} {e = e} w xs i q = first_asked w (take i xs) (drop i xs) (subst (λ z. IsWellAsked s e (w.judged z)) (sym (take-append-drop i xs)) q)
+
 -- and what is asked of the next one
 pub row_asked : {A : Type 0} {s t : Sort} {e d : Environment} {j : Judgement t} (w : Row A s e) (xs : List A) (i : ℕ) (a : A) (x : rules.Result s) → i < length xs → IsWellAsked s e (w.judged xs) → Runs (rule e (w.judged (take i xs))) (ok x) → Asks s (w.next (take i xs) (get_or xs i a) x) t d j → IsWellAsked t d j
 row_asked {s = s} {t = t} {e = e} {d = d} {j = j} w xs i a x h q p k =
     asked_of (w.judged (take i xs ++ get_or xs i a ∷ []))
-    (first_asked w (take i xs ++ get_or xs i a ∷ []) (drop (i + 1) xs) (subst (λ z. IsWellAsked s e (w.judged z)) (all_of xs i a h) q))
+    (row_first w xs i a h q)
     (subst (λ r. Asks s r t d j) (sym (w.more (take i xs) (get_or xs i a))) (past_part p k))

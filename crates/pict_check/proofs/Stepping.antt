@@ -3,7 +3,7 @@ use Rattle.std.proofs.Common.{◌≡◌, ◌-◌, ℕ, true, false, [], ◌∷�
 use Rattle.pict_syntax.specs.declared.code.Code.{Code}
 use Rattle.pict_syntax.specs.declared.code.Code.TheVariants.{Y11, Y13, Y14}
 use Rattle.pict_syntax.specs.declared.span.Span.{Span}
-use Rattle.pict_types.specs.Types.{PlainType, Top, Int, Char, Str, Boolean, Var, Apply, Chan, Fields, Rec, PlainArg}
+use Rattle.pict_types.specs.Types.{PlainType, no_type, types, Top, Int, Char, Str, Boolean, Var, Apply, Chan, Fields, Rec, PlainArg}
 use Rattle.pict_types.specs.Recursion.{IsRecursive}
 use Rattle.pict_types.specs.Mentions.{lowered, mentions_innermost}
 use Rattle.pict_types.proofs.Renamed.{rename_same}
@@ -14,7 +14,9 @@ use Rattle.pict_types.specs.declared.limits.SizeError.{SizeError}
 use Rattle.pict_types.specs.declared.limits.SizeError.TheVariants.{TooBig}
 use Rattle.pict_normal.specs.Normal.{Stop, size_stop}
 use Rattle.pict_rules.specs.Environments.{Environment, context_of}
-use Rattle.pict_rules.specs.Rules.{Sort, nothing_, type_, arguments_, Rule, Answer, give, refuse, either, is_subtype, ok, stuck, unless_stopped, within_limits}
+use Rattle.pict_syntax.specs.Grammar.{type_span}
+use Rattle.pict_syntax.specs.Trees.{TypeTree}
+use Rattle.pict_rules.specs.Rules.{Sort, nothing_, type_, types_, arguments_, Rule, Answer, give, refuse, either, is_subtype, ok, stuck, unless_stopped, within_limits}
 use Rattle.pict_rules.specs.Rules as rules
 use Rattle.pict_rules.specs.Clauses.{need_recursive}
 use Rattle.pict_rules.specs.Derivations.{Runs, give_, refuse_, yes, no}
@@ -22,13 +24,13 @@ use Rattle.pict_sub.specs.Subtyping.{IsSubtype}
 use Rattle.pict_infer.specs.declared.error.InferError.{InferError}
 use Rattle.pict_infer.specs.declared.error.InferError.TheVariants.{Named, Memory}
 use Rattle.pict_infer.specs.Answering.{IsAnswer, IsRefused, of_kind_error, of_size_error}
-use Rattle.pict_infer.specs.Steps.{limited, recursive, unfolded}
+use Rattle.pict_infer.specs.Steps.{expanded, limited, recursive, unfolded}
 use Rattle.pict_normal.specs.declared.stops.KindError.{KindError}
 use Rattle.pict_normal.specs.Refusals.{IsRefusal}
 use Rattle.pict_infer.proofs.Forming.{clear, expanded_ok, stopped, stopped_by, unfolded_err}
-use Rattle.pict_infer.proofs.Through.{refused_on}
-use Rattle.pict_check.specs.Lines.{either_type, fold_of, formed, outside}
-use Rattle.pict_check.proofs.Ends.{limits}
+use Rattle.pict_infer.proofs.Through.{GoesOn, cased_recursive, given, refused_on, refused_past, unstopped}
+use Rattle.pict_check.specs.Lines.{either_type, fold_from, fold_written, formed, outside}
+use Rattle.pict_check.proofs.Ends.{expands, limits}
 use Rattle.pict_normal.proofs.Expanded.{size_clear}
 
 -- a type within the limits is formed
@@ -81,17 +83,36 @@ recursive_is (Chan m u) s h = never_given h
 recursive_is (Fields bs ps ls) s h = never_given h
 recursive_is (Rec u) s h = tt
 
-pub fold_unfolds : {T : Type 0} (f : T → PlainType) (e : Environment) (u : PlainType) (s : Span) (r : Result T InferError) → IsRecursive u → IsAnswer (unfolded e u s) f r → IsAnswer (fold_of e u s) f r
-fold_unfolds f e Top s r k h = absurd k
-fold_unfolds f e Int s r k h = absurd k
-fold_unfolds f e Char s r k h = absurd k
-fold_unfolds f e Str s r k h = absurd k
-fold_unfolds f e Boolean s r k h = absurd k
-fold_unfolds f e (Var i) s r k h = absurd k
-fold_unfolds f e (Apply i ts) s r k h = absurd k
-fold_unfolds f e (Chan m u) s r k h = absurd k
-fold_unfolds f e (Fields bs ps ls) s r k h = absurd k
-fold_unfolds f e (Rec u) s r k h = h
+pub fold_unfolds : {T : Type 0} (f : T → PlainType) (e : Environment) (u : PlainType) (at s : Span) (r : Result T InferError) → IsRecursive u → IsAnswer (unfolded e u s) f r → IsAnswer (fold_from e u at s) f r
+fold_unfolds f e Top at s r k h = absurd k
+fold_unfolds f e Int at s r k h = absurd k
+fold_unfolds f e Char at s r k h = absurd k
+fold_unfolds f e Str at s r k h = absurd k
+fold_unfolds f e Boolean at s r k h = absurd k
+fold_unfolds f e (Var i) at s r k h = absurd k
+fold_unfolds f e (Apply i ts) at s r k h = absurd k
+fold_unfolds f e (Chan m u) at s r k h = absurd k
+fold_unfolds f e (Fields bs ps ls) at s r k h = absurd k
+fold_unfolds f e (Rec u) at s r k h = h
+
+-- a written type, and then its unfolding
+abbrev Pair : Environment → Span → PlainType → Span → Rule types_
+Pair e at t s = need_recursive t Y13 at (λ u. within_limits e u s (give (types t (types u no_type))))
+
+folded : (e : Environment) (a : TypeTree) (s : Span) → GoesOn type_ types_ (expanded e a) (fold_written e a s) (λ t. Pair e (type_span a) t s)
+folded e a s = expands e a (λ t. Pair e (type_span a) t s)
+
+pair : (e : Environment) (at : Span) (t : PlainType) (s : Span) → GoesOn type_ types_ (fold_from e t at s) (Pair e at t s) (λ u. give (types t (types u no_type)))
+pair e at t s = cased_recursive t Y13 at (λ u. unstopped (size_stop e.context u s) given)
+
+pub fold_expands : (e : Environment) (a : TypeTree) (s : Span) (y : InferError) → IsRefused (expanded e a) y → IsRefused (fold_written e a s) y
+fold_expands e a s y h = refused_on y (folded e a s) h
+
+pub fold_stuck : (e : Environment) (a : TypeTree) (s : Span) (t : PlainType) (y : InferError) → Runs (expanded e a) (ok t) → IsRefused (fold_from e t (type_span a) s) y → IsRefused (fold_written e a s) y
+fold_stuck e a s t y p h = refused_past t y (folded e a s) p (refused_on y (pair e (type_span a) t s) h)
+
+pub fold_formed : (e : Environment) (a : TypeTree) (s : Span) (t u : PlainType) → Runs (expanded e a) (ok t) → Runs (fold_from e t (type_span a) s) (ok u) → Runs (fold_written e a s) (ok (types t (types u no_type)))
+fold_formed e a s t u p h = (folded e a s).on_ok t (ok (types t (types u no_type))) p ((pair e (type_span a) t s).on_ok u (ok (types t (types u no_type))) h give_)
 
 -- types outside some variables
 pub outside_no : (n : ℕ) (t : PlainType) (s : Span) → mentions_innermost n t ≡ true → Runs (outside n t s) (stuck Y14 s)

@@ -1,5 +1,5 @@
 -- What values give and have, one lemma for each way that a body ends.
-use Rattle.std.proofs.Common.{Result}
+use Rattle.std.proofs.Common.{◌≡◌, subst, Result}
 use Rattle.pict_syntax.specs.declared.code.Code.{Code}
 use Rattle.pict_syntax.specs.declared.code.Code.TheVariants.{Y12}
 use Rattle.pict_syntax.specs.declared.span.Span.{Span}
@@ -25,6 +25,10 @@ use Rattle.pict_check.proofs.Ends.{past, past_refused, refused_here}
 -- a value gives a subtype of a type
 pub below_end : (e : Environment) (v : Val) (t u : PlainType) (c : Code) (r : Result (Unit {0}) InferError) → Runs (rule e (gives v)) (ok u) → IsAnswer (below e u t c (val_span v)) nothing r → IsAnswer (gives_below e v t c) nothing r
 below_end e v t u c r p h = past _ _ _ _ u r p h
+
+-- the same, where the type is compared in an environment as before, at the value's place
+pub below_there : (d e : Environment) (v : Val) (t u : PlainType) (c : Code) (at : Span) (r : Result (Unit {0}) InferError) → d ≡ e → at ≡ val_span v → Runs (rule e (gives v)) (ok u) → IsAnswer (below d u t c at) nothing r → IsAnswer (gives_below e v t c) nothing r
+below_there d e v t u c at r h is p k = below_end e v t u c r p (subst (λ (x : Environment). IsAnswer (below x u t c (val_span v)) nothing r) h (subst (λ s. IsAnswer (below d u t c s) nothing r) is k))
 
 -- a conditional
 pub test_asked : (e : Environment) (s : Span) (c v w : Val) → IsWellAsked type_ e (gives (if_val s c v w)) → IsWellAsked type_ e (gives c)

@@ -6,3 +6,9 @@ pub mod Records
 pub mod Judging
 pub mod Chains
 pub mod Operators
+pub mod Definitions
+pub mod Nesting
+pub mod Fields
+pub mod Folds
+pub mod Declaring
+pub mod Refused

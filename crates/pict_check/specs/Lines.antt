@@ -70,6 +70,14 @@ within_one e s b earlier a at = within_bound e s b earlier a Y9 at done
 abbrev pub within_all : Environment → Span → PlainBounds → List PlainArg → Rule nothing_
 within_all e s bs args = within_bounds e s bs [] args Y9 done
 
+-- a type is a subtype of the one that is expected, if any
+abbrev pub as_expected : Environment → Option PlainType → PlainType → Span → Rule nothing_
+as_expected e x u s = expect e x u Y4 s done
+
+-- an argument that is written at a place, for a type field with this bound
+abbrev pub argument_fits : Environment → Span → Span → PlainBound → List PlainArg → PlainArg → Rule nothing_
+argument_fits e s at b args a = ensure (is_of_kind a b) K1 at (within_one e s b args a at)
+
 -- a written type argument, and one after the earlier ones, for a type field with this bound
 abbrev pub argument_expanded : Environment → TypeTree → Rule arguments_
 argument_expanded e t = expand_argument e t (λ a. give (a ∷ []))
@@ -81,17 +89,24 @@ argument_after e s t b args =
     within_bound e s b args a Y9 (type_span t) (
     give (args ++ a ∷ []))))
 
+-- the unfolding of a recursive type, which is at one place, for the fold at the other
+abbrev pub fold_from : Environment → PlainType → Span → Span → Rule type_
+fold_from e t at s = need_recursive t Y13 at (λ u. within_limits e u s (give u))
+
 -- the unfolding of a recursive type to go by, and an annotation with its unfolding
 abbrev pub fold_of : Environment → PlainType → Span → Rule type_
-fold_of e t s = need_recursive t Y13 s (λ u. within_limits e u s (give u))
+fold_of e t s = fold_from e t s s
 
-abbrev pub fold_annotated : Environment → RType → Span → Rule types_
-fold_annotated e None s = refuse Y7 s
-fold_annotated e (Some a) s =
+abbrev pub fold_written : Environment → TypeTree → Span → Rule types_
+fold_written e a s =
     expand e a (λ t.
     need_recursive t Y13 (type_span a) (λ u.
     within_limits e u s (
     give (types t (types u no_type)))))
+
+abbrev pub fold_annotated : Environment → RType → Span → Rule types_
+fold_annotated e None s = refuse Y7 s
+fold_annotated e (Some a) s = fold_written e a s
 
 -- how many type variables are known
 abbrev pub variables : Environment → ℕ

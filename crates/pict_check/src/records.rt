@@ -1,29 +1,34 @@
 // The types of records, records with arguments put in, and written type arguments.
 
-ghost use Rattle.std.specs.Prelude.{◌≡◌, ◌∷◌, [], IfOk};
-ghost use Rattle.pict_syntax.specs.PlainTrees.{type_of};
-ghost use Rattle.pict_types.specs.Kinds.{ArgIsWellFormed};
-ghost use Rattle.pict_types.specs.Instances.{ArgsAreWellFormed};
+ghost use Rattle.std.specs.Prelude.{◌≡◌, ◌≤◌, ◌++◌, ◌∷◌, [], length, IfOk};
+ghost use Rattle.pict_syntax.specs.PlainTrees.{type_of, types_on};
+ghost use Rattle.pict_syntax.specs.Trees.{no_types};
 ghost use Rattle.pict_types.specs.Plain.{plain, plain_arg, plain_args, plain_bound, plain_bounds, plain_labels, plain_record, plain_types};
 ghost use Rattle.pict_types.specs.Replacing.{FitTheirFields};
 ghost use Rattle.pict_types.specs.Types.{Fields, no_bound};
 ghost use Rattle.pict_normal.specs.Written.{record_with};
 ghost use Rattle.pict_scope.specs.DistinctLabels.{HasDistinctLabels};
 ghost use Rattle.pict_rules.specs.Clauses.{is_of_kind};
-ghost use Rattle.pict_rules.specs.Regular.{IsTypeIn, kinds_in};
-ghost use Rattle.pict_infer.specs.Answering.{IsAnswer};
+ghost use Rattle.pict_rules.specs.Regular.{IsTypeIn};
+ghost use Rattle.pict_rules.specs.Rules.{arguments_, written_arguments};
+ghost use Rattle.pict_rules.specs.Typing.{rule};
+ghost use Rattle.pict_infer.specs.Answering.{IsAnswer, nothing};
+ghost use Rattle.pict_infer.specs.Asking.{IsWellAsked};
 ghost use Rattle.pict_infer.specs.Environments.{environment_of};
-ghost use Rattle.pict_check.specs.Lines.{argument_expanded, formed};
+ghost use Rattle.pict_check.specs.Fields.{AreArgsIn, IsArgIn, IsBoundUnder};
+ghost use Rattle.pict_check.specs.Lines.{argument_after, argument_expanded, argument_fits, formed};
 
+use crate::fields::within_bound;
 use crate::parts::limited;
+use crate::spans::type_span;
 use pict_infer::{Env, InferError, refusal, size_refusal};
 use pict_normal::{expand_arg, instantiate};
-use pict_syntax::{Name, Span, TypeTree};
+use pict_syntax::{Code, Name, Span, TypeTree};
 use pict_types::{Arg, Bound, Record, Ty};
 use std::alloc::Global;
 
 /// The record type of these fields.
-fn fields_type(alloc: Global, positional: Vec<Ty>, labelled: Vec<(Name, Ty)>) -> Ty
+pub fn fields_type(alloc: Global, positional: Vec<Ty>, labelled: Vec<(Name, Ty)>) -> Ty
     ensures { plain result ≡ Fields no_bound (plain_types positional.items) (plain_labels labelled.items) }
 {
     let binders = Vec::new(alloc);
@@ -57,7 +62,7 @@ pub fn record_instance(
     span: Span,
 ) -> Result<Record, InferError>
     requires r { IsTypeIn (environment_of env.now) (plain_record r.now) }
-    requires args { ArgsAreWellFormed (environment_of env.now).names (kinds_in (environment_of env.now)) (plain_args args.now) }
+    requires args { AreArgsIn (environment_of env.now) (plain_args args.now) }
     requires fit { FitTheirFields (plain_args args.now) (plain_bounds r.now.binders.items) }
     ensures answer { IsAnswer (formed (environment_of env.now) (record_with (plain_args args.now) r.now) span) plain_record result }
     ensures formed { IfOk result (λ q. IsTypeIn (environment_of env.now) (plain_record q)) }
@@ -86,10 +91,78 @@ fn is_of_kind(a: &Arg, b: &Bound) -> bool
 fn expanded_argument(alloc: Global, env: &Env, t: &TypeTree) -> Result<Arg, InferError>
     requires labels { HasDistinctLabels (type_of t.now) }
     ensures answer { IsAnswer (argument_expanded (environment_of env.now) (type_of t.now)) (λ a. plain_arg a ∷ []) result }
-    ensures formed { IfOk result (λ a. ArgIsWellFormed (environment_of env.now).names (kinds_in (environment_of env.now)) (plain_arg a)) }
+    ensures formed { IfOk result (λ a. IsArgIn (environment_of env.now) (plain_arg a)) }
 {
     match expand_arg(alloc, env.context(), t) {
         Ok(a) => Ok(a),
         Err(e) => Err(refusal(e)),
     }
+}
+
+/// An argument that is written at a place is of its field's kind, and below the field's bound with the earlier arguments
+/// put in: K1 and Y9 at that place, K4 of the bound at the node.
+fn argument_fits(
+    alloc: Global,
+    env: &Env,
+    a: &Arg,
+    b: &Bound,
+    earlier: &[Arg],
+    at: Span,
+    node: Span,
+) -> Result<(), InferError>
+    requires b { IsBoundUnder (environment_of env.now) (plain_args earlier.now) (plain_bound b.now) }
+    requires earlier { AreArgsIn (environment_of env.now) (plain_args earlier.now) }
+    requires a { IsArgIn (environment_of env.now) (plain_arg a.now) }
+    ensures { IsAnswer (argument_fits (environment_of env.now) node at (plain_bound b.now) (plain_args earlier.now) (plain_arg a.now)) nothing result }
+{
+    if !is_of_kind(a, b) {
+        return Err(InferError::Named(Code::K1, at));
+    }
+    within_bound(alloc, env, b, earlier, a, at, node)
+}
+
+/// A written type argument after the earlier ones: expanded, of its field's kind, and below the field's bound.
+fn written_argument(
+    alloc: Global,
+    env: &Env,
+    t: &TypeTree,
+    b: &Bound,
+    earlier: &[Arg],
+    span: Span,
+) -> Result<Arg, InferError>
+    requires labels { HasDistinctLabels (type_of t.now) }
+    requires b { IsBoundUnder (environment_of env.now) (plain_args earlier.now) (plain_bound b.now) }
+    requires earlier { AreArgsIn (environment_of env.now) (plain_args earlier.now) }
+    ensures { IsAnswer (argument_after (environment_of env.now) span (type_of t.now) (plain_bound b.now) (plain_args earlier.now))
+        (λ a. plain_args earlier.now ++ plain_arg a ∷ []) result }
+{
+    let a = expanded_argument(alloc, env, t)?;
+    match argument_fits(alloc, env, &a, b, earlier, type_span(t), span) {
+        Ok(()) => Ok(a),
+        Err(e) => Err(e),
+    }
+}
+
+/// Written type arguments, in order. K1 to K4 where they stand in one, K1 and Y9 at one that its type field doesn't take,
+/// K4 at the node for the bound of a type field.
+pub fn written_arguments(
+    alloc: Global,
+    env: &Env,
+    ts: &[TypeTree],
+    bs: &[Bound],
+    span: Span,
+) -> Result<Vec<Arg>, InferError>
+    requires right { IsWellAsked arguments_ (environment_of env.now) (written_arguments span (types_on no_types ts.now) (plain_bounds bs.now)) }
+    requires count { length ts.now ≤ length bs.now }
+    ensures { IsAnswer (rule (environment_of env.now) (written_arguments span (types_on no_types ts.now) (plain_bounds bs.now)))
+        (λ args. plain_args args.items) result }
+{
+    let mut args = Vec::new(alloc);
+    for (i, t) in ts.iter().enumerate() {
+        match written_argument(alloc, env, t, &bs[i], &args, span) {
+            Ok(a) => args.push(a)?,
+            Err(e) => return Err(e),
+        }
+    }
+    Ok(args)
 }

@@ -13,7 +13,7 @@ const EXAMPLES: [&str; 24] = [
     "server.pi",
     "answer.pi",
     "forever.pi",
-    "pingpong.pi",
+    "turns.pi",
     "handover.pi",
     "account.pi",
     "lock.pi",
@@ -24,14 +24,14 @@ const EXAMPLES: [&str; 24] = [
     "future.pi",
     "fib.pi",
     "ring.pi",
-    "daisy.pi",
-    "skynet.pi",
+    "chain.pi",
+    "tree.pi",
     "session.pi",
     "queue.pi",
     "truth.pi",
     "numerals.pi",
     "lambda.pi",
-    "abstract.pi",
+    "package.pi",
 ];
 
 /// The example that runs without end.

@@ -6,6 +6,7 @@
 //! a second: `rt run -- 1048576`.
 #![tactic(auto)]
 
+mod checking;
 mod deep;
 mod deriving;
 mod lexing;
@@ -28,6 +29,21 @@ fn wanted(rt: &HostRuntime) -> Result<(usize, bool), Error> {
     }
 }
 
+/// Types texts of each form.
+fn check_all(rt: &HostRuntime, size: usize, timed: bool) -> Result<(), Error> {
+    for sample in &checking::CHECKED {
+        checking::measure(rt, sample, size, timed)?;
+    }
+    let text = checking::labels(rt.alloc(), size)?;
+    checking::measure_text(rt, "labels", &text, timed)?;
+    let text = checking::heavy(rt.alloc(), size)?;
+    checking::measure_text(rt, "heavy types", &text, timed)?;
+    let text = checking::nested(rt.alloc())?;
+    checking::measure_text(rt, "nested applications", &text, timed)?;
+    let text = checking::high(rt.alloc())?;
+    checking::measure_text(rt, "high types", &text, timed)
+}
+
 fn main(rt: HostRuntime) -> Result<(), Error> {
     let (size, timed) = wanted(&rt)?;
     if size == 0 || size as u64 > TEXT_LIMIT {
@@ -46,6 +62,7 @@ fn main(rt: HostRuntime) -> Result<(), Error> {
     scoping::measure(&rt, "many names", &text, timed)?;
     let text = scoping::deep(rt.alloc())?;
     scoping::measure(&rt, "a deep record", &text, timed)?;
+    check_all(&rt, size, timed)?;
     for sample in &sample::TRANSLATED {
         deriving::measure(&rt, sample, size, timed)?;
     }

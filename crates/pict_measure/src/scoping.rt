@@ -14,7 +14,7 @@ static LETTERS: [u8; 52] = *b"abcdefghijklmnopqrstuvwxyzABCDEFGHIJKLMNOPQRSTUVWX
 static FIRST: [u8; 45] = *b"bcefghijklmopqstuwxyzABCDEFGHJKLMNOPQRSUVWXYZ";
 
 /// The name of three letters that has this number, and a blank.
-fn push_name(text: &mut Vec<u8>, number: usize) -> Result<(), AllocError> {
+pub fn push_name(text: &mut Vec<u8>, number: usize) -> Result<(), AllocError> {
     text.push(FIRST[number % 45])?;
     text.push(LETTERS[number / 45 % 52])?;
     text.push(LETTERS[number / 2340 % 52])?;

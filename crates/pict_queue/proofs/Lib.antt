@@ -2,4 +2,5 @@ pub mod Costs
 pub mod Links
 pub mod Orders
 pub mod Calls
+pub mod Kept
 pub mod Uses

@@ -1,2 +1,3 @@
 pub mod QueuesState
+pub mod Contents
 pub mod Threads

@@ -3,6 +3,7 @@ ghost use Rattle.std.specs.Prelude.{◌≡◌, ◌≢◌, ◌+◌, ◌-◌, ◌<
 ghost use Rattle.std.specs.Option.{option_map, option_to_list};
 ghost use Rattle.std.specs.FinMap.{get, insert, remove, empty};
 ghost use Rattle.pict_region.specs.RegionState.{IsLive, words_of, width_of, spare, KeepsOtherWidths, raised};
+ghost use Rattle.pict_queue.specs.Contents.{held_words, contents, moved_contents, KeepsAllContents, KeepsOtherContents, KeepsHeld, KeepsOtherHeld};
 ghost use Rattle.pict_queue.specs.QueuesState.{IsQueue, IsHeld, HasEachBlockOnce, list_of, no_queue, link_of, moved_list, KeepsOtherQueues, KeepsQueues, KeepsRest, CostsAtMost};
 
 use pict_region::{Block, Region};
@@ -22,8 +23,8 @@ struct Queue {
 }
 
 /// Queues of blocks. Word 0 of each block is its link, so a caller's words begin at 1. Contracts see the region and, for
-/// each queue, its first block and its length, and read the list of a queue by the links. A block is in exactly one
-/// queue, or held by the caller, or free.
+/// each queue, its first block and its length, and read the list of a queue by the links: its blocks, and their contents,
+/// the words behind the links. A block is in exactly one queue, or held by the caller, or free.
 #[derive(Drop)]
 pub struct Queues {
     region: Region,
@@ -68,6 +69,8 @@ impl Queues {
         ensures number { IfOk result (λ q. q.0 ≡ length self.old.queues) }
         ensures queues { OnOk result (self.new.queues ≡ self.old.queues ++ no_queue ∷ []) }
         ensures lists { KeepsQueues self.old self.new }
+        ensures contents { KeepsAllContents self.old self.new }
+        ensures kept { KeepsHeld self.old self.new }
         ensures spare_queues { OnOk result (self.new.spare_queues ≡ self.old.spare_queues - 1) }
         ensures region { self.new.region ≡ self.old.region }
         ensures err { OnErr result (self.new ≡ self.old) }
@@ -86,6 +89,8 @@ impl Queues {
     pub fn reserve_queues(&mut self, n: u64) -> Result<(), AllocError>
         ensures ok { OnOk result (self.new.spare_queues ≡ max n self.old.spare_queues) }
         ensures rest { OnOk result (self.new ≡ record self.old { spare_queues = self.new.spare_queues }) }
+        ensures contents { KeepsAllContents self.old self.new }
+        ensures kept { KeepsHeld self.old self.new }
         ensures err { OnErr result (self.new ≡ self.old) }
     {
         if self.spare < n {
@@ -96,6 +101,7 @@ impl Queues {
     }
 
     /// The number of blocks in a queue. Takes no memory.
+    #[inline]
     pub fn length(&self, q: QueueId) -> u64
         requires { IsQueue self.now q.0 }
         ensures value { result ≡ length (list_of self.now q.0) }
@@ -105,11 +111,15 @@ impl Queues {
     }
 
     /// A held block becomes the last of a queue. Takes no memory.
+    #[inline]
     pub fn push_back(&mut self, q: QueueId, b: Block)
         requires queue { IsQueue self.old q.0 }
         requires held { IsHeld self.old b }
         ensures list { list_of self.new q.0 ≡ list_of self.old q.0 ++ b ∷ [] }
         ensures others { KeepsOtherQueues self.old self.new q.0 }
+        ensures pushed { contents self.new q.0 ≡ contents self.old q.0 ++ held_words self.old.region b ∷ [] }
+        ensures other_contents { KeepsOtherContents self.old self.new q.0 }
+        ensures kept { KeepsOtherHeld self.old self.new b }
         ensures rest { KeepsRest self.old self.new }
         ensures once { HasEachBlockOnce self.new }
         ensures cost { CostsAtMost 2 self.old self.new }
@@ -126,11 +136,15 @@ impl Queues {
     }
 
     /// A held block becomes the first of a queue. Takes no memory.
+    #[inline]
     pub fn push_front(&mut self, q: QueueId, b: Block)
         requires queue { IsQueue self.old q.0 }
         requires held { IsHeld self.old b }
         ensures list { list_of self.new q.0 ≡ b ∷ list_of self.old q.0 }
         ensures others { KeepsOtherQueues self.old self.new q.0 }
+        ensures pushed { contents self.new q.0 ≡ held_words self.old.region b ∷ contents self.old q.0 }
+        ensures other_contents { KeepsOtherContents self.old self.new q.0 }
+        ensures kept { KeepsOtherHeld self.old self.new b }
         ensures rest { KeepsRest self.old self.new }
         ensures once { HasEachBlockOnce self.new }
         ensures cost { CostsAtMost 2 self.old self.new }
@@ -147,6 +161,7 @@ impl Queues {
     }
 
     /// The first block of a queue, which the caller then holds, or None exactly where the queue is empty. Takes no memory.
+    #[inline]
     pub fn pop_front(&mut self, q: QueueId) -> Option<Block>
         requires { IsQueue self.old q.0 }
         ensures none { IsNone result ↔ (list_of self.old q.0 ≡ []) }
@@ -154,6 +169,9 @@ impl Queues {
         ensures held { IfSome result (IsHeld self.new) }
         ensures live { self.new.region.live ≡ self.old.region.live }
         ensures others { KeepsOtherQueues self.old self.new q.0 }
+        ensures popped { contents self.old q.0 ≡ option_to_list (option_map (held_words self.new.region) result) ++ contents self.new q.0 }
+        ensures other_contents { KeepsOtherContents self.old self.new q.0 }
+        ensures kept { KeepsHeld self.old self.new }
         ensures rest { KeepsRest self.old self.new }
         ensures once { HasEachBlockOnce self.new }
         ensures cost { CostsAtMost 2 self.old self.new }
@@ -167,11 +185,14 @@ impl Queues {
 
     /// The first block of `from` becomes the last of `to`; where these are one queue, it goes to the back. Takes no
     /// memory.
+    #[inline]
     pub fn move_front(&mut self, from: QueueId, to: QueueId)
         requires from { IsQueue self.old from.0 }
         requires to { IsQueue self.old to.0 }
         requires some { 0 < length (list_of self.old from.0) }
         ensures lists { (queue : ℕ) → list_of self.new queue ≡ moved_list self.old from.0 to.0 queue }
+        ensures moved { (queue : ℕ) → contents self.new queue ≡ moved_contents self.old from.0 to.0 queue }
+        ensures kept { KeepsHeld self.old self.new }
         ensures rest { KeepsRest self.old self.new }
         ensures once { HasEachBlockOnce self.new }
         ensures cost { CostsAtMost 4 self.old self.new }
@@ -182,12 +203,15 @@ impl Queues {
 
     /// Word `i` of the first block of a queue, or None exactly where the queue is empty. Changes no word and no queue, and
     /// takes no memory.
+    #[inline]
     pub fn peek(&mut self, q: QueueId, i: u32) -> Option<u64>
         requires queue { IsQueue self.old q.0 }
         requires behind_link { 0 < length (list_of self.old q.0) → 1 ≤ i }
         requires inside { 0 < length (list_of self.old q.0) → i < width_of self.old.region (slice_index (list_of self.old q.0) 0) }
         ensures word { result ≡ option_map (λ b. slice_index (words_of self.old.region b) i) (slice_get (list_of self.old q.0) 0) }
         ensures rest { self.new ≡ record self.old { region = record self.old.region { work = self.new.region.work } } }
+        ensures contents { KeepsAllContents self.old self.new }
+        ensures kept { KeepsHeld self.old self.new }
         ensures cost { CostsAtMost 2 self.old self.new }
     {
         let queue = self.queues[q.0 as usize];
@@ -198,10 +222,11 @@ impl Queues {
     }
 
     /// Makes free blocks until there are `n` of this width, in words, with the link. Where memory is wanting, some of
-    /// these blocks may have been made.
+    /// these blocks may have been made. Where enough are there it takes no memory.
     pub fn reserve(&mut self, width: u32, n: u64) -> Result<(), AllocError>
         requires positive { 2 ≤ width }
         requires narrow { width ≤ 65535 }
+        ensures room { 1 ≤ n → n ≤ spare self.old.region width → IsOk result }
         ensures ok { OnOk result (spare self.new.region width ≡ max n (spare self.old.region width)) }
         ensures err { OnErr result (spare self.old.region width ≤ spare self.new.region width) }
         ensures most { spare self.new.region width ≤ max n (spare self.old.region width) }
@@ -209,11 +234,14 @@ impl Queues {
         ensures live { self.new.region.live ≡ self.old.region.live }
         ensures work { self.new.region.work ≡ self.old.region.work }
         ensures queues { self.new ≡ record self.old { region = self.new.region } }
+        ensures contents { KeepsAllContents self.old self.new }
+        ensures kept { KeepsHeld self.old self.new }
     {
         self.region.reserve(width, n)
     }
 
     /// A block of this width, whose words are 0, and which the caller holds. Takes no memory.
+    #[inline]
     pub fn take(&mut self, width: u32) -> Block
         requires wide { 2 ≤ width }
         requires spare { 1 ≤ spare self.old.region width }
@@ -225,11 +253,15 @@ impl Queues {
         ensures rest { self.new ≡ record self.old { region = self.new.region } }
         ensures lists { KeepsQueues self.old self.new }
         ensures held { IsHeld self.new result }
+        ensures apart { (other : ℕ) → IsHeld self.old other → other ≢ result }
+        ensures contents { KeepsAllContents self.old self.new }
+        ensures kept { KeepsHeld self.old self.new }
     {
         self.region.take(width)
     }
 
     /// Frees a held block, and spends its token. Takes no memory.
+    #[inline]
     pub fn give(&mut self, b: Block)
         requires { IsHeld self.old b }
         ensures live { self.new.region.live ≡ remove self.old.region.live b }
@@ -238,22 +270,28 @@ impl Queues {
         ensures work { self.new.region.work ≡ raised self.old.region.work }
         ensures rest { self.new ≡ record self.old { region = self.new.region } }
         ensures lists { KeepsQueues self.old self.new }
+        ensures contents { KeepsAllContents self.old self.new }
+        ensures kept { KeepsOtherHeld self.old self.new b }
         ensures once { HasEachBlockOnce self.new }
     {
         self.region.give(b);
     }
 
     /// Word `i` of a held block, from 0. Takes no memory.
+    #[inline]
     pub fn get(&mut self, b: &Block, i: u32) -> u64
         requires held { IsHeld self.old b.now }
         requires inside { i < width_of self.old.region b.now }
         ensures word { result ≡ slice_index (words_of self.old.region b.now) i }
         ensures rest { self.new ≡ record self.old { region = record self.old.region { work = raised self.old.region.work } } }
+        ensures contents { KeepsAllContents self.old self.new }
+        ensures kept { KeepsHeld self.old self.new }
     {
         self.region.get(b, i)
     }
 
     /// Puts a word at index `i` of a held block, from 0. Takes no memory.
+    #[inline]
     pub fn set(&mut self, b: &Block, i: u32, word: u64)
         requires held { IsHeld self.old b.now }
         requires inside { i < width_of self.old.region b.now }
@@ -263,11 +301,14 @@ impl Queues {
         ensures rest { self.new ≡ record self.old { region = self.new.region } }
         ensures lists { KeepsQueues self.old self.new }
         ensures held { IsHeld self.new b.now }
+        ensures contents { KeepsAllContents self.old self.new }
+        ensures kept { KeepsOtherHeld self.old self.new b.now }
     {
         self.region.set(b, i, word);
     }
 
     /// The work of the region.
+    #[inline]
     pub fn work(&self) -> u64
         ensures { result ≡ self.now.region.work }
     {
@@ -275,6 +316,7 @@ impl Queues {
     }
 
     // The first block of a queue that isn't empty.
+    #[inline]
     fn pop(&mut self, q: QueueId) -> Block
         requires queue { IsQueue self.old q.0 }
         requires some { 0 < length (list_of self.old q.0) }
@@ -282,6 +324,9 @@ impl Queues {
         ensures held { IsHeld self.new result }
         ensures live { self.new.region.live ≡ self.old.region.live }
         ensures others { KeepsOtherQueues self.old self.new q.0 }
+        ensures popped { contents self.old q.0 ≡ held_words self.new.region result ∷ contents self.new q.0 }
+        ensures other_contents { KeepsOtherContents self.old self.new q.0 }
+        ensures kept { KeepsHeld self.old self.new }
         ensures rest { KeepsRest self.old self.new }
         ensures once { HasEachBlockOnce self.new }
         ensures cost { CostsAtMost 2 self.old self.new }
@@ -299,6 +344,7 @@ impl Queues {
 }
 
 // The queue, or where it is empty, one whose ends are this block.
+#[inline]
 fn ends(queue: Queue, block: u64) -> Queue
     ensures { result ≡ (if queue.length == 0 then record { first = block; last = block; length = 0 } else queue) }
 {
@@ -314,6 +360,7 @@ fn ends(queue: Queue, block: u64) -> Queue
 }
 
 // Makes `next` the link of a live block.
+#[inline]
 fn set_link(region: &mut Region, block: u64, next: u64)
     requires live { IsLive region.old block }
     requires wide { 1 ≤ width_of region.old block }
@@ -328,6 +375,7 @@ fn set_link(region: &mut Region, block: u64, next: u64)
 }
 
 // A word of a live block.
+#[inline]
 fn word(region: &mut Region, block: u64, i: u32) -> u64
     requires live { IsLive region.old block }
     requires inside { i < width_of region.old block }

@@ -1,5 +1,5 @@
 // The region: its store of words, its lists of free blocks, and its work.
-ghost use Rattle.std.specs.Prelude.{◌≡◌, ◌≢◌, ◌+◌, ◌^◌, ◌<◌, ◌≤◌, ℕ, [], length, max, None, OnOk, OnErr, IsSome, slice_index, slice_set, slice_index_or, replicate, take, drop, ◌++◌, vec_len};
+ghost use Rattle.std.specs.Prelude.{◌≡◌, ◌≢◌, ◌+◌, ◌^◌, ◌<◌, ◌≤◌, ℕ, [], length, max, None, OnOk, OnErr, IsOk, IsSome, slice_index, slice_set, slice_index_or, replicate, take, drop, ◌++◌, vec_len};
 ghost use Rattle.std.specs.FinMap.{get, insert, remove, empty};
 ghost use Rattle.pict_region.specs.RegionState.{IsLive, words_of, width_of, spare, KeepsOtherWidths, raised};
 
@@ -52,10 +52,11 @@ impl Region {
     }
 
     /// Makes free blocks until there are `n` of this width, in words. The store grows by doubling. Where memory is
-    /// wanting, some of these blocks may have been made. The work stays.
+    /// wanting, some of these blocks may have been made. Where enough are there it takes no memory. The work stays.
     pub fn reserve(&mut self, width: u32, n: u64) -> Result<(), AllocError>
         requires positive { 1 ≤ width }
         requires narrow { width ≤ 65535 }
+        ensures room { 1 ≤ n → n ≤ spare self.old width → IsOk result }
         ensures ok { OnOk result (spare self.new width ≡ max n (spare self.old width)) }
         ensures err { OnErr result (spare self.old width ≤ spare self.new width) }
         ensures most { spare self.new width ≤ max n (spare self.old width) }
@@ -71,6 +72,7 @@ impl Region {
     }
 
     /// A block of this width, whose words are 0. Numbers of blocks are below 2 to the power 63. Takes no memory.
+    #[inline]
     pub fn take(&mut self, width: u32) -> Block
         requires { 1 ≤ spare self.old width }
         ensures fresh { get self.old.live result ≡ None }
@@ -93,6 +95,7 @@ impl Region {
     }
 
     /// Frees a live block, and spends its token. Takes no memory.
+    #[inline]
     pub fn give(&mut self, b: Block)
         requires { IsLive self.old b }
         ensures live { self.new.live ≡ remove self.old.live b }
@@ -113,6 +116,7 @@ impl Region {
     }
 
     /// Word `i` of a live block, from 0. Takes no memory.
+    #[inline]
     pub fn get(&mut self, b: &Block, i: u32) -> u64
         requires live { IsLive self.old b.now }
         requires inside { i < width_of self.old b.now }
@@ -125,6 +129,7 @@ impl Region {
     }
 
     /// Puts a word at index `i` of a live block, from 0. Takes no memory.
+    #[inline]
     pub fn set(&mut self, b: &Block, i: u32, word: u64)
         requires live { IsLive self.old b.now }
         requires inside { i < width_of self.old b.now }
@@ -137,6 +142,7 @@ impl Region {
     }
 
     /// A token of the live block with this number. Takes no memory.
+    #[inline]
     pub fn block(&mut self, number: u64) -> Block
         requires { IsLive self.old number }
         ensures token { result ≡ number }
@@ -147,6 +153,7 @@ impl Region {
     }
 
     /// The region's work: how often a block was taken, given, reached by number, read or written, or the greatest `u64`.
+    #[inline]
     pub fn work(&self) -> u64
         ensures { result ≡ self.now.work }
     {
@@ -163,6 +170,7 @@ impl Region {
 
     // Makes a list of free blocks for each width up to this one.
     fn add_list(&mut self, width: u32) -> Result<(), AllocError>
+        ensures room { width < length self.old.free → IsOk result }
         ensures ok { OnOk result (width < length self.new.free) }
         ensures spare { (other : ℕ) → spare self.new other ≡ spare self.old other }
         ensures live { self.new.live ≡ self.old.live }
@@ -201,6 +209,7 @@ impl Region {
 }
 
 // The work after one call more.
+#[inline]
 fn one_more(work: u64) -> u64
     ensures { result ≡ raised work }
 {
@@ -208,6 +217,7 @@ fn one_more(work: u64) -> u64
 }
 
 // Puts 0 into `count` words of the store, from `start` on.
+#[inline]
 fn clear(words: &mut Vec<u64>, start: usize, count: usize)
     requires { start + count ≤ vec_len words.old }
     ensures items { words.new.items ≡ take start words.old.items ++ (replicate count 0 ++ drop (start + count) words.old.items) }

@@ -4,6 +4,8 @@
 #[cfg(test)]
 mod codes;
 #[cfg(test)]
+mod nested_forms;
+#[cfg(test)]
 mod parsing;
 #[cfg(test)]
 mod scoping;
@@ -11,3 +13,5 @@ mod scoping;
 mod steps;
 #[cfg(test)]
 mod translation;
+#[cfg(test)]
+mod typing;

@@ -292,7 +292,7 @@ fn texts_have_these_processes(rt: HostRuntime) -> Result<(), Fail> {
 
 // ---- the counter server, with the prelude before it
 
-const PRELUDE: &[u8] = b"type (List X) = (rec L = /[/[] /[X L]])
+pub const PRELUDE: &[u8] = b"type (List X) = (rec L = /[/[] /[X L]])
 type (Ref X) = [get=/[/X] set=/[X /[]]]
 type Lock = [acquire=/[/[]] release=/[/[]]]
 def nil (#X):(List X) = (rec \\[n _] = n![])
@@ -314,7 +314,7 @@ def lock ():Lock = (
   [acquire=acquire release=release])
 ";
 
-const COUNTER: &[u8] = b"val [get=get set=set] = (ref 0)
+pub const COUNTER: &[u8] = b"val [get=get set=set] = (ref 0)
 val [acquire=acquire release=release] = (lock)
 val clients = (cons 1 (cons 2 (cons 3 (nil))))
 new done:^[]

@@ -2,7 +2,7 @@
 use Rattle.std.specs.Prelude.{ℕ, List, [], ◌∷◌, ◌++◌, codes}
 use Rattle.std.specs.Fmt.{decimal}
 use Rattle.pict_syntax.specs.declared.code.Code.{Code}
-use Rattle.pict_syntax.specs.declared.code.Code.TheVariants.{B1, L1, L2, L3, L4, L5, P1, P2, S1, S2, S3, S4, K1, K2, K3, K4, Y1, Y2, Y3, Y4, Y5, Y6, Y7, Y8, Y9, Y10, Y11, Y12, Y13, Y14, Y15, Y16, C1, N1}
+use Rattle.pict_syntax.specs.declared.code.Code.TheVariants.{B1, L1, L2, L3, L4, L5, P1, P2, S1, S2, S3, S4, K1, K2, K3, K4, Y1, Y2, Y3, Y4, Y5, Y6, Y7, Y8, Y9, Y10, Y11, Y12, Y13, Y14, Y15, Y16, C1}
 
 -- a code with its text
 abbrev pub text_of_code : Code → List ℕ
@@ -39,7 +39,6 @@ text_of_code Y14 = codes "Y14 type variable escapes"
 text_of_code Y15 = codes "Y15 new needs a ^ type"
 text_of_code Y16 = codes "Y16 not this package"
 text_of_code C1 = codes "C1 process too deep"
-text_of_code N1 = codes "N1 form not built"
 
 -- a line about a file
 abbrev pub line : List ℕ → List ℕ → List ℕ

@@ -50,7 +50,6 @@ pub fn text_of_code(code: Code) -> &'static str
         Code::Y15 => "Y15 new needs a ^ type",
         Code::Y16 => "Y16 not this package",
         Code::C1 => "C1 process too deep",
-        Code::N1 => "N1 form not built",
     }
 }
 

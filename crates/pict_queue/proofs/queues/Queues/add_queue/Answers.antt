@@ -4,7 +4,8 @@ use Rattle.pict_queue.specs.QueuesState.{link_of}
 use Rattle.pict_queue.specs.declared.queues.Queues.TheInside.{Inside}
 use Rattle.pict_queue.proofs.Orders.{list_is, queue_in-added, threaded_added}
 use Rattle.pict_queue.proofs.Calls.{list_seen}
-use Rattle.pict_queue.specs.Threads.{queue_in}
+use Rattle.pict_queue.specs.Threads.{queue_in, state_of}
+use Rattle.pict_queue.proofs.Kept.{contents_same, held_same}
 use Rattle.pict_queue.proofs.queues.Queues.add_queue.Goals as goal
 
 pub invariant_of-self-2 : goal.invariant_of-self-2
@@ -22,3 +23,11 @@ returns-clause-lists c queue =
     list_is (after c) queue
     ∙ ap (λ q. chain (link_of c.self.inside.region) q.first q.length) (ap (λ qs. queue_in qs queue) c.in_ok-push.ensures.items ∙ queue_in-added c.self.inside.queues.items queue)
     ∙ sym (list_seen c.self.inside _ queue c.self.view_is)
+
+pub returns-clause-contents : goal.returns-clause-contents
+unfolding after
+returns-clause-contents c = contents_same c.args.self.now (state_of (after c)) (ap (λ s. s.region.live) c.self.view_is) (returns-clause-lists c)
+
+pub returns-clause-kept : goal.returns-clause-kept
+unfolding after
+returns-clause-kept c = held_same c.args.self.now (state_of (after c)) (ap (λ s. s.region.live) c.self.view_is) (returns-clause-lists c)

@@ -1,4 +1,4 @@
-use Rattle.std.proofs.Common.{refl, ◌∙◌, ap}
+use Rattle.std.proofs.Common.{refl, ◌∙◌, ap, ◌≢◌, ◌≡◌, ℕ}
 use Rattle.std.proofs.lemmas.Bool.{both_ways}
 use Rattle.std.specs.Option.{is_some}
 use Rattle.std.specs.FinMap.{get}
@@ -6,6 +6,8 @@ use Rattle.pict_region.proofs.Uses.{get_removed, get_remove_apart}
 use Rattle.pict_queue.specs.declared.queues.Queues.TheInside.{Inside}
 use Rattle.pict_queue.proofs.Orders.{once_seen, apart_if_held, ThreadsStay, apart_changed}
 use Rattle.pict_queue.proofs.Calls.{lists_kept}
+use Rattle.pict_queue.specs.Threads.{state_of}
+use Rattle.pict_queue.proofs.Kept.{contents_beside, held_beside}
 use Rattle.pict_queue.proofs.queues.Queues.give.Goals as goal
 
 after : (c : goal.After-give) → Inside
@@ -29,3 +31,16 @@ returns-clause-lists c = lists_kept c.self.inside (after c) _ c.self.view_is ref
 pub returns-clause-once : goal.returns-clause-once
 unfolding after
 returns-clause-once c = once_seen (after c) (stays c).threaded
+
+others : (c : goal.After-give) (other : ℕ) → other ≢ c.args.b → get c.give.new.self.live other ≡ get c.args.self.now.region.live other
+others c other apart =
+    ap (λ m. get m other) c.give.ensures.live ∙ get_remove_apart c.self.inside.region.live c.args.b other apart
+    ∙ ap (λ s. get s.region.live other) c.self.view_is
+
+pub returns-clause-contents : goal.returns-clause-contents
+unfolding after
+returns-clause-contents c = contents_beside c.args.self.now (state_of (after c)) c.args.b (others c) (returns-clause-lists c) c.requires.apart
+
+pub returns-clause-kept : goal.returns-clause-kept
+unfolding after
+returns-clause-kept c = held_beside c.args.self.now (state_of (after c)) c.args.b (others c) (returns-clause-lists c)

@@ -1,12 +1,16 @@
-use Rattle.std.proofs.Common.{◌≡◌, ◌-◌, ◌<◌, ◌∷◌, set, sym, ◌∙◌, ap, subst, arith}
+use Rattle.std.proofs.Common.{◌≡◌, ◌-◌, ◌<◌, ◌∷◌, drop, set, sym, ◌∙◌, ap, subst, arith}
 use Rattle.std.specs.Vec.{with_item}
+use Rattle.std.specs.Option.{option_map}
+use Rattle.std.specs.FinMap.{get}
+use Rattle.pict_region.proofs.Uses.{Live}
 use Rattle.pict_region.specs.RegionState.{IsLive, width_of}
-use Rattle.pict_queue.specs.QueuesState.{IsHeld, list_of, link_of}
+use Rattle.pict_queue.specs.QueuesState.{IsHeld, list_of, link_of, KeepsContents}
 use Rattle.pict_queue.specs.declared.queues.Queue.{Queue}
 use Rattle.pict_queue.specs.Threads.{state_of, queue_in}
 use Rattle.pict_queue.specs.declared.queues.Queues.TheInside.{Inside}
 use Rattle.pict_queue.proofs.Orders.{list_is, once_seen, held_if_apart, PopsFront, popped_front}
 use Rattle.pict_queue.proofs.Calls.{first_found, queue_read, list_seen, list_length}
+use Rattle.pict_queue.proofs.Kept.{contents_popped, other_contents_kept, held_popped}
 use Rattle.pict_queue.proofs.queues.Queues.pop.Goals as goal
 
 pub block-block-requires : goal.block-block-requires
@@ -80,3 +84,19 @@ returns-clause-others c other apart =
 pub returns-clause-once : goal.returns-clause-once
 unfolding queue_after after
 returns-clause-once c = once_seen (after c) (pops c).threaded
+
+keeps : (c : goal.After-self-1) → KeepsContents c.args.self.now.region (state_of (after c)).region
+unfolding queue_after after
+keeps c block = ap (λ (m : Live). option_map (drop 1) (get m block)) (live_same c ∙ ap (λ s. s.region.live) c.self.view_is)
+
+pub returns-clause-popped : goal.returns-clause-popped
+unfolding queue_after after
+returns-clause-popped c = contents_popped c.args.self.now (state_of (after c)) (keeps c) c.args.q.0 c.block-block.result (returns-clause-list c)
+
+pub returns-clause-other_contents : goal.returns-clause-other_contents
+unfolding queue_after after
+returns-clause-other_contents c = other_contents_kept c.args.self.now (state_of (after c)) (keeps c) c.args.q.0 (returns-clause-others c)
+
+pub returns-clause-kept : goal.returns-clause-kept
+unfolding queue_after after
+returns-clause-kept c = held_popped c.args.self.now (state_of (after c)) (keeps c) c.args.q.0 c.block-block.result (returns-clause-list c) (returns-clause-others c)

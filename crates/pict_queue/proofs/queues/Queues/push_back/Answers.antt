@@ -7,6 +7,8 @@ use Rattle.pict_queue.specs.declared.queues.Queues.TheInside.{Inside}
 use Rattle.pict_queue.proofs.Links.{LinksBlock, link_written}
 use Rattle.pict_queue.proofs.Orders.{list_is, once_seen, PushesBack, pushed_back}
 use Rattle.pict_queue.proofs.Calls.{FindsEnds, ends_found, list_seen, rest_kept}
+use Rattle.pict_queue.specs.Threads.{state_of}
+use Rattle.pict_queue.proofs.Kept.{contents_pushed_back, other_contents_kept, held_pushed_back}
 use Rattle.pict_queue.proofs.queues.Queues.push_back.Goals as goal
 
 pub set_link-requires-clause-live : goal.set_link-requires-clause-live
@@ -65,3 +67,15 @@ returns-clause-rest c =
 pub returns-clause-once : goal.returns-clause-once
 unfolding queue_after after
 returns-clause-once c = once_seen (after c) (pushes c).threaded
+
+pub returns-clause-pushed : goal.returns-clause-pushed
+unfolding queue_after after
+returns-clause-pushed c = contents_pushed_back c.args.self.now (state_of (after c)) (returns-clause-rest c).contents c.args.q.0 c.args.b (returns-clause-list c)
+
+pub returns-clause-other_contents : goal.returns-clause-other_contents
+unfolding queue_after after
+returns-clause-other_contents c = other_contents_kept c.args.self.now (state_of (after c)) (returns-clause-rest c).contents c.args.q.0 (returns-clause-others c)
+
+pub returns-clause-kept : goal.returns-clause-kept
+unfolding queue_after after
+returns-clause-kept c = held_pushed_back c.args.self.now (state_of (after c)) (returns-clause-rest c).contents c.args.q.0 c.args.b (returns-clause-list c) (returns-clause-others c)

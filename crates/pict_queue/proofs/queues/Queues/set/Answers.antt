@@ -1,5 +1,5 @@
 use Rattle.std.specs.List.{list_any}
-use Rattle.std.proofs.Common.{eqb, ◌≡◌, ℕ, List, [], length, set, refl, ◌∙◌, ap, arith}
+use Rattle.std.proofs.Common.{eqb, ◌≡◌, ℕ, List, [], length, set, refl, ◌∙◌, ap, arith, ◌≢◌}
 use Rattle.std.proofs.lemmas.List.{length-set}
 use Rattle.std.specs.Option.{is_some, unwrap_or}
 use Rattle.std.specs.FinMap.{get}
@@ -8,6 +8,8 @@ use Rattle.pict_region.proofs.Uses.{get_inserted, get_insert_apart}
 use Rattle.pict_queue.specs.declared.queues.Queues.TheInside.{Inside}
 use Rattle.pict_queue.proofs.Orders.{StandsApart, apart_if_held, held_if_apart, ThreadsStay, apart_changed}
 use Rattle.pict_queue.proofs.Calls.{lists_kept}
+use Rattle.pict_queue.specs.Threads.{state_of}
+use Rattle.pict_queue.proofs.Kept.{contents_beside, held_beside}
 use Rattle.pict_queue.proofs.queues.Queues.set.Goals as goal
 
 after : (c : goal.After-set) → Inside
@@ -42,3 +44,17 @@ returns-clause-held c =
       live = ap is_some found;
       absent = λ q. ap (list_any (eqb c.args.b.now)) ((stays c).same q) ∙ (held c).absent q;
     })
+
+others : (c : goal.After-set) (other : ℕ) → other ≢ c.args.b.now → get c.set.new.self.live other ≡ get c.args.self.now.region.live other
+others c other apart =
+    ap (λ m. get m other) c.set.ensures.live
+    ∙ get_insert_apart c.self.inside.region.live c.args.b.now (set (words_of c.self.inside.region c.args.b.now) c.args.i c.args.word) other apart
+    ∙ ap (λ s. get s.region.live other) c.self.view_is
+
+pub returns-clause-contents : goal.returns-clause-contents
+unfolding after
+returns-clause-contents c = contents_beside c.args.self.now (state_of (after c)) c.args.b.now (others c) (returns-clause-lists c) c.requires.held.apart
+
+pub returns-clause-kept : goal.returns-clause-kept
+unfolding after
+returns-clause-kept c = held_beside c.args.self.now (state_of (after c)) c.args.b.now (others c) (returns-clause-lists c)

@@ -1,0 +1,18 @@
+use Rattle.pict_queue.proofs.Kept.{lists_moved, held_moved, contents_moved, words_along}
+use Rattle.pict_queue.proofs.queues.Queues.move_front.Goals as goal
+
+pub returns-clause-lists : goal.returns-clause-lists
+returns-clause-lists c =
+    lists_moved c.args.self.now c.pop-block.new.self c.push_back.new.self c.args.from.0 c.args.to.0 c.pop-block.result
+    c.pop-block.ensures.list c.pop-block.ensures.others c.push_back.ensures.list c.push_back.ensures.others
+
+pub returns-clause-moved : goal.returns-clause-moved
+returns-clause-moved c =
+    contents_moved c.args.self.now c.push_back.new.self
+    (words_along c.args.self.now.region c.pop-block.new.self.region c.push_back.new.self.region c.pop-block.ensures.rest.contents c.push_back.ensures.rest.contents)
+    c.args.from.0 c.args.to.0 (returns-clause-lists c)
+
+pub returns-clause-kept : goal.returns-clause-kept
+returns-clause-kept c =
+    held_moved c.args.self.now c.pop-block.new.self c.push_back.new.self c.args.from.0 c.args.to.0 c.pop-block.result
+    c.pop-block.ensures.list c.pop-block.ensures.others c.push_back.ensures.list c.push_back.ensures.others c.pop-block.ensures.kept c.push_back.ensures.kept

@@ -1,0 +1,36 @@
+-- Queues as lists of words: what their blocks hold behind the links. Contracts above speak of these, and of no numbers of
+-- blocks.
+use Rattle.std.specs.Prelude.{◌≡◌, ◌≢◌, ℕ, List, map, drop}
+use Rattle.pict_region.specs.RegionState.{RegionState, words_of}
+use Rattle.pict_queue.specs.QueuesState.{QueuesState, list_of, moved_list, IsHeld}
+
+-- the words of a block behind its link
+abbrev pub held_words : RegionState → ℕ → List ℕ
+held_words r block = drop 1 (words_of r block)
+
+-- what the blocks of a queue hold, the oldest first
+abbrev pub contents : QueuesState → ℕ → List (List ℕ)
+contents s queue = map (held_words s.region) (list_of s queue)
+
+-- the same after the first block of one queue has become the last of another, or of the same
+abbrev pub moved_contents : QueuesState → ℕ → ℕ → ℕ → List (List ℕ)
+moved_contents s from to queue = map (held_words s.region) (moved_list s from to queue)
+
+abbrev pub KeepsAllContents : QueuesState → QueuesState → Type 0
+KeepsAllContents old new = (queue : ℕ) → contents new queue ≡ contents old queue
+
+abbrev pub KeepsOtherContents : QueuesState → QueuesState → ℕ → Type 0
+KeepsOtherContents old new queue = (other : ℕ) → other ≢ queue → contents new other ≡ contents old other
+
+-- this block is held still, with the same words behind its link
+pub record StaysHeld (old new : QueuesState) (block : ℕ) : Type 0 where
+  pub held : IsHeld new block
+  pub words : held_words new.region block ≡ held_words old.region block
+
+-- each held block stays held
+abbrev pub KeepsHeld : QueuesState → QueuesState → Type 0
+KeepsHeld old new = (block : ℕ) → IsHeld old block → StaysHeld old new block
+
+-- each held block but this one stays held
+abbrev pub KeepsOtherHeld : QueuesState → QueuesState → ℕ → Type 0
+KeepsOtherHeld old new block = (other : ℕ) → other ≢ block → IsHeld old other → StaysHeld old new other
