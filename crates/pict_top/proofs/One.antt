@@ -1,5 +1,5 @@
 -- Words over a shelf that tells its texts come to at most one outcome.
-use Rattle.std.proofs.Common.{arith, ◌≡◌, ℕ, ◌≤◌, inl, inr, List, [], length, get_or, Option, Some, None, ap, sym, ◌∙◌, subst}
+use Rattle.std.proofs.Common.{arith, codes, ◌≡◌, ◌≢◌, ℕ, ◌≤◌, inl, inr, List, [], length, get_or, Option, Some, None, ap, sym, ◌∙◌, subst}
 use Rattle.std.proofs.lemmas.Fmt.{decimal_injective}
 use Rattle.pict_syntax.specs.declared.limits.TheConstants.{FUEL_LIMIT}
 use Rattle.pict_outside.specs.Texts.{Texts}
@@ -23,23 +23,27 @@ pub within_fuel : (words : List (List ℕ)) (command : Command) → HasShape wor
 within_fuel words command (inl s) = let e = s.fuel in omega arith
 within_fuel words command (inr s) = s.fuel
 
+-- words that begin with other letters are other words
+pub other_letter : (a b : List ℕ) → a ≡ b → get_or a 0 0 ≢ get_or b 0 0 → ⊥
+other_letter a b e other = other (ap (λ w. get_or w 0 0) e)
+
 -- a command is known by its word and its options
 same_command : (a b : Command) → word_of a ≡ word_of b → options_of a ≡ options_of b → a ≡ b
 same_command (Run o) (Run p) e f = ap Run f
 same_command (Run o) (Trace p) e f = absurd cc
-same_command (Run o) (Check p) e f = absurd cc
+same_command (Run o) (Check p) e f = absurd (other_letter (codes "run") (codes "check") e (λ (x : 114 ≡ 99). omega (arith, x)))
 same_command (Run o) (Code p) e f = absurd cc
 same_command (Trace o) (Run p) e f = absurd cc
 same_command (Trace o) (Trace p) e f = ap Trace f
-same_command (Trace o) (Check p) e f = absurd cc
+same_command (Trace o) (Check p) e f = absurd (other_letter (codes "trace") (codes "check") e (λ (x : 116 ≡ 99). omega (arith, x)))
 same_command (Trace o) (Code p) e f = absurd cc
-same_command (Check o) (Run p) e f = absurd cc
-same_command (Check o) (Trace p) e f = absurd cc
+same_command (Check o) (Run p) e f = absurd (other_letter (codes "check") (codes "run") e (λ (x : 99 ≡ 114). omega (arith, x)))
+same_command (Check o) (Trace p) e f = absurd (other_letter (codes "check") (codes "trace") e (λ (x : 99 ≡ 116). omega (arith, x)))
 same_command (Check o) (Check p) e f = ap Check f
-same_command (Check o) (Code p) e f = absurd cc
+same_command (Check o) (Code p) e f = absurd (let x : 5 ≡ 4 = ap length e in omega (arith, x))
 same_command (Code o) (Run p) e f = absurd cc
 same_command (Code o) (Trace p) e f = absurd cc
-same_command (Code o) (Check p) e f = absurd cc
+same_command (Code o) (Check p) e f = absurd (let x : 4 ≡ 5 = ap length e in omega (arith, x))
 same_command (Code o) (Code p) e f = ap Code f
 
 -- and options by their parts

@@ -22,7 +22,7 @@ use Rattle.pict_top.specs.Answer.{Answer, Absent, Refusal, Ended, IsAnswer, IsDo
 use Rattle.pict_top.specs.Outcome.{Outcome, outcome_of, text_in, usage_outcome}
 use Rattle.pict_top.specs.Owed.{OwesFile, OwesWords, OneOutcome}
 use Rattle.pict_top.proofs.Continuing.{continues_from}
-use Rattle.pict_top.proofs.One.{at_most_one, three_five}
+use Rattle.pict_top.proofs.One.{at_most_one, three_five, other_letter}
 
 -- ---- commands
 
@@ -84,14 +84,14 @@ fueled_or_not (Code o) = inr (λ e. cc)
 same_fueled : (a b : Command) → word_of a ≡ word_of b → takes_fuel a ≡ takes_fuel b
 same_fueled (Run o) (Run p) e = refl
 same_fueled (Run o) (Trace p) e = refl
-same_fueled (Run o) (Check p) e = absurd cc
+same_fueled (Run o) (Check p) e = absurd (other_letter (codes "run") (codes "check") e (λ (x : 114 ≡ 99). omega (arith, x)))
 same_fueled (Run o) (Code p) e = absurd cc
 same_fueled (Trace o) (Run p) e = refl
 same_fueled (Trace o) (Trace p) e = refl
-same_fueled (Trace o) (Check p) e = absurd cc
+same_fueled (Trace o) (Check p) e = absurd (other_letter (codes "trace") (codes "check") e (λ (x : 116 ≡ 99). omega (arith, x)))
 same_fueled (Trace o) (Code p) e = absurd cc
-same_fueled (Check o) (Run p) e = absurd cc
-same_fueled (Check o) (Trace p) e = absurd cc
+same_fueled (Check o) (Run p) e = absurd (other_letter (codes "check") (codes "run") e (λ (x : 99 ≡ 114). omega (arith, x)))
+same_fueled (Check o) (Trace p) e = absurd (other_letter (codes "check") (codes "trace") e (λ (x : 99 ≡ 116). omega (arith, x)))
 same_fueled (Check o) (Check p) e = refl
 same_fueled (Check o) (Code p) e = refl
 same_fueled (Code o) (Run p) e = absurd cc

@@ -4,7 +4,7 @@ use Rattle.pict_syntax.specs.declared.code.Code.TheVariants.{B1}
 use Rattle.pict_top.specs.Plain.{plain_command}
 use Rattle.pict_top.proofs.Meeting.{reported, weaken}
 use Rattle.pict_top.specs.Answer.{Absent, Refusal}
-use Rattle.pict_top.specs.Front.{first_place}
+use Rattle.pict_front.specs.Front.{first_place}
 use Rattle.pict_top.specs.Outcome.{outcome_of}
 use Rattle.pict_top.proofs.Files.{owes_text, owes_absent, owes_too_long}
 use Rattle.pict_top.proofs.top.run_file.Goals as goal
