@@ -583,7 +583,7 @@ fn refused_abstractions_4(rt: HostRuntime) {
 
 /// Operators and types of the weights 131,071, 65,535, 32,767 and so on.
 const HEAVY: &[u8] =
-    b"type (D X) = [X X] type D1 = (D Int) type D2 = (D D1) type D3 = (D D2) type D4 = (D D3) type D5 = (D D4) type D6 = (D D5) type D7 = (D D6) type D8 = (D D7) type D9 = (D D8) type D10 = (D D9) type D11 = (D D10) type D12 = (D D11) type D13 = (D D12) type D14 = (D D13) type D15 = (D D14) ";
+    b"type (Z X) = [X X] type Z1 = (Z Int) type Z2 = (Z Z1) type Z3 = (Z Z2) type Z4 = (Z Z3) type Z5 = (Z Z4) type Z6 = (Z Z5) type Z7 = (Z Z6) type Z8 = (Z Z7) type Z9 = (Z Z8) type Z10 = (Z Z9) type Z11 = (Z Z10) type Z12 = (Z Z11) type Z13 = (Z Z12) type Z14 = (Z Z13) type Z15 = (Z Z14) ";
 
 /// A row of a text behind `HEAVY`.
 fn is_refused_behind_heavy(alloc: Global, row: &Refused) -> Result<bool, AllocError> {
