@@ -613,37 +613,37 @@ fn all_refused_behind_heavy(alloc: Global, rows: &[Refused]) -> Result<bool, All
 #[test]
 fn heavy_abstractions(rt: HostRuntime) -> Result<(), AllocError> {
     let rows = [
-        refuses(b"val f = \\(x:D15):D15 = x", Code::K4, 9, 24),
-        refuses(b"val f = \\(x:D15) = x", Code::K4, 9, 20),
-        refuses(b"val f = \\(x:D15):D15 = 1", Code::Y4, 23, 24),
-        refuses(b"val f = \\(x:D15) = if x then 1 else 2", Code::Y12, 22, 23),
-        refuses(b"val f = \\(x:D15 z:D15 [#Y y:Y]) = y", Code::Y14, 34, 35),
+        refuses(b"val f = \\(x:Z15):Z15 = x", Code::K4, 9, 24),
+        refuses(b"val f = \\(x:Z15) = x", Code::K4, 9, 20),
+        refuses(b"val f = \\(x:Z15):Z15 = 1", Code::Y4, 23, 24),
+        refuses(b"val f = \\(x:Z15) = if x then 1 else 2", Code::Y12, 22, 23),
+        refuses(b"val f = \\(x:Z15 z:Z15 [#Y y:Y]) = y", Code::Y14, 34, 35),
         refuses(
-            b"val f = \\(a:D15 b:D14 c:D9 d:D8 e:D6 f:D4 g:D1):Int = 1",
+            b"val f = \\(a:Z15 b:Z14 c:Z9 d:Z8 e:Z6 f:Z4 g:Z1):Int = 1",
             Code::K4,
             8,
             55,
         ),
         refuses(
-            b"val f = \\(a:D15 b:D14 c:D9 d:D8 e:D6 f:D4 g:D1) = 1",
+            b"val f = \\(a:Z15 b:Z14 c:Z9 d:Z8 e:Z6 f:Z4 g:Z1) = 1",
             Code::K4,
             8,
             51,
         ),
         refuses(
-            b"val f = \\(a:D15 b:D14 c:D9 d:D8 e:D6 f:D4 g:D1 z:Int):Int = 1",
+            b"val f = \\(a:Z15 b:Z14 c:Z9 d:Z8 e:Z6 f:Z4 g:Z1 z:Int):Int = 1",
             Code::K4,
             9,
             61,
         ),
         refuses(
-            b"val f = \\[a:D15 b:D14 c:D9 d:D8 e:D6 f:D4 g:D1 z:/Int] = ()",
+            b"val f = \\[a:Z15 b:Z14 c:Z9 d:Z8 e:Z6 f:Z4 g:Z1 z:/Int] = ()",
             Code::K4,
             8,
             59,
         ),
         refuses(
-            b"val f = \\[a:D15 b:D14 c:D9 d:D8 e:D6 f:D4 g:D1 z:!Int y:Int] = ()",
+            b"val f = \\[a:Z15 b:Z14 c:Z9 d:Z8 e:Z6 f:Z4 g:Z1 z:!Int y:Int] = ()",
             Code::K4,
             9,
             60,
@@ -657,34 +657,34 @@ fn heavy_abstractions(rt: HostRuntime) -> Result<(), AllocError> {
 #[test]
 fn heavy_abstractions_2(rt: HostRuntime) -> Result<(), AllocError> {
     let rows = [
-        refuses(b"def f (x:D15):D15 = 1", Code::K4, 6, 21),
+        refuses(b"def f (x:Z15):Z15 = 1", Code::K4, 6, 21),
         refuses(
-            b"def g (x:Int):Int = \"a\" and f (x:D15):D15 = 1",
+            b"def g (x:Int):Int = \"a\" and f (x:Z15):Z15 = 1",
             Code::K4,
             30,
             45,
         ),
-        refuses(b"def f (x:D15):D15 = 1 and g (y) = y", Code::K4, 6, 21),
+        refuses(b"def f (x:Z15):Z15 = 1 and g (y) = y", Code::K4, 6, 21),
         refuses(
-            b"def f (a:D15 b:D14 c:D9 d:D8 e:D6 f:D4 g:D1):Int = \"a\"",
+            b"def f (a:Z15 b:Z14 c:Z9 d:Z8 e:Z6 f:Z4 g:Z1):Int = \"a\"",
             Code::K4,
             6,
             54,
         ),
         refuses(
-            b"def f [a:D15 b:D14 c:D9 d:D8 e:D6 f:D4 g:D1 z:/Int] = print!1",
+            b"def f [a:Z15 b:Z14 c:Z9 d:Z8 e:Z6 f:Z4 g:Z1 z:/Int] = print!1",
             Code::K4,
             6,
             61,
         ),
         refuses(
-            b"def f [a:D15 b:D14 c:D9 d:D8 e:D6 f:D4 g:D1 z:/Int y:Int] = ()",
+            b"def f [a:Z15 b:Z14 c:Z9 d:Z8 e:Z6 f:Z4 g:Z1 z:/Int y:Int] = ()",
             Code::K4,
             6,
             57,
         ),
         refuses(
-            b"def f (a:D15 b:D14 c:D9 d:D8 e:D6 f:D4 g:D1 z:Int):Int = 1",
+            b"def f (a:Z15 b:Z14 c:Z9 d:Z8 e:Z6 f:Z4 g:Z1 z:Int):Int = 1",
             Code::K4,
             6,
             58,
