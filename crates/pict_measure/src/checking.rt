@@ -63,12 +63,12 @@ pub fn nested(alloc: Global) -> Result<Vec<u8>, AllocError> {
     Ok(text)
 }
 
-/// A text that matches a type of height 999, with a type field in its leaf, with one that has `Int` there.
+/// A text that matches a type of height 996, with a type field in its leaf, with one that has `Int` there.
 pub fn high(alloc: Global) -> Result<Vec<u8>, AllocError> {
     let mut text = Vec::from_slice(alloc, b"type (F X) = ")?;
     repeat(&mut text, b"^", 199)?;
-    text.extend_from_slice(b"X def f (#X x:(F (F (F (F (F ^^^X)))))):Int = 1 ")?;
-    text.extend_from_slice(b"new c:(F (F (F (F (F ^^^Int))))) val y = (f c)")?;
+    text.extend_from_slice(b"X def f (#X x:(F (F (F (F (F X)))))):Int = 1 ")?;
+    text.extend_from_slice(b"new c:(F (F (F (F (F Int))))) val y = (f c)")?;
     Ok(text)
 }
 
