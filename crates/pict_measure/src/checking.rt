@@ -1,7 +1,7 @@
 // Types, measured.
 
 use crate::sample::{Sample, repeat, text_of};
-use crate::scoping::{push_name, scoped};
+use crate::scoping::{push_name, resolved};
 use anyhow::Error;
 use pict_check::{TypeError, check};
 use std::alloc::{AllocError, Global};
@@ -74,7 +74,7 @@ pub fn high(alloc: Global) -> Result<Vec<u8>, AllocError> {
 
 /// Prints whether a text is typed, and with `timed` how long that took.
 pub fn measure_text(rt: &HostRuntime, name: &str, text: &[u8], timed: bool) -> Result<(), Error> {
-    let Some((names, program)) = scoped(rt.alloc(), text)? else {
+    let Some((names, program)) = resolved(rt.alloc(), text)? else {
         println!(rt; "check {name}: no program")?;
         return Ok(());
     };

@@ -1,7 +1,7 @@
 // The translation, measured.
 
 use crate::sample::{Sample, repeat, text_of};
-use crate::scoping::scoped;
+use crate::scoping::resolved;
 use anyhow::Error;
 use pict_core::{Core, depth};
 use pict_derive::{DeriveError, derive};
@@ -10,7 +10,7 @@ use std::time::Instant;
 
 /// The core process of a text, nothing where the text is refused or its process is too deep.
 pub fn derived(alloc: Global, text: &[u8]) -> Result<Option<Core>, Error> {
-    let Some((names, program)) = scoped(alloc, text)? else {
+    let Some((names, program)) = resolved(alloc, text)? else {
         return Ok(None);
     };
     match derive(alloc, &names, &program) {
@@ -102,7 +102,7 @@ fn text_in_groups(alloc: Global, groups: &Groups, size: usize) -> Result<Vec<u8>
 /// Prints how large and how deep the core process of a text is, and with `timed` how long it took to derive and drop it.
 fn measure_text(rt: &HostRuntime, name: &str, text: &[u8], timed: bool) -> Result<(), Error> {
     let alloc = rt.alloc();
-    let Some((names, program)) = scoped(alloc, text)? else {
+    let Some((names, program)) = resolved(alloc, text)? else {
         println!(rt; "derive {name}: no program")?;
         return Ok(());
     };

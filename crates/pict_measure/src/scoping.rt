@@ -81,7 +81,7 @@ pub struct Parsed {
 }
 
 /// The program of a text, or nothing where it is refused or longer than a text may be.
-pub fn parsed(alloc: Global, text: &[u8]) -> Result<Option<Parsed>, Error> {
+pub fn program_of(alloc: Global, text: &[u8]) -> Result<Option<Parsed>, Error> {
     if text.len() as u64 > TEXT_LIMIT {
         return Ok(None);
     }
@@ -99,8 +99,8 @@ pub fn parsed(alloc: Global, text: &[u8]) -> Result<Option<Parsed>, Error> {
 }
 
 /// The resolved program of a text with its names, or nothing where the text is refused or longer than a text may be.
-pub fn scoped(alloc: Global, text: &[u8]) -> Result<Option<(Names, Scoped)>, Error> {
-    let Some(Parsed { names, program }) = parsed(alloc, text)? else {
+pub fn resolved(alloc: Global, text: &[u8]) -> Result<Option<(Names, Scoped)>, Error> {
+    let Some(Parsed { names, program }) = program_of(alloc, text)? else {
         return Ok(None);
     };
     match resolve(alloc, &names, program) {
@@ -112,7 +112,7 @@ pub fn scoped(alloc: Global, text: &[u8]) -> Result<Option<(Names, Scoped)>, Err
 
 /// Prints how many uses a text has, and with `timed` how long it took to find what they mean.
 pub fn measure(rt: &HostRuntime, name: &str, text: &[u8], timed: bool) -> Result<(), Error> {
-    let Some(Parsed { names, program }) = parsed(rt.alloc(), text)? else {
+    let Some(Parsed { names, program }) = program_of(rt.alloc(), text)? else {
         println!(rt; "resolve {name}: no program")?;
         return Ok(());
     };
