@@ -82,41 +82,8 @@ pub static PROGRAMS: [Sample; 4] = [
     },
 ];
 
-/// Texts for the translation: servers, a record, one of records with labels, and a record in 198 others, whose last field
-/// isn't simple, so that it is looked at again for each of them.
-pub static TRANSLATED: [Sample; 4] = [
-    Sample {
-        name: "servers",
-        head: b"new c:^Int new d:Top ",
-        piece: b"run (c?*n = printi!(+ (* n n) (if (== n 1) then 2 else n)) | c!12 | d![n=1 text=\"abc\" pair=[1 2]] | d?[n=a text=b pair=[x y]] = (print!b | printi!(- > a x y)) | print!\"a text that is long enough for one line of a log, with some words in it\")\n",
-        closing: b"",
-        tail: b"",
-    },
-    Sample {
-        name: "a record",
-        head: b"val x=[",
-        piece: b"1 ",
-        closing: b"",
-        tail: b"]",
-    },
-    Sample {
-        name: "labels",
-        head: b"val x=[",
-        piece: b"[b=1 a=2] ",
-        closing: b"",
-        tail: b"]",
-    },
-    Sample {
-        name: "a record in others",
-        head: b"val x=[[[[[[[[[[[[[[[[[[[[[[[[[[[[[[[[[[[[[[[[[[[[[[[[[[[[[[[[[[[[[[[[[[[[[[[[[[[[[[[[[[[[[[[[[[[[[[[[[[[[[[[[[[[[[[[[[[[[[[[[[[[[[[[[[[[[[[[[[[[[[[[[[[[[[[[[[[[[[[[[[[[[[[[[[[[[[[[[[[[[[[[[[[[[[[[[[[[[[[[",
-        piece: b"1 ",
-        closing: b"",
-        tail: b"(+ 1 1)]]]]]]]]]]]]]]]]]]]]]]]]]]]]]]]]]]]]]]]]]]]]]]]]]]]]]]]]]]]]]]]]]]]]]]]]]]]]]]]]]]]]]]]]]]]]]]]]]]]]]]]]]]]]]]]]]]]]]]]]]]]]]]]]]]]]]]]]]]]]]]]]]]]]]]]]]]]]]]]]]]]]]]]]]]]]]]]]]]]]]]]]]]]]]]]]]]]]]]]",
-    },
-];
-
 /// The bytes, so many times over.
-pub fn repeat(text: &mut Vec<u8>, bytes: &[u8], count: usize) -> Result<(), AllocError> {
+fn repeat(text: &mut Vec<u8>, bytes: &[u8], count: usize) -> Result<(), AllocError> {
     for _ in 0..count {
         text.extend_from_slice(bytes)?;
     }
