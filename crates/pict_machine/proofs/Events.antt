@@ -1,6 +1,7 @@
 -- What an event says of a step.
 use Rattle.std.proofs.Common.{◌≡◌, ◌≤◌, ◌+◌, List, map, length, ap, ◌∙◌, sym, subst, Result, Ok, Err, IfOk, arith}
 use Rattle.std.proofs.lemmas.List.{length-map}
+use Rattle.std.specs.declared.alloc.AllocError.{AllocError}
 use Rattle.pict_core.specs.Configuration.{Configuration, IsConfiguration}
 use Rattle.pict_core.specs.Step as step
 use Rattle.pict_view.specs.View.{StandsFor}
@@ -12,7 +13,6 @@ use Rattle.pict_machine.specs.Plain.{label_of, trap_of, plain_queue, HasEvent}
 use Rattle.pict_machine.specs.declared.queue.Queue.{Queue}
 use Rattle.pict_machine.specs.declared.event.Event.{Event}
 use Rattle.pict_machine.specs.declared.event.Event.TheVariants as event
-use Rattle.pict_machine.specs.declared.event.StepError.{StepError}
 
 step_of : (e : Event) (old new : Held) → HasEvent e (next_held old) old new
     → (C : Configuration) → IsConfiguration C → StandsFor (view_of_held old) C → IsStepOf C (label_of e) (trap_of e) (view_of_held new)
@@ -21,7 +21,7 @@ step_of (event.Comm c v) old new h C is s = moves C old new _ is s h
 step_of (event.Print bytes) old new h C is s = moves C old new _ is s h
 step_of (event.Trapped at) old new h C is s = (trapped_of old at h.0 C is s, subst (λ x. StandsFor (view_of_held x) C) (sym h.1) s)
 
-pub steps_of : (r : Result Event StepError) (old new : Held) → IfOk r (λ e. HasEvent e (next_held old) old new)
+pub steps_of : (r : Result Event AllocError) (old new : Held) → IfOk r (λ e. HasEvent e (next_held old) old new)
     → IfOk r (λ e. (C : Configuration) → IsConfiguration C → StandsFor (view_of_held old) C → IsStepOf C (label_of e) (trap_of e) (view_of_held new))
 steps_of (Ok e) old new h = step_of e old new h
 steps_of (Err e) old new h = tt
@@ -33,7 +33,7 @@ event_grows (event.Print bytes) old new h = grown old new _ h
 event_grows (event.Trapped at) old new h = let e : length new.queues ≡ length old.queues = ap (λ (x : Held). length x.queues) h.1 in omega arith
 
 -- at most one queue more
-pub steps_grow : (r : Result Event StepError) (old new : Held) → IfOk r (λ e. HasEvent e (next_held old) old new)
+pub steps_grow : (r : Result Event AllocError) (old new : Held) → IfOk r (λ e. HasEvent e (next_held old) old new)
     → (xs ys : List Queue) → old.queues ≡ map plain_queue xs → new.queues ≡ map plain_queue ys → IfOk r (λ e. length ys ≤ length xs + 1)
 steps_grow (Ok e) old new h xs ys f g =
     let k : length new.queues ≤ length old.queues + 1 = event_grows e old new h in

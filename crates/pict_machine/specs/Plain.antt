@@ -1,5 +1,6 @@
 -- What the machine's types stand for.
-use Rattle.std.specs.Prelude.{ℕ, ◌≡◌, length, map, Option, Some, None, option_map, Result, Err, IfOk}
+use Rattle.std.specs.Prelude.{ℕ, ◌≡◌, ◌≢◌, length, map, Option, Some, None, option_map, Result, IfOk}
+use Rattle.std.specs.declared.alloc.AllocError.{AllocError}
 use Rattle.pict_syntax.specs.declared.span.Span.{Span}
 use Rattle.pict_core.specs.declared.process.Core.{Core}
 use Rattle.pict_core.specs.Term.{Val, Process, In}
@@ -17,8 +18,6 @@ use Rattle.pict_machine.specs.declared.event.End.{End}
 use Rattle.pict_machine.specs.declared.event.End.TheVariants as end
 use Rattle.pict_machine.specs.declared.event.Event.{Event}
 use Rattle.pict_machine.specs.declared.event.Event.TheVariants as event
-use Rattle.pict_machine.specs.declared.event.StepError.{StepError}
-use Rattle.pict_machine.specs.declared.event.StepError.TheVariants as fault
 use Rattle.pict_machine.specs.declared.queue.Message.{Message}
 use Rattle.pict_machine.specs.declared.queue.Reader.{Reader}
 use Rattle.pict_machine.specs.declared.queue.Queue.{Queue}
@@ -84,20 +83,17 @@ channels_of m = length m.queues.items
 
 -- ---- what the machine's parts answer
 
--- the body of a reader with what it binds of a value, or nothing where the value doesn't fit
-abbrev pub IsServed : Option Core → held.Reader → Val → Type 0
-IsServed None r v = match_value r.pattern v ≡ None
-IsServed (Some p) r v = option_map (λ bound. substitute 0 bound r.body) (match_value r.pattern v) ≡ Some (plain_core p)
+-- the body of a reader with what it binds of a value
+abbrev pub IsServed : Core → held.Reader → Val → Type 0
+IsServed p r v = option_map (λ bound. substitute 0 bound r.body) (match_value r.pattern v) ≡ Some (plain_core p)
 
 abbrev pub IsOffered : Offered → held.Queue → held.Message → held.Queue → Type 0
 IsOffered offered.Waits old m new = held.offered old m ≡ held.Parks new
 IsOffered (offered.Meets p v) old m new = (held.offered old m ≡ held.Meets (plain_core p) new) × (plain_val v ≡ m.value)
-IsOffered (offered.Misfits n) old m new = (held.offered old m ≡ held.Unfit) × (plain_message n ≡ m) × (new ≡ old)
 
 abbrev pub IsAsked : Asked → held.Queue → held.Reader → held.Queue → Type 0
 IsAsked asked.Waits old r new = held.asked old r ≡ held.Waits new
 IsAsked (asked.Gets s p v) old r new = (held.asked old r ≡ held.Gets (plain_core p) (plain_val v) new) × (plain_reader s ≡ r)
-IsAsked (asked.Misfits s) old r new = (held.asked old r ≡ held.Misfit) × (plain_reader s ≡ r) × (new ≡ old)
 
 -- the event of a step of what is held, and what is held after it
 abbrev pub HasEvent : Event → Moved Held → Held → Held → Type 0
@@ -107,10 +103,13 @@ HasEvent (event.Comm channel value) m old new = m ≡ moved.Moves new (step.Comm
 HasEvent (event.Print bytes) m old new = m ≡ moved.Moves new (step.Print bytes)
 
 -- what the machine's step answers, and what it does to what is held
-pub record IsStep (old : Held) (result : Result Event StepError) (new : Held) : Type 0 where
-  pub ok : IfOk result (λ e. HasEvent e (held.next_held old) old new)
-  pub shape : result ≡ Err fault.Shape → (held.next_held old ≡ moved.Misshapen) × (new ≡ old)
+abbrev pub IsStep : Held → Result Event AllocError → Held → Type 0
+IsStep old result new = IfOk result (λ e. HasEvent e (held.next_held old) old new)
 
 -- the same of a process that has the turn, before the others
-abbrev pub Acts : Process → Held → Result Event StepError → Held → Type 0
+abbrev pub Acts : Process → Held → Result Event AllocError → Held → Type 0
 Acts p rest result new = IsStep (held.in_front p rest) result new
+
+-- the process, having the turn before the others, meets no value of another shape than what it does with it
+abbrev pub MayAct : Process → Held → Type 0
+MayAct p rest = held.next_held (held.in_front p rest) ≢ moved.Misshapen

@@ -37,17 +37,6 @@ pub enum End {
     Trap(Span),
 }
 
-/// Why a step has no event.
-#[derive(Debug, Drop, Error)]
-pub enum StepError {
-    /// Memory is wanting. The machine is to be dropped.
-    #[error("out of memory")]
-    Memory,
-    /// The step is wrong: a value has another shape than what the process does with it. The machine is unchanged.
-    #[error("a value of another shape than what is done with it")]
-    Shape,
-}
-
 /// Why a run has no end.
 #[derive(Debug, Drop, Error)]
 pub enum RunError {
@@ -57,19 +46,6 @@ pub enum RunError {
     /// Memory is wanting. The machine is to be dropped.
     #[error("out of memory")]
     Memory,
-    /// A step is wrong. The machine stands before it.
-    #[error("a value of another shape than what is done with it")]
-    Shape,
-}
-
-impl From<AllocError> for StepError {
-    ghost use Rattle.pict_machine.specs.declared.event.StepError.TheVariants.{Memory};
-
-    ghost from_gives = { λ _ e. e ≡ Memory };
-
-    fn from(_: AllocError) -> StepError {
-        StepError::Memory
-    }
 }
 
 impl From<AllocError> for RunError {

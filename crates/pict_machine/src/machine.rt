@@ -1,19 +1,20 @@
 // The machine: a run queue, and a queue for each channel.
 
-ghost use Rattle.std.specs.Prelude.{◌≡◌, ◌≢◌, ◌<◌, ◌≤◌, ◌+◌, ◌^◌, ◌↔◌, ◌∷◌, ◌++◌, [], map, length, IfOk, Err, Ok, IsTrue};
+ghost use Rattle.std.specs.Prelude.{◌≡◌, ◌≢◌, ◌<◌, ◌≤◌, ◌+◌, ◌^◌, ◌↔◌, ◌∷◌, ◌++◌, [], map, length, IfOk, Ok, IsTrue};
 ghost use Rattle.std.specs.VecDeque.{deque_len, deque_capacity};
 ghost use Rattle.pict_core.specs.Plain.{plain_core, plain_val, core_of};
 ghost use Rattle.pict_core.specs.Term.{Out, New, If, Chan, PrimitiveVal};
 ghost use Rattle.pict_core.specs.Closed.{IsClosed};
 ghost use Rattle.pict_core.specs.Configuration.{Configuration, IsConfiguration, opening};
-ghost use Rattle.pict_core.specs.Step.{next, Wrong, Finished};
+ghost use Rattle.pict_core.specs.Step.{next, Finished};
 ghost use Rattle.pict_view.specs.View.{View, StandsFor};
-ghost use Rattle.pict_view.specs.Moved.{if_replicated};
-ghost use Rattle.pict_view.specs.Held.{Held, in_front};
+ghost use Rattle.pict_view.specs.Moved.{if_replicated, Misshapen};
+ghost use Rattle.pict_view.specs.Held.{Held, in_front, next_held};
+ghost use Rattle.pict_view.specs.Right.{IsRightFor};
 ghost use Rattle.pict_view.specs.Stepping.{IsStepOf};
-ghost use Rattle.pict_machine.specs.Plain.{view_of, channels_of, held_of, input_of, label_of, trap_of, Acts, IsStep};
+ghost use Rattle.pict_machine.specs.Plain.{view_of, channels_of, held_of, input_of, label_of, trap_of, Acts, IsStep, MayAct};
 
-use crate::event::{Event, StepError};
+use crate::event::Event;
 use crate::queue::{Asked, Message, Offered, Queue, Reader};
 use pict_core::{Core, CoreVal, Part, substitute};
 use pict_prim::{Done, attempt, printed_bytes};
@@ -76,62 +77,44 @@ impl Machine {
     }
 
     // The output of the message on the channel.
-    fn send(&mut self, channel: u32, message: Message) -> Result<Event, StepError>
-        requires { deque_len self.old.ready < deque_capacity self.old.ready }
+    fn send(&mut self, channel: u32, message: Message) -> Result<Event, AllocError>
+        requires room { deque_len self.old.ready < deque_capacity self.old.ready }
+        requires right { MayAct (Out (Chan channel) (plain_val message.value) message.at) (held_of self.old) }
         ensures { Acts (Out (Chan channel) (plain_val message.value) message.at) (held_of self.old) result (held_of self.new) }
     {
-        let index = channel as usize;
-        if index >= self.queues.len() {
-            self.ready.push_front_reserved(message.output(channel));
-            return Err(StepError::Shape);
-        }
-        match self.queues[index].offer(self.alloc, message)? {
+        match self.queues[channel as usize].offer(self.alloc, message)? {
             Offered::Waits => Ok(Event::Quiet),
             Offered::Meets(body, value) => {
                 self.ready.push_back_reserved(body);
                 Ok(Event::Comm { channel, value })
             }
-            Offered::Misfits(message) => {
-                self.ready.push_front_reserved(message.output(channel));
-                Err(StepError::Shape)
-            }
         }
     }
 
     // The input of the reader at the channel.
-    fn receive(&mut self, channel: u32, reader: Reader) -> Result<Event, StepError>
-        requires { deque_len self.old.ready + 1 < deque_capacity self.old.ready }
+    fn receive(&mut self, channel: u32, reader: Reader) -> Result<Event, AllocError>
+        requires room { deque_len self.old.ready + 1 < deque_capacity self.old.ready }
+        requires right { MayAct (input_of (Chan channel) reader) (held_of self.old) }
         ensures { Acts (input_of (Chan channel) reader) (held_of self.old) result (held_of self.new) }
     {
-        let index = channel as usize;
-        if index >= self.queues.len() {
-            self.ready.push_front_reserved(reader.input(channel));
-            return Err(StepError::Shape);
-        }
-        match self.queues[index].ask(self.alloc, reader)? {
+        match self.queues[channel as usize].ask(self.alloc, reader)? {
             Asked::Waits => Ok(Event::Quiet),
             Asked::Gets(reader, body, value) => {
                 self.ready.push_back_reserved(body);
                 keep_turn(&mut self.ready, channel, reader);
                 Ok(Event::Comm { channel, value })
             }
-            Asked::Misfits(reader) => {
-                self.ready.push_front_reserved(reader.input(channel));
-                Err(StepError::Shape)
-            }
         }
     }
 
     // The output of the argument to the primitive.
-    fn call(&mut self, primitive: Prim, argument: CoreVal, at: Span) -> Result<Event, StepError>
-        requires { deque_len self.old.ready < deque_capacity self.old.ready }
+    fn call(&mut self, primitive: Prim, argument: CoreVal, at: Span) -> Result<Event, AllocError>
+        requires room { deque_len self.old.ready < deque_capacity self.old.ready }
+        requires right { MayAct (Out (PrimitiveVal primitive) (plain_val argument) at) (held_of self.old) }
         ensures { Acts (Out (PrimitiveVal primitive) (plain_val argument) at) (held_of self.old) result (held_of self.new) }
     {
         match attempt(self.alloc, primitive, &argument)? {
-            None => {
-                self.keep_output(CoreVal::Prim(primitive), argument, at);
-                Err(StepError::Shape)
-            }
+            None => unreachable!(),
             Some(Done::ZeroDivisor) => {
                 self.keep_output(CoreVal::Prim(primitive), argument, at);
                 Ok(Event::Trapped(at))
@@ -159,7 +142,7 @@ impl Machine {
     }
 
     // A new channel for the body.
-    fn make_channel(&mut self, body: Part) -> Result<Event, StepError>
+    fn make_channel(&mut self, body: Part) -> Result<Event, AllocError>
         requires room { deque_len self.old.ready < deque_capacity self.old.ready }
         requires few { length self.old.queues.items + 1 < 2 ^ 32 }
         ensures { Acts (New (plain_core (core_of body))) (held_of self.old) result (held_of self.new) }
@@ -174,8 +157,9 @@ impl Machine {
     }
 
     // The branch that the test chooses.
-    fn choose(&mut self, test: CoreVal, yes: Part, no: Part) -> Result<Event, StepError>
-        requires { deque_len self.old.ready < deque_capacity self.old.ready }
+    fn choose(&mut self, test: CoreVal, yes: Part, no: Part) -> Result<Event, AllocError>
+        requires room { deque_len self.old.ready < deque_capacity self.old.ready }
+        requires right { MayAct (If (plain_val test) (plain_core (core_of yes)) (plain_core (core_of no))) (held_of self.old) }
         ensures { Acts (If (plain_val test) (plain_core (core_of yes)) (plain_core (core_of no))) (held_of self.old) result (held_of self.new) }
     {
         match test {
@@ -187,51 +171,40 @@ impl Machine {
                 self.ready.push_front_reserved(no.into_core());
                 Ok(Event::Quiet)
             }
-            _ => {
-                self.ready.push_front_reserved(Core::If { test, yes, no });
-                Err(StepError::Shape)
-            }
+            _ => unreachable!(),
         }
     }
 
     // An output, to whatever it is sent.
-    fn output(&mut self, chan: CoreVal, message: CoreVal, at: Span) -> Result<Event, StepError>
-        requires { deque_len self.old.ready < deque_capacity self.old.ready }
+    fn output(&mut self, chan: CoreVal, message: CoreVal, at: Span) -> Result<Event, AllocError>
+        requires room { deque_len self.old.ready < deque_capacity self.old.ready }
+        requires right { MayAct (Out (plain_val chan) (plain_val message) at) (held_of self.old) }
         ensures { Acts (Out (plain_val chan) (plain_val message) at) (held_of self.old) result (held_of self.new) }
     {
         match chan {
             CoreVal::Chan(channel) => self.send(channel, Message { value: message, at }),
             CoreVal::Prim(primitive) => self.call(primitive, message, at),
-            _ => {
-                self.keep_output(chan, message, at);
-                Err(StepError::Shape)
-            }
+            _ => unreachable!(),
         }
     }
 
     // An input, from whatever it receives.
-    fn input(&mut self, chan: CoreVal, reader: Reader) -> Result<Event, StepError>
-        requires { deque_len self.old.ready + 1 < deque_capacity self.old.ready }
+    fn input(&mut self, chan: CoreVal, reader: Reader) -> Result<Event, AllocError>
+        requires room { deque_len self.old.ready + 1 < deque_capacity self.old.ready }
+        requires right { MayAct (input_of (plain_val chan) reader) (held_of self.old) }
         ensures { Acts (input_of (plain_val chan) reader) (held_of self.old) result (held_of self.new) }
     {
         match chan {
             CoreVal::Chan(channel) => self.receive(channel, reader),
-            _ => {
-                self.ready.push_front_reserved(Core::In {
-                    chan,
-                    replicated: reader.replicated,
-                    pattern: reader.pattern,
-                    body: reader.body,
-                });
-                Err(StepError::Shape)
-            }
+            _ => unreachable!(),
         }
     }
 
     // The process acts.
-    fn act(&mut self, process: Core) -> Result<Event, StepError>
+    fn act(&mut self, process: Core) -> Result<Event, AllocError>
         requires room { deque_len self.old.ready + 1 < deque_capacity self.old.ready }
         requires few { length self.old.queues.items + 1 < 2 ^ 32 }
+        requires right { MayAct (plain_core process) (held_of self.old) }
         ensures { Acts (plain_core process) (held_of self.old) result (held_of self.new) }
     {
         match process {
@@ -261,9 +234,10 @@ impl Machine {
     }
 
     // The step, as the queues see it.
-    fn advance(&mut self) -> Result<Event, StepError>
+    fn advance(&mut self) -> Result<Event, AllocError>
         requires ready { (view_of self.old).ready ≢ [] }
         requires few { channels_of self.old + 1 < 2 ^ 32 }
+        requires right { next_held (held_of self.old) ≢ Misshapen }
         ensures { IsStep (held_of self.old) result (held_of self.new) }
     {
         self.ready.reserve(1)?;
@@ -277,16 +251,19 @@ impl Machine {
     /// One step: that of the oldest ready process, with its oldest partner.
     ///
     /// The event is the label of the oldest-first step, for each configuration that the machine stands for, and the
-    /// machine stands for the next configuration. `Trapped` comes exactly where the step divides by zero, and `Shape`
-    /// exactly where it is wrong; the machine is then unchanged. After `Memory` it is to be dropped. It takes time in
-    /// the size of the acting process and of its partner, however many processes wait: amortised over the run, since a
-    /// queue that is full moves to a place twice as large.
-    pub fn step(&mut self) -> Result<Event, StepError>
+    /// machine stands for the next configuration. `Trapped` comes exactly where the step divides by zero; the machine is
+    /// then unchanged. The only error is want of memory; the machine is then to be dropped. It takes time in the size of
+    /// the acting process and of its partner, however many processes wait: amortised over the run, since a queue that is
+    /// full moves to a place twice as large.
+    ///
+    /// The step may not be wrong: some configuration that the machine stands for takes it rightly. A wrong step is one that
+    /// sends to or receives from what is no channel, tests what is no Bool, gives a primitive what it doesn't take, or
+    /// meets a value that doesn't fit a pattern.
+    pub fn step(&mut self) -> Result<Event, AllocError>
         requires ready { (view_of self.old).ready ≢ [] }
         requires few { channels_of self.old + 1 < 2 ^ 32 }
+        requires right { IsRightFor (view_of self.old) 1 }
         ensures ok { IfOk result (λ event. (C : Configuration) → IsConfiguration C → StandsFor (view_of self.old) C → IsStepOf C (label_of event) (trap_of event) (view_of self.new)) }
-        ensures shape { result ≡ Err StepError.Shape → (C : Configuration) → IsConfiguration C → StandsFor (view_of self.old) C → next C ≡ Wrong }
-        ensures unchanged { result ≡ Err StepError.Shape → view_of self.new ≡ view_of self.old }
         ensures trapped { (at : Span) → result ≡ Ok (Event.Trapped at) → view_of self.new ≡ view_of self.old }
         ensures channels { IfOk result (λ event. channels_of self.new ≤ channels_of self.old + 1) }
     {

@@ -1,10 +1,12 @@
 // What waits at a channel.
 
-ghost use Rattle.std.specs.Prelude.{◌≡◌, ◌<◌, ◌++◌, map, IfOk};
+ghost use Rattle.std.specs.Prelude.{◌≡◌, ◌≢◌, ◌<◌, ◌++◌, None, map, IfOk};
 ghost use Rattle.std.specs.VecDeque.{deque_len, deque_capacity};
 ghost use Rattle.pict_core.specs.Plain.{plain_core, plain_val};
-ghost use Rattle.pict_core.specs.Term.{Out, Chan};
+ghost use Rattle.pict_core.specs.Term.{Chan};
+ghost use Rattle.pict_core.specs.Matching.{match_value as match_plain};
 ghost use Rattle.pict_view.specs.Moved.{if_replicated};
+ghost use Rattle.pict_view.specs.Held.{offered, asked, Unfit, Misfit};
 ghost use Rattle.pict_machine.specs.Plain.{plain_message, plain_reader, plain_queue, input_of, IsOffered, IsAsked, IsServed};
 
 use pict_core::{Core, CorePat, CoreVal, Part, match_value, substitute};
@@ -39,7 +41,6 @@ pub(crate) enum Queue {
 pub(crate) enum Offered {
     Waits,
     Meets(Core, CoreVal),
-    Misfits(Message),
 }
 
 /// What becomes of a reader that comes to a queue.
@@ -47,20 +48,6 @@ pub(crate) enum Offered {
 pub(crate) enum Asked {
     Waits,
     Gets(Reader, Core, CoreVal),
-    Misfits(Reader),
-}
-
-impl Message {
-    // The output on the channel.
-    pub(crate) fn output(self, channel: u32) -> Core
-        ensures { plain_core result ≡ Out (Chan channel) (plain_val self.value) self.at }
-    {
-        Core::Out {
-            chan: CoreVal::Chan(channel),
-            message: self.value,
-            at: self.at,
-        }
-    }
 }
 
 impl Reader {
@@ -76,13 +63,14 @@ impl Reader {
         }
     }
 
-    // The body with what the pattern binds of the value; nothing where the value doesn't fit the pattern.
-    fn serve(&self, alloc: Global, value: &CoreVal) -> Result<Option<Core>, AllocError>
+    // The body with what the pattern binds of the value.
+    fn serve(&self, alloc: Global, value: &CoreVal) -> Result<Core, AllocError>
+        requires fits { match_plain (plain_reader self.now).pattern (plain_val value.now) ≢ None }
         ensures { IfOk result (λ body. IsServed body (plain_reader self.now) (plain_val value.now)) }
     {
         match match_value(alloc, &self.pattern, value)? {
-            None => Ok(None),
-            Some(bound) => Ok(Some(substitute(alloc, self.body.core(), &bound)?)),
+            None => unreachable!(),
+            Some(bound) => substitute(alloc, self.body.core(), &bound),
         }
     }
 }
@@ -100,6 +88,7 @@ fn requeue(readers: &mut VecDeque<Reader>, reader: Reader)
 impl Queue {
     // The message comes: the oldest reader takes it, or it waits.
     pub(crate) fn offer(&mut self, alloc: Global, message: Message) -> Result<Offered, AllocError>
+        requires fits { offered (plain_queue self.old) (plain_message message) ≢ Unfit }
         ensures { IfOk result (λ o. IsOffered o (plain_queue self.old) (plain_message message) (plain_queue self.new)) }
     {
         match self {
@@ -114,22 +103,18 @@ impl Queue {
                     *self = Queue::Messages(messages);
                     Ok(Offered::Waits)
                 }
-                Some(reader) => match reader.serve(alloc, &message.value)? {
-                    None => {
-                        readers.push_front_reserved(reader);
-                        Ok(Offered::Misfits(message))
-                    }
-                    Some(body) => {
-                        requeue(readers, reader);
-                        Ok(Offered::Meets(body, message.value))
-                    }
-                },
+                Some(reader) => {
+                    let body = reader.serve(alloc, &message.value)?;
+                    requeue(readers, reader);
+                    Ok(Offered::Meets(body, message.value))
+                }
             },
         }
     }
 
     // The reader comes: it takes the oldest message, or it waits.
     pub(crate) fn ask(&mut self, alloc: Global, reader: Reader) -> Result<Asked, AllocError>
+        requires fits { asked (plain_queue self.old) (plain_reader reader) ≢ Misfit }
         ensures { IfOk result (λ a. IsAsked a (plain_queue self.old) (plain_reader reader) (plain_queue self.new)) }
     {
         match self {
@@ -144,13 +129,10 @@ impl Queue {
                     *self = Queue::Readers(readers);
                     Ok(Asked::Waits)
                 }
-                Some(message) => match reader.serve(alloc, &message.value)? {
-                    None => {
-                        messages.push_front_reserved(message);
-                        Ok(Asked::Misfits(reader))
-                    }
-                    Some(body) => Ok(Asked::Gets(reader, body, message.value)),
-                },
+                Some(message) => {
+                    let body = reader.serve(alloc, &message.value)?;
+                    Ok(Asked::Gets(reader, body, message.value))
+                }
             },
         }
     }

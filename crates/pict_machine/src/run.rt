@@ -4,12 +4,13 @@ ghost use Rattle.std.specs.Prelude.{◌≡◌, ◌≢◌, ◌≤◌, ◌<◌, �
 ghost use Rattle.pict_outside.specs.Counts.{Rose};
 ghost use Rattle.pict_core.specs.Configuration.{Configuration, IsConfiguration};
 ghost use Rattle.pict_core.specs.Step.{Label};
-ghost use Rattle.pict_core.specs.Run.{shown, Misshapen};
+ghost use Rattle.pict_core.specs.Run.{shown};
 ghost use Rattle.pict_view.specs.View.{StandsFor};
+ghost use Rattle.pict_view.specs.Right.{IsRightFor};
 ghost use Rattle.pict_view.specs.Watching.{WhereTold, Saw, SawOrTore, Ran, BrokeOff};
 ghost use Rattle.pict_machine.specs.Plain.{view_of, channels_of, label_of, end_of, IsShown};
 
-use crate::event::{End, Event, RunError, StepError};
+use crate::event::{End, Event, RunError};
 use crate::machine::Machine;
 use pict_syntax::FUEL_LIMIT;
 
@@ -32,8 +33,7 @@ pub trait Watcher {
     /// It shows through the same references as before.
     ghost same: { Self → Self → Type 0 };
 
-    /// Shows the event of the step with this number, from 1. `Sink` comes only where the count of faults rose, and
-    /// `Shape` never.
+    /// Shows the event of the step with this number, from 1. `Sink` comes only where the count of faults rose.
     fn see(&mut self, number: u64, event: &Event) -> Result<(), RunError>
         requires { IsShown event.now }
         ensures seen { OnOk result (WhereTold (λ before after. after ≡ next self.old before number (label_of event.now)) (view self.old) (view self.new)) }
@@ -42,7 +42,6 @@ pub trait Watcher {
         ensures torn_stays { (v : List ℕ) (n : ℕ) (l : Label) (after : List ℕ) → torn self.new v n l after ↔ torn self.old v n l after }
         ensures faults_stay { faults self.old ≤ faults self.new }
         ensures sink { result ≡ Err RunError.Sink → Rose (faults self.old) (faults self.new) }
-        ensures no_shape { result ≢ Err RunError.Shape }
         ensures same { same self.old self.new };
 
     ghost same_itself: { (w : Self) → same w w };
@@ -60,7 +59,6 @@ fn show<W: Watcher>(watcher: &mut W, number: u64, event: &Event) -> Result<(), R
     ensures torn_stays { (v : List ℕ) (n : ℕ) (l : Label) (after : List ℕ) → W.torn watcher.new v n l after ↔ W.torn watcher.old v n l after }
     ensures faults_stay { W.faults watcher.old ≤ W.faults watcher.new }
     ensures sink { result ≡ Err RunError.Sink → Rose (W.faults watcher.old) (W.faults watcher.new) }
-    ensures no_shape { result ≢ Err RunError.Shape }
     ensures same { W.same watcher.old watcher.new }
 {
     match event {
@@ -71,21 +69,21 @@ fn show<W: Watcher>(watcher: &mut W, number: u64, event: &Event) -> Result<(), R
 }
 
 impl Machine {
-    /// Up to `fuel` steps, each the oldest-first step, until nothing is ready, a step traps or one is wrong. After
-    /// each step that shows something the watcher sees its event, with step numbers from 1.
+    /// Up to `fuel` steps, each the oldest-first step, until nothing is ready or a step traps. After each step that shows
+    /// something the watcher sees its event, with step numbers from 1.
     ///
     /// The answer is the end of the run with this fuel, of each configuration that the machine stands for, and the
     /// watcher has seen exactly its labels, in order. `Sink` and `Memory` break the run off; what the watcher has
     /// seen are then the labels of some steps of the run, of which showing the last may have been refused. `Sink` comes only where
-    /// the watcher's count of faults rose. `Shape` comes exactly where a step within the fuel is wrong; the machine
-    /// stands before it. After `Memory` the machine is to be dropped.
+    /// the watcher's count of faults rose. After `Memory` the machine is to be dropped.
+    ///
+    /// No step within the fuel may be wrong: so it is in the run of some configuration that the machine stands for.
     pub fn run<W: Watcher>(&mut self, fuel: u64, watcher: &mut W) -> Result<End, RunError>
         requires fuel { fuel ≤ FUEL_LIMIT }
         requires few { channels_of self.old + fuel < 2 ^ 32 }
+        requires right { IsRightFor (view_of self.old) fuel }
         ensures end { IfOk result (λ end. (C : Configuration) → IsConfiguration C → StandsFor (view_of self.old) C
             → Ran C fuel (end_of end) (view_of self.new) (Saw (W.next watcher.old) (W.view watcher.old) (W.view watcher.new))) }
-        ensures shape { result ≡ Err RunError.Shape → (C : Configuration) → IsConfiguration C → StandsFor (view_of self.old) C
-            → Ran C fuel Misshapen (view_of self.new) (Saw (W.next watcher.old) (W.view watcher.old) (W.view watcher.new)) }
         ensures refused { result ≡ Err RunError.Sink → (C : Configuration) → IsConfiguration C → StandsFor (view_of self.old) C
             → BrokeOff C fuel (StandsFor (view_of self.new)) (SawOrTore (W.next watcher.old) (W.torn watcher.old) (W.view watcher.old) (W.view watcher.new)) }
         ensures memory { result ≡ Err RunError.Memory → (C : Configuration) → IsConfiguration C → StandsFor (view_of self.old) C
@@ -101,11 +99,7 @@ impl Machine {
             if !self.ready() {
                 return Ok(End::Done);
             }
-            let event = match self.step() {
-                Ok(event) => event,
-                Err(StepError::Memory) => return Err(RunError::Memory),
-                Err(StepError::Shape) => return Err(RunError::Shape),
-            };
+            let event = self.step()?;
             match event.trap() {
                 Some(at) => return Ok(End::Trap(at)),
                 None => {}

@@ -1,5 +1,5 @@
 -- Runs go on by one step.
-use Rattle.std.proofs.Common.{ℕ, suc, ◌+◌, ◌<◌, ◌≤◌, ◌≡◌, ◌≢◌, inr, Bool, false, List, [], ◌∷◌, ◌++◌, refl, sym, ap, ◌∙◌, subst, Option, Some, None, IsTrue, ◌↔◌, add-one, arith}
+use Rattle.std.proofs.Common.{ℕ, zero, suc, ◌+◌, ◌<◌, ◌≤◌, ◌≡◌, ◌≢◌, inr, Bool, false, List, [], ◌∷◌, ◌++◌, refl, sym, ap, ◌∙◌, subst, Option, Some, None, IsTrue, ◌↔◌, add-one, arith}
 use Rattle.pict_syntax.specs.declared.span.Span.{Span}
 use Rattle.pict_core.specs.Configuration.{Configuration, IsConfiguration}
 use Rattle.pict_core.specs.Step.{Label, StepOutcome, Steps, Traps, Wrong, Finished, next}
@@ -7,6 +7,7 @@ use Rattle.pict_core.specs.Run as run
 use Rattle.pict_core.specs.Run.{Reaches, RunsFrom, shown}
 use Rattle.pict_view.specs.View.{View, StandsFor}
 use Rattle.pict_view.specs.Stepping.{Follows, IsStepOf}
+use Rattle.pict_view.specs.Right.{StepsRight, IsRightFor}
 use Rattle.pict_view.specs.Watching.{WhereTold, view_after, Saw, SawOrTore, Ran, BrokeOff}
 
 -- after n steps from C the view stands for the configuration, and the labels are as was seen
@@ -113,10 +114,18 @@ is_trapped n fuel C v v' Seen label trap at lt f t s =
     let x = traps_of label trap at s.last v' t (f s.last s.is s.stands) in
     record { labels = s.labels; runs = record { steps = n; last = s.last; reached = s.reached; ends = (lt, x.0) }; stands = x.1; seen = s.seen }
 
-pub is_misshapen : (n fuel : ℕ) (C : Configuration) (v v' : View) (Seen : List (ℕ × Label) → Type 0) → n < fuel
-    → ((D : Configuration) → IsConfiguration D → StandsFor v D → next D ≡ Wrong) → v' ≡ v → Stood n C v Seen → Ran C fuel run.Misshapen v' Seen
-is_misshapen n fuel C v v' Seen lt f same s =
-    record { labels = s.labels; runs = record { steps = n; last = s.last; reached = s.reached; ends = (lt, f s.last s.is s.stands) }; stands = subst (λ x. StandsFor x s.last) (sym same) s.stands; seen = s.seen }
+-- ---- right steps
+
+next_right : (C : Configuration) → next C ≢ Wrong → StepsRight C 1
+next_right C h zero labels D lt reached = subst (λ X. next X ≢ Wrong) reached.0 h
+next_right C h (suc n) labels D lt reached = absurd (omega (arith, lt))
+
+-- after fewer steps than the fuel of a right run the next one is right
+pub still_right : (n fuel : ℕ) (v v' : View) (Seen : List (ℕ × Label) → Type 0) → n < fuel → IsRightFor v fuel
+    → ((C : Configuration) → IsConfiguration C → StandsFor v C → Stood n C v' Seen) → IsRightFor v' 1
+still_right n fuel v v' Seen lt r stood =
+    let s = stood r.configuration r.is r.stands in
+    record { configuration = s.last; is = s.is; stands = s.stands; right = next_right s.last (r.right n s.labels s.last lt s.reached) }
 
 -- ---- breaking off
 

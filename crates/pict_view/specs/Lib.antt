@@ -3,5 +3,6 @@ pub mod Moved
 pub mod ViewStep
 pub mod Held
 pub mod Stepping
+pub mod Right
 pub mod Watching
 pub mod Laws

@@ -1,5 +1,5 @@
-use Rattle.std.proofs.Common.{◌≡◌, false, arith, refl, sym, ◌∙◌}
-use Rattle.pict_view.proofs.Runs.{is_done, is_spent, is_trapped, is_misshapen, one_more, saw_more, refused, refused_lost}
+use Rattle.std.proofs.Common.{◌≡◌, false, arith, sym, ◌∙◌}
+use Rattle.pict_view.proofs.Runs.{is_done, is_spent, is_trapped, still_right, one_more, saw_more, refused, refused_lost}
 use Rattle.pict_machine.specs.Plain.{label_of, trap_of}
 use Rattle.pict_machine.proofs.machine.Machine.run.Goals as goal
 
@@ -8,32 +8,30 @@ returns-then-not-ready-clause-end g c C is s =
     let n : c.ready.result ≡ false = cc in
     is_done _ _ _ _ _ _ c.loop-step.auto.step-end n c.ready.ensures.unfinished (c.loop-step.invariant.stood C is s)
 
-pub returns-in-Err-Shape-clause-shape : goal.returns-in-Err-Shape-clause-shape
-returns-in-Err-Shape-clause-shape g c e C is s =
-    let x = rw c.in-Err-Shape.field-0-is at c.in-Err-Shape.ensures in
-    is_misshapen _ _ _ _ _ _ (omega arith) (x.shape refl) (x.unchanged refl) (c.loop-step.invariant.stood C is s)
+pub step-requires-clause-right : goal.step-requires-clause-right
+step-requires-clause-right g c = still_right _ _ _ _ _ (omega arith) c.requires.right c.loop-step.invariant.stood
 
 pub returns-in-Some-clause-end : goal.returns-in-Some-clause-end
 returns-in-Some-clause-end g c C is s =
-    is_trapped _ _ _ _ _ _ (label_of c.in-Ok.event) (trap_of c.in-Ok.event) _ (omega arith) c.in-Ok.ensures.ok (sym c.in-Some.ensures) (c.loop-step.invariant.stood C is s)
+    is_trapped _ _ _ _ _ _ (label_of c.in_ok-event.event) (trap_of c.in_ok-event.event) _ (omega arith) c.in_ok-event.ensures.ok (sym c.in-Some.ensures) (c.loop-step.invariant.stood C is s)
 
 pub returns-in-Err-clause-refused : goal.returns-in-Err-clause-refused
 returns-in-Err-clause-refused g c e C is s =
-    refused _ _ _ _ _ (label_of c.in-Ok.event) (trap_of c.in-Ok.event) _ _ _ _ _ _ (omega arith) (c.loop-step.invariant.stood C is s) c.in-Ok.ensures.ok (sym c.in-None.ensures) c.loop-step.invariant.torn_stays c.in-Err.ensures.torn c.in-Err.ensures.one
+    refused _ _ _ _ _ (label_of c.in_ok-event.event) (trap_of c.in_ok-event.event) _ _ _ _ _ _ (omega arith) (c.loop-step.invariant.stood C is s) c.in_ok-event.ensures.ok (sym c.in-None.ensures) c.loop-step.invariant.torn_stays c.in-Err.ensures.torn c.in-Err.ensures.one
 
 pub returns-in-Err-clause-memory : goal.returns-in-Err-clause-memory
 returns-in-Err-clause-memory g c e C is s =
-    refused_lost _ _ _ _ _ (label_of c.in-Ok.event) (trap_of c.in-Ok.event) _ _ _ _ _ _ (omega arith) (c.loop-step.invariant.stood C is s) c.in-Ok.ensures.ok (sym c.in-None.ensures) c.loop-step.invariant.torn_stays c.in-Err.ensures.torn c.in-Err.ensures.one
+    refused_lost _ _ _ _ _ (label_of c.in_ok-event.event) (trap_of c.in_ok-event.event) _ _ _ _ _ _ (omega arith) (c.loop-step.invariant.stood C is s) c.in_ok-event.ensures.ok (sym c.in-None.ensures) c.loop-step.invariant.torn_stays c.in-Err.ensures.torn c.in-Err.ensures.one
 
 pub loop-step-preserved : goal.loop-step-preserved
 loop-step-preserved g c = record {
-  few = let k = c.in-Ok.ensures.channels in omega arith;
+  few = let k = c.in_ok-event.ensures.channels in omega arith;
   next_stays = λ v n x. c.show.ensures.next_stays v n x ∙ c.loop-step.invariant.next_stays v n x;
   torn_stays = λ v n x after. (λ t. (c.loop-step.invariant.torn_stays v n x after).0 ((c.show.ensures.torn_stays v n x after).0 t), λ t. (c.show.ensures.torn_stays v n x after).1 ((c.loop-step.invariant.torn_stays v n x after).1 t));
   faults_stay = omega (arith, c.loop-step.invariant.faults_stay, c.show.ensures.faults_stay);
   same = g.met.W.Watcher.same_along _ _ _ c.loop-step.invariant.same c.show.ensures.same;
-  stood = λ C is s. one_more _ _ _ _ (label_of c.in-Ok.event) (trap_of c.in-Ok.event) _ _ (c.loop-step.invariant.stood C is s) c.in-Ok.ensures.ok (sym c.in-None.ensures)
-      (λ ls d. saw_more _ _ c.loop-step.invariant.next_stays _ _ _ _ c.in-Ok-show.ensures.seen ls d);
+  stood = λ C is s. one_more _ _ _ _ (label_of c.in_ok-event.event) (trap_of c.in_ok-event.event) _ _ (c.loop-step.invariant.stood C is s) c.in_ok-event.ensures.ok (sym c.in-None.ensures)
+      (λ ls d. saw_more _ _ c.loop-step.invariant.next_stays _ _ _ _ c.in-Ok.ensures.seen ls d);
 }
 
 pub returns-then-ready-clause-end : goal.returns-then-ready-clause-end
