@@ -1,2 +1,3 @@
 pub mod NeverWrong
+pub mod Programs
 mod TypingExamples

@@ -7,7 +7,7 @@ use Rattle.pict_outside.specs.Texts.{Texts, text_of}
 use Rattle.pict_syntax.specs.declared.code.Code.{Code}
 use Rattle.pict_syntax.specs.declared.code.Code.TheVariants.{B1}
 use Rattle.pict_syntax.specs.declared.span.Span.{Span}
-use Rattle.pict_core.specs.Run.{End}
+use Rattle.pict_top.specs.declared.run.Finish.{Finish}
 use Rattle.pict_top.specs.Words.{Command, file_of}
 use Rattle.pict_front.specs.Phases.{accepts, refuses}
 use Rattle.pict_front.specs.Front.{Front, IsFront, first_place}
@@ -18,10 +18,10 @@ use Rattle.pict_top.specs.Owed.{OwesText, OwesFile}
 pub owes_refusal : (text : List ℕ) (command : Command) (code : Code) (span : Span) → length text ≤ TEXT_LIMIT → IsFront None text (refuses (code, span)) → OwesText text command (outcome_of command text (Refusal code span))
 owes_refusal text command code span short stands = (Refusal code span, inr (record { short = short; said = refuses (code, span); front = stands; done = refl }), refl)
 
-pub owes_work : (text : List ℕ) (command : Command) (front : Front) (end : End) (bytes : List ℕ) → length text ≤ TEXT_LIMIT → IsFront None text (accepts front) → Does command front.names front.core end bytes → OwesText text command (outcome_of command text (Ended end bytes))
-owes_work text command front end bytes short stands does = (
-  Ended end bytes,
-  inr (record { short = short; said = accepts front; front = stands; done = (end, bytes, does, refl) }),
+pub owes_work : (text : List ℕ) (command : Command) (front : Front) (finish : Finish) (bytes : List ℕ) → length text ≤ TEXT_LIMIT → IsFront None text (accepts front) → Does command front.names front.core finish bytes → OwesText text command (outcome_of command text (Ended finish bytes))
+owes_work text command front finish bytes short stands does = (
+  Ended finish bytes,
+  inr (record { short = short; said = accepts front; front = stands; done = (finish, bytes, does, refl) }),
   refl,
 )
 

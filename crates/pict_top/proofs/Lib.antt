@@ -3,6 +3,7 @@ pub mod One
 pub mod Sound
 pub mod Meeting
 pub mod Lists
+pub mod Right
 pub mod Continuing
 pub mod Written
 pub mod Running

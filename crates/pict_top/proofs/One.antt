@@ -1,12 +1,15 @@
 -- Words over a shelf that tells its texts come to at most one outcome.
-use Rattle.std.proofs.Common.{arith, codes, ◌≡◌, ◌≢◌, ℕ, ◌≤◌, inl, inr, List, [], length, get_or, Option, Some, None, ap, sym, ◌∙◌, subst}
+use Rattle.std.proofs.Common.{arith, codes, ◌≡◌, ◌≢◌, ℕ, ◌≤◌, inl, inr, List, [], length, get_or, Option, Some, None, refl, ap, sym, ◌∙◌, subst}
 use Rattle.std.proofs.lemmas.Fmt.{decimal_injective}
 use Rattle.pict_syntax.specs.declared.limits.TheConstants.{FUEL_LIMIT}
 use Rattle.pict_outside.specs.Texts.{Texts}
 use Rattle.pict_core.specs.Term.{Process}
 use Rattle.pict_core.specs.Configuration.{opening}
 use Rattle.pict_core.specs.Step.{Label}
-use Rattle.pict_core.specs.Run.{End, Done, FuelSpent, Trap, Misshapen}
+use Rattle.pict_core.specs.Run as run
+use Rattle.pict_top.specs.Ends.{end_of}
+use Rattle.pict_top.specs.declared.run.Finish.{Finish}
+use Rattle.pict_top.specs.declared.run.Finish.TheVariants.{Done, FuelSpent, Trap}
 use Rattle.pict_core.proofs.OneRun.{one_run}
 use Rattle.pict_top.specs.Words.{Command, Run, Trace, Check, Code, Options, HasShape, HasNoShape, word_of, options_of}
 use Rattle.pict_front.specs.Phases.{Phase, accepts, refuses}
@@ -70,13 +73,25 @@ one_command words a b (inr s) (inr t) =
 
 -- ---- answers
 
-one_shown : (p : Process) (fuel : ℕ) (written : List (ℕ × Label) → List ℕ) (e g : End) (a b : List ℕ) → Shows p fuel written e a → Shows p fuel written g b → (e ≡ g) × (a ≡ b)
+-- the end of a command's work that is this end of a run
+abbrev finish_by : run.End → Finish
+finish_by run.Done = Done
+finish_by run.FuelSpent = FuelSpent
+finish_by (run.Trap at) = Trap at
+finish_by run.Misshapen = Done
+
+known_by : (e : Finish) → finish_by (end_of e) ≡ e
+known_by Done = refl
+known_by FuelSpent = refl
+known_by (Trap at) = refl
+
+one_shown : (p : Process) (fuel : ℕ) (written : List (ℕ × Label) → List ℕ) (e g : Finish) (a b : List ℕ) → Shows p fuel written e a → Shows p fuel written g b → (e ≡ g) × (a ≡ b)
 one_shown p fuel written e g a b x y =
-    let one = one_run (opening p) fuel e g x.labels y.labels x.runs y.runs in
-    (one.0, x.shows ∙ ap written one.1 ∙ sym y.shows)
+    let one = one_run (opening p) fuel (end_of e) (end_of g) x.labels y.labels x.runs y.runs in
+    (sym (known_by e) ∙ ap finish_by one.0 ∙ known_by g, x.shows ∙ ap written one.1 ∙ sym y.shows)
 
 -- a command's work has one end, and writes the same bytes
-one_work : (command : Command) (names : List (List ℕ)) (p : Process) (e g : End) (a b : List ℕ) → Does command names p e a → Does command names p g b → (e ≡ g) × (a ≡ b)
+one_work : (command : Command) (names : List (List ℕ)) (p : Process) (e g : Finish) (a b : List ℕ) → Does command names p e a → Does command names p g b → (e ≡ g) × (a ≡ b)
 one_work (Run o) names p e g a b x y = one_shown p o.fuel _ e g a b x y
 one_work (Trace o) names p e g a b x y = one_shown p o.fuel _ e g a b x y
 one_work (Check o) names p e g a b x y = (x.done ∙ sym y.done, x.nothing ∙ sym y.nothing)
@@ -86,7 +101,7 @@ one_done : (command : Command) (said : Phase Stop Front) (a b : Answer) → IsDo
 one_done command (refuses (code, span)) a b x y = x ∙ sym y
 one_done command (accepts front) a b (e, ls, r, x) (g, ms, s, y) =
     let one = one_work command front.names front.core e g ls ms r s in
-    x ∙ ap (λ end. Ended end ls) one.0 ∙ ap (Ended g) one.1 ∙ sym y
+    x ∙ ap (λ finish. Ended finish ls) one.0 ∙ ap (Ended g) one.1 ∙ sym y
 
 one_answer : (command : Command) (file : Option (List ℕ)) (a b : Answer) → IsAnswer command file a → IsAnswer command file b → a ≡ b
 one_answer command None a b x y = x ∙ sym y
@@ -123,7 +138,6 @@ decides_else command text (Refusal code span) is = cc
 decides_else command text (Ended Done bytes) is = cc
 decides_else command text (Ended FuelSpent bytes) is = cc
 decides_else command text (Ended (Trap at) bytes) is = cc
-decides_else command text (Ended Misshapen bytes) is = cc
 
 pub usage_is_for_no_shape : (words : List (List ℕ)) (held : Option Texts) (o : Outcome) → OwesWords words held o → o.status ≡ status.Usage → HasNoShape words
 usage_is_for_no_shape words held o (inl (command, shape, owes)) is =

@@ -4,7 +4,10 @@ use Rattle.pict_outside.proofs.Gaining.{front_of_none}
 use Rattle.pict_core.specs.Term.{Process}
 use Rattle.pict_core.specs.Configuration.{Configuration, opening}
 use Rattle.pict_core.specs.Step.{Label}
-use Rattle.pict_core.specs.Run.{End, printed_by}
+use Rattle.pict_core.specs.Run.{End, RunsFrom, printed_by}
+use Rattle.pict_view.specs.Right.{RunsRight}
+use Rattle.pict_top.specs.Ends.{end_of}
+use Rattle.pict_top.specs.declared.run.Finish.{Finish}
 use Rattle.pict_view.specs.View.{View}
 use Rattle.pict_view.specs.Watching.{Ran, BrokeOff, Saw, SawOrTore}
 use Rattle.pict_top.specs.Answer.{Shows}
@@ -22,25 +25,25 @@ written_is_shown Printed names (l ∷ ls) = ap (λ b. printed_by l.1 ++ b) (writ
 written_is_shown Line names labels = refl
 
 module _ (form : Form) (names : List (List ℕ)) (p : Process) (fuel : ℕ) where
-  pub has_run : (v : View) (out : SinkChange) (machine_end end : End) → machine_end ≡ end → Ran (opening p) fuel machine_end v (Saw (written_after (form_of form names)) out.old_taken out.new_taken)
-      → Finished (Shows p fuel (shown_in form names)) end out
-  has_run v out machine_end end is ran =
-      let P : End → Type 0 = λ e. Finished (Shows p fuel (shown_in form names)) e out in
+  pub has_run : (v : View) (out : SinkChange) (end : End) (finish : Finish) → end ≡ end_of finish → Ran (opening p) fuel end v (Saw (written_after (form_of form names)) out.old_taken out.new_taken)
+      → Finished (Shows p fuel (shown_in form names)) finish out
+  has_run v out end finish is ran =
       let written = saw_all (form_of form names) out.old_taken out.new_taken ran.labels ran.seen in
-      subst P is (record {
+      record {
         bytes = shown_in form names ran.labels;
-        does = record { labels = ran.labels; runs = ran.runs; shows = refl };
+        does = record { labels = ran.labels; runs = subst (λ e. RunsFrom (opening p) fuel e ran.labels) is ran.runs; shows = refl };
         written = subst (Gained out) (written_is_shown form names ran.labels) written;
-      })
+      }
 
+module _ (form : Form) (names : List (List ℕ)) (p : Process) (fuel : ℕ) (right : RunsRight p fuel) where
   -- work that broke off wrote a beginning of what is written of the whole run
   pub some_run_part : (Stands : Configuration → Type 0) (out : SinkChange) → BrokeOff (opening p) fuel Stands (SawOrTore (written_after (form_of form names)) (WrittenInPart (form_of form names)) out.old_taken out.new_taken)
       → Somehow (Shows p fuel (shown_in form names)) (GainedFront out)
   some_run_part Stands out broke =
-      let on = continues_from broke.steps (opening p) fuel broke.labels broke.last broke.few broke.reached in
+      let on = continues_from broke.steps (opening p) fuel broke.labels broke.last right broke.few broke.reached in
       let labels : List (ℕ × Label) = broke.labels ++ on.rest in
       record {
-        end = on.end;
+        finish = on.finish;
         bytes = shown_in form names labels;
         does = record { labels = labels; runs = on.runs; shows = refl };
         holds = subst (GainedFront out) (written_is_shown form names labels) (saw_part (form_of form names) out.old_taken out.new_taken broke.labels on.rest broke.seen);
@@ -50,14 +53,14 @@ module _ (form : Form) (names : List (List ℕ)) (p : Process) (fuel : ℕ) wher
       → Failed out → Somehow (Shows p fuel (shown_in form names)) (FailedWithin out)
   some_run_failed Stands out broke failed =
       let some = some_run_part Stands out broke in
-      record { end = some.end; bytes = some.bytes; does = some.does; holds = record { part = some.holds; failed = failed } }
+      record { finish = some.finish; bytes = some.bytes; does = some.does; holds = record { part = some.holds; failed = failed } }
 
-  -- each process has a run
+  -- it has a run
   pub some_run : (out : SinkChange) → Untouched out → Somehow (Shows p fuel (shown_in form names)) (GainedFront out)
   some_run out kept =
-      let on = continues_from 0 (opening p) fuel [] (opening p) (omega arith) (refl, refl) in
+      let on = continues_from 0 (opening p) fuel [] (opening p) right (omega arith) (refl, refl) in
       record {
-        end = on.end;
+        finish = on.finish;
         bytes = shown_in form names on.rest;
         does = record { labels = on.rest; runs = on.runs; shows = refl };
         holds = front_of_none out.old_taken out.new_taken (shown_in form names on.rest) kept;

@@ -11,17 +11,21 @@ use Rattle.pict_total.proofs.Choices.{same_or_not, same_text_or_not}
 use Rattle.pict_core.specs.Term.{Process}
 use Rattle.pict_core.specs.Configuration.{opening}
 use Rattle.pict_core.specs.Step.{Label}
-use Rattle.pict_core.specs.Run.{End, Done}
+use Rattle.pict_view.specs.Right.{RunsRight}
+use Rattle.pict_top.specs.declared.run.Finish.{Finish}
+use Rattle.pict_top.specs.declared.run.Finish.TheVariants.{Done}
 use Rattle.pict_code.specs.Nodes.{nodes_of}
 use Rattle.pict_code.specs.Listing.{listing_text}
 use Rattle.pict_top.specs.Words.{Command, Run, Trace, Check, Code, Options, IsBare, IsBareFueled, HasShape, HasNoShape, IsFileWord, word_of, options_of, takes_fuel, file_of, default_fuel}
 use Rattle.pict_front.specs.Phases.{Phase, accepts, refuses}
-use Rattle.pict_front.specs.Front.{Stop, Front, first_place}
+use Rattle.pict_front.specs.Front.{Stop, Front, IsFront, first_place}
+use Rattle.pict_front.proofs.TypedPrograms.{accepted_is_typed}
 use Rattle.pict_front.proofs.EachPhase.{one_front}
 use Rattle.pict_top.specs.Answer.{Answer, Absent, Refusal, Ended, IsAnswer, IsDone, Does, Shows}
 use Rattle.pict_top.specs.Outcome.{Outcome, outcome_of, text_in, usage_outcome}
 use Rattle.pict_top.specs.Owed.{OwesFile, OwesWords, OneOutcome}
 use Rattle.pict_top.proofs.Continuing.{continues_from}
+use Rattle.pict_top.proofs.Right.{accepted_runs_right}
 use Rattle.pict_top.proofs.One.{at_most_one, three_five, other_letter}
 
 -- ---- commands
@@ -189,22 +193,22 @@ command_or_not (a ∷ b ∷ c ∷ d ∷ e ∷ f ∷ more) = inr (other_length (a
 
 -- ---- answers
 
-some_shown : (p : Process) (fuel : ℕ) (written : List (ℕ × Label) → List ℕ) → (e : End) × (bytes : List ℕ) × Shows p fuel written e bytes
-some_shown p fuel written =
-    let on = continues_from 0 (opening p) fuel [] (opening p) (omega arith) (refl, refl) in
-    (on.end, written on.rest, record { labels = on.rest; runs = on.runs; shows = refl })
+some_shown : (p : Process) (fuel : ℕ) (written : List (ℕ × Label) → List ℕ) → RunsRight p fuel → (e : Finish) × (bytes : List ℕ) × Shows p fuel written e bytes
+some_shown p fuel written right =
+    let on = continues_from 0 (opening p) fuel [] (opening p) right (omega arith) (refl, refl) in
+    (on.finish, written on.rest, record { labels = on.rest; runs = on.runs; shows = refl })
 
 -- a command's work ends somehow
-some_work : (command : Command) (names : List (List ℕ)) (p : Process) → (e : End) × (bytes : List ℕ) × Does command names p e bytes
-some_work (Run o) names p = some_shown p o.fuel _
-some_work (Trace o) names p = some_shown p o.fuel _
-some_work (Check o) names p = (Done, [], record { done = refl; nothing = refl })
-some_work (Code o) names p = (Done, listing_text names (nodes_of p), record { done = refl; listing = refl })
+some_work : (command : Command) (names : List (List ℕ)) (p : Process) → ((fuel : ℕ) → RunsRight p fuel) → (e : Finish) × (bytes : List ℕ) × Does command names p e bytes
+some_work (Run o) names p right = some_shown p o.fuel _ (right o.fuel)
+some_work (Trace o) names p right = some_shown p o.fuel _ (right o.fuel)
+some_work (Check o) names p right = (Done, [], record { done = refl; nothing = refl })
+some_work (Code o) names p right = (Done, listing_text names (nodes_of p), record { done = refl; listing = refl })
 
-some_done : (command : Command) (said : Phase Stop Front) → (a : Answer) × IsDone command said a
-some_done command (refuses (code, span)) = (Refusal code span, refl)
-some_done command (accepts front) =
-    let some = some_work command front.names front.core in
+some_done : (command : Command) (text : List ℕ) (said : Phase Stop Front) → IsFront None text said → (a : Answer) × IsDone command said a
+some_done command text (refuses (code, span)) stands = (Refusal code span, refl)
+some_done command text (accepts front) stands =
+    let some = some_work command front.names front.core (accepted_runs_right front (accepted_is_typed None text front stands)) in
     (Ended some.0 some.1, (some.0, some.1, some.2, refl))
 
 some_answer : (command : Command) (file : Option (List ℕ)) → (a : Answer) × IsAnswer command file a
@@ -213,7 +217,7 @@ some_answer command (Some text) = elim (cases_lt TEXT_LIMIT (length text)) [
   | inl long ↦ (Refusal B1 first_place, inl (record { long = long; refused = refl }))
   | inr short ↦
       let one = one_front None text in
-      let a = some_done command one.0 in
+      let a = some_done command text one.0 one.1 in
       (a.0, inr (record { short = short; said = one.0; front = one.1; done = a.1 }))
 ]
 

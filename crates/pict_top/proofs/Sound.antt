@@ -1,4 +1,4 @@
--- The steps of accepted programs are reductions.
+-- The runs of accepted programs are sound.
 use Rattle.std.proofs.Common.{ℕ, List, Option, None, sym, subst}
 use Rattle.pict_outside.specs.Texts.{Texts}
 use Rattle.pict_scope.proofs.LabelsScoped.{scoped_distinct}
@@ -10,11 +10,14 @@ use Rattle.pict_front.specs.Laws.{IsAccepted}
 use Rattle.pict_front.proofs.TypedPrograms.{accepted_is_typed}
 use Rattle.pict_top.specs.Owed.{Accepts}
 use Rattle.pict_top.specs.Soundness.{IsSound}
+use Rattle.pict_top.proofs.Right.{accepted_is_never_wrong}
 
 accepted_closed : (front : Front) → IsAccepted front → IsClosed front.core
 accepted_closed front a = subst IsClosed (sym a.core) (program_closed front.names a.program (scoped_distinct front.names a.program a.scoped))
 
 pub accepted_sound : (words : List (List ℕ)) (held : Option Texts) (front : Front) → Accepts words held front → IsSound front.core
 accepted_sound words held front a steps labels C reached =
-    let r = runs_reduce front.core steps labels C (accepted_closed front (accepted_is_typed None a.text front a.front)) reached in
-    record { reduces = r.0; finished = r.1 }
+    let accepted = accepted_is_typed None a.text front a.front in
+    let closed = accepted_closed front accepted in
+    let r = runs_reduce front.core steps labels C closed reached in
+    record { right = accepted_is_never_wrong front accepted closed steps labels C reached; reduces = r.0; finished = r.1 }

@@ -7,32 +7,35 @@ use Rattle.pict_syntax.specs.declared.code.Code.TheVariants.{B1}
 use Rattle.pict_syntax.specs.declared.span.Span.{Span}
 use Rattle.pict_core.specs.Term.{Process}
 use Rattle.pict_core.specs.Step.{Label}
-use Rattle.pict_core.specs.Run.{End, Done, Runs, bytes_of}
+use Rattle.pict_core.specs.Run.{Runs, bytes_of}
 use Rattle.pict_code.specs.Nodes.{nodes_of}
 use Rattle.pict_code.specs.Listing.{listing_text}
 use Rattle.pict_trace.specs.Lines.{lines_text}
 use Rattle.pict_front.specs.Phases.{Phase, accepts, refuses}
 use Rattle.pict_front.specs.Front.{Stop, Front, IsFront, first_place}
 use Rattle.pict_top.specs.Words.{Command, Run, Trace, Check, Code}
+use Rattle.pict_top.specs.Ends.{end_of}
+use Rattle.pict_top.specs.declared.run.Finish.{Finish}
+use Rattle.pict_top.specs.declared.run.Finish.TheVariants.{Done}
 
 -- What a command does with an accepted text: how it ends, and which bytes it writes.
 abbrev pub Work : Type 1
-Work = End → List ℕ → Type 0
+Work = Finish → List ℕ → Type 0
 
 -- The process runs with this fuel, and what is written are these bytes of the labels of its steps.
-pub record Shows (process : Process) (fuel : ℕ) (written : List (ℕ × Label) → List ℕ) (end : End) (bytes : List ℕ) : Type 0 where
+pub record Shows (process : Process) (fuel : ℕ) (written : List (ℕ × Label) → List ℕ) (finish : Finish) (bytes : List ℕ) : Type 0 where
   pub labels : List (ℕ × Label)
-  pub runs : Runs process fuel end labels
+  pub runs : Runs process fuel (end_of finish) labels
   pub shows : bytes ≡ written labels
 
 -- The listing of the process' instructions is written, and that is all.
-pub record Lists (names : List (List ℕ)) (process : Process) (end : End) (bytes : List ℕ) : Type 0 where
-  pub done : end ≡ Done
+pub record Lists (names : List (List ℕ)) (process : Process) (finish : Finish) (bytes : List ℕ) : Type 0 where
+  pub done : finish ≡ Done
   pub listing : bytes ≡ listing_text names (nodes_of process)
 
 -- The text is accepted, and that is all: nothing is written.
-pub record IsChecked (end : End) (bytes : List ℕ) : Type 0 where
-  pub done : end ≡ Done
+pub record IsChecked (finish : Finish) (bytes : List ℕ) : Type 0 where
+  pub done : finish ≡ Done
   pub nothing : bytes ≡ []
 
 -- what a command does with the names and the core process of a text: a row for each command
@@ -49,12 +52,13 @@ Does (Code options) names process = Lists names process
 pub data Answer : Type 0 where
   Absent : Answer
   Refusal : refusals.Code → Span → Answer
-  Ended : End → List ℕ → Answer
+  Ended : Finish → List ℕ → Answer
 
 -- behind the phases before the command's own work
 abbrev pub IsDone : Command → Phase Stop Front → Answer → Type 0
 IsDone command (refuses (code, span)) answer = answer ≡ Refusal code span
-IsDone command (accepts front) answer = (end : End) × (bytes : List ℕ) × Does command front.names front.core end bytes × (answer ≡ Ended end bytes)
+IsDone command (accepts front) answer =
+    (finish : Finish) × (bytes : List ℕ) × Does command front.names front.core finish bytes × (answer ≡ Ended finish bytes)
 
 pub record IsTooLong (text : List ℕ) (answer : Answer) : Type 0 where
   pub long : TEXT_LIMIT < length text

@@ -53,6 +53,6 @@ pub record Headline (words : List (List ℕ)) (shelf : ShelfChange) (out err : S
   -- words of no listed shape come to the usage text and nothing else, and no other words do
   pub usage : HasNoShape words → Untouched out × Tells Usage usage_report err status
   pub usage_only : status ≡ Usage → HasNoShape words
-  -- each step of an accepted program leaves its reading congruent or is one reduction of it, and where the run is finished no
-  -- reduction is left
+  -- no configuration of an accepted program's run is wrong: no value of a wrong shape is met; each step leaves its reading
+  -- congruent or is one reduction of it, and where the run is finished no reduction is left
   pub sound : (accepted : Front) → Accepts words shelf.held accepted → IsSound accepted.core

@@ -2,6 +2,7 @@ pub mod Numbers
 pub mod Words
 pub mod Plain
 pub mod Reports
+pub mod Ends
 pub mod Answer
 pub mod Outcome
 pub mod Owed

@@ -1,10 +1,11 @@
 -- What a command comes to, by its file and the answer to it, where no device fails.
 use Rattle.std.specs.Prelude.{ℕ, List, [], Option, Some, None}
 use Rattle.pict_syntax.specs.Position.{line_of, column_of}
-use Rattle.pict_core.specs.Run.{End, Done, FuelSpent, Trap, Misshapen}
+use Rattle.pict_top.specs.declared.run.Finish.{Finish}
+use Rattle.pict_top.specs.declared.run.Finish.TheVariants.{Done, FuelSpent, Trap}
 use Rattle.pict_top.specs.Words.{Command, file_of}
 use Rattle.pict_top.specs.Answer.{Answer, Absent, Refusal, Ended}
-use Rattle.pict_top.specs.Reports.{missing_report, refusal_report, fault_report, usage_report, spent_report, trap_report, shape_report}
+use Rattle.pict_top.specs.Reports.{missing_report, refusal_report, fault_report, usage_report, spent_report, trap_report}
 use Rattle.pict_top.specs.declared.status.Status.{Status}
 use Rattle.pict_top.specs.declared.status.Status.TheVariants as status
 
@@ -19,25 +20,23 @@ abbrev pub text_in : Option (List ℕ) → List ℕ
 text_in None = []
 text_in (Some text) = text
 
-abbrev pub status_of_end : End → Status
+abbrev pub status_of_end : Finish → Status
 status_of_end Done = status.Done
 status_of_end FuelSpent = status.FuelSpent
 status_of_end (Trap at) = status.Trap
-status_of_end Misshapen = status.Misshapen
 
 -- what is reported of an end: nothing of work that is done
-abbrev pub report_of_end : List ℕ → List ℕ → End → List ℕ
+abbrev pub report_of_end : List ℕ → List ℕ → Finish → List ℕ
 report_of_end file text Done = []
 report_of_end file text FuelSpent = spent_report
 report_of_end file text (Trap at) = trap_report file (line_of text at.start) (column_of text at.start)
-report_of_end file text Misshapen = shape_report file
 
 abbrev pub outcome_of : Command → List ℕ → Answer → Outcome
 outcome_of command text Absent = record { status = status.Missing; printed = []; report = missing_report (file_of command) }
 outcome_of command text (Refusal code span) =
     record { status = status.Refused; printed = []; report = refusal_report (file_of command) (line_of text span.start) (column_of text span.start) code }
-outcome_of command text (Ended end bytes) =
-    record { status = status_of_end end; printed = bytes; report = report_of_end (file_of command) text end }
+outcome_of command text (Ended finish bytes) =
+    record { status = status_of_end finish; printed = bytes; report = report_of_end (file_of command) text finish }
 
 -- the outcome where the shelf fails
 abbrev pub read_fault : Command → Outcome

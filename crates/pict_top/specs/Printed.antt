@@ -3,14 +3,13 @@ use Rattle.std.specs.Prelude.{◌≡◌, ℕ, List, ◌++◌}
 use Rattle.std.specs.List.{flat_map}
 use Rattle.pict_outside.specs.Bytes.{IsFrontOf}
 use Rattle.pict_core.specs.Step.{Label}
-use Rattle.pict_core.specs.Run.{End, Done, FuelSpent, Trap, Misshapen, printed_by, bytes_of}
+use Rattle.pict_core.specs.Run.{printed_by, bytes_of}
 use Rattle.pict_trace.specs.Lines.{line_text, lines_text}
 use Rattle.pict_top.specs.Answer.{Work}
 use Rattle.pict_top.specs.Changes.{SinkChange, Gained}
 use Rattle.pict_top.specs.declared.form.Form as declared
 use Rattle.pict_top.specs.declared.form.Form.TheVariants.{Printed, Line}
 use Rattle.pict_top.specs.declared.run.Finish.{Finish}
-use Rattle.pict_top.specs.declared.run.Finish.TheVariants as finish
 
 -- what is written of a label with its step number
 abbrev pub Form : Type 0
@@ -38,21 +37,15 @@ written_after form bytes number label = bytes ++ form number label
 abbrev pub WrittenInPart : Form → List ℕ → ℕ → Label → List ℕ → Type 0
 WrittenInPart form bytes number label after = (front : List ℕ) × IsFrontOf front (form number label) × (after ≡ bytes ++ front)
 
-abbrev pub end_of : Finish → End
-end_of finish.Done = Done
-end_of finish.FuelSpent = FuelSpent
-end_of (finish.Trap at) = Trap at
-end_of finish.Misshapen = Misshapen
-
 -- the work has this end, and its bytes were written
-pub record Finished (work : Work) (end : End) (out : SinkChange) : Type 0 where
+pub record Finished (work : Work) (finish : Finish) (out : SinkChange) : Type 0 where
   pub bytes : List ℕ
-  pub does : work end bytes
+  pub does : work finish bytes
   pub written : Gained out bytes
 
 -- the work, whatever its end, and P of its bytes
 pub record Somehow (work : Work) (P : List ℕ → Type 0) : Type 0 where
-  pub end : End
+  pub finish : Finish
   pub bytes : List ℕ
-  pub does : work end bytes
+  pub does : work finish bytes
   pub holds : P bytes

@@ -52,10 +52,6 @@ refusal_report file row column code = file ++ (58 ∷ (decimal row ++ (58 ∷ (d
 abbrev pub trap_report : List ℕ → ℕ → ℕ → List ℕ
 trap_report file row column = file ++ (58 ∷ (decimal row ++ (58 ∷ (decimal column ++ codes ": division by zero\n"))))
 
--- a step that is wrong
-abbrev pub shape_report : List ℕ → List ℕ
-shape_report file = line file (codes ": message of a wrong shape")
-
 -- the fuel is spent
 abbrev pub spent_report : List ℕ
 spent_report = line (codes "fuel spent") []

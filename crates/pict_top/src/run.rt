@@ -2,16 +2,17 @@
 ghost use Rattle.std.specs.Prelude.{◌≡◌, ◌≤◌, ◌<◌, ◌+◌, ◌^◌, IfOk, Err};
 ghost use Rattle.pict_outside.specs.Counts.{Rose};
 ghost use Rattle.pict_core.specs.Configuration.{Configuration, IsConfiguration};
-ghost use Rattle.pict_core.specs.Run.{Misshapen};
 ghost use Rattle.pict_core.specs.Plain.{plain_core};
 ghost use Rattle.pict_core.specs.Closed.{IsClosed};
 ghost use Rattle.pict_view.specs.View.{StandsFor};
 ghost use Rattle.pict_machine.specs.Plain.{view_of, channels_of};
 ghost use Rattle.pict_machine.specs.Plain as plain;
+ghost use Rattle.pict_view.specs.Right.{IsRightFor, RunsRight};
 ghost use Rattle.pict_view.specs.Watching.{Ran, BrokeOff, Saw, SawOrTore};
 ghost use Rattle.pict_top.specs.Changes.{change_of, GainedFront, FailedWithin};
 ghost use Rattle.pict_top.specs.Answer.{Shows};
-ghost use Rattle.pict_top.specs.Printed.{end_of, form_of, shown_in, written_after, WrittenInPart, Finished, Somehow};
+ghost use Rattle.pict_top.specs.Ends.{end_of};
+ghost use Rattle.pict_top.specs.Printed.{form_of, shown_in, written_after, WrittenInPart, Finished, Somehow};
 
 use crate::form::Form;
 use crate::printer::Printer;
@@ -30,8 +31,6 @@ pub enum Finish {
     FuelSpent,
     /// A step divides by zero, for the output at this place.
     Trap(Span),
-    /// A step is wrong: a value has another shape than what the process does with it.
-    Misshapen,
 }
 
 /// Why a command's work was broken off.
@@ -43,8 +42,8 @@ pub enum Broken {
     Memory,
 }
 
-/// Runs a process for up to `fuel` steps, and writes what they show, in this form, by these names. On an error a beginning
-/// of what the run shows was written; `Sink` comes only where the sink's count of faults rose.
+/// Runs a process for up to `fuel` steps, none of which may be wrong, and writes what they show, in this form, by these names.
+/// On an error a beginning of what the run shows was written; `Sink` comes only where the sink's count of faults rose.
 pub fn run_core<O: Sink>(
     alloc: Global,
     form: Form,
@@ -55,7 +54,8 @@ pub fn run_core<O: Sink>(
 ) -> Result<Finish, Broken>
     requires closed { IsClosed (plain_core core) }
     requires fuel { fuel ≤ FUEL_LIMIT }
-    ensures ran { IfOk result (λ finish. Finished (Shows (plain_core core) fuel (shown_in form names.now)) (end_of finish) (change_of O.taken O.faults out.old out.new)) }
+    requires right { RunsRight (plain_core core) fuel }
+    ensures ran { IfOk result (λ finish. Finished (Shows (plain_core core) fuel (shown_in form names.now)) finish (change_of O.taken O.faults out.old out.new)) }
     ensures sink { result ≡ Err Broken.Sink → Somehow (Shows (plain_core core) fuel (shown_in form names.now)) (FailedWithin (change_of O.taken O.faults out.old out.new)) }
     ensures memory { result ≡ Err Broken.Memory → Somehow (Shows (plain_core core) fuel (shown_in form names.now)) (GainedFront (change_of O.taken O.faults out.old out.new)) }
     ensures faults_stay { O.faults out.old ≤ O.faults out.new }
@@ -66,7 +66,6 @@ pub fn run_core<O: Sink>(
     };
     match run_on(alloc, form, names, &mut machine, fuel, out) {
         Ok(end) => Ok(finish_of(end)),
-        Err(RunError::Shape) => Ok(Finish::Misshapen),
         Err(RunError::Sink) => Err(Broken::Sink),
         Err(RunError::Memory) => Err(Broken::Memory),
     }
@@ -83,10 +82,9 @@ fn run_on<O: Sink>(
 ) -> Result<End, RunError>
     requires fuel { fuel ≤ FUEL_LIMIT }
     requires few { channels_of machine.old + fuel < 2 ^ 32 }
+    requires right { IsRightFor (view_of machine.old) fuel }
     ensures end { IfOk result (λ end. (C : Configuration) → IsConfiguration C → StandsFor (view_of machine.old) C
         → Ran C fuel (plain.end_of end) (view_of machine.new) (Saw (written_after (form_of form names.now)) (O.taken out.old) (O.taken out.new))) }
-    ensures shape { result ≡ Err RunError.Shape → (C : Configuration) → IsConfiguration C → StandsFor (view_of machine.old) C
-        → Ran C fuel Misshapen (view_of machine.new) (Saw (written_after (form_of form names.now)) (O.taken out.old) (O.taken out.new)) }
     ensures refused { result ≡ Err RunError.Sink → (C : Configuration) → IsConfiguration C → StandsFor (view_of machine.old) C
         → BrokeOff C fuel (StandsFor (view_of machine.new)) (SawOrTore (written_after (form_of form names.now)) (WrittenInPart (form_of form names.now)) (O.taken out.old) (O.taken out.new)) }
     ensures memory { result ≡ Err RunError.Memory → (C : Configuration) → IsConfiguration C → StandsFor (view_of machine.old) C

@@ -21,8 +21,6 @@ pub enum Status {
     Memory,
     /// The shelf has no such file.
     Missing,
-    /// A step of the run is wrong: a value has another shape than what the process does with it.
-    Misshapen,
 }
 
 impl Status {
@@ -43,7 +41,6 @@ impl Status {
             Status::WriteFault => 6,
             Status::Memory => 7,
             Status::Missing => 8,
-            Status::Misshapen => 9,
         }
     }
 }

@@ -12,7 +12,6 @@ ghost use Rattle.pict_top.specs.Meets.{Meets, Reports, EndReports, Tells};
 ghost use Rattle.pict_top.specs.Outcome.{read_fault};
 ghost use Rattle.pict_top.specs.Owed.{OwesText, OwesFile, OwesWords, FaultsWords, OneOutcome};
 ghost use Rattle.pict_top.specs.Plain.{plain_command, texts_of};
-ghost use Rattle.pict_top.specs.Printed.{end_of};
 ghost use Rattle.pict_syntax.specs.Position.{line_of, column_of};
 ghost use Rattle.pict_top.specs.Reports.{line, refusal_report, trap_report, usage_report};
 ghost use Rattle.pict_top.specs.Words.{HasNoShape, file_of, options_of};
@@ -165,20 +164,13 @@ fn report_end<E: Sink>(
     err: &mut E,
 ) -> Status
     requires short { length text.now ≤ TEXT_LIMIT }
-    ensures text { EndReports (file_of (plain_command command.entry)) text.now (end_of finish) (change_of E.taken E.faults err.old err.new) result }
+    ensures text { EndReports (file_of (plain_command command.entry)) text.now finish (change_of E.taken E.faults err.old err.new) result }
     ensures faults_stay { E.faults err.old ≤ E.faults err.new }
 {
     match finish {
         Finish::Done => Status::Done,
         Finish::FuelSpent => tell(report::SPENT, Status::FuelSpent, err),
         Finish::Trap(at) => report_trap(alloc, command, text, at.start, err),
-        Finish::Misshapen => report_line(
-            alloc,
-            command,
-            ": message of a wrong shape",
-            Status::Misshapen,
-            err,
-        ),
     }
 }
 

@@ -2,10 +2,11 @@
 ghost use Rattle.std.specs.Prelude.{◌≡◌, ◌≤◌, IfOk, Err};
 ghost use Rattle.pict_core.specs.Closed.{IsClosed};
 ghost use Rattle.pict_core.specs.Plain.{plain_core};
+ghost use Rattle.pict_view.specs.Right.{RunsRight};
 ghost use Rattle.pict_top.specs.Answer.{Does, Lists};
 ghost use Rattle.pict_top.specs.Changes.{change_of, GainedFront, FailedWithin};
 ghost use Rattle.pict_top.specs.Plain.{plain_command};
-ghost use Rattle.pict_top.specs.Printed.{end_of, Finished, Somehow};
+ghost use Rattle.pict_top.specs.Printed.{Finished, Somehow};
 ghost use Rattle.pict_top.specs.Words.{options_of};
 
 use crate::form::Form;
@@ -19,8 +20,8 @@ use pict_outside::Sink;
 use pict_syntax::{FUEL_LIMIT, Names};
 use std::alloc::{AllocError, Global};
 
-/// Does a command's work with the names and the core process of a text. On an error a beginning of what the work writes was
-/// written; `Sink` comes only where the sink's count of faults rose.
+/// Does a command's work with the names and the core process of a text, of whose run with the command's fuel no step may be
+/// wrong. On an error a beginning of what the work writes was written; `Sink` comes only where the sink's count of faults rose.
 pub fn perform<O: Sink>(
     alloc: Global,
     command: Command<'_>,
@@ -29,7 +30,8 @@ pub fn perform<O: Sink>(
 ) -> Result<Finish, Broken>
     requires closed { IsClosed (plain_core front.core) }
     requires fuel { (options_of (plain_command command)).fuel ≤ FUEL_LIMIT }
-    ensures done { IfOk result (λ finish. Finished (Does (plain_command command.entry) front.names (plain_core front.core)) (end_of finish)
+    requires right { RunsRight (plain_core front.core) (options_of (plain_command command)).fuel }
+    ensures done { IfOk result (λ finish. Finished (Does (plain_command command.entry) front.names (plain_core front.core)) finish
         (change_of O.taken O.faults out.old out.new)) }
     ensures sink { result ≡ Err Broken.Sink → Somehow (Does (plain_command command.entry) front.names (plain_core front.core))
         (FailedWithin (change_of O.taken O.faults out.old out.new)) }
@@ -53,7 +55,7 @@ fn list_core<O: Sink>(
     core: &Core,
     out: &mut O,
 ) -> Result<Finish, Broken>
-    ensures done { IfOk result (λ finish. Finished (Lists names.now (plain_core core.now)) (end_of finish) (change_of O.taken O.faults out.old out.new)) }
+    ensures done { IfOk result (λ finish. Finished (Lists names.now (plain_core core.now)) finish (change_of O.taken O.faults out.old out.new)) }
     ensures sink { result ≡ Err Broken.Sink → Somehow (Lists names.now (plain_core core.now)) (FailedWithin (change_of O.taken O.faults out.old out.new)) }
     ensures memory { result ≡ Err Broken.Memory → Somehow (Lists names.now (plain_core core.now)) (GainedFront (change_of O.taken O.faults out.old out.new)) }
     ensures faults_stay { O.faults out.old ≤ O.faults out.new }

@@ -1,11 +1,15 @@
-use Rattle.std.proofs.Common.{ap, ◌∙◌, Err, inl, inr}
+use Rattle.std.proofs.Common.{ap, ◌∙◌, Err, None, inl, inr}
 use Rattle.pict_outside.proofs.Gaining.{keeps_same}
 use Rattle.pict_front.specs.Answers.{plain_front}
 use Rattle.pict_top.specs.Changes.{change_of, GainedFront, FailedWithin}
 use Rattle.pict_top.specs.Plain.{plain_command}
-use Rattle.pict_top.specs.Printed.{end_of}
+use Rattle.pict_front.proofs.TypedPrograms.{accepted_is_typed}
+use Rattle.pict_top.proofs.Right.{accepted_runs_right}
 use Rattle.pict_top.proofs.Runs.{some_outcome, came_to_end}
 use Rattle.pict_top.proofs.top.run_ready.Goals as goal
+
+pub perform-requires-clause-right : goal.perform-requires-clause-right
+perform-requires-clause-right g c = let front = plain_front c.args.front in accepted_runs_right front (accepted_is_typed None c.args.text.now front c.requires.stands) _
 
 pub returns-in-Err-Memory-clause-meets : goal.returns-in-Err-Memory-clause-meets
 returns-in-Err-Memory-clause-meets g c =
@@ -22,4 +26,4 @@ returns-in-Err-Sink-clause-meets g c =
 
 pub returns-in-Ok-clause-meets : goal.returns-in-Ok-clause-meets
 returns-in-Ok-clause-meets g c =
-    came_to_end c.args.text.now (plain_command c.args.command) (plain_front c.args.front) c.requires.short c.requires.stands (end_of c.in-Ok.finish) _ _ _ c.in-Ok.ensures.done c.report_end.ensures.text
+    came_to_end c.args.text.now (plain_command c.args.command) (plain_front c.args.front) c.requires.short c.requires.stands c.in-Ok.finish _ _ _ c.in-Ok.ensures.done c.report_end.ensures.text
