@@ -1,24 +1,24 @@
 // The machine, measured on rings of servers that hand a number around.
 
+ghost use Rattle.std.specs.Prelude.{ℕ, IfSome};
+ghost use Rattle.pict_core.specs.Plain.{plain_core};
+ghost use Rattle.pict_core.specs.Closed.{IsClosed};
+ghost use Rattle.pict_view.specs.Right.{RunsRight};
+
 use anyhow::Error;
-use pict_core::{Core, CorePat, CoreVal, Part};
+use pict_core::Core;
+use pict_front::front;
 use pict_machine::{End, Event, Machine, RunError, Watcher};
-use pict_syntax::{FUEL_LIMIT, Prim, Span};
+use pict_syntax::{FUEL_LIMIT, TEXT_LIMIT};
 use std::alloc::{AllocError, Global};
 use std::time::Instant;
-
-const HERE: Span = Span {
-    text: 1,
-    start: 0,
-    end: 0,
-};
 
 /// What a server does with the number before it hands it on.
 #[derive(Clone, Copy)]
 pub enum Work {
     /// Nothing: `c?*x = d!x`.
     HandsOn,
-    /// It takes one away: `c?*x = new k ((k?y = d!y) | -![x 1 k])`.
+    /// It takes one away: `c?*x = d!(- x 1)`.
     TakesOneAway,
 }
 
@@ -53,65 +53,37 @@ impl Watcher for Counter {
     }
 }
 
-fn send(chan: CoreVal, message: CoreVal) -> Core {
-    Core::Out {
-        chan,
-        message,
-        at: HERE,
-    }
-}
-
-fn par(alloc: Global, left: Core, right: Core) -> Result<Core, AllocError> {
-    let left = Part::new(alloc, left)?;
-    Ok(Core::Par(left, Part::new(alloc, right)?))
-}
-
-fn input(alloc: Global, level: u32, replicated: bool, body: Core) -> Result<Core, AllocError> {
-    Ok(Core::In {
-        chan: CoreVal::Var(level),
-        replicated,
-        pattern: CorePat::Bind,
-        body: Part::new(alloc, body)?,
-    })
-}
-
-/// The record of the number at this level, 1, and the channel after it.
-fn operands(alloc: Global, level: u32) -> Result<CoreVal, AllocError> {
-    let mut positional = Vec::new(alloc);
-    positional.push(CoreVal::Var(level))?;
-    positional.push(CoreVal::Int(1))?;
-    positional.push(CoreVal::Var(level.saturating_add(1)))?;
-    Ok(CoreVal::Fields {
-        positional,
-        labelled: Vec::new(alloc),
-    })
-}
-
-/// What a server does with the number at this level, and then sends it on.
-fn body(alloc: Global, to: u32, level: u32, work: Work) -> Result<Core, AllocError> {
-    match work {
-        Work::HandsOn => Ok(send(CoreVal::Var(to), CoreVal::Var(level))),
-        Work::TakesOneAway => {
-            let answer = send(CoreVal::Var(to), CoreVal::Var(level.saturating_add(2)));
-            let rest = input(alloc, level.saturating_add(1), false, answer)?;
-            let call = send(CoreVal::Prim(Prim::Subtract), operands(alloc, level)?);
-            Ok(Core::New(Part::new(alloc, par(alloc, rest, call)?)?))
-        }
-    }
-}
-
 /// So many servers in a ring, each at a channel of its own, and one number.
-fn ring(alloc: Global, servers: u32, work: Work) -> Result<Core, AllocError> {
-    let mut all = send(CoreVal::Var(0), CoreVal::Int(1_000_000));
-    for from in 0..servers {
-        let to = if servers - from > 1 { from + 1 } else { 0 };
-        let server = input(alloc, from, true, body(alloc, to, servers, work)?)?;
-        all = par(alloc, server, all)?;
+fn ring(alloc: Global, servers: u32, work: Work) -> Result<Vec<u8>, AllocError> {
+    let mut text = Vec::new(alloc);
+    for server in 0..servers {
+        let channel = format!(in alloc; "new c{server}:^Int\n")?;
+        text.extend_from_slice(channel.as_bytes())?;
     }
-    for _ in 0..servers {
-        all = Core::New(Part::new(alloc, all)?);
+    for server in 0..servers {
+        let next = if servers - server > 1 { server + 1 } else { 0 };
+        let line = match work {
+            Work::HandsOn => format!(in alloc; "run c{server}?*x = c{next}!x\n")?,
+            Work::TakesOneAway => format!(in alloc; "run c{server}?*x = c{next}!(- x 1)\n")?,
+        };
+        text.extend_from_slice(line.as_bytes())?;
     }
-    Ok(all)
+    text.extend_from_slice(b"run c0!1000000")?;
+    Ok(text)
+}
+
+/// The core process of a text; nothing where the text is refused, or memory is wanting for it.
+fn accepted(alloc: Global, text: &[u8]) -> Option<Core>
+    ensures closed { IfSome result (λ core. IsClosed (plain_core core)) }
+    ensures right { IfSome result (λ core. (fuel : ℕ) → RunsRight (plain_core core) fuel) }
+{
+    if text.len() as u64 > TEXT_LIMIT {
+        return None;
+    }
+    match front(alloc, None, text) {
+        Ok(front) => Some(front.core),
+        Err(_) => None,
+    }
 }
 
 /// Runs so many steps of a ring and prints how many communications they were, and with `timed` how long they took.
@@ -124,7 +96,12 @@ pub fn measure(
     timed: bool,
 ) -> Result<(), Error> {
     let fuel = (steps as u64).min(FUEL_LIMIT);
-    let mut machine = Machine::load(rt.alloc(), ring(rt.alloc(), servers, work)?)?;
+    let text = ring(rt.alloc(), servers, work)?;
+    let Some(core) = accepted(rt.alloc(), &text) else {
+        println!(rt; "run {name}: refused")?;
+        return Ok(());
+    };
+    let mut machine = Machine::load(rt.alloc(), core)?;
     let mut counter = Counter { communications: 0 };
     let start = Instant::now(rt)?;
     let end = match machine.run(fuel, &mut counter) {

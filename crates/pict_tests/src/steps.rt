@@ -1,20 +1,33 @@
-// The machine beside the definition of its steps: worked programs as core terms, what they show at which steps, and how
-// they end.
+// The machine beside the definition of its steps: worked programs, what they show at which steps, and how they end.
 
-ghost use Rattle.std.specs.Prelude.{◌≤◌, ◌<◌};
+ghost use Rattle.std.specs.Prelude.{◌≤◌, ◌<◌, ℕ, IfSome};
+ghost use Rattle.pict_core.specs.Plain.{plain_core};
+ghost use Rattle.pict_core.specs.Closed.{IsClosed};
+ghost use Rattle.pict_view.specs.Right.{RunsRight};
 
-use pict_core::{Core, CorePat, CoreVal, Part};
-use pict_machine::{End, Event, Machine, RunError, StepError, Watcher};
+use pict_core::{Core, CoreVal};
+use pict_front::front;
+use pict_machine::{End, Event, Machine, RunError, Watcher};
 use pict_reference::{Label, Reference, StepOutcome};
-use pict_syntax::{Bytes, FUEL_LIMIT, Prim, Span};
+use pict_syntax::{FUEL_LIMIT, Span, TEXT_LIMIT};
 use std::alloc::{AllocError, Global};
 use std::process::Abort;
 
-const HERE: Span = Span {
-    text: 1,
-    start: 21,
-    end: 30,
-};
+// ---- accepted texts
+
+/// The core process of a text; nothing where the text is refused.
+pub fn accepted(alloc: Global, text: &[u8]) -> Option<Core>
+    ensures closed { IfSome result (λ core. IsClosed (plain_core core)) }
+    ensures right { IfSome result (λ core. (fuel : ℕ) → RunsRight (plain_core core) fuel) }
+{
+    if text.len() as u64 > TEXT_LIMIT {
+        return None;
+    }
+    match front(alloc, None, text) {
+        Ok(front) => Some(front.core),
+        Err(_) => None,
+    }
+}
 
 // ---- a watcher that writes lines
 
@@ -50,6 +63,13 @@ impl Watcher for Notes {
 }
 
 impl Notes {
+    fn new(alloc: Global) -> Notes {
+        Notes {
+            text: Vec::new(alloc),
+            alloc,
+        }
+    }
+
     fn line(&mut self, number: u64, event: &Event) -> Result<(), AllocError> {
         self.text(format!(in self.alloc; "{number}")?.as_bytes())?;
         match event {
@@ -93,395 +113,192 @@ impl Notes {
     }
 }
 
-// ---- the definition's steps beside the machine's
+// ---- the run by the machine, and by the definition
 
-// The event of a step; nothing where it is wrong, or where there is none.
-fn event_of(outcome: StepOutcome) -> Option<Event> {
-    match outcome {
-        StepOutcome::Steps(Label::Quiet) => Some(Event::Quiet),
-        StepOutcome::Steps(Label::Comm(channel, value)) => Some(Event::Comm { channel, value }),
-        StepOutcome::Steps(Label::Print(bytes)) => Some(Event::Print(bytes)),
-        StepOutcome::Traps(at) => Some(Event::Trapped(at)),
-        StepOutcome::Wrong | StepOutcome::Finished => None,
-    }
-}
-
-// Whether both are written alike for the step of this number, and trap at the same place, if they do.
-fn agree(
-    alloc: Global,
-    number: u64,
-    event: &Event,
-    outcome: StepOutcome,
-) -> Result<bool, AllocError> {
-    let Some(wanted) = event_of(outcome) else {
-        return Ok(false);
-    };
-    let mut found = Notes {
-        text: Vec::new(alloc),
-        alloc,
-    };
-    let mut expected = Notes {
-        text: Vec::new(alloc),
-        alloc,
-    };
-    found.line(number, event)?;
-    expected.line(number, &wanted)?;
-    Ok(found.text.as_slice() == expected.text.as_slice() && event.trap() == wanted.trap())
-}
-
-// Whether both do the same for a hundred steps, or up to the same end.
-fn is_as_defined(alloc: Global, process: &Core) -> Result<bool, StepError> {
-    let mut machine = Machine::load(alloc, process.copy(alloc)?)?;
-    let mut reference = Reference::open(alloc, process.copy(alloc)?)?;
-    for step in 0..100 {
-        if !reference.has_room() {
-            return Ok(false);
-        }
-        let outcome = reference.next()?;
-        if !machine.ready() {
-            return Ok(matches!(&outcome, StepOutcome::Finished));
-        }
-        match machine.step() {
-            Err(StepError::Memory) => return Err(StepError::Memory),
-            Err(StepError::Shape) => return Ok(matches!(&outcome, StepOutcome::Wrong)),
-            Ok(event) => {
-                if !agree(alloc, step + 1, &event, outcome)? {
-                    return Ok(false);
-                }
-                if event.trap().is_some() {
-                    return Ok(true);
-                }
-            }
-        }
-    }
-    Ok(true)
-}
-
-// Runs the process with this fuel: it has this end, and shows these lines. Its first hundred steps are those of the
-// definition.
-fn expect_run<R: Abort>(
-    rt: &R,
-    alloc: Global,
-    process: &Core,
-    fuel: u64,
-    end: End,
-    lines: &[u8],
-) -> Result<(), AllocError>
+/// How the run of an accepted text with this fuel ends, and the lines that it shows; nothing where the text is refused.
+fn ran(alloc: Global, text: &[u8], fuel: u64) -> Result<Option<(End, Vec<u8>)>, AllocError>
     requires { fuel ≤ FUEL_LIMIT }
 {
-    expect_same(rt, alloc, process)?;
-    expect_end(rt, alloc, process, fuel, end, lines)
-}
-
-// The machine's first hundred steps of the process are those of the definition.
-fn expect_same<R: Abort>(rt: &R, alloc: Global, process: &Core) -> Result<(), AllocError> {
-    match is_as_defined(alloc, process) {
-        Ok(same) => assert!(rt; same),
-        Err(_) => return Err(AllocError),
+    let Some(core) = accepted(alloc, text) else {
+        return Ok(None);
+    };
+    let mut machine = Machine::load(alloc, core)?;
+    let mut notes = Notes::new(alloc);
+    match machine.run(fuel, &mut notes) {
+        Ok(end) => Ok(Some((end, notes.text))),
+        Err(_) => Ok(None),
     }
-    Ok(())
 }
 
-// Runs the process with this fuel: it has this end, and shows these lines.
+/// What is shown of the label of a step.
+fn event_of(label: Label) -> Event {
+    match label {
+        Label::Quiet => Event::Quiet,
+        Label::Comm(channel, value) => Event::Comm { channel, value },
+        Label::Print(bytes) => Event::Print(bytes),
+    }
+}
+
+/// Writes the line of a label, unless the step is quiet.
+fn note(notes: &mut Notes, number: u64, label: Label) -> Result<(), AllocError> {
+    match event_of(label) {
+        Event::Quiet => Ok(()),
+        event => notes.line(number, &event),
+    }
+}
+
+/// The outcome of the defined step; nothing where numbers run out.
+fn next(reference: &mut Reference) -> Result<Option<StepOutcome>, AllocError> {
+    if reference.has_room() {
+        Ok(Some(reference.next()?))
+    } else {
+        Ok(None)
+    }
+}
+
+/// How the defined run of a text ends, and its lines; nothing where the text is refused or a step is wrong.
+fn defined(alloc: Global, text: &[u8], fuel: u64) -> Result<Option<(End, Vec<u8>)>, AllocError>
+    requires { fuel ≤ FUEL_LIMIT }
+{
+    let Some(core) = accepted(alloc, text) else {
+        return Ok(None);
+    };
+    let mut reference = Reference::open(alloc, core)?;
+    let mut notes = Notes::new(alloc);
+    for step in 0..fuel {
+        match next(&mut reference)? {
+            Some(StepOutcome::Steps(label)) => note(&mut notes, step + 1, label)?,
+            Some(StepOutcome::Traps(at)) => return Ok(Some((End::Trap(at), notes.text))),
+            Some(StepOutcome::Finished) => return Ok(Some((End::Done, notes.text))),
+            Some(StepOutcome::Wrong) | None => return Ok(None),
+        }
+    }
+    match next(&mut reference)? {
+        Some(StepOutcome::Finished) => Ok(Some((End::Done, notes.text))),
+        _ => Ok(Some((End::FuelSpent, notes.text))),
+    }
+}
+
+/// The run of the text with this fuel has this end, and shows these lines.
 fn expect_end<R: Abort>(
     rt: &R,
     alloc: Global,
-    process: &Core,
+    text: &[u8],
     fuel: u64,
     end: End,
     lines: &[u8],
 ) -> Result<(), AllocError>
     requires { fuel ≤ FUEL_LIMIT }
 {
-    let mut machine = Machine::load(alloc, process.copy(alloc)?)?;
-    let mut notes = Notes {
-        text: Vec::new(alloc),
-        alloc,
-    };
-    match machine.run(fuel, &mut notes) {
-        Ok(found) => assert!(rt; found == end),
-        Err(_) => assert!(rt; false),
+    match ran(alloc, text, fuel)? {
+        Some((found, shown)) => {
+            assert!(rt; found == end);
+            assert!(rt; shown.as_slice() == lines);
+        }
+        None => assert!(rt; false),
     }
-    assert!(rt; notes.text.as_slice() == lines);
     Ok(())
 }
 
-// The process takes so many steps until nothing is ready: one less is too little fuel, and one more changes nothing.
+/// The machine's first hundred steps of the text are those of the definition.
+fn expect_same<R: Abort>(rt: &R, alloc: Global, text: &[u8]) -> Result<(), AllocError> {
+    match ran(alloc, text, 100)? {
+        None => assert!(rt; false),
+        Some((end, lines)) => match defined(alloc, text, 100)? {
+            None => assert!(rt; false),
+            Some((wanted, expected)) => {
+                assert!(rt; end == wanted);
+                assert!(rt; lines.as_slice() == expected.as_slice());
+            }
+        },
+    }
+    Ok(())
+}
+
+/// The run of the text with this fuel has this end, and shows these lines. Its first hundred steps are those of the
+/// definition.
+fn expect_run<R: Abort>(
+    rt: &R,
+    alloc: Global,
+    text: &[u8],
+    fuel: u64,
+    end: End,
+    lines: &[u8],
+) -> Result<(), AllocError>
+    requires { fuel ≤ FUEL_LIMIT }
+{
+    expect_same(rt, alloc, text)?;
+    expect_end(rt, alloc, text, fuel, end, lines)
+}
+
+/// The run of the text takes so many steps until nothing is ready: one less is too little fuel, and one more changes
+/// nothing.
 pub fn expect_done<R: Abort>(
     rt: &R,
     alloc: Global,
-    process: Core,
+    text: &[u8],
     steps: u64,
     lines: &[u8],
 ) -> Result<(), AllocError>
     requires { steps < FUEL_LIMIT }
 {
-    expect_run(rt, alloc, &process, steps, End::Done, lines)?;
-    expect_run(rt, alloc, &process, steps + 1, End::Done, lines)?;
-    let mut machine = Machine::load(alloc, process)?;
-    let mut notes = Notes {
-        text: Vec::new(alloc),
-        alloc,
-    };
+    expect_run(rt, alloc, text, steps, End::Done, lines)?;
+    expect_end(rt, alloc, text, steps + 1, End::Done, lines)?;
     if steps > 0 {
-        match machine.run(steps - 1, &mut notes) {
-            Ok(found) => assert!(rt; found == End::FuelSpent),
-            Err(_) => assert!(rt; false),
+        match ran(alloc, text, steps - 1)? {
+            Some((end, _)) => assert!(rt; end == End::FuelSpent),
+            None => assert!(rt; false),
         }
-        assert!(rt; machine.ready());
     }
     Ok(())
 }
 
-// ---- core terms
-
-fn int(n: i64) -> CoreVal {
-    CoreVal::Int(n)
-}
-
-fn var(level: u32) -> CoreVal {
-    CoreVal::Var(level)
-}
-
-fn send(chan: CoreVal, message: CoreVal) -> Core {
-    Core::Out {
-        chan,
-        message,
-        at: HERE,
-    }
-}
-
-fn print(alloc: Global, text: &[u8]) -> Result<Core, AllocError> {
-    let text = Bytes::copy_of(alloc, text)?;
-    Ok(send(CoreVal::Prim(Prim::Print), CoreVal::Text(text)))
-}
-
-fn printi(value: CoreVal) -> Core {
-    send(CoreVal::Prim(Prim::Printi), value)
-}
-
-fn par(alloc: Global, left: Core, right: Core) -> Result<Core, AllocError> {
-    let left = Part::new(alloc, left)?;
-    Ok(Core::Par(left, Part::new(alloc, right)?))
-}
-
-fn channel(alloc: Global, body: Core) -> Result<Core, AllocError> {
-    Ok(Core::New(Part::new(alloc, body)?))
-}
-
-fn read(alloc: Global, level: u32, pattern: CorePat, body: Core) -> Result<Core, AllocError> {
-    Ok(Core::In {
-        chan: CoreVal::Var(level),
-        replicated: false,
-        pattern,
-        body: Part::new(alloc, body)?,
-    })
-}
-
-fn serve(alloc: Global, level: u32, pattern: CorePat, body: Core) -> Result<Core, AllocError> {
-    Ok(Core::In {
-        chan: CoreVal::Var(level),
-        replicated: true,
-        pattern,
-        body: Part::new(alloc, body)?,
-    })
-}
-
-fn no_fields(alloc: Global) -> CoreVal {
-    CoreVal::Fields {
-        positional: Vec::new(alloc),
-        labelled: Vec::new(alloc),
-    }
-}
-
-fn two(alloc: Global, a: CoreVal, b: CoreVal) -> Result<CoreVal, AllocError> {
-    let mut positional = Vec::new(alloc);
-    positional.push(a)?;
-    positional.push(b)?;
-    Ok(CoreVal::Fields {
-        positional,
-        labelled: Vec::new(alloc),
-    })
-}
-
-fn three(alloc: Global, a: CoreVal, b: CoreVal, c: CoreVal) -> Result<CoreVal, AllocError> {
-    let mut positional = Vec::new(alloc);
-    positional.push(a)?;
-    positional.push(b)?;
-    positional.push(c)?;
-    Ok(CoreVal::Fields {
-        positional,
-        labelled: Vec::new(alloc),
-    })
-}
-
-fn no_pats(alloc: Global) -> CorePat {
-    CorePat::Fields {
-        positional: Vec::new(alloc),
-        labelled: Vec::new(alloc),
-    }
-}
-
-fn two_pats(alloc: Global) -> Result<CorePat, AllocError> {
-    let mut positional = Vec::new(alloc);
-    positional.push(CorePat::Bind)?;
-    positional.push(CorePat::Bind)?;
-    Ok(CorePat::Fields {
-        positional,
-        labelled: Vec::new(alloc),
-    })
-}
-
-// `if test then print!"yes" else print!"no"`
-fn conditional(alloc: Global, test: CoreVal) -> Result<Core, AllocError> {
-    Ok(Core::If {
-        test,
-        yes: Part::new(alloc, print(alloc, b"yes")?)?,
-        no: Part::new(alloc, print(alloc, b"no")?)?,
-    })
-}
-
-// The processes beside each other, and 0 at the end.
-fn beside(alloc: Global, mut processes: Vec<Core>) -> Result<Core, AllocError> {
-    let mut all = Core::Zero;
-    while let Some(process) = processes.pop() {
-        all = par(alloc, process, all)?;
-    }
-    Ok(all)
-}
-
-// `new c` over the messages 1 to n, and then so many readers `c?x = printi!x`.
-fn messages(alloc: Global, count: i64, readers: u64) -> Result<Core, AllocError>
-    requires { readers ≤ 3 }
-{
-    let mut processes = Vec::new(alloc);
-    for n in 1..count {
-        processes.push(send(var(0), int(n)))?;
-    }
-    for _ in 0..readers {
-        processes.push(read(alloc, 0, CorePat::Bind, printi(var(1)))?)?;
-    }
-    channel(alloc, beside(alloc, processes)?)
-}
-
-// `run printi!(p a b)`, p a primitive of two numbers.
-fn apply(alloc: Global, primitive: Prim, a: i64, b: i64, under: u32) -> Result<Core, AllocError>
-    requires { under < 1000 }
-{
-    let server = serve(alloc, under, CorePat::Bind, printi(var(under + 1)))?;
-    let call = send(
-        CoreVal::Prim(primitive),
-        three(alloc, int(a), int(b), var(under))?,
-    );
-    par(
-        alloc,
-        channel(alloc, par(alloc, server, call)?)?,
-        Core::Zero,
-    )
-}
-
-// `new c` over a replicated and a plain reader, and the messages 1 to 3.
-fn two_readers(alloc: Global) -> Result<Core, AllocError> {
-    let mut processes = Vec::new(alloc);
-    processes.push(serve(alloc, 0, CorePat::Bind, printi(var(1)))?)?;
-    processes.push(read(alloc, 0, CorePat::Bind, print(alloc, b"p")?)?)?;
-    for n in 1..4 {
-        processes.push(send(var(0), int(n)))?;
-    }
-    channel(alloc, beside(alloc, processes)?)
-}
-
-// `new c` over the messages 1 and 2, and a replicated reader.
-fn one_server(alloc: Global) -> Result<Core, AllocError> {
-    let mut processes = Vec::new(alloc);
-    for n in 1..3 {
-        processes.push(send(var(0), int(n)))?;
-    }
-    processes.push(serve(alloc, 0, CorePat::Bind, printi(var(1)))?)?;
-    channel(alloc, beside(alloc, processes)?)
-}
-
-// `def loop [] = loop![] run loop![]`
-fn endless(alloc: Global) -> Result<Core, AllocError> {
-    let body = serve(alloc, 0, no_pats(alloc), send(var(0), no_fields(alloc)))?;
-    let call = send(var(0), no_fields(alloc));
-    channel(alloc, par(alloc, body, par(alloc, call, Core::Zero)?)?)
-}
-
-// `(pr "a"); run printi!(div 1 0)`
-fn divides_by_zero(alloc: Global) -> Result<Core, AllocError> {
-    let rest = serve(
-        alloc,
-        0,
-        no_pats(alloc),
-        apply(alloc, Prim::Divide, 1, 0, 1)?,
-    )?;
-    let text = CoreVal::Text(Bytes::copy_of(alloc, b"a")?);
-    let first = send(CoreVal::Prim(Prim::Pr), two(alloc, text, var(0))?);
-    channel(alloc, par(alloc, rest, first)?)
-}
-
-// `val f = \(x:Int) = (+ x 1) run printi!(f 2)`
-fn function(alloc: Global) -> Result<Core, AllocError> {
-    let printer = serve(alloc, 2, CorePat::Bind, printi(var(3)))?;
-    let call = send(var(1), two(alloc, int(2), var(2))?);
-    let run = par(
-        alloc,
-        channel(alloc, par(alloc, printer, call)?)?,
-        Core::Zero,
-    )?;
-    let rest = serve(alloc, 0, CorePat::Bind, run)?;
-    let sum = send(
-        CoreVal::Prim(Prim::Add),
-        three(alloc, var(2), int(1), var(3))?,
-    );
-    let body = serve(alloc, 1, two_pats(alloc)?, sum)?;
-    let value = channel(alloc, par(alloc, body, send(var(0), var(1)))?)?;
-    channel(alloc, par(alloc, rest, value)?)
-}
+// ---- worked programs
 
 #[test]
 fn worked_programs(rt: HostRuntime) -> Result<(), AllocError> {
     let alloc = rt.alloc();
-    expect_done(&rt, alloc, Core::Zero, 1, b"")?;
-    let hello = par(alloc, print(alloc, b"hello")?, Core::Zero)?;
-    expect_run(&rt, alloc, &hello, 2, End::FuelSpent, b"2 print hello\n")?;
-    expect_run(&rt, alloc, &hello, 1, End::FuelSpent, b"")?;
-    expect_run(&rt, alloc, &hello, 0, End::FuelSpent, b"")?;
-    expect_done(&rt, alloc, hello, 3, b"2 print hello\n")?;
-    expect_done(
-        &rt,
-        alloc,
-        messages(alloc, 2, 1)?,
-        7,
-        b"5 c0 1\n7 print 1\n",
-    )?;
-    let three_each = messages(alloc, 4, 3)?;
-    expect_done(
-        &rt,
-        alloc,
-        three_each,
-        17,
-        b"9 c0 1\n11 c0 2\n12 print 1\n14 c0 3\n15 print 2\n17 print 3\n",
-    )?;
-    expect_done(
-        &rt,
-        alloc,
-        two_readers(alloc)?,
-        15,
-        b"7 c0 1\n9 c0 2\n10 print 1\n12 c0 3\n13 print p\n15 print 3\n",
-    )?;
-    expect_done(
-        &rt,
-        alloc,
-        one_server(alloc)?,
-        12,
-        b"7 c0 1\n8 c0 2\n11 print 1\n12 print 2\n",
-    )?;
-    let chosen = conditional(alloc, CoreVal::Bool(false))?;
-    expect_done(&rt, alloc, chosen, 2, b"2 print no\n")?;
-    expect_done(&rt, alloc, messages(alloc, 2, 0)?, 4, b"")?;
-    expect_done(&rt, alloc, messages(alloc, 1, 1)?, 4, b"")
+    let hello = b"run print!\"hello\"";
+    expect_run(&rt, alloc, hello, 2, End::FuelSpent, b"2 print hello\n")?;
+    expect_run(&rt, alloc, hello, 1, End::FuelSpent, b"")?;
+    expect_run(&rt, alloc, hello, 0, End::FuelSpent, b"")?;
+    let rows: [(&[u8], u64, &[u8]); 9] = [
+        (b"", 1, b""),
+        (hello, 3, b"2 print hello\n"),
+        (
+            b"new c:^Int run c!1 run c?n = printi!n",
+            7,
+            b"5 c0 1\n7 print 1\n",
+        ),
+        (
+            b"new c:^Int run c!1 run c!2 run c!3 run c?x = printi!x run c?x = printi!x run c?x = printi!x",
+            17,
+            b"9 c0 1\n11 c0 2\n12 print 1\n14 c0 3\n15 print 2\n17 print 3\n",
+        ),
+        // a replicated reader that served goes behind the plain one
+        (
+            b"new c:^Int run c?*x = printi!x run c?y = print!\"p\" run c!1 run c!2 run c!3",
+            15,
+            b"7 c0 1\n9 c0 2\n10 print 1\n12 c0 3\n13 print p\n15 print 3\n",
+        ),
+        // one that received keeps the turn
+        (
+            b"new c:^Int run c!1 run c!2 run c?*x = printi!x",
+            12,
+            b"7 c0 1\n8 c0 2\n11 print 1\n12 print 2\n",
+        ),
+        (
+            b"run if false then print!\"yes\" else print!\"no\"",
+            4,
+            b"3 print no\n",
+        ),
+        (b"new c:^Int run c!1", 4, b""),
+        (b"new c:^Int run c?n = print!\"x\"", 4, b""),
+    ];
+    for (text, steps, lines) in rows {
+        expect_done(&rt, alloc, text, steps, lines)?;
+    }
+    Ok(())
 }
 
 // A loop that sends to itself never ends: from the seventh step on each is a communication.
@@ -493,56 +310,33 @@ fn an_endless_loop_spends_its_fuel(rt: HostRuntime) -> Result<(), AllocError> {
         let line = format!(in alloc; "{step} c0 []\n")?;
         lines.extend_from_slice(line.as_bytes())?;
     }
-    expect_run(&rt, alloc, &endless(alloc)?, 1000, End::FuelSpent, &lines)
+    let endless = b"def loop [] = loop![] run loop![]";
+    expect_run(&rt, alloc, endless, 1000, End::FuelSpent, &lines)
 }
 
 #[test]
 fn worked_primitives(rt: HostRuntime) -> Result<(), AllocError> {
     let alloc = rt.alloc();
-    let sum = apply(alloc, Prim::Add, i64::MAX, 1, 0)?;
-    expect_done(
-        &rt,
-        alloc,
-        sum,
-        8,
-        b"7 c0 -9223372036854775808\n8 print -9223372036854775808\n",
-    )?;
-    for (primitive, a, b, lines) in [
+    let rows: [(&[u8], &[u8]); 5] = [
         (
-            Prim::Divide,
-            i64::MIN,
-            -1,
-            b"7 c0 -9223372036854775808\n8 print -9223372036854775808\n".as_slice(),
+            b"run printi!(+ 9223372036854775807 1)",
+            b"7 c0 -9223372036854775808\n8 print -9223372036854775808\n",
         ),
         (
-            Prim::Remainder,
-            i64::MIN,
-            -1,
-            b"7 c0 0\n8 print 0\n".as_slice(),
+            b"run printi!(div -9223372036854775808 -1)",
+            b"7 c0 -9223372036854775808\n8 print -9223372036854775808\n",
         ),
-        (Prim::Divide, -7, 2, b"7 c0 -3\n8 print -3\n".as_slice()),
-        (Prim::Remainder, -7, 2, b"7 c0 -1\n8 print -1\n".as_slice()),
-    ] {
-        expect_done(&rt, alloc, apply(alloc, primitive, a, b, 0)?, 8, lines)?;
+        (
+            b"run printi!(mod -9223372036854775808 -1)",
+            b"7 c0 0\n8 print 0\n",
+        ),
+        (b"run printi!(div -7 2)", b"7 c0 -3\n8 print -3\n"),
+        (b"run printi!(mod -7 2)", b"7 c0 -1\n8 print -1\n"),
+    ];
+    for (text, lines) in rows {
+        expect_done(&rt, alloc, text, 8, lines)?;
     }
-    let trap = divides_by_zero(alloc)?;
-    expect_run(
-        &rt,
-        alloc,
-        &trap,
-        10,
-        End::FuelSpent,
-        b"4 print a\n5 c0 []\n",
-    )?;
-    expect_run(
-        &rt,
-        alloc,
-        &trap,
-        11,
-        End::Trap(HERE),
-        b"4 print a\n5 c0 []\n",
-    )?;
-    let call = function(alloc)?;
+    let call = b"val f = \\(x:Int) = (+ x 1) run printi!(f 2)";
     expect_done(
         &rt,
         alloc,
@@ -552,58 +346,65 @@ fn worked_primitives(rt: HostRuntime) -> Result<(), AllocError> {
     )
 }
 
-// 4,999 times `run ()`, nested on the right or on the left: a process of depth 5,000.
-fn inert(alloc: Global, left: bool) -> Result<Core, AllocError> {
-    let mut all = Core::Zero;
-    for _ in 0..4999 {
-        if left {
-            all = par(alloc, all, Core::Zero)?;
-        } else {
-            all = par(alloc, Core::Zero, all)?;
-        }
-    }
-    Ok(all)
+#[test]
+fn a_division_by_zero_traps(rt: HostRuntime) -> Result<(), AllocError> {
+    let alloc = rt.alloc();
+    let text = b"(pr \"a\"); run printi!(div 1 0)";
+    let lines = b"4 print a\n5 c0 []\n";
+    let at = Span {
+        text: 1,
+        start: 21,
+        end: 30,
+    };
+    expect_run(&rt, alloc, text, 10, End::FuelSpent, lines)?;
+    expect_run(&rt, alloc, text, 11, End::Trap(at), lines)
 }
 
-// A process of depth 5,000 under 4,999 new channels. Each step takes time in all that is left.
-fn channels(alloc: Global) -> Result<Core, AllocError> {
-    let mut all = Core::Zero;
-    for _ in 0..4999 {
-        all = channel(alloc, all)?;
+/// So many pieces one after the other.
+fn repeated(alloc: Global, piece: &[u8], count: usize) -> Result<Vec<u8>, AllocError> {
+    let mut text = Vec::new(alloc);
+    for _ in 0..count {
+        text.extend_from_slice(piece)?;
     }
-    Ok(all)
+    Ok(text)
 }
 
+// Processes of a depth of 5,000, or of 4,999, nested on the right, on the left and under channels. Each step of the last
+// two takes time in all that is left.
 #[test]
 fn deep_processes_run(rt: HostRuntime) -> Result<(), AllocError> {
     let alloc = rt.alloc();
-    let right = inert(alloc, false)?;
+    let right = repeated(alloc, b"run ()\n", 4999)?;
     expect_end(&rt, alloc, &right, 9998, End::FuelSpent, b"")?;
     expect_run(&rt, alloc, &right, 9999, End::Done, b"")?;
-    expect_end(&rt, alloc, &inert(alloc, true)?, 9999, End::Done, b"")?;
-    expect_end(&rt, alloc, &channels(alloc)?, 50, End::FuelSpent, b"")
+    let left = repeated(alloc, b"[];", 1666)?;
+    expect_end(
+        &rt,
+        alloc,
+        &left,
+        14,
+        End::FuelSpent,
+        b"4 c0 []\n8 c1 []\n12 c2 []\n",
+    )?;
+    let channels = repeated(alloc, b"new c:^[]\n", 4999)?;
+    expect_end(&rt, alloc, &channels, 50, End::FuelSpent, b"")
 }
 
-// A message of a wrong shape stops the run, and the machine stands before the step that is wrong.
+// The first step is the composition's.
 #[test]
-fn a_wrong_shape(rt: HostRuntime) -> Result<(), AllocError> {
+fn one_step(rt: HostRuntime) -> Result<(), AllocError> {
     let alloc = rt.alloc();
-    let mut processes = Vec::new(alloc);
-    let text = CoreVal::Text(Bytes::copy_of(alloc, b"x")?);
-    processes.push(send(var(0), text))?;
-    processes.push(read(alloc, 0, CorePat::Bind, printi(var(1)))?)?;
-    let process = channel(alloc, beside(alloc, processes)?)?;
-    expect_same(&rt, alloc, &process)?;
-    expect_same(&rt, alloc, &conditional(alloc, int(0))?)?;
-    let mut machine = Machine::load(alloc, process)?;
-    let mut notes = Notes {
-        text: Vec::new(alloc),
-        alloc,
-    };
-    match machine.run(7, &mut notes) {
-        Err(RunError::Shape) => assert!(rt; machine.ready()),
-        _ => assert!(rt; false),
+    match accepted(alloc, b"run print!\"a\"") {
+        None => assert!(rt; false),
+        Some(core) => {
+            let mut machine = Machine::load(alloc, core)?;
+            let ready = machine.ready();
+            assert!(rt; ready);
+            if ready {
+                let event = machine.step()?;
+                assert!(rt; matches!(event, Event::Quiet));
+            }
+        }
     }
-    assert!(rt; notes.text.as_slice() == b"5 c0 x\n".as_slice());
     Ok(())
 }

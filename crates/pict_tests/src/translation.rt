@@ -1,6 +1,6 @@
 // Program texts and their core processes, written out.
 
-use crate::steps::expect_done;
+use crate::steps::{accepted, expect_done};
 use pict_core::{Core, CorePat, CoreVal};
 use pict_derive::{DeriveError, derive};
 use pict_lex::lex;
@@ -469,20 +469,17 @@ impl Watcher for Printed {
     }
 }
 
-/// Whether a text runs to its end and prints this.
+/// Whether a text is accepted, runs to its end and prints this.
 fn prints(alloc: Global, text: &[u8], wanted: &[u8]) -> Result<bool, Fail> {
-    let mut names = Names::new(alloc);
-    match derived(alloc, &mut names, text) {
-        Some(Ok(core)) => {
-            let mut printed = Printed {
-                text: Vec::new(alloc),
-            };
-            let mut machine = Machine::load(alloc, core)?;
-            let ends = matches!(machine.run(100_000, &mut printed), Ok(End::Done));
-            Ok(ends && printed.text.as_slice() == wanted)
-        }
-        _ => Ok(false),
-    }
+    let Some(core) = accepted(alloc, text) else {
+        return Ok(false);
+    };
+    let mut printed = Printed {
+        text: Vec::new(alloc),
+    };
+    let mut machine = Machine::load(alloc, core)?;
+    let ends = matches!(machine.run(100_000, &mut printed), Ok(End::Done));
+    Ok(ends && printed.text.as_slice() == wanted)
 }
 
 #[test]
@@ -506,25 +503,9 @@ fn texts_print_this(rt: HostRuntime) -> Result<(), Fail> {
 }
 
 #[test]
-fn a_function_and_a_fold_are_traced(rt: HostRuntime) -> Result<(), Fail> {
-    let alloc = rt.alloc();
-    let mut names = Names::new(alloc);
-    let function = b"val f = \\(x:Int) = (+ x 1) run printi!(f 2)";
-    match derived(alloc, &mut names, function) {
-        Some(Ok(core)) => expect_done(
-            &rt,
-            alloc,
-            core,
-            16,
-            b"7 c0 c1\n13 c1 [2,c2,]\n15 c2 3\n16 print 3\n",
-        )?,
-        _ => assert!(rt; false),
-    }
+fn a_fold_is_traced(rt: HostRuntime) -> Result<(), Fail> {
     let fold = b"type S = (rec X = ^X) new c:^S run c!(rec c) run c?(rec d) = print!\"ok\"";
-    match derived(alloc, &mut names, fold) {
-        Some(Ok(core)) => expect_done(&rt, alloc, core, 7, b"5 c0 c0\n7 print ok\n")?,
-        _ => assert!(rt; false),
-    }
+    expect_done(&rt, rt.alloc(), fold, 7, b"5 c0 c0\n7 print ok\n")?;
     Ok(())
 }
 
