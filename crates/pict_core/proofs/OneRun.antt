@@ -1,4 +1,4 @@
--- A run has one end and one list of labels.
+-- A run has one end, one list of labels and one number of steps.
 use Rattle.std.proofs.Common.{ℕ, zero, suc, ◌<◌, ◌≤◌, ◌≡◌, ◌≢◌, Bool, true, false, nat_eq, List, ◌++◌, refl, sym, ap, ◌∙◌, subst, arith}
 use Rattle.std.proofs.lemmas.Bool.Decides.{nat_tests}
 use Rattle.pict_core.specs.Configuration.{Configuration}
@@ -73,4 +73,4 @@ one_run C fuel e f ls ms r s =
     let b : s.steps < r.steps → ⊥ = not_longer C fuel f e ms ls s r in
     let same : s.steps ≡ r.steps = omega arith in
     let both : (r.last ≡ s.last) × (ls ≡ ms) = same_reach r.steps C ls ms r.last s.last r.reached (subst (λ n. Reaches n C ms s.last) same s.reached) in
-    (one_end fuel r.steps (next r.last) e f r.ends (subst (λ n. EndsAfter fuel n (next r.last) f) same (subst (λ D. EndsAfter fuel s.steps (next D) f) (sym both.0) s.ends)), both.1)
+    (one_end fuel r.steps (next r.last) e f r.ends (subst (λ n. EndsAfter fuel n (next r.last) f) same (subst (λ D. EndsAfter fuel s.steps (next D) f) (sym both.0) s.ends)), both.1, sym same)

@@ -16,11 +16,11 @@ abbrev pub OldestFirstStepsAreFree : Type 0
 OldestFirstStepsAreFree =
     (C : Configuration) (D : Configuration) (label : Label) → IsConfiguration C → next C ≡ Steps D label → (choice : Choice) × Free C choice D label
 
--- A run has one end and one list of labels.
+-- A run has one end, one list of labels and one number of steps.
 abbrev pub RunsAreOne : Type 0
 RunsAreOne =
-    (C : Configuration) (fuel : ℕ) (end other : End) (labels others : List (ℕ × Label)) → RunsFrom C fuel end labels
-    → RunsFrom C fuel other others → (end ≡ other) × (labels ≡ others)
+    (C : Configuration) (fuel : ℕ) (end other : End) (labels others : List (ℕ × Label)) (r : RunsFrom C fuel end labels)
+    (s : RunsFrom C fuel other others) → (end ≡ other) × (labels ≡ others) × (r.steps ≡ s.steps)
 
 -- The opening configuration of a closed process is a configuration.
 abbrev pub OpeningsAreConfigurations : Type 0

@@ -1,5 +1,5 @@
 -- Runs of oldest-first steps: their end, their labels and the bytes that they print.
-use Rattle.std.specs.Prelude.{ℕ, zero, suc, ◌≡◌, ◌≢◌, ◌≤◌, ◌<◌, List, [], ◌∷◌, ◌++◌}
+use Rattle.std.specs.Prelude.{ℕ, zero, suc, ◌≡◌, ◌≢◌, ◌≤◌, ◌<◌, ◌+◌, List, [], ◌∷◌, ◌++◌}
 use Rattle.pict_syntax.specs.declared.span.Span.{Span}
 use Rattle.pict_core.specs.Term.{Process}
 use Rattle.pict_core.specs.Configuration.{Configuration, opening}
@@ -38,6 +38,11 @@ pub record RunsFrom (C : Configuration) (fuel : ℕ) (end : End) (labels : List 
   pub last : Configuration
   pub reached : Reaches steps C labels last
   pub ends : EndsAfter fuel steps (next last) end
+
+-- how many steps a run does, by its end and the steps before it: one that traps counts
+abbrev pub steps_done : End → ℕ → ℕ
+steps_done (Trap at) before = before + 1
+steps_done _ before = before
 
 -- the run of a program's process
 abbrev pub Runs : Process → ℕ → End → List (ℕ × Label) → Type 0

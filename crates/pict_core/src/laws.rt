@@ -14,7 +14,7 @@ pub fn law_oldest_first_steps_are_free()
     ensures { OldestFirstStepsAreFree }
 {}
 
-/// A run has one end and one list of labels.
+/// A run has one end, one list of labels and one number of steps.
 pub fn law_runs_are_one()
     ensures { RunsAreOne }
 {}

@@ -37,6 +37,15 @@ pub enum End {
     Trap(Span),
 }
 
+/// How a run ends, and after how many steps.
+#[derive(Clone, Copy, PartialEq, Eq, Debug)]
+pub struct Stopped {
+    /// How it ends.
+    pub end: End,
+    /// How many steps are done. A step that traps counts.
+    pub steps: u64,
+}
+
 /// Why a run has no end.
 #[derive(Debug, Drop, Error)]
 pub enum RunError {

@@ -6,6 +6,6 @@ mod machine;
 mod queue;
 mod run;
 
-pub use event::{End, Event, RunError};
+pub use event::{End, Event, RunError, Stopped};
 pub use machine::Machine;
 pub use run::Watcher;

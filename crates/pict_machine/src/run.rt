@@ -7,10 +7,10 @@ ghost use Rattle.pict_core.specs.Step.{Label};
 ghost use Rattle.pict_core.specs.Run.{shown};
 ghost use Rattle.pict_view.specs.View.{StandsFor};
 ghost use Rattle.pict_view.specs.Right.{IsRightFor};
-ghost use Rattle.pict_view.specs.Watching.{WhereTold, Saw, SawOrTore, Ran, BrokeOff};
+ghost use Rattle.pict_view.specs.Watching.{WhereTold, Saw, SawOrTore, Ran, RanFor, BrokeOff};
 ghost use Rattle.pict_machine.specs.Plain.{view_of, channels_of, label_of, end_of, IsShown};
 
-use crate::event::{End, Event, RunError};
+use crate::event::{End, Event, RunError, Stopped};
 use crate::machine::Machine;
 use pict_syntax::FUEL_LIMIT;
 
@@ -72,12 +72,72 @@ impl Machine {
     /// Up to `fuel` steps, each the oldest-first step, until nothing is ready or a step traps. After each step that shows
     /// something the watcher sees its event, with step numbers from 1.
     ///
-    /// The answer is the end of the run with this fuel, of each configuration that the machine stands for, and the
-    /// watcher has seen exactly its labels, in order. `Sink` and `Memory` break the run off; what the watcher has
-    /// seen are then the labels of some steps of the run, of which showing the last may have been refused. `Sink` comes only where
-    /// the watcher's count of faults rose. After `Memory` the machine is to be dropped.
+    /// The answer is the end of the run with this fuel, of each configuration that the machine stands for, with the
+    /// number of its steps, and the watcher has seen exactly its labels, in order. A step that traps counts.
+    /// `Sink` and `Memory` break the run off; what the watcher has seen are then the labels of some steps of the run, of
+    /// which showing the last may have been refused. `Sink` comes only where the watcher's count of faults rose. After
+    /// `Memory` the machine is to be dropped.
     ///
     /// No step within the fuel may be wrong: so it is in the run of some configuration that the machine stands for.
+    pub fn run_counted<W: Watcher>(
+        &mut self,
+        fuel: u64,
+        watcher: &mut W,
+    ) -> Result<Stopped, RunError>
+        requires fuel { fuel ≤ FUEL_LIMIT }
+        requires few { channels_of self.old + fuel < 2 ^ 32 }
+        requires right { IsRightFor (view_of self.old) fuel }
+        ensures end { IfOk result (λ s. (C : Configuration) → IsConfiguration C → StandsFor (view_of self.old) C
+            → RanFor C fuel s.steps (end_of s.end) (view_of self.new) (Saw (W.next watcher.old) (W.view watcher.old) (W.view watcher.new))) }
+        ensures refused { result ≡ Err RunError.Sink → (C : Configuration) → IsConfiguration C → StandsFor (view_of self.old) C
+            → BrokeOff C fuel (StandsFor (view_of self.new)) (SawOrTore (W.next watcher.old) (W.torn watcher.old) (W.view watcher.old) (W.view watcher.new)) }
+        ensures memory { result ≡ Err RunError.Memory → (C : Configuration) → IsConfiguration C → StandsFor (view_of self.old) C
+            → BrokeOff C fuel (λ D. IsConfiguration D) (SawOrTore (W.next watcher.old) (W.torn watcher.old) (W.view watcher.old) (W.view watcher.new)) }
+        ensures sink { result ≡ Err RunError.Sink → Rose (W.faults watcher.old) (W.faults watcher.new) }
+        ensures channels { IfOk result (λ s. channels_of self.new ≤ channels_of self.old + fuel) }
+        ensures faults_stay { W.faults watcher.old ≤ W.faults watcher.new }
+        ensures next_stays { (v : List ℕ) (n : ℕ) (l : Label) → W.next watcher.new v n l ≡ W.next watcher.old v n l }
+        ensures torn_stays { (v : List ℕ) (n : ℕ) (l : Label) (after : List ℕ) → W.torn watcher.new v n l after ↔ W.torn watcher.old v n l after }
+        ensures same { W.same watcher.old watcher.new }
+    {
+        for step in 0..fuel {
+            if !self.ready() {
+                return Ok(Stopped {
+                    end: End::Done,
+                    steps: step,
+                });
+            }
+            let event = self.step()?;
+            match event.trap() {
+                Some(at) => {
+                    return Ok(Stopped {
+                        end: End::Trap(at),
+                        steps: step + 1,
+                    });
+                }
+                None => {}
+            }
+            match show(watcher, step + 1, &event) {
+                Ok(()) => {}
+                Err(error) => return Err(error),
+            }
+        }
+        if self.ready() {
+            Ok(Stopped {
+                end: End::FuelSpent,
+                steps: fuel,
+            })
+        } else {
+            Ok(Stopped {
+                end: End::Done,
+                steps: fuel,
+            })
+        }
+    }
+
+    /// The same run, of which the answer is the end alone.
+    ///
+    /// Errors, and what the machine and the watcher are afterwards, are as `run_counted` says.
     pub fn run<W: Watcher>(&mut self, fuel: u64, watcher: &mut W) -> Result<End, RunError>
         requires fuel { fuel ≤ FUEL_LIMIT }
         requires few { channels_of self.old + fuel < 2 ^ 32 }
@@ -95,24 +155,6 @@ impl Machine {
         ensures torn_stays { (v : List ℕ) (n : ℕ) (l : Label) (after : List ℕ) → W.torn watcher.new v n l after ↔ W.torn watcher.old v n l after }
         ensures same { W.same watcher.old watcher.new }
     {
-        for step in 0..fuel {
-            if !self.ready() {
-                return Ok(End::Done);
-            }
-            let event = self.step()?;
-            match event.trap() {
-                Some(at) => return Ok(End::Trap(at)),
-                None => {}
-            }
-            match show(watcher, step + 1, &event) {
-                Ok(()) => {}
-                Err(error) => return Err(error),
-            }
-        }
-        if self.ready() {
-            Ok(End::FuelSpent)
-        } else {
-            Ok(End::Done)
-        }
+        Ok(self.run_counted(fuel, watcher)?.end)
     }
 }

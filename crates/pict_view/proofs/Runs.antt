@@ -8,7 +8,7 @@ use Rattle.pict_core.specs.Run.{Reaches, RunsFrom, shown}
 use Rattle.pict_view.specs.View.{View, StandsFor}
 use Rattle.pict_view.specs.Stepping.{Follows, IsStepOf}
 use Rattle.pict_view.specs.Right.{StepsRight, IsRightFor}
-use Rattle.pict_view.specs.Watching.{WhereTold, view_after, Saw, SawOrTore, Ran, BrokeOff}
+use Rattle.pict_view.specs.Watching.{WhereTold, view_after, Saw, SawOrTore, Ran, RanFor, BrokeOff}
 
 -- after n steps from C the view stands for the configuration, and the labels are as was seen
 pub record Stood (n : ℕ) (C : Configuration) (v : View) (Seen : List (ℕ × Label) → Type 0) : Type 0 where
@@ -97,22 +97,22 @@ finished_by (Steps D label) h = absurd (h (λ e. cc))
 not_true : (b : Bool) → b ≡ false → IsTrue b → ⊥
 not_true b e t = cc
 
-pub is_done : (n fuel : ℕ) (C : Configuration) (v : View) (Seen : List (ℕ × Label) → Type 0) (b : Bool) → n ≤ fuel → b ≡ false
-    → ((D : Configuration) → IsConfiguration D → StandsFor v D → IsTrue b ↔ (next D ≢ Finished)) → Stood n C v Seen → Ran C fuel run.Done v Seen
-is_done n fuel C v Seen b le e r s =
+pub is_done : (n fuel : ℕ) (C : Configuration) (v : View) (Seen : List (ℕ × Label) → Type 0) (b : Bool) (steps : ℕ) → n ≡ steps → n ≤ fuel → b ≡ false
+    → ((D : Configuration) → IsConfiguration D → StandsFor v D → IsTrue b ↔ (next D ≢ Finished)) → Stood n C v Seen → RanFor C fuel steps run.Done v Seen
+is_done n fuel C v Seen b steps same le e r s =
     let over : next s.last ≡ Finished = finished_by (next s.last) (λ u. not_true b e ((r s.last s.is s.stands).1 u)) in
-    record { labels = s.labels; runs = record { steps = n; last = s.last; reached = s.reached; ends = (le, over) }; stands = s.stands; seen = s.seen }
+    record { ran = record { labels = s.labels; runs = record { steps = n; last = s.last; reached = s.reached; ends = (le, over) }; stands = s.stands; seen = s.seen }; count = same }
 
 pub is_spent : (n fuel : ℕ) (C : Configuration) (v : View) (Seen : List (ℕ × Label) → Type 0) (b : Bool) → n ≡ fuel → IsTrue b
-    → ((D : Configuration) → IsConfiguration D → StandsFor v D → IsTrue b ↔ (next D ≢ Finished)) → Stood n C v Seen → Ran C fuel run.FuelSpent v Seen
+    → ((D : Configuration) → IsConfiguration D → StandsFor v D → IsTrue b ↔ (next D ≢ Finished)) → Stood n C v Seen → RanFor C fuel fuel run.FuelSpent v Seen
 is_spent n fuel C v Seen b same t r s =
-    record { labels = s.labels; runs = record { steps = n; last = s.last; reached = s.reached; ends = (same, (r s.last s.is s.stands).0 t) }; stands = s.stands; seen = s.seen }
+    record { ran = record { labels = s.labels; runs = record { steps = n; last = s.last; reached = s.reached; ends = (same, (r s.last s.is s.stands).0 t) }; stands = s.stands; seen = s.seen }; count = same }
 
 pub is_trapped : (n fuel : ℕ) (C : Configuration) (v v' : View) (Seen : List (ℕ × Label) → Type 0) (label : Label) (trap : Option Span) (at : Span) → n < fuel
-    → ((D : Configuration) → IsConfiguration D → StandsFor v D → IsStepOf D label trap v') → trap ≡ Some at → Stood n C v Seen → Ran C fuel (run.Trap at) v' Seen
+    → ((D : Configuration) → IsConfiguration D → StandsFor v D → IsStepOf D label trap v') → trap ≡ Some at → Stood n C v Seen → RanFor C fuel (n + 1) (run.Trap at) v' Seen
 is_trapped n fuel C v v' Seen label trap at lt f t s =
     let x = traps_of label trap at s.last v' t (f s.last s.is s.stands) in
-    record { labels = s.labels; runs = record { steps = n; last = s.last; reached = s.reached; ends = (lt, x.0) }; stands = x.1; seen = s.seen }
+    record { ran = record { labels = s.labels; runs = record { steps = n; last = s.last; reached = s.reached; ends = (lt, x.0) }; stands = x.1; seen = s.seen }; count = refl }
 
 -- ---- right steps
 

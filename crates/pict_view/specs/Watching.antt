@@ -2,7 +2,7 @@
 use Rattle.std.specs.Prelude.{ℕ, ◌≡◌, ◌≤◌, ◌⊎◌, List, [], ◌∷◌, ◌++◌, Option, Some, None}
 use Rattle.pict_core.specs.Configuration.{Configuration}
 use Rattle.pict_core.specs.Step.{Label}
-use Rattle.pict_core.specs.Run.{End, Reaches, RunsFrom}
+use Rattle.pict_core.specs.Run.{End, Reaches, RunsFrom, steps_done}
 use Rattle.pict_view.specs.View.{View, StandsFor}
 
 -- Where a view is told, it is told afterwards too, and is then as P says.
@@ -38,6 +38,11 @@ pub record Ran (C : Configuration) (fuel : ℕ) (end : End) (v : View) (Seen : L
   pub runs : RunsFrom C fuel end labels
   pub stands : StandsFor v runs.last
   pub seen : Seen labels
+
+-- The same, and the run does so many steps.
+pub record RanFor (C : Configuration) (fuel steps : ℕ) (end : End) (v : View) (Seen : List (ℕ × Label) → Type 0) : Type 0 where
+  pub ran : Ran C fuel end v Seen
+  pub count : steps_done end ran.runs.steps ≡ steps
 
 -- The run from C broke off after some of its steps; what was seen fits their labels.
 pub record BrokeOff (C : Configuration) (fuel : ℕ) (Stands : Configuration → Type 0) (Seen : List (ℕ × Label) → Type 0) : Type 0 where

@@ -1,12 +1,12 @@
-use Rattle.std.proofs.Common.{◌≡◌, false, arith, sym, ◌∙◌}
+use Rattle.std.proofs.Common.{◌≡◌, false, arith, refl, sym, ◌∙◌}
 use Rattle.pict_view.proofs.Runs.{is_done, is_spent, is_trapped, still_right, one_more, saw_more, refused, refused_lost}
 use Rattle.pict_machine.specs.Plain.{label_of, trap_of}
-use Rattle.pict_machine.proofs.machine.Machine.run.Goals as goal
+use Rattle.pict_machine.proofs.machine.Machine.run_counted.Goals as goal
 
 pub returns-then-not-ready-clause-end : goal.returns-then-not-ready-clause-end
 returns-then-not-ready-clause-end g c C is s =
     let n : c.ready.result ≡ false = cc in
-    is_done _ _ _ _ _ _ c.loop-step.auto.step-end n c.ready.ensures.unfinished (c.loop-step.invariant.stood C is s)
+    is_done _ _ _ _ _ _ _ refl c.loop-step.auto.step-end n c.ready.ensures.unfinished (c.loop-step.invariant.stood C is s)
 
 pub step-requires-clause-right : goal.step-requires-clause-right
 step-requires-clause-right g c = still_right _ _ _ _ _ (omega arith) c.requires.right c.loop-step.invariant.stood
@@ -41,4 +41,5 @@ returns-then-ready-clause-end g c C is s =
 
 pub returns-else-ready-clause-end : goal.returns-else-ready-clause-end
 returns-else-ready-clause-end g c C is s =
-    is_done _ _ _ _ _ _ c.loop-step.auto.step-end c.if-ready.false c.ready-2.ensures.unfinished (c.loop-step.invariant.stood C is s)
+    let same : c.loop-step.step ≡ c.args.fuel = omega arith in
+    is_done _ _ _ _ _ _ _ same c.loop-step.auto.step-end c.if-ready.false c.ready-2.ensures.unfinished (c.loop-step.invariant.stood C is s)

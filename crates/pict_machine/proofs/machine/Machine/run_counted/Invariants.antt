@@ -5,7 +5,7 @@ use Rattle.pict_view.specs.View.{StandsFor}
 use Rattle.pict_machine.specs.Plain.{view_of, channels_of}
 use Rattle.pict_view.specs.Watching.{Saw}
 use Rattle.pict_view.proofs.Runs.{Stood}
-use Rattle.pict_machine.proofs.machine.Machine.run.Given as goal
+use Rattle.pict_machine.proofs.machine.Machine.run_counted.Given as goal
 
 abbrev pub invariant-loop-step : goal.invariant-loop-step
 invariant-loop-step g l = record {
