@@ -6,5 +6,6 @@ pub mod Meets
 pub mod Simulated
 pub mod Viewed
 pub mod AnyMachine
+pub mod Rows
 pub mod Growing
 pub mod Runs
