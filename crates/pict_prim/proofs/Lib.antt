@@ -1,2 +1,5 @@
 pub mod Quotients
 pub mod Counted
+pub mod SameNumbers
+pub mod Shapes
+pub mod Bases

@@ -6,7 +6,7 @@ use Rattle.std.specs.Fmt.{signed_decimal}
 use Rattle.pict_syntax.specs.declared.primitive.Primitive.{Primitive}
 use Rattle.pict_syntax.specs.declared.primitive.Primitive.TheVariants as primitive
 use Rattle.pict_core.specs.Term.{Val, Int, Char, Text, Boolean, Record, no_vals, no_labelled}
-use Rattle.pict_core.specs.Primitives.{Effect, Answer, answers, divided_by, at_int, at_char, at_bool, at_text, byte_at}
+use Rattle.pict_core.specs.Primitives.{Effect, Answer, answers, prints, divided_by, at_int, at_char, at_bool, at_text, byte_at}
 
 -- the effect on two numbers
 abbrev pub int_effect : Primitive → ℤ → ℤ → Val → Option Effect
@@ -37,3 +37,15 @@ abbrev pub text_effect : Primitive → Val → Val → Val → Option Effect
 text_effect primitive.Join s t k = at_text s (λ front. at_text t (λ back. answers k (Text (front ++ back))))
 text_effect primitive.Nth s n k = at_text s (λ bytes. at_int n (λ index. answers k (Int (byte_at bytes index))))
 text_effect _ s t k = None
+
+-- the effect on three operands, of which the last is where to send
+abbrev pub three_effect : Primitive → Val → Val → Val → Option Effect
+three_effect primitive.Join s t k = text_effect primitive.Join s t k
+three_effect primitive.Nth s n k = text_effect primitive.Nth s n k
+three_effect p v w k = at_int v (λ a. at_int w (λ b. int_effect p a b k))
+
+-- the effect on an argument that is no record
+abbrev pub simple_effect : Primitive → Val → Option Effect
+simple_effect primitive.Print v = at_text v prints
+simple_effect primitive.Printi v = at_int v (λ n. prints (signed_decimal n))
+simple_effect _ v = None

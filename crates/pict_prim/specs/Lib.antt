@@ -1,2 +1,4 @@
 pub mod Done
+pub mod Calculated
 pub mod Families
+pub mod Acts

@@ -1,14 +1,20 @@
-//! What the primitives do to core values.
+//! What the primitives do to core values, and to words of a heap.
 #![tactic(auto)]
 
+mod act;
 mod acts;
+mod deciding;
 mod numbers;
 mod operands;
 mod outcome;
+mod performing;
 mod texts;
 
+pub use act::{Act, Acted, Need};
 pub use acts::{apply, attempt};
+pub use deciding::{act_on, act_on_fields};
 pub use outcome::{Done, printed_bytes};
+pub use performing::{perform, room};
 
 #[cfg(test)]
 mod tests;

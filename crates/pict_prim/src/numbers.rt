@@ -1,8 +1,10 @@
 // What the primitives answer on two numbers.
 
-ghost use Rattle.std.specs.Prelude.{◌≡◌, ◌≢◌, ◌+ℤ◌, ◌-ℤ◌, ◌*ℤ◌, pos, int_div};
+ghost use Rattle.std.specs.Prelude.{◌≡◌, ◌≢◌, ◌+ℤ◌, ◌-ℤ◌, ◌*ℤ◌, pos, int_div, Some, option_map};
 ghost use Rattle.std.specs.Int.{w64, int_wrap};
 ghost use Rattle.pict_core.specs.Plain.{plain_val};
+ghost use Rattle.pict_core.specs.Term.{Val};
+ghost use Rattle.pict_prim.specs.Calculated.{effect_calculated};
 ghost use Rattle.pict_prim.specs.Done.{Attempts};
 ghost use Rattle.pict_prim.specs.Families.{int_effect};
 ghost use Rattle.pict_syntax.specs.declared.primitive.Primitive.TheVariants.{Divide, Remainder};
@@ -11,6 +13,17 @@ use crate::outcome::{Done, answer};
 use pict_core::CoreVal;
 use pict_syntax::Prim;
 use std::alloc::{AllocError, Global};
+
+/// What is calculated from two numbers.
+#[derive(Clone, Copy)]
+pub enum Calculated {
+    /// A number.
+    Number(i64),
+    /// A truth value.
+    Truth(bool),
+    /// The divisor is zero.
+    ZeroDivisor,
+}
 
 // The sum, wrapped.
 fn sum(a: i64, b: i64) -> i64
@@ -41,6 +54,45 @@ fn quotient(a: i64, b: i64) -> i64
     a.wrapping_div(b)
 }
 
+/// What the primitive calculates from two numbers; nothing where it takes other operands. Takes no memory.
+pub fn calculate(p: Prim, a: i64, b: i64) -> Option<Calculated>
+    ensures { (k : Val) → option_map (effect_calculated k) result ≡ int_effect p a b k }
+{
+    match p {
+        Prim::Add => Some(Calculated::Number(sum(a, b))),
+        Prim::Subtract => Some(Calculated::Number(difference(a, b))),
+        Prim::Multiply => Some(Calculated::Number(product(a, b))),
+        Prim::Divide => Some(divide(a, b)),
+        Prim::Remainder => Some(take_remainder(a, b)),
+        Prim::Equal => Some(Calculated::Truth(a == b)),
+        Prim::Less => Some(Calculated::Truth(a < b)),
+        Prim::AtMost => Some(Calculated::Truth(a <= b)),
+        Prim::Greater => Some(Calculated::Truth(a > b)),
+        Prim::AtLeast => Some(Calculated::Truth(a >= b)),
+        _ => None,
+    }
+}
+
+fn divide(a: i64, b: i64) -> Calculated
+    ensures { (k : Val) → Some (effect_calculated k result) ≡ int_effect Divide a b k }
+{
+    if b == 0 {
+        Calculated::ZeroDivisor
+    } else {
+        Calculated::Number(quotient(a, b))
+    }
+}
+
+fn take_remainder(a: i64, b: i64) -> Calculated
+    ensures { (k : Val) → Some (effect_calculated k result) ≡ int_effect Remainder a b k }
+{
+    if b == 0 {
+        Calculated::ZeroDivisor
+    } else {
+        Calculated::Number(a.wrapping_rem(b))
+    }
+}
+
 /// What the primitive does to two numbers, answering at `k`; nothing where it takes other operands.
 pub fn act_on_numbers(
     alloc: Global,
@@ -51,37 +103,22 @@ pub fn act_on_numbers(
 ) -> Result<Option<Done>, AllocError>
     ensures { Attempts result (int_effect p a b (plain_val k.now)) }
 {
-    match p {
-        Prim::Add => answer(alloc, k, CoreVal::Int(sum(a, b))),
-        Prim::Subtract => answer(alloc, k, CoreVal::Int(difference(a, b))),
-        Prim::Multiply => answer(alloc, k, CoreVal::Int(product(a, b))),
-        Prim::Divide => divide(alloc, a, b, k),
-        Prim::Remainder => take_remainder(alloc, a, b, k),
-        Prim::Equal => answer(alloc, k, CoreVal::Bool(a == b)),
-        Prim::Less => answer(alloc, k, CoreVal::Bool(a < b)),
-        Prim::AtMost => answer(alloc, k, CoreVal::Bool(a <= b)),
-        Prim::Greater => answer(alloc, k, CoreVal::Bool(a > b)),
-        Prim::AtLeast => answer(alloc, k, CoreVal::Bool(a >= b)),
-        _ => Ok(None),
+    match calculate(p, a, b) {
+        None => Ok(None),
+        Some(calculated) => answer_calculated(alloc, k, calculated),
     }
 }
 
-fn divide(alloc: Global, a: i64, b: i64, k: &CoreVal) -> Result<Option<Done>, AllocError>
-    ensures { Attempts result (int_effect Divide a b (plain_val k.now)) }
+fn answer_calculated(
+    alloc: Global,
+    k: &CoreVal,
+    calculated: Calculated,
+) -> Result<Option<Done>, AllocError>
+    ensures { Attempts result (Some (effect_calculated (plain_val k.now) calculated)) }
 {
-    if b == 0 {
-        Ok(Some(Done::ZeroDivisor))
-    } else {
-        answer(alloc, k, CoreVal::Int(quotient(a, b)))
-    }
-}
-
-fn take_remainder(alloc: Global, a: i64, b: i64, k: &CoreVal) -> Result<Option<Done>, AllocError>
-    ensures { Attempts result (int_effect Remainder a b (plain_val k.now)) }
-{
-    if b == 0 {
-        Ok(Some(Done::ZeroDivisor))
-    } else {
-        answer(alloc, k, CoreVal::Int(a.wrapping_rem(b)))
+    match calculated {
+        Calculated::Number(n) => answer(alloc, k, CoreVal::Int(n)),
+        Calculated::Truth(b) => answer(alloc, k, CoreVal::Bool(b)),
+        Calculated::ZeroDivisor => Ok(Some(Done::ZeroDivisor)),
     }
 }

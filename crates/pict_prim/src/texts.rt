@@ -31,8 +31,8 @@ fn joined(alloc: Global, front: &[u8], back: &[u8]) -> Result<Bytes, AllocError>
     Bytes::copy_of(alloc, &both)
 }
 
-// The byte at an index from 0, or -1 out of range.
-fn byte(bytes: &[u8], index: i64) -> i64
+/// The byte at an index from 0, or -1 out of range. Takes no memory.
+pub fn byte(bytes: &[u8], index: i64) -> i64
     ensures { result ≡ byte_at bytes.now index }
 {
     if index < 0 {

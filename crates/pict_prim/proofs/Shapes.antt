@@ -1,0 +1,278 @@
+-- The effect of a primitive by the number of its argument's positional fields.
+use Rattle.std.proofs.Common.{◌≡◌, ◌≢◌, ℕ, ℤ, suc, List, [], ◌∷◌, length, map, get_or, Option, Some, None, IsSome, refl, sym, ◌∙◌, ap, arith}
+use Rattle.pict_syntax.specs.declared.primitive.Primitive.{Primitive}
+use Rattle.pict_syntax.specs.declared.primitive.Primitive.TheVariants as primitive
+use Rattle.pict_core.specs.Term.{Val, Vals, Labelled, Var, Chan, Int, Char, Boolean, Text, PrimitiveVal, Record, no_vals, more_vals}
+use Rattle.pict_core.specs.Plain.{vals_of}
+use Rattle.pict_core.specs.Primitives.{Effect, effect_of, at_int, at_two, at_three}
+use Rattle.pict_heap.specs.Fields.{count, positional_field, positional_count}
+use Rattle.pict_heap.specs.HeapState.{HeapState, value_of}
+use Rattle.pict_heap.specs.declared.word.Word.{Word}
+use Rattle.pict_prim.specs.Families.{one_effect, three_effect, simple_effect, int_effect}
+
+two_by : (p : Primitive) (x k : Val) (ls : Labelled) → effect_of p (Record (more_vals x (more_vals k no_vals)) ls) ≡ one_effect p x k
+two_by primitive.Print x k ls = refl
+two_by primitive.Printi x k ls = refl
+two_by primitive.Pr x k ls = refl
+two_by primitive.Add x k ls = refl
+two_by primitive.Subtract x k ls = refl
+two_by primitive.Multiply x k ls = refl
+two_by primitive.Divide x k ls = refl
+two_by primitive.Remainder x k ls = refl
+two_by primitive.Equal x k ls = refl
+two_by primitive.Less x k ls = refl
+two_by primitive.AtMost x k ls = refl
+two_by primitive.Greater x k ls = refl
+two_by primitive.AtLeast x k ls = refl
+two_by primitive.Chr x k ls = refl
+two_by primitive.Ord x k ls = refl
+two_by primitive.Join x k ls = refl
+two_by primitive.Intstr x k ls = refl
+two_by primitive.Size x k ls = refl
+two_by primitive.Nth x k ls = refl
+two_by primitive.Not x k ls = refl
+
+-- where nothing is said of any number, nothing is said
+pub none_of_int : (v : Val) (f : ℤ → Option Effect) → ((n : ℤ) → f n ≡ None) → at_int v f ≡ None
+none_of_int (Int n) f h = h n
+none_of_int (Var n) f h = refl
+none_of_int (Chan n) f h = refl
+none_of_int (Char n) f h = refl
+none_of_int (Boolean n) f h = refl
+none_of_int (Text n) f h = refl
+none_of_int (PrimitiveVal n) f h = refl
+none_of_int (Record vs ls) f h = refl
+
+no_numbers : (x y : Val) → at_int x (λ a. at_int y (λ b. None)) ≡ None
+no_numbers x y = none_of_int x _ (λ a. none_of_int y _ (λ b. refl))
+
+three_by : (p : Primitive) (x y k : Val) (ls : Labelled) → effect_of p (Record (more_vals x (more_vals y (more_vals k no_vals))) ls) ≡ three_effect p x y k
+three_by primitive.Print x y k ls = sym (no_numbers x y)
+three_by primitive.Printi x y k ls = sym (no_numbers x y)
+three_by primitive.Pr x y k ls = sym (no_numbers x y)
+three_by primitive.Add x y k ls = refl
+three_by primitive.Subtract x y k ls = refl
+three_by primitive.Multiply x y k ls = refl
+three_by primitive.Divide x y k ls = refl
+three_by primitive.Remainder x y k ls = refl
+three_by primitive.Equal x y k ls = refl
+three_by primitive.Less x y k ls = refl
+three_by primitive.AtMost x y k ls = refl
+three_by primitive.Greater x y k ls = refl
+three_by primitive.AtLeast x y k ls = refl
+three_by primitive.Chr x y k ls = sym (no_numbers x y)
+three_by primitive.Ord x y k ls = sym (no_numbers x y)
+three_by primitive.Join x y k ls = refl
+three_by primitive.Intstr x y k ls = sym (no_numbers x y)
+three_by primitive.Size x y k ls = sym (no_numbers x y)
+three_by primitive.Nth x y k ls = refl
+three_by primitive.Not x y k ls = sym (no_numbers x y)
+
+-- the effect on three operands, where the first two are to be numbers
+pub three_numbers : (p : Primitive) → (p ≡ primitive.Join → ⊥) → (p ≡ primitive.Nth → ⊥) → (x y k : Val) → three_effect p x y k ≡ at_int x (λ a. at_int y (λ b. int_effect p a b k))
+three_numbers primitive.Print m n x y k = refl
+three_numbers primitive.Printi m n x y k = refl
+three_numbers primitive.Pr m n x y k = refl
+three_numbers primitive.Add m n x y k = refl
+three_numbers primitive.Subtract m n x y k = refl
+three_numbers primitive.Multiply m n x y k = refl
+three_numbers primitive.Divide m n x y k = refl
+three_numbers primitive.Remainder m n x y k = refl
+three_numbers primitive.Equal m n x y k = refl
+three_numbers primitive.Less m n x y k = refl
+three_numbers primitive.AtMost m n x y k = refl
+three_numbers primitive.Greater m n x y k = refl
+three_numbers primitive.AtLeast m n x y k = refl
+three_numbers primitive.Chr m n x y k = refl
+three_numbers primitive.Ord m n x y k = refl
+three_numbers primitive.Join m n x y k = absurd (m refl)
+three_numbers primitive.Intstr m n x y k = refl
+three_numbers primitive.Size m n x y k = refl
+three_numbers primitive.Nth m n x y k = absurd (n refl)
+three_numbers primitive.Not m n x y k = refl
+
+not_two : (vs : Vals) (ls : Labelled) → count vs ≢ 2 → (f : Val → Val → Option Effect) → at_two (Record vs ls) f ≡ None
+not_two no_vals ls n f = refl
+not_two (more_vals v no_vals) ls n f = refl
+not_two (more_vals v (more_vals k no_vals)) ls n f = absurd (n refl)
+not_two (more_vals v (more_vals k (more_vals x vs))) ls n f = refl
+
+not_three : (vs : Vals) (ls : Labelled) → count vs ≢ 3 → (f : Val → Val → Val → Option Effect) → at_three (Record vs ls) f ≡ None
+not_three no_vals ls n f = refl
+not_three (more_vals v no_vals) ls n f = refl
+not_three (more_vals v (more_vals w no_vals)) ls n f = refl
+not_three (more_vals v (more_vals w (more_vals k no_vals))) ls n f = absurd (n refl)
+not_three (more_vals v (more_vals w (more_vals k (more_vals x vs)))) ls n f = refl
+
+other_by : (p : Primitive) (vs : Vals) (ls : Labelled) → count vs ≢ 2 → count vs ≢ 3 → effect_of p (Record vs ls) ≡ None
+other_by primitive.Print vs ls m n = refl
+other_by primitive.Printi vs ls m n = refl
+other_by primitive.Pr vs ls m n = not_two vs ls m _
+other_by primitive.Add vs ls m n = not_three vs ls n _
+other_by primitive.Subtract vs ls m n = not_three vs ls n _
+other_by primitive.Multiply vs ls m n = not_three vs ls n _
+other_by primitive.Divide vs ls m n = not_three vs ls n _
+other_by primitive.Remainder vs ls m n = not_three vs ls n _
+other_by primitive.Equal vs ls m n = not_three vs ls n _
+other_by primitive.Less vs ls m n = not_three vs ls n _
+other_by primitive.AtMost vs ls m n = not_three vs ls n _
+other_by primitive.Greater vs ls m n = not_three vs ls n _
+other_by primitive.AtLeast vs ls m n = not_three vs ls n _
+other_by primitive.Chr vs ls m n = not_two vs ls m _
+other_by primitive.Ord vs ls m n = not_two vs ls m _
+other_by primitive.Join vs ls m n = not_three vs ls n _
+other_by primitive.Intstr vs ls m n = not_two vs ls m _
+other_by primitive.Size vs ls m n = not_two vs ls m _
+other_by primitive.Nth vs ls m n = not_three vs ls n _
+other_by primitive.Not vs ls m n = not_two vs ls m _
+
+no_two : (v : Val) → positional_count v ≡ None → (f : Val → Val → Option Effect) → at_two v f ≡ None
+no_two (Var n) e f = refl
+no_two (Chan n) e f = refl
+no_two (Int n) e f = refl
+no_two (Char n) e f = refl
+no_two (Boolean n) e f = refl
+no_two (Text n) e f = refl
+no_two (PrimitiveVal n) e f = refl
+no_two (Record vs ls) e f = cc
+
+no_three : (v : Val) → positional_count v ≡ None → (f : Val → Val → Val → Option Effect) → at_three v f ≡ None
+no_three (Var n) e f = refl
+no_three (Chan n) e f = refl
+no_three (Int n) e f = refl
+no_three (Char n) e f = refl
+no_three (Boolean n) e f = refl
+no_three (Text n) e f = refl
+no_three (PrimitiveVal n) e f = refl
+no_three (Record vs ls) e f = cc
+
+-- an argument that is no record
+pub simple_by : (p : Primitive) (v : Val) → positional_count v ≡ None → effect_of p v ≡ simple_effect p v
+simple_by primitive.Print v e = refl
+simple_by primitive.Printi v e = refl
+simple_by primitive.Pr v e = no_two v e _
+simple_by primitive.Add v e = no_three v e _
+simple_by primitive.Subtract v e = no_three v e _
+simple_by primitive.Multiply v e = no_three v e _
+simple_by primitive.Divide v e = no_three v e _
+simple_by primitive.Remainder v e = no_three v e _
+simple_by primitive.Equal v e = no_three v e _
+simple_by primitive.Less v e = no_three v e _
+simple_by primitive.AtMost v e = no_three v e _
+simple_by primitive.Greater v e = no_three v e _
+simple_by primitive.AtLeast v e = no_three v e _
+simple_by primitive.Chr v e = no_two v e _
+simple_by primitive.Ord v e = no_two v e _
+simple_by primitive.Join v e = no_three v e _
+simple_by primitive.Intstr v e = no_two v e _
+simple_by primitive.Size v e = no_two v e _
+simple_by primitive.Nth v e = no_three v e _
+simple_by primitive.Not v e = no_two v e _
+
+-- a record with two positional fields has both
+pub has_two : (v : Val) → positional_count v ≡ Some 2 → IsSome (positional_field v 0) × IsSome (positional_field v 1)
+has_two (Var n) e = cc
+has_two (Chan n) e = cc
+has_two (Int n) e = cc
+has_two (Char n) e = cc
+has_two (Boolean n) e = cc
+has_two (Text n) e = cc
+has_two (PrimitiveVal n) e = cc
+has_two (Record no_vals ls) e = let n : ◌≡◌ {A = ℕ} 0 2 = cc in absurd (omega arith)
+has_two (Record (more_vals v no_vals) ls) e = let n : ◌≡◌ {A = ℕ} 1 2 = cc in absurd (omega arith)
+has_two (Record (more_vals v (more_vals w vs)) ls) e = (refl, refl)
+
+pub has_three : (v : Val) → positional_count v ≡ Some 3 → IsSome (positional_field v 0) × IsSome (positional_field v 1) × IsSome (positional_field v 2)
+has_three (Var n) e = cc
+has_three (Chan n) e = cc
+has_three (Int n) e = cc
+has_three (Char n) e = cc
+has_three (Boolean n) e = cc
+has_three (Text n) e = cc
+has_three (PrimitiveVal n) e = cc
+has_three (Record no_vals ls) e = let n : ◌≡◌ {A = ℕ} 0 3 = cc in absurd (omega arith)
+has_three (Record (more_vals v no_vals) ls) e = let n : ◌≡◌ {A = ℕ} 1 3 = cc in absurd (omega arith)
+has_three (Record (more_vals v (more_vals w no_vals)) ls) e = let n : ◌≡◌ {A = ℕ} 2 3 = cc in absurd (omega arith)
+has_three (Record (more_vals v (more_vals w (more_vals k vs))) ls) e = (refl, refl, refl)
+
+-- the effect on a record with two positional fields, with three, or with another number
+pub two_of : (p : Primitive) (v x k : Val) → positional_count v ≡ Some 2 → positional_field v 0 ≡ Some x → positional_field v 1 ≡ Some k → effect_of p v ≡ one_effect p x k
+two_of p (Var n) x k e f g = cc
+two_of p (Chan n) x k e f g = cc
+two_of p (Int n) x k e f g = cc
+two_of p (Char n) x k e f g = cc
+two_of p (Boolean n) x k e f g = cc
+two_of p (Text n) x k e f g = cc
+two_of p (PrimitiveVal n) x k e f g = cc
+two_of p (Record no_vals ls) x k e f g = cc
+two_of p (Record (more_vals a no_vals) ls) x k e f g = cc
+two_of p (Record (more_vals a (more_vals b no_vals)) ls) x k e f g =
+    let i : a ≡ x = cc in
+    let j : b ≡ k = cc in
+    two_by p a b ls ∙ ap (λ y. one_effect p y b) i ∙ ap (one_effect p x) j
+two_of p (Record (more_vals a (more_vals b (more_vals c vs))) ls) x k e f g = let n : suc (suc (suc (count vs))) ≡ 2 = cc in absurd (omega arith)
+
+pub three_of : (p : Primitive) (v x y k : Val) → positional_count v ≡ Some 3 → positional_field v 0 ≡ Some x → positional_field v 1 ≡ Some y → positional_field v 2 ≡ Some k
+    → effect_of p v ≡ three_effect p x y k
+three_of p (Var n) x y k e f g h = cc
+three_of p (Chan n) x y k e f g h = cc
+three_of p (Int n) x y k e f g h = cc
+three_of p (Char n) x y k e f g h = cc
+three_of p (Boolean n) x y k e f g h = cc
+three_of p (Text n) x y k e f g h = cc
+three_of p (PrimitiveVal n) x y k e f g h = cc
+three_of p (Record no_vals ls) x y k e f g h = cc
+three_of p (Record (more_vals a no_vals) ls) x y k e f g h = cc
+three_of p (Record (more_vals a (more_vals b no_vals)) ls) x y k e f g h = cc
+three_of p (Record (more_vals a (more_vals b (more_vals c no_vals))) ls) x y k e f g h =
+    let i : a ≡ x = cc in
+    let j : b ≡ y = cc in
+    let l : c ≡ k = cc in
+    three_by p a b c ls ∙ ap (λ z. three_effect p z b c) i ∙ ap (λ z. three_effect p x z c) j ∙ ap (three_effect p x y) l
+three_of p (Record (more_vals a (more_vals b (more_vals c (more_vals d vs)))) ls) x y k e f g h =
+    let n : suc (suc (suc (suc (count vs)))) ≡ 3 = cc in absurd (omega arith)
+
+pub other_of : (p : Primitive) (v : Val) (n : ℕ) → positional_count v ≡ Some n → n ≢ 2 → n ≢ 3 → effect_of p v ≡ None
+other_of p (Var m) n e a b = cc
+other_of p (Chan m) n e a b = cc
+other_of p (Int m) n e a b = cc
+other_of p (Char m) n e a b = cc
+other_of p (Boolean m) n e a b = cc
+other_of p (Text m) n e a b = cc
+other_of p (PrimitiveVal m) n e a b = cc
+other_of p (Record vs ls) n e a b = let i : count vs ≡ n = cc in other_by p vs ls (λ m. a (sym i ∙ m)) (λ m. b (sym i ∙ m))
+
+-- the same of words
+module _ (p : Primitive) (h : HeapState) (ls : Labelled) where
+  pub two_words : (ws : List Word) (d e : Word) → length ws ≡ 2 → effect_of p (Record (vals_of (map (value_of h) ws)) ls) ≡ one_effect p (value_of h (get_or ws 0 d)) (value_of h (get_or ws 1 e))
+  two_words [] d e n = absurd (omega arith)
+  two_words (v ∷ []) d e n = absurd (omega arith)
+  two_words (v ∷ k ∷ []) d e n = two_by p (value_of h v) (value_of h k) ls
+  two_words (v ∷ k ∷ x ∷ ws) d e n = absurd (omega arith)
+
+  pub three_words : (ws : List Word) (d e f : Word) → length ws ≡ 3
+      → effect_of p (Record (vals_of (map (value_of h) ws)) ls) ≡ three_effect p (value_of h (get_or ws 0 d)) (value_of h (get_or ws 1 e)) (value_of h (get_or ws 2 f))
+  three_words [] d e f n = absurd (omega arith)
+  three_words (v ∷ []) d e f n = absurd (omega arith)
+  three_words (v ∷ w ∷ []) d e f n = absurd (omega arith)
+  three_words (v ∷ w ∷ k ∷ []) d e f n = three_by p (value_of h v) (value_of h w) (value_of h k) ls
+  three_words (v ∷ w ∷ k ∷ x ∷ ws) d e f n = absurd (omega arith)
+
+  counted : (ws : List Word) → count (vals_of (map (value_of h) ws)) ≡ length ws
+  counted [] = refl
+  counted (w ∷ ws) = ap suc (counted ws)
+
+  pub other_words : (ws : List Word) → length ws ≢ 2 → length ws ≢ 3 → effect_of p (Record (vals_of (map (value_of h) ws)) ls) ≡ None
+  other_words ws m n = other_by p (vals_of (map (value_of h) ws)) ls (λ e. m (sym (counted ws) ∙ e)) (λ e. n (sym (counted ws) ∙ e))
+
+  -- the same, where the words were read
+  pub two_read : (ws : List Word) (v k : Word) → length ws ≡ 2 → v ≡ get_or ws 0 v → k ≡ get_or ws 1 k → effect_of p (Record (vals_of (map (value_of h) ws)) ls) ≡ one_effect p (value_of h v) (value_of h k)
+  two_read ws v k n e f = two_words ws v k n ∙ sym (ap (λ w. one_effect p (value_of h w) (value_of h k)) e ∙ ap (λ w. one_effect p (value_of h (get_or ws 0 v)) (value_of h w)) f)
+
+  pub three_read : (ws : List Word) (v w k : Word) → length ws ≡ 3 → v ≡ get_or ws 0 v → w ≡ get_or ws 1 w → k ≡ get_or ws 2 k
+      → effect_of p (Record (vals_of (map (value_of h) ws)) ls) ≡ three_effect p (value_of h v) (value_of h w) (value_of h k)
+  three_read ws v w k n e f g =
+      three_words ws v w k n
+      ∙ sym (ap (λ x. three_effect p (value_of h x) (value_of h w) (value_of h k)) e
+      ∙ ap (λ x. three_effect p (value_of h (get_or ws 0 v)) (value_of h x) (value_of h k)) f
+      ∙ ap (λ x. three_effect p (value_of h (get_or ws 0 v)) (value_of h (get_or ws 1 w)) (value_of h x)) g)

@@ -1,0 +1,6 @@
+use Rattle.std.proofs.Common.{sym}
+use Rattle.pict_prim.proofs.Bases.{no_text}
+use Rattle.pict_prim.proofs.deciding.print_and_answer.Goals as goal
+
+pub returns-in_default-clause-effect : goal.returns-in_default-clause-effect
+returns-in_default-clause-effect c h = sym (no_text h c.args.text c.in_default.not-Text _)
