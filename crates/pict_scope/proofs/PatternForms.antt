@@ -40,13 +40,13 @@ fields bs ps ls =
     ∙ (ap (λ o. in_pattern_binders (binders_on no_binders bs) ▸ (o ▸ group (each in_labelled_pat ls))) (pats_each no_pats ps)
     ∙ ap (λ o. in_pattern_binders (binders_on no_binders bs) ▸ (in_pats (pats_on no_pats ps) ▸ group o)) (labelled_each no_labelled_pats ls))
 
-fields_of : (f : RFieldPats) → field_pats_of f ≡ field_pats (binders_on no_binders (out-FieldPats f).binders.items) (pats_on no_pats (out-FieldPats f).positional.items) (labelled_pats_on no_labelled_pats (out-FieldPats f).labelled.items)
-fields_of f = ap field_pats_of (sym (roll-out-FieldPats f)) ∙ field_pats_is (out-FieldPats f).binders (out-FieldPats f).positional (out-FieldPats f).labelled
+pub field_pats_are : (f : RFieldPats) → field_pats_of f ≡ field_pats (binders_on no_binders (out-FieldPats f).binders.items) (pats_on no_pats (out-FieldPats f).positional.items) (labelled_pats_on no_labelled_pats (out-FieldPats f).labelled.items)
+field_pats_are f = ap field_pats_of (sym (roll-out-FieldPats f)) ∙ field_pats_is (out-FieldPats f).binders (out-FieldPats f).positional (out-FieldPats f).labelled
 
 pub field_pats_read : {T : Type 0} (f : RFieldPats) (xs : List RTypeBinder) (ys : List RPat) (zs : List RLabelledPat) (a b : Reader) (r : Result T ScopeError) → xs ≡ (out-FieldPats f).binders.items → ys ≡ (out-FieldPats f).positional.items → zs ≡ (out-FieldPats f).labelled.items → IsRead (each in_pattern_binder_tree xs ▸ (each in_pat_tree ys ▸ group (each in_labelled_pat zs))) a b r → IsRead (in_field_pats (field_pats_of f)) a b r
 field_pats_read f xs ys zs a b r p q u h =
     let g = out-FieldPats f in
-    read_as _ _ a b r (ap (λ l. each in_pattern_binder_tree l ▸ (each in_pat_tree ys ▸ group (each in_labelled_pat zs))) p ∙ (ap (λ l. each in_pattern_binder_tree g.binders.items ▸ (each in_pat_tree l ▸ group (each in_labelled_pat zs))) q ∙ (ap (λ l. each in_pattern_binder_tree g.binders.items ▸ (each in_pat_tree g.positional.items ▸ group (each in_labelled_pat l))) u ∙ (fields g.binders.items g.positional.items g.labelled.items ∙ ap in_field_pats (sym (fields_of f)))))) h
+    read_as _ _ a b r (ap (λ l. each in_pattern_binder_tree l ▸ (each in_pat_tree ys ▸ group (each in_labelled_pat zs))) p ∙ (ap (λ l. each in_pattern_binder_tree g.binders.items ▸ (each in_pat_tree l ▸ group (each in_labelled_pat zs))) q ∙ (ap (λ l. each in_pattern_binder_tree g.binders.items ▸ (each in_pat_tree g.positional.items ▸ group (each in_labelled_pat l))) u ∙ (fields g.binders.items g.positional.items g.labelled.items ∙ ap in_field_pats (sym (field_pats_are f)))))) h
 
 pub record_pattern_read : {T : Type 0} (t : RPat) (s : Span) (f : Box RFieldPats Global) (g : RFieldPats) (a b : Reader) (r : Result T ScopeError) → t ≡ Fields s f → g ≡ f.value → IsRead (closed (in_field_pats (field_pats_of g))) a b r → IsRead (in_pat (pat_of t)) a b r
 unfolding pat_of

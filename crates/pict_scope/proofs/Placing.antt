@@ -1,12 +1,10 @@
 -- The table of places grows from the end of the list.
-use Rattle.std.proofs.Common.{◌≡◌, ℕ, ◌+◌, ◌<◌, nat_eq, Bool, true, false, not, cond, List, [], ◌∷◌, map, length, get_or, drop, refl, sym, ◌∙◌, ap, subst, arith}
+use Rattle.std.proofs.Common.{◌≡◌, ℕ, ◌+◌, ◌<◌, nat_eq, Bool, true, false, not, cond, List, ◌∷◌, length, get_or, drop, sym, ◌∙◌, ap, subst, arith}
 use Rattle.std.specs.Prelude.{if◌then◌else◌}
 use Rattle.std.specs.List.{position_or_len}
 use Rattle.std.proofs.lemmas.List.{drop_more}
-use Rattle.pict_scope.specs.declared.target.Target.{Target}
-use Rattle.pict_scope.specs.declared.target.Target.TheVariants.{Prim, Binder}
-use Rattle.pict_scope.specs.Marks.{by_place}
-use Rattle.pict_scope.specs.Places.{HasPlacesFrom, SetsPlace, placed}
+use Rattle.pict_scope.specs.declared.target.Target.TheVariants.{Prim}
+use Rattle.pict_scope.specs.Places.{HasPlacesFrom, SetsPlace}
 
 here_or_later : (i : ℕ) (b : Bool) (p : ℕ) → (if b then i else (i + 1 + p)) ≡ i + cond (not b) (1 + p) 0
 here_or_later i true p = omega arith
@@ -22,15 +20,3 @@ one_place order table new none i x d h is l k set =
           let rest = position_or_len (λ m. nat_eq n m) (drop (i + 1) order) in
           set n ∙ (ap (λ p. if nat_eq n x then i else p) (k.place n) ∙ (here_or_later i (nat_eq n x) rest ∙ sym (ap (λ ms. i + position_or_len (λ m. nat_eq n m) ms) head)));
     }
-
--- the table says what a target means
-in_order : (order table : List ℕ) (none : ℕ) → none ≡ length order → HasPlacesFrom 0 order table → (t : Target) → placed none table t ≡ by_place order t
-in_order order table none is h (Prim p) = refl
-in_order order table none is h (Binder n) =
-    let p = position_or_len (λ m. nat_eq n m) order in
-    let z : 0 + p ≡ p = omega arith in
-    ap Binder (ap (λ l. get_or table n l) is ∙ (h.place n ∙ z))
-
-pub all_in_order : (order table : List ℕ) (none : ℕ) (ts : List Target) → none ≡ length order → HasPlacesFrom 0 order table → map (placed none table) ts ≡ map (by_place order) ts
-all_in_order order table none [] is h = refl
-all_in_order order table none (t ∷ ts) is h = ap (λ u. u ∷ map (placed none table) ts) (in_order order table none is h t) ∙ ap (λ us. by_place order t ∷ us) (all_in_order order table none ts is h)

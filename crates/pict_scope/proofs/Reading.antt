@@ -186,6 +186,10 @@ unfolding each_on
 each_more_on f o [] x = refl
 each_more_on f o (y ∷ xs) x = each_more_on f (o ▸ f y) xs x
 
+-- one more of a list
+pub taken : {A : Type 0} (xs : List A) (i : ℕ) (x : A) → i < length xs → x ≡ get_or xs i x → take (i + 1) xs ≡ take i xs ++ x ∷ []
+taken xs i x h is = rw (add-one, take-suc xs i x h) (ap (λ ys. take i xs ++ ys ∷ []) (sym is))
+
 each_taken : {A : Type 0} (f : A → Outline) (xs : List A) (i : ℕ) (d : A) → i < length xs → each f (take (i + 1) xs) ≡ each f (take i xs) ▸ f (get_or xs i d)
 each_taken f xs i d h = rw (add-one, take-suc xs i d h) (each_more_on f empty (take i xs) (get_or xs i d))
 

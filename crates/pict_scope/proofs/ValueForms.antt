@@ -1,5 +1,5 @@
 -- The outlines of values, abstractions, declarations and processes whose parts stand in vectors and boxes.
-use Rattle.std.proofs.Common.{◌≡◌, ℕ, zero, suc, arith, ◌+◌, ◌<◌, ◌≤◌, List, [], ◌∷◌, ◌++◌, map, length, get_or, take, take-suc, refl, sym, ◌∙◌, ap, subst, append_assoc, append-nil, add-one, Box, Global}
+use Rattle.std.proofs.Common.{◌≡◌, ℕ, zero, suc, arith, ◌+◌, ◌<◌, ◌≤◌, List, [], ◌∷◌, ◌++◌, map, length, get_or, take, refl, sym, ◌∙◌, ap, subst, append_assoc, append-nil, Box, Global}
 use Rattle.std.specs.Prelude.{Vec, Result}
 use Rattle.std.proofs.lemmas.List.{map-append, take_all}
 use Rattle.pict_syntax.specs.declared.code.Code.TheVariants.{S3}
@@ -28,7 +28,7 @@ use Rattle.pict_scope.specs.Outlines.{Outline, empty, ◌▸◌, closed, group, 
 use Rattle.pict_scope.specs.Forms.{in_type, in_types, in_annotation, in_pat, in_field_pats, in_dec, in_decs, in_definitions, in_abs, in_chan, in_val, in_vals, in_field_vals, in_labelled_vals, in_proc, in_procs, defined, with_parameters}
 use Rattle.pict_scope.specs.Held.{each_on, each, in_type_tree, in_val_tree, in_labelled_val, in_dec_tree, in_definition, in_proc_tree, in_parameter}
 use Rattle.pict_scope.specs.Reads.{around, Moves, Reads, Refuses, IsRead}
-use Rattle.pict_scope.proofs.Reading.{then_nothing, both_kept, each_more, each_refused}
+use Rattle.pict_scope.proofs.Reading.{then_nothing, both_kept, each_more, each_refused, taken}
 use Rattle.pict_scope.proofs.TypeForms.{read_as, all_types}
 
 vals_each : (vs : Vals) (xs : List RVal) → each_on in_val_tree (in_vals vs) xs ≡ in_vals (vals_on vs xs)
@@ -70,8 +70,8 @@ parameters_each o [] = refl
 parameters_each o (x ∷ xs) = parameters_each (o ▸ (once S3 x ▸ binds_type x empty)) xs
 
 -- fields
-fields_of : (f : RFieldVals) → field_vals_of f ≡ field_vals (types_on no_types (out-FieldVals f).type_arguments.items) (vals_on no_vals (out-FieldVals f).positional.items) (labelled_vals_on no_labelled_vals (out-FieldVals f).labelled.items)
-fields_of f = ap field_vals_of (sym (roll-out-FieldVals f)) ∙ field_vals_is (out-FieldVals f).type_arguments (out-FieldVals f).positional (out-FieldVals f).labelled
+pub field_vals_are : (f : RFieldVals) → field_vals_of f ≡ field_vals (types_on no_types (out-FieldVals f).type_arguments.items) (vals_on no_vals (out-FieldVals f).positional.items) (labelled_vals_on no_labelled_vals (out-FieldVals f).labelled.items)
+field_vals_are f = ap field_vals_of (sym (roll-out-FieldVals f)) ∙ field_vals_is (out-FieldVals f).type_arguments (out-FieldVals f).positional (out-FieldVals f).labelled
 
 fields : (ts : List RTypeTree) (vs : List RVal) (ls : List RLabelledVal) → each in_type_tree ts ▸ (each in_val_tree vs ▸ group (each in_labelled_val ls)) ≡ in_field_vals (field_vals (types_on no_types ts) (vals_on no_vals vs) (labelled_vals_on no_labelled_vals ls))
 fields ts vs ls =
@@ -82,7 +82,7 @@ fields ts vs ls =
 pub field_vals_read : {T : Type 0} (f : RFieldVals) (xs : List RTypeTree) (ys : List RVal) (zs : List RLabelledVal) (a b : Reader) (r : Result T ScopeError) → xs ≡ (out-FieldVals f).type_arguments.items → ys ≡ (out-FieldVals f).positional.items → zs ≡ (out-FieldVals f).labelled.items → IsRead (each in_type_tree xs ▸ (each in_val_tree ys ▸ group (each in_labelled_val zs))) a b r → IsRead (in_field_vals (field_vals_of f)) a b r
 field_vals_read f xs ys zs a b r p q u h =
     let g = out-FieldVals f in
-    read_as _ _ a b r (ap (λ l. each in_type_tree l ▸ (each in_val_tree ys ▸ group (each in_labelled_val zs))) p ∙ (ap (λ l. each in_type_tree g.type_arguments.items ▸ (each in_val_tree l ▸ group (each in_labelled_val zs))) q ∙ (ap (λ l. each in_type_tree g.type_arguments.items ▸ (each in_val_tree g.positional.items ▸ group (each in_labelled_val l))) u ∙ (fields g.type_arguments.items g.positional.items g.labelled.items ∙ ap in_field_vals (sym (fields_of f)))))) h
+    read_as _ _ a b r (ap (λ l. each in_type_tree l ▸ (each in_val_tree ys ▸ group (each in_labelled_val zs))) p ∙ (ap (λ l. each in_type_tree g.type_arguments.items ▸ (each in_val_tree l ▸ group (each in_labelled_val zs))) q ∙ (ap (λ l. each in_type_tree g.type_arguments.items ▸ (each in_val_tree g.positional.items ▸ group (each in_labelled_val l))) u ∙ (fields g.type_arguments.items g.positional.items g.labelled.items ∙ ap in_field_vals (sym (field_vals_are f)))))) h
 
 -- values that may stand as channels
 pub block_read : {T : Type 0} (t : RChan) (s : Span) (ds : Vec RDec Global) (v : Box RVal Global) (xs : List RDec) (w : RVal) (a b : Reader) (r : Result T ScopeError) → t ≡ Block s ds v → xs ≡ ds.items → w ≡ v.value → IsRead (closed (each in_dec_tree xs ▸ in_val (val_of w))) a b r → IsRead (in_chan (chan_of t)) a b r
@@ -155,7 +155,7 @@ all_more xs x a b c h k = record {
 
 pub one_ahead : (ds : List RDefinition) (i : ℕ) (d : RDefinition) (a b c : Reader) → i < length ds → d ≡ get_or ds i d → Reads (binds_all (map (λ x. x.id) (take i ds))) a b → Moves (with_value d.id) b c → Reads (binds_all (map (λ x. x.id) (take (i + 1) ds))) a c
 one_ahead ds i d a b c h is k l =
-    let more : take (i + 1) ds ≡ take i ds ++ d ∷ [] = rw (add-one, take-suc ds i d h) (ap (λ x. take i ds ++ x ∷ []) (sym is)) in
+    let more : take (i + 1) ds ≡ take i ds ++ d ∷ [] = taken ds i d h is in
     subst (λ xs. Reads (binds_all xs) a c) (sym (ap (map (λ x. x.id)) more ∙ map-append (λ x. x.id) (take i ds) (d ∷ []))) (all_more (map (λ x. x.id) (take i ds)) d.id a b c k l)
 
 pub all_ahead : (ds : List RDefinition) (i : ℕ) (a b : Reader) → length ds ≤ i → Reads (binds_all (map (λ x. x.id) (take i ds))) a b → Reads (binds_all (map (λ x. x.id) ds)) a b
