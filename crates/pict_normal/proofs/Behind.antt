@@ -1,6 +1,5 @@
 -- The measures of variables behind binders.
-use Rattle.std.proofs.Common.{◌≡◌, ℕ, zero, suc, ◌+◌, ◌-◌, ◌≤◌, List, [], ◌∷◌, ◌++◌, length, map, reverse, drop, refl, sym, ◌∙◌, ap, ap₂, subst, arith, append_assoc}
-use Rattle.std.proofs.lemmas.List.{reverse-append}
+use Rattle.std.proofs.Common.{◌≡◌, ℕ, zero, suc, ◌+◌, ◌-◌, ◌≤◌, List, [], ◌∷◌, ◌++◌, length, map, reverse, drop, refl, sym, ◌∙◌, ap, ap₂, arith}
 use Rattle.pict_types.specs.declared.measure.Measures.{Measures}
 use Rattle.pict_types.specs.Types.{PlainType, PlainTypes, count_types}
 use Rattle.pict_types.specs.Filling.{put_for}

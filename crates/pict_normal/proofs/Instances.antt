@@ -8,7 +8,7 @@ use Rattle.pict_types.specs.Replacing.{FitTheirFields, IsOfKind, arguments}
 use Rattle.pict_types.proofs.Formed.{arguments_keep}
 use Rattle.pict_normal.specs.Written.{kind_of_arg, kinds_with}
 
-kind_fits : (a : PlainArg) (b : PlainBound) → IsOfKind a b → kind_by b ≡ kind_of_arg a
+pub kind_fits : (a : PlainArg) (b : PlainBound) → IsOfKind a b → kind_by b ≡ kind_of_arg a
 kind_fits (Plain t) Free h = refl
 kind_fits (Plain t) (Below u) h = refl
 kind_fits (Plain t) (Operator n) h = absurd h

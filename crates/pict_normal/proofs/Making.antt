@@ -141,10 +141,6 @@ pub if_ok : {T E : Type 0} {P Q : T → Type 0} (r : Result T E) → ((x : T) �
 if_ok (Ok x) f h = f x h
 if_ok (Err e) f h = tt
 
-if_none : {T : Type 0} (P : Type 0) (o : Option T) → IfNone o ⊥ → IfNone o P
-if_none P None h = absurd h
-if_none P (Some x) h = tt
-
 -- a row with all its parts
 row_whole : {T A : Type 0} {whole : List T → A} {r : Row T} {w h : ℕ} {all : A} (next : List T → A) → ((xs : List T) → next xs ≡ whole xs) → IsRow whole r w 0 h 0 all → IsRow next r w 0 h 0 all
 row_whole {r = r} next e x = record {

@@ -1,5 +1,5 @@
 -- An operator has as many parameters as it has arguments.
-use Rattle.std.proofs.Common.{◌≡◌, ℕ, Bool, List, [], length, map, refl, sym, ◌∙◌, ap, subst}
+use Rattle.std.proofs.Common.{◌≡◌, ℕ, Bool, List, length, map, refl, sym, ◌∙◌, ap, subst}
 use Rattle.std.proofs.lemmas.List.{length-map}
 use Rattle.pict_normal.specs.declared.arguments.Arguments.{Arguments}
 use Rattle.pict_types.specs.declared.measure.Measures.{Measures}

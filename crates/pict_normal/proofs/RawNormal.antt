@@ -10,7 +10,7 @@ use Rattle.pict_types.specs.Renaming.{rename}
 use Rattle.pict_types.specs.Replacing.{bound_by, Head, apply_head, rename_head, nothing, next_variable, apply_variable, Replacement, replacement_beyond, replacement_beyond_all, replace, replace_types, replace_labels, replace_bound, replace_bounds}
 use Rattle.pict_syntax.specs.Labels.{label_cmp}
 use Rattle.pict_types.specs.Entries.{PlainWhat, Variable, Definition, PlainEntry, PlainContext}
-use Rattle.pict_normal.specs.Normal.{Meaning, a_type, an_operator, of_bound, of_entry, behind_entry, meaning, meant_type, meant_head, and_type, and_bound, with_labelled_type, kind_bound, entry_of, normal, normal_types, normal_labels, normal_binders, normal_binder, normal_bound, under_binders, count_trees, Stop, use_stops, apply_stops, kind_stops, types_stops, labels_stops, binders_stops, binder_stops}
+use Rattle.pict_normal.specs.Normal.{Meaning, a_type, an_operator, of_bound, of_entry, behind_entry, meaning, meant_type, meant_head, and_type, and_bound, with_labelled_type, kind_bound, entry_of, normal, normal_types, normal_labels, normal_binders, normal_binder, normal_bound, under_binders, count_trees, use_stops, apply_stops, kind_stops, types_stops, labels_stops, binders_stops, binder_stops, Stop}
 use Rattle.pict_normal.specs.Meanings.{meanings, with_what}
 use Rattle.pict_binders.specs.Names.{place_of}
 use Rattle.pict_types.specs.Places.{names_in}
@@ -150,7 +150,7 @@ means_under ns {c = c} {ms = ms} {s = s} (more_binders bs (type_binder sp id k b
     (means_variable id.name.0 (kind_bound k (normal_bound ns (under_binders ns c bs) b)) (means_under ns bs h))
 
 -- rows that are replaced, with one more at the end
-and_type_replaced : (s : Replacement) (us : PlainTypes) (u : PlainType) → replace_types s (and_type us u) ≡ and_type (replace_types s us) (replace s u)
+pub and_type_replaced : (s : Replacement) (us : PlainTypes) (u : PlainType) → replace_types s (and_type us u) ≡ and_type (replace_types s us) (replace s u)
 and_type_replaced s no_type u = refl
 and_type_replaced s (types t us) u = ap (types (replace s t)) (and_type_replaced s us u)
 

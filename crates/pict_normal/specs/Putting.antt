@@ -1,5 +1,5 @@
 -- What stands for a variable, and for the variables of a type.
-use Rattle.std.specs.Prelude.{◌≡◌, ℕ, ◌+◌, ◌≤◌, ◌<◌, ◌^◌, List, [], length, take}
+use Rattle.std.specs.Prelude.{◌≡◌, ℕ, ◌+◌, ◌≤◌, ◌<◌, ◌^◌, List, length, take}
 use Rattle.pict_types.specs.declared.context.Context.{Context}
 use Rattle.pict_types.specs.declared.measure.Measures.{Measures}
 use Rattle.pict_normal.specs.declared.put.Put.{Put}

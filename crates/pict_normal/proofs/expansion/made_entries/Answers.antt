@@ -1,5 +1,5 @@
 -- The entries of the context keep the kinds of the type.
-use Rattle.std.proofs.Common.{subst, arith}
+use Rattle.std.proofs.Common.{subst}
 use Rattle.std.specs.Prelude.{IfErr, IfOk}
 use Rattle.pict_normal.specs.declared.puts.Puts.{Puts}
 use Rattle.pict_normal.specs.declared.puts.Source.TheVariants.{Entries as Entries_}

@@ -1,5 +1,5 @@
 -- The body of an operator is well formed.
-use Rattle.std.proofs.Common.{◌≡◌, sym, subst}
+use Rattle.std.proofs.Common.{sym, subst}
 use Rattle.pict_types.specs.Entries.{variables}
 use Rattle.pict_types.specs.Kinds.{kinds, with_parameters, IsWellFormed}
 use Rattle.pict_types.specs.PlainContext.{names_of, plain_context}
