@@ -9,18 +9,15 @@ use Rattle.pict_scope.specs.Outlines.{Outline, empty, ◌▸◌, group, binds_va
 use Rattle.pict_scope.specs.Forms.{in_type, with_parameters, in_dec, in_decs, defined as names_defined}
 use Rattle.pict_rules.specs.Environments.{Environment, Extension, KnownValue, one_value, opened, extended, defined, shifted_by}
 use Rattle.pict_rules.specs.Complete.{is_complete}
-use Rattle.pict_rules.specs.Rules.{Sort, Result, Rule, environment_, signatures_, signature_, Signature, Body, process_body, value_body, declaration, declarations, signatures, signature}
+use Rattle.pict_rules.specs.Rules.{environment_, signatures_, signature_, Signature, Body, process_body, value_body, declaration, declarations, signatures, signature}
 use Rattle.pict_rules.specs.Clauses.{values_of, with_signatures, with_own, argument_type}
 use Rattle.pict_rules.specs.Typing.{rule}
 use Rattle.pict_rules.specs.SameNames.{value_names, bound_names, HasTypesOf, HasValuesOf}
-use Rattle.pict_rules.proofs.Results.{Each, any_asked, IsResult, result_has, gives_, refuses, parts, splits, unless, in_boths}
-use Rattle.pict_rules.proofs.Names.{id_names, AddsNames, one_named, pattern_named, against_named, fields_named}
+use Rattle.pict_rules.proofs.Results.{result_has, gives_, refuses, parts, splits, unless, in_boths}
+use Rattle.pict_rules.proofs.Names.{id_names, AddsNames, one_named, pattern_named, against_named, fields_named, Gives}
 use Rattle.pict_rules.proofs.BoundIds.{value_ids, type_ids, field_value_ids, field_type_ids, definition_ids}
 use Rattle.pict_rules.proofs.Kept.{same_texts, Keeps, keeps_type, keeps_val, keeps_proc, keeps_closed, keeps_group, keeps_definitions}
 use Rattle.pict_rules.proofs.Opened.{GoesTo, stays, past_pat, past_definitions, types_within, values_within, types_still, values_still}
-
-abbrev Gives : (s : Sort) → (Result s → Type 0) → Rule s → Type 0
-Gives s P r = Each any_asked IsResult s P r
 
 pub record Knows (e : Environment) (a : Around) : Type 0 where
   pub types_ : HasTypesOf e a

@@ -76,7 +76,7 @@ pub record FieldNames (f : FieldPats) (own : List KnownType) (x : Extension) : T
 fields_within : (bs : TypeBinders) (own : List KnownType) (x : Extension) (vs us ts : List Id) → OwnNames bs own → AddsNames x vs (us ++ ts) → AddsNames (within own x) vs (us ++ (ts ++ binder_ids bs))
 fields_within bs own x vs us ts h k = subst (λ ids. AddsNames (within own x) vs ids) (append_assoc us ts (binder_ids bs)) (within_names bs own h k)
 
-abbrev Gives : (s : Sort) → (Result s → Type 0) → Rule s → Type 0
+abbrev pub Gives : (s : Sort) → (Result s → Type 0) → Rule s → Type 0
 Gives s P r = Each any_asked IsResult s P r
 
 abbrev PatternNames : Pat → TypedPattern → Type 0

@@ -7,7 +7,7 @@ use Rattle.pict_syntax.specs.declared.id.Id.{Id}
 use Rattle.pict_syntax.specs.Trees.{TypeBinder, type_binder, TypeBinders, no_binders, more_binders, RType, Pat, bind_pat, any_pat, fields_pat, fold_pat, FieldPats, field_pats, Pats, no_pats, more_pats, LabelledPats, no_labelled_pats, more_labelled_pats, Definitions, no_definitions, more_definitions}
 use Rattle.pict_types.specs.Renaming.{moved}
 use Rattle.pict_binders.specs.declared.binders.Binder.{Binder}
-use Rattle.pict_scope.specs.Around.{Around, with_values, with_value}
+use Rattle.pict_scope.specs.Around.{Around, with_values}
 use Rattle.pict_scope.specs.Outlines.{Outline, empty, ◌▸◌, closed, pattern_value, pattern_type, pattern, group, once, opens}
 use Rattle.pict_scope.specs.Forms.{in_annotation, in_pattern_binder, in_pattern_binders, in_pat, in_field_pats, in_pats, in_labelled_pats, defined}
 use Rattle.pict_rules.specs.Environments.{Environment, Extension, KnownType, opened, only_types, entries_of, rename_values, extended}

@@ -75,7 +75,7 @@ function_formed e f (Chan m t) w k = tt
 function_formed e f (Rec t) w k = tt
 function_formed e f (Fields bs ps ls) w k = last_formed e (f bs) bs ls (split_last ps) w.0 w.1.1 (split_formed e.names (kinds_under (kinds_in e) bs) ps w.1.0) (λ u h. k bs u w.0 h)
 
-answering_formed : (e : Environment) (t : PlainType) → IsRegular e → IsTypeIn e t → FunctionFormed e (answering e t)
+pub answering_formed : (e : Environment) (t : PlainType) → IsRegular e → IsTypeIn e t → FunctionFormed e (answering e t)
 answering_formed e t r w =
     let c = entries_context e.names e.context r.entries in
     function_formed e (λ bs last. sendable (exposure (under (context_of e) bs) last)) (exposure (context_of e) t) (exposure_formed e.names (context_of e) t c w) (λ bs u h k.

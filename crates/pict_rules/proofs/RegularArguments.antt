@@ -124,7 +124,7 @@ written_fits : (e : Environment) (args : List PlainArg) → ArgsAreWellFormed e.
 written_fits e [] h = tt
 written_fits e (a ∷ args) h = (h.0, written_fits e args h.1)
 
-all_fit : (args : List PlainArg) (bs : PlainBounds) → FitFirst args bs → length args ≡ count_bounds bs → FitTheirFields args bs
+pub all_fit : (args : List PlainArg) (bs : PlainBounds) → FitFirst args bs → length args ≡ count_bounds bs → FitTheirFields args bs
 all_fit [] no_bound h n = tt
 all_fit [] (bounds b bs) h n = absurd (omega (arith, n))
 all_fit (a ∷ args) no_bound h n = absurd h
@@ -148,7 +148,7 @@ one_more_formed : (ns : List (List ℕ)) (ks : List Kind) (args : List PlainArg)
 one_more_formed ns ks [] a h k = (k, tt)
 one_more_formed ns ks (x ∷ args) a h k = (h.0, one_more_formed ns ks args a h.1 k)
 
-one_longer : (args : List PlainArg) (a : PlainArg) → length (args ++ a ∷ []) ≡ suc (length args)
+pub one_longer : (args : List PlainArg) (a : PlainArg) → length (args ++ a ∷ []) ≡ suc (length args)
 one_longer [] a = refl
 one_longer (x ∷ args) a = ap suc (one_longer args a)
 

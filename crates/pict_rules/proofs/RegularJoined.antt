@@ -1,11 +1,12 @@
 -- What patterns side by side add leaves the environment regular.
-use Rattle.std.proofs.Common.{◌≡◌, ℕ, ◌+◌, List, [], ◌∷◌, ◌++◌, length, refl, ◌∙◌, add-zero, add-suc}
+use Rattle.std.proofs.Common.{◌≡◌, ℕ, ◌+◌, List, [], ◌∷◌, ◌++◌, length, refl, ◌∙◌, add-zero, add-suc, ap, ap₂, arith}
 use Rattle.pict_types.specs.Kinds.{Kind, kinds, kind_at}
 use Rattle.pict_types.specs.Renaming.{moved}
 use Rattle.pict_types.specs.Entries.{PlainContext, variables, EntriesAreWellFormed}
 use Rattle.pict_rules.specs.Environments.{Environment, Extension, KnownType, KnownValue, opened, entries_of, rename_values, moved_binders, joined}
 use Rattle.pict_rules.specs.Regular.{IsRegular, ValuesAreWellFormed, Adds}
 use Rattle.pict_types.proofs.Formed.{KeepsKinds, same_kind, keeps_beyond, formed_renamed, formed_bound_renamed}
+use Rattle.pict_types.proofs.Renamed.{rename_same}
 
 abbrev pub kinds_inside : List KnownType → PlainContext → List Kind
 kinds_inside bs c = kinds (variables (entries_of bs ++ c))
@@ -29,6 +30,11 @@ entries_joined ns xs (y ∷ ys) c h k = (formed_bound_renamed ns y.bound (keeps_
 pub values_renamed : {f : ℕ → ℕ} {ks js : List Kind} (ns : List (List ℕ)) (vs : List KnownValue) → KeepsKinds f ks js → ValuesAreWellFormed ns ks vs → ValuesAreWellFormed ns js (rename_values f vs)
 values_renamed ns [] h w = tt
 values_renamed ns (v ∷ vs) h w = (formed_renamed ns v.has h w.0, values_renamed ns vs h w.1)
+
+-- past no variable, nothing moves
+pub values_unmoved : (vs : List KnownValue) → rename_values (moved 0 0) vs ≡ vs
+values_unmoved [] = refl
+values_unmoved (v ∷ vs) = ap₂ (λ x xs. x ∷ xs) (ap (λ t. record { name = v.name; has = t }) (rename_same v.has (record { each = λ j. omega arith }))) (values_unmoved vs)
 
 pub values_first : (ns : List (List ℕ)) (ks : List Kind) (vs ws : List KnownValue) → ValuesAreWellFormed ns ks (vs ++ ws) → ValuesAreWellFormed ns ks vs
 values_first ns ks [] ws h = tt

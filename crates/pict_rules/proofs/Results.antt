@@ -3,7 +3,7 @@ use Rattle.std.proofs.Common.{ℕ, List, [], ◌∷◌, ◌++◌, Bool, true, fa
 use Rattle.pict_syntax.specs.declared.code.Code.{Code}
 use Rattle.pict_syntax.specs.declared.span.Span.{Span}
 use Rattle.pict_syntax.specs.Trees.{Bound, unbounded, bound}
-use Rattle.pict_normal.specs.Normal.{Stop, normal}
+use Rattle.pict_normal.specs.Normal.{normal, Stop}
 use Rattle.pict_types.specs.Mentions.{mentions_innermost, lowered}
 use Rattle.pict_types.specs.Types.{Capability, Both, Read, Write, Respond, PlainType, Top, Int, Char, Str, Boolean, Var, Apply, Chan, Fields, Rec, PlainTypes, PlainLabels, PlainBound, Free, Below, Operator, PlainBounds, no_bound, bounds, PlainArg, is_top}
 use Rattle.pict_rules.specs.Shapes.{Function}
@@ -41,7 +41,7 @@ any_given s x = Unit {0}
 abbrev pub IsResult : ResultProperty
 IsResult t e j x = Runs (rule e j) (ok x)
 
-abbrev IfGiven : {s : Sort} → (Result s → Type 0) → Answer s → Type 0
+abbrev pub IfGiven : {s : Sort} → (Result s → Type 0) → Answer s → Type 0
 IfGiven P (ok x) = P x
 IfGiven P (stuck c i) = Unit {0}
 

@@ -1,6 +1,6 @@
--- How many values, patterns, type binders and definitions are written.
+-- How many values, patterns and type binders are written.
 use Rattle.std.specs.Prelude.{ℕ, suc}
-use Rattle.pict_syntax.specs.Trees.{Pats, no_pats, more_pats, TypeBinders, no_binders, more_binders, Vals, no_vals, more_vals, Definitions, no_definitions, more_definitions}
+use Rattle.pict_syntax.specs.Trees.{Pats, no_pats, more_pats, TypeBinders, no_binders, more_binders, Vals, no_vals, more_vals}
 
 abbrev pub count_vals : Vals → ℕ
 count_vals no_vals = 0
@@ -13,7 +13,3 @@ count_pats (more_pats ps p) = suc (count_pats ps)
 abbrev pub count_binders : TypeBinders → ℕ
 count_binders no_binders = 0
 count_binders (more_binders bs b) = suc (count_binders bs)
-
-abbrev pub count_definitions : Definitions → ℕ
-count_definitions no_definitions = 0
-count_definitions (more_definitions ds x a) = suc (count_definitions ds)
