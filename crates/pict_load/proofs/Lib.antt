@@ -1,0 +1,4 @@
+pub mod Drawing
+pub mod Short
+pub mod Counting
+pub mod Lines

@@ -1,0 +1,4 @@
+pub mod Rings
+pub mod Text
+pub mod Summary
+pub mod Counted

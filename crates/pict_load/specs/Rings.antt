@@ -1,0 +1,23 @@
+-- The rings of a number, as the words of a generator draw them.
+use Rattle.std.specs.Prelude.{ℕ, ◌+◌, ◌%◌, List, [], ◌∷◌}
+use Rattle.rand_core.specs.Steps.{first_words}
+use Rattle.rand_pcg.specs.Lcg.{Lcg, started, increment_of}
+use Rattle.rand_pcg.specs.Pcg.{pcg32, multiplier_64}
+use Rattle.pict_load.specs.declared.rings.Ring.{Ring}
+
+-- the generator that begins at a number, in stream 54
+abbrev pub generator : ℕ → Lcg
+generator n = started 64 multiplier_64 n (increment_of 64 54)
+
+-- two words make a ring
+abbrev pub ring_of : ℕ → ℕ → Ring
+ring_of first second = record { size = 100 + first % 100; token = 10000 + second % 10000 }
+
+-- the rings that these words make, two words each
+abbrev pub drawn : List ℕ → List Ring
+drawn (first ∷ second ∷ words) = ring_of first second ∷ drawn words
+drawn _ = []
+
+-- six words make three rings
+unfoldable pub rings_of : ℕ → List Ring
+rings_of n = drawn (first_words pcg32 6 (generator n))
