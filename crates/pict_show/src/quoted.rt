@@ -44,7 +44,7 @@ pub fn written(quote: u8, byte: u8) -> ([u8; 4], usize)
 
 /// Writes a byte string behind what is there, between quotes `"` or `'`, as a literal of the language: bytes 0x20 to 0x7E
 /// as they are, but a backslash before a backslash and before the quote, `\n`, `\t`, every other byte as `\x` and two
-/// lower-case digits. The only error is want of memory; what was there stays in front.
+/// lower-case digits. The only error is want of memory.
 pub fn write_quoted(out: &mut Vec<u8>, quote: u8, bytes: &[u8]) -> Result<(), AllocError>
     requires { (quote ≡ 34) ⊎ (quote ≡ 39) }
     ensures text { OnOk result (out.new.items ≡ out.old.items ++ quoted quote bytes.now) }

@@ -52,8 +52,7 @@ fn primitive_name(p: Prim) -> &'static [u8]
     }
 }
 
-/// Writes a letter and a number in decimal behind what is there. The only error is want of memory; what was there stays in
-/// front.
+/// Writes a letter and a number in decimal behind what is there. The only error is want of memory.
 pub fn write_numbered(out: &mut Vec<u8>, letter: u8, number: u32) -> Result<(), AllocError>
     ensures { OnOk result (out.new.items ≡ out.old.items ++ (letter ∷ decimal number)) }
 {
@@ -62,7 +61,7 @@ pub fn write_numbered(out: &mut Vec<u8>, letter: u8, number: u32) -> Result<(), 
     out.extend_from_slice(buffer.format(number).as_bytes())
 }
 
-/// Writes a number in decimal behind what is there. The only error is want of memory; what was there stays in front.
+/// Writes a number in decimal behind what is there. The only error is want of memory.
 pub fn write_decimal(out: &mut Vec<u8>, number: u64) -> Result<(), AllocError>
     ensures { OnOk result (out.new.items ≡ out.old.items ++ decimal number) }
 {
@@ -87,7 +86,7 @@ fn truth(b: bool) -> &'static [u8]
 }
 
 /// Writes the text of a value behind what is there, its labels by their names. Nothing recurses along the value. The only
-/// error is want of memory; what was there stays in front.
+/// error is want of memory.
 pub fn write_value(
     alloc: Global,
     out: &mut Vec<u8>,
