@@ -1,8 +1,8 @@
 pub mod Numbering
 pub mod Rebuilding
-mod Agreeing
+pub mod Agreeing
 pub mod Levels
-mod Framed
+pub mod Framed
 mod Closings
 mod Lines
 mod Rows

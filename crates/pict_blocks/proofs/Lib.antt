@@ -1,0 +1,5 @@
+pub mod Variables
+pub mod Putting
+pub mod Parts
+pub mod Nodes
+pub mod Forking

@@ -1,0 +1,53 @@
+-- What a block of a machine stands for, by the words behind its link, and what queues of blocks stand for.
+use Rattle.std.specs.Prelude.{ℕ, zero, suc, nat_lt, List, [], ◌∷◌, map, length, slice_get, Option, Some, None, option_map, unwrap_or, if◌then◌else◌, pos}
+use Rattle.pict_core.specs.Term.{Val, Vals, Int, Record, no_vals, more_vals, Process, Zero, Out}
+use Rattle.pict_code.specs.Frames.{frame_of}
+use Rattle.pict_code.specs.Nodes.{Place, places}
+use Rattle.pict_code.specs.Standing.{with_frame}
+use Rattle.pict_heap.specs.HeapState.{HeapState, value_of}
+use Rattle.pict_heap.specs.Packed.{unpacked}
+use Rattle.pict_view.specs.View.{View}
+
+-- what two words stand for in a heap
+abbrev pub value_in : HeapState → ℕ → ℕ → Val
+value_in h tag payload = unwrap_or (option_map (value_of h) (unpacked tag payload)) (Int (pos 0))
+
+-- two words a value, read by `value`
+abbrev pub values_of : (ℕ → ℕ → Val) → List ℕ → List Val
+values_of value (tag ∷ payload ∷ ws) = value tag payload ∷ values_of value ws
+values_of value _ = []
+
+abbrev pub list_of : Vals → List Val
+list_of no_vals = []
+list_of (more_vals v vs) = v ∷ list_of vs
+
+abbrev pub fields_of : Val → List Val
+fields_of (Record vs ls) = list_of vs
+fields_of _ = []
+
+-- the values of a frame: themselves, or where it has more than 32,000 levels the positional fields of one record
+abbrev pub frame_values : (ℕ → ℕ → Val) → ℕ → List ℕ → List Val
+frame_values value levels (tag ∷ payload ∷ ws) = if nat_lt 32000 levels then fields_of (value tag payload) else values_of value (tag ∷ payload ∷ ws)
+frame_values value levels ws = []
+
+abbrev pub node_process : (ℕ → ℕ → Val) → List ℕ → Option Place → Process
+node_process value ws None = Zero
+node_process value ws (Some p) = with_frame p (frame_values value (length (frame_of p.around p.process)) ws)
+
+-- word 1 is 0: an output of kept values, with its place in the text
+abbrev pub kept_process : (ℕ → ℕ → Val) → List ℕ → Process
+kept_process value (a ∷ b ∷ c ∷ d ∷ text ∷ start ∷ end ∷ ws) = Out (value a b) (value c d) (record { text = text; start = start; end = end })
+kept_process value _ = Zero
+
+-- Word 1 is n + 1: the process of node n of the core process' code, with the values of its frame.
+abbrev pub process_of : Process → (ℕ → ℕ → Val) → List ℕ → Process
+process_of core value [] = Zero
+process_of core value (zero ∷ ws) = kept_process value ws
+process_of core value (suc n ∷ ws) = node_process value ws (slice_get (places 0 core) n)
+
+-- the first queue is of the ready processes, the others are of the channels in order
+abbrev pub view_of_contents : Process → (ℕ → ℕ → Val) → List (List ℕ) → List (List (List ℕ)) → View
+view_of_contents core value ready channels = record {
+  ready = map (process_of core value) ready;
+  channels = map (map (process_of core value)) channels;
+}

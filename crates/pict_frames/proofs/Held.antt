@@ -1,0 +1,64 @@
+-- A block that is taken and written, and what it does to the contents of queues and to the other held blocks.
+use Rattle.std.proofs.Common.{◌≡◌, ◌≢◌, ℕ, zero, suc, ◌+◌, ◌≤◌, List, [], ◌∷◌, ◌++◌, take, drop, set, get_or, replicate, refl, ◌∙◌, ap, subst, arith}
+use Rattle.std.specs.Option.{unwrap_or}
+use Rattle.std.specs.FinMap.{insert}
+use Rattle.pict_region.specs.RegionState.{spare, words_of, KeepsOtherWidths}
+use Rattle.pict_queue.specs.QueuesState.{QueuesState, IsHeld}
+use Rattle.pict_queue.specs.Contents.{held_words, contents, KeepsAllContents, KeepsHeld, KeepsOtherHeld}
+use Rattle.pict_queue.proofs.Kept.{contents_beside, held_beside}
+use Rattle.pict_frames.specs.Writing.{OnlyWrites, IsMade}
+use Rattle.pict_frames.proofs.Written.{inserted_here, writes_words, writes_words_of}
+
+-- one held block is written
+pub written_contents : (old new : QueuesState) (block : ℕ) (ws : List ℕ) → IsHeld old block → OnlyWrites old new block ws → KeepsAllContents old new
+written_contents old new block ws held w = contents_beside old new block w.others w.lists held.apart
+
+pub written_held : (old new : QueuesState) (block : ℕ) (ws : List ℕ) → OnlyWrites old new block ws → KeepsOtherHeld old new block
+written_held old new block ws w = held_beside old new block w.others w.lists
+
+pub taken_words : (old new : QueuesState) (block width : ℕ) → new.region.live ≡ insert old.region.live block (replicate width 0) → words_of new.region block ≡ replicate width 0
+taken_words old new block width live = ap (λ o. unwrap_or o []) (inserted_here old.region new.region block (replicate width 0) live)
+
+-- the words of a new block behind its link
+new_words : (width x : ℕ) (fs : List ℕ) → 2 ≤ width → drop 1 (take 2 (set (replicate width 0) 1 x) ++ fs) ≡ x ∷ fs
+new_words zero x fs h = absurd (omega arith)
+new_words (suc zero) x fs h = absurd (omega arith)
+new_words (suc (suc n)) x fs h = refl
+
+module _ (old taken numbered new : QueuesState) (block width x : ℕ) (fs : List ℕ)
+    (live : taken.region.live ≡ insert old.region.live block (replicate width 0)) (held : IsHeld taken block)
+    (left : spare taken.region width + 1 ≡ spare old.region width) (widths : KeepsOtherWidths old.region taken.region width) (rest : taken ≡ record old { region = taken.region })
+    (apart : (other : ℕ) → IsHeld old other → other ≢ block) (same : KeepsAllContents old taken) (kept : KeepsHeld old taken)
+    (v : OnlyWrites taken numbered block (set (words_of taken.region block) 1 x))
+    (w : OnlyWrites numbered new block (take 2 (words_of numbered.region block) ++ fs)) where
+  both_written : OnlyWrites taken new block (take 2 (set (replicate width 0) 1 x) ++ fs)
+  both_written =
+      subst (λ us. OnlyWrites taken new block (take 2 (set us 1 x) ++ fs)) (taken_words old taken block width live)
+      (writes_words_of taken numbered new block (set (words_of taken.region block) 1 x) (λ us. take 2 us ++ fs) v w)
+
+  pub made : 2 ≤ width → IsMade old new block (x ∷ fs) width
+  made wide = record {
+    held = w.held;
+    here = ap (drop 1) (writes_words taken new block _ both_written) ∙ new_words width x fs wide;
+    contents = λ queue. written_contents taken new block _ held both_written queue ∙ same queue;
+    spare = let e : spare new.region width ≡ spare taken.region width = ap (λ f. get_or f width 0) both_written.free in omega (arith, e, left);
+    widths = λ other n. ap (λ f. get_or f other 0) both_written.free ∙ widths other n;
+    queues = both_written.queues ∙ ap (λ (s : QueuesState). s.queues) rest;
+    apart = apart;
+    kept = λ other h.
+        let t = kept other h in
+        let u = written_held taken new block _ both_written other (apart other h) t.held in
+        record { held = u.held; words = u.words ∙ t.words };
+  }
+
+-- the block is pushed
+pub made_pushed : (old made new : QueuesState) (queue block width : ℕ) (ws : List ℕ) → (m : IsMade old made block ws width)
+    → contents new queue ≡ contents made queue ++ held_words made.region block ∷ [] → contents new queue ≡ contents old queue ++ ws ∷ []
+made_pushed old made new queue block width ws m pushed =
+    pushed ∙ ap (λ xs. xs ++ held_words made.region block ∷ []) (m.contents queue) ∙ ap (λ us. contents old queue ++ us ∷ []) m.here
+
+pub made_kept : (old made new : QueuesState) (block width : ℕ) (ws : List ℕ) → IsMade old made block ws width → KeepsOtherHeld made new block → KeepsHeld old new
+made_kept old made new block width ws m others other held =
+    let k = m.kept other held in
+    let p = others other (m.apart other held) k.held in
+    record { held = p.held; words = p.words ∙ k.words }

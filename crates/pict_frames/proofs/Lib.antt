@@ -1,0 +1,4 @@
+pub mod Costs
+pub mod Written
+pub mod Reading
+pub mod Held

@@ -1,0 +1,9 @@
+use Rattle.pict_frames.proofs.Held.{made_pushed, made_kept}
+use Rattle.pict_frames.proofs.spawning.spawn.Goals as goal
+
+pub returns-clause-pushed : goal.returns-clause-pushed
+returns-clause-pushed c =
+    made_pushed c.args.queues.now c.block_of-block.new.queues c.push_back.new.self _ _ _ _ c.block_of-block.ensures.made c.push_back.ensures.pushed
+
+pub returns-clause-kept : goal.returns-clause-kept
+returns-clause-kept c = made_kept c.args.queues.now c.block_of-block.new.queues c.push_back.new.self _ _ _ c.block_of-block.ensures.made c.push_back.ensures.kept

@@ -1,0 +1,32 @@
+-- What writing the words of one held block changes, and what making one does.
+use Rattle.std.specs.Prelude.{◌≡◌, ◌≢◌, ℕ, ◌+◌, List, Some}
+use Rattle.std.specs.FinMap.{get}
+use Rattle.pict_region.specs.RegionState.{spare, KeepsOtherWidths}
+use Rattle.pict_queue.specs.QueuesState.{QueuesState, IsHeld, KeepsQueues}
+use Rattle.pict_queue.specs.Contents.{held_words, KeepsAllContents, KeepsHeld}
+
+-- the held block has these words now, and nothing else has changed but work
+pub record OnlyWrites (old new : QueuesState) (block : ℕ) (words : List ℕ) : Type 0 where
+  pub here : get new.region.live block ≡ Some words
+  pub others : (other : ℕ) → other ≢ block → get new.region.live other ≡ get old.region.live other
+  pub free : new.region.free ≡ old.region.free
+  pub queues : new.queues ≡ old.queues
+  pub spare_queues : new.spare_queues ≡ old.spare_queues
+  pub lists : KeepsQueues old new
+  pub held : IsHeld new block
+
+-- nothing has changed but work
+abbrev pub OnlyWorks : QueuesState → QueuesState → Type 0
+OnlyWorks old new = new ≡ record old { region = record old.region { work = new.region.work } }
+
+-- A held block with these words behind its link was made of a free one of this width. The queues hold what they held, and
+-- the other held blocks stay.
+pub record IsMade (old new : QueuesState) (block : ℕ) (words : List ℕ) (width : ℕ) : Type 0 where
+  pub held : IsHeld new block
+  pub here : held_words new.region block ≡ words
+  pub contents : KeepsAllContents old new
+  pub spare : spare new.region width + 1 ≡ spare old.region width
+  pub widths : KeepsOtherWidths old.region new.region width
+  pub queues : new.queues ≡ old.queues
+  pub apart : (other : ℕ) → IsHeld old other → other ≢ block
+  pub kept : KeepsHeld old new

@@ -1,0 +1,72 @@
+// Frames in blocks.
+ghost use Rattle.std.specs.Prelude.{◌≡◌, ◌<◌, ◌≤◌, ◌+◌, ◌*◌, ◌^◌, ◌++◌, ℕ, All, length, take, drop, slice_set, slice_index};
+ghost use Rattle.pict_region.specs.RegionState.{words_of, width_of};
+ghost use Rattle.pict_queue.specs.QueuesState.{IsHeld, CostsAtMost};
+ghost use Rattle.pict_frames.specs.Framed.{frame_words, AreRising};
+ghost use Rattle.pict_frames.specs.Writing.{OnlyWrites, OnlyWorks};
+
+use pict_queue::Queues;
+use pict_region::Block;
+
+// Writes a value into a held block, at this word and the next.
+fn write_pair(queues: &mut Queues, block: &Block, place: u32, pair: (u64, u64))
+    requires held { IsHeld queues.old block.now }
+    requires inside { place + 1 < width_of queues.old.region block.now }
+    requires small { place + 1 < 2 ^ 32 }
+    ensures writes { OnlyWrites queues.old queues.new block.now
+        (slice_set (slice_set (words_of queues.old.region block.now) place pair.0) (place + 1) pair.1) }
+    ensures cost { CostsAtMost 2 queues.old queues.new }
+{
+    queues.set(block, place, pair.0);
+    queues.set(block, place + 1, pair.1);
+}
+
+/// Writes the values of a frame into a held block, from word 2 on: the two words of each level, from their place among
+/// `values`. Takes no memory.
+pub fn write_frame(queues: &mut Queues, block: &Block, frame: &[u32], values: &[(u64, u64)])
+    requires held { IsHeld queues.old block.now }
+    requires wide { width_of queues.old.region block.now ≡ 2 + 2 * length frame.now }
+    requires narrow { length frame.now ≤ 32000 }
+    requires known { All (λ level. level < length values.now) frame.now }
+    ensures writes { OnlyWrites queues.old queues.new block.now (take 2 (words_of queues.old.region block.now) ++ frame_words values.now frame.now) }
+    ensures cost { CostsAtMost (2 * length frame.now) queues.old queues.new }
+{
+    let mut place = 2;
+    for level in frame {
+        write_pair(queues, block, place, values[*level as usize]);
+        place += 2;
+    }
+}
+
+// The value of a held block at this word and the next.
+fn read_pair(queues: &mut Queues, block: &Block, place: u32) -> (u64, u64)
+    requires held { IsHeld queues.old block.now }
+    requires inside { place + 1 < width_of queues.old.region block.now }
+    requires small { place + 1 < 2 ^ 32 }
+    ensures tag { result.0 ≡ slice_index (words_of queues.old.region block.now) place }
+    ensures payload { result.1 ≡ slice_index (words_of queues.old.region block.now) (place + 1) }
+    ensures rest { OnlyWorks queues.old queues.new }
+    ensures cost { CostsAtMost 2 queues.old queues.new }
+{
+    let tag = queues.get(block, place);
+    (tag, queues.get(block, place + 1))
+}
+
+/// Reads the values of a frame out of a held block, each to the place of its level among `values`. Takes no memory.
+pub fn read_frame(queues: &mut Queues, block: &Block, frame: &[u32], values: &mut [(u64, u64)])
+    requires held { IsHeld queues.old block.now }
+    requires wide { width_of queues.old.region block.now ≡ 2 + 2 * length frame.now }
+    requires narrow { length frame.now ≤ 32000 }
+    requires inside { All (λ level. level < length values.old) frame.now }
+    requires rising { AreRising 0 frame.now }
+    ensures words { frame_words values.new frame.now ≡ drop 2 (words_of queues.old.region block.now) }
+    ensures len { length values.new ≡ length values.old }
+    ensures rest { OnlyWorks queues.old queues.new }
+    ensures cost { CostsAtMost (2 * length frame.now) queues.old queues.new }
+{
+    let mut place = 2;
+    for level in frame {
+        values[*level as usize] = read_pair(queues, block, place);
+        place += 2;
+    }
+}

@@ -1,0 +1,43 @@
+// A node of the code, with values for its frame, becomes a block.
+ghost use Rattle.std.specs.Prelude.{◌≡◌, ◌≢◌, ◌<◌, ◌≤◌, ◌+◌, ◌*◌, ◌++◌, ◌∷◌, [], ℕ, All, length};
+ghost use Rattle.pict_region.specs.RegionState.{spare, KeepsOtherWidths};
+ghost use Rattle.pict_queue.specs.QueuesState.{IsQueue, CostsAtMost};
+ghost use Rattle.pict_queue.specs.Contents.{contents, KeepsOtherContents, KeepsHeld};
+ghost use Rattle.pict_frames.specs.Framed.{node_words};
+ghost use Rattle.pict_frames.specs.Writing.{IsMade};
+
+use crate::frames::write_frame;
+use pict_queue::{QueueId, Queues};
+use pict_region::Block;
+
+/// A new block of the node with this number, with these values for its frame. Takes no memory.
+pub fn block_of(queues: &mut Queues, number: u32, frame: &[u32], values: &[(u64, u64)]) -> Block
+    requires narrow { length frame.now ≤ 32000 }
+    requires spare { 1 ≤ spare queues.old.region (2 + 2 * length frame.now) }
+    requires known { All (λ level. level < length values.now) frame.now }
+    ensures made { IsMade queues.old queues.new result (node_words values.now number frame.now) (2 + 2 * length frame.now) }
+    ensures cost { CostsAtMost (2 * length frame.now + 2) queues.old queues.new }
+{
+    let block = queues.take(2 + 2 * frame.len() as u32);
+    queues.set(&block, 1, u64::from(number) + 1);
+    write_frame(queues, &block, frame, values);
+    block
+}
+
+/// A new block of the node with this number, with these values for its frame, becomes the last of a queue. Takes no
+/// memory.
+pub fn spawn(queues: &mut Queues, queue: QueueId, number: u32, frame: &[u32], values: &[(u64, u64)])
+    requires queue { IsQueue queues.old queue.0 }
+    requires narrow { length frame.now ≤ 32000 }
+    requires spare { 1 ≤ spare queues.old.region (2 + 2 * length frame.now) }
+    requires known { All (λ level. level < length values.now) frame.now }
+    ensures pushed { contents queues.new queue.0 ≡ contents queues.old queue.0 ++ node_words values.now number frame.now ∷ [] }
+    ensures other_contents { KeepsOtherContents queues.old queues.new queue.0 }
+    ensures kept { KeepsHeld queues.old queues.new }
+    ensures spare { spare queues.new.region (2 + 2 * length frame.now) + 1 ≡ spare queues.old.region (2 + 2 * length frame.now) }
+    ensures widths { KeepsOtherWidths queues.old.region queues.new.region (2 + 2 * length frame.now) }
+    ensures cost { CostsAtMost (2 * length frame.now + 4) queues.old queues.new }
+{
+    let block = block_of(queues, number, frame, values);
+    queues.push_back(queue, block);
+}
