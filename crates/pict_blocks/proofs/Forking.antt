@@ -21,7 +21,7 @@ node_stands core value values i node p at narrow =
     ∙ block_stands core value values i p.around p.process at.at (subst (λ ls. length ls ≤ 32000) (sym frame) narrow)
 
 -- a node at the number of a part is that part's
-same_part : (core : Process) (i n : ℕ) (q : Process) (node : Node) (p : Place) → PlacedAt core i n q → IsNodeAt core i node p → place n q ≡ p
+pub same_part : (core : Process) (i n : ℕ) (q : Process) (node : Node) (p : Place) → PlacedAt core i n q → IsNodeAt core i node p → place n q ≡ p
 same_part core i n q node p placed at = let e : Some (place n q) ≡ Some p = sym (placed_at core i n q placed) ∙ at.at in cc
 
 pub parts_fork : PartsFork

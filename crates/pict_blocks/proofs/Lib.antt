@@ -3,3 +3,4 @@ pub mod Putting
 pub mod Parts
 pub mod Nodes
 pub mod Forking
+pub mod Opening

@@ -4,4 +4,4 @@
 
 mod laws;
 
-pub use laws::law_parts_fork;
+pub use laws::{law_news_make_channels, law_parts_fork};
