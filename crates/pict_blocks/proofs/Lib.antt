@@ -2,5 +2,9 @@ pub mod Variables
 pub mod Putting
 pub mod Parts
 pub mod Nodes
+pub mod Operands
+pub mod Levels
+pub mod Standing
 pub mod Forking
 pub mod Opening
+pub mod Meeting

@@ -1,5 +1,5 @@
 -- What a node with values for its frame stands for, and what its parts stand for after its step: one lemma an instruction.
-use Rattle.std.proofs.Common.{ℕ, ◌+◌, ◌-◌, ◌<◌, ◌≤◌, ◌≡◌, Bool, true, false, cond, nat_lt, List, [], ◌∷◌, length, map, refl, sym, ap, ◌∙◌, subst, Some, arith}
+use Rattle.std.proofs.Common.{ℕ, ◌+◌, ◌-◌, ◌<◌, ◌≡◌, Bool, true, false, cond, nat_lt, List, [], ◌∷◌, length, map, refl, sym, ap, ◌∙◌, subst, Some, arith}
 use Rattle.std.proofs.lemmas.Bool.Decides.{nat_tests}
 use Rattle.std.specs.List.{slice_get}
 use Rattle.pict_syntax.specs.declared.span.Span.{Span}
@@ -11,8 +11,6 @@ use Rattle.pict_code.specs.Standing.{closing, with_frame}
 use Rattle.pict_code.proofs.Agreeing.{agree}
 use Rattle.pict_code.proofs.Framed.{frame_is_enough}
 use Rattle.pict_code.proofs.Numbering.{PlacedAt, first_of}
-use Rattle.pict_blocks.specs.Blocks.{values_of, fields_of, frame_values, node_process, process_of}
-use Rattle.pict_frames.specs.Framed.{frame_words, node_words, pair_at}
 use Rattle.pict_blocks.proofs.Variables.{HasNoVar}
 use Rattle.pict_blocks.proofs.Putting.{extended, put_closed}
 
@@ -60,33 +58,7 @@ body_stands n values later bound k many closed holds p =
     same_below level true e = let low : level < n + k = grind (arith, nat_tests) in sym (holds level low)
     same_below level false e = refl
 
--- ---- blocks of nodes
-
-module _ (core : Process) (value : ℕ → ℕ → Val) (words : List (ℕ × ℕ)) where
-  -- the value of each level
-  abbrev pub known : ℕ → Val
-  known level = value (pair_at words level).0 (pair_at words level).1
-
-  values_back : (ls : List ℕ) → values_of value (frame_words words ls) ≡ map known ls
-  values_back [] = refl
-  values_back (l ∷ ls) = ap (λ vs. known l ∷ vs) (values_back ls)
-
-  frame_back : (ls : List ℕ) (n : ℕ) → n ≤ 32000 → frame_values value n (frame_words words ls) ≡ map known ls
-  frame_back [] n h = refl
-  frame_back (l ∷ ls) n h =
-      let test : nat_lt 32000 n ≡ false = grind (arith, nat_tests) in
-      ap (λ b. cond b (fields_of (known l)) (values_of value (frame_words words (l ∷ ls)))) test ∙ values_back (l ∷ ls)
-
-  -- the words of the node of a part
-  abbrev pub words_of_part : ℕ → ℕ → Process → List ℕ
-  words_of_part i n p = node_words words i (frame_of n p)
-
-  -- a block of such words stands for the part
-  pub block_stands : (i n : ℕ) (p : Process) → slice_get (places 0 core) i ≡ Some (place n p) → length (frame_of n p) ≤ 32000
-      → process_of core value (words_of_part i n p) ≡ node_with n known p
-  block_stands i n p at narrow =
-      ap (node_process value (frame_words words (frame_of n p))) at
-      ∙ ap (with_frame (place n p)) (frame_back (frame_of n p) (length (frame_of n p)) narrow)
+-- ---- where parts stand
 
 places_begin : (n : ℕ) (p : Process) → (ps : List Place) × (places n p ≡ place n p ∷ ps)
 places_begin n Zero = ([], refl)

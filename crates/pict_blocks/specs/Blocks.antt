@@ -1,9 +1,12 @@
 -- What a block of a machine stands for, by the words behind its link, and what queues of blocks stand for.
-use Rattle.std.specs.Prelude.{ℕ, zero, suc, nat_lt, List, [], ◌∷◌, map, length, slice_get, Option, Some, None, option_map, unwrap_or, if◌then◌else◌, pos}
-use Rattle.pict_core.specs.Term.{Val, Vals, Int, Record, no_vals, more_vals, Process, Zero, Out}
+use Rattle.std.specs.Prelude.{◌≡◌, ℕ, zero, suc, nat_lt, List, [], ◌∷◌, map, length, slice_get, Option, Some, None, option_map, unwrap_or, if◌then◌else◌, pos}
+use Rattle.pict_core.specs.Term.{Val, Vals, Chan, Int, Record, no_vals, more_vals, Process, Zero, Out}
+use Rattle.pict_core.specs.Substitution.{replace_value}
 use Rattle.pict_code.specs.Frames.{frame_of}
-use Rattle.pict_code.specs.Nodes.{Place, places}
+use Rattle.pict_code.specs.Instruction.{Node}
+use Rattle.pict_code.specs.Nodes.{Place, places, nodes_of}
 use Rattle.pict_code.specs.Standing.{with_frame}
+use Rattle.pict_frames.specs.Framed.{pair_at}
 use Rattle.pict_heap.specs.HeapState.{HeapState, value_of}
 use Rattle.pict_heap.specs.Packed.{unpacked}
 use Rattle.pict_view.specs.View.{View}
@@ -51,3 +54,20 @@ view_of_contents core value ready channels = record {
   ready = map (process_of core value) ready;
   channels = map (map (process_of core value)) channels;
 }
+
+-- ---- what a machine knows of the block with which it acts
+
+-- the value of each level, of which these are the words
+abbrev pub known : HeapState → List (ℕ × ℕ) → ℕ → Val
+known h values level = value_in h (pair_at values level).0 (pair_at values level).1
+
+-- an operand, whose variables are levels with these values
+abbrev pub operand_value : (ℕ → Val) → Val → Val
+operand_value value v = replace_value (record { variable = value; channel = Chan }) v
+
+-- These words are a block of the node with this number, which holds the values of the levels of its frame.
+pub record IsNodeBlock (core : Process) (h : HeapState) (values : List (ℕ × ℕ)) (number : ℕ) (node : Node) (words : List ℕ) : Type 0 where
+  pub at : slice_get (nodes_of core) number ≡ Some node
+  pub frame : List ℕ
+  pub words_are : words ≡ suc number ∷ frame
+  pub holds : frame_values (value_in h) (length node.frame) frame ≡ map (known h values) node.frame

@@ -4,4 +4,7 @@
 
 mod laws;
 
-pub use laws::{law_news_make_channels, law_parts_fork};
+pub use laws::{
+    law_inputs_meet, law_inputs_stand, law_narrow_blocks, law_news_make_channels, law_nodes_end,
+    law_outputs_meet, law_outputs_stand, law_parts_fork, law_tests_choose,
+};

@@ -20,7 +20,7 @@ Agree test r s = (level : ℕ) → test level ≡ true → r.variable level ≡ 
 
 module _ (r s : Replacement) (channels : (c : ℕ) → r.channel c ≡ s.channel c) where
   mutual
-    agree_val : (v : Val) → Agree (λ l. in_value l v) r s → replace_value r v ≡ replace_value s v
+    pub agree_val : (v : Val) → Agree (λ l. in_value l v) r s → replace_value r v ≡ replace_value s v
     agree_val (Var level) h = h level (grind (arith, nat_tests))
     agree_val (Chan n) h = channels n
     agree_val (Int n) h = refl

@@ -98,8 +98,12 @@ stands_for p u = record {
   closed = λ c vs o. closing_under p.around c (value_at (frame_of p.around p.process) vs) (λ level. value_closed c (frame_of p.around p.process) vs level o) p.around 0 p.process (omega arith) u;
 }
 
+-- a part of a closed process has no variables but those around it
+pub part_under : (core : Process) (number : ℕ) (p : Place) → IsClosed core → slice_get (places 0 core) number ≡ Some p → IsUnder p.around 0 p.process
+part_under core number p closed at = one_under 0 (places 0 core) number p (all_under 0 0 core closed) at
+
 pub nodes_stand : (core : Process) (number : ℕ) (p : Place) → IsClosed core → slice_get (places 0 core) number ≡ Some p → IsNodeOf core number p
 nodes_stand core number p closed at = record {
   node = node_at 0 (places 0 core) number ∙ ap (option_map (node_of (0 + number))) at ∙ ap (λ k. Some (node_of k p)) (omega arith);
-  stands = stands_for p (one_under 0 (places 0 core) number p (all_under 0 0 core closed) at);
+  stands = stands_for p (part_under core number p closed at);
 }

@@ -91,7 +91,7 @@ frame_rises n p = rises_between 0 n _ (filter_between (λ l. occurs l p) n)
 
 -- ---- increasing lists with the same levels are the same
 
-none_below : (low level : ℕ) (ls : List ℕ) → Rises low ls → level < low → has level ls ≡ false
+pub none_below : (low level : ℕ) (ls : List ℕ) → Rises low ls → level < low → has level ls ≡ false
 none_below low level [] r h = refl
 none_below low level (l ∷ ls) r h =
     let apart : level < l = omega (arith, r.0, h) in

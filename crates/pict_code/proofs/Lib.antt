@@ -3,6 +3,6 @@ pub mod Rebuilding
 pub mod Agreeing
 pub mod Levels
 pub mod Framed
-mod Closings
-mod Lines
+pub mod Closings
+pub mod Lines
 mod Rows

@@ -11,7 +11,7 @@ use Rattle.pict_code.specs.ReadBack.{op_at, built, built_at, core_of, unleveled,
 use Rattle.pict_code.proofs.Numbering.{PlacedAt, first_of, par_placed, if_placed, new_placed, in_placed, whole_placed, length_places}
 
 mutual
-  pattern_back : (level : ℕ) (p : Pat) → unleveled (leveled level p) ≡ p
+  pub pattern_back : (level : ℕ) (p : Pat) → unleveled (leveled level p) ≡ p
   pattern_back level term.Bind = refl
   pattern_back level term.Any = refl
   pattern_back level (term.RecordPat ps ls) = cc (patterns_back level ps, labels_back (level + binds_all ps) ls)

@@ -25,6 +25,27 @@ new_words zero x fs h = absurd (omega arith)
 new_words (suc zero) x fs h = absurd (omega arith)
 new_words (suc (suc n)) x fs h = refl
 
+-- a block that was taken, and has these words now
+module _ (old taken new : QueuesState) (block width : ℕ) (ws : List ℕ)
+    (live : taken.region.live ≡ insert old.region.live block (replicate width 0)) (held : IsHeld taken block)
+    (left : spare taken.region width + 1 ≡ spare old.region width) (widths : KeepsOtherWidths old.region taken.region width) (rest : taken ≡ record old { region = taken.region })
+    (apart : (other : ℕ) → IsHeld old other → other ≢ block) (same : KeepsAllContents old taken) (kept : KeepsHeld old taken)
+    (written : OnlyWrites taken new block ws) where
+  pub made_of : IsMade old new block (drop 1 ws) width
+  made_of = record {
+    held = written.held;
+    here = ap (drop 1) (writes_words taken new block ws written);
+    contents = λ queue. written_contents taken new block ws held written queue ∙ same queue;
+    spare = let e : spare new.region width ≡ spare taken.region width = ap (λ f. get_or f width 0) written.free in omega (arith, e, left);
+    widths = λ other n. ap (λ f. get_or f other 0) written.free ∙ widths other n;
+    queues = written.queues ∙ ap (λ (s : QueuesState). s.queues) rest;
+    apart = apart;
+    kept = λ other h.
+        let t = kept other h in
+        let u = written_held taken new block ws written other (apart other h) t.held in
+        record { held = u.held; words = u.words ∙ t.words };
+  }
+
 module _ (old taken numbered new : QueuesState) (block width x : ℕ) (fs : List ℕ)
     (live : taken.region.live ≡ insert old.region.live block (replicate width 0)) (held : IsHeld taken block)
     (left : spare taken.region width + 1 ≡ spare old.region width) (widths : KeepsOtherWidths old.region taken.region width) (rest : taken ≡ record old { region = taken.region })
@@ -37,19 +58,9 @@ module _ (old taken numbered new : QueuesState) (block width x : ℕ) (fs : List
       (writes_words_of taken numbered new block (set (words_of taken.region block) 1 x) (λ us. take 2 us ++ fs) v w)
 
   pub made : 2 ≤ width → IsMade old new block (x ∷ fs) width
-  made wide = record {
-    held = w.held;
-    here = ap (drop 1) (writes_words taken new block _ both_written) ∙ new_words width x fs wide;
-    contents = λ queue. written_contents taken new block _ held both_written queue ∙ same queue;
-    spare = let e : spare new.region width ≡ spare taken.region width = ap (λ f. get_or f width 0) both_written.free in omega (arith, e, left);
-    widths = λ other n. ap (λ f. get_or f other 0) both_written.free ∙ widths other n;
-    queues = both_written.queues ∙ ap (λ (s : QueuesState). s.queues) rest;
-    apart = apart;
-    kept = λ other h.
-        let t = kept other h in
-        let u = written_held taken new block _ both_written other (apart other h) t.held in
-        record { held = u.held; words = u.words ∙ t.words };
-  }
+  made wide =
+      subst (λ us. IsMade old new block us width) (new_words width x fs wide)
+      (made_of old taken new block width (take 2 (set (replicate width 0) 1 x) ++ fs) live held left widths rest apart same kept both_written)
 
 -- the block is pushed
 pub made_pushed : (old made new : QueuesState) (queue block width : ℕ) (ws : List ℕ) → (m : IsMade old made block ws width)

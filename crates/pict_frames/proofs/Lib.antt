@@ -2,3 +2,4 @@ pub mod Costs
 pub mod Written
 pub mod Reading
 pub mod Held
+pub mod Outputs

@@ -1,5 +1,7 @@
 -- Words read one after another.
-use Rattle.std.proofs.Common.{◌≡◌, ◌≢◌, ℕ, zero, suc, ◌+◌, ◌*◌, ◌<◌, ◌≤◌, List, [], ◌∷◌, ◌++◌, length, take, drop, set, get_or, refl, sym, ◌∙◌, ap, subst, arith}
+use Rattle.std.proofs.Common.{◌≡◌, ◌≢◌, ℕ, zero, suc, ◌+◌, ◌*◌, ◌<◌, ◌≤◌, List, [], ◌∷◌, ◌++◌, length, take, drop, set, get_or, refl, sym, ◌∙◌, ap, subst, arith, eqb, Bool, true, false, ◌||◌}
+use Rattle.std.specs.List.{list_any}
+use Rattle.std.proofs.lemmas.Bool.{eq-eqb}
 use Rattle.std.proofs.lemmas.List.{length-drop, get_or-set_same, get_or-set_other}
 use Rattle.std.proofs.Math.Seq.{take-suc}
 use Rattle.pict_region.specs.RegionState.{words_of}
@@ -67,6 +69,30 @@ words_more values pair frame ws i level place low rising is inside wide e tag pa
     ∙ ap (λ a. take (2 * i) (drop 2 ws) ++ get_or (drop 2 ws) (2 * i) 0 ∷ a ∷ []) payload_here
     ∙ sym (take_two (2 * i) (drop 2 ws) (omega (arith, length-drop 2 ws)))
     ∙ ap (λ n. take n (drop 2 ws)) (sym twice)
+
+-- ---- other levels stay
+
+or_last : (b : Bool) → b || false ≡ false → b ≡ false
+or_last true e = e
+or_last false e = refl
+
+either : (a b c d : Bool) → (b ≡ false → (c ≡ false) × (d ≡ false)) → a || b ≡ false → (a || c ≡ false) × (d ≡ false)
+either true b c d f e = cc
+either false b c d f e = f e
+
+any_append : (p : ℕ → Bool) (xs : List ℕ) (x : ℕ) → list_any p (xs ++ x ∷ []) ≡ false → (list_any p xs ≡ false) × (p x ≡ false)
+any_append p [] x e = (refl, or_last (p x) e)
+any_append p (y ∷ ys) x e = either (p y) (list_any p (ys ++ x ∷ [])) (list_any p ys) (p x) (any_append p ys x) e
+
+pub others_more : (before values : List (ℕ × ℕ)) (pair : ℕ × ℕ) (frame : List ℕ) (i level other : ℕ) → i < length frame → level ≡ get_or frame i 0
+    → ((k : ℕ) → list_any (eqb k) (take i frame) ≡ false → pair_at values k ≡ pair_at before k)
+    → list_any (eqb other) (take (i + 1) frame) ≡ false → pair_at (set values level pair) other ≡ pair_at before other
+others_more before values pair frame i level other low is so_far none =
+    let next : i + 1 ≡ suc i = omega arith in
+    let more : take (i + 1) frame ≡ take i frame ++ level ∷ [] = ap (λ n. take n frame) next ∙ take-suc frame i 0 low ∙ ap (λ l. take i frame ++ l ∷ []) (sym is) in
+    let both = any_append (eqb other) (take i frame) level (ap (list_any (eqb other)) (sym more) ∙ none) in
+    let apart : other ≢ level = λ e. let t = eq-eqb other level e in let f = both.1 in cc in
+    get_or-set_other values level other pair (0, 0) apart ∙ so_far other both.0
 
 -- ---- only work has changed
 

@@ -1,15 +1,16 @@
 // Frames in blocks.
-ghost use Rattle.std.specs.Prelude.{◌≡◌, ◌<◌, ◌≤◌, ◌+◌, ◌*◌, ◌^◌, ◌++◌, ℕ, All, length, take, drop, slice_set, slice_index};
+ghost use Rattle.std.specs.Prelude.{◌≡◌, ◌<◌, ◌≤◌, ◌+◌, ◌*◌, ◌^◌, ◌++◌, ℕ, All, length, take, drop, slice_set, slice_index, eqb, false};
+ghost use Rattle.std.specs.List.{list_any};
 ghost use Rattle.pict_region.specs.RegionState.{words_of, width_of};
 ghost use Rattle.pict_queue.specs.QueuesState.{IsHeld, CostsAtMost};
-ghost use Rattle.pict_frames.specs.Framed.{frame_words, AreRising};
+ghost use Rattle.pict_frames.specs.Framed.{frame_words, pair_at, AreRising};
 ghost use Rattle.pict_frames.specs.Writing.{OnlyWrites, OnlyWorks};
 
 use pict_queue::Queues;
 use pict_region::Block;
 
 // Writes a value into a held block, at this word and the next.
-fn write_pair(queues: &mut Queues, block: &Block, place: u32, pair: (u64, u64))
+pub(crate) fn write_pair(queues: &mut Queues, block: &Block, place: u32, pair: (u64, u64))
     requires held { IsHeld queues.old block.now }
     requires inside { place + 1 < width_of queues.old.region block.now }
     requires small { place + 1 < 2 ^ 32 }
@@ -39,7 +40,7 @@ pub fn write_frame(queues: &mut Queues, block: &Block, frame: &[u32], values: &[
 }
 
 // The value of a held block at this word and the next.
-fn read_pair(queues: &mut Queues, block: &Block, place: u32) -> (u64, u64)
+pub(crate) fn read_pair(queues: &mut Queues, block: &Block, place: u32) -> (u64, u64)
     requires held { IsHeld queues.old block.now }
     requires inside { place + 1 < width_of queues.old.region block.now }
     requires small { place + 1 < 2 ^ 32 }
@@ -60,6 +61,7 @@ pub fn read_frame(queues: &mut Queues, block: &Block, frame: &[u32], values: &mu
     requires inside { All (λ level. level < length values.old) frame.now }
     requires rising { AreRising 0 frame.now }
     ensures words { frame_words values.new frame.now ≡ drop 2 (words_of queues.old.region block.now) }
+    ensures others { (level : ℕ) → list_any (eqb level) frame.now ≡ false → pair_at values.new level ≡ pair_at values.old level }
     ensures len { length values.new ≡ length values.old }
     ensures rest { OnlyWorks queues.old queues.new }
     ensures cost { CostsAtMost (2 * length frame.now) queues.old queues.new }

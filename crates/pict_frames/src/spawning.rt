@@ -33,6 +33,7 @@ pub fn spawn(queues: &mut Queues, queue: QueueId, number: u32, frame: &[u32], va
     requires known { All (λ level. level < length values.now) frame.now }
     ensures pushed { contents queues.new queue.0 ≡ contents queues.old queue.0 ++ node_words values.now number frame.now ∷ [] }
     ensures other_contents { KeepsOtherContents queues.old queues.new queue.0 }
+    ensures queues { length queues.new.queues ≡ length queues.old.queues }
     ensures kept { KeepsHeld queues.old queues.new }
     ensures spare { spare queues.new.region (2 + 2 * length frame.now) + 1 ≡ spare queues.old.region (2 + 2 * length frame.now) }
     ensures widths { KeepsOtherWidths queues.old.region queues.new.region (2 + 2 * length frame.now) }

@@ -1,7 +1,7 @@
 use Rattle.std.proofs.Common.{arith, refl, ◌∙◌, ◌+◌}
 use Rattle.std.proofs.lemmas.List.{length-set}
 use Rattle.pict_frames.proofs.Costs.{costs_more}
-use Rattle.pict_frames.proofs.Reading.{words_more, worked_more, worked_words}
+use Rattle.pict_frames.proofs.Reading.{words_more, others_more, worked_more, worked_words}
 use Rattle.pict_frames.proofs.frames.read_frame.Goals as goal
 
 pub loop-level-preserved : goal.loop-level-preserved
@@ -18,6 +18,7 @@ loop-level-preserved c =
           (c.read_pair.ensures.tag ∙ worked_words old mid c.args.block.now c.loop-level.place c.loop-level.invariant.rest)
           (c.read_pair.ensures.payload ∙ worked_words old mid c.args.block.now (c.loop-level.place + 1) c.loop-level.invariant.rest)
           c.loop-level.invariant.words;
+      others = λ level none. others_more _ _ _ _ _ _ level c.loop-level-test.true refl c.loop-level.invariant.others none;
       rest = worked_more old mid new c.loop-level.invariant.rest c.read_pair.ensures.rest;
       cost = costs_more _ _ _ _ _ _ (omega arith) c.loop-level.invariant.cost c.read_pair.ensures.cost;
     }

@@ -1,3 +1,4 @@
+use Rattle.std.proofs.Common.{length, ap, ◌∙◌}
 use Rattle.pict_frames.proofs.Held.{made_pushed, made_kept}
 use Rattle.pict_frames.proofs.spawning.spawn.Goals as goal
 
@@ -7,3 +8,6 @@ returns-clause-pushed c =
 
 pub returns-clause-kept : goal.returns-clause-kept
 returns-clause-kept c = made_kept c.args.queues.now c.block_of-block.new.queues c.push_back.new.self _ _ _ c.block_of-block.ensures.made c.push_back.ensures.kept
+
+pub returns-clause-queues : goal.returns-clause-queues
+returns-clause-queues c = c.push_back.ensures.rest.queues ∙ ap length c.block_of-block.ensures.made.queues
