@@ -1,9 +1,9 @@
 -- Values keep their types where the world grows: more type variables, which are renumbered, and more variables.
 use Rattle.std.proofs.Common.{◌≡◌, ℕ, zero, suc, List, [], ◌∷◌, refl, sym, ap₂, subst, Some}
 use Rattle.std.specs.Prelude.{slice_get}
-use Rattle.pict_types.specs.Types.{Both, Write, PlainType, Chan, Fields, Rec, PlainTypes, PlainLabels, PlainBound, Free, Below, Operator, PlainBounds, no_bound, bounds, PlainArg, Plain, Op, TypeContext}
+use Rattle.pict_types.specs.Types.{Both, Write, PlainType, Chan, Fields, Rec, PlainTypes, PlainLabels, PlainBound, Free, Below, Operator, no_bound, bounds, PlainArg, Plain, Op, TypeContext}
 use Rattle.pict_types.specs.Renaming.{beyond, beyond_times, rename, rename_bound, rename_types, rename_labels}
-use Rattle.pict_types.specs.Replacing.{replace, arguments, type_in, head_in, rename_head, unfolding_of}
+use Rattle.pict_types.specs.Replacing.{replace, arguments, type_in, head_in, rename_head}
 use Rattle.pict_types.specs.Kinds.{Kind, kinds, with_parameters}
 use Rattle.pict_types.proofs.Formed.{KeepsKinds, formed_renamed, keeps_beyond}
 use Rattle.pict_types.proofs.Replaced.{Crosses, replace_renamed}
@@ -12,7 +12,7 @@ use Rattle.pict_core.specs.Term as core
 use Rattle.pict_core.specs.Term.{Val, Vals, Labelled}
 use Rattle.pict_types.specs.PrimitiveTypes.{takes}
 use Rattle.pict_typing.specs.Erasing.{erased}
-use Rattle.pict_typing.specs.Worlds.{World, IsType, IsTypeIn, with_first, MayStandFor, IsBelow}
+use Rattle.pict_typing.specs.Worlds.{World, IsTypeIn, MayStandFor}
 use Rattle.pict_typing.specs.Values.{HasType, variable_has, channel_has, int_has, char_has, boolean_has, text_has, primitive_has, record_has, packed, folded, unfolded, sends_unfolding, raised, HaveTypes, none_have, more_have, HaveLabels, none_labelled, more_labels}
 use Rattle.pict_typing.specs.Processes.{AreClosedTypes}
 use Rattle.pict_typing.proofs.Closed.{closed_type, closed_renamed}

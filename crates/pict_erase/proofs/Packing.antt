@@ -1,14 +1,14 @@
 -- A package with all its arguments at once is a package with one argument after the other.
-use Rattle.std.proofs.Common.{◌≡◌, ℕ, List, [], ◌∷◌, ◌++◌, refl, sym, subst, append_assoc, append-nil}
+use Rattle.std.proofs.Common.{List, [], ◌∷◌, ◌++◌, sym, subst, append_assoc, append-nil}
 use Rattle.pict_types.specs.Types.{PlainType, Fields, PlainTypes, PlainLabels, PlainBounds, no_bound, bounds, PlainArg}
-use Rattle.pict_types.specs.Replacing.{replacement_beyond, replacement_beyond_all, replace, replace_types, replace_labels, replace_bound, replace_bounds, arguments, instance_of}
+use Rattle.pict_types.specs.Replacing.{replacement_beyond, replace, replace_bound, arguments, instance_of}
 use Rattle.pict_types.specs.Kinds.{kinds}
 use Rattle.pict_types.specs.NormalTypes.{ArgIsNormal, ArgsAreNormal}
 use Rattle.pict_types.proofs.Formed.{replace_formed, arg_keeps}
 use Rattle.pict_types.proofs.Replacements.{replace_same, nothing_changed, formed_normal, formed_arg_normal}
 use Rattle.pict_types.proofs.Composed.{arguments_one_by_one}
 use Rattle.pict_core.specs.Term.{Val}
-use Rattle.pict_typing.specs.Worlds.{World, IsType, with_first, MayStandFor}
+use Rattle.pict_typing.specs.Worlds.{World, IsType, MayStandFor}
 use Rattle.pict_typing.specs.Values.{HasType, packed}
 use Rattle.pict_erase.specs.Embedding.{MayStandInOrder}
 use Rattle.pict_erase.specs.Laws.{PackedAtOnce}

@@ -1,6 +1,6 @@
 -- Contexts of erased types, and contexts and worlds that grow.
 use Rattle.std.specs.Prelude.{◌≡◌, ℕ, List, [], ◌∷◌, ◌++◌, slice_get, Some}
-use Rattle.pict_types.specs.Types.{PlainType, PlainTypes, PlainLabels, PlainBounds, no_bound, bounds, PlainArg, TypeContext}
+use Rattle.pict_types.specs.Types.{PlainType, PlainBounds, no_bound, bounds, PlainArg, TypeContext}
 use Rattle.pict_types.specs.Renaming.{rename}
 use Rattle.pict_types.specs.Replacing.{replace_bound, arguments}
 use Rattle.pict_types.specs.Kinds.{Kind, kinds, kind_at}

@@ -51,7 +51,7 @@ closed_more : (names : List (List ℕ)) (ms : List PlainType) (t : PlainType) �
 closed_more names [] t x w = (w, tt)
 closed_more names (m ∷ ms) t x w = (x.0, closed_more names ms t x.1 w)
 
-last_message : (ms : List PlainType) (t : PlainType) → slice_get (ms ++ t ∷ []) (length ms) ≡ Some t
+pub last_message : (ms : List PlainType) (t : PlainType) → slice_get (ms ++ t ∷ []) (length ms) ≡ Some t
 last_message [] t = refl
 last_message (m ∷ ms) t = last_message ms t
 
