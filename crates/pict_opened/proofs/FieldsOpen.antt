@@ -1,5 +1,5 @@
 -- The fields of a record pattern, opened one after the other: what each adds stands in the last context.
-use Rattle.std.proofs.Common.{◌≡◌, ◌≢◌, ℕ, zero, suc, ◌+◌, List, [], ◌∷◌, ◌++◌, map, length, refl, sym, ◌∙◌, ap, ap₂, subst, Option, Some, None, arith, length-append}
+use Rattle.std.proofs.Common.{◌≡◌, ℕ, suc, ◌+◌, List, [], ◌∷◌, ◌++◌, map, length, refl, sym, ◌∙◌, ap, ap₂, subst, Option, Some, None, arith, length-append}
 use Rattle.std.specs.Prelude.{slice_get, option_map}
 use Rattle.std.proofs.lemmas.Option.{slice_get-map}
 use Rattle.std.proofs.lemmas.List.{length-map}
@@ -12,8 +12,8 @@ use Rattle.pict_typing.specs.Worlds.{shifted}
 use Rattle.pict_typing.specs.Opening.{Opens, OpenTypes, OpenLabels, binds_one, opens_none, opens_more, opens_no_label, opens_label, opens_record, LabelsAreDistinct}
 use Rattle.pict_erase.specs.Embedding.{erased_context, Embeds}
 use Rattle.pict_erase.proofs.Erased.{type_at_erased}
-use Rattle.pict_rules.specs.Environments.{Environment, Extension, context_of, no_extension, opened}
-use Rattle.pict_opened.specs.Opening.{meaning, IsBoundAs, IsPlaced, AddsWhatIsOpened}
+use Rattle.pict_rules.specs.Environments.{Environment, Extension, context_of, no_extension}
+use Rattle.pict_opened.specs.Opening.{meaning, IsPlaced, AddsWhatIsOpened}
 use Rattle.pict_opened.proofs.Joining.{type_after}
 use Rattle.pict_opened.proofs.Opened.{embeds_after, opens_embeds, types_embed, labels_embed}
 use Rattle.pict_typing.proofs.ValuesPut.{stays_before}

@@ -3,9 +3,9 @@
 use Rattle.std.proofs.Common.{◌≡◌, ℕ, zero, suc, ◌+◌, ◌-◌, ◌<◌, true, false, List, [], ◌∷◌, ◌++◌, length, refl, sym, ◌∙◌, ap, subst, Some, arith}
 use Rattle.std.specs.Prelude.{nat_lt, if◌then◌else◌}
 use Rattle.std.proofs.lemmas.Bool.Decides.{nat_tests}
-use Rattle.pict_types.specs.Types.{PlainType, PlainBound, Free, Below, Operator, TypeContext}
+use Rattle.pict_types.specs.Types.{PlainType, PlainBound, Below, TypeContext}
 use Rattle.pict_types.specs.Renaming.{bound_of, rename, rename_bound, moved}
-use Rattle.pict_types.specs.Kinds.{Kind, kind_by, kinds, kind_at}
+use Rattle.pict_types.specs.Kinds.{Kind, kinds, kind_at}
 use Rattle.pict_types.proofs.Renamed.{renamed_twice, bound_twice, bound_same, bound_alike, bound_further, bound_before, moved_is_suc}
 use Rattle.pict_types.proofs.Formed.{same_kind}
 use Rattle.pict_erase.specs.Embedding.{Embeds}

@@ -1,5 +1,5 @@
 -- What a pattern opens embeds the type variables before it.
-use Rattle.std.proofs.Common.{◌≡◌, ℕ, suc, ◌+◌, List, ◌∷◌, refl, sym, ◌∙◌, ap, arith, Some}
+use Rattle.std.proofs.Common.{◌≡◌, ℕ, suc, ◌+◌, List, ◌∷◌, refl, sym, ◌∙◌, ap, arith}
 use Rattle.pict_types.specs.Types.{PlainType, PlainTypes, PlainLabels, PlainBound, Below, TypeContext}
 use Rattle.pict_types.specs.Renaming.{bound_of, rename, rename_bound, moved}
 use Rattle.pict_types.specs.Kinds.{kinds, kind_at}

@@ -1,9 +1,8 @@
 -- A record pattern under the type fields of its record.
-use Rattle.std.proofs.Common.{◌≡◌, ℕ, zero, suc, ◌+◌, List, [], ◌∷◌, ◌++◌, length, refl, sym, ◌∙◌, ap, ap₂, subst, Option, Some, arith, length-append, add-one}
-use Rattle.pict_types.specs.Types.{PlainType, Fields, PlainTypes, PlainLabels, PlainBound, Below, PlainBounds, no_bound, bounds, TypeContext, under, count_bounds}
-use Rattle.pict_types.specs.Renaming.{beyond, beyond_all, bound_of, rename, rename_types, rename_labels, rename_bound, rename_bounds, moved}
+use Rattle.std.proofs.Common.{◌≡◌, ℕ, zero, suc, ◌+◌, List, [], ◌∷◌, ◌++◌, length, refl, sym, ◌∙◌, ap, subst, Some, arith, length-append}
+use Rattle.pict_types.specs.Types.{PlainType, Fields, PlainTypes, PlainLabels, PlainBound, PlainBounds, no_bound, bounds, TypeContext, under, count_bounds}
+use Rattle.pict_types.specs.Renaming.{beyond, beyond_all, rename_types, rename_labels, rename_bound, rename_bounds}
 use Rattle.pict_types.specs.Kinds.{Kind, kinds, kind_at}
-use Rattle.pict_types.proofs.Renamed.{renamed_alike, bound_alike, bound_further, bound_before}
 use Rattle.pict_types.proofs.Formed.{same_kind}
 use Rattle.pict_core.specs.Term.{Pat}
 use Rattle.pict_typing.specs.Erasing.{erased_types, erased_labels, erased_bounds}
@@ -12,7 +11,7 @@ use Rattle.pict_erase.specs.Embedding.{erased_context, Embeds}
 use Rattle.pict_erase.proofs.Erased.{under_erased, same_beyond_all}
 use Rattle.pict_normal.specs.Normal.{and_bound}
 use Rattle.pict_types.specs.Entries.{variables}
-use Rattle.pict_rules.specs.Environments.{Environment, Extension, KnownType, context_of, extended, entries_of, within, only_types, bounds_of, opened}
+use Rattle.pict_rules.specs.Environments.{Environment, Extension, KnownType, context_of, extended, within, bounds_of, opened}
 use Rattle.pict_rules.specs.Clauses.{with_own}
 use Rattle.pict_rules.proofs.OwnBinders.{own_context}
 use Rattle.pict_rules.proofs.RegularPatterns.{both_entries}

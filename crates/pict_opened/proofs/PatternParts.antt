@@ -1,13 +1,13 @@
 -- What the rules find for the fields of a pattern, and what follows for record patterns and for the fields of a function.
-use Rattle.std.proofs.Common.{◌≡◌, ◌≢◌, ℕ, zero, suc, ◌+◌, List, [], ◌∷◌, ◌++◌, map, length, refl, sym, ◌∙◌, ap, ap₂, subst, Option, Some, None, append_assoc}
+use Rattle.std.proofs.Common.{◌≡◌, ◌≢◌, ℕ, suc, ◌+◌, List, [], ◌∷◌, ◌++◌, map, length, refl, sym, ◌∙◌, ap, ap₂, subst, Option, Some, None, append_assoc}
 use Rattle.std.specs.Prelude.{slice_get}
 use Rattle.std.proofs.lemmas.List.{map-append}
-use Rattle.pict_syntax.specs.Labels.{in_label_order, with_label}
-use Rattle.pict_syntax.specs.Trees.{Pats, LabelledPats, FieldPats, field_pats, no_pats}
-use Rattle.pict_types.specs.Types.{PlainType, Fields, PlainTypes, no_type, types, PlainLabels, PlainBounds, no_bound, TypeContext, count_bounds}
+use Rattle.pict_syntax.specs.Labels.{in_label_order}
+use Rattle.pict_syntax.specs.Trees.{Pats, LabelledPats}
+use Rattle.pict_types.specs.Types.{PlainType, Fields, PlainTypes, types, PlainLabels, no_bound, TypeContext, count_bounds}
 use Rattle.pict_types.specs.Renaming.{beyond_all, rename, moved}
 use Rattle.pict_core.specs.Term as core
-use Rattle.pict_core.specs.Term.{Pat, RecordPat, no_labelled_pats, more_labelled_pats}
+use Rattle.pict_core.specs.Term.{Pat, RecordPat, more_labelled_pats}
 use Rattle.pict_normal.specs.Normal.{and_type}
 use Rattle.pict_typing.specs.Erasing.{erased}
 use Rattle.pict_typing.specs.Opening.{Opens, LabelsAreDistinct, LacksLabel}

@@ -1,5 +1,5 @@
 -- The steps of patterns: what each judgement on a pattern adds is what is opened.
-use Rattle.std.proofs.Common.{◌≡◌, ◌≢◌, ◌≤◌, ℕ, zero, suc, ◌+◌, Bool, true, false, List, [], ◌∷◌, ◌++◌, map, length, refl, sym, ◌∙◌, ap, ap₂, subst, Option, Some, None, arith, nat_eq, eqb-true, append-nil}
+use Rattle.std.proofs.Common.{◌≡◌, ◌≢◌, ◌≤◌, ℕ, zero, suc, ◌+◌, Bool, true, false, List, [], ◌∷◌, ◌++◌, map, refl, sym, ◌∙◌, ap, subst, Option, Some, None, arith, nat_eq, eqb-true, append-nil}
 use Rattle.std.proofs.lemmas.List.{map-append}
 use Rattle.pict_syntax.specs.declared.id.Id.{Id}
 use Rattle.pict_syntax.specs.declared.span.Span.{Span}
@@ -8,9 +8,6 @@ use Rattle.pict_syntax.specs.Trees.{Pat, bind_pat, any_pat, fields_pat, fold_pat
 use Rattle.pict_types.specs.Types.{PlainType, Fields, Rec, PlainTypes, no_type, types, PlainLabels, no_label, PlainBounds, TypeContext, type_at, count_types, count_bounds}
 use Rattle.pict_types.specs.Renaming.{rename}
 use Rattle.pict_types.specs.Replacing.{unfolding_of}
-use Rattle.pict_types.specs.Kinds.{IsWellFormed, kinds}
-use Rattle.pict_types.specs.Entries.{EntriesAreWellFormed}
-use Rattle.pict_core.specs.Term.{Bind, Any}
 use Rattle.pict_normal.specs.Normal.{normal, and_type, kind_stop, with_labelled_type}
 use Rattle.pict_scope.specs.Scopes.{scope_stop}
 use Rattle.pict_sub.specs.Subtyping.{IsSubtype}
@@ -20,7 +17,6 @@ use Rattle.pict_sub.proofs.Exposed.{exposes}
 use Rattle.pict_sub.proofs.Followed.{below_exposed}
 use Rattle.pict_typing.specs.Erasing.{erased}
 use Rattle.pict_typing.specs.Opening.{Opens, binds_one, binds_none, lowered, opens_unfolding}
-use Rattle.pict_typing.specs.Worlds as worlds
 use Rattle.pict_erase.specs.Embedding.{erased_context, Embeds}
 use Rattle.pict_erase.proofs.Erased.{below_erased, erased_type, unfolding_erased}
 use Rattle.pict_erase.proofs.Growing.{type_grown, arg_renamed}
@@ -28,26 +24,25 @@ use Rattle.pict_types.specs.Types.{Plain}
 use Rattle.pict_types.specs.Renaming.{beyond}
 use Rattle.pict_rules.specs.Counts.{count_pats, count_binders}
 use Rattle.pict_rules.specs.Shapes.{nth_type}
-use Rattle.pict_rules.specs.Environments.{Environment, Extension, KnownType, KnownValue, context_of, known_type, extended, one_value, no_extension, joined, opened, bounds_of, within}
+use Rattle.pict_rules.specs.Environments.{Environment, Extension, KnownType, context_of, known_type, one_value, no_extension, joined, bounds_of, within}
 use Rattle.pict_rules.specs.Clauses.{with_own}
-use Rattle.pict_rules.specs.Rules.{Sort, Result, Judgement, gives, has, is_condition, values_give, labelled_values_give, application, fields_fit, written_arguments, values_fit, labelled_values_fit, value_fits, given_fits, abstraction_gives, abstraction_against, pattern_gives, fields_give, binders_give, patterns_give, labelled_patterns_give, pattern_against, fields_against, binders_against, patterns_against, labelled_patterns_against, declaration, declarations, signatures, signature, bodies, body, process, processes, receives, extension_, pattern_, patterns_, labelled_patterns_, fields_, opened_, Rule, give, refuse, need, either, part}
+use Rattle.pict_rules.specs.Rules.{Sort, Result, Judgement, gives, has, is_condition, values_give, labelled_values_give, application, fields_fit, written_arguments, values_fit, labelled_values_fit, value_fits, given_fits, abstraction_gives, abstraction_against, pattern_gives, fields_give, binders_give, patterns_give, labelled_patterns_give, pattern_against, fields_against, binders_against, patterns_against, labelled_patterns_against, declaration, declarations, signatures, signature, bodies, body, process, processes, receives, extension_, pattern_, patterns_, labelled_patterns_, fields_, opened_}
 use Rattle.pict_rules.specs.Derivations.{Holds}
 use Rattle.pict_rules.specs.Typing.{rule}
 use Rattle.pict_rules.specs.Reached.{Reached}
-use Rattle.pict_scope.specs.DistinctLabels.{IsNewPattern, LabelledPatsAreDistinct}
-use Rattle.pict_rules.specs.Regular.{IsLabelledOnce, IsRegular, IsAsked, IsGood, IsTypeIn, kinds_in, Lacks, AreOfPatterns}
+use Rattle.pict_scope.specs.DistinctLabels.{IsNewPattern}
+use Rattle.pict_rules.specs.Regular.{IsTypeIn, Lacks}
 use Rattle.pict_rules.proofs.RegularExpanded.{expands_well}
 use Rattle.pict_rules.proofs.RegularProcesses.{exposed_formed}
-use Rattle.pict_translation.specs.Patterns.{Opened, opened as opened_pattern, all_opened, labelled_opened, pat_core, pat_names, record_pat, names_in, labelled_names_in}
+use Rattle.pict_translation.specs.Patterns.{opened as opened_pattern, all_opened, labelled_opened, pat_core, pat_names, record_pat, names_in, labelled_names_in}
 use Rattle.pict_opened.specs.Opening.{meaning, named, IsBoundAs, IsPlaced, AddsWhatIsOpened}
-use Rattle.pict_opened.proofs.Reaching.{ResultProperty, Gives, gives_, refuses, needs, chooses, parts, ensures, unless, limits, in_records, in_recursives, in_labels, any_lines, by_steps}
+use Rattle.pict_opened.proofs.Reaching.{ResultProperty, Gives, gives_, refuses, needs, parts, ensures, unless, limits, in_records, in_recursives, in_labels, any_lines, by_steps}
 use Rattle.pict_opened.proofs.Rightly.{rightly, well}
-use Rattle.pict_opened.proofs.Joining.{type_after}
 use Rattle.pict_opened.proofs.Opened.{embeds_same, embeds_after}
 use Rattle.pict_opened.proofs.Placed.{placed_none, placed_joined}
-use Rattle.pict_opened.proofs.FieldsOpen.{Each, each_last, last_of_each, each_by, OpensAnywhere, IsTypedAt, Part, part_types}
-use Rattle.pict_opened.proofs.PatternParts.{Field, as_part, as_parts, StandForOne, PositionalFields, LabelledFields, PatternFields, fields_slots, FieldsAdd, fields_add}
-use Rattle.pict_opened.proofs.Ordered.{ordered_last, to_each, put_each, each_put, put_each_of, LabelsOnce, once_put, type_at_new, type_at_other}
+use Rattle.pict_opened.proofs.FieldsOpen.{Each, each_last, last_of_each, OpensAnywhere, IsTypedAt, part_types}
+use Rattle.pict_opened.proofs.PatternParts.{Field, as_part, as_parts, PositionalFields, LabelledFields, PatternFields, fields_slots, fields_add}
+use Rattle.pict_opened.proofs.Ordered.{ordered_last, put_each, each_put, put_each_of, once_put, type_at_new, type_at_other}
 
 -- against a type, a pattern adds what its core pattern opens
 abbrev pub OpensAgainst : Environment → Pat → PlainType → Extension → Type 0
@@ -229,9 +224,6 @@ all_types zero no_type h = refl
 all_types (suc n) no_type h = refl
 all_types zero (types t ts) h = absurd (omega (arith, h))
 all_types (suc n) (types t ts) h = ap (types t) (all_types n ts (omega (arith, h)))
-
-lacking : (ns : List (List ℕ)) (ls : LabelledPats) (l : Id) (ms : PlainLabels) → IsNewPattern l.name.0 ls → AreOfPatterns ls ms → Lacks ms l.name.0
-lacking ns ls l ms w h = h l.name.0 w
 
 -- ---- the steps
 

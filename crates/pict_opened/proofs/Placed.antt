@@ -1,6 +1,6 @@
 -- What patterns side by side add stands in one context, in whichever order they were opened.
-use Rattle.std.proofs.Common.{◌≡◌, ℕ, zero, suc, ◌+◌, Bool, true, false, List, [], ◌∷◌, ◌++◌, map, length, refl, sym, ◌∙◌, ap, ap₂, subst, Option, Some, None, arith, append_assoc, length-append}
-use Rattle.std.specs.Prelude.{slice_get, nat_eq}
+use Rattle.std.proofs.Common.{◌≡◌, ℕ, suc, ◌+◌, Bool, true, false, List, [], ◌∷◌, ◌++◌, length, refl, sym, ◌∙◌, ap, ap₂, subst, Option, Some, arith, append_assoc, length-append}
+use Rattle.std.specs.Prelude.{nat_eq}
 use Rattle.pict_types.specs.Types.{PlainType, PlainBound, TypeContext}
 use Rattle.pict_types.specs.Renaming.{rename, rename_bound, moved}
 use Rattle.pict_types.specs.Entries.{PlainContext, variables}

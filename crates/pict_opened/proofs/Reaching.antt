@@ -7,14 +7,15 @@ use Rattle.pict_syntax.specs.Trees.{Decs}
 use Rattle.pict_types.specs.Types.{Capability, Both, Read, Write, Respond, PlainType, Top, Int, Char, Str, Boolean, Var, Apply, Chan, Fields, Rec, PlainTypes, PlainLabels, PlainBounds}
 use Rattle.pict_types.specs.Mentions.{mentions_innermost, lowered}
 use Rattle.pict_types.specs.Replacing.{unfolding_of}
-use Rattle.pict_normal.specs.Normal.{Stop, size_stop}
+use Rattle.pict_normal.specs.Normal.{size_stop, Stop}
 use Rattle.pict_rules.specs.Environments.{Environment, context_of}
 use Rattle.pict_rules.specs.Shapes.{Function}
-use Rattle.pict_rules.specs.Rules.{Sort, nothing_, Result, Judgement, Condition, is_subtype, IsMet, Rule, give, refuse, need, either, part, Answer, ok, stuck, unless_stopped, ensure, within_limits}
+use Rattle.pict_rules.specs.Rules.{Sort, nothing_, Result, Judgement, Condition, is_subtype, IsMet, Rule, give, refuse, need, either, part, Answer, unless_stopped, ensure, within_limits}
 use Rattle.pict_rules.specs.Clauses.{if_record, need_recursive, need_channel, need_function, if_sent, need_both, if_labelled, need_outside, expect}
 use Rattle.pict_rules.specs.Typing.{rule}
 use Rattle.pict_rules.specs.Derivations.{Runs, Holds, give_, refuse_, met, failed, yes, no, part_ok, part_stuck}
 use Rattle.pict_rules.specs.Reached.{Asks, this_part, past_part, past_need, past_yes, past_no, Reached, asked_by}
+use Rattle.pict_rules.proofs.Results.{IfGiven}
 
 abbrev pub ResultProperty : Type 1
 ResultProperty = (t : Sort) → Environment → Judgement t → Result t → Type 0
@@ -33,10 +34,6 @@ pub record Gives (names : List (List ℕ)) (p : Decs) (G : ResultProperty) (s : 
 -- the step of a judgement that the rules reach
 abbrev pub Steps : List (List ℕ) → Decs → ResultProperty → Type 0
 Steps names p G = (s : Sort) (e : Environment) (j : Judgement s) → Reached names p s e j → Gives names p G s (G s e j) (rule e j)
-
-abbrev IfGiven : {s : Sort} → (Result s → Type 0) → Answer s → Type 0
-IfGiven P (ok x) = P x
-IfGiven P (stuck c i) = Unit {0}
 
 module _ (names : List (List ℕ)) (p : Decs) (G : ResultProperty) (step : Steps names p G) where
   answered : {s : Sort} (P : Result s → Type 0) {r : Rule s} {a : Answer s} → Runs r a → ((t : Sort) (e : Environment) (j : Judgement t) → Asks s r t e j → Reached names p t e j) → Lines names p G P r → IfGiven P a
