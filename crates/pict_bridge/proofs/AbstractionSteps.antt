@@ -1,26 +1,25 @@
 -- The steps of abstractions and of the names of a `def`.
-use Rattle.std.proofs.Common.{◌≡◌, ◌≤◌, ℕ, zero, suc, ◌+◌, Bool, true, false, List, [], ◌∷◌, ◌++◌, map, length, Option, Some, None, refl, sym, ◌∙◌, ap, subst}
+use Rattle.std.proofs.Common.{◌≡◌, ◌≤◌, ℕ, List, [], ◌∷◌, Option, Some, None, refl, sym, ◌∙◌, ap, subst}
 use Rattle.pict_syntax.specs.declared.code.Code.TheVariants.{Y8, Y14}
 use Rattle.pict_syntax.specs.declared.id.Id.{Id}
 use Rattle.pict_syntax.specs.declared.span.Span.{Span}
 use Rattle.pict_syntax.specs.Grammar.{val_span}
 use Rattle.pict_syntax.specs.Trees.{RType, TypeTree, TypeBinders, Pat, FieldPats, field_pats, Pats, LabelledPats, Val, Proc, Abs, process_abs, function_abs, Definitions, no_definitions, more_definitions, Decs}
 use Rattle.pict_types.specs.Types.{Capability, Both, Read, Write, Respond, PlainType, Top, Int, Char, Str, Boolean, Var, Apply, Chan, Fields, Rec, PlainTypes, PlainLabels, PlainBounds, TypeContext, under}
-use Rattle.pict_types.specs.Kinds.{kinds, kinds_under, IsWellFormed, BoundsAreWellFormed}
+use Rattle.pict_types.specs.Kinds.{IsWellFormed, BoundsAreWellFormed}
 use Rattle.pict_types.proofs.Mentioned.{lowered_moved}
-use Rattle.pict_core.specs.Term as core
 use Rattle.pict_normal.specs.Normal.{normal, kind_stop, and_type}
 use Rattle.pict_scope.specs.Scopes.{scope_stop}
 use Rattle.pict_scope.specs.Around as scope
-use Rattle.pict_scope.specs.Outlines.{Outline, ◌▸◌, closed, pattern, empty, marks}
-use Rattle.pict_scope.specs.Forms.{in_pat, in_field_pats, in_annotation, in_proc, in_val, in_abs}
+use Rattle.pict_scope.specs.Outlines.{◌▸◌, pattern, empty, marks}
+use Rattle.pict_scope.specs.Forms.{in_pat, in_field_pats, in_annotation, in_abs}
 use Rattle.pict_sub.specs.Subtyping.{Falls, write_write, both_write, IsSubtype, same, upward, read_read}
 use Rattle.pict_sub.specs.Exposing.{exposure}
 use Rattle.pict_sub.proofs.Exposed.{exposes}
-use Rattle.pict_sub.proofs.Followed.{below_exposed, exposure_formed}
+use Rattle.pict_sub.proofs.Followed.{below_exposed}
 use Rattle.pict_rules.specs.Shapes.{Function, function_by, with_last, with_answer, sendable, split_last}
 use Rattle.pict_rules.specs.Environments.{Environment, Extension, KnownType, KnownValue, context_of, extended, opened, bounds_of, within, shifted_by}
-use Rattle.pict_rules.specs.Rules.{nothing_, type_, signatures_, signature_, abstraction_gives, abstraction_against, signatures, signature, bodies, body, Signature, Body, process_body, value_body, TypedFields, TypedPattern, OpenedFields, give, within_limits, pattern_gives, pattern_against, fields_give, fields_against, Judgement, Sort}
+use Rattle.pict_rules.specs.Rules.{nothing_, type_, signatures_, signature_, abstraction_gives, abstraction_against, signatures, signature, bodies, body, Signature, Body, process_body, value_body, TypedFields, TypedPattern, OpenedFields, give, within_limits, pattern_gives, pattern_against, fields_give, fields_against}
 use Rattle.pict_rules.specs.Clauses.{with_own, argument_type, answering}
 use Rattle.pict_rules.specs.Derivations.{Holds}
 use Rattle.pict_rules.specs.Reached.{Reached}
@@ -40,13 +39,13 @@ use Rattle.pict_rules.proofs.RegularDeclarations.{argument_formed, lowered_out}
 use Rattle.pict_typing.specs.Erasing.{erased_capability}
 use Rattle.pict_typing.specs.Values.{raised}
 use Rattle.pict_erase.specs.Embedding.{erased_context, Embeds}
-use Rattle.pict_opened.specs.Opening.{meaning, named, IsPlaced, AddsWhatIsOpened}
-use Rattle.pict_opened.proofs.Reaching.{Gives, gives_, refuses, needs, parts, unless, limits, in_functions, outside}
-use Rattle.pict_opened.proofs.PatternParts.{PatternFields, FieldsAdd, fields_add}
+use Rattle.pict_opened.specs.Opening.{meaning, AddsWhatIsOpened}
+use Rattle.pict_opened.proofs.Reaching.{gives_, refuses, needs, parts, unless, limits, in_functions, outside}
+use Rattle.pict_opened.proofs.PatternParts.{FieldsAdd, fields_add}
 use Rattle.pict_opened.proofs.PatternSteps.{OpensAgainst, patterns_open}
 use Rattle.pict_bridge.proofs.NamesOnce.{times, pattern_once, function_once}
 use Rattle.pict_bridge.proofs.Realised.{type_means, below_means}
-use Rattle.pict_bridge.proofs.Judged.{Values, SentBy, ProcessStands, ReadsAt, BodyStands, BodiesStand, with_known, SignatureReads, SignaturesRead, no_signature, more_signatures, IsSound, Step}
+use Rattle.pict_bridge.proofs.Judged.{SentBy, ReadsAt, with_known, no_signature, more_signatures, Step}
 use Rattle.pict_opened.proofs.Rightly.{rightly, well}
 use Rattle.pict_bridge.proofs.FieldForms.{last_and}
 use Rattle.pict_bridge.proofs.ReadForms.{Answers, last_formed, process_reads, function_reads}

@@ -1,17 +1,13 @@
 -- The names of a pattern, bound to the variables from a level on.
-use Rattle.std.proofs.Common.{◌≡◌, ◌≤◌, ℕ, zero, suc, ◌+◌, Bool, true, false, List, [], ◌∷◌, ◌++◌, length, drop, get_or, Option, Some, None, refl, sym, ◌∙◌, ap, subst, arith, nat_eq, eqb-true, length-append}
+use Rattle.std.proofs.Common.{◌≡◌, ◌≤◌, ℕ, zero, suc, ◌+◌, Bool, true, false, List, [], ◌∷◌, ◌++◌, length, drop, get_or, Option, Some, None, refl, sym, ◌∙◌, ap, subst, arith, nat_eq}
 use Rattle.std.specs.Prelude.{slice_get}
 use Rattle.std.proofs.lemmas.Bool.{eq-eqb}
-use Rattle.pict_syntax.specs.Trees.{Pat, FieldPats}
 use Rattle.pict_core.specs.Term as core
 use Rattle.pict_core.specs.Term.{Var}
-use Rattle.pict_core.specs.Closed.{binds}
 use Rattle.pict_translation.specs.Placed.{variables}
-use Rattle.pict_translation.specs.Patterns.{pat_core, pat_names, function_pat, names_before, names_after}
 use Rattle.pict_translation.specs.Simple.{value_at, binding, unit}
-use Rattle.pict_translation.proofs.PatternLemmas.{pattern_agrees, function_agrees}
 use Rattle.pict_opened.specs.Opening.{named}
-use Rattle.pict_bridge.proofs.NamesOnce.{one_if, times, times_both}
+use Rattle.pict_bridge.proofs.NamesOnce.{one_if, times}
 
 -- how often a name stands among the names of variables
 abbrev pub is_slot : ℕ → Option ℕ → ℕ

@@ -1,45 +1,41 @@
 -- Declarations, form by form: they stand around a rest that stands in what they leave.
-use Rattle.std.proofs.Common.{◌≡◌, ◌≤◌, ℕ, zero, suc, ◌+◌, Bool, true, false, List, [], ◌∷◌, ◌++◌, map, length, Option, Some, None, refl, sym, ◌∙◌, ap, ap₂, subst, arith, append-nil}
-use Rattle.std.specs.Prelude.{slice_get}
+use Rattle.std.proofs.Common.{◌≡◌, ◌≤◌, ℕ, suc, ◌+◌, true, List, [], ◌∷◌, ◌++◌, map, length, Some, refl, sym, ◌∙◌, ap, ap₂, subst, arith, append-nil}
 use Rattle.pict_syntax.specs.declared.id.Id.{Id}
 use Rattle.pict_syntax.specs.declared.span.Span.{Span}
-use Rattle.pict_syntax.specs.Trees.{TypeTree, Pat, Val, Dec, new_dec, run_dec, let_dec, def_dec, await_dec, Decs, no_decs, more_decs, Definitions, no_definitions, more_definitions, Abs, Proc}
-use Rattle.pict_types.specs.Types.{Both, Read, Write, Respond, PlainType, Chan, Fields, no_type, no_label, no_bound, TypeContext}
+use Rattle.pict_syntax.specs.Trees.{TypeTree, Pat, Val, Dec, new_dec, run_dec, let_dec, def_dec, await_dec, Decs, no_decs, more_decs, Definitions, Proc}
+use Rattle.pict_types.specs.Types.{Both, Read, Respond, PlainType, Chan, Fields, no_type, no_label, no_bound}
 use Rattle.pict_types.specs.Renaming.{rename, moved}
-use Rattle.pict_types.proofs.Renamed.{rename_same}
-use Rattle.pict_sub.specs.Subtyping.{same, upward, downward, both_read, both_write}
 use Rattle.pict_core.specs.Term as core
-use Rattle.pict_rules.specs.Environments.{Environment, Extension, KnownValue, context_of, extended, one_value, rename_values}
+use Rattle.pict_rules.specs.Environments.{Environment, Extension, KnownValue, context_of, extended, one_value}
 use Rattle.pict_rules.specs.Rules.{Signature}
 use Rattle.pict_rules.specs.Clauses.{values_of, with_signatures, empty_record}
 use Rattle.pict_rules.specs.Regular.{IsTypeIn, AreSignatures}
 use Rattle.pict_rules.specs.SameNames.{value_names}
 use Rattle.pict_rules.proofs.BoundIds.{value_ids}
 use Rattle.pict_rules.proofs.Names.{id_names}
-use Rattle.pict_translation.specs.Placed as placed
-use Rattle.pict_translation.specs.Placed.{Placed, beside, new_channel, new_channels, input, served}
+use Rattle.pict_translation.specs.Placed.{Placed, beside, new_channels, input, served}
 use Rattle.pict_translation.specs.Patterns.{pat_core}
 use Rattle.pict_translation.specs.Simple.{Around, bound, binding, pat_bound}
-use Rattle.pict_translation.specs.Translation.{sending, reader, proc_core, dec_core, decs_core, servers, definition_names, unit_pat}
-use Rattle.pict_typing.specs.Worlds as worlds
+use Rattle.pict_translation.specs.Translation.{sending, reader, dec_core, decs_core, servers, definition_names, unit_pat}
 use Rattle.pict_typing.specs.Worlds.{World, IsType, with_variable, shifted}
-use Rattle.pict_typing.specs.Values.{HasType, raised}
-use Rattle.pict_typing.specs.Opening.{Opens, opens_record, opens_none, opens_no_label}
+use Rattle.pict_typing.specs.Values.{HasType}
+use Rattle.pict_typing.specs.Opening.{opens_record, opens_none, opens_no_label}
 use Rattle.pict_typing.specs.Processes as typed
 use Rattle.pict_typing.specs.Processes.{IsTyped}
-use Rattle.pict_erase.specs.Embedding.{Embeds, Grows}
+use Rattle.pict_erase.specs.Embedding.{Grows}
 use Rattle.pict_opened.specs.Opening.{meaning}
 use Rattle.pict_opened.proofs.Joining.{type_after}
 use Rattle.pict_opened.proofs.Opened.{embeds_after}
 use Rattle.pict_opened.proofs.PatternSteps.{OpensAgainst}
-use Rattle.pict_bridge.specs.Standing.{Stands, Longer, Sends}
+use Rattle.pict_bridge.specs.Standing.{Stands, Longer}
 use Rattle.pict_bridge.specs.Realising.{around, Realises}
-use Rattle.pict_bridge.proofs.Standing.{not_longer, longer_more, longer_grows, has_longer, type_longer, same_shift, one_longer, count_more, last_has, last_sends, last_receives}
+use Rattle.pict_bridge.proofs.Standing.{not_longer, longer_more, longer_grows, has_longer, same_shift, one_longer, last_has, last_sends, last_receives}
 use Rattle.pict_bridge.proofs.NamesOnce.{times}
 use Rattle.pict_bridge.proofs.Realised.{type_means, realises_longer, with_name, realises_one}
-use Rattle.pict_bridge.proofs.Judged.{Values, SentBy, ProcessStands, ReadsAt, BodyStands, BodiesStand, SignatureReads, SignaturesRead, no_signature, more_signatures, Follows, RestStands, Declares}
+use Rattle.pict_bridge.proofs.Judged.{Values, SentBy, ProcessStands, BodyStands, BodiesStand, SignaturesRead, no_signature, more_signatures, Follows, Declares}
 use Rattle.pict_bridge.proofs.Whole.{new_stands}
 use Rattle.pict_bridge.proofs.ReadForms.{pattern_reads}
+use Rattle.pict_rules.proofs.RegularJoined.{values_unmoved}
 
 -- ---- what follows
 
@@ -87,17 +83,12 @@ more_declared e d c ds x n h k vs f w r rest m =
 
 -- ---- single declarations
 
--- names and types stay as they are
-still : (vs : List KnownValue) → rename_values (moved 0 0) vs ≡ vs
-still [] = refl
-still (v ∷ vs) = ap₂ (λ x xs. x ∷ xs) (ap (λ t. record { name = v.name; has = t }) (rename_same v.has (record { each = λ j. omega arith }))) (still vs)
-
 pub new_declared : (e : Environment) (s : Span) (x : Id) (t : TypeTree) (u : PlainType) → IsTypeIn e u → Declares e (λ a rest. dec_core a (new_dec s x t) rest) (extended e (one_value x (Chan Both u)))
 unfolding sending
 new_declared e s x t u q vs f w r rest k =
     new_stands w (meaning f u) (λ c. rest (bound (x.name.0 ∷ []) (c ∷ []) (around e vs))) (type_means u r q)
     (k ((x.name.0, core.Var (length w.variables)) ∷ vs) f (with_variable (Chan Both (meaning f u)) w) (follows_longer refl longer)
-    (subst (λ zs. Realises (record { names = e.names; context = e.context; values = record { name = x.name.0; has = Chan Both u } ∷ zs }) ((x.name.0, core.Var (length w.variables)) ∷ vs) f (with_variable (Chan Both (meaning f u)) w)) (sym (still e.values))
+    (subst (λ zs. Realises (record { names = e.names; context = e.context; values = record { name = x.name.0; has = Chan Both u } ∷ zs }) ((x.name.0, core.Var (length w.variables)) ∷ vs) f (with_variable (Chan Both (meaning f u)) w)) (sym (values_unmoved e.values))
     (realises_one x.name.0 (Chan Both u) (core.Var (length w.variables)) (realises_longer longer r) (last_has (Chan Both (meaning f u)) w))))
   where
     longer : Longer w (with_variable (Chan Both (meaning f u)) w)
@@ -222,23 +213,14 @@ signed e (more_signatures {ds = ds} {x = x} {a = a} {ss = ss} {s = s} h k) =
           serve_last w f (servers (around e vs) ds) y.takes (λ c. reader (around e vs) a c true) k.takes (y.serve zs b.0 vs f w r) (λ c m. k.reads zs b.1 vs f w r c true m);
     }
 
-abbrev with_all : Environment → List Signature → Environment
-with_all e ss = record { names = e.names; context = e.context; values = values_of ss e.values }
-
 -- a list of well formed types
 abbrev TypesIn : Environment → List PlainType → Type 0
 TypesIn e [] = Unit {0}
 TypesIn e (t ∷ ts) = IsTypeIn e t × TypesIn e ts
 
-channels_longer : {w v : World} (f : ℕ → ℕ) (xs : List core.Val) (ts : List PlainType) → typed.AreClosedTypes w.names w.messages → Longer w v → AreChannels w f xs ts → AreChannels v f xs ts
-channels_longer f [] [] k l h = tt
-channels_longer f [] (t ∷ ts) k l h = absurd h
-channels_longer f (x ∷ xs) [] k l h = absurd h
-channels_longer f (x ∷ xs) (t ∷ ts) k l h = (has_longer k l h.0, channels_longer f xs ts k l h.1)
-
 -- new x1 .. new xn, and what goes on with these channels
 news_stand : (e : Environment) (ss : List Signature) (ts : List PlainType) (F : List core.Val → Placed) (vs : Values) (f : ℕ → ℕ) (w : World) → TakeAll ss ts → TypesIn e ts → Realises e vs f w
-    → ((xs : List core.Val) (u : World) → Longer w u → AreChannels u f xs ts → Realises (with_all e ss) (binding (signature_names ss) xs vs) f u → Stands u (F xs)) → Stands w (new_channels (length ss) F)
+    → ((xs : List core.Val) (u : World) → Longer w u → AreChannels u f xs ts → Realises (with_signatures e ss) (binding (signature_names ss) xs vs) f u → Stands u (F xs)) → Stands w (new_channels (length ss) F)
 news_stand e [] [] F vs f w h q r k = k [] w (not_longer w) tt r
 news_stand e [] (t ∷ ts) F vs f w h q r k = absurd h
 news_stand e (s ∷ ss) [] F vs f w h q r k = absurd h
@@ -283,7 +265,7 @@ unfolding sending
 def_declared e s ds ss q h bodies vs f w r rest k =
     subst (λ n. Stands w (new_channels n F)) (sym (ap length x.names_ ∙ count_names ss))
     (news_stand e ss x.takes F vs f w x.take (taken_in e ss x.takes x.take q) r (λ xs u l m n.
-    let n2 = subst (λ ns. Realises (with_all e ss) (binding ns xs vs) f u) (sym x.names_) n in
+    let n2 = subst (λ ns. Realises (with_signatures e ss) (binding ns xs vs) f u) (sym x.names_) n in
     served_stands u f (servers (bound (definition_names ds) xs (around e vs)) ds) xs x.takes (rest (bound (definition_names ds) xs (around e vs))) (x.serve (values_of ss e.values) bodies (binding (definition_names ds) xs vs) f u n2) m
     (k (binding (definition_names ds) xs vs) f u (follows_longer refl l) n2)))
   where

@@ -1,11 +1,11 @@
 -- Records and applications: the record of the values has the type of a package, once the arguments are put in.
-use Rattle.std.proofs.Common.{◌≡◌, ℕ, zero, suc, ◌+◌, Bool, true, false, List, [], ◌∷◌, ◌++◌, map, length, Option, Some, None, refl, sym, ◌∙◌, ap, ap₂, subst}
+use Rattle.std.proofs.Common.{◌≡◌, ℕ, ◌+◌, List, [], ◌∷◌, ◌++◌, length, Option, Some, None, refl, sym, ◌∙◌, ap, ap₂, subst}
 use Rattle.pict_syntax.specs.declared.span.Span.{Span}
 use Rattle.pict_syntax.specs.Labels.{in_label_order}
 use Rattle.pict_syntax.specs.Trees.{TypeTrees, Val, Vals, FieldVals, field_vals, LabelledVals, apply_chan, fields_val}
 use Rattle.pict_types.specs.Types.{Capability, Both, Read, Write, Respond, PlainType, Top, Int, Char, Str, Boolean, Var, Apply, Chan, Fields, Rec, PlainTypes, no_type, types, PlainLabels, PlainBounds, no_bound, bounds, PlainArg, type_at}
 use Rattle.pict_types.specs.Renaming.{beyond, beyond_all, beyond_times, rename, rename_types, rename_labels, rename_bounds}
-use Rattle.pict_types.specs.Replacing.{Replacement, arguments, replace, replace_types, replace_labels, instance_of, FitTheirFields}
+use Rattle.pict_types.specs.Replacing.{arguments, replace, replace_types, replace_labels, instance_of, FitTheirFields}
 use Rattle.pict_types.specs.Kinds.{kinds, AreWellFormed}
 use Rattle.pict_types.specs.Instances.{ArgsAreWellFormed}
 use Rattle.pict_types.proofs.Formed.{instance_formed}
@@ -13,7 +13,7 @@ use Rattle.pict_sub.specs.Subtyping.{Falls, write_write, both_write, IsSubtype, 
 use Rattle.pict_core.specs.Term as core
 use Rattle.pict_normal.specs.Normal.{and_type}
 use Rattle.pict_rules.specs.Shapes.{Function, applicable, function_by, respond_or_write, split_last, put_first, with_last, with_answer}
-use Rattle.pict_rules.specs.Environments.{Environment, context_of}
+use Rattle.pict_rules.specs.Environments.{Environment}
 use Rattle.pict_rules.specs.Regular.{IsTypeIn, kinds_in}
 use Rattle.pict_scope.specs.DistinctLabels.{LabelledValsAreDistinct, FieldValsHaveDistinctLabels}
 use Rattle.pict_translation.specs.Placed.{output}
@@ -27,14 +27,16 @@ use Rattle.pict_erase.proofs.Erased.{erased_args, replace_erased, arguments_eras
 use Rattle.pict_erase.proofs.Packing.{packed_at_once}
 use Rattle.pict_opened.specs.Opening.{meaning}
 use Rattle.pict_opened.proofs.FieldsOpen.{meanings, label_meanings}
-use Rattle.pict_bridge.specs.Standing.{Stands, Longer, Sends}
-use Rattle.pict_bridge.specs.Realising.{around, Realises, IsSent}
-use Rattle.pict_bridge.proofs.Standing.{longer_more, has_longer, type_longer, closed_longer, way_up, with_stands}
-use Rattle.pict_bridge.proofs.Realised.{type_means, below_means, realises_longer}
+use Rattle.pict_bridge.specs.Standing.{Sends}
+use Rattle.pict_bridge.specs.Realising.{around, Realises}
+use Rattle.pict_bridge.proofs.Standing.{longer_more, has_longer, closed_longer, way_up, with_stands}
+use Rattle.pict_bridge.proofs.Realised.{type_means, realises_longer}
 use Rattle.pict_bridge.proofs.SentLists.{HaveAll, HaveAtLabels, LabelsAreSent, all_sent_longer, labels_sent_longer, one_more_has, types_list, labels_list}
 use Rattle.pict_bridge.proofs.Records.{fewer_labels, record_sent, record_type, fields_stand, fields_sent}
-use Rattle.pict_bridge.proofs.Meant.{beyond_last, all_meant, instances_mean, label_instances_mean, may_stand, AreWithinBounds}
-use Rattle.pict_bridge.proofs.Judged.{Values, SentBy, FieldsFit, AllFieldsFit, FieldsSent, AllSentBy, LabelsGiven, Wherever, ApplicationSent, meant_types}
+use Rattle.pict_bridge.proofs.Meant.{all_meant, instances_mean, label_instances_mean, may_stand, AreWithinBounds}
+use Rattle.pict_bridge.proofs.Judged.{Values, SentBy, AllFieldsFit, AllSentBy, LabelsGiven, Wherever, ApplicationSent, meant_types}
+use Rattle.pict_normal.proofs.RawNormal.{and_type_replaced}
+use Rattle.pict_types.proofs.Replaced.{beyond_after}
 
 -- no label stands twice among the values of fields
 abbrev pub LabelsStandOnce : FieldVals → Type 0
@@ -53,7 +55,7 @@ under_arguments : (args : List PlainArg) (bs : PlainBounds) (f : ℕ → ℕ) �
 under_arguments [] no_bound f h = refl
 under_arguments [] (bounds b bs) f h = absurd h
 under_arguments (a ∷ args) no_bound f h = absurd h
-under_arguments (a ∷ args) (bounds b bs) f h = sym (beyond_last (length args) f) ∙ under_arguments args bs (beyond f) h.1
+under_arguments (a ∷ args) (bounds b bs) f h = sym (beyond_after (length args) f) ∙ under_arguments args bs (beyond f) h.1
 
 abbrev package_type : (ℕ → ℕ) → (ℕ → ℕ) → PlainBounds → PlainTypes → PlainLabels → PlainType
 package_type f g bs ps ms = Fields (rename_bounds f (erased_bounds bs)) (rename_types g (erased_types ps)) (rename_labels g (erased_labels ms))
@@ -207,10 +209,6 @@ types_last : (ts : List PlainType) (t : PlainType) → types_list (ts ++ t ∷ [
 types_last [] t = refl
 types_last (s ∷ ts) t = ap (types s) (types_last ts t)
 
-and_replaced : (s : Replacement) (ps : PlainTypes) (t : PlainType) → replace_types s (and_type ps t) ≡ and_type (replace_types s ps) (replace s t)
-and_replaced s no_type t = refl
-and_replaced s (types p ps) t = ap (types (replace s p)) (and_replaced s ps t)
-
 and_meant : (f : ℕ → ℕ) (ps : PlainTypes) (t : PlainType) → meanings f (and_type ps t) ≡ and_type (meanings f ps) (meaning f t)
 and_meant f no_type t = refl
 and_meant f (types p ps) t = ap (types (meaning f p)) (and_meant f ps t)
@@ -241,7 +239,7 @@ application_sent e s v (field_vals tys us ls) t r args q app h fit distinct head
     types_same : types_list (meant_types f qs ++ Chan Write (meaning f u) ∷ []) ≡ meanings f (replace_types (arguments args) (and_type r.positional app.last))
     types_same =
         types_last (meant_types f qs) (Chan Write (meaning f u)) ∙ ap₂ and_type (meant_list f qs) (sym answer_type)
-        ∙ sym (ap (meanings f) (and_replaced (arguments args) r.positional app.last) ∙ and_meant f qs (replace (arguments args) app.last))
+        ∙ sym (ap (meanings f) (and_type_replaced (arguments args) r.positional app.last) ∙ and_meant f qs (replace (arguments args) app.last))
 
     go : Sends w (meaning f u) (sending_chan a (apply_chan s v (field_vals tys us ls)))
     go v1 k l m =

@@ -1,5 +1,5 @@
 -- The steps of fields and of applications.
-use Rattle.std.proofs.Common.{◌≡◌, ◌≢◌, ◌≤◌, ℕ, zero, suc, ◌+◌, nat_eq, ◌||◌, Bool, true, false, ◌&&◌, not, List, [], ◌∷◌, ◌++◌, map, length, Option, Some, None, refl, sym, ◌∙◌, ap, ap₂, subst, arith, eqb-true, append-nil, append_assoc}
+use Rattle.std.proofs.Common.{◌≡◌, ◌≢◌, ◌≤◌, ℕ, zero, suc, ◌+◌, nat_eq, ◌||◌, Bool, true, false, not, List, [], ◌∷◌, ◌++◌, map, length, Option, Some, None, refl, sym, ◌∙◌, ap, subst, arith, eqb-true, append-nil, append_assoc}
 use Rattle.std.specs.Prelude.{if◌then◌else◌}
 use Rattle.std.specs.Ordering.{is_lt}
 use Rattle.std.proofs.lemmas.Bool.{eq-eqb}
@@ -10,8 +10,8 @@ use Rattle.pict_syntax.specs.declared.span.Span.{Span}
 use Rattle.pict_syntax.specs.Grammar.{type_span, val_span}
 use Rattle.pict_syntax.specs.Labels.{label_cmp, in_label_order}
 use Rattle.pict_syntax.specs.Trees.{TypeTrees, no_types, more_types, Val, Vals, no_vals, more_vals, FieldVals, field_vals, LabelledVals, no_labelled_vals, more_labelled_vals, Decs}
-use Rattle.pict_types.specs.Types.{PlainType, Fields, PlainTypes, no_type, types, PlainLabels, no_label, labels, PlainBound, Free, Below, Operator, PlainBounds, no_bound, bounds, PlainArg, count_types, count_bounds, type_at}
-use Rattle.pict_types.specs.Replacing.{arguments, replace, replace_types, replace_labels, instance_of, type_in}
+use Rattle.pict_types.specs.Types.{PlainType, PlainTypes, no_type, types, PlainLabels, no_label, labels, PlainBound, Free, Below, Operator, PlainBounds, no_bound, bounds, PlainArg, count_types, count_bounds, type_at}
+use Rattle.pict_types.specs.Replacing.{arguments, replace, replace_types, replace_labels, instance_of}
 use Rattle.pict_normal.specs.Normal.{and_type, with_labelled_type, count_trees}
 use Rattle.pict_normal.specs.WrittenArguments.{normal_arg, arg_stop}
 use Rattle.pict_scope.specs.Scopes.{scope_stop}
@@ -20,15 +20,14 @@ use Rattle.pict_sub.proofs.Exposed.{exposes}
 use Rattle.pict_sub.proofs.Followed.{below_exposed}
 use Rattle.pict_rules.specs.Counts.{count_vals}
 use Rattle.pict_rules.specs.Found.{Found, filled, argument_in, mentions_missing, with_found, all_found, matched}
-use Rattle.pict_rules.specs.Shapes.{Function, applicable, is_written, all_written, none_written, nth_type, nth_bound}
+use Rattle.pict_rules.specs.Shapes.{applicable, is_written, all_written, none_written, nth_type, nth_bound}
 use Rattle.pict_rules.specs.Environments.{Environment, context_of}
 use Rattle.pict_rules.specs.Rules.{Sort, Result, types_, labels_, arguments_, found_, type_, Rule, values_give, labelled_values_give, application, fields_fit, written_arguments, values_fit, labelled_values_fit, value_fits, given_fits}
-use Rattle.pict_rules.specs.Clauses.{within_bound, within_bounds, is_of_kind, in_order, found_first}
+use Rattle.pict_rules.specs.Clauses.{within_bound, within_bounds, is_of_kind}
 use Rattle.pict_scope.specs.DistinctLabels.{LabelledValsAreDistinct}
 use Rattle.pict_rules.specs.Regular.{IsTypeIn}
 use Rattle.pict_rules.proofs.RegularArguments.{with_found_formed}
 use Rattle.pict_rules.proofs.RegularProcesses.{exposed_formed}
-use Rattle.pict_core.specs.Term as core
 use Rattle.pict_typing.specs.Worlds.{World}
 use Rattle.pict_opened.specs.Opening.{meaning}
 use Rattle.pict_opened.proofs.Reaching.{Gives, gives_, refuses, needs, parts, splits, ensures, unless, limits, in_functions, in_labels, expects}
@@ -37,13 +36,14 @@ use Rattle.pict_opened.proofs.Ordered.{ordered_last, type_at_new, type_at_other}
 use Rattle.pict_opened.proofs.PatternSteps.{first_types, all_types}
 use Rattle.pict_bridge.specs.Realising.{around, Realises}
 use Rattle.pict_bridge.proofs.Realised.{type_means}
-use Rattle.pict_bridge.proofs.SentLists.{AreSent, none_sent, more_sent, LabelsAreSent, no_label_sent, label_sent, labels_list, labels_new, put_labels_list, list_lacks}
-use Rattle.pict_bridge.proofs.FoundStays.{both_true, Stays, stays_same, stays_on, found_same, given_stay, matched_stays}
+use Rattle.pict_bridge.proofs.SentLists.{AreSent, none_sent, more_sent, no_label_sent, label_sent, labels_list, labels_new, put_labels_list, list_lacks}
+use Rattle.pict_bridge.proofs.FoundStays.{Stays, stays_same, stays_on, found_same, given_stay, matched_stays}
 use Rattle.pict_bridge.proofs.Meant.{IsWithinBound, AreWithinBounds}
-use Rattle.pict_bridge.proofs.Judged.{Values, Wherever, SentBy, AllSentBy, LabelsGiven, found_types, ValuesFit, LabelsFound, LabelsFit, ValueFits, GivenFits, FieldsSent, FieldsFit, AllFieldsFit, meant_types, IsExpectedAbove, IsSound, Step}
+use Rattle.pict_bridge.proofs.Judged.{Values, Wherever, SentBy, AllSentBy, LabelsGiven, found_types, ValuesFit, LabelsFound, LabelsFit, ValueFits, FieldsFit, meant_types, IsExpectedAbove, IsSound, Step}
 use Rattle.pict_opened.proofs.Rightly.{rightly, well}
 use Rattle.pict_bridge.proofs.Whole.{sent_above}
 use Rattle.pict_bridge.proofs.FieldForms.{stand_once, is_applied, application_sent}
+use Rattle.pict_normal.proofs.Used.{and_cases}
 
 -- ---- values that give their types
 
@@ -154,10 +154,10 @@ labels_replaced f h l t (labels m u ms) e = go (nat_eq l m) refl (labels_replace
 
 label_written : (ls : LabelledVals) (l : ℕ) (s : PlainType) (ms : PlainLabels) → all_written ms ls ≡ true → type_at l ms ≡ Some s → is_written l ls ≡ true
 label_written ls l s no_label h e = absurd (cc)
-label_written ls l s (labels m u ms) h e = go (nat_eq l m) refl (label_written ls l s ms (both_true (is_written m ls) (all_written ms ls) h).1)
+label_written ls l s (labels m u ms) h e = go (nat_eq l m) refl (label_written ls l s ms (and_cases (is_written m ls) (all_written ms ls) h).1)
   where
     go : (b : Bool) → nat_eq l m ≡ b → (type_at l ms ≡ Some s → is_written l ls ≡ true) → is_written l ls ≡ true
-    go true q k = subst (λ z. is_written z ls ≡ true) (sym (eqb-true l m q)) (both_true (is_written m ls) (all_written ms ls) h).0
+    go true q k = subst (λ z. is_written z ls ≡ true) (sym (eqb-true l m q)) (and_cases (is_written m ls) (all_written ms ls) h).0
     go false q k = k (rw q at e)
 
 -- once all is found, the fields are sent at their types with the arguments put in

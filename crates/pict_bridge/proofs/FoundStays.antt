@@ -1,13 +1,14 @@
 -- What is found for type fields stays: so a type that mentions nothing missing has one meaning from then on.
-use Rattle.std.proofs.Common.{◌≡◌, ◌<◌, ℕ, zero, suc, ◌+◌, ◌-◌, nat_eq, nat_lt, nat_le, Bool, true, false, ◌&&◌, not, List, [], ◌∷◌, map, length, Option, Some, None, refl, sym, ◌∙◌, ap, ap₂, subst, arith}
+use Rattle.std.proofs.Common.{◌≡◌, ℕ, zero, suc, ◌+◌, ◌-◌, nat_eq, nat_lt, nat_le, Bool, true, false, ◌&&◌, not, List, [], ◌∷◌, map, length, Option, Some, None, refl, sym, ◌∙◌, ap, ap₂, subst, arith}
 use Rattle.std.specs.Prelude.{if◌then◌else◌, set}
 use Rattle.std.proofs.lemmas.Bool.Decides.{nat_tests}
-use Rattle.pict_types.specs.Types.{PlainType, Top, Int, Char, Str, Boolean, Var, Apply, Chan, Fields, Rec, PlainTypes, no_type, types, PlainLabels, no_label, labels, PlainBound, Free, Below, Operator, PlainBounds, no_bound, bounds, PlainArg, Plain, Op, TypeContext, under, count_types, count_bounds, type_at}
-use Rattle.pict_types.specs.Replacing.{Replacement, replace, arguments, with_args, with_arg, no_replacement, type_in, head_in}
-use Rattle.pict_types.specs.Mentions.{mentions, mentions_innermost, lowered}
-use Rattle.pict_types.proofs.Mentioned.{replace_agrees}
+use Rattle.pict_types.specs.Types.{PlainType, Top, Int, Char, Str, Boolean, Var, Apply, Chan, Fields, Rec, PlainTypes, no_type, types, PlainLabels, no_label, labels, PlainBound, Free, Below, Operator, PlainBounds, no_bound, bounds, PlainArg, Plain, TypeContext, under, count_types, count_bounds, type_at}
+use Rattle.pict_types.specs.Replacing.{Replacement, with_args, with_arg, no_replacement, type_in, head_in}
+use Rattle.pict_types.specs.Mentions.{mentions_innermost, lowered}
+use Rattle.pict_types.proofs.Mentioned.{replace_agrees, ReplaceAlikeBut}
 use Rattle.pict_sub.specs.Exposing.{exposure}
-use Rattle.pict_rules.specs.Found.{Slot, open_slot, filled, Found, is_open, is_missing, is_missing_variable, mentions_missing, argument_in, with_found, all_found, find, is_same_head, match_channel, match_recursive, match_applied, match_record, match_label, matched, matched_types, matched_labels, matched_bounds, matched_bound}
+use Rattle.pict_rules.specs.Found.{Slot, open_slot, filled, Found, is_open, is_missing, is_missing_variable, mentions_missing, argument_in, with_found, find, is_same_head, match_channel, match_recursive, match_applied, match_record, match_label, matched, matched_types, matched_labels, matched_bounds, matched_bound}
+use Rattle.pict_normal.proofs.Used.{and_cases}
 
 -- a type field that is found stays so
 abbrev pub SlotStays : Slot → Slot → Type 0
@@ -87,12 +88,7 @@ same_missing f i = go (side (length f) i)
         let e : nat_lt i (length f) ≡ false = grind (arith, nat_tests, h) in
         ap (missing_after f (λ z. false)) h ∙ missing_past f (λ z. false) j ∙ ap (λ b. b && is_missing f (length f - 1 - i)) (sym e)
 
--- two replacements agree but on these
-record AgreeBut (p : ℕ → Bool) (r q : Replacement) : Type 0 where
-  types_ : (i : ℕ) → p i ≡ false → r.type_of i ≡ q.type_of i
-  heads_ : (i : ℕ) → p i ≡ false → r.head_of i ≡ q.head_of i
-
-agree_arg : (p : ℕ → Bool) (r q : Replacement) (x y : Slot) → SlotStays x y → AgreeBut p r q → AgreeBut (first_missing (is_open x) p) (with_arg (argument_in x) r) (with_arg (argument_in y) q)
+agree_arg : (p : ℕ → Bool) (r q : Replacement) (x y : Slot) → SlotStays x y → ReplaceAlikeBut p r q → ReplaceAlikeBut (first_missing (is_open x) p) (with_arg (argument_in x) r) (with_arg (argument_in y) q)
 agree_arg p r q x y h k = record { types_ = go; heads_ = go2 }
   where
     same_arg : (x : Slot) → SlotStays x y → is_open x ≡ false → argument_in x ≡ argument_in y
@@ -107,7 +103,7 @@ agree_arg p r q x y h k = record { types_ = go; heads_ = go2 }
     go2 zero e = ap head_in (same_arg x h e)
     go2 (suc i) e = k.heads_ i e
 
-agree_args : (p : ℕ → Bool) (r q : Replacement) (f g : Found) → Stays f g → AgreeBut p r q → AgreeBut (missing_after f p) (with_args (map argument_in f) r) (with_args (map argument_in g) q)
+agree_args : (p : ℕ → Bool) (r q : Replacement) (f g : Found) → Stays f g → ReplaceAlikeBut p r q → ReplaceAlikeBut (missing_after f p) (with_args (map argument_in f) r) (with_args (map argument_in g) q)
 agree_args p r q [] [] h k = k
 agree_args p r q [] (y ∷ g) h k = absurd h
 agree_args p r q (x ∷ f) [] h k = absurd h
@@ -135,15 +131,11 @@ set_stays (filled a ∷ f) zero x h = absurd cc
 set_stays (open_slot b ∷ f) zero x h = (tt, stays_same f)
 set_stays (y ∷ f) (suc n) x h = (slot_same y, set_stays f n x h)
 
-pub both_true : (a b : Bool) → (a && b) ≡ true → (a ≡ true) × (b ≡ true)
-both_true true b h = (refl, h)
-both_true false b h = absurd cc
-
 find_stays : (d i : ℕ) (g : PlainType) (f : Found) → Stays f (find d i g f)
 find_stays d i g f = go (nat_le d i && (is_missing_variable f (i - d) && not (mentions_innermost d g))) refl
   where
     there : (nat_le d i && (is_missing_variable f (i - d) && not (mentions_innermost d g))) ≡ true → is_missing f (length f - 1 - (i - d)) ≡ true
-    there q = (both_true (nat_lt (i - d) (length f)) _ (both_true (is_missing_variable f (i - d)) _ (both_true (nat_le d i) _ q).1).0).1
+    there q = (and_cases (nat_lt (i - d) (length f)) _ (and_cases (is_missing_variable f (i - d)) _ (and_cases (nat_le d i) _ q).1).0).1
 
     go : (b : Bool) → (nat_le d i && (is_missing_variable f (i - d) && not (mentions_innermost d g))) ≡ b → Stays f (if b then set f (length f - 1 - (i - d)) (filled (Plain (lowered d g))) else f)
     go true q = set_stays f (length f - 1 - (i - d)) (filled (Plain (lowered d g))) (there q)

@@ -1,25 +1,22 @@
 -- What holds of the core of all that the rules judge.
-use Rattle.std.proofs.Common.{◌≡◌, ◌≤◌, ℕ, zero, suc, ◌+◌, Bool, true, false, List, [], ◌∷◌, ◌++◌, map, length, Option, Some, None, refl}
+use Rattle.std.proofs.Common.{◌≡◌, ◌≤◌, ℕ, ◌+◌, Bool, true, false, List, [], ◌∷◌, ◌++◌, length, Option, Some, None}
 use Rattle.pict_syntax.specs.declared.id.Id.{Id}
 use Rattle.pict_syntax.specs.declared.span.Span.{Span}
 use Rattle.pict_syntax.specs.Labels.{in_label_order}
-use Rattle.pict_syntax.specs.Trees.{Val, Vals, FieldVals, field_vals, LabelledVals, Abs, Dec, Decs, Definitions, no_definitions, more_definitions, Proc, Procs, Chan, apply_chan}
+use Rattle.pict_syntax.specs.Trees.{Val, Vals, FieldVals, field_vals, LabelledVals, Abs, Decs, Definitions, no_definitions, more_definitions, Proc, Procs, Chan, apply_chan}
 use Rattle.pict_types.specs.Types.{Read, Respond, PlainType, Boolean, Chan as Chan_, PlainTypes, no_type, types, PlainLabels, PlainBounds, PlainArg, type_at, count_types}
 use Rattle.pict_types.specs.Renaming.{moved}
-use Rattle.pict_types.specs.Replacing.{arguments, replace, replace_types, replace_labels}
+use Rattle.pict_types.specs.Replacing.{arguments, replace_types, replace_labels}
 use Rattle.pict_core.specs.Term as core
-use Rattle.pict_scope.specs.Scopes.{scope_stop}
-use Rattle.pict_sub.specs.Subtyping.{IsSubtype, HasLabels}
+use Rattle.pict_sub.specs.Subtyping.{IsSubtype}
 use Rattle.pict_rules.specs.Counts.{count_vals}
 use Rattle.pict_rules.specs.Found.{Found, mentions_missing, with_found}
 use Rattle.pict_rules.specs.Shapes.{is_written}
 use Rattle.pict_rules.specs.Environments.{Environment, KnownValue, context_of, extended}
-use Rattle.pict_rules.specs.Rules.{Sort, Result, Judgement, gives, has, is_condition, values_give, labelled_values_give, application, fields_fit, written_arguments, values_fit, labelled_values_fit, value_fits, given_fits, abstraction_gives, abstraction_against, pattern_gives, fields_give, binders_give, patterns_give, labelled_patterns_give, pattern_against, fields_against, binders_against, patterns_against, labelled_patterns_against, declaration, declarations, signatures, signature, bodies, body, process, processes, receives, Signature, Body, process_body, value_body}
+use Rattle.pict_rules.specs.Rules.{Sort, Judgement, gives, has, is_condition, values_give, labelled_values_give, application, fields_fit, written_arguments, values_fit, labelled_values_fit, value_fits, given_fits, abstraction_gives, abstraction_against, declaration, declarations, signatures, signature, bodies, body, process, processes, receives, Signature, Body, process_body, value_body}
 use Rattle.pict_rules.specs.Typing.{rule}
-use Rattle.pict_rules.specs.Derivations.{Holds}
 use Rattle.pict_rules.specs.Reached.{Reached}
-use Rattle.pict_rules.specs.Regular.{IsLabelledOnce, IsRegular, IsAsked, IsGood, IsTypeIn}
-use Rattle.pict_scope.specs.DistinctLabels.{LabelledValsAreDistinct}
+use Rattle.pict_rules.specs.Regular.{IsTypeIn}
 use Rattle.pict_translation.specs.Placed.{Placed}
 use Rattle.pict_translation.specs.Simple.{Around, simple_chan}
 use Rattle.pict_translation.specs.Translation.{sending_chan, proc_core, procs_core, reader, dec_core, decs_core}
@@ -29,11 +26,11 @@ use Rattle.pict_typing.specs.Values.{HasType}
 use Rattle.pict_erase.specs.Embedding.{Grows}
 use Rattle.pict_opened.specs.Opening.{meaning}
 use Rattle.pict_opened.proofs.Reaching.{ResultProperty, Gives}
-use Rattle.pict_opened.proofs.FieldsOpen.{Each, meanings, label_meanings}
+use Rattle.pict_opened.proofs.FieldsOpen.{Each, label_meanings}
 use Rattle.pict_opened.proofs.PatternSteps.{first_types}
 use Rattle.pict_bridge.specs.Standing.{Stands, Sends}
 use Rattle.pict_bridge.specs.Realising.{around, Realises, IsSent}
-use Rattle.pict_bridge.proofs.SentLists.{AreSent, LabelsAreSent, types_list, labels_list}
+use Rattle.pict_bridge.proofs.SentLists.{AreSent, LabelsAreSent, labels_list}
 use Rattle.pict_bridge.proofs.FoundStays.{Stays}
 use Rattle.pict_bridge.proofs.Meant.{AreWithinBounds}
 

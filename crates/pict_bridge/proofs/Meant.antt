@@ -1,14 +1,13 @@
 -- The meanings of arguments: each may stand for its type field where the rules found it within the field's bound.
-use Rattle.std.proofs.Common.{◌≡◌, ℕ, zero, suc, ◌+◌, List, [], ◌∷◌, ◌++◌, map, length, refl, sym, ◌∙◌, ap, ap₂, subst, arith, length-append}
-use Rattle.std.proofs.lemmas.List.{map-append}
-use Rattle.pict_types.specs.Types.{PlainType, Top, Fields, PlainTypes, PlainLabels, PlainBound, Free, Below, Operator, PlainBounds, no_bound, bounds, PlainArg, Plain, Op, TypeContext}
+use Rattle.std.proofs.Common.{◌≡◌, ℕ, zero, suc, ◌+◌, List, [], ◌∷◌, ◌++◌, length, refl, sym, ◌∙◌, ap, subst}
+use Rattle.pict_types.specs.Types.{PlainType, Top, PlainTypes, PlainLabels, PlainBound, Free, Below, Operator, PlainBounds, no_bound, bounds, PlainArg, Plain, Op}
 use Rattle.pict_types.specs.Renaming.{beyond, beyond_times, rename, rename_types, rename_labels, rename_bound, rename_bounds}
-use Rattle.pict_types.specs.Replacing.{bound_by, Replacement, replace, replace_types, replace_labels, replace_bound, arguments, with_args, with_arg, no_replacement, type_in, head_in, rename_head, IsOfKind, FitTheirFields, instance_of}
-use Rattle.pict_types.specs.Kinds.{Kind, kinds, kind_at, with_parameters, IsWellFormed, ArgIsWellFormed}
+use Rattle.pict_types.specs.Replacing.{bound_by, Replacement, replace, replace_types, replace_labels, replace_bound, arguments, with_args, with_arg, type_in, rename_head, IsOfKind, FitTheirFields}
+use Rattle.pict_types.specs.Kinds.{kinds, kind_at, with_parameters, IsWellFormed, ArgIsWellFormed}
 use Rattle.pict_types.specs.Instances.{ArgsAreWellFormed}
-use Rattle.pict_types.proofs.Formed.{KeepsKinds, formed_renamed, keeps_beyond}
-use Rattle.pict_types.proofs.Replaced.{Crosses, replace_renamed, replace_types_renamed, replace_labels_renamed}
-use Rattle.pict_sub.specs.Subtyping.{IsSubtype, below_top}
+use Rattle.pict_types.proofs.Formed.{formed_renamed}
+use Rattle.pict_types.proofs.Replaced.{Crosses, replace_renamed, replace_types_renamed, replace_labels_renamed, beyond_after}
+use Rattle.pict_sub.specs.Subtyping.{IsSubtype}
 use Rattle.pict_core.specs.Term as core
 use Rattle.pict_typing.specs.Erasing.{erased, erased_types, erased_labels, erased_bound, erased_bounds}
 use Rattle.pict_typing.specs.Worlds.{World, MayStandFor, IsBelow}
@@ -16,11 +15,12 @@ use Rattle.pict_erase.specs.Embedding.{MayStandInOrder}
 use Rattle.pict_erase.proofs.Erased.{same_kinds, erased_arg, erased_args, arguments_erased, replace_erased, replace_types_erased, replace_labels_erased, arg_erased}
 use Rattle.pict_erase.proofs.Growing.{rename_arg, type_in_renamed, head_in_renamed, kinds_with}
 use Rattle.pict_rules.specs.Environments.{Environment, context_of}
-use Rattle.pict_rules.specs.Regular.{IsTypeIn, kinds_in}
+use Rattle.pict_rules.specs.Regular.{kinds_in}
 use Rattle.pict_opened.specs.Opening.{meaning}
 use Rattle.pict_opened.proofs.FieldsOpen.{meanings, label_meanings}
 use Rattle.pict_bridge.specs.Realising.{Realises}
 use Rattle.pict_bridge.proofs.Realised.{type_means, below_means}
+use Rattle.pict_rules.proofs.RegularArguments.{one_longer}
 
 -- an argument as it is meant
 abbrev pub meant : (ℕ → ℕ) → PlainArg → PlainArg
@@ -47,14 +47,10 @@ one_crosses {q = q} {r = r} {g = g} {f = f} a x = record { types_ = go; heads_ =
     go2 zero = head_in_renamed f a
     go2 (suc i) = x.heads_ i
 
-pub beyond_last : (n : ℕ) (g : ℕ → ℕ) → beyond_times n (beyond g) ≡ beyond (beyond_times n g)
-beyond_last zero g = refl
-beyond_last (suc n) g = ap beyond (beyond_last n g)
-
 args_cross : {q r : Replacement} {g f : ℕ → ℕ} (args : List PlainArg) → Crosses q r g f → Crosses (with_args (renamed_args f args) q) (with_args args r) (beyond_times (length args) g) f
 args_cross [] x = x
 args_cross {q = q} {r = r} {g = g} {f = f} (a ∷ args) x =
-    subst (λ k. Crosses (with_args (renamed_args f args) (with_arg (rename_arg f a) q)) (with_args args (with_arg a r)) k f) (beyond_last (length args) g) (args_cross args (one_crosses a x))
+    subst (λ k. Crosses (with_args (renamed_args f args) (with_arg (rename_arg f a) q)) (with_args args (with_arg a r)) k f) (beyond_after (length args) g) (args_cross args (one_crosses a x))
 
 arguments_cross : (f : ℕ → ℕ) (args : List PlainArg) → Crosses (arguments (renamed_args f args)) (arguments args) (beyond_times (length args) f) f
 arguments_cross f args = args_cross args (record { types_ = λ i. refl; heads_ = λ i. refl })
@@ -123,10 +119,6 @@ one_may {f = f} {w = w} (Below b) (Plain t) earlier r h k d =
 meant_last : (f : ℕ → ℕ) (earlier : List PlainArg) (a : PlainArg) → all_meant f (earlier ++ a ∷ []) ≡ all_meant f earlier ++ meant f a ∷ []
 meant_last f [] a = refl
 meant_last f (x ∷ earlier) a = ap (λ z. meant f x ∷ z) (meant_last f earlier a)
-
-one_longer : (earlier : List PlainArg) (a : PlainArg) → length (earlier ++ a ∷ []) ≡ suc (length earlier)
-one_longer [] a = refl
-one_longer (x ∷ earlier) a = ap suc (one_longer earlier a)
 
 pub may_stand : {e : Environment} {vs : List (ℕ × core.Val)} {f : ℕ → ℕ} {w : World} (bs : PlainBounds) (earlier args : List PlainArg) → Realises e vs f w → ArgsAreWellFormed e.names (kinds_in e) args → FitTheirFields args bs → AreWithinBounds e bs earlier args → MayStandInOrder w (all_meant f earlier) (all_meant f args) (rename_bounds (beyond_times (length earlier) f) (erased_bounds bs))
 may_stand no_bound earlier [] r h k d = tt

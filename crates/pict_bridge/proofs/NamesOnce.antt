@@ -1,5 +1,5 @@
 -- Where no rule of scopes fails, a pattern binds each name once, in whichever order its names are taken.
-use Rattle.std.proofs.Common.{◌≡◌, ◌≤◌, ℕ, zero, suc, ◌+◌, Bool, true, false, List, [], ◌∷◌, ◌++◌, map, Option, Some, None, refl, sym, ◌∙◌, ap, ap₂, subst, arith, nat_eq, eqb-true, inl, append-nil}
+use Rattle.std.proofs.Common.{◌≡◌, ◌≤◌, ℕ, ◌+◌, Bool, true, false, List, [], ◌∷◌, ◌++◌, Option, Some, None, refl, sym, ◌∙◌, ap, subst, arith, nat_eq, eqb-true, inl, append-nil}
 use Rattle.std.specs.Prelude.{if◌then◌else◌}
 use Rattle.std.specs.Ordering.{is_lt}
 use Rattle.std.proofs.lemmas.Bool.{eq-eqb}
@@ -7,10 +7,9 @@ use Rattle.pict_syntax.specs.declared.code.Code.TheVariants.{S3}
 use Rattle.pict_syntax.specs.declared.id.Id.{Id}
 use Rattle.pict_syntax.specs.Labels.{label_cmp, with_label, in_label_order}
 use Rattle.pict_syntax.specs.Trees.{RType, Pat, bind_pat, any_pat, fields_pat, fold_pat, FieldPats, field_pats, Pats, no_pats, more_pats, LabelledPats, no_labelled_pats, more_labelled_pats}
-use Rattle.pict_types.specs.Types.{PlainType}
 use Rattle.pict_binders.specs.declared.binders.Binder.{Binder}
 use Rattle.pict_binders.specs.Numbered.{nearest}
-use Rattle.pict_scope.specs.Around.{Around, with_values, with_value, before_pattern}
+use Rattle.pict_scope.specs.Around.{Around, before_pattern}
 use Rattle.pict_scope.specs.Marks.{stands_twice}
 use Rattle.pict_scope.specs.Outlines.{Outline, empty, ◌▸◌, closed, value_use, type_use, binds_value, binds_type, binds_all, defines, pattern_value, pattern_type, pattern, group, once, opens, marks, twice_if_bound}
 use Rattle.pict_scope.specs.Forms.{in_pat, in_field_pats, in_annotation}
@@ -19,7 +18,7 @@ use Rattle.pict_rules.specs.SameNames.{value_names, bound_names, EachMark, IsNoS
 use Rattle.pict_rules.proofs.SameNamesAsked.{left, right}
 use Rattle.pict_rules.proofs.BoundIds.{value_ids, field_value_ids, field_type_ids, pats_value_ids, labelled_value_ids}
 use Rattle.pict_rules.proofs.Names.{id_names, ids_of_both}
-use Rattle.pict_rules.proofs.Opened.{InPattern, binds_pat, binds_fields, then_binds, binds_none}
+use Rattle.pict_rules.proofs.Opened.{binds_pat, binds_fields, then_binds, binds_none}
 use Rattle.pict_rules.proofs.Kept.{pattern_keeps_annotation}
 use Rattle.pict_translation.specs.Patterns.{Opened, opened, all_opened, labelled_opened, pat_names, names_in, labelled_names_in, names_before, names_after}
 use Rattle.pict_opened.proofs.Ordered.{ordered_last}

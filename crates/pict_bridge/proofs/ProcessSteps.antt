@@ -1,12 +1,11 @@
 -- The steps of declarations and of processes.
-use Rattle.std.proofs.Common.{◌≡◌, ◌≤◌, ℕ, zero, suc, ◌+◌, Bool, true, false, List, [], ◌∷◌, ◌++◌, map, length, Option, Some, None, refl, sym, ◌∙◌, ap, subst}
+use Rattle.std.proofs.Common.{◌≡◌, ◌≤◌, ℕ, true, false, List, [], ◌∷◌, None, refl, sym, subst}
 use Rattle.pict_syntax.specs.declared.id.Id.{Id}
 use Rattle.pict_syntax.specs.declared.code.Code.TheVariants.{Y1, Y2, Y3, Y15}
 use Rattle.pict_syntax.specs.declared.span.Span.{Span}
 use Rattle.pict_syntax.specs.Grammar.{chan_span, type_span}
 use Rattle.pict_syntax.specs.Trees.{TypeTree, Pat, Val, of_chan, Chan, Abs, Dec, new_dec, run_dec, let_dec, def_dec, alias_dec, operator_dec, await_dec, Decs, no_decs, more_decs, Proc, send_proc, receive_proc, serve_proc, if_proc, inert_proc, group_proc, Procs, no_procs, more_procs}
 use Rattle.pict_types.specs.Types.{Capability, Both, Read, Write, Respond, PlainType, Boolean, Chan as Chan_, PlainArg}
-use Rattle.pict_core.specs.Term as core
 use Rattle.pict_normal.specs.Normal.{normal, kind_stop}
 use Rattle.pict_scope.specs.Scopes.{scope_stop}
 use Rattle.pict_sub.specs.Subtyping.{Rises, read_read, both_read, Falls, write_write, both_write, IsSubtype, same, upward, downward}
@@ -27,14 +26,13 @@ use Rattle.pict_rules.proofs.RegularExpanded.{expands_well}
 use Rattle.pict_rules.proofs.RegularProcesses.{exposed_formed}
 use Rattle.pict_scope.specs.Forms.{in_val}
 use Rattle.pict_translation.specs.Placed.{Placed, output, choice, side_by_side}
-use Rattle.pict_translation.specs.Arguments.{with_value}
 use Rattle.pict_translation.specs.Simple.{Around, simple, simple_chan}
 use Rattle.pict_translation.specs.Translation.{sending, sending_chan, reader, dec_core, decs_core, proc_core, procs_core}
 use Rattle.pict_typing.specs.Erasing.{erased_capability}
-use Rattle.pict_typing.specs.Worlds.{World, IsType}
+use Rattle.pict_typing.specs.Worlds.{World}
 use Rattle.pict_typing.specs.Processes as typed
 use Rattle.pict_opened.specs.Opening.{meaning}
-use Rattle.pict_opened.proofs.Reaching.{Gives, gives_, refuses, needs, parts, splits, ensures, unless, in_channels, in_boths}
+use Rattle.pict_opened.proofs.Reaching.{gives_, parts, splits, ensures, unless, in_channels, in_boths}
 use Rattle.pict_opened.proofs.FieldsOpen.{Each, each_last}
 use Rattle.pict_opened.proofs.PatternSteps.{patterns_open}
 use Rattle.pict_bridge.specs.Standing.{Stands, OnItsWay}
@@ -42,9 +40,9 @@ use Rattle.pict_bridge.specs.Realising.{around, Realises}
 use Rattle.pict_bridge.proofs.Standing.{has_longer, type_longer, way_up, with_stands}
 use Rattle.pict_bridge.proofs.NamesOnce.{times, pattern_once}
 use Rattle.pict_bridge.proofs.Realised.{type_means, below_means, realises_longer}
-use Rattle.pict_bridge.proofs.Judged.{Values, SentBy, ProcessStands, ProcessesStand, ReadsAt, Receives, Declares, IsSound, Step}
+use Rattle.pict_bridge.proofs.Judged.{Values, SentBy, ProcessStands, ProcessesStand, ReadsAt, Receives, Declares, Step}
 use Rattle.pict_opened.proofs.Rightly.{rightly, well}
-use Rattle.pict_bridge.proofs.DeclarationForms.{follows_longer, none_declared, more_declared, new_declared, run_declared, let_declared, await_declared, same_declared, def_declared}
+use Rattle.pict_bridge.proofs.DeclarationForms.{none_declared, more_declared, new_declared, run_declared, let_declared, await_declared, same_declared, def_declared}
 
 -- ---- declarations of types leave nothing
 

@@ -1,21 +1,21 @@
 -- Patterns of readers: what stands after a pattern stands where the pattern is read.
-use Rattle.std.proofs.Common.{◌≡◌, ◌≤◌, ℕ, zero, suc, ◌+◌, Bool, true, false, List, [], ◌∷◌, ◌++◌, map, length, get_or, Option, Some, None, refl, sym, ◌∙◌, ap, ap₂, subst, arith, length-append}
+use Rattle.std.proofs.Common.{◌≡◌, ◌≤◌, ℕ, suc, ◌+◌, Bool, List, [], ◌∷◌, ◌++◌, map, length, Option, Some, None, refl, sym, ◌∙◌, ap, subst, arith, length-append}
 use Rattle.std.specs.Prelude.{slice_get}
 use Rattle.std.proofs.lemmas.List.{length-map}
 use Rattle.pict_syntax.specs.declared.span.Span.{Span}
-use Rattle.pict_syntax.specs.Trees.{RType, TypeBinders, Pat, FieldPats, field_pats, Pats, LabelledPats, Val, Proc, Abs, process_abs, function_abs}
-use Rattle.pict_types.specs.Types.{Capability, Read, Write, Respond, PlainType, Chan, Fields, PlainTypes, no_type, types, PlainLabels, TypeContext}
+use Rattle.pict_syntax.specs.Trees.{RType, TypeBinders, Pat, FieldPats, field_pats, Pats, LabelledPats, Val, Proc, process_abs, function_abs}
+use Rattle.pict_types.specs.Types.{Capability, Read, Write, PlainType, Chan, Fields, PlainTypes, no_type, types, PlainLabels, TypeContext}
 use Rattle.pict_types.specs.Renaming.{rename, moved}
 use Rattle.pict_types.specs.Kinds.{Kind, IsWellFormed, AreWellFormed}
-use Rattle.pict_types.specs.Entries.{PlainContext, variables}
-use Rattle.pict_sub.specs.Subtyping.{Falls, write_write, IsSubtype, through, same, downward}
+use Rattle.pict_types.specs.Entries.{variables}
+use Rattle.pict_sub.specs.Subtyping.{Falls, IsSubtype, through, downward}
 use Rattle.pict_sub.proofs.Renamed.{weakened}
 use Rattle.pict_core.specs.Term as core
 use Rattle.pict_core.specs.Closed.{binds}
 use Rattle.pict_normal.specs.Normal.{and_type}
-use Rattle.pict_rules.specs.Environments.{Environment, Extension, KnownType, context_of, known_type, extended, entries_of, opened, bounds_of, within, shifted_by}
+use Rattle.pict_rules.specs.Environments.{Environment, Extension, KnownType, context_of, known_type, extended, opened, bounds_of, within, shifted_by}
 use Rattle.pict_rules.specs.Clauses.{with_own}
-use Rattle.pict_rules.specs.Regular.{IsTypeIn, kinds_in}
+use Rattle.pict_rules.specs.Regular.{IsTypeIn}
 use Rattle.pict_rules.specs.SameNames.{value_names}
 use Rattle.pict_rules.proofs.BoundIds.{value_ids, field_value_ids}
 use Rattle.pict_rules.proofs.Names.{id_names}
@@ -23,8 +23,8 @@ use Rattle.pict_rules.proofs.RegularFields.{own_kinds}
 use Rattle.pict_translation.specs.Placed as placed
 use Rattle.pict_translation.specs.Placed.{Placed, input}
 use Rattle.pict_translation.specs.Patterns.{pat_core, pat_names, function_pat, names_before, names_after}
-use Rattle.pict_translation.specs.Simple.{Around, bound, binding, pat_bound, function_bound, answer_channel, unit}
-use Rattle.pict_translation.specs.Translation.{sending, reader, proc_core}
+use Rattle.pict_translation.specs.Simple.{Around, binding, pat_bound, function_bound, answer_channel}
+use Rattle.pict_translation.specs.Translation.{sending, proc_core}
 use Rattle.pict_translation.proofs.PatternLemmas.{pattern_agrees, function_agrees}
 use Rattle.pict_typing.specs.Erasing.{erased, erased_capability}
 use Rattle.pict_typing.specs.Worlds as worlds

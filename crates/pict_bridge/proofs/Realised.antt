@@ -1,12 +1,11 @@
 -- What is realised in a world: meanings of types, in longer worlds, after a pattern and after a name.
-use Rattle.std.proofs.Common.{◌≡◌, ℕ, zero, suc, ◌+◌, Bool, true, false, List, [], ◌∷◌, ◌++◌, map, length, Option, Some, None, refl, sym, ◌∙◌, ap, subst, arith, nat_eq, eqb-true}
-use Rattle.std.specs.Prelude.{slice_get, option_map, if◌then◌else◌}
+use Rattle.std.proofs.Common.{◌≡◌, ℕ, ◌+◌, Bool, true, false, List, [], ◌∷◌, ◌++◌, map, length, Option, Some, None, refl, sym, ◌∙◌, ap, subst, nat_eq, eqb-true}
+use Rattle.std.specs.Prelude.{slice_get, option_map}
 use Rattle.std.proofs.lemmas.Bool.{eq-eqb}
 use Rattle.std.proofs.lemmas.List.{length-map}
 use Rattle.std.proofs.lemmas.Option.{slice_get-map}
-use Rattle.pict_types.specs.Types.{PlainType, Rec, TypeContext}
-use Rattle.pict_types.specs.Renaming.{rename, moved, beyond}
-use Rattle.pict_types.specs.Replacing.{unfolding_of}
+use Rattle.pict_types.specs.Types.{PlainType, TypeContext}
+use Rattle.pict_types.specs.Renaming.{rename, moved}
 use Rattle.pict_sub.specs.Subtyping.{IsSubtype}
 use Rattle.pict_sub.proofs.Renamed.{weakened}
 use Rattle.pict_core.specs.Term as core

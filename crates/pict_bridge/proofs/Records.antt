@@ -1,12 +1,12 @@
 -- Records of values on their way: of the types that their values have, and of record types with fewer labels.
-use Rattle.std.proofs.Common.{◌≡◌, ◌≢◌, ℕ, zero, suc, ◌+◌, Bool, true, false, nat_eq, List, [], ◌∷◌, ◌++◌, map, length, Option, Some, None, refl, sym, ◌∙◌, ap, ap₂, subst}
+use Rattle.std.proofs.Common.{◌≡◌, ℕ, true, false, nat_eq, List, Option, Some, None, refl, subst}
 use Rattle.std.specs.Prelude.{option_and_then, option_map}
 use Rattle.std.proofs.lemmas.Bool.{eq-eqb, ne_eqb}
 use Rattle.pict_syntax.specs.declared.span.Span.{Span}
 use Rattle.pict_syntax.specs.Labels.{in_label_order}
 use Rattle.pict_syntax.proofs.LabelLemmas.{other_label}
 use Rattle.pict_syntax.specs.Trees.{TypeTrees, Vals, LabelledVals, field_vals, fields_val}
-use Rattle.pict_types.specs.Types.{Write, PlainType, Chan, Fields, PlainTypes, no_type, types, PlainLabels, no_label, labels, no_bound, type_at, TypeContext}
+use Rattle.pict_types.specs.Types.{PlainType, Fields, PlainTypes, no_type, types, PlainLabels, no_label, labels, no_bound, type_at, TypeContext}
 use Rattle.pict_types.specs.Kinds.{Kind, kinds, AreWellFormed, LabelsAreWellFormed, StandsBeforeAll}
 use Rattle.pict_sub.specs.Subtyping.{IsSubtype, same, by_fields, AreSubtypes, none, more, HasLabels, has_none, has_label}
 use Rattle.pict_core.specs.Term as core
@@ -18,13 +18,13 @@ use Rattle.pict_translation.specs.Arguments.{labelled_of}
 use Rattle.pict_translation.specs.Simple.{Around, fields_of, simple, simple_vals, simple_labelled}
 use Rattle.pict_translation.specs.Translation.{sending, with_fields, with_labelled}
 use Rattle.pict_typing.specs.Worlds.{World, IsType}
-use Rattle.pict_typing.specs.Values.{HasType, record_has, raised}
+use Rattle.pict_typing.specs.Values.{HasType, record_has}
 use Rattle.pict_typing.specs.Processes as typed
 use Rattle.pict_typing.specs.Processes.{AreClosedTypes}
 use Rattle.pict_bridge.specs.Standing.{Stands, Longer, Sends, OnItsWay}
 use Rattle.pict_bridge.specs.Realising.{IsSent}
 use Rattle.pict_bridge.proofs.Standing.{not_longer, longer_more, has_longer, type_longer, closed_longer}
-use Rattle.pict_bridge.proofs.SentLists.{HaveAll, HaveAtLabels, HaveWhereSome, LabelsWhereSome, all_longer, AreSent, LabelsAreSent, values_stand, labels_stand, all_sent_longer, labels_sent_longer, simple_have, simple_labels_have, types_list, labels_list, have_types, have_labels, have_in_order, labels_once, distinct_record, sent_types, sent_labels}
+use Rattle.pict_bridge.proofs.SentLists.{HaveAll, HaveAtLabels, HaveWhereSome, LabelsWhereSome, all_longer, AreSent, LabelsAreSent, values_stand, labels_stand, all_sent_longer, labels_sent_longer, simple_have, simple_labels_have, types_list, labels_list, have_types, have_labels, have_in_order, labels_once, distinct_record, sent_labels}
 
 -- ---- record types
 

@@ -1,5 +1,5 @@
 -- From source to core: all that the rules reach from a program holds of its core, and so the core is typed.
-use Rattle.std.proofs.Common.{◌≡◌, ℕ, List, [], None, Some, refl}
+use Rattle.std.proofs.Common.{◌≡◌, ℕ, List, [], None, refl}
 use Rattle.pict_syntax.specs.Trees.{Decs}
 use Rattle.pict_core.specs.Term as core
 use Rattle.pict_scope.specs.Scopes.{scope_stop}
@@ -7,7 +7,7 @@ use Rattle.pict_rules.specs.Environments.{Environment, no_environment}
 use Rattle.pict_rules.specs.Rules.{Sort, Judgement, gives, has, is_condition, values_give, labelled_values_give, application, fields_fit, written_arguments, values_fit, labelled_values_fit, value_fits, given_fits, abstraction_gives, abstraction_against, pattern_gives, fields_give, binders_give, patterns_give, labelled_patterns_give, pattern_against, fields_against, binders_against, patterns_against, labelled_patterns_against, declaration, declarations, signatures, signature, bodies, body, process, processes, receives}
 use Rattle.pict_rules.specs.Reached.{whole}
 use Rattle.pict_translation.specs.Translation.{decs_core}
-use Rattle.pict_typing.specs.Worlds.{World, over}
+use Rattle.pict_typing.specs.Worlds.{over}
 use Rattle.pict_typing.specs.Processes as typed
 use Rattle.pict_opened.proofs.Opened.{embeds_same}
 use Rattle.pict_opened.proofs.Reaching.{any_lines, by_steps}

@@ -1,7 +1,6 @@
 -- Worlds with further variables, and values on their way into a process.
-use Rattle.std.proofs.Common.{◌≡◌, ℕ, zero, suc, ◌+◌, List, [], ◌∷◌, ◌++◌, map, length, true, refl, sym, ◌∙◌, ap, ap₂, subst, Option, Some, None, arith, append_assoc, append-nil, length-append}
-use Rattle.std.specs.Prelude.{slice_get}
-use Rattle.pict_types.specs.Types.{Both, Read, Write, PlainType, Chan, Below, TypeContext}
+use Rattle.std.proofs.Common.{◌≡◌, ◌+◌, List, [], ◌∷◌, ◌++◌, map, length, true, refl, sym, ◌∙◌, ap, ap₂, subst, Option, Some, None, arith, append_assoc, append-nil, length-append}
+use Rattle.pict_types.specs.Types.{Both, Read, Write, PlainType, Chan}
 use Rattle.pict_types.specs.Renaming.{rename}
 use Rattle.pict_types.proofs.Renamed.{rename_same}
 use Rattle.pict_sub.specs.Subtyping.{IsSubtype, same, upward, downward, both_read, both_write, write_write}
@@ -14,11 +13,12 @@ use Rattle.pict_typing.specs.Processes as typed
 use Rattle.pict_typing.specs.Processes.{IsTyped, AreClosedTypes}
 use Rattle.pict_translation.specs.Placed.{Placed}
 use Rattle.pict_translation.specs.Arguments.{with_value}
-use Rattle.pict_erase.specs.Embedding.{Embeds, Grows}
+use Rattle.pict_erase.specs.Embedding.{Grows}
 use Rattle.pict_erase.proofs.Growing.{value_grown}
 use Rattle.pict_opened.proofs.Opened.{embeds_same}
 use Rattle.pict_bridge.specs.Standing.{Stands, Longer, Sends, Takes, OnItsWay}
 use Rattle.pict_typing.proofs.ValuesPut.{stays_before}
+use Rattle.pict_typing.proofs.Rows.{last_message}
 
 -- ---- longer worlds
 
@@ -71,10 +71,6 @@ way_up w s t (Some u) sent f g d h = raised s f g h d
 
 -- ---- with v as x, E
 
-last_variable : (vs : List PlainType) (t : PlainType) → slice_get (vs ++ t ∷ []) (length vs) ≡ Some t
-last_variable [] t = refl
-last_variable (v ∷ vs) t = last_variable vs t
-
 pub same_shift : (ts : List PlainType) → map (shifted 0) ts ≡ ts
 same_shift [] = refl
 same_shift (t ∷ ts) = ap₂ (λ a b. a ∷ b) (rename_same t (record { each = λ j. omega arith })) (same_shift ts)
@@ -84,7 +80,7 @@ pub one_longer : (t : PlainType) (w : World) → Longer w (with_variable t w)
 one_longer t w = record { further = t ∷ []; is = refl }
 
 pub last_has : (t : PlainType) (w : World) → HasType (with_variable t w) (core.Var (length w.variables)) t
-last_has t w = variable_has (last_variable w.variables t)
+last_has t w = variable_has (last_message w.variables t)
 
 pub count_more : (t : PlainType) (w : World) → length (with_variable t w).variables ≡ length w.variables + 1
 count_more t w = length-append w.variables (t ∷ [])

@@ -1,9 +1,9 @@
 -- Values, form by form: what the parts give carries over to the whole.
-use Rattle.std.proofs.Common.{◌≡◌, ℕ, zero, suc, ◌+◌, Bool, true, false, List, [], ◌∷◌, ◌++◌, map, length, Option, Some, None, refl, sym, ◌∙◌, ap, subst, append_assoc, append-nil, arith}
+use Rattle.std.proofs.Common.{◌≡◌, ℕ, ◌+◌, true, false, List, [], ◌∷◌, ◌++◌, map, length, Option, Some, None, refl, sym, ◌∙◌, ap, subst, append_assoc, append-nil, arith}
 use Rattle.pict_syntax.specs.declared.id.Id.{Id}
 use Rattle.pict_syntax.specs.declared.span.Span.{Span}
-use Rattle.pict_syntax.specs.Trees.{RType, Abs, Decs, use_chan, fold_chan, block_chan, apply_chan, right_chan, left_chan, Val, of_chan, true_val, if_val, lambda_val, Vals, no_vals, more_vals}
-use Rattle.pict_types.specs.Types.{Both, Read, Write, Respond, PlainType, Boolean, Chan, Rec}
+use Rattle.pict_syntax.specs.Trees.{RType, Abs, Decs, fold_chan, block_chan, right_chan, left_chan, Val, of_chan, true_val, if_val, lambda_val, Vals, no_vals, more_vals}
+use Rattle.pict_types.specs.Types.{Both, Write, PlainType, Boolean, Chan, Rec}
 use Rattle.pict_types.specs.Replacing.{unfolding_of}
 use Rattle.pict_types.specs.Renaming.{rename, moved}
 use Rattle.pict_types.specs.Mentions.{mentions_innermost, lowered}
@@ -12,23 +12,23 @@ use Rattle.pict_core.specs.Term as core
 use Rattle.pict_rules.specs.Shapes.{vals_onto, applied_to, right_nested, left_nested, from_first}
 use Rattle.pict_rules.specs.Environments.{Environment, context_of, opened_since, shifted_by}
 use Rattle.pict_rules.specs.Regular.{IsTypeIn}
-use Rattle.pict_translation.specs.Placed.{Placed, output, choice, beside}
-use Rattle.pict_translation.specs.Arguments.{Argument, argument, with_value, sent_as_one, application, right, left, left_after, no_argument}
+use Rattle.pict_translation.specs.Placed.{output, choice, beside}
+use Rattle.pict_translation.specs.Arguments.{Argument, argument, sent_as_one, application, right, left, left_after, no_argument}
 use Rattle.pict_translation.specs.Simple.{Around, use_of, simple}
-use Rattle.pict_translation.specs.Translation.{sending, sending_chan, arguments, reader, decs_core}
+use Rattle.pict_translation.specs.Translation.{sending, arguments, reader, decs_core}
 use Rattle.pict_typing.specs.Worlds.{World, IsType, with_variable, shifted}
-use Rattle.pict_typing.specs.Values.{HasType, boolean_has, folded, sends_unfolding}
+use Rattle.pict_typing.specs.Values.{HasType, folded, sends_unfolding}
 use Rattle.pict_typing.specs.Processes as typed
 use Rattle.pict_typing.specs.Processes.{AreClosedTypes}
 use Rattle.pict_erase.proofs.Growing.{value_grown}
 use Rattle.pict_opened.specs.Opening.{meaning}
 use Rattle.pict_opened.proofs.PatternSteps.{unfolding_means}
-use Rattle.pict_bridge.specs.Standing.{Stands, Longer, Sends, OnItsWay}
+use Rattle.pict_bridge.specs.Standing.{Stands, Sends, OnItsWay}
 use Rattle.pict_bridge.specs.Realising.{around, Realises, IsSent}
-use Rattle.pict_bridge.proofs.Standing.{not_longer, longer_more, has_longer, type_longer, closed_longer, sends_longer, way_longer, with_stands, one_longer, last_sends, last_receives}
+use Rattle.pict_bridge.proofs.Standing.{not_longer, has_longer, type_longer, with_stands, one_longer, last_sends, last_receives}
 use Rattle.pict_bridge.proofs.Realised.{type_means, realises_longer, meaning_later}
-use Rattle.pict_bridge.proofs.Judged.{Values, SentBy, ReadsAt, Follows, Declares}
-use Rattle.pict_bridge.proofs.Whole.{whole_sends, only_sent, new_stands}
+use Rattle.pict_bridge.proofs.Judged.{Values, SentBy, ReadsAt, Declares}
+use Rattle.pict_bridge.proofs.Whole.{whole_sends, new_stands}
 
 -- ---- if c then v else w
 

@@ -1,19 +1,17 @@
 -- The steps of values: what the rules find of a value holds of what sends it.
-use Rattle.std.proofs.Common.{◌≡◌, ℕ, zero, suc, Bool, true, false, List, [], ◌∷◌, Option, Some, None, refl, sym, ◌∙◌, subst, ℤ, ◌⊎◌, inl, inr}
+use Rattle.std.proofs.Common.{◌≡◌, ℕ, true, false, List, Some, None, refl, sym, subst, ℤ, ◌⊎◌, inl, inr}
 use Rattle.pict_syntax.specs.declared.code.Code.{Code}
 use Rattle.pict_syntax.specs.declared.code.Code.TheVariants.{Y14}
 use Rattle.pict_syntax.specs.declared.name.Name.{Name}
 use Rattle.pict_syntax.specs.declared.span.Span.{Span}
-use Rattle.pict_syntax.specs.Grammar.{val_span}
 use Rattle.pict_syntax.specs.Trees.{Decs, use_chan, fold_chan, block_chan, apply_chan, right_chan, left_chan, Val, of_chan, number_val, character_val, string_val, true_val, false_val, fields_val, if_val, lambda_val, Vals, LabelledVals, FieldVals, field_vals, Abs}
-use Rattle.pict_types.specs.Types.{Write, Respond, PlainType, Int, Char, Str, Boolean, Chan, Fields, Rec, no_bound, PlainTypes, PlainLabels, PlainBounds}
-use Rattle.pict_types.specs.Replacing.{unfolding_of}
+use Rattle.pict_types.specs.Types.{Write, Respond, PlainType, Int, Char, Str, Boolean, Chan, Fields, no_bound, PlainTypes, PlainLabels}
 use Rattle.pict_normal.specs.Normal.{normal, kind_stop}
 use Rattle.pict_scope.specs.Scopes.{scope_stop}
 use Rattle.pict_core.specs.Term as core
 use Rattle.pict_rules.specs.Shapes.{none_written}
-use Rattle.pict_rules.specs.Environments.{Environment, context_of, opened_since, type_of_use}
-use Rattle.pict_rules.specs.Rules.{nothing_, type_, Result, gives, has, is_condition, values_give, labelled_values_give, give}
+use Rattle.pict_rules.specs.Environments.{Environment, opened_since, type_of_use}
+use Rattle.pict_rules.specs.Rules.{nothing_, type_, gives, has, is_condition, values_give, labelled_values_give}
 use Rattle.pict_rules.specs.Clauses.{gives_below}
 use Rattle.pict_rules.specs.Regular.{IsTypeIn, IsGood}
 use Rattle.pict_rules.proofs.RegularExpanded.{expands_well}
@@ -26,7 +24,7 @@ use Rattle.pict_bridge.specs.Realising.{around}
 use Rattle.pict_bridge.proofs.Realised.{type_means}
 use Rattle.pict_bridge.proofs.Judged.{SentBy, ReadsAt, ApplicationSent, IsExpectedAbove, IsSound, Step}
 use Rattle.pict_opened.proofs.Rightly.{rightly, well}
-use Rattle.pict_bridge.proofs.Whole.{whole_sends, only_sent, sent_above, use_has}
+use Rattle.pict_bridge.proofs.Whole.{whole_sends, sent_above, use_has}
 use Rattle.pict_bridge.proofs.ValueForms.{if_sent_by, lambda_sent_by, fold_sent_by, block_given, block_had, right_sent_by, left_sent_by}
 use Rattle.pict_bridge.proofs.FieldForms.{stand_once, fields_had, fields_given}
 

@@ -1,12 +1,11 @@
 -- Values that are sent whole, uses, and values of a type below another one.
-use Rattle.std.proofs.Common.{◌≡◌, ℕ, zero, suc, ◌+◌, true, List, [], ◌∷◌, length, Option, Some, None, refl, sym, ◌∙◌, ap, subst}
+use Rattle.std.proofs.Common.{◌≡◌, ℕ, List, length, Option, Some, None, refl, sym, subst}
 use Rattle.std.specs.Prelude.{option_map, unwrap_or}
 use Rattle.pict_syntax.specs.declared.span.Span.{Span}
 use Rattle.pict_syntax.specs.declared.primitive.Primitive.{Primitive}
 use Rattle.pict_syntax.specs.Names.{text_of}
 use Rattle.pict_syntax.specs.Trees.{Val}
-use Rattle.pict_types.specs.Types.{Both, Write, PlainType, Top, Chan, Fields, no_type, no_label, no_bound}
-use Rattle.pict_types.specs.Renaming.{rename}
+use Rattle.pict_types.specs.Types.{Both, Write, PlainType, Chan, Fields, no_type, no_label, no_bound}
 use Rattle.pict_types.specs.PrimitiveTypes.{takes, type_of}
 use Rattle.pict_sub.specs.Subtyping.{IsSubtype, below_top}
 use Rattle.pict_core.specs.Term as core
@@ -24,8 +23,8 @@ use Rattle.pict_typing.specs.Processes.{IsTyped, AreClosedTypes}
 use Rattle.pict_typing.proofs.Closed.{closed_renamed}
 use Rattle.pict_typing.proofs.Forms.{takes_type}
 use Rattle.pict_opened.specs.Opening.{meaning}
-use Rattle.pict_bridge.specs.Standing.{Stands, Longer, Sends, OnItsWay}
-use Rattle.pict_bridge.specs.Realising.{around, Realises, IsRealised, IsSent}
+use Rattle.pict_bridge.specs.Standing.{Stands, Sends, OnItsWay}
+use Rattle.pict_bridge.specs.Realising.{around, Realises, IsSent}
 use Rattle.pict_bridge.proofs.Standing.{has_longer, type_longer, sends_up, way_up, count_more}
 use Rattle.pict_bridge.proofs.Realised.{type_means, below_means}
 use Rattle.pict_bridge.proofs.Judged.{Values, SentBy}

@@ -1,5 +1,5 @@
 -- Processes by the number of variables around them, in worlds with so many: what stands, what is sent, what is on its way.
-use Rattle.std.specs.Prelude.{◌≡◌, ℕ, List, ◌++◌, length, Option, Some, None}
+use Rattle.std.specs.Prelude.{◌≡◌, List, ◌++◌, length, Option, Some, None}
 use Rattle.pict_types.specs.Types.{Write, PlainType, Chan}
 use Rattle.pict_core.specs.Term.{Val}
 use Rattle.pict_typing.specs.Worlds.{World}
