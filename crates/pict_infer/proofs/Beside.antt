@@ -10,13 +10,14 @@ use Rattle.pict_infer.specs.declared.added.Added.{Added}
 use Rattle.pict_infer.specs.Knowing.{known_value, known_values, known_types, deepest}
 use Rattle.pict_infer.specs.Beside.{IsMovedPast, AreSideBySide}
 use Rattle.pict_infer.specs.Adding.{extension_of}
-use Rattle.pict_infer.proofs.Depths.{unmoved, kept_joins, kept_outside, values_more, types_length, deepest_one, values_opened}
+use Rattle.pict_infer.proofs.Depths.{kept_joins, kept_outside, values_more, types_length, deepest_one, values_opened}
+use Rattle.pict_types.proofs.Past.{not_moved}
 
 -- a value that no variable comes before
 pub past_none : (base more : ℕ) (v : Known) → v.depth ≤ base + more → IsMovedPast base 0 more v v
 past_none base more v h = record {
   names = refl;
-  types_ = ap (λ n. shifted_by (n - v.depth) (plain v.has)) (omega arith) ∙ sym (unmoved more (shifted_by (base + more - v.depth) (plain v.has)));
+  types_ = ap (λ n. shifted_by (n - v.depth) (plain v.has)) (omega arith) ∙ sym (not_moved more (shifted_by (base + more - v.depth) (plain v.has)));
   placed = omega (arith, h);
 }
 
@@ -64,7 +65,7 @@ extension bs cs vs ws p q = ap₂ (λ (b : List KnownType) (v : List KnownValue)
 pub value_here : (n : ℕ) (v : Known) → v.depth ≡ n → known_value n v ≡ record { name = v.name.0; has = plain v.has }
 value_here n v h =
     let zero_left : n - v.depth ≡ 0 = omega (arith, h) in
-    ap (λ (t : PlainType). let z : KnownValue = record { name = v.name.0; has = t } in z) (ap (λ i. shifted_by i (plain v.has)) zero_left ∙ unmoved 0 (plain v.has))
+    ap (λ (t : PlainType). let z : KnownValue = record { name = v.name.0; has = t } in z) (ap (λ i. shifted_by i (plain v.has)) zero_left ∙ not_moved 0 (plain v.has))
 
 pub value_alone : (base : ℕ) (bs : List Binder) (vs : List Known) (v : Known) → bs ≡ [] → vs ≡ v ∷ [] → v.depth ≡ base → (let x : Extension = record { binders = known_types bs; values = known_values (base + length bs) vs } in x) ≡ record { binders = []; values = record { name = v.name.0; has = plain v.has } ∷ [] }
 value_alone base bs vs v p q h =

@@ -7,7 +7,7 @@ use Rattle.pict_types.specs.Plain.{plain}
 use Rattle.pict_types.specs.Renaming.{rename, rename_bound, moved, plus}
 use Rattle.pict_types.proofs.Entries.{last_first}
 use Rattle.pict_types.proofs.Moving.{times_low, times_high}
-use Rattle.pict_types.proofs.Renamed.{Stays, stays_beyond, rename_same, bound_same, renamed_twice, renamed_alike}
+use Rattle.pict_types.proofs.Renamed.{Stays, stays_beyond, bound_same, renamed_twice, renamed_alike}
 use Rattle.pict_rules.specs.Environments.{KnownValue, rename_values, shifted_by}
 use Rattle.pict_infer.specs.declared.known.Known.{Known}
 use Rattle.pict_infer.specs.declared.known.Binder.{Binder}
@@ -23,9 +23,6 @@ moved_high k d i h = omega (arith, times_high (plus k) d i h)
 pub stays_moved : (d : ℕ) → Stays (moved 0 d)
 stays_moved zero = record { each = λ i. omega arith }
 stays_moved (suc d) = stays_beyond (stays_moved d)
-
-pub unmoved : (d : ℕ) (t : PlainType) → rename (moved 0 d) t ≡ t
-unmoved d t = rename_same t (stays_moved d)
 
 pub bound_unmoved : (d : ℕ) (b : PlainBound) → rename_bound (moved 0 d) b ≡ b
 bound_unmoved d b = bound_same b (stays_moved d)
@@ -51,15 +48,8 @@ kept_outside k m n t h = renamed_twice t (record { each = λ i. moved_high k m (
 pub values_more : (n : ℕ) (vs : List Known) (v : Known) → known_values n (vs ++ v ∷ []) ≡ known_value n v ∷ known_values n vs
 values_more n vs v = last_first (known_value n) vs v
 
-pub types_more : (bs : List Binder) (b : Binder) → known_types (bs ++ b ∷ []) ≡ known_type b ∷ known_types bs
-types_more bs b = last_first known_type bs b
-
 pub names_more : (vs : List Known) (v : Known) → names_known (vs ++ v ∷ []) ≡ v.name.0 ∷ names_known vs
 names_more vs v = last_first (λ v. v.name.0) vs v
-
--- and others
-pub types_both : (bs cs : List Binder) → known_types (bs ++ cs) ≡ known_types cs ++ known_types bs
-types_both bs cs = ap reverse (map-append known_type bs cs) ∙ reverse-append (map known_type bs) (map known_type cs)
 
 pub values_both : (n : ℕ) (vs ws : List Known) → known_values n (vs ++ ws) ≡ known_values n ws ++ known_values n vs
 values_both n vs ws = ap reverse (map-append (known_value n) vs ws) ∙ reverse-append (map (known_value n) vs) (map (known_value n) ws)

@@ -1,6 +1,6 @@
 -- Steps that form types: expansion, limits, subtypes and unfoldings.
-use Rattle.std.proofs.Common.{◌≡◌, ◌≤◌, ◌<◌, ℕ, Bool, true, false, Option, Some, None, refl, sym, ◌∙◌, ap, subst, arith, ◌≢◌, ◌↔◌, ◌||◌, if◌then◌else◌}
-use Rattle.std.specs.Prelude.{nat_lt, IfNone, IfSome}
+use Rattle.std.proofs.Common.{◌≡◌, ◌≤◌, ◌<◌, ℕ, Bool, true, false, Option, Some, None, refl, sym, ◌∙◌, ap, subst, arith, ◌≢◌, ◌↔◌}
+use Rattle.std.specs.Prelude.{IfNone, IfSome}
 use borrow.Author.Tests.{ltb-true}
 use Rattle.pict_syntax.specs.declared.code.Code.TheVariants.{K4, Y13}
 use Rattle.pict_syntax.specs.declared.span.Span.{Span}
@@ -16,7 +16,7 @@ use Rattle.pict_types.specs.Measures.{weight_of, height_of}
 use Rattle.pict_types.specs.Entries.{PlainContext, variables}
 use Rattle.pict_normal.specs.declared.stops.KindError.{KindError}
 use Rattle.pict_normal.specs.declared.stops.KindError.TheVariants.{Named as KindNamed, Memory as KindMemory}
-use Rattle.pict_normal.specs.Normal.{Stop, size_stop}
+use Rattle.pict_normal.specs.Normal.{size_stop, Stop}
 use Rattle.pict_normal.specs.Refusals.{IsRefusal}
 use Rattle.pict_normal.proofs.Expanded.{too_big}
 use Rattle.pict_sub.specs.Exposing.{exposure}
@@ -49,17 +49,6 @@ expanded_ok o n u h e = clear {s = type_} o h (subst (λ (v : PlainType). Runs {
 
 pub expanded_err : (o : Option Stop) (n : PlainType) (e : KindError) → IsRefusal o e → IsRefused {s = type_} (unless_stopped o (give n)) (of_kind_error e)
 expanded_err o n e h = stopped {s = type_} o (give n) (of_kind_error e) (stopped_by o e h)
-
--- the limits
-whole : Bool → Bool → Span → Option Stop
-whole a b s = if a || b then Some (K4, s) else None
-
-not_past : (m n : ℕ) → n ≤ m → nat_lt m n ≡ false
-not_past m n h = go (nat_lt m n) refl
-  where
-    go : (b : Bool) → nat_lt m n ≡ b → b ≡ false
-    go false e = refl
-    go true e = absurd (omega (arith, h, ltb-true m n e))
 
 pub size_past : (c : PlainContext) (t : PlainType) (s : Span) → (weight_of (variables c) t ≤ 100000 → height_of (variables c) t ≤ 1000 → ⊥) → IsStopped (size_stop c t s) (Named K4 s)
 size_past c t s h = too_big c t s h

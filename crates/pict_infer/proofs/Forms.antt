@@ -1,17 +1,17 @@
 -- What each form of a pattern stands for, and lists of patterns.
-use Rattle.std.proofs.Common.{◌≡◌, ℕ, ◌+◌, ◌<◌, List, [], ◌∷◌, None, ◌++◌, length, take, get_or, refl, sym, ◌∙◌, ap, Box, Global, arith, add-one, take-suc}
+use Rattle.std.proofs.Common.{◌≡◌, ℕ, ◌+◌, ◌<◌, List, [], ◌∷◌, None, ◌++◌, length, take, get_or, refl, sym, ◌∙◌, ap, Box, Global, arith}
 use Rattle.pict_syntax.specs.declared.span.Span.{Span}
 use Rattle.pict_syntax.specs.declared.id.Id.{Id}
 use Rattle.pict_syntax.specs.declared.type_tree.RType.{RType}
 use Rattle.pict_syntax.specs.declared.type_tree.TypeBinder.{TypeBinder}
 use Rattle.pict_syntax.specs.declared.pattern.Pat.{Pat, Bind, Any, Fields, Fold}
-use Rattle.pict_syntax.specs.declared.pattern.Pat.TheViews.{out-FieldPats, roll-out-FieldPats}
+use Rattle.pict_syntax.specs.declared.pattern.Pat.TheViews.{out-FieldPats}
 use Rattle.pict_syntax.specs.declared.pattern.FieldPats.{FieldPats}
 use Rattle.pict_syntax.specs.declared.pattern.LabelledPat.{LabelledPat}
 use Rattle.pict_syntax.specs.Trees as trees
 use Rattle.pict_syntax.specs.Trees.{bind_pat, any_pat, fields_pat, fold_pat, field_pats, no_binders, more_binders, no_pats, more_pats, no_labelled_pats, more_labelled_pats}
 use Rattle.pict_syntax.specs.PlainTrees.{annotation_of, held_annotation, pat_of, field_pats_of, binder_of, binders_on, pats_on, labelled_pats_on}
-use Rattle.pict_syntax.proofs.PatternLists.{pats_more, labelled_pats_more, field_pats_is}
+use Rattle.pict_syntax.proofs.PatternLists.{pats_more, labelled_pats_more}
 use Rattle.pict_syntax.proofs.TypeLists.{binders_more}
 use Rattle.pict_types.specs.declared.types.Bound.{Bound}
 use Rattle.pict_types.specs.declared.types.Ty.{Ty}
@@ -20,6 +20,8 @@ use Rattle.pict_types.specs.Types.{count_bounds, count_types}
 use Rattle.pict_types.proofs.Congruent.{three}
 use Rattle.pict_types.proofs.Rows.{count_bounds_length, count_types_length}
 use Rattle.pict_rules.specs.Counts.{count_pats, count_binders}
+use Rattle.pict_scope.proofs.PatternForms.{field_pats_are}
+use Rattle.pict_scope.proofs.Reading.{taken}
 
 pub bind_is : (p : Pat) (s : Span) (x : Id) (r : RType) → p ≡ Bind s x r → pat_of p ≡ bind_pat s x (annotation_of r)
 unfolding pat_of
@@ -41,18 +43,11 @@ fold_is p s r q is = ap pat_of is
 pub not_annotated : (r : RType) → r.of ≡ None → annotation_of r ≡ None
 not_annotated r is = ap held_annotation is
 
-pub parts_are : (f : FieldPats) → field_pats_of f ≡ field_pats (binders_on no_binders (out-FieldPats f).binders.items) (pats_on no_pats (out-FieldPats f).positional.items) (labelled_pats_on no_labelled_pats (out-FieldPats f).labelled.items)
-parts_are f = ap field_pats_of (sym (roll-out-FieldPats f)) ∙ field_pats_is (out-FieldPats f).binders (out-FieldPats f).positional (out-FieldPats f).labelled
-
 -- the parts of fields, as the code reads them
 pub parts_read : (f : FieldPats) (xs : List TypeBinder) (ys : List Pat) (zs : List LabelledPat) → xs ≡ (out-FieldPats f).binders.items → ys ≡ (out-FieldPats f).positional.items → zs ≡ (out-FieldPats f).labelled.items
     → field_pats_of f ≡ field_pats (binders_on no_binders xs) (pats_on no_pats ys) (labelled_pats_on no_labelled_pats zs)
 parts_read f xs ys zs p q r =
-    parts_are f ∙ three (λ (us : List TypeBinder) (vs : List Pat) (ws : List LabelledPat). field_pats (binders_on no_binders us) (pats_on no_pats vs) (labelled_pats_on no_labelled_pats ws)) (sym p) (sym q) (sym r)
-
--- one more of a list
-pub taken : {A : Type 0} (xs : List A) (i : ℕ) (x : A) → i < length xs → x ≡ get_or xs i x → take (i + 1) xs ≡ take i xs ++ x ∷ []
-taken xs i x h is = rw add-one (take-suc xs i x h ∙ ap (λ z. take i xs ++ z ∷ []) (sym is))
+    field_pats_are f ∙ three (λ (us : List TypeBinder) (vs : List Pat) (ws : List LabelledPat). field_pats (binders_on no_binders us) (pats_on no_pats vs) (labelled_pats_on no_labelled_pats ws)) (sym p) (sym q) (sym r)
 
 pub next_binder : (xs : List TypeBinder) (i : ℕ) (x : TypeBinder) → i < length xs → x ≡ get_or xs i x → binders_on no_binders (take (i + 1) xs) ≡ more_binders (binders_on no_binders (take i xs)) (binder_of x)
 next_binder xs i x h is = ap (binders_on no_binders) (taken xs i x h is) ∙ binders_more no_binders (take i xs) x

@@ -3,7 +3,7 @@ use Rattle.std.proofs.Common.{◌≡◌, ◌<◌, ℕ, List, length, get_or, sym
 use Rattle.pict_syntax.specs.declared.span.Span.{Span}
 use Rattle.pict_syntax.specs.declared.pattern.Pat.{Pat as RPat}
 use Rattle.pict_syntax.specs.declared.pattern.LabelledPat.{LabelledPat as RLabelledPat}
-use Rattle.pict_syntax.specs.Trees.{RType, Pat, fields_pat, fold_pat, FieldPats, field_pats, TypeBinders, Pats, no_pats, LabelledPats, no_labelled_pats}
+use Rattle.pict_syntax.specs.Trees.{RType, Pat, fold_pat, field_pats, TypeBinders, Pats, no_pats, LabelledPats, no_labelled_pats}
 use Rattle.pict_syntax.specs.PlainTrees.{pat_of, pats_on, labelled_pats_on}
 use Rattle.pict_types.specs.Types.{PlainType}
 use Rattle.pict_rules.specs.Environments.{Environment, KnownType}
@@ -31,9 +31,6 @@ refused_in j y d e h = subst (λ f. IsRefused (rule f j) y) h
 
 pub inner_asked : (e : Environment) (s : Span) (a : RType) (p : Pat) (u : PlainType) → IsWellAsked pattern_ e (pattern_gives (fold_pat s a p)) → IsTypeIn e u → IsWellAsked extension_ e (pattern_against p u)
 inner_asked e s a p u h t = record { labels = h.labels.1; regular = h.regular; asked = t }
-
-pub fields_asked : (e : Environment) (s : Span) (f : FieldPats) → IsWellAsked pattern_ e (pattern_gives (fields_pat s f)) → IsWellAsked fields_ e (fields_give f)
-fields_asked e s f h = record { labels = h.labels; regular = h.regular; asked = tt }
 
 pub binders_asked : (e : Environment) (bs : TypeBinders) (ps : Pats) (ls : LabelledPats) → IsWellAsked fields_ e (fields_give (field_pats bs ps ls)) → IsWellAsked binders_ e (binders_give bs)
 binders_asked e bs ps ls h = record { labels = h.labels.0; regular = h.regular; asked = tt }

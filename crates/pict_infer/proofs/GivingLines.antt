@@ -153,10 +153,6 @@ pub fields_typed : (e : Environment) (bs : TypeBinders) (ps : Pats) (ls : Labell
     → Runs (rule (with_own e own) (labelled_patterns_give ls)) (ok h) → Runs (rule e (fields_give (field_pats bs ps ls))) (ok (record { own = own; positional = g.have; labelled = h.have; adds = joined g.adds h.adds }))
 fields_typed e bs ps ls own g h p q r = part_ok p (part_ok q (part_ok r give_))
 
--- patterns side by side
-pub no_pattern : (e : Environment) → Runs (rule e (patterns_give no_pats)) (ok (record { have = no_type; adds = no_extension }))
-no_pattern e = give_
-
 pub one_pattern_more : (e : Environment) (xs : List RPat) (i : ℕ) (p : RPat) (g : TypedPatterns) (h : TypedPattern) → i < length xs → p ≡ get_or xs i p → Runs (rule e (patterns_give (pats_on no_pats (take i xs)))) (ok g)
     → Runs (rule e (pattern_gives (pat_of p))) (ok h) → Runs (rule e (patterns_give (pats_on no_pats (take (i + 1) xs)))) (ok (record { have = and_type g.have h.has; adds = joined g.adds h.adds }))
 one_pattern_more e xs i p g h n is r k =
@@ -174,13 +170,6 @@ pub pattern_refused : (e : Environment) (xs : List RPat) (i : ℕ) (p : RPat) (g
     → IsRefused (rule e (pattern_gives (pat_of p))) y → IsRefused (rule e (patterns_give (pats_on no_pats xs))) y
 pattern_refused e xs i p g y n is r h =
     kept_on (λ ps. IsRefused (rule e (patterns_give ps)) y) (refused_further e y) xs i p n is (refused_here e y (pats_on no_pats (take i xs)) (pat_of p) g r h)
-
-pub all_patterns : (e : Environment) (xs : List RPat) (i : ℕ) (g : TypedPatterns) → length xs ≤ i → Runs (rule e (patterns_give (pats_on no_pats (take i xs)))) (ok g) → Runs (rule e (patterns_give (pats_on no_pats xs))) (ok g)
-all_patterns e xs i g h r = subst (λ ys. Runs (rule e (patterns_give (pats_on no_pats ys))) (ok g)) (take_all i xs h) r
-
--- labelled patterns
-pub no_labelled : (e : Environment) → Runs (rule e (labelled_patterns_give no_labelled_pats)) (ok (record { have = no_label; adds = no_extension }))
-no_labelled e = give_
 
 pub one_label_more : (e : Environment) (xs : List RLabelledPat) (i : ℕ) (l : RLabelledPat) (g : TypedLabels) (h : TypedPattern) → i < length xs → l ≡ get_or xs i l → Runs (rule e (labelled_patterns_give (labelled_pats_on no_labelled_pats (take i xs)))) (ok g)
     → Runs (rule e (pattern_gives (pat_of l.pat))) (ok h) → Runs (rule e (labelled_patterns_give (labelled_pats_on no_labelled_pats (take (i + 1) xs)))) (ok (record { have = with_labelled_type e.names l.label.name.0 h.has g.have; adds = joined g.adds h.adds }))

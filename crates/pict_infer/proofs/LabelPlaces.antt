@@ -1,6 +1,6 @@
 -- The type at a label, found among labels that stand in order.
-use Rattle.std.proofs.Common.{◌≡◌, ◌<◌, ◌≤◌, ℕ, zero, suc, nat_eq, Bool, true, false, if◌then◌else◌, nat_lt, List, [], ◌∷◌, length, get_or, Some, None, refl, sym, ◌∙◌, ap, subst, arith, eqb-true, ltb-true, ltb-false}
-use Rattle.std.proofs.lemmas.Bool.{eqb-false}
+use Rattle.std.proofs.Common.{◌≡◌, ◌<◌, ◌≤◌, ℕ, zero, suc, nat_eq, Bool, true, false, if◌then◌else◌, nat_lt, List, [], ◌∷◌, length, get_or, Some, None, refl, sym, ◌∙◌, ap, subst, arith, eqb-true, ltb-true, ltb-false, eq-eqb}
+use Rattle.std.proofs.lemmas.Bool.{eqb-false, ne_eqb}
 use Rattle.std.specs.List.Sorted.{IsNonDecreasingBy, IsPartitionPoint}
 use Rattle.std.specs.Ordering.{ordering_index, ordering_reverse}
 use Rattle.std.specs.declared.cmp.Ordering.{Ordering}
@@ -59,35 +59,21 @@ labels_rise ns l fs h i j d le n = go (nat_eq i j) refl
     go true e = let s : at i ≡ at j = ap at (eqb-true i j e) in omega arith
     go false e = let different : i ≡ j → ⊥ = eqb-false i j e in rising ns l (get_or fs i d).0.0 (get_or fs j d).0.0 (before_later ns i j fs d h (omega (arith, le, different)) n)
 
-not_equal : (l m : ℕ) → (m ≡ l → ⊥) → nat_eq l m ≡ false
-not_equal l m h = go (nat_eq l m) refl
-  where
-    go : (b : Bool) → nat_eq l m ≡ b → b ≡ false
-    go false e = refl
-    go true e = absurd (h (sym (eqb-true l m e)))
-
-is_equal : (l m : ℕ) → m ≡ l → nat_eq l m ≡ true
-is_equal l m h = go (nat_eq l m) refl
-  where
-    go : (b : Bool) → nat_eq l m ≡ b → b ≡ true
-    go true e = refl
-    go false e = absurd (eqb-false l m e (sym h))
-
 -- no field has the label
 pub no_label_at : (l : ℕ) (fs : List (Name × Ty)) → ((k : ℕ) (d : Name × Ty) → k < length fs → (get_or fs k d).0.0 ≡ l → ⊥) → type_at l (plain_labels fs) ≡ None
 no_label_at l [] h = refl
 no_label_at l (f ∷ fs) h =
-    ap (λ b. if b then Some (plain f.1) else type_at l (plain_labels fs)) (not_equal l f.0.0 (h 0 f (omega arith)))
+    ap (λ b. if b then Some (plain f.1) else type_at l (plain_labels fs)) (ne_eqb l f.0.0 (λ same. h 0 f (omega arith) (sym same)))
     ∙ no_label_at l fs (λ k d n. h (suc k) d (omega (arith, n)))
 
 -- and one has it
 pub label_at : (ns : List (List ℕ)) (l i : ℕ) (fs : List (Name × Ty)) (d : Name × Ty) → AreInOrder ns (plain_labels fs) → i < length fs → (get_or fs i d).0.0 ≡ l → type_at l (plain_labels fs) ≡ Some (plain (get_or fs i d).1)
 label_at ns l i [] d h n e = absurd (omega (arith, n))
-label_at ns l zero (f ∷ fs) d h n e = ap (λ b. if b then Some (plain f.1) else type_at l (plain_labels fs)) (is_equal l f.0.0 e)
+label_at ns l zero (f ∷ fs) d h n e = ap (λ b. if b then Some (plain f.1) else type_at l (plain_labels fs)) (eq-eqb l f.0.0 (sym e))
 label_at ns l (suc i) (f ∷ fs) d h n e =
     let inside : i < length fs = omega (arith, n) in
     let before : StandsBefore ns f.0.0 l = subst (λ m. StandsBefore ns f.0.0 m) e (first_before ns f.0.0 i fs d h.0 inside) in
-    ap (λ b. if b then Some (plain f.1) else type_at l (plain_labels fs)) (not_equal l f.0.0 (λ same. other_label ns f.0.0 l before (sym same)))
+    ap (λ b. if b then Some (plain f.1) else type_at l (plain_labels fs)) (ne_eqb l f.0.0 (other_label ns f.0.0 l before))
     ∙ label_at ns l i fs d h.1 inside e
 
 -- no field has it where those before a place come before it, and those from there on after it

@@ -26,7 +26,7 @@ use Rattle.pict_infer.specs.Knowing.{deepest, known_types, known_values}
 use Rattle.pict_infer.specs.Adding.{extension_of}
 use Rattle.pict_infer.specs.Answering.{IsRefused, IsAnswer}
 use Rattle.pict_infer.specs.Asking.{IsWellAsked}
-use Rattle.pict_infer.specs.Places.{environment_in, IsUnderVariables}
+use Rattle.pict_infer.specs.Places.{environment_in}
 use Rattle.pict_infer.specs.Opening.{HasFields}
 use Rattle.pict_infer.specs.Environments.{environment_of, known_entries, known_names, GrewFrom, IsAsBefore, IsPlaceOf, MayBeAdded}
 use Rattle.pict_infer.specs.Giving.{typed_pattern, OpensFields}
@@ -119,10 +119,6 @@ become_given old mid new f x o k g = record {
   record_ = o.record_;
   grew = grew_twice old mid new o.grew g;
 }
-
--- the own type variables of fields taken back
-pub still_under : (p : Place) (now : Env) → HasOpenedOwn p now → IsUnderVariables p.entries (known_entries now)
-still_under p now h = record { own = h.own; outer = known_entries h.before; all = ap (λ (z : Environment). z.context) h.under.known; count = h.place.entries }
 
 pub own_back : (p : Place) (before now : Env) (own taken : List KnownType) (left : PlainContext) → IsPlaceOf p before → IsUnderOwn before now own → known_entries now ≡ entries_of taken ++ left → length left ≡ p.entries → IsTakenBack (known_entries before) own taken left
 own_back p before now own taken left i u k l = taken_back (known_entries before) own taken (known_entries now) left (ap (λ (z : Environment). z.context) u.known) k (l ∙ i.entries)

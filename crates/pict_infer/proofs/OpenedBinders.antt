@@ -1,6 +1,6 @@
 -- Type binders that are opened one after the other.
 use Rattle.std.proofs.Common.{◌≡◌, ◌<◌, ◌≤◌, ◌+◌, ℕ, zero, suc, Bool, true, false, if◌then◌else◌, List, [], ◌∷◌, ◌++◌, length, take, drop, get_or, None, refl, sym, ◌∙◌, ap, subst, arith}
-use Rattle.std.proofs.lemmas.List.{length-take-le, take_all, take-append-drop}
+use Rattle.std.proofs.lemmas.List.{length-take-le, take-append-drop}
 use Rattle.pict_syntax.specs.declared.code.Code.{Code}
 use Rattle.pict_syntax.specs.declared.code.Code.TheVariants.{Y16}
 use Rattle.pict_syntax.specs.declared.span.Span.{Span}
@@ -32,9 +32,10 @@ use Rattle.pict_infer.specs.Answering.{IsRefused, IsStopped}
 use Rattle.pict_infer.specs.Asking.{IsWellAsked}
 use Rattle.pict_infer.specs.Opening.{HasOpened, binder_agrees}
 use Rattle.pict_infer.proofs.Forming.{clear, stopped}
-use Rattle.pict_infer.proofs.Forms.{binders_both, next_binder, count_of_binders, taken}
+use Rattle.pict_infer.proofs.Forms.{binders_both, next_binder, count_of_binders}
 use Rattle.pict_infer.proofs.Growing.{environment}
 use Rattle.pict_infer.proofs.Through.{GoesOn, given, refused, needed, unstopped}
+use Rattle.pict_scope.proofs.Reading.{taken}
 
 -- the environment of these entries, without values, and the entry of a type variable
 abbrev pub alone : List (List ℕ) → PlainContext → Environment
@@ -138,7 +139,7 @@ ensured_on : {s t : Sort} (b : Bool) (c : Code) (i : Span) {r : Rule s} {q : Rul
 ensured_on true c i g = g
 ensured_on false c i g = refused
 
-nth_is : (xs : List RBound) (i : ℕ) (x : RBound) → i < length xs → x ≡ get_or xs i x → nth_bound i (plain_bounds xs) ≡ plain_bound x
+pub nth_is : (xs : List RBound) (i : ℕ) (x : RBound) → i < length xs → x ≡ get_or xs i x → nth_bound i (plain_bounds xs) ≡ plain_bound x
 nth_is [] i x h is = absurd (omega (arith, h))
 nth_is (y ∷ xs) zero x h is = ap plain_bound (sym is)
 nth_is (y ∷ xs) (suc i) x h is = nth_is xs i x (omega (arith, h)) is
@@ -203,12 +204,6 @@ against_fits ns ms c c1 xs fs i b f u h is k at a o s same =
     subst (λ (v : PlainBound). EntryIsWellFormed ms (variables c1) (Variable v)) (sym same)
     (fits_next e (alone ms c1) o.own n a.regular
     (subst (λ z. BoundsAreWellFormed ns (kinds_in e) z) (sym good) (first_formed ns (kinds_in e) (count_binders bs) (plain_bounds fs) a.asked.1)) o.inside)
-
-pub all_against : (e d : Environment) (xs : List RTypeBinder) (fs : List RBound) (i : ℕ) → length xs ≤ i → length xs ≡ length fs
-    → HasOpened e d (rule e (binders_against (binders_on no_binders (take i xs)) (plain_bounds fs))) (plain_bounds (take i fs)) → HasOpened e d (rule e (binders_against (binders_on no_binders xs) (plain_bounds fs))) (plain_bounds fs)
-all_against e d xs fs i h n o =
-    subst (λ ys. HasOpened e d (rule e (binders_against (binders_on no_binders ys) (plain_bounds fs))) (plain_bounds fs)) (take_all i xs h)
-    (subst (λ gs. HasOpened e d (rule e (binders_against (binders_on no_binders (take i xs)) (plain_bounds fs))) (plain_bounds gs)) (take_all i fs (omega (arith, h, n))) o)
 
 against_refused_on : (e : Environment) (bs : TypeBinders) (xs : List RTypeBinder) (rs : PlainBounds) (y : InferError) → IsRefused (rule e (binders_against bs rs)) y → IsRefused (rule e (binders_against (binders_on bs xs) rs)) y
 unfolding binders_on

@@ -1,6 +1,6 @@
 -- The rules of patterns against a type, step by step.
-use Rattle.std.proofs.Common.{◌≡◌, ◌<◌, ◌≤◌, ◌+◌, ℕ, nat_eq, eqb-true, Bool, true, false, List, length, take, get_or, Option, Some, None, Result, Ok, Err, refl, sym, ◌∙◌, ap, subst, arith, eq-eqb}
-use Rattle.std.proofs.lemmas.List.{length-take-le, take_all}
+use Rattle.std.proofs.Common.{◌≡◌, ◌<◌, ◌≤◌, ◌+◌, ℕ, nat_eq, List, length, take, get_or, Option, Some, None, Result, Ok, Err, sym, ◌∙◌, ap, subst, arith, eq-eqb}
+use Rattle.std.proofs.lemmas.List.{length-take-le}
 use Rattle.pict_syntax.specs.declared.code.Code.{Code}
 use Rattle.pict_syntax.specs.declared.code.Code.TheVariants.{Y4, Y5, Y6, Y13}
 use Rattle.pict_syntax.specs.declared.id.Id.{Id}
@@ -33,6 +33,7 @@ use Rattle.pict_infer.specs.Steps.{below, expanded, fold_unfolded, recursive}
 use Rattle.pict_infer.proofs.Through.{GoesOn, given, refused, refused_on, refused_past, needed, unstopped, cased_recursive}
 use Rattle.pict_infer.proofs.Forms.{next_pat, next_labelled, count_of_pats}
 use Rattle.pict_infer.proofs.PatternPlaces.{kept_on, labelled_kept_on}
+use Rattle.std.proofs.lemmas.Bool.{ne_eqb}
 
 -- a variable and a wildcard with an annotation: it is expanded, and then the type is below it
 pub variable_annotated : (e : Environment) (s : Span) (x : Id) (a : TypeTree) (t : PlainType) → GoesOn type_ extension_ (expanded e a) (rule e (pattern_against (bind_pat s x (Some a)) t)) (λ u. need (is_subtype (context_of e) t u) Y4 s (give (one_value x u)))
@@ -97,9 +98,6 @@ pattern_refused e xs i p ts x y h is r k =
     let now : IsRefused (rule e (pattern_against (pat_of p) (nth_type (count_pats (pats_on no_pats (take i xs))) ts))) y = subst (λ t. IsRefused (rule e (pattern_against (pat_of p) t)) y) (sym same) k in
     kept_on (λ ps. IsRefused (rule e (patterns_against ps ts)) y) (refused_more e ts y) xs i p h is (refused_here e (pats_on no_pats (take i xs)) (pat_of p) ts x y r now)
 
-pub all_patterns : (e : Environment) (xs : List RPat) (i : ℕ) (ts : PlainTypes) (x : Extension) → length xs ≤ i → Runs (rule e (patterns_against (pats_on no_pats (take i xs)) ts)) (ok x) → Runs (rule e (patterns_against (pats_on no_pats xs) ts)) (ok x)
-all_patterns e xs i ts x h r = subst (λ ys. Runs (rule e (patterns_against (pats_on no_pats ys) ts)) (ok x)) (take_all i xs h) r
-
 -- labelled patterns
 label_refused_more : (e : Environment) (ms : PlainLabels) (y : InferError) (ls : LabelledPats) (l : Id) (q : Pat) → IsRefused (rule e (labelled_patterns_against ls ms)) y → IsRefused (rule e (labelled_patterns_against (more_labelled_pats ls l q) ms)) y
 label_refused_more e ms (Named c i) ls l q h = part_stuck h
@@ -139,9 +137,6 @@ pub at_label_lacks : (e : Environment) (l : ℕ) (p : Pat) (ms : PlainLabels) (s
 at_label_lacks e l p ms s at h =
     subst (λ (o : Option PlainType). Runs {s = extension_} (if_labelled o (λ t. rule e (pattern_against p t)) (refuse Y6 (pat_span p))) (stuck Y6 s)) (sym at)
     (subst (λ (z : Span). Runs {s = extension_} (refuse Y6 (pat_span p)) (stuck Y6 z)) (sym h) refuse_)
-
-pub all_labels : (e : Environment) (xs : List RLabelledPat) (i : ℕ) (ms : PlainLabels) (x : Extension) → length xs ≤ i → Runs (rule e (labelled_patterns_against (labelled_pats_on no_labelled_pats (take i xs)) ms)) (ok x) → Runs (rule e (labelled_patterns_against (labelled_pats_on no_labelled_pats xs) ms)) (ok x)
-all_labels e xs i ms x h r = subst (λ ys. Runs (rule e (labelled_patterns_against (labelled_pats_on no_labelled_pats ys) ms)) (ok x)) (take_all i xs h) r
 
 -- a record
 pub record_answer : {T : Type 0} (e : Environment) (s : Span) (f : FieldPats) (t : PlainType) (bs : PlainBounds) (ps : PlainTypes) (ls : PlainLabels) (g : T → Given extension_) (x : Result T InferError) → exposure (context_of e) t ≡ Fields bs ps ls
@@ -186,22 +181,14 @@ no_record_rule e s f (Rec t) h = refuse_
 pub no_record : (e : Environment) (s : Span) (f : FieldPats) (t u : PlainType) → exposure (context_of e) t ≡ u → IsNoRecord u → Runs (rule e (pattern_against (fields_pat s f) t)) (stuck Y5 s)
 no_record e s f t u is h = no_record_rule e s f (exposure (context_of e) t) (subst IsNoRecord (sym is) h)
 
--- the fields of a record
-not_equal : (l m : ℕ) → (l ≡ m → ⊥) → nat_eq l m ≡ false
-not_equal l m h = go (nat_eq l m) refl
-  where
-    go : (b : Bool) → nat_eq l m ≡ b → b ≡ false
-    go false e = refl
-    go true e = absurd (h (eqb-true l m e))
-
 ensured : {s : Sort} (a b : ℕ) (c : Code) (i : Span) {r : Rule s} {x : Answer s} → a ≡ b → Runs r x → Runs (ensure (nat_eq a b) c i r) x
 ensured a b c i h p = rw (eq-eqb a b h) p
 
 pub binders_differ : (e : Environment) (s : Span) (bs : TypeBinders) (ps : Pats) (ls : LabelledPats) (rs : PlainBounds) (ts : PlainTypes) (ms : PlainLabels) → (count_binders bs ≡ count_bounds rs → ⊥) → Runs (rule e (fields_against s (field_pats bs ps ls) rs ts ms)) (stuck Y5 s)
-binders_differ e s bs ps ls rs ts ms h = rw (not_equal (count_binders bs) (count_bounds rs) h) refuse_
+binders_differ e s bs ps ls rs ts ms h = rw (ne_eqb (count_binders bs) (count_bounds rs) h) refuse_
 
 pub patterns_differ : (e : Environment) (s : Span) (bs : TypeBinders) (ps : Pats) (ls : LabelledPats) (rs : PlainBounds) (ts : PlainTypes) (ms : PlainLabels) → count_binders bs ≡ count_bounds rs → (count_pats ps ≡ count_types ts → ⊥) → Runs (rule e (fields_against s (field_pats bs ps ls) rs ts ms)) (stuck Y5 s)
-patterns_differ e s bs ps ls rs ts ms q h = ensured (count_binders bs) (count_bounds rs) Y5 s q (rw (not_equal (count_pats ps) (count_types ts) h) refuse_)
+patterns_differ e s bs ps ls rs ts ms q h = ensured (count_binders bs) (count_bounds rs) Y5 s q (rw (ne_eqb (count_pats ps) (count_types ts) h) refuse_)
 
 -- the lines after the counts
 abbrev pub after_counts : Environment → TypeBinders → Pats → LabelledPats → PlainBounds → PlainTypes → PlainLabels → Rule opened_

@@ -29,12 +29,13 @@ use Rattle.pict_infer.proofs.AskedParts.{fields_asked, formed_at, inner_asked, l
 use Rattle.pict_infer.specs.Opening.{against_fields}
 use Rattle.pict_infer.proofs.Closed.{as_many, as_many_more, base_back, no_fewer, record_closed, room_for}
 use Rattle.pict_infer.proofs.Forming.{shown_is}
-use Rattle.pict_infer.proofs.Forms.{any_is, as_many_binders, as_many_patterns, bind_is, count_of_binders, count_of_pats, fields_is, fold_is, parts_are, parts_read}
+use Rattle.pict_infer.proofs.Forms.{any_is, as_many_binders, as_many_patterns, bind_is, count_of_binders, count_of_pats, fields_is, fold_is, parts_read}
 use Rattle.pict_infer.proofs.Handed.{against_err, answer_err}
 use Rattle.pict_infer.proofs.LabelPlaces.{formed_in_order}
 use Rattle.pict_infer.proofs.PatternLines.{at_label_lacks, at_label_there, all_typed, binders_differ, closed_ok, closed_refused, counted, counted_refused, fold_inner, fold_refused_first, label_refused, labelled_refused, no_label, no_pattern, no_record, one_label_more, one_pattern_more, own_refused, pattern_refused, patterns_differ, positional_refused, record_answer}
 use Rattle.pict_infer.proofs.PatternPlaces.{labelled_distinct}
 use Rattle.pict_infer.proofs.against.+against.Goals as goal
+use Rattle.pict_scope.proofs.PatternForms.{field_pats_are}
 
 pub against-variable_against-requires-clause-labels : goal.against-variable_against-requires-clause-labels
 against-variable_against-requires-clause-labels t c = subst (λ z. PatHasDistinctLabels z) (bind_is c.args.p.now c.in-Bind.span c.in-Bind.id c.in-Bind.annotation c.in-Bind.is) c.requires.right.labels
@@ -301,7 +302,7 @@ open_parts_against-returns-then-len-binders-clause-answer t c =
     let f = c.args.parts.now in
     let xs = (out-FieldPats f).binders.items in
     let differ : length xs ≡ length c.args.binders.now → ⊥ = λ q. omega (arith, q, c.if-len-binders.true, c.len.ensures, (out-FieldPats f).binders.ok.0) in
-    subst (λ g. Runs (rule e (fields_against c.args.span g (plain_bounds c.args.binders.now) (plain_types c.args.positional.now) (plain_labels c.args.labelled.now))) (stuck Y5 c.args.span)) (sym (parts_are f))
+    subst (λ g. Runs (rule e (fields_against c.args.span g (plain_bounds c.args.binders.now) (plain_types c.args.positional.now) (plain_labels c.args.labelled.now))) (stuck Y5 c.args.span)) (sym (field_pats_are f))
     (binders_differ e c.args.span _ _ _ _ _ _ (λ q. differ (sym (count_of_binders xs) ∙ q ∙ count_bounds_length c.args.binders.now)))
 
 pub open_parts_against-returns-then-len-positional-clause-answer : goal.open_parts_against-returns-then-len-positional-clause-answer
@@ -312,7 +313,7 @@ open_parts_against-returns-then-len-positional-clause-answer t c =
     let ps = (out-FieldPats f).positional.items in
     let n : length xs ≡ length c.args.binders.now = omega (arith, c.if-len-binders.false, c.len.ensures, (out-FieldPats f).binders.ok.0) in
     let differ : length ps ≡ length c.args.positional.now → ⊥ = λ q. omega (arith, q, c.if-len-positional.true, c.len-2.ensures, (out-FieldPats f).positional.ok.0) in
-    subst (λ g. Runs (rule e (fields_against c.args.span g (plain_bounds c.args.binders.now) (plain_types c.args.positional.now) (plain_labels c.args.labelled.now))) (stuck Y5 c.args.span)) (sym (parts_are f))
+    subst (λ g. Runs (rule e (fields_against c.args.span g (plain_bounds c.args.binders.now) (plain_types c.args.positional.now) (plain_labels c.args.labelled.now))) (stuck Y5 c.args.span)) (sym (field_pats_are f))
     (patterns_differ e c.args.span _ _ _ _ _ _ (as_many_binders xs c.args.binders.now n) (λ q. differ (sym (count_of_pats ps) ∙ q ∙ count_types_length c.args.positional.now)))
 
 pub open_parts_against-open_against-requires-clause-right : goal.open_parts_against-open_against-requires-clause-right

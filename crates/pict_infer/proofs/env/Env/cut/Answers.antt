@@ -1,8 +1,8 @@
 -- What was known before is known again.
-use Rattle.std.proofs.Common.{◌≡◌, ◌≤◌, length, refl, sym, ◌∙◌, ap, ap₂, arith}
+use Rattle.std.proofs.Common.{◌≡◌, length, ◌∙◌, ap, ap₂}
 use Rattle.pict_types.specs.Entries.{variables}
-use Rattle.pict_types.specs.PlainContext.{names_of, plain_context, type_context}
-use Rattle.pict_infer.specs.Knowing.{deepest, known_values}
+use Rattle.pict_types.specs.PlainContext.{names_of, plain_context}
+use Rattle.pict_infer.specs.Knowing.{known_values}
 use Rattle.pict_infer.specs.Environments.{known_entries, known_names}
 use Rattle.pict_infer.proofs.Growing.{entries_back, environment, place_within, values_back}
 use Rattle.pict_infer.proofs.env.Env.cut.Goals as goal
