@@ -6,7 +6,7 @@ use Rattle.pict_syntax.specs.Labels.{label_cmp, StandsBefore}
 use Rattle.pict_syntax.proofs.LabelLemmas.{label_order, other_label, equal_labels}
 use Rattle.pict_types.specs.declared.types.Ty.{Ty}
 use Rattle.pict_types.specs.declared.types.Bound.{Bound}
-use Rattle.pict_types.specs.Types.{PlainType, PlainTypes, no_type, types, PlainLabels, no_label, labels, bounds, TypeContext, under, type_at}
+use Rattle.pict_types.specs.Types.{PlainType, PlainTypes, no_type, types, PlainLabels, no_label, labels, TypeContext, under, type_at}
 use Rattle.pict_types.specs.Kinds.{Kind, StandsBeforeAll, IsWellFormed, LabelsAreWellFormed, BoundIsWellFormed, BoundsAreWellFormed, ContextIsWellFormed, kinds}
 use Rattle.pict_types.specs.Plain.{plain, plain_bound, plain_types, plain_bounds}
 use Rattle.pict_types.proofs.Rows.{types_drop, types_end, labels_end, bounds_end}

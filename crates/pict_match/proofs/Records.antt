@@ -9,12 +9,9 @@ use Rattle.pict_types.specs.Kinds.{kinds_under}
 use Rattle.pict_types.specs.Plain.{plain_types, plain_bounds}
 use Rattle.pict_types.proofs.Rows.{count_bounds_length, count_types_length}
 use Rattle.pict_rules.specs.Found.{Found, matched_types, matched_labels, matched_bounds}
-use Rattle.pict_match.specs.Formed.{IsFormed, AreFormed, LabelsAreFormed, BoundsAreFormed}
+use Rattle.pict_match.specs.Formed.{IsFormed, AreFormed, LabelsAreFormed}
 use Rattle.pict_match.specs.Parts.{by_fields}
 use Rattle.pict_match.proofs.Growing.{partly_none}
-
-pub formed_bounds : {names : List (List ℕ)} {bs : PlainBounds} {ps : PlainTypes} {ls : PlainLabels} → IsFormed names (Fields bs ps ls) → BoundsAreFormed names bs
-formed_bounds f = record { kinds_ = f.kinds_; formed = f.formed.0 }
 
 pub formed_positional : {names : List (List ℕ)} {bs : PlainBounds} {ps : PlainTypes} {ls : PlainLabels} → IsFormed names (Fields bs ps ls) → AreFormed names ps
 formed_positional {bs = bs} f = record { kinds_ = kinds_under f.kinds_ bs; formed = f.formed.1.0 }
