@@ -6,30 +6,34 @@ use anyhow::Error;
 use pict_outside::{FolderShelf, StreamSink};
 use pict_top::pict;
 
-/// The examples, in the order in which they are best read.
-const EXAMPLES: [&str; 24] = [
+/// The examples, in the order of their index.
+const EXAMPLES: [&str; 28] = [
     "hello.pi",
     "message.pi",
     "server.pi",
-    "answer.pi",
-    "forever.pi",
+    "acknowledge.pi",
     "turns.pi",
+    "forever.pi",
+    "answer.pi",
     "handover.pi",
+    "rights.pi",
+    "session.pi",
     "account.pi",
     "lock.pi",
+    "buffer.pi",
+    "race.pi",
     "deadlock.pi",
     "philosophers.pi",
-    "race.pi",
-    "buffer.pi",
     "future.pi",
     "fib.pi",
     "ring.pi",
     "chain.pi",
     "tree.pi",
-    "session.pi",
-    "queue.pi",
+    "sieve.pi",
     "truth.pi",
     "numerals.pi",
+    "list.pi",
+    "queue.pi",
     "lambda.pi",
     "package.pi",
 ];
