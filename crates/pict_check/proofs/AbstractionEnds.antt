@@ -6,7 +6,7 @@ use Rattle.pict_syntax.specs.declared.name.Name.{Name}
 use Rattle.pict_syntax.specs.declared.span.Span.{Span}
 use Rattle.pict_syntax.specs.Grammar.{type_span, val_span}
 use Rattle.pict_syntax.specs.Trees.{Abs, FieldPats, Pat, Proc, RType, TypeTree, Val, process_abs, function_abs}
-use Rattle.pict_types.specs.Types.{Both, PlainType, Read, Respond, Write, under}
+use Rattle.pict_types.specs.Types.{PlainType, under}
 use Rattle.pict_types.specs.Types as types
 use Rattle.pict_types.specs.declared.context.Context.{Context}
 use Rattle.pict_types.specs.declared.types.Bound.{Bound}
@@ -15,23 +15,20 @@ use Rattle.pict_types.specs.declared.types.Ty.{Ty}
 use Rattle.pict_types.specs.Entries.{variables}
 use Rattle.pict_types.specs.Plain.{plain, plain_record}
 use Rattle.pict_types.specs.PlainContext.{plain_context, type_context}
-use Rattle.pict_types.specs.Kinds.{Kind, kinds_under, IsWellFormed}
+use Rattle.pict_types.specs.Kinds.{kinds_under, IsWellFormed}
 use Rattle.pict_types.specs.Mentions.{lowered, mentions_innermost}
 use Rattle.pict_types.proofs.Congruent.{three}
-use Rattle.pict_types.proofs.Contexts.{entries_context, formed_under, kinds_under_is}
-use Rattle.pict_normal.specs.Normal.{Stop, kind_stop, normal}
+use Rattle.pict_normal.specs.Normal.{kind_stop, normal, Stop}
 use Rattle.pict_sub.specs.Exposing.{exposure}
-use Rattle.pict_sub.proofs.Followed.{exposure_formed}
 use Rattle.pict_rules.specs.Environments.{Environment, Extension, KnownType, context_of, extended, opened, shifted_by}
-use Rattle.pict_rules.specs.Regular.{IsRegular, IsTypeIn, kinds_in}
-use Rattle.pict_rules.specs.Rules.{Sort, nothing_, type_, pattern_, fields_, opened_, extension_, OpenedFields, TypedPattern, TypedFields, gives, has, abstraction_gives, abstraction_against, fields_against, fields_give, pattern_gives, pattern_against, process, is_subtype, Rule, expand, give, need, part, refuse, ok, stuck, unless_stopped}
+use Rattle.pict_rules.specs.Regular.{IsTypeIn, kinds_in}
+use Rattle.pict_rules.specs.Rules.{Sort, nothing_, type_, pattern_, opened_, extension_, OpenedFields, TypedPattern, TypedFields, gives, has, abstraction_gives, abstraction_against, fields_against, fields_give, pattern_gives, pattern_against, process, is_subtype, Rule, expand, give, need, part, refuse, ok, stuck, unless_stopped}
 use Rattle.pict_rules.specs.Clauses.{answering, argument_type, check, done, need_function, need_outside, with_fields, with_own}
 use Rattle.pict_rules.specs.Shapes.{Function, function_by, sendable}
 use Rattle.pict_rules.specs.Typing.{rule}
 use Rattle.pict_rules.specs.Derivations.{Runs, give_, met, part_ok, refuse_}
 use Rattle.pict_rules.specs.Reached.{Asks, this_part, past_need, past_part}
-use Rattle.pict_rules.proofs.Regularity.{IfFormed}
-use Rattle.pict_rules.proofs.RegularAbstractions.{FunctionFormed, function_formed}
+use Rattle.pict_rules.proofs.RegularAbstractions.{FunctionFormed, answering_formed}
 use Rattle.pict_rules.proofs.RegularFields.{own_kinds}
 use Rattle.pict_rules.proofs.RegularProcesses.{exposed_formed}
 use Rattle.pict_infer.specs.declared.error.InferError.{InferError}
@@ -242,30 +239,6 @@ typed_body_asked e d b s f a v g t k l h r p =
     go (Some x) n q = elim q [ ]
 
 -- THE TYPE OF AN ANSWER IS WELL FORMED
-
-sendable_formed : (ns : List (List ℕ)) (ks : List Kind) (t : PlainType) → IsWellFormed ns ks t → IfFormed ns ks (sendable t)
-sendable_formed ns ks types.Top w = tt
-sendable_formed ns ks types.Int w = tt
-sendable_formed ns ks types.Char w = tt
-sendable_formed ns ks types.Str w = tt
-sendable_formed ns ks types.Boolean w = tt
-sendable_formed ns ks (types.Var i) w = tt
-sendable_formed ns ks (types.Apply i ts) w = tt
-sendable_formed ns ks (types.Chan Respond t) w = w
-sendable_formed ns ks (types.Chan Write t) w = w
-sendable_formed ns ks (types.Chan Both t) w = w
-sendable_formed ns ks (types.Chan Read t) w = tt
-sendable_formed ns ks (types.Fields bs ps ls) w = tt
-sendable_formed ns ks (types.Rec t) w = tt
-
-answering_formed : (e : Environment) (t : PlainType) → IsRegular e → IsTypeIn e t → FunctionFormed e (answering e t)
-answering_formed e t r w =
-    let c = entries_context e.names e.context r.entries in
-    function_formed e (λ bs last. sendable (exposure (under (context_of e) bs) last)) (exposure (context_of e) t) (exposed_formed e t r w) (λ bs u h k.
-    let ks = kinds_under_is (context_of e) bs in
-    sendable_formed e.names (kinds_under (kinds_in e) bs) (exposure (under (context_of e) bs) u)
-    (subst (λ z. IsWellFormed e.names z (exposure (under (context_of e) bs) u)) ks
-    (exposure_formed e.names (under (context_of e) bs) u (formed_under e.names (context_of e) bs c h) (subst (λ z. IsWellFormed e.names z u) (sym ks) k))))
 
 pub result_formed : (e d : Environment) (s : Span) (f : FieldPats) (a : RType) (v : Val) (t : PlainType) (g : Function) (x : OpenedFields) → answering e t ≡ Some g → d ≡ with_own e x.own → IsWellAsked nothing_ e (abstraction_against (function_abs s f a v) t) → Runs (rule e (fields_against s f g.binders g.positional g.labelled)) (ok x) → IsTypeIn d g.answer
 result_formed e d s f a v t g x is k h r =

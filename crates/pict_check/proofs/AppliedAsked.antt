@@ -4,11 +4,10 @@ use Rattle.pict_syntax.specs.declared.span.Span.{Span}
 use Rattle.pict_syntax.specs.declared.id.Id.{Id}
 use Rattle.pict_syntax.specs.Trees.{Val}
 use Rattle.pict_types.specs.Types.{PlainType}
-use Rattle.pict_normal.specs.Normal.{Stop}
-use Rattle.pict_rules.specs.Found.{Found, mentions_missing, with_found, matched}
+use Rattle.pict_rules.specs.Found.{Found, mentions_missing, with_found}
 use Rattle.pict_rules.specs.Shapes.{applied_to}
-use Rattle.pict_rules.specs.Environments.{Environment, context_of}
-use Rattle.pict_rules.specs.Rules.{Sort, Rule, Judgement, nothing_, type_, found_, arguments_, gives, has, application, fields_fit, value_fits, given_fits, unless_stopped, ok}
+use Rattle.pict_rules.specs.Environments.{Environment}
+use Rattle.pict_rules.specs.Rules.{Sort, Rule, Judgement, nothing_, type_, found_, arguments_, gives, has, application, fields_fit, value_fits, unless_stopped, ok}
 use Rattle.pict_rules.specs.Clauses.{found_first}
 use Rattle.pict_rules.specs.Derivations.{Runs, give_, part_ok}
 use Rattle.pict_rules.specs.Typing.{rule}
@@ -18,6 +17,7 @@ use Rattle.pict_infer.proofs.Asked.{asked_of}
 use Rattle.pict_check.specs.Judging.{IsAskedFor}
 use Rattle.pict_check.specs.Chains.{Operator, as_function, head, two, IsHead, before_fields, wanted_at, room_stop}
 use Rattle.pict_check.proofs.Applying.{Field1, then_matched, then_had}
+use Rattle.pict_normal.specs.Normal.{Stop}
 
 pub application_asked : (e : Environment) (s : Span) (f : Id) (v w : Val) (x : Option PlainType) → IsAskedFor e (applied_to s f v w) x → IsWellAsked type_ e (application s (head f) (two v w) x)
 application_asked e s f v w None h = asked_of (gives (applied_to s f v w)) h this_part
@@ -62,11 +62,3 @@ for_asked e j v (Some u) h a = asked_of j h a
 
 pub value_asked : (e : Environment) (s : Span) (v : Val) (t : PlainType) (g : Found) → room_stop e s (wanted_at t g) ≡ None → IsWellAsked found_ e (value_fits s v t g) → IsAskedFor e v (wanted_at t g)
 value_asked e s v t g r h = for_asked e (value_fits s v t g) v (wanted_at t g) h (asks_value (mentions_missing g t) e s v t g r)
-
--- and that on what it gave
-asks_given : (m : Bool) (e : Environment) (s : Span) (v : Val) (t u : PlainType) (g : Found) → m ≡ true → Runs (rule e (gives v)) (ok u) → Asks found_ (if m then then_matched e s v t g else then_had e s v t g) found_ e (given_fits s v t u (matched (context_of e) 0 t u g))
-asks_given true e s v t u g h p = past_part p this_part
-asks_given false e s v t u g h p = absurd cc
-
-pub given_asked : (e : Environment) (s : Span) (v : Val) (t u : PlainType) (g : Found) → mentions_missing g t ≡ true → Runs (rule e (gives v)) (ok u) → IsWellAsked found_ e (value_fits s v t g) → IsWellAsked found_ e (given_fits s v t u (matched (context_of e) 0 t u g))
-given_asked e s v t u g m p h = asked_of (value_fits s v t g) h (asks_given (mentions_missing g t) e s v t u g m p)

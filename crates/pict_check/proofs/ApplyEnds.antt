@@ -1,5 +1,5 @@
 -- Uses, and applications with what is found before their fields.
-use Rattle.std.proofs.Common.{◌≡◌, List, refl, sym, ◌∙◌, ap, subst, Bool, true, false, if◌then◌else◌, Option, Some, None}
+use Rattle.std.proofs.Common.{◌≡◌, List, refl, sym, ap, subst, Bool, if◌then◌else◌, Option, Some, None}
 use Rattle.pict_syntax.specs.declared.name.Name.{Name}
 use Rattle.pict_syntax.specs.declared.span.Span.{Span}
 use Rattle.pict_syntax.specs.Trees.{Val, Chan, of_chan, use_chan, FieldVals, field_vals, TypeTrees, Vals, LabelledVals}
@@ -10,7 +10,7 @@ use Rattle.pict_normal.specs.Written.{kinds_with}
 use Rattle.pict_normal.proofs.Instances.{kinds_fit}
 use Rattle.pict_sub.specs.Exposing.{exposure}
 use Rattle.pict_rules.specs.Environments.{Environment, context_of, type_of_use}
-use Rattle.pict_rules.specs.Found.{Found, matched, none_found}
+use Rattle.pict_rules.specs.Found.{matched, none_found}
 use Rattle.pict_rules.specs.Shapes.{Function, applicable, none_written}
 use Rattle.pict_rules.specs.Rules.{type_, application, gives, ok}
 use Rattle.pict_rules.specs.Clauses.{found_first}
@@ -49,10 +49,6 @@ first_found e ts vs ls r (Some t) b h = ap (λ (z : Bool). if z then matched (co
 
 pub first_before : (e : Environment) (f : FieldVals) (ts : TypeTrees) (vs : Vals) (ls : LabelledVals) (r : Function) (x : Option PlainType) (b : Bool) → IsFields f ts vs ls → none_written ts ≡ b → found_first e f r x ≡ found_before e r b x
 first_before e f ts vs ls r x b is h = subst (λ (z : FieldVals). found_first e z r x ≡ found_before e r b x) (sym is) (first_found e ts vs ls r x b h)
-
--- found before the fields, of which some may be written
-abbrev pub first_found_of : Environment → FieldVals → Function → Option PlainType → Found
-first_found_of e vs r x = found_first e vs r x
 
 -- the answer's type is well formed under the arguments
 pub answer_formed : (d e : Environment) (r : Function) (args : List PlainArg) → d ≡ e → FunctionIsFormed e r → FitTheirFields args r.binders → IsWellFormed d.names (kinds_with args (kinds_in d)) r.answer

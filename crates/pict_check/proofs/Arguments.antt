@@ -1,5 +1,5 @@
 -- Written type arguments, one after the other.
-use Rattle.std.proofs.Common.{◌≡◌, ◌<◌, ◌≤◌, ◌+◌, ℕ, List, [], ◌∷◌, ◌++◌, length, get_or, take, sym, ◌∙◌, ap, subst, arith, Option, Some, None, Bool, true, false}
+use Rattle.std.proofs.Common.{◌≡◌, ◌<◌, ◌≤◌, ◌+◌, ℕ, List, [], ◌∷◌, ◌++◌, length, get_or, take, sym, ◌∙◌, ap, subst, arith, Option, Some, None, Bool, false}
 use Rattle.std.proofs.lemmas.List.{length-take-le}
 use Rattle.pict_syntax.specs.declared.code.Code.TheVariants.{K1, Y9}
 use Rattle.pict_syntax.specs.declared.span.Span.{Span}
@@ -9,20 +9,20 @@ use Rattle.pict_syntax.specs.PlainTrees.{type_of, types_on}
 use Rattle.pict_syntax.specs.Trees.{TypeTree, TypeTrees, no_types, more_types}
 use Rattle.pict_syntax.proofs.TypeLists.{types_more}
 use Rattle.pict_types.specs.declared.types.Arg.{Arg}
-use Rattle.pict_types.specs.Types.{PlainBound, PlainBounds, PlainArg, no_bound, bounds, count_bounds}
+use Rattle.pict_types.specs.Types.{PlainBound, PlainBounds, PlainArg, count_bounds}
 use Rattle.pict_types.specs.Replacing.{FitTheirFields}
 use Rattle.pict_types.specs.declared.types.Bound.{Bound}
 use Rattle.pict_types.specs.Kinds.{BoundIsWellFormed}
 use Rattle.pict_types.specs.Instances.{ArgsAreWellFormed}
 use Rattle.pict_types.specs.Plain.{plain_arg, plain_args, plain_bound, plain_bounds}
 use Rattle.pict_types.proofs.Rows.{count_bounds_length}
-use Rattle.pict_normal.specs.Normal.{Stop, count_trees}
+use Rattle.pict_normal.specs.Normal.{count_trees, Stop}
 use Rattle.pict_normal.specs.Written.{kinds_with}
 use Rattle.pict_normal.specs.WrittenArguments.{arg_stop, normal_arg}
 use Rattle.pict_scope.specs.DistinctLabels.{HasDistinctLabels, TypesHaveDistinctLabels}
 use Rattle.pict_rules.specs.Clauses.{is_of_kind, within_bound}
 use Rattle.pict_rules.specs.Environments.{Environment}
-use Rattle.pict_rules.specs.Regular.{FitFirst, IsGood, kinds_in}
+use Rattle.pict_rules.specs.Regular.{IsGood, kinds_in}
 use Rattle.pict_rules.specs.Rules.{nothing_, arguments_, Rule, ensure, give, ok, stuck, unless_stopped, written_arguments}
 use Rattle.pict_rules.specs.Shapes.{nth_bound}
 use Rattle.pict_rules.specs.Typing.{rule}
@@ -36,17 +36,17 @@ use Rattle.pict_check.proofs.Ends.{good_of}
 use Rattle.pict_check.proofs.FieldEnds.{ensured, given_is}
 use Rattle.pict_check.proofs.Finding.{args_more}
 use Rattle.pict_check.proofs.PutIn.{bound_under}
-use Rattle.pict_check.proofs.Rows.{Row, first_of, row_all, row_first, row_more, row_refused}
-use Rattle.pict_check.proofs.WithinBounds.{bound_read, within_then}
+use Rattle.pict_check.proofs.Rows.{Row, first_of, row_first, row_more, row_refused}
+use Rattle.pict_check.proofs.WithinBounds.{within_then}
+use Rattle.pict_normal.proofs.Trees.{count_trees_on}
+use Rattle.pict_rules.proofs.RegularArguments.{all_fit}
+use Rattle.pict_infer.proofs.OpenedBinders.{nth_is}
 
 -- ONE ARGUMENT
 
 -- it isn't of its field's kind
 pub of_another_kind : (e : Environment) (n at : Span) (b : PlainBound) (args : List PlainArg) (a : PlainArg) → is_of_kind a b ≡ false → Runs (argument_fits e n at b args a) (stuck K1 at)
 of_another_kind e n at b args a h = subst (λ (z : Bool). Runs (ensure z K1 at (within_one e n b args a at)) (stuck K1 at)) (sym h) refuse_
-
-pub of_its_kind : (e : Environment) (n at : Span) (b : PlainBound) (args : List PlainArg) (a : PlainArg) → is_of_kind a b ≡ true → argument_fits e n at b args a ≡ within_one e n b args a at
-of_its_kind e n at b args a h = ap (λ (z : Bool). ensure z K1 at (within_one e n b args a at)) h
 
 -- it fits, and is one more
 abbrev Fitted : Environment → Span → TypeTree → PlainBound → List PlainArg → PlainArg → Rule arguments_
@@ -90,17 +90,12 @@ arguments_row e s bs = record {
   more = λ xs x. ap (λ ts. rule e (written_arguments s ts bs)) (types_more no_types xs x);
 }
 
-pub counted_on : (ts : TypeTrees) (xs : List RTypeTree) → count_trees (types_on ts xs) ≡ count_trees ts + length xs
-unfolding types_on
-counted_on ts [] = omega arith
-counted_on ts (x ∷ xs) = omega (arith, counted_on (more_types ts (type_of x)) xs)
-
 so_many : (xs : List RTypeTree) (i : ℕ) → i ≤ length xs → count_trees (types_on no_types (take i xs)) ≡ i
-so_many xs i h = omega (arith, counted_on no_types (take i xs), length-take-le i xs h)
+so_many xs i h = count_trees_on (take i xs) ∙ length-take-le i xs h
 
 -- the bound of the next one's type field
 bound_at : (xs : List RTypeTree) (i : ℕ) (bs : List Bound) (b : Bound) → i < length xs → length xs ≤ length bs → b ≡ get_or bs i b → nth_bound (count_trees (types_on no_types (take i xs))) (plain_bounds bs) ≡ plain_bound b
-bound_at xs i bs b h n is = ap (λ m. nth_bound m (plain_bounds bs)) (so_many xs i (omega (arith, h))) ∙ bound_read bs i b (omega (arith, h, n)) is
+bound_at xs i bs b h n is = ap (λ m. nth_bound m (plain_bounds bs)) (so_many xs i (omega (arith, h))) ∙ nth_is bs i b (omega (arith, h, n)) is
 
 pub one_argument_more : (e : Environment) (s : Span) (xs : List RTypeTree) (i : ℕ) (t : RTypeTree) (bs : List Bound) (b : Bound) (args all : List Arg) (a : Arg) → i < length xs → length xs ≤ length bs → t ≡ get_or xs i t → b ≡ get_or bs i b → all ≡ args ++ a ∷ []
     → Runs (rule e (written_arguments s (types_on no_types (take i xs)) (plain_bounds bs))) (ok (plain_args args)) → Runs (argument_after e s (type_of t) (plain_bound b) (plain_args args)) (ok (plain_args args ++ plain_arg a ∷ []))
@@ -121,9 +116,6 @@ argument_refused e s xs i t bs b args y h n at is p q =
 pub no_argument : (e : Environment) (s : Span) (xs : List RTypeTree) (bs : PlainBounds) (args : List Arg) → args ≡ [] → Runs (rule e (written_arguments s (types_on no_types (take 0 xs)) bs)) (ok (plain_args args))
 unfolding types_on
 no_argument e s xs bs args is = subst (λ (z : List Arg). Runs (rule e (written_arguments s (types_on no_types []) bs)) (ok (plain_args z))) (sym is) give_
-
-pub all_arguments : (e : Environment) (s : Span) (xs : List RTypeTree) (i : ℕ) (bs : List Bound) (args : List PlainArg) → length xs ≤ i → Runs (rule e (written_arguments s (types_on no_types (take i xs)) (plain_bounds bs))) (ok args) → Runs (rule e (written_arguments s (types_on no_types xs) (plain_bounds bs))) (ok args)
-all_arguments e s xs i bs args h p = row_all (arguments_row e s (plain_bounds bs)) xs i args h p
 
 -- what the next one is asked
 abbrev IsAskedOf : Environment → Span → List RTypeTree → List Bound → Type 0
@@ -149,15 +141,8 @@ argument_bound e s xs i t bs b args h n is q p =
     let g = good_so_far e s xs i t bs args h q p in
     let m : length args ≡ i = g.1.1 ∙ so_many xs i (omega (arith, h)) in
     let c = count_bounds_length bs in
-    subst (λ d. BoundIsWellFormed e.names (kinds_with args (kinds_in e)) d) (ap (λ j. nth_bound j (plain_bounds bs)) m ∙ bound_read bs i b (omega (arith, h, n)) is)
+    subst (λ d. BoundIsWellFormed e.names (kinds_with args (kinds_in e)) d) (ap (λ j. nth_bound j (plain_bounds bs)) m ∙ nth_is bs i b (omega (arith, h, n)) is)
     (bound_under e.names (kinds_in e) (plain_bounds bs) args q.asked.1 g.1.0 (omega (arith, h, n, m, c)))
 
--- as many as type fields fit them all
-fit_all : (args : List PlainArg) (bs : PlainBounds) → FitFirst args bs → length args ≡ count_bounds bs → FitTheirFields args bs
-fit_all [] no_bound h n = tt
-fit_all [] (bounds b bs) h n = absurd (omega (arith, n))
-fit_all (a ∷ args) no_bound h n = absurd h
-fit_all (a ∷ args) (bounds b bs) h n = (h.0, fit_all args bs h.1 (omega (arith, n)))
-
 pub arguments_fit : (e : Environment) (s : Span) (ts : TypeTrees) (bs : PlainBounds) (args : List PlainArg) → IsWellAsked arguments_ e (written_arguments s ts bs) → count_trees ts ≡ count_bounds bs → Runs (rule e (written_arguments s ts bs)) (ok args) → FitTheirFields args bs
-arguments_fit e s ts bs args q n p = let g = good_of q p in fit_all args bs g.1.0 (g.1.1 ∙ n)
+arguments_fit e s ts bs args q n p = let g = good_of q p in all_fit args bs g.1.0 (g.1.1 ∙ n)

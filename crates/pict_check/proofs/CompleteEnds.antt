@@ -1,5 +1,5 @@
 -- Complete patterns, one lemma for each way that a body ends.
-use Rattle.std.proofs.Common.{◌≡◌, ℕ, ◌+◌, ◌<◌, Bool, true, ◌&&◌, not, is_some, Box, Global, List, [], ◌∷◌, length, get_or, take, Option, Some, None, refl, sym, ◌∙◌, ap, ap₂}
+use Rattle.std.proofs.Common.{◌≡◌, ℕ, ◌+◌, ◌<◌, Bool, ◌&&◌, is_some, Box, Global, List, [], ◌∷◌, length, get_or, take, Option, Some, None, refl, sym, ◌∙◌, ap, ap₂}
 use Rattle.pict_syntax.specs.declared.id.Id.{Id}
 use Rattle.pict_syntax.specs.declared.pattern.FieldPats.{FieldPats as RFieldPats}
 use Rattle.pict_syntax.specs.declared.pattern.LabelledPat.{LabelledPat as RLabelledPat}
@@ -8,49 +8,19 @@ use Rattle.pict_syntax.specs.declared.span.Span.{Span}
 use Rattle.pict_syntax.specs.declared.type_tree.RType.{RType as RRType}
 use Rattle.pict_syntax.specs.declared.type_tree.TypeTree.{TypeTree as RTypeTree}
 use Rattle.pict_syntax.specs.declared.type_tree.TypeBinder.{TypeBinder as RTypeBinder}
-use Rattle.pict_syntax.specs.Grammar.{type_span}
 use Rattle.pict_syntax.specs.PlainTrees.{annotation_of, binder_of, binders_on, field_pats_of, held_annotation, labelled_pats_on, pat_of, pats_on}
-use Rattle.pict_syntax.specs.Trees.{Pat, TypeTree, bound, field_pats, no_binders, no_labelled_pats, no_pats}
+use Rattle.pict_syntax.specs.Trees.{Pat, bound, field_pats, no_binders, no_labelled_pats, no_pats}
 use Rattle.pict_types.specs.Entries.{PlainContext, PlainEntry, Variable}
-use Rattle.pict_types.specs.Types.{Apply, Boolean, Chan, Char, Fields, Free, Int, PlainBound, PlainType, Rec, Str, Top, Var, is_top}
+use Rattle.pict_types.specs.Types.{Free, PlainBound}
 use Rattle.pict_normal.specs.BinderEntries.{entries_under}
-use Rattle.pict_normal.specs.Normal.{Stop, first_stop, kind_bound, kind_stop, kind_stops, normal, size_stop}
-use Rattle.pict_rules.specs.Complete.{are_bounded, are_complete, are_fields_complete, are_labels_complete, has_kind_or_bound, is_bounded, is_complete, is_top_without}
+use Rattle.pict_normal.specs.Normal.{kind_bound}
+use Rattle.pict_rules.specs.Complete.{are_bounded, are_complete, are_fields_complete, are_labels_complete, has_kind_or_bound, is_complete}
 use Rattle.pict_rules.specs.Environments.{Environment, extended, only_types}
 use Rattle.pict_infer.specs.declared.env.Env.{Env}
 use Rattle.pict_infer.specs.Environments.{environment_of, known_entries, known_names, IsAsBefore}
 use Rattle.pict_infer.proofs.Forms.{any_is, bind_is, fold_is, next_binder, next_labelled, next_pat}
 
 -- A WRITTEN BOUND
-
--- without refusal it is one where it isn't `Top`
-pub bounded_clear : (ns : List (List ℕ)) (c : PlainContext) (t : TypeTree) (u : PlainType) → kind_stop ns c t ≡ None → u ≡ normal ns c t → not (is_top u) ≡ is_bounded ns c (bound t)
-bounded_clear ns c t u h k = go (kind_stops ns c t) h
-  where
-    go : (stops : List Stop) → first_stop stops (size_stop c (normal ns c t) (type_span t)) ≡ None → not (is_top u) ≡ not (is_top_without stops (normal ns c t))
-    go [] p = ap (λ z. not (is_top z)) k
-    go (s ∷ stops) p = absurd (let e : Some s ≡ None = p in cc)
-
--- what is too big isn't `Top`
-big_is_bound : (c : PlainContext) (t : TypeTree) (x : Stop) (u : PlainType) → size_stop c u (type_span t) ≡ Some x → true ≡ not (is_top u)
-big_is_bound c t x Top h = absurd (let e : None ≡ Some x = h in cc)
-big_is_bound c t x Int h = refl
-big_is_bound c t x Char h = refl
-big_is_bound c t x Str h = refl
-big_is_bound c t x Boolean h = refl
-big_is_bound c t x (Var i) h = refl
-big_is_bound c t x (Apply i ts) h = refl
-big_is_bound c t x (Chan m u) h = refl
-big_is_bound c t x (Fields bs ps ls) h = refl
-big_is_bound c t x (Rec u) h = refl
-
--- with a refusal it is one
-pub bounded_stopped : (ns : List (List ℕ)) (c : PlainContext) (t : TypeTree) (x : Stop) → kind_stop ns c t ≡ Some x → true ≡ is_bounded ns c (bound t)
-bounded_stopped ns c t x h = go (kind_stops ns c t) h
-  where
-    go : (stops : List Stop) → first_stop stops (size_stop c (normal ns c t) (type_span t)) ≡ Some x → true ≡ not (is_top_without stops (normal ns c t))
-    go [] p = big_is_bound c t x (normal ns c t) p
-    go (s ∷ stops) p = refl
 
 -- TYPE BINDERS
 

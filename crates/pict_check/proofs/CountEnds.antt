@@ -7,7 +7,7 @@ use Rattle.pict_syntax.specs.declared.tree.Val.{Val as RVal}
 use Rattle.pict_syntax.specs.declared.tree.FieldVals.{FieldVals as RFieldVals}
 use Rattle.pict_syntax.specs.declared.tree.Abs.TheViews.{out-FieldVals}
 use Rattle.pict_syntax.specs.PlainTrees.{type_of, types_on, vals_on, labelled_vals_on, field_vals_of}
-use Rattle.pict_syntax.specs.Trees.{TypeTrees, no_types, more_types, no_vals, no_labelled_vals, field_vals}
+use Rattle.pict_syntax.specs.Trees.{TypeTrees, no_types, more_types, no_vals, no_labelled_vals}
 use Rattle.pict_types.specs.declared.types.Ty.{Ty}
 use Rattle.pict_types.specs.declared.types.Bound.{Bound}
 use Rattle.pict_types.specs.Types.{PlainTypes, PlainLabels, PlainBounds, count_bounds}
@@ -20,9 +20,9 @@ use Rattle.pict_rules.specs.Rules.{nothing_, Rule, ensure, ok, stuck}
 use Rattle.pict_rules.specs.Clauses.{done}
 use Rattle.pict_rules.specs.Derivations.{Runs, give_, refuse_}
 use Rattle.pict_check.specs.Counts.{as_many, counted, none_or_as_many}
-use Rattle.pict_check.proofs.Arguments.{counted_on}
-use Rattle.pict_check.proofs.Read.{parts_are}
 use Rattle.pict_check.proofs.RowEnds as rows
+use Rattle.pict_normal.proofs.Trees.{count_trees_on}
+use Rattle.pict_scope.proofs.ValueForms.{field_vals_are}
 
 -- how many there are
 some_written : (ts : TypeTrees) (t : RTypeTree) (xs : List RTypeTree) → none_written (types_on (more_types ts (type_of t)) xs) ≡ false
@@ -38,7 +38,7 @@ no_arguments (x ∷ xs) bs h = absurd (omega (arith, h))
 
 as_many_arguments : (xs : List RTypeTree) (bs : List Bound) → nat_eq (length xs) (length bs) ≡ nat_eq (count_trees (types_on no_types xs)) (count_bounds (plain_bounds bs))
 as_many_arguments xs bs =
-    let n : count_trees (types_on no_types xs) ≡ length xs = omega (arith, counted_on no_types xs) in
+    let n : count_trees (types_on no_types xs) ≡ length xs = count_trees_on xs in
     sym (ap₂ nat_eq n (count_bounds_length bs))
 
 pub some_arguments : (xs : List RTypeTree) (bs : List Bound) → nat_eq (length xs) 0 ≡ false → nat_eq (length xs) (length bs) ≡ none_or_as_many (types_on no_types xs) (plain_bounds bs)
@@ -65,7 +65,7 @@ abbrev labels_in : RFieldVals → PlainLabels → Bool
 labels_in f ms = all_written ms (labelled_vals_on no_labelled_vals (out-FieldVals f).labelled.items)
 
 lines_of : (s : Span) (f : RFieldVals) (bs : PlainBounds) (ps : PlainTypes) (ms : PlainLabels) → counted s (field_vals_of f) bs ps ms ≡ Lines s (arguments_in f bs) (values_in f ps) (labels_in f ms)
-lines_of s f bs ps ms = ap (λ z. counted s z bs ps ms) (parts_are f)
+lines_of s f bs ps ms = ap (λ z. counted s z bs ps ms) (field_vals_are f)
 
 pub other_arguments : (s : Span) (f : RFieldVals) (bs : PlainBounds) (ps : PlainTypes) (ms : PlainLabels) → arguments_in f bs ≡ false → Runs (counted s (field_vals_of f) bs ps ms) (stuck Y5 s)
 other_arguments s f bs ps ms a =

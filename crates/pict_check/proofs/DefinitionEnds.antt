@@ -2,7 +2,7 @@
 use Rattle.std.proofs.Common.{◌≡◌, ◌≤◌, ◌<◌, ◌+◌, ◌-◌, ℕ, zero, suc, List, [], ◌∷◌, ◌++◌, length, length-drop, get_or, take, drop, reverse, refl, sym, ◌∙◌, ap, ap₂, subst, arith, Result, Ok, Err, Option, Some, None, Global}
 use Rattle.std.specs.Prelude.{OnOk, Vec, option_to_list}
 use Rattle.std.specs.Result.{IsErrAnd}
-use Rattle.std.proofs.lemmas.List.{length-reverse, reverse-append, take_all, take-append-drop}
+use Rattle.std.proofs.lemmas.List.{length-reverse, reverse-append, take_all, take-append-drop, drop_all}
 use Rattle.pict_syntax.specs.declared.code.Code.{Code}
 use Rattle.pict_syntax.specs.declared.code.Code.TheVariants.{Y7}
 use Rattle.pict_syntax.specs.declared.id.Id.{Id}
@@ -18,10 +18,10 @@ use Rattle.pict_types.specs.declared.types.Record.{Record}
 use Rattle.pict_types.specs.declared.types.Ty.{Ty}
 use Rattle.pict_types.specs.Plain.{plain, plain_record}
 use Rattle.pict_types.specs.PlainContext.{names_of, plain_context}
-use Rattle.pict_types.specs.Entries.{EntriesAreWellFormed, PlainContext}
+use Rattle.pict_types.specs.Entries.{PlainContext}
 use Rattle.pict_normal.specs.Normal.{and_type, kind_stop, normal}
 use Rattle.pict_scope.specs.DistinctLabels.{AnnotationHasDistinctLabels}
-use Rattle.pict_rules.specs.Environments.{Environment, Extension, KnownValue, context_of, entries_of, extended, opened, shifted_by, within}
+use Rattle.pict_rules.specs.Environments.{Environment, KnownValue, context_of, extended, opened, shifted_by, within}
 use Rattle.pict_rules.specs.Rules.{Sort, nothing_, type_, environment_, fields_, pattern_, signature_, signatures_, Judgement, TypedFields, TypedPattern, pattern_gives, fields_give, has, process, declaration, signatures, signature, bodies, body, Body, process_body, value_body, Signature, Answer, Rule, give, part, refuse, ok, stuck, unless_stopped, within_limits}
 use Rattle.pict_rules.specs.Rules as rules
 use Rattle.pict_rules.specs.Clauses.{argument_type, values_of, with_own, with_signatures}
@@ -35,7 +35,7 @@ use Rattle.pict_infer.specs.declared.error.InferError.TheVariants.{Named, Memory
 use Rattle.pict_infer.specs.Adding.{extension_of}
 use Rattle.pict_infer.specs.Answering.{IsAnswer, IsRefused, nothing}
 use Rattle.pict_infer.specs.Asking.{IsWellAsked}
-use Rattle.pict_infer.specs.Environments.{environment_of, known_entries, known_names, GrewFrom, IsAsBefore, MayBeAdded}
+use Rattle.pict_infer.specs.Environments.{environment_of, GrewFrom, IsAsBefore}
 use Rattle.pict_infer.specs.Steps.{annotated, expanded}
 use Rattle.pict_infer.specs.Given.{record_given}
 use Rattle.pict_infer.specs.Places.{environment_in}
@@ -50,7 +50,6 @@ use Rattle.pict_check.specs.Lines.{formed}
 use Rattle.pict_check.specs.Operators.{type_if}
 use Rattle.pict_check.proofs.Ends.{ends_with, expands, past, past_refused, refused_here}
 use Rattle.pict_check.proofs.FieldEnds.{formed_is, formed_on}
-use Rattle.pict_check.proofs.Kept.{grew_kept}
 use Rattle.pict_check.proofs.Rows.{Row, first_asked, one_more, row_all, row_asked, row_more, row_refused}
 
 -- A SIGNATURE USES NO VALUE
@@ -312,15 +311,6 @@ pub next_body_refused : (e d : Environment) (n i : ℕ) (a : Abs) (x : Inside) (
 next_body_refused e d n i a x ss y k is p h =
     p.on (Err y) (subst (λ z. IsRefused (rule e (bodies z)) y) (sym k.here) (refused_here _ _ _ y (subst (λ z. IsRefused (rule (extended z k.given.adds) (body k.given.body)) y) is h)))
 
-none_left : {A : Type 0} (xs : List A) (i : ℕ) → length xs ≤ i → drop i xs ≡ []
-none_left [] i h = drop_nil i
-  where
-    drop_nil : {B : Type 0} (k : ℕ) → drop {A = B} k [] ≡ []
-    drop_nil zero = refl
-    drop_nil (suc k) = refl
-none_left (x ∷ xs) zero h = absurd (omega (arith, h))
-none_left (x ∷ xs) (suc i) h = none_left xs i (omega (arith, h))
-
 inside_as_many : (n : ℕ) (ds : List RDefinition) (xs : List Inside) (ss : List Signature) → AreInside n ds xs ss → length ds ≡ length ss
 inside_as_many n [] [] [] h = refl
 inside_as_many n [] [] (s ∷ ss) h = absurd h
@@ -330,7 +320,7 @@ inside_as_many n (d ∷ ds) (x ∷ xs) [] h = absurd h
 inside_as_many n (d ∷ ds) (x ∷ xs) (s ∷ ss) h = ap suc (inside_as_many n ds xs ss h.1)
 
 pub all_past : (e : Environment) (n : ℕ) (ds : List RDefinition) (xs : List Inside) (ss : List Signature) (i : ℕ) → AreInside n ds xs ss → length ds ≤ i → ArePast e ss i → Runs (rule e (bodies ss)) (ok tt)
-all_past e n ds xs ss i h l p = p.on (Ok tt) (subst (λ z. Runs (rule e (bodies z)) (ok tt)) (sym (none_left ss i (omega (arith, l, inside_as_many n ds xs ss h)))) give_)
+all_past e n ds xs ss i h l p = p.on (Ok tt) (subst (λ z. Runs (rule e (bodies z)) (ok tt)) (sym (drop_all i ss (omega (arith, l, inside_as_many n ds xs ss h)))) give_)
 
 -- the next of what is left, the last of a list in reverse
 pub record IsTakenNext (all : List Inside) (i : ℕ) (x : Inside) (rest : List Inside) : Type 0 where

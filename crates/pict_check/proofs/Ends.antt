@@ -6,7 +6,7 @@ use Rattle.pict_types.specs.Types.{PlainType}
 use Rattle.pict_syntax.specs.Trees.{TypeTree}
 use Rattle.pict_normal.specs.Normal.{kind_stop, size_stop}
 use Rattle.pict_rules.specs.Environments.{Environment, context_of}
-use Rattle.pict_rules.specs.Rules.{Sort, nothing_, type_, Judgement, Condition, is_subtype, Rule, Answer, give, refuse, need, part, ok, stuck, unless_stopped, within_limits, expand}
+use Rattle.pict_rules.specs.Rules.{Sort, nothing_, type_, Judgement, is_subtype, Rule, need, part, ok, within_limits, expand}
 use Rattle.pict_rules.specs.Rules as rules
 use Rattle.pict_rules.specs.Typing.{rule}
 use Rattle.pict_rules.specs.Derivations.{Runs, part_ok, part_stuck}

@@ -21,7 +21,7 @@ use Rattle.pict_check.specs.Judging.{IsRefusedFor}
 use Rattle.pict_check.specs.Nesting.{IsRightForm, right_form, wanted_right}
 use Rattle.pict_check.specs.Operators.{IsFoundFor, IsOperatorIn, found_by, frames_by, operator_of, type_if, vals_of}
 use Rattle.pict_check.specs.Reading.{found_for}
-use Rattle.pict_check.proofs.Frames.{frames_more, length_frames, length_vals, val_at}
+use Rattle.pict_check.proofs.Frames.{frames_more, length_frames, length_vals, val_at, FieldFinds}
 use Rattle.pict_check.proofs.NestedAsked.{inside_asked, level_asked, step_asked}
 use Rattle.pict_check.proofs.NestedFormed.{after_found, before_found, expected_for, operator_formed, regular_for, second_formed}
 use Rattle.pict_check.proofs.Rights.{IsStep, first_refused, room_refused, step_entered, step_inside}
@@ -102,17 +102,13 @@ next_refused {e = e} {e' = e'} {o = o} {vs = vs} {x = x} {fs = fs} {w = w} {i = 
     (subst (λ t. IsRefused (rule e' (value_fits o.span (val_of r) t (found_by o b))) y) p.first
     (subst (λ z. IsRefused (rule e' (value_fits o.span (val_of r) u (found_for z b))) y) p.bounds h)))
 
--- the first field found this
-abbrev pub FirstFinds : Environment → Operator → Found → RVal → List Bound → PlainType → Found → Type 0
-FirstFinds e' o b r bs u g = Runs (rule e' (value_fits o.span (val_of r) u (found_for bs b))) (ok (found_for bs g))
-
-ran : {e e' : Environment} {o : Operator} {vs : List RVal} {x : Option Ty} {fs : List Found} {w : Option Ty} {i : ℕ} {b : Found} {r : RVal} {bs : List Bound} {u : PlainType} (g : Found) → EntersNext e e' o vs x fs w i b r bs u → FirstFinds e' o b r bs u g → Runs (rule e' (value_fits o.span (get_or (vals_of vs) i (val_of r)) (operator_of o).first (found_by o b))) (ok (found_by o g))
+ran : {e e' : Environment} {o : Operator} {vs : List RVal} {x : Option Ty} {fs : List Found} {w : Option Ty} {i : ℕ} {b : Found} {r : RVal} {bs : List Bound} {u : PlainType} (g : Found) → EntersNext e e' o vs x fs w i b r bs u → FieldFinds e' o b r bs u g → Runs (rule e' (value_fits o.span (get_or (vals_of vs) i (val_of r)) (operator_of o).first (found_by o b))) (ok (found_by o g))
 ran {e' = e'} {o = o} {b = b} {r = r} {u = u} g p h =
     subst (λ v. Runs (rule e' (value_fits o.span v (operator_of o).first (found_by o b))) (ok (found_by o g))) (sym (value_is p))
     (subst (λ t. Runs (rule e' (value_fits o.span (val_of r) t (found_by o b))) (ok (found_by o g))) p.first
     (subst (λ z. Runs (rule e' (value_fits o.span (val_of r) u (found_for z b))) (ok (found_for z g))) p.bounds h))
 
-pub next_found : {e e' e2 : Environment} {o : Operator} {vs : List RVal} {x : Option Ty} {fs : List Found} {w : Option Ty} {i : ℕ} {b : Found} {r : RVal} {bs : List Bound} {u : PlainType} (g : Found) → EntersNext e e' o vs x fs w i b r bs u → FirstFinds e' o b r bs u g → e2 ≡ e' → IsFoundFor e2 (operator_of o).binders (found_by o g)
+pub next_found : {e e' e2 : Environment} {o : Operator} {vs : List RVal} {x : Option Ty} {fs : List Found} {w : Option Ty} {i : ℕ} {b : Found} {r : RVal} {bs : List Bound} {u : PlainType} (g : Found) → EntersNext e e' o vs x fs w i b r bs u → FieldFinds e' o b r bs u g → e2 ≡ e' → IsFoundFor e2 (operator_of o).binders (found_by o g)
 next_found {e = e} {e' = e'} {o = o} {vs = vs} {x = x} {fs = fs} {w = w} {i = i} {b = b} {r = r} g p h q =
     let s = step_of p in
     let few : suc (length (frames_by o fs)) < length (vals_of vs) = omega (arith, s.count, s.more) in
@@ -125,12 +121,12 @@ next_found {e = e} {e' = e'} {o = o} {vs = vs} {x = x} {fs = fs} {w = w} {i = i}
     (step_asked e e' o.span o.name (operator_of o) (vals_of vs) (type_if x) (frames_by o fs) i (found_by o b) (type_if w) (val_of r) s p.so_far.form.asked) (ran g p h))
 
 -- what is wanted of the second one passes a limit, or not
-pub next_stopped : {e e' e2 : Environment} {o : Operator} {vs : List RVal} {x : Option Ty} {fs : List Found} {w : Option Ty} {i : ℕ} {b : Found} {r : RVal} {bs : List Bound} {u t : PlainType} (g : Found) (y : InferError) → EntersNext e e' o vs x fs w i b r bs u → FirstFinds e' o b r bs u g → e2 ≡ e' → t ≡ (operator_of o).second → IsStopped (room_stop e2 o.span (wanted_at t (found_by o g))) y → IsRefusedFor e (right_form o vs) (type_if x) y
+pub next_stopped : {e e' e2 : Environment} {o : Operator} {vs : List RVal} {x : Option Ty} {fs : List Found} {w : Option Ty} {i : ℕ} {b : Found} {r : RVal} {bs : List Bound} {u t : PlainType} (g : Found) (y : InferError) → EntersNext e e' o vs x fs w i b r bs u → FieldFinds e' o b r bs u g → e2 ≡ e' → t ≡ (operator_of o).second → IsStopped (room_stop e2 o.span (wanted_at t (found_by o g))) y → IsRefusedFor e (right_form o vs) (type_if x) y
 next_stopped {e = e} {e' = e'} {e2 = e2} {o = o} {vs = vs} {x = x} {fs = fs} {w = w} {i = i} {b = b} {r = r} g y p h q is z =
     room_refused e e' e2 o.span o.name (operator_of o) (vals_of vs) (type_if x) (frames_by o fs) i (found_by o b) (type_if w) (val_of r) (found_by o g) y (step_of p) q (ran g p h)
     (subst (λ t. IsStopped (room_stop e2 o.span (wanted_at t (found_by o g))) y) is z)
 
-pub next_entered : {e e' e2 : Environment} {o : Operator} {vs : List RVal} {x : Option Ty} {fs gs : List Found} {w v : Option Ty} {i : ℕ} {b : Found} {r : RVal} {bs : List Bound} {u t : PlainType} (g : Found) → EntersNext e e' o vs x fs w i b r bs u → FirstFinds e' o b r bs u g → e2 ≡ e' → t ≡ (operator_of o).second → room_stop e2 o.span (wanted_at t (found_by o g)) ≡ None → type_if v ≡ wanted_at t (found_by o g) → gs ≡ fs ++ g ∷ [] → IsEntering e o vs x gs v (i + 1)
+pub next_entered : {e e' e2 : Environment} {o : Operator} {vs : List RVal} {x : Option Ty} {fs gs : List Found} {w v : Option Ty} {i : ℕ} {b : Found} {r : RVal} {bs : List Bound} {u t : PlainType} (g : Found) → EntersNext e e' o vs x fs w i b r bs u → FieldFinds e' o b r bs u g → e2 ≡ e' → t ≡ (operator_of o).second → room_stop e2 o.span (wanted_at t (found_by o g)) ≡ None → type_if v ≡ wanted_at t (found_by o g) → gs ≡ fs ++ g ∷ [] → IsEntering e o vs x gs v (i + 1)
 next_entered {e = e} {e' = e'} {e2 = e2} {o = o} {vs = vs} {x = x} {fs = fs} {gs = gs} {w = w} {i = i} {b = b} {r = r} g p h q is room wanted items =
     let more = frames_more o fs gs g items in
     record {

@@ -7,13 +7,13 @@ use Rattle.pict_syntax.specs.Grammar.{val_span}
 use Rattle.pict_syntax.specs.Trees.{Val, Vals, FieldVals, field_vals, LabelledVals, TypeTrees}
 use Rattle.pict_types.specs.Types.{PlainType, PlainTypes, PlainLabels, PlainBounds, PlainArg, count_types, count_bounds}
 use Rattle.pict_types.specs.Replacing.{instance_of}
-use Rattle.pict_normal.specs.Normal.{Stop, count_trees, size_stop}
+use Rattle.pict_normal.specs.Normal.{count_trees, size_stop, Stop}
 use Rattle.pict_rules.specs.Counts.{count_vals}
 use Rattle.pict_sub.specs.Exposing.{exposure}
 use Rattle.pict_rules.specs.Environments.{Environment, context_of}
 use Rattle.pict_rules.specs.Found.{Found, filled, matched, mentions_missing, with_found}
 use Rattle.pict_rules.specs.Shapes.{Function, all_written, applicable, none_written}
-use Rattle.pict_rules.specs.Rules.{Sort, nothing_, type_, arguments_, found_, Judgement, gives, has, application, fields_fit, written_arguments, values_fit, labelled_values_fit, value_fits, given_fits, Rule, Answer, give, refuse, part, ok, stuck, ensure, unless_stopped, within_limits}
+use Rattle.pict_rules.specs.Rules.{Sort, nothing_, type_, arguments_, found_, gives, has, application, fields_fit, written_arguments, labelled_values_fit, value_fits, given_fits, Rule, Answer, give, part, ok, stuck, ensure, unless_stopped, within_limits}
 use Rattle.pict_rules.specs.Rules as rules
 use Rattle.pict_rules.specs.Clauses.{check, done, found_first, in_order, need_function}
 use Rattle.pict_rules.specs.Typing.{rule}

@@ -1,6 +1,6 @@
 -- The fields of a record or an application: what their counts say, what is asked of their values, and the ends where type
 -- arguments are written.
-use Rattle.std.proofs.Common.{◌≡◌, ◌||◌, ◌≤◌, ℕ, suc, List, [], ◌∷◌, length, refl, sym, ◌∙◌, ap, subst, arith, Bool, true, false, map, Result}
+use Rattle.std.proofs.Common.{◌≡◌, ◌||◌, ℕ, List, [], length, refl, sym, ◌∙◌, subst, arith, Bool, true, false, map, Result}
 use Rattle.std.specs.Prelude.{nat_eq}
 use Rattle.std.proofs.lemmas.Bool.{eqb-true}
 use Rattle.pict_syntax.specs.declared.code.Code.{Code}
@@ -23,7 +23,7 @@ use Rattle.pict_scope.specs.DistinctLabels.{LabelledValsAreDistinct}
 use Rattle.pict_rules.specs.Counts.{count_vals}
 use Rattle.pict_rules.specs.Environments.{Environment}
 use Rattle.pict_rules.specs.Found.{Found, filled}
-use Rattle.pict_rules.specs.Regular.{FoundFits, IsTypeIn, kinds_found, kinds_in, kinds_of_fields, kinds_within}
+use Rattle.pict_rules.specs.Regular.{FoundFits, IsTypeIn, kinds_found, kinds_in, kinds_within}
 use Rattle.pict_rules.specs.Shapes.{all_written, none_written}
 use Rattle.pict_rules.specs.Rules.{Sort, nothing_, arguments_, found_, fields_fit, labelled_values_fit, values_fit, written_arguments, Rule, ok, give, part, ensure}
 use Rattle.pict_rules.specs.Rules as rules
@@ -38,11 +38,11 @@ use Rattle.pict_infer.specs.Asking.{IsWellAsked}
 use Rattle.pict_check.specs.Counts.{as_many, counted, none_or_as_many}
 use Rattle.pict_check.specs.Lines.{formed, labelled_of, positional_of}
 use Rattle.pict_check.specs.Records.{values_in_order}
-use Rattle.pict_check.proofs.Arguments.{counted_on as trees_on}
 use Rattle.pict_check.proofs.Ends.{ends_with, good_of, past, refused_here}
 use Rattle.pict_check.proofs.FieldEnds.{IsFields, written_done, written_values_refused}
 use Rattle.pict_check.proofs.PutFields as put
 use Rattle.pict_check.proofs.RowEnds.{counted_on}
+use Rattle.pict_normal.proofs.Trees.{count_trees_on}
 
 -- WHAT THE COUNTS SAY
 
@@ -71,7 +71,7 @@ pub as_many_trees : (ts : TypeTrees) (bs : PlainBounds) → none_written ts ≡ 
 as_many_trees ts bs n h = eqb-true (count_trees ts) (count_bounds bs) (or_else (none_written ts) (nat_eq (count_trees ts) (count_bounds bs)) n h)
 
 pub as_many_arguments : (xs : List RTypeTree) (bs : List Bound) → none_written (types_on no_types xs) ≡ false → none_or_as_many (types_on no_types xs) (plain_bounds bs) ≡ true → length xs ≡ length bs
-as_many_arguments xs bs n h = omega (arith, as_many_trees (types_on no_types xs) (plain_bounds bs) n h, trees_on no_types xs, count_bounds_length bs)
+as_many_arguments xs bs n h = omega (arith, as_many_trees (types_on no_types xs) (plain_bounds bs) n h, count_trees_on xs, count_bounds_length bs)
 
 -- WHAT IS ASKED OF THE VALUES
 

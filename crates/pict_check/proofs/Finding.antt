@@ -1,5 +1,5 @@
 -- What is found for type fields, as the code keeps it and as the rules see it.
-use Rattle.std.proofs.Common.{◌≡◌, ◌<◌, ◌+◌, ℕ, zero, suc, true, false, List, [], ◌∷◌, ◌++◌, map, length, get_or, take, take-suc, refl, sym, ◌∙◌, ap, subst, add-one, arith, Option, Some, None}
+use Rattle.std.proofs.Common.{◌≡◌, ◌<◌, ◌+◌, ℕ, zero, suc, true, false, List, [], ◌∷◌, ◌++◌, map, length, get_or, take, refl, sym, ◌∙◌, ap, subst, arith, Option, Some, None}
 use Rattle.std.proofs.lemmas.List.{length-take-le, map-append}
 use Rattle.pict_types.specs.declared.types.Ty.{Ty}
 use Rattle.pict_types.specs.declared.types.Bound.{Bound}
@@ -14,6 +14,7 @@ use Rattle.pict_rules.specs.Rules.{ok, stuck}
 use Rattle.pict_rules.specs.Derivations.{Runs, give_, refuse_}
 use Rattle.pict_check.specs.Lines as lines
 use Rattle.pict_check.specs.Reading.{slot}
+use Rattle.pict_scope.proofs.Reading.{taken}
 
 -- nothing is found yet
 abbrev pub AreMissing : List (Option Ty) → Type 0
@@ -80,17 +81,13 @@ found_given bs xs args s h = rw (found_all bs xs args h, found_arguments bs xs a
 pub missing_refused : (bs : PlainBounds) (xs : List (Option Ty)) (i : ℕ) (d : Option Ty) (s : Span) → i < length xs → get_or xs i d ≡ None → Runs (lines.all_found (slots bs xs) s) (stuck Y10 s)
 missing_refused bs xs i d s n h = rw (one_missing bs xs i d n h) refuse_
 
--- loops over what is found: one type field more
-pub next_taken : {A : Type 0} (xs : List A) (i : ℕ) (d : A) → i < length xs → d ≡ get_or xs i d → take (i + 1) xs ≡ take i xs ++ d ∷ []
-next_taken xs i d h is = rw (add-one, take-suc xs i d h) (ap (λ z. take i xs ++ z ∷ []) (sym is))
-
 pub args_more : (args : List Arg) (a : Arg) → plain_args (args ++ a ∷ []) ≡ plain_args args ++ plain_arg a ∷ []
 args_more [] a = refl
 args_more (b ∷ args) a = ap (λ z. plain_arg b ∷ z) (args_more args a)
 
 pub found_next : (xs : List (Option Ty)) (i : ℕ) (d : Option Ty) (t : Ty) (a : Arg) (args all : List Arg) → i < length xs → d ≡ get_or xs i d → d ≡ Some t → plain_arg a ≡ Plain (plain t) → all ≡ args ++ a ∷ [] → AreFound (take i xs) (plain_args args) → AreFound (take (i + 1) xs) (plain_args all)
 found_next xs i d t a args all h is k e more f =
-    subst (λ z. AreFound z (plain_args all)) (sym (next_taken xs i d h is ∙ ap (λ z. take i xs ++ z ∷ []) k))
+    subst (λ z. AreFound z (plain_args all)) (sym (taken xs i d h is ∙ ap (λ z. take i xs ++ z ∷ []) k))
     (subst (λ z. AreFound (take i xs ++ Some t ∷ []) z) (sym (ap plain_args more ∙ args_more args a ∙ ap (λ z. plain_args args ++ z ∷ []) e))
     (found_more (take i xs) (plain_args args) t f))
 
@@ -100,4 +97,4 @@ arguments_next bs xs i d b a args all h n is at e more f =
     ap plain_args more ∙ args_more args a ∙ ap (λ z. plain_args args ++ z ∷ []) e ∙ ap (λ z. z ++ argument_in (slot (plain_bound b) d) ∷ []) f
     ∙ sym (map-append argument_in (slots (plain_bounds bs) (take i xs)) (slot (plain_bound b) d ∷ []))
     ∙ ap (map argument_in) (sym (slots_more bs (take i xs) b d (omega (arith, l, n, h)) (at ∙ ap (λ m. get_or bs m b) (sym l))))
-    ∙ ap (λ z. map argument_in (slots (plain_bounds bs) z)) (sym (next_taken xs i d h is))
+    ∙ ap (λ z. map argument_in (slots (plain_bounds bs) z)) (sym (taken xs i d h is))

@@ -27,7 +27,7 @@ use Rattle.pict_check.specs.Lines.{application_end, fields_end}
 use Rattle.pict_check.specs.Nesting.{AreAllBegun, IsLeftForm, left_first, left_form, wanted_left}
 use Rattle.pict_check.specs.Operators.{AreFoundFor, HaveRoom, IsFoundFor, IsOperatorIn, found_by, frames_by, operator_of, type_if, vals_of}
 use Rattle.pict_check.specs.Reading.{found_for}
-use Rattle.pict_check.proofs.Frames.{frames_more, length_frames, length_vals, val_at}
+use Rattle.pict_check.proofs.Frames.{frames_more, length_frames, length_vals, val_at, FieldFinds}
 use Rattle.pict_check.proofs.Lefts.{IsHalf, IsTurn, Taken, half, half_answer, half_done, half_end, half_second, half_span, left_all, turn_first_refused}
 use Rattle.pict_check.proofs.Lefts as lefts
 use Rattle.pict_check.proofs.NestedFormed.{after_found, first_formed, operator_formed, regular_for}
@@ -174,30 +174,26 @@ midway_refused {e' = e'} {o = o} {g = g} {r = r} {u = u} y p h =
     (subst (λ t. IsRefused (rule e' (value_fits o.span (val_of r) t (found_by o g))) y) p.second
     (subst (λ z. IsRefused (rule e' (value_fits o.span (val_of r) u (found_for z g))) y) p.bounds h)))
 
--- the second field found this
-abbrev pub SecondFinds : Environment → Operator → Found → RVal → List Bound → PlainType → Found → Type 0
-SecondFinds e' o g r bs u h = Runs (rule e' (value_fits o.span (val_of r) u (found_for bs g))) (ok (found_for bs h))
-
-ran : {e e' : Environment} {o : Operator} {vs : List RVal} {x : Option Ty} {fs : List Found} {n : ℕ} {g : Found} {r : RVal} {bs : List Bound} {u : PlainType} (h : Found) → IsMidway e e' o vs x fs n g r bs u → SecondFinds e' o g r bs u h → Runs (rule e' (value_fits o.span (get_or (vals_of vs) n (val_of r)) (operator_of o).second (found_by o g))) (ok (found_by o h))
+ran : {e e' : Environment} {o : Operator} {vs : List RVal} {x : Option Ty} {fs : List Found} {n : ℕ} {g : Found} {r : RVal} {bs : List Bound} {u : PlainType} (h : Found) → IsMidway e e' o vs x fs n g r bs u → FieldFinds e' o g r bs u h → Runs (rule e' (value_fits o.span (get_or (vals_of vs) n (val_of r)) (operator_of o).second (found_by o g))) (ok (found_by o h))
 ran {e' = e'} {o = o} {g = g} {r = r} {u = u} h p k =
     subst (λ v. Runs (rule e' (value_fits o.span v (operator_of o).second (found_by o g))) (ok (found_by o h))) (sym p.value)
     (subst (λ t. Runs (rule e' (value_fits o.span (val_of r) t (found_by o g))) (ok (found_by o h))) p.second
     (subst (λ z. Runs (rule e' (value_fits o.span (val_of r) u (found_for z g))) (ok (found_for z h))) p.bounds k))
 
-pub midway_found : {e e' e2 : Environment} {o : Operator} {vs : List RVal} {x : Option Ty} {fs : List Found} {n : ℕ} {g : Found} {r : RVal} {bs : List Bound} {u : PlainType} (h : Found) → IsMidway e e' o vs x fs n g r bs u → SecondFinds e' o g r bs u h → e2 ≡ e' → IsFoundFor e2 (operator_of o).binders (found_by o h)
+pub midway_found : {e e' e2 : Environment} {o : Operator} {vs : List RVal} {x : Option Ty} {fs : List Found} {n : ℕ} {g : Found} {r : RVal} {bs : List Bound} {u : PlainType} (h : Found) → IsMidway e e' o vs x fs n g r bs u → FieldFinds e' o g r bs u h → e2 ≡ e' → IsFoundFor e2 (operator_of o).binders (found_by o h)
 midway_found {e' = e'} {o = o} {vs = vs} {n = n} {g = g} {r = r} h p k q =
     subst (λ z. IsFoundFor z (operator_of o).binders (found_by o h)) (sym q)
     (after_found e' o.span (get_or (vals_of vs) n (val_of r)) (operator_of o).binders (operator_of o).second (found_by o g) (found_by o h) p.found (midway_fits p) (ran h p k))
 
-pub midway_end : {e e' e2 : Environment} {o : Operator} {vs : List RVal} {x : Option Ty} {fs : List Found} {n : ℕ} {g : Found} {r : RVal} {bs : List Bound} {u : PlainType} (h : Found) (y : InferError) → IsMidway e e' o vs x fs n g r bs u → SecondFinds e' o g r bs u h → e2 ≡ e' → IsRefused (fields_end e2 o.span (operator_of o).binders (found_by o h)) y → IsRefusedFor e (left_form o vs) (type_if x) y
+pub midway_end : {e e' e2 : Environment} {o : Operator} {vs : List RVal} {x : Option Ty} {fs : List Found} {n : ℕ} {g : Found} {r : RVal} {bs : List Bound} {u : PlainType} (h : Found) (y : InferError) → IsMidway e e' o vs x fs n g r bs u → FieldFinds e' o g r bs u h → e2 ≡ e' → IsRefused (fields_end e2 o.span (operator_of o).binders (found_by o h)) y → IsRefusedFor e (left_form o vs) (type_if x) y
 midway_end {o = o} {r = r} h y p k q z = half_end (val_of r) (found_by o h) y p.here q (ran h p k) z
 
-pub midway_answer : {e e' e2 : Environment} {o : Operator} {vs : List RVal} {x : Option Ty} {fs : List Found} {n : ℕ} {g : Found} {r : RVal} {bs : List Bound} {u : PlainType} {args out : List Arg} {w : Option PlainType} (h : Found) (y : InferError) → IsMidway e e' o vs x fs n g r bs u → SecondFinds e' o g r bs u h → e2 ≡ e' → Runs (fields_end e2 o.span (operator_of o).binders (found_by o h)) (ok (plain_args args)) → w ≡ wanted_left o x fs → out ≡ args → IsRefused (application_end e2 o.span (operator_of o).answer (plain_args out) w) y → IsRefusedFor e (left_form o vs) (type_if x) y
+pub midway_answer : {e e' e2 : Environment} {o : Operator} {vs : List RVal} {x : Option Ty} {fs : List Found} {n : ℕ} {g : Found} {r : RVal} {bs : List Bound} {u : PlainType} {args out : List Arg} {w : Option PlainType} (h : Found) (y : InferError) → IsMidway e e' o vs x fs n g r bs u → FieldFinds e' o g r bs u h → e2 ≡ e' → Runs (fields_end e2 o.span (operator_of o).binders (found_by o h)) (ok (plain_args args)) → w ≡ wanted_left o x fs → out ≡ args → IsRefused (application_end e2 o.span (operator_of o).answer (plain_args out) w) y → IsRefusedFor e (left_form o vs) (type_if x) y
 midway_answer {e2 = e2} {o = o} {r = r} {args = args} {w = w} h y p k q found wanted is z =
     half_answer (val_of r) (found_by o h) (plain_args args) w y p.here q (ran h p k) found wanted
     (subst (λ l. IsRefused (application_end e2 o.span (operator_of o).answer (plain_args l) w) y) is z)
 
-pub midway_done : {e e' e2 : Environment} {o : Operator} {vs : List RVal} {x : Option Ty} {fs : List Found} {n : ℕ} {g : Found} {r : RVal} {bs : List Bound} {u t : PlainType} {args out : List Arg} {w : Option PlainType} (h : Found) → IsMidway e e' o vs x fs n g r bs u → SecondFinds e' o g r bs u h → e2 ≡ e' → Runs (fields_end e2 o.span (operator_of o).binders (found_by o h)) (ok (plain_args args)) → w ≡ wanted_left o x fs → out ≡ args → Runs (application_end e2 o.span (operator_of o).answer (plain_args out) w) (ok t) → IsFor e (within o vs fs) (wanted_left o x fs) (Some t)
+pub midway_done : {e e' e2 : Environment} {o : Operator} {vs : List RVal} {x : Option Ty} {fs : List Found} {n : ℕ} {g : Found} {r : RVal} {bs : List Bound} {u t : PlainType} {args out : List Arg} {w : Option PlainType} (h : Found) → IsMidway e e' o vs x fs n g r bs u → FieldFinds e' o g r bs u h → e2 ≡ e' → Runs (fields_end e2 o.span (operator_of o).binders (found_by o h)) (ok (plain_args args)) → w ≡ wanted_left o x fs → out ≡ args → Runs (application_end e2 o.span (operator_of o).answer (plain_args out) w) (ok t) → IsFor e (within o vs fs) (wanted_left o x fs) (Some t)
 midway_done {e = e} {e2 = e2} {o = o} {vs = vs} {x = x} {fs = fs} {r = r} {t = t} {args = args} {w = w} h p k q found wanted is z =
     subst (λ m. IsFor e (Taken o.span o.name m (vals_of vs)) (wanted_left o x fs) (Some t)) p.next
     (half_done (val_of r) (found_by o h) (plain_args args) w t p.here q (ran h p k) found wanted

@@ -1,21 +1,18 @@
 -- Values that fit fields, one after another: what is asked of the next one, and the ends of a record's values.
-use Rattle.std.proofs.Common.{◌≡◌, ℕ, zero, suc, ◌+◌, ◌<◌, ◌≤◌, List, [], ◌∷◌, length, get_or, take, sym, ◌∙◌, ap, subst, arith, Result, Ok, Err, OnOk, Option, Some, None}
+use Rattle.std.proofs.Common.{◌≡◌, ℕ, zero, suc, ◌+◌, ◌<◌, ◌≤◌, List, [], ◌∷◌, length, get_or, take, sym, subst, arith, Result, Ok, Err, OnOk, Option, Some, None}
 use Rattle.pict_syntax.specs.declared.span.Span.{Span}
 use Rattle.pict_syntax.specs.declared.id.Id.{Id}
-use Rattle.pict_syntax.specs.declared.tree.Val.{Val as RVal}
 use Rattle.pict_syntax.specs.declared.tree.LabelledVal.{LabelledVal as RLabelledVal}
-use Rattle.pict_syntax.specs.Trees.{Val, Vals, no_vals, LabelledVals, no_labelled_vals, more_labelled_vals}
+use Rattle.pict_syntax.specs.Trees.{Val, no_vals, LabelledVals, no_labelled_vals, more_labelled_vals}
 use Rattle.pict_syntax.specs.PlainTrees.{labelled_vals_on, val_of, vals_on}
 use Rattle.pict_syntax.proofs.ValueLists.{labelled_vals_none, vals_none}
-use Rattle.pict_types.specs.declared.types.Ty.{Ty}
-use Rattle.pict_types.specs.Plain.{plain, plain_types}
 use Rattle.pict_types.specs.Types.{PlainType, PlainTypes, PlainLabels, type_at}
-use Rattle.pict_types.specs.Kinds.{IsWellFormed, LabelsAreWellFormed}
+use Rattle.pict_types.specs.Kinds.{LabelsAreWellFormed}
 use Rattle.pict_scope.specs.DistinctLabels.{LabelledValsAreDistinct, ValHasDistinctLabels}
 use Rattle.pict_rules.specs.Environments.{Environment}
 use Rattle.pict_rules.specs.Found.{Found}
 use Rattle.pict_rules.specs.Regular.{FoundFits, IsRegular, kinds_found, kinds_in, kinds_within}
-use Rattle.pict_rules.specs.Rules.{found_, type_, gives, given_fits, value_fits, values_fit, labelled_values_fit, Rule, ok, give, part}
+use Rattle.pict_rules.specs.Rules.{found_, gives, given_fits, value_fits, values_fit, labelled_values_fit, Rule, ok, give, part}
 use Rattle.pict_rules.specs.Clauses.{if_labelled}
 use Rattle.pict_rules.specs.Typing.{rule}
 use Rattle.pict_rules.specs.Derivations.{Runs, give_, part_ok}

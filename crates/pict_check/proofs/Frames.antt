@@ -6,13 +6,18 @@ use Rattle.pict_syntax.specs.PlainTrees.{val_of}
 use Rattle.pict_syntax.specs.Trees.{Val}
 use Rattle.pict_types.specs.declared.types.Ty.{Ty}
 use Rattle.pict_types.specs.declared.types.Bound.{Bound}
-use Rattle.pict_types.specs.Types.{PlainBounds}
+use Rattle.pict_types.specs.Types.{PlainBounds, PlainType}
 use Rattle.pict_types.specs.Plain.{plain_bounds}
 use Rattle.pict_match.specs.declared.found.Found.{Found}
 use Rattle.pict_match.specs.PlainFound.{slots, later_bounds}
 use Rattle.pict_rules.specs.Regular.{kinds_found, kinds_of_fields}
 use Rattle.pict_check.specs.declared.operators.Operator.{Operator}
 use Rattle.pict_check.specs.Operators.{found_by, frames_by, vals_of}
+use Rattle.pict_rules.specs.Environments.{Environment}
+use Rattle.pict_rules.specs.Rules.{value_fits, ok}
+use Rattle.pict_rules.specs.Derivations.{Runs}
+use Rattle.pict_rules.specs.Typing.{rule}
+use Rattle.pict_check.specs.Reading.{found_for}
 
 pub frames_more : (o : Operator) (fs gs : List Found) (g : Found) → gs ≡ fs ++ g ∷ [] → frames_by o gs ≡ frames_by o fs ++ found_by o g ∷ []
 frames_more o fs gs g h = ap (frames_by o) h ∙ map-append (found_by o) fs (g ∷ [])
@@ -41,3 +46,7 @@ fields_length (b ∷ bs) = ap suc (fields_length bs)
 
 pub found_count : (o : Operator) (g : Found) → kinds_found (found_by o g) ≡ kinds_of_fields (plain_bounds o.function.fields.binders.items) → length o.function.fields.binders.items ≡ length g.list.items
 found_count o g h = sym (fields_length o.function.fields.binders.items) ∙ (ap length (sym h) ∙ kinds_length (plain_bounds o.function.fields.binders.items) g.list.items)
+
+-- a field found this, where that was found before it
+abbrev pub FieldFinds : Environment → Operator → Found → RVal → List Bound → PlainType → Found → Type 0
+FieldFinds e o f v bs t g = Runs (rule e (value_fits o.span (val_of v) t (found_for bs f))) (ok (found_for bs g))

@@ -1,13 +1,12 @@
 -- What is known after calls that leave it as it was, and calls that make more known.
-use Rattle.std.proofs.Common.{◌≡◌, [], ◌++◌, length, sym, ◌∙◌, ap, subst, Result, OnOk}
+use Rattle.std.proofs.Common.{[], ◌++◌, length, sym, ◌∙◌, ap, subst, Result, OnOk}
 use Rattle.pict_syntax.proofs.ListLemmas.{on_ok}
 use Rattle.pict_types.specs.Entries.{EntriesAreWellFormed, variables}
 use Rattle.pict_rules.specs.Environments.{Environment, entries_of}
 use Rattle.pict_infer.specs.declared.added.Added.{Added}
 use Rattle.pict_infer.specs.declared.env.Env.{Env}
-use Rattle.pict_infer.specs.declared.env.Place.{Place}
 use Rattle.pict_infer.specs.declared.error.InferError.{InferError}
-use Rattle.pict_infer.specs.Environments.{GrewFrom, HasGrownFrom, IsAsBefore, IsPlaceOf, MayBeAdded}
+use Rattle.pict_infer.specs.Environments.{GrewFrom, IsAsBefore, MayBeAdded}
 use Rattle.pict_infer.specs.Knowing.{known_types}
 use Rattle.pict_infer.proofs.Growing.{grew_types}
 use Rattle.pict_infer.proofs.MadeKnown.{grew_twice}

@@ -1,11 +1,11 @@
 -- The head of applications to two values: where it is no operator, all of them are refused alike.
-use Rattle.std.proofs.Common.{◌≡◌, ℕ, zero, suc, true, false, nat_eq, refl, List, [], ◌∷◌, length, get_or, ◌<◌, Some, arith}
+use Rattle.std.proofs.Common.{◌≡◌, true, false, nat_eq, refl, List, [], ◌∷◌, length, Some, arith}
 use Rattle.pict_syntax.specs.declared.code.Code.TheVariants.{Y5, Y6}
 use Rattle.pict_syntax.specs.declared.span.Span.{Span}
 use Rattle.pict_syntax.specs.declared.id.Id.{Id}
 use Rattle.pict_types.specs.declared.types.Ty.{Ty}
 use Rattle.pict_types.specs.Types.{PlainLabels, no_label, labels, no_type, types, count_types}
-use Rattle.pict_types.specs.Plain.{plain, plain_types}
+use Rattle.pict_types.specs.Plain.{plain_types}
 use Rattle.pict_sub.specs.Exposing.{exposure}
 use Rattle.pict_rules.specs.Shapes.{Function, applicable, nth_type}
 use Rattle.pict_rules.specs.Environments.{Environment, context_of, type_of_use}
@@ -35,12 +35,6 @@ no_operator e s f Memory h v w t = tt
 pub unfit_operator : (e : Environment) (s : Span) (f : Id) (r : Function) (y : InferError) → applicable (exposure (context_of e) (type_of_use e f.name.0)) ≡ Some r → IsUnfit e r s y → IsNoOperator e s f y
 unfit_operator e s f r (Named c i) h k v w t = part_ok give_ (rw h (part_stuck (k v w (found_first e (two v w) r t))))
 unfit_operator e s f r Memory h k v w t = tt
-
--- a field by its number
-pub nth_plain : (ts : List Ty) (n : ℕ) (d : Ty) → n < length ts → nth_type n (plain_types ts) ≡ plain (get_or ts n d)
-nth_plain [] n d h = absurd (omega arith)
-nth_plain (t ∷ ts) zero d h = refl
-nth_plain (t ∷ ts) (suc n) d h = nth_plain ts n d (omega arith)
 
 pub two_types : (ts : List Ty) → length ts ≡ 2 → plain_types ts ≡ types (nth_type 0 (plain_types ts)) (types (nth_type 1 (plain_types ts)) no_type)
 two_types [] h = absurd (omega arith)

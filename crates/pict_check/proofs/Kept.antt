@@ -1,9 +1,9 @@
 -- Environments that are as before, that grew, and that are cut back; and what is answered in them.
-use Rattle.std.proofs.Common.{◌≡◌, ℕ, suc, ◌+◌, ◌-◌, ◌≤◌, List, [], ◌∷◌, ◌++◌, length, refl, ap, sym, ◌∙◌, subst, arith, Result, Ok, Err, OnOk}
+use Rattle.std.proofs.Common.{◌≡◌, ℕ, ◌+◌, ◌-◌, ◌≤◌, List, [], ◌∷◌, ◌++◌, length, refl, ap, sym, ◌∙◌, subst, arith, Result, Ok, Err, OnOk}
 use Rattle.pict_syntax.specs.Trees.{Val}
 use Rattle.pict_types.specs.Types.{PlainBound, PlainType}
-use Rattle.pict_types.specs.Entries.{PlainContext, PlainEntry, PlainWhat, Variable, Definition, variables, with_variable}
-use Rattle.pict_rules.specs.Environments.{Environment, context_of, opened_since}
+use Rattle.pict_types.specs.Entries.{PlainContext, PlainWhat, Variable, Definition, variables, with_variable}
+use Rattle.pict_rules.specs.Environments.{Environment, opened_since}
 use Rattle.pict_rules.specs.Regular.{IsTypeIn}
 use Rattle.pict_rules.specs.Rules.{Sort, type_, Judgement, gives, ok}
 use Rattle.pict_rules.specs.Rules as rules

@@ -15,7 +15,7 @@ use Rattle.pict_types.specs.declared.types.Ty.{Ty}
 use Rattle.pict_types.specs.Plain.{plain_labels}
 use Rattle.pict_rules.specs.Shapes.{all_written, is_written}
 use Rattle.pict_check.specs.Counts.{AddsLabel, HasLabels}
-use Rattle.pict_check.proofs.Finding.{next_taken}
+use Rattle.pict_scope.proofs.Reading.{taken}
 
 -- one label more
 same_key : (x y : ℕ) → is_eq (nat_cmp x y) ≡ nat_eq y x
@@ -46,7 +46,7 @@ no_labels s xs h l = none_has s l h
 pub labels_more : (xs : List LabelledVal) (i : ℕ) (x : LabelledVal) (old new : BTreeSet ℕ) → i < length xs → x ≡ get_or xs i x → HasLabels old (labelled_vals_on no_labelled_vals (take i xs)) → AddsLabel old new x.label.name.0 → HasLabels new (labelled_vals_on no_labelled_vals (take (i + 1) xs))
 labels_more xs i x old new h is p q l =
     q l ∙ ap (λ b. nat_eq l x.label.name.0 || b) (p l)
-    ∙ sym (ap (λ (z : List LabelledVal). is_written l (labelled_vals_on no_labelled_vals z)) (next_taken xs i x h is) ∙ ap (is_written l) (labelled_vals_more no_labelled_vals (take i xs) x))
+    ∙ sym (ap (λ (z : List LabelledVal). is_written l (labelled_vals_on no_labelled_vals z)) (taken xs i x h is) ∙ ap (is_written l) (labelled_vals_more no_labelled_vals (take i xs) x))
 
 pub all_labels : (xs : List LabelledVal) (i : ℕ) (s : BTreeSet ℕ) → length xs ≤ i → HasLabels s (labelled_vals_on no_labelled_vals (take i xs)) → HasLabels s (labelled_vals_on no_labelled_vals xs)
 all_labels xs i s h p = subst (λ (z : List LabelledVal). HasLabels s (labelled_vals_on no_labelled_vals z)) (take_all i xs h) p
@@ -65,7 +65,7 @@ both a b h k = rw (h, k) refl
 
 pub written_more : (fs : List (Name × Ty)) (i : ℕ) (f : Name × Ty) (ls : LabelledVals) → i < length fs → f ≡ get_or fs i f → is_written f.0.0 ls ≡ true → all_written (plain_labels (take i fs)) ls ≡ true → all_written (plain_labels (take (i + 1) fs)) ls ≡ true
 written_more fs i f ls h is k p =
-    ap (λ (z : List (Name × Ty)). all_written (plain_labels z) ls) (next_taken fs i f h is) ∙ written_all (take i fs) (f ∷ []) ls ∙ both (all_written (plain_labels (take i fs)) ls) (is_written f.0.0 ls) p k
+    ap (λ (z : List (Name × Ty)). all_written (plain_labels z) ls) (taken fs i f h is) ∙ written_all (take i fs) (f ∷ []) ls ∙ both (all_written (plain_labels (take i fs)) ls) (is_written f.0.0 ls) p k
 
 lacks : (a b c : Bool) → b ≡ false → ((a && (b && true)) && c) ≡ false
 lacks true b c h = rw h refl
@@ -75,7 +75,7 @@ pub one_lacks : (fs : List (Name × Ty)) (i : ℕ) (f : Name × Ty) (ls : Labell
 one_lacks fs i f ls h is k =
     sym (ap (λ (z : List (Name × Ty)). all_written (plain_labels z) ls) (sym (take-append-drop (i + 1) fs))
     ∙ written_all (take (i + 1) fs) (drop (i + 1) fs) ls
-    ∙ ap (λ (z : List (Name × Ty)). all_written (plain_labels z) ls && all_written (plain_labels (drop (i + 1) fs)) ls) (next_taken fs i f h is)
+    ∙ ap (λ (z : List (Name × Ty)). all_written (plain_labels z) ls && all_written (plain_labels (drop (i + 1) fs)) ls) (taken fs i f h is)
     ∙ ap (λ b. b && all_written (plain_labels (drop (i + 1) fs)) ls) (written_all (take i fs) (f ∷ []) ls)
     ∙ lacks (all_written (plain_labels (take i fs)) ls) (is_written f.0.0 ls) (all_written (plain_labels (drop (i + 1) fs)) ls) k)
 

@@ -1,11 +1,10 @@
 -- The steps of nested applications, by what the steps of fields answer.
-use Rattle.std.proofs.Common.{◌≡◌, ◌≢◌, ◌<◌, ◌-◌, ℕ, zero, suc, Bool, true, false, nat_eq, if◌then◌else◌, refl, sym, ◌∙◌, ap, subst, List, [], ◌∷◌, length, get_or, Option, Some, None, Result, Ok, Err, IfErr, OnOk, arith}
+use Rattle.std.proofs.Common.{◌≡◌, ◌≢◌, ◌<◌, ◌-◌, ℕ, zero, suc, Bool, true, false, nat_eq, if◌then◌else◌, refl, sym, ◌∙◌, ap, subst, List, [], ◌∷◌, length, get_or, Option, Some, None, Result, Ok, Err, IfErr, arith}
 use Rattle.std.proofs.lemmas.Bool.{ne_eqb}
 use Rattle.pict_syntax.specs.declared.code.Code.TheVariants.{Y4, Y5, Y6}
 use Rattle.pict_syntax.specs.declared.id.Id.{Id}
 use Rattle.pict_syntax.specs.declared.name.Name.{Name}
 use Rattle.pict_syntax.specs.declared.span.Span.{Span}
-use Rattle.pict_syntax.specs.Grammar.{val_span}
 use Rattle.pict_syntax.specs.Trees.{Val, true_val}
 use Rattle.pict_types.specs.Types.{PlainType, Boolean, PlainTypes, PlainLabels, no_label, PlainArg, PlainBounds, count_types}
 use Rattle.pict_types.specs.Kinds.{IsWellFormed, kinds_under}
@@ -15,7 +14,7 @@ use Rattle.pict_types.specs.declared.types.Bound.{Bound}
 use Rattle.pict_types.specs.declared.types.Ty.{Ty}
 use Rattle.pict_types.proofs.Contexts.{entries_context}
 use Rattle.pict_types.proofs.Rows.{count_types_length}
-use Rattle.pict_normal.specs.Normal.{Stop, size_stop}
+use Rattle.pict_normal.specs.Normal.{size_stop, Stop}
 use Rattle.pict_normal.specs.Written.{kinds_with}
 use Rattle.pict_normal.proofs.Instances.{kinds_fit}
 use Rattle.pict_sub.specs.Exposing.{exposure}
@@ -23,17 +22,17 @@ use Rattle.pict_match.specs.declared.found.Found.{Found as CFound}
 use Rattle.pict_rules.specs.Environments.{Environment, context_of, type_of_use}
 use Rattle.pict_rules.specs.Found.{Found, matched, mentions_missing, with_found}
 use Rattle.pict_rules.specs.Regular.{IsRegular, IsTypeIn, kinds_in, kinds_within}
-use Rattle.pict_rules.specs.Rules.{type_, found_, give, given_fits, has, ok, unless_stopped}
+use Rattle.pict_rules.specs.Rules.{type_, found_, give, has, ok, unless_stopped}
 use Rattle.pict_rules.specs.Shapes.{applicable}
 use Rattle.pict_rules.specs.Shapes as shapes
 use Rattle.pict_rules.specs.Typing.{rule}
-use Rattle.pict_rules.specs.Derivations.{Runs, give_, refuse_, part_ok}
+use Rattle.pict_rules.specs.Derivations.{Runs, give_, part_ok}
 use Rattle.pict_rules.proofs.RegularArguments.{fields_kinds}
 use Rattle.pict_rules.proofs.RegularMatched.{matched_in}
 use Rattle.pict_infer.specs.declared.error.InferError.{InferError}
 use Rattle.pict_infer.specs.declared.error.InferError.TheVariants.{Named, Memory}
-use Rattle.pict_infer.specs.Answering.{IsAnswer, IsRefused, IsStopped}
-use Rattle.pict_check.specs.Lines.{formed, given_lines}
+use Rattle.pict_infer.specs.Answering.{IsRefused, IsStopped}
+use Rattle.pict_check.specs.Lines.{formed}
 use Rattle.pict_infer.specs.Steps.{below, shown}
 use Rattle.pict_check.specs.Chains.{IsHead, IsNoOperator, IsUnfit, as_function, field_lines, if_given, room_stop, wanted_at, wanted_in}
 use Rattle.pict_check.specs.declared.functions.Function.{Function}
@@ -44,6 +43,7 @@ use Rattle.pict_check.specs.Reading.{found_for}
 use Rattle.pict_check.proofs.Frames.{frame_at, length_frames}
 use Rattle.pict_check.proofs.Heads.{no_operator, two_types, unfit_label, unfit_number, unfit_operator}
 use Rattle.pict_check.proofs.NestedFormed.{last_found, last_room, last_wanted}
+use Rattle.pict_infer.proofs.Forming.{refused_is}
 
 -- what isn't empty has some
 pub some_there : (n : ℕ) (b : Bool) → b ≡ nat_eq n 0 → b ≡ false → 0 < n
@@ -106,18 +106,6 @@ formed_given : (o : Option Stop) (w u : PlainType) → Runs {s = type_} (unless_
 formed_given None w u give_ = refl
 formed_given (Some x) w u h = elim h [ ]
 
-formed_stopped : (o : Option Stop) (w : PlainType) (y : InferError) → IsRefused {s = type_} (unless_stopped o (give w)) y → IsStopped o y
-formed_stopped None w (Named c i) h = elim h [ ]
-formed_stopped (Some x) w (Named c i) refuse_ = refl
-formed_stopped o w Memory h = tt
-
--- a type that mentions what isn't found
-pub unknown_wanted : (t : PlainType) (g : Found) → mentions_missing g t ≡ true → wanted_at t g ≡ None
-unknown_wanted t g h = ap (λ (m : Bool). if m then None else Some (with_found g t)) h
-
-pub unknown_room : (e : Environment) (s : Span) (t : PlainType) (g : Found) → mentions_missing g t ≡ true → room_stop e s (wanted_at t g) ≡ None
-unknown_room e s t g h = ap (room_stop e s) (unknown_wanted t g h)
-
 known_wanted : (t : PlainType) (g : Found) → mentions_missing g t ≡ false → wanted_at t g ≡ Some (with_found g t)
 known_wanted t g h = ap (λ (m : Bool). if m then None else Some (with_found g t)) h
 
@@ -129,7 +117,7 @@ wanted_room : (e : Environment) (s : Span) (t u : PlainType) (g : Found) → men
 wanted_room e s t u g h r = ap (room_stop e s) (known_wanted t g h) ∙ formed_clear (size_stop e.context (with_found g t) s) (with_found g t) u r
 
 pub wanted_stopped : (e : Environment) (s : Span) (t : PlainType) (g : Found) (y : InferError) → mentions_missing g t ≡ false → IsRefused (formed e (with_found g t) s) y → IsStopped (room_stop e s (wanted_at t g)) y
-wanted_stopped e s t g y h r = subst (λ w. IsStopped (room_stop e s w) y) (sym (known_wanted t g h)) (formed_stopped (size_stop e.context (with_found g t) s) (with_found g t) y r)
+wanted_stopped e s t g y h r = subst (λ w. IsStopped (room_stop e s w) y) (sym (known_wanted t g h)) (refused_is (size_stop e.context (with_found g t) s) (with_found g t) y r)
 
 -- as the code has it
 pub shown_wanted : (e : Environment) (s : Span) (o : Operator) (t : Ty) (g : CFound) (bs : List Bound) (r w : Option Ty) → bs ≡ o.function.fields.binders.items → mentions_missing (found_by o g) (plain t) ≡ false → Runs (formed e (with_found (found_for bs g) (plain t)) s) (ok (shown r t)) → r ≡ w → Some (shown w t) ≡ wanted_at (plain t) (found_by o g)
@@ -178,13 +166,6 @@ nothing_given e s v t g x h = subst (λ z. Runs (field_lines e s v t g z) (ok g)
 pub known_given : (e : Environment) (s : Span) (v : Val) (t : PlainType) (g : Found) (x : Option PlainType) → mentions_missing g t ≡ false → Runs (field_lines e s v t g x) (ok g)
 known_given e s v t g x h = subst (λ (m : Bool). Runs {s = found_} (if m then if_given e s v t g x else give g) (ok g)) (sym h) give_
 
--- or it is matched
-pub type_given : {T : Type 0} (f : T → Found) (e : Environment) (s at : Span) (v : Val) (t u : PlainType) (g h : Found) (r : Result T InferError) → mentions_missing g t ≡ true → val_span v ≡ at → h ≡ matched (context_of e) 0 t u g → IsAnswer (given_lines e s at t u h) f r → IsAnswer (field_lines e s v t g (Some u)) f r
-type_given f e s at v t u g h r m p q a =
-    subst (λ (m : Bool). IsAnswer {s = found_} (if m then if_given e s v t g (Some u) else give g) f r) (sym m)
-    (subst (λ z. IsAnswer (rule e (given_fits s v t u z)) f r) q
-    (subst (λ z. IsAnswer (given_lines e s z t u h) f r) (sym p) a))
-
 -- what is found is of the fields' kinds
 pub within_fields : (e : Environment) (bs : PlainBounds) (t : PlainType) (g : Found) → IsWellFormed e.names (kinds_under (kinds_in e) bs) t → IsFoundFor e bs g → IsWellFormed e.names (kinds_within (kinds_in e) g) t
 within_fields e bs t g w h = subst (λ ks. IsWellFormed e.names ks t) (fields_kinds (kinds_in e) g bs h.kinds_) w
@@ -199,8 +180,3 @@ matched_found e bs t u g h r w x k q =
 -- the answer's type is well formed under the arguments
 pub answer_under : (e : Environment) (bs : PlainBounds) (u : PlainType) (args : List PlainArg) → FitTheirFields args bs → IsWellFormed e.names (kinds_under (kinds_in e) bs) u → IsWellFormed e.names (kinds_with args (kinds_in e)) u
 answer_under e bs u args h w = subst (λ ks. IsWellFormed e.names ks u) (kinds_fit (kinds_in e) args bs h) w
-
--- what holds after any answer holds after one that is no error
-pub on_any : {T E P : Type 0} (r : Result T E) → P → OnOk r P
-on_any (Ok x) p = p
-on_any (Err y) p = tt

@@ -1,5 +1,5 @@
 -- Processes, one lemma for each way that a body ends.
-use Rattle.std.proofs.Common.{◌≡◌, ℕ, ◌+◌, ◌<◌, ◌≤◌, List, length, get_or, take, Bool, true, false, subst, Result}
+use Rattle.std.proofs.Common.{◌≡◌, ℕ, ◌+◌, ◌<◌, List, length, get_or, take, Bool, true, false, subst, Result}
 use Rattle.pict_syntax.specs.declared.code.Code.{Code}
 use Rattle.pict_syntax.specs.declared.code.Code.TheVariants.{Y1, Y2, Y3, Y12}
 use Rattle.pict_syntax.specs.declared.span.Span.{Span}
@@ -24,7 +24,7 @@ use Rattle.pict_infer.proofs.Through.{GoesOn, given, refused, refused_on}
 use Rattle.pict_check.specs.Declaring.{IsNoChannel}
 use Rattle.pict_check.specs.Lines.{channel_messages}
 use Rattle.pict_check.proofs.Ends.{answer_past, ends_with, past, past_refused, refused_here}
-use Rattle.pict_check.proofs.Rows.{row_all, row_asked, row_more, row_refused}
+use Rattle.pict_check.proofs.Rows.{row_asked, row_more, row_refused}
 use Rattle.pict_check.proofs.RowEnds.{processes_row}
 
 -- A CONDITIONAL
@@ -74,9 +74,6 @@ process_refused e xs i d y h p q = row_refused (processes_row e) xs i d tt y h p
 
 pub process_asked : (e : Environment) (xs : List RProc) (i : ℕ) (d : RProc) → i < length xs → IsWellAsked nothing_ e (processes (procs_on no_procs xs)) → Runs (rule e (processes (procs_on no_procs (take i xs)))) (ok tt) → IsWellAsked nothing_ e (process (proc_of (get_or xs i d)))
 process_asked e xs i d h q p = row_asked (processes_row e) xs i d tt h q p this_part
-
-pub all_processes : (e : Environment) (xs : List RProc) (i : ℕ) → length xs ≤ i → Runs (rule e (processes (procs_on no_procs (take i xs)))) (ok tt) → Runs (rule e (processes (procs_on no_procs xs))) (ok tt)
-all_processes e xs i h p = row_all (processes_row e) xs i tt h p
 
 -- SENDS AND RECEIVES, ONCE THE CHANNEL GAVE A TYPE
 

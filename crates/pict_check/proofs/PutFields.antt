@@ -11,7 +11,7 @@ use Rattle.pict_types.specs.Kinds.{AreWellFormed, LabelsAreWellFormed}
 use Rattle.pict_types.specs.Plain.{plain_bounds, plain_labels, plain_record, plain_types}
 use Rattle.pict_types.proofs.Rows.{count_types_length}
 use Rattle.pict_types.specs.Replacing.{Replacement, arguments, replace, replace_labels, replace_types}
-use Rattle.pict_normal.specs.Normal.{Stop, size_stop}
+use Rattle.pict_normal.specs.Normal.{size_stop, Stop}
 use Rattle.pict_normal.specs.Written.{record_with}
 use Rattle.pict_rules.specs.Clauses.{check, if_labelled, in_order}
 use Rattle.pict_rules.specs.Counts.{count_vals}
@@ -31,6 +31,7 @@ use Rattle.pict_infer.specs.Asking.{IsWellAsked}
 use Rattle.pict_check.specs.Lines.{formed}
 use Rattle.pict_check.proofs.FieldEnds.{formed_is, value_rule}
 use Rattle.pict_check.proofs.Written.{filled_mentions, filled_put, nothing_mentions, nothing_put}
+use Rattle.pict_types.proofs.Formed.{count_replaced}
 
 -- the second rule answers as the first, which finds nothing, but finds this
 pub record AnswersAs (f : Found) (r q : Rule found_) : Type 0 where
@@ -181,10 +182,6 @@ no_bounds (b ∷ bs) h = absurd cc
 
 pub put_count : (e : Environment) (s : Span) (args : List PlainArg) (r q : Record) → Runs (formed e (record_with args r) s) (ok (plain_record q)) → length q.binders.items ≡ 0
 put_count e s args r q h = no_bounds q.binders.items (put_is e s args r q h).bounds_
-
-count_replaced : (r : Replacement) (ps : PlainTypes) → count_types (replace_types r ps) ≡ count_types ps
-count_replaced r no_type = refl
-count_replaced r (types t ts) = ap suc (count_replaced r ts)
 
 -- and as many positional ones
 pub put_positional : (e : Environment) (s : Span) (args : List PlainArg) (r q : Record) → Runs (formed e (record_with args r) s) (ok (plain_record q)) → length q.positional.items ≡ length r.positional.items

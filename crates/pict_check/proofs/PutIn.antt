@@ -3,20 +3,18 @@ use Rattle.std.proofs.Common.{◌≡◌, ◌<◌, ℕ, List, [], ◌∷◌, map,
 use Rattle.pict_syntax.specs.declared.code.Code.TheVariants.{Y4, Y10}
 use Rattle.pict_syntax.specs.declared.span.Span.{Span}
 use Rattle.pict_types.specs.declared.types.Ty.{Ty}
-use Rattle.pict_types.specs.Types.{PlainType, PlainBound, Free, Below, Operator, PlainBounds, PlainArg, Plain, Op, no_bound, bounds, count_bounds}
+use Rattle.pict_types.specs.Types.{PlainType, Free, Below, Operator, PlainBounds, PlainArg, Plain, Op, no_bound, bounds, count_bounds}
 use Rattle.pict_types.specs.Kinds.{Kind, kind_by, IsWellFormed, BoundIsWellFormed, BoundsAreWellFormed}
 use Rattle.pict_types.specs.Instances.{ArgsAreWellFormed}
-use Rattle.pict_types.specs.Replacing.{IsOfKind, arguments, replace}
 use Rattle.pict_normal.specs.Written.{kind_of_arg, kinds_with}
-use Rattle.pict_normal.proofs.Instances.{kinds_fit}
+use Rattle.pict_normal.proofs.Instances.{kind_fits}
 use Rattle.pict_rules.specs.Environments.{Environment, context_of}
 use Rattle.pict_rules.specs.Found.{Slot, open_slot, filled, Found, argument_in, mentions_missing, with_found}
-use Rattle.pict_rules.specs.Regular.{kind_of_slot, kinds_in, kinds_within, FoundFits, FitFirst, IsTypeIn}
+use Rattle.pict_rules.specs.Regular.{kind_of_slot, kinds_in, kinds_within, FoundFits, FitFirst}
 use Rattle.pict_rules.specs.Rules.{found_, Rule, ensure, give, is_subtype, need, within_limits, ok, stuck}
 use Rattle.pict_rules.specs.Shapes.{nth_bound}
 use Rattle.pict_rules.specs.Derivations.{Runs, give_, refuse_}
 use Rattle.pict_rules.proofs.RegularArguments.{found_formed}
-use Rattle.pict_rules.proofs.RegularMatched.{head_same}
 use Rattle.pict_match.specs.PlainFound.{slots}
 use Rattle.pict_infer.specs.declared.error.InferError.{InferError}
 use Rattle.pict_infer.specs.Answering.{IsAnswer, IsRefused, nothing}
@@ -46,13 +44,6 @@ put_under e f args t is w = subst (λ ks. IsWellFormed e.names ks t) (sym (ap (�
 pub put_formed : (e : Environment) (f : Found) (args : List PlainArg) → args ≡ map argument_in f → FoundFits e f → ArgsAreWellFormed e.names (kinds_in e) args
 put_formed e f args is h = subst (ArgsAreWellFormed e.names (kinds_in e)) (sym is) (found_formed e f h)
 
--- what is formed with them put in
-pub put_ok : (e : Environment) (f : Found) (args : List PlainArg) (t u : PlainType) (at : Span) → args ≡ map argument_in f → Runs (formed e (replace (arguments args) t) at) (ok u) → Runs (formed e (with_found f t) at) (ok u)
-put_ok e f args t u at is h = subst (λ z. Runs (formed e (replace (arguments z) t) at) (ok u)) is h
-
-pub put_refused : (e : Environment) (f : Found) (args : List PlainArg) (t : PlainType) (at : Span) (y : InferError) → args ≡ map argument_in f → IsRefused (formed e (replace (arguments args) t) at) y → IsRefused (formed e (with_found f t) at) y
-put_refused e f args t at y is h = subst (λ z. IsRefused (formed e (replace (arguments z) t) at) y) is h
-
 -- without type fields it is the type itself
 unput : (e : Environment) (bs : PlainBounds) (xs : List (Option Ty)) (t : PlainType) → length xs ≡ 0 → IsWellFormed e.names (kinds_within (kinds_in e) (slots bs xs)) t → with_found (slots bs xs) t ≡ t
 unput e bs [] t h w = nothing_put e.names (kinds_in e) t w
@@ -63,10 +54,6 @@ unput_ok e bs xs t at h w p = subst (λ z. Runs (formed e z at) (ok t)) (sym (un
 
 pub unput_refused : (e : Environment) (bs : PlainBounds) (xs : List (Option Ty)) (t : PlainType) (at : Span) (y : InferError) → length xs ≡ 0 → IsWellFormed e.names (kinds_within (kinds_in e) (slots bs xs)) t → IsRefused (limited e t at) y → IsRefused (formed e (with_found (slots bs xs) t) at) y
 unput_refused e bs xs t at y h w p = subst (λ z. IsRefused (formed e z at) y) (sym (unput e bs xs t h w)) (limited_refused e t at y p)
-
-pub unput_formed : (e : Environment) (bs : PlainBounds) (xs : List (Option Ty)) (t : PlainType) → length xs ≡ 0 → IsWellFormed e.names (kinds_within (kinds_in e) (slots bs xs)) t → IsTypeIn e t
-unput_formed e bs [] t h w = w
-unput_formed e bs (x ∷ xs) t h w = absurd (omega (arith, h))
 
 -- A VALUE THAT GAVE A TYPE
 
@@ -93,12 +80,9 @@ given_end e s at t g u f r h p q =
 
 -- ARGUMENTS UNDER BOUNDS
 
-first_kind : (a : PlainArg) (b : PlainBound) → IsOfKind a b → kind_by b ≡ kind_of_arg a
-first_kind a b h = head_same (kinds_fit [] (a ∷ []) (bounds b no_bound) (h, tt))
-
 -- the bound of a type field is well formed under the arguments before it
 pub bound_under : (ns : List (List ℕ)) (ks : List Kind) (bs : PlainBounds) (args : List PlainArg) → BoundsAreWellFormed ns ks bs → FitFirst args bs → length args < count_bounds bs → BoundIsWellFormed ns (kinds_with args ks) (nth_bound (length args) bs)
 bound_under ns ks no_bound args w h n = absurd (omega (arith, n))
 bound_under ns ks (bounds b bs) [] w h n = w.0
 bound_under ns ks (bounds b bs) (a ∷ args) w h n =
-    subst (λ k. BoundIsWellFormed ns (kinds_with args (k ∷ ks)) (nth_bound (length args) bs)) (first_kind a b h.0) (bound_under ns (kind_by b ∷ ks) bs args w.1 h.1 (omega (arith, n)))
+    subst (λ k. BoundIsWellFormed ns (kinds_with args (k ∷ ks)) (nth_bound (length args) bs)) (kind_fits a b h.0) (bound_under ns (kind_by b ∷ ks) bs args w.1 h.1 (omega (arith, n)))

@@ -1,22 +1,22 @@
 -- Values and channels, from the parts that the code reads.
-use Rattle.std.proofs.Common.{◌≡◌, List, refl, sym, ◌∙◌, ap, ap₂, Box, Global}
+use Rattle.std.proofs.Common.{◌≡◌, List, sym, ◌∙◌, ap, ap₂, Box, Global}
 use Rattle.std.specs.Prelude.{Vec}
 use Rattle.pict_syntax.specs.declared.span.Span.{Span}
 use Rattle.pict_syntax.specs.declared.id.Id.{Id}
 use Rattle.pict_syntax.specs.declared.type_tree.RType.{RType as RRType}
 use Rattle.pict_syntax.specs.declared.type_tree.TypeTree.{TypeTree as RTypeTree}
 use Rattle.pict_syntax.specs.declared.tree.Abs.{Abs as RAbs}
-use Rattle.pict_syntax.specs.declared.tree.Abs.TheViews.{out-FieldVals, roll-out-FieldVals}
+use Rattle.pict_syntax.specs.declared.tree.Abs.TheViews.{out-FieldVals}
 use Rattle.pict_syntax.specs.declared.tree.Chan.{Chan as RChan, Fold, Block, Apply, Right, Left}
 use Rattle.pict_syntax.specs.declared.tree.Val.{Val as RVal, Fields, If, Lambda}
 use Rattle.pict_syntax.specs.declared.tree.Dec.{Dec as RDec}
 use Rattle.pict_syntax.specs.declared.tree.FieldVals.{FieldVals as RFieldVals}
 use Rattle.pict_syntax.specs.declared.tree.LabelledVal.{LabelledVal as RLabelledVal}
-use Rattle.pict_syntax.specs.Trees.{Val, Chan, no_types, no_vals, no_labelled_vals, no_decs, of_chan, fields_val, field_vals, if_val, lambda_val, fold_chan, block_chan, apply_chan, right_chan, left_chan}
+use Rattle.pict_syntax.specs.Trees.{Chan, no_types, no_vals, no_labelled_vals, no_decs, of_chan, fields_val, field_vals, if_val, lambda_val, fold_chan, block_chan, apply_chan, right_chan, left_chan}
 use Rattle.pict_syntax.specs.PlainTrees.{field_vals_of, abs_of, chan_of, val_of, annotation_of, types_on, vals_on, labelled_vals_on, decs_on}
-use Rattle.pict_syntax.proofs.ValueLists.{field_vals_is}
 use Rattle.pict_types.proofs.Congruent.{three}
 use Rattle.pict_check.proofs.Forms.{apply_form, block_form, fields_form, fold_form, if_form, lambda_form, left_form, right_form}
+use Rattle.pict_scope.proofs.ValueForms.{field_vals_are}
 
 -- values
 pub fields_read : (v : RVal) (s : Span) (f : Box RFieldVals Global) (g : RFieldVals) → v ≡ Fields s f → g ≡ f.value → val_of v ≡ fields_val s (field_vals_of g)
@@ -47,11 +47,7 @@ right_read c s i vs xs is h = right_form c s i vs is ∙ ap (λ ys. right_chan s
 pub left_read : (c : RChan) (s : Span) (i : Id) (vs : Vec RVal Global) (xs : List RVal) → c ≡ Left s i vs → xs ≡ vs.items → chan_of c ≡ left_chan s i (vals_on no_vals xs)
 left_read c s i vs xs is h = left_form c s i vs is ∙ ap (λ ys. left_chan s i (vals_on no_vals ys)) (sym h)
 
--- the fields of a record or an application
-pub parts_are : (f : RFieldVals) → field_vals_of f ≡ field_vals (types_on no_types (out-FieldVals f).type_arguments.items) (vals_on no_vals (out-FieldVals f).positional.items) (labelled_vals_on no_labelled_vals (out-FieldVals f).labelled.items)
-parts_are f = ap field_vals_of (sym (roll-out-FieldVals f)) ∙ field_vals_is (out-FieldVals f).type_arguments (out-FieldVals f).positional (out-FieldVals f).labelled
-
 pub parts_read : (f : RFieldVals) (xs : List RTypeTree) (ys : List RVal) (zs : List RLabelledVal) → xs ≡ (out-FieldVals f).type_arguments.items → ys ≡ (out-FieldVals f).positional.items → zs ≡ (out-FieldVals f).labelled.items
     → field_vals_of f ≡ field_vals (types_on no_types xs) (vals_on no_vals ys) (labelled_vals_on no_labelled_vals zs)
 parts_read f xs ys zs p q r =
-    parts_are f ∙ three (λ (us : List RTypeTree) (vs : List RVal) (ws : List RLabelledVal). field_vals (types_on no_types us) (vals_on no_vals vs) (labelled_vals_on no_labelled_vals ws)) (sym p) (sym q) (sym r)
+    field_vals_are f ∙ three (λ (us : List RTypeTree) (vs : List RVal) (ws : List RLabelledVal). field_vals (types_on no_types us) (vals_on no_vals vs) (labelled_vals_on no_labelled_vals ws)) (sym p) (sym q) (sym r)

@@ -2,7 +2,7 @@
 use Rattle.std.proofs.Common.{◌≡◌, ℕ, ◌+◌, ◌<◌, ◌≤◌, List, [], ◌∷◌, ◌++◌, length, get_or, take, take-suc, drop, refl, sym, ◌∙◌, ap, subst, add-one, append_assoc}
 use Rattle.std.proofs.lemmas.List.{append-nil, take_all, take-append-drop}
 use Rattle.pict_rules.specs.Environments.{Environment}
-use Rattle.pict_rules.specs.Rules.{Sort, Judgement, Rule, Answer, part, ok, stuck}
+use Rattle.pict_rules.specs.Rules.{Sort, Judgement, Rule, part, ok, stuck}
 use Rattle.pict_rules.specs.Rules as rules
 use Rattle.pict_rules.specs.Typing.{rule}
 use Rattle.pict_rules.specs.Derivations.{Runs, part_ok, part_stuck}

@@ -1,17 +1,16 @@
 -- Declarations of channels and types, one lemma for each way that a body ends.
-use Rattle.std.proofs.Common.{◌≡◌, ℕ, suc, Bool, true, false, ◌+◌, ◌<◌, List, [], ◌∷◌, ◌++◌, length, get_or, take, take-suc, add-one, refl, sym, ◌∙◌, ap, ap₂, subst, arith}
+use Rattle.std.proofs.Common.{◌≡◌, ℕ, true, false, ◌+◌, ◌<◌, List, [], ◌∷◌, ◌++◌, length, get_or, take, take-suc, add-one, refl, sym, ◌∙◌, ap, ap₂, subst, arith}
 use Rattle.pict_syntax.specs.declared.code.Code.TheVariants.{Y15}
 use Rattle.pict_syntax.specs.declared.id.Id.{Id}
 use Rattle.pict_syntax.specs.declared.span.Span.{Span}
 use Rattle.pict_syntax.specs.Grammar.{type_span}
 use Rattle.pict_syntax.specs.Trees.{TypeTree, new_dec, alias_dec, operator_dec}
 use Rattle.pict_types.specs.Kinds.{ArgIsWellFormed}
-use Rattle.pict_types.specs.Types.{Both, Capability, Free, Op, Plain, PlainType, Read, Respond, Write}
+use Rattle.pict_types.specs.Types.{Both, Free, Op, Plain, PlainType, Read, Respond, Write}
 use Rattle.pict_types.specs.Types as types
 use Rattle.pict_types.specs.Entries.{PlainContext, variables}
-use Rattle.pict_types.specs.Renaming.{moved}
 use Rattle.pict_normal.specs.Normal.{entry_of, kind_stop, normal}
-use Rattle.pict_rules.specs.Environments.{Environment, KnownValue, context_of, defined, extended, one_value, only_types, rename_values}
+use Rattle.pict_rules.specs.Environments.{Environment, KnownValue, context_of, defined, extended, one_value, only_types}
 use Rattle.pict_rules.specs.Rules.{Answer, Rule, Sort, environment_, type_, declaration, give, ok, stuck, unless_stopped}
 use Rattle.pict_rules.specs.Clauses.{need_both, with_parameters_in, with_parameters_named}
 use Rattle.pict_rules.specs.Regular.{kinds_in}
@@ -23,10 +22,10 @@ use Rattle.pict_infer.specs.Asking.{IsWellAsked}
 use Rattle.pict_infer.specs.declared.env.Env.{Env}
 use Rattle.pict_infer.specs.Environments.{environment_of, known_entries, with_value}
 use Rattle.pict_infer.specs.Steps.{expanded}
-use Rattle.pict_infer.proofs.Depths.{unmoved}
 use Rattle.pict_infer.proofs.Through.{GoesOn, given, refused, refused_on, unstopped}
 use Rattle.pict_check.specs.Declaring.{channel_type, is_both}
 use Rattle.pict_check.proofs.Ends.{expands, good_of}
+use Rattle.pict_rules.proofs.RegularJoined.{values_unmoved}
 
 -- A CHANNEL
 
@@ -94,14 +93,9 @@ news e s x t = unstopped (kind_stop e.names e.context t) (boths (normal e.names 
 pub new_refused : (e : Environment) (s : Span) (x : Id) (t : TypeTree) (y : InferError) → IsRefused (channel_type e t) y → IsRefused (rule e (declaration (new_dec s x t))) y
 new_refused e s x t y h = refused_on y (news e s x t) h
 
--- values past no type variables
-unmoved_values : (vs : List KnownValue) → rename_values (moved 0 0) vs ≡ vs
-unmoved_values [] = refl
-unmoved_values (v ∷ vs) = ap₂ (λ (t : PlainType) (ws : List KnownValue). let w : KnownValue = record { name = v.name; has = t } in w ∷ ws) (unmoved 0 v.has) (unmoved_values vs)
-
 one_value_known : (e : Environment) (x : Id) (t : PlainType) → with_value e x t ≡ extended e (one_value x t)
 one_value_known e x t =
-    ap (λ (vs : List KnownValue). let v : KnownValue = record { name = x.name.0; has = t } in let d : Environment = record { names = e.names; context = e.context; values = v ∷ vs } in d) (sym (unmoved_values e.values))
+    ap (λ (vs : List KnownValue). let v : KnownValue = record { name = x.name.0; has = t } in let d : Environment = record { names = e.names; context = e.context; values = v ∷ vs } in d) (sym (values_unmoved e.values))
 
 pub new_done : (e d : Environment) (s : Span) (x : Id) (t : TypeTree) (u : PlainType) → Runs (channel_type e t) (ok u) → d ≡ with_value e x u → Runs (rule e (declaration (new_dec s x t))) (ok d)
 new_done e d s x t u h k = (news e s x t).on_ok u (ok d) h (subst (λ z. Runs {s = environment_} (give (extended e (one_value x u))) (ok z)) (sym (k ∙ one_value_known e x u)) give_)

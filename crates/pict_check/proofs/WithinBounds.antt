@@ -19,7 +19,7 @@ use Rattle.pict_rules.specs.Found.{Found, argument_in}
 use Rattle.pict_rules.specs.Found as found
 use Rattle.pict_rules.specs.Regular.{kinds_in, FitFirst, FoundFits, kinds_found, kinds_of_fields}
 use Rattle.pict_rules.specs.Clauses.{done, expect, within_bound, within_bounds}
-use Rattle.pict_rules.specs.Rules.{Sort, nothing_, arguments_, type_, Rule, Answer, ensure, give, ok, stuck, within_limits}
+use Rattle.pict_rules.specs.Rules.{Sort, nothing_, arguments_, type_, Rule, Answer, ensure, give, ok, stuck}
 use Rattle.pict_rules.specs.Rules as rules
 use Rattle.pict_rules.specs.Shapes.{nth_bound}
 use Rattle.pict_rules.specs.Derivations.{Runs, give_}
@@ -32,8 +32,10 @@ use Rattle.pict_infer.proofs.Through.{GoesOn, given, needed, refused, refused_on
 use Rattle.pict_check.specs.Lines.{all_found, application_end, as_expected, fields_end, formed, within_all, within_one}
 use Rattle.pict_check.proofs.Ends.{answer_past}
 use Rattle.pict_check.proofs.FieldEnds.{ensured, formed_is, formed_on, given_is}
-use Rattle.pict_check.proofs.Finding.{args_more, next_taken}
+use Rattle.pict_check.proofs.Finding.{args_more}
 use Rattle.pict_check.proofs.PutIn.{bound_under}
+use Rattle.pict_scope.proofs.Reading.{taken}
+use Rattle.pict_infer.proofs.OpenedBinders.{nth_is}
 
 -- ONE BOUND
 
@@ -71,9 +73,6 @@ Left e n bs args i = within_bounds e n (plain_bounds (drop i bs)) (plain_args (t
 pub record IsLeft (e : Environment) (n : Span) (bs : List Bound) (args : List Arg) (i : ℕ) : Type 0 where
   pub goes : (r : Answer nothing_) → Runs (Left e n bs args i) r → Runs (within_all e n (plain_bounds bs) (plain_args args)) r
 
-pub all_left : (e : Environment) (n : Span) (bs : List Bound) (args : List Arg) → IsLeft e n bs args 0
-all_left e n bs args = record { goes = λ r h. h }
-
 next_dropped : (xs : List Arg) (i : ℕ) (d : Arg) → i < length xs → d ≡ get_or xs i d → drop i xs ≡ d ∷ drop (i + 1) xs
 next_dropped xs i d h is =
     let e : drop i xs ≡ get_or xs i d ∷ drop (i + 1) xs = rw (add-one, drop-cons xs i d) refl in
@@ -92,7 +91,7 @@ left_next e n bs args i b a h k at is =
     ap (λ (z : PlainBounds). within_bounds e n z (plain_args (take i args)) (plain_args (drop i args)) Y9 done) (bounds_next bs i b h at)
     ∙ ap (λ (z : List PlainArg). within_bounds e n (bounds (plain_bound b) (plain_bounds (drop (i + 1) bs))) (plain_args (take i args)) z Y9 done) (ap plain_args (next_dropped args i a k is))
     ∙ ap (λ (z : List PlainArg). within_bound e n (plain_bound b) (plain_args (take i args)) (plain_arg a) Y9 n (within_bounds e n (plain_bounds (drop (i + 1) bs)) z (plain_args (drop (i + 1) args)) Y9 done))
-    (sym (ap plain_args (next_taken args i a k is) ∙ args_more (take i args) a))
+    (sym (ap plain_args (taken args i a k is) ∙ args_more (take i args) a))
 
 pub one_below : (e : Environment) (n : Span) (bs : List Bound) (args : List Arg) (i : ℕ) (b : Bound) (a : Arg) → i < length bs → i < length args → b ≡ get_or bs i b → a ≡ get_or args i a
     → Runs (within_one e n (plain_bound b) (plain_args (take i args)) (plain_arg a) n) (ok tt) → IsLeft e n bs args i → IsLeft e n bs args (i + 1)
@@ -128,21 +127,13 @@ args_length : (args : List Arg) → length (plain_args args) ≡ length args
 args_length [] = refl
 args_length (a ∷ args) = ap suc (args_length args)
 
-pub bound_read : (bs : List Bound) (i : ℕ) (b : Bound) → i < length bs → b ≡ get_or bs i b → nth_bound i (plain_bounds bs) ≡ plain_bound b
-bound_read bs i b h is = go bs i h ∙ ap plain_bound (sym is)
-  where
-    go : (cs : List Bound) (j : ℕ) → j < length cs → nth_bound j (plain_bounds cs) ≡ plain_bound (get_or cs j b)
-    go [] j k = absurd (omega (arith, k))
-    go (c ∷ cs) zero k = refl
-    go (c ∷ cs) (suc j) k = go cs j (omega (arith, k))
-
 pub bound_formed : (e : Environment) (bs : List Bound) (args : List Arg) (i : ℕ) (b : Bound) → i < length bs → b ≡ get_or bs i b → BoundsAreWellFormed e.names (kinds_in e) (plain_bounds bs) → FitTheirFields (plain_args args) (plain_bounds bs)
     → BoundIsWellFormed e.names (kinds_with (plain_args (take i args)) (kinds_in e)) (plain_bound b)
 bound_formed e bs args i b h is w f =
     let n = fit_length args bs f in
     let m : length (plain_args (take i args)) ≡ i = args_length (take i args) ∙ length-take-le i args (omega (arith, h, n)) in
     let c = count_bounds_length bs in
-    subst (λ d. BoundIsWellFormed e.names (kinds_with (plain_args (take i args)) (kinds_in e)) d) (ap (λ j. nth_bound j (plain_bounds bs)) m ∙ bound_read bs i b h is)
+    subst (λ d. BoundIsWellFormed e.names (kinds_with (plain_args (take i args)) (kinds_in e)) d) (ap (λ j. nth_bound j (plain_bounds bs)) m ∙ nth_is bs i b h is)
     (bound_under e.names (kinds_in e) (plain_bounds bs) (plain_args (take i args)) w (fit_before args (plain_bounds bs) i f) (omega (arith, h, m, c)))
 
 -- FIELDS END

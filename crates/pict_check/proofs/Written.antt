@@ -1,5 +1,5 @@
 -- Fields with type arguments put in: they are fit as the record's own fields are with the arguments found.
-use Rattle.std.proofs.Common.{◌≡◌, ℕ, zero, suc, ◌-◌, List, [], ◌∷◌, refl, ◌∙◌, ap, Bool, true, false, ◌&&◌, ◌||◌, map, length}
+use Rattle.std.proofs.Common.{◌≡◌, ℕ, zero, suc, ◌-◌, List, [], ◌∷◌, refl, ◌∙◌, ap, Bool, true, false, ◌&&◌, map, length}
 use Rattle.std.specs.Prelude.{nat_lt}
 use Rattle.pict_types.specs.Types.{PlainType, Top, Int, Char, Str, Boolean, Var, Apply, Chan, Fields, Rec, PlainTypes, no_type, types, PlainLabels, no_label, labels, PlainBound, Free, Below, Operator, PlainBounds, no_bound, bounds, PlainArg}
 use Rattle.pict_types.specs.Kinds.{Kind, IsWellFormed}
@@ -7,6 +7,7 @@ use Rattle.pict_types.proofs.Replacements.{formed_normal, nothing_changed, repla
 use Rattle.pict_types.specs.Replacing.{arguments, replace}
 use Rattle.pict_types.specs.Mentions.{mentions, mentions_bound, mentions_bounds, mentions_labels, mentions_types, outside, outside_all}
 use Rattle.pict_rules.specs.Found.{filled, argument_in, is_missing, mentions_missing, with_found}
+use Rattle.pict_types.proofs.Mentioned.{neither}
 
 -- what stands for type fields that are all found
 pub all_arguments : (args : List PlainArg) → map argument_in (map filled args) ≡ args
@@ -36,9 +37,6 @@ none_outside {p = p} h = record { each = go }
 none_under : {p : ℕ → Bool} (bs : PlainBounds) → AreNone p → AreNone (outside_all bs p)
 none_under no_bound h = h
 none_under (bounds b bs) h = none_under bs (none_outside h)
-
-neither : {a b : Bool} → a ≡ false → b ≡ false → (a || b) ≡ false
-neither h k = rw (h, k) refl
 
 mutual
   mentions_none : {p : ℕ → Bool} (t : PlainType) → AreNone p → mentions p t ≡ false

@@ -1,7 +1,6 @@
 -- Each way that a body of the cycle ends, and what each of its calls asks.
-use Rattle.std.proofs.Common.{rules, ◌≡◌, length, refl, sym, ◌∙◌, ap, subst, arith, None, Some, List, Option, ◌-◌, Err, Ok, ap₂, reverse, take, ℕ}
+use Rattle.std.proofs.Common.{rules, ◌≡◌, length, refl, sym, ◌∙◌, ap, subst, arith, None, Some, List, Option, ◌-◌, Err, Ok, ap₂, take, ℕ}
 use Rattle.std.specs.Option.{option_map}
-use Rattle.std.proofs.lemmas.List.{reverse-reverse}
 use Rattle.pict_syntax.specs.declared.code.Code.TheVariants.{Y4, Y2, Y3}
 use Rattle.pict_syntax.specs.declared.tree.Abs.TheViews.{out-FieldVals}
 use Rattle.pict_syntax.specs.declared.tree.Val.{Val as RVal, the_lemmas}
@@ -11,7 +10,6 @@ use Rattle.pict_syntax.specs.Labels.{by_number, in_label_order}
 use Rattle.pict_syntax.specs.Grammar.{val_span, chan_span}
 use Rattle.pict_syntax.proofs.DeclarationLists.{decs_none}
 use Rattle.pict_syntax.proofs.ValueLists.{procs_none}
-use Rattle.pict_syntax.proofs.ListLemmas.{on_ok}
 use Rattle.pict_types.specs.Kinds.{IsWellFormed, LabelsAreWellFormed}
 use Rattle.pict_types.specs.Plain.{plain, plain_args, plain_bounds, plain_labels, plain_record, plain_types}
 use Rattle.pict_types.specs.Types.{PlainType, Int, Char, Str, Boolean, Chan as ChanType, Respond, Fields as FieldsType, no_bound}
@@ -20,7 +18,7 @@ use Rattle.pict_types.specs.declared.types.Ty.{Ty}
 use Rattle.pict_normal.specs.Written.{kinds_with}
 use Rattle.pict_sub.specs.Exposing.{exposure}
 use Rattle.pict_scope.specs.DistinctLabels.{DecHasDistinctLabels}
-use Rattle.pict_rules.specs.Clauses.{gives_below as below_rule, may_receive, may_send}
+use Rattle.pict_rules.specs.Clauses.{gives_below as below_rule, may_receive, may_send, found_first}
 use Rattle.pict_rules.specs.Derivations.{Runs, give_}
 use Rattle.pict_rules.specs.Environments.{Environment, context_of, shifted_by, extended, opened}
 use Rattle.pict_rules.specs.Found.{Found, none_found, matched, with_found}
@@ -44,14 +42,14 @@ use Rattle.pict_check.specs.Functions.{function_of, IsNoFunction}
 use Rattle.pict_check.specs.Lines.{application_end, either_type, formed, outside, fields_end, labelled_of, labelled_value_fits, positional_of}
 use Rattle.pict_check.specs.Reading.{found_for}
 use Rattle.pict_check.specs.Records.{fits_record, values_in_order}
-use Rattle.pict_check.proofs.ApplyEnds.{answer_formed, applied_is_formed, first_before, first_found_of, use_gives}
+use Rattle.pict_check.proofs.ApplyEnds.{answer_formed, applied_is_formed, first_before, use_gives}
 use Rattle.pict_check.proofs.ChannelEnds.{applied_asked, applied_refused, apply_end, apply_refused, block_asked, block_done, block_refused, body_asked, body_refused, fold_asked, fold_done, fold_refused, fold_value_refused, has_apply_done, has_apply_refused, has_block_asked, has_block_done, has_block_refused, has_body_asked, has_body_refused, has_head_asked, head_asked, open_fold_asked, open_fold_end, open_fold_refused, outside_refused}
 use Rattle.pict_check.proofs.Ends.{good_of, refused_here}
 use Rattle.pict_check.proofs.FieldEnds.{application_done, fields_asked, fields_refused, head_refused as unapplied_refused, counted_refused, instance_refused, omitted_end, omitted_refused, value_given, value_given_asked, value_gives_asked, value_gives_refused, value_had, value_has_asked, value_limits, written_refused}
 use Rattle.pict_check.proofs.Forms.{channel_val, character_form, false_form, fold_form, number_form, string_form, true_form, use_form}
 use Rattle.pict_check.proofs.HasEnds.{has_end, has_no_asked, has_test, has_test_asked, has_yes, has_yes_asked, lambda_below_asked, lambda_below_end, lambda_sent_asked, lambda_sent_end, other_asked, other_end, record_asked, record_below_asked, record_below_end, record_done, record_refused}
 use Rattle.pict_check.proofs.Kept.{answer_in, given_there, grew_kept, grown_from, kept_any, kept_here, kept_on, kept_twice, more_variables, opened_count, type_there}
-use Rattle.pict_check.proofs.Read.{apply_read, block_read, fields_read, fold_read, if_read, lambda_read, left_read, of_channel, parts_are, parts_read, right_read}
+use Rattle.pict_check.proofs.Read.{apply_read, block_read, fields_read, fold_read, if_read, lambda_read, left_read, of_channel, parts_read, right_read}
 use Rattle.pict_check.proofs.RecordEnds.{label_asked, label_more, label_refused, labels_asked, labels_end, labels_refused, labels_start, none_on, record_end, record_named, value_next_asked, value_next_more, value_next_refused, values_asked, values_refused, values_start}
 use Rattle.pict_check.proofs.RowEnds.{all_values, all_fit, fit_asked, fit_more, fit_refused}
 use Rattle.pict_check.proofs.ValueEnds.{below_there, if_end, if_no, if_test, if_yes, lambda_asked, lambda_end, lambda_refused, no_asked, test_asked, yes_asked}
@@ -74,17 +72,17 @@ use Rattle.pict_check.proofs.Rights.{head_refused, memory_refused}
 use Rattle.pict_check.proofs.WholeForms.{all_begun_found, all_begun_room, all_entered_found, all_entered_room, first_asked, first_for, first_refused, form_is, form_is_left, inside_is, last_asked, last_value_for, last_value_refused, left_form_of, right_form_of}
 use Rattle.pict_check.specs.Declaring.{defined, valued}
 use Rattle.pict_check.proofs.CompleteEnds.{complete_still}
-use Rattle.pict_check.proofs.DeclarationEnds.{against_end, against_grew, all_declarations, await_asked, await_end, declaration_asked, declaration_more, declaration_refused, let_against_asked, let_has_asked, let_has_done, let_has_refused, let_pattern_asked, let_pattern_refused, let_value_asked, let_value_refused, placed, run_asked, run_end}
+use Rattle.pict_check.proofs.DeclarationEnds.{against_end, against_grew, await_asked, await_end, declaration_asked, declaration_more, declaration_refused, let_against_asked, let_has_asked, let_has_done, let_has_refused, let_pattern_asked, let_pattern_refused, let_value_asked, let_value_refused, placed, run_asked, run_end}
 use Rattle.pict_check.proofs.DeclarationForms.{alias_read, await_read, def_read, group_read, if_proc_read, inert_form, let_form, let_read, new_read, operator_read, receive_read, run_read, send_read, serve_read}
-use Rattle.pict_check.proofs.Grown.{as_before_grew, grew_after, result_grew, still_may}
+use Rattle.pict_check.proofs.Grown.{as_before_grew, result_grew, still_may}
 use Rattle.pict_check.proofs.ProcessEnds.{group_asked, group_done, group_refused, inside_asked, inside_refused, message_asked, messages_there, proc_if_end, proc_no_asked, proc_test, proc_test_asked, proc_yes, proc_yes_asked, process_asked, process_more, process_refused, receive_asked, receive_end, receive_refused, receiver_asked, receives_channel_asked, receives_channel_refused, receives_end, receives_refused, send_channel_asked, send_channel_refused, send_end, send_refused, serve_asked, serve_end, serve_refused}
 use Rattle.pict_check.proofs.AbstractionEnds.{against_body_asked, against_body_refused, against_pattern_asked, against_pattern_refused, against_process_asked, against_process_refused, result_formed, body_type_refused, exposure_is, fields_known, fields_of_record, function_against, no_answer, no_record_refused, outside_given_at, outside_refused_at, own_fields_refused, pattern_asked, pattern_refused, process_against, process_body_asked, process_body_refused, process_gives, against_record_answer, record_answering, against_record_asked, taken_asked, taken_refused, typed_body_asked, typed_body_refused, typed_end, typed_result_refused, untyped_body_asked, untyped_body_refused, untyped_end, untyped_refused}
 use Rattle.pict_check.proofs.AbstractionForms.{annotation_read, function_form, function_read, process_form}
 use Rattle.pict_check.proofs.DefinitionEnds.{all_past, argument_answer, body_answer, next_body_asked, next_body_refused, definitions_answer, bodies_asked, signatures_refused, never_without, next_body, none_taken, one_past, judged_process_asked, process_judged, taken_next, judged_value_asked, value_judged, within_body}
 use Rattle.pict_check.specs.Definitions.{IsInside, function_with, record_answers}
-use Rattle.pict_check.proofs.NestedSteps.{on_any as on_any_abstractions}
 use Rattle.pict_check.proofs.Finishing as out
 use Rattle.pict_check.proofs.+values.Goals as goal
+use Rattle.pict_scope.proofs.ValueForms.{field_vals_are}
 
 -- VALUES
 
@@ -378,7 +376,7 @@ values::record_gives-returns-then-not-is_empty-clause-answer t c =
     let f = c.args.fields.now in
     let parts = out-FieldVals f in
     let none = none_on parts.type_arguments.items _ c.is_empty.result parts.type_arguments.ok.0 c.is_empty.ensures ∙ c.if-not-is_empty.true in
-    record_named (environment_of c.args.env.now) c.args.span (field_vals_of f) (types_on no_types parts.type_arguments.items) (vals_on no_vals parts.positional.items) (labelled_vals_on no_labelled_vals parts.labelled.items) (parts_are f) none
+    record_named (environment_of c.args.env.now) c.args.span (field_vals_of f) (types_on no_types parts.type_arguments.items) (vals_on no_vals parts.positional.items) (labelled_vals_on no_labelled_vals parts.labelled.items) (field_vals_are f) none
 
 pub values::record_gives-values_give-requires : goal.values::record_gives-values_give-requires
 values::record_gives-values_give-requires t c =
@@ -1119,7 +1117,7 @@ channels::application-fields_fit-requires t c =
     let r = function_of c.in_ok-function.function in
     let x = option_map (λ u. plain u.now) c.args.expected in
     let none = none_on parts.type_arguments.items _ c.is_empty.result parts.type_arguments.ok.0 c.is_empty.ensures in
-    let is = c.in_ok-found.ensures.found ∙ sym (first_before e (field_vals_of c.args.fields.now) _ _ _ r x c.is_empty.result (parts_are c.args.fields.now) none) in
+    let is = c.in_ok-found.ensures.found ∙ sym (first_before e (field_vals_of c.args.fields.now) _ _ _ r x c.is_empty.result (field_vals_are c.args.fields.now) none) in
     let w = fields_asked e c.args.span (val_of c.args.f.now) (field_vals_of c.args.fields.now) x (plain c.args.t) r c.requires.right c.requires.head c.in_ok-function.ensures.ok in
     (search (rules, the_lemmas), (subst (λ (g : Found). IsWellAsked arguments_ e (fits_record c.args.span (field_vals_of c.args.fields.now) c.in_ok-function.function.fields g)) (sym is) w, c.in_ok-found.ensures.count))
 
@@ -1133,7 +1131,7 @@ channels::application-returns-in_err-args-clause-answer t c =
     let y = c.in_err-args.field-0.0 in
     let x = option_map (λ u. plain u.now) c.args.expected in
     let none = none_on parts.type_arguments.items _ c.is_empty.result parts.type_arguments.ok.0 c.is_empty.ensures in
-    let is = c.in_ok-found.ensures.found ∙ sym (first_before e vs _ _ _ r x c.is_empty.result (parts_are c.args.fields.now) none) in
+    let is = c.in_ok-found.ensures.found ∙ sym (first_before e vs _ _ _ r x c.is_empty.result (field_vals_are c.args.fields.now) none) in
     answer_err (rule e (application c.args.span f vs x)) plain c.from_residual-in_err-args.result y c.from_residual-in_err-args.ensures.1
     (fields_refused e c.args.span f vs x (plain c.args.t) r y c.requires.head c.in_ok-function.ensures.ok
     (subst (λ (g : Found). IsRefused (rule e (fits_record c.args.span vs c.in_ok-function.function.fields g)) y) is c.in_err-args.ensures.answer))
@@ -1148,12 +1146,12 @@ channels::application-application_end-requires-clause-answer t c =
     let x = option_map (λ u. plain u.now) c.args.expected in
     let k = c.in_ok-args.ensures in
     let none = none_on parts.type_arguments.items _ c.is_empty.result parts.type_arguments.ok.0 c.is_empty.ensures in
-    let is = c.in_ok-found.ensures.found ∙ sym (first_before e vs _ _ _ r x c.is_empty.result (parts_are c.args.fields.now) none) in
+    let is = c.in_ok-found.ensures.found ∙ sym (first_before e vs _ _ _ r x c.is_empty.result (field_vals_are c.args.fields.now) none) in
     let w = fields_asked e c.args.span (val_of c.args.f.now) vs x (plain c.args.t) r c.requires.right c.requires.head c.in_ok-function.ensures.ok in
     let p = subst (λ (g : Found). Runs (rule e (fits_record c.args.span vs c.in_ok-function.function.fields g)) (ok (plain_args c.in_ok-args.args.items))) is k.answer in
     let n = applied_is_formed e c.args.span (val_of c.args.f.now) vs x (plain c.args.t) r c.requires.right c.requires.head c.in_ok-function.ensures.ok in
     subst (λ zs. IsWellFormed d.names (kinds_with (plain_args zs) (kinds_in d)) (plain c.in_ok-function.function.answer)) (sym c.deref.ensures.value)
-    (answer_formed d e r (plain_args c.in_ok-args.args.items) k.same.known n (good_of {j = fits_record c.args.span vs c.in_ok-function.function.fields (first_found_of e vs r x)} w p).1)
+    (answer_formed d e r (plain_args c.in_ok-args.args.items) k.same.known n (good_of {j = fits_record c.args.span vs c.in_ok-function.function.fields (found_first e vs r x)} w p).1)
 
 pub channels::application-application_end-requires-clause-args : goal.channels::application-application_end-requires-clause-args
 channels::application-application_end-requires-clause-args t c =
@@ -1165,11 +1163,11 @@ channels::application-application_end-requires-clause-args t c =
     let x = option_map (λ u. plain u.now) c.args.expected in
     let k = c.in_ok-args.ensures in
     let none = none_on parts.type_arguments.items _ c.is_empty.result parts.type_arguments.ok.0 c.is_empty.ensures in
-    let is = c.in_ok-found.ensures.found ∙ sym (first_before e vs _ _ _ r x c.is_empty.result (parts_are c.args.fields.now) none) in
+    let is = c.in_ok-found.ensures.found ∙ sym (first_before e vs _ _ _ r x c.is_empty.result (field_vals_are c.args.fields.now) none) in
     let w = fields_asked e c.args.span (val_of c.args.f.now) vs x (plain c.args.t) r c.requires.right c.requires.head c.in_ok-function.ensures.ok in
     let p = subst (λ (g : Found). Runs (rule e (fits_record c.args.span vs c.in_ok-function.function.fields g)) (ok (plain_args c.in_ok-args.args.items))) is k.answer in
     subst (λ zs. ArgsAreWellFormed d.names (kinds_in d) (plain_args zs)) (sym c.deref.ensures.value)
-    (subst (λ (z : Environment). ArgsAreWellFormed z.names (kinds_in z) (plain_args c.in_ok-args.args.items)) (sym k.same.known) (good_of {j = fits_record c.args.span vs c.in_ok-function.function.fields (first_found_of e vs r x)} w p).0)
+    (subst (λ (z : Environment). ArgsAreWellFormed z.names (kinds_in z) (plain_args c.in_ok-args.args.items)) (sym k.same.known) (good_of {j = fits_record c.args.span vs c.in_ok-function.function.fields (found_first e vs r x)} w p).0)
 
 pub channels::application-application_end-requires-clause-expected : goal.channels::application-application_end-requires-clause-expected
 channels::application-application_end-requires-clause-expected t c =
@@ -1186,7 +1184,7 @@ channels::application-returns-clause-answer t c =
     let k = c.in_ok-args.ensures in
     let args = plain_args c.in_ok-args.args.items in
     let none = none_on parts.type_arguments.items _ c.is_empty.result parts.type_arguments.ok.0 c.is_empty.ensures in
-    let is = c.in_ok-found.ensures.found ∙ sym (first_before e vs _ _ _ r x c.is_empty.result (parts_are c.args.fields.now) none) in
+    let is = c.in_ok-found.ensures.found ∙ sym (first_before e vs _ _ _ r x c.is_empty.result (field_vals_are c.args.fields.now) none) in
     let p = subst (λ (g : Found). Runs (rule e (fits_record c.args.span vs c.in_ok-function.function.fields g)) (ok args)) is k.answer in
     application_done plain e c.args.span f vs x (plain c.args.t) r args c.application_end.result c.requires.head c.in_ok-function.ensures.ok p
     (subst (λ (z : Environment). IsAnswer (application_end z c.args.span r.answer args x) plain c.application_end.result) k.same.known
@@ -1465,7 +1463,7 @@ fitting::in_order-values_fit-requires t c =
       search (rules, the_lemmas),
       (
         rw (c.deref.ensures.value, c.deref-2.ensures.value, c.deref-3.ensures.value)
-            (subst (λ x. IsWellAsked found_ e (values_fit c.args.span x (plain_types r.positional.items) (found_for r.binders.items c.args.found.now))) (ap positional_of (parts_are c.args.fields.now)) c.requires.positional),
+            (subst (λ x. IsWellAsked found_ e (values_fit c.args.span x (plain_types r.positional.items) (found_for r.binders.items c.args.found.now))) (ap positional_of (field_vals_are c.args.fields.now)) c.requires.positional),
         (rw (c.deref.ensures.value, c.deref-2.ensures.value) c.requires.few, rw c.deref-3.ensures.value c.requires.count),
       ),
     )
@@ -1480,7 +1478,7 @@ fitting::in_order-returns-in_err-values_fit-clause-answer t c =
     let first = rw (c.deref.ensures.value, c.deref-2.ensures.value, c.deref-3.ensures.value) at c.in_err-values_fit.ensures.answer in
     answer_err (values_in_order e c.args.span f r g) (λ x. found_for r.binders.items c.values_fit.new.found) c.from_residual.result y c.from_residual.ensures.1
     (order_first e c.args.span (positional_of f) (labelled_of f) (plain_types r.positional.items) (plain_labels r.labelled.items) g y
-    (subst (λ x. IsRefused (rule e (values_fit c.args.span x (plain_types r.positional.items) g)) y) (sym (ap positional_of (parts_are c.args.fields.now))) first))
+    (subst (λ x. IsRefused (rule e (values_fit c.args.span x (plain_types r.positional.items) g)) y) (sym (ap positional_of (field_vals_are c.args.fields.now))) first))
 
 pub fitting::in_order-labelled_values_fit-requires : goal.fitting::in_order-labelled_values_fit-requires
 fitting::in_order-labelled_values_fit-requires t c =
@@ -1490,13 +1488,13 @@ fitting::in_order-labelled_values_fit-requires t c =
     let g : Found = found_for r.binders.items c.args.found.now in
     let h : Found = found_for r.binders.items c.values_fit.new.found in
     let first = rw (c.deref.ensures.value, c.deref-2.ensures.value, c.deref-3.ensures.value) at c.in_ok-values_fit.ensures.answer in
-    let p = subst (λ x. Runs (rule e (values_fit c.args.span x (plain_types r.positional.items) g)) (ok h)) (sym (ap positional_of (parts_are c.args.fields.now))) first in
+    let p = subst (λ x. Runs (rule e (values_fit c.args.span x (plain_types r.positional.items) g)) (ok h)) (sym (ap positional_of (field_vals_are c.args.fields.now))) first in
     let w = labelled_asked e c.args.span (positional_of f) (labelled_of f) (plain_types r.positional.items) (plain_labels r.labelled.items) g h c.requires.positional c.requires.labels c.requires.labelled p in (
       search (rules, the_lemmas),
       (
         rw (c.deref-4.ensures.value, c.deref-5.ensures.value, c.deref-6.ensures.value)
             (subst (λ x. IsWellAsked found_ x (labelled_values_fit c.args.span (labelled_vals_on no_labelled_vals (out-FieldVals c.args.fields.now).labelled.items) (plain_labels r.labelled.items) h)) (sym c.in_ok-values_fit.ensures.same.known)
-            (subst (λ x. IsWellAsked found_ e (labelled_values_fit c.args.span x (plain_labels r.labelled.items) h)) (ap labelled_of (parts_are c.args.fields.now)) w)),
+            (subst (λ x. IsWellAsked found_ e (labelled_values_fit c.args.span x (plain_labels r.labelled.items) h)) (ap labelled_of (field_vals_are c.args.fields.now)) w)),
         rw c.deref-6.ensures.value (c.in_ok-values_fit.ensures.count ∙ ap length c.deref-3.ensures.value),
       ),
     )
@@ -1509,10 +1507,10 @@ fitting::in_order-returns-clause-answer t c =
     let g : Found = found_for r.binders.items c.args.found.now in
     let h : Found = found_for r.binders.items c.values_fit.new.found in
     let first = rw (c.deref.ensures.value, c.deref-2.ensures.value, c.deref-3.ensures.value) at c.in_ok-values_fit.ensures.answer in
-    let p = subst (λ x. Runs (rule e (values_fit c.args.span x (plain_types r.positional.items) g)) (ok h)) (sym (ap positional_of (parts_are c.args.fields.now))) first in
+    let p = subst (λ x. Runs (rule e (values_fit c.args.span x (plain_types r.positional.items) g)) (ok h)) (sym (ap positional_of (field_vals_are c.args.fields.now))) first in
     let last = rw (c.deref-4.ensures.value, c.deref-5.ensures.value, c.deref-6.ensures.value) at c.labelled_values_fit.ensures.answer in
     order_last (λ x. found_for r.binders.items c.labelled_values_fit.new.found) e c.args.span (positional_of f) (labelled_of f) (plain_types r.positional.items) (plain_labels r.labelled.items) g h c.labelled_values_fit.result p
-    (subst (λ z. IsAnswer (rule e (labelled_values_fit c.args.span z (plain_labels r.labelled.items) h)) (λ x. found_for r.binders.items c.labelled_values_fit.new.found) c.labelled_values_fit.result) (sym (ap labelled_of (parts_are c.args.fields.now)))
+    (subst (λ z. IsAnswer (rule e (labelled_values_fit c.args.span z (plain_labels r.labelled.items) h)) (λ x. found_for r.binders.items c.labelled_values_fit.new.found) c.labelled_values_fit.result) (sym (ap labelled_of (field_vals_are c.args.fields.now)))
     (subst (λ x. IsAnswer (rule x (labelled_values_fit c.args.span (labelled_vals_on no_labelled_vals (out-FieldVals c.args.fields.now).labelled.items) (plain_labels r.labelled.items) h)) (λ x. found_for r.binders.items c.labelled_values_fit.new.found) c.labelled_values_fit.result)
     c.in_ok-values_fit.ensures.same.known last))
 
@@ -1526,7 +1524,7 @@ fitting::fields_fit-returns-in_err-counted-clause-answer t c =
     let g = found_for r.binders.items c.args.found in
     let y = c.in_err-counted.field-0.0 in
     answer_err (rule e (fits_record c.args.span f r g)) (λ args. plain_args args.items) c.from_residual.result y c.from_residual.ensures.1
-    (counted_refused e c.args.span f _ _ _ (plain_bounds r.binders.items) (plain_types r.positional.items) (plain_labels r.labelled.items) g y (parts_are c.args.fields.now) c.in_err-counted.ensures)
+    (counted_refused e c.args.span f _ _ _ (plain_bounds r.binders.items) (plain_types r.positional.items) (plain_labels r.labelled.items) g y (field_vals_are c.args.fields.now) c.in_err-counted.ensures)
 
 pub fitting::fields_fit-in_order-requires : goal.fitting::fields_fit-in_order-requires
 fitting::fields_fit-in_order-requires t c =
@@ -1538,7 +1536,7 @@ fitting::fields_fit-in_order-requires t c =
     let f = field_vals_of c.args.fields.now in
     let parts = out-FieldVals c.args.fields.now in
     let g : Found = found_for r.binders.items c.args.found in
-    let is = parts_are c.args.fields.now in
+    let is = field_vals_are c.args.fields.now in
     let say = counts_say c.args.span f _ _ _ bs ps ms is c.in_ok-counted.ensures in
     (search (rules, the_lemmas), (positional_asked e c.args.span f bs ps ms g c.requires.right, (labels_distinct e c.args.span f bs ps ms g c.requires.right, (labels_formed e c.args.span f bs ps ms g c.requires.right, (as_many_values parts.positional.items r.positional.items say.1, c.requires.count)))))
 
@@ -1552,7 +1550,7 @@ fitting::fields_fit-returns-in_err-in_order-clause-answer t c =
     let f = field_vals_of c.args.fields.now in
     let parts = out-FieldVals c.args.fields.now in
     let g : Found = found_for r.binders.items c.args.found in
-    let is = parts_are c.args.fields.now in
+    let is = field_vals_are c.args.fields.now in
     let none = none_on parts.type_arguments.items _ c.is_empty.result parts.type_arguments.ok.0 c.is_empty.ensures ∙ c.if-is_empty.true in
     let y = c.in_err-in_order.field-0.0 in
     answer_err (rule e (fits_record c.args.span f r g)) (λ args. plain_args args.items) c.from_residual-in_err-in_order.result y c.from_residual-in_err-in_order.ensures.1
@@ -1568,7 +1566,7 @@ fitting::fields_fit-fields_end-requires-clause-kinds t c =
     let f = field_vals_of c.args.fields.now in
     let parts = out-FieldVals c.args.fields.now in
     let g : Found = found_for r.binders.items c.args.found in
-    let is = parts_are c.args.fields.now in
+    let is = field_vals_are c.args.fields.now in
     let h : Found = found_for r.binders.items c.in_order.new.found in
     let good = in_order_good e c.args.span (positional_of f) (labelled_of f) ps ms g h (positional_asked e c.args.span f bs ps ms g c.requires.right) (labels_distinct e c.args.span f bs ps ms g c.requires.right) (labels_formed e c.args.span f bs ps ms g c.requires.right)
     c.in_ok-in_order.ensures.answer in
@@ -1584,7 +1582,7 @@ fitting::fields_fit-fields_end-requires-clause-fits t c =
     let f = field_vals_of c.args.fields.now in
     let parts = out-FieldVals c.args.fields.now in
     let g : Found = found_for r.binders.items c.args.found in
-    let is = parts_are c.args.fields.now in
+    let is = field_vals_are c.args.fields.now in
     let h : Found = found_for r.binders.items c.in_order.new.found in
     let good = in_order_good e c.args.span (positional_of f) (labelled_of f) ps ms g h (positional_asked e c.args.span f bs ps ms g c.requires.right) (labels_distinct e c.args.span f bs ps ms g c.requires.right) (labels_formed e c.args.span f bs ps ms g c.requires.right)
     c.in_ok-in_order.ensures.answer in
@@ -1600,7 +1598,7 @@ fitting::fields_fit-returns-then-is_empty-clause-answer t c =
     let f = field_vals_of c.args.fields.now in
     let parts = out-FieldVals c.args.fields.now in
     let g : Found = found_for r.binders.items c.args.found in
-    let is = parts_are c.args.fields.now in
+    let is = field_vals_are c.args.fields.now in
     let none = none_on parts.type_arguments.items _ c.is_empty.result parts.type_arguments.ok.0 c.is_empty.ensures ∙ c.if-is_empty.true in
     let h : Found = found_for r.binders.items c.in_order.new.found in
     let end = rw c.deref.ensures.value at c.fields_end.ensures.answer in
@@ -1617,7 +1615,7 @@ fitting::fields_fit-written_arguments-requires-clause-right t c =
     let f = field_vals_of c.args.fields.now in
     let parts = out-FieldVals c.args.fields.now in
     let g : Found = found_for r.binders.items c.args.found in
-    let is = parts_are c.args.fields.now in
+    let is = field_vals_are c.args.fields.now in
     let say = counts_say c.args.span f _ _ _ bs ps ms is c.in_ok-counted.ensures in
     let some = none_on parts.type_arguments.items _ c.is_empty.result parts.type_arguments.ok.0 c.is_empty.ensures ∙ c.if-is_empty.false in
     let w = arguments_asked e c.args.span f _ _ _ bs ps ms g is c.requires.right (as_many_trees _ bs some say.0) in
@@ -1633,7 +1631,7 @@ fitting::fields_fit-written_arguments-requires-clause-count t c =
     let f = field_vals_of c.args.fields.now in
     let parts = out-FieldVals c.args.fields.now in
     let g : Found = found_for r.binders.items c.args.found in
-    let is = parts_are c.args.fields.now in
+    let is = field_vals_are c.args.fields.now in
     let say = counts_say c.args.span f _ _ _ bs ps ms is c.in_ok-counted.ensures in
     let some = none_on parts.type_arguments.items _ c.is_empty.result parts.type_arguments.ok.0 c.is_empty.ensures ∙ c.if-is_empty.false in
     let n = as_many_arguments parts.type_arguments.items r.binders.items some say.0 in
@@ -1649,7 +1647,7 @@ fitting::fields_fit-returns-in_err-args-clause-answer t c =
     let f = field_vals_of c.args.fields.now in
     let parts = out-FieldVals c.args.fields.now in
     let g : Found = found_for r.binders.items c.args.found in
-    let is = parts_are c.args.fields.now in
+    let is = field_vals_are c.args.fields.now in
     let some = none_on parts.type_arguments.items _ c.is_empty.result parts.type_arguments.ok.0 c.is_empty.ensures ∙ c.if-is_empty.false in
     let y = c.in_err-args.field-0.0 in
     let h = rw (c.deref-2.ensures.value, c.deref-3.ensures.value) at c.in_err-args.ensures in
@@ -1666,7 +1664,7 @@ fitting::fields_fit-record_instance-requires-clause-args t c =
     let f = field_vals_of c.args.fields.now in
     let parts = out-FieldVals c.args.fields.now in
     let g : Found = found_for r.binders.items c.args.found in
-    let is = parts_are c.args.fields.now in
+    let is = field_vals_are c.args.fields.now in
     let say = counts_say c.args.span f _ _ _ bs ps ms is c.in_ok-counted.ensures in
     let some = none_on parts.type_arguments.items _ c.is_empty.result parts.type_arguments.ok.0 c.is_empty.ensures ∙ c.if-is_empty.false in
     let w = arguments_asked e c.args.span f _ _ _ bs ps ms g is c.requires.right (as_many_trees _ bs some say.0) in
@@ -1684,7 +1682,7 @@ fitting::fields_fit-record_instance-requires-clause-fit t c =
     let f = field_vals_of c.args.fields.now in
     let parts = out-FieldVals c.args.fields.now in
     let g : Found = found_for r.binders.items c.args.found in
-    let is = parts_are c.args.fields.now in
+    let is = field_vals_are c.args.fields.now in
     let say = counts_say c.args.span f _ _ _ bs ps ms is c.in_ok-counted.ensures in
     let some = none_on parts.type_arguments.items _ c.is_empty.result parts.type_arguments.ok.0 c.is_empty.ensures ∙ c.if-is_empty.false in
     let w = arguments_asked e c.args.span f _ _ _ bs ps ms g is c.requires.right (as_many_trees _ bs some say.0) in
@@ -1702,7 +1700,7 @@ fitting::fields_fit-returns-in_err-put-clause-answer t c =
     let f = field_vals_of c.args.fields.now in
     let parts = out-FieldVals c.args.fields.now in
     let g : Found = found_for r.binders.items c.args.found in
-    let is = parts_are c.args.fields.now in
+    let is = field_vals_are c.args.fields.now in
     let some = none_on parts.type_arguments.items _ c.is_empty.result parts.type_arguments.ok.0 c.is_empty.ensures ∙ c.if-is_empty.false in
     let args = plain_args c.in_ok-args.args.items in
     let a = rw (c.deref-2.ensures.value, c.deref-3.ensures.value) at c.in_ok-args.ensures in
@@ -1721,7 +1719,7 @@ fitting::fields_fit-in_order-requires-2 t c =
     let f = field_vals_of c.args.fields.now in
     let parts = out-FieldVals c.args.fields.now in
     let g : Found = found_for r.binders.items c.args.found in
-    let is = parts_are c.args.fields.now in
+    let is = field_vals_are c.args.fields.now in
     let say = counts_say c.args.span f _ _ _ bs ps ms is c.in_ok-counted.ensures in
     let args = plain_args c.in_ok-args.args.items in
     let q = c.in_ok-put.put in
@@ -1739,7 +1737,7 @@ fitting::fields_fit-returns-in_err-in_order-2-clause-answer t c =
     let f = field_vals_of c.args.fields.now in
     let parts = out-FieldVals c.args.fields.now in
     let g : Found = found_for r.binders.items c.args.found in
-    let is = parts_are c.args.fields.now in
+    let is = field_vals_are c.args.fields.now in
     let some = none_on parts.type_arguments.items _ c.is_empty.result parts.type_arguments.ok.0 c.is_empty.ensures ∙ c.if-is_empty.false in
     let args = plain_args c.in_ok-args.args.items in
     let a = rw (c.deref-2.ensures.value, c.deref-3.ensures.value) at c.in_ok-args.ensures in
@@ -1760,7 +1758,7 @@ fitting::fields_fit-returns-clause-answer t c =
     let f = field_vals_of c.args.fields.now in
     let parts = out-FieldVals c.args.fields.now in
     let g : Found = found_for r.binders.items c.args.found in
-    let is = parts_are c.args.fields.now in
+    let is = field_vals_are c.args.fields.now in
     let some = none_on parts.type_arguments.items _ c.is_empty.result parts.type_arguments.ok.0 c.is_empty.ensures ∙ c.if-is_empty.false in
     let args = plain_args c.in_ok-args.args.items in
     let a = rw (c.deref-2.ensures.value, c.deref-3.ensures.value) at c.in_ok-args.ensures in
@@ -2889,7 +2887,7 @@ pub abstractions::untyped_gives-returns-clause-same : goal.abstractions::untyped
 abstractions::untyped_gives-returns-clause-same t c =
     let w = c.in_ok-own.ensures.answer in
     let grew = grew_kept c.args.env.now c.add.new.self c.gives.new.env (grew_twice c.args.env.now c.open_fields.new.env c.add.new.self w.grew c.in_ok-add.ensures.grew) c.in_ok-given.ensures.same in
-    on_any_abstractions c.argument.result (c.cut.ensures c.args.env.now c.place-outer.ensures grew)
+    on_any c.argument.result (c.cut.ensures c.args.env.now c.place-outer.ensures grew)
 
 -- a function with one
 
@@ -2973,7 +2971,7 @@ pub abstractions::typed_gives-returns-clause-same : goal.abstractions::typed_giv
 abstractions::typed_gives-returns-clause-same t c =
     let w = c.in_ok-own.ensures.answer in
     let grew = grew_kept c.args.env.now c.add.new.self c.has.new.env (grew_twice c.args.env.now c.open_fields.new.env c.add.new.self w.grew c.in_ok-add.ensures.grew) c.in_ok-has.ensures.same in
-    on_any_abstractions c.argument.result (c.cut.ensures c.args.env.now c.place-outer.ensures grew)
+    on_any c.argument.result (c.cut.ensures c.args.env.now c.place-outer.ensures grew)
 
 -- a process abstraction against a type
 

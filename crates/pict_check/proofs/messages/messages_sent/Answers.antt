@@ -1,5 +1,5 @@
 -- The type is none of a channel, or the channel may not be used so, or its messages are given.
-use Rattle.std.proofs.Common.{◌≡◌, sym, ◌∙◌, subst}
+use Rattle.std.proofs.Common.{sym, ◌∙◌, subst}
 use Rattle.pict_syntax.specs.declared.code.Code.TheVariants.{Y2}
 use Rattle.pict_sub.specs.Exposing.{exposure}
 use Rattle.pict_types.specs.Plain.{plain, plain_cap}

@@ -7,8 +7,9 @@ use Rattle.pict_infer.specs.Environments.{environment_of}
 use Rattle.pict_check.specs.Operators.{found_by, operator_of, type_if}
 use Rattle.pict_check.specs.Reading.{found_for}
 use Rattle.pict_check.proofs.Frames.{found_count}
-use Rattle.pict_check.proofs.NestedSteps.{known_given, matched_found, nothing_given, on_any, within_fields}
+use Rattle.pict_check.proofs.NestedSteps.{known_given, matched_found, nothing_given, within_fields}
 use Rattle.pict_check.proofs.nested.field_given.Goals as goal
+use Rattle.pict_check.proofs.FitEnds.{on_any}
 
 pub returns-in_default-clause-lines : goal.returns-in_default-clause-lines
 returns-in_default-clause-lines c =
