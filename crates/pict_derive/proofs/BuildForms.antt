@@ -28,8 +28,8 @@ use Rattle.pict_translation.specs.Arguments.{with_value, sent_as_one, right, lef
 use Rattle.pict_translation.specs.Patterns.{pat_core, function_pat}
 use Rattle.pict_translation.specs.Simple.{Around, bound, pat_bound, function_bound, answer_channel, fields_of, use_of, simple, simple_chan}
 use Rattle.pict_translation.specs.Translation.{sending, sending_chan, with_vals, with_labelled, with_fields, arguments, reader, dec_core, decs_core, definition_names, servers, proc_core, procs_core, unit_pat}
-use Rattle.pict_derive.proofs.SimpleForms.{field_vals_are}
 use Rattle.pict_derive.proofs.Surrounding.{plain_var}
+use Rattle.pict_scope.proofs.ValueForms.{field_vals_are}
 
 -- ---- values
 

@@ -1,6 +1,6 @@
 -- Forms put together from what their parts say.
 use Rattle.std.proofs.Common.{◌≡◌, ℕ, ◌+◌, ◌-◌, ◌<◌, ◌≤◌, Bool, List, [], ◌∷◌, ◌++◌, length, map, drop, get_or, Option, None, sym, ◌∙◌, ap, option_map, append_assoc}
-use Rattle.std.proofs.lemmas.List.{map-append}
+use Rattle.std.proofs.lemmas.List.{map-append, drop_all}
 use Rattle.pict_syntax.specs.declared.span.Span.{Span}
 use Rattle.pict_syntax.specs.declared.tree.Val.{Val}
 use Rattle.pict_syntax.specs.declared.tree.Proc.{Proc}
@@ -16,14 +16,13 @@ use Rattle.pict_core.specs.declared.value.CoreVal.TheVariants as value
 use Rattle.pict_binders.specs.declared.binders.Binder.{Binder}
 use Rattle.pict_translation.specs.Placed.{Placed, beside, output, input, served, side_by_side, variables}
 use Rattle.pict_translation.specs.Arguments.{with_value, application, right, left, left_after, no_argument}
-use Rattle.pict_translation.specs.Patterns.{pat_core}
 use Rattle.pict_translation.specs.Patterns as patterns
 use Rattle.pict_translation.specs.Simple.{Around, fields_of, simple}
 use Rattle.pict_translation.specs.Translation.{sending, arguments, procs_core, servers}
 use Rattle.pict_derive.specs.declared.outside.Outside.{Outside}
 use Rattle.pict_derive.specs.Built.{Extends, surround, three}
 use Rattle.pict_derive.proofs.LevelLemmas.{cut_back}
-use Rattle.pict_derive.proofs.BuildSteps.{argument_of, arguments_are, process_of, procs_are, server_of, servers_are, right_first, right_sends, left_last, left_sends, side_first, drop_all}
+use Rattle.pict_derive.proofs.BuildSteps.{argument_of, arguments_are, process_of, procs_are, server_of, servers_are, right_first, right_sends, left_last, left_sends, side_first}
 use Rattle.pict_derive.proofs.Surrounding.{plain_var}
 
 -- what was found of a value, in the place of the question
@@ -70,7 +69,7 @@ pub server_put : (e : Around) (o : Outside) (xs : List Definition) (i : ℕ) (x 
 server_put e o xs i x level rest within is = ap (λ l. surround o (served (map (server_of e) l) (variables level (length l)) rest)) (from_place xs i x within is)
 
 pub servers_done : (e : Around) (o : Outside) (xs : List Definition) (i level : ℕ) (rest : Placed) → length xs ≤ i → surround o (served (map (server_of e) (drop i xs)) (variables level (length (drop i xs))) rest) ≡ surround o rest
-servers_done e o xs i level rest le = ap (λ l. surround o (served (map (server_of e) l) (variables level (length l)) rest)) (drop_all xs i le)
+servers_done e o xs i level rest le = ap (λ l. surround o (served (map (server_of e) l) (variables level (length l)) rest)) (drop_all i xs le)
 
 pub servers_begin : (e : Around) (o : Outside) (xs : List Definition) (level : ℕ) (rest : Placed) → surround o (served (servers e (definitions_on no_definitions xs)) (variables level (length xs)) rest) ≡ surround o (served (map (server_of e) xs) (variables level (length xs)) rest)
 servers_begin e o xs level rest = ap (λ ss. surround o (served ss (variables level (length xs)) rest)) (servers_are e xs)
@@ -87,7 +86,7 @@ group_put e o xs i x last within is =
     ∙ ap (surround o) (side_first (process_of e x) (map (process_of e) (drop (i + 1) xs)) (process_of e last))
 
 pub group_last : (e : Around) (o : Outside) (xs : List Proc) (i : ℕ) (last : Proc) → length xs ≤ i → surround o (side_by_side (map (process_of e) (drop i xs) ++ process_of e last ∷ [])) ≡ surround o (process_of e last)
-group_last e o xs i last le = ap (λ l. surround o (side_by_side (map (process_of e) l ++ process_of e last ∷ []))) (drop_all xs i le)
+group_last e o xs i last le = ap (λ l. surround o (side_by_side (map (process_of e) l ++ process_of e last ∷ []))) (drop_all i xs le)
 
 -- ---- nested applications
 
@@ -125,7 +124,7 @@ right_put e o f s xs i x second last k within is =
 pub right_last : (e : Around) (o : Outside) (f : core.Val) (s : Span) (xs : List Val) (i : ℕ) (second last : Val) (k : core.Val) → length xs ≤ i →
     surround o ((right f s (map (argument_of e) (drop i xs) ++ argument_of e second ∷ argument_of e last ∷ [])).sent k)
     ≡ surround o (with_value (simple e (val_of second)) (sending e (val_of second)) (λ u. with_value (simple e (val_of last)) (sending e (val_of last)) (λ y. output f (three u y k) s)))
-right_last e o f s xs i second last k le = ap (λ l. surround o ((right f s (map (argument_of e) l ++ argument_of e second ∷ argument_of e last ∷ [])).sent k)) (drop_all xs i le)
+right_last e o f s xs i second last k le = ap (λ l. surround o ((right f s (map (argument_of e) l ++ argument_of e second ∷ argument_of e last ∷ [])).sent k)) (drop_all i xs le)
 
 -- the last argument, with all that stands before it as the first one
 pub left_put : (e : Around) (o : Outside) (f : core.Val) (s : Span) (left_ new : List Val) (x first second : Val) (k : core.Val) → left_ ≡ new ++ x ∷ [] →

@@ -1,5 +1,5 @@
 -- Lists of trees gone through: what one more tree does to what is built.
-use Rattle.std.proofs.Common.{◌≡◌, ℕ, zero, suc, ◌+◌, ◌<◌, ◌≤◌, true, List, [], ◌∷◌, ◌++◌, length, map, take, drop, get_or, None, refl, sym, ◌∙◌, ap, arith, append_assoc}
+use Rattle.std.proofs.Common.{◌≡◌, ℕ, ◌+◌, ◌<◌, true, List, [], ◌∷◌, ◌++◌, length, map, take, get_or, None, refl, sym, ◌∙◌, ap, append_assoc}
 use Rattle.std.proofs.lemmas.List.{append-nil}
 use Rattle.pict_syntax.specs.declared.span.Span.{Span}
 use Rattle.pict_syntax.specs.declared.tree.Val.{Val}
@@ -15,16 +15,10 @@ use Rattle.pict_translation.specs.Placed.{Placed, beside, side_by_side}
 use Rattle.pict_translation.specs.Arguments.{Argument, argument, with_value, application, right, left_after}
 use Rattle.pict_translation.specs.Simple.{Around, simple}
 use Rattle.pict_translation.specs.Translation.{sending, with_vals, with_labelled, arguments, reader, dec_core, decs_core, servers, proc_core, procs_core}
-use Rattle.pict_derive.proofs.LevelLemmas.{taken}
 use Rattle.pict_derive.proofs.SimpleForms.{vals_taken, labelled_taken}
+use Rattle.pict_scope.proofs.Reading.{taken}
 
 -- ---- what is left of a list
-
-pub drop_all : {A : Type 0} (xs : List A) (i : ℕ) → length xs ≤ i → drop i xs ≡ []
-drop_all [] zero le = refl
-drop_all [] (suc i) le = refl
-drop_all (x ∷ xs) zero le = absurd (omega (arith, le))
-drop_all (x ∷ xs) (suc i) le = drop_all xs i (omega (arith, le))
 
 -- ---- values and declarations, taken from the left
 

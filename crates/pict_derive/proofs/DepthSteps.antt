@@ -1,7 +1,7 @@
 -- Lists of trees gone through from their ends: what one more tree does to the depth so far, and what is left at the end.
-use Rattle.std.proofs.Common.{◌≡◌, ℕ, zero, suc, ◌+◌, ◌<◌, ◌≤◌, max, min, List, [], ◌∷◌, ◌++◌, length, map, take, get_or, Option, Some, refl, ap, sym, ◌∙◌, arith, append_assoc}
+use Rattle.std.proofs.Common.{◌≡◌, ℕ, suc, ◌+◌, ◌<◌, ◌≤◌, max, min, List, [], ◌∷◌, ◌++◌, length, take, get_or, Option, Some, refl, ap, sym, ◌∙◌, arith, append_assoc}
 use Rattle.std.proofs.Math.Seq.{take-suc}
-use Rattle.std.proofs.lemmas.List.{length-map}
+use Rattle.std.proofs.lemmas.List.{length-map, take_all}
 use Rattle.pict_syntax.specs.declared.tree.Val.{Val}
 use Rattle.pict_syntax.specs.declared.tree.LabelledVal.{LabelledVal}
 use Rattle.pict_syntax.specs.declared.tree.Dec.{Dec}
@@ -14,7 +14,7 @@ use Rattle.pict_syntax.proofs.DeclarationLists.{decs_more, definitions_more}
 use Rattle.pict_translation.specs.Depth.{put_with, application_depth, right_depth, left_depth, side_depth, served_depth, sent_depth, withs_depth, labelled_depth, depths, abs_depth, abs_depths, dec_depth, decs_depth, proc_depth, proc_depths}
 use Rattle.pict_derive.specs.Held.{held, held_option}
 use Rattle.pict_derive.proofs.HeldDepths.{max_held, put_held, application_held, withs_held, labelled_held, decs_held, served_held, right_held, right_last, left_last, side_held, side_last, served_last}
-use Rattle.pict_derive.proofs.LevelLemmas.{empty, take_all}
+use Rattle.pict_derive.proofs.LevelLemmas.{empty}
 use Rattle.pict_derive.proofs.DepthForms.{depths_on, abs_depths_on}
 
 pub values_step : (all left new : List Val) (x : Val) (start inner put depth : Option ℕ) → held_option (withs_depth (vals_on no_vals all) start) ≡ held_option (withs_depth (vals_on no_vals left) inner) → left ≡ new ++ x ∷ [] → held_option depth ≡ held_option (sent_depth (val_of x)) → held_option put ≡ held_option (put_with depth inner) → held_option (withs_depth (vals_on no_vals all) start) ≡ held_option (withs_depth (vals_on no_vals new) put)
@@ -115,7 +115,7 @@ left_step all rest first x d i head depth put is within item so_far same made =
     ∙ sym (ap held_option (ap (λ xs. left_depth (depths (vals_on no_vals xs))) (next_of all rest first x d i is within item) ∙ left_more first (take i rest) x))
 
 pub left_end : (all : List Val) (i : ℕ) (head : Option ℕ) → length all ≤ i + 1 → held_option head ≡ held_option (left_depth (depths (vals_on no_vals (take (i + 1) all)))) → held_option head ≡ held_option (left_depth (depths (vals_on no_vals all)))
-left_end all i head long so_far = so_far ∙ ap (λ xs. held_option (left_depth (depths (vals_on no_vals xs)))) (take_all all (i + 1) long)
+left_end all i head long so_far = so_far ∙ ap (λ xs. held_option (left_depth (depths (vals_on no_vals xs)))) (take_all (i + 1) all long)
 
 pub none_right : (all : List Val) → all ≡ [] → Some 1 ≡ held_option (right_depth (depths (vals_on no_vals all)))
 unfolding depths vals_on

@@ -1,9 +1,9 @@
 -- Names with levels: look-up, binding several, and going back.
-use Rattle.std.proofs.Common.{◌≡◌, ℕ, zero, suc, ◌+◌, ◌-◌, Bool, true, false, nat_eq, List, [], ◌∷◌, ◌++◌, length, map, take, drop, get_or, Some, refl, sym, ◌∙◌, ap, arith, append_assoc, option_map, add-one, ◌<◌, ◌≤◌, ◌⊎◌, inl, inr}
+use Rattle.std.proofs.Common.{◌≡◌, ℕ, zero, suc, ◌+◌, ◌-◌, Bool, true, false, nat_eq, List, [], ◌∷◌, ◌++◌, length, map, take, drop, get_or, Some, refl, sym, ◌∙◌, ap, arith, append_assoc, option_map, ◌<◌, ◌≤◌, ◌⊎◌, inl, inr}
 use Rattle.std.specs.Prelude.{if◌then◌else◌, ◌≢◌}
 use Rattle.std.proofs.lemmas.Bool.Decides.{eqb_tells}
 use Rattle.std.proofs.lemmas.List.{length-append, length-map, map-append, append-nil}
-use Rattle.std.proofs.Math.Seq.{drop-append_seam, get_or-append_seam, take-suc}
+use Rattle.std.proofs.Math.Seq.{drop-append_seam, get_or-append_seam}
 use Rattle.pict_syntax.specs.declared.tree.Definition.{Definition as RDefinition}
 use Rattle.pict_syntax.specs.PlainTrees.{abs_of, definitions_on}
 use Rattle.pict_translation.specs.Translation.{definition_names}
@@ -17,6 +17,7 @@ use Rattle.pict_translation.specs.Patterns.{pat_core, pat_names, function_pat, n
 use Rattle.pict_translation.specs.Simple.{Around, value_at, binding, bound, pat_bound, function_bound, answer_channel, unit}
 use Rattle.pict_translation.proofs.PatternLemmas.{pattern_agrees, function_agrees}
 use Rattle.pict_derive.specs.Built.{values_of, place, with_levels, Extends}
+use Rattle.pict_scope.proofs.Reading.{taken}
 
 eq_other : (n m : ℕ) → nat_eq n m ≡ nat_eq m n
 eq_other n m = go (eqb_tells n m) (eqb_tells m n)
@@ -80,18 +81,9 @@ binding_stops (n ∷ ns) level m around more = binding_stops ns (level + 1) m ((
 
 -- ---- lists of names, one after the other
 
-pub taken : {A : Type 0} (xs : List A) (i : ℕ) (x : A) → i < length xs → x ≡ get_or xs i x → take (i + 1) xs ≡ take i xs ++ x ∷ []
-taken xs i x within is = rw (add-one, take-suc xs i x within) (ap (λ y. take i xs ++ y ∷ []) (sym is))
-
 pub empty : {A : Type 0} (xs : List A) → length xs ≡ 0 → xs ≡ []
 empty [] is = refl
 empty (x ∷ xs) is = cc
-
-pub take_all : {A : Type 0} (xs : List A) (i : ℕ) → length xs ≤ i → take i xs ≡ xs
-take_all [] zero le = refl
-take_all [] (suc i) le = refl
-take_all (x ∷ xs) zero le = absurd (omega (arith, le))
-take_all (x ∷ xs) (suc i) le = ap (λ ys. x ∷ ys) (take_all xs i (omega (arith, le)))
 
 pub length_taken : {A : Type 0} (f : A → ℕ) (xs : List A) (i : ℕ) → i ≤ length xs → length (map f (take i xs)) ≡ i
 length_taken f xs zero le = refl

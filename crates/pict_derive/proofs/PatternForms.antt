@@ -7,25 +7,26 @@ use Rattle.pict_syntax.specs.declared.id.Id.{Id}
 use Rattle.pict_syntax.specs.declared.name.Name.{Name}
 use Rattle.pict_syntax.specs.declared.type_tree.RType.{RType}
 use Rattle.pict_syntax.specs.declared.pattern.Pat.{Pat, Bind, Any, Fields, Fold}
-use Rattle.pict_syntax.specs.declared.pattern.Pat.TheViews.{out-FieldPats, roll-out-FieldPats}
+use Rattle.pict_syntax.specs.declared.pattern.Pat.TheViews.{out-FieldPats}
 use Rattle.pict_syntax.specs.declared.pattern.FieldPats.{FieldPats}
 use Rattle.pict_syntax.specs.declared.pattern.LabelledPat.{LabelledPat}
-use Rattle.pict_syntax.specs.Trees.{no_pats, no_labelled_pats, no_binders, fields_pat, field_pats}
-use Rattle.pict_syntax.specs.PlainTrees.{pat_of, field_pats_of, pats_on, labelled_pats_on, binders_on}
+use Rattle.pict_syntax.specs.Trees.{no_pats, no_labelled_pats, fields_pat}
+use Rattle.pict_syntax.specs.PlainTrees.{pat_of, field_pats_of, pats_on, labelled_pats_on}
 use Rattle.pict_syntax.specs.Labels.{in_label_order, by_number}
-use Rattle.pict_syntax.proofs.PatternLists.{pats_more, labelled_pats_more, field_pats_is}
+use Rattle.pict_syntax.proofs.PatternLists.{pats_more, labelled_pats_more}
 use Rattle.pict_core.specs.Term as core
 use Rattle.pict_core.specs.Plain.{plain_pat, plain_pat_field, pats_of, labelled_pats_of}
 use Rattle.pict_core.specs.declared.pattern.CorePat.{CorePat}
 use Rattle.pict_core.specs.declared.pattern.CorePat.TheVariants as pattern
 use Rattle.pict_core.proofs.Fields.{plain_pat-Fields}
 use Rattle.pict_translation.specs.Patterns as patterns
-use Rattle.pict_translation.specs.Patterns.{opened, all_opened, labelled_opened, patterns_in, labelled_patterns_in, names_in, labelled_names_in, record_pat, answer, function_pat, names_before, names_after}
+use Rattle.pict_translation.specs.Patterns.{opened, all_opened, labelled_opened, patterns_in, names_in, labelled_names_in, record_pat, answer, function_pat, names_before, names_after}
 use Rattle.pict_derive.specs.declared.patterns.Opened.{Opened}
 use Rattle.pict_derive.specs.Built.{numbers_of, opened_of, opened_field, pattern_of}
 use Rattle.pict_derive.proofs.LabelOrder.{sorted_are, patterns_are, labelled_patterns_are, names_in_more, labelled_names_more}
-use Rattle.pict_derive.proofs.LevelLemmas.{taken}
 use Rattle.pict_derive.proofs.Surrounding.{plain_bind}
+use Rattle.pict_scope.proofs.Reading.{taken}
+use Rattle.pict_scope.proofs.PatternForms.{field_pats_are}
 
 pub opened_is : (o : Opened) (q : patterns.Opened) → plain_pat o.pattern ≡ q.pattern → numbers_of o.names.items ≡ q.names → opened_of o ≡ q
 opened_is o q p n =
@@ -43,9 +44,6 @@ any_opened names p s r is = ap (λ t. opened names (pat_of t)) is
 pub fold_opened : (names : List (List ℕ)) (p : Pat) (s : Span) (r : RType) (q : Box Pat Global) → p ≡ Fold s r q → opened names (pat_of p) ≡ opened names (pat_of q.value)
 unfolding pat_of opened
 fold_opened names p s r q is = ap (λ t. opened names (pat_of t)) is
-
-pub field_pats_are : (f : FieldPats) → field_pats_of f ≡ field_pats (binders_on no_binders (out-FieldPats f).binders.items) (pats_on no_pats (out-FieldPats f).positional.items) (labelled_pats_on no_labelled_pats (out-FieldPats f).labelled.items)
-field_pats_are f = ap field_pats_of (sym (roll-out-FieldPats f)) ∙ field_pats_is (out-FieldPats f).binders (out-FieldPats f).positional (out-FieldPats f).labelled
 
 abbrev positional_in : List (List ℕ) → FieldPats → List patterns.Opened
 positional_in names f = all_opened names (pats_on no_pats (out-FieldPats f).positional.items)

@@ -7,22 +7,23 @@ use Rattle.pict_syntax.specs.declared.id.Id.{Id}
 use Rattle.pict_syntax.specs.declared.name.Name.{Name}
 use Rattle.pict_syntax.specs.declared.type_tree.RType.{RType as RRType}
 use Rattle.pict_syntax.specs.declared.tree.Abs.{Abs}
-use Rattle.pict_syntax.specs.declared.tree.Abs.TheViews.{out-FieldVals, roll-out-FieldVals}
+use Rattle.pict_syntax.specs.declared.tree.Abs.TheViews.{out-FieldVals}
 use Rattle.pict_syntax.specs.declared.tree.Chan.{Chan, Use, Fold, Block, Apply, Right, Left}
 use Rattle.pict_syntax.specs.declared.tree.Val.{Val, OfChan, Number, Character, String, True, False, Fields, If, Lambda}
 use Rattle.pict_syntax.specs.declared.tree.Dec.{Dec}
 use Rattle.pict_syntax.specs.declared.tree.FieldVals.{FieldVals}
 use Rattle.pict_syntax.specs.declared.tree.LabelledVal.{LabelledVal}
-use Rattle.pict_syntax.specs.Trees.{Vals, no_vals, more_vals, LabelledVals, no_labelled_vals, more_labelled_vals, field_vals, no_types}
-use Rattle.pict_syntax.specs.PlainTrees.{val_of, chan_of, field_vals_of, vals_on, labelled_vals_on, types_on}
-use Rattle.pict_syntax.proofs.ValueLists.{field_vals_is, vals_more, labelled_vals_more, block_is, right_is, left_is}
+use Rattle.pict_syntax.specs.Trees.{Vals, no_vals, more_vals, LabelledVals, no_labelled_vals, more_labelled_vals}
+use Rattle.pict_syntax.specs.PlainTrees.{val_of, chan_of, field_vals_of, vals_on, labelled_vals_on}
+use Rattle.pict_syntax.proofs.ValueLists.{vals_more, labelled_vals_more, block_is, right_is, left_is}
 use Rattle.pict_core.specs.Term as core
 use Rattle.pict_core.specs.Plain.{plain_val}
 use Rattle.pict_core.specs.declared.value.CoreVal.{CoreVal, the_lemmas as value_lemmas}
 use Rattle.pict_core.specs.declared.value.CoreVal.TheVariants as value
 use Rattle.pict_translation.specs.Simple.{Around, simple, simple_chan, simple_fields, simple_vals, simple_labelled, fields_of, use_of, one_more}
 use Rattle.pict_derive.specs.Built.{field_of}
-use Rattle.pict_derive.proofs.LevelLemmas.{taken}
+use Rattle.pict_scope.proofs.Reading.{taken}
+use Rattle.pict_scope.proofs.ValueForms.{field_vals_are}
 
 pub chan_simple : (e : Around) (v : Val) (c : Chan) → v ≡ OfChan c → simple e (val_of v) ≡ simple_chan e (chan_of c)
 unfolding val_of simple
@@ -85,9 +86,6 @@ unfolding simple_chan
 left_simple e v s i vs is = ap (λ t. simple_chan e (chan_of t)) is ∙ ap (simple_chan e) (left_is s i vs)
 
 -- ---- fields
-
-pub field_vals_are : (f : FieldVals) → field_vals_of f ≡ field_vals (types_on no_types (out-FieldVals f).type_arguments.items) (vals_on no_vals (out-FieldVals f).positional.items) (labelled_vals_on no_labelled_vals (out-FieldVals f).labelled.items)
-field_vals_are f = ap field_vals_of (sym (roll-out-FieldVals f)) ∙ field_vals_is (out-FieldVals f).type_arguments (out-FieldVals f).positional (out-FieldVals f).labelled
 
 abbrev both : Around → Option (List core.Val) → Option (List (ℕ × core.Val)) → Option core.Val
 both e us ws = option_and_then (λ us. option_map (fields_of e us) ws) us

@@ -13,12 +13,13 @@ use Rattle.pict_translation.specs.Patterns.{pat_core, function_pat}
 use Rattle.pict_translation.specs.Simple.{Around, answer_channel, bound, fields_of, function_bound, pat_bound, simple, simple_chan, use_of}
 use Rattle.pict_translation.specs.Translation.{sending, sending_chan, with_vals, with_labelled, with_fields, decs_core, dec_core, definition_names, servers, reader, proc_core, procs_core, unit_pat}
 use Rattle.pict_derive.specs.Built.{field_of, numbers_of, place, surround, three, with_levels}
-use Rattle.pict_derive.proofs.LevelLemmas.{empty, take_all, extends_none, extends_then, extends_with, names_count, pattern_place, pattern_size, function_answer, function_size, both_bound, place_bound}
+use Rattle.pict_derive.proofs.LevelLemmas.{empty, extends_none, extends_then, extends_with, names_count, pattern_place, pattern_size, function_answer, function_size, both_bound, place_bound}
 use Rattle.pict_derive.proofs.Surrounding.{plain_var}
 use Rattle.pict_derive.proofs.BuildForms.{chan_sent, number_sent, character_sent, string_sent, true_sent, false_sent, fields_sent, if_sent, lambda_sent, use_sent, fold_sent, block_sent, apply_sent, right_sent, left_sent, parts_taken, process_read, function_read, new_built, run_built, let_built, def_built, alias_built, operator_built, await_built, send_built, receive_built, serve_built, if_built, inert_built, group_built}
 use Rattle.pict_derive.proofs.BuildSteps.{argument_of, process_of, server_of, vals_step, vals_begin, labelled_step, labelled_begin, decs_step, decs_begin}
 use Rattle.pict_derive.proofs.BuildParts.{found_value, out_made, choice_made, applied_made, fields_and, input_made, given_back, extends_same, extends_bound, one_value, server_put, servers_done, servers_begin, group_begin, group_none, group_put, group_last, right_none, left_none, right_one, left_one, right_begin, left_begin, right_put, right_last, left_put, left_first, opened_names, opened_pattern}
 use Rattle.pict_derive.proofs.build.+build.Goals as goal
+use Rattle.std.proofs.lemmas.List.{take_all}
 
 -- ---- values
 
@@ -188,7 +189,7 @@ values-loop-tree-preserved t c =
 
 pub values-returns-clause-core : goal.values-returns-clause-core
 values-returns-clause-core t c f =
-    ap (λ xs. surround c.args.outer.now (with_vals (place c.args.names.now c.args.scope.now) (vals_on no_vals xs) f)) (sym (take_all c.args.trees.now c.loop-tree.tree-index (omega arith))) ∙ c.loop-tree.invariant.built f
+    ap (λ xs. surround c.args.outer.now (with_vals (place c.args.names.now c.args.scope.now) (vals_on no_vals xs) f)) (sym (take_all c.loop-tree.tree-index c.args.trees.now (omega arith))) ∙ c.loop-tree.invariant.built f
 
 pub labelled-loop-tree-init : goal.labelled-loop-tree-init
 labelled-loop-tree-init t c = record {
@@ -211,7 +212,7 @@ labelled-loop-tree-preserved t c =
 
 pub labelled-returns-clause-core : goal.labelled-returns-clause-core
 labelled-returns-clause-core t c f =
-    ap (λ xs. surround c.args.outer.now (with_labelled (place c.args.names.now c.args.scope.now) (labelled_vals_on no_labelled_vals xs) f)) (sym (take_all c.args.trees.now c.loop-tree.tree-index (omega arith))) ∙ c.loop-tree.invariant.built f
+    ap (λ xs. surround c.args.outer.now (with_labelled (place c.args.names.now c.args.scope.now) (labelled_vals_on no_labelled_vals xs) f)) (sym (take_all c.loop-tree.tree-index c.args.trees.now (omega arith))) ∙ c.loop-tree.invariant.built f
 
 -- ---- nested applications
 
@@ -291,7 +292,7 @@ decs-loop-tree-preserved t c = record {
 
 pub decs-returns-clause-core : goal.decs-returns-clause-core
 decs-returns-clause-core t c rest =
-    ap (λ xs. surround c.args.outer.now (decs_core (place c.args.names.now c.args.scope.now) (decs_on no_decs xs) rest)) (sym (take_all c.args.trees.now c.loop-tree.tree-index (omega arith))) ∙ c.loop-tree.invariant.built rest
+    ap (λ xs. surround c.args.outer.now (decs_core (place c.args.names.now c.args.scope.now) (decs_on no_decs xs) rest)) (sym (take_all c.loop-tree.tree-index c.args.trees.now (omega arith))) ∙ c.loop-tree.invariant.built rest
 
 -- ---- processes
 

@@ -1,8 +1,8 @@
 -- One name more.
 use Rattle.std.proofs.Common.{◌≡◌, ◌∙◌, ◌+◌, ap, sym, length, arith}
-use Rattle.std.proofs.lemmas.List.{length-map}
+use Rattle.std.proofs.lemmas.List.{length-map, take_all}
 use Rattle.pict_derive.specs.Built.{numbers_of, with_levels}
-use Rattle.pict_derive.proofs.LevelLemmas.{levels_read, take_all}
+use Rattle.pict_derive.proofs.LevelLemmas.{levels_read}
 use Rattle.pict_derive.proofs.parts.bind_all.Goals as goal
 
 pub loop-name-preserved : goal.loop-name-preserved
@@ -20,4 +20,4 @@ returns-clause-level c =
 
 pub returns-clause-scope : goal.returns-clause-scope
 returns-clause-scope c =
-    c.loop-name.invariant.scope ∙ ap (λ ns. with_levels (numbers_of ns) c.args.first c.args.scope.now) (take_all c.args.names.now c.loop-name.name-index (omega arith))
+    c.loop-name.invariant.scope ∙ ap (λ ns. with_levels (numbers_of ns) c.args.first c.args.scope.now) (take_all c.loop-name.name-index c.args.names.now (omega arith))

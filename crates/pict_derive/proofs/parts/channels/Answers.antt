@@ -2,9 +2,10 @@
 use Rattle.std.proofs.Common.{◌≡◌, ◌∙◌, ◌++◌, ◌∷◌, [], ap, sym, length, map, arith}
 use Rattle.pict_translation.specs.Placed.{new_channel, variables}
 use Rattle.pict_derive.specs.Built.{surround, with_levels}
-use Rattle.pict_derive.proofs.LevelLemmas.{levels_taken, take_all, variables_grown, definition_names_are}
+use Rattle.pict_derive.proofs.LevelLemmas.{levels_taken, variables_grown, definition_names_are}
 use Rattle.pict_derive.proofs.Surrounding.{channel_more}
 use Rattle.pict_derive.proofs.parts.channels.Goals as goal
+use Rattle.std.proofs.lemmas.List.{take_all}
 
 pub loop-part-preserved : goal.loop-part-preserved
 loop-part-preserved c =
@@ -30,5 +31,5 @@ pub returns-clause-scope : goal.returns-clause-scope
 returns-clause-scope c =
     let d = c.args.outer.now.depth in
     c.loop-part.invariant.scope
-    ∙ ap (λ ps. with_levels (map (λ p. p.id.name.0) ps) d c.args.scope.now) (take_all c.args.parts.now c.loop-part.part-index (omega arith))
+    ∙ ap (λ ps. with_levels (map (λ p. p.id.name.0) ps) d c.args.scope.now) (take_all c.loop-part.part-index c.args.parts.now (omega arith))
     ∙ ap (λ ns. with_levels ns d c.args.scope.now) (sym (definition_names_are c.args.parts.now))

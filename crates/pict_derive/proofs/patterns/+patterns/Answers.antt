@@ -8,10 +8,10 @@ use Rattle.pict_core.specs.declared.pattern.CorePat.TheVariants as pattern
 use Rattle.pict_derive.specs.declared.patterns.Opened.{Opened}
 use Rattle.pict_translation.specs.Patterns.{labelled_opened, labelled_names_in, names_in}
 use Rattle.pict_derive.specs.Built.{numbers_of, opened_field}
-use Rattle.pict_derive.proofs.LevelLemmas.{take_all}
 use Rattle.pict_derive.proofs.PatternForms.{opened_is, bind_opened, any_opened, fold_opened, joined_is, none_opened, none_labelled, one_opened, one_labelled_opened, patterns_grow, names_grow, fields_grow, sorted_fields, sorted_patterns}
 use Rattle.pict_derive.proofs.Surrounding.{plain_bind, plain_any}
 use Rattle.pict_derive.proofs.patterns.+patterns.Goals as goal
+use Rattle.std.proofs.lemmas.List.{take_all}
 
 pub open-returns-in_ok-push-in-Bind : goal.open-returns-in_ok-push-in-Bind
 open-returns-in_ok-push-in-Bind t c =
@@ -43,12 +43,12 @@ open_labelled-loop-tree-preserved t c =
 pub open_labelled-returns-clause-patterns : goal.open_labelled-returns-clause-patterns
 open_labelled-returns-clause-patterns t c =
     sorted_patterns _ c.sort_labels.new.items.items _ c.in_ok-apart.ensures.patterns
-    (sorted_fields c.args.names.now c.loop-tree.fields.items c.sort_labels.new.items.items _ c.in_ok-sort_labels.ensures.sorted (c.loop-tree.invariant ∙ ap (λ l. labelled_opened c.args.names.now (labelled_pats_on no_labelled_pats l)) (take_all c.args.trees.now c.loop-tree.tree-index (omega arith))))
+    (sorted_fields c.args.names.now c.loop-tree.fields.items c.sort_labels.new.items.items _ c.in_ok-sort_labels.ensures.sorted (c.loop-tree.invariant ∙ ap (λ l. labelled_opened c.args.names.now (labelled_pats_on no_labelled_pats l)) (take_all c.loop-tree.tree-index c.args.trees.now (omega arith))))
 
 pub open_labelled-returns-clause-names : goal.open_labelled-returns-clause-names
 open_labelled-returns-clause-names t c =
     c.in_ok-apart.ensures.names
-    ∙ ap labelled_names_in (sorted_fields c.args.names.now c.loop-tree.fields.items c.sort_labels.new.items.items _ c.in_ok-sort_labels.ensures.sorted (c.loop-tree.invariant ∙ ap (λ l. labelled_opened c.args.names.now (labelled_pats_on no_labelled_pats l)) (take_all c.args.trees.now c.loop-tree.tree-index (omega arith))))
+    ∙ ap labelled_names_in (sorted_fields c.args.names.now c.loop-tree.fields.items c.sort_labels.new.items.items _ c.in_ok-sort_labels.ensures.sorted (c.loop-tree.invariant ∙ ap (λ l. labelled_opened c.args.names.now (labelled_pats_on no_labelled_pats l)) (take_all c.loop-tree.tree-index c.args.trees.now (omega arith))))
 
 pub open_positional-loop-tree-init : goal.open_positional-loop-tree-init
 open_positional-loop-tree-init t c = record {
