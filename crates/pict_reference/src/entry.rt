@@ -8,12 +8,28 @@ ghost use Rattle.pict_reference.specs.Plain.{plain_entry};
 use pict_core::{Core, CoreVal};
 use std::alloc::{AllocError, Global};
 
-// A process at its stamp, ready or parked.
+/// A process at its stamp, ready or parked.
 #[derive(Drop)]
 pub struct Entry {
+    /// The stamp. No other entry of the configuration has it.
     pub stamp: u64,
+    /// Whether the process may act; else it waits at a channel for a partner.
     pub ready: bool,
+    /// The process.
     pub process: Core,
+}
+
+impl Entry {
+    /// The same entry once more. The only error is want of memory.
+    pub fn copy(&self, alloc: Global) -> Result<Entry, AllocError>
+        ensures { IfOk result (λ e. plain_entry e ≡ plain_entry self.now) }
+    {
+        Ok(Entry {
+            stamp: self.stamp,
+            ready: self.ready,
+            process: self.process.copy(alloc)?,
+        })
+    }
 }
 
 fn is_channel(c: u32, value: &CoreVal) -> bool
@@ -78,7 +94,7 @@ pub fn with_process(
     Ok(made)
 }
 
-// The ready entry of the least stamp.
+/// The ready entry of the least stamp, of entries by rising stamps.
 pub fn oldest_ready(entries: &[Entry]) -> Option<&Entry>
     ensures { option_map (λ e. plain_entry e.now) result ≡ least is_ready (map plain_entry entries.now) }
 {
@@ -90,7 +106,7 @@ pub fn oldest_ready(entries: &[Entry]) -> Option<&Entry>
     None
 }
 
-// The parked reader of the channel with the least stamp.
+/// The reader that has been parked longest at the channel, of entries by rising stamps.
 pub fn oldest_reader(c: u32, entries: &[Entry]) -> Option<&Entry>
     ensures { option_map (λ e. plain_entry e.now) result ≡ least (is_parked_reader c) (map plain_entry entries.now) }
 {
@@ -102,7 +118,7 @@ pub fn oldest_reader(c: u32, entries: &[Entry]) -> Option<&Entry>
     None
 }
 
-// The parked message to the channel with the least stamp.
+/// The message that has been parked longest at the channel, of entries by rising stamps.
 pub fn oldest_message(c: u32, entries: &[Entry]) -> Option<&Entry>
     ensures { option_map (λ e. plain_entry e.now) result ≡ least (is_parked_message c) (map plain_entry entries.now) }
 {

@@ -1,6 +1,6 @@
 // A configuration, kept as its definition writes it.
 
-ghost use Rattle.std.specs.Prelude.{◌≡◌, ◌+◌, ◌<◌, ◌≤◌, ◌^◌, [], ◌∷◌, ◌↔◌, IsTrue, IfOk, OnOk, option_map};
+ghost use Rattle.std.specs.Prelude.{◌≡◌, ◌+◌, ◌<◌, ◌≤◌, ◌^◌, [], ◌∷◌, ◌↔◌, IsTrue, IfOk, OnOk, map, option_map};
 ghost use Rattle.pict_core.specs.Plain.{plain_core, plain_val, plain_pat, core_of};
 ghost use Rattle.pict_core.specs.Term.{Chan, Out, In};
 ghost use Rattle.pict_core.specs.Primitives.{effect_of};
@@ -9,7 +9,7 @@ ghost use Rattle.pict_core.specs.Matching.{match_value};
 ghost use Rattle.pict_prim.specs.Done.{effect_done, PrintsText};
 ghost use Rattle.pict_core.specs.Configuration.{IsConfiguration, opening, Ready, Parked};
 ghost use Rattle.pict_core.specs.Step.{next as next_plain, send as send_plain, receive as receive_plain, choose as choose_plain, perform as perform_plain, leave as leave_plain, printing, Steps as StepsTo, Quiet as QuietLabel, gone as gone_plain, kept as kept_plain, added as added_plain, with_channel, served as served_plain, took as took_plain, meet_reader as meet_plain_reader, meet_message as meet_plain_message, is_ready, least, is_parked_reader, is_parked_message};
-ghost use Rattle.pict_reference.specs.Plain.{configuration_of, acts_in, mark_of, IsOutcome, Gives, IsCopyOf};
+ghost use Rattle.pict_reference.specs.Plain.{configuration_of, acts_in, mark_of, plain_entry, IsOutcome, Gives, IsCopyOf};
 
 use crate::entry::{Entry, oldest_message, oldest_reader, oldest_ready, with_process};
 use crate::outcome::{Label, StepOutcome};
@@ -455,6 +455,13 @@ impl Reference {
                 body,
             } => self.receive(s, chan, replicated, pattern, body),
         }
+    }
+
+    /// The processes, by rising stamps.
+    pub fn entries(&self) -> &[Entry]
+        ensures { map plain_entry result.now ≡ (configuration_of self.now).entries }
+    {
+        &self.entries
     }
 
     /// Whether there are numbers left for one more channel and two more stamps.

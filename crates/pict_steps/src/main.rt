@@ -1,0 +1,106 @@
+//! Tells each step of a small run: who acts, by which row of the table of steps, with which partner, and what is shown;
+//! and at the end who waits where.
+//!
+//! Each of its words names a file with a text of the bare language; without a word it reads the standard input. Of each it
+//! follows at most 1,000 steps. A text that is refused, or cannot be read, is reported as `pict check` reports it, and ends
+//! the work with its status.
+#![tactic(auto)]
+
+mod cells;
+mod place;
+mod rule;
+mod run;
+mod table;
+mod telling;
+
+ghost use Rattle.std.specs.Prelude.{◌≤◌, vec_len};
+ghost use Rattle.pict_syntax.specs.declared.limits.TheConstants.{TEXT_LIMIT};
+
+use anyhow::Error;
+use pict_front::front;
+use pict_outside::{Entry, Fetched, FolderShelf, MemoryShelf, Shelf, StreamSink};
+use pict_syntax::TEXT_LIMIT;
+use pict_top::{Status, pict};
+use run::follow;
+use std::alloc::AllocError;
+use std::env;
+use std::io::Write;
+use std::process::ExitCode;
+use telling::told;
+
+/// How many steps are followed.
+const MOST: usize = 1000;
+
+/// The file that is read where no word names one.
+const INPUT: &str = "/dev/stdin";
+
+/// Reports why a file on the shelf has no run, as the command does.
+fn report<S: Shelf>(rt: &HostRuntime, file: &str, shelf: &mut S) -> Status {
+    let mut out = StreamSink::new(rt.stdout());
+    let mut err = StreamSink::new(rt.stderr());
+    pict(
+        rt.alloc(),
+        &["check", "--bare", file],
+        shelf,
+        &mut out,
+        &mut err,
+    )
+}
+
+/// A shelf with this text alone.
+fn shelf_of(rt: &HostRuntime, file: &str, text: Vec<u8>) -> Result<MemoryShelf, AllocError> {
+    let mut entries = Vec::new(rt.alloc());
+    let name = Vec::from_slice(rt.alloc(), file.as_bytes())?;
+    entries.push(Entry { name, text })?;
+    Ok(MemoryShelf::new(entries, Vec::new(rt.alloc())))
+}
+
+/// Tells the run of a text, or reports why it is refused.
+fn tell_text(rt: &HostRuntime, file: &str, text: Vec<u8>) -> Result<Status, Error>
+    requires short { vec_len text ≤ TEXT_LIMIT }
+{
+    match front(rt.alloc(), None, &text) {
+        Err(_) => {
+            let mut shelf = shelf_of(rt, file, text)?;
+            Ok(report(rt, file, &mut shelf))
+        }
+        Ok(front) => {
+            let run = follow(rt.alloc(), front.core, MOST)?;
+            let table = told(rt.alloc(), &front.names, &text, &run)?;
+            rt.stdout().write_all(&table)?;
+            Ok(Status::Done)
+        }
+    }
+}
+
+/// Tells the run of a file, or reports why it has none.
+fn tell_file(rt: &HostRuntime, file: &str) -> Result<Status, Error> {
+    let mut shelf = FolderShelf::new(rt);
+    match shelf.fetch(rt.alloc(), file, TEXT_LIMIT) {
+        Ok(Fetched::Text(text)) => tell_text(rt, file, text),
+        _ => Ok(report(rt, file, &mut shelf)),
+    }
+}
+
+/// Tells the run of each file, with an empty line between two.
+fn tell(rt: &HostRuntime) -> Result<Status, Error> {
+    let mut told_some = false;
+    for file in env::args(rt)?.skip(1) {
+        if told_some {
+            println!(rt; "")?;
+        }
+        told_some = true;
+        match tell_file(rt, file.as_str())? {
+            Status::Done => {}
+            status => return Ok(status),
+        }
+    }
+    if told_some {
+        return Ok(Status::Done);
+    }
+    tell_file(rt, INPUT)
+}
+
+fn main(rt: HostRuntime) -> Result<ExitCode, Error> {
+    Ok(ExitCode::from(tell(&rt)?.number()))
+}
