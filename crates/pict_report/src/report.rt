@@ -1,0 +1,112 @@
+// The texts that are written on the error output.
+ghost use Rattle.std.specs.Prelude.{◌≡◌, ◌≤◌, IfOk, string_bytes, length};
+ghost use Rattle.pict_syntax.specs.declared.limits.TheConstants.{TEXT_LIMIT};
+ghost use Rattle.pict_report.specs.Reports as reports;
+ghost use Rattle.pict_report.specs.Plain.{plain_position};
+ghost use Rattle.pict_report.specs.Reports.{text_of_code, line, position_of, refusal_report, trap_report};
+
+use crate::source::prelude;
+use pict_syntax::{Code, Span, line_col};
+use std::alloc::{AllocError, Global};
+
+/// What is written where the words have no listed shape.
+pub const USAGE: &[u8] =
+    b"usage: pict run|trace|check|code [--bare] [--fuel N] FILE, or pict load N\n";
+
+/// What is written where the fuel is spent.
+pub const SPENT: &[u8] = b"fuel spent\n";
+
+/// A code with its text.
+pub fn text_of_code(code: Code) -> &'static str
+    ensures { result.now ≡ text_of_code code }
+{
+    match code {
+        Code::B1 => "B1 text longer than 1048576 bytes",
+        Code::L1 => "L1 byte begins no token",
+        Code::L2 => "L2 literal not closed",
+        Code::L3 => "L3 bad escape",
+        Code::L4 => "L4 number out of range",
+        Code::L5 => "L5 comment not closed",
+        Code::P1 => "P1 unexpected token",
+        Code::P2 => "P2 nested too deep",
+        Code::S1 => "S1 unbound name",
+        Code::S2 => "S2 unbound type",
+        Code::S3 => "S3 name bound twice",
+        Code::S4 => "S4 label twice",
+        Code::K1 => "K1 wrong number of type arguments",
+        Code::K2 => "K2 operator needs arguments",
+        Code::K3 => "K3 bound on an operator",
+        Code::K4 => "K4 type too big",
+        Code::Y1 => "Y1 not a channel",
+        Code::Y2 => "Y2 no right to send",
+        Code::Y3 => "Y3 no right to receive",
+        Code::Y4 => "Y4 not a subtype",
+        Code::Y5 => "Y5 wrong number of fields",
+        Code::Y6 => "Y6 label missing",
+        Code::Y7 => "Y7 annotation needed",
+        Code::Y8 => "Y8 not a function",
+        Code::Y9 => "Y9 bound not met",
+        Code::Y10 => "Y10 type argument not found",
+        Code::Y11 => "Y11 branches differ",
+        Code::Y12 => "Y12 condition is not Bool",
+        Code::Y13 => "Y13 not a recursive type",
+        Code::Y14 => "Y14 type variable escapes",
+        Code::Y15 => "Y15 new needs a ^ type",
+        Code::Y16 => "Y16 not this package",
+        Code::C1 => "C1 process too deep",
+    }
+}
+
+/// What a report says of a place: the name of a text, and a line and a column of it, both counted from 1.
+#[derive(Clone, Copy, Debug)]
+pub struct Position<'a> {
+    pub name: &'a str,
+    pub row: u32,
+    pub column: u32,
+}
+
+/// The start of a place in the text that has this name, or in the prelude, whose number in places is 0. Behind the end of the
+/// text it is the end. Takes no memory.
+pub fn position_of<'a>(name: &'a str, text: &[u8], span: Span) -> Position<'a>
+    requires short { length text.now ≤ TEXT_LIMIT }
+    ensures { plain_position result ≡ position_of name.entry.now text.now span }
+{
+    if span.text == 0 {
+        position_in("prelude", prelude(), span.start)
+    } else {
+        position_in(name, text, span.start)
+    }
+}
+
+/// A byte of the text that has this name.
+fn position_in<'a>(name: &'a str, text: &[u8], at: u32) -> Position<'a>
+    requires short { length text.now ≤ TEXT_LIMIT }
+    ensures { plain_position result ≡ reports.position_in name.entry.now text.now at }
+{
+    let (row, column) = line_col(text, at.min(text.len() as u32));
+    Position { name, row, column }
+}
+
+/// A line about a file.
+pub fn line(alloc: Global, file: &str, rest: &str) -> Result<String, AllocError>
+    ensures { IfOk result (λ text. string_bytes text ≡ line file.now rest.now) }
+{
+    format!(in alloc; "{file}{rest}\n")
+}
+
+/// The report of a refusal.
+pub fn refusal(alloc: Global, position: Position<'_>, code: Code) -> Result<String, AllocError>
+    ensures { IfOk result (λ text. string_bytes text ≡ refusal_report (plain_position position.entry) code) }
+{
+    let Position { name, row, column } = position;
+    let text = text_of_code(code);
+    format!(in alloc; "{name}:{row}:{column}: {text}\n")
+}
+
+/// The report of a division by zero.
+pub fn trap(alloc: Global, position: Position<'_>) -> Result<String, AllocError>
+    ensures { IfOk result (λ text. string_bytes text ≡ trap_report (plain_position position.entry)) }
+{
+    let Position { name, row, column } = position;
+    format!(in alloc; "{name}:{row}:{column}: division by zero\n")
+}

@@ -1,0 +1,171 @@
+-- Words have the shape of a command, or none.
+use Rattle.std.proofs.Common.{◌≡◌, ◌≢◌, ℕ, ◌≤◌, ◌<◌, ◌^◌, ◌⊎◌, Bool, true, false, inl, inr, List, [], ◌∷◌, length, Option, Some, None, refl, sym, ◌∙◌, ap, arith, codes}
+use Rattle.std.specs.Fmt.{decimal}
+use Rattle.std.specs.Str.Parse.{digits_value}
+use Rattle.std.proofs.lemmas.Bool.{cases_lt}
+use Rattle.std.proofs.lemmas.Fmt.{decimal_is_IsNumeral}
+use Rattle.pict_syntax.specs.declared.limits.TheConstants.{FUEL_LIMIT}
+use Rattle.pict_total.proofs.Choices.{same_or_not, same_text_or_not}
+use Rattle.pict_words.specs.Words.{Options, Command, Run, Trace, Check, Code, Load, AsksToLoad, HasShape, HasNoShape, IsFileWord, default_fuel}
+use Rattle.pict_words.specs.Asked.{Found, IsAsked, Writes, HasWord, ReadsFile}
+use Rattle.pict_words.specs.Laws.{OneCommand}
+use Rattle.pict_words.proofs.Shapes.{at, two_asked, two_not_found, three_asked, three_not_found, four_asked, four_not_found, five_asked, five_not_found, not_found}
+use Rattle.pict_words.proofs.Commands.{shape_of, no_other, found_by, one_command, no_shape}
+
+-- ---- numbers
+
+-- the word writes a number up to this one
+abbrev WritesUpTo : ℕ → List ℕ → Type 0
+WritesUpTo most word = (n : ℕ) × (n ≤ most) × (word ≡ decimal n)
+
+value_written : (most : ℕ) → most < 2 ^ 64 → (word : List ℕ) (w : WritesUpTo most word) → digits_value 10 word ≡ w.0
+value_written most fits word w = let few : w.0 ≤ most = w.1 in ap (digits_value 10) w.2 ∙ (decimal_is_IsNumeral w.0 (omega arith)).1
+
+number_or_not : (most : ℕ) → most < 2 ^ 64 → (word : List ℕ) → WritesUpTo most word ⊎ ¬ WritesUpTo most word
+number_or_not most fits word = elim (same_text_or_not word (decimal (digits_value 10 word))) [
+  | inl e ↦ elim (cases_lt most (digits_value 10 word)) [
+    | inl big ↦ inr (λ w. let few : w.0 ≤ most = w.1 in let same = value_written most fits word w in omega arith)
+    | inr few ↦ inl (digits_value 10 word, few, e)
+  ]
+  | inr other ↦ inr (λ w. other (w.2 ∙ ap decimal (sym (value_written most fits word w))))
+]
+
+-- ---- files
+
+file_word_or_not : (word : List ℕ) → IsFileWord word ⊎ ¬ IsFileWord word
+file_word_or_not [] = inr (λ h. h.not_empty refl)
+file_word_or_not (x ∷ xs) = elim (same_or_not x 45) [
+  | inl e ↦ inr (λ h. h.no_dash e)
+  | inr d ↦ inl (record { not_empty = λ e. cc; no_dash = d })
+]
+
+-- ---- what is asked for
+
+-- words ask for something over a file, or don't
+abbrev Asks : List (List ℕ) → Type 0
+Asks words = ((word : List ℕ) × (fueled : Bool) × (options : Options) × IsAsked word fueled options words) ⊎ ((word : List ℕ) → Found word words → ⊥)
+
+two : (a f : List ℕ) → Asks (a ∷ f ∷ [])
+two a f = elim (file_word_or_not f) [
+  | inl is ↦ inl (a, false, _, two_asked a f is)
+  | inr never ↦ inr (two_not_found a f never)
+]
+
+three : (a b f : List ℕ) → Asks (a ∷ b ∷ f ∷ [])
+three a b f = elim (same_text_or_not b (codes "--bare")) [
+  | inl bare ↦ elim (file_word_or_not f) [
+    | inl is ↦ inl (a, false, _, three_asked a b f bare is)
+    | inr never ↦ inr (three_not_found a b f (λ same. never))
+  ]
+  | inr other ↦ inr (three_not_found a b f (λ same is. other same))
+]
+
+four : (a c n f : List ℕ) → Asks (a ∷ c ∷ n ∷ f ∷ [])
+four a c n f = elim (same_text_or_not c (codes "--fuel")) [
+  | inl option ↦ elim (file_word_or_not f) [
+    | inl is ↦ elim (number_or_not FUEL_LIMIT (omega arith) n) [
+      | inl w ↦ inl (a, true, _, four_asked a c n f w.0 option w.2 w.1 is)
+      | inr none ↦ inr (four_not_found a c n f (λ same w is. none w))
+    ]
+    | inr never ↦ inr (four_not_found a c n f (λ same w. never))
+  ]
+  | inr other ↦ inr (four_not_found a c n f (λ same w is. other same))
+]
+
+five : (a b c n f : List ℕ) → Asks (a ∷ b ∷ c ∷ n ∷ f ∷ [])
+five a b c n f = elim (same_text_or_not b (codes "--bare")) [
+  | inl bare ↦ elim (same_text_or_not c (codes "--fuel")) [
+    | inl option ↦ elim (file_word_or_not f) [
+      | inl is ↦ elim (number_or_not FUEL_LIMIT (omega arith) n) [
+        | inl w ↦ inl (a, true, _, five_asked a b c n f w.0 bare option w.2 w.1 is)
+        | inr none ↦ inr (five_not_found a b c n f (λ same option w is. none w))
+      ]
+      | inr never ↦ inr (five_not_found a b c n f (λ same option w. never))
+    ]
+    | inr other ↦ inr (five_not_found a b c n f (λ same option w is. other option))
+  ]
+  | inr other ↦ inr (five_not_found a b c n f (λ same option w is. other same))
+]
+
+asked_or_not : (words : List (List ℕ)) → Asks words
+asked_or_not [] = inr (not_found [] (λ x y. omega (arith, x)))
+asked_or_not (a ∷ []) = inr (not_found (a ∷ []) (λ x y. omega (arith, x)))
+asked_or_not (a ∷ b ∷ []) = two a b
+asked_or_not (a ∷ b ∷ c ∷ []) = three a b c
+asked_or_not (a ∷ b ∷ c ∷ d ∷ []) = four a b c d
+asked_or_not (a ∷ b ∷ c ∷ d ∷ e ∷ []) = five a b c d e
+asked_or_not (a ∷ b ∷ c ∷ d ∷ e ∷ f ∷ more) = inr (not_found (a ∷ b ∷ c ∷ d ∷ e ∷ f ∷ more) (λ x y. omega (arith, y)))
+
+-- ---- commands
+
+abbrev ByWord : List ℕ → Bool → Options → Type 0
+ByWord word f o = ((command : Command) × HasWord word f o command) ⊎ ((command : Command) → HasWord word f o command → ⊥)
+
+no_word : (word : List ℕ) (f : Bool) (o : Options) → word ≢ codes "run" → word ≢ codes "trace" → (f ≡ false → word ≢ codes "check") → (f ≡ false → word ≢ codes "code") → (command : Command) → HasWord word f o command → ⊥
+no_word word f o no_run no_trace no_check no_code (Run p) h = no_run h.0
+no_word word f o no_run no_trace no_check no_code (Trace p) h = no_trace h.0
+no_word word f o no_run no_trace no_check no_code (Check p) h = no_check h.2 h.0
+no_word word f o no_run no_trace no_check no_code (Code p) h = no_code h.2 h.0
+no_word word f o no_run no_trace no_check no_code (Load n) h = h
+
+-- the fuel is written only where the command runs a program
+unrun : (word : List ℕ) (f : Bool) (o : Options) → word ≢ codes "run" → word ≢ codes "trace" → ByWord word f o
+unrun word true o no_run no_trace = inr (no_word word true o no_run no_trace (λ e. cc) (λ e. cc))
+unrun word false o no_run no_trace = elim (same_text_or_not word (codes "check")) [
+  | inl e ↦ inl (Check o, (e, refl, refl))
+  | inr no_check ↦ elim (same_text_or_not word (codes "code")) [
+    | inl e ↦ inl (Code o, (e, refl, refl))
+    | inr no_code ↦ inr (no_word word false o no_run no_trace (λ e. no_check) (λ e. no_code))
+  ]
+]
+
+by_word : (word : List ℕ) (f : Bool) (o : Options) → ByWord word f o
+by_word word f o = elim (same_text_or_not word (codes "run")) [
+  | inl e ↦ inl (Run o, (e, refl))
+  | inr no_run ↦ elim (same_text_or_not word (codes "trace")) [ inl e ↦ inl (Trace o, (e, refl)) | inr no_trace ↦ unrun word f o no_run no_trace ]
+]
+
+abbrev ByFile : List (List ℕ) → Type 0
+ByFile words = ((command : Command) × HasShape words command) ⊎ ((command : Command) → ReadsFile command → HasShape words command → ⊥)
+
+file_command : (words : List (List ℕ)) → ByFile words
+file_command words = elim (asked_or_not words) [
+  | inl a ↦ elim (by_word a.0 a.1 a.2) [
+    | inl c ↦ inl (c.0, shape_of words a.0 a.1 a.2 c.0 a.3 c.1)
+    | inr none ↦ inr (no_other words a.0 a.1 a.2 a.3 none)
+  ]
+  | inr none ↦ inr (λ command file shape. let b = found_by words command file shape in none b.0 b.1)
+]
+
+abbrev ByLoad : List (List ℕ) → Type 0
+ByLoad words = ((n : ℕ) × AsksToLoad n words) ⊎ ((n : ℕ) → AsksToLoad n words → ⊥)
+
+length_of_load : (words : List (List ℕ)) → length words ≢ 2 → (n : ℕ) → AsksToLoad n words → ⊥
+length_of_load words other n s = other (ap length s.shape)
+
+load_of_two : (a b : List ℕ) → ByLoad (a ∷ b ∷ [])
+load_of_two a b = elim (same_text_or_not a (codes "load")) [
+  | inl e ↦ elim (number_or_not 18446744073709551615 (omega arith) b) [
+    | inl w ↦ let few = w.1 in inl (w.0, record { shape = λ i. e i ∷ w.2 i ∷ []; fits = omega arith })
+    | inr none ↦ inr (λ n s. let fits = s.fits in none (n, omega arith, ap (at 1) s.shape))
+  ]
+  | inr other ↦ inr (λ n s. other (ap (at 0) s.shape))
+]
+
+load_command : (words : List (List ℕ)) → ByLoad words
+load_command [] = inr (length_of_load [] (λ e. omega (arith, e)))
+load_command (a ∷ []) = inr (length_of_load (a ∷ []) (λ e. omega (arith, e)))
+load_command (a ∷ b ∷ []) = load_of_two a b
+load_command (a ∷ b ∷ c ∷ more) = inr (length_of_load (a ∷ b ∷ c ∷ more) (λ e. omega (arith, e)))
+
+pub shape_or_not : (words : List (List ℕ)) → ((command : Command) × HasShape words command) ⊎ HasNoShape words
+shape_or_not words = elim (file_command words) [
+  | inl c ↦ inl c
+  | inr no_file ↦ elim (load_command words) [ inl l ↦ inl (Load l.0, l.1) | inr no_load ↦ inr (no_shape words no_file no_load) ]
+]
+
+pub law : OneCommand
+law words = elim (shape_or_not words) [
+  | inl c ↦ inl (c.0, c.1, λ other shape. one_command words other c.0 shape c.1)
+  | inr none ↦ inr none
+]

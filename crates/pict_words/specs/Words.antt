@@ -1,0 +1,69 @@
+-- The words after the program's name: their shapes, and the command that each shape stands for.
+use Rattle.std.specs.Prelude.{◌≡◌, ◌≢◌, ℕ, ◌≤◌, ◌<◌, ◌^◌, Bool, true, false, List, [], ◌∷◌, ◌++◌, Option, Some, None, unwrap_or, slice_index, codes}
+use Rattle.std.specs.Fmt.{decimal}
+use Rattle.pict_syntax.specs.declared.limits.TheConstants.{FUEL_LIMIT}
+
+-- how a command takes its text: alone or after the prelude, for up to so many steps, and from which file
+pub record Options : Type 0 where
+  pub bare : Bool
+  pub fuel : ℕ
+  pub file : List ℕ
+
+-- what a list of words asks for
+pub data Command : Type 0 where
+  Run : Options → Command
+  Trace : Options → Command
+  Check : Options → Command
+  Code : Options → Command
+  Load : ℕ → Command
+
+-- the fuel without `--fuel`
+abbrev pub default_fuel : ℕ
+default_fuel = 1000000
+
+-- a word that may name a file: it isn't empty and doesn't begin with `-`
+pub record IsFileWord (word : List ℕ) : Type 0 where
+  pub not_empty : word ≢ []
+  pub no_dash : slice_index word 0 ≢ 45
+
+-- `--bare`, where the text stands alone
+abbrev pub bare_words : Bool → List (List ℕ)
+bare_words true = codes "--bare" ∷ []
+bare_words false = []
+
+-- `--fuel N`, where the fuel is written: in decimal, without a sign and without a leading zero
+abbrev pub fuel_words : Option ℕ → List (List ℕ)
+fuel_words None = []
+fuel_words (Some fuel) = codes "--fuel" ∷ decimal fuel ∷ []
+
+-- `COMMAND [--bare] [--fuel N] FILE`, with this word for the command and this fuel, where it is written
+pub record AsksFor (word : List ℕ) (written : Option ℕ) (options : Options) (words : List (List ℕ)) : Type 0 where
+  pub shape : words ≡ word ∷ (bare_words options.bare ++ (fuel_words written ++ options.file ∷ []))
+  pub fuel : options.fuel ≡ unwrap_or written default_fuel
+  pub within : options.fuel ≤ FUEL_LIMIT
+  pub file : IsFileWord options.file
+
+-- `load N`, where N is decimal, without a sign and without a leading zero
+pub record AsksToLoad (n : ℕ) (words : List (List ℕ)) : Type 0 where
+  pub shape : words ≡ codes "load" ∷ decimal n ∷ []
+  pub fits : n < 2 ^ 64
+
+-- the words have the shape of this command. Its fuel may be written where it runs a file
+abbrev pub HasShape : List (List ℕ) → Command → Type 0
+HasShape words (Run options) = (written : Option ℕ) × AsksFor (codes "run") written options words
+HasShape words (Trace options) = (written : Option ℕ) × AsksFor (codes "trace") written options words
+HasShape words (Check options) = AsksFor (codes "check") None options words
+HasShape words (Code options) = AsksFor (codes "code") None options words
+HasShape words (Load n) = AsksToLoad n words
+
+-- the words have no listed shape
+abbrev pub HasNoShape : List (List ℕ) → Type 0
+HasNoShape words = (command : Command) → HasShape words command → ⊥
+
+-- the greatest number of steps of a command
+abbrev pub fuel_of : Command → ℕ
+fuel_of (Run options) = options.fuel
+fuel_of (Trace options) = options.fuel
+fuel_of (Check options) = options.fuel
+fuel_of (Code options) = options.fuel
+fuel_of (Load n) = default_fuel
