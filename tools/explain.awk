@@ -14,6 +14,8 @@ file != "" && index($0, file ":") == 1 {
     sub(/^ /, "", rest)
     entry(rest)
 }
+# (of a place in the prelude there is no line to show)
+file != "prelude" && match($0, /^prelude:[0-9]+:[0-9]+: /) { entry(substr($0, RLENGTH + 1)) }
 
 # Of a long line a part is shown. Bytes that don't begin a character take no column, and those that can't be shown are `?`.
 function place(row, column,    number, text, from, before) {

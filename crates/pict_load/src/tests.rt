@@ -21,6 +21,17 @@ fn rings_and_text_of_42(rt: HostRuntime) -> Result<(), AllocError> {
     Ok(())
 }
 
+#[test]
+fn the_least_and_the_greatest_number(rt: HostRuntime) -> Result<(), AllocError> {
+    let least = [ring(151, 13783), ring(194, 19462), ring(135, 18317)];
+    assert!(rt; rings_of(0) == least);
+    assert_eq!(rt; load_text(rt.alloc(), 0)?.len(), 36975);
+    let greatest = [ring(131, 15298), ring(126, 12769), ring(108, 14464)];
+    assert!(rt; rings_of(u64::MAX) == greatest);
+    assert_eq!(rt; load_text(rt.alloc(), u64::MAX)?.len(), 27890);
+    Ok(())
+}
+
 const TALLY: Tally = Tally {
     end: End::Done,
     steps: 536830,

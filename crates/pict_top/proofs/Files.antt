@@ -8,34 +8,43 @@ use Rattle.pict_syntax.specs.declared.code.Code.{Code}
 use Rattle.pict_syntax.specs.declared.code.Code.TheVariants.{B1}
 use Rattle.pict_syntax.specs.declared.span.Span.{Span}
 use Rattle.pict_top.specs.declared.run.Finish.{Finish}
-use Rattle.pict_top.specs.Words.{Command, file_of}
+use Rattle.pict_words.specs.Words.{Command}
 use Rattle.pict_front.specs.Phases.{accepts, refuses}
 use Rattle.pict_front.specs.Front.{Front, IsFront, first_place}
+use Rattle.pict_top.specs.Origins.{origin_of, name_of, prelude_of, MayRead, Asks}
 use Rattle.pict_top.specs.Answer.{Absent, Refusal, Ended, Does}
 use Rattle.pict_top.specs.Outcome.{Outcome, outcome_of}
-use Rattle.pict_top.specs.Owed.{OwesText, OwesFile}
+use Rattle.pict_top.specs.Owed.{OwesText, OwesCommand}
+use Rattle.pict_top.proofs.Reading.{reads_file}
 
-pub owes_refusal : (text : List ℕ) (command : Command) (code : Code) (span : Span) → length text ≤ TEXT_LIMIT → IsFront None text (refuses (code, span)) → OwesText text command (outcome_of command text (Refusal code span))
+-- the name of a command's text in reports
+abbrev pub name : Command → List ℕ
+name command = name_of (origin_of command)
+
+pub owes_refusal : (text : List ℕ) (command : Command) (code : Code) (span : Span) → length text ≤ TEXT_LIMIT → IsFront (prelude_of (origin_of command)) text (refuses (code, span)) → OwesText text command (outcome_of (name command) text (Refusal code span))
 owes_refusal text command code span short stands = (Refusal code span, inr (record { short = short; said = refuses (code, span); front = stands; done = refl }), refl)
 
-pub owes_work : (text : List ℕ) (command : Command) (front : Front) (finish : Finish) (bytes : List ℕ) → length text ≤ TEXT_LIMIT → IsFront None text (accepts front) → Does command front.names front.core finish bytes → OwesText text command (outcome_of command text (Ended finish bytes))
+pub owes_work : (text : List ℕ) (command : Command) (front : Front) (finish : Finish) (bytes : List ℕ) → length text ≤ TEXT_LIMIT → IsFront (prelude_of (origin_of command)) text (accepts front) → Does command front.names front.core finish bytes
+    → OwesText text command (outcome_of (name command) text (Ended finish bytes))
 owes_work text command front finish bytes short stands does = (
   Ended finish bytes,
   inr (record { short = short; said = accepts front; front = stands; done = (finish, bytes, does, refl) }),
   refl,
 )
 
-pub owes_text : (held : Option Texts) (command : Command) (text : List ℕ) → IfSome held (λ texts. text_of texts (file_of command) ≡ Some text) → (o : Outcome) → OwesText text command o → OwesFile held command o
-owes_text held command text holds o owes = record { file = Some text; holds = holds; answer = owes.0; answers = owes.1; comes = owes.2 }
+pub owes_text : (held : Option Texts) (command : Command) (text : List ℕ) → MayRead held (origin_of command) (Some text) → (o : Outcome) → OwesText text command o → OwesCommand held command o
+owes_text held command text reads o owes = record { text = Some text; reads = reads; answer = owes.0; answers = owes.1; comes = owes.2 }
 
-pub owes_absent : (held : Option Texts) (command : Command) → IfSome held (λ texts. text_of texts (file_of command) ≡ None) → OwesFile held command (outcome_of command [] Absent)
-owes_absent held command lacks = record { file = None; holds = lacks; answer = Absent; answers = refl; comes = refl }
+module _ (held : Option Texts) (command : Command) (asks : Asks (origin_of command) (name command)) where
+  pub owes_absent : IfSome held (λ texts. text_of texts (name command) ≡ None) → OwesCommand held command (outcome_of (name command) [] Absent)
+  owes_absent lacks = record { text = None; reads = reads_file held (origin_of command) None asks lacks; answer = Absent; answers = refl; comes = refl }
 
--- a refusal at the first byte is the same in each text
-long_text : (held : Option Texts) (command : Command) (file : Option (List ℕ)) (n : ℕ) → TEXT_LIMIT < n → IfSome held (λ texts. text_of texts (file_of command) ≡ file) → IsSomeAnd file (λ text. n ≤ length text) → OwesFile held command (outcome_of command [] (Refusal B1 first_place))
-long_text held command None n above holds long = absurd long
-long_text held command (Some text) n above holds long = record { file = Some text; holds = holds; answer = Refusal B1 first_place; answers = inl (record { long = omega arith; refused = refl }); comes = refl }
+  -- a refusal at the first byte is the same in each text
+  long_text : (file : Option (List ℕ)) (n : ℕ) → TEXT_LIMIT < n → IfSome held (λ texts. text_of texts (name command) ≡ file) → IsSomeAnd file (λ text. n ≤ length text) → OwesCommand held command (outcome_of (name command) [] (Refusal B1 first_place))
+  long_text None n above holds long = absurd long
+  long_text (Some text) n above holds long =
+      record { text = Some text; reads = reads_file held (origin_of command) (Some text) asks holds; answer = Refusal B1 first_place; answers = inl (record { long = omega arith; refused = refl }); comes = refl }
 
-pub owes_too_long : (held : Option Texts) (command : Command) (n : ℕ) → TEXT_LIMIT < n → IfSome held (λ texts. IsSomeAnd (text_of texts (file_of command)) (λ text. n ≤ length text)) → OwesFile held command (outcome_of command [] (Refusal B1 first_place))
-owes_too_long None command n above long = long_text None command (Some (replicate n 0)) n above tt (omega (arith, length-replicate {A = ℕ} n 0))
-owes_too_long (Some texts) command n above long = long_text (Some texts) command (text_of texts (file_of command)) n above refl long
+pub owes_too_long : (held : Option Texts) (command : Command) (n : ℕ) → Asks (origin_of command) (name command) → TEXT_LIMIT < n → IfSome held (λ texts. IsSomeAnd (text_of texts (name command)) (λ text. n ≤ length text)) → OwesCommand held command (outcome_of (name command) [] (Refusal B1 first_place))
+owes_too_long None command n asks above long = long_text None command asks (Some (replicate n 0)) n above tt (omega (arith, length-replicate {A = ℕ} n 0))
+owes_too_long (Some texts) command n asks above long = long_text (Some texts) command asks (text_of texts (name command)) n above refl long

@@ -1,11 +1,13 @@
+pub mod Reading
 pub mod Files
 pub mod One
+pub mod Load
 pub mod Sound
 pub mod Meeting
-pub mod Lists
 pub mod Right
 pub mod Continuing
 pub mod Written
 pub mod Running
+pub mod Counting
 pub mod Runs
 pub mod Some

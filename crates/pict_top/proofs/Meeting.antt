@@ -1,5 +1,5 @@
 -- How a call meets what is owed.
-use Rattle.std.proofs.Common.{◌≡◌, ℕ, List, ap, refl, sym, ◌∙◌, subst, ◌⊎◌, inl, inr}
+use Rattle.std.proofs.Common.{◌≡◌, ℕ, List, Some, ap, refl, sym, ◌∙◌, subst, ◌⊎◌, inl, inr}
 use Rattle.pict_outside.specs.Counts.{Rose}
 use Rattle.pict_outside.proofs.Gaining.{front_of_all}
 use Rattle.pict_top.specs.Outcome.{Outcome}
@@ -7,13 +7,16 @@ use Rattle.pict_top.specs.Changes.{SinkChange, Gained, GainedFront, Untouched, F
 use Rattle.pict_top.specs.Meets.{Meets, Reports, Tells, IsDecided, Delivers, SomeOutcome}
 use Rattle.pict_top.specs.Headline.{Headline, ShelfChange, ShelfFailed}
 use Rattle.pict_top.specs.Owed.{OwesWords, FaultsWords}
-use Rattle.pict_top.specs.Reports.{usage_report}
-use Rattle.pict_top.specs.Words.{HasNoShape}
+use Rattle.pict_report.specs.Reports.{usage_report}
+use Rattle.pict_words.specs.Words.{Load, HasShape, HasNoShape}
+use Rattle.pict_top.specs.Origins.{origin_of}
 use Rattle.pict_top.specs.declared.status.Status.{Status}
 use Rattle.pict_top.specs.declared.status.Status.TheVariants as status
 use Rattle.pict_top.specs.declared.status.Status.TheVariants.{ReadFault, WriteFault, Memory}
 use Rattle.pict_top.proofs.Sound.{accepted_sound}
+use Rattle.pict_top.proofs.Reading.{told_known}
 use Rattle.pict_top.proofs.One.{at_most_one, usage_is_for_no_shape}
+use Rattle.pict_top.proofs.Load.{one_of_load, never_asked, load_not_missing}
 
 decided : (Owes Faults : Outcome → Type 0) (failed : Type 0) (out err : SinkChange) (s : Status) → IsDecided s → (o : Outcome) → Owes o → o.status ≡ s → Delivers out err o → Meets Owes Faults failed out err s
 decided Owes Faults failed out err ReadFault is o owes e d = absurd is
@@ -51,25 +54,36 @@ reported Owes Faults failed out err s o owes is printed reports =
       | inr (e, kept) ↦ subst P (sym e) (kept, inr (o, owes, front_of_all out.old_taken out.new_taken o.printed printed))
     ]
 
+-- the shelf failed, and the text about that is written
+pub faulted : (Owes Faults : Outcome → Type 0) (failed : Type 0) (out err : SinkChange) (s : Status) (o : Outcome) → failed → Faults o → Untouched out → Reports ReadFault o.report err s → Meets Owes Faults failed out err s
+faulted Owes Faults failed out err s o rose faults kept reports =
+    let P : Status → Type 0 = Meets Owes Faults failed out err in
+    elim reports [
+      | inl tells ↦ elim tells [
+        | inl (e, text) ↦ subst P (sym e) (rose, (o, faults, (kept, text)))
+        | inr (e, text) ↦ subst P (sym e) (inr (rose, (o, faults, (kept, text))))
+      ]
+      | inr (e, none) ↦ subst P (sym e) (none, inl kept)
+    ]
+
 -- nothing is to be written behind it
 pub delivered : (Owes Faults : Outcome → Type 0) (failed : Type 0) (out err : SinkChange) (s : Status) (o : Outcome) → Owes o → IsDecided o.status → Gained out o.printed → Gained err o.report → s ≡ o.status → Meets Owes Faults failed out err s
 delivered Owes Faults failed out err s o owes is printed report e =
     decided Owes Faults failed out err s (subst IsDecided (sym e) is) o owes (sym e) (record { printed = printed; reported = report })
 
--- the shelf failed, and the text about that is written
 pub when_decided : (Owes Faults : Outcome → Type 0) (failed : Type 0) (out err : SinkChange) (s : Status) → Meets Owes Faults failed out err s → IsDecided s → SomeOutcome Owes (λ o. (o.status ≡ s) × Delivers out err o)
 when_decided Owes Faults failed out err ReadFault m is = absurd is
 when_decided Owes Faults failed out err WriteFault m is = absurd is
 when_decided Owes Faults failed out err Memory m is = absurd is
 when_decided Owes Faults failed out err s m is = m
 
--- where no count rose the status is decided, or memory ran out
-pub when_no_fault : (Owes Faults : Outcome → Type 0) (failed : Type 0) (out err : SinkChange) (s : Status) → Meets Owes Faults failed out err s → ¬ failed → ¬ (Failed out) → ¬ (Failed err) → IsDecided s ⊎ (s ≡ Memory)
-when_no_fault Owes Faults failed out err ReadFault m a b c = absurd (a m.0)
+-- where no count rose, that of the shelf only where it could fail, the status is decided, or memory ran out
+pub when_no_fault : (Owes Faults : Outcome → Type 0) (failed : Type 0) (out err : SinkChange) (s : Status) → Meets Owes Faults failed out err s → (failed → (o : Outcome) → Faults o → ⊥) → ¬ (Failed out) → ¬ (Failed err) → IsDecided s ⊎ (s ≡ Memory)
+when_no_fault Owes Faults failed out err ReadFault m a b c = absurd (a m.0 m.1.0 m.1.1)
 when_no_fault Owes Faults failed out err WriteFault m a b c =
     elim m [
       | inl (p, owes, broke) ↦ elim broke [ inl (f, kept) ↦ absurd (b f.failed) | inr (printed, f) ↦ absurd (c f.failed) ]
-      | inr (rose, more) ↦ absurd (a rose)
+      | inr (rose, more) ↦ absurd (a rose more.0 more.1)
     ]
 when_no_fault Owes Faults failed out err Memory m a b c = inr refl
 when_no_fault Owes Faults failed out err s m a b c = inl tt
@@ -101,8 +115,9 @@ headline words shelf out err s m usage missing =
     let Faults = FaultsWords words in
     record {
       complete = λ texts o told owes a b c. one_status Owes Faults (ShelfFailed shelf) out err s o
-          (λ p q. at_most_one words texts p o (subst (λ held. OwesWords words held p) told q) owes) m (when_no_fault Owes Faults (ShelfFailed shelf) out err s m a b c);
-      answered = when_no_fault Owes Faults (ShelfFailed shelf) out err s m;
+          (λ p q. at_most_one words (Some texts) p o (λ command shape. told_known texts (origin_of command)) (subst (λ held. OwesWords words held p) told q) owes) m
+          (when_no_fault Owes Faults (ShelfFailed shelf) out err s m (λ failed. absurd (a failed)) b c);
+      answered = λ a. when_no_fault Owes Faults (ShelfFailed shelf) out err s m (λ failed. absurd (a failed));
       decided = when_decided Owes Faults (ShelfFailed shelf) out err s m;
       write_fault = λ e. when Owes Faults (ShelfFailed shelf) out err s WriteFault m e;
       read_fault = λ e. when Owes Faults (ShelfFailed shelf) out err s ReadFault m e;
@@ -110,6 +125,12 @@ headline words shelf out err s m usage missing =
       printed = front_printed Owes Faults (ShelfFailed shelf) out err s m;
       missing = missing;
       usage = usage;
+      load_never = λ n shape. (
+        λ e. let fault = when Owes Faults (ShelfFailed shelf) out err s ReadFault m e in never_asked words n shape fault.1.0 fault.1.1,
+        λ e. let o = when Owes Faults (ShelfFailed shelf) out err s status.Missing m e in load_not_missing words n shelf.held o.0 shape o.1 o.2.0,
+      );
+      load_complete = λ n o shape owes b c. one_status Owes Faults (ShelfFailed shelf) out err s o (λ p q. one_of_load words n shelf.held p o shape q owes) m
+          (when_no_fault Owes Faults (ShelfFailed shelf) out err s m (λ failed. never_asked words n shape) b c);
       sound = accepted_sound words shelf.held;
       usage_only = λ e. let o = when Owes Faults (ShelfFailed shelf) out err s status.Usage m e in usage_is_for_no_shape words shelf.held o.0 o.1 o.2.0;
     }

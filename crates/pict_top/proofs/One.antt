@@ -1,75 +1,26 @@
--- Words over a shelf that tells its texts come to at most one outcome.
-use Rattle.std.proofs.Common.{arith, codes, ◌≡◌, ◌≢◌, ℕ, ◌≤◌, inl, inr, List, [], length, get_or, Option, Some, None, refl, ap, sym, ◌∙◌, subst}
-use Rattle.std.proofs.lemmas.Fmt.{decimal_injective}
-use Rattle.pict_syntax.specs.declared.limits.TheConstants.{FUEL_LIMIT}
+-- Words come to at most one outcome where only one text may be read.
+use Rattle.std.proofs.Common.{arith, ◌≡◌, ◌≢◌, ℕ, ◌≤◌, inl, inr, List, length, Option, Some, None, refl, ap, sym, ◌∙◌, subst}
 use Rattle.pict_outside.specs.Texts.{Texts}
 use Rattle.pict_core.specs.Term.{Process}
 use Rattle.pict_core.specs.Configuration.{opening}
 use Rattle.pict_core.specs.Step.{Label}
 use Rattle.pict_core.specs.Run as run
-use Rattle.pict_top.specs.Ends.{end_of}
-use Rattle.pict_top.specs.declared.run.Finish.{Finish}
-use Rattle.pict_top.specs.declared.run.Finish.TheVariants.{Done, FuelSpent, Trap}
+use Rattle.pict_core.specs.Run.{steps_done}
 use Rattle.pict_core.proofs.OneRun.{one_run}
-use Rattle.pict_top.specs.Words.{Command, Run, Trace, Check, Code, Options, HasShape, HasNoShape, word_of, options_of}
+use Rattle.pict_words.specs.Words.{Command, Run, Trace, Check, Code, Load, HasShape, HasNoShape, default_fuel}
+use Rattle.pict_words.proofs.Commands.{one_command}
 use Rattle.pict_front.specs.Phases.{Phase, accepts, refuses}
 use Rattle.pict_front.specs.Front.{Stop, Front}
 use Rattle.pict_front.proofs.EachPhase.{one_front}
-use Rattle.pict_top.specs.Answer.{Answer, Absent, Refusal, Ended, IsAnswer, IsDone, Does, Shows}
+use Rattle.pict_top.specs.Ends.{end_of}
+use Rattle.pict_top.specs.declared.run.Finish.{Finish}
+use Rattle.pict_top.specs.declared.run.Finish.TheVariants.{Done, FuelSpent, Trap}
+use Rattle.pict_top.specs.Origins.{origin_of, name_of, prelude_of}
+use Rattle.pict_top.specs.Answer.{Answer, Absent, Refusal, Ended, IsAnswer, IsDone, Does, Shows, Writing}
 use Rattle.pict_top.specs.Outcome.{Outcome, outcome_of, text_in}
-use Rattle.pict_top.specs.Owed.{OwesFile, OwesWords}
+use Rattle.pict_top.specs.Owed.{OwesCommand, OwesWords}
 use Rattle.pict_top.specs.declared.status.Status.TheVariants as status
-
--- ---- commands
-
-pub within_fuel : (words : List (List ℕ)) (command : Command) → HasShape words command → (options_of command).fuel ≤ FUEL_LIMIT
-within_fuel words command (inl s) = let e = s.fuel in omega arith
-within_fuel words command (inr s) = s.fuel
-
--- words that begin with other letters are other words
-pub other_letter : (a b : List ℕ) → a ≡ b → get_or a 0 0 ≢ get_or b 0 0 → ⊥
-other_letter a b e other = other (ap (λ w. get_or w 0 0) e)
-
--- a command is known by its word and its options
-same_command : (a b : Command) → word_of a ≡ word_of b → options_of a ≡ options_of b → a ≡ b
-same_command (Run o) (Run p) e f = ap Run f
-same_command (Run o) (Trace p) e f = absurd cc
-same_command (Run o) (Check p) e f = absurd (other_letter (codes "run") (codes "check") e (λ (x : 114 ≡ 99). omega (arith, x)))
-same_command (Run o) (Code p) e f = absurd cc
-same_command (Trace o) (Run p) e f = absurd cc
-same_command (Trace o) (Trace p) e f = ap Trace f
-same_command (Trace o) (Check p) e f = absurd (other_letter (codes "trace") (codes "check") e (λ (x : 116 ≡ 99). omega (arith, x)))
-same_command (Trace o) (Code p) e f = absurd cc
-same_command (Check o) (Run p) e f = absurd (other_letter (codes "check") (codes "run") e (λ (x : 99 ≡ 114). omega (arith, x)))
-same_command (Check o) (Trace p) e f = absurd (other_letter (codes "check") (codes "trace") e (λ (x : 99 ≡ 116). omega (arith, x)))
-same_command (Check o) (Check p) e f = ap Check f
-same_command (Check o) (Code p) e f = absurd (let x : 5 ≡ 4 = ap length e in omega (arith, x))
-same_command (Code o) (Run p) e f = absurd cc
-same_command (Code o) (Trace p) e f = absurd cc
-same_command (Code o) (Check p) e f = absurd (let x : 4 ≡ 5 = ap length e in omega (arith, x))
-same_command (Code o) (Code p) e f = ap Code f
-
--- and options by their parts
-same_options : (o p : Options) → o.bare ≡ p.bare → o.fuel ≡ p.fuel → o.file ≡ p.file → o ≡ p
-same_options o p bare fuel file i = record { bare = bare i; fuel = fuel i; file = file i }
-
--- the words of a list that are the same in both
-same_at : (xs ys : List (List ℕ)) (n : ℕ) → xs ≡ ys → get_or xs n [] ≡ get_or ys n []
-same_at xs ys n e = ap (λ ws. get_or ws n []) e
-
-pub three_five : (n : ℕ) → n ≡ 3 → n ≡ 5 → ⊥
-three_five n a b = omega (arith, a, b)
-
-one_command : (words : List (List ℕ)) (a b : Command) → HasShape words a → HasShape words b → a ≡ b
-one_command words a b (inl s) (inl t) =
-    let same = sym s.shape ∙ t.shape in
-    same_command a b (same_at _ _ 0 same) (same_options (options_of a) (options_of b) (s.bare ∙ sym t.bare) (s.fuel ∙ sym t.fuel) (same_at _ _ 2 same))
-one_command words a b (inl s) (inr t) = absurd (three_five (length words) (ap length s.shape) (ap length t.shape))
-one_command words a b (inr s) (inl t) = absurd (three_five (length words) (ap length t.shape) (ap length s.shape))
-one_command words a b (inr s) (inr t) =
-    let same = sym s.shape ∙ t.shape in
-    let fuel = decimal_injective (options_of a).fuel (options_of b).fuel (omega (arith, s.fuel)) (omega (arith, t.fuel)) (same_at _ _ 3 same) in
-    same_command a b (same_at _ _ 0 same) (same_options (options_of a) (options_of b) (s.bare ∙ sym t.bare) fuel (same_at _ _ 4 same))
+use Rattle.pict_top.proofs.Reading.{IsKnown}
 
 -- ---- answers
 
@@ -85,10 +36,13 @@ known_by Done = refl
 known_by FuelSpent = refl
 known_by (Trap at) = refl
 
-one_shown : (p : Process) (fuel : ℕ) (written : List (ℕ × Label) → List ℕ) (e g : Finish) (a b : List ℕ) → Shows p fuel written e a → Shows p fuel written g b → (e ≡ g) × (a ≡ b)
+one_shown : (p : Process) (fuel : ℕ) (written : Writing) (e g : Finish) (a b : List ℕ) → Shows p fuel written e a → Shows p fuel written g b → (e ≡ g) × (a ≡ b)
 one_shown p fuel written e g a b x y =
     let one = one_run (opening p) fuel (end_of e) (end_of g) x.labels y.labels x.runs y.runs in
-    (sym (known_by e) ∙ ap finish_by one.0 ∙ known_by g, x.shows ∙ ap written one.1 ∙ sym y.shows)
+    let same : e ≡ g = sym (known_by e) ∙ ap finish_by one.0 ∙ known_by g in
+    let bytes : written (steps_done (end_of e) x.runs.steps) e x.labels ≡ written (steps_done (end_of g) y.runs.steps) g y.labels =
+    λ i. written (steps_done (one.0 i) (one.2 i)) (same i) (one.1 i) in
+    (same, x.shows ∙ bytes ∙ sym y.shows)
 
 -- a command's work has one end, and writes the same bytes
 one_work : (command : Command) (names : List (List ℕ)) (p : Process) (e g : Finish) (a b : List ℕ) → Does command names p e a → Does command names p g b → (e ≡ g) × (a ≡ b)
@@ -96,6 +50,7 @@ one_work (Run o) names p e g a b x y = one_shown p o.fuel _ e g a b x y
 one_work (Trace o) names p e g a b x y = one_shown p o.fuel _ e g a b x y
 one_work (Check o) names p e g a b x y = (x.done ∙ sym y.done, x.nothing ∙ sym y.nothing)
 one_work (Code o) names p e g a b x y = (x.done ∙ sym y.done, x.listing ∙ sym y.listing)
+one_work (Load n) names p e g a b x y = one_shown p default_fuel _ e g a b x y
 
 one_done : (command : Command) (said : Phase Stop Front) (a b : Answer) → IsDone command said a → IsDone command said b → a ≡ b
 one_done command (refuses (code, span)) a b x y = x ∙ sym y
@@ -110,36 +65,37 @@ one_answer command (Some text) a b (inl x) (inr y) = let l = x.long in let s = y
 one_answer command (Some text) a b (inr x) (inl y) = let l = y.long in let s = x.short in absurd (omega arith)
 one_answer command (Some text) a b (inr x) (inr y) =
     let P : Phase Stop Front → Type 0 = λ said. IsDone command said a in
-    let one = one_front None text in
+    let one = one_front (prelude_of (origin_of command)) text in
     one_done command y.said a b (subst P (one.2 x.said x.front ∙ sym (one.2 y.said y.front)) x.done) y.done
 
 -- ---- outcomes
 
-one_of_command : (texts : Texts) (command : Command) (o p : Outcome) → OwesFile (Some texts) command o → OwesFile (Some texts) command p → o ≡ p
-one_of_command texts command o p x y =
-    let same : x.file ≡ y.file = sym x.holds ∙ y.holds in
-    let P : Option (List ℕ) → Type 0 = λ file. IsAnswer command file x.answer in
-    let answer = one_answer command y.file x.answer y.answer (subst P same x.answers) y.answers in
-    x.comes ∙ ap (λ file. outcome_of command (text_in file) x.answer) same ∙ ap (outcome_of command (text_in y.file)) answer ∙ sym y.comes
+one_of_command : (held : Option Texts) (command : Command) (o p : Outcome) → IsKnown held (origin_of command) → OwesCommand held command o → OwesCommand held command p → o ≡ p
+one_of_command held command o p known x y =
+    let same : x.text ≡ y.text = known x.text y.text x.reads y.reads in
+    let name : List ℕ = name_of (origin_of command) in
+    let P : Option (List ℕ) → Type 0 = λ text. IsAnswer command text x.answer in
+    let answer = one_answer command y.text x.answer y.answer (subst P same x.answers) y.answers in
+    x.comes ∙ ap (λ text. outcome_of name (text_in text) x.answer) same ∙ ap (outcome_of name (text_in y.text)) answer ∙ sym y.comes
 
-pub at_most_one : (words : List (List ℕ)) (texts : Texts) (o p : Outcome) → OwesWords words (Some texts) o → OwesWords words (Some texts) p → o ≡ p
-at_most_one words texts o p (inl (c, s, x)) (inl (d, t, y)) =
-    let P : Command → Type 0 = λ command. OwesFile (Some texts) command o in
-    one_of_command texts d o p (subst P (one_command words c d s t) x) y
-at_most_one words texts o p (inl (c, s, x)) (inr (none, e)) = absurd (none c s)
-at_most_one words texts o p (inr (none, e)) (inl (d, t, y)) = absurd (none d t)
-at_most_one words texts o p (inr (none, e)) (inr (none', e')) = e ∙ sym e'
+pub at_most_one : (words : List (List ℕ)) (held : Option Texts) (o p : Outcome) → ((command : Command) → HasShape words command → IsKnown held (origin_of command)) → OwesWords words held o → OwesWords words held p → o ≡ p
+at_most_one words held o p known (inl (c, s, x)) (inl (d, t, y)) =
+    let P : Command → Type 0 = λ command. OwesCommand held command o in
+    one_of_command held d o p (known d t) (subst P (one_command words c d s t) x) y
+at_most_one words held o p known (inl (c, s, x)) (inr (none, e)) = absurd (none c s)
+at_most_one words held o p known (inr (none, e)) (inl (d, t, y)) = absurd (none d t)
+at_most_one words held o p known (inr (none, e)) (inr (none', e')) = e ∙ sym e'
 
 -- ---- the status Usage
 
-decides_else : (command : Command) (text : List ℕ) (a : Answer) → (outcome_of command text a).status ≡ status.Usage → ⊥
-decides_else command text Absent is = cc
-decides_else command text (Refusal code span) is = cc
-decides_else command text (Ended Done bytes) is = cc
-decides_else command text (Ended FuelSpent bytes) is = cc
-decides_else command text (Ended (Trap at) bytes) is = cc
+decides_else : (name text : List ℕ) (a : Answer) → (outcome_of name text a).status ≡ status.Usage → ⊥
+decides_else name text Absent is = cc
+decides_else name text (Refusal code span) is = cc
+decides_else name text (Ended Done bytes) is = cc
+decides_else name text (Ended FuelSpent bytes) is = cc
+decides_else name text (Ended (Trap at) bytes) is = cc
 
 pub usage_is_for_no_shape : (words : List (List ℕ)) (held : Option Texts) (o : Outcome) → OwesWords words held o → o.status ≡ status.Usage → HasNoShape words
 usage_is_for_no_shape words held o (inl (command, shape, owes)) is =
-    absurd (decides_else command (text_in owes.file) owes.answer (sym (ap (λ x. x.status) owes.comes) ∙ is))
+    absurd (decides_else (name_of (origin_of command)) (text_in owes.text) owes.answer (sym (ap (λ x. x.status) owes.comes) ∙ is))
 usage_is_for_no_shape words held o (inr (none, e)) is = none

@@ -4,13 +4,13 @@ use Rattle.pict_outside.proofs.Gaining.{front_of_none}
 use Rattle.pict_core.specs.Term.{Process}
 use Rattle.pict_core.specs.Configuration.{Configuration, opening}
 use Rattle.pict_core.specs.Step.{Label}
-use Rattle.pict_core.specs.Run.{End, RunsFrom, printed_by}
+use Rattle.pict_core.specs.Run.{End, RunsFrom, printed_by, steps_done}
 use Rattle.pict_view.specs.Right.{RunsRight}
 use Rattle.pict_top.specs.Ends.{end_of}
 use Rattle.pict_top.specs.declared.run.Finish.{Finish}
 use Rattle.pict_view.specs.View.{View}
 use Rattle.pict_view.specs.Watching.{Ran, BrokeOff, Saw, SawOrTore}
-use Rattle.pict_top.specs.Answer.{Shows}
+use Rattle.pict_top.specs.Answer.{Shows, Writing}
 use Rattle.pict_top.specs.Changes.{SinkChange, Gained, GainedFront, FailedWithin, Failed, Untouched}
 use Rattle.pict_top.specs.Printed.{form_of, shown_in, written_in, written_after, WrittenInPart, Finished, Somehow}
 use Rattle.pict_top.specs.declared.form.Form.{Form}
@@ -19,20 +19,22 @@ use Rattle.pict_top.proofs.Continuing.{continues_from}
 use Rattle.pict_top.proofs.Written.{saw_all, saw_part}
 
 -- what is written label by label is what is shown of all
-written_is_shown : (form : Form) (names : List (List ℕ)) (labels : List (ℕ × Label)) → written_in (form_of form names) labels ≡ shown_in form names labels
-written_is_shown Printed names [] = refl
-written_is_shown Printed names (l ∷ ls) = ap (λ b. printed_by l.1 ++ b) (written_is_shown Printed names ls)
-written_is_shown Line names labels = refl
+written_is_shown : (form : Form) (names : List (List ℕ)) (steps : ℕ) (finish : Finish) (labels : List (ℕ × Label)) → written_in (form_of form names) labels ≡ shown_in form names steps finish labels
+written_is_shown Printed names steps finish [] = refl
+written_is_shown Printed names steps finish (l ∷ ls) = ap (λ b. printed_by l.1 ++ b) (written_is_shown Printed names steps finish ls)
+written_is_shown Line names steps finish labels = refl
 
 module _ (form : Form) (names : List (List ℕ)) (p : Process) (fuel : ℕ) where
   pub has_run : (v : View) (out : SinkChange) (end : End) (finish : Finish) → end ≡ end_of finish → Ran (opening p) fuel end v (Saw (written_after (form_of form names)) out.old_taken out.new_taken)
       → Finished (Shows p fuel (shown_in form names)) finish out
   has_run v out end finish is ran =
       let written = saw_all (form_of form names) out.old_taken out.new_taken ran.labels ran.seen in
+      let runs : RunsFrom (opening p) fuel (end_of finish) ran.labels = subst (λ e. RunsFrom (opening p) fuel e ran.labels) is ran.runs in
+      let steps : ℕ = steps_done (end_of finish) runs.steps in
       record {
-        bytes = shown_in form names ran.labels;
-        does = record { labels = ran.labels; runs = subst (λ e. RunsFrom (opening p) fuel e ran.labels) is ran.runs; shows = refl };
-        written = subst (Gained out) (written_is_shown form names ran.labels) written;
+        bytes = shown_in form names steps finish ran.labels;
+        does = record { labels = ran.labels; runs = runs; shows = refl };
+        written = subst (Gained out) (written_is_shown form names steps finish ran.labels) written;
       }
 
 module _ (form : Form) (names : List (List ℕ)) (p : Process) (fuel : ℕ) (right : RunsRight p fuel) where
@@ -42,11 +44,12 @@ module _ (form : Form) (names : List (List ℕ)) (p : Process) (fuel : ℕ) (rig
   some_run_part Stands out broke =
       let on = continues_from broke.steps (opening p) fuel broke.labels broke.last right broke.few broke.reached in
       let labels : List (ℕ × Label) = broke.labels ++ on.rest in
+      let steps : ℕ = steps_done (end_of on.finish) on.runs.steps in
       record {
         finish = on.finish;
-        bytes = shown_in form names labels;
+        bytes = shown_in form names steps on.finish labels;
         does = record { labels = labels; runs = on.runs; shows = refl };
-        holds = subst (GainedFront out) (written_is_shown form names labels) (saw_part (form_of form names) out.old_taken out.new_taken broke.labels on.rest broke.seen);
+        holds = subst (GainedFront out) (written_is_shown form names steps on.finish labels) (saw_part (form_of form names) out.old_taken out.new_taken broke.labels on.rest broke.seen);
       }
 
   pub some_run_failed : (Stands : Configuration → Type 0) (out : SinkChange) → BrokeOff (opening p) fuel Stands (SawOrTore (written_after (form_of form names)) (WrittenInPart (form_of form names)) out.old_taken out.new_taken)
@@ -55,13 +58,9 @@ module _ (form : Form) (names : List (List ℕ)) (p : Process) (fuel : ℕ) (rig
       let some = some_run_part Stands out broke in
       record { finish = some.finish; bytes = some.bytes; does = some.does; holds = record { part = some.holds; failed = failed } }
 
-  -- it has a run
-  pub some_run : (out : SinkChange) → Untouched out → Somehow (Shows p fuel (shown_in form names)) (GainedFront out)
-  some_run out kept =
-      let on = continues_from 0 (opening p) fuel [] (opening p) right (omega arith) (refl, refl) in
-      record {
-        finish = on.finish;
-        bytes = shown_in form names on.rest;
-        does = record { labels = on.rest; runs = on.runs; shows = refl };
-        holds = front_of_none out.old_taken out.new_taken (shown_in form names on.rest) kept;
-      }
+-- a process that runs rightly has a run
+pub some_run : (p : Process) (fuel : ℕ) (written : Writing) (out : SinkChange) → RunsRight p fuel → Untouched out → Somehow (Shows p fuel written) (GainedFront out)
+some_run p fuel written out right kept =
+    let on = continues_from 0 (opening p) fuel [] (opening p) right (omega arith) (refl, refl) in
+    let bytes : List ℕ = written (steps_done (end_of on.finish) on.runs.steps) on.finish on.rest in
+    record { finish = on.finish; bytes = bytes; does = record { labels = on.rest; runs = on.runs; shows = refl }; holds = front_of_none out.old_taken out.new_taken bytes kept }

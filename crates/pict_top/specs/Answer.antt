@@ -1,5 +1,4 @@
--- The answer to a file by the definitions: it isn't there, or its text is refused, or the command does its work with the
--- program.
+-- The answer to a text by the definitions: it isn't there, or it is refused, or the command does its work with the program.
 use Rattle.std.specs.Prelude.{◌≡◌, ◌⊎◌, ℕ, ◌<◌, ◌≤◌, List, [], length, Option, Some, None}
 use Rattle.pict_syntax.specs.declared.limits.TheConstants.{TEXT_LIMIT}
 use Rattle.pict_syntax.specs.declared.code.Code as refusals
@@ -7,14 +6,18 @@ use Rattle.pict_syntax.specs.declared.code.Code.TheVariants.{B1}
 use Rattle.pict_syntax.specs.declared.span.Span.{Span}
 use Rattle.pict_core.specs.Term.{Process}
 use Rattle.pict_core.specs.Step.{Label}
-use Rattle.pict_core.specs.Run.{Runs, bytes_of}
+use Rattle.pict_core.specs.Run.{Runs, bytes_of, steps_done}
 use Rattle.pict_code.specs.Nodes.{nodes_of}
 use Rattle.pict_code.specs.Listing.{listing_text}
 use Rattle.pict_trace.specs.Lines.{lines_text}
 use Rattle.pict_front.specs.Phases.{Phase, accepts, refuses}
 use Rattle.pict_front.specs.Front.{Stop, Front, IsFront, first_place}
-use Rattle.pict_top.specs.Words.{Command, Run, Trace, Check, Code}
-use Rattle.pict_top.specs.Ends.{end_of}
+use Rattle.pict_words.specs.Words.{Command, Run, Trace, Check, Code, Load, default_fuel}
+use Rattle.pict_load.specs.Text.{load_text}
+use Rattle.pict_load.specs.Counted.{communications_of}
+use Rattle.pict_load.specs.Summary.{summary_text}
+use Rattle.pict_top.specs.Origins.{origin_of, prelude_of}
+use Rattle.pict_top.specs.Ends.{end_of, machine_end}
 use Rattle.pict_top.specs.declared.run.Finish.{Finish}
 use Rattle.pict_top.specs.declared.run.Finish.TheVariants.{Done}
 
@@ -22,11 +25,28 @@ use Rattle.pict_top.specs.declared.run.Finish.TheVariants.{Done}
 abbrev pub Work : Type 1
 Work = Finish → List ℕ → Type 0
 
--- The process runs with this fuel, and what is written are these bytes of the labels of its steps.
-pub record Shows (process : Process) (fuel : ℕ) (written : List (ℕ × Label) → List ℕ) (finish : Finish) (bytes : List ℕ) : Type 0 where
+-- what is written of a run, by the number of steps done, its end and its labels
+abbrev pub Writing : Type 0
+Writing = ℕ → Finish → List (ℕ × Label) → List ℕ
+
+-- The process runs with this fuel, and what is written are these bytes of its run.
+pub record Shows (process : Process) (fuel : ℕ) (written : Writing) (finish : Finish) (bytes : List ℕ) : Type 0 where
   pub labels : List (ℕ × Label)
   pub runs : Runs process fuel (end_of finish) labels
-  pub shows : bytes ≡ written labels
+  pub shows : bytes ≡ written (steps_done (end_of finish) runs.steps) finish labels
+
+-- the bytes that are printed
+abbrev pub printed : Writing
+printed steps finish labels = bytes_of labels
+
+-- a line for each communication and each printing
+abbrev pub traced : List (List ℕ) → Writing
+traced names steps finish labels = lines_text names labels
+
+-- the summary of the run of the program that is made from n
+abbrev pub summed_up : ℕ → Writing
+summed_up n steps finish labels =
+    summary_text n (length (load_text n)) (record { end = machine_end finish; steps = steps; communications = communications_of labels; printed = length (bytes_of labels) })
 
 -- The listing of the process' instructions is written, and that is all.
 pub record Lists (names : List (List ℕ)) (process : Process) (finish : Finish) (bytes : List ℕ) : Type 0 where
@@ -40,14 +60,11 @@ pub record IsChecked (finish : Finish) (bytes : List ℕ) : Type 0 where
 
 -- what a command does with the names and the core process of a text: a row for each command
 abbrev pub Does : Command → List (List ℕ) → Process → Work
--- what the program prints
-Does (Run options) names process = Shows process options.fuel bytes_of
--- a line for each communication and each printing
-Does (Trace options) names process = Shows process options.fuel (lines_text names)
--- nothing
+Does (Run options) names process = Shows process options.fuel printed
+Does (Trace options) names process = Shows process options.fuel (traced names)
 Does (Check options) names process = IsChecked
--- the listing of its instructions
 Does (Code options) names process = Lists names process
+Does (Load n) names process = Shows process default_fuel (summed_up n)
 
 pub data Answer : Type 0 where
   Absent : Answer
@@ -67,7 +84,7 @@ pub record IsTooLong (text : List ℕ) (answer : Answer) : Type 0 where
 pub record IsAnswered (command : Command) (text : List ℕ) (answer : Answer) : Type 0 where
   pub short : length text ≤ TEXT_LIMIT
   pub said : Phase Stop Front
-  pub front : IsFront None text said
+  pub front : IsFront (prelude_of (origin_of command)) text said
   pub done : IsDone command said answer
 
 abbrev pub IsAnswer : Command → Option (List ℕ) → Answer → Type 0

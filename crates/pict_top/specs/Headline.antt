@@ -1,5 +1,5 @@
 -- What `pict` promises: one record, for every command.
-use Rattle.std.specs.Prelude.{◌≡◌, ◌⊎◌, ℕ, List, Option, Some}
+use Rattle.std.specs.Prelude.{◌≡◌, ◌≢◌, ◌⊎◌, ℕ, List, Option, Some}
 use Rattle.pict_outside.specs.Counts.{Rose}
 use Rattle.pict_outside.specs.Texts.{Texts}
 use Rattle.pict_front.specs.Front.{Front}
@@ -7,9 +7,9 @@ use Rattle.pict_top.specs.Changes.{SinkChange, Untouched, Gained, GainedFront, F
 use Rattle.pict_top.specs.Meets.{IsDecided, SomeOutcome, Delivers, Breaks, Tells}
 use Rattle.pict_top.specs.Outcome.{Outcome}
 use Rattle.pict_top.specs.Owed.{OwesWords, FaultsWords, Accepts}
-use Rattle.pict_top.specs.Reports.{usage_report}
+use Rattle.pict_report.specs.Reports.{usage_report}
 use Rattle.pict_top.specs.Soundness.{IsSound}
-use Rattle.pict_top.specs.Words.{HasNoShape}
+use Rattle.pict_words.specs.Words.{HasShape, HasNoShape, Load}
 use Rattle.pict_top.specs.declared.status.Status.{Status}
 use Rattle.pict_top.specs.declared.status.Status.TheVariants.{Usage, ReadFault, WriteFault, Memory, Missing}
 
@@ -53,6 +53,10 @@ pub record Headline (words : List (List ℕ)) (shelf : ShelfChange) (out err : S
   -- words of no listed shape come to the usage text and nothing else, and no other words do
   pub usage : HasNoShape words → Untouched out × Tells Usage usage_report err status
   pub usage_only : status ≡ Usage → HasNoShape words
+  -- the command `load` asks the shelf for nothing: it never reports that a file is missing or can't be read, and over any shelf,
+  -- whether or not that fails, the status is that of an outcome that is owed, or memory ran out
+  pub load_never : (n : ℕ) → HasShape words (Load n) → (status ≢ ReadFault) × (status ≢ Missing)
+  pub load_complete : (n : ℕ) (o : Outcome) → HasShape words (Load n) → OwesWords words shelf.held o → ¬ Failed out → ¬ Failed err → (status ≡ o.status) ⊎ (status ≡ Memory)
   -- no configuration of an accepted program's run is wrong: no value of a wrong shape is met; each step leaves its reading
   -- congruent or is one reduction of it, and where the run is finished no reduction is left
   pub sound : (accepted : Front) → Accepts words shelf.held accepted → IsSound accepted.core

@@ -1,7 +1,5 @@
 pub mod Numbers
-pub mod Words
-pub mod Plain
-pub mod Reports
+pub mod Origins
 pub mod Ends
 pub mod Answer
 pub mod Outcome
@@ -11,3 +9,4 @@ pub mod Meets
 pub mod Printed
 pub mod Soundness
 pub mod Headline
+pub mod Laws

@@ -2,10 +2,9 @@
 use Rattle.std.specs.Prelude.{◌≡◌, ◌⊎◌, ℕ, List}
 use Rattle.pict_top.specs.Outcome.{Outcome}
 use Rattle.pict_top.specs.Changes.{SinkChange, Untouched, Gained, GainedFront, FailedWithin}
-use Rattle.pict_syntax.specs.Position.{line_of, column_of}
 use Rattle.pict_top.specs.declared.run.Finish.{Finish}
 use Rattle.pict_top.specs.declared.run.Finish.TheVariants.{Done, FuelSpent, Trap}
-use Rattle.pict_top.specs.Reports.{spent_report, trap_report}
+use Rattle.pict_report.specs.Reports.{position_of, spent_report, trap_report}
 use Rattle.pict_top.specs.declared.status.Status.{Status}
 use Rattle.pict_top.specs.declared.status.Status.TheVariants as status
 use Rattle.pict_top.specs.declared.status.Status.TheVariants.{ReadFault, WriteFault, Memory}
@@ -49,6 +48,6 @@ Reports status text err result = Tells status text err result ⊎ ((result ≡ M
 
 -- what is reported behind the end of the work: nothing of work that is done
 abbrev pub EndReports : List ℕ → List ℕ → Finish → SinkChange → Status → Type 0
-EndReports file text Done err result = (result ≡ status.Done) × Untouched err
-EndReports file text FuelSpent err result = Tells status.FuelSpent spent_report err result
-EndReports file text (Trap at) err result = Reports status.Trap (trap_report file (line_of text at.start) (column_of text at.start)) err result
+EndReports name text Done err result = (result ≡ status.Done) × Untouched err
+EndReports name text FuelSpent err result = Tells status.FuelSpent spent_report err result
+EndReports name text (Trap at) err result = Reports status.Trap (trap_report (position_of name text at)) err result

@@ -3,9 +3,9 @@ use Rattle.std.specs.Prelude.{◌≡◌, ℕ, List, ◌++◌}
 use Rattle.std.specs.List.{flat_map}
 use Rattle.pict_outside.specs.Bytes.{IsFrontOf}
 use Rattle.pict_core.specs.Step.{Label}
-use Rattle.pict_core.specs.Run.{printed_by, bytes_of}
-use Rattle.pict_trace.specs.Lines.{line_text, lines_text}
-use Rattle.pict_top.specs.Answer.{Work}
+use Rattle.pict_core.specs.Run.{printed_by}
+use Rattle.pict_trace.specs.Lines.{line_text}
+use Rattle.pict_top.specs.Answer.{Work, Writing, printed, traced}
 use Rattle.pict_top.specs.Changes.{SinkChange, Gained}
 use Rattle.pict_top.specs.declared.form.Form as declared
 use Rattle.pict_top.specs.declared.form.Form.TheVariants.{Printed, Line}
@@ -20,10 +20,10 @@ abbrev pub form_of : declared.Form → List (List ℕ) → Form
 form_of Printed names = λ number label. printed_by label
 form_of Line names = line_text names
 
--- what is written of the labels of a run
-abbrev pub shown_in : declared.Form → List (List ℕ) → List (ℕ × Label) → List ℕ
-shown_in Printed names = bytes_of
-shown_in Line names = lines_text names
+-- what is written of a run
+abbrev pub shown_in : declared.Form → List (List ℕ) → Writing
+shown_in Printed names = printed
+shown_in Line names = traced names
 
 -- what is written of these labels, one after the other
 abbrev pub written_in : Form → List (ℕ × Label) → List ℕ

@@ -2,18 +2,21 @@
 #![tactic(auto)]
 
 mod form;
+mod laws;
+mod origin;
 mod print;
 mod printer;
-mod report;
 mod run;
 mod status;
 mod top;
-mod words;
 mod work;
 
+pub use laws::{law_load_needs_no_shelf, law_one_outcome};
+pub use pict_load::load_text;
+pub use pict_report::prelude;
+pub use pict_words::{Command, Options, Usage, words_of};
 pub use status::Status;
-pub use top::{law_one_outcome, pict};
-pub use words::{Command, Options, Usage, words_of};
+pub use top::pict;
 
 #[cfg(test)]
 mod tests;

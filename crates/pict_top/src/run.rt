@@ -11,7 +11,7 @@ ghost use Rattle.pict_view.specs.Right.{IsRightFor, RunsRight};
 ghost use Rattle.pict_view.specs.Watching.{Ran, BrokeOff, Saw, SawOrTore};
 ghost use Rattle.pict_top.specs.Changes.{change_of, GainedFront, FailedWithin};
 ghost use Rattle.pict_top.specs.Answer.{Shows};
-ghost use Rattle.pict_top.specs.Ends.{end_of};
+ghost use Rattle.pict_top.specs.Ends.{end_of, machine_end};
 ghost use Rattle.pict_top.specs.Printed.{form_of, shown_in, written_after, WrittenInPart, Finished, Somehow};
 
 use crate::form::Form;
@@ -55,9 +55,12 @@ pub fn run_core<O: Sink>(
     requires closed { IsClosed (plain_core core) }
     requires fuel { fuel ≤ FUEL_LIMIT }
     requires right { RunsRight (plain_core core) fuel }
-    ensures ran { IfOk result (λ finish. Finished (Shows (plain_core core) fuel (shown_in form names.now)) finish (change_of O.taken O.faults out.old out.new)) }
-    ensures sink { result ≡ Err Broken.Sink → Somehow (Shows (plain_core core) fuel (shown_in form names.now)) (FailedWithin (change_of O.taken O.faults out.old out.new)) }
-    ensures memory { result ≡ Err Broken.Memory → Somehow (Shows (plain_core core) fuel (shown_in form names.now)) (GainedFront (change_of O.taken O.faults out.old out.new)) }
+    ensures ran { IfOk result (λ finish.
+        Finished (Shows (plain_core core) fuel (shown_in form names.now)) finish (change_of O.taken O.faults out.old out.new)) }
+    ensures sink { result ≡ Err Broken.Sink → Somehow (Shows (plain_core core) fuel (shown_in form names.now))
+        (FailedWithin (change_of O.taken O.faults out.old out.new)) }
+    ensures memory { result ≡ Err Broken.Memory → Somehow (Shows (plain_core core) fuel (shown_in form names.now))
+        (GainedFront (change_of O.taken O.faults out.old out.new)) }
     ensures faults_stay { O.faults out.old ≤ O.faults out.new }
 {
     let mut machine = match Machine::load(alloc, core) {
@@ -84,11 +87,14 @@ fn run_on<O: Sink>(
     requires few { channels_of machine.old + fuel < 2 ^ 32 }
     requires right { IsRightFor (view_of machine.old) fuel }
     ensures end { IfOk result (λ end. (C : Configuration) → IsConfiguration C → StandsFor (view_of machine.old) C
-        → Ran C fuel (plain.end_of end) (view_of machine.new) (Saw (written_after (form_of form names.now)) (O.taken out.old) (O.taken out.new))) }
+        → Ran C fuel (plain.end_of end) (view_of machine.new)
+        (Saw (written_after (form_of form names.now)) (O.taken out.old) (O.taken out.new))) }
     ensures refused { result ≡ Err RunError.Sink → (C : Configuration) → IsConfiguration C → StandsFor (view_of machine.old) C
-        → BrokeOff C fuel (StandsFor (view_of machine.new)) (SawOrTore (written_after (form_of form names.now)) (WrittenInPart (form_of form names.now)) (O.taken out.old) (O.taken out.new)) }
+        → BrokeOff C fuel (StandsFor (view_of machine.new))
+        (SawOrTore (written_after (form_of form names.now)) (WrittenInPart (form_of form names.now)) (O.taken out.old) (O.taken out.new)) }
     ensures memory { result ≡ Err RunError.Memory → (C : Configuration) → IsConfiguration C → StandsFor (view_of machine.old) C
-        → BrokeOff C fuel (λ D. IsConfiguration D) (SawOrTore (written_after (form_of form names.now)) (WrittenInPart (form_of form names.now)) (O.taken out.old) (O.taken out.new)) }
+        → BrokeOff C fuel (λ D. IsConfiguration D)
+        (SawOrTore (written_after (form_of form names.now)) (WrittenInPart (form_of form names.now)) (O.taken out.old) (O.taken out.new)) }
     ensures sink { result ≡ Err RunError.Sink → Rose (O.faults out.old) (O.faults out.new) }
     ensures faults_stay { O.faults out.old ≤ O.faults out.new }
 {
@@ -102,8 +108,9 @@ fn run_on<O: Sink>(
 }
 
 /// How a run ended, as the end of a command's work.
-fn finish_of(end: End) -> Finish
-    ensures { end_of result ≡ plain.end_of end }
+pub fn finish_of(end: End) -> Finish
+    ensures run { end_of result ≡ plain.end_of end }
+    ensures machine { machine_end result ≡ end }
 {
     match end {
         End::Done => Finish::Done,

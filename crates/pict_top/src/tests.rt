@@ -226,7 +226,6 @@ fn traces(rt: HostRuntime) -> Result<(), AllocError> {
             err: b"G: no such file\n",
             ..HELLO
         },
-        usage(&["trace", "F"]),
         usage(&["trace", "--bare", "--fuel", "01", "F"]),
     ];
     for case in &cases {
@@ -262,7 +261,7 @@ fn listings(rt: HostRuntime) -> Result<(), AllocError> {
             err: b"F:1:5: S1 unbound name\n",
             ..HELLO
         },
-        usage(&["code", "F"]),
+        usage(&["code", "--fuel", "1", "F"]),
         usage(&["code", "--bare", "--fuel", "1", "F"]),
     ];
     for case in &cases {
@@ -350,7 +349,7 @@ fn checks(rt: HostRuntime) -> Result<(), AllocError> {
             err: b"G: no such file\n",
             ..HELLO
         },
-        usage(&["check", "F"]),
+        usage(&["check", "--fuel", "1", "F"]),
         usage(&["check", "--bare", "--fuel", "1", "F"]),
     ];
     for case in &cases {
@@ -571,13 +570,22 @@ fn other_words(rt: HostRuntime) -> Result<(), AllocError> {
         usage(&["run", "--bare"]),
         usage(&["run", "--bare", "-F"]),
         usage(&["run", "--bare", ""]),
+        usage(&["run"]),
+        usage(&["run", "--fuel", "5"]),
         usage(&["run", "--fuel", "5", "--bare", "F"]),
+        usage(&["run", "--fuel", "01", "F"]),
         usage(&["run", "--bare", "--fuel", "01", "F"]),
         usage(&["run", "--bare", "--fuel", "+1", "F"]),
         usage(&["run", "--bare", "--fuel", "", "F"]),
         usage(&["run", "--bare", "--fuel", "1000000001", "F"]),
         usage(&["run", "--bare", "--fuel", "18446744073709551617", "F"]),
         usage(&["pick", "--bare", "01", "F"]),
+        usage(&["load"]),
+        usage(&["load", "01"]),
+        usage(&["load", "+1"]),
+        usage(&["load", "18446744073709551616"]),
+        usage(&["load", "1", "F"]),
+        usage(&["load", "--bare", "1"]),
         Case {
             words: &["run", "--bare", "--fuel", "1000000000", "F"],
             ..HELLO
@@ -587,6 +595,110 @@ fn other_words(rt: HostRuntime) -> Result<(), AllocError> {
         try_case(&rt, rt.alloc(), case)?;
     }
     Ok(())
+}
+
+const SERVER: &[u8] = b"val [get=get set=set] = (ref 0)
+val [acquire=acquire release=release] = (lock)
+val clients = (cons 1 (cons 2 (cons 3 (nil))))
+new done:^[]
+def client (n:Int):[] = (
+  (acquire);
+  val v = (get)
+  (set (+ v n));
+  (release);
+  [])
+def start (u:[] n:Int):[] = (run ((client n); done![]) [])
+(foldl start [] clients);
+run done?[] = done?[] = done?[] = ((pr \"total \"); printi!(get))
+";
+
+/// Files behind the prelude.
+#[test]
+fn preludes(rt: HostRuntime) -> Result<(), AllocError> {
+    let run: &[&str] = &["run", "F"];
+    let check: &[&str] = &["check", "F"];
+    let trap = Case {
+        words: run,
+        status: Status::Trap,
+        out: b"",
+        ..HELLO
+    };
+    let cases = [
+        written(run, SERVER, b"total 6"),
+        written(run, b"", b""),
+        written(run, b"run print!\"hello\"", b"hello"),
+        written(&["run", "--fuel", "1000000", "F"], SERVER, b"total 6"),
+        written(check, b"", b""),
+        written(check, b"val xs = (cons 1 (nil))", b""),
+        Case {
+            words: check,
+            ..refused(b"val xs = (nil)", b"F:1:10: Y10 type argument not found\n")
+        },
+        // Alone the text has no prelude.
+        refused(b"val xs = (cons 1 (nil))", b"F:1:11: S1 unbound name\n"),
+        // A name of the prelude may be bound anew.
+        written(
+            run,
+            b"def ref (n:Int):Int = (+ n 1) run printi!(ref 1)",
+            b"2",
+        ),
+        // The place of a trap is that of the application: in the file, or in the prelude.
+        Case {
+            text: b"run printi!(foldl \\(a:Int x:Int):Int = (div a x) 1 (cons 0 (nil)))",
+            err: b"F:1:40: division by zero\n",
+            ..trap
+        },
+        Case {
+            text: b"run printi!(foldl div 1 (cons 0 (nil)))",
+            err: b"prelude:8:34: division by zero\n",
+            ..trap
+        },
+        Case {
+            words: check,
+            text: b"val x = )",
+            status: Status::Refused,
+            out: b"",
+            err: b"F:1:9: P1 unexpected token\n",
+            ..HELLO
+        },
+        Case {
+            words: &["trace", "G"],
+            status: Status::Missing,
+            out: b"",
+            err: b"G: no such file\n",
+            ..HELLO
+        },
+    ];
+    for case in &cases {
+        try_case(&rt, rt.alloc(), case)?;
+    }
+    Ok(())
+}
+
+/// The listing of the program behind the prelude has a line for each of its nodes.
+#[test]
+fn listing_behind_the_prelude(rt: HostRuntime) -> Result<(), AllocError> {
+    let a = rt.alloc();
+    let mut shelf = shelf_of(a, SERVER, false)?;
+    let mut out = MemorySink::new(a, 100_000, Vec::new(a))?;
+    let mut err = sink_of(a, None)?;
+    let status = pict(a, &["code", "F"], &mut shelf, &mut out, &mut err);
+    assert_eq!(rt; status, Status::Done);
+    let lines = out.taken().iter().filter(|byte| **byte == b'\n').count();
+    assert_eq!(rt; lines, 168);
+    Ok(())
+}
+
+/// A program made from a number. The shelf, which fails, is asked for nothing.
+#[test]
+fn load(rt: HostRuntime) -> Result<(), AllocError> {
+    let case = Case {
+        words: &["load", "42"],
+        shelf_fails: true,
+        out: b"ring 183 13097\nring 124 19955\nring 155 11566\ntext 35553\nsteps 536830\ncommunications 133860\nprinted 3\nend done\n",
+        ..HELLO
+    };
+    try_case(&rt, rt.alloc(), &case)
 }
 
 #[test]

@@ -1,36 +1,41 @@
 // What each command does with an accepted text.
-ghost use Rattle.std.specs.Prelude.{◌≡◌, ◌≤◌, IfOk, Err};
+ghost use Rattle.std.specs.Prelude.{◌≡◌, ◌≤◌, IfOk, Err, None, Some, length};
 ghost use Rattle.pict_core.specs.Closed.{IsClosed};
 ghost use Rattle.pict_core.specs.Plain.{plain_core};
 ghost use Rattle.pict_view.specs.Right.{RunsRight};
-ghost use Rattle.pict_top.specs.Answer.{Does, Lists};
+ghost use Rattle.pict_load.specs.Text.{load_text};
+ghost use Rattle.pict_words.specs.Plain.{plain_command};
+ghost use Rattle.pict_words.specs.Words.{fuel_of};
+ghost use Rattle.pict_top.specs.Answer.{Does, Lists, Shows, summed_up};
 ghost use Rattle.pict_top.specs.Changes.{change_of, GainedFront, FailedWithin};
-ghost use Rattle.pict_top.specs.Plain.{plain_command};
+ghost use Rattle.pict_top.specs.Origins.{origin_of, MayRead};
 ghost use Rattle.pict_top.specs.Printed.{Finished, Somehow};
-ghost use Rattle.pict_top.specs.Words.{options_of};
 
 use crate::form::Form;
-use crate::run::{Broken, Finish, run_core};
-use crate::words::Command;
+use crate::run::{Broken, Finish, finish_of, run_core};
 use pict_code::{ListError, listing};
 use pict_core::Core;
 use pict_front::Front;
+use pict_load::{SummaryError, count_run, write_summary};
 use pict_lower::lower;
 use pict_outside::Sink;
 use pict_syntax::{FUEL_LIMIT, Names};
+use pict_words::{Command, DEFAULT_FUEL};
 use std::alloc::{AllocError, Global};
 
-/// Does a command's work with the names and the core process of a text, of whose run with the command's fuel no step may be
-/// wrong. On an error a beginning of what the work writes was written; `Sink` comes only where the sink's count of faults rose.
+/// Does a command's work with a text that it reads, and with the text's names and core process, of whose run with the command's
+/// fuel no step may be wrong. On an error a beginning of what the work writes was written; `Sink` comes only where the sink's count of faults rose.
 pub fn perform<O: Sink>(
     alloc: Global,
     command: Command<'_>,
+    text: &[u8],
     front: Front,
     out: &mut O,
 ) -> Result<Finish, Broken>
+    requires read { MayRead None (origin_of (plain_command command)) (Some text.now) }
     requires closed { IsClosed (plain_core front.core) }
-    requires fuel { (options_of (plain_command command)).fuel ≤ FUEL_LIMIT }
-    requires right { RunsRight (plain_core front.core) (options_of (plain_command command)).fuel }
+    requires fuel { fuel_of (plain_command command) ≤ FUEL_LIMIT }
+    requires right { RunsRight (plain_core front.core) (fuel_of (plain_command command)) }
     ensures done { IfOk result (λ finish. Finished (Does (plain_command command.entry) front.names (plain_core front.core)) finish
         (change_of O.taken O.faults out.old out.new)) }
     ensures sink { result ≡ Err Broken.Sink → Somehow (Does (plain_command command.entry) front.names (plain_core front.core))
@@ -45,6 +50,7 @@ pub fn perform<O: Sink>(
         Command::Trace(options) => run_core(alloc, Form::Line, &names, core, options.fuel, out),
         Command::Check(_) => Ok(Finish::Done),
         Command::Code(_) => list_core(alloc, &names, &core, out),
+        Command::Load(n) => sum_up(alloc, n, text.len() as u64, core, out),
     }
 }
 
@@ -68,5 +74,34 @@ fn list_core<O: Sink>(
         Ok(()) => Ok(Finish::Done),
         Err(ListError::Sink) => Err(Broken::Sink),
         Err(ListError::Memory) => Err(Broken::Memory),
+    }
+}
+
+/// Runs the program that is made from `n`, whose text has this many bytes, and writes the summary of its run.
+fn sum_up<O: Sink>(
+    alloc: Global,
+    n: u64,
+    text: u64,
+    core: Core,
+    out: &mut O,
+) -> Result<Finish, Broken>
+    requires text { text ≡ length (load_text n) }
+    requires closed { IsClosed (plain_core core) }
+    requires right { RunsRight (plain_core core) DEFAULT_FUEL }
+    ensures done { IfOk result (λ finish. Finished (Shows (plain_core core) DEFAULT_FUEL (summed_up n)) finish (change_of O.taken O.faults out.old out.new)) }
+    ensures sink { result ≡ Err Broken.Sink → Somehow (Shows (plain_core core) DEFAULT_FUEL (summed_up n))
+        (FailedWithin (change_of O.taken O.faults out.old out.new)) }
+    ensures memory { result ≡ Err Broken.Memory → Somehow (Shows (plain_core core) DEFAULT_FUEL (summed_up n))
+        (GainedFront (change_of O.taken O.faults out.old out.new)) }
+    ensures faults_stay { O.faults out.old ≤ O.faults out.new }
+{
+    let tally = match count_run(alloc, core, DEFAULT_FUEL) {
+        Ok(tally) => tally,
+        Err(AllocError) => return Err(Broken::Memory),
+    };
+    match write_summary(alloc, n, text, tally, out) {
+        Ok(()) => Ok(finish_of(tally.end)),
+        Err(SummaryError::Sink) => Err(Broken::Sink),
+        Err(SummaryError::Memory) => Err(Broken::Memory),
     }
 }

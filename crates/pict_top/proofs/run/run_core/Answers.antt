@@ -10,11 +10,11 @@ pub run_on-requires-clause-right : goal.run_on-requires-clause-right
 run_on-requires-clause-right g c = record { configuration = opening (plain_core c.args.core); is = c.in-Ok.ensures.is c.requires.closed; stands = c.in-Ok.ensures.stands; right = c.requires.right }
 
 pub returns-in-Err-clause-memory : goal.returns-in-Err-clause-memory
-returns-in-Err-clause-memory g c is = some_run c.args.form c.args.names.now (plain_core c.args.core) c.args.fuel c.requires.right (change_of g.O.Sink.taken g.O.Sink.faults c.args.out.now c.args.out.now) (keeps_same _)
+returns-in-Err-clause-memory g c is = some_run (plain_core c.args.core) c.args.fuel _ (change_of g.O.Sink.taken g.O.Sink.faults c.args.out.now c.args.out.now) c.requires.right (keeps_same _)
 
 pub returns-in-Ok-run_on-clause-ran : goal.returns-in-Ok-run_on-clause-ran
 returns-in-Ok-run_on-clause-ran g c =
-    has_run c.args.form c.args.names.now (plain_core c.args.core) c.args.fuel _ (change_of g.O.Sink.taken g.O.Sink.faults c.args.out.now c.run_on.new.out) _ _ (sym c.finish_of.ensures)
+    has_run c.args.form c.args.names.now (plain_core c.args.core) c.args.fuel _ (change_of g.O.Sink.taken g.O.Sink.faults c.args.out.now c.run_on.new.out) _ _ (sym c.finish_of.ensures.run)
     (c.in-Ok-run_on.ensures.end (opening (plain_core c.args.core)) (c.in-Ok.ensures.is c.requires.closed) c.in-Ok.ensures.stands)
 
 pub returns-in-Err-Sink-clause-sink : goal.returns-in-Err-Sink-clause-sink

@@ -1,6 +1,6 @@
 use Rattle.pict_top.specs.Changes.{change_of}
 use Rattle.pict_top.specs.Headline.{shelf_change}
-use Rattle.pict_top.specs.Plain.{texts_of}
+use Rattle.pict_words.specs.Plain.{texts_of}
 use Rattle.pict_top.proofs.Meeting.{headline}
 use Rattle.pict_top.proofs.top.pict.Goals as goal
 

@@ -1,0 +1,30 @@
+use Rattle.std.proofs.Common.{ap, ◌∙◌, Err}
+use Rattle.pict_outside.proofs.Gaining.{keeps_same}
+use Rattle.pict_core.specs.Plain.{plain_core}
+use Rattle.pict_words.specs.declared.words.TheConstants.{DEFAULT_FUEL}
+use Rattle.pict_top.specs.Answer.{summed_up}
+use Rattle.pict_top.specs.Changes.{change_of, GainedFront, FailedWithin}
+use Rattle.pict_top.proofs.Running.{some_run}
+use Rattle.pict_top.proofs.Counting.{sums_up, some_summed}
+use Rattle.pict_top.proofs.work.sum_up.Goals as goal
+
+pub returns-in-Err-clause-memory : goal.returns-in-Err-clause-memory
+returns-in-Err-clause-memory g c is =
+    some_run (plain_core c.args.core) DEFAULT_FUEL (summed_up c.args.n) (change_of g.O.Sink.taken g.O.Sink.faults c.args.out.now c.args.out.now) c.requires.right (keeps_same _)
+
+pub returns-in-Ok-write_summary-clause-done : goal.returns-in-Ok-write_summary-clause-done
+returns-in-Ok-write_summary-clause-done g c = record {
+  bytes = _;
+  does = sums_up c.args.n c.args.text (plain_core c.args.core) DEFAULT_FUEL c.requires.text c.finish_of.result c.in-Ok.tally c.finish_of.ensures.machine c.in-Ok.ensures;
+  written = c.in-Ok-write_summary.ensures.all;
+}
+
+pub returns-in-Err-Sink-clause-sink : goal.returns-in-Err-Sink-clause-sink
+returns-in-Err-Sink-clause-sink g c is =
+    some_summed c.args.n c.args.text (plain_core c.args.core) DEFAULT_FUEL c.requires.text c.in-Ok.tally c.in-Ok.ensures (FailedWithin (change_of g.O.Sink.taken g.O.Sink.faults c.args.out.now c.write_summary.new.out))
+    (record { part = c.in-Err-Sink.ensures.part; failed = c.write_summary.ensures.sink (c.in-Err-Sink.is ∙ ap Err c.in-Err-Sink.field-0-is) })
+
+pub returns-in-Err-Memory-clause-memory : goal.returns-in-Err-Memory-clause-memory
+returns-in-Err-Memory-clause-memory g c is =
+    some_summed c.args.n c.args.text (plain_core c.args.core) DEFAULT_FUEL c.requires.text c.in-Ok.tally c.in-Ok.ensures (GainedFront (change_of g.O.Sink.taken g.O.Sink.faults c.args.out.now c.write_summary.new.out))
+    c.in-Err-Memory.ensures.part

@@ -1,0 +1,13 @@
+// The laws of what words come to, each as the contract of a function that does nothing.
+
+ghost use Rattle.pict_top.specs.Laws.{LoadNeedsNoShelf, OneOutcome};
+
+/// Over a shelf that tells its texts the words come to exactly one outcome.
+pub fn law_one_outcome()
+    ensures { OneOutcome }
+{}
+
+/// Over any shelf, whether or not it tells its texts, `load N` comes to exactly one outcome, and no file is read.
+pub fn law_load_needs_no_shelf()
+    ensures { LoadNeedsNoShelf }
+{}

@@ -1,0 +1,59 @@
+// Where a command's text comes from.
+ghost use Rattle.std.specs.Prelude.{◌≡◌, ◌≤◌, IfOk, IfSome, MatchOption, length};
+ghost use Rattle.pict_syntax.specs.declared.limits.TheConstants.{TEXT_LIMIT};
+ghost use Rattle.pict_front.specs.Answers.{lent};
+ghost use Rattle.pict_words.specs.Plain.{plain_command};
+ghost use Rattle.pict_top.specs.Origins as origins;
+ghost use Rattle.pict_top.specs.Origins.{origin_of, Asks, IsOwn};
+
+use pict_load::load_text;
+use pict_report::prelude;
+use pict_words::{Command, Options};
+use std::alloc::{AllocError, Global};
+
+/// The name of a command's text in reports: its file's, or `load`. Takes no memory.
+pub fn name_of<'a>(command: Command<'a>) -> &'a str
+    ensures { result.now ≡ origins.name_of (origin_of (plain_command command.entry)) }
+{
+    match command {
+        Command::Run(options) => options.file,
+        Command::Trace(options) => options.file,
+        Command::Check(options) => options.file,
+        Command::Code(options) => options.file,
+        Command::Load(_) => "load",
+    }
+}
+
+/// What stands before a command's text: the prelude, unless the text stands alone. Takes no memory.
+pub fn prelude_of(command: Command<'_>) -> Option<&'static [u8]>
+    ensures is { lent result ≡ origins.prelude_of (origin_of (plain_command command.entry)) }
+    ensures short { IfSome result (λ bytes. length bytes.now ≤ TEXT_LIMIT) }
+{
+    match command {
+        Command::Run(options) => prelude_unless_bare(options),
+        Command::Trace(options) => prelude_unless_bare(options),
+        Command::Check(options) => prelude_unless_bare(options),
+        Command::Code(options) => prelude_unless_bare(options),
+        Command::Load(_) => None,
+    }
+}
+
+/// The prelude, unless the text of a file stands alone.
+fn prelude_unless_bare(options: Options<'_>) -> Option<&'static [u8]>
+    ensures is { lent result ≡ origins.prelude_of (origins.File options.entry.bare options.entry.file.now) }
+    ensures short { IfSome result (λ bytes. length bytes.now ≤ TEXT_LIMIT) }
+{
+    if options.bare { None } else { Some(prelude()) }
+}
+
+/// The text that a command makes itself, within the limit of a text; none where it reads a file. The error is want of memory.
+pub fn own_text(alloc: Global, command: Command<'_>) -> Result<Option<Vec<u8>>, AllocError>
+    ensures { IfOk result (λ own. MatchOption own
+        (Asks (origin_of (plain_command command.entry)) (origins.name_of (origin_of (plain_command command.entry))))
+        (λ text. IsOwn (origin_of (plain_command command.entry)) text.items × (length text.items ≤ TEXT_LIMIT))) }
+{
+    match command {
+        Command::Load(n) => Ok(Some(load_text(alloc, n)?)),
+        _ => Ok(None),
+    }
+}
