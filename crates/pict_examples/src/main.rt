@@ -1,12 +1,12 @@
-//! Runs each example of the folder `examples` that needs no prelude, and writes its name, what it prints, what is reported
-//! and the number of its status.
+//! Runs each example of the folder `examples`, and writes its name, what it prints, what is reported and the number of its
+//! status.
 #![tactic(auto)]
 
 use anyhow::Error;
 use pict_outside::{FolderShelf, StreamSink};
 use pict_top::pict;
 
-/// The examples, in the order of their index.
+/// The examples that stand alone, in the order of their index.
 const EXAMPLES: [&str; 28] = [
     "hello.pi",
     "message.pi",
@@ -38,24 +38,29 @@ const EXAMPLES: [&str; 28] = [
     "package.pi",
 ];
 
+/// The examples that use the prelude.
+const WITH_PRELUDE: [&str; 2] = ["counter.pi", "broadcast.pi"];
+
 /// The example that runs without end.
 const WITHOUT_END: &str = "forever.pi";
 
-fn run_example(rt: &HostRuntime, name: &str) -> Result<(), Error> {
+fn run_example(rt: &HostRuntime, name: &str, words: &[&str]) -> Result<(), Error> {
     println!(rt; "{name}")?;
-    let fuel = if name == WITHOUT_END { "100" } else { "100000" };
-    let words = ["run", "--bare", "--fuel", fuel, name];
     let mut shelf = FolderShelf::new(rt);
     let mut out = StreamSink::new(rt.stdout());
     let mut err = StreamSink::new(rt.stdout());
-    let status = pict(rt.alloc(), &words, &mut shelf, &mut out, &mut err).number();
+    let status = pict(rt.alloc(), words, &mut shelf, &mut out, &mut err).number();
     println!(rt; "\nstatus {status}")?;
     Ok(())
 }
 
 fn main(rt: HostRuntime) -> Result<(), Error> {
     for name in EXAMPLES {
-        run_example(&rt, name)?;
+        let fuel = if name == WITHOUT_END { "100" } else { "100000" };
+        run_example(&rt, name, &["run", "--bare", "--fuel", fuel, name])?;
+    }
+    for name in WITH_PRELUDE {
+        run_example(&rt, name, &["run", name])?;
     }
     Ok(())
 }
