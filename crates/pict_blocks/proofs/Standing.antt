@@ -21,7 +21,7 @@ module _ (h : HeapState) (values : List (ℕ × ℕ)) where
   values_back [] = refl
   values_back (l ∷ ls) = ap (λ vs. known h values l ∷ vs) (values_back ls)
 
-  frame_back : (ls : List ℕ) (n : ℕ) → n ≤ 32000 → frame_values (value_in h) n (frame_words values ls) ≡ map (known h values) ls
+  pub frame_back : (ls : List ℕ) (n : ℕ) → n ≤ 32000 → frame_values (value_in h) n (frame_words values ls) ≡ map (known h values) ls
   frame_back [] n few = refl
   frame_back (l ∷ ls) n few =
       let test : nat_lt 32000 n ≡ false = grind (arith, nat_tests) in

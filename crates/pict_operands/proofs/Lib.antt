@@ -1,0 +1,7 @@
+pub mod Pairs
+pub mod SoFar
+pub mod Fitting
+pub mod Making
+pub mod Recording
+pub mod Reading
+pub mod Loops
