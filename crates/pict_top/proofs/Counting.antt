@@ -1,14 +1,13 @@
 -- What is counted of a run is what the summary of the run says.
-use Rattle.std.proofs.Common.{◌≡◌, ℕ, List, length, refl, sym, ap, ◌∙◌, subst}
+use Rattle.std.proofs.Common.{◌≡◌, ℕ, List, length, refl, sym, subst}
 use Rattle.pict_core.specs.Term.{Process}
-use Rattle.pict_core.specs.Run.{bytes_of, steps_done}
 use Rattle.pict_machine.specs.declared.event.End as machine
 use Rattle.pict_machine.specs.declared.event.End.TheVariants as end
 use Rattle.pict_load.specs.declared.summary.Tally.{Tally}
 use Rattle.pict_load.specs.Text.{load_text}
-use Rattle.pict_load.specs.Counted.{IsCounted, communications_of}
+use Rattle.pict_load.specs.Counted.{IsCounted}
 use Rattle.pict_load.specs.Summary.{summary_text}
-use Rattle.pict_top.specs.Ends.{end_of, machine_end}
+use Rattle.pict_top.specs.Ends.{machine_end}
 use Rattle.pict_top.specs.Answer.{Shows, summed_up}
 use Rattle.pict_top.specs.Printed.{Somehow}
 use Rattle.pict_top.specs.declared.run.Finish.{Finish}

@@ -1,5 +1,5 @@
 -- The command `load` asks the shelf for nothing.
-use Rattle.std.proofs.Common.{◌≡◌, ◌≢◌, ℕ, inl, inr, List, Option, Some, refl, ap, sym, ◌∙◌, subst}
+use Rattle.std.proofs.Common.{◌≡◌, ℕ, inl, inr, List, Option, Some, refl, ap, sym, ◌∙◌, subst}
 use Rattle.pict_outside.specs.Texts.{Texts}
 use Rattle.pict_words.specs.Words.{Command, Load, HasShape}
 use Rattle.pict_words.proofs.Commands.{one_command}

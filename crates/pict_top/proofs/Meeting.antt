@@ -8,7 +8,7 @@ use Rattle.pict_top.specs.Meets.{Meets, Reports, Tells, IsDecided, Delivers, Som
 use Rattle.pict_top.specs.Headline.{Headline, ShelfChange, ShelfFailed}
 use Rattle.pict_top.specs.Owed.{OwesWords, FaultsWords}
 use Rattle.pict_report.specs.Reports.{usage_report}
-use Rattle.pict_words.specs.Words.{Load, HasShape, HasNoShape}
+use Rattle.pict_words.specs.Words.{HasNoShape}
 use Rattle.pict_top.specs.Origins.{origin_of}
 use Rattle.pict_top.specs.declared.status.Status.{Status}
 use Rattle.pict_top.specs.declared.status.Status.TheVariants as status

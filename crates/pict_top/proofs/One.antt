@@ -1,9 +1,8 @@
 -- Words come to at most one outcome where only one text may be read.
-use Rattle.std.proofs.Common.{arith, ◌≡◌, ◌≢◌, ℕ, ◌≤◌, inl, inr, List, length, Option, Some, None, refl, ap, sym, ◌∙◌, subst}
+use Rattle.std.proofs.Common.{arith, ◌≡◌, ℕ, inl, inr, List, Option, Some, None, refl, ap, sym, ◌∙◌, subst}
 use Rattle.pict_outside.specs.Texts.{Texts}
 use Rattle.pict_core.specs.Term.{Process}
 use Rattle.pict_core.specs.Configuration.{opening}
-use Rattle.pict_core.specs.Step.{Label}
 use Rattle.pict_core.specs.Run as run
 use Rattle.pict_core.specs.Run.{steps_done}
 use Rattle.pict_core.proofs.OneRun.{one_run}

@@ -1,5 +1,5 @@
 -- Accepted programs run rightly: their core processes are those of typed programs.
-use Rattle.std.proofs.Common.{ℕ, zero, suc, List, sym, subst}
+use Rattle.std.proofs.Common.{ℕ, zero, suc, List, subst}
 use Rattle.pict_core.specs.Term.{Process}
 use Rattle.pict_core.specs.Closed.{IsClosed}
 use Rattle.pict_core.specs.Configuration.{Configuration, IsConfiguration, opening}

@@ -1,5 +1,5 @@
 -- Words come to an outcome over a shelf that tells its texts, and the words `load N` over any; and so to exactly one.
-use Rattle.std.proofs.Common.{◌≡◌, ℕ, ◌≤◌, ◌⊎◌, inl, inr, List, [], length, Option, Some, None, refl, arith}
+use Rattle.std.proofs.Common.{ℕ, inl, inr, List, [], length, Option, Some, None, refl, arith}
 use Rattle.std.proofs.lemmas.Bool.{cases_lt}
 use Rattle.pict_syntax.specs.declared.limits.TheConstants.{TEXT_LIMIT}
 use Rattle.pict_outside.specs.Texts.{Texts}

@@ -1,5 +1,5 @@
 -- The laws of what words come to.
-use Rattle.std.specs.Prelude.{◌≡◌, ◌≢◌, ℕ, List, Option, Some}
+use Rattle.std.specs.Prelude.{ℕ, List, Option, Some}
 use Rattle.pict_outside.specs.Texts.{Texts}
 use Rattle.pict_front.specs.Phases.{Exactly}
 use Rattle.pict_words.specs.Words.{HasShape, Load}

@@ -1,10 +1,9 @@
 -- Words of the shape of a command have the shape of no other.
-use Rattle.std.proofs.Common.{◌≡◌, ◌≢◌, ℕ, ◌+◌, ◌==◌, ◌≤◌, ◌<◌, Bool, true, false, List, [], ◌∷◌, ◌++◌, length, get_or, Option, Some, None, refl, sym, ◌∙◌, ap, subst, arith, codes, if◌then◌else◌}
+use Rattle.std.proofs.Common.{◌≡◌, ℕ, ◌+◌, ◌==◌, ◌≤◌, Bool, true, false, List, [], ◌∷◌, length, get_or, Option, Some, None, refl, sym, ◌∙◌, ap, subst, arith, codes, if◌then◌else◌}
 use Rattle.std.specs.Prelude.{is_some}
-use Rattle.std.specs.Fmt.{decimal}
 use Rattle.std.proofs.lemmas.Fmt.{decimal_injective}
 use Rattle.pict_syntax.specs.declared.limits.TheConstants.{FUEL_LIMIT}
-use Rattle.pict_words.specs.Words.{Options, Command, Run, Trace, Check, Code, Load, AsksFor, AsksToLoad, HasShape, HasNoShape, bare_words, fuel_words}
+use Rattle.pict_words.specs.Words.{Options, Command, Run, Trace, Check, Code, Load, AsksFor, AsksToLoad, HasShape, HasNoShape, fuel_words}
 use Rattle.pict_words.specs.Asked.{Found, IsAsked, HasWord, ReadsFile}
 use Rattle.pict_words.proofs.Shapes.{words_for, two_are, three_are, four_are, five_are, at}
 

@@ -1,5 +1,5 @@
 -- Words of the shape of a command over a file, by how many they are.
-use Rattle.std.proofs.Common.{◌≡◌, ◌≢◌, ℕ, ◌≤◌, Bool, true, false, List, [], ◌∷◌, ◌++◌, length, get_or, Option, Some, None, refl, sym, ◌∙◌, ap, subst, arith, codes, ◌⊎◌, inl, inr}
+use Rattle.std.proofs.Common.{◌≡◌, ◌≢◌, ℕ, ◌≤◌, Bool, true, false, List, [], ◌∷◌, ◌++◌, length, get_or, Option, Some, None, refl, sym, ◌∙◌, ap, subst, arith, codes}
 use Rattle.std.specs.Fmt.{decimal}
 use Rattle.pict_syntax.specs.declared.limits.TheConstants.{FUEL_LIMIT}
 use Rattle.pict_words.specs.Words.{Options, AsksFor, IsFileWord, bare_words, fuel_words, default_fuel}

@@ -1,13 +1,13 @@
 -- Words have the shape of a command, or none.
-use Rattle.std.proofs.Common.{◌≡◌, ◌≢◌, ℕ, ◌≤◌, ◌<◌, ◌^◌, ◌⊎◌, Bool, true, false, inl, inr, List, [], ◌∷◌, length, Option, Some, None, refl, sym, ◌∙◌, ap, arith, codes}
+use Rattle.std.proofs.Common.{◌≡◌, ◌≢◌, ℕ, ◌≤◌, ◌<◌, ◌^◌, ◌⊎◌, Bool, true, false, inl, inr, List, [], ◌∷◌, length, refl, sym, ◌∙◌, ap, arith, codes}
 use Rattle.std.specs.Fmt.{decimal}
 use Rattle.std.specs.Str.Parse.{digits_value}
 use Rattle.std.proofs.lemmas.Bool.{cases_lt}
 use Rattle.std.proofs.lemmas.Fmt.{decimal_is_IsNumeral}
 use Rattle.pict_syntax.specs.declared.limits.TheConstants.{FUEL_LIMIT}
 use Rattle.pict_total.proofs.Choices.{same_or_not, same_text_or_not}
-use Rattle.pict_words.specs.Words.{Options, Command, Run, Trace, Check, Code, Load, AsksToLoad, HasShape, HasNoShape, IsFileWord, default_fuel}
-use Rattle.pict_words.specs.Asked.{Found, IsAsked, Writes, HasWord, ReadsFile}
+use Rattle.pict_words.specs.Words.{Options, Command, Run, Trace, Check, Code, Load, AsksToLoad, HasShape, HasNoShape, IsFileWord}
+use Rattle.pict_words.specs.Asked.{Found, IsAsked, HasWord, ReadsFile}
 use Rattle.pict_words.specs.Laws.{OneCommand}
 use Rattle.pict_words.proofs.Shapes.{at, two_asked, two_not_found, three_asked, three_not_found, four_asked, four_not_found, five_asked, five_not_found, not_found}
 use Rattle.pict_words.proofs.Commands.{shape_of, no_other, found_by, one_command, no_shape}

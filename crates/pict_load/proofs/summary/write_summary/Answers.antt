@@ -1,7 +1,7 @@
-use Rattle.std.proofs.Common.{◌≡◌, ℕ, ◌<◌, length, ap, subst, sym, ◌∙◌, arith}
+use Rattle.std.proofs.Common.{◌≡◌, ◌<◌, length, ap, subst, ◌∙◌, arith}
 use Rattle.std.specs.List.{flat_map}
 use Rattle.pict_outside.specs.Bytes.{AppendsFront}
-use Rattle.pict_load.specs.Summary.{line_text, summary_lines}
+use Rattle.pict_load.specs.Summary.{line_text}
 use Rattle.pict_load.proofs.Lines.{wrote_first, wrote_part, on_err}
 use Rattle.pict_load.proofs.Short.{eight_lines}
 use Rattle.pict_load.proofs.summary.write_summary.Goals as goal

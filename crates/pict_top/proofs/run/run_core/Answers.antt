@@ -1,4 +1,4 @@
-use Rattle.std.proofs.Common.{sym, ap, refl, ◌∙◌, Err}
+use Rattle.std.proofs.Common.{sym, ap, ◌∙◌, Err}
 use Rattle.pict_outside.proofs.Gaining.{keeps_same}
 use Rattle.pict_core.specs.Plain.{plain_core}
 use Rattle.pict_core.specs.Configuration.{opening}

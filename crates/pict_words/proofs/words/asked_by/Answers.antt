@@ -1,4 +1,4 @@
-use Rattle.std.proofs.Common.{ℕ, List, [], Bor}
+use Rattle.std.proofs.Common.{[]}
 use Rattle.pict_words.proofs.Lists.{two_words, three_words, four_words, five_words, none_in}
 use Rattle.pict_words.proofs.words.asked_by.Goals as goal
 

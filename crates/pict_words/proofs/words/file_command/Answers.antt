@@ -1,4 +1,3 @@
-use Rattle.std.proofs.Common.{refl}
 use Rattle.pict_words.specs.Plain.{texts_of, plain_options}
 use Rattle.pict_words.proofs.Commands.{no_other, found_by}
 use Rattle.pict_words.proofs.words.file_command.Goals as goal
