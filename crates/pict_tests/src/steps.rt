@@ -7,7 +7,7 @@ ghost use Rattle.pict_view.specs.Right.{RunsRight};
 
 use pict_core::{Core, CoreVal};
 use pict_front::front;
-use pict_machine::{End, Event, Machine, RunError, Watcher};
+use pict_machine::{End, Event, Machine, RunError, Stopped, Watcher};
 use pict_reference::{Label, Reference, StepOutcome};
 use pict_syntax::{FUEL_LIMIT, Span, TEXT_LIMIT};
 use std::alloc::{AllocError, Global};
@@ -115,8 +115,9 @@ impl Notes {
 
 // ---- the run by the machine, and by the definition
 
-/// How the run of an accepted text with this fuel ends, and the lines that it shows; nothing where the text is refused.
-fn ran(alloc: Global, text: &[u8], fuel: u64) -> Result<Option<(End, Vec<u8>)>, AllocError>
+/// How the run of an accepted text with this fuel ends, after how many steps, and the lines that it shows; nothing where
+/// the text is refused.
+fn ran(alloc: Global, text: &[u8], fuel: u64) -> Result<Option<(Stopped, Vec<u8>)>, AllocError>
     requires { fuel ≤ FUEL_LIMIT }
 {
     let Some(core) = accepted(alloc, text) else {
@@ -124,10 +125,15 @@ fn ran(alloc: Global, text: &[u8], fuel: u64) -> Result<Option<(End, Vec<u8>)>, 
     };
     let mut machine = Machine::load(alloc, core)?;
     let mut notes = Notes::new(alloc);
-    match machine.run(fuel, &mut notes) {
-        Ok(end) => Ok(Some((end, notes.text))),
+    match machine.run_counted(fuel, &mut notes) {
+        Ok(stopped) => Ok(Some((stopped, notes.text))),
         Err(_) => Ok(None),
     }
+}
+
+/// A run that ends so after so many steps.
+fn stopped(end: End, steps: u64) -> Stopped {
+    Stopped { end, steps }
 }
 
 /// What is shown of the label of a step.
@@ -156,8 +162,9 @@ fn next(reference: &mut Reference) -> Result<Option<StepOutcome>, AllocError> {
     }
 }
 
-/// How the defined run of a text ends, and its lines; nothing where the text is refused or a step is wrong.
-fn defined(alloc: Global, text: &[u8], fuel: u64) -> Result<Option<(End, Vec<u8>)>, AllocError>
+/// How the defined run of a text ends, after how many steps, and its lines; nothing where the text is refused or a step is
+/// wrong.
+fn defined(alloc: Global, text: &[u8], fuel: u64) -> Result<Option<(Stopped, Vec<u8>)>, AllocError>
     requires { fuel ≤ FUEL_LIMIT }
 {
     let Some(core) = accepted(alloc, text) else {
@@ -168,24 +175,28 @@ fn defined(alloc: Global, text: &[u8], fuel: u64) -> Result<Option<(End, Vec<u8>
     for step in 0..fuel {
         match next(&mut reference)? {
             Some(StepOutcome::Steps(label)) => note(&mut notes, step + 1, label)?,
-            Some(StepOutcome::Traps(at)) => return Ok(Some((End::Trap(at), notes.text))),
-            Some(StepOutcome::Finished) => return Ok(Some((End::Done, notes.text))),
+            Some(StepOutcome::Traps(at)) => {
+                return Ok(Some((stopped(End::Trap(at), step + 1), notes.text)));
+            }
+            Some(StepOutcome::Finished) => {
+                return Ok(Some((stopped(End::Done, step), notes.text)));
+            }
             Some(StepOutcome::Wrong) | None => return Ok(None),
         }
     }
     match next(&mut reference)? {
-        Some(StepOutcome::Finished) => Ok(Some((End::Done, notes.text))),
-        _ => Ok(Some((End::FuelSpent, notes.text))),
+        Some(StepOutcome::Finished) => Ok(Some((stopped(End::Done, fuel), notes.text))),
+        _ => Ok(Some((stopped(End::FuelSpent, fuel), notes.text))),
     }
 }
 
-/// The run of the text with this fuel has this end, and shows these lines.
+/// The run of the text with this fuel ends so after so many steps, and shows these lines.
 fn expect_end<R: Abort>(
     rt: &R,
     alloc: Global,
     text: &[u8],
     fuel: u64,
-    end: End,
+    end: Stopped,
     lines: &[u8],
 ) -> Result<(), AllocError>
     requires { fuel ≤ FUEL_LIMIT }
@@ -215,14 +226,14 @@ fn expect_same<R: Abort>(rt: &R, alloc: Global, text: &[u8]) -> Result<(), Alloc
     Ok(())
 }
 
-/// The run of the text with this fuel has this end, and shows these lines. Its first hundred steps are those of the
-/// definition.
+/// The run of the text with this fuel ends so after so many steps, and shows these lines. Its first hundred steps are those
+/// of the definition.
 fn expect_run<R: Abort>(
     rt: &R,
     alloc: Global,
     text: &[u8],
     fuel: u64,
-    end: End,
+    end: Stopped,
     lines: &[u8],
 ) -> Result<(), AllocError>
     requires { fuel ≤ FUEL_LIMIT }
@@ -242,11 +253,12 @@ pub fn expect_done<R: Abort>(
 ) -> Result<(), AllocError>
     requires { steps < FUEL_LIMIT }
 {
-    expect_run(rt, alloc, text, steps, End::Done, lines)?;
-    expect_end(rt, alloc, text, steps + 1, End::Done, lines)?;
+    let done = stopped(End::Done, steps);
+    expect_run(rt, alloc, text, steps, done, lines)?;
+    expect_end(rt, alloc, text, steps + 1, done, lines)?;
     if steps > 0 {
         match ran(alloc, text, steps - 1)? {
-            Some((end, _)) => assert!(rt; end == End::FuelSpent),
+            Some((end, _)) => assert!(rt; end == stopped(End::FuelSpent, steps - 1)),
             None => assert!(rt; false),
         }
     }
@@ -259,9 +271,16 @@ pub fn expect_done<R: Abort>(
 fn worked_programs(rt: HostRuntime) -> Result<(), AllocError> {
     let alloc = rt.alloc();
     let hello = b"run print!\"hello\"";
-    expect_run(&rt, alloc, hello, 2, End::FuelSpent, b"2 print hello\n")?;
-    expect_run(&rt, alloc, hello, 1, End::FuelSpent, b"")?;
-    expect_run(&rt, alloc, hello, 0, End::FuelSpent, b"")?;
+    expect_run(
+        &rt,
+        alloc,
+        hello,
+        2,
+        stopped(End::FuelSpent, 2),
+        b"2 print hello\n",
+    )?;
+    expect_run(&rt, alloc, hello, 1, stopped(End::FuelSpent, 1), b"")?;
+    expect_run(&rt, alloc, hello, 0, stopped(End::FuelSpent, 0), b"")?;
     let rows: [(&[u8], u64, &[u8]); 9] = [
         (b"", 1, b""),
         (hello, 3, b"2 print hello\n"),
@@ -311,7 +330,14 @@ fn an_endless_loop_spends_its_fuel(rt: HostRuntime) -> Result<(), AllocError> {
         lines.extend_from_slice(line.as_bytes())?;
     }
     let endless = b"def loop [] = loop![] run loop![]";
-    expect_run(&rt, alloc, endless, 1000, End::FuelSpent, &lines)
+    expect_run(
+        &rt,
+        alloc,
+        endless,
+        1000,
+        stopped(End::FuelSpent, 1000),
+        &lines,
+    )
 }
 
 #[test]
@@ -356,8 +382,8 @@ fn a_division_by_zero_traps(rt: HostRuntime) -> Result<(), AllocError> {
         start: 21,
         end: 30,
     };
-    expect_run(&rt, alloc, text, 10, End::FuelSpent, lines)?;
-    expect_run(&rt, alloc, text, 11, End::Trap(at), lines)
+    expect_run(&rt, alloc, text, 10, stopped(End::FuelSpent, 10), lines)?;
+    expect_run(&rt, alloc, text, 11, stopped(End::Trap(at), 11), lines)
 }
 
 /// So many pieces one after the other.
@@ -375,19 +401,19 @@ fn repeated(alloc: Global, piece: &[u8], count: usize) -> Result<Vec<u8>, AllocE
 fn deep_processes_run(rt: HostRuntime) -> Result<(), AllocError> {
     let alloc = rt.alloc();
     let right = repeated(alloc, b"run ()\n", 4999)?;
-    expect_end(&rt, alloc, &right, 9998, End::FuelSpent, b"")?;
-    expect_run(&rt, alloc, &right, 9999, End::Done, b"")?;
+    expect_end(&rt, alloc, &right, 9998, stopped(End::FuelSpent, 9998), b"")?;
+    expect_run(&rt, alloc, &right, 9999, stopped(End::Done, 9999), b"")?;
     let left = repeated(alloc, b"[];", 1666)?;
     expect_end(
         &rt,
         alloc,
         &left,
         14,
-        End::FuelSpent,
+        stopped(End::FuelSpent, 14),
         b"4 c0 []\n8 c1 []\n12 c2 []\n",
     )?;
     let channels = repeated(alloc, b"new c:^[]\n", 4999)?;
-    expect_end(&rt, alloc, &channels, 50, End::FuelSpent, b"")
+    expect_end(&rt, alloc, &channels, 50, stopped(End::FuelSpent, 50), b"")
 }
 
 // The first step is the composition's.

@@ -2,6 +2,6 @@ use Rattle.pict_core.specs.Plain.{plain_core}
 use Rattle.pict_core.specs.Configuration.{opening}
 use Rattle.pict_tests.proofs.steps.ran.Goals as goal
 
-pub run-requires-clause-right : goal.run-requires-clause-right
-run-requires-clause-right c =
+pub run_counted-requires-clause-right : goal.run_counted-requires-clause-right
+run_counted-requires-clause-right c =
     record { configuration = opening (plain_core c.in-Some.core); is = c.in_ok-machine.ensures.is c.in-Some.ensures.closed; stands = c.in_ok-machine.ensures.stands; right = c.in-Some.ensures.right c.args.fuel }
