@@ -689,16 +689,32 @@ fn listing_behind_the_prelude(rt: HostRuntime) -> Result<(), AllocError> {
     Ok(())
 }
 
-/// A program made from a number. The shelf, which fails, is asked for nothing.
+/// Programs made from a number. The shelf, which fails, is asked for nothing.
 #[test]
-fn load(rt: HostRuntime) -> Result<(), AllocError> {
+fn loads(rt: HostRuntime) -> Result<(), AllocError> {
     let case = Case {
         words: &["load", "42"],
         shelf_fails: true,
         out: b"ring 183 13097\nring 124 19955\nring 155 11566\ntext 35553\nsteps 536830\ncommunications 133860\nprinted 3\nend done\n",
         ..HELLO
     };
-    try_case(&rt, rt.alloc(), &case)
+    let cases = [
+        case,
+        Case {
+            words: &["load", "0"],
+            out: b"ring 151 13783\nring 194 19462\nring 135 18317\ntext 36975\nsteps 620212\ncommunications 154692\nprinted 3\nend done\n",
+            ..case
+        },
+        Case {
+            words: &["load", "18446744073709551615"],
+            out: b"ring 131 15298\nring 126 12769\nring 108 14464\ntext 27890\nsteps 511495\ncommunications 127599\nprinted 3\nend done\n",
+            ..case
+        },
+    ];
+    for case in &cases {
+        try_case(&rt, rt.alloc(), case)?;
+    }
+    Ok(())
 }
 
 #[test]
