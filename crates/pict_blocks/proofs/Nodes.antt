@@ -8,7 +8,7 @@ use Rattle.pict_core.specs.Closed.{binds}
 use Rattle.pict_code.specs.Instruction as code
 use Rattle.pict_code.specs.Instruction.{Node, Op, CodePat}
 use Rattle.pict_code.specs.Nodes.{Place, place, places, size, node_of, nodes_of, op_of, leveled}
-use Rattle.pict_code.proofs.Numbering.{Holds, PlacedAt}
+use Rattle.pict_code.proofs.Numbering.{Holds, PlacedAt, at_before}
 use Rattle.pict_code.proofs.Rebuilding.{node_at}
 
 -- ---- where a part stands, its own parts stand behind it
@@ -18,18 +18,13 @@ some_at [] j h = absurd (omega arith)
 some_at (x ∷ xs) zero h = (x, refl)
 some_at (x ∷ xs) (suc j) h = some_at xs j (omega arith)
 
-before_end : (xs ys : List Place) (i : ℕ) → i < length xs → slice_get (xs ++ ys) i ≡ slice_get xs i
-before_end [] ys i h = absurd (omega arith)
-before_end (x ∷ xs) ys zero h = refl
-before_end (x ∷ xs) ys (suc i) h = before_end xs ys i (omega arith)
-
 all_of : (xs : List Place) → Holds xs 0 xs
 all_of xs j low = let e : 0 + j ≡ j = omega arith in rw e refl
 
 in_front : (xs ys : List Place) (i : ℕ) (some : List Place) → Holds xs i some → Holds (xs ++ ys) i some
 in_front xs ys i some h j low =
     let s = some_at some j low in
-    before_end xs ys (i + j) (slice_get_within xs (i + j) s.0 (h j low ∙ s.1)) ∙ h j low
+    at_before xs ys (i + j) (slice_get_within xs (i + j) s.0 (h j low ∙ s.1)) ∙ h j low
 
 behind : (x : Place) (xs : List Place) (i : ℕ) (some : List Place) → Holds xs i some → Holds (x ∷ xs) (suc i) some
 behind x xs i some h j low = let e : suc i + j ≡ suc (i + j) = omega arith in rw e (h j low)

@@ -4,6 +4,7 @@ use Rattle.std.proofs.lemmas.Bool.Decides.{nat_tests}
 use Rattle.std.specs.List.{slice_get}
 use Rattle.pict_core.specs.Term.{Val, Process, Var, Int}
 use Rattle.pict_core.specs.Substitution.{replace, replace_value, substitution, substitute}
+use Rattle.pict_core.proofs.Substituting.{past}
 use Rattle.pict_code.specs.Standing.{closing}
 use Rattle.pict_code.proofs.Agreeing.{agree}
 use Rattle.pict_reduction.proofs.Replacing.{replace-after}
@@ -17,11 +18,6 @@ within : (vs : List Val) (i : ℕ) (d e : Val) → i < length vs → unwrap_or (
 within [] i d e h = absurd (omega arith)
 within (v ∷ vs) zero d e h = refl
 within (v ∷ vs) (suc i) d e h = within vs i d e (omega arith)
-
-past : (vs : List Val) (i : ℕ) (d : Val) → length vs ≤ i → unwrap_or (slice_get vs i) d ≡ d
-past [] i d h = refl
-past (v ∷ vs) zero d h = absurd (omega arith)
-past (v ∷ vs) (suc i) d h = past vs i d (omega arith)
 
 bound_inside : (n : ℕ) (values : ℕ → Val) (bound : List Val) (level : ℕ) (b : Bool) → nat_lt level (n + length bound) ≡ b → n ≤ level
     → unwrap_or (slice_get bound (level - n)) (Var (level - n - length bound)) ≡ cond b (extended n values bound level) (Var (level - (n + length bound)))

@@ -3,19 +3,16 @@ use Rattle.std.proofs.Common.{ℕ, zero, suc, ◌+◌, ◌<◌, ◌≤◌, ◌�
 use Rattle.std.proofs.lemmas.Bool.Decides.{nat_tests}
 use Rattle.std.proofs.lemmas.Bool.{cases_lt}
 use Rattle.std.proofs.lemmas.List.Elements.{filter-append}
+use Rattle.pict_syntax.proofs.ListLemmas.{or_assoc}
 use Rattle.pict_core.specs.Term.{Process}
 use Rattle.pict_code.specs.Frames.{occurs, levels_below, frame_of}
 use Rattle.pict_code.specs.Levels.{has, Rises}
 
 -- ---- which levels
 
-or_assoc : (a b c : Bool) → a || (b || c) ≡ (a || b) || c
-or_assoc true b c = refl
-or_assoc false b c = refl
-
 pub has_append : (level : ℕ) (xs ys : List ℕ) → has level (xs ++ ys) ≡ has level xs || has level ys
 has_append level [] ys = refl
-has_append level (x ∷ xs) ys = ap (λ b. (level == x) || b) (has_append level xs ys) ∙ or_assoc (level == x) (has level xs) (has level ys)
+has_append level (x ∷ xs) ys = ap (λ b. (level == x) || b) (has_append level xs ys) ∙ sym (or_assoc (level == x) (has level xs) (has level ys))
 
 one_more : (a e t u : Bool) → (e ≡ true → u ≡ t) → (a && t) || (e && u) ≡ (a || e) && t
 one_more true true true u h = refl

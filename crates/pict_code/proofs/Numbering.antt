@@ -20,7 +20,7 @@ at_later : (xs ys : List Place) (i : ℕ) → slice_get (xs ++ ys) (length xs + 
 at_later [] ys i = ap (slice_get ys) (omega arith)
 at_later (x ∷ xs) ys i = let e : length (x ∷ xs) + i ≡ suc (length xs + i) = omega arith in rw e (at_later xs ys i)
 
-at_before : (xs ys : List Place) (i : ℕ) → i < length xs → slice_get (xs ++ ys) i ≡ slice_get xs i
+pub at_before : (xs ys : List Place) (i : ℕ) → i < length xs → slice_get (xs ++ ys) i ≡ slice_get xs i
 at_before [] ys i h = absurd (omega arith)
 at_before (x ∷ xs) ys zero h = refl
 at_before (x ∷ xs) ys (suc i) h = at_before xs ys i (omega arith)

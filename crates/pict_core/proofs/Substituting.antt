@@ -27,7 +27,7 @@ within [] k d e h = absurd (omega arith)
 within (x ∷ xs) zero d e h = refl
 within (x ∷ xs) (suc k) d e h = within xs k d e (omega arith)
 
-past : (vs : List Val) (k : ℕ) (e : Val) → length vs ≤ k → unwrap_or (slice_get vs k) e ≡ e
+pub past : (vs : List Val) (k : ℕ) (e : Val) → length vs ≤ k → unwrap_or (slice_get vs k) e ≡ e
 past [] k e h = refl
 past (v ∷ vs) zero e h = absurd (omega arith)
 past (v ∷ vs) (suc k) e h = past vs k e (omega arith)

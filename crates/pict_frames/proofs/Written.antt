@@ -1,23 +1,20 @@
 -- Words written one after another.
-use Rattle.std.proofs.Common.{length-append, ◌≡◌, ◌≢◌, ℕ, zero, suc, ◌+◌, ◌*◌, ◌<◌, ◌≤◌, List, [], ◌∷◌, ◌++◌, length, take, drop, set, get_or, Option, Some, None, refl, sym, ◌∙◌, ap, subst, arith}
+use Rattle.std.proofs.Common.{length-append, ◌≡◌, ◌≢◌, ℕ, zero, suc, ◌+◌, ◌*◌, ◌<◌, ◌≤◌, List, [], ◌∷◌, ◌++◌, length, take, drop, set, get_or, Option, Some, refl, sym, ◌∙◌, ap, subst, arith}
 use Rattle.std.proofs.lemmas.List.{length-set, length-drop, length-take, append_assoc}
 use Rattle.std.proofs.Math.Seq.{take-suc}
-use Rattle.std.specs.Option.{IsSome, unwrap_or}
+use Rattle.std.specs.Option.{unwrap_or}
 use Rattle.std.specs.FinMap.{get, insert}
 use Rattle.pict_region.specs.RegionState.{RegionState, words_of, width_of}
+use Rattle.pict_region.proofs.Calls.{some_words}
 use Rattle.pict_region.proofs.Uses.{get_inserted, get_insert_apart}
 use Rattle.pict_queue.specs.QueuesState.{QueuesState, IsHeld, KeepsQueues}
 use Rattle.pict_frames.specs.Framed.{frame_words, pair_at}
 use Rattle.pict_frames.specs.Writing.{OnlyWrites}
 
-pub found_words : (found : Option (List ℕ)) → IsSome found → found ≡ Some (unwrap_or found [])
-found_words None h = cc
-found_words (Some ws) h = refl
-
 -- a state writes nothing
 pub writes_nothing : (s : QueuesState) (block : ℕ) → IsHeld s block → OnlyWrites s s block (words_of s.region block)
 writes_nothing s block h = record {
-  here = found_words (get s.region.live block) h.live;
+  here = some_words (get s.region.live block) h.live;
   others = λ o n. refl;
   free = refl;
   queues = refl;

@@ -1,6 +1,7 @@
 -- What the calls of the phases answer is what the phases say, one after another.
 use Rattle.std.proofs.Common.{◌≡◌, ℕ, List, [], ◌∷◌, ◌++◌, length, Option, Some, None, Result, Ok, Err, IfSome, true, refl, sym, ◌∙◌, ap, subst, append-nil}
 use Rattle.std.specs.List.{AllByRecursion}
+use Rattle.std.proofs.lemmas.Option.{IfSome_then}
 use Rattle.pict_syntax.specs.declared.token.Token.{Token}
 use Rattle.pict_syntax.specs.Names.{with_names}
 use Rattle.pict_syntax.proofs.NamesLemmas.{has_name}
@@ -69,11 +70,6 @@ handed_on : {A B C : Type 0} (P : Phase Stop B → Type 0) (Q : Phase Stop C →
 handed_on P Q f (Named code span) h is g = h (code, span) is
 handed_on P Q f Memory h is g = tt
 
--- so for what the last phase says
-pub answered : {A : Type 0} {P Q : A → Type 0} (o : Option A) → ((x : A) → P x → Q x) → IfSome o P → IfSome o Q
-answered None h is = tt
-answered (Some x) h is = h x is
-
 -- ---- a text alone
 
 pub alone_cut_short : (text : List ℕ) (e : Refusal) → IsCutShort 1 text e → {A : Type 0} (g : A → Front) → IfSome (said_by g (Err e)) (IsFront None text)
@@ -103,7 +99,7 @@ module _ (text : List ℕ) (old new : List (List ℕ)) (tokens : List Token) (no
   alone_refused f e = handed_on (HasVerdict tokens (length text)) (IsFront None text) f e (λ s is. whole (refuses s) (then_not _ _ s (first_not (Parses (names_in texts)) (cut_of 1 text ps) [] s (subst (λ ts. HasVerdict ts (length text) (refuses s)) same_tokens is))))
 
   pub alone_judged : (p : Decs) → HasVerdict tokens (length text) (accepts p) → (o : Option (Phase Stop Front)) → IfSome o (Judges new p) → IfSome o (IsFront None text)
-  alone_judged p is o = answered o (λ answer judges.
+  alone_judged p is o h = IfSome_then o h (λ answer judges.
       whole answer (then_on _ _ (p ∷ []) answer
       (each_one (Parses (names_in texts)) (cut_of 1 text ps) p (subst (λ ts. HasVerdict ts (length text) (accepts p)) same_tokens is))
       (subst (λ ns. Judges ns p answer) same_names judges)))
@@ -185,7 +181,7 @@ module _ (prelude text : List ℕ) (old mid new : List (List ℕ)) (first own : 
 
   pub both_judged : (p q : Decs) → HasVerdict first (length prelude) (accepts p) → HasVerdict own (length text) (accepts q) → (o : Option (Phase Stop Front)) → IfSome o (Judges new (behind p q))
       → IfSome o (IsFront (Some prelude) text)
-  both_judged p q h k o = answered o (λ answer judges.
+  both_judged p q h k o said = IfSome_then o said (λ answer judges.
       entire answer (then_on _ _ (p ∷ q ∷ []) answer
       (each_two (Parses (names_in both)) before after p q
       (subst (λ ts. HasVerdict ts (length prelude) (accepts p)) first_tokens h) (subst (λ ts. HasVerdict ts (length text) (accepts q)) own_tokens k))

@@ -35,7 +35,7 @@ pub gained_by : (old now : List (List ℕ)) (source : ℕ) (text : List ℕ) (at
 gained_by old now source text at tokens had = (had.pieces, drop at text, had.cut, had.names)
 
 -- one piece adds at most one name
-one_name : (names : List (List ℕ)) (text : List ℕ) → length (with_name names text) ≤ length names + 1
+pub one_name : (names : List (List ℕ)) (text : List ℕ) → length (with_name names text) ≤ length names + 1
 one_name names text = elim (cases_Bool (has_name names text)) [
   | inl there ↦ let same : length (with_name names text) ≡ length names = ap length (with_there names text there) in omega arith
   | inr absent ↦ let more : length (with_name names text) ≡ length names + 1 = ap length (with_absent names text absent) ∙ length-append names (text ∷ []) in omega arith

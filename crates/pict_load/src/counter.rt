@@ -6,9 +6,12 @@ ghost use Rattle.pict_view.specs.Right.{RunsRight};
 ghost use Rattle.pict_load.specs.Counted.{IsCounted};
 
 use crate::summary::Tally;
+use itoa::Buffer;
 use pict_core::Core;
-use pict_machine::{Event, Machine, RunError, Watcher};
+use pict_engine::{Event, Machine, RunError, Watcher};
+use pict_heap::Heap;
 use pict_syntax::FUEL_LIMIT;
+use pict_values::printed;
 use std::alloc::{AllocError, Global};
 
 /// Counts communications, and bytes that are printed. Its one error, `Memory`, comes where a count passes 64 bits.
@@ -36,16 +39,20 @@ impl Watcher for Counter {
 
     ghost same_along = { λ b c d e f. tt };
 
-    fn see(&mut self, _number: u64, event: &Event) -> Result<(), RunError> {
+    fn see(&mut self, heap: &Heap, _number: u64, event: &Event) -> Result<(), RunError> {
         match event {
             Event::Comm { .. } => match self.communications.checked_add(1) {
                 None => return Err(RunError::Memory),
                 Some(count) => self.communications = count,
             },
-            Event::Print(bytes) => match self.printed.checked_add(bytes.slice().len() as u64) {
-                None => return Err(RunError::Memory),
-                Some(count) => self.printed = count,
-            },
+            Event::Print(word) => {
+                let mut digits = Buffer::new();
+                let bytes = printed(heap, *word, &mut digits).len() as u64;
+                match self.printed.checked_add(bytes) {
+                    None => return Err(RunError::Memory),
+                    Some(count) => self.printed = count,
+                }
+            }
             _ => {}
         }
         Ok(())
@@ -60,7 +67,7 @@ pub fn count_run(alloc: Global, core: Core, fuel: u64) -> Result<Tally, AllocErr
     requires right { RunsRight (plain_core core) fuel }
     ensures { IfOk result (IsCounted (plain_core core) fuel) }
 {
-    let mut machine = Machine::load(alloc, core)?;
+    let mut machine = Machine::load_core(alloc, core)?;
     let mut counter = Counter {
         communications: 0,
         printed: 0,

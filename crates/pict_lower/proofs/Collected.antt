@@ -1,6 +1,7 @@
 -- The levels of the variables in values.
 use Rattle.std.proofs.Common.{◌≡◌, ℕ, ◌||◌, ◌==◌, Bool, true, false, List, [], ◌∷◌, ◌++◌, map, refl, sym, ap, ◌∙◌, rules, Vec, Global, Result, Ok, Err, OnOk}
 use Rattle.pict_syntax.specs.declared.name.Name.{Name}
+use Rattle.pict_syntax.proofs.ListLemmas.{or_assoc}
 use Rattle.pict_core.specs.Plain.{plain_val, plain_field, vals_of, labelled_of}
 use Rattle.pict_core.specs.Term.{Var}
 use Rattle.pict_core.specs.declared.value.CoreVal.{CoreVal, the_lemmas}
@@ -13,10 +14,6 @@ use Rattle.pict_code.proofs.Levels.{has_append}
 or_none : (a : Bool) → a || false ≡ a
 or_none true = refl
 or_none false = refl
-
-or_assoc : (a b c : Bool) → (a || b) || c ≡ a || (b || c)
-or_assoc true b c = refl
-or_assoc false b c = refl
 
 plain_val-Var : (l : ℕ) → plain_val (value.Var l) ≡ Var l
 plain_val-Var l = search (rules, the_lemmas)

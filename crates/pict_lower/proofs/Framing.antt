@@ -1,5 +1,5 @@
 -- A frame from the frames of the parts and the levels of the operands.
-use Rattle.std.proofs.Common.{◌≡◌, ℕ, suc, ◌+◌, ◌<◌, ◌≤◌, Bool, true, false, ◌||◌, ◌&&◌, List, [], ◌∷◌, nat_lt, refl, sym, ap, ◌∙◌, subst, arith, slice_get, Option, Some, None, ◌==◌, length, Result, Ok, Err, IfOk}
+use Rattle.std.proofs.Common.{◌≡◌, ℕ, suc, ◌+◌, ◌<◌, ◌≤◌, Bool, true, false, ◌||◌, ◌&&◌, List, [], ◌∷◌, nat_lt, refl, sym, ap, ◌∙◌, subst, arith, slice_get, Option, Some, None, ◌==◌, length}
 use Rattle.std.proofs.lemmas.List.{nil_from_length}
 use Rattle.std.proofs.lemmas.Bool.Decides.{nat_tests}
 use Rattle.pict_core.specs.Term.{Process, Zero, Par, New, Out, In, If}
@@ -98,7 +98,3 @@ with_operands n p first second left right union none raw ordered lent cut whole 
     let own : has level lent ≡ in_operands level p = ap (has level) is ∙ same level ∙ operands level ∙ ap (λ x. has level x || in_operands level p) empty in
     both level ∙ ap (λ b. b || has level union) (below level ∙ ap (λ b. nat_lt level n && b) own)
     ∙ ap (λ b. (nat_lt level n && in_operands level p) || b) (parts_has n p first second left right union e f l r u level))
-
-pub both_ok : {T E : Type 0} {P Q S : T → Type 0} (r : Result T E) → ((x : T) → P x → Q x → S x) → IfOk r P → IfOk r Q → IfOk r S
-both_ok (Ok x) f h k = f x h k
-both_ok (Err e) f h k = tt

@@ -4,6 +4,7 @@ use Rattle.std.proofs.lemmas.Bool.Decides.{nat_tests}
 use Rattle.std.proofs.lemmas.Bool.{cases_lt}
 use Rattle.std.proofs.lemmas.List.{drop_more, take_rest}
 use Rattle.std.specs.Int.{from_bool}
+use Rattle.pict_syntax.proofs.ListLemmas.{or_assoc}
 use Rattle.pict_code.specs.Levels.{has, Rises}
 use Rattle.pict_code.proofs.Levels.{has_append}
 
@@ -109,10 +110,6 @@ ends_rising L R made [] right m e = subst (λ l. Rises 0 (l ++ right)) (sym (app
 ends_rising L R made (l ∷ ls) [] m e = subst (Rises 0) (sym (append-nil (made ++ l ∷ ls))) m.before_left
 ends_rising L R made (l ∷ ls) (r ∷ rs) m (inl e) = absurd (omega arith)
 ends_rising L R made (l ∷ ls) (r ∷ rs) m (inr e) = absurd (omega arith)
-
-or_assoc : (a b c : Bool) → (a || b) || c ≡ a || (b || c)
-or_assoc true b c = refl
-or_assoc false b c = refl
 
 ends_same : (L R made left right : List ℕ) → Merging L R made left right → (level : ℕ) → has level ((made ++ left) ++ right) ≡ has level L || has level R
 ends_same L R made left right m level =

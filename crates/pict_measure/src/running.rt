@@ -7,8 +7,9 @@ ghost use Rattle.pict_view.specs.Right.{RunsRight};
 
 use anyhow::Error;
 use pict_core::Core;
+use pict_engine::{End, Event, Machine, RunError, Watcher};
 use pict_front::front;
-use pict_machine::{End, Event, Machine, RunError, Watcher};
+use pict_heap::Heap;
 use pict_syntax::{FUEL_LIMIT, TEXT_LIMIT};
 use std::alloc::{AllocError, Global};
 use std::time::Instant;
@@ -45,7 +46,7 @@ impl Watcher for Counter {
 
     ghost same_along = { λ _ _ _ _ _. tt };
 
-    fn see(&mut self, _number: u64, event: &Event) -> Result<(), RunError> {
+    fn see(&mut self, _heap: &Heap, _number: u64, event: &Event) -> Result<(), RunError> {
         if let Event::Comm { .. } = event {
             self.communications = self.communications.saturating_add(1);
         }
@@ -101,7 +102,7 @@ pub fn measure(
         println!(rt; "run {name}: refused")?;
         return Ok(());
     };
-    let mut machine = Machine::load(rt.alloc(), core)?;
+    let mut machine = Machine::load_core(rt.alloc(), core)?;
     let mut counter = Counter { communications: 0 };
     let start = Instant::now(rt)?;
     let end = match machine.run(fuel, &mut counter) {

@@ -11,6 +11,7 @@ use Rattle.pict_syntax.specs.declared.name.Name.{Name}
 use Rattle.pict_types.specs.Types.{PlainType, PlainTypes, no_type, types, PlainLabels, no_label, labels, PlainBounds, no_bound}
 use Rattle.pict_types.specs.Measures.{held, weigh, weigh_types, weigh_labels, rise, rise_types, rise_labels}
 use Rattle.std.specs.Result.{IsErrAnd, IsOkAnd}
+use Rattle.std.proofs.lemmas.Option.{IfSome_then}
 use Rattle.pict_types.specs.declared.limits.Measure.TheVariants.{Weight, Height}
 use Rattle.pict_types.specs.declared.limits.SizeError.{SizeError}
 use Rattle.pict_types.specs.declared.limits.SizeError.TheVariants.{TooBig}
@@ -54,14 +55,10 @@ row_step {whole = whole} {r = r} {all = all} next s m part a b left_w left_h p q
   missing = n x.missing o;
 }
 
-if_some : {T : Type 0} {P Q : T → Type 0} (o : Option T) → ((x : T) → P x → Q x) → IfSome o P → IfSome o Q
-if_some None f h = tt
-if_some (Some x) f h = f x h
-
 -- one more type in a row
 pub types_more : {r : Row Ty} {all_w all_h : ℕ} {all : PlainTypes} (ws hs : List ℕ) (u : PlainType) (us : PlainTypes) (m : Made) (s : Row Ty) → IsRow (λ xs. then_types (plain_types xs) (types u us)) r all_w (weigh_types ws (types u us)) all_h (rise_types hs (types u us)) all → IsMade ws hs m u → s.measures.weight ≡ r.measures.weight + m.measures.weight → s.measures.weight ≤ 100000 → s.measures.height ≡ max r.measures.height m.measures.height → IfSome s.items (λ v. IsGrown r.items m.ty v.items) → (IfNone r.items (1000 < r.measures.height) → IfNone m.ty (1000 < m.measures.height) → IfNone s.items (1000 < s.measures.height)) → IsRow (λ xs. then_types (plain_types xs) us) s all_w (weigh_types ws us) all_h (rise_types hs us) all
 types_more ws hs u us m s x h g light k l n =
-    row_step (λ xs. then_types (plain_types xs) us) s m.measures m.ty (weigh ws u) (rise hs u) (weigh_types ws us) (rise_types hs us) refl refl x h.weight h.height g light k l n h.missing (if_some m.ty (λ y e xs. go y e xs) h.made)
+    row_step (λ xs. then_types (plain_types xs) us) s m.measures m.ty (weigh ws u) (rise hs u) (weigh_types ws us) (rise_types hs us) refl refl x h.weight h.height g light k l n h.missing (IfSome_then m.ty h.made (λ y e xs. go y e xs))
   where
     go : (y : Ty) → plain y ≡ u → (xs : List Ty) → then_types (plain_types (xs ++ y ∷ [])) us ≡ then_types (plain_types xs) (types u us)
     go y e xs = types_push xs y us ∙ ap (λ t. then_types (plain_types xs) (types t us)) e
@@ -109,10 +106,6 @@ passed_on P (Err y) e is p = subst P (sym is) p
 pub passed_reason : {T : Type 0} (r : Result T MakeError) (e : MakeError) (v w : ℕ) → IsErrAnd r (λ y. y ≡ e) → (100000 < v → 100000 < w) → IsReason v e → IfErr r (λ y. IsReason w y)
 passed_reason r e v w is f h = passed_on (IsReason w) r e is (reason_by v w e f h)
 
-pub ok_also : {T E : Type 0} {P Q R : T → Type 0} (r : Result T E) → ((x : T) → P x → Q x → R x) → IfOk r P → IfOk r Q → IfOk r R
-ok_also (Ok x) f p q = f x p q
-ok_also (Err e) f p q = tt
-
 pub ok_both : {T E : Type 0} {P Q : T → Type 0} {R : Type 0} (r : Result T E) → ((x : T) → P x → Q x → R) → IfOk r P → IsOkAnd r Q → R
 ok_both (Ok x) f p q = f x p q
 ok_both (Err e) f p q = absurd q
@@ -148,7 +141,7 @@ row_whole {r = r} next e x = record {
   height = x.height;
   light = x.light;
   height_fits = x.height_fits;
-  made = if_some r.items (λ v i. e v.items ∙ i) x.made;
+  made = IfSome_then r.items x.made (λ v i. e v.items ∙ i);
   missing = x.missing;
 }
 

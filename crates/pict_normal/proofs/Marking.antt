@@ -1,16 +1,13 @@
 -- Marks of the parameters of an operator, one part of its body after another.
-use Rattle.std.proofs.Common.{◌≡◌, ℕ, ◌<◌, List, length, get_or, Bool, true, false, refl, sym, ◌∙◌, ap, subst}
+use Rattle.std.proofs.Common.{◌≡◌, ℕ, ◌<◌, List, length, get_or, Bool, false, sym, ◌∙◌, ap, subst}
 use Rattle.std.specs.Prelude.{◌||◌}
+use Rattle.pict_syntax.proofs.ListLemmas.{or_assoc}
 use Rattle.pict_normal.specs.Uses.{AreMarked}
 
 -- the parameters that are marked, and those of what is left, are those that were and those of the whole
 pub record MarkedSoFar (all rest : ℕ → Bool) (before now : List Bool) : Type 0 where
   pub length_ : length now ≡ length before
   pub each : (i : ℕ) → i < length before → (get_or now i false || rest i) ≡ (get_or before i false || all i)
-
-or_assoc : (a b c : Bool) → ((a || b) || c) ≡ (a || (b || c))
-or_assoc true b c = refl
-or_assoc false b c = refl
 
 -- three parts
 pub marked_three : {a b c d : List Bool} {f g h : ℕ → Bool} (all : ℕ → Bool) → ((i : ℕ) → all i ≡ (f i || (g i || h i))) → length b ≡ length a → length c ≡ length b → AreMarked f a b → AreMarked g b c → AreMarked h c d → AreMarked all a d

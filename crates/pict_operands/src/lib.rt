@@ -8,7 +8,7 @@ mod pending;
 mod records;
 
 pub use binding::bind;
-pub use needs::need;
-pub use operands::word_of;
+pub use needs::{both, need, need_of_all};
+pub use operands::{pile_words, word_at, word_at_hand, word_of};
 pub use pending::Pending;
 pub use records::{frame_record, read_record};

@@ -31,7 +31,10 @@ pub fn need(operand: &Operand) -> Result<Need, AllocError>
                 texts: 0,
                 bytes: 0,
             };
-            both(own, both(needs(positional)?, needs_labelled(labelled)?)?)
+            both(
+                own,
+                both(need_of_all(positional)?, needs_labelled(labelled)?)?,
+            )
         }
         _ => Ok(Need {
             records: 0,
@@ -42,8 +45,9 @@ pub fn need(operand: &Operand) -> Result<Need, AllocError>
     }
 }
 
+/// What making the words of these operands adds to a heap. A number past 64 bits is want of memory.
 #[cycle(need)]
-fn needs(operands: &[Operand]) -> Result<Need, AllocError>
+pub fn need_of_all(operands: &[Operand]) -> Result<Need, AllocError>
     ensures { IfOk result (λ n. n ≡ needs_of (vals_of (map plain_val operands.now))) }
 {
     let mut sum = Need {
@@ -74,7 +78,8 @@ fn needs_labelled(operands: &[(Name, Operand)]) -> Result<Need, AllocError>
     Ok(sum)
 }
 
-fn both(a: Need, b: Need) -> Result<Need, AllocError>
+/// What two things need together. A number past 64 bits is want of memory.
+pub fn both(a: Need, b: Need) -> Result<Need, AllocError>
     ensures { IfOk result (λ n. n ≡ both_needs a b) }
 {
     Ok(Need {

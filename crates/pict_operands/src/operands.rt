@@ -1,14 +1,15 @@
 // Operands of instructions become words of a heap.
-ghost use Rattle.std.specs.Prelude.{◌≡◌, ◌+◌, ◌≤◌, ◌<◌, ◌^◌, eqb, map, length, take, drop, All};
+ghost use Rattle.std.specs.Prelude.{◌≡◌, ◌+◌, ◌≤◌, ◌<◌, ◌^◌, ◌↔◌, eqb, map, length, take, drop, All, IfSome, IsNone};
 ghost use Rattle.std.specs.List.{IsDistinct};
 ghost use Rattle.std.specs.Vec.{vec_capacity};
 ghost use Rattle.pict_core.specs.Closed.{IsOver, AreOver, LabelledOver};
 ghost use Rattle.pict_core.specs.Plain.{plain_val, plain_field, vals_of, labelled_of};
-ghost use Rattle.pict_heap.specs.HeapState.{value_of, IsWord, KeepsWords, UsesRoom, record_of};
+ghost use Rattle.pict_heap.specs.HeapState.{HeapState, value_of, IsWord, KeepsWords, UsesRoom, record_of};
 ghost use Rattle.pict_heap.specs.Packed.{packed, FitsWord};
 ghost use Rattle.pict_heap.specs.declared.word.Word.{Word as AnyWord};
 ghost use Rattle.pict_prim.specs.Acts.{UsesNeed};
 ghost use Rattle.pict_blocks.specs.Blocks.{known, operand_value};
+ghost use Rattle.pict_operands.specs.AtHand.{IsWordFor, IsOfHeap};
 ghost use Rattle.pict_operands.specs.Pairs.{ArePairs};
 ghost use Rattle.pict_operands.specs.Needs.{need_of, needs_of, needs_of_labelled, fields_need, both_needs, HasRoomFor, IsMade, KeepsPending, PilesWords, PilesLabelled};
 
@@ -18,15 +19,34 @@ use pict_core::CoreVal;
 use pict_heap::{Heap, Word, unpack};
 use pict_syntax::Name;
 
-// The word that is packed to this pair.
+/// The word that is packed to this pair. Takes no memory.
 #[inline]
-pub(crate) fn word_at(pair: (u64, u64)) -> Word
+pub fn word_at(pair: (u64, u64)) -> Word
     requires { (w : AnyWord) × FitsWord w × (packed w ≡ pair) }
     ensures { (w : AnyWord) → FitsWord w → packed w ≡ pair → result ≡ w }
 {
     match unpack(pair.0, pair.1) {
         Some(word) => word,
         None => unreachable!(),
+    }
+}
+
+/// The word of an operand that takes nothing of a heap, that of a level or of a constant, or None exactly where the operand is a
+/// text or a record. Each variable has the two words of its level among `values`. Takes no memory.
+pub fn word_at_hand(operand: &Operand, values: &[(u64, u64)]) -> Option<Word>
+    requires over { IsOver (length values.now) 0 (plain_val operand.now) }
+    requires pairs { (h : HeapState) × ArePairs h values.now }
+    ensures word { (h : HeapState) → ArePairs h values.now → IfSome result (IsWordFor h (operand_value (known h values.now) (plain_val operand.now))) }
+    ensures none { IsNone result ↔ IsOfHeap (plain_val operand.now) }
+{
+    match operand {
+        CoreVal::Var(level) => Some(word_at(values[*level as usize])),
+        CoreVal::Chan(number) => Some(Word::Chan(*number)),
+        CoreVal::Int(n) => Some(Word::Int(*n)),
+        CoreVal::Char(byte) => Some(Word::Char(*byte)),
+        CoreVal::Bool(b) => Some(Word::Bool(*b)),
+        CoreVal::Prim(p) => Some(Word::Prim(*p)),
+        _ => None,
     }
 }
 
@@ -93,9 +113,15 @@ fn close_record(heap: &mut Heap, pending: &mut Pending, words: usize, labels: us
     made
 }
 
-// Lays the words of these operands on the pile of words.
+/// Lays the words of these operands, in order, on the pile of words; of each as `word_of` says. Takes no memory. What the
+/// operands need of the heap and of the piles, and places on the piles for themselves, was reserved before.
 #[cycle(word_of)]
-fn pile_words(heap: &mut Heap, pending: &mut Pending, operands: &[Operand], values: &[(u64, u64)])
+pub fn pile_words(
+    heap: &mut Heap,
+    pending: &mut Pending,
+    operands: &[Operand],
+    values: &[(u64, u64)],
+)
     requires over { AreOver (length values.now) 0 (vals_of (map plain_val operands.now)) }
     requires pairs { ArePairs heap.old values.now }
     requires room { HasRoomFor heap.old pending.old (both_needs (fields_need (length operands.now)) (needs_of (vals_of (map plain_val operands.now)))) }

@@ -4,12 +4,17 @@ ghost use Rattle.std.specs.Prelude.{◌≤◌, ◌<◌, ℕ, IfSome};
 ghost use Rattle.pict_core.specs.Plain.{plain_core};
 ghost use Rattle.pict_core.specs.Closed.{IsClosed};
 ghost use Rattle.pict_view.specs.Right.{RunsRight};
+ghost use Rattle.pict_engine.specs.Events.{IsEventOf};
 
-use pict_core::{Core, CoreVal};
+use itoa::Buffer;
+use pict_core::Core;
+use pict_engine::{End, Event, Machine, RunError, Stopped, Watcher};
 use pict_front::front;
-use pict_machine::{End, Event, Machine, RunError, Stopped, Watcher};
+use pict_heap::Heap;
 use pict_reference::{Label, Reference, StepOutcome};
-use pict_syntax::{FUEL_LIMIT, Span, TEXT_LIMIT};
+use pict_show::write_value;
+use pict_syntax::{FUEL_LIMIT, Names, Span, TEXT_LIMIT};
+use pict_values::{printed, write_word};
 use std::alloc::{AllocError, Global};
 use std::process::Abort;
 
@@ -31,9 +36,12 @@ pub fn accepted(alloc: Global, text: &[u8]) -> Option<Core>
 
 // ---- a watcher that writes lines
 
+/// What steps show, a line each: its number, and the channel and the value, whose labels stand without their names, or
+/// what is printed.
 #[derive(Drop)]
 struct Notes {
     text: Vec<u8>,
+    names: Names,
     alloc: Global,
 }
 
@@ -54,8 +62,8 @@ impl Watcher for Notes {
 
     ghost same_along = { λ _ _ _ _ _. tt };
 
-    fn see(&mut self, number: u64, event: &Event) -> Result<(), RunError> {
-        match self.line(number, event) {
+    fn see(&mut self, heap: &Heap, number: u64, event: &Event) -> Result<(), RunError> {
+        match self.event(heap, number, event) {
             Ok(()) => Ok(()),
             Err(_) => Err(RunError::Memory),
         }
@@ -66,50 +74,48 @@ impl Notes {
     fn new(alloc: Global) -> Notes {
         Notes {
             text: Vec::new(alloc),
+            names: Names::new(alloc),
             alloc,
         }
-    }
-
-    fn line(&mut self, number: u64, event: &Event) -> Result<(), AllocError> {
-        self.text(format!(in self.alloc; "{number}")?.as_bytes())?;
-        match event {
-            Event::Comm { channel, value } => {
-                self.text(format!(in self.alloc; " c{channel} ")?.as_bytes())?;
-                self.value(value)?;
-            }
-            Event::Print(bytes) => {
-                self.text(b" print ")?;
-                self.text(bytes.slice())?;
-            }
-            _ => {}
-        }
-        self.text(b"\n")
     }
 
     fn text(&mut self, bytes: &[u8]) -> Result<(), AllocError> {
         self.text.extend_from_slice(bytes)
     }
 
-    // Channels, numbers and texts, and records of them, whose labels stand as numbers.
-    #[cycle(write_value)]
-    fn value(&mut self, value: &CoreVal) -> Result<(), AllocError> {
-        match value {
-            CoreVal::Chan(c) => self.text(format!(in self.alloc; "c{c}")?.as_bytes()),
-            CoreVal::Int(n) => self.text(format!(in self.alloc; "{n}")?.as_bytes()),
-            CoreVal::Text(bytes) => self.text(bytes.slice()),
-            CoreVal::Fields { positional, .. } => self.fields(positional),
-            _ => self.text(b"?"),
+    /// The line of what a step of the machine shows.
+    fn event(&mut self, heap: &Heap, number: u64, event: &Event) -> Result<(), AllocError>
+        requires { IsEventOf heap.now event.now }
+    {
+        match event {
+            Event::Comm { channel, value } => {
+                self.text(format!(in self.alloc; "{number} c{channel} ")?.as_bytes())?;
+                write_word(self.alloc, &mut self.text, &self.names, heap, *value)?;
+            }
+            Event::Print(word) => {
+                let mut digits = Buffer::new();
+                self.text(format!(in self.alloc; "{number} print ")?.as_bytes())?;
+                self.text(printed(heap, *word, &mut digits))?;
+            }
+            _ => return Ok(()),
         }
+        self.text(b"\n")
     }
 
-    #[cycle(write_value)]
-    fn fields(&mut self, values: &[CoreVal]) -> Result<(), AllocError> {
-        self.text(b"[")?;
-        for value in values {
-            self.value(value)?;
-            self.text(b",")?;
+    /// The line of a label of the definition.
+    fn label(&mut self, number: u64, label: &Label) -> Result<(), AllocError> {
+        match label {
+            Label::Comm(channel, value) => {
+                self.text(format!(in self.alloc; "{number} c{channel} ")?.as_bytes())?;
+                write_value(self.alloc, &mut self.text, &self.names, value)?;
+            }
+            Label::Print(bytes) => {
+                self.text(format!(in self.alloc; "{number} print ")?.as_bytes())?;
+                self.text(bytes.slice())?;
+            }
+            Label::Quiet => return Ok(()),
         }
-        self.text(b"]")
+        self.text(b"\n")
     }
 }
 
@@ -123,7 +129,7 @@ fn ran(alloc: Global, text: &[u8], fuel: u64) -> Result<Option<(Stopped, Vec<u8>
     let Some(core) = accepted(alloc, text) else {
         return Ok(None);
     };
-    let mut machine = Machine::load(alloc, core)?;
+    let mut machine = Machine::load_core(alloc, core)?;
     let mut notes = Notes::new(alloc);
     match machine.run_counted(fuel, &mut notes) {
         Ok(stopped) => Ok(Some((stopped, notes.text))),
@@ -134,23 +140,6 @@ fn ran(alloc: Global, text: &[u8], fuel: u64) -> Result<Option<(Stopped, Vec<u8>
 /// A run that ends so after so many steps.
 fn stopped(end: End, steps: u64) -> Stopped {
     Stopped { end, steps }
-}
-
-/// What is shown of the label of a step.
-fn event_of(label: Label) -> Event {
-    match label {
-        Label::Quiet => Event::Quiet,
-        Label::Comm(channel, value) => Event::Comm { channel, value },
-        Label::Print(bytes) => Event::Print(bytes),
-    }
-}
-
-/// Writes the line of a label, unless the step is quiet.
-fn note(notes: &mut Notes, number: u64, label: Label) -> Result<(), AllocError> {
-    match event_of(label) {
-        Event::Quiet => Ok(()),
-        event => notes.line(number, &event),
-    }
 }
 
 /// The outcome of the defined step; nothing where numbers run out.
@@ -174,7 +163,7 @@ fn defined(alloc: Global, text: &[u8], fuel: u64) -> Result<Option<(Stopped, Vec
     let mut notes = Notes::new(alloc);
     for step in 0..fuel {
         match next(&mut reference)? {
-            Some(StepOutcome::Steps(label)) => note(&mut notes, step + 1, label)?,
+            Some(StepOutcome::Steps(label)) => notes.label(step + 1, &label)?,
             Some(StepOutcome::Traps(at)) => {
                 return Ok(Some((stopped(End::Trap(at), step + 1), notes.text)));
             }
@@ -368,7 +357,7 @@ fn worked_primitives(rt: HostRuntime) -> Result<(), AllocError> {
         alloc,
         call,
         16,
-        b"7 c0 c1\n13 c1 [2,c2,]\n15 c2 3\n16 print 3\n",
+        b"7 c0 c1\n13 c1 [2 c2]\n15 c2 3\n16 print 3\n",
     )
 }
 
@@ -423,7 +412,7 @@ fn one_step(rt: HostRuntime) -> Result<(), AllocError> {
     match accepted(alloc, b"run print!\"a\"") {
         None => assert!(rt; false),
         Some(core) => {
-            let mut machine = Machine::load(alloc, core)?;
+            let mut machine = Machine::load_core(alloc, core)?;
             let ready = machine.ready();
             assert!(rt; ready);
             if ready {

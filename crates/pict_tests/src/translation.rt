@@ -1,13 +1,16 @@
 // Program texts and their core processes, written out.
 
 use crate::steps::{accepted, expect_done};
+use itoa::Buffer;
 use pict_core::{Core, CorePat, CoreVal};
 use pict_derive::{DeriveError, derive};
+use pict_engine::{End, Event, Machine, RunError, Watcher};
+use pict_heap::Heap;
 use pict_lex::lex;
-use pict_machine::{End, Event, Machine, RunError, Watcher};
 use pict_parse::parse;
 use pict_scope::resolve;
 use pict_syntax::{Name, Names, Prim};
+use pict_values::printed;
 use std::alloc::{AllocError, Global};
 use std::test::Fail;
 
@@ -458,12 +461,18 @@ impl Watcher for Printed {
 
     ghost same_along = { λ _ _ _ _ _. tt };
 
-    fn see(&mut self, _number: u64, event: &Event) -> Result<(), RunError> {
+    fn see(&mut self, heap: &Heap, _number: u64, event: &Event) -> Result<(), RunError> {
         match event {
-            Event::Print(bytes) => match self.text.extend_from_slice(bytes.slice()) {
-                Ok(()) => Ok(()),
-                Err(_) => Err(RunError::Memory),
-            },
+            Event::Print(word) => {
+                let mut digits = Buffer::new();
+                match self
+                    .text
+                    .extend_from_slice(printed(heap, *word, &mut digits))
+                {
+                    Ok(()) => Ok(()),
+                    Err(_) => Err(RunError::Memory),
+                }
+            }
             _ => Ok(()),
         }
     }
@@ -477,7 +486,7 @@ fn prints(alloc: Global, text: &[u8], wanted: &[u8]) -> Result<bool, Fail> {
     let mut printed = Printed {
         text: Vec::new(alloc),
     };
-    let mut machine = Machine::load(alloc, core)?;
+    let mut machine = Machine::load_core(alloc, core)?;
     let ends = matches!(machine.run(100_000, &mut printed), Ok(End::Done));
     Ok(ends && printed.text.as_slice() == wanted)
 }

@@ -1,7 +1,8 @@
 // The watcher that writes what the steps of a run show.
 use crate::form::Form;
 use crate::print::{print_event, write_some};
-use pict_machine::{Event, RunError, Watcher};
+use pict_engine::{Event, RunError, Watcher};
+use pict_heap::Heap;
 use pict_outside::Sink;
 use pict_syntax::Names;
 use pict_trace::line;
@@ -35,10 +36,10 @@ impl<'a, O: Sink> Watcher for Printer<'a, O> {
 
     ghost same_along = { λ p q r e f. f ∙ e };
 
-    fn see(&mut self, number: u64, event: &Event) -> Result<(), RunError> {
+    fn see(&mut self, heap: &Heap, number: u64, event: &Event) -> Result<(), RunError> {
         match self.form {
-            Form::Printed => print_event(self.out, event),
-            Form::Line => match line(self.alloc, self.names, number, event) {
+            Form::Printed => print_event(self.out, heap, event),
+            Form::Line => match line(self.alloc, self.names, heap, number, event) {
                 Err(AllocError) => Err(RunError::Memory),
                 Ok(line) => write_some(self.out, &line),
             },

@@ -1,12 +1,12 @@
 // The run of a core process of which what its steps show is written on a sink.
-ghost use Rattle.std.specs.Prelude.{◌≡◌, ◌≤◌, ◌<◌, ◌+◌, ◌^◌, IfOk, Err};
+ghost use Rattle.std.specs.Prelude.{◌≡◌, ◌≤◌, ◌<◌, ◌+◌, ◌^◌, IfOk, OnErr, Err};
 ghost use Rattle.pict_outside.specs.Counts.{Rose};
 ghost use Rattle.pict_core.specs.Configuration.{Configuration, IsConfiguration};
 ghost use Rattle.pict_core.specs.Plain.{plain_core};
 ghost use Rattle.pict_core.specs.Closed.{IsClosed};
 ghost use Rattle.pict_view.specs.View.{StandsFor};
-ghost use Rattle.pict_machine.specs.Plain.{view_of, channels_of};
-ghost use Rattle.pict_machine.specs.Plain as plain;
+ghost use Rattle.pict_engine.specs.Machine.{IsMachine, view_of, channels_of};
+ghost use Rattle.pict_engine.specs.Events as events;
 ghost use Rattle.pict_view.specs.Right.{IsRightFor, RunsRight};
 ghost use Rattle.pict_view.specs.Watching.{Ran, BrokeOff, Saw, SawOrTore};
 ghost use Rattle.pict_top.specs.Changes.{change_of, GainedFront, FailedWithin};
@@ -17,7 +17,7 @@ ghost use Rattle.pict_top.specs.Printed.{form_of, shown_in, written_after, Writt
 use crate::form::Form;
 use crate::printer::Printer;
 use pict_core::Core;
-use pict_machine::{End, Machine, RunError};
+use pict_engine::{End, Machine, RunError};
 use pict_outside::Sink;
 use pict_syntax::{FUEL_LIMIT, Names, Span};
 use std::alloc::{AllocError, Global};
@@ -63,7 +63,7 @@ pub fn run_core<O: Sink>(
         (GainedFront (change_of O.taken O.faults out.old out.new)) }
     ensures faults_stay { O.faults out.old ≤ O.faults out.new }
 {
-    let mut machine = match Machine::load(alloc, core) {
+    let mut machine = match Machine::load_core(alloc, core) {
         Ok(machine) => machine,
         Err(AllocError) => return Err(Broken::Memory),
     };
@@ -83,18 +83,16 @@ fn run_on<O: Sink>(
     fuel: u64,
     out: &mut O,
 ) -> Result<End, RunError>
+    requires kept { IsMachine machine.old }
     requires fuel { fuel ≤ FUEL_LIMIT }
     requires few { channels_of machine.old + fuel < 2 ^ 32 }
     requires right { IsRightFor (view_of machine.old) fuel }
     ensures end { IfOk result (λ end. (C : Configuration) → IsConfiguration C → StandsFor (view_of machine.old) C
-        → Ran C fuel (plain.end_of end) (view_of machine.new)
+        → Ran C fuel (events.end_of end) (view_of machine.new)
         (Saw (written_after (form_of form names.now)) (O.taken out.old) (O.taken out.new))) }
-    ensures refused { result ≡ Err RunError.Sink → (C : Configuration) → IsConfiguration C → StandsFor (view_of machine.old) C
+    ensures broken { OnErr result ((C : Configuration) → IsConfiguration C → StandsFor (view_of machine.old) C
         → BrokeOff C fuel (StandsFor (view_of machine.new))
-        (SawOrTore (written_after (form_of form names.now)) (WrittenInPart (form_of form names.now)) (O.taken out.old) (O.taken out.new)) }
-    ensures memory { result ≡ Err RunError.Memory → (C : Configuration) → IsConfiguration C → StandsFor (view_of machine.old) C
-        → BrokeOff C fuel (λ D. IsConfiguration D)
-        (SawOrTore (written_after (form_of form names.now)) (WrittenInPart (form_of form names.now)) (O.taken out.old) (O.taken out.new)) }
+        (SawOrTore (written_after (form_of form names.now)) (WrittenInPart (form_of form names.now)) (O.taken out.old) (O.taken out.new))) }
     ensures sink { result ≡ Err RunError.Sink → Rose (O.faults out.old) (O.faults out.new) }
     ensures faults_stay { O.faults out.old ≤ O.faults out.new }
 {
@@ -109,7 +107,7 @@ fn run_on<O: Sink>(
 
 /// How a run ended, as the end of a command's work.
 pub fn finish_of(end: End) -> Finish
-    ensures run { end_of result ≡ plain.end_of end }
+    ensures run { end_of result ≡ events.end_of end }
     ensures machine { machine_end result ≡ end }
 {
     match end {

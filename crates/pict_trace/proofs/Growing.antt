@@ -1,10 +1,10 @@
 -- What names become while a text is read.
-use Rattle.std.proofs.Common.{◌≡◌, ℕ, suc, ◌+◌, ◌≤◌, Bool, true, false, List, [], ◌∷◌, ◌++◌, length, refl, sym, ◌∙◌, ap, subst, append_assoc, arith, length-append, if◌then◌else◌}
-use Rattle.std.specs.List.{AllByRecursion, list_any}
-use Rattle.std.specs.Str.{bytes_eq}
+use Rattle.std.proofs.Common.{◌≡◌, ℕ, suc, ◌+◌, ◌≤◌, List, [], ◌∷◌, ◌++◌, length, refl, sym, ◌∙◌, ap, subst, append_assoc, arith, length-append}
+use Rattle.std.specs.List.{AllByRecursion}
 use Rattle.pict_syntax.specs.Names.{with_name, with_names}
 use Rattle.pict_trace.specs.Readable.{IsIdentifier, IsLabelIn, GainsLabels}
 use Rattle.pict_trace.specs.Reading.{Grows}
+use Rattle.pict_lex.proofs.LexLemmas.{one_name}
 use Rattle.pict_lex.proofs.StepLemmas.{with_names_last}
 
 pub nothing_gained : (text : List ℕ) (names : List (List ℕ)) → GainsLabels text names names
@@ -45,18 +45,11 @@ grown_on text rest rest' a b c x y =
       behind = x.behind ∙ ap (λ t. x.front ++ t) y.behind ∙ sym (append_assoc x.front y.front rest');
     }
 
-one_more : (names : List (List ℕ)) (x : List ℕ) → length (with_name names x) ≤ length names + 1
-one_more names x = by (list_any (bytes_eq x) names)
-  where
-    by : (t : Bool) → length (if t then names else names ++ x ∷ []) ≤ length names + 1
-    by true = omega arith
-    by false = let size : length (names ++ x ∷ []) ≡ length names + 1 = length-append names (x ∷ []) in omega (arith, size)
-
 -- a label is read
 pub label_grows : (text label rest : List ℕ) (names : List (List ℕ)) → text ≡ label ++ (61 ∷ rest) → IsIdentifier label → Grows text names (with_name names label) rest
 label_grows text label rest names e is =
     let size : length text ≡ length label + suc (length rest) = ap length e ∙ length-append label (61 ∷ rest) in
-    let more = one_more names label in
+    let more = one_name names label in
     record {
       left = omega (arith, size, more);
       kept = record { labels = label ∷ []; stand = (record { front = []; after = rest; stands = e; is = is }, tt); gained = refl };

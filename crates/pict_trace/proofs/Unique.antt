@@ -10,6 +10,7 @@ use Rattle.std.proofs.lemmas.Bool.{cases_Bool, false≢true}
 use Rattle.std.proofs.lemmas.Bool.Decides.{nat_tests, Decides-eqb}
 use Rattle.std.proofs.lemmas.Fmt.{decimal_is_IsNumeral, decimal_injective}
 use Rattle.std.proofs.lemmas.Str.Parse.{digit_from_value}
+use Rattle.pict_syntax.proofs.FormLemmas.{digit_no_letter}
 use Rattle.pict_syntax.specs.Names.{text_of, HasNoRepeats}
 use Rattle.pict_syntax.specs.Tokens.{IsWord, is_word_byte, Item, plain, newline, tab, backslash, double_quote, single_quote, hexadecimal, IsItem, item_value, AreItems, items_bytes}
 use Rattle.pict_syntax.specs.declared.primitive.Primitive.TheVariants as primitive
@@ -296,11 +297,8 @@ abbrev worded : List ℕ → Bool
 worded [] = true
 worded (b ∷ bs) = if is_ascii_alphabetic b then all_of is_word_byte (b ∷ bs) else true
 
-digit_letter : (b : ℕ) → IsInRange 48 57 b → is_ascii_alphabetic b ≡ false
-digit_letter b h = grind (arith, nat_tests)
-
 worded_digits : (ds : List ℕ) → IsNumeral 10 ds → worded ds ≡ true
-worded_digits ds h = let f = first_digit ds h in ap worded f.2 ∙ ap (λ t. if t then all_of is_word_byte (f.0 ∷ f.1) else true) (digit_letter f.0 f.3)
+worded_digits ds h = let f = first_digit ds h in ap worded f.2 ∙ ap (λ t. if t then all_of is_word_byte (f.0 ∷ f.1) else true) (digit_no_letter f.0 f.3)
 
 bare_worded : (names : List (List ℕ)) (v : Val) → IsBare v → IsOrderly names v → worded (value_text names v) ≡ true
 bare_worded names (Int (pos n)) b h = worded_digits (decimal n) (numeral n (omega arith))

@@ -1,18 +1,29 @@
 // The line of what a step shows.
 
 ghost use Rattle.std.specs.Prelude.{◌≡◌, IfOk};
-ghost use Rattle.pict_machine.specs.Plain.{IsShown, label_of};
+ghost use Rattle.pict_engine.specs.Events.{IsShown, IsEventOf, label_of};
 ghost use Rattle.pict_trace.specs.Lines.{line_text};
 
-use pict_machine::Event;
-use pict_show::{write_decimal, write_numbered, write_quoted, write_value};
+use itoa::Buffer;
+use pict_engine::Event;
+use pict_heap::Heap;
+use pict_show::{write_decimal, write_numbered, write_quoted};
 use pict_syntax::Names;
+use pict_values::{printed, write_word};
 use std::alloc::{AllocError, Global};
 
-/// The line of what a step shows: its number, what it shows, and a newline. The only error is want of memory.
-pub fn line(alloc: Global, names: &Names, number: u64, event: &Event) -> Result<Vec<u8>, AllocError>
+/// The line of what a step shows, whose words are those of the heap: the step's number, what it shows, and a newline. The only
+/// error is want of memory.
+pub fn line(
+    alloc: Global,
+    names: &Names,
+    heap: &Heap,
+    number: u64,
+    event: &Event,
+) -> Result<Vec<u8>, AllocError>
     requires shown { IsShown event.now }
-    ensures line { IfOk result (λ line. line.items ≡ line_text names.now number (label_of event.now)) }
+    requires event { IsEventOf heap.now event.now }
+    ensures line { IfOk result (λ line. line.items ≡ line_text names.now number (label_of heap.now event.now)) }
 {
     let mut out = Vec::new(alloc);
     write_decimal(&mut out, number)?;
@@ -21,11 +32,12 @@ pub fn line(alloc: Global, names: &Names, number: u64, event: &Event) -> Result<
         Event::Comm { channel, value } => {
             write_numbered(&mut out, b'c', *channel)?;
             out.push(b' ')?;
-            write_value(alloc, &mut out, names, value)?;
+            write_word(alloc, &mut out, names, heap, *value)?;
         }
-        Event::Print(bytes) => {
+        Event::Print(word) => {
+            let mut digits = Buffer::new();
             out.extend_from_slice(b"print ")?;
-            write_quoted(&mut out, b'"', bytes.slice())?;
+            write_quoted(&mut out, b'"', printed(heap, *word, &mut digits))?;
         }
         Event::Quiet | Event::Trapped(_) => unreachable!(),
     }

@@ -1,8 +1,13 @@
 // Lines that are worked out by hand, both ways.
+
+ghost use Rattle.std.specs.Prelude.{IfOk};
+ghost use Rattle.pict_heap.specs.HeapState.{IsWord};
+
 use crate::{TraceError, TraceLabel, line, read_lines};
 use pict_core::CoreVal;
-use pict_machine::Event;
-use pict_syntax::{Bytes, Names, Prim};
+use pict_engine::Event;
+use pict_heap::{Heap, Word};
+use pict_syntax::{Name, Names, Prim};
 use std::alloc::{AllocError, Global};
 use std::process::Abort;
 
@@ -21,8 +26,16 @@ fn refused_at(alloc: Global, text: &[u8]) -> Result<u64, AllocError> {
 
 /// The line of a printing.
 fn printing(alloc: Global, number: u64, bytes: &[u8]) -> Result<Vec<u8>, AllocError> {
-    let event = Event::Print(Bytes::copy_of(alloc, bytes)?);
-    line(alloc, &Names::new(alloc), number, &event)
+    let mut heap = Heap::new(alloc);
+    heap.reserve(0, 0, 1, bytes.len() as u64)?;
+    let text = heap.add_text(bytes);
+    line(
+        alloc,
+        &Names::new(alloc),
+        &heap,
+        number,
+        &Event::Print(text),
+    )
 }
 
 #[test]
@@ -30,19 +43,21 @@ fn lines_are_written(rt: HostRuntime) -> Result<(), AllocError> {
     let a = rt.alloc();
     let mut names = Names::new(a);
     let label = names.intern(b"a")?;
-    let mut positional = Vec::new(a);
-    positional.push(CoreVal::Int(-2))?;
-    positional.push(CoreVal::Prim(Prim::Join))?;
-    let mut labelled = Vec::new(a);
-    labelled.push((label, CoreVal::Char(39)))?;
-    let event = Event::Comm {
-        channel: 1,
-        value: CoreVal::Fields {
-            positional,
-            labelled,
-        },
-    };
-    assert!(rt; line(a, &names, 13, &event)?.as_slice() == b"13 c1 [-2 +$ a='\\'']\n".as_slice());
+    let mut heap = Heap::new(a);
+    heap.reserve(2, 6, 1, 1)?;
+    let text = heap.add_text(b"t");
+    let inner = heap.add_record(&[Word::Bool(true), text], &[]);
+    let value = heap.add_record(
+        &[Word::Int(-2), Word::Prim(Prim::Join), inner],
+        &[(label, Word::Char(39))],
+    );
+    let event = Event::Comm { channel: 1, value };
+    assert!(rt;
+        line(a, &names, &heap, 13, &event)?.as_slice()
+            == b"13 c1 [-2 +$ [true \"t\"] a='\\'']\n".as_slice()
+    );
+    let number = Event::Print(Word::Int(-30));
+    assert!(rt; line(a, &names, &heap, 7, &number)?.as_slice() == b"7 print \"-30\"\n".as_slice());
     assert!(rt; printing(a, 7, b"")?.as_slice() == b"7 print \"\"\n".as_slice());
     assert!(rt;
         printing(a, 7, b"~\x00\t\n\"'\\\xfe")?.as_slice()
@@ -93,44 +108,32 @@ fn other_lines_are_refused(rt: HostRuntime) -> Result<(), AllocError> {
     Ok(())
 }
 
-/// The value that an event shows.
-fn value_of(event: Event) -> Option<CoreVal> {
-    match event {
-        Event::Comm { value, .. } => Some(value),
-        _ => None,
-    }
+/// A record whose one field is this word.
+fn around(heap: &mut Heap, word: Word) -> Result<Word, AllocError>
+    requires { IsWord heap.old word }
+    ensures { IfOk result (IsWord heap.new) }
+{
+    heap.reserve(1, 1, 0, 0)?;
+    Ok(heap.add_record(&[word], &[]))
 }
 
-/// Takes apart a value that nests deep.
-fn take_apart(value: CoreVal) {
-    let mut value = value;
-    for _ in 0..1_000_001 {
-        match value {
-            CoreVal::Fields { mut positional, .. } => match positional.pop() {
-                Some(inner) => value = inner,
-                None => return,
-            },
-            _ => return,
-        }
+/// So many records, each the one field of the next.
+fn nested(heap: &mut Heap, depth: u32) -> Result<Word, AllocError>
+    ensures { IfOk result (IsWord heap.new) }
+{
+    let mut value = Word::Int(1);
+    for _ in 0..depth {
+        value = around(heap, value)?;
     }
+    Ok(value)
 }
 
 #[test]
 fn a_value_of_any_depth_is_written(rt: HostRuntime) -> Result<(), AllocError> {
     let a = rt.alloc();
-    let mut value = CoreVal::Int(1);
-    for _ in 0..1_000_000 {
-        let mut positional = Vec::new(a);
-        positional.push(value)?;
-        value = CoreVal::Fields {
-            positional,
-            labelled: Vec::new(a),
-        };
-    }
+    let mut heap = Heap::new(a);
+    let value = nested(&mut heap, 1_000_000)?;
     let event = Event::Comm { channel: 0, value };
-    assert_eq!(rt; line(a, &Names::new(a), 7, &event)?.len(), 2_000_007);
-    if let Some(value) = value_of(event) {
-        take_apart(value);
-    }
+    assert_eq!(rt; line(a, &Names::new(a), &heap, 7, &event)?.len(), 2_000_007);
     Ok(())
 }

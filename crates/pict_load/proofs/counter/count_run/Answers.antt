@@ -6,4 +6,4 @@ use Rattle.pict_load.proofs.counter.count_run.Goals as goal
 pub returns : goal.returns
 returns c =
     is_counted (plain_core c.args.core) c.args.fuel _ _
-    (c.in-Ok.ensures.end (opening (plain_core c.args.core)) (c.in_ok-machine.ensures.is c.requires.closed) c.in_ok-machine.ensures.stands)
+    (c.in-Ok.ensures.end (opening (plain_core c.args.core)) c.in_ok-machine.ensures.is c.in_ok-machine.ensures.stands)

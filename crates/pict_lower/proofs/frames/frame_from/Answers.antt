@@ -2,7 +2,8 @@ use Rattle.std.proofs.Common.{◌≡◌, ◌||◌, ◌==◌, length, arith, ap, 
 use Rattle.std.specs.Vec.{vec_len}
 use Rattle.pict_core.specs.Plain.{plain_core}
 use Rattle.pict_code.specs.Levels.{has, Rises}
-use Rattle.pict_lower.proofs.Framing.{frame_at_rises, without_operands, with_operands, both_ok}
+use Rattle.pict_lower.proofs.Framing.{frame_at_rises, without_operands, with_operands}
+use Rattle.pict_syntax.proofs.ListLemmas.{both_ok}
 use Rattle.pict_lower.proofs.frames.frame_from.Goals as goal
 
 pub below-requires : goal.below-requires

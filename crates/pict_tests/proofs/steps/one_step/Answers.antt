@@ -4,4 +4,4 @@ use Rattle.pict_tests.proofs.steps.one_step.Goals as goal
 
 pub step-requires-clause-right : goal.step-requires-clause-right
 step-requires-clause-right g c =
-    record { configuration = opening (plain_core c.in-Some.core); is = c.in_ok-machine-in-Some.ensures.is c.in-Some.ensures.closed; stands = c.in_ok-machine-in-Some.ensures.stands; right = c.in-Some.ensures.right 1 }
+    record { configuration = opening (plain_core c.in-Some.core); is = c.in_ok-machine-in-Some.ensures.is; stands = c.in_ok-machine-in-Some.ensures.stands; right = c.in-Some.ensures.right 1 }

@@ -4,4 +4,4 @@ use Rattle.pict_tests.proofs.steps.ran.Goals as goal
 
 pub run_counted-requires-clause-right : goal.run_counted-requires-clause-right
 run_counted-requires-clause-right c =
-    record { configuration = opening (plain_core c.in-Some.core); is = c.in_ok-machine.ensures.is c.in-Some.ensures.closed; stands = c.in_ok-machine.ensures.stands; right = c.in-Some.ensures.right c.args.fuel }
+    record { configuration = opening (plain_core c.in-Some.core); is = c.in_ok-machine.ensures.is; stands = c.in_ok-machine.ensures.stands; right = c.in-Some.ensures.right c.args.fuel }

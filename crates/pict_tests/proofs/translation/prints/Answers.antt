@@ -4,4 +4,4 @@ use Rattle.pict_tests.proofs.translation.prints.Goals as goal
 
 pub run-requires-clause-right : goal.run-requires-clause-right
 run-requires-clause-right c =
-    record { configuration = opening (plain_core c.in-Some.core); is = c.in_ok-machine.ensures.is c.in-Some.ensures.closed; stands = c.in_ok-machine.ensures.stands; right = c.in-Some.ensures.right 100000 }
+    record { configuration = opening (plain_core c.in-Some.core); is = c.in_ok-machine.ensures.is; stands = c.in_ok-machine.ensures.stands; right = c.in-Some.ensures.right 100000 }

@@ -1,0 +1,5 @@
+pub mod Keeping
+pub mod Stepping
+pub mod Hand
+pub mod Reckoning
+pub mod Outputs

@@ -1,0 +1,18 @@
+use Rattle.std.proofs.Common.{IsSome, subst}
+use Rattle.pict_core.specs.Primitives.{effect_of}
+use Rattle.pict_core.specs.Term.{Val}
+use Rattle.pict_calls.specs.Calling.{CallsOn}
+use Rattle.pict_calls.proofs.Reckoning.{labels_of, made_argument}
+use Rattle.pict_calls.proofs.operands.call_made.Goals as goal
+
+pub call_fields-requires-clause-takes : goal.call_fields-requires-clause-takes
+call_fields-requires-clause-takes c =
+    let s = c.args.store.now in
+    let is = made_argument s.heap s.values.items c.args.message.now c.in-Fields.positional c.in-Fields.labelled c.deref.result.now c.in-Fields.is c.deref.ensures.value in
+    (labels_of s.heap s.values.items c.in-Fields.labelled.items, subst (λ v. IsSome (effect_of c.args.p v)) is c.requires.takes)
+
+pub returns-in-Fields-clause-done : goal.returns-in-Fields-clause-done
+returns-in-Fields-clause-done c core on =
+    let s = c.args.store.now in
+    let is = made_argument s.heap s.values.items c.args.message.now c.in-Fields.positional c.in-Fields.labelled c.deref.result.now c.in-Fields.is c.deref.ensures.value in
+    c.call_fields.ensures.done core (labels_of s.heap s.values.items c.in-Fields.labelled.items) (subst (λ (v : Val). CallsOn core s c.args.block c.args.p v c.args.at) is on)

@@ -1,0 +1,164 @@
+// A primitive acts on the fields of an operand. The record itself is not made.
+ghost use Rattle.std.specs.Prelude.{◌≡◌, ◌≤◌, length, map, IfOk, IfSome, OnOk, OnErr, IsSome, Some};
+ghost use Rattle.pict_region.specs.RegionState.{spare};
+ghost use Rattle.pict_core.specs.Closed.{AreOver};
+ghost use Rattle.pict_core.specs.Plain.{plain_val, vals_of};
+ghost use Rattle.pict_core.specs.Primitives.{effect_of};
+ghost use Rattle.pict_core.specs.Term.{Process, Labelled};
+ghost use Rattle.pict_heap.specs.HeapState.{HeapState, KeepsWords};
+ghost use Rattle.pict_prim.specs.Acts.{effect_act, IsActOf, UsesNeed};
+ghost use Rattle.pict_queue.specs.QueuesState.{IsQueue, IsHeld, CostsAtMost};
+ghost use Rattle.pict_operands.specs.Needs.{fields_need, needs_of, both_needs, HasRoomFor, KeepsPending};
+ghost use Rattle.pict_operands.specs.Pairs.{ArePairs};
+ghost use Rattle.pict_turns.specs.Acting.{HasActing, IsRefused};
+ghost use Rattle.pict_turns.specs.Reserving.{OnlyReserves, KeepsPiles};
+ghost use Rattle.pict_calls.specs.Calling.{CallsOn, IsCalled};
+ghost use Rattle.pict_calls.specs.Arguments.{argument_of, AreWordsFor, HasRoomForCall};
+
+use crate::called::Called;
+use crate::calling::{act_of, call_words};
+use crate::effects::{answer_len, divides_by_zero};
+use crate::finishing::finish;
+use pict_code::Operand;
+use pict_heap::Word;
+use pict_operands::{both, need_of_all, pile_words, word_at_hand};
+use pict_prim::{Act, Need};
+use pict_queue::QueueId;
+use pict_region::Block;
+use pict_syntax::{Prim, Span};
+use pict_turns::{Store, reserve_kept};
+use std::alloc::AllocError;
+
+// Makes room for the words of the fields, for what the primitive adds, and for the output of the answer. An error, which is
+// want of memory, changes nothing but room and spare blocks.
+fn make_call_room(store: &mut Store, p: Prim, fields: &[Operand]) -> Result<(), AllocError>
+    requires over { AreOver (length store.old.values.items) 0 (vals_of (map plain_val fields.now)) }
+    requires pairs { ArePairs store.old.heap store.old.values.items }
+    ensures room { OnOk result (HasRoomForCall store.old store.new p fields.now) }
+    ensures spare { OnOk result (1 ≤ spare store.new.queues.region 9) }
+    ensures rest { OnlyReserves store.old store.new }
+{
+    let answered = answer_len(&store.heap, p, fields, &store.values);
+    let own = Need {
+        records: 1,
+        fields: fields.len() as u64,
+        texts: 1,
+        bytes: answered.max(20),
+    };
+    let need = both(own, need_of_all(fields)?)?;
+    reserve_kept(store, need)?;
+    Ok(())
+}
+
+// Makes the words of the fields, and says what the primitive is about to do with them. Takes no memory.
+fn decide(store: &mut Store, p: Prim, fields: &[Operand]) -> Act
+    requires over { AreOver (length store.old.values.items) 0 (vals_of (map plain_val fields.now)) }
+    requires pairs { ArePairs store.old.heap store.old.values.items }
+    requires room { HasRoomFor store.old.heap store.old.pending
+        (both_needs (fields_need (length fields.now)) (needs_of (vals_of (map plain_val fields.now)))) }
+    requires takes { (labelled : Labelled) × IsSome (effect_of p (argument_of store.old.heap store.old.values.items fields.now labelled)) }
+    ensures effect { (labelled : Labelled) → effect_of p (argument_of store.old.heap store.old.values.items fields.now labelled) ≡ Some (effect_act store.new.heap result) }
+    ensures act { IsActOf store.new.heap result }
+    ensures keeps { KeepsWords store.old.heap store.new.heap }
+    ensures used { UsesNeed store.old.heap.room store.new.heap.room (needs_of (vals_of (map plain_val fields.now))) }
+    ensures pending { KeepsPending store.old.pending store.new.pending }
+    ensures queues { store.new.queues ≡ store.old.queues }
+    ensures values { store.new.values ≡ store.old.values }
+{
+    let start = store.pending.words.len();
+    pile_words(&mut store.heap, &mut store.pending, fields, &store.values);
+    let act = act_of(&store.heap, p, &store.pending.words[start..]);
+    store.pending.words.truncate(start);
+    act
+}
+
+// The words of two fields that are at hand.
+fn two_at_hand(fields: &[Operand], values: &[(u64, u64)]) -> Option<[Word; 2]>
+    requires over { AreOver (length values.now) 0 (vals_of (map plain_val fields.now)) }
+    requires pairs { (h : HeapState) × ArePairs h values.now }
+    ensures { (h : HeapState) → ArePairs h values.now → IfSome result (AreWordsFor h values.now fields.now) }
+{
+    if fields.len() != 2 {
+        return None;
+    }
+    let v = word_at_hand(&fields[0], values)?;
+    let k = word_at_hand(&fields[1], values)?;
+    Some([v, k])
+}
+
+// The words of three fields that are at hand.
+fn three_at_hand(fields: &[Operand], values: &[(u64, u64)]) -> Option<[Word; 3]>
+    requires over { AreOver (length values.now) 0 (vals_of (map plain_val fields.now)) }
+    requires pairs { (h : HeapState) × ArePairs h values.now }
+    ensures { (h : HeapState) → ArePairs h values.now → IfSome result (AreWordsFor h values.now fields.now) }
+{
+    if fields.len() != 3 {
+        return None;
+    }
+    let v = word_at_hand(&fields[0], values)?;
+    let w = word_at_hand(&fields[1], values)?;
+    let k = word_at_hand(&fields[2], values)?;
+    Some([v, w, k])
+}
+
+// The same as `call_fields`, where words of the fields are made in the heap.
+fn call_making(
+    store: &mut Store,
+    block: Block,
+    p: Prim,
+    fields: &[Operand],
+    at: Span,
+) -> Result<Called, AllocError>
+    requires queue { IsQueue store.old.queues 0 }
+    requires held { IsHeld store.old.queues block }
+    requires over { AreOver (length store.old.values.items) 0 (vals_of (map plain_val fields.now)) }
+    requires pairs { ArePairs store.old.heap store.old.values.items }
+    requires takes { (labelled : Labelled) × IsSome (effect_of p (argument_of store.old.heap store.old.values.items fields.now labelled)) }
+    ensures done { (core : Process) (labelled : Labelled) → CallsOn core store.old block p (argument_of store.old.heap store.old.values.items fields.now labelled) at → IfOk result (IsCalled core store.old store.new block) }
+    ensures refused { (core : Process) → HasActing core store.old block → OnErr result (IsRefused core store.old store.new block) }
+    ensures piles { KeepsPiles store.old.pending store.new.pending }
+    ensures cost { CostsAtMost 11 store.old.queues store.new.queues }
+{
+    if divides_by_zero(p, fields, &store.values) {
+        store.queues.push_front(QueueId(0), block);
+        return Ok(Called::Trapped(at));
+    }
+    match make_call_room(store, p, fields) {
+        Ok(()) => {
+            let act = decide(store, p, fields);
+            Ok(finish(store, block, act, at))
+        }
+        Err(error) => {
+            store.queues.push_front(QueueId(0), block);
+            Err(error)
+        }
+    }
+}
+
+/// The held block, which acts, is the output of a record with these fields and any labels to the primitive, at this place in the
+/// text: the primitive acts, as `call` says. The record is not made.
+pub(crate) fn call_fields(
+    store: &mut Store,
+    block: Block,
+    p: Prim,
+    fields: &[Operand],
+    at: Span,
+) -> Result<Called, AllocError>
+    requires queue { IsQueue store.old.queues 0 }
+    requires held { IsHeld store.old.queues block }
+    requires over { AreOver (length store.old.values.items) 0 (vals_of (map plain_val fields.now)) }
+    requires pairs { ArePairs store.old.heap store.old.values.items }
+    requires takes { (labelled : Labelled) × IsSome (effect_of p (argument_of store.old.heap store.old.values.items fields.now labelled)) }
+    ensures done { (core : Process) (labelled : Labelled) → CallsOn core store.old block p (argument_of store.old.heap store.old.values.items fields.now labelled) at → IfOk result (IsCalled core store.old store.new block) }
+    ensures refused { (core : Process) → HasActing core store.old block → OnErr result (IsRefused core store.old store.new block) }
+    ensures piles { KeepsPiles store.old.pending store.new.pending }
+    ensures cost { CostsAtMost 11 store.old.queues store.new.queues }
+{
+    if let Some(words) = three_at_hand(fields, &store.values) {
+        return call_words(store, block, p, &words, at);
+    }
+    if let Some(words) = two_at_hand(fields, &store.values) {
+        return call_words(store, block, p, &words, at);
+    }
+    call_making(store, block, p, fields, at)
+}

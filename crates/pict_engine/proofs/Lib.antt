@@ -1,0 +1,13 @@
+pub mod Counting
+pub mod Opening
+pub mod Codes
+pub mod Passing
+pub mod Channels
+pub mod Growing
+pub mod Serving
+pub mod Working
+pub mod Called
+pub mod KeptOutputs
+pub mod Taking
+pub mod Steps
+pub mod Running

@@ -1,0 +1,19 @@
+//! The machine in blocks: it runs the code of closed core processes step by step, the oldest ready process first.
+#![tactic(auto)]
+
+mod acting;
+mod event;
+mod laws;
+mod levels;
+mod loading;
+mod machine;
+mod outputs;
+mod receiving;
+mod run;
+mod sending;
+mod stepping;
+
+pub use event::{End, Event, RunError, Stopped};
+pub use laws::law_closed_processes_have_codes;
+pub use machine::Machine;
+pub use run::Watcher;

@@ -1,0 +1,64 @@
+-- A step that isn't wrong: its channel is there, and the pattern fits the message.
+use Rattle.std.proofs.Common.{ℕ, zero, suc, ◌<◌, ◌≤◌, ◌≡◌, ◌≢◌, Bool, List, [], ◌∷◌, length, map, refl, ap, ◌∙◌, arith, ⊎_elim, Option, Some, None}
+use Rattle.std.proofs.lemmas.Bool.{cases_lt}
+use Rattle.std.specs.List.{slice_get, slice_set}
+use Rattle.std.specs.Option.{IsSome}
+use Rattle.pict_syntax.specs.declared.span.Span.{Span}
+use Rattle.pict_core.specs.Matching.{match_value}
+use Rattle.pict_core.specs.Term.{Val, Pat, Process, Chan, Out, In}
+use Rattle.pict_view.specs.Moved.{Misshapen}
+use Rattle.pict_view.specs.ViewStep as view
+use Rattle.pict_view.specs.ViewStep.{next_view}
+
+module _ (f : List ℕ → Process) where
+  list_at : (xs : List (List (List ℕ))) (c : ℕ) (x : List (List ℕ)) → slice_get xs c ≡ Some x → slice_get (map (map f) xs) c ≡ Some (map f x)
+  list_at [] c x e = cc
+  list_at (y ∷ ys) zero x e = let h : y ≡ x = cc in ap (λ z. Some (map f z)) h
+  list_at (y ∷ ys) (suc c) x e = list_at ys c x e
+
+  none_at : (xs : List (List (List ℕ))) (c : ℕ) → length xs ≤ c → slice_get (map (map f) xs) c ≡ None
+  none_at [] c h = refl
+  none_at (y ∷ ys) zero h = absurd (omega arith)
+  none_at (y ∷ ys) (suc c) h = none_at ys c (omega arith)
+
+  module _ (acting : List ℕ) (rest : List (List ℕ)) (channels : List (List (List ℕ)))
+      (right : next_view (record { ready = map f (acting ∷ rest); channels = map (map f) channels }) ≢ Misshapen) where
+    pub output_there : (c : ℕ) (v : Val) (at : Span) → f acting ≡ Out (Chan c) v at → c < length channels
+    output_there c v at is = ⊎_elim
+        (λ (low : c < length channels). low)
+        (λ (high : length channels ≤ c). absurd (right (
+        ap (view.act (map f rest) (map (map f) channels)) is
+        ∙ ap (view.at_list (view.offer (map f rest) (map (map f) channels) c v (Out (Chan c) v at))) (none_at channels c high))))
+        (cases_lt c (length channels))
+
+    pub input_there : (c : ℕ) (b : Bool) (pattern : Pat) (body : Process) → f acting ≡ In (Chan c) b pattern body → c < length channels
+    input_there c b pattern body is = ⊎_elim
+        (λ (low : c < length channels). low)
+        (λ (high : length channels ≤ c). absurd (right (
+        ap (view.act (map f rest) (map (map f) channels)) is
+        ∙ ap (view.at_list (view.ask (map f rest) (map (map f) channels) c b pattern body (In (Chan c) b pattern body))) (none_at channels c high))))
+        (cases_lt c (length channels))
+
+    pub output_fits : (c : ℕ) (v : Val) (at : Span) (reader : List ℕ) (others : List (List ℕ)) (w : Val) (b : Bool) (pattern : Pat) (body : Process)
+        → slice_get channels c ≡ Some (reader ∷ others) → f acting ≡ Out (Chan c) v at → f reader ≡ In w b pattern body → IsSome (match_value pattern v)
+    output_fits c v at reader others w b pattern body here is reads = by_match (match_value pattern v) refl
+      where
+        by_match : (o : Option (List Val)) → match_value pattern v ≡ o → IsSome o
+        by_match None e = absurd (right (
+            ap (view.act (map f rest) (map (map f) channels)) is
+            ∙ ap (view.at_list (view.offer (map f rest) (map (map f) channels) c v (Out (Chan c) v at))) (list_at channels c (reader ∷ others) here)
+            ∙ ap (λ q. view.offer (map f rest) (map (map f) channels) c v (Out (Chan c) v at) (q ∷ map f others)) reads
+            ∙ ap (view.meet (map f rest) (map (map f) channels) c v b (In w b pattern body) (map f others) body) e))
+        by_match (Some bound) e = refl
+
+    pub input_fits : (c : ℕ) (b : Bool) (pattern : Pat) (body : Process) (message : List ℕ) (others : List (List ℕ)) (w v : Val) (at : Span)
+        → slice_get channels c ≡ Some (message ∷ others) → f acting ≡ In (Chan c) b pattern body → f message ≡ Out w v at → IsSome (match_value pattern v)
+    input_fits c b pattern body message others w v at here is sends = by_match (match_value pattern v) refl
+      where
+        by_match : (o : Option (List Val)) → match_value pattern v ≡ o → IsSome o
+        by_match None e = absurd (right (
+            ap (view.act (map f rest) (map (map f) channels)) is
+            ∙ ap (view.at_list (view.ask (map f rest) (map (map f) channels) c b pattern body (In (Chan c) b pattern body))) (list_at channels c (message ∷ others) here)
+            ∙ ap (λ q. view.ask (map f rest) (map (map f) channels) c b pattern body (In (Chan c) b pattern body) (q ∷ map f others)) sends
+            ∙ ap (view.get (map f rest) (slice_set (map (map f) channels) c (map f others)) c v b (In (Chan c) b pattern body) body) e))
+        by_match (Some bound) e = refl

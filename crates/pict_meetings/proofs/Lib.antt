@@ -1,0 +1,11 @@
+pub mod Changing
+pub mod Inputs
+pub mod Waits
+pub mod Fitting
+pub mod Firsts
+pub mod Meets
+pub mod Receiving
+pub mod Works
+pub mod Serving
+pub mod Ops
+pub mod Wide

@@ -1,0 +1,4 @@
+pub mod Waiting
+pub mod Partners
+pub mod Room
+pub mod Serving

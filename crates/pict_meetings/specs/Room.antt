@@ -1,0 +1,17 @@
+-- Room for the block of a part, once other blocks are given back.
+use Rattle.std.specs.Prelude.{ℕ, ◌≤◌, ◌+◌, ◌==◌, List, [], ◌∷◌, length, if◌then◌else◌}
+use Rattle.pict_region.specs.RegionState.{spare}
+use Rattle.pict_operands.specs.Needs.{HasRoomFor}
+use Rattle.pict_turns.specs.Parts.{block_width, frame_need}
+use Rattle.pict_turns.specs.declared.store.Store.{Store}
+
+-- how many of the blocks with these words behind their links are this wide
+abbrev pub as_wide : ℕ → List (List ℕ) → ℕ
+as_wide width [] = 0
+as_wide width (words ∷ rest) = (if length words + 1 == width then 1 else 0) + as_wide width rest
+
+-- Once the blocks with these words are given back there is a free block for the frame, and there is room for its record
+-- where it needs one.
+pub record CanHoldAfter (s : Store) (given : List (List ℕ)) (frame : List ℕ) : Type 0 where
+  pub block : 1 ≤ spare s.queues.region (block_width frame) + as_wide (block_width frame) given
+  pub room : HasRoomFor s.heap s.pending (frame_need frame)

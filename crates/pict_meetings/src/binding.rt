@@ -1,0 +1,30 @@
+// What a message binds.
+ghost use Rattle.std.specs.Prelude.{◌≡◌, ◌<◌, length, IsSome};
+ghost use Rattle.std.specs.List.{AllByRecursion};
+ghost use Rattle.pict_core.specs.Matching.{match_value};
+ghost use Rattle.pict_code.specs.Levels.{Rises};
+ghost use Rattle.pict_code.specs.Plain.{plain_pat};
+ghost use Rattle.pict_code.specs.ReadBack.{unleveled};
+ghost use Rattle.pict_heap.specs.HeapState.{value_of, IsWord};
+ghost use Rattle.pict_blocks.specs.Binding.{levels_of, BindsPattern};
+ghost use Rattle.pict_operands.specs.Pairs.{ArePairs};
+
+use pict_code::CodePat;
+use pict_heap::Word;
+use pict_operands::bind;
+use pict_turns::Store;
+
+// The levels of the pattern, which fits the word, get what it binds. Nothing else changes.
+pub(crate) fn bind_levels(store: &mut Store, pattern: &CodePat, message: Word)
+    requires word { IsWord store.old.heap message }
+    requires fits { IsSome (match_value (unleveled (plain_pat pattern.now)) (value_of store.old.heap message)) }
+    requires inside { AllByRecursion (λ level. level < length store.old.values.items) (levels_of (plain_pat pattern.now)) }
+    requires rising { Rises 0 (levels_of (plain_pat pattern.now)) }
+    requires pairs { ArePairs store.old.heap store.old.values.items }
+    ensures binds { BindsPattern store.old.heap (plain_pat pattern.now) (value_of store.old.heap message) store.old.values.items store.new.values.items }
+    ensures levels { length store.new.values.items ≡ length store.old.values.items }
+    ensures pairs { ArePairs store.old.heap store.new.values.items }
+    ensures rest { store.new ≡ record store.old { values = store.new.values } }
+{
+    bind(&store.heap, pattern, message, &mut store.values);
+}

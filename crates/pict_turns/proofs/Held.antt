@@ -1,0 +1,85 @@
+-- Frames that are read out of blocks.
+use Rattle.std.proofs.Common.{ℕ, zero, suc, ◌+◌, ◌*◌, ◌≡◌, ◌||◌, eqb, Bool, true, false, List, [], ◌∷◌, length, map, drop, get_or, Vec, Global, refl, sym, ap, ◌∙◌, subst, arith}
+use Rattle.std.proofs.lemmas.Bool.Decides.{nat_tests}
+use Rattle.std.specs.List.{list_any}
+use Rattle.pict_code.specs.Levels.{Rises}
+use Rattle.pict_queue.specs.QueuesState.{QueuesState}
+use Rattle.pict_frames.specs.Framed.{frame_words, pair_at, AreRising}
+use Rattle.pict_frames.specs.Writing.{OnlyWorks}
+use Rattle.pict_heap.specs.HeapState.{HeapState}
+use Rattle.pict_operands.specs.Pairs.{IsPair, ArePairs}
+use Rattle.pict_blocks.specs.Blocks.{value_in, known, frame_values}
+use Rattle.pict_turns.specs.Holding.{HoldWords}
+use Rattle.pict_turns.specs.Reading.{HasRead}
+use Rattle.pict_turns.specs.declared.store.Store.{Store}
+
+-- ---- words behind the link and the number
+
+pub held_length : (h : HeapState) (n : ℕ) (ws : List ℕ) → HoldWords h n ws → length ws ≡ 2 * n
+held_length h zero [] o = refl
+held_length h zero (x ∷ ws) o = absurd o
+held_length h (suc n) [] o = absurd o
+held_length h (suc n) (x ∷ []) o = absurd o
+held_length h (suc n) (x ∷ y ∷ ws) o = let e = held_length h n ws o.1 in omega (arith, e)
+
+pub whole_length : (ws : List ℕ) (number : ℕ) (held : List ℕ) → drop 1 ws ≡ suc number ∷ held → length ws ≡ 2 + length held
+whole_length [] number held e = cc
+whole_length (x ∷ xs) number held e = let l : length xs ≡ suc (length held) = ap length e in omega (arith, l)
+
+pub behind_number : (ws : List ℕ) (number : ℕ) (held : List ℕ) → drop 1 ws ≡ suc number ∷ held → drop 2 ws ≡ held
+behind_number [] number held e = cc
+behind_number (x ∷ []) number held e = cc
+behind_number (x ∷ y ∷ ws) number held e = cc
+
+pub pair_behind : (ws : List ℕ) (number a b : ℕ) → drop 1 ws ≡ suc number ∷ a ∷ b ∷ [] → (get_or ws 2 0 ≡ a) × (get_or ws 3 0 ≡ b)
+pair_behind [] number a b e = cc
+pair_behind (x ∷ []) number a b e = cc
+pair_behind (x ∷ y ∷ []) number a b e = cc
+pair_behind (x ∷ y ∷ z ∷ []) number a b e = cc
+pair_behind (x ∷ y ∷ z ∷ w ∷ ws) number a b e = (cc, cc)
+
+pub as_rising : (low : ℕ) (ls : List ℕ) → Rises low ls → AreRising low ls
+as_rising low [] r = tt
+as_rising low (l ∷ ls) r = (r.0, as_rising (l + 1) ls r.1)
+
+-- ---- levels that are read have words of the heap
+
+module _ (h : HeapState) (values : List (ℕ × ℕ)) (level : ℕ) where
+  first_or_later : (l : ℕ) (ls : List ℕ) (b : Bool) → eqb level l ≡ b → IsPair h (pair_at values l) → (list_any (eqb level) ls ≡ true → IsPair h (pair_at values level))
+      → list_any (eqb level) (l ∷ ls) ≡ true → IsPair h (pair_at values level)
+  first_or_later l ls true t first later e = let same : l ≡ level = grind (arith, nat_tests) in subst (λ (k : ℕ). IsPair h (pair_at values k)) same first
+  first_or_later l ls false t first later e = later (ap (λ b. b || list_any (eqb level) ls) (sym t) ∙ e)
+
+  pair_read : (frame : List ℕ) → HoldWords h (length frame) (frame_words values frame) → list_any (eqb level) frame ≡ true → IsPair h (pair_at values level)
+  pair_read [] o e = cc
+  pair_read (l ∷ ls) o e = first_or_later l ls (eqb level l) refl o.0 (pair_read ls o.1) e
+
+pub pairs_read : (h : HeapState) (before values : List (ℕ × ℕ)) (frame : List ℕ) → HoldWords h (length frame) (frame_words values frame)
+    → ((level : ℕ) → list_any (eqb level) frame ≡ false → pair_at values level ≡ pair_at before level) → ArePairs h before → ArePairs h values
+pairs_read h before values frame o others pairs level = by_case (list_any (eqb level) frame) refl
+  where
+    by_case : (b : Bool) → list_any (eqb level) frame ≡ b → IsPair h (pair_at values level)
+    by_case true e = pair_read h values level frame o e
+    by_case false e = subst (IsPair h) (sym (others level e)) (pairs level)
+
+-- two words are read
+pub worked_twice : (a b c : QueuesState) (m n : ℕ) → b ≡ record a { region = record a.region { work = m } } → c ≡ record b { region = record b.region { work = n } } → OnlyWorks a c
+worked_twice a b c m n e f =
+    let last : c.region.work ≡ n = ap (λ (s : QueuesState). s.region.work) f in
+    f ∙ ap (λ (s : QueuesState). record s { region = record s.region { work = n } }) e
+    ∙ ap (λ (k : ℕ). record a { region = record a.region { work = k } }) (sym last)
+
+-- The values of levels were written by a frame's.
+pub has_read : (s : Store) (queues : QueuesState) (vec : Vec (ℕ × ℕ) Global) (words frame : List ℕ) (values : List (ℕ × ℕ)) → vec.items ≡ values → OnlyWorks s.queues queues
+    → length values ≡ length s.values.items → ArePairs s.heap values → frame_values (value_in s.heap) (length frame) (drop 1 words) ≡ map (known s.heap values) frame
+    → HasRead s (record { heap = s.heap; queues = queues; values = vec; pending = s.pending }) words frame
+has_read s queues vec words frame values is works same pairs read = record {
+  values = read ∙ ap (λ (vs : List (ℕ × ℕ)). map (known s.heap vs) frame) (sym is);
+  rest = record {
+    queues = works;
+    heap = refl;
+    pending = refl;
+    levels = ap length is ∙ same;
+    pairs = subst (ArePairs s.heap) (sym is) pairs;
+  };
+}

@@ -1,0 +1,50 @@
+-- Blocks hold frames: by their own words, or by those of one record.
+use Rattle.std.proofs.Common.{ℕ, ◌+◌, ◌*◌, ◌<◌, ◌≤◌, ◌≡◌, ◌^◌, true, false, cond, nat_lt, List, [], ◌∷◌, length, map, refl, ap, ◌∙◌, arith}
+use Rattle.std.proofs.lemmas.Bool.Decides.{nat_tests}
+use Rattle.std.proofs.lemmas.List.{length-map}
+use Rattle.pict_core.specs.Term.{Val}
+use Rattle.pict_frames.specs.Framed.{frame_words}
+use Rattle.pict_heap.specs.HeapState.{HeapState, Room}
+use Rattle.pict_prim.specs.Acts.{UsesNeed}
+use Rattle.pict_blocks.specs.Blocks.{value_in, values_of, fields_of, known}
+use Rattle.pict_blocks.proofs.Standing.{frame_back}
+use Rattle.pict_operands.specs.Needs.{no_need, record_need}
+use Rattle.pict_operands.specs.Pairs.{IsPair, ArePairs}
+use Rattle.pict_turns.specs.Holding.{HoldWords, HoldsFrame}
+use Rattle.pict_turns.specs.Parts.{block_width, frame_need}
+
+words_held : (h : HeapState) (values : List (ℕ × ℕ)) (frame : List ℕ) → ArePairs h values → HoldWords h (length frame) (frame_words values frame)
+words_held h values [] pairs = tt
+words_held h values (l ∷ ls) pairs = (pairs l, words_held h values ls pairs)
+
+pub narrow_holds : (h : HeapState) (values : List (ℕ × ℕ)) (frame : List ℕ) → ArePairs h values → length frame ≤ 32000 → HoldsFrame h (known h values) frame (frame_words values frame)
+narrow_holds h values frame pairs few = record {
+  values = frame_back h values frame (length frame) few;
+  narrow = λ _. words_held h values frame pairs;
+  wide = λ many. absurd (omega (arith, few, many));
+}
+
+pub wide_holds : (h : HeapState) (value : ℕ → Val) (frame : List ℕ) (pair : ℕ × ℕ) → IsPair h pair → fields_of (value_in h pair.0 pair.1) ≡ map value frame → 32000 < length frame
+    → length frame < 2 ^ 32 → HoldsFrame h value frame (pair.0 ∷ pair.1 ∷ [])
+wide_holds h value frame pair is fields many few =
+    let test : nat_lt 32000 (length frame) ≡ true = grind (arith, nat_tests) in
+    record {
+      values = ap (λ b. cond b (fields_of (value_in h pair.0 pair.1)) (values_of (value_in h) (pair.0 ∷ pair.1 ∷ []))) test ∙ fields;
+      narrow = λ narrow. absurd (omega (arith, narrow, many));
+      wide = λ _. record { pair = pair; is = refl; word = is; many = ap length fields ∙ length-map frame value; few = few };
+    }
+
+pub width_narrow : (frame : List ℕ) → length frame ≤ 32000 → block_width frame ≡ 2 + 2 * length frame
+width_narrow frame few = let test : nat_lt 32000 (length frame) ≡ false = grind (arith, nat_tests) in ap (λ b. cond b 4 (2 + 2 * length frame)) test
+
+pub width_wide : (frame : List ℕ) → 32000 < length frame → block_width frame ≡ 4
+width_wide frame many = let test : nat_lt 32000 (length frame) ≡ true = grind (arith, nat_tests) in ap (λ b. cond b 4 (2 + 2 * length frame)) test
+
+pub need_narrow : (frame : List ℕ) → length frame ≤ 32000 → frame_need frame ≡ no_need
+need_narrow frame few = let test : nat_lt 32000 (length frame) ≡ false = grind (arith, nat_tests) in ap (λ b. cond b (record_need (length frame)) no_need) test
+
+pub need_wide : (frame : List ℕ) → 32000 < length frame → frame_need frame ≡ record_need (length frame)
+need_wide frame many = let test : nat_lt 32000 (length frame) ≡ true = grind (arith, nat_tests) in ap (λ b. cond b (record_need (length frame)) no_need) test
+
+pub uses_nothing : (room : Room) → UsesNeed room room no_need
+uses_nothing room = record { records_left = omega arith; fields_left = omega arith; texts_left = omega arith; bytes_left = omega arith }

@@ -1,0 +1,11 @@
+pub mod Views
+pub mod Holding
+pub mod Placing
+pub mod Rows
+pub mod Room
+pub mod Numbered
+pub mod Held
+pub mod Steps
+pub mod Words
+pub mod AfterReading
+pub mod Costing

@@ -1,0 +1,41 @@
+-- Blocks that are freed, made and pushed.
+use Rattle.std.proofs.Common.{◌≡◌, ◌≢◌, ◌==◌, ℕ, ◌+◌, ◌≤◌, Bool, true, false, cond, List, sym, ◌∙◌, subst, arith, ⊎_elim}
+use Rattle.std.proofs.lemmas.Bool.{cases_eq}
+use Rattle.std.proofs.lemmas.Bool.Decides.{nat_tests}
+use Rattle.pict_region.specs.RegionState.{RegionState, spare, KeepsOtherWidths}
+use Rattle.pict_queue.specs.QueuesState.{QueuesState, CostsAtMost}
+use Rattle.pict_queue.specs.Contents.{KeepsHeld, KeepsOtherHeld}
+use Rattle.pict_frames.specs.Writing.{IsMade}
+
+-- a block that is given back leaves no width fewer free blocks
+pub given_spare : (old new : RegionState) (width : ℕ) → spare new width ≡ spare old width + 1 → KeepsOtherWidths old new width → (w : ℕ) → spare old w ≤ spare new w
+given_spare old new width more others w = ⊎_elim
+    (λ (same : w ≡ width). subst (λ k. spare old k ≤ spare new k) (sym same) (omega (arith, more)))
+    (λ (apart : w ≢ width). omega (arith, others w apart))
+    (cases_eq w width)
+
+-- a block that is taken leaves one fewer of its width
+pub taken_spare : (mid new : RegionState) (width : ℕ) → spare new width + 1 ≡ spare mid width → KeepsOtherWidths mid new width → (w : ℕ) (b : Bool) → (w == width) ≡ b → spare mid w ≤ spare new w + cond b 1 0
+taken_spare mid new width less others w true e =
+    let same : width ≡ w = grind (arith, nat_tests) in
+    subst (λ k. spare mid k ≤ spare new k + 1) same (omega (arith, less))
+taken_spare mid new width less others w false e =
+    let apart : w ≢ width = grind (arith, nat_tests) in
+    omega (arith, others w apart)
+
+-- the other held blocks stay, where one ends, and one is made and pushed
+pub others_stay : (old given made new : QueuesState) (block part width : ℕ) (ws : List ℕ) → KeepsOtherHeld old given block → IsMade given made part ws width → KeepsOtherHeld made new part → KeepsOtherHeld old new block
+others_stay old given made new block part width ws first m last other apart held =
+    let a = first other apart held in
+    let b = m.kept other a.held in
+    let c = last other (m.apart other a.held) b.held in
+    record { held = c.held; words = c.words ∙ b.words ∙ a.words }
+
+pub all_stay : (old made new : QueuesState) (part width : ℕ) (ws : List ℕ) → IsMade old made part ws width → KeepsOtherHeld made new part → KeepsHeld old new
+all_stay old made new part width ws m last other held =
+    let b = m.kept other held in
+    let c = last other (m.apart other held) b.held in
+    record { held = c.held; words = c.words ∙ b.words }
+
+pub costs_up : (a b : QueuesState) (m n : ℕ) → m ≤ n → CostsAtMost m a b → CostsAtMost n a b
+costs_up a b m n h c = record { least = c.least; most = omega (arith, h, c.most) }

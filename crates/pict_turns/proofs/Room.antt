@@ -1,0 +1,227 @@
+-- Room that is made, and what stays meanwhile.
+use Rattle.std.proofs.Common.{ℕ, ◌+◌, ◌-◌, ◌≤◌, ◌≡◌, ◌==◌, Bool, true, false, cond, List, ◌∷◌, length, refl, sym, ap, ◌∙◌, subst, arith}
+use Rattle.std.specs.List.{AllByRecursion}
+use Rattle.pict_core.specs.Term.{Val, Process}
+use Rattle.pict_core.specs.Step.{Label}
+use Rattle.pict_code.specs.Instruction.{Op}
+use Rattle.pict_code.specs.Nodes.{Place, places}
+use Rattle.pict_heap.specs.HeapState.{HeapState, RecordState, KeepsWords, IsWordOf, word_value, values_of}
+use Rattle.pict_queue.specs.Contents.{held_words, contents}
+use Rattle.pict_region.specs.RegionState.{spare}
+use Rattle.pict_prim.specs.Acts.{UsesNeed}
+use Rattle.pict_prim.specs.declared.act.Need.{Need}
+use Rattle.pict_view.specs.ViewStep.{next_view}
+use Rattle.pict_frames.specs.Framed.{pair_at}
+use Rattle.pict_blocks.specs.Blocks.{value_in, known, view_of_contents, IsNodeBlock}
+use Rattle.pict_operands.specs.declared.pending.Pending.{Pending}
+use Rattle.pict_operands.specs.Needs.{both_needs, HasRoomFor, KeepsPending}
+use Rattle.pict_operands.specs.Pairs.{ArePairs}
+use Rattle.pict_operands.proofs.Making.{pairs_keep}
+use Rattle.pict_turns.specs.Acting.{KeepsHeap, IsStore, HasActing, ActsBy, IsDone, IsRefused, view_with}
+use Rattle.pict_turns.specs.Parts.{CanHold, block_width, frame_need, Places}
+use Rattle.pict_turns.specs.Reserving.{CanHoldAnd, CanHoldBoth, KeepsPiles, OnlyReserves}
+use Rattle.pict_turns.specs.Views.{IsBlock, CanWait, lists_from, channel_lists}
+use Rattle.pict_turns.specs.declared.store.Store.{Store}
+use Rattle.pict_turns.proofs.Views.{block_stays, blocks_stay, lists_stay}
+use Rattle.pict_turns.proofs.Rows.{node_block_stays}
+
+-- ---- room for several
+
+pub has_room : (h : HeapState) (p : Pending) (a b : Need) → HasRoomFor h p (both_needs a b) → HasRoomFor h p a
+has_room h p a b r = record {
+  heap = record {
+    records = let e = r.heap.records in omega (arith, e);
+    fields = let e = r.heap.fields in omega (arith, e);
+    texts = let e = r.heap.texts in omega (arith, e);
+    bytes = let e = r.heap.bytes in omega (arith, e);
+  };
+  words = let e = r.words in omega (arith, e);
+  labelled = let e = r.labelled in omega (arith, e);
+  countable = let e = r.countable in omega (arith, e);
+}
+
+-- there is room for one once the other is made
+pub room_left : (h0 h1 : HeapState) (p0 p1 : Pending) (a b : Need) → HasRoomFor h0 p0 (both_needs a b) → UsesNeed h0.room h1.room a → KeepsPending p0 p1 → HasRoomFor h1 p1 b
+room_left h0 h1 p0 p1 a b r u k = record {
+  heap = record {
+    records = let e = r.heap.records in let f = u.records_left in omega (arith, e, f);
+    fields = let e = r.heap.fields in let f = u.fields_left in omega (arith, e, f);
+    texts = let e = r.heap.texts in let f = u.texts_left in omega (arith, e, f);
+    bytes = let e = r.heap.bytes in let f = u.bytes_left in omega (arith, e, f);
+  };
+  words = let e = r.words in let f = ap length k.words in let g = k.words_room in omega (arith, e, f, g);
+  labelled = let e = r.labelled in let f = ap length k.labelled in let g = k.labelled_room in omega (arith, e, f, g);
+  countable = let e = r.countable in omega (arith, e);
+}
+
+pub room_swapped : (h : HeapState) (p : Pending) (a b : Need) → HasRoomFor h p (both_needs a b) → HasRoomFor h p (both_needs b a)
+room_swapped h p a b r = record {
+  heap = record {
+    records = let e = r.heap.records in omega (arith, e);
+    fields = let e = r.heap.fields in omega (arith, e);
+    texts = let e = r.heap.texts in omega (arith, e);
+    bytes = let e = r.heap.bytes in omega (arith, e);
+  };
+  words = let e = r.words in omega (arith, e);
+  labelled = let e = r.labelled in omega (arith, e);
+  countable = let e = r.countable in omega (arith, e);
+}
+
+pub can_hold : (s : Store) (frame : List ℕ) (further : Need) → CanHoldAnd s frame further → CanHold s frame
+can_hold s frame further c = record { block = c.block; room = has_room s.heap s.pending (frame_need frame) further c.room }
+
+pub can_first : (s : Store) (first second : List ℕ) → CanHoldBoth s first second → CanHold s first
+can_first s first second c = record { block = c.one; room = has_room s.heap s.pending (frame_need first) (frame_need second) c.room }
+
+one_left : (a b : ℕ) (t : Bool) → cond t 2 1 ≤ a → a ≤ b + cond t 1 0 → 1 ≤ b
+one_left a b true h g = omega (arith, h, g)
+one_left a b false h g = omega (arith, h, g)
+
+-- once the first is made, there is room for the second
+pub can_second : (old new : Store) (number : ℕ) (first second : List ℕ) (ready : List ℕ → List (List ℕ)) → CanHoldBoth old first second → Places old new number first ready → CanHold new second
+can_second old new number first second ready c p = record {
+  block = one_left (spare old.queues.region (block_width second)) (spare new.queues.region (block_width second)) (block_width second == block_width first) c.other (p.spare (block_width second));
+  room = room_left old.heap new.heap old.pending new.pending (frame_need first) (frame_need second) c.room p.used p.pending;
+}
+
+-- ---- a heap whose room alone has changed
+
+module _ (old new : HeapState) (k : KeepsHeap old new) where
+  pub keeps_words : KeepsWords old new
+  keeps_words = record {
+    words = λ w is. subst (λ (n : ℕ). IsWordOf n (length new.records) w) (sym (ap length k.texts)) (subst (λ (n : ℕ). IsWordOf (length old.texts) n w) (sym (ap length k.records)) is);
+    values = λ w is.
+        ap (λ (ts : List (List ℕ)). word_value ts (values_of ts new.records) w) k.texts
+        ∙ ap (λ (rs : List RecordState). word_value old.texts (values_of old.texts rs) w) k.records;
+  }
+
+  at_room : List (List ℕ) → List RecordState → ℕ → ℕ → Val
+  at_room ts rs = value_in (record { texts = ts; records = rs; room = old.room })
+
+  pub value_kept : value_in new ≡ value_in old
+  unfolding at_room
+  value_kept = ap (λ ts. at_room ts new.records) k.texts ∙ ap (at_room old.texts) k.records
+
+-- ---- stores whose room alone has changed
+
+pub piles_kept : (p : Pending) → KeepsPiles p p
+piles_kept p = record { words = refl; words_room = omega arith; labelled = refl; labelled_room = omega arith }
+
+pub piles_more : (a b c : Pending) → KeepsPiles a b → KeepsPiles b c → KeepsPiles a c
+piles_more a b c v w = record {
+  words = w.words ∙ v.words;
+  words_room = let e = v.words_room in let f = w.words_room in omega (arith, e, f);
+  labelled = w.labelled ∙ v.labelled;
+  labelled_room = let e = v.labelled_room in let f = w.labelled_room in omega (arith, e, f);
+}
+
+pub reserves_nothing : (s : Store) → OnlyReserves s s
+reserves_nothing s = record {
+  heap = record { texts = refl; records = refl };
+  room = record { records_left = omega arith; fields_left = omega arith; texts_left = omega arith; bytes_left = omega arith };
+  pending = piles_kept s.pending;
+  live = refl;
+  work = refl;
+  spare = λ width. omega arith;
+  queues = refl;
+  spare_queues = omega arith;
+  contents = λ queue. refl;
+  held = λ block held. record { held = held; words = refl };
+  values = refl;
+}
+
+pub reserves_more : (a b c : Store) → OnlyReserves a b → OnlyReserves b c → OnlyReserves a c
+reserves_more a b c v w = record {
+  heap = record { texts = w.heap.texts ∙ v.heap.texts; records = w.heap.records ∙ v.heap.records };
+  room = record {
+    records_left = let e = v.room.records_left in let f = w.room.records_left in omega (arith, e, f);
+    fields_left = let e = v.room.fields_left in let f = w.room.fields_left in omega (arith, e, f);
+    texts_left = let e = v.room.texts_left in let f = w.room.texts_left in omega (arith, e, f);
+    bytes_left = let e = v.room.bytes_left in let f = w.room.bytes_left in omega (arith, e, f);
+  };
+  pending = piles_more a.pending b.pending c.pending v.pending w.pending;
+  live = w.live ∙ v.live;
+  work = w.work ∙ v.work;
+  spare = λ width. let e = v.spare width in let f = w.spare width in omega (arith, e, f);
+  queues = w.queues ∙ v.queues;
+  spare_queues = let e = v.spare_queues in let f = w.spare_queues in omega (arith, e, f);
+  contents = λ queue. w.contents queue ∙ v.contents queue;
+  held = λ block held.
+      let x = v.held block held in
+      let y = w.held block x.held in
+      record { held = y.held; words = y.words ∙ x.words };
+  values = w.values ∙ v.values;
+}
+
+module _ (core : Process) (old new : Store) (r : OnlyReserves old new) where
+  words_kept : KeepsWords old.heap new.heap
+  words_kept = keeps_words old.heap new.heap r.heap
+
+  -- the values of levels stay
+  pub known_still : known new.heap new.values.items ≡ known old.heap old.values.items
+  known_still =
+      let levels : (ℕ → ℕ → Val) → ℕ → Val = λ value level. value (pair_at new.values.items level).0 (pair_at new.values.items level).1 in
+      ap levels (value_kept old.heap new.heap r.heap)
+      ∙ ap (known old.heap) r.values
+
+  pub store_still : IsStore core old → IsStore core new
+  store_still s = record {
+    ready = let e = ap length r.queues in let low = s.ready in omega (arith, e, low);
+    blocks = λ queue. subst (AllByRecursion (IsBlock core new.heap)) (sym (r.contents queue)) (blocks_stay old.heap new.heap words_kept core (contents old.queues queue) (s.blocks queue));
+    waiting = λ channel. subst (AllByRecursion (CanWait core)) (sym (r.contents (channel + 1))) (s.waiting channel);
+    pairs = subst (ArePairs new.heap) (sym r.values) (pairs_keep old.heap new.heap words_kept old.values.items s.pairs);
+    levels = subst (λ (vs : List (ℕ × ℕ)). AllByRecursion (λ (p : Place). p.around ≤ length vs) (places 0 core)) (sym r.values) s.levels;
+  }
+
+  module _ (block : ℕ) where
+    pub acting_still : HasActing core old block → HasActing core new block
+    acting_still a = record {
+      store = store_still a.store;
+      held = (r.held block a.held).held;
+      is = subst (IsBlock core new.heap) (sym (r.held block a.held).words) (block_stays old.heap new.heap words_kept core (held_words old.queues.region block) a.is);
+    }
+
+    pub acts_still : (op : Op) → ActsBy core old block op → ActsBy core new block op
+    acts_still op a = record {
+      acting = acting_still a.acting;
+      number = a.number;
+      node = a.node;
+      is = subst (λ (ws : List ℕ). IsNodeBlock core new.heap new.values.items a.number a.node ws) (sym (r.held block a.acting.held).words)
+          (subst (λ (vs : List (ℕ × ℕ)). IsNodeBlock core new.heap vs a.number a.node (held_words old.queues.region block)) (sym r.values)
+          (node_block_stays core old.heap new.heap words_kept old.values.items a.acting.store.pairs a.number a.node (held_words old.queues.region block) a.acting.is a.is));
+      op_is = a.op_is;
+    }
+
+    channels_still : channel_lists new.queues ≡ channel_lists old.queues
+    channels_still =
+        ap (λ (n : ℕ). lists_from new.queues 1 (n - 1)) (ap length r.queues)
+        ∙ lists_stay old.queues new.queues 1 (length old.queues.queues - 1) (λ queue low. r.contents queue)
+
+    -- what the store stands for while the block acts stays
+    pub view_still : HasActing core old block → view_with core new block ≡ view_with core old block
+    view_still a =
+        ap (λ (value : ℕ → ℕ → Val). view_of_contents core value (held_words new.queues.region block ∷ contents new.queues 0) (channel_lists new.queues)) (value_kept old.heap new.heap r.heap)
+        ∙ ap (λ (ws : List ℕ). view_of_contents core (value_in old.heap) (ws ∷ contents new.queues 0) (channel_lists new.queues)) (r.held block a.held).words
+        ∙ ap (λ (rs : List (List ℕ)). view_of_contents core (value_in old.heap) (held_words old.queues.region block ∷ rs) (channel_lists new.queues)) (r.contents 0)
+        ∙ ap (view_of_contents core (value_in old.heap) (held_words old.queues.region block ∷ contents old.queues 0)) channels_still
+
+    module _ (last : Store) (a : HasActing core old block) where
+      -- a step that is done once room is made is a step
+      pub done_after : (label : Label) → IsDone core new last block label → IsDone core old last block label
+      done_after label d = record {
+        moves = sym (ap next_view (view_still a)) ∙ d.moves;
+        store = d.store;
+        keeps = record { words = λ w is. d.keeps.words w (words_kept.words w is); values = λ w is. d.keeps.values w (words_kept.words w is) ∙ words_kept.values w is };
+        levels = d.levels ∙ ap length r.values;
+        queues = let e = ap length r.queues in let most = d.queues in omega (arith, e, most);
+      }
+
+      pub refused_after : IsRefused core new last block → IsRefused core old last block
+      refused_after d = record {
+        ready = d.ready ∙ ap (λ (ws : List ℕ). ws ∷ contents new.queues 0) (r.held block a.held).words ∙ ap (λ (rs : List (List ℕ)). held_words old.queues.region block ∷ rs) (r.contents 0);
+        others = λ other n. d.others other n ∙ r.contents other;
+        queues = d.queues ∙ ap length r.queues;
+        heap = record { texts = d.heap.texts ∙ r.heap.texts; records = d.heap.records ∙ r.heap.records };
+        store = d.store;
+        levels = d.levels ∙ ap length r.values;
+      }

@@ -1,0 +1,80 @@
+-- The view of a store: what the blocks of its queues stand for.
+use Rattle.std.specs.Prelude.{◌≡◌, ◌≤◌, ◌<◌, ◌+◌, ◌-◌, ◌⊎◌, ℕ, zero, suc, Bool, List, [], ◌∷◌, length, Some, slice_get}
+use Rattle.std.specs.List.{AllByRecursion}
+use Rattle.pict_core.specs.Term.{Process, Val}
+use Rattle.pict_code.specs.Instruction.{Node, CodePat}
+use Rattle.pict_code.specs.Nodes.{nodes_of, input_op}
+use Rattle.pict_queue.specs.QueuesState.{QueuesState}
+use Rattle.pict_queue.specs.Contents.{contents}
+use Rattle.pict_frames.specs.Keeping.{kept_words, FitsKept}
+use Rattle.pict_frames.specs.declared.keeping.Kept.{Kept}
+use Rattle.pict_heap.specs.HeapState.{HeapState}
+use Rattle.pict_view.specs.View.{View}
+use Rattle.pict_blocks.specs.Blocks.{value_in, view_of_contents}
+use Rattle.pict_operands.specs.Pairs.{IsPair}
+use Rattle.pict_turns.specs.Holding.{HoldWords, HoldRecord}
+use Rattle.pict_turns.specs.declared.store.Store.{Store}
+
+-- what the blocks of these queues hold, so many from this one on
+abbrev pub lists_from : QueuesState → ℕ → ℕ → List (List (List ℕ))
+lists_from s queue zero = []
+lists_from s queue (suc n) = contents s queue ∷ lists_from s (queue + 1) n
+
+-- what the blocks of each channel's queue hold: channel c has queue c + 1
+abbrev pub channel_lists : QueuesState → List (List (List ℕ))
+channel_lists s = lists_from s 1 (length s.queues - 1)
+
+-- the view of a store whose code is that of this process: queue 0 is of the ready processes
+abbrev pub view_of : Process → Store → View
+view_of core s = view_of_contents core (value_in s.heap) (contents s.queues 0) (channel_lists s.queues)
+
+-- the same while a block with these words acts, which was the first of the ready ones
+abbrev pub view_acting : Process → Store → List ℕ → View
+view_acting core s words = view_of_contents core (value_in s.heap) (words ∷ contents s.queues 0) (channel_lists s.queues)
+
+-- ---- blocks
+
+-- a block of a node of the code: the values of its frame, or one record of them
+pub record IsNode (core : Process) (h : HeapState) (words : List ℕ) : Type 0 where
+  pub number : ℕ
+  pub node : Node
+  pub at : slice_get (nodes_of core) number ≡ Some node
+  pub held : List ℕ
+  pub is : words ≡ suc number ∷ held
+  pub narrow : length node.frame ≤ 32000 → HoldWords h (length node.frame) held
+  pub wide : 32000 < length node.frame → HoldRecord h (length node.frame) held
+
+-- a block of an output of kept values
+pub record IsKept (h : HeapState) (words : List ℕ) : Type 0 where
+  pub kept : Kept
+  pub is : words ≡ kept_words kept
+  pub fits : FitsKept kept
+  pub to : IsPair h kept.to
+  pub message : IsPair h kept.message
+
+abbrev pub IsBlock : Process → HeapState → List ℕ → Type 0
+IsBlock core h words = IsNode core h words ⊎ IsKept h words
+
+-- each queue holds blocks
+abbrev pub AreBlocks : Process → Store → Type 0
+AreBlocks core s = (queue : ℕ) → AllByRecursion (IsBlock core s.heap) (contents s.queues queue)
+
+-- the node with this number is an input
+pub record IsInputAt (core : Process) (number : ℕ) : Type 0 where
+  pub node : Node
+  pub at : slice_get (nodes_of core) number ≡ Some node
+  pub replicated : Bool
+  pub chan : Val
+  pub pattern : CodePat
+  pub part : ℕ
+  pub is : node.op ≡ input_op replicated chan pattern part
+
+-- a block that may wait at a channel: an output of kept values, or an input
+abbrev pub CanWait : Process → List ℕ → Type 0
+CanWait core [] = ⊥
+CanWait core (zero ∷ held) = Unit {0}
+CanWait core (suc number ∷ held) = IsInputAt core number
+
+-- what waits at channels
+abbrev pub AreWaiting : Process → QueuesState → Type 0
+AreWaiting core s = (channel : ℕ) → AllByRecursion (CanWait core) (contents s (channel + 1))

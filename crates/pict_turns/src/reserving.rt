@@ -1,0 +1,135 @@
+// Room for what a step is about to make.
+ghost use Rattle.std.specs.Prelude.{◌≡◌, ◌≤◌, ◌<◌, ◌+◌, ◌*◌, length, OnOk, IsOk, IsTrue, ◌↔◌};
+ghost use Rattle.pict_region.specs.RegionState.{spare};
+ghost use Rattle.pict_operands.specs.Needs.{no_need, both_needs, HasRoomFor};
+ghost use Rattle.pict_turns.specs.Parts.{block_width, frame_need};
+ghost use Rattle.pict_turns.specs.Reserving.{CanHoldAnd, CanHoldBoth, OnlyReserves};
+
+use crate::parts::NARROW;
+use crate::store::Store;
+use pict_operands::both;
+use pict_prim::Need;
+use std::alloc::AllocError;
+
+/// The width of a block of an output of kept values, in words.
+pub const KEPT_WIDTH: u32 = 9;
+
+// What a block for a frame needs of the heap.
+fn frame_need(frame: &[u32]) -> Need
+    ensures { result ≡ frame_need frame.now }
+{
+    if frame.len() <= NARROW {
+        Need {
+            records: 0,
+            fields: 0,
+            texts: 0,
+            bytes: 0,
+        }
+    } else {
+        Need {
+            records: 1,
+            fields: frame.len() as u64,
+            texts: 0,
+            bytes: 0,
+        }
+    }
+}
+
+// The width of a block for a frame.
+fn block_width(frame: &[u32]) -> u32
+    ensures value { result ≡ block_width frame.now }
+    ensures positive { 2 ≤ result }
+    ensures narrow { result ≤ 65535 }
+{
+    if frame.len() <= NARROW {
+        2 + 2 * frame.len() as u32
+    } else {
+        4
+    }
+}
+
+// Whether there is no need.
+fn is_nothing(need: Need) -> bool
+    ensures { IsTrue result ↔ (need ≡ no_need) }
+{
+    need.records == 0 && need.fields == 0 && need.texts == 0 && need.bytes == 0
+}
+
+// Makes room in the heap, and on both piles.
+fn reserve_room(store: &mut Store, need: Need) -> Result<(), AllocError>
+    ensures enough { need ≡ no_need → IsOk result }
+    ensures free { store.new.queues.region ≡ store.old.queues.region }
+    ensures room { OnOk result (HasRoomFor store.new.heap store.new.pending need) }
+    ensures rest { OnlyReserves store.old store.new }
+{
+    if is_nothing(need) {
+        return Ok(());
+    }
+    if need.fields > u64::from(u32::MAX) {
+        return Err(AllocError);
+    }
+    store
+        .heap
+        .reserve(need.records, need.fields, need.texts, need.bytes)?;
+    store.pending.words.reserve(need.fields as usize)?;
+    store.pending.labelled.reserve(need.fields as usize)
+}
+
+/// Makes room for so much in the heap and on the piles, and free blocks until there are `count` of this width, in words. Where
+/// nothing else is needed and so many blocks are free it takes no memory. An error, which is want of memory, changes nothing but
+/// room, of which there is then no less; a number of fields past 32 bits is want of memory.
+pub fn reserve(store: &mut Store, need: Need, width: u32, count: u64) -> Result<(), AllocError>
+    requires positive { 2 ≤ width }
+    requires narrow { width ≤ 65535 }
+    ensures room { OnOk result (HasRoomFor store.new.heap store.new.pending need) }
+    ensures blocks { OnOk result (count ≤ spare store.new.queues.region width) }
+    ensures enough { need ≡ no_need → 1 ≤ count → count ≤ spare store.old.queues.region width → IsOk result }
+    ensures rest { OnlyReserves store.old store.new }
+{
+    reserve_room(store, need)?;
+    store.queues.reserve(width, count)
+}
+
+/// Makes room for a block of a frame, and in the heap and on the piles for so much more. Where nothing more is needed, the
+/// frame stands in a block itself and one of its width is free, it takes no memory. An error, which is want of memory, changes
+/// nothing but room.
+pub fn reserve_part(store: &mut Store, frame: &[u32], further: Need) -> Result<(), AllocError>
+    ensures ok { OnOk result (CanHoldAnd store.new frame.now further) }
+    ensures enough { length frame.now ≤ 32000 → further ≡ no_need → 1 ≤ spare store.old.queues.region (block_width frame.now) → IsOk result }
+    ensures rest { OnlyReserves store.old store.new }
+{
+    let width = block_width(frame);
+    if frame.len() <= NARROW {
+        reserve(store, further, width, 1)
+    } else {
+        let need = both(frame_need(frame), further)?;
+        reserve(store, need, width, 1)
+    }
+}
+
+/// Makes room for blocks of two frames. An error, which is want of memory, changes nothing but room.
+pub fn reserve_parts(store: &mut Store, first: &[u32], second: &[u32]) -> Result<(), AllocError>
+    ensures ok { OnOk result (CanHoldBoth store.new first.now second.now) }
+    ensures rest { OnlyReserves store.old store.new }
+{
+    let need = both(frame_need(first), frame_need(second))?;
+    let width = block_width(first);
+    let other = block_width(second);
+    if other == width {
+        reserve(store, need, width, 2)
+    } else {
+        reserve(store, need, width, 1)?;
+        store.queues.reserve(other, 1)
+    }
+}
+
+/// Makes room for a block of an output of kept values, and for so much in the heap and on the piles. Where nothing else is needed
+/// and a block is free it takes no memory. An error, which is want of memory, changes nothing but room.
+pub fn reserve_kept(store: &mut Store, need: Need) -> Result<(), AllocError>
+    ensures block { OnOk result (1 ≤ spare store.new.queues.region 9) }
+    ensures room { OnOk result (HasRoomFor store.new.heap store.new.pending need) }
+    ensures enough { need ≡ no_need → 1 ≤ spare store.old.queues.region 9 → IsOk result }
+    ensures rest { OnlyReserves store.old store.new }
+{
+    reserve(store, need, KEPT_WIDTH, 1)
+}

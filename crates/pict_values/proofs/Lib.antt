@@ -1,0 +1,4 @@
+pub mod Words
+pub mod Nesting
+pub mod Rests
+pub mod Pieces

@@ -1,0 +1,132 @@
+-- The fields of a record that were copied, and the rest.
+use Rattle.std.proofs.Common.{◌≡◌, ℕ, zero, suc, ◌+◌, List, [], ◌∷◌, ◌++◌, Some, None, refl, sym, ◌∙◌, ap, arith}
+use Rattle.pict_syntax.specs.declared.name.Name.{Name}
+use Rattle.pict_core.specs.Term.{Val, Vals, Labelled, Var, Chan, Int, Char, Boolean, Text, PrimitiveVal, Record, no_vals, more_vals, no_labelled, more_labelled}
+use Rattle.pict_core.specs.Plain.{vals_of, labelled_of}
+use Rattle.pict_heap.specs.Fields.{nth, nth_labelled, positional_field, labelled_field_at}
+use Rattle.pict_values.specs.Fields.{positional_in, labelled_in, drop_vals, drop_labelled, positional_from, labelled_from}
+
+-- these fields, and then those
+abbrev pub then : List Val → Vals → Vals
+then [] vs = vs
+then (x ∷ xs) vs = more_vals x (then xs vs)
+
+abbrev pub labelled_then : List (Name × Val) → Labelled → Labelled
+labelled_then [] ls = ls
+labelled_then (x ∷ xs) ls = more_labelled x.0.0 x.1 (labelled_then xs ls)
+
+then_more : (xs : List Val) (x : Val) (vs : Vals) → then (xs ++ x ∷ []) vs ≡ then xs (more_vals x vs)
+then_more [] x vs = refl
+then_more (y ∷ xs) x vs = ap (more_vals y) (then_more xs x vs)
+
+then_none : (xs : List Val) → then xs no_vals ≡ vals_of xs
+then_none [] = refl
+then_none (x ∷ xs) = ap (more_vals x) (then_none xs)
+
+labelled_then_more : (xs : List (Name × Val)) (x : Name × Val) (ls : Labelled) → labelled_then (xs ++ x ∷ []) ls ≡ labelled_then xs (more_labelled x.0.0 x.1 ls)
+labelled_then_more [] x ls = refl
+labelled_then_more (y ∷ xs) x ls = ap (more_labelled y.0.0 y.1) (labelled_then_more xs x ls)
+
+labelled_then_none : (xs : List (Name × Val)) → labelled_then xs no_labelled ≡ labelled_of xs
+labelled_then_none [] = refl
+labelled_then_none (x ∷ xs) = ap (more_labelled x.0.0 x.1) (labelled_then_none xs)
+
+drop_some : (vs : Vals) (i : ℕ) (x : Val) → nth vs i ≡ Some x → drop_vals i vs ≡ more_vals x (drop_vals (suc i) vs)
+drop_some no_vals i x e = cc
+drop_some (more_vals v vs) zero x e = let same : v ≡ x = cc in ap (λ y. more_vals y vs) same
+drop_some (more_vals v vs) (suc i) x e = drop_some vs i x e
+
+drop_none : (vs : Vals) (i : ℕ) → nth vs i ≡ None → drop_vals i vs ≡ no_vals
+drop_none no_vals zero e = refl
+drop_none no_vals (suc i) e = refl
+drop_none (more_vals v vs) zero e = cc
+drop_none (more_vals v vs) (suc i) e = drop_none vs i e
+
+labelled_drop_some : (ls : Labelled) (i l : ℕ) (x : Val) → nth_labelled ls i ≡ Some (l, x) → drop_labelled i ls ≡ more_labelled l x (drop_labelled (suc i) ls)
+labelled_drop_some no_labelled i l x e = cc
+labelled_drop_some (more_labelled k v ls) zero l x e = let same : ◌≡◌ {A = ℕ × Val} (k, v) (l, x) = cc in ap (λ y. more_labelled y.0 y.1 ls) same
+labelled_drop_some (more_labelled k v ls) (suc i) l x e = labelled_drop_some ls i l x e
+
+labelled_drop_none : (ls : Labelled) (i : ℕ) → nth_labelled ls i ≡ None → drop_labelled i ls ≡ no_labelled
+labelled_drop_none no_labelled zero e = refl
+labelled_drop_none no_labelled (suc i) e = refl
+labelled_drop_none (more_labelled l v ls) zero e = cc
+labelled_drop_none (more_labelled l v ls) (suc i) e = labelled_drop_none ls i e
+
+none_dropped : (vs : Vals) (i : ℕ) → drop_vals i vs ≡ no_vals → nth vs i ≡ None
+none_dropped no_vals i e = refl
+none_dropped (more_vals v vs) zero e = cc
+none_dropped (more_vals v vs) (suc i) e = none_dropped vs i e
+
+none_labelled_dropped : (ls : Labelled) (i : ℕ) → drop_labelled i ls ≡ no_labelled → nth_labelled ls i ≡ None
+none_labelled_dropped no_labelled i e = refl
+none_labelled_dropped (more_labelled l v ls) zero e = cc
+none_labelled_dropped (more_labelled l v ls) (suc i) e = none_labelled_dropped ls i e
+
+nth_in : (v : Val) (i : ℕ) → positional_field v i ≡ nth (positional_in v) i
+nth_in (Record vs ls) i = refl
+nth_in (Var n) i = refl
+nth_in (Chan n) i = refl
+nth_in (Int n) i = refl
+nth_in (Char n) i = refl
+nth_in (Boolean n) i = refl
+nth_in (Text n) i = refl
+nth_in (PrimitiveVal n) i = refl
+
+nth_labelled_in : (v : Val) (i : ℕ) → labelled_field_at v i ≡ nth_labelled (labelled_in v) i
+nth_labelled_in (Record vs ls) i = refl
+nth_labelled_in (Var n) i = refl
+nth_labelled_in (Chan n) i = refl
+nth_labelled_in (Int n) i = refl
+nth_labelled_in (Char n) i = refl
+nth_labelled_in (Boolean n) i = refl
+nth_labelled_in (Text n) i = refl
+nth_labelled_in (PrimitiveVal n) i = refl
+
+-- the fields from an index on, by the field at it
+pub from_some : (v x : Val) (i : ℕ) → positional_field v i ≡ Some x → positional_from i v ≡ more_vals x (positional_from (i + 1) v)
+from_some v x i e =
+    let next : suc i ≡ i + 1 = omega arith in
+    drop_some (positional_in v) i x (sym (nth_in v i) ∙ e) ∙ ap (λ n. more_vals x (positional_from n v)) next
+
+pub from_none : (v : Val) (i : ℕ) → positional_field v i ≡ None → positional_from i v ≡ no_vals
+from_none v i e = drop_none (positional_in v) i (sym (nth_in v i) ∙ e)
+
+pub labelled_from_some : (v x : Val) (i l : ℕ) → labelled_field_at v i ≡ Some (l, x) → labelled_from i v ≡ more_labelled l x (labelled_from (i + 1) v)
+labelled_from_some v x i l e =
+    let next : suc i ≡ i + 1 = omega arith in
+    labelled_drop_some (labelled_in v) i l x (sym (nth_labelled_in v i) ∙ e) ∙ ap (λ n. more_labelled l x (labelled_from n v)) next
+
+pub labelled_from_none : (v : Val) (i : ℕ) → labelled_field_at v i ≡ None → labelled_from i v ≡ no_labelled
+labelled_from_none v i e = labelled_drop_none (labelled_in v) i (sym (nth_labelled_in v i) ∙ e)
+
+-- where there is none, no field is at it
+pub none_from : (v : Val) (i : ℕ) → positional_from i v ≡ no_vals → positional_field v i ≡ None
+none_from v i e = nth_in v i ∙ none_dropped (positional_in v) i e
+
+pub none_labelled_from : (v : Val) (i : ℕ) → labelled_from i v ≡ no_labelled → labelled_field_at v i ≡ None
+none_labelled_from v i e = nth_labelled_in v i ∙ none_labelled_dropped (labelled_in v) i e
+
+-- one field more is copied
+pub copied_more : (v : Val) (xs ys : List Val) (x : Val) (i : ℕ) → then xs (positional_from i v) ≡ positional_in v → positional_field v i ≡ Some x → ys ≡ xs ++ x ∷ []
+    → then ys (positional_from (i + 1) v) ≡ positional_in v
+copied_more v xs ys x i h e same =
+    ap (λ zs. then zs (positional_from (i + 1) v)) same
+    ∙ then_more xs x (positional_from (i + 1) v)
+    ∙ ap (then xs) (sym (from_some v x i e))
+    ∙ h
+
+pub labelled_more : (v : Val) (xs ys : List (Name × Val)) (x : Name × Val) (i : ℕ) → labelled_then xs (labelled_from i v) ≡ labelled_in v
+    → labelled_field_at v i ≡ Some (x.0.0, x.1) → ys ≡ xs ++ x ∷ [] → labelled_then ys (labelled_from (i + 1) v) ≡ labelled_in v
+labelled_more v xs ys x i h e same =
+    ap (λ zs. labelled_then zs (labelled_from (i + 1) v)) same
+    ∙ labelled_then_more xs x (labelled_from (i + 1) v)
+    ∙ ap (labelled_then xs) (sym (labelled_from_some v x.1 i x.0.0 e))
+    ∙ h
+
+-- and none more
+pub copied_all : (v : Val) (xs : List Val) (i : ℕ) → then xs (positional_from i v) ≡ positional_in v → positional_field v i ≡ None → vals_of xs ≡ positional_in v
+copied_all v xs i h e = sym (then_none xs) ∙ ap (then xs) (sym (from_none v i e)) ∙ h
+
+pub labelled_all : (v : Val) (xs : List (Name × Val)) (i : ℕ) → labelled_then xs (labelled_from i v) ≡ labelled_in v → labelled_field_at v i ≡ None → labelled_of xs ≡ labelled_in v
+labelled_all v xs i h e = sym (labelled_then_none xs) ∙ ap (labelled_then xs) (sym (labelled_from_none v i e)) ∙ h

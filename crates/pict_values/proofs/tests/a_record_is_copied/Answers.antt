@@ -1,0 +1,11 @@
+use Rattle.std.proofs.Common.{refl}
+use Rattle.std.specs.List.{IsDistinct}
+use Rattle.pict_values.proofs.tests.a_record_is_copied.Goals as goal
+
+pub add_record-inner-requires-clause-distinct : goal.add_record-inner-requires-clause-distinct
+unfolding IsDistinct
+add_record-inner-requires-clause-distinct g c = tt
+
+pub add_record-outer-requires-clause-distinct : goal.add_record-outer-requires-clause-distinct
+unfolding IsDistinct
+add_record-outer-requires-clause-distinct g c = ((refl, tt), (tt, tt))
