@@ -7,7 +7,7 @@ use Rattle.pict_core.specs.Step.{Label}
 use Rattle.pict_core.specs.Run.{printed_by, bytes_of}
 use Rattle.pict_view.specs.View.{View}
 use Rattle.pict_view.specs.Watching.{RanFor, Saw, view_after}
-use Rattle.pict_engine.specs.Events.{end_of}
+use Rattle.pict_machine.specs.Events.{end_of}
 use Rattle.pict_load.specs.declared.summary.Tally.{Tally}
 use Rattle.pict_load.specs.Counted.{communication, communications_of, counts_after, IsCounted}
 

@@ -3,7 +3,7 @@ use Rattle.std.specs.Prelude.{◌≡◌, ℕ, ◌+◌, List, [], ◌∷◌, leng
 use Rattle.pict_core.specs.Term.{Process}
 use Rattle.pict_core.specs.Step.{Label, Quiet, Comm, Print}
 use Rattle.pict_core.specs.Run.{Runs, printed_by, bytes_of, steps_done}
-use Rattle.pict_engine.specs.Events.{end_of}
+use Rattle.pict_machine.specs.Events.{end_of}
 use Rattle.pict_load.specs.declared.summary.Tally.{Tally}
 
 -- one more for a communication

@@ -3,7 +3,7 @@
 use Rattle.std.specs.Prelude.{ℕ, List, [], ◌∷◌, ◌++◌, map, codes}
 use Rattle.std.specs.List.{flat_map}
 use Rattle.std.specs.Fmt.{decimal}
-use Rattle.pict_engine.specs.declared.event.End.TheVariants as end
+use Rattle.pict_machine.specs.declared.event.End.TheVariants as end
 use Rattle.pict_load.specs.declared.summary.Tally.{Tally}
 use Rattle.pict_load.specs.declared.summary.Line.{Line}
 use Rattle.pict_load.specs.declared.summary.Line.TheVariants.{Ring, Text, Steps, Communications, Printed, End}

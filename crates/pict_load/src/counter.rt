@@ -8,7 +8,7 @@ ghost use Rattle.pict_load.specs.Counted.{IsCounted};
 use crate::summary::Tally;
 use itoa::Buffer;
 use pict_core::Core;
-use pict_engine::{Event, Machine, RunError, Watcher};
+use pict_machine::{Event, Machine, RunError, Watcher};
 use pict_heap::Heap;
 use pict_syntax::FUEL_LIMIT;
 use pict_values::printed;

@@ -6,7 +6,7 @@ ghost use Rattle.pict_outside.specs.Bytes.{AppendsFront};
 ghost use Rattle.pict_load.specs.Summary as summary;
 
 use crate::rings::{Ring, rings_of};
-use pict_engine::End;
+use pict_machine::End;
 use pict_outside::{Sink, SinkFailed};
 use std::alloc::{AllocError, Global};
 use thiserror::Error;

@@ -1,6 +1,6 @@
 // The rings of 42, their text, and a summary.
 use crate::{Ring, SummaryError, Tally, load_text, rings_of, write_summary};
-use pict_engine::End;
+use pict_machine::End;
 use pict_outside::{Fail, MemorySink};
 use std::alloc::AllocError;
 

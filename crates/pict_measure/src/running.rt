@@ -7,7 +7,7 @@ ghost use Rattle.pict_view.specs.Right.{RunsRight};
 
 use anyhow::Error;
 use pict_core::Core;
-use pict_engine::{End, Event, Machine, RunError, Watcher};
+use pict_machine::{End, Event, Machine, RunError, Watcher};
 use pict_front::front;
 use pict_heap::Heap;
 use pict_syntax::{FUEL_LIMIT, TEXT_LIMIT};

@@ -4,11 +4,11 @@ ghost use Rattle.std.specs.Prelude.{◌≤◌, ◌<◌, ℕ, IfSome};
 ghost use Rattle.pict_core.specs.Plain.{plain_core};
 ghost use Rattle.pict_core.specs.Closed.{IsClosed};
 ghost use Rattle.pict_view.specs.Right.{RunsRight};
-ghost use Rattle.pict_engine.specs.Events.{IsEventOf};
+ghost use Rattle.pict_machine.specs.Events.{IsEventOf};
 
 use itoa::Buffer;
 use pict_core::Core;
-use pict_engine::{End, Event, Machine, RunError, Stopped, Watcher};
+use pict_machine::{End, Event, Machine, RunError, Stopped, Watcher};
 use pict_front::front;
 use pict_heap::Heap;
 use pict_reference::{Label, Reference, StepOutcome};

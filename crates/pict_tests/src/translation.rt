@@ -4,7 +4,7 @@ use crate::steps::{accepted, expect_done};
 use itoa::Buffer;
 use pict_core::{Core, CorePat, CoreVal};
 use pict_derive::{DeriveError, derive};
-use pict_engine::{End, Event, Machine, RunError, Watcher};
+use pict_machine::{End, Event, Machine, RunError, Watcher};
 use pict_heap::Heap;
 use pict_lex::lex;
 use pict_parse::parse;

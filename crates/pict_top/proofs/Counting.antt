@@ -1,8 +1,8 @@
 -- What is counted of a run is what the summary of the run says.
 use Rattle.std.proofs.Common.{◌≡◌, ℕ, List, length, refl, sym, subst}
 use Rattle.pict_core.specs.Term.{Process}
-use Rattle.pict_engine.specs.declared.event.End as machine
-use Rattle.pict_engine.specs.declared.event.End.TheVariants as end
+use Rattle.pict_machine.specs.declared.event.End as machine
+use Rattle.pict_machine.specs.declared.event.End.TheVariants as end
 use Rattle.pict_load.specs.declared.summary.Tally.{Tally}
 use Rattle.pict_load.specs.Text.{load_text}
 use Rattle.pict_load.specs.Counted.{IsCounted}

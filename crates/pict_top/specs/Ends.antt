@@ -1,7 +1,7 @@
 -- The ends of runs that a command's work has: none by a step that is wrong.
 use Rattle.pict_core.specs.Run as run
-use Rattle.pict_engine.specs.declared.event.End as machine
-use Rattle.pict_engine.specs.declared.event.End.TheVariants as end
+use Rattle.pict_machine.specs.declared.event.End as machine
+use Rattle.pict_machine.specs.declared.event.End.TheVariants as end
 use Rattle.pict_top.specs.declared.run.Finish.{Finish}
 use Rattle.pict_top.specs.declared.run.Finish.TheVariants.{Done, FuelSpent, Trap}
 

@@ -4,10 +4,10 @@ ghost use Rattle.std.specs.Io.KnownBytes.{Appends};
 ghost use Rattle.pict_outside.specs.Counts.{Rose};
 ghost use Rattle.pict_outside.specs.Bytes.{AppendsFront};
 ghost use Rattle.pict_core.specs.Run.{printed_by};
-ghost use Rattle.pict_engine.specs.Events.{IsEventOf, label_of};
+ghost use Rattle.pict_machine.specs.Events.{IsEventOf, label_of};
 
 use itoa::Buffer;
-use pict_engine::{Event, RunError};
+use pict_machine::{Event, RunError};
 use pict_heap::Heap;
 use pict_outside::{Sink, SinkFailed};
 use pict_values::printed;

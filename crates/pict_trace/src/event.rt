@@ -1,11 +1,11 @@
 // The line of what a step shows.
 
 ghost use Rattle.std.specs.Prelude.{◌≡◌, IfOk};
-ghost use Rattle.pict_engine.specs.Events.{IsShown, IsEventOf, label_of};
+ghost use Rattle.pict_machine.specs.Events.{IsShown, IsEventOf, label_of};
 ghost use Rattle.pict_trace.specs.Lines.{line_text};
 
 use itoa::Buffer;
-use pict_engine::Event;
+use pict_machine::Event;
 use pict_heap::Heap;
 use pict_show::{write_decimal, write_numbered, write_quoted};
 use pict_syntax::Names;

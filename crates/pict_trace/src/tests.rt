@@ -5,7 +5,7 @@ ghost use Rattle.pict_heap.specs.HeapState.{IsWord};
 
 use crate::{TraceError, TraceLabel, line, read_lines};
 use pict_core::CoreVal;
-use pict_engine::Event;
+use pict_machine::Event;
 use pict_heap::{Heap, Word};
 use pict_syntax::{Name, Names, Prim};
 use std::alloc::{AllocError, Global};

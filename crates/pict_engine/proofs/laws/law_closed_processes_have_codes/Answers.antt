@@ -1,5 +1,0 @@
-use Rattle.pict_engine.proofs.Codes.{codes_of_closed}
-use Rattle.pict_engine.proofs.laws.law_closed_processes_have_codes.Goals as goal
-
-pub returns : goal.returns
-returns c = codes_of_closed

@@ -1,0 +1,44 @@
+-- Runs that break off: before a step for want of memory, or behind one whose showing was refused.
+use Rattle.std.proofs.Common.{ℕ, ◌≤◌, ◌≡◌, inl, List, sym, ◌∙◌, subst, Option, Some, None, Result, Ok, Err, OnErr}
+use Rattle.pict_core.specs.Configuration.{Configuration, IsConfiguration}
+use Rattle.pict_core.specs.Step.{Label}
+use Rattle.pict_heap.specs.HeapState.{HeapState, KeepsWords}
+use Rattle.pict_view.specs.View.{View, StandsFor}
+use Rattle.pict_view.specs.Watching.{Saw, SawOrTore, BrokeOff}
+use Rattle.pict_view.specs.Stepping.{IsStepOf}
+use Rattle.pict_view.proofs.Runs.{Stood}
+use Rattle.pict_machine.specs.Events.{label_of, trap_of}
+use Rattle.pict_machine.specs.declared.event.Event.{Event}
+
+saw_all : (f : List ℕ → ℕ → Label → List ℕ) (T : List ℕ → ℕ → Label → List ℕ → Type 0) (before after : Option (List ℕ)) (labels : List (ℕ × Label)) → Saw f before after labels → SawOrTore f T before after labels
+saw_all f T None after labels d = tt
+saw_all f T (Some b) None labels d = d
+saw_all f T (Some b) (Some a) labels d = inl d
+
+-- a step was refused, which changes no view
+pub broke_before : (n fuel : ℕ) (C : Configuration) (v v' : View) (f : List ℕ → ℕ → Label → List ℕ) (T : List ℕ → ℕ → Label → List ℕ → Type 0) (before after : Option (List ℕ)) → n ≤ fuel → v' ≡ v
+    → Stood n C v (Saw f before after) → BrokeOff C fuel (StandsFor v') (SawOrTore f T before after)
+broke_before n fuel C v v' f T before after few same s = record {
+  steps = n;
+  few = few;
+  last = s.last;
+  labels = s.labels;
+  reached = s.reached;
+  stands = subst (λ w. StandsFor w s.last) (sym same) s.stands;
+  seen = saw_all f T before after s.labels s.seen;
+}
+
+pub words_kept : (a b c : HeapState) → KeepsWords a b → KeepsWords b c → KeepsWords a c
+words_kept a b c k l = record {
+  words = λ w is. l.words w (k.words w is);
+  values = λ w is. l.values w (k.words w is) ∙ k.values w is;
+}
+
+pub on_err : {T E P : Type 0} (r : Result T E) → P → OnErr r P
+on_err (Ok x) p = tt
+on_err (Err e) p = p
+
+-- a step's label, by words of an equal heap
+pub seen_steps : (h h' : HeapState) (e : Event) (v v' : View) → h ≡ h' → ((D : Configuration) → IsConfiguration D → StandsFor v D → IsStepOf D (label_of h' e) (trap_of e) v')
+    → (D : Configuration) → IsConfiguration D → StandsFor v D → IsStepOf D (label_of h e) (trap_of e) v'
+seen_steps h h' e v v' same steps D is s = subst (λ g. IsStepOf D (label_of g e) (trap_of e) v') (sym same) (steps D is s)

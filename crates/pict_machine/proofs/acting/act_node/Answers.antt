@@ -1,0 +1,38 @@
+use Rattle.std.proofs.Common.{◌≡◌, map, sym, ap, ◌∙◌, Some, ◌<◌, length, subst, arith}
+use Rattle.std.specs.List.{slice_get}
+use Rattle.pict_code.specs.Plain.{plain_node}
+use Rattle.pict_turns.specs.Acting.{core_in}
+use Rattle.pict_turns.proofs.AfterReading.{acts_read}
+use Rattle.std.proofs.lemmas.Option.{slice_get_within}
+use Rattle.pict_code.specs.Nodes.{nodes_of}
+use Rattle.pict_turns.proofs.Numbered.{in_code}
+use Rattle.pict_machine.proofs.Working.{frame_there, fits_read}
+use Rattle.pict_machine.proofs.Passing.{may_read, step_read, op_read, node_acts}
+use Rattle.pict_machine.proofs.acting.act_node.Goals as goal
+
+pub act_by-requires-clause-may : goal.act_by-requires-clause-may
+act_by-requires-clause-may c = may_read c.args.code.now c.args.store.now c.read_part.new.store c.args.block c.read_part.ensures.read.rest c.requires.may
+
+pub act_by-requires-clause-acts : goal.act_by-requires-clause-acts
+act_by-requires-clause-acts c =
+    let code = c.args.code.now in
+    let read = c.read_part.ensures.read in
+    let at : slice_get (map plain_node code) c.args.number ≡ Some read.node = ap (λ nodes. slice_get nodes c.args.number) (sym c.requires.may.code_is.nodes_are) ∙ read.is.at in
+    acts_read (core_in code) c.args.store.now c.read_part.new.store c.args.block c.args.number _ c.requires.may.acting read
+    (op_read code c.args.number c.index-code-number.result read.node at c.index-code-number.is)
+
+pub returns-clause-step : goal.returns-clause-step
+returns-clause-step c = step_read c.args.code.now c.args.store.now c.read_part.new.store c.args.block c.read_part.ensures.read.rest c.requires.may c.act_by.new.store c.act_by.result c.act_by.ensures.step
+
+pub returns-clause-work : goal.returns-clause-work
+returns-clause-work c =
+    let code = c.args.code.now in
+    let core = core_in code in
+    let n = c.requires.is.0 in
+    let e : n.number ≡ c.args.number = c.requires.is.1 in
+    let low : c.args.number < length (nodes_of core) = subst (λ k. k < length (nodes_of core)) e (slice_get_within (nodes_of core) n.number n.node n.at) in
+    let own = frame_there code c.args.number (in_code code c.requires.may.code_is c.args.number low) in
+    let read = c.read_part.ensures.read in
+    let at : slice_get (map plain_node code) c.args.number ≡ Some read.node = ap (λ nodes. slice_get nodes c.args.number) (sym c.requires.may.code_is.nodes_are) ∙ read.is.at in
+    let acts = node_acts core c.args.store.now c.read_part.new.store c.args.block c.args.number _ c.requires.may.acting read (op_read code c.args.number c.index-code-number.result read.node at c.index-code-number.is) in
+    fits_read core c.args.store.now c.read_part.new.store c.act_by.new.store c.args.block 3 _ _ read.rest (c.read_part.ensures.cost own.0 own.1) (c.act_by.ensures.work acts own.0 own.1) (omega arith)

@@ -1,0 +1,34 @@
+use Rattle.std.proofs.Common.{refl, sym, subst}
+use Rattle.pict_turns.specs.Acting.{core_in}
+use Rattle.pict_turns.specs.declared.store.Store.{Store}
+use Rattle.pict_machine.proofs.Taking.{may_taken}
+use Rattle.pict_machine.proofs.Steps.{step_kept, step_ok, step_event, step_trapped, step_refused, step_keeps, step_few}
+use Rattle.pict_machine.specs.Stepping.{MayAct, IsStepBy}
+use Rattle.pict_machine.specs.Work.{Fits}
+use Rattle.pict_machine.proofs.Working.{step_works}
+use Rattle.pict_machine.proofs.machine.Machine.step.Goals as goal
+
+pub act-requires : goal.act-requires
+act-requires c =
+    let old = c.args.self.now in
+    let taken : Store = record old.store { queues = c.pop_front.new.self } in
+    subst (λ code. MayAct code taken c.in-Some.block) (sym c.deref.ensures.value)
+    (may_taken old.code.nodes.items old.store taken c.in-Some.block refl refl c.in-Some.ensures.popped c.in-Some.ensures.other_contents c.in-Some.ensures.rest.queues
+    c.requires.kept.code c.requires.kept.store c.in-Some.ensures.held c.requires.kept.held c.requires.few c.requires.right)
+
+pub returns : goal.returns
+returns c =
+    let old = c.args.self.now in
+    let taken : Store = record old.store { queues = c.pop_front.new.self } in
+    let step = subst (λ code. IsStepBy (core_in code) taken c.act.new.store c.in-Some.block c.act.result) c.deref.ensures.value c.act.ensures.step in
+    let work = subst (λ code. Fits (core_in code) taken c.act.new.store c.in-Some.block 2) c.deref.ensures.value c.act.ensures.work in
+    record {
+      kept = step_kept old taken c.in-Some.block c.act.new.store refl refl c.in-Some.ensures.popped c.in-Some.ensures.other_contents c.in-Some.ensures.rest.queues c.requires.kept c.requires.right c.act.result step;
+      ok = step_ok old taken c.in-Some.block c.act.new.store refl refl c.in-Some.ensures.popped c.in-Some.ensures.other_contents c.in-Some.ensures.rest.queues c.requires.kept c.act.result step;
+      event = step_event old taken c.in-Some.block c.act.new.store refl refl c.in-Some.ensures.popped c.in-Some.ensures.other_contents c.in-Some.ensures.rest.queues c.requires.kept c.act.result step;
+      trapped = step_trapped old taken c.in-Some.block c.act.new.store refl refl c.in-Some.ensures.popped c.in-Some.ensures.other_contents c.in-Some.ensures.rest.queues c.requires.kept c.act.result step;
+      refused = step_refused old taken c.in-Some.block c.act.new.store refl refl c.in-Some.ensures.popped c.in-Some.ensures.other_contents c.in-Some.ensures.rest.queues c.requires.kept c.act.result step;
+      keeps = step_keeps old taken c.in-Some.block c.act.new.store refl refl c.in-Some.ensures.popped c.in-Some.ensures.other_contents c.in-Some.ensures.rest.queues c.requires.kept c.act.result step;
+      work = step_works (core_in old.code.nodes.items) old.store c.pop_front.new.self c.act.new.store c.in-Some.block c.in-Some.ensures.popped c.in-Some.ensures.other_contents c.in-Some.ensures.cost work;
+      channels = step_few old taken c.in-Some.block c.act.new.store refl refl c.in-Some.ensures.popped c.in-Some.ensures.other_contents c.in-Some.ensures.rest.queues c.requires.kept c.act.result step;
+    }

@@ -1,0 +1,74 @@
+use Rattle.std.proofs.Common.{◌+◌, ◌<◌, length, sym, ap, ◌∙◌, subst, arith}
+use Rattle.pict_core.specs.Plain.{plain_val}
+use Rattle.pict_blocks.specs.Blocks.{known, operand_value}
+use Rattle.pict_queue.specs.QueuesState.{QueuesState}
+use Rattle.pict_meetings.specs.Waiting.{oldest}
+use Rattle.pict_turns.specs.Acting.{core_in}
+use Rattle.pict_turns.specs.declared.store.Store.{Store}
+use Rattle.pict_machine.proofs.Working.{costs_then, meeting_works}
+use Rattle.pict_machine.proofs.Channels.{output_queue}
+use Rattle.pict_machine.proofs.Growing.{operand_worked, operand_process, operand_over}
+use Rattle.pict_machine.proofs.Passing.{reads_works, may_read, step_read}
+use Rattle.pict_machine.proofs.sending.send.Goals as goal
+
+pub first_waiting-requires-clause-queue : goal.first_waiting-requires-clause-queue
+first_waiting-requires-clause-queue c =
+    let core = core_in c.args.code.now in
+    let s = c.args.store.now in
+    let message = plain_val c.args.message.now in
+    output_queue core s c.args.block c.requires.may.right (operand_value (known s.heap s.values.items) message) c.args.at c.args.channel
+    (operand_process core s c.args.block c.args.channel message c.args.at c.requires.sends)
+
+pub first_waiting-requires-clause-waiting : goal.first_waiting-requires-clause-waiting
+first_waiting-requires-clause-waiting c = (core_in c.args.code.now, c.requires.may.acting.store.waiting c.args.channel)
+
+pub send_operand-requires-clause-sends : goal.send_operand-requires-clause-sends
+send_operand-requires-clause-sends c =
+    (c.args.at, operand_worked (core_in c.args.code.now) c.args.store.now c.first_waiting.new.queues c.first_waiting.ensures.rest c.args.block c.args.channel (plain_val c.args.message.now) c.args.at c.requires.sends)
+
+pub send_operand-requires-clause-may : goal.send_operand-requires-clause-may
+send_operand-requires-clause-may c =
+    let s = c.args.store.now in
+    let mid : Store = record s { queues = c.first_waiting.new.queues } in
+    may_read c.args.code.now s mid c.args.block (reads_works s c.first_waiting.new.queues c.requires.may.acting.store.pairs c.first_waiting.ensures.rest) c.requires.may
+
+pub park_operand-requires : goal.park_operand-requires
+park_operand-requires c =
+    let core = core_in c.args.code.now in
+    let s = c.args.store.now in
+    let message = plain_val c.args.message.now in
+    let q = c.first_waiting.new.queues in
+    record {
+      ready = subst (λ (x : QueuesState). 0 < length x.queues) (sym c.first_waiting.ensures.rest) c.requires.may.acting.store.ready;
+      queue = subst (λ (x : QueuesState). c.args.channel + 1 < length x.queues) (sym c.first_waiting.ensures.rest)
+          (output_queue core s c.args.block c.requires.may.right (operand_value (known s.heap s.values.items) message) c.args.at c.args.channel (operand_process core s c.args.block c.args.channel message c.args.at c.requires.sends));
+      held = (c.first_waiting.ensures.kept c.args.block c.requires.may.acting.held).held;
+      over = operand_over core s c.args.block c.args.channel message c.args.at c.requires.sends;
+      pairs = c.requires.may.acting.store.pairs;
+    }
+
+pub returns-in-Input-clause-step : goal.returns-in-Input-clause-step
+returns-in-Input-clause-step c =
+    let s = c.args.store.now in
+    let mid : Store = record s { queues = c.first_waiting.new.queues } in
+    step_read c.args.code.now s mid c.args.block (reads_works s c.first_waiting.new.queues c.requires.may.acting.store.pairs c.first_waiting.ensures.rest) c.requires.may c.send_operand.new.store c.send_operand.result c.send_operand.ensures.step
+
+pub returns-in_default-clause-step : goal.returns-in_default-clause-step
+returns-in_default-clause-step c =
+    let s = c.args.store.now in
+    let core = core_in c.args.code.now in
+    let q = c.first_waiting.new.queues in
+    let mid : Store = record s { queues = q } in
+    step_read c.args.code.now s mid c.args.block (reads_works s q c.requires.may.acting.store.pairs c.first_waiting.ensures.rest) c.requires.may c.park_operand.new.store c.park_operand.result
+    (c.park_operand.ensures.step core (operand_worked core s q c.first_waiting.ensures.rest c.args.block c.args.channel (plain_val c.args.message.now) c.args.at c.requires.sends)
+    (λ number e. c.in_default.not-Input number (c.first_waiting.ensures.first ∙ sym (ap oldest (c.first_waiting.ensures.contents (c.args.channel + 1))) ∙ e)))
+
+pub returns-in-Input-clause-work : goal.returns-in-Input-clause-work
+returns-in-Input-clause-work c x own f =
+    let core = core_in c.args.code.now in
+    let s = c.args.store.now in
+    let message = plain_val c.args.message.now in
+    meeting_works c.args.code.now c.requires.may.code_is s c.send_operand.new.store c.args.block c.requires.may.acting.store c.args.channel c.in-Input.reader
+    (sym c.first_waiting.ensures.first ∙ c.in-Input.is) (operand_value (known s.heap s.values.items) message) c.args.at (operand_process core s c.args.block c.args.channel message c.args.at x)
+    (λ replicated pattern part theirs frame i g h. costs_then s.queues c.first_waiting.new.queues c.send_operand.new.store.queues 2 _ _ c.first_waiting.ensures.cost (c.send_operand.ensures.cost replicated pattern part theirs frame i g h) (omega arith))
+    x.chan message c.args.at x.acts own f

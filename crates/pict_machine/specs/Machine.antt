@@ -1,0 +1,53 @@
+-- What a machine stands for, and what it keeps from step to step.
+use Rattle.std.specs.Prelude.{◌≡◌, ◌-◌, ℕ, length}
+use Rattle.pict_core.specs.Term.{Process}
+use Rattle.pict_code.specs.Plain.{plain_code}
+use Rattle.pict_code.specs.ReadBack.{core_of}
+use Rattle.pict_heap.specs.HeapState.{HeapState}
+use Rattle.pict_queue.specs.QueuesState.{QueuesState}
+use Rattle.pict_queue.specs.Contents.{KeepsAllContents}
+use Rattle.pict_view.specs.View.{View}
+use Rattle.pict_view.specs.Held.{IsHeldBy}
+use Rattle.pict_turns.specs.Acting.{IsCode, IsStore, KeepsHeap}
+use Rattle.pict_turns.specs.Cost.{step_cost}
+use Rattle.pict_turns.specs.Views as store
+use Rattle.pict_machine.specs.declared.machine.Machine.{Machine}
+
+-- the process whose code the machine has
+abbrev pub core_in : Machine → Process
+core_in m = core_of (plain_code m.code)
+
+-- the view of a machine: what the blocks of its queues stand for
+abbrev pub view_of : Machine → View
+view_of m = store.view_of (core_in m) m.store
+
+-- the texts and records of a machine
+abbrev pub heap_of : Machine → HeapState
+heap_of m = m.store.heap
+
+-- its ready processes, and what is parked, as blocks
+abbrev pub queues_of : Machine → QueuesState
+queues_of m = m.store.queues
+
+-- how many channels are made: each has a queue, beside that of the ready processes
+abbrev pub channels_of : Machine → ℕ
+channels_of m = length m.store.queues.queues - 1
+
+-- what the next step may cost
+abbrev pub cost_of : Machine → ℕ
+cost_of m = step_cost (core_in m) m.store
+
+-- What holds of a machine between two steps. Its code is that of a closed process, and its store is one of this code. At each
+-- channel messages wait, or readers, and never both.
+pub record IsMachine (m : Machine) : Type 0 where
+  pub code : IsCode (plain_code m.code)
+  pub store : IsStore (core_in m) m.store
+  pub held : IsHeldBy (view_of m)
+
+-- Nothing has changed but room, spare blocks, work, and the values of levels, which count only while a block acts.
+pub record IsUnchanged (old new : Machine) : Type 0 where
+  pub code : new.code ≡ old.code
+  pub queues : length new.store.queues.queues ≡ length old.store.queues.queues
+  pub contents : KeepsAllContents old.store.queues new.store.queues
+  pub heap : KeepsHeap (heap_of old) (heap_of new)
+  pub view : view_of new ≡ view_of old

@@ -1,0 +1,79 @@
+// What steps show, and how steps and runs end.
+ghost use Rattle.std.specs.Prelude.{◌≡◌};
+ghost use Rattle.pict_machine.specs.Events.{trap_of};
+
+use pict_heap::Word;
+use pict_syntax::Span;
+use std::alloc::AllocError;
+use thiserror::Error;
+
+/// What a step shows, by words of the machine's heap.
+#[derive(Clone, Copy)]
+pub enum Event {
+    /// Nothing.
+    Quiet,
+    /// A value is received on a channel.
+    Comm {
+        /// The channel's number.
+        channel: u32,
+        /// The value's word.
+        value: Word,
+    },
+    /// This text or number is printed. A number is printed as its decimal text.
+    Print(Word),
+    /// The step divides by zero, for the output at this place. It changes nothing.
+    Trapped(Span),
+}
+
+/// How a run ends.
+#[derive(Clone, Copy, PartialEq, Eq, Debug)]
+pub enum End {
+    /// Nothing is ready.
+    Done,
+    /// As many steps as the fuel allows are done, and something is ready still.
+    FuelSpent,
+    /// A step divides by zero, for the output at this place.
+    Trap(Span),
+}
+
+/// How a run ends, and after how many steps.
+#[derive(Clone, Copy, PartialEq, Eq, Debug)]
+pub struct Stopped {
+    /// How it ends.
+    pub end: End,
+    /// How many steps are done. A step that traps counts.
+    pub steps: u64,
+}
+
+/// Why a run has no end.
+#[derive(Debug, Drop, Error)]
+pub enum RunError {
+    /// The watcher could not show an event.
+    #[error("an event could not be shown")]
+    Sink,
+    /// Memory is wanting.
+    #[error("out of memory")]
+    Memory,
+}
+
+impl From<AllocError> for RunError {
+    ghost use Rattle.pict_machine.specs.declared.event.RunError.TheVariants.{Memory};
+
+    ghost from_gives = { λ _ e. e ≡ Memory };
+
+    fn from(_: AllocError) -> RunError {
+        RunError::Memory
+    }
+}
+
+impl Event {
+    /// The place of a trap, if the event is one. Takes no memory.
+    pub fn trap(&self) -> Option<Span>
+        ensures { result ≡ trap_of self.now }
+    {
+        match self {
+            Event::Trapped(at) => Some(*at),
+            _ => None,
+        }
+    }
+}

@@ -1,0 +1,172 @@
+// Runs of the machine, and who watches them.
+ghost use Rattle.std.specs.Prelude.{◌≡◌, ◌≢◌, ◌≤◌, ◌<◌, ◌+◌, ◌^◌, ◌↔◌, ◌∷◌, [], ℕ, List, Option, IfOk, OnOk, OnErr, Err};
+ghost use Rattle.pict_outside.specs.Counts.{Rose};
+ghost use Rattle.pict_core.specs.Configuration.{Configuration, IsConfiguration};
+ghost use Rattle.pict_core.specs.Step.{Label};
+ghost use Rattle.pict_core.specs.Run.{shown};
+ghost use Rattle.pict_heap.specs.HeapState.{KeepsWords};
+ghost use Rattle.pict_view.specs.View.{StandsFor};
+ghost use Rattle.pict_view.specs.Right.{IsRightFor};
+ghost use Rattle.pict_view.specs.Watching.{WhereTold, Saw, SawOrTore, Ran, RanFor, BrokeOff};
+ghost use Rattle.pict_machine.specs.Events.{label_of, end_of, IsEventOf, IsShown};
+ghost use Rattle.pict_machine.specs.Machine.{IsMachine, view_of, heap_of, channels_of};
+
+use crate::event::{End, Event, RunError, Stopped};
+use crate::machine::Machine;
+use pict_heap::Heap;
+use pict_syntax::FUEL_LIMIT;
+
+/// One who is shown each event of a run that is a communication or a printing, as soon as its step is done.
+///
+/// Each watcher says what its view is, a list of numbers: the bytes that it has written, say, or what it has counted.
+pub trait Watcher {
+    /// The view, where it is told.
+    ghost view: { Self → Option (List ℕ) };
+
+    /// The view after a label was shown with its step number.
+    ghost next: { Self → List ℕ → ℕ → Label → List ℕ };
+
+    /// The views that a refused showing may leave, from the view before it.
+    ghost torn: { Self → List ℕ → ℕ → Label → List ℕ → Type 0 };
+
+    /// How often showing failed, counted up to the greatest `u64`.
+    ghost faults: { Self → ℕ };
+
+    /// It shows through the same references as before.
+    ghost same: { Self → Self → Type 0 };
+
+    /// Shows the event of the step with this number, from 1. The event's words are those of the heap. `Sink` comes only where the
+    /// count of faults rose.
+    fn see(&mut self, heap: &Heap, number: u64, event: &Event) -> Result<(), RunError>
+        requires shown { IsShown event.now }
+        requires event { IsEventOf heap.now event.now }
+        ensures seen { OnOk result (WhereTold (λ before after. after ≡ next self.old before number (label_of heap.now event.now)) (view self.old) (view self.new)) }
+        ensures torn { OnErr result (WhereTold (λ before after. torn self.old before number (label_of heap.now event.now) after) (view self.old) (view self.new)) }
+        ensures next_stays { (v : List ℕ) (n : ℕ) (l : Label) → next self.new v n l ≡ next self.old v n l }
+        ensures torn_stays { (v : List ℕ) (n : ℕ) (l : Label) (after : List ℕ) → torn self.new v n l after ↔ torn self.old v n l after }
+        ensures faults_stay { faults self.old ≤ faults self.new }
+        ensures sink { result ≡ Err RunError.Sink → Rose (faults self.old) (faults self.new) }
+        ensures same { same self.old self.new };
+
+    ghost same_itself: { (w : Self) → same w w };
+
+    ghost same_along: { (u v w : Self) → same u v → same v w → same u w };
+}
+
+// Shows the event, unless it is quiet or a trap.
+fn show<W: Watcher>(
+    watcher: &mut W,
+    heap: &Heap,
+    number: u64,
+    event: &Event,
+) -> Result<(), RunError>
+    requires { IsEventOf heap.now event.now }
+    ensures seen { OnOk result (Saw (W.next watcher.old) (W.view watcher.old) (W.view watcher.new) (shown number (label_of heap.now event.now))) }
+    ensures torn { OnErr result (WhereTold (λ before after. W.torn watcher.old before number (label_of heap.now event.now) after)
+        (W.view watcher.old) (W.view watcher.new)) }
+    ensures one { OnErr result (shown number (label_of heap.now event.now) ≡ (number, label_of heap.now event.now) ∷ []) }
+    ensures next_stays { (v : List ℕ) (n : ℕ) (l : Label) → W.next watcher.new v n l ≡ W.next watcher.old v n l }
+    ensures torn_stays { (v : List ℕ) (n : ℕ) (l : Label) (after : List ℕ) → W.torn watcher.new v n l after ↔ W.torn watcher.old v n l after }
+    ensures faults_stay { W.faults watcher.old ≤ W.faults watcher.new }
+    ensures sink { result ≡ Err RunError.Sink → Rose (W.faults watcher.old) (W.faults watcher.new) }
+    ensures same { W.same watcher.old watcher.new }
+{
+    match event {
+        Event::Quiet => Ok(()),
+        Event::Trapped(_) => Ok(()),
+        _ => watcher.see(heap, number, event),
+    }
+}
+
+impl Machine {
+    /// Up to `fuel` steps, each the oldest-first step, until nothing is ready or a step traps. After each step that shows
+    /// something the watcher sees its event, with step numbers from 1.
+    ///
+    /// The answer is the end of the run with this fuel, of each configuration that the machine stands for, with the
+    /// number of its steps, and the watcher has seen exactly its labels, in order. A step that traps counts.
+    /// `Sink` and `Memory` break the run off. The machine then stands for the configuration after some steps of the run, and
+    /// what the watcher has seen are their labels, of which showing the last may have been refused. `Sink` comes only where
+    /// the watcher's count of faults rose.
+    ///
+    /// No step within the fuel may be wrong: so it is in the run of some configuration that the machine stands for.
+    pub fn run_counted<W: Watcher>(
+        &mut self,
+        fuel: u64,
+        watcher: &mut W,
+    ) -> Result<Stopped, RunError>
+        requires kept { IsMachine self.old }
+        requires fuel { fuel ≤ FUEL_LIMIT }
+        requires few { channels_of self.old + fuel < 2 ^ 32 }
+        requires right { IsRightFor (view_of self.old) fuel }
+        ensures kept { IsMachine self.new }
+        ensures end { IfOk result (λ s. (C : Configuration) → IsConfiguration C → StandsFor (view_of self.old) C
+            → RanFor C fuel s.steps (end_of s.end) (view_of self.new) (Saw (W.next watcher.old) (W.view watcher.old) (W.view watcher.new))) }
+        ensures broken { OnErr result ((C : Configuration) → IsConfiguration C → StandsFor (view_of self.old) C
+            → BrokeOff C fuel (StandsFor (view_of self.new)) (SawOrTore (W.next watcher.old) (W.torn watcher.old) (W.view watcher.old) (W.view watcher.new))) }
+        ensures sink { result ≡ Err RunError.Sink → Rose (W.faults watcher.old) (W.faults watcher.new) }
+        ensures channels { channels_of self.new ≤ channels_of self.old + fuel }
+        ensures keeps { KeepsWords (heap_of self.old) (heap_of self.new) }
+        ensures faults_stay { W.faults watcher.old ≤ W.faults watcher.new }
+        ensures next_stays { (v : List ℕ) (n : ℕ) (l : Label) → W.next watcher.new v n l ≡ W.next watcher.old v n l }
+        ensures torn_stays { (v : List ℕ) (n : ℕ) (l : Label) (after : List ℕ) → W.torn watcher.new v n l after ↔ W.torn watcher.old v n l after }
+        ensures same { W.same watcher.old watcher.new }
+    {
+        for step in 0..fuel {
+            if !self.ready() {
+                return Ok(Stopped {
+                    end: End::Done,
+                    steps: step,
+                });
+            }
+            let event = self.step()?;
+            match event.trap() {
+                Some(at) => {
+                    return Ok(Stopped {
+                        end: End::Trap(at),
+                        steps: step + 1,
+                    });
+                }
+                None => {}
+            }
+            match show(watcher, self.heap(), step + 1, &event) {
+                Ok(()) => {}
+                Err(error) => return Err(error),
+            }
+        }
+        if self.ready() {
+            Ok(Stopped {
+                end: End::FuelSpent,
+                steps: fuel,
+            })
+        } else {
+            Ok(Stopped {
+                end: End::Done,
+                steps: fuel,
+            })
+        }
+    }
+
+    /// The same run, of which the answer is the end alone.
+    ///
+    /// Errors, and what the machine and the watcher are afterwards, are as `run_counted` says.
+    pub fn run<W: Watcher>(&mut self, fuel: u64, watcher: &mut W) -> Result<End, RunError>
+        requires kept { IsMachine self.old }
+        requires fuel { fuel ≤ FUEL_LIMIT }
+        requires few { channels_of self.old + fuel < 2 ^ 32 }
+        requires right { IsRightFor (view_of self.old) fuel }
+        ensures kept { IsMachine self.new }
+        ensures end { IfOk result (λ end. (C : Configuration) → IsConfiguration C → StandsFor (view_of self.old) C
+            → Ran C fuel (end_of end) (view_of self.new) (Saw (W.next watcher.old) (W.view watcher.old) (W.view watcher.new))) }
+        ensures broken { OnErr result ((C : Configuration) → IsConfiguration C → StandsFor (view_of self.old) C
+            → BrokeOff C fuel (StandsFor (view_of self.new)) (SawOrTore (W.next watcher.old) (W.torn watcher.old) (W.view watcher.old) (W.view watcher.new))) }
+        ensures sink { result ≡ Err RunError.Sink → Rose (W.faults watcher.old) (W.faults watcher.new) }
+        ensures channels { channels_of self.new ≤ channels_of self.old + fuel }
+        ensures keeps { KeepsWords (heap_of self.old) (heap_of self.new) }
+        ensures faults_stay { W.faults watcher.old ≤ W.faults watcher.new }
+        ensures next_stays { (v : List ℕ) (n : ℕ) (l : Label) → W.next watcher.new v n l ≡ W.next watcher.old v n l }
+        ensures torn_stays { (v : List ℕ) (n : ℕ) (l : Label) (after : List ℕ) → W.torn watcher.new v n l after ↔ W.torn watcher.old v n l after }
+        ensures same { W.same watcher.old watcher.new }
+    {
+        Ok(self.run_counted(fuel, watcher)?.end)
+    }
+}
