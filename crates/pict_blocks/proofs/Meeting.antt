@@ -39,7 +39,7 @@ outputs_stand core h values number chan message at node words closed b o =
 
 -- ---- inputs
 
-is_input : (i n : ℕ) (chan : Val) (replicated : Bool) (pattern : CodePat) (l : ℕ) (p : Process) → op_of i n p ≡ input_op replicated chan pattern l → IsInput i n chan replicated pattern l p
+pub is_input : (i n : ℕ) (chan : Val) (replicated : Bool) (pattern : CodePat) (l : ℕ) (p : Process) → op_of i n p ≡ input_op replicated chan pattern l → IsInput i n chan replicated pattern l p
 is_input i n chan true pattern l p e = is_serve i n chan pattern l p e
 is_input i n chan false pattern l p e = is_in i n chan pattern l p e
 

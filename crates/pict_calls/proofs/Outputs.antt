@@ -9,8 +9,6 @@ use Rattle.pict_core.proofs.Closed.{over_more}
 use Rattle.pict_code.specs.Instruction as op
 use Rattle.pict_code.specs.Nodes.{places}
 use Rattle.pict_code.proofs.Closings.{part_under}
-use Rattle.pict_frames.specs.Keeping.{kept_words}
-use Rattle.pict_frames.specs.declared.keeping.Kept.{Kept}
 use Rattle.pict_queue.specs.Contents.{held_words, contents}
 use Rattle.pict_view.specs.Moved.{Misshapen}
 use Rattle.pict_view.specs.ViewStep.{act, perform}
@@ -18,7 +16,7 @@ use Rattle.pict_blocks.specs.Blocks.{value_in, process_of}
 use Rattle.pict_blocks.proofs.Meeting.{outputs_stand}
 use Rattle.pict_blocks.proofs.Nodes.{is_out}
 use Rattle.pict_blocks.proofs.Standing.{op_is}
-use Rattle.pict_turns.specs.Acting.{HasActing, ActsBy, IsRight}
+use Rattle.pict_turns.specs.Acting.{ActsBy, IsRight}
 use Rattle.pict_turns.specs.Views.{channel_lists}
 use Rattle.pict_turns.specs.declared.store.Store.{Store}
 use Rattle.pict_turns.proofs.Numbered.{place_low, standing}
@@ -30,14 +28,6 @@ taken rest lists at None right = absurd (right refl)
 taken rest lists at (Some e) right = refl
 
 module _ (core : Process) (s : Store) (block : ℕ) where
-  -- an output of kept values
-  pub kept_calls : (p : Primitive) (kept : Kept) → HasActing core s block → held_words s.queues.region block ≡ kept_words kept → value_in s.heap kept.to.0 kept.to.1 ≡ PrimitiveVal p
-      → CallsOn core s block p (value_in s.heap kept.message.0 kept.message.1) kept.at
-  kept_calls p kept acting is to = record {
-    acting = acting;
-    output = ap (process_of core (value_in s.heap)) is ∙ ap (λ v. Out v (value_in s.heap kept.message.0 kept.message.1) kept.at) to;
-  }
-
   -- the primitive takes the value, where the step isn't wrong
   pub takes : (p : Primitive) (v : Val) (at : Span) → CallsOn core s block p v at → IsRight core s block → IsSome (effect_of p v)
   takes p v at on right =

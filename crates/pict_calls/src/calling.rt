@@ -57,7 +57,8 @@ pub fn call(
     requires held { IsHeld store.old.queues block }
     requires word { IsWord store.old.heap argument }
     requires takes { IsSome (effect_of p (value_of store.old.heap argument)) }
-    ensures done { (core : Process) → CallsOn core store.old block p (value_of store.old.heap argument) at → IfOk result (IsCalled core store.old store.new block) }
+    ensures done { (core : Process) → CallsOn core store.old block p (value_of store.old.heap argument) at
+        → IfOk result (IsCalled core store.old store.new block) }
     ensures refused { (core : Process) → HasActing core store.old block → OnErr result (IsRefused core store.old store.new block) }
     ensures piles { KeepsPiles store.old.pending store.new.pending }
     ensures cost { CostsAtMost 11 store.old.queues store.new.queues }

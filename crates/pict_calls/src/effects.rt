@@ -86,7 +86,8 @@ fn decimal_len(word: Word) -> u64
 fn number_len(operand: &Operand, values: &[(u64, u64)]) -> u64
     requires over { IsOver (length values.now) 0 (plain_val operand.now) }
     requires pairs { (h : HeapState) × ArePairs h values.now }
-    ensures value { (h : HeapState) (n : ℤ) → ArePairs h values.now → operand_in h values.now (plain_val operand.now) ≡ Int n → length (signed_decimal n) ≤ result }
+    ensures value { (h : HeapState) (n : ℤ) → ArePairs h values.now → operand_in h values.now (plain_val operand.now) ≡ Int n
+        → length (signed_decimal n) ≤ result }
     ensures small { result ≤ 20 }
 {
     match word_at_hand(operand, values) {
@@ -113,7 +114,8 @@ fn spelled_len(fields: &[Operand], values: &[(u64, u64)]) -> u64
 fn joined_len(heap: &Heap, fields: &[Operand], values: &[(u64, u64)]) -> u64
     requires over { AreOver (length values.now) 0 (vals_of (map plain_val fields.now)) }
     requires pairs { ArePairs heap.now values.now }
-    ensures { (labelled : Labelled) (e : Effect) → effect_of primitive.Join (argument_of heap.now values.now fields.now labelled) ≡ Some e → AnswersAtMost result e }
+    ensures { (labelled : Labelled) (e : Effect)
+        → effect_of primitive.Join (argument_of heap.now values.now fields.now labelled) ≡ Some e → AnswersAtMost result e }
 {
     if fields.len() == 3 {
         text_len(heap, &fields[0], values) + text_len(heap, &fields[1], values)

@@ -57,7 +57,9 @@ fn decide(store: &mut Store, p: Prim, fields: &[Operand]) -> Act
     requires room { HasRoomFor store.old.heap store.old.pending
         (both_needs (fields_need (length fields.now)) (needs_of (vals_of (map plain_val fields.now)))) }
     requires takes { (labelled : Labelled) × IsSome (effect_of p (argument_of store.old.heap store.old.values.items fields.now labelled)) }
-    ensures effect { (labelled : Labelled) → effect_of p (argument_of store.old.heap store.old.values.items fields.now labelled) ≡ Some (effect_act store.new.heap result) }
+    ensures effect { (labelled : Labelled)
+        → effect_of p (argument_of store.old.heap store.old.values.items fields.now labelled)
+            ≡ Some (effect_act store.new.heap result) }
     ensures act { IsActOf store.new.heap result }
     ensures keeps { KeepsWords store.old.heap store.new.heap }
     ensures used { UsesNeed store.old.heap.room store.new.heap.room (needs_of (vals_of (map plain_val fields.now))) }
@@ -114,7 +116,9 @@ fn call_making(
     requires over { AreOver (length store.old.values.items) 0 (vals_of (map plain_val fields.now)) }
     requires pairs { ArePairs store.old.heap store.old.values.items }
     requires takes { (labelled : Labelled) × IsSome (effect_of p (argument_of store.old.heap store.old.values.items fields.now labelled)) }
-    ensures done { (core : Process) (labelled : Labelled) → CallsOn core store.old block p (argument_of store.old.heap store.old.values.items fields.now labelled) at → IfOk result (IsCalled core store.old store.new block) }
+    ensures done { (core : Process) (labelled : Labelled)
+        → CallsOn core store.old block p (argument_of store.old.heap store.old.values.items fields.now labelled) at
+        → IfOk result (IsCalled core store.old store.new block) }
     ensures refused { (core : Process) → HasActing core store.old block → OnErr result (IsRefused core store.old store.new block) }
     ensures piles { KeepsPiles store.old.pending store.new.pending }
     ensures cost { CostsAtMost 11 store.old.queues store.new.queues }
@@ -149,7 +153,9 @@ pub(crate) fn call_fields(
     requires over { AreOver (length store.old.values.items) 0 (vals_of (map plain_val fields.now)) }
     requires pairs { ArePairs store.old.heap store.old.values.items }
     requires takes { (labelled : Labelled) × IsSome (effect_of p (argument_of store.old.heap store.old.values.items fields.now labelled)) }
-    ensures done { (core : Process) (labelled : Labelled) → CallsOn core store.old block p (argument_of store.old.heap store.old.values.items fields.now labelled) at → IfOk result (IsCalled core store.old store.new block) }
+    ensures done { (core : Process) (labelled : Labelled)
+        → CallsOn core store.old block p (argument_of store.old.heap store.old.values.items fields.now labelled) at
+        → IfOk result (IsCalled core store.old store.new block) }
     ensures refused { (core : Process) → HasActing core store.old block → OnErr result (IsRefused core store.old store.new block) }
     ensures piles { KeepsPiles store.old.pending store.new.pending }
     ensures cost { CostsAtMost 11 store.old.queues store.new.queues }

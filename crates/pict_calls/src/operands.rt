@@ -68,7 +68,9 @@ fn call_made(
     requires over { IsOver (length store.old.values.items) 0 (plain_val message.now) }
     requires pairs { ArePairs store.old.heap store.old.values.items }
     requires takes { IsSome (effect_of p (operand_in store.old.heap store.old.values.items (plain_val message.now))) }
-    ensures done { (core : Process) → CallsOn core store.old block p (operand_in store.old.heap store.old.values.items (plain_val message.now)) at → IfOk result (IsCalled core store.old store.new block) }
+    ensures done { (core : Process)
+        → CallsOn core store.old block p (operand_in store.old.heap store.old.values.items (plain_val message.now)) at
+        → IfOk result (IsCalled core store.old store.new block) }
     ensures refused { (core : Process) → HasActing core store.old block → OnErr result (IsRefused core store.old store.new block) }
     ensures piles { KeepsPiles store.old.pending store.new.pending }
     ensures cost { CostsAtMost 11 store.old.queues store.new.queues }
@@ -97,7 +99,9 @@ pub fn call_operand(
     requires over { IsOver (length store.old.values.items) 0 (plain_val message.now) }
     requires pairs { ArePairs store.old.heap store.old.values.items }
     requires takes { IsSome (effect_of p (operand_in store.old.heap store.old.values.items (plain_val message.now))) }
-    ensures done { (core : Process) → CallsOn core store.old block p (operand_in store.old.heap store.old.values.items (plain_val message.now)) at → IfOk result (IsCalled core store.old store.new block) }
+    ensures done { (core : Process)
+        → CallsOn core store.old block p (operand_in store.old.heap store.old.values.items (plain_val message.now)) at
+        → IfOk result (IsCalled core store.old store.new block) }
     ensures refused { (core : Process) → HasActing core store.old block → OnErr result (IsRefused core store.old store.new block) }
     ensures piles { KeepsPiles store.old.pending store.new.pending }
     ensures cost { CostsAtMost 11 store.old.queues store.new.queues }

@@ -3,3 +3,4 @@ pub mod Growth
 pub mod Look
 pub mod Pairs
 pub mod Index
+pub mod Records

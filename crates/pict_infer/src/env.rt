@@ -43,7 +43,8 @@ impl<'a> Env<'a> {
     ghost use Rattle.pict_rules.specs.Environments.{defined, extended, no_environment, one_value, only_types, type_of_use};
     ghost use Rattle.pict_rules.specs.Regular.{kinds_in};
     ghost use Rattle.pict_infer.specs.Adding.{extension_of};
-    ghost use Rattle.pict_infer.specs.Environments.{environment_of, known_entries, known_names, with_value, GrewFrom, HasGrownFrom, IsAsBefore, IsPlaceOf, MayBeAdded};
+    ghost use Rattle.pict_infer.specs.Environments.{environment_of, known_entries, known_names, with_value};
+    ghost use Rattle.pict_infer.specs.Environments.{GrewFrom, HasGrownFrom, IsAsBefore, IsPlaceOf, MayBeAdded};
 
     /// Nothing is known. Takes no memory.
     pub fn new(alloc: Global, names: &'a Names) -> Env<'a>

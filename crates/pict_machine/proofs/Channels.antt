@@ -1,5 +1,5 @@
 -- What is known of a block that acts at a channel or on a primitive, where its step isn't wrong.
-use Rattle.std.proofs.Common.{ℕ, ◌+◌, ◌-◌, ◌≡◌, Bool, true, false, List, length, map, refl, sym, ap, ◌∙◌, subst, arith}
+use Rattle.std.proofs.Common.{ℕ, ◌+◌, ◌-◌, ◌≡◌, Bool, List, length, map, refl, sym, ap, ◌∙◌, subst, arith}
 use Rattle.pict_syntax.specs.declared.span.Span.{Span}
 use Rattle.pict_syntax.specs.declared.primitive.Primitive.{Primitive}
 use Rattle.pict_core.specs.Term as term
@@ -7,7 +7,7 @@ use Rattle.pict_core.specs.Term.{Val, Pat, Process, Chan, PrimitiveVal, In, Out}
 use Rattle.pict_core.specs.Closed.{IsClosed, IsOver, IsUnder}
 use Rattle.pict_core.proofs.Closed.{over_more}
 use Rattle.pict_code.specs.Instruction.{CodePat}
-use Rattle.pict_code.specs.Nodes.{places, input_op, op_of}
+use Rattle.pict_code.specs.Nodes.{places, input_op}
 use Rattle.pict_code.specs.ReadBack.{unleveled}
 use Rattle.pict_code.proofs.Closings.{part_under}
 use Rattle.pict_queue.specs.QueuesState.{IsQueue}
@@ -17,10 +17,8 @@ use Rattle.pict_heap.specs.declared.word.Word.{Word}
 use Rattle.pict_heap.specs.declared.word.Word.TheVariants as word
 use Rattle.pict_view.specs.Moved.{Misshapen}
 use Rattle.pict_view.specs.ViewStep as view
-use Rattle.pict_view.specs.ViewStep.{next_view}
 use Rattle.pict_blocks.specs.Blocks.{value_in, process_of, known, operand_value}
 use Rattle.pict_blocks.proofs.Meeting.{inputs_stand}
-use Rattle.pict_blocks.proofs.Nodes.{IsInput, is_in, is_serve}
 use Rattle.pict_blocks.proofs.Standing.{op_is}
 use Rattle.pict_operands.specs.AtHand.{IsOfHeap}
 use Rattle.pict_turns.specs.Acting.{ActsBy, IsRight}
@@ -28,7 +26,8 @@ use Rattle.pict_turns.specs.Views.{channel_lists}
 use Rattle.pict_turns.specs.declared.store.Store.{Store}
 use Rattle.pict_turns.proofs.Numbered.{place_low, standing}
 use Rattle.pict_turns.proofs.Rows.{length_lists}
-use Rattle.pict_turns.proofs.Words.{record_is}
+use Rattle.pict_heap.proofs.Records.{record_is}
+use Rattle.pict_blocks.proofs.Meeting.{is_input}
 use Rattle.pict_meetings.specs.Partners.{Receives}
 use Rattle.pict_meetings.proofs.Fitting.{input_there, output_there}
 
@@ -97,17 +96,13 @@ module _ (core : Process) (s : Store) (block : ℕ) (right : IsRight core s bloc
 
 -- ---- an input of a node
 
-input_of : (i n : ℕ) (chan : Val) (replicated : Bool) (pattern : CodePat) (part : ℕ) (p : Process) → op_of i n p ≡ input_op replicated chan pattern part → IsInput i n chan replicated pattern part p
-input_of i n chan true pattern part p e = is_serve i n chan pattern part p e
-input_of i n chan false pattern part p e = is_in i n chan pattern part p e
-
 module _ (core : Process) (s : Store) (block : ℕ) (closed : IsClosed core) (replicated : Bool) (chan : Val) (pattern : CodePat) (part : ℕ) (a : ActsBy core s block (input_op replicated chan pattern part)) where
   -- the variables of its operand are levels that have a place
   pub input_over : IsOver (length s.values.items) 0 chan
   input_over =
       let st = standing core s block (input_op replicated chan pattern part) a in
       let n = st.part.around in
-      let form = input_of a.number n chan replicated pattern part st.part.process (op_is core a.number a.node st.part (input_op replicated chan pattern part) st.at a.op_is) in
+      let form = is_input a.number n chan replicated pattern part st.part.process (op_is core a.number a.node st.part (input_op replicated chan pattern part) st.at a.op_is) in
       let under : IsUnder n 0 (In chan replicated form.pattern form.body) = subst (IsUnder n 0) form.is (part_under core a.number st.part closed st.at.at) in
       let low = place_low (length s.values.items) (places 0 core) a.number st.part a.acting.store.levels st.at.at in
       over_more n (length s.values.items) 0 0 low (omega arith) chan under.0

@@ -19,9 +19,8 @@ use Rattle.pict_frames.specs.Framed.{pair_at}
 use Rattle.pict_meetings.specs.Partners.{Receives}
 use Rattle.pict_machine.proofs.Taking.{values_same}
 use Rattle.pict_blocks.specs.Blocks.{value_in, known, operand_value, IsNodeBlock}
-use Rattle.pict_queue.specs.Contents.{held_words}
-use Rattle.pict_turns.specs.Acting.{core_in, ActsBy, HasActing}
-use Rattle.pict_turns.specs.Reading.{OnlyReads, HasReadNode}
+use Rattle.pict_turns.specs.Acting.{core_in, ActsBy}
+use Rattle.pict_turns.specs.Reading.{OnlyReads}
 use Rattle.pict_turns.specs.Reserving.{OnlyReserves}
 use Rattle.pict_turns.specs.Views.{IsBlock, IsNode, IsKept}
 use Rattle.pict_turns.specs.declared.store.Store.{Store}
@@ -141,14 +140,3 @@ op_read code number node n at is =
     let here : slice_get (map plain_node code) number ≡ Some (plain_node node) = slice_get-map plain_node code number ∙ ap (option_map plain_node) (slice_get_read code (length code) number node refl low is) in
     let same : n ≡ plain_node node = let e : Some n ≡ Some (plain_node node) = sym at ∙ here in cc in
     ap (λ (x : plain.Node). x.op) same ∙ ap (λ (x : Node). plain_op x.op) is
-
--- the block of a node acts by its instruction once its frame is read, as the node of its number
-abbrev pub node_acts : (core : Process) (old new : Store) (block number : ℕ) (op : Op) → HasActing core old block → (h : HasReadNode core old new number (held_words old.queues.region block)) → h.node.op ≡ op
-    → ActsBy core new block op
-node_acts core old new block number op a h e = record {
-  acting = acting_read old new h.rest core block a;
-  number = number;
-  node = h.node;
-  is = subst (IsNodeBlock core new.heap new.values.items number h.node) (sym (words_read old new h.rest block)) h.is;
-  op_is = e;
-}

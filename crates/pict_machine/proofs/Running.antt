@@ -1,8 +1,8 @@
 -- Runs that break off: before a step for want of memory, or behind one whose showing was refused.
-use Rattle.std.proofs.Common.{ℕ, ◌≤◌, ◌≡◌, inl, List, sym, ◌∙◌, subst, Option, Some, None, Result, Ok, Err, OnErr}
+use Rattle.std.proofs.Common.{ℕ, ◌≤◌, ◌≡◌, inl, List, sym, subst, Option, Some, None, Result, Ok, Err, OnErr}
 use Rattle.pict_core.specs.Configuration.{Configuration, IsConfiguration}
 use Rattle.pict_core.specs.Step.{Label}
-use Rattle.pict_heap.specs.HeapState.{HeapState, KeepsWords}
+use Rattle.pict_heap.specs.HeapState.{HeapState}
 use Rattle.pict_view.specs.View.{View, StandsFor}
 use Rattle.pict_view.specs.Watching.{Saw, SawOrTore, BrokeOff}
 use Rattle.pict_view.specs.Stepping.{IsStepOf}
@@ -26,12 +26,6 @@ broke_before n fuel C v v' f T before after few same s = record {
   reached = s.reached;
   stands = subst (λ w. StandsFor w s.last) (sym same) s.stands;
   seen = saw_all f T before after s.labels s.seen;
-}
-
-pub words_kept : (a b c : HeapState) → KeepsWords a b → KeepsWords b c → KeepsWords a c
-words_kept a b c k l = record {
-  words = λ w is. l.words w (k.words w is);
-  values = λ w is. l.values w (k.words w is) ∙ k.values w is;
 }
 
 pub on_err : {T E P : Type 0} (r : Result T E) → P → OnErr r P

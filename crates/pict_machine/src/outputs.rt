@@ -85,7 +85,8 @@ pub(crate) fn output(
     requires may { MayAct code.now store.old block }
     requires acts { ActsBy (core_in code.now) store.old block (op.Out (plain_val chan.now) (plain_val message.now) at) }
     ensures step { IsStepBy (core_in code.now) store.old store.new block result }
-    ensures work { (a : ActsBy (core_in code.now) store.old block (op.Out (plain_val chan.now) (plain_val message.now) at)) (own : List ℕ) → HasFrame (map plain_node code.now) a.number own
+    ensures work { (a : ActsBy (core_in code.now) store.old block (op.Out (plain_val chan.now) (plain_val message.now) at))
+        (own : List ℕ) → HasFrame (map plain_node code.now) a.number own
         → Fits (core_in code.now) store.old store.new block (block_width own + 3) }
 {
     match word_at_hand(chan, &store.values) {

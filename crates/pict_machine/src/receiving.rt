@@ -16,18 +16,10 @@ use pict_code::{CodePat, Node, Operand};
 use pict_heap::Word;
 use pict_meetings::{Waiting, first_waiting, meet_message, park};
 use pict_operands::word_at_hand;
-use pict_prim::Need;
+use pict_prim::NO_NEED;
 use pict_region::Block;
 use pict_turns::{Store, frame_at, refuse, reserve_part};
 use std::alloc::AllocError;
-
-// Nothing is needed of the heap.
-pub(crate) const NOTHING: Need = Need {
-    records: 0,
-    fields: 0,
-    texts: 0,
-    bytes: 0,
-};
 
 // The step of an input from a channel where a message waits.
 fn receive_message(
@@ -46,7 +38,7 @@ fn receive_message(
     ensures cost { (frame : List ℕ) → HasFrame (map plain_node code.now) part frame → CostsAtMost (block_width frame + 9) store.old.queues store.new.queues }
 {
     let frame = frame_at(code, part as usize);
-    match reserve_part(store, frame, NOTHING) {
+    match reserve_part(store, frame, NO_NEED) {
         Ok(()) => {
             let value = meet_message(store, code, block, channel, pattern, part, replicated);
             Ok(Event::Comm { channel, value })

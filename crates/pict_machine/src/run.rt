@@ -40,8 +40,10 @@ pub trait Watcher {
     fn see(&mut self, heap: &Heap, number: u64, event: &Event) -> Result<(), RunError>
         requires shown { IsShown event.now }
         requires event { IsEventOf heap.now event.now }
-        ensures seen { OnOk result (WhereTold (λ before after. after ≡ next self.old before number (label_of heap.now event.now)) (view self.old) (view self.new)) }
-        ensures torn { OnErr result (WhereTold (λ before after. torn self.old before number (label_of heap.now event.now) after) (view self.old) (view self.new)) }
+        ensures seen { OnOk result (WhereTold (λ before after. after ≡ next self.old before number (label_of heap.now event.now))
+            (view self.old) (view self.new)) }
+        ensures torn { OnErr result (WhereTold (λ before after. torn self.old before number (label_of heap.now event.now) after)
+            (view self.old) (view self.new)) }
         ensures next_stays { (v : List ℕ) (n : ℕ) (l : Label) → next self.new v n l ≡ next self.old v n l }
         ensures torn_stays { (v : List ℕ) (n : ℕ) (l : Label) (after : List ℕ) → torn self.new v n l after ↔ torn self.old v n l after }
         ensures faults_stay { faults self.old ≤ faults self.new }

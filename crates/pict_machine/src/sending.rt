@@ -22,11 +22,11 @@ ghost use Rattle.pict_machine.specs.Stepping.{MayAct, IsStepBy};
 ghost use Rattle.pict_machine.specs.Work.{Fits};
 
 use crate::event::Event;
-use crate::receiving::NOTHING;
 use pict_code::{Node, Op, Operand};
 use pict_heap::Word;
 use pict_meetings::{Waiting, first_waiting, meet_reader, park, park_output};
 use pict_operands::{need, word_of};
+use pict_prim::NO_NEED;
 use pict_region::Block;
 use pict_syntax::Span;
 use pict_turns::{Store, frame_at, refuse, reserve_kept, reserve_part};
@@ -68,12 +68,13 @@ fn send_to_reader(
     requires sends { (at : AnySpan) × Sends (core_in code.now) store.old block channel message at }
     requires first { waits_first store.old.queues channel ≡ Waiting.Input reader }
     ensures step { IsStepBy (core_in code.now) store.old store.new block result }
-    ensures cost { (replicated : Bool) (pattern : AnyPattern) (part : ℕ) (own frame : List ℕ) → IsInputWith (map plain_node code.now) reader replicated pattern part
+    ensures cost { (replicated : Bool) (pattern : AnyPattern) (part : ℕ) (own frame : List ℕ)
+        → IsInputWith (map plain_node code.now) reader replicated pattern part
         → HasFrame (map plain_node code.now) reader own → HasFrame (map plain_node code.now) part frame
         → CostsAtMost (block_width own + block_width frame + 7) store.old.queues store.new.queues }
 {
     let frame = reader_frame(code, reader);
-    match reserve_part(store, frame, NOTHING) {
+    match reserve_part(store, frame, NO_NEED) {
         Ok(()) => {
             meet_reader(store, code, block, channel, reader, message);
             Ok(Event::Comm {
@@ -175,7 +176,8 @@ fn send_operand(
     requires sends { (at : AnySpan) × SendsOperand (core_in code.now) store.old block channel (plain_val message.now) at }
     requires first { waits_first store.old.queues channel ≡ Waiting.Input reader }
     ensures step { IsStepBy (core_in code.now) store.old store.new block result }
-    ensures cost { (replicated : Bool) (pattern : AnyPattern) (part : ℕ) (own frame : List ℕ) → IsInputWith (map plain_node code.now) reader replicated pattern part
+    ensures cost { (replicated : Bool) (pattern : AnyPattern) (part : ℕ) (own frame : List ℕ)
+        → IsInputWith (map plain_node code.now) reader replicated pattern part
         → HasFrame (map plain_node code.now) reader own → HasFrame (map plain_node code.now) part frame
         → CostsAtMost (block_width own + block_width frame + 7) store.old.queues store.new.queues }
 {
@@ -205,7 +207,8 @@ pub(crate) fn send(
     requires may { MayAct code.now store.old block }
     requires sends { SendsOperand (core_in code.now) store.old block channel (plain_val message.now) at }
     ensures step { IsStepBy (core_in code.now) store.old store.new block result }
-    ensures work { (x : SendsOperand (core_in code.now) store.old block channel (plain_val message.now) at) (own : List ℕ) → HasFrame (map plain_node code.now) x.acts.number own
+    ensures work { (x : SendsOperand (core_in code.now) store.old block channel (plain_val message.now) at) (own : List ℕ)
+        → HasFrame (map plain_node code.now) x.acts.number own
         → Fits (core_in code.now) store.old store.new block (block_width own + 3) }
 {
     match first_waiting(&mut store.queues, channel) {

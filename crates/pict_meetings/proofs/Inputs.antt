@@ -1,5 +1,5 @@
 -- The input of a node: what it stands for, where its part stands, and the levels that its pattern binds.
-use Rattle.std.proofs.Common.{ℕ, suc, ◌+◌, ◌<◌, ◌≤◌, ◌≡◌, Bool, true, false, List, [], ◌∷◌, ◌++◌, length, sym, ap, ◌∙◌, subst, arith, Some}
+use Rattle.std.proofs.Common.{ℕ, suc, ◌+◌, ◌<◌, ◌≤◌, ◌≡◌, Bool, List, [], ◌∷◌, ◌++◌, length, sym, ap, ◌∙◌, subst, arith, Some}
 use Rattle.std.proofs.lemmas.Option.{slice_get_within}
 use Rattle.std.specs.List.{AllByRecursion, slice_get}
 use Rattle.pict_core.specs.Closed.{binds, binds_all, binds_labelled}
@@ -9,23 +9,20 @@ use Rattle.pict_core.specs.Term.{Val, Pat, Pats, LabelledPats, Process, In}
 use Rattle.pict_code.specs.Frames.{frame_of}
 use Rattle.pict_code.specs.Instruction.{CodePat, Node}
 use Rattle.pict_code.specs.Levels.{Rises}
-use Rattle.pict_code.specs.Nodes.{place, places, node_of, nodes_of, op_of, input_op, leveled, leveled_all, leveled_labelled}
+use Rattle.pict_code.specs.Nodes.{place, places, node_of, nodes_of, input_op, leveled, leveled_all, leveled_labelled}
 use Rattle.pict_code.specs.Standing.{closing, value_at}
 use Rattle.pict_code.proofs.Numbering.{PlacedAt, in_placed}
 use Rattle.pict_heap.specs.HeapState.{HeapState}
 use Rattle.pict_blocks.specs.Binding.{levels_of, levels_of_all, levels_of_labelled}
 use Rattle.pict_blocks.specs.Blocks.{value_in, frame_values, node_process, process_of}
-use Rattle.pict_blocks.proofs.Nodes.{IsInput, part_of, is_in, is_serve}
+use Rattle.pict_blocks.proofs.Nodes.{part_of}
+use Rattle.pict_blocks.proofs.Meeting.{is_input}
 use Rattle.pict_blocks.proofs.Parts.{placed_at}
 use Rattle.pict_blocks.proofs.Standing.{op_is}
 use Rattle.pict_turns.specs.Acting.{IsStore}
 use Rattle.pict_turns.specs.Views.{IsInputAt}
 use Rattle.pict_turns.specs.declared.store.Store.{Store}
 use Rattle.pict_turns.proofs.Numbered.{place_low, part_node}
-
-is_input : (i n : ℕ) (chan : Val) (replicated : Bool) (pattern : CodePat) (l : ℕ) (p : Process) → op_of i n p ≡ input_op replicated chan pattern l → IsInput i n chan replicated pattern l p
-is_input i n chan true pattern l p e = is_serve i n chan pattern l p e
-is_input i n chan false pattern l p e = is_in i n chan pattern l p e
 
 -- ---- what a block of an input stands for, whatever values it holds
 

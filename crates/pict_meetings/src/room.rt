@@ -4,19 +4,9 @@ ghost use Rattle.pict_turns.specs.Parts.{block_width};
 ghost use Rattle.pict_turns.specs.Reserving.{OnlyReserves};
 ghost use Rattle.pict_meetings.specs.Room.{as_wide, CanHoldAfter};
 
-use pict_prim::Need;
-use pict_turns::{Store, reserve_part};
+use pict_prim::NO_NEED;
+use pict_turns::{NARROW, Store, reserve_part};
 use std::alloc::AllocError;
-
-// A frame of at most so many levels stands in a block itself.
-const NARROW: usize = 32_000;
-
-const NOTHING: Need = Need {
-    records: 0,
-    fields: 0,
-    texts: 0,
-    bytes: 0,
-};
 
 /// Makes room for the block of a frame, once blocks that end are given back: `reuses` says whether one of them is as wide. Where
 /// one is, and the frame stands in a block itself, nothing is done. An error, which is want of memory, changes nothing but room.
@@ -29,6 +19,6 @@ pub fn reserve_served(store: &mut Store, frame: &[u32], reuses: bool) -> Result<
     if reuses && frame.len() <= NARROW {
         Ok(())
     } else {
-        reserve_part(store, frame, NOTHING)
+        reserve_part(store, frame, NO_NEED)
     }
 }

@@ -43,3 +43,11 @@ pub struct Need {
     /// Bytes of texts.
     pub bytes: u64,
 }
+
+/// Nothing.
+pub const NO_NEED: Need = Need {
+    records: 0,
+    fields: 0,
+    texts: 0,
+    bytes: 0,
+};

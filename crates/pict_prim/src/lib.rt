@@ -10,7 +10,7 @@ mod outcome;
 mod performing;
 mod texts;
 
-pub use act::{Act, Acted, Need};
+pub use act::{Act, Acted, NO_NEED, Need};
 pub use acts::{apply, attempt};
 pub use deciding::{act_on, act_on_fields};
 pub use outcome::{Done, printed_bytes};

@@ -6,7 +6,7 @@ ghost use Rattle.pict_core.specs.Term.{Text, Record, no_vals, no_labelled};
 ghost use Rattle.pict_heap.specs.HeapState.{value_of, text_of, IsWord, KeepsWords, UsesRoom};
 ghost use Rattle.pict_prim.specs.Acts.{effect_act, effect_acted, need_of, IsActOf, IsActedOf, HasRoom, UsesNeed};
 
-use crate::act::{Act, Acted, Need};
+use crate::act::{Act, Acted, NO_NEED, Need};
 use itoa::Buffer;
 use pict_heap::{Heap, Word};
 use pict_syntax::Name;
@@ -36,12 +36,7 @@ pub fn room(heap: &Heap, act: Act) -> Need
             texts: 1,
             bytes: 20,
         },
-        _ => Need {
-            records: 0,
-            fields: 0,
-            texts: 0,
-            bytes: 0,
-        },
+        _ => NO_NEED,
     }
 }
 

@@ -79,7 +79,7 @@ module _ (old new : Store) (r : OnlyReads old new) where
         }
 
 -- the block of a node acts by the node's instruction once its frame is read
-pub acts_read : (core : Process) (old new : Store) (block number : ℕ) (op : Op) → HasActing core old block
+abbrev pub acts_read : (core : Process) (old new : Store) (block number : ℕ) (op : Op) → HasActing core old block
     → (h : HasReadNode core old new number (held_words old.queues.region block)) → h.node.op ≡ op → ActsBy core new block op
 acts_read core old new block number op a h e = record {
   acting = acting_read old new h.rest core block a;

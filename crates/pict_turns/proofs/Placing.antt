@@ -4,7 +4,7 @@ use Rattle.std.proofs.lemmas.Bool.{cases_eq}
 use Rattle.std.proofs.lemmas.Bool.Decides.{nat_tests}
 use Rattle.pict_region.specs.RegionState.{RegionState, spare, KeepsOtherWidths}
 use Rattle.pict_queue.specs.QueuesState.{QueuesState, CostsAtMost}
-use Rattle.pict_queue.specs.Contents.{KeepsHeld, KeepsOtherHeld}
+use Rattle.pict_queue.specs.Contents.{KeepsOtherHeld}
 use Rattle.pict_frames.specs.Writing.{IsMade}
 
 -- a block that is given back leaves no width fewer free blocks
@@ -30,12 +30,6 @@ others_stay old given made new block part width ws first m last other apart held
     let b = m.kept other a.held in
     let c = last other (m.apart other a.held) b.held in
     record { held = c.held; words = c.words ∙ b.words ∙ a.words }
-
-pub all_stay : (old made new : QueuesState) (part width : ℕ) (ws : List ℕ) → IsMade old made part ws width → KeepsOtherHeld made new part → KeepsHeld old new
-all_stay old made new part width ws m last other held =
-    let b = m.kept other held in
-    let c = last other (m.apart other held) b.held in
-    record { held = c.held; words = c.words ∙ b.words }
 
 pub costs_up : (a b : QueuesState) (m n : ℕ) → m ≤ n → CostsAtMost m a b → CostsAtMost n a b
 costs_up a b m n h c = record { least = c.least; most = omega (arith, h, c.most) }

@@ -1,5 +1,5 @@
 -- Steps of blocks are steps of the store that holds them.
-use Rattle.std.proofs.Common.{ℕ, zero, suc, ◌+◌, ◌-◌, ◌<◌, ◌≤◌, ◌≡◌, ◌≢◌, ◌==◌, inl, inr, Bool, true, false, List, [], ◌∷◌, ◌++◌, length, map, refl, sym, ap, ◌∙◌, subst, arith, Some}
+use Rattle.std.proofs.Common.{ℕ, zero, suc, ◌+◌, ◌-◌, ◌<◌, ◌≤◌, ◌≡◌, ◌≢◌, ◌==◌, inl, inr, Bool, true, false, List, [], ◌∷◌, length, map, refl, sym, ap, ◌∙◌, subst, arith, Some}
 use Rattle.std.proofs.lemmas.Bool.Decides.{nat_tests}
 use Rattle.std.specs.List.{AllByRecursion, slice_get}
 use Rattle.pict_core.specs.Term.{Val, Process}
@@ -72,10 +72,6 @@ pub channels_stay : (old new : QueuesState) → KeepsOtherContents old new 0 →
 channels_stay old new others same =
     ap (λ (n : ℕ). lists_from new 1 (n - 1)) same
     ∙ lists_stay old new 1 (length old.queues - 1) (λ queue low. others queue (λ first. omega (arith, first, low)))
-
-pub all_pushed : {A : Type 0} (P : A → Type 0) (xs : List A) (x : A) → AllByRecursion P xs → P x → AllByRecursion P (xs ++ x ∷ [])
-all_pushed P [] x all p = (p, tt)
-all_pushed P (y ∷ ys) x all p = (all.0, all_pushed P ys x all.1 p)
 
 -- ---- a step
 

@@ -23,7 +23,8 @@ use Rattle.pict_turns.specs.Holding.{HoldsFrame}
 use Rattle.pict_turns.specs.Parts.{Places}
 use Rattle.pict_turns.specs.Views.{lists_from, channel_lists, IsBlock}
 use Rattle.pict_turns.specs.declared.store.Store.{Store}
-use Rattle.pict_turns.proofs.Rows.{made_block, made_node, node_block_stays, levels_keep, length_lists, channels_stay, all_pushed, blocks_by, waiting_by, ready_stay, store_by, done_by}
+use Rattle.pict_heap.proofs.Growth.{all_pushed}
+use Rattle.pict_turns.proofs.Rows.{made_block, made_node, node_block_stays, levels_keep, length_lists, channels_stay, blocks_by, waiting_by, ready_stay, store_by, done_by}
 use Rattle.pict_turns.proofs.Views.{frame_held, lists_stay}
 
 -- ---- a step that isn't done

@@ -1,35 +1,16 @@
 -- Which word stands for a value that is no text and no record.
-use Rattle.std.proofs.Common.{ℕ, ◌<◌, ◌≤◌, ◌≡◌, Bool, List, [], ◌∷◌, length, get_or, refl, sym, ap, ◌∙◌, ⊎_elim}
-use Rattle.std.proofs.lemmas.Bool.{cases_lt}
-use Rattle.std.proofs.lemmas.List.{get_or_past, get_or_read}
-use Rattle.std.proofs.lemmas.List.Elements.{All-nil, All-push}
-use Rattle.std.specs.List.{All, fold, slice_index_or}
+use Rattle.std.proofs.Common.{ℕ, ◌<◌, ◌≡◌, Bool, List, length, get_or, sym, ap, ◌∙◌}
+use Rattle.std.proofs.lemmas.List.{get_or_read}
 use Rattle.pict_core.specs.Term as term
-use Rattle.pict_core.specs.Term.{Val, Vals, Labelled}
-use Rattle.pict_heap.specs.HeapState.{HeapState, RecordState, record_value, more_values, values_of, value_of}
+use Rattle.pict_heap.specs.HeapState.{HeapState, value_of}
 use Rattle.pict_heap.specs.Packed.{packed, FitsWord}
 use Rattle.pict_heap.specs.declared.word.Word.{Word}
 use Rattle.pict_heap.specs.declared.word.Word.TheVariants as word
 use Rattle.pict_frames.specs.Framed.{pair_at}
 use Rattle.pict_blocks.specs.Blocks.{known}
 use Rattle.pict_operands.specs.Pairs.{ArePairs}
+use Rattle.pict_heap.proofs.Records.{record_is}
 use Rattle.pict_operands.proofs.Pairs.{value_packed}
-
-abbrev IsRecord : Val → Type 0
-IsRecord v = (vs : Vals) × (ls : Labelled) × (v ≡ term.Record vs ls)
-
-values_are : (texts : List (List ℕ)) (rs : List RecordState) (values : List Val) → All IsRecord values → All IsRecord (fold (more_values texts) values rs)
-values_are texts [] values all = all
-values_are texts (r ∷ rs) values all = values_are texts rs (more_values texts values r) (All-push IsRecord values (record_value texts values r) all (_, _, refl))
-
-record_at : (vs : List Val) (i : ℕ) → All IsRecord vs → IsRecord (slice_index_or vs i (term.Record term.no_vals term.no_labelled))
-record_at vs i all = ⊎_elim
-    (λ (low : i < length vs). all i (term.Record term.no_vals term.no_labelled) low)
-    (λ (past : length vs ≤ i). (term.no_vals, term.no_labelled, get_or_past vs i (term.Record term.no_vals term.no_labelled) past))
-    (cases_lt i (length vs))
-
-pub record_is : (h : HeapState) (number : ℕ) → (vs : Vals) × (ls : Labelled) × (value_of h (word.Fields number) ≡ term.Record vs ls)
-record_is h number = record_at (values_of h.texts h.records) number (values_are h.texts h.records [] (All-nil IsRecord))
 
 pub bool_word : (h : HeapState) (w : Word) (b : Bool) → value_of h w ≡ term.Boolean b → w ≡ word.Bool b
 bool_word h (word.Bool c) b e = let same : c ≡ b = cc in ap word.Bool same

@@ -9,7 +9,7 @@ mod reserving;
 mod store;
 
 pub use nodes::{choose, end, fork, make_channel, refuse};
-pub use parts::{hand_on, make_part, spawn_part};
+pub use parts::{NARROW, hand_on, make_part, spawn_part};
 pub use reading::{frame_at, read_part};
 pub use reserving::{KEPT_WIDTH, reserve, reserve_kept, reserve_part, reserve_parts};
 pub use store::Store;

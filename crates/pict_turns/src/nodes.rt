@@ -24,17 +24,10 @@ use pict_code::{Node, Operand};
 use pict_core::CoreVal;
 use pict_heap::{Word, pack};
 use pict_operands::word_at;
-use pict_prim::Need;
+use pict_prim::NO_NEED;
 use pict_queue::QueueId;
 use pict_region::Block;
 use std::alloc::AllocError;
-
-const NOTHING: Need = Need {
-    records: 0,
-    fields: 0,
-    texts: 0,
-    bytes: 0,
-};
 
 /// The acting block is the first of the ready ones again: its step isn't done. Takes no memory.
 pub fn refuse(store: &mut Store, block: Block)
@@ -141,7 +134,7 @@ pub fn choose(
 {
     let part = chosen(store, test, yes, no);
     let frame = frame_at(code, part as usize);
-    match reserve_part(store, frame, NOTHING) {
+    match reserve_part(store, frame, NO_NEED) {
         Ok(()) => {
             hand_on(store, block, part, frame);
             Ok(())
@@ -159,7 +152,7 @@ fn reserve_channel(store: &mut Store, frame: &[u32]) -> Result<(), AllocError>
     ensures queue { OnOk result (1 ≤ store.new.queues.spare_queues) }
     ensures rest { OnlyReserves store.old store.new }
 {
-    reserve_part(store, frame, NOTHING)?;
+    reserve_part(store, frame, NO_NEED)?;
     store.queues.reserve_queues(1)
 }
 

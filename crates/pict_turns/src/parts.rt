@@ -11,8 +11,8 @@ use pict_operands::frame_record;
 use pict_queue::QueueId;
 use pict_region::Block;
 
-// A frame of at most so many levels stands in a block itself, a larger one in a record.
-pub(crate) const NARROW: usize = 32_000;
+/// A frame of at most so many levels stands in a block itself, a larger one in a record.
+pub const NARROW: usize = 32_000;
 
 // The same of a frame that stands in the block.
 fn make_narrow(store: &mut Store, number: u32, frame: &[u32]) -> Block

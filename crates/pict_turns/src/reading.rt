@@ -34,7 +34,8 @@ fn read_narrow(store: &mut Store, block: &Block, frame: &[u32])
     requires inside { All (λ level. level < length store.old.values.items) frame.now }
     requires rising { Rises 0 frame.now }
     requires pairs { ArePairs store.old.heap store.old.values.items }
-    requires holds { (number : ℕ) × (held : List ℕ) × (held_words store.old.queues.region block.now ≡ suc number ∷ held) × HoldWords store.old.heap (length frame.now) held }
+    requires holds { (number : ℕ) × (held : List ℕ) × (held_words store.old.queues.region block.now ≡ suc number ∷ held)
+        × HoldWords store.old.heap (length frame.now) held }
     ensures read { HasRead store.old store.new (held_words store.old.queues.region block.now) frame.now }
     ensures cost { CostsAtMost (block_width frame.now) store.old.queues store.new.queues }
 {
@@ -48,7 +49,8 @@ fn read_wide(store: &mut Store, block: &Block, frame: &[u32])
     requires inside { All (λ level. level < length store.old.values.items) frame.now }
     requires rising { Rises 0 frame.now }
     requires pairs { ArePairs store.old.heap store.old.values.items }
-    requires holds { (number : ℕ) × (held : List ℕ) × (held_words store.old.queues.region block.now ≡ suc number ∷ held) × HoldRecord store.old.heap (length frame.now) held }
+    requires holds { (number : ℕ) × (held : List ℕ) × (held_words store.old.queues.region block.now ≡ suc number ∷ held)
+        × HoldRecord store.old.heap (length frame.now) held }
     ensures read { HasRead store.old store.new (held_words store.old.queues.region block.now) frame.now }
     ensures cost { CostsAtMost (block_width frame.now) store.old.queues store.new.queues }
 {

@@ -17,7 +17,7 @@ use Rattle.pict_values.specs.Fields.{positional_from, labelled_from}
 use Rattle.pict_values.specs.Pending.{piece_text, pending}
 use Rattle.pict_values.specs.declared.writing.Piece.{Piece}
 use Rattle.pict_values.proofs.Rests.{from_some, from_none, labelled_from_some, labelled_from_none, none_from, none_labelled_from}
-use Rattle.pict_values.proofs.Words.{record_is}
+use Rattle.pict_values.proofs.Words.{fields_are}
 
 -- a field is there where it was found
 pub none_is : {A B : Type 0} (f : A → B) (found : Option A) (there : Option B) → option_map f found ≡ there → is_some found ≡ false → there ≡ None
@@ -66,7 +66,7 @@ module _ (names : List (List ℕ)) (v : Val) (i j : ℕ) where
 -- the word of a record shows its fields between brackets
 pub record_text : (names : List (List ℕ)) (h : HeapState) (number : ℕ)
     → value_text names (value_of h (word.Fields number)) ≡ 91 ∷ fields_text names (positional_from 0 (value_of h (word.Fields number))) (labelled_from 0 (value_of h (word.Fields number)))
-record_text names h number = ap (value_text names) (record_is h number)
+record_text names h number = ap (value_text names) (fields_are h number)
 
 -- ---- the pieces
 

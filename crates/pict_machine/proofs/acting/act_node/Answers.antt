@@ -7,7 +7,7 @@ use Rattle.std.proofs.lemmas.Option.{slice_get_within}
 use Rattle.pict_code.specs.Nodes.{nodes_of}
 use Rattle.pict_turns.proofs.Numbered.{in_code}
 use Rattle.pict_machine.proofs.Working.{frame_there, fits_read}
-use Rattle.pict_machine.proofs.Passing.{may_read, step_read, op_read, node_acts}
+use Rattle.pict_machine.proofs.Passing.{may_read, step_read, op_read}
 use Rattle.pict_machine.proofs.acting.act_node.Goals as goal
 
 pub act_by-requires-clause-may : goal.act_by-requires-clause-may
@@ -34,5 +34,5 @@ returns-clause-work c =
     let own = frame_there code c.args.number (in_code code c.requires.may.code_is c.args.number low) in
     let read = c.read_part.ensures.read in
     let at : slice_get (map plain_node code) c.args.number ≡ Some read.node = ap (λ nodes. slice_get nodes c.args.number) (sym c.requires.may.code_is.nodes_are) ∙ read.is.at in
-    let acts = node_acts core c.args.store.now c.read_part.new.store c.args.block c.args.number _ c.requires.may.acting read (op_read code c.args.number c.index-code-number.result read.node at c.index-code-number.is) in
+    let acts = acts_read core c.args.store.now c.read_part.new.store c.args.block c.args.number _ c.requires.may.acting read (op_read code c.args.number c.index-code-number.result read.node at c.index-code-number.is) in
     fits_read core c.args.store.now c.read_part.new.store c.act_by.new.store c.args.block 3 _ _ read.rest (c.read_part.ensures.cost own.0 own.1) (c.act_by.ensures.work acts own.0 own.1) (omega arith)

@@ -3,7 +3,8 @@ use Rattle.pict_region.specs.RegionState.{spare}
 use Rattle.pict_queue.specs.Contents.{contents}
 use Rattle.pict_turns.specs.Parts.{block_width}
 use Rattle.pict_frames.proofs.Costs.{costs_more}
-use Rattle.pict_turns.proofs.Placing.{taken_spare, all_stay}
+use Rattle.pict_frames.proofs.Held.{made_kept}
+use Rattle.pict_turns.proofs.Placing.{taken_spare}
 use Rattle.pict_turns.proofs.parts.spawn_part.Goals as goal
 
 pub returns-clause-places : goal.returns-clause-places
@@ -29,7 +30,7 @@ returns-clause-places c =
 pub returns-clause-kept : goal.returns-clause-kept
 returns-clause-kept c =
     let p = c.make_part-part.ensures.part in
-    all_stay c.args.store.now.queues c.make_part-part.new.store.queues c.push_back.new.self _ _ _ p.made c.push_back.ensures.kept
+    made_kept c.args.store.now.queues c.make_part-part.new.store.queues c.push_back.new.self _ _ _ p.made c.push_back.ensures.kept
 
 pub returns-clause-cost : goal.returns-clause-cost
 returns-clause-cost c =

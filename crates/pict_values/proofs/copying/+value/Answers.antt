@@ -7,7 +7,7 @@ use Rattle.pict_heap.specs.HeapState.{value_of}
 use Rattle.pict_values.specs.Fields.{positional_in, labelled_in}
 use Rattle.pict_values.proofs.Nesting.{positional_weighs, labelled_weighs}
 use Rattle.pict_values.proofs.Rests.{copied_more, copied_all, labelled_more, labelled_all}
-use Rattle.pict_values.proofs.Words.{record_is}
+use Rattle.pict_values.proofs.Words.{fields_are}
 use Rattle.pict_values.proofs.copying.+value.Goals as goal
 
 pub positional-value-requires : goal.positional-value-requires
@@ -56,5 +56,5 @@ value-returns-in_ok-labelled-in-Fields t c =
     ∙ ap (λ vs. term.Record vs (labelled_of (map plain_field ls.items))) c.in_ok-positional-in-Fields.ensures
     ∙ ap (term.Record (positional_in (value_of h c.args.word))) c.in_ok-labelled-in-Fields.ensures
     ∙ ap (λ w. term.Record (positional_in (value_of h w)) (labelled_in (value_of h w))) c.in-Fields.is
-    ∙ sym (record_is h c.in-Fields.field-0)
+    ∙ sym (fields_are h c.in-Fields.field-0)
     ∙ ap (value_of h) (sym c.in-Fields.is)

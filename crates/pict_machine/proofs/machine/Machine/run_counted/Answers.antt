@@ -2,7 +2,8 @@ use Rattle.std.proofs.Common.{◌≡◌, false, arith, refl, sym, ◌∙◌}
 use Rattle.pict_view.proofs.Runs.{is_done, is_spent, is_trapped, still_right, one_more, saw_more, refused}
 use Rattle.pict_machine.specs.Events.{label_of, trap_of}
 use Rattle.pict_machine.specs.Machine.{view_of, heap_of}
-use Rattle.pict_machine.proofs.Running.{broke_before, words_kept, on_err, seen_steps}
+use Rattle.pict_machine.proofs.Running.{broke_before, on_err, seen_steps}
+use Rattle.pict_operands.proofs.Making.{keeps_more}
 use Rattle.pict_machine.proofs.machine.Machine.run_counted.Goals as goal
 
 pub returns-then-not-ready-clause-end : goal.returns-then-not-ready-clause-end
@@ -37,7 +38,7 @@ loop-step-preserved g c =
       few = let k = c.in_ok-event.ensures.channels in omega arith;
       next_stays = λ v n x. c.show.ensures.next_stays v n x ∙ c.loop-step.invariant.next_stays v n x;
       torn_stays = λ v n x after. (λ t. (c.loop-step.invariant.torn_stays v n x after).0 ((c.show.ensures.torn_stays v n x after).0 t), λ t. (c.show.ensures.torn_stays v n x after).1 ((c.loop-step.invariant.torn_stays v n x after).1 t));
-      keeps = words_kept _ _ _ c.loop-step.invariant.keeps c.in_ok-event.ensures.keeps;
+      keeps = keeps_more _ _ _ c.loop-step.invariant.keeps c.in_ok-event.ensures.keeps;
       faults_stay = omega (arith, c.loop-step.invariant.faults_stay, c.show.ensures.faults_stay);
       same = g.met.W.Watcher.same_along _ _ _ c.loop-step.invariant.same c.show.ensures.same;
       stood = λ C is s. one_more _ _ _ _ (label_of c.heap.result.now e) (trap_of e) _ _ (c.loop-step.invariant.stood C is s) steps (sym c.in-None.ensures)
