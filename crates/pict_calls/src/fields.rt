@@ -59,7 +59,7 @@ fn decide(store: &mut Store, p: Prim, fields: &[Operand]) -> Act
     requires takes { (labelled : Labelled) × IsSome (effect_of p (argument_of store.old.heap store.old.values.items fields.now labelled)) }
     ensures effect { (labelled : Labelled)
         → effect_of p (argument_of store.old.heap store.old.values.items fields.now labelled)
-            ≡ Some (effect_act store.new.heap result) }
+        ≡ Some (effect_act store.new.heap result) }
     ensures act { IsActOf store.new.heap result }
     ensures keeps { KeepsWords store.old.heap store.new.heap }
     ensures used { UsesNeed store.old.heap.room store.new.heap.room (needs_of (vals_of (map plain_val fields.now))) }

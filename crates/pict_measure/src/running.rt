@@ -7,9 +7,9 @@ ghost use Rattle.pict_view.specs.Right.{RunsRight};
 
 use anyhow::Error;
 use pict_core::Core;
-use pict_machine::{End, Event, Machine, RunError, Watcher};
 use pict_front::front;
 use pict_heap::Heap;
+use pict_machine::{End, Event, Machine, RunError, Watcher};
 use pict_syntax::{FUEL_LIMIT, TEXT_LIMIT};
 use std::alloc::{AllocError, Global};
 use std::time::Instant;

@@ -78,7 +78,7 @@ fn serve(
     requires right { IsRight (core_in code.now) store.old block }
     requires can { (frame : List ℕ) → HasFrame (map plain_node code.now) part frame
         → CanHoldAfter store.old (held_words store.old.queues.region block
-            ∷ (if replicated then [] else take 1 (contents store.old.queues (channel + 1)))) frame }
+        ∷ (if replicated then [] else take 1 (contents store.old.queues (channel + 1)))) frame }
     ensures done { IsDone (core_in code.now) store.old store.new block (Comm channel (value_of store.new.heap message)) }
     ensures kept { KeepsOtherHeld store.old.queues store.new.queues block }
     ensures cost { (own frame : List ℕ) → HasFrame (map plain_node code.now) number own → HasFrame (map plain_node code.now) part frame
@@ -111,7 +111,7 @@ pub fn meet_reader(
     requires can { (replicated : Bool) (pattern : AnyPattern) (part : ℕ) (frame : List ℕ) → IsInputWith (map plain_node code.now) reader replicated pattern part
         → HasFrame (map plain_node code.now) part frame
         → CanHoldAfter store.old (held_words store.old.queues.region block
-            ∷ (if replicated then [] else take 1 (contents store.old.queues (channel + 1)))) frame }
+        ∷ (if replicated then [] else take 1 (contents store.old.queues (channel + 1)))) frame }
     ensures done { IsDone (core_in code.now) store.old store.new block (Comm channel (value_of store.new.heap message)) }
     ensures kept { KeepsOtherHeld store.old.queues store.new.queues block }
     ensures cost { (replicated : Bool) (pattern : AnyPattern) (part : ℕ) (own frame : List ℕ)

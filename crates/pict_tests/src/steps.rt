@@ -8,9 +8,9 @@ ghost use Rattle.pict_machine.specs.Events.{IsEventOf};
 
 use itoa::Buffer;
 use pict_core::Core;
-use pict_machine::{End, Event, Machine, RunError, Stopped, Watcher};
 use pict_front::front;
 use pict_heap::Heap;
+use pict_machine::{End, Event, Machine, RunError, Stopped, Watcher};
 use pict_reference::{Label, Reference, StepOutcome};
 use pict_show::write_value;
 use pict_syntax::{FUEL_LIMIT, Names, Span, TEXT_LIMIT};

@@ -7,8 +7,8 @@ ghost use Rattle.pict_core.specs.Run.{printed_by};
 ghost use Rattle.pict_machine.specs.Events.{IsEventOf, label_of};
 
 use itoa::Buffer;
-use pict_machine::{Event, RunError};
 use pict_heap::Heap;
+use pict_machine::{Event, RunError};
 use pict_outside::{Sink, SinkFailed};
 use pict_values::printed;
 

@@ -1,8 +1,8 @@
 // The watcher that writes what the steps of a run show.
 use crate::form::Form;
 use crate::print::{print_event, write_some};
-use pict_machine::{Event, RunError, Watcher};
 use pict_heap::Heap;
+use pict_machine::{Event, RunError, Watcher};
 use pict_outside::Sink;
 use pict_syntax::Names;
 use pict_trace::line;

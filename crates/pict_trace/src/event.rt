@@ -5,8 +5,8 @@ ghost use Rattle.pict_machine.specs.Events.{IsShown, IsEventOf, label_of};
 ghost use Rattle.pict_trace.specs.Lines.{line_text};
 
 use itoa::Buffer;
-use pict_machine::Event;
 use pict_heap::Heap;
+use pict_machine::Event;
 use pict_show::{write_decimal, write_numbered, write_quoted};
 use pict_syntax::Names;
 use pict_values::{printed, write_word};

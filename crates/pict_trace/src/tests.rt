@@ -5,8 +5,8 @@ ghost use Rattle.pict_heap.specs.HeapState.{IsWord};
 
 use crate::{TraceError, TraceLabel, line, read_lines};
 use pict_core::CoreVal;
-use pict_machine::Event;
 use pict_heap::{Heap, Word};
+use pict_machine::Event;
 use pict_syntax::{Name, Names, Prim};
 use std::alloc::{AllocError, Global};
 use std::process::Abort;
