@@ -29,7 +29,8 @@ use Rattle.pict_turns.specs.Holding.{HoldsFrame}
 use Rattle.pict_turns.specs.Parts.{Places}
 use Rattle.pict_turns.specs.Views.{channel_lists, IsBlock, CanWait}
 use Rattle.pict_turns.specs.declared.store.Store.{Store}
-use Rattle.pict_turns.proofs.Rows.{made_block, made_node, node_block_stays, levels_keep, all_pushed, ready_stay}
+use Rattle.pict_heap.proofs.Growth.{all_pushed}
+use Rattle.pict_turns.proofs.Rows.{made_block, made_node, node_block_stays, levels_keep, ready_stay}
 use Rattle.pict_turns.proofs.Views.{block_stays, blocks_stay, block_same}
 use Rattle.pict_meetings.specs.Partners.{Sends, Receives}
 use Rattle.pict_meetings.specs.Serving.{IsInputWith, TakesInput}

@@ -23,7 +23,7 @@ use Rattle.pict_operands.proofs.Pairs.{value_packed}
 use Rattle.pict_turns.specs.Acting.{HasActing, IsDone}
 use Rattle.pict_turns.specs.Views.{channel_lists, IsBlock, IsKept, IsInputAt, CanWait}
 use Rattle.pict_turns.specs.declared.store.Store.{Store}
-use Rattle.pict_turns.proofs.Rows.{all_pushed}
+use Rattle.pict_heap.proofs.Growth.{all_pushed}
 use Rattle.pict_turns.proofs.Views.{list_there}
 use Rattle.pict_meetings.specs.Partners.{Sends, SendsKept, Receives}
 use Rattle.pict_meetings.specs.Waiting.{oldest, NoInputWaits, NoOutputWaits}
