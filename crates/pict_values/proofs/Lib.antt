@@ -1,4 +1,3 @@
 pub mod Words
-pub mod Nesting
 pub mod Rests
 pub mod Pieces

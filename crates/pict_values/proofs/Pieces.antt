@@ -1,17 +1,13 @@
 -- What the pieces of a value say, when one is taken and others are put back.
-use Rattle.std.proofs.Common.{◌≡◌, ◌<◌, ◌+◌, ℕ, ℤ, Bool, true, false, List, [], ◌∷◌, ◌++◌, length, Option, Some, None, refl, sym, ◌∙◌, ap, append_assoc, arith}
+use Rattle.std.proofs.Common.{◌≡◌, ◌+◌, ℕ, true, false, List, [], ◌∷◌, ◌++◌, Option, Some, None, refl, sym, ◌∙◌, ap, append_assoc}
 use Rattle.std.specs.Option.{option_map, is_some}
 use Rattle.pict_syntax.specs.Names.{text_of}
-use Rattle.pict_syntax.specs.PrimitiveTexts.{primitive_text}
-use Rattle.pict_syntax.specs.declared.primitive.Primitive.{Primitive}
-use Rattle.pict_syntax.specs.declared.primitive.Primitive.TheVariants as primitive
 use Rattle.pict_core.specs.Term.{Val, Vals, Labelled, no_vals, more_vals, no_labelled, more_labelled}
-use Rattle.pict_show.specs.Values.{value_text, truth_text}
+use Rattle.pict_show.specs.Values.{value_text}
 use Rattle.pict_show.specs.Pending.{rest_text, fields_text}
 use Rattle.pict_show.proofs.Pieces.{first_positional, first_labelled, rest_positional, rest_labelled}
 use Rattle.pict_heap.specs.Fields.{positional_field, labelled_field_at}
 use Rattle.pict_heap.specs.HeapState.{HeapState, value_of}
-use Rattle.pict_heap.specs.declared.word.Word.{Word}
 use Rattle.pict_heap.specs.declared.word.Word.TheVariants as word
 use Rattle.pict_values.specs.Fields.{positional_from, labelled_from}
 use Rattle.pict_values.specs.Pending.{piece_text, pending}
@@ -89,42 +85,3 @@ module _ (names : List (List ℕ)) (h : HeapState) where
   pub turned : (out out' : List ℕ) (ps taken ps' : List Piece) (p : Piece) → ps ≡ taken ++ p ∷ []
       → out' ++ pending names h ps' [] ≡ out ++ (piece_text names h p ++ pending names h taken []) → out' ++ pending names h ps' [] ≡ out ++ pending names h ps []
   turned out out' ps taken ps' p e f = f ∙ ap (λ t. out ++ t) (sym (ap (λ l. pending names h l []) e ∙ pending_push taken p []))
-
--- ---- what is written is something
-
-truth_shows : (b : Bool) → 0 < length (truth_text b)
-truth_shows true = omega arith
-truth_shows false = omega arith
-
-primitive_shows : (p : Primitive) → 0 < length (primitive_text p)
-primitive_shows primitive.Print = omega arith
-primitive_shows primitive.Printi = omega arith
-primitive_shows primitive.Pr = omega arith
-primitive_shows primitive.Add = omega arith
-primitive_shows primitive.Subtract = omega arith
-primitive_shows primitive.Multiply = omega arith
-primitive_shows primitive.Divide = omega arith
-primitive_shows primitive.Remainder = omega arith
-primitive_shows primitive.Equal = omega arith
-primitive_shows primitive.Less = omega arith
-primitive_shows primitive.AtMost = omega arith
-primitive_shows primitive.Greater = omega arith
-primitive_shows primitive.AtLeast = omega arith
-primitive_shows primitive.Chr = omega arith
-primitive_shows primitive.Ord = omega arith
-primitive_shows primitive.Join = omega arith
-primitive_shows primitive.Intstr = omega arith
-primitive_shows primitive.Size = omega arith
-primitive_shows primitive.Nth = omega arith
-primitive_shows primitive.Not = omega arith
-
--- a character, a truth value or a primitive shows something
-pub word_shows : (names : List (List ℕ)) (h : HeapState) (w : Word) → ((n : ℤ) → w ≡ word.Int n → ⊥) → ((n : ℕ) → w ≡ word.Chan n → ⊥) → ((n : ℕ) → w ≡ word.Text n → ⊥)
-    → ((n : ℕ) → w ≡ word.Fields n → ⊥) → 0 < length (value_text names (value_of h w))
-word_shows names h (word.Int n) a b c d = absurd (a n refl)
-word_shows names h (word.Chan n) a b c d = absurd (b n refl)
-word_shows names h (word.Text n) a b c d = absurd (c n refl)
-word_shows names h (word.Fields n) a b c d = absurd (d n refl)
-word_shows names h (word.Char byte) a b c d = omega arith
-word_shows names h (word.Bool t) a b c d = truth_shows t
-word_shows names h (word.Prim p) a b c d = primitive_shows p

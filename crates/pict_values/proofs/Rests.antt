@@ -1,35 +1,8 @@
--- The fields of a record that were copied, and the rest.
-use Rattle.std.proofs.Common.{◌≡◌, ℕ, zero, suc, ◌+◌, List, [], ◌∷◌, ◌++◌, Some, None, refl, sym, ◌∙◌, ap, arith}
-use Rattle.pict_syntax.specs.declared.name.Name.{Name}
+-- The fields of a record from an index on, by the field at it.
+use Rattle.std.proofs.Common.{◌≡◌, ℕ, zero, suc, ◌+◌, Some, None, refl, sym, ◌∙◌, ap, arith}
 use Rattle.pict_core.specs.Term.{Val, Vals, Labelled, Var, Chan, Int, Char, Boolean, Text, PrimitiveVal, Record, no_vals, more_vals, no_labelled, more_labelled}
-use Rattle.pict_core.specs.Plain.{vals_of, labelled_of}
 use Rattle.pict_heap.specs.Fields.{nth, nth_labelled, positional_field, labelled_field_at}
 use Rattle.pict_values.specs.Fields.{positional_in, labelled_in, drop_vals, drop_labelled, positional_from, labelled_from}
-
--- these fields, and then those
-abbrev pub then : List Val → Vals → Vals
-then [] vs = vs
-then (x ∷ xs) vs = more_vals x (then xs vs)
-
-abbrev pub labelled_then : List (Name × Val) → Labelled → Labelled
-labelled_then [] ls = ls
-labelled_then (x ∷ xs) ls = more_labelled x.0.0 x.1 (labelled_then xs ls)
-
-then_more : (xs : List Val) (x : Val) (vs : Vals) → then (xs ++ x ∷ []) vs ≡ then xs (more_vals x vs)
-then_more [] x vs = refl
-then_more (y ∷ xs) x vs = ap (more_vals y) (then_more xs x vs)
-
-then_none : (xs : List Val) → then xs no_vals ≡ vals_of xs
-then_none [] = refl
-then_none (x ∷ xs) = ap (more_vals x) (then_none xs)
-
-labelled_then_more : (xs : List (Name × Val)) (x : Name × Val) (ls : Labelled) → labelled_then (xs ++ x ∷ []) ls ≡ labelled_then xs (more_labelled x.0.0 x.1 ls)
-labelled_then_more [] x ls = refl
-labelled_then_more (y ∷ xs) x ls = ap (more_labelled y.0.0 y.1) (labelled_then_more xs x ls)
-
-labelled_then_none : (xs : List (Name × Val)) → labelled_then xs no_labelled ≡ labelled_of xs
-labelled_then_none [] = refl
-labelled_then_none (x ∷ xs) = ap (more_labelled x.0.0 x.1) (labelled_then_none xs)
 
 drop_some : (vs : Vals) (i : ℕ) (x : Val) → nth vs i ≡ Some x → drop_vals i vs ≡ more_vals x (drop_vals (suc i) vs)
 drop_some no_vals i x e = cc
@@ -106,27 +79,3 @@ none_from v i e = nth_in v i ∙ none_dropped (positional_in v) i e
 
 pub none_labelled_from : (v : Val) (i : ℕ) → labelled_from i v ≡ no_labelled → labelled_field_at v i ≡ None
 none_labelled_from v i e = nth_labelled_in v i ∙ none_labelled_dropped (labelled_in v) i e
-
--- one field more is copied
-pub copied_more : (v : Val) (xs ys : List Val) (x : Val) (i : ℕ) → then xs (positional_from i v) ≡ positional_in v → positional_field v i ≡ Some x → ys ≡ xs ++ x ∷ []
-    → then ys (positional_from (i + 1) v) ≡ positional_in v
-copied_more v xs ys x i h e same =
-    ap (λ zs. then zs (positional_from (i + 1) v)) same
-    ∙ then_more xs x (positional_from (i + 1) v)
-    ∙ ap (then xs) (sym (from_some v x i e))
-    ∙ h
-
-pub labelled_more : (v : Val) (xs ys : List (Name × Val)) (x : Name × Val) (i : ℕ) → labelled_then xs (labelled_from i v) ≡ labelled_in v
-    → labelled_field_at v i ≡ Some (x.0.0, x.1) → ys ≡ xs ++ x ∷ [] → labelled_then ys (labelled_from (i + 1) v) ≡ labelled_in v
-labelled_more v xs ys x i h e same =
-    ap (λ zs. labelled_then zs (labelled_from (i + 1) v)) same
-    ∙ labelled_then_more xs x (labelled_from (i + 1) v)
-    ∙ ap (labelled_then xs) (sym (labelled_from_some v x.1 i x.0.0 e))
-    ∙ h
-
--- and none more
-pub copied_all : (v : Val) (xs : List Val) (i : ℕ) → then xs (positional_from i v) ≡ positional_in v → positional_field v i ≡ None → vals_of xs ≡ positional_in v
-copied_all v xs i h e = sym (then_none xs) ∙ ap (then xs) (sym (from_none v i e)) ∙ h
-
-pub labelled_all : (v : Val) (xs : List (Name × Val)) (i : ℕ) → labelled_then xs (labelled_from i v) ≡ labelled_in v → labelled_field_at v i ≡ None → labelled_of xs ≡ labelled_in v
-labelled_all v xs i h e = sym (labelled_then_none xs) ∙ ap (labelled_then xs) (sym (labelled_from_none v i e)) ∙ h

@@ -1,13 +1,12 @@
 // The bytes that a printed word shows.
 
-ghost use Rattle.std.specs.Prelude.{◌≡◌, ◌++◌, ℕ, List, Some, OnOk, OnErr};
+ghost use Rattle.std.specs.Prelude.{◌≡◌, Some};
 ghost use Rattle.pict_heap.specs.HeapState.{value_of};
 ghost use Rattle.pict_prim.specs.Acts.{IsPrinted};
 ghost use Rattle.pict_prim.specs.Done.{printed_of};
 
 use itoa::Buffer;
 use pict_heap::{Heap, Word};
-use std::alloc::AllocError;
 
 /// The bytes that a printed word of the heap shows: a text's own, lent by the heap, or a number's decimal text, which is
 /// written into the buffer. Takes no memory.
@@ -22,15 +21,4 @@ pub fn printed<'a>(heap: &'a Heap, word: Word, buffer: &'a mut Buffer) -> &'a [u
             None => unreachable!(),
         },
     }
-}
-
-/// Writes the bytes that a printed word of the heap shows behind what is there. The only error is want of memory, and
-/// then nothing is written.
-pub fn write_printed(out: &mut Vec<u8>, heap: &Heap, word: Word) -> Result<(), AllocError>
-    requires { IsPrinted heap.now word }
-    ensures written { OnOk result ((bytes : List ℕ) → printed_of (value_of heap.now word) ≡ Some bytes → out.new.items ≡ out.old.items ++ bytes) }
-    ensures unchanged { OnErr result (out.new.items ≡ out.old.items) }
-{
-    let mut buffer = Buffer::new();
-    out.extend_from_slice(printed(heap, word, &mut buffer))
 }

@@ -9,8 +9,8 @@ ghost use Rattle.pict_heap.specs.HeapState.{value_of, IsWord};
 ghost use Rattle.pict_values.specs.Fields.{positional_from, labelled_from};
 ghost use Rattle.pict_values.specs.Pending.{IsPieceOf, piece_text, Grows};
 
-use crate::copying::value;
 use itoa::Buffer;
+use pict_core::CoreVal;
 use pict_heap::{Heap, Word};
 use pict_show::{write_numbered, write_quoted, write_value};
 use pict_syntax::Names;
@@ -31,7 +31,8 @@ enum Piece {
 
 /// Writes the text of the value that a word of the heap stands for behind what is there, its labels by their names.
 /// Nothing recurses along the value. The only error is want of memory, which is also the answer at a record of
-/// 4,294,967,295 or more fields, positional or with labels.
+/// 4,294,967,296 or more fields, positional or with labels. After an error a part of the text may stand behind what was
+/// there.
 pub fn write_word(
     alloc: Global,
     out: &mut Vec<u8>,
@@ -98,7 +99,10 @@ fn write_simple(
         Word::Int(n) => write_number(out, n),
         Word::Chan(number) => write_numbered(out, b'c', number),
         Word::Text(_) => write_text(out, heap, word),
-        _ => write_value(alloc, out, names, &value(alloc, heap, word)?),
+        Word::Char(byte) => write_value(alloc, out, names, &CoreVal::Char(byte)),
+        Word::Bool(b) => write_value(alloc, out, names, &CoreVal::Bool(b)),
+        Word::Prim(p) => write_value(alloc, out, names, &CoreVal::Prim(p)),
+        Word::Fields(_) => unreachable!(),
     }
 }
 
