@@ -3,3 +3,4 @@ pub mod Stepping
 pub mod Hand
 pub mod Reckoning
 pub mod Outputs
+pub mod Answering

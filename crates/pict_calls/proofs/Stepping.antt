@@ -8,7 +8,7 @@ use Rattle.pict_core.specs.Step.{Label, Quiet, Print, printing}
 use Rattle.pict_frames.specs.Keeping.{kept_words}
 use Rattle.pict_heap.specs.HeapState.{value_of, KeepsWords}
 use Rattle.pict_prim.specs.Done.{printed_of}
-use Rattle.pict_queue.specs.Contents.{held_words, contents, KeepsOtherContents, KeepsOtherHeld}
+use Rattle.pict_queue.specs.Contents.{held_words, contents, KeepsOtherContents, KeepsOtherHeld, Releases}
 use Rattle.pict_view.specs.Moved.{Moves, Stops}
 use Rattle.pict_view.specs.ViewStep.{next_view, act, perform, leave}
 use Rattle.pict_blocks.specs.Blocks.{value_in, process_of, view_of_contents}
@@ -46,6 +46,7 @@ pub record IsPutBack (old new : Store) (block : ℕ) : Type 0 where
   pub queues : length new.queues.queues ≡ length old.queues.queues
   pub heap : KeepsHeap old.heap new.heap
   pub values : new.values.items ≡ old.values.items
+  pub released : Releases old.queues new.queues block
 
 pub refused_by : (core : Process) (old new : Store) (block : ℕ) → HasActing core old block → IsPutBack old new block → IsRefused core old new block
 refused_by core old new block acting b =
@@ -59,6 +60,7 @@ refused_by core old new block acting b =
       heap = b.heap;
       store = store_after core old new block acting keeps b.queues blocks b.others b.values;
       levels = ap length b.values;
+      released = b.released;
     }
 
 module _ (core : Process) (old new : Store) (block : ℕ) (p : Primitive) (v : Val) (at : Span) (e : Effect) (called : Called)
@@ -107,7 +109,7 @@ module _ (core : Process) (old new : Store) (block : ℕ) (p : Primitive) (v : V
       (moved ∙ ap (λ l. leave rest lists at l e.leaves) shows ∙ after e.leaves label other h.ready)
       refl (channels_stay old.queues new.queues h.others h.queues)
       (store_after core old new block on.acting h.keeps h.queues (blocks_after e.leaves other h.ready) h.others h.values)
-      (ap length h.values) (omega (arith, h.queues))
+      (ap length h.values) (omega (arith, h.queues)) h.released
 
   stops : e.leaves ≡ Trap → next_view (view_with core old block) ≡ Stops at
   stops trap = sym (ap next_view (view_kept core old new block on.acting h.keeps)) ∙ moved ∙ ap (leave rest lists at (printing e.printed)) trap
@@ -128,7 +130,8 @@ called_by core old new block p v at e (called.Trapped place) on is h =
     let ready = subst (λ (l : Leaves). IsReady new.heap l at (held_words old.queues.region block) (contents old.queues 0) (contents new.queues 0)) h.shows.0 h.ready in
     record {
       stops = stops core old new block p v at e (called.Trapped place) on is h h.shows.0 ∙ ap Stops (sym h.shows.1);
-      unchanged = refused_by core old new block on.acting (record { ready = ready; others = h.others; queues = h.queues; heap = h.trap h.shows.0; values = h.values });
+      unchanged = refused_by core old new block on.acting
+          (record { ready = ready; others = h.others; queues = h.queues; heap = h.trap h.shows.0; values = h.values; released = h.released });
     }
 
 -- ---- once room is made
@@ -159,6 +162,7 @@ acted_before old mid new block e at called keeps queues values pending other h =
   shows = h.shows;
   others = subst (λ (q : QueuesState). KeepsOtherContents q new.queues 0) queues h.others;
   held = subst (λ (q : QueuesState). KeepsOtherHeld q new.queues block) queues h.held;
+  released = subst (λ (q : QueuesState). Releases q new.queues block) queues h.released;
   queues = h.queues ∙ ap (λ (q : QueuesState). length q.queues) queues;
   keeps = keeps_more old.heap mid.heap new.heap keeps h.keeps;
   trap = λ is. absurd (other is);

@@ -10,7 +10,7 @@ use Rattle.pict_heap.specs.declared.word.Word.{Word}
 use Rattle.pict_prim.specs.Done.{printed_of}
 use Rattle.pict_prim.specs.declared.act.Act.{Act}
 use Rattle.pict_prim.specs.declared.act.Act.TheVariants as act
-use Rattle.pict_queue.specs.Contents.{held_words, contents, KeepsOtherContents, KeepsOtherHeld}
+use Rattle.pict_queue.specs.Contents.{held_words, contents, KeepsOtherContents, KeepsOtherHeld, Releases}
 use Rattle.pict_blocks.specs.Blocks.{value_in}
 use Rattle.pict_operands.specs.Pairs.{IsPair}
 use Rattle.pict_turns.specs.Acting.{KeepsHeap}
@@ -54,13 +54,14 @@ Shows h e at called.Quiet = (e.printed ≡ None) × (e.leaves ≢ Trap)
 Shows h e at (called.Printed w) = PrintsWord h e w
 Shows h e at (called.Trapped place) = (e.leaves ≡ Trap) × (place ≡ at)
 
--- The act of the held block has had this effect. What other queues hold, the values and the piles stay, and all words stand for
--- what they stood for.
+-- The act of the held block has had this effect, and the block isn't held any more. What other queues hold, the values and the
+-- piles stay, and all words stand for what they stood for.
 pub record HasActed (old new : Store) (block : ℕ) (e : Effect) (at : Span) (called : Called) : Type 0 where
   pub ready : IsReady new.heap e.leaves at (held_words old.queues.region block) (contents old.queues 0) (contents new.queues 0)
   pub shows : Shows new.heap e at called
   pub others : KeepsOtherContents old.queues new.queues 0
   pub held : KeepsOtherHeld old.queues new.queues block
+  pub released : Releases old.queues new.queues block
   pub queues : length new.queues.queues ≡ length old.queues.queues
   pub keeps : KeepsWords old.heap new.heap
   pub trap : e.leaves ≡ Trap → KeepsHeap old.heap new.heap

@@ -2,12 +2,13 @@
 ghost use Rattle.std.specs.Prelude.{◌≡◌, All, IfOk, IsSome, OnErr, Some};
 ghost use Rattle.pict_syntax.specs.declared.primitive.Primitive.{Primitive};
 ghost use Rattle.pict_core.specs.Term.{Val, Labelled, Process};
-ghost use Rattle.pict_core.specs.Primitives.{effect_of};
+ghost use Rattle.pict_core.specs.Primitives.{Effect, effect_of};
 ghost use Rattle.pict_heap.specs.HeapState.{value_of, IsWord};
 ghost use Rattle.pict_prim.specs.Acts.{effect_act, IsActOf};
 ghost use Rattle.pict_queue.specs.QueuesState.{IsQueue, IsHeld, CostsAtMost};
 ghost use Rattle.pict_turns.specs.Acting.{HasActing, IsRefused};
 ghost use Rattle.pict_turns.specs.Reserving.{KeepsPiles};
+ghost use Rattle.pict_turns.specs.Widths.{MakesOnly, answer_widths};
 ghost use Rattle.pict_calls.specs.Arguments.{record_of_words};
 ghost use Rattle.pict_calls.specs.Calling.{CallsOn, IsCalled};
 
@@ -30,6 +31,7 @@ fn carry_out(store: &mut Store, block: Block, act: Act, at: Span) -> Result<Call
         → IfOk result (IsCalled core store.old store.new block) }
     ensures refused { (core : Process) → HasActing core store.old block → OnErr result (IsRefused core store.old store.new block) }
     ensures piles { KeepsPiles store.old.pending store.new.pending }
+    ensures blocks { MakesOnly store.old.queues store.new.queues (answer_widths (effect_act store.old.heap act)) }
     ensures cost { CostsAtMost 11 store.old.queues store.new.queues }
 {
     let need = room(&store.heap, act);
@@ -61,6 +63,8 @@ pub fn call(
         → IfOk result (IsCalled core store.old store.new block) }
     ensures refused { (core : Process) → HasActing core store.old block → OnErr result (IsRefused core store.old store.new block) }
     ensures piles { KeepsPiles store.old.pending store.new.pending }
+    ensures blocks { (e : Effect) → effect_of p (value_of store.old.heap argument) ≡ Some e
+        → MakesOnly store.old.queues store.new.queues (answer_widths e) }
     ensures cost { CostsAtMost 11 store.old.queues store.new.queues }
 {
     match act_on(&store.heap, p, argument) {
@@ -98,6 +102,8 @@ pub(crate) fn call_words(
         → IfOk result (IsCalled core store.old store.new block) }
     ensures refused { (core : Process) → HasActing core store.old block → OnErr result (IsRefused core store.old store.new block) }
     ensures piles { KeepsPiles store.old.pending store.new.pending }
+    ensures blocks { (labelled : Labelled) (e : Effect) → effect_of p (record_of_words store.old.heap fields.now labelled) ≡ Some e
+        → MakesOnly store.old.queues store.new.queues (answer_widths e) }
     ensures cost { CostsAtMost 11 store.old.queues store.new.queues }
 {
     let act = act_of(&store.heap, p, fields);

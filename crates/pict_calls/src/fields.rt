@@ -1,9 +1,9 @@
 // A primitive acts on the fields of an operand. The record itself is not made.
-ghost use Rattle.std.specs.Prelude.{◌≡◌, ◌≤◌, length, map, IfOk, IfSome, OnOk, OnErr, IsSome, Some};
+ghost use Rattle.std.specs.Prelude.{◌≡◌, ◌≤◌, ◌∷◌, [], length, map, IfOk, IfSome, OnOk, OnErr, IsSome, Some};
 ghost use Rattle.pict_region.specs.RegionState.{spare};
 ghost use Rattle.pict_core.specs.Closed.{AreOver};
 ghost use Rattle.pict_core.specs.Plain.{plain_val, vals_of};
-ghost use Rattle.pict_core.specs.Primitives.{effect_of};
+ghost use Rattle.pict_core.specs.Primitives.{Effect, effect_of};
 ghost use Rattle.pict_core.specs.Term.{Process, Labelled};
 ghost use Rattle.pict_heap.specs.HeapState.{HeapState, KeepsWords};
 ghost use Rattle.pict_prim.specs.Acts.{effect_act, IsActOf, UsesNeed};
@@ -12,6 +12,7 @@ ghost use Rattle.pict_operands.specs.Needs.{fields_need, needs_of, both_needs, H
 ghost use Rattle.pict_operands.specs.Pairs.{ArePairs};
 ghost use Rattle.pict_turns.specs.Acting.{HasActing, IsRefused};
 ghost use Rattle.pict_turns.specs.Reserving.{OnlyReserves, KeepsPiles};
+ghost use Rattle.pict_turns.specs.Widths.{MakesOnly, answer_widths};
 ghost use Rattle.pict_calls.specs.Calling.{CallsOn, IsCalled};
 ghost use Rattle.pict_calls.specs.Arguments.{argument_of, AreWordsFor, HasRoomForCall};
 
@@ -36,6 +37,7 @@ fn make_call_room(store: &mut Store, p: Prim, fields: &[Operand]) -> Result<(), 
     requires pairs { ArePairs store.old.heap store.old.values.items }
     ensures room { OnOk result (HasRoomForCall store.old store.new p fields.now) }
     ensures spare { OnOk result (1 ≤ spare store.new.queues.region 9) }
+    ensures most { MakesOnly store.old.queues store.new.queues (9 ∷ []) }
     ensures rest { OnlyReserves store.old store.new }
 {
     let answered = answer_len(&store.heap, p, fields, &store.values);
@@ -121,6 +123,9 @@ fn call_making(
         → IfOk result (IsCalled core store.old store.new block) }
     ensures refused { (core : Process) → HasActing core store.old block → OnErr result (IsRefused core store.old store.new block) }
     ensures piles { KeepsPiles store.old.pending store.new.pending }
+    ensures blocks { (labelled : Labelled) (e : Effect)
+        → effect_of p (argument_of store.old.heap store.old.values.items fields.now labelled) ≡ Some e
+        → MakesOnly store.old.queues store.new.queues (answer_widths e) }
     ensures cost { CostsAtMost 11 store.old.queues store.new.queues }
 {
     if divides_by_zero(p, fields, &store.values) {
@@ -158,6 +163,9 @@ pub(crate) fn call_fields(
         → IfOk result (IsCalled core store.old store.new block) }
     ensures refused { (core : Process) → HasActing core store.old block → OnErr result (IsRefused core store.old store.new block) }
     ensures piles { KeepsPiles store.old.pending store.new.pending }
+    ensures blocks { (labelled : Labelled) (e : Effect)
+        → effect_of p (argument_of store.old.heap store.old.values.items fields.now labelled) ≡ Some e
+        → MakesOnly store.old.queues store.new.queues (answer_widths e) }
     ensures cost { CostsAtMost 11 store.old.queues store.new.queues }
 {
     if let Some(words) = three_at_hand(fields, &store.values) {

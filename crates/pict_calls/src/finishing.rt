@@ -1,11 +1,11 @@
 // What a primitive is about to do is done, and its output ends.
 ghost use Rattle.std.specs.Prelude.{◌≡◌, ◌≤◌, ◌∷◌, length};
-ghost use Rattle.pict_region.specs.RegionState.{spare};
+ghost use Rattle.pict_region.specs.RegionState.{spare, KeepsBlocks};
 ghost use Rattle.pict_frames.specs.Keeping.{kept_words};
 ghost use Rattle.pict_heap.specs.HeapState.{HeapState, value_of, IsWord};
 ghost use Rattle.pict_prim.specs.Acts.{effect_act, need_of, IsActOf, HasRoom};
 ghost use Rattle.pict_queue.specs.QueuesState.{IsQueue, IsHeld, CostsAtMost};
-ghost use Rattle.pict_queue.specs.Contents.{contents, KeepsOtherContents, KeepsOtherHeld};
+ghost use Rattle.pict_queue.specs.Contents.{contents, KeepsOtherContents, KeepsOtherHeld, Releases};
 ghost use Rattle.pict_calls.specs.Finishing.{outputs_of, IsOutput, HasActed};
 
 use crate::called::Called;
@@ -47,6 +47,8 @@ fn leave_output(queues: &mut Queues, block: Block, kept: Kept)
     ensures ready { contents queues.new 0 ≡ kept_words kept ∷ contents queues.old 0 }
     ensures others { KeepsOtherContents queues.old queues.new 0 }
     ensures held { KeepsOtherHeld queues.old queues.new block }
+    ensures gone { Releases queues.old queues.new block }
+    ensures blocks { KeepsBlocks queues.old.region queues.new.region }
     ensures queues { length queues.new.queues ≡ length queues.old.queues }
     ensures cost { CostsAtMost 11 queues.old queues.new }
 {
@@ -64,6 +66,7 @@ pub(crate) fn finish(store: &mut Store, block: Block, act: Act, at: Span) -> Cal
     requires room { HasRoom store.old.heap.room (need_of store.old.heap act) }
     requires spare { outputs_of act ≤ spare store.old.queues.region 9 }
     ensures acted { HasActed store.old store.new block (effect_act store.old.heap act) at result }
+    ensures blocks { KeepsBlocks store.old.queues.region store.new.queues.region }
     ensures cost { CostsAtMost 11 store.old.queues store.new.queues }
 {
     match perform(&mut store.heap, act) {

@@ -1,15 +1,16 @@
 // A primitive acts on an operand.
-ghost use Rattle.std.specs.Prelude.{IfOk, IsSome, OnErr, length};
+ghost use Rattle.std.specs.Prelude.{◌≡◌, [], IfOk, IsSome, OnErr, Some, length};
 ghost use Rattle.pict_syntax.specs.declared.primitive.Primitive.TheVariants as primitive;
 ghost use Rattle.pict_core.specs.Closed.{IsOver};
 ghost use Rattle.pict_core.specs.Plain.{plain_val};
-ghost use Rattle.pict_core.specs.Primitives.{effect_of};
+ghost use Rattle.pict_core.specs.Primitives.{Effect, effect_of};
 ghost use Rattle.pict_core.specs.Term.{Process, Text};
 ghost use Rattle.pict_queue.specs.QueuesState.{IsQueue, IsHeld, CostsAtMost};
 ghost use Rattle.pict_operands.specs.AtHand.{IsOfHeap};
 ghost use Rattle.pict_operands.specs.Pairs.{ArePairs};
 ghost use Rattle.pict_turns.specs.Acting.{HasActing, IsRefused};
 ghost use Rattle.pict_turns.specs.Reserving.{KeepsPiles};
+ghost use Rattle.pict_turns.specs.Widths.{MakesOnly, answer_widths};
 ghost use Rattle.pict_calls.specs.Calling.{CallsOn, IsCalled};
 ghost use Rattle.pict_calls.specs.Arguments.{operand_in};
 
@@ -34,6 +35,7 @@ fn print_text(store: &mut Store, block: Block, bytes: &[u8], at: Span) -> Result
     ensures done { (core : Process) → CallsOn core store.old block primitive.Print (Text bytes.now) at → IfOk result (IsCalled core store.old store.new block) }
     ensures refused { (core : Process) → HasActing core store.old block → OnErr result (IsRefused core store.old store.new block) }
     ensures piles { KeepsPiles store.old.pending store.new.pending }
+    ensures blocks { MakesOnly store.old.queues store.new.queues [] }
     ensures cost { CostsAtMost 11 store.old.queues store.new.queues }
 {
     let need = Need {
@@ -73,6 +75,8 @@ fn call_made(
         → IfOk result (IsCalled core store.old store.new block) }
     ensures refused { (core : Process) → HasActing core store.old block → OnErr result (IsRefused core store.old store.new block) }
     ensures piles { KeepsPiles store.old.pending store.new.pending }
+    ensures blocks { (e : Effect) → effect_of p (operand_in store.old.heap store.old.values.items (plain_val message.now)) ≡ Some e
+        → MakesOnly store.old.queues store.new.queues (answer_widths e) }
     ensures cost { CostsAtMost 11 store.old.queues store.new.queues }
 {
     match message {
@@ -104,6 +108,8 @@ pub fn call_operand(
         → IfOk result (IsCalled core store.old store.new block) }
     ensures refused { (core : Process) → HasActing core store.old block → OnErr result (IsRefused core store.old store.new block) }
     ensures piles { KeepsPiles store.old.pending store.new.pending }
+    ensures blocks { (e : Effect) → effect_of p (operand_in store.old.heap store.old.values.items (plain_val message.now)) ≡ Some e
+        → MakesOnly store.old.queues store.new.queues (answer_widths e) }
     ensures cost { CostsAtMost 11 store.old.queues store.new.queues }
 {
     match word_at_hand(message, &store.values) {

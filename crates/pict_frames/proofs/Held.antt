@@ -2,11 +2,12 @@
 use Rattle.std.proofs.Common.{◌≡◌, ◌≢◌, ℕ, zero, suc, ◌+◌, ◌≤◌, List, [], ◌∷◌, ◌++◌, take, drop, set, get_or, replicate, refl, ◌∙◌, ap, subst, arith}
 use Rattle.std.specs.Option.{unwrap_or}
 use Rattle.std.specs.FinMap.{insert}
-use Rattle.pict_region.specs.RegionState.{spare, words_of, KeepsOtherWidths}
+use Rattle.pict_region.specs.RegionState.{spare, words_of, KeepsBlocks, KeepsOtherWidths}
 use Rattle.pict_queue.specs.QueuesState.{QueuesState, IsHeld}
-use Rattle.pict_queue.specs.Contents.{held_words, contents, KeepsAllContents, KeepsHeld, KeepsOtherHeld}
-use Rattle.pict_queue.proofs.Kept.{contents_beside, held_beside}
-use Rattle.pict_frames.specs.Writing.{OnlyWrites, IsMade}
+use Rattle.pict_queue.specs.Contents.{held_words, contents, KeepsAllContents, KeepsHeld, KeepsOtherHeld, HoldsNoMore, Releases, HoldsOneMore}
+use Rattle.pict_queue.proofs.Kept.{contents_beside, held_beside, one_more_beside, no_more_if_held}
+use Rattle.pict_region.proofs.Counts.{blocks_same}
+use Rattle.pict_frames.specs.Writing.{OnlyWrites, OnlyWorks, IsMade}
 use Rattle.pict_frames.proofs.Written.{inserted_here, writes_words, writes_words_of}
 
 -- one held block is written
@@ -15,6 +16,9 @@ written_contents old new block ws held w = contents_beside old new block w.other
 
 pub written_held : (old new : QueuesState) (block : ℕ) (ws : List ℕ) → OnlyWrites old new block ws → KeepsOtherHeld old new block
 written_held old new block ws w = held_beside old new block w.others w.lists
+
+pub written_no_more : (old new : QueuesState) (block : ℕ) (ws : List ℕ) → IsHeld old block → OnlyWrites old new block ws → HoldsNoMore old new
+written_no_more old new block ws held w = no_more_if_held old new block held (one_more_beside old new block w.others w.lists)
 
 pub taken_words : (old new : QueuesState) (block width : ℕ) → new.region.live ≡ insert old.region.live block (replicate width 0) → words_of new.region block ≡ replicate width 0
 taken_words old new block width live = ap (λ o. unwrap_or o []) (inserted_here old.region new.region block (replicate width 0) live)
@@ -30,6 +34,7 @@ module _ (old taken new : QueuesState) (block width : ℕ) (ws : List ℕ)
     (live : taken.region.live ≡ insert old.region.live block (replicate width 0)) (held : IsHeld taken block)
     (left : spare taken.region width + 1 ≡ spare old.region width) (widths : KeepsOtherWidths old.region taken.region width) (rest : taken ≡ record old { region = taken.region })
     (apart : (other : ℕ) → IsHeld old other → other ≢ block) (same : KeepsAllContents old taken) (kept : KeepsHeld old taken)
+    (more : HoldsOneMore old taken block) (blocks : KeepsBlocks old.region taken.region)
     (written : OnlyWrites taken new block ws) where
   pub made_of : IsMade old new block (drop 1 ws) width
   made_of = record {
@@ -44,12 +49,15 @@ module _ (old taken new : QueuesState) (block width : ℕ) (ws : List ℕ)
         let t = kept other h in
         let u = written_held taken new block ws written other (apart other h) t.held in
         record { held = u.held; words = u.words ∙ t.words };
+    more = λ other h apart. more other (one_more_beside taken new block written.others written.lists other h apart) apart;
+    blocks = λ v. written.blocks v ∙ blocks v;
   }
 
 module _ (old taken numbered new : QueuesState) (block width x : ℕ) (fs : List ℕ)
     (live : taken.region.live ≡ insert old.region.live block (replicate width 0)) (held : IsHeld taken block)
     (left : spare taken.region width + 1 ≡ spare old.region width) (widths : KeepsOtherWidths old.region taken.region width) (rest : taken ≡ record old { region = taken.region })
     (apart : (other : ℕ) → IsHeld old other → other ≢ block) (same : KeepsAllContents old taken) (kept : KeepsHeld old taken)
+    (more : HoldsOneMore old taken block) (blocks : KeepsBlocks old.region taken.region)
     (v : OnlyWrites taken numbered block (set (words_of taken.region block) 1 x))
     (w : OnlyWrites numbered new block (take 2 (words_of numbered.region block) ++ fs)) where
   both_written : OnlyWrites taken new block (take 2 (set (replicate width 0) 1 x) ++ fs)
@@ -60,7 +68,7 @@ module _ (old taken numbered new : QueuesState) (block width x : ℕ) (fs : List
   pub made : 2 ≤ width → IsMade old new block (x ∷ fs) width
   made wide =
       subst (λ us. IsMade old new block us width) (new_words width x fs wide)
-      (made_of old taken new block width (take 2 (set (replicate width 0) 1 x) ++ fs) live held left widths rest apart same kept both_written)
+      (made_of old taken new block width (take 2 (set (replicate width 0) 1 x) ++ fs) live held left widths rest apart same kept more blocks both_written)
 
 -- the block is pushed
 pub made_pushed : (old made new : QueuesState) (queue block width : ℕ) (ws : List ℕ) → (m : IsMade old made block ws width)
@@ -73,3 +81,14 @@ made_kept old made new block width ws m others other held =
     let k = m.kept other held in
     let p = others other (m.apart other held) k.held in
     record { held = p.held; words = p.words ∙ k.words }
+
+pub made_no_more : (old made new : QueuesState) (block width : ℕ) (ws : List ℕ) → IsMade old made block ws width → Releases made new block → HoldsNoMore old new
+made_no_more old made new block width ws m gone other held = let b = gone other held in m.more other b.1 b.0
+
+-- ---- where only work changes
+
+pub works_no_more : (old new : QueuesState) → OnlyWorks old new → HoldsNoMore old new
+works_no_more old new works block held = let h = subst (λ s. IsHeld s block) works held in record { live = h.live; apart = h.apart }
+
+pub works_blocks : (old new : QueuesState) → OnlyWorks old new → KeepsBlocks old.region new.region
+works_blocks old new works = blocks_same old.region new.region (ap (λ (s : QueuesState). s.region.live) works) (ap (λ (s : QueuesState). s.region.free) works)

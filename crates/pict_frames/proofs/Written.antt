@@ -1,10 +1,10 @@
 -- Words written one after another.
-use Rattle.std.proofs.Common.{length-append, ◌≡◌, ◌≢◌, ℕ, zero, suc, ◌+◌, ◌*◌, ◌<◌, ◌≤◌, List, [], ◌∷◌, ◌++◌, length, take, drop, set, get_or, Option, Some, refl, sym, ◌∙◌, ap, subst, arith}
+use Rattle.std.proofs.Common.{length-append, ◌≡◌, ◌≢◌, ℕ, zero, suc, ◌+◌, ◌*◌, ◌<◌, ◌≤◌, List, [], ◌∷◌, ◌++◌, length, take, drop, set, get_or, Some, refl, sym, ◌∙◌, ap, subst, arith}
 use Rattle.std.proofs.lemmas.List.{length-set, length-drop, length-take, append_assoc}
 use Rattle.std.proofs.Math.Seq.{take-suc}
 use Rattle.std.specs.Option.{unwrap_or}
 use Rattle.std.specs.FinMap.{get, insert}
-use Rattle.pict_region.specs.RegionState.{RegionState, words_of, width_of}
+use Rattle.pict_region.specs.RegionState.{RegionState, words_of, width_of, KeepsBlocks}
 use Rattle.pict_region.proofs.Calls.{some_words}
 use Rattle.pict_region.proofs.Uses.{get_inserted, get_insert_apart}
 use Rattle.pict_queue.specs.QueuesState.{QueuesState, IsHeld, KeepsQueues}
@@ -17,6 +17,7 @@ writes_nothing s block h = record {
   here = some_words (get s.region.live block) h.live;
   others = λ o n. refl;
   free = refl;
+  blocks = λ width. refl;
   queues = refl;
   spare_queues = refl;
   lists = λ q. refl;
@@ -31,6 +32,7 @@ writes_more a b c block ws vs v w = record {
   here = w.here;
   others = λ o n. w.others o n ∙ v.others o n;
   free = w.free ∙ v.free;
+  blocks = λ width. w.blocks width ∙ v.blocks width;
   queues = w.queues ∙ v.queues;
   spare_queues = w.spare_queues ∙ v.spare_queues;
   lists = λ q. w.lists q ∙ v.lists q;
@@ -63,12 +65,13 @@ pub inserted_apart : (old new : RegionState) (block : ℕ) (ws : List ℕ) → n
 inserted_apart old new block ws live other n = ap (λ m. get m other) live ∙ get_insert_apart old.live block ws other n
 
 pub writes_one : (old new : QueuesState) (block : ℕ) (ws : List ℕ)
-    → new.region.live ≡ insert old.region.live block ws → new.region.free ≡ old.region.free → new ≡ record old { region = new.region }
-    → KeepsQueues old new → IsHeld new block → OnlyWrites old new block ws
-writes_one old new block ws live free rest lists held = record {
+    → new.region.live ≡ insert old.region.live block ws → new.region.free ≡ old.region.free → KeepsBlocks old.region new.region
+    → new ≡ record old { region = new.region } → KeepsQueues old new → IsHeld new block → OnlyWrites old new block ws
+writes_one old new block ws live free blocks rest lists held = record {
   here = inserted_here old.region new.region block ws live;
   others = inserted_apart old.region new.region block ws live;
   free = free;
+  blocks = blocks;
   queues = ap (λ (s : QueuesState). s.queues) rest;
   spare_queues = ap (λ (s : QueuesState). s.spare_queues) rest;
   lists = lists;

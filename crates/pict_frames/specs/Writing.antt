@@ -1,15 +1,16 @@
 -- What writing the words of one held block changes, and what making one does.
 use Rattle.std.specs.Prelude.{◌≡◌, ◌≢◌, ℕ, ◌+◌, List, Some}
 use Rattle.std.specs.FinMap.{get}
-use Rattle.pict_region.specs.RegionState.{spare, KeepsOtherWidths}
+use Rattle.pict_region.specs.RegionState.{spare, KeepsBlocks, KeepsOtherWidths}
 use Rattle.pict_queue.specs.QueuesState.{QueuesState, IsHeld, KeepsQueues}
-use Rattle.pict_queue.specs.Contents.{held_words, KeepsAllContents, KeepsHeld}
+use Rattle.pict_queue.specs.Contents.{held_words, KeepsAllContents, KeepsHeld, HoldsOneMore}
 
 -- the held block has these words now, and nothing else has changed but work
 pub record OnlyWrites (old new : QueuesState) (block : ℕ) (words : List ℕ) : Type 0 where
   pub here : get new.region.live block ≡ Some words
   pub others : (other : ℕ) → other ≢ block → get new.region.live other ≡ get old.region.live other
   pub free : new.region.free ≡ old.region.free
+  pub blocks : KeepsBlocks old.region new.region
   pub queues : new.queues ≡ old.queues
   pub spare_queues : new.spare_queues ≡ old.spare_queues
   pub lists : KeepsQueues old new
@@ -30,3 +31,5 @@ pub record IsMade (old new : QueuesState) (block : ℕ) (words : List ℕ) (widt
   pub queues : new.queues ≡ old.queues
   pub apart : (other : ℕ) → IsHeld old other → other ≢ block
   pub kept : KeepsHeld old new
+  pub more : HoldsOneMore old new block
+  pub blocks : KeepsBlocks old.region new.region

@@ -1,8 +1,8 @@
 // A node of the code, with values for its frame, becomes a block.
 ghost use Rattle.std.specs.Prelude.{◌≡◌, ◌≢◌, ◌<◌, ◌≤◌, ◌+◌, ◌*◌, ◌++◌, ◌∷◌, [], ℕ, All, length};
-ghost use Rattle.pict_region.specs.RegionState.{spare, KeepsOtherWidths};
+ghost use Rattle.pict_region.specs.RegionState.{spare, KeepsBlocks, KeepsOtherWidths};
 ghost use Rattle.pict_queue.specs.QueuesState.{IsQueue, CostsAtMost};
-ghost use Rattle.pict_queue.specs.Contents.{contents, KeepsOtherContents, KeepsHeld};
+ghost use Rattle.pict_queue.specs.Contents.{contents, KeepsOtherContents, KeepsHeld, HoldsNoMore};
 ghost use Rattle.pict_frames.specs.Framed.{node_words};
 ghost use Rattle.pict_frames.specs.Writing.{IsMade};
 
@@ -35,6 +35,8 @@ pub fn spawn(queues: &mut Queues, queue: QueueId, number: u32, frame: &[u32], va
     ensures other_contents { KeepsOtherContents queues.old queues.new queue.0 }
     ensures queues { length queues.new.queues ≡ length queues.old.queues }
     ensures kept { KeepsHeld queues.old queues.new }
+    ensures no_more { HoldsNoMore queues.old queues.new }
+    ensures blocks { KeepsBlocks queues.old.region queues.new.region }
     ensures spare { spare queues.new.region (2 + 2 * length frame.now) + 1 ≡ spare queues.old.region (2 + 2 * length frame.now) }
     ensures widths { KeepsOtherWidths queues.old.region queues.new.region (2 + 2 * length frame.now) }
     ensures cost { CostsAtMost (2 * length frame.now + 4) queues.old queues.new }

@@ -126,10 +126,16 @@ module _ (core : Process) (s : Store) (block : ℕ) (closed : IsClosed core) (re
   pub receives : (c : ℕ) → operand_value (known s.heap s.values.items) chan ≡ Chan c → Receives core s block c replicated pattern part
   receives c is = record { closed = closed; chan = chan; acts = a; from = is }
 
+-- an input's process
+pub input_process : (core : Process) (s : Store) (block c : ℕ) (replicated : Bool) (pattern : CodePat) (part : ℕ) → Receives core s block c replicated pattern part
+    → (body : Process) × (process_of core (value_in s.heap) (held_words s.queues.region block) ≡ In (Chan c) replicated (unleveled pattern) body)
+input_process core s block c replicated pattern part r =
+    let st = inputs_stand core s.heap s.values.items r.acts.number part replicated r.chan pattern r.acts.node (held_words s.queues.region block) r.closed r.acts.is r.acts.op_is in
+    (st.0, st.1 ∙ ap (λ v. In v replicated (unleveled pattern) st.0) r.from)
+
 -- the channel of an input is there
 pub input_queue : (core : Process) (s : Store) (block c : ℕ) (replicated : Bool) (pattern : CodePat) (part : ℕ) → Receives core s block c replicated pattern part → IsRight core s block → IsQueue s.queues (c + 1)
 input_queue core s block c replicated pattern part r right =
-    let st = inputs_stand core s.heap s.values.items r.acts.number part replicated r.chan pattern r.acts.node (held_words s.queues.region block) r.closed r.acts.is r.acts.op_is in
-    let low = input_there (process_of core (value_in s.heap)) (held_words s.queues.region block) (contents s.queues 0) (channel_lists s.queues) right c replicated (unleveled pattern) st.0
-    (st.1 ∙ ap (λ v. In v replicated (unleveled pattern) st.0) r.from) in
+    let p = input_process core s block c replicated pattern part r in
+    let low = input_there (process_of core (value_in s.heap)) (held_words s.queues.region block) (contents s.queues 0) (channel_lists s.queues) right c replicated (unleveled pattern) p.0 p.1 in
     omega (arith, low, length_lists s.queues 1 (length s.queues.queues - 1))

@@ -14,20 +14,21 @@ use Rattle.pict_view.specs.ViewStep.{next_view}
 use Rattle.pict_blocks.specs.Blocks.{value_in, process_of, known, operand_value}
 use Rattle.pict_blocks.proofs.Meeting.{outputs_stand}
 use Rattle.pict_operands.proofs.Making.{keeps_more, pairs_keep}
+use Rattle.pict_operands.specs.AtHand.{IsWordFor}
 use Rattle.pict_operands.specs.Needs.{both_needs, HasRoomFor, KeepsPending, IsMade}
 use Rattle.pict_operands.specs.declared.pending.Pending.{Pending}
 use Rattle.pict_prim.specs.Acts.{UsesNeed}
 use Rattle.pict_prim.specs.declared.act.Need.{Need}
-use Rattle.pict_meetings.specs.Room.{CanHoldAfter}
+use Rattle.pict_meetings.specs.Room.{CanHoldAfter, CanHoldAfterAnd}
 use Rattle.pict_turns.specs.Parts.{frame_need}
 use Rattle.pict_meetings.specs.Partners.{Sends, SendsKept}
 use Rattle.pict_calls.proofs.Outputs.{operands_over}
 use Rattle.pict_turns.specs.Acting.{HasActing, IsDone, IsRight, view_with}
-use Rattle.pict_turns.specs.Reserving.{CanHoldAnd, OnlyReserves}
+use Rattle.pict_turns.specs.Reserving.{OnlyReserves}
 use Rattle.pict_turns.specs.Views.{channel_lists}
 use Rattle.pict_turns.specs.declared.store.Store.{Store}
 use Rattle.pict_turns.proofs.AfterReading.{acting_read, words_read}
-use Rattle.pict_turns.proofs.Room.{keeps_words, acting_still, acts_still, can_hold, done_after}
+use Rattle.pict_turns.proofs.Room.{keeps_words, acting_still, acts_still, has_room, done_after}
 use Rattle.pict_turns.proofs.Views.{block_stays, blocks_stay, block_same, view_same, lists_are}
 use Rattle.pict_machine.specs.Sending.{SendsOperand}
 use Rattle.pict_machine.proofs.Passing.{reads_works, acts_worked, known_reserved}
@@ -94,6 +95,10 @@ module _ (core : Process) (s : Store) (block channel : ℕ) (message : Val) (at 
   pub operand_over : IsOver (length s.values.items) 0 message
   operand_over = (operands_over core s block x.chan message at x.closed x.acts).1
 
+  -- its word is at hand
+  pub sends_at_hand : (w : Word) → IsWordFor s.heap (operand_value (known s.heap s.values.items) message) w → Sends core s block channel w at
+  sends_at_hand w word = record { acting = x.acts.acting; word = word.word; is = operand_process ∙ ap (λ v. Out (Chan channel) v at) (sym word.value) }
+
 -- ---- while the heap grows
 
 module _ (core : Process) (old : Store) (heap : HeapState) (pending : Pending) (keeps : KeepsWords old.heap heap) (block : ℕ) (a : HasActing core old block) where
@@ -124,6 +129,7 @@ module _ (core : Process) (old : Store) (heap : HeapState) (pending : Pending) (
     keeps = keeps_more old.heap heap new.heap keeps d.keeps;
     levels = d.levels;
     queues = d.queues;
+    released = d.released;
   }
 
   pub sends_grown : (channel : ℕ) (v : Val) (at : Span) (w : Word) → process_of core (value_in old.heap) (held_words old.queues.region block) ≡ Out (Chan channel) v at → IsWord heap w → value_of heap w ≡ v
@@ -136,8 +142,8 @@ module _ (core : Process) (old : Store) (heap : HeapState) (pending : Pending) (
 
 -- ---- room for the part of the input that is met
 
-pub can_after : (s : Store) (given : List (List ℕ)) (frame : List ℕ) (further : Need) → CanHoldAnd s frame further → CanHoldAfter s given frame
-can_after s given frame further can = let c = can_hold s frame further can in let one = c.block in record { block = omega (arith, one); room = c.room }
+pub can_after : (s : Store) (given : List (List ℕ)) (frame : List ℕ) (further : Need) → CanHoldAfterAnd s given frame further → CanHoldAfter s given frame
+can_after s given frame further can = record { block = can.block; room = has_room s.heap s.pending (frame_need frame) further can.room }
 
 room_behind : (h0 h1 : HeapState) (p0 p1 : Pending) (a b : Need) → HasRoomFor h0 p0 (both_needs a b) → UsesNeed h0.room h1.room b → KeepsPending p0 p1 → HasRoomFor h1 p1 a
 room_behind h0 h1 p0 p1 a b r u k = record {
@@ -153,11 +159,10 @@ room_behind h0 h1 p0 p1 a b r u k = record {
 }
 
 -- the same once the further need is used
-pub can_grown : (s : Store) (heap : HeapState) (pending : Pending) (given : List (List ℕ)) (frame : List ℕ) (further : Need) → CanHoldAnd s frame further
+pub can_grown : (s : Store) (heap : HeapState) (pending : Pending) (given : List (List ℕ)) (frame : List ℕ) (further : Need) → CanHoldAfterAnd s given frame further
     → UsesNeed s.heap.room heap.room further → KeepsPending s.pending pending → CanHoldAfter (record s { heap = heap; pending = pending }) given frame
 can_grown s heap pending given frame further can used kept =
-    let one = can.block in
-    record { block = omega (arith, one); room = room_behind s.heap heap s.pending pending (frame_need frame) further can.room used kept }
+    record { block = can.block; room = room_behind s.heap heap s.pending pending (frame_need frame) further can.room used kept }
 
 -- ---- the word of an operand that is sent is made
 

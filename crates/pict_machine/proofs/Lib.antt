@@ -9,5 +9,7 @@ pub mod Working
 pub mod Called
 pub mod KeptOutputs
 pub mod Taking
+pub mod Needing
+pub mod Plainly
 pub mod Steps
 pub mod Running

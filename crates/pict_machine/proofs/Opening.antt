@@ -1,6 +1,7 @@
 -- What a machine stands for before its first step.
-use Rattle.std.proofs.Common.{ℕ, ◌+◌, ◌-◌, ◌≤◌, ◌≡◌, ◌≢◌, Bool, true, false, cond, nat_lt, pos, inl, List, [], ◌∷◌, length, replicate, refl, sym, ap, ◌∙◌, subst, arith, rules, Some, ⊎_elim}
-use Rattle.std.proofs.lemmas.Bool.{cases_eq}
+use Rattle.std.proofs.Common.{ℕ, ◌+◌, ◌-◌, ◌≤◌, ◌≡◌, ◌≢◌, Bool, true, false, cond, nat_lt, pos, inl, List, [], ◌∷◌, length, replicate, refl, sym, ap, ◌∙◌, subst, arith, rules, Option, Some, None, IsSome, ⊎_elim}
+use Rattle.std.proofs.lemmas.Bool.{cases_eq, false≢true}
+use Rattle.std.proofs.lemmas.Option.{none-some}
 use Rattle.std.proofs.lemmas.List.{get_or-replicate, get_or_past, length-replicate}
 use Rattle.std.proofs.lemmas.Bool.Decides.{nat_tests}
 use Rattle.std.specs.List.{AllByRecursion, slice_get}
@@ -17,6 +18,9 @@ use Rattle.pict_queue.specs.QueuesState.{QueuesState}
 use Rattle.pict_queue.specs.Contents.{contents}
 use Rattle.pict_frames.specs.Framed.{pair_at}
 use Rattle.pict_heap.specs.HeapState.{HeapState}
+use Rattle.std.specs.FinMap.{FinMap, get, empty, get-empty}
+use Rattle.std.specs.Ordering.{nat_cmp}
+use Rattle.pict_region.specs.RegionState.{RegionState, IsLive}
 use Rattle.pict_heap.specs.declared.word.Word.TheVariants as word
 use Rattle.pict_blocks.specs.Blocks.{value_in, node_process, process_of, view_of_contents}
 use Rattle.pict_operands.specs.Pairs.{IsPair, ArePairs}
@@ -110,6 +114,16 @@ always_zero n level = by_side (nat_lt level n) refl
 
 pub zeros_are_pairs : (h : HeapState) (values : List (ℕ × ℕ)) (n : ℕ) → values ≡ replicate n (0, 0) → ArePairs h values
 zeros_are_pairs h values n e level = subst (IsPair h) (sym (ap (λ vs. pair_at vs level) e ∙ always_zero n level)) (zero_pair h)
+
+-- ---- no block
+
+no_some : (o : Option (List ℕ)) → o ≡ None → ¬ IsSome o
+no_some None e some = false≢true some
+no_some (Some ws) e some = none-some ws (sym e)
+
+-- a region without live blocks has none
+pub none_live : (r : RegionState) → r.live ≡ empty → (block : ℕ) → ¬ IsLive r block
+none_live r none block = no_some (get r.live block) (ap (λ (m : FinMap nat_cmp (List ℕ)). get m block) none ∙ get-empty nat_cmp block)
 
 -- ---- the store
 

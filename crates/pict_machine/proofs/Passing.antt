@@ -1,5 +1,5 @@
 -- A step is one still where the block's words, or room, were looked after before.
-use Rattle.std.proofs.Common.{ℕ, suc, Bool, ◌-◌, ◌<◌, ◌≡◌, ◌≢◌, inl, inr, List, [], ◌∷◌, length, map, drop, get_or, refl, sym, ap, ◌∙◌, subst, arith, Some, option_map, Result, Ok, Err}
+use Rattle.std.proofs.Common.{ℕ, suc, Bool, false, ◌-◌, ◌<◌, ◌≡◌, ◌≢◌, inl, inr, List, [], ◌∷◌, length, map, drop, get_or, refl, sym, ap, ◌∙◌, subst, arith, Some, option_map, Result, Ok, Err}
 use Rattle.std.proofs.lemmas.List.{length-map}
 use Rattle.std.proofs.lemmas.Option.{slice_get-map, slice_get_read, slice_get_within}
 use Rattle.std.specs.List.{slice_get}
@@ -7,7 +7,12 @@ use Rattle.std.specs.declared.alloc.AllocError.{AllocError}
 use Rattle.pict_core.specs.Term.{Val, Process}
 use Rattle.pict_code.specs.Instruction as plain
 use Rattle.pict_code.specs.Plain.{plain_node, plain_op}
+use Rattle.pict_core.specs.declared.value.CoreVal.{CoreVal}
 use Rattle.pict_code.specs.declared.instruction.Node.{Node}
+use Rattle.pict_code.specs.declared.instruction.Op as written
+use Rattle.pict_code.specs.declared.instruction.Op.TheVariants as op
+use Rattle.pict_code.specs.declared.pattern.CodePat as written_pattern
+use Rattle.pict_meetings.specs.Serving.{IsInputWith}
 use Rattle.pict_queue.specs.QueuesState.{QueuesState}
 use Rattle.pict_heap.specs.HeapState.{HeapState}
 use Rattle.pict_operands.specs.Pairs.{ArePairs}
@@ -140,3 +145,19 @@ op_read code number node n at is =
     let here : slice_get (map plain_node code) number ≡ Some (plain_node node) = slice_get-map plain_node code number ∙ ap (option_map plain_node) (slice_get_read code (length code) number node refl low is) in
     let same : n ≡ plain_node node = let e : Some n ≡ Some (plain_node node) = sym at ∙ here in cc in
     ap (λ (x : plain.Node). x.op) same ∙ ap (λ (x : Node). plain_op x.op) is
+
+-- an instruction that isn't an input, or is a replicated one
+other_op : (o : written.Op) (chan : Val) (pattern : CodePat) (part : ℕ) → plain_op o ≡ plain.In chan pattern part
+    → ((x : CoreVal) (y : written_pattern.CodePat) (z : ℕ) → ¬ (o ≡ op.In x y z)) → ⊥
+other_op op.Zero chan pattern part e not_in = cc
+other_op (op.Par l r) chan pattern part e not_in = cc
+other_op (op.New l r) chan pattern part e not_in = cc
+other_op (op.Out x y at) chan pattern part e not_in = cc
+other_op (op.If t l r) chan pattern part e not_in = cc
+other_op (op.Serve x y z) chan pattern part e not_in = cc
+other_op (op.In x y z) chan pattern part e not_in = not_in x y z refl
+
+pub no_plain_input : (code : List Node) (number : ℕ) (node : Node) → node ≡ get_or code number node → (pattern : CodePat) (part : ℕ) → IsInputWith (map plain_node code) number false pattern part
+    → ((x : CoreVal) (y : written_pattern.CodePat) (z : ℕ) → ¬ ((get_or code number node).op ≡ op.In x y z)) → ⊥
+no_plain_input code number node is pattern part i not_in =
+    other_op (get_or code number node).op i.chan pattern part (sym (op_read code number node i.node i.at is) ∙ i.is) not_in

@@ -3,7 +3,8 @@ use Rattle.std.proofs.Common.{ℕ, ◌+◌, ◌≤◌, ◌≡◌, ◌∷◌, len
 use Rattle.std.specs.declared.alloc.AllocError.{AllocError}
 use Rattle.pict_syntax.specs.declared.span.Span.{Span}
 use Rattle.pict_core.specs.Configuration.{Configuration, IsConfiguration}
-use Rattle.pict_queue.specs.Contents.{contents, held_words, KeepsOtherContents}
+use Rattle.pict_queue.specs.QueuesState.{IsHeld}
+use Rattle.pict_queue.specs.Contents.{contents, held_words, KeepsOtherContents, Releases, HoldsOneMore}
 use Rattle.pict_heap.specs.HeapState.{HeapState, IsWordOf, KeepsWords, word_value, values_of}
 use Rattle.pict_view.specs.View.{StandsFor}
 use Rattle.pict_view.specs.Held.{IsHeldBy}
@@ -32,6 +33,10 @@ module _ (old : Machine) (taken : Store) (block : ℕ) (new : Store) (heap : tak
   abbrev after : Machine
   after = record old { store = new }
 
+  -- the block that was taken is the only one that was held, and it isn't held any more
+  none_held : HoldsOneMore old.store.queues taken.queues block → Releases taken.queues new.queues block → (other : ℕ) → ¬ IsHeld new.queues other
+  none_held more gone other held = let b = gone other held in kept.none_held other (more other b.1 b.0)
+
   -- ---- a refused step
 
   unchanged : IsRefused (core_in old) taken new block → IsUnchanged old after
@@ -43,8 +48,8 @@ module _ (old : Machine) (taken : Store) (block : ℕ) (new : Store) (heap : tak
     view = refused_view (core_in old) old.store taken block heap levels popped others count new r;
   }
 
-  still_kept : IsRefused (core_in old) taken new block → IsMachine after
-  still_kept r = record { code = kept.code; store = r.store; held = subst IsHeldBy (sym (unchanged r).view) kept.held }
+  still_kept : HoldsOneMore old.store.queues taken.queues block → IsRefused (core_in old) taken new block → IsMachine after
+  still_kept more r = record { code = kept.code; store = r.store; held = subst IsHeldBy (sym (unchanged r).view) kept.held; none_held = none_held more r.released }
 
   still_few : IsRefused (core_in old) taken new block → channels_of after ≤ channels_of old + 1
   still_few r = omega (arith, (unchanged r).queues)
@@ -54,23 +59,24 @@ module _ (old : Machine) (taken : Store) (block : ℕ) (new : Store) (heap : tak
 
   -- ---- a step that is done
 
-  module _ (right : IsRightFor (view_of old) 1) where
-    machine_by : (e : Event) → IsStore (core_in old) new → Acts (core_in old) taken new block e → IsMachine after
-    machine_by e store a = record {
+  module _ (right : IsRightFor (view_of old) 1) (more : HoldsOneMore old.store.queues taken.queues block) where
+    machine_by : (e : Event) → IsStore (core_in old) new → Releases taken.queues new.queues block → Acts (core_in old) taken new block e → IsMachine after
+    machine_by e store gone a = record {
       code = kept.code;
       store = store;
       held = held_of (core_in old) old.store taken block heap levels popped others count new kept.held right.configuration right.is right.stands e a;
+      none_held = none_held more gone;
     }
 
     done_kept : (e : Event) → Acts (core_in old) taken new block e → IsMachine after
-    done_kept event.Quiet a = machine_by event.Quiet a.done.store a
-    done_kept (event.Comm channel word) a = machine_by (event.Comm channel word) a.done.store a
-    done_kept (event.Print word) a = machine_by (event.Print word) a.done.store a
-    done_kept (event.Trapped at) a = still_kept a.1
+    done_kept event.Quiet a = machine_by event.Quiet a.done.store a.done.released a
+    done_kept (event.Comm channel word) a = machine_by (event.Comm channel word) a.done.store a.done.released a
+    done_kept (event.Print word) a = machine_by (event.Print word) a.done.store a.done.released a
+    done_kept (event.Trapped at) a = still_kept more a.1
 
     pub step_kept : (r : Result Event AllocError) → IsStepBy (core_in old) taken new block r → IsMachine after
     step_kept (Ok e) a = done_kept e a
-    step_kept (Err e) b = still_kept b
+    step_kept (Err e) b = still_kept more b
 
   done_keeps : (e : Event) → Acts (core_in old) taken new block e → KeepsWords (heap_of old) new.heap
   done_keeps event.Quiet a = subst (λ h. KeepsWords h new.heap) heap a.done.keeps

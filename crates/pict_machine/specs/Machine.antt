@@ -1,16 +1,18 @@
 -- What a machine stands for, and what it keeps from step to step.
-use Rattle.std.specs.Prelude.{◌≡◌, ◌-◌, ℕ, length}
+use Rattle.std.specs.Prelude.{◌≡◌, ◌-◌, ℕ, List, length}
 use Rattle.pict_core.specs.Term.{Process}
 use Rattle.pict_code.specs.Plain.{plain_code}
 use Rattle.pict_code.specs.ReadBack.{core_of}
 use Rattle.pict_heap.specs.HeapState.{HeapState}
-use Rattle.pict_queue.specs.QueuesState.{QueuesState}
+use Rattle.pict_queue.specs.QueuesState.{QueuesState, IsHeld}
 use Rattle.pict_queue.specs.Contents.{KeepsAllContents}
 use Rattle.pict_view.specs.View.{View}
 use Rattle.pict_view.specs.Held.{IsHeldBy}
 use Rattle.pict_turns.specs.Acting.{IsCode, IsStore, KeepsHeap}
 use Rattle.pict_turns.specs.Cost.{step_cost}
 use Rattle.pict_turns.specs.Views as store
+use Rattle.pict_machine.specs.Needs.{needed_widths}
+use Rattle.pict_machine.specs.Plain as plain
 use Rattle.pict_machine.specs.declared.machine.Machine.{Machine}
 
 -- the process whose code the machine has
@@ -37,12 +39,21 @@ channels_of m = length m.store.queues.queues - 1
 abbrev pub cost_of : Machine → ℕ
 cost_of m = step_cost (core_in m) m.store
 
+-- the widths of the blocks that the next step needs
+abbrev pub widths_of : Machine → List ℕ
+widths_of m = needed_widths (core_in m) m.store
+
+-- the next step is a plain meeting of a message and an input
+abbrev pub MeetsPlainly : Machine → Type 0
+MeetsPlainly m = plain.MeetsPlainly (core_in m) m.store
+
 -- What holds of a machine between two steps. Its code is that of a closed process, and its store is one of this code. At each
--- channel messages wait, or readers, and never both.
+-- channel messages wait, or readers, and never both. No block is held: each live block stands in a queue.
 pub record IsMachine (m : Machine) : Type 0 where
   pub code : IsCode (plain_code m.code)
   pub store : IsStore (core_in m) m.store
   pub held : IsHeldBy (view_of m)
+  pub none_held : (block : ℕ) → ¬ IsHeld m.store.queues block
 
 -- Nothing has changed but room, spare blocks, work, and the values of levels, which count only while a block acts.
 pub record IsUnchanged (old new : Machine) : Type 0 where

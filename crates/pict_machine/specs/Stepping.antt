@@ -24,14 +24,15 @@ pub record IsSeen (core : Process) (old new : Store) (block : ℕ) (e : Event) :
   pub done : IsDone core old new block (label_of new.heap e)
   pub event : IsEventOf new.heap e
 
--- The step is done and seen, or it divides by zero, and then nothing has changed.
+-- The step is done and seen, or it divides by zero, and then nothing has changed but room, spare blocks and work.
 abbrev pub Acts : Process → Store → Store → ℕ → Event → Type 0
 Acts core old new block event.Quiet = IsSeen core old new block event.Quiet
 Acts core old new block (event.Comm channel word) = IsSeen core old new block (event.Comm channel word)
 Acts core old new block (event.Print word) = IsSeen core old new block (event.Print word)
 Acts core old new block (event.Trapped at) = (next_view (view_with core old block) ≡ Stops at) × IsRefused core old new block
 
--- What the answer says of the step: it did what its event says, or memory was wanting, and then nothing has changed.
+-- What the answer says of the step: it did what its event says, or memory was wanting, and then nothing has changed but room,
+-- spare blocks and work.
 abbrev pub IsStepBy : Process → Store → Store → ℕ → Result Event AllocError → Type 0
 IsStepBy core old new block (Ok e) = Acts core old new block e
 IsStepBy core old new block (Err e) = IsRefused core old new block

@@ -6,6 +6,8 @@ ghost use Rattle.pict_turns.specs.Acting.{core_in, ActsBy};
 ghost use Rattle.pict_turns.specs.Parts.{block_width};
 ghost use Rattle.pict_turns.specs.Reading.{HasFrame};
 ghost use Rattle.pict_turns.specs.Views.{IsNode, IsKept};
+ghost use Rattle.pict_machine.specs.Needs.{MakesNeeded};
+ghost use Rattle.pict_machine.specs.Plain.{ActsPlainly, TakesNothing};
 ghost use Rattle.pict_machine.specs.Stepping.{MayAct, IsStepBy};
 ghost use Rattle.pict_machine.specs.Work.{Fits};
 
@@ -14,7 +16,7 @@ use crate::outputs::{output, output_kept};
 use crate::receiving::input;
 use pict_code::{Node, Op};
 use pict_region::Block;
-use pict_turns::{Store, choose, end, fork, make_channel, read_part};
+use pict_turns::{Store, block_width, choose, end, fork, frame_at, make_channel, read_part};
 use std::alloc::AllocError;
 
 // The step of this block, which was the first of the ready ones. Where memory is wanting, or the step divides by zero, the
@@ -23,6 +25,9 @@ pub(crate) fn act(code: &[Node], store: &mut Store, block: Block) -> Result<Even
     requires { MayAct code.now store.old block }
     ensures step { IsStepBy (core_in code.now) store.old store.new block result }
     ensures work { Fits (core_in code.now) store.old store.new block 2 }
+    ensures blocks { MakesNeeded (core_in code.now) store.old store.new block }
+    ensures plain { ActsPlainly (core_in code.now) store.old (held_words store.old.queues.region block)
+        → TakesNothing store.old store.new result }
 {
     let first = store.queues.get(&block, 1);
     if first == 0 {
@@ -43,18 +48,32 @@ fn act_node(
     requires is { (n : IsNode (core_in code.now) store.old.heap (held_words store.old.queues.region block)) × (n.number ≡ number) }
     ensures step { IsStepBy (core_in code.now) store.old store.new block result }
     ensures work { Fits (core_in code.now) store.old store.new block 3 }
+    ensures blocks { MakesNeeded (core_in code.now) store.old store.new block }
+    ensures plain { ActsPlainly (core_in code.now) store.old (held_words store.old.queues.region block)
+        → TakesNothing store.old store.new result }
 {
     read_part(store, code, &block, number);
-    act_by(code, store, block, &code[number].op)
+    let width = block_width(frame_at(code, number));
+    act_by(code, store, block, width, &code[number].op)
 }
 
-// The same of a block of a node with this instruction, whose levels have the values of its frame.
-fn act_by(code: &[Node], store: &mut Store, block: Block, op: &Op) -> Result<Event, AllocError>
+// The same of a block of this width, of a node with this instruction, whose levels have the values of its frame.
+fn act_by(
+    code: &[Node],
+    store: &mut Store,
+    block: Block,
+    width: u32,
+    op: &Op,
+) -> Result<Event, AllocError>
     requires may { MayAct code.now store.old block }
+    requires width { length (held_words store.old.queues.region block) + 1 ≡ width }
     requires acts { ActsBy (core_in code.now) store.old block (plain_op op.now) }
     ensures step { IsStepBy (core_in code.now) store.old store.new block result }
     ensures work { (a : ActsBy (core_in code.now) store.old block (plain_op op.now)) (own : List ℕ) → HasFrame (map plain_node code.now) a.number own
         → Fits (core_in code.now) store.old store.new block (block_width own + 3) }
+    ensures blocks { MakesNeeded (core_in code.now) store.old store.new block }
+    ensures plain { ActsPlainly (core_in code.now) store.old (held_words store.old.queues.region block)
+        → TakesNothing store.old store.new result }
 {
     match op {
         Op::Zero => {
@@ -73,8 +92,12 @@ fn act_by(code: &[Node], store: &mut Store, block: Block, op: &Op) -> Result<Eve
             choose(store, code, block, test, *yes, *no)?;
             Ok(Event::Quiet)
         }
-        Op::Out(chan, message, at) => output(code, store, block, chan, message, *at),
-        Op::In(chan, pattern, part) => input(code, store, block, chan, false, pattern, *part),
-        Op::Serve(chan, pattern, part) => input(code, store, block, chan, true, pattern, *part),
+        Op::Out(chan, message, at) => output(code, store, block, width, chan, message, *at),
+        Op::In(chan, pattern, part) => input(
+            code, store, block, width, chan, false, pattern, *part,
+        ),
+        Op::Serve(chan, pattern, part) => input(
+            code, store, block, width, chan, true, pattern, *part,
+        ),
     }
 }

@@ -1,13 +1,16 @@
 // One step of the machine.
-ghost use Rattle.std.specs.Prelude.{◌≡◌, ◌≢◌, ◌≤◌, ◌<◌, ◌+◌, ◌^◌, [], IfOk, OnErr, Ok};
+ghost use Rattle.std.specs.Prelude.{◌≡◌, ◌≢◌, ◌≤◌, ◌<◌, ◌+◌, ◌^◌, [], IsOk, IfOk, OnErr, Ok};
 ghost use Rattle.pict_core.specs.Configuration.{Configuration, IsConfiguration};
 ghost use Rattle.pict_heap.specs.HeapState.{KeepsWords};
 ghost use Rattle.pict_view.specs.Right.{IsRightFor};
 ghost use Rattle.pict_view.specs.Stepping.{IsStepOf};
 ghost use Rattle.pict_view.specs.View.{StandsFor};
+ghost use Rattle.pict_region.specs.RegionState.{KeepsBlocks};
 ghost use Rattle.pict_queue.specs.QueuesState.{CostsAtMost};
+ghost use Rattle.pict_turns.specs.Widths.{MakesOnly};
 ghost use Rattle.pict_machine.specs.Events.{label_of, trap_of, IsEventOf};
-ghost use Rattle.pict_machine.specs.Machine.{IsMachine, IsUnchanged, cost_of, view_of, heap_of, queues_of, channels_of};
+ghost use Rattle.pict_machine.specs.Machine.{IsMachine, IsUnchanged, MeetsPlainly};
+ghost use Rattle.pict_machine.specs.Machine.{view_of, heap_of, queues_of, channels_of, cost_of, widths_of};
 
 use crate::acting::act;
 use crate::event::Event;
@@ -23,6 +26,10 @@ impl Machine {
     /// heap, and the machine stands for the next configuration. `Trapped` comes exactly where the step divides by zero. The
     /// only error is want of memory. After a trap or an error nothing has changed but room, spare blocks and work, so the step
     /// can be tried again.
+    ///
+    /// Blocks are made only where fewer are free than the step needs. Where a message and an input that isn't replicated meet,
+    /// what is sent is no operand that is a text or a record, and the block of the input's part is as wide as a free one or one
+    /// of the two that meet, no memory is taken.
     ///
     /// The step may not be wrong: some configuration that the machine stands for takes it rightly. A wrong step is one that
     /// sends to or receives from what is no channel, tests what is no Bool, gives a primitive what it doesn't take, or
@@ -40,6 +47,9 @@ impl Machine {
         ensures refused { OnErr result (IsUnchanged self.old self.new) }
         ensures keeps { KeepsWords (heap_of self.old) (heap_of self.new) }
         ensures work { CostsAtMost (cost_of self.old) (queues_of self.old) (queues_of self.new) }
+        ensures blocks { MakesOnly (queues_of self.old) (queues_of self.new) (widths_of self.old) }
+        ensures plain { MeetsPlainly self.old
+            → IsOk result × KeepsBlocks (queues_of self.old).region (queues_of self.new).region }
         ensures channels { channels_of self.new ≤ channels_of self.old + 1 }
     {
         match self.store.queues.pop_front(QueueId(0)) {

@@ -6,7 +6,7 @@ use Rattle.pict_core.specs.Step.{Label}
 use Rattle.pict_core.specs.Term.{Process}
 use Rattle.pict_heap.specs.HeapState.{KeepsWords}
 use Rattle.pict_queue.specs.QueuesState.{QueuesState, IsQueue}
-use Rattle.pict_queue.specs.Contents.{held_words, contents}
+use Rattle.pict_queue.specs.Contents.{held_words, contents, Releases}
 use Rattle.pict_blocks.specs.Laws.{BlocksStep}
 use Rattle.pict_operands.specs.Pairs.{ArePairs}
 use Rattle.pict_turns.specs.Views.{lists_from, channel_lists, IsBlock, CanWait, AreWaiting}
@@ -76,8 +76,8 @@ module _ (core : Process) (old new : Store) (block channel : ℕ) (ready waiting
 
   pub done : (label : Label) → AllByRecursion (IsBlock core new.heap) ready → AllByRecursion (IsBlock core new.heap) waiting → AllByRecursion (CanWait core) waiting
       → BlocksStep core new.heap (held_words old.queues.region block ∷ contents old.queues 0) (channel_lists old.queues) label ready (slice_set (channel_lists old.queues) channel waiting)
-      → IsDone core old new block label
-  done label r w can step =
+      → Releases old.queues new.queues block → IsDone core old new block label
+  done label r w can step released =
       done_by core old new block acting changes.keeps ready (slice_set (channel_lists old.queues) channel waiting) label step changes.ready_are (sym channels_after)
       (store_by core old new block acting changes.keeps (omega (arith, acting.store.ready, changes.queues)) (blocks_after r w) (waiting_after can) changes.pairs changes.levels)
-      changes.levels (omega (arith, changes.queues))
+      changes.levels (omega (arith, changes.queues)) released

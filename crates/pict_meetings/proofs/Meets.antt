@@ -15,7 +15,7 @@ use Rattle.pict_frames.specs.declared.keeping.Kept.{Kept}
 use Rattle.pict_heap.specs.HeapState.{HeapState, KeepsWords, value_of, IsWord}
 use Rattle.pict_heap.specs.declared.word.Word.{Word}
 use Rattle.pict_queue.specs.QueuesState.{IsQueue}
-use Rattle.pict_queue.specs.Contents.{held_words, contents, KeepsOtherContents}
+use Rattle.pict_queue.specs.Contents.{held_words, contents, KeepsOtherContents, Releases}
 use Rattle.pict_view.specs.Moved.{if_replicated}
 use Rattle.pict_blocks.specs.Binding.{levels_of, BindsPattern}
 use Rattle.pict_blocks.specs.Blocks.{value_in, process_of, known, IsNodeBlock}
@@ -104,8 +104,8 @@ module _ (core : Process) (old mid new : Store) (block channel part : ℕ) (repl
       (made_node core old.heap new.heap keeps mid.values.items pairs part node places.held at holds)
       (contents old.queues 0) (channel_lists old.queues) (channel_there old.queues channel there ∙ ap Some list)
 
-  pub message_met : IsDone core old new block (Comm channel (value_of new.heap message.word))
-  message_met =
+  pub message_met : Releases old.queues new.queues block → IsDone core old new block (Comm channel (value_of new.heap message.word))
+  message_met released =
       let blocks = subst (AllByRecursion (IsBlock core old.heap)) list (acting.store.blocks (channel + 1)) in
       let waiting = subst (AllByRecursion (CanWait core)) list (acting.store.waiting channel) in
       done core old new block channel (if_replicated replicated (held_words old.queues.region block) ++ (contents old.queues 0 ++ (suc part ∷ places.held) ∷ [])) rest
@@ -114,7 +114,7 @@ module _ (core : Process) (old mid new : Store) (block channel part : ℕ) (repl
       (block_stays old.heap new.heap keeps core (held_words old.queues.region block) acting.is)
       (all_pushed (IsBlock core new.heap) (contents old.queues 0) (suc part ∷ places.held) (ready_stay core old new block acting keeps)
       (made_block core new.heap (known old.heap mid.values.items) part node places.held at holds)))
-      (blocks_stay old.heap new.heap keeps core rest blocks.1) waiting.1 step
+      (blocks_stay old.heap new.heap keeps core rest blocks.1) waiting.1 step released
 
 -- The oldest input at the channel takes what the acting block sends: `taken` is the store once the input is taken and its frame
 -- read, `mid` once the input's block is put back or has ended and the message is bound, and `new` once the part is spawned.
@@ -180,8 +180,8 @@ module _ (core : Process) (old taken mid new : Store) (block channel number read
       (made_node core old.heap new.heap served_keeps mid.values.items pairs part node places.held at part_holds)
       (contents old.queues 0) (channel_lists old.queues) (channel_there old.queues channel there ∙ ap Some stood)
 
-  pub reader_met : IsDone core old new block (Comm channel (value_of new.heap message))
-  reader_met =
+  pub reader_met : Releases old.queues new.queues block → IsDone core old new block (Comm channel (value_of new.heap message))
+  reader_met released =
       let acting = sends.acting in
       let words = held_words taken.queues.region reader in
       let rest = contents taken.queues (channel + 1) in
@@ -192,4 +192,4 @@ module _ (core : Process) (old taken mid new : Store) (block channel number read
       (made_block core new.heap (known old.heap mid.values.items) part node places.held at part_holds))
       (all_behind (IsBlock core new.heap) replicated words rest blocks.0 blocks.1)
       (all_behind (CanWait core) replicated words rest stood_waiting.0 stood_waiting.1)
-      served_step
+      served_step released

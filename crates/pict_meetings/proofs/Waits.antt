@@ -13,7 +13,7 @@ use Rattle.pict_heap.specs.Packed.{packed, FitsWord}
 use Rattle.pict_heap.specs.declared.word.Word.{Word}
 use Rattle.pict_heap.specs.declared.word.Word.TheVariants as word
 use Rattle.pict_queue.specs.QueuesState.{QueuesState, IsQueue}
-use Rattle.pict_queue.specs.Contents.{held_words, contents, KeepsOtherContents}
+use Rattle.pict_queue.specs.Contents.{held_words, contents, KeepsOtherContents, Releases}
 use Rattle.pict_view.proofs.Rows.{BeginsWithMessage, BeginsWithReader, output_parks, input_parks}
 use Rattle.pict_blocks.specs.Blocks.{value_in, process_of}
 use Rattle.pict_blocks.specs.Laws.{BlocksStep}
@@ -77,7 +77,8 @@ module _ (core : Process) (h : HeapState) (words waiting : List ℕ) (ready : Li
 -- ---- a block more waits at a channel
 
 module _ (core : Process) (s : Store) (q : QueuesState) (block channel : ℕ) (waiting : List ℕ) (acting : HasActing core s block) (there : IsQueue s.queues (channel + 1))
-    (pushed : contents q (channel + 1) ≡ contents s.queues (channel + 1) ++ waiting ∷ []) (others : KeepsOtherContents s.queues q (channel + 1)) (many : length q.queues ≡ length s.queues.queues) where
+    (pushed : contents q (channel + 1) ≡ contents s.queues (channel + 1) ++ waiting ∷ []) (others : KeepsOtherContents s.queues q (channel + 1)) (many : length q.queues ≡ length s.queues.queues)
+    (released : Releases s.queues q block) where
   one_more : Changes s (record s { queues = q }) channel (contents s.queues 0) (contents s.queues (channel + 1) ++ waiting ∷ [])
   one_more = record {
     ready_are = others 0 (λ e. omega (arith, e));
@@ -98,7 +99,7 @@ module _ (core : Process) (s : Store) (q : QueuesState) (block channel : ℕ) (w
       (acting.store.blocks 0)
       (all_pushed (IsBlock core s.heap) (contents s.queues (channel + 1)) waiting (acting.store.blocks (channel + 1)) is)
       (all_pushed (CanWait core) (contents s.queues (channel + 1)) waiting (acting.store.waiting channel) can)
-      step
+      step released
 
   -- it is an output of kept values, as the acting block is an output
   pub output_done : (v : Val) (at : Span) → process_of core (value_in s.heap) (held_words s.queues.region block) ≡ Out (Chan channel) v at
@@ -110,13 +111,14 @@ module _ (core : Process) (s : Store) (q : QueuesState) (block channel : ℕ) (w
 
 -- the acting block itself waits
 module _ (core : Process) (s : Store) (q : QueuesState) (block channel : ℕ) (there : IsQueue s.queues (channel + 1))
-    (pushed : contents q (channel + 1) ≡ contents s.queues (channel + 1) ++ held_words s.queues.region block ∷ []) (others : KeepsOtherContents s.queues q (channel + 1)) (many : length q.queues ≡ length s.queues.queues) where
+    (pushed : contents q (channel + 1) ≡ contents s.queues (channel + 1) ++ held_words s.queues.region block ∷ []) (others : KeepsOtherContents s.queues q (channel + 1)) (many : length q.queues ≡ length s.queues.queues)
+    (released : Releases s.queues q block) where
   pub kept_done : SendsKept core s block channel → NoInputWaits s.queues channel → IsDone core s (record s { queues = q }) block Quiet
   kept_done sends none =
       let k = sends.kept.kept in
       let is : process_of core (value_in s.heap) (held_words s.queues.region block) ≡ Out (Chan channel) (value_in s.heap k.message.0 k.message.1) k.at =
       ap (process_of core (value_in s.heap)) sends.kept.is ∙ ap (λ v. Out v (value_in s.heap k.message.0 k.message.1) k.at) sends.to in
-      output_done core s q block channel (held_words s.queues.region block) sends.acting there pushed others many (value_in s.heap k.message.0 k.message.1) k.at is sends.kept is none
+      output_done core s q block channel (held_words s.queues.region block) sends.acting there pushed others many released (value_in s.heap k.message.0 k.message.1) k.at is sends.kept is none
 
   pub input_done : (replicated : Bool) (pattern : CodePat) (part : ℕ) → Receives core s block channel replicated pattern part → NoOutputWaits s.queues channel
       → IsDone core s (record s { queues = q }) block Quiet
@@ -126,15 +128,15 @@ module _ (core : Process) (s : Store) (q : QueuesState) (block channel : ℕ) (t
       let stands = inputs_stand core s.heap s.values.items a.number part replicated r.chan pattern a.node words r.closed a.is a.op_is in
       let is : process_of core (value_in s.heap) words ≡ In (Chan channel) replicated (unleveled pattern) stands.0 = stands.1 ∙ ap (λ v. In v replicated (unleveled pattern) stands.0) r.from in
       let at : IsInputAt core a.number = record { node = a.node; at = a.is.at; replicated = replicated; chan = r.chan; pattern = pattern; part = part; is = a.op_is } in
-      waits core s q block channel words a.acting there pushed others many a.acting.is (subst (CanWait core) (sym a.is.words_are) at)
+      waits core s q block channel words a.acting there pushed others many released a.acting.is (subst (CanWait core) (sym a.is.words_are) at)
       (input_waits core s.heap words words (contents s.queues 0) s.queues channel there replicated (unleveled pattern) stands.0 is is (a.acting.store.waiting channel) none)
 
 -- the acting block ends, and one of an output of kept values waits in its place
 module _ (core : Process) (s : Store) (q : QueuesState) (block channel : ℕ) (message : Word) (at : Span) (k : Kept) (there : IsQueue s.queues (channel + 1))
     (to : packed (word.Chan channel) ≡ k.to) (packs : packed message ≡ k.message) (same_at : k.at ≡ at) (number : channel < 2 ^ 32) (is_word : FitsWord message) (fits : FitsKept k) where
   pub sent_done : Sends core s block channel message at → contents q (channel + 1) ≡ contents s.queues (channel + 1) ++ kept_words k ∷ [] → KeepsOtherContents s.queues q (channel + 1)
-      → length q.queues ≡ length s.queues.queues → NoInputWaits s.queues channel → IsDone core s (record s { queues = q }) block Quiet
-  sent_done sends pushed others many none =
+      → length q.queues ≡ length s.queues.queues → Releases s.queues q block → NoInputWaits s.queues channel → IsDone core s (record s { queues = q }) block Quiet
+  sent_done sends pushed others many released none =
       let h = s.heap in
       let kept : IsKept h (kept_words k) = record {
         kept = k;
@@ -146,4 +148,4 @@ module _ (core : Process) (s : Store) (q : QueuesState) (block channel : ℕ) (m
       let same : process_of core (value_in h) (kept_words k) ≡ Out (Chan channel) (value_of h message) at =
       ap (λ v. Out v (value_in h k.message.0 k.message.1) k.at) (value_packed h (word.Chan channel) k.to number to)
       ∙ ap (λ v. Out (Chan channel) v k.at) (value_packed h message k.message is_word packs) ∙ ap (Out (Chan channel) (value_of h message)) same_at in
-      output_done core s q block channel (kept_words k) sends.acting there pushed others many (value_of h message) at sends.is kept same none
+      output_done core s q block channel (kept_words k) sends.acting there pushed others many released (value_of h message) at sends.is kept same none

@@ -1,5 +1,5 @@
 -- How wide the block of a node is.
-use Rattle.std.proofs.Common.{ℕ, suc, ◌+◌, ◌*◌, ◌<◌, ◌≤◌, ◌≡◌, ◌==◌, true, cond, nat_lt, List, ◌∷◌, length, ap, ◌∙◌, arith, ⊎_elim}
+use Rattle.std.proofs.Common.{ℕ, suc, ◌+◌, ◌<◌, ◌≤◌, ◌≡◌, ◌==◌, true, cond, List, ◌∷◌, length, ap, arith, ⊎_elim}
 use Rattle.std.proofs.lemmas.Bool.{cases_lt}
 use Rattle.std.proofs.lemmas.Bool.Decides.{nat_tests}
 use Rattle.pict_core.specs.Term.{Process}
@@ -26,19 +26,13 @@ node_wide core h words n =
     omega (arith, whole, held, width))
     (cases_lt 32000 (length n.node.frame))
 
--- ---- blocks that end are as wide as the block of a frame of as many levels
-
-same_width : (own frame : List ℕ) → length own ≡ length frame → block_width own ≡ block_width frame
-same_width own frame e = ap (λ (n : ℕ). cond (nat_lt 32000 n) 4 (2 + 2 * n)) e
+-- ---- of the blocks that end one is as wide
 
 one_wide : (n width rest : ℕ) → n ≡ width → 1 ≤ cond (n == width) 1 0 + rest
 one_wide n width rest e = let test : (n == width) ≡ true = grind (arith, nat_tests) in rw test (omega arith)
 
-pub first_reused : (own frame words : List ℕ) (rest : List (List ℕ)) → length words + 1 ≡ block_width own → length own ≡ length frame → 1 ≤ as_wide (block_width frame) (words ∷ rest)
-first_reused own frame words rest wide e = one_wide (length words + 1) (block_width frame) (as_wide (block_width frame) rest) (wide ∙ same_width own frame e)
+pub first_reused : (width : ℕ) (words : List ℕ) (rest : List (List ℕ)) → length words + 1 ≡ width → 1 ≤ as_wide width (words ∷ rest)
+first_reused width words rest wide = one_wide (length words + 1) width (as_wide width rest) wide
 
-pub second_reused : (own frame first words : List ℕ) (rest : List (List ℕ)) → length words + 1 ≡ block_width own → length own ≡ length frame
-    → 1 ≤ as_wide (block_width frame) (first ∷ words ∷ rest)
-second_reused own frame first words rest wide e =
-    let h = first_reused own frame words rest wide e in
-    omega (arith, h)
+pub second_reused : (width : ℕ) (first words : List ℕ) (rest : List (List ℕ)) → length words + 1 ≡ width → 1 ≤ as_wide width (first ∷ words ∷ rest)
+second_reused width first words rest wide = let h = first_reused width words rest wide in omega (arith, h)

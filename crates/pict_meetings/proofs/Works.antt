@@ -4,9 +4,10 @@ use Rattle.std.proofs.lemmas.Bool.{eq-eqb}
 use Rattle.std.specs.List.{list_any}
 use Rattle.pict_core.specs.Term.{Process}
 use Rattle.pict_queue.specs.QueuesState.{QueuesState, IsHeld, list_of, KeepsRest}
-use Rattle.pict_queue.specs.Contents.{held_words, contents, KeepsOtherContents, KeepsHeld}
-use Rattle.pict_region.specs.RegionState.{spare}
+use Rattle.pict_queue.specs.Contents.{held_words, contents, KeepsOtherContents, KeepsHeld, HoldsOneMore}
+use Rattle.pict_region.specs.RegionState.{spare, KeepsBlocks}
 use Rattle.pict_frames.specs.Writing.{OnlyWorks}
+use Rattle.pict_frames.proofs.Held.{works_no_more, works_blocks}
 use Rattle.pict_blocks.specs.Blocks.{IsNodeBlock}
 use Rattle.pict_turns.specs.Reading.{HasReadNode}
 use Rattle.pict_turns.specs.declared.store.Store.{Store}
@@ -37,8 +38,9 @@ popped_apart old queue block rest list other held same =
 -- an input that was popped, and whose frame was read
 module _ (core : Process) (s : Store) (mid : QueuesState) (new : Store) (channel number block : ℕ) (read : HasReadNode core (record s { queues = mid }) new number (held_words mid.region block)) where
   pub takes_input : contents s.queues (channel + 1) ≡ held_words mid.region block ∷ contents mid (channel + 1) → list_of s.queues (channel + 1) ≡ block ∷ list_of mid (channel + 1)
-      → KeepsOtherContents s.queues mid (channel + 1) → IsHeld mid block → KeepsHeld s.queues mid → KeepsRest s.queues mid → TakesInput core s new channel number block
-  takes_input popped list others held kept rest =
+      → KeepsOtherContents s.queues mid (channel + 1) → IsHeld mid block → KeepsHeld s.queues mid
+      → HoldsOneMore s.queues mid block → KeepsBlocks s.queues.region mid.region → KeepsRest s.queues mid → TakesInput core s new channel number block
+  takes_input popped list others held kept more blocks rest =
       let works = read.rest.queues in
       record {
         node = read.node;
@@ -50,6 +52,8 @@ module _ (core : Process) (s : Store) (mid : QueuesState) (new : Store) (channel
         kept = λ other is_held.
             let k = kept other is_held in
             record { held = works_held mid new.queues works other k.held; words = works_words mid new.queues works other ∙ k.words };
+        more = λ other is_held. more other (works_no_more mid new.queues works other is_held);
+        blocks = λ width. works_blocks mid new.queues works width ∙ blocks width;
         spare = λ width. works_spare mid new.queues works width ∙ ap (λ f. get_or f width 0) rest.free;
         queues = ap (λ (q : QueuesState). length q.queues) works ∙ rest.queues;
         heap = read.rest.heap;

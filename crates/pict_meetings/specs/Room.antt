@@ -1,7 +1,8 @@
 -- Room for the block of a part, once other blocks are given back.
 use Rattle.std.specs.Prelude.{ℕ, ◌≤◌, ◌+◌, ◌==◌, List, [], ◌∷◌, length, if◌then◌else◌}
 use Rattle.pict_region.specs.RegionState.{spare}
-use Rattle.pict_operands.specs.Needs.{HasRoomFor}
+use Rattle.pict_prim.specs.declared.act.Need.{Need}
+use Rattle.pict_operands.specs.Needs.{both_needs, HasRoomFor}
 use Rattle.pict_turns.specs.Parts.{block_width, frame_need}
 use Rattle.pict_turns.specs.declared.store.Store.{Store}
 
@@ -15,3 +16,8 @@ as_wide width (words ∷ rest) = (if length words + 1 == width then 1 else 0) + 
 pub record CanHoldAfter (s : Store) (given : List (List ℕ)) (frame : List ℕ) : Type 0 where
   pub block : 1 ≤ spare s.queues.region (block_width frame) + as_wide (block_width frame) given
   pub room : HasRoomFor s.heap s.pending (frame_need frame)
+
+-- The same, and there is room for so much more.
+pub record CanHoldAfterAnd (s : Store) (given : List (List ℕ)) (frame : List ℕ) (further : Need) : Type 0 where
+  pub block : 1 ≤ spare s.queues.region (block_width frame) + as_wide (block_width frame) given
+  pub room : HasRoomFor s.heap s.pending (both_needs (frame_need frame) further)

@@ -1,7 +1,8 @@
 // The queues of channels.
 ghost use Rattle.std.specs.Prelude.{◌≡◌, ◌+◌, ◌++◌, ◌∷◌, [], length};
+ghost use Rattle.pict_region.specs.RegionState.{KeepsBlocks};
 ghost use Rattle.pict_queue.specs.QueuesState.{IsQueue, IsHeld, CostsAtMost};
-ghost use Rattle.pict_queue.specs.Contents.{held_words, contents, KeepsOtherContents, KeepsOtherHeld};
+ghost use Rattle.pict_queue.specs.Contents.{held_words, contents, KeepsOtherContents, KeepsOtherHeld, Releases};
 
 use pict_queue::{QueueId, Queues};
 use pict_region::Block;
@@ -22,6 +23,8 @@ pub(crate) fn wait_behind(queues: &mut Queues, block: Block, channel: u32)
     ensures waiting { contents queues.new (channel + 1) ≡ contents queues.old (channel + 1) ++ held_words queues.old.region block ∷ [] }
     ensures others { KeepsOtherContents queues.old queues.new (channel + 1) }
     ensures kept { KeepsOtherHeld queues.old queues.new block }
+    ensures gone { Releases queues.old queues.new block }
+    ensures blocks { KeepsBlocks queues.old.region queues.new.region }
     ensures free { queues.new.region.free ≡ queues.old.region.free }
     ensures queues { length queues.new.queues ≡ length queues.old.queues }
     ensures cost { CostsAtMost 2 queues.old queues.new }

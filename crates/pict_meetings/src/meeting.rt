@@ -5,6 +5,7 @@ ghost use Rattle.pict_core.specs.Step.{Comm};
 ghost use Rattle.pict_code.specs.Instruction.{CodePat as AnyPattern};
 ghost use Rattle.pict_code.specs.Plain.{plain_node, plain_pat};
 ghost use Rattle.pict_heap.specs.HeapState.{value_of, IsWord};
+ghost use Rattle.pict_region.specs.RegionState.{KeepsBlocks};
 ghost use Rattle.pict_queue.specs.QueuesState.{IsQueue, CostsAtMost};
 ghost use Rattle.pict_queue.specs.Contents.{held_words, contents, KeepsOtherHeld};
 ghost use Rattle.pict_turns.specs.Acting.{core_in, IsCode, IsRight, IsDone};
@@ -47,6 +48,7 @@ pub fn meet_message(
     ensures word { IsWord store.new.heap result }
     ensures done { IsDone (core_in code.now) store.old store.new block (Comm channel (value_of store.new.heap result)) }
     ensures kept { KeepsOtherHeld store.old.queues store.new.queues block }
+    ensures blocks { KeepsBlocks store.old.queues.region store.new.queues.region }
     ensures cost { (frame : List ℕ) → HasFrame (map plain_node code.now) part frame
         → CostsAtMost (block_width frame + 9) store.old.queues store.new.queues }
 {
@@ -81,6 +83,7 @@ fn serve(
         ∷ (if replicated then [] else take 1 (contents store.old.queues (channel + 1)))) frame }
     ensures done { IsDone (core_in code.now) store.old store.new block (Comm channel (value_of store.new.heap message)) }
     ensures kept { KeepsOtherHeld store.old.queues store.new.queues block }
+    ensures blocks { KeepsBlocks store.old.queues.region store.new.queues.region }
     ensures cost { (own frame : List ℕ) → HasFrame (map plain_node code.now) number own → HasFrame (map plain_node code.now) part frame
         → CostsAtMost (block_width own + block_width frame + 7) store.old.queues store.new.queues }
 {
@@ -114,6 +117,7 @@ pub fn meet_reader(
         ∷ (if replicated then [] else take 1 (contents store.old.queues (channel + 1)))) frame }
     ensures done { IsDone (core_in code.now) store.old store.new block (Comm channel (value_of store.new.heap message)) }
     ensures kept { KeepsOtherHeld store.old.queues store.new.queues block }
+    ensures blocks { KeepsBlocks store.old.queues.region store.new.queues.region }
     ensures cost { (replicated : Bool) (pattern : AnyPattern) (part : ℕ) (own frame : List ℕ)
         → IsInputWith (map plain_node code.now) reader replicated pattern part
         → HasFrame (map plain_node code.now) reader own → HasFrame (map plain_node code.now) part frame

@@ -6,7 +6,7 @@ ghost use Rattle.pict_code.specs.Instruction.{CodePat};
 ghost use Rattle.pict_frames.specs.Keeping.{FitsKept};
 ghost use Rattle.pict_heap.specs.Packed.{packed, FitsWord};
 ghost use Rattle.pict_heap.specs.declared.word.Word.TheVariants.{Chan};
-ghost use Rattle.pict_region.specs.RegionState.{spare};
+ghost use Rattle.pict_region.specs.RegionState.{spare, KeepsBlocks};
 ghost use Rattle.pict_queue.specs.QueuesState.{IsQueue, IsHeld, CostsAtMost};
 ghost use Rattle.pict_queue.specs.Contents.{KeepsOtherHeld};
 ghost use Rattle.pict_turns.specs.Acting.{IsDone};
@@ -30,6 +30,7 @@ pub fn park(store: &mut Store, block: Block, channel: u32)
     ensures input { (core : Process) (replicated : Bool) (pattern : CodePat) (part : ℕ) → Receives core store.old block channel replicated pattern part
         → NoOutputWaits store.old.queues channel → IsDone core store.old store.new block Quiet }
     ensures kept { KeepsOtherHeld store.old.queues store.new.queues block }
+    ensures blocks { KeepsBlocks store.old.queues.region store.new.queues.region }
     ensures cost { CostsAtMost 2 store.old.queues store.new.queues }
 {
     wait_behind(&mut store.queues, block, channel);
@@ -59,6 +60,7 @@ pub fn park_output(store: &mut Store, block: Block, channel: u32, message: Word,
     ensures done { (core : Process) → Sends core store.old block channel message at → NoInputWaits store.old.queues channel
         → IsDone core store.old store.new block Quiet }
     ensures kept { KeepsOtherHeld store.old.queues store.new.queues block }
+    ensures blocks { KeepsBlocks store.old.queues.region store.new.queues.region }
     ensures cost { CostsAtMost 11 store.old.queues store.new.queues }
 {
     store.queues.give(block);

@@ -1,24 +1,37 @@
 // Room for the block of a part that a meeting spawns.
-ghost use Rattle.std.specs.Prelude.{◌≡◌, ◌≤◌, ℕ, List, length, OnOk, IsOk, IsTrue, ◌↔◌};
+ghost use Rattle.std.specs.Prelude.{◌≡◌, ◌≤◌, ◌∷◌, [], ℕ, List, length, OnOk, IsOk, IsTrue};
+ghost use Rattle.pict_region.specs.RegionState.{spare, KeepsBlocks};
+ghost use Rattle.pict_operands.specs.Needs.{no_need};
 ghost use Rattle.pict_turns.specs.Parts.{block_width};
 ghost use Rattle.pict_turns.specs.Reserving.{OnlyReserves};
-ghost use Rattle.pict_meetings.specs.Room.{as_wide, CanHoldAfter};
+ghost use Rattle.pict_turns.specs.Widths.{MakesOnly};
+ghost use Rattle.pict_meetings.specs.Room.{as_wide, CanHoldAfterAnd};
 
-use pict_prim::NO_NEED;
-use pict_turns::{NARROW, Store, reserve_part};
+use pict_prim::Need;
+use pict_turns::{NARROW, Store, reserve_part, reserve_room};
 use std::alloc::AllocError;
 
-/// Makes room for the block of a frame, once blocks that end are given back: `reuses` says whether one of them is as wide. Where
-/// one is, and the frame stands in a block itself, nothing is done. An error, which is want of memory, changes nothing but room.
-pub fn reserve_served(store: &mut Store, frame: &[u32], reuses: bool) -> Result<(), AllocError>
-    ensures ok { OnOk result ((given : List (List ℕ)) → (IsTrue reuses → 1 ≤ as_wide (block_width frame.now) given) → CanHoldAfter store.new given frame.now) }
-    ensures plain { IsTrue reuses → length frame.now ≤ 32000 → IsOk result }
-    ensures same { IsTrue reuses → length frame.now ≤ 32000 → store.new ≡ store.old }
+/// Makes room for the block of a frame, once blocks that end are given back, and in the heap and on the piles for so much more:
+/// `reuses` says whether one of those blocks is as wide. Where one is, and the frame stands in a block itself, it makes no block,
+/// and where nothing more is needed either it does nothing. An error, which is want of memory, changes nothing but room.
+pub fn reserve_served(
+    store: &mut Store,
+    frame: &[u32],
+    further: Need,
+    reuses: bool,
+) -> Result<(), AllocError>
+    ensures ok { OnOk result ((given : List (List ℕ)) → (IsTrue reuses → 1 ≤ as_wide (block_width frame.now) given)
+        → CanHoldAfterAnd store.new given frame.now further) }
+    ensures plain { IsTrue reuses → length frame.now ≤ 32000 → further ≡ no_need → IsOk result }
+    ensures same { IsTrue reuses → length frame.now ≤ 32000 → further ≡ no_need → store.new ≡ store.old }
+    ensures enough { length frame.now ≤ 32000 → further ≡ no_need → 1 ≤ spare store.old.queues.region (block_width frame.now) → IsOk result }
+    ensures blocks { IsTrue reuses → length frame.now ≤ 32000 → KeepsBlocks store.old.queues.region store.new.queues.region }
+    ensures most { MakesOnly store.old.queues store.new.queues (block_width frame.now ∷ []) }
     ensures rest { OnlyReserves store.old store.new }
 {
     if reuses && frame.len() <= NARROW {
-        Ok(())
+        reserve_room(store, further)
     } else {
-        reserve_part(store, frame, NO_NEED)
+        reserve_part(store, frame, further)
     }
 }

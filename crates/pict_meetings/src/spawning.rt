@@ -1,7 +1,8 @@
 // The part of an input that was met is spawned.
 ghost use Rattle.std.specs.Prelude.{◌≡◌, ◌<◌, ◌+◌, ◌++◌, ◌∷◌, [], All, length, if◌then◌else◌};
+ghost use Rattle.pict_region.specs.RegionState.{KeepsBlocks};
 ghost use Rattle.pict_queue.specs.QueuesState.{IsQueue, IsHeld, CostsAtMost};
-ghost use Rattle.pict_queue.specs.Contents.{held_words, contents, KeepsOtherHeld};
+ghost use Rattle.pict_queue.specs.Contents.{held_words, contents, KeepsOtherHeld, Releases};
 ghost use Rattle.pict_view.specs.Moved.{if_replicated};
 ghost use Rattle.pict_operands.specs.Pairs.{ArePairs};
 ghost use Rattle.pict_turns.specs.Parts.{block_width, Places};
@@ -21,6 +22,8 @@ fn spawn_and_stay(store: &mut Store, block: Block, number: u32, frame: &[u32])
     ensures places { Places store.old store.new number frame.now
         (λ words. held_words store.old.queues.region block ∷ (contents store.old.queues 0 ++ words ∷ [])) }
     ensures kept { KeepsOtherHeld store.old.queues store.new.queues block }
+    ensures gone { Releases store.old.queues store.new.queues block }
+    ensures blocks { KeepsBlocks store.old.queues.region store.new.queues.region }
     ensures cost { CostsAtMost (block_width frame.now + 4) store.old.queues store.new.queues }
 {
     spawn_part(store, number, frame);
@@ -37,6 +40,8 @@ pub(crate) fn spawn_and_end(store: &mut Store, block: Block, number: u32, frame:
     requires pairs { ArePairs store.old.heap store.old.values.items }
     ensures places { Places store.old store.new number frame.now (λ words. contents store.old.queues 0 ++ words ∷ []) }
     ensures kept { KeepsOtherHeld store.old.queues store.new.queues block }
+    ensures gone { Releases store.old.queues store.new.queues block }
+    ensures blocks { KeepsBlocks store.old.queues.region store.new.queues.region }
     ensures cost { CostsAtMost (block_width frame.now + 3) store.old.queues store.new.queues }
 {
     store.queues.give(block);
@@ -55,6 +60,8 @@ pub(crate) fn spawn_beside(store: &mut Store, block: Block, stays: bool, number:
     ensures places { Places store.old store.new number frame.now
         (λ words. if_replicated stays (held_words store.old.queues.region block) ++ (contents store.old.queues 0 ++ words ∷ [])) }
     ensures kept { KeepsOtherHeld store.old.queues store.new.queues block }
+    ensures gone { Releases store.old.queues store.new.queues block }
+    ensures blocks { KeepsBlocks store.old.queues.region store.new.queues.region }
     ensures cost { CostsAtMost (block_width frame.now + 4) store.old.queues store.new.queues }
 {
     if stays {

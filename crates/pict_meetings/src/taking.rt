@@ -1,9 +1,9 @@
 // What waits first at a channel is taken.
 ghost use Rattle.std.specs.Prelude.{◌≡◌, ◌<◌, ◌≤◌, ◌+◌, ◌++◌, ◌∷◌, [], ℕ, List, length, map, if◌then◌else◌};
 ghost use Rattle.pict_code.specs.Plain.{plain_node};
-ghost use Rattle.pict_region.specs.RegionState.{spare};
+ghost use Rattle.pict_region.specs.RegionState.{spare, KeepsBlocks};
 ghost use Rattle.pict_queue.specs.QueuesState.{IsQueue, IsHeld, CostsAtMost};
-ghost use Rattle.pict_queue.specs.Contents.{held_words, contents, KeepsOtherContents, KeepsHeld, KeepsOtherHeld};
+ghost use Rattle.pict_queue.specs.Contents.{held_words, contents, KeepsOtherContents, KeepsHeld, KeepsOtherHeld, HoldsNoMore, Releases};
 ghost use Rattle.pict_frames.specs.Keeping.{kept_words};
 ghost use Rattle.pict_frames.specs.declared.keeping.Kept.{Kept as AnyKept};
 ghost use Rattle.pict_view.specs.Moved.{if_replicated};
@@ -29,6 +29,8 @@ pub(crate) fn take_message(queues: &mut Queues, channel: u32) -> (u64, u64)
         → (result ≡ k.message) × (contents queues.new (channel + 1) ≡ rest) }
     ensures others { KeepsOtherContents queues.old queues.new (channel + 1) }
     ensures kept { KeepsHeld queues.old queues.new }
+    ensures no_more { HoldsNoMore queues.old queues.new }
+    ensures blocks { KeepsBlocks queues.old.region queues.new.region }
     ensures spare { (width : ℕ) → spare queues.old.region width ≤ spare queues.new.region width }
     ensures queues { length queues.new.queues ≡ length queues.old.queues }
     ensures cost { CostsAtMost 5 queues.old queues.new }
@@ -72,6 +74,8 @@ pub(crate) fn put_back(queues: &mut Queues, block: Block, channel: u32, replicat
     ensures waiting { contents queues.new (channel + 1) ≡ contents queues.old (channel + 1) ++ if_replicated replicated (held_words queues.old.region block) }
     ensures others { KeepsOtherContents queues.old queues.new (channel + 1) }
     ensures kept { KeepsOtherHeld queues.old queues.new block }
+    ensures gone { Releases queues.old queues.new block }
+    ensures blocks { KeepsBlocks queues.old.region queues.new.region }
     ensures spare { (width : ℕ) → spare queues.new.region width
         ≡ spare queues.old.region width + (if replicated then 0 else as_wide width (held_words queues.old.region block ∷ [])) }
     ensures queues { length queues.new.queues ≡ length queues.old.queues }

@@ -9,7 +9,7 @@ use Rattle.pict_region.specs.Chain.{chain}
 use Rattle.pict_region.specs.RegionState.{RegionState}
 use Rattle.pict_region.proofs.Uses.{Live}
 use Rattle.pict_queue.specs.QueuesState.{QueueState, QueuesState, link_of, no_queue, queue_at, list_of, without_first, moved_list, IsHeld, StandsIn, KeepsContents, KeepsQueues, KeepsOtherQueues}
-use Rattle.pict_queue.specs.Contents.{held_words, contents, moved_contents, KeepsAllContents, KeepsOtherContents, StaysHeld, KeepsHeld, KeepsOtherHeld}
+use Rattle.pict_queue.specs.Contents.{held_words, contents, moved_contents, KeepsAllContents, KeepsOtherContents, StaysHeld, KeepsHeld, KeepsOtherHeld, HoldsNoMore, Releases, HoldsOneMore}
 
 -- ---- lists of blocks
 
@@ -20,6 +20,10 @@ or_either false b c f h = f h
 or_true : (a b : Bool) → IsTrue b → IsTrue (a || b)
 or_true true b h = refl
 or_true false b h = h
+
+or_first : (a b : Bool) → IsTrue a → IsTrue (a || b)
+or_first true b h = refl
+or_first false b h = cc
 
 same_map : (f g : ℕ → List ℕ) (xs : List ℕ) → ((x : ℕ) → IsTrue (list_any (eqb x) xs) → f x ≡ g x) → map f xs ≡ map g xs
 same_map f g [] h = refl
@@ -36,6 +40,14 @@ stands_without b block (x ∷ xs) apart h = or_either (eqb b x) (list_any (eqb b
 stands_behind : (b block : ℕ) (xs : List ℕ) → b ≢ block → IsTrue (list_any (eqb b) (block ∷ xs)) → IsTrue (list_any (eqb b) xs)
 stands_behind b block xs apart h = let e = ne_eqb b block apart in let f : eqb b block || list_any (eqb b) xs ≡ true = h in cc
 
+stands_longer : (b : ℕ) (xs ys : List ℕ) → IsTrue (list_any (eqb b) xs) → IsTrue (list_any (eqb b) (xs ++ ys))
+stands_longer b [] ys h = cc
+stands_longer b (x ∷ xs) ys h = or_either (eqb b x) (list_any (eqb b) xs) (list_any (eqb b) (xs ++ ys)) (stands_longer b xs ys) h
+
+stands_last : (block : ℕ) (xs : List ℕ) → IsTrue (list_any (eqb block) (xs ++ block ∷ []))
+stands_last block [] = or_first (eqb block block) false (eq-eqb block block refl)
+stands_last block (x ∷ xs) = or_true (eqb block x) (list_any (eqb block) (xs ++ block ∷ [])) (stands_last block xs)
+
 -- ---- words behind links
 
 drop_unwrap : (o : Option (List ℕ)) → drop 1 (unwrap_or o []) ≡ unwrap_or (option_map (drop 1) o) []
@@ -50,6 +62,10 @@ is_some_dropped : (o p : Option (List ℕ)) → option_map (drop 1) o ≡ option
 is_some_dropped None None e h = h
 is_some_dropped None (Some x) e h = cc
 is_some_dropped (Some y) p e h = refl
+
+none_live : (o : Option (List ℕ)) → o ≡ None → ¬ IsSome o
+none_live None e h = cc
+none_live (Some x) e h = cc
 
 -- ---- where only links and orders change
 
@@ -89,6 +105,40 @@ module _ (old new : QueuesState) (keeps : KeepsContents old.region new.region) w
     };
     words = kept_words old.region new.region keeps block;
   }
+
+  -- a block that is held was held, where it stood in no list that it doesn't stand in now
+  pub held_before : (block : ℕ) → IsHeld new block → ((queue : ℕ) → StandsIn old queue block → StandsIn new queue block) → IsHeld old block
+  held_before block held after = record {
+    live = is_some_dropped (get old.region.live block) (get new.region.live block) (sym (keeps block)) held.live;
+    apart = λ queue stands. held.apart queue (after queue stands);
+  }
+
+  released : (queue block : ℕ) → StandsIn new queue block → ((b : ℕ) → StandsIn old queue b → StandsIn new queue b) → KeepsOtherQueues old new queue → Releases old new block
+  released queue block there here others other held = (
+    (λ same. held.apart queue (subst (StandsIn new queue) (sym same) there)),
+    held_before other held (λ q stands. ⊎_elim
+        (λ (same : q ≡ queue). subst (λ k. StandsIn new k other) (sym same) (here other (subst (λ k. StandsIn old k other) same stands)))
+        (λ (n : q ≢ queue). subst (λ l. IsTrue (list_any (eqb other) l)) (sym (others q n)) stands)
+        (cases_eq q queue)),
+  )
+
+  pub released_back : (queue block : ℕ) → list_of new queue ≡ list_of old queue ++ block ∷ [] → KeepsOtherQueues old new queue → Releases old new block
+  released_back queue block list =
+      released queue block (subst (λ l. IsTrue (list_any (eqb block) l)) (sym list) (stands_last block (list_of old queue)))
+      (λ b stands. subst (λ l. IsTrue (list_any (eqb b) l)) (sym list) (stands_longer b (list_of old queue) (block ∷ []) stands))
+
+  pub released_front : (queue block : ℕ) → list_of new queue ≡ block ∷ list_of old queue → KeepsOtherQueues old new queue → Releases old new block
+  released_front queue block list =
+      released queue block (subst (λ l. IsTrue (list_any (eqb block) l)) (sym list) (or_first (eqb block block) (list_any (eqb block) (list_of old queue)) (eq-eqb block block refl)))
+      (λ b stands. subst (λ l. IsTrue (list_any (eqb b) l)) (sym list) (or_true (eqb b block) (list_any (eqb b) (list_of old queue)) stands))
+
+  pub one_more_popped : (queue block : ℕ) → list_of old queue ≡ block ∷ list_of new queue → KeepsOtherQueues old new queue → HoldsOneMore old new block
+  one_more_popped queue block list others other held apart = held_before other held (λ q stands. ⊎_elim
+      (λ (same : q ≡ queue).
+      subst (λ k. StandsIn new k other) (sym same)
+      (stands_behind other block (list_of new queue) apart (subst (λ l. IsTrue (list_any (eqb other) l)) list (subst (λ k. StandsIn old k other) same stands))))
+      (λ (n : q ≢ queue). subst (λ l. IsTrue (list_any (eqb other) l)) (sym (others q n)) stands)
+      (cases_eq q queue))
 
   pub held_pushed : (queue block : ℕ) → ((b : ℕ) → b ≢ block → StandsIn new queue b → StandsIn old queue b) → KeepsOtherQueues old new queue → KeepsOtherHeld old new block
   held_pushed queue block here others other apart held = stays other held (λ q stands. ⊎_elim
@@ -130,9 +180,24 @@ module _ (old new : QueuesState) (block : ℕ) (others : (other : ℕ) → other
     words = ap (λ o. drop 1 (unwrap_or o [])) (others other apart);
   }
 
-none_live : (o : Option (List ℕ)) → o ≡ None → ¬ IsSome o
-none_live None e h = cc
-none_live (Some x) e h = cc
+  pub one_more_beside : HoldsOneMore old new block
+  one_more_beside other held apart = record {
+    live = subst (λ o. IsSome o) (others other apart) held.live;
+    apart = λ queue stands. held.apart queue (subst (λ l. IsTrue (list_any (eqb other) l)) (sym (lists queue)) stands);
+  }
+
+-- the block was held
+pub no_more_if_held : (old new : QueuesState) (block : ℕ) → IsHeld old block → HoldsOneMore old new block → HoldsNoMore old new
+no_more_if_held old new block held more other now = ⊎_elim
+    (λ (same : other ≡ block). subst (IsHeld old) (sym same) held)
+    (λ (apart : other ≢ block). more other now apart)
+    (cases_eq other block)
+
+-- the block isn't live now
+pub released_if_gone : (old new : QueuesState) (block : ℕ) → get new.region.live block ≡ None → HoldsOneMore old new block → Releases old new block
+released_if_gone old new block gone more other now =
+    let apart : other ≢ block = λ same. none_live (get new.region.live other) (ap (get new.region.live) same ∙ gone) now.live in
+    (apart, more other now apart)
 
 -- a block that is taken was not held before
 pub taken_apart : (old : QueuesState) (block other : ℕ) → get old.region.live block ≡ None → IsHeld old other → other ≢ block
@@ -167,6 +232,10 @@ module _ (old mid new : QueuesState) (from to block : ℕ)
       let b = second other apart a.held in
       record { held = b.held; words = b.words ∙ a.words }
 
+  -- it isn't held afterwards
+  pub no_more_moved : HoldsOneMore old mid block → Releases mid new block → HoldsNoMore old new
+  no_more_moved first second other held = let b = second other held in first other b.1 b.0
+
 pub words_along : (a b c : RegionState) → KeepsContents a b → KeepsContents b c → KeepsContents a c
 words_along a b c first second block = second block ∙ first block
 
@@ -181,6 +250,9 @@ module _ (old new : QueuesState) (live : new.region.live ≡ old.region.live) (l
 
   pub held_same : KeepsHeld old new
   held_same block held = stays old new same_words block held (λ queue stands. subst (λ l. IsTrue (list_any (eqb block) l)) (lists queue) stands)
+
+  pub no_more_same : HoldsNoMore old new
+  no_more_same block held = held_before old new same_words block held (λ queue stands. subst (λ l. IsTrue (list_any (eqb block) l)) (sym (lists queue)) stands)
 
 -- lists are read from live blocks and from the first blocks of queues
 pub lists_same : (old new : QueuesState) → new.region.live ≡ old.region.live → new.queues ≡ old.queues → KeepsQueues old new

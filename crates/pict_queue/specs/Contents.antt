@@ -34,3 +34,15 @@ KeepsHeld old new = (block : ℕ) → IsHeld old block → StaysHeld old new blo
 -- each held block but this one stays held
 abbrev pub KeepsOtherHeld : QueuesState → QueuesState → ℕ → Type 0
 KeepsOtherHeld old new block = (other : ℕ) → other ≢ block → IsHeld old other → StaysHeld old new other
+
+-- no block is held that wasn't held
+abbrev pub HoldsNoMore : QueuesState → QueuesState → Type 0
+HoldsNoMore old new = (block : ℕ) → IsHeld new block → IsHeld old block
+
+-- the same, and this block isn't held any more
+abbrev pub Releases : QueuesState → QueuesState → ℕ → Type 0
+Releases old new block = (other : ℕ) → IsHeld new other → (other ≢ block) × IsHeld old other
+
+-- no block is held that wasn't held but this one
+abbrev pub HoldsOneMore : QueuesState → QueuesState → ℕ → Type 0
+HoldsOneMore old new block = (other : ℕ) → IsHeld new other → other ≢ block → IsHeld old other

@@ -1,9 +1,9 @@
 // The queues: a region, and the ends and the length of each queue.
-ghost use Rattle.std.specs.Prelude.{◌≡◌, ◌≢◌, ◌+◌, ◌-◌, ◌<◌, ◌≤◌, ◌↔◌, ◌++◌, ◌∷◌, ◌==◌, if◌then◌else◌, ℕ, [], length, max, replicate, None, IsOk, IsNone, IfSome, IfOk, OnOk, OnErr, slice_index, slice_set, slice_get};
+ghost use Rattle.std.specs.Prelude.{◌≡◌, ◌≢◌, ◌+◌, ◌-◌, ◌<◌, ◌≤◌, ◌↔◌, ◌++◌, ◌∷◌, ◌==◌, if◌then◌else◌, ℕ, [], length, max, replicate, None, IsOk, IsNone, IfSome, IfOk, OnOk, OnErr, slice_index, slice_set, slice_get, MatchOption};
 ghost use Rattle.std.specs.Option.{option_map, option_to_list};
 ghost use Rattle.std.specs.FinMap.{get, insert, remove, empty};
-ghost use Rattle.pict_region.specs.RegionState.{IsLive, words_of, width_of, spare, KeepsOtherWidths, raised};
-ghost use Rattle.pict_queue.specs.Contents.{held_words, contents, moved_contents, KeepsAllContents, KeepsOtherContents, KeepsHeld, KeepsOtherHeld};
+ghost use Rattle.pict_region.specs.RegionState.{IsLive, words_of, width_of, spare, blocks, KeepsBlocks, KeepsOtherWidths, raised};
+ghost use Rattle.pict_queue.specs.Contents.{held_words, contents, moved_contents, KeepsAllContents, KeepsOtherContents, KeepsHeld, KeepsOtherHeld, HoldsNoMore, HoldsOneMore, Releases};
 ghost use Rattle.pict_queue.specs.QueuesState.{IsQueue, IsHeld, HasEachBlockOnce, list_of, no_queue, link_of, moved_list, KeepsOtherQueues, KeepsQueues, KeepsRest, CostsAtMost};
 
 use pict_region::{Block, Region};
@@ -71,6 +71,7 @@ impl Queues {
         ensures lists { KeepsQueues self.old self.new }
         ensures contents { KeepsAllContents self.old self.new }
         ensures kept { KeepsHeld self.old self.new }
+        ensures no_more { HoldsNoMore self.old self.new }
         ensures spare_queues { OnOk result (self.new.spare_queues ≡ self.old.spare_queues - 1) }
         ensures region { self.new.region ≡ self.old.region }
         ensures err { OnErr result (self.new ≡ self.old) }
@@ -91,6 +92,7 @@ impl Queues {
         ensures rest { OnOk result (self.new ≡ record self.old { spare_queues = self.new.spare_queues }) }
         ensures contents { KeepsAllContents self.old self.new }
         ensures kept { KeepsHeld self.old self.new }
+        ensures no_more { HoldsNoMore self.old self.new }
         ensures err { OnErr result (self.new ≡ self.old) }
     {
         if self.spare < n {
@@ -120,6 +122,8 @@ impl Queues {
         ensures pushed { contents self.new q.0 ≡ contents self.old q.0 ++ held_words self.old.region b ∷ [] }
         ensures other_contents { KeepsOtherContents self.old self.new q.0 }
         ensures kept { KeepsOtherHeld self.old self.new b }
+        ensures gone { Releases self.old self.new b }
+        ensures blocks { KeepsBlocks self.old.region self.new.region }
         ensures rest { KeepsRest self.old self.new }
         ensures once { HasEachBlockOnce self.new }
         ensures cost { CostsAtMost 2 self.old self.new }
@@ -145,6 +149,8 @@ impl Queues {
         ensures pushed { contents self.new q.0 ≡ held_words self.old.region b ∷ contents self.old q.0 }
         ensures other_contents { KeepsOtherContents self.old self.new q.0 }
         ensures kept { KeepsOtherHeld self.old self.new b }
+        ensures gone { Releases self.old self.new b }
+        ensures blocks { KeepsBlocks self.old.region self.new.region }
         ensures rest { KeepsRest self.old self.new }
         ensures once { HasEachBlockOnce self.new }
         ensures cost { CostsAtMost 2 self.old self.new }
@@ -172,6 +178,8 @@ impl Queues {
         ensures popped { contents self.old q.0 ≡ option_to_list (option_map (held_words self.new.region) result) ++ contents self.new q.0 }
         ensures other_contents { KeepsOtherContents self.old self.new q.0 }
         ensures kept { KeepsHeld self.old self.new }
+        ensures more { MatchOption result (HoldsNoMore self.old self.new) (HoldsOneMore self.old self.new) }
+        ensures blocks { KeepsBlocks self.old.region self.new.region }
         ensures rest { KeepsRest self.old self.new }
         ensures once { HasEachBlockOnce self.new }
         ensures cost { CostsAtMost 2 self.old self.new }
@@ -193,6 +201,8 @@ impl Queues {
         ensures lists { (queue : ℕ) → list_of self.new queue ≡ moved_list self.old from.0 to.0 queue }
         ensures moved { (queue : ℕ) → contents self.new queue ≡ moved_contents self.old from.0 to.0 queue }
         ensures kept { KeepsHeld self.old self.new }
+        ensures no_more { HoldsNoMore self.old self.new }
+        ensures blocks { KeepsBlocks self.old.region self.new.region }
         ensures rest { KeepsRest self.old self.new }
         ensures once { HasEachBlockOnce self.new }
         ensures cost { CostsAtMost 4 self.old self.new }
@@ -212,6 +222,7 @@ impl Queues {
         ensures rest { self.new ≡ record self.old { region = record self.old.region { work = self.new.region.work } } }
         ensures contents { KeepsAllContents self.old self.new }
         ensures kept { KeepsHeld self.old self.new }
+        ensures no_more { HoldsNoMore self.old self.new }
         ensures cost { CostsAtMost 2 self.old self.new }
     {
         let queue = self.queues[q.0 as usize];
@@ -236,6 +247,9 @@ impl Queues {
         ensures queues { self.new ≡ record self.old { region = self.new.region } }
         ensures contents { KeepsAllContents self.old self.new }
         ensures kept { KeepsHeld self.old self.new }
+        ensures no_more { HoldsNoMore self.old self.new }
+        ensures blocks { (w : ℕ) → blocks self.new.region w
+            ≤ blocks self.old.region w + ((if w == width then n else 0) - spare self.old.region w) }
     {
         self.region.reserve(width, n)
     }
@@ -256,6 +270,8 @@ impl Queues {
         ensures apart { (other : ℕ) → IsHeld self.old other → other ≢ result }
         ensures contents { KeepsAllContents self.old self.new }
         ensures kept { KeepsHeld self.old self.new }
+        ensures more { HoldsOneMore self.old self.new result }
+        ensures blocks { KeepsBlocks self.old.region self.new.region }
     {
         self.region.take(width)
     }
@@ -272,6 +288,8 @@ impl Queues {
         ensures lists { KeepsQueues self.old self.new }
         ensures contents { KeepsAllContents self.old self.new }
         ensures kept { KeepsOtherHeld self.old self.new b }
+        ensures gone { Releases self.old self.new b }
+        ensures blocks { KeepsBlocks self.old.region self.new.region }
         ensures once { HasEachBlockOnce self.new }
     {
         self.region.give(b);
@@ -286,6 +304,7 @@ impl Queues {
         ensures rest { self.new ≡ record self.old { region = record self.old.region { work = raised self.old.region.work } } }
         ensures contents { KeepsAllContents self.old self.new }
         ensures kept { KeepsHeld self.old self.new }
+        ensures no_more { HoldsNoMore self.old self.new }
     {
         self.region.get(b, i)
     }
@@ -303,6 +322,8 @@ impl Queues {
         ensures held { IsHeld self.new b.now }
         ensures contents { KeepsAllContents self.old self.new }
         ensures kept { KeepsOtherHeld self.old self.new b.now }
+        ensures no_more { HoldsNoMore self.old self.new }
+        ensures blocks { KeepsBlocks self.old.region self.new.region }
     {
         self.region.set(b, i, word);
     }
@@ -327,6 +348,8 @@ impl Queues {
         ensures popped { contents self.old q.0 ≡ held_words self.new.region result ∷ contents self.new q.0 }
         ensures other_contents { KeepsOtherContents self.old self.new q.0 }
         ensures kept { KeepsHeld self.old self.new }
+        ensures more { HoldsOneMore self.old self.new result }
+        ensures blocks { KeepsBlocks self.old.region self.new.region }
         ensures rest { KeepsRest self.old self.new }
         ensures once { HasEachBlockOnce self.new }
         ensures cost { CostsAtMost 2 self.old self.new }
@@ -366,6 +389,7 @@ fn set_link(region: &mut Region, block: u64, next: u64)
     requires wide { 1 ≤ width_of region.old block }
     ensures live { region.new.live ≡ insert region.old.live block (slice_set (words_of region.old block) 0 next) }
     ensures free { region.new.free ≡ region.old.free }
+    ensures blocks { KeepsBlocks region.old region.new }
     ensures least { region.old.work ≤ region.new.work }
     ensures most { region.new.work ≤ region.old.work + 2 }
 {

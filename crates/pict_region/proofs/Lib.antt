@@ -3,3 +3,4 @@ pub mod Stores
 pub mod Frees
 pub mod Calls
 pub mod Uses
+pub mod Counts

@@ -1,7 +1,7 @@
 // The region: its store of words, its lists of free blocks, and its work.
-ghost use Rattle.std.specs.Prelude.{◌≡◌, ◌≢◌, ◌+◌, ◌^◌, ◌<◌, ◌≤◌, ℕ, [], length, max, None, OnOk, OnErr, IsOk, IsSome, slice_index, slice_set, slice_index_or, replicate, take, drop, ◌++◌, vec_len};
+ghost use Rattle.std.specs.Prelude.{◌≡◌, ◌≢◌, ◌+◌, ◌-◌, ◌^◌, ◌<◌, ◌≤◌, ◌==◌, if◌then◌else◌, ℕ, [], length, max, None, OnOk, OnErr, IsOk, IsSome, slice_index, slice_set, slice_index_or, replicate, take, drop, ◌++◌, vec_len};
 ghost use Rattle.std.specs.FinMap.{get, insert, remove, empty};
-ghost use Rattle.pict_region.specs.RegionState.{IsLive, words_of, width_of, spare, KeepsOtherWidths, raised};
+ghost use Rattle.pict_region.specs.RegionState.{IsLive, words_of, width_of, spare, blocks, KeepsBlocks, KeepsOtherWidths, raised};
 
 use crate::block::Block;
 use std::alloc::{AllocError, Global};
@@ -52,7 +52,8 @@ impl Region {
     }
 
     /// Makes free blocks until there are `n` of this width, in words. The store grows by doubling. Where memory is
-    /// wanting, some of these blocks may have been made. Where enough are there it takes no memory. The work stays.
+    /// wanting, some of these blocks may have been made, and never more than were wanting. Where enough are there it takes
+    /// no memory. The work stays.
     pub fn reserve(&mut self, width: u32, n: u64) -> Result<(), AllocError>
         requires positive { 1 ≤ width }
         requires narrow { width ≤ 65535 }
@@ -61,6 +62,7 @@ impl Region {
         ensures err { OnErr result (spare self.old width ≤ spare self.new width) }
         ensures most { spare self.new width ≤ max n (spare self.old width) }
         ensures others { KeepsOtherWidths self.old self.new width }
+        ensures blocks { (w : ℕ) → blocks self.new w ≤ blocks self.old w + ((if w == width then n else 0) - spare self.old w) }
         ensures live { self.new.live ≡ self.old.live }
         ensures work { self.new.work ≡ self.old.work }
     {
@@ -80,6 +82,7 @@ impl Region {
         ensures live { self.new.live ≡ insert self.old.live result (replicate width 0) }
         ensures spare { spare self.new width + 1 ≡ spare self.old width }
         ensures others { KeepsOtherWidths self.old self.new width }
+        ensures blocks { KeepsBlocks self.old self.new }
         ensures work { self.new.work ≡ raised self.old.work }
     {
         let list = self.free[width as usize];
@@ -101,6 +104,7 @@ impl Region {
         ensures live { self.new.live ≡ remove self.old.live b }
         ensures spare { spare self.new (width_of self.old b) ≡ spare self.old (width_of self.old b) + 1 }
         ensures others { KeepsOtherWidths self.old self.new (width_of self.old b) }
+        ensures blocks { KeepsBlocks self.old self.new }
         ensures work { self.new.work ≡ raised self.old.work }
     {
         let Block { number } = b;
@@ -135,6 +139,7 @@ impl Region {
         requires inside { i < width_of self.old b.now }
         ensures live { self.new.live ≡ insert self.old.live b.now (slice_set (words_of self.old b.now) i word) }
         ensures free { self.new.free ≡ self.old.free }
+        ensures blocks { KeepsBlocks self.old self.new }
         ensures work { self.new.work ≡ raised self.old.work }
     {
         self.words[b.number as usize + 1 + i as usize] = word;

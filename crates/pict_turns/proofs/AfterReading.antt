@@ -7,7 +7,8 @@ use Rattle.pict_code.specs.Instruction.{Op}
 use Rattle.pict_code.specs.Nodes.{Place, places}
 use Rattle.pict_heap.specs.HeapState.{HeapState, KeepsWords}
 use Rattle.pict_queue.specs.QueuesState.{QueuesState, IsHeld}
-use Rattle.pict_queue.specs.Contents.{held_words, contents}
+use Rattle.pict_queue.specs.Contents.{held_words, contents, HoldsNoMore}
+use Rattle.pict_frames.proofs.Held.{works_no_more}
 use Rattle.pict_view.specs.ViewStep.{next_view}
 use Rattle.pict_blocks.specs.Blocks.{value_in, view_of_contents, IsNodeBlock}
 use Rattle.pict_turns.specs.Acting.{IsStore, HasActing, ActsBy, IsDone, IsRefused, view_with}
@@ -27,6 +28,10 @@ module _ (old new : Store) (r : OnlyReads old new) where
 
   pub held_read : (block : ℕ) → IsHeld old.queues block → IsHeld new.queues block
   held_read block h = subst (λ (s : QueuesState). IsHeld s block) (sym r.queues) (record { live = h.live; apart = h.apart })
+
+  -- no block is held that wasn't held
+  pub no_more_read : HoldsNoMore old.queues new.queues
+  no_more_read = works_no_more old.queues new.queues r.queues
 
   channels_read : channel_lists new.queues ≡ channel_lists old.queues
   channels_read = ap (λ (s : QueuesState). channel_lists s) r.queues
@@ -66,6 +71,7 @@ module _ (old new : Store) (r : OnlyReads old new) where
           keeps = subst (λ (h : HeapState). KeepsWords h last.heap) r.heap d.keeps;
           levels = d.levels ∙ r.levels;
           queues = let e = queues_read in let most = d.queues in omega (arith, e, most);
+          released = λ other held. let x = d.released other held in (x.0, no_more_read other x.1);
         }
 
         pub refused_read : IsRefused core new last block → IsRefused core old last block
@@ -76,6 +82,7 @@ module _ (old new : Store) (r : OnlyReads old new) where
           heap = record { texts = d.heap.texts ∙ ap (λ (h : HeapState). h.texts) r.heap; records = d.heap.records ∙ ap (λ (h : HeapState). h.records) r.heap };
           store = d.store;
           levels = d.levels ∙ r.levels;
+          released = λ other held. let x = d.released other held in (x.0, no_more_read other x.1);
         }
 
 -- the block of a node acts by the node's instruction once its frame is read

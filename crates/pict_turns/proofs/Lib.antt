@@ -9,3 +9,4 @@ pub mod Steps
 pub mod Words
 pub mod AfterReading
 pub mod Costing
+pub mod Making

@@ -127,6 +127,7 @@ reserves_nothing s = record {
   spare_queues = omega arith;
   contents = λ queue. refl;
   held = λ block held. record { held = held; words = refl };
+  no_more = λ block held. held;
   values = refl;
 }
 
@@ -150,6 +151,7 @@ reserves_more a b c v w = record {
       let x = v.held block held in
       let y = w.held block x.held in
       record { held = y.held; words = y.words ∙ x.words };
+  no_more = λ block held. v.no_more block (w.no_more block held);
   values = w.values ∙ v.values;
 }
 
@@ -214,6 +216,7 @@ module _ (core : Process) (old new : Store) (r : OnlyReserves old new) where
         keeps = record { words = λ w is. d.keeps.words w (words_kept.words w is); values = λ w is. d.keeps.values w (words_kept.words w is) ∙ words_kept.values w is };
         levels = d.levels ∙ ap length r.values;
         queues = let e = ap length r.queues in let most = d.queues in omega (arith, e, most);
+        released = λ other held. let x = d.released other held in (x.0, r.no_more other x.1);
       }
 
       pub refused_after : IsRefused core new last block → IsRefused core old last block
@@ -224,4 +227,5 @@ module _ (core : Process) (old new : Store) (r : OnlyReserves old new) where
         heap = record { texts = d.heap.texts ∙ r.heap.texts; records = d.heap.records ∙ r.heap.records };
         store = d.store;
         levels = d.levels ∙ ap length r.values;
+        released = λ other held. let x = d.released other held in (x.0, r.no_more other x.1);
       }

@@ -8,7 +8,7 @@ use Rattle.pict_code.specs.Instruction.{Node}
 use Rattle.pict_code.specs.Nodes.{Place, places, nodes_of}
 use Rattle.pict_heap.specs.HeapState.{HeapState, KeepsWords}
 use Rattle.pict_queue.specs.QueuesState.{QueuesState, IsQueue}
-use Rattle.pict_queue.specs.Contents.{held_words, contents, KeepsOtherContents}
+use Rattle.pict_queue.specs.Contents.{held_words, contents, KeepsOtherContents, Releases}
 use Rattle.pict_view.specs.Moved.{Moves}
 use Rattle.pict_view.specs.ViewStep.{next_view}
 use Rattle.pict_blocks.specs.Blocks.{value_in, known, view_of_contents, IsNodeBlock}
@@ -116,8 +116,8 @@ module _ (core : Process) (old new : Store) (block : ℕ) (acting : HasActing co
   pub done_by : (ready : List (List ℕ)) (channels : List (List (List ℕ))) (label : Label)
       → BlocksStep core new.heap (held_words old.queues.region block ∷ contents old.queues 0) (channel_lists old.queues) label ready channels
       → contents new.queues 0 ≡ ready → channel_lists new.queues ≡ channels → IsStore core new → length new.values.items ≡ length old.values.items
-      → length new.queues.queues ≤ length old.queues.queues + 1 → IsDone core old new block label
-  done_by ready channels label step at lists store levels queues =
+      → length new.queues.queues ≤ length old.queues.queues + 1 → Releases old.queues new.queues block → IsDone core old new block label
+  done_by ready channels label step at lists store levels queues released =
       let after : view_of core new ≡ view_of_contents core (value_in new.heap) ready channels =
       ap (λ (rs : List (List ℕ)). view_of_contents core (value_in new.heap) rs (channel_lists new.queues)) at
       ∙ ap (view_of_contents core (value_in new.heap) ready) lists in
@@ -127,4 +127,5 @@ module _ (core : Process) (old new : Store) (block : ℕ) (acting : HasActing co
         keeps = keeps;
         levels = levels;
         queues = queues;
+        released = released;
       }

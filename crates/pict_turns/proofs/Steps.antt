@@ -11,7 +11,7 @@ use Rattle.pict_code.specs.Nodes.{nodes_of}
 use Rattle.pict_heap.specs.HeapState.{HeapState, KeepsWords}
 use Rattle.pict_region.specs.Chain.{chain}
 use Rattle.pict_queue.specs.QueuesState.{QueuesState, QueueState, IsQueue, link_of, no_queue}
-use Rattle.pict_queue.specs.Contents.{held_words, contents, KeepsAllContents, KeepsOtherContents}
+use Rattle.pict_queue.specs.Contents.{held_words, contents, KeepsAllContents, KeepsOtherContents, Releases}
 use Rattle.pict_blocks.specs.Blocks.{known, operand_value}
 use Rattle.pict_blocks.proofs.Forking.{nodes_end, parts_fork, tests_choose}
 use Rattle.pict_blocks.proofs.Opening.{news_make_channels}
@@ -30,8 +30,9 @@ use Rattle.pict_turns.proofs.Views.{frame_held, lists_stay}
 -- ---- a step that isn't done
 
 pub refused_by : (core : Process) (old new : Store) (block : ℕ) → HasActing core old block → contents new.queues 0 ≡ held_words old.queues.region block ∷ contents old.queues 0
-    → KeepsOtherContents old.queues new.queues 0 → length new.queues.queues ≡ length old.queues.queues → new.heap ≡ old.heap → new.values ≡ old.values → IsRefused core old new block
-refused_by core old new block a ready others queues heap values =
+    → KeepsOtherContents old.queues new.queues 0 → length new.queues.queues ≡ length old.queues.queues → new.heap ≡ old.heap → new.values ≡ old.values
+    → Releases old.queues new.queues block → IsRefused core old new block
+refused_by core old new block a ready others queues heap values released =
     let keeps : KeepsWords old.heap new.heap = subst (KeepsWords old.heap) (sym heap) (keeps_all old.heap) in
     let levels : length new.values.items ≡ length old.values.items = ap (λ vs. length vs.items) values in
     let pairs : ArePairs new.heap new.values.items = subst (λ h. ArePairs h new.values.items) (sym heap) (subst (λ vs. ArePairs old.heap vs.items) (sym values) a.store.pairs) in
@@ -44,13 +45,14 @@ refused_by core old new block a ready others queues heap values =
       store = store_by core old new block a keeps (let low = a.store.ready in omega (arith, queues, low))
           (blocks_by core old new block a keeps (held_words old.queues.region block ∷ contents old.queues 0) ready (are, ready_stay core old new block a keeps) others) (waiting_by core old new block a keeps others) pairs levels;
       levels = levels;
+      released = released;
     }
 
 -- ---- the inert process
 
 pub end_done : (core : Process) (old new : Store) (block : ℕ) → ActsBy core old block op.Zero → KeepsAllContents old.queues new.queues → new.queues.queues ≡ old.queues.queues
-    → new.heap ≡ old.heap → new.values ≡ old.values → IsDone core old new block Quiet
-end_done core old new block a all queues heap values =
+    → new.heap ≡ old.heap → new.values ≡ old.values → Releases old.queues new.queues block → IsDone core old new block Quiet
+end_done core old new block a all queues heap values released =
     let same : length new.queues.queues ≡ length old.queues.queues = ap length queues in
     let keeps : KeepsWords old.heap new.heap = subst (KeepsWords old.heap) (sym heap) (keeps_all old.heap) in
     let levels : length new.values.items ≡ length old.values.items = ap (λ vs. length vs.items) values in
@@ -63,7 +65,7 @@ end_done core old new block a all queues heap values =
     (all 0) (channels_stay old.queues new.queues others same)
     (store_by core old new block a.acting keeps (let low = a.acting.store.ready in omega (arith, same, low))
     (blocks_by core old new block a.acting keeps (contents old.queues 0) (all 0) (ready_stay core old new block a.acting keeps) others) (waiting_by core old new block a.acting keeps others) pairs levels)
-    levels (omega (arith, same))
+    levels (omega (arith, same)) released
 
 -- ---- a part's block
 
@@ -75,7 +77,8 @@ same_held h f g frame held e x = record { values = x.values ∙ e; narrow = x.na
 
 module _ (core : Process) (s h n : Store) (block l r : ℕ) (first second : Node) (a : ActsBy core s block (op.Par l r))
     (at_first : slice_get (nodes_of core) l ≡ Some first) (at_second : slice_get (nodes_of core) r ≡ Some second)
-    (one : Places s h l first.frame (λ words. words ∷ contents s.queues 0)) (other : Places h n r second.frame (λ words. contents h.queues 0 ++ words ∷ [])) where
+    (one : Places s h l first.frame (λ words. words ∷ contents s.queues 0)) (other : Places h n r second.frame (λ words. contents h.queues 0 ++ words ∷ []))
+    (released : Releases s.queues n.queues block) where
   forked_keeps : KeepsWords s.heap n.heap
   forked_keeps = keeps_more s.heap h.heap n.heap one.keeps other.keeps
 
@@ -110,14 +113,14 @@ module _ (core : Process) (s h n : Store) (block l r : ℕ) (first second : Node
         all_pushed (IsBlock core n.heap) (contents s.queues 0) (suc r ∷ other.held) (ready_stay core s n block a.acting forked_keeps)
             (made_block core n.heap (known s.heap s.values.items) r second other.held at_second second_held),
       ) others) (waiting_by core s n block a.acting forked_keeps others) pairs levels)
-      levels (omega (arith, same))
+      levels (omega (arith, same)) released
 
 -- ---- a conditional
 
 pub choose_done : (core : Process) (s n : Store) (block l r : ℕ) (test : Val) (b : Bool) (part : Node) → IsClosed core → (a : ActsBy core s block (op.If test l r))
     → operand_value (known s.heap s.values.items) test ≡ Boolean b → slice_get (nodes_of core) (cond b l r) ≡ Some part
-    → Places s n (cond b l r) part.frame (λ words. words ∷ contents s.queues 0) → IsDone core s n block Quiet
-choose_done core s n block l r test b part closed a is at one =
+    → Places s n (cond b l r) part.frame (λ words. words ∷ contents s.queues 0) → Releases s.queues n.queues block → IsDone core s n block Quiet
+choose_done core s n block l r test b part closed a is at one released =
     let levels : length n.values.items ≡ length s.values.items = ap length one.values in
     let words = suc (cond b l r) ∷ one.held in
     done_by core s n block a.acting one.keeps (words ∷ contents s.queues 0) (channel_lists s.queues) Quiet
@@ -130,7 +133,7 @@ choose_done core s n block l r test b part closed a is at one =
     (blocks_by core s n block a.acting one.keeps (words ∷ contents s.queues 0) one.ready_are
     (made_block core n.heap (known s.heap s.values.items) (cond b l r) part one.held at one.holds, ready_stay core s n block a.acting one.keeps) one.others) (waiting_by core s n block a.acting one.keeps one.others)
     (subst (ArePairs n.heap) (sym one.values) (pairs_keep s.heap n.heap one.keeps s.values.items a.acting.store.pairs)) levels)
-    levels (let same = one.queues in omega (arith, same))
+    levels (let same = one.queues in omega (arith, same)) released
 
 -- ---- a new channel
 
@@ -157,7 +160,8 @@ channel_added old new all more ready =
     ∙ ap (λ (ws : List (List ℕ)). lists_from old 1 n ++ ws ∷ []) (all (1 + n) ∙ nothing_past old (1 + n) last)
 
 module _ (core : Process) (s c n : Store) (block level l : ℕ) (part : Node) (a : ActsBy core s block (op.New level l)) (added : AddsChannel s c level)
-    (at : slice_get (nodes_of core) l ≡ Some part) (one : Places c n l part.frame (λ words. words ∷ contents c.queues 0)) where
+    (at : slice_get (nodes_of core) l ≡ Some part) (one : Places c n l part.frame (λ words. words ∷ contents c.queues 0))
+    (released : Releases s.queues n.queues block) where
   opened_keeps : KeepsWords s.heap n.heap
   opened_keeps = subst (λ h. KeepsWords h n.heap) added.heap one.keeps
 
@@ -182,4 +186,4 @@ module _ (core : Process) (s c n : Store) (block level l : ℕ) (part : Node) (a
       (blocks_by core s n block a.acting opened_keeps (words ∷ contents s.queues 0) ready
       (made_block core n.heap (known c.heap c.values.items) l part one.held at one.holds, ready_stay core s n block a.acting opened_keeps) others) (waiting_by core s n block a.acting opened_keeps others)
       (subst (ArePairs n.heap) (sym one.values) (pairs_keep c.heap n.heap one.keeps c.values.items added.pairs)) levels)
-      levels (omega (arith, many))
+      levels (omega (arith, many)) released

@@ -11,7 +11,7 @@ use Rattle.pict_code.specs.ReadBack.{core_of}
 use Rattle.pict_code.specs.declared.instruction.Node as written
 use Rattle.pict_heap.specs.HeapState.{HeapState, KeepsWords}
 use Rattle.pict_queue.specs.QueuesState.{IsQueue, IsHeld}
-use Rattle.pict_queue.specs.Contents.{held_words, contents, KeepsOtherContents}
+use Rattle.pict_queue.specs.Contents.{held_words, contents, KeepsOtherContents, Releases}
 use Rattle.pict_view.specs.Moved.{Moves, Misshapen}
 use Rattle.pict_view.specs.View.{View}
 use Rattle.pict_view.specs.ViewStep.{next_view}
@@ -60,13 +60,14 @@ view_with core s block = view_acting core s (held_words s.queues.region block)
 abbrev pub IsRight : Process → Store → ℕ → Type 0
 IsRight core s block = next_view (view_with core s block) ≢ Misshapen
 
--- The step is done, with this label, and the block isn't held any more than any other.
+-- The step is done, with this label. The block isn't held any more, and no other is that wasn't.
 pub record IsDone (core : Process) (old new : Store) (block : ℕ) (label : Label) : Type 0 where
   pub moves : next_view (view_with core old block) ≡ Moves (view_of core new) label
   pub store : IsStore core new
   pub keeps : KeepsWords old.heap new.heap
   pub levels : length new.values.items ≡ length old.values.items
   pub queues : length new.queues.queues ≤ length old.queues.queues + 1
+  pub released : Releases old.queues new.queues block
 
 -- The heap has the texts and the records that it had.
 pub record KeepsHeap (old new : HeapState) : Type 0 where
@@ -82,3 +83,4 @@ pub record IsRefused (core : Process) (old new : Store) (block : ℕ) : Type 0 w
   pub heap : KeepsHeap old.heap new.heap
   pub store : IsStore core new
   pub levels : length new.values.items ≡ length old.values.items
+  pub released : Releases old.queues new.queues block

@@ -2,7 +2,7 @@
 use Rattle.std.specs.Prelude.{◌≡◌, ◌≢◌, ◌+◌, ◌-◌, ℕ, length}
 use Rattle.pict_core.specs.Term.{Chan}
 use Rattle.pict_frames.specs.Framed.{pair_at}
-use Rattle.pict_queue.specs.Contents.{KeepsAllContents, KeepsHeld}
+use Rattle.pict_queue.specs.Contents.{KeepsAllContents, KeepsHeld, HoldsNoMore}
 use Rattle.pict_blocks.specs.Blocks.{known}
 use Rattle.pict_operands.specs.Pairs.{ArePairs}
 use Rattle.pict_turns.specs.declared.store.Store.{Store}
@@ -17,5 +17,6 @@ pub record AddsChannel (old new : Store) (level : ℕ) : Type 0 where
   pub region : new.queues.region ≡ old.queues.region
   pub contents : KeepsAllContents old.queues new.queues
   pub held : KeepsHeld old.queues new.queues
+  pub no_more : HoldsNoMore old.queues new.queues
   pub heap : new.heap ≡ old.heap
   pub pending : new.pending ≡ old.pending

@@ -6,3 +6,4 @@ pub mod Reserving
 pub mod Reading
 pub mod Channels
 pub mod Cost
+pub mod Widths

@@ -2,7 +2,7 @@
 use Rattle.std.specs.Prelude.{◌≡◌, ◌≤◌, ◌==◌, ℕ, List, if◌then◌else◌}
 use Rattle.std.specs.Vec.{vec_capacity}
 use Rattle.pict_region.specs.RegionState.{spare}
-use Rattle.pict_queue.specs.Contents.{KeepsAllContents, KeepsHeld}
+use Rattle.pict_queue.specs.Contents.{KeepsAllContents, KeepsHeld, HoldsNoMore}
 use Rattle.pict_prim.specs.Acts.{UsesNeed}
 use Rattle.pict_prim.specs.declared.act.Need.{Need}
 use Rattle.pict_operands.specs.declared.pending.Pending.{Pending}
@@ -41,4 +41,5 @@ pub record OnlyReserves (old new : Store) : Type 0 where
   pub spare_queues : old.queues.spare_queues ≤ new.queues.spare_queues
   pub contents : KeepsAllContents old.queues new.queues
   pub held : KeepsHeld old.queues new.queues
+  pub no_more : HoldsNoMore old.queues new.queues
   pub values : new.values.items ≡ old.values.items

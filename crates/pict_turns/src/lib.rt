@@ -11,5 +11,7 @@ mod store;
 pub use nodes::{choose, end, fork, make_channel, refuse};
 pub use parts::{NARROW, hand_on, make_part, spawn_part};
 pub use reading::{frame_at, read_part};
-pub use reserving::{KEPT_WIDTH, reserve, reserve_kept, reserve_part, reserve_parts};
+pub use reserving::{
+    KEPT_WIDTH, block_width, reserve, reserve_kept, reserve_part, reserve_parts, reserve_room,
+};
 pub use store::Store;

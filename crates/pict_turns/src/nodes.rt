@@ -1,11 +1,12 @@
 // Steps of nodes that need no partner.
-ghost use Rattle.std.specs.Prelude.{◌≡◌, ◌<◌, ◌≤◌, ◌+◌, ◌^◌, ℕ, List, Bool, length, map, max, OnOk, OnErr, if◌then◌else◌};
+ghost use Rattle.std.specs.Prelude.{◌≡◌, ◌<◌, ◌≤◌, ◌+◌, ◌^◌, ◌∷◌, [], ℕ, List, Bool, length, map, max, OnOk, OnErr, if◌then◌else◌};
 ghost use Rattle.pict_core.specs.Closed.{IsOver};
 ghost use Rattle.pict_core.specs.Plain.{plain_val};
 ghost use Rattle.pict_core.specs.Term.{Process, Boolean};
 ghost use Rattle.pict_core.specs.Step.{Quiet};
 ghost use Rattle.pict_code.specs.Instruction as op;
 ghost use Rattle.pict_code.specs.Plain.{plain_node};
+ghost use Rattle.pict_region.specs.RegionState.{KeepsBlocks};
 ghost use Rattle.pict_queue.specs.QueuesState.{IsQueue, IsHeld, CostsAtMost};
 ghost use Rattle.pict_blocks.specs.Blocks.{known, operand_value};
 ghost use Rattle.pict_operands.specs.Needs.{no_need};
@@ -15,6 +16,7 @@ ghost use Rattle.pict_turns.specs.Channels.{AddsChannel};
 ghost use Rattle.pict_turns.specs.Parts.{block_width};
 ghost use Rattle.pict_turns.specs.Reading.{HasFrame};
 ghost use Rattle.pict_turns.specs.Reserving.{CanHoldAnd, OnlyReserves};
+ghost use Rattle.pict_turns.specs.Widths.{MakesOnly, part_width};
 
 use crate::parts::{hand_on, spawn_part};
 use crate::reading::frame_at;
@@ -34,6 +36,7 @@ pub fn refuse(store: &mut Store, block: Block)
     requires queue { IsQueue store.old.queues 0 }
     requires held { IsHeld store.old.queues block }
     ensures refused { (core : Process) → HasActing core store.old block → IsRefused core store.old store.new block }
+    ensures blocks { KeepsBlocks store.old.queues.region store.new.queues.region }
     ensures cost { CostsAtMost 2 store.old.queues store.new.queues }
 {
     store.queues.push_front(QueueId(0), block);
@@ -43,6 +46,7 @@ pub fn refuse(store: &mut Store, block: Block)
 pub fn end(store: &mut Store, block: Block)
     requires held { IsHeld store.old.queues block }
     ensures done { (core : Process) → ActsBy core store.old block op.Zero → IsDone core store.old store.new block Quiet }
+    ensures blocks { KeepsBlocks store.old.queues.region store.new.queues.region }
     ensures cost { CostsAtMost 1 store.old.queues store.new.queues }
 {
     store.queues.give(block);
@@ -61,6 +65,8 @@ pub fn fork(
     requires acts { ActsBy (core_in code.now) store.old block (op.Par left right) }
     ensures done { OnOk result (IsDone (core_in code.now) store.old store.new block Quiet) }
     ensures refused { OnErr result (IsRefused (core_in code.now) store.old store.new block) }
+    ensures blocks { MakesOnly store.old.queues store.new.queues
+        (part_width (map plain_node code.now) left ∷ part_width (map plain_node code.now) right ∷ []) }
     ensures cost { (first second : List ℕ) → HasFrame (map plain_node code.now) left first → HasFrame (map plain_node code.now) right second
         → CostsAtMost (block_width first + block_width second + 5) store.old.queues store.new.queues }
 {
@@ -109,7 +115,8 @@ fn chosen(store: &Store, test: &Operand, yes: u32, no: u32) -> u32
     requires over { IsOver (length store.now.values.items) 0 (plain_val test.now) }
     requires pairs { ArePairs store.now.heap store.now.values.items }
     requires boolean { (b : Bool) × (operand_value (known store.now.heap store.now.values.items) (plain_val test.now) ≡ Boolean b) }
-    ensures { (b : Bool) × (operand_value (known store.now.heap store.now.values.items) (plain_val test.now) ≡ Boolean b) × (result ≡ (if b then yes else no)) }
+    ensures { (b : Bool) × (operand_value (known store.now.heap store.now.values.items) (plain_val test.now) ≡ Boolean b)
+        × (result ≡ (if b then yes else no)) }
 {
     if is_true(store, test) { yes } else { no }
 }
@@ -129,6 +136,8 @@ pub fn choose(
     requires right { IsRight (core_in code.now) store.old block }
     ensures done { OnOk result (IsDone (core_in code.now) store.old store.new block Quiet) }
     ensures refused { OnErr result (IsRefused (core_in code.now) store.old store.new block) }
+    ensures blocks { (b : Bool) → operand_value (known store.old.heap store.old.values.items) (plain_val test.now) ≡ Boolean b
+        → MakesOnly store.old.queues store.new.queues (part_width (map plain_node code.now) (if b then yes else no) ∷ []) }
     ensures cost { (first second : List ℕ) → HasFrame (map plain_node code.now) yes first → HasFrame (map plain_node code.now) no second
         → CostsAtMost (max (block_width first) (block_width second) + 3) store.old.queues store.new.queues }
 {
@@ -150,6 +159,7 @@ pub fn choose(
 fn reserve_channel(store: &mut Store, frame: &[u32]) -> Result<(), AllocError>
     ensures part { OnOk result (CanHoldAnd store.new frame.now no_need) }
     ensures queue { OnOk result (1 ≤ store.new.queues.spare_queues) }
+    ensures most { MakesOnly store.old.queues store.new.queues (block_width frame.now ∷ []) }
     ensures rest { OnlyReserves store.old store.new }
 {
     reserve_part(store, frame, NO_NEED)?;
@@ -186,6 +196,7 @@ pub fn make_channel(
     requires few { length store.old.queues.queues < 2 ^ 32 }
     ensures done { OnOk result (IsDone (core_in code.now) store.old store.new block Quiet) }
     ensures refused { OnErr result (IsRefused (core_in code.now) store.old store.new block) }
+    ensures blocks { MakesOnly store.old.queues store.new.queues (part_width (map plain_node code.now) part ∷ []) }
     ensures cost { (frame : List ℕ) → HasFrame (map plain_node code.now) part frame
         → CostsAtMost (block_width frame + 3) store.old.queues store.new.queues }
 {

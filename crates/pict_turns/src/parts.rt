@@ -1,7 +1,8 @@
 // Blocks of the parts of a node: room for them, and they themselves.
 ghost use Rattle.std.specs.Prelude.{◌≡◌, ◌<◌, ◌≤◌, ◌+◌, ◌++◌, ◌∷◌, [], All, length};
 ghost use Rattle.pict_queue.specs.QueuesState.{IsQueue, IsHeld, CostsAtMost};
-ghost use Rattle.pict_queue.specs.Contents.{contents, KeepsHeld, KeepsOtherHeld};
+ghost use Rattle.pict_region.specs.RegionState.{KeepsBlocks};
+ghost use Rattle.pict_queue.specs.Contents.{contents, KeepsHeld, KeepsOtherHeld, HoldsNoMore, Releases};
 ghost use Rattle.pict_operands.specs.Pairs.{ArePairs};
 ghost use Rattle.pict_turns.specs.Parts.{block_width, CanHold, IsPart, Places};
 
@@ -63,6 +64,8 @@ pub fn hand_on(store: &mut Store, block: Block, number: u32, frame: &[u32])
     requires pairs { ArePairs store.old.heap store.old.values.items }
     ensures places { Places store.old store.new number frame.now (λ words. words ∷ contents store.old.queues 0) }
     ensures kept { KeepsOtherHeld store.old.queues store.new.queues block }
+    ensures gone { Releases store.old.queues store.new.queues block }
+    ensures blocks { KeepsBlocks store.old.queues.region store.new.queues.region }
     ensures cost { CostsAtMost (block_width frame.now + 3) store.old.queues store.new.queues }
 {
     store.queues.give(block);
@@ -78,6 +81,8 @@ pub fn spawn_part(store: &mut Store, number: u32, frame: &[u32])
     requires pairs { ArePairs store.old.heap store.old.values.items }
     ensures places { Places store.old store.new number frame.now (λ words. contents store.old.queues 0 ++ words ∷ []) }
     ensures kept { KeepsHeld store.old.queues store.new.queues }
+    ensures no_more { HoldsNoMore store.old.queues store.new.queues }
+    ensures blocks { KeepsBlocks store.old.queues.region store.new.queues.region }
     ensures cost { CostsAtMost (block_width frame.now + 2) store.old.queues store.new.queues }
 {
     let part = make_part(store, number, frame);

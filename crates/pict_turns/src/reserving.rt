@@ -1,9 +1,10 @@
 // Room for what a step is about to make.
-ghost use Rattle.std.specs.Prelude.{◌≡◌, ◌≤◌, ◌<◌, ◌+◌, ◌*◌, length, OnOk, IsOk, IsTrue, ◌↔◌};
-ghost use Rattle.pict_region.specs.RegionState.{spare};
+ghost use Rattle.std.specs.Prelude.{◌≡◌, ◌≤◌, ◌<◌, ◌+◌, ◌-◌, ◌*◌, ◌==◌, ◌∷◌, ◌↔◌, ℕ, [], length, OnOk, IsOk, IsTrue, if◌then◌else◌};
+ghost use Rattle.pict_region.specs.RegionState.{spare, blocks};
 ghost use Rattle.pict_operands.specs.Needs.{no_need, both_needs, HasRoomFor};
 ghost use Rattle.pict_turns.specs.Parts.{block_width, frame_need};
 ghost use Rattle.pict_turns.specs.Reserving.{CanHoldAnd, CanHoldBoth, OnlyReserves};
+ghost use Rattle.pict_turns.specs.Widths.{MakesOnly};
 
 use crate::parts::NARROW;
 use crate::store::Store;
@@ -35,8 +36,8 @@ fn frame_need(frame: &[u32]) -> Need
     }
 }
 
-// The width of a block for a frame.
-fn block_width(frame: &[u32]) -> u32
+/// The width of a block for a frame, in words.
+pub fn block_width(frame: &[u32]) -> u32
     ensures value { result ≡ block_width frame.now }
     ensures positive { 2 ≤ result }
     ensures narrow { result ≤ 65535 }
@@ -55,9 +56,11 @@ fn is_nothing(need: Need) -> bool
     need.records == 0 && need.fields == 0 && need.texts == 0 && need.bytes == 0
 }
 
-// Makes room in the heap, and on both piles.
-fn reserve_room(store: &mut Store, need: Need) -> Result<(), AllocError>
+/// Makes room for so much in the heap and on both piles, and does nothing where there is no need. An error, which is want of
+/// memory, changes nothing but room, of which there is then no less; a number of fields past 32 bits is want of memory.
+pub fn reserve_room(store: &mut Store, need: Need) -> Result<(), AllocError>
     ensures enough { need ≡ no_need → IsOk result }
+    ensures same { need ≡ no_need → store.new ≡ store.old }
     ensures free { store.new.queues.region ≡ store.old.queues.region }
     ensures room { OnOk result (HasRoomFor store.new.heap store.new.pending need) }
     ensures rest { OnlyReserves store.old store.new }
@@ -84,6 +87,8 @@ pub fn reserve(store: &mut Store, need: Need, width: u32, count: u64) -> Result<
     ensures room { OnOk result (HasRoomFor store.new.heap store.new.pending need) }
     ensures blocks { OnOk result (count ≤ spare store.new.queues.region width) }
     ensures enough { need ≡ no_need → 1 ≤ count → count ≤ spare store.old.queues.region width → IsOk result }
+    ensures most { (w : ℕ) → blocks store.new.queues.region w
+        ≤ blocks store.old.queues.region w + ((if w == width then count else 0) - spare store.old.queues.region w) }
     ensures rest { OnlyReserves store.old store.new }
 {
     reserve_room(store, need)?;
@@ -96,6 +101,7 @@ pub fn reserve(store: &mut Store, need: Need, width: u32, count: u64) -> Result<
 pub fn reserve_part(store: &mut Store, frame: &[u32], further: Need) -> Result<(), AllocError>
     ensures ok { OnOk result (CanHoldAnd store.new frame.now further) }
     ensures enough { length frame.now ≤ 32000 → further ≡ no_need → 1 ≤ spare store.old.queues.region (block_width frame.now) → IsOk result }
+    ensures most { MakesOnly store.old.queues store.new.queues (block_width frame.now ∷ []) }
     ensures rest { OnlyReserves store.old store.new }
 {
     let width = block_width(frame);
@@ -110,6 +116,7 @@ pub fn reserve_part(store: &mut Store, frame: &[u32], further: Need) -> Result<(
 /// Makes room for blocks of two frames. An error, which is want of memory, changes nothing but room.
 pub fn reserve_parts(store: &mut Store, first: &[u32], second: &[u32]) -> Result<(), AllocError>
     ensures ok { OnOk result (CanHoldBoth store.new first.now second.now) }
+    ensures most { MakesOnly store.old.queues store.new.queues (block_width first.now ∷ block_width second.now ∷ []) }
     ensures rest { OnlyReserves store.old store.new }
 {
     let need = both(frame_need(first), frame_need(second))?;
@@ -129,6 +136,7 @@ pub fn reserve_kept(store: &mut Store, need: Need) -> Result<(), AllocError>
     ensures block { OnOk result (1 ≤ spare store.new.queues.region 9) }
     ensures room { OnOk result (HasRoomFor store.new.heap store.new.pending need) }
     ensures enough { need ≡ no_need → 1 ≤ spare store.old.queues.region 9 → IsOk result }
+    ensures most { MakesOnly store.old.queues store.new.queues (9 ∷ []) }
     ensures rest { OnlyReserves store.old store.new }
 {
     reserve(store, need, KEPT_WIDTH, 1)

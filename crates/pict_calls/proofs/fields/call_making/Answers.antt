@@ -1,13 +1,17 @@
-use Rattle.std.proofs.Common.{◌≡◌, length, IsSome, Some, refl, sym, ap, ◌∙◌, subst}
+use Rattle.std.proofs.Common.{◌≡◌, [], ◌∷◌, length, IsSome, Some, refl, sym, ap, ◌∙◌, subst}
 use Rattle.pict_core.specs.Primitives.{Leaves, effect_of}
 use Rattle.pict_prim.specs.Acts.{effect_act}
+use Rattle.pict_region.specs.RegionState.{KeepsBlocks}
+use Rattle.pict_queue.specs.QueuesState.{QueuesState}
 use Rattle.pict_queue.specs.Contents.{held_words, contents}
 use Rattle.pict_operands.specs.Pairs.{ArePairs}
 use Rattle.pict_operands.proofs.Making.{keeps_all}
+use Rattle.pict_turns.proofs.Making.{makes_nothing, makes_before}
 use Rattle.pict_turns.proofs.Room.{piles_kept, acting_still, refused_after}
 use Rattle.pict_calls.specs.Arguments.{argument_of}
 use Rattle.pict_calls.specs.Finishing.{IsReady}
 use Rattle.pict_calls.specs.declared.called.Called.TheVariants as called
+use Rattle.pict_calls.proofs.Answering.{makes_answer}
 use Rattle.pict_calls.proofs.Reckoning.{labels_same, argument_kept, room_then}
 use Rattle.pict_calls.proofs.Stepping.{some_is, refused_by, called_by, calls_still, called_after, acted_before}
 use Rattle.pict_calls.proofs.fields.call_making.Goals as goal
@@ -32,6 +36,7 @@ returns-then-divides_by_zero-clause-done c core labelled on =
       shows = (trap, refl);
       others = c.push_front.ensures.other_contents;
       held = c.push_front.ensures.kept;
+      released = c.push_front.ensures.gone;
       queues = c.push_front.ensures.rest.queues;
       keeps = keeps_all s.heap;
       trap = λ is. record { texts = refl; records = refl };
@@ -82,4 +87,30 @@ returns-in-Err-clause-refused c core acting =
     let pushed = c.push_front-in-Err.ensures in
     refused_after core old mid r c.args.block last acting
     (refused_by core mid last c.args.block (acting_still core old mid r c.args.block acting)
-    (record { ready = pushed.pushed; others = pushed.other_contents; queues = pushed.rest.queues; heap = record { texts = refl; records = refl }; values = refl }))
+    (record { ready = pushed.pushed; others = pushed.other_contents; queues = pushed.rest.queues; heap = record { texts = refl; records = refl }; values = refl; released = pushed.gone }))
+
+pub returns-then-divides_by_zero-clause-blocks : goal.returns-then-divides_by_zero-clause-blocks
+returns-then-divides_by_zero-clause-blocks c _ e _ =
+    makes_nothing c.args.store.now.queues c.push_front.new.self _ c.push_front.ensures.blocks
+
+pub returns-in-Ok-clause-blocks : goal.returns-in-Ok-clause-blocks
+returns-in-Ok-clause-blocks c labelled e is =
+    let s = c.args.store.now in
+    let fields = c.args.fields.now in
+    let mid = c.make_call_room.new.store in
+    let last = c.finish.new.store in
+    let zero = c.divides_by_zero.ensures s.heap labelled e (subst (ArePairs s.heap) (sym c.deref.ensures.value) c.requires.pairs)
+    (subst (λ vs. effect_of c.args.p (argument_of s.heap vs fields labelled) ≡ Some e) (sym c.deref.ensures.value) is) in
+    makes_answer s.queues last.queues c.args.p _ labelled e is (λ trap. let t = zero.1 trap in let f = c.if-divides_by_zero.false in cc)
+    (makes_before s.queues mid.queues last.queues (9 ∷ []) c.in-Ok.ensures.most
+    (subst (λ (q : QueuesState). KeepsBlocks q.region last.queues.region) c.decide-act.ensures.queues c.finish.ensures.blocks))
+
+pub returns-in-Err-clause-blocks : goal.returns-in-Err-clause-blocks
+returns-in-Err-clause-blocks c labelled e is =
+    let s = c.args.store.now in
+    let fields = c.args.fields.now in
+    let last = c.push_front-in-Err.new.self in
+    let zero = c.divides_by_zero.ensures s.heap labelled e (subst (ArePairs s.heap) (sym c.deref.ensures.value) c.requires.pairs)
+    (subst (λ vs. effect_of c.args.p (argument_of s.heap vs fields labelled) ≡ Some e) (sym c.deref.ensures.value) is) in
+    makes_answer s.queues last c.args.p _ labelled e is (λ trap. let t = zero.1 trap in let f = c.if-divides_by_zero.false in cc)
+    (makes_before s.queues c.make_call_room.new.store.queues last (9 ∷ []) c.in-Err.ensures.most c.push_front-in-Err.ensures.blocks)

@@ -1,4 +1,4 @@
-use Rattle.std.proofs.Common.{IsSome, subst}
+use Rattle.std.proofs.Common.{◌≡◌, IsSome, Some, subst}
 use Rattle.pict_core.specs.Primitives.{effect_of}
 use Rattle.pict_core.specs.Term.{Val}
 use Rattle.pict_calls.specs.Calling.{CallsOn}
@@ -16,3 +16,9 @@ returns-in-Fields-clause-done c core on =
     let s = c.args.store.now in
     let is = made_argument s.heap s.values.items c.args.message.now c.in-Fields.positional c.in-Fields.labelled c.deref.result.now c.in-Fields.is c.deref.ensures.value in
     c.call_fields.ensures.done core (labels_of s.heap s.values.items c.in-Fields.labelled.items) (subst (λ (v : Val). CallsOn core s c.args.block c.args.p v c.args.at) is on)
+
+pub returns-in-Fields-clause-blocks : goal.returns-in-Fields-clause-blocks
+returns-in-Fields-clause-blocks c e effect =
+    let s = c.args.store.now in
+    let is = made_argument s.heap s.values.items c.args.message.now c.in-Fields.positional c.in-Fields.labelled c.deref.result.now c.in-Fields.is c.deref.ensures.value in
+    c.call_fields.ensures.blocks (labels_of s.heap s.values.items c.in-Fields.labelled.items) e (subst (λ (v : Val). effect_of c.args.p v ≡ Some e) is effect)

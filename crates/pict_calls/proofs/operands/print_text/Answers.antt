@@ -7,6 +7,7 @@ use Rattle.pict_prim.specs.Done.{printed_of}
 use Rattle.pict_prim.specs.declared.act.Act.TheVariants as act
 use Rattle.pict_operands.proofs.Making.{pile_kept}
 use Rattle.pict_turns.proofs.Room.{acting_still, refused_after}
+use Rattle.pict_calls.proofs.Answering.{makes_act}
 use Rattle.pict_calls.proofs.Stepping.{refused_by, called_by, calls_still, called_after, acted_before}
 use Rattle.pict_calls.proofs.operands.print_text.Goals as goal
 
@@ -35,4 +36,15 @@ returns-in-Err-clause-refused c core acting =
     let r = c.in-Err.ensures.rest in
     refused_after core old mid r c.args.block last acting
     (refused_by core mid last c.args.block (acting_still core old mid r c.args.block acting)
-    (record { ready = c.push_front.ensures.pushed; others = c.push_front.ensures.other_contents; queues = c.push_front.ensures.rest.queues; heap = record { texts = refl; records = refl }; values = refl }))
+    (record { ready = c.push_front.ensures.pushed; others = c.push_front.ensures.other_contents; queues = c.push_front.ensures.rest.queues; heap = record { texts = refl; records = refl }; values = refl; released = c.push_front.ensures.gone }))
+
+pub returns-in-Ok-clause-blocks : goal.returns-in-Ok-clause-blocks
+returns-in-Ok-clause-blocks c =
+    let old = c.args.store.now in
+    makes_act old.queues c.reserve.new.store.queues c.finish.new.store.queues old.heap (act.Print c.add_text-text.result) 0 refl
+    c.in-Ok.ensures.most c.finish.ensures.blocks
+
+pub returns-in-Err-clause-blocks : goal.returns-in-Err-clause-blocks
+returns-in-Err-clause-blocks c =
+    let old = c.args.store.now in
+    makes_act old.queues c.reserve.new.store.queues c.push_front.new.self old.heap act.ZeroDivisor 0 refl c.in-Err.ensures.most c.push_front.ensures.blocks

@@ -1,5 +1,5 @@
 use Rattle.std.proofs.Common.{length, ap, ◌∙◌}
-use Rattle.pict_frames.proofs.Held.{made_pushed, made_kept}
+use Rattle.pict_frames.proofs.Held.{made_pushed, made_kept, made_no_more}
 use Rattle.pict_frames.proofs.spawning.spawn.Goals as goal
 
 pub returns-clause-pushed : goal.returns-clause-pushed
@@ -11,3 +11,7 @@ returns-clause-kept c = made_kept c.args.queues.now c.block_of-block.new.queues 
 
 pub returns-clause-queues : goal.returns-clause-queues
 returns-clause-queues c = c.push_back.ensures.rest.queues ∙ ap length c.block_of-block.ensures.made.queues
+
+pub returns-clause-no_more : goal.returns-clause-no_more
+returns-clause-no_more c =
+    made_no_more c.args.queues.now c.block_of-block.new.queues c.push_back.new.self _ _ _ c.block_of-block.ensures.made c.push_back.ensures.gone

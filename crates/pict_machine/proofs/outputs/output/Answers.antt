@@ -1,4 +1,4 @@
-use Rattle.std.proofs.Common.{length, refl, sym, ap, ◌∙◌, subst}
+use Rattle.std.proofs.Common.{[], ◌∷◌, length, refl, sym, ap, ◌∙◌, subst}
 use Rattle.pict_core.specs.Closed.{IsOver}
 use Rattle.pict_core.specs.Plain.{plain_val}
 use Rattle.pict_core.specs.Term.{Out}
@@ -13,6 +13,9 @@ use Rattle.pict_turns.specs.Acting.{core_in}
 use Rattle.pict_machine.specs.Stepping.{Acts}
 use Rattle.pict_machine.proofs.Called.{called_acts}
 use Rattle.pict_machine.proofs.Channels.{no_output, no_heap_output}
+use Rattle.pict_code.specs.Instruction as op
+use Rattle.pict_machine.proofs.Needing.{node_needs, call_needed}
+use Rattle.pict_machine.proofs.Plainly.{no_plain_call}
 use Rattle.pict_machine.proofs.outputs.output.Goals as goal
 
 pub word_at_hand-requires-clause-over : goal.word_at_hand-requires-clause-over
@@ -88,3 +91,49 @@ returns-in-Chan-clause-work c a own f =
     let word : IsWordFor s.heap (operand_value (known s.heap s.values.items) (plain_val c.args.chan.now)) c.in-Some.word =
     subst (λ values. IsWordFor s.heap (operand_value (known s.heap values) (plain_val c.args.chan.now)) c.in-Some.word) c.deref.ensures.value (c.in-Some.ensures.word s.heap pairs) in
     c.send.ensures.work (record { closed = c.requires.may.code_is.closed; chan = plain_val c.args.chan.now; acts = a; to = sym word.value ∙ ap (value_of s.heap) c.in-Chan.is }) own f
+
+pub returns-in_ok-called-in-Prim-clause-blocks : goal.returns-in_ok-called-in-Prim-clause-blocks
+returns-in_ok-called-in-Prim-clause-blocks c =
+    let core = core_in c.args.code.now in
+    let s = c.args.store.now in
+    let pairs = subst (ArePairs s.heap) (sym c.deref.ensures.value) c.requires.may.acting.store.pairs in
+    let word : IsWordFor s.heap (operand_value (known s.heap s.values.items) (plain_val c.args.chan.now)) c.in-Some.word =
+    subst (λ values. IsWordFor s.heap (operand_value (known s.heap values) (plain_val c.args.chan.now)) c.in-Some.word) c.deref.ensures.value (c.in-Some.ensures.word s.heap pairs) in
+    let calls = node_calls core s c.args.block (plain_val c.args.chan.now) (plain_val c.args.message.now) c.args.at c.requires.may.code_is.closed c.requires.acts c.in-Prim.p (sym word.value ∙ ap (value_of s.heap) c.in-Prim.is) in
+    let v = operand_value (known s.heap s.values.items) (plain_val c.args.message.now) in
+    call_needed core s c.args.block (9 ∷ []) (node_needs core s c.args.block (op.Out (plain_val c.args.chan.now) (plain_val c.args.message.now) c.args.at) c.requires.acts) c.call_operand.new.store
+    c.in-Prim.p v c.args.at calls.output (takes core s c.args.block c.in-Prim.p v c.args.at calls c.requires.may.right) c.call_operand.ensures.blocks
+
+pub returns-in_ok-called-in-Prim-clause-plain : goal.returns-in_ok-called-in-Prim-clause-plain
+returns-in_ok-called-in-Prim-clause-plain c x =
+    let core = core_in c.args.code.now in
+    let s = c.args.store.now in
+    let pairs = subst (ArePairs s.heap) (sym c.deref.ensures.value) c.requires.may.acting.store.pairs in
+    let word : IsWordFor s.heap (operand_value (known s.heap s.values.items) (plain_val c.args.chan.now)) c.in-Some.word =
+    subst (λ values. IsWordFor s.heap (operand_value (known s.heap values) (plain_val c.args.chan.now)) c.in-Some.word) c.deref.ensures.value (c.in-Some.ensures.word s.heap pairs) in
+    let calls = node_calls core s c.args.block (plain_val c.args.chan.now) (plain_val c.args.message.now) c.args.at c.requires.may.code_is.closed c.requires.acts c.in-Prim.p (sym word.value ∙ ap (value_of s.heap) c.in-Prim.is) in
+    let v = operand_value (known s.heap s.values.items) (plain_val c.args.message.now) in
+    absurd (no_plain_call core s (held_words s.queues.region c.args.block) c.in-Prim.p v c.args.at calls.output x)
+
+pub returns-in_err-called-in-Prim-clause-blocks : goal.returns-in_err-called-in-Prim-clause-blocks
+returns-in_err-called-in-Prim-clause-blocks c =
+    let core = core_in c.args.code.now in
+    let s = c.args.store.now in
+    let pairs = subst (ArePairs s.heap) (sym c.deref.ensures.value) c.requires.may.acting.store.pairs in
+    let word : IsWordFor s.heap (operand_value (known s.heap s.values.items) (plain_val c.args.chan.now)) c.in-Some.word =
+    subst (λ values. IsWordFor s.heap (operand_value (known s.heap values) (plain_val c.args.chan.now)) c.in-Some.word) c.deref.ensures.value (c.in-Some.ensures.word s.heap pairs) in
+    let calls = node_calls core s c.args.block (plain_val c.args.chan.now) (plain_val c.args.message.now) c.args.at c.requires.may.code_is.closed c.requires.acts c.in-Prim.p (sym word.value ∙ ap (value_of s.heap) c.in-Prim.is) in
+    let v = operand_value (known s.heap s.values.items) (plain_val c.args.message.now) in
+    call_needed core s c.args.block (9 ∷ []) (node_needs core s c.args.block (op.Out (plain_val c.args.chan.now) (plain_val c.args.message.now) c.args.at) c.requires.acts) c.call_operand.new.store
+    c.in-Prim.p v c.args.at calls.output (takes core s c.args.block c.in-Prim.p v c.args.at calls c.requires.may.right) c.call_operand.ensures.blocks
+
+pub returns-in_err-called-in-Prim-clause-plain : goal.returns-in_err-called-in-Prim-clause-plain
+returns-in_err-called-in-Prim-clause-plain c x =
+    let core = core_in c.args.code.now in
+    let s = c.args.store.now in
+    let pairs = subst (ArePairs s.heap) (sym c.deref.ensures.value) c.requires.may.acting.store.pairs in
+    let word : IsWordFor s.heap (operand_value (known s.heap s.values.items) (plain_val c.args.chan.now)) c.in-Some.word =
+    subst (λ values. IsWordFor s.heap (operand_value (known s.heap values) (plain_val c.args.chan.now)) c.in-Some.word) c.deref.ensures.value (c.in-Some.ensures.word s.heap pairs) in
+    let calls = node_calls core s c.args.block (plain_val c.args.chan.now) (plain_val c.args.message.now) c.args.at c.requires.may.code_is.closed c.requires.acts c.in-Prim.p (sym word.value ∙ ap (value_of s.heap) c.in-Prim.is) in
+    let v = operand_value (known s.heap s.values.items) (plain_val c.args.message.now) in
+    absurd (no_plain_call core s (held_words s.queues.region c.args.block) c.in-Prim.p v c.args.at calls.output x)

@@ -6,6 +6,8 @@ use Rattle.pict_machine.specs.Sending.{HoldsKept}
 use Rattle.pict_turns.specs.Acting.{core_in}
 use Rattle.pict_machine.proofs.Working.{fits_read}
 use Rattle.pict_machine.proofs.Passing.{reads_works, may_read, step_read}
+use Rattle.pict_machine.proofs.Needing.{needed_read}
+use Rattle.pict_machine.proofs.Plainly.{sends_read, nothing_read}
 use Rattle.pict_machine.proofs.outputs.output_kept.Goals as goal
 
 pub output_words-requires-clause-may : goal.output_words-requires-clause-may
@@ -35,3 +37,16 @@ returns-clause-work c =
     let mid : Store = record s { queues = c.read_kept-kept.new.queues } in
     fits_read (core_in c.args.code.now) s mid c.output_words.new.store c.args.block 3 10 7 (reads_works s c.read_kept-kept.new.queues c.requires.may.acting.store.pairs c.read_kept-kept.ensures.rest)
     c.read_kept-kept.ensures.cost c.output_words.ensures.work (omega arith)
+
+pub returns-clause-blocks : goal.returns-clause-blocks
+returns-clause-blocks c =
+    let s = c.args.store.now in
+    let mid : Store = record s { queues = c.read_kept-kept.new.queues } in
+    needed_read (core_in c.args.code.now) s mid c.args.block (reads_works s c.read_kept-kept.new.queues c.requires.may.acting.store.pairs c.read_kept-kept.ensures.rest) c.output_words.new.store c.output_words.ensures.blocks
+
+pub returns-clause-plain : goal.returns-clause-plain
+returns-clause-plain c x =
+    let s = c.args.store.now in
+    let mid : Store = record s { queues = c.read_kept-kept.new.queues } in
+    let r = reads_works s c.read_kept-kept.new.queues c.requires.may.acting.store.pairs c.read_kept-kept.ensures.rest in
+    nothing_read s mid c.output_words.new.store c.output_words.result r (c.output_words.ensures.plain (sends_read (core_in c.args.code.now) s mid c.args.block r x))

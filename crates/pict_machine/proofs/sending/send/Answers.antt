@@ -1,14 +1,20 @@
-use Rattle.std.proofs.Common.{◌+◌, ◌<◌, length, sym, ap, ◌∙◌, subst, arith}
+use Rattle.std.proofs.Common.{ℕ, ◌+◌, ◌<◌, List, [], ◌∷◌, length, sym, ap, ◌∙◌, subst, arith}
 use Rattle.pict_core.specs.Plain.{plain_val}
 use Rattle.pict_blocks.specs.Blocks.{known, operand_value}
+use Rattle.pict_code.specs.Instruction as op
 use Rattle.pict_queue.specs.QueuesState.{QueuesState}
+use Rattle.pict_queue.specs.Contents.{held_words}
 use Rattle.pict_meetings.specs.Waiting.{oldest}
 use Rattle.pict_turns.specs.Acting.{core_in}
+use Rattle.pict_turns.specs.Parts.{block_width}
 use Rattle.pict_turns.specs.declared.store.Store.{Store}
+use Rattle.pict_turns.proofs.AfterReading.{words_read}
 use Rattle.pict_machine.proofs.Working.{costs_then, meeting_works}
 use Rattle.pict_machine.proofs.Channels.{output_queue}
 use Rattle.pict_machine.proofs.Growing.{operand_worked, operand_process, operand_over}
 use Rattle.pict_machine.proofs.Passing.{reads_works, may_read, step_read}
+use Rattle.pict_machine.proofs.Needing.{only_read, needed_by, node_needs, wait_needs, meeting_made}
+use Rattle.pict_machine.proofs.Plainly.{sends_read, nothing_read, serves}
 use Rattle.pict_machine.proofs.sending.send.Goals as goal
 
 pub first_waiting-requires-clause-queue : goal.first_waiting-requires-clause-queue
@@ -72,3 +78,52 @@ returns-in-Input-clause-work c x own f =
     (sym c.first_waiting.ensures.first ∙ c.in-Input.is) (operand_value (known s.heap s.values.items) message) c.args.at (operand_process core s c.args.block c.args.channel message c.args.at x)
     (λ replicated pattern part theirs frame i g h. costs_then s.queues c.first_waiting.new.queues c.send_operand.new.store.queues 2 _ _ c.first_waiting.ensures.cost (c.send_operand.ensures.cost replicated pattern part theirs frame i g h) (omega arith))
     x.chan message c.args.at x.acts own f
+
+pub send_operand-requires-clause-width : goal.send_operand-requires-clause-width
+send_operand-requires-clause-width c =
+    let s = c.args.store.now in
+    let mid : Store = record s { queues = c.first_waiting.new.queues } in
+    ap (λ (ws : List ℕ). length ws + 1) (words_read s mid (reads_works s c.first_waiting.new.queues c.requires.may.acting.store.pairs c.first_waiting.ensures.rest) c.args.block) ∙ c.requires.width
+
+pub returns-in-Input-clause-blocks : goal.returns-in-Input-clause-blocks
+returns-in-Input-clause-blocks c =
+    let s = c.args.store.now in
+    let core = core_in c.args.code.now in
+    let message = plain_val c.args.message.now in
+    let x = c.requires.sends in
+    let mid : Store = record s { queues = c.first_waiting.new.queues } in
+    let r = reads_works s c.first_waiting.new.queues c.requires.may.acting.store.pairs c.first_waiting.ensures.rest in
+    meeting_made c.args.code.now c.requires.may.code_is s c.args.block (9 ∷ []) (node_needs core s c.args.block (op.Out x.chan message c.args.at) x.acts) c.args.channel (operand_value (known s.heap s.values.items) message) c.args.at
+    (operand_process core s c.args.block c.args.channel message c.args.at x) c.requires.may.acting.store
+    c.in-Input.reader (sym c.first_waiting.ensures.first ∙ c.in-Input.is) c.send_operand.new.store
+    (λ replicated pattern part frame i f. only_read core s mid c.args.block r c.send_operand.new.store.queues (block_width frame ∷ []) (c.send_operand.ensures.blocks replicated pattern part frame i f))
+
+pub returns-in_default-clause-blocks : goal.returns-in_default-clause-blocks
+returns-in_default-clause-blocks c =
+    let s = c.args.store.now in
+    let core = core_in c.args.code.now in
+    let message = plain_val c.args.message.now in
+    let x = c.requires.sends in
+    let mid : Store = record s { queues = c.first_waiting.new.queues } in
+    let r = reads_works s c.first_waiting.new.queues c.requires.may.acting.store.pairs c.first_waiting.ensures.rest in
+    needed_by core s c.args.block c.park_operand.new.store (9 ∷ [])
+    (wait_needs core s c.args.block (9 ∷ []) (node_needs core s c.args.block (op.Out x.chan message c.args.at) x.acts) c.args.channel (operand_value (known s.heap s.values.items) message) c.args.at
+    (operand_process core s c.args.block c.args.channel message c.args.at x)
+    (λ number e. c.in_default.not-Input number (c.first_waiting.ensures.first ∙ e)))
+    (only_read core s mid c.args.block r c.park_operand.new.store.queues (9 ∷ []) c.park_operand.ensures.blocks)
+
+pub returns-in-Input-clause-plain : goal.returns-in-Input-clause-plain
+returns-in-Input-clause-plain c x =
+    let s = c.args.store.now in
+    let mid : Store = record s { queues = c.first_waiting.new.queues } in
+    let r = reads_works s c.first_waiting.new.queues c.requires.may.acting.store.pairs c.first_waiting.ensures.rest in
+    nothing_read s mid c.send_operand.new.store c.send_operand.result r (c.send_operand.ensures.plain (sends_read (core_in c.args.code.now) s mid c.args.block r x))
+
+pub returns-in_default-clause-plain : goal.returns-in_default-clause-plain
+returns-in_default-clause-plain c x =
+    let core = core_in c.args.code.now in
+    let s = c.args.store.now in
+    let message = plain_val c.args.message.now in
+    let served = serves core s (held_words s.queues.region c.args.block) c.args.channel (operand_value (known s.heap s.values.items) message) c.args.at
+    (operand_process core s c.args.block c.args.channel message c.args.at c.requires.sends) x in
+    absurd (c.in_default.not-Input served.0 (c.first_waiting.ensures.first ∙ served.2))

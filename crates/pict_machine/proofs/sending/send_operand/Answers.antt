@@ -1,67 +1,39 @@
-use Rattle.std.proofs.Common.{length, sym, subst, arith}
+use Rattle.std.proofs.Common.{◌≡◌, length, refl, sym, subst}
 use Rattle.pict_core.specs.Closed.{IsOver}
 use Rattle.pict_core.specs.Plain.{plain_val}
-use Rattle.pict_meetings.specs.Room.{CanHoldAfter}
-use Rattle.pict_meetings.proofs.Ops.{input_waits_first}
+use Rattle.pict_code.specs.Instruction as op
+use Rattle.pict_blocks.specs.Blocks.{known, operand_value}
+use Rattle.pict_operands.specs.AtHand.{IsOfHeap, IsWordFor}
+use Rattle.pict_operands.specs.Pairs.{ArePairs}
 use Rattle.pict_turns.specs.Acting.{core_in}
-use Rattle.pict_turns.specs.declared.store.Store.{Store}
-use Rattle.pict_turns.proofs.Room.{acting_still, refused_after}
-use Rattle.pict_machine.proofs.Working.{costs_reserved}
-use Rattle.pict_machine.proofs.Growing.{operand_reserved, operand_over, sends_made, done_made, right_made, can_grown}
-use Rattle.pict_machine.proofs.Passing.{may_reserve}
+use Rattle.pict_machine.proofs.Growing.{operand_over, sends_at_hand}
+use Rattle.pict_machine.proofs.Plainly.{flat_output}
 use Rattle.pict_machine.proofs.sending.send_operand.Goals as goal
 
-pub reader_frame-frame-requires-clause-input : goal.reader_frame-frame-requires-clause-input
-reader_frame-frame-requires-clause-input c =
-    let w = input_waits_first c.args.code.now c.args.store.now c.args.channel c.args.reader c.requires.may.code_is c.requires.may.acting.store c.requires.first in
-    (w.replicated, w.pattern, w.part, w.input)
-
-pub word_of-value-requires-clause-over : goal.word_of-value-requires-clause-over
-word_of-value-requires-clause-over c =
-    let core = core_in c.args.code.now in
-    let mid = c.reserve_meeting.new.store in
+pub word_at_hand-requires-clause-over : goal.word_at_hand-requires-clause-over
+word_at_hand-requires-clause-over c =
     let x = c.requires.sends in
+    subst (λ values. IsOver (length values) 0 (plain_val c.args.message.now)) (sym c.deref.ensures.value)
+    (operand_over (core_in c.args.code.now) c.args.store.now c.args.block c.args.channel (plain_val c.args.message.now) x.0 x.1)
+
+pub word_at_hand-requires-clause-pairs : goal.word_at_hand-requires-clause-pairs
+word_at_hand-requires-clause-pairs c = (c.args.store.now.heap, subst (ArePairs c.args.store.now.heap) (sym c.deref.ensures.value) c.requires.may.acting.store.pairs)
+
+pub send_to_reader-requires-clause-sends : goal.send_to_reader-requires-clause-sends
+send_to_reader-requires-clause-sends c =
+    let s = c.args.store.now in
     let message = plain_val c.args.message.now in
-    subst (λ values. IsOver (length values) 0 message) (sym c.deref.ensures.value)
-    (operand_over core mid c.args.block c.args.channel message x.0 (operand_reserved core c.args.store.now mid c.in-Ok.ensures.rest c.args.block c.args.channel message x.0 x.1))
-
-pub meet_reader-requires-clause-sends : goal.meet_reader-requires-clause-sends
-meet_reader-requires-clause-sends c =
-    let x = c.requires.sends in (
-      x.0,
-      sends_made (core_in c.args.code.now) c.args.store.now c.reserve_meeting.new.store c.in-Ok.ensures.rest c.args.block c.args.channel (plain_val c.args.message.now) x.0 x.1
-          c.word_of-value.new.heap c.word_of-value.new.pending c.deref.result.now c.deref.ensures.value c.word_of-value.result c.word_of-value.ensures.made,
-    )
-
-pub meet_reader-requires-clause-right : goal.meet_reader-requires-clause-right
-meet_reader-requires-clause-right c =
     let x = c.requires.sends in
-    right_made (core_in c.args.code.now) c.args.store.now c.reserve_meeting.new.store c.in-Ok.ensures.rest c.args.block c.args.channel (plain_val c.args.message.now) x.0 x.1
-    c.word_of-value.new.heap c.word_of-value.new.pending c.deref.result.now c.deref.ensures.value c.word_of-value.result c.word_of-value.ensures.made
-    (may_reserve c.args.code.now c.args.store.now c.reserve_meeting.new.store c.args.block c.in-Ok.ensures.rest c.requires.may).right
+    let pairs = subst (ArePairs s.heap) (sym c.deref.ensures.value) c.requires.may.acting.store.pairs in
+    let word : IsWordFor s.heap (operand_value (known s.heap s.values.items) message) c.in-Some.word =
+    subst (λ values. IsWordFor s.heap (operand_value (known s.heap values) message) c.in-Some.word) c.deref.ensures.value (c.in-Some.ensures.word s.heap pairs) in
+    (x.0, sends_at_hand (core_in c.args.code.now) s c.args.block c.args.channel message x.0 x.1 c.in-Some.word word)
 
-pub meet_reader-requires-clause-can : goal.meet_reader-requires-clause-can
-meet_reader-requires-clause-can c = λ replicated pattern part frame i f.
-    let mid = c.reserve_meeting.new.store in
-    let grown : Store = record mid { heap = c.word_of-value.new.heap; pending = c.word_of-value.new.pending } in
-    subst (CanHoldAfter grown _) (c.reader_frame-frame.ensures replicated pattern part frame i f)
-    (can_grown mid c.word_of-value.new.heap c.word_of-value.new.pending _ c.reader_frame-frame.result.now _ c.in-Ok.ensures.room c.word_of-value.ensures.used c.word_of-value.ensures.pending)
-
-pub returns-in-Ok-clause-step : goal.returns-in-Ok-clause-step
-returns-in-Ok-clause-step c =
-    let x = c.requires.sends in
-    record {
-      done = done_made (core_in c.args.code.now) c.args.store.now c.reserve_meeting.new.store c.in-Ok.ensures.rest c.args.block c.args.channel (plain_val c.args.message.now) x.0 x.1
-          c.word_of-value.new.heap c.word_of-value.new.pending c.deref.result.now c.deref.ensures.value c.word_of-value.result c.word_of-value.ensures.made c.meet_reader.new.store _ c.meet_reader.ensures.done;
-      event = c.meet_reader.ensures.done.keeps.words c.word_of-value.result c.word_of-value.ensures.made.word;
-    }
-
-pub returns-in-Err-clause-step : goal.returns-in-Err-clause-step
-returns-in-Err-clause-step c =
-    let core = core_in c.args.code.now in
-    refused_after core c.args.store.now c.reserve_meeting.new.store c.in-Err.ensures.rest c.args.block c.refuse.new.store c.requires.may.acting
-    (c.refuse.ensures.refused core (acting_still core c.args.store.now c.reserve_meeting.new.store c.in-Err.ensures.rest c.args.block c.requires.may.acting))
-
-pub returns-in-Ok-clause-cost : goal.returns-in-Ok-clause-cost
-returns-in-Ok-clause-cost c replicated pattern part own frame i f g =
-    costs_reserved c.args.store.now c.reserve_meeting.new.store c.meet_reader.new.store.queues _ _ c.in-Ok.ensures.rest (c.meet_reader.ensures.cost replicated pattern part own frame i f g) (omega arith)
+pub returns-in-None-clause-plain : goal.returns-in-None-clause-plain
+returns-in-None-clause-plain c x =
+    let sends = c.requires.sends in
+    let message = plain_val c.args.message.now in
+    let flat = flat_output (core_in c.args.code.now) c.args.store.now c.args.block (op.Out sends.1.chan message sends.0) sends.1.acts x in
+    let is : op.Out sends.1.chan message sends.0 ≡ op.Out flat.0 flat.1 flat.2 = flat.3 in
+    let same : message ≡ flat.1 = cc in
+    absurd (flat.4 (subst IsOfHeap same (c.in-None.ensures.none.0 refl)))

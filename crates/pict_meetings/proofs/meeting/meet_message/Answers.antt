@@ -6,6 +6,8 @@ use Rattle.pict_core.specs.Step.{Comm}
 use Rattle.pict_code.specs.Plain.{plain_pat}
 use Rattle.pict_code.specs.ReadBack.{unleveled}
 use Rattle.pict_heap.specs.HeapState.{value_of, IsWord}
+use Rattle.pict_region.specs.RegionState.{blocks}
+use Rattle.pict_queue.specs.QueuesState.{IsHeld}
 use Rattle.pict_queue.specs.Contents.{contents, held_words}
 use Rattle.pict_view.specs.Moved.{if_replicated}
 use Rattle.pict_blocks.specs.Binding.{BindsPattern}
@@ -92,4 +94,11 @@ returns-clause-done c =
     (subst (λ w. BindsPattern s.heap p (value_of s.heap w) s.values.items mid.values.items) word c.bind_levels.ensures.binds)
     c.bind_levels.ensures.levels c.bind_levels.ensures.pairs f.node (coded_at c.args.code.now c.requires.code c.args.part c.frame_at-frame.result.now f)
     (subst (λ (frame : List ℕ). Places mid new c.args.part frame (λ words. if_replicated again (held_words mid.queues.region block) ++ (contents mid.queues 0 ++ words ∷ []))) (sym f.is)
-    c.spawn_beside.ensures.places))
+    c.spawn_beside.ensures.places)
+    (λ other held.
+    let g = c.spawn_beside.ensures.gone other held in
+    (g.0, c.take_message.ensures.no_more other (subst (λ (x : Store). IsHeld x.queues other) rest g.1))))
+
+pub returns-clause-blocks : goal.returns-clause-blocks
+returns-clause-blocks c = λ width.
+    c.spawn_beside.ensures.blocks width ∙ ap (λ (x : Store). blocks x.queues.region width) c.bind_levels.ensures.rest ∙ c.take_message.ensures.blocks width

@@ -5,6 +5,7 @@ use Rattle.pict_core.specs.Matching.{match_value}
 use Rattle.pict_code.specs.Plain.{plain_pat}
 use Rattle.pict_code.specs.ReadBack.{unleveled}
 use Rattle.pict_heap.specs.HeapState.{value_of}
+use Rattle.pict_region.specs.RegionState.{blocks}
 use Rattle.pict_queue.specs.QueuesState.{IsHeld}
 use Rattle.pict_queue.specs.Contents.{contents, held_words}
 use Rattle.pict_blocks.specs.Binding.{levels_of, BindsPattern}
@@ -13,6 +14,7 @@ use Rattle.pict_turns.specs.Acting.{core_in}
 use Rattle.pict_turns.specs.Parts.{Places}
 use Rattle.pict_turns.specs.declared.store.Store.{Store}
 use Rattle.pict_turns.proofs.Numbered.{coded_at, coded_inside, in_code}
+use Rattle.pict_meetings.proofs.Firsts.{block_some}
 use Rattle.pict_meetings.proofs.Inputs.{pattern_rises, pattern_inside, part_inside}
 use Rattle.pict_meetings.proofs.Meets.{reader_met}
 use Rattle.pict_meetings.proofs.Serving.{input_coded, serves_part, serves_fits, still_held, can_serve}
@@ -57,6 +59,15 @@ spawn_and_end-requires-clause-held c =
     c.args.block c.requires.sends.1.acting.held in
     subst (λ (s : Store). IsHeld s.queues c.args.block) (sym c.bind_levels.ensures.rest) still.held
 
+pub spawn_and_end-requires-clause-some : goal.spawn_and_end-requires-clause-some
+spawn_and_end-requires-clause-some c =
+    let core = core_in c.args.code.now in
+    let acting = c.requires.sends.1.acting in
+    let still = still_held core c.args.store.now c.take_input-input.new.store c.args.channel c.args.number c.take_input-input.result c.take_input-input.ensures.takes c.put_back.new.queues c.put_back.ensures.kept
+    c.args.block acting.held in
+    subst (λ (ws : List ℕ). 0 < length ws) (sym (ap (λ (s : Store). held_words s.queues.region c.args.block) c.bind_levels.ensures.rest ∙ still.words))
+    (block_some core c.args.store.now.heap (held_words c.args.store.now.queues.region c.args.block) acting.is)
+
 pub spawn_and_end-requires-clause-can : goal.spawn_and_end-requires-clause-can
 spawn_and_end-requires-clause-can c =
     let core = core_in c.args.code.now in
@@ -94,6 +105,15 @@ returns-clause-done c =
     (subst (λ h. ArePairs h bound.values.items) takes.heap c.bind_levels.ensures.pairs)
     f.node (coded_at c.args.code.now c.requires.code c.args.part c.frame_at-frame.result.now f)
     (subst (λ (frame : List ℕ). Places bound new c.args.part frame (λ words. contents bound.queues 0 ++ words ∷ [])) (sym f.is) c.spawn_and_end.ensures.places)
+    (λ other held.
+    let g = c.spawn_and_end.ensures.gone other held in
+    let b = c.put_back.ensures.gone other (subst (λ (s : Store). IsHeld s.queues other) rest g.1) in
+    (g.0, takes.more other b.1 b.0))
+
+pub returns-clause-blocks : goal.returns-clause-blocks
+returns-clause-blocks c = λ width.
+    c.spawn_and_end.ensures.blocks width ∙ ap (λ (s : Store). blocks s.queues.region width) c.bind_levels.ensures.rest ∙ c.put_back.ensures.blocks width
+    ∙ c.take_input-input.ensures.takes.blocks width
 
 pub returns-clause-kept : goal.returns-clause-kept
 returns-clause-kept c = λ other apart held.

@@ -21,4 +21,4 @@ pub returns-clause-takes : goal.returns-clause-takes
 returns-clause-takes c =
     takes_input (core_in c.args.code.now) c.args.store.now c.pop_front.new.self c.read_part.new.store c.args.channel c.args.number c.in-Some.block c.read_part.ensures.read
     (rw (c.queue_of.ensures) at c.in-Some.ensures.popped) (rw (c.queue_of.ensures) at c.in-Some.ensures.list) (rw (c.queue_of.ensures) at c.in-Some.ensures.other_contents)
-    c.in-Some.ensures.held c.in-Some.ensures.kept c.in-Some.ensures.rest
+    c.in-Some.ensures.held c.in-Some.ensures.kept c.in-Some.ensures.more c.in-Some.ensures.blocks c.in-Some.ensures.rest

@@ -21,6 +21,7 @@ returns c =
       region = c.add_queue.ensures.region;
       contents = c.add_queue.ensures.contents;
       held = c.add_queue.ensures.kept;
+      no_more = c.add_queue.ensures.no_more;
       heap = refl;
       pending = refl;
     }

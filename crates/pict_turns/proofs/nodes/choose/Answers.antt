@@ -1,4 +1,4 @@
-use Rattle.std.proofs.Common.{ℕ, ◌+◌, ◌≡◌, List, ◌∷◌, Some, sym, ap, ◌∙◌, subst, max, map, arith}
+use Rattle.std.proofs.Common.{ℕ, ◌+◌, ◌≡◌, List, ◌∷◌, [], Some, sym, ap, ◌∙◌, subst, max, map, arith}
 use Rattle.std.specs.List.{slice_get}
 use Rattle.pict_core.specs.Plain.{plain_val}
 use Rattle.pict_core.specs.Step.{Quiet}
@@ -11,6 +11,7 @@ use Rattle.pict_frames.proofs.Costs.{costs_more, costs_nothing}
 use Rattle.pict_blocks.specs.Blocks.{operand_value}
 use Rattle.pict_turns.specs.Acting.{core_in}
 use Rattle.pict_turns.specs.Parts.{Places, block_width}
+use Rattle.pict_turns.proofs.Making.{makes_before, makes_chosen}
 use Rattle.pict_turns.proofs.Numbered.{coded_at, coded_inside, in_code, if_parts, test_over, test_boolean, chosen_low, chosen_width}
 use Rattle.pict_turns.proofs.Room.{store_still, acting_still, acts_still, known_still, done_after, refused_after}
 use Rattle.pict_turns.proofs.Steps.{choose_done}
@@ -53,7 +54,25 @@ returns-in-Ok-clause-done c =
     (ap (λ (value : ℕ → Val). operand_value value test) (known_still core old mid rest) ∙ b.1)
     (subst (λ (k : ℕ). slice_get (nodes_of core) k ≡ Some f.node) b.2 (coded_at c.args.code.now c.requires.code c.chosen-part.result c.frame_at-frame.result.now f))
     (subst (λ (k : ℕ). Places mid last k f.node.frame (λ words. words ∷ contents mid.queues 0)) b.2
-    (subst (λ (frame : List ℕ). Places mid last c.chosen-part.result frame (λ words. words ∷ contents mid.queues 0)) (sym f.is) c.hand_on.ensures.places)))
+    (subst (λ (frame : List ℕ). Places mid last c.chosen-part.result frame (λ words. words ∷ contents mid.queues 0)) (sym f.is) c.hand_on.ensures.places)) c.hand_on.ensures.gone)
+
+pub returns-in-Ok-clause-blocks : goal.returns-in-Ok-clause-blocks
+returns-in-Ok-clause-blocks c = λ b is.
+    let a = c.chosen-part.ensures in
+    let old = c.args.store.now.queues in
+    let mid = c.reserve_part.new.store.queues in
+    let last = c.hand_on.new.store.queues in
+    makes_chosen (map plain_node c.args.code.now) old last _ a.0 b c.args.yes c.args.no c.chosen-part.result _ a.1 is a.2 c.frame_at-frame.ensures
+    (makes_before old mid last (block_width c.frame_at-frame.result.now ∷ []) c.reserve_part.ensures.most c.hand_on.ensures.blocks)
+
+pub returns-in-Err-clause-blocks : goal.returns-in-Err-clause-blocks
+returns-in-Err-clause-blocks c = λ b is.
+    let a = c.chosen-part.ensures in
+    let old = c.args.store.now.queues in
+    let mid = c.reserve_part.new.store.queues in
+    let last = c.refuse.new.store.queues in
+    makes_chosen (map plain_node c.args.code.now) old last _ a.0 b c.args.yes c.args.no c.chosen-part.result _ a.1 is a.2 c.frame_at-frame.ensures
+    (makes_before old mid last (block_width c.frame_at-frame.result.now ∷ []) c.reserve_part.ensures.most c.refuse.ensures.blocks)
 
 pub returns-in-Ok-clause-cost : goal.returns-in-Ok-clause-cost
 returns-in-Ok-clause-cost c = λ first second one other.

@@ -1,10 +1,13 @@
-use Rattle.std.proofs.Common.{ℕ, ◌<◌, List, ◌∷◌, sym, subst}
+use Rattle.std.proofs.Common.{ℕ, ◌<◌, List, ◌∷◌, [], map, sym, ap, subst}
 use Rattle.std.specs.List.{All}
 use Rattle.pict_core.specs.Step.{Quiet}
 use Rattle.pict_code.specs.Instruction as op
+use Rattle.pict_code.specs.Plain.{plain_node}
+use Rattle.pict_region.specs.RegionState.{RegionState, blocks, KeepsBlocks}
 use Rattle.pict_queue.specs.Contents.{contents}
 use Rattle.pict_turns.specs.Acting.{core_in}
-use Rattle.pict_turns.specs.Parts.{Places}
+use Rattle.pict_turns.specs.Parts.{Places, block_width}
+use Rattle.pict_turns.proofs.Making.{makes_before, makes_part}
 use Rattle.pict_turns.proofs.Numbered.{coded_at, coded_inside, in_code, new_part}
 use Rattle.pict_turns.proofs.Room.{store_still, acting_still, acts_still, done_after, refused_after}
 use Rattle.pict_turns.proofs.Steps.{channel_done}
@@ -42,7 +45,28 @@ returns-in-Ok-clause-done c =
     (channel_done core mid opened last c.args.block c.args.level c.args.part f.node
     (acts_still core old mid rest c.args.block (op.New c.args.level c.args.part) c.requires.acts)
     c.add_channel.ensures (coded_at c.args.code.now c.requires.code c.args.part c.frame_at-frame.result.now f)
-    (subst (λ (frame : List ℕ). Places opened last c.args.part frame (λ words. words ∷ contents opened.queues 0)) (sym f.is) c.hand_on.ensures.places))
+    (subst (λ (frame : List ℕ). Places opened last c.args.part frame (λ words. words ∷ contents opened.queues 0)) (sym f.is) c.hand_on.ensures.places)
+    (λ other held. let x = c.hand_on.ensures.gone other held in (x.0, c.add_channel.ensures.no_more other x.1)))
+
+pub returns-in-Ok-clause-blocks : goal.returns-in-Ok-clause-blocks
+returns-in-Ok-clause-blocks c =
+    let old = c.args.store.now.queues in
+    let mid = c.reserve_channel.new.store.queues in
+    let opened = c.add_channel.new.store.queues in
+    let last = c.hand_on.new.store.queues in
+    let same : KeepsBlocks mid.region opened.region = λ width. ap (λ (r : RegionState). blocks r width) c.add_channel.ensures.region in
+    let needed = block_width c.frame_at-frame.result.now ∷ [] in
+    makes_part (map plain_node c.args.code.now) old last c.args.part _ c.frame_at-frame.ensures
+    (makes_before old opened last needed (makes_before old mid opened needed c.reserve_channel.ensures.most same) c.hand_on.ensures.blocks)
+
+pub returns-in-Err-clause-blocks : goal.returns-in-Err-clause-blocks
+returns-in-Err-clause-blocks c =
+    let old = c.args.store.now.queues in
+    let mid = c.reserve_channel.new.store.queues in
+    let last = c.refuse.new.store.queues in
+    let needed = block_width c.frame_at-frame.result.now ∷ [] in
+    makes_part (map plain_node c.args.code.now) old last c.args.part _ c.frame_at-frame.ensures
+    (makes_before old mid last needed c.reserve_channel.ensures.most c.refuse.ensures.blocks)
 
 pub returns-in-Err-clause-refused : goal.returns-in-Err-clause-refused
 returns-in-Err-clause-refused c =

@@ -4,6 +4,7 @@ use Rattle.pict_queue.specs.QueuesState.{QueuesState}
 use Rattle.pict_queue.specs.Contents.{contents}
 use Rattle.pict_turns.specs.Parts.{block_width}
 use Rattle.pict_frames.proofs.Costs.{costs_more, costs_one}
+use Rattle.pict_frames.proofs.Held.{made_no_more}
 use Rattle.pict_turns.proofs.Placing.{given_spare, taken_spare, others_stay}
 use Rattle.pict_turns.proofs.parts.hand_on.Goals as goal
 
@@ -37,6 +38,14 @@ pub returns-clause-kept : goal.returns-clause-kept
 returns-clause-kept c =
     let p = c.make_part-part.ensures.part in
     others_stay c.args.store.now.queues c.give.new.self c.make_part-part.new.store.queues c.push_front.new.self _ _ _ _ c.give.ensures.kept p.made c.push_front.ensures.kept
+
+pub returns-clause-gone : goal.returns-clause-gone
+returns-clause-gone c = λ other held.
+    c.give.ensures.gone other (made_no_more c.give.new.self c.make_part-part.new.store.queues c.push_front.new.self _ _ _ c.make_part-part.ensures.part.made c.push_front.ensures.gone other held)
+
+pub returns-clause-blocks : goal.returns-clause-blocks
+returns-clause-blocks c = λ width.
+    c.push_front.ensures.blocks width ∙ c.make_part-part.ensures.part.made.blocks width ∙ c.give.ensures.blocks width
 
 pub returns-clause-cost : goal.returns-clause-cost
 returns-clause-cost c =

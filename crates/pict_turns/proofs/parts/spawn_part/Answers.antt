@@ -3,7 +3,7 @@ use Rattle.pict_region.specs.RegionState.{spare}
 use Rattle.pict_queue.specs.Contents.{contents}
 use Rattle.pict_turns.specs.Parts.{block_width}
 use Rattle.pict_frames.proofs.Costs.{costs_more}
-use Rattle.pict_frames.proofs.Held.{made_kept}
+use Rattle.pict_frames.proofs.Held.{made_kept, made_no_more}
 use Rattle.pict_turns.proofs.Placing.{taken_spare}
 use Rattle.pict_turns.proofs.parts.spawn_part.Goals as goal
 
@@ -31,6 +31,13 @@ pub returns-clause-kept : goal.returns-clause-kept
 returns-clause-kept c =
     let p = c.make_part-part.ensures.part in
     made_kept c.args.store.now.queues c.make_part-part.new.store.queues c.push_back.new.self _ _ _ p.made c.push_back.ensures.kept
+
+pub returns-clause-no_more : goal.returns-clause-no_more
+returns-clause-no_more c =
+    made_no_more c.args.store.now.queues c.make_part-part.new.store.queues c.push_back.new.self _ _ _ c.make_part-part.ensures.part.made c.push_back.ensures.gone
+
+pub returns-clause-blocks : goal.returns-clause-blocks
+returns-clause-blocks c = λ width. c.push_back.ensures.blocks width ∙ c.make_part-part.ensures.part.made.blocks width
 
 pub returns-clause-cost : goal.returns-clause-cost
 returns-clause-cost c =

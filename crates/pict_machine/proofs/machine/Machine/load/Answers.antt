@@ -16,6 +16,7 @@ returns-clause-kept c =
       code = c.requires.code;
       store = opening_store core store (plain_code c.args.code) c.level_count.result c.requires.code.nodes_are c.in_ok-queues.ensures zeros many;
       held = opening_held core c.new.result c.in_ok-queues.queues c.in_ok-queues.ensures;
+      none_held = c.in_ok-queues.ensures.none_held;
     }
 
 pub returns-clause-stands : goal.returns-clause-stands

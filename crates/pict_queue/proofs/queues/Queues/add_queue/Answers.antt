@@ -5,7 +5,7 @@ use Rattle.pict_queue.specs.declared.queues.Queues.TheInside.{Inside}
 use Rattle.pict_queue.proofs.Orders.{list_is, queue_in-added, threaded_added}
 use Rattle.pict_queue.proofs.Calls.{list_seen}
 use Rattle.pict_queue.specs.Threads.{queue_in, state_of}
-use Rattle.pict_queue.proofs.Kept.{contents_same, held_same}
+use Rattle.pict_queue.proofs.Kept.{contents_same, held_same, no_more_same}
 use Rattle.pict_queue.proofs.queues.Queues.add_queue.Goals as goal
 
 pub invariant_of-self-2 : goal.invariant_of-self-2
@@ -31,3 +31,7 @@ returns-clause-contents c = contents_same c.args.self.now (state_of (after c)) (
 pub returns-clause-kept : goal.returns-clause-kept
 unfolding after
 returns-clause-kept c = held_same c.args.self.now (state_of (after c)) (ap (λ s. s.region.live) c.self.view_is) (returns-clause-lists c)
+
+pub returns-clause-no_more : goal.returns-clause-no_more
+unfolding after
+returns-clause-no_more c = no_more_same c.args.self.now (state_of (after c)) (ap (λ s. s.region.live) c.self.view_is) (returns-clause-lists c)

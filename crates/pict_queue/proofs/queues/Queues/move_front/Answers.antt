@@ -1,4 +1,4 @@
-use Rattle.pict_queue.proofs.Kept.{lists_moved, held_moved, contents_moved, words_along}
+use Rattle.pict_queue.proofs.Kept.{lists_moved, held_moved, no_more_moved, contents_moved, words_along}
 use Rattle.pict_queue.proofs.queues.Queues.move_front.Goals as goal
 
 pub returns-clause-lists : goal.returns-clause-lists
@@ -16,3 +16,8 @@ pub returns-clause-kept : goal.returns-clause-kept
 returns-clause-kept c =
     held_moved c.args.self.now c.pop-block.new.self c.push_back.new.self c.args.from.0 c.args.to.0 c.pop-block.result
     c.pop-block.ensures.list c.pop-block.ensures.others c.push_back.ensures.list c.push_back.ensures.others c.pop-block.ensures.kept c.push_back.ensures.kept
+
+pub returns-clause-no_more : goal.returns-clause-no_more
+returns-clause-no_more c =
+    no_more_moved c.args.self.now c.pop-block.new.self c.push_back.new.self c.args.from.0 c.args.to.0 c.pop-block.result
+    c.pop-block.ensures.list c.pop-block.ensures.others c.push_back.ensures.list c.push_back.ensures.others c.pop-block.ensures.more c.push_back.ensures.gone

@@ -10,7 +10,7 @@ use Rattle.pict_queue.specs.Threads.{state_of, queue_in}
 use Rattle.pict_queue.specs.declared.queues.Queues.TheInside.{Inside}
 use Rattle.pict_queue.proofs.Orders.{list_is, once_seen, held_if_apart, PopsFront, popped_front}
 use Rattle.pict_queue.proofs.Calls.{first_found, queue_read, list_seen, list_length}
-use Rattle.pict_queue.proofs.Kept.{contents_popped, other_contents_kept, held_popped}
+use Rattle.pict_queue.proofs.Kept.{contents_popped, other_contents_kept, held_popped, one_more_popped}
 use Rattle.pict_queue.proofs.queues.Queues.pop.Goals as goal
 
 pub block-block-requires : goal.block-block-requires
@@ -100,3 +100,7 @@ returns-clause-other_contents c = other_contents_kept c.args.self.now (state_of 
 pub returns-clause-kept : goal.returns-clause-kept
 unfolding queue_after after
 returns-clause-kept c = held_popped c.args.self.now (state_of (after c)) (keeps c) c.args.q.0 c.block-block.result (returns-clause-list c) (returns-clause-others c)
+
+pub returns-clause-more : goal.returns-clause-more
+unfolding queue_after after
+returns-clause-more c = one_more_popped c.args.self.now (state_of (after c)) (keeps c) c.args.q.0 c.block-block.result (returns-clause-list c) (returns-clause-others c)

@@ -8,7 +8,7 @@ use Rattle.pict_queue.proofs.Links.{LinksBlock, link_written}
 use Rattle.pict_queue.proofs.Orders.{list_is, once_seen, PushesBack, pushed_back}
 use Rattle.pict_queue.proofs.Calls.{FindsEnds, ends_found, list_seen, rest_kept}
 use Rattle.pict_queue.specs.Threads.{state_of}
-use Rattle.pict_queue.proofs.Kept.{contents_pushed_back, other_contents_kept, held_pushed_back}
+use Rattle.pict_queue.proofs.Kept.{contents_pushed_back, other_contents_kept, released_back, held_pushed_back}
 use Rattle.pict_queue.proofs.queues.Queues.push_back.Goals as goal
 
 pub set_link-requires-clause-live : goal.set_link-requires-clause-live
@@ -79,3 +79,7 @@ returns-clause-other_contents c = other_contents_kept c.args.self.now (state_of 
 pub returns-clause-kept : goal.returns-clause-kept
 unfolding queue_after after
 returns-clause-kept c = held_pushed_back c.args.self.now (state_of (after c)) (returns-clause-rest c).contents c.args.q.0 c.args.b (returns-clause-list c) (returns-clause-others c)
+
+pub returns-clause-gone : goal.returns-clause-gone
+unfolding queue_after after
+returns-clause-gone c = released_back c.args.self.now (state_of (after c)) (returns-clause-rest c).contents c.args.q.0 c.args.b (returns-clause-list c) (returns-clause-others c)

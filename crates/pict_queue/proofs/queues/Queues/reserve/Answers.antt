@@ -2,7 +2,7 @@ use Rattle.pict_queue.proofs.Orders.{live_kept}
 use Rattle.std.proofs.Common.{◌≡◌, ◌∙◌, ap}
 use Rattle.pict_queue.specs.QueuesState.{QueuesState, KeepsQueues}
 use Rattle.pict_queue.specs.Threads.{state_of}
-use Rattle.pict_queue.proofs.Kept.{contents_same, held_same, lists_same}
+use Rattle.pict_queue.proofs.Kept.{contents_same, held_same, no_more_same, lists_same}
 use Rattle.pict_queue.proofs.queues.Queues.reserve.Goals as goal
 
 pub invariant_of-self : goal.invariant_of-self
@@ -29,3 +29,7 @@ returns-clause-contents c = contents_same c.args.self.now (after c) (live c) (li
 pub returns-clause-kept : goal.returns-clause-kept
 unfolding after
 returns-clause-kept c = held_same c.args.self.now (after c) (live c) (lists c)
+
+pub returns-clause-no_more : goal.returns-clause-no_more
+unfolding after
+returns-clause-no_more c = no_more_same c.args.self.now (after c) (live c) (lists c)

@@ -9,7 +9,7 @@ use Rattle.pict_queue.specs.declared.queues.Queues.TheInside.{Inside}
 use Rattle.pict_queue.proofs.Orders.{held_if_apart, ThreadsStay, apart_changed, absent_if_new}
 use Rattle.pict_queue.proofs.Calls.{lists_kept}
 use Rattle.pict_queue.specs.Threads.{state_of}
-use Rattle.pict_queue.proofs.Kept.{contents_beside, held_beside, taken_apart}
+use Rattle.pict_queue.proofs.Kept.{contents_beside, held_beside, one_more_beside, taken_apart}
 use Rattle.pict_queue.proofs.queues.Queues.take.Goals as goal
 
 after : (c : goal.After-take) → Inside
@@ -64,3 +64,7 @@ pub returns-clause-kept : goal.returns-clause-kept
 unfolding after
 returns-clause-kept c other held =
     held_beside c.args.self.now (state_of (after c)) c.take.result (others c) (returns-clause-lists c) other (returns-clause-apart c other held) held
+
+pub returns-clause-more : goal.returns-clause-more
+unfolding after
+returns-clause-more c = one_more_beside c.args.self.now (state_of (after c)) c.take.result (others c) (returns-clause-lists c)

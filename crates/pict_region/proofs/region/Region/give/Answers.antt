@@ -5,6 +5,8 @@ use Rattle.pict_region.specs.Layout.{list_at, state_of, IsSound}
 use Rattle.pict_region.specs.declared.region.FreeList.{FreeList}
 use Rattle.pict_region.specs.declared.region.Region.TheInside.{Inside}
 use Rattle.pict_region.proofs.Calls.{ReadsWidth, width_read, GivesBlock, given, count_fits, spare_at, spare_set, spare_kept}
+use Rattle.std.specs.Vec.{with_item}
+use Rattle.pict_region.proofs.Counts.{blocks_given}
 use Rattle.pict_region.proofs.region.Region.give.Goals as goal
 
 -- the width and its list as the call reads them
@@ -84,3 +86,14 @@ returns-clause-others c other apart =
     let read = reads c.self.inside _ _ _ _ _ c.self.view_is c.self.invariant c.b.view_is c.requires c.index.ensures c.index-list.ensures in
     spare_kept c.self.inside.free.items c.index.result.now other (record { first = c.b.inside.number; count = c.index-list.result.now.count + 1 }) (λ e. apart (e ∙ read.width_is))
     ∙ ap (λ s. spare s other) c.self.view_is
+
+pub returns-clause-blocks : goal.returns-clause-blocks
+returns-clause-blocks c =
+    let list : FreeList = record { first = c.b.inside.number; count = c.index-list.result.now.count + 1 } in
+    blocks_given c.args.self.now
+    (state_of (record {
+      words = with_item c.self.inside.words (c.b.inside.number + 1) c.index-list.result.now.first;
+      free = with_item c.self.inside.free c.index.result.now list;
+      work = c.one_more-self-inside.result;
+    }))
+    c.args.b c.requires (returns-clause-live c) (returns-clause-spare c) (returns-clause-others c)

@@ -1,5 +1,10 @@
-use Rattle.std.proofs.Common.{arith}
+use Rattle.std.proofs.Common.{set, ap, ◌+◌, arith}
 use Rattle.pict_region.proofs.Calls.{word_read, word_set}
+use Rattle.std.proofs.lemmas.List.{length-set}
+use Rattle.std.specs.Vec.{with_item}
+use Rattle.pict_region.specs.RegionState.{words_of}
+use Rattle.pict_region.specs.Layout.{state_of}
+use Rattle.pict_region.proofs.Counts.{blocks_written}
 use Rattle.pict_region.proofs.region.Region.set.Goals as goal
 
 pub overflow_add-b-inside : goal.overflow_add-b-inside
@@ -19,3 +24,10 @@ invariant_of-self c = (word_set c.self.inside _ _ _ _ c.args.word c.self.view_is
 
 pub returns-clause-live : goal.returns-clause-live
 returns-clause-live c = (word_set c.self.inside _ _ _ _ c.args.word c.self.view_is c.self.invariant c.b.view_is c.requires.live c.requires.inside).live
+
+pub returns-clause-blocks : goal.returns-clause-blocks
+returns-clause-blocks c =
+    blocks_written c.args.self.now
+    (state_of (record { words = with_item c.self.inside.words (c.b.inside.number + 1 + c.args.i) c.args.word; free = c.self.inside.free; work = c.one_more-self-inside.result }))
+    c.args.b.now (set (words_of c.args.self.now c.args.b.now) c.args.i c.args.word) c.requires.live (returns-clause-live c)
+    (length-set (words_of c.args.self.now c.args.b.now) c.args.i c.args.word) (ap (λ s. s.free) c.self.view_is)

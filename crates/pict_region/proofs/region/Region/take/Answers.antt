@@ -1,10 +1,12 @@
-use Rattle.std.proofs.Common.{◌≡◌, ◌∙◌, ◌+◌, ◌-◌, ◌<◌, ℕ, length, set, get_or, ap, sym, refl, subst, arith}
-use Rattle.std.proofs.lemmas.List.{get_or_read}
+use Rattle.std.proofs.Common.{◌≡◌, ◌∙◌, ◌+◌, ◌-◌, ◌<◌, ℕ, length, set, get_or, replicate, ap, sym, refl, subst, arith}
+use Rattle.std.proofs.lemmas.List.{get_or_read, length-replicate}
 use Rattle.pict_region.specs.RegionState.{spare}
-use Rattle.pict_region.specs.Layout.{list_at}
+use Rattle.pict_region.specs.Layout.{list_at, state_of}
 use Rattle.pict_region.specs.declared.region.FreeList.{FreeList}
 use Rattle.pict_region.specs.declared.region.Region.TheInside.{Inside}
 use Rattle.pict_region.proofs.Calls.{ReadsFirst, first_read, TakesFirst, taken, spare_at, spare_set, spare_kept}
+use Rattle.std.specs.Vec.{with_item}
+use Rattle.pict_region.proofs.Counts.{blocks_taken}
 use Rattle.pict_region.proofs.region.Region.take.Goals as goal
 
 -- the list of the width as the call reads it
@@ -78,3 +80,11 @@ pub returns-clause-others : goal.returns-clause-others
 returns-clause-others c other apart =
     spare_kept c.self.inside.free.items c.args.width other (record { first = c.index.result.now; count = c.index-list.result.now.count - 1 }) apart
     ∙ ap (λ s. spare s other) c.self.view_is
+
+pub returns-clause-blocks : goal.returns-clause-blocks
+returns-clause-blocks c =
+    let list : FreeList = record { first = c.index.result.now; count = c.index-list.result.now.count - 1 } in
+    blocks_taken c.args.self.now
+    (state_of (record { words = c.clear.new.words; free = with_item c.self.inside.free c.args.width list; work = c.one_more-self-inside.result }))
+    c.index-list.result.now.first c.args.width (replicate c.args.width 0) (returns-clause-fresh c) (returns-clause-live c) (length-replicate c.args.width 0)
+    (returns-clause-spare c) (returns-clause-others c)

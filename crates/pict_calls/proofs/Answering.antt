@@ -1,0 +1,121 @@
+-- An output to a primitive needs one block where it answers, and else none.
+use Rattle.std.proofs.Common.{ℕ, zero, suc, ℤ, pos, negsuc, ◌≡◌, ◌≢◌, ◌≤◌, ◌+◌, ◌-◌, ◌==◌, Bool, if◌then◌else◌, List, [], ◌∷◌, Option, Some, None, true, false, refl, sym, subst, arith}
+use Rattle.pict_syntax.specs.declared.primitive.Primitive.{Primitive}
+use Rattle.pict_syntax.specs.declared.primitive.Primitive.TheVariants as primitive
+use Rattle.pict_core.specs.Primitives.{Effect, Trap, effect_of, at_int, at_char, at_bool, at_text, at_two, at_three, at_ints, divided_by}
+use Rattle.pict_core.specs.Term.{Val, Vals, Labelled, Int, Char, Boolean, Text, Record, no_vals, more_vals}
+use Rattle.pict_region.specs.RegionState.{spare, blocks, KeepsBlocks}
+use Rattle.pict_heap.specs.HeapState.{HeapState}
+use Rattle.pict_prim.specs.Acts.{effect_act}
+use Rattle.pict_prim.specs.declared.act.Act.{Act}
+use Rattle.pict_prim.specs.declared.act.Act.TheVariants as act
+use Rattle.pict_queue.specs.QueuesState.{QueuesState}
+use Rattle.pict_turns.specs.Widths.{how_many, MakesOnly, leaves_widths, answer_widths}
+use Rattle.pict_calls.specs.Finishing.{outputs_of}
+
+-- ---- a primitive that takes a record answers, or divides by zero
+
+-- where there is an effect that is no trap, it is an answer
+abbrev Answers : Option Effect → Type 0
+Answers None = Unit {0}
+Answers (Some e) = e.leaves ≢ Trap → leaves_widths e.leaves ≡ 9 ∷ []
+
+int_answers : (v : Val) (f : ℤ → Option Effect) → ((n : ℤ) → Answers (f n)) → Answers (at_int v f)
+int_answers (Int n) f h = h n
+int_answers _ f h = tt
+
+char_answers : (v : Val) (f : ℕ → Option Effect) → ((byte : ℕ) → Answers (f byte)) → Answers (at_char v f)
+char_answers (Char byte) f h = h byte
+char_answers _ f h = tt
+
+bool_answers : (v : Val) (f : Bool → Option Effect) → ((b : Bool) → Answers (f b)) → Answers (at_bool v f)
+bool_answers (Boolean b) f h = h b
+bool_answers _ f h = tt
+
+text_answers : (v : Val) (f : List ℕ → Option Effect) → ((bytes : List ℕ) → Answers (f bytes)) → Answers (at_text v f)
+text_answers (Text bytes) f h = h bytes
+text_answers _ f h = tt
+
+two_answers : (vs : Vals) (ls : Labelled) (f : Val → Val → Option Effect) → ((v k : Val) → Answers (f v k))
+    → Answers (at_two (Record vs ls) f)
+two_answers no_vals ls f h = tt
+two_answers (more_vals v no_vals) ls f h = tt
+two_answers (more_vals v (more_vals k no_vals)) ls f h = h v k
+two_answers (more_vals v (more_vals k (more_vals x vs))) ls f h = tt
+
+three_answers : (vs : Vals) (ls : Labelled) (f : Val → Val → Val → Option Effect) → ((v w k : Val) → Answers (f v w k))
+    → Answers (at_three (Record vs ls) f)
+three_answers no_vals ls f h = tt
+three_answers (more_vals v no_vals) ls f h = tt
+three_answers (more_vals v (more_vals w no_vals)) ls f h = tt
+three_answers (more_vals v (more_vals w (more_vals k no_vals))) ls f h = h v w k
+three_answers (more_vals v (more_vals w (more_vals k (more_vals x vs)))) ls f h = tt
+
+ints_answer : (vs : Vals) (ls : Labelled) (f : ℤ → ℤ → Val → Option Effect) → ((a b : ℤ) (k : Val) → Answers (f a b k))
+    → Answers (at_ints (Record vs ls) f)
+ints_answer vs ls f h = three_answers vs ls _ (λ v w k. int_answers v _ (λ a. int_answers w _ (λ b. h a b k)))
+
+divided_answers : (b : ℤ) (o : Option Effect) → Answers o → Answers (divided_by b o)
+divided_answers (pos zero) o h = λ no_trap. absurd (no_trap refl)
+divided_answers (pos (suc n)) o h = h
+divided_answers (negsuc n) o h = h
+
+record_answers : (p : Primitive) (vs : Vals) (ls : Labelled) → Answers (effect_of p (Record vs ls))
+record_answers primitive.Print vs ls = tt
+record_answers primitive.Printi vs ls = tt
+record_answers primitive.Pr vs ls = two_answers vs ls _ (λ s k. text_answers s _ (λ bytes no_trap. refl))
+record_answers primitive.Add vs ls = ints_answer vs ls _ (λ a b k no_trap. refl)
+record_answers primitive.Subtract vs ls = ints_answer vs ls _ (λ a b k no_trap. refl)
+record_answers primitive.Multiply vs ls = ints_answer vs ls _ (λ a b k no_trap. refl)
+record_answers primitive.Divide vs ls = ints_answer vs ls _ (λ a b k. divided_answers b _ (λ no_trap. refl))
+record_answers primitive.Remainder vs ls = ints_answer vs ls _ (λ a b k. divided_answers b _ (λ no_trap. refl))
+record_answers primitive.Equal vs ls = ints_answer vs ls _ (λ a b k no_trap. refl)
+record_answers primitive.Less vs ls = ints_answer vs ls _ (λ a b k no_trap. refl)
+record_answers primitive.AtMost vs ls = ints_answer vs ls _ (λ a b k no_trap. refl)
+record_answers primitive.Greater vs ls = ints_answer vs ls _ (λ a b k no_trap. refl)
+record_answers primitive.AtLeast vs ls = ints_answer vs ls _ (λ a b k no_trap. refl)
+record_answers primitive.Chr vs ls = two_answers vs ls _ (λ n k. int_answers n _ (λ a no_trap. refl))
+record_answers primitive.Ord vs ls = two_answers vs ls _ (λ v k. char_answers v _ (λ byte no_trap. refl))
+record_answers primitive.Join vs ls = three_answers vs ls _ (λ s t k. text_answers s _ (λ front. text_answers t _ (λ back no_trap. refl)))
+record_answers primitive.Intstr vs ls = two_answers vs ls _ (λ n k. int_answers n _ (λ a no_trap. refl))
+record_answers primitive.Size vs ls = two_answers vs ls _ (λ s k. text_answers s _ (λ bytes no_trap. refl))
+record_answers primitive.Nth vs ls = three_answers vs ls _ (λ s n k. text_answers s _ (λ bytes. int_answers n _ (λ index no_trap. refl)))
+record_answers primitive.Not vs ls = two_answers vs ls _ (λ v k. bool_answers v _ (λ b no_trap. refl))
+
+-- ---- blocks that are made
+
+module _ (old new : QueuesState) where
+  -- a primitive that takes a record and is no trap needs the block of its answer
+  pub makes_answer : (p : Primitive) (vs : Vals) (ls : Labelled) (e : Effect) → effect_of p (Record vs ls) ≡ Some e → e.leaves ≢ Trap
+      → MakesOnly old new (9 ∷ []) → MakesOnly old new (answer_widths e)
+  makes_answer p vs ls e is no_trap makes =
+      let widths : answer_widths e ≡ 9 ∷ [] = subst Answers is (record_answers p vs ls) no_trap in
+      λ width. rw widths (makes width)
+
+  -- the same effect, found twice
+  pub makes_same : (effect e : Effect) → Some effect ≡ Some e → MakesOnly old new (answer_widths effect)
+      → MakesOnly old new (answer_widths e)
+  makes_same effect e is makes = let same : effect ≡ e = cc in subst (λ (x : Effect). MakesOnly old new (answer_widths x)) same makes
+
+none_of : (t : Bool) → (if t then 0 else 0) ≤ 0
+none_of true = omega arith
+none_of false = omega arith
+
+-- an act's outputs are of the widths that its effect needs
+needed_act : (h : HeapState) (a : Act) (width : ℕ) → (if width == 9 then outputs_of a else 0) ≤ how_many width (answer_widths (effect_act h a))
+needed_act h (act.Print w) width = none_of (width == 9)
+needed_act h (act.Answer k a) width = omega arith
+needed_act h (act.PrintAnswer w k) width = omega arith
+needed_act h (act.Join k a b) width = omega arith
+needed_act h (act.Spell k n) width = omega arith
+needed_act h act.ZeroDivisor width = none_of (width == 9)
+
+-- room has been made for an act's outputs, and the act is done or refused then
+pub makes_act : (old mid new : QueuesState) (h : HeapState) (a : Act) (count : ℕ) → count ≡ outputs_of a
+    → ((width : ℕ) → blocks mid.region width ≤ blocks old.region width + ((if width == 9 then count else 0) - spare old.region width))
+    → KeepsBlocks mid.region new.region → MakesOnly old new (answer_widths (effect_act h a))
+makes_act old mid new h a count is makes keeps width =
+    let needed = subst (λ (n : ℕ). (if width == 9 then n else 0) ≤ how_many width (answer_widths (effect_act h a))) (sym is) (needed_act h a width) in
+    let m = makes width in
+    let e = keeps width in
+    omega (arith, needed, m, e)

@@ -1,0 +1,357 @@
+-- A message and an input that isn't replicated meet, and no memory is taken.
+use Rattle.std.proofs.Common.{ℕ, zero, suc, ◌+◌, ◌-◌, ◌≤◌, ◌≡◌, ◌==◌, Bool, true, false, cond, IsTrue, inl, inr, List, [], ◌∷◌, length, map, take, refl, sym, ap, ◌∙◌, subst, arith, Option, Some, None, option_map, Result, ◌⊎◌, ⊎_elim}
+use Rattle.std.proofs.lemmas.Bool.Decides.{nat_tests}
+use Rattle.std.specs.List.{slice_get}
+use Rattle.std.specs.declared.alloc.AllocError.{AllocError}
+use Rattle.pict_syntax.specs.declared.primitive.Primitive.{Primitive}
+use Rattle.pict_syntax.specs.declared.span.Span.{Span}
+use Rattle.pict_core.specs.Term as term
+use Rattle.pict_core.specs.Term.{Val, Pat, Process, Chan, PrimitiveVal}
+use Rattle.pict_code.specs.Instruction as op
+use Rattle.pict_code.specs.Instruction.{Op, Node, CodePat}
+use Rattle.pict_code.specs.Nodes.{nodes_of, input_op}
+use Rattle.pict_code.specs.Plain.{plain_node}
+use Rattle.pict_code.specs.declared.instruction.Node as written
+use Rattle.pict_region.specs.RegionState.{spare, blocks, live_blocks, KeepsBlocks}
+use Rattle.pict_queue.specs.QueuesState.{QueuesState}
+use Rattle.pict_queue.specs.Contents.{contents, held_words, KeepsOtherContents}
+use Rattle.pict_heap.specs.HeapState.{HeapState}
+use Rattle.pict_frames.specs.Keeping.{kept_words}
+use Rattle.pict_frames.proofs.Held.{works_blocks}
+use Rattle.pict_blocks.specs.Blocks.{value_in, process_of}
+use Rattle.pict_operands.specs.AtHand.{IsOfHeap}
+use Rattle.pict_meetings.specs.Room.{as_wide}
+use Rattle.pict_meetings.specs.Serving.{IsInputWith}
+use Rattle.pict_meetings.specs.Waiting.{oldest, waits_first}
+use Rattle.pict_meetings.specs.declared.waiting.Waiting.TheVariants.{Output, Input}
+use Rattle.pict_meetings.proofs.Firsts.{first_input, first_message, node_of}
+use Rattle.pict_meetings.proofs.Ops.{same_input}
+use Rattle.pict_meetings.proofs.Wide.{node_wide, first_reused, second_reused}
+use Rattle.pict_turns.specs.Acting.{core_in, IsCode, IsStore, ActsBy}
+use Rattle.pict_turns.specs.Parts.{block_width}
+use Rattle.pict_turns.specs.Reading.{HasFrame, OnlyReads}
+use Rattle.pict_turns.specs.Reserving.{OnlyReserves}
+use Rattle.pict_turns.specs.Views.{IsKept}
+use Rattle.pict_turns.specs.Widths.{MakesOnly}
+use Rattle.pict_turns.specs.declared.store.Store.{Store}
+use Rattle.pict_turns.proofs.AfterReading.{contents_read, words_read}
+use Rattle.pict_turns.proofs.Holding.{width_narrow}
+use Rattle.pict_turns.proofs.Numbered.{same_frame}
+use Rattle.pict_machine.specs.Plain.{instruction_of, IsPlainInput, IsFlatOutput, HasWord, HasPlainRoom, SendsPlainly, ReceivesPlainly, ActsPlainly, MeetsPlainly, TakesNothing}
+use Rattle.pict_machine.specs.Sending.{EndsAsWide}
+use Rattle.pict_machine.specs.declared.event.Event.{Event}
+
+-- ---- what waits at channels stays, and so does a plain meeting
+
+module _ (core : Process) (old new : Store) (heap : new.heap ≡ old.heap) (same : (c : ℕ) → contents new.queues (c + 1) ≡ contents old.queues (c + 1))
+    (free : new.queues.region.free ≡ old.queues.region.free) (acting : List ℕ) where
+  process_same : process_of core (value_in new.heap) acting ≡ process_of core (value_in old.heap) acting
+  process_same = ap (λ (h : HeapState). process_of core (value_in h) acting) heap
+
+  spare_same : (width : ℕ) → spare new.queues.region width ≡ spare old.queues.region width
+  spare_same width = ap (λ (f : List ℕ). spare (record old.queues.region { free = f }) width) free
+
+  room_same : (part : ℕ) (waiting : List ℕ) → HasPlainRoom core old part acting waiting → HasPlainRoom core new part acting waiting
+  room_same part waiting r = record {
+    frame = r.frame;
+    has = r.has;
+    narrow = r.narrow;
+    room = subst (λ (n : ℕ). 1 ≤ n ⊎ length acting + 1 ≡ block_width r.frame ⊎ length waiting + 1 ≡ block_width r.frame) (sym (spare_same (block_width r.frame))) r.room;
+  }
+
+  sends_same : SendsPlainly core old acting → SendsPlainly core new acting
+  sends_same x = record {
+    channel = x.channel;
+    message = x.message;
+    at = x.at;
+    out = process_same ∙ x.out;
+    word = x.word;
+    waiting = x.waiting;
+    others = x.others;
+    waits = same x.channel ∙ x.waits;
+    part = x.part;
+    input = x.input;
+    room = room_same x.part x.waiting x.room;
+  }
+
+  receives_same : ReceivesPlainly core old acting → ReceivesPlainly core new acting
+  receives_same x = record {
+    channel = x.channel;
+    pattern = x.pattern;
+    body = x.body;
+    receives = process_same ∙ x.receives;
+    part = x.part;
+    input = x.input;
+    held = x.held;
+    others = x.others;
+    waits = same x.channel ∙ x.waits;
+    room = room_same x.part (zero ∷ x.held) x.room;
+  }
+
+  acts_same : ActsPlainly core old acting → ActsPlainly core new acting
+  acts_same (inl x) = inl (sends_same x)
+  acts_same (inr x) = inr (receives_same x)
+
+-- the first of the ready ones is taken, and then acts
+pub plainly_taken : (core : Process) (s : Store) (queues : QueuesState) (block : ℕ) → contents s.queues 0 ≡ held_words queues.region block ∷ contents queues 0
+    → KeepsOtherContents s.queues queues 0 → queues.region.free ≡ s.queues.region.free → MeetsPlainly core s → ActsPlainly core (record s { queues = queues }) (held_words queues.region block)
+plainly_taken core s queues block popped others free m =
+    let both : m.acting ∷ m.ready ≡ held_words queues.region block ∷ contents queues 0 = sym m.first ∙ popped in
+    let acting : m.acting ≡ held_words queues.region block = cc in
+    let mid : Store = record s { queues = queues } in
+    subst (ActsPlainly core mid) acting (acts_same core s mid refl (λ c. others (c + 1) (λ e. omega (arith, e))) free m.acting m.plainly)
+
+-- while queues work
+module _ (core : Process) (old mid : Store) (block : ℕ) (r : OnlyReads old mid) where
+  free_read : mid.queues.region.free ≡ old.queues.region.free
+  free_read = ap (λ (q : QueuesState). q.region.free) r.queues
+
+  pub sends_read : SendsPlainly core old (held_words old.queues.region block) → SendsPlainly core mid (held_words mid.queues.region block)
+  sends_read x = subst (SendsPlainly core mid) (sym (words_read old mid r block))
+      (sends_same core old mid r.heap (λ c. contents_read old mid r (c + 1)) free_read (held_words old.queues.region block) x)
+
+  pub receives_read : ReceivesPlainly core old (held_words old.queues.region block) → ReceivesPlainly core mid (held_words mid.queues.region block)
+  receives_read x = subst (ReceivesPlainly core mid) (sym (words_read old mid r block))
+      (receives_same core old mid r.heap (λ c. contents_read old mid r (c + 1)) free_read (held_words old.queues.region block) x)
+
+  pub acts_plainly_read : ActsPlainly core old (held_words old.queues.region block) → ActsPlainly core mid (held_words mid.queues.region block)
+  acts_plainly_read (inl x) = inl (sends_read x)
+  acts_plainly_read (inr x) = inr (receives_read x)
+
+pub nothing_read : (old mid new : Store) (result : Result Event AllocError) → OnlyReads old mid → TakesNothing mid new result → TakesNothing old new result
+nothing_read old mid new result r x = (x.0, λ width. x.1 width ∙ works_blocks old.queues mid.queues r.queues width)
+
+-- ---- which instructions meet plainly
+
+module _ (core : Process) (s : Store) (block : ℕ) (o : Op) (a : ActsBy core s block o) where
+  instruction_is : instruction_of (nodes_of core) (held_words s.queues.region block) ≡ Some o
+  instruction_is =
+      ap (instruction_of (nodes_of core)) a.is.words_are ∙ ap (option_map (λ (n : Node). n.op)) a.is.at ∙ ap Some a.op_is
+
+  -- an output of a node
+  pub flat_output : SendsPlainly core s (held_words s.queues.region block) → (chan message : Val) × (at : Span) × (o ≡ op.Out chan message at) × ¬ IsOfHeap message
+  flat_output x =
+      let f : IsFlatOutput (nodes_of core) (suc a.number ∷ a.is.frame) = subst (HasWord (nodes_of core)) a.is.words_are x.word in
+      let there : Some o ≡ Some (op.Out f.chan f.message f.at) = sym instruction_is ∙ ap (instruction_of (nodes_of core)) a.is.words_are ∙ f.is in
+      (f.chan, f.message, f.at, cc, f.flat)
+
+  -- an input that isn't replicated
+  pub plain_input : (x : ReceivesPlainly core s (held_words s.queues.region block)) → (chan : Val) × (pattern : CodePat) × (o ≡ op.In chan pattern x.part)
+  plain_input x =
+      let there : Some o ≡ Some (op.In x.input.chan x.input.pattern x.part) = sym instruction_is ∙ x.input.is in
+      (x.input.chan, x.input.pattern, cc)
+
+-- what has no partner doesn't meet
+abbrev pub HasPartner : Op → Type 0
+HasPartner op.Zero = ⊥
+HasPartner (op.Par left right) = ⊥
+HasPartner (op.New level part) = ⊥
+HasPartner (op.If test left right) = ⊥
+HasPartner (op.Out chan message at) = Unit {0}
+HasPartner (op.In chan pattern part) = Unit {0}
+HasPartner (op.Serve chan pattern part) = ⊥
+
+module _ (core : Process) (s : Store) (block : ℕ) (o : Op) (a : ActsBy core s block o) where
+  pub has_partner : ActsPlainly core s (held_words s.queues.region block) → HasPartner o
+  has_partner (inl x) = let f = flat_output core s block o a x in subst HasPartner (sym f.3) tt
+  has_partner (inr x) = let i = plain_input core s block o a x in subst HasPartner (sym i.2) tt
+
+-- a node's output sends, and its input receives
+pub output_sends : (core : Process) (s : Store) (block : ℕ) (chan message : Val) (at : Span) → ActsBy core s block (op.Out chan message at) → ActsPlainly core s (held_words s.queues.region block)
+    → SendsPlainly core s (held_words s.queues.region block)
+output_sends core s block chan message at a (inl x) = x
+output_sends core s block chan message at a (inr x) = let i = plain_input core s block (op.Out chan message at) a x in let e : op.Out chan message at ≡ op.In i.0 i.1 x.part = i.2 in cc
+
+pub input_receives : (core : Process) (s : Store) (block : ℕ) (chan : Val) (pattern : CodePat) (part : ℕ) → ActsBy core s block (op.In chan pattern part) → ActsPlainly core s (held_words s.queues.region block)
+    → ReceivesPlainly core s (held_words s.queues.region block)
+input_receives core s block chan pattern part a (inl x) = let f = flat_output core s block (op.In chan pattern part) a x in let e : op.In chan pattern part ≡ op.Out f.0 f.1 f.2 = f.3 in cc
+input_receives core s block chan pattern part a (inr x) = x
+
+-- an output of kept values sends
+pub kept_sends : (core : Process) (old mid : Store) (block : ℕ) → OnlyReads old mid → IsKept old.heap (held_words old.queues.region block) → ActsPlainly core old (held_words old.queues.region block)
+    → SendsPlainly core mid (held_words mid.queues.region block)
+kept_sends core old mid block r k (inl x) = sends_read core old mid block r x
+kept_sends core old mid block r k (inr x) = let e : instruction_of (nodes_of core) (kept_words k.kept) ≡ Some (op.In x.input.chan x.input.pattern x.part) = ap (instruction_of (nodes_of core)) (sym k.is) ∙ x.input.is in cc
+
+-- ---- the input that waits first
+
+plain_reader : (nodes : List Node) (waiting : List ℕ) (part : ℕ) (others : List (List ℕ)) → IsPlainInput nodes waiting part
+    → (number : ℕ) × (pattern : CodePat) × (oldest (waiting ∷ others) ≡ Input number) × IsInputWith nodes number false pattern part
+plain_reader nodes [] part others i = let e = i.is in cc
+plain_reader nodes (zero ∷ held) part others i = let e = i.is in cc
+plain_reader nodes (suc number ∷ held) part others i = there (slice_get nodes number) refl i.is
+  where
+    there : (n : Option Node) → slice_get nodes number ≡ n → option_map (λ (x : Node). x.op) n ≡ Some (op.In i.chan i.pattern part)
+        → (number' : ℕ) × (pattern : CodePat) × (oldest ((suc number ∷ held) ∷ others) ≡ Input number') × IsInputWith nodes number' false pattern part
+    there None at e = cc
+    there (Some n) at e = (number, i.pattern, refl, record { node = n; at = at; chan = i.chan; is = let f : Some n.op ≡ Some (op.In i.chan i.pattern part) = e in cc })
+
+-- an output that meets an input plainly, on this channel
+module _ (core : Process) (s : Store) (acting : List ℕ) (channel : ℕ) (v : Val) (at : Span) (is : process_of core (value_in s.heap) acting ≡ term.Out (Chan channel) v at) (x : SendsPlainly core s acting) where
+  sent_on : x.channel ≡ channel
+  sent_on = let e : term.Out (Chan x.channel) x.message x.at ≡ term.Out (Chan channel) v at = sym x.out ∙ is in cc
+
+  waits_there : contents s.queues (channel + 1) ≡ x.waiting ∷ x.others
+  waits_there = ap (λ (c : ℕ). contents s.queues (c + 1)) (sym sent_on) ∙ x.waits
+
+  pub serves : (number : ℕ) × (pattern : CodePat) × (waits_first s.queues channel ≡ Input number) × IsInputWith (nodes_of core) number false pattern x.part
+  serves =
+      let r = plain_reader (nodes_of core) x.waiting x.part x.others x.input in
+      (r.0, r.1, ap oldest waits_there ∙ r.2, r.3)
+
+-- a call of a primitive meets nothing
+pub no_plain_call : (core : Process) (s : Store) (acting : List ℕ) (p : Primitive) (v : Val) (at : Span) → process_of core (value_in s.heap) acting ≡ term.Out (PrimitiveVal p) v at → SendsPlainly core s acting → ⊥
+no_plain_call core s acting p v at is x = let e : term.Out (Chan x.channel) x.message x.at ≡ term.Out (PrimitiveVal p) v at = sym x.out ∙ is in cc
+
+-- an input that meets an output plainly, on this channel
+module _ (core : Process) (s : Store) (acting : List ℕ) (channel : ℕ) (replicated : Bool) (pattern : Pat) (body : Process)
+    (is : process_of core (value_in s.heap) acting ≡ term.In (Chan channel) replicated pattern body) (x : ReceivesPlainly core s acting) where
+  received_from : x.channel ≡ channel
+  received_from = let e : term.In (Chan x.channel) false x.pattern x.body ≡ term.In (Chan channel) replicated pattern body = sym x.receives ∙ is in cc
+
+  pub not_replicated : replicated ≡ false
+  not_replicated = let e : term.In (Chan x.channel) false x.pattern x.body ≡ term.In (Chan channel) replicated pattern body = sym x.receives ∙ is in cc
+
+  pub message_waits : waits_first s.queues channel ≡ Output
+  message_waits = ap (λ (c : ℕ). oldest (contents s.queues (c + 1))) (sym received_from) ∙ ap oldest x.waits
+
+-- ---- room
+
+-- a block of the width is free, and none is made
+module _ (old mid : Store) (width : ℕ) (r : OnlyReserves old mid) (makes : MakesOnly old.queues mid.queues (width ∷ [])) (one : 1 ≤ spare old.queues.region width) where
+  none_made : KeepsBlocks old.queues.region mid.queues.region
+  none_made w = by_side (w == width) refl
+    where
+      by_side : (b : Bool) → (w == width) ≡ b → blocks mid.queues.region w ≡ blocks old.queues.region w
+      by_side b test =
+          let low = r.spare w in
+          let same : live_blocks mid.queues.region w ≡ live_blocks old.queues.region w = ap (λ live. live_blocks (record old.queues.region { live = live }) w) r.live in
+          let most : blocks mid.queues.region w ≤ blocks old.queues.region w + ((cond b 1 0 + 0) - spare old.queues.region w) =
+          subst (λ (t : Bool). blocks mid.queues.region w ≤ blocks old.queues.region w + ((cond t 1 0 + 0) - spare old.queues.region w)) test (makes w) in
+          let free : cond b 1 0 + 0 ≤ spare old.queues.region w = some_free b test in
+          omega (arith, low, same, most, free)
+        where
+          some_free : (t : Bool) → (w == width) ≡ t → cond t 1 0 + 0 ≤ spare old.queues.region w
+          some_free false e = omega arith
+          some_free true e = let here : w ≡ width = grind (arith, nat_tests) in subst (λ (k : ℕ). 1 + 0 ≤ spare old.queues.region k) (sym here) (omega (arith, one))
+
+-- where one of the blocks that end is as wide, or one is free
+pub room_plain : {P : Type 0} (old mid : Store) (width : ℕ) (reuses : Bool) → OnlyReserves old mid → MakesOnly old.queues mid.queues (width ∷ []) → (IsTrue reuses → P) → (1 ≤ spare old.queues.region width → P)
+    → (IsTrue reuses → KeepsBlocks old.queues.region mid.queues.region) → 1 ≤ spare old.queues.region width ⊎ IsTrue reuses → P × KeepsBlocks old.queues.region mid.queues.region
+room_plain old mid width reuses r makes plain enough keeps (inl one) = (enough one, none_made old mid width r makes one)
+room_plain old mid width reuses r makes plain enough keeps (inr reused) = (plain reused, keeps reused)
+
+-- ---- how wide the blocks that meet are
+
+module _ (code : List written.Node) (is : IsCode (map plain_node code)) (s : Store) (store : IsStore (core_in code) s) (channel reader : ℕ) (first : waits_first s.queues channel ≡ Input reader) where
+  -- the block of the input that waits first
+  reader_wide : (own held : List ℕ) (rest : List (List ℕ)) → contents s.queues (channel + 1) ≡ (suc reader ∷ held) ∷ rest → HasFrame (map plain_node code) reader own → length (suc reader ∷ held) + 1 ≡ block_width own
+  reader_wide own held rest here has =
+      let f = first_input (core_in code) s.heap (contents s.queues (channel + 1)) reader (store.blocks (channel + 1)) (store.waiting channel) first in
+      let both : (suc reader ∷ f.held) ∷ f.rest ≡ (suc reader ∷ held) ∷ rest = sym f.is ∙ here in
+      let words : suc reader ∷ held ≡ suc reader ∷ f.held = cc in
+      let n = node_of (core_in code) s.heap reader f.held (suc reader ∷ held) words f.block in
+      let at : slice_get (map plain_node code) reader ≡ Some n.0.node = ap (λ (ns : List Node). slice_get ns reader) (sym is.nodes_are) ∙ ap (slice_get (nodes_of (core_in code))) (sym n.1) ∙ n.0.at in
+      node_wide (core_in code) s.heap (suc reader ∷ held) n.0
+      ∙ ap block_width (same_frame (map plain_node code) reader n.0.node.frame own (record { node = n.0.node; at = at; is = refl }) has)
+
+  -- one of those that are given back is as wide as that of the frame
+  pub one_given : (acting : List ℕ) (width : ℕ) → length acting + 1 ≡ width → (replicated : Bool) (pattern : CodePat) (part : ℕ) → IsInputWith (map plain_node code) reader replicated pattern part
+      → (frame : List ℕ) → width ≡ block_width frame ⊎ EndsAsWide (map plain_node code) reader frame
+      → 1 ≤ as_wide (block_width frame) (acting ∷ cond replicated [] (take 1 (contents s.queues (channel + 1))))
+  one_given acting width wide replicated pattern part i frame (inl e) = first_reused (block_width frame) acting (cond replicated [] (take 1 (contents s.queues (channel + 1)))) (wide ∙ e)
+  one_given acting width wide replicated pattern part i frame (inr e) =
+      let f = first_input (core_in code) s.heap (contents s.queues (channel + 1)) reader (store.blocks (channel + 1)) (store.waiting channel) first in
+      let same = same_input (map plain_node code) reader replicated false pattern e.pattern part e.part i e.input in
+      let given : cond replicated [] (take 1 (contents s.queues (channel + 1))) ≡ (suc reader ∷ f.held) ∷ [] =
+      ap (λ (b : Bool). cond b [] (take 1 (contents s.queues (channel + 1)))) same.0 ∙ ap (take 1) f.is in
+      subst (λ (ws : List (List ℕ)). 1 ≤ as_wide (block_width frame) (acting ∷ ws)) (sym given)
+      (second_reused (block_width frame) acting (suc reader ∷ f.held) [] (reader_wide e.own f.held f.rest f.is e.has ∙ e.wide))
+
+  module _ (acting : List ℕ) (v : Val) (at : Span) (out : process_of (core_in code) (value_in s.heap) acting ≡ term.Out (Chan channel) v at) (x : SendsPlainly (core_in code) s acting) where
+    -- the input that waits first is the one that meets plainly
+    pub served : (pattern : CodePat) × IsInputWith (map plain_node code) reader false pattern x.part
+    served =
+        let r = serves (core_in code) s acting channel v at out x in
+        let e : Input r.0 ≡ Input reader = sym r.2 ∙ first in
+        let same : r.0 ≡ reader = cc in
+        (r.1, subst (λ (ns : List Node). IsInputWith ns reader false r.1 x.part) is.nodes_are (subst (λ (n : ℕ). IsInputWith (nodes_of (core_in code)) n false r.1 x.part) same r.3))
+
+    pub part_has : HasFrame (map plain_node code) x.part x.room.frame
+    part_has = subst (λ (ns : List Node). HasFrame ns x.part x.room.frame) is.nodes_are x.room.has
+
+    pub sends_room : (width : ℕ) → length acting + 1 ≡ width → (frame : List ℕ) → frame ≡ x.room.frame
+        → 1 ≤ spare s.queues.region (block_width frame) ⊎ (width ≡ block_width frame ⊎ EndsAsWide (map plain_node code) reader frame)
+    sends_room width wide frame same = subst (λ (f : List ℕ). 1 ≤ spare s.queues.region (block_width f) ⊎ (width ≡ block_width f ⊎ EndsAsWide (map plain_node code) reader f)) (sym same) (cases x.room.room)
+      where
+        cases : 1 ≤ spare s.queues.region (block_width x.room.frame) ⊎ length acting + 1 ≡ block_width x.room.frame ⊎ length x.waiting + 1 ≡ block_width x.room.frame
+            → 1 ≤ spare s.queues.region (block_width x.room.frame) ⊎ (width ≡ block_width x.room.frame ⊎ EndsAsWide (map plain_node code) reader x.room.frame)
+        cases (inl one) = inl one
+        cases (inr (inl e)) = inr (inl (sym wide ∙ e))
+        cases (inr (inr e)) =
+            let f = first_input (core_in code) s.heap (contents s.queues (channel + 1)) reader (store.blocks (channel + 1)) (store.waiting channel) first in
+            let both : (suc reader ∷ f.held) ∷ f.rest ≡ x.waiting ∷ x.others = sym f.is ∙ waits_there (core_in code) s acting channel v at out x in
+            let words : x.waiting ≡ suc reader ∷ f.held = cc in
+            let i = served.1 in
+            let own : HasFrame (map plain_node code) reader i.node.frame = record { node = i.node; at = i.at; is = refl } in
+            inr (inr (record {
+              pattern = served.0;
+              part = x.part;
+              input = i;
+              own = i.node.frame;
+              has = own;
+              wide = sym (reader_wide i.node.frame f.held f.rest f.is own) ∙ ap (λ (ws : List ℕ). length ws + 1) (sym words) ∙ e;
+            }))
+
+    -- room for the part is made without memory
+    pub sends_kept : {P : Type 0} (mid : Store) (width : ℕ) (frame : List ℕ) (reuses : Bool) → length acting + 1 ≡ width → frame ≡ x.room.frame
+        → (width ≡ block_width frame ⊎ EndsAsWide (map plain_node code) reader frame → IsTrue reuses) → OnlyReserves s mid → MakesOnly s.queues mid.queues (block_width frame ∷ [])
+        → (IsTrue reuses → length frame ≤ 32000 → P) → (length frame ≤ 32000 → 1 ≤ spare s.queues.region (block_width frame) → P)
+        → (IsTrue reuses → length frame ≤ 32000 → KeepsBlocks s.queues.region mid.queues.region) → P × KeepsBlocks s.queues.region mid.queues.region
+    sends_kept mid width frame reuses wide same tells r makes plain enough keeps =
+        let narrow : length frame ≤ 32000 = subst (λ (f : List ℕ). length f ≤ 32000) (sym same) x.room.narrow in
+        room_plain s mid (block_width frame) reuses r makes (λ reused. plain reused narrow) (enough narrow) (λ reused. keeps reused narrow)
+        (⊎_elim (λ one. inl one) (λ fits. inr (tells fits)) (sends_room width wide frame same))
+
+-- ---- an input's own block
+
+-- which is given back where it isn't replicated
+pub own_given : (replicated : Bool) (acting : List ℕ) (width : ℕ) (frame : List ℕ) → length acting + 1 ≡ width → (replicated ≡ false) × (width ≡ block_width frame)
+    → 1 ≤ as_wide (block_width frame) (cond replicated [] (acting ∷ []))
+own_given replicated acting width frame wide e =
+    subst (λ (b : Bool). 1 ≤ as_wide (block_width frame) (cond b [] (acting ∷ []))) (sym e.0) (first_reused (block_width frame) acting [] (wide ∙ e.1))
+
+pub same_part : (replicated : Bool) (v w : Val) (p q : CodePat) (l m : ℕ) → input_op replicated v p l ≡ op.In w q m → l ≡ m
+same_part true v w p q l m e = cc
+same_part false v w p q l m e = cc
+
+-- what waits first is a message
+pub message_length : (core : Process) (s : Store) (acting : List ℕ) → IsStore core s → (x : ReceivesPlainly core s acting) → length (zero ∷ x.held) ≡ 8
+message_length core s acting store x =
+    let f = first_message core s.heap (contents s.queues (x.channel + 1)) (store.blocks (x.channel + 1)) (ap oldest x.waits) in
+    let both : (zero ∷ x.held) ∷ x.others ≡ kept_words f.kept ∷ f.rest = sym x.waits ∙ f.is in
+    let words : zero ∷ x.held ≡ kept_words f.kept = cc in
+    ap length words
+
+-- a message's block is never as wide as that of a frame
+even_width : (frame : List ℕ) → length frame ≤ 32000 → 9 ≡ block_width frame → ⊥
+even_width frame narrow e = let w = width_narrow frame narrow in omega (arith, w, e)
+
+pub receives_room : (core : Process) (s : Store) (acting : List ℕ) (x : ReceivesPlainly core s acting) (width : ℕ) → length acting + 1 ≡ width → length (zero ∷ x.held) ≡ 8 → (frame : List ℕ) → frame ≡ x.room.frame
+    → 1 ≤ spare s.queues.region (block_width frame) ⊎ width ≡ block_width frame
+receives_room core s acting x width wide message frame same = subst (λ (f : List ℕ). 1 ≤ spare s.queues.region (block_width f) ⊎ width ≡ block_width f) (sym same) (cases x.room.room)
+  where
+    cases : 1 ≤ spare s.queues.region (block_width x.room.frame) ⊎ length acting + 1 ≡ block_width x.room.frame ⊎ length (zero ∷ x.held) + 1 ≡ block_width x.room.frame
+        → 1 ≤ spare s.queues.region (block_width x.room.frame) ⊎ width ≡ block_width x.room.frame
+    cases (inl one) = inl one
+    cases (inr (inl e)) = inr (sym wide ∙ e)
+    cases (inr (inr e)) = absurd (even_width x.room.frame x.room.narrow (omega (arith, message, e)))
+
+pub receives_kept : {P : Type 0} (core : Process) (s mid : Store) (acting : List ℕ) (x : ReceivesPlainly core s acting) (width : ℕ) (frame : List ℕ) (reuses : Bool) → length acting + 1 ≡ width
+    → length (zero ∷ x.held) ≡ 8 → frame ≡ x.room.frame → (width ≡ block_width frame → IsTrue reuses) → OnlyReserves s mid → MakesOnly s.queues mid.queues (block_width frame ∷ [])
+    → (IsTrue reuses → length frame ≤ 32000 → P) → (length frame ≤ 32000 → 1 ≤ spare s.queues.region (block_width frame) → P)
+    → (IsTrue reuses → length frame ≤ 32000 → KeepsBlocks s.queues.region mid.queues.region) → P × KeepsBlocks s.queues.region mid.queues.region
+receives_kept core s mid acting x width frame reuses wide message same tells r makes plain enough keeps =
+    let narrow : length frame ≤ 32000 = subst (λ (f : List ℕ). length f ≤ 32000) (sym same) x.room.narrow in
+    room_plain s mid (block_width frame) reuses r makes (λ reused. plain reused narrow) (enough narrow) (λ reused. keeps reused narrow)
+    (⊎_elim (λ one. inl one) (λ fits. inr (tells fits)) (receives_room core s acting x width wide message frame same))

@@ -1,0 +1,94 @@
+-- Steps that take no memory: a message and an input that isn't replicated meet.
+use Rattle.std.specs.Prelude.{◌≡◌, ◌≤◌, ◌+◌, ◌⊎◌, ℕ, zero, suc, false, List, [], ◌∷◌, length, slice_get}
+use Rattle.std.specs.Prelude.{Option, Some, None, option_map, Result, IsOk}
+use Rattle.std.specs.declared.alloc.AllocError.{AllocError}
+use Rattle.pict_syntax.specs.declared.span.Span.{Span}
+use Rattle.pict_core.specs.Term as term
+use Rattle.pict_core.specs.Term.{Process, Val, Pat, Chan}
+use Rattle.pict_code.specs.Instruction.{Op, Out, In, Node, CodePat}
+use Rattle.pict_code.specs.Nodes.{nodes_of}
+use Rattle.pict_region.specs.RegionState.{spare, KeepsBlocks}
+use Rattle.pict_queue.specs.Contents.{contents}
+use Rattle.pict_blocks.specs.Blocks.{value_in, process_of}
+use Rattle.pict_operands.specs.AtHand.{IsOfHeap}
+use Rattle.pict_turns.specs.Parts.{block_width}
+use Rattle.pict_turns.specs.Reading.{HasFrame}
+use Rattle.pict_turns.specs.declared.store.Store.{Store}
+use Rattle.pict_machine.specs.declared.event.Event.{Event}
+
+-- the instruction of a block with these words behind its link, if it is one of a node
+abbrev pub instruction_of : List Node → List ℕ → Option Op
+instruction_of nodes (suc number ∷ held) = option_map (λ (n : Node). n.op) (slice_get nodes number)
+instruction_of nodes _ = None
+
+-- an input that isn't replicated, with this part
+pub record IsPlainInput (nodes : List Node) (words : List ℕ) (part : ℕ) : Type 0 where
+  pub chan : Val
+  pub pattern : CodePat
+  pub is : instruction_of nodes words ≡ Some (In chan pattern part)
+
+-- an output of a node, whose message is no text and no record
+pub record IsFlatOutput (nodes : List Node) (words : List ℕ) : Type 0 where
+  pub chan : Val
+  pub message : Val
+  pub at : Span
+  pub is : instruction_of nodes words ≡ Some (Out chan message at)
+  pub flat : ¬ IsOfHeap message
+
+-- an output of kept values, or one of a node whose message is no text and no record
+abbrev pub HasWord : List Node → List ℕ → Type 0
+HasWord nodes [] = ⊥
+HasWord nodes (zero ∷ held) = Unit {0}
+HasWord nodes (suc number ∷ held) = IsFlatOutput nodes (suc number ∷ held)
+
+-- The frame of the part stands in a block itself, and a block of its width is free, or one of the two that meet is as wide.
+pub record HasPlainRoom (core : Process) (s : Store) (part : ℕ) (acting waiting : List ℕ) : Type 0 where
+  pub frame : List ℕ
+  pub has : HasFrame (nodes_of core) part frame
+  pub narrow : length frame ≤ 32000
+  pub room : 1 ≤ spare s.queues.region (block_width frame)
+      ⊎ length acting + 1 ≡ block_width frame ⊎ length waiting + 1 ≡ block_width frame
+
+-- The block with these words is an output on a channel where an input that isn't replicated waits first, and meets it plainly.
+pub record SendsPlainly (core : Process) (s : Store) (acting : List ℕ) : Type 0 where
+  pub channel : ℕ
+  pub message : Val
+  pub at : Span
+  pub out : process_of core (value_in s.heap) acting ≡ term.Out (Chan channel) message at
+  pub word : HasWord (nodes_of core) acting
+  pub waiting : List ℕ
+  pub others : List (List ℕ)
+  pub waits : contents s.queues (channel + 1) ≡ waiting ∷ others
+  pub part : ℕ
+  pub input : IsPlainInput (nodes_of core) waiting part
+  pub room : HasPlainRoom core s part acting waiting
+
+-- The block with these words is an input that isn't replicated, from a channel where an output of kept values waits first, and
+-- meets it plainly.
+pub record ReceivesPlainly (core : Process) (s : Store) (acting : List ℕ) : Type 0 where
+  pub channel : ℕ
+  pub pattern : Pat
+  pub body : Process
+  pub receives : process_of core (value_in s.heap) acting ≡ term.In (Chan channel) false pattern body
+  pub part : ℕ
+  pub input : IsPlainInput (nodes_of core) acting part
+  pub held : List ℕ
+  pub others : List (List ℕ)
+  pub waits : contents s.queues (channel + 1) ≡ (zero ∷ held) ∷ others
+  pub room : HasPlainRoom core s part acting (zero ∷ held)
+
+-- the block with these words acts, and a message and an input that isn't replicated meet plainly
+abbrev pub ActsPlainly : Process → Store → List ℕ → Type 0
+ActsPlainly core s acting = SendsPlainly core s acting ⊎ ReceivesPlainly core s acting
+
+-- A message and an input that isn't replicated meet in the step of the first of the ready ones. What is sent is no operand that
+-- is a text or a record, and there is a block for the input's part, once the blocks of the two that meet are given back.
+pub record MeetsPlainly (core : Process) (s : Store) : Type 0 where
+  pub acting : List ℕ
+  pub ready : List (List ℕ)
+  pub first : contents s.queues 0 ≡ acting ∷ ready
+  pub plainly : ActsPlainly core s acting
+
+-- the step is done, and there are as many blocks as before, of every width
+abbrev pub TakesNothing : Store → Store → Result Event AllocError → Type 0
+TakesNothing old new result = IsOk result × KeepsBlocks old.queues.region new.queues.region
