@@ -423,3 +423,37 @@ fn one_step(rt: HostRuntime) -> Result<(), AllocError> {
     }
     Ok(())
 }
+
+/// How often words of blocks were touched, up to the end of the first so many steps of the text's run; nothing where the text is
+/// refused.
+fn work_after(alloc: Global, text: &[u8], steps: u64) -> Result<Option<u64>, AllocError>
+    requires { steps ≤ FUEL_LIMIT }
+{
+    let Some(core) = accepted(alloc, text) else {
+        return Ok(None);
+    };
+    let mut machine = Machine::load_core(alloc, core)?;
+    let mut notes = Notes::new(alloc);
+    match machine.run_counted(steps, &mut notes) {
+        Ok(_) => Ok(Some(machine.queues().work())),
+        Err(_) => Ok(None),
+    }
+}
+
+// Each step may touch 64 times as many words as its instruction and its partner are large: 2, 4, 4, 3, 5 and 4, 1, and 4. The
+// size of an instruction is 1, the levels in its frame and in those of its parts, and the nodes of its operands and patterns.
+#[test]
+fn steps_work_within_their_costs(rt: HostRuntime) -> Result<(), AllocError> {
+    let alloc = rt.alloc();
+    let text = b"new c:^Int run c!1 run c?n = printi!n";
+    let mut before = work_after(alloc, text, 0)?;
+    for (steps, cost) in (1..).zip([128, 256, 256, 192, 576, 64, 256]) {
+        let after = work_after(alloc, text, steps)?;
+        match (before, after) {
+            (Some(before), Some(after)) => assert!(rt; before < after && after - before <= cost),
+            _ => assert!(rt; false),
+        }
+        before = after;
+    }
+    Ok(())
+}

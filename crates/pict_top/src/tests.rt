@@ -490,24 +490,61 @@ fn refusals(rt: HostRuntime) -> Result<(), AllocError> {
     Ok(())
 }
 
+/// So many copies of a piece, between a beginning and an end.
+fn repeated(
+    alloc: Global,
+    front: &[u8],
+    piece: &[u8],
+    count: usize,
+    back: &[u8],
+) -> Result<Vec<u8>, AllocError> {
+    let mut text = Vec::from_slice(alloc, front)?;
+    for _ in 0..count {
+        text.extend_from_slice(piece)?;
+    }
+    text.extend_from_slice(back)?;
+    Ok(text)
+}
+
 #[test]
 fn nesting(rt: HostRuntime) -> Result<(), AllocError> {
-    let mut text = Vec::from_slice(rt.alloc(), b"type A = ")?;
-    for _ in 0..200 {
-        text.push(b'^')?;
-    }
-    text.extend_from_slice(b"Int")?;
-    try_case(&rt, rt.alloc(), &done(&text, b""))?;
-    let mut text = Vec::from_slice(rt.alloc(), b"type A = ")?;
-    for _ in 0..201 {
-        text.push(b'^')?;
-    }
-    text.extend_from_slice(b"Int")?;
-    try_case(
-        &rt,
-        rt.alloc(),
-        &refused(&text, b"F:1:210: P2 nested too deep\n"),
-    )
+    let a = rt.alloc();
+    let text = repeated(a, b"type A = ", b"^", 200, b"Int")?;
+    try_case(&rt, a, &done(&text, b""))?;
+    let text = repeated(a, b"type A = ", b"^", 201, b"Int")?;
+    try_case(&rt, a, &refused(&text, b"F:1:210: P2 nested too deep\n"))?;
+    let text = repeated(a, b"type A = (rec X = ", b"^", 199, b"X)")?;
+    try_case(&rt, a, &done(&text, b""))?;
+    let text = repeated(a, b"type A = (rec X = ", b"^", 200, b"X)")?;
+    try_case(&rt, a, &refused(&text, b"F:1:218: P2 nested too deep\n"))
+}
+
+/// Types of the weights 3, 7, 15 and so on, to 65,535.
+const DOUBLINGS: &[u8] = b"type A1 = [Int Int]
+type A2 = [A1 A1]
+type A3 = [A2 A2]
+type A4 = [A3 A3]
+type A5 = [A4 A4]
+type A6 = [A5 A5]
+type A7 = [A6 A6]
+type A8 = [A7 A7]
+type A9 = [A8 A8]
+type A10 = [A9 A9]
+type A11 = [A10 A10]
+type A12 = [A11 A11]
+type A13 = [A12 A12]
+type A14 = [A13 A13]
+type A15 = [A14 A14]
+type B = [A15 A14 A9 A8 A6 A4 A1 Int Int";
+
+/// Types of the weights 100,000 and 100,001.
+#[test]
+fn the_greatest_weight(rt: HostRuntime) -> Result<(), AllocError> {
+    let a = rt.alloc();
+    let text = repeated(a, DOUBLINGS, b"", 0, b"]")?;
+    try_case(&rt, a, &done(&text, b""))?;
+    let text = repeated(a, DOUBLINGS, b" Int", 1, b"]")?;
+    try_case(&rt, a, &refused(&text, b"F:16:10: K4 type too big\n"))
 }
 
 #[test]
@@ -541,6 +578,11 @@ fn failing_devices(rt: HostRuntime) -> Result<(), AllocError> {
             out: b"",
             err: b"F: ",
             ..HELLO
+        },
+        Case {
+            err_fails: Some(Fail { call: 1, takes: 3 }),
+            status: Status::WriteFault,
+            ..refused(b"run print!", b"F:1")
         },
         Case {
             words: &["run", "--bare", "--fuel", "2", "F"],
@@ -675,6 +717,43 @@ fn preludes(rt: HostRuntime) -> Result<(), AllocError> {
     Ok(())
 }
 
+/// Each of the two writes of the counter server fails in turn, after one byte.
+#[test]
+fn each_write_fails_in_turn(rt: HostRuntime) -> Result<(), AllocError> {
+    let outs: [&[u8]; 3] = [b"t", b"total 6", b"total 6"];
+    for (call, out) in (1..).zip(outs) {
+        let status = if call < 3 {
+            Status::WriteFault
+        } else {
+            Status::Done
+        };
+        let case = Case {
+            words: &["run", "F"],
+            text: SERVER,
+            out_fails: Some(Fail { call, takes: 1 }),
+            status,
+            out,
+            ..HELLO
+        };
+        try_case(&rt, rt.alloc(), &case)?;
+    }
+    Ok(())
+}
+
+/// A sink that is full within the counter server's first write.
+#[test]
+fn a_full_sink(rt: HostRuntime) -> Result<(), AllocError> {
+    let a = rt.alloc();
+    let mut shelf = shelf_of(a, SERVER, false)?;
+    let mut out = MemorySink::new(a, 3, Vec::new(a))?;
+    let mut err = sink_of(a, None)?;
+    let status = pict(a, &["run", "F"], &mut shelf, &mut out, &mut err);
+    assert_eq!(rt; status, Status::WriteFault);
+    assert!(rt; out.taken() == b"tot".as_slice());
+    assert!(rt; err.taken() == b"".as_slice());
+    Ok(())
+}
+
 /// The listing of the program behind the prelude has a line for each of its nodes.
 #[test]
 fn listing_behind_the_prelude(rt: HostRuntime) -> Result<(), AllocError> {
@@ -728,12 +807,10 @@ fn texts_of_the_greatest_length(rt: HostRuntime) -> Result<(), AllocError> {
 
 #[test]
 fn the_greatest_depth(rt: HostRuntime) -> Result<(), AllocError> {
-    let mut text = Vec::new(rt.alloc());
-    for _ in 0..4999 {
-        text.extend_from_slice(b"run ()\n")?;
-    }
-    try_steps(&rt, rt.alloc(), &text, ("9999", "9998"), (b"", b""))?;
-    text.extend_from_slice(b"run ()\n")?;
+    let a = rt.alloc();
+    let text = repeated(a, b"", b"run ()\n", 4999, b"")?;
+    try_steps(&rt, a, &text, ("9999", "9998"), (b"", b""))?;
+    let text = repeated(a, b"", b"run ()\n", 5000, b"")?;
     let err = b"F:1:1: C1 process too deep\n";
-    try_case(&rt, rt.alloc(), &refused(&text, err))
+    try_case(&rt, a, &refused(&text, err))
 }
