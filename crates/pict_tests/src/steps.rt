@@ -121,9 +121,13 @@ impl Notes {
 
 // ---- the run by the machine, and by the definition
 
-/// How the run of an accepted text with this fuel ends, after how many steps, and the lines that it shows; nothing where
-/// the text is refused.
-fn ran(alloc: Global, text: &[u8], fuel: u64) -> Result<Option<(Stopped, Vec<u8>)>, AllocError>
+/// The machine after the run of an accepted text with this fuel, how the run ended, and what it showed; nothing where the text
+/// is refused.
+fn machine_after(
+    alloc: Global,
+    text: &[u8],
+    fuel: u64,
+) -> Result<Option<(Machine, Stopped, Notes)>, AllocError>
     requires { fuel ≤ FUEL_LIMIT }
 {
     let Some(core) = accepted(alloc, text) else {
@@ -132,8 +136,19 @@ fn ran(alloc: Global, text: &[u8], fuel: u64) -> Result<Option<(Stopped, Vec<u8>
     let mut machine = Machine::load_core(alloc, core)?;
     let mut notes = Notes::new(alloc);
     match machine.run_counted(fuel, &mut notes) {
-        Ok(stopped) => Ok(Some((stopped, notes.text))),
+        Ok(stopped) => Ok(Some((machine, stopped, notes))),
         Err(_) => Ok(None),
+    }
+}
+
+/// How the run of an accepted text with this fuel ends, after how many steps, and the lines that it shows; nothing where
+/// the text is refused.
+fn ran(alloc: Global, text: &[u8], fuel: u64) -> Result<Option<(Stopped, Vec<u8>)>, AllocError>
+    requires { fuel ≤ FUEL_LIMIT }
+{
+    match machine_after(alloc, text, fuel)? {
+        Some((_, stopped, notes)) => Ok(Some((stopped, notes.text))),
+        None => Ok(None),
     }
 }
 
@@ -424,36 +439,38 @@ fn one_step(rt: HostRuntime) -> Result<(), AllocError> {
     Ok(())
 }
 
-/// How often words of blocks were touched, up to the end of the first so many steps of the text's run; nothing where the text is
-/// refused.
-fn work_after(alloc: Global, text: &[u8], steps: u64) -> Result<Option<u64>, AllocError>
-    requires { steps ≤ FUEL_LIMIT }
+/// How often words of blocks were touched until the end of the text's run with this fuel; nothing where the text is refused.
+fn work_after(alloc: Global, text: &[u8], fuel: u64) -> Result<Option<u64>, AllocError>
+    requires { fuel ≤ FUEL_LIMIT }
 {
-    let Some(core) = accepted(alloc, text) else {
-        return Ok(None);
-    };
-    let mut machine = Machine::load_core(alloc, core)?;
-    let mut notes = Notes::new(alloc);
-    match machine.run_counted(steps, &mut notes) {
-        Ok(_) => Ok(Some(machine.queues().work())),
-        Err(_) => Ok(None),
+    match machine_after(alloc, text, fuel)? {
+        Some((machine, _, _)) => Ok(Some(machine.queues().work())),
+        None => Ok(None),
     }
 }
 
-// Each step may touch 64 times as many words as its instruction and its partner are large: 2, 4, 4, 3, 5 and 4, 1, and 4. The
+// A step may touch 64 times as many words as its instruction and its partner's are large: 2, 4, 4, 3, 5 and 4, 1, and 4. The
 // size of an instruction is 1, the levels in its frame and in those of its parts, and the nodes of its operands and patterns.
 #[test]
 fn steps_work_within_their_costs(rt: HostRuntime) -> Result<(), AllocError> {
     let alloc = rt.alloc();
     let text = b"new c:^Int run c!1 run c?n = printi!n";
-    let mut before = work_after(alloc, text, 0)?;
-    for (steps, cost) in (1..).zip([128, 256, 256, 192, 576, 64, 256]) {
-        let after = work_after(alloc, text, steps)?;
+    let costs: [(u64, u64); 7] = [
+        (0, 128),
+        (1, 256),
+        (2, 256),
+        (3, 192),
+        (4, 576),
+        (5, 64),
+        (6, 256),
+    ];
+    for (steps, cost) in costs {
+        let before = work_after(alloc, text, steps)?;
+        let after = work_after(alloc, text, steps + 1)?;
         match (before, after) {
             (Some(before), Some(after)) => assert!(rt; before < after && after - before <= cost),
             _ => assert!(rt; false),
         }
-        before = after;
     }
     Ok(())
 }

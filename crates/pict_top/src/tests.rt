@@ -720,13 +720,12 @@ fn preludes(rt: HostRuntime) -> Result<(), AllocError> {
 /// Each of the two writes of the counter server fails in turn, after one byte.
 #[test]
 fn each_write_fails_in_turn(rt: HostRuntime) -> Result<(), AllocError> {
-    let outs: [&[u8]; 3] = [b"t", b"total 6", b"total 6"];
-    for (call, out) in (1..).zip(outs) {
-        let status = if call < 3 {
-            Status::WriteFault
-        } else {
-            Status::Done
-        };
+    let rows: [(u64, Status, &[u8]); 3] = [
+        (1, Status::WriteFault, b"t"),
+        (2, Status::WriteFault, b"total 6"),
+        (3, Status::Done, b"total 6"),
+    ];
+    for (call, status, out) in rows {
         let case = Case {
             words: &["run", "F"],
             text: SERVER,
