@@ -23,6 +23,7 @@ use pict_turns::{KEPT_WIDTH, Store, reserve};
 use std::alloc::AllocError;
 
 // Does what the primitive is about to do for the held block, which acts, as `call` says.
+#[inline(always)]
 fn carry_out(store: &mut Store, block: Block, act: Act, at: Span) -> Result<Called, AllocError>
     requires queue { IsQueue store.old.queues 0 }
     requires held { IsHeld store.old.queues block }
@@ -48,6 +49,7 @@ fn carry_out(store: &mut Store, block: Block, act: Act, at: Span) -> Result<Call
 /// prints, or answers, or both; the answer's output, of kept values at the same place, has the turn. Dividing by zero and an
 /// error, which is want of memory, change nothing but room, spare blocks and work: the block is the first of the ready ones
 /// again.
+#[inline(always)]
 pub fn call(
     store: &mut Store,
     block: Block,
@@ -74,6 +76,7 @@ pub fn call(
 }
 
 /// What the primitive is about to do with these fields of a record, which it takes.
+#[inline(always)]
 pub(crate) fn act_of(heap: &Heap, p: Prim, fields: &[Word]) -> Act
     requires words { All (IsWord heap.now) fields.now }
     requires takes { (labelled : Labelled) × IsSome (effect_of p (record_of_words heap.now fields.now labelled)) }
@@ -87,6 +90,7 @@ pub(crate) fn act_of(heap: &Heap, p: Prim, fields: &[Word]) -> Act
 }
 
 /// The same as `call`, of a record with these fields and any labels. The record need not be in the heap.
+#[inline(always)]
 pub(crate) fn call_words(
     store: &mut Store,
     block: Block,

@@ -18,6 +18,7 @@ use pict_syntax::Span;
 use pict_turns::Store;
 
 /// How many blocks of outputs the act leaves: one where it answers.
+#[inline(always)]
 pub(crate) fn outputs(act: Act) -> u64
     ensures { result ≡ outputs_of act }
 {
@@ -29,6 +30,7 @@ pub(crate) fn outputs(act: Act) -> u64
 }
 
 // The kept words of the output of a message on a word, at this place.
+#[inline(always)]
 fn output(to: Word, message: Word, at: Span) -> Kept
     ensures { (h : HeapState) → IsWord h to → IsWord h message → IsOutput h (value_of h to) (value_of h message) at result }
 {
@@ -40,6 +42,7 @@ fn output(to: Word, message: Word, at: Span) -> Kept
 }
 
 // The held block ends, and the output of kept values has the turn. Takes no memory.
+#[inline(always)]
 fn leave_output(queues: &mut Queues, block: Block, kept: Kept)
     requires queue { IsQueue queues.old 0 }
     requires held { IsHeld queues.old block }
@@ -59,6 +62,7 @@ fn leave_output(queues: &mut Queues, block: Block, kept: Kept)
 
 /// The act is done, and the held block, which had the turn before the ready ones, ends; where there is a trap it is the first
 /// of the ready ones again. Takes no memory.
+#[inline(always)]
 pub(crate) fn finish(store: &mut Store, block: Block, act: Act, at: Span) -> Called
     requires queue { IsQueue store.old.queues 0 }
     requires held { IsHeld store.old.queues block }

@@ -29,6 +29,7 @@ use pict_turns::{KEPT_WIDTH, Store, reserve};
 use std::alloc::AllocError;
 
 // The held block, which acts, is the output of this text to `print`, at this place in the text: as `call` says.
+#[inline(always)]
 fn print_text(store: &mut Store, block: Block, bytes: &[u8], at: Span) -> Result<Called, AllocError>
     requires queue { IsQueue store.old.queues 0 }
     requires held { IsHeld store.old.queues block }
@@ -57,6 +58,7 @@ fn print_text(store: &mut Store, block: Block, bytes: &[u8], at: Span) -> Result
 }
 
 // The same as `call_operand`, of a text or a record.
+#[inline(always)]
 fn call_made(
     store: &mut Store,
     block: Block,
@@ -91,6 +93,7 @@ fn call_made(
 /// of kept values at the same place, has the turn. Dividing by zero and an error, which is want of memory, change nothing but
 /// room, spare blocks and work: the block is the first of the ready ones again. A record that is the operand is not made. It takes
 /// time in the nodes of the operand and in the bytes of texts.
+#[inline(always)]
 pub fn call_operand(
     store: &mut Store,
     block: Block,

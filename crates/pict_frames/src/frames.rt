@@ -10,6 +10,7 @@ use pict_queue::Queues;
 use pict_region::Block;
 
 // Writes a value into a held block, at this word and the next.
+#[inline(always)]
 pub(crate) fn write_pair(queues: &mut Queues, block: &Block, place: u32, pair: (u64, u64))
     requires held { IsHeld queues.old block.now }
     requires inside { place + 1 < width_of queues.old.region block.now }
@@ -24,6 +25,7 @@ pub(crate) fn write_pair(queues: &mut Queues, block: &Block, place: u32, pair: (
 
 /// Writes the values of a frame into a held block, from word 2 on: the two words of each level, from their place among
 /// `values`. Takes no memory.
+#[inline(always)]
 pub fn write_frame(queues: &mut Queues, block: &Block, frame: &[u32], values: &[(u64, u64)])
     requires held { IsHeld queues.old block.now }
     requires wide { width_of queues.old.region block.now ≡ 2 + 2 * length frame.now }
@@ -40,6 +42,7 @@ pub fn write_frame(queues: &mut Queues, block: &Block, frame: &[u32], values: &[
 }
 
 // The value of a held block at this word and the next.
+#[inline(always)]
 pub(crate) fn read_pair(queues: &mut Queues, block: &Block, place: u32) -> (u64, u64)
     requires held { IsHeld queues.old block.now }
     requires inside { place + 1 < width_of queues.old.region block.now }
@@ -54,6 +57,7 @@ pub(crate) fn read_pair(queues: &mut Queues, block: &Block, place: u32) -> (u64,
 }
 
 /// Reads the values of a frame out of a held block, each to the place of its level among `values`. Takes no memory.
+#[inline(always)]
 pub fn read_frame(queues: &mut Queues, block: &Block, frame: &[u32], values: &mut [(u64, u64)])
     requires held { IsHeld queues.old block.now }
     requires wide { width_of queues.old.region block.now ≡ 2 + 2 * length frame.now }

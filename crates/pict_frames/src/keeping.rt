@@ -24,6 +24,7 @@ pub struct Kept {
 }
 
 /// A new block of an output of kept values. Takes no memory.
+#[inline(always)]
 pub fn kept_block(queues: &mut Queues, kept: Kept) -> Block
     requires spare { 1 ≤ spare queues.old.region 9 }
     ensures made { IsMade queues.old queues.new result (kept_words kept) 9 }
@@ -43,6 +44,7 @@ pub fn kept_block(queues: &mut Queues, kept: Kept) -> Block
 }
 
 /// The output of kept values that a held block is. Takes no memory.
+#[inline(always)]
 pub fn read_kept(queues: &mut Queues, block: &Block) -> Kept
     requires held { IsHeld queues.old block.now }
     requires wide { width_of queues.old.region block.now ≡ 9 }

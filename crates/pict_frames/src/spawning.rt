@@ -11,6 +11,7 @@ use pict_queue::{QueueId, Queues};
 use pict_region::Block;
 
 /// A new block of the node with this number, with these values for its frame. Takes no memory.
+#[inline(always)]
 pub fn block_of(queues: &mut Queues, number: u32, frame: &[u32], values: &[(u64, u64)]) -> Block
     requires narrow { length frame.now ≤ 32000 }
     requires spare { 1 ≤ spare queues.old.region (2 + 2 * length frame.now) }
@@ -26,6 +27,7 @@ pub fn block_of(queues: &mut Queues, number: u32, frame: &[u32], values: &[(u64,
 
 /// A new block of the node with this number, with these values for its frame, becomes the last of a queue. Takes no
 /// memory.
+#[inline(always)]
 pub fn spawn(queues: &mut Queues, queue: QueueId, number: u32, frame: &[u32], values: &[(u64, u64)])
     requires queue { IsQueue queues.old queue.0 }
     requires narrow { length frame.now ≤ 32000 }

@@ -7,6 +7,7 @@ use crate::word::Word;
 use pict_syntax::Prim;
 
 /// The word as two numbers: its kind, and its content. Takes no memory.
+#[inline(always)]
 pub fn pack(w: Word) -> (u64, u64)
     ensures pair { (result.0, result.1) ≡ packed w }
     ensures fits { FitsWord w }
@@ -23,6 +24,7 @@ pub fn pack(w: Word) -> (u64, u64)
 }
 
 /// The word that is packed to this pair, or None where there is none. Takes no memory.
+#[inline(always)]
 pub fn unpack(tag: u64, payload: u64) -> Option<Word>
     ensures packs { IfSome result (λ w. packed w ≡ (tag, payload)) }
     ensures back { (w : AnyWord) → FitsWord w → packed w ≡ (tag, payload) → result ≡ Some w }
@@ -30,6 +32,7 @@ pub fn unpack(tag: u64, payload: u64) -> Option<Word>
     decoded(tag, payload)
 }
 
+#[inline(always)]
 fn decoded(tag: u64, payload: u64) -> Option<Word>
     ensures { result ≡ unpacked tag payload }
 {
@@ -70,6 +73,7 @@ const PRIMITIVES: [Prim; 20] = [
 ];
 
 // The primitive with this number.
+#[inline(always)]
 fn primitive(number: u64) -> Option<Prim>
     ensures { result ≡ slice_get primitives number }
 {

@@ -15,6 +15,7 @@ use pict_operands::bind;
 use pict_turns::Store;
 
 // The levels of the pattern, which fits the word, get what it binds. Nothing else changes.
+#[inline(always)]
 pub(crate) fn bind_levels(store: &mut Store, pattern: &CodePat, message: Word)
     requires word { IsWord store.old.heap message }
     requires fits { IsSome (match_value (unleveled (plain_pat pattern.now)) (value_of store.old.heap message)) }

@@ -8,7 +8,7 @@ use pict_queue::{QueueId, Queues};
 use pict_region::Block;
 
 // The queue of what waits at a channel: queue 0 is of the ready processes.
-#[inline]
+#[inline(always)]
 pub(crate) fn queue_of(channel: u32) -> QueueId
     ensures { result.0 ≡ channel + 1 }
 {
@@ -16,7 +16,7 @@ pub(crate) fn queue_of(channel: u32) -> QueueId
 }
 
 // The held block becomes the last that waits at the channel.
-#[inline]
+#[inline(always)]
 pub(crate) fn wait_behind(queues: &mut Queues, block: Block, channel: u32)
     requires queue { IsQueue queues.old (channel + 1) }
     requires held { IsHeld queues.old block }

@@ -29,6 +29,7 @@ use pict_turns::{Store, frame_at};
 /// The held block, an input from the channel, takes the oldest message there, which is the result: a new block of its part, with
 /// what its pattern binds, becomes the last of the ready ones. A replicated input has the turn again, another ends. It needs
 /// what the block of the part does, once the input's own block is given back where it ends. Takes no memory.
+#[inline(always)]
 pub fn meet_message(
     store: &mut Store,
     code: &[Node],
@@ -61,6 +62,7 @@ pub fn meet_message(
 
 // The oldest input at the channel, of the node with this number, which has this pattern and this part, takes the message that
 // the held block sends.
+#[inline(always)]
 fn serve(
     store: &mut Store,
     code: &[Node],
@@ -98,6 +100,7 @@ fn serve(
 /// a new block of its part, with what its pattern binds beside the values that it held, becomes the last of the ready ones. A
 /// replicated input goes behind the others at the channel, another ends, as the held block does. It needs what the block of the
 /// part does, once the blocks that end are given back. Takes no memory.
+#[inline(always)]
 pub fn meet_reader(
     store: &mut Store,
     code: &[Node],

@@ -22,6 +22,7 @@ use pict_turns::Store;
 
 /// The held block becomes the last that waits at the channel: an output of kept values where no input waits there, or an
 /// input where no output does. Takes no memory.
+#[inline(always)]
 pub fn park(store: &mut Store, block: Block, channel: u32)
     requires queue { IsQueue store.old.queues (channel + 1) }
     requires held { IsHeld store.old.queues block }
@@ -37,6 +38,7 @@ pub fn park(store: &mut Store, block: Block, channel: u32)
 }
 
 // The output on a channel of what a word stands for, at a place in the text.
+#[inline(always)]
 fn kept_output(channel: u32, message: Word, text: u32, start: u32, end: u32) -> Kept
     ensures to { packed (Chan channel) ≡ result.to }
     ensures message { packed message ≡ result.message }
@@ -53,6 +55,7 @@ fn kept_output(channel: u32, message: Word, text: u32, start: u32, end: u32) -> 
 
 /// The held block, an output on the channel of what the word stands for, ends, and a new block of an output of kept values
 /// becomes the last that waits there. No input waits there. Takes no memory.
+#[inline(always)]
 pub fn park_output(store: &mut Store, block: Block, channel: u32, message: Word, at: Span)
     requires queue { IsQueue store.old.queues (channel + 1) }
     requires held { IsHeld store.old.queues block }

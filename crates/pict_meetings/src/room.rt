@@ -14,6 +14,7 @@ use std::alloc::AllocError;
 /// Makes room for the block of a frame, once blocks that end are given back, and in the heap and on the piles for so much more:
 /// `reuses` says whether one of those blocks is as wide. Where one is, and the frame stands in a block itself, it makes no block,
 /// and where nothing more is needed either it does nothing. An error, which is want of memory, changes nothing but room.
+#[inline(always)]
 pub fn reserve_served(
     store: &mut Store,
     frame: &[u32],

@@ -13,6 +13,7 @@ use pict_region::Block;
 use pict_turns::{Store, spawn_part};
 
 // The held block has the turn again, and a new block of the node with this number becomes the last of the ready ones.
+#[inline(always)]
 fn spawn_and_stay(store: &mut Store, block: Block, number: u32, frame: &[u32])
     requires queue { IsQueue store.old.queues 0 }
     requires held { IsHeld store.old.queues block }
@@ -31,6 +32,7 @@ fn spawn_and_stay(store: &mut Store, block: Block, number: u32, frame: &[u32])
 }
 
 // The held block ends, and a new block of the node with this number becomes the last of the ready ones.
+#[inline(always)]
 pub(crate) fn spawn_and_end(store: &mut Store, block: Block, number: u32, frame: &[u32])
     requires queue { IsQueue store.old.queues 0 }
     requires held { IsHeld store.old.queues block }
@@ -50,6 +52,7 @@ pub(crate) fn spawn_and_end(store: &mut Store, block: Block, number: u32, frame:
 
 // A new block of the node with this number becomes the last of the ready ones. The held block has the turn again, or it ends.
 // Takes no memory.
+#[inline(always)]
 pub(crate) fn spawn_beside(store: &mut Store, block: Block, stays: bool, number: u32, frame: &[u32])
     requires queue { IsQueue store.old.queues 0 }
     requires held { IsHeld store.old.queues block }

@@ -22,6 +22,7 @@ use pict_region::Block;
 use pict_turns::{Store, read_part};
 
 // The words of the oldest message at a channel, which is taken. Its block is given back.
+#[inline(always)]
 pub(crate) fn take_message(queues: &mut Queues, channel: u32) -> (u64, u64)
     requires queue { IsQueue queues.old (channel + 1) }
     requires kept { (k : AnyKept) × (rest : List (List ℕ)) × (contents queues.old (channel + 1) ≡ kept_words k ∷ rest) }
@@ -48,6 +49,7 @@ pub(crate) fn take_message(queues: &mut Queues, channel: u32) -> (u64, u64)
 
 // The oldest input that waits at a channel, of the node with this number, which is taken. The levels of its frame get the
 // values that it holds.
+#[inline(always)]
 pub(crate) fn take_input(store: &mut Store, code: &[Node], channel: u32, number: usize) -> Block
     requires code { IsCode (map plain_node code.now) }
     requires store { IsStore (core_in code.now) store.old }
@@ -67,6 +69,7 @@ pub(crate) fn take_input(store: &mut Store, code: &[Node], channel: u32, number:
 }
 
 // The held block of an input goes behind the others that wait at the channel where it is replicated, and ends where it isn't.
+#[inline(always)]
 pub(crate) fn put_back(queues: &mut Queues, block: Block, channel: u32, replicated: bool)
     requires queue { IsQueue queues.old (channel + 1) }
     requires held { IsHeld queues.old block }

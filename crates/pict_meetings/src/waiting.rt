@@ -23,6 +23,7 @@ pub enum Waiting {
 }
 
 /// What waits first at a channel. Changes no word and no queue, and takes no memory.
+#[inline(always)]
 pub fn first_waiting(queues: &mut Queues, channel: u32) -> Waiting
     requires queue { IsQueue queues.old (channel + 1) }
     requires waiting { (core : Process) × AllByRecursion (CanWait core) (contents queues.old (channel + 1)) }

@@ -20,7 +20,7 @@ use pict_heap::{Heap, Word, unpack};
 use pict_syntax::Name;
 
 /// The word that is packed to this pair. Takes no memory.
-#[inline]
+#[inline(always)]
 pub fn word_at(pair: (u64, u64)) -> Word
     requires { (w : AnyWord) × FitsWord w × (packed w ≡ pair) }
     ensures { (w : AnyWord) → FitsWord w → packed w ≡ pair → result ≡ w }
@@ -33,6 +33,7 @@ pub fn word_at(pair: (u64, u64)) -> Word
 
 /// The word of an operand that takes nothing of a heap, that of a level or of a constant, or None exactly where the operand is a
 /// text or a record. Each variable has the two words of its level among `values`. Takes no memory.
+#[inline(always)]
 pub fn word_at_hand(operand: &Operand, values: &[(u64, u64)]) -> Option<Word>
     requires over { IsOver (length values.now) 0 (plain_val operand.now) }
     requires pairs { (h : HeapState) × ArePairs h values.now }

@@ -20,6 +20,7 @@ use pict_syntax::Prim;
 
 /// What the primitive is to do to an argument of the heap, or None exactly where the argument has not the primitive's
 /// shape. Takes no memory.
+#[inline(always)]
 pub fn act_on(heap: &Heap, p: Prim, argument: Word) -> Option<Act>
     requires { IsWord heap.now argument }
     ensures effect { option_map (effect_act heap.now) result ≡ effect_of p (value_of heap.now argument) }
@@ -35,6 +36,7 @@ pub fn act_on(heap: &Heap, p: Prim, argument: Word) -> Option<Act>
 
 /// The same of an argument that is a record with these positional fields, whatever its labels: the record itself need
 /// not be in the heap.
+#[inline(always)]
 pub fn act_on_fields(heap: &Heap, p: Prim, fields: &[Word]) -> Option<Act>
     requires { All (IsWord heap.now) fields.now }
     ensures effect { (labels : Labelled) → option_map (effect_act heap.now) result
@@ -51,6 +53,7 @@ pub fn act_on_fields(heap: &Heap, p: Prim, fields: &[Word]) -> Option<Act>
 }
 
 // On a record with two positional fields.
+#[inline(always)]
 fn act_on_pair(heap: &Heap, p: Prim, argument: Word) -> Option<Act>
     requires word { IsWord heap.now argument }
     requires two { positional_count (value_of heap.now argument) ≡ Some 2 }
@@ -63,6 +66,7 @@ fn act_on_pair(heap: &Heap, p: Prim, argument: Word) -> Option<Act>
 }
 
 // On a record with three positional fields.
+#[inline(always)]
 fn act_on_triple(heap: &Heap, p: Prim, argument: Word) -> Option<Act>
     requires word { IsWord heap.now argument }
     requires three { positional_count (value_of heap.now argument) ≡ Some 3 }
@@ -76,6 +80,7 @@ fn act_on_triple(heap: &Heap, p: Prim, argument: Word) -> Option<Act>
 }
 
 // A positional field that is there.
+#[inline(always)]
 fn field(heap: &Heap, w: Word, i: u32) -> Word
     requires word { IsWord heap.now w }
     requires there { IsSome (positional_field (value_of heap.now w) i) }
@@ -89,6 +94,7 @@ fn field(heap: &Heap, w: Word, i: u32) -> Word
 }
 
 // On an argument that is no record.
+#[inline(always)]
 fn act_on_simple(p: Prim, argument: Word) -> Option<Act>
     ensures effect { (h : HeapState) → option_map (effect_act h) result ≡ simple_effect p (value_of h argument) }
     ensures words { (h : HeapState) → IsWord h argument → IfSome result (IsActOf h) }
@@ -101,6 +107,7 @@ fn act_on_simple(p: Prim, argument: Word) -> Option<Act>
 }
 
 // On one operand and where to send.
+#[inline(always)]
 fn act_on_two(heap: &Heap, p: Prim, v: Word, k: Word) -> Option<Act>
     requires operand { IsWord heap.now v }
     requires target { IsWord heap.now k }
@@ -119,6 +126,7 @@ fn act_on_two(heap: &Heap, p: Prim, v: Word, k: Word) -> Option<Act>
 }
 
 // On two operands and where to send.
+#[inline(always)]
 fn act_on_three(heap: &Heap, p: Prim, v: Word, w: Word, k: Word) -> Option<Act>
     requires first { IsWord heap.now v }
     requires second { IsWord heap.now w }
@@ -134,6 +142,7 @@ fn act_on_three(heap: &Heap, p: Prim, v: Word, w: Word, k: Word) -> Option<Act>
 }
 
 // On two operands that are to be numbers.
+#[inline(always)]
 fn act_on_operands(p: Prim, v: Word, w: Word, k: Word) -> Option<Act>
     ensures effect { (h : HeapState) → option_map (effect_act h) result
         ≡ at_int (value_of h v) (λ a. at_int (value_of h w) (λ b. int_effect p a b (value_of h k))) }
@@ -148,6 +157,7 @@ fn act_on_operands(p: Prim, v: Word, w: Word, k: Word) -> Option<Act>
     }
 }
 
+#[inline(always)]
 fn act_on_numbers(p: Prim, a: i64, b: i64, k: Word) -> Option<Act>
     ensures effect { (h : HeapState) → option_map (effect_act h) result ≡ int_effect p a b (value_of h k) }
     ensures words { (h : HeapState) → IsWord h k → IfSome result (IsActOf h) }
@@ -158,6 +168,7 @@ fn act_on_numbers(p: Prim, a: i64, b: i64, k: Word) -> Option<Act>
     }
 }
 
+#[inline(always)]
 fn answer_calculated(k: Word, calculated: Calculated) -> Act
     ensures effect { (h : HeapState) → effect_act h result ≡ effect_calculated (value_of h k) calculated }
     ensures words { (h : HeapState) → IsWord h k → IsActOf h result }
@@ -170,6 +181,7 @@ fn answer_calculated(k: Word, calculated: Calculated) -> Act
 }
 
 // `print`
+#[inline(always)]
 fn print(argument: Word) -> Option<Act>
     ensures effect { (h : HeapState) → option_map (effect_act h) result ≡ at_text (value_of h argument) prints }
     ensures words { (h : HeapState) → IsWord h argument → IfSome result (IsActOf h) }
@@ -181,6 +193,7 @@ fn print(argument: Word) -> Option<Act>
 }
 
 // `printi`
+#[inline(always)]
 fn print_number(argument: Word) -> Option<Act>
     ensures effect { (h : HeapState) → option_map (effect_act h) result ≡ at_int (value_of h argument) (λ n. prints (signed_decimal n)) }
     ensures words { (h : HeapState) → IsWord h argument → IfSome result (IsActOf h) }
@@ -192,6 +205,7 @@ fn print_number(argument: Word) -> Option<Act>
 }
 
 // `pr`
+#[inline(always)]
 fn print_and_answer(text: Word, k: Word) -> Option<Act>
     ensures effect { (h : HeapState) → option_map (effect_act h) result ≡ at_text (value_of h text)
         (λ bytes. Some (record { printed = Some bytes; leaves = Answer (value_of h k) (Record no_vals no_labelled) })) }
@@ -204,6 +218,7 @@ fn print_and_answer(text: Word, k: Word) -> Option<Act>
 }
 
 // `chr`
+#[inline(always)]
 fn chr(n: Word, k: Word) -> Option<Act>
     ensures effect { (h : HeapState) → option_map (effect_act h) result
         ≡ at_int (value_of h n) (λ a. answers (value_of h k) (Char (unsigned_abs (int_rem_euclid a (pos 256))))) }
@@ -216,6 +231,7 @@ fn chr(n: Word, k: Word) -> Option<Act>
 }
 
 // `ord`
+#[inline(always)]
 fn ord(c: Word, k: Word) -> Option<Act>
     ensures effect { (h : HeapState) → option_map (effect_act h) result ≡ at_char (value_of h c) (λ byte. answers (value_of h k) (Int (pos byte))) }
     ensures words { (h : HeapState) → IsWord h k → IfSome result (IsActOf h) }
@@ -227,6 +243,7 @@ fn ord(c: Word, k: Word) -> Option<Act>
 }
 
 // `intstr`
+#[inline(always)]
 fn spell(n: Word, k: Word) -> Option<Act>
     ensures effect { (h : HeapState) → option_map (effect_act h) result ≡ at_int (value_of h n) (λ a. answers (value_of h k) (Text (signed_decimal a))) }
     ensures words { (h : HeapState) → IsWord h k → IfSome result (IsActOf h) }
@@ -238,6 +255,7 @@ fn spell(n: Word, k: Word) -> Option<Act>
 }
 
 // `not`
+#[inline(always)]
 fn negate(b: Word, k: Word) -> Option<Act>
     ensures effect { (h : HeapState) → option_map (effect_act h) result ≡ at_bool (value_of h b) (λ c. answers (value_of h k) (Boolean (not c))) }
     ensures words { (h : HeapState) → IsWord h k → IfSome result (IsActOf h) }
@@ -249,6 +267,7 @@ fn negate(b: Word, k: Word) -> Option<Act>
 }
 
 // `size`
+#[inline(always)]
 fn size(heap: &Heap, text: Word, k: Word) -> Option<Act>
     requires { IsWord heap.now text }
     ensures effect { option_map (effect_act heap.now) result
@@ -262,6 +281,7 @@ fn size(heap: &Heap, text: Word, k: Word) -> Option<Act>
 }
 
 // `+$`
+#[inline(always)]
 fn join(s: Word, t: Word, k: Word) -> Option<Act>
     ensures effect { (h : HeapState) → option_map (effect_act h) result ≡ at_text (value_of h s)
         (λ front. at_text (value_of h t) (λ back. answers (value_of h k) (Text (front ++ back)))) }
@@ -277,6 +297,7 @@ fn join(s: Word, t: Word, k: Word) -> Option<Act>
 }
 
 // `nth`
+#[inline(always)]
 fn nth(heap: &Heap, s: Word, n: Word, k: Word) -> Option<Act>
     requires { IsWord heap.now s }
     ensures effect { option_map (effect_act heap.now) result ≡ at_text (value_of heap.now s)

@@ -13,6 +13,7 @@ use pict_syntax::Name;
 
 /// What the act adds to the heap: exactly so many records, fields and texts; of bytes, for a decimal text up to 19 more.
 /// Takes no memory.
+#[inline(always)]
 pub fn room(heap: &Heap, act: Act) -> Need
     requires { IsActOf heap.now act }
     ensures { result ≡ need_of heap.now act }
@@ -41,6 +42,7 @@ pub fn room(heap: &Heap, act: Act) -> Need
 }
 
 // The number of bytes of a text, and 0 for any other word.
+#[inline(always)]
 fn text_len(heap: &Heap, w: Word) -> u64
     requires { IsWord heap.now w }
     ensures value { result ≡ length (text_of heap.now w) }
@@ -53,6 +55,7 @@ fn text_len(heap: &Heap, w: Word) -> u64
 }
 
 /// Performs the act. Every word stands for what it stood for; no more room is used than the act needs. Takes no memory.
+#[inline(always)]
 pub fn perform(heap: &mut Heap, act: Act) -> Acted
     requires act { IsActOf heap.old act }
     requires room { HasRoom heap.old.room (need_of heap.old act) }
@@ -82,6 +85,7 @@ pub fn perform(heap: &mut Heap, act: Act) -> Acted
 }
 
 // The empty record.
+#[inline(always)]
 fn add_unit(heap: &mut Heap) -> Word
     requires { 1 ≤ heap.old.room.records }
     ensures word { IsWord heap.new result }
@@ -95,6 +99,7 @@ fn add_unit(heap: &mut Heap) -> Word
 }
 
 // The decimal text of a number.
+#[inline(always)]
 fn add_decimal(heap: &mut Heap, n: i64) -> Word
     requires texts { 1 ≤ heap.old.room.texts }
     requires bytes { 20 ≤ heap.old.room.bytes }

@@ -103,7 +103,7 @@ impl Queues {
     }
 
     /// The number of blocks in a queue. Takes no memory.
-    #[inline]
+    #[inline(always)]
     pub fn length(&self, q: QueueId) -> u64
         requires { IsQueue self.now q.0 }
         ensures value { result ≡ length (list_of self.now q.0) }
@@ -113,7 +113,7 @@ impl Queues {
     }
 
     /// A held block becomes the last of a queue. Takes no memory.
-    #[inline]
+    #[inline(always)]
     pub fn push_back(&mut self, q: QueueId, b: Block)
         requires queue { IsQueue self.old q.0 }
         requires held { IsHeld self.old b }
@@ -140,7 +140,7 @@ impl Queues {
     }
 
     /// A held block becomes the first of a queue. Takes no memory.
-    #[inline]
+    #[inline(always)]
     pub fn push_front(&mut self, q: QueueId, b: Block)
         requires queue { IsQueue self.old q.0 }
         requires held { IsHeld self.old b }
@@ -167,7 +167,7 @@ impl Queues {
     }
 
     /// The first block of a queue, which the caller then holds, or None exactly where the queue is empty. Takes no memory.
-    #[inline]
+    #[inline(always)]
     pub fn pop_front(&mut self, q: QueueId) -> Option<Block>
         requires { IsQueue self.old q.0 }
         ensures none { IsNone result ↔ (list_of self.old q.0 ≡ []) }
@@ -193,7 +193,7 @@ impl Queues {
 
     /// The first block of `from` becomes the last of `to`; where these are one queue, it goes to the back. Takes no
     /// memory.
-    #[inline]
+    #[inline(always)]
     pub fn move_front(&mut self, from: QueueId, to: QueueId)
         requires from { IsQueue self.old from.0 }
         requires to { IsQueue self.old to.0 }
@@ -213,7 +213,7 @@ impl Queues {
 
     /// Word `i` of the first block of a queue, or None exactly where the queue is empty. Changes no word and no queue, and
     /// takes no memory.
-    #[inline]
+    #[inline(always)]
     pub fn peek(&mut self, q: QueueId, i: u32) -> Option<u64>
         requires queue { IsQueue self.old q.0 }
         requires behind_link { 0 < length (list_of self.old q.0) → 1 ≤ i }
@@ -234,6 +234,7 @@ impl Queues {
 
     /// Makes free blocks until there are `n` of this width, in words, with the link. Where memory is wanting, some of
     /// these blocks may have been made. Where enough are there it takes no memory.
+    #[inline(always)]
     pub fn reserve(&mut self, width: u32, n: u64) -> Result<(), AllocError>
         requires positive { 2 ≤ width }
         requires narrow { width ≤ 65535 }
@@ -255,7 +256,7 @@ impl Queues {
     }
 
     /// A block of this width, whose words are 0, and which the caller holds. Takes no memory.
-    #[inline]
+    #[inline(always)]
     pub fn take(&mut self, width: u32) -> Block
         requires wide { 2 ≤ width }
         requires spare { 1 ≤ spare self.old.region width }
@@ -277,7 +278,7 @@ impl Queues {
     }
 
     /// Frees a held block, and spends its token. Takes no memory.
-    #[inline]
+    #[inline(always)]
     pub fn give(&mut self, b: Block)
         requires { IsHeld self.old b }
         ensures live { self.new.region.live ≡ remove self.old.region.live b }
@@ -296,7 +297,7 @@ impl Queues {
     }
 
     /// Word `i` of a held block, from 0. Takes no memory.
-    #[inline]
+    #[inline(always)]
     pub fn get(&mut self, b: &Block, i: u32) -> u64
         requires held { IsHeld self.old b.now }
         requires inside { i < width_of self.old.region b.now }
@@ -310,7 +311,7 @@ impl Queues {
     }
 
     /// Puts a word at index `i` of a held block, from 0. Takes no memory.
-    #[inline]
+    #[inline(always)]
     pub fn set(&mut self, b: &Block, i: u32, word: u64)
         requires held { IsHeld self.old b.now }
         requires inside { i < width_of self.old.region b.now }
@@ -329,7 +330,7 @@ impl Queues {
     }
 
     /// The work of the region.
-    #[inline]
+    #[inline(always)]
     pub fn work(&self) -> u64
         ensures { result ≡ self.now.region.work }
     {
@@ -337,7 +338,7 @@ impl Queues {
     }
 
     // The first block of a queue that isn't empty.
-    #[inline]
+    #[inline(always)]
     fn pop(&mut self, q: QueueId) -> Block
         requires queue { IsQueue self.old q.0 }
         requires some { 0 < length (list_of self.old q.0) }
@@ -367,7 +368,7 @@ impl Queues {
 }
 
 // The queue, or where it is empty, one whose ends are this block.
-#[inline]
+#[inline(always)]
 fn ends(queue: Queue, block: u64) -> Queue
     ensures { result ≡ (if queue.length == 0 then record { first = block; last = block; length = 0 } else queue) }
 {
@@ -383,7 +384,7 @@ fn ends(queue: Queue, block: u64) -> Queue
 }
 
 // Makes `next` the link of a live block.
-#[inline]
+#[inline(always)]
 fn set_link(region: &mut Region, block: u64, next: u64)
     requires live { IsLive region.old block }
     requires wide { 1 ≤ width_of region.old block }
@@ -399,7 +400,7 @@ fn set_link(region: &mut Region, block: u64, next: u64)
 }
 
 // A word of a live block.
-#[inline]
+#[inline(always)]
 fn word(region: &mut Region, block: u64, i: u32) -> u64
     requires live { IsLive region.old block }
     requires inside { i < width_of region.old block }

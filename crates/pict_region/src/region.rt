@@ -54,6 +54,7 @@ impl Region {
     /// Makes free blocks until there are `n` of this width, in words. The store grows by doubling. Where memory is
     /// wanting, some of these blocks may have been made, and never more than were wanting. Where enough are there it takes
     /// no memory. The work stays.
+    #[inline(always)]
     pub fn reserve(&mut self, width: u32, n: u64) -> Result<(), AllocError>
         requires positive { 1 ≤ width }
         requires narrow { width ≤ 65535 }
@@ -74,7 +75,7 @@ impl Region {
     }
 
     /// A block of this width, whose words are 0. Numbers of blocks are below 2 to the power 63. Takes no memory.
-    #[inline]
+    #[inline(always)]
     pub fn take(&mut self, width: u32) -> Block
         requires { 1 ≤ spare self.old width }
         ensures fresh { get self.old.live result ≡ None }
@@ -98,7 +99,7 @@ impl Region {
     }
 
     /// Frees a live block, and spends its token. Takes no memory.
-    #[inline]
+    #[inline(always)]
     pub fn give(&mut self, b: Block)
         requires { IsLive self.old b }
         ensures live { self.new.live ≡ remove self.old.live b }
@@ -120,7 +121,7 @@ impl Region {
     }
 
     /// Word `i` of a live block, from 0. Takes no memory.
-    #[inline]
+    #[inline(always)]
     pub fn get(&mut self, b: &Block, i: u32) -> u64
         requires live { IsLive self.old b.now }
         requires inside { i < width_of self.old b.now }
@@ -133,7 +134,7 @@ impl Region {
     }
 
     /// Puts a word at index `i` of a live block, from 0. Takes no memory.
-    #[inline]
+    #[inline(always)]
     pub fn set(&mut self, b: &Block, i: u32, word: u64)
         requires live { IsLive self.old b.now }
         requires inside { i < width_of self.old b.now }
@@ -147,7 +148,7 @@ impl Region {
     }
 
     /// A token of the live block with this number. Takes no memory.
-    #[inline]
+    #[inline(always)]
     pub fn block(&mut self, number: u64) -> Block
         requires { IsLive self.old number }
         ensures token { result ≡ number }
@@ -158,7 +159,7 @@ impl Region {
     }
 
     /// The region's work: how often a block was taken, given, reached by number, read or written, or the greatest `u64`.
-    #[inline]
+    #[inline(always)]
     pub fn work(&self) -> u64
         ensures { result ≡ self.now.work }
     {
@@ -166,6 +167,7 @@ impl Region {
     }
 
     // The number of free blocks of a width that has a list.
+    #[inline(always)]
     fn spare(&self, width: u32) -> u64
         requires { width < length self.now.free }
         ensures { result ≡ spare self.now width }
@@ -214,7 +216,7 @@ impl Region {
 }
 
 // The work after one call more.
-#[inline]
+#[inline(always)]
 fn one_more(work: u64) -> u64
     ensures { result ≡ raised work }
 {
@@ -222,7 +224,7 @@ fn one_more(work: u64) -> u64
 }
 
 // Puts 0 into `count` words of the store, from `start` on.
-#[inline]
+#[inline(always)]
 fn clear(words: &mut Vec<u64>, start: usize, count: usize)
     requires { start + count ≤ vec_len words.old }
     ensures items { words.new.items ≡ take start words.old.items ++ (replicate count 0 ++ drop (start + count) words.old.items) }

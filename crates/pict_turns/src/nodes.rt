@@ -32,6 +32,7 @@ use pict_region::Block;
 use std::alloc::AllocError;
 
 /// The acting block is the first of the ready ones again: its step isn't done. Takes no memory.
+#[inline(always)]
 pub fn refuse(store: &mut Store, block: Block)
     requires queue { IsQueue store.old.queues 0 }
     requires held { IsHeld store.old.queues block }
@@ -43,6 +44,7 @@ pub fn refuse(store: &mut Store, block: Block)
 }
 
 /// The inert process: its block ends. Takes no memory.
+#[inline(always)]
 pub fn end(store: &mut Store, block: Block)
     requires held { IsHeld store.old.queues block }
     ensures done { (core : Process) → ActsBy core store.old block op.Zero → IsDone core store.old store.new block Quiet }
@@ -54,6 +56,7 @@ pub fn end(store: &mut Store, block: Block)
 
 /// A parallel composition: the block of its left part has the turn, and that of its right part becomes the last of the ready
 /// ones. An error, which is want of memory, leaves the block the first of the ready ones, and nothing else changed.
+#[inline(always)]
 pub fn fork(
     store: &mut Store,
     code: &[Node],
@@ -86,6 +89,7 @@ pub fn fork(
 }
 
 // The truth value that a word is.
+#[inline(always)]
 fn truth(word: Word) -> bool
     requires { (b : Bool) × (word ≡ Word.Bool b) }
     ensures { word ≡ Word.Bool result }
@@ -97,6 +101,7 @@ fn truth(word: Word) -> bool
 }
 
 // Whether the test of a conditional is true.
+#[inline(always)]
 fn is_true(store: &Store, test: &Operand) -> bool
     requires over { IsOver (length store.now.values.items) 0 (plain_val test.now) }
     requires pairs { ArePairs store.now.heap store.now.values.items }
@@ -111,6 +116,7 @@ fn is_true(store: &Store, test: &Operand) -> bool
 }
 
 // The part that the test of a conditional chooses.
+#[inline(always)]
 fn chosen(store: &Store, test: &Operand, yes: u32, no: u32) -> u32
     requires over { IsOver (length store.now.values.items) 0 (plain_val test.now) }
     requires pairs { ArePairs store.now.heap store.now.values.items }
@@ -123,6 +129,7 @@ fn chosen(store: &Store, test: &Operand, yes: u32, no: u32) -> u32
 
 /// A conditional: the block of the part that the test chooses has the turn. An error, which is want of memory, leaves the block
 /// the first of the ready ones, and nothing else changed.
+#[inline(always)]
 pub fn choose(
     store: &mut Store,
     code: &[Node],
@@ -156,6 +163,7 @@ pub fn choose(
 }
 
 // Makes room for a channel and for the block of a frame.
+#[inline(always)]
 fn reserve_channel(store: &mut Store, frame: &[u32]) -> Result<(), AllocError>
     ensures part { OnOk result (CanHoldAnd store.new frame.now no_need) }
     ensures queue { OnOk result (1 ≤ store.new.queues.spare_queues) }
@@ -167,6 +175,7 @@ fn reserve_channel(store: &mut Store, frame: &[u32]) -> Result<(), AllocError>
 }
 
 // A new channel, as the value of this level. Takes no memory.
+#[inline(always)]
 fn add_channel(store: &mut Store, level: u32)
     requires spare { 1 ≤ store.old.queues.spare_queues }
     requires ready { IsQueue store.old.queues 0 }
@@ -184,6 +193,7 @@ fn add_channel(store: &mut Store, level: u32)
 
 /// A new channel: the block of the part has the turn, with the next channel as the value of the new level. An error, which is
 /// want of memory, leaves the block the first of the ready ones, and nothing else changed: there is no channel more.
+#[inline(always)]
 pub fn make_channel(
     store: &mut Store,
     code: &[Node],

@@ -16,6 +16,7 @@ use pict_region::Block;
 pub const NARROW: usize = 32_000;
 
 // The same of a frame that stands in the block.
+#[inline(always)]
 fn make_narrow(store: &mut Store, number: u32, frame: &[u32]) -> Block
     requires narrow { length frame.now ≤ 32000 }
     requires can { CanHold store.old frame.now }
@@ -28,6 +29,7 @@ fn make_narrow(store: &mut Store, number: u32, frame: &[u32]) -> Block
 }
 
 // The same of a frame that stands in a record.
+#[cold]
 fn make_wide(store: &mut Store, number: u32, frame: &[u32]) -> Block
     requires wide { 32000 < length frame.now }
     requires can { CanHold store.old frame.now }
@@ -41,6 +43,7 @@ fn make_wide(store: &mut Store, number: u32, frame: &[u32]) -> Block
 }
 
 /// A new block of the node with this number, with the values of its frame. Takes no memory.
+#[inline(always)]
 pub fn make_part(store: &mut Store, number: u32, frame: &[u32]) -> Block
     requires can { CanHold store.old frame.now }
     requires inside { All (λ level. level < length store.old.values.items) frame.now }
@@ -56,6 +59,7 @@ pub fn make_part(store: &mut Store, number: u32, frame: &[u32]) -> Block
 }
 
 /// The held block ends, and a new block of the node with this number has the turn. Takes no memory.
+#[inline(always)]
 pub fn hand_on(store: &mut Store, block: Block, number: u32, frame: &[u32])
     requires queue { IsQueue store.old.queues 0 }
     requires held { IsHeld store.old.queues block }
@@ -74,6 +78,7 @@ pub fn hand_on(store: &mut Store, block: Block, number: u32, frame: &[u32])
 }
 
 /// A new block of the node with this number becomes the last of the ready ones. Takes no memory.
+#[inline(always)]
 pub fn spawn_part(store: &mut Store, number: u32, frame: &[u32])
     requires queue { IsQueue store.old.queues 0 }
     requires can { CanHold store.old frame.now }

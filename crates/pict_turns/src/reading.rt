@@ -19,7 +19,7 @@ use pict_operands::read_record;
 use pict_region::Block;
 
 /// The frame of the node with this number.
-#[inline]
+#[inline(always)]
 pub fn frame_at(code: &[Node], number: usize) -> &[u32]
     requires { number < length code.now }
     ensures { HasFrame (map plain_node code.now) number result.now }
@@ -28,6 +28,7 @@ pub fn frame_at(code: &[Node], number: usize) -> &[u32]
 }
 
 // A frame whose values stand in the block itself.
+#[inline(always)]
 fn read_narrow(store: &mut Store, block: &Block, frame: &[u32])
     requires narrow { length frame.now ≤ 32000 }
     requires held { IsHeld store.old.queues block.now }
@@ -43,6 +44,7 @@ fn read_narrow(store: &mut Store, block: &Block, frame: &[u32])
 }
 
 // A frame whose values stand in a record.
+#[cold]
 fn read_wide(store: &mut Store, block: &Block, frame: &[u32])
     requires wide { 32000 < length frame.now }
     requires held { IsHeld store.old.queues block.now }
@@ -61,6 +63,7 @@ fn read_wide(store: &mut Store, block: &Block, frame: &[u32])
 
 /// Reads the values of a node's frame out of its held block, each to the place of its level. Nothing else changes but work. Takes
 /// no memory, and time in the levels of the frame.
+#[inline(always)]
 pub fn read_part(store: &mut Store, code: &[Node], block: &Block, number: usize)
     requires code { IsCode (map plain_node code.now) }
     requires store { IsStore (core_in code.now) store.old }

@@ -16,6 +16,7 @@ use std::alloc::AllocError;
 pub const KEPT_WIDTH: u32 = 9;
 
 // What a block for a frame needs of the heap.
+#[inline(always)]
 fn frame_need(frame: &[u32]) -> Need
     ensures { result ≡ frame_need frame.now }
 {
@@ -37,6 +38,7 @@ fn frame_need(frame: &[u32]) -> Need
 }
 
 /// The width of a block for a frame, in words.
+#[inline(always)]
 pub fn block_width(frame: &[u32]) -> u32
     ensures value { result ≡ block_width frame.now }
     ensures positive { 2 ≤ result }
@@ -50,6 +52,7 @@ pub fn block_width(frame: &[u32]) -> u32
 }
 
 // Whether there is no need.
+#[inline(always)]
 fn is_nothing(need: Need) -> bool
     ensures { IsTrue result ↔ (need ≡ no_need) }
 {
@@ -58,6 +61,7 @@ fn is_nothing(need: Need) -> bool
 
 /// Makes room for so much in the heap and on both piles, and does nothing where there is no need. An error, which is want of
 /// memory, changes nothing but room, of which there is then no less; a number of fields past 32 bits is want of memory.
+#[inline(always)]
 pub fn reserve_room(store: &mut Store, need: Need) -> Result<(), AllocError>
     ensures enough { need ≡ no_need → IsOk result }
     ensures same { need ≡ no_need → store.new ≡ store.old }
@@ -81,6 +85,7 @@ pub fn reserve_room(store: &mut Store, need: Need) -> Result<(), AllocError>
 /// Makes room for so much in the heap and on the piles, and free blocks until there are `count` of this width, in words. Where
 /// nothing else is needed and so many blocks are free it takes no memory. An error, which is want of memory, changes nothing but
 /// room, of which there is then no less; a number of fields past 32 bits is want of memory.
+#[inline(always)]
 pub fn reserve(store: &mut Store, need: Need, width: u32, count: u64) -> Result<(), AllocError>
     requires positive { 2 ≤ width }
     requires narrow { width ≤ 65535 }
@@ -98,6 +103,7 @@ pub fn reserve(store: &mut Store, need: Need, width: u32, count: u64) -> Result<
 /// Makes room for a block of a frame, and in the heap and on the piles for so much more. Where nothing more is needed, the
 /// frame stands in a block itself and one of its width is free, it takes no memory. An error, which is want of memory, changes
 /// nothing but room.
+#[inline(always)]
 pub fn reserve_part(store: &mut Store, frame: &[u32], further: Need) -> Result<(), AllocError>
     ensures ok { OnOk result (CanHoldAnd store.new frame.now further) }
     ensures enough { length frame.now ≤ 32000 → further ≡ no_need → 1 ≤ spare store.old.queues.region (block_width frame.now) → IsOk result }
@@ -114,6 +120,7 @@ pub fn reserve_part(store: &mut Store, frame: &[u32], further: Need) -> Result<(
 }
 
 /// Makes room for blocks of two frames. An error, which is want of memory, changes nothing but room.
+#[inline(always)]
 pub fn reserve_parts(store: &mut Store, first: &[u32], second: &[u32]) -> Result<(), AllocError>
     ensures ok { OnOk result (CanHoldBoth store.new first.now second.now) }
     ensures most { MakesOnly store.old.queues store.new.queues (block_width first.now ∷ block_width second.now ∷ []) }
@@ -132,6 +139,7 @@ pub fn reserve_parts(store: &mut Store, first: &[u32], second: &[u32]) -> Result
 
 /// Makes room for a block of an output of kept values, and for so much in the heap and on the piles. Where nothing else is needed
 /// and a block is free it takes no memory. An error, which is want of memory, changes nothing but room.
+#[inline(always)]
 pub fn reserve_kept(store: &mut Store, need: Need) -> Result<(), AllocError>
     ensures block { OnOk result (1 ≤ spare store.new.queues.region 9) }
     ensures room { OnOk result (HasRoomFor store.new.heap store.new.pending need) }
