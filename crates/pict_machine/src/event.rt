@@ -21,7 +21,7 @@ pub enum Event {
     },
     /// This text or number is printed. A number is printed as its decimal text.
     Print(Word),
-    /// The step divides by zero, for the output at this place. It changes nothing.
+    /// The step divides by zero, for the output at this place. It changes nothing but room, spare blocks and work.
     Trapped(Span),
 }
 
