@@ -19,7 +19,7 @@ pub fn block_of(queues: &mut Queues, number: u32, frame: &[u32], values: &[(u64,
     ensures made { IsMade queues.old queues.new result (node_words values.now number frame.now) (2 + 2 * length frame.now) }
     ensures cost { CostsAtMost (2 * length frame.now + 2) queues.old queues.new }
 {
-    let block = queues.take(2 + 2 * frame.len() as u32);
+    let block = queues.take_uncleared(2 + 2 * frame.len() as u32);
     queues.set(&block, 1, u64::from(number) + 1);
     write_frame(queues, &block, frame, values);
     block

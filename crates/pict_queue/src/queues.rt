@@ -2,7 +2,7 @@
 ghost use Rattle.std.specs.Prelude.{◌≡◌, ◌≢◌, ◌+◌, ◌-◌, ◌<◌, ◌≤◌, ◌↔◌, ◌++◌, ◌∷◌, ◌==◌, if◌then◌else◌, ℕ, [], length, max, replicate, None, IsOk, IsNone, IfSome, IfOk, OnOk, OnErr, slice_index, slice_set, slice_get, MatchOption};
 ghost use Rattle.std.specs.Option.{option_map, option_to_list};
 ghost use Rattle.std.specs.FinMap.{get, insert, remove, empty};
-ghost use Rattle.pict_region.specs.RegionState.{IsLive, words_of, width_of, spare, blocks, KeepsBlocks, KeepsOtherWidths, raised};
+ghost use Rattle.pict_region.specs.RegionState.{IsLive, words_of, width_of, spare, blocks, KeepsBlocks, KeepsOtherWidths, raised, GainsBlock};
 ghost use Rattle.pict_queue.specs.Contents.{held_words, contents, moved_contents, KeepsAllContents, KeepsOtherContents, KeepsHeld, KeepsOtherHeld, HoldsNoMore, HoldsOneMore, Releases};
 ghost use Rattle.pict_queue.specs.QueuesState.{IsQueue, IsHeld, HasEachBlockOnce, list_of, no_queue, link_of, moved_list, KeepsOtherQueues, KeepsQueues, KeepsRest, CostsAtMost};
 
@@ -275,6 +275,28 @@ impl Queues {
         ensures blocks { KeepsBlocks self.old.region self.new.region }
     {
         self.region.take(width)
+    }
+
+    /// A block of this width, whose words are any, and which the caller holds. Takes no memory.
+    #[inline(always)]
+    pub fn take_uncleared(&mut self, width: u32) -> Block
+        requires wide { 2 ≤ width }
+        requires spare { 1 ≤ spare self.old.region width }
+        ensures fresh { get self.old.region.live result ≡ None }
+        ensures live { GainsBlock self.old.region self.new.region result width }
+        ensures spare { spare self.new.region width + 1 ≡ spare self.old.region width }
+        ensures others { KeepsOtherWidths self.old.region self.new.region width }
+        ensures blocks { KeepsBlocks self.old.region self.new.region }
+        ensures work { self.new.region.work ≡ raised self.old.region.work }
+        ensures rest { self.new ≡ record self.old { region = self.new.region } }
+        ensures lists { KeepsQueues self.old self.new }
+        ensures held { IsHeld self.new result }
+        ensures more { HoldsOneMore self.old self.new result }
+        ensures apart { (other : ℕ) → IsHeld self.old other → other ≢ result }
+        ensures contents { KeepsAllContents self.old self.new }
+        ensures kept { KeepsHeld self.old self.new }
+    {
+        self.region.take_uncleared(width)
     }
 
     /// Frees a held block, and spends its token. Takes no memory.

@@ -5,7 +5,7 @@ use Rattle.std.specs.List.{IsDistinct, list_any}
 use Rattle.std.specs.Ordering.{nat_cmp}
 use Rattle.std.specs.Cmp.{nat_cmp_total}
 use Rattle.std.specs.FinMap.{get, insert, remove, empty, get-empty, same_map, nat_cmp-IsAntisymmetric}
-use Rattle.std.proofs.lemmas.List.{get_or-map, get_or_past, length-map, length-set, length-replicate, get_or-set_same, get_or-set_other, set-append_right, set-append_left, drop_at, take_at, take_all, set_at, get_or_append_left, get_or-append_right, get_or-replicate}
+use Rattle.std.proofs.lemmas.List.{get_or_read, get_or-map, get_or_past, length-map, length-set, length-replicate, get_or-set_same, get_or-set_other, set-append_right, set-append_left, drop_at, take_at, take_all, set_at, get_or_append_left, get_or-append_right, get_or-replicate}
 use Rattle.std.proofs.lemmas.Map.Steps.{length-le_from_distinct_below}
 use Rattle.std.proofs.lemmas.Bool.{cases_lt, cases_eq, eq-eqb, ne_eqb, false_from_ne_true}
 use Rattle.std.proofs.lemmas.Option.{none-some}
@@ -208,6 +208,16 @@ first_read a r width is sound some =
       listed = omega (arith, widths.1, has.wide);
     }
 
+-- the list of the width as a call reads it
+pub read_list : (a : Inside) (width : ℕ) (list : FreeList) → ReadsFirst a.words.items a.free.items (list_at a.free.items width).first width
+    → list ≡ get_or a.free.items width list → list ≡ list_at a.free.items width
+read_list a width list first read = get_or_read a.free.items width list first.listed read (record { first = 0; count = 0 })
+
+pub reads_first : (a : Inside) (width : ℕ) (list : FreeList) → ReadsFirst a.words.items a.free.items (list_at a.free.items width).first width
+    → list ≡ get_or a.free.items width list → ReadsFirst a.words.items a.free.items list.first width
+reads_first a width list first read =
+    subst (λ l. ReadsFirst a.words.items a.free.items l.first width) (sym (read_list a width list first read)) first
+
 pub record TakesFirst (store' : List ℕ) (lists' : List FreeList) (r : RegionState) (number width : ℕ) : Type 0 where
   pub sound : IsSound store' lists'
   pub fresh : get r.live number ≡ None
@@ -241,6 +251,38 @@ taken a r width next list store' is sound some list_is next_is store_is =
     let at_list : P list (next_of store list.first) (take (list.first + 1) store ++ (zeros ++ drop (list.first + 1 + width) store)) =
     subst (λ l. P l (next_of store l.first) (take (l.first + 1) store ++ (zeros ++ drop (l.first + 1 + width) store))) (sym list_is) here in
     subst (P list next) (sym store_is) (subst (λ n. P list n (take (list.first + 1) store ++ (zeros ++ drop (list.first + 1 + width) store))) (sym next_is) at_list)
+
+-- The same block with the words that it has.
+pub record TakesAsIs (store : List ℕ) (lists' : List FreeList) (r : RegionState) (number width : ℕ) : Type 0 where
+  pub sound : IsSound store lists'
+  pub fresh : get r.live number ≡ None
+  pub block : List ℕ
+  pub wide : length block ≡ width
+  pub live : live_of store lists' ≡ insert r.live number block
+
+pub taken_as_is : (a : Inside) (r : RegionState) (width next : ℕ) (list : FreeList) → state_of a ≡ r → IsSound a.words.items a.free.items
+    → 1 ≤ spare r width → list ≡ list_at a.free.items width → next ≡ get_or a.words.items (list.first + 1) 0
+    → TakesAsIs a.words.items (set a.free.items width (record { first = next; count = list.count - 1 })) r list.first width
+unfolding next_of
+taken_as_is a r width next list is sound some list_is next_is =
+    let store : List ℕ = a.words.items in
+    let lists : List FreeList = a.free.items in
+    let first : ℕ = (list_at lists width).first in
+    let count = spare_at a r width is in
+    let positive : 0 < (list_at lists width).count = omega (arith, count, some) in
+    let has = first_block store lists width sound positive in
+    let takes = take_block store store lists width has.block sound positive (first_read a r width is sound some).listed
+    (record { tiled = sound.tiled; here = has.at; elsewhere = λ other apart. refl }) has.wide in
+    let P : FreeList → ℕ → Type 0 = λ l n. TakesAsIs store (set lists width (record { first = n; count = l.count - 1 })) r l.first width in
+    let here : P (list_at lists width) (next_of store first) = record {
+      sound = takes.sound;
+      fresh = ap (λ s. get s.live first) (sym is) ∙ takes.fresh;
+      block = has.block;
+      wide = has.wide;
+      live = takes.live ∙ ap (λ s. insert s.live first has.block) is;
+    } in
+    let at_list : P list (next_of store list.first) = subst (λ l. P l (next_of store l.first)) (sym list_is) here in
+    subst (P list) (sym next_is) at_list
 
 -- a region with no block
 pub sound_empty : IsSound [] []

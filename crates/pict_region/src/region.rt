@@ -1,7 +1,7 @@
 // The region: its store of words, its lists of free blocks, and its work.
 ghost use Rattle.std.specs.Prelude.{◌≡◌, ◌≢◌, ◌+◌, ◌-◌, ◌^◌, ◌<◌, ◌≤◌, ◌==◌, if◌then◌else◌, ℕ, [], length, max, None, OnOk, OnErr, IsOk, IsSome, slice_index, slice_set, slice_index_or, replicate, take, drop, ◌++◌, vec_len};
 ghost use Rattle.std.specs.FinMap.{get, insert, remove, empty};
-ghost use Rattle.pict_region.specs.RegionState.{IsLive, words_of, width_of, spare, blocks, KeepsBlocks, KeepsOtherWidths, raised};
+ghost use Rattle.pict_region.specs.RegionState.{IsLive, words_of, width_of, spare, blocks, KeepsBlocks, KeepsOtherWidths, raised, GainsBlock};
 
 use crate::block::Block;
 use std::alloc::{AllocError, Global};
@@ -94,6 +94,27 @@ impl Region {
             count: list.count - 1,
         };
         clear(&mut self.words, start, width as usize);
+        self.work = one_more(self.work);
+        Block { number }
+    }
+
+    /// A block of this width, whose words are any. Numbers of blocks are below 2 to the power 63. Takes no memory.
+    #[inline(always)]
+    pub fn take_uncleared(&mut self, width: u32) -> Block
+        requires { 1 ≤ spare self.old width }
+        ensures fresh { get self.old.live result ≡ None }
+        ensures small { result < 2 ^ 63 }
+        ensures live { GainsBlock self.old self.new result width }
+        ensures spare { spare self.new width + 1 ≡ spare self.old width }
+        ensures others { KeepsOtherWidths self.old self.new width }
+        ensures blocks { KeepsBlocks self.old self.new }
+        ensures work { self.new.work ≡ raised self.old.work }
+    {
+        let list = self.free[width as usize];
+        let number = list.first;
+        let first = self.words[number as usize + 1];
+        let count = list.count - 1;
+        self.free[width as usize] = FreeList { first, count };
         self.work = one_more(self.work);
         Block { number }
     }

@@ -33,7 +33,7 @@ set-requires-clause-inside c =
 pub returns-clause-made : goal.returns-clause-made
 returns-clause-made c =
     let d = writes_one c.write_pair-3.new.queues c.set.new.self _ _ c.set.ensures.live c.set.ensures.free c.set.ensures.blocks c.set.ensures.rest c.set.ensures.lists c.set.ensures.held in
-    made_of c.args.queues.now c.take-block.new.self c.set.new.self c.take-block.result 9 _ c.take-block.ensures.live c.take-block.ensures.held c.take-block.ensures.spare c.take-block.ensures.others c.take-block.ensures.rest
+    made_of c.args.queues.now c.take-block.new.self c.set.new.self c.take-block.result 9 _ c.take-block.ensures.held c.take-block.ensures.spare c.take-block.ensures.others c.take-block.ensures.rest
     c.take-block.ensures.apart c.take-block.ensures.contents c.take-block.ensures.kept c.take-block.ensures.more c.take-block.ensures.blocks
     (all_kept c.args.queues.now c.take-block.new.self c.write_pair.new.queues c.write_pair-2.new.queues c.write_pair-3.new.queues c.set.new.self c.take-block.result c.args.kept
     c.take-block.ensures.live c.write_pair.ensures.writes c.write_pair-2.ensures.writes (rw (c.from.ensures, c.from-2.ensures) at c.write_pair-3.ensures.writes) (rw (c.from-3.ensures) at d))

@@ -4,20 +4,10 @@ use Rattle.pict_region.specs.RegionState.{spare}
 use Rattle.pict_region.specs.Layout.{list_at, state_of}
 use Rattle.pict_region.specs.declared.region.FreeList.{FreeList}
 use Rattle.pict_region.specs.declared.region.Region.TheInside.{Inside}
-use Rattle.pict_region.proofs.Calls.{ReadsFirst, first_read, TakesFirst, taken, spare_at, spare_set, spare_kept}
+use Rattle.pict_region.proofs.Calls.{ReadsFirst, first_read, TakesFirst, taken, spare_at, spare_set, spare_kept, read_list, reads_first}
 use Rattle.std.specs.Vec.{with_item}
 use Rattle.pict_region.proofs.Counts.{blocks_taken}
 use Rattle.pict_region.proofs.region.Region.take.Goals as goal
-
--- the list of the width as the call reads it
-read_list : (a : Inside) (width : ℕ) (list : FreeList) → ReadsFirst a.words.items a.free.items (list_at a.free.items width).first width
-    → list ≡ get_or a.free.items width list → list ≡ list_at a.free.items width
-read_list a width list first read = get_or_read a.free.items width list first.listed read (record { first = 0; count = 0 })
-
-reads_first : (a : Inside) (width : ℕ) (list : FreeList) → ReadsFirst a.words.items a.free.items (list_at a.free.items width).first width
-    → list ≡ get_or a.free.items width list → ReadsFirst a.words.items a.free.items list.first width
-reads_first a width list first read =
-    subst (λ l. ReadsFirst a.words.items a.free.items l.first width) (sym (read_list a width list first read)) first
 
 pub overflow_add-start : goal.overflow_add-start
 overflow_add-start c =

@@ -1,0 +1,78 @@
+use Rattle.std.specs.List.{list_any}
+use Rattle.std.proofs.Common.{sym, eqb, ◌≡◌, ℕ, List, [], length, replicate, refl, ◌∙◌, ap, arith, ◌≢◌, subst, None, IsTrue}
+use Rattle.std.proofs.lemmas.List.{length-replicate}
+use Rattle.std.specs.Option.{is_some, unwrap_or}
+use Rattle.std.specs.FinMap.{get, insert}
+use Rattle.pict_region.specs.RegionState.{width_of}
+use Rattle.pict_region.proofs.Uses.{get_inserted, get_insert_apart}
+use Rattle.pict_queue.specs.declared.queues.Queues.TheInside.{Inside}
+use Rattle.pict_queue.proofs.Orders.{held_if_apart, ThreadsStay, apart_changed, absent_if_new}
+use Rattle.pict_queue.proofs.Calls.{lists_kept}
+use Rattle.pict_queue.specs.Threads.{state_of}
+use Rattle.pict_queue.proofs.Kept.{contents_beside, held_beside, one_more_beside, taken_apart}
+use Rattle.pict_queue.proofs.queues.Queues.take_uncleared.Goals as goal
+
+after : (c : goal.After-take_uncleared) → Inside
+after c = record { region = c.take_uncleared.new.self; queues = c.self.inside.queues; spare = c.self.inside.spare }
+
+stays : (c : goal.After-take_uncleared) → ThreadsStay c.self.inside.region c.take_uncleared.new.self c.self.inside.queues.items
+stays c =
+    let block : List ℕ = c.take_uncleared.ensures.live.words in
+    let found = ap (λ m. get m c.take_uncleared.result) c.take_uncleared.ensures.live.live ∙ get_inserted c.self.inside.region.live c.take_uncleared.result block in
+    let wide : width_of c.take_uncleared.new.self c.take_uncleared.result ≡ c.args.width = ap (λ o. length (unwrap_or o [])) found ∙ c.take_uncleared.ensures.live.wide in
+    apart_changed c.self.inside.region c.take_uncleared.new.self c.self.inside.queues.items c.take_uncleared.result c.self.invariant.threaded
+    (absent_if_new c.self.inside.region c.self.inside.queues.items c.take_uncleared.result c.self.invariant.threaded c.take_uncleared.ensures.fresh)
+    (λ other apart. ap (λ m. get m other) c.take_uncleared.ensures.live.live ∙ get_insert_apart c.self.inside.region.live c.take_uncleared.result block other apart)
+    (λ live. (omega (arith, c.requires.wide, wide), c.take_uncleared.ensures.small))
+
+pub invariant_of-self : goal.invariant_of-self
+invariant_of-self c = record { threaded = (stays c).threaded; room = c.self.invariant.room }
+
+pub returns-clause-lists : goal.returns-clause-lists
+unfolding after
+returns-clause-lists c = lists_kept c.self.inside (after c) _ c.self.view_is refl (stays c)
+
+pub returns-clause-held : goal.returns-clause-held
+unfolding after
+returns-clause-held c =
+    let block : List ℕ = c.take_uncleared.ensures.live.words in
+    let found = ap (λ m. get m c.take_uncleared.result) c.take_uncleared.ensures.live.live ∙ get_inserted c.self.inside.region.live c.take_uncleared.result block in
+    held_if_apart (after c) c.take_uncleared.result (record {
+      live = ap is_some found;
+      absent = λ q. ap (list_any (eqb c.take_uncleared.result)) ((stays c).same q)
+          ∙ absent_if_new c.self.inside.region c.self.inside.queues.items c.take_uncleared.result c.self.invariant.threaded c.take_uncleared.ensures.fresh q;
+    })
+
+others : (c : goal.After-take_uncleared) (other : ℕ) → other ≢ c.take_uncleared.result → get c.take_uncleared.new.self.live other ≡ get c.args.self.now.region.live other
+others c other apart =
+    ap (λ m. get m other) c.take_uncleared.ensures.live.live ∙ get_insert_apart c.self.inside.region.live c.take_uncleared.result c.take_uncleared.ensures.live.words other apart
+    ∙ ap (λ s. get s.region.live other) c.self.view_is
+
+fresh : (c : goal.After-take_uncleared) → get c.args.self.now.region.live c.take_uncleared.result ≡ None
+fresh c = ap (λ s. get s.region.live c.take_uncleared.result) (sym c.self.view_is) ∙ c.take_uncleared.ensures.fresh
+
+pub returns-clause-apart : goal.returns-clause-apart
+returns-clause-apart c other held = taken_apart c.args.self.now c.take_uncleared.result other (fresh c) held
+
+pub returns-clause-contents : goal.returns-clause-contents
+unfolding after
+returns-clause-contents c =
+    contents_beside c.args.self.now (state_of (after c)) c.take_uncleared.result (others c) (returns-clause-lists c)
+    (λ queue stands. (returns-clause-held c).apart queue (subst (λ l. IsTrue (list_any (eqb c.take_uncleared.result) l)) (sym (returns-clause-lists c queue)) stands))
+
+pub returns-clause-kept : goal.returns-clause-kept
+unfolding after
+returns-clause-kept c other held =
+    held_beside c.args.self.now (state_of (after c)) c.take_uncleared.result (others c) (returns-clause-lists c) other (returns-clause-apart c other held) held
+
+pub returns-clause-more : goal.returns-clause-more
+unfolding after
+returns-clause-more c = one_more_beside c.args.self.now (state_of (after c)) c.take_uncleared.result (others c) (returns-clause-lists c)
+
+pub returns-clause-live : goal.returns-clause-live
+unfolding after
+returns-clause-live c = record {
+  words = c.take_uncleared.ensures.live.words;
+  wide = c.take_uncleared.ensures.live.wide;
+  live = c.take_uncleared.ensures.live.live ∙ ap (λ s. insert s.region.live c.take_uncleared.result c.take_uncleared.ensures.live.words) c.self.view_is;
+}
