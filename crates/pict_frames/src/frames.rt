@@ -19,8 +19,7 @@ pub(crate) fn write_pair(queues: &mut Queues, block: &Block, place: u32, pair: (
         (slice_set (slice_set (words_of queues.old.region block.now) place pair.0) (place + 1) pair.1) }
     ensures cost { CostsAtMost 2 queues.old queues.new }
 {
-    queues.set(block, place, pair.0);
-    queues.set(block, place + 1, pair.1);
+    queues.set_pair(block, place, pair);
 }
 
 /// Writes the values of a frame into a held block, from word 2 on: the two words of each level, from their place among
@@ -52,8 +51,7 @@ pub(crate) fn read_pair(queues: &mut Queues, block: &Block, place: u32) -> (u64,
     ensures rest { OnlyWorks queues.old queues.new }
     ensures cost { CostsAtMost 2 queues.old queues.new }
 {
-    let tag = queues.get(block, place);
-    (tag, queues.get(block, place + 1))
+    queues.get_pair(block, place)
 }
 
 /// Reads the values of a frame out of a held block, each to the place of its level among `values`. Takes no memory.

@@ -351,6 +351,40 @@ impl Queues {
         self.region.set(b, i, word);
     }
 
+    /// Words `i` and `i + 1` of a held block, from 0. Takes no memory.
+    #[inline(always)]
+    pub fn get_pair(&mut self, b: &Block, i: u32) -> (u64, u64)
+        requires held { IsHeld self.old b.now }
+        requires inside { i + 1 < width_of self.old.region b.now }
+        ensures first { result.0 ≡ slice_index (words_of self.old.region b.now) i }
+        ensures second { result.1 ≡ slice_index (words_of self.old.region b.now) (i + 1) }
+        ensures rest { self.new ≡ record self.old { region = record self.old.region { work = raised (raised self.old.region.work) } } }
+        ensures contents { KeepsAllContents self.old self.new }
+        ensures kept { KeepsHeld self.old self.new }
+        ensures no_more { HoldsNoMore self.old self.new }
+    {
+        self.region.get_pair(b, i)
+    }
+
+    /// Puts two words at indices `i` and `i + 1` of a held block, from 0. Takes no memory.
+    #[inline(always)]
+    pub fn set_pair(&mut self, b: &Block, i: u32, pair: (u64, u64))
+        requires held { IsHeld self.old b.now }
+        requires inside { i + 1 < width_of self.old.region b.now }
+        ensures live { self.new.region.live ≡ insert self.old.region.live b.now (slice_set (slice_set (words_of self.old.region b.now) i pair.0) (i + 1) pair.1) }
+        ensures free { self.new.region.free ≡ self.old.region.free }
+        ensures blocks { KeepsBlocks self.old.region self.new.region }
+        ensures work { self.new.region.work ≡ raised (raised self.old.region.work) }
+        ensures rest { self.new ≡ record self.old { region = self.new.region } }
+        ensures lists { KeepsQueues self.old self.new }
+        ensures held { IsHeld self.new b.now }
+        ensures contents { KeepsAllContents self.old self.new }
+        ensures kept { KeepsOtherHeld self.old self.new b.now }
+        ensures no_more { HoldsNoMore self.old self.new }
+    {
+        self.region.set_pair(b, i, pair);
+    }
+
     /// The work of the region.
     #[inline(always)]
     pub fn work(&self) -> u64

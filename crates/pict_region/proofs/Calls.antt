@@ -5,7 +5,7 @@ use Rattle.std.specs.List.{IsDistinct, list_any}
 use Rattle.std.specs.Ordering.{nat_cmp}
 use Rattle.std.specs.Cmp.{nat_cmp_total}
 use Rattle.std.specs.FinMap.{get, insert, remove, empty, get-empty, same_map, nat_cmp-IsAntisymmetric}
-use Rattle.std.proofs.lemmas.List.{get_or_read, get_or-map, get_or_past, length-map, length-set, length-replicate, get_or-set_same, get_or-set_other, set-append_right, set-append_left, drop_at, take_at, take_all, set_at, get_or_append_left, get_or-append_right, get_or-replicate}
+use Rattle.std.proofs.lemmas.List.{get_or_read, get_or-map, get_or_past, length-map, length-set, length-replicate, get_or-set_same, get_or-set_other, set-append_right, set-append_left, drop_at, take_at, take_all, drop_all, append-nil, set_at, get_or_append_left, get_or-append_right, get_or-replicate}
 use Rattle.std.proofs.lemmas.Map.Steps.{length-le_from_distinct_below}
 use Rattle.std.proofs.lemmas.Bool.{cases_lt, cases_eq, eq-eqb, ne_eqb, false_from_ne_true}
 use Rattle.std.proofs.lemmas.Option.{none-some}
@@ -71,6 +71,46 @@ word_set a r number token i word is sound same live inside =
     sound held (length-set (words_of r number) i word)
     (word_written a.words.items number i word (words_of r number) sound.tiled held.at inside) in
     subst (λ n. SetsWord a (set a.words.items (n + 1 + i) word) r number block) (sym same) (record {
+      sound = writes.sound;
+      live = writes.live ∙ ap (λ s. insert s.live number block) is;
+    })
+
+-- a whole store that is lent and comes back
+pub lent_whole : (len : ℕ) (items new : List ℕ) → len ≡ length items → length new ≡ length items → take len (new ++ drop (length new) items) ≡ new
+lent_whole len items new ok same =
+    ap (λ s. take len (new ++ s)) (drop_all (length new) items (omega (arith, same)))
+    ∙ ap (take len) (append-nil new)
+    ∙ take_all len new (omega (arith, ok, same))
+
+-- two words of a block, one after the other, are written
+pair_written : (store : List ℕ) (number i first second : ℕ) (block : List ℕ) → store_of (blocks_of store) ≡ store
+    → block_at (blocks_of store) number ≡ Some block → i + 1 < length block
+    → ChangesBlock store (set (set store (number + 1 + i) first) (number + 1 + i + 1) second) number (set (set block i first) (i + 1) second)
+pair_written store number i first second block tiled at inside =
+    let p = block_parts (blocks_of store) number block at in
+    let whole : List ℕ = store_of p.before ++ (length block ∷ (block ++ store_of p.after)) in
+    let half : List ℕ = store_of p.before ++ (length block ∷ (set block i first ++ store_of p.after)) in
+    let below : i < length block = omega (arith, inside) in
+    let next : length (store_of p.before) + 1 + i + 1 ≡ length (store_of p.before) + 1 + (i + 1) = omega arith in
+    overwritten store (set (set store (number + 1 + i) first) (number + 1 + i + 1) second) number block (set (set block i first) (i + 1) second) p
+    (length-set (set block i first) (i + 1) second ∙ length-set block i first)
+    (ap (λ s. set (set s (number + 1 + i) first) (number + 1 + i + 1) second) (store_parts store number block tiled p)
+    ∙ ap (λ n. set (set whole (n + 1 + i) first) (n + 1 + i + 1) second) (sym p.place_is)
+    ∙ ap (λ s. set s (length (store_of p.before) + 1 + i + 1) second) (set_inside (store_of p.before) block (store_of p.after) (length block) i first below)
+    ∙ ap (λ n. set half n second) next
+    ∙ set_inside (store_of p.before) (set block i first) (store_of p.after) (length block) (i + 1) second (omega (arith, inside, length-set block i first)))
+
+pub pair_set : (a : Inside) (r : RegionState) (number token i first second : ℕ) → state_of a ≡ r → IsSound a.words.items a.free.items → token ≡ number
+    → IsLive r number → i + 1 < width_of r number
+    → SetsWord a (set (set a.words.items (token + 1 + i) first) (token + 1 + i + 1) second) r number (set (set (words_of r number) i first) (i + 1) second)
+pair_set a r number token i first second is sound same live inside =
+    let block : List ℕ = set (set (words_of r number) i first) (i + 1) second in
+    let held = held_block a r number is sound live in
+    let wide : length block ≡ length (words_of r number) = length-set (set (words_of r number) i first) (i + 1) second ∙ length-set (words_of r number) i first in
+    let writes = write_block a.words.items (set (set a.words.items (number + 1 + i) first) (number + 1 + i + 1) second) a.free.items number (words_of r number) block
+    sound held wide
+    (pair_written a.words.items number i first second (words_of r number) sound.tiled held.at inside) in
+    subst (λ n. SetsWord a (set (set a.words.items (n + 1 + i) first) (n + 1 + i + 1) second) r number block) (sym same) (record {
       sound = writes.sound;
       live = writes.live ∙ ap (λ s. insert s.live number block) is;
     })

@@ -168,6 +168,35 @@ impl Region {
         self.work = one_more(self.work);
     }
 
+    /// Words `i` and `i + 1` of a live block, from 0. Takes no memory.
+    #[inline(always)]
+    pub fn get_pair(&mut self, b: &Block, i: u32) -> (u64, u64)
+        requires live { IsLive self.old b.now }
+        requires inside { i + 1 < width_of self.old b.now }
+        ensures first { result.0 ≡ slice_index (words_of self.old b.now) i }
+        ensures second { result.1 ≡ slice_index (words_of self.old b.now) (i + 1) }
+        ensures rest { self.new ≡ record self.old { work = raised (raised self.old.work) } }
+    {
+        self.work = one_more(one_more(self.work));
+        let start = b.number as usize + 1 + i as usize;
+        (self.words[start], self.words[start + 1])
+    }
+
+    /// Puts two words at indices `i` and `i + 1` of a live block, from 0. Takes no memory.
+    #[inline(always)]
+    pub fn set_pair(&mut self, b: &Block, i: u32, pair: (u64, u64))
+        requires live { IsLive self.old b.now }
+        requires inside { i + 1 < width_of self.old b.now }
+        ensures live { self.new.live ≡ insert self.old.live b.now (slice_set (slice_set (words_of self.old b.now) i pair.0) (i + 1) pair.1) }
+        ensures free { self.new.free ≡ self.old.free }
+        ensures blocks { KeepsBlocks self.old self.new }
+        ensures work { self.new.work ≡ raised (raised self.old.work) }
+    {
+        self.work = one_more(one_more(self.work));
+        let start = b.number as usize + 1 + i as usize;
+        put_pair(self.words.as_mut_slice(), start, pair);
+    }
+
     /// A token of the live block with this number. Takes no memory.
     #[inline(always)]
     pub fn block(&mut self, number: u64) -> Block
@@ -242,6 +271,17 @@ fn one_more(work: u64) -> u64
     ensures { result ≡ raised work }
 {
     if work < u64::MAX { work + 1 } else { work }
+}
+
+// Puts two words into the store, at this index and the next.
+#[inline(always)]
+fn put_pair(words: &mut [u64], start: usize, pair: (u64, u64))
+    requires { start + 1 < length words.old }
+    ensures words { words.new ≡ slice_set (slice_set words.old start pair.0) (start + 1) pair.1 }
+    ensures len { length words.new ≡ length words.old }
+{
+    words[start] = pair.0;
+    words[start + 1] = pair.1;
 }
 
 // Puts 0 into `count` words of the store, from `start` on.

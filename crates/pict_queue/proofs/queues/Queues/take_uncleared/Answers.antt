@@ -1,6 +1,5 @@
 use Rattle.std.specs.List.{list_any}
-use Rattle.std.proofs.Common.{sym, eqb, ◌≡◌, ℕ, List, [], length, replicate, refl, ◌∙◌, ap, arith, ◌≢◌, subst, None, IsTrue}
-use Rattle.std.proofs.lemmas.List.{length-replicate}
+use Rattle.std.proofs.Common.{sym, eqb, ◌≡◌, ℕ, List, [], length, refl, ◌∙◌, ap, arith, ◌≢◌, subst, None, IsTrue}
 use Rattle.std.specs.Option.{is_some, unwrap_or}
 use Rattle.std.specs.FinMap.{get, insert}
 use Rattle.pict_region.specs.RegionState.{width_of}

@@ -1,10 +1,9 @@
-use Rattle.std.proofs.Common.{◌≡◌, ◌∙◌, ◌+◌, ◌-◌, ◌<◌, ℕ, length, set, get_or, replicate, ap, sym, refl, subst, arith}
+use Rattle.std.proofs.Common.{◌≡◌, ◌∙◌, ◌+◌, ◌-◌, ◌<◌, length, set, replicate, ap, sym, refl, arith}
 use Rattle.std.proofs.lemmas.List.{get_or_read, length-replicate}
 use Rattle.pict_region.specs.RegionState.{spare}
-use Rattle.pict_region.specs.Layout.{list_at, state_of}
+use Rattle.pict_region.specs.Layout.{state_of}
 use Rattle.pict_region.specs.declared.region.FreeList.{FreeList}
-use Rattle.pict_region.specs.declared.region.Region.TheInside.{Inside}
-use Rattle.pict_region.proofs.Calls.{ReadsFirst, first_read, TakesFirst, taken, spare_at, spare_set, spare_kept, read_list, reads_first}
+use Rattle.pict_region.proofs.Calls.{first_read, TakesFirst, taken, spare_at, spare_set, spare_kept, read_list, reads_first}
 use Rattle.std.specs.Vec.{with_item}
 use Rattle.pict_region.proofs.Counts.{blocks_taken}
 use Rattle.pict_region.proofs.region.Region.take.Goals as goal
