@@ -164,8 +164,8 @@ impl Region {
         ensures blocks { KeepsBlocks self.old self.new }
         ensures work { self.new.work ≡ raised self.old.work }
     {
-        self.words[b.number as usize + 1 + i as usize] = word;
         self.work = one_more(self.work);
+        self.words[b.number as usize + 1 + i as usize] = word;
     }
 
     /// Words `i` and `i + 1` of a live block, from 0. Takes no memory.
