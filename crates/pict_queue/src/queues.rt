@@ -371,7 +371,8 @@ impl Queues {
     pub fn set_pair(&mut self, b: &Block, i: u32, pair: (u64, u64))
         requires held { IsHeld self.old b.now }
         requires inside { i + 1 < width_of self.old.region b.now }
-        ensures live { self.new.region.live ≡ insert self.old.region.live b.now (slice_set (slice_set (words_of self.old.region b.now) i pair.0) (i + 1) pair.1) }
+        ensures live { self.new.region.live
+            ≡ insert self.old.region.live b.now (slice_set (slice_set (words_of self.old.region b.now) i pair.0) (i + 1) pair.1) }
         ensures free { self.new.region.free ≡ self.old.region.free }
         ensures blocks { KeepsBlocks self.old.region self.new.region }
         ensures work { self.new.region.work ≡ raised (raised self.old.region.work) }
