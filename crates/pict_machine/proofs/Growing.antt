@@ -14,7 +14,6 @@ use Rattle.pict_view.specs.ViewStep.{next_view}
 use Rattle.pict_blocks.specs.Blocks.{value_in, process_of, known, operand_value}
 use Rattle.pict_blocks.proofs.Meeting.{outputs_stand}
 use Rattle.pict_operands.proofs.Making.{keeps_more, pairs_keep}
-use Rattle.pict_operands.specs.AtHand.{IsWordFor}
 use Rattle.pict_operands.specs.Needs.{both_needs, HasRoomFor, KeepsPending, IsMade}
 use Rattle.pict_operands.specs.declared.pending.Pending.{Pending}
 use Rattle.pict_prim.specs.Acts.{UsesNeed}
@@ -95,9 +94,9 @@ module _ (core : Process) (s : Store) (block channel : ℕ) (message : Val) (at 
   pub operand_over : IsOver (length s.values.items) 0 message
   operand_over = (operands_over core s block x.chan message at x.closed x.acts).1
 
-  -- its word is at hand
-  pub sends_at_hand : (w : Word) → IsWordFor s.heap (operand_value (known s.heap s.values.items) message) w → Sends core s block channel w at
-  sends_at_hand w word = record { acting = x.acts.acting; word = word.word; is = operand_process ∙ ap (λ v. Out (Chan channel) v at) (sym word.value) }
+  -- its word is there
+  pub sends_word : (w : Word) → IsWord s.heap w → value_of s.heap w ≡ operand_value (known s.heap s.values.items) message → Sends core s block channel w at
+  sends_word w word value = record { acting = x.acts.acting; word = word; is = operand_process ∙ ap (λ v. Out (Chan channel) v at) (sym value) }
 
 -- ---- while the heap grows
 

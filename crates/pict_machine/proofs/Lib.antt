@@ -1,5 +1,6 @@
 pub mod Counting
 pub mod Opening
+pub mod MadeOnce
 pub mod Codes
 pub mod Passing
 pub mod Channels

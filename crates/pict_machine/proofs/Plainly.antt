@@ -37,7 +37,8 @@ use Rattle.pict_turns.specs.declared.store.Store.{Store}
 use Rattle.pict_turns.proofs.AfterReading.{contents_read, words_read}
 use Rattle.pict_turns.proofs.Holding.{width_narrow}
 use Rattle.pict_turns.proofs.Numbered.{same_frame}
-use Rattle.pict_machine.specs.Plain.{instruction_of, IsPlainInput, IsFlatOutput, HasWord, HasPlainRoom, SendsPlainly, ReceivesPlainly, ActsPlainly, MeetsPlainly, TakesNothing}
+use Rattle.pict_machine.specs.Constants.{HasNoVariable}
+use Rattle.pict_machine.specs.Plain.{instruction_of, IsPlainInput, NeedsNoWord, HasWord, HasPlainRoom, SendsPlainly, ReceivesPlainly, ActsPlainly, MeetsPlainly, TakesNothing}
 use Rattle.pict_machine.specs.Sending.{EndsAsWide}
 use Rattle.pict_machine.specs.declared.event.Event.{Event}
 
@@ -129,11 +130,11 @@ module _ (core : Process) (s : Store) (block : ℕ) (o : Op) (a : ActsBy core s 
       ap (instruction_of (nodes_of core)) a.is.words_are ∙ ap (option_map (λ (n : Node). n.op)) a.is.at ∙ ap Some a.op_is
 
   -- an output of a node
-  pub flat_output : SendsPlainly core s (held_words s.queues.region block) → (chan message : Val) × (at : Span) × (o ≡ op.Out chan message at) × ¬ IsOfHeap message
-  flat_output x =
-      let f : IsFlatOutput (nodes_of core) (suc a.number ∷ a.is.frame) = subst (HasWord (nodes_of core)) a.is.words_are x.word in
+  pub wordless_output : SendsPlainly core s (held_words s.queues.region block) → (chan message : Val) × (at : Span) × (o ≡ op.Out chan message at) × (IsOfHeap message → HasNoVariable message)
+  wordless_output x =
+      let f : NeedsNoWord (nodes_of core) (suc a.number ∷ a.is.frame) = subst (HasWord (nodes_of core)) a.is.words_are x.word in
       let there : Some o ≡ Some (op.Out f.chan f.message f.at) = sym instruction_is ∙ ap (instruction_of (nodes_of core)) a.is.words_are ∙ f.is in
-      (f.chan, f.message, f.at, cc, f.flat)
+      (f.chan, f.message, f.at, cc, f.needs_none)
 
   -- an input that isn't replicated
   pub plain_input : (x : ReceivesPlainly core s (held_words s.queues.region block)) → (chan : Val) × (pattern : CodePat) × (o ≡ op.In chan pattern x.part)
@@ -153,7 +154,7 @@ HasPartner (op.Serve chan pattern part) = ⊥
 
 module _ (core : Process) (s : Store) (block : ℕ) (o : Op) (a : ActsBy core s block o) where
   pub has_partner : ActsPlainly core s (held_words s.queues.region block) → HasPartner o
-  has_partner (inl x) = let f = flat_output core s block o a x in subst HasPartner (sym f.3) tt
+  has_partner (inl x) = let f = wordless_output core s block o a x in subst HasPartner (sym f.3) tt
   has_partner (inr x) = let i = plain_input core s block o a x in subst HasPartner (sym i.2) tt
 
 -- a node's output sends, and its input receives
@@ -164,7 +165,7 @@ output_sends core s block chan message at a (inr x) = let i = plain_input core s
 
 pub input_receives : (core : Process) (s : Store) (block : ℕ) (chan : Val) (pattern : CodePat) (part : ℕ) → ActsBy core s block (op.In chan pattern part) → ActsPlainly core s (held_words s.queues.region block)
     → ReceivesPlainly core s (held_words s.queues.region block)
-input_receives core s block chan pattern part a (inl x) = let f = flat_output core s block (op.In chan pattern part) a x in let e : op.In chan pattern part ≡ op.Out f.0 f.1 f.2 = f.3 in cc
+input_receives core s block chan pattern part a (inl x) = let f = wordless_output core s block (op.In chan pattern part) a x in let e : op.In chan pattern part ≡ op.Out f.0 f.1 f.2 = f.3 in cc
 input_receives core s block chan pattern part a (inr x) = x
 
 -- an output of kept values sends

@@ -3,6 +3,7 @@ use Rattle.std.proofs.Common.{ℕ, ◌+◌, ◌≤◌, ◌≡◌, ◌∷◌, len
 use Rattle.std.specs.declared.alloc.AllocError.{AllocError}
 use Rattle.pict_syntax.specs.declared.span.Span.{Span}
 use Rattle.pict_core.specs.Configuration.{Configuration, IsConfiguration}
+use Rattle.pict_code.specs.Plain.{plain_code}
 use Rattle.pict_queue.specs.QueuesState.{IsHeld}
 use Rattle.pict_queue.specs.Contents.{contents, held_words, KeepsOtherContents, Releases, HoldsOneMore}
 use Rattle.pict_heap.specs.HeapState.{HeapState, IsWordOf, KeepsWords, word_value, values_of}
@@ -12,12 +13,14 @@ use Rattle.pict_view.specs.Right.{IsRightFor}
 use Rattle.pict_view.specs.Stepping.{IsStepOf}
 use Rattle.pict_turns.specs.Acting.{IsStore, IsRefused, KeepsHeap}
 use Rattle.pict_turns.specs.declared.store.Store.{Store}
+use Rattle.pict_machine.specs.Constants.{AreConstants}
 use Rattle.pict_machine.specs.Events.{label_of, trap_of, IsEventOf}
 use Rattle.pict_machine.specs.Machine.{core_in, view_of, heap_of, channels_of, IsMachine, IsUnchanged}
 use Rattle.pict_machine.specs.Stepping.{Acts, IsStepBy}
 use Rattle.pict_machine.specs.declared.machine.Machine.{Machine}
 use Rattle.pict_machine.specs.declared.event.Event.{Event}
 use Rattle.pict_machine.specs.declared.event.Event.TheVariants as event
+use Rattle.pict_machine.proofs.MadeOnce.{constants_keep}
 use Rattle.pict_machine.proofs.Taking.{refused_contents, refused_count, refused_heap, refused_view, step_of, held_of}
 
 -- the same texts and records, the same words
@@ -37,27 +40,44 @@ module _ (old : Machine) (taken : Store) (block : ℕ) (new : Store) (heap : tak
   none_held : HoldsOneMore old.store.queues taken.queues block → Releases taken.queues new.queues block → (other : ℕ) → ¬ IsHeld new.queues other
   none_held more gone other held = let b = gone other held in kept.none_held other (more other b.1 b.0)
 
+  -- what was made once is there still
+  still_constant : KeepsWords (heap_of old) new.heap → AreConstants new.heap (plain_code old.code) old.constants.items
+  still_constant keeps = constants_keep (heap_of old) new.heap keeps (plain_code old.code) old.constants.items kept.constants
+
   -- ---- a refused step
 
   unchanged : IsRefused (core_in old) taken new block → IsUnchanged old after
   unchanged r = record {
     code = refl;
+    constants = refl;
     queues = refused_count (core_in old) old.store taken block heap levels popped others count new r;
     contents = refused_contents (core_in old) old.store taken block heap levels popped others count new r;
     heap = refused_heap (core_in old) old.store taken block heap levels popped others count new r;
     view = refused_view (core_in old) old.store taken block heap levels popped others count new r;
   }
 
+  refused_keeps : IsRefused (core_in old) taken new block → KeepsWords (heap_of old) new.heap
+  refused_keeps r = same_words (heap_of old) new.heap (unchanged r).heap
+
   still_kept : HoldsOneMore old.store.queues taken.queues block → IsRefused (core_in old) taken new block → IsMachine after
-  still_kept more r = record { code = kept.code; store = r.store; held = subst IsHeldBy (sym (unchanged r).view) kept.held; none_held = none_held more r.released }
+  still_kept more r = record {
+    code = kept.code;
+    store = r.store;
+    held = subst IsHeldBy (sym (unchanged r).view) kept.held;
+    none_held = none_held more r.released;
+    constants = still_constant (refused_keeps r);
+  }
 
   still_few : IsRefused (core_in old) taken new block → channels_of after ≤ channels_of old + 1
   still_few r = omega (arith, (unchanged r).queues)
 
-  refused_keeps : IsRefused (core_in old) taken new block → KeepsWords (heap_of old) new.heap
-  refused_keeps r = same_words (heap_of old) new.heap (unchanged r).heap
-
   -- ---- a step that is done
+
+  done_keeps : (e : Event) → Acts (core_in old) taken new block e → KeepsWords (heap_of old) new.heap
+  done_keeps event.Quiet a = subst (λ h. KeepsWords h new.heap) heap a.done.keeps
+  done_keeps (event.Comm channel word) a = subst (λ h. KeepsWords h new.heap) heap a.done.keeps
+  done_keeps (event.Print word) a = subst (λ h. KeepsWords h new.heap) heap a.done.keeps
+  done_keeps (event.Trapped at) a = refused_keeps a.1
 
   module _ (right : IsRightFor (view_of old) 1) (more : HoldsOneMore old.store.queues taken.queues block) where
     machine_by : (e : Event) → IsStore (core_in old) new → Releases taken.queues new.queues block → Acts (core_in old) taken new block e → IsMachine after
@@ -66,6 +86,7 @@ module _ (old : Machine) (taken : Store) (block : ℕ) (new : Store) (heap : tak
       store = store;
       held = held_of (core_in old) old.store taken block heap levels popped others count new kept.held right.configuration right.is right.stands e a;
       none_held = none_held more gone;
+      constants = still_constant (done_keeps e a);
     }
 
     done_kept : (e : Event) → Acts (core_in old) taken new block e → IsMachine after
@@ -77,12 +98,6 @@ module _ (old : Machine) (taken : Store) (block : ℕ) (new : Store) (heap : tak
     pub step_kept : (r : Result Event AllocError) → IsStepBy (core_in old) taken new block r → IsMachine after
     step_kept (Ok e) a = done_kept e a
     step_kept (Err e) b = still_kept more b
-
-  done_keeps : (e : Event) → Acts (core_in old) taken new block e → KeepsWords (heap_of old) new.heap
-  done_keeps event.Quiet a = subst (λ h. KeepsWords h new.heap) heap a.done.keeps
-  done_keeps (event.Comm channel word) a = subst (λ h. KeepsWords h new.heap) heap a.done.keeps
-  done_keeps (event.Print word) a = subst (λ h. KeepsWords h new.heap) heap a.done.keeps
-  done_keeps (event.Trapped at) a = refused_keeps a.1
 
   grown : length new.queues.queues ≤ length taken.queues.queues + 1 → channels_of after ≤ channels_of old + 1
   grown more = omega (arith, more, count)

@@ -11,6 +11,7 @@ use Rattle.pict_view.specs.Held.{IsHeldBy}
 use Rattle.pict_turns.specs.Acting.{IsCode, IsStore, KeepsHeap}
 use Rattle.pict_turns.specs.Cost.{step_cost}
 use Rattle.pict_turns.specs.Views as store
+use Rattle.pict_machine.specs.Constants.{AreConstants}
 use Rattle.pict_machine.specs.Needs.{needed_widths}
 use Rattle.pict_machine.specs.Plain as plain
 use Rattle.pict_machine.specs.declared.machine.Machine.{Machine}
@@ -48,16 +49,19 @@ abbrev pub MeetsPlainly : Machine → Type 0
 MeetsPlainly m = plain.MeetsPlainly (core_in m) m.store
 
 -- What holds of a machine between two steps. Its code is that of a closed process, and its store is one of this code. At each
--- channel messages wait, or readers, and never both. No block is held: each live block stands in a queue.
+-- channel messages wait, or readers, and never both. No block is held: each live block stands in a queue. Of each output the
+-- word is there that is made once.
 pub record IsMachine (m : Machine) : Type 0 where
   pub code : IsCode (plain_code m.code)
   pub store : IsStore (core_in m) m.store
   pub held : IsHeldBy (view_of m)
   pub none_held : (block : ℕ) → ¬ IsHeld m.store.queues block
+  pub constants : AreConstants (heap_of m) (plain_code m.code) m.constants.items
 
 -- Nothing has changed but room, spare blocks, work, and the values of levels, which count only while a block acts.
 pub record IsUnchanged (old new : Machine) : Type 0 where
   pub code : new.code ≡ old.code
+  pub constants : new.constants ≡ old.constants
   pub queues : length new.store.queues.queues ≡ length old.store.queues.queues
   pub contents : KeepsAllContents old.store.queues new.store.queues
   pub heap : KeepsHeap (heap_of old) (heap_of new)

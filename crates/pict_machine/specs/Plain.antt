@@ -14,6 +14,7 @@ use Rattle.pict_operands.specs.AtHand.{IsOfHeap}
 use Rattle.pict_turns.specs.Parts.{block_width}
 use Rattle.pict_turns.specs.Reading.{HasFrame}
 use Rattle.pict_turns.specs.declared.store.Store.{Store}
+use Rattle.pict_machine.specs.Constants.{HasNoVariable}
 use Rattle.pict_machine.specs.declared.event.Event.{Event}
 
 -- the instruction of a block with these words behind its link, if it is one of a node
@@ -27,19 +28,19 @@ pub record IsPlainInput (nodes : List Node) (words : List ℕ) (part : ℕ) : Ty
   pub pattern : CodePat
   pub is : instruction_of nodes words ≡ Some (In chan pattern part)
 
--- an output of a node, whose message is no text and no record
-pub record IsFlatOutput (nodes : List Node) (words : List ℕ) : Type 0 where
+-- an output of a node, whose message is no text and no record, or has no variable
+pub record NeedsNoWord (nodes : List Node) (words : List ℕ) : Type 0 where
   pub chan : Val
   pub message : Val
   pub at : Span
   pub is : instruction_of nodes words ≡ Some (Out chan message at)
-  pub flat : ¬ IsOfHeap message
+  pub needs_none : IsOfHeap message → HasNoVariable message
 
--- an output of kept values, or one of a node whose message is no text and no record
+-- an output of kept values, or one of a node for whose message no word is made
 abbrev pub HasWord : List Node → List ℕ → Type 0
 HasWord nodes [] = ⊥
 HasWord nodes (zero ∷ held) = Unit {0}
-HasWord nodes (suc number ∷ held) = IsFlatOutput nodes (suc number ∷ held)
+HasWord nodes (suc number ∷ held) = NeedsNoWord nodes (suc number ∷ held)
 
 -- The frame of the part stands in a block itself, and a block of its width is free, or one of the two that meet is as wide.
 pub record HasPlainRoom (core : Process) (s : Store) (part : ℕ) (acting waiting : List ℕ) : Type 0 where
@@ -82,7 +83,8 @@ abbrev pub ActsPlainly : Process → Store → List ℕ → Type 0
 ActsPlainly core s acting = SendsPlainly core s acting ⊎ ReceivesPlainly core s acting
 
 -- A message and an input that isn't replicated meet in the step of the first of the ready ones. What is sent is no operand that
--- is a text or a record, and there is a block for the input's part, once the blocks of the two that meet are given back.
+-- is a text or a record with a variable, and there is a block for the input's part, once the blocks of the two that meet are
+-- given back.
 pub record MeetsPlainly (core : Process) (s : Store) : Type 0 where
   pub acting : List ℕ
   pub ready : List (List ℕ)

@@ -2,6 +2,7 @@
 #![tactic(auto)]
 
 mod acting;
+mod constants;
 mod event;
 mod laws;
 mod levels;

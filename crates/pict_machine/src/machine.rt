@@ -9,10 +9,11 @@ ghost use Rattle.pict_turns.specs.Acting.{IsCode};
 ghost use Rattle.pict_machine.specs.Machine.{IsMachine, view_of, heap_of, queues_of, channels_of};
 ghost use Rattle.pict_machine.specs.Opening.{AreOpening};
 
+use crate::constants::make_constants;
 use crate::levels::level_count;
 use pict_code::Code;
 use pict_frames::spawn;
-use pict_heap::Heap;
+use pict_heap::{Heap, Word};
 use pict_operands::Pending;
 use pict_queue::{QueueId, Queues};
 use pict_turns::Store;
@@ -23,9 +24,12 @@ use std::alloc::{AllocError, Global};
 /// Contracts see it by its view: the ready processes in order, and the list of what is parked at each channel, the oldest
 /// first. A configuration has stamps, the machine has none: a view stands for every configuration whose processes, by rising
 /// stamps, are these lists. Each process is a block of words: the number of its node, and the values of its free variables.
+/// The words of operands without variables are made once.
 #[derive(Drop)]
 pub struct Machine {
     pub(crate) code: Code,
+    // One place for each node: the word of an output's message that is a text or a record without variables.
+    pub(crate) constants: Vec<Option<Word>>,
     pub(crate) store: Store,
 }
 
@@ -42,8 +46,10 @@ fn opening_queues(alloc: Global) -> Result<Queues, AllocError>
 
 impl Machine {
     /// The machine that is to run the process of this code, which is closed. It stands for the opening configuration of the
-    /// process, and no channel is made. The only error is want of memory. It takes time in the nodes of the code and of its
-    /// patterns, and memory for one block and for a value for each level that the code binds.
+    /// process, and no channel is made. The words of those messages of outputs that are texts or records without variables are
+    /// made here, once. The only error is want of memory. It takes time in the nodes of the code, of its patterns and of the
+    /// operands of outputs, and memory for one block, for a place for each node, for those words and for a value for each level
+    /// that the code binds.
     pub fn load(alloc: Global, code: Code) -> Result<Machine, AllocError>
         requires code { IsCode (plain_code code) }
         ensures kept { IfOk result (λ m. IsMachine m) }
@@ -53,17 +59,20 @@ impl Machine {
     {
         let queues = opening_queues(alloc)?;
         let values = vec![in alloc; (0, 0); level_count(&code.nodes)]?;
+        let mut store = Store {
+            heap: Heap::new(alloc),
+            queues,
+            values,
+            pending: Pending {
+                words: Vec::new(alloc),
+                labelled: Vec::new(alloc),
+            },
+        };
+        let constants = make_constants(alloc, &mut store, &code.nodes)?;
         Ok(Machine {
             code,
-            store: Store {
-                heap: Heap::new(alloc),
-                queues,
-                values,
-                pending: Pending {
-                    words: Vec::new(alloc),
-                    labelled: Vec::new(alloc),
-                },
-            },
+            constants,
+            store,
         })
     }
 

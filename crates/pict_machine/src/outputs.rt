@@ -1,13 +1,22 @@
 // The steps of outputs.
-ghost use Rattle.std.specs.Prelude.{◌≡◌, ◌+◌, ℕ, List, map, length};
+ghost use Rattle.std.specs.Prelude.{◌≡◌, ◌+◌, ℕ, List, map, length, IfOk, IsSome, OnErr, Some};
+ghost use Rattle.pict_core.specs.Closed.{IsOver};
 ghost use Rattle.pict_core.specs.Plain.{plain_val};
+ghost use Rattle.pict_core.specs.Primitives.{Effect, effect_of};
+ghost use Rattle.pict_core.specs.Term.{Process};
 ghost use Rattle.pict_code.specs.Instruction as op;
 ghost use Rattle.pict_code.specs.Plain.{plain_node};
 ghost use Rattle.pict_queue.specs.Contents.{held_words};
-ghost use Rattle.pict_turns.specs.Acting.{core_in, ActsBy};
+ghost use Rattle.pict_queue.specs.QueuesState.{IsQueue, IsHeld, CostsAtMost};
+ghost use Rattle.pict_operands.specs.Pairs.{ArePairs};
+ghost use Rattle.pict_calls.specs.Arguments.{operand_in};
+ghost use Rattle.pict_calls.specs.Calling.{CallsOn, IsCalled};
+ghost use Rattle.pict_turns.specs.Acting.{core_in, ActsBy, HasActing, IsRefused};
+ghost use Rattle.pict_turns.specs.Widths.{MakesOnly, answer_widths};
 ghost use Rattle.pict_turns.specs.Parts.{block_width};
 ghost use Rattle.pict_turns.specs.Reading.{HasFrame};
 ghost use Rattle.pict_turns.specs.Views.{IsKept};
+ghost use Rattle.pict_machine.specs.Constants.{IsConstant};
 ghost use Rattle.pict_machine.specs.Needs.{MakesNeeded};
 ghost use Rattle.pict_machine.specs.Plain.{SendsPlainly, TakesNothing};
 ghost use Rattle.pict_machine.specs.Sending.{HoldsKept, event_called};
@@ -22,7 +31,7 @@ use pict_frames::{Kept, read_kept};
 use pict_heap::Word;
 use pict_operands::{word_at, word_at_hand};
 use pict_region::Block;
-use pict_syntax::Span;
+use pict_syntax::{Prim, Span};
 use pict_turns::Store;
 use std::alloc::AllocError;
 
@@ -81,7 +90,36 @@ pub(crate) fn output_kept(
     output_words(code, store, block, kept)
 }
 
-// The step of an output of the second operand on the first, of a block of this width.
+// The output of an operand to a primitive, as `call_operand` says, or where the operand has a constant as `call` says.
+fn call_message(
+    store: &mut Store,
+    block: Block,
+    p: Prim,
+    message: &Operand,
+    constant: &Option<Word>,
+    at: Span,
+) -> Result<Called, AllocError>
+    requires queue { IsQueue store.old.queues 0 }
+    requires held { IsHeld store.old.queues block }
+    requires over { IsOver (length store.old.values.items) 0 (plain_val message.now) }
+    requires pairs { ArePairs store.old.heap store.old.values.items }
+    requires constant { IsConstant store.old.heap (plain_val message.now) constant.now }
+    requires takes { IsSome (effect_of p (operand_in store.old.heap store.old.values.items (plain_val message.now))) }
+    ensures done { (core : Process)
+        → CallsOn core store.old block p (operand_in store.old.heap store.old.values.items (plain_val message.now)) at
+        → IfOk result (IsCalled core store.old store.new block) }
+    ensures refused { (core : Process) → HasActing core store.old block → OnErr result (IsRefused core store.old store.new block) }
+    ensures blocks { (e : Effect) → effect_of p (operand_in store.old.heap store.old.values.items (plain_val message.now)) ≡ Some e
+        → MakesOnly store.old.queues store.new.queues (answer_widths e) }
+    ensures cost { CostsAtMost 11 store.old.queues store.new.queues }
+{
+    match constant {
+        Some(word) => call(store, block, p, *word, at),
+        None => call_operand(store, block, p, message, at),
+    }
+}
+
+// The step of an output of the second operand, which has this constant, on the first, of a block of this width.
 pub(crate) fn output(
     code: &[Node],
     store: &mut Store,
@@ -89,11 +127,13 @@ pub(crate) fn output(
     width: u32,
     chan: &Operand,
     message: &Operand,
+    constant: &Option<Word>,
     at: Span,
 ) -> Result<Event, AllocError>
     requires may { MayAct code.now store.old block }
     requires acts { ActsBy (core_in code.now) store.old block (op.Out (plain_val chan.now) (plain_val message.now) at) }
     requires width { length (held_words store.old.queues.region block) + 1 ≡ width }
+    requires constant { IsConstant store.old.heap (plain_val message.now) constant.now }
     ensures step { IsStepBy (core_in code.now) store.old store.new block result }
     ensures work { (a : ActsBy (core_in code.now) store.old block (op.Out (plain_val chan.now) (plain_val message.now) at))
         (own : List ℕ) → HasFrame (map plain_node code.now) a.number own
@@ -104,9 +144,9 @@ pub(crate) fn output(
 {
     match word_at_hand(chan, &store.values) {
         Some(word) => match word {
-            Word::Chan(channel) => send(code, store, block, width, channel, message, at),
+            Word::Chan(channel) => send(code, store, block, width, channel, message, constant, at),
             Word::Prim(p) => {
-                let called = call_operand(store, block, p, message, at)?;
+                let called = call_message(store, block, p, message, constant, at)?;
                 Ok(event_of(called))
             }
             _ => unreachable!(),

@@ -21,17 +21,19 @@ ghost use Rattle.pict_turns.specs.Parts.{block_width};
 ghost use Rattle.pict_turns.specs.Reading.{HasFrame};
 ghost use Rattle.pict_turns.specs.Reserving.{OnlyReserves};
 ghost use Rattle.pict_turns.specs.Widths.{MakesOnly};
+ghost use Rattle.pict_machine.specs.Constants.{IsConstant};
 ghost use Rattle.pict_machine.specs.Needs.{MakesNeeded};
 ghost use Rattle.pict_machine.specs.Plain.{SendsPlainly, TakesNothing};
 ghost use Rattle.pict_machine.specs.Sending.{SendsOperand, EndsAsWide};
 ghost use Rattle.pict_machine.specs.Stepping.{MayAct, IsStepBy};
 ghost use Rattle.pict_machine.specs.Work.{Fits};
 
+use crate::constants::word_there;
 use crate::event::Event;
 use pict_code::{Node, Op, Operand};
 use pict_heap::Word;
 use pict_meetings::{Waiting, first_waiting, meet_reader, park, park_output, reserve_served};
-use pict_operands::{need, word_at_hand, word_of};
+use pict_operands::{need, word_of};
 use pict_prim::NO_NEED;
 use pict_region::Block;
 use pict_syntax::Span;
@@ -239,12 +241,13 @@ fn park_made(
     }
 }
 
-// The step of an output of an operand on a channel where no input waits.
+// The step of an output of an operand, which has this constant, on a channel where no input waits.
 fn park_operand(
     store: &mut Store,
     block: Block,
     channel: u32,
     message: &Operand,
+    constant: &Option<Word>,
     at: Span,
 ) -> Result<Event, AllocError>
     requires ready { IsQueue store.old.queues 0 }
@@ -252,12 +255,13 @@ fn park_operand(
     requires held { IsHeld store.old.queues block }
     requires over { IsOver (length store.old.values.items) 0 (plain_val message.now) }
     requires pairs { ArePairs store.old.heap store.old.values.items }
+    requires constant { IsConstant store.old.heap (plain_val message.now) constant.now }
     ensures step { (core : Process) → SendsOperand core store.old block channel (plain_val message.now) at → NoInputWaits store.old.queues channel
         → IsStepBy core store.old store.new block result }
     ensures cost { CostsAtMost 11 store.old.queues store.new.queues }
     ensures blocks { MakesOnly store.old.queues store.new.queues (9 ∷ []) }
 {
-    match word_at_hand(message, &store.values) {
+    match word_there(message, constant, &store.values) {
         Some(word) => park_word(store, block, channel, word, at),
         None => park_made(store, block, channel, message, at),
     }
@@ -302,7 +306,7 @@ fn send_made(
     }
 }
 
-// The step of an output of an operand on a channel where an input waits. Its block has this width.
+// The step of an output of an operand, which has this constant, on a channel where an input waits. Its block has this width.
 fn send_operand(
     code: &[Node],
     store: &mut Store,
@@ -311,11 +315,13 @@ fn send_operand(
     channel: u32,
     reader: usize,
     message: &Operand,
+    constant: &Option<Word>,
 ) -> Result<Event, AllocError>
     requires may { MayAct code.now store.old block }
     requires width { length (held_words store.old.queues.region block) + 1 ≡ width }
     requires sends { (at : AnySpan) × SendsOperand (core_in code.now) store.old block channel (plain_val message.now) at }
     requires first { waits_first store.old.queues channel ≡ Waiting.Input reader }
+    requires constant { IsConstant store.old.heap (plain_val message.now) constant.now }
     ensures step { IsStepBy (core_in code.now) store.old store.new block result }
     ensures cost { (replicated : Bool) (pattern : AnyPattern) (part : ℕ) (own frame : List ℕ)
         → IsInputWith (map plain_node code.now) reader replicated pattern part
@@ -327,13 +333,13 @@ fn send_operand(
     ensures plain { SendsPlainly (core_in code.now) store.old (held_words store.old.queues.region block)
         → TakesNothing store.old store.new result }
 {
-    match word_at_hand(message, &store.values) {
+    match word_there(message, constant, &store.values) {
         Some(word) => send_to_reader(code, store, block, width, channel, reader, word),
         None => send_made(code, store, block, width, channel, reader, message),
     }
 }
 
-// The step of an output of an operand on a channel. Its block has this width.
+// The step of an output of an operand, which has this constant, on a channel. Its block has this width.
 pub(crate) fn send(
     code: &[Node],
     store: &mut Store,
@@ -341,11 +347,13 @@ pub(crate) fn send(
     width: u32,
     channel: u32,
     message: &Operand,
+    constant: &Option<Word>,
     at: Span,
 ) -> Result<Event, AllocError>
     requires may { MayAct code.now store.old block }
     requires width { length (held_words store.old.queues.region block) + 1 ≡ width }
     requires sends { SendsOperand (core_in code.now) store.old block channel (plain_val message.now) at }
+    requires constant { IsConstant store.old.heap (plain_val message.now) constant.now }
     ensures step { IsStepBy (core_in code.now) store.old store.new block result }
     ensures work { (x : SendsOperand (core_in code.now) store.old block channel (plain_val message.now) at) (own : List ℕ)
         → HasFrame (map plain_node code.now) x.acts.number own
@@ -355,9 +363,9 @@ pub(crate) fn send(
         → TakesNothing store.old store.new result }
 {
     match first_waiting(&mut store.queues, channel) {
-        Waiting::Input(reader) => {
-            send_operand(code, store, block, width, channel, reader, message)
-        }
-        _ => park_operand(store, block, channel, message, at),
+        Waiting::Input(reader) => send_operand(
+            code, store, block, width, channel, reader, message, constant,
+        ),
+        _ => park_operand(store, block, channel, message, constant, at),
     }
 }

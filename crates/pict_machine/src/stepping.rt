@@ -28,8 +28,8 @@ impl Machine {
     /// can be tried again.
     ///
     /// Blocks are made only where fewer are free than the step needs. Where a message and an input that isn't replicated meet,
-    /// what is sent is no operand that is a text or a record, and the block of the input's part is as wide as a free one or one
-    /// of the two that meet, no memory is taken.
+    /// what is sent is no operand that is a text or a record with a variable, and the block of the input's part is as wide as a
+    /// free one or one of the two that meet, no memory is taken.
     ///
     /// The step may not be wrong: some configuration that the machine stands for takes it rightly. A wrong step is one that
     /// sends to or receives from what is no channel, tests what is no Bool, gives a primitive what it doesn't take, or
@@ -54,7 +54,7 @@ impl Machine {
     {
         match self.store.queues.pop_front(QueueId(0)) {
             None => unreachable!(),
-            Some(block) => act(&self.code.nodes, &mut self.store, block),
+            Some(block) => act(&self.code.nodes, &self.constants, &mut self.store, block),
         }
     }
 }

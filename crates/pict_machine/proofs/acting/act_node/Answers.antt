@@ -1,14 +1,18 @@
-use Rattle.std.proofs.Common.{ℕ, ◌≡◌, ◌+◌, List, map, refl, sym, ap, ◌∙◌, Some, ◌<◌, length, subst, arith}
+use Rattle.std.proofs.Common.{ℕ, ◌≡◌, ◌+◌, List, map, refl, sym, ap, ◌∙◌, Some, ◌<◌, length, subst, arith, get_or, None}
 use Rattle.std.specs.List.{slice_get}
-use Rattle.pict_code.specs.Plain.{plain_node}
+use Rattle.pict_code.specs.Plain.{plain_node, plain_op}
+use Rattle.pict_heap.specs.HeapState.{HeapState}
+use Rattle.pict_machine.specs.Constants.{IsConstantFor}
+use Rattle.pict_machine.proofs.MadeOnce.{as_many, constant_at}
 use Rattle.pict_turns.specs.Acting.{core_in}
 use Rattle.pict_turns.proofs.AfterReading.{acts_read}
+use Rattle.std.proofs.lemmas.List.{length-map}
 use Rattle.std.proofs.lemmas.Option.{slice_get_within}
 use Rattle.pict_code.specs.Nodes.{nodes_of}
 use Rattle.pict_turns.proofs.Numbered.{in_code}
 use Rattle.pict_machine.proofs.Working.{frame_there, fits_read}
 use Rattle.pict_machine.proofs.Passing.{may_read, step_read, op_read}
-use Rattle.pict_code.specs.Instruction.{Node}
+use Rattle.pict_code.specs.Instruction.{Node, Op}
 use Rattle.pict_queue.specs.Contents.{held_words}
 use Rattle.pict_meetings.proofs.Wide.{node_wide}
 use Rattle.pict_turns.specs.Parts.{block_width}
@@ -28,6 +32,26 @@ act_by-requires-clause-acts c =
     let at : slice_get (map plain_node code) c.args.number ≡ Some read.node = ap (λ nodes. slice_get nodes c.args.number) (sym c.requires.may.code_is.nodes_are) ∙ read.is.at in
     acts_read (core_in code) c.args.store.now c.read_part.new.store c.args.block c.args.number _ c.requires.may.acting read
     (op_read code c.args.number c.index-code-number.result read.node at c.index-code-number.is)
+
+pub bounds-constants-number : goal.bounds-constants-number
+bounds-constants-number c =
+    let code = c.args.code.now in
+    let n = c.requires.is.0 in
+    let low : c.args.number < length (nodes_of (core_in code)) = subst (λ k. k < length (nodes_of (core_in code))) c.requires.is.1 (slice_get_within (nodes_of (core_in code)) n.number n.node n.at) in
+    let few = in_code code c.requires.may.code_is c.args.number low in
+    let same = as_many c.args.store.now.heap (map plain_node code) c.args.constants.now c.requires.constants in
+    omega (arith, few, same, length-map code plain_node)
+
+pub act_by-requires-clause-constant : goal.act_by-requires-clause-constant
+act_by-requires-clause-constant c =
+    let code = c.args.code.now in
+    let constant = get_or c.args.constants.now c.args.number None in
+    let read = c.read_part.ensures.read in
+    let heap = c.args.store.now.heap in
+    let at : slice_get (map plain_node code) c.args.number ≡ Some read.node = ap (λ nodes. slice_get nodes c.args.number) (sym c.requires.may.code_is.nodes_are) ∙ read.is.at in
+    subst (λ (h : HeapState). IsConstantFor h (plain_op (get_or code c.args.number c.index-code-number.result).op) constant) (sym read.rest.heap)
+    (subst (λ (o : Op). IsConstantFor heap o constant) (op_read code c.args.number c.index-code-number.result read.node at c.index-code-number.is)
+    (constant_at heap (map plain_node code) c.args.constants.now c.args.number read.node None c.requires.constants at))
 
 pub returns-clause-step : goal.returns-clause-step
 returns-clause-step c = step_read c.args.code.now c.args.store.now c.read_part.new.store c.args.block c.read_part.ensures.read.rest c.requires.may c.act_by.new.store c.act_by.result c.act_by.ensures.step

@@ -35,12 +35,12 @@ send-requires-clause-sends c =
     subst (λ values. IsWordFor s.heap (operand_value (known s.heap values) (plain_val c.args.chan.now)) c.in-Some.word) c.deref.ensures.value (c.in-Some.ensures.word s.heap pairs) in
     record { closed = c.requires.may.code_is.closed; chan = plain_val c.args.chan.now; acts = c.requires.acts; to = sym word.value ∙ ap (value_of s.heap) c.in-Chan.is }
 
-pub call_operand-requires-clause-over : goal.call_operand-requires-clause-over
-call_operand-requires-clause-over c =
+pub call_message-requires-clause-over : goal.call_message-requires-clause-over
+call_message-requires-clause-over c =
     (operands_over (core_in c.args.code.now) c.args.store.now c.args.block (plain_val c.args.chan.now) (plain_val c.args.message.now) c.args.at c.requires.may.code_is.closed c.requires.acts).1
 
-pub call_operand-requires-clause-takes : goal.call_operand-requires-clause-takes
-call_operand-requires-clause-takes c =
+pub call_message-requires-clause-takes : goal.call_message-requires-clause-takes
+call_message-requires-clause-takes c =
     let core = core_in c.args.code.now in
     let s = c.args.store.now in
     let pairs = subst (ArePairs s.heap) (sym c.deref.ensures.value) c.requires.may.acting.store.pairs in
@@ -81,8 +81,8 @@ returns-in_ok-called-in-Prim-clause-step c =
     let word : IsWordFor s.heap (operand_value (known s.heap s.values.items) (plain_val c.args.chan.now)) c.in-Some.word =
     subst (λ values. IsWordFor s.heap (operand_value (known s.heap values) (plain_val c.args.chan.now)) c.in-Some.word) c.deref.ensures.value (c.in-Some.ensures.word s.heap pairs) in
     let calls = node_calls core s c.args.block (plain_val c.args.chan.now) (plain_val c.args.message.now) c.args.at c.requires.may.code_is.closed c.requires.acts c.in-Prim.p (sym word.value ∙ ap (value_of s.heap) c.in-Prim.is) in
-    subst (Acts core s c.call_operand.new.store c.args.block) (sym c.event_of.ensures)
-    (called_acts core s c.call_operand.new.store c.args.block c.in_ok-called-in-Prim.called (c.in_ok-called-in-Prim.ensures.done core calls))
+    subst (Acts core s c.call_message.new.store c.args.block) (sym c.event_of.ensures)
+    (called_acts core s c.call_message.new.store c.args.block c.in_ok-called-in-Prim.called (c.in_ok-called-in-Prim.ensures.done core calls))
 
 pub returns-in-Chan-clause-work : goal.returns-in-Chan-clause-work
 returns-in-Chan-clause-work c a own f =
@@ -101,8 +101,8 @@ returns-in_ok-called-in-Prim-clause-blocks c =
     subst (λ values. IsWordFor s.heap (operand_value (known s.heap values) (plain_val c.args.chan.now)) c.in-Some.word) c.deref.ensures.value (c.in-Some.ensures.word s.heap pairs) in
     let calls = node_calls core s c.args.block (plain_val c.args.chan.now) (plain_val c.args.message.now) c.args.at c.requires.may.code_is.closed c.requires.acts c.in-Prim.p (sym word.value ∙ ap (value_of s.heap) c.in-Prim.is) in
     let v = operand_value (known s.heap s.values.items) (plain_val c.args.message.now) in
-    call_needed core s c.args.block (9 ∷ []) (node_needs core s c.args.block (op.Out (plain_val c.args.chan.now) (plain_val c.args.message.now) c.args.at) c.requires.acts) c.call_operand.new.store
-    c.in-Prim.p v c.args.at calls.output (takes core s c.args.block c.in-Prim.p v c.args.at calls c.requires.may.right) c.call_operand.ensures.blocks
+    call_needed core s c.args.block (9 ∷ []) (node_needs core s c.args.block (op.Out (plain_val c.args.chan.now) (plain_val c.args.message.now) c.args.at) c.requires.acts) c.call_message.new.store
+    c.in-Prim.p v c.args.at calls.output (takes core s c.args.block c.in-Prim.p v c.args.at calls c.requires.may.right) c.call_message.ensures.blocks
 
 pub returns-in_ok-called-in-Prim-clause-plain : goal.returns-in_ok-called-in-Prim-clause-plain
 returns-in_ok-called-in-Prim-clause-plain c x =
@@ -124,8 +124,8 @@ returns-in_err-called-in-Prim-clause-blocks c =
     subst (λ values. IsWordFor s.heap (operand_value (known s.heap values) (plain_val c.args.chan.now)) c.in-Some.word) c.deref.ensures.value (c.in-Some.ensures.word s.heap pairs) in
     let calls = node_calls core s c.args.block (plain_val c.args.chan.now) (plain_val c.args.message.now) c.args.at c.requires.may.code_is.closed c.requires.acts c.in-Prim.p (sym word.value ∙ ap (value_of s.heap) c.in-Prim.is) in
     let v = operand_value (known s.heap s.values.items) (plain_val c.args.message.now) in
-    call_needed core s c.args.block (9 ∷ []) (node_needs core s c.args.block (op.Out (plain_val c.args.chan.now) (plain_val c.args.message.now) c.args.at) c.requires.acts) c.call_operand.new.store
-    c.in-Prim.p v c.args.at calls.output (takes core s c.args.block c.in-Prim.p v c.args.at calls c.requires.may.right) c.call_operand.ensures.blocks
+    call_needed core s c.args.block (9 ∷ []) (node_needs core s c.args.block (op.Out (plain_val c.args.chan.now) (plain_val c.args.message.now) c.args.at) c.requires.acts) c.call_message.new.store
+    c.in-Prim.p v c.args.at calls.output (takes core s c.args.block c.in-Prim.p v c.args.at calls c.requires.may.right) c.call_message.ensures.blocks
 
 pub returns-in_err-called-in-Prim-clause-plain : goal.returns-in_err-called-in-Prim-clause-plain
 returns-in_err-called-in-Prim-clause-plain c x =

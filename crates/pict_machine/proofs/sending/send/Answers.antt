@@ -51,6 +51,7 @@ park_operand-requires c =
       held = (c.first_waiting.ensures.kept c.args.block c.requires.may.acting.held).held;
       over = operand_over core s c.args.block c.args.channel message c.args.at c.requires.sends;
       pairs = c.requires.may.acting.store.pairs;
+      constant = c.requires.constant;
     }
 
 pub returns-in-Input-clause-step : goal.returns-in-Input-clause-step

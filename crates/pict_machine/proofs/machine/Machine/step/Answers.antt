@@ -1,6 +1,8 @@
-use Rattle.std.proofs.Common.{refl, sym, ◌∙◌, subst}
+use Rattle.std.proofs.Common.{map, refl, sym, ◌∙◌, subst}
 use Rattle.pict_turns.specs.Acting.{core_in}
 use Rattle.pict_turns.specs.declared.store.Store.{Store}
+use Rattle.pict_code.specs.Plain.{plain_code, plain_node}
+use Rattle.pict_machine.specs.Constants.{AreConstants}
 use Rattle.pict_machine.proofs.Taking.{may_taken}
 use Rattle.pict_machine.proofs.Steps.{step_kept, step_ok, step_event, step_trapped, step_refused, step_keeps, step_few}
 use Rattle.pict_machine.specs.Stepping.{MayAct, IsStepBy}
@@ -13,8 +15,14 @@ use Rattle.pict_machine.proofs.Plainly.{plainly_taken}
 use Rattle.pict_machine.proofs.Working.{step_works}
 use Rattle.pict_machine.proofs.machine.Machine.step.Goals as goal
 
-pub act-requires : goal.act-requires
-act-requires c =
+pub act-requires-clause-constants : goal.act-requires-clause-constants
+act-requires-clause-constants c =
+    let old = c.args.self.now in
+    subst (λ code. AreConstants old.store.heap (map plain_node code) c.deref-in-Some.result.now) (sym c.deref.ensures.value)
+    (subst (AreConstants old.store.heap (plain_code old.code)) (sym c.deref-in-Some.ensures.value) c.requires.kept.constants)
+
+pub act-requires-clause-may : goal.act-requires-clause-may
+act-requires-clause-may c =
     let old = c.args.self.now in
     let taken : Store = record old.store { queues = c.pop_front.new.self } in
     subst (λ code. MayAct code taken c.in-Some.block) (sym c.deref.ensures.value)
