@@ -55,7 +55,7 @@ view_of_contents core value ready channels = record {
   channels = map (map (process_of core value)) channels;
 }
 
--- ---- what a machine knows of the block with which it acts
+-- ---- what a machine knows of the node that acts
 
 -- the value of each level, of which these are the words
 abbrev pub known : HeapState → List (ℕ × ℕ) → ℕ → Val

@@ -34,7 +34,7 @@ NodesEnd =
     → IsNodeBlock core h values number node words → node.op ≡ op.Zero
     → (rest : List (List ℕ)) (channels : List (List (List ℕ))) → BlocksStep core h (words ∷ rest) channels Quiet rest channels
 
--- P | Q: the left part's block keeps the turn and the right part's becomes the last, each with the same values for its frame.
+-- P | Q: the words of the left part come first and those of the right part last, each with the same values for its frame.
 abbrev pub PartsFork : Type 0
 PartsFork =
     (core : Process) (h : HeapState) (values : List (ℕ × ℕ)) (number l r : ℕ) (node left right : Node) (words left_words right_words : List ℕ)
@@ -43,7 +43,7 @@ PartsFork =
     → (rest : List (List ℕ)) (channels : List (List (List ℕ)))
     → BlocksStep core h (words ∷ rest) channels Quiet (left_words ∷ (rest ++ right_words ∷ [])) channels
 
--- new x P: the part's block keeps the turn. Its values are those of the levels around, and the next channel at the new level.
+-- new x P: the words of the part come first. Its values are those of the levels around, and the next channel at the new level.
 abbrev pub NewsMakeChannels : Type 0
 NewsMakeChannels =
     (core : Process) (h : HeapState) (values later : List (ℕ × ℕ)) (number level l : ℕ) (node part : Node) (words part_words : List ℕ)
@@ -52,7 +52,7 @@ NewsMakeChannels =
     → ((k : ℕ) → k < level → pair_at later k ≡ pair_at values k) → known h later level ≡ Chan (length channels)
     → BlocksStep core h (words ∷ rest) channels Quiet (part_words ∷ rest) (channels ++ [] ∷ [])
 
--- if b P Q: the block of the part that the test chooses keeps the turn, with the same values.
+-- if b P Q: the words of the part that the test chooses come first, with the same values.
 abbrev pub TestsChoose : Type 0
 TestsChoose =
     (core : Process) (h : HeapState) (values : List (ℕ × ℕ)) (number l r : ℕ) (test : Val) (b : Bool) (node part : Node) (words part_words : List ℕ)
@@ -74,8 +74,8 @@ InputsStand =
     → IsClosed core → IsNodeBlock core h values number node words → node.op ≡ input_op replicated chan pattern l
     → (body : Process) × (process_of core (value_in h) words ≡ In (operand_value (known h values) chan) replicated (unleveled pattern) body)
 
--- c!v, of whatever block, with a parked reader: the block of its part becomes the last of the ready ones, with what the
--- pattern binds beside the reader's values. A replicated reader goes behind the others.
+-- c!v, of whatever block, with a parked reader: the words of its part come last among the ready ones, with what the pattern
+-- binds beside the reader's values. A replicated reader goes behind the others.
 abbrev pub OutputsMeet : Type 0
 OutputsMeet =
     (core : Process) (h : HeapState) (values later : List (ℕ × ℕ)) (c : ℕ) (v : Val) (at : Span) (words : List ℕ)
@@ -86,7 +86,7 @@ OutputsMeet =
     → (rest : List (List ℕ)) (channels : List (List (List ℕ))) → slice_get channels c ≡ Some (reader ∷ others)
     → BlocksStep core h (words ∷ rest) channels (Comm c v) (rest ++ part_words ∷ []) (slice_set channels c (others ++ if_replicated replicated reader))
 
--- v?p = P and v?*p = P, with a parked message: the block of its part becomes the last of the ready ones, with what the pattern
+-- v?p = P and v?*p = P, with a parked message: the words of its part come last among the ready ones, with what the pattern
 -- binds. A replicated input keeps the turn.
 abbrev pub InputsMeet : Type 0
 InputsMeet =

@@ -12,19 +12,19 @@ pub fn law_nodes_end()
     ensures { NodesEnd }
 {}
 
-/// The step of a parallel composition, on the words of blocks: the block of its left part keeps the turn and that of its
-/// right part becomes the last of the ready ones, each with the values of its own frame.
+/// The step of a parallel composition, on the words of blocks: the words of its left part come first and those of its right
+/// part last among the ready ones, each with the values of its own frame.
 pub fn law_parts_fork()
     ensures { PartsFork }
 {}
 
-/// The step of a new channel, on the words of blocks: the block of its part keeps the turn, with the values of the levels
-/// around it and the next channel at the new level.
+/// The step of a new channel, on the words of blocks: the words of its part come first, with the values of the levels around it
+/// and the next channel at the new level.
 pub fn law_news_make_channels()
     ensures { NewsMakeChannels }
 {}
 
-/// The step of a conditional, on the words of blocks: the block of the part that the test chooses keeps the turn.
+/// The step of a conditional, on the words of blocks: the words of the part that the test chooses come first.
 pub fn law_tests_choose()
     ensures { TestsChoose }
 {}
@@ -39,14 +39,14 @@ pub fn law_inputs_stand()
     ensures { InputsStand }
 {}
 
-/// The step of an output that meets a reader, on the words of blocks: the block of the reader's part becomes the last of the
-/// ready ones, with what the pattern binds beside the reader's values; a replicated reader goes behind the others.
+/// The step of an output that meets a reader, on the words of blocks: the words of the reader's part come last among the ready
+/// ones, with what the pattern binds beside the reader's values; a replicated reader goes behind the others.
 pub fn law_outputs_meet()
     ensures { OutputsMeet }
 {}
 
-/// The step of an input that meets a message, on the words of blocks: the block of its part becomes the last of the ready
-/// ones, with what the pattern binds beside its values; a replicated input keeps the turn.
+/// The step of an input that meets a message, on the words of blocks: the words of its part come last among the ready ones,
+/// with what the pattern binds beside its values; a replicated input keeps the turn.
 pub fn law_inputs_meet()
     ensures { InputsMeet }
 {}

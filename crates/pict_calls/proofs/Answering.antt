@@ -1,10 +1,10 @@
--- An output to a primitive needs one block where it answers, and else none.
+-- An output to a primitive needs one free block where it answers, and else none.
 use Rattle.std.proofs.Common.{ℕ, zero, suc, ℤ, pos, negsuc, ◌≡◌, ◌≢◌, ◌≤◌, ◌+◌, ◌-◌, ◌==◌, Bool, if◌then◌else◌, List, [], ◌∷◌, Option, Some, None, true, false, refl, sym, subst, arith}
 use Rattle.pict_syntax.specs.declared.primitive.Primitive.{Primitive}
 use Rattle.pict_syntax.specs.declared.primitive.Primitive.TheVariants as primitive
-use Rattle.pict_core.specs.Primitives.{Effect, Trap, effect_of, at_int, at_char, at_bool, at_text, at_two, at_three, at_ints, divided_by}
+use Rattle.pict_core.specs.Primitives.{Effect, Leaves, Nothing, Answer, Trap, effect_of, at_int, at_char, at_bool, at_text, at_two, at_three, at_ints, divided_by}
 use Rattle.pict_core.specs.Term.{Val, Vals, Labelled, Int, Char, Boolean, Text, Record, no_vals, more_vals}
-use Rattle.pict_region.specs.RegionState.{spare, blocks, KeepsBlocks}
+use Rattle.pict_region.specs.RegionState.{spare, blocks}
 use Rattle.pict_heap.specs.HeapState.{HeapState}
 use Rattle.pict_prim.specs.Acts.{effect_act}
 use Rattle.pict_prim.specs.declared.act.Act.{Act}
@@ -110,12 +110,32 @@ needed_act h (act.Join k a b) width = omega arith
 needed_act h (act.Spell k n) width = omega arith
 needed_act h act.ZeroDivisor width = none_of (width == 9)
 
--- room has been made for an act's outputs, and the act is done or refused then
-pub makes_act : (old mid new : QueuesState) (h : HeapState) (a : Act) (count : ℕ) → count ≡ outputs_of a
-    → ((width : ℕ) → blocks mid.region width ≤ blocks old.region width + ((if width == 9 then count else 0) - spare old.region width))
-    → KeepsBlocks mid.region new.region → MakesOnly old new (answer_widths (effect_act h a))
-makes_act old mid new h a count is makes keeps width =
+-- room has been made for an act's outputs
+pub makes_act : (old new : QueuesState) (h : HeapState) (a : Act) (count : ℕ) → count ≡ outputs_of a
+    → ((width : ℕ) → blocks new.region width ≤ blocks old.region width + ((if width == 9 then count else 0) - spare old.region width))
+    → MakesOnly old new (answer_widths (effect_act h a))
+makes_act old new h a count is makes width =
     let needed = subst (λ (n : ℕ). (if width == 9 then n else 0) ≤ how_many width (answer_widths (effect_act h a))) (sym is) (needed_act h a width) in
     let m = makes width in
-    let e = keeps width in
-    omega (arith, needed, m, e)
+    omega (arith, needed, m)
+
+-- ---- room for an answer
+
+-- where there is an answer, a block is free for its output
+abbrev pub HasRoomToAnswer : QueuesState → Leaves → Type 0
+HasRoomToAnswer q (Answer to answer) = 1 ≤ spare q.region 9
+HasRoomToAnswer q _ = Unit {0}
+
+module _ (q : QueuesState) where
+  pub room_for_any : (l : Leaves) → 1 ≤ spare q.region 9 → HasRoomToAnswer q l
+  room_for_any Nothing free = tt
+  room_for_any (Answer to answer) free = free
+  room_for_any Trap free = tt
+
+  pub room_for_act : (h : HeapState) (a : Act) → outputs_of a ≤ spare q.region 9 → HasRoomToAnswer q (effect_act h a).leaves
+  room_for_act h (act.Print w) free = tt
+  room_for_act h (act.Answer k a) free = free
+  room_for_act h (act.PrintAnswer w k) free = free
+  room_for_act h (act.Join k a b) free = free
+  room_for_act h (act.Spell k n) free = free
+  room_for_act h act.ZeroDivisor free = tt

@@ -4,3 +4,4 @@ pub mod Hand
 pub mod Reckoning
 pub mod Outputs
 pub mod Answering
+pub mod Numbers

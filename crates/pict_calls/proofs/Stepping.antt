@@ -1,73 +1,47 @@
 -- From what an act leaves in a store to the step of what the store stands for.
-use Rattle.std.proofs.Common.{ℕ, ◌<◌, ◌≡◌, ◌≢◌, inr, List, ◌∷◌, length, map, Option, Some, None, IsSome, refl, sym, ap, ◌∙◌, subst, arith}
+use Rattle.std.proofs.Common.{ℕ, ◌+◌, ◌≤◌, ◌≡◌, ◌≢◌, List, ◌∷◌, ◌++◌, length, map, Option, Some, None, IsSome, refl, sym, ap, ◌∙◌, subst, arith}
+use Rattle.std.specs.List.{AllByRecursion}
 use Rattle.pict_syntax.specs.declared.primitive.Primitive.{Primitive}
 use Rattle.pict_syntax.specs.declared.span.Span.{Span}
 use Rattle.pict_core.specs.Term.{Val, Process, Out}
 use Rattle.pict_core.specs.Primitives.{Effect, Leaves, Nothing, Answer, Trap, effect_of}
 use Rattle.pict_core.specs.Step.{Label, Quiet, Print, printing}
+use Rattle.pict_code.specs.Nodes.{nodes_of}
 use Rattle.pict_frames.specs.Keeping.{kept_words}
 use Rattle.pict_heap.specs.HeapState.{value_of, KeepsWords}
 use Rattle.pict_prim.specs.Done.{printed_of}
-use Rattle.pict_queue.specs.Contents.{held_words, contents, KeepsOtherContents, KeepsOtherHeld, Releases}
+use Rattle.pict_region.specs.RegionState.{spare}
+use Rattle.pict_queue.specs.QueuesState.{QueuesState, IsQueue}
+use Rattle.pict_queue.specs.Contents.{contents, HoldsNoMore}
 use Rattle.pict_view.specs.Moved.{Moves, Stops}
 use Rattle.pict_view.specs.ViewStep.{next_view, act, perform, leave}
 use Rattle.pict_blocks.specs.Blocks.{value_in, process_of, view_of_contents}
 use Rattle.pict_operands.specs.Pairs.{ArePairs}
-use Rattle.pict_operands.specs.Needs.{KeepsPending}
 use Rattle.pict_operands.proofs.Making.{pairs_keep, keeps_more}
-use Rattle.pict_queue.specs.QueuesState.{QueuesState}
-use Rattle.pict_turns.specs.Acting.{IsStore, HasActing, IsDone, IsRefused, KeepsHeap, view_with}
+use Rattle.pict_turns.specs.Acting.{IsStore, IsDone, HasBlockFor}
 use Rattle.pict_turns.specs.Reserving.{OnlyReserves}
-use Rattle.pict_turns.specs.Views.{channel_lists, AreBlocks}
+use Rattle.pict_turns.specs.Turns.{IsTurn, handing, turn_cost}
+use Rattle.pict_turns.specs.Views.{channel_lists, IsBlock, AreWaiting, words_of_turn, turn_words, acting_words, view_with_turn}
 use Rattle.pict_turns.specs.declared.store.Store.{Store}
-use Rattle.pict_turns.proofs.Views.{block_stays, block_same}
-use Rattle.pict_turns.proofs.Rows.{channels_stay, blocks_by, ready_stay, waiting_by, store_by, view_kept, done_by}
-use Rattle.pict_turns.proofs.Room.{piles_more, keeps_words, value_kept, acting_still, view_still, done_after, refused_after}
+use Rattle.pict_turns.specs.declared.turn.Turn.{Turn}
+use Rattle.pict_turns.proofs.Views.{block_same, blocks_stay}
+use Rattle.pict_turns.proofs.Rows.{store_by, view_kept, done_by}
+use Rattle.pict_turns.proofs.Room.{value_kept, reserves_nothing, words_still, acting_words_still, acting_still, view_still, refused_still, done_after, refused_after}
+use Rattle.pict_turns.proofs.Turns.{nobody_turn, nobody_room, cost_nobody, same_words, acting_block}
 use Rattle.pict_calls.specs.declared.called.Called.{Called}
 use Rattle.pict_calls.specs.declared.called.Called.TheVariants as called
 use Rattle.pict_calls.specs.Calling.{CallsOn, IsCalled}
-use Rattle.pict_calls.specs.Finishing.{IsAnswered, IsReady, HasActed}
+use Rattle.pict_calls.specs.Finishing.{IsAnswered, IsTurnAfter, HasActed}
+use Rattle.pict_calls.proofs.Answering.{HasRoomToAnswer}
 
 pub some_is : {A : Type 0} (o : Option A) → IsSome o → (x : A) × (o ≡ Some x)
 some_is None is = cc
 some_is (Some x) is = (x, refl)
 
--- the store, where queue 0 alone has changed, and the heap has grown
-store_after : (core : Process) (old new : Store) (block : ℕ) → HasActing core old block → KeepsWords old.heap new.heap → length new.queues.queues ≡ length old.queues.queues → AreBlocks core new
-    → KeepsOtherContents old.queues new.queues 0 → new.values.items ≡ old.values.items → IsStore core new
-store_after core old new block acting keeps many blocks others values =
-    store_by core old new block acting keeps (subst (λ n. 0 < n) (sym many) acting.store.ready) blocks (waiting_by core old new block acting keeps others)
-    (subst (ArePairs new.heap) (sym values) (pairs_keep old.heap new.heap keeps old.values.items acting.store.pairs)) (ap length values)
+-- ---- a step
 
--- The block is put back: it is the first of the ready ones again.
-pub record IsPutBack (old new : Store) (block : ℕ) : Type 0 where
-  pub ready : contents new.queues 0 ≡ held_words old.queues.region block ∷ contents old.queues 0
-  pub others : KeepsOtherContents old.queues new.queues 0
-  pub queues : length new.queues.queues ≡ length old.queues.queues
-  pub heap : KeepsHeap old.heap new.heap
-  pub values : new.values.items ≡ old.values.items
-  pub released : Releases old.queues new.queues block
-
-pub refused_by : (core : Process) (old new : Store) (block : ℕ) → HasActing core old block → IsPutBack old new block → IsRefused core old new block
-refused_by core old new block acting b =
-    let keeps = keeps_words old.heap new.heap b.heap in
-    let block_is = block_stays old.heap new.heap keeps core (held_words old.queues.region block) acting.is in
-    let blocks = blocks_by core old new block acting keeps (held_words old.queues.region block ∷ contents old.queues 0) b.ready (block_is, ready_stay core old new block acting keeps) b.others in
-    record {
-      ready = b.ready;
-      others = b.others;
-      queues = b.queues;
-      heap = b.heap;
-      store = store_after core old new block acting keeps b.queues blocks b.others b.values;
-      levels = ap length b.values;
-      released = b.released;
-    }
-
-module _ (core : Process) (old new : Store) (block : ℕ) (p : Primitive) (v : Val) (at : Span) (e : Effect) (called : Called)
-    (on : CallsOn core old block p v at) (is : effect_of p v ≡ Some e) (h : HasActed old new block e at called) where
-  words : List ℕ
-  words = held_words old.queues.region block
-
+module _ (core : Process) (old new : Store) (p : Primitive) (v : Val) (at : Span) (e : Effect) (called : Called)
+    (on : CallsOn core old p v at) (is : effect_of p v ≡ Some e) (h : HasActed old new e at called) where
   -- the other ready processes, and the lists of the channels
   rest : List Process
   rest = map (process_of core (value_in new.heap)) (contents old.queues 0)
@@ -75,97 +49,124 @@ module _ (core : Process) (old new : Store) (block : ℕ) (p : Primitive) (v : V
   lists : List (List Process)
   lists = map (map (process_of core (value_in new.heap))) (channel_lists old.queues)
 
-  moved : next_view (view_of_contents core (value_in new.heap) (held_words old.queues.region block ∷ contents old.queues 0) (channel_lists old.queues)) ≡ leave rest lists at (printing e.printed) e.leaves
+  moved : next_view (view_of_contents core (value_in new.heap) (acting_words core old ∷ contents old.queues 0) (channel_lists old.queues)) ≡ leave rest lists at (printing e.printed) e.leaves
   unfolding rest lists
   moved =
-      ap (act rest lists) (block_same old.heap new.heap h.keeps core (held_words old.queues.region block) on.acting.is ∙ on.output)
+      ap (act rest lists) (block_same old.heap new.heap h.keeps core (acting_words core old) (acting_block core old on.acting) ∙ on.output)
       ∙ ap (perform rest lists at) is
 
-  left : (to answer : Val) (r : IsAnswered new.heap to answer at (contents old.queues 0) (contents new.queues 0)) → process_of core (value_in new.heap) (kept_words r.kept) ≡ Out to answer at
+  left : (to answer : Val) (r : IsAnswered new.heap to answer at new.turn) → process_of core (value_in new.heap) (kept_words r.kept) ≡ Out to answer at
   left to answer r =
       ap (λ x. Out x (value_in new.heap r.kept.message.0 r.kept.message.1) r.kept.at) r.is.to_is ∙ ap (λ x. Out to x r.kept.at) r.is.message_is ∙ ap (Out to answer) r.is.at_is
 
-  -- by what is left: the step, and the blocks
-  after : (l : Leaves) (label : Label) → l ≢ Trap → IsReady new.heap l at words (contents old.queues 0) (contents new.queues 0)
-      → leave rest lists at label l ≡ Moves (view_of_contents core (value_in new.heap) (contents new.queues 0) (channel_lists old.queues)) label
+  -- by what is left: the step, who has the turn, and a free block for it
+  after : (l : Leaves) (label : Label) → l ≢ Trap → IsTurnAfter new.heap l at new.turn
+      → leave rest lists at label l ≡ Moves (view_of_contents core (value_in new.heap) (turn_words core new ++ contents old.queues 0) (channel_lists old.queues)) label
   unfolding rest lists
-  after Nothing label other r = ap (λ rs. Moves (view_of_contents core (value_in new.heap) rs (channel_lists old.queues)) label) (sym r)
+  after Nothing label other r =
+      ap (λ (t : Turn). Moves (view_of_contents core (value_in new.heap) (words_of_turn (nodes_of core) new.values.items t ++ contents old.queues 0) (channel_lists old.queues)) label) (sym r)
   after (Answer to answer) label other r =
       ap (λ (q : Process). Moves (record { ready = q ∷ rest; channels = lists }) label) (sym (left to answer r))
-      ∙ ap (λ rs. Moves (view_of_contents core (value_in new.heap) rs (channel_lists old.queues)) label) (sym r.ready_are)
+      ∙ ap (λ (t : Turn). Moves (view_of_contents core (value_in new.heap) (words_of_turn (nodes_of core) new.values.items t ++ contents old.queues 0) (channel_lists old.queues)) label) (sym r.turn_is)
   after Trap label other r = absurd (other refl)
 
-  blocks_after : (l : Leaves) → l ≢ Trap → IsReady new.heap l at words (contents old.queues 0) (contents new.queues 0) → AreBlocks core new
-  blocks_after Nothing other r = blocks_by core old new block on.acting h.keeps (contents old.queues 0) r (ready_stay core old new block on.acting h.keeps) h.others
-  blocks_after (Answer to answer) other r =
-      blocks_by core old new block on.acting h.keeps (kept_words r.kept ∷ contents old.queues 0) r.ready_are
-      (inr (record { kept = r.kept; is = refl; fits = r.is.fits; to = r.is.to_pair; message = r.is.message_pair }), ready_stay core old new block on.acting h.keeps) h.others
-  blocks_after Trap other r = absurd (other refl)
+  turn_after : (l : Leaves) → l ≢ Trap → IsTurnAfter new.heap l at new.turn → IsTurn core new.heap new.values.items new.turn
+  turn_after Nothing other r = nobody_turn core new.heap new.values.items new.turn r
+  turn_after (Answer to answer) other r =
+      subst (IsTurn core new.heap new.values.items) (sym r.turn_is) (record { kept = r.kept; is = refl; fits = r.is.fits; to = r.is.to_pair; message = r.is.message_pair })
+  turn_after Trap other r = absurd (other refl)
 
-  done : (label : Label) → printing e.printed ≡ label → e.leaves ≢ Trap → IsDone core old new block label
-  unfolding words
-  done label shows other =
-      done_by core old new block on.acting h.keeps (contents new.queues 0) (channel_lists old.queues) label
-      (moved ∙ ap (λ l. leave rest lists at l e.leaves) shows ∙ after e.leaves label other h.ready)
-      refl (channels_stay old.queues new.queues h.others h.queues)
-      (store_after core old new block on.acting h.keeps h.queues (blocks_after e.leaves other h.ready) h.others h.values)
-      (ap length h.values) (omega (arith, h.queues)) h.released
+  room_after : (l : Leaves) → l ≢ Trap → IsTurnAfter new.heap l at new.turn → HasRoomToAnswer old.queues l → AllByRecursion (HasBlockFor new.queues.region) (turn_words core new)
+  room_after Nothing other r free = nobody_room core new new.queues.region r
+  room_after (Answer to answer) other r free =
+      subst (λ (t : Turn). AllByRecursion (HasBlockFor new.queues.region) (words_of_turn (nodes_of core) new.values.items t)) (sym r.turn_is)
+      (subst (λ (q : QueuesState). 1 ≤ spare q.region 9) (sym h.queues) free, tt)
+  room_after Trap other r free = absurd (other refl)
 
-  stops : e.leaves ≡ Trap → next_view (view_with core old block) ≡ Stops at
-  stops trap = sym (ap next_view (view_kept core old new block on.acting h.keeps)) ∙ moved ∙ ap (leave rest lists at (printing e.printed)) trap
+  store_after : e.leaves ≢ Trap → HasRoomToAnswer old.queues e.leaves → IsStore core new
+  store_after other free =
+      let s = on.acting.store in
+      store_by core old new s h.keeps (subst (λ (q : QueuesState). IsQueue q 0) (sym h.queues) s.ready)
+      (λ queue.
+      subst (λ (q : QueuesState). AllByRecursion (IsBlock core new.heap) (contents q queue)) (sym h.queues) (blocks_stay old.heap new.heap h.keeps core (contents old.queues queue) (s.blocks queue)))
+      (subst (AreWaiting core) (sym h.queues) s.waiting)
+      (subst (λ vs. ArePairs new.heap vs.items) (sym h.values) (pairs_keep old.heap new.heap h.keeps old.values.items s.pairs))
+      (ap (λ vs. length vs.items) h.values) (turn_after e.leaves other h.turn) (room_after e.leaves other h.turn free)
 
--- an act of the block's output is a call
-pub called_by : (core : Process) (old new : Store) (block : ℕ) (p : Primitive) (v : Val) (at : Span) (e : Effect) (called : Called)
-    → CallsOn core old block p v at → effect_of p v ≡ Some e → HasActed old new block e at called → IsCalled core old new block called
-called_by core old new block p v at e called.Quiet on is h = done core old new block p v at e called.Quiet on is h Quiet (ap printing h.shows.0) h.shows.1
-called_by core old new block p v at e (called.Printed w) on is h =
+  done : (label : Label) → printing e.printed ≡ label → e.leaves ≢ Trap → HasRoomToAnswer old.queues e.leaves → IsDone core old new label
+  done label shows other free =
+      let same : length new.queues.queues ≡ length old.queues.queues = ap (λ (q : QueuesState). length q.queues) h.queues in
+      done_by core old new on.acting h.keeps (turn_words core new ++ contents old.queues 0) (channel_lists old.queues) label
+      (moved ∙ ap (λ l. leave rest lists at l e.leaves) shows ∙ after e.leaves label other h.turn)
+      (ap (λ (q : QueuesState). turn_words core new ++ contents q 0) h.queues) (ap channel_lists h.queues)
+      (store_after other free) (ap (λ vs. length vs.items) h.values) (omega (arith, same))
+      (subst (HoldsNoMore old.queues) (sym h.queues) (λ block held. held))
+
+  stops : e.leaves ≡ Trap → next_view (view_with_turn core old) ≡ Stops at
+  stops trap = sym (ap next_view (view_kept core old new on.acting h.keeps)) ∙ moved ∙ ap (leave rest lists at (printing e.printed)) trap
+
+-- an act of the output that has the turn is a call
+pub called_by : (core : Process) (old new : Store) (p : Primitive) (v : Val) (at : Span) (e : Effect) (called : Called)
+    → CallsOn core old p v at → effect_of p v ≡ Some e → HasRoomToAnswer old.queues e.leaves → HasActed old new e at called → IsCalled core old new called
+called_by core old new p v at e called.Quiet on is free h = done core old new p v at e called.Quiet on is h Quiet (ap printing h.shows.0) h.shows.1 free
+called_by core old new p v at e (called.Printed w) on is free h =
     let bytes = some_is (printed_of (value_of new.heap w)) h.shows.some in
     record {
       bytes = bytes.0;
       word = h.shows.word;
       prints = bytes.1;
-      done = done core old new block p v at e (called.Printed w) on is h (Print bytes.0) (ap printing (h.shows.prints ∙ bytes.1)) h.shows.no_trap;
+      done = done core old new p v at e (called.Printed w) on is h (Print bytes.0) (ap printing (h.shows.prints ∙ bytes.1)) h.shows.no_trap free;
     }
-called_by core old new block p v at e (called.Trapped place) on is h =
-    let ready = subst (λ (l : Leaves). IsReady new.heap l at (held_words old.queues.region block) (contents old.queues 0) (contents new.queues 0)) h.shows.0 h.ready in
+called_by core old new p v at e (called.Trapped place) on is free h =
     record {
-      stops = stops core old new block p v at e (called.Trapped place) on is h h.shows.0 ∙ ap Stops (sym h.shows.1);
-      unchanged = refused_by core old new block on.acting
-          (record { ready = ready; others = h.others; queues = h.queues; heap = h.trap h.shows.0; values = h.values; released = h.released });
+      stops = stops core old new p v at e (called.Trapped place) on is h h.shows.0 ∙ ap Stops (sym h.shows.1);
+      unchanged = refused_still core old new (subst (OnlyReserves old) (sym (h.trap h.shows.0)) (reserves_nothing old)) on.acting.store;
     }
+
+-- who has the turn then takes no more to set down than who had it, or than an output of an answer
+pub cost_after : (core : Process) (old new : Store) (e : Effect) (at : Span) (called : Called) → HasActed old new e at called → turn_cost core new ≤ turn_cost core old + 13
+cost_after core old new e at called h = by_case e.leaves h.turn h.trap
+  where
+    by_case : (l : Leaves) → IsTurnAfter new.heap l at new.turn → (l ≡ Trap → new ≡ old) → turn_cost core new ≤ turn_cost core old + 13
+    by_case Nothing r trap = let none = cost_nobody core new r in omega (arith, none)
+    by_case (Answer to answer) r trap =
+        let one : turn_cost core new ≡ 13 = ap (λ (t : Turn). handing (words_of_turn (nodes_of core) new.values.items t)) r.turn_is in omega (arith, one)
+    by_case Trap r trap = let same : turn_cost core new ≡ turn_cost core old = ap (turn_cost core) (trap refl) in omega (arith, same)
 
 -- ---- once room is made
 
-module _ (core : Process) (old mid : Store) (block : ℕ) (r : OnlyReserves old mid) where
-  pub calls_still : (p : Primitive) (v : Val) (at : Span) → CallsOn core old block p v at → CallsOn core mid block p v at
+module _ (core : Process) (old mid : Store) (r : OnlyReserves old mid) where
+  pub calls_still : (p : Primitive) (v : Val) (at : Span) → CallsOn core old p v at → CallsOn core mid p v at
   calls_still p v at on = record {
-    acting = acting_still core old mid r block on.acting;
+    acting = acting_still core old mid r on.acting;
     output =
-        ap (λ (value : ℕ → ℕ → Val). process_of core value (held_words mid.queues.region block)) (value_kept old.heap mid.heap r.heap)
-        ∙ ap (process_of core (value_in old.heap)) (r.held block on.acting.held).words ∙ on.output;
+        ap (λ (value : ℕ → ℕ → Val). process_of core value (acting_words core mid)) (value_kept old.heap mid.heap r.heap)
+        ∙ ap (process_of core (value_in old.heap)) (acting_words_still core old mid r) ∙ on.output;
   }
 
-  pub called_after : (last : Store) (called : Called) → HasActing core old block → IsCalled core mid last block called → IsCalled core old last block called
-  called_after last called.Quiet acting is = done_after core old mid r block last acting Quiet is
-  called_after last (called.Printed w) acting is = record { bytes = is.bytes; word = is.word; prints = is.prints; done = done_after core old mid r block last acting (Print is.bytes) is.done }
-  called_after last (called.Trapped at) acting is = record {
-    stops = sym (ap next_view (view_still core old mid r block acting)) ∙ is.stops;
-    unchanged = refused_after core old mid r block last acting is.unchanged;
+  pub called_after : (last : Store) (called : Called) → IsCalled core mid last called → IsCalled core old last called
+  called_after last called.Quiet is = done_after core old mid r last Quiet is
+  called_after last (called.Printed w) is = record { bytes = is.bytes; word = is.word; prints = is.prints; done = done_after core old mid r last (Print is.bytes) is.done }
+  called_after last (called.Trapped at) is = record {
+    stops = sym (ap next_view (view_still core old mid r)) ∙ is.stops;
+    unchanged = refused_after core old mid r last is.unchanged;
   }
+
+  pub cost_still : turn_cost core mid ≡ turn_cost core old
+  cost_still = ap handing (words_still core old mid r)
 
 -- ---- once words are made
 
-pub acted_before : (old mid new : Store) (block : ℕ) (e : Effect) (at : Span) (called : Called) → KeepsWords old.heap mid.heap → mid.queues ≡ old.queues → mid.values.items ≡ old.values.items → KeepsPending old.pending mid.pending
-    → e.leaves ≢ Trap → HasActed mid new block e at called → HasActed old new block e at called
-acted_before old mid new block e at called keeps queues values pending other h = record {
-  ready = subst (λ (q : QueuesState). IsReady new.heap e.leaves at (held_words q.region block) (contents q 0) (contents new.queues 0)) queues h.ready;
+pub cost_same : (core : Process) (s n : Store) → n.turn ≡ s.turn → n.values ≡ s.values → turn_cost core n ≡ turn_cost core s
+cost_same core s n turn values = ap handing (same_words core s n turn (ap (λ vs. vs.items) values))
+
+pub acted_before : (old mid new : Store) (e : Effect) (at : Span) (called : Called) → KeepsWords old.heap mid.heap → mid.queues ≡ old.queues → mid.values ≡ old.values → e.leaves ≢ Trap
+    → HasActed mid new e at called → HasActed old new e at called
+acted_before old mid new e at called keeps queues values other h = record {
+  turn = h.turn;
   shows = h.shows;
-  others = subst (λ (q : QueuesState). KeepsOtherContents q new.queues 0) queues h.others;
-  held = subst (λ (q : QueuesState). KeepsOtherHeld q new.queues block) queues h.held;
-  released = subst (λ (q : QueuesState). Releases q new.queues block) queues h.released;
-  queues = h.queues ∙ ap (λ (q : QueuesState). length q.queues) queues;
+  queues = h.queues ∙ queues;
+  values = h.values ∙ values;
   keeps = keeps_more old.heap mid.heap new.heap keeps h.keeps;
   trap = λ is. absurd (other is);
-  values = h.values ∙ values;
-  piles = piles_more old.pending mid.pending new.pending (record { words = pending.words; words_room = omega (arith, pending.words_room); labelled = pending.labelled; labelled_room = omega (arith, pending.labelled_room) }) h.piles;
 }

@@ -1,21 +1,20 @@
--- What an act of a primitive leaves in a store, on the words of blocks.
-use Rattle.std.specs.Prelude.{◌≡◌, ◌≢◌, ℕ, List, ◌∷◌, length, None, IsSome}
+-- What an act of a primitive leaves in a store.
+use Rattle.std.specs.Prelude.{◌≡◌, ◌≢◌, ℕ, None, IsSome}
 use Rattle.pict_syntax.specs.declared.span.Span.{Span}
 use Rattle.pict_core.specs.Term.{Val}
 use Rattle.pict_core.specs.Primitives.{Effect, Leaves, Nothing, Answer, Trap}
-use Rattle.pict_frames.specs.Keeping.{kept_words, FitsKept}
+use Rattle.pict_frames.specs.Keeping.{FitsKept}
 use Rattle.pict_frames.specs.declared.keeping.Kept.{Kept}
 use Rattle.pict_heap.specs.HeapState.{HeapState, value_of, IsWord, KeepsWords}
 use Rattle.pict_heap.specs.declared.word.Word.{Word}
 use Rattle.pict_prim.specs.Done.{printed_of}
 use Rattle.pict_prim.specs.declared.act.Act.{Act}
 use Rattle.pict_prim.specs.declared.act.Act.TheVariants as act
-use Rattle.pict_queue.specs.Contents.{held_words, contents, KeepsOtherContents, KeepsOtherHeld, Releases}
 use Rattle.pict_blocks.specs.Blocks.{value_in}
 use Rattle.pict_operands.specs.Pairs.{IsPair}
-use Rattle.pict_turns.specs.Acting.{KeepsHeap}
-use Rattle.pict_turns.specs.Reserving.{KeepsPiles}
 use Rattle.pict_turns.specs.declared.store.Store.{Store}
+use Rattle.pict_turns.specs.declared.turn.Turn.{Turn}
+use Rattle.pict_turns.specs.declared.turn.Turn.TheVariants.{Nobody, Output}
 use Rattle.pict_calls.specs.declared.called.Called.{Called}
 use Rattle.pict_calls.specs.declared.called.Called.TheVariants as called
 
@@ -28,18 +27,17 @@ pub record IsOutput (h : HeapState) (to message : Val) (at : Span) (kept : Kept)
   pub at_is : kept.at ≡ at
   pub fits : FitsKept kept
 
--- the output of an answer is the first of the ready ones, before the others
-pub record IsAnswered (h : HeapState) (to answer : Val) (at : Span) (others ready : List (List ℕ)) : Type 0 where
+-- the output of an answer has the turn
+pub record IsAnswered (h : HeapState) (to answer : Val) (at : Span) (turn : Turn) : Type 0 where
   pub kept : Kept
   pub is : IsOutput h to answer at kept
-  pub ready_are : ready ≡ kept_words kept ∷ others
+  pub turn_is : turn ≡ Output kept
 
--- What is ready once a block with these words has acted, which had the turn before the others: they alone, or before them the
--- output of an answer, or where there is a trap the block again.
-abbrev pub IsReady : HeapState → Leaves → Span → List ℕ → List (List ℕ) → List (List ℕ) → Type 0
-IsReady h Nothing at words others ready = ready ≡ others
-IsReady h (Answer to answer) at words others ready = IsAnswered h to answer at others ready
-IsReady h Trap at words others ready = ready ≡ words ∷ others
+-- who has the turn once an output has acted, where there is no trap: nobody, or the output of an answer
+abbrev pub IsTurnAfter : HeapState → Leaves → Span → Turn → Type 0
+IsTurnAfter h Nothing at turn = turn ≡ Nobody
+IsTurnAfter h (Answer to answer) at turn = IsAnswered h to answer at turn
+IsTurnAfter h Trap at turn = Unit {0}
 
 -- a word whose bytes the effect prints, if it isn't a trap
 pub record PrintsWord (h : HeapState) (e : Effect) (w : Word) : Type 0 where
@@ -54,21 +52,17 @@ Shows h e at called.Quiet = (e.printed ≡ None) × (e.leaves ≢ Trap)
 Shows h e at (called.Printed w) = PrintsWord h e w
 Shows h e at (called.Trapped place) = (e.leaves ≡ Trap) × (place ≡ at)
 
--- The act of the held block has had this effect, and the block isn't held any more. What other queues hold, the values and the
--- piles stay, and all words stand for what they stood for.
-pub record HasActed (old new : Store) (block : ℕ) (e : Effect) (at : Span) (called : Called) : Type 0 where
-  pub ready : IsReady new.heap e.leaves at (held_words old.queues.region block) (contents old.queues 0) (contents new.queues 0)
+-- The act of the output that had the turn has had this effect. The queues and the values stay, and all words stand for what they
+-- stood for. A trap changes nothing.
+pub record HasActed (old new : Store) (e : Effect) (at : Span) (called : Called) : Type 0 where
+  pub turn : IsTurnAfter new.heap e.leaves at new.turn
   pub shows : Shows new.heap e at called
-  pub others : KeepsOtherContents old.queues new.queues 0
-  pub held : KeepsOtherHeld old.queues new.queues block
-  pub released : Releases old.queues new.queues block
-  pub queues : length new.queues.queues ≡ length old.queues.queues
+  pub queues : new.queues ≡ old.queues
+  pub values : new.values ≡ old.values
   pub keeps : KeepsWords old.heap new.heap
-  pub trap : e.leaves ≡ Trap → KeepsHeap old.heap new.heap
-  pub values : new.values.items ≡ old.values.items
-  pub piles : KeepsPiles old.pending new.pending
+  pub trap : e.leaves ≡ Trap → new ≡ old
 
--- how many blocks of outputs an act leaves
+-- how many free blocks the output that an act leaves needs, so that it can have the turn
 abbrev pub outputs_of : Act → ℕ
 outputs_of (act.Print w) = 0
 outputs_of act.ZeroDivisor = 0

@@ -1,3 +1,4 @@
 pub mod Calling
 pub mod Finishing
 pub mod Arguments
+pub mod Answers

@@ -9,6 +9,6 @@ pub enum Called {
     Quiet,
     /// The step is done, and prints this text or number.
     Printed(Word),
-    /// The step divides by zero, for the output at this place. It changes nothing.
+    /// The step divides by zero, for the output at this place. It changes nothing but room and spare blocks.
     Trapped(Span),
 }

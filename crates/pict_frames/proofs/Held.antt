@@ -1,14 +1,14 @@
 -- A block that is taken and written, and what it does to the contents of queues and to the other held blocks.
-use Rattle.std.proofs.Common.{◌≡◌, ◌≢◌, ℕ, ◌+◌, ◌≤◌, List, [], ◌∷◌, ◌++◌, take, drop, length, set, get_or, replicate, refl, ◌∙◌, ap, subst, arith}
+use Rattle.std.proofs.Common.{◌≡◌, ◌≢◌, ℕ, ◌+◌, List, [], ◌∷◌, ◌++◌, drop, get_or, replicate, ◌∙◌, ap, subst, arith}
 use Rattle.std.specs.Option.{unwrap_or}
 use Rattle.std.specs.FinMap.{insert}
-use Rattle.pict_region.specs.RegionState.{spare, words_of, GainsBlock, KeepsBlocks, KeepsOtherWidths}
+use Rattle.pict_region.specs.RegionState.{spare, words_of, KeepsBlocks, KeepsOtherWidths}
 use Rattle.pict_queue.specs.QueuesState.{QueuesState, IsHeld}
 use Rattle.pict_queue.specs.Contents.{held_words, contents, KeepsAllContents, KeepsHeld, KeepsOtherHeld, HoldsNoMore, Releases, HoldsOneMore}
 use Rattle.pict_queue.proofs.Kept.{contents_beside, held_beside, one_more_beside, no_more_if_held}
 use Rattle.pict_region.proofs.Counts.{blocks_same}
 use Rattle.pict_frames.specs.Writing.{OnlyWrites, OnlyWorks, IsMade}
-use Rattle.pict_frames.proofs.Written.{inserted_here, writes_words, writes_words_of}
+use Rattle.pict_frames.proofs.Written.{inserted_here, writes_words}
 
 -- one held block is written
 pub written_contents : (old new : QueuesState) (block : ℕ) (ws : List ℕ) → IsHeld old block → OnlyWrites old new block ws → KeepsAllContents old new
@@ -22,15 +22,6 @@ written_no_more old new block ws held w = no_more_if_held old new block held (on
 
 pub taken_words : (old new : QueuesState) (block width : ℕ) → new.region.live ≡ insert old.region.live block (replicate width 0) → words_of new.region block ≡ replicate width 0
 taken_words old new block width live = ap (λ o. unwrap_or o []) (inserted_here old.region new.region block (replicate width 0) live)
-
--- the words of a new block behind its link, whatever it had before
-new_words : (before : List ℕ) (x : ℕ) (fs : List ℕ) → 2 ≤ length before → drop 1 (take 2 (set before 1 x) ++ fs) ≡ x ∷ fs
-new_words [] x fs h = absurd (omega arith)
-new_words (b ∷ []) x fs h = absurd (omega arith)
-new_words (b ∷ c ∷ bs) x fs h = refl
-
-pub gained_words : (old new : QueuesState) (block width : ℕ) → (g : GainsBlock old.region new.region block width) → words_of new.region block ≡ g.words
-gained_words old new block width g = ap (λ o. unwrap_or o []) (inserted_here old.region new.region block g.words g.live)
 
 -- a block that was taken, and has these words now
 module _ (old taken new : QueuesState) (block width : ℕ) (ws : List ℕ)
@@ -55,23 +46,6 @@ module _ (old taken new : QueuesState) (block width : ℕ) (ws : List ℕ)
     more = λ other h apart. more other (one_more_beside taken new block written.others written.lists other h apart) apart;
     blocks = λ v. written.blocks v ∙ blocks v;
   }
-
-module _ (old taken numbered new : QueuesState) (block width x : ℕ) (fs : List ℕ)
-    (gains : GainsBlock old.region taken.region block width) (held : IsHeld taken block)
-    (left : spare taken.region width + 1 ≡ spare old.region width) (widths : KeepsOtherWidths old.region taken.region width) (rest : taken ≡ record old { region = taken.region })
-    (apart : (other : ℕ) → IsHeld old other → other ≢ block) (same : KeepsAllContents old taken) (kept : KeepsHeld old taken)
-    (more : HoldsOneMore old taken block) (blocks : KeepsBlocks old.region taken.region)
-    (v : OnlyWrites taken numbered block (set (words_of taken.region block) 1 x))
-    (w : OnlyWrites numbered new block (take 2 (words_of numbered.region block) ++ fs)) where
-  both_written : OnlyWrites taken new block (take 2 (set gains.words 1 x) ++ fs)
-  both_written =
-      subst (λ us. OnlyWrites taken new block (take 2 (set us 1 x) ++ fs)) (gained_words old taken block width gains)
-      (writes_words_of taken numbered new block (set (words_of taken.region block) 1 x) (λ us. take 2 us ++ fs) v w)
-
-  pub made : 2 ≤ width → IsMade old new block (x ∷ fs) width
-  made wide =
-      subst (λ us. IsMade old new block us width) (new_words gains.words x fs (omega (arith, wide, gains.wide)))
-      (made_of old taken new block width (take 2 (set gains.words 1 x) ++ fs) held left widths rest apart same kept more blocks both_written)
 
 -- the block is pushed
 pub made_pushed : (old made new : QueuesState) (queue block width : ℕ) (ws : List ℕ) → (m : IsMade old made block ws width)

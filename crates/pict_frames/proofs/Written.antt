@@ -1,14 +1,12 @@
 -- Words written one after another.
-use Rattle.std.proofs.Common.{length-append, ◌≡◌, ◌≢◌, ℕ, zero, suc, ◌+◌, ◌*◌, ◌<◌, ◌≤◌, List, [], ◌∷◌, ◌++◌, length, take, drop, set, get_or, Some, refl, sym, ◌∙◌, ap, subst, arith}
-use Rattle.std.proofs.lemmas.List.{length-set, length-drop, length-take, append_assoc}
-use Rattle.std.proofs.Math.Seq.{take-suc}
+use Rattle.std.proofs.Common.{◌≡◌, ◌≢◌, ℕ, ◌<◌, List, [], length, set, Some, refl, ◌∙◌, ap, subst, arith}
+use Rattle.std.proofs.lemmas.List.{length-set}
 use Rattle.std.specs.Option.{unwrap_or}
 use Rattle.std.specs.FinMap.{get, insert}
 use Rattle.pict_region.specs.RegionState.{RegionState, words_of, width_of, KeepsBlocks}
 use Rattle.pict_region.proofs.Calls.{some_words}
 use Rattle.pict_region.proofs.Uses.{get_inserted, get_insert_apart}
 use Rattle.pict_queue.specs.QueuesState.{QueuesState, IsHeld, KeepsQueues}
-use Rattle.pict_frames.specs.Framed.{frame_words, pair_at}
 use Rattle.pict_frames.specs.Writing.{OnlyWrites}
 
 -- a state writes nothing
@@ -38,23 +36,6 @@ writes_more a b c block ws vs v w = record {
   lists = λ q. w.lists q ∙ v.lists q;
   held = w.held;
 }
-
--- ---- the words of a frame, two at a time
-
-set_seam : (front : List ℕ) (y : ℕ) (rest : List ℕ) (a : ℕ) → set (front ++ y ∷ rest) (length front) a ≡ front ++ a ∷ rest
-set_seam [] y rest a = refl
-set_seam (x ∷ front) y rest a = ap (λ ws. x ∷ ws) (set_seam front y rest a)
-
-set_next : (front : List ℕ) (x y : ℕ) (rest : List ℕ) (b : ℕ) → set (front ++ x ∷ y ∷ rest) (length front + 1) b ≡ front ++ x ∷ b ∷ rest
-set_next [] x y rest b = refl
-set_next (w ∷ front) x y rest b = let e : length (w ∷ front) + 1 ≡ suc (length front + 1) = omega arith in rw e (ap (λ ws. w ∷ ws) (set_next front x y rest b))
-
--- the next two words of what is left
-pub two_set : (front rest : List ℕ) (place a b : ℕ) → place ≡ length front → 2 ≤ length rest
-    → set (set (front ++ rest) place a) (place + 1) b ≡ front ++ a ∷ b ∷ drop 2 rest
-two_set front [] place a b e h = absurd (omega arith)
-two_set front (x ∷ []) place a b e h = absurd (omega arith)
-two_set front (x ∷ y ∷ rest) place a b e h = rw e (ap (λ ws. set ws (length front + 1) b) (set_seam front x (y ∷ rest) a) ∙ set_next front a y rest b)
 
 -- ---- one word
 
@@ -88,57 +69,3 @@ inside_still a b block i w at v h =
 
 pub width_still : (a b : QueuesState) (block : ℕ) (ws : List ℕ) → OnlyWrites a b block ws → width_of b.region block ≡ length ws
 width_still a b block ws v = ap length (writes_words a b block ws v)
-
--- ---- a value more
-
-abbrev pub so_far : List ℕ → List (ℕ × ℕ) → List ℕ → ℕ → List ℕ
-so_far ws values frame i = (take 2 ws ++ frame_words values (take i frame)) ++ drop (2 + 2 * i) ws
-
-pub frame_words-append : (values : List (ℕ × ℕ)) (xs ys : List ℕ) → frame_words values (xs ++ ys) ≡ frame_words values xs ++ frame_words values ys
-frame_words-append values [] ys = refl
-frame_words-append values (x ∷ xs) ys = cc (frame_words-append values xs ys)
-
-length_frame_words : (values : List (ℕ × ℕ)) (xs : List ℕ) → length (frame_words values xs) ≡ 2 * length xs
-length_frame_words values [] = refl
-length_frame_words values (x ∷ xs) = omega (arith, length_frame_words values xs)
-
-drop_two : (n : ℕ) (ws : List ℕ) → drop 2 (drop n ws) ≡ drop (n + 2) ws
-drop_two zero ws = refl
-drop_two (suc n) [] = let e : suc n + 2 ≡ suc (n + 2) = omega arith in rw e refl
-drop_two (suc n) (w ∷ ws) = let e : suc n + 2 ≡ suc (n + 2) = omega arith in rw e (drop_two n ws)
-
-pub frame_more : (ws : List ℕ) (values : List (ℕ × ℕ)) (frame : List ℕ) (i level place : ℕ) → i < length frame → length ws ≡ 2 + 2 * length frame
-    → place ≡ 2 + 2 * i → level ≡ get_or frame i 0
-    → set (set (so_far ws values frame i) place (pair_at values level).0) (place + 1) (pair_at values level).1 ≡ so_far ws values frame (i + 1)
-frame_more ws values frame i level place low wide e is =
-    let front = take 2 ws ++ frame_words values (take i frame) in
-    let many : length front ≡ 2 + 2 * i = omega (arith, length-append (take 2 ws) (frame_words values (take i frame)), length-take 2 ws, length_frame_words values (take i frame), length-take i frame) in
-    let next : i + 1 ≡ suc i = omega arith in
-    let twice : 2 + 2 * (i + 1) ≡ 2 + 2 * i + 2 = omega arith in
-    let more : take (i + 1) frame ≡ take i frame ++ level ∷ [] = ap (λ n. take n frame) next ∙ take-suc frame i 0 low ∙ ap (λ l. take i frame ++ l ∷ []) (sym is) in
-    two_set front (drop (2 + 2 * i) ws) place (pair_at values level).0 (pair_at values level).1 (omega (arith, many)) (omega (arith, length-drop (2 + 2 * i) ws))
-    ∙ sym (
-    ap (λ fs. (take 2 ws ++ frame_words values fs) ++ drop (2 + 2 * (i + 1)) ws) more
-    ∙ ap (λ us. (take 2 ws ++ us) ++ drop (2 + 2 * (i + 1)) ws) (frame_words-append values (take i frame) (level ∷ []))
-    ∙ ap (λ n. (take 2 ws ++ (frame_words values (take i frame) ++ (pair_at values level).0 ∷ (pair_at values level).1 ∷ [])) ++ drop n ws) twice
-    ∙ ap (λ rest. (take 2 ws ++ (frame_words values (take i frame) ++ (pair_at values level).0 ∷ (pair_at values level).1 ∷ [])) ++ rest) (sym (drop_two (2 + 2 * i) ws))
-    ∙ ap (λ us. us ++ drop 2 (drop (2 + 2 * i) ws)) (sym (append_assoc (take 2 ws) (frame_words values (take i frame)) _))
-    ∙ append_assoc front _ (drop 2 (drop (2 + 2 * i) ws)))
-
-pub writes_value : (a b c : QueuesState) (block : ℕ) (ws : List ℕ) (values : List (ℕ × ℕ)) (frame : List ℕ) (i level place : ℕ) → i < length frame → length ws ≡ 2 + 2 * length frame
-    → place ≡ 2 + 2 * i → level ≡ get_or frame i 0
-    → OnlyWrites a b block (so_far ws values frame i)
-    → OnlyWrites b c block (set (set (words_of b.region block) place (pair_at values level).0) (place + 1) (pair_at values level).1)
-    → OnlyWrites a c block (so_far ws values frame (i + 1))
-writes_value a b c block ws values frame i level place low wide e is v w =
-    subst (λ us. OnlyWrites a c block us) (frame_more ws values frame i level place low wide e is)
-    (writes_words_of a b c block (so_far ws values frame i) (λ us. set (set us place (pair_at values level).0) (place + 1) (pair_at values level).1) v w)
-
-length_so_far : (ws : List ℕ) (values : List (ℕ × ℕ)) (frame : List ℕ) (i : ℕ) → i < length frame → length ws ≡ 2 + 2 * length frame → length (so_far ws values frame i) ≡ 2 + 2 * length frame
-length_so_far ws values frame i low wide =
-    omega (arith, length-append (take 2 ws ++ frame_words values (take i frame)) (drop (2 + 2 * i) ws), length-append (take 2 ws) (frame_words values (take i frame)), length-take 2 ws, length_frame_words values (take i frame), length-take i frame, length-drop (2 + 2 * i) ws)
-
-pub place_inside : (a b : QueuesState) (block : ℕ) (ws : List ℕ) (values : List (ℕ × ℕ)) (frame : List ℕ) (i place : ℕ) → i < length frame → length ws ≡ 2 + 2 * length frame
-    → place ≡ 2 + 2 * i → OnlyWrites a b block (so_far ws values frame i) → place + 1 < width_of b.region block
-place_inside a b block ws values frame i place low wide e v =
-    omega (arith, width_still a b block _ v, length_so_far ws values frame i low wide, e, low)

@@ -1,20 +1,7 @@
 -- The values of a frame as the words of a block.
-use Rattle.std.specs.Prelude.{ℕ, ◌≤◌, ◌+◌, suc, List, [], ◌∷◌, slice_index_or}
-
--- the two words of a level
-abbrev pub pair_at : List (ℕ × ℕ) → ℕ → ℕ × ℕ
-pair_at values level = slice_index_or values level (0, 0)
-
--- two words a value, in the order of the frame
-abbrev pub frame_words : List (ℕ × ℕ) → List ℕ → List ℕ
-frame_words values [] = []
-frame_words values (level ∷ levels) = (pair_at values level).0 ∷ (pair_at values level).1 ∷ frame_words values levels
+use Rattle.std.specs.Prelude.{ℕ, suc, List, ◌∷◌}
+pub use Rattle.pict_region.specs.Values.{pair_at, frame_words, AreRising}
 
 -- the words of a block of the node with this number, behind its link
 abbrev pub node_words : List (ℕ × ℕ) → ℕ → List ℕ → List ℕ
 node_words values number frame = suc number ∷ frame_words values frame
-
--- the levels increase, from this one on
-abbrev pub AreRising : ℕ → List ℕ → Type 0
-AreRising low [] = Unit {0}
-AreRising low (level ∷ levels) = (low ≤ level) × AreRising (level + 1) levels

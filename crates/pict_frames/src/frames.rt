@@ -1,5 +1,5 @@
 // Frames in blocks.
-ghost use Rattle.std.specs.Prelude.{◌≡◌, ◌<◌, ◌≤◌, ◌+◌, ◌*◌, ◌^◌, ◌++◌, ℕ, All, length, take, drop, slice_set, slice_index, eqb, false};
+ghost use Rattle.std.specs.Prelude.{◌≡◌, ◌<◌, ◌≤◌, ◌+◌, ◌*◌, ◌^◌, ℕ, All, length, drop, slice_set, slice_index, eqb, false};
 ghost use Rattle.std.specs.List.{list_any};
 ghost use Rattle.pict_region.specs.RegionState.{words_of, width_of};
 ghost use Rattle.pict_queue.specs.QueuesState.{IsHeld, CostsAtMost};
@@ -20,24 +20,6 @@ pub(crate) fn write_pair(queues: &mut Queues, block: &Block, place: u32, pair: (
     ensures cost { CostsAtMost 2 queues.old queues.new }
 {
     queues.set_pair(block, place, pair);
-}
-
-/// Writes the values of a frame into a held block, from word 2 on: the two words of each level, from their place among
-/// `values`. Takes no memory.
-#[inline(always)]
-pub fn write_frame(queues: &mut Queues, block: &Block, frame: &[u32], values: &[(u64, u64)])
-    requires held { IsHeld queues.old block.now }
-    requires wide { width_of queues.old.region block.now ≡ 2 + 2 * length frame.now }
-    requires narrow { length frame.now ≤ 32000 }
-    requires known { All (λ level. level < length values.now) frame.now }
-    ensures writes { OnlyWrites queues.old queues.new block.now (take 2 (words_of queues.old.region block.now) ++ frame_words values.now frame.now) }
-    ensures cost { CostsAtMost (2 * length frame.now) queues.old queues.new }
-{
-    let mut place = 2;
-    for level in frame {
-        write_pair(queues, block, place, values[*level as usize]);
-        place += 2;
-    }
 }
 
 // The value of a held block at this word and the next.
@@ -68,9 +50,5 @@ pub fn read_frame(queues: &mut Queues, block: &Block, frame: &[u32], values: &mu
     ensures rest { OnlyWorks queues.old queues.new }
     ensures cost { CostsAtMost (2 * length frame.now) queues.old queues.new }
 {
-    let mut place = 2;
-    for level in frame {
-        values[*level as usize] = read_pair(queues, block, place);
-        place += 2;
-    }
+    queues.read_values(block, 2, frame, values);
 }

@@ -6,6 +6,6 @@ mod frames;
 mod keeping;
 mod spawning;
 
-pub use frames::{read_frame, write_frame};
+pub use frames::read_frame;
 pub use keeping::{Kept, kept_block, read_kept};
 pub use spawning::{block_of, spawn};

@@ -1,28 +1,26 @@
 // A node of the code, with values for its frame, becomes a block.
-ghost use Rattle.std.specs.Prelude.{◌≡◌, ◌≢◌, ◌<◌, ◌≤◌, ◌+◌, ◌*◌, ◌++◌, ◌∷◌, [], ℕ, All, length};
+ghost use Rattle.std.specs.Prelude.{◌≡◌, ◌≢◌, ◌<◌, ◌≤◌, ◌+◌, ◌*◌, ◌^◌, ◌++◌, ◌∷◌, [], ℕ, All, length};
 ghost use Rattle.pict_region.specs.RegionState.{spare, KeepsBlocks, KeepsOtherWidths};
 ghost use Rattle.pict_queue.specs.QueuesState.{IsQueue, CostsAtMost};
 ghost use Rattle.pict_queue.specs.Contents.{contents, KeepsOtherContents, KeepsHeld, HoldsNoMore};
 ghost use Rattle.pict_frames.specs.Framed.{node_words};
 ghost use Rattle.pict_frames.specs.Writing.{IsMade};
 
-use crate::frames::write_frame;
 use pict_queue::{QueueId, Queues};
 use pict_region::Block;
 
 /// A new block of the node with this number, with these values for its frame. Takes no memory.
 #[inline(always)]
-pub fn block_of(queues: &mut Queues, number: u32, frame: &[u32], values: &[(u64, u64)]) -> Block
+pub fn block_of(queues: &mut Queues, number: usize, frame: &[u32], values: &[(u64, u64)]) -> Block
+    requires small { number + 1 < 2 ^ 64 }
     requires narrow { length frame.now ≤ 32000 }
     requires spare { 1 ≤ spare queues.old.region (2 + 2 * length frame.now) }
     requires known { All (λ level. level < length values.now) frame.now }
     ensures made { IsMade queues.old queues.new result (node_words values.now number frame.now) (2 + 2 * length frame.now) }
     ensures cost { CostsAtMost (2 * length frame.now + 2) queues.old queues.new }
 {
-    let block = queues.take_uncleared(2 + 2 * frame.len() as u32);
-    queues.set(&block, 1, u64::from(number) + 1);
-    write_frame(queues, &block, frame, values);
-    block
+    let width = 2 + 2 * frame.len() as u32;
+    queues.take_values(width, number as u64 + 1, frame, values)
 }
 
 /// A new block of the node with this number, with these values for its frame, becomes the last of a queue. Takes no
@@ -43,6 +41,6 @@ pub fn spawn(queues: &mut Queues, queue: QueueId, number: u32, frame: &[u32], va
     ensures widths { KeepsOtherWidths queues.old.region queues.new.region (2 + 2 * length frame.now) }
     ensures cost { CostsAtMost (2 * length frame.now + 4) queues.old queues.new }
 {
-    let block = block_of(queues, number, frame, values);
+    let block = block_of(queues, number as usize, frame, values);
     queues.push_back(queue, block);
 }

@@ -16,10 +16,10 @@ some_printed : (o : Option (List ℕ)) (bytes : List ℕ) → o ≡ Some bytes �
 some_printed None bytes e = cc
 some_printed (Some b) bytes e = refl
 
-pub called_acts : (core : Process) (old new : Store) (block : ℕ) (c : Called) → IsCalled core old new block c → Acts core old new block (event_called c)
-called_acts core old new block called.Quiet is = record { done = is; event = tt }
-called_acts core old new block (called.Printed w) is = record {
-  done = subst (IsDone core old new block) (sym (ap printing is.prints)) is.done;
+pub called_acts : (core : Process) (old new : Store) (c : Called) → IsCalled core old new c → Acts core old new (event_called c)
+called_acts core old new called.Quiet is = record { done = is; event = tt }
+called_acts core old new (called.Printed w) is = record {
+  done = subst (IsDone core old new) (sym (ap printing is.prints)) is.done;
   event = record { word = is.word; printed = some_printed (printed_of (value_of new.heap w)) is.bytes is.prints };
 }
-called_acts core old new block (called.Trapped at) is = (is.stops, is.unchanged)
+called_acts core old new (called.Trapped at) is = (is.stops, is.unchanged)

@@ -1,19 +1,24 @@
--- Outputs of blocks, while queues work, room is made, and the heap grows.
-use Rattle.std.proofs.Common.{ℕ, ◌-◌, ◌≡◌, List, ◌∷◌, length, sym, ap, ◌∙◌, arith}
+-- Outputs that have the turn, while queues work, room is made, and the heap grows.
+use Rattle.std.proofs.Common.{ℕ, ◌-◌, ◌≡◌, List, [], length, refl, sym, ap, ◌∙◌, arith}
+use Rattle.std.specs.List.{slice_index_or}
 use Rattle.pict_syntax.specs.declared.span.Span.{Span}
 use Rattle.pict_core.specs.Closed.{IsOver}
 use Rattle.pict_core.specs.Term.{Val, Process, Chan, Out}
 use Rattle.pict_core.specs.Step.{Label}
 use Rattle.pict_code.specs.Instruction as op
 use Rattle.pict_queue.specs.QueuesState.{QueuesState}
-use Rattle.pict_queue.specs.Contents.{held_words, contents}
-use Rattle.pict_heap.specs.HeapState.{HeapState, IsWord, KeepsWords, value_of}
+use Rattle.pict_queue.specs.Contents.{contents}
+use Rattle.pict_heap.specs.HeapState.{HeapState, KeepsWords}
+use Rattle.pict_heap.specs.Packed.{packed, FitsWord}
 use Rattle.pict_heap.specs.declared.word.Word.{Word}
 use Rattle.pict_frames.specs.Writing.{OnlyWorks}
 use Rattle.pict_view.specs.ViewStep.{next_view}
 use Rattle.pict_blocks.specs.Blocks.{value_in, process_of, known, operand_value}
 use Rattle.pict_blocks.proofs.Meeting.{outputs_stand}
+use Rattle.pict_operands.specs.AtHand.{IsPairFor}
+use Rattle.pict_operands.specs.Pairs.{IsPair}
 use Rattle.pict_operands.proofs.Making.{keeps_more, pairs_keep}
+use Rattle.pict_operands.proofs.Pairs.{value_packed}
 use Rattle.pict_operands.specs.Needs.{both_needs, HasRoomFor, KeepsPending, IsMade}
 use Rattle.pict_operands.specs.declared.pending.Pending.{Pending}
 use Rattle.pict_prim.specs.Acts.{UsesNeed}
@@ -22,89 +27,81 @@ use Rattle.pict_meetings.specs.Room.{CanHoldAfter, CanHoldAfterAnd}
 use Rattle.pict_turns.specs.Parts.{frame_need}
 use Rattle.pict_meetings.specs.Partners.{Sends, SendsKept}
 use Rattle.pict_calls.proofs.Outputs.{operands_over}
-use Rattle.pict_turns.specs.Acting.{HasActing, IsDone, IsRight, view_with}
+use Rattle.pict_turns.specs.Acting.{HasActing, IsDone, IsRight}
 use Rattle.pict_turns.specs.Reserving.{OnlyReserves}
-use Rattle.pict_turns.specs.Views.{channel_lists}
+use Rattle.pict_turns.specs.Views.{channel_lists, acting_words, ready_words, view_with_turn}
 use Rattle.pict_turns.specs.declared.store.Store.{Store}
-use Rattle.pict_turns.proofs.AfterReading.{acting_read, words_read}
-use Rattle.pict_turns.proofs.Room.{keeps_words, acting_still, acts_still, has_room, done_after}
-use Rattle.pict_turns.proofs.Views.{block_stays, blocks_stay, block_same, view_same, lists_are}
+use Rattle.pict_turns.proofs.AfterReading.{reads_works, acting_read}
+use Rattle.pict_turns.proofs.Room.{keeps_words, value_kept, words_still, known_still, acting_still, acts_still, has_room, done_after}
+use Rattle.pict_turns.proofs.Rows.{turn_stays}
+use Rattle.pict_turns.proofs.Turns.{acting_block, ready_blocks}
+use Rattle.pict_turns.proofs.Views.{pair_stays, blocks_stay, block_same, view_same, lists_are}
 use Rattle.pict_machine.specs.Sending.{SendsOperand}
-use Rattle.pict_machine.proofs.Passing.{reads_works, acts_worked, known_reserved}
-use Rattle.pict_machine.proofs.Taking.{values_same}
+use Rattle.pict_machine.proofs.Passing.{acts_worked}
 
 -- ---- while queues work
 
-module _ (core : Process) (s : Store) (queues : QueuesState) (works : OnlyWorks s.queues queues) (block channel : ℕ) where
+module _ (core : Process) (s : Store) (queues : QueuesState) (works : OnlyWorks s.queues queues) (channel : ℕ) where
   abbrev worked : Store
   worked = record s { queues = queues }
 
-  pub sends_worked : (message : Word) (at : Span) → Sends core s block channel message at → Sends core worked block channel message at
-  sends_worked message at x =
-      let r = reads_works s queues x.acting.store.pairs works in
-      record {
-        acting = acting_read s worked r core block x.acting;
-        word = x.word;
-        is = ap (process_of core (value_in s.heap)) (words_read s worked r block) ∙ x.is;
-      }
+  acting_worked : HasActing core s → HasActing core worked
+  acting_worked a = acting_read s worked (reads_works s queues a.store.pairs works) core refl a
 
-  pub kept_worked : SendsKept core s block channel → SendsKept core worked block channel
-  kept_worked x =
-      let r = reads_works s queues x.acting.store.pairs works in
-      record {
-        acting = acting_read s worked r core block x.acting;
-        kept = record { kept = x.kept.kept; is = words_read s worked r block ∙ x.kept.is; fits = x.kept.fits; to = x.kept.to; message = x.kept.message };
-        to = x.to;
-      }
+  pub sends_worked : (message : ℕ × ℕ) (at : Span) → Sends core s channel message at → Sends core worked channel message at
+  sends_worked message at x = record { acting = acting_worked x.acting; pair = x.pair; is = x.is }
 
-  pub operand_worked : (message : Val) (at : Span) → SendsOperand core s block channel message at → SendsOperand core worked block channel message at
-  operand_worked message at x = record { closed = x.closed; chan = x.chan; acts = acts_worked core s queues block (op.Out x.chan message at) works x.acts; to = x.to }
+  pub kept_worked : SendsKept core s channel → SendsKept core worked channel
+  kept_worked x = record { acting = acting_worked x.acting; kept = x.kept; to = x.to }
+
+  pub operand_worked : (message : Val) (at : Span) → SendsOperand core s channel message at → SendsOperand core worked channel message at
+  operand_worked message at x = record { closed = x.closed; chan = x.chan; acts = acts_worked core s queues (op.Out x.chan message at) works x.acts; to = x.to }
 
 -- ---- while room is made
 
-module _ (core : Process) (old new : Store) (r : OnlyReserves old new) (block channel : ℕ) where
-  pub sends_reserved : (message : Word) (at : Span) → Sends core old block channel message at → Sends core new block channel message at
+module _ (core : Process) (old new : Store) (r : OnlyReserves old new) (channel : ℕ) where
+  pub sends_reserved : (message : ℕ × ℕ) (at : Span) → Sends core old channel message at → Sends core new channel message at
   sends_reserved message at x =
-      let keeps = keeps_words old.heap new.heap r.heap in
+      let values = value_kept old.heap new.heap r.heap in
       record {
-        acting = acting_still core old new r block x.acting;
-        word = keeps.words message x.word;
+        acting = acting_still core old new r x.acting;
+        pair = pair_stays old.heap new.heap (keeps_words old.heap new.heap r.heap) message x.pair;
         is =
-            ap (λ (value : ℕ → ℕ → Val). process_of core value (held_words new.queues.region block)) (values_same old.heap new.heap r.heap)
-            ∙ ap (process_of core (value_in old.heap)) (r.held block x.acting.held).words ∙ x.is
-            ∙ ap (λ v. Out (Chan channel) v at) (sym (keeps.values message x.word));
+            ap (λ (value : ℕ → ℕ → Val). process_of core value (acting_words core new)) values
+            ∙ ap (λ (words : List (List ℕ)). process_of core (value_in old.heap) (slice_index_or words 0 [])) (words_still core old new r) ∙ x.is
+            ∙ ap (λ (value : ℕ → ℕ → Val). Out (Chan channel) (value message.0 message.1) at) (sym values);
       }
 
-  pub operand_reserved : (message : Val) (at : Span) → SendsOperand core old block channel message at → SendsOperand core new block channel message at
+  pub operand_reserved : (message : Val) (at : Span) → SendsOperand core old channel message at → SendsOperand core new channel message at
   operand_reserved message at x = record {
     closed = x.closed;
     chan = x.chan;
-    acts = acts_still core old new r block (op.Out x.chan message at) x.acts;
-    to = ap (λ known. operand_value known x.chan) (known_reserved old new r) ∙ x.to;
+    acts = acts_still core old new r (op.Out x.chan message at) x.acts;
+    to = ap (λ (known : ℕ → Val). operand_value known x.chan) (known_still core old new r) ∙ x.to;
   }
 
 -- ---- an output of an operand
 
-module _ (core : Process) (s : Store) (block channel : ℕ) (message : Val) (at : Span) (x : SendsOperand core s block channel message at) where
-  pub operand_process : process_of core (value_in s.heap) (held_words s.queues.region block) ≡ Out (Chan channel) (operand_value (known s.heap s.values.items) message) at
+module _ (core : Process) (s : Store) (channel : ℕ) (message : Val) (at : Span) (x : SendsOperand core s channel message at) where
+  pub operand_process : process_of core (value_in s.heap) (acting_words core s) ≡ Out (Chan channel) (operand_value (known s.heap s.values.items) message) at
   operand_process =
-      outputs_stand core s.heap s.values.items x.acts.number x.chan message at x.acts.node (held_words s.queues.region block) x.closed x.acts.is x.acts.op_is
+      outputs_stand core s.heap s.values.items x.acts.number x.chan message at x.acts.node (acting_words core s) x.closed x.acts.is x.acts.op_is
       ∙ ap (λ v. Out v (operand_value (known s.heap s.values.items) message) at) x.to
 
   pub operand_over : IsOver (length s.values.items) 0 message
-  operand_over = (operands_over core s block x.chan message at x.closed x.acts).1
+  operand_over = (operands_over core s x.chan message at x.closed x.acts).1
 
-  -- its word is there
-  pub sends_word : (w : Word) → IsWord s.heap w → value_of s.heap w ≡ operand_value (known s.heap s.values.items) message → Sends core s block channel w at
-  sends_word w word value = record { acting = x.acts.acting; word = word; is = operand_process ∙ ap (λ v. Out (Chan channel) v at) (sym value) }
+  -- its two words are there
+  pub sends_pair : (pair : ℕ × ℕ) → IsPairFor s.heap (operand_value (known s.heap s.values.items) message) pair → Sends core s channel pair at
+  sends_pair pair p = record { acting = x.acts.acting; pair = p.pair_is; is = operand_process ∙ ap (λ v. Out (Chan channel) v at) (sym p.value) }
 
 -- ---- while the heap grows
 
-module _ (core : Process) (old : Store) (heap : HeapState) (pending : Pending) (keeps : KeepsWords old.heap heap) (block : ℕ) (a : HasActing core old block) where
+module _ (core : Process) (old : Store) (heap : HeapState) (pending : Pending) (keeps : KeepsWords old.heap heap) (a : HasActing core old) where
   abbrev grown : Store
   grown = record old { heap = heap; pending = pending }
 
-  pub acting_grown : HasActing core grown block
+  pub acting_grown : HasActing core grown
   acting_grown = record {
     store = record {
       ready = a.store.ready;
@@ -112,31 +109,32 @@ module _ (core : Process) (old : Store) (heap : HeapState) (pending : Pending) (
       waiting = a.store.waiting;
       pairs = pairs_keep old.heap heap keeps old.values.items a.store.pairs;
       levels = a.store.levels;
+      turn = turn_stays core old.heap heap keeps old.values.items a.store.pairs old.turn a.store.turn;
+      room = a.store.room;
     };
-    held = a.held;
-    is = block_stays old.heap heap keeps core (held_words old.queues.region block) a.is;
+    has = a.has;
   }
 
-  pub view_grown : view_with core grown block ≡ view_with core old block
-  view_grown = view_same old.heap heap keeps core (held_words old.queues.region block ∷ contents old.queues 0) (channel_lists old.queues) (a.is, a.store.blocks 0)
+  pub view_grown : view_with_turn core grown ≡ view_with_turn core old
+  view_grown = view_same old.heap heap keeps core (ready_words core old) (channel_lists old.queues) (ready_blocks core old a.store)
       (lists_are core old.heap old.queues 1 (length old.queues.queues - 1) a.store.blocks)
 
-  pub done_grown : (new : Store) (label : Label) → IsDone core grown new block label → IsDone core old new block label
+  pub done_grown : (new : Store) (label : Label) → IsDone core grown new label → IsDone core old new label
   done_grown new label d = record {
     moves = sym (ap next_view view_grown) ∙ d.moves;
     store = d.store;
     keeps = keeps_more old.heap heap new.heap keeps d.keeps;
     levels = d.levels;
     queues = d.queues;
-    released = d.released;
+    no_more = d.no_more;
   }
 
-  pub sends_grown : (channel : ℕ) (v : Val) (at : Span) (w : Word) → process_of core (value_in old.heap) (held_words old.queues.region block) ≡ Out (Chan channel) v at → IsWord heap w → value_of heap w ≡ v
-      → Sends core grown block channel w at
-  sends_grown channel v at w is word value = record {
+  pub sends_grown : (channel : ℕ) (v : Val) (at : Span) (pair : ℕ × ℕ) → process_of core (value_in old.heap) (acting_words core old) ≡ Out (Chan channel) v at → IsPair heap pair
+      → value_in heap pair.0 pair.1 ≡ v → Sends core grown channel pair at
+  sends_grown channel v at pair is pair_is value = record {
     acting = acting_grown;
-    word = word;
-    is = block_same old.heap heap keeps core (held_words old.queues.region block) a.is ∙ is ∙ ap (λ u. Out (Chan channel) u at) (sym value);
+    pair = pair_is;
+    is = block_same old.heap heap keeps core (acting_words core old) (acting_block core old a) ∙ is ∙ ap (λ u. Out (Chan channel) u at) (sym value);
   }
 
 -- ---- room for the part of the input that is met
@@ -166,19 +164,19 @@ can_grown s heap pending given frame further can used kept =
 -- ---- the word of an operand that is sent is made
 
 -- once there is room
-module _ (core : Process) (old mid : Store) (r : OnlyReserves old mid) (block channel : ℕ) (message : Val) (at : Span) (x : SendsOperand core old block channel message at)
+module _ (core : Process) (old mid : Store) (r : OnlyReserves old mid) (channel : ℕ) (message : Val) (at : Span) (x : SendsOperand core old channel message at)
     (heap : HeapState) (pending : Pending) (values : List (ℕ × ℕ)) (same : values ≡ mid.values.items) (w : Word) (made : IsMade mid.heap heap w (operand_value (known mid.heap values) message)) where
-  acting_mid : HasActing core mid block
-  acting_mid = acting_still core old mid r block x.acts.acting
+  acting_mid : HasActing core mid
+  acting_mid = acting_still core old mid r x.acts.acting
 
-  pub sends_made : Sends core (record mid { heap = heap; pending = pending }) block channel w at
-  sends_made =
-      sends_grown core mid heap pending made.keeps block acting_mid channel (operand_value (known mid.heap mid.values.items) message) at w
-      (operand_process core mid block channel message at (operand_reserved core old mid r block channel message at x)) made.word
-      (made.value ∙ ap (λ vs. operand_value (known mid.heap vs) message) same)
+  pub sends_made : (pair : ℕ × ℕ) → FitsWord w → packed w ≡ pair → Sends core (record mid { heap = heap; pending = pending }) channel pair at
+  sends_made pair fits packs =
+      sends_grown core mid heap pending made.keeps acting_mid channel (operand_value (known mid.heap mid.values.items) message) at pair
+      (operand_process core mid channel message at (operand_reserved core old mid r channel message at x)) (record { word = w; is = made.word; fits = fits; packs = packs })
+      (value_packed heap w pair fits packs ∙ made.value ∙ ap (λ vs. operand_value (known mid.heap vs) message) same)
 
-  pub done_made : (new : Store) (label : Label) → IsDone core (record mid { heap = heap; pending = pending }) new block label → IsDone core old new block label
-  done_made new label d = done_after core old mid r block new x.acts.acting label (done_grown core mid heap pending made.keeps block acting_mid new label d)
+  pub done_made : (new : Store) (label : Label) → IsDone core (record mid { heap = heap; pending = pending }) new label → IsDone core old new label
+  done_made new label d = done_after core old mid r new label (done_grown core mid heap pending made.keeps acting_mid new label d)
 
-  pub right_made : IsRight core mid block → IsRight core (record mid { heap = heap; pending = pending }) block
-  right_made right e = right (sym (ap next_view (view_grown core mid heap pending made.keeps block acting_mid)) ∙ e)
+  pub right_made : IsRight core mid → IsRight core (record mid { heap = heap; pending = pending })
+  right_made right e = right (sym (ap next_view (view_grown core mid heap pending made.keeps acting_mid)) ∙ e)

@@ -6,6 +6,7 @@ pub mod Passing
 pub mod Channels
 pub mod Growing
 pub mod Serving
+pub mod Costing
 pub mod Working
 pub mod Called
 pub mod KeptOutputs
@@ -14,3 +15,4 @@ pub mod Needing
 pub mod Plainly
 pub mod Steps
 pub mod Running
+pub mod Going

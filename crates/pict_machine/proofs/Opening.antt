@@ -33,6 +33,8 @@ use Rattle.pict_turns.specs.Reserving.{OnlyReserves}
 use Rattle.pict_turns.proofs.Room.{keeps_words}
 use Rattle.pict_turns.specs.Views.{lists_from, channel_lists, IsBlock, CanWait}
 use Rattle.pict_turns.specs.declared.store.Store.{Store}
+use Rattle.pict_turns.specs.declared.turn.Turn.TheVariants.{Nobody}
+use Rattle.pict_turns.proofs.Turns.{nobody_turn, nobody_room}
 use Rattle.pict_machine.specs.Levels.{levels_in}
 use Rattle.pict_machine.specs.Opening.{AreOpening, OnlyMakes}
 use Rattle.pict_machine.proofs.Counting.{places_enough}
@@ -131,7 +133,8 @@ none_live r none block = no_some (get r.live block) (ap (λ (m : FinMap nat_cmp 
 
 -- ---- the store
 
-module _ (core : Process) (s : Store) (nodes : List Node) (count : ℕ) (is : nodes_of core ≡ nodes) (o : AreOpening s.queues) (values : s.values.items ≡ replicate count (0, 0)) (many : count ≡ levels_in nodes) where
+module _ (core : Process) (s : Store) (nodes : List Node) (count : ℕ) (is : nodes_of core ≡ nodes) (o : AreOpening s.queues) (values : s.values.items ≡ replicate count (0, 0)) (many : count ≡ levels_in nodes)
+    (idle : s.turn ≡ Nobody) where
   places_there : AllByRecursion (λ (p : Place). p.around ≤ length s.values.items) (places 0 core)
   places_there =
       let zeros : List (ℕ × ℕ) = replicate count (0, 0) in
@@ -146,15 +149,17 @@ module _ (core : Process) (s : Store) (nodes : List Node) (count : ℕ) (is : no
     waiting = λ channel. subst (AllByRecursion (CanWait core)) (sym (o.others (channel + 1) (λ same. omega (arith, same)))) tt;
     pairs = zeros_are_pairs s.heap s.values.items count values;
     levels = places_there;
+    turn = nobody_turn core s.heap s.values.items s.turn idle;
+    room = nobody_room core s s.queues.region idle;
   }
 
 -- ---- words are made before the first step
 
 pub makes_nothing : (s : Store) → OnlyMakes s s
-makes_nothing s = record { words = keeps_all s.heap; queues = λ o. o; values = refl }
+makes_nothing s = record { words = keeps_all s.heap; queues = λ o. o; values = refl; turn = refl }
 
 pub makes_more : (a b c : Store) → OnlyMakes a b → OnlyMakes b c → OnlyMakes a c
-makes_more a b c m n = record { words = keeps_more a.heap b.heap c.heap m.words n.words; queues = λ o. n.queues (m.queues o); values = n.values ∙ m.values }
+makes_more a b c m n = record { words = keeps_more a.heap b.heap c.heap m.words n.words; queues = λ o. n.queues (m.queues o); values = n.values ∙ m.values; turn = n.turn ∙ m.turn }
 
 module _ (old mid : Store) (r : OnlyReserves old mid) where
   pub makes_room : OnlyMakes old mid
@@ -167,7 +172,8 @@ module _ (old mid : Store) (r : OnlyReserves old mid) where
       none_held = λ block held. o.none_held block (r.no_more block held);
     };
     values = r.values;
+    turn = r.turn;
   }
 
   pub makes_word : (heap : HeapState) (pending : Pending) → KeepsWords mid.heap heap → OnlyMakes old (record mid { heap = heap; pending = pending })
-  makes_word heap pending keeps = makes_more old mid (record mid { heap = heap; pending = pending }) makes_room (record { words = keeps; queues = λ o. o; values = refl })
+  makes_word heap pending keeps = makes_more old mid (record mid { heap = heap; pending = pending }) makes_room (record { words = keeps; queues = λ o. o; values = refl; turn = refl })

@@ -14,9 +14,10 @@ use Rattle.pict_code.specs.Plain.{plain_node}
 use Rattle.pict_code.specs.declared.instruction.Node as written
 use Rattle.pict_region.specs.RegionState.{spare, blocks, live_blocks, KeepsBlocks}
 use Rattle.pict_queue.specs.QueuesState.{QueuesState}
-use Rattle.pict_queue.specs.Contents.{contents, held_words, KeepsOtherContents}
+use Rattle.pict_queue.specs.Contents.{contents}
 use Rattle.pict_heap.specs.HeapState.{HeapState}
 use Rattle.pict_frames.specs.Keeping.{kept_words}
+use Rattle.pict_frames.specs.Writing.{OnlyWorks}
 use Rattle.pict_frames.proofs.Held.{works_blocks}
 use Rattle.pict_blocks.specs.Blocks.{value_in, process_of}
 use Rattle.pict_operands.specs.AtHand.{IsOfHeap}
@@ -26,38 +27,40 @@ use Rattle.pict_meetings.specs.Waiting.{oldest, waits_first}
 use Rattle.pict_meetings.specs.declared.waiting.Waiting.TheVariants.{Output, Input}
 use Rattle.pict_meetings.proofs.Firsts.{first_input, first_message, node_of}
 use Rattle.pict_meetings.proofs.Ops.{same_input}
-use Rattle.pict_meetings.proofs.Wide.{node_wide, first_reused, second_reused}
+use Rattle.pict_meetings.proofs.Wide.{node_wide, first_reused}
 use Rattle.pict_turns.specs.Acting.{core_in, IsCode, IsStore, ActsBy}
 use Rattle.pict_turns.specs.Parts.{block_width}
-use Rattle.pict_turns.specs.Reading.{HasFrame, OnlyReads}
+use Rattle.pict_turns.specs.Reading.{HasFrame}
 use Rattle.pict_turns.specs.Reserving.{OnlyReserves}
-use Rattle.pict_turns.specs.Views.{IsKept}
+use Rattle.pict_turns.specs.Views.{IsKept, acting_words}
 use Rattle.pict_turns.specs.Widths.{MakesOnly}
 use Rattle.pict_turns.specs.declared.store.Store.{Store}
-use Rattle.pict_turns.proofs.AfterReading.{contents_read, words_read}
 use Rattle.pict_turns.proofs.Holding.{width_narrow}
 use Rattle.pict_turns.proofs.Numbered.{same_frame}
+use Rattle.pict_turns.proofs.Turns.{words_nobody, ready_nobody, ready_is}
+use Rattle.pict_turns.specs.declared.turn.Turn.TheVariants.{Nobody}
 use Rattle.pict_machine.specs.Constants.{HasNoVariable}
-use Rattle.pict_machine.specs.Plain.{instruction_of, IsPlainInput, NeedsNoWord, HasWord, HasPlainRoom, SendsPlainly, ReceivesPlainly, ActsPlainly, MeetsPlainly, TakesNothing}
+use Rattle.pict_machine.specs.Plain.{instruction_of, IsPlainInput, NeedsNoWord, HasWord, HasPlainRoom, SendsPlainly, ReceivesPlainly, ActsPlainly, FirstMeetsPlainly, MeetsPlainly, RunsPlainly, TakesNothing}
 use Rattle.pict_machine.specs.Sending.{EndsAsWide}
-use Rattle.pict_machine.specs.declared.event.Event.{Event}
+use Rattle.pict_machine.specs.Stepping.{GivesTurn}
 
 -- ---- what waits at channels stays, and so does a plain meeting
 
 module _ (core : Process) (old new : Store) (heap : new.heap ≡ old.heap) (same : (c : ℕ) → contents new.queues (c + 1) ≡ contents old.queues (c + 1))
-    (free : new.queues.region.free ≡ old.queues.region.free) (acting : List ℕ) where
+    (more : (width : ℕ) → spare old.queues.region width ≤ spare new.queues.region width) (acting : List ℕ) where
   process_same : process_of core (value_in new.heap) acting ≡ process_of core (value_in old.heap) acting
   process_same = ap (λ (h : HeapState). process_of core (value_in h) acting) heap
 
-  spare_same : (width : ℕ) → spare new.queues.region width ≡ spare old.queues.region width
-  spare_same width = ap (λ (f : List ℕ). spare (record old.queues.region { free = f }) width) free
+  free_same : (width : ℕ) (P : Type 0) → 1 ≤ spare old.queues.region width ⊎ P → 1 ≤ spare new.queues.region width ⊎ P
+  free_same width P (inl one) = let up = more width in inl (omega (arith, one, up))
+  free_same width P (inr p) = inr p
 
   room_same : (part : ℕ) (waiting : List ℕ) → HasPlainRoom core old part acting waiting → HasPlainRoom core new part acting waiting
   room_same part waiting r = record {
     frame = r.frame;
     has = r.has;
     narrow = r.narrow;
-    room = subst (λ (n : ℕ). 1 ≤ n ⊎ length acting + 1 ≡ block_width r.frame ⊎ length waiting + 1 ≡ block_width r.frame) (sym (spare_same (block_width r.frame))) r.room;
+    room = free_same (block_width r.frame) _ r.room;
   }
 
   sends_same : SendsPlainly core old acting → SendsPlainly core new acting
@@ -93,51 +96,50 @@ module _ (core : Process) (old new : Store) (heap : new.heap ≡ old.heap) (same
   acts_same (inl x) = inl (sends_same x)
   acts_same (inr x) = inr (receives_same x)
 
--- the first of the ready ones is taken, and then acts
-pub plainly_taken : (core : Process) (s : Store) (queues : QueuesState) (block : ℕ) → contents s.queues 0 ≡ held_words queues.region block ∷ contents queues 0
-    → KeepsOtherContents s.queues queues 0 → queues.region.free ≡ s.queues.region.free → MeetsPlainly core s → ActsPlainly core (record s { queues = queues }) (held_words queues.region block)
-plainly_taken core s queues block popped others free m =
-    let both : m.acting ∷ m.ready ≡ held_words queues.region block ∷ contents queues 0 = sym m.first ∙ popped in
-    let acting : m.acting ≡ held_words queues.region block = cc in
-    let mid : Store = record s { queues = queues } in
-    subst (ActsPlainly core mid) acting (acts_same core s mid refl (λ c. others (c + 1) (λ e. omega (arith, e))) free m.acting m.plainly)
+-- somebody has the turn, and then acts
+pub plainly_given : (core : Process) (s taken : Store) → GivesTurn core s taken → RunsPlainly core s → ActsPlainly core taken (acting_words core taken)
+plainly_given core s taken g m =
+    let both : m.acting ∷ m.ready ≡ acting_words core taken ∷ contents taken.queues 0 = sym m.first ∙ sym g.ready ∙ ready_is core taken (acting_words core taken) g.acting.has in
+    let acting : m.acting ≡ acting_words core taken = cc in
+    subst (ActsPlainly core taken) acting (acts_same core s taken g.heap (λ c. g.others (c + 1) (λ e. omega (arith, e))) g.spare m.acting m.plainly)
+
+-- nobody had it
+pub idle_plainly : (core : Process) (s : Store) → s.turn ≡ Nobody → MeetsPlainly core s → RunsPlainly core s
+idle_plainly core s idle = subst (FirstMeetsPlainly core s) (sym (ready_nobody core s (words_nobody core s idle)))
 
 -- while queues work
-module _ (core : Process) (old mid : Store) (block : ℕ) (r : OnlyReads old mid) where
-  free_read : mid.queues.region.free ≡ old.queues.region.free
-  free_read = ap (λ (q : QueuesState). q.region.free) r.queues
+module _ (core : Process) (s : Store) (queues : QueuesState) (works : OnlyWorks s.queues queues) (acting : List ℕ) where
+  same_contents : (c : ℕ) → contents queues (c + 1) ≡ contents s.queues (c + 1)
+  same_contents c = ap (λ (q : QueuesState). contents q (c + 1)) works
 
-  pub sends_read : SendsPlainly core old (held_words old.queues.region block) → SendsPlainly core mid (held_words mid.queues.region block)
-  sends_read x = subst (SendsPlainly core mid) (sym (words_read old mid r block))
-      (sends_same core old mid r.heap (λ c. contents_read old mid r (c + 1)) free_read (held_words old.queues.region block) x)
+  same_spare : (width : ℕ) → spare s.queues.region width ≤ spare queues.region width
+  same_spare width = let e = ap (λ (q : QueuesState). spare q.region width) works in omega (arith, e)
 
-  pub receives_read : ReceivesPlainly core old (held_words old.queues.region block) → ReceivesPlainly core mid (held_words mid.queues.region block)
-  receives_read x = subst (ReceivesPlainly core mid) (sym (words_read old mid r block))
-      (receives_same core old mid r.heap (λ c. contents_read old mid r (c + 1)) free_read (held_words old.queues.region block) x)
+  pub plainly_sent : SendsPlainly core s acting → SendsPlainly core (record s { queues = queues }) acting
+  plainly_sent = sends_same core s (record s { queues = queues }) refl same_contents same_spare acting
 
-  pub acts_plainly_read : ActsPlainly core old (held_words old.queues.region block) → ActsPlainly core mid (held_words mid.queues.region block)
-  acts_plainly_read (inl x) = inl (sends_read x)
-  acts_plainly_read (inr x) = inr (receives_read x)
+  pub plainly_received : ReceivesPlainly core s acting → ReceivesPlainly core (record s { queues = queues }) acting
+  plainly_received = receives_same core s (record s { queues = queues }) refl same_contents same_spare acting
 
-pub nothing_read : (old mid new : Store) (result : Result Event AllocError) → OnlyReads old mid → TakesNothing mid new result → TakesNothing old new result
-nothing_read old mid new result r x = (x.0, λ width. x.1 width ∙ works_blocks old.queues mid.queues r.queues width)
+pub nothing_worked : {T : Type 0} (s : Store) (queues : QueuesState) (new : Store) (result : Result T AllocError) → OnlyWorks s.queues queues → TakesNothing (record s { queues = queues }) new result → TakesNothing s new result
+nothing_worked s queues new result works x = (x.0, λ width. x.1 width ∙ works_blocks s.queues queues works width)
 
 -- ---- which instructions meet plainly
 
-module _ (core : Process) (s : Store) (block : ℕ) (o : Op) (a : ActsBy core s block o) where
-  instruction_is : instruction_of (nodes_of core) (held_words s.queues.region block) ≡ Some o
+module _ (core : Process) (s : Store) (o : Op) (a : ActsBy core s o) where
+  instruction_is : instruction_of (nodes_of core) (acting_words core s) ≡ Some o
   instruction_is =
       ap (instruction_of (nodes_of core)) a.is.words_are ∙ ap (option_map (λ (n : Node). n.op)) a.is.at ∙ ap Some a.op_is
 
   -- an output of a node
-  pub wordless_output : SendsPlainly core s (held_words s.queues.region block) → (chan message : Val) × (at : Span) × (o ≡ op.Out chan message at) × (IsOfHeap message → HasNoVariable message)
+  pub wordless_output : SendsPlainly core s (acting_words core s) → (chan message : Val) × (at : Span) × (o ≡ op.Out chan message at) × (IsOfHeap message → HasNoVariable message)
   wordless_output x =
       let f : NeedsNoWord (nodes_of core) (suc a.number ∷ a.is.frame) = subst (HasWord (nodes_of core)) a.is.words_are x.word in
       let there : Some o ≡ Some (op.Out f.chan f.message f.at) = sym instruction_is ∙ ap (instruction_of (nodes_of core)) a.is.words_are ∙ f.is in
       (f.chan, f.message, f.at, cc, f.needs_none)
 
   -- an input that isn't replicated
-  pub plain_input : (x : ReceivesPlainly core s (held_words s.queues.region block)) → (chan : Val) × (pattern : CodePat) × (o ≡ op.In chan pattern x.part)
+  pub plain_input : (x : ReceivesPlainly core s (acting_words core s)) → (chan : Val) × (pattern : CodePat) × (o ≡ op.In chan pattern x.part)
   plain_input x =
       let there : Some o ≡ Some (op.In x.input.chan x.input.pattern x.part) = sym instruction_is ∙ x.input.is in
       (x.input.chan, x.input.pattern, cc)
@@ -152,27 +154,26 @@ HasPartner (op.Out chan message at) = Unit {0}
 HasPartner (op.In chan pattern part) = Unit {0}
 HasPartner (op.Serve chan pattern part) = ⊥
 
-module _ (core : Process) (s : Store) (block : ℕ) (o : Op) (a : ActsBy core s block o) where
-  pub has_partner : ActsPlainly core s (held_words s.queues.region block) → HasPartner o
-  has_partner (inl x) = let f = wordless_output core s block o a x in subst HasPartner (sym f.3) tt
-  has_partner (inr x) = let i = plain_input core s block o a x in subst HasPartner (sym i.2) tt
+module _ (core : Process) (s : Store) (o : Op) (a : ActsBy core s o) where
+  pub has_partner : ActsPlainly core s (acting_words core s) → HasPartner o
+  has_partner (inl x) = let f = wordless_output core s o a x in subst HasPartner (sym f.3) tt
+  has_partner (inr x) = let i = plain_input core s o a x in subst HasPartner (sym i.2) tt
 
 -- a node's output sends, and its input receives
-pub output_sends : (core : Process) (s : Store) (block : ℕ) (chan message : Val) (at : Span) → ActsBy core s block (op.Out chan message at) → ActsPlainly core s (held_words s.queues.region block)
-    → SendsPlainly core s (held_words s.queues.region block)
-output_sends core s block chan message at a (inl x) = x
-output_sends core s block chan message at a (inr x) = let i = plain_input core s block (op.Out chan message at) a x in let e : op.Out chan message at ≡ op.In i.0 i.1 x.part = i.2 in cc
+pub output_sends : (core : Process) (s : Store) (chan message : Val) (at : Span) → ActsBy core s (op.Out chan message at) → ActsPlainly core s (acting_words core s)
+    → SendsPlainly core s (acting_words core s)
+output_sends core s chan message at a (inl x) = x
+output_sends core s chan message at a (inr x) = let i = plain_input core s (op.Out chan message at) a x in let e : op.Out chan message at ≡ op.In i.0 i.1 x.part = i.2 in cc
 
-pub input_receives : (core : Process) (s : Store) (block : ℕ) (chan : Val) (pattern : CodePat) (part : ℕ) → ActsBy core s block (op.In chan pattern part) → ActsPlainly core s (held_words s.queues.region block)
-    → ReceivesPlainly core s (held_words s.queues.region block)
-input_receives core s block chan pattern part a (inl x) = let f = wordless_output core s block (op.In chan pattern part) a x in let e : op.In chan pattern part ≡ op.Out f.0 f.1 f.2 = f.3 in cc
-input_receives core s block chan pattern part a (inr x) = x
+pub input_receives : (core : Process) (s : Store) (chan : Val) (pattern : CodePat) (part : ℕ) → ActsBy core s (op.In chan pattern part) → ActsPlainly core s (acting_words core s)
+    → ReceivesPlainly core s (acting_words core s)
+input_receives core s chan pattern part a (inl x) = let f = wordless_output core s (op.In chan pattern part) a x in let e : op.In chan pattern part ≡ op.Out f.0 f.1 f.2 = f.3 in cc
+input_receives core s chan pattern part a (inr x) = x
 
 -- an output of kept values sends
-pub kept_sends : (core : Process) (old mid : Store) (block : ℕ) → OnlyReads old mid → IsKept old.heap (held_words old.queues.region block) → ActsPlainly core old (held_words old.queues.region block)
-    → SendsPlainly core mid (held_words mid.queues.region block)
-kept_sends core old mid block r k (inl x) = sends_read core old mid block r x
-kept_sends core old mid block r k (inr x) = let e : instruction_of (nodes_of core) (kept_words k.kept) ≡ Some (op.In x.input.chan x.input.pattern x.part) = ap (instruction_of (nodes_of core)) (sym k.is) ∙ x.input.is in cc
+pub kept_sends : (core : Process) (s : Store) → IsKept s.heap (acting_words core s) → ActsPlainly core s (acting_words core s) → SendsPlainly core s (acting_words core s)
+kept_sends core s k (inl x) = x
+kept_sends core s k (inr x) = let e : instruction_of (nodes_of core) (kept_words k.kept) ≡ Some (op.In x.input.chan x.input.pattern x.part) = ap (instruction_of (nodes_of core)) (sym k.is) ∙ x.input.is in cc
 
 -- ---- the input that waits first
 
@@ -256,24 +257,23 @@ module _ (code : List written.Node) (is : IsCode (map plain_node code)) (s : Sto
       node_wide (core_in code) s.heap (suc reader ∷ held) n.0
       ∙ ap block_width (same_frame (map plain_node code) reader n.0.node.frame own (record { node = n.0.node; at = at; is = refl }) has)
 
-  -- one of those that are given back is as wide as that of the frame
-  pub one_given : (acting : List ℕ) (width : ℕ) → length acting + 1 ≡ width → (replicated : Bool) (pattern : CodePat) (part : ℕ) → IsInputWith (map plain_node code) reader replicated pattern part
-      → (frame : List ℕ) → width ≡ block_width frame ⊎ EndsAsWide (map plain_node code) reader frame
-      → 1 ≤ as_wide (block_width frame) (acting ∷ cond replicated [] (take 1 (contents s.queues (channel + 1))))
-  one_given acting width wide replicated pattern part i frame (inl e) = first_reused (block_width frame) acting (cond replicated [] (take 1 (contents s.queues (channel + 1)))) (wide ∙ e)
-  one_given acting width wide replicated pattern part i frame (inr e) =
+  -- the block that is given back is as wide as that of the frame
+  pub one_given : (replicated : Bool) (pattern : CodePat) (part : ℕ) → IsInputWith (map plain_node code) reader replicated pattern part → (frame : List ℕ) → EndsAsWide (map plain_node code) reader frame
+      → 1 ≤ as_wide (block_width frame) (cond replicated [] (take 1 (contents s.queues (channel + 1))))
+  one_given replicated pattern part i frame e =
       let f = first_input (core_in code) s.heap (contents s.queues (channel + 1)) reader (store.blocks (channel + 1)) (store.waiting channel) first in
       let same = same_input (map plain_node code) reader replicated false pattern e.pattern part e.part i e.input in
       let given : cond replicated [] (take 1 (contents s.queues (channel + 1))) ≡ (suc reader ∷ f.held) ∷ [] =
       ap (λ (b : Bool). cond b [] (take 1 (contents s.queues (channel + 1)))) same.0 ∙ ap (take 1) f.is in
-      subst (λ (ws : List (List ℕ)). 1 ≤ as_wide (block_width frame) (acting ∷ ws)) (sym given)
-      (second_reused (block_width frame) acting (suc reader ∷ f.held) [] (reader_wide e.own f.held f.rest f.is e.has ∙ e.wide))
+      subst (λ (ws : List (List ℕ)). 1 ≤ as_wide (block_width frame) ws) (sym given)
+      (first_reused (block_width frame) (suc reader ∷ f.held) [] (reader_wide e.own f.held f.rest f.is e.has ∙ e.wide))
 
-  module _ (acting : List ℕ) (v : Val) (at : Span) (out : process_of (core_in code) (value_in s.heap) acting ≡ term.Out (Chan channel) v at) (x : SendsPlainly (core_in code) s acting) where
+  module _ (v : Val) (at : Span) (out : process_of (core_in code) (value_in s.heap) (acting_words (core_in code) s) ≡ term.Out (Chan channel) v at)
+      (x : SendsPlainly (core_in code) s (acting_words (core_in code) s)) where
     -- the input that waits first is the one that meets plainly
     pub served : (pattern : CodePat) × IsInputWith (map plain_node code) reader false pattern x.part
     served =
-        let r = serves (core_in code) s acting channel v at out x in
+        let r = serves (core_in code) s (acting_words (core_in code) s) channel v at out x in
         let e : Input r.0 ≡ Input reader = sym r.2 ∙ first in
         let same : r.0 ≡ reader = cc in
         (r.1, subst (λ (ns : List Node). IsInputWith ns reader false r.1 x.part) is.nodes_are (subst (λ (n : ℕ). IsInputWith (nodes_of (core_in code)) n false r.1 x.part) same r.3))
@@ -281,46 +281,41 @@ module _ (code : List written.Node) (is : IsCode (map plain_node code)) (s : Sto
     pub part_has : HasFrame (map plain_node code) x.part x.room.frame
     part_has = subst (λ (ns : List Node). HasFrame ns x.part x.room.frame) is.nodes_are x.room.has
 
-    pub sends_room : (width : ℕ) → length acting + 1 ≡ width → (frame : List ℕ) → frame ≡ x.room.frame
-        → 1 ≤ spare s.queues.region (block_width frame) ⊎ (width ≡ block_width frame ⊎ EndsAsWide (map plain_node code) reader frame)
-    sends_room width wide frame same = subst (λ (f : List ℕ). 1 ≤ spare s.queues.region (block_width f) ⊎ (width ≡ block_width f ⊎ EndsAsWide (map plain_node code) reader f)) (sym same) (cases x.room.room)
-      where
-        cases : 1 ≤ spare s.queues.region (block_width x.room.frame) ⊎ length acting + 1 ≡ block_width x.room.frame ⊎ length x.waiting + 1 ≡ block_width x.room.frame
-            → 1 ≤ spare s.queues.region (block_width x.room.frame) ⊎ (width ≡ block_width x.room.frame ⊎ EndsAsWide (map plain_node code) reader x.room.frame)
-        cases (inl one) = inl one
-        cases (inr (inl e)) = inr (inl (sym wide ∙ e))
-        cases (inr (inr e)) =
-            let f = first_input (core_in code) s.heap (contents s.queues (channel + 1)) reader (store.blocks (channel + 1)) (store.waiting channel) first in
-            let both : (suc reader ∷ f.held) ∷ f.rest ≡ x.waiting ∷ x.others = sym f.is ∙ waits_there (core_in code) s acting channel v at out x in
-            let words : x.waiting ≡ suc reader ∷ f.held = cc in
-            let i = served.1 in
-            let own : HasFrame (map plain_node code) reader i.node.frame = record { node = i.node; at = i.at; is = refl } in
-            inr (inr (record {
-              pattern = served.0;
-              part = x.part;
-              input = i;
-              own = i.node.frame;
-              has = own;
-              wide = sym (reader_wide i.node.frame f.held f.rest f.is own) ∙ ap (λ (ws : List ℕ). length ws + 1) (sym words) ∙ e;
-            }))
+    module _ (own_room : 1 ≤ spare s.queues.region (length (acting_words (core_in code) s) + 1)) where
+      -- a block of the width is free, also that of who has the turn, or the input's own is as wide
+      pub sends_room : (frame : List ℕ) → frame ≡ x.room.frame → 1 ≤ spare s.queues.region (block_width frame) ⊎ EndsAsWide (map plain_node code) reader frame
+      sends_room frame same = subst (λ (f : List ℕ). 1 ≤ spare s.queues.region (block_width f) ⊎ EndsAsWide (map plain_node code) reader f) (sym same) (cases x.room.room)
+        where
+          cases : 1 ≤ spare s.queues.region (block_width x.room.frame) ⊎ length (acting_words (core_in code) s) + 1 ≡ block_width x.room.frame ⊎ length x.waiting + 1 ≡ block_width x.room.frame
+              → 1 ≤ spare s.queues.region (block_width x.room.frame) ⊎ EndsAsWide (map plain_node code) reader x.room.frame
+          cases (inl one) = inl one
+          cases (inr (inl e)) = inl (subst (λ (w : ℕ). 1 ≤ spare s.queues.region w) e own_room)
+          cases (inr (inr e)) =
+              let f = first_input (core_in code) s.heap (contents s.queues (channel + 1)) reader (store.blocks (channel + 1)) (store.waiting channel) first in
+              let both : (suc reader ∷ f.held) ∷ f.rest ≡ x.waiting ∷ x.others = sym f.is ∙ waits_there (core_in code) s (acting_words (core_in code) s) channel v at out x in
+              let words : x.waiting ≡ suc reader ∷ f.held = cc in
+              let i = served.1 in
+              let own : HasFrame (map plain_node code) reader i.node.frame = record { node = i.node; at = i.at; is = refl } in
+              inr (record {
+                pattern = served.0;
+                part = x.part;
+                input = i;
+                own = i.node.frame;
+                has = own;
+                wide = sym (reader_wide i.node.frame f.held f.rest f.is own) ∙ ap (λ (ws : List ℕ). length ws + 1) (sym words) ∙ e;
+              })
 
-    -- room for the part is made without memory
-    pub sends_kept : {P : Type 0} (mid : Store) (width : ℕ) (frame : List ℕ) (reuses : Bool) → length acting + 1 ≡ width → frame ≡ x.room.frame
-        → (width ≡ block_width frame ⊎ EndsAsWide (map plain_node code) reader frame → IsTrue reuses) → OnlyReserves s mid → MakesOnly s.queues mid.queues (block_width frame ∷ [])
-        → (IsTrue reuses → length frame ≤ 32000 → P) → (length frame ≤ 32000 → 1 ≤ spare s.queues.region (block_width frame) → P)
-        → (IsTrue reuses → length frame ≤ 32000 → KeepsBlocks s.queues.region mid.queues.region) → P × KeepsBlocks s.queues.region mid.queues.region
-    sends_kept mid width frame reuses wide same tells r makes plain enough keeps =
-        let narrow : length frame ≤ 32000 = subst (λ (f : List ℕ). length f ≤ 32000) (sym same) x.room.narrow in
-        room_plain s mid (block_width frame) reuses r makes (λ reused. plain reused narrow) (enough narrow) (λ reused. keeps reused narrow)
-        (⊎_elim (λ one. inl one) (λ fits. inr (tells fits)) (sends_room width wide frame same))
+      -- room for the part is made without memory
+      pub sends_kept : {P : Type 0} (mid : Store) (frame : List ℕ) (reuses : Bool) → frame ≡ x.room.frame
+          → (EndsAsWide (map plain_node code) reader frame → IsTrue reuses) → OnlyReserves s mid → MakesOnly s.queues mid.queues (block_width frame ∷ [])
+          → (IsTrue reuses → length frame ≤ 32000 → P) → (length frame ≤ 32000 → 1 ≤ spare s.queues.region (block_width frame) → P)
+          → (IsTrue reuses → length frame ≤ 32000 → KeepsBlocks s.queues.region mid.queues.region) → P × KeepsBlocks s.queues.region mid.queues.region
+      sends_kept mid frame reuses same tells r makes plain enough keeps =
+          let narrow : length frame ≤ 32000 = subst (λ (f : List ℕ). length f ≤ 32000) (sym same) x.room.narrow in
+          room_plain s mid (block_width frame) reuses r makes (λ reused. plain reused narrow) (enough narrow) (λ reused. keeps reused narrow)
+          (⊎_elim (λ one. inl one) (λ fits. inr (tells fits)) (sends_room frame same))
 
--- ---- an input's own block
-
--- which is given back where it isn't replicated
-pub own_given : (replicated : Bool) (acting : List ℕ) (width : ℕ) (frame : List ℕ) → length acting + 1 ≡ width → (replicated ≡ false) × (width ≡ block_width frame)
-    → 1 ≤ as_wide (block_width frame) (cond replicated [] (acting ∷ []))
-own_given replicated acting width frame wide e =
-    subst (λ (b : Bool). 1 ≤ as_wide (block_width frame) (cond b [] (acting ∷ []))) (sym e.0) (first_reused (block_width frame) acting [] (wide ∙ e.1))
+-- ---- the part of an input
 
 pub same_part : (replicated : Bool) (v w : Val) (p q : CodePat) (l m : ℕ) → input_op replicated v p l ≡ op.In w q m → l ≡ m
 same_part true v w p q l m e = cc
@@ -338,21 +333,20 @@ message_length core s acting store x =
 even_width : (frame : List ℕ) → length frame ≤ 32000 → 9 ≡ block_width frame → ⊥
 even_width frame narrow e = let w = width_narrow frame narrow in omega (arith, w, e)
 
-pub receives_room : (core : Process) (s : Store) (acting : List ℕ) (x : ReceivesPlainly core s acting) (width : ℕ) → length acting + 1 ≡ width → length (zero ∷ x.held) ≡ 8 → (frame : List ℕ) → frame ≡ x.room.frame
-    → 1 ≤ spare s.queues.region (block_width frame) ⊎ width ≡ block_width frame
-receives_room core s acting x width wide message frame same = subst (λ (f : List ℕ). 1 ≤ spare s.queues.region (block_width f) ⊎ width ≡ block_width f) (sym same) (cases x.room.room)
-  where
-    cases : 1 ≤ spare s.queues.region (block_width x.room.frame) ⊎ length acting + 1 ≡ block_width x.room.frame ⊎ length (zero ∷ x.held) + 1 ≡ block_width x.room.frame
-        → 1 ≤ spare s.queues.region (block_width x.room.frame) ⊎ width ≡ block_width x.room.frame
-    cases (inl one) = inl one
-    cases (inr (inl e)) = inr (sym wide ∙ e)
-    cases (inr (inr e)) = absurd (even_width x.room.frame x.room.narrow (omega (arith, message, e)))
+-- a block of the part's width is free, also that of who has the turn
+module _ (core : Process) (s : Store) (own_room : 1 ≤ spare s.queues.region (length (acting_words core s) + 1)) (x : ReceivesPlainly core s (acting_words core s)) (message : length (zero ∷ x.held) ≡ 8) where
+  receives_room : 1 ≤ spare s.queues.region (block_width x.room.frame)
+  receives_room = cases x.room.room
+    where
+      cases : 1 ≤ spare s.queues.region (block_width x.room.frame) ⊎ length (acting_words core s) + 1 ≡ block_width x.room.frame ⊎ length (zero ∷ x.held) + 1 ≡ block_width x.room.frame
+          → 1 ≤ spare s.queues.region (block_width x.room.frame)
+      cases (inl one) = one
+      cases (inr (inl e)) = subst (λ (w : ℕ). 1 ≤ spare s.queues.region w) e own_room
+      cases (inr (inr e)) = absurd (even_width x.room.frame x.room.narrow (omega (arith, message, e)))
 
-pub receives_kept : {P : Type 0} (core : Process) (s mid : Store) (acting : List ℕ) (x : ReceivesPlainly core s acting) (width : ℕ) (frame : List ℕ) (reuses : Bool) → length acting + 1 ≡ width
-    → length (zero ∷ x.held) ≡ 8 → frame ≡ x.room.frame → (width ≡ block_width frame → IsTrue reuses) → OnlyReserves s mid → MakesOnly s.queues mid.queues (block_width frame ∷ [])
-    → (IsTrue reuses → length frame ≤ 32000 → P) → (length frame ≤ 32000 → 1 ≤ spare s.queues.region (block_width frame) → P)
-    → (IsTrue reuses → length frame ≤ 32000 → KeepsBlocks s.queues.region mid.queues.region) → P × KeepsBlocks s.queues.region mid.queues.region
-receives_kept core s mid acting x width frame reuses wide message same tells r makes plain enough keeps =
-    let narrow : length frame ≤ 32000 = subst (λ (f : List ℕ). length f ≤ 32000) (sym same) x.room.narrow in
-    room_plain s mid (block_width frame) reuses r makes (λ reused. plain reused narrow) (enough narrow) (λ reused. keeps reused narrow)
-    (⊎_elim (λ one. inl one) (λ fits. inr (tells fits)) (receives_room core s acting x width wide message frame same))
+  pub receives_kept : {P : Type 0} (mid : Store) (frame : List ℕ) → frame ≡ x.room.frame → OnlyReserves s mid → MakesOnly s.queues mid.queues (block_width frame ∷ [])
+      → (length frame ≤ 32000 → 1 ≤ spare s.queues.region (block_width frame) → P) → P × KeepsBlocks s.queues.region mid.queues.region
+  receives_kept mid frame same r makes enough =
+      let narrow : length frame ≤ 32000 = subst (λ (f : List ℕ). length f ≤ 32000) (sym same) x.room.narrow in
+      let one : 1 ≤ spare s.queues.region (block_width frame) = subst (λ (f : List ℕ). 1 ≤ spare s.queues.region (block_width f)) (sym same) receives_room in
+      (enough narrow one, none_made s mid (block_width frame) r makes one)

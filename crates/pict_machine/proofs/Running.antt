@@ -1,5 +1,5 @@
 -- Runs that break off: before a step for want of memory, or behind one whose showing was refused.
-use Rattle.std.proofs.Common.{ℕ, ◌≤◌, ◌≡◌, inl, List, sym, subst, Option, Some, None, Result, Ok, Err, OnErr}
+use Rattle.std.proofs.Common.{ℕ, ◌≤◌, ◌≡◌, inl, List, sym, subst, Option, Some, None, Result, Ok, Err, IfOk, OnOk, OnErr}
 use Rattle.pict_core.specs.Configuration.{Configuration, IsConfiguration}
 use Rattle.pict_core.specs.Step.{Label}
 use Rattle.pict_heap.specs.HeapState.{HeapState}
@@ -28,6 +28,10 @@ broke_before n fuel C v v' f T before after few same s = record {
   seen = saw_all f T before after s.labels s.seen;
 }
 
+pub on_ok : {T E P Q : Type 0} (r : Result T E) → (P → Q) → OnOk r P → OnOk r Q
+on_ok (Ok x) f p = f p
+on_ok (Err e) f p = tt
+
 pub on_err : {T E P : Type 0} (r : Result T E) → P → OnErr r P
 on_err (Ok x) p = tt
 on_err (Err e) p = p
@@ -36,3 +40,16 @@ on_err (Err e) p = p
 pub seen_steps : (h h' : HeapState) (e : Event) (v v' : View) → h ≡ h' → ((D : Configuration) → IsConfiguration D → StandsFor v D → IsStepOf D (label_of h' e) (trap_of e) v')
     → (D : Configuration) → IsConfiguration D → StandsFor v D → IsStepOf D (label_of h e) (trap_of e) v'
 seen_steps h h' e v v' same steps D is s = subst (λ g. IsStepOf D (label_of g e) (trap_of e) v') (sym same) (steps D is s)
+
+-- ---- equal views before and afterwards
+
+module _ (v v' w w' : View) (before : v ≡ v') (after : w ≡ w') where
+  pub ends_same : {T E : Type 0} (r : Result T E) (P : T → Configuration → View → Type 0) → IfOk r (λ x. (C : Configuration) → IsConfiguration C → StandsFor v C → P x C w)
+      → IfOk r (λ x. (C : Configuration) → IsConfiguration C → StandsFor v' C → P x C w')
+  ends_same (Ok x) P p = λ C is s. subst (P x C) after (p C is (subst (λ u. StandsFor u C) (sym before) s))
+  ends_same (Err e) P p = tt
+
+  pub broken_same : {T E : Type 0} (r : Result T E) (P : Configuration → View → Type 0) → OnErr r ((C : Configuration) → IsConfiguration C → StandsFor v C → P C w)
+      → OnErr r ((C : Configuration) → IsConfiguration C → StandsFor v' C → P C w')
+  broken_same (Ok x) P p = tt
+  broken_same (Err e) P p = λ C is s. subst (P C) after (p C is (subst (λ u. StandsFor u C) (sym before) s))

@@ -1,114 +1,139 @@
--- A step of the machine, by what its first block's step does.
-use Rattle.std.proofs.Common.{ℕ, ◌+◌, ◌≤◌, ◌≡◌, ◌∷◌, length, refl, sym, ap, ◌∙◌, subst, arith, Result, Ok, Err, IfOk, OnErr}
+-- A step of a machine that runs, by what the step of who has the turn does, and who has the turn set down afterwards.
+use Rattle.std.proofs.Common.{ℕ, ◌+◌, ◌≤◌, ◌≡◌, length, refl, sym, ◌∙◌, subst, arith, Result, Ok, Err, IfOk, OnErr}
 use Rattle.std.specs.declared.alloc.AllocError.{AllocError}
 use Rattle.pict_syntax.specs.declared.span.Span.{Span}
 use Rattle.pict_core.specs.Configuration.{Configuration, IsConfiguration}
 use Rattle.pict_code.specs.Plain.{plain_code}
 use Rattle.pict_queue.specs.QueuesState.{IsHeld}
-use Rattle.pict_queue.specs.Contents.{contents, held_words, KeepsOtherContents, Releases, HoldsOneMore}
-use Rattle.pict_heap.specs.HeapState.{HeapState, IsWordOf, KeepsWords, word_value, values_of}
-use Rattle.pict_view.specs.View.{StandsFor}
+use Rattle.pict_queue.specs.Contents.{contents, KeepsOtherContents, HoldsNoMore}
+use Rattle.pict_heap.specs.HeapState.{HeapState, KeepsWords}
+use Rattle.pict_view.specs.View.{View, StandsFor}
 use Rattle.pict_view.specs.Held.{IsHeldBy}
 use Rattle.pict_view.specs.Right.{IsRightFor}
 use Rattle.pict_view.specs.Stepping.{IsStepOf}
-use Rattle.pict_turns.specs.Acting.{IsStore, IsRefused, KeepsHeap}
+use Rattle.pict_turns.specs.Acting.{IsStore, HasActing, IsRefused, KeepsHeap}
+use Rattle.pict_turns.specs.Turns.{TakesTurn}
+use Rattle.pict_turns.specs.Views.{ready_words}
 use Rattle.pict_turns.specs.declared.store.Store.{Store}
+use Rattle.pict_turns.specs.declared.turn.Turn.TheVariants.{Nobody}
+use Rattle.pict_turns.proofs.Room.{keeps_words}
+use Rattle.pict_turns.proofs.Turns.{words_nobody, view_nobody}
 use Rattle.pict_machine.specs.Constants.{AreConstants}
 use Rattle.pict_machine.specs.Events.{label_of, trap_of, IsEventOf}
-use Rattle.pict_machine.specs.Machine.{core_in, view_of, heap_of, channels_of, IsMachine, IsUnchanged}
-use Rattle.pict_machine.specs.Stepping.{Acts, IsStepBy}
+use Rattle.pict_machine.specs.Machine.{core_in, view_of, running_view, heap_of, channels_of, IsMachine, IsRunning, IsUnchanged}
+use Rattle.pict_machine.specs.Stepping.{GivesTurn, Acts, IsStepBy}
 use Rattle.pict_machine.specs.declared.machine.Machine.{Machine}
 use Rattle.pict_machine.specs.declared.event.Event.{Event}
 use Rattle.pict_machine.specs.declared.event.Event.TheVariants as event
 use Rattle.pict_machine.proofs.MadeOnce.{constants_keep}
-use Rattle.pict_machine.proofs.Taking.{refused_contents, refused_count, refused_heap, refused_view, step_of, held_of}
+use Rattle.pict_machine.proofs.Taking.{refused_contents, refused_view, step_of, held_of, rested_view}
 
--- the same texts and records, the same words
-same_words : (old new : HeapState) → KeepsHeap old new → KeepsWords old new
-same_words old new keeps = record {
-  words = λ w is. subst (λ records. IsWordOf (length new.texts) (length records) w) (sym keeps.records) (subst (λ texts. IsWordOf (length texts) (length old.records) w) (sym keeps.texts) is);
-  values = λ w is. ap (λ texts. word_value texts (values_of texts new.records) w) keeps.texts ∙ ap (λ records. word_value old.texts (values_of old.texts records) w) keeps.records;
-}
+-- ---- between two calls
 
-module _ (old : Machine) (taken : Store) (block : ℕ) (new : Store) (heap : taken.heap ≡ old.store.heap) (levels : taken.values ≡ old.store.values)
-    (popped : contents old.store.queues 0 ≡ held_words taken.queues.region block ∷ contents taken.queues 0)
-    (others : KeepsOtherContents old.store.queues taken.queues 0) (count : length taken.queues.queues ≡ length old.store.queues.queues) (kept : IsMachine old) where
+module _ (m : Machine) (kept : IsMachine m) where
+  pub idle_view : running_view m ≡ view_of m
+  idle_view = view_nobody (core_in m) m.store (words_nobody (core_in m) m.store kept.idle)
+
+  -- at each channel messages wait, or readers, and never both
+  pub idle_held : IsHeldBy (view_of m)
+  idle_held = subst IsHeldBy idle_view kept.running.held
+
+-- ---- the turn is set down
+
+module _ (m : Machine) (kept : IsRunning m) (new : Store) (heap : new.heap ≡ m.store.heap) (ready : contents new.queues 0 ≡ ready_words (core_in m) m.store)
+    (others : KeepsOtherContents m.store.queues new.queues 0) (count : length new.queues.queues ≡ length m.store.queues.queues) where
+  abbrev rested : Machine
+  rested = record m { store = new }
+
+  pub view_rested : view_of rested ≡ running_view m
+  view_rested = rested_view (core_in m) m.store new heap ready others count
+
+  pub machine_rested : IsStore (core_in m) new → new.turn ≡ Nobody → HoldsNoMore m.store.queues new.queues → IsMachine rested
+  machine_rested store idle no_more = record {
+    running = record {
+      code = kept.code;
+      store = store;
+      held = subst IsHeldBy (sym (view_nobody (core_in m) new (words_nobody (core_in m) new idle) ∙ view_rested)) kept.held;
+      none_held = λ block held. kept.none_held block (no_more block held);
+      constants = subst (λ (h : HeapState). AreConstants h (plain_code m.code) m.constants.items) (sym heap) kept.constants;
+    };
+    idle = idle;
+  }
+
+-- ---- a step
+
+module _ (old : Machine) (taken new : Store) (given : GivesTurn (core_in old) old.store taken) (kept : IsRunning old) where
   abbrev after : Machine
   after = record old { store = new }
 
-  -- the block that was taken is the only one that was held, and it isn't held any more
-  none_held : HoldsOneMore old.store.queues taken.queues block → Releases taken.queues new.queues block → (other : ℕ) → ¬ IsHeld new.queues other
-  none_held more gone other held = let b = gone other held in kept.none_held other (more other b.1 b.0)
+  none_held : HoldsNoMore taken.queues new.queues → (block : ℕ) → ¬ IsHeld new.queues block
+  none_held no_more block held = kept.none_held block (given.no_more block (no_more block held))
 
   -- what was made once is there still
   still_constant : KeepsWords (heap_of old) new.heap → AreConstants new.heap (plain_code old.code) old.constants.items
   still_constant keeps = constants_keep (heap_of old) new.heap keeps (plain_code old.code) old.constants.items kept.constants
 
+  from_old : KeepsWords taken.heap new.heap → KeepsWords (heap_of old) new.heap
+  from_old = subst (λ (h : HeapState). KeepsWords h new.heap) given.heap
+
   -- ---- a refused step
 
-  unchanged : IsRefused (core_in old) taken new block → IsUnchanged old after
-  unchanged r = record {
-    code = refl;
-    constants = refl;
-    queues = refused_count (core_in old) old.store taken block heap levels popped others count new r;
-    contents = refused_contents (core_in old) old.store taken block heap levels popped others count new r;
-    heap = refused_heap (core_in old) old.store taken block heap levels popped others count new r;
-    view = refused_view (core_in old) old.store taken block heap levels popped others count new r;
-  }
+  still_view : IsRefused (core_in old) taken new → running_view after ≡ running_view old
+  still_view = refused_view (core_in old) old.store taken given new
 
-  refused_keeps : IsRefused (core_in old) taken new block → KeepsWords (heap_of old) new.heap
-  refused_keeps r = same_words (heap_of old) new.heap (unchanged r).heap
+  refused_keeps : IsRefused (core_in old) taken new → KeepsWords (heap_of old) new.heap
+  refused_keeps r = from_old (keeps_words taken.heap new.heap r.heap)
 
-  still_kept : HoldsOneMore old.store.queues taken.queues block → IsRefused (core_in old) taken new block → IsMachine after
-  still_kept more r = record {
+  still_kept : IsRefused (core_in old) taken new → IsRunning after
+  still_kept r = record {
     code = kept.code;
     store = r.store;
-    held = subst IsHeldBy (sym (unchanged r).view) kept.held;
-    none_held = none_held more r.released;
+    held = subst IsHeldBy (sym (still_view r)) kept.held;
+    none_held = none_held r.no_more;
     constants = still_constant (refused_keeps r);
   }
 
-  still_few : IsRefused (core_in old) taken new block → channels_of after ≤ channels_of old + 1
-  still_few r = omega (arith, (unchanged r).queues)
+  still_few : IsRefused (core_in old) taken new → channels_of after ≤ channels_of old + 1
+  still_few r = let same = r.queues in let count = given.queues in omega (arith, same, count)
 
   -- ---- a step that is done
 
-  done_keeps : (e : Event) → Acts (core_in old) taken new block e → KeepsWords (heap_of old) new.heap
-  done_keeps event.Quiet a = subst (λ h. KeepsWords h new.heap) heap a.done.keeps
-  done_keeps (event.Comm channel word) a = subst (λ h. KeepsWords h new.heap) heap a.done.keeps
-  done_keeps (event.Print word) a = subst (λ h. KeepsWords h new.heap) heap a.done.keeps
+  done_keeps : (e : Event) → Acts (core_in old) taken new e → KeepsWords (heap_of old) new.heap
+  done_keeps event.Quiet a = from_old a.done.keeps
+  done_keeps (event.Comm channel word) a = from_old a.done.keeps
+  done_keeps (event.Print word) a = from_old a.done.keeps
   done_keeps (event.Trapped at) a = refused_keeps a.1
 
-  module _ (right : IsRightFor (view_of old) 1) (more : HoldsOneMore old.store.queues taken.queues block) where
-    machine_by : (e : Event) → IsStore (core_in old) new → Releases taken.queues new.queues block → Acts (core_in old) taken new block e → IsMachine after
-    machine_by e store gone a = record {
+  module _ (right : IsRightFor (running_view old) 1) where
+    machine_by : (e : Event) → IsStore (core_in old) new → HoldsNoMore taken.queues new.queues → Acts (core_in old) taken new e → IsRunning after
+    machine_by e store no_more a = record {
       code = kept.code;
       store = store;
-      held = held_of (core_in old) old.store taken block heap levels popped others count new kept.held right.configuration right.is right.stands e a;
-      none_held = none_held more gone;
+      held = held_of (core_in old) old.store taken given new kept.held right.configuration right.is right.stands e a;
+      none_held = none_held no_more;
       constants = still_constant (done_keeps e a);
     }
 
-    done_kept : (e : Event) → Acts (core_in old) taken new block e → IsMachine after
-    done_kept event.Quiet a = machine_by event.Quiet a.done.store a.done.released a
-    done_kept (event.Comm channel word) a = machine_by (event.Comm channel word) a.done.store a.done.released a
-    done_kept (event.Print word) a = machine_by (event.Print word) a.done.store a.done.released a
-    done_kept (event.Trapped at) a = still_kept more a.1
+    done_kept : (e : Event) → Acts (core_in old) taken new e → IsRunning after
+    done_kept event.Quiet a = machine_by event.Quiet a.done.store a.done.no_more a
+    done_kept (event.Comm channel word) a = machine_by (event.Comm channel word) a.done.store a.done.no_more a
+    done_kept (event.Print word) a = machine_by (event.Print word) a.done.store a.done.no_more a
+    done_kept (event.Trapped at) a = still_kept a.1
 
-    pub step_kept : (r : Result Event AllocError) → IsStepBy (core_in old) taken new block r → IsMachine after
+    pub step_kept : (r : Result Event AllocError) → IsStepBy (core_in old) taken new r → IsRunning after
     step_kept (Ok e) a = done_kept e a
-    step_kept (Err e) b = still_kept more b
+    step_kept (Err e) b = still_kept b
 
   grown : length new.queues.queues ≤ length taken.queues.queues + 1 → channels_of after ≤ channels_of old + 1
-  grown more = omega (arith, more, count)
+  grown more = let count = given.queues in omega (arith, more, count)
 
-  done_few : (e : Event) → Acts (core_in old) taken new block e → channels_of after ≤ channels_of old + 1
+  done_few : (e : Event) → Acts (core_in old) taken new e → channels_of after ≤ channels_of old + 1
   done_few event.Quiet a = grown a.done.queues
   done_few (event.Comm channel word) a = grown a.done.queues
   done_few (event.Print word) a = grown a.done.queues
   done_few (event.Trapped at) a = still_few a.1
 
-  done_event : (e : Event) → Acts (core_in old) taken new block e → IsEventOf new.heap e
+  done_event : (e : Event) → Acts (core_in old) taken new e → IsEventOf new.heap e
   done_event event.Quiet a = tt
   done_event (event.Comm channel word) a = a.event
   done_event (event.Print word) a = a.event
@@ -116,26 +141,75 @@ module _ (old : Machine) (taken : Store) (block : ℕ) (new : Store) (heap : tak
 
   -- ---- both
 
-  pub step_ok : (r : Result Event AllocError) → IsStepBy (core_in old) taken new block r
-      → IfOk r (λ e. (C : Configuration) → IsConfiguration C → StandsFor (view_of old) C → IsStepOf C (label_of new.heap e) (trap_of e) (view_of after))
-  step_ok (Ok e) a = λ C is stands. step_of (core_in old) old.store taken block heap levels popped others count new kept.held C is stands e a
+  pub step_ok : (r : Result Event AllocError) → IsStepBy (core_in old) taken new r
+      → IfOk r (λ e. (C : Configuration) → IsConfiguration C → StandsFor (running_view old) C → IsStepOf C (label_of new.heap e) (trap_of e) (running_view after))
+  step_ok (Ok e) a = λ C is stands. step_of (core_in old) old.store taken given new kept.held C is stands e a
   step_ok (Err e) a = tt
 
-  pub step_event : (r : Result Event AllocError) → IsStepBy (core_in old) taken new block r → IfOk r (IsEventOf new.heap)
+  pub step_event : (r : Result Event AllocError) → IsStepBy (core_in old) taken new r → IfOk r (IsEventOf new.heap)
   step_event (Ok e) a = done_event e a
   step_event (Err e) a = tt
 
-  pub step_trapped : (r : Result Event AllocError) → IsStepBy (core_in old) taken new block r → (at : Span) → r ≡ Ok (event.Trapped at) → IsUnchanged old after
-  step_trapped r s at e = let acts : IsStepBy (core_in old) taken new block (Ok (event.Trapped at)) = subst (IsStepBy (core_in old) taken new block) e s in unchanged acts.1
-
-  pub step_refused : (r : Result Event AllocError) → IsStepBy (core_in old) taken new block r → OnErr r (IsUnchanged old after)
+  pub step_refused : (r : Result Event AllocError) → IsStepBy (core_in old) taken new r → OnErr r (running_view after ≡ running_view old)
   step_refused (Ok e) b = tt
-  step_refused (Err e) b = unchanged b
+  step_refused (Err e) b = still_view b
 
-  pub step_keeps : (r : Result Event AllocError) → IsStepBy (core_in old) taken new block r → KeepsWords (heap_of old) new.heap
+  pub step_keeps : (r : Result Event AllocError) → IsStepBy (core_in old) taken new r → KeepsWords (heap_of old) new.heap
   step_keeps (Ok e) a = done_keeps e a
   step_keeps (Err e) b = refused_keeps b
 
-  pub step_few : (r : Result Event AllocError) → IsStepBy (core_in old) taken new block r → channels_of after ≤ channels_of old + 1
+  pub step_few : (r : Result Event AllocError) → IsStepBy (core_in old) taken new r → channels_of after ≤ channels_of old + 1
   step_few (Ok e) a = done_few e a
   step_few (Err e) b = still_few b
+
+-- ---- a step between two calls
+
+-- the turn is taken, who has it acts, and the turn is set down
+module _ (old : Machine) (kept : IsMachine old) (taken acted new : Store) (acting : HasActing (core_in old) taken) (t : TakesTurn (core_in old) old.store taken)
+    (given : GivesTurn (core_in old) old.store taken) (heap : new.heap ≡ acted.heap) (ready : contents new.queues 0 ≡ ready_words (core_in old) acted)
+    (others : KeepsOtherContents acted.queues new.queues 0) (count : length new.queues.queues ≡ length acted.queues.queues) where
+  abbrev last : Machine
+  last = record old { store = new }
+
+  last_view : view_of last ≡ running_view (record old { store = acted })
+  last_view = rested_view (core_in old) acted new heap ready others count
+
+  unchanged : IsRefused (core_in old) taken acted → IsUnchanged old last
+  unchanged r = record {
+    code = refl;
+    constants = refl;
+    queues = count ∙ r.queues ∙ t.queues;
+    contents = refused_contents (core_in old) old.store taken acted new acting t r ready others;
+    heap = subst (λ (h : HeapState). KeepsHeap (heap_of old) h) (sym heap) (subst (λ (h : HeapState). KeepsHeap h acted.heap) t.heap r.heap);
+    view = last_view ∙ still_view old taken acted given kept.running r ∙ idle_view old kept;
+  }
+
+  pub whole_ok : (r : Result Event AllocError) → IsStepBy (core_in old) taken acted r
+      → IfOk r (λ e. (C : Configuration) → IsConfiguration C → StandsFor (view_of old) C → IsStepOf C (label_of new.heap e) (trap_of e) (view_of last))
+  whole_ok r s =
+      subst (λ (h : HeapState). IfOk r (λ e. (C : Configuration) → IsConfiguration C → StandsFor (view_of old) C → IsStepOf C (label_of h e) (trap_of e) (view_of last))) (sym heap)
+      (subst (λ (v : View). IfOk r (λ e. (C : Configuration) → IsConfiguration C → StandsFor (view_of old) C → IsStepOf C (label_of acted.heap e) (trap_of e) v)) (sym last_view)
+      (subst (λ (v : View). IfOk r (λ e. (C : Configuration) → IsConfiguration C → StandsFor v C → IsStepOf C (label_of acted.heap e) (trap_of e) (running_view (record old { store = acted })))) (idle_view old kept)
+      (step_ok old taken acted given kept.running r s)))
+
+  pub whole_event : (r : Result Event AllocError) → IsStepBy (core_in old) taken acted r → IfOk r (IsEventOf new.heap)
+  whole_event r s = subst (λ (h : HeapState). IfOk r (IsEventOf h)) (sym heap) (step_event old taken acted given kept.running r s)
+
+  pub whole_trapped : (r : Result Event AllocError) → IsStepBy (core_in old) taken acted r → (at : Span) → r ≡ Ok (event.Trapped at) → IsUnchanged old last
+  whole_trapped r s at e = let acts : IsStepBy (core_in old) taken acted (Ok (event.Trapped at)) = subst (IsStepBy (core_in old) taken acted) e s in unchanged acts.1
+
+  pub whole_refused : (r : Result Event AllocError) → IsStepBy (core_in old) taken acted r → OnErr r (IsUnchanged old last)
+  whole_refused (Ok e) b = tt
+  whole_refused (Err e) b = unchanged b
+
+  pub whole_keeps : (r : Result Event AllocError) → IsStepBy (core_in old) taken acted r → KeepsWords (heap_of old) new.heap
+  whole_keeps r s = subst (λ (h : HeapState). KeepsWords (heap_of old) h) (sym heap) (step_keeps old taken acted given kept.running r s)
+
+  pub whole_few : (r : Result Event AllocError) → IsStepBy (core_in old) taken acted r → channels_of last ≤ channels_of old + 1
+  whole_few r s = let e = step_few old taken acted given kept.running r s in omega (arith, e, count)
+
+  pub whole_kept : IsStore (core_in old) new → new.turn ≡ Nobody → HoldsNoMore acted.queues new.queues → IsRightFor (view_of old) 1 → (r : Result Event AllocError) → IsStepBy (core_in old) taken acted r → IsMachine last
+  whole_kept store idle no_more right r s =
+      machine_rested (record old { store = acted })
+      (step_kept old taken acted given kept.running (subst (λ (v : View). IsRightFor v 1) (sym (idle_view old kept)) right) r s)
+      new heap ready others count store idle no_more

@@ -1,4 +1,4 @@
--- What a machine stands for, and what it keeps from step to step.
+-- What a machine stands for, and what it keeps from call to call, and in a run from step to step.
 use Rattle.std.specs.Prelude.{◌≡◌, ◌-◌, ℕ, List, length}
 use Rattle.pict_core.specs.Term.{Process}
 use Rattle.pict_code.specs.Plain.{plain_code}
@@ -9,9 +9,11 @@ use Rattle.pict_queue.specs.Contents.{KeepsAllContents}
 use Rattle.pict_view.specs.View.{View}
 use Rattle.pict_view.specs.Held.{IsHeldBy}
 use Rattle.pict_turns.specs.Acting.{IsCode, IsStore, KeepsHeap}
-use Rattle.pict_turns.specs.Cost.{step_cost}
+use Rattle.pict_turns.specs.Cost.{step_cost, first_cost}
 use Rattle.pict_turns.specs.Views as store
+use Rattle.pict_turns.specs.declared.turn.Turn.TheVariants.{Nobody}
 use Rattle.pict_machine.specs.Constants.{AreConstants}
+use Rattle.pict_machine.specs.Needs as needs
 use Rattle.pict_machine.specs.Needs.{needed_widths}
 use Rattle.pict_machine.specs.Plain as plain
 use Rattle.pict_machine.specs.declared.machine.Machine.{Machine}
@@ -48,17 +50,38 @@ widths_of m = needed_widths (core_in m) m.store
 abbrev pub MeetsPlainly : Machine → Type 0
 MeetsPlainly m = plain.MeetsPlainly (core_in m) m.store
 
--- What holds of a machine between two steps. Its code is that of a closed process, and its store is one of this code. At each
--- channel messages wait, or readers, and never both. No block is held: each live block stands in a queue. Of each output the
--- word is there that is made once.
-pub record IsMachine (m : Machine) : Type 0 where
+-- what the next step of a run may cost: that of who has the turn, or else of the first of the ready processes
+abbrev pub running_cost : Machine → ℕ
+running_cost m = first_cost (core_in m) m.store (store.ready_words (core_in m) m.store)
+
+-- the widths of the blocks that the next step of a run needs, beside one for who has the turn
+abbrev pub running_widths : Machine → List ℕ
+running_widths m = needs.running_widths (core_in m) m.store
+
+-- the next step of a run is a plain meeting of a message and an input
+abbrev pub RunsPlainly : Machine → Type 0
+RunsPlainly m = plain.RunsPlainly (core_in m) m.store
+
+-- the view of a machine that runs, in which somebody may have the turn
+abbrev pub running_view : Machine → View
+running_view m = store.view_with_turn (core_in m) m.store
+
+-- What holds of a machine between two steps of a run. Its code is that of a closed process, and its store is one of this code. At
+-- each channel messages wait, or readers, and never both. No block is held: each live block stands in a queue. Of each output the
+-- word is there that is made once. Somebody may have the turn.
+pub record IsRunning (m : Machine) : Type 0 where
   pub code : IsCode (plain_code m.code)
   pub store : IsStore (core_in m) m.store
-  pub held : IsHeldBy (view_of m)
+  pub held : IsHeldBy (running_view m)
   pub none_held : (block : ℕ) → ¬ IsHeld m.store.queues block
   pub constants : AreConstants (heap_of m) (plain_code m.code) m.constants.items
 
--- Nothing has changed but room, spare blocks, work, and the values of levels, which count only while a block acts.
+-- What holds of a machine between two calls: the same, and nobody has the turn.
+pub record IsMachine (m : Machine) : Type 0 where
+  pub running : IsRunning m
+  pub idle : m.store.turn ≡ Nobody
+
+-- Nothing has changed but room, spare blocks, work, and the values of levels, which count only while somebody has the turn.
 pub record IsUnchanged (old new : Machine) : Type 0 where
   pub code : new.code ≡ old.code
   pub constants : new.constants ≡ old.constants

@@ -1,13 +1,14 @@
 -- The widths of the blocks that a step needs. It makes blocks only where fewer are free.
-use Rattle.std.specs.Prelude.{ℕ, zero, suc, ◌+◌, List, [], ◌∷◌, slice_get, option_map, unwrap_or, if◌then◌else◌}
+use Rattle.std.specs.Prelude.{ℕ, zero, suc, ◌+◌, List, [], ◌∷◌, ◌++◌, length, map, slice_get, option_map, unwrap_or, if◌then◌else◌}
 use Rattle.pict_core.specs.Primitives.{effect_of}
 use Rattle.pict_core.specs.Term as term
 use Rattle.pict_core.specs.Term.{Process}
 use Rattle.pict_code.specs.Instruction.{Op, Zero, Par, New, Out, In, Serve, If, Node}
 use Rattle.pict_code.specs.Nodes.{nodes_of}
 use Rattle.pict_queue.specs.QueuesState.{QueuesState}
-use Rattle.pict_queue.specs.Contents.{contents, held_words}
+use Rattle.pict_queue.specs.Contents.{contents}
 use Rattle.pict_blocks.specs.Blocks.{value_in, process_of}
+use Rattle.pict_turns.specs.Views.{turn_words, acting_words, ready_words}
 use Rattle.pict_turns.specs.Widths.{MakesOnly, part_width, answer_widths}
 use Rattle.pict_turns.specs.declared.store.Store.{Store}
 
@@ -77,6 +78,15 @@ first_widths core s (words ∷ rest) = widths_of core s words
 abbrev pub needed_widths : Process → Store → List ℕ
 needed_widths core s = first_widths core s (contents s.queues 0)
 
--- the step of the held block made only blocks that it needs and that weren't free
-abbrev pub MakesNeeded : Process → Store → Store → ℕ → Type 0
-MakesNeeded core old new block = MakesOnly old.queues new.queues (widths_of core old (held_words old.queues.region block))
+-- the width of a block for who has the turn, if somebody has it
+abbrev pub turn_widths : Process → Store → List ℕ
+turn_widths core s = map (λ (words : List ℕ). length words + 1) (turn_words core s)
+
+-- What the step of a run needs, of who has the turn, or else of the first of queue 0, and a block for who has the turn.
+abbrev pub running_widths : Process → Store → List ℕ
+running_widths core s = turn_widths core s ++ first_widths core s (ready_words core s)
+
+-- The step of who has the turn made blocks of a width only where fewer were free than it needs, one for who had the turn
+-- counted, and then only as many as were wanting.
+abbrev pub MakesNeeded : Process → Store → Store → Type 0
+MakesNeeded core old new = MakesOnly old.queues new.queues ((length (acting_words core old) + 1) ∷ widths_of core old (acting_words core old))

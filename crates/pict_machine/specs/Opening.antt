@@ -21,6 +21,7 @@ pub record OnlyMakes (old new : Store) : Type 0 where
   pub words : KeepsWords old.heap new.heap
   pub queues : AreOpening old.queues → AreOpening new.queues
   pub values : new.values.items ≡ old.values.items
+  pub turn : new.turn ≡ old.turn
 
 -- the message of an output has no channel, and its variables are below some level
 abbrev pub HasMessageOver : Op → Type 0

@@ -13,9 +13,9 @@ use Rattle.pict_blocks.specs.Blocks.{value_in, process_of}
 use Rattle.pict_operands.specs.AtHand.{IsOfHeap}
 use Rattle.pict_turns.specs.Parts.{block_width}
 use Rattle.pict_turns.specs.Reading.{HasFrame}
+use Rattle.pict_turns.specs.Views.{ready_words}
 use Rattle.pict_turns.specs.declared.store.Store.{Store}
 use Rattle.pict_machine.specs.Constants.{HasNoVariable}
-use Rattle.pict_machine.specs.declared.event.Event.{Event}
 
 -- the instruction of a block with these words behind its link, if it is one of a node
 abbrev pub instruction_of : List Node → List ℕ → Option Op
@@ -82,15 +82,23 @@ pub record ReceivesPlainly (core : Process) (s : Store) (acting : List ℕ) : Ty
 abbrev pub ActsPlainly : Process → Store → List ℕ → Type 0
 ActsPlainly core s acting = SendsPlainly core s acting ⊎ ReceivesPlainly core s acting
 
--- A message and an input that isn't replicated meet in the step of the first of the ready ones. What is sent is no operand that
+-- A message and an input that isn't replicated meet in the step of the first of these ready ones. What is sent is no operand that
 -- is a text or a record with a variable, and there is a block for the input's part, once the blocks of the two that meet are
 -- given back.
-pub record MeetsPlainly (core : Process) (s : Store) : Type 0 where
+pub record FirstMeetsPlainly (core : Process) (s : Store) (all_ready : List (List ℕ)) : Type 0 where
   pub acting : List ℕ
   pub ready : List (List ℕ)
-  pub first : contents s.queues 0 ≡ acting ∷ ready
+  pub first : all_ready ≡ acting ∷ ready
   pub plainly : ActsPlainly core s acting
 
+-- the same of the first of queue 0
+abbrev pub MeetsPlainly : Process → Store → Type 0
+MeetsPlainly core s = FirstMeetsPlainly core s (contents s.queues 0)
+
+-- the same of who has the turn, or else of the first of queue 0
+abbrev pub RunsPlainly : Process → Store → Type 0
+RunsPlainly core s = FirstMeetsPlainly core s (ready_words core s)
+
 -- the step is done, and there are as many blocks as before, of every width
-abbrev pub TakesNothing : Store → Store → Result Event AllocError → Type 0
+abbrev pub TakesNothing : {T : Type 0} → Store → Store → Result T AllocError → Type 0
 TakesNothing old new result = IsOk result × KeepsBlocks old.queues.region new.queues.region

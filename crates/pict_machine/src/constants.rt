@@ -1,11 +1,11 @@
 // Words that are made once: those of operands without variables.
-ghost use Rattle.std.specs.Prelude.{◌≡◌, ◌↔◌, ℕ, length, map, IfOk, IfSome, IsNone, IsTrue};
+ghost use Rattle.std.specs.Prelude.{◌↔◌, ℕ, length, map, IfOk, IfSome, IsNone, IsTrue};
 ghost use Rattle.pict_core.specs.Closed.{IsOver};
 ghost use Rattle.pict_core.specs.Plain.{plain_val, plain_field, vals_of, labelled_of};
 ghost use Rattle.pict_code.specs.Plain.{plain_op, plain_node};
-ghost use Rattle.pict_heap.specs.HeapState.{HeapState, value_of, IsWord};
+ghost use Rattle.pict_heap.specs.HeapState.{HeapState};
 ghost use Rattle.pict_blocks.specs.Blocks.{known, operand_value};
-ghost use Rattle.pict_operands.specs.AtHand.{IsOfHeap};
+ghost use Rattle.pict_operands.specs.AtHand.{IsOfHeap, IsPairFor};
 ghost use Rattle.pict_operands.specs.Pairs.{ArePairs};
 ghost use Rattle.pict_turns.specs.Acting.{IsCode};
 ghost use Rattle.pict_machine.specs.Constants.{HasNoVariable, HaveNoVariable, LabelledHaveNone, IsConstant, IsConstantFor, AreConstants};
@@ -13,8 +13,8 @@ ghost use Rattle.pict_machine.specs.Opening.{OnlyMakes, HasMessageOver};
 
 use pict_code::{Node, Op, Operand};
 use pict_core::CoreVal;
-use pict_heap::Word;
-use pict_operands::{need, word_at_hand, word_of};
+use pict_heap::{Word, pack};
+use pict_operands::{need, pair_at_hand, word_of};
 use pict_syntax::Name;
 use pict_turns::{Store, reserve_room};
 use std::alloc::{AllocError, Global};
@@ -110,6 +110,7 @@ pub(crate) fn make_constants(
     ensures rest { OnlyMakes store.old store.new }
 {
     let mut constants = Vec::new(alloc);
+    constants.reserve(nodes.len())?;
     for node in nodes {
         let constant = make_constant_for(store, &node.op)?;
         constants.push(constant)?;
@@ -117,22 +118,25 @@ pub(crate) fn make_constants(
     Ok(constants)
 }
 
-// The word of an operand, where it need not be made.
+// The two words of an operand, where its word need not be made.
 #[inline(always)]
-pub(crate) fn word_there(
+pub(crate) fn pair_there(
     operand: &Operand,
     constant: &Option<Word>,
     values: &[(u64, u64)],
-) -> Option<Word>
+) -> Option<(u64, u64)>
     requires over { IsOver (length values.now) 0 (plain_val operand.now) }
     requires pairs { (h : HeapState) × ArePairs h values.now }
-    ensures word { (h : HeapState) → ArePairs h values.now → IsConstant h (plain_val operand.now) constant.now
-        → IfSome result (λ w. IsWord h w × (value_of h w ≡ operand_value (known h values.now) (plain_val operand.now))) }
+    ensures pair { (h : HeapState) → ArePairs h values.now → IsConstant h (plain_val operand.now) constant.now
+        → IfSome result (IsPairFor h (operand_value (known h values.now) (plain_val operand.now))) }
     ensures none { (h : HeapState) → IsConstant h (plain_val operand.now) constant.now → IsNone result
         → IsOfHeap (plain_val operand.now) × ¬ HasNoVariable (plain_val operand.now) }
 {
-    match word_at_hand(operand, values) {
-        Some(word) => Some(word),
-        None => *constant,
+    match pair_at_hand(operand, values) {
+        Some(pair) => Some(pair),
+        None => match constant {
+            Some(word) => Some(pack(*word)),
+            None => None,
+        },
     }
 }

@@ -4,6 +4,7 @@ ghost use Rattle.pict_core.specs.Configuration.{Configuration, IsConfiguration, 
 ghost use Rattle.pict_core.specs.Step.{next, Finished};
 ghost use Rattle.pict_code.specs.Plain.{plain_code};
 ghost use Rattle.pict_code.specs.ReadBack.{core_of};
+ghost use Rattle.pict_queue.specs.QueuesState.{IsQueue};
 ghost use Rattle.pict_view.specs.View.{StandsFor};
 ghost use Rattle.pict_turns.specs.Acting.{IsCode};
 ghost use Rattle.pict_machine.specs.Machine.{IsMachine, view_of, heap_of, queues_of, channels_of};
@@ -16,7 +17,7 @@ use pict_frames::spawn;
 use pict_heap::{Heap, Word};
 use pict_operands::Pending;
 use pict_queue::{QueueId, Queues};
-use pict_turns::Store;
+use pict_turns::{Store, Turn};
 use std::alloc::{AllocError, Global};
 
 /// A machine that runs the code of a core process.
@@ -67,6 +68,7 @@ impl Machine {
                 words: Vec::new(alloc),
                 labelled: Vec::new(alloc),
             },
+            turn: Turn::Nobody,
         };
         let constants = make_constants(alloc, &mut store, &code.nodes)?;
         Ok(Machine {
@@ -85,8 +87,10 @@ impl Machine {
         self.is_ready()
     }
 
-    fn is_ready(&self) -> bool
-        requires { IsMachine self.now }
+    // Whether queue 0 has a block.
+    #[inline(always)]
+    pub(crate) fn is_ready(&self) -> bool
+        requires { IsQueue (queues_of self.now) 0 }
         ensures { IsTrue result ↔ ((view_of self.now).ready ≢ []) }
     {
         self.store.queues.length(QueueId(0)) > 0

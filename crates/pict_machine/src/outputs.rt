@@ -1,25 +1,26 @@
 // The steps of outputs.
-ghost use Rattle.std.specs.Prelude.{◌≡◌, ◌+◌, ℕ, List, map, length, IfOk, IsSome, OnErr, Some};
+ghost use Rattle.std.specs.Prelude.{◌≡◌, ◌≤◌, ◌+◌, List, length, None, IfOk, IsSome, OnErr, Some};
+ghost use Rattle.pict_syntax.specs.declared.primitive.Primitive.{Primitive};
 ghost use Rattle.pict_core.specs.Closed.{IsOver};
 ghost use Rattle.pict_core.specs.Plain.{plain_val};
 ghost use Rattle.pict_core.specs.Primitives.{Effect, effect_of};
 ghost use Rattle.pict_core.specs.Term.{Process};
 ghost use Rattle.pict_code.specs.Instruction as op;
-ghost use Rattle.pict_code.specs.Plain.{plain_node};
-ghost use Rattle.pict_queue.specs.Contents.{held_words};
-ghost use Rattle.pict_queue.specs.QueuesState.{IsQueue, IsHeld, CostsAtMost};
+ghost use Rattle.pict_code.specs.declared.instruction.Node.{Node as AnyNode};
+ghost use Rattle.pict_heap.specs.HeapState.{HeapState};
+ghost use Rattle.pict_blocks.specs.Blocks.{value_in};
+ghost use Rattle.pict_operands.specs.AtHand.{channel_named};
 ghost use Rattle.pict_operands.specs.Pairs.{ArePairs};
 ghost use Rattle.pict_calls.specs.Arguments.{operand_in};
 ghost use Rattle.pict_calls.specs.Calling.{CallsOn, IsCalled};
 ghost use Rattle.pict_turns.specs.Acting.{core_in, ActsBy, HasActing, IsRefused};
+ghost use Rattle.pict_turns.specs.Turns.{turn_cost};
 ghost use Rattle.pict_turns.specs.Widths.{MakesOnly, answer_widths};
-ghost use Rattle.pict_turns.specs.Parts.{block_width};
-ghost use Rattle.pict_turns.specs.Reading.{HasFrame};
-ghost use Rattle.pict_turns.specs.Views.{IsKept};
+ghost use Rattle.pict_turns.specs.Views.{acting_words};
 ghost use Rattle.pict_machine.specs.Constants.{IsConstant};
 ghost use Rattle.pict_machine.specs.Needs.{MakesNeeded};
 ghost use Rattle.pict_machine.specs.Plain.{SendsPlainly, TakesNothing};
-ghost use Rattle.pict_machine.specs.Sending.{HoldsKept, event_called};
+ghost use Rattle.pict_machine.specs.Sending.{StandsForPrimitive, event_called};
 ghost use Rattle.pict_machine.specs.Stepping.{MayAct, IsStepBy};
 ghost use Rattle.pict_machine.specs.Work.{Fits};
 
@@ -27,15 +28,16 @@ use crate::event::Event;
 use crate::sending::{send, send_kept};
 use pict_calls::{Called, call, call_operand};
 use pict_code::{Node, Operand};
-use pict_frames::{Kept, read_kept};
+use pict_core::CoreVal;
+use pict_frames::Kept;
 use pict_heap::Word;
-use pict_operands::{word_at, word_at_hand};
-use pict_region::Block;
+use pict_operands::{channel_at_hand, channel_of, word_at, word_at_hand};
 use pict_syntax::{Prim, Span};
-use pict_turns::Store;
+use pict_turns::{Store, Turn};
 use std::alloc::AllocError;
 
 // What a call shows.
+#[inline(always)]
 fn event_of(called: Called) -> Event
     ensures { result ≡ event_called called }
 {
@@ -46,111 +48,123 @@ fn event_of(called: Called) -> Event
     }
 }
 
-// The step of an output of these kept values.
-fn output_words(
-    code: &[Node],
-    store: &mut Store,
-    block: Block,
-    kept: Kept,
-) -> Result<Event, AllocError>
-    requires may { MayAct code.now store.old block }
-    requires kept { HoldsKept store.old.heap (held_words store.old.queues.region block) kept }
-    ensures step { IsStepBy (core_in code.now) store.old store.new block result }
-    ensures work { Fits (core_in code.now) store.old store.new block 10 }
-    ensures blocks { MakesNeeded (core_in code.now) store.old store.new block }
-    ensures plain { SendsPlainly (core_in code.now) store.old (held_words store.old.queues.region block)
-        → TakesNothing store.old store.new result }
+// The step of an output of these kept values, which has the turn, and is to no channel.
+#[inline(never)]
+fn call_kept(store: &mut Store, kept: Kept) -> Result<Event, AllocError>
+    requires may { (code : List AnyNode) × MayAct code store.old }
+    requires kept { store.old.turn ≡ Turn.Output kept }
+    requires elsewhere { channel_named (value_in store.old.heap kept.to.0 kept.to.1) ≡ None }
+    ensures step { (code : List AnyNode) → MayAct code store.old → IsStepBy (core_in code) store.old store.new result }
+    ensures work { (code : List AnyNode) → MayAct code store.old → Fits (core_in code) store.old store.new }
+    ensures blocks { (code : List AnyNode) → MayAct code store.old → MakesNeeded (core_in code) store.old store.new }
+    ensures plain { (code : List AnyNode) → MayAct code store.old → ¬ SendsPlainly (core_in code) store.old (acting_words (core_in code) store.old) }
 {
-    let message = word_at(kept.message);
     match word_at(kept.to) {
-        Word::Chan(channel) => send_kept(code, store, block, channel, message),
         Word::Prim(p) => {
-            let called = call(store, block, p, message, kept.at)?;
+            let called = call(store, p, word_at(kept.message), kept.at)?;
             Ok(event_of(called))
         }
         _ => unreachable!(),
     }
 }
 
-// The step of an output of kept values.
-pub(crate) fn output_kept(
-    code: &[Node],
-    store: &mut Store,
-    block: Block,
-) -> Result<Event, AllocError>
-    requires may { MayAct code.now store.old block }
-    requires kept { IsKept store.old.heap (held_words store.old.queues.region block) }
-    ensures step { IsStepBy (core_in code.now) store.old store.new block result }
-    ensures work { Fits (core_in code.now) store.old store.new block 3 }
-    ensures blocks { MakesNeeded (core_in code.now) store.old store.new block }
-    ensures plain { SendsPlainly (core_in code.now) store.old (held_words store.old.queues.region block)
-        → TakesNothing store.old store.new result }
+// The step of an output of these kept values, which has the turn.
+#[inline(always)]
+pub(crate) fn output_kept(code: &[Node], store: &mut Store, kept: Kept) -> Result<Event, AllocError>
+    requires may { MayAct code.now store.old }
+    requires kept { store.old.turn ≡ Turn.Output kept }
+    ensures step { IsStepBy (core_in code.now) store.old store.new result }
+    ensures work { Fits (core_in code.now) store.old store.new }
+    ensures blocks { MakesNeeded (core_in code.now) store.old store.new }
+    ensures plain { SendsPlainly (core_in code.now) store.old (acting_words (core_in code.now) store.old) → TakesNothing store.old store.new result }
 {
-    let kept = read_kept(&mut store.queues, &block);
-    output_words(code, store, block, kept)
+    match channel_of(kept.to) {
+        Some(channel) => send_kept(code, store, channel, kept.message),
+        None => call_kept(store, kept),
+    }
+}
+
+// The primitive that a variable stands for, which has the two words of its level among `values`.
+#[inline(never)]
+fn primitive_of_variable(operand: &Operand, values: &[(u64, u64)]) -> Prim
+    requires over { IsOver (length values.now) 0 (plain_val operand.now) }
+    requires is { (h : HeapState) × (p : Primitive) × StandsForPrimitive h values.now (plain_val operand.now) p }
+    ensures { (h : HeapState) (p : Primitive) → StandsForPrimitive h values.now (plain_val operand.now) p → result ≡ p }
+{
+    match word_at_hand(operand, values) {
+        Some(word) => match word {
+            Word::Prim(p) => p,
+            _ => unreachable!(),
+        },
+        None => unreachable!(),
+    }
+}
+
+// The primitive that an operand stands for.
+#[inline(always)]
+fn primitive_at_hand(operand: &Operand, values: &[(u64, u64)]) -> Prim
+    requires over { IsOver (length values.now) 0 (plain_val operand.now) }
+    requires is { (h : HeapState) × (p : Primitive) × StandsForPrimitive h values.now (plain_val operand.now) p }
+    ensures { (h : HeapState) (p : Primitive) → StandsForPrimitive h values.now (plain_val operand.now) p → result ≡ p }
+{
+    match operand {
+        CoreVal::Prim(p) => *p,
+        _ => primitive_of_variable(operand, values),
+    }
 }
 
 // The output of an operand to a primitive, as `call_operand` says, or where the operand has a constant as `call` says.
+#[inline(always)]
 fn call_message(
     store: &mut Store,
-    block: Block,
     p: Prim,
     message: &Operand,
     constant: &Option<Word>,
     at: Span,
 ) -> Result<Called, AllocError>
-    requires queue { IsQueue store.old.queues 0 }
-    requires held { IsHeld store.old.queues block }
     requires over { IsOver (length store.old.values.items) 0 (plain_val message.now) }
     requires pairs { ArePairs store.old.heap store.old.values.items }
     requires constant { IsConstant store.old.heap (plain_val message.now) constant.now }
     requires takes { IsSome (effect_of p (operand_in store.old.heap store.old.values.items (plain_val message.now))) }
     ensures done { (core : Process)
-        → CallsOn core store.old block p (operand_in store.old.heap store.old.values.items (plain_val message.now)) at
-        → IfOk result (IsCalled core store.old store.new block) }
-    ensures refused { (core : Process) → HasActing core store.old block → OnErr result (IsRefused core store.old store.new block) }
+        → CallsOn core store.old p (operand_in store.old.heap store.old.values.items (plain_val message.now)) at
+        → IfOk result (IsCalled core store.old store.new) }
+    ensures refused { (core : Process) → HasActing core store.old → OnErr result (IsRefused core store.old store.new) }
     ensures blocks { (e : Effect) → effect_of p (operand_in store.old.heap store.old.values.items (plain_val message.now)) ≡ Some e
         → MakesOnly store.old.queues store.new.queues (answer_widths e) }
-    ensures cost { CostsAtMost 11 store.old.queues store.new.queues }
+    ensures work { store.new.queues.region.work ≡ store.old.queues.region.work }
+    ensures turn { (core : Process) → turn_cost core store.new ≤ turn_cost core store.old + 13 }
 {
     match constant {
-        Some(word) => call(store, block, p, *word, at),
-        None => call_operand(store, block, p, message, at),
+        Some(word) => call(store, p, *word, at),
+        None => call_operand(store, p, message, at),
     }
 }
 
-// The step of an output of the second operand, which has this constant, on the first, of a block of this width.
+// The step of an output of the second operand, which has this constant, on the first.
+#[inline(always)]
 pub(crate) fn output(
     code: &[Node],
     store: &mut Store,
-    block: Block,
-    width: u32,
     chan: &Operand,
     message: &Operand,
     constant: &Option<Word>,
     at: Span,
 ) -> Result<Event, AllocError>
-    requires may { MayAct code.now store.old block }
-    requires acts { ActsBy (core_in code.now) store.old block (op.Out (plain_val chan.now) (plain_val message.now) at) }
-    requires width { length (held_words store.old.queues.region block) + 1 ≡ width }
+    requires may { MayAct code.now store.old }
+    requires acts { ActsBy (core_in code.now) store.old (op.Out (plain_val chan.now) (plain_val message.now) at) }
     requires constant { IsConstant store.old.heap (plain_val message.now) constant.now }
-    ensures step { IsStepBy (core_in code.now) store.old store.new block result }
-    ensures work { (a : ActsBy (core_in code.now) store.old block (op.Out (plain_val chan.now) (plain_val message.now) at))
-        (own : List ℕ) → HasFrame (map plain_node code.now) a.number own
-        → Fits (core_in code.now) store.old store.new block (block_width own + 3) }
-    ensures blocks { MakesNeeded (core_in code.now) store.old store.new block }
-    ensures plain { SendsPlainly (core_in code.now) store.old (held_words store.old.queues.region block)
-        → TakesNothing store.old store.new result }
+    ensures step { IsStepBy (core_in code.now) store.old store.new result }
+    ensures work { Fits (core_in code.now) store.old store.new }
+    ensures blocks { MakesNeeded (core_in code.now) store.old store.new }
+    ensures plain { SendsPlainly (core_in code.now) store.old (acting_words (core_in code.now) store.old) → TakesNothing store.old store.new result }
 {
-    match word_at_hand(chan, &store.values) {
-        Some(word) => match word {
-            Word::Chan(channel) => send(code, store, block, width, channel, message, constant, at),
-            Word::Prim(p) => {
-                let called = call_message(store, block, p, message, constant, at)?;
-                Ok(event_of(called))
-            }
-            _ => unreachable!(),
-        },
-        None => unreachable!(),
+    match channel_at_hand(chan, &store.values) {
+        Some(channel) => send(code, store, channel, message, constant, at),
+        None => {
+            let p = primitive_at_hand(chan, &store.values);
+            let called = call_message(store, p, message, constant, at)?;
+            Ok(event_of(called))
+        }
     }
 }

@@ -9,10 +9,12 @@ ghost use Rattle.pict_view.specs.View.{StandsFor};
 ghost use Rattle.pict_view.specs.Right.{IsRightFor};
 ghost use Rattle.pict_view.specs.Watching.{WhereTold, Saw, SawOrTore, Ran, RanFor, BrokeOff};
 ghost use Rattle.pict_machine.specs.Events.{label_of, end_of, IsEventOf, IsShown};
-ghost use Rattle.pict_machine.specs.Machine.{IsMachine, view_of, heap_of, channels_of};
+ghost use Rattle.pict_machine.specs.Machine.{IsMachine, IsRunning, running_view, view_of, heap_of, channels_of};
+ghost use Rattle.pict_machine.specs.Going.{StopsAs};
 
 use crate::event::{End, Event, RunError, Stopped};
 use crate::machine::Machine;
+use crate::stepping::Gone;
 use pict_heap::Heap;
 use pict_syntax::FUEL_LIMIT;
 
@@ -113,39 +115,69 @@ impl Machine {
         ensures torn_stays { (v : List ℕ) (n : ℕ) (l : Label) (after : List ℕ) → W.torn watcher.new v n l after ↔ W.torn watcher.old v n l after }
         ensures same { W.same watcher.old watcher.new }
     {
-        for step in 0..fuel {
-            if !self.ready() {
-                return Ok(Stopped {
-                    end: End::Done,
-                    steps: step,
-                });
-            }
-            let event = self.step()?;
+        let answer = self.run_on(fuel, watcher);
+        self.rest();
+        answer
+    }
+
+    // The same, but that somebody may have the turn before and afterwards.
+    fn run_on<W: Watcher>(&mut self, fuel: u64, watcher: &mut W) -> Result<Stopped, RunError>
+        requires kept { IsRunning self.old }
+        requires fuel { fuel ≤ FUEL_LIMIT }
+        requires few { channels_of self.old + fuel < 2 ^ 32 }
+        requires right { IsRightFor (running_view self.old) fuel }
+        ensures kept { IsRunning self.new }
+        ensures end { IfOk result (λ s. (C : Configuration) → IsConfiguration C → StandsFor (running_view self.old) C
+            → RanFor C fuel s.steps (end_of s.end) (running_view self.new) (Saw (W.next watcher.old) (W.view watcher.old) (W.view watcher.new))) }
+        ensures broken { OnErr result ((C : Configuration) → IsConfiguration C → StandsFor (running_view self.old) C
+            → BrokeOff C fuel (StandsFor (running_view self.new))
+            (SawOrTore (W.next watcher.old) (W.torn watcher.old) (W.view watcher.old) (W.view watcher.new))) }
+        ensures sink { result ≡ Err RunError.Sink → Rose (W.faults watcher.old) (W.faults watcher.new) }
+        ensures channels { channels_of self.new ≤ channels_of self.old + fuel }
+        ensures keeps { KeepsWords (heap_of self.old) (heap_of self.new) }
+        ensures faults_stay { W.faults watcher.old ≤ W.faults watcher.new }
+        ensures next_stays { (v : List ℕ) (n : ℕ) (l : Label) → W.next watcher.new v n l ≡ W.next watcher.old v n l }
+        ensures torn_stays { (v : List ℕ) (n : ℕ) (l : Label) (after : List ℕ) → W.torn watcher.new v n l after ↔ W.torn watcher.old v n l after }
+        ensures same { W.same watcher.old watcher.new }
+    {
+        let mut done = 0;
+        while done < fuel {
+            let Gone { quiet, event } = self.go_on(fuel - done);
+            done += quiet;
+            let event = match event? {
+                Some(event) => event,
+                None => return Ok(self.stopped(done)),
+            };
+            done += 1;
             match event.trap() {
                 Some(at) => {
                     return Ok(Stopped {
                         end: End::Trap(at),
-                        steps: step + 1,
+                        steps: done,
                     });
                 }
                 None => {}
             }
-            match show(watcher, self.heap(), step + 1, &event) {
+            match show(watcher, self.heap(), done, &event) {
                 Ok(()) => {}
                 Err(error) => return Err(error),
             }
         }
-        if self.ready() {
-            Ok(Stopped {
-                end: End::FuelSpent,
-                steps: fuel,
-            })
+        Ok(self.stopped(done))
+    }
+
+    // How a run ends that no trap ends, after so many steps.
+    fn stopped(&self, steps: u64) -> Stopped
+        requires { IsRunning self.now }
+        ensures end { StopsAs (running_view self.now) result.end }
+        ensures steps { result.steps ≡ steps }
+    {
+        let end = if self.has_next() {
+            End::FuelSpent
         } else {
-            Ok(Stopped {
-                end: End::Done,
-                steps: fuel,
-            })
-        }
+            End::Done
+        };
+        Stopped { end, steps }
     }
 
     /// The same run, of which the answer is the end alone.

@@ -1,31 +1,60 @@
 // One step of the machine.
-ghost use Rattle.std.specs.Prelude.{◌≡◌, ◌≢◌, ◌≤◌, ◌<◌, ◌+◌, ◌^◌, [], IsOk, IfOk, OnErr, Ok};
+ghost use Rattle.std.specs.Prelude.{◌≡◌, ◌≢◌, ◌≤◌, ◌<◌, ◌+◌, ◌^◌, ◌↔◌, [], map, IsOk, IsTrue, IfOk, OnErr, Ok};
 ghost use Rattle.pict_core.specs.Configuration.{Configuration, IsConfiguration};
+ghost use Rattle.pict_code.specs.Plain.{plain_node};
 ghost use Rattle.pict_heap.specs.HeapState.{KeepsWords};
 ghost use Rattle.pict_view.specs.Right.{IsRightFor};
 ghost use Rattle.pict_view.specs.Stepping.{IsStepOf};
 ghost use Rattle.pict_view.specs.View.{StandsFor};
 ghost use Rattle.pict_region.specs.RegionState.{KeepsBlocks};
 ghost use Rattle.pict_queue.specs.QueuesState.{CostsAtMost};
+ghost use Rattle.pict_turns.specs.Acting.{core_in, IsCode, IsStore};
+ghost use Rattle.pict_turns.specs.Views.{view_with_turn};
 ghost use Rattle.pict_turns.specs.Widths.{MakesOnly};
 ghost use Rattle.pict_machine.specs.Events.{label_of, trap_of, IsEventOf};
-ghost use Rattle.pict_machine.specs.Machine.{IsMachine, IsUnchanged, MeetsPlainly};
+ghost use Rattle.pict_machine.specs.Machine.{IsMachine, IsRunning, IsUnchanged, MeetsPlainly};
+ghost use Rattle.pict_machine.specs.Machine.{RunsPlainly, running_view, running_cost, running_widths};
 ghost use Rattle.pict_machine.specs.Machine.{view_of, heap_of, queues_of, channels_of, cost_of, widths_of};
+ghost use Rattle.pict_machine.specs.Going.{GoesOn};
+ghost use Rattle.pict_machine.specs.Stepping.{GivesTurn};
 
 use crate::acting::act;
 use crate::event::Event;
 use crate::machine::Machine;
-use pict_queue::QueueId;
+use pict_code::Node;
 use pict_syntax::Span;
+use pict_turns::{Store, Turn, return_turn, take_turn};
 use std::alloc::AllocError;
+
+// Steps of a run that show nothing, and the step after them.
+pub(crate) struct Gone {
+    // How many steps show nothing, one after the other.
+    pub(crate) quiet: u64,
+    // The event of the step after them, if there is one.
+    pub(crate) event: Result<Option<Event>, AllocError>,
+}
+
+// Somebody has the turn afterwards: who has it, or else the first of queue 0, whose block is free then. Takes no memory.
+#[inline(always)]
+fn ensure_turn(store: &mut Store, code: &[Node])
+    requires code { IsCode (map plain_node code.now) }
+    requires store { IsStore (core_in code.now) store.old }
+    requires ready { (view_with_turn (core_in code.now) store.old).ready ≢ [] }
+    ensures { GivesTurn (core_in code.now) store.old store.new }
+{
+    match store.turn {
+        Turn::Nobody => take_turn(store, code),
+        _ => {}
+    }
+}
 
 impl Machine {
     /// One step: that of the oldest ready process, with its oldest partner.
     ///
     /// The event is the label of the oldest-first step, for each configuration that the machine stands for, by words of the
     /// heap, and the machine stands for the next configuration. `Trapped` comes exactly where the step divides by zero. The
-    /// only error is want of memory. After a trap or an error nothing has changed but room, spare blocks and work, so the step
-    /// can be tried again.
+    /// only error is want of memory. After a trap or an error nothing has changed but room, spare blocks, work, and the values
+    /// of levels, which count for nothing between two calls, so the step can be tried again.
     ///
     /// Blocks are made only where fewer are free than the step needs. Where a message and an input that isn't replicated meet,
     /// what is sent is no operand that is a text or a record with a variable, and the block of the input's part is as wide as a
@@ -52,9 +81,99 @@ impl Machine {
             → IsOk result × KeepsBlocks (queues_of self.old).region (queues_of self.new).region }
         ensures channels { channels_of self.new ≤ channels_of self.old + 1 }
     {
-        match self.store.queues.pop_front(QueueId(0)) {
-            None => unreachable!(),
-            Some(block) => act(&self.code.nodes, &self.constants, &mut self.store, block),
+        take_turn(&mut self.store, &self.code.nodes);
+        let result = act(&self.code.nodes, &self.constants, &mut self.store);
+        return_turn(&mut self.store, &self.code.nodes);
+        result
+    }
+
+    // Whether somebody has the turn, or stands in queue 0.
+    #[inline(always)]
+    pub(crate) fn has_next(&self) -> bool
+        requires { IsRunning self.now }
+        ensures { IsTrue result ↔ ((running_view self.now).ready ≢ []) }
+    {
+        match self.store.turn {
+            Turn::Nobody => self.is_ready(),
+            _ => true,
         }
+    }
+
+    // One step of a run, of who has the turn, or else of the first of queue 0: as `step` says, but that somebody may have the
+    // turn afterwards.
+    pub(crate) fn advance(&mut self) -> Result<Event, AllocError>
+        requires kept { IsRunning self.old }
+        requires ready { (running_view self.old).ready ≢ [] }
+        requires few { channels_of self.old + 1 < 2 ^ 32 }
+        requires right { IsRightFor (running_view self.old) 1 }
+        ensures kept { IsRunning self.new }
+        ensures ok { IfOk result (λ event. (C : Configuration) → IsConfiguration C → StandsFor (running_view self.old) C
+            → IsStepOf C (label_of (heap_of self.new) event) (trap_of event) (running_view self.new)) }
+        ensures event { IfOk result (IsEventOf (heap_of self.new)) }
+        ensures refused { OnErr result (running_view self.new ≡ running_view self.old) }
+        ensures keeps { KeepsWords (heap_of self.old) (heap_of self.new) }
+        ensures work { CostsAtMost (running_cost self.old) (queues_of self.old) (queues_of self.new) }
+        ensures blocks { MakesOnly (queues_of self.old) (queues_of self.new) (running_widths self.old) }
+        ensures plain { RunsPlainly self.old
+            → IsOk result × KeepsBlocks (queues_of self.old).region (queues_of self.new).region }
+        ensures channels { channels_of self.new ≤ channels_of self.old + 1 }
+    {
+        ensure_turn(&mut self.store, &self.code.nodes);
+        act(&self.code.nodes, &self.constants, &mut self.store)
+    }
+
+    // Up to `most` steps of a run, until one shows something or divides by zero, nobody is next, or memory is wanting. Only the
+    // last one can have an event or an error.
+    //
+    // It is no part of the loops that show events, of which each watcher has its own: so there is one copy of the step.
+    #[inline(never)]
+    pub(crate) fn go_on(&mut self, most: u64) -> Gone
+        requires kept { IsRunning self.old }
+        requires few { channels_of self.old + most < 2 ^ 32 }
+        requires right { IsRightFor (running_view self.old) most }
+        ensures kept { IsRunning self.new }
+        ensures gone { GoesOn self.old self.new most result.quiet result.event }
+        ensures keeps { KeepsWords (heap_of self.old) (heap_of self.new) }
+        ensures channels { channels_of self.new ≤ channels_of self.old + most }
+        ensures made { channels_of self.new ≤ channels_of self.old + result.quiet + 1 }
+    {
+        for step in 0..most {
+            if !self.has_next() {
+                return Gone {
+                    quiet: step,
+                    event: Ok(None),
+                };
+            }
+            match self.advance() {
+                Ok(Event::Quiet) => {}
+                Ok(event) => {
+                    return Gone {
+                        quiet: step,
+                        event: Ok(Some(event)),
+                    };
+                }
+                Err(error) => {
+                    return Gone {
+                        quiet: step,
+                        event: Err(error),
+                    };
+                }
+            }
+        }
+        Gone {
+            quiet: most,
+            event: Ok(None),
+        }
+    }
+
+    // Nobody has the turn any more: who had it is the first of queue 0.
+    pub(crate) fn rest(&mut self)
+        requires kept { IsRunning self.old }
+        ensures kept { IsMachine self.new }
+        ensures view { view_of self.new ≡ running_view self.old }
+        ensures heap { heap_of self.new ≡ heap_of self.old }
+        ensures channels { channels_of self.new ≡ channels_of self.old }
+    {
+        return_turn(&mut self.store, &self.code.nodes);
     }
 }

@@ -1,4 +1,4 @@
--- A step that changes queue 0 and the queue of one channel.
+-- A step that changes who is ready, and the queue of one channel.
 use Rattle.std.proofs.Common.{ℕ, zero, suc, ◌+◌, ◌-◌, ◌<◌, ◌≤◌, ◌≡◌, ◌≢◌, List, ◌∷◌, length, sym, ap, ◌∙◌, subst, arith, ⊎_elim}
 use Rattle.std.proofs.lemmas.Bool.{cases_eq}
 use Rattle.std.specs.List.{AllByRecursion, slice_set}
@@ -6,11 +6,13 @@ use Rattle.pict_core.specs.Step.{Label}
 use Rattle.pict_core.specs.Term.{Process}
 use Rattle.pict_heap.specs.HeapState.{KeepsWords}
 use Rattle.pict_queue.specs.QueuesState.{QueuesState, IsQueue}
-use Rattle.pict_queue.specs.Contents.{held_words, contents, Releases}
+use Rattle.pict_queue.specs.Contents.{contents, HoldsNoMore}
 use Rattle.pict_blocks.specs.Laws.{BlocksStep}
 use Rattle.pict_operands.specs.Pairs.{ArePairs}
-use Rattle.pict_turns.specs.Views.{lists_from, channel_lists, IsBlock, CanWait, AreWaiting}
-use Rattle.pict_turns.specs.Acting.{HasActing, IsDone}
+use Rattle.pict_operands.proofs.Making.{all_back}
+use Rattle.pict_turns.specs.Views.{lists_from, channel_lists, turn_words, ready_words, acting_words, IsBlock, AreBlocks, CanWait, AreWaiting}
+use Rattle.pict_turns.specs.Acting.{HasBlockFor, HasActing, IsDone}
+use Rattle.pict_turns.specs.Turns.{IsTurn}
 use Rattle.pict_turns.specs.declared.store.Store.{Store}
 use Rattle.pict_turns.proofs.Rows.{store_by, done_by}
 use Rattle.pict_turns.proofs.Views.{blocks_stay, lists_stay}
@@ -32,23 +34,27 @@ channels_set old new k (suc n) (suc c) some h others =
     ap (λ q. contents old k ∷ slice_set (lists_from old (k + 1) n) c (contents new q)) e
     ∙ ap (λ xs. contents old k ∷ xs) rest ∙ ap (λ x. x ∷ lists_from new (k + 1) n) (sym first)
 
--- Queue 0 and the queue of this channel hold this afterwards, and the other queues what they held.
-pub record Changes (old new : Store) (channel : ℕ) (ready waiting : List (List ℕ)) : Type 0 where
-  pub ready_are : contents new.queues 0 ≡ ready
+-- These are ready and these wait at the channel afterwards, and the other queues hold what they held.
+pub record Changes (core : Process) (old new : Store) (channel : ℕ) (ready waiting : List (List ℕ)) : Type 0 where
+  pub ready_are : ready_words core new ≡ ready
   pub waiting_are : contents new.queues (channel + 1) ≡ waiting
   pub others : (queue : ℕ) → queue ≢ 0 → queue ≢ channel + 1 → contents new.queues queue ≡ contents old.queues queue
   pub queues : length new.queues.queues ≡ length old.queues.queues
   pub keeps : KeepsWords old.heap new.heap
   pub pairs : ArePairs new.heap new.values.items
   pub levels : length new.values.items ≡ length old.values.items
+  pub turn : IsTurn core new.heap new.values.items new.turn
+  pub room : AllByRecursion (HasBlockFor new.queues.region) (turn_words core new)
 
-module _ (core : Process) (old new : Store) (block channel : ℕ) (ready waiting : List (List ℕ)) (acting : HasActing core old block)
-    (there : IsQueue old.queues (channel + 1)) (changes : Changes old new channel ready waiting) where
-  blocks_after : AllByRecursion (IsBlock core new.heap) ready → AllByRecursion (IsBlock core new.heap) waiting → (queue : ℕ) → AllByRecursion (IsBlock core new.heap) (contents new.queues queue)
+module _ (core : Process) (old new : Store) (channel : ℕ) (ready waiting : List (List ℕ)) (acting : HasActing core old)
+    (there : IsQueue old.queues (channel + 1)) (changes : Changes core old new channel ready waiting) where
+  blocks_after : AllByRecursion (IsBlock core new.heap) ready → AllByRecursion (IsBlock core new.heap) waiting → AreBlocks core new
   blocks_after r w queue =
       let P : List (List ℕ) → Type 0 = AllByRecursion (IsBlock core new.heap) in
       ⊎_elim
-      (λ (none : queue ≡ 0). subst (λ q. P (contents new.queues q)) (sym none) (subst P (sym changes.ready_are) r))
+      (λ (none : queue ≡ 0).
+      subst (λ q. P (contents new.queues q)) (sym none)
+      (all_back (IsBlock core new.heap) (turn_words core new) (contents new.queues 0) (subst P (sym changes.ready_are) r)))
       (λ (some : queue ≢ 0). ⊎_elim
       (λ (here : queue ≡ channel + 1). subst (λ q. P (contents new.queues q)) (sym here) (subst P (sym changes.waiting_are) w))
       (λ (apart : queue ≢ channel + 1). subst P (sym (changes.others queue some apart)) (blocks_stay old.heap new.heap changes.keeps core (contents old.queues queue) (acting.store.blocks queue)))
@@ -75,9 +81,9 @@ module _ (core : Process) (old new : Store) (block channel : ℕ) (ready waiting
       ∙ ap (λ n. lists_from new.queues 1 (n - 1)) (sym changes.queues)
 
   pub done : (label : Label) → AllByRecursion (IsBlock core new.heap) ready → AllByRecursion (IsBlock core new.heap) waiting → AllByRecursion (CanWait core) waiting
-      → BlocksStep core new.heap (held_words old.queues.region block ∷ contents old.queues 0) (channel_lists old.queues) label ready (slice_set (channel_lists old.queues) channel waiting)
-      → Releases old.queues new.queues block → IsDone core old new block label
-  done label r w can step released =
-      done_by core old new block acting changes.keeps ready (slice_set (channel_lists old.queues) channel waiting) label step changes.ready_are (sym channels_after)
-      (store_by core old new block acting changes.keeps (omega (arith, acting.store.ready, changes.queues)) (blocks_after r w) (waiting_after can) changes.pairs changes.levels)
-      changes.levels (omega (arith, changes.queues)) released
+      → BlocksStep core new.heap (acting_words core old ∷ contents old.queues 0) (channel_lists old.queues) label ready (slice_set (channel_lists old.queues) channel waiting)
+      → HoldsNoMore old.queues new.queues → IsDone core old new label
+  done label r w can step no_more =
+      done_by core old new acting changes.keeps ready (slice_set (channel_lists old.queues) channel waiting) label step changes.ready_are (sym channels_after)
+      (store_by core old new acting.store changes.keeps (omega (arith, acting.store.ready, changes.queues)) (blocks_after r w) (waiting_after can) changes.pairs changes.levels changes.turn changes.room)
+      changes.levels (omega (arith, changes.queues)) no_more

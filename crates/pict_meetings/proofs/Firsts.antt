@@ -1,5 +1,5 @@
 -- What waits first: a message's words, or the node of an input.
-use Rattle.std.proofs.Common.{ℕ, zero, suc, ◌<◌, ◌≡◌, inl, inr, List, [], ◌∷◌, length, refl, sym, ap, ◌∙◌, subst, arith}
+use Rattle.std.proofs.Common.{ℕ, zero, suc, ◌≡◌, inl, inr, List, [], ◌∷◌, refl, sym, ap, ◌∙◌}
 use Rattle.std.specs.List.{AllByRecursion}
 use Rattle.pict_core.specs.Term.{Process}
 use Rattle.pict_frames.specs.Keeping.{kept_words}
@@ -44,8 +44,3 @@ node_of core h number held words is (inl n) =
     let same : n.number ≡ number = cc in
     (record { number = n.number; node = n.node; at = n.at; held = n.held; is = is ∙ n.is; narrow = n.narrow; wide = n.wide }, same)
 node_of core h number held words is (inr k) = let e = k.is in cc
-
--- a block has a word behind its link
-pub block_some : (core : Process) (h : HeapState) (words : List ℕ) → IsBlock core h words → 0 < length words
-block_some core h words (inl n) = subst (λ (ws : List ℕ). 0 < length ws) (sym n.is) (omega arith)
-block_some core h words (inr k) = subst (λ (ws : List ℕ). 0 < length ws) (sym k.is) (omega arith)

@@ -1,16 +1,18 @@
 -- The input of a node: what it stands for, where its part stands, and the levels that its pattern binds.
-use Rattle.std.proofs.Common.{ℕ, suc, ◌+◌, ◌<◌, ◌≤◌, ◌≡◌, Bool, List, [], ◌∷◌, ◌++◌, length, sym, ap, ◌∙◌, subst, arith, Some}
+use Rattle.std.proofs.Common.{ℕ, suc, ◌+◌, ◌<◌, ◌≤◌, ◌≡◌, ◌==◌, ◌||◌, ◌&&◌, Bool, true, false, nat_lt, List, [], ◌∷◌, ◌++◌, length, refl, sym, ap, ◌∙◌, subst, arith, Some}
+use Rattle.std.proofs.lemmas.Bool.Decides.{nat_tests}
 use Rattle.std.proofs.lemmas.Option.{slice_get_within}
 use Rattle.std.specs.List.{AllByRecursion, slice_get}
 use Rattle.pict_core.specs.Closed.{binds, binds_all, binds_labelled}
 use Rattle.pict_core.specs.Substitution.{replace, replace_value}
 use Rattle.pict_core.specs.Term as term
 use Rattle.pict_core.specs.Term.{Val, Pat, Pats, LabelledPats, Process, In}
-use Rattle.pict_code.specs.Frames.{frame_of}
+use Rattle.pict_code.specs.Frames.{frame_of, occurs}
 use Rattle.pict_code.specs.Instruction.{CodePat, Node}
-use Rattle.pict_code.specs.Levels.{Rises}
+use Rattle.pict_code.specs.Levels.{has, Rises}
 use Rattle.pict_code.specs.Nodes.{place, places, node_of, nodes_of, input_op, leveled, leveled_all, leveled_labelled}
 use Rattle.pict_code.specs.Standing.{closing, value_at}
+use Rattle.pict_code.proofs.Levels.{frame_has}
 use Rattle.pict_code.proofs.Numbering.{PlacedAt, in_placed}
 use Rattle.pict_heap.specs.HeapState.{HeapState}
 use Rattle.pict_blocks.specs.Binding.{levels_of, levels_of_all, levels_of_labelled}
@@ -122,6 +124,28 @@ spans_end a b (l ∷ ls) s = omega (arith, s.0, spans_end (l + 1) b ls s.1)
 spans_below : (a b n : ℕ) (ls : List ℕ) → b ≤ n → Spans a ls b → AllByRecursion (λ level. level < n) ls
 spans_below a b n [] h s = tt
 spans_below a b n (l ∷ ls) h s = (omega (arith, h, spans_end (l + 1) b ls s.1), spans_below (l + 1) b n ls h s.1)
+
+-- no level of its own frame is among them: those are of variables around it
+before_span : (level a b : ℕ) (ls : List ℕ) → level < a → Spans a ls b → has level ls ≡ false
+before_span level a b [] h s = refl
+before_span level a b (l ∷ ls) h s =
+    let low : level < l = omega (arith, h, s.0) in
+    let apart : (level == l) ≡ false = grind (arith, nat_tests) in
+    ap (λ x. x || has level ls) apart ∙ before_span level (l + 1) b ls (omega (arith, low)) s.1
+
+around_low : (level n : ℕ) (low occurs_there : Bool) → nat_lt level n ≡ low → low && occurs_there ≡ true → level < n
+around_low level n true t e h = grind (arith, nat_tests)
+around_low level n false t e h = cc
+
+pub frame_apart : (core : Process) (number part : ℕ) (node : Node) (replicated : Bool) (chan : Val) (pattern : CodePat) → slice_get (nodes_of core) number ≡ Some node
+    → node.op ≡ input_op replicated chan pattern part → (level : ℕ) → has level node.frame ≡ true → has level (levels_of pattern) ≡ false
+frame_apart core number part node replicated chan pattern at o level there =
+    let p = part_of core number node at in
+    let n = p.0.around in
+    let form = is_input number n chan replicated pattern part p.0.process (op_is core number node p.0 (input_op replicated chan pattern part) p.1 o) in
+    let frame : frame_of n p.0.process ≡ node.frame = ap (λ (x : Node). x.frame) p.1.node_is in
+    let low = around_low level n (nat_lt level n) (occurs level p.0.process) refl (sym (frame_has n p.0.process level) ∙ ap (has level) frame ∙ there) in
+    ap (λ q. has level (levels_of q)) form.pattern_is ∙ before_span level n (n + binds form.pattern) (levels_of (leveled n form.pattern)) low (spans_leveled n form.pattern)
 
 module _ (core : Process) (pattern : CodePat) (part : ℕ) (p : HasPart core pattern part) where
   pub pattern_rises : Rises 0 (levels_of pattern)

@@ -3,9 +3,11 @@ pub mod Inputs
 pub mod Waits
 pub mod Fitting
 pub mod Firsts
+pub mod OneLevel
+pub mod Keeping
+pub mod Wide
+pub mod Readying
 pub mod Meets
 pub mod Receiving
-pub mod Works
 pub mod Serving
 pub mod Ops
-pub mod Wide

@@ -8,22 +8,24 @@ use Rattle.pict_code.specs.Instruction.{CodePat}
 use Rattle.pict_code.specs.ReadBack.{unleveled}
 use Rattle.pict_frames.specs.Keeping.{kept_words, FitsKept}
 use Rattle.pict_frames.specs.declared.keeping.Kept.{Kept}
-use Rattle.pict_heap.specs.HeapState.{HeapState, value_of}
-use Rattle.pict_heap.specs.Packed.{packed, FitsWord}
-use Rattle.pict_heap.specs.declared.word.Word.{Word}
+use Rattle.pict_heap.specs.HeapState.{HeapState}
+use Rattle.pict_heap.specs.Packed.{packed}
 use Rattle.pict_heap.specs.declared.word.Word.TheVariants as word
 use Rattle.pict_queue.specs.QueuesState.{QueuesState, IsQueue}
-use Rattle.pict_queue.specs.Contents.{held_words, contents, KeepsOtherContents, Releases}
+use Rattle.pict_queue.specs.Contents.{contents, KeepsOtherContents, HoldsNoMore}
 use Rattle.pict_view.proofs.Rows.{BeginsWithMessage, BeginsWithReader, output_parks, input_parks}
 use Rattle.pict_blocks.specs.Blocks.{value_in, process_of}
 use Rattle.pict_blocks.specs.Laws.{BlocksStep}
 use Rattle.pict_blocks.proofs.Meeting.{inputs_stand}
+use Rattle.pict_operands.specs.Pairs.{IsPair}
 use Rattle.pict_operands.proofs.Making.{keeps_all}
 use Rattle.pict_operands.proofs.Pairs.{value_packed}
 use Rattle.pict_turns.specs.Acting.{HasActing, IsDone}
-use Rattle.pict_turns.specs.Views.{channel_lists, IsBlock, IsKept, IsInputAt, CanWait}
+use Rattle.pict_turns.specs.Views.{channel_lists, acting_words, IsBlock, IsKept, IsInputAt, CanWait}
 use Rattle.pict_turns.specs.declared.store.Store.{Store}
+use Rattle.pict_turns.specs.declared.turn.Turn.TheVariants.{Nobody}
 use Rattle.pict_heap.proofs.Growth.{all_pushed}
+use Rattle.pict_turns.proofs.Turns.{acting_block}
 use Rattle.pict_turns.proofs.Views.{list_there}
 use Rattle.pict_meetings.specs.Partners.{Sends, SendsKept, Receives}
 use Rattle.pict_meetings.specs.Waiting.{oldest, NoInputWaits, NoOutputWaits}
@@ -74,12 +76,12 @@ module _ (core : Process) (h : HeapState) (words waiting : List ℕ) (ready : Li
       input_parks (List ℕ) (process_of core (value_in h)) words ready (channel_lists s) channel (contents s (channel + 1)) (channel_there s channel there) b pattern body waiting is same
       (begins_with_reader core h (contents s (channel + 1)) can none)
 
--- ---- a block more waits at a channel
+-- ---- a block more waits at a channel, and nobody has the turn
 
-module _ (core : Process) (s : Store) (q : QueuesState) (block channel : ℕ) (waiting : List ℕ) (acting : HasActing core s block) (there : IsQueue s.queues (channel + 1))
+module _ (core : Process) (s : Store) (q : QueuesState) (channel : ℕ) (waiting : List ℕ) (acting : HasActing core s) (there : IsQueue s.queues (channel + 1))
     (pushed : contents q (channel + 1) ≡ contents s.queues (channel + 1) ++ waiting ∷ []) (others : KeepsOtherContents s.queues q (channel + 1)) (many : length q.queues ≡ length s.queues.queues)
-    (released : Releases s.queues q block) where
-  one_more : Changes s (record s { queues = q }) channel (contents s.queues 0) (contents s.queues (channel + 1) ++ waiting ∷ [])
+    (no_more : HoldsNoMore s.queues q) where
+  one_more : Changes core s (record s { queues = q; turn = Nobody }) channel (contents s.queues 0) (contents s.queues (channel + 1) ++ waiting ∷ [])
   one_more = record {
     ready_are = others 0 (λ e. omega (arith, e));
     waiting_are = pushed;
@@ -88,64 +90,66 @@ module _ (core : Process) (s : Store) (q : QueuesState) (block channel : ℕ) (w
     keeps = keeps_all s.heap;
     pairs = acting.store.pairs;
     levels = refl;
+    turn = tt;
+    room = tt;
   }
 
   pub waits : IsBlock core s.heap waiting → CanWait core waiting
-      → BlocksStep core s.heap (held_words s.queues.region block ∷ contents s.queues 0) (channel_lists s.queues) Quiet (contents s.queues 0)
+      → BlocksStep core s.heap (acting_words core s ∷ contents s.queues 0) (channel_lists s.queues) Quiet (contents s.queues 0)
       (slice_set (channel_lists s.queues) channel (contents s.queues (channel + 1) ++ waiting ∷ []))
-      → IsDone core s (record s { queues = q }) block Quiet
+      → IsDone core s (record s { queues = q; turn = Nobody }) Quiet
   waits is can step =
-      done core s (record s { queues = q }) block channel (contents s.queues 0) (contents s.queues (channel + 1) ++ waiting ∷ []) acting there one_more Quiet
+      done core s (record s { queues = q; turn = Nobody }) channel (contents s.queues 0) (contents s.queues (channel + 1) ++ waiting ∷ []) acting there one_more Quiet
       (acting.store.blocks 0)
       (all_pushed (IsBlock core s.heap) (contents s.queues (channel + 1)) waiting (acting.store.blocks (channel + 1)) is)
       (all_pushed (CanWait core) (contents s.queues (channel + 1)) waiting (acting.store.waiting channel) can)
-      step released
+      step no_more
 
-  -- it is an output of kept values, as the acting block is an output
-  pub output_done : (v : Val) (at : Span) → process_of core (value_in s.heap) (held_words s.queues.region block) ≡ Out (Chan channel) v at
+  -- it is an output of kept values, as who had the turn is an output
+  pub output_done : (v : Val) (at : Span) → process_of core (value_in s.heap) (acting_words core s) ≡ Out (Chan channel) v at
       → (kept : IsKept s.heap waiting) → process_of core (value_in s.heap) waiting ≡ Out (Chan channel) v at
-      → NoInputWaits s.queues channel → IsDone core s (record s { queues = q }) block Quiet
+      → NoInputWaits s.queues channel → IsDone core s (record s { queues = q; turn = Nobody }) Quiet
   output_done v at is kept same none =
       waits (inr kept) (subst (CanWait core) (sym kept.is) tt)
-      (output_waits core s.heap (held_words s.queues.region block) waiting (contents s.queues 0) s.queues channel there v at is same (acting.store.blocks (channel + 1)) none)
+      (output_waits core s.heap (acting_words core s) waiting (contents s.queues 0) s.queues channel there v at is same (acting.store.blocks (channel + 1)) none)
 
--- the acting block itself waits
-module _ (core : Process) (s : Store) (q : QueuesState) (block channel : ℕ) (there : IsQueue s.queues (channel + 1))
-    (pushed : contents q (channel + 1) ≡ contents s.queues (channel + 1) ++ held_words s.queues.region block ∷ []) (others : KeepsOtherContents s.queues q (channel + 1)) (many : length q.queues ≡ length s.queues.queues)
-    (released : Releases s.queues q block) where
-  pub kept_done : SendsKept core s block channel → NoInputWaits s.queues channel → IsDone core s (record s { queues = q }) block Quiet
+-- who had the turn waits itself
+module _ (core : Process) (s : Store) (q : QueuesState) (channel : ℕ) (there : IsQueue s.queues (channel + 1))
+    (pushed : contents q (channel + 1) ≡ contents s.queues (channel + 1) ++ acting_words core s ∷ []) (others : KeepsOtherContents s.queues q (channel + 1)) (many : length q.queues ≡ length s.queues.queues)
+    (no_more : HoldsNoMore s.queues q) where
+  pub kept_done : SendsKept core s channel → NoInputWaits s.queues channel → IsDone core s (record s { queues = q; turn = Nobody }) Quiet
   kept_done sends none =
       let k = sends.kept.kept in
-      let is : process_of core (value_in s.heap) (held_words s.queues.region block) ≡ Out (Chan channel) (value_in s.heap k.message.0 k.message.1) k.at =
+      let is : process_of core (value_in s.heap) (acting_words core s) ≡ Out (Chan channel) (value_in s.heap k.message.0 k.message.1) k.at =
       ap (process_of core (value_in s.heap)) sends.kept.is ∙ ap (λ v. Out v (value_in s.heap k.message.0 k.message.1) k.at) sends.to in
-      output_done core s q block channel (held_words s.queues.region block) sends.acting there pushed others many released (value_in s.heap k.message.0 k.message.1) k.at is sends.kept is none
+      output_done core s q channel (acting_words core s) sends.acting there pushed others many no_more (value_in s.heap k.message.0 k.message.1) k.at is sends.kept is none
 
-  pub input_done : (replicated : Bool) (pattern : CodePat) (part : ℕ) → Receives core s block channel replicated pattern part → NoOutputWaits s.queues channel
-      → IsDone core s (record s { queues = q }) block Quiet
+  pub input_done : (replicated : Bool) (pattern : CodePat) (part : ℕ) → Receives core s channel replicated pattern part → NoOutputWaits s.queues channel
+      → IsDone core s (record s { queues = q; turn = Nobody }) Quiet
   input_done replicated pattern part r none =
-      let words = held_words s.queues.region block in
+      let words = acting_words core s in
       let a = r.acts in
       let stands = inputs_stand core s.heap s.values.items a.number part replicated r.chan pattern a.node words r.closed a.is a.op_is in
       let is : process_of core (value_in s.heap) words ≡ In (Chan channel) replicated (unleveled pattern) stands.0 = stands.1 ∙ ap (λ v. In v replicated (unleveled pattern) stands.0) r.from in
       let at : IsInputAt core a.number = record { node = a.node; at = a.is.at; replicated = replicated; chan = r.chan; pattern = pattern; part = part; is = a.op_is } in
-      waits core s q block channel words a.acting there pushed others many released a.acting.is (subst (CanWait core) (sym a.is.words_are) at)
+      waits core s q channel words a.acting there pushed others many no_more (acting_block core s a.acting) (subst (CanWait core) (sym a.is.words_are) at)
       (input_waits core s.heap words words (contents s.queues 0) s.queues channel there replicated (unleveled pattern) stands.0 is is (a.acting.store.waiting channel) none)
 
--- the acting block ends, and one of an output of kept values waits in its place
-module _ (core : Process) (s : Store) (q : QueuesState) (block channel : ℕ) (message : Word) (at : Span) (k : Kept) (there : IsQueue s.queues (channel + 1))
-    (to : packed (word.Chan channel) ≡ k.to) (packs : packed message ≡ k.message) (same_at : k.at ≡ at) (number : channel < 2 ^ 32) (is_word : FitsWord message) (fits : FitsKept k) where
-  pub sent_done : Sends core s block channel message at → contents q (channel + 1) ≡ contents s.queues (channel + 1) ++ kept_words k ∷ [] → KeepsOtherContents s.queues q (channel + 1)
-      → length q.queues ≡ length s.queues.queues → Releases s.queues q block → NoInputWaits s.queues channel → IsDone core s (record s { queues = q }) block Quiet
-  sent_done sends pushed others many released none =
+-- who had the turn ends, and one of an output of kept values waits in its place
+module _ (core : Process) (s : Store) (q : QueuesState) (channel : ℕ) (message : ℕ × ℕ) (at : Span) (k : Kept) (there : IsQueue s.queues (channel + 1))
+    (to : packed (word.Chan channel) ≡ k.to) (same_message : k.message ≡ message) (same_at : k.at ≡ at) (number : channel < 2 ^ 32) (fits : FitsKept k) where
+  pub sent_done : Sends core s channel message at → contents q (channel + 1) ≡ contents s.queues (channel + 1) ++ kept_words k ∷ [] → KeepsOtherContents s.queues q (channel + 1)
+      → length q.queues ≡ length s.queues.queues → HoldsNoMore s.queues q → NoInputWaits s.queues channel → IsDone core s (record s { queues = q; turn = Nobody }) Quiet
+  sent_done sends pushed others many no_more none =
       let h = s.heap in
       let kept : IsKept h (kept_words k) = record {
         kept = k;
         is = refl;
         fits = fits;
         to = record { word = word.Chan channel; is = tt; fits = number; packs = to };
-        message = record { word = message; is = sends.word; fits = is_word; packs = packs };
+        message = subst (IsPair h) (sym same_message) sends.pair;
       } in
-      let same : process_of core (value_in h) (kept_words k) ≡ Out (Chan channel) (value_of h message) at =
+      let same : process_of core (value_in h) (kept_words k) ≡ Out (Chan channel) (value_in h message.0 message.1) at =
       ap (λ v. Out v (value_in h k.message.0 k.message.1) k.at) (value_packed h (word.Chan channel) k.to number to)
-      ∙ ap (λ v. Out (Chan channel) v k.at) (value_packed h message k.message is_word packs) ∙ ap (Out (Chan channel) (value_of h message)) same_at in
-      output_done core s q block channel (kept_words k) sends.acting there pushed others many released (value_of h message) at sends.is kept same none
+      ∙ ap (λ (p : ℕ × ℕ). Out (Chan channel) (value_in h p.0 p.1) k.at) same_message ∙ ap (Out (Chan channel) (value_in h message.0 message.1)) same_at in
+      output_done core s q channel (kept_words k) sends.acting there pushed others many no_more (value_in h message.0 message.1) at sends.is kept same none

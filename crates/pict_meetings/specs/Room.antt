@@ -1,9 +1,9 @@
 -- Room for the block of a part, once other blocks are given back.
-use Rattle.std.specs.Prelude.{ℕ, ◌≤◌, ◌+◌, ◌==◌, List, [], ◌∷◌, length, if◌then◌else◌}
+use Rattle.std.specs.Prelude.{◌≡◌, ℕ, ◌≤◌, ◌+◌, ◌==◌, List, [], ◌∷◌, length, if◌then◌else◌}
 use Rattle.pict_region.specs.RegionState.{spare}
 use Rattle.pict_prim.specs.declared.act.Need.{Need}
 use Rattle.pict_operands.specs.Needs.{both_needs, HasRoomFor}
-use Rattle.pict_turns.specs.Parts.{block_width, frame_need}
+use Rattle.pict_turns.specs.Parts.{block_width, frame_need, CanHold}
 use Rattle.pict_turns.specs.declared.store.Store.{Store}
 
 -- how many of the blocks with these words behind their links are this wide
@@ -21,3 +21,9 @@ pub record CanHoldAfter (s : Store) (given : List (List ℕ)) (frame : List ℕ)
 pub record CanHoldAfterAnd (s : Store) (given : List (List ℕ)) (frame : List ℕ) (further : Need) : Type 0 where
   pub block : 1 ≤ spare s.queues.region (block_width frame) + as_wide (block_width frame) given
   pub room : HasRoomFor s.heap s.pending (both_needs (frame_need frame) further)
+
+-- There is a free block for the frame, and room for its record where it needs one; and a second free block where the frame's
+-- has this width.
+pub record CanHoldBeside (s : Store) (width : ℕ) (frame : List ℕ) : Type 0 where
+  pub can : CanHold s frame
+  pub left : width ≡ block_width frame → 2 ≤ spare s.queues.region (block_width frame)

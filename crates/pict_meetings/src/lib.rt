@@ -6,11 +6,10 @@ mod channels;
 mod meeting;
 mod parking;
 mod room;
-mod spawning;
 mod taking;
 mod waiting;
 
 pub use meeting::{meet_message, meet_reader};
 pub use parking::{park, park_output};
-pub use room::reserve_served;
+pub use room::{reserve_beside, reserve_served};
 pub use waiting::{Waiting, first_waiting};

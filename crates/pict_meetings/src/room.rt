@@ -5,10 +5,10 @@ ghost use Rattle.pict_operands.specs.Needs.{no_need};
 ghost use Rattle.pict_turns.specs.Parts.{block_width};
 ghost use Rattle.pict_turns.specs.Reserving.{OnlyReserves};
 ghost use Rattle.pict_turns.specs.Widths.{MakesOnly};
-ghost use Rattle.pict_meetings.specs.Room.{as_wide, CanHoldAfterAnd};
+ghost use Rattle.pict_meetings.specs.Room.{as_wide, CanHoldAfterAnd, CanHoldBeside};
 
-use pict_prim::Need;
-use pict_turns::{NARROW, Store, reserve_part, reserve_room};
+use pict_prim::{NO_NEED, Need};
+use pict_turns::{NARROW, Store, block_width, reserve_part, reserve_room};
 use std::alloc::AllocError;
 
 /// Makes room for the block of a frame, once blocks that end are given back, and in the heap and on the piles for so much more:
@@ -34,5 +34,21 @@ pub fn reserve_served(
         reserve_room(store, further)
     } else {
         reserve_part(store, frame, further)
+    }
+}
+
+/// Makes room for the block of a frame where who has the turn keeps it, whose block would have this width. An error, which is want
+/// of memory, changes nothing but room.
+#[inline(always)]
+pub fn reserve_beside(store: &mut Store, frame: &[u32], width: u32) -> Result<(), AllocError>
+    ensures ok { OnOk result (CanHoldBeside store.new width frame.now) }
+    ensures most { MakesOnly store.old.queues store.new.queues (width ∷ block_width frame.now ∷ []) }
+    ensures rest { OnlyReserves store.old store.new }
+{
+    reserve_part(store, frame, NO_NEED)?;
+    if width == block_width(frame) {
+        store.queues.reserve(width, 2)
+    } else {
+        Ok(())
     }
 }

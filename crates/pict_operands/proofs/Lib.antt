@@ -1,4 +1,5 @@
 pub mod Pairs
+pub mod Tagged
 pub mod SoFar
 pub mod Fitting
 pub mod Making

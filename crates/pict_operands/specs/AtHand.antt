@@ -1,9 +1,11 @@
 -- Operands whose words take nothing of a heap.
-use Rattle.std.specs.Prelude.{◌≡◌}
-use Rattle.pict_core.specs.Term.{Val, Text, Record}
+use Rattle.std.specs.Prelude.{◌≡◌, ℕ, ℤ, Option, Some, None}
+use Rattle.pict_core.specs.Term.{Val, Chan, Int, Text, Record}
 use Rattle.pict_heap.specs.HeapState.{HeapState, value_of, IsWord}
 use Rattle.pict_heap.specs.Packed.{FitsWord}
 use Rattle.pict_heap.specs.declared.word.Word.{Word}
+use Rattle.pict_blocks.specs.Blocks.{value_in}
+use Rattle.pict_operands.specs.Pairs.{IsPair}
 
 -- the word is one of the heap, within the ranges of its numbers, and stands for the value
 pub record IsWordFor (h : HeapState) (v : Val) (w : Word) : Type 0 where
@@ -11,8 +13,23 @@ pub record IsWordFor (h : HeapState) (v : Val) (w : Word) : Type 0 where
   pub fits : FitsWord w
   pub value : value_of h w ≡ v
 
+-- the two words are those of a word of the heap that stands for the value
+pub record IsPairFor (h : HeapState) (v : Val) (pair : ℕ × ℕ) : Type 0 where
+  pub pair_is : IsPair h pair
+  pub value : value_in h pair.0 pair.1 ≡ v
+
 -- a text or a record, of which only a heap has the word
 abbrev pub IsOfHeap : Val → Type 0
 IsOfHeap (Text bytes) = Unit {0}
 IsOfHeap (Record vs ls) = Unit {0}
 IsOfHeap _ = ⊥
+
+-- the channel that a value is
+abbrev pub channel_named : Val → Option ℕ
+channel_named (Chan c) = Some c
+channel_named _ = None
+
+-- the number that a value is
+abbrev pub number_named : Val → Option ℤ
+number_named (Int n) = Some n
+number_named _ = None

@@ -9,14 +9,14 @@ ghost use Rattle.pict_heap.specs.Packed.{packed, FitsWord};
 ghost use Rattle.pict_heap.specs.declared.word.Word.{Word as AnyWord};
 ghost use Rattle.pict_prim.specs.Acts.{UsesNeed};
 ghost use Rattle.pict_blocks.specs.Blocks.{known, operand_value};
-ghost use Rattle.pict_operands.specs.AtHand.{IsWordFor, IsOfHeap};
+ghost use Rattle.pict_operands.specs.AtHand.{IsWordFor, IsPairFor, IsOfHeap};
 ghost use Rattle.pict_operands.specs.Pairs.{ArePairs};
 ghost use Rattle.pict_operands.specs.Needs.{need_of, needs_of, needs_of_labelled, fields_need, both_needs, HasRoomFor, IsMade, KeepsPending, PilesWords, PilesLabelled};
 
 use crate::pending::Pending;
 use pict_code::Operand;
 use pict_core::CoreVal;
-use pict_heap::{Heap, Word, unpack};
+use pict_heap::{Heap, Word, pack, unpack};
 use pict_syntax::Name;
 
 /// The word that is packed to this pair. Takes no memory.
@@ -49,6 +49,26 @@ pub fn word_at_hand(operand: &Operand, values: &[(u64, u64)]) -> Option<Word>
         CoreVal::Prim(p) => Some(Word::Prim(*p)),
         _ => None,
     }
+}
+
+/// The same, as two words.
+#[inline(always)]
+pub fn pair_at_hand(operand: &Operand, values: &[(u64, u64)]) -> Option<(u64, u64)>
+    requires over { IsOver (length values.now) 0 (plain_val operand.now) }
+    requires pairs { (h : HeapState) × ArePairs h values.now }
+    ensures pair { (h : HeapState) → ArePairs h values.now → IfSome result (IsPairFor h (operand_value (known h values.now) (plain_val operand.now))) }
+    ensures none { IsNone result ↔ IsOfHeap (plain_val operand.now) }
+{
+    let constant = match operand {
+        CoreVal::Var(level) => return Some(values[*level as usize]),
+        CoreVal::Chan(number) => Word::Chan(*number),
+        CoreVal::Int(n) => Word::Int(*n),
+        CoreVal::Char(byte) => Word::Char(*byte),
+        CoreVal::Bool(b) => Word::Bool(*b),
+        CoreVal::Prim(p) => Word::Prim(*p),
+        _ => return None,
+    };
+    Some(pack(constant))
 }
 
 /// The word of an operand, each variable of which has the two words of its level among `values`. What the operand needs

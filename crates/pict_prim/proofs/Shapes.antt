@@ -8,6 +8,7 @@ use Rattle.pict_core.specs.Primitives.{Effect, effect_of, at_int, at_two, at_thr
 use Rattle.pict_heap.specs.Fields.{count, positional_field, positional_count}
 use Rattle.pict_heap.specs.HeapState.{HeapState, value_of}
 use Rattle.pict_heap.specs.declared.word.Word.{Word}
+use Rattle.pict_prim.specs.Answers.{of_numbers}
 use Rattle.pict_prim.specs.Families.{one_effect, three_effect, simple_effect, int_effect}
 
 two_by : (p : Primitive) (x k : Val) (ls : Labelled) → effect_of p (Record (more_vals x (more_vals k no_vals)) ls) ≡ one_effect p x k
@@ -90,6 +91,11 @@ three_numbers primitive.Intstr m n x y k = refl
 three_numbers primitive.Size m n x y k = refl
 three_numbers primitive.Nth m n x y k = absurd (n refl)
 three_numbers primitive.Not m n x y k = refl
+
+-- the effect on a record of two numbers and a third field
+pub numbers_by : (p : Primitive) (a b : ℤ) (k : Val) (ls : Labelled) → effect_of p (of_numbers a b k ls) ≡ int_effect p a b k
+numbers_by primitive.Add a b k ls = refl
+numbers_by _ a b k ls = refl
 
 not_two : (vs : Vals) (ls : Labelled) → count vs ≢ 2 → (f : Val → Val → Option Effect) → at_two (Record vs ls) f ≡ None
 not_two no_vals ls n f = refl

@@ -1,15 +1,16 @@
 // What a primitive is about to do with words of a heap.
 
-ghost use Rattle.std.specs.Prelude.{◌≡◌, ℤ, pos, ◌++◌, length, map, not, unsigned_abs, All, Option, Some, IfSome, IsSome, option_map, option_and_then};
+ghost use Rattle.std.specs.Prelude.{◌≡◌, ℤ, pos, ◌++◌, length, map, not, unsigned_abs, All, Option, Some, IfSome, IsSome, IsNone, option_map, option_and_then};
 ghost use Rattle.std.specs.Int.{int_rem_euclid};
 ghost use Rattle.std.specs.Fmt.{signed_decimal};
-ghost use Rattle.pict_core.specs.Term.{Labelled, Int, Char, Text, Boolean, Record, no_vals, no_labelled};
+ghost use Rattle.pict_core.specs.Term.{Val, Labelled, Int, Char, Text, Boolean, Record, no_vals, no_labelled};
 ghost use Rattle.pict_core.specs.Plain.{vals_of};
 ghost use Rattle.pict_core.specs.Primitives.{Effect, Answer, answers, prints, effect_of, at_int, at_char, at_bool, at_text, byte_at};
 ghost use Rattle.pict_heap.specs.Fields.{positional_count, positional_field};
 ghost use Rattle.pict_heap.specs.HeapState.{HeapState, value_of, IsWord};
 ghost use Rattle.pict_prim.specs.Acts.{effect_act, IsActOf};
-ghost use Rattle.pict_prim.specs.Calculated.{effect_calculated};
+ghost use Rattle.pict_prim.specs.Answers.{of_numbers, AnswersWord, AnswersNothing};
+ghost use Rattle.pict_prim.specs.Calculated.{effect_calculated, effect_answered};
 ghost use Rattle.pict_prim.specs.Families.{one_effect, three_effect, simple_effect, int_effect};
 
 use crate::act::Act;
@@ -49,6 +50,20 @@ pub fn act_on_fields(heap: &Heap, p: Prim, fields: &[Word]) -> Option<Act>
         act_on_three(heap, p, fields[0], fields[1], fields[2])
     } else {
         None
+    }
+}
+
+/// The word that the primitive answers of a record of these two numbers and where to send, whatever its labels, or None exactly
+/// where it answers nothing: it divides by zero, or takes other operands. The word needs nothing of a heap, and nothing is
+/// printed. Takes no memory.
+#[inline(always)]
+pub fn answer_of_numbers(p: Prim, a: i64, b: i64) -> Option<Word>
+    ensures answer { (labelled : Labelled) → IfSome result (AnswersWord (λ k. effect_of p (of_numbers a b k labelled))) }
+    ensures none { (labelled : Labelled) → IsNone result → AnswersNothing (λ k. effect_of p (of_numbers a b k labelled)) }
+{
+    match calculate(p, a, b) {
+        None => None,
+        Some(calculated) => answered(calculated),
     }
 }
 
@@ -173,10 +188,22 @@ fn answer_calculated(k: Word, calculated: Calculated) -> Act
     ensures effect { (h : HeapState) → effect_act h result ≡ effect_calculated (value_of h k) calculated }
     ensures words { (h : HeapState) → IsWord h k → IsActOf h result }
 {
+    match answered(calculated) {
+        Some(answer) => Act::Answer(k, answer),
+        None => Act::ZeroDivisor,
+    }
+}
+
+// The word of what is calculated, which needs nothing of a heap, or None where the divisor is zero.
+#[inline(always)]
+fn answered(calculated: Calculated) -> Option<Word>
+    ensures effect { (h : HeapState) (k : Val) → effect_calculated k calculated ≡ effect_answered h k result }
+    ensures word { (h : HeapState) → IfSome result (IsWord h) }
+{
     match calculated {
-        Calculated::Number(n) => Act::Answer(k, Word::Int(n)),
-        Calculated::Truth(b) => Act::Answer(k, Word::Bool(b)),
-        Calculated::ZeroDivisor => Act::ZeroDivisor,
+        Calculated::Number(n) => Some(Word::Int(n)),
+        Calculated::Truth(b) => Some(Word::Bool(b)),
+        Calculated::ZeroDivisor => None,
     }
 }
 

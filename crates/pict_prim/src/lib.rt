@@ -12,7 +12,7 @@ mod texts;
 
 pub use act::{Act, Acted, NO_NEED, Need};
 pub use acts::{apply, attempt};
-pub use deciding::{act_on, act_on_fields};
+pub use deciding::{act_on, act_on_fields, answer_of_numbers};
 pub use outcome::{Done, printed_bytes};
 pub use performing::{perform, room};
 

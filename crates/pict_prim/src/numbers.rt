@@ -26,6 +26,7 @@ pub enum Calculated {
 }
 
 // The sum, wrapped.
+#[inline(always)]
 fn sum(a: i64, b: i64) -> i64
     ensures { result ≡ int_wrap w64 (a +ℤ b) }
 {
@@ -33,6 +34,7 @@ fn sum(a: i64, b: i64) -> i64
 }
 
 // The difference, wrapped.
+#[inline(always)]
 fn difference(a: i64, b: i64) -> i64
     ensures { result ≡ int_wrap w64 (a -ℤ b) }
 {
@@ -40,6 +42,7 @@ fn difference(a: i64, b: i64) -> i64
 }
 
 // The product, wrapped.
+#[inline(always)]
 fn product(a: i64, b: i64) -> i64
     ensures { result ≡ int_wrap w64 (a *ℤ b) }
 {
@@ -47,6 +50,7 @@ fn product(a: i64, b: i64) -> i64
 }
 
 // The quotient, truncated toward zero and wrapped.
+#[inline(always)]
 fn quotient(a: i64, b: i64) -> i64
     requires { b ≢ pos 0 }
     ensures { result ≡ int_wrap w64 (int_div a b) }
@@ -55,6 +59,7 @@ fn quotient(a: i64, b: i64) -> i64
 }
 
 /// What the primitive calculates from two numbers; nothing where it takes other operands. Takes no memory.
+#[inline(always)]
 pub fn calculate(p: Prim, a: i64, b: i64) -> Option<Calculated>
     ensures { (k : Val) → option_map (effect_calculated k) result ≡ int_effect p a b k }
 {
@@ -73,6 +78,7 @@ pub fn calculate(p: Prim, a: i64, b: i64) -> Option<Calculated>
     }
 }
 
+#[inline(always)]
 fn divide(a: i64, b: i64) -> Calculated
     ensures { (k : Val) → Some (effect_calculated k result) ≡ int_effect Divide a b k }
 {
@@ -83,6 +89,7 @@ fn divide(a: i64, b: i64) -> Calculated
     }
 }
 
+#[inline(always)]
 fn take_remainder(a: i64, b: i64) -> Calculated
     ensures { (k : Val) → Some (effect_calculated k result) ≡ int_effect Remainder a b k }
 {

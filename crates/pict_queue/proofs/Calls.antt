@@ -1,13 +1,14 @@
 -- What each call reads and leaves, from the fields to what contracts see.
-use Rattle.std.proofs.Common.{◌≡◌, ℕ, ◌^◌, ◌<◌, ◌≤◌, length, get_or, sym, ◌∙◌, ap, subst, arith}
+use Rattle.std.proofs.Common.{◌≡◌, ℕ, ◌+◌, ◌-◌, ◌^◌, ◌<◌, ◌≤◌, [], length, map, drop, get_or, sym, ◌∙◌, ap, subst, arith, length-drop, drop-drop}
 use Rattle.std.proofs.lemmas.List.{length-map, get_or_read}
-use Rattle.pict_region.specs.RegionState.{IsLive, width_of}
+use Rattle.pict_region.specs.RegionState.{IsLive, words_of, width_of}
 use Rattle.pict_region.proofs.Chains.{chain-length}
 use Rattle.pict_queue.specs.QueuesState.{QueuesState, IsQueue, IsHeld, list_of, link_of, KeepsContents, KeepsRest}
+use Rattle.pict_queue.specs.Contents.{held_words, first_words}
 use Rattle.pict_queue.specs.Threads.{state_of, queue_in, thread, IsSound}
 use Rattle.pict_queue.specs.declared.queues.Queue.{Queue}
 use Rattle.pict_queue.specs.declared.queues.Queues.TheInside.{Inside}
-use Rattle.pict_queue.proofs.Orders.{list_is, StandsApart, apart_if_held, ends_of, end_is, first_in, length_fits, ThreadsStay}
+use Rattle.pict_queue.proofs.Orders.{list_is, StandsApart, apart_if_held, ends_of, end_is, first_of, first_in, second_in, length_fits, ThreadsStay}
 
 -- the record of a queue, as a call reads it
 pub record ReadsQueue (a : Inside) (number : ℕ) (queue : Queue) : Type 0 where
@@ -38,7 +39,7 @@ pub record FindsEnds (a : Inside) (number block : ℕ) (queue ends : Queue) : Ty
   pub live : IsLive a.region ends.last
   pub wide : 1 ≤ width_of a.region ends.last
   pub block_wide : 1 ≤ width_of a.region block
-  pub fits : queue.length ≤ 2 ^ 63
+  pub fits : queue.length + 1 < 2 ^ 32
 
 pub ends_found : (a : Inside) (s : QueuesState) (number token block : ℕ) (queue ends : Queue) → state_of a ≡ s → IsSound a → IsQueue s number → IsHeld s token
     → block ≡ token → queue ≡ get_or a.queues.items number queue → ends ≡ ends_of queue block → FindsEnds a number block queue ends
@@ -54,8 +55,12 @@ ends_found a s number token block queue ends is sound there held same read ends_
       live = live;
       wide = omega (arith, sound.threaded.wide ends.last live);
       block_wide = omega (arith, sound.threaded.wide block apart.live);
-      fits = omega (arith, length_fits a.region a.queues.items number sound.threaded, ap (λ q. q.length) reads.queue_is);
+      fits = omega (arith, length_fits a.region a.queues.items number block sound.threaded apart, ap (λ q. q.length) reads.queue_is);
     }
+
+-- the number of a held block is small
+pub held_small : (a : Inside) (s : QueuesState) (token block : ℕ) → state_of a ≡ s → IsSound a → IsHeld s token → block ≡ token → block < 2 ^ 32
+held_small a s token block is sound held same = omega (arith, sound.threaded.small token (apart_if_held a s token is held).live, same)
 
 -- what a pop or a look at the first block finds
 pub record FindsFirst (a : Inside) (number : ℕ) (queue : Queue) : Type 0 where
@@ -86,3 +91,38 @@ pub lists_kept : (a a' : Inside) (s : QueuesState) → state_of a ≡ s → a'.q
     → (queue : ℕ) → list_of (state_of a') queue ≡ list_of s queue
 lists_kept a a' s is queues stay queue =
     list_is a' queue ∙ ap (λ qs. thread a'.region qs queue) queues ∙ stay.same queue ∙ sym (list_seen a s queue is)
+
+-- the number that the first block of a queue names, where there is a second
+pub next_found : (a : Inside) (number link next : ℕ) (queue : Queue) → IsSound a → queue ≡ queue_in a.queues.items number
+    → link ≡ link_of a.region queue.first → (link < 2 ^ 32 → next ≡ link) → 1 < queue.length → next ≡ link_of a.region queue.first
+next_found a number link next queue sound queue_is link_is named some =
+    let first : ℕ = (queue_in a.queues.items number).first in
+    let second = second_in a.region a.queues.items number (omega (arith, some, ap (λ q. q.length) queue_is)) in
+    let small = sound.threaded.small (link_of a.region first) (sound.threaded.live number (link_of a.region first) second) in
+    let same : link ≡ link_of a.region first = link_is ∙ ap (λ q. link_of a.region q.first) queue_is in
+    named (omega (arith, small, same)) ∙ link_is
+
+-- what the first block of a queue holds
+pub record SeesFirst (a : Inside) (s : QueuesState) (number : ℕ) (queue : Queue) : Type 0 where
+  pub live : IsLive a.region queue.first
+  pub wide : length (first_words s number) + 1 ≡ width_of a.region queue.first
+  pub words : (first : ℕ) → 1 ≤ first → drop first (words_of a.region queue.first) ≡ drop (first - 1) (first_words s number)
+
+pub sees_first : (a : Inside) (s : QueuesState) (number : ℕ) (queue : Queue) → state_of a ≡ s → IsSound a → IsQueue s number
+    → queue ≡ get_or a.queues.items number queue → 0 < length (list_of s number) → SeesFirst a s number queue
+sees_first a s number queue is sound there read some =
+    let queue_is = (queue_read a s number queue is there read).queue_is in
+    let more : 0 < queue.length = omega (arith, some, list_length a s number is, ap (λ q. q.length) queue_is) in
+    let found = first_found a s number queue is sound there read more in
+    let list = list_seen a s number is ∙ first_of a.region a.queues.items number (omega (arith, more, ap (λ q. q.length) queue_is)) in
+    let words : first_words s number ≡ drop 1 (words_of a.region queue.first) =
+    ap (λ ns. get_or (map (held_words s.region) ns) 0 []) list
+    ∙ ap (λ q. held_words s.region q.first) (sym queue_is)
+    ∙ ap (λ t. held_words t.region queue.first) (sym is) in
+    record {
+      live = found.live;
+      wide = omega (arith, ap length words, length-drop 1 (words_of a.region queue.first), found.wide);
+      words = λ first behind.
+          let back : 1 + (first - 1) ≡ first = omega (arith, behind) in
+          sym (ap (drop (first - 1)) words ∙ drop-drop (first - 1) 1 (words_of a.region queue.first) ∙ ap (λ n. drop n (words_of a.region queue.first)) back);
+    }

@@ -1,5 +1,5 @@
 -- What stays of the contents of queues and of the held blocks, from what stays of lists and live blocks.
-use Rattle.std.proofs.Common.{◌≡◌, ◌≢◌, ℕ, Bool, true, false, eqb, List, [], ◌∷◌, ◌++◌, map, take, drop, get_or, Option, Some, None, refl, sym, ◌∙◌, ap, subst, ⊎_elim, IsTrue, ◌||◌}
+use Rattle.std.proofs.Common.{◌≡◌, ◌≢◌, ℕ, Bool, true, false, eqb, List, [], ◌∷◌, ◌++◌, map, take, drop, length, get_or, Option, Some, None, refl, sym, ◌∙◌, ap, subst, ⊎_elim, IsTrue, ◌||◌, arith}
 use Rattle.std.specs.Option.{IsSome, unwrap_or, option_map}
 use Rattle.std.specs.List.{list_any}
 use Rattle.std.specs.FinMap.{get}
@@ -235,6 +235,21 @@ module _ (old mid new : QueuesState) (from to block : ℕ)
   -- it isn't held afterwards
   pub no_more_moved : HoldsOneMore old mid block → Releases mid new block → HoldsNoMore old new
   no_more_moved first second other held = let b = second other held in first other b.1 b.0
+
+-- a queue of one block, whose first block goes to its back, is as it was
+one_turned : (ns : List ℕ) → length ns ≡ 1 → ns ≡ drop 1 ns ++ take 1 ns
+one_turned [] one = cc
+one_turned (n ∷ []) one = refl
+one_turned (n ∷ m ∷ ns) one = absurd (omega (arith, one))
+
+pub lists_turned : (s : QueuesState) (from to : ℕ) → from ≡ to → length (list_of s from) ≡ 1 → (queue : ℕ) → list_of s queue ≡ moved_list s from to queue
+lists_turned s from to same one queue = ⊎_elim
+    (λ (here : queue ≡ to).
+    let is : queue ≡ from = here ∙ sym same in
+    rw (eq-eqb queue to here, eq-eqb queue from is)
+    (one_turned (list_of s queue) (ap (λ q. length (list_of s q)) is ∙ one) ∙ ap (λ q. drop 1 (list_of s queue) ++ take 1 (list_of s q)) is))
+    (λ (n : queue ≢ to). rw (ne_eqb queue to n, ne_eqb queue from (λ e. n (e ∙ same))) refl)
+    (cases_eq queue to)
 
 pub words_along : (a b c : RegionState) → KeepsContents a b → KeepsContents b c → KeepsContents a c
 words_along a b c first second block = second block ∙ first block

@@ -156,12 +156,30 @@ pub first_in : (r : RegionState) (queues : List Queue) (number : ℕ) → 0 < (q
     → StandsIn (thread r queues number) (queue_in queues number).first
 first_in r queues number some = subst (λ ns. StandsIn ns (queue_in queues number).first) (sym (first_of r queues number some)) (stands_first (queue_in queues number).first _)
 
--- a queue is at most as long as there are numbers of blocks
-pub length_fits : (r : RegionState) (queues : List Queue) (number : ℕ) → IsThreaded r queues → (queue_in queues number).length ≤ 2 ^ 63
-length_fits r queues number threaded =
+-- the second block of a queue that has one
+pub second_in : (r : RegionState) (queues : List Queue) (number : ℕ) → 1 < (queue_in queues number).length
+    → StandsIn (thread r queues number) (link_of r (queue_in queues number).first)
+second_in r queues number some =
     let queue : Queue = queue_in queues number in
-    let below : (q : ℕ) → StandsIn (thread r queues number) q → q < 2 ^ 63 = λ q stands. threaded.small q (threaded.live number q stands) in
-    let at_most : length (thread r queues number) ≤ 2 ^ 63 = length-le_from_distinct_below (thread r queues number) (2 ^ 63) (threaded.once number) below in
+    let second : ℕ = link_of r queue.first in
+    let count : queue.length - 1 ≡ suc (queue.length - 2) = omega (arith, some) in
+    let rest : List ℕ = chain (link_of r) (link_of r second) (queue.length - 2) in
+    let is : thread r queues number ≡ queue.first ∷ second ∷ rest =
+    first_of r queues number (omega (arith, some)) ∙ ap (λ n. queue.first ∷ chain (link_of r) second n) count in
+    subst (λ ns. StandsIn ns second) (sym is) (stands_later second queue.first (second ∷ rest) (stands_first second rest))
+
+-- a queue is shorter than there are numbers of blocks, where a block stands apart
+pub length_fits : (r : RegionState) (queues : List Queue) (number block : ℕ) → IsThreaded r queues → StandsApart r queues block
+    → (queue_in queues number).length + 1 ≤ 2 ^ 32 - 1
+length_fits r queues number block threaded apart =
+    let queue : Queue = queue_in queues number in
+    let all : List ℕ = block ∷ thread r queues number in
+    let live : (q : ℕ) → StandsIn all q → IsLive r q = λ q stands. ⊎_elim
+    (λ same. subst (IsLive r) (sym (eqb-true q block same)) apart.live)
+    (λ before. threaded.live number q before)
+    (or_cases (eqb q block) (list_any (eqb q) (thread r queues number)) stands) in
+    let distinct : IsDistinct eqb all = distinct_more block (thread r queues number) (apart.absent number) (threaded.once number) in
+    let at_most : length all ≤ 2 ^ 32 - 1 = length-le_from_distinct_below all (2 ^ 32 - 1) distinct (λ q stands. threaded.small q (live q stands)) in
     omega (arith, at_most, chain-length (link_of r) queue.first queue.length)
 
 -- the queue, or where it is empty, the ends that it gets by one block
@@ -313,8 +331,13 @@ pub record PopsFront (r r' : RegionState) (queues queues' : List Queue) (number 
   pub others : (other : ℕ) → other ≢ number → thread r' queues' other ≡ thread r queues other
   pub apart : StandsApart r' queues' (queue_in queues number).first
 
+-- a chain of no number begins anywhere
+chain_from : (next : ℕ → ℕ) (first other count : ℕ) → (0 < count → first ≡ other) → chain next first count ≡ chain next other count
+chain_from next first other zero same = refl
+chain_from next first other (suc count) same = ap (λ n. chain next n (suc count)) (same (omega arith))
+
 pub popped_front : (r r' : RegionState) (queues : List Queue) (number next : ℕ) (queue : Queue) → IsThreaded r queues → number < length queues
-    → r'.live ≡ r.live → queue ≡ queue_in queues number → 0 < queue.length → next ≡ link_of r queue.first
+    → r'.live ≡ r.live → queue ≡ queue_in queues number → 0 < queue.length → (1 < queue.length → next ≡ link_of r queue.first)
     → PopsFront r r' queues (set queues number (record { first = next; last = queue.last; length = queue.length - 1 })) number
 popped_front r r' queues number next queue threaded inside same queue_is some next_is =
     let first : ℕ = (queue_in queues number).first in
@@ -330,7 +353,7 @@ popped_front r r' queues number next queue threaded inside same queue_is some ne
     ap (λ q. chain (link_of r') q.first q.length) (queue_in-elsewhere queues number other new ne) ∙ thread_of_live r r' queues other same in
     let own : chain (link_of r') new.first new.length ≡ rest =
     ap (λ m. chain (λ n. get_or (unwrap_or (get m n) []) 0 0) next (queue.length - 1)) same
-    ∙ ap (λ n. chain (link_of r) n (queue.length - 1)) next_is
+    ∙ chain_from (link_of r) next (link_of r queue.first) (queue.length - 1) (λ more. next_is (omega (arith, more)))
     ∙ ap (λ q. chain (link_of r) (link_of r q.first) (q.length - 1)) queue_is in
     let list : thread r' queues' number ≡ rest = ap (λ q. chain (link_of r') q.first q.length) (queue_in-here queues number new inside) ∙ own in
     let lengths : length rest ≡ (queue_in queues number).length - 1 = chain-length (link_of r) (link_of r first) ((queue_in queues number).length - 1) in
@@ -387,7 +410,7 @@ live_kept r r' queues threaded same = record {
 pub apart_changed : (r r' : RegionState) (queues : List Queue) (block : ℕ) → IsThreaded r queues
     → ((queue : ℕ) → IsAbsent (thread r queues queue) block)
     → ((other : ℕ) → other ≢ block → get r'.live other ≡ get r.live other)
-    → (IsLive r' block → (2 ≤ width_of r' block) × (block < 2 ^ 63))
+    → (IsLive r' block → (2 ≤ width_of r' block) × (block < 2 ^ 32 - 1))
     → ThreadsStay r r' queues
 apart_changed r r' queues block threaded absent elsewhere here =
     let stays : (q : ℕ) → thread r' queues q ≡ thread r queues q = λ q.

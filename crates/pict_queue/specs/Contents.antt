@@ -1,6 +1,6 @@
 -- Queues as lists of words: what their blocks hold behind the links. Contracts above speak of these, and of no numbers of
 -- blocks.
-use Rattle.std.specs.Prelude.{◌≡◌, ◌≢◌, ℕ, List, map, drop}
+use Rattle.std.specs.Prelude.{◌≡◌, ◌≢◌, ℕ, List, [], map, drop, slice_index_or}
 use Rattle.pict_region.specs.RegionState.{RegionState, words_of}
 use Rattle.pict_queue.specs.QueuesState.{QueuesState, list_of, moved_list, IsHeld}
 
@@ -15,6 +15,10 @@ contents s queue = map (held_words s.region) (list_of s queue)
 -- the same after the first block of one queue has become the last of another, or of the same
 abbrev pub moved_contents : QueuesState → ℕ → ℕ → ℕ → List (List ℕ)
 moved_contents s from to queue = map (held_words s.region) (moved_list s from to queue)
+
+-- what the first block of a queue holds
+abbrev pub first_words : QueuesState → ℕ → List ℕ
+first_words s queue = slice_index_or (contents s queue) 0 []
 
 abbrev pub KeepsAllContents : QueuesState → QueuesState → Type 0
 KeepsAllContents old new = (queue : ℕ) → contents new queue ≡ contents old queue

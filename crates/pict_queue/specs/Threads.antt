@@ -30,7 +30,7 @@ pub record IsThreaded (r : RegionState) (queues : List Queue) : Type 0 where
   pub lasts : (queue : ℕ) → 0 < (queue_in queues queue).length
       → slice_index (thread r queues queue) ((queue_in queues queue).length - 1) ≡ (queue_in queues queue).last
   pub wide : (block : ℕ) → IsLive r block → 2 ≤ width_of r block
-  pub small : (block : ℕ) → IsLive r block → block < 2 ^ 63
+  pub small : (block : ℕ) → IsLive r block → block < 2 ^ 32 - 1
 
 pub record IsSound (a : Inside) : Type 0 where
   pub threaded : IsThreaded a.region a.queues.items

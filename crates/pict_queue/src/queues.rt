@@ -1,9 +1,11 @@
 // The queues: a region, and the ends and the length of each queue.
-ghost use Rattle.std.specs.Prelude.{◌≡◌, ◌≢◌, ◌+◌, ◌-◌, ◌<◌, ◌≤◌, ◌↔◌, ◌++◌, ◌∷◌, ◌==◌, if◌then◌else◌, ℕ, [], length, max, replicate, None, IsOk, IsNone, IfSome, IfOk, OnOk, OnErr, slice_index, slice_set, slice_get, MatchOption};
+ghost use Rattle.std.specs.Prelude.{◌≡◌, ◌≢◌, ◌+◌, ◌-◌, ◌<◌, ◌≤◌, ◌↔◌, ◌^◌, ◌++◌, ◌∷◌, ◌==◌, ◌*◌, if◌then◌else◌, ℕ, [], length, max, All, eqb, false, take, drop, replicate, None, IsOk, IsNone, IfSome, IfOk, OnOk, OnErr, slice_index, slice_set, slice_get, IsTrue, MatchOption};
 ghost use Rattle.std.specs.Option.{option_map, option_to_list};
 ghost use Rattle.std.specs.FinMap.{get, insert, remove, empty};
-ghost use Rattle.pict_region.specs.RegionState.{IsLive, words_of, width_of, spare, blocks, KeepsBlocks, KeepsOtherWidths, raised, GainsBlock};
-ghost use Rattle.pict_queue.specs.Contents.{held_words, contents, moved_contents, KeepsAllContents, KeepsOtherContents, KeepsHeld, KeepsOtherHeld, HoldsNoMore, HoldsOneMore, Releases};
+ghost use Rattle.std.specs.List.{list_any};
+ghost use Rattle.pict_region.specs.RegionState.{IsLive, words_of, width_of, spare, blocks, KeepsBlocks, KeepsOtherWidths, raised, raised_by, GainsWords};
+ghost use Rattle.pict_region.specs.Values.{frame_words, pair_at, AreRising};
+ghost use Rattle.pict_queue.specs.Contents.{held_words, contents, first_words, moved_contents, KeepsAllContents, KeepsOtherContents, KeepsHeld, KeepsOtherHeld, HoldsNoMore, HoldsOneMore, Releases};
 ghost use Rattle.pict_queue.specs.QueuesState.{IsQueue, IsHeld, HasEachBlockOnce, list_of, no_queue, link_of, moved_list, KeepsOtherQueues, KeepsQueues, KeepsRest, CostsAtMost};
 
 use pict_region::{Block, Region};
@@ -17,9 +19,9 @@ pub struct QueueId(pub u64);
 /// One queue: the numbers of its first and its last block, which mean nothing while it is empty, and its length.
 #[derive(Clone, Copy)]
 struct Queue {
-    first: u64,
-    last: u64,
-    length: u64,
+    first: u32,
+    last: u32,
+    length: u32,
 }
 
 /// Queues of blocks. Word 0 of each block is its link, so a caller's words begin at 1. Contracts see the region and, for
@@ -109,7 +111,7 @@ impl Queues {
         ensures value { result ≡ length (list_of self.now q.0) }
         ensures once { HasEachBlockOnce self.now }
     {
-        self.queues[q.0 as usize].length
+        self.queues[q.0 as usize].length as u64
     }
 
     /// A held block becomes the last of a queue. Takes no memory.
@@ -129,9 +131,9 @@ impl Queues {
         ensures cost { CostsAtMost 2 self.old self.new }
     {
         let queue = self.queues[q.0 as usize];
-        let number = b.number();
+        let number = b.number() as u32;
         let ends = ends(queue, number);
-        set_link(&mut self.region, ends.last, number);
+        set_link(&mut self.region, ends.last as u64, number as u64);
         self.queues[q.0 as usize] = Queue {
             first: ends.first,
             last: number,
@@ -156,9 +158,9 @@ impl Queues {
         ensures cost { CostsAtMost 2 self.old self.new }
     {
         let queue = self.queues[q.0 as usize];
-        let number = b.number();
+        let number = b.number() as u32;
         let ends = ends(queue, number);
-        set_link(&mut self.region, number, queue.first);
+        set_link(&mut self.region, number as u64, queue.first as u64);
         self.queues[q.0 as usize] = Queue {
             first: number,
             last: ends.last,
@@ -192,7 +194,7 @@ impl Queues {
     }
 
     /// The first block of `from` becomes the last of `to`; where these are one queue, it goes to the back. Takes no
-    /// memory.
+    /// memory, and does no work where these are one queue, of one block.
     #[inline(always)]
     pub fn move_front(&mut self, from: QueueId, to: QueueId)
         requires from { IsQueue self.old from.0 }
@@ -207,6 +209,9 @@ impl Queues {
         ensures once { HasEachBlockOnce self.new }
         ensures cost { CostsAtMost 4 self.old self.new }
     {
+        if self.is_one_block(from, to) {
+            return;
+        }
         let block = self.pop(from);
         self.push_back(to, block);
     }
@@ -229,11 +234,35 @@ impl Queues {
         if queue.length == 0 {
             return None;
         }
-        Some(word(&mut self.region, queue.first, i))
+        Some(word(&mut self.region, queue.first as u64, i))
     }
 
-    /// Makes free blocks until there are `n` of this width, in words, with the link. Where memory is wanting, some of
-    /// these blocks may have been made. Where enough are there it takes no memory.
+    /// Reads the values of these levels out of the first block of a queue that isn't empty, two words each from word `first`
+    /// on, which is at least 1, each to the place of its level among `values`. Changes no word and no queue, and takes no
+    /// memory.
+    #[inline(always)]
+    pub fn peek_values(&mut self, q: QueueId, first: u32, levels: &[u32], values: &mut [(u64, u64)])
+        requires queue { IsQueue self.old q.0 }
+        requires some { 0 < length (list_of self.old q.0) }
+        requires behind_link { 1 ≤ first }
+        requires inside { first + 2 * length levels.now ≤ length (first_words self.old q.0) + 1 }
+        requires known { All (λ level. level < length values.old) levels.now }
+        requires rising { AreRising 0 levels.now }
+        ensures words { frame_words values.new levels.now ≡ take (2 * length levels.now) (drop (first - 1) (first_words self.old q.0)) }
+        ensures others { (level : ℕ) → list_any (eqb level) levels.now ≡ false → pair_at values.new level ≡ pair_at values.old level }
+        ensures len { length values.new ≡ length values.old }
+        ensures rest { self.new ≡ record self.old { region = record self.old.region { work = self.new.region.work } } }
+        ensures contents { KeepsAllContents self.old self.new }
+        ensures kept { KeepsHeld self.old self.new }
+        ensures no_more { HoldsNoMore self.old self.new }
+        ensures cost { CostsAtMost (2 * length levels.now + 1) self.old self.new }
+    {
+        let queue = self.queues[q.0 as usize];
+        read_words(&mut self.region, queue.first as u64, first, levels, values);
+    }
+
+    /// Makes free blocks until there are `n` of this width, in words, with the link. What is past 2^32 words is want of
+    /// memory. Where memory is wanting, some of these blocks may have been made. Where enough are there it takes no memory.
     #[inline(always)]
     pub fn reserve(&mut self, width: u32, n: u64) -> Result<(), AllocError>
         requires positive { 2 ≤ width }
@@ -277,17 +306,26 @@ impl Queues {
         self.region.take(width)
     }
 
-    /// A block of this width, whose words are any, and which the caller holds. Takes no memory.
+    /// A block of this width, which the caller holds: its word 1 is this one, and from word 2 on stand the values of these
+    /// levels, two words each, from the places of the levels among `values`. Takes no memory.
     #[inline(always)]
-    pub fn take_uncleared(&mut self, width: u32) -> Block
-        requires wide { 2 ≤ width }
+    pub fn take_values(
+        &mut self,
+        width: u32,
+        word: u64,
+        levels: &[u32],
+        values: &[(u64, u64)],
+    ) -> Block
+        requires wide { width ≡ 2 + 2 * length levels.now }
         requires spare { 1 ≤ spare self.old.region width }
+        requires known { All (λ level. level < length values.now) levels.now }
         ensures fresh { get self.old.region.live result ≡ None }
-        ensures live { GainsBlock self.old.region self.new.region result width }
+        ensures live { GainsWords self.old.region self.new.region result (word ∷ frame_words values.now levels.now) }
+        ensures words { held_words self.new.region result ≡ word ∷ frame_words values.now levels.now }
         ensures spare { spare self.new.region width + 1 ≡ spare self.old.region width }
         ensures others { KeepsOtherWidths self.old.region self.new.region width }
         ensures blocks { KeepsBlocks self.old.region self.new.region }
-        ensures work { self.new.region.work ≡ raised self.old.region.work }
+        ensures work { self.new.region.work ≡ raised_by (2 + 2 * length levels.now) self.old.region.work }
         ensures rest { self.new ≡ record self.old { region = self.new.region } }
         ensures lists { KeepsQueues self.old self.new }
         ensures held { IsHeld self.new result }
@@ -296,7 +334,7 @@ impl Queues {
         ensures contents { KeepsAllContents self.old self.new }
         ensures kept { KeepsHeld self.old self.new }
     {
-        self.region.take_uncleared(width)
+        self.region.take_values(width, word, levels, values)
     }
 
     /// Frees a held block, and spends its token. Takes no memory.
@@ -386,12 +424,45 @@ impl Queues {
         self.region.set_pair(b, i, pair);
     }
 
+    /// Reads the values of these levels out of a held block, two words each from word `first` on, each to the place of its
+    /// level among `values`. Takes no memory.
+    #[inline(always)]
+    pub fn read_values(&mut self, b: &Block, first: u32, levels: &[u32], values: &mut [(u64, u64)])
+        requires held { IsHeld self.old b.now }
+        requires inside { first + 2 * length levels.now ≤ width_of self.old.region b.now }
+        requires known { All (λ level. level < length values.old) levels.now }
+        requires rising { AreRising 0 levels.now }
+        ensures words { frame_words values.new levels.now ≡ take (2 * length levels.now) (drop first (words_of self.old.region b.now)) }
+        ensures others { (level : ℕ) → list_any (eqb level) levels.now ≡ false → pair_at values.new level ≡ pair_at values.old level }
+        ensures len { length values.new ≡ length values.old }
+        ensures rest { self.new ≡ record self.old {
+          region = record self.old.region {
+            work = raised_by (2 * length levels.now) self.old.region.work;
+          };
+        } }
+        ensures contents { KeepsAllContents self.old self.new }
+        ensures kept { KeepsHeld self.old self.new }
+        ensures no_more { HoldsNoMore self.old self.new }
+    {
+        self.region.read_values(b, first, levels, values);
+    }
+
     /// The work of the region.
     #[inline(always)]
     pub fn work(&self) -> u64
         ensures { result ≡ self.now.region.work }
     {
         self.region.work()
+    }
+
+    // Whether these are one queue, of one block.
+    #[inline(always)]
+    fn is_one_block(&self, from: QueueId, to: QueueId) -> bool
+        requires { IsQueue self.now from.0 }
+        ensures one { IsTrue result → (from.0 ≡ to.0) × (length (list_of self.now from.0) ≡ 1) }
+        ensures once { HasEachBlockOnce self.now }
+    {
+        self.length(from) == 1 && from.0 == to.0
     }
 
     // The first block of a queue that isn't empty.
@@ -413,8 +484,8 @@ impl Queues {
         ensures cost { CostsAtMost 2 self.old self.new }
     {
         let queue = self.queues[q.0 as usize];
-        let block = self.region.block(queue.first);
-        let next = self.region.get(&block, 0);
+        let block = self.region.block(queue.first as u64);
+        let next = number_in(self.region.get(&block, 0));
         self.queues[q.0 as usize] = Queue {
             first: next,
             last: queue.last,
@@ -426,7 +497,7 @@ impl Queues {
 
 // The queue, or where it is empty, one whose ends are this block.
 #[inline(always)]
-fn ends(queue: Queue, block: u64) -> Queue
+fn ends(queue: Queue, block: u32) -> Queue
     ensures { result ≡ (if queue.length == 0 then record { first = block; last = block; length = 0 } else queue) }
 {
     if queue.length == 0 {
@@ -438,6 +509,14 @@ fn ends(queue: Queue, block: u64) -> Queue
     } else {
         queue
     }
+}
+
+// The number of a block in a link. That of the last block of a queue is any word, and no number is in it.
+#[inline(always)]
+fn number_in(link: u64) -> u32
+    ensures { link < 2 ^ 32 → result ≡ link }
+{
+    (link % 4_294_967_296) as u32
 }
 
 // Makes `next` the link of a live block.
@@ -470,6 +549,31 @@ fn word(region: &mut Region, block: u64, i: u32) -> u64
     let word = region.get(&token, i);
     let _number = token.number();
     word
+}
+
+// Reads the values of levels out of a live block, two words each from this word on.
+#[inline(always)]
+fn read_words(
+    region: &mut Region,
+    block: u64,
+    first: u32,
+    levels: &[u32],
+    values: &mut [(u64, u64)],
+)
+    requires live { IsLive region.old block }
+    requires inside { first + 2 * length levels.now ≤ width_of region.old block }
+    requires known { All (λ level. level < length values.old) levels.now }
+    requires rising { AreRising 0 levels.now }
+    ensures words { frame_words values.new levels.now ≡ take (2 * length levels.now) (drop first (words_of region.old block)) }
+    ensures others { (level : ℕ) → list_any (eqb level) levels.now ≡ false → pair_at values.new level ≡ pair_at values.old level }
+    ensures len { length values.new ≡ length values.old }
+    ensures rest { region.new ≡ record region.old { work = region.new.work } }
+    ensures least { region.old.work ≤ region.new.work }
+    ensures most { region.new.work ≤ region.old.work + (2 * length levels.now + 1) }
+{
+    let token = region.block(block);
+    region.read_values(&token, first, levels, values);
+    let _number = token.number();
 }
 
 #[cfg(test)]

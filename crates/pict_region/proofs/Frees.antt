@@ -1,5 +1,5 @@
 -- Live blocks and free blocks: what a look-up finds, and what a write over one block leaves.
-use Rattle.std.proofs.Common.{◌≡◌, ◌≢◌, ℕ, zero, suc, ◌+◌, ◌-◌, ◌<◌, ◌≤◌, Bool, true, false, cond, not, ◌||◌, eqb, List, [], ◌∷◌, length, get_or, set, Option, Some, None, refl, sym, ◌∙◌, ap, subst, ⊎_elim, ◌⊎◌, inl, inr, add-one, arith}
+use Rattle.std.proofs.Common.{◌≡◌, ◌≢◌, ℕ, zero, suc, ◌+◌, ◌-◌, ◌^◌, ◌<◌, ◌≤◌, Bool, true, false, cond, not, ◌||◌, eqb, List, [], ◌∷◌, length, get_or, set, Option, Some, None, refl, sym, ◌∙◌, ap, subst, ⊎_elim, ◌⊎◌, inl, inr, add-one, arith}
 use Rattle.std.specs.List.{IsDistinct, list_any}
 use Rattle.std.specs.Ordering.{nat_cmp, eq_by_cmp}
 use Rattle.std.specs.Cmp.{nat_cmp_total}
@@ -162,12 +162,12 @@ Stood before after changed n P = StandsIn after n → ((n ≡ changed) × P) ⊎
 
 -- the store is sound after a change of one block
 pub sound_after : (store store' : List ℕ) (lists lists' : List FreeList) (number : ℕ) (block : List ℕ) → IsSound store lists
-    → ChangesBlock store store' number block
+    → ChangesBlock store store' number block → length store' ≤ 2 ^ 32
     → 0 < length block → length block < length lists' → length lists ≤ length lists'
     → ((width n : ℕ) → Stood (free_numbers store lists width) (free_numbers store' lists' width) number n (length block ≡ width))
     → ((width : ℕ) → IsDistinct eqb (free_numbers store' lists' width))
     → IsSound store' lists'
-sound_after store store' lists lists' number block sound change positive listed longer stood distinct = record {
+sound_after store store' lists lists' number block sound change small positive listed longer stood distinct = record {
   tiled = change.tiled;
   widths = λ n b at. ⊎_elim
       (λ here.
@@ -183,6 +183,7 @@ sound_after store store' lists lists' number block sound change positive listed 
       record { block = old.block; at = change.elsewhere n there.0 ∙ old.at; wide = old.wide })
       (stood width n stands);
   distinct = distinct;
+  small = small;
 }
 
 -- which blocks are live after a change of one block
@@ -223,15 +224,15 @@ pub record WritesBlock (store store' : List ℕ) (lists : List FreeList) (number
   pub live : live_of store' lists ≡ insert (live_of store lists) number block
 
 pub write_block : (store store' : List ℕ) (lists : List FreeList) (number : ℕ) (block block' : List ℕ) → IsSound store lists
-    → IsHeld store lists number block → length block' ≡ length block → ChangesBlock store store' number block'
+    → IsHeld store lists number block → length block' ≡ length block → ChangesBlock store store' number block' → length store' ≤ 2 ^ 32
     → WritesBlock store store' lists number block'
 unfolding free_numbers
-write_block store store' lists number block block' sound held same change =
+write_block store store' lists number block block' sound held same change small =
     let threads : (width : ℕ) → free_numbers store' lists width ≡ free_numbers store lists width =
     λ width. thread_kept store store' lists number block' width sound change (held.absent width) in
     let widths = sound.widths number block held.at in
     record {
-      sound = sound_after store store' lists lists number block' sound change (omega (arith, widths.0, same)) (omega (arith, widths.1, same)) (omega arith)
+      sound = sound_after store store' lists lists number block' sound change small (omega (arith, widths.0, same)) (omega (arith, widths.1, same)) (omega arith)
           (λ width n stands.
           let before : StandsIn (free_numbers store lists width) n = subst (λ ns. StandsIn ns n) (threads width) stands in
           inr (stands_apart (free_numbers store lists width) n number before (held.absent width), before))
@@ -248,12 +249,12 @@ pub record FreesBlock (store store' : List ℕ) (lists lists' : List FreeList) (
   pub live : (n : ℕ) → get (live_of store' lists') n ≡ cond (eqb n number) None (get (live_of store lists) n)
 
 pub free_block : (store store' : List ℕ) (lists : List FreeList) (number width : ℕ) (block : List ℕ) → IsSound store lists
-    → ChangesBlock store store' number block → length block ≡ width → 0 < width → width < length lists
+    → ChangesBlock store store' number block → length store' ≤ 2 ^ 32 → length block ≡ width → 0 < width → width < length lists
     → get_or block 0 0 ≡ (list_at lists width).first
     → ((width : ℕ) → IsAbsent (free_numbers store lists width) number)
     → FreesBlock store store' lists (set lists width (record { first = number; count = (list_at lists width).count + 1 })) number
 unfolding free_numbers
-free_block store store' lists number width block sound change wide positive listed next absent =
+free_block store store' lists number width block sound change small wide positive listed next absent =
     let list : FreeList = record { first = number; count = (list_at lists width).count + 1 } in
     let lists' : List FreeList = set lists width list in
     let kept = λ (v : ℕ). thread_kept store store' lists number block v sound change (absent v) in
@@ -269,7 +270,7 @@ free_block store store' lists number width block sound change wide positive list
     let P : ℕ → Type 0 = λ w. free_numbers store' lists' w ≡ number ∷ free_numbers store lists w in subst P (sym same) own in
     let lengths : length lists' ≡ length lists = length-set lists width list in
     record {
-      sound = sound_after store store' lists lists' number block sound change (omega (arith, wide, positive)) (omega (arith, wide, listed, lengths)) (omega (arith, lengths))
+      sound = sound_after store store' lists lists' number block sound change small (omega (arith, wide, positive)) (omega (arith, wide, listed, lengths)) (omega (arith, lengths))
           (λ v n stands. ⊎_elim
           (λ same.
           let stands' : StandsIn (number ∷ free_numbers store lists v) n = subst (λ ns. StandsIn ns n) (own_at v same) stands in
@@ -319,12 +320,12 @@ first_block store lists width sound some =
 
 pub take_block : (store store' : List ℕ) (lists : List FreeList) (width : ℕ) (block' : List ℕ) → IsSound store lists
     → 0 < (list_at lists width).count → width < length lists
-    → ChangesBlock store store' (list_at lists width).first block' → length block' ≡ width
+    → ChangesBlock store store' (list_at lists width).first block' → length store' ≤ 2 ^ 32 → length block' ≡ width
     → TakesBlock store store' lists
     (set lists width (record { first = next_of store (list_at lists width).first; count = (list_at lists width).count - 1 }))
     (list_at lists width).first block'
 unfolding free_numbers
-take_block store store' lists width block' sound some listed change wide =
+take_block store store' lists width block' sound some listed change small wide =
     let number : ℕ = (list_at lists width).first in
     let list : FreeList = record { first = next_of store number; count = (list_at lists width).count - 1 } in
     let lists' : List FreeList = set lists width list in
@@ -353,7 +354,7 @@ take_block store store' lists width block' sound some listed change wide =
     let lengths : length lists' ≡ length lists = length-set lists width list in
     let positive = (sound.widths number has.block has.at).0 in
     record {
-      sound = sound_after store store' lists lists' number block' sound change (omega (arith, wide, positive, has.wide)) (omega (arith, wide, listed, lengths)) (omega (arith, lengths))
+      sound = sound_after store store' lists lists' number block' sound change small (omega (arith, wide, positive, has.wide)) (omega (arith, wide, listed, lengths)) (omega (arith, lengths))
           (λ v n stands. ⊎_elim
           (λ same.
           let later : StandsIn rest n = subst (λ ns. StandsIn ns n) (own_at v same) stands in

@@ -1,5 +1,5 @@
 -- How a region lies in its store: one block after another, each behind a word that gives its width.
-use Rattle.std.specs.Prelude.{◌≡◌, ℕ, zero, suc, ◌+◌, ◌-◌, ◌<◌, Bool, true, cond, not, eqb, nat_lt, List, [], ◌∷◌, ◌++◌, map, length, take, drop, Option, Some, None, slice_index, slice_index_or}
+use Rattle.std.specs.Prelude.{◌≡◌, ℕ, zero, suc, ◌+◌, ◌-◌, ◌^◌, ◌<◌, ◌≤◌, Bool, true, cond, not, eqb, nat_lt, List, [], ◌∷◌, ◌++◌, map, length, take, drop, Option, Some, None, slice_index, slice_index_or}
 use Rattle.std.specs.List.{IsDistinct, list_any}
 use Rattle.std.specs.Ordering.{nat_cmp}
 use Rattle.std.specs.FinMap.{FinMap, from_entries, retain_keys}
@@ -47,9 +47,13 @@ unfoldable pub live_of : List ℕ → List FreeList → FinMap nat_cmp (List ℕ
 live_of store lists =
     retain_keys (from_entries (numbered 0 (blocks_of store))) (λ number. not (is_free store lists number))
 
+-- the words of a region that belong to blocks
+abbrev pub made_words : Inside → List ℕ
+made_words r = take r.made r.words.items
+
 abbrev pub state_of : Inside → RegionState
 state_of r = record {
-  live = live_of r.words.items r.free.items;
+  live = live_of (made_words r) r.free.items;
   free = map (λ l. l.count) r.free.items;
   work = r.work;
 }
@@ -66,7 +70,8 @@ pub record HasBlock (store : List ℕ) (number width : ℕ) : Type 0 where
   pub at : block_at (blocks_of store) number ≡ Some block
   pub wide : length block ≡ width
 
--- the store is made of blocks, each of a width that has a list, and the lists of free blocks are apart
+-- The store is made of blocks, each of a width that has a list, and the lists of free blocks are apart. It has at most 2^32
+-- words.
 pub record IsSound (store : List ℕ) (lists : List FreeList) : Type 0 where
   pub tiled : store_of (blocks_of store) ≡ store
   pub widths : (number : ℕ) (block : List ℕ) → block_at (blocks_of store) number ≡ Some block
@@ -74,3 +79,10 @@ pub record IsSound (store : List ℕ) (lists : List FreeList) : Type 0 where
   pub free_widths : (width number : ℕ) → list_any (eqb number) (free_numbers store lists width) ≡ true
       → HasBlock store number width
   pub distinct : (width : ℕ) → IsDistinct eqb (free_numbers store lists width)
+  pub small : length store ≤ 2 ^ 32
+
+-- The first `made` words, of at most 2^32, are a store that is sound.
+pub record IsKept (words : List ℕ) (made : ℕ) (lists : List FreeList) : Type 0 where
+  pub sound : IsSound (take made words) lists
+  pub inside : made ≤ length words
+  pub small : length words ≤ 2 ^ 32

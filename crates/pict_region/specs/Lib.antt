@@ -1,3 +1,4 @@
 pub mod Chain
 pub mod Layout
 pub mod RegionState
+pub mod Values

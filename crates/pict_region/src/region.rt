@@ -1,11 +1,22 @@
 // The region: its store of words, its lists of free blocks, and its work.
-ghost use Rattle.std.specs.Prelude.{◌≡◌, ◌≢◌, ◌+◌, ◌-◌, ◌^◌, ◌<◌, ◌≤◌, ◌==◌, if◌then◌else◌, ℕ, [], length, max, None, OnOk, OnErr, IsOk, IsSome, slice_index, slice_set, slice_index_or, replicate, take, drop, ◌++◌, vec_len};
+ghost use Rattle.std.specs.Prelude.{◌≡◌, ◌≢◌, ◌+◌, ◌-◌, ◌^◌, ◌<◌, ◌≤◌, ◌==◌, ◌*◌, if◌then◌else◌, ℕ, [], length, max, None, All, eqb, false, OnOk, OnErr, IsOk, IsSome, slice_index, slice_set, slice_index_or, replicate, take, drop, ◌++◌, ◌∷◌, vec_len};
 ghost use Rattle.std.specs.FinMap.{get, insert, remove, empty};
-ghost use Rattle.pict_region.specs.RegionState.{IsLive, words_of, width_of, spare, blocks, KeepsBlocks, KeepsOtherWidths, raised, GainsBlock};
+ghost use Rattle.std.specs.List.{list_any};
+ghost use Rattle.pict_region.specs.RegionState.{IsLive, words_of, width_of, spare, blocks, KeepsBlocks, KeepsOtherWidths, raised, raised_by, GainsWords};
+ghost use Rattle.pict_region.specs.Layout.{list_at};
+ghost use Rattle.pict_region.specs.Values.{frame_words, pair_at, AreRising, overlaid};
 
 use crate::block::Block;
 use std::alloc::{AllocError, Global};
 use std::marker::Model;
+
+// The most words of a store.
+const MOST_WORDS: usize = 4_294_967_296;
+
+// By how many words a store becomes longer at a time: as many as it has, and no fewer and no more than these.
+const LEAST_PIECE: usize = 1024;
+
+const MOST_PIECE: usize = 65_536;
 
 /// The free blocks of one width, threaded through their first words.
 #[derive(Clone, Copy)]
@@ -18,7 +29,10 @@ struct FreeList {
 /// number of free blocks of each width, and the work.
 #[derive(Drop)]
 pub struct Region {
+    // The words of the blocks, and behind them words for further ones.
     words: Vec<u64>,
+    // How many of the words belong to blocks.
+    made: usize,
     free: Vec<FreeList>,
     work: u64,
 }
@@ -30,11 +44,11 @@ impl Model for Region {
 
     ghost coded = { region_code };
 
-    ghost use Rattle.pict_region.specs.Layout.{state_of, IsSound};
+    ghost use Rattle.pict_region.specs.Layout.{state_of, IsKept};
 
     ghost view = { state_of };
 
-    ghost invariant = { λ r. IsSound r.words.items r.free.items };
+    ghost invariant = { λ r. IsKept r.words.items r.made r.free.items };
 }
 
 impl Region {
@@ -46,14 +60,15 @@ impl Region {
     {
         Region {
             words: Vec::new(alloc),
+            made: 0,
             free: Vec::new(alloc),
             work: 0,
         }
     }
 
-    /// Makes free blocks until there are `n` of this width, in words. The store grows by doubling. Where memory is
-    /// wanting, some of these blocks may have been made, and never more than were wanting. Where enough are there it takes
-    /// no memory. The work stays.
+    /// Makes free blocks until there are `n` of this width, in words. The store grows by doubling, and what is past 2^32
+    /// words is want of memory. Where memory is wanting, some of these blocks may have been made, and never more than were
+    /// wanting. Where enough are there it takes no memory. The work stays.
     #[inline(always)]
     pub fn reserve(&mut self, width: u32, n: u64) -> Result<(), AllocError>
         requires positive { 1 ≤ width }
@@ -67,25 +82,25 @@ impl Region {
         ensures live { self.new.live ≡ self.old.live }
         ensures work { self.new.work ≡ self.old.work }
     {
-        self.add_list(width)?;
-        for _ in self.spare(width)..n {
-            self.add_block(width)?;
+        if (width as usize) < self.free.len() && n <= self.spare(width) {
+            return Ok(());
         }
-        Ok(())
+        self.make_spare(width, n)
     }
 
-    /// A block of this width, whose words are 0. Numbers of blocks are below 2 to the power 63. Takes no memory.
+    /// A block of this width, whose words are 0. Numbers of blocks are below 2^32 - 1. Takes no memory.
     #[inline(always)]
     pub fn take(&mut self, width: u32) -> Block
         requires { 1 ≤ spare self.old width }
         ensures fresh { get self.old.live result ≡ None }
-        ensures small { result < 2 ^ 63 }
+        ensures small { result < 2 ^ 32 - 1 }
         ensures live { self.new.live ≡ insert self.old.live result (replicate width 0) }
         ensures spare { spare self.new width + 1 ≡ spare self.old width }
         ensures others { KeepsOtherWidths self.old self.new width }
         ensures blocks { KeepsBlocks self.old self.new }
         ensures work { self.new.work ≡ raised self.old.work }
     {
+        self.work = one_more(self.work);
         let list = self.free[width as usize];
         let number = list.first;
         let start = number as usize + 1;
@@ -94,28 +109,39 @@ impl Region {
             count: list.count - 1,
         };
         clear(&mut self.words, start, width as usize);
-        self.work = one_more(self.work);
         Block { number }
     }
 
-    /// A block of this width, whose words are any. Numbers of blocks are below 2 to the power 63. Takes no memory.
+    /// A block of this width: its word 1 is this one, and from word 2 on stand the values of these levels, two words each,
+    /// from the places of the levels among `values`. Its word 0 is any. Numbers of blocks are below 2^32 - 1. Takes no
+    /// memory.
     #[inline(always)]
-    pub fn take_uncleared(&mut self, width: u32) -> Block
-        requires { 1 ≤ spare self.old width }
+    pub fn take_values(
+        &mut self,
+        width: u32,
+        word: u64,
+        levels: &[u32],
+        values: &[(u64, u64)],
+    ) -> Block
+        requires spare { 1 ≤ spare self.old width }
+        requires wide { width ≡ 2 + 2 * length levels.now }
+        requires known { All (λ level. level < length values.now) levels.now }
         ensures fresh { get self.old.live result ≡ None }
-        ensures small { result < 2 ^ 63 }
-        ensures live { GainsBlock self.old self.new result width }
+        ensures small { result < 2 ^ 32 - 1 }
+        ensures live { GainsWords self.old self.new result (word ∷ frame_words values.now levels.now) }
         ensures spare { spare self.new width + 1 ≡ spare self.old width }
         ensures others { KeepsOtherWidths self.old self.new width }
         ensures blocks { KeepsBlocks self.old self.new }
-        ensures work { self.new.work ≡ raised self.old.work }
+        ensures work { self.new.work ≡ raised_by (2 + 2 * length levels.now) self.old.work }
     {
+        self.work = more(self.work, 2 + 2 * levels.len() as u64);
         let list = self.free[width as usize];
         let number = list.first;
-        let first = self.words[number as usize + 1];
+        let start = number as usize + 1;
+        let first = self.words[start];
         let count = list.count - 1;
         self.free[width as usize] = FreeList { first, count };
-        self.work = one_more(self.work);
+        put_values(self.words.as_mut_slice(), start + 1, word, levels, values);
         Block { number }
     }
 
@@ -129,6 +155,7 @@ impl Region {
         ensures blocks { KeepsBlocks self.old self.new }
         ensures work { self.new.work ≡ raised self.old.work }
     {
+        self.work = one_more(self.work);
         let Block { number } = b;
         let index = number as usize;
         let width = self.words[index] as usize;
@@ -138,7 +165,6 @@ impl Region {
             first: number,
             count: list.count + 1,
         };
-        self.work = one_more(self.work);
     }
 
     /// Word `i` of a live block, from 0. Takes no memory.
@@ -149,9 +175,9 @@ impl Region {
         ensures word { result ≡ slice_index (words_of self.old b.now) i }
         ensures rest { self.new ≡ record self.old { work = raised self.old.work } }
     {
-        let word = self.words[b.number as usize + 1 + i as usize];
         self.work = one_more(self.work);
-        word
+        let place = b.number as usize + 1 + i as usize;
+        self.words[place]
     }
 
     /// Puts a word at index `i` of a live block, from 0. Takes no memory.
@@ -197,6 +223,24 @@ impl Region {
         put_pair(self.words.as_mut_slice(), start, pair);
     }
 
+    /// Reads the values of these levels out of a live block, two words each from word `first` on, each to the place of its
+    /// level among `values`. Takes no memory.
+    #[inline(always)]
+    pub fn read_values(&mut self, b: &Block, first: u32, levels: &[u32], values: &mut [(u64, u64)])
+        requires live { IsLive self.old b.now }
+        requires inside { first + 2 * length levels.now ≤ width_of self.old b.now }
+        requires known { All (λ level. level < length values.old) levels.now }
+        requires rising { AreRising 0 levels.now }
+        ensures words { frame_words values.new levels.now ≡ take (2 * length levels.now) (drop first (words_of self.old b.now)) }
+        ensures others { (level : ℕ) → list_any (eqb level) levels.now ≡ false → pair_at values.new level ≡ pair_at values.old level }
+        ensures len { length values.new ≡ length values.old }
+        ensures rest { self.new ≡ record self.old { work = raised_by (2 * length levels.now) self.old.work } }
+    {
+        self.work = more(self.work, 2 * levels.len() as u64);
+        let start = b.number as usize + 1 + first as usize;
+        read_pairs(self.words.as_slice(), start, levels, values);
+    }
+
     /// A token of the live block with this number. Takes no memory.
     #[inline(always)]
     pub fn block(&mut self, number: u64) -> Block
@@ -208,7 +252,8 @@ impl Region {
         Block { number }
     }
 
-    /// The region's work: how often a block was taken, given, reached by number, read or written, or the greatest `u64`.
+    /// The region's work: how often a block was taken, given or reached by its number, or a word of one read or written, or the
+    /// greatest `u64`. The words that `take` clears aren't counted.
     #[inline(always)]
     pub fn work(&self) -> u64
         ensures { result ≡ self.now.work }
@@ -225,23 +270,81 @@ impl Region {
         self.free[width as usize].count
     }
 
+    // Makes free blocks until there are `n` of this width. One is made with no call, where the store is long enough.
+    #[inline(never)]
+    fn make_spare(&mut self, width: u32, n: u64) -> Result<(), AllocError>
+        requires positive { 1 ≤ width }
+        requires wanting { width < length self.old.free → spare self.old width < n }
+        ensures ok { OnOk result (spare self.new width ≡ max n (spare self.old width)) }
+        ensures err { OnErr result (spare self.old width ≤ spare self.new width) }
+        ensures most { spare self.new width ≤ max n (spare self.old width) }
+        ensures others { KeepsOtherWidths self.old self.new width }
+        ensures live { self.new.live ≡ self.old.live }
+        ensures work { self.new.work ≡ self.old.work }
+    {
+        if self.free.len() > width as usize && self.add_block(width) && n <= self.spare(width) {
+            return Ok(());
+        }
+        self.make_longer(width, n)
+    }
+
+    // Makes free blocks until there are `n` of this width, and the lists and the store longer for them.
+    #[inline(never)]
+    fn make_longer(&mut self, width: u32, n: u64) -> Result<(), AllocError>
+        requires positive { 1 ≤ width }
+        ensures ok { OnOk result (spare self.new width ≡ max n (spare self.old width)) }
+        ensures err { OnErr result (spare self.old width ≤ spare self.new width) }
+        ensures most { spare self.new width ≤ max n (spare self.old width) }
+        ensures others { KeepsOtherWidths self.old self.new width }
+        ensures live { self.new.live ≡ self.old.live }
+        ensures work { self.new.work ≡ self.old.work }
+    {
+        if self.free.len() <= width as usize {
+            self.add_list(width)?;
+        }
+        for _ in self.spare(width)..n {
+            self.lengthen_by_block(width)?;
+        }
+        Ok(())
+    }
+
     // Makes a list of free blocks for each width up to this one.
     fn add_list(&mut self, width: u32) -> Result<(), AllocError>
-        ensures room { width < length self.old.free → IsOk result }
+        requires { length self.old.free ≤ width }
         ensures ok { OnOk result (width < length self.new.free) }
         ensures spare { (other : ℕ) → spare self.new other ≡ spare self.old other }
         ensures live { self.new.live ≡ self.old.live }
         ensures work { self.new.work ≡ self.old.work }
     {
-        let lists = width as usize + 1;
-        if self.free.len() < lists {
-            self.free.resize(lists, FreeList { first: 0, count: 0 })?;
-        }
+        self.free
+            .resize(width as usize + 1, FreeList { first: 0, count: 0 })?;
         Ok(())
     }
 
-    // Makes one free block at the end of the store.
-    fn add_block(&mut self, width: u32) -> Result<(), AllocError>
+    // Makes one free block behind the others, where the store is long enough, and answers whether it is.
+    #[inline(always)]
+    fn add_block(&mut self, width: u32) -> bool
+        requires positive { 1 ≤ width }
+        requires listed { width < length self.old.free }
+        requires countable { spare self.old width + 1 < 2 ^ 64 }
+        ensures spare { spare self.new width ≡ spare self.old width + (if result then 1 else 0) }
+        ensures others { KeepsOtherWidths self.old self.new width }
+        ensures lists { length self.new.free ≡ length self.old.free }
+        ensures live { self.new.live ≡ self.old.live }
+        ensures work { self.new.work ≡ self.old.work }
+    {
+        let made = self.made;
+        let end = made + 1 + width as usize;
+        if end > self.words.len() {
+            return false;
+        }
+        put_block(&mut self.words, &mut self.free, made, width);
+        self.made = end;
+        true
+    }
+
+    // Makes one free block behind the others, and the store longer for it, where it doesn't become too long.
+    fn lengthen_by_block(&mut self, width: u32) -> Result<(), AllocError>
         requires positive { 1 ≤ width }
         requires listed { width < length self.old.free }
         requires countable { spare self.old width + 1 < 2 ^ 64 }
@@ -252,17 +355,50 @@ impl Region {
         ensures live { self.new.live ≡ self.old.live }
         ensures work { self.new.work ≡ self.old.work }
     {
-        let number = self.words.len();
-        let list = self.free[width as usize];
-        self.words.resize(number + 1 + width as usize, 0)?;
-        self.words[number] = u64::from(width);
-        self.words[number + 1] = list.first;
-        self.free[width as usize] = FreeList {
-            first: number as u64,
-            count: list.count + 1,
-        };
+        let made = self.made;
+        let end = made + 1 + width as usize;
+        if end > self.words.len() {
+            lengthen(&mut self.words, end)?;
+        }
+        put_block(&mut self.words, &mut self.free, made, width);
+        self.made = end;
         Ok(())
     }
+}
+
+// Puts a free block of this width behind the words that are made, and first into its list.
+#[inline(always)]
+fn put_block(words: &mut Vec<u64>, lists: &mut Vec<FreeList>, made: usize, width: u32)
+    requires inside { made + 1 < vec_len words.old }
+    requires listed { width < vec_len lists.old }
+    requires countable { (list_at lists.old.items width).count + 1 < 2 ^ 64 }
+    ensures words { words.new.items ≡ slice_set (slice_set words.old.items made width) (made + 1) (list_at lists.old.items width).first }
+    ensures lists { lists.new.items ≡ slice_set lists.old.items width (record { first = made; count = (list_at lists.old.items width).count + 1 }) }
+{
+    let list = &mut lists[width as usize];
+    let first = list.first;
+    list.first = made as u64;
+    list.count += 1;
+    words[made] = u64::from(width);
+    words[made + 1] = first;
+}
+
+// Makes the store longer by a piece, to `end` words at least, where it doesn't become too long.
+#[cold]
+#[inline(never)]
+fn lengthen(words: &mut Vec<u64>, end: usize) -> Result<(), AllocError>
+    requires { vec_len words.old ≤ 2 ^ 32 }
+    ensures ok { OnOk result (end ≤ vec_len words.new) }
+    ensures small { vec_len words.new ≤ 2 ^ 32 }
+    ensures kept { take (vec_len words.old) words.new.items ≡ words.old.items }
+{
+    if end > MOST_WORDS {
+        return Err(AllocError);
+    }
+    let len = words.len();
+    let piece = len.max(LEAST_PIECE).min(MOST_PIECE);
+    words.resize((len + piece).min(MOST_WORDS).max(end), 0)?;
+    Ok(())
 }
 
 // The work after one call more.
@@ -271,6 +407,58 @@ fn one_more(work: u64) -> u64
     ensures { result ≡ raised work }
 {
     if work < u64::MAX { work + 1 } else { work }
+}
+
+// The work after `count` words more.
+#[inline(always)]
+fn more(work: u64, count: u64) -> u64
+    ensures { result ≡ raised_by count work }
+{
+    work.saturating_add(count)
+}
+
+// Reads the values of levels out of the store, two words each from this index on.
+#[inline(always)]
+fn read_pairs(words: &[u64], start: usize, levels: &[u32], values: &mut [(u64, u64)])
+    requires inside { start + 2 * length levels.now ≤ length words.now }
+    requires known { All (λ level. level < length values.old) levels.now }
+    requires rising { AreRising 0 levels.now }
+    ensures words { frame_words values.new levels.now ≡ take (2 * length levels.now) (drop start words.now) }
+    ensures others { (level : ℕ) → list_any (eqb level) levels.now ≡ false → pair_at values.new level ≡ pair_at values.old level }
+    ensures len { length values.new ≡ length values.old }
+{
+    let mut place = start;
+    for level in levels {
+        values[*level as usize] = (words[place], words[place + 1]);
+        place += 2;
+    }
+}
+
+// Writes the values of levels into the store, two words each from this index on.
+#[inline(always)]
+fn write_pairs(words: &mut [u64], start: usize, levels: &[u32], values: &[(u64, u64)])
+    requires inside { start + 2 * length levels.now ≤ length words.old }
+    requires known { All (λ level. level < length values.now) levels.now }
+    ensures words { words.new ≡ overlaid start (frame_words values.now levels.now) words.old }
+    ensures len { length words.new ≡ length words.old }
+{
+    let mut place = start;
+    for level in levels {
+        put_pair(words, place, values[*level as usize]);
+        place += 2;
+    }
+}
+
+// Puts a word into the store at this index, and behind it the values of levels, two words each.
+#[inline(always)]
+fn put_values(words: &mut [u64], start: usize, word: u64, levels: &[u32], values: &[(u64, u64)])
+    requires inside { start + 1 + 2 * length levels.now ≤ length words.old }
+    requires known { All (λ level. level < length values.now) levels.now }
+    ensures words { words.new ≡ overlaid start (word ∷ frame_words values.now levels.now) words.old }
+    ensures len { length words.new ≡ length words.old }
+{
+    words[start] = word;
+    write_pairs(words, start + 1, levels, values);
 }
 
 // Puts two words into the store, at this index and the next.

@@ -449,7 +449,8 @@ fn work_after(alloc: Global, text: &[u8], fuel: u64) -> Result<Option<u64>, Allo
     }
 }
 
-// A step may touch 64 times as many words as its instruction and its partner's are large: 2, 4, 4, 3, 5 and 4, 1, and 4. The
+// A run that is one step longer touches at most 64 times as many words more as the last step's instruction and its partner's
+// are large: 2, 4, 4, 3, 5 and 4, 1, and 4. What the shorter run touches as it sets down who has the turn is subtracted. The
 // size of an instruction is 1, the levels in its frame and in those of its parts, and the nodes of its operands and patterns.
 #[test]
 fn steps_work_within_their_costs(rt: HostRuntime) -> Result<(), AllocError> {

@@ -1,9 +1,11 @@
 -- Frames that are read out of blocks.
-use Rattle.std.proofs.Common.{ℕ, zero, suc, ◌+◌, ◌*◌, ◌≡◌, ◌||◌, eqb, Bool, true, false, List, [], ◌∷◌, length, map, drop, get_or, Vec, Global, refl, sym, ap, ◌∙◌, subst, arith}
+use Rattle.std.proofs.Common.{ℕ, zero, suc, ◌+◌, ◌*◌, ◌≤◌, ◌≡◌, ◌||◌, eqb, Bool, true, false, List, [], ◌∷◌, length, map, drop, get_or, Vec, Global, refl, sym, ap, ◌∙◌, subst, arith}
 use Rattle.std.proofs.lemmas.Bool.Decides.{nat_tests}
 use Rattle.std.specs.List.{list_any}
 use Rattle.pict_code.specs.Levels.{Rises}
+use Rattle.pict_region.specs.RegionState.{RegionState, words_of}
 use Rattle.pict_queue.specs.QueuesState.{QueuesState}
+use Rattle.pict_queue.specs.Contents.{held_words}
 use Rattle.pict_frames.specs.Framed.{frame_words, pair_at, AreRising}
 use Rattle.pict_frames.specs.Writing.{OnlyWorks}
 use Rattle.pict_heap.specs.HeapState.{HeapState}
@@ -22,9 +24,9 @@ held_length h (suc n) [] o = absurd o
 held_length h (suc n) (x ∷ []) o = absurd o
 held_length h (suc n) (x ∷ y ∷ ws) o = let e = held_length h n ws o.1 in omega (arith, e)
 
-pub whole_length : (ws : List ℕ) (number : ℕ) (held : List ℕ) → drop 1 ws ≡ suc number ∷ held → length ws ≡ 2 + length held
-whole_length [] number held e = cc
-whole_length (x ∷ xs) number held e = let l : length xs ≡ suc (length held) = ap length e in omega (arith, l)
+pub whole_length : (ws : List ℕ) (x : ℕ) (held : List ℕ) → drop 1 ws ≡ x ∷ held → length ws ≡ 2 + length held
+whole_length [] x held e = cc
+whole_length (y ∷ xs) x held e = let l : length xs ≡ suc (length held) = ap length e in omega (arith, l)
 
 pub behind_number : (ws : List ℕ) (number : ℕ) (held : List ℕ) → drop 1 ws ≡ suc number ∷ held → drop 2 ws ≡ held
 behind_number [] number held e = cc
@@ -41,6 +43,17 @@ pair_behind (x ∷ y ∷ z ∷ w ∷ ws) number a b e = (cc, cc)
 pub as_rising : (low : ℕ) (ls : List ℕ) → Rises low ls → AreRising low ls
 as_rising low [] r = tt
 as_rising low (l ∷ ls) r = (r.0, as_rising (l + 1) ls r.1)
+
+-- the first block of a queue that holds words
+pub record FirstBlock (r : RegionState) (blocks words : List ℕ) : Type 0 where
+  pub block : ℕ
+  pub rest : List ℕ
+  pub is : blocks ≡ block ∷ rest
+  pub holds : drop 1 (words_of r block) ≡ words
+
+pub first_block : (r : RegionState) (blocks words : List ℕ) → get_or (map (held_words r) blocks) 0 [] ≡ words → 1 ≤ length words → FirstBlock r blocks words
+first_block r [] words e some = let none : length words ≡ 0 = sym (ap length e) in absurd (omega (arith, none, some))
+first_block r (block ∷ rest) words e some = record { block = block; rest = rest; is = refl; holds = e }
 
 -- ---- levels that are read have words of the heap
 
@@ -62,24 +75,20 @@ pairs_read h before values frame o others pairs level = by_case (list_any (eqb l
     by_case true e = pair_read h values level frame o e
     by_case false e = subst (IsPair h) (sym (others level e)) (pairs level)
 
--- two words are read
-pub worked_twice : (a b c : QueuesState) (m n : ℕ) → b ≡ record a { region = record a.region { work = m } } → c ≡ record b { region = record b.region { work = n } } → OnlyWorks a c
-worked_twice a b c m n e f =
-    let last : c.region.work ≡ n = ap (λ (s : QueuesState). s.region.work) f in
-    f ∙ ap (λ (s : QueuesState). record s { region = record s.region { work = n } }) e
-    ∙ ap (λ (k : ℕ). record a { region = record a.region { work = k } }) (sym last)
-
 -- The values of levels were written by a frame's.
 pub has_read : (s : Store) (queues : QueuesState) (vec : Vec (ℕ × ℕ) Global) (words frame : List ℕ) (values : List (ℕ × ℕ)) → vec.items ≡ values → OnlyWorks s.queues queues
     → length values ≡ length s.values.items → ArePairs s.heap values → frame_values (value_in s.heap) (length frame) (drop 1 words) ≡ map (known s.heap values) frame
-    → HasRead s (record { heap = s.heap; queues = queues; values = vec; pending = s.pending }) words frame
-has_read s queues vec words frame values is works same pairs read = record {
+    → (length frame ≤ 32000 → drop 1 words ≡ frame_words values frame)
+    → HasRead s (record { heap = s.heap; queues = queues; values = vec; pending = s.pending; turn = s.turn }) words frame
+has_read s queues vec words frame values is works levels pairs read same = record {
   values = read ∙ ap (λ (vs : List (ℕ × ℕ)). map (known s.heap vs) frame) (sym is);
+  same = λ few. same few ∙ ap (λ (vs : List (ℕ × ℕ)). frame_words vs frame) (sym is);
   rest = record {
     queues = works;
     heap = refl;
     pending = refl;
-    levels = ap length is ∙ same;
+    turn = refl;
+    levels = ap length is ∙ levels;
     pairs = subst (ArePairs s.heap) (sym is) pairs;
   };
 }

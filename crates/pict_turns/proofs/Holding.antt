@@ -1,5 +1,5 @@
 -- Blocks hold frames: by their own words, or by those of one record.
-use Rattle.std.proofs.Common.{ℕ, ◌+◌, ◌*◌, ◌<◌, ◌≤◌, ◌≡◌, ◌^◌, true, false, cond, nat_lt, List, [], ◌∷◌, length, map, refl, ap, ◌∙◌, arith}
+use Rattle.std.proofs.Common.{ℕ, suc, ◌+◌, ◌*◌, ◌<◌, ◌≤◌, ◌≡◌, ◌^◌, Bool, true, false, cond, nat_lt, List, [], ◌∷◌, length, map, refl, ap, ◌∙◌, arith}
 use Rattle.std.proofs.lemmas.Bool.Decides.{nat_tests}
 use Rattle.std.proofs.lemmas.List.{length-map}
 use Rattle.pict_core.specs.Term.{Val}
@@ -10,10 +10,11 @@ use Rattle.pict_blocks.specs.Blocks.{value_in, values_of, fields_of, known}
 use Rattle.pict_blocks.proofs.Standing.{frame_back}
 use Rattle.pict_operands.specs.Needs.{no_need, record_need}
 use Rattle.pict_operands.specs.Pairs.{IsPair, ArePairs}
-use Rattle.pict_turns.specs.Holding.{HoldWords, HoldsFrame}
+use Rattle.pict_turns.specs.Holding.{HoldWords, HoldRecord, HoldsFrame}
 use Rattle.pict_turns.specs.Parts.{block_width, frame_need}
+use Rattle.pict_turns.proofs.Held.{held_length}
 
-words_held : (h : HeapState) (values : List (ℕ × ℕ)) (frame : List ℕ) → ArePairs h values → HoldWords h (length frame) (frame_words values frame)
+pub words_held : (h : HeapState) (values : List (ℕ × ℕ)) (frame : List ℕ) → ArePairs h values → HoldWords h (length frame) (frame_words values frame)
 words_held h values [] pairs = tt
 words_held h values (l ∷ ls) pairs = (pairs l, words_held h values ls pairs)
 
@@ -39,6 +40,23 @@ width_narrow frame few = let test : nat_lt 32000 (length frame) ≡ false = grin
 
 pub width_wide : (frame : List ℕ) → 32000 < length frame → block_width frame ≡ 4
 width_wide frame many = let test : nat_lt 32000 (length frame) ≡ true = grind (arith, nat_tests) in ap (λ b. cond b 4 (2 + 2 * length frame)) test
+
+-- how wide a block is that holds a frame
+pub held_width : (h : HeapState) (number : ℕ) (frame held : List ℕ) → (length frame ≤ 32000 → HoldWords h (length frame) held) → (32000 < length frame → HoldRecord h (length frame) held)
+    → length (suc number ∷ held) + 1 ≡ block_width frame
+held_width h number frame held narrow wide = by_case (nat_lt 32000 (length frame)) refl
+  where
+    by_case : (b : Bool) → nat_lt 32000 (length frame) ≡ b → length (suc number ∷ held) + 1 ≡ block_width frame
+    by_case true e =
+        let many : 32000 < length frame = grind (arith, nat_tests) in
+        let two : length held ≡ 2 = ap length (wide many).is in
+        let w = width_wide frame many in
+        omega (arith, two, w)
+    by_case false e =
+        let few : length frame ≤ 32000 = grind (arith, nat_tests) in
+        let l = held_length h (length frame) held (narrow few) in
+        let w = width_narrow frame few in
+        omega (arith, l, w)
 
 pub need_narrow : (frame : List ℕ) → length frame ≤ 32000 → frame_need frame ≡ no_need
 need_narrow frame few = let test : nat_lt 32000 (length frame) ≡ false = grind (arith, nat_tests) in ap (λ b. cond b (record_need (length frame)) no_need) test

@@ -1,12 +1,13 @@
 pub mod Views
+pub mod Turns
 pub mod Holding
 pub mod Placing
 pub mod Rows
+pub mod Handing
 pub mod Room
 pub mod Numbered
 pub mod Held
 pub mod Steps
-pub mod Words
 pub mod AfterReading
-pub mod Costing
+pub mod Taking
 pub mod Making

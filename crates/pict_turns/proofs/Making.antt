@@ -13,6 +13,10 @@ use Rattle.pict_turns.specs.Widths.{MakesOnly, part_width}
 pub makes_nothing : (old new : QueuesState) (needed : List ℕ) → KeepsBlocks old.region new.region → MakesOnly old new needed
 makes_nothing old new needed keeps width = let e = keeps width in omega (arith, e)
 
+-- a block more may be needed
+pub makes_beside : (old new : QueuesState) (width : ℕ) (needed : List ℕ) → MakesOnly old new needed → MakesOnly old new (width ∷ needed)
+makes_beside old new width needed makes w = let m = makes w in omega (arith, m)
+
 module _ (old mid new : QueuesState) (needed : List ℕ) where
   -- blocks are only moved, taken and given afterwards
   pub makes_before : MakesOnly old mid needed → KeepsBlocks mid.region new.region → MakesOnly old new needed

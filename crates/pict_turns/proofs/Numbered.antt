@@ -19,9 +19,9 @@ use Rattle.pict_code.proofs.Closings.{part_under}
 use Rattle.pict_code.proofs.Levels.{frame_rises}
 use Rattle.pict_code.proofs.Numbering.{PlacedAt, par_placed, if_placed, new_placed}
 use Rattle.pict_code.proofs.Rebuilding.{node_at}
-use Rattle.pict_queue.specs.Contents.{held_words, contents}
+use Rattle.pict_queue.specs.Contents.{contents}
 use Rattle.pict_view.specs.Moved.{Moved, Misshapen, choose}
-use Rattle.pict_view.specs.ViewStep.{act}
+use Rattle.pict_view.specs.ViewStep.{next_view, act}
 use Rattle.pict_blocks.specs.Blocks.{value_in, known, operand_value, process_of}
 use Rattle.pict_blocks.proofs.Nodes.{part_of, is_par, is_new, is_if}
 use Rattle.pict_blocks.proofs.Operands.{same_operand}
@@ -30,8 +30,9 @@ use Rattle.pict_blocks.proofs.Standing.{StandsAs, stands_as, op_is}
 use Rattle.pict_turns.specs.Acting.{core_in, IsCode, IsStore, ActsBy, IsRight}
 use Rattle.pict_turns.specs.Parts.{block_width}
 use Rattle.pict_turns.specs.Reading.{HasFrame}
-use Rattle.pict_turns.specs.Views.{channel_lists}
+use Rattle.pict_turns.specs.Views.{channel_lists, acting_words}
 use Rattle.pict_turns.specs.declared.store.Store.{Store}
+use Rattle.pict_turns.proofs.Turns.{view_is}
 
 -- ---- frames
 
@@ -77,6 +78,10 @@ module _ (code : List written.Node) (is : IsCode (map plain_node code)) where
       let e : length (nodes_of (core_in code)) ≡ length code = ap length is.nodes_are ∙ length-map code plain_node in
       omega (arith, low, e)
 
+-- the nodes of the code are those of its process
+pub coded_frame : (code : List written.Node) → IsCode (map plain_node code) → (number : ℕ) (frame : List ℕ) → HasFrame (map plain_node code) number frame → HasFrame (nodes_of (core_in code)) number frame
+coded_frame code is number frame f = subst (λ ns. HasFrame ns number frame) (sym is.nodes_are) f
+
 -- a node has one frame
 pub same_frame : (nodes : List Node) (number : ℕ) (xs ys : List ℕ) → HasFrame nodes number xs → HasFrame nodes number ys → xs ≡ ys
 same_frame nodes number xs ys f g =
@@ -118,11 +123,11 @@ boolean_of (term.Text bs) x y right = absurd (right refl)
 boolean_of (term.PrimitiveVal f) x y right = absurd (right refl)
 boolean_of (term.Record vs ls) x y right = absurd (right refl)
 
-module _ (core : Process) (s : Store) (block : ℕ) where
-  pub standing : (o : Op) → (a : ActsBy core s block o) → StandsAs core s.heap s.values.items a.number a.node (held_words s.queues.region block)
-  standing o a = stands_as core s.heap s.values.items a.number a.node (held_words s.queues.region block) a.is
+module _ (core : Process) (s : Store) where
+  pub standing : (o : Op) → (a : ActsBy core s o) → StandsAs core s.heap s.values.items a.number a.node (acting_words core s)
+  standing o a = stands_as core s.heap s.values.items a.number a.node (acting_words core s) a.is
 
-  pub fork_parts : (l r : ℕ) → ActsBy core s block (op.Par l r) → (l < length (nodes_of core)) × (r < length (nodes_of core))
+  pub fork_parts : (l r : ℕ) → ActsBy core s (op.Par l r) → (l < length (nodes_of core)) × (r < length (nodes_of core))
   fork_parts l r a =
       let st = standing (op.Par l r) a in
       let n = st.part.around in
@@ -130,7 +135,7 @@ module _ (core : Process) (s : Store) (block : ℕ) where
       let placed = par_placed core a.number n form.p form.q (subst (λ x. PlacedAt core a.number n x) form.is st.at.placed) in
       (inside core l (a.number + 1) n form.p form.left_is placed.0, inside core r (a.number + 1 + size form.p) n form.q form.right_is placed.1)
 
-  pub if_parts : (test : Val) (l r : ℕ) → ActsBy core s block (op.If test l r) → (l < length (nodes_of core)) × (r < length (nodes_of core))
+  pub if_parts : (test : Val) (l r : ℕ) → ActsBy core s (op.If test l r) → (l < length (nodes_of core)) × (r < length (nodes_of core))
   if_parts test l r a =
       let st = standing (op.If test l r) a in
       let n = st.part.around in
@@ -139,7 +144,7 @@ module _ (core : Process) (s : Store) (block : ℕ) where
       (inside core l (a.number + 1) n form.p form.first_is placed.0, inside core r (a.number + 1 + size form.p) n form.q form.second_is placed.1)
 
   -- the part of a new channel, and a place for the channel
-  pub new_part : (level part : ℕ) → ActsBy core s block (op.New level part) → (part < length (nodes_of core)) × (level < length s.values.items)
+  pub new_part : (level part : ℕ) → ActsBy core s (op.New level part) → (part < length (nodes_of core)) × (level < length s.values.items)
   new_part level part a =
       let st = standing (op.New level part) a in
       let n = st.part.around in
@@ -148,7 +153,7 @@ module _ (core : Process) (s : Store) (block : ℕ) where
       let low = place_low (length s.values.items) (places 0 core) (a.number + 1) (place (n + 1) form.p) a.acting.store.levels (placed_at core (a.number + 1) (n + 1) form.p placed) in
       (inside core part (a.number + 1) (n + 1) form.p form.part_is placed, let e = form.level_is in omega (arith, e, low))
 
-  module _ (test : Val) (l r : ℕ) (closed : IsClosed core) (a : ActsBy core s block (op.If test l r)) where
+  module _ (test : Val) (l r : ℕ) (closed : IsClosed core) (a : ActsBy core s (op.If test l r)) where
     -- the variables of a test are levels that have a place
     pub test_over : IsOver (length s.values.items) 0 test
     test_over =
@@ -159,15 +164,15 @@ module _ (core : Process) (s : Store) (block : ℕ) where
         let low = place_low (length s.values.items) (places 0 core) a.number st.part a.acting.store.levels st.at.at in
         over_more n (length s.values.items) 0 0 low (omega arith) test under.0
 
-    pub test_boolean : IsRight core s block → (b : Bool) × (operand_value (known s.heap s.values.items) test ≡ Boolean b)
+    pub test_boolean : IsRight core s → (b : Bool) × (operand_value (known s.heap s.values.items) test ≡ Boolean b)
     test_boolean right =
         let st = standing (op.If test l r) a in
         let n = st.part.around in
         let value = known s.heap s.values.items in
         let form = is_if a.number n test l r st.part.process (op_is core a.number a.node st.part (op.If test l r) st.at a.op_is) in
         let under : IsUnder n 0 (term.If test form.p form.q) = subst (IsUnder n 0) form.is (part_under core a.number st.part closed st.at.at) in
-        let is : process_of core (value_in s.heap) (held_words s.queues.region block) ≡ term.If (operand_value value test) (node_with n value form.p) (node_with n value form.q) =
+        let is : process_of core (value_in s.heap) (acting_words core s) ≡ term.If (operand_value value test) (node_with n value form.p) (node_with n value form.q) =
         st.is ∙ ap (node_with n value) form.is ∙ if_stands n value test form.p form.q
         ∙ ap (λ v. term.If v (node_with n value form.p) (node_with n value form.q)) (same_operand n value test under.0) in
         let go = act (map (process_of core (value_in s.heap)) (contents s.queues 0)) (map (map (process_of core (value_in s.heap))) (channel_lists s.queues)) in
-        boolean_of (operand_value value test) _ _ (λ wrong. right (ap go is ∙ wrong))
+        boolean_of (operand_value value test) _ _ (λ wrong. right (ap next_view (view_is core s (acting_words core s) a.acting.has) ∙ ap go is ∙ wrong))

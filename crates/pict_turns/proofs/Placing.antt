@@ -1,11 +1,9 @@
 -- Blocks that are freed, made and pushed.
-use Rattle.std.proofs.Common.{◌≡◌, ◌≢◌, ◌==◌, ℕ, ◌+◌, ◌≤◌, Bool, true, false, cond, List, sym, ◌∙◌, subst, arith, ⊎_elim}
+use Rattle.std.proofs.Common.{◌≡◌, ◌≢◌, ◌==◌, ℕ, ◌+◌, ◌≤◌, Bool, true, false, cond, sym, subst, arith, ⊎_elim}
 use Rattle.std.proofs.lemmas.Bool.{cases_eq}
 use Rattle.std.proofs.lemmas.Bool.Decides.{nat_tests}
 use Rattle.pict_region.specs.RegionState.{RegionState, spare, KeepsOtherWidths}
 use Rattle.pict_queue.specs.QueuesState.{QueuesState, CostsAtMost}
-use Rattle.pict_queue.specs.Contents.{KeepsOtherHeld}
-use Rattle.pict_frames.specs.Writing.{IsMade}
 
 -- a block that is given back leaves no width fewer free blocks
 pub given_spare : (old new : RegionState) (width : ℕ) → spare new width ≡ spare old width + 1 → KeepsOtherWidths old new width → (w : ℕ) → spare old w ≤ spare new w
@@ -22,14 +20,6 @@ taken_spare mid new width less others w true e =
 taken_spare mid new width less others w false e =
     let apart : w ≢ width = grind (arith, nat_tests) in
     omega (arith, others w apart)
-
--- the other held blocks stay, where one ends, and one is made and pushed
-pub others_stay : (old given made new : QueuesState) (block part width : ℕ) (ws : List ℕ) → KeepsOtherHeld old given block → IsMade given made part ws width → KeepsOtherHeld made new part → KeepsOtherHeld old new block
-others_stay old given made new block part width ws first m last other apart held =
-    let a = first other apart held in
-    let b = m.kept other a.held in
-    let c = last other (m.apart other a.held) b.held in
-    record { held = c.held; words = c.words ∙ b.words ∙ a.words }
 
 pub costs_up : (a b : QueuesState) (m n : ℕ) → m ≤ n → CostsAtMost m a b → CostsAtMost n a b
 costs_up a b m n h c = record { least = c.least; most = omega (arith, h, c.most) }

@@ -1,13 +1,14 @@
 -- Room that is made, and what stays meanwhile.
-use Rattle.std.proofs.Common.{ℕ, ◌+◌, ◌-◌, ◌≤◌, ◌≡◌, ◌==◌, Bool, true, false, cond, List, ◌∷◌, length, refl, sym, ap, ◌∙◌, subst, arith}
+use Rattle.std.proofs.Common.{ℕ, ◌+◌, ◌-◌, ◌≤◌, ◌≡◌, ◌==◌, Bool, true, false, cond, List, [], ◌++◌, length, get_or, refl, sym, ap, ◌∙◌, subst, arith}
 use Rattle.std.specs.List.{AllByRecursion}
 use Rattle.pict_core.specs.Term.{Val, Process}
 use Rattle.pict_core.specs.Step.{Label}
 use Rattle.pict_code.specs.Instruction.{Op}
 use Rattle.pict_code.specs.Nodes.{Place, places}
 use Rattle.pict_heap.specs.HeapState.{HeapState, RecordState, KeepsWords, IsWordOf, word_value, values_of}
-use Rattle.pict_queue.specs.Contents.{held_words, contents}
 use Rattle.pict_region.specs.RegionState.{spare}
+use Rattle.pict_queue.specs.QueuesState.{QueuesState}
+use Rattle.pict_queue.specs.Contents.{contents}
 use Rattle.pict_prim.specs.Acts.{UsesNeed}
 use Rattle.pict_prim.specs.declared.act.Need.{Need}
 use Rattle.pict_view.specs.ViewStep.{next_view}
@@ -17,13 +18,14 @@ use Rattle.pict_operands.specs.declared.pending.Pending.{Pending}
 use Rattle.pict_operands.specs.Needs.{both_needs, HasRoomFor, KeepsPending}
 use Rattle.pict_operands.specs.Pairs.{ArePairs}
 use Rattle.pict_operands.proofs.Making.{pairs_keep}
-use Rattle.pict_turns.specs.Acting.{KeepsHeap, IsStore, HasActing, ActsBy, IsDone, IsRefused, view_with}
-use Rattle.pict_turns.specs.Parts.{CanHold, block_width, frame_need, Places}
+use Rattle.pict_turns.specs.Acting.{KeepsHeap, HasBlockFor, IsStore, HasActing, ActsBy, IsDone, IsRefused}
+use Rattle.pict_turns.specs.Parts.{CanHold, block_width, frame_need, HandsOn}
 use Rattle.pict_turns.specs.Reserving.{CanHoldAnd, CanHoldBoth, KeepsPiles, OnlyReserves}
-use Rattle.pict_turns.specs.Views.{IsBlock, CanWait, lists_from, channel_lists}
+use Rattle.pict_turns.specs.Views.{IsBlock, CanWait, lists_from, channel_lists, turn_words, ready_words, acting_words, view_with_turn}
 use Rattle.pict_turns.specs.declared.store.Store.{Store}
-use Rattle.pict_turns.proofs.Views.{block_stays, blocks_stay, lists_stay}
-use Rattle.pict_turns.proofs.Rows.{node_block_stays}
+use Rattle.pict_turns.proofs.Turns.{same_words, has_words, room_more, acting_block}
+use Rattle.pict_turns.proofs.Views.{blocks_stay, lists_stay}
+use Rattle.pict_turns.proofs.Rows.{node_block_stays, turn_by}
 
 -- ---- room for several
 
@@ -67,21 +69,22 @@ room_swapped h p a b r = record {
   countable = let e = r.countable in omega (arith, e);
 }
 
-pub can_hold : (s : Store) (frame : List ℕ) (further : Need) → CanHoldAnd s frame further → CanHold s frame
-can_hold s frame further c = record { block = c.block; room = has_room s.heap s.pending (frame_need frame) further c.room }
-
 pub can_first : (s : Store) (first second : List ℕ) → CanHoldBoth s first second → CanHold s first
 can_first s first second c = record { block = c.one; room = has_room s.heap s.pending (frame_need first) (frame_need second) c.room }
 
-one_left : (a b : ℕ) (t : Bool) → cond t 2 1 ≤ a → a ≤ b + cond t 1 0 → 1 ≤ b
-one_left a b true h g = omega (arith, h, g)
-one_left a b false h g = omega (arith, h, g)
+one_of : (a : ℕ) (t : Bool) → cond t 2 1 ≤ a → 1 ≤ a
+one_of a true h = omega (arith, h)
+one_of a false h = h
 
--- once the first is made, there is room for the second
-pub can_second : (old new : Store) (number : ℕ) (first second : List ℕ) (ready : List ℕ → List (List ℕ)) → CanHoldBoth old first second → Places old new number first ready → CanHold new second
-can_second old new number first second ready c p = record {
-  block = one_left (spare old.queues.region (block_width second)) (spare new.queues.region (block_width second)) (block_width second == block_width first) c.other (p.spare (block_width second));
-  room = room_left old.heap new.heap old.pending new.pending (frame_need first) (frame_need second) c.room p.used p.pending;
+pub can_hold : (s : Store) (frame : List ℕ) (further : Need) → CanHoldAnd s frame further → CanHold s frame
+can_hold s frame further c = record { block = c.block; room = has_room s.heap s.pending (frame_need frame) further c.room }
+
+-- where there are blocks for both frames, and the first has the turn, there is one for the second
+pub can_second : (core : Process) (old new : Store) (number : ℕ) (first second : List ℕ) → CanHoldBoth old first second → HandsOn core old new number first → CanHold new second
+can_second core old new number first second c one = record {
+  block = subst (λ (q : QueuesState). 1 ≤ spare q.region (block_width second)) (sym one.queues)
+      (one_of (spare old.queues.region (block_width second)) (block_width second == block_width first) c.other);
+  room = room_left old.heap new.heap old.pending new.pending (frame_need first) (frame_need second) c.room one.used one.pending;
 }
 
 -- ---- a heap whose room alone has changed
@@ -129,6 +132,7 @@ reserves_nothing s = record {
   held = λ block held. record { held = held; words = refl };
   no_more = λ block held. held;
   values = refl;
+  turn = refl;
 }
 
 pub reserves_more : (a b c : Store) → OnlyReserves a b → OnlyReserves b c → OnlyReserves a c
@@ -153,6 +157,7 @@ reserves_more a b c v w = record {
       record { held = y.held; words = y.words ∙ x.words };
   no_more = λ block held. v.no_more block (w.no_more block held);
   values = w.values ∙ v.values;
+  turn = w.turn ∙ v.turn;
 }
 
 module _ (core : Process) (old new : Store) (r : OnlyReserves old new) where
@@ -166,6 +171,10 @@ module _ (core : Process) (old new : Store) (r : OnlyReserves old new) where
       ap levels (value_kept old.heap new.heap r.heap)
       ∙ ap (known old.heap) r.values
 
+  -- who has the turn has it still, with the same words
+  pub words_still : turn_words core new ≡ turn_words core old
+  words_still = same_words core old new r.turn r.values
+
   pub store_still : IsStore core old → IsStore core new
   store_still s = record {
     ready = let e = ap length r.queues in let low = s.ready in omega (arith, e, low);
@@ -173,59 +182,74 @@ module _ (core : Process) (old new : Store) (r : OnlyReserves old new) where
     waiting = λ channel. subst (AllByRecursion (CanWait core)) (sym (r.contents (channel + 1))) (s.waiting channel);
     pairs = subst (ArePairs new.heap) (sym r.values) (pairs_keep old.heap new.heap words_kept old.values.items s.pairs);
     levels = subst (λ (vs : List (ℕ × ℕ)). AllByRecursion (λ (p : Place). p.around ≤ length vs) (places 0 core)) (sym r.values) s.levels;
+    turn = turn_by core old new words_kept s.pairs r.values r.turn s.turn;
+    room = subst (AllByRecursion (HasBlockFor new.queues.region)) (sym words_still) (room_more old.queues.region new.queues.region r.spare (turn_words core old) s.room);
   }
 
-  module _ (block : ℕ) where
-    pub acting_still : HasActing core old block → HasActing core new block
-    acting_still a = record {
-      store = store_still a.store;
-      held = (r.held block a.held).held;
-      is = subst (IsBlock core new.heap) (sym (r.held block a.held).words) (block_stays old.heap new.heap words_kept core (held_words old.queues.region block) a.is);
+  -- a step that isn't done, and for which room alone was made
+  pub refused_still : IsStore core old → IsRefused core old new
+  refused_still s = record {
+    turn = r.turn;
+    values = r.values;
+    contents = r.contents;
+    queues = ap length r.queues;
+    heap = r.heap;
+    store = store_still s;
+    no_more = r.no_more;
+  }
+
+  pub acting_words_still : acting_words core new ≡ acting_words core old
+  acting_words_still = ap (λ (ws : List (List ℕ)). get_or ws 0 []) words_still
+
+  pub acting_still : HasActing core old → HasActing core new
+  acting_still a = record {
+    store = store_still a.store;
+    has = has_words core new (acting_words core old) (words_still ∙ a.has);
+  }
+
+  pub acts_still : (op : Op) → ActsBy core old op → ActsBy core new op
+  acts_still op a = record {
+    acting = acting_still a.acting;
+    number = a.number;
+    node = a.node;
+    is = subst (λ (ws : List ℕ). IsNodeBlock core new.heap new.values.items a.number a.node ws) (sym acting_words_still)
+        (subst (λ (vs : List (ℕ × ℕ)). IsNodeBlock core new.heap vs a.number a.node (acting_words core old)) (sym r.values)
+        (node_block_stays core old.heap new.heap words_kept old.values.items a.acting.store.pairs a.number a.node (acting_words core old) (acting_block core old a.acting) a.is));
+    op_is = a.op_is;
+  }
+
+  channels_still : channel_lists new.queues ≡ channel_lists old.queues
+  channels_still =
+      ap (λ (n : ℕ). lists_from new.queues 1 (n - 1)) (ap length r.queues)
+      ∙ lists_stay old.queues new.queues 1 (length old.queues.queues - 1) (λ queue low. r.contents queue)
+
+  -- what the store stands for stays
+  pub view_still : view_with_turn core new ≡ view_with_turn core old
+  view_still =
+      ap (λ (value : ℕ → ℕ → Val). view_of_contents core value (ready_words core new) (channel_lists new.queues)) (value_kept old.heap new.heap r.heap)
+      ∙ ap (λ (ws : List (List ℕ)). view_of_contents core (value_in old.heap) (ws ++ contents new.queues 0) (channel_lists new.queues)) words_still
+      ∙ ap (λ (rs : List (List ℕ)). view_of_contents core (value_in old.heap) (turn_words core old ++ rs) (channel_lists new.queues)) (r.contents 0)
+      ∙ ap (view_of_contents core (value_in old.heap) (ready_words core old)) channels_still
+
+  module _ (last : Store) where
+    -- a step that is done once room is made is a step
+    pub done_after : (label : Label) → IsDone core new last label → IsDone core old last label
+    done_after label d = record {
+      moves = sym (ap next_view view_still) ∙ d.moves;
+      store = d.store;
+      keeps = record { words = λ w is. d.keeps.words w (words_kept.words w is); values = λ w is. d.keeps.values w (words_kept.words w is) ∙ words_kept.values w is };
+      levels = d.levels ∙ ap length r.values;
+      queues = let e = ap length r.queues in let most = d.queues in omega (arith, e, most);
+      no_more = λ block held. r.no_more block (d.no_more block held);
     }
 
-    pub acts_still : (op : Op) → ActsBy core old block op → ActsBy core new block op
-    acts_still op a = record {
-      acting = acting_still a.acting;
-      number = a.number;
-      node = a.node;
-      is = subst (λ (ws : List ℕ). IsNodeBlock core new.heap new.values.items a.number a.node ws) (sym (r.held block a.acting.held).words)
-          (subst (λ (vs : List (ℕ × ℕ)). IsNodeBlock core new.heap vs a.number a.node (held_words old.queues.region block)) (sym r.values)
-          (node_block_stays core old.heap new.heap words_kept old.values.items a.acting.store.pairs a.number a.node (held_words old.queues.region block) a.acting.is a.is));
-      op_is = a.op_is;
+    pub refused_after : IsRefused core new last → IsRefused core old last
+    refused_after d = record {
+      turn = d.turn ∙ r.turn;
+      values = d.values ∙ r.values;
+      contents = λ queue. d.contents queue ∙ r.contents queue;
+      queues = d.queues ∙ ap length r.queues;
+      heap = record { texts = d.heap.texts ∙ r.heap.texts; records = d.heap.records ∙ r.heap.records };
+      store = d.store;
+      no_more = λ block held. r.no_more block (d.no_more block held);
     }
-
-    channels_still : channel_lists new.queues ≡ channel_lists old.queues
-    channels_still =
-        ap (λ (n : ℕ). lists_from new.queues 1 (n - 1)) (ap length r.queues)
-        ∙ lists_stay old.queues new.queues 1 (length old.queues.queues - 1) (λ queue low. r.contents queue)
-
-    -- what the store stands for while the block acts stays
-    pub view_still : HasActing core old block → view_with core new block ≡ view_with core old block
-    view_still a =
-        ap (λ (value : ℕ → ℕ → Val). view_of_contents core value (held_words new.queues.region block ∷ contents new.queues 0) (channel_lists new.queues)) (value_kept old.heap new.heap r.heap)
-        ∙ ap (λ (ws : List ℕ). view_of_contents core (value_in old.heap) (ws ∷ contents new.queues 0) (channel_lists new.queues)) (r.held block a.held).words
-        ∙ ap (λ (rs : List (List ℕ)). view_of_contents core (value_in old.heap) (held_words old.queues.region block ∷ rs) (channel_lists new.queues)) (r.contents 0)
-        ∙ ap (view_of_contents core (value_in old.heap) (held_words old.queues.region block ∷ contents old.queues 0)) channels_still
-
-    module _ (last : Store) (a : HasActing core old block) where
-      -- a step that is done once room is made is a step
-      pub done_after : (label : Label) → IsDone core new last block label → IsDone core old last block label
-      done_after label d = record {
-        moves = sym (ap next_view (view_still a)) ∙ d.moves;
-        store = d.store;
-        keeps = record { words = λ w is. d.keeps.words w (words_kept.words w is); values = λ w is. d.keeps.values w (words_kept.words w is) ∙ words_kept.values w is };
-        levels = d.levels ∙ ap length r.values;
-        queues = let e = ap length r.queues in let most = d.queues in omega (arith, e, most);
-        released = λ other held. let x = d.released other held in (x.0, r.no_more other x.1);
-      }
-
-      pub refused_after : IsRefused core new last block → IsRefused core old last block
-      refused_after d = record {
-        ready = d.ready ∙ ap (λ (ws : List ℕ). ws ∷ contents new.queues 0) (r.held block a.held).words ∙ ap (λ (rs : List (List ℕ)). held_words old.queues.region block ∷ rs) (r.contents 0);
-        others = λ other n. d.others other n ∙ r.contents other;
-        queues = d.queues ∙ ap length r.queues;
-        heap = record { texts = d.heap.texts ∙ r.heap.texts; records = d.heap.records ∙ r.heap.records };
-        store = d.store;
-        levels = d.levels ∙ ap length r.values;
-        released = λ other held. let x = d.released other held in (x.0, r.no_more other x.1);
-      }

@@ -6,20 +6,25 @@ use Rattle.pict_core.specs.Term.{Val, Process}
 use Rattle.pict_core.specs.Step.{Label}
 use Rattle.pict_code.specs.Instruction.{Node}
 use Rattle.pict_code.specs.Nodes.{Place, places, nodes_of}
+use Rattle.pict_frames.specs.Keeping.{kept_words}
 use Rattle.pict_heap.specs.HeapState.{HeapState, KeepsWords}
 use Rattle.pict_queue.specs.QueuesState.{QueuesState, IsQueue}
-use Rattle.pict_queue.specs.Contents.{held_words, contents, KeepsOtherContents, Releases}
+use Rattle.pict_queue.specs.Contents.{contents, KeepsOtherContents, HoldsNoMore}
 use Rattle.pict_view.specs.Moved.{Moves}
 use Rattle.pict_view.specs.ViewStep.{next_view}
 use Rattle.pict_blocks.specs.Blocks.{value_in, known, view_of_contents, IsNodeBlock}
 use Rattle.pict_blocks.specs.Laws.{BlocksStep}
 use Rattle.pict_operands.specs.Pairs.{ArePairs}
-use Rattle.pict_operands.proofs.Making.{known_keeps}
-use Rattle.pict_turns.specs.Acting.{IsStore, HasActing, IsDone, view_with}
+use Rattle.pict_operands.proofs.Making.{known_keeps, all_back}
+use Rattle.pict_turns.specs.Acting.{HasBlockFor, IsStore, HasActing, IsDone}
 use Rattle.pict_turns.specs.Holding.{HoldWords, HoldRecord, HoldsFrame}
-use Rattle.pict_turns.specs.Views.{lists_from, channel_lists, view_of, IsBlock, AreBlocks, CanWait, AreWaiting}
+use Rattle.pict_turns.specs.Turns.{IsTurn}
+use Rattle.pict_turns.specs.Views.{lists_from, channel_lists, turn_words, ready_words, acting_words, view_with_turn, IsBlock, AreBlocks, CanWait, AreWaiting}
 use Rattle.pict_turns.specs.declared.store.Store.{Store}
-use Rattle.pict_turns.proofs.Views.{frame_stays, blocks_stay, view_same, lists_stay, lists_are}
+use Rattle.pict_turns.specs.declared.turn.Turn.{Turn}
+use Rattle.pict_turns.specs.declared.turn.Turn.TheVariants.{Nobody, Node as NodeTurn, Wide, Output}
+use Rattle.pict_turns.proofs.Turns.{view_is, wide_block, acting_block}
+use Rattle.pict_turns.proofs.Views.{record_stays, kept_stays, frame_stays, blocks_stay, view_same, lists_stay, lists_are}
 
 -- ---- blocks of nodes
 
@@ -61,6 +66,25 @@ module _ (core : Process) (old new : HeapState) (keeps : KeepsWords old new) (va
       }
   node_block_stays number node words (inr k) b = let e = sym k.is ∙ b.words_are in cc
 
+  -- who may have the turn may have it still
+  pub turn_stays : (turn : Turn) → IsTurn core old values turn → IsTurn core new values turn
+  turn_stays Nobody t = tt
+  turn_stays (NodeTurn number) n = n
+  turn_stays (Wide number pair) w = record {
+    node = w.node;
+    wide = w.wide;
+    is = node_block_stays number w.node (suc number ∷ pair.0 ∷ pair.1 ∷ []) (wide_block core old values number pair w) w.is;
+    record_is = record_stays old new keeps (length w.node.frame) (pair.0 ∷ pair.1 ∷ []) w.record_is;
+  }
+  turn_stays (Output kept) k = kept_stays old new keeps (kept_words kept) k
+
+-- the same where the values and the turn stay
+pub turn_by : (core : Process) (s n : Store) → KeepsWords s.heap n.heap → ArePairs s.heap s.values.items → n.values.items ≡ s.values.items → n.turn ≡ s.turn
+    → IsTurn core s.heap s.values.items s.turn → IsTurn core n.heap n.values.items n.turn
+turn_by core s n keeps pairs values turn t =
+    subst (λ (vs : List (ℕ × ℕ)). IsTurn core n.heap vs n.turn) (sym values)
+    (subst (IsTurn core n.heap s.values.items) (sym turn) (turn_stays core s.heap n.heap keeps s.values.items pairs s.turn t))
+
 -- ---- lists of queues
 
 pub length_lists : (s : QueuesState) (k n : ℕ) → length (lists_from s k n) ≡ n
@@ -75,50 +99,56 @@ channels_stay old new others same =
 
 -- ---- a step
 
-module _ (core : Process) (old new : Store) (block : ℕ) (acting : HasActing core old block) (keeps : KeepsWords old.heap new.heap) where
-  -- the queues hold blocks still where queue 0 alone changes, to blocks
-  pub blocks_by : (ready : List (List ℕ)) → contents new.queues 0 ≡ ready → AllByRecursion (IsBlock core new.heap) ready → KeepsOtherContents old.queues new.queues 0 → AreBlocks core new
+module _ (core : Process) (old new : Store) (store : IsStore core old) (keeps : KeepsWords old.heap new.heap) where
+  -- the queues hold blocks still where queue 0 and who has the turn alone change, to blocks
+  pub blocks_by : (ready : List (List ℕ)) → ready_words core new ≡ ready → AllByRecursion (IsBlock core new.heap) ready → KeepsOtherContents old.queues new.queues 0 → AreBlocks core new
   blocks_by ready e are others queue = by_case (queue == 0) refl
     where
       by_case : (b : Bool) → (queue == 0) ≡ b → AllByRecursion (IsBlock core new.heap) (contents new.queues queue)
       by_case true t =
           let same : 0 ≡ queue = grind (arith, nat_tests) in
-          subst (λ (q : ℕ). AllByRecursion (IsBlock core new.heap) (contents new.queues q)) same (subst (AllByRecursion (IsBlock core new.heap)) (sym e) are)
+          subst (λ (q : ℕ). AllByRecursion (IsBlock core new.heap) (contents new.queues q)) same
+          (all_back (IsBlock core new.heap) (turn_words core new) (contents new.queues 0) (subst (AllByRecursion (IsBlock core new.heap)) (sym e) are))
       by_case false t =
           let apart : queue ≢ 0 = grind (arith, nat_tests) in
-          subst (AllByRecursion (IsBlock core new.heap)) (sym (others queue apart)) (blocks_stay old.heap new.heap keeps core (contents old.queues queue) (acting.store.blocks queue))
+          subst (AllByRecursion (IsBlock core new.heap)) (sym (others queue apart)) (blocks_stay old.heap new.heap keeps core (contents old.queues queue) (store.blocks queue))
 
   -- the blocks that were ready
   pub ready_stay : AllByRecursion (IsBlock core new.heap) (contents old.queues 0)
-  ready_stay = blocks_stay old.heap new.heap keeps core (contents old.queues 0) (acting.store.blocks 0)
+  ready_stay = blocks_stay old.heap new.heap keeps core (contents old.queues 0) (store.blocks 0)
 
   -- what waits at channels is still what may, where queue 0 alone changes
   pub waiting_by : KeepsOtherContents old.queues new.queues 0 → AreWaiting core new.queues
   waiting_by others channel =
-      subst (AllByRecursion (CanWait core)) (sym (others (channel + 1) (λ first. omega (arith, first)))) (acting.store.waiting channel)
+      subst (AllByRecursion (CanWait core)) (sym (others (channel + 1) (λ first. omega (arith, first)))) (store.waiting channel)
 
-  pub store_by : IsQueue new.queues 0 → AreBlocks core new → AreWaiting core new.queues → ArePairs new.heap new.values.items → length new.values.items ≡ length old.values.items → IsStore core new
-  store_by ready blocks waiting pairs same = record {
+  pub store_by : IsQueue new.queues 0 → AreBlocks core new → AreWaiting core new.queues → ArePairs new.heap new.values.items → length new.values.items ≡ length old.values.items
+      → IsTurn core new.heap new.values.items new.turn → AllByRecursion (HasBlockFor new.queues.region) (turn_words core new) → IsStore core new
+  store_by ready blocks waiting pairs same turn room = record {
     ready = ready;
     blocks = blocks;
     waiting = waiting;
     pairs = pairs;
-    levels = subst (λ (n : ℕ). AllByRecursion (λ (p : Place). p.around ≤ n) (places 0 core)) (sym same) acting.store.levels;
+    levels = subst (λ (n : ℕ). AllByRecursion (λ (p : Place). p.around ≤ n) (places 0 core)) (sym same) store.levels;
+    turn = turn;
+    room = room;
   }
 
-  -- what the store stood for while the block acted, by the words of the new heap
-  pub view_kept : view_of_contents core (value_in new.heap) (held_words old.queues.region block ∷ contents old.queues 0) (channel_lists old.queues) ≡ view_with core old block
+module _ (core : Process) (old new : Store) (acting : HasActing core old) (keeps : KeepsWords old.heap new.heap) where
+  -- what the store stood for before the step, by the words of the new heap
+  pub view_kept : view_of_contents core (value_in new.heap) (acting_words core old ∷ contents old.queues 0) (channel_lists old.queues) ≡ view_with_turn core old
   view_kept =
-      view_same old.heap new.heap keeps core (held_words old.queues.region block ∷ contents old.queues 0) (channel_lists old.queues)
-      (acting.is, acting.store.blocks 0) (lists_are core old.heap old.queues 1 (length old.queues.queues - 1) acting.store.blocks)
+      view_same old.heap new.heap keeps core (acting_words core old ∷ contents old.queues 0) (channel_lists old.queues)
+      (acting_block core old acting, acting.store.blocks 0) (lists_are core old.heap old.queues 1 (length old.queues.queues - 1) acting.store.blocks)
+      ∙ sym (view_is core old (acting_words core old) acting.has)
 
-  -- where the blocks step, by the words of the new heap, to what the queues then hold, the step is done
+  -- where the blocks step, by the words of the new heap, to what is ready and parked then, the step is done
   pub done_by : (ready : List (List ℕ)) (channels : List (List (List ℕ))) (label : Label)
-      → BlocksStep core new.heap (held_words old.queues.region block ∷ contents old.queues 0) (channel_lists old.queues) label ready channels
-      → contents new.queues 0 ≡ ready → channel_lists new.queues ≡ channels → IsStore core new → length new.values.items ≡ length old.values.items
-      → length new.queues.queues ≤ length old.queues.queues + 1 → Releases old.queues new.queues block → IsDone core old new block label
-  done_by ready channels label step at lists store levels queues released =
-      let after : view_of core new ≡ view_of_contents core (value_in new.heap) ready channels =
+      → BlocksStep core new.heap (acting_words core old ∷ contents old.queues 0) (channel_lists old.queues) label ready channels
+      → ready_words core new ≡ ready → channel_lists new.queues ≡ channels → IsStore core new → length new.values.items ≡ length old.values.items
+      → length new.queues.queues ≤ length old.queues.queues + 1 → HoldsNoMore old.queues new.queues → IsDone core old new label
+  done_by ready channels label step at lists store levels queues no_more =
+      let after : view_with_turn core new ≡ view_of_contents core (value_in new.heap) ready channels =
       ap (λ (rs : List (List ℕ)). view_of_contents core (value_in new.heap) rs (channel_lists new.queues)) at
       ∙ ap (view_of_contents core (value_in new.heap) ready) lists in
       record {
@@ -127,5 +157,5 @@ module _ (core : Process) (old new : Store) (block : ℕ) (acting : HasActing co
         keeps = keeps;
         levels = levels;
         queues = queues;
-        released = released;
+        no_more = no_more;
       }

@@ -1,7 +1,7 @@
--- The steps of nodes that need no partner, from what their blocks become.
-use Rattle.std.proofs.Common.{ℕ, zero, suc, ◌+◌, ◌-◌, ◌≤◌, ◌≡◌, Bool, cond, List, [], ◌∷◌, ◌++◌, length, map, sym, ap, ◌∙◌, subst, arith, Some}
+-- The steps of nodes that need no partner, from what becomes of their parts.
+use Rattle.std.proofs.Common.{ℕ, zero, suc, ◌+◌, ◌-◌, ◌≤◌, ◌≡◌, ◌==◌, Bool, cond, List, [], ◌∷◌, ◌++◌, length, map, refl, sym, ap, ◌∙◌, subst, arith, Some}
 use Rattle.std.proofs.lemmas.List.{get_or_past}
-use Rattle.std.specs.List.{slice_get}
+use Rattle.std.specs.List.{AllByRecursion, slice_get}
 use Rattle.pict_core.specs.Term.{Val, Process, Boolean, Chan}
 use Rattle.pict_core.specs.Closed.{IsClosed}
 use Rattle.pict_core.specs.Step.{Quiet}
@@ -10,62 +10,40 @@ use Rattle.pict_code.specs.Instruction.{Node}
 use Rattle.pict_code.specs.Nodes.{nodes_of}
 use Rattle.pict_heap.specs.HeapState.{HeapState, KeepsWords}
 use Rattle.pict_region.specs.Chain.{chain}
+use Rattle.pict_region.specs.RegionState.{RegionState, spare}
 use Rattle.pict_queue.specs.QueuesState.{QueuesState, QueueState, IsQueue, link_of, no_queue}
-use Rattle.pict_queue.specs.Contents.{held_words, contents, KeepsAllContents, KeepsOtherContents, Releases}
+use Rattle.pict_queue.specs.Contents.{held_words, contents, KeepsAllContents, KeepsOtherContents, HoldsNoMore}
 use Rattle.pict_blocks.specs.Blocks.{known, operand_value}
 use Rattle.pict_blocks.proofs.Forking.{nodes_end, parts_fork, tests_choose}
 use Rattle.pict_blocks.proofs.Opening.{news_make_channels}
 use Rattle.pict_operands.specs.Pairs.{ArePairs}
 use Rattle.pict_operands.proofs.Making.{keeps_all, keeps_more, pairs_keep, known_keeps, operand_keeps}
-use Rattle.pict_turns.specs.Acting.{HasActing, ActsBy, IsDone, IsRefused}
+use Rattle.pict_turns.specs.Acting.{HasBlockFor, ActsBy, IsDone}
 use Rattle.pict_turns.specs.Channels.{AddsChannel}
 use Rattle.pict_turns.specs.Holding.{HoldsFrame}
-use Rattle.pict_turns.specs.Parts.{Places}
-use Rattle.pict_turns.specs.Views.{lists_from, channel_lists, IsBlock}
+use Rattle.pict_turns.specs.Parts.{block_width, HandsOn, Spawns}
+use Rattle.pict_turns.specs.Reading.{HasFrame}
+use Rattle.pict_turns.specs.Reserving.{CanHoldBoth}
+use Rattle.pict_turns.specs.Turns.{IsTurn, handing, turn_cost}
+use Rattle.pict_turns.specs.Views.{lists_from, channel_lists, turn_words, ready_words, acting_words, IsBlock}
 use Rattle.pict_turns.specs.declared.store.Store.{Store}
+use Rattle.pict_turns.specs.declared.turn.Turn.TheVariants.{Nobody}
 use Rattle.pict_heap.proofs.Growth.{all_pushed}
-use Rattle.pict_turns.proofs.Rows.{made_block, made_node, node_block_stays, levels_keep, length_lists, channels_stay, blocks_by, waiting_by, ready_stay, store_by, done_by}
+use Rattle.pict_turns.proofs.Handing.{handed_room, handed_cost, handed_contents, handed_queues, handed_pairs, handed_no_more, first_left}
+use Rattle.pict_turns.proofs.Holding.{held_width}
+use Rattle.pict_turns.proofs.Rows.{made_block, made_node, node_block_stays, turn_by, levels_keep, length_lists, channels_stay, blocks_by, waiting_by, ready_stay, store_by, done_by}
+use Rattle.pict_turns.proofs.Turns.{acting_block, same_words, ready_is, room_for}
 use Rattle.pict_turns.proofs.Views.{frame_held, lists_stay}
-
--- ---- a step that isn't done
-
-pub refused_by : (core : Process) (old new : Store) (block : ℕ) → HasActing core old block → contents new.queues 0 ≡ held_words old.queues.region block ∷ contents old.queues 0
-    → KeepsOtherContents old.queues new.queues 0 → length new.queues.queues ≡ length old.queues.queues → new.heap ≡ old.heap → new.values ≡ old.values
-    → Releases old.queues new.queues block → IsRefused core old new block
-refused_by core old new block a ready others queues heap values released =
-    let keeps : KeepsWords old.heap new.heap = subst (KeepsWords old.heap) (sym heap) (keeps_all old.heap) in
-    let levels : length new.values.items ≡ length old.values.items = ap (λ vs. length vs.items) values in
-    let pairs : ArePairs new.heap new.values.items = subst (λ h. ArePairs h new.values.items) (sym heap) (subst (λ vs. ArePairs old.heap vs.items) (sym values) a.store.pairs) in
-    let are : IsBlock core new.heap (held_words old.queues.region block) = subst (λ h. IsBlock core h (held_words old.queues.region block)) (sym heap) a.is in
-    record {
-      ready = ready;
-      others = others;
-      queues = queues;
-      heap = record { texts = ap (λ (h : HeapState). h.texts) heap; records = ap (λ (h : HeapState). h.records) heap };
-      store = store_by core old new block a keeps (let low = a.store.ready in omega (arith, queues, low))
-          (blocks_by core old new block a keeps (held_words old.queues.region block ∷ contents old.queues 0) ready (are, ready_stay core old new block a keeps) others) (waiting_by core old new block a keeps others) pairs levels;
-      levels = levels;
-      released = released;
-    }
 
 -- ---- the inert process
 
-pub end_done : (core : Process) (old new : Store) (block : ℕ) → ActsBy core old block op.Zero → KeepsAllContents old.queues new.queues → new.queues.queues ≡ old.queues.queues
-    → new.heap ≡ old.heap → new.values ≡ old.values → Releases old.queues new.queues block → IsDone core old new block Quiet
-end_done core old new block a all queues heap values released =
-    let same : length new.queues.queues ≡ length old.queues.queues = ap length queues in
-    let keeps : KeepsWords old.heap new.heap = subst (KeepsWords old.heap) (sym heap) (keeps_all old.heap) in
-    let levels : length new.values.items ≡ length old.values.items = ap (λ vs. length vs.items) values in
-    let pairs : ArePairs new.heap new.values.items = subst (λ h. ArePairs h new.values.items) (sym heap) (subst (λ vs. ArePairs old.heap vs.items) (sym values) a.acting.store.pairs) in
-    let others : KeepsOtherContents old.queues new.queues 0 = λ queue n. all queue in
-    done_by core old new block a.acting keeps (contents old.queues 0) (channel_lists old.queues) Quiet
-    (nodes_end core new.heap old.values.items a.number a.node (held_words old.queues.region block)
-    (node_block_stays core old.heap new.heap keeps old.values.items a.acting.store.pairs a.number a.node (held_words old.queues.region block) a.acting.is a.is)
-    a.op_is (contents old.queues 0) (channel_lists old.queues))
-    (all 0) (channels_stay old.queues new.queues others same)
-    (store_by core old new block a.acting keeps (let low = a.acting.store.ready in omega (arith, same, low))
-    (blocks_by core old new block a.acting keeps (contents old.queues 0) (all 0) (ready_stay core old new block a.acting keeps) others) (waiting_by core old new block a.acting keeps others) pairs levels)
-    levels (omega (arith, same)) released
+pub end_done : (core : Process) (old : Store) → ActsBy core old op.Zero → IsDone core old (record old { turn = Nobody }) Quiet
+end_done core old a =
+    done_by core old (record old { turn = Nobody }) a.acting (keeps_all old.heap) (contents old.queues 0) (channel_lists old.queues) Quiet
+    (nodes_end core old.heap old.values.items a.number a.node (acting_words core old) a.is a.op_is (contents old.queues 0) (channel_lists old.queues))
+    refl refl
+    (store_by core old (record old { turn = Nobody }) a.acting.store (keeps_all old.heap) a.acting.store.ready a.acting.store.blocks a.acting.store.waiting a.acting.store.pairs refl tt tt)
+    refl (omega arith) (λ block held. held)
 
 -- ---- a part's block
 
@@ -75,10 +53,10 @@ same_held h f g frame held e x = record { values = x.values ∙ e; narrow = x.na
 
 -- ---- a parallel composition
 
-module _ (core : Process) (s h n : Store) (block l r : ℕ) (first second : Node) (a : ActsBy core s block (op.Par l r))
+module _ (core : Process) (s h n : Store) (l r : ℕ) (first second : Node) (a : ActsBy core s (op.Par l r))
     (at_first : slice_get (nodes_of core) l ≡ Some first) (at_second : slice_get (nodes_of core) r ≡ Some second)
-    (one : Places s h l first.frame (λ words. words ∷ contents s.queues 0)) (other : Places h n r second.frame (λ words. contents h.queues 0 ++ words ∷ []))
-    (released : Releases s.queues n.queues block) where
+    (one : HandsOn core s h l first.frame) (other : Spawns h n r second.frame)
+    (room : 1 ≤ spare n.queues.region (block_width first.frame)) (no_more : HoldsNoMore s.queues n.queues) where
   forked_keeps : KeepsWords s.heap n.heap
   forked_keeps = keeps_more s.heap h.heap n.heap one.keeps other.keeps
 
@@ -90,50 +68,100 @@ module _ (core : Process) (s h n : Store) (block l r : ℕ) (first second : Node
       same_held n.heap (known h.heap h.values.items) (known s.heap s.values.items) second.frame other.held
       (ap (λ (vs : List (ℕ × ℕ)). map (known h.heap vs) second.frame) one.values ∙ levels_keep core s.heap h.heap one.keeps s.values.items a.acting.store.pairs second.frame) other.holds
 
-  pub fork_done : IsDone core s n block Quiet
+  forked_words : turn_words core n ≡ (suc l ∷ one.held) ∷ []
+  forked_words = same_words core h n other.turn other.values ∙ one.turn
+
+  forked_turn : IsTurn core n.heap n.values.items n.turn
+  forked_turn =
+      turn_by core h n other.keeps (handed_pairs core s h l first.frame one a.acting.store.pairs) other.values other.turn one.is
+
+  forked_room : AllByRecursion (HasBlockFor n.queues.region) (turn_words core n)
+  forked_room =
+      room_for core n (suc l ∷ one.held) forked_words n.queues.region
+      (subst (λ (w : ℕ). 1 ≤ spare n.queues.region w) (sym (held_width n.heap l first.frame one.held first_held.narrow first_held.wide)) room)
+
+  fork_done : IsDone core s n Quiet
   fork_done =
       let levels : length n.values.items ≡ length s.values.items = ap length other.values ∙ ap length one.values in
-      let same : length n.queues.queues ≡ length s.queues.queues = other.queues ∙ one.queues in
-      let others : KeepsOtherContents s.queues n.queues 0 = λ queue apart. other.others queue apart ∙ one.others queue apart in
+      let same : length n.queues.queues ≡ length s.queues.queues = other.queues ∙ handed_queues core s h l first.frame one in
+      let others : KeepsOtherContents s.queues n.queues 0 = λ queue apart. other.others queue apart ∙ handed_contents core s h l first.frame one queue in
       let pairs : ArePairs n.heap n.values.items =
       subst (ArePairs n.heap) (sym (other.values ∙ one.values)) (pairs_keep s.heap n.heap forked_keeps s.values.items a.acting.store.pairs) in
-      let ready : contents n.queues 0 ≡ (suc l ∷ one.held) ∷ (contents s.queues 0 ++ (suc r ∷ other.held) ∷ []) =
-      other.ready_are ∙ ap (λ (rs : List (List ℕ)). rs ++ (suc r ∷ other.held) ∷ []) one.ready_are in
-      done_by core s n block a.acting forked_keeps ((suc l ∷ one.held) ∷ (contents s.queues 0 ++ (suc r ∷ other.held) ∷ [])) (channel_lists s.queues) Quiet
-      (parts_fork core n.heap s.values.items a.number l r a.node first second (held_words s.queues.region block) (suc l ∷ one.held) (suc r ∷ other.held)
-      (node_block_stays core s.heap n.heap forked_keeps s.values.items a.acting.store.pairs a.number a.node (held_words s.queues.region block) a.acting.is a.is)
+      let ready : ready_words core n ≡ (suc l ∷ one.held) ∷ (contents s.queues 0 ++ (suc r ∷ other.held) ∷ []) =
+      ready_is core n (suc l ∷ one.held) forked_words
+      ∙ ap (λ (rs : List (List ℕ)). (suc l ∷ one.held) ∷ rs) (other.last ∙ ap (λ (rs : List (List ℕ)). rs ++ (suc r ∷ other.held) ∷ []) (handed_contents core s h l first.frame one 0)) in
+      done_by core s n a.acting forked_keeps ((suc l ∷ one.held) ∷ (contents s.queues 0 ++ (suc r ∷ other.held) ∷ [])) (channel_lists s.queues) Quiet
+      (parts_fork core n.heap s.values.items a.number l r a.node first second (acting_words core s) (suc l ∷ one.held) (suc r ∷ other.held)
+      (node_block_stays core s.heap n.heap forked_keeps s.values.items a.acting.store.pairs a.number a.node (acting_words core s) (acting_block core s a.acting) a.is)
       a.op_is
       (made_node core s.heap n.heap forked_keeps s.values.items a.acting.store.pairs l first one.held at_first first_held)
       (made_node core s.heap n.heap forked_keeps s.values.items a.acting.store.pairs r second other.held at_second second_held)
       (contents s.queues 0) (channel_lists s.queues))
       ready (channels_stay s.queues n.queues others same)
-      (store_by core s n block a.acting forked_keeps (let low = a.acting.store.ready in omega (arith, same, low))
-      (blocks_by core s n block a.acting forked_keeps ((suc l ∷ one.held) ∷ (contents s.queues 0 ++ (suc r ∷ other.held) ∷ [])) ready (
+      (store_by core s n a.acting.store forked_keeps (let low = a.acting.store.ready in omega (arith, same, low))
+      (blocks_by core s n a.acting.store forked_keeps ((suc l ∷ one.held) ∷ (contents s.queues 0 ++ (suc r ∷ other.held) ∷ [])) ready (
         made_block core n.heap (known s.heap s.values.items) l first one.held at_first first_held,
-        all_pushed (IsBlock core n.heap) (contents s.queues 0) (suc r ∷ other.held) (ready_stay core s n block a.acting forked_keeps)
+        all_pushed (IsBlock core n.heap) (contents s.queues 0) (suc r ∷ other.held) (ready_stay core s n a.acting.store forked_keeps)
             (made_block core n.heap (known s.heap s.values.items) r second other.held at_second second_held),
-      ) others) (waiting_by core s n block a.acting forked_keeps others) pairs levels)
-      levels (omega (arith, same)) released
+      ) others) (waiting_by core s n a.acting.store forked_keeps others) pairs levels forked_turn forked_room)
+      levels (omega (arith, same)) no_more
+
+-- the same by the frames of the parts
+module _ (core : Process) (s h n : Store) (l r : ℕ) (first second : List ℕ) (one : HandsOn core s h l first) (other : Spawns h n r second) where
+  pub fork_by : HasFrame (nodes_of core) l first → HasFrame (nodes_of core) r second → ActsBy core s (op.Par l r) → CanHoldBoth s first second → HoldsNoMore h.queues n.queues
+      → IsDone core s n Quiet
+  fork_by f g a can no_more =
+      let room : 1 ≤ spare n.queues.region (block_width first) =
+      first_left h.queues.region n.queues.region (block_width first) (block_width second)
+      (subst (λ (q : QueuesState). 1 ≤ spare q.region (block_width first)) (sym one.queues) can.one)
+      (subst (λ (q : QueuesState). cond (block_width second == block_width first) 2 1 ≤ spare q.region (block_width second)) (sym one.queues) can.other)
+      other.spare in
+      fork_done core s h n l r f.node g.node a f.at g.at
+      (subst (λ (frame : List ℕ). HandsOn core s h l frame) (sym f.is) one)
+      (subst (λ (frame : List ℕ). Spawns h n r frame) (sym g.is) other)
+      (subst (λ (frame : List ℕ). 1 ≤ spare n.queues.region (block_width frame)) (sym f.is) room)
+      (λ block held. handed_no_more core s h l first one block (no_more block held))
+
+  pub fork_cost : turn_cost core n ≤ block_width first + 4
+  fork_cost =
+      let c : turn_cost core n ≡ turn_cost core h = ap handing (same_words core h n other.turn other.values) in
+      let e = handed_cost core s h l first one in
+      omega (arith, c, e)
 
 -- ---- a conditional
 
-pub choose_done : (core : Process) (s n : Store) (block l r : ℕ) (test : Val) (b : Bool) (part : Node) → IsClosed core → (a : ActsBy core s block (op.If test l r))
+choose_done : (core : Process) (s n : Store) (l r : ℕ) (test : Val) (b : Bool) (part : Node) → IsClosed core → ActsBy core s (op.If test l r)
     → operand_value (known s.heap s.values.items) test ≡ Boolean b → slice_get (nodes_of core) (cond b l r) ≡ Some part
-    → Places s n (cond b l r) part.frame (λ words. words ∷ contents s.queues 0) → Releases s.queues n.queues block → IsDone core s n block Quiet
-choose_done core s n block l r test b part closed a is at one released =
+    → HandsOn core s n (cond b l r) part.frame → 1 ≤ spare n.queues.region (block_width part.frame) → IsDone core s n Quiet
+choose_done core s n l r test b part closed a is at one room =
     let levels : length n.values.items ≡ length s.values.items = ap length one.values in
     let words = suc (cond b l r) ∷ one.held in
-    done_by core s n block a.acting one.keeps (words ∷ contents s.queues 0) (channel_lists s.queues) Quiet
-    (tests_choose core n.heap s.values.items a.number l r test b a.node part (held_words s.queues.region block) words closed
-    (node_block_stays core s.heap n.heap one.keeps s.values.items a.acting.store.pairs a.number a.node (held_words s.queues.region block) a.acting.is a.is)
+    let same = handed_queues core s n (cond b l r) part.frame one in
+    let others : KeepsOtherContents s.queues n.queues 0 = λ queue apart. handed_contents core s n (cond b l r) part.frame one queue in
+    let ready : ready_words core n ≡ words ∷ contents s.queues 0 =
+    ready_is core n words one.turn ∙ ap (λ (rs : List (List ℕ)). words ∷ rs) (handed_contents core s n (cond b l r) part.frame one 0) in
+    done_by core s n a.acting one.keeps (words ∷ contents s.queues 0) (channel_lists s.queues) Quiet
+    (tests_choose core n.heap s.values.items a.number l r test b a.node part (acting_words core s) words closed
+    (node_block_stays core s.heap n.heap one.keeps s.values.items a.acting.store.pairs a.number a.node (acting_words core s) (acting_block core s a.acting) a.is)
     a.op_is (operand_keeps s.heap n.heap one.keeps s.values.items a.acting.store.pairs test ∙ is) (made_node core s.heap n.heap one.keeps s.values.items a.acting.store.pairs (cond b l r) part one.held at one.holds)
     (contents s.queues 0) (channel_lists s.queues))
-    one.ready_are (channels_stay s.queues n.queues one.others one.queues)
-    (store_by core s n block a.acting one.keeps (let low = a.acting.store.ready in let same = one.queues in omega (arith, same, low))
-    (blocks_by core s n block a.acting one.keeps (words ∷ contents s.queues 0) one.ready_are
-    (made_block core n.heap (known s.heap s.values.items) (cond b l r) part one.held at one.holds, ready_stay core s n block a.acting one.keeps) one.others) (waiting_by core s n block a.acting one.keeps one.others)
-    (subst (ArePairs n.heap) (sym one.values) (pairs_keep s.heap n.heap one.keeps s.values.items a.acting.store.pairs)) levels)
-    levels (let same = one.queues in omega (arith, same)) released
+    ready (channels_stay s.queues n.queues others same)
+    (store_by core s n a.acting.store one.keeps (let low = a.acting.store.ready in omega (arith, same, low))
+    (blocks_by core s n a.acting.store one.keeps (words ∷ contents s.queues 0) ready
+    (made_block core n.heap (known s.heap s.values.items) (cond b l r) part one.held at one.holds, ready_stay core s n a.acting.store one.keeps) others) (waiting_by core s n a.acting.store one.keeps others)
+    (subst (ArePairs n.heap) (sym one.values) (pairs_keep s.heap n.heap one.keeps s.values.items a.acting.store.pairs)) levels
+    one.is (handed_room core s n (cond b l r) part.frame one n.queues.region room))
+    levels (omega (arith, same)) (handed_no_more core s n (cond b l r) part.frame one)
+
+-- the same by the frame of the part
+pub choose_by : (core : Process) (s n : Store) (l r k : ℕ) (test : Val) (b : Bool) (frame : List ℕ) → IsClosed core → ActsBy core s (op.If test l r)
+    → operand_value (known s.heap s.values.items) test ≡ Boolean b → k ≡ cond b l r → HasFrame (nodes_of core) k frame → HandsOn core s n k frame
+    → 1 ≤ spare s.queues.region (block_width frame) → IsDone core s n Quiet
+choose_by core s n l r k test b frame closed a is chosen f one block =
+    let room : 1 ≤ spare n.queues.region (block_width frame) = subst (λ (q : QueuesState). 1 ≤ spare q.region (block_width frame)) (sym one.queues) block in
+    choose_done core s n l r test b f.node closed a is (subst (λ (j : ℕ). slice_get (nodes_of core) j ≡ Some f.node) chosen f.at)
+    (subst (λ (j : ℕ). HandsOn core s n j f.node.frame) chosen (subst (λ (ls : List ℕ). HandsOn core s n k ls) (sym f.is) one))
+    (subst (λ (ls : List ℕ). 1 ≤ spare n.queues.region (block_width ls)) (sym f.is) room)
 
 -- ---- a new channel
 
@@ -159,31 +187,42 @@ channel_added old new all more ready =
     ∙ ap (λ (ls : List (List (List ℕ))). ls ++ contents new (1 + n) ∷ []) (lists_stay old new 1 n (λ queue low. all queue))
     ∙ ap (λ (ws : List (List ℕ)). lists_from old 1 n ++ ws ∷ []) (all (1 + n) ∙ nothing_past old (1 + n) last)
 
-module _ (core : Process) (s c n : Store) (block level l : ℕ) (part : Node) (a : ActsBy core s block (op.New level l)) (added : AddsChannel s c level)
-    (at : slice_get (nodes_of core) l ≡ Some part) (one : Places c n l part.frame (λ words. words ∷ contents c.queues 0))
-    (released : Releases s.queues n.queues block) where
+module _ (core : Process) (s c n : Store) (level l : ℕ) (part : Node) (a : ActsBy core s (op.New level l)) (added : AddsChannel s c level)
+    (at : slice_get (nodes_of core) l ≡ Some part) (one : HandsOn core c n l part.frame) (room : 1 ≤ spare n.queues.region (block_width part.frame)) where
   opened_keeps : KeepsWords s.heap n.heap
   opened_keeps = subst (λ h. KeepsWords h n.heap) added.heap one.keeps
 
-  pub channel_done : IsDone core s n block Quiet
+  channel_done : IsDone core s n Quiet
   channel_done =
       let words = suc l ∷ one.held in
       let levels : length n.values.items ≡ length s.values.items = ap length one.values ∙ added.levels in
-      let ready : contents n.queues 0 ≡ words ∷ contents s.queues 0 = one.ready_are ∙ ap (λ (rs : List (List ℕ)). words ∷ rs) (added.contents 0) in
-      let others : KeepsOtherContents s.queues n.queues 0 = λ queue apart. one.others queue apart ∙ added.contents queue in
-      let many : length n.queues.queues ≡ length s.queues.queues + 1 = one.queues ∙ added.queues in
+      let ready : ready_words core n ≡ words ∷ contents s.queues 0 =
+      ready_is core n words one.turn ∙ ap (λ (rs : List (List ℕ)). words ∷ rs) (handed_contents core c n l part.frame one 0 ∙ added.contents 0) in
+      let others : KeepsOtherContents s.queues n.queues 0 = λ queue apart. handed_contents core c n l part.frame one queue ∙ added.contents queue in
+      let many : length n.queues.queues ≡ length s.queues.queues + 1 = handed_queues core c n l part.frame one ∙ added.queues in
       let number : known n.heap c.values.items level ≡ Chan (length (channel_lists s.queues)) =
       known_keeps c.heap n.heap one.keeps c.values.items added.pairs level ∙ added.value ∙ ap Chan (sym (length_lists s.queues 1 (length s.queues.queues - 1))) in
-      done_by core s n block a.acting opened_keeps (words ∷ contents s.queues 0) (channel_lists s.queues ++ [] ∷ []) Quiet
-      (news_make_channels core n.heap s.values.items c.values.items a.number level l a.node part (held_words s.queues.region block) words
-      (node_block_stays core s.heap n.heap opened_keeps s.values.items a.acting.store.pairs a.number a.node (held_words s.queues.region block) a.acting.is a.is)
+      done_by core s n a.acting opened_keeps (words ∷ contents s.queues 0) (channel_lists s.queues ++ [] ∷ []) Quiet
+      (news_make_channels core n.heap s.values.items c.values.items a.number level l a.node part (acting_words core s) words
+      (node_block_stays core s.heap n.heap opened_keeps s.values.items a.acting.store.pairs a.number a.node (acting_words core s) (acting_block core s a.acting) a.is)
       a.op_is (made_node core c.heap n.heap one.keeps c.values.items added.pairs l part one.held at one.holds)
       (contents s.queues 0) (channel_lists s.queues)
       (λ other low. added.others other (λ same. omega (arith, same, low))) number)
       ready
-      (channels_stay c.queues n.queues one.others one.queues ∙ channel_added s.queues c.queues added.contents added.queues a.acting.store.ready)
-      (store_by core s n block a.acting opened_keeps (omega (arith, many))
-      (blocks_by core s n block a.acting opened_keeps (words ∷ contents s.queues 0) ready
-      (made_block core n.heap (known c.heap c.values.items) l part one.held at one.holds, ready_stay core s n block a.acting opened_keeps) others) (waiting_by core s n block a.acting opened_keeps others)
-      (subst (ArePairs n.heap) (sym one.values) (pairs_keep c.heap n.heap one.keeps c.values.items added.pairs)) levels)
-      levels (omega (arith, many)) released
+      (ap (λ (q : QueuesState). channel_lists q) one.queues ∙ channel_added s.queues c.queues added.contents added.queues a.acting.store.ready)
+      (store_by core s n a.acting.store opened_keeps (omega (arith, many))
+      (blocks_by core s n a.acting.store opened_keeps (words ∷ contents s.queues 0) ready
+      (made_block core n.heap (known c.heap c.values.items) l part one.held at one.holds, ready_stay core s n a.acting.store opened_keeps) others) (waiting_by core s n a.acting.store opened_keeps others)
+      (subst (ArePairs n.heap) (sym one.values) (pairs_keep c.heap n.heap one.keeps c.values.items added.pairs)) levels
+      one.is (handed_room core c n l part.frame one n.queues.region room))
+      levels (omega (arith, many)) (λ block held. added.no_more block (handed_no_more core c n l part.frame one block held))
+
+-- the same by the frame of the part
+pub channel_by : (core : Process) (s c n : Store) (level l : ℕ) (frame : List ℕ) → ActsBy core s (op.New level l) → AddsChannel s c level → HasFrame (nodes_of core) l frame
+    → HandsOn core c n l frame → 1 ≤ spare s.queues.region (block_width frame) → IsDone core s n Quiet
+channel_by core s c n level l frame a added f one block =
+    let there : 1 ≤ spare c.queues.region (block_width frame) = subst (λ (r : RegionState). 1 ≤ spare r (block_width frame)) (sym added.region) block in
+    let room : 1 ≤ spare n.queues.region (block_width frame) = subst (λ (q : QueuesState). 1 ≤ spare q.region (block_width frame)) (sym one.queues) there in
+    channel_done core s c n level l f.node a added f.at
+    (subst (λ (ls : List ℕ). HandsOn core c n l ls) (sym f.is) one)
+    (subst (λ (ls : List ℕ). 1 ≤ spare n.queues.region (block_width ls)) (sym f.is) room)

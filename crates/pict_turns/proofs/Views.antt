@@ -37,8 +37,12 @@ module _ (old new : HeapState) (keeps : KeepsWords old new) where
   values_stay (suc n) (x ∷ []) h = absurd h
   values_stay (suc n) (x ∷ y ∷ ws) h = cc (value_stays (x, y) h.0, values_stay n ws h.1)
 
-  record_stays : (n : ℕ) (ws : List ℕ) → HoldRecord old n ws → HoldRecord new n ws
+  pub record_stays : (n : ℕ) (ws : List ℕ) → HoldRecord old n ws → HoldRecord new n ws
   record_stays n ws r = record { pair = r.pair; is = r.is; word = pair_stays r.pair r.word; many = ap (λ v. length (fields_of v)) (value_stays r.pair r.word) ∙ r.many; few = r.few }
+
+  -- an output of kept values
+  pub kept_stays : (words : List ℕ) → IsKept old words → IsKept new words
+  kept_stays words k = record { kept = k.kept; is = k.is; fits = k.fits; to = pair_stays k.kept.to k.to; message = pair_stays k.kept.message k.message }
 
   one_record : (n x y : ℕ) (ws : List ℕ) → HoldRecord old n (x ∷ y ∷ ws) → value_in new x y ≡ value_in old x y
   one_record n x y ws r =
@@ -77,7 +81,7 @@ module _ (old new : HeapState) (keeps : KeepsWords old new) where
 
     pub block_stays : (words : List ℕ) → IsBlock core old words → IsBlock core new words
     block_stays words (inl n) = inl (node_stays words n)
-    block_stays words (inr k) = inr (record { kept = k.kept; is = k.is; fits = k.fits; to = pair_stays k.kept.to k.to; message = pair_stays k.kept.message k.message })
+    block_stays words (inr k) = inr (kept_stays words k)
 
     pub blocks_stay : (ws : List (List ℕ)) → AllByRecursion (IsBlock core old) ws → AllByRecursion (IsBlock core new) ws
     blocks_stay [] a = tt

@@ -20,3 +20,4 @@ pub record AddsChannel (old new : Store) (level : ℕ) : Type 0 where
   pub no_more : HoldsNoMore old.queues new.queues
   pub heap : new.heap ≡ old.heap
   pub pending : new.pending ≡ old.pending
+  pub turn : new.turn ≡ old.turn

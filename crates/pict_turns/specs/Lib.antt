@@ -1,6 +1,7 @@
 pub mod Holding
 pub mod Parts
 pub mod Views
+pub mod Turns
 pub mod Acting
 pub mod Reserving
 pub mod Reading

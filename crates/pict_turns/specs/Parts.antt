@@ -1,5 +1,6 @@
--- Blocks of the parts of a node.
-use Rattle.std.specs.Prelude.{◌≡◌, ◌≤◌, ◌+◌, ◌*◌, ◌==◌, ℕ, suc, nat_lt, List, ◌∷◌, length, if◌then◌else◌}
+-- The parts of a node: one has the turn, others stand in blocks.
+use Rattle.std.specs.Prelude.{◌≡◌, ◌≤◌, ◌+◌, ◌*◌, ◌==◌, ◌⊎◌, ◌++◌, ℕ, suc, nat_lt, List, [], ◌∷◌, length, if◌then◌else◌}
+use Rattle.pict_core.specs.Term.{Process}
 use Rattle.pict_queue.specs.Contents.{contents, KeepsOtherContents}
 use Rattle.pict_region.specs.RegionState.{spare}
 use Rattle.pict_frames.specs.Writing.{IsMade}
@@ -9,6 +10,8 @@ use Rattle.pict_prim.specs.declared.act.Need.{Need}
 use Rattle.pict_blocks.specs.Blocks.{known}
 use Rattle.pict_operands.specs.Needs.{no_need, record_need, HasRoomFor, KeepsPending}
 use Rattle.pict_turns.specs.Holding.{HoldsFrame}
+use Rattle.pict_turns.specs.Turns.{IsTurn}
+use Rattle.pict_turns.specs.Views.{turn_words}
 use Rattle.pict_turns.specs.declared.store.Store.{Store}
 
 -- the width of a block for a frame: two words a level, or those of one record
@@ -25,7 +28,7 @@ pub record CanHold (s : Store) (frame : List ℕ) : Type 0 where
   pub room : HasRoomFor s.heap s.pending (frame_need frame)
 
 -- The block, made of a free one, is that of the node with this number, with the values that the levels of its frame had. All
--- words stand for what they stood for, and the values stay.
+-- words stand for what they stood for, and the values, and who has the turn, stay.
 pub record IsPart (old new : Store) (block number : ℕ) (frame : List ℕ) : Type 0 where
   pub held : List ℕ
   pub made : IsMade old.queues new.queues block (suc number ∷ held) (block_width frame)
@@ -33,14 +36,29 @@ pub record IsPart (old new : Store) (block number : ℕ) (frame : List ℕ) : Ty
   pub keeps : KeepsWords old.heap new.heap
   pub used : UsesNeed old.heap.room new.heap.room (frame_need frame)
   pub values : new.values.items ≡ old.values.items
+  pub turn : new.turn ≡ old.turn
   pub pending : KeepsPending old.pending new.pending
 
--- A new block of the node with this number, with the values that the levels of its frame had, stands in queue 0 as `ready`
--- says. What other queues hold, and the values, stay, and all words stand for what they stood for.
-pub record Places (old new : Store) (number : ℕ) (frame : List ℕ) (ready : List ℕ → List (List ℕ)) : Type 0 where
+-- The node with this number has the turn, with the values that the levels of its frame had. The queues and the values stay, and
+-- all words stand for what they stood for.
+pub record HandsOn (core : Process) (old new : Store) (number : ℕ) (frame : List ℕ) : Type 0 where
   pub held : List ℕ
   pub holds : HoldsFrame new.heap (known old.heap old.values.items) frame held
-  pub ready_are : contents new.queues 0 ≡ ready (suc number ∷ held)
+  pub turn : turn_words core new ≡ (suc number ∷ held) ∷ []
+  pub is : IsTurn core new.heap new.values.items new.turn
+  pub queues : new.queues ≡ old.queues
+  pub keeps : KeepsWords old.heap new.heap
+  pub used : UsesNeed old.heap.room new.heap.room (frame_need frame)
+  pub values : new.values.items ≡ old.values.items
+  pub pending : KeepsPending old.pending new.pending
+
+-- A new block of the node with this number, with the values that the levels of its frame had, is the last of queue 0. What other
+-- queues hold, the values, and who has the turn, stay, and all words stand for what they stood for.
+pub record Spawns (old new : Store) (number : ℕ) (frame : List ℕ) : Type 0 where
+  pub held : List ℕ
+  pub holds : HoldsFrame new.heap (known old.heap old.values.items) frame held
+  pub last : contents new.queues 0 ≡ contents old.queues 0 ++ (suc number ∷ held) ∷ []
+  pub turn : new.turn ≡ old.turn
   pub others : KeepsOtherContents old.queues new.queues 0
   pub spare : (width : ℕ) → spare old.queues.region width ≤ spare new.queues.region width + (if width == block_width frame then 1 else 0)
   pub queues : length new.queues.queues ≡ length old.queues.queues
@@ -48,3 +66,8 @@ pub record Places (old new : Store) (number : ℕ) (frame : List ℕ) (ready : L
   pub used : UsesNeed old.heap.room new.heap.room (frame_need frame)
   pub values : new.values.items ≡ old.values.items
   pub pending : KeepsPending old.pending new.pending
+
+-- Where nobody had the turn, the node with this number is the last of the ready ones: it has the turn, queue 0 being empty, or
+-- a new block of it is the last of queue 0.
+abbrev pub IsLast : Process → Store → Store → ℕ → List ℕ → Type 0
+IsLast core old new number frame = ((contents old.queues 0 ≡ []) × HandsOn core old new number frame) ⊎ Spawns old new number frame

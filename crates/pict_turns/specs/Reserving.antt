@@ -43,3 +43,4 @@ pub record OnlyReserves (old new : Store) : Type 0 where
   pub held : KeepsHeld old.queues new.queues
   pub no_more : HoldsNoMore old.queues new.queues
   pub values : new.values.items ≡ old.values.items
+  pub turn : new.turn ≡ old.turn

@@ -1,11 +1,12 @@
--- The view of a store: what the blocks of its queues stand for.
-use Rattle.std.specs.Prelude.{◌≡◌, ◌≤◌, ◌<◌, ◌+◌, ◌-◌, ◌⊎◌, ℕ, zero, suc, Bool, List, [], ◌∷◌, length, Some, slice_get}
+-- The view of a store: what the blocks of its queues stand for, and who has the turn.
+use Rattle.std.specs.Prelude.{◌≡◌, ◌≤◌, ◌<◌, ◌+◌, ◌-◌, ◌⊎◌, ℕ, zero, suc, Bool, List, [], ◌∷◌, ◌++◌, length, Some, slice_get, slice_index_or, option_map, unwrap_or}
 use Rattle.std.specs.List.{AllByRecursion}
 use Rattle.pict_core.specs.Term.{Process, Val}
 use Rattle.pict_code.specs.Instruction.{Node, CodePat}
 use Rattle.pict_code.specs.Nodes.{nodes_of, input_op}
 use Rattle.pict_queue.specs.QueuesState.{QueuesState}
 use Rattle.pict_queue.specs.Contents.{contents}
+use Rattle.pict_frames.specs.Framed.{node_words}
 use Rattle.pict_frames.specs.Keeping.{kept_words, FitsKept}
 use Rattle.pict_frames.specs.declared.keeping.Kept.{Kept}
 use Rattle.pict_heap.specs.HeapState.{HeapState}
@@ -14,6 +15,8 @@ use Rattle.pict_blocks.specs.Blocks.{value_in, view_of_contents}
 use Rattle.pict_operands.specs.Pairs.{IsPair}
 use Rattle.pict_turns.specs.Holding.{HoldWords, HoldRecord}
 use Rattle.pict_turns.specs.declared.store.Store.{Store}
+use Rattle.pict_turns.specs.declared.turn.Turn.{Turn}
+use Rattle.pict_turns.specs.declared.turn.Turn.TheVariants.{Nobody, Node as NodeTurn, Wide, Output}
 
 -- what the blocks of these queues hold, so many from this one on
 abbrev pub lists_from : QueuesState → ℕ → ℕ → List (List (List ℕ))
@@ -28,9 +31,34 @@ channel_lists s = lists_from s 1 (length s.queues - 1)
 abbrev pub view_of : Process → Store → View
 view_of core s = view_of_contents core (value_in s.heap) (contents s.queues 0) (channel_lists s.queues)
 
--- the same while a block with these words acts, which was the first of the ready ones
-abbrev pub view_acting : Process → Store → List ℕ → View
-view_acting core s words = view_of_contents core (value_in s.heap) (words ∷ contents s.queues 0) (channel_lists s.queues)
+-- ---- who has the turn
+
+-- the frame of the node with this number
+abbrev pub frame_in : List Node → ℕ → List ℕ
+frame_in nodes number = unwrap_or (option_map (λ (n : Node). n.frame) (slice_get nodes number)) []
+
+-- The words that a block of who has the turn would have behind its link: of a node with the values that the levels of its frame
+-- have. None where nobody has it.
+abbrev pub words_of_turn : List Node → List (ℕ × ℕ) → Turn → List (List ℕ)
+words_of_turn nodes values Nobody = []
+words_of_turn nodes values (NodeTurn number) = node_words values number (frame_in nodes number) ∷ []
+words_of_turn nodes values (Wide number record_pair) = (suc number ∷ record_pair.0 ∷ record_pair.1 ∷ []) ∷ []
+words_of_turn nodes values (Output kept) = kept_words kept ∷ []
+
+abbrev pub turn_words : Process → Store → List (List ℕ)
+turn_words core s = words_of_turn (nodes_of core) s.values.items s.turn
+
+-- who is ready, in order: who has the turn, and then the blocks of queue 0
+abbrev pub ready_words : Process → Store → List (List ℕ)
+ready_words core s = turn_words core s ++ contents s.queues 0
+
+-- the words of who has the turn, where somebody has it
+abbrev pub acting_words : Process → Store → List ℕ
+acting_words core s = slice_index_or (turn_words core s) 0 []
+
+-- the view of a store in which somebody may have the turn
+abbrev pub view_with_turn : Process → Store → View
+view_with_turn core s = view_of_contents core (value_in s.heap) (ready_words core s) (channel_lists s.queues)
 
 -- ---- blocks
 

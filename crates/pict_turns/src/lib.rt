@@ -1,5 +1,5 @@
-//! The store of a machine in blocks, and the steps of its nodes that need no partner: blocks of the parts of a node, which have
-//! the turn or become the last ones, and room for them.
+//! The store of a machine in blocks, who has the turn, and the steps of nodes that need no partner: their parts get the turn or
+//! become the last of the ready ones.
 #![tactic(auto)]
 
 mod nodes;
@@ -7,11 +7,13 @@ mod parts;
 mod reading;
 mod reserving;
 mod store;
+mod turn;
+mod turning;
 
-pub use nodes::{choose, end, fork, make_channel, refuse};
-pub use parts::{NARROW, hand_on, make_part, spawn_part};
-pub use reading::{frame_at, read_part};
-pub use reserving::{
-    KEPT_WIDTH, block_width, reserve, reserve_kept, reserve_part, reserve_parts, reserve_room,
-};
+pub use nodes::{choose, end, fork, make_channel};
+pub use parts::{NARROW, make_ready, spawn_part};
+pub use reading::{frame_at, read_first};
+pub use reserving::{KEPT_WIDTH, block_width, reserve, reserve_kept, reserve_part, reserve_room};
 pub use store::Store;
+pub use turn::Turn;
+pub use turning::{return_turn, set_down, take_turn};

@@ -6,103 +6,65 @@ ghost use Rattle.pict_core.specs.Term.{Process, Boolean};
 ghost use Rattle.pict_core.specs.Step.{Quiet};
 ghost use Rattle.pict_code.specs.Instruction as op;
 ghost use Rattle.pict_code.specs.Plain.{plain_node};
-ghost use Rattle.pict_region.specs.RegionState.{KeepsBlocks};
-ghost use Rattle.pict_queue.specs.QueuesState.{IsQueue, IsHeld, CostsAtMost};
+ghost use Rattle.pict_queue.specs.QueuesState.{IsQueue, CostsAtMost};
 ghost use Rattle.pict_blocks.specs.Blocks.{known, operand_value};
 ghost use Rattle.pict_operands.specs.Needs.{no_need};
 ghost use Rattle.pict_operands.specs.Pairs.{ArePairs};
-ghost use Rattle.pict_turns.specs.Acting.{core_in, IsCode, HasActing, ActsBy, IsRight, IsDone, IsRefused};
+ghost use Rattle.pict_turns.specs.Acting.{core_in, IsCode, ActsBy, IsRight, IsDone, IsRefused};
 ghost use Rattle.pict_turns.specs.Channels.{AddsChannel};
 ghost use Rattle.pict_turns.specs.Parts.{block_width};
 ghost use Rattle.pict_turns.specs.Reading.{HasFrame};
 ghost use Rattle.pict_turns.specs.Reserving.{CanHoldAnd, OnlyReserves};
+ghost use Rattle.pict_turns.specs.Turns.{turn_cost};
 ghost use Rattle.pict_turns.specs.Widths.{MakesOnly, part_width};
 
 use crate::parts::{hand_on, spawn_part};
 use crate::reading::frame_at;
 use crate::reserving::{reserve_part, reserve_parts};
 use crate::store::Store;
+use crate::turn::Turn;
 use pict_code::{Node, Operand};
 use pict_core::CoreVal;
 use pict_heap::{Word, pack};
-use pict_operands::word_at;
+use pict_operands::is_true;
 use pict_prim::NO_NEED;
-use pict_queue::QueueId;
-use pict_region::Block;
 use std::alloc::AllocError;
 
-/// The acting block is the first of the ready ones again: its step isn't done. Takes no memory.
+/// The inert process, which has the turn, ends. Takes no memory.
 #[inline(always)]
-pub fn refuse(store: &mut Store, block: Block)
-    requires queue { IsQueue store.old.queues 0 }
-    requires held { IsHeld store.old.queues block }
-    ensures refused { (core : Process) → HasActing core store.old block → IsRefused core store.old store.new block }
-    ensures blocks { KeepsBlocks store.old.queues.region store.new.queues.region }
-    ensures cost { CostsAtMost 2 store.old.queues store.new.queues }
+pub fn end(store: &mut Store)
+    ensures done { (core : Process) → ActsBy core store.old op.Zero → IsDone core store.old store.new Quiet }
+    ensures rest { store.new ≡ record store.old { turn = Turn.Nobody } }
 {
-    store.queues.push_front(QueueId(0), block);
+    store.turn = Turn::Nobody;
 }
 
-/// The inert process: its block ends. Takes no memory.
+/// A parallel composition, which has the turn: its left part has it then, and the block of its right part becomes the last of the
+/// ready ones. An error, which is want of memory, changes nothing but room and spare blocks.
 #[inline(always)]
-pub fn end(store: &mut Store, block: Block)
-    requires held { IsHeld store.old.queues block }
-    ensures done { (core : Process) → ActsBy core store.old block op.Zero → IsDone core store.old store.new block Quiet }
-    ensures blocks { KeepsBlocks store.old.queues.region store.new.queues.region }
-    ensures cost { CostsAtMost 1 store.old.queues store.new.queues }
-{
-    store.queues.give(block);
-}
-
-/// A parallel composition: the block of its left part has the turn, and that of its right part becomes the last of the ready
-/// ones. An error, which is want of memory, leaves the block the first of the ready ones, and nothing else changed.
-#[inline(always)]
-pub fn fork(
-    store: &mut Store,
-    code: &[Node],
-    block: Block,
-    left: u32,
-    right: u32,
-) -> Result<(), AllocError>
+pub fn fork(store: &mut Store, code: &[Node], left: u32, right: u32) -> Result<(), AllocError>
     requires code { IsCode (map plain_node code.now) }
-    requires acts { ActsBy (core_in code.now) store.old block (op.Par left right) }
-    ensures done { OnOk result (IsDone (core_in code.now) store.old store.new block Quiet) }
-    ensures refused { OnErr result (IsRefused (core_in code.now) store.old store.new block) }
+    requires acts { ActsBy (core_in code.now) store.old (op.Par left right) }
+    ensures done { OnOk result (IsDone (core_in code.now) store.old store.new Quiet) }
+    ensures refused { OnErr result (IsRefused (core_in code.now) store.old store.new) }
+    ensures turn { OnOk result ((first : List ℕ) → HasFrame (map plain_node code.now) left first
+        → turn_cost (core_in code.now) store.new ≤ block_width first + 4) }
     ensures blocks { MakesOnly store.old.queues store.new.queues
         (part_width (map plain_node code.now) left ∷ part_width (map plain_node code.now) right ∷ []) }
-    ensures cost { (first second : List ℕ) → HasFrame (map plain_node code.now) left first → HasFrame (map plain_node code.now) right second
-        → CostsAtMost (block_width first + block_width second + 5) store.old.queues store.new.queues }
+    ensures cost { (second : List ℕ) → HasFrame (map plain_node code.now) right second
+        → CostsAtMost (block_width second + 2) store.old.queues store.new.queues }
 {
     let first = frame_at(code, left as usize);
     let second = frame_at(code, right as usize);
-    match reserve_parts(store, first, second) {
-        Ok(()) => {
-            hand_on(store, block, left, first);
-            spawn_part(store, right, second);
-            Ok(())
-        }
-        Err(error) => {
-            refuse(store, block);
-            Err(error)
-        }
-    }
-}
-
-// The truth value that a word is.
-#[inline(always)]
-fn truth(word: Word) -> bool
-    requires { (b : Bool) × (word ≡ Word.Bool b) }
-    ensures { word ≡ Word.Bool result }
-{
-    match word {
-        Word::Bool(b) => b,
-        _ => unreachable!(),
-    }
+    reserve_parts(store, first, second)?;
+    hand_on(store, left, first);
+    spawn_part(store, right, second);
+    Ok(())
 }
 
 // Whether the test of a conditional is true.
 #[inline(always)]
-fn is_true(store: &Store, test: &Operand) -> bool
+fn holds(store: &Store, test: &Operand) -> bool
     requires over { IsOver (length store.now.values.items) 0 (plain_val test.now) }
     requires pairs { ArePairs store.now.heap store.now.values.items }
     requires boolean { (b : Bool) × (operand_value (known store.now.heap store.now.values.items) (plain_val test.now) ≡ Boolean b) }
@@ -110,7 +72,7 @@ fn is_true(store: &Store, test: &Operand) -> bool
 {
     match test {
         CoreVal::Bool(b) => *b,
-        CoreVal::Var(level) => truth(word_at(store.values[*level as usize])),
+        CoreVal::Var(level) => is_true(store.values[*level as usize]),
         _ => unreachable!(),
     }
 }
@@ -124,45 +86,38 @@ fn chosen(store: &Store, test: &Operand, yes: u32, no: u32) -> u32
     ensures { (b : Bool) × (operand_value (known store.now.heap store.now.values.items) (plain_val test.now) ≡ Boolean b)
         × (result ≡ (if b then yes else no)) }
 {
-    if is_true(store, test) { yes } else { no }
+    if holds(store, test) { yes } else { no }
 }
 
-/// A conditional: the block of the part that the test chooses has the turn. An error, which is want of memory, leaves the block
-/// the first of the ready ones, and nothing else changed.
+/// A conditional, which has the turn: the part that its test chooses has it then. An error, which is want of memory, changes
+/// nothing but room and spare blocks.
 #[inline(always)]
 pub fn choose(
     store: &mut Store,
     code: &[Node],
-    block: Block,
     test: &Operand,
     yes: u32,
     no: u32,
 ) -> Result<(), AllocError>
     requires code { IsCode (map plain_node code.now) }
-    requires acts { ActsBy (core_in code.now) store.old block (op.If (plain_val test.now) yes no) }
-    requires right { IsRight (core_in code.now) store.old block }
-    ensures done { OnOk result (IsDone (core_in code.now) store.old store.new block Quiet) }
-    ensures refused { OnErr result (IsRefused (core_in code.now) store.old store.new block) }
+    requires acts { ActsBy (core_in code.now) store.old (op.If (plain_val test.now) yes no) }
+    requires right { IsRight (core_in code.now) store.old }
+    ensures done { OnOk result (IsDone (core_in code.now) store.old store.new Quiet) }
+    ensures refused { OnErr result (IsRefused (core_in code.now) store.old store.new) }
+    ensures turn { OnOk result ((first second : List ℕ) → HasFrame (map plain_node code.now) yes first → HasFrame (map plain_node code.now) no second
+        → turn_cost (core_in code.now) store.new ≤ max (block_width first) (block_width second) + 4) }
     ensures blocks { (b : Bool) → operand_value (known store.old.heap store.old.values.items) (plain_val test.now) ≡ Boolean b
         → MakesOnly store.old.queues store.new.queues (part_width (map plain_node code.now) (if b then yes else no) ∷ []) }
-    ensures cost { (first second : List ℕ) → HasFrame (map plain_node code.now) yes first → HasFrame (map plain_node code.now) no second
-        → CostsAtMost (max (block_width first) (block_width second) + 3) store.old.queues store.new.queues }
+    ensures work { store.new.queues.region.work ≡ store.old.queues.region.work }
 {
     let part = chosen(store, test, yes, no);
     let frame = frame_at(code, part as usize);
-    match reserve_part(store, frame, NO_NEED) {
-        Ok(()) => {
-            hand_on(store, block, part, frame);
-            Ok(())
-        }
-        Err(error) => {
-            refuse(store, block);
-            Err(error)
-        }
-    }
+    reserve_part(store, frame, NO_NEED)?;
+    hand_on(store, part, frame);
+    Ok(())
 }
 
-// Makes room for a channel and for the block of a frame.
+// Makes room for a channel, and for the part with this frame.
 #[inline(always)]
 fn reserve_channel(store: &mut Store, frame: &[u32]) -> Result<(), AllocError>
     ensures part { OnOk result (CanHoldAnd store.new frame.now no_need) }
@@ -191,35 +146,28 @@ fn add_channel(store: &mut Store, level: u32)
     store.values[level as usize] = pack(Word::Chan(number));
 }
 
-/// A new channel: the block of the part has the turn, with the next channel as the value of the new level. An error, which is
-/// want of memory, leaves the block the first of the ready ones, and nothing else changed: there is no channel more.
+/// A restriction, which has the turn: its part has it then, with the next channel as the value of the new level. An error, which is
+/// want of memory, changes nothing but room and spare blocks: there is no channel more.
 #[inline(always)]
 pub fn make_channel(
     store: &mut Store,
     code: &[Node],
-    block: Block,
     level: u32,
     part: u32,
 ) -> Result<(), AllocError>
     requires code { IsCode (map plain_node code.now) }
-    requires acts { ActsBy (core_in code.now) store.old block (op.New level part) }
+    requires acts { ActsBy (core_in code.now) store.old (op.New level part) }
     requires few { length store.old.queues.queues < 2 ^ 32 }
-    ensures done { OnOk result (IsDone (core_in code.now) store.old store.new block Quiet) }
-    ensures refused { OnErr result (IsRefused (core_in code.now) store.old store.new block) }
+    ensures done { OnOk result (IsDone (core_in code.now) store.old store.new Quiet) }
+    ensures refused { OnErr result (IsRefused (core_in code.now) store.old store.new) }
+    ensures turn { OnOk result ((frame : List ℕ) → HasFrame (map plain_node code.now) part frame
+        → turn_cost (core_in code.now) store.new ≤ block_width frame + 4) }
     ensures blocks { MakesOnly store.old.queues store.new.queues (part_width (map plain_node code.now) part ∷ []) }
-    ensures cost { (frame : List ℕ) → HasFrame (map plain_node code.now) part frame
-        → CostsAtMost (block_width frame + 3) store.old.queues store.new.queues }
+    ensures work { store.new.queues.region.work ≡ store.old.queues.region.work }
 {
     let frame = frame_at(code, part as usize);
-    match reserve_channel(store, frame) {
-        Ok(()) => {
-            add_channel(store, level);
-            hand_on(store, block, part, frame);
-            Ok(())
-        }
-        Err(error) => {
-            refuse(store, block);
-            Err(error)
-        }
-    }
+    reserve_channel(store, frame)?;
+    add_channel(store, level);
+    hand_on(store, part, frame);
+    Ok(())
 }

@@ -1,12 +1,16 @@
-// Blocks of the parts of a node: room for them, and they themselves.
-ghost use Rattle.std.specs.Prelude.{◌≡◌, ◌<◌, ◌≤◌, ◌+◌, ◌++◌, ◌∷◌, [], All, length};
-ghost use Rattle.pict_queue.specs.QueuesState.{IsQueue, IsHeld, CostsAtMost};
+// The parts of a node: one has the turn, others stand in blocks.
+ghost use Rattle.std.specs.Prelude.{◌≡◌, ◌<◌, ◌≤◌, ◌+◌, All, length};
+ghost use Rattle.pict_core.specs.Term.{Process};
+ghost use Rattle.pict_code.specs.Nodes.{nodes_of};
+ghost use Rattle.pict_queue.specs.QueuesState.{IsQueue, CostsAtMost};
 ghost use Rattle.pict_region.specs.RegionState.{KeepsBlocks};
-ghost use Rattle.pict_queue.specs.Contents.{contents, KeepsHeld, KeepsOtherHeld, HoldsNoMore, Releases};
+ghost use Rattle.pict_queue.specs.Contents.{KeepsHeld, HoldsNoMore};
 ghost use Rattle.pict_operands.specs.Pairs.{ArePairs};
-ghost use Rattle.pict_turns.specs.Parts.{block_width, CanHold, IsPart, Places};
+ghost use Rattle.pict_turns.specs.Parts.{block_width, CanHold, IsPart, HandsOn, Spawns, IsLast};
+ghost use Rattle.pict_turns.specs.Reading.{HasFrame};
 
 use crate::store::Store;
+use crate::turn::Turn;
 use pict_frames::block_of;
 use pict_operands::frame_record;
 use pict_queue::QueueId;
@@ -15,7 +19,7 @@ use pict_region::Block;
 /// A frame of at most so many levels stands in a block itself, a larger one in a record.
 pub const NARROW: usize = 32_000;
 
-// The same of a frame that stands in the block.
+// A new block of the node with this number, with the values of its frame, which stands in the block.
 #[inline(always)]
 fn make_narrow(store: &mut Store, number: u32, frame: &[u32]) -> Block
     requires narrow { length frame.now ≤ 32000 }
@@ -25,7 +29,7 @@ fn make_narrow(store: &mut Store, number: u32, frame: &[u32]) -> Block
     ensures part { IsPart store.old store.new result number frame.now }
     ensures cost { CostsAtMost (block_width frame.now) store.old.queues store.new.queues }
 {
-    block_of(&mut store.queues, number, frame, &store.values)
+    block_of(&mut store.queues, number as usize, frame, &store.values)
 }
 
 // The same of a frame that stands in a record.
@@ -39,12 +43,12 @@ fn make_wide(store: &mut Store, number: u32, frame: &[u32]) -> Block
     ensures cost { CostsAtMost (block_width frame.now) store.old.queues store.new.queues }
 {
     let pair = frame_record(&mut store.heap, &mut store.pending, frame, &store.values);
-    block_of(&mut store.queues, number, &[0], &[pair])
+    block_of(&mut store.queues, number as usize, &[0], &[pair])
 }
 
-/// A new block of the node with this number, with the values of its frame. Takes no memory.
+// The same of any frame.
 #[inline(always)]
-pub fn make_part(store: &mut Store, number: u32, frame: &[u32]) -> Block
+fn make_part(store: &mut Store, number: u32, frame: &[u32]) -> Block
     requires can { CanHold store.old frame.now }
     requires inside { All (λ level. level < length store.old.values.items) frame.now }
     requires pairs { ArePairs store.old.heap store.old.values.items }
@@ -58,33 +62,14 @@ pub fn make_part(store: &mut Store, number: u32, frame: &[u32]) -> Block
     }
 }
 
-/// The held block ends, and a new block of the node with this number has the turn. Takes no memory.
-#[inline(always)]
-pub fn hand_on(store: &mut Store, block: Block, number: u32, frame: &[u32])
-    requires queue { IsQueue store.old.queues 0 }
-    requires held { IsHeld store.old.queues block }
-    requires can { CanHold store.old frame.now }
-    requires inside { All (λ level. level < length store.old.values.items) frame.now }
-    requires pairs { ArePairs store.old.heap store.old.values.items }
-    ensures places { Places store.old store.new number frame.now (λ words. words ∷ contents store.old.queues 0) }
-    ensures kept { KeepsOtherHeld store.old.queues store.new.queues block }
-    ensures gone { Releases store.old.queues store.new.queues block }
-    ensures blocks { KeepsBlocks store.old.queues.region store.new.queues.region }
-    ensures cost { CostsAtMost (block_width frame.now + 3) store.old.queues store.new.queues }
-{
-    store.queues.give(block);
-    let part = make_part(store, number, frame);
-    store.queues.push_front(QueueId(0), part);
-}
-
-/// A new block of the node with this number becomes the last of the ready ones. Takes no memory.
+/// A new block of the node with this number becomes the last of queue 0. Takes no memory.
 #[inline(always)]
 pub fn spawn_part(store: &mut Store, number: u32, frame: &[u32])
     requires queue { IsQueue store.old.queues 0 }
     requires can { CanHold store.old frame.now }
     requires inside { All (λ level. level < length store.old.values.items) frame.now }
     requires pairs { ArePairs store.old.heap store.old.values.items }
-    ensures places { Places store.old store.new number frame.now (λ words. contents store.old.queues 0 ++ words ∷ []) }
+    ensures spawns { Spawns store.old store.new number frame.now }
     ensures kept { KeepsHeld store.old.queues store.new.queues }
     ensures no_more { HoldsNoMore store.old.queues store.new.queues }
     ensures blocks { KeepsBlocks store.old.queues.region store.new.queues.region }
@@ -92,4 +77,57 @@ pub fn spawn_part(store: &mut Store, number: u32, frame: &[u32])
 {
     let part = make_part(store, number, frame);
     store.queues.push_back(QueueId(0), part);
+}
+
+// The node with this number, of a larger frame, has the turn.
+#[cold]
+fn hand_on_wide(store: &mut Store, number: u32, frame: &[u32])
+    requires wide { 32000 < length frame.now }
+    requires can { CanHold store.old frame.now }
+    requires inside { All (λ level. level < length store.old.values.items) frame.now }
+    requires pairs { ArePairs store.old.heap store.old.values.items }
+    ensures hands { (core : Process) → HasFrame (nodes_of core) number frame.now → HandsOn core store.old store.new number frame.now }
+    ensures queues { store.new.queues ≡ store.old.queues }
+{
+    let pair = frame_record(&mut store.heap, &mut store.pending, frame, &store.values);
+    store.turn = Turn::Wide(number as usize, pair);
+}
+
+// The node with this number has the turn, with the values of the levels of its frame. A free block for it is there. Takes no
+// memory, and no time in the levels of a frame that stands in a block itself.
+#[inline(always)]
+pub(crate) fn hand_on(store: &mut Store, number: u32, frame: &[u32])
+    requires can { CanHold store.old frame.now }
+    requires inside { All (λ level. level < length store.old.values.items) frame.now }
+    requires pairs { ArePairs store.old.heap store.old.values.items }
+    ensures hands { (core : Process) → HasFrame (nodes_of core) number frame.now → HandsOn core store.old store.new number frame.now }
+    ensures queues { store.new.queues ≡ store.old.queues }
+{
+    if frame.len() <= NARROW {
+        store.turn = Turn::Node(number as usize);
+    } else {
+        hand_on_wide(store, number, frame);
+    }
+}
+
+/// Where nobody has the turn, the node with this number becomes the last of the ready ones: with the turn where nobody else is
+/// ready, and else in a new block. Takes no memory.
+#[inline(always)]
+pub fn make_ready(store: &mut Store, number: u32, frame: &[u32])
+    requires nobody { store.old.turn ≡ Turn.Nobody }
+    requires queue { IsQueue store.old.queues 0 }
+    requires can { CanHold store.old frame.now }
+    requires inside { All (λ level. level < length store.old.values.items) frame.now }
+    requires pairs { ArePairs store.old.heap store.old.values.items }
+    ensures last { (core : Process) → HasFrame (nodes_of core) number frame.now → IsLast core store.old store.new number frame.now }
+    ensures kept { KeepsHeld store.old.queues store.new.queues }
+    ensures no_more { HoldsNoMore store.old.queues store.new.queues }
+    ensures blocks { KeepsBlocks store.old.queues.region store.new.queues.region }
+    ensures cost { CostsAtMost (block_width frame.now + 2) store.old.queues store.new.queues }
+{
+    if store.queues.length(QueueId(0)) == 0 {
+        hand_on(store, number, frame);
+    } else {
+        spawn_part(store, number, frame);
+    }
 }

@@ -37,6 +37,17 @@ fn frame_need(frame: &[u32]) -> Need
     }
 }
 
+// The width of a block for a frame that stands in the block itself, in words.
+#[inline(always)]
+fn narrow_width(frame: &[u32]) -> u32
+    requires { length frame.now ≤ 32000 }
+    ensures value { result ≡ block_width frame.now }
+    ensures positive { 2 ≤ result }
+    ensures narrow { result ≤ 65535 }
+{
+    2 + 2 * frame.len() as u32
+}
+
 /// The width of a block for a frame, in words.
 #[inline(always)]
 pub fn block_width(frame: &[u32]) -> u32
@@ -45,7 +56,7 @@ pub fn block_width(frame: &[u32]) -> u32
     ensures narrow { result ≤ 65535 }
 {
     if frame.len() <= NARROW {
-        2 + 2 * frame.len() as u32
+        narrow_width(frame)
     } else {
         4
     }
@@ -59,6 +70,24 @@ fn is_nothing(need: Need) -> bool
     need.records == 0 && need.fields == 0 && need.texts == 0 && need.bytes == 0
 }
 
+// Makes room for so much in the heap and on both piles. An error, which is want of memory, changes nothing but room, of which there
+// is then no less; a number of fields past 32 bits is want of memory.
+#[inline(never)]
+fn make_room(store: &mut Store, need: Need) -> Result<(), AllocError>
+    ensures free { store.new.queues.region ≡ store.old.queues.region }
+    ensures room { OnOk result (HasRoomFor store.new.heap store.new.pending need) }
+    ensures rest { OnlyReserves store.old store.new }
+{
+    if need.fields > u64::from(u32::MAX) {
+        return Err(AllocError);
+    }
+    store
+        .heap
+        .reserve(need.records, need.fields, need.texts, need.bytes)?;
+    store.pending.words.reserve(need.fields as usize)?;
+    store.pending.labelled.reserve(need.fields as usize)
+}
+
 /// Makes room for so much in the heap and on both piles, and does nothing where there is no need. An error, which is want of
 /// memory, changes nothing but room, of which there is then no less; a number of fields past 32 bits is want of memory.
 #[inline(always)]
@@ -70,16 +99,10 @@ pub fn reserve_room(store: &mut Store, need: Need) -> Result<(), AllocError>
     ensures rest { OnlyReserves store.old store.new }
 {
     if is_nothing(need) {
-        return Ok(());
+        Ok(())
+    } else {
+        make_room(store, need)
     }
-    if need.fields > u64::from(u32::MAX) {
-        return Err(AllocError);
-    }
-    store
-        .heap
-        .reserve(need.records, need.fields, need.texts, need.bytes)?;
-    store.pending.words.reserve(need.fields as usize)?;
-    store.pending.labelled.reserve(need.fields as usize)
 }
 
 /// Makes room for so much in the heap and on the piles, and free blocks until there are `count` of this width, in words. Where
@@ -100,6 +123,18 @@ pub fn reserve(store: &mut Store, need: Need, width: u32, count: u64) -> Result<
     store.queues.reserve(width, count)
 }
 
+// Makes room for a block of a frame, and in the heap and on the piles for so much more. An error, which is want of memory, changes
+// nothing but room.
+#[inline(never)]
+fn reserve_part_and(store: &mut Store, frame: &[u32], further: Need) -> Result<(), AllocError>
+    ensures ok { OnOk result (CanHoldAnd store.new frame.now further) }
+    ensures most { MakesOnly store.old.queues store.new.queues (block_width frame.now ∷ []) }
+    ensures rest { OnlyReserves store.old store.new }
+{
+    let need = both(frame_need(frame), further)?;
+    reserve(store, need, block_width(frame), 1)
+}
+
 /// Makes room for a block of a frame, and in the heap and on the piles for so much more. Where nothing more is needed, the
 /// frame stands in a block itself and one of its width is free, it takes no memory. An error, which is want of memory, changes
 /// nothing but room.
@@ -110,31 +145,75 @@ pub fn reserve_part(store: &mut Store, frame: &[u32], further: Need) -> Result<(
     ensures most { MakesOnly store.old.queues store.new.queues (block_width frame.now ∷ []) }
     ensures rest { OnlyReserves store.old store.new }
 {
-    let width = block_width(frame);
-    if frame.len() <= NARROW {
-        reserve(store, further, width, 1)
+    if frame.len() <= NARROW && is_nothing(further) {
+        store.queues.reserve(narrow_width(frame), 1)
     } else {
-        let need = both(frame_need(frame), further)?;
-        reserve(store, need, width, 1)
+        reserve_part_and(store, frame, further)
     }
 }
 
-/// Makes room for blocks of two frames. An error, which is want of memory, changes nothing but room.
+// Makes blocks of two widths, in words, until one of each is free, or two where the widths are equal. An error, which is want of
+// memory, changes nothing but room.
 #[inline(always)]
-pub fn reserve_parts(store: &mut Store, first: &[u32], second: &[u32]) -> Result<(), AllocError>
+fn reserve_blocks(store: &mut Store, width: u32, other: u32) -> Result<(), AllocError>
+    requires positive { 2 ≤ width }
+    requires narrow { width ≤ 65535 }
+    requires other_positive { 2 ≤ other }
+    requires other_narrow { other ≤ 65535 }
+    ensures one { OnOk result (1 ≤ spare store.new.queues.region width) }
+    ensures other { OnOk result ((if other == width then 2 else 1) ≤ spare store.new.queues.region other) }
+    ensures most { MakesOnly store.old.queues store.new.queues (width ∷ other ∷ []) }
+    ensures rest { OnlyReserves store.old store.new }
+{
+    if other == width {
+        store.queues.reserve(width, 2)
+    } else {
+        store.queues.reserve(width, 1)?;
+        store.queues.reserve(other, 1)
+    }
+}
+
+// Makes room for blocks of two frames, and in the heap and on the piles for records of them. An error, which is want of memory,
+// changes nothing but room.
+#[inline(never)]
+fn reserve_wide_parts(store: &mut Store, first: &[u32], second: &[u32]) -> Result<(), AllocError>
     ensures ok { OnOk result (CanHoldBoth store.new first.now second.now) }
     ensures most { MakesOnly store.old.queues store.new.queues (block_width first.now ∷ block_width second.now ∷ []) }
     ensures rest { OnlyReserves store.old store.new }
 {
     let need = both(frame_need(first), frame_need(second))?;
-    let width = block_width(first);
-    let other = block_width(second);
-    if other == width {
-        reserve(store, need, width, 2)
+    reserve_room(store, need)?;
+    reserve_blocks(store, block_width(first), block_width(second))
+}
+
+// Makes room for blocks of two frames. An error, which is want of memory, changes nothing but room.
+#[inline(always)]
+pub(crate) fn reserve_parts(
+    store: &mut Store,
+    first: &[u32],
+    second: &[u32],
+) -> Result<(), AllocError>
+    ensures ok { OnOk result (CanHoldBoth store.new first.now second.now) }
+    ensures most { MakesOnly store.old.queues store.new.queues (block_width first.now ∷ block_width second.now ∷ []) }
+    ensures rest { OnlyReserves store.old store.new }
+{
+    if first.len() <= NARROW && second.len() <= NARROW {
+        reserve_blocks(store, narrow_width(first), narrow_width(second))
     } else {
-        reserve(store, need, width, 1)?;
-        store.queues.reserve(other, 1)
+        reserve_wide_parts(store, first, second)
     }
+}
+
+// Makes room for a block of an output of kept values, and for so much in the heap and on the piles. An error, which is want of
+// memory, changes nothing but room.
+#[inline(never)]
+fn reserve_kept_and(store: &mut Store, need: Need) -> Result<(), AllocError>
+    ensures block { OnOk result (1 ≤ spare store.new.queues.region 9) }
+    ensures room { OnOk result (HasRoomFor store.new.heap store.new.pending need) }
+    ensures most { MakesOnly store.old.queues store.new.queues (9 ∷ []) }
+    ensures rest { OnlyReserves store.old store.new }
+{
+    reserve(store, need, KEPT_WIDTH, 1)
 }
 
 /// Makes room for a block of an output of kept values, and for so much in the heap and on the piles. Where nothing else is needed
@@ -147,5 +226,9 @@ pub fn reserve_kept(store: &mut Store, need: Need) -> Result<(), AllocError>
     ensures most { MakesOnly store.old.queues store.new.queues (9 ∷ []) }
     ensures rest { OnlyReserves store.old store.new }
 {
-    reserve(store, need, KEPT_WIDTH, 1)
+    if is_nothing(need) {
+        store.queues.reserve(KEPT_WIDTH, 1)
+    } else {
+        reserve_kept_and(store, need)
+    }
 }

@@ -67,3 +67,20 @@ fn blocks_move_from_queue_to_queue(rt: HostRuntime) -> Result<(), AllocError> {
     assert_eq!(rt; queues.add_queue()?.0, 2);
     Ok(())
 }
+
+#[test]
+fn values_are_read_in_place(rt: HostRuntime) -> Result<(), AllocError> {
+    let mut queues = Queues::new(rt.alloc());
+    let queue = queues.add_queue()?;
+    queues.reserve(6, 1)?;
+    let block = queues.take_values(6, 9, &[0, 2], &[(1, 2), (3, 4), (5, 6)]);
+    queues.push_front(queue, block);
+    let mut values = [(0, 0); 3];
+    queues.peek_values(queue, 2, &[0, 2], &mut values);
+    assert_eq!(rt; values, [(1, 2), (0, 0), (5, 6)]);
+    let work = queues.work();
+    queues.move_front(queue, queue);
+    assert_eq!(rt; queues.work(), work);
+    assert_eq!(rt; queues.peek(queue, 1), Some(9));
+    Ok(())
+}

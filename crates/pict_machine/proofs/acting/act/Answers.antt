@@ -1,74 +1,50 @@
-use Rattle.std.proofs.Common.{◌≡◌, ◌-◌, sym, ◌∙◌, subst, arith}
-use Rattle.pict_region.specs.RegionState.{words_of}
-use Rattle.pict_queue.specs.QueuesState.{QueuesState}
-use Rattle.pict_queue.specs.Contents.{held_words}
+use Rattle.std.proofs.Common.{subst, get_or, map, None, arith}
+use Rattle.std.proofs.lemmas.List.{length-map}
+use Rattle.pict_code.specs.Instruction.{Op}
+use Rattle.pict_code.specs.Plain.{plain_node}
 use Rattle.pict_turns.specs.Acting.{core_in}
-use Rattle.pict_turns.specs.Views.{IsNode}
-use Rattle.pict_turns.specs.declared.store.Store.{Store}
-use Rattle.pict_machine.proofs.Working.{fits_read, get_costs}
-use Rattle.pict_machine.proofs.Passing.{reads_word, step_read, node_by, kept_by}
-use Rattle.pict_machine.proofs.Needing.{needed_read}
-use Rattle.pict_machine.proofs.Plainly.{acts_plainly_read, nothing_read, kept_sends}
+use Rattle.pict_turns.proofs.Numbered.{in_code, coded_at}
+use Rattle.pict_turns.proofs.Turns.{nobody_acts}
+use Rattle.pict_machine.specs.Constants.{IsConstantFor}
+use Rattle.pict_machine.proofs.KeptOutputs.{kept_is}
+use Rattle.pict_machine.proofs.MadeOnce.{as_many, constant_at}
+use Rattle.pict_machine.proofs.Passing.{op_read}
+use Rattle.pict_machine.proofs.Plainly.{kept_sends}
+use Rattle.pict_machine.proofs.Taking.{node_low, number_acts}
+use Rattle.pict_machine.proofs.Working.{frame_there}
 use Rattle.pict_machine.proofs.acting.act.Goals as goal
 
-pub act_node-requires-clause-is : goal.act_node-requires-clause-is
-act_node-requires-clause-is c =
-    let s = c.args.store.now in
-    let core = core_in c.args.code.now in
-    let n = node_by core s.heap (words_of s.queues.region c.args.block) c.requires.may.acting.is (λ e. c.if-first-eq0.false (c.get-first.ensures.word ∙ e)) in
-    subst (λ (q : QueuesState). (x : IsNode core s.heap (held_words q.region c.args.block)) × (x.number ≡ c.get-first.result - 1)) (sym c.get-first.ensures.rest)
-    (subst (λ k. (x : IsNode core s.heap (held_words s.queues.region c.args.block)) × (x.number ≡ k - 1)) (sym c.get-first.ensures.word) n)
+pub unreachable-requires : goal.unreachable-requires
+unreachable-requires c = nobody_acts (core_in c.args.code.now) c.args.store.now c.requires.may.acting c.in-Nobody.is
 
-pub returns-then-first-eq0-clause-step : goal.returns-then-first-eq0-clause-step
-returns-then-first-eq0-clause-step c =
-    let s = c.args.store.now in
-    let mid : Store = record s { queues = c.get-first.new.self } in
-    step_read c.args.code.now s mid c.args.block (reads_word s c.get-first.new.self _ c.requires.may.acting.store.pairs c.get-first.ensures.rest) c.requires.may c.output_kept.new.store c.output_kept.result c.output_kept.ensures.step
+pub bounds-code-number : goal.bounds-code-number
+bounds-code-number c = in_code c.args.code.now c.requires.may.code_is c.in-Node.number (node_low (core_in c.args.code.now) c.args.store.now c.requires.may.acting c.in-Node.number c.in-Node.is)
 
-pub returns-else-first-eq0-clause-step : goal.returns-else-first-eq0-clause-step
-returns-else-first-eq0-clause-step c =
-    let s = c.args.store.now in
-    let mid : Store = record s { queues = c.get-first.new.self } in
-    step_read c.args.code.now s mid c.args.block (reads_word s c.get-first.new.self _ c.requires.may.acting.store.pairs c.get-first.ensures.rest) c.requires.may c.act_node.new.store c.act_node.result c.act_node.ensures.step
+pub bounds-constants-number : goal.bounds-constants-number
+bounds-constants-number c =
+    let code = c.args.code.now in
+    let low = in_code code c.requires.may.code_is c.in-Node.number (node_low (core_in code) c.args.store.now c.requires.may.acting c.in-Node.number c.in-Node.is) in
+    let same = as_many c.args.store.now.heap (map plain_node code) c.args.constants.now c.requires.constants in
+    omega (arith, low, same, length-map code plain_node)
 
-pub returns-then-first-eq0-clause-work : goal.returns-then-first-eq0-clause-work
-returns-then-first-eq0-clause-work c =
-    let s = c.args.store.now in
-    let mid : Store = record s { queues = c.get-first.new.self } in
-    fits_read (core_in c.args.code.now) s mid c.output_kept.new.store c.args.block 2 3 1 (reads_word s c.get-first.new.self _ c.requires.may.acting.store.pairs c.get-first.ensures.rest)
-    (get_costs s.queues c.get-first.new.self c.get-first.ensures.rest) c.output_kept.ensures.work (omega arith)
+pub act_by-requires-clause-acts : goal.act_by-requires-clause-acts
+act_by-requires-clause-acts c =
+    let code = c.args.code.now in
+    let low = in_code code c.requires.may.code_is c.in-Node.number (node_low (core_in code) c.args.store.now c.requires.may.acting c.in-Node.number c.in-Node.is) in
+    let x = frame_there code c.in-Node.number low in
+    number_acts (core_in code) c.args.store.now c.requires.may.acting c.in-Node.number c.in-Node.is x.1.node _ (coded_at code c.requires.may.code_is c.in-Node.number x.0 x.1)
+    (op_read code c.in-Node.number c.index-code-number.result x.1.node x.1.at c.index-code-number.is)
 
-pub returns-else-first-eq0-clause-work : goal.returns-else-first-eq0-clause-work
-returns-else-first-eq0-clause-work c =
-    let s = c.args.store.now in
-    let mid : Store = record s { queues = c.get-first.new.self } in
-    fits_read (core_in c.args.code.now) s mid c.act_node.new.store c.args.block 2 3 1 (reads_word s c.get-first.new.self _ c.requires.may.acting.store.pairs c.get-first.ensures.rest)
-    (get_costs s.queues c.get-first.new.self c.get-first.ensures.rest) c.act_node.ensures.work (omega arith)
+pub act_by-requires-clause-constant : goal.act_by-requires-clause-constant
+act_by-requires-clause-constant c =
+    let code = c.args.code.now in
+    let low = in_code code c.requires.may.code_is c.in-Node.number (node_low (core_in code) c.args.store.now c.requires.may.acting c.in-Node.number c.in-Node.is) in
+    let x = frame_there code c.in-Node.number low in
+    subst (λ (o : Op). IsConstantFor c.args.store.now.heap o (get_or c.args.constants.now c.in-Node.number None)) (op_read code c.in-Node.number c.index-code-number.result x.1.node x.1.at c.index-code-number.is)
+    (constant_at c.args.store.now.heap (map plain_node code) c.args.constants.now c.in-Node.number x.1.node None c.requires.constants x.1.at)
 
-pub returns-then-first-eq0-clause-blocks : goal.returns-then-first-eq0-clause-blocks
-returns-then-first-eq0-clause-blocks c =
-    let s = c.args.store.now in
-    let mid : Store = record s { queues = c.get-first.new.self } in
-    needed_read (core_in c.args.code.now) s mid c.args.block (reads_word s c.get-first.new.self _ c.requires.may.acting.store.pairs c.get-first.ensures.rest) c.output_kept.new.store c.output_kept.ensures.blocks
-
-pub returns-then-first-eq0-clause-plain : goal.returns-then-first-eq0-clause-plain
-returns-then-first-eq0-clause-plain c x =
+pub returns-in-Output-clause-plain : goal.returns-in-Output-clause-plain
+returns-in-Output-clause-plain c x =
     let core = core_in c.args.code.now in
     let s = c.args.store.now in
-    let mid : Store = record s { queues = c.get-first.new.self } in
-    let r = reads_word s c.get-first.new.self _ c.requires.may.acting.store.pairs c.get-first.ensures.rest in
-    nothing_read s mid c.output_kept.new.store c.output_kept.result r (c.output_kept.ensures.plain (kept_sends core s mid c.args.block r (kept_by core s.heap (words_of s.queues.region c.args.block) c.requires.may.acting.is (sym c.get-first.ensures.word ∙ c.if-first-eq0.true)) x))
-
-pub returns-else-first-eq0-clause-blocks : goal.returns-else-first-eq0-clause-blocks
-returns-else-first-eq0-clause-blocks c =
-    let s = c.args.store.now in
-    let mid : Store = record s { queues = c.get-first.new.self } in
-    needed_read (core_in c.args.code.now) s mid c.args.block (reads_word s c.get-first.new.self _ c.requires.may.acting.store.pairs c.get-first.ensures.rest) c.act_node.new.store c.act_node.ensures.blocks
-
-pub returns-else-first-eq0-clause-plain : goal.returns-else-first-eq0-clause-plain
-returns-else-first-eq0-clause-plain c x =
-    let core = core_in c.args.code.now in
-    let s = c.args.store.now in
-    let mid : Store = record s { queues = c.get-first.new.self } in
-    let r = reads_word s c.get-first.new.self _ c.requires.may.acting.store.pairs c.get-first.ensures.rest in
-    nothing_read s mid c.act_node.new.store c.act_node.result r (c.act_node.ensures.plain (acts_plainly_read core s mid c.args.block r x))
+    c.output_kept.ensures.plain (kept_sends core s (kept_is core s c.requires.may.acting c.in-Output.kept c.in-Output.is) x)

@@ -1,52 +1,34 @@
-use Rattle.std.proofs.Common.{◌≡◌, sym, ◌∙◌, subst, arith}
-use Rattle.pict_queue.specs.Contents.{held_words}
-use Rattle.pict_turns.specs.declared.store.Store.{Store}
-use Rattle.pict_turns.proofs.AfterReading.{words_read}
-use Rattle.pict_machine.specs.Sending.{HoldsKept}
+use Rattle.std.proofs.Common.{sym, ◌∙◌}
+use Rattle.pict_blocks.specs.Blocks.{value_in}
 use Rattle.pict_turns.specs.Acting.{core_in}
-use Rattle.pict_machine.proofs.Working.{fits_read}
-use Rattle.pict_machine.proofs.Passing.{reads_works, may_read, step_read}
-use Rattle.pict_machine.proofs.Needing.{needed_read}
-use Rattle.pict_machine.proofs.Plainly.{sends_read, nothing_read}
+use Rattle.pict_machine.proofs.Channels.{named_channel}
+use Rattle.pict_machine.proofs.KeptOutputs.{kept_to, kept_send, sends_kept}
 use Rattle.pict_machine.proofs.outputs.output_kept.Goals as goal
 
-pub output_words-requires-clause-may : goal.output_words-requires-clause-may
-output_words-requires-clause-may c =
-    let s = c.args.store.now in
-    let mid : Store = record s { queues = c.read_kept-kept.new.queues } in
-    may_read c.args.code.now s mid c.args.block (reads_works s c.read_kept-kept.new.queues c.requires.may.acting.store.pairs c.read_kept-kept.ensures.rest) c.requires.may
+pub channel_of-requires : goal.channel_of-requires
+channel_of-requires c = (c.args.store.now.heap, kept_to (core_in c.args.code.now) c.args.store.now c.requires.may.acting c.args.kept c.requires.kept)
 
-pub output_words-requires-clause-kept : goal.output_words-requires-clause-kept
-output_words-requires-clause-kept c =
+pub send_kept-requires-clause-kept : goal.send_kept-requires-clause-kept
+send_kept-requires-clause-kept c =
+    let core = core_in c.args.code.now in
     let s = c.args.store.now in
-    let k = c.requires.kept in
-    let mid : Store = record s { queues = c.read_kept-kept.new.queues } in
-    let words = words_read s mid (reads_works s c.read_kept-kept.new.queues c.requires.may.acting.store.pairs c.read_kept-kept.ensures.rest) c.args.block in
-    let read : c.read_kept-kept.result ≡ k.kept = c.read_kept-kept.ensures.kept k.kept k.fits k.is in
-    subst (HoldsKept s.heap (held_words c.read_kept-kept.new.queues.region c.args.block)) (sym read) (record { is = words ∙ k.is; fits = k.fits; to = k.to; message = k.message })
+    let to = c.channel_of.ensures s.heap (kept_to core s c.requires.may.acting c.args.kept c.requires.kept) in
+    sends_kept core s c.requires.may.acting c.args.kept c.requires.kept c.in-Some.channel
+    (named_channel (value_in s.heap c.args.kept.to.0 c.args.kept.to.1) c.in-Some.channel (sym c.in-Some.is ∙ to))
 
-pub returns-clause-step : goal.returns-clause-step
-returns-clause-step c =
+pub send_kept-requires-clause-sends : goal.send_kept-requires-clause-sends
+send_kept-requires-clause-sends c =
+    let core = core_in c.args.code.now in
     let s = c.args.store.now in
-    let mid : Store = record s { queues = c.read_kept-kept.new.queues } in
-    step_read c.args.code.now s mid c.args.block (reads_works s c.read_kept-kept.new.queues c.requires.may.acting.store.pairs c.read_kept-kept.ensures.rest) c.requires.may c.output_words.new.store c.output_words.result c.output_words.ensures.step
+    let to = c.channel_of.ensures s.heap (kept_to core s c.requires.may.acting c.args.kept c.requires.kept) in (
+      c.args.kept.at,
+      kept_send core s c.requires.may.acting c.args.kept c.requires.kept c.in-Some.channel
+          (named_channel (value_in s.heap c.args.kept.to.0 c.args.kept.to.1) c.in-Some.channel (sym c.in-Some.is ∙ to)),
+    )
 
-pub returns-clause-work : goal.returns-clause-work
-returns-clause-work c =
+pub call_kept-requires-clause-elsewhere : goal.call_kept-requires-clause-elsewhere
+call_kept-requires-clause-elsewhere c =
+    let core = core_in c.args.code.now in
     let s = c.args.store.now in
-    let mid : Store = record s { queues = c.read_kept-kept.new.queues } in
-    fits_read (core_in c.args.code.now) s mid c.output_words.new.store c.args.block 3 10 7 (reads_works s c.read_kept-kept.new.queues c.requires.may.acting.store.pairs c.read_kept-kept.ensures.rest)
-    c.read_kept-kept.ensures.cost c.output_words.ensures.work (omega arith)
-
-pub returns-clause-blocks : goal.returns-clause-blocks
-returns-clause-blocks c =
-    let s = c.args.store.now in
-    let mid : Store = record s { queues = c.read_kept-kept.new.queues } in
-    needed_read (core_in c.args.code.now) s mid c.args.block (reads_works s c.read_kept-kept.new.queues c.requires.may.acting.store.pairs c.read_kept-kept.ensures.rest) c.output_words.new.store c.output_words.ensures.blocks
-
-pub returns-clause-plain : goal.returns-clause-plain
-returns-clause-plain c x =
-    let s = c.args.store.now in
-    let mid : Store = record s { queues = c.read_kept-kept.new.queues } in
-    let r = reads_works s c.read_kept-kept.new.queues c.requires.may.acting.store.pairs c.read_kept-kept.ensures.rest in
-    nothing_read s mid c.output_words.new.store c.output_words.result r (c.output_words.ensures.plain (sends_read (core_in c.args.code.now) s mid c.args.block r x))
+    let to = c.channel_of.ensures s.heap (kept_to core s c.requires.may.acting c.args.kept c.requires.kept) in
+    sym to ∙ c.in-None.is

@@ -1,20 +1,18 @@
-use Rattle.std.proofs.Common.{ℕ, ◌+◌, ◌<◌, List, [], ◌∷◌, length, sym, ap, ◌∙◌, subst, arith}
+use Rattle.std.proofs.Common.{◌+◌, ◌<◌, [], ◌∷◌, length, sym, ap, ◌∙◌, subst, arith}
 use Rattle.pict_core.specs.Plain.{plain_val}
 use Rattle.pict_blocks.specs.Blocks.{known, operand_value}
 use Rattle.pict_code.specs.Instruction as op
 use Rattle.pict_queue.specs.QueuesState.{QueuesState}
-use Rattle.pict_queue.specs.Contents.{held_words}
 use Rattle.pict_meetings.specs.Waiting.{oldest}
 use Rattle.pict_turns.specs.Acting.{core_in}
 use Rattle.pict_turns.specs.Parts.{block_width}
-use Rattle.pict_turns.specs.declared.store.Store.{Store}
-use Rattle.pict_turns.proofs.AfterReading.{words_read}
-use Rattle.pict_machine.proofs.Working.{costs_then, meeting_works}
+use Rattle.pict_turns.specs.Views.{acting_words}
+use Rattle.pict_machine.proofs.Working.{costs_then, own_cost, alone_works, meeting_works}
 use Rattle.pict_machine.proofs.Channels.{output_queue}
 use Rattle.pict_machine.proofs.Growing.{operand_worked, operand_process, operand_over}
-use Rattle.pict_machine.proofs.Passing.{reads_works, may_read, step_read}
-use Rattle.pict_machine.proofs.Needing.{only_read, needed_by, node_needs, wait_needs, meeting_made}
-use Rattle.pict_machine.proofs.Plainly.{sends_read, nothing_read, serves}
+use Rattle.pict_machine.proofs.Passing.{may_worked, step_worked}
+use Rattle.pict_machine.proofs.Needing.{only_worked, needed_by, node_needs, wait_needs, meeting_made}
+use Rattle.pict_machine.proofs.Plainly.{plainly_sent, nothing_worked, serves}
 use Rattle.pict_machine.proofs.sending.send.Goals as goal
 
 pub first_waiting-requires-clause-queue : goal.first_waiting-requires-clause-queue
@@ -22,69 +20,67 @@ first_waiting-requires-clause-queue c =
     let core = core_in c.args.code.now in
     let s = c.args.store.now in
     let message = plain_val c.args.message.now in
-    output_queue core s c.args.block c.requires.may.right (operand_value (known s.heap s.values.items) message) c.args.at c.args.channel
-    (operand_process core s c.args.block c.args.channel message c.args.at c.requires.sends)
+    output_queue core s c.requires.may.acting c.requires.may.right (operand_value (known s.heap s.values.items) message) c.args.at c.args.channel
+    (operand_process core s c.args.channel message c.args.at c.requires.sends)
 
 pub first_waiting-requires-clause-waiting : goal.first_waiting-requires-clause-waiting
 first_waiting-requires-clause-waiting c = (core_in c.args.code.now, c.requires.may.acting.store.waiting c.args.channel)
 
 pub send_operand-requires-clause-sends : goal.send_operand-requires-clause-sends
 send_operand-requires-clause-sends c =
-    (c.args.at, operand_worked (core_in c.args.code.now) c.args.store.now c.first_waiting.new.queues c.first_waiting.ensures.rest c.args.block c.args.channel (plain_val c.args.message.now) c.args.at c.requires.sends)
+    (c.args.at, operand_worked (core_in c.args.code.now) c.args.store.now c.first_waiting.new.queues c.first_waiting.ensures.rest c.args.channel (plain_val c.args.message.now) c.args.at c.requires.sends)
 
 pub send_operand-requires-clause-may : goal.send_operand-requires-clause-may
-send_operand-requires-clause-may c =
-    let s = c.args.store.now in
-    let mid : Store = record s { queues = c.first_waiting.new.queues } in
-    may_read c.args.code.now s mid c.args.block (reads_works s c.first_waiting.new.queues c.requires.may.acting.store.pairs c.first_waiting.ensures.rest) c.requires.may
+send_operand-requires-clause-may c = may_worked c.args.code.now c.args.store.now c.first_waiting.new.queues c.first_waiting.ensures.rest c.requires.may
 
 pub park_operand-requires : goal.park_operand-requires
 park_operand-requires c =
     let core = core_in c.args.code.now in
     let s = c.args.store.now in
     let message = plain_val c.args.message.now in
-    let q = c.first_waiting.new.queues in
     record {
-      ready = subst (λ (x : QueuesState). 0 < length x.queues) (sym c.first_waiting.ensures.rest) c.requires.may.acting.store.ready;
       queue = subst (λ (x : QueuesState). c.args.channel + 1 < length x.queues) (sym c.first_waiting.ensures.rest)
-          (output_queue core s c.args.block c.requires.may.right (operand_value (known s.heap s.values.items) message) c.args.at c.args.channel (operand_process core s c.args.block c.args.channel message c.args.at c.requires.sends));
-      held = (c.first_waiting.ensures.kept c.args.block c.requires.may.acting.held).held;
-      over = operand_over core s c.args.block c.args.channel message c.args.at c.requires.sends;
+          (output_queue core s c.requires.may.acting c.requires.may.right (operand_value (known s.heap s.values.items) message) c.args.at c.args.channel (operand_process core s c.args.channel message c.args.at c.requires.sends));
+      over = operand_over core s c.args.channel message c.args.at c.requires.sends;
       pairs = c.requires.may.acting.store.pairs;
       constant = c.requires.constant;
     }
 
 pub returns-in-Input-clause-step : goal.returns-in-Input-clause-step
 returns-in-Input-clause-step c =
-    let s = c.args.store.now in
-    let mid : Store = record s { queues = c.first_waiting.new.queues } in
-    step_read c.args.code.now s mid c.args.block (reads_works s c.first_waiting.new.queues c.requires.may.acting.store.pairs c.first_waiting.ensures.rest) c.requires.may c.send_operand.new.store c.send_operand.result c.send_operand.ensures.step
+    step_worked c.args.code.now c.args.store.now c.first_waiting.new.queues c.first_waiting.ensures.rest c.requires.may c.send_operand.new.store c.send_operand.result c.send_operand.ensures.step
 
 pub returns-in_default-clause-step : goal.returns-in_default-clause-step
 returns-in_default-clause-step c =
     let s = c.args.store.now in
     let core = core_in c.args.code.now in
     let q = c.first_waiting.new.queues in
-    let mid : Store = record s { queues = q } in
-    step_read c.args.code.now s mid c.args.block (reads_works s q c.requires.may.acting.store.pairs c.first_waiting.ensures.rest) c.requires.may c.park_operand.new.store c.park_operand.result
-    (c.park_operand.ensures.step core (operand_worked core s q c.first_waiting.ensures.rest c.args.block c.args.channel (plain_val c.args.message.now) c.args.at c.requires.sends)
+    step_worked c.args.code.now s q c.first_waiting.ensures.rest c.requires.may c.park_operand.new.store c.park_operand.result
+    (c.park_operand.ensures.step core (operand_worked core s q c.first_waiting.ensures.rest c.args.channel (plain_val c.args.message.now) c.args.at c.requires.sends)
     (λ number e. c.in_default.not-Input number (c.first_waiting.ensures.first ∙ sym (ap oldest (c.first_waiting.ensures.contents (c.args.channel + 1))) ∙ e)))
 
 pub returns-in-Input-clause-work : goal.returns-in-Input-clause-work
-returns-in-Input-clause-work c x own f =
+returns-in-Input-clause-work c =
     let core = core_in c.args.code.now in
     let s = c.args.store.now in
     let message = plain_val c.args.message.now in
-    meeting_works c.args.code.now c.requires.may.code_is s c.send_operand.new.store c.args.block c.requires.may.acting.store c.args.channel c.in-Input.reader
-    (sym c.first_waiting.ensures.first ∙ c.in-Input.is) (operand_value (known s.heap s.values.items) message) c.args.at (operand_process core s c.args.block c.args.channel message c.args.at x)
+    let x = c.requires.sends in
+    meeting_works c.args.code.now c.requires.may.code_is s c.send_operand.new.store c.requires.may.acting.store c.args.channel c.in-Input.reader
+    (sym c.first_waiting.ensures.first ∙ c.in-Input.is) (operand_value (known s.heap s.values.items) message) c.args.at (operand_process core s c.args.channel message c.args.at x)
+    c.send_operand.ensures.turn
     (λ replicated pattern part theirs frame i g h. costs_then s.queues c.first_waiting.new.queues c.send_operand.new.store.queues 2 _ _ c.first_waiting.ensures.cost (c.send_operand.ensures.cost replicated pattern part theirs frame i g h) (omega arith))
-    x.chan message c.args.at x.acts own f
+    x.chan message c.args.at x.acts
 
-pub send_operand-requires-clause-width : goal.send_operand-requires-clause-width
-send_operand-requires-clause-width c =
+pub returns-in_default-clause-work : goal.returns-in_default-clause-work
+returns-in_default-clause-work c =
+    let core = core_in c.args.code.now in
     let s = c.args.store.now in
-    let mid : Store = record s { queues = c.first_waiting.new.queues } in
-    ap (λ (ws : List ℕ). length ws + 1) (words_read s mid (reads_works s c.first_waiting.new.queues c.requires.may.acting.store.pairs c.first_waiting.ensures.rest) c.args.block) ∙ c.requires.width
+    let x = c.requires.sends in
+    let o = op.Out x.chan (plain_val c.args.message.now) c.args.at in
+    let own = own_cost core s o x.acts in
+    let turn = c.park_operand.ensures.turn core in
+    alone_works core s c.park_operand.new.store o x.acts 12 (block_width x.acts.node.frame + 4)
+    (costs_then s.queues c.first_waiting.new.queues c.park_operand.new.store.queues 2 10 12 c.first_waiting.ensures.cost c.park_operand.ensures.cost (omega arith)) (omega (arith, own, turn)) (omega arith)
 
 pub returns-in-Input-clause-blocks : goal.returns-in-Input-clause-blocks
 returns-in-Input-clause-blocks c =
@@ -92,12 +88,10 @@ returns-in-Input-clause-blocks c =
     let core = core_in c.args.code.now in
     let message = plain_val c.args.message.now in
     let x = c.requires.sends in
-    let mid : Store = record s { queues = c.first_waiting.new.queues } in
-    let r = reads_works s c.first_waiting.new.queues c.requires.may.acting.store.pairs c.first_waiting.ensures.rest in
-    meeting_made c.args.code.now c.requires.may.code_is s c.args.block (9 ∷ []) (node_needs core s c.args.block (op.Out x.chan message c.args.at) x.acts) c.args.channel (operand_value (known s.heap s.values.items) message) c.args.at
-    (operand_process core s c.args.block c.args.channel message c.args.at x) c.requires.may.acting.store
+    meeting_made c.args.code.now c.requires.may.code_is s (9 ∷ []) (node_needs core s (op.Out x.chan message c.args.at) x.acts) c.args.channel (operand_value (known s.heap s.values.items) message) c.args.at
+    (operand_process core s c.args.channel message c.args.at x) c.requires.may.acting.store
     c.in-Input.reader (sym c.first_waiting.ensures.first ∙ c.in-Input.is) c.send_operand.new.store
-    (λ replicated pattern part frame i f. only_read core s mid c.args.block r c.send_operand.new.store.queues (block_width frame ∷ []) (c.send_operand.ensures.blocks replicated pattern part frame i f))
+    (λ replicated pattern part frame i f. only_worked s.queues c.first_waiting.new.queues c.send_operand.new.store.queues (block_width frame ∷ []) c.first_waiting.ensures.rest (c.send_operand.ensures.blocks replicated pattern part frame i f))
 
 pub returns-in_default-clause-blocks : goal.returns-in_default-clause-blocks
 returns-in_default-clause-blocks c =
@@ -105,26 +99,24 @@ returns-in_default-clause-blocks c =
     let core = core_in c.args.code.now in
     let message = plain_val c.args.message.now in
     let x = c.requires.sends in
-    let mid : Store = record s { queues = c.first_waiting.new.queues } in
-    let r = reads_works s c.first_waiting.new.queues c.requires.may.acting.store.pairs c.first_waiting.ensures.rest in
-    needed_by core s c.args.block c.park_operand.new.store (9 ∷ [])
-    (wait_needs core s c.args.block (9 ∷ []) (node_needs core s c.args.block (op.Out x.chan message c.args.at) x.acts) c.args.channel (operand_value (known s.heap s.values.items) message) c.args.at
-    (operand_process core s c.args.block c.args.channel message c.args.at x)
+    needed_by core s c.park_operand.new.store (9 ∷ [])
+    (wait_needs core s (9 ∷ []) (node_needs core s (op.Out x.chan message c.args.at) x.acts) c.args.channel (operand_value (known s.heap s.values.items) message) c.args.at
+    (operand_process core s c.args.channel message c.args.at x)
     (λ number e. c.in_default.not-Input number (c.first_waiting.ensures.first ∙ e)))
-    (only_read core s mid c.args.block r c.park_operand.new.store.queues (9 ∷ []) c.park_operand.ensures.blocks)
+    (only_worked s.queues c.first_waiting.new.queues c.park_operand.new.store.queues (9 ∷ []) c.first_waiting.ensures.rest c.park_operand.ensures.blocks)
 
 pub returns-in-Input-clause-plain : goal.returns-in-Input-clause-plain
 returns-in-Input-clause-plain c x =
     let s = c.args.store.now in
-    let mid : Store = record s { queues = c.first_waiting.new.queues } in
-    let r = reads_works s c.first_waiting.new.queues c.requires.may.acting.store.pairs c.first_waiting.ensures.rest in
-    nothing_read s mid c.send_operand.new.store c.send_operand.result r (c.send_operand.ensures.plain (sends_read (core_in c.args.code.now) s mid c.args.block r x))
+    let q = c.first_waiting.new.queues in
+    nothing_worked s q c.send_operand.new.store c.send_operand.result c.first_waiting.ensures.rest
+    (c.send_operand.ensures.plain (plainly_sent (core_in c.args.code.now) s q c.first_waiting.ensures.rest (acting_words (core_in c.args.code.now) s) x))
 
 pub returns-in_default-clause-plain : goal.returns-in_default-clause-plain
 returns-in_default-clause-plain c x =
     let core = core_in c.args.code.now in
     let s = c.args.store.now in
     let message = plain_val c.args.message.now in
-    let served = serves core s (held_words s.queues.region c.args.block) c.args.channel (operand_value (known s.heap s.values.items) message) c.args.at
-    (operand_process core s c.args.block c.args.channel message c.args.at c.requires.sends) x in
+    let served = serves core s (acting_words core s) c.args.channel (operand_value (known s.heap s.values.items) message) c.args.at
+    (operand_process core s c.args.channel message c.args.at c.requires.sends) x in
     absurd (c.in_default.not-Input served.0 (c.first_waiting.ensures.first ∙ served.2))

@@ -3,40 +3,45 @@ use Rattle.pict_core.specs.Closed.{IsOver}
 use Rattle.pict_core.specs.Plain.{plain_val}
 use Rattle.pict_code.specs.Instruction as op
 use Rattle.pict_blocks.specs.Blocks.{known, operand_value}
-use Rattle.pict_heap.specs.HeapState.{value_of, IsWord}
-use Rattle.pict_operands.specs.AtHand.{IsOfHeap}
+use Rattle.pict_operands.specs.AtHand.{IsOfHeap, IsPairFor}
 use Rattle.pict_operands.specs.Pairs.{ArePairs}
 use Rattle.pict_turns.specs.Acting.{core_in}
 use Rattle.pict_machine.specs.Constants.{HasNoVariable}
-use Rattle.pict_machine.proofs.Growing.{operand_over, sends_word}
+use Rattle.pict_machine.proofs.Growing.{operand_over, sends_pair}
 use Rattle.pict_machine.proofs.Plainly.{wordless_output}
 use Rattle.pict_machine.proofs.sending.send_operand.Goals as goal
 
-pub word_there-requires-clause-over : goal.word_there-requires-clause-over
-word_there-requires-clause-over c =
+pub pair_there-requires-clause-over : goal.pair_there-requires-clause-over
+pair_there-requires-clause-over c =
     let x = c.requires.sends in
     subst (λ values. IsOver (length values) 0 (plain_val c.args.message.now)) (sym c.deref.ensures.value)
-    (operand_over (core_in c.args.code.now) c.args.store.now c.args.block c.args.channel (plain_val c.args.message.now) x.0 x.1)
+    (operand_over (core_in c.args.code.now) c.args.store.now c.args.channel (plain_val c.args.message.now) x.0 x.1)
 
-pub word_there-requires-clause-pairs : goal.word_there-requires-clause-pairs
-word_there-requires-clause-pairs c = (c.args.store.now.heap, subst (ArePairs c.args.store.now.heap) (sym c.deref.ensures.value) c.requires.may.acting.store.pairs)
+pub pair_there-requires-clause-pairs : goal.pair_there-requires-clause-pairs
+pair_there-requires-clause-pairs c = (c.args.store.now.heap, subst (ArePairs c.args.store.now.heap) (sym c.deref.ensures.value) c.requires.may.acting.store.pairs)
 
-pub send_to_reader-requires-clause-sends : goal.send_to_reader-requires-clause-sends
-send_to_reader-requires-clause-sends c =
+pub send_to_reader-done-requires-clause-sends : goal.send_to_reader-done-requires-clause-sends
+send_to_reader-done-requires-clause-sends c =
     let s = c.args.store.now in
     let message = plain_val c.args.message.now in
     let x = c.requires.sends in
     let pairs = subst (ArePairs s.heap) (sym c.deref.ensures.value) c.requires.may.acting.store.pairs in
-    let word : IsWord s.heap c.in-Some.word × (value_of s.heap c.in-Some.word ≡ operand_value (known s.heap s.values.items) message) =
-    subst (λ values. IsWord s.heap c.in-Some.word × (value_of s.heap c.in-Some.word ≡ operand_value (known s.heap values) message)) c.deref.ensures.value (c.in-Some.ensures.word s.heap pairs c.requires.constant) in
-    (x.0, sends_word (core_in c.args.code.now) s c.args.block c.args.channel message x.0 x.1 c.in-Some.word word.0 word.1)
+    let pair : IsPairFor s.heap (operand_value (known s.heap s.values.items) message) c.in-Some.pair =
+    subst (λ values. IsPairFor s.heap (operand_value (known s.heap values) message) c.in-Some.pair) c.deref.ensures.value (c.in-Some.ensures.pair s.heap pairs c.requires.constant) in
+    (x.0, sends_pair (core_in c.args.code.now) s c.args.channel message x.0 x.1 c.in-Some.pair pair)
+
+pub receipt-requires : goal.receipt-requires
+receipt-requires c =
+    let s = c.args.store.now in
+    let pairs = subst (ArePairs s.heap) (sym c.deref.ensures.value) c.requires.may.acting.store.pairs in
+    record { pair = (s.heap, (c.in-Some.ensures.pair s.heap pairs c.requires.constant).pair_is) }
 
 pub returns-in-None-clause-plain : goal.returns-in-None-clause-plain
 returns-in-None-clause-plain c x =
     let s = c.args.store.now in
     let sends = c.requires.sends in
     let message = plain_val c.args.message.now in
-    let wordless = wordless_output (core_in c.args.code.now) s c.args.block (op.Out sends.1.chan message sends.0) sends.1.acts x in
+    let wordless = wordless_output (core_in c.args.code.now) s (op.Out sends.1.chan message sends.0) sends.1.acts x in
     let is : op.Out sends.1.chan message sends.0 ≡ op.Out wordless.0 wordless.1 wordless.2 = wordless.3 in
     let same : message ≡ wordless.1 = cc in
     let none = c.in-None.ensures.none s.heap c.requires.constant refl in

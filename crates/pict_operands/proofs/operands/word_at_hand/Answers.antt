@@ -1,5 +1,4 @@
 use Rattle.std.proofs.Common.{ℕ, List, ◌≡◌, sym, ap, ◌∙◌, subst}
-use Rattle.pict_core.specs.Term.{Val}
 use Rattle.pict_core.specs.Plain.{plain_val}
 use Rattle.pict_frames.specs.Framed.{pair_at}
 use Rattle.pict_heap.specs.HeapState.{HeapState, value_of, IsWord}

@@ -24,4 +24,5 @@ returns c =
       no_more = c.add_queue.ensures.no_more;
       heap = refl;
       pending = refl;
+      turn = refl;
     }

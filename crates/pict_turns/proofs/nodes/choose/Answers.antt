@@ -1,36 +1,39 @@
-use Rattle.std.proofs.Common.{ℕ, ◌+◌, ◌≡◌, List, ◌∷◌, [], Some, sym, ap, ◌∙◌, subst, max, map, arith}
-use Rattle.std.specs.List.{slice_get}
+use Rattle.std.proofs.Common.{ℕ, ◌∷◌, [], sym, ap, ◌∙◌, subst, map, arith}
 use Rattle.pict_core.specs.Plain.{plain_val}
 use Rattle.pict_core.specs.Step.{Quiet}
 use Rattle.pict_core.specs.Term.{Val}
 use Rattle.pict_code.specs.Instruction as op
-use Rattle.pict_code.specs.Nodes.{nodes_of}
 use Rattle.pict_code.specs.Plain.{plain_node}
-use Rattle.pict_queue.specs.Contents.{contents}
-use Rattle.pict_frames.proofs.Costs.{costs_more, costs_nothing}
+use Rattle.pict_code.proofs.Lines.{on_err}
 use Rattle.pict_blocks.specs.Blocks.{operand_value}
+use Rattle.pict_queue.specs.QueuesState.{QueuesState}
 use Rattle.pict_turns.specs.Acting.{core_in}
-use Rattle.pict_turns.specs.Parts.{Places, block_width}
-use Rattle.pict_turns.proofs.Making.{makes_before, makes_chosen}
-use Rattle.pict_turns.proofs.Numbered.{coded_at, coded_inside, in_code, if_parts, test_over, test_boolean, chosen_low, chosen_width}
-use Rattle.pict_turns.proofs.Room.{store_still, acting_still, acts_still, known_still, done_after, refused_after}
-use Rattle.pict_turns.proofs.Steps.{choose_done}
+use Rattle.pict_turns.specs.Parts.{block_width}
+use Rattle.pict_turns.specs.Widths.{MakesOnly}
+use Rattle.pict_turns.proofs.Handing.{handed_cost}
+use Rattle.pict_turns.proofs.Making.{makes_chosen}
+use Rattle.pict_turns.proofs.Numbered.{coded_frame, coded_inside, in_code, if_parts, test_over, test_boolean, chosen_low, chosen_width}
+use Rattle.pict_turns.proofs.Room.{can_hold, store_still, acts_still, known_still, done_after, refused_still}
+use Rattle.pict_turns.proofs.Steps.{choose_by}
 use Rattle.pict_turns.proofs.nodes.choose.Goals as goal
 
 pub chosen-part-requires-clause-over : goal.chosen-part-requires-clause-over
 chosen-part-requires-clause-over c =
-    test_over (core_in c.args.code.now) c.args.store.now c.args.block (plain_val c.args.test.now) c.args.yes c.args.no c.requires.code.closed c.requires.acts
+    test_over (core_in c.args.code.now) c.args.store.now (plain_val c.args.test.now) c.args.yes c.args.no c.requires.code.closed c.requires.acts
 
 pub chosen-part-requires-clause-boolean : goal.chosen-part-requires-clause-boolean
 chosen-part-requires-clause-boolean c =
-    test_boolean (core_in c.args.code.now) c.args.store.now c.args.block (plain_val c.args.test.now) c.args.yes c.args.no c.requires.code.closed c.requires.acts c.requires.right
+    test_boolean (core_in c.args.code.now) c.args.store.now (plain_val c.args.test.now) c.args.yes c.args.no c.requires.code.closed c.requires.acts c.requires.right
 
 pub frame_at-frame-requires : goal.frame_at-frame-requires
 frame_at-frame-requires c =
-    let low = if_parts (core_in c.args.code.now) c.args.store.now c.args.block (plain_val c.args.test.now) c.args.yes c.args.no c.requires.acts in
+    let low = if_parts (core_in c.args.code.now) c.args.store.now (plain_val c.args.test.now) c.args.yes c.args.no c.requires.acts in
     let b = c.chosen-part.ensures in
     chosen_low b.0 c.args.yes c.args.no _ c.chosen-part.result
     (in_code c.args.code.now c.requires.code c.args.yes low.0) (in_code c.args.code.now c.requires.code c.args.no low.1) b.2
+
+pub hand_on-requires-clause-can : goal.hand_on-requires-clause-can
+hand_on-requires-clause-can c = can_hold c.reserve_part.new.store c.frame_at-frame.result.now _ c.in_ok-reserve_part.ensures.ok
 
 pub hand_on-requires-clause-inside : goal.hand_on-requires-clause-inside
 hand_on-requires-clause-inside c =
@@ -38,56 +41,49 @@ hand_on-requires-clause-inside c =
     coded_inside c.args.code.now c.requires.code mid (store_still (core_in c.args.code.now) c.args.store.now mid c.reserve_part.ensures.rest c.requires.acts.acting.store)
     c.chosen-part.result c.frame_at-frame.result.now c.frame_at-frame.ensures
 
-pub returns-in-Ok-clause-done : goal.returns-in-Ok-clause-done
-returns-in-Ok-clause-done c =
+pub hand_on-requires-clause-pairs : goal.hand_on-requires-clause-pairs
+hand_on-requires-clause-pairs c =
+    (store_still (core_in c.args.code.now) c.args.store.now c.reserve_part.new.store c.reserve_part.ensures.rest c.requires.acts.acting.store).pairs
+
+pub returns-clause-done : goal.returns-clause-done
+returns-clause-done c =
     let core = core_in c.args.code.now in
     let old = c.args.store.now in
     let mid = c.reserve_part.new.store in
-    let last = c.hand_on.new.store in
     let rest = c.reserve_part.ensures.rest in
-    let f = c.frame_at-frame.ensures in
+    let f = coded_frame c.args.code.now c.requires.code c.chosen-part.result c.frame_at-frame.result.now c.frame_at-frame.ensures in
     let test = plain_val c.args.test.now in
     let b = c.chosen-part.ensures in
-    done_after core old mid rest c.args.block last c.requires.acts.acting Quiet
-    (choose_done core mid last c.args.block c.args.yes c.args.no test b.0 f.node c.requires.code.closed
-    (acts_still core old mid rest c.args.block (op.If test c.args.yes c.args.no) c.requires.acts)
-    (ap (λ (value : ℕ → Val). operand_value value test) (known_still core old mid rest) ∙ b.1)
-    (subst (λ (k : ℕ). slice_get (nodes_of core) k ≡ Some f.node) b.2 (coded_at c.args.code.now c.requires.code c.chosen-part.result c.frame_at-frame.result.now f))
-    (subst (λ (k : ℕ). Places mid last k f.node.frame (λ words. words ∷ contents mid.queues 0)) b.2
-    (subst (λ (frame : List ℕ). Places mid last c.chosen-part.result frame (λ words. words ∷ contents mid.queues 0)) (sym f.is) c.hand_on.ensures.places)) c.hand_on.ensures.gone)
+    done_after core old mid rest c.hand_on.new.store Quiet
+    (choose_by core mid c.hand_on.new.store c.args.yes c.args.no c.chosen-part.result test b.0 c.frame_at-frame.result.now c.requires.code.closed
+    (acts_still core old mid rest (op.If test c.args.yes c.args.no) c.requires.acts)
+    (ap (λ (value : ℕ → Val). operand_value value test) (known_still core old mid rest) ∙ b.1) b.2 f (c.hand_on.ensures.hands core f) c.in_ok-reserve_part.ensures.ok.block)
 
-pub returns-in-Ok-clause-blocks : goal.returns-in-Ok-clause-blocks
-returns-in-Ok-clause-blocks c = λ b is.
-    let a = c.chosen-part.ensures in
-    let old = c.args.store.now.queues in
-    let mid = c.reserve_part.new.store.queues in
-    let last = c.hand_on.new.store.queues in
-    makes_chosen (map plain_node c.args.code.now) old last _ a.0 b c.args.yes c.args.no c.chosen-part.result _ a.1 is a.2 c.frame_at-frame.ensures
-    (makes_before old mid last (block_width c.frame_at-frame.result.now ∷ []) c.reserve_part.ensures.most c.hand_on.ensures.blocks)
-
-pub returns-in-Err-clause-blocks : goal.returns-in-Err-clause-blocks
-returns-in-Err-clause-blocks c = λ b is.
-    let a = c.chosen-part.ensures in
-    let old = c.args.store.now.queues in
-    let mid = c.reserve_part.new.store.queues in
-    let last = c.refuse.new.store.queues in
-    makes_chosen (map plain_node c.args.code.now) old last _ a.0 b c.args.yes c.args.no c.chosen-part.result _ a.1 is a.2 c.frame_at-frame.ensures
-    (makes_before old mid last (block_width c.frame_at-frame.result.now ∷ []) c.reserve_part.ensures.most c.refuse.ensures.blocks)
-
-pub returns-in-Ok-clause-cost : goal.returns-in-Ok-clause-cost
-returns-in-Ok-clause-cost c = λ first second one other.
-    let mid = c.reserve_part.new.store.queues in
-    let b = c.chosen-part.ensures in
-    let w = block_width c.frame_at-frame.result.now in
-    let low = chosen_width (map plain_node c.args.code.now) b.0 c.chosen-part.result c.args.yes c.args.no c.frame_at-frame.result.now first second b.2 c.frame_at-frame.ensures one other in
-    costs_more c.args.store.now.queues mid c.hand_on.new.store.queues 0 (w + 3) (max (block_width first) (block_width second) + 3) (omega (arith, low))
-    (costs_nothing c.args.store.now.queues mid c.reserve_part.ensures.rest.work) c.hand_on.ensures.cost
-
-pub returns-in-Err-clause-refused : goal.returns-in-Err-clause-refused
-returns-in-Err-clause-refused c =
+pub returns-clause-turn : goal.returns-clause-turn
+returns-clause-turn c = λ first second one other.
     let core = core_in c.args.code.now in
-    let old = c.args.store.now in
-    let mid = c.reserve_part.new.store in
-    let rest = c.reserve_part.ensures.rest in
-    refused_after core old mid rest c.args.block c.refuse.new.store c.requires.acts.acting
-    (c.refuse.ensures.refused core (acting_still core old mid rest c.args.block c.requires.acts.acting))
+    let f = coded_frame c.args.code.now c.requires.code c.chosen-part.result c.frame_at-frame.result.now c.frame_at-frame.ensures in
+    let b = c.chosen-part.ensures in
+    let low = chosen_width (map plain_node c.args.code.now) b.0 c.chosen-part.result c.args.yes c.args.no c.frame_at-frame.result.now first second b.2 c.frame_at-frame.ensures one other in
+    let cost = handed_cost core c.reserve_part.new.store c.hand_on.new.store c.chosen-part.result c.frame_at-frame.result.now (c.hand_on.ensures.hands core f) in
+    omega (arith, low, cost)
+
+pub returns-clause-blocks : goal.returns-clause-blocks
+returns-clause-blocks c = λ b is.
+    let a = c.chosen-part.ensures in
+    let old = c.args.store.now.queues in
+    makes_chosen (map plain_node c.args.code.now) old c.hand_on.new.store.queues _ a.0 b c.args.yes c.args.no c.chosen-part.result _ a.1 is a.2 c.frame_at-frame.ensures
+    (subst (λ (q : QueuesState). MakesOnly old q (block_width c.frame_at-frame.result.now ∷ [])) (sym c.hand_on.ensures.queues) c.reserve_part.ensures.most)
+
+pub returns-clause-work : goal.returns-clause-work
+returns-clause-work c = ap (λ (q : QueuesState). q.region.work) c.hand_on.ensures.queues ∙ c.reserve_part.ensures.rest.work
+
+pub returns-in_err-reserve_part-clause-refused : goal.returns-in_err-reserve_part-clause-refused
+returns-in_err-reserve_part-clause-refused c =
+    on_err c.from_residual.result (refused_still (core_in c.args.code.now) c.args.store.now c.reserve_part.new.store c.reserve_part.ensures.rest c.requires.acts.acting.store)
+
+pub returns-in_err-reserve_part-clause-blocks : goal.returns-in_err-reserve_part-clause-blocks
+returns-in_err-reserve_part-clause-blocks c = λ b is.
+    let a = c.chosen-part.ensures in
+    makes_chosen (map plain_node c.args.code.now) c.args.store.now.queues c.reserve_part.new.store.queues _ a.0 b c.args.yes c.args.no c.chosen-part.result _ a.1 is a.2 c.frame_at-frame.ensures
+    c.reserve_part.ensures.most

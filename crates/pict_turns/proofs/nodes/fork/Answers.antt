@@ -1,85 +1,129 @@
-use Rattle.std.proofs.Common.{ℕ, List, ◌<◌, ◌∷◌, [], ◌++◌, length, map, sym, subst}
+use Rattle.std.proofs.Common.{ℕ, List, ◌+◌, ◌≤◌, ◌<◌, ◌∷◌, [], length, map, refl, sym, ap, ◌∙◌, subst, arith}
 use Rattle.std.specs.List.{All}
 use Rattle.pict_core.specs.Step.{Quiet}
 use Rattle.pict_code.specs.Instruction as op
 use Rattle.pict_code.specs.Plain.{plain_node}
-use Rattle.pict_queue.specs.Contents.{contents}
+use Rattle.pict_code.proofs.Lines.{on_err}
+use Rattle.pict_frames.proofs.Costs.{costs_more, costs_nothing}
+use Rattle.pict_queue.specs.QueuesState.{QueuesState, IsQueue, CostsAtMost}
 use Rattle.pict_turns.specs.Acting.{core_in}
-use Rattle.pict_turns.specs.Parts.{Places, block_width}
+use Rattle.pict_turns.specs.Parts.{block_width}
+use Rattle.pict_turns.specs.Turns.{turn_cost}
+use Rattle.pict_turns.specs.Widths.{MakesOnly}
+use Rattle.pict_turns.proofs.Handing.{handed_pairs}
 use Rattle.pict_turns.proofs.Making.{makes_before, makes_parts}
-use Rattle.pict_turns.proofs.Numbered.{coded_at, coded_inside, in_code, fork_parts}
-use Rattle.pict_turns.proofs.Room.{store_still, acting_still, acts_still, done_after, refused_after}
-use Rattle.pict_turns.proofs.Steps.{fork_done}
+use Rattle.pict_turns.proofs.Numbered.{coded_frame, coded_inside, in_code, fork_parts, same_frame}
+use Rattle.pict_turns.proofs.Room.{can_first, can_second, store_still, acts_still, done_after, refused_still}
+use Rattle.pict_turns.proofs.Steps.{fork_by, fork_cost}
 use Rattle.pict_turns.proofs.nodes.fork.Goals as goal
 
 pub frame_at-first-requires : goal.frame_at-first-requires
 frame_at-first-requires c =
-    let core = core_in c.args.code.now in
-    in_code c.args.code.now c.requires.code c.args.left (fork_parts core c.args.store.now c.args.block c.args.left c.args.right c.requires.acts).0
+    in_code c.args.code.now c.requires.code c.args.left (fork_parts (core_in c.args.code.now) c.args.store.now c.args.left c.args.right c.requires.acts).0
 
 pub frame_at-second-requires : goal.frame_at-second-requires
 frame_at-second-requires c =
-    let core = core_in c.args.code.now in
-    in_code c.args.code.now c.requires.code c.args.right (fork_parts core c.args.store.now c.args.block c.args.left c.args.right c.requires.acts).1
+    in_code c.args.code.now c.requires.code c.args.right (fork_parts (core_in c.args.code.now) c.args.store.now c.args.left c.args.right c.requires.acts).1
+
+pub hand_on-requires-clause-can : goal.hand_on-requires-clause-can
+hand_on-requires-clause-can c =
+    let mid = c.reserve_parts.new.store in
+    let both = c.in_ok-reserve_parts.ensures.ok in
+    can_first mid c.frame_at-first.result.now c.frame_at-second.result.now both
 
 pub hand_on-requires-clause-inside : goal.hand_on-requires-clause-inside
 hand_on-requires-clause-inside c =
-    let core = core_in c.args.code.now in
     let mid = c.reserve_parts.new.store in
-    coded_inside c.args.code.now c.requires.code mid (store_still core c.args.store.now mid c.reserve_parts.ensures.rest c.requires.acts.acting.store)
+    coded_inside c.args.code.now c.requires.code mid (store_still (core_in c.args.code.now) c.args.store.now mid c.reserve_parts.ensures.rest c.requires.acts.acting.store)
     c.args.left c.frame_at-first.result.now c.frame_at-first.ensures
+
+pub hand_on-requires-clause-pairs : goal.hand_on-requires-clause-pairs
+hand_on-requires-clause-pairs c =
+    (store_still (core_in c.args.code.now) c.args.store.now c.reserve_parts.new.store c.reserve_parts.ensures.rest c.requires.acts.acting.store).pairs
+
+pub spawn_part-requires-clause-queue : goal.spawn_part-requires-clause-queue
+spawn_part-requires-clause-queue c =
+    let ready = (store_still (core_in c.args.code.now) c.args.store.now c.reserve_parts.new.store c.reserve_parts.ensures.rest c.requires.acts.acting.store).ready in
+    subst (λ (q : QueuesState). IsQueue q 0) (sym c.hand_on.ensures.queues) ready
+
+pub spawn_part-requires-clause-can : goal.spawn_part-requires-clause-can
+spawn_part-requires-clause-can c =
+    let core = core_in c.args.code.now in
+    let f = coded_frame c.args.code.now c.requires.code c.args.left c.frame_at-first.result.now c.frame_at-first.ensures in
+    can_second core c.reserve_parts.new.store c.hand_on.new.store c.args.left c.frame_at-first.result.now c.frame_at-second.result.now c.in_ok-reserve_parts.ensures.ok
+    (c.hand_on.ensures.hands core f)
 
 pub spawn_part-requires-clause-inside : goal.spawn_part-requires-clause-inside
 spawn_part-requires-clause-inside c =
     let core = core_in c.args.code.now in
     let mid = c.reserve_parts.new.store in
+    let f = coded_frame c.args.code.now c.requires.code c.args.left c.frame_at-first.result.now c.frame_at-first.ensures in
     let inside = coded_inside c.args.code.now c.requires.code mid (store_still core c.args.store.now mid c.reserve_parts.ensures.rest c.requires.acts.acting.store)
     c.args.right c.frame_at-second.result.now c.frame_at-second.ensures in
-    subst (λ (vs : List (ℕ × ℕ)). All (λ level. level < length vs) c.frame_at-second.result.now) (sym c.hand_on.ensures.places.values) inside
+    subst (λ (vs : List (ℕ × ℕ)). All (λ level. level < length vs) c.frame_at-second.result.now) (sym (c.hand_on.ensures.hands core f).values) inside
 
-pub returns-in-Ok-clause-done : goal.returns-in-Ok-clause-done
-returns-in-Ok-clause-done c =
+pub spawn_part-requires-clause-pairs : goal.spawn_part-requires-clause-pairs
+spawn_part-requires-clause-pairs c =
+    let core = core_in c.args.code.now in
+    let mid = c.reserve_parts.new.store in
+    let f = coded_frame c.args.code.now c.requires.code c.args.left c.frame_at-first.result.now c.frame_at-first.ensures in
+    handed_pairs core mid c.hand_on.new.store c.args.left c.frame_at-first.result.now (c.hand_on.ensures.hands core f)
+    (store_still core c.args.store.now mid c.reserve_parts.ensures.rest c.requires.acts.acting.store).pairs
+
+pub returns-clause-done : goal.returns-clause-done
+returns-clause-done c =
     let core = core_in c.args.code.now in
     let old = c.args.store.now in
     let mid = c.reserve_parts.new.store in
     let handed = c.hand_on.new.store in
     let last = c.spawn_part.new.store in
     let rest = c.reserve_parts.ensures.rest in
-    let f = c.frame_at-first.ensures in
-    let g = c.frame_at-second.ensures in
-    done_after core old mid rest c.args.block last c.requires.acts.acting Quiet
-    (fork_done core mid handed last c.args.block c.args.left c.args.right f.node g.node
-    (acts_still core old mid rest c.args.block (op.Par c.args.left c.args.right) c.requires.acts)
-    (coded_at c.args.code.now c.requires.code c.args.left c.frame_at-first.result.now f)
-    (coded_at c.args.code.now c.requires.code c.args.right c.frame_at-second.result.now g)
-    (subst (λ (frame : List ℕ). Places mid handed c.args.left frame (λ words. words ∷ contents mid.queues 0)) (sym f.is) c.hand_on.ensures.places)
-    (subst (λ (frame : List ℕ). Places handed last c.args.right frame (λ words. contents handed.queues 0 ++ words ∷ [])) (sym g.is) c.spawn_part.ensures.places)
-    (λ other held. c.hand_on.ensures.gone other (c.spawn_part.ensures.no_more other held)))
+    let f = coded_frame c.args.code.now c.requires.code c.args.left c.frame_at-first.result.now c.frame_at-first.ensures in
+    let g = coded_frame c.args.code.now c.requires.code c.args.right c.frame_at-second.result.now c.frame_at-second.ensures in
+    done_after core old mid rest last Quiet
+    (fork_by core mid handed last c.args.left c.args.right c.frame_at-first.result.now c.frame_at-second.result.now (c.hand_on.ensures.hands core f) c.spawn_part.ensures.spawns f g
+    (acts_still core old mid rest (op.Par c.args.left c.args.right) c.requires.acts) c.in_ok-reserve_parts.ensures.ok c.spawn_part.ensures.no_more)
 
-pub returns-in-Ok-clause-blocks : goal.returns-in-Ok-clause-blocks
-returns-in-Ok-clause-blocks c =
+pub returns-clause-turn : goal.returns-clause-turn
+returns-clause-turn c = λ first is.
+    let core = core_in c.args.code.now in
+    let f = coded_frame c.args.code.now c.requires.code c.args.left c.frame_at-first.result.now c.frame_at-first.ensures in
+    let same = same_frame (map plain_node c.args.code.now) c.args.left first c.frame_at-first.result.now is c.frame_at-first.ensures in
+    let cost = fork_cost core c.reserve_parts.new.store c.hand_on.new.store c.spawn_part.new.store c.args.left c.args.right c.frame_at-first.result.now c.frame_at-second.result.now
+    (c.hand_on.ensures.hands core f) c.spawn_part.ensures.spawns in
+    subst (λ (frame : List ℕ). turn_cost core c.spawn_part.new.store ≤ block_width frame + 4) (sym same) cost
+
+pub returns-clause-blocks : goal.returns-clause-blocks
+returns-clause-blocks c =
     let old = c.args.store.now.queues in
     let mid = c.reserve_parts.new.store.queues in
     let handed = c.hand_on.new.store.queues in
     let last = c.spawn_part.new.store.queues in
     let needed = block_width c.frame_at-first.result.now ∷ block_width c.frame_at-second.result.now ∷ [] in
     makes_parts (map plain_node c.args.code.now) old last c.args.left c.args.right _ _ c.frame_at-first.ensures c.frame_at-second.ensures
-    (makes_before old handed last needed (makes_before old mid handed needed c.reserve_parts.ensures.most c.hand_on.ensures.blocks) c.spawn_part.ensures.blocks)
+    (makes_before old handed last needed (subst (λ (q : QueuesState). MakesOnly old q needed) (sym c.hand_on.ensures.queues) c.reserve_parts.ensures.most) c.spawn_part.ensures.blocks)
 
-pub returns-in-Err-clause-blocks : goal.returns-in-Err-clause-blocks
-returns-in-Err-clause-blocks c =
+pub returns-clause-cost : goal.returns-clause-cost
+returns-clause-cost c = λ second is.
+    let old = c.args.store.now.queues in
+    let handed = c.hand_on.new.store.queues in
+    let last = c.spawn_part.new.store.queues in
+    let same = same_frame (map plain_node c.args.code.now) c.args.right second c.frame_at-second.result.now is c.frame_at-second.ensures in
+    let work = ap (λ (q : QueuesState). q.region.work) c.hand_on.ensures.queues ∙ c.reserve_parts.ensures.rest.work in
+    subst (λ (frame : List ℕ). CostsAtMost (block_width frame + 2) old last) (sym same)
+    (costs_more old handed last 0 (block_width c.frame_at-second.result.now + 2) _ (omega arith) (costs_nothing old handed work) c.spawn_part.ensures.cost)
+
+pub returns-in_err-reserve_parts-clause-refused : goal.returns-in_err-reserve_parts-clause-refused
+returns-in_err-reserve_parts-clause-refused c =
+    on_err c.from_residual.result (refused_still (core_in c.args.code.now) c.args.store.now c.reserve_parts.new.store c.reserve_parts.ensures.rest c.requires.acts.acting.store)
+
+pub returns-in_err-reserve_parts-clause-blocks : goal.returns-in_err-reserve_parts-clause-blocks
+returns-in_err-reserve_parts-clause-blocks c =
+    makes_parts (map plain_node c.args.code.now) c.args.store.now.queues c.reserve_parts.new.store.queues c.args.left c.args.right _ _ c.frame_at-first.ensures c.frame_at-second.ensures
+    c.reserve_parts.ensures.most
+
+pub returns-in_err-reserve_parts-clause-cost : goal.returns-in_err-reserve_parts-clause-cost
+returns-in_err-reserve_parts-clause-cost c = λ second is.
     let old = c.args.store.now.queues in
     let mid = c.reserve_parts.new.store.queues in
-    let last = c.refuse.new.store.queues in
-    let needed = block_width c.frame_at-first.result.now ∷ block_width c.frame_at-second.result.now ∷ [] in
-    makes_parts (map plain_node c.args.code.now) old last c.args.left c.args.right _ _ c.frame_at-first.ensures c.frame_at-second.ensures
-    (makes_before old mid last needed c.reserve_parts.ensures.most c.refuse.ensures.blocks)
-
-pub returns-in-Err-clause-refused : goal.returns-in-Err-clause-refused
-returns-in-Err-clause-refused c =
-    let core = core_in c.args.code.now in
-    let old = c.args.store.now in
-    let mid = c.reserve_parts.new.store in
-    let rest = c.reserve_parts.ensures.rest in
-    refused_after core old mid rest c.args.block c.refuse.new.store c.requires.acts.acting
-    (c.refuse.ensures.refused core (acting_still core old mid rest c.args.block c.requires.acts.acting))
+    costs_more old mid mid 0 0 _ (omega arith) (costs_nothing old mid c.reserve_parts.ensures.rest.work) (costs_nothing mid mid refl)

@@ -22,6 +22,7 @@ returns-clause-part c =
       keeps = keeps_all s.heap;
       used = subst (UsesNeed s.heap.room s.heap.room) (sym (need_narrow c.args.frame.now c.requires.narrow)) (uses_nothing s.heap.room);
       values = refl;
+      turn = refl;
       pending = pile_kept s.pending;
     }
 

@@ -28,6 +28,7 @@ returns-clause-part c =
       keeps = r.ensures.keeps;
       used = subst (UsesNeed s.heap.room r.new.heap.room) (sym (need_wide c.args.frame.now c.requires.wide)) r.ensures.used;
       values = refl;
+      turn = refl;
       pending = r.ensures.pending;
     }
 

@@ -7,14 +7,14 @@ use Rattle.pict_frames.proofs.Held.{made_kept, made_no_more}
 use Rattle.pict_turns.proofs.Placing.{taken_spare}
 use Rattle.pict_turns.proofs.parts.spawn_part.Goals as goal
 
-pub returns-clause-places : goal.returns-clause-places
-returns-clause-places c =
+pub returns-clause-spawns : goal.returns-clause-spawns
+returns-clause-spawns c =
     let p = c.make_part-part.ensures.part in
     let made = c.make_part-part.new.store.queues in
     record {
       held = p.held;
       holds = p.holds;
-      ready_are = c.push_back.ensures.pushed ∙ ap (λ ws. contents made 0 ++ ws ∷ []) p.made.here ∙ ap (λ xs. xs ++ (suc c.args.number ∷ p.held) ∷ []) (p.made.contents 0);
+      last = c.push_back.ensures.pushed ∙ ap (λ ws. contents made 0 ++ ws ∷ []) p.made.here ∙ ap (λ xs. xs ++ (suc c.args.number ∷ p.held) ∷ []) (p.made.contents 0);
       others = λ other n. c.push_back.ensures.other_contents other n ∙ p.made.contents other;
       spare = λ w.
           let e : spare c.push_back.new.self.region w ≡ spare made.region w = ap (λ f. get_or f w 0) c.push_back.ensures.rest.free in
@@ -23,6 +23,7 @@ returns-clause-places c =
       queues = c.push_back.ensures.rest.queues ∙ ap length p.made.queues;
       keeps = p.keeps;
       used = p.used;
+      turn = p.turn;
       values = p.values;
       pending = p.pending;
     }

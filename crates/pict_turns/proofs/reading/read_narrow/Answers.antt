@@ -1,4 +1,4 @@
-use Rattle.std.proofs.Common.{ℕ, ◌≡◌, List, length, drop, sym, ap, ◌∙◌, subst, arith}
+use Rattle.std.proofs.Common.{ℕ, suc, ◌≡◌, List, length, drop, sym, ap, ◌∙◌, subst, arith}
 use Rattle.std.proofs.lemmas.List.{with_items_is}
 use Rattle.std.specs.Vec.{with_items}
 use Rattle.pict_queue.specs.Contents.{held_words}
@@ -13,7 +13,7 @@ use Rattle.pict_turns.proofs.reading.read_narrow.Goals as goal
 pub read_frame-requires-clause-wide : goal.read_frame-requires-clause-wide
 read_frame-requires-clause-wide c =
     let h = c.requires.holds in
-    let whole = whole_length (words_of c.args.store.now.queues.region c.args.block.now) h.0 h.1 h.2 in
+    let whole = whole_length (words_of c.args.store.now.queues.region c.args.block.now) (suc h.0) h.1 h.2 in
     let held = held_length c.args.store.now.heap (length c.args.frame.now) h.1 h.3 in
     omega (arith, whole, held)
 
@@ -33,3 +33,4 @@ returns-clause-read c =
     (pairs_read s.heap s.values.items values frame (subst (HoldWords s.heap (length frame)) (sym words) h.3)
     (λ level none. c.read_frame.ensures.others level none ∙ ap (λ (vs : List (ℕ × ℕ)). pair_at vs level) before) c.requires.pairs)
     (ap (frame_values (value_in s.heap) (length frame)) held ∙ frame_back s.heap values frame (length frame) c.requires.narrow)
+    (λ few. held)

@@ -2,7 +2,9 @@ use Rattle.std.proofs.Common.{◌≡◌, List, replicate, map, ap, ◌∙◌, sy
 use Rattle.pict_code.specs.Plain.{plain_code, plain_node}
 use Rattle.pict_code.specs.ReadBack.{core_of}
 use Rattle.pict_code.specs.declared.instruction.Node as written
+use Rattle.pict_view.specs.Held.{IsHeldBy}
 use Rattle.pict_turns.specs.Acting.{IsCode}
+use Rattle.pict_turns.proofs.Turns.{words_nobody, view_nobody}
 use Rattle.pict_machine.specs.Constants.{AreConstants}
 use Rattle.pict_machine.specs.Levels.{levels_in}
 use Rattle.pict_machine.proofs.Opening.{opening_store, opening_held, opening_stands}
@@ -20,11 +22,14 @@ returns-clause-kept c =
     let made = c.make_constants.ensures.rest in
     let queues = made.queues c.in_ok-queues.ensures in
     record {
-      code = c.requires.code;
-      store = opening_store core store (plain_code c.args.code) c.level_count.result c.requires.code.nodes_are queues (made.values ∙ zeros) many;
-      held = opening_held core store.heap store.queues queues;
-      none_held = queues.none_held;
-      constants = subst (λ (nodes : List written.Node). AreConstants store.heap (map plain_node nodes) c.in_ok-constants.constants.items) c.deref-2.ensures.value c.in_ok-constants.ensures.are;
+      running = record {
+        code = c.requires.code;
+        store = opening_store core store (plain_code c.args.code) c.level_count.result c.requires.code.nodes_are queues (made.values ∙ zeros) many made.turn;
+        held = subst IsHeldBy (sym (view_nobody core store (words_nobody core store made.turn))) (opening_held core store.heap store.queues queues);
+        none_held = queues.none_held;
+        constants = subst (λ (nodes : List written.Node). AreConstants store.heap (map plain_node nodes) c.in_ok-constants.constants.items) c.deref-2.ensures.value c.in_ok-constants.ensures.are;
+      };
+      idle = made.turn;
     }
 
 pub returns-clause-stands : goal.returns-clause-stands

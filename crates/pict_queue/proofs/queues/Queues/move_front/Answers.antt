@@ -1,5 +1,17 @@
-use Rattle.pict_queue.proofs.Kept.{lists_moved, held_moved, no_more_moved, contents_moved, words_along}
+use Rattle.std.proofs.Common.{map, refl, ap}
+use Rattle.pict_queue.specs.Contents.{held_words}
+use Rattle.pict_queue.proofs.Kept.{lists_turned, lists_moved, held_moved, no_more_moved, contents_moved, words_along}
 use Rattle.pict_queue.proofs.queues.Queues.move_front.Goals as goal
+
+pub returns-then-is_one_block-clause-lists : goal.returns-then-is_one_block-clause-lists
+returns-then-is_one_block-clause-lists c =
+    let one = c.is_one_block.ensures.one c.if-is_one_block.true in lists_turned c.args.self.now c.args.from.0 c.args.to.0 one.0 one.1
+
+pub returns-then-is_one_block-clause-moved : goal.returns-then-is_one_block-clause-moved
+returns-then-is_one_block-clause-moved c queue = ap (map (held_words c.args.self.now.region)) (returns-then-is_one_block-clause-lists c queue)
+
+pub returns-then-is_one_block-clause-kept : goal.returns-then-is_one_block-clause-kept
+returns-then-is_one_block-clause-kept c block held = record { held = held; words = refl }
 
 pub returns-clause-lists : goal.returns-clause-lists
 returns-clause-lists c =

@@ -9,7 +9,7 @@ use Rattle.pict_queue.specs.declared.queues.Queue.{Queue}
 use Rattle.pict_queue.specs.Threads.{state_of, queue_in}
 use Rattle.pict_queue.specs.declared.queues.Queues.TheInside.{Inside}
 use Rattle.pict_queue.proofs.Orders.{list_is, once_seen, held_if_apart, PopsFront, popped_front}
-use Rattle.pict_queue.proofs.Calls.{first_found, queue_read, list_seen, list_length}
+use Rattle.pict_queue.proofs.Calls.{first_found, next_found, queue_read, list_seen, list_length}
 use Rattle.pict_queue.proofs.Kept.{contents_popped, other_contents_kept, held_popped, one_more_popped}
 use Rattle.pict_queue.proofs.queues.Queues.pop.Goals as goal
 
@@ -19,15 +19,15 @@ block-block-requires c =
     let some : 0 < c.index-queue.result.now.length = omega (arith, c.requires.some, list_length c.self.inside _ c.args.q.0 c.self.view_is, ap (λ q. q.length) read.queue_is) in
     (first_found c.self.inside _ _ _ c.self.view_is c.self.invariant c.requires.queue c.index-queue.ensures some).live
 
-pub get-next-requires-clause-live : goal.get-next-requires-clause-live
-get-next-requires-clause-live c =
+pub get-requires-clause-live : goal.get-requires-clause-live
+get-requires-clause-live c =
     let read = queue_read c.self.inside _ _ _ c.self.view_is c.requires.queue c.index-queue.ensures in
     let some : 0 < c.index-queue.result.now.length = omega (arith, c.requires.some, list_length c.self.inside _ c.args.q.0 c.self.view_is, ap (λ q. q.length) read.queue_is) in
     let found = first_found c.self.inside _ _ _ c.self.view_is c.self.invariant c.requires.queue c.index-queue.ensures some in
     subst (λ r. IsLive r c.block-block.result) (sym c.block-block.ensures.rest) (subst (IsLive c.self.inside.region) (sym c.block-block.ensures.token) found.live)
 
-pub get-next-requires-clause-inside : goal.get-next-requires-clause-inside
-get-next-requires-clause-inside c =
+pub get-requires-clause-inside : goal.get-requires-clause-inside
+get-requires-clause-inside c =
     let read = queue_read c.self.inside _ _ _ c.self.view_is c.requires.queue c.index-queue.ensures in
     let some : 0 < c.index-queue.result.now.length = omega (arith, c.requires.some, list_length c.self.inside _ c.args.q.0 c.self.view_is, ap (λ q. q.length) read.queue_is) in
     let found = first_found c.self.inside _ _ _ c.self.view_is c.self.invariant c.requires.queue c.index-queue.ensures some in
@@ -39,21 +39,23 @@ some_there c =
     omega (arith, c.requires.some, list_length c.self.inside _ c.args.q.0 c.self.view_is, ap (λ q. q.length) read.queue_is)
 
 queue_after : (c : goal.After-self-1) → Queue
-queue_after c = record { first = c.get-next.result; last = c.index-queue.result.now.last; length = c.index-queue.result.now.length - 1 }
+queue_after c = record { first = c.number_in-next.result; last = c.index-queue.result.now.last; length = c.index-queue.result.now.length - 1 }
 
 after : (c : goal.After-self-1) → Inside
-after c = record { region = c.get-next.new.self; queues = with_item c.self.inside.queues c.args.q.0 (queue_after c); spare = c.self.inside.spare }
+after c = record { region = c.get.new.self; queues = with_item c.self.inside.queues c.args.q.0 (queue_after c); spare = c.self.inside.spare }
 
-live_same : (c : goal.After-self-1) → c.get-next.new.self.live ≡ c.self.inside.region.live
-live_same c = ap (λ r. r.live) c.get-next.ensures.rest ∙ ap (λ r. r.live) c.block-block.ensures.rest
+live_same : (c : goal.After-self-1) → c.get.new.self.live ≡ c.self.inside.region.live
+live_same c = ap (λ r. r.live) c.get.ensures.rest ∙ ap (λ r. r.live) c.block-block.ensures.rest
 
-pops : (c : goal.After-self-1) → PopsFront c.self.inside.region c.get-next.new.self c.self.inside.queues.items (set c.self.inside.queues.items c.args.q.0 (queue_after c)) c.args.q.0
+pops : (c : goal.After-self-1) → PopsFront c.self.inside.region c.get.new.self c.self.inside.queues.items (set c.self.inside.queues.items c.args.q.0 (queue_after c)) c.args.q.0
 unfolding queue_after
 pops c =
     let read = queue_read c.self.inside _ _ _ c.self.view_is c.requires.queue c.index-queue.ensures in
-    popped_front c.self.inside.region c.get-next.new.self c.self.inside.queues.items c.args.q.0 c.get-next.result c.index-queue.result.now
+    popped_front c.self.inside.region c.get.new.self c.self.inside.queues.items c.args.q.0 c.number_in-next.result c.index-queue.result.now
     c.self.invariant.threaded read.inside (live_same c) read.queue_is (some_there c)
-    (c.get-next.ensures.word ∙ ap (λ r. link_of r c.block-block.result) c.block-block.ensures.rest ∙ ap (link_of c.self.inside.region) c.block-block.ensures.token)
+    (next_found c.self.inside c.args.q.0 c.get.result c.number_in-next.result c.index-queue.result.now c.self.invariant read.queue_is
+    (c.get.ensures.word ∙ ap (λ r. link_of r c.block-block.result) c.block-block.ensures.rest ∙ ap (link_of c.self.inside.region) c.block-block.ensures.token)
+    c.number_in-next.ensures)
 
 first_is : (c : goal.After-self-1) → c.block-block.result ≡ (queue_in c.self.inside.queues.items c.args.q.0).first
 first_is c =

@@ -6,7 +6,7 @@ use Rattle.pict_queue.specs.declared.queues.Queue.{Queue}
 use Rattle.pict_queue.specs.declared.queues.Queues.TheInside.{Inside}
 use Rattle.pict_queue.proofs.Links.{LinksBlock, link_written}
 use Rattle.pict_queue.proofs.Orders.{list_is, once_seen, PushesBack, pushed_back}
-use Rattle.pict_queue.proofs.Calls.{FindsEnds, ends_found, list_seen, rest_kept}
+use Rattle.pict_queue.proofs.Calls.{FindsEnds, ends_found, held_small, list_seen, rest_kept}
 use Rattle.pict_queue.specs.Threads.{state_of}
 use Rattle.pict_queue.proofs.Kept.{contents_pushed_back, other_contents_kept, released_back, held_pushed_back}
 use Rattle.pict_queue.proofs.queues.Queues.push_back.Goals as goal
@@ -18,6 +18,10 @@ set_link-requires-clause-live c =
 pub set_link-requires-clause-wide : goal.set_link-requires-clause-wide
 set_link-requires-clause-wide c =
     (ends_found c.self.inside _ _ _ _ _ _ c.self.view_is c.self.invariant c.requires.queue c.requires.held c.number-number.ensures c.index-queue.ensures c.ends-ends.ensures).wide
+
+pub overflow_cast-number : goal.overflow_cast-number
+overflow_cast-number c =
+    let small = held_small c.self.inside _ _ _ c.self.view_is c.self.invariant c.requires.held c.number-number.ensures in omega (arith, small)
 
 pub overflow_add-queue : goal.overflow_add-queue
 overflow_add-queue c =

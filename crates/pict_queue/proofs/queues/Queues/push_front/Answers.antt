@@ -6,10 +6,14 @@ use Rattle.pict_queue.specs.declared.queues.Queue.{Queue}
 use Rattle.pict_queue.specs.declared.queues.Queues.TheInside.{Inside}
 use Rattle.pict_queue.proofs.Links.{LinksBlock, link_written}
 use Rattle.pict_queue.proofs.Orders.{list_is, once_seen, PushesFront, pushed_front}
-use Rattle.pict_queue.proofs.Calls.{FindsEnds, ends_found, list_seen, rest_kept}
+use Rattle.pict_queue.proofs.Calls.{FindsEnds, ends_found, held_small, list_seen, rest_kept}
 use Rattle.pict_queue.specs.Threads.{state_of}
 use Rattle.pict_queue.proofs.Kept.{contents_pushed_front, other_contents_kept, released_front, held_pushed_front}
 use Rattle.pict_queue.proofs.queues.Queues.push_front.Goals as goal
+
+pub overflow_cast-number : goal.overflow_cast-number
+overflow_cast-number c =
+    let small = held_small c.self.inside _ _ _ c.self.view_is c.self.invariant c.requires.held c.number-number.ensures in omega (arith, small)
 
 pub overflow_add-queue : goal.overflow_add-queue
 overflow_add-queue c =

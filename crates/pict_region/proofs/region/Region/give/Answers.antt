@@ -1,7 +1,7 @@
 use Rattle.std.proofs.Common.{◌≡◌, ◌∙◌, ◌+◌, ◌<◌, ℕ, length, set, get_or, ap, sym, arith}
 use Rattle.std.proofs.lemmas.List.{get_or_read}
 use Rattle.pict_region.specs.RegionState.{RegionState, IsLive, width_of, spare}
-use Rattle.pict_region.specs.Layout.{list_at, state_of, IsSound}
+use Rattle.pict_region.specs.Layout.{list_at, state_of, made_words, IsKept}
 use Rattle.pict_region.specs.declared.region.FreeList.{FreeList}
 use Rattle.pict_region.specs.declared.region.Region.TheInside.{Inside}
 use Rattle.pict_region.proofs.Calls.{ReadsWidth, width_read, GivesBlock, given, count_fits, spare_at, spare_set, spare_kept}
@@ -16,7 +16,7 @@ record Reads (a : Inside) (r : RegionState) (number token width : ℕ) (list : F
   listed : width < length a.free.items
   list_is : list ≡ list_at a.free.items width
 
-reads : (a : Inside) (r : RegionState) (number token width : ℕ) (list : FreeList) → state_of a ≡ r → IsSound a.words.items a.free.items → token ≡ number
+reads : (a : Inside) (r : RegionState) (number token width : ℕ) (list : FreeList) → state_of a ≡ r → IsKept a.words.items a.made a.free.items → token ≡ number
     → IsLive r number → width ≡ get_or a.words.items token width → list ≡ get_or a.free.items width list → Reads a r number token width list
 reads a r number token width list is sound same live width_read_is list_read =
     let at = width_read a r number token is sound same live in
@@ -53,14 +53,14 @@ index_mut-requires c =
 pub overflow_add-list : goal.overflow_add-list
 overflow_add-list c =
     let read = reads c.self.inside _ _ _ _ _ c.self.view_is c.self.invariant c.b.view_is c.requires c.index.ensures c.index-list.ensures in
-    omega (arith, count_fits c.self.inside.words.items c.self.inside.free.items c.index.result.now c.self.invariant, ap (λ l. l.count) read.list_is, c.self.inside.words.ok, c.self.inside.words.small)
+    omega (arith, count_fits (made_words c.self.inside) c.self.inside.free.items c.index.result.now c.self.invariant.sound, c.self.invariant.sound.small, ap (λ l. l.count) read.list_is, c.self.inside.words.ok, c.self.inside.words.small)
 
 pub index_mut-requires-2 : goal.index_mut-requires-2
 index_mut-requires-2 c =
     omega (arith, (reads c.self.inside _ _ _ _ _ c.self.view_is c.self.invariant c.b.view_is c.requires c.index.ensures c.index-list.ensures).listed, c.self.inside.free.ok)
 
 block_given : (c : goal.After-self-3-1) → GivesBlock
-    (set c.self.inside.words.items (c.b.inside.number + 1) c.index-list.result.now.first)
+    (set c.self.inside.words.items (c.b.inside.number + 1) c.index-list.result.now.first) c.self.inside.made
     (set c.self.inside.free.items c.index.result.now (record { first = c.b.inside.number; count = c.index-list.result.now.count + 1 }))
     c.args.self.now c.args.b
 block_given c =
@@ -69,7 +69,7 @@ block_given c =
     read.width_is read.list_is
 
 pub invariant_of-self : goal.invariant_of-self
-invariant_of-self c = (block_given c).sound
+invariant_of-self c = (block_given c).kept
 
 pub returns-clause-live : goal.returns-clause-live
 returns-clause-live c = (block_given c).live
@@ -93,6 +93,7 @@ returns-clause-blocks c =
     blocks_given c.args.self.now
     (state_of (record {
       words = with_item c.self.inside.words (c.b.inside.number + 1) c.index-list.result.now.first;
+      made = c.self.inside.made;
       free = with_item c.self.inside.free c.index.result.now list;
       work = c.one_more-self-inside.result;
     }))

@@ -20,7 +20,7 @@ index_mut-requires c =
     omega (arith, word_read c.self.inside _ _ _ _ c.self.view_is c.self.invariant c.b.view_is c.requires.live c.requires.inside, c.self.inside.words.ok)
 
 pub invariant_of-self : goal.invariant_of-self
-invariant_of-self c = (word_set c.self.inside _ _ _ _ c.args.word c.self.view_is c.self.invariant c.b.view_is c.requires.live c.requires.inside).sound
+invariant_of-self c = (word_set c.self.inside _ _ _ _ c.args.word c.self.view_is c.self.invariant c.b.view_is c.requires.live c.requires.inside).kept
 
 pub returns-clause-live : goal.returns-clause-live
 returns-clause-live c = (word_set c.self.inside _ _ _ _ c.args.word c.self.view_is c.self.invariant c.b.view_is c.requires.live c.requires.inside).live
@@ -28,6 +28,6 @@ returns-clause-live c = (word_set c.self.inside _ _ _ _ c.args.word c.self.view_
 pub returns-clause-blocks : goal.returns-clause-blocks
 returns-clause-blocks c =
     blocks_written c.args.self.now
-    (state_of (record { words = with_item c.self.inside.words (c.b.inside.number + 1 + c.args.i) c.args.word; free = c.self.inside.free; work = c.one_more-self-inside.result }))
+    (state_of (record { words = with_item c.self.inside.words (c.b.inside.number + 1 + c.args.i) c.args.word; made = c.self.inside.made; free = c.self.inside.free; work = c.one_more-self-inside.result }))
     c.args.b.now (set (words_of c.args.self.now c.args.b.now) c.args.i c.args.word) c.requires.live (returns-clause-live c)
     (length-set (words_of c.args.self.now c.args.b.now) c.args.i c.args.word) (ap (λ s. s.free) c.self.view_is)

@@ -29,7 +29,7 @@ written c =
     (pair_set c.self.inside _ _ _ _ c.args.pair.0 c.args.pair.1 c.self.view_is c.self.invariant c.b.view_is c.requires.live c.requires.inside)
 
 pub invariant_of-self : goal.invariant_of-self
-invariant_of-self c = (written c).sound
+invariant_of-self c = (written c).kept
 
 pub returns-clause-live : goal.returns-clause-live
 returns-clause-live c = (written c).live
@@ -37,7 +37,7 @@ returns-clause-live c = (written c).live
 pub returns-clause-blocks : goal.returns-clause-blocks
 returns-clause-blocks c =
     blocks_written c.args.self.now
-    (state_of (record { words = with_items c.self.inside.words c.put_pair.new.words; free = c.self.inside.free; work = c.one_more-self-inside.result }))
+    (state_of (record { words = with_items c.self.inside.words c.put_pair.new.words; made = c.self.inside.made; free = c.self.inside.free; work = c.one_more-self-inside.result }))
     c.args.b.now (set (set (words_of c.args.self.now c.args.b.now) c.args.i c.args.pair.0) (c.args.i + 1) c.args.pair.1) c.requires.live (returns-clause-live c)
     (length-set (set (words_of c.args.self.now c.args.b.now) c.args.i c.args.pair.0) (c.args.i + 1) c.args.pair.1
     ∙ length-set (words_of c.args.self.now c.args.b.now) c.args.i c.args.pair.0)

@@ -24,7 +24,7 @@ clear-requires c =
     let first = first_read c.self.inside _ c.args.width c.self.view_is c.self.invariant c.requires in
     omega (arith, (reads_first c.self.inside c.args.width c.index-list.result.now first c.index-list.ensures).inside, c.self.inside.words.ok)
 
-block_taken : (c : goal.After-self-2-1) → TakesFirst c.clear.new.words.items
+block_taken : (c : goal.After-clear) → TakesFirst c.clear.new.words.items c.self.inside.made
     (set c.self.inside.free.items c.args.width (record { first = c.index.result.now; count = c.index-list.result.now.count - 1 }))
     c.args.self.now c.index-list.result.now.first c.args.width
 block_taken c =
@@ -37,7 +37,7 @@ block_taken c =
     c.clear.ensures.items
 
 pub invariant_of-self : goal.invariant_of-self
-invariant_of-self c = (block_taken c).sound
+invariant_of-self c = (block_taken c).kept
 
 pub returns-clause-fresh : goal.returns-clause-fresh
 returns-clause-fresh c = (block_taken c).fresh
@@ -45,12 +45,8 @@ returns-clause-fresh c = (block_taken c).fresh
 pub returns-clause-small : goal.returns-clause-small
 returns-clause-small c =
     let first = first_read c.self.inside _ c.args.width c.self.view_is c.self.invariant c.requires in
-    omega (
-      arith,
-      (reads_first c.self.inside c.args.width c.index-list.result.now first c.index-list.ensures).inside,
-      c.self.inside.words.ok,
-      c.self.inside.words.small,
-    )
+    let reads = reads_first c.self.inside c.args.width c.index-list.result.now first c.index-list.ensures in
+    omega (arith, reads.inside, reads.positive, c.self.invariant.small)
 
 pub returns-clause-live : goal.returns-clause-live
 returns-clause-live c = (block_taken c).live
@@ -74,6 +70,6 @@ pub returns-clause-blocks : goal.returns-clause-blocks
 returns-clause-blocks c =
     let list : FreeList = record { first = c.index.result.now; count = c.index-list.result.now.count - 1 } in
     blocks_taken c.args.self.now
-    (state_of (record { words = c.clear.new.words; free = with_item c.self.inside.free c.args.width list; work = c.one_more-self-inside.result }))
+    (state_of (record { words = c.clear.new.words; made = c.self.inside.made; free = with_item c.self.inside.free c.args.width list; work = c.one_more-self-inside.result }))
     c.index-list.result.now.first c.args.width (replicate c.args.width 0) (returns-clause-fresh c) (returns-clause-live c) (length-replicate c.args.width 0)
     (returns-clause-spare c) (returns-clause-others c)

@@ -1,0 +1,66 @@
+use Rattle.std.proofs.Common.{◌≢◌, ◌∙◌, [], List, map, sym, subst}
+use Rattle.pict_code.specs.Plain.{plain_code, plain_node}
+use Rattle.pict_code.specs.declared.instruction.Node.{Node}
+use Rattle.pict_heap.specs.HeapState.{HeapState}
+use Rattle.pict_turns.specs.Acting.{core_in, IsCode, IsStore}
+use Rattle.pict_turns.specs.Views.{view_with_turn, acting_words}
+use Rattle.pict_machine.specs.Constants.{AreConstants}
+use Rattle.pict_machine.specs.Stepping.{GivesTurn, MayAct, IsStepBy}
+use Rattle.pict_machine.proofs.Taking.{may_act}
+use Rattle.pict_machine.proofs.Steps.{step_kept, step_ok, step_event, step_refused, step_keeps, step_few}
+use Rattle.pict_machine.specs.Needs.{MakesNeeded}
+use Rattle.pict_machine.specs.Plain.{ActsPlainly, TakesNothing}
+use Rattle.pict_machine.specs.Work.{Fits}
+use Rattle.pict_machine.proofs.Needing.{running_needs}
+use Rattle.pict_machine.proofs.Plainly.{plainly_given}
+use Rattle.pict_machine.proofs.Working.{running_works}
+use Rattle.pict_machine.proofs.machine.Machine.advance.Goals as goal
+
+pub ensure_turn-requires : goal.ensure_turn-requires
+ensure_turn-requires c =
+    let old = c.args.self.now in
+    record {
+      code = subst (λ (code : List Node). IsCode (map plain_node code)) (sym c.deref.ensures.value) c.requires.kept.code;
+      store = subst (λ (code : List Node). IsStore (core_in code) old.store) (sym c.deref.ensures.value) c.requires.kept.store;
+      ready = subst (λ (code : List Node). (view_with_turn (core_in code) old.store).ready ≢ []) (sym c.deref.ensures.value) c.requires.ready;
+    }
+
+pub act-requires-clause-may : goal.act-requires-clause-may
+act-requires-clause-may c =
+    let old = c.args.self.now in
+    let mid = c.ensure_turn.new.store in
+    let given = subst (λ (code : List Node). GivesTurn (core_in code) old.store mid) c.deref.ensures.value c.ensure_turn.ensures in
+    subst (λ (code : List Node). MayAct code mid) (sym c.deref-2.ensures.value)
+    (may_act old.code.nodes.items old.store mid given c.requires.kept.code c.requires.kept.store.ready c.requires.kept.held c.requires.few c.requires.right)
+
+pub act-requires-clause-constants : goal.act-requires-clause-constants
+act-requires-clause-constants c =
+    let old = c.args.self.now in
+    let mid = c.ensure_turn.new.store in
+    let given = subst (λ (code : List Node). GivesTurn (core_in code) old.store mid) c.deref.ensures.value c.ensure_turn.ensures in
+    subst (λ (h : HeapState). AreConstants h (map plain_node c.deref-2.result.now) c.deref-3.result.now) (sym given.heap)
+    (subst (λ (code : List Node). AreConstants old.store.heap (map plain_node code) c.deref-3.result.now) (sym c.deref-2.ensures.value)
+    (subst (AreConstants old.store.heap (plain_code old.code)) (sym c.deref-3.ensures.value) c.requires.kept.constants))
+
+pub returns : goal.returns
+returns c =
+    let old = c.args.self.now in
+    let mid = c.ensure_turn.new.store in
+    let new = c.act.new.store in
+    let given = subst (λ (code : List Node). GivesTurn (core_in code) old.store mid) c.deref.ensures.value c.ensure_turn.ensures in
+    let core = core_in old.code.nodes.items in
+    let step = subst (λ (code : List Node). IsStepBy (core_in code) mid new c.act.result) c.deref-2.ensures.value c.act.ensures.step in
+    let work = subst (λ (code : List Node). Fits (core_in code) mid new) c.deref-2.ensures.value c.act.ensures.work in
+    let blocks = subst (λ (code : List Node). MakesNeeded (core_in code) mid new) c.deref-2.ensures.value c.act.ensures.blocks in
+    let plain = subst (λ (code : List Node). ActsPlainly (core_in code) mid (acting_words (core_in code) mid) → TakesNothing mid new c.act.result) c.deref-2.ensures.value c.act.ensures.plain in
+    record {
+      kept = step_kept old mid new given c.requires.kept c.requires.right c.act.result step;
+      ok = step_ok old mid new given c.requires.kept c.act.result step;
+      event = step_event old mid new given c.requires.kept c.act.result step;
+      refused = step_refused old mid new given c.requires.kept c.act.result step;
+      keeps = step_keeps old mid new given c.requires.kept c.act.result step;
+      work = running_works core old.store mid new given work;
+      blocks = running_needs core old.store mid new given blocks;
+      plain = λ m. let x = plain (plainly_given core old.store mid given m) in (x.0, λ width. x.1 width ∙ given.blocks width);
+      channels = step_few old mid new given c.requires.kept c.act.result step;
+    }

@@ -1,0 +1,13 @@
+use Rattle.std.proofs.Common.{◌≤◌, ◌+◌}
+use Rattle.pict_heap.specs.HeapState.{KeepsWords}
+use Rattle.pict_machine.specs.Going.{GoesQuietly}
+use Rattle.pict_machine.specs.Machine.{IsRunning, running_view, heap_of, channels_of}
+use Rattle.pict_machine.proofs.machine.Machine.go_on.Given as goal
+
+abbrev pub invariant-loop-step : goal.invariant-loop-step
+invariant-loop-step l = record {
+  kept : IsRunning l.self;
+  few : channels_of l.self ≤ channels_of l.fn.self + l.step;
+  keeps : KeepsWords (heap_of l.fn.self) (heap_of l.self);
+  quietly : GoesQuietly l.step (running_view l.fn.self) (running_view l.self);
+}

@@ -1,0 +1,40 @@
+use Rattle.std.proofs.Common.{ℕ, List, ◌<◌, ◌∷◌, [], length, refl, sym, ap, subst}
+use Rattle.pict_region.specs.RegionState.{words_of}
+use Rattle.pict_queue.specs.Contents.{held_words}
+use Rattle.pict_turns.specs.Acting.{core_in}
+use Rattle.pict_turns.proofs.AfterReading.{reads_aside}
+use Rattle.pict_turns.proofs.Numbered.{coded_frame, coded_inside, coded_rising, in_code}
+use Rattle.pict_turns.proofs.Taking.{node_low, node_read, read_frame_is, wide_held, wide_taken}
+use Rattle.pict_turns.proofs.turning.read_wide_node.Goals as goal
+
+pub frame_at-requires : goal.frame_at-requires
+frame_at-requires c =
+    let core = core_in c.args.code.now in
+    let s = c.args.store.now in
+    in_code c.args.code.now c.requires.code c.args.number
+    (node_low core s.heap c.args.number (held_words s.queues.region c.args.block.now) c.requires.is.0 c.requires.is.1)
+
+pub read_wide-pair-requires-clause-inside : goal.read_wide-pair-requires-clause-inside
+read_wide-pair-requires-clause-inside c = coded_inside c.args.code.now c.requires.code c.args.store.now c.requires.store c.args.number c.frame_at.result.now c.frame_at.ensures
+
+pub read_wide-pair-requires-clause-rising : goal.read_wide-pair-requires-clause-rising
+read_wide-pair-requires-clause-rising c = coded_rising c.args.code.now c.requires.code c.args.number c.frame_at.result.now c.frame_at.ensures
+
+pub returns-clause-read : goal.returns-clause-read
+returns-clause-read c =
+    let core = core_in c.args.code.now in
+    let s = c.args.store.now in
+    let n = c.read_wide-pair.new.store in
+    let pair = c.read_wide-pair.result in
+    let words = held_words s.queues.region c.args.block.now in
+    let f = coded_frame c.args.code.now c.requires.code c.args.number c.frame_at.result.now c.frame_at.ensures in
+    let read = node_read core s n c.args.number words c.frame_at.result.now c.requires.is.0 c.requires.is.1 f c.read_wide-pair.ensures.read in
+    let many : 32000 < length read.node.frame =
+    subst (λ (ls : List ℕ). 32000 < length ls) (sym (read_frame_is core s n c.args.number words c.frame_at.result.now read f)) (c.requires.wide c.frame_at.result.now c.frame_at.ensures) in
+    let ws = words_of s.queues.region c.args.block.now in
+    record {
+      words = ap (λ (us : List ℕ). us ∷ [])
+          (sym (wide_held core s n c.args.number words c.requires.is.0 c.requires.is.1 read many pair ws refl c.read_wide-pair.ensures.first c.read_wide-pair.ensures.second));
+      turn = wide_taken core s n c.args.number words c.requires.is.0 c.requires.is.1 read many pair ws refl c.read_wide-pair.ensures.first c.read_wide-pair.ensures.second;
+      rest = reads_aside s n read.rest;
+    }

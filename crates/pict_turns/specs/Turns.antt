@@ -1,0 +1,66 @@
+-- Who may have the turn, how it is taken, and what it costs to take it or to set it down.
+use Rattle.std.specs.Prelude.{◌≡◌, ◌≤◌, ◌<◌, ◌+◌, ℕ, suc, List, [], ◌∷◌, length, Some, slice_get}
+use Rattle.pict_core.specs.Term.{Process}
+use Rattle.pict_code.specs.Instruction.{Node}
+use Rattle.pict_code.specs.Nodes.{nodes_of}
+use Rattle.pict_frames.specs.Keeping.{kept_words}
+use Rattle.pict_heap.specs.HeapState.{HeapState}
+use Rattle.pict_queue.specs.Contents.{contents, KeepsOtherContents, HoldsNoMore}
+use Rattle.pict_region.specs.RegionState.{spare, KeepsBlocks}
+use Rattle.pict_blocks.specs.Blocks.{IsNodeBlock}
+use Rattle.pict_turns.specs.Holding.{HoldRecord}
+use Rattle.pict_turns.specs.Reading.{OnlyReads}
+use Rattle.pict_turns.specs.Views.{IsKept, turn_words, acting_words}
+use Rattle.pict_turns.specs.declared.store.Store.{Store}
+use Rattle.pict_turns.specs.declared.turn.Turn.{Turn}
+use Rattle.pict_turns.specs.declared.turn.Turn.TheVariants.{Nobody, Node as NodeTurn, Wide, Output}
+
+-- a node whose values are those of the levels of its frame, which would stand in a block itself
+pub record IsNarrow (core : Process) (number : ℕ) : Type 0 where
+  pub node : Node
+  pub at : slice_get (nodes_of core) number ≡ Some node
+  pub narrow : length node.frame ≤ 32000
+
+-- a node of a larger frame, whose values are those of the levels of its frame, and the fields of the record
+pub record IsWide (core : Process) (h : HeapState) (values : List (ℕ × ℕ)) (number : ℕ) (pair : ℕ × ℕ) : Type 0 where
+  pub node : Node
+  pub wide : 32000 < length node.frame
+  pub is : IsNodeBlock core h values number node (suc number ∷ pair.0 ∷ pair.1 ∷ [])
+  pub record_is : HoldRecord h (length node.frame) (pair.0 ∷ pair.1 ∷ [])
+
+-- who may have the turn
+abbrev pub IsTurn : Process → HeapState → List (ℕ × ℕ) → Turn → Type 0
+IsTurn core h values Nobody = Unit {0}
+IsTurn core h values (NodeTurn number) = IsNarrow core number
+IsTurn core h values (Wide number pair) = IsWide core h values number pair
+IsTurn core h values (Output kept) = IsKept h (kept_words kept)
+
+-- Who has the turn is what a block with these words behind its link is. Nothing else has changed but work and the values of
+-- levels, each of which has the words of a value still.
+pub record ReadsTurn (core : Process) (old new : Store) (held : List ℕ) : Type 0 where
+  pub words : turn_words core new ≡ held ∷ []
+  pub turn : IsTurn core new.heap new.values.items new.turn
+  pub rest : OnlyReads old (record new { turn = old.turn })
+
+-- The first of queue 0 has the turn now, and its block is free. The other queues, the heap and the piles stay. There are as
+-- many blocks, queues and levels, and no fewer free blocks, and no block is held that wasn't.
+pub record TakesTurn (core : Process) (old new : Store) : Type 0 where
+  pub first : contents old.queues 0 ≡ acting_words core new ∷ contents new.queues 0
+  pub others : KeepsOtherContents old.queues new.queues 0
+  pub queues : length new.queues.queues ≡ length old.queues.queues
+  pub freed : spare new.queues.region (length (acting_words core new) + 1) ≡ spare old.queues.region (length (acting_words core new) + 1) + 1
+  pub spare : (width : ℕ) → spare old.queues.region width ≤ spare new.queues.region width
+  pub blocks : KeepsBlocks old.queues.region new.queues.region
+  pub no_more : HoldsNoMore old.queues new.queues
+  pub heap : new.heap ≡ old.heap
+  pub pending : new.pending ≡ old.pending
+  pub levels : length new.values.items ≡ length old.values.items
+
+-- how many units it takes at most to take the turn from blocks with these words, or to set it down
+abbrev pub handing : List (List ℕ) → ℕ
+handing [] = 0
+handing (words ∷ rest) = length words + 5 + handing rest
+
+-- what it takes at most to take the turn, or to set down who has it; nothing where nobody has it
+abbrev pub turn_cost : Process → Store → ℕ
+turn_cost core s = handing (turn_words core s)

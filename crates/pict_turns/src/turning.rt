@@ -1,0 +1,172 @@
+// The turn is taken and set down.
+ghost use Rattle.std.specs.Prelude.{◌≡◌, ◌≢◌, ◌<◌, ◌+◌, ℕ, List, [], length, map};
+ghost use Rattle.pict_core.specs.Term.{Process};
+ghost use Rattle.pict_code.specs.Plain.{plain_node};
+ghost use Rattle.pict_frames.specs.Writing.{IsMade};
+ghost use Rattle.pict_region.specs.RegionState.{KeepsBlocks};
+ghost use Rattle.pict_queue.specs.QueuesState.{IsHeld, CostsAtMost};
+ghost use Rattle.pict_queue.specs.Contents.{held_words, contents, KeepsOtherContents, HoldsNoMore};
+ghost use Rattle.pict_turns.specs.Acting.{core_in, IsCode, IsStore, HasActing};
+ghost use Rattle.pict_operands.specs.Pairs.{ArePairs};
+ghost use Rattle.pict_turns.specs.Reading.{HasFrame};
+ghost use Rattle.pict_turns.specs.Turns.{ReadsTurn, TakesTurn, turn_cost};
+ghost use Rattle.pict_turns.specs.Views.{IsNode, IsKept, IsBlock, acting_words, ready_words};
+
+use crate::parts::NARROW;
+use crate::reading::{frame_at, read_narrow, read_wide};
+use crate::store::Store;
+use crate::turn::Turn;
+use pict_code::Node;
+use pict_frames::{block_of, kept_block, read_kept};
+use pict_queue::QueueId;
+use pict_region::Block;
+
+/// The first of queue 0, where nobody has the turn, has it now, and its block is free. Takes no memory, and time in the levels of
+/// its frame.
+#[inline(always)]
+pub fn take_turn(store: &mut Store, code: &[Node])
+    requires code { IsCode (map plain_node code.now) }
+    requires store { IsStore (core_in code.now) store.old }
+    requires nobody { store.old.turn ≡ Turn.Nobody }
+    requires some { contents store.old.queues 0 ≢ [] }
+    ensures acting { HasActing (core_in code.now) store.new }
+    ensures takes { TakesTurn (core_in code.now) store.old store.new }
+    ensures cost { CostsAtMost (turn_cost (core_in code.now) store.new) store.old.queues store.new.queues }
+{
+    match store.queues.pop_front(QueueId(0)) {
+        Some(block) => {
+            read_turn(store, code, &block);
+            store.queues.give(block);
+        }
+        None => unreachable!(),
+    }
+}
+
+// The process of a held block of an output has the turn.
+#[inline(never)]
+fn read_output(store: &mut Store, block: &Block)
+    requires held { IsHeld store.old.queues block.now }
+    requires kept { IsKept store.old.heap (held_words store.old.queues.region block.now) }
+    requires pairs { ArePairs store.old.heap store.old.values.items }
+    ensures read { (core : Process) → ReadsTurn core store.old store.new (held_words store.old.queues.region block.now) }
+    ensures cost { CostsAtMost 7 store.old.queues store.new.queues }
+{
+    store.turn = Turn::Output(read_kept(&mut store.queues, block));
+}
+
+// The process of a node's held block, whose frame is of more than 32,000 levels, has the turn. The levels get its values.
+#[cold]
+#[inline(never)]
+fn read_wide_node(store: &mut Store, code: &[Node], block: &Block, number: usize)
+    requires code { IsCode (map plain_node code.now) }
+    requires store { IsStore (core_in code.now) store.old }
+    requires held { IsHeld store.old.queues block.now }
+    requires is { (n : IsNode (core_in code.now) store.old.heap (held_words store.old.queues.region block.now)) × (n.number ≡ number) }
+    requires wide { (frame : List ℕ) → HasFrame (map plain_node code.now) number frame → 32000 < length frame }
+    ensures read { ReadsTurn (core_in code.now) store.old store.new (held_words store.old.queues.region block.now) }
+    ensures cost { CostsAtMost 2 store.old.queues store.new.queues }
+{
+    let pair = read_wide(store, block, frame_at(code, number));
+    store.turn = Turn::Wide(number, pair);
+}
+
+// The process of a node's held block has the turn. The levels of its frame get its values.
+#[inline(always)]
+fn read_node(store: &mut Store, code: &[Node], block: &Block, number: usize)
+    requires code { IsCode (map plain_node code.now) }
+    requires store { IsStore (core_in code.now) store.old }
+    requires held { IsHeld store.old.queues block.now }
+    requires is { (n : IsNode (core_in code.now) store.old.heap (held_words store.old.queues.region block.now)) × (n.number ≡ number) }
+    ensures read { ReadsTurn (core_in code.now) store.old store.new (held_words store.old.queues.region block.now) }
+    ensures cost { CostsAtMost (length (held_words store.old.queues.region block.now) + 1) store.old.queues store.new.queues }
+{
+    let frame = frame_at(code, number);
+    if frame.len() <= NARROW {
+        read_narrow(store, block, frame);
+        store.turn = Turn::Node(number);
+    } else {
+        read_wide_node(store, code, block, number);
+    }
+}
+
+// The process of this held block has the turn. The levels of a node's frame get its values.
+#[inline(always)]
+fn read_turn(store: &mut Store, code: &[Node], block: &Block)
+    requires code { IsCode (map plain_node code.now) }
+    requires store { IsStore (core_in code.now) store.old }
+    requires held { IsHeld store.old.queues block.now }
+    requires is { IsBlock (core_in code.now) store.old.heap (held_words store.old.queues.region block.now) }
+    ensures read { ReadsTurn (core_in code.now) store.old store.new (held_words store.old.queues.region block.now) }
+    ensures cost { CostsAtMost (length (held_words store.old.queues.region block.now) + 2) store.old.queues store.new.queues }
+{
+    let first = store.queues.get(block, 1);
+    if first == 0 {
+        read_output(store, block);
+    } else {
+        read_node(store, code, block, first as usize - 1);
+    }
+}
+
+// The same as `set_down` where an output or a node of more than 32,000 levels has the turn.
+#[inline(never)]
+fn set_down_other(store: &mut Store, code: &[Node]) -> Block
+    requires code { IsCode (map plain_node code.now) }
+    requires acting { HasActing (core_in code.now) store.old }
+    requires other { (number : ℕ) → store.old.turn ≢ Turn.Node number }
+    ensures made { IsMade store.old.queues store.new.queues result (acting_words (core_in code.now) store.old)
+        (length (acting_words (core_in code.now) store.old) + 1) }
+    ensures rest { store.new ≡ record store.old { queues = store.new.queues; turn = Turn.Nobody } }
+    ensures cost { CostsAtMost (length (acting_words (core_in code.now) store.old) + 1) store.old.queues store.new.queues }
+{
+    let turn = store.turn;
+    store.turn = Turn::Nobody;
+    match turn {
+        Turn::Wide(number, pair) => block_of(&mut store.queues, number, &[0], &[pair]),
+        Turn::Output(kept) => kept_block(&mut store.queues, kept),
+        _ => unreachable!(),
+    }
+}
+
+/// A new block of who has the turn, which the caller then holds. Nobody has the turn then. Takes no memory, and time in the
+/// levels of the frame.
+#[inline(always)]
+pub fn set_down(store: &mut Store, code: &[Node]) -> Block
+    requires code { IsCode (map plain_node code.now) }
+    requires acting { HasActing (core_in code.now) store.old }
+    ensures made { IsMade store.old.queues store.new.queues result (acting_words (core_in code.now) store.old)
+        (length (acting_words (core_in code.now) store.old) + 1) }
+    ensures rest { store.new ≡ record store.old { queues = store.new.queues; turn = Turn.Nobody } }
+    ensures cost { CostsAtMost (length (acting_words (core_in code.now) store.old) + 1) store.old.queues store.new.queues }
+{
+    match store.turn {
+        Turn::Node(number) => {
+            store.turn = Turn::Nobody;
+            let frame = frame_at(code, number);
+            block_of(&mut store.queues, number, frame, &store.values)
+        }
+        _ => set_down_other(store, code),
+    }
+}
+
+/// Who has the turn is the first of queue 0, as a block, and nobody has the turn then. Takes no memory, and time in the levels of
+/// the frame.
+pub fn return_turn(store: &mut Store, code: &[Node])
+    requires code { IsCode (map plain_node code.now) }
+    requires store { IsStore (core_in code.now) store.old }
+    ensures store { IsStore (core_in code.now) store.new }
+    ensures ready { contents store.new.queues 0 ≡ ready_words (core_in code.now) store.old }
+    ensures others { KeepsOtherContents store.old.queues store.new.queues 0 }
+    ensures rest { store.new ≡ record store.old { queues = store.new.queues; turn = Turn.Nobody } }
+    ensures queues { length store.new.queues.queues ≡ length store.old.queues.queues }
+    ensures no_more { HoldsNoMore store.old.queues store.new.queues }
+    ensures blocks { KeepsBlocks store.old.queues.region store.new.queues.region }
+    ensures cost { CostsAtMost (turn_cost (core_in code.now) store.old) store.old.queues store.new.queues }
+{
+    match store.turn {
+        Turn::Nobody => {}
+        _ => {
+            let block = set_down(store, code);
+            store.queues.push_front(QueueId(0), block);
+        }
+    }
+}
