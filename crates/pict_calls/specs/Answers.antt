@@ -10,7 +10,8 @@ use Rattle.pict_heap.specs.HeapState.{HeapState}
 use Rattle.pict_calls.specs.Arguments.{argument_of}
 use Rattle.pict_calls.specs.Finishing.{IsOutput}
 
--- Of a record of these fields the primitive is to print nothing and to answer what these kept words send, where they send it.
+-- Of a record of these fields the primitive is to print nothing and to answer what these kept words send, where they send it, at
+-- this place.
 pub record IsAnswerOf (h : HeapState) (values : List (ℕ × ℕ)) (p : Primitive) (fields : List CoreVal) (at : Span) (kept : Kept) : Type 0 where
   pub to : Val
   pub answer : Val

@@ -1,6 +1,7 @@
--- Runs go on by steps that show nothing.
-use Rattle.std.proofs.Common.{ℕ, zero, suc, ◌+◌, ◌<◌, ◌≤◌, ◌≡◌, ◌≢◌, ◌⊎◌, ⊎_elim, Bool, true, false, IsTrue, ◌↔◌, List, [], ◌∷◌, ◌++◌, refl, sym, ap, ◌∙◌, subst, Option, Some, None, Result, Ok, Err, add-zero, add-one, add-suc, append-nil, arith}
+-- Runs go on by steps that are passed over.
+use Rattle.std.proofs.Common.{ℕ, zero, suc, ◌+◌, ◌<◌, ◌≤◌, ◌≡◌, ◌≢◌, ◌⊎◌, ⊎_elim, Bool, true, false, IsTrue, ◌↔◌, List, [], ◌∷◌, ◌++◌, refl, sym, ap, ◌∙◌, subst, Option, Some, None, Result, Ok, Err, add-zero, add-one, add-suc, append_assoc, append-nil, arith}
 use Rattle.std.specs.declared.alloc.AllocError.{AllocError}
+use Rattle.pict_syntax.specs.declared.span.Span.{Span}
 use Rattle.pict_core.specs.Configuration.{Configuration, IsConfiguration}
 use Rattle.pict_core.specs.Step.{Label, Quiet, Comm, Print}
 use Rattle.pict_core.specs.Run.{Reaches, shown}
@@ -9,47 +10,102 @@ use Rattle.pict_view.specs.Stepping.{IsStepOf}
 use Rattle.pict_heap.specs.HeapState.{HeapState}
 use Rattle.pict_view.specs.Held.{IsHeldBy}
 use Rattle.pict_view.specs.Right.{IsRightFor}
-use Rattle.pict_view.specs.Watching.{Saw, SawOrTore, RanFor, BrokeOff}
-use Rattle.pict_view.proofs.Runs.{Stood, empty_of, is_done, is_spent}
-use Rattle.pict_machine.specs.Events.{label_of, trap_of, end_of}
-use Rattle.pict_machine.specs.Going.{GoesQuietly, GoesOn, HasEvent, ThenComes, StopsAs}
+use Rattle.pict_view.specs.Watching.{Saw, SawOrTore, RanFor, BrokeOff, view_after}
+use Rattle.pict_view.proofs.Runs.{Stood, empty_of, is_done, is_spent, saw_more}
+use Rattle.pict_machine.specs.Events.{end_of, PassesCommunications}
+use Rattle.pict_machine.specs.Packed.{label_packed, trap_packed}
+use Rattle.pict_machine.specs.Going.{IsPassed, ArePassed, GoesPast, GoesOn, HasEvent, ThenComes, StopsAs}
 use Rattle.pict_machine.specs.Machine.{running_view}
-use Rattle.pict_machine.specs.declared.event.Event.{Event}
-use Rattle.pict_machine.specs.declared.event.Event.TheVariants as event
+use Rattle.pict_machine.specs.declared.event.PackedEvent.{PackedEvent}
+use Rattle.pict_machine.specs.declared.event.PackedEvent.TheVariants as packed
 use Rattle.pict_machine.specs.declared.event.End.{End}
 use Rattle.pict_machine.specs.declared.event.End.TheVariants as end
 use Rattle.pict_machine.specs.declared.machine.Machine.{Machine}
 use Rattle.pict_machine.proofs.Running.{broke_before}
 use Rattle.pict_machine.proofs.Taking.{ready_of}
 
+-- ---- labels that are passed over
+
+-- those of a list's two parts
+passed_parts : (p : Bool) (xs ys : List (ℕ × Label)) → ArePassed p (xs ++ ys) → ArePassed p xs × ArePassed p ys
+passed_parts p [] ys a = (tt, a)
+passed_parts p ((n, Quiet) ∷ xs) ys a = absurd a
+passed_parts p ((n, Comm c v) ∷ xs) ys a = let r = passed_parts p xs ys a.1 in ((a.0, r.0), r.1)
+passed_parts p ((n, Print bytes) ∷ xs) ys a = absurd a
+
+passed_both : (p : Bool) (xs ys : List (ℕ × Label)) → ArePassed p xs → ArePassed p ys → ArePassed p (xs ++ ys)
+passed_both p [] ys a b = b
+passed_both p ((n, Quiet) ∷ xs) ys a b = absurd a
+passed_both p ((n, Comm c v) ∷ xs) ys a b = (a.0, passed_both p xs ys a.1 b)
+passed_both p ((n, Print bytes) ∷ xs) ys a b = absurd a
+
+-- the number of a step doesn't matter
+passed_number : (p : Bool) (n m : ℕ) (label : Label) → ArePassed p (shown n label) → ArePassed p (shown m label)
+passed_number p n m Quiet a = tt
+passed_number p n m (Comm c v) a = a
+passed_number p n m (Print bytes) a = absurd a
+
+passed_more : (p : Bool) (n m : ℕ) (label : Label) (before more : List (ℕ × Label)) → (ArePassed p before → ArePassed p more)
+    → ArePassed p (before ++ shown n label) → ArePassed p (more ++ shown m label)
+passed_more p n m label before more f a =
+    let r = passed_parts p before (shown n label) a in
+    passed_both p more (shown m label) (f r.0) (passed_number p n m label r.1)
+
+-- an event that is passed over has such a label, if any, and is no trap
+passed_label : (p : Bool) (h : HeapState) (e : PackedEvent) → IsPassed p e → (n : ℕ) → ArePassed p (shown n (label_packed h e))
+passed_label p h packed.Quiet a n = tt
+passed_label p h (packed.Comm channel value) a n = (a, tt)
+passed_label p h (packed.Print word) a n = absurd a
+passed_label p h (packed.Trapped at) a n = absurd a
+
+passed_is_none : (p : Bool) (e : PackedEvent) → IsPassed p e → trap_packed e ≡ None
+passed_is_none p packed.Quiet a = refl
+passed_is_none p (packed.Comm channel value) a = refl
+passed_is_none p (packed.Print word) a = refl
+passed_is_none p (packed.Trapped at) a = absurd a
+
+-- they change nothing of what was seen
+module _ (p : Bool) (f : List ℕ → ℕ → Label → List ℕ) (passes : IsTrue p → PassesCommunications f) where
+  view_past : (v : List ℕ) (ks : List (ℕ × Label)) → ArePassed p ks → view_after f v ks ≡ v
+  view_past v [] a = refl
+  view_past v ((n, Quiet) ∷ ks) a = absurd a
+  view_past v ((n, Comm c x) ∷ ks) a = ap (λ u. view_after f u ks) (passes a.0 v n c x) ∙ view_past v ks a.1
+  view_past v ((n, Print bytes) ∷ ks) a = absurd a
+
+  saw_past : (seen : Option (List ℕ)) (ks : List (ℕ × Label)) → ArePassed p ks → Saw f seen seen ks
+  saw_past None ks a = tt
+  saw_past (Some v) ks a = sym (view_past v ks a)
+
 -- ---- some steps after others
 
--- a label that shows nothing under one number shows nothing under another
-no_more_shown : (n m : ℕ) (label : Label) (before more ls : List (ℕ × Label)) → (before ≡ [] → more ≡ ls) → before ++ shown n label ≡ [] → more ++ shown m label ≡ ls
-no_more_shown n m Quiet before more ls same e = append-nil more ∙ same (sym (append-nil before) ∙ e)
-no_more_shown n m (Comm c v) [] more ls same e = cc
-no_more_shown n m (Comm c v) (l ∷ before) more ls same e = cc
-no_more_shown n m (Print bytes) [] more ls same e = cc
-no_more_shown n m (Print bytes) (l ∷ before) more ls same e = cc
-
--- k steps after n are n + k steps, and those after show nothing more where they show nothing
+-- k steps after n are n + k steps, and show what both show, but that the numbers of the later ones are greater
 pub reaches_more : (n k : ℕ) (C M D : Configuration) (ls ks : List (ℕ × Label)) → Reaches n C ls M → Reaches k M ks D
-    → (more : List (ℕ × Label)) × Reaches (n + k) C more D × (ks ≡ [] → more ≡ ls)
+    → (more : List (ℕ × Label)) × Reaches (n + k) C (ls ++ more) D × ((p : Bool) → ArePassed p ks → ArePassed p more)
 reaches_more n zero C M D ls ks r q =
-    (ls, subst (λ j. Reaches j C ls D) (sym (add-zero n)) (subst (λ X. Reaches n C ls X) q.0 r), λ e. refl)
+    let there = subst (λ X. Reaches n C ls X) q.0 r in
+    ([], subst (λ j. Reaches j C (ls ++ []) D) (sym (add-zero n)) (subst (λ (x : List (ℕ × Label)). Reaches n C x D) (sym (append-nil ls)) there), λ p a. tt)
 reaches_more n (suc k) C M D ls ks r (N, before, label, q, steps, is) =
-    let (more, reached, same) = reaches_more n k C M N ls before r q in (
-      more ++ shown (suc (n + k)) label,
-      subst (λ j. Reaches j C (more ++ shown (suc (n + k)) label) D) (sym (add-suc n k)) (N, more, label, reached, steps, refl),
-      λ e. no_more_shown (suc k) (suc (n + k)) label before more ls same (sym is ∙ e),
+    let (more, reached, passed) = reaches_more n k C M N ls before r q in
+    let last = shown (suc (n + k)) label in (
+      more ++ last,
+      subst (λ j. Reaches j C (ls ++ (more ++ last)) D) (sym (add-suc n k)) (N, ls ++ more, label, reached, steps, sym (append_assoc ls more last)),
+      λ p a. passed_more p (suc k) (suc (n + k)) label before more (passed p) (subst (ArePassed p) is a),
     )
 
--- so many more steps that show nothing
-pub stood_quietly : (n k : ℕ) (C : Configuration) (v w : View) (Seen : List (ℕ × Label) → Type 0) → GoesQuietly k v w → Stood n C v Seen → Stood (n + k) C w Seen
-stood_quietly n k C v w Seen go s =
-    let (D, reached, is, stands) = go s.last s.is s.stands in
-    let (more, all, same) = reaches_more n k C s.last D s.labels [] s.reached reached in
-    record { labels = more; last = D; reached = all; is = is; stands = stands; seen = subst Seen (sym (same refl)) s.seen }
+-- so many more steps, whose labels are passed over
+pub stood_past : (p : Bool) (f : List ℕ → ℕ → Label → List ℕ) → (IsTrue p → PassesCommunications f) → (n k : ℕ) (C : Configuration) (v w : View) (before after : Option (List ℕ))
+    → GoesPast p k v w → Stood n C v (Saw f before after) → Stood (n + k) C w (Saw f before after)
+stood_past p f passes n k C v w before after go s =
+    let (D, ks, passed, reached, is, stands) = go s.last s.is s.stands in
+    let (more, all, same) = reaches_more n k C s.last D s.labels ks s.reached reached in
+    record {
+      labels = s.labels ++ more;
+      last = D;
+      reached = all;
+      is = is;
+      stands = stands;
+      seen = saw_more f f (λ u m l. refl) before after after more (saw_past p f passes after more (same p passed)) s.labels s.seen;
+    }
 
 -- after some steps of a right run the others are right
 pub right_after : (n fuel left : ℕ) (v w : View) (Seen : List (ℕ × Label) → Type 0) → n + left ≤ fuel → IsRightFor v fuel
@@ -62,31 +118,31 @@ right_after n fuel left v w Seen within r stood =
       stands = s.stands;
       right = λ k labels D lt reached.
           let (more, all, same) = reaches_more n k r.configuration s.last D s.labels labels s.reached reached in
-          r.right (n + k) more D (omega (arith, lt, within)) all;
+          r.right (n + k) (s.labels ++ more) D (omega (arith, lt, within)) all;
     }
 
--- ---- steps that show nothing
-
-pub no_steps : (v : View) → GoesQuietly 0 v v
-no_steps v C is stands = (C, (refl, refl), is, stands)
+-- ---- steps that are passed over
 
 -- they are seen as such
-pub stood_of : (n : ℕ) (v w : View) → GoesQuietly n v w → (C : Configuration) → IsConfiguration C → StandsFor v C → Stood n C w (λ labels. labels ≡ [])
-stood_of n v w go C is stands =
-    let (D, reached, at, by) = go C is stands in
-    record { labels = []; last = D; reached = reached; is = at; stands = by; seen = refl }
+pub stood_of : (p : Bool) (n : ℕ) (v w : View) → GoesPast p n v w → (C : Configuration) → IsConfiguration C → StandsFor v C → Stood n C w (ArePassed p)
+stood_of p n v w go C is stands =
+    let (D, labels, passed, reached, at, by) = go C is stands in
+    record { labels = labels; last = D; reached = reached; is = at; stands = by; seen = passed }
 
 -- one more
-pub one_quietly : (n : ℕ) (v w u : View) → GoesQuietly n v w → ((D : Configuration) → IsConfiguration D → StandsFor w D → IsStepOf D Quiet None u) → GoesQuietly (n + 1) v u
-one_quietly n v w u go step C is stands =
-    let (D, reached, at, by) = go C is stands in
-    let f = step D at by in
-    (f.after, subst (λ k. Reaches k C [] f.after) (sym (add-one n)) (D, [], Quiet, reached, f.steps, refl), f.is, f.stands)
-
--- the step that a quiet event tells of
-pub quiet_step : (h : HeapState) (e : Event) (w u : View) → e ≡ event.Quiet → ((D : Configuration) → IsConfiguration D → StandsFor w D → IsStepOf D (label_of h e) (trap_of e) u)
-    → (D : Configuration) → IsConfiguration D → StandsFor w D → IsStepOf D Quiet None u
-quiet_step h e w u quiet step D is stands = subst (λ x. IsStepOf D (label_of h x) (trap_of x) u) quiet (step D is stands)
+pub one_past : (p : Bool) (n : ℕ) (h : HeapState) (e : PackedEvent) (v w u : View) → GoesPast p n v w → IsPassed p e
+    → ((D : Configuration) → IsConfiguration D → StandsFor w D → IsStepOf D (label_packed h e) (trap_packed e) u) → GoesPast p (n + 1) v u
+one_past p n h e v w u go past step C is stands =
+    let (D, labels, passed, reached, at, by) = go C is stands in
+    let label = label_packed h e in
+    let f = subst (λ (t : Option Span). IsStepOf D label t u) (passed_is_none p e past) (step D at by) in (
+      f.after,
+      labels ++ shown (suc n) label,
+      passed_both p labels (shown (suc n) label) passed (passed_label p h e past (suc n)),
+      subst (λ k. Reaches k C (labels ++ shown (suc n) label) f.after) (sym (add-one n)) (D, labels, label, reached, f.steps, refl),
+      f.is,
+      f.stands,
+    )
 
 -- ---- where a run stops
 
@@ -112,39 +168,39 @@ pub stops_of : (n fuel steps : ℕ) (C : Configuration) (v : View) (Seen : List 
 stops_of n fuel steps C v Seen e same by stops le all s = subst (λ (k : ℕ). RanFor C fuel k (end_of e) v Seen) (sym same) (ends_of n fuel C v Seen e by stops le all s)
 
 -- where somebody is next as many steps are made as may be
-all_made : (n quiet most fuel : ℕ) (v w : View) → n + most ≡ fuel → w ≡ v → (quiet ≡ most) ⊎ (v.ready ≡ []) → w.ready ≢ [] → n + quiet ≡ fuel
-all_made n quiet most fuel v w all same either some =
-    ⊎_elim (λ (e : quiet ≡ most). ap (λ (k : ℕ). n + k) e ∙ all) (λ (none : v.ready ≡ []). absurd (some (ap (λ (u : View). u.ready) same ∙ none))) either
+all_made : (n passed most fuel : ℕ) (v w : View) → n + most ≡ fuel → w ≡ v → (passed ≡ most) ⊎ (v.ready ≡ []) → w.ready ≢ [] → n + passed ≡ fuel
+all_made n passed most fuel v w all same either some =
+    ⊎_elim (λ (e : passed ≡ most). ap (λ (k : ℕ). n + k) e ∙ all) (λ (none : v.ready ≡ []). absurd (some (ap (λ (u : View). u.ready) same ∙ none))) either
 
--- ---- what follows the quiet steps
+-- ---- what follows the steps that are passed over
 
-module _ (n fuel : ℕ) (C : Configuration) (old new : Machine) (most quiet : ℕ) (r : Result (Option Event) AllocError) (gone : GoesOn old new most quiet r) (all : n + most ≡ fuel) where
-  pub within : n + quiet ≤ fuel
+module _ (p : Bool) (f : List ℕ → ℕ → Label → List ℕ) (passes : IsTrue p → PassesCommunications f) (before after : Option (List ℕ)) (n fuel : ℕ) (C : Configuration) (old new : Machine) (most passed : ℕ)
+    (r : Result (Option PackedEvent) AllocError) (gone : GoesOn p old new most passed r) (all : n + most ≡ fuel) where
+  pub within : n + passed ≤ fuel
   within = let few = gone.few in omega (arith, few, all)
 
-  pub stood_between : (Seen : List (ℕ × Label) → Type 0) → Stood n C (running_view old) Seen → Stood (n + quiet) C gone.between Seen
-  stood_between Seen s = stood_quietly n quiet C (running_view old) gone.between Seen gone.quietly s
+  pub stood_between : Stood n C (running_view old) (Saw f before after) → Stood (n + passed) C gone.between (Saw f before after)
+  stood_between s = stood_past p f passes n passed C (running_view old) gone.between before after gone.past s
 
-  then_of : (s : Result (Option Event) AllocError) → r ≡ s → ThenComes gone.between new most quiet s
-  then_of s same = subst (ThenComes gone.between new most quiet) same gone.then
+  then_of : (s : Result (Option PackedEvent) AllocError) → r ≡ s → ThenComes gone.between new most passed s
+  then_of s same = subst (ThenComes gone.between new most passed) same gone.then
 
   -- a further step
-  pub further : (e : Event) → r ≡ Ok (Some e) → n + quiet < fuel
+  pub further : (e : PackedEvent) → r ≡ Ok (Some e) → n + passed < fuel
   further e same = let lt = (then_of (Ok (Some e)) same).0 in omega (arith, lt, all)
 
-  pub event_of : (e : Event) → r ≡ Ok (Some e) → HasEvent gone.between new e
+  pub event_of : (e : PackedEvent) → r ≡ Ok (Some e) → HasEvent gone.between new e
   event_of e same = (then_of (Ok (Some e)) same).1
 
   -- no further one
-  pub rests : (steps : ℕ) (Seen : List (ℕ × Label) → Type 0) (e : End) → r ≡ Ok None → steps ≡ n + quiet → IsHeldBy (running_view new) → StopsAs (running_view new) e
-      → Stood n C (running_view old) Seen → RanFor C fuel steps (end_of e) (running_view new) Seen
-  rests steps Seen e same count by stops s =
+  pub rests : (steps : ℕ) (e : End) → r ≡ Ok None → steps ≡ n + passed → IsHeldBy (running_view new) → StopsAs (running_view new) e
+      → Stood n C (running_view old) (Saw f before after) → RanFor C fuel steps (end_of e) (running_view new) (Saw f before after)
+  rests steps e same count by stops s =
       let t = then_of (Ok None) same in
-      let stood = subst (λ (v : View). Stood (n + quiet) C v Seen) (sym t.0) (stood_between Seen s) in
-      stops_of (n + quiet) fuel steps C (running_view new) Seen e count by stops within (all_made n quiet most fuel gone.between (running_view new) all t.0 t.1) stood
+      let stood = subst (λ (v : View). Stood (n + passed) C v (Saw f before after)) (sym t.0) (stood_between s) in
+      stops_of (n + passed) fuel steps C (running_view new) (Saw f before after) e count by stops within (all_made n passed most fuel gone.between (running_view new) all t.0 t.1) stood
 
   -- memory is wanting
-  pub wants : (e : AllocError) (f : List ℕ → ℕ → Label → List ℕ) (T : List ℕ → ℕ → Label → List ℕ → Type 0) (before after : Option (List ℕ)) → r ≡ Err e
+  pub wants : (e : AllocError) (T : List ℕ → ℕ → Label → List ℕ → Type 0) → r ≡ Err e
       → Stood n C (running_view old) (Saw f before after) → BrokeOff C fuel (StandsFor (running_view new)) (SawOrTore f T before after)
-  wants e f T before after same s =
-      broke_before (n + quiet) fuel C gone.between (running_view new) f T before after within (then_of (Err e) same).1 (stood_between (Saw f before after) s)
+  wants e T same s = broke_before (n + passed) fuel C gone.between (running_view new) f T before after within (then_of (Err e) same).1 (stood_between s)

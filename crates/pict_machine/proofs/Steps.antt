@@ -19,12 +19,12 @@ use Rattle.pict_turns.specs.declared.turn.Turn.TheVariants.{Nobody}
 use Rattle.pict_turns.proofs.Room.{keeps_words}
 use Rattle.pict_turns.proofs.Turns.{words_nobody, view_nobody}
 use Rattle.pict_machine.specs.Constants.{AreConstants}
-use Rattle.pict_machine.specs.Events.{label_of, trap_of, IsEventOf}
+use Rattle.pict_machine.specs.Packed.{label_packed, trap_packed, IsPackedOf}
 use Rattle.pict_machine.specs.Machine.{core_in, view_of, running_view, heap_of, channels_of, IsMachine, IsRunning, IsUnchanged}
 use Rattle.pict_machine.specs.Stepping.{GivesTurn, Acts, IsStepBy}
 use Rattle.pict_machine.specs.declared.machine.Machine.{Machine}
-use Rattle.pict_machine.specs.declared.event.Event.{Event}
-use Rattle.pict_machine.specs.declared.event.Event.TheVariants as event
+use Rattle.pict_machine.specs.declared.event.PackedEvent.{PackedEvent}
+use Rattle.pict_machine.specs.declared.event.PackedEvent.TheVariants as packed
 use Rattle.pict_machine.proofs.MadeOnce.{constants_keep}
 use Rattle.pict_machine.proofs.Taking.{refused_contents, refused_view, step_of, held_of, rested_view}
 
@@ -98,14 +98,14 @@ module _ (old : Machine) (taken new : Store) (given : GivesTurn (core_in old) ol
 
   -- ---- a step that is done
 
-  done_keeps : (e : Event) → Acts (core_in old) taken new e → KeepsWords (heap_of old) new.heap
-  done_keeps event.Quiet a = from_old a.done.keeps
-  done_keeps (event.Comm channel word) a = from_old a.done.keeps
-  done_keeps (event.Print word) a = from_old a.done.keeps
-  done_keeps (event.Trapped at) a = refused_keeps a.1
+  done_keeps : (e : PackedEvent) → Acts (core_in old) taken new e → KeepsWords (heap_of old) new.heap
+  done_keeps packed.Quiet a = from_old a.done.keeps
+  done_keeps (packed.Comm channel word) a = from_old a.done.keeps
+  done_keeps (packed.Print word) a = from_old a.done.keeps
+  done_keeps (packed.Trapped at) a = refused_keeps a.1
 
   module _ (right : IsRightFor (running_view old) 1) where
-    machine_by : (e : Event) → IsStore (core_in old) new → HoldsNoMore taken.queues new.queues → Acts (core_in old) taken new e → IsRunning after
+    machine_by : (e : PackedEvent) → IsStore (core_in old) new → HoldsNoMore taken.queues new.queues → Acts (core_in old) taken new e → IsRunning after
     machine_by e store no_more a = record {
       code = kept.code;
       store = store;
@@ -114,51 +114,51 @@ module _ (old : Machine) (taken new : Store) (given : GivesTurn (core_in old) ol
       constants = still_constant (done_keeps e a);
     }
 
-    done_kept : (e : Event) → Acts (core_in old) taken new e → IsRunning after
-    done_kept event.Quiet a = machine_by event.Quiet a.done.store a.done.no_more a
-    done_kept (event.Comm channel word) a = machine_by (event.Comm channel word) a.done.store a.done.no_more a
-    done_kept (event.Print word) a = machine_by (event.Print word) a.done.store a.done.no_more a
-    done_kept (event.Trapped at) a = still_kept a.1
+    done_kept : (e : PackedEvent) → Acts (core_in old) taken new e → IsRunning after
+    done_kept packed.Quiet a = machine_by packed.Quiet a.done.store a.done.no_more a
+    done_kept (packed.Comm channel word) a = machine_by (packed.Comm channel word) a.done.store a.done.no_more a
+    done_kept (packed.Print word) a = machine_by (packed.Print word) a.done.store a.done.no_more a
+    done_kept (packed.Trapped at) a = still_kept a.1
 
-    pub step_kept : (r : Result Event AllocError) → IsStepBy (core_in old) taken new r → IsRunning after
+    pub step_kept : (r : Result PackedEvent AllocError) → IsStepBy (core_in old) taken new r → IsRunning after
     step_kept (Ok e) a = done_kept e a
     step_kept (Err e) b = still_kept b
 
   grown : length new.queues.queues ≤ length taken.queues.queues + 1 → channels_of after ≤ channels_of old + 1
   grown more = let count = given.queues in omega (arith, more, count)
 
-  done_few : (e : Event) → Acts (core_in old) taken new e → channels_of after ≤ channels_of old + 1
-  done_few event.Quiet a = grown a.done.queues
-  done_few (event.Comm channel word) a = grown a.done.queues
-  done_few (event.Print word) a = grown a.done.queues
-  done_few (event.Trapped at) a = still_few a.1
+  done_few : (e : PackedEvent) → Acts (core_in old) taken new e → channels_of after ≤ channels_of old + 1
+  done_few packed.Quiet a = grown a.done.queues
+  done_few (packed.Comm channel word) a = grown a.done.queues
+  done_few (packed.Print word) a = grown a.done.queues
+  done_few (packed.Trapped at) a = still_few a.1
 
-  done_event : (e : Event) → Acts (core_in old) taken new e → IsEventOf new.heap e
-  done_event event.Quiet a = tt
-  done_event (event.Comm channel word) a = a.event
-  done_event (event.Print word) a = a.event
-  done_event (event.Trapped at) a = tt
+  done_event : (e : PackedEvent) → Acts (core_in old) taken new e → IsPackedOf new.heap e
+  done_event packed.Quiet a = tt
+  done_event (packed.Comm channel word) a = a.event
+  done_event (packed.Print word) a = a.event
+  done_event (packed.Trapped at) a = tt
 
   -- ---- both
 
-  pub step_ok : (r : Result Event AllocError) → IsStepBy (core_in old) taken new r
-      → IfOk r (λ e. (C : Configuration) → IsConfiguration C → StandsFor (running_view old) C → IsStepOf C (label_of new.heap e) (trap_of e) (running_view after))
+  pub step_ok : (r : Result PackedEvent AllocError) → IsStepBy (core_in old) taken new r
+      → IfOk r (λ e. (C : Configuration) → IsConfiguration C → StandsFor (running_view old) C → IsStepOf C (label_packed new.heap e) (trap_packed e) (running_view after))
   step_ok (Ok e) a = λ C is stands. step_of (core_in old) old.store taken given new kept.held C is stands e a
   step_ok (Err e) a = tt
 
-  pub step_event : (r : Result Event AllocError) → IsStepBy (core_in old) taken new r → IfOk r (IsEventOf new.heap)
+  pub step_event : (r : Result PackedEvent AllocError) → IsStepBy (core_in old) taken new r → IfOk r (IsPackedOf new.heap)
   step_event (Ok e) a = done_event e a
   step_event (Err e) a = tt
 
-  pub step_refused : (r : Result Event AllocError) → IsStepBy (core_in old) taken new r → OnErr r (running_view after ≡ running_view old)
+  pub step_refused : (r : Result PackedEvent AllocError) → IsStepBy (core_in old) taken new r → OnErr r (running_view after ≡ running_view old)
   step_refused (Ok e) b = tt
   step_refused (Err e) b = still_view b
 
-  pub step_keeps : (r : Result Event AllocError) → IsStepBy (core_in old) taken new r → KeepsWords (heap_of old) new.heap
+  pub step_keeps : (r : Result PackedEvent AllocError) → IsStepBy (core_in old) taken new r → KeepsWords (heap_of old) new.heap
   step_keeps (Ok e) a = done_keeps e a
   step_keeps (Err e) b = refused_keeps b
 
-  pub step_few : (r : Result Event AllocError) → IsStepBy (core_in old) taken new r → channels_of after ≤ channels_of old + 1
+  pub step_few : (r : Result PackedEvent AllocError) → IsStepBy (core_in old) taken new r → channels_of after ≤ channels_of old + 1
   step_few (Ok e) a = done_few e a
   step_few (Err e) b = still_few b
 
@@ -184,31 +184,31 @@ module _ (old : Machine) (kept : IsMachine old) (taken acted new : Store) (actin
     view = last_view ∙ still_view old taken acted given kept.running r ∙ idle_view old kept;
   }
 
-  pub whole_ok : (r : Result Event AllocError) → IsStepBy (core_in old) taken acted r
-      → IfOk r (λ e. (C : Configuration) → IsConfiguration C → StandsFor (view_of old) C → IsStepOf C (label_of new.heap e) (trap_of e) (view_of last))
+  pub whole_ok : (r : Result PackedEvent AllocError) → IsStepBy (core_in old) taken acted r
+      → IfOk r (λ e. (C : Configuration) → IsConfiguration C → StandsFor (view_of old) C → IsStepOf C (label_packed new.heap e) (trap_packed e) (view_of last))
   whole_ok r s =
-      subst (λ (h : HeapState). IfOk r (λ e. (C : Configuration) → IsConfiguration C → StandsFor (view_of old) C → IsStepOf C (label_of h e) (trap_of e) (view_of last))) (sym heap)
-      (subst (λ (v : View). IfOk r (λ e. (C : Configuration) → IsConfiguration C → StandsFor (view_of old) C → IsStepOf C (label_of acted.heap e) (trap_of e) v)) (sym last_view)
-      (subst (λ (v : View). IfOk r (λ e. (C : Configuration) → IsConfiguration C → StandsFor v C → IsStepOf C (label_of acted.heap e) (trap_of e) (running_view (record old { store = acted })))) (idle_view old kept)
+      subst (λ (h : HeapState). IfOk r (λ e. (C : Configuration) → IsConfiguration C → StandsFor (view_of old) C → IsStepOf C (label_packed h e) (trap_packed e) (view_of last))) (sym heap)
+      (subst (λ (v : View). IfOk r (λ e. (C : Configuration) → IsConfiguration C → StandsFor (view_of old) C → IsStepOf C (label_packed acted.heap e) (trap_packed e) v)) (sym last_view)
+      (subst (λ (v : View). IfOk r (λ e. (C : Configuration) → IsConfiguration C → StandsFor v C → IsStepOf C (label_packed acted.heap e) (trap_packed e) (running_view (record old { store = acted })))) (idle_view old kept)
       (step_ok old taken acted given kept.running r s)))
 
-  pub whole_event : (r : Result Event AllocError) → IsStepBy (core_in old) taken acted r → IfOk r (IsEventOf new.heap)
-  whole_event r s = subst (λ (h : HeapState). IfOk r (IsEventOf h)) (sym heap) (step_event old taken acted given kept.running r s)
+  pub whole_event : (r : Result PackedEvent AllocError) → IsStepBy (core_in old) taken acted r → IfOk r (IsPackedOf new.heap)
+  whole_event r s = subst (λ (h : HeapState). IfOk r (IsPackedOf h)) (sym heap) (step_event old taken acted given kept.running r s)
 
-  pub whole_trapped : (r : Result Event AllocError) → IsStepBy (core_in old) taken acted r → (at : Span) → r ≡ Ok (event.Trapped at) → IsUnchanged old last
-  whole_trapped r s at e = let acts : IsStepBy (core_in old) taken acted (Ok (event.Trapped at)) = subst (IsStepBy (core_in old) taken acted) e s in unchanged acts.1
+  pub whole_trapped : (r : Result PackedEvent AllocError) → IsStepBy (core_in old) taken acted r → (at : Span) → r ≡ Ok (packed.Trapped at) → IsUnchanged old last
+  whole_trapped r s at e = let acts : IsStepBy (core_in old) taken acted (Ok (packed.Trapped at)) = subst (IsStepBy (core_in old) taken acted) e s in unchanged acts.1
 
-  pub whole_refused : (r : Result Event AllocError) → IsStepBy (core_in old) taken acted r → OnErr r (IsUnchanged old last)
+  pub whole_refused : (r : Result PackedEvent AllocError) → IsStepBy (core_in old) taken acted r → OnErr r (IsUnchanged old last)
   whole_refused (Ok e) b = tt
   whole_refused (Err e) b = unchanged b
 
-  pub whole_keeps : (r : Result Event AllocError) → IsStepBy (core_in old) taken acted r → KeepsWords (heap_of old) new.heap
+  pub whole_keeps : (r : Result PackedEvent AllocError) → IsStepBy (core_in old) taken acted r → KeepsWords (heap_of old) new.heap
   whole_keeps r s = subst (λ (h : HeapState). KeepsWords (heap_of old) h) (sym heap) (step_keeps old taken acted given kept.running r s)
 
-  pub whole_few : (r : Result Event AllocError) → IsStepBy (core_in old) taken acted r → channels_of last ≤ channels_of old + 1
+  pub whole_few : (r : Result PackedEvent AllocError) → IsStepBy (core_in old) taken acted r → channels_of last ≤ channels_of old + 1
   whole_few r s = let e = step_few old taken acted given kept.running r s in omega (arith, e, count)
 
-  pub whole_kept : IsStore (core_in old) new → new.turn ≡ Nobody → HoldsNoMore acted.queues new.queues → IsRightFor (view_of old) 1 → (r : Result Event AllocError) → IsStepBy (core_in old) taken acted r → IsMachine last
+  pub whole_kept : IsStore (core_in old) new → new.turn ≡ Nobody → HoldsNoMore acted.queues new.queues → IsRightFor (view_of old) 1 → (r : Result PackedEvent AllocError) → IsStepBy (core_in old) taken acted r → IsMachine last
   whole_kept store idle no_more right r s =
       machine_rested (record old { store = acted })
       (step_kept old taken acted given kept.running (subst (λ (v : View). IsRightFor v 1) (sym (idle_view old kept)) right) r s)

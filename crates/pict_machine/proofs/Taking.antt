@@ -37,11 +37,11 @@ use Rattle.pict_turns.proofs.Room.{value_kept}
 use Rattle.pict_turns.proofs.Rows.{channels_stay}
 use Rattle.pict_turns.proofs.Taking.{some_acts}
 use Rattle.pict_turns.proofs.Turns.{words_nobody, ready_nobody, ready_is as words_ready, view_nobody, view_is, same_words, acts_node, acts_wide, node_inside, wide_inside, node_width, wide_width}
-use Rattle.pict_machine.specs.Events.{label_of, trap_of}
+use Rattle.pict_machine.specs.Packed.{label_packed, trap_packed}
 use Rattle.pict_machine.specs.Needs.{turn_widths}
 use Rattle.pict_machine.specs.Stepping.{GivesTurn, Acts, MayAct}
-use Rattle.pict_machine.specs.declared.event.Event.{Event}
-use Rattle.pict_machine.specs.declared.event.Event.TheVariants as event
+use Rattle.pict_machine.specs.declared.event.PackedEvent.{PackedEvent}
+use Rattle.pict_machine.specs.declared.event.PackedEvent.TheVariants as packed
 
 -- ---- somebody has the turn
 
@@ -165,17 +165,17 @@ module _ (core : Process) (s taken : Store) (given : GivesTurn core s taken) whe
       stopped : (at : Span) → next_view (view_with_turn core taken) ≡ Stops at → next C ≡ Traps at
       stopped at e = subst (Simulates (view_with_turn core s) C) (ap next_view (sym (given_view core s taken given)) ∙ e) (views_do (view_with_turn core s) C held is stands)
 
-      pub step_of : (e : Event) → Acts core taken new e → IsStepOf C (label_of new.heap e) (trap_of e) (view_with_turn core new)
-      step_of event.Quiet a = (moved _ a.done).0
-      step_of (event.Comm channel word) a = (moved _ a.done).0
-      step_of (event.Print word) a = (moved _ a.done).0
-      step_of (event.Trapped at) a = (stopped at a.0, subst (λ v. StandsFor v C) (sym (refused_view a.1)) stands)
+      pub step_of : (e : PackedEvent) → Acts core taken new e → IsStepOf C (label_packed new.heap e) (trap_packed e) (view_with_turn core new)
+      step_of packed.Quiet a = (moved _ a.done).0
+      step_of (packed.Comm channel word) a = (moved _ a.done).0
+      step_of (packed.Print word) a = (moved _ a.done).0
+      step_of (packed.Trapped at) a = (stopped at a.0, subst (λ v. StandsFor v C) (sym (refused_view a.1)) stands)
 
-      pub held_of : (e : Event) → Acts core taken new e → IsHeldBy (view_with_turn core new)
-      held_of event.Quiet a = (moved _ a.done).1
-      held_of (event.Comm channel word) a = (moved _ a.done).1
-      held_of (event.Print word) a = (moved _ a.done).1
-      held_of (event.Trapped at) a = subst IsHeldBy (sym (refused_view a.1)) held
+      pub held_of : (e : PackedEvent) → Acts core taken new e → IsHeldBy (view_with_turn core new)
+      held_of packed.Quiet a = (moved _ a.done).1
+      held_of (packed.Comm channel word) a = (moved _ a.done).1
+      held_of (packed.Print word) a = (moved _ a.done).1
+      held_of (packed.Trapped at) a = subst IsHeldBy (sym (refused_view a.1)) held
 
 -- ---- whether something is ready
 

@@ -1,6 +1,7 @@
 -- What events and ends stand for. An event's words are those of a heap.
-use Rattle.std.specs.Prelude.{Option, Some, None}
+use Rattle.std.specs.Prelude.{◌≡◌, ℕ, List, Option, Some, None}
 use Rattle.pict_syntax.specs.declared.span.Span.{Span}
+use Rattle.pict_core.specs.Term.{Val}
 use Rattle.pict_core.specs.Step as step
 use Rattle.pict_core.specs.Step.{printing}
 use Rattle.pict_core.specs.Run as run
@@ -43,3 +44,7 @@ abbrev pub end_of : End → run.End
 end_of end.Done = run.Done
 end_of end.FuelSpent = run.FuelSpent
 end_of (end.Trap at) = run.Trap at
+
+-- communications change nothing of the view of a watcher to which this comes next
+abbrev pub PassesCommunications : (List ℕ → ℕ → step.Label → List ℕ) → Type 0
+PassesCommunications next = (view : List ℕ) (number channel : ℕ) (value : Val) → next view number (step.Comm channel value) ≡ view

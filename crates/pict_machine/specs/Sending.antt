@@ -17,8 +17,8 @@ use Rattle.pict_turns.specs.Acting.{ActsBy, IsDone}
 use Rattle.pict_turns.specs.Parts.{block_width}
 use Rattle.pict_turns.specs.Reading.{HasFrame}
 use Rattle.pict_turns.specs.declared.store.Store.{Store}
-use Rattle.pict_machine.specs.declared.event.Event.{Event}
-use Rattle.pict_machine.specs.declared.event.Event.TheVariants as event
+use Rattle.pict_machine.specs.declared.event.PackedEvent.{PackedEvent}
+use Rattle.pict_machine.specs.declared.event.PackedEvent.TheVariants as packed
 
 -- Who has the turn is a node of a closed process with an output of this operand on this channel.
 pub record SendsOperand (core : Process) (s : Store) (channel : ℕ) (message : Val) (at : Span) : Type 0 where
@@ -47,7 +47,7 @@ pub record IsReceived (core : Process) (old new : Store) (channel : ℕ) (messag
   pub pair : IsPair new.heap message
 
 -- the event of a call of a primitive
-abbrev pub event_called : Called → Event
-event_called called.Quiet = event.Quiet
-event_called (called.Printed word) = event.Print word
-event_called (called.Trapped at) = event.Trapped at
+abbrev pub event_called : Called → PackedEvent
+event_called called.Quiet = packed.Quiet
+event_called (called.Printed word) = packed.Print word
+event_called (called.Trapped at) = packed.Trapped at

@@ -15,9 +15,9 @@ use Rattle.pict_turns.specs.Views.{ready_words, view_with_turn}
 use Rattle.pict_turns.specs.Widths.{how_many}
 use Rattle.pict_turns.specs.declared.store.Store.{Store}
 use Rattle.pict_machine.specs.Needs.{turn_widths}
-use Rattle.pict_machine.specs.Events.{label_of, IsEventOf}
-use Rattle.pict_machine.specs.declared.event.Event.{Event}
-use Rattle.pict_machine.specs.declared.event.Event.TheVariants as event
+use Rattle.pict_machine.specs.Packed.{label_packed, IsPackedOf}
+use Rattle.pict_machine.specs.declared.event.PackedEvent.{PackedEvent}
+use Rattle.pict_machine.specs.declared.event.PackedEvent.TheVariants as packed
 
 -- Somebody has the turn now: who had it, or else the first of queue 0, whose block is free then. The same are ready, in the same
 -- order, and nothing else has changed but work, and the values of levels.
@@ -42,19 +42,19 @@ pub record MayAct (code : List Node) (s : Store) : Type 0 where
   pub right : IsRight (core_in code) s
 
 -- The step is done, and the event has its label, by words of the heap afterwards.
-pub record IsSeen (core : Process) (old new : Store) (e : Event) : Type 0 where
-  pub done : IsDone core old new (label_of new.heap e)
-  pub event : IsEventOf new.heap e
+pub record IsSeen (core : Process) (old new : Store) (e : PackedEvent) : Type 0 where
+  pub done : IsDone core old new (label_packed new.heap e)
+  pub event : IsPackedOf new.heap e
 
 -- The step is done and seen, or it divides by zero, and then nothing has changed but room, spare blocks and work.
-abbrev pub Acts : Process → Store → Store → Event → Type 0
-Acts core old new event.Quiet = IsSeen core old new event.Quiet
-Acts core old new (event.Comm channel word) = IsSeen core old new (event.Comm channel word)
-Acts core old new (event.Print word) = IsSeen core old new (event.Print word)
-Acts core old new (event.Trapped at) = (next_view (view_with_turn core old) ≡ Stops at) × IsRefused core old new
+abbrev pub Acts : Process → Store → Store → PackedEvent → Type 0
+Acts core old new packed.Quiet = IsSeen core old new packed.Quiet
+Acts core old new (packed.Comm channel value) = IsSeen core old new (packed.Comm channel value)
+Acts core old new (packed.Print word) = IsSeen core old new (packed.Print word)
+Acts core old new (packed.Trapped at) = (next_view (view_with_turn core old) ≡ Stops at) × IsRefused core old new
 
 -- What the answer says of the step: it did what its event says, or memory was wanting, and then nothing has changed but room,
 -- spare blocks and work.
-abbrev pub IsStepBy : Process → Store → Store → Result Event AllocError → Type 0
+abbrev pub IsStepBy : Process → Store → Store → Result PackedEvent AllocError → Type 0
 IsStepBy core old new (Ok e) = Acts core old new e
 IsStepBy core old new (Err e) = IsRefused core old new

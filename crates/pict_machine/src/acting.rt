@@ -9,7 +9,7 @@ ghost use Rattle.pict_machine.specs.Plain.{ActsPlainly, TakesNothing};
 ghost use Rattle.pict_machine.specs.Stepping.{MayAct, IsStepBy};
 ghost use Rattle.pict_machine.specs.Work.{Fits};
 
-use crate::event::Event;
+use crate::event::PackedEvent;
 use crate::outputs::{output, output_kept};
 use crate::receiving::input;
 use pict_code::{Node, Op};
@@ -23,7 +23,7 @@ pub(crate) fn act(
     code: &[Node],
     constants: &[Option<Word>],
     store: &mut Store,
-) -> Result<Event, AllocError>
+) -> Result<PackedEvent, AllocError>
     requires may { MayAct code.now store.old }
     requires constants { AreConstants store.old.heap (map plain_node code.now) constants.now }
     ensures step { IsStepBy (core_in code.now) store.old store.new result }
@@ -46,7 +46,7 @@ fn act_by(
     store: &mut Store,
     op: &Op,
     constant: &Option<Word>,
-) -> Result<Event, AllocError>
+) -> Result<PackedEvent, AllocError>
     requires may { MayAct code.now store.old }
     requires acts { ActsBy (core_in code.now) store.old (plain_op op.now) }
     requires constant { IsConstantFor store.old.heap (plain_op op.now) constant.now }
@@ -58,19 +58,19 @@ fn act_by(
     match op {
         Op::Zero => {
             end(store);
-            Ok(Event::Quiet)
+            Ok(PackedEvent::Quiet)
         }
         Op::Par(left, right) => {
             fork(store, code, *left, *right)?;
-            Ok(Event::Quiet)
+            Ok(PackedEvent::Quiet)
         }
         Op::New(level, part) => {
             make_channel(store, code, *level, *part)?;
-            Ok(Event::Quiet)
+            Ok(PackedEvent::Quiet)
         }
         Op::If(test, yes, no) => {
             choose(store, code, test, *yes, *no)?;
-            Ok(Event::Quiet)
+            Ok(PackedEvent::Quiet)
         }
         Op::Out(chan, message, at) => output(code, store, chan, message, constant, *at),
         Op::In(chan, pattern, part) => input(code, store, chan, false, pattern, *part),

@@ -1,8 +1,11 @@
 // What steps show, and how steps and runs end.
 ghost use Rattle.std.specs.Prelude.{◌≡◌};
-ghost use Rattle.pict_machine.specs.Events.{trap_of};
+ghost use Rattle.pict_heap.specs.HeapState.{HeapState};
+ghost use Rattle.pict_machine.specs.Events.{label_of, trap_of, IsEventOf};
+ghost use Rattle.pict_machine.specs.Packed.{label_packed, trap_packed, IsPackedOf};
 
 use pict_heap::Word;
+use pict_operands::word_at;
 use pict_syntax::Span;
 use std::alloc::AllocError;
 use thiserror::Error;
@@ -74,6 +77,36 @@ impl Event {
         match self {
             Event::Trapped(at) => Some(*at),
             _ => None,
+        }
+    }
+}
+
+// An event before the two words of a value that is received are told apart.
+#[derive(Clone, Copy)]
+pub(crate) enum PackedEvent {
+    Quiet,
+    Comm { channel: u32, value: (u64, u64) },
+    Print(Word),
+    Trapped(Span),
+}
+
+impl PackedEvent {
+    // The event itself.
+    #[inline(always)]
+    pub(crate) fn unpacked(self) -> Event
+        requires { (h : HeapState) × IsPackedOf h self }
+        ensures label { (h : HeapState) → IsPackedOf h self → label_of h result ≡ label_packed h self }
+        ensures event { (h : HeapState) → IsPackedOf h self → IsEventOf h result }
+        ensures trap { trap_of result ≡ trap_packed self }
+    {
+        match self {
+            PackedEvent::Quiet => Event::Quiet,
+            PackedEvent::Comm { channel, value } => Event::Comm {
+                channel,
+                value: word_at(value),
+            },
+            PackedEvent::Print(word) => Event::Print(word),
+            PackedEvent::Trapped(at) => Event::Trapped(at),
         }
     }
 }

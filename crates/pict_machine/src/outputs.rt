@@ -9,6 +9,7 @@ ghost use Rattle.pict_code.specs.Instruction as op;
 ghost use Rattle.pict_code.specs.declared.instruction.Node.{Node as AnyNode};
 ghost use Rattle.pict_heap.specs.HeapState.{HeapState};
 ghost use Rattle.pict_blocks.specs.Blocks.{value_in};
+ghost use Rattle.pict_frames.specs.declared.keeping.Kept.{Kept as AnyKept};
 ghost use Rattle.pict_operands.specs.AtHand.{channel_named};
 ghost use Rattle.pict_operands.specs.Pairs.{ArePairs};
 ghost use Rattle.pict_calls.specs.Arguments.{operand_in};
@@ -24,7 +25,7 @@ ghost use Rattle.pict_machine.specs.Sending.{StandsForPrimitive, event_called};
 ghost use Rattle.pict_machine.specs.Stepping.{MayAct, IsStepBy};
 ghost use Rattle.pict_machine.specs.Work.{Fits};
 
-use crate::event::Event;
+use crate::event::PackedEvent;
 use crate::sending::{send, send_kept};
 use pict_calls::{Called, call, call_operand};
 use pict_code::{Node, Operand};
@@ -38,19 +39,19 @@ use std::alloc::AllocError;
 
 // What a call shows.
 #[inline(always)]
-fn event_of(called: Called) -> Event
+fn event_of(called: Called) -> PackedEvent
     ensures { result ≡ event_called called }
 {
     match called {
-        Called::Quiet => Event::Quiet,
-        Called::Printed(word) => Event::Print(word),
-        Called::Trapped(at) => Event::Trapped(at),
+        Called::Quiet => PackedEvent::Quiet,
+        Called::Printed(word) => PackedEvent::Print(word),
+        Called::Trapped(at) => PackedEvent::Trapped(at),
     }
 }
 
 // The step of an output of these kept values, which has the turn, and is to no channel.
-#[inline(never)]
-fn call_kept(store: &mut Store, kept: Kept) -> Result<Event, AllocError>
+#[inline(always)]
+fn call_kept(store: &mut Store, kept: Kept) -> Result<PackedEvent, AllocError>
     requires may { (code : List AnyNode) × MayAct code store.old }
     requires kept { store.old.turn ≡ Turn.Output kept }
     requires elsewhere { channel_named (value_in store.old.heap kept.to.0 kept.to.1) ≡ None }
@@ -68,9 +69,30 @@ fn call_kept(store: &mut Store, kept: Kept) -> Result<Event, AllocError>
     }
 }
 
+// The step of the output of kept values that has the turn, and is to no channel.
+#[inline(never)]
+fn call_of_turn(store: &mut Store) -> Result<PackedEvent, AllocError>
+    requires may { (code : List AnyNode) × MayAct code store.old }
+    requires kept { (kept : AnyKept) × (store.old.turn ≡ Turn.Output kept) }
+    requires elsewhere { (kept : AnyKept) → store.old.turn ≡ Turn.Output kept → channel_named (value_in store.old.heap kept.to.0 kept.to.1) ≡ None }
+    ensures step { (code : List AnyNode) → MayAct code store.old → IsStepBy (core_in code) store.old store.new result }
+    ensures work { (code : List AnyNode) → MayAct code store.old → Fits (core_in code) store.old store.new }
+    ensures blocks { (code : List AnyNode) → MayAct code store.old → MakesNeeded (core_in code) store.old store.new }
+    ensures plain { (code : List AnyNode) → MayAct code store.old → ¬ SendsPlainly (core_in code) store.old (acting_words (core_in code) store.old) }
+{
+    match store.turn {
+        Turn::Output(kept) => call_kept(store, kept),
+        _ => unreachable!(),
+    }
+}
+
 // The step of an output of these kept values, which has the turn.
 #[inline(always)]
-pub(crate) fn output_kept(code: &[Node], store: &mut Store, kept: Kept) -> Result<Event, AllocError>
+pub(crate) fn output_kept(
+    code: &[Node],
+    store: &mut Store,
+    kept: Kept,
+) -> Result<PackedEvent, AllocError>
     requires may { MayAct code.now store.old }
     requires kept { store.old.turn ≡ Turn.Output kept }
     ensures step { IsStepBy (core_in code.now) store.old store.new result }
@@ -80,7 +102,7 @@ pub(crate) fn output_kept(code: &[Node], store: &mut Store, kept: Kept) -> Resul
 {
     match channel_of(kept.to) {
         Some(channel) => send_kept(code, store, channel, kept.message),
-        None => call_kept(store, kept),
+        None => call_of_turn(store),
     }
 }
 
@@ -150,7 +172,7 @@ pub(crate) fn output(
     message: &Operand,
     constant: &Option<Word>,
     at: Span,
-) -> Result<Event, AllocError>
+) -> Result<PackedEvent, AllocError>
     requires may { MayAct code.now store.old }
     requires acts { ActsBy (core_in code.now) store.old (op.Out (plain_val chan.now) (plain_val message.now) at) }
     requires constant { IsConstant store.old.heap (plain_val message.now) constant.now }

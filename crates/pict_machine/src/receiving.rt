@@ -20,10 +20,10 @@ ghost use Rattle.pict_machine.specs.Plain.{ReceivesPlainly, TakesNothing};
 ghost use Rattle.pict_machine.specs.Stepping.{MayAct, IsStepBy};
 ghost use Rattle.pict_machine.specs.Work.{Fits};
 
-use crate::event::Event;
+use crate::event::PackedEvent;
 use pict_code::{CodePat, Node, Operand};
 use pict_meetings::{Waiting, first_waiting, meet_message, park, reserve_beside};
-use pict_operands::{channel_at_hand, word_at};
+use pict_operands::channel_at_hand;
 use pict_prim::NO_NEED;
 use pict_turns::{KEPT_WIDTH, Store, Turn, block_width, frame_at, reserve_part};
 use std::alloc::AllocError;
@@ -73,7 +73,7 @@ fn receive_message(
     replicated: bool,
     pattern: &CodePat,
     part: u32,
-) -> Result<Event, AllocError>
+) -> Result<PackedEvent, AllocError>
     requires may { MayAct code.now store.old }
     requires receives { Receives (core_in code.now) store.old channel replicated (plain_pat pattern.now) part }
     requires first { waits_first store.old.queues channel ≡ Waiting.Output }
@@ -89,11 +89,8 @@ fn receive_message(
     let width = acting_width(code, store);
     let frame = frame_at(code, part as usize);
     reserve_part_of_input(store, frame, width, replicated)?;
-    let message = meet_message(store, code, channel, pattern, part, replicated);
-    Ok(Event::Comm {
-        channel,
-        value: word_at(message),
-    })
+    let value = meet_message(store, code, channel, pattern, part, replicated);
+    Ok(PackedEvent::Comm { channel, value })
 }
 
 // The step of an input from a channel.
@@ -105,7 +102,7 @@ fn receive(
     replicated: bool,
     pattern: &CodePat,
     part: u32,
-) -> Result<Event, AllocError>
+) -> Result<PackedEvent, AllocError>
     requires may { MayAct code.now store.old }
     requires receives { Receives (core_in code.now) store.old channel replicated (plain_pat pattern.now) part }
     ensures step { IsStepBy (core_in code.now) store.old store.new result }
@@ -117,7 +114,7 @@ fn receive(
         Waiting::Output => { receive_message(code, store, channel, replicated, pattern, part) }
         _ => {
             park(store, code, channel);
-            Ok(Event::Quiet)
+            Ok(PackedEvent::Quiet)
         }
     }
 }
@@ -131,7 +128,7 @@ pub(crate) fn input(
     replicated: bool,
     pattern: &CodePat,
     part: u32,
-) -> Result<Event, AllocError>
+) -> Result<PackedEvent, AllocError>
     requires may { MayAct code.now store.old }
     requires acts { ActsBy (core_in code.now) store.old (input_op replicated (plain_val chan.now) (plain_pat pattern.now) part) }
     ensures step { IsStepBy (core_in code.now) store.old store.new result }

@@ -1,5 +1,5 @@
 // Runs of the machine, and who watches them.
-ghost use Rattle.std.specs.Prelude.{◌≡◌, ◌≢◌, ◌≤◌, ◌<◌, ◌+◌, ◌^◌, ◌↔◌, ◌∷◌, [], ℕ, List, Option, IfOk, OnOk, OnErr, Err};
+ghost use Rattle.std.specs.Prelude.{◌≡◌, ◌≢◌, ◌≤◌, ◌<◌, ◌+◌, ◌^◌, ◌↔◌, ◌∷◌, [], ℕ, List, Option, IsTrue, IfOk, OnOk, OnErr, Err};
 ghost use Rattle.pict_outside.specs.Counts.{Rose};
 ghost use Rattle.pict_core.specs.Configuration.{Configuration, IsConfiguration};
 ghost use Rattle.pict_core.specs.Step.{Label};
@@ -8,7 +8,7 @@ ghost use Rattle.pict_heap.specs.HeapState.{KeepsWords};
 ghost use Rattle.pict_view.specs.View.{StandsFor};
 ghost use Rattle.pict_view.specs.Right.{IsRightFor};
 ghost use Rattle.pict_view.specs.Watching.{WhereTold, Saw, SawOrTore, Ran, RanFor, BrokeOff};
-ghost use Rattle.pict_machine.specs.Events.{label_of, end_of, IsEventOf, IsShown};
+ghost use Rattle.pict_machine.specs.Events.{label_of, end_of, IsEventOf, IsShown, PassesCommunications};
 ghost use Rattle.pict_machine.specs.Machine.{IsMachine, IsRunning, running_view, view_of, heap_of, channels_of};
 ghost use Rattle.pict_machine.specs.Going.{StopsAs};
 
@@ -18,7 +18,8 @@ use crate::stepping::Gone;
 use pict_heap::Heap;
 use pict_syntax::FUEL_LIMIT;
 
-/// One who is shown each event of a run that is a communication or a printing, as soon as its step is done.
+/// One who is shown each event of a run that is a communication or a printing, as soon as its step is done; printings alone
+/// where `passes` says so.
 ///
 /// Each watcher says what its view is, a list of numbers: the bytes that it has written, say, or what it has counted.
 pub trait Watcher {
@@ -52,6 +53,15 @@ pub trait Watcher {
         ensures sink { result ≡ Err RunError.Sink → Rose (faults self.old) (faults self.new) }
         ensures same { same self.old self.new };
 
+    /// Whether a run may pass over communications: none changes the view, told or not, and showing one does nothing else that
+    /// is wanted. A run asks once, before its first step, and where this is `true` shows printings alone. `false` may always be
+    /// answered.
+    fn passes(&self) -> bool
+        ensures { IsTrue result → PassesCommunications (next self.now) }
+    {
+        false
+    }
+
     ghost same_itself: { (w : Self) → same w w };
 
     ghost same_along: { (u v w : Self) → same u v → same v w → same u w };
@@ -84,13 +94,13 @@ fn show<W: Watcher>(
 
 impl Machine {
     /// Up to `fuel` steps, each the oldest-first step, until nothing is ready or a step traps. After each step that shows
-    /// something the watcher sees its event, with step numbers from 1.
+    /// something the watcher sees its event, with step numbers from 1; where its `passes` is `true`, only after those that print.
     ///
     /// The answer is the end of the run with this fuel, of each configuration that the machine stands for, with the
-    /// number of its steps, and the watcher has seen exactly its labels, in order. A step that traps counts.
-    /// `Sink` and `Memory` break the run off. The machine then stands for the configuration after some steps of the run, and
-    /// what the watcher has seen are their labels, of which showing the last may have been refused. `Sink` comes only where
-    /// the watcher's count of faults rose.
+    /// number of its steps, and the watcher's view is as if it had seen exactly its labels, in order. A step that traps counts.
+    /// `Sink` and `Memory` break the run off. The machine then stands for the configuration after some steps of the run. The
+    /// watcher's view is as if it had seen exactly their labels, or is one that `torn` allows for the last of them. `Sink` comes
+    /// only where the watcher's count of faults rose.
     ///
     /// No step within the fuel may be wrong: so it is in the run of some configuration that the machine stands for.
     pub fn run_counted<W: Watcher>(
@@ -140,12 +150,13 @@ impl Machine {
         ensures torn_stays { (v : List ℕ) (n : ℕ) (l : Label) (after : List ℕ) → W.torn watcher.new v n l after ↔ W.torn watcher.old v n l after }
         ensures same { W.same watcher.old watcher.new }
     {
+        let passes = watcher.passes();
         let mut done = 0;
         while done < fuel {
-            let Gone { quiet, event } = self.go_on(fuel - done);
-            done += quiet;
+            let Gone { passed, event } = self.go_on(fuel - done, passes);
+            done += passed;
             let event = match event? {
-                Some(event) => event,
+                Some(packed) => packed.unpacked(),
                 None => return Ok(self.stopped(done)),
             };
             done += 1;

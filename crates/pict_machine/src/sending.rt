@@ -6,13 +6,12 @@ ghost use Rattle.pict_core.specs.Plain.{plain_val};
 ghost use Rattle.pict_core.specs.Term.{Process};
 ghost use Rattle.pict_code.specs.Instruction.{CodePat as AnyPattern};
 ghost use Rattle.pict_code.specs.Plain.{plain_node};
-ghost use Rattle.pict_heap.specs.HeapState.{HeapState};
 ghost use Rattle.pict_meetings.specs.Partners.{Sends, SendsKept};
 ghost use Rattle.pict_meetings.specs.Room.{as_wide, CanHoldAfterAnd};
 ghost use Rattle.pict_meetings.specs.Serving.{IsInputWith};
 ghost use Rattle.pict_meetings.specs.Waiting.{waits_first, NoInputWaits};
 ghost use Rattle.pict_operands.specs.Needs.{need_of, HasRoomFor};
-ghost use Rattle.pict_operands.specs.Pairs.{IsPair, ArePairs};
+ghost use Rattle.pict_operands.specs.Pairs.{ArePairs};
 ghost use Rattle.pict_queue.specs.QueuesState.{IsQueue, CostsAtMost};
 ghost use Rattle.pict_region.specs.RegionState.{spare};
 ghost use Rattle.pict_turns.specs.Acting.{core_in, IsCode, IsRefused};
@@ -30,11 +29,11 @@ ghost use Rattle.pict_machine.specs.Stepping.{MayAct, IsStepBy};
 ghost use Rattle.pict_machine.specs.Work.{Fits};
 
 use crate::constants::pair_there;
-use crate::event::Event;
+use crate::event::PackedEvent;
 use pict_code::{Node, Op, Operand};
 use pict_heap::{Word, pack};
 use pict_meetings::{Waiting, first_waiting, meet_reader, park, park_output, reserve_served};
-use pict_operands::{need, word_at, word_of};
+use pict_operands::{need, word_of};
 use pict_prim::NO_NEED;
 use pict_syntax::Span;
 use pict_turns::{Store, block_width, frame_at, reserve_kept};
@@ -114,16 +113,15 @@ fn receipt(
     done: Result<(), AllocError>,
     channel: u32,
     message: (u64, u64),
-) -> Result<Event, AllocError>
-    requires pair { (h : HeapState) × IsPair h message }
+) -> Result<PackedEvent, AllocError>
     ensures step { (core : Process) (old new : Store) → OnOk done (IsReceived core old new channel message) → OnErr done (IsRefused core old new)
         → IsStepBy core old new result }
     ensures ok { IsOk done → IsOk result }
 {
     done?;
-    Ok(Event::Comm {
+    Ok(PackedEvent::Comm {
         channel,
-        value: word_at(message),
+        value: message,
     })
 }
 
@@ -134,7 +132,7 @@ pub(crate) fn send_kept(
     store: &mut Store,
     channel: u32,
     message: (u64, u64),
-) -> Result<Event, AllocError>
+) -> Result<PackedEvent, AllocError>
     requires may { MayAct code.now store.old }
     requires kept { SendsKept (core_in code.now) store.old channel }
     requires sends { (at : AnySpan) × Sends (core_in code.now) store.old channel message at }
@@ -150,7 +148,7 @@ pub(crate) fn send_kept(
         }
         _ => {
             park(store, code, channel);
-            Ok(Event::Quiet)
+            Ok(PackedEvent::Quiet)
         }
     }
 }
@@ -191,7 +189,7 @@ fn park_words(
     channel: u32,
     message: (u64, u64),
     at: Span,
-) -> Result<Event, AllocError>
+) -> Result<PackedEvent, AllocError>
     requires queue { IsQueue store.old.queues (channel + 1) }
     ensures step { (core : Process) → Sends core store.old channel message at → NoInputWaits store.old.queues channel
         → IsStepBy core store.old store.new result }
@@ -201,7 +199,7 @@ fn park_words(
 {
     reserve_kept(store, NO_NEED)?;
     park_output(store, channel, message, at);
-    Ok(Event::Quiet)
+    Ok(PackedEvent::Quiet)
 }
 
 // The step of an output of an operand on a channel where no input waits, once the operand's word is made.
@@ -211,7 +209,7 @@ fn park_made(
     channel: u32,
     message: &Operand,
     at: Span,
-) -> Result<Event, AllocError>
+) -> Result<PackedEvent, AllocError>
     requires queue { IsQueue store.old.queues (channel + 1) }
     requires over { IsOver (length store.old.values.items) 0 (plain_val message.now) }
     requires pairs { ArePairs store.old.heap store.old.values.items }
@@ -224,7 +222,7 @@ fn park_made(
     reserve_message(store, message)?;
     let word = word_of(&mut store.heap, &mut store.pending, message, &store.values);
     park_output(store, channel, pack(word), at);
-    Ok(Event::Quiet)
+    Ok(PackedEvent::Quiet)
 }
 
 // The step of an output of an operand, which has this constant, on a channel where no input waits.
@@ -235,7 +233,7 @@ fn park_operand(
     message: &Operand,
     constant: &Option<Word>,
     at: Span,
-) -> Result<Event, AllocError>
+) -> Result<PackedEvent, AllocError>
     requires queue { IsQueue store.old.queues (channel + 1) }
     requires over { IsOver (length store.old.values.items) 0 (plain_val message.now) }
     requires pairs { ArePairs store.old.heap store.old.values.items }
@@ -260,7 +258,7 @@ fn send_made(
     channel: u32,
     reader: usize,
     message: &Operand,
-) -> Result<Event, AllocError>
+) -> Result<PackedEvent, AllocError>
     requires may { MayAct code.now store.old }
     requires sends { (at : AnySpan) × SendsOperand (core_in code.now) store.old channel (plain_val message.now) at }
     requires first { waits_first store.old.queues channel ≡ Waiting.Input reader }
@@ -279,9 +277,10 @@ fn send_made(
     let frame = reader_frame(code, reader);
     let reuses = reader_as_wide(code, reader, frame);
     reserve_meeting(store, frame, message, reuses)?;
-    let value = word_of(&mut store.heap, &mut store.pending, message, &store.values);
-    meet_reader(store, code, channel, reader, pack(value));
-    Ok(Event::Comm { channel, value })
+    let word = word_of(&mut store.heap, &mut store.pending, message, &store.values);
+    let value = pack(word);
+    meet_reader(store, code, channel, reader, value);
+    Ok(PackedEvent::Comm { channel, value })
 }
 
 // The step of an output of an operand, which has this constant, on a channel where an input waits.
@@ -293,7 +292,7 @@ fn send_operand(
     reader: usize,
     message: &Operand,
     constant: &Option<Word>,
-) -> Result<Event, AllocError>
+) -> Result<PackedEvent, AllocError>
     requires may { MayAct code.now store.old }
     requires sends { (at : AnySpan) × SendsOperand (core_in code.now) store.old channel (plain_val message.now) at }
     requires first { waits_first store.old.queues channel ≡ Waiting.Input reader }
@@ -329,7 +328,7 @@ pub(crate) fn send(
     message: &Operand,
     constant: &Option<Word>,
     at: Span,
-) -> Result<Event, AllocError>
+) -> Result<PackedEvent, AllocError>
     requires may { MayAct code.now store.old }
     requires sends { SendsOperand (core_in code.now) store.old channel (plain_val message.now) at }
     requires constant { IsConstant store.old.heap (plain_val message.now) constant.now }

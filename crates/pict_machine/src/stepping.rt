@@ -12,26 +12,27 @@ ghost use Rattle.pict_turns.specs.Acting.{core_in, IsCode, IsStore};
 ghost use Rattle.pict_turns.specs.Views.{view_with_turn};
 ghost use Rattle.pict_turns.specs.Widths.{MakesOnly};
 ghost use Rattle.pict_machine.specs.Events.{label_of, trap_of, IsEventOf};
+ghost use Rattle.pict_machine.specs.Packed.{label_packed, trap_packed, IsPackedOf};
 ghost use Rattle.pict_machine.specs.Machine.{IsMachine, IsRunning, IsUnchanged, MeetsPlainly};
 ghost use Rattle.pict_machine.specs.Machine.{RunsPlainly, running_view, running_cost, running_widths};
 ghost use Rattle.pict_machine.specs.Machine.{view_of, heap_of, queues_of, channels_of, cost_of, widths_of};
-ghost use Rattle.pict_machine.specs.Going.{GoesOn};
+ghost use Rattle.pict_machine.specs.Going.{GoesOn, IsPassed};
 ghost use Rattle.pict_machine.specs.Stepping.{GivesTurn};
 
 use crate::acting::act;
-use crate::event::Event;
+use crate::event::{Event, PackedEvent};
 use crate::machine::Machine;
 use pict_code::Node;
 use pict_syntax::Span;
 use pict_turns::{Store, Turn, return_turn, take_turn};
 use std::alloc::AllocError;
 
-// Steps of a run that show nothing, and the step after them.
+// Steps of a run that are passed over, and the step after them.
 pub(crate) struct Gone {
-    // How many steps show nothing, one after the other.
-    pub(crate) quiet: u64,
+    // How many steps are passed over, one after the other.
+    pub(crate) passed: u64,
     // The event of the step after them, if there is one.
-    pub(crate) event: Result<Option<Event>, AllocError>,
+    pub(crate) event: Result<Option<PackedEvent>, AllocError>,
 }
 
 // Somebody has the turn afterwards: who has it, or else the first of queue 0, whose block is free then. Takes no memory.
@@ -45,6 +46,18 @@ fn ensure_turn(store: &mut Store, code: &[Node])
     match store.turn {
         Turn::Nobody => take_turn(store, code),
         _ => {}
+    }
+}
+
+// Whether a run passes over the event: over communications only where it is told to.
+#[inline(always)]
+fn is_passed(event: &PackedEvent, passes: bool) -> bool
+    ensures { IsTrue result → IsPassed passes event.now }
+{
+    match event {
+        PackedEvent::Quiet => true,
+        PackedEvent::Comm { .. } => passes,
+        _ => false,
     }
 }
 
@@ -81,6 +94,31 @@ impl Machine {
             → IsOk result × KeepsBlocks (queues_of self.old).region (queues_of self.new).region }
         ensures channels { channels_of self.new ≤ channels_of self.old + 1 }
     {
+        match self.step_packed() {
+            Ok(event) => Ok(event.unpacked()),
+            Err(error) => Err(error),
+        }
+    }
+
+    // The same, and the event is packed.
+    fn step_packed(&mut self) -> Result<PackedEvent, AllocError>
+        requires kept { IsMachine self.old }
+        requires ready { (view_of self.old).ready ≢ [] }
+        requires few { channels_of self.old + 1 < 2 ^ 32 }
+        requires right { IsRightFor (view_of self.old) 1 }
+        ensures kept { IsMachine self.new }
+        ensures ok { IfOk result (λ event. (C : Configuration) → IsConfiguration C → StandsFor (view_of self.old) C
+            → IsStepOf C (label_packed (heap_of self.new) event) (trap_packed event) (view_of self.new)) }
+        ensures event { IfOk result (IsPackedOf (heap_of self.new)) }
+        ensures trapped { (at : Span) → result ≡ Ok (PackedEvent.Trapped at) → IsUnchanged self.old self.new }
+        ensures refused { OnErr result (IsUnchanged self.old self.new) }
+        ensures keeps { KeepsWords (heap_of self.old) (heap_of self.new) }
+        ensures work { CostsAtMost (cost_of self.old) (queues_of self.old) (queues_of self.new) }
+        ensures blocks { MakesOnly (queues_of self.old) (queues_of self.new) (widths_of self.old) }
+        ensures plain { MeetsPlainly self.old
+            → IsOk result × KeepsBlocks (queues_of self.old).region (queues_of self.new).region }
+        ensures channels { channels_of self.new ≤ channels_of self.old + 1 }
+    {
         take_turn(&mut self.store, &self.code.nodes);
         let result = act(&self.code.nodes, &self.constants, &mut self.store);
         return_turn(&mut self.store, &self.code.nodes);
@@ -101,15 +139,15 @@ impl Machine {
 
     // One step of a run, of who has the turn, or else of the first of queue 0: as `step` says, but that somebody may have the
     // turn afterwards.
-    pub(crate) fn advance(&mut self) -> Result<Event, AllocError>
+    pub(crate) fn advance(&mut self) -> Result<PackedEvent, AllocError>
         requires kept { IsRunning self.old }
         requires ready { (running_view self.old).ready ≢ [] }
         requires few { channels_of self.old + 1 < 2 ^ 32 }
         requires right { IsRightFor (running_view self.old) 1 }
         ensures kept { IsRunning self.new }
         ensures ok { IfOk result (λ event. (C : Configuration) → IsConfiguration C → StandsFor (running_view self.old) C
-            → IsStepOf C (label_of (heap_of self.new) event) (trap_of event) (running_view self.new)) }
-        ensures event { IfOk result (IsEventOf (heap_of self.new)) }
+            → IsStepOf C (label_packed (heap_of self.new) event) (trap_packed event) (running_view self.new)) }
+        ensures event { IfOk result (IsPackedOf (heap_of self.new)) }
         ensures refused { OnErr result (running_view self.new ≡ running_view self.old) }
         ensures keeps { KeepsWords (heap_of self.old) (heap_of self.new) }
         ensures work { CostsAtMost (running_cost self.old) (queues_of self.old) (queues_of self.new) }
@@ -122,46 +160,47 @@ impl Machine {
         act(&self.code.nodes, &self.constants, &mut self.store)
     }
 
-    // Up to `most` steps of a run, until one shows something or divides by zero, nobody is next, or memory is wanting. Only the
-    // last one can have an event or an error.
+    // Up to `most` steps of a run, until one shows something that isn't passed over or divides by zero, nobody is next, or memory
+    // is wanting. Only the last one can have an event or an error. Communications are passed over where `passes` is true.
     //
     // It is no part of the loops that show events, of which each watcher has its own: so there is one copy of the step.
     #[inline(never)]
-    pub(crate) fn go_on(&mut self, most: u64) -> Gone
+    pub(crate) fn go_on(&mut self, most: u64, passes: bool) -> Gone
         requires kept { IsRunning self.old }
         requires few { channels_of self.old + most < 2 ^ 32 }
         requires right { IsRightFor (running_view self.old) most }
         ensures kept { IsRunning self.new }
-        ensures gone { GoesOn self.old self.new most result.quiet result.event }
+        ensures gone { GoesOn passes self.old self.new most result.passed result.event }
         ensures keeps { KeepsWords (heap_of self.old) (heap_of self.new) }
         ensures channels { channels_of self.new ≤ channels_of self.old + most }
-        ensures made { channels_of self.new ≤ channels_of self.old + result.quiet + 1 }
+        ensures made { channels_of self.new ≤ channels_of self.old + result.passed + 1 }
     {
         for step in 0..most {
             if !self.has_next() {
                 return Gone {
-                    quiet: step,
+                    passed: step,
                     event: Ok(None),
                 };
             }
             match self.advance() {
-                Ok(Event::Quiet) => {}
                 Ok(event) => {
-                    return Gone {
-                        quiet: step,
-                        event: Ok(Some(event)),
-                    };
+                    if !is_passed(&event, passes) {
+                        return Gone {
+                            passed: step,
+                            event: Ok(Some(event)),
+                        };
+                    }
                 }
                 Err(error) => {
                     return Gone {
-                        quiet: step,
+                        passed: step,
                         event: Err(error),
                     };
                 }
             }
         }
         Gone {
-            quiet: most,
+            passed: most,
             event: Ok(None),
         }
     }

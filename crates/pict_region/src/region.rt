@@ -66,9 +66,10 @@ impl Region {
         }
     }
 
-    /// Makes free blocks until there are `n` of this width, in words. The store grows by doubling, and what is past 2^32
-    /// words is want of memory. Where memory is wanting, some of these blocks may have been made, and never more than were
-    /// wanting. Where enough are there it takes no memory. The work stays.
+    /// Makes free blocks until there are `n` of this width, in words. The store grows by as many words as it has, at least 1,024
+    /// and at most 65,536, or by what a block needs, if that is more, and what is past 2^32 words is want of memory. Where memory
+    /// is wanting, some of these blocks may have been made, and never more than were wanting. Where enough are there it takes no
+    /// memory. The work stays.
     #[inline(always)]
     pub fn reserve(&mut self, width: u32, n: u64) -> Result<(), AllocError>
         requires positive { 1 ≤ width }

@@ -36,6 +36,13 @@ impl<'a, O: Sink> Watcher for Printer<'a, O> {
 
     ghost same_along = { λ p q r e f. f ∙ e };
 
+    fn passes(&self) -> bool {
+        match self.form {
+            Form::Printed => true,
+            Form::Line => false,
+        }
+    }
+
     fn see(&mut self, heap: &Heap, number: u64, event: &Event) -> Result<(), RunError> {
         match self.form {
             Form::Printed => print_event(self.out, heap, event),

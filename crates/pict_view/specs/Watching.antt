@@ -16,7 +16,7 @@ abbrev pub view_after : (List ℕ → ℕ → Label → List ℕ) → List ℕ �
 view_after next view [] = view
 view_after next view (l ∷ ls) = view_after next (next view l.0 l.1) ls
 
--- the watcher has seen exactly these labels
+-- the view is as if the watcher had seen exactly these labels
 abbrev pub Saw : (List ℕ → ℕ → Label → List ℕ) → Option (List ℕ) → Option (List ℕ) → List (ℕ × Label) → Type 0
 Saw next before after labels = WhereTold (λ b a. a ≡ view_after next b labels) before after
 
@@ -25,7 +25,7 @@ abbrev pub IsTorn : (List ℕ → ℕ → Label → List ℕ) → (List ℕ → 
 IsTorn next torn labels before after =
     (front : List (ℕ × Label)) × (last : ℕ × Label) × (labels ≡ front ++ last ∷ []) × torn (view_after next before front) last.0 last.1 after
 
--- the watcher has seen exactly these labels, or the showing of the last one was refused
+-- the view is as if the watcher had seen exactly these labels, or the showing of the last one was refused
 abbrev pub SawOrTore : (List ℕ → ℕ → Label → List ℕ) → (List ℕ → ℕ → Label → List ℕ → Type 0) → Option (List ℕ) → Option (List ℕ) → List (ℕ × Label) → Type 0
 SawOrTore next torn before after labels = WhereTold (λ b a. (a ≡ view_after next b labels) ⊎ IsTorn next torn labels b a) before after
 

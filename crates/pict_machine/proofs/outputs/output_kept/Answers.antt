@@ -1,5 +1,7 @@
-use Rattle.std.proofs.Common.{sym, ◌∙◌}
+use Rattle.std.proofs.Common.{◌≡◌, sym, ap, ◌∙◌}
 use Rattle.pict_blocks.specs.Blocks.{value_in}
+use Rattle.pict_frames.specs.declared.keeping.Kept.{Kept}
+use Rattle.pict_operands.specs.AtHand.{channel_named}
 use Rattle.pict_turns.specs.Acting.{core_in}
 use Rattle.pict_machine.proofs.Channels.{named_channel}
 use Rattle.pict_machine.proofs.KeptOutputs.{kept_to, kept_send, sends_kept}
@@ -26,9 +28,11 @@ send_kept-requires-clause-sends c =
           (named_channel (value_in s.heap c.args.kept.to.0 c.args.kept.to.1) c.in-Some.channel (sym c.in-Some.is ∙ to)),
     )
 
-pub call_kept-requires-clause-elsewhere : goal.call_kept-requires-clause-elsewhere
-call_kept-requires-clause-elsewhere c =
+pub call_of_turn-requires-clause-elsewhere : goal.call_of_turn-requires-clause-elsewhere
+call_of_turn-requires-clause-elsewhere c k is =
     let core = core_in c.args.code.now in
     let s = c.args.store.now in
     let to = c.channel_of.ensures s.heap (kept_to core s c.requires.may.acting c.args.kept c.requires.kept) in
-    sym to ∙ c.in-None.is
+    let has = c.requires.kept in
+    let same : k ≡ c.args.kept = cc (has, is) in
+    ap (λ (k : Kept). channel_named (value_in s.heap k.to.0 k.to.1)) same ∙ sym to ∙ c.in-None.is

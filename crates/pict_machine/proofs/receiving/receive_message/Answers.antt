@@ -1,12 +1,11 @@
 use Rattle.std.proofs.Common.{ℕ, ◌≡◌, ◌+◌, List, ◌∷◌, [], length, map, refl, sym, ap, ◌∙◌, subst, arith}
 use Rattle.std.specs.List.{slice_index_or}
-use Rattle.pict_core.specs.Step.{Comm}
 use Rattle.pict_code.specs.Instruction.{Node}
 use Rattle.pict_code.specs.Nodes.{nodes_of, input_op}
 use Rattle.pict_code.specs.Plain.{plain_pat, plain_node}
 use Rattle.pict_code.specs.ReadBack.{unleveled}
 use Rattle.pict_meetings.specs.Room.{CanHoldBeside}
-use Rattle.pict_turns.specs.Acting.{core_in, IsDone}
+use Rattle.pict_turns.specs.Acting.{core_in}
 use Rattle.pict_turns.specs.Parts.{block_width, CanHold}
 use Rattle.pict_turns.specs.Reading.{HasFrame}
 use Rattle.pict_turns.specs.Views.{acting_words}
@@ -20,7 +19,6 @@ use Rattle.pict_meetings.proofs.Inputs.{part_inside}
 use Rattle.pict_meetings.proofs.Receiving.{receives_part}
 use Rattle.pict_machine.proofs.Passing.{refused_step, may_reserve, receives_reserved}
 use Rattle.pict_machine.proofs.Channels.{input_process}
-use Rattle.pict_machine.proofs.KeptOutputs.{word_is, pair_value}
 use Rattle.pict_machine.proofs.Plainly.{plain_input, same_part, not_replicated, message_length, receives_kept}
 use Rattle.pict_machine.proofs.Working.{costs_reserved}
 use Rattle.pict_machine.proofs.receiving.receive_message.Goals as goal
@@ -32,19 +30,19 @@ frame_at-frame-requires c =
     in_code c.args.code.now c.requires.may.code_is c.args.part
     (part_inside core pattern c.args.part (receives_part core c.args.store.now c.args.channel c.args.replicated pattern c.args.part c.requires.receives))
 
-pub meet_message-message-requires-clause-receives : goal.meet_message-message-requires-clause-receives
-meet_message-message-requires-clause-receives c =
+pub meet_message-value-requires-clause-receives : goal.meet_message-value-requires-clause-receives
+meet_message-value-requires-clause-receives c =
     receives_reserved (core_in c.args.code.now) c.args.store.now c.reserve_part_of_input.new.store c.reserve_part_of_input.ensures.rest c.args.channel c.args.replicated (plain_pat c.args.pattern.now) c.args.part c.requires.receives
 
-pub meet_message-message-requires-clause-right : goal.meet_message-message-requires-clause-right
-meet_message-message-requires-clause-right c = (may_reserve c.args.code.now c.args.store.now c.reserve_part_of_input.new.store c.reserve_part_of_input.ensures.rest c.requires.may).right
+pub meet_message-value-requires-clause-right : goal.meet_message-value-requires-clause-right
+meet_message-value-requires-clause-right c = (may_reserve c.args.code.now c.args.store.now c.reserve_part_of_input.new.store c.reserve_part_of_input.ensures.rest c.requires.may).right
 
-pub meet_message-message-requires-clause-can : goal.meet_message-message-requires-clause-can
-meet_message-message-requires-clause-can c = λ frame f.
+pub meet_message-value-requires-clause-can : goal.meet_message-value-requires-clause-can
+meet_message-value-requires-clause-can c = λ frame f.
     subst (CanHold c.reserve_part_of_input.new.store) (same_frame (map plain_node c.args.code.now) c.args.part c.frame_at-frame.result.now frame c.frame_at-frame.ensures f) c.in_ok-reserve_part_of_input.ensures.can
 
-pub meet_message-message-requires-clause-beside : goal.meet_message-message-requires-clause-beside
-meet_message-message-requires-clause-beside c = λ yes frame f.
+pub meet_message-value-requires-clause-beside : goal.meet_message-value-requires-clause-beside
+meet_message-value-requires-clause-beside c = λ yes frame f.
     let core = core_in c.args.code.now in
     let mid = c.reserve_part_of_input.new.store in
     let wide : length (acting_words core mid) + 1 ≡ c.acting_width-width.result =
@@ -56,12 +54,11 @@ pub returns-clause-step : goal.returns-clause-step
 returns-clause-step c =
     let core = core_in c.args.code.now in
     let mid = c.reserve_part_of_input.new.store in
-    let new = c.meet_message-message.new.store in
-    let met = c.meet_message-message.ensures in
+    let new = c.meet_message-value.new.store in
+    let met = c.meet_message-value.ensures in
     record {
-      done = done_after core c.args.store.now mid c.reserve_part_of_input.ensures.rest new _
-          (subst (λ v. IsDone core mid new (Comm c.args.channel v)) (pair_value new.heap c.meet_message-message.result met.pair c.word_at.result c.word_at.ensures) met.done);
-      event = word_is new.heap c.meet_message-message.result met.pair c.word_at.result c.word_at.ensures;
+      done = done_after core c.args.store.now mid c.reserve_part_of_input.ensures.rest new _ met.done;
+      event = met.pair;
     }
 
 pub returns-in_err-reserve_part_of_input-clause-step : goal.returns-in_err-reserve_part_of_input-clause-step
@@ -71,12 +68,12 @@ returns-in_err-reserve_part_of_input-clause-step c =
 
 pub returns-clause-cost : goal.returns-clause-cost
 returns-clause-cost c frame f =
-    costs_reserved c.args.store.now c.reserve_part_of_input.new.store c.meet_message-message.new.store.queues _ _ c.reserve_part_of_input.ensures.rest (c.meet_message-message.ensures.cost frame f) (omega arith)
+    costs_reserved c.args.store.now c.reserve_part_of_input.new.store c.meet_message-value.new.store.queues _ _ c.reserve_part_of_input.ensures.rest (c.meet_message-value.ensures.cost frame f) (omega arith)
 
 pub returns-clause-turn : goal.returns-clause-turn
 returns-clause-turn c frame f =
     let same = cost_still (core_in c.args.code.now) c.args.store.now c.reserve_part_of_input.new.store c.reserve_part_of_input.ensures.rest in
-    let t = c.meet_message-message.ensures.turn frame f in
+    let t = c.meet_message-value.ensures.turn frame f in
     omega (arith, same, t)
 
 pub returns-in_err-reserve_part_of_input-clause-turn : goal.returns-in_err-reserve_part_of_input-clause-turn
@@ -86,11 +83,11 @@ returns-in_err-reserve_part_of_input-clause-turn c frame f =
 pub returns-clause-blocks : goal.returns-clause-blocks
 returns-clause-blocks c frame f =
     let old = c.args.store.now.queues in
-    let last = c.meet_message-message.new.store.queues in
+    let last = c.meet_message-value.new.store.queues in
     let width = c.acting_width-width.result in
     subst (λ (w : ℕ). MakesOnly old last (w ∷ block_width frame ∷ [])) (sym c.acting_width-width.ensures)
     (subst (λ frame. MakesOnly old last (width ∷ block_width frame ∷ [])) (same_frame (map plain_node c.args.code.now) c.args.part c.frame_at-frame.result.now frame c.frame_at-frame.ensures f)
-    (makes_before old c.reserve_part_of_input.new.store.queues last (width ∷ block_width c.frame_at-frame.result.now ∷ []) c.reserve_part_of_input.ensures.most c.meet_message-message.ensures.blocks))
+    (makes_before old c.reserve_part_of_input.new.store.queues last (width ∷ block_width c.frame_at-frame.result.now ∷ []) c.reserve_part_of_input.ensures.most c.meet_message-value.ensures.blocks))
 
 pub returns-in_err-reserve_part_of_input-clause-blocks : goal.returns-in_err-reserve_part_of_input-clause-blocks
 returns-in_err-reserve_part_of_input-clause-blocks c frame f =
@@ -115,7 +112,7 @@ returns-clause-plain c x =
     let r = c.reserve_part_of_input.ensures in
     let kept = receives_kept core s (acting_room core s c.requires.may.acting) x (message_length core s (acting_words core s) c.requires.may.acting.store x) c.reserve_part_of_input.new.store c.frame_at-frame.result.now
     (same_frame nodes c.args.part c.frame_at-frame.result.now x.room.frame c.frame_at-frame.ensures has) r.rest (r.one once) (r.plain once) in
-    (refl, λ width. c.meet_message-message.ensures.blocks width ∙ kept.1 width)
+    (refl, λ width. c.meet_message-value.ensures.blocks width ∙ kept.1 width)
 
 pub returns-in_err-reserve_part_of_input-clause-plain : goal.returns-in_err-reserve_part_of_input-clause-plain
 returns-in_err-reserve_part_of_input-clause-plain c x =

@@ -36,9 +36,6 @@ send_to_reader-done-requires-clause-sends c =
     let x = c.requires.sends in
     (x.0, sends_worked (core_in c.args.code.now) c.args.store.now c.first_waiting.new.queues c.first_waiting.ensures.rest c.args.channel c.args.message x.0 x.1)
 
-pub receipt-requires : goal.receipt-requires
-receipt-requires c = record { pair = (c.args.store.now.heap, c.requires.sends.1.pair) }
-
 pub park-requires : goal.park-requires
 park-requires c =
     let s = c.args.store.now in

@@ -1,13 +1,11 @@
 use Rattle.std.proofs.Common.{ℕ, ◌+◌, List, ◌∷◌, [], cond, take, length, sym, ap, ◌∙◌, subst, arith}
 use Rattle.pict_core.specs.Closed.{IsOver}
 use Rattle.pict_core.specs.Plain.{plain_val}
-use Rattle.pict_core.specs.Step.{Comm}
 use Rattle.pict_queue.specs.Contents.{contents}
-use Rattle.pict_operands.proofs.Pairs.{value_packed}
 use Rattle.pict_meetings.specs.Room.{CanHoldAfter}
 use Rattle.pict_meetings.specs.Waiting.{oldest}
 use Rattle.pict_meetings.proofs.Ops.{input_waits_first}
-use Rattle.pict_turns.specs.Acting.{core_in, IsDone}
+use Rattle.pict_turns.specs.Acting.{core_in}
 use Rattle.pict_turns.specs.Parts.{block_width}
 use Rattle.pict_turns.specs.Widths.{MakesOnly}
 use Rattle.pict_turns.proofs.Making.{makes_before}
@@ -29,8 +27,8 @@ pub reader_as_wide-reuses-requires : goal.reader_as_wide-reuses-requires
 reader_as_wide-reuses-requires c =
     record { low = (input_waits_first c.args.code.now c.args.store.now c.args.channel c.args.reader c.requires.may.code_is c.requires.may.acting.store c.requires.first).low }
 
-pub word_of-value-requires-clause-over : goal.word_of-value-requires-clause-over
-word_of-value-requires-clause-over c =
+pub word_of-word-requires-clause-over : goal.word_of-word-requires-clause-over
+word_of-word-requires-clause-over c =
     let core = core_in c.args.code.now in
     let mid = c.reserve_meeting.new.store in
     let x = c.requires.sends in
@@ -38,8 +36,8 @@ word_of-value-requires-clause-over c =
     subst (λ values. IsOver (length values) 0 message) (sym c.deref.ensures.value)
     (operand_over core mid c.args.channel message x.0 (operand_reserved core c.args.store.now mid c.reserve_meeting.ensures.rest c.args.channel message x.0 x.1))
 
-pub word_of-value-requires-clause-room : goal.word_of-value-requires-clause-room
-word_of-value-requires-clause-room c =
+pub word_of-word-requires-clause-room : goal.word_of-word-requires-clause-room
+word_of-word-requires-clause-room c =
     let code = c.args.code.now in
     let mid = c.reserve_meeting.new.store in
     let may = may_reserve code c.args.store.now mid c.reserve_meeting.ensures.rest c.requires.may in
@@ -55,27 +53,27 @@ meet_reader-requires-clause-sends c =
     let x = c.requires.sends in (
       x.0,
       sends_made (core_in c.args.code.now) c.args.store.now c.reserve_meeting.new.store c.reserve_meeting.ensures.rest c.args.channel (plain_val c.args.message.now) x.0 x.1
-          c.word_of-value.new.heap c.word_of-value.new.pending c.deref.result.now c.deref.ensures.value c.word_of-value.result c.word_of-value.ensures.made c.pack.result c.pack.ensures.fits (sym c.pack.ensures.pair),
+          c.word_of-word.new.heap c.word_of-word.new.pending c.deref.result.now c.deref.ensures.value c.word_of-word.result c.word_of-word.ensures.made c.pack-value.result c.pack-value.ensures.fits (sym c.pack-value.ensures.pair),
     )
 
 pub meet_reader-requires-clause-right : goal.meet_reader-requires-clause-right
 meet_reader-requires-clause-right c =
     let x = c.requires.sends in
     right_made (core_in c.args.code.now) c.args.store.now c.reserve_meeting.new.store c.reserve_meeting.ensures.rest c.args.channel (plain_val c.args.message.now) x.0 x.1
-    c.word_of-value.new.heap c.word_of-value.new.pending c.deref.result.now c.deref.ensures.value c.word_of-value.result c.word_of-value.ensures.made
+    c.word_of-word.new.heap c.word_of-word.new.pending c.deref.result.now c.deref.ensures.value c.word_of-word.result c.word_of-word.ensures.made
     (may_reserve c.args.code.now c.args.store.now c.reserve_meeting.new.store c.reserve_meeting.ensures.rest c.requires.may).right
 
 pub meet_reader-requires-clause-can : goal.meet_reader-requires-clause-can
 meet_reader-requires-clause-can c = λ replicated pattern part frame i f.
     let code = c.args.code.now in
     let mid = c.reserve_meeting.new.store in
-    let grown : Store = record mid { heap = c.word_of-value.new.heap; pending = c.word_of-value.new.pending } in
+    let grown : Store = record mid { heap = c.word_of-word.new.heap; pending = c.word_of-word.new.pending } in
     let may = may_reserve code c.args.store.now mid c.reserve_meeting.ensures.rest c.requires.may in
     let first = ap oldest (c.reserve_meeting.ensures.rest.contents (c.args.channel + 1)) ∙ c.requires.first in
     subst (CanHoldAfter grown _) (c.reader_frame-frame.ensures replicated pattern part frame i f)
-    (can_grown mid c.word_of-value.new.heap c.word_of-value.new.pending _ c.reader_frame-frame.result.now _ (c.in_ok-reserve_meeting.ensures.room _ (λ reused.
+    (can_grown mid c.word_of-word.new.heap c.word_of-word.new.pending _ c.reader_frame-frame.result.now _ (c.in_ok-reserve_meeting.ensures.room _ (λ reused.
     one_given code may.code_is mid may.acting.store c.args.channel c.args.reader first replicated pattern part i c.reader_frame-frame.result.now
-    (c.reader_as_wide-reuses.ensures.0 reused))) c.word_of-value.ensures.used c.word_of-value.ensures.pending)
+    (c.reader_as_wide-reuses.ensures.0 reused))) c.word_of-word.ensures.used c.word_of-word.ensures.pending)
 
 pub returns-clause-step : goal.returns-clause-step
 returns-clause-step c =
@@ -83,12 +81,16 @@ returns-clause-step c =
     let x = c.requires.sends in
     let new = c.meet_reader.new.store in
     let mid = c.reserve_meeting.new.store in
-    let grown : Store = record mid { heap = c.word_of-value.new.heap; pending = c.word_of-value.new.pending } in
+    let grown : Store = record mid { heap = c.word_of-word.new.heap; pending = c.word_of-word.new.pending } in
     record {
       done = done_made core c.args.store.now mid c.reserve_meeting.ensures.rest c.args.channel (plain_val c.args.message.now) x.0 x.1
-          c.word_of-value.new.heap c.word_of-value.new.pending c.deref.result.now c.deref.ensures.value c.word_of-value.result c.word_of-value.ensures.made new _
-          (subst (λ v. IsDone core grown new (Comm c.args.channel v)) (value_packed new.heap c.word_of-value.result c.pack.result c.pack.ensures.fits (sym c.pack.ensures.pair)) c.meet_reader.ensures.done);
-      event = c.meet_reader.ensures.done.keeps.words c.word_of-value.result c.word_of-value.ensures.made.word;
+          c.word_of-word.new.heap c.word_of-word.new.pending c.deref.result.now c.deref.ensures.value c.word_of-word.result c.word_of-word.ensures.made new _ c.meet_reader.ensures.done;
+      event = record {
+        word = c.word_of-word.result;
+        is = c.meet_reader.ensures.done.keeps.words c.word_of-word.result c.word_of-word.ensures.made.word;
+        fits = c.pack-value.ensures.fits;
+        packs = sym c.pack-value.ensures.pair;
+      };
     }
 
 pub returns-in_err-reserve_meeting-clause-step : goal.returns-in_err-reserve_meeting-clause-step

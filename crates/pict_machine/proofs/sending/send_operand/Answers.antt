@@ -30,12 +30,6 @@ send_to_reader-done-requires-clause-sends c =
     subst (λ values. IsPairFor s.heap (operand_value (known s.heap values) message) c.in-Some.pair) c.deref.ensures.value (c.in-Some.ensures.pair s.heap pairs c.requires.constant) in
     (x.0, sends_pair (core_in c.args.code.now) s c.args.channel message x.0 x.1 c.in-Some.pair pair)
 
-pub receipt-requires : goal.receipt-requires
-receipt-requires c =
-    let s = c.args.store.now in
-    let pairs = subst (ArePairs s.heap) (sym c.deref.ensures.value) c.requires.may.acting.store.pairs in
-    record { pair = (s.heap, (c.in-Some.ensures.pair s.heap pairs c.requires.constant).pair_is) }
-
 pub returns-in-None-clause-plain : goal.returns-in-None-clause-plain
 returns-in-None-clause-plain c x =
     let s = c.args.store.now in

@@ -1,105 +1,24 @@
-use Rattle.std.proofs.Common.{◌≡◌, List, map, ap, ◌∙◌, sym, subst}
-use Rattle.pict_blocks.specs.Blocks.{value_in, process_of}
-use Rattle.pict_code.specs.Plain.{plain_code, plain_node}
-use Rattle.pict_code.specs.declared.instruction.Node.{Node}
-use Rattle.pict_heap.specs.HeapState.{HeapState}
-use Rattle.pict_queue.specs.QueuesState.{CostsAtMost}
-use Rattle.pict_queue.specs.Contents.{contents}
-use Rattle.pict_view.specs.View.{View}
-use Rattle.pict_view.specs.Right.{IsRightFor}
-use Rattle.pict_turns.specs.Acting.{core_in, IsCode, IsStore, HasActing}
-use Rattle.pict_turns.specs.Turns.{TakesTurn, turn_cost}
-use Rattle.pict_turns.specs.Views.{acting_words, ready_words}
-use Rattle.pict_turns.specs.declared.store.Store.{Store}
-use Rattle.pict_machine.specs.Constants.{AreConstants}
-use Rattle.pict_machine.specs.Needs.{MakesNeeded}
-use Rattle.pict_machine.specs.Plain.{ActsPlainly, TakesNothing}
-use Rattle.pict_machine.specs.Stepping.{MayAct, IsStepBy}
-use Rattle.pict_machine.specs.Work.{Fits}
-use Rattle.pict_machine.proofs.Needing.{needed_whole}
-use Rattle.pict_machine.proofs.Plainly.{plainly_given, idle_plainly}
-use Rattle.pict_machine.proofs.Steps.{idle_view, step_kept, whole_kept, whole_ok, whole_event, whole_trapped, whole_refused, whole_keeps, whole_few}
-use Rattle.pict_machine.proofs.Taking.{first_given, may_act}
-use Rattle.pict_machine.proofs.Working.{step_works}
+use Rattle.std.proofs.Common.{◌≡◌, sym, ap, ◌∙◌, Ok, refl}
+use Rattle.pict_machine.specs.Events.{trap_of}
+use Rattle.pict_machine.specs.Machine.{heap_of, view_of}
+use Rattle.pict_machine.specs.declared.event.Event.TheVariants as event
+use Rattle.pict_machine.proofs.Running.{seen_steps, trapped_packed}
 use Rattle.pict_machine.proofs.machine.Machine.step.Goals as goal
 
-pub take_turn-requires : goal.take_turn-requires
-take_turn-requires c =
-    let old = c.args.self.now in
-    record {
-      code = subst (λ (code : List Node). IsCode (map plain_node code)) (sym c.deref.ensures.value) c.requires.kept.running.code;
-      store = subst (λ (code : List Node). IsStore (core_in code) old.store) (sym c.deref.ensures.value) c.requires.kept.running.store;
-      nobody = c.requires.kept.idle;
-      some = λ none. c.requires.ready (ap (map (process_of (core_in old.code.nodes.items) (value_in old.store.heap))) none);
-    }
+pub unpacked-requires : goal.unpacked-requires
+unpacked-requires c = (heap_of c.step_packed.new.self, c.in-Ok.ensures.event)
 
-pub act-result-requires-clause-may : goal.act-result-requires-clause-may
-act-result-requires-clause-may c =
-    let old = c.args.self.now in
-    let taken = c.take_turn.new.store in
-    let kept = c.requires.kept in
-    let acting = subst (λ (code : List Node). HasActing (core_in code) taken) c.deref.ensures.value c.take_turn.ensures.acting in
-    let takes = subst (λ (code : List Node). TakesTurn (core_in code) old.store taken) c.deref.ensures.value c.take_turn.ensures.takes in
-    let before = subst (λ (code : List Node). CostsAtMost (turn_cost (core_in code) taken) old.store.queues taken.queues) c.deref.ensures.value c.take_turn.ensures.cost in
-    let given = first_given (core_in old.code.nodes.items) old.store taken kept.idle acting takes before in
-    subst (λ (code : List Node). MayAct code taken) (sym c.deref-2.ensures.value)
-    (may_act old.code.nodes.items old.store taken given kept.running.code kept.running.store.ready kept.running.held c.requires.few
-    (subst (λ (v : View). IsRightFor v 1) (sym (idle_view old kept)) c.requires.right))
+pub returns-in-Ok-clause-ok : goal.returns-in-Ok-clause-ok
+returns-in-Ok-clause-ok c C is s =
+    let h = heap_of c.step_packed.new.self in
+    seen_steps h h c.in-Ok.event c.unpacked.result (view_of c.args.self.now) (view_of c.step_packed.new.self) refl (c.unpacked.ensures.label h c.in-Ok.ensures.event) c.unpacked.ensures.trap
+    (λ D at by. c.in-Ok.ensures.ok D at by) C is s
 
-pub act-result-requires-clause-constants : goal.act-result-requires-clause-constants
-act-result-requires-clause-constants c =
-    let old = c.args.self.now in
-    subst (λ (h : HeapState). AreConstants h (map plain_node c.deref-2.result.now) c.deref-3.result.now) (sym c.take_turn.ensures.takes.heap)
-    (subst (λ (code : List Node). AreConstants old.store.heap (map plain_node code) c.deref-3.result.now) (sym c.deref-2.ensures.value)
-    (subst (AreConstants old.store.heap (plain_code old.code)) (sym c.deref-3.ensures.value) c.requires.kept.running.constants))
+pub returns-in-Ok-clause-event : goal.returns-in-Ok-clause-event
+returns-in-Ok-clause-event c = c.unpacked.ensures.event (heap_of c.step_packed.new.self) c.in-Ok.ensures.event
 
-pub return_turn-requires-clause-store : goal.return_turn-requires-clause-store
-return_turn-requires-clause-store c =
-    let old = c.args.self.now in
-    let kept = c.requires.kept in
-    let taken = c.take_turn.new.store in
-    let acted = c.act-result.new.store in
-    let acting = subst (λ (code : List Node). HasActing (core_in code) taken) c.deref.ensures.value c.take_turn.ensures.acting in
-    let takes = subst (λ (code : List Node). TakesTurn (core_in code) old.store taken) c.deref.ensures.value c.take_turn.ensures.takes in
-    let before = subst (λ (code : List Node). CostsAtMost (turn_cost (core_in code) taken) old.store.queues taken.queues) c.deref.ensures.value c.take_turn.ensures.cost in
-    let given = first_given (core_in old.code.nodes.items) old.store taken kept.idle acting takes before in
-    let step = subst (λ (code : List Node). IsStepBy (core_in code) taken acted c.act-result.result) c.deref-2.ensures.value c.act-result.ensures.step in
-    subst (λ (code : List Node). IsStore (core_in code) acted) (sym c.deref-4.ensures.value)
-    (step_kept old taken acted given kept.running (subst (λ (v : View). IsRightFor v 1) (sym (idle_view old kept)) c.requires.right) c.act-result.result step).store
-
-pub returns : goal.returns
-returns c =
-    let old = c.args.self.now in
-    let core = core_in old.code.nodes.items in
-    let kept = c.requires.kept in
-    let taken = c.take_turn.new.store in
-    let acted = c.act-result.new.store in
-    let new = c.return_turn.new.store in
-    let result = c.act-result.result in
-    let acting = subst (λ (code : List Node). HasActing (core_in code) taken) c.deref.ensures.value c.take_turn.ensures.acting in
-    let takes = subst (λ (code : List Node). TakesTurn (core_in code) old.store taken) c.deref.ensures.value c.take_turn.ensures.takes in
-    let before = subst (λ (code : List Node). CostsAtMost (turn_cost (core_in code) taken) old.store.queues taken.queues) c.deref.ensures.value c.take_turn.ensures.cost in
-    let given = first_given core old.store taken kept.idle acting takes before in
-    let step = subst (λ (code : List Node). IsStepBy (core_in code) taken acted result) c.deref-2.ensures.value c.act-result.ensures.step in
-    let work = subst (λ (code : List Node). Fits (core_in code) taken acted) c.deref-2.ensures.value c.act-result.ensures.work in
-    let blocks = subst (λ (code : List Node). MakesNeeded (core_in code) taken acted) c.deref-2.ensures.value c.act-result.ensures.blocks in
-    let plain = subst (λ (code : List Node). ActsPlainly (core_in code) taken (acting_words (core_in code) taken) → TakesNothing taken acted result) c.deref-2.ensures.value c.act-result.ensures.plain in
-    let back = c.return_turn.ensures in
-    let store = subst (λ (code : List Node). IsStore (core_in code) new) c.deref-4.ensures.value back.store in
-    let ready = subst (λ (code : List Node). contents new.queues 0 ≡ ready_words (core_in code) acted) c.deref-4.ensures.value back.ready in
-    let after = subst (λ (code : List Node). CostsAtMost (turn_cost (core_in code) acted) acted.queues new.queues) c.deref-4.ensures.value back.cost in
-    let heap = ap (λ (s : Store). s.heap) back.rest in
-    record {
-      kept = whole_kept old kept taken acted new acting takes given heap ready back.others back.queues store (ap (λ (s : Store). s.turn) back.rest) back.no_more c.requires.right result step;
-      ok = whole_ok old kept taken acted new acting takes given heap ready back.others back.queues result step;
-      event = whole_event old kept taken acted new acting takes given heap ready back.others back.queues result step;
-      trapped = whole_trapped old kept taken acted new acting takes given heap ready back.others back.queues result step;
-      refused = whole_refused old kept taken acted new acting takes given heap ready back.others back.queues result step;
-      keeps = whole_keeps old kept taken acted new acting takes given heap ready back.others back.queues result step;
-      work = step_works core old.store taken acted given work new kept.idle after;
-      blocks = needed_whole core old.store taken acted given blocks new kept.idle back.blocks;
-      plain = λ m.
-          let x = plain (plainly_given core old.store taken given (idle_plainly core old.store kept.idle m)) in
-          (x.0, λ width. back.blocks width ∙ x.1 width ∙ takes.blocks width);
-      channels = whole_few old kept taken acted new acting takes given heap ready back.others back.queues result step;
-    }
+pub returns-in-Ok-clause-trapped : goal.returns-in-Ok-clause-trapped
+returns-in-Ok-clause-trapped c at is =
+    let same : c.unpacked.result ≡ event.Trapped at = cc is in
+    let trap = trapped_packed c.in-Ok.event at (sym (ap trap_of same) ∙ c.unpacked.ensures.trap) in
+    c.step_packed.ensures.trapped at (c.in-Ok.is ∙ ap Ok trap)
