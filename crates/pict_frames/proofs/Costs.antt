@@ -13,13 +13,6 @@ raised_once w false = (omega arith, omega arith)
 pub costs_one : (a b : QueuesState) → b.region.work ≡ raised a.region.work → CostsAtMost 1 a b
 costs_one a b e = let r = raised_once a.region.work (nat_lt a.region.work (2 ^ 64 - 1)) in record { least = omega (arith, e, r.0); most = omega (arith, e, r.1) }
 
-pub costs_two : (a b : QueuesState) → b.region.work ≡ raised (raised a.region.work) → CostsAtMost 2 a b
-costs_two a b e =
-    let once = raised a.region.work in
-    let r = raised_once a.region.work (nat_lt a.region.work (2 ^ 64 - 1)) in
-    let t = raised_once once (nat_lt once (2 ^ 64 - 1)) in
-    record { least = omega (arith, e, r.0, t.0); most = omega (arith, e, r.1, t.1) }
-
 pub costs_nothing : (a b : QueuesState) → b.region.work ≡ a.region.work → CostsAtMost 0 a b
 costs_nothing a b e = record { least = omega (arith, e); most = omega (arith, e) }
 

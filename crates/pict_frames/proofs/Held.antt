@@ -5,7 +5,7 @@ use Rattle.std.specs.FinMap.{insert}
 use Rattle.pict_region.specs.RegionState.{spare, words_of, KeepsBlocks, KeepsOtherWidths}
 use Rattle.pict_queue.specs.QueuesState.{QueuesState, IsHeld}
 use Rattle.pict_queue.specs.Contents.{held_words, contents, KeepsAllContents, KeepsHeld, KeepsOtherHeld, HoldsNoMore, Releases, HoldsOneMore}
-use Rattle.pict_queue.proofs.Kept.{contents_beside, held_beside, one_more_beside, no_more_if_held}
+use Rattle.pict_queue.proofs.Kept.{contents_beside, held_beside, one_more_beside}
 use Rattle.pict_region.proofs.Counts.{blocks_same}
 use Rattle.pict_frames.specs.Writing.{OnlyWrites, OnlyWorks, IsMade}
 use Rattle.pict_frames.proofs.Written.{inserted_here, writes_words}
@@ -16,9 +16,6 @@ written_contents old new block ws held w = contents_beside old new block w.other
 
 pub written_held : (old new : QueuesState) (block : ℕ) (ws : List ℕ) → OnlyWrites old new block ws → KeepsOtherHeld old new block
 written_held old new block ws w = held_beside old new block w.others w.lists
-
-pub written_no_more : (old new : QueuesState) (block : ℕ) (ws : List ℕ) → IsHeld old block → OnlyWrites old new block ws → HoldsNoMore old new
-written_no_more old new block ws held w = no_more_if_held old new block held (one_more_beside old new block w.others w.lists)
 
 pub taken_words : (old new : QueuesState) (block width : ℕ) → new.region.live ≡ insert old.region.live block (replicate width 0) → words_of new.region block ≡ replicate width 0
 taken_words old new block width live = ap (λ o. unwrap_or o []) (inserted_here old.region new.region block (replicate width 0) live)

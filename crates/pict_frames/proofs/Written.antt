@@ -1,26 +1,11 @@
 -- Words written one after another.
-use Rattle.std.proofs.Common.{◌≡◌, ◌≢◌, ℕ, ◌<◌, List, [], length, set, Some, refl, ◌∙◌, ap, subst, arith}
-use Rattle.std.proofs.lemmas.List.{length-set}
+use Rattle.std.proofs.Common.{◌≡◌, ◌≢◌, ℕ, List, [], length, Some, ◌∙◌, ap, subst}
 use Rattle.std.specs.Option.{unwrap_or}
 use Rattle.std.specs.FinMap.{get, insert}
 use Rattle.pict_region.specs.RegionState.{RegionState, words_of, width_of, KeepsBlocks}
-use Rattle.pict_region.proofs.Calls.{some_words}
 use Rattle.pict_region.proofs.Uses.{get_inserted, get_insert_apart}
 use Rattle.pict_queue.specs.QueuesState.{QueuesState, IsHeld, KeepsQueues}
 use Rattle.pict_frames.specs.Writing.{OnlyWrites}
-
--- a state writes nothing
-pub writes_nothing : (s : QueuesState) (block : ℕ) → IsHeld s block → OnlyWrites s s block (words_of s.region block)
-writes_nothing s block h = record {
-  here = some_words (get s.region.live block) h.live;
-  others = λ o n. refl;
-  free = refl;
-  blocks = λ width. refl;
-  queues = refl;
-  spare_queues = refl;
-  lists = λ q. refl;
-  held = h;
-}
 
 pub writes_words : (old new : QueuesState) (block : ℕ) (ws : List ℕ) → OnlyWrites old new block ws → words_of new.region block ≡ ws
 writes_words old new block ws w = ap (λ o. unwrap_or o []) w.here
@@ -61,11 +46,6 @@ writes_one old new block ws live free blocks rest lists held = record {
 
 pub writes_words_of : (a b c : QueuesState) (block : ℕ) (ws : List ℕ) (f : List ℕ → List ℕ) → OnlyWrites a b block ws → OnlyWrites b c block (f (words_of b.region block)) → OnlyWrites a c block (f ws)
 writes_words_of a b c block ws f v w = writes_more a b c block ws (f ws) v (subst (λ us. OnlyWrites b c block (f us)) (writes_words a b block ws v) w)
-
-pub inside_still : (a b : QueuesState) (block i w at : ℕ) → OnlyWrites a b block (set (words_of a.region block) i w) → at < width_of a.region block → at < width_of b.region block
-inside_still a b block i w at v h =
-    let e : width_of b.region block ≡ width_of a.region block = ap length (writes_words a b block _ v) ∙ length-set (words_of a.region block) i w in
-    omega (arith, e)
 
 pub width_still : (a b : QueuesState) (block : ℕ) (ws : List ℕ) → OnlyWrites a b block ws → width_of b.region block ≡ length ws
 width_still a b block ws v = ap length (writes_words a b block ws v)

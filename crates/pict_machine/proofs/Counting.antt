@@ -5,10 +5,9 @@ use Rattle.pict_syntax.specs.declared.name.Name.{Name}
 use Rattle.pict_core.specs.Term as term
 use Rattle.pict_core.specs.Term.{Val, Pat, Pats, LabelledPats, Process, Zero, Par, New, Out, In, If}
 use Rattle.pict_core.specs.Closed.{binds, binds_all, binds_labelled}
-use Rattle.pict_core.proofs.Matched.{from_place}
 use Rattle.pict_code.specs.Instruction.{CodePat, Node}
 use Rattle.pict_code.specs.Nodes.{Place, places, nodes_from, nodes_of, input_op, leveled, leveled_all, leveled_labelled}
-use Rattle.pict_code.specs.Plain.{plain_pat, plain_pat_field, pats_of, labelled_pats_of, plain_node}
+use Rattle.pict_code.specs.Plain.{plain_pat, plain_pat_field, pats_of, labelled_pats_of}
 use Rattle.pict_code.specs.declared.pattern.CodePat as code
 use Rattle.pict_code.specs.declared.instruction.Node as machine
 use Rattle.pict_blocks.specs.Binding.{levels_of, levels_of_all, levels_of_labelled}
@@ -97,7 +96,3 @@ pub labelled_past : (patterns : List (Name × code.CodePat)) (i : ℕ) (p : Name
     → past (levels_of_labelled (labelled_pats_of (map plain_pat_field (drop i patterns))))
     ≡ max (past (levels_of (plain_pat p.1))) (past (levels_of_labelled (labelled_pats_of (map plain_pat_field (drop (i + 1) patterns)))))
 labelled_past patterns i p h is = ap (λ ps. past (levels_of_labelled ps)) (labelled_from patterns i p h is) ∙ past_append (levels_of (plain_pat p.1)) (levels_of_labelled (labelled_pats_of (map plain_pat_field (drop (i + 1) patterns))))
-
-pub nodes_past : (nodes : List machine.Node) (i : ℕ) (node : machine.Node) → i < length nodes → node ≡ get_or nodes i node
-    → levels_in (map plain_node (drop i nodes)) ≡ max (past (bound_by (plain_node node).op)) (levels_in (map plain_node (drop (i + 1) nodes)))
-nodes_past nodes i node h is = ap (λ ns. levels_in (map plain_node ns)) (from_place nodes i node h is)

@@ -17,20 +17,17 @@ use Rattle.pict_code.proofs.Framed.{frame_is_enough}
 use Rattle.pict_queue.specs.QueuesState.{QueuesState}
 use Rattle.pict_queue.specs.Contents.{contents}
 use Rattle.pict_frames.specs.Framed.{pair_at}
-use Rattle.pict_heap.specs.HeapState.{HeapState, KeepsWords}
+use Rattle.pict_heap.specs.HeapState.{HeapState}
 use Rattle.std.specs.FinMap.{FinMap, get, empty, get-empty}
 use Rattle.std.specs.Ordering.{nat_cmp}
 use Rattle.pict_region.specs.RegionState.{RegionState, IsLive}
 use Rattle.pict_heap.specs.declared.word.Word.TheVariants as word
 use Rattle.pict_blocks.specs.Blocks.{value_in, node_process, process_of, view_of_contents}
 use Rattle.pict_operands.specs.Pairs.{IsPair, ArePairs}
-use Rattle.pict_operands.specs.declared.pending.Pending.{Pending}
 use Rattle.pict_operands.proofs.Making.{keeps_all, keeps_more}
 use Rattle.pict_view.specs.View.{StandsFor}
 use Rattle.pict_view.specs.Held.{IsHeldBy}
 use Rattle.pict_turns.specs.Acting.{IsStore}
-use Rattle.pict_turns.specs.Reserving.{OnlyReserves}
-use Rattle.pict_turns.proofs.Room.{keeps_words}
 use Rattle.pict_turns.specs.Views.{lists_from, channel_lists, IsBlock, CanWait}
 use Rattle.pict_turns.specs.declared.store.Store.{Store}
 use Rattle.pict_turns.specs.declared.turn.Turn.TheVariants.{Nobody}
@@ -160,20 +157,3 @@ makes_nothing s = record { words = keeps_all s.heap; queues = λ o. o; values = 
 
 pub makes_more : (a b c : Store) → OnlyMakes a b → OnlyMakes b c → OnlyMakes a c
 makes_more a b c m n = record { words = keeps_more a.heap b.heap c.heap m.words n.words; queues = λ o. n.queues (m.queues o); values = n.values ∙ m.values; turn = n.turn ∙ m.turn }
-
-module _ (old mid : Store) (r : OnlyReserves old mid) where
-  pub makes_room : OnlyMakes old mid
-  makes_room = record {
-    words = keeps_words old.heap mid.heap r.heap;
-    queues = λ o. record {
-      queues = ap length r.queues ∙ o.queues;
-      ready = r.contents 0 ∙ o.ready;
-      others = λ queue apart. r.contents queue ∙ o.others queue apart;
-      none_held = λ block held. o.none_held block (r.no_more block held);
-    };
-    values = r.values;
-    turn = r.turn;
-  }
-
-  pub makes_word : (heap : HeapState) (pending : Pending) → KeepsWords mid.heap heap → OnlyMakes old (record mid { heap = heap; pending = pending })
-  makes_word heap pending keeps = makes_more old mid (record mid { heap = heap; pending = pending }) makes_room (record { words = keeps; queues = λ o. o; values = refl; turn = refl })

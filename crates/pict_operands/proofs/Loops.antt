@@ -1,5 +1,5 @@
 -- The loops that bind the fields of a record: one field more, and all of them.
-use Rattle.std.proofs.Common.{ℕ, zero, suc, ◌+◌, ◌<◌, ◌≤◌, ◌≡◌, List, [], ◌∷◌, ◌++◌, length, map, drop, get_or, refl, sym, ap, ◌∙◌, subst, arith, Option, Some, None, Vec, Global}
+use Rattle.std.proofs.Common.{ℕ, zero, suc, ◌+◌, ◌<◌, ◌≡◌, List, [], ◌∷◌, ◌++◌, length, map, drop, get_or, refl, sym, ap, ◌∙◌, subst, arith, Option, Some, None, Vec, Global}
 use Rattle.std.proofs.lemmas.List.{length-map}
 use Rattle.std.proofs.Math.ListN.{drop_of_length-le}
 use Rattle.std.specs.Option.{IsSome}
@@ -20,7 +20,7 @@ use Rattle.pict_heap.specs.declared.word.Word.{Word}
 use Rattle.pict_blocks.specs.Binding.{levels_of, levels_of_all, levels_of_labelled, Binds, BindsPattern}
 use Rattle.pict_operands.specs.Parts.{positional_found, labelled_found, found_from}
 use Rattle.pict_operands.proofs.SoFar.{BindsSoFar, a_part_more, all_parts, rest_fits, both_first, both_second, rises_front, rises_back, two_parts}
-use Rattle.pict_operands.proofs.Fitting.{as_many, both_found, TakesField, takes_field, no_field_left, TakesLabel, takes_label, no_label_left, pats_from, labelled_from, inside_front, inside_back}
+use Rattle.pict_operands.proofs.Fitting.{as_many, both_found, TakesField, takes_field, no_field_left, TakesLabel, takes_label, pats_from, labelled_from, inside_front, inside_back}
 
 -- what holds of all levels holds of those of the next part
 module _ (h : HeapState) (all rest ls more_levels : List ℕ) (whole left : Option (List Val)) (before now : List (ℕ × ℕ)) (s : BindsSoFar h all rest whole left before now) (next : rest ≡ ls ++ more_levels) where
@@ -114,9 +114,6 @@ module _ (h : HeapState) (v : Val) (patterns : List (Name × CodePat)) (i : ℕ)
     label_found_next : labels_found (drop i patterns) v ≡ both (match_value (unleveled (plain_pat p.1)) label_taken.field) (labels_found (drop (i + 1) patterns) v)
     label_found_next = ap (λ ps. labelled_found (unleveled_labelled ps) v) (labelled_from patterns i p low is) ∙ label_taken.found
 
-    pub label_there : None ≡ labelled_field v p.0.0 → ⊥
-    label_there none = let e : None ≡ Some label_taken.field = none ∙ label_taken.is in cc
-
     pub label_inside : (n : ℕ) → AllByRecursion (λ level. level < n) (label_levels patterns) → AllByRecursion (λ level. level < n) (levels_of (plain_pat p.1))
     label_inside = next_inside h _ _ _ _ _ _ before now s label_levels_next
 
@@ -134,12 +131,6 @@ module _ (h : HeapState) (v : Val) (patterns : List (Name × CodePat)) (i : ℕ)
           → BindsSoFar h (label_levels patterns) (label_levels (drop (i + 1) patterns)) (labels_found patterns v) (labels_found (drop (i + 1) patterns) v) before next
       label_bound next rises b =
           a_part_more h _ _ _ _ _ _ _ _ before now next rises s label_levels_next label_found_next (subst (λ x. Binds h (levels_of (plain_pat p.1)) (match_value (unleveled (plain_pat p.1)) x) now next) (sym same_label) b)
-
-  pub labels_bound : length patterns ≤ i → Binds h (label_levels patterns) (labels_found patterns v) before now
-  labels_bound end =
-      let none : drop i patterns ≡ [] = drop_of_length-le patterns end in
-      all_parts h _ _ _ _ before now s (ap label_levels none)
-      (ap (λ ps. labels_found ps v) none ∙ no_label_left v (subst (λ ps. IsSome (labels_found ps v)) none labels_left))
 
 -- as many patterns as fields
 pub counted : (v : Val) (patterns : List CodePat) (n : ℕ) → Some n ≡ positional_count v → IsSome (positional_found (unleveled_all (pats_of (map plain_pat patterns))) v) → n ≡ length patterns

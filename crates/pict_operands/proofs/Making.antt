@@ -91,12 +91,6 @@ level_made h values level w pairs back =
 pub pile_kept : (pending : Pending) → KeepsPending pending pending
 pile_kept pending = record { words = refl; words_room = refl; labelled = refl; labelled_room = refl }
 
-pub nothing_piled : (h : HeapState) (pending : Pending) → PilesWords h pending pending []
-nothing_piled h pending = record { made = []; words = sym (append-nil pending.words.items); are = tt; stand = refl; words_room = refl; labelled = refl; labelled_room = refl }
-
-pub no_label_piled : (h : HeapState) (pending : Pending) → PilesLabelled h pending pending []
-no_label_piled h pending = record { made = []; labelled = sym (append-nil pending.labelled.items); are = tt; stand = refl; labelled_room = refl; words = refl; words_room = refl }
-
 -- ---- one word more on a pile
 
 module _ (h0 h1 : HeapState) (start mid next last : Pending) (w : Word) (v : Val) (m : IsMade h0 h1 w v) (k : KeepsPending mid next) where

@@ -1,5 +1,5 @@
 -- A record of the words that lie on both piles.
-use Rattle.std.proofs.Common.{ℕ, suc, ◌+◌, ◌-◌, ◌<◌, ◌≤◌, ◌≡◌, ◌^◌, eqb, false, List, [], ◌∷◌, ◌++◌, length, map, take, drop, get_or, refl, sym, ap, ◌∙◌, subst, arith, rules, ℤ, Bool, Vec, Global}
+use Rattle.std.proofs.Common.{ℕ, suc, ◌+◌, ◌-◌, ◌<◌, ◌≤◌, ◌≡◌, ◌^◌, eqb, false, List, [], ◌∷◌, ◌++◌, length, map, take, drop, get_or, refl, sym, ap, ◌∙◌, subst, arith, rules, Vec, Global}
 use Rattle.std.proofs.Math.Seq.{take-append_seam, drop-append_seam}
 use Rattle.std.proofs.lemmas.Bool.{ne_eqb}
 use Rattle.std.proofs.lemmas.List.{length-append, length-map, length-take, length-drop}
@@ -11,8 +11,7 @@ use Rattle.pict_core.specs.declared.value.CoreVal.{CoreVal, the_lemmas}
 use Rattle.pict_core.specs.declared.value.CoreVal.TheVariants as value
 use Rattle.pict_core.specs.Term as term
 use Rattle.pict_core.proofs.Fields.{plain_val-Fields}
-use Rattle.pict_syntax.specs.declared.primitive.Primitive.{Primitive}
-use Rattle.pict_core.specs.Term.{Val, Vals, Labelled, Record}
+use Rattle.pict_core.specs.Term.{Val, Record}
 use Rattle.pict_core.specs.Closed as closed
 use Rattle.pict_core.specs.Plain.{plain_val, plain_field, vals_of, labelled_of}
 use Rattle.pict_core.specs.Substitution.{replace_values}
@@ -196,29 +195,8 @@ need_of_record positional labelled =
 pub plain_var : (level : ℕ) → plain_val (value.Var level) ≡ term.Var level
 plain_var level = search (rules, the_lemmas)
 
-pub plain_chan : (c : ℕ) → plain_val (value.Chan c) ≡ term.Chan c
-plain_chan c = search (rules, the_lemmas)
-
-pub plain_int : (n : ℤ) → plain_val (value.Int n) ≡ term.Int n
-plain_int n = search (rules, the_lemmas)
-
-pub plain_char : (n : ℕ) → plain_val (value.Char n) ≡ term.Char n
-plain_char n = search (rules, the_lemmas)
-
-pub plain_bool : (b : Bool) → plain_val (value.Bool b) ≡ term.Boolean b
-plain_bool b = search (rules, the_lemmas)
-
 pub plain_text : (bytes : List ℕ) → plain_val (value.Text bytes) ≡ term.Text bytes
 plain_text bytes = search (rules, the_lemmas)
-
-pub plain_prim : (p : Primitive) → plain_val (value.Prim p) ≡ term.PrimitiveVal p
-plain_prim p = search (rules, the_lemmas)
-
--- room for a text
-pub text_room : (h : HeapState) (pending : Pending) (v : Val) (bytes : List ℕ) → v ≡ term.Text bytes → HasRoomFor h pending (need_of v) → (1 ≤ h.room.texts) × (length bytes ≤ h.room.bytes)
-text_room h pending v bytes is room =
-    let there : HasRoomFor h pending (need_of (term.Text bytes)) = subst (λ x. HasRoomFor h pending (need_of x)) is room in
-    (there.heap.texts, there.heap.bytes)
 
 -- ---- one operand more on a pile
 

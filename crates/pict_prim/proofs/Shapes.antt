@@ -274,11 +274,3 @@ module _ (p : Primitive) (h : HeapState) (ls : Labelled) where
   -- the same, where the words were read
   pub two_read : (ws : List Word) (v k : Word) → length ws ≡ 2 → v ≡ get_or ws 0 v → k ≡ get_or ws 1 k → effect_of p (Record (vals_of (map (value_of h) ws)) ls) ≡ one_effect p (value_of h v) (value_of h k)
   two_read ws v k n e f = two_words ws v k n ∙ sym (ap (λ w. one_effect p (value_of h w) (value_of h k)) e ∙ ap (λ w. one_effect p (value_of h (get_or ws 0 v)) (value_of h w)) f)
-
-  pub three_read : (ws : List Word) (v w k : Word) → length ws ≡ 3 → v ≡ get_or ws 0 v → w ≡ get_or ws 1 w → k ≡ get_or ws 2 k
-      → effect_of p (Record (vals_of (map (value_of h) ws)) ls) ≡ three_effect p (value_of h v) (value_of h w) (value_of h k)
-  three_read ws v w k n e f g =
-      three_words ws v w k n
-      ∙ sym (ap (λ x. three_effect p (value_of h x) (value_of h w) (value_of h k)) e
-      ∙ ap (λ x. three_effect p (value_of h (get_or ws 0 v)) (value_of h x) (value_of h k)) f
-      ∙ ap (λ x. three_effect p (value_of h (get_or ws 0 v)) (value_of h (get_or ws 1 w)) (value_of h x)) g)

@@ -11,7 +11,7 @@ use Rattle.std.proofs.lemmas.Bool.{cases_lt, cases_eq, eq-eqb, ne_eqb, false_fro
 use Rattle.std.proofs.lemmas.Option.{none-some}
 use Rattle.pict_region.specs.Chain.{chain}
 use Rattle.pict_region.specs.RegionState.{RegionState, IsLive, words_of, width_of, spare}
-use Rattle.pict_region.specs.Layout.{store_of, cut, blocks_of, block_at, list_at, next_of, free_numbers, live_of, made_words, state_of, IsSound, IsKept}
+use Rattle.pict_region.specs.Layout.{store_of, cut, blocks_of, block_at, list_at, next_of, free_numbers, live_of, made_words, state_of, IsSound, IsLaidOut}
 use Rattle.pict_region.specs.declared.region.FreeList.{FreeList}
 use Rattle.pict_region.specs.declared.region.Region.TheInside.{Inside}
 use Rattle.pict_region.proofs.Chains.{StandsIn, IsAbsent, chain-length}
@@ -23,7 +23,7 @@ pub some_words : (found : Option (List ℕ)) → IsSome found → found ≡ Some
 some_words None h = cc
 some_words (Some ws) h = refl
 
-pub held_block : (a : Inside) (r : RegionState) (number : ℕ) → state_of a ≡ r → IsKept a.words.items a.made a.free.items → IsLive r number
+pub held_block : (a : Inside) (r : RegionState) (number : ℕ) → state_of a ≡ r → IsLaidOut a.words.items a.made a.free.items → IsLive r number
     → IsHeld (made_words a) a.free.items number (words_of r number)
 held_block a r number is kept live =
     held_if_live (made_words a) a.free.items number (words_of r number) kept.sound (ap (λ s. get s.live number) is ∙ some_words (get r.live number) live)
@@ -33,8 +33,8 @@ pub made_below : (a : Inside) (n : ℕ) → n ≤ length (made_words a) → n �
 made_below a n below = omega (arith, length-take a.made a.words.items, below)
 
 -- as many words as before, of which the first are sound
-pub kept_as : (words words' : List ℕ) (made : ℕ) (lists lists' : List FreeList) → IsKept words made lists → length words' ≡ length words
-    → IsSound (take made words') lists' → IsKept words' made lists'
+pub kept_as : (words words' : List ℕ) (made : ℕ) (lists lists' : List FreeList) → IsLaidOut words made lists → length words' ≡ length words
+    → IsSound (take made words') lists' → IsLaidOut words' made lists'
 kept_as words words' made lists lists' kept same sound = record {
   sound = sound;
   inside = omega (arith, kept.inside, same);
@@ -46,7 +46,7 @@ pub record ReadsWord (store : List ℕ) (place word : ℕ) : Type 0 where
   pub inside : place < length store
   pub word_is : get_or store place 0 ≡ word
 
-pub word_read : (a : Inside) (r : RegionState) (number token i : ℕ) → state_of a ≡ r → IsKept a.words.items a.made a.free.items → token ≡ number
+pub word_read : (a : Inside) (r : RegionState) (number token i : ℕ) → state_of a ≡ r → IsLaidOut a.words.items a.made a.free.items → token ≡ number
     → IsLive r number → i < width_of r number → ReadsWord a.words.items (token + 1 + i) (get_or (words_of r number) i 0)
 word_read a r number token i is kept same live inside =
     let read = block_read (made_words a) number (words_of r number) kept.sound.tiled (held_block a r number is kept live).at in
@@ -79,11 +79,11 @@ word_written store number i word block tiled at inside =
     ∙ set_inside (store_of p.before) block (store_of p.after) (length block) i word inside)
 
 pub record SetsWord (a : Inside) (words' : List ℕ) (r : RegionState) (number : ℕ) (block : List ℕ) : Type 0 where
-  pub kept : IsKept words' a.made a.free.items
+  pub kept : IsLaidOut words' a.made a.free.items
   pub live : live_of (take a.made words') a.free.items ≡ insert r.live number block
 
 -- what the words that belong to blocks become, all of them do
-sets_word : (a : Inside) (words' store' : List ℕ) (r : RegionState) (number : ℕ) (block : List ℕ) → IsKept a.words.items a.made a.free.items
+sets_word : (a : Inside) (words' store' : List ℕ) (r : RegionState) (number : ℕ) (block : List ℕ) → IsLaidOut a.words.items a.made a.free.items
     → length words' ≡ length a.words.items → take a.made words' ≡ store' → IsSound store' a.free.items → live_of store' a.free.items ≡ insert r.live number block
     → SetsWord a words' r number block
 sets_word a words' store' r number block kept same is sound live = record {
@@ -91,7 +91,7 @@ sets_word a words' store' r number block kept same is sound live = record {
   live = ap (λ s. live_of s a.free.items) is ∙ live;
 }
 
-pub word_set : (a : Inside) (r : RegionState) (number token i word : ℕ) → state_of a ≡ r → IsKept a.words.items a.made a.free.items → token ≡ number
+pub word_set : (a : Inside) (r : RegionState) (number token i word : ℕ) → state_of a ≡ r → IsLaidOut a.words.items a.made a.free.items → token ≡ number
     → IsLive r number → i < width_of r number
     → SetsWord a (set a.words.items (token + 1 + i) word) r number (set (words_of r number) i word)
 word_set a r number token i word is kept same live inside =
@@ -131,7 +131,7 @@ pair_written store number i first second block tiled at inside =
     ∙ ap (λ n. set half n second) next
     ∙ set_inside (store_of p.before) (set block i first) (store_of p.after) (length block) (i + 1) second (omega (arith, inside, length-set block i first)))
 
-pub pair_set : (a : Inside) (r : RegionState) (number token i first second : ℕ) → state_of a ≡ r → IsKept a.words.items a.made a.free.items → token ≡ number
+pub pair_set : (a : Inside) (r : RegionState) (number token i first second : ℕ) → state_of a ≡ r → IsLaidOut a.words.items a.made a.free.items → token ≡ number
     → IsLive r number → i + 1 < width_of r number
     → SetsWord a (set (set a.words.items (token + 1 + i) first) (token + 1 + i + 1) second) r number (set (set (words_of r number) i first) (i + 1) second)
 pair_set a r number token i first second is kept same live inside =
@@ -196,7 +196,7 @@ pub record ReadsWidth (store : List ℕ) (lists : List FreeList) (token width : 
   pub positive : 0 < width
   pub listed : width < length lists
 
-pub width_read : (a : Inside) (r : RegionState) (number token : ℕ) → state_of a ≡ r → IsKept a.words.items a.made a.free.items → token ≡ number
+pub width_read : (a : Inside) (r : RegionState) (number token : ℕ) → state_of a ≡ r → IsLaidOut a.words.items a.made a.free.items → token ≡ number
     → IsLive r number → ReadsWidth a.words.items a.free.items token (width_of r number)
 width_read a r number token is kept same live =
     let at = (held_block a r number is kept live).at in
@@ -215,10 +215,10 @@ width_read a r number token is kept same live =
 
 -- a live block is given back
 pub record GivesBlock (words' : List ℕ) (made : ℕ) (lists' : List FreeList) (r : RegionState) (number : ℕ) : Type 0 where
-  pub kept : IsKept words' made lists'
+  pub kept : IsLaidOut words' made lists'
   pub live : live_of (take made words') lists' ≡ remove r.live number
 
-pub given : (a : Inside) (r : RegionState) (number token width : ℕ) (list : FreeList) → state_of a ≡ r → IsKept a.words.items a.made a.free.items
+pub given : (a : Inside) (r : RegionState) (number token width : ℕ) (list : FreeList) → state_of a ≡ r → IsLaidOut a.words.items a.made a.free.items
     → token ≡ number → IsLive r number → width ≡ width_of r number → list ≡ list_at a.free.items width
     → GivesBlock (set a.words.items (token + 1) list.first) a.made (set a.free.items width (record { first = token; count = list.count + 1 })) r number
 given a r number token width list is kept same live wide listed =
@@ -279,7 +279,7 @@ pub record ReadsFirst (words : List ℕ) (made : ℕ) (lists : List FreeList) (f
   pub positive : 0 < width
   pub listed : width < length lists
 
-pub first_read : (a : Inside) (r : RegionState) (width : ℕ) → state_of a ≡ r → IsKept a.words.items a.made a.free.items → 1 ≤ spare r width
+pub first_read : (a : Inside) (r : RegionState) (width : ℕ) → state_of a ≡ r → IsLaidOut a.words.items a.made a.free.items → 1 ≤ spare r width
     → ReadsFirst a.words.items a.made a.free.items (list_at a.free.items width).first width
 first_read a r width is kept some =
     let count = spare_at a r width is in
@@ -305,11 +305,11 @@ reads_first a width list first read =
     subst (λ l. ReadsFirst a.words.items a.made a.free.items l.first width) (sym (read_list a width list first read)) first
 
 pub record TakesFirst (words' : List ℕ) (made : ℕ) (lists' : List FreeList) (r : RegionState) (number width : ℕ) : Type 0 where
-  pub kept : IsKept words' made lists'
+  pub kept : IsLaidOut words' made lists'
   pub fresh : get r.live number ≡ None
   pub live : live_of (take made words') lists' ≡ insert r.live number (replicate width 0)
 
-pub taken : (a : Inside) (r : RegionState) (width next : ℕ) (list : FreeList) (words' : List ℕ) → state_of a ≡ r → IsKept a.words.items a.made a.free.items
+pub taken : (a : Inside) (r : RegionState) (width next : ℕ) (list : FreeList) (words' : List ℕ) → state_of a ≡ r → IsLaidOut a.words.items a.made a.free.items
     → 1 ≤ spare r width → list ≡ list_at a.free.items width → next ≡ get_or a.words.items (list.first + 1) 0
     → words' ≡ take (list.first + 1) a.words.items ++ (replicate width 0 ++ drop (list.first + 1 + width) a.words.items)
     → TakesFirst words' a.made (set a.free.items width (record { first = next; count = list.count - 1 })) r list.first width
@@ -364,7 +364,7 @@ sound_empty = record {
   small = omega arith;
 }
 
-pub kept_empty : IsKept [] 0 []
+pub kept_empty : IsLaidOut [] 0 []
 kept_empty = record { sound = sound_empty; inside = omega arith; small = omega arith }
 
 pub live_empty : live_of [] [] ≡ empty
@@ -389,11 +389,11 @@ list_at-grown lists more width = ⊎_elim
         (cases_lt width more)
 
 pub record GrowsLists (a : Inside) (lists' : List FreeList) (r : RegionState) : Type 0 where
-  pub kept : IsKept a.words.items a.made lists'
+  pub kept : IsLaidOut a.words.items a.made lists'
   pub live : live_of (made_words a) lists' ≡ r.live
   pub spare_is : (width : ℕ) → get_or (map (λ l. l.count) lists') width 0 ≡ spare r width
 
-pub grown : (a : Inside) (r : RegionState) (lists' : List FreeList) (wanted : ℕ) → state_of a ≡ r → IsKept a.words.items a.made a.free.items
+pub grown : (a : Inside) (r : RegionState) (lists' : List FreeList) (wanted : ℕ) → state_of a ≡ r → IsLaidOut a.words.items a.made a.free.items
     → length a.free.items ≤ wanted
     → lists' ≡ take wanted a.free.items ++ replicate (wanted - length a.free.items) (record { first = 0; count = 0 })
     → GrowsLists a lists' r
@@ -427,7 +427,7 @@ grown a r lists' wanted is kept longer lists_are =
 
 -- the same region, with a new block of this width
 pub record GrowsBy (words' : List ℕ) (made' : ℕ) (lists' : List FreeList) (r : RegionState) (width : ℕ) : Type 0 where
-  pub kept : IsKept words' made' lists'
+  pub kept : IsLaidOut words' made' lists'
   pub live : live_of (take made' words') lists' ≡ r.live
   pub more : get_or (map (λ l. l.count) lists') width 0 ≡ spare r width + 1
   pub others : (other : ℕ) → other ≢ width → get_or (map (λ l. l.count) lists') other 0 ≡ spare r other
@@ -435,12 +435,12 @@ pub record GrowsBy (words' : List ℕ) (made' : ℕ) (lists' : List FreeList) (r
 
 -- a region whose store has room for a block of this width, and else is as before
 pub record HasRoom (a b : Inside) (width : ℕ) : Type 0 where
-  pub kept : IsKept b.words.items a.made a.free.items
+  pub kept : IsLaidOut b.words.items a.made a.free.items
   pub same : take a.made b.words.items ≡ made_words a
   pub free : b.free.items ≡ a.free.items
   pub room : a.made + 1 + width ≤ length b.words.items
 
-pub lengthened : (a b : Inside) (width : ℕ) → IsKept a.words.items a.made a.free.items → take (length a.words.items) b.words.items ≡ a.words.items
+pub lengthened : (a b : Inside) (width : ℕ) → IsLaidOut a.words.items a.made a.free.items → take (length a.words.items) b.words.items ≡ a.words.items
     → length b.words.items ≤ 2 ^ 32 → b.free.items ≡ a.free.items → a.made + 1 + width ≤ length b.words.items → HasRoom a b width
 lengthened a b width kept starts small free room =
     let same : take a.made b.words.items ≡ made_words a = sym (take-take a.made (length a.words.items) b.words.items kept.inside) ∙ ap (take a.made) starts in
@@ -457,7 +457,7 @@ lengthened a b width kept starts small free room =
 
 -- a new block behind the others
 record AddsBlock (words' : List ℕ) (made' : ℕ) (lists' : List FreeList) (r : RegionState) : Type 0 where
-  kept : IsKept words' made' lists'
+  kept : IsLaidOut words' made' lists'
   live : live_of (take made' words') lists' ≡ r.live
 
 -- the words of the blocks with a new one, whose first word is given and whose others are any
@@ -480,11 +480,11 @@ new_block words place width first fits =
     ∙ set-append_right store (width ∷ rest) place (place + 1) first len (omega arith)
     ∙ ap (λ n. store ++ set (width ∷ rest) n first) (let n : place + 1 - place ≡ suc 0 = omega arith in n)
 
-pub has_room : (a : Inside) (width : ℕ) → IsKept a.words.items a.made a.free.items → a.made + 1 + width ≤ length a.words.items → HasRoom a a width
+pub has_room : (a : Inside) (width : ℕ) → IsLaidOut a.words.items a.made a.free.items → a.made + 1 + width ≤ length a.words.items → HasRoom a a width
 has_room a width kept room = record { kept = kept; same = refl; free = refl; room = room }
 
-added : (a : Inside) (r : RegionState) (words' : List ℕ) (width : ℕ) (list : FreeList) → state_of a ≡ r → IsKept a.words.items a.made a.free.items
-    → IsKept words' a.made a.free.items → take a.made words' ≡ made_words a
+added : (a : Inside) (r : RegionState) (words' : List ℕ) (width : ℕ) (list : FreeList) → state_of a ≡ r → IsLaidOut a.words.items a.made a.free.items
+    → IsLaidOut words' a.made a.free.items → take a.made words' ≡ made_words a
     → 0 < width → width < length a.free.items → a.made + 1 + width ≤ length words' → list ≡ list_at a.free.items width
     → AddsBlock (set (set words' a.made width) (a.made + 1) list.first) (a.made + 1 + width)
     (set a.free.items width (record { first = a.made; count = list.count + 1 })) r
@@ -535,7 +535,7 @@ added a r words' width list is kept' kept same positive listed fits list_is =
 pub lists_length : (a : Inside) (r : RegionState) → state_of a ≡ r → length r.free ≡ length a.free.items
 lists_length a r is = ap (λ s. length s.free) (sym is) ∙ length-map a.free.items (λ l. l.count)
 
-pub grown_by : (a b : Inside) (r : RegionState) (width : ℕ) (words' : List ℕ) (lists' : List FreeList) → state_of a ≡ r → IsKept a.words.items a.made a.free.items
+pub grown_by : (a b : Inside) (r : RegionState) (width : ℕ) (words' : List ℕ) (lists' : List FreeList) → state_of a ≡ r → IsLaidOut a.words.items a.made a.free.items
     → HasRoom a b width → 0 < width → width < length r.free
     → words' ≡ set (set b.words.items a.made width) (a.made + 1) (list_at b.free.items width).first
     → lists' ≡ set b.free.items width (record { first = a.made; count = (list_at b.free.items width).count + 1 })

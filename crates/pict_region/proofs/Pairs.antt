@@ -6,7 +6,7 @@ use Rattle.std.proofs.lemmas.Bool.{eq-eqb}
 use Rattle.std.proofs.lemmas.List.{length-drop, length-take, get_or-set_same, get_or-set_other, drop-append-le, take-append-le, drop_all, append-nil, get_or-take}
 use Rattle.std.proofs.Math.Seq.{take-suc, drop-append-add, take-append-add}
 use Rattle.pict_region.specs.RegionState.{RegionState, IsLive, words_of, width_of, spare}
-use Rattle.pict_region.specs.Layout.{store_of, blocks_of, block_at, list_at, next_of, live_of, made_words, state_of, IsSound, IsKept}
+use Rattle.pict_region.specs.Layout.{store_of, blocks_of, block_at, list_at, next_of, live_of, made_words, state_of, IsSound, IsLaidOut}
 use Rattle.pict_region.specs.declared.region.FreeList.{FreeList}
 use Rattle.pict_region.specs.Values.{frame_words, pair_at, AreRising, overlaid}
 use Rattle.pict_region.specs.declared.region.Region.TheInside.{Inside}
@@ -174,7 +174,7 @@ words_between store number first many block tiled at inside =
     ∙ ap (take many) (drop-append-le first block back (omega (arith, inside)))
     ∙ take-append-le many (drop first block) back (omega (arith, inside, length-drop first block))
 
-pub values_between : (a : Inside) (r : RegionState) (number token first many : ℕ) → state_of a ≡ r → IsKept a.words.items a.made a.free.items → token ≡ number
+pub values_between : (a : Inside) (r : RegionState) (number token first many : ℕ) → state_of a ≡ r → IsLaidOut a.words.items a.made a.free.items → token ≡ number
     → IsLive r number → first + many ≤ width_of r number → take many (drop (token + 1 + first) a.words.items) ≡ take many (drop first (words_of r number))
 values_between a r number token first many is kept same live inside =
     let at = (held_block a r number is kept live).at in
@@ -185,7 +185,7 @@ values_between a r number token first many is kept same live inside =
     ∙ words_between (made_words a) number first many (words_of r number) kept.sound.tiled at inside
 
 -- the words lie in the store
-pub range_inside : (a : Inside) (r : RegionState) (number token : ℕ) → state_of a ≡ r → IsKept a.words.items a.made a.free.items → token ≡ number
+pub range_inside : (a : Inside) (r : RegionState) (number token : ℕ) → state_of a ≡ r → IsLaidOut a.words.items a.made a.free.items → token ≡ number
     → IsLive r number → token + width_of r number < length a.words.items
 range_inside a r number token is kept same live =
     let read = block_read (made_words a) number (words_of r number) kept.sound.tiled (held_block a r number is kept live).at in
@@ -240,12 +240,12 @@ overlaid_rest us (w ∷ ws) h = ap (λ vs. w ∷ (us ++ vs)) (drop_all (1 + leng
 
 -- the first free block of a width is taken, and its words behind the first are written
 pub record TakesWords (words' : List ℕ) (made : ℕ) (lists' : List FreeList) (r : RegionState) (number : ℕ) (words : List ℕ) : Type 0 where
-  pub kept : IsKept words' made lists'
+  pub kept : IsLaidOut words' made lists'
   pub fresh : get r.live number ≡ None
   pub first : ℕ
   pub live : live_of (take made words') lists' ≡ insert r.live number (first ∷ words)
 
-pub taken_with : (a : Inside) (r : RegionState) (width next : ℕ) (list : FreeList) (us : List ℕ) → state_of a ≡ r → IsKept a.words.items a.made a.free.items
+pub taken_with : (a : Inside) (r : RegionState) (width next : ℕ) (list : FreeList) (us : List ℕ) → state_of a ≡ r → IsLaidOut a.words.items a.made a.free.items
     → 1 ≤ spare r width → width ≡ 1 + length us → list ≡ list_at a.free.items width → next ≡ get_or a.words.items (list.first + 1) 0
     → TakesWords (overlaid (list.first + 1 + 1) us a.words.items) a.made (set a.free.items width (record { first = next; count = list.count - 1 })) r list.first us
 unfolding next_of

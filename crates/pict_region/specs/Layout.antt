@@ -82,7 +82,7 @@ pub record IsSound (store : List ℕ) (lists : List FreeList) : Type 0 where
   pub small : length store ≤ 2 ^ 32
 
 -- The first `made` words, of at most 2^32, are a store that is sound.
-pub record IsKept (words : List ℕ) (made : ℕ) (lists : List FreeList) : Type 0 where
+pub record IsLaidOut (words : List ℕ) (made : ℕ) (lists : List FreeList) : Type 0 where
   pub sound : IsSound (take made words) lists
   pub inside : made ≤ length words
   pub small : length words ≤ 2 ^ 32

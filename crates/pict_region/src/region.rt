@@ -44,11 +44,11 @@ impl Model for Region {
 
     ghost coded = { region_code };
 
-    ghost use Rattle.pict_region.specs.Layout.{state_of, IsKept};
+    ghost use Rattle.pict_region.specs.Layout.{state_of, IsLaidOut};
 
     ghost view = { state_of };
 
-    ghost invariant = { λ r. IsKept r.words.items r.made r.free.items };
+    ghost invariant = { λ r. IsLaidOut r.words.items r.made r.free.items };
 }
 
 impl Region {

@@ -110,14 +110,6 @@ module _ (old new : HeapState) (k : KeepsHeap old new) where
 pub piles_kept : (p : Pending) → KeepsPiles p p
 piles_kept p = record { words = refl; words_room = omega arith; labelled = refl; labelled_room = omega arith }
 
-pub piles_more : (a b c : Pending) → KeepsPiles a b → KeepsPiles b c → KeepsPiles a c
-piles_more a b c v w = record {
-  words = w.words ∙ v.words;
-  words_room = let e = v.words_room in let f = w.words_room in omega (arith, e, f);
-  labelled = w.labelled ∙ v.labelled;
-  labelled_room = let e = v.labelled_room in let f = w.labelled_room in omega (arith, e, f);
-}
-
 pub reserves_nothing : (s : Store) → OnlyReserves s s
 reserves_nothing s = record {
   heap = record { texts = refl; records = refl };
@@ -133,31 +125,6 @@ reserves_nothing s = record {
   no_more = λ block held. held;
   values = refl;
   turn = refl;
-}
-
-pub reserves_more : (a b c : Store) → OnlyReserves a b → OnlyReserves b c → OnlyReserves a c
-reserves_more a b c v w = record {
-  heap = record { texts = w.heap.texts ∙ v.heap.texts; records = w.heap.records ∙ v.heap.records };
-  room = record {
-    records_left = let e = v.room.records_left in let f = w.room.records_left in omega (arith, e, f);
-    fields_left = let e = v.room.fields_left in let f = w.room.fields_left in omega (arith, e, f);
-    texts_left = let e = v.room.texts_left in let f = w.room.texts_left in omega (arith, e, f);
-    bytes_left = let e = v.room.bytes_left in let f = w.room.bytes_left in omega (arith, e, f);
-  };
-  pending = piles_more a.pending b.pending c.pending v.pending w.pending;
-  live = w.live ∙ v.live;
-  work = w.work ∙ v.work;
-  spare = λ width. let e = v.spare width in let f = w.spare width in omega (arith, e, f);
-  queues = w.queues ∙ v.queues;
-  spare_queues = let e = v.spare_queues in let f = w.spare_queues in omega (arith, e, f);
-  contents = λ queue. w.contents queue ∙ v.contents queue;
-  held = λ block held.
-      let x = v.held block held in
-      let y = w.held block x.held in
-      record { held = y.held; words = y.words ∙ x.words };
-  no_more = λ block held. v.no_more block (w.no_more block held);
-  values = w.values ∙ v.values;
-  turn = w.turn ∙ v.turn;
 }
 
 module _ (core : Process) (old new : Store) (r : OnlyReserves old new) where

@@ -7,10 +7,10 @@ use Rattle.pict_syntax.specs.declared.primitive.Primitive.{Primitive}
 use Rattle.pict_core.specs.Term.{Val, Pat, Process, Chan, Boolean, PrimitiveVal, Zero, Par, New, Out, In, If}
 use Rattle.pict_core.specs.Substitution.{substitute}
 use Rattle.pict_core.specs.Matching.{match_value}
-use Rattle.pict_core.specs.Primitives.{Effect, Nothing, Answer, Trap, effect_of}
+use Rattle.pict_core.specs.Primitives.{Effect, Nothing, Answer, effect_of}
 use Rattle.pict_core.specs.Step.{Quiet, Comm, printing}
 use Rattle.pict_view.specs.View.{View}
-use Rattle.pict_view.specs.Moved.{Moves, Stops, if_replicated}
+use Rattle.pict_view.specs.Moved.{Moves, if_replicated}
 use Rattle.pict_view.specs.ViewStep as view
 use Rattle.pict_view.specs.ViewStep.{next_view}
 
@@ -92,9 +92,6 @@ module _ (B : Type 0) (f : B → Process) where
       primitive_answers k a answer e h =
           performs ∙ ap (view.leave (map f rest) (map (map f) channels) at (printing effect.printed)) e
           ∙ ap (λ x. view.moves (x ∷ map f rest) (map (map f) channels) (printing effect.printed)) (sym h)
-
-      pub primitive_traps : effect.leaves ≡ Trap → next_view (view_of (acting ∷ rest) channels) ≡ Stops at
-      primitive_traps e = performs ∙ ap (view.leave (map f rest) (map (map f) channels) at (printing effect.printed)) e
 
     -- ---- at a channel with this list
 

@@ -4,11 +4,11 @@ use Rattle.pict_syntax.specs.declared.span.Span.{Span}
 use Rattle.pict_core.specs.Configuration.{Configuration, IsConfiguration}
 use Rattle.pict_core.specs.Step.{Label, StepOutcome, Steps, Traps, Wrong, Finished, next}
 use Rattle.pict_core.specs.Run as run
-use Rattle.pict_core.specs.Run.{Reaches, RunsFrom, shown}
+use Rattle.pict_core.specs.Run.{Reaches, shown}
 use Rattle.pict_view.specs.View.{View, StandsFor}
 use Rattle.pict_view.specs.Stepping.{Follows, IsStepOf}
 use Rattle.pict_view.specs.Right.{StepsRight, IsRightFor}
-use Rattle.pict_view.specs.Watching.{WhereTold, view_after, Saw, SawOrTore, Ran, RanFor, BrokeOff}
+use Rattle.pict_view.specs.Watching.{WhereTold, view_after, Saw, SawOrTore, RanFor, BrokeOff}
 
 -- after n steps from C the view stands for the configuration, and the labels are as was seen
 pub record Stood (n : ℕ) (C : Configuration) (v : View) (Seen : List (ℕ × Label) → Type 0) : Type 0 where
@@ -139,6 +139,3 @@ module _ (n fuel : ℕ) (C : Configuration) (v v' : View) (label : Label) (trap 
   -- the showing of the step's label was refused
   pub refused : BrokeOff C fuel (StandsFor v') (SawOrTore f T before after)
   refused = let x = torn_stood in record { steps = n + 1; few = omega arith; last = x.last; labels = x.labels; reached = x.reached; stands = x.stands; seen = x.seen }
-
-  pub refused_lost : BrokeOff C fuel (λ D. IsConfiguration D) (SawOrTore f T before after)
-  refused_lost = let x = torn_stood in record { steps = n + 1; few = omega arith; last = x.last; labels = x.labels; reached = x.reached; stands = x.is; seen = x.seen }

@@ -9,7 +9,7 @@ use Rattle.pict_core.specs.Primitives.{effect_of}
 use Rattle.pict_core.specs.Closed.{IsUnder}
 use Rattle.pict_core.specs.Configuration.{Entry, Configuration, IsConfiguration}
 use Rattle.pict_core.specs.Step as step
-use Rattle.pict_core.specs.Step.{Choice, StepOutcome, Steps, Traps, Wrong, Finished, least, entry_at, next, step_by, act_entry, is_ready, is_partner}
+use Rattle.pict_core.specs.Step.{StepOutcome, Steps, Traps, Wrong, Finished, least, next, is_ready, is_partner}
 use Rattle.pict_core.proofs.Stamps.{without, EntryClosed, least_closed}
 use Rattle.pict_core.proofs.Nexts.{next_acts, next_finished}
 use Rattle.pict_core.proofs.Kept.{free_steps_keep, oldest_first_is_free}
@@ -19,7 +19,6 @@ use Rattle.pict_view.specs.Held.{Held, next_held, view_of_held}
 use Rattle.pict_view.specs.Moved as moved
 use Rattle.pict_view.specs.Moved.{Moved}
 use Rattle.pict_view.specs.Stepping.{Follows}
-use Rattle.pict_view.specs.Right.{IsRightFor}
 use Rattle.pict_view.proofs.Entries.{least_of, least_none, processes-least}
 use Rattle.pict_view.proofs.Holds.{Holds, holds_of, stands_of}
 use Rattle.pict_view.proofs.Steps.{Turn, StepsTo, Simulates, step_zero, step_par, step_if, step_new, step_primitive}
@@ -93,15 +92,8 @@ follows_of C label h Finished is e s = absurd s
 pub moves : (C : Configuration) (old new : Held) (label : step.Label) → IsConfiguration C → StandsFor (view_of_held old) C → next_held old ≡ moved.Moves new label → Follows C label (view_of_held new)
 moves C old new label is s e = follows_of C label new (next C) is refl (subst (λ m. Simulates m (next C)) e (simulates old C is (holds_of old C s)))
 
-pub trapped_of : (old : Held) (at : Span) → next_held old ≡ moved.Stops at → (C : Configuration) → IsConfiguration C → StandsFor (view_of_held old) C → next C ≡ Traps at
-trapped_of old at h C is s = subst (λ m. Simulates m (next C)) h (simulates old C is (holds_of old C s))
-
 wrong_of : (old : Held) → next_held old ≡ moved.Misshapen → (C : Configuration) → IsConfiguration C → StandsFor (view_of_held old) C → next C ≡ Wrong
 wrong_of old h C is s = subst (λ m. Simulates m (next C)) h (simulates old C is (holds_of old C s))
-
--- where the view stands for a configuration whose next step is right, the queues meet no wrong shape
-pub not_misshapen : (old : Held) → IsRightFor (view_of_held old) 1 → next_held old ≢ moved.Misshapen
-not_misshapen old r h = r.right 0 [] r.configuration (omega arith) (refl, refl) (wrong_of old h r.configuration r.is r.stands)
 
 -- ---- nothing is ready exactly where the configuration is finished
 
