@@ -45,7 +45,7 @@ sum_of_program() {
 # Size and times of all that is compared, of the crates in these folders.
 listing() {
     cd "$here" && exec find -H crates.txt out/pict "$@" ${rt:+"$rt"} \
-        \( -name out -o -name must-fail -o -name data \) -prune -o -printf '%p %y %s %T@ %C@\n' 2>/dev/null
+        \( -name out -o -name must-fail -o -name more-edits -o -name data \) -prune -o -printf '%p %y %s %T@ %C@\n' 2>/dev/null
 }
 
 # Whether out/pict is built of the present sources by the present toolchain. Where no size and no time has changed since
