@@ -1,22 +1,22 @@
--- Each state but `stop` can be finished: some tokens lead on to the end of a program.
-use Rattle.std.proofs.Common.{◌≡◌, ℕ, suc, List, [], ◌∷◌, refl, None, Some}
+-- Each state but `stop` can be finished: some tokens lead on to the end of declarations.
+use Rattle.std.proofs.Common.{◌≡◌, List, [], ◌∷◌, ◌++◌, refl, None, Some}
 use Rattle.pict_syntax.specs.declared.name.Name.{Name}
 use Rattle.pict_syntax.specs.declared.span.Span.{Span}
 use Rattle.pict_syntax.specs.declared.id.Id.{Id}
-use Rattle.pict_syntax.specs.declared.type_tree.KindTree.{KindTree}
-use Rattle.pict_syntax.specs.declared.type_tree.KindTree.TheVariants.{Plain, Operator}
+use Rattle.pict_syntax.specs.declared.type_tree.Mark.{Mark}
+use Rattle.pict_syntax.specs.declared.type_tree.Mark.TheVariants as mark
 use Rattle.pict_syntax.specs.declared.token.Token.{Token}
 use Rattle.pict_syntax.specs.declared.token.TokenKind.{TokenKind}
 use Rattle.pict_syntax.specs.declared.token.TokenKind.TheVariants.{Identifier, Keyword, Character, Sign}
 use Rattle.pict_syntax.specs.declared.token.Keyword.TheVariants.{Else, Rec, Then, TopType, TypeKind}
 use Rattle.pict_syntax.specs.declared.token.Sign.TheVariants.{Bang, Equals, OpenParen, CloseParen, CloseBracket, Colon, Semicolon, Less, Underscore, Arrow}
-use Rattle.pict_syntax.specs.Trees.{TypeTree, top_type, fields_type, apply_type, rec_type, TypeBinder, type_binder, bound, TypeTrees, no_types, more_types, TypeBinders, no_binders, more_binders, no_labelled_types, more_labelled_types, Pat, bind_pat, any_pat, fields_pat, fold_pat, FieldPats, field_pats, Pats, no_pats, more_pats, LabelledPats, no_labelled_pats, more_labelled_pats, Dec, new_dec, run_dec, let_dec, def_dec, alias_dec, operator_dec, await_dec, Decs, no_decs, more_decs, Definitions, more_definitions, Abs, process_abs, function_abs, Chan, use_chan, fold_chan, block_chan, apply_chan, Val, of_chan, character_val, fields_val, if_val, lambda_val, Vals, no_vals, more_vals, field_vals, LabelledVals, no_labelled_vals, more_labelled_vals, Proc, send_proc, receive_proc, serve_proc, if_proc, inert_proc, group_proc, no_procs, more_procs}
+use Rattle.pict_syntax.specs.Trees.{KindTree, plain_kind, operator_kind, TypeTree, top_type, fields_type, apply_type, rec_type, TypeBinder, type_binder, bound, TypeTrees, no_types, more_types, TypeBinders, no_binders, more_binders, no_labelled_types, more_labelled_types, Pat, bind_pat, any_pat, fields_pat, fold_pat, FieldPats, field_pats, Pats, no_pats, more_pats, LabelledPats, no_labelled_pats, more_labelled_pats, Dec, new_dec, run_dec, let_dec, def_dec, alias_dec, operator_dec, await_dec, Decs, no_decs, more_decs, Definitions, more_definitions, Abs, process_abs, function_abs, Chan, use_chan, fold_chan, block_chan, apply_chan, Val, of_chan, character_val, fields_val, if_val, lambda_val, Vals, no_vals, more_vals, field_vals, LabelledVals, no_labelled_vals, more_labelled_vals, Proc, send_proc, receive_proc, serve_proc, if_proc, inert_proc, group_proc, no_procs, more_procs}
 use Rattle.pict_syntax.specs.Phrases.{token, join}
 use Rattle.pict_syntax.specs.Grammar.{type_span, pat_span, abs_span, chan_span, val_span, proc_span}
-use Rattle.pict_automaton.specs.Places.{Side, side_channel, asks_once, asks_always, prefixed, ValuePlace, in_let, in_function, in_send, in_side, in_field, in_label, in_fold, in_else, waiting, Wait, at_top, in_test, in_then, in_paren, ProcessPlace, in_run, in_process, in_else_process, in_bar, in_then_process, EitherPlace, in_paren_either, in_then_either, ProcessPlaces, process_only, process_either, ValuePlaces, value_only, value_either, Place, for_value, for_process, for_either, DeclarationPlace, top_declarations, paren_declarations, AbstractionPlace, in_definition, in_lambda, in_input, FieldsPlace, in_record, in_apply, PatternPlace, in_let_pattern, in_abstraction_pattern, in_fold_pattern, in_field_pattern, in_label_pattern, FieldPatternsPlace, in_pattern_record, in_parameters, TypePlace, in_new, in_alias, in_operator, in_bind, in_any, in_result, in_pattern_fold_type, in_fold_type, in_bound, in_prefix, in_type_field, in_type_label, in_type_apply, in_rec, in_argument, BinderPlace, of_patterns, of_types, State, stop, need, fresh_name, arguments, have_channel, have_value, have_either, have_process, have_processes, new_keyword, new_name, let_pattern, definition_keyword, have_definition, type_keyword, alias_name, operator_open, operator_parameters, operator_closed, need_abstraction, abstraction_open, abstraction_pattern, abstraction_parameters, abstraction_result, need_pattern, pattern_open, pattern_rec, pattern_folded, have_bind, have_any, after_binders, after_patterns, pattern_name, after_pattern_labels, pattern_label, binder_hash, binder_name, need_kind, kind_arguments, kind_arrow, kind_result, binder_kind, need_type, type_open, rec_keyword, rec_name, rec_body, operator_arguments, after_type_binders, after_types, type_name, after_type_labels, type_label, fold_keyword, fold_body, after_arguments, after_values, value_name, after_labels, value_label}
+use Rattle.pict_automaton.specs.Places.{Side, side_channel, asks_once, asks_always, prefixed, ValuePlace, in_let, in_function, in_send, in_side, in_field, in_label, in_fold, in_else, waiting, Wait, at_top, in_test, in_then, in_paren, ProcessPlace, in_run, in_process, in_else_process, in_bar, in_then_process, EitherPlace, in_paren_either, in_then_either, ProcessPlaces, process_only, process_either, ValuePlaces, value_only, value_either, Place, for_value, for_process, for_either, DeclarationPlace, top_declarations, paren_declarations, AbstractionPlace, in_definition, in_lambda, in_input, FieldsPlace, in_record, in_apply, PatternPlace, in_let_pattern, in_abstraction_pattern, in_fold_pattern, in_field_pattern, in_label_pattern, FieldPatternsPlace, in_pattern_record, in_parameters, TypePlace, in_new, in_alias, in_operator, in_bind, in_any, in_result, in_pattern_fold_type, in_fold_type, in_bound, in_prefix, in_type_field, in_type_label, in_type_apply, in_rec, in_argument, BinderPlace, of_patterns, of_types, State, stop, need, fresh_name, arguments, have_channel, have_value, have_either, have_process, have_processes, new_keyword, new_name, let_pattern, definition_keyword, have_definition, type_keyword, alias_name, operator_open, operator_parameters, operator_closed, need_abstraction, abstraction_open, abstraction_pattern, abstraction_parameters, abstraction_result, need_pattern, pattern_open, pattern_rec, pattern_folded, have_bind, have_any, after_binders, after_patterns, pattern_name, after_pattern_labels, pattern_label, binder_hash, binder_name, need_kind, kind_arguments, kind_mark, kind_arrow, kind_result, binder_kind, need_type, type_open, rec_keyword, rec_name, rec_body, operator_arguments, after_type_binders, after_types, type_name, after_type_labels, type_label, fold_keyword, fold_body, after_arguments, after_values, value_name, after_labels, value_label}
 use Rattle.pict_automaton.specs.Machine.{id, then_place, put_declaration, put_abstraction, put_process, put_processes, put_value, put_values, put_channel, put_pattern, put_binder, put_type, close_paren, step, run, ended}
 
--- some tokens lead to the end of a program
+-- some tokens lead to the end of declarations
 pub record Finishes (x : State) : Type 0 where
   pub rest : List Token
   pub program : Decs
@@ -229,8 +229,12 @@ finish_need_type p = then_token (Keyword TopType) (finish_type p (top_type here)
 finish_kind : (h : Span) (x : Id) (c : KindTree) (j : Span) (p : BinderPlace) → Finishes (binder_kind h x c j p)
 finish_kind h x c j p = then_token (Sign Less) (finish_need_type (in_bound h x (Some c) p))
 
-finish_kind_arguments : (h : Span) (x : Id) (n : ℕ) (p : BinderPlace) → Finishes (kind_arguments h x n p)
-finish_kind_arguments h x n p = then_token (Keyword TypeKind) (then_token (Sign Arrow) (then_token (Keyword TypeKind) (then_token (Sign CloseParen) (finish_kind h x (Operator (suc n)) here p))))
+finish_kind_arrow : (h : Span) (x : Id) (ms : List Mark) (p : BinderPlace) → Finishes (kind_arrow h x ms p)
+finish_kind_arrow h x ms p = then_token (Keyword TypeKind) (then_token (Sign CloseParen) (finish_kind h x (operator_kind ms) here p))
+
+finish_kind_arguments : (h : Span) (x : Id) (ms : List Mark) (p : BinderPlace) → Finishes (kind_arguments h x ms p)
+finish_kind_arguments h x [] p = then_token (Keyword TypeKind) (then_token (Sign Arrow) (finish_kind_arrow h x (mark.Plain ∷ []) p))
+finish_kind_arguments h x (m ∷ ms) p = then_token (Sign Arrow) (finish_kind_arrow h x (m ∷ ms) p)
 
 finish_need : (q : Place) → Finishes (need q)
 finish_need (for_value p) = then_value (finish_value p some_value)
@@ -295,10 +299,11 @@ finishes (after_pattern_labels p bs ps ls) g = finish_pattern_labels p bs ps ls
 finishes (pattern_label p bs ps ls x) g = then_token (Sign Equals) (finish_need_pattern (in_label_pattern p bs ps ls x))
 finishes (binder_hash h p) g = then_token (Identifier a_name) (then_token (Sign Less) (finish_need_type (in_bound h (id a_name here) None p)))
 finishes (binder_name h x p) g = then_token (Sign Less) (finish_need_type (in_bound h x None p))
-finishes (need_kind h x p) g = then_token (Keyword TypeKind) (finish_kind h x Plain here p)
-finishes (kind_arguments h x n p) g = finish_kind_arguments h x n p
-finishes (kind_arrow h x n p) g = then_token (Keyword TypeKind) (then_token (Sign CloseParen) (finish_kind h x (Operator n) here p))
-finishes (kind_result h x n p) g = then_token (Sign CloseParen) (finish_kind h x (Operator n) here p)
+finishes (need_kind h x p) g = then_token (Keyword TypeKind) (finish_kind h x plain_kind here p)
+finishes (kind_arguments h x ms p) g = finish_kind_arguments h x ms p
+finishes (kind_mark h x ms m p) g = then_token (Keyword TypeKind) (finish_kind_arguments h x (ms ++ m ∷ []) p)
+finishes (kind_arrow h x ms p) g = finish_kind_arrow h x ms p
+finishes (kind_result h x ms p) g = then_token (Sign CloseParen) (finish_kind h x (operator_kind ms) here p)
 finishes (binder_kind h x c j p) g = finish_kind h x c j p
 finishes (need_type p) g = finish_need_type p
 finishes (type_open o p) g = then_token (Identifier a_name) (then_token (Keyword TopType) (then_token (Sign CloseParen) (finish_type p (apply_type (join o here) (id a_name here) (more_types no_types (top_type here))))))

@@ -7,7 +7,7 @@ use Rattle.pict_syntax.specs.declared.token.TokenKind.{TokenKind}
 use Rattle.pict_syntax.specs.declared.token.TokenKind.TheVariants.{Identifier, Symbol, Keyword, Sign}
 use Rattle.pict_syntax.specs.declared.token.Keyword.{Keyword as AnyKeyword}
 use Rattle.pict_syntax.specs.declared.token.Sign.{Sign as AnySign}
-use Rattle.pict_syntax.specs.Phrases.{Phrase, nothing, never, ◌▸◌, at, keyword, sign, name, join, led, between, closed, joined}
+use Rattle.pict_syntax.specs.Phrases.{Phrase, nothing, never, ◌▸◌, at, keyword, sign, symbol, name, join, led, between, closed, joined}
 
 -- each list of the one phrase is one of the other
 pub record Sub (L M : Phrase) : Type 0 where
@@ -59,6 +59,9 @@ a_keyword {k} {i} = record { «in» = λ ts h. (i, h) }
 
 pub a_sign : {m : AnySign} {i : Span} → Sub (at (Sign m) i) (sign m)
 a_sign {m} {i} = record { «in» = λ ts h. (i, h) }
+
+pub some_symbol : {y : SymbolName} {n : Name} {i : Span} → Sub (at (Symbol y n) i) (symbol y)
+some_symbol {y} {n} {i} = record { «in» = λ ts h. (n, i, h) }
 
 pub an_identifier : {n : Name} {i : Span} → Sub (at (Identifier n) i) (name n i)
 an_identifier = record { «in» = λ ts h. inl h }

@@ -1,15 +1,23 @@
 -- The nestings of what has been read at each place and in each state, before further ones.
 use Rattle.std.proofs.Common.{ℕ, suc, zero, List, ◌∷◌, ◌++◌, Option, None, Some}
 use Rattle.pict_syntax.specs.declared.id.Id.{Id}
-use Rattle.pict_syntax.specs.declared.type_tree.KindTree.{KindTree}
-use Rattle.pict_automaton.specs.Places.{ValuePlace, in_let, in_function, in_send, in_side, in_field, in_label, in_fold, in_else, waiting, Wait, at_top, in_test, in_then, in_paren, ProcessPlace, in_run, in_process, in_else_process, in_bar, in_then_process, EitherPlace, in_paren_either, in_then_either, ProcessPlaces, process_only, process_either, ValuePlaces, value_only, value_either, Place, for_value, for_process, for_either, DeclarationPlace, top_declarations, paren_declarations, AbstractionPlace, in_definition, in_lambda, in_input, FieldsPlace, in_record, in_apply, PatternPlace, in_let_pattern, in_abstraction_pattern, in_fold_pattern, in_field_pattern, in_label_pattern, FieldPatternsPlace, in_pattern_record, in_parameters, TypePlace, in_new, in_alias, in_operator, in_bind, in_any, in_result, in_pattern_fold_type, in_fold_type, in_bound, in_prefix, in_type_field, in_type_label, in_type_apply, in_rec, in_argument, BinderPlace, of_patterns, of_types, State, stop, need, fresh_name, arguments, have_channel, have_value, have_either, have_process, have_processes, new_keyword, new_name, let_pattern, definition_keyword, have_definition, type_keyword, alias_name, operator_open, operator_parameters, operator_closed, need_abstraction, abstraction_open, abstraction_pattern, abstraction_parameters, abstraction_result, need_pattern, pattern_open, pattern_rec, pattern_folded, have_bind, have_any, after_binders, after_patterns, pattern_name, after_pattern_labels, pattern_label, binder_hash, binder_name, need_kind, kind_arguments, kind_arrow, kind_result, binder_kind, need_type, type_open, rec_keyword, rec_name, rec_body, operator_arguments, after_type_binders, after_types, type_name, after_type_labels, type_label, fold_keyword, fold_body, after_arguments, after_values, value_name, after_labels, value_label}
-use Rattle.pict_syntax.specs.Nesting.{times_nest, names_nest, kind_nest, type_nest, types_nest, labelled_types_nest, binders_nest, annotation_nest, pat_nest, field_pats_nest, pats_nest, labelled_pats_nest, arguments_nest, decs_nest, definitions_nest, abs_nest, chan_nest, val_nest, vals_nest, labelled_vals_nest, proc_nest, procs_nest}
+use Rattle.pict_syntax.specs.declared.type_tree.Mark.{Mark}
+use Rattle.pict_syntax.specs.declared.type_tree.Mark.TheVariants as mark
+use Rattle.pict_automaton.specs.Places.{ValuePlace, in_let, in_function, in_send, in_side, in_field, in_label, in_fold, in_else, waiting, Wait, at_top, in_test, in_then, in_paren, ProcessPlace, in_run, in_process, in_else_process, in_bar, in_then_process, EitherPlace, in_paren_either, in_then_either, ProcessPlaces, process_only, process_either, ValuePlaces, value_only, value_either, Place, for_value, for_process, for_either, DeclarationPlace, top_declarations, paren_declarations, AbstractionPlace, in_definition, in_lambda, in_input, FieldsPlace, in_record, in_apply, PatternPlace, in_let_pattern, in_abstraction_pattern, in_fold_pattern, in_field_pattern, in_label_pattern, FieldPatternsPlace, in_pattern_record, in_parameters, TypePlace, in_new, in_alias, in_operator, in_bind, in_any, in_result, in_pattern_fold_type, in_fold_type, in_bound, in_prefix, in_type_field, in_type_label, in_type_apply, in_rec, in_argument, BinderPlace, of_patterns, of_types, State, stop, need, fresh_name, arguments, have_channel, have_value, have_either, have_process, have_processes, new_keyword, new_name, let_pattern, definition_keyword, have_definition, type_keyword, alias_name, operator_open, operator_parameters, operator_closed, need_abstraction, abstraction_open, abstraction_pattern, abstraction_parameters, abstraction_result, need_pattern, pattern_open, pattern_rec, pattern_folded, have_bind, have_any, after_binders, after_patterns, pattern_name, after_pattern_labels, pattern_label, binder_hash, binder_name, need_kind, kind_arguments, kind_mark, kind_arrow, kind_result, binder_kind, need_type, type_open, rec_keyword, rec_name, rec_body, operator_arguments, after_type_binders, after_types, type_name, after_type_labels, type_label, fold_keyword, fold_body, after_arguments, after_values, value_name, after_labels, value_label}
+use Rattle.pict_syntax.specs.Trees.{KindTree}
+use Rattle.pict_syntax.specs.Nesting.{names_nest, marks_nest, kind_nest, type_nest, types_nest, labelled_types_nest, binders_nest, annotation_nest, pat_nest, field_pats_nest, pats_nest, labelled_pats_nest, arguments_nest, decs_nest, definitions_nest, abs_nest, chan_nest, val_nest, vals_nest, labelled_vals_nest, proc_nest, procs_nest}
 use Rattle.pict_automaton.specs.Depth.{value_depth, wait_depth, process_depth, either_depth, processes_depth, values_depth, place_depth, declaration_depth, abstraction_depth, fields_depth, pattern_depth, patterns_depth, type_depth, binder_depth}
 
 -- what stands between a binder's identifier and its bound, in `d` constructs
 abbrev pub bound_nests : ℕ → Option KindTree → List ℕ → List ℕ
 bound_nests d None ns = d ∷ ns
 bound_nests d (Some k) ns = d ∷ (kind_nest d k ++ (d ∷ ns))
+
+-- a mark up to its `Type`
+abbrev pub mark_nests : ℕ → Mark → List ℕ → List ℕ
+mark_nests d mark.Plain ns = ns
+mark_nests d mark.Plus ns = d ∷ ns
+mark_nests d mark.Minus ns = d ∷ ns
 
 -- an operator's parameters and their brackets
 abbrev pub operator_nests : ℕ → List Id → List ℕ → List ℕ
@@ -144,9 +152,10 @@ state_nests (pattern_label p bs ps ls x) ns = patterns_nests p (binders_nest (pa
 state_nests (binder_hash h p) ns = binder_nests p (binder_depth p ∷ ns)
 state_nests (binder_name h x p) ns = binder_nests p (binder_depth p ∷ (binder_depth p ∷ ns))
 state_nests (need_kind h x p) ns = binder_nests p (binder_depth p ∷ (binder_depth p ∷ (binder_depth p ∷ ns)))
-state_nests (kind_arguments h x n p) ns = binder_nests p (binder_depth p ∷ (binder_depth p ∷ (binder_depth p ∷ (suc (binder_depth p) ∷ (times_nest n (suc (binder_depth p)) ++ ns)))))
-state_nests (kind_arrow h x n p) ns = binder_nests p (binder_depth p ∷ (binder_depth p ∷ (binder_depth p ∷ (suc (binder_depth p) ∷ (times_nest n (suc (binder_depth p)) ++ (suc (binder_depth p) ∷ ns))))))
-state_nests (kind_result h x n p) ns = binder_nests p (binder_depth p ∷ (binder_depth p ∷ (binder_depth p ∷ (suc (binder_depth p) ∷ (times_nest n (suc (binder_depth p)) ++ (suc (binder_depth p) ∷ (suc (binder_depth p) ∷ ns)))))))
+state_nests (kind_arguments h x ms p) ns = binder_nests p (binder_depth p ∷ (binder_depth p ∷ (binder_depth p ∷ (suc (binder_depth p) ∷ (marks_nest (suc (binder_depth p)) ms ++ ns)))))
+state_nests (kind_mark h x ms m p) ns = binder_nests p (binder_depth p ∷ (binder_depth p ∷ (binder_depth p ∷ (suc (binder_depth p) ∷ (marks_nest (suc (binder_depth p)) ms ++ mark_nests (suc (binder_depth p)) m ns)))))
+state_nests (kind_arrow h x ms p) ns = binder_nests p (binder_depth p ∷ (binder_depth p ∷ (binder_depth p ∷ (suc (binder_depth p) ∷ (marks_nest (suc (binder_depth p)) ms ++ (suc (binder_depth p) ∷ ns))))))
+state_nests (kind_result h x ms p) ns = binder_nests p (binder_depth p ∷ (binder_depth p ∷ (binder_depth p ∷ (suc (binder_depth p) ∷ (marks_nest (suc (binder_depth p)) ms ++ (suc (binder_depth p) ∷ (suc (binder_depth p) ∷ ns)))))))
 state_nests (binder_kind h x k j p) ns = binder_nests p (binder_depth p ∷ (binder_depth p ∷ (binder_depth p ∷ (kind_nest (binder_depth p) k ++ ns))))
 state_nests (need_type p) ns = type_nests p ns
 state_nests (type_open o p) ns = type_nests p (suc (type_depth p) ∷ ns)

@@ -1,23 +1,25 @@
 -- A token adds its nesting: types, type binders and patterns.
-use Rattle.std.proofs.Common.{ℕ, suc, zero, List, ◌∷◌, ◌++◌, ◌≡◌, refl, ap, append_assoc, append-nil, None, Some}
+use Rattle.std.proofs.Common.{ℕ, suc, List, [], ◌∷◌, ◌++◌, ◌≡◌, refl, ap, append_assoc, append-nil, None, Some}
 use Rattle.pict_syntax.specs.declared.span.Span.{Span}
 use Rattle.pict_syntax.specs.declared.id.Id.{Id}
-use Rattle.pict_syntax.specs.declared.type_tree.KindTree.{KindTree}
+use Rattle.pict_syntax.specs.declared.type_tree.Mark.{Mark}
+use Rattle.pict_syntax.specs.declared.type_tree.Mark.TheVariants as mark
+use Rattle.pict_syntax.specs.declared.token.SymbolName.TheVariants as symbol_name
 use Rattle.pict_syntax.specs.declared.token.TokenKind.{TokenKind}
-use Rattle.pict_syntax.specs.declared.token.TokenKind.TheVariants.{Identifier, Keyword, Sign}
+use Rattle.pict_syntax.specs.declared.token.TokenKind.TheVariants.{Identifier, Symbol, Keyword, Sign}
 use Rattle.pict_syntax.specs.declared.token.Keyword.{Keyword as AnyKeyword}
 use Rattle.pict_syntax.specs.declared.token.Keyword.TheVariants.{Rec, BoolType, CharType, IntType, StringType, TopType, TypeKind}
 use Rattle.pict_syntax.specs.declared.token.Sign.{Sign as AnySign}
 use Rattle.pict_syntax.specs.declared.token.Sign.TheVariants.{Bang, Question, Equals, OpenParen, CloseParen, OpenBracket, CloseBracket, Colon, Less, Caret, Slash, Hash, Underscore, Arrow}
-use Rattle.pict_syntax.specs.Trees.{TypeTree, top_type, int_type, char_type, string_type, bool_type, use_type, fields_type, apply_type, rec_type, TypeBinder, type_binder, unbounded, TypeTrees, no_types, more_types, TypeBinders, more_binders, LabelledTypes, no_labelled_types, RType, Pat, bind_pat, any_pat, fields_pat, fold_pat, FieldPats, field_pats, Pats, no_pats, more_pats, LabelledPats, no_labelled_pats, more_labelled_pats}
+use Rattle.pict_syntax.specs.Trees.{KindTree, TypeTree, top_type, int_type, char_type, string_type, bool_type, use_type, fields_type, apply_type, rec_type, TypeBinder, type_binder, unbounded, TypeTrees, no_types, more_types, TypeBinders, more_binders, LabelledTypes, no_labelled_types, RType, Pat, bind_pat, any_pat, fields_pat, fold_pat, FieldPats, field_pats, Pats, no_pats, more_pats, LabelledPats, no_labelled_pats, more_labelled_pats}
 use Rattle.pict_syntax.specs.Phrases.{join}
-use Rattle.pict_automaton.specs.Places.{DeclarationPlace, AbstractionPlace, PatternPlace, in_let_pattern, in_abstraction_pattern, in_fold_pattern, in_field_pattern, in_label_pattern, FieldPatternsPlace, in_pattern_record, in_parameters, TypePlace, in_type_field, in_type_apply, BinderPlace, of_patterns, of_types, let_pattern, abstraction_pattern, pattern_open, pattern_rec, pattern_folded, have_bind, have_any, after_binders, after_patterns, pattern_name, after_pattern_labels, pattern_label, binder_hash, binder_name, need_kind, kind_arguments, kind_arrow, kind_result, binder_kind, type_open, rec_keyword, rec_name, rec_body, operator_arguments, after_type_binders, after_types, type_name, after_type_labels, type_label}
-use Rattle.pict_syntax.specs.Nesting.{times_nest, type_nest, binder_nest, pat_nest, field_pats_nest}
+use Rattle.pict_automaton.specs.Places.{DeclarationPlace, AbstractionPlace, PatternPlace, in_let_pattern, in_abstraction_pattern, in_fold_pattern, in_field_pattern, in_label_pattern, FieldPatternsPlace, in_pattern_record, in_parameters, TypePlace, in_type_field, in_type_apply, BinderPlace, of_patterns, of_types, let_pattern, abstraction_pattern, pattern_open, pattern_rec, pattern_folded, have_bind, have_any, after_binders, after_patterns, pattern_name, after_pattern_labels, pattern_label, binder_hash, binder_name, need_kind, kind_arguments, kind_mark, kind_arrow, kind_result, binder_kind, type_open, rec_keyword, rec_name, rec_body, operator_arguments, after_type_binders, after_types, type_name, after_type_labels, type_label}
+use Rattle.pict_syntax.specs.Nesting.{marks_nest, type_nest, binder_nest, pat_nest, field_pats_nest}
 use Rattle.pict_automaton.specs.Depth.{pattern_depth, patterns_depth, type_depth, binder_depth, depth}
-use Rattle.pict_automaton.proofs.Nests.{pattern_nests, patterns_nests, type_nests, binder_nests, state_nests}
+use Rattle.pict_automaton.proofs.Nests.{mark_nests, pattern_nests, patterns_nests, type_nests, binder_nests, state_nests}
 use Rattle.pict_automaton.proofs.NestsPuts.{put_pattern_nests, put_binder_nests, put_type_nests}
 use Rattle.pict_automaton.proofs.NestsAdds.{Adds, stopped, stays, opens, shuts, ends, closes, behind}
-use Rattle.pict_automaton.specs.Machine.{begin_type_keyword, begin_type_sign, begin_type, step_type_open, step_rec_keyword, step_rec_name, step_rec_body, close_operator_arguments, step_operator_arguments, step_types, step_type_name, step_type_labels, step_type_label, step_type_binders, begin_pattern, step_pattern_open, step_pattern_rec, step_pattern_folded, close_patterns, step_patterns, step_pattern_labels, step_pattern_label, step_binders, step_let_pattern, step_abstraction_pattern, step_pattern, step_bind, step_any, step_pattern_name, step_binder, step_hash, step_binder_name, step_need_kind, kind_arrow_at, step_kind_arguments, step_kind_arrow, step_kind_result, step_binder_kind}
+use Rattle.pict_automaton.specs.Machine.{begin_type_keyword, begin_type_sign, begin_type, step_type_open, step_rec_keyword, step_rec_name, step_rec_body, close_operator_arguments, step_operator_arguments, step_types, step_type_name, step_type_labels, step_type_label, step_type_binders, begin_pattern, step_pattern_open, step_pattern_rec, step_pattern_folded, close_patterns, step_patterns, step_pattern_labels, step_pattern_label, step_binders, step_let_pattern, step_abstraction_pattern, step_pattern, step_bind, step_any, step_pattern_name, step_binder, step_hash, step_binder_name, step_need_kind, kind_arrow_at, step_kind_arguments, step_kind_mark, step_kind_arrow, step_kind_result, step_binder_kind}
 
 begin_type_keyword_nests : (k : AnyKeyword) (i : Span) (p : TypePlace) → Adds (type_depth p) (type_nests p) (begin_type_keyword k i p)
 unfolding type_nest
@@ -196,32 +198,46 @@ step_binder_name_nests (Sign Less) i h x p = stays (λ ns. refl)
 step_binder_name_nests k i h x p = step_binder_nests k i (type_binder (join h x.span) x None unbounded) p
 
 pub step_need_kind_nests : (k : TokenKind) (i h : Span) (x : Id) (p : BinderPlace) → Adds (depth (need_kind h x p)) (state_nests (need_kind h x p)) (step_need_kind k i h x p)
-unfolding times_nest
+unfolding marks_nest
 step_need_kind_nests (Keyword TypeKind) i h x p = stays (λ ns. refl)
 step_need_kind_nests (Sign OpenParen) i h x p = opens refl (λ ns. refl)
 step_need_kind_nests _ i h x p = stopped
 
-times_more : (n d : ℕ) (ns : List ℕ) → times_nest (suc n) d ++ ns ≡ times_nest n d ++ (d ∷ ns)
-unfolding times_nest
-times_more zero d ns = refl
-times_more (suc n) d ns = ap (λ l. d ∷ l) (times_more n d ns)
+-- a mark is put behind others
+marks_more : (d : ℕ) (ms : List Mark) (m : Mark) (ns : List ℕ) → marks_nest d (ms ++ m ∷ []) ++ ns ≡ marks_nest d ms ++ mark_nests d m (d ∷ ns)
+unfolding marks_nest
+marks_more d [] mark.Plain ns = refl
+marks_more d [] mark.Plus ns = refl
+marks_more d [] mark.Minus ns = refl
+marks_more d (mark.Plain ∷ ms) m ns = ap (λ l. d ∷ l) (marks_more d ms m ns)
+marks_more d (mark.Plus ∷ ms) m ns = ap (λ l. d ∷ d ∷ l) (marks_more d ms m ns)
+marks_more d (mark.Minus ∷ ms) m ns = ap (λ l. d ∷ d ∷ l) (marks_more d ms m ns)
 
-kind_arrow_nests : (h : Span) (x : Id) (n : ℕ) (p : BinderPlace) → Adds (depth (kind_arguments h x n p)) (state_nests (kind_arguments h x n p)) (kind_arrow_at h x n p)
-kind_arrow_nests h x zero p = stopped
-kind_arrow_nests h x (suc n) p = stays (λ ns. refl)
+mark_put : (h : Span) (x : Id) (ms : List Mark) (m : Mark) (p : BinderPlace) (ns : List ℕ) → state_nests (kind_arguments h x (ms ++ m ∷ []) p) ns ≡ state_nests (kind_mark h x ms m p) (suc (binder_depth p) ∷ ns)
+mark_put h x ms m p ns = ap (λ l. binder_nests p (binder_depth p ∷ (binder_depth p ∷ (binder_depth p ∷ (suc (binder_depth p) ∷ l))))) (marks_more (suc (binder_depth p)) ms m ns)
 
-pub step_kind_arguments_nests : (k : TokenKind) (i h : Span) (x : Id) (n : ℕ) (p : BinderPlace) → Adds (depth (kind_arguments h x n p)) (state_nests (kind_arguments h x n p)) (step_kind_arguments k i h x n p)
-step_kind_arguments_nests (Keyword TypeKind) i h x n p = stays (λ ns. ap (λ l. binder_nests p (binder_depth p ∷ (binder_depth p ∷ (binder_depth p ∷ (suc (binder_depth p) ∷ l))))) (times_more n (suc (binder_depth p)) ns))
-step_kind_arguments_nests (Sign Arrow) i h x n p = kind_arrow_nests h x n p
-step_kind_arguments_nests _ i h x n p = stopped
+kind_arrow_nests : (h : Span) (x : Id) (ms : List Mark) (p : BinderPlace) → Adds (depth (kind_arguments h x ms p)) (state_nests (kind_arguments h x ms p)) (kind_arrow_at h x ms p)
+kind_arrow_nests h x [] p = stopped
+kind_arrow_nests h x (m ∷ ms) p = stays (λ ns. refl)
 
-pub step_kind_arrow_nests : (k : TokenKind) (i h : Span) (x : Id) (n : ℕ) (p : BinderPlace) → Adds (depth (kind_arrow h x n p)) (state_nests (kind_arrow h x n p)) (step_kind_arrow k i h x n p)
-step_kind_arrow_nests (Keyword TypeKind) i h x n p = stays (λ ns. refl)
-step_kind_arrow_nests _ i h x n p = stopped
+pub step_kind_arguments_nests : (k : TokenKind) (i h : Span) (x : Id) (ms : List Mark) (p : BinderPlace) → Adds (depth (kind_arguments h x ms p)) (state_nests (kind_arguments h x ms p)) (step_kind_arguments k i h x ms p)
+step_kind_arguments_nests (Keyword TypeKind) i h x ms p = stays (λ ns. mark_put h x ms mark.Plain p ns)
+step_kind_arguments_nests (Symbol symbol_name.Plus n) i h x ms p = stays (λ ns. refl)
+step_kind_arguments_nests (Symbol symbol_name.Minus n) i h x ms p = stays (λ ns. refl)
+step_kind_arguments_nests (Sign Arrow) i h x ms p = kind_arrow_nests h x ms p
+step_kind_arguments_nests _ i h x ms p = stopped
 
-pub step_kind_result_nests : (k : TokenKind) (i h : Span) (x : Id) (n : ℕ) (p : BinderPlace) → Adds (depth (kind_result h x n p)) (state_nests (kind_result h x n p)) (step_kind_result k i h x n p)
-step_kind_result_nests (Sign CloseParen) i h x n p = shuts (λ ns. simp append_assoc refl)
-step_kind_result_nests _ i h x n p = stopped
+pub step_kind_mark_nests : (k : TokenKind) (i h : Span) (x : Id) (ms : List Mark) (m : Mark) (p : BinderPlace) → Adds (depth (kind_mark h x ms m p)) (state_nests (kind_mark h x ms m p)) (step_kind_mark k i h x ms m p)
+step_kind_mark_nests (Keyword TypeKind) i h x ms m p = stays (λ ns. mark_put h x ms m p ns)
+step_kind_mark_nests _ i h x ms m p = stopped
+
+pub step_kind_arrow_nests : (k : TokenKind) (i h : Span) (x : Id) (ms : List Mark) (p : BinderPlace) → Adds (depth (kind_arrow h x ms p)) (state_nests (kind_arrow h x ms p)) (step_kind_arrow k i h x ms p)
+step_kind_arrow_nests (Keyword TypeKind) i h x ms p = stays (λ ns. refl)
+step_kind_arrow_nests _ i h x ms p = stopped
+
+pub step_kind_result_nests : (k : TokenKind) (i h : Span) (x : Id) (ms : List Mark) (p : BinderPlace) → Adds (depth (kind_result h x ms p)) (state_nests (kind_result h x ms p)) (step_kind_result k i h x ms p)
+step_kind_result_nests (Sign CloseParen) i h x ms p = shuts (λ ns. simp append_assoc refl)
+step_kind_result_nests _ i h x ms p = stopped
 
 pub step_binder_kind_nests : (k : TokenKind) (i h : Span) (x : Id) (c : KindTree) (j : Span) (p : BinderPlace) → Adds (depth (binder_kind h x c j p)) (state_nests (binder_kind h x c j p)) (step_binder_kind k i h x c j p)
 unfolding type_nest

@@ -12,14 +12,14 @@ use Rattle.pict_syntax.specs.declared.token.Sign.TheVariants.{Bang, Question, Qu
 use Rattle.pict_syntax.specs.Trees.{TypeTree, TypeTrees, no_types, no_binders, RType, FieldPats, Dec, def_dec, await_dec, Decs, no_decs, more_decs, Definitions, more_definitions, Abs, Chan, use_chan, fold_chan, block_chan, apply_chan, right_chan, left_chan, Val, of_chan, number_val, character_val, string_val, true_val, false_val, fields_val, Vals, no_vals, more_vals, FieldVals, field_vals, LabelledVals, no_labelled_vals, Proc, inert_proc, group_proc, Procs, more_procs}
 use Rattle.pict_syntax.specs.Phrases.{join}
 use Rattle.pict_syntax.specs.Grammar.{abs_span, val_span}
-use Rattle.pict_automaton.specs.Places.{Side, rightward, leftward, ValuePlace, in_side, in_field, in_fold, waiting, Wait, at_top, in_test, in_then, in_paren, ProcessPlace, EitherPlace, in_paren_either, in_then_either, ProcessPlaces, process_only, process_either, ValuePlaces, value_only, value_either, Place, for_value, for_process, for_either, DeclarationPlace, top_declarations, paren_declarations, AbstractionPlace, FieldsPlace, in_record, in_apply, in_parameters, State, stop, need, fresh_name, arguments, have_channel, have_value, have_either, have_process, have_processes, new_keyword, new_name, let_pattern, definition_keyword, have_definition, type_keyword, alias_name, operator_open, operator_parameters, operator_closed, need_abstraction, abstraction_open, abstraction_pattern, abstraction_parameters, abstraction_result, need_pattern, pattern_open, pattern_rec, pattern_folded, have_bind, have_any, after_binders, after_patterns, pattern_name, after_pattern_labels, pattern_label, binder_hash, binder_name, need_kind, kind_arguments, kind_arrow, kind_result, binder_kind, need_type, type_open, rec_keyword, rec_name, rec_body, operator_arguments, after_type_binders, after_types, type_name, after_type_labels, type_label, fold_keyword, fold_body, after_arguments, after_values, value_name, after_labels, value_label}
+use Rattle.pict_automaton.specs.Places.{Side, rightward, leftward, ValuePlace, in_side, in_field, in_fold, waiting, Wait, at_top, in_test, in_then, in_paren, ProcessPlace, EitherPlace, in_paren_either, in_then_either, ProcessPlaces, process_only, process_either, ValuePlaces, value_only, value_either, Place, for_value, for_process, for_either, DeclarationPlace, top_declarations, paren_declarations, AbstractionPlace, FieldsPlace, in_record, in_apply, in_parameters, State, stop, need, fresh_name, arguments, have_channel, have_value, have_either, have_process, have_processes, new_keyword, new_name, let_pattern, definition_keyword, have_definition, type_keyword, alias_name, operator_open, operator_parameters, operator_closed, need_abstraction, abstraction_open, abstraction_pattern, abstraction_parameters, abstraction_result, need_pattern, pattern_open, pattern_rec, pattern_folded, have_bind, have_any, after_binders, after_patterns, pattern_name, after_pattern_labels, pattern_label, binder_hash, binder_name, need_kind, kind_arguments, kind_mark, kind_arrow, kind_result, binder_kind, need_type, type_open, rec_keyword, rec_name, rec_body, operator_arguments, after_type_binders, after_types, type_name, after_type_labels, type_label, fold_keyword, fold_body, after_arguments, after_values, value_name, after_labels, value_label}
 use Rattle.pict_syntax.specs.Nesting.{names_nest, type_nest, arguments_nest, dec_nest, decs_nest, val_nest, field_vals_nest}
 use Rattle.pict_automaton.specs.Depth.{wait_depth, process_depth, either_depth, values_depth, value_depth, place_depth, declaration_depth, abstraction_depth, fields_depth, depth}
 use Rattle.pict_automaton.proofs.Nests.{value_nests, wait_nests, process_nests, either_nests, values_nests, place_nests, declaration_nests, abstraction_nests, fields_nests, state_nests}
 use Rattle.pict_automaton.proofs.NestsPuts.{put_declaration_nests, put_processes_nests, put_value_nests, put_values_nests, put_channel_nests}
 use Rattle.pict_automaton.proofs.NestsAdds.{Adds, stopped, stays, opens, opens_two, shuts, ends, closes, behind}
 use Rattle.pict_automaton.specs.Machine.{id, then_place, after_declaration, begin_declaration, begin_first, step_new_keyword, step_new_name, step_definition_keyword, step_type_keyword, step_alias_name, step_operator_open, close_operator, step_operator_parameters, step_operator_closed, step_need_abstraction, step_abstraction_open, step_abstraction_parameters, step_abstraction_result, name_value, declaration_value, keyword_value, sign_value, begin_value, begin_process, name_either, declaration_either, keyword_either, close_inert, sign_either, begin_either, step_need, step_have_definition, close_values, step_values, step_value_name, step_labels, step_value_label, step_arguments_of, step_fold_keyword, step_fold_body, close_side, step_side, close_paren, step_first, step_paren, step_top, step_test, step_then, step_wait, step_either, step_channel_value, step_channel, step_used, step_fresh_name, step_process, step_processes, step}
-use Rattle.pict_automaton.proofs.NestsTypes.{begin_type_nests, step_type_open_nests, step_rec_keyword_nests, step_rec_name_nests, step_rec_body_nests, step_operator_arguments_nests, step_types_nests, step_type_name_nests, step_type_labels_nests, step_type_label_nests, step_type_binders_nests, begin_pattern_nests, step_pattern_open_nests, step_pattern_rec_nests, step_pattern_folded_nests, step_patterns_nests, step_pattern_labels_nests, step_pattern_label_nests, step_binders_nests, step_let_pattern_nests, step_abstraction_pattern_nests, step_bind_nests, step_any_nests, step_pattern_name_nests, step_hash_nests, step_binder_name_nests, step_need_kind_nests, step_kind_arguments_nests, step_kind_arrow_nests, step_kind_result_nests, step_binder_kind_nests}
+use Rattle.pict_automaton.proofs.NestsTypes.{begin_type_nests, step_type_open_nests, step_rec_keyword_nests, step_rec_name_nests, step_rec_body_nests, step_operator_arguments_nests, step_types_nests, step_type_name_nests, step_type_labels_nests, step_type_label_nests, step_type_binders_nests, begin_pattern_nests, step_pattern_open_nests, step_pattern_rec_nests, step_pattern_folded_nests, step_patterns_nests, step_pattern_labels_nests, step_pattern_label_nests, step_binders_nests, step_let_pattern_nests, step_abstraction_pattern_nests, step_bind_nests, step_any_nests, step_pattern_name_nests, step_hash_nests, step_binder_name_nests, step_need_kind_nests, step_kind_arguments_nests, step_kind_mark_nests, step_kind_arrow_nests, step_kind_result_nests, step_binder_kind_nests}
 
 -- declarations
 begin_declaration_nests : (k : AnyKeyword) (i : Span) (p : DeclarationPlace) → Adds (declaration_depth p) (declaration_nests p) (begin_declaration k i p)
@@ -385,9 +385,10 @@ step_nests k i (pattern_label p bs ps ls x) = step_pattern_label_nests k i p bs 
 step_nests k i (binder_hash h p) = step_hash_nests k i h p
 step_nests k i (binder_name h x p) = step_binder_name_nests k i h x p
 step_nests k i (need_kind h x p) = step_need_kind_nests k i h x p
-step_nests k i (kind_arguments h x n p) = step_kind_arguments_nests k i h x n p
-step_nests k i (kind_arrow h x n p) = step_kind_arrow_nests k i h x n p
-step_nests k i (kind_result h x n p) = step_kind_result_nests k i h x n p
+step_nests k i (kind_arguments h x ms p) = step_kind_arguments_nests k i h x ms p
+step_nests k i (kind_mark h x ms m p) = step_kind_mark_nests k i h x ms m p
+step_nests k i (kind_arrow h x ms p) = step_kind_arrow_nests k i h x ms p
+step_nests k i (kind_result h x ms p) = step_kind_result_nests k i h x ms p
 step_nests k i (binder_kind h x c j p) = step_binder_kind_nests k i h x c j p
 step_nests k i (need_type p) = begin_type_nests k i p
 step_nests k i (type_open o p) = step_type_open_nests k i o p

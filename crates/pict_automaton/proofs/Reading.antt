@@ -8,7 +8,7 @@ use Rattle.pict_syntax.specs.declared.token.TokenKind.{TokenKind}
 use Rattle.pict_syntax.specs.declared.token.TokenKind.TheVariants.{Identifier, Symbol, Keyword, Sign}
 use Rattle.pict_syntax.specs.declared.token.Keyword.{Keyword as AnyKeyword}
 use Rattle.pict_syntax.specs.declared.token.Sign.{Sign as AnySign}
-use Rattle.pict_syntax.specs.Phrases.{Phrase, nothing, never, ◌▸◌, at, keyword, sign, join, led, between, closed, joined, name}
+use Rattle.pict_syntax.specs.Phrases.{Phrase, nothing, never, ◌▸◌, at, keyword, sign, symbol, join, led, between, closed, joined, name}
 use Rattle.pict_automaton.specs.Places.{State}
 use Rattle.pict_automaton.specs.Machine.{step, run}
 
@@ -61,6 +61,12 @@ first_keyword e g = then_any (some_keyword e) g
 
 pub first_sign : {C : Ahead} {x y z : State} {m : AnySign} {M : Phrase} → ((i : Span) → step (Sign m) i x ≡ y) → Reads C y M z → Reads C x (sign m ▸ M) z
 first_sign e g = then_any (some_sign e) g
+
+pub some_symbol : {C : Ahead} {x y : State} {z : SymbolName} → ((n : Name) (i : Span) → step (Symbol z n) i x ≡ y) → Reads C x (symbol z) y
+some_symbol {C} {x} {y} {z} e = record { runs = λ ts r h c. ap (λ l. run x (l ++ r)) h.2 ∙ ap (λ z. run z r) (e h.0 h.1) }
+
+pub first_symbol : {C : Ahead} {x y w : State} {z : SymbolName} {M : Phrase} → ((n : Name) (i : Span) → step (Symbol z n) i x ≡ y) → Reads C y M w → Reads C x (symbol z ▸ M) w
+first_symbol e g = then_any (some_symbol e) g
 
 pub empty : {C : Ahead} {x : State} → Reads C x nothing x
 empty {C} {x} = record { runs = λ ts r h c. ap (λ l. run x (l ++ r)) h }

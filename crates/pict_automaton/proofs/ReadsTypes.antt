@@ -1,33 +1,38 @@
 -- The machine reads types.
-use Rattle.std.proofs.Common.{◌≡◌, ℕ, suc, zero, refl, None, Some}
+use Rattle.std.proofs.Common.{◌≡◌, List, [], ◌∷◌, ◌++◌, refl, sym, ap, append_assoc, append-nil, None, Some}
 use Rattle.pict_syntax.specs.declared.span.Span.{Span}
 use Rattle.pict_syntax.specs.declared.id.Id.{Id}
-use Rattle.pict_syntax.specs.declared.type_tree.KindTree.{KindTree}
-use Rattle.pict_syntax.specs.declared.type_tree.KindTree.TheVariants.{Plain, Operator}
+use Rattle.pict_syntax.specs.declared.type_tree.Mark.{Mark}
+use Rattle.pict_syntax.specs.declared.type_tree.Mark.TheVariants as mark
 use Rattle.pict_syntax.specs.declared.token.TokenKind.{TokenKind}
 use Rattle.pict_syntax.specs.declared.token.TokenKind.TheVariants.{Identifier, Sign}
-use Rattle.pict_syntax.specs.declared.token.Keyword.TheVariants.{TypeKind}
 use Rattle.pict_syntax.specs.declared.token.Sign.TheVariants.{Equals, CloseParen, CloseBracket, Colon, Less, Hash}
-use Rattle.pict_syntax.specs.Trees.{TypeTree, top_type, int_type, char_type, string_type, bool_type, use_type, both_type, read_type, write_type, respond_type, fields_type, apply_type, rec_type, TypeBinder, type_binder, unbounded, bound, TypeTrees, no_types, more_types, TypeBinders, no_binders, more_binders, LabelledTypes, no_labelled_types, more_labelled_types}
-use Rattle.pict_syntax.specs.Phrases.{Phrase, ◌▸◌, keyword, sign, ident, times, join}
-use Rattle.pict_syntax.specs.Grammar.{type_span, IsKind, IsType, AreTypes, AreLabelledTypes, IsBinder, AreBinders}
+use Rattle.pict_syntax.specs.Trees.{KindTree, plain_kind, operator_kind, TypeTree, top_type, int_type, char_type, string_type, bool_type, use_type, both_type, read_type, write_type, respond_type, fields_type, apply_type, rec_type, TypeBinder, type_binder, unbounded, bound, TypeTrees, no_types, more_types, TypeBinders, no_binders, more_binders, LabelledTypes, no_labelled_types, more_labelled_types}
+use Rattle.pict_syntax.specs.Phrases.{Phrase, ◌▸◌, sign, ident, join}
+use Rattle.pict_syntax.specs.Grammar.{type_span, IsMark, AreMarks, IsKind, IsType, AreTypes, AreLabelledTypes, IsBinder, AreBinders}
 use Rattle.pict_automaton.specs.Places.{State, both, read, write, respond, TypePlace, in_prefix, in_type_field, in_type_label, in_type_apply, in_rec, in_bound, BinderPlace, of_patterns, of_types, after_binders, binder_hash, binder_name, need_kind, kind_arguments, binder_kind, need_type, operator_arguments, after_type_binders, after_types, type_name, after_type_labels, type_label}
 use Rattle.pict_automaton.specs.Machine.{step, put_type, put_binder}
-use Rattle.pict_automaton.proofs.Reading.{anything, next, Reads, Falls, then_any, one, first, some_keyword, first_keyword, first_sign, empty, no_reads, then_falls, falls_then, always, falls, led_reads, between_reads, at_some, some_then, Starts, starts_at, starts_led, starts_between, starts_never, starts_with, starts_also, Leads, leads_nothing, leads_more, leads_both, calm_next, then_next, then_leads, weaken}
+use Rattle.pict_automaton.proofs.Reading.{anything, next, Reads, Falls, then_any, one, first, some_keyword, first_symbol, first_keyword, first_sign, empty, onto, no_reads, then_falls, falls_then, always, falls, led_reads, between_reads, at_some, some_then, Starts, starts_at, starts_led, starts_between, starts_never, starts_with, starts_also, Leads, leads_nothing, leads_more, leads_both, calm_next, then_next, then_leads, weaken}
 use Rattle.pict_automaton.proofs.Ahead.{Unbound, Calm, calm_unbound, BeginsType, StartsType, starts_calm, BeginsBinder, binder_unbound}
 
-reads_times : (n : ℕ) (h : Span) (x : Id) (p : BinderPlace) → Reads anything (kind_arguments h x zero p) (times n (keyword TypeKind)) (kind_arguments h x n p)
-unfolding times
-reads_times zero h x p = empty
-reads_times (suc n) h x p = then_any (reads_times n h x p) (some_keyword (λ i. refl))
+reads_mark : (m : Mark) (ms : List Mark) (h : Span) (x : Id) (p : BinderPlace) → Reads anything (kind_arguments h x ms p) (IsMark m) (kind_arguments h x (ms ++ m ∷ []) p)
+reads_mark mark.Plain ms h x p = some_keyword (λ i. refl)
+reads_mark mark.Plus ms h x p = first_symbol (λ n i. refl) (some_keyword (λ i. refl))
+reads_mark mark.Minus ms h x p = first_symbol (λ n i. refl) (some_keyword (λ i. refl))
+
+-- marks behind those that were read
+reads_marks : (ns ms : List Mark) (h : Span) (x : Id) (p : BinderPlace) → Reads anything (kind_arguments h x ms p) (AreMarks ns) (kind_arguments h x (ms ++ ns) p)
+unfolding AreMarks
+reads_marks [] ms h x p = onto empty (ap (λ l. kind_arguments h x l p) (sym (append-nil ms)))
+reads_marks (n ∷ ns) ms h x p = then_any (reads_mark n ms h x p) (onto (reads_marks ns (ms ++ n ∷ []) h x p) (ap (λ l. kind_arguments h x l p) (append_assoc ms (n ∷ []) ns)))
 
 pub reads_kind : (k : KindTree) (j h : Span) (x : Id) (p : BinderPlace) → Reads anything (need_kind h x p) (IsKind k j) (binder_kind h x k j p)
-reads_kind Plain j h x p = one refl
-reads_kind (Operator zero) j h x p = no_reads
-reads_kind (Operator (suc n)) j h x p =
+reads_kind plain_kind j h x p = one refl
+reads_kind (operator_kind []) j h x p = no_reads
+reads_kind (operator_kind (m ∷ ms)) j h x p =
     first_sign (λ i. refl)
-    (then_any (reads_times n h x p)
-    (first_keyword (λ i. refl) (first_sign (λ i. refl) (first_keyword (λ i. refl) (one refl)))))
+    (then_any (reads_marks (m ∷ ms) [] h x p)
+    (first_sign (λ i. refl) (first_keyword (λ i. refl) (one refl))))
 
 -- a type begins with one of its tokens
 pub starts_type : (t : TypeTree) → Starts StartsType (IsType t)

@@ -1,15 +1,18 @@
 -- What has been read at each place and in each state.
-use Rattle.std.proofs.Common.{ℕ, suc, zero, List, [], ◌∷◌, Option, None, Some}
+use Rattle.std.proofs.Common.{List, [], ◌∷◌, Option, None, Some}
 use Rattle.pict_syntax.specs.declared.span.Span.{Span}
 use Rattle.pict_syntax.specs.declared.id.Id.{Id}
-use Rattle.pict_syntax.specs.declared.type_tree.KindTree.{KindTree}
+use Rattle.pict_syntax.specs.declared.type_tree.Mark.{Mark}
+use Rattle.pict_syntax.specs.declared.type_tree.Mark.TheVariants as mark
+use Rattle.pict_syntax.specs.declared.token.SymbolName.TheVariants as symbol_name
 use Rattle.pict_syntax.specs.declared.token.TokenKind.TheVariants.{Keyword, Sign}
 use Rattle.pict_syntax.specs.declared.token.Keyword.TheVariants.{Def, Else, If, New, Rec, Run, Then, TypeDefinition, Val as ValKeyword, TypeKind}
 use Rattle.pict_syntax.specs.declared.token.Sign.{Sign as AnySign}
 use Rattle.pict_syntax.specs.declared.token.Sign.TheVariants.{Bang, Question, QuestionStar, Equals, OpenParen, CloseParen, OpenBracket, Colon, Less, Greater, Backslash, Caret, Slash, Hash, Underscore, Arrow}
-use Rattle.pict_syntax.specs.Phrases.{Phrase, never, ◌▸◌, at, keyword, sign, ident, idents, times, name}
-use Rattle.pict_syntax.specs.Grammar.{IsKind, SomeKind, IsType, AreTypes, AreLabelledTypes, AreBinders, IsRType, IsPat, AreFieldPats, ArePats, AreLabelledPats, AreTypeArguments, AreDecs, AreDefinitionsAnd, IsAbs, IsChan, IsVal, AreVals, AreLabelledVals, IsProc, AreProcsBar}
-use Rattle.pict_automaton.specs.Places.{Side, rightward, leftward, Ask, asks_once, asks_always, Prefix, both, read, write, respond, ValuePlace, in_let, in_function, in_send, in_side, in_field, in_label, in_fold, in_else, waiting, Wait, at_top, in_test, in_then, in_paren, ProcessPlace, in_run, in_process, in_else_process, in_bar, in_then_process, EitherPlace, in_paren_either, in_then_either, ProcessPlaces, process_only, process_either, ValuePlaces, value_only, value_either, Place, for_value, for_process, for_either, DeclarationPlace, top_declarations, paren_declarations, AbstractionPlace, in_definition, in_lambda, in_input, FieldsPlace, in_record, in_apply, PatternPlace, in_let_pattern, in_abstraction_pattern, in_fold_pattern, in_field_pattern, in_label_pattern, FieldPatternsPlace, in_pattern_record, in_parameters, TypePlace, in_new, in_alias, in_operator, in_bind, in_any, in_result, in_pattern_fold_type, in_fold_type, in_bound, in_prefix, in_type_field, in_type_label, in_type_apply, in_rec, in_argument, BinderPlace, of_patterns, of_types, State, stop, need, fresh_name, arguments, have_channel, have_value, have_either, have_process, have_processes, new_keyword, new_name, let_pattern, definition_keyword, have_definition, type_keyword, alias_name, operator_open, operator_parameters, operator_closed, need_abstraction, abstraction_open, abstraction_pattern, abstraction_parameters, abstraction_result, need_pattern, pattern_open, pattern_rec, pattern_folded, have_bind, have_any, after_binders, after_patterns, pattern_name, after_pattern_labels, pattern_label, binder_hash, binder_name, need_kind, kind_arguments, kind_arrow, kind_result, binder_kind, need_type, type_open, rec_keyword, rec_name, rec_body, operator_arguments, after_type_binders, after_types, type_name, after_type_labels, type_label, fold_keyword, fold_body, after_arguments, after_values, value_name, after_labels, value_label}
+use Rattle.pict_syntax.specs.Phrases.{Phrase, nothing, never, ◌▸◌, at, keyword, sign, symbol, ident, idents, name}
+use Rattle.pict_syntax.specs.Trees.{KindTree}
+use Rattle.pict_syntax.specs.Grammar.{AreMarks, IsKind, SomeKind, IsType, AreTypes, AreLabelledTypes, AreBinders, IsRType, IsPat, AreFieldPats, ArePats, AreLabelledPats, AreTypeArguments, AreDecs, AreDefinitionsAnd, IsAbs, IsChan, IsVal, AreVals, AreLabelledVals, IsProc, AreProcsBar}
+use Rattle.pict_automaton.specs.Places.{Side, rightward, leftward, Ask, asks_once, asks_always, Prefix, both, read, write, respond, ValuePlace, in_let, in_function, in_send, in_side, in_field, in_label, in_fold, in_else, waiting, Wait, at_top, in_test, in_then, in_paren, ProcessPlace, in_run, in_process, in_else_process, in_bar, in_then_process, EitherPlace, in_paren_either, in_then_either, ProcessPlaces, process_only, process_either, ValuePlaces, value_only, value_either, Place, for_value, for_process, for_either, DeclarationPlace, top_declarations, paren_declarations, AbstractionPlace, in_definition, in_lambda, in_input, FieldsPlace, in_record, in_apply, PatternPlace, in_let_pattern, in_abstraction_pattern, in_fold_pattern, in_field_pattern, in_label_pattern, FieldPatternsPlace, in_pattern_record, in_parameters, TypePlace, in_new, in_alias, in_operator, in_bind, in_any, in_result, in_pattern_fold_type, in_fold_type, in_bound, in_prefix, in_type_field, in_type_label, in_type_apply, in_rec, in_argument, BinderPlace, of_patterns, of_types, State, stop, need, fresh_name, arguments, have_channel, have_value, have_either, have_process, have_processes, new_keyword, new_name, let_pattern, definition_keyword, have_definition, type_keyword, alias_name, operator_open, operator_parameters, operator_closed, need_abstraction, abstraction_open, abstraction_pattern, abstraction_parameters, abstraction_result, need_pattern, pattern_open, pattern_rec, pattern_folded, have_bind, have_any, after_binders, after_patterns, pattern_name, after_pattern_labels, pattern_label, binder_hash, binder_name, need_kind, kind_arguments, kind_mark, kind_arrow, kind_result, binder_kind, need_type, type_open, rec_keyword, rec_name, rec_body, operator_arguments, after_type_binders, after_types, type_name, after_type_labels, type_label, fold_keyword, fold_body, after_arguments, after_values, value_name, after_labels, value_label}
 
 abbrev pub side_sign : Side → AnySign
 side_sign rightward = Greater
@@ -39,14 +42,20 @@ abbrev pub bound_keywords : Option KindTree → Phrase
 bound_keywords None = sign Less
 bound_keywords (Some k) = sign Colon ▸ (SomeKind k ▸ sign Less)
 
--- a kind up to its arrow, and up to its result
-abbrev pub arrow_keywords : ℕ → Phrase
-arrow_keywords zero = never
-arrow_keywords (suc n) = sign OpenParen ▸ (times n (keyword TypeKind) ▸ (keyword TypeKind ▸ sign Arrow))
+-- a mark up to its `Type`
+abbrev pub mark_symbol : Mark → Phrase
+mark_symbol mark.Plain = nothing
+mark_symbol mark.Plus = symbol symbol_name.Plus
+mark_symbol mark.Minus = symbol symbol_name.Minus
 
-abbrev pub result_keywords : ℕ → Phrase
-result_keywords zero = never
-result_keywords (suc n) = sign OpenParen ▸ (times n (keyword TypeKind) ▸ (keyword TypeKind ▸ (sign Arrow ▸ keyword TypeKind)))
+-- a kind up to its arrow, and up to its result
+abbrev pub arrow_keywords : List Mark → Phrase
+arrow_keywords [] = never
+arrow_keywords (m ∷ ms) = sign OpenParen ▸ (AreMarks (m ∷ ms) ▸ sign Arrow)
+
+abbrev pub result_keywords : List Mark → Phrase
+result_keywords [] = never
+result_keywords (m ∷ ms) = sign OpenParen ▸ (AreMarks (m ∷ ms) ▸ (sign Arrow ▸ keyword TypeKind))
 
 abbrev mutual
   pub value_says : ValuePlace → Phrase
@@ -177,9 +186,10 @@ state_says (pattern_label p bs ps ls x) = patterns_says p ▸ (AreBinders bs ▸
 state_says (binder_hash h p) = binder_says p ▸ at (Sign Hash) h
 state_says (binder_name h x p) = binder_says p ▸ (at (Sign Hash) h ▸ ident x)
 state_says (need_kind h x p) = binder_says p ▸ (at (Sign Hash) h ▸ (ident x ▸ sign Colon))
-state_says (kind_arguments h x n p) = binder_says p ▸ (at (Sign Hash) h ▸ (ident x ▸ (sign Colon ▸ (sign OpenParen ▸ times n (keyword TypeKind)))))
-state_says (kind_arrow h x n p) = binder_says p ▸ (at (Sign Hash) h ▸ (ident x ▸ (sign Colon ▸ arrow_keywords n)))
-state_says (kind_result h x n p) = binder_says p ▸ (at (Sign Hash) h ▸ (ident x ▸ (sign Colon ▸ result_keywords n)))
+state_says (kind_arguments h x ms p) = binder_says p ▸ (at (Sign Hash) h ▸ (ident x ▸ (sign Colon ▸ (sign OpenParen ▸ AreMarks ms))))
+state_says (kind_mark h x ms m p) = binder_says p ▸ (at (Sign Hash) h ▸ (ident x ▸ (sign Colon ▸ (sign OpenParen ▸ (AreMarks ms ▸ mark_symbol m)))))
+state_says (kind_arrow h x ms p) = binder_says p ▸ (at (Sign Hash) h ▸ (ident x ▸ (sign Colon ▸ arrow_keywords ms)))
+state_says (kind_result h x ms p) = binder_says p ▸ (at (Sign Hash) h ▸ (ident x ▸ (sign Colon ▸ result_keywords ms)))
 state_says (binder_kind h x k j p) = binder_says p ▸ (at (Sign Hash) h ▸ (ident x ▸ (sign Colon ▸ IsKind k j)))
 state_says (need_type p) = type_says p
 state_says (type_open o p) = type_says p ▸ at (Sign OpenParen) o

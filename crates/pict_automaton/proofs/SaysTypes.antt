@@ -1,22 +1,23 @@
 -- A token that is read has been read behind what was read: types, type binders and patterns.
-use Rattle.std.proofs.Common.{ℕ, suc, zero, refl, None, Some}
+use Rattle.std.proofs.Common.{List, [], ◌∷◌, ◌++◌, refl, None, Some}
 use Rattle.pict_syntax.specs.declared.span.Span.{Span}
 use Rattle.pict_syntax.specs.declared.id.Id.{Id}
-use Rattle.pict_syntax.specs.declared.type_tree.KindTree.{KindTree}
-use Rattle.pict_syntax.specs.declared.type_tree.KindTree.TheVariants.{Operator}
+use Rattle.pict_syntax.specs.declared.type_tree.Mark.{Mark}
+use Rattle.pict_syntax.specs.declared.type_tree.Mark.TheVariants as mark
+use Rattle.pict_syntax.specs.declared.token.SymbolName.TheVariants as symbol_name
 use Rattle.pict_syntax.specs.declared.token.TokenKind.{TokenKind}
-use Rattle.pict_syntax.specs.declared.token.TokenKind.TheVariants.{Identifier, Keyword, Sign}
+use Rattle.pict_syntax.specs.declared.token.TokenKind.TheVariants.{Identifier, Symbol, Keyword, Sign}
 use Rattle.pict_syntax.specs.declared.token.Keyword.{Keyword as AnyKeyword}
 use Rattle.pict_syntax.specs.declared.token.Keyword.TheVariants.{Rec, BoolType, CharType, IntType, StringType, TopType, TypeKind}
 use Rattle.pict_syntax.specs.declared.token.Sign.{Sign as AnySign}
 use Rattle.pict_syntax.specs.declared.token.Sign.TheVariants.{Bang, Question, Equals, OpenParen, CloseParen, OpenBracket, CloseBracket, Colon, Less, Caret, Slash, Hash, Underscore, Arrow}
-use Rattle.pict_syntax.specs.Trees.{TypeTree, top_type, int_type, char_type, string_type, bool_type, use_type, fields_type, apply_type, rec_type, TypeBinder, type_binder, unbounded, TypeTrees, no_types, more_types, TypeBinders, more_binders, LabelledTypes, no_labelled_types, RType, Pat, bind_pat, any_pat, fields_pat, fold_pat, FieldPats, field_pats, Pats, no_pats, more_pats, LabelledPats, no_labelled_pats, more_labelled_pats}
-use Rattle.pict_syntax.specs.Phrases.{◌▸◌, at, sign, ident, times, join}
-use Rattle.pict_syntax.specs.Grammar.{IsKind, SomeKind, IsType, IsBinder, IsPat, AreFieldPats}
-use Rattle.pict_automaton.specs.Places.{DeclarationPlace, AbstractionPlace, PatternPlace, in_let_pattern, in_abstraction_pattern, in_fold_pattern, in_field_pattern, in_label_pattern, FieldPatternsPlace, in_pattern_record, in_parameters, TypePlace, in_type_field, in_type_apply, BinderPlace, of_patterns, of_types, let_pattern, abstraction_pattern, pattern_open, pattern_rec, pattern_folded, have_bind, have_any, after_binders, after_patterns, pattern_name, after_pattern_labels, pattern_label, binder_hash, binder_name, need_kind, kind_arguments, kind_arrow, kind_result, binder_kind, rec_keyword, rec_name, rec_body, operator_arguments, after_type_binders, after_types, type_name, after_type_labels, type_label}
-use Rattle.pict_automaton.specs.Machine.{begin_type_keyword, begin_type_sign, begin_type, step_type_open, step_rec_keyword, step_rec_name, step_rec_body, close_operator_arguments, step_operator_arguments, step_types, step_type_name, step_type_labels, step_type_label, step_type_binders, begin_pattern, step_pattern_open, step_pattern_rec, step_pattern_folded, close_patterns, step_patterns, step_pattern_labels, step_pattern_label, step_binders, step_let_pattern, step_abstraction_pattern, step_pattern, step_bind, step_any, step_pattern_name, step_binder, step_hash, step_binder_name, step_need_kind, kind_arrow_at, step_kind_arguments, step_kind_arrow, step_kind_result, step_binder_kind}
-use Rattle.pict_automaton.proofs.Inclusions.{Sub, same, then, assoc, under, over, apart2, join1, join2, join3, join4, join5, a_keyword, a_sign, add_nothing, from_nothing, never_first, gone, a_led, closing}
-use Rattle.pict_automaton.proofs.Says.{pattern_says, patterns_says, type_says, binder_says, state_says}
+use Rattle.pict_syntax.specs.Trees.{KindTree, operator_kind, TypeTree, top_type, int_type, char_type, string_type, bool_type, use_type, fields_type, apply_type, rec_type, TypeBinder, type_binder, unbounded, TypeTrees, no_types, more_types, TypeBinders, more_binders, LabelledTypes, no_labelled_types, RType, Pat, bind_pat, any_pat, fields_pat, fold_pat, FieldPats, field_pats, Pats, no_pats, more_pats, LabelledPats, no_labelled_pats, more_labelled_pats}
+use Rattle.pict_syntax.specs.Phrases.{◌▸◌, at, keyword, sign, ident, join}
+use Rattle.pict_syntax.specs.Grammar.{IsMark, AreMarks, IsKind, SomeKind, IsType, IsBinder, IsPat, AreFieldPats}
+use Rattle.pict_automaton.specs.Places.{DeclarationPlace, AbstractionPlace, PatternPlace, in_let_pattern, in_abstraction_pattern, in_fold_pattern, in_field_pattern, in_label_pattern, FieldPatternsPlace, in_pattern_record, in_parameters, TypePlace, in_type_field, in_type_apply, BinderPlace, of_patterns, of_types, let_pattern, abstraction_pattern, pattern_open, pattern_rec, pattern_folded, have_bind, have_any, after_binders, after_patterns, pattern_name, after_pattern_labels, pattern_label, binder_hash, binder_name, need_kind, kind_arguments, kind_mark, kind_arrow, kind_result, binder_kind, rec_keyword, rec_name, rec_body, operator_arguments, after_type_binders, after_types, type_name, after_type_labels, type_label}
+use Rattle.pict_automaton.specs.Machine.{begin_type_keyword, begin_type_sign, begin_type, step_type_open, step_rec_keyword, step_rec_name, step_rec_body, close_operator_arguments, step_operator_arguments, step_types, step_type_name, step_type_labels, step_type_label, step_type_binders, begin_pattern, step_pattern_open, step_pattern_rec, step_pattern_folded, close_patterns, step_patterns, step_pattern_labels, step_pattern_label, step_binders, step_let_pattern, step_abstraction_pattern, step_pattern, step_bind, step_any, step_pattern_name, step_binder, step_hash, step_binder_name, step_need_kind, kind_arrow_at, step_kind_arguments, step_kind_mark, step_kind_arrow, step_kind_result, step_binder_kind}
+use Rattle.pict_automaton.proofs.Inclusions.{Sub, same, then, assoc, under, over, apart2, join1, join2, join3, join4, join5, a_keyword, a_sign, some_symbol, add_nothing, from_nothing, drop_nothing, never_first, gone, a_led, closing}
+use Rattle.pict_automaton.proofs.Says.{mark_symbol, pattern_says, patterns_says, type_says, binder_says, state_says}
 use Rattle.pict_automaton.proofs.SaysPuts.{any_bare, bind_bare, put_pattern_says, put_binder_says, put_type_says}
 
 begin_type_keyword_says : (k : AnyKeyword) (i : Span) (p : TypePlace) → Sub (type_says p ▸ at (Keyword k) i) (state_says (begin_type_keyword k i p))
@@ -194,37 +195,51 @@ step_binder_name_says (Sign Less) i h x p = join2 (under a_sign)
 step_binder_name_says k i h x p = then (over (under (a_led x.span))) (step_binder_says k i (type_binder (join h x.span) x None unbounded) p)
 
 pub step_need_kind_says : (k : TokenKind) (i h : Span) (x : Id) (p : BinderPlace) → Sub (state_says (need_kind h x p) ▸ at k i) (state_says (step_need_kind k i h x p))
-unfolding times
+unfolding AreMarks
 step_need_kind_says (Keyword TypeKind) i h x p = join3 same
 step_need_kind_says (Sign OpenParen) i h x p = join3 (under (then a_sign add_nothing))
 step_need_kind_says _ i h x p = gone
 
-kind_arrow_says : (i h : Span) (x : Id) (n : ℕ) (p : BinderPlace) → Sub (state_says (kind_arguments h x n p) ▸ at (Sign Arrow) i) (state_says (kind_arrow_at h x n p))
-unfolding times
-kind_arrow_says i h x zero p = gone
-kind_arrow_says i h x (suc n) p = join4 (join2 (under a_sign))
+mark_whole : (m : Mark) → Sub (mark_symbol m ▸ keyword TypeKind) (IsMark m)
+mark_whole mark.Plain = drop_nothing
+mark_whole mark.Plus = same
+mark_whole mark.Minus = same
 
-pub step_kind_arguments_says : (k : TokenKind) (i h : Span) (x : Id) (n : ℕ) (p : BinderPlace) → Sub (state_says (kind_arguments h x n p) ▸ at k i) (state_says (step_kind_arguments k i h x n p))
-unfolding times
-step_kind_arguments_says (Keyword TypeKind) i h x n p = join4 (join1 (under a_keyword))
-step_kind_arguments_says (Sign Arrow) i h x n p = kind_arrow_says i h x n p
-step_kind_arguments_says _ i h x n p = gone
+marks_more : (ms : List Mark) (m : Mark) → Sub (AreMarks ms ▸ IsMark m) (AreMarks (ms ++ m ∷ []))
+unfolding AreMarks
+marks_more [] m = then drop_nothing add_nothing
+marks_more (n ∷ ms) m = then assoc (under (marks_more ms m))
 
-kind_result_says : (i h : Span) (x : Id) (n : ℕ) (p : BinderPlace) → Sub (state_says (kind_arrow h x n p) ▸ at (Keyword TypeKind) i) (state_says (kind_result h x n p))
-kind_result_says i h x zero p = join4 never_first
-kind_result_says i h x (suc n) p = join4 (join3 (under a_keyword))
+kind_arrow_says : (i h : Span) (x : Id) (ms : List Mark) (p : BinderPlace) → Sub (state_says (kind_arguments h x ms p) ▸ at (Sign Arrow) i) (state_says (kind_arrow_at h x ms p))
+kind_arrow_says i h x [] p = gone
+kind_arrow_says i h x (m ∷ ms) p = join4 (join1 (under a_sign))
 
-pub step_kind_arrow_says : (k : TokenKind) (i h : Span) (x : Id) (n : ℕ) (p : BinderPlace) → Sub (state_says (kind_arrow h x n p) ▸ at k i) (state_says (step_kind_arrow k i h x n p))
-step_kind_arrow_says (Keyword TypeKind) i h x n p = kind_result_says i h x n p
-step_kind_arrow_says _ i h x n p = gone
+pub step_kind_arguments_says : (k : TokenKind) (i h : Span) (x : Id) (ms : List Mark) (p : BinderPlace) → Sub (state_says (kind_arguments h x ms p) ▸ at k i) (state_says (step_kind_arguments k i h x ms p))
+step_kind_arguments_says (Keyword TypeKind) i h x ms p = join4 (join1 (then (under a_keyword) (marks_more ms mark.Plain)))
+step_kind_arguments_says (Symbol symbol_name.Plus n) i h x ms p = join4 (join1 (under some_symbol))
+step_kind_arguments_says (Symbol symbol_name.Minus n) i h x ms p = join4 (join1 (under some_symbol))
+step_kind_arguments_says (Sign Arrow) i h x ms p = kind_arrow_says i h x ms p
+step_kind_arguments_says _ i h x ms p = gone
 
-kind_end_says : (i h : Span) (x : Id) (n : ℕ) (p : BinderPlace) → Sub (state_says (kind_result h x n p) ▸ at (Sign CloseParen) i) (state_says (binder_kind h x (Operator n) i p))
-kind_end_says i h x zero p = join4 never_first
-kind_end_says i h x (suc n) p = join4 (join4 same)
+pub step_kind_mark_says : (k : TokenKind) (i h : Span) (x : Id) (ms : List Mark) (m : Mark) (p : BinderPlace) → Sub (state_says (kind_mark h x ms m p) ▸ at k i) (state_says (step_kind_mark k i h x ms m p))
+step_kind_mark_says (Keyword TypeKind) i h x ms m p = join4 (join1 (then assoc (then (under (then (under a_keyword) (mark_whole m))) (marks_more ms m))))
+step_kind_mark_says _ i h x ms m p = gone
 
-pub step_kind_result_says : (k : TokenKind) (i h : Span) (x : Id) (n : ℕ) (p : BinderPlace) → Sub (state_says (kind_result h x n p) ▸ at k i) (state_says (step_kind_result k i h x n p))
-step_kind_result_says (Sign CloseParen) i h x n p = kind_end_says i h x n p
-step_kind_result_says _ i h x n p = gone
+kind_result_says : (i h : Span) (x : Id) (ms : List Mark) (p : BinderPlace) → Sub (state_says (kind_arrow h x ms p) ▸ at (Keyword TypeKind) i) (state_says (kind_result h x ms p))
+kind_result_says i h x [] p = join4 never_first
+kind_result_says i h x (m ∷ ms) p = join4 (join2 (under a_keyword))
+
+pub step_kind_arrow_says : (k : TokenKind) (i h : Span) (x : Id) (ms : List Mark) (p : BinderPlace) → Sub (state_says (kind_arrow h x ms p) ▸ at k i) (state_says (step_kind_arrow k i h x ms p))
+step_kind_arrow_says (Keyword TypeKind) i h x ms p = kind_result_says i h x ms p
+step_kind_arrow_says _ i h x ms p = gone
+
+kind_end_says : (i h : Span) (x : Id) (ms : List Mark) (p : BinderPlace) → Sub (state_says (kind_result h x ms p) ▸ at (Sign CloseParen) i) (state_says (binder_kind h x (operator_kind ms) i p))
+kind_end_says i h x [] p = join4 never_first
+kind_end_says i h x (m ∷ ms) p = join4 (join3 same)
+
+pub step_kind_result_says : (k : TokenKind) (i h : Span) (x : Id) (ms : List Mark) (p : BinderPlace) → Sub (state_says (kind_result h x ms p) ▸ at k i) (state_says (step_kind_result k i h x ms p))
+step_kind_result_says (Sign CloseParen) i h x ms p = kind_end_says i h x ms p
+step_kind_result_says _ i h x ms p = gone
 
 a_kind : (c : KindTree) (j : Span) → Sub (IsKind c j) (SomeKind c)
 a_kind c j = record { «in» = λ ts h. (j, h) }

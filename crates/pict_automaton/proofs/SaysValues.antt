@@ -12,12 +12,12 @@ use Rattle.pict_syntax.specs.declared.token.Sign.TheVariants.{Bang, Question, Qu
 use Rattle.pict_syntax.specs.Trees.{TypeTree, TypeTrees, no_types, no_binders, RType, FieldPats, def_dec, await_dec, Decs, no_decs, more_decs, Definitions, more_definitions, Abs, Chan, use_chan, fold_chan, block_chan, apply_chan, right_chan, left_chan, Val, of_chan, number_val, character_val, string_val, true_val, false_val, fields_val, Vals, no_vals, more_vals, FieldVals, field_vals, LabelledVals, no_labelled_vals, Proc, inert_proc, group_proc, Procs, more_procs}
 use Rattle.pict_syntax.specs.Phrases.{Phrase, nothing, ◌▸◌, at, keyword, ident, idents, name, join}
 use Rattle.pict_syntax.specs.Grammar.{abs_span, val_span, IsType, AreTypeArguments, IsDec, AreDecs, IsChan, IsVal, AreFieldVals}
-use Rattle.pict_automaton.specs.Places.{Side, rightward, leftward, ValuePlace, in_side, in_field, in_fold, waiting, Wait, at_top, in_test, in_then, in_paren, ProcessPlace, EitherPlace, in_paren_either, in_then_either, ProcessPlaces, process_only, process_either, ValuePlaces, value_only, value_either, Place, for_value, for_process, for_either, DeclarationPlace, top_declarations, paren_declarations, AbstractionPlace, FieldsPlace, in_record, in_apply, in_abstraction_pattern, in_parameters, State, stop, need, fresh_name, arguments, have_channel, have_value, have_either, have_process, have_processes, new_keyword, new_name, let_pattern, definition_keyword, have_definition, type_keyword, alias_name, operator_open, operator_parameters, operator_closed, need_abstraction, abstraction_open, abstraction_pattern, abstraction_parameters, abstraction_result, need_pattern, pattern_open, pattern_rec, pattern_folded, have_bind, have_any, after_binders, after_patterns, pattern_name, after_pattern_labels, pattern_label, binder_hash, binder_name, need_kind, kind_arguments, kind_arrow, kind_result, binder_kind, need_type, type_open, rec_keyword, rec_name, rec_body, operator_arguments, after_type_binders, after_types, type_name, after_type_labels, type_label, fold_keyword, fold_body, after_arguments, after_values, value_name, after_labels, value_label}
+use Rattle.pict_automaton.specs.Places.{Side, rightward, leftward, ValuePlace, in_side, in_field, in_fold, waiting, Wait, at_top, in_test, in_then, in_paren, ProcessPlace, EitherPlace, in_paren_either, in_then_either, ProcessPlaces, process_only, process_either, ValuePlaces, value_only, value_either, Place, for_value, for_process, for_either, DeclarationPlace, top_declarations, paren_declarations, AbstractionPlace, FieldsPlace, in_record, in_apply, in_abstraction_pattern, in_parameters, State, stop, need, fresh_name, arguments, have_channel, have_value, have_either, have_process, have_processes, new_keyword, new_name, let_pattern, definition_keyword, have_definition, type_keyword, alias_name, operator_open, operator_parameters, operator_closed, need_abstraction, abstraction_open, abstraction_pattern, abstraction_parameters, abstraction_result, need_pattern, pattern_open, pattern_rec, pattern_folded, have_bind, have_any, after_binders, after_patterns, pattern_name, after_pattern_labels, pattern_label, binder_hash, binder_name, need_kind, kind_arguments, kind_mark, kind_arrow, kind_result, binder_kind, need_type, type_open, rec_keyword, rec_name, rec_body, operator_arguments, after_type_binders, after_types, type_name, after_type_labels, type_label, fold_keyword, fold_body, after_arguments, after_values, value_name, after_labels, value_label}
 use Rattle.pict_automaton.specs.Machine.{id, then_place, after_declaration, begin_declaration, begin_first, step_new_keyword, step_new_name, step_definition_keyword, step_type_keyword, step_alias_name, step_operator_open, close_operator, step_operator_parameters, step_operator_closed, step_need_abstraction, step_abstraction_open, step_abstraction_parameters, step_abstraction_result, name_value, declaration_value, keyword_value, sign_value, begin_value, begin_process, name_either, declaration_either, keyword_either, close_inert, sign_either, begin_either, step_need, step_have_definition, close_values, step_values, step_value_name, step_labels, step_value_label, step_arguments_of, step_fold_keyword, step_fold_body, close_side, step_side, close_paren, step_first, step_paren, step_top, step_test, step_then, step_wait, step_either, step_channel_value, step_channel, step_used, step_fresh_name, step_process, step_processes, step}
 use Rattle.pict_automaton.proofs.Inclusions.{Sub, same, then, assoc, under, over, apart2, join1, join2, join3, join4, join5, join6, a_keyword, a_sign, an_identifier, a_symbol, add_nothing, from_nothing, drop_nothing, never_first, gone, a_led, a_closed, closing}
 use Rattle.pict_automaton.proofs.Says.{defined_operator, value_says, wait_says, process_says, either_says, processes_says, values_says, place_says, declaration_says, abstraction_says, fields_says, state_says}
 use Rattle.pict_automaton.proofs.SaysPuts.{put_declaration_says, put_processes_says, put_value_says, put_values_says, put_channel_says}
-use Rattle.pict_automaton.proofs.SaysTypes.{begin_type_says, step_type_open_says, step_rec_keyword_says, step_rec_name_says, step_rec_body_says, step_operator_arguments_says, step_types_says, step_type_name_says, step_type_labels_says, step_type_label_says, step_type_binders_says, begin_pattern_says, step_pattern_open_says, step_pattern_rec_says, step_pattern_folded_says, step_patterns_says, step_pattern_labels_says, step_pattern_label_says, step_binders_says, step_let_pattern_says, step_abstraction_pattern_says, step_bind_says, step_any_says, step_pattern_name_says, step_hash_says, step_binder_name_says, step_need_kind_says, step_kind_arguments_says, step_kind_arrow_says, step_kind_result_says, step_binder_kind_says}
+use Rattle.pict_automaton.proofs.SaysTypes.{begin_type_says, step_type_open_says, step_rec_keyword_says, step_rec_name_says, step_rec_body_says, step_operator_arguments_says, step_types_says, step_type_name_says, step_type_labels_says, step_type_label_says, step_type_binders_says, begin_pattern_says, step_pattern_open_says, step_pattern_rec_says, step_pattern_folded_says, step_patterns_says, step_pattern_labels_says, step_pattern_label_says, step_binders_says, step_let_pattern_says, step_abstraction_pattern_says, step_bind_says, step_any_says, step_pattern_name_says, step_hash_says, step_binder_name_says, step_need_kind_says, step_kind_arguments_says, step_kind_mark_says, step_kind_arrow_says, step_kind_result_says, step_binder_kind_says}
 
 -- declarations
 begin_declaration_says : (k : AnyKeyword) (i : Span) (p : DeclarationPlace) → Sub (declaration_says p ▸ at (Keyword k) i) (state_says (begin_declaration k i p))
@@ -379,9 +379,10 @@ step_says k i (pattern_label p bs ps ls x) = step_pattern_label_says k i p bs ps
 step_says k i (binder_hash h p) = step_hash_says k i h p
 step_says k i (binder_name h x p) = step_binder_name_says k i h x p
 step_says k i (need_kind h x p) = step_need_kind_says k i h x p
-step_says k i (kind_arguments h x n p) = step_kind_arguments_says k i h x n p
-step_says k i (kind_arrow h x n p) = step_kind_arrow_says k i h x n p
-step_says k i (kind_result h x n p) = step_kind_result_says k i h x n p
+step_says k i (kind_arguments h x ms p) = step_kind_arguments_says k i h x ms p
+step_says k i (kind_mark h x ms m p) = step_kind_mark_says k i h x ms m p
+step_says k i (kind_arrow h x ms p) = step_kind_arrow_says k i h x ms p
+step_says k i (kind_result h x ms p) = step_kind_result_says k i h x ms p
 step_says k i (binder_kind h x c j p) = step_binder_kind_says k i h x c j p
 step_says k i (need_type p) = begin_type_says k i p
 step_says k i (type_open o p) = step_type_open_says k i o p

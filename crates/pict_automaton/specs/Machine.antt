@@ -1,11 +1,12 @@
--- The parser as a function on states: what each token leads to. Above each step stand the lines of the grammar that it
--- is in the middle of, with a dot before what is read next.
-use Rattle.std.specs.Prelude.{ℕ, suc, zero, List, [], ◌∷◌, ◌++◌, Option, None, Some}
+-- The parser of declarations as a function on states: what each token leads to. Above each step stand the lines of the grammar
+-- that it is in the middle of, with a dot before what is read next.
+use Rattle.std.specs.Prelude.{List, [], ◌∷◌, ◌++◌, Option, None, Some}
 use Rattle.pict_syntax.specs.declared.name.Name.{Name}
 use Rattle.pict_syntax.specs.declared.span.Span.{Span}
 use Rattle.pict_syntax.specs.declared.id.Id.{Id}
-use Rattle.pict_syntax.specs.declared.type_tree.KindTree.{KindTree}
-use Rattle.pict_syntax.specs.declared.type_tree.KindTree.TheVariants.{Plain, Operator}
+use Rattle.pict_syntax.specs.declared.type_tree.Mark.{Mark}
+use Rattle.pict_syntax.specs.declared.type_tree.Mark.TheVariants as mark
+use Rattle.pict_syntax.specs.declared.token.SymbolName.TheVariants as symbol_name
 use Rattle.pict_syntax.specs.declared.token.Token.{Token}
 use Rattle.pict_syntax.specs.declared.token.TokenKind.{TokenKind}
 use Rattle.pict_syntax.specs.declared.token.TokenKind.TheVariants.{Identifier, Symbol, Keyword, Number, Character, String, Sign}
@@ -13,10 +14,10 @@ use Rattle.pict_syntax.specs.declared.token.Keyword.{Keyword as AnyKeyword}
 use Rattle.pict_syntax.specs.declared.token.Keyword.TheVariants.{And, Def, Else, False, If, New, Rec, Run, Then, True, TypeDefinition, Val as ValKeyword, BoolType, CharType, IntType, StringType, TopType, TypeKind}
 use Rattle.pict_syntax.specs.declared.token.Sign.{Sign as AnySign}
 use Rattle.pict_syntax.specs.declared.token.Sign.TheVariants.{Bang, Question, QuestionStar, Equals, Bar, OpenParen, CloseParen, OpenBracket, CloseBracket, Colon, Semicolon, Less, Greater, Backslash, Caret, Slash, Hash, Underscore, Arrow}
-use Rattle.pict_syntax.specs.Trees.{TypeTree, top_type, int_type, char_type, string_type, bool_type, use_type, fields_type, apply_type, rec_type, TypeBinder, type_binder, unbounded, bound, TypeTrees, no_types, more_types, TypeBinders, no_binders, more_binders, LabelledTypes, no_labelled_types, more_labelled_types, RType, Pat, bind_pat, any_pat, fields_pat, fold_pat, FieldPats, field_pats, Pats, no_pats, more_pats, LabelledPats, no_labelled_pats, more_labelled_pats, Dec, new_dec, run_dec, let_dec, def_dec, alias_dec, operator_dec, await_dec, Decs, no_decs, more_decs, Definitions, no_definitions, more_definitions, Abs, process_abs, function_abs, Chan, use_chan, fold_chan, block_chan, apply_chan, Val, of_chan, number_val, character_val, string_val, true_val, false_val, fields_val, if_val, lambda_val, Vals, no_vals, more_vals, FieldVals, field_vals, LabelledVals, no_labelled_vals, more_labelled_vals, Proc, send_proc, receive_proc, serve_proc, if_proc, inert_proc, group_proc, Procs, no_procs, more_procs}
+use Rattle.pict_syntax.specs.Trees.{KindTree, plain_kind, operator_kind, TypeTree, top_type, int_type, char_type, string_type, bool_type, use_type, fields_type, apply_type, rec_type, TypeBinder, type_binder, unbounded, bound, TypeTrees, no_types, more_types, TypeBinders, no_binders, more_binders, LabelledTypes, no_labelled_types, more_labelled_types, RType, Pat, bind_pat, any_pat, fields_pat, fold_pat, FieldPats, field_pats, Pats, no_pats, more_pats, LabelledPats, no_labelled_pats, more_labelled_pats, Dec, new_dec, run_dec, let_dec, def_dec, alias_dec, operator_dec, await_dec, Decs, no_decs, more_decs, Definitions, no_definitions, more_definitions, Abs, process_abs, function_abs, Chan, use_chan, fold_chan, block_chan, apply_chan, Val, of_chan, number_val, character_val, string_val, true_val, false_val, fields_val, if_val, lambda_val, Vals, no_vals, more_vals, FieldVals, field_vals, LabelledVals, no_labelled_vals, more_labelled_vals, Proc, send_proc, receive_proc, serve_proc, if_proc, inert_proc, group_proc, Procs, no_procs, more_procs}
 use Rattle.pict_syntax.specs.Phrases.{join}
 use Rattle.pict_syntax.specs.Grammar.{type_span, pat_span, abs_span, chan_span, val_span, proc_span}
-use Rattle.pict_automaton.specs.Places.{Side, rightward, leftward, side_channel, asks_once, asks_always, both, read, write, respond, prefixed, ValuePlace, in_let, in_function, in_send, in_side, in_field, in_label, in_fold, in_else, waiting, Wait, at_top, in_test, in_then, in_paren, ProcessPlace, in_run, in_process, in_else_process, in_bar, in_then_process, EitherPlace, in_paren_either, in_then_either, ProcessPlaces, process_only, process_either, ValuePlaces, value_only, value_either, Place, for_value, for_process, for_either, DeclarationPlace, top_declarations, paren_declarations, AbstractionPlace, in_definition, in_lambda, in_input, FieldsPlace, in_record, in_apply, PatternPlace, in_let_pattern, in_abstraction_pattern, in_fold_pattern, in_field_pattern, in_label_pattern, FieldPatternsPlace, in_pattern_record, in_parameters, TypePlace, in_new, in_alias, in_operator, in_bind, in_any, in_result, in_pattern_fold_type, in_fold_type, in_bound, in_prefix, in_type_field, in_type_label, in_type_apply, in_rec, in_argument, BinderPlace, of_patterns, of_types, State, stop, need, fresh_name, arguments, have_channel, have_value, have_either, have_process, have_processes, new_keyword, new_name, let_pattern, definition_keyword, have_definition, type_keyword, alias_name, operator_open, operator_parameters, operator_closed, need_abstraction, abstraction_open, abstraction_pattern, abstraction_parameters, abstraction_result, need_pattern, pattern_open, pattern_rec, pattern_folded, have_bind, have_any, after_binders, after_patterns, pattern_name, after_pattern_labels, pattern_label, binder_hash, binder_name, need_kind, kind_arguments, kind_arrow, kind_result, binder_kind, need_type, type_open, rec_keyword, rec_name, rec_body, operator_arguments, after_type_binders, after_types, type_name, after_type_labels, type_label, fold_keyword, fold_body, after_arguments, after_values, value_name, after_labels, value_label}
+use Rattle.pict_automaton.specs.Places.{Side, rightward, leftward, side_channel, asks_once, asks_always, both, read, write, respond, prefixed, ValuePlace, in_let, in_function, in_send, in_side, in_field, in_label, in_fold, in_else, waiting, Wait, at_top, in_test, in_then, in_paren, ProcessPlace, in_run, in_process, in_else_process, in_bar, in_then_process, EitherPlace, in_paren_either, in_then_either, ProcessPlaces, process_only, process_either, ValuePlaces, value_only, value_either, Place, for_value, for_process, for_either, DeclarationPlace, top_declarations, paren_declarations, AbstractionPlace, in_definition, in_lambda, in_input, FieldsPlace, in_record, in_apply, PatternPlace, in_let_pattern, in_abstraction_pattern, in_fold_pattern, in_field_pattern, in_label_pattern, FieldPatternsPlace, in_pattern_record, in_parameters, TypePlace, in_new, in_alias, in_operator, in_bind, in_any, in_result, in_pattern_fold_type, in_fold_type, in_bound, in_prefix, in_type_field, in_type_label, in_type_apply, in_rec, in_argument, BinderPlace, of_patterns, of_types, State, stop, need, fresh_name, arguments, have_channel, have_value, have_either, have_process, have_processes, new_keyword, new_name, let_pattern, definition_keyword, have_definition, type_keyword, alias_name, operator_open, operator_parameters, operator_closed, need_abstraction, abstraction_open, abstraction_pattern, abstraction_parameters, abstraction_result, need_pattern, pattern_open, pattern_rec, pattern_folded, have_bind, have_any, after_binders, after_patterns, pattern_name, after_pattern_labels, pattern_label, binder_hash, binder_name, need_kind, kind_arguments, kind_mark, kind_arrow, kind_result, binder_kind, need_type, type_open, rec_keyword, rec_name, rec_body, operator_arguments, after_type_binders, after_types, type_name, after_type_labels, type_label, fold_keyword, fold_body, after_arguments, after_values, value_name, after_labels, value_label}
 
 abbrev pub id : Name → Span → Id
 id n i = record { name = n; span = i }
@@ -309,30 +310,37 @@ step_binder_name k i h x p = step_binder k i (type_binder (join h x.span) x None
 
 -- `# Id : . Kind < Type`
 abbrev pub step_need_kind : TokenKind → Span → Span → Id → BinderPlace → State
-step_need_kind (Keyword TypeKind) i h x p = binder_kind h x Plain i p
-step_need_kind (Sign OpenParen) i h x p = kind_arguments h x zero p
+step_need_kind (Keyword TypeKind) i h x p = binder_kind h x plain_kind i p
+step_need_kind (Sign OpenParen) i h x p = kind_arguments h x [] p
 step_need_kind _ i h x p = stop
 
--- `( Type+ -> . Type )`
-abbrev pub kind_arrow_at : Span → Id → ℕ → BinderPlace → State
-kind_arrow_at h x zero p = stop
-kind_arrow_at h x (suc n) p = kind_arrow h x (suc n) p
+-- `( Mark+ -> . Type )`
+abbrev pub kind_arrow_at : Span → Id → List Mark → BinderPlace → State
+kind_arrow_at h x [] p = stop
+kind_arrow_at h x (m ∷ ms) p = kind_arrow h x (m ∷ ms) p
 
--- `( Type* . Type* -> Type )`
-abbrev pub step_kind_arguments : TokenKind → Span → Span → Id → ℕ → BinderPlace → State
-step_kind_arguments (Keyword TypeKind) i h x n p = kind_arguments h x (suc n) p
-step_kind_arguments (Sign Arrow) i h x n p = kind_arrow_at h x n p
-step_kind_arguments _ i h x n p = stop
+-- `( Mark* . Mark* -> Type )`
+abbrev pub step_kind_arguments : TokenKind → Span → Span → Id → List Mark → BinderPlace → State
+step_kind_arguments (Keyword TypeKind) i h x ms p = kind_arguments h x (ms ++ mark.Plain ∷ []) p
+step_kind_arguments (Symbol symbol_name.Plus n) i h x ms p = kind_mark h x ms mark.Plus p
+step_kind_arguments (Symbol symbol_name.Minus n) i h x ms p = kind_mark h x ms mark.Minus p
+step_kind_arguments (Sign Arrow) i h x ms p = kind_arrow_at h x ms p
+step_kind_arguments _ i h x ms p = stop
 
--- `( Type+ -> . Type )`
-abbrev pub step_kind_arrow : TokenKind → Span → Span → Id → ℕ → BinderPlace → State
-step_kind_arrow (Keyword TypeKind) i h x n p = kind_result h x n p
-step_kind_arrow _ i h x n p = stop
+-- `( Mark* + . Type Mark* -> Type )`, `( Mark* - . Type Mark* -> Type )`
+abbrev pub step_kind_mark : TokenKind → Span → Span → Id → List Mark → Mark → BinderPlace → State
+step_kind_mark (Keyword TypeKind) i h x ms m p = kind_arguments h x (ms ++ m ∷ []) p
+step_kind_mark _ i h x ms m p = stop
 
--- `( Type+ -> Type . )`
-abbrev pub step_kind_result : TokenKind → Span → Span → Id → ℕ → BinderPlace → State
-step_kind_result (Sign CloseParen) i h x n p = binder_kind h x (Operator n) i p
-step_kind_result _ i h x n p = stop
+-- `( Mark+ -> . Type )`
+abbrev pub step_kind_arrow : TokenKind → Span → Span → Id → List Mark → BinderPlace → State
+step_kind_arrow (Keyword TypeKind) i h x ms p = kind_result h x ms p
+step_kind_arrow _ i h x ms p = stop
+
+-- `( Mark+ -> Type . )`
+abbrev pub step_kind_result : TokenKind → Span → Span → Id → List Mark → BinderPlace → State
+step_kind_result (Sign CloseParen) i h x ms p = binder_kind h x (operator_kind ms) i p
+step_kind_result _ i h x ms p = stop
 
 -- `# Id : Kind . < Type`
 abbrev pub step_binder_kind : TokenKind → Span → Span → Id → KindTree → Span → BinderPlace → State
@@ -697,9 +705,10 @@ step k i (pattern_label p bs ps ls x) = step_pattern_label k i p bs ps ls x
 step k i (binder_hash h p) = step_hash k i h p
 step k i (binder_name h x p) = step_binder_name k i h x p
 step k i (need_kind h x p) = step_need_kind k i h x p
-step k i (kind_arguments h x n p) = step_kind_arguments k i h x n p
-step k i (kind_arrow h x n p) = step_kind_arrow k i h x n p
-step k i (kind_result h x n p) = step_kind_result k i h x n p
+step k i (kind_arguments h x ms p) = step_kind_arguments k i h x ms p
+step k i (kind_mark h x ms m p) = step_kind_mark k i h x ms m p
+step k i (kind_arrow h x ms p) = step_kind_arrow k i h x ms p
+step k i (kind_result h x ms p) = step_kind_result k i h x ms p
 step k i (binder_kind h x c j p) = step_binder_kind k i h x c j p
 step k i (need_type p) = begin_type k i p
 step k i (type_open o p) = step_type_open k i o p
@@ -728,7 +737,7 @@ run x (t ∷ ts) = run (step t.kind t.span x) ts
 abbrev pub start : State
 start = need (for_value (waiting (at_top no_decs)))
 
--- the program that has been read where a text may end
+-- the declarations that have been read where a text may end
 abbrev pub ended : State → Option Decs
 ended (need (for_value (waiting (at_top ds)))) = Some ds
 ended (have_definition j ds x a (top_declarations es)) = Some (more_decs es (def_dec (join j (abs_span a)) (more_definitions ds x a)))

@@ -1,11 +1,11 @@
 -- Where the parser is in a text: the constructs that are open, as places where a phrase is to come, and its states.
 -- Above each stand the lines of the grammar that it is in the middle of: what stands before the dot has been read, and
 -- what stands behind it is to come.
-use Rattle.std.specs.Prelude.{ℕ, List, Option}
+use Rattle.std.specs.Prelude.{List, Option}
 use Rattle.pict_syntax.specs.declared.span.Span.{Span}
 use Rattle.pict_syntax.specs.declared.id.Id.{Id}
-use Rattle.pict_syntax.specs.declared.type_tree.KindTree.{KindTree}
-use Rattle.pict_syntax.specs.Trees.{TypeTree, both_type, read_type, write_type, respond_type, TypeTrees, TypeBinders, LabelledTypes, RType, Pat, FieldPats, Pats, LabelledPats, Decs, Definitions, Abs, Chan, right_chan, left_chan, Val, Vals, LabelledVals, Proc, Procs}
+use Rattle.pict_syntax.specs.declared.type_tree.Mark.{Mark}
+use Rattle.pict_syntax.specs.Trees.{KindTree, TypeTree, both_type, read_type, write_type, respond_type, TypeTrees, TypeBinders, LabelledTypes, RType, Pat, FieldPats, Pats, LabelledPats, Decs, Definitions, Abs, Chan, right_chan, left_chan, Val, Vals, LabelledVals, Proc, Procs}
 
 -- the sign behind the name of `( Name > .. )` and `( Name < .. )`
 pub data Side : Type 0 where
@@ -268,12 +268,14 @@ pub data State : Type 0 where
   binder_name : Span → Id → BinderPlace → State
   -- `# Id : . Kind < Type`
   need_kind : Span → Id → BinderPlace → State
-  -- `( Type* . Type* -> Type )`
-  kind_arguments : Span → Id → ℕ → BinderPlace → State
-  -- `( Type+ -> . Type )`
-  kind_arrow : Span → Id → ℕ → BinderPlace → State
-  -- `( Type+ -> Type . )`
-  kind_result : Span → Id → ℕ → BinderPlace → State
+  -- `( Mark* . Mark* -> Type )`
+  kind_arguments : Span → Id → List Mark → BinderPlace → State
+  -- `( Mark* + . Type Mark* -> Type )`, `( Mark* - . Type Mark* -> Type )`
+  kind_mark : Span → Id → List Mark → Mark → BinderPlace → State
+  -- `( Mark+ -> . Type )`
+  kind_arrow : Span → Id → List Mark → BinderPlace → State
+  -- `( Mark+ -> Type . )`
+  kind_result : Span → Id → List Mark → BinderPlace → State
   -- `# Id : Kind . < Type`
   binder_kind : Span → Id → KindTree → Span → BinderPlace → State
   -- types

@@ -1,16 +1,17 @@
 //! A device of the proof alone: the parser as a function on states, and what its runs say of the grammar. Nothing here runs.
 #![tactic(auto)]
 
-ghost use Rattle.pict_syntax.specs.Verdicts.{OneVerdict};
 ghost use Rattle.pict_syntax.specs.Place.{OneTree};
+ghost use Rattle.pict_syntax.specs.Programs.{declarations};
+ghost use Rattle.pict_syntax.specs.Verdicts.{OneVerdict};
 
-/// A list of tokens is the tree of at most one program.
+/// A list of tokens is that of at most one list of declarations.
 pub fn law_one_tree()
-    ensures { OneTree }
+    ensures { OneTree declarations }
 {}
 
-/// A list of tokens has at most one verdict: its program, its first unexpected token, the end, or the first token that
-/// is nested too deep.
+/// A list of tokens has at most one verdict by the grammar of declarations: its declarations, its first unexpected token,
+/// the end, or the first token that is nested too deep.
 pub fn law_one_verdict()
-    ensures { OneVerdict }
+    ensures { OneVerdict declarations }
 {}

@@ -7,7 +7,7 @@ use Rattle.pict_core.specs.Substitution.{replace, replace_value, substitution, s
 use Rattle.pict_core.proofs.Substituting.{past}
 use Rattle.pict_code.specs.Standing.{closing}
 use Rattle.pict_code.proofs.Agreeing.{agree}
-use Rattle.pict_reduction.proofs.Replacing.{replace-after}
+use Rattle.pict_core.proofs.Replacing.{replace-after}
 use Rattle.pict_blocks.proofs.Variables.{HasNoVar, value_stays}
 
 -- the values of the levels below n, and from n on these

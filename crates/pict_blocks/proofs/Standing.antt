@@ -1,6 +1,7 @@
 -- What the block of a node stands for: the node's part, with the values of its frame.
 use Rattle.std.proofs.Common.{ℕ, ◌≤◌, ◌≡◌, false, cond, nat_lt, List, [], ◌∷◌, length, map, refl, sym, ap, ◌∙◌, subst, Some, arith}
 use Rattle.std.proofs.lemmas.Bool.Decides.{nat_tests}
+use Rattle.pict_syntax.specs.declared.limits.TheConstants.{NARROW_LIMIT}
 use Rattle.pict_core.specs.Term.{Process}
 use Rattle.pict_code.specs.Frames.{frame_of}
 use Rattle.pict_code.specs.Instruction.{Node, Op}
@@ -21,10 +22,10 @@ module _ (h : HeapState) (values : List (ℕ × ℕ)) where
   values_back [] = refl
   values_back (l ∷ ls) = ap (λ vs. known h values l ∷ vs) (values_back ls)
 
-  pub frame_back : (ls : List ℕ) (n : ℕ) → n ≤ 32000 → frame_values (value_in h) n (frame_words values ls) ≡ map (known h values) ls
+  pub frame_back : (ls : List ℕ) (n : ℕ) → n ≤ NARROW_LIMIT → frame_values (value_in h) n (frame_words values ls) ≡ map (known h values) ls
   frame_back [] n few = refl
   frame_back (l ∷ ls) n few =
-      let test : nat_lt 32000 n ≡ false = grind (arith, nat_tests) in
+      let test : nat_lt NARROW_LIMIT n ≡ false = grind (arith, nat_tests) in
       ap (λ b. cond b (fields_of (known h values l)) (values_of (value_in h) (frame_words values (l ∷ ls)))) test ∙ values_back (l ∷ ls)
 
 pub narrow_blocks : NarrowBlocks

@@ -1,5 +1,6 @@
 -- What a block of a machine stands for, by the words behind its link, and what queues of blocks stand for.
 use Rattle.std.specs.Prelude.{◌≡◌, ℕ, zero, suc, nat_lt, List, [], ◌∷◌, map, length, slice_get, Option, Some, None, option_map, unwrap_or, if◌then◌else◌, pos}
+use Rattle.pict_syntax.specs.declared.limits.TheConstants.{NARROW_LIMIT}
 use Rattle.pict_core.specs.Term.{Val, Vals, Chan, Int, Record, no_vals, more_vals, Process, Zero, Out}
 use Rattle.pict_core.specs.Substitution.{replace_value}
 use Rattle.pict_code.specs.Frames.{frame_of}
@@ -28,9 +29,9 @@ abbrev pub fields_of : Val → List Val
 fields_of (Record vs ls) = list_of vs
 fields_of _ = []
 
--- the values of a frame: themselves, or where it has more than 32,000 levels the positional fields of one record
+-- the values of a frame: themselves, or where it has more than `NARROW_LIMIT` levels the positional fields of one record
 abbrev pub frame_values : (ℕ → ℕ → Val) → ℕ → List ℕ → List Val
-frame_values value levels (tag ∷ payload ∷ ws) = if nat_lt 32000 levels then fields_of (value tag payload) else values_of value (tag ∷ payload ∷ ws)
+frame_values value levels (tag ∷ payload ∷ ws) = if nat_lt NARROW_LIMIT levels then fields_of (value tag payload) else values_of value (tag ∷ payload ∷ ws)
 frame_values value levels ws = []
 
 abbrev pub node_process : (ℕ → ℕ → Val) → List ℕ → Option Place → Process

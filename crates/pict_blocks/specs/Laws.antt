@@ -1,5 +1,6 @@
 -- Steps of blocks, on their words: one law for each row of the table of steps in which a node acts.
 use Rattle.std.specs.Prelude.{◌≡◌, ◌≤◌, ◌<◌, ℕ, Bool, List, ◌∷◌, ◌++◌, [], length, Some, slice_get, slice_set, if◌then◌else◌}
+use Rattle.pict_syntax.specs.declared.limits.TheConstants.{NARROW_LIMIT}
 use Rattle.pict_syntax.specs.declared.span.Span.{Span}
 use Rattle.pict_core.specs.Term.{Process, Val, Chan, Boolean, Out, In}
 use Rattle.pict_core.specs.Closed.{IsClosed}
@@ -20,11 +21,11 @@ abbrev pub BlocksStep : Process → HeapState → List (List ℕ) → List (List
 BlocksStep core h ready channels label ready_after channels_after =
     next_view (view_of_contents core (value_in h) ready channels) ≡ Moves (view_of_contents core (value_in h) ready_after channels_after) label
 
--- A frame of at most 32,000 levels stands in the block itself.
+-- A frame of at most `NARROW_LIMIT` levels stands in the block itself.
 abbrev pub NarrowBlocks : Type 0
 NarrowBlocks =
     (core : Process) (h : HeapState) (values : List (ℕ × ℕ)) (number : ℕ) (node : Node)
-    → slice_get (nodes_of core) number ≡ Some node → length node.frame ≤ 32000
+    → slice_get (nodes_of core) number ≡ Some node → length node.frame ≤ NARROW_LIMIT
     → IsNodeBlock core h values number node (node_words values number node.frame)
 
 -- 0: the block ends.

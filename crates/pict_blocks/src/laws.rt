@@ -1,8 +1,8 @@
 // Laws of the definitions. Each is a function that does nothing: its contract is the law.
 ghost use Rattle.pict_blocks.specs.Laws.{NarrowBlocks, NodesEnd, PartsFork, NewsMakeChannels, TestsChoose, OutputsStand, InputsStand, OutputsMeet, InputsMeet};
 
-/// A frame of at most 32,000 levels stands in the block itself: the words of a node's number and of the values of its frame are
-/// a block of the node.
+/// A frame of at most `NARROW_LIMIT` levels stands in the block itself: the words of a node's number and of the values of its
+/// frame are a block of the node.
 pub fn law_narrow_blocks()
     ensures { NarrowBlocks }
 {}

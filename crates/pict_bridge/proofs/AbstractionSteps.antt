@@ -13,7 +13,7 @@ use Rattle.pict_scope.specs.Scopes.{scope_stop}
 use Rattle.pict_scope.specs.Around as scope
 use Rattle.pict_scope.specs.Outlines.{◌▸◌, pattern, empty, marks}
 use Rattle.pict_scope.specs.Forms.{in_pat, in_field_pats, in_annotation, in_abs}
-use Rattle.pict_sub.specs.Subtyping.{Falls, write_write, both_write, IsSubtype, same, upward, read_read}
+use Rattle.pict_sub.specs.Subtyping.{CarriesDown, write_write, both_write, IsSubtype, same, upward, read_read}
 use Rattle.pict_sub.specs.Exposing.{exposure}
 use Rattle.pict_sub.proofs.Exposed.{exposes}
 use Rattle.pict_sub.proofs.Followed.{below_exposed}
@@ -83,12 +83,12 @@ record IsAnswering (e : Environment) (r : PlainType) (g : Function) : Type 0 whe
   last : PlainType
   is : exposure (context_of e) r ≡ Fields g.binders (and_type g.positional last) g.labelled
   capability : Capability
-  falls : Falls (erased_capability capability) Write
+  carries_down : CarriesDown (erased_capability capability) Write
   exposed_ : exposure (under (context_of e) g.binders) last ≡ Chan capability g.answer
 
 record IsSendable (t u : PlainType) : Type 0 where
   capability : Capability
-  falls : Falls (erased_capability capability) Write
+  carries_down : CarriesDown (erased_capability capability) Write
   is : t ≡ Chan capability u
 
 is_sendable : (t u : PlainType) → sendable t ≡ Some u → IsSendable t u
@@ -99,9 +99,9 @@ is_sendable Str u h = absurd cc
 is_sendable Boolean u h = absurd cc
 is_sendable (Var i) u h = absurd cc
 is_sendable (Apply i ts) u h = absurd cc
-is_sendable (Chan Respond t) u h = let q : t ≡ u = cc in record { capability = Respond; falls = write_write; is = ap (Chan Respond) q }
-is_sendable (Chan Write t) u h = let q : t ≡ u = cc in record { capability = Write; falls = write_write; is = ap (Chan Write) q }
-is_sendable (Chan Both t) u h = let q : t ≡ u = cc in record { capability = Both; falls = both_write; is = ap (Chan Both) q }
+is_sendable (Chan Respond t) u h = let q : t ≡ u = cc in record { capability = Respond; carries_down = write_write; is = ap (Chan Respond) q }
+is_sendable (Chan Write t) u h = let q : t ≡ u = cc in record { capability = Write; carries_down = write_write; is = ap (Chan Write) q }
+is_sendable (Chan Both t) u h = let q : t ≡ u = cc in record { capability = Both; carries_down = both_write; is = ap (Chan Both) q }
 is_sendable (Chan Read t) u h = absurd cc
 is_sendable (Fields bs ps ls) u h = absurd cc
 is_sendable (Rec t) u h = absurd cc
@@ -114,7 +114,7 @@ answering_record e r g bs ps ls is h = go (split_last ps) refl h
     taken x q (Some u) k h =
         let s = is_sendable (exposure (under (context_of e) bs) x.1) u k in
         let z : record { binders = bs; positional = x.0; labelled = ls; answer = u } ≡ g = cc in
-        subst (IsAnswering e r) z (record { last = x.1; is = is ∙ ap (λ k. Fields bs k ls) (sym (last_and ps x q)); capability = s.capability; falls = s.falls; exposed_ = s.is })
+        subst (IsAnswering e r) z (record { last = x.1; is = is ∙ ap (λ k. Fields bs k ls) (sym (last_and ps x q)); capability = s.capability; carries_down = s.carries_down; exposed_ = s.is })
 
     go : (o : Option (PlainTypes × PlainType)) → split_last ps ≡ o → with_last (λ last. sendable (exposure (under (context_of e) bs) last)) bs ls o ≡ Some g → IsAnswering e r g
     go None q k = absurd cc
@@ -159,7 +159,7 @@ module _ (names : List (List ℕ)) (program : Decs) (clean : scope_stop names pr
   against_fields e s bs ps ls rs ts ms x last r d c f i = fields_add e (Some last) ps ls x.own ts ms x.adds c f (patterns_open names program clean e (fields_against s (field_pats bs ps ls) rs ts ms) x r d) i
 
   answers_itself : (e : Environment) (t : PlainType) → Answers e (Chan Respond t) t
-  answers_itself e t = record { capability = Respond; falls = write_write; type_ = t; sends = same; below = same }
+  answers_itself e t = record { capability = Respond; carries_down = write_write; type_ = t; sends = same; below = same }
 
   -- the annotated type of an answer
   annotated : (e : Environment) (own : List KnownType) (a : TypeTree) → IsRegular e → BoundsAreWellFormed e.names (kinds_in e) (bounds_of own) → AnnotationHasDistinctLabels (Some a) → kind_stop e.names (with_own e own).context a ≡ None → IsTypeIn (with_own e own) (normal e.names (with_own e own).context a)
@@ -194,7 +194,7 @@ module _ (names : List (List ℕ)) (program : Decs) (clean : scope_stop names pr
   function_against e s bs ps ls o v r g x t reg q a once r2 d in_ below h =
       reads_below e (function_abs s (field_pats bs ps ls) o v) r whole q whole_in (subst (IsSubtype (context_of e) r) a.is (below_exposed (exposes (context_of e) r)))
       (subst (λ z. ReadsAt e (function_abs s (field_pats bs ps ls) o v) (Fields z (and_type g.positional a.last) g.labelled)) own_is
-      (function_reads e s bs ps ls o v x.own g.positional g.labelled a.last t x.adds (against_fields e s bs ps ls g.binders g.positional g.labelled x a.last r2 d) once (result_has (fields_against_named e s (field_pats bs ps ls) g.binders g.positional g.labelled) d).adds_.values own_whole (in_ answer_in) (record { capability = a.capability; falls = a.falls; type_ = g.answer; sends = sends_; below = below }) h))
+      (function_reads e s bs ps ls o v x.own g.positional g.labelled a.last t x.adds (against_fields e s bs ps ls g.binders g.positional g.labelled x a.last r2 d) once (result_has (fields_against_named e s (field_pats bs ps ls) g.binders g.positional g.labelled) d).adds_.values own_whole (in_ answer_in) (record { capability = a.capability; carries_down = a.carries_down; type_ = g.answer; sends = sends_; below = below }) h))
     where
       whole : PlainType
       whole = Fields g.binders (and_type g.positional a.last) g.labelled

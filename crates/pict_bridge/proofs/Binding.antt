@@ -5,7 +5,7 @@ use Rattle.std.proofs.lemmas.Bool.{eq-eqb}
 use Rattle.pict_core.specs.Term as core
 use Rattle.pict_core.specs.Term.{Var}
 use Rattle.pict_translation.specs.Placed.{variables}
-use Rattle.pict_translation.specs.Simple.{value_at, binding, unit}
+use Rattle.pict_translation.specs.Simple.{value_at, binding, nothing}
 use Rattle.pict_opened.specs.Opening.{named}
 use Rattle.pict_bridge.proofs.NamesOnce.{one_if, times}
 
@@ -75,7 +75,7 @@ names_bind ns level before h = record {
 
 -- ---- the names of a function's fields, with a variable without a name between them
 
-get_variable : (level n i : ℕ) → suc i ≤ n → get_or (variables level n) i unit ≡ Var (level + i)
+get_variable : (level n i : ℕ) → suc i ≤ n → get_or (variables level n) i nothing ≡ Var (level + i)
 get_variable level zero i h = absurd (omega (arith, h))
 get_variable level (suc n) zero h = let z : level ≡ level + 0 = omega arith in ap Var z
 get_variable level (suc n) (suc i) h = let z : level + 1 + i ≡ level + suc i = omega arith in get_variable (level + 1) n i (omega (arith, h)) ∙ ap Var z
@@ -142,5 +142,5 @@ function_names_bind xs ys level before h = record { at_ = λ m place e. find m p
     miss m e = passed m ys _ inner (omega (arith, e)) ∙ passed m xs _ before (omega (arith, e))
 
 -- the answer's channel is the variable without a name
-pub answer_is : (xs : List ℕ) (level n : ℕ) → get_or (variables level (length xs + suc n)) (length xs) unit ≡ Var (level + length xs)
+pub answer_is : (xs : List ℕ) (level n : ℕ) → get_or (variables level (length xs + suc n)) (length xs) nothing ≡ Var (level + length xs)
 answer_is xs level n = get_variable level (length xs + suc n) (length xs) (omega arith)

@@ -1,5 +1,5 @@
 -- Records and applications: the record of the values has the type of a package, once the arguments are put in.
-use Rattle.std.proofs.Common.{◌≡◌, ℕ, ◌+◌, List, [], ◌∷◌, ◌++◌, length, Option, Some, None, refl, sym, ◌∙◌, ap, ap₂, subst}
+use Rattle.std.proofs.Common.{◌≡◌, ℕ, List, [], ◌∷◌, ◌++◌, length, Option, Some, None, refl, sym, ◌∙◌, ap, ap₂, subst}
 use Rattle.pict_syntax.specs.declared.span.Span.{Span}
 use Rattle.pict_syntax.specs.Labels.{in_label_order}
 use Rattle.pict_syntax.specs.Trees.{TypeTrees, Val, Vals, FieldVals, field_vals, LabelledVals, apply_chan, fields_val}
@@ -9,14 +9,13 @@ use Rattle.pict_types.specs.Replacing.{arguments, replace, replace_types, replac
 use Rattle.pict_types.specs.Kinds.{kinds, AreWellFormed}
 use Rattle.pict_types.specs.Instances.{ArgsAreWellFormed}
 use Rattle.pict_types.proofs.Formed.{instance_formed}
-use Rattle.pict_sub.specs.Subtyping.{Falls, write_write, both_write, IsSubtype, same, downward}
+use Rattle.pict_sub.specs.Subtyping.{CarriesDown, write_write, both_write, IsSubtype, same, downward}
 use Rattle.pict_core.specs.Term as core
 use Rattle.pict_normal.specs.Normal.{and_type}
 use Rattle.pict_rules.specs.Shapes.{Function, applicable, function_by, respond_or_write, split_last, put_first, with_last, with_answer}
 use Rattle.pict_rules.specs.Environments.{Environment}
 use Rattle.pict_rules.specs.Regular.{IsTypeIn, kinds_in}
 use Rattle.pict_scope.specs.DistinctLabels.{LabelledValsAreDistinct, FieldValsHaveDistinctLabels}
-use Rattle.pict_translation.specs.Placed.{output}
 use Rattle.pict_translation.specs.Simple.{Around, fields_of, simple}
 use Rattle.pict_translation.specs.Translation.{sending, sending_chan}
 use Rattle.pict_typing.specs.Erasing.{erased, erased_types, erased_labels, erased_bounds, erased_capability}
@@ -127,7 +126,7 @@ fields_given e s tys us ls ps ms q distinct h k vs f w r =
 -- what is applied may be sent on, and takes the fields and a channel for the answer
 pub record IsApplied (t : PlainType) (r : Function) : Type 0 where
   pub capability : Capability
-  pub falls : Falls (erased_capability capability) Write
+  pub carries_down : CarriesDown (erased_capability capability) Write
   pub last : PlainType
   pub is : t ≡ Chan capability (Fields r.binders (and_type r.positional last) r.labelled)
   pub answers : erased last ≡ Chan Write (erased r.answer)
@@ -164,20 +163,20 @@ answer_taken (Chan Read t) u h = absurd cc
 answer_taken (Fields bs ps ls) u h = absurd cc
 answer_taken (Rec t) u h = absurd cc
 
-applied_record : (m : Capability) (bs : PlainBounds) (ps : PlainTypes) (ls : PlainLabels) (r : Function) → Falls (erased_capability m) Write → with_last respond_or_write bs ls (split_last ps) ≡ Some r → IsApplied (Chan m (Fields bs ps ls)) r
+applied_record : (m : Capability) (bs : PlainBounds) (ps : PlainTypes) (ls : PlainLabels) (r : Function) → CarriesDown (erased_capability m) Write → with_last respond_or_write bs ls (split_last ps) ≡ Some r → IsApplied (Chan m (Fields bs ps ls)) r
 applied_record m bs ps ls r f h = go (split_last ps) refl h
   where
     taken : (x : PlainTypes × PlainType) → split_last ps ≡ Some x → (o : Option PlainType) → respond_or_write x.1 ≡ o → with_answer bs ls x.0 o ≡ Some r → IsApplied (Chan m (Fields bs ps ls)) r
     taken x e None k h = absurd cc
     taken x e (Some u) k h =
         let q : record { binders = bs; positional = x.0; labelled = ls; answer = u } ≡ r = cc in
-        subst (IsApplied (Chan m (Fields bs ps ls))) q (record { capability = m; falls = f; last = x.1; is = ap (λ z. Chan m (Fields bs z ls)) (sym (last_and ps x e)); answers = answer_taken x.1 u k })
+        subst (IsApplied (Chan m (Fields bs ps ls))) q (record { capability = m; carries_down = f; last = x.1; is = ap (λ z. Chan m (Fields bs z ls)) (sym (last_and ps x e)); answers = answer_taken x.1 u k })
 
     go : (o : Option (PlainTypes × PlainType)) → split_last ps ≡ o → with_last respond_or_write bs ls o ≡ Some r → IsApplied (Chan m (Fields bs ps ls)) r
     go None e k = absurd cc
     go (Some x) e k = taken x e (respond_or_write x.1) refl k
 
-applied_function : (m : Capability) (t : PlainType) (r : Function) → Falls (erased_capability m) Write → function_by (λ bs. respond_or_write) t ≡ Some r → IsApplied (Chan m t) r
+applied_function : (m : Capability) (t : PlainType) (r : Function) → CarriesDown (erased_capability m) Write → function_by (λ bs. respond_or_write) t ≡ Some r → IsApplied (Chan m t) r
 applied_function m Top r f h = absurd cc
 applied_function m Int r f h = absurd cc
 applied_function m Char r f h = absurd cc
@@ -245,7 +244,7 @@ application_sent e s v (field_vals tys us ls) t r args q app h fit distinct head
     go v1 k l m =
         let r1 = realises_longer l real in
         let y = x.sent vs f v1 r1 in
-        let above : IsSubtype v1.type_variables (meaning f t) (Chan Write (meaning f whole)) = subst (λ z. IsSubtype v1.type_variables (meaning f z) (Chan Write (meaning f whole))) (sym app.is) (downward app.falls same) in
+        let above : IsSubtype v1.type_variables (meaning f t) (Chan Write (meaning f whole)) = subst (λ z. IsSubtype v1.type_variables (meaning f z) (Chan Write (meaning f whole))) (sym app.is) (downward app.carries_down same) in
         with_stands v1 (Chan Write (meaning f whole)) (simple a v) (sending a v) _ (type_means whole r1 whole_in) (way_up v1 (meaning f t) (Chan Write (meaning f whole)) (simple a v) (sending a v) (type_means t r1 q) (type_means whole r1 whole_in) above (head vs f v1 r1).on_its_way) (λ v2 g l2 n.
         fields_stand v2 a tys us ls (meant_types f qs) y.types_ _ (closed_longer l2 r1.closed) (all_sent_longer r1.closed l2 y.sent) (labels_sent_longer r1.closed l2 y.labelled) (λ v3 xs ws l3 b c.
         let l23 = longer_more l2 l3 in

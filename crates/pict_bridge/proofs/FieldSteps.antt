@@ -1,15 +1,16 @@
 -- The steps of fields and of applications.
-use Rattle.std.proofs.Common.{◌≡◌, ◌≢◌, ◌≤◌, ℕ, zero, suc, ◌+◌, nat_eq, ◌||◌, Bool, true, false, not, List, [], ◌∷◌, ◌++◌, map, length, Option, Some, None, refl, sym, ◌∙◌, ap, subst, arith, eqb-true, append-nil, append_assoc}
+use Rattle.std.proofs.Common.{◌≡◌, ◌≢◌, ◌≤◌, ℕ, zero, suc, nat_eq, ◌||◌, Bool, true, false, not, List, [], ◌∷◌, ◌++◌, map, length, Option, Some, None, refl, sym, ◌∙◌, ap, subst, arith, eqb-true, append-nil, append_assoc}
 use Rattle.std.specs.Prelude.{if◌then◌else◌}
 use Rattle.std.specs.Ordering.{is_lt}
 use Rattle.std.proofs.lemmas.Bool.{eq-eqb}
 use Rattle.pict_syntax.specs.declared.code.Code.{Code}
-use Rattle.pict_syntax.specs.declared.code.Code.TheVariants.{K1, Y9}
+use Rattle.pict_syntax.specs.declared.code.Code.TheVariants.{K1, K5, Y9}
 use Rattle.pict_syntax.specs.declared.id.Id.{Id}
 use Rattle.pict_syntax.specs.declared.span.Span.{Span}
 use Rattle.pict_syntax.specs.Grammar.{type_span, val_span}
 use Rattle.pict_syntax.specs.Labels.{label_cmp, in_label_order}
 use Rattle.pict_syntax.specs.Trees.{TypeTrees, no_types, more_types, Val, Vals, no_vals, more_vals, FieldVals, field_vals, LabelledVals, no_labelled_vals, more_labelled_vals, Decs}
+use Rattle.pict_types.specs.AsMarked.{varies_as, VaryAsMarked}
 use Rattle.pict_types.specs.Types.{PlainType, PlainTypes, no_type, types, PlainLabels, no_label, labels, PlainBound, Free, Below, Operator, PlainBounds, no_bound, bounds, PlainArg, count_types, count_bounds, type_at}
 use Rattle.pict_types.specs.Replacing.{arguments, replace, replace_types, replace_labels, instance_of}
 use Rattle.pict_normal.specs.Normal.{and_type, with_labelled_type, count_trees}
@@ -37,7 +38,7 @@ use Rattle.pict_opened.proofs.PatternSteps.{first_types, all_types}
 use Rattle.pict_bridge.specs.Realising.{around, Realises}
 use Rattle.pict_bridge.proofs.Realised.{type_means}
 use Rattle.pict_bridge.proofs.SentLists.{AreSent, none_sent, more_sent, no_label_sent, label_sent, labels_list, labels_new, put_labels_list, list_lacks}
-use Rattle.pict_bridge.proofs.FoundStays.{Stays, stays_same, stays_on, found_same, given_stay, matched_stays}
+use Rattle.pict_bridge.proofs.FoundStays.{Stays, stays_same, stays_on, found_same, given_stay, matched_stays, stays_no_operator, found_vary}
 use Rattle.pict_bridge.proofs.Meant.{IsWithinBound, AreWithinBounds}
 use Rattle.pict_bridge.proofs.Judged.{Values, Wherever, SentBy, AllSentBy, LabelsGiven, found_types, ValuesFit, LabelsFound, LabelsFit, ValueFits, FieldsFit, meant_types, IsExpectedAbove, IsSound, Step}
 use Rattle.pict_opened.proofs.Rightly.{rightly, well}
@@ -180,15 +181,15 @@ all_fit e us ls bs ps ms found g h args n written is within_ x y = record {
 -- ---- the steps
 
 module _ (names : List (List ℕ)) (program : Decs) (clean : scope_stop names program ≡ None) where
-  within_ : {s : Sort} {P : Result s → Type 0} (e : Environment) (node : Span) (b : PlainBound) (earlier : List PlainArg) (a : PlainArg) (c : Code) (i : Span) {r : Rule s} → (IsWithinBound e b earlier a → Gives names program IsSound s P r) → Gives names program IsSound s P (within_bound e node b earlier a c i r)
-  within_ e node Free earlier a c i h = h tt
-  within_ e node (Operator n) earlier a c i h = h tt
-  within_ e node (Below b) earlier a c i h = limits e (replace (arguments earlier) b) node (needs (λ q. h q))
+  within_ : {s : Sort} {P : Result s → Type 0} (e : Environment) (node : Span) (b : PlainBound) (earlier : List PlainArg) (a : PlainArg) (c : Code) (i : Span) {r : Rule s} → varies_as (context_of e) a b ≡ true → (IsWithinBound e b earlier a → Gives names program IsSound s P r) → Gives names program IsSound s P (within_bound e node b earlier a c i r)
+  within_ e node Free earlier a c i v h = h tt
+  within_ e node (Operator ms) earlier a c i v h = h v
+  within_ e node (Below b) earlier a c i v h = limits e (replace (arguments earlier) b) node (needs (λ q. h q))
 
-  all_within : {s : Sort} {P : Result s → Type 0} (e : Environment) (node : Span) (bs : PlainBounds) (earlier args : List PlainArg) (c : Code) {r : Rule s} → (AreWithinBounds e bs earlier args → Gives names program IsSound s P r) → Gives names program IsSound s P (within_bounds e node bs earlier args c r)
-  all_within e node no_bound earlier args c h = h tt
-  all_within e node (bounds b bs) earlier [] c h = refuses
-  all_within e node (bounds b bs) earlier (a ∷ args) c h = within_ e node b earlier a c node (λ q. all_within e node bs (earlier ++ a ∷ []) args c (λ k. h (q, k)))
+  all_within : {s : Sort} {P : Result s → Type 0} (e : Environment) (node : Span) (bs : PlainBounds) (earlier args : List PlainArg) (c : Code) {r : Rule s} → VaryAsMarked (context_of e) args bs → (AreWithinBounds e bs earlier args → Gives names program IsSound s P r) → Gives names program IsSound s P (within_bounds e node bs earlier args c r)
+  all_within e node no_bound earlier args c v h = h tt
+  all_within e node (bounds b bs) earlier [] c v h = refuses
+  all_within e node (bounds b bs) earlier (a ∷ args) c v h = within_ e node b earlier a c node v.0 (λ q. all_within e node bs (earlier ++ a ∷ []) args c v.1 (λ k. h (q, k)))
 
   pub positional_step : (e : Environment) (us : Vals) → Step names program types_ e (values_give us)
   positional_step e no_vals r = gives_ (λ vs f w k. none_sent)
@@ -202,8 +203,9 @@ module _ (names : List (List ℕ)) (program : Decs) (clean : scope_stop names pr
   written_step e s no_types bs r = gives_ (none_within e bs [])
   written_step e s (more_types ts t) bs r =
       parts (λ args d r2 h. unless (arg_stop e.names e.context t) (λ q. ensures (is_of_kind (normal_arg e.names e.context t) (nth_bound (count_trees ts) bs)) K1 (type_span t) (λ z.
-      within_ e s (nth_bound (count_trees ts) bs) args (normal_arg e.names e.context t) Y9 (type_span t) (λ k. gives_ (
-      within_last e bs [] args (normal_arg e.names e.context t) h (subst (λ n. IsWithinBound e (nth_bound n bs) args (normal_arg e.names e.context t)) (sym (well args clean r2 d).1.1) k))))))
+      ensures (varies_as (context_of e) (normal_arg e.names e.context t) (nth_bound (count_trees ts) bs)) K5 (type_span t) (λ v.
+      within_ e s (nth_bound (count_trees ts) bs) args (normal_arg e.names e.context t) Y9 (type_span t) v (λ k. gives_ (
+      within_last e bs [] args (normal_arg e.names e.context t) h (subst (λ n. IsWithinBound e (nth_bound n bs) args (normal_arg e.names e.context t)) (sym (well args clean r2 d).1.1.0) k)))))))
 
   pub given_step : (e : Environment) (s : Span) (v : Val) (t u : PlainType) (g : Found) → Step names program found_ e (given_fits s v t u g)
   given_step e s v t u g r = ensures (not (mentions_missing g t)) _ (val_span v) (λ m. limits e (with_found g t) s (needs (λ q. gives_ (record { is = refl; known = not_true (mentions_missing g t) m; below = q }))))
@@ -243,6 +245,7 @@ module _ (names : List (List ℕ)) (program : Decs) (clean : scope_stop names pr
 
   pub fields_fit_step : (e : Environment) (s : Span) (f : FieldVals) (bs : PlainBounds) (ps : PlainTypes) (ms : PlainLabels) (found : Found) → Step names program arguments_ e (fields_fit s f bs ps ms found)
   fields_fit_step e s (field_vals tys us ls) bs ps ms found r =
+      let asked = (rightly clean r).1.1 in
       ensures (none_written tys || nat_eq (count_trees tys) (count_bounds bs)) _ s (λ c.
       ensures (nat_eq (count_vals us) (count_types ps)) _ s (λ n.
       ensures (all_written ms ls) _ s (λ written.
@@ -251,7 +254,7 @@ module _ (names : List (List ℕ)) (program : Decs) (clean : scope_stop names pr
       (λ b. parts (λ args d r2 h. limits e (instance_of args ps ms) s (parts (λ g d2 r3 x. parts (λ i d3 r4 y. gives_ (
       let z = x (omega (arith, m)) in
       all_fit e us ls bs ps ms (map filled args) g i args m written (given_stay args i (stays_on (map filled args) g i z.stays y.stays)) h z y))))))
-      (λ b. parts (λ g d2 r3 x. parts (λ i d3 r4 y. ensures (all_found i) _ s (λ a. all_within e s bs [] (map argument_in i) Y9 (λ q. gives_ (
+      (λ b. parts {j = values_fit s us ps found} (λ g d2 r3 x. parts {j = labelled_values_fit s ls ms g} (λ i d3 r4 y. ensures (all_found i) _ s (λ a. all_within e s bs [] (map argument_in i) Y9 (found_vary (context_of e) i bs a (stays_no_operator found i (stays_on found g i (x (omega (arith, m))).stays y.stays) asked.1.1.1) ((well i clean r4 d3).0 ∙ (well g clean r3 d2).0 ∙ asked.1.0)) (λ q. gives_ (
       all_fit e us ls bs ps ms found g i (map argument_in i) m written refl q (x (omega (arith, m))) y)))))))))
 
   pub application_step : (e : Environment) (s : Span) (v : Val) (us : FieldVals) (o : Option PlainType) → Step names program type_ e (application s v us o)

@@ -2,17 +2,21 @@
 use Rattle.std.proofs.Common.{◌≡◌, ℕ, zero, suc, ◌+◌, ◌-◌, nat_eq, nat_lt, nat_le, Bool, true, false, ◌&&◌, not, List, [], ◌∷◌, map, length, Option, Some, None, refl, sym, ◌∙◌, ap, ap₂, subst, arith}
 use Rattle.std.specs.Prelude.{if◌then◌else◌, set}
 use Rattle.std.proofs.lemmas.Bool.Decides.{nat_tests}
-use Rattle.pict_types.specs.Types.{PlainType, Top, Int, Char, Str, Boolean, Var, Apply, Chan, Fields, Rec, PlainTypes, no_type, types, PlainLabels, no_label, labels, PlainBound, Free, Below, Operator, PlainBounds, no_bound, bounds, PlainArg, Plain, TypeContext, under, count_types, count_bounds, type_at}
+use Rattle.pict_types.specs.Types.{PlainType, Top, Int, Char, Str, Boolean, Var, Apply, Chan, Fields, Rec, PlainTypes, no_type, types, PlainLabels, no_label, labels, PlainBound, Free, Below, Operator, PlainBounds, no_bound, bounds, PlainArg, Plain, Op, TypeContext, under, count_types, count_bounds, type_at}
 use Rattle.pict_types.specs.Replacing.{Replacement, with_args, with_arg, no_replacement, type_in, head_in}
 use Rattle.pict_types.specs.Mentions.{mentions_innermost, lowered}
 use Rattle.pict_types.proofs.Mentioned.{replace_agrees, ReplaceAlikeBut}
 use Rattle.pict_sub.specs.Exposing.{exposure}
-use Rattle.pict_rules.specs.Found.{Slot, open_slot, filled, Found, is_open, is_missing, is_missing_variable, mentions_missing, argument_in, with_found, find, is_same_head, match_channel, match_recursive, match_applied, match_record, match_label, matched, matched_types, matched_labels, matched_bounds, matched_bound}
+use Rattle.pict_rules.specs.Found.{Slot, open_slot, filled, Found, is_open, is_missing, is_missing_variable, mentions_missing, argument_in, all_found, with_found, find, is_same_head, match_channel, match_recursive, match_applied, match_record, match_label, matched, matched_types, matched_labels, matched_bounds, matched_bound}
+use Rattle.pict_types.specs.AsMarked.{varies_as, VaryAsMarked}
+use Rattle.pict_types.specs.Kinds.{kind_by}
+use Rattle.pict_rules.specs.Regular.{IsNoOperator, NoOperatorIsFound, kind_of_slot, kinds_found, kinds_of_fields}
+use Rattle.pict_rules.proofs.RegularMatched.{head_same, tail_same}
 use Rattle.pict_normal.proofs.Used.{and_cases}
 
--- a type field that is found stays so
+-- a type field that is found stays so, and no operator is found for another
 abbrev pub SlotStays : Slot → Slot → Type 0
-SlotStays (open_slot b) y = Unit {0}
+SlotStays (open_slot b) y = IsNoOperator y
 SlotStays (filled a) y = y ≡ filled a
 
 abbrev pub Stays : Found → Found → Type 0
@@ -30,7 +34,8 @@ stays_same [] = tt
 stays_same (x ∷ f) = (slot_same x, stays_same f)
 
 slot_on : (x y z : Slot) → SlotStays x y → SlotStays y z → SlotStays x z
-slot_on (open_slot b) y z h k = tt
+slot_on (open_slot b) (open_slot d) z h k = k
+slot_on (open_slot b) (filled a) z h k = subst IsNoOperator (sym k) h
 slot_on (filled a) y z h k = subst (λ u. SlotStays u z) h k
 
 pub stays_on : (f g h : Found) → Stays f g → Stays g h → Stays f h
@@ -40,6 +45,35 @@ stays_on [] (b ∷ g) h x y = absurd x
 stays_on (a ∷ f) [] h x y = absurd x
 stays_on (a ∷ f) (b ∷ g) [] x y = absurd y
 stays_on (a ∷ f) (b ∷ g) (c ∷ h) x y = (slot_on a b c x.0 y.0, stays_on f g h x.1 y.1)
+
+slot_no_operator : (x y : Slot) → SlotStays x y → IsNoOperator x → IsNoOperator y
+slot_no_operator (open_slot b) y h k = h
+slot_no_operator (filled a) y h k = subst IsNoOperator (sym h) k
+
+pub stays_no_operator : (f g : Found) → Stays f g → NoOperatorIsFound f → NoOperatorIsFound g
+stays_no_operator [] [] h k = tt
+stays_no_operator [] (y ∷ g) h k = absurd h
+stays_no_operator (x ∷ f) [] h k = absurd h
+stays_no_operator (x ∷ f) (y ∷ g) h k = (slot_no_operator x y h.0 k.0, stays_no_operator f g h.1 k.1)
+
+-- so each argument that is found varies as its field's marks say: its field is no operator
+slot_varies : (c : TypeContext) (x : Slot) (b : PlainBound) → is_open x ≡ false → IsNoOperator x → kind_of_slot x ≡ kind_by b → varies_as c (argument_in x) b ≡ true
+slot_varies c (open_slot d) b h k q = absurd cc
+slot_varies c (filled (Op n t)) b h k q = absurd k
+slot_varies c (filled (Plain t)) Free h k q = refl
+slot_varies c (filled (Plain t)) (Below u) h k q = refl
+slot_varies c (filled (Plain t)) (Operator ms) h k q = absurd cc
+
+pub found_vary : (c : TypeContext) (f : Found) (bs : PlainBounds) → all_found f ≡ true → NoOperatorIsFound f → kinds_found f ≡ kinds_of_fields bs → VaryAsMarked c (map argument_in f) bs
+found_vary c [] bs h k q = tt
+found_vary c (x ∷ f) no_bound h k q = tt
+found_vary c (x ∷ f) (bounds b bs) h k q =
+    let y = and_cases (not (is_open x)) (all_found f) h in
+    (slot_varies c x b (none_open (is_open x) y.0) k.0 (head_same q), found_vary c f bs y.1 k.1 (tail_same q))
+  where
+    none_open : (b : Bool) → not b ≡ true → b ≡ false
+    none_open true e = absurd cc
+    none_open false e = refl
 
 -- ---- one meaning
 
@@ -125,11 +159,11 @@ given_stay (a ∷ args) (y ∷ g) h = ap₂ (λ x xs. x ∷ xs) (ap argument_in 
 
 -- ---- matching
 
-set_stays : (f : Found) (n : ℕ) (x : Slot) → is_missing f n ≡ true → Stays f (set f n x)
-set_stays [] n x h = absurd cc
-set_stays (filled a ∷ f) zero x h = absurd cc
-set_stays (open_slot b ∷ f) zero x h = (tt, stays_same f)
-set_stays (y ∷ f) (suc n) x h = (slot_same y, set_stays f n x h)
+set_stays : (f : Found) (n : ℕ) (x : Slot) → IsNoOperator x → is_missing f n ≡ true → Stays f (set f n x)
+set_stays [] n x o h = absurd cc
+set_stays (filled a ∷ f) zero x o h = absurd cc
+set_stays (open_slot b ∷ f) zero x o h = (o, stays_same f)
+set_stays (y ∷ f) (suc n) x o h = (slot_same y, set_stays f n x o h)
 
 find_stays : (d i : ℕ) (g : PlainType) (f : Found) → Stays f (find d i g f)
 find_stays d i g f = go (nat_le d i && (is_missing_variable f (i - d) && not (mentions_innermost d g))) refl
@@ -138,7 +172,7 @@ find_stays d i g f = go (nat_le d i && (is_missing_variable f (i - d) && not (me
     there q = (and_cases (nat_lt (i - d) (length f)) _ (and_cases (is_missing_variable f (i - d)) _ (and_cases (nat_le d i) _ q).1).0).1
 
     go : (b : Bool) → (nat_le d i && (is_missing_variable f (i - d) && not (mentions_innermost d g))) ≡ b → Stays f (if b then set f (length f - 1 - (i - d)) (filled (Plain (lowered d g))) else f)
-    go true q = set_stays f (length f - 1 - (i - d)) (filled (Plain (lowered d g))) (there q)
+    go true q = set_stays f (length f - 1 - (i - d)) (filled (Plain (lowered d g))) tt (there q)
     go false q = stays_same f
 
 in_channel : (P : Found → Type 0) (t : PlainType) (k : PlainType → Found) (f : Found) → ((u : PlainType) → P (k u)) → P f → P (match_channel t k f)

@@ -1,5 +1,5 @@
 -- The meanings of arguments: each may stand for its type field where the rules found it within the field's bound.
-use Rattle.std.proofs.Common.{◌≡◌, ℕ, zero, suc, ◌+◌, List, [], ◌∷◌, ◌++◌, length, refl, sym, ◌∙◌, ap, subst}
+use Rattle.std.proofs.Common.{◌≡◌, ℕ, zero, suc, true, List, [], ◌∷◌, ◌++◌, length, refl, sym, ◌∙◌, ap, subst}
 use Rattle.pict_types.specs.Types.{PlainType, Top, PlainTypes, PlainLabels, PlainBound, Free, Below, Operator, PlainBounds, no_bound, bounds, PlainArg, Plain, Op}
 use Rattle.pict_types.specs.Renaming.{beyond, beyond_times, rename, rename_types, rename_labels, rename_bound, rename_bounds}
 use Rattle.pict_types.specs.Replacing.{bound_by, Replacement, replace, replace_types, replace_labels, replace_bound, arguments, with_args, with_arg, type_in, rename_head, IsOfKind, FitTheirFields}
@@ -7,11 +7,17 @@ use Rattle.pict_types.specs.Kinds.{kinds, kind_at, with_parameters, IsWellFormed
 use Rattle.pict_types.specs.Instances.{ArgsAreWellFormed}
 use Rattle.pict_types.proofs.Formed.{formed_renamed}
 use Rattle.pict_types.proofs.Replaced.{Crosses, replace_renamed, replace_types_renamed, replace_labels_renamed, beyond_after}
+use Rattle.pict_types.specs.Variance.{varies}
+use Rattle.pict_syntax.specs.declared.type_tree.Mark.{Mark}
 use Rattle.pict_sub.specs.Subtyping.{IsSubtype}
+use Rattle.pict_sub.proofs.Operating.{operator_renamed}
+use Rattle.pict_sub.proofs.Renamed.{operator_of_at}
+use Rattle.pict_sub.proofs.Stays.{of_at}
+use Rattle.pict_erase.proofs.ErasedGoes.{varies_erased}
 use Rattle.pict_core.specs.Term as core
 use Rattle.pict_typing.specs.Erasing.{erased, erased_types, erased_labels, erased_bound, erased_bounds}
 use Rattle.pict_typing.specs.Worlds.{World, MayStandFor, IsBelow}
-use Rattle.pict_erase.specs.Embedding.{MayStandInOrder}
+use Rattle.pict_erase.specs.Embedding.{MayStandInOrder, erased_context}
 use Rattle.pict_erase.proofs.Erased.{same_kinds, erased_arg, erased_args, arguments_erased, replace_erased, replace_types_erased, replace_labels_erased, arg_erased}
 use Rattle.pict_erase.proofs.Growing.{rename_arg, type_in_renamed, head_in_renamed, kinds_with}
 use Rattle.pict_rules.specs.Environments.{Environment, context_of}
@@ -82,7 +88,7 @@ label_instances_mean f args ls = replace_labels_renamed (erased_labels ls) (mean
 
 abbrev pub IsWithinBound : Environment → PlainBound → List PlainArg → PlainArg → Type 0
 IsWithinBound e Free earlier a = Unit {0}
-IsWithinBound e (Operator n) earlier a = Unit {0}
+IsWithinBound e (Operator ms) earlier a = varies (context_of e) a ms ≡ true
 IsWithinBound e (Below b) earlier a = IsSubtype (context_of e) (type_in a) (replace (arguments earlier) b)
 
 abbrev pub AreWithinBounds : Environment → PlainBounds → List PlainArg → List PlainArg → Type 0
@@ -96,11 +102,17 @@ arg_means {e = e} {f = f} {w = w} (Op n t) r h =
     subst (λ ns. IsWellFormed ns (with_parameters n (kinds w.type_variables)) (rename (beyond_times n f) (erased t))) (sym r.world_names)
     (formed_renamed e.names (erased t) (kinds_with n (record { each = λ i k q. r.embeds.kept i k (ap (λ z. kind_at z i) (same_kinds (context_of e)) ∙ q) })) (arg_erased e.names (kinds_in e) (Op n t) h))
 
+-- an operator that varies as marks say still does so as it is meant
+operator_means : {e : Environment} {vs : List (ℕ × core.Val)} {f : ℕ → ℕ} {w : World} (n : ℕ) (t : PlainType) (ms : List Mark) → Realises e vs f w → n ≡ length ms → varies (context_of e) (Op n t) ms ≡ true → varies w.type_variables (meant f (Op n t)) ms ≡ true
+operator_means {e = e} {f = f} {w = w} n t ms r k d =
+    let c = erased_context (context_of e) in
+    operator_renamed f c w.type_variables n (erased t) ms (λ i ks q. operator_of_at w.type_variables (f i) ks (r.embeds.keeps.marks i ks (of_at c i ks q))) k (varies_erased (context_of e) n t ms ∙ d)
+
 one_may : {e : Environment} {vs : List (ℕ × core.Val)} {f : ℕ → ℕ} {w : World} (b : PlainBound) (a : PlainArg) (earlier : List PlainArg) → Realises e vs f w → ArgIsWellFormed e.names (kinds_in e) a → IsOfKind a b → IsWithinBound e b earlier a → MayStandFor w (replace_bound (arguments (all_meant f earlier)) (rename_bound (beyond_times (length earlier) f) (erased_bound b))) (meant f a)
 one_may Free (Plain t) earlier r h k d = record { formed = arg_means (Plain t) r h; of_kind = tt; below = tt }
 one_may Free (Op n t) earlier r h k d = absurd k
-one_may (Operator n) (Plain t) earlier r h k d = absurd k
-one_may (Operator n) (Op m t) earlier r h k d = record { formed = arg_means (Op m t) r h; of_kind = k; below = tt }
+one_may (Operator ms) (Plain t) earlier r h k d = absurd k
+one_may (Operator ms) (Op m t) earlier r h k d = record { formed = arg_means (Op m t) r h; of_kind = k; below = operator_means m t ms r k d }
 one_may (Below b) (Op n t) earlier r h k d = absurd k
 one_may {f = f} {w = w} (Below b) (Plain t) earlier r h k d =
     subst (λ z. MayStandFor w (bound_by z) (Plain (meaning f t))) (sym (instance_means f earlier b)) (below_made (meaning f (replace (arguments earlier) b)) (below_means r d))

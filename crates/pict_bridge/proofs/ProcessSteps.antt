@@ -8,7 +8,7 @@ use Rattle.pict_syntax.specs.Trees.{TypeTree, Pat, Val, of_chan, Chan, Abs, Dec,
 use Rattle.pict_types.specs.Types.{Capability, Both, Read, Write, Respond, PlainType, Boolean, Chan as Chan_, PlainArg}
 use Rattle.pict_normal.specs.Normal.{normal, kind_stop}
 use Rattle.pict_scope.specs.Scopes.{scope_stop}
-use Rattle.pict_sub.specs.Subtyping.{Rises, read_read, both_read, Falls, write_write, both_write, IsSubtype, same, upward, downward}
+use Rattle.pict_sub.specs.Subtyping.{CarriesUp, read_read, both_read, CarriesDown, write_write, both_write, IsSubtype, same, upward, downward}
 use Rattle.pict_sub.specs.Exposing.{exposure}
 use Rattle.pict_sub.proofs.Exposed.{exposes}
 use Rattle.pict_sub.proofs.Followed.{below_exposed}
@@ -25,7 +25,7 @@ use Rattle.pict_rules.proofs.Names.{id_names, pattern_named, against_named}
 use Rattle.pict_rules.proofs.RegularExpanded.{expands_well}
 use Rattle.pict_rules.proofs.RegularProcesses.{exposed_formed}
 use Rattle.pict_scope.specs.Forms.{in_val}
-use Rattle.pict_translation.specs.Placed.{Placed, output, choice, side_by_side}
+use Rattle.pict_translation.specs.Placed.{Placed, choice, side_by_side}
 use Rattle.pict_translation.specs.Simple.{Around, simple, simple_chan}
 use Rattle.pict_translation.specs.Translation.{sending, sending_chan, reader, dec_core, decs_core, proc_core, procs_core}
 use Rattle.pict_typing.specs.Erasing.{erased_capability}
@@ -59,17 +59,17 @@ defined_realised e x a vs f w r = record { world_names = r.world_names; closed =
 
 -- ---- channels
 
-send_falls : (m : Capability) → may_send m ≡ true → Falls (erased_capability m) Write
-send_falls Read h = absurd cc
-send_falls Both h = both_write
-send_falls Write h = write_write
-send_falls Respond h = write_write
+send_carries_down : (m : Capability) → may_send m ≡ true → CarriesDown (erased_capability m) Write
+send_carries_down Read h = absurd cc
+send_carries_down Both h = both_write
+send_carries_down Write h = write_write
+send_carries_down Respond h = write_write
 
-receive_rises : (m : Capability) → may_receive m ≡ true → Rises (erased_capability m) Read
-receive_rises Read h = read_read
-receive_rises Both h = both_read
-receive_rises Write h = absurd cc
-receive_rises Respond h = absurd cc
+receive_carries_up : (m : Capability) → may_receive m ≡ true → CarriesUp (erased_capability m) Read
+receive_carries_up Read h = read_read
+receive_carries_up Both h = both_read
+receive_carries_up Write h = absurd cc
+receive_carries_up Respond h = absurd cc
 
 -- a channel on its way at the type that it exposes to
 chan_way : (e : Environment) (c : Chan) (t : PlainType) (m : Capability) (u : PlainType) (n : Capability) → IsTypeIn e t → IsTypeIn e (Chan_ m u) → exposure (context_of e) t ≡ Chan_ m u → ((s : PlainType) (z : World) → IsSubtype z.type_variables (Chan_ (erased_capability m) s) (Chan_ n s)) → SentBy e (of_chan c) t
@@ -85,14 +85,14 @@ chan_way e c t m u n q p is below h vs f w r =
 send_stands : (e : Environment) (s : Span) (c : Chan) (v : Val) (t : PlainType) (m : Capability) (u : PlainType) → IsTypeIn e t → IsTypeIn e (Chan_ m u) → exposure (context_of e) t ≡ Chan_ m u → may_send m ≡ true → SentBy e (of_chan c) t → SentBy e v u → ProcessStands e (send_proc s c v)
 unfolding sending
 send_stands e s c v t m u q p is may h k vs f w r =
-    with_stands w (Chan_ Write (meaning f u)) (simple_chan (around e vs) c) (sending_chan (around e vs) c) _ (type_means u r p) (chan_way e c t m u Write q p is (λ z x. downward (send_falls m may) same) h vs f w r) (λ v1 x l y.
+    with_stands w (Chan_ Write (meaning f u)) (simple_chan (around e vs) c) (sending_chan (around e vs) c) _ (type_means u r p) (chan_way e c t m u Write q p is (λ z x. downward (send_carries_down m may) same) h vs f w r) (λ v1 x l y.
     let r1 = realises_longer l r in
     with_stands v1 (meaning f u) (simple (around e vs) v) (sending (around e vs) v) _ (type_means u r1 p) (k vs f v1 r1).on_its_way (λ v2 z l2 n.
     typed.output (meaning f u) (type_longer (meaning f u) l2 (type_means u r1 p)) (has_longer r1.closed l2 y) n))
 
 receives_stand : (e : Environment) (c : Chan) (a : Abs) (t : PlainType) (m : Capability) (u : PlainType) → IsTypeIn e t → IsTypeIn e (Chan_ m u) → exposure (context_of e) t ≡ Chan_ m u → may_receive m ≡ true → SentBy e (of_chan c) t → ReadsAt e a u → Receives e c a
 receives_stand e c a t m u q p is may h k vs f w r b =
-    with_stands w (Chan_ Read (meaning f u)) (simple_chan (around e vs) c) (sending_chan (around e vs) c) (λ x. reader (around e vs) a x b) (type_means u r p) (chan_way e c t m u Read q p is (λ z x. upward (receive_rises m may) same) h vs f w r) (λ v1 x l y.
+    with_stands w (Chan_ Read (meaning f u)) (simple_chan (around e vs) c) (sending_chan (around e vs) c) (λ x. reader (around e vs) a x b) (type_means u r p) (chan_way e c t m u Read q p is (λ z x. upward (receive_carries_up m may) same) h vs f w r) (λ v1 x l y.
     k vs f v1 (realises_longer l r) x b y)
 
 receive_stands : (e : Environment) (s : Span) (c : Chan) (a : Abs) → Receives e c a → ProcessStands e (receive_proc s c a)

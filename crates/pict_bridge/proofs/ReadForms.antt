@@ -7,8 +7,7 @@ use Rattle.pict_syntax.specs.Trees.{RType, TypeBinders, Pat, FieldPats, field_pa
 use Rattle.pict_types.specs.Types.{Capability, Read, Write, PlainType, Chan, Fields, PlainTypes, no_type, types, PlainLabels, TypeContext}
 use Rattle.pict_types.specs.Renaming.{rename, moved}
 use Rattle.pict_types.specs.Kinds.{Kind, IsWellFormed, AreWellFormed}
-use Rattle.pict_types.specs.Entries.{variables}
-use Rattle.pict_sub.specs.Subtyping.{Falls, IsSubtype, through, downward}
+use Rattle.pict_sub.specs.Subtyping.{CarriesDown, IsSubtype, through, downward}
 use Rattle.pict_sub.proofs.Renamed.{weakened}
 use Rattle.pict_core.specs.Term as core
 use Rattle.pict_core.specs.Closed.{binds}
@@ -102,7 +101,7 @@ process_reads e s p q t x o once names w h vs f u r y b k = pattern_reads e p t 
 -- the channel for the answer takes the answer's type, and so each type below
 pub record Answers (e : Environment) (last t : PlainType) : Type 0 where
   pub capability : Capability
-  pub falls : Falls (erased_capability capability) Write
+  pub carries_down : CarriesDown (erased_capability capability) Write
   pub type_ : PlainType
   pub sends : IsSubtype (context_of e) last (Chan capability type_)
   pub below : IsSubtype (context_of e) t type_
@@ -206,7 +205,7 @@ function_reads e s bs ps ls o v own ts ms last t x fields once names q qt ans h 
     answered =
         subst (λ z. IsSubtype a.context z (Chan Write (meaning later (shifted_by (opened x) t)))) (sym (shift_means last))
         (subst (λ z. IsSubtype a.context (meaning through_ last) (Chan Write z)) (sym (shift_means t))
-        (through (meaning through_ (Chan ans.capability ans.type_)) (inside_below last (Chan ans.capability ans.type_) ans.sends) (downward ans.falls (inside_below t ans.type_ ans.below))))
+        (through (meaning through_ (Chan ans.capability ans.type_)) (inside_below last (Chan ans.capability ans.type_) ans.sends) (downward ans.carries_down (inside_below t ans.type_ ans.below))))
 
     channel : HasType inside (core.Var (level + length before)) (Chan Write (meaning later (shifted_by (opened x) t)))
     channel = raised (meaning later (shifted_by (opened x) last)) (inside_type last last_in) (inside_type t qt)

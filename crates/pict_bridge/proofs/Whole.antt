@@ -5,7 +5,7 @@ use Rattle.pict_syntax.specs.declared.span.Span.{Span}
 use Rattle.pict_syntax.specs.declared.primitive.Primitive.{Primitive}
 use Rattle.pict_syntax.specs.Names.{text_of}
 use Rattle.pict_syntax.specs.Trees.{Val}
-use Rattle.pict_types.specs.Types.{Both, Write, PlainType, Chan, Fields, no_type, no_label, no_bound}
+use Rattle.pict_types.specs.Types.{Both, Write, PlainType, Boolean, Chan}
 use Rattle.pict_types.specs.PrimitiveTypes.{takes, type_of}
 use Rattle.pict_sub.specs.Subtyping.{IsSubtype, below_top}
 use Rattle.pict_core.specs.Term as core
@@ -13,11 +13,11 @@ use Rattle.pict_scope.specs.PrimitiveNames.{primitive_named}
 use Rattle.pict_rules.specs.Environments.{Environment, context_of, known_type, type_or_top, type_or_primitive, type_of_use}
 use Rattle.pict_rules.specs.Regular.{IsTypeIn}
 use Rattle.pict_translation.specs.Placed.{Placed, output, new_channel}
-use Rattle.pict_translation.specs.Simple.{Around, value_at, or_primitive, use_of, unit, simple}
+use Rattle.pict_translation.specs.Simple.{Around, value_at, or_primitive, use_of, nothing, simple}
 use Rattle.pict_translation.specs.Translation.{sending}
 use Rattle.pict_typing.specs.Erasing.{erased}
 use Rattle.pict_typing.specs.Worlds.{World, IsType, with_variable}
-use Rattle.pict_typing.specs.Values.{HasType, primitive_has, record_has, none_have, none_labelled, raised}
+use Rattle.pict_typing.specs.Values.{HasType, boolean_has, primitive_has, raised}
 use Rattle.pict_typing.specs.Processes as typed
 use Rattle.pict_typing.specs.Processes.{IsTyped, AreClosedTypes}
 use Rattle.pict_typing.proofs.Closed.{closed_renamed}
@@ -52,8 +52,8 @@ new_stands w t F f h = typed.fresh t f (subst (λ n. IsTyped (with_variable (Cha
 
 -- ---- uses
 
-primitive_meant : (w : World) (f : ℕ → ℕ) (text : List ℕ) (o : Option Primitive) → HasType w (unwrap_or (option_map core.PrimitiveVal o) unit) (meaning f (type_or_top (option_map type_of o)))
-primitive_meant w f text None = raised (Fields no_bound no_type no_label) (tt, (tt, tt)) tt (record_has tt none_have none_labelled (tt, (tt, tt))) below_top
+primitive_meant : (w : World) (f : ℕ → ℕ) (text : List ℕ) (o : Option Primitive) → HasType w (unwrap_or (option_map core.PrimitiveVal o) nothing) (meaning f (type_or_top (option_map type_of o)))
+primitive_meant w f text None = raised Boolean tt tt boolean_has below_top
 primitive_meant w f text (Some p) = subst (λ z. HasType w (core.PrimitiveVal p) (Chan Write z)) (sym (closed_renamed w.names f (erased (takes p)) (takes_type w.names p))) primitive_has
 
 use_meant : (w : World) (f : ℕ → ℕ) (text : List ℕ) (o : Option PlainType) (u : Option core.Val) → ((t : PlainType) → o ≡ Some t → (v : core.Val) × (u ≡ Some v) × HasType w v (meaning f t)) → (o ≡ None → u ≡ None) → HasType w (or_primitive text u) (meaning f (type_or_primitive o text))

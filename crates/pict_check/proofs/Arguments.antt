@@ -1,7 +1,7 @@
 -- Written type arguments, one after the other.
-use Rattle.std.proofs.Common.{◌≡◌, ◌<◌, ◌≤◌, ◌+◌, ℕ, List, [], ◌∷◌, ◌++◌, length, get_or, take, sym, ◌∙◌, ap, subst, arith, Option, Some, None, Bool, false}
+use Rattle.std.proofs.Common.{◌≡◌, ◌<◌, ◌≤◌, ◌+◌, ℕ, List, [], ◌∷◌, ◌++◌, length, get_or, take, sym, ◌∙◌, ap, subst, arith, Option, Some, None, Bool, true, false}
 use Rattle.std.proofs.lemmas.List.{length-take-le}
-use Rattle.pict_syntax.specs.declared.code.Code.TheVariants.{K1, Y9}
+use Rattle.pict_syntax.specs.declared.code.Code.TheVariants.{K1, K5, Y9}
 use Rattle.pict_syntax.specs.declared.span.Span.{Span}
 use Rattle.pict_syntax.specs.declared.type_tree.TypeTree.{TypeTree as RTypeTree}
 use Rattle.pict_syntax.specs.Grammar.{type_span}
@@ -10,6 +10,7 @@ use Rattle.pict_syntax.specs.Trees.{TypeTree, TypeTrees, no_types, more_types}
 use Rattle.pict_syntax.proofs.TypeLists.{types_more}
 use Rattle.pict_types.specs.declared.types.Arg.{Arg}
 use Rattle.pict_types.specs.Types.{PlainBound, PlainBounds, PlainArg, count_bounds}
+use Rattle.pict_types.specs.AsMarked.{VaryAsMarked, varies_as}
 use Rattle.pict_types.specs.Replacing.{FitTheirFields}
 use Rattle.pict_types.specs.declared.types.Bound.{Bound}
 use Rattle.pict_types.specs.Kinds.{BoundIsWellFormed}
@@ -21,7 +22,7 @@ use Rattle.pict_normal.specs.Written.{kinds_with}
 use Rattle.pict_normal.specs.WrittenArguments.{arg_stop, normal_arg}
 use Rattle.pict_scope.specs.DistinctLabels.{HasDistinctLabels, TypesHaveDistinctLabels}
 use Rattle.pict_rules.specs.Clauses.{is_of_kind, within_bound}
-use Rattle.pict_rules.specs.Environments.{Environment}
+use Rattle.pict_rules.specs.Environments.{Environment, context_of}
 use Rattle.pict_rules.specs.Regular.{IsGood, kinds_in}
 use Rattle.pict_rules.specs.Rules.{nothing_, arguments_, Rule, ensure, give, ok, stuck, unless_stopped, written_arguments}
 use Rattle.pict_rules.specs.Shapes.{nth_bound}
@@ -46,17 +47,27 @@ use Rattle.pict_infer.proofs.OpenedBinders.{nth_is}
 
 -- it isn't of its field's kind
 pub of_another_kind : (e : Environment) (n at : Span) (b : PlainBound) (args : List PlainArg) (a : PlainArg) → is_of_kind a b ≡ false → Runs (argument_fits e n at b args a) (stuck K1 at)
-of_another_kind e n at b args a h = subst (λ (z : Bool). Runs (ensure z K1 at (within_one e n b args a at)) (stuck K1 at)) (sym h) refuse_
+of_another_kind e n at b args a h = subst (λ (z : Bool). Runs (ensure z K1 at (ensure (varies_as (context_of e) a b) K5 at (within_one e n b args a at))) (stuck K1 at)) (sym h) refuse_
+
+-- it varies otherwise than its field's marks say
+pub varies_otherwise : (e : Environment) (n at : Span) (b : PlainBound) (args : List PlainArg) (a : PlainArg) → is_of_kind a b ≡ true → varies_as (context_of e) a b ≡ false → Runs (argument_fits e n at b args a) (stuck K5 at)
+varies_otherwise e n at b args a k h =
+    subst (λ (z : Bool). Runs (ensure z K1 at (ensure (varies_as (context_of e) a b) K5 at (within_one e n b args a at))) (stuck K5 at)) (sym k)
+    (subst (λ (z : Bool). Runs (ensure z K5 at (within_one e n b args a at)) (stuck K5 at)) (sym h) refuse_)
 
 -- it fits, and is one more
 abbrev Fitted : Environment → Span → TypeTree → PlainBound → List PlainArg → PlainArg → Rule arguments_
-Fitted e n t b args a = ensure (is_of_kind a b) K1 (type_span t) (within_bound e n b args a Y9 (type_span t) (give (args ++ a ∷ [])))
+Fitted e n t b args a =
+    ensure (is_of_kind a b) K1 (type_span t) (
+    ensure (varies_as (context_of e) a b) K5 (type_span t) (
+    within_bound e n b args a Y9 (type_span t) (
+    give (args ++ a ∷ []))))
 
 arguments_on : (e : Environment) (n : Span) (t : TypeTree) (b : PlainBound) (args : List PlainArg) → GoesOn arguments_ arguments_ (argument_expanded e t) (argument_after e n t b args) (λ x. Fitted e n t b args (normal_arg e.names e.context t))
 arguments_on e n t b args = unstopped (arg_stop e.names e.context t) given
 
 fitted_on : (e : Environment) (n : Span) (t : TypeTree) (b : PlainBound) (args : List PlainArg) (a : PlainArg) → GoesOn nothing_ arguments_ (argument_fits e n (type_span t) b args a) (Fitted e n t b args a) (λ x. give (args ++ a ∷ []))
-fitted_on e n t b args a = ensured (is_of_kind a b) K1 (type_span t) (within_then e n b args a (type_span t) (give (args ++ a ∷ [])))
+fitted_on e n t b args a = ensured (is_of_kind a b) K1 (type_span t) (ensured (varies_as (context_of e) a b) K5 (type_span t) (within_then e n b args a (type_span t) (give (args ++ a ∷ []))))
 
 -- what was expanded
 argument_is : (e : Environment) (t : TypeTree) (a : PlainArg) → Runs (argument_expanded e t) (ok (a ∷ [])) → a ≡ normal_arg e.names e.context t
@@ -139,10 +150,13 @@ pub argument_bound : (e : Environment) (s : Span) (xs : List RTypeTree) (i : ℕ
     → Runs (rule e (written_arguments s (types_on no_types (take i xs)) (plain_bounds bs))) (ok args) → BoundIsWellFormed e.names (kinds_with args (kinds_in e)) (plain_bound b)
 argument_bound e s xs i t bs b args h n is q p =
     let g = good_so_far e s xs i t bs args h q p in
-    let m : length args ≡ i = g.1.1 ∙ so_many xs i (omega (arith, h)) in
+    let m : length args ≡ i = g.1.1.0 ∙ so_many xs i (omega (arith, h)) in
     let c = count_bounds_length bs in
     subst (λ d. BoundIsWellFormed e.names (kinds_with args (kinds_in e)) d) (ap (λ j. nth_bound j (plain_bounds bs)) m ∙ nth_is bs i b (omega (arith, h, n)) is)
     (bound_under e.names (kinds_in e) (plain_bounds bs) args q.asked.1 g.1.0 (omega (arith, h, n, m, c)))
 
 pub arguments_fit : (e : Environment) (s : Span) (ts : TypeTrees) (bs : PlainBounds) (args : List PlainArg) → IsWellAsked arguments_ e (written_arguments s ts bs) → count_trees ts ≡ count_bounds bs → Runs (rule e (written_arguments s ts bs)) (ok args) → FitTheirFields args bs
-arguments_fit e s ts bs args q n p = let g = good_of q p in all_fit args bs g.1.0 (g.1.1 ∙ n)
+arguments_fit e s ts bs args q n p = let g = good_of q p in all_fit args bs g.1.0 (g.1.1.0 ∙ n)
+
+pub arguments_vary : (e : Environment) (s : Span) (ts : TypeTrees) (bs : PlainBounds) (args : List PlainArg) → IsWellAsked arguments_ e (written_arguments s ts bs) → Runs (rule e (written_arguments s ts bs)) (ok args) → VaryAsMarked (context_of e) args bs
+arguments_vary e s ts bs args q p = (good_of q p).1.1.1

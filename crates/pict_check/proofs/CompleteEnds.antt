@@ -8,7 +8,8 @@ use Rattle.pict_syntax.specs.declared.span.Span.{Span}
 use Rattle.pict_syntax.specs.declared.type_tree.RType.{RType as RRType}
 use Rattle.pict_syntax.specs.declared.type_tree.TypeTree.{TypeTree as RTypeTree}
 use Rattle.pict_syntax.specs.declared.type_tree.TypeBinder.{TypeBinder as RTypeBinder}
-use Rattle.pict_syntax.specs.PlainTrees.{annotation_of, binder_of, binders_on, field_pats_of, held_annotation, labelled_pats_on, pat_of, pats_on}
+use Rattle.std.specs.Option.{option_map}
+use Rattle.pict_syntax.specs.PlainTrees.{annotation_of, binder_of, binders_on, field_pats_of, held_annotation, kind_of, labelled_pats_on, pat_of, pats_on}
 use Rattle.pict_syntax.specs.Trees.{Pat, bound, field_pats, no_binders, no_labelled_pats, no_pats}
 use Rattle.pict_types.specs.Entries.{PlainContext, PlainEntry, Variable}
 use Rattle.pict_types.specs.Types.{Free, PlainBound}
@@ -29,7 +30,7 @@ pub binder_bounded : (ns : List (List ℕ)) (c : PlainContext) (xs : List RTypeB
 binder_bounded ns c xs i b so_far one all h is p q k = k ∙ ap₂ (λ x y. x && y) p q ∙ ap (are_bounded ns c) (sym (next_binder xs i b h is))
 
 pub binder_opened : (e d : Env) (c : PlainContext) (xs : List RTypeBinder) (i : ℕ) (b : RTypeBinder) (w : PlainBound) → i < length xs → b ≡ get_or xs i b → known_entries e ≡ entries_under c (binders_on no_binders (take i xs))
-    → environment_of d ≡ extended (environment_of e) (only_types (record { name = b.id.name.0; bound = w } ∷ [])) → w ≡ kind_bound b.kind Free → known_entries d ≡ entries_under c (binders_on no_binders (take (i + 1) xs))
+    → environment_of d ≡ extended (environment_of e) (only_types (record { name = b.id.name.0; bound = w } ∷ [])) → w ≡ kind_bound (option_map kind_of b.kind) Free → known_entries d ≡ entries_under c (binders_on no_binders (take (i + 1) xs))
 binder_opened e d c xs i b w h is p k q =
     ap (λ (z : Environment). z.context) k ∙ ap₂ (λ (v : PlainBound) (es : PlainContext). let x : PlainEntry = record { name = b.id.name.0; what = Variable v } in x ∷ es) q p
     ∙ ap (entries_under c) (sym (next_binder xs i b h is))

@@ -79,7 +79,7 @@ pub positional_asked : (e : Environment) (s : Span) (f : FieldVals) (bs : PlainB
 positional_asked e s (field_vals ts vs ls) bs ps ms g w = record {
   labels = w.labels.1.0;
   regular = w.regular;
-  asked = (subst (λ ks. AreWellFormed e.names ks ps) (fields_kinds (kinds_in e) g bs w.asked.1.0) w.asked.0.1.0, w.asked.1.1);
+  asked = (subst (λ ks. AreWellFormed e.names ks ps) (fields_kinds (kinds_in e) g bs w.asked.1.0) w.asked.0.1.0, w.asked.1.1.0);
 }
 
 pub labels_distinct : (e : Environment) (s : Span) (f : FieldVals) (bs : PlainBounds) (ps : PlainTypes) (ms : PlainLabels) (g : Found) → IsWellAsked arguments_ e (fields_fit s f bs ps ms g) → LabelledValsAreDistinct (labelled_of f)

@@ -56,7 +56,7 @@ second_formed e o w = w.fields.1.0.1.0
 
 -- what is found before the fields, and by one of them
 pub before_found : (e : Environment) (s : Span) (v w : Val) (o : Operator) (g : Found) → FieldsAsked e s v w o g → IsFoundFor e o.binders g
-before_found e s v w o g h = record { kinds_ = h.asked.1.0; fits = h.asked.1.1 }
+before_found e s v w o g h = record { kinds_ = h.asked.1.0; fits = h.asked.1.1.0 }
 
 pub after_found : (e : Environment) (s : Span) (v : Val) (bs : PlainBounds) (t : PlainType) (f g : Found) → IsFoundFor e bs f → IsWellAsked found_ e (value_fits s v t f) → Runs (rule e (value_fits s v t f)) (ok g) → IsFoundFor e bs g
 after_found e s v bs t f g k h r =

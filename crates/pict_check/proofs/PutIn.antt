@@ -30,7 +30,7 @@ use Rattle.pict_check.proofs.Written.{nothing_put}
 kind_put : (x : Slot) → kind_of_arg (argument_in x) ≡ kind_of_slot x
 kind_put (open_slot Free) = refl
 kind_put (open_slot (Below t)) = refl
-kind_put (open_slot (Operator n)) = refl
+kind_put (open_slot (Operator ms)) = refl
 kind_put (filled (Plain t)) = refl
 kind_put (filled (Op n t)) = refl
 

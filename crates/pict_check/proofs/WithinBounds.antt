@@ -41,7 +41,7 @@ use Rattle.pict_infer.proofs.OpenedBinders.{nth_is}
 
 within_on : {s t : Sort} {l : Rule s} {q : Rule t} {k : rules.Result s → Rule t} (e : Environment) (n : Span) (b : PlainBound) (earlier : List PlainArg) (a : PlainArg) (at : Span) → GoesOn s t l q k → GoesOn s t (within_bound e n b earlier a Y9 at l) (within_bound e n b earlier a Y9 at q) k
 within_on e n Free earlier a at g = g
-within_on e n (Operator m) earlier a at g = g
+within_on e n (Operator ms) earlier a at g = g
 within_on e n (Below b) earlier a at g = unstopped (size_stop e.context (replace (arguments earlier) b) n) (needed g)
 
 -- and how a rule goes on

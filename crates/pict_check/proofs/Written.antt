@@ -66,7 +66,7 @@ mutual
   bound_none : {p : ℕ → Bool} (b : PlainBound) → AreNone p → mentions_bound p b ≡ false
   bound_none Free h = refl
   bound_none (Below t) h = mentions_none t h
-  bound_none (Operator n) h = refl
+  bound_none (Operator ms) h = refl
 
 and_false : (a : Bool) → (a && false) ≡ false
 and_false true = refl

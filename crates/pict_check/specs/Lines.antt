@@ -1,12 +1,13 @@
 -- The lines in which rules end, each as a rule of its own.
 use Rattle.std.specs.Prelude.{ℕ, Bool, if◌then◌else◌, List, [], ◌∷◌, ◌++◌, length, map, Option, Some, None}
-use Rattle.pict_syntax.specs.declared.code.Code.TheVariants.{K1, Y1, Y4, Y7, Y8, Y9, Y10, Y11, Y13, Y14}
+use Rattle.pict_syntax.specs.declared.code.Code.TheVariants.{K1, K5, Y1, Y4, Y7, Y8, Y9, Y10, Y11, Y13, Y14}
 use Rattle.pict_syntax.specs.declared.code.Code.{Code}
 use Rattle.pict_syntax.specs.declared.span.Span.{Span}
 use Rattle.pict_syntax.specs.Trees.{TypeTree, RType, Val, Vals, FieldVals, field_vals, LabelledVals, true_val}
 use Rattle.pict_syntax.specs.declared.id.Id.{Id}
 use Rattle.pict_syntax.specs.Grammar.{type_span}
 use Rattle.pict_types.specs.Types.{Capability, PlainType, no_type, types, PlainLabels, PlainArg, PlainBound, PlainBounds, type_at}
+use Rattle.pict_types.specs.AsMarked.{varies_as}
 use Rattle.pict_types.specs.Replacing.{arguments, replace}
 use Rattle.pict_sub.specs.Exposing.{exposure}
 use Rattle.pict_rules.specs.Found.{Found, argument_in, matched, none_found}
@@ -76,7 +77,10 @@ as_expected e x u s = expect e x u Y4 s done
 
 -- an argument that is written at a place, for a type field with this bound
 abbrev pub argument_fits : Environment → Span → Span → PlainBound → List PlainArg → PlainArg → Rule nothing_
-argument_fits e s at b args a = ensure (is_of_kind a b) K1 at (within_one e s b args a at)
+argument_fits e s at b args a =
+    ensure (is_of_kind a b) K1 at (
+    ensure (varies_as (context_of e) a b) K5 at (
+    within_one e s b args a at))
 
 -- a written type argument, and one after the earlier ones, for a type field with this bound
 abbrev pub argument_expanded : Environment → TypeTree → Rule arguments_
@@ -86,8 +90,9 @@ abbrev pub argument_after : Environment → Span → TypeTree → PlainBound →
 argument_after e s t b args =
     expand_argument e t (λ a.
     ensure (is_of_kind a b) K1 (type_span t) (
+    ensure (varies_as (context_of e) a b) K5 (type_span t) (
     within_bound e s b args a Y9 (type_span t) (
-    give (args ++ a ∷ []))))
+    give (args ++ a ∷ [])))))
 
 -- the unfolding of a recursive type, which is at one place, for the fold at the other
 abbrev pub fold_from : Environment → PlainType → Span → Span → Rule type_

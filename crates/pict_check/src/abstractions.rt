@@ -12,14 +12,13 @@ ghost use Rattle.pict_check.specs.Definitions.{function_tree};
 
 use crate::answers::{answer_in, argument, body_type, opened, past_added};
 use crate::processes::process;
-use crate::spans::val_span;
 use crate::steps::{expanded, outside};
 use crate::values::{gives, has};
 use pict_infer::{
     Env, InferError, as_record, followed, open_fields, open_fields_against, pattern_against,
     pattern_gives, shown,
 };
-use pict_syntax::{Abs, Code, FieldPats, RType, Span, TypeTree, Val};
+use pict_syntax::{Abs, Code, FieldPats, RType, Span, TypeTree, Val, val_span};
 use pict_types::{Record, Ty};
 use std::alloc::Global;
 

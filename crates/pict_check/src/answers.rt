@@ -19,11 +19,10 @@ ghost use Rattle.pict_check.specs.Functions.{IsNoFunction};
 ghost use Rattle.pict_check.specs.Lines.{formed};
 
 use crate::parts::limited;
-use crate::spans::type_span;
 use crate::steps::{below, expanded};
 use pict_infer::{Added, Env, InferError};
 use pict_sub::{TypeScope, expose_in};
-use pict_syntax::{Code, RType, Span, TypeTree};
+use pict_syntax::{Code, RType, Span, TypeTree, type_span};
 use pict_types::{Bound, Cap, Context, Record, Ty, shift_type};
 use std::alloc::{AllocError, Global};
 

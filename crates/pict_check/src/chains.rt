@@ -23,11 +23,10 @@ use crate::nested::{
 };
 use crate::operators::Operator;
 use crate::right::leave;
-use crate::spans::val_span;
 use crate::values::{gives, has};
 use pict_infer::{Env, InferError};
 use pict_match::Found;
-use pict_syntax::{Id, Span, Val};
+use pict_syntax::{Id, Span, Val, val_span};
 use pict_types::Ty;
 use std::alloc::Global;
 

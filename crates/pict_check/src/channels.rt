@@ -20,11 +20,10 @@ use crate::fields::{application_end, found_first};
 use crate::fitting::fields_fit;
 use crate::folds::{annotated_fold, fold_unfolding, variables};
 use crate::functions::head;
-use crate::spans::{chan_span, val_span};
 use crate::steps::{below, outside};
 use crate::values::{gives, has};
 use pict_infer::{Env, InferError};
-use pict_syntax::{Chan, Code, FieldVals, Span, Val};
+use pict_syntax::{Chan, Code, FieldVals, Span, Val, chan_span, val_span};
 use pict_types::{Ty, shift_type};
 use std::alloc::Global;
 

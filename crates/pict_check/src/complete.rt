@@ -1,7 +1,8 @@
 // Whether a pattern is complete, so that it gives its type by itself.
 
 ghost use Rattle.std.specs.Prelude.{◌≡◌, ◌&&◌, IfOk, OnOk};
-ghost use Rattle.pict_syntax.specs.PlainTrees.{binder_of, binders_on, field_pats_of, labelled_pats_on, pat_of, pats_on, type_of};
+ghost use Rattle.std.specs.Option.{option_map};
+ghost use Rattle.pict_syntax.specs.PlainTrees.{binder_of, binders_on, field_pats_of, kind_of, labelled_pats_on, pat_of, pats_on, type_of};
 ghost use Rattle.pict_syntax.specs.Trees.{bound, no_binders, no_labelled_pats, no_pats};
 ghost use Rattle.pict_types.specs.Plain.{plain_bound};
 ghost use Rattle.pict_types.specs.Types.{Free};
@@ -51,13 +52,13 @@ fn has_kind_or_bound(alloc: Global, env: &Env, b: &TypeBinder) -> Result<bool, A
 }
 
 /// What a type binder is known by, but for its bound.
-fn bound_by_kind(kind: Option<KindTree>) -> Bound
-    ensures { plain_bound result ≡ kind_bound kind Free }
+fn bound_by_kind(alloc: Global, kind: &Option<KindTree>) -> Result<Bound, AllocError>
+    ensures { IfOk result (λ d. plain_bound d ≡ kind_bound (option_map kind_of kind.now) Free) }
 {
     match kind {
-        Some(KindTree::Operator(n)) => Bound::Operator(n),
-        Some(KindTree::Plain) => Bound::Free,
-        None => Bound::Free,
+        Some(KindTree::Operator(marks)) => Ok(Bound::Operator(Vec::from_slice(alloc, marks)?)),
+        Some(KindTree::Plain) => Ok(Bound::Free),
+        None => Ok(Bound::Free),
     }
 }
 
@@ -72,7 +73,8 @@ fn open_bounded(alloc: Global, env: &mut Env, bs: &[TypeBinder]) -> Result<bool,
     for b in bs {
         let one = has_kind_or_bound(alloc, env, b)?;
         bounded = both(bounded, one);
-        env.push_type(b.id.name, bound_by_kind(b.kind))?;
+        let bound = bound_by_kind(alloc, &b.kind)?;
+        env.push_type(b.id.name, bound)?;
     }
     Ok(bounded)
 }

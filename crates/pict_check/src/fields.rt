@@ -3,7 +3,7 @@
 ghost use Rattle.std.specs.Prelude.{◌≡◌, length, map, is_none, option_map, true, Some, IfOk};
 ghost use Rattle.pict_types.specs.Plain.{plain, plain_arg, plain_args, plain_bound, plain_bounds};
 ghost use Rattle.pict_types.specs.Replacing.{FitTheirFields, arguments, replace};
-ghost use Rattle.pict_types.specs.Types.{Below, PlainBounds};
+ghost use Rattle.pict_types.specs.Types.{Below, Op, PlainBounds, Top};
 ghost use Rattle.pict_rules.specs.Found.{argument_in, mentions_missing, none_found, with_found};
 ghost use Rattle.pict_rules.specs.Regular.{FoundFits, IsExpected, IsRegular, IsTypeIn, kinds_found, kinds_of_fields};
 ghost use Rattle.pict_match.specs.PlainFound.{found_of};
@@ -46,6 +46,19 @@ pub fn mentions_missing(alloc: Global, t: &Ty, found: &Found) -> Result<bool, Al
     mentions(t, &Variables::Marked(&missing))
 }
 
+/// The operator of so many parameters that makes `Top`. An error where a `u32` can't hold the number.
+fn top_operator(params: usize) -> Result<Arg, AllocError>
+    ensures { IfOk result (λ a. plain_arg a ≡ Op params Top) }
+{
+    if params > u32::MAX as usize {
+        return Err(AllocError);
+    }
+    Ok(Arg::Op {
+        params: params as u32,
+        body: Ty::Top,
+    })
+}
+
 /// What stands for a type field: the argument that is found; `Top`, as a type or as an operator, where none is.
 fn argument(alloc: Global, b: &Bound, x: &Option<Ty>) -> Result<Arg, AllocError>
     ensures { IfOk result (λ a. plain_arg a ≡ argument_in (slot (plain_bound b.now) x.now)) }
@@ -53,10 +66,7 @@ fn argument(alloc: Global, b: &Bound, x: &Option<Ty>) -> Result<Arg, AllocError>
     match x {
         Some(t) => Ok(Arg::Plain(t.copy(alloc)?)),
         None => match b {
-            Bound::Operator(n) => Ok(Arg::Op {
-                params: *n,
-                body: Ty::Top,
-            }),
+            Bound::Operator(marks) => top_operator(marks.as_slice().len()),
             Bound::Free => Ok(Arg::Plain(Ty::Top)),
             Bound::Below(_) => Ok(Arg::Plain(Ty::Top)),
         },

@@ -20,11 +20,10 @@ ghost use Rattle.pict_check.specs.Records.{fits_record, values_in_order};
 use crate::counts::counted;
 use crate::fields::{fields_end, given_fits, mentions_missing, wanted};
 use crate::records::{record_instance, written_arguments};
-use crate::spans::val_span;
 use crate::values::{gives, has};
 use pict_infer::{Env, InferError, labelled_type, shown};
 use pict_match::{Found, match_type};
-use pict_syntax::{FieldVals, LabelledVal, Name, Span, Val};
+use pict_syntax::{FieldVals, LabelledVal, Name, Span, Val, val_span};
 use pict_types::{Arg, Bound, Record, Ty};
 use std::alloc::Global;
 

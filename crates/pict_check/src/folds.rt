@@ -10,10 +10,9 @@ ghost use Rattle.pict_infer.specs.Environments.{environment_of};
 ghost use Rattle.pict_check.specs.Folds.{annotated_types};
 ghost use Rattle.pict_check.specs.Lines.{fold_annotated, fold_from, fold_of, fold_written, variables};
 
-use crate::spans::type_span;
 use crate::steps::{expanded, unfolded};
 use pict_infer::{Env, InferError, recursive};
-use pict_syntax::{Code, RType, Span, TypeTree};
+use pict_syntax::{Code, RType, Span, TypeTree, type_span};
 use pict_types::Ty;
 use std::alloc::Global;
 

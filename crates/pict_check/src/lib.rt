@@ -23,7 +23,6 @@ mod processes;
 mod records;
 mod right;
 mod signatures;
-mod spans;
 mod steps;
 mod types;
 mod values;

@@ -15,10 +15,9 @@ use crate::abstractions::abstraction_against;
 use crate::channels::channel_gives;
 use crate::declarations::declarations;
 use crate::messages::{messages_received, messages_sent};
-use crate::spans::chan_span;
 use crate::values::{gives_below, has};
 use pict_infer::{Env, InferError};
-use pict_syntax::{Abs, Chan, Code, Proc};
+use pict_syntax::{Abs, Chan, Code, Proc, chan_span};
 use pict_types::Ty;
 use std::alloc::Global;
 

@@ -1,14 +1,16 @@
 // The types of records, records with arguments put in, and written type arguments.
 
-ghost use Rattle.std.specs.Prelude.{◌≡◌, ◌≤◌, ◌++◌, ◌∷◌, [], length, IfOk};
+ghost use Rattle.std.specs.Prelude.{◌≡◌, ◌≤◌, ◌++◌, ◌∷◌, [], length, true, IfOk};
 ghost use Rattle.pict_syntax.specs.PlainTrees.{type_of, types_on};
 ghost use Rattle.pict_syntax.specs.Trees.{no_types};
+ghost use Rattle.pict_types.specs.AsMarked.{VaryAsMarked, varies_as};
 ghost use Rattle.pict_types.specs.Plain.{plain, plain_arg, plain_args, plain_bound, plain_bounds, plain_labels, plain_record, plain_types};
 ghost use Rattle.pict_types.specs.Replacing.{FitTheirFields};
 ghost use Rattle.pict_types.specs.Types.{Fields, no_bound};
 ghost use Rattle.pict_normal.specs.Written.{record_with};
 ghost use Rattle.pict_scope.specs.DistinctLabels.{HasDistinctLabels};
 ghost use Rattle.pict_rules.specs.Clauses.{is_of_kind};
+ghost use Rattle.pict_rules.specs.Environments.{context_of};
 ghost use Rattle.pict_rules.specs.Regular.{IsTypeIn};
 ghost use Rattle.pict_rules.specs.Rules.{arguments_, written_arguments};
 ghost use Rattle.pict_rules.specs.Typing.{rule};
@@ -20,11 +22,10 @@ ghost use Rattle.pict_check.specs.Lines.{argument_after, argument_expanded, argu
 
 use crate::fields::within_bound;
 use crate::parts::limited;
-use crate::spans::type_span;
 use pict_infer::{Env, InferError, refusal, size_refusal};
 use pict_normal::{expand_arg, instantiate};
-use pict_syntax::{Code, Name, Span, TypeTree};
-use pict_types::{Arg, Bound, Record, Ty};
+use pict_syntax::{Code, Name, Span, TypeTree, type_span};
+use pict_types::{Arg, Bound, Record, Ty, varies};
 use std::alloc::Global;
 
 /// The record type of these fields.
@@ -64,6 +65,7 @@ pub fn record_instance(
     requires r { IsTypeIn (environment_of env.now) (plain_record r.now) }
     requires args { AreArgsIn (environment_of env.now) (plain_args args.now) }
     requires fit { FitTheirFields (plain_args args.now) (plain_bounds r.now.binders.items) }
+    requires vary { VaryAsMarked (context_of (environment_of env.now)) (plain_args args.now) (plain_bounds r.now.binders.items) }
     ensures answer { IsAnswer (formed (environment_of env.now) (record_with (plain_args args.now) r.now) span) plain_record result }
     ensures formed { IfOk result (λ q. IsTypeIn (environment_of env.now) (plain_record q)) }
 {
@@ -78,12 +80,26 @@ fn is_of_kind(a: &Arg, b: &Bound) -> bool
     ensures { result ≡ is_of_kind (plain_arg a.now) (plain_bound b.now) }
 {
     match (a, b) {
-        (Arg::Op { params, .. }, Bound::Operator(n)) => *params == *n,
+        (Arg::Op { params, .. }, Bound::Operator(marks)) => *params as usize
+            == marks.as_slice().len(),
         (Arg::Op { .. }, Bound::Free) => false,
         (Arg::Op { .. }, Bound::Below(_)) => false,
         (Arg::Plain(_), Bound::Operator(_)) => false,
         (Arg::Plain(_), Bound::Free) => true,
         (Arg::Plain(_), Bound::Below(_)) => true,
+    }
+}
+
+/// Whether an argument varies as its type field's marks say; nothing is asked where the field is no operator. Takes no
+/// memory.
+fn varies_as(env: &Env, a: &Arg, b: &Bound) -> bool
+    requires kind { is_of_kind (plain_arg a.now) (plain_bound b.now) ≡ true }
+    ensures { result ≡ varies_as (context_of (environment_of env.now)) (plain_arg a.now) (plain_bound b.now) }
+{
+    match b {
+        Bound::Free => true,
+        Bound::Below(_) => true,
+        Bound::Operator(marks) => varies(env.context(), a, marks),
     }
 }
 
@@ -99,8 +115,8 @@ fn expanded_argument(alloc: Global, env: &Env, t: &TypeTree) -> Result<Arg, Infe
     }
 }
 
-/// An argument that is written at a place is of its field's kind, and below the field's bound with the earlier arguments
-/// put in: K1 and Y9 at that place, K4 of the bound at the node.
+/// An argument that is written at a place is of its field's kind, varies as the field's marks say, and is below the
+/// field's bound with the earlier arguments put in: K1, K5 and Y9 at that place, K4 of the bound at the node.
 fn argument_fits(
     alloc: Global,
     env: &Env,
@@ -118,10 +134,14 @@ fn argument_fits(
     if !is_of_kind(a, b) {
         return Err(InferError::Named(Code::K1, at));
     }
+    if !varies_as(env, a, b) {
+        return Err(InferError::Named(Code::K5, at));
+    }
     within_bound(alloc, env, b, earlier, a, at, node)
 }
 
-/// A written type argument after the earlier ones: expanded, of its field's kind, and below the field's bound.
+/// A written type argument after the earlier ones: expanded, of its field's kind, varying as the field's marks say, and
+/// below the field's bound.
 fn written_argument(
     alloc: Global,
     env: &Env,
@@ -143,8 +163,8 @@ fn written_argument(
     }
 }
 
-/// Written type arguments, in order. K1 to K4 where they stand in one, K1 and Y9 at one that its type field doesn't take,
-/// K4 at the node for the bound of a type field.
+/// Written type arguments, in order. K1 to K4 where they stand in one, K1, K5 and Y9 at one that its type field doesn't
+/// take, K4 at the node for the bound of a type field.
 pub fn written_arguments(
     alloc: Global,
     env: &Env,

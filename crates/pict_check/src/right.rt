@@ -9,10 +9,9 @@ ghost use Rattle.pict_check.specs.Operators.{type_if};
 
 use crate::nested::{end_application, end_fields, field_given, second, wanted_around};
 use crate::operators::Operator;
-use crate::spans::val_span;
 use pict_infer::{Env, InferError};
 use pict_match::Found;
-use pict_syntax::Val;
+use pict_syntax::{Val, val_span};
 use pict_types::Ty;
 use std::alloc::Global;
 

@@ -15,10 +15,9 @@ ghost use Rattle.pict_check.specs.Declaring.{channel_type, is_both, new_operator
 
 use crate::folds::variables;
 use crate::records::fields_type;
-use crate::spans::type_span;
 use crate::steps::expanded;
 use pict_infer::{Env, InferError};
-use pict_syntax::{Code, Id, TypeTree};
+use pict_syntax::{Code, Id, TypeTree, type_span};
 use pict_types::{Arg, Bound, Cap, Ty};
 use std::alloc::{AllocError, Global};
 

@@ -18,10 +18,9 @@ use crate::fields::none_found;
 use crate::fitting::fields_fit;
 use crate::parts::{as_sent, either, responder};
 use crate::records::record_type;
-use crate::spans::val_span;
 use crate::steps::below;
 use pict_infer::{Env, InferError, as_record};
-use pict_syntax::{Code, FieldVals, LabelledVal, Name, Span, Val, sort_labels};
+use pict_syntax::{Code, FieldVals, LabelledVal, Name, Span, Val, sort_labels, val_span};
 use pict_types::{Record, Ty};
 use std::alloc::Global;
 

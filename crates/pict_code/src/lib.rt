@@ -5,8 +5,6 @@ mod instruction;
 mod laws;
 mod line;
 mod pattern;
-#[cfg(test)]
-mod tests;
 mod writing;
 
 pub use instruction::{Code, Node, Op, Operand};

@@ -7,7 +7,7 @@ use Rattle.pict_core.specs.Matching.{match_value}
 use Rattle.pict_core.specs.Substitution.{substitute}
 use Rattle.pict_core.specs.Primitives.{Effect, Leaves, Nothing, Answer, Trap, effect_of}
 use Rattle.pict_core.specs.Configuration.{Mark, Ready, Parked, Entry, Configuration, IsConfiguration}
-use Rattle.pict_core.specs.Step.{Label, Quiet, StepOutcome, Steps, Traps, Wrong, Finished, gone, kept, added, with_channel, received, served, took, meet_reader, meet_message, meet, printing, leave, perform, send, receive, choose, act, act_entry, Choice, IsWrong, next, is_ready, is_partner, NamesPartner, IsChoice, free_step, Free, least, entry_at, step_by, oldest_choice}
+use Rattle.pict_core.specs.Step.{Label, Quiet, StepOutcome, Steps, Traps, Wrong, Finished, gone, kept, added, with_channel, received, served, took, meet_reader, meet_message, meet, printing, leave, perform, send, receive, choose, act, act_entry, Choice, IsWrong, is_ready, is_partner, NamesPartner, IsChoice, free_step, Free, least, entry_at, step_by, oldest_choice}
 use Rattle.pict_core.specs.Laws.{FreeStepsKeepConfigurations, OldestFirstStepsAreFree, WrongStepsAreWrong}
 use Rattle.pict_core.proofs.Closed.{under_more, substitute_under, match_fits, Fits, EffectOver, LeavesOver, effect_over}
 use Rattle.pict_core.proofs.Stamps.{StampsRise-without, StampsRise-with_process, StampsRise-added, AreClosed-without, AreClosed-with_process, AreClosed-added, AreClosed-more, EntryClosed, least_closed, least_passes, least_stands}

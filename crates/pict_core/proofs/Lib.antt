@@ -8,5 +8,7 @@ pub mod Kept
 pub mod Matched
 pub mod Substituting
 pub mod OneRun
+pub mod Onward
 mod Worked
 pub mod Tabled
+pub mod Replacing

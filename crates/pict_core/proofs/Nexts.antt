@@ -1,5 +1,5 @@
 -- The oldest-first step is what the least ready entry does with its least partner.
-use Rattle.std.proofs.Common.{ℕ, ◌≡◌, refl, ap, ◌∙◌, Option, Some, None, option_map, option_and_then}
+use Rattle.std.proofs.Common.{◌≡◌, refl, ap, ◌∙◌, Option, Some, None, option_map, option_and_then}
 use Rattle.pict_core.specs.Configuration.{Entry, Configuration, IsConfiguration}
 use Rattle.pict_core.specs.Step.{Finished, least, entry_at, is_ready, is_partner, act, act_entry, Choice, step_by, next}
 use Rattle.pict_core.proofs.Stamps.{least_stands}

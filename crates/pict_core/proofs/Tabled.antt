@@ -1,13 +1,12 @@
 -- The rows of the table are what processes do.
-use Rattle.std.proofs.Common.{ℕ, Bool, true, false, ◌≡◌, refl, sym, ap, ◌∙◌, subst, List, [], ◌∷◌, Option, Some, None}
+use Rattle.std.proofs.Common.{ℕ, Bool, true, false, ◌≡◌, refl, ap, ◌∙◌, subst, List, Option, Some, None}
 use Rattle.pict_syntax.specs.declared.span.Span.{Span}
 use Rattle.pict_syntax.specs.declared.primitive.Primitive.{Primitive}
 use Rattle.pict_core.specs.Term.{Val, Pat, Process, Var, Chan, Int, Char, Boolean, Text, PrimitiveVal, Record, Zero, Par, New, Out, In, If}
-use Rattle.pict_core.specs.Substitution.{substitute}
 use Rattle.pict_core.specs.Matching.{match_value}
 use Rattle.pict_core.specs.Primitives.{Effect, Leaves, Nothing, Answer, Trap, effect_of}
 use Rattle.pict_core.specs.Configuration.{Ready, Parked, Entry, Configuration}
-use Rattle.pict_core.specs.Step.{Label, Quiet, Comm, StepOutcome, Steps, Traps, Wrong, Finished, gone, kept, added, printing, act, perform, leave, received, served, took, meet_reader, meet_message}
+use Rattle.pict_core.specs.Step.{Label, Comm, StepOutcome, Steps, Traps, Wrong, Finished, gone, added, printing, act, perform, leave, received, served, took, meet_reader, meet_message}
 use Rattle.pict_core.specs.Table.{Row, ends, forks, makes_channel, takes_first, takes_second, primitive_ends, primitive_answers, output_parks, output_meets_reader, output_meets_server, input_parks, reader_meets_message, server_meets_message}
 
 -- what a process does is a row of the table, or a trap, or wrong, and never 'finished'

@@ -1,10 +1,10 @@
 -- Laws of the definitions.
-use Rattle.std.specs.Prelude.{ℕ, ◌≡◌, List}
+use Rattle.std.specs.Prelude.{ℕ, ◌≡◌, ◌+◌, List, ◌++◌}
 use Rattle.pict_core.specs.Term.{Process}
 use Rattle.pict_core.specs.Closed.{IsClosed}
 use Rattle.pict_core.specs.Configuration.{Configuration, IsConfiguration, opening}
 use Rattle.pict_core.specs.Step.{Choice, Label, Steps, Wrong, Free, IsWrong, next}
-use Rattle.pict_core.specs.Run.{End, RunsFrom}
+use Rattle.pict_core.specs.Run.{End, Reaches, RunsFrom, numbered_after}
 
 -- Free steps keep what holds of configurations.
 abbrev pub FreeStepsKeepConfigurations : Type 0
@@ -15,6 +15,12 @@ FreeStepsKeepConfigurations =
 abbrev pub OldestFirstStepsAreFree : Type 0
 OldestFirstStepsAreFree =
     (C : Configuration) (D : Configuration) (label : Label) → IsConfiguration C → next C ≡ Steps D label → (choice : Choice) × Free C choice D label
+
+-- Steps after steps are steps, and show what both show, the later ones with numbers that go on.
+abbrev pub StepsGoOn : Type 0
+StepsGoOn =
+    (n m : ℕ) (C D E : Configuration) (labels later : List (ℕ × Label)) → Reaches n C labels D → Reaches m D later E
+    → Reaches (n + m) C (labels ++ numbered_after n later) E
 
 -- A run has one end, one list of labels and one number of steps.
 abbrev pub RunsAreOne : Type 0

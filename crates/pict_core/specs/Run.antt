@@ -1,5 +1,5 @@
 -- Runs of oldest-first steps: their end, their labels and the bytes that they print.
-use Rattle.std.specs.Prelude.{ℕ, zero, suc, ◌≡◌, ◌≢◌, ◌≤◌, ◌<◌, ◌+◌, List, [], ◌∷◌, ◌++◌}
+use Rattle.std.specs.Prelude.{ℕ, zero, suc, ◌≡◌, ◌≢◌, ◌≤◌, ◌<◌, ◌+◌, List, [], ◌∷◌, ◌++◌, map}
 use Rattle.pict_syntax.specs.declared.span.Span.{Span}
 use Rattle.pict_core.specs.Term.{Process}
 use Rattle.pict_core.specs.Configuration.{Configuration, opening}
@@ -17,6 +17,10 @@ Reaches zero C labels D = (C ≡ D) × (labels ≡ [])
 Reaches (suc n) C labels D =
     (M : Configuration) × (before : List (ℕ × Label)) × (label : Label) × Reaches n C before M × (next M ≡ Steps D label)
     × (labels ≡ before ++ shown (suc n) label)
+
+-- labels of further steps, after so many
+abbrev pub numbered_after : ℕ → List (ℕ × Label) → List (ℕ × Label)
+numbered_after n labels = map (λ (l : ℕ × Label). (n + l.0, l.1)) labels
 
 -- Nothing is ready; the fuel is spent; a step divides by zero at this place; or a step is wrong.
 pub data End : Type 0 where

@@ -1,6 +1,6 @@
 // Laws of the definitions. Each is a function that does nothing: its contract is the law.
 
-ghost use Rattle.pict_core.specs.Laws.{FreeStepsKeepConfigurations, OldestFirstStepsAreFree, RunsAreOne, OpeningsAreConfigurations, WrongStepsAreWrong};
+ghost use Rattle.pict_core.specs.Laws.{FreeStepsKeepConfigurations, OldestFirstStepsAreFree, StepsGoOn, RunsAreOne, OpeningsAreConfigurations, WrongStepsAreWrong};
 ghost use Rattle.pict_core.specs.Table.{StepsAreRows};
 
 /// A free step of a configuration gives a configuration: its processes are closed over its channels, no label stands
@@ -12,6 +12,12 @@ pub fn law_free_steps_keep_configurations()
 /// An oldest-first step of a configuration is a free step.
 pub fn law_oldest_first_steps_are_free()
     ensures { OldestFirstStepsAreFree }
+{}
+
+/// Oldest-first steps after oldest-first steps are as many such steps as both, and show what both show, in order: the numbers of
+/// the later ones go on after those of the first.
+pub fn law_steps_go_on()
+    ensures { StepsGoOn }
 {}
 
 /// A run has one end, one list of labels and one number of steps.

@@ -10,7 +10,7 @@ mod value;
 
 pub use laws::{
     law_free_steps_keep_configurations, law_oldest_first_steps_are_free,
-    law_openings_are_configurations, law_runs_are_one, law_steps_are_rows,
+    law_openings_are_configurations, law_runs_are_one, law_steps_are_rows, law_steps_go_on,
     law_wrong_steps_are_wrong,
 };
 pub use matching::match_value;
@@ -18,6 +18,3 @@ pub use pattern::CorePat;
 pub use process::{Core, Part, depth};
 pub use substitution::substitute;
 pub use value::CoreVal;
-
-#[cfg(test)]
-mod tests;

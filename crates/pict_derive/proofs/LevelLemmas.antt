@@ -14,7 +14,7 @@ use Rattle.pict_binders.specs.Numbered.{nearest}
 use Rattle.pict_syntax.specs.Trees.{Pat, FieldPats, Definitions, no_definitions, more_definitions}
 use Rattle.pict_translation.specs.Placed.{variables}
 use Rattle.pict_translation.specs.Patterns.{pat_core, pat_names, function_pat, names_before, names_after}
-use Rattle.pict_translation.specs.Simple.{Around, value_at, binding, bound, pat_bound, function_bound, answer_channel, unit}
+use Rattle.pict_translation.specs.Simple.{Around, value_at, binding, bound, pat_bound, function_bound, answer_channel, nothing}
 use Rattle.pict_translation.proofs.PatternLemmas.{pattern_agrees, function_agrees}
 use Rattle.pict_derive.specs.Built.{values_of, place, with_levels, Extends}
 use Rattle.pict_scope.proofs.Reading.{taken}
@@ -162,9 +162,9 @@ function_place names f level bs =
 pub function_answer : (names : List (List ℕ)) (f : FieldPats) (level : ℕ) → answer_channel names f (all_variables names f level) ≡ Var (level + length (names_before names f))
 function_answer names f level =
     let b = length (names_before names f) in
-    ap (λ vs. get_or vs b unit) (function_variables names f level)
-    ∙ ap (λ n. get_or (variables level b ++ Var (level + b) ∷ variables (level + b + 1) (length (names_after names f))) n unit) (sym (variables_length level b))
-    ∙ get_or-append_seam (variables level b) (Var (level + b)) (variables (level + b + 1) (length (names_after names f))) unit
+    ap (λ vs. get_or vs b nothing) (function_variables names f level)
+    ∙ ap (λ n. get_or (variables level b ++ Var (level + b) ∷ variables (level + b + 1) (length (names_after names f))) n nothing) (sym (variables_length level b))
+    ∙ get_or-append_seam (variables level b) (Var (level + b)) (variables (level + b + 1) (length (names_after names f))) nothing
 
 -- the names before and after the channel for the answer, bound in turn
 pub both_bound : (names : List (List ℕ)) (f : FieldPats) (d : ℕ) (old new : List Binder) (before after : List ℕ) (next : ℕ) → before ≡ names_before names f → after ≡ names_after names f → next ≡ d + length (names_before names f) + 1 → new ≡ with_levels after next (with_levels before d old) → place names new ≡ function_bound f (all_variables names f d) (place names old)

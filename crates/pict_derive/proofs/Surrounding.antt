@@ -1,14 +1,10 @@
 -- What stands around a rest: one layer more, and what each form does to the whole.
-use Rattle.std.proofs.Common.{◌≡◌, ℕ, zero, suc, ◌+◌, true, List, [], ◌∷◌, ◌++◌, map, refl, sym, ◌∙◌, ap, arith, rules}
+use Rattle.std.proofs.Common.{◌≡◌, ℕ, zero, suc, ◌+◌, Bool, true, List, [], ◌∷◌, ◌++◌, refl, sym, ◌∙◌, ap, arith, rules}
 use Rattle.std.proofs.lemmas.List.{map-append}
 use Rattle.pict_core.specs.Term as core
-use Rattle.std.proofs.Common.{Global}
-use Rattle.std.specs.Prelude.{Vec}
-use Rattle.pict_syntax.specs.declared.name.Name.{Name}
 use Rattle.pict_syntax.specs.declared.primitive.Primitive.{Primitive}
-use Rattle.pict_core.proofs.Fields.{plain_val-Fields}
-use Rattle.pict_core.specs.Plain.{plain_core, plain_pat, plain_val, plain_field, vals_of, labelled_of}
-use Rattle.pict_core.specs.declared.value.CoreVal.{CoreVal, the_lemmas as value_lemmas}
+use Rattle.pict_core.specs.Plain.{plain_core, plain_pat, plain_val}
+use Rattle.pict_core.specs.declared.value.CoreVal.{the_lemmas as value_lemmas}
 use Rattle.pict_core.specs.declared.value.CoreVal.TheVariants as value
 use Rattle.pict_core.specs.declared.pattern.CorePat.{the_lemmas as pattern_lemmas}
 use Rattle.pict_core.specs.declared.pattern.CorePat.TheVariants as pattern
@@ -49,11 +45,8 @@ plain_var n = search (rules, value_lemmas)
 pub plain_primitive : (p : Primitive) → plain_val (value.Prim p) ≡ core.PrimitiveVal p
 plain_primitive p = search (rules, value_lemmas)
 
-pub plain_unit : (ps : Vec CoreVal Global) (ls : Vec (Name × CoreVal) Global) → ps.items ≡ [] → ls.items ≡ [] → plain_val (value.Fields ps ls) ≡ core.Record core.no_vals core.no_labelled
-plain_unit ps ls none no_label =
-    plain_val-Fields ps ls
-    ∙ ap (λ xs. core.Record (vals_of (map plain_val xs)) (labelled_of (map plain_field ls.items))) none
-    ∙ ap (λ xs. core.Record core.no_vals (labelled_of (map plain_field xs))) no_label
+pub plain_bool : (b : Bool) → plain_val (value.Bool b) ≡ core.Boolean b
+plain_bool b = search (rules, value_lemmas)
 
 -- ---- what each call does to the whole
 

@@ -114,7 +114,7 @@ fn channel(
     ensures scope { OnOk result (scope.new ≡ scope.old) }
 {
     match tree {
-        Chan::Use(at, name) => Ok(output(CoreVal::Var(k), used(alloc, names, scope, *name), *at)),
+        Chan::Use(at, name) => Ok(output(CoreVal::Var(k), used(names, scope, *name), *at)),
         Chan::Fold(at, _, inner) => match simple(alloc, names, scope, inner)? {
             Some(message) => Ok(output(CoreVal::Var(k), message, *at)),
             None => Ok(value(alloc, names, scope, inner, k, depth)?),
@@ -274,13 +274,13 @@ fn right(
     for tree in first {
         let x = operand(alloc, names, scope, tree, &mut outer)?;
         let level = level_after(outer.depth)?;
-        let f = used(alloc, names, scope, head);
+        let f = used(names, scope, head);
         let body = applied(alloc, f, x, CoreVal::Var(level), answer, at)?;
         answer = outer.nest(alloc, body)?;
     }
     let x = operand(alloc, names, scope, second, &mut outer)?;
     let y = operand(alloc, names, scope, last, &mut outer)?;
-    let f = used(alloc, names, scope, head);
+    let f = used(names, scope, head);
     let rest = applied(alloc, f, x, y, answer, at)?;
     Ok(outer.around(alloc, rest)?)
 }
@@ -313,14 +313,14 @@ fn left(
         let inside = level_after(level)?;
         let mut inner = Outside::new(alloc, inside);
         let y = operand(alloc, names, scope, tree, &mut inner)?;
-        let f = used(alloc, names, scope, head);
+        let f = used(names, scope, head);
         let rest = applied(alloc, f, CoreVal::Var(level), y, answer, at)?;
         let body = inner.around(alloc, rest)?;
         answer = outer.nest(alloc, body)?;
     }
     let x = operand(alloc, names, scope, first, &mut outer)?;
     let y = operand(alloc, names, scope, second, &mut outer)?;
-    let f = used(alloc, names, scope, head);
+    let f = used(names, scope, head);
     let rest = applied(alloc, f, x, y, answer, at)?;
     Ok(outer.around(alloc, rest)?)
 }

@@ -1,7 +1,7 @@
 // The depth of the core of each phrase, told from its tree. Nothing is built.
 ghost use Rattle.std.specs.Prelude.{◌≡◌, ◌+◌, ◌∷◌, ◌++◌, [], max, Some, None};
 ghost use Rattle.pict_syntax.specs.Trees.{no_vals, no_labelled_vals, no_decs, no_procs, no_definitions};
-ghost use Rattle.pict_syntax.specs.PlainTrees.{abs_of, dec_of, chan_of, val_of, proc_of, field_vals_of, vals_on, labelled_vals_on, decs_on, procs_on, definitions_on, program_of};
+ghost use Rattle.pict_syntax.specs.PlainTrees.{abs_of, dec_of, chan_of, val_of, proc_of, field_vals_of, vals_on, labelled_vals_on, decs_on, procs_on, definitions_on, declarations_of};
 ghost use Rattle.pict_translation.specs.Depth.{or_one, put_with, right_depth, left_depth, left_depth_after, side_depth, definitions_depth, application_depth, sent_depth, sent_chan_depth, fields_depth, withs_depth, labelled_depth, depths, abs_depth, dec_depth, decs_depth, abs_depths, proc_depth, proc_depths, program_depth};
 ghost use Rattle.pict_derive.specs.Held.{held, held_option};
 
@@ -9,7 +9,7 @@ use pict_syntax::{Abs, Chan, Dec, Definition, FieldVals, LabelledVal, Proc, Prog
 
 /// The depth of a program's core, held at the greatest `u64`. Takes no memory.
 pub fn program_depth(program: &Program) -> u64
-    ensures { result ≡ held (program_depth (program_of program.now)) }
+    ensures { result ≡ held (program_depth (declarations_of program.now)) }
 {
     decs(&program.decs, 1)
 }

@@ -13,18 +13,16 @@ use pict_scope::primitive_named;
 use pict_syntax::{Chan, FieldVals, LabelledVal, Name, Names, Val, sort_labels};
 use std::alloc::{AllocError, Global};
 
-/// A use of a name: the variable of its nearest binder, or else the primitive. Takes no memory.
-pub fn used(alloc: Global, names: &Names, scope: &Binders, name: Name) -> CoreVal
+/// A use of a name: the variable of its nearest binder, or else the primitive, or else `true`, which no program without
+/// scope stop has there. Takes no memory.
+pub fn used(names: &Names, scope: &Binders, name: Name) -> CoreVal
     ensures { plain_val result ≡ use_of (place names.now scope.now) name.0 }
 {
     match scope.nearest(name) {
         Some(level) => CoreVal::Var(level),
         None => match primitive_named(names.text(name)) {
             Some(primitive) => CoreVal::Prim(primitive),
-            None => CoreVal::Fields {
-                positional: Vec::new(alloc),
-                labelled: Vec::new(alloc),
-            },
+            None => CoreVal::Bool(true),
         },
     }
 }
@@ -79,7 +77,7 @@ pub fn simple_channel(
     ensures { IfOk result (λ found. option_map plain_val found ≡ simple_chan (place names.now scope.now) (chan_of tree.now)) }
 {
     match tree {
-        Chan::Use(_, name) => Ok(Some(used(alloc, names, scope, *name))),
+        Chan::Use(_, name) => Ok(Some(used(names, scope, *name))),
         Chan::Fold(_, _, inner) => Ok(simple(alloc, names, scope, inner)?),
         Chan::Block(_, _, _) => Ok(None),
         Chan::Apply(_, _, _) => Ok(None),

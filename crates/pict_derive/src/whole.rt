@@ -1,6 +1,6 @@
 // The translation of whole programs.
 ghost use Rattle.std.specs.Prelude.{◌≡◌, ◌≤◌, ◌↔◌, ℕ, Err, IfOk};
-ghost use Rattle.pict_syntax.specs.PlainTrees.{program_of};
+ghost use Rattle.pict_syntax.specs.PlainTrees.{declarations_of};
 ghost use Rattle.pict_scope.specs.DistinctLabels.{DecsHaveDistinctLabels};
 ghost use Rattle.pict_core.specs.Closed.{IsClosed};
 ghost use Rattle.pict_core.specs.Plain.{plain_core};
@@ -44,11 +44,11 @@ impl From<AllocError> for DeriveError {
 /// its numbers stand for; a use means its nearest binder by name, so the lists of targets aren't looked at. Its depth is
 /// told before anything is built.
 pub fn derive(alloc: Global, names: &Names, scoped: &Scoped) -> Result<Core, DeriveError>
-    ensures core { IfOk result (λ core. plain_core core ≡ program_core names.now (program_of scoped.now.program)) }
-    ensures closed { DecsHaveDistinctLabels (program_of scoped.now.program) → IfOk result (λ core. IsClosed (plain_core core)) }
+    ensures core { IfOk result (λ core. plain_core core ≡ program_core names.now (declarations_of scoped.now.program)) }
+    ensures closed { DecsHaveDistinctLabels (declarations_of scoped.now.program) → IfOk result (λ core. IsClosed (plain_core core)) }
     ensures shallow { IfOk result (λ core. depth_of (plain_core core) ≤ DEPTH_LIMIT) }
     ensures too_deep { (depth : ℕ) → (result ≡ Err (DeriveError.TooDeep depth))
-        ↔ IsTooDeep (program_core names.now (program_of scoped.now.program)) depth }
+        ↔ IsTooDeep (program_core names.now (declarations_of scoped.now.program)) depth }
 {
     let depth = program_depth(&scoped.program);
     if depth > DEPTH_LIMIT {
@@ -60,7 +60,7 @@ pub fn derive(alloc: Global, names: &Names, scoped: &Scoped) -> Result<Core, Der
 
 /// The declarations around the inert process.
 fn whole(alloc: Global, names: &Names, program: &Program) -> Result<Core, AllocError>
-    ensures { IfOk result (λ core. plain_core core ≡ program_core names.now (program_of program.now)) }
+    ensures { IfOk result (λ core. plain_core core ≡ program_core names.now (declarations_of program.now)) }
 {
     let mut scope = Binders::new(alloc);
     let mut outer = Outside::new(alloc, 0);

@@ -5,8 +5,9 @@ use Rattle.pict_types.specs.Types.{Capability, PlainType, Top, Int, Char, Str, B
 use Rattle.pict_types.specs.Renaming.{beyond, beyond_all, beyond_times, rename, rename_types, rename_labels, rename_bounds, rename_bound, bound_at, bound_of, moved}
 use Rattle.pict_types.specs.Replacing.{bound_by, Filling, next_variable, apply_variable, filling_beyond, filling_beyond_all, fill, fill_types, fill_labels, fill_bound, fill_bounds, with_type, with_types, Head, variable, operator, nothing, apply_head, rename_head, Replacement, replacement_beyond, replacement_beyond_all, replace, replace_types, replace_labels, replace_bound, replace_bounds, arguments, with_args, with_arg, type_in, head_in, unfolding_of}
 use Rattle.pict_types.specs.Kinds.{Kind, proper, operator_of, kind_by, kinds, kinds_under, with_parameters, StandsBeforeAll, IsWellFormed, AreWellFormed, LabelsAreWellFormed, BoundsAreWellFormed, BoundIsWellFormed, ArgIsWellFormed}
+use Rattle.pict_syntax.specs.declared.type_tree.Mark.{Mark}
 use Rattle.pict_types.proofs.Congruent.{three}
-use Rattle.pict_sub.specs.Subtyping.{Rises, read_read, both_read, Falls, write_write, respond_write, both_write, respond_respond, IsSubtype, same, through, below_top, below_bound, upward, downward, by_fields, AreSubtypes, none, more, HasLabels, has_none, has_label}
+use Rattle.pict_sub.specs.Subtyping.{CarriesUp, read_read, both_read, CarriesDown, write_write, respond_write, both_write, respond_respond, IsSubtype, same, through, below_top, below_bound, upward, downward, by_fields, AreSubtypes, none, more, HasLabels, has_none, has_label, by_arguments, AreByMarks, no_more, plus, minus, unmarked}
 use Rattle.pict_typing.specs.Erasing.{erased, erased_types, erased_labels, erased_bound, erased_bounds, erased_capability}
 use Rattle.pict_typing.specs.Worlds.{IsTypeIn}
 use Rattle.pict_erase.specs.Embedding.{erased_context}
@@ -308,15 +309,15 @@ module _ (ns : List (List ℕ)) where
 
 -- ---- subtyping
 
-rises_erased : {m n : Capability} → Rises m n → Rises (erased_capability m) (erased_capability n)
-rises_erased read_read = read_read
-rises_erased both_read = both_read
+carries_up_erased : {m n : Capability} → CarriesUp m n → CarriesUp (erased_capability m) (erased_capability n)
+carries_up_erased read_read = read_read
+carries_up_erased both_read = both_read
 
-falls_erased : {m n : Capability} → Falls m n → Falls (erased_capability m) (erased_capability n)
-falls_erased write_write = write_write
-falls_erased respond_write = write_write
-falls_erased both_write = both_write
-falls_erased respond_respond = write_write
+carries_down_erased : {m n : Capability} → CarriesDown m n → CarriesDown (erased_capability m) (erased_capability n)
+carries_down_erased write_write = write_write
+carries_down_erased respond_write = write_write
+carries_down_erased both_write = both_write
+carries_down_erased respond_respond = write_write
 
 bound_at_erased : (c : TypeContext) (i : ℕ) → bound_at (erased_context c) i ≡ erased_bound (bound_at c i)
 bound_at_erased [] i = refl
@@ -347,10 +348,17 @@ mutual
   below_erased (through t d e) = through (erased t) (below_erased d) (below_erased e)
   below_erased below_top = below_top
   below_erased {c = c} (below_bound {i = i} e) = below_bound (bound_of_erased c i ∙ ap erased_bound e)
-  below_erased (upward m d) = upward (rises_erased m) (below_erased d)
-  below_erased (downward m d) = downward (falls_erased m) (below_erased d)
+  below_erased (upward m d) = upward (carries_up_erased m) (below_erased d)
+  below_erased (downward m d) = downward (carries_down_erased m) (below_erased d)
   below_erased {c = c} (by_fields {bs = bs} {ps = ps} {qs = qs} {ls = ls} {ms = ms} d e) =
       by_fields (subst (λ k. AreSubtypes k (erased_types ps) (erased_types qs)) (under_erased c bs) (types_below_erased d)) (subst (λ k. HasLabels k (erased_labels ls) (erased_labels ms)) (under_erased c bs) (labels_below_erased e))
+  below_erased {c = c} (by_arguments {i = i} e d) = by_arguments (bound_of_erased c i ∙ ap erased_bound e) (arguments_below_erased d)
+
+  arguments_below_erased : {c : TypeContext} {ms : List Mark} {s t : PlainTypes} → AreByMarks c ms s t → AreByMarks (erased_context c) ms (erased_types s) (erased_types t)
+  arguments_below_erased no_more = no_more
+  arguments_below_erased (plus d e) = plus (below_erased d) (arguments_below_erased e)
+  arguments_below_erased (minus d e) = minus (below_erased d) (arguments_below_erased e)
+  arguments_below_erased (unmarked e) = unmarked (arguments_below_erased e)
 
   types_below_erased : {c : TypeContext} {s t : PlainTypes} → AreSubtypes c s t → AreSubtypes (erased_context c) (erased_types s) (erased_types t)
   types_below_erased none = none

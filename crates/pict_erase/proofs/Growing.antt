@@ -7,7 +7,9 @@ use Rattle.pict_types.specs.Replacing.{replace, arguments, type_in, head_in, ren
 use Rattle.pict_types.specs.Kinds.{Kind, kinds, with_parameters}
 use Rattle.pict_types.proofs.Formed.{KeepsKinds, formed_renamed, keeps_beyond}
 use Rattle.pict_types.proofs.Replaced.{Crosses, replace_renamed}
-use Rattle.pict_sub.proofs.Renamed.{weakened}
+use Rattle.pict_sub.proofs.Renamed.{weakened, operator_of_at}
+use Rattle.pict_sub.proofs.Operating.{operator_renamed}
+use Rattle.pict_sub.proofs.Stays.{of_at}
 use Rattle.pict_core.specs.Term as core
 use Rattle.pict_core.specs.Term.{Val, Vals, Labelled}
 use Rattle.pict_types.specs.PrimitiveTypes.{takes}
@@ -66,7 +68,11 @@ may_stand_grown w vs (Below s) (Plain t) x m = record { formed = formed_renamed 
 may_stand_grown w vs (Operator k) (Plain t) x m = absurd m.of_kind
 may_stand_grown w vs Free (Op k t) x m = absurd m.of_kind
 may_stand_grown w vs (Below s) (Op k t) x m = absurd m.of_kind
-may_stand_grown w vs (Operator i) (Op k t) x m = record { formed = formed_renamed w.names t (kinds_with k (keeps_kinds x)) m.formed; of_kind = m.of_kind; below = tt }
+may_stand_grown {f = f} {d = d} w vs (Operator ms) (Op k t) x m = record {
+  formed = formed_renamed w.names t (kinds_with k (keeps_kinds x)) m.formed;
+  of_kind = m.of_kind;
+  below = operator_renamed f w.type_variables d k t ms (λ i ks e. operator_of_at d (f i) ks (x.keeps.marks i ks (of_at w.type_variables i ks e))) m.of_kind m.below;
+}
 
 -- ---- values
 

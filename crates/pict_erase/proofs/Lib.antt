@@ -1,3 +1,4 @@
 pub mod Erased
 pub mod Growing
 pub mod Packing
+pub mod ErasedGoes

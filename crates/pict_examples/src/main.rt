@@ -7,7 +7,7 @@ use pict_outside::{FolderShelf, StreamSink};
 use pict_top::pict;
 
 /// The examples that stand alone, in the order of their index.
-const EXAMPLES: [&str; 28] = [
+const EXAMPLES: [&str; 29] = [
     "hello.pi",
     "message.pi",
     "server.pi",
@@ -36,6 +36,7 @@ const EXAMPLES: [&str; 28] = [
     "queue.pi",
     "lambda.pi",
     "package.pi",
+    "source.pi",
 ];
 
 /// The examples that use the prelude.

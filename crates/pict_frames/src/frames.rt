@@ -1,6 +1,7 @@
 // Frames in blocks.
 ghost use Rattle.std.specs.Prelude.{◌≡◌, ◌<◌, ◌≤◌, ◌+◌, ◌*◌, ◌^◌, ℕ, All, length, drop, slice_set, slice_index, eqb, false};
 ghost use Rattle.std.specs.List.{list_any};
+ghost use Rattle.pict_syntax.specs.declared.limits.TheConstants.{NARROW_LIMIT};
 ghost use Rattle.pict_region.specs.RegionState.{words_of, width_of};
 ghost use Rattle.pict_queue.specs.QueuesState.{IsHeld, CostsAtMost};
 ghost use Rattle.pict_frames.specs.Framed.{frame_words, pair_at, AreRising};
@@ -41,7 +42,7 @@ pub(crate) fn read_pair(queues: &mut Queues, block: &Block, place: u32) -> (u64,
 pub fn read_frame(queues: &mut Queues, block: &Block, frame: &[u32], values: &mut [(u64, u64)])
     requires held { IsHeld queues.old block.now }
     requires wide { width_of queues.old.region block.now ≡ 2 + 2 * length frame.now }
-    requires narrow { length frame.now ≤ 32000 }
+    requires narrow { length frame.now ≤ NARROW_LIMIT }
     requires inside { All (λ level. level < length values.old) frame.now }
     requires rising { AreRising 0 frame.now }
     ensures words { frame_words values.new frame.now ≡ drop 2 (words_of queues.old.region block.now) }

@@ -1,5 +1,6 @@
 // A node of the code, with values for its frame, becomes a block.
 ghost use Rattle.std.specs.Prelude.{◌≡◌, ◌≢◌, ◌<◌, ◌≤◌, ◌+◌, ◌*◌, ◌^◌, ◌++◌, ◌∷◌, [], ℕ, All, length};
+ghost use Rattle.pict_syntax.specs.declared.limits.TheConstants.{NARROW_LIMIT};
 ghost use Rattle.pict_region.specs.RegionState.{spare, KeepsBlocks, KeepsOtherWidths};
 ghost use Rattle.pict_queue.specs.QueuesState.{IsQueue, CostsAtMost};
 ghost use Rattle.pict_queue.specs.Contents.{contents, KeepsOtherContents, KeepsHeld, HoldsNoMore};
@@ -13,7 +14,7 @@ use pict_region::Block;
 #[inline(always)]
 pub fn block_of(queues: &mut Queues, number: usize, frame: &[u32], values: &[(u64, u64)]) -> Block
     requires small { number + 1 < 2 ^ 64 }
-    requires narrow { length frame.now ≤ 32000 }
+    requires narrow { length frame.now ≤ NARROW_LIMIT }
     requires spare { 1 ≤ spare queues.old.region (2 + 2 * length frame.now) }
     requires known { All (λ level. level < length values.now) frame.now }
     ensures made { IsMade queues.old queues.new result (node_words values.now number frame.now) (2 + 2 * length frame.now) }
@@ -28,7 +29,7 @@ pub fn block_of(queues: &mut Queues, number: usize, frame: &[u32], values: &[(u6
 #[inline(always)]
 pub fn spawn(queues: &mut Queues, queue: QueueId, number: u32, frame: &[u32], values: &[(u64, u64)])
     requires queue { IsQueue queues.old queue.0 }
-    requires narrow { length frame.now ≤ 32000 }
+    requires narrow { length frame.now ≤ NARROW_LIMIT }
     requires spare { 1 ≤ spare queues.old.region (2 + 2 * length frame.now) }
     requires known { All (λ level. level < length values.now) frame.now }
     ensures pushed { contents queues.new queue.0 ≡ contents queues.old queue.0 ++ node_words values.now number frame.now ∷ [] }

@@ -1,11 +1,11 @@
 -- What the calls of the phases answer is what the phases say, one after another.
-use Rattle.std.proofs.Common.{◌≡◌, ℕ, List, [], ◌∷◌, ◌++◌, length, Option, Some, None, Result, Ok, Err, IfSome, true, refl, sym, ◌∙◌, ap, subst, append-nil}
+use Rattle.std.proofs.Common.{◌≡◌, ℕ, List, [], ◌∷◌, ◌++◌, length, Option, Some, None, Err, IfSome, true, refl, sym, ◌∙◌, ap, subst, append-nil}
 use Rattle.std.specs.List.{AllByRecursion}
 use Rattle.std.proofs.lemmas.Option.{IfSome_then}
 use Rattle.pict_syntax.specs.declared.token.Token.{Token}
 use Rattle.pict_syntax.specs.Names.{with_names}
 use Rattle.pict_syntax.proofs.NamesLemmas.{has_name}
-use Rattle.pict_syntax.specs.Cuts.{Piece, IsWholeCut, named, tokens_of, IsLexStop}
+use Rattle.pict_syntax.specs.Cuts.{Piece, IsWholeCut, named, tokens_of}
 use Rattle.pict_syntax.specs.Trees.{Decs, no_decs, more_decs}
 use Rattle.pict_syntax.specs.PlainTrees.{dec_of, decs_on}
 use Rattle.pict_syntax.specs.declared.tree.Dec.{Dec}
@@ -15,7 +15,7 @@ use Rattle.pict_lex.proofs.StepLemmas.{with_names_last, with_names_grows, are_th
 use Rattle.pict_front.specs.declared.refusal.Refusal.{Refusal}
 use Rattle.pict_front.specs.declared.refusal.Refusal.TheVariants.{Named, Memory}
 use Rattle.pict_front.specs.Phases.{Phase, accepts, refuses, Then, Each}
-use Rattle.pict_front.specs.Front.{Stop, Front, Numbered, Cut, Lexes, Parses, HasVerdict, IsFront, Judges, behind, joined, names_in, tokens_in}
+use Rattle.pict_front.specs.Front.{Stop, Front, Numbered, Cut, Lexes, Parses, HasVerdict, IsFront, Judges, behind, joined, names_in, tokens_in, end_at}
 use Rattle.pict_front.specs.Answers.{IsCutShort, said_by}
 
 -- ---- one after another
@@ -95,13 +95,13 @@ module _ (text : List ℕ) (old new : List (List ℕ)) (tokens : List Token) (no
   whole : (answer : Phase Stop Front) → Parsed texts answer → IsFront None text answer
   whole answer is = then_on (Each Lexes (numbered 1 text ∷ [])) Parsed texts answer (each_one Lexes (numbered 1 text) (cut_of 1 text ps) (lexes 1 text new tokens ps is_read)) is
 
-  pub alone_refused : {A : Type 0} (f : A → Decs) (e : Refusal) → IfSome (said_by f (Err e)) (HasVerdict tokens (length text)) → {D : Type 0} (g : D → Front) → IfSome (said_by g (Err e)) (IsFront None text)
-  alone_refused f e = handed_on (HasVerdict tokens (length text)) (IsFront None text) f e (λ s is. whole (refuses s) (then_not _ _ s (first_not (Parses (names_in texts)) (cut_of 1 text ps) [] s (subst (λ ts. HasVerdict ts (length text) (refuses s)) same_tokens is))))
+  pub alone_refused : {A : Type 0} (f : A → Decs) (e : Refusal) → IfSome (said_by f (Err e)) (HasVerdict tokens (end_at 1 (length text))) → {D : Type 0} (g : D → Front) → IfSome (said_by g (Err e)) (IsFront None text)
+  alone_refused f e = handed_on (HasVerdict tokens (end_at 1 (length text))) (IsFront None text) f e (λ s is. whole (refuses s) (then_not _ _ s (first_not (Parses (names_in texts)) (cut_of 1 text ps) [] s (subst (λ ts. HasVerdict ts (end_at 1 (length text)) (refuses s)) same_tokens is))))
 
-  pub alone_judged : (p : Decs) → HasVerdict tokens (length text) (accepts p) → (o : Option (Phase Stop Front)) → IfSome o (Judges new p) → IfSome o (IsFront None text)
+  pub alone_judged : (p : Decs) → HasVerdict tokens (end_at 1 (length text)) (accepts p) → (o : Option (Phase Stop Front)) → IfSome o (Judges new p) → IfSome o (IsFront None text)
   alone_judged p is o h = IfSome_then o h (λ answer judges.
       whole answer (then_on _ _ (p ∷ []) answer
-      (each_one (Parses (names_in texts)) (cut_of 1 text ps) p (subst (λ ts. HasVerdict ts (length text) (accepts p)) same_tokens is))
+      (each_one (Parses (names_in texts)) (cut_of 1 text ps) p (subst (λ ts. HasVerdict ts (end_at 1 (length text)) (accepts p)) same_tokens is))
       (subst (λ ns. Judges ns p answer) same_names judges)))
 
 -- ---- a text behind a prelude
@@ -168,23 +168,23 @@ module _ (prelude text : List ℕ) (old mid new : List (List ℕ)) (first own : 
       then_on (Each Lexes (numbered 0 prelude ∷ numbered 1 text ∷ [])) Parsed both answer
       (each_two Lexes (numbered 0 prelude) (numbered 1 text) before after (lexes 0 prelude mid first as_ a_read) (lexes 1 text new own bs b_read)) is
 
-  pub first_refused : {A : Type 0} (f : A → Decs) (e : Refusal) → IfSome (said_by f (Err e)) (HasVerdict first (length prelude)) → {D : Type 0} (g : D → Front)
+  pub first_refused : {A : Type 0} (f : A → Decs) (e : Refusal) → IfSome (said_by f (Err e)) (HasVerdict first (end_at 0 (length prelude))) → {D : Type 0} (g : D → Front)
       → IfSome (said_by g (Err e)) (IsFront (Some prelude) text)
-  first_refused f e = handed_on (HasVerdict first (length prelude)) (IsFront (Some prelude) text) f e (λ s is.
-      entire (refuses s) (then_not _ _ s (first_not (Parses (names_in both)) before (after ∷ []) s (subst (λ ts. HasVerdict ts (length prelude) (refuses s)) first_tokens is))))
+  first_refused f e = handed_on (HasVerdict first (end_at 0 (length prelude))) (IsFront (Some prelude) text) f e (λ s is.
+      entire (refuses s) (then_not _ _ s (first_not (Parses (names_in both)) before (after ∷ []) s (subst (λ ts. HasVerdict ts (end_at 0 (length prelude)) (refuses s)) first_tokens is))))
 
-  pub second_refused : (p : Decs) → HasVerdict first (length prelude) (accepts p) → {A : Type 0} (f : A → Decs) (e : Refusal) → IfSome (said_by f (Err e)) (HasVerdict own (length text))
+  pub second_refused : (p : Decs) → HasVerdict first (end_at 0 (length prelude)) (accepts p) → {A : Type 0} (f : A → Decs) (e : Refusal) → IfSome (said_by f (Err e)) (HasVerdict own (end_at 1 (length text)))
       → {D : Type 0} (g : D → Front) → IfSome (said_by g (Err e)) (IsFront (Some prelude) text)
-  second_refused p h f e = handed_on (HasVerdict own (length text)) (IsFront (Some prelude) text) f e (λ s is.
+  second_refused p h f e = handed_on (HasVerdict own (end_at 1 (length text))) (IsFront (Some prelude) text) f e (λ s is.
       entire (refuses s) (then_not _ _ s (second_not (Parses (names_in both)) before after p s
-      (subst (λ ts. HasVerdict ts (length prelude) (accepts p)) first_tokens h) (subst (λ ts. HasVerdict ts (length text) (refuses s)) own_tokens is))))
+      (subst (λ ts. HasVerdict ts (end_at 0 (length prelude)) (accepts p)) first_tokens h) (subst (λ ts. HasVerdict ts (end_at 1 (length text)) (refuses s)) own_tokens is))))
 
-  pub both_judged : (p q : Decs) → HasVerdict first (length prelude) (accepts p) → HasVerdict own (length text) (accepts q) → (o : Option (Phase Stop Front)) → IfSome o (Judges new (behind p q))
+  pub both_judged : (p q : Decs) → HasVerdict first (end_at 0 (length prelude)) (accepts p) → HasVerdict own (end_at 1 (length text)) (accepts q) → (o : Option (Phase Stop Front)) → IfSome o (Judges new (behind p q))
       → IfSome o (IsFront (Some prelude) text)
   both_judged p q h k o said = IfSome_then o said (λ answer judges.
       entire answer (then_on _ _ (p ∷ q ∷ []) answer
       (each_two (Parses (names_in both)) before after p q
-      (subst (λ ts. HasVerdict ts (length prelude) (accepts p)) first_tokens h) (subst (λ ts. HasVerdict ts (length text) (accepts q)) own_tokens k))
+      (subst (λ ts. HasVerdict ts (end_at 0 (length prelude)) (accepts p)) first_tokens h) (subst (λ ts. HasVerdict ts (end_at 1 (length text)) (accepts q)) own_tokens k))
       (subst (λ ns. Judges ns (behind p q) answer) all_names judges)))
 
 -- ---- the declarations of two programs

@@ -7,7 +7,8 @@ use Rattle.pict_syntax.specs.declared.code.Code.TheVariants.{P1, P2, C1}
 use Rattle.pict_syntax.specs.declared.span.Span.{Span}
 use Rattle.pict_syntax.specs.Cuts.{Piece, IsWholeCut, IsLexStop}
 use Rattle.pict_syntax.proofs.LawLemmas.{one_whole_cut, stop_excludes_whole_cut, one_stop}
-use Rattle.pict_syntax.specs.Verdicts.{Verdict, Program, Unexpected, TooNested, IsVerdict}
+use Rattle.pict_syntax.specs.Programs.{declarations}
+use Rattle.pict_syntax.specs.Verdicts.{Verdict, Whole, Unexpected, TooNested, IsVerdict}
 use Rattle.pict_syntax.specs.Trees.{Decs}
 use Rattle.pict_automaton.proofs.OneVerdict.{one_verdict}
 use Rattle.pict_total.proofs.Judged.{some_verdict}
@@ -19,7 +20,7 @@ use Rattle.pict_rules.proofs.TypedOrStuck.{typed_or_stuck}
 use Rattle.pict_core.specs.Term.{depth_of}
 use Rattle.pict_translation.specs.Translation.{program_core}
 use Rattle.pict_front.specs.Phases.{Phase, accepts, refuses, Then, Each, Exactly}
-use Rattle.pict_front.specs.Front.{Stop, Front, Numbered, Cut, texts_in_order, names_in, tokens_in, Lexes, Parses, joined, stopped_by, Checks, Translates, Judges, first_place}
+use Rattle.pict_front.specs.Front.{Stop, Front, Numbered, Cut, texts_in_order, names_in, tokens_in, end_at, Lexes, Parses, joined, stopped_by, Checks, Translates, Judges, first_place}
 use Rattle.pict_front.specs.Laws.{OneFront}
 use Rattle.pict_front.proofs.OneAfterAnother.{one_then, one_each}
 
@@ -40,32 +41,32 @@ one_lexes t = elim (some_whole_cut t.number t.text) [
     against_stop code span stop (accepts c) (pieces, whole, is) = absurd (stop_excludes_whole_cut t.number t.text code span pieces stop whole)
     against_stop code span stop (refuses (c, i)) s = let both = one_stop t.number t.text c code i span s stop in same_refusal c code i span both.0 both.1
 
-abbrev IsVerdictOn : List (List ℕ) → Cut → Verdict → Type 0
-IsVerdictOn names c v = IsVerdict (tokens_in names c) c.end v
+abbrev IsVerdictOn : List (List ℕ) → Cut → Verdict Decs → Type 0
+IsVerdictOn names c v = IsVerdict declarations (tokens_in names c) (end_at c.number c.end) v
 
 one_parses : (names : List (List ℕ)) (c : Cut) → Exactly (Parses names c)
-one_parses names c = let some = some_verdict (tokens_in names c) c.end in answer some.0 some.1
+one_parses names c = let some = some_verdict (tokens_in names c) (end_at c.number c.end) in answer some.0 some.1
   where
-    one : (v w : Verdict) → IsVerdictOn names c v → IsVerdictOn names c w → v ≡ w
-    one v w = one_verdict (tokens_in names c) c.end v w
+    one : (v w : Verdict Decs) → IsVerdictOn names c v → IsVerdictOn names c w → v ≡ w
+    one v w = one_verdict (tokens_in names c) (end_at c.number c.end) v w
 
-    against_program : (p : Decs) → IsVerdictOn names c (Program p) → (other : Phase Stop Decs) → Parses names c other → other ≡ accepts p
-    against_program p is (accepts q) also = let e = one (Program q) (Program p) also is in cc
-    against_program p is (refuses (d, i)) (inl (e, also)) = let f = one (Unexpected i) (Program p) also is in cc
-    against_program p is (refuses (d, i)) (inr (e, also)) = let f = one (TooNested i) (Program p) also is in cc
+    against_whole : (p : Decs) → IsVerdictOn names c (Whole p) → (other : Phase Stop Decs) → Parses names c other → other ≡ accepts p
+    against_whole p is (accepts q) also = let e = one (Whole q) (Whole p) also is in cc
+    against_whole p is (refuses (d, i)) (inl (e, also)) = let f = one (Unexpected i) (Whole p) also is in cc
+    against_whole p is (refuses (d, i)) (inr (e, also)) = let f = one (TooNested i) (Whole p) also is in cc
 
     against_unexpected : (span : Span) → IsVerdictOn names c (Unexpected span) → (other : Phase Stop Decs) → Parses names c other → other ≡ refuses (P1, span)
-    against_unexpected span is (accepts q) also = let e = one (Program q) (Unexpected span) also is in cc
+    against_unexpected span is (accepts q) also = let e = one (Whole q) (Unexpected span) also is in cc
     against_unexpected span is (refuses (d, i)) (inl (e, also)) = let f = one (Unexpected i) (Unexpected span) also is in cc
     against_unexpected span is (refuses (d, i)) (inr (e, also)) = let f = one (TooNested i) (Unexpected span) also is in cc
 
     against_nested : (span : Span) → IsVerdictOn names c (TooNested span) → (other : Phase Stop Decs) → Parses names c other → other ≡ refuses (P2, span)
-    against_nested span is (accepts q) also = let e = one (Program q) (TooNested span) also is in cc
+    against_nested span is (accepts q) also = let e = one (Whole q) (TooNested span) also is in cc
     against_nested span is (refuses (d, i)) (inl (e, also)) = let f = one (Unexpected i) (TooNested span) also is in cc
     against_nested span is (refuses (d, i)) (inr (e, also)) = let f = one (TooNested i) (TooNested span) also is in cc
 
-    answer : (v : Verdict) → IsVerdictOn names c v → Exactly (Parses names c)
-    answer (Program p) is = (accepts p, is, against_program p is)
+    answer : (v : Verdict Decs) → IsVerdictOn names c v → Exactly (Parses names c)
+    answer (Whole p) is = (accepts p, is, against_whole p is)
     answer (Unexpected span) is = (refuses (P1, span), inl (refl, is), against_unexpected span is)
     answer (TooNested span) is = (refuses (P2, span), inr (refl, is), against_nested span is)
 

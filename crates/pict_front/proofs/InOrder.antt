@@ -9,7 +9,7 @@ use Rattle.pict_scope.proofs.LabelsScoped.{scoped_distinct}
 use Rattle.pict_trace.specs.Readable.{IsIdentifier}
 use Rattle.pict_trace.specs.Ordered.{IsOrderedProcess}
 use Rattle.pict_trace.proofs.ReadBack.{runs_are_read_back}
-use Rattle.pict_front.specs.Phases.{Phase, accepts, Then, Each}
+use Rattle.pict_front.specs.Phases.{accepts, Then, Each}
 use Rattle.pict_front.specs.Front.{Front, Numbered, Cut, Lexes, Parses, Judges, texts_in_order, named_in, names_in, tokens_in, behind, joined}
 use Rattle.pict_front.specs.Laws.{AcceptedIsOrdered, AcceptedIsReadBack}
 use Rattle.pict_front.proofs.OneAfterAnother.{accepted_then, each_accepted}

@@ -1,11 +1,9 @@
 -- Where a written type is refused is one of its places.
-use Rattle.std.proofs.Common.{ℕ, zero, suc, Bool, true, false, if◌then◌else◌, nat_eq, nat_lt, ◌||◌, List, [], ◌∷◌, ◌++◌, Option, Some, None}
+use Rattle.std.proofs.Common.{ℕ, Bool, true, false, if◌then◌else◌, nat_eq, nat_lt, ◌||◌, List, [], ◌∷◌, ◌++◌, Option, Some, None}
 use Rattle.pict_syntax.specs.declared.id.Id.{Id}
 use Rattle.pict_syntax.specs.declared.span.Span.{Span}
-use Rattle.pict_syntax.specs.declared.type_tree.KindTree.{KindTree}
-use Rattle.pict_syntax.specs.declared.type_tree.KindTree.TheVariants.{Plain as Plain_, Operator as Operator_}
 use Rattle.pict_syntax.specs.Grammar.{type_span}
-use Rattle.pict_syntax.specs.Trees.{TypeTree, top_type, int_type, char_type, string_type, bool_type, use_type, both_type, read_type, write_type, respond_type, fields_type, apply_type, rec_type, TypeBinder, type_binder, Bound, unbounded, bound, TypeTrees, no_types, more_types, TypeBinders, no_binders, more_binders, LabelledTypes, no_labelled_types, more_labelled_types}
+use Rattle.pict_syntax.specs.Trees.{KindTree, plain_kind, operator_kind, TypeTree, top_type, int_type, char_type, string_type, bool_type, use_type, both_type, read_type, write_type, respond_type, fields_type, apply_type, rec_type, TypeBinder, type_binder, Bound, unbounded, bound, TypeTrees, no_types, more_types, TypeBinders, no_binders, more_binders, LabelledTypes, no_labelled_types, more_labelled_types}
 use Rattle.pict_types.specs.Types.{PlainType, is_top}
 use Rattle.pict_types.specs.Measures.{weight_of, height_of}
 use Rattle.pict_types.specs.Entries.{PlainContext, variables}
@@ -44,9 +42,9 @@ module _ (P : Span → Type 0) where
 
   bound_stands : (x : Id) (k : Option KindTree) (stops : List Stop) (t : PlainType) → P x.span → StopsStand stops → StopsStand (bound_stops x k stops t)
   bound_stands x None stops t h all = all
-  bound_stands x (Some Plain_) stops t h all = all
-  bound_stands x (Some (Operator_ n)) [] t h all = unless_equal x.span (is_top t) _ h
-  bound_stands x (Some (Operator_ n)) (stop ∷ stops) t h all = (h, all)
+  bound_stands x (Some plain_kind) stops t h all = all
+  bound_stands x (Some (operator_kind ms)) [] t h all = unless_equal x.span (is_top t) _ h
+  bound_stands x (Some (operator_kind ms)) (stop ∷ stops) t h all = (h, all)
 
   mutual
     stops_stand : (ns : List (List ℕ)) (c : PlainContext) (t : TypeTree) → TypeStands P t → StopsStand (kind_stops ns c t)

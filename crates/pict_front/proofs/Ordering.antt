@@ -14,7 +14,7 @@ use Rattle.pict_scope.specs.DistinctLabels.{IsNewValue, DecHasDistinctLabels, De
 use Rattle.pict_translation.specs.Placed.{Placed, new_channels, side_by_side, served, variables}
 use Rattle.pict_translation.specs.Arguments.{Argument, with_value, sent_as_one, application, right, left_after, left}
 use Rattle.pict_translation.specs.Patterns.{pat_core, function_pat, pat_names, names_before, names_after}
-use Rattle.pict_translation.specs.Simple.{Around, value_at, binding, function_bound, answer_channel, or_primitive, use_of, unit, fields_of, one_more, simple, simple_chan, simple_fields, simple_vals, simple_labelled}
+use Rattle.pict_translation.specs.Simple.{Around, value_at, binding, function_bound, answer_channel, or_primitive, use_of, nothing, fields_of, one_more, simple, simple_chan, simple_fields, simple_vals, simple_labelled}
 use Rattle.pict_translation.specs.Translation.{program_core, definition_names, sending, sending_chan, decs_core, dec_core, proc_core, procs_core, reader, with_fields, arguments, with_vals, with_labelled, servers}
 use Rattle.pict_trace.specs.Ordered.{IsOrdered, IsOrderedProcess}
 use Rattle.pict_front.proofs.Labelled.{DecLabels, DecsLabels, DefinitionsLabels, AbsLabels, ChanLabels, ValLabels, ValsLabels, FieldLabels, LabelledLabels, ProcLabels, ProcsLabels}
@@ -47,8 +47,8 @@ module _ (names : List (List ℕ)) (distinct : HasNoRepeats names) where
   drop_ordered (suc k) [] o = tt
   drop_ordered (suc k) (v ∷ vs) o = drop_ordered k vs o.1
 
-  get_ordered : (k : ℕ) (vs : List Val) → AllOrdered names vs → IsOrdered names (get_or vs k unit)
-  get_ordered k [] o = (tt, tt)
+  get_ordered : (k : ℕ) (vs : List Val) → AllOrdered names vs → IsOrdered names (get_or vs k nothing)
+  get_ordered k [] o = tt
   get_ordered zero (v ∷ vs) o = o.0
   get_ordered (suc k) (v ∷ vs) o = get_ordered k vs o.1
 
@@ -64,8 +64,8 @@ module _ (names : List (List ℕ)) (distinct : HasNoRepeats names) where
   at_ordered [] x o = tt
   at_ordered (b ∷ bs) x o = choose (nat_eq x b.0) (Some b.1) (value_at bs x) o.0 (at_ordered bs x o.1)
 
-  named_ordered : (p : Option Primitive) → IsOrdered names (unwrap_or (option_map core.PrimitiveVal p) unit)
-  named_ordered None = (tt, tt)
+  named_ordered : (p : Option Primitive) → IsOrdered names (unwrap_or (option_map core.PrimitiveVal p) nothing)
+  named_ordered None = tt
   named_ordered (Some p) = tt
 
   or_ordered : (text : List ℕ) (v : Option Val) → SomeOrdered v → IsOrdered names (or_primitive text v)

@@ -1,22 +1,23 @@
 -- The place of each refusal lies in the text that it names.
-use Rattle.std.proofs.Common.{◌≡◌, ◌⊎◌, inl, inr, ℕ, ◌+◌, ◌<◌, ◌≤◌, List, [], ◌∷◌, ◌++◌, length, get_or, Option, Some, None, All, pos, refl, sym, ◌∙◌, ap, subst, arith, length-append}
+use Rattle.std.proofs.Common.{◌≡◌, inl, inr, ℕ, ◌+◌, ◌<◌, ◌≤◌, List, [], ◌∷◌, ◌++◌, length, Option, Some, None, All, pos, refl, sym, ◌∙◌, ap, subst, arith, length-append}
 use Rattle.pict_syntax.specs.declared.code.Code.{Code}
 use Rattle.pict_syntax.specs.declared.span.Span.{Span}
 use Rattle.pict_syntax.specs.declared.token.Token.{Token}
 use Rattle.pict_syntax.specs.declared.token.TokenKind.TheVariants.{Number}
-use Rattle.pict_syntax.specs.Cuts.{Piece, blank, comment, token, joined as joined_bytes, ArePieces, IsWholeCut, IsLexStop, tokens_of}
+use Rattle.pict_syntax.specs.Cuts.{Piece, blank, comment, token, joined as joined_bytes, IsWholeCut, tokens_of}
 use Rattle.pict_syntax.specs.Trees.{Decs, no_decs, more_decs}
-use Rattle.pict_syntax.specs.Verdicts.{StandsAt, StandsAtEnd, IsVerdict, Program, Unexpected, TooNested}
+use Rattle.pict_syntax.specs.Programs.{declarations}
+use Rattle.pict_syntax.specs.Verdicts.{StandsAt, IsVerdict, Whole}
 use Rattle.pict_lex.specs.Lex.{LiesIn}
 use Rattle.pict_lex.proofs.PlaceLemmas.{stop_lies, reading_lies}
 use Rattle.pict_scope.specs.Scopes.{scope_stop}
 use Rattle.pict_front.specs.Phases.{Phase, accepts, refuses, Then, Each}
-use Rattle.pict_front.specs.Front.{Stop, Front, Numbered, Cut, Lexes, Parses, HasVerdict, Checks, Translates, Judges, texts_in_order, names_in, tokens_in, behind, joined, stopped_by, first_place}
+use Rattle.pict_front.specs.Front.{Stop, Front, Numbered, Cut, Lexes, Parses, Checks, Translates, Judges, texts_in_order, names_in, tokens_in, end_at, behind, joined, stopped_by, first_place}
 use Rattle.pict_front.specs.Laws.{RefusedIsPlaced}
 use Rattle.pict_front.specs.Places.{StandsIn, StandsInOneOf}
-use Rattle.pict_front.proofs.OneAfterAnother.{accepted_then, each_accepted, refusal_of, refused_then, refused_each, SomeOf}
+use Rattle.pict_front.proofs.OneAfterAnother.{each_accepted, refusal_of, refused_then, refused_each, SomeOf}
 use Rattle.pict_front.proofs.Standing.{DecsStand}
-use Rattle.pict_front.proofs.Spans.{Lies, Ascend, decs_stand}
+use Rattle.pict_front.proofs.Spans.{Ascend, decs_stand}
 use Rattle.pict_front.proofs.ScopePlaces.{scope_stands}
 use Rattle.pict_front.proofs.StuckPlaces.{stuck_stands}
 
@@ -42,8 +43,8 @@ module _ (n finish : ℕ) (P : Span → Type 0) (stands : (s : Span) → s.text 
       (record { named = refl; from = omega arith; ordered = omega arith; to = omega arith; within = omega arith }, ascends names (place + length bytes) high ps (omega arith) few)
 
   tree_stands : (names : List (List ℕ)) (text : List ℕ) (ps : List Piece) (p : Decs) → finish ≡ length text → IsWholeCut text ps
-      → IsVerdict (tokens_of names n 0 ps) finish (Program p) → DecsStand P p
-  tree_stands names text ps p ends cut is =
+      → (end : Span) → IsVerdict declarations (tokens_of names n 0 ps) end (Whole p) → DecsStand P p
+  tree_stands names text ps p ends cut end is =
       let size : length text ≡ length (joined_bytes ps) + 0 = ap length cut.whole ∙ length-append (joined_bytes ps) [] in
       (decs_stand n finish P stands p 0 finish (tokens_of names n 0 ps) is.tree (ascends names 0 finish ps (omega arith) (omega arith))).1
 
@@ -95,13 +96,8 @@ module _ (names : List (List ℕ)) (t : Numbered) (c : Cut) (of : IsCutOf t c) w
       let lies = lie i any_token below in
       subst (StandsIn t) (place any_token) (record { named = lies.named; ordered = omega (arith, lies.some); within = lies.within })
 
-  first_named : (ts : List Token) → All (λ token. LiesIn t.number t.text token.span) ts → (get_or ts 0 any_token).span.text ≡ t.number
-  first_named [] all = refl
-  first_named (x ∷ xs) all = (all 0 any_token (omega arith)).named
-
-  at_end : (span : Span) → StandsAtEnd Tokens c.end span → StandsIn t span
-  at_end span place =
-      subst (StandsIn t) (place any_token) (record { named = first_named Tokens lie; ordered = omega arith; within = omega (arith, of.end) })
+  at_end : (span : Span) → end_at c.number c.end ≡ span → StandsIn t span
+  at_end span place = subst (StandsIn t) place (record { named = of.number; ordered = omega arith; within = omega (arith, of.end) })
 
   verdict_placed : (code : Code) (span : Span) → Parses names c (refuses (code, span)) → StandsIn t span
   verdict_placed code span (inl (is, inl wrong)) = at_token wrong.index span wrong.wrong.0 wrong.place
@@ -130,7 +126,7 @@ joined_stand P names (t ∷ ts) (c ∷ cs) ps are f each =
     let read = each_accepted (Parses names) c cs ps each in
     let stands : (s : Span) → s.text ≡ c.number → s.start ≤ s.end → s.end ≤ c.end → P s =
     λ s named ordered within. f s (inl (record { named = named ∙ are.0.number; ordered = ordered; within = omega (arith, within, are.0.end) })) in
-    let first = tree_stands c.number c.end P stands names t.text c.pieces read.0 are.0.end are.0.cut read.2 in
+    let first = tree_stands c.number c.end P stands names t.text c.pieces read.0 are.0.end are.0.cut (end_at c.number c.end) read.2 in
     subst (λ ds. DecsStand P (joined ds)) (sym read.4) (behind_stands P read.0 (joined read.1) first (joined_stand P names ts cs read.1 are.1 (λ s h. f s (inr h)) read.3))
 
 -- ---- scopes, types, and the translation

@@ -1,10 +1,9 @@
 -- What the answers of the calls say of the phases behind the grammar.
 use Rattle.std.proofs.Common.{◌≡◌, ℕ, ◌≤◌, ◌<◌, List, Option, Some, None, Result, Ok, Err, IfSome, IfErr, IfOk, refl, sym, subst, inl, inr}
 use Rattle.pict_syntax.specs.declared.limits.TheConstants.{DEPTH_LIMIT}
-use Rattle.pict_syntax.specs.declared.code.Code.TheVariants.{C1}
 use Rattle.pict_syntax.specs.Trees.{Decs}
 use Rattle.pict_syntax.specs.declared.tree.Program.{Program}
-use Rattle.pict_syntax.specs.PlainTrees.{program_of}
+use Rattle.pict_syntax.specs.PlainTrees.{declarations_of}
 use Rattle.pict_scope.specs.Scopes.{scope_stop}
 use Rattle.pict_rules.specs.Derivations.{IsTyped}
 use Rattle.pict_check.specs.declared.error.TypeError.{TypeError}
@@ -17,7 +16,7 @@ use Rattle.pict_translation.specs.Translation.{program_core}
 use Rattle.pict_front.specs.declared.refusal.Refusal.{Refusal}
 use Rattle.pict_front.specs.declared.refusal.Refusal.TheVariants.{Named, Memory}
 use Rattle.pict_front.specs.Phases.{Phase, accepts, refuses, Then}
-use Rattle.pict_front.specs.Front.{Stop, Front, Checks, Translates, Judges, stopped_by, first_place, IsFront}
+use Rattle.pict_front.specs.Front.{Stop, Front, Checks, Translates, Judges, stopped_by, IsFront}
 use Rattle.pict_front.specs.Laws.{IsAccepted}
 use Rattle.pict_front.specs.Answers.{IsPlaced, said_by, of_derive_error, of_type_error}
 use Rattle.pict_front.proofs.Placed.{refused_is_placed}
@@ -43,21 +42,21 @@ too_deep f names p (derive.TooDeep depth) r is deep = subst (λ s. IfSome (said_
 too_deep f names p derive.Memory r is deep = subst (λ s. IfSome (said_by f (Err s)) (Translates names p)) (sym is) tt
 
 -- the program is typed, and this is what the translation says
-pub typed : (names : List (List ℕ)) (q p : Program) → q ≡ p → scope_stop names (program_of p) ≡ None → IsTyped names (program_of q) → (o : Option (Phase Stop Front))
-    → IfSome o (Translates names (program_of q)) → IfSome o (Judges names (program_of p))
+pub typed : (names : List (List ℕ)) (q p : Program) → q ≡ p → scope_stop names (declarations_of p) ≡ None → IsTyped names (declarations_of q) → (o : Option (Phase Stop Front))
+    → IfSome o (Translates names (declarations_of q)) → IfSome o (Judges names (declarations_of p))
 typed names q p same none is None h = h
 typed names q p same none is (Some answer) h =
-    scoped names (program_of p) none answer
-    (subst (λ r. Then (Checks names (program_of r)) (λ typed. Translates names (program_of r)) answer) same (accepts tt, (refl, is), h))
+    scoped names (declarations_of p) none answer
+    (subst (λ r. Then (Checks names (declarations_of r)) (λ typed. Translates names (declarations_of r)) answer) same (accepts tt, (refl, is), h))
 
 -- the typing rules refuse the program
-pub stuck : {A : Type 0} (f : A → Front) (names : List (List ℕ)) (q p : Program) → q ≡ p → scope_stop names (program_of p) ≡ None → (error : TypeError) → IsTypeStop names (program_of q) error
-    → (r : Refusal) → r ≡ of_type_error error → IfSome (said_by f (Err r)) (Judges names (program_of p))
+pub stuck : {A : Type 0} (f : A → Front) (names : List (List ℕ)) (q p : Program) → q ≡ p → scope_stop names (declarations_of p) ≡ None → (error : TypeError) → IsTypeStop names (declarations_of q) error
+    → (r : Refusal) → r ≡ of_type_error error → IfSome (said_by f (Err r)) (Judges names (declarations_of p))
 stuck f names q p same none (check.Named code span) stop r is =
-    subst (λ s. IfSome (said_by f (Err s)) (Judges names (program_of p))) (sym is)
-    (scoped names (program_of p) none (refuses (code, span))
-    (subst (λ r. Then (Checks names (program_of r)) (λ typed. Translates names (program_of r)) (refuses (code, span))) same (refuses (code, span), stop, refl)))
-stuck f names q p same none check.Memory stop r is = subst (λ s. IfSome (said_by f (Err s)) (Judges names (program_of p))) (sym is) tt
+    subst (λ s. IfSome (said_by f (Err s)) (Judges names (declarations_of p))) (sym is)
+    (scoped names (declarations_of p) none (refuses (code, span))
+    (subst (λ r. Then (Checks names (declarations_of r)) (λ typed. Translates names (declarations_of r)) (refuses (code, span))) same (refuses (code, span), stop, refl)))
+stuck f names q p same none check.Memory stop r is = subst (λ s. IfSome (said_by f (Err s)) (Judges names (declarations_of p))) (sym is) tt
 
 -- an answer's refusal is placed
 pub placed : {A : Type 0} (f : A → Front) (prelude : Option (List ℕ)) (text : List ℕ) (r : Result A Refusal) → IfSome (said_by f r) (IsFront prelude text) → IfErr r (IsPlaced prelude text)

@@ -1,5 +1,5 @@
 -- The places of a tree lie where its tokens do: each begins with the first of its tokens and ends with the last.
-use Rattle.std.proofs.Common.{◌≡◌, ℕ, zero, suc, ◌≤◌, List, [], ◌∷◌, ◌++◌, Option, Some, None, inl, inr, refl, sym, subst, arith}
+use Rattle.std.proofs.Common.{◌≡◌, ℕ, ◌≤◌, List, [], ◌∷◌, ◌++◌, Some, None, inl, inr, sym, subst, arith}
 use Rattle.pict_syntax.specs.declared.id.Id.{Id}
 use Rattle.pict_syntax.specs.declared.name.Name.{Name}
 use Rattle.pict_syntax.specs.declared.span.Span.{Span}
@@ -10,11 +10,13 @@ use Rattle.pict_syntax.specs.declared.token.Keyword.{Keyword as AnyKeyword}
 use Rattle.pict_syntax.specs.declared.token.Keyword.TheVariants.{And, Def, Else, False, If, New, Rec, Run, Then, True, TypeDefinition, Val as ValKeyword, BoolType, CharType, IntType, StringType, TopType, TypeKind}
 use Rattle.pict_syntax.specs.declared.token.Sign.{Sign as AnySign}
 use Rattle.pict_syntax.specs.declared.token.Sign.TheVariants.{Bang, Question, QuestionStar, Equals, Bar, OpenParen, CloseParen, OpenBracket, CloseBracket, Colon, Semicolon, Less, Greater, Backslash, Caret, Slash, Hash, Underscore, Arrow}
-use Rattle.pict_syntax.specs.declared.type_tree.KindTree.{KindTree}
-use Rattle.pict_syntax.specs.declared.type_tree.KindTree.TheVariants.{Plain, Operator}
-use Rattle.pict_syntax.specs.Phrases.{Phrase, nothing, ◌▸◌, at, keyword, sign, ident, name, idents, times, token, join, led, between, closed, joined}
-use Rattle.pict_syntax.specs.Grammar.{type_span, pat_span, abs_span, chan_span, val_span, proc_span, annotated_end, IsKind, SomeKind, IsType, AreTypes, AreLabelledTypes, IsBinder, AreBinders, IsRType, IsPat, AreFieldPats, ArePats, AreLabelledPats, AreTypeArguments, IsDec, AreDecs, AreDefinitionsAnd, IsAbs, IsChan, IsVal, AreFieldVals, AreVals, AreLabelledVals, IsProc, AreProcsBar}
-use Rattle.pict_syntax.specs.Trees.{TypeTree, top_type, int_type, char_type, string_type, bool_type, use_type, both_type, read_type, write_type, respond_type, fields_type, apply_type, rec_type, TypeBinder, type_binder, Bound, unbounded, bound, TypeTrees, no_types, more_types, TypeBinders, no_binders, more_binders, LabelledTypes, no_labelled_types, more_labelled_types, RType, Pat, bind_pat, any_pat, fields_pat, fold_pat, FieldPats, field_pats, Pats, no_pats, more_pats, LabelledPats, no_labelled_pats, more_labelled_pats, Dec, new_dec, run_dec, let_dec, def_dec, alias_dec, operator_dec, await_dec, Decs, no_decs, more_decs, Definitions, no_definitions, more_definitions, Abs, process_abs, function_abs, Chan, use_chan, fold_chan, block_chan, apply_chan, right_chan, left_chan, Val, of_chan, number_val, character_val, string_val, true_val, false_val, fields_val, if_val, lambda_val, Vals, no_vals, more_vals, FieldVals, field_vals, LabelledVals, no_labelled_vals, more_labelled_vals, Proc, send_proc, receive_proc, serve_proc, if_proc, inert_proc, group_proc, Procs, no_procs, more_procs}
+use Rattle.pict_syntax.specs.declared.token.SymbolName.{SymbolName}
+use Rattle.pict_syntax.specs.declared.token.SymbolName.TheVariants as symbol_name
+use Rattle.pict_syntax.specs.declared.type_tree.Mark.{Mark}
+use Rattle.pict_syntax.specs.declared.type_tree.Mark.TheVariants as mark
+use Rattle.pict_syntax.specs.Phrases.{Phrase, nothing, ◌▸◌, at, keyword, sign, symbol, ident, name, idents, join, led, between, closed, joined}
+use Rattle.pict_syntax.specs.Grammar.{type_span, pat_span, abs_span, chan_span, val_span, proc_span, annotated_end, IsMark, AreMarks, IsKind, SomeKind, IsType, AreTypes, AreLabelledTypes, IsBinder, AreBinders, IsRType, IsPat, AreFieldPats, ArePats, AreLabelledPats, AreTypeArguments, IsDec, AreDecs, AreDefinitionsAnd, IsAbs, IsChan, IsVal, AreFieldVals, AreVals, AreLabelledVals, IsProc, AreProcsBar}
+use Rattle.pict_syntax.specs.Trees.{KindTree, plain_kind, operator_kind, TypeTree, top_type, int_type, char_type, string_type, bool_type, use_type, both_type, read_type, write_type, respond_type, fields_type, apply_type, rec_type, TypeBinder, type_binder, unbounded, bound, TypeTrees, no_types, more_types, TypeBinders, no_binders, more_binders, LabelledTypes, no_labelled_types, more_labelled_types, RType, Pat, bind_pat, any_pat, fields_pat, fold_pat, FieldPats, field_pats, Pats, no_pats, more_pats, LabelledPats, no_labelled_pats, more_labelled_pats, Dec, new_dec, run_dec, let_dec, def_dec, alias_dec, operator_dec, await_dec, Decs, no_decs, more_decs, Definitions, no_definitions, more_definitions, Abs, process_abs, function_abs, Chan, use_chan, fold_chan, block_chan, apply_chan, right_chan, left_chan, Val, of_chan, number_val, character_val, string_val, true_val, false_val, fields_val, if_val, lambda_val, Vals, no_vals, more_vals, FieldVals, field_vals, LabelledVals, no_labelled_vals, more_labelled_vals, Proc, send_proc, receive_proc, serve_proc, if_proc, inert_proc, group_proc, Procs, no_procs, more_procs}
 use Rattle.pict_front.proofs.Standing.{TypeStands, TypesStand, LabelledTypesStand, BinderStands, BindersStand, AnnotationStands, PatStands, FieldPatsStand, PatsStand, LabelledPatsStand, IdsStand, DecStands, DecsStand, DefinitionsStand, AbsStands, ChanStands, ValStands, ValsStand, FieldValsStand, LabelledValsStand, ProcStands, ProcsStand}
 
 -- the place lies in the text with number n that ends at `finish`, from `low` on and up to `high`
@@ -89,6 +91,9 @@ module _ (n finish : ℕ) (P : Span → Type 0) (stands : (s : Span) → s.text 
   signed : (m : AnySign) → Says (sign m) Spanned
   signed m low high ts (i, is) a = spans low high i (one (Sign m) i low high ts is a)
 
+  symboled : (y : SymbolName) → Says (symbol y) Spanned
+  symboled y low high ts (m, i, is) a = spans low high i (one (Symbol y m) i low high ts is a)
+
   identified : (x : Id) → Says (ident x) (λ low high. In low high x.span × P x.span)
   identified x = alone (Identifier x.name) x.span
 
@@ -103,12 +108,6 @@ module _ (n finish : ℕ) (P : Span → Type 0) (stands : (s : Span) → s.text 
       let r = both (ident x) (idents xs) (identified x) (ids_stand xs) low high ts is a in
       let l : low ≤ r.0 = spans low r.0 x.span r.1.0 in
       (omega (arith, l, r.2.0), (r.1.1, r.2.1))
-
-  times_span : (m : ℕ) → Says (times m (keyword TypeKind)) Spanned
-  unfolding times
-  times_span zero low high ts is a = empty low high ts is a
-  times_span (suc m) low high ts is a =
-      let r = both (times m (keyword TypeKind)) (keyword TypeKind) (times_span m) (keyworded TypeKind) low high ts is a in omega (arith, r.1, r.2)
 
   -- ---- what stands in brackets, or begins or ends with a token
 
@@ -145,13 +144,27 @@ module _ (n finish : ℕ) (P : Span → Type 0) (stands : (s : Span) → s.text 
 
   -- ---- kinds
 
+  -- a mark is of one token, or of two
+  marked : (y : SymbolName) → Says (symbol y ▸ keyword TypeKind) Spanned
+  marked y low high ts is a = let r = both (symbol y) (keyword TypeKind) (symboled y) (keyworded TypeKind) low high ts is a in omega (arith, r.1, r.2)
+
+  mark_span : (m : Mark) → Says (IsMark m) Spanned
+  mark_span mark.Plain = keyworded TypeKind
+  mark_span mark.Plus = marked symbol_name.Plus
+  mark_span mark.Minus = marked symbol_name.Minus
+
+  marks_span : (ms : List Mark) → Says (AreMarks ms) Spanned
+  unfolding AreMarks
+  marks_span [] low high ts is a = empty low high ts is a
+  marks_span (m ∷ ms) low high ts is a = let r = both (IsMark m) (AreMarks ms) (mark_span m) (marks_span ms) low high ts is a in omega (arith, r.1, r.2)
+
   kind_stands : (k : KindTree) (j : Span) → Says (IsKind k j) (λ low high. In low high j)
-  kind_stands Plain j = one (Keyword TypeKind) j
-  kind_stands (Operator zero) j = λ low high us is a. absurd is
-  kind_stands (Operator (suc m)) j = λ low high us is a.
-      let (p, o, (q, t, (r, y, (u, w, (v, z, l))))) =
-      both (sign OpenParen) _ (signed OpenParen) (both (times m (keyword TypeKind)) _ (times_span m) (both (keyword TypeKind) _ (keyworded TypeKind) (both (sign Arrow) _ (signed Arrow) (both (keyword TypeKind) _ (keyworded TypeKind) (one (Sign CloseParen) j))))) low high us is a in
-      wider low v high j (omega (arith, o, t, y, w, z)) l
+  kind_stands plain_kind j = one (Keyword TypeKind) j
+  kind_stands (operator_kind []) j = λ low high us is a. absurd is
+  kind_stands (operator_kind (m ∷ ms)) j = λ low high us is a.
+      let (p, o, (q, t, (u, w, (v, z, l)))) =
+      both (sign OpenParen) _ (signed OpenParen) (both (AreMarks (m ∷ ms)) _ (marks_span (m ∷ ms)) (both (sign Arrow) _ (signed Arrow) (both (keyword TypeKind) _ (keyworded TypeKind) (one (Sign CloseParen) j)))) low high us is a in
+      wider low v high j (omega (arith, o, t, w, z)) l
 
   some_kind : (k : KindTree) → Says (SomeKind k) Spanned
   some_kind k low high us (j, is) a = spans low high j (kind_stands k j low high us is a)

@@ -1,6 +1,6 @@
 -- Where the typing rules refuse a program is one of the program's places: each line of each rule is refused at a place of the
 -- phrase that is judged, or within a part of it.
-use Rattle.std.proofs.Common.{◌≡◌, ℕ, Bool, true, false, if◌then◌else◌, not, nat_eq, ◌||◌, List, [], ◌∷◌, ◌++◌, map, Option, Some, None}
+use Rattle.std.proofs.Common.{ℕ, Bool, true, false, if◌then◌else◌, not, nat_eq, ◌||◌, List, [], ◌∷◌, ◌++◌, map, Option, Some, None}
 use Rattle.pict_syntax.specs.declared.code.Code.{Code}
 use Rattle.pict_syntax.specs.declared.id.Id.{Id}
 use Rattle.pict_syntax.specs.declared.span.Span.{Span}
@@ -9,19 +9,20 @@ use Rattle.pict_syntax.specs.Trees.{TypeTree, TypeBinder, type_binder, Bound, un
 use Rattle.pict_types.specs.Types.{Capability, Both, Read, Write, Respond, PlainType, Top, Int, Char as Char_, Str, Boolean, Var, Apply, Chan as Chan_, Fields, Rec, PlainTypes, PlainLabels, PlainBound, Free, Below, Operator, PlainBounds, no_bound, bounds, PlainArg, is_top, type_at, count_types, count_bounds}
 use Rattle.pict_types.specs.Mentions.{mentions_innermost, lowered}
 use Rattle.pict_types.specs.Replacing.{arguments, replace, instance_of}
+use Rattle.pict_types.specs.AsMarked.{varies_as}
 use Rattle.pict_normal.specs.Normal.{Stop, normal, kind_stop, size_stop, count_trees}
-use Rattle.pict_normal.specs.WrittenArguments.{normal_arg, arg_stop}
+use Rattle.pict_normal.specs.WrittenArguments.{normal_arg}
 use Rattle.pict_sub.specs.Exposing.{exposure}
-use Rattle.pict_rules.specs.Found.{Found, mentions_missing, with_found, all_found, filled, argument_in}
+use Rattle.pict_rules.specs.Found.{Found, mentions_missing, with_found, all_found, argument_in}
 use Rattle.pict_rules.specs.Counts.{count_vals, count_pats, count_binders}
-use Rattle.pict_rules.specs.Shapes.{Function, nth_type, nth_bound, applicable, none_written, all_written, vals_onto, right_nested, left_nested, from_first, applied_to, kind_agrees, written_bound, binder_stop}
-use Rattle.pict_rules.specs.Environments.{Environment, context_of, opened, extended, opened_since, no_environment, bounds_of}
+use Rattle.pict_rules.specs.Shapes.{Function, nth_bound, applicable, none_written, all_written, vals_onto, right_nested, left_nested, from_first, applied_to, kind_agrees, written_bound}
+use Rattle.pict_rules.specs.Environments.{Environment, context_of, opened, opened_since, no_environment, bounds_of}
 use Rattle.pict_rules.specs.Complete.{is_complete}
-use Rattle.pict_rules.specs.Rules.{Sort, nothing_, type_, types_, labels_, arguments_, found_, environment_, extension_, pattern_, patterns_, labelled_patterns_, binders_, fields_, opened_, signatures_, signature_, Result, Body, process_body, value_body, Signature, Judgement, gives, has, is_condition, values_give, labelled_values_give, application, fields_fit, written_arguments, values_fit, labelled_values_fit, value_fits, given_fits, abstraction_gives, abstraction_against, pattern_gives, fields_give, binders_give, patterns_give, labelled_patterns_give, pattern_against, fields_against, binders_against, patterns_against, labelled_patterns_against, declaration, declarations, signatures, signature, bodies, body, process, processes, receives, Condition, IsMet, Rule, give, refuse, need, either, part, Answer, ok, stuck, unless_stopped, ensure}
-use Rattle.pict_rules.specs.Clauses.{if_record, need_recursive, need_channel, need_function, need_outside, expect, if_sent, within_bound, within_bounds, if_labelled, gives_below, need_same_bound, need_both, answering, argument_type, with_own, written_kind, binder_span, is_of_kind, may_send, may_receive, empty_record}
+use Rattle.pict_rules.specs.Rules.{Sort, nothing_, type_, types_, labels_, arguments_, found_, environment_, extension_, pattern_, patterns_, labelled_patterns_, binders_, fields_, opened_, signatures_, signature_, Result, Body, process_body, value_body, Signature, Judgement, gives, has, is_condition, values_give, labelled_values_give, application, fields_fit, written_arguments, values_fit, labelled_values_fit, value_fits, given_fits, abstraction_gives, abstraction_against, pattern_gives, fields_give, binders_give, patterns_give, labelled_patterns_give, pattern_against, fields_against, binders_against, patterns_against, labelled_patterns_against, declaration, declarations, signatures, signature, bodies, body, process, processes, receives, Condition, Rule, give, refuse, need, either, part, Answer, ok, stuck, unless_stopped, ensure}
+use Rattle.pict_rules.specs.Clauses.{if_record, need_recursive, need_channel, need_function, need_outside, expect, if_sent, within_bound, within_bounds, if_labelled, gives_below, need_same_bound, need_both, answering, argument_type, with_own, written_kind, binder_span, is_of_kind, may_send, may_receive}
 use Rattle.pict_rules.specs.Typing.{rule}
-use Rattle.pict_rules.specs.Derivations.{Runs, RunsTo, give_, refuse_, met, failed, yes, no, part_ok, part_stuck, IsStuckAt}
-use Rattle.pict_front.proofs.Standing.{TypeStands, TypesStand, BinderStands, BindersStand, AnnotationStands, PatStands, FieldPatsStand, PatsStand, LabelledPatsStand, DecStands, DecsStand, DefinitionsStand, AbsStands, ChanStands, ValStands, ValsStand, FieldValsStand, LabelledValsStand, ProcStands, ProcsStand}
+use Rattle.pict_rules.specs.Derivations.{Runs, give_, refuse_, met, failed, yes, no, part_ok, part_stuck, IsStuckAt}
+use Rattle.pict_front.proofs.Standing.{TypeStands, TypesStand, BinderStands, BindersStand, PatStands, FieldPatsStand, PatsStand, LabelledPatsStand, DecStands, DecsStand, DefinitionsStand, AbsStands, ChanStands, ValStands, ValsStand, FieldValsStand, LabelledValsStand, ProcStands, ProcsStand}
 use Rattle.pict_front.proofs.KindPlaces.{StopStands, type_place, size_stands, kind_stands, argument_stands, binder_stands}
 
 module _ (P : Span → Type 0) where
@@ -361,7 +362,8 @@ module _ (P : Span → Type 0) where
   arguments_stand e s (more_types ts t) bs h =
       asked (h.0, h.1.0) (λ args k. unless _ (argument_stands P e.names e.context t h.1.1) (
       ensured (is_of_kind (normal_arg e.names e.context t) (nth_bound (count_trees ts) bs)) _ (type_span t) (type_place P t h.1.1) (
-      bounded e s (nth_bound (count_trees ts) bs) args (normal_arg e.names e.context t) _ (type_span t) h.0 (type_place P t h.1.1) (given tt))))
+      ensured (varies_as (context_of e) (normal_arg e.names e.context t) (nth_bound (count_trees ts) bs)) _ (type_span t) (type_place P t h.1.1) (
+      bounded e s (nth_bound (count_trees ts) bs) args (normal_arg e.names e.context t) _ (type_span t) h.0 (type_place P t h.1.1) (given tt)))))
 
   vals_fit : (e : Environment) (s : Span) (vs : Vals) (ps : PlainTypes) (g : Found) → P s × ValsStand P vs → Stands found_ (rule e (values_fit s vs ps g))
   vals_fit e s no_vals ps g h = given tt

@@ -1,9 +1,14 @@
 -- What the answers of the calls say of the phases.
 use Rattle.std.specs.Prelude.{ℕ, List, Option, Some, None, Result, Ok, Err}
 use Rattle.std.specs.Option.{option_map}
+use Rattle.std.specs.Prelude.{Vec}
 use Rattle.std.specs.Borrow.{Bor}
+use Rattle.std.specs.declared.alloc.Global.{Global}
 use Rattle.pict_syntax.specs.declared.code.Code.TheVariants.{P1, P2, C1}
 use Rattle.pict_syntax.specs.Cuts.{IsLexStop}
+use Rattle.pict_syntax.specs.Trees.{Decs, no_decs}
+use Rattle.pict_syntax.specs.PlainTrees.{decs_on}
+use Rattle.pict_syntax.specs.declared.tree.Dec.{Dec as RDec}
 use Rattle.pict_lex.specs.declared.error.LexError.{LexError}
 use Rattle.pict_lex.specs.declared.error.LexError.TheVariants as lex
 use Rattle.pict_parse.specs.declared.entry.ParseError.{ParseError}
@@ -49,6 +54,10 @@ abbrev pub said_by : {A B : Type 0} → (A → B) → Result A Refusal → Optio
 said_by f (Ok x) = Some (accepts (f x))
 said_by f (Err (Named code span)) = Some (refuses (code, span))
 said_by f (Err Memory) = None
+
+-- the declarations that are answered
+abbrev pub plain_decs : Vec RDec Global → Decs
+plain_decs ds = decs_on no_decs ds.items
 
 -- the core process that is answered, with its names
 abbrev pub plain_front : RFront → Front

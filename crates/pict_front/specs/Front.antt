@@ -9,7 +9,8 @@ use Rattle.pict_syntax.specs.declared.token.Token.{Token}
 use Rattle.pict_syntax.specs.Names.{with_names}
 use Rattle.pict_syntax.specs.Cuts.{Piece, IsWholeCut, named, tokens_of, IsLexStop}
 use Rattle.pict_syntax.specs.Trees.{Decs, no_decs, more_decs}
-use Rattle.pict_syntax.specs.Verdicts.{Program, Unexpected, TooNested, IsVerdict}
+use Rattle.pict_syntax.specs.Programs.{declarations}
+use Rattle.pict_syntax.specs.Verdicts.{Whole, Unexpected, TooNested, IsVerdict}
 use Rattle.pict_scope.specs.Scopes.{scope_stop}
 use Rattle.pict_rules.specs.Derivations.{IsTyped, IsStuckAt}
 use Rattle.pict_core.specs.Term.{Process, depth_of}
@@ -61,14 +62,19 @@ names_in texts = with_names [] (named_in texts)
 abbrev pub tokens_in : List (List ℕ) → Cut → List Token
 tokens_in names c = tokens_of names c.number 0 c.pieces
 
--- GRAMMAR: the tokens are those of a program; else the first one that no program has there, or that is nested too deep
-abbrev pub HasVerdict : List Token → ℕ → Phase Stop Decs → Type 0
-HasVerdict tokens end (accepts p) = IsVerdict tokens end (Program p)
+-- the empty place at this end of the text that has this number
+abbrev pub end_at : ℕ → ℕ → Span
+end_at number end = record { text = number; start = end; end = end }
+
+-- GRAMMAR: the tokens are those of declarations; else the first one that no declarations have there, or that is nested too
+-- deep
+abbrev pub HasVerdict : List Token → Span → Phase Stop Decs → Type 0
+HasVerdict tokens end (accepts p) = IsVerdict declarations tokens end (Whole p)
 HasVerdict tokens end (refuses (code, span)) =
-    ((code ≡ P1) × IsVerdict tokens end (Unexpected span)) ⊎ ((code ≡ P2) × IsVerdict tokens end (TooNested span))
+    ((code ≡ P1) × IsVerdict declarations tokens end (Unexpected span)) ⊎ ((code ≡ P2) × IsVerdict declarations tokens end (TooNested span))
 
 abbrev pub Parses : List (List ℕ) → Cut → Phase Stop Decs → Type 0
-Parses names c = HasVerdict (tokens_in names c) c.end
+Parses names c = HasVerdict (tokens_in names c) (end_at c.number c.end)
 
 -- the declarations of one program behind those of another
 abbrev pub behind : Decs → Decs → Decs

@@ -13,6 +13,3 @@ pub use laws::{
 };
 pub use phases::front;
 pub use refusal::Refusal;
-
-#[cfg(test)]
-mod tests;

@@ -1,14 +1,14 @@
 // The phases, one after the other.
 
 ghost use Rattle.std.specs.Prelude.{◌≡◌, ◌≤◌, ◌<◌, ◌+◌, ◌^◌, IfOk, IfErr, IfSome, OnOk, length, None, Some};
-ghost use Rattle.pict_syntax.specs.PlainTrees.{program_of};
+ghost use Rattle.pict_syntax.specs.PlainTrees.{declarations_of};
 ghost use Rattle.pict_lex.specs.Lex.{AreTokens, GainsNames};
 ghost use Rattle.pict_scope.specs.Scopes.{scope_stop};
 ghost use Rattle.pict_core.specs.Closed.{IsClosed};
 ghost use Rattle.pict_core.specs.Plain.{plain_core};
-ghost use Rattle.pict_front.specs.Answers.{IsCutShort, IsPlaced, lent, plain_front, said_by};
+ghost use Rattle.pict_front.specs.Answers.{IsCutShort, IsPlaced, lent, plain_decs, plain_front, said_by};
 ghost use Rattle.pict_front.specs.Front as phases;
-ghost use Rattle.pict_front.specs.Front.{HasVerdict, IsFront, Judges, Translates};
+ghost use Rattle.pict_front.specs.Front.{HasVerdict, IsFront, Judges, Translates, end_at};
 ghost use Rattle.pict_front.specs.Laws.{IsAccepted};
 
 use crate::accepted::Front;
@@ -18,9 +18,9 @@ use crate::refusal::{
 use pict_check::check;
 use pict_derive::derive;
 use pict_lex::lex;
-use pict_parse::parse;
+use pict_parse::parse_declarations;
 use pict_scope::{Scoped, resolve};
-use pict_syntax::{Names, Program, TEXT_LIMIT, Token};
+use pict_syntax::{Dec, Names, Program, Span, TEXT_LIMIT, Token};
 use std::alloc::{AllocError, Global};
 
 /// The number of the prelude, in places.
@@ -58,10 +58,10 @@ fn alone(alloc: Global, text: &[u8]) -> Result<Front, Refusal>
         Ok(tokens) => tokens,
         Err(refusal) => return Err(refusal),
     };
-    match read_program(alloc, &tokens, text.len() as u32) {
-        Ok(program) => {
+    match read_declarations(alloc, &tokens, text, FILE) {
+        Ok(decs) => {
             drop(tokens);
-            judged(alloc, names, program)
+            judged(alloc, names, decs)
         }
         Err(refusal) => Err(refusal),
     }
@@ -83,15 +83,15 @@ fn behind(alloc: Global, prelude: &[u8], text: &[u8]) -> Result<Front, Refusal>
         Ok(tokens) => tokens,
         Err(refusal) => return Err(refusal),
     };
-    let program = match read_program(alloc, &first, prelude.len() as u32) {
-        Ok(program) => program,
+    let decs = match read_declarations(alloc, &first, prelude, PRELUDE) {
+        Ok(decs) => decs,
         Err(refusal) => return Err(refusal),
     };
-    match read_program(alloc, &own, text.len() as u32) {
+    match read_declarations(alloc, &own, text, FILE) {
         Ok(more) => {
             drop(first);
             drop(own);
-            joined(alloc, names, program, more)
+            joined(alloc, names, decs, more)
         }
         Err(refusal) => Err(refusal),
     }
@@ -117,32 +117,67 @@ fn read_tokens(
     }
 }
 
-/// The program whose tokens these are, of a text that ends here.
-fn read_program(alloc: Global, tokens: &[Token], end: u32) -> Result<Program, Refusal>
-    ensures { IfSome (said_by program_of result) (HasVerdict tokens.now end) }
+/// The place of the end of the text that has this number.
+fn end_of(text: &[u8], number: u32) -> Span
+    requires short { length text.now ≤ TEXT_LIMIT }
+    ensures { result ≡ end_at number (length text.now) }
 {
-    match parse(alloc, tokens, end) {
-        Ok(program) => Ok(program),
+    let end = text.len() as u32;
+    Span {
+        text: number,
+        start: end,
+        end,
+    }
+}
+
+/// The declarations whose tokens these are, of the text that has this number.
+fn read_declarations(
+    alloc: Global,
+    tokens: &[Token],
+    text: &[u8],
+    number: u32,
+) -> Result<Vec<Dec>, Refusal>
+    requires short { length text.now ≤ TEXT_LIMIT }
+    ensures { IfSome (said_by plain_decs result) (HasVerdict tokens.now (end_at number (length text.now))) }
+{
+    declarations_before(alloc, tokens, end_of(text, number))
+}
+
+/// The declarations whose tokens these are, of a text that ends here.
+fn declarations_before(alloc: Global, tokens: &[Token], end: Span) -> Result<Vec<Dec>, Refusal>
+    ensures { IfSome (said_by plain_decs result) (HasVerdict tokens.now end) }
+{
+    match parse_declarations(alloc, tokens, end) {
+        Ok(decs) => Ok(decs),
         Err(error) => Err(of_parse_error(error)),
     }
 }
 
-/// What scopes, types and translation say of the declarations of two programs, one behind the other.
-fn joined(alloc: Global, names: Names, program: Program, more: Program) -> Result<Front, Refusal>
-    ensures answer { IfSome (said_by plain_front result) (Judges names (phases.behind (program_of program) (program_of more))) }
+/// What scopes, types and translation say of the declarations of two texts, one behind the other.
+fn joined(alloc: Global, names: Names, decs: Vec<Dec>, more: Vec<Dec>) -> Result<Front, Refusal>
+    ensures answer { IfSome (said_by plain_front result) (Judges names (phases.behind (plain_decs decs) (plain_decs more))) }
     ensures closed { IfOk result (λ front. IsClosed (plain_core front.core)) }
 {
-    let mut program = program;
+    let mut decs = decs;
     let mut more = more;
-    match program.decs.append(&mut more.decs) {
-        Ok(()) => judged(alloc, names, program),
+    match decs.append(&mut more) {
+        Ok(()) => judged(alloc, names, decs),
         Err(AllocError) => Err(Refusal::Memory),
     }
 }
 
-/// What scopes, types and translation say of a program.
-fn judged(alloc: Global, names: Names, program: Program) -> Result<Front, Refusal>
-    ensures answer { IfSome (said_by plain_front result) (Judges names (program_of program)) }
+/// What scopes, types and translation say of declarations.
+fn judged(alloc: Global, names: Names, decs: Vec<Dec>) -> Result<Front, Refusal>
+    ensures answer { IfSome (said_by plain_front result) (Judges names (plain_decs decs)) }
+    ensures closed { IfOk result (λ front. IsClosed (plain_core front.core)) }
+{
+    let imports = Vec::new(alloc);
+    resolved(alloc, names, Program { imports, decs })
+}
+
+/// The same of a program, whose imports are not looked at.
+fn resolved(alloc: Global, names: Names, program: Program) -> Result<Front, Refusal>
+    ensures answer { IfSome (said_by plain_front result) (Judges names (declarations_of program)) }
     ensures closed { IfOk result (λ front. IsClosed (plain_core front.core)) }
 {
     let scoped = match resolve(alloc, &names, program) {
@@ -157,8 +192,8 @@ fn judged(alloc: Global, names: Names, program: Program) -> Result<Front, Refusa
 
 /// The core process of a program in which no rule of scopes fails.
 fn translated(alloc: Global, names: Names, scoped: &Scoped) -> Result<Front, Refusal>
-    requires scoped { scope_stop names (program_of scoped.now.program) ≡ None }
-    ensures answer { IfSome (said_by plain_front result) (Translates names (program_of scoped.now.program)) }
+    requires scoped { scope_stop names (declarations_of scoped.now.program) ≡ None }
+    ensures answer { IfSome (said_by plain_front result) (Translates names (declarations_of scoped.now.program)) }
     ensures closed { IfOk result (λ front. IsClosed (plain_core front.core)) }
 {
     match derive(alloc, &names, scoped) {

@@ -317,6 +317,3 @@ fn append<T: Copy>(list: &mut Vec<T>, items: &[T]) -> Slice
         end: start + items.len(),
     }
 }
-
-#[cfg(test)]
-mod tests;

@@ -2,10 +2,10 @@
 use Rattle.std.proofs.Common.{◌≡◌, Bool, true, false, if◌then◌else◌, Option, None, refl, sym, ap₂, subst}
 use Rattle.pict_syntax.specs.declared.code.Code.TheVariants.{Y16}
 use Rattle.pict_syntax.specs.declared.span.Span.{Span}
-use Rattle.pict_syntax.specs.declared.type_tree.KindTree.{KindTree}
 use Rattle.pict_syntax.specs.declared.type_tree.TypeBinder.{TypeBinder as RTypeBinder}
-use Rattle.pict_syntax.specs.PlainTrees.{binder_of, held_bound}
-use Rattle.pict_syntax.specs.Trees.{Bound, unbounded, bound, TypeBinder, type_binder}
+use Rattle.std.specs.Option.{option_map}
+use Rattle.pict_syntax.specs.PlainTrees.{binder_of, held_bound, kind_of}
+use Rattle.pict_syntax.specs.Trees.{KindTree, Bound, unbounded, bound, TypeBinder, type_binder}
 use Rattle.pict_types.specs.Types.{PlainType, PlainBound, is_top}
 use Rattle.pict_types.specs.Replacing.{bound_by}
 use Rattle.pict_normal.specs.Normal.{normal, normal_bound}
@@ -20,7 +20,7 @@ use Rattle.pict_infer.specs.Opening.{binder_agrees, bound_or_free, expanded_boun
 use Rattle.pict_infer.proofs.Forming.{clear, stopped}
 
 -- the refusal of a type binder with a written bound
-pub stop_read : (e : Environment) (b : RTypeBinder) (k : Option KindTree) (w : Bound) → b.kind ≡ k → held_bound b.bound ≡ w → stop_of_binder e (binder_of b) ≡ stop_of_binder e (type_binder b.span b.id k w)
+pub stop_read : (e : Environment) (b : RTypeBinder) (k : Option KindTree) (w : Bound) → option_map kind_of b.kind ≡ k → held_bound b.bound ≡ w → stop_of_binder e (binder_of b) ≡ stop_of_binder e (type_binder b.span b.id k w)
 stop_read e b k w p q = ap₂ (λ (x : Option KindTree) (y : Bound). stop_of_binder e (type_binder b.span b.id x y)) p q
 
 -- what a written bound says is what the rules know of it

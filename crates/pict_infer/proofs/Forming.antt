@@ -2,6 +2,7 @@
 use Rattle.std.proofs.Common.{◌≡◌, ◌≤◌, ◌<◌, ℕ, Bool, true, false, Option, Some, None, refl, sym, ◌∙◌, ap, subst, arith, ◌≢◌, ◌↔◌}
 use Rattle.std.specs.Prelude.{IfNone, IfSome}
 use borrow.Author.Tests.{ltb-true}
+use Rattle.pict_syntax.specs.declared.limits.TheConstants.{HEIGHT_LIMIT, WEIGHT_LIMIT}
 use Rattle.pict_syntax.specs.declared.code.Code.TheVariants.{K4, Y13}
 use Rattle.pict_syntax.specs.declared.span.Span.{Span}
 use Rattle.pict_types.specs.Types.{PlainType, Top, Int, Char, Str, Boolean, Var, Apply, Chan, Fields, Rec, TypeContext}
@@ -50,7 +51,7 @@ expanded_ok o n u h e = clear {s = type_} o h (subst (λ (v : PlainType). Runs {
 pub expanded_err : (o : Option Stop) (n : PlainType) (e : KindError) → IsRefusal o e → IsRefused {s = type_} (unless_stopped o (give n)) (of_kind_error e)
 expanded_err o n e h = stopped {s = type_} o (give n) (of_kind_error e) (stopped_by o e h)
 
-pub size_past : (c : PlainContext) (t : PlainType) (s : Span) → (weight_of (variables c) t ≤ 100000 → height_of (variables c) t ≤ 1000 → ⊥) → IsStopped (size_stop c t s) (Named K4 s)
+pub size_past : (c : PlainContext) (t : PlainType) (s : Span) → (weight_of (variables c) t ≤ WEIGHT_LIMIT → height_of (variables c) t ≤ HEIGHT_LIMIT → ⊥) → IsStopped (size_stop c t s) (Named K4 s)
 size_past c t s h = too_big c t s h
 
 -- recursive types
@@ -107,11 +108,11 @@ pub exposed_itself : (c : TypeContext) (t : PlainType) → is_variable t ≡ fal
 exposed_itself c t h = not_variable c t (no_variable t h)
 
 -- a measure that passes its limit
-pub past_limit : (m : Measure) (w h : ℕ) → (m ≡ Weight → 100000 < w) → (m ≡ Height → 1000 < h) → w ≤ 100000 → h ≤ 1000 → ⊥
-past_limit Weight w h p q a b = let x : 100000 < w = p refl in omega (arith, x, a)
-past_limit Height w h p q a b = let x : 1000 < h = q refl in omega (arith, x, b)
+pub past_limit : (m : Measure) (w h : ℕ) → (m ≡ Weight → WEIGHT_LIMIT < w) → (m ≡ Height → HEIGHT_LIMIT < h) → w ≤ WEIGHT_LIMIT → h ≤ HEIGHT_LIMIT → ⊥
+past_limit Weight w h p q a b = let x : WEIGHT_LIMIT < w = p refl in omega (arith, x, a)
+past_limit Height w h p q a b = let x : HEIGHT_LIMIT < h = q refl in omega (arith, x, b)
 
-pub unfolded_err : (c : PlainContext) (t : PlainType) (s : Span) (e : SizeError) → (e ≡ TooBig Weight → 100000 < weight_of (variables c) t) → (e ≡ TooBig Height → (weight_of (variables c) t ≤ 100000) × (1000 < height_of (variables c) t)) → IsRefused {s = type_} (unless_stopped (size_stop c t s) (give t)) (of_size_error s e)
+pub unfolded_err : (c : PlainContext) (t : PlainType) (s : Span) (e : SizeError) → (e ≡ TooBig Weight → WEIGHT_LIMIT < weight_of (variables c) t) → (e ≡ TooBig Height → (weight_of (variables c) t ≤ WEIGHT_LIMIT) × (HEIGHT_LIMIT < height_of (variables c) t)) → IsRefused {s = type_} (unless_stopped (size_stop c t s) (give t)) (of_size_error s e)
 unfolded_err c t s (TooBig m) p q =
     stopped {s = type_} (size_stop c t s) (give t) (Named K4 s) (size_past c t s (λ a b. past_limit m (weight_of (variables c) t) (height_of (variables c) t) (λ e. p (ap TooBig e)) (λ e. (q (ap TooBig e)).1) a b))
 unfolded_err c t s SizeMemory p q = tt

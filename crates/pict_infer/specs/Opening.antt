@@ -3,8 +3,7 @@ use Rattle.std.specs.Prelude.{◌≡◌, List, Option, None, Some, Result, Ok, E
 use Rattle.std.specs.Option.{option_map}
 use Rattle.pict_syntax.specs.declared.span.Span.{Span}
 use Rattle.pict_syntax.specs.declared.id.Id.{Id}
-use Rattle.pict_syntax.specs.declared.type_tree.KindTree.{KindTree}
-use Rattle.pict_syntax.specs.Trees.{TypeTree, Bound, unbounded, bound, TypeBinder, FieldPats}
+use Rattle.pict_syntax.specs.Trees.{KindTree, TypeTree, Bound, unbounded, bound, TypeBinder, FieldPats}
 use Rattle.pict_types.specs.Types.{PlainType, PlainBound, Free, PlainBounds, Fields, is_top}
 use Rattle.pict_types.specs.Replacing.{bound_by}
 use Rattle.pict_types.specs.declared.types.Ty.{Ty}

@@ -108,7 +108,7 @@ fn moved_bound(alloc: Global, b: Bound, by: u32, from: usize) -> Result<Bound, A
     match b {
         Bound::Free => Ok(Bound::Free),
         Bound::Below(t) => Ok(Bound::Below(shift_type(alloc, &t, by, from)?)),
-        Bound::Operator(n) => Ok(Bound::Operator(n)),
+        Bound::Operator(marks) => Ok(Bound::Operator(marks)),
     }
 }
 

@@ -1,7 +1,6 @@
 // Patterns against a type.
 
 ghost use Rattle.std.specs.Prelude.{◌≡◌, ◌≤◌, None, Some, length, IfOk, OnOk};
-ghost use Rattle.pict_syntax.specs.Grammar.{pat_span};
 ghost use Rattle.pict_syntax.specs.PlainTrees.{annotation_of, field_pats_of, labelled_pats_on, pat_of, pats_on, type_of};
 ghost use Rattle.pict_syntax.specs.Trees.{any_pat, bind_pat, fields_pat, no_labelled_pats, no_pats};
 ghost use Rattle.pict_types.specs.Plain.{plain, plain_labels, plain_types};
@@ -24,7 +23,7 @@ use crate::binders::{open_against, taken};
 use crate::error::InferError;
 use crate::formed::{as_record, below, expanded, followed, recursive, shown, unfolded};
 use crate::labels::labelled_type;
-use pict_syntax::{Code, FieldPats, Id, LabelledPat, Name, Pat, RType, Span, TypeTree};
+use pict_syntax::{Code, FieldPats, Id, LabelledPat, Name, Pat, RType, Span, TypeTree, pat_span};
 use pict_types::{Bound, Context, Record, Ty};
 use std::alloc::{AllocError, Global};
 
@@ -321,14 +320,4 @@ fn labelled_against(
         added = added.join(alloc, one)?;
     }
     Ok(added)
-}
-
-/// The place of a pattern. Takes no memory.
-fn pat_span(p: &Pat) -> Span
-    ensures { result ≡ pat_span (pat_of p.now) }
-{
-    match p {
-        Pat::Bind(span, _, _) | Pat::Any(span, _) | Pat::Fields(span, _) | Pat::Fold(span, _, _) =>
-            *span,
-    }
 }

@@ -1,9 +1,9 @@
 // The own type variables of a record pattern or of a function.
 
 ghost use Rattle.std.specs.Prelude.{◌≡◌, ◌≤◌, ◌++◌, ◌↔◌, IsTrue, None, Some, length, IfErr, IfOk, OnErr, OnOk};
-ghost use Rattle.pict_syntax.specs.declared.type_tree.KindTree.TheVariants.{Operator};
-ghost use Rattle.pict_syntax.specs.PlainTrees.{binder_of, binders_on, type_of};
-ghost use Rattle.pict_syntax.specs.Trees.{no_binders};
+ghost use Rattle.std.specs.Option.{option_map};
+ghost use Rattle.pict_syntax.specs.PlainTrees.{binder_of, binders_on, kind_of, type_of};
+ghost use Rattle.pict_syntax.specs.Trees.{no_binders, operator_kind};
 ghost use Rattle.pict_types.specs.Plain.{plain, plain_bound, plain_bounds};
 ghost use Rattle.pict_types.specs.PlainContext.{names_of, plain_context, type_context};
 ghost use Rattle.pict_scope.specs.DistinctLabels.{BinderHasDistinctLabels, HasDistinctLabels};
@@ -12,7 +12,7 @@ ghost use Rattle.pict_normal.specs.Written.{normal_in};
 ghost use Rattle.pict_rules.specs.Clauses.{stop_of_binder};
 ghost use Rattle.pict_rules.specs.Environments.{entries_of};
 ghost use Rattle.pict_rules.specs.Rules.{binders_, binders_against, binders_give};
-ghost use Rattle.pict_rules.specs.Shapes.{kind_agrees, written_bound};
+ghost use Rattle.pict_rules.specs.Shapes.{kind_agrees, same_marks, written_bound};
 ghost use Rattle.pict_rules.specs.Typing.{rule};
 ghost use Rattle.pict_infer.specs.Answering.{IsAnswer, IsStopped, nothing};
 ghost use Rattle.pict_infer.specs.Asking.{IsWellAsked};
@@ -24,23 +24,23 @@ use crate::error::InferError;
 use crate::formed::expanded;
 use crate::known::Binder;
 use pict_normal::{KindError, expand};
-use pict_sub::equal;
-use pict_syntax::{Code, Id, KindTree, TypeBinder, TypeTree};
+use pict_sub::{equal, equal_marks};
+use pict_syntax::{Code, Id, KindTree, Mark, TypeBinder, TypeTree};
 use pict_types::{Bound, Context, Entry, Ty, What, bound_by};
 use std::alloc::{AllocError, Global};
 
-/// The bound of an operator of `n` parameters: K3 at its name, where the bound doesn't expand to `Top`.
+/// The bound of an operator with these marks: K3 at its name, where the bound doesn't expand to `Top`.
 fn operator_bound(
     alloc: Global,
     c: &Context,
     t: &TypeTree,
     id: Id,
-    n: u32,
+    marks: &[Mark],
 ) -> Result<Ty, InferError>
     requires labels { HasDistinctLabels (type_of t.now) }
-    ensures clear { IfOk result (λ _. bound_stop (environment_in c.now) id (Some (Operator n)) (type_of t.now) ≡ None) }
+    ensures clear { IfOk result (λ _. bound_stop (environment_in c.now) id (Some (operator_kind marks.now)) (type_of t.now) ≡ None) }
     ensures bound { IfOk result (λ u. plain u ≡ normal_in c.now (type_of t.now)) }
-    ensures refused { IfErr result (λ e. IsStopped (bound_stop (environment_in c.now) id (Some (Operator n)) (type_of t.now)) e) }
+    ensures refused { IfErr result (λ e. IsStopped (bound_stop (environment_in c.now) id (Some (operator_kind marks.now)) (type_of t.now)) e) }
 {
     match expand(alloc, c, t) {
         Ok(u) => {
@@ -64,8 +64,8 @@ fn written_bound(alloc: Global, c: &Context, b: &TypeBinder) -> Result<Option<Ty
     let Some(t) = &b.bound else {
         return Ok(None);
     };
-    match b.kind {
-        Some(KindTree::Operator(n)) => Ok(Some(operator_bound(alloc, c, t, b.id, n)?)),
+    match &b.kind {
+        Some(KindTree::Operator(marks)) => Ok(Some(operator_bound(alloc, c, t, b.id, marks)?)),
         Some(KindTree::Plain) => Ok(Some(expanded(alloc, c, t)?)),
         None => Ok(Some(expanded(alloc, c, t)?)),
     }
@@ -82,19 +82,30 @@ fn bound_or_free(written: Option<Ty>) -> Bound
 }
 
 /// What is known of a type binder with this kind and this bound: an operator has no bound.
-fn own_bound(kind: Option<KindTree>, written: Option<Ty>) -> Bound
-    ensures { plain_bound result ≡ kind_bound kind (bound_or_free (held_type written)) }
+fn own_bound(
+    alloc: Global,
+    kind: &Option<KindTree>,
+    written: Option<Ty>,
+) -> Result<Bound, AllocError>
+    ensures { IfOk result (λ d. plain_bound d ≡ kind_bound (option_map kind_of kind.now) (bound_or_free (held_type written))) }
 {
     match kind {
-        Some(KindTree::Operator(n)) => Bound::Operator(n),
-        Some(KindTree::Plain) => bound_or_free(written),
-        None => bound_or_free(written),
+        Some(KindTree::Operator(marks)) => Ok(Bound::Operator(Vec::from_slice(alloc, marks)?)),
+        Some(KindTree::Plain) => Ok(bound_or_free(written)),
+        None => Ok(bound_or_free(written)),
     }
 }
 
+/// Whether the marks that are written are those of the field.
+fn same_marks(written: &[Mark], marks: &[Mark]) -> bool
+    ensures { result ≡ same_marks written.now marks.now }
+{
+    equal_marks(written, marks)
+}
+
 /// Whether a written kind is that of the field.
-fn kind_agrees(kind: Option<KindTree>, field: &Bound) -> bool
-    ensures { result ≡ kind_agrees kind (plain_bound field.now) }
+fn kind_agrees(kind: &Option<KindTree>, field: &Bound) -> bool
+    ensures { result ≡ kind_agrees (option_map kind_of kind.now) (plain_bound field.now) }
 {
     match kind {
         None => true,
@@ -103,8 +114,8 @@ fn kind_agrees(kind: Option<KindTree>, field: &Bound) -> bool
             Bound::Free => true,
             Bound::Below(_) => true,
         },
-        Some(KindTree::Operator(m)) => match field {
-            Bound::Operator(n) => m == *n,
+        Some(KindTree::Operator(written)) => match field {
+            Bound::Operator(marks) => same_marks(written, marks),
             Bound::Free => false,
             Bound::Below(_) => false,
         },
@@ -139,7 +150,7 @@ fn binder_against(
     ensures { IsAnswer (binder_agrees (environment_in c.now) (binder_of b.now) (plain_bound field.now)) nothing result }
 {
     let written = written_bound(alloc, c, b)?;
-    if kind_agrees(b.kind, field) && bound_agrees(&written, field) {
+    if kind_agrees(&b.kind, field) && bound_agrees(&written, field) {
         return Ok(());
     }
     Err(InferError::Named(Code::Y16, b.span))
@@ -159,7 +170,7 @@ pub fn open_giving(
     let mut bounds = Vec::new(alloc);
     for b in bs {
         let written = written_bound(alloc, &*c, b)?;
-        let bound = own_bound(b.kind, written);
+        let bound = own_bound(alloc, &b.kind, written)?;
         bounds.push(bound.copy(alloc)?)?;
         c.push(Entry {
             name: b.id.name,

@@ -12,7 +12,7 @@ use thiserror::Error;
 /// Why the typing rules refuse a phrase.
 #[derive(Debug, Drop, Error)]
 pub enum InferError {
-    /// The first line of the rules that is false, by its code and at its place: K1 to K4 and Y1 to Y16.
+    /// The first line of the rules that is false, by its code and at its place: K1 to K5 and Y1 to Y16.
     #[error("{0:?} at {1:?}")]
     Named(Code, Span),
     /// Want of memory.

@@ -13,8 +13,6 @@ mod number;
 mod quoted;
 mod reading;
 mod scan;
-#[cfg(test)]
-mod tests;
 mod word;
 
 pub use error::LexError;

@@ -10,6 +10,3 @@ pub use counter::count_run;
 pub use rings::{Ring, rings_of};
 pub use summary::{Line, SummaryError, Tally, write_summary};
 pub use text::load_text;
-
-#[cfg(test)]
-mod tests;

@@ -7,7 +7,5 @@ mod lowering;
 mod patterns;
 mod places;
 mod sums;
-#[cfg(test)]
-mod tests;
 
 pub use lowering::lower;

@@ -1,6 +1,7 @@
 -- The rows of the table of steps cost at most what the sizes of their instructions allow.
 use Rattle.std.proofs.Common.{ℕ, zero, suc, ◌+◌, ◌*◌, ◌≤◌, ◌≡◌, Bool, true, false, cond, nat_lt, List, ◌∷◌, length, max, refl, ap, ◌∙◌, arith, Some, option_map, unwrap_or}
 use Rattle.std.specs.List.{slice_get}
+use Rattle.pict_syntax.specs.declared.limits.TheConstants.{NARROW_LIMIT}
 use Rattle.pict_syntax.specs.declared.span.Span.{Span}
 use Rattle.pict_core.specs.Term as term
 use Rattle.pict_core.specs.Term.{Val, Chan, Process}
@@ -24,7 +25,7 @@ width_by false n = omega arith
 
 -- a block is at most as wide as four words and two for each level
 width_most : (frame : List ℕ) → block_width frame ≤ 4 + 2 * length frame
-width_most frame = width_by (nat_lt 32000 (length frame)) (length frame)
+width_most frame = width_by (nat_lt NARROW_LIMIT (length frame)) (length frame)
 
 module _ (nodes : List Node) where
   frame_is : (number : ℕ) (frame : List ℕ) → HasFrame nodes number frame → frame_size nodes number ≡ length frame

@@ -9,7 +9,6 @@ use Rattle.pict_code.specs.Instruction.{CodePat, Node}
 use Rattle.pict_code.specs.Nodes.{Place, places, nodes_from, nodes_of, input_op, leveled, leveled_all, leveled_labelled}
 use Rattle.pict_code.specs.Plain.{plain_pat, plain_pat_field, pats_of, labelled_pats_of}
 use Rattle.pict_code.specs.declared.pattern.CodePat as code
-use Rattle.pict_code.specs.declared.instruction.Node as machine
 use Rattle.pict_blocks.specs.Binding.{levels_of, levels_of_all, levels_of_labelled}
 use Rattle.pict_operands.proofs.Fitting.{pats_from, labelled_from}
 use Rattle.pict_machine.specs.Levels.{past, bound_by, levels_in}

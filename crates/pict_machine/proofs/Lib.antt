@@ -16,3 +16,4 @@ pub mod Plainly
 pub mod Steps
 pub mod Running
 pub mod Going
+pub mod Bounding

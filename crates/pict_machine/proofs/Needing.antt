@@ -97,7 +97,7 @@ module _ (nodes : List Node) (old new : QueuesState) (same : (c : ℕ) → conte
 
 -- ---- the whole step
 
-many_append : (width : ℕ) (xs ys : List ℕ) → how_many width (xs ++ ys) ≡ how_many width xs + how_many width ys
+pub many_append : (width : ℕ) (xs ys : List ℕ) → how_many width (xs ++ ys) ≡ how_many width xs + how_many width ys
 many_append width [] ys = omega arith
 many_append width (x ∷ xs) ys = let e = many_append width xs ys in omega (arith, e)
 

@@ -3,6 +3,7 @@ use Rattle.std.proofs.Common.{ℕ, zero, suc, ◌+◌, ◌-◌, ◌≤◌, ◌�
 use Rattle.std.proofs.lemmas.Bool.Decides.{nat_tests}
 use Rattle.std.specs.List.{slice_get}
 use Rattle.std.specs.declared.alloc.AllocError.{AllocError}
+use Rattle.pict_syntax.specs.declared.limits.TheConstants.{NARROW_LIMIT}
 use Rattle.pict_syntax.specs.declared.primitive.Primitive.{Primitive}
 use Rattle.pict_syntax.specs.declared.span.Span.{Span}
 use Rattle.pict_core.specs.Term as term
@@ -308,10 +309,10 @@ module _ (code : List written.Node) (is : IsCode (map plain_node code)) (s : Sto
       -- room for the part is made without memory
       pub sends_kept : {P : Type 0} (mid : Store) (frame : List ℕ) (reuses : Bool) → frame ≡ x.room.frame
           → (EndsAsWide (map plain_node code) reader frame → IsTrue reuses) → OnlyReserves s mid → MakesOnly s.queues mid.queues (block_width frame ∷ [])
-          → (IsTrue reuses → length frame ≤ 32000 → P) → (length frame ≤ 32000 → 1 ≤ spare s.queues.region (block_width frame) → P)
-          → (IsTrue reuses → length frame ≤ 32000 → KeepsBlocks s.queues.region mid.queues.region) → P × KeepsBlocks s.queues.region mid.queues.region
+          → (IsTrue reuses → length frame ≤ NARROW_LIMIT → P) → (length frame ≤ NARROW_LIMIT → 1 ≤ spare s.queues.region (block_width frame) → P)
+          → (IsTrue reuses → length frame ≤ NARROW_LIMIT → KeepsBlocks s.queues.region mid.queues.region) → P × KeepsBlocks s.queues.region mid.queues.region
       sends_kept mid frame reuses same tells r makes plain enough keeps =
-          let narrow : length frame ≤ 32000 = subst (λ (f : List ℕ). length f ≤ 32000) (sym same) x.room.narrow in
+          let narrow : length frame ≤ NARROW_LIMIT = subst (λ (f : List ℕ). length f ≤ NARROW_LIMIT) (sym same) x.room.narrow in
           room_plain s mid (block_width frame) reuses r makes (λ reused. plain reused narrow) (enough narrow) (λ reused. keeps reused narrow)
           (⊎_elim (λ one. inl one) (λ fits. inr (tells fits)) (sends_room frame same))
 
@@ -330,7 +331,7 @@ message_length core s acting store x =
     ap length words
 
 -- a message's block is never as wide as that of a frame
-even_width : (frame : List ℕ) → length frame ≤ 32000 → 9 ≡ block_width frame → ⊥
+even_width : (frame : List ℕ) → length frame ≤ NARROW_LIMIT → 9 ≡ block_width frame → ⊥
 even_width frame narrow e = let w = width_narrow frame narrow in omega (arith, w, e)
 
 -- a block of the part's width is free, also that of who has the turn
@@ -345,8 +346,8 @@ module _ (core : Process) (s : Store) (own_room : 1 ≤ spare s.queues.region (l
       cases (inr (inr e)) = absurd (even_width x.room.frame x.room.narrow (omega (arith, message, e)))
 
   pub receives_kept : {P : Type 0} (mid : Store) (frame : List ℕ) → frame ≡ x.room.frame → OnlyReserves s mid → MakesOnly s.queues mid.queues (block_width frame ∷ [])
-      → (length frame ≤ 32000 → 1 ≤ spare s.queues.region (block_width frame) → P) → P × KeepsBlocks s.queues.region mid.queues.region
+      → (length frame ≤ NARROW_LIMIT → 1 ≤ spare s.queues.region (block_width frame) → P) → P × KeepsBlocks s.queues.region mid.queues.region
   receives_kept mid frame same r makes enough =
-      let narrow : length frame ≤ 32000 = subst (λ (f : List ℕ). length f ≤ 32000) (sym same) x.room.narrow in
+      let narrow : length frame ≤ NARROW_LIMIT = subst (λ (f : List ℕ). length f ≤ NARROW_LIMIT) (sym same) x.room.narrow in
       let one : 1 ≤ spare s.queues.region (block_width frame) = subst (λ (f : List ℕ). 1 ≤ spare s.queues.region (block_width f)) (sym same) receives_room in
       (enough narrow one, none_made s mid (block_width frame) r makes one)

@@ -28,6 +28,7 @@ broke_before n fuel C v v' f T before after few same s = record {
   last = s.last;
   labels = s.labels;
   reached = s.reached;
+  is = s.is;
   stands = subst (λ w. StandsFor w s.last) (sym same) s.stands;
   seen = saw_all f T before after s.labels s.seen;
 }

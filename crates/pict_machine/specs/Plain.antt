@@ -2,6 +2,7 @@
 use Rattle.std.specs.Prelude.{◌≡◌, ◌≤◌, ◌+◌, ◌⊎◌, ℕ, zero, suc, false, List, [], ◌∷◌, length, slice_get}
 use Rattle.std.specs.Prelude.{Option, Some, None, option_map, Result, IsOk}
 use Rattle.std.specs.declared.alloc.AllocError.{AllocError}
+use Rattle.pict_syntax.specs.declared.limits.TheConstants.{NARROW_LIMIT}
 use Rattle.pict_syntax.specs.declared.span.Span.{Span}
 use Rattle.pict_core.specs.Term as term
 use Rattle.pict_core.specs.Term.{Process, Val, Pat, Chan}
@@ -46,7 +47,7 @@ HasWord nodes (suc number ∷ held) = NeedsNoWord nodes (suc number ∷ held)
 pub record HasPlainRoom (core : Process) (s : Store) (part : ℕ) (acting waiting : List ℕ) : Type 0 where
   pub frame : List ℕ
   pub has : HasFrame (nodes_of core) part frame
-  pub narrow : length frame ≤ 32000
+  pub narrow : length frame ≤ NARROW_LIMIT
   pub room : 1 ≤ spare s.queues.region (block_width frame)
       ⊎ length acting + 1 ≡ block_width frame ⊎ length waiting + 1 ≡ block_width frame
 

@@ -1,5 +1,6 @@
 // The steps of inputs.
 ghost use Rattle.std.specs.Prelude.{◌≡◌, ◌≤◌, ◌+◌, ◌∷◌, [], ℕ, List, map, length, false, IsTrue, IsOk, OnOk};
+ghost use Rattle.pict_syntax.specs.declared.limits.TheConstants.{NARROW_LIMIT};
 ghost use Rattle.pict_core.specs.Plain.{plain_val};
 ghost use Rattle.pict_code.specs.Nodes.{input_op};
 ghost use Rattle.pict_code.specs.Plain.{plain_pat, plain_node};
@@ -52,7 +53,7 @@ fn reserve_part_of_input(
 ) -> Result<(), AllocError>
     ensures can { OnOk result (CanHold store.new frame.now) }
     ensures beside { IsTrue replicated → OnOk result (CanHoldBeside store.new width frame.now) }
-    ensures plain { replicated ≡ false → length frame.now ≤ 32000 → 1 ≤ spare store.old.queues.region (block_width frame.now) → IsOk result }
+    ensures plain { replicated ≡ false → length frame.now ≤ NARROW_LIMIT → 1 ≤ spare store.old.queues.region (block_width frame.now) → IsOk result }
     ensures most { MakesOnly store.old.queues store.new.queues (width ∷ block_width frame.now ∷ []) }
     ensures one { replicated ≡ false → MakesOnly store.old.queues store.new.queues (block_width frame.now ∷ []) }
     ensures rest { OnlyReserves store.old store.new }

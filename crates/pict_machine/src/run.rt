@@ -1,15 +1,17 @@
 // Runs of the machine, and who watches them.
-ghost use Rattle.std.specs.Prelude.{◌≡◌, ◌≢◌, ◌≤◌, ◌<◌, ◌+◌, ◌^◌, ◌↔◌, ◌∷◌, [], ℕ, List, Option, IsTrue, IfOk, OnOk, OnErr, Err};
+ghost use Rattle.std.specs.Prelude.{◌≡◌, ◌≢◌, ◌≤◌, ◌<◌, ◌+◌, ◌*◌, ◌^◌, ◌↔◌, ◌∷◌, [], ℕ, List, Option, IsTrue, IfOk, OnOk, OnErr, Err};
 ghost use Rattle.pict_outside.specs.Counts.{Rose};
 ghost use Rattle.pict_core.specs.Configuration.{Configuration, IsConfiguration};
 ghost use Rattle.pict_core.specs.Step.{Label};
 ghost use Rattle.pict_core.specs.Run.{shown};
 ghost use Rattle.pict_heap.specs.HeapState.{KeepsWords};
+ghost use Rattle.pict_queue.specs.QueuesState.{CostsAtMost};
 ghost use Rattle.pict_view.specs.View.{StandsFor};
 ghost use Rattle.pict_view.specs.Right.{IsRightFor};
 ghost use Rattle.pict_view.specs.Watching.{WhereTold, Saw, SawOrTore, Ran, RanFor, BrokeOff};
 ghost use Rattle.pict_machine.specs.Events.{label_of, end_of, IsEventOf, IsShown, PassesCommunications};
-ghost use Rattle.pict_machine.specs.Machine.{IsMachine, IsRunning, running_view, view_of, heap_of, channels_of};
+ghost use Rattle.pict_machine.specs.Bounds.{greatest_cost_of, MakesFew, SpendsAtMost};
+ghost use Rattle.pict_machine.specs.Machine.{IsMachine, IsRunning, core_in, running_view, view_of, heap_of, queues_of, channels_of};
 ghost use Rattle.pict_machine.specs.Going.{StopsAs};
 
 use crate::event::{End, Event, RunError, Stopped};
@@ -102,6 +104,10 @@ impl Machine {
     /// watcher's view is as if it had seen exactly their labels, or is one that `torn` allows for the last of them. `Sink` comes
     /// only where the watcher's count of faults rose.
     ///
+    /// Whatever the answer and whatever waits, the work of the queues rises by at most `fuel + 1` times the greatest cost of a step
+    /// of the code. There are at most `3 * fuel` blocks more, of all widths together, and none more of a width that no node of the
+    /// code and no output of kept values has.
+    ///
     /// No step within the fuel may be wrong: so it is in the run of some configuration that the machine stands for.
     pub fn run_counted<W: Watcher>(
         &mut self,
@@ -118,6 +124,8 @@ impl Machine {
         ensures broken { OnErr result ((C : Configuration) → IsConfiguration C → StandsFor (view_of self.old) C
             → BrokeOff C fuel (StandsFor (view_of self.new)) (SawOrTore (W.next watcher.old) (W.torn watcher.old) (W.view watcher.old) (W.view watcher.new))) }
         ensures sink { result ≡ Err RunError.Sink → Rose (W.faults watcher.old) (W.faults watcher.new) }
+        ensures work { CostsAtMost ((fuel + 1) * greatest_cost_of self.old) (queues_of self.old) (queues_of self.new) }
+        ensures blocks { MakesFew (core_in self.old) fuel (queues_of self.old) (queues_of self.new) }
         ensures channels { channels_of self.new ≤ channels_of self.old + fuel }
         ensures keeps { KeepsWords (heap_of self.old) (heap_of self.new) }
         ensures faults_stay { W.faults watcher.old ≤ W.faults watcher.new }
@@ -143,6 +151,7 @@ impl Machine {
             → BrokeOff C fuel (StandsFor (running_view self.new))
             (SawOrTore (W.next watcher.old) (W.torn watcher.old) (W.view watcher.old) (W.view watcher.new))) }
         ensures sink { result ≡ Err RunError.Sink → Rose (W.faults watcher.old) (W.faults watcher.new) }
+        ensures spends { SpendsAtMost fuel self.old self.new }
         ensures channels { channels_of self.new ≤ channels_of self.old + fuel }
         ensures keeps { KeepsWords (heap_of self.old) (heap_of self.new) }
         ensures faults_stay { W.faults watcher.old ≤ W.faults watcher.new }
@@ -193,7 +202,9 @@ impl Machine {
 
     /// The same run, of which the answer is the end alone.
     ///
-    /// Errors, and what the machine and the watcher are afterwards, are as `run_counted` says.
+    /// Errors, and what the machine and the watcher are afterwards, are as `run_counted` says. Whatever the answer, the work of the
+    /// queues rises by at most `fuel + 1` times the greatest cost of a step of the code, and there are at most `3 * fuel` blocks
+    /// more, of all widths together.
     pub fn run<W: Watcher>(&mut self, fuel: u64, watcher: &mut W) -> Result<End, RunError>
         requires kept { IsMachine self.old }
         requires fuel { fuel ≤ FUEL_LIMIT }
@@ -205,6 +216,8 @@ impl Machine {
         ensures broken { OnErr result ((C : Configuration) → IsConfiguration C → StandsFor (view_of self.old) C
             → BrokeOff C fuel (StandsFor (view_of self.new)) (SawOrTore (W.next watcher.old) (W.torn watcher.old) (W.view watcher.old) (W.view watcher.new))) }
         ensures sink { result ≡ Err RunError.Sink → Rose (W.faults watcher.old) (W.faults watcher.new) }
+        ensures work { CostsAtMost ((fuel + 1) * greatest_cost_of self.old) (queues_of self.old) (queues_of self.new) }
+        ensures blocks { MakesFew (core_in self.old) fuel (queues_of self.old) (queues_of self.new) }
         ensures channels { channels_of self.new ≤ channels_of self.old + fuel }
         ensures keeps { KeepsWords (heap_of self.old) (heap_of self.new) }
         ensures faults_stay { W.faults watcher.old ≤ W.faults watcher.new }

@@ -16,6 +16,7 @@ ghost use Rattle.pict_machine.specs.Packed.{label_packed, trap_packed, IsPackedO
 ghost use Rattle.pict_machine.specs.Machine.{IsMachine, IsRunning, IsUnchanged, MeetsPlainly};
 ghost use Rattle.pict_machine.specs.Machine.{RunsPlainly, running_view, running_cost, running_widths};
 ghost use Rattle.pict_machine.specs.Machine.{view_of, heap_of, queues_of, channels_of, cost_of, widths_of};
+ghost use Rattle.pict_machine.specs.Bounds.{greatest_cost_of, SpendsAtMost};
 ghost use Rattle.pict_machine.specs.Going.{GoesOn, IsPassed};
 ghost use Rattle.pict_machine.specs.Stepping.{GivesTurn};
 
@@ -69,9 +70,11 @@ impl Machine {
     /// only error is want of memory. After a trap or an error nothing has changed but room, spare blocks, work, and the values
     /// of levels, which count for nothing between two calls, so the step can be tried again.
     ///
-    /// Blocks are made only where fewer are free than the step needs. Where a message and an input that isn't replicated meet,
-    /// what is sent is no operand that is a text or a record with a variable, and the block of the input's part is as wide as a
-    /// free one or one of the two that meet, no memory is taken.
+    /// Whatever the answer, the work of the queues rises by at most 64 times the sizes of the acting instruction and of its
+    /// partner's, however many processes wait. Blocks are made only where fewer are free than the step needs, and then only as
+    /// many as are wanting. Where a message and an input that isn't replicated meet, what is sent is no operand that is a text or
+    /// a record with a variable, and the block of the input's part is as wide as a free one or one of the two that meet, no memory
+    /// is taken.
     ///
     /// The step may not be wrong: some configuration that the machine stands for takes it rightly. A wrong step is one that
     /// sends to or receives from what is no channel, tests what is no Bool, gives a primitive what it doesn't take, or
@@ -155,6 +158,7 @@ impl Machine {
         ensures plain { RunsPlainly self.old
             → IsOk result × KeepsBlocks (queues_of self.old).region (queues_of self.new).region }
         ensures channels { channels_of self.new ≤ channels_of self.old + 1 }
+        ensures code { self.new.code ≡ self.old.code }
     {
         ensure_turn(&mut self.store, &self.code.nodes);
         act(&self.code.nodes, &self.constants, &mut self.store)
@@ -174,6 +178,8 @@ impl Machine {
         ensures keeps { KeepsWords (heap_of self.old) (heap_of self.new) }
         ensures channels { channels_of self.new ≤ channels_of self.old + most }
         ensures made { channels_of self.new ≤ channels_of self.old + result.passed + 1 }
+        ensures spends { SpendsAtMost most self.old self.new }
+        ensures spends_passed { SpendsAtMost (result.passed + 1) self.old self.new }
     {
         for step in 0..most {
             if !self.has_next() {
@@ -211,6 +217,8 @@ impl Machine {
         ensures kept { IsMachine self.new }
         ensures view { view_of self.new ≡ running_view self.old }
         ensures heap { heap_of self.new ≡ heap_of self.old }
+        ensures work { CostsAtMost (greatest_cost_of self.old) (queues_of self.old) (queues_of self.new) }
+        ensures blocks { KeepsBlocks (queues_of self.old).region (queues_of self.new).region }
         ensures channels { channels_of self.new ≡ channels_of self.old }
     {
         return_turn(&mut self.store, &self.code.nodes);

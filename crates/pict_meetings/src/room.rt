@@ -8,7 +8,8 @@ ghost use Rattle.pict_turns.specs.Widths.{MakesOnly};
 ghost use Rattle.pict_meetings.specs.Room.{as_wide, CanHoldAfterAnd, CanHoldBeside};
 
 use pict_prim::{NO_NEED, Need};
-use pict_turns::{NARROW, Store, block_width, reserve_part, reserve_room};
+use pict_syntax::NARROW_LIMIT;
+use pict_turns::{Store, block_width, reserve_part, reserve_room};
 use std::alloc::AllocError;
 
 /// Makes room for the block of a frame, once blocks that end are given back, and in the heap and on the piles for so much more:
@@ -23,14 +24,14 @@ pub fn reserve_served(
 ) -> Result<(), AllocError>
     ensures ok { OnOk result ((given : List (List ℕ)) → (IsTrue reuses → 1 ≤ as_wide (block_width frame.now) given)
         → CanHoldAfterAnd store.new given frame.now further) }
-    ensures plain { IsTrue reuses → length frame.now ≤ 32000 → further ≡ no_need → IsOk result }
-    ensures same { IsTrue reuses → length frame.now ≤ 32000 → further ≡ no_need → store.new ≡ store.old }
-    ensures enough { length frame.now ≤ 32000 → further ≡ no_need → 1 ≤ spare store.old.queues.region (block_width frame.now) → IsOk result }
-    ensures blocks { IsTrue reuses → length frame.now ≤ 32000 → KeepsBlocks store.old.queues.region store.new.queues.region }
+    ensures plain { IsTrue reuses → length frame.now ≤ NARROW_LIMIT → further ≡ no_need → IsOk result }
+    ensures same { IsTrue reuses → length frame.now ≤ NARROW_LIMIT → further ≡ no_need → store.new ≡ store.old }
+    ensures enough { length frame.now ≤ NARROW_LIMIT → further ≡ no_need → 1 ≤ spare store.old.queues.region (block_width frame.now) → IsOk result }
+    ensures blocks { IsTrue reuses → length frame.now ≤ NARROW_LIMIT → KeepsBlocks store.old.queues.region store.new.queues.region }
     ensures most { MakesOnly store.old.queues store.new.queues (block_width frame.now ∷ []) }
     ensures rest { OnlyReserves store.old store.new }
 {
-    if reuses && frame.len() <= NARROW {
+    if reuses && frame.len() <= NARROW_LIMIT as usize {
         reserve_room(store, further)
     } else {
         reserve_part(store, frame, further)

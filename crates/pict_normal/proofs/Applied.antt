@@ -1,5 +1,6 @@
 -- The body of an operator with its arguments measures what it does with their measures, and is the same where arguments
 -- that are too high are left out.
+use Rattle.pict_syntax.specs.declared.limits.TheConstants.{HEIGHT_LIMIT, WEIGHT_LIMIT}
 use Rattle.std.proofs.Common.{◌≡◌, ℕ, zero, suc, ◌+◌, ◌≤◌, List, [], ◌∷◌, ◌++◌, length, reverse, Bool, refl, sym, ◌∙◌, ap, subst, arith, append_assoc}
 use Rattle.std.specs.Prelude.{if◌then◌else◌}
 use Rattle.std.proofs.lemmas.Bool.{le-ltb}
@@ -168,13 +169,13 @@ body_rises hs vs by us t h =
     ∙ ap held (sym all)
 
 -- an argument that is not too high is not left out
-built_within : (hs : List ℕ) (u : PlainType) → rise hs u ≤ 1000 → u ≡ built_as hs u
-built_within hs u q = sym (ap (λ x. if x then Top else u) (le-ltb 1000 (rise hs u) q))
+built_within : (hs : List ℕ) (u : PlainType) → rise hs u ≤ HEIGHT_LIMIT → u ≡ built_as hs u
+built_within hs u q = sym (ap (λ x. if x then Top else u) (le-ltb HEIGHT_LIMIT (rise hs u) q))
 
-within_with : {ws hs : List ℕ} {s r : Filling} (u : PlainType) → SameWithin 100000 1000 ws hs s r → SameWithin 100000 1000 ws hs (with_type u s) (with_type (built_as hs u) r)
+within_with : {ws hs : List ℕ} {s r : Filling} (u : PlainType) → SameWithin WEIGHT_LIMIT HEIGHT_LIMIT ws hs s r → SameWithin WEIGHT_LIMIT HEIGHT_LIMIT ws hs (with_type u s) (with_type (built_as hs u) r)
 within_with {ws = ws} {hs = hs} {s = s} {r = r} u h = record { types_ = go; heads_ = go2 }
   where
-    go : (i : ℕ) → weigh ws ((with_type u s).type_for i) ≤ 100000 → rise hs ((with_type u s).type_for i) ≤ 1000 → (with_type u s).type_for i ≡ (with_type (built_as hs u) r).type_for i
+    go : (i : ℕ) → weigh ws ((with_type u s).type_for i) ≤ WEIGHT_LIMIT → rise hs ((with_type u s).type_for i) ≤ HEIGHT_LIMIT → (with_type u s).type_for i ≡ (with_type (built_as hs u) r).type_for i
     go zero p q = built_within hs u q
     go (suc i) p q = h.types_ i p q
 
@@ -182,12 +183,12 @@ within_with {ws = ws} {hs = hs} {s = s} {r = r} u h = record { types_ = go; head
     go2 zero = refl
     go2 (suc i) = h.heads_ i
 
-within_args : (ws hs : List ℕ) (us : PlainTypes) {s r : Filling} → SameWithin 100000 1000 ws hs s r → SameWithin 100000 1000 ws hs (with_types (count_types us) us s) (with_types (count_types us) (built_of hs us) r)
+within_args : (ws hs : List ℕ) (us : PlainTypes) {s r : Filling} → SameWithin WEIGHT_LIMIT HEIGHT_LIMIT ws hs s r → SameWithin WEIGHT_LIMIT HEIGHT_LIMIT ws hs (with_types (count_types us) us s) (with_types (count_types us) (built_of hs us) r)
 within_args ws hs no_type h = h
 within_args ws hs (types u us) h = within_args ws hs us (within_with u h)
 
-pub body_built : (ws hs : List ℕ) (by : ℕ) (us : PlainTypes) (t : PlainType) → weigh ws (fill (put_for us by) t) ≤ 100000 → rise hs (fill (put_for us by) t) ≤ 1000 → fill (put_for us by) t ≡ fill (put_for (built_of hs us) by) t
+pub body_built : (ws hs : List ℕ) (by : ℕ) (us : PlainTypes) (t : PlainType) → weigh ws (fill (put_for us by) t) ≤ WEIGHT_LIMIT → rise hs (fill (put_for us by) t) ≤ HEIGHT_LIMIT → fill (put_for us by) t ≡ fill (put_for (built_of hs us) by) t
 body_built ws hs by us t p q =
-    let base : SameWithin 100000 1000 ws hs (moved_by by) (moved_by by) = record { types_ = λ i x y. refl; heads_ = λ i. refl } in
+    let base : SameWithin WEIGHT_LIMIT HEIGHT_LIMIT ws hs (moved_by by) (moved_by by) = record { types_ = λ i x y. refl; heads_ = λ i. refl } in
     fill_within (within_args ws hs us base) t p q
     ∙ ap (λ k. fill (with_types k (built_of hs us) (moved_by by)) t) (sym (count_built hs us))

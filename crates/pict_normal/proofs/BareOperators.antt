@@ -1,5 +1,5 @@
 -- Operators by their bare names: what they mean, and that their bodies are well formed.
-use Rattle.std.proofs.Common.{◌≡◌, ℕ, zero, suc, ◌+◌, ◌-◌, ◌≤◌, ◌<◌, List, [], ◌∷◌, ◌++◌, Option, Some, None, refl, sym, ◌∙◌, ap, ap₂, subst, arith}
+use Rattle.std.proofs.Common.{◌≡◌, ℕ, zero, suc, ◌+◌, ◌-◌, ◌≤◌, ◌<◌, List, [], ◌∷◌, ◌++◌, length, Option, Some, None, refl, sym, ◌∙◌, ap, ap₂, subst, arith}
 use Rattle.pict_types.specs.declared.types.Ty.{Ty}
 use Rattle.pict_types.specs.declared.types.Ty.TheVariants.{Var as Var_}
 use Rattle.pict_types.specs.Types.{PlainType, Var, PlainTypes, no_type, types, count_types, Free, Below, Operator, Plain, Op}
@@ -63,7 +63,7 @@ entry_kind (e ∷ c) zero n h = go e.what h
     go : (w : PlainWhat) → arity w ≡ Some n → Some (kind_of_what w) ≡ Some (operator_of n)
     go (Variable Free) k = absurd (cc)
     go (Variable (Below t)) k = absurd (cc)
-    go (Variable (Operator m)) k = let e : m ≡ n = cc in ap (λ x. Some (operator_of x)) e
+    go (Variable (Operator ms)) k = let e : length ms ≡ n = cc in ap (λ x. Some (operator_of x)) e
     go (Definition (Plain t)) k = absurd (cc)
     go (Definition (Op m t)) k = let e : m ≡ n = cc in ap (λ x. Some (operator_of x)) e
 entry_kind (e ∷ c) (suc i) n h = entry_kind c i n h

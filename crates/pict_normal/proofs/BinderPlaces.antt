@@ -9,7 +9,8 @@ use Rattle.pict_types.specs.Replacing.{next_variable}
 use Rattle.pict_types.specs.Entries.{PlainWhat, Variable, Definition, PlainEntry, PlainContext}
 use Rattle.pict_syntax.specs.declared.type_tree.TypeBinder.{TypeBinder as RTypeBinder}
 use Rattle.pict_syntax.specs.Trees.{TypeBinders, no_binders, more_binders}
-use Rattle.pict_syntax.specs.PlainTrees.{binder_of, binders_on}
+use Rattle.std.specs.Option.{option_map}
+use Rattle.pict_syntax.specs.PlainTrees.{kind_of, binder_of, binders_on}
 use Rattle.pict_normal.specs.BinderEntries.{bound_entry, entries_of, entries_under}
 use Rattle.pict_normal.specs.Normal.{Meaning, a_type, an_operator, of_entry, behind_entry, meaning, kind_bound, use_stops}
 use Rattle.pict_binders.specs.Names.{place_of}
@@ -19,30 +20,30 @@ use Rattle.pict_types.proofs.Places.{is_what_at, arity_is}
 
 pub binders_length : (bs : List Binder) → length (entries_of bs) ≡ length bs
 binders_length bs =
-    let m : length (map (λ b. bound_entry b.name.0 b.kind) bs) ≡ length bs = simp length-map refl in
-    length-reverse (map (λ b. bound_entry b.name.0 b.kind) bs) ∙ m
+    let m : length (map (λ b. bound_entry b.name.0 (option_map kind_of b.kind)) bs) ≡ length bs = simp length-map refl in
+    length-reverse (map (λ b. bound_entry b.name.0 (option_map kind_of b.kind)) bs) ∙ m
 
-binder_at : (bs : List Binder) (i : ℕ) (d : Binder) → i < length bs → get_or (entries_of bs) i (bound_entry d.name.0 d.kind) ≡ bound_entry (get_or bs (length bs - 1 - i) d).name.0 (get_or bs (length bs - 1 - i) d).kind
+binder_at : (bs : List Binder) (i : ℕ) (d : Binder) → i < length bs → get_or (entries_of bs) i (bound_entry d.name.0 (option_map kind_of d.kind)) ≡ bound_entry (get_or bs (length bs - 1 - i) d).name.0 (option_map kind_of (get_or bs (length bs - 1 - i) d).kind)
 binder_at bs i d h =
-    let f = λ (b : Binder). bound_entry b.name.0 b.kind in
+    let f = λ (b : Binder). bound_entry b.name.0 (option_map kind_of b.kind) in
     let m : length (map f bs) ≡ length bs = simp length-map refl in
     let k : i < length (map f bs) = omega arith in
     get_or-reverse (map f bs) i (f d) k
     ∙ ap (λ n. get_or (map f bs) (n - 1 - i) (f d)) m
     ∙ get_or-map f bs (length bs - 1 - i) d (f d) (omega arith)
 
-pub binder_arity : (bs : List Binder) (i : ℕ) (d : Binder) → i < length bs → arity_at (entries_of bs) i ≡ arity (Variable (kind_bound (get_or bs (length bs - 1 - i) d).kind Free))
+pub binder_arity : (bs : List Binder) (i : ℕ) (d : Binder) → i < length bs → arity_at (entries_of bs) i ≡ arity (Variable (kind_bound (option_map kind_of (get_or bs (length bs - 1 - i) d).kind) Free))
 binder_arity bs i d h =
-    let is = is_what_at (entries_of bs) i (bound_entry d.name.0 d.kind) (omega (arith, binders_length bs)) in
+    let is = is_what_at (entries_of bs) i (bound_entry d.name.0 (option_map kind_of d.kind)) (omega (arith, binders_length bs)) in
     arity_is (entries_of bs) i _ is ∙ ap (λ e. arity e.what) (binder_at bs i d h)
 
 no_definition_in : (bs : List Binder) (i : ℕ) → i < length bs → IsNoDefinition (entries_of bs) i
 no_definition_in bs i h a k =
     let d : Binder = record { name = record { 0 = 0 }; kind = None } in
-    let is = is_what_at (entries_of bs) i (bound_entry d.name.0 d.kind) (omega (arith, binders_length bs)) in
+    let is = is_what_at (entries_of bs) i (bound_entry d.name.0 (option_map kind_of d.kind)) (omega (arith, binders_length bs)) in
     let e : arity_at (entries_of bs) i ≡ arity (Definition a) = arity_is (entries_of bs) i (Definition a) k in
     let v = ap (λ e. e.what) (binder_at bs i d h) in
-    let w : Variable (kind_bound (get_or bs (length bs - 1 - i) d).kind Free) ≡ Definition a = sym v ∙ same_what (entries_of bs) i _ _ is k in
+    let w : Variable (kind_bound (option_map kind_of (get_or bs (length bs - 1 - i) d).kind) Free) ≡ Definition a = sym v ∙ same_what (entries_of bs) i _ _ is k in
     absurd (cc)
   where
     same_what : (c : PlainContext) (i : ℕ) (v w : PlainWhat) → IsWhatAt c i v → IsWhatAt c i w → v ≡ w
@@ -144,7 +145,7 @@ kind_there c (Some i) = Some (arity_at c i)
 kind_first : (w : PlainWhat) → kind_meant (Some (of_entry w)) ≡ Some (arity w)
 kind_first (Variable Free) = refl
 kind_first (Variable (Below t)) = refl
-kind_first (Variable (Operator n)) = refl
+kind_first (Variable (Operator marks)) = refl
 kind_first (Definition (Plain t)) = refl
 kind_first (Definition (Op n t)) = refl
 

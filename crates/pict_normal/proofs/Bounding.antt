@@ -1,4 +1,5 @@
 -- The type fields of a record that were made so far.
+use Rattle.pict_syntax.specs.declared.limits.TheConstants.{HEIGHT_LIMIT, WEIGHT_LIMIT}
 use Rattle.std.proofs.Common.{◌≡◌, ℕ, ◌+◌, ◌≤◌, ◌<◌, max, List, [], ◌∷◌, ◌++◌, length, get_or, take, drop, Option, Some, None, IfSome, IfNone, refl, sym, ◌∙◌, ap, subst, arith}
 use Rattle.std.proofs.lemmas.List.{take-append-le}
 use Rattle.pict_normal.specs.declared.made.MadeBound.{MadeBound}
@@ -29,7 +30,7 @@ pub record MadeSoFar (s r : Replacement) (vs ws us hs : List ℕ) (all rest : Pl
 alike_trans : {us vs ws : List ℕ} → HeldAlike us vs → HeldAlike vs ws → HeldAlike us ws
 alike_trans h k = record { each = λ i. record { same = (h.each i).same ∙ (k.each i).same } }
 
-made_more : {s r : Replacement} {vs ws us hs : List ℕ} {all : PlainBounds} {row : Row Bound} (b : PlainBound) (rest : PlainBounds) (m : MadeBound) (next : Row Bound) → MadeSoFar s r vs ws us hs all (bounds b rest) row → IsMadeBound ws hs m (replace_bound r b) → next.measures.weight ≡ row.measures.weight + m.measures.weight → next.measures.weight ≤ 100000 → next.measures.height ≡ max row.measures.height m.measures.height → IfSome next.items (λ v. IsGrown row.items m.bound v.items) → (IfNone row.items (1000 < row.measures.height) → IfNone m.bound (1000 < m.measures.height) → IfNone next.items (1000 < next.measures.height)) → MadeSoFar s (replacement_beyond r) vs (m.measures.weight ∷ ws) us (m.measures.height ∷ hs) all rest next
+made_more : {s r : Replacement} {vs ws us hs : List ℕ} {all : PlainBounds} {row : Row Bound} (b : PlainBound) (rest : PlainBounds) (m : MadeBound) (next : Row Bound) → MadeSoFar s r vs ws us hs all (bounds b rest) row → IsMadeBound ws hs m (replace_bound r b) → next.measures.weight ≡ row.measures.weight + m.measures.weight → next.measures.weight ≤ WEIGHT_LIMIT → next.measures.height ≡ max row.measures.height m.measures.height → IfSome next.items (λ v. IsGrown row.items m.bound v.items) → (IfNone row.items (HEIGHT_LIMIT < row.measures.height) → IfNone m.bound (HEIGHT_LIMIT < m.measures.height) → IfNone next.items (HEIGHT_LIMIT < next.measures.height)) → MadeSoFar s (replacement_beyond r) vs (m.measures.weight ∷ ws) us (m.measures.height ∷ hs) all rest next
 made_more {s = s} {r = r} {vs = vs} {ws = ws} {us = us} {hs = hs} {all = all} b rest m next x h g light k l n =
     let d = replace_bound r b in
     let ds = replace_bounds (replacement_beyond r) rest in
@@ -56,7 +57,7 @@ pub record BoundsSoFar (p : Puts) (outer inner : List Measures) (all rest : Plai
   pub count : length inner + count_bounds rest ≡ length outer + count_bounds all
 
 -- one more type field
-pub bounds_more : {p : Puts} {outer inner : List Measures} {all : PlainBounds} {row : Row Bound} (b : PlainBound) (rest : PlainBounds) (m : MadeBound) (next : Row Bound) → BoundsSoFar p outer inner all (bounds b rest) row → IsMadeBound (weights_in p inner) (heights_in p inner) m (replace_bound (replacement_in p inner) b) → next.measures.weight ≡ row.measures.weight + m.measures.weight → next.measures.weight ≤ 100000 → next.measures.height ≡ max row.measures.height m.measures.height → IfSome next.items (λ v. IsGrown row.items m.bound v.items) → (IfNone row.items (1000 < row.measures.height) → IfNone m.bound (1000 < m.measures.height) → IfNone next.items (1000 < next.measures.height)) → BoundsSoFar p outer (inner ++ m.measures ∷ []) all rest next
+pub bounds_more : {p : Puts} {outer inner : List Measures} {all : PlainBounds} {row : Row Bound} (b : PlainBound) (rest : PlainBounds) (m : MadeBound) (next : Row Bound) → BoundsSoFar p outer inner all (bounds b rest) row → IsMadeBound (weights_in p inner) (heights_in p inner) m (replace_bound (replacement_in p inner) b) → next.measures.weight ≡ row.measures.weight + m.measures.weight → next.measures.weight ≤ WEIGHT_LIMIT → next.measures.height ≡ max row.measures.height m.measures.height → IfSome next.items (λ v. IsGrown row.items m.bound v.items) → (IfNone row.items (HEIGHT_LIMIT < row.measures.height) → IfNone m.bound (HEIGHT_LIMIT < m.measures.height) → IfNone next.items (HEIGHT_LIMIT < next.measures.height)) → BoundsSoFar p outer (inner ++ m.measures ∷ []) all rest next
 bounds_more {p = p} {outer = outer} {inner = inner} {all = all} b rest m next x h g light k l n =
     let s = replacement_in p outer in
     let vs = weights_in p outer in
@@ -83,7 +84,7 @@ bounds_done x = record {
   heights_ = λ i. (x.made.heights_.each i).same;
 }
 
-pub bounds_step : {p : Puts} {outer inner : List Measures} {all : PlainBounds} {row : Row Bound} (xs : List Bound) (i : ℕ) (x : Bound) (m : MadeBound) (next : Row Bound) (ns : List Measures) → i < length xs → x ≡ get_or xs i x → ns ≡ inner ++ m.measures ∷ [] → BoundsSoFar p outer inner all (plain_bounds (drop i xs)) row → IsMadeBound (weights_in p inner) (heights_in p inner) m (replace_bound (replacement_in p inner) (plain_bound x)) → next.measures.weight ≡ row.measures.weight + m.measures.weight → next.measures.weight ≤ 100000 → next.measures.height ≡ max row.measures.height m.measures.height → IfSome next.items (λ v. IsGrown row.items m.bound v.items) → (IfNone row.items (1000 < row.measures.height) → IfNone m.bound (1000 < m.measures.height) → IfNone next.items (1000 < next.measures.height)) → BoundsSoFar p outer ns all (plain_bounds (drop (i + 1) xs)) next
+pub bounds_step : {p : Puts} {outer inner : List Measures} {all : PlainBounds} {row : Row Bound} (xs : List Bound) (i : ℕ) (x : Bound) (m : MadeBound) (next : Row Bound) (ns : List Measures) → i < length xs → x ≡ get_or xs i x → ns ≡ inner ++ m.measures ∷ [] → BoundsSoFar p outer inner all (plain_bounds (drop i xs)) row → IsMadeBound (weights_in p inner) (heights_in p inner) m (replace_bound (replacement_in p inner) (plain_bound x)) → next.measures.weight ≡ row.measures.weight + m.measures.weight → next.measures.weight ≤ WEIGHT_LIMIT → next.measures.height ≡ max row.measures.height m.measures.height → IfSome next.items (λ v. IsGrown row.items m.bound v.items) → (IfNone row.items (HEIGHT_LIMIT < row.measures.height) → IfNone m.bound (HEIGHT_LIMIT < m.measures.height) → IfNone next.items (HEIGHT_LIMIT < next.measures.height)) → BoundsSoFar p outer ns all (plain_bounds (drop (i + 1) xs)) next
 bounds_step {p = p} {outer = outer} {inner = inner} {all = all} {row = row} xs i x m next ns h e q y k w light l g n =
     subst (λ z. BoundsSoFar p outer z all (plain_bounds (drop (i + 1) xs)) next) (sym q)
     (bounds_more (plain_bound x) (plain_bounds (drop (i + 1) xs)) m next (subst (λ z. BoundsSoFar p outer inner all z row) (bounds_next xs i x h e) y) k w light l g n)

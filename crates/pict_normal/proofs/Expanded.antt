@@ -1,4 +1,5 @@
 -- Normal forms of written types: they are well formed, and within the limits or refused.
+use Rattle.pict_syntax.specs.declared.limits.TheConstants.{HEIGHT_LIMIT, WEIGHT_LIMIT}
 use Rattle.std.proofs.Common.{◌≡◌, ℕ, zero, suc, ◌≤◌, Bool, true, false, nat_lt, List, [], ◌∷◌, length, Option, Some, None, refl, sym, ◌∙◌, ap, subst, arith}
 use Rattle.std.specs.Prelude.{if◌then◌else◌, ◌||◌}
 use borrow.Author.Tests.{ltb-true}
@@ -69,28 +70,28 @@ not_past m n h = go (nat_lt m n) refl
     go false e = refl
     go true e = absurd (omega (arith, ltb-true m n e))
 
-pub size_clear : (c : PlainContext) (t : PlainType) (s : Span) → weight_of (variables c) t ≤ 100000 → height_of (variables c) t ≤ 1000 → size_stop c t s ≡ None
-size_clear c t s w h = go (nat_lt 100000 (weight_of (variables c) t)) (nat_lt 1000 (height_of (variables c) t)) (not_past 100000 (weight_of (variables c) t) w) (not_past 1000 (height_of (variables c) t) h)
+pub size_clear : (c : PlainContext) (t : PlainType) (s : Span) → weight_of (variables c) t ≤ WEIGHT_LIMIT → height_of (variables c) t ≤ HEIGHT_LIMIT → size_stop c t s ≡ None
+size_clear c t s w h = go (nat_lt WEIGHT_LIMIT (weight_of (variables c) t)) (nat_lt HEIGHT_LIMIT (height_of (variables c) t)) (not_past WEIGHT_LIMIT (weight_of (variables c) t) w) (not_past HEIGHT_LIMIT (height_of (variables c) t) h)
   where
     go : (a b : Bool) → a ≡ false → b ≡ false → whole a b s ≡ None
     go true b q r = absurd (cc)
     go false true q r = absurd (cc)
     go false false q r = refl
 
-pub allowed : (ns : List (List ℕ)) (c : PlainContext) (t : TypeTree) → kind_stops ns c t ≡ [] → weight_of (variables c) (normal ns c t) ≤ 100000 → height_of (variables c) (normal ns c t) ≤ 1000 → kind_stop ns c t ≡ None
+pub allowed : (ns : List (List ℕ)) (c : PlainContext) (t : TypeTree) → kind_stops ns c t ≡ [] → weight_of (variables c) (normal ns c t) ≤ WEIGHT_LIMIT → height_of (variables c) (normal ns c t) ≤ HEIGHT_LIMIT → kind_stop ns c t ≡ None
 allowed ns c t k w h =
     ap (λ x. first_stop x (size_stop c (normal ns c t) (type_span t))) k ∙ size_clear c (normal ns c t) (type_span t) w h
 
 -- a measure past its limit
-pub too_big : (c : PlainContext) (t : PlainType) (s : Span) → (weight_of (variables c) t ≤ 100000 → height_of (variables c) t ≤ 1000 → ⊥) → size_stop c t s ≡ Some (K4, s)
-too_big c t s past = go (nat_lt 100000 (weight_of (variables c) t)) (nat_lt 1000 (height_of (variables c) t)) refl refl
+pub too_big : (c : PlainContext) (t : PlainType) (s : Span) → (weight_of (variables c) t ≤ WEIGHT_LIMIT → height_of (variables c) t ≤ HEIGHT_LIMIT → ⊥) → size_stop c t s ≡ Some (K4, s)
+too_big c t s past = go (nat_lt WEIGHT_LIMIT (weight_of (variables c) t)) (nat_lt HEIGHT_LIMIT (height_of (variables c) t)) refl refl
   where
-    go : (a b : Bool) → nat_lt 100000 (weight_of (variables c) t) ≡ a → nat_lt 1000 (height_of (variables c) t) ≡ b → whole a b s ≡ Some (K4, s)
+    go : (a b : Bool) → nat_lt WEIGHT_LIMIT (weight_of (variables c) t) ≡ a → nat_lt HEIGHT_LIMIT (height_of (variables c) t) ≡ b → whole a b s ≡ Some (K4, s)
     go true b q r = refl
     go false true q r = refl
-    go false false q r = absurd (past (ltb-false 100000 (weight_of (variables c) t) q) (ltb-false 1000 (height_of (variables c) t) r))
+    go false false q r = absurd (past (ltb-false WEIGHT_LIMIT (weight_of (variables c) t) q) (ltb-false HEIGHT_LIMIT (height_of (variables c) t) r))
 
-pub refused_whole : (ns : List (List ℕ)) (c : PlainContext) (t : TypeTree) → kind_stops ns c t ≡ [] → (weight_of (variables c) (normal ns c t) ≤ 100000 → height_of (variables c) (normal ns c t) ≤ 1000 → ⊥) → kind_stop ns c t ≡ Some (K4, type_span t)
+pub refused_whole : (ns : List (List ℕ)) (c : PlainContext) (t : TypeTree) → kind_stops ns c t ≡ [] → (weight_of (variables c) (normal ns c t) ≤ WEIGHT_LIMIT → height_of (variables c) (normal ns c t) ≤ HEIGHT_LIMIT → ⊥) → kind_stop ns c t ≡ Some (K4, type_span t)
 refused_whole ns c t k past =
     ap (λ x. first_stop x (size_stop c (normal ns c t) (type_span t))) k ∙ too_big c (normal ns c t) (type_span t) past
 

@@ -1,4 +1,5 @@
 -- What is known of a type, a row and the arguments of an operator that were made.
+use Rattle.pict_syntax.specs.declared.limits.TheConstants.{HEIGHT_LIMIT, WEIGHT_LIMIT}
 use Rattle.std.proofs.Common.{◌≡◌, ℕ, ◌+◌, ◌≤◌, ◌<◌, max, List, [], ◌∷◌, ◌++◌, Option, Some, None, IfSome, IfNone, Result, Ok, Err, IfOk, IfErr, refl, sym, ◌∙◌, ap, subst, arith}
 use Rattle.std.specs.declared.vec.Vec.{Vec}
 use Rattle.std.specs.declared.alloc.Global.{Global}
@@ -45,7 +46,7 @@ grown whole next all (Some v) (Some xs) None g s k = absurd g
 grown whole next all (Some v) (Some xs) (Some x) g s k = ap next g ∙ k xs.items ∙ s
 
 -- one more part
-pub row_step : {T A : Type 0} {whole : List T → A} {r : Row T} {w h all_w all_h : ℕ} {all : A} (next : List T → A) (s : Row T) (m : Measures) (part : Option T) (a b left_w left_h : ℕ) → w ≡ a + left_w → h ≡ max b left_h → IsRow whole r all_w w all_h h all → m.weight ≡ a → m.height ≡ held b → s.measures.weight ≡ r.measures.weight + m.weight → s.measures.weight ≤ 100000 → s.measures.height ≡ max r.measures.height m.height → IfSome s.items (λ v. IsGrown r.items part v.items) → (IfNone r.items (1000 < r.measures.height) → IfNone part (1000 < m.height) → IfNone s.items (1000 < s.measures.height)) → IfNone part (1000 < m.height) → IfSome part (λ x. (xs : List T) → next (xs ++ x ∷ []) ≡ whole xs) → IsRow next s all_w left_w all_h left_h all
+pub row_step : {T A : Type 0} {whole : List T → A} {r : Row T} {w h all_w all_h : ℕ} {all : A} (next : List T → A) (s : Row T) (m : Measures) (part : Option T) (a b left_w left_h : ℕ) → w ≡ a + left_w → h ≡ max b left_h → IsRow whole r all_w w all_h h all → m.weight ≡ a → m.height ≡ held b → s.measures.weight ≡ r.measures.weight + m.weight → s.measures.weight ≤ WEIGHT_LIMIT → s.measures.height ≡ max r.measures.height m.height → IfSome s.items (λ v. IsGrown r.items part v.items) → (IfNone r.items (HEIGHT_LIMIT < r.measures.height) → IfNone part (HEIGHT_LIMIT < m.height) → IfNone s.items (HEIGHT_LIMIT < s.measures.height)) → IfNone part (HEIGHT_LIMIT < m.height) → IfSome part (λ x. (xs : List T) → next (xs ++ x ∷ []) ≡ whole xs) → IsRow next s all_w left_w all_h left_h all
 row_step {whole = whole} {r = r} {all = all} next s m part a b left_w left_h p q x e f g light k l n o y = record {
   weight = omega (arith, p, x.weight, e, g);
   height = omega (arith, q, x.height, f, k);
@@ -56,7 +57,7 @@ row_step {whole = whole} {r = r} {all = all} next s m part a b left_w left_h p q
 }
 
 -- one more type in a row
-pub types_more : {r : Row Ty} {all_w all_h : ℕ} {all : PlainTypes} (ws hs : List ℕ) (u : PlainType) (us : PlainTypes) (m : Made) (s : Row Ty) → IsRow (λ xs. then_types (plain_types xs) (types u us)) r all_w (weigh_types ws (types u us)) all_h (rise_types hs (types u us)) all → IsMade ws hs m u → s.measures.weight ≡ r.measures.weight + m.measures.weight → s.measures.weight ≤ 100000 → s.measures.height ≡ max r.measures.height m.measures.height → IfSome s.items (λ v. IsGrown r.items m.ty v.items) → (IfNone r.items (1000 < r.measures.height) → IfNone m.ty (1000 < m.measures.height) → IfNone s.items (1000 < s.measures.height)) → IsRow (λ xs. then_types (plain_types xs) us) s all_w (weigh_types ws us) all_h (rise_types hs us) all
+pub types_more : {r : Row Ty} {all_w all_h : ℕ} {all : PlainTypes} (ws hs : List ℕ) (u : PlainType) (us : PlainTypes) (m : Made) (s : Row Ty) → IsRow (λ xs. then_types (plain_types xs) (types u us)) r all_w (weigh_types ws (types u us)) all_h (rise_types hs (types u us)) all → IsMade ws hs m u → s.measures.weight ≡ r.measures.weight + m.measures.weight → s.measures.weight ≤ WEIGHT_LIMIT → s.measures.height ≡ max r.measures.height m.measures.height → IfSome s.items (λ v. IsGrown r.items m.ty v.items) → (IfNone r.items (HEIGHT_LIMIT < r.measures.height) → IfNone m.ty (HEIGHT_LIMIT < m.measures.height) → IfNone s.items (HEIGHT_LIMIT < s.measures.height)) → IsRow (λ xs. then_types (plain_types xs) us) s all_w (weigh_types ws us) all_h (rise_types hs us) all
 types_more ws hs u us m s x h g light k l n =
     row_step (λ xs. then_types (plain_types xs) us) s m.measures m.ty (weigh ws u) (rise hs u) (weigh_types ws us) (rise_types hs us) refl refl x h.weight h.height g light k l n h.missing (IfSome_then m.ty h.made (λ y e xs. go y e xs))
   where
@@ -64,11 +65,11 @@ types_more ws hs u us m s x h g light k l n =
     go y e xs = types_push xs y us ∙ ap (λ t. then_types (plain_types xs) (types t us)) e
 
 -- one more labelled field in a row
-pub labels_more : {r : Row (Name × Ty)} {all_w all_h : ℕ} {all : PlainLabels} (ws hs : List ℕ) (l : Name) (u : PlainType) (us : PlainLabels) (m : Made) (part : Option (Name × Ty)) (s : Row (Name × Ty)) → IsRow (λ xs. then_labels (plain_labels xs) (labels l.0 u us)) r all_w (weigh_labels ws (labels l.0 u us)) all_h (rise_labels hs (labels l.0 u us)) all → IsMade ws hs m u → IfSome m.ty (λ t. part ≡ Some (l, t)) → (m.ty ≡ None → part ≡ None) → s.measures.weight ≡ r.measures.weight + m.measures.weight → s.measures.weight ≤ 100000 → s.measures.height ≡ max r.measures.height m.measures.height → IfSome s.items (λ v. IsGrown r.items part v.items) → (IfNone r.items (1000 < r.measures.height) → IfNone part (1000 < m.measures.height) → IfNone s.items (1000 < s.measures.height)) → IsRow (λ xs. then_labels (plain_labels xs) us) s all_w (weigh_labels ws us) all_h (rise_labels hs us) all
+pub labels_more : {r : Row (Name × Ty)} {all_w all_h : ℕ} {all : PlainLabels} (ws hs : List ℕ) (l : Name) (u : PlainType) (us : PlainLabels) (m : Made) (part : Option (Name × Ty)) (s : Row (Name × Ty)) → IsRow (λ xs. then_labels (plain_labels xs) (labels l.0 u us)) r all_w (weigh_labels ws (labels l.0 u us)) all_h (rise_labels hs (labels l.0 u us)) all → IsMade ws hs m u → IfSome m.ty (λ t. part ≡ Some (l, t)) → (m.ty ≡ None → part ≡ None) → s.measures.weight ≡ r.measures.weight + m.measures.weight → s.measures.weight ≤ WEIGHT_LIMIT → s.measures.height ≡ max r.measures.height m.measures.height → IfSome s.items (λ v. IsGrown r.items part v.items) → (IfNone r.items (HEIGHT_LIMIT < r.measures.height) → IfNone part (HEIGHT_LIMIT < m.measures.height) → IfNone s.items (HEIGHT_LIMIT < s.measures.height)) → IsRow (λ xs. then_labels (plain_labels xs) us) s all_w (weigh_labels ws us) all_h (rise_labels hs us) all
 labels_more ws hs l u us m part s x h some none g light k q n =
     row_step (λ xs. then_labels (plain_labels xs) us) s m.measures part (weigh ws u) (rise hs u) (weigh_labels ws us) (rise_labels hs us) refl refl x h.weight h.height g light k q n (missing part m.ty some h.missing) (there part m.ty some none h.made)
   where
-    missing : (o : Option (Name × Ty)) (p : Option Ty) → IfSome p (λ t. o ≡ Some (l, t)) → IfNone p (1000 < m.measures.height) → IfNone o (1000 < m.measures.height)
+    missing : (o : Option (Name × Ty)) (p : Option Ty) → IfSome p (λ t. o ≡ Some (l, t)) → IfNone p (HEIGHT_LIMIT < m.measures.height) → IfNone o (HEIGHT_LIMIT < m.measures.height)
     missing None None e d = d
     missing None (Some t) e d = absurd (cc)
     missing (Some y) p e d = tt
@@ -90,12 +91,12 @@ leaf_is m u t e f g w h =
       light = omega (arith, one);
       height = omega (arith, low, h);
       made = subst (λ o. IfSome o (λ x. plain x ≡ t)) (sym f) g;
-      low = subst (λ o. IfSome o (λ x. m.measures.height ≤ 1000)) (sym f) (omega (arith, low));
-      missing = subst (λ o. IfNone o (1000 < m.measures.height)) (sym f) tt;
+      low = subst (λ o. IfSome o (λ x. m.measures.height ≤ HEIGHT_LIMIT)) (sym f) (omega (arith, low));
+      missing = subst (λ o. IfNone o (HEIGHT_LIMIT < m.measures.height)) (sym f) tt;
     }
 
 -- an error on the way is an error of the whole
-pub reason_by : (v w : ℕ) (e : MakeError) → (100000 < v → 100000 < w) → IsReason v e → IsReason w e
+pub reason_by : (v w : ℕ) (e : MakeError) → (WEIGHT_LIMIT < v → WEIGHT_LIMIT < w) → IsReason v e → IsReason w e
 reason_by v w TooHeavy f h = f h
 reason_by v w Memory f h = tt
 
@@ -103,7 +104,7 @@ pub passed_on : {T E : Type 0} (P : E → Type 0) (r : Result T E) (e : E) → I
 passed_on P (Ok x) e is p = tt
 passed_on P (Err y) e is p = subst P (sym is) p
 
-pub passed_reason : {T : Type 0} (r : Result T MakeError) (e : MakeError) (v w : ℕ) → IsErrAnd r (λ y. y ≡ e) → (100000 < v → 100000 < w) → IsReason v e → IfErr r (λ y. IsReason w y)
+pub passed_reason : {T : Type 0} (r : Result T MakeError) (e : MakeError) (v w : ℕ) → IsErrAnd r (λ y. y ≡ e) → (WEIGHT_LIMIT < v → WEIGHT_LIMIT < w) → IsReason v e → IfErr r (λ y. IsReason w y)
 passed_reason r e v w is f h = passed_on (IsReason w) r e is (reason_by v w e f h)
 
 pub ok_both : {T E : Type 0} {P Q : T → Type 0} {R : Type 0} (r : Result T E) → ((x : T) → P x → Q x → R) → IfOk r P → IsOkAnd r Q → R
@@ -116,7 +117,7 @@ err_both (Err e) (Ok x) f g a b p q = f x a e p
 err_both (Err e) (Err y) f g a b p q = g y b e q
 
 -- the error of an instance
-pub heavy_error : {T : Type 0} (r : Result T SizeError) (e : MakeError) (v w : ℕ) → IsErrAnd r (λ y. y ≡ size_error e) → (100000 < v → 100000 < w) → IsReason v e → r ≡ Err (TooBig Weight) → 100000 < w
+pub heavy_error : {T : Type 0} (r : Result T SizeError) (e : MakeError) (v w : ℕ) → IsErrAnd r (λ y. y ≡ size_error e) → (WEIGHT_LIMIT < v → WEIGHT_LIMIT < w) → IsReason v e → r ≡ Err (TooBig Weight) → WEIGHT_LIMIT < w
 heavy_error (Ok x) e v w is f h same = absurd is
 heavy_error (Err y) TooHeavy v w is f h same = f h
 heavy_error (Err y) Memory v w is f h same = absurd (cc)

@@ -1,4 +1,5 @@
 -- What is made of the parts of a type is what stands for the type.
+use Rattle.pict_syntax.specs.declared.limits.TheConstants.{HEIGHT_LIMIT, WEIGHT_LIMIT}
 use Rattle.std.proofs.Common.{◌≡◌, ℕ, ◌+◌, ◌-◌, ◌≤◌, ◌<◌, max, Bool, true, false, List, [], ◌∷◌, ◌++◌, length, get_or, drop, Option, Some, None, IfSome, IfNone, Result, Ok, Err, IfOk, IfErr, refl, sym, ◌∙◌, ap, subst, arith}
 use Rattle.std.proofs.lemmas.List.{length-drop}
 use Rattle.pict_normal.specs.declared.arguments.Arguments.{Arguments}
@@ -107,7 +108,7 @@ types_next xs i x h e = types_drop xs i x h ∙ ap (λ y. types (plain y) (plain
 labels_next : (xs : List (Name × Ty)) (i : ℕ) (x : Name × Ty) → i < length xs → x ≡ get_or xs i x → plain_labels (drop i xs) ≡ labels x.0.0 (plain x.1) (plain_labels (drop (i + 1) xs))
 labels_next xs i x h e = labels_drop xs i x h ∙ ap (λ y. labels y.0.0 (plain y.1) (plain_labels (drop (i + 1) xs))) (sym e)
 
-pub types_step : (p : Puts) {r : Row Ty} (ms ns : List Measures) (xs : List Ty) (i : ℕ) (x : Ty) (m : Made) (s : Row Ty) → i < length xs → x ≡ get_or xs i x → ns ≡ ms → TypesSoFar p ms (plain_types xs) (plain_types (drop i xs)) r → IsPart p ns m (plain x) → s.measures.weight ≡ r.measures.weight + m.measures.weight → s.measures.weight ≤ 100000 → s.measures.height ≡ max r.measures.height m.measures.height → IfSome s.items (λ v. IsGrown r.items m.ty v.items) → (IfNone r.items (1000 < r.measures.height) → IfNone m.ty (1000 < m.measures.height) → IfNone s.items (1000 < s.measures.height)) → TypesSoFar p ms (plain_types xs) (plain_types (drop (i + 1) xs)) s
+pub types_step : (p : Puts) {r : Row Ty} (ms ns : List Measures) (xs : List Ty) (i : ℕ) (x : Ty) (m : Made) (s : Row Ty) → i < length xs → x ≡ get_or xs i x → ns ≡ ms → TypesSoFar p ms (plain_types xs) (plain_types (drop i xs)) r → IsPart p ns m (plain x) → s.measures.weight ≡ r.measures.weight + m.measures.weight → s.measures.weight ≤ WEIGHT_LIMIT → s.measures.height ≡ max r.measures.height m.measures.height → IfSome s.items (λ v. IsGrown r.items m.ty v.items) → (IfNone r.items (HEIGHT_LIMIT < r.measures.height) → IfNone m.ty (HEIGHT_LIMIT < m.measures.height) → IfNone s.items (HEIGHT_LIMIT < s.measures.height)) → TypesSoFar p ms (plain_types xs) (plain_types (drop (i + 1) xs)) s
 types_step p {r = r} ms ns xs i x m s h e q y k w light l g n =
     types_more (weights_in p ms) (heights_in p ms) (replace (replacement_in p ms) (plain x)) (replace_types (replacement_in p ms) (plain_types (drop (i + 1) xs))) m s
     (subst (λ z. TypesSoFar p ms (plain_types xs) z r) (types_next xs i x h e) y)
@@ -122,7 +123,7 @@ types_reason p {r = r} e ms ns xs i x v h k q y l z =
 pub types_all : (p : Puts) {r : Row Ty} (ms : List Measures) (xs : List Ty) (i : ℕ) → length xs ≤ i → TypesSoFar p ms (plain_types xs) (plain_types (drop i xs)) r → IsRow plain_types r (weigh_types (weights_in p ms) (replace_types (replacement_in p ms) (plain_types xs))) 0 (rise_types (heights_in p ms) (replace_types (replacement_in p ms) (plain_types xs))) 0 (replace_types (replacement_in p ms) (plain_types xs))
 types_all p {r = r} ms xs i h y = types_done (subst (λ z. TypesSoFar p ms (plain_types xs) z r) (types_end xs i h) y)
 
-pub labels_step : (p : Puts) {r : Row (Name × Ty)} (ms ns : List Measures) (xs : List (Name × Ty)) (i : ℕ) (x : Name × Ty) (m : Made) (part : Option (Name × Ty)) (s : Row (Name × Ty)) → i < length xs → x ≡ get_or xs i x → ns ≡ ms → LabelsSoFar p ms (plain_labels xs) (plain_labels (drop i xs)) r → IsPart p ns m (plain x.1) → IfSome m.ty (λ t. part ≡ Some (x.0, t)) → (m.ty ≡ None → part ≡ None) → s.measures.weight ≡ r.measures.weight + m.measures.weight → s.measures.weight ≤ 100000 → s.measures.height ≡ max r.measures.height m.measures.height → IfSome s.items (λ v. IsGrown r.items part v.items) → (IfNone r.items (1000 < r.measures.height) → IfNone part (1000 < m.measures.height) → IfNone s.items (1000 < s.measures.height)) → LabelsSoFar p ms (plain_labels xs) (plain_labels (drop (i + 1) xs)) s
+pub labels_step : (p : Puts) {r : Row (Name × Ty)} (ms ns : List Measures) (xs : List (Name × Ty)) (i : ℕ) (x : Name × Ty) (m : Made) (part : Option (Name × Ty)) (s : Row (Name × Ty)) → i < length xs → x ≡ get_or xs i x → ns ≡ ms → LabelsSoFar p ms (plain_labels xs) (plain_labels (drop i xs)) r → IsPart p ns m (plain x.1) → IfSome m.ty (λ t. part ≡ Some (x.0, t)) → (m.ty ≡ None → part ≡ None) → s.measures.weight ≡ r.measures.weight + m.measures.weight → s.measures.weight ≤ WEIGHT_LIMIT → s.measures.height ≡ max r.measures.height m.measures.height → IfSome s.items (λ v. IsGrown r.items part v.items) → (IfNone r.items (HEIGHT_LIMIT < r.measures.height) → IfNone part (HEIGHT_LIMIT < m.measures.height) → IfNone s.items (HEIGHT_LIMIT < s.measures.height)) → LabelsSoFar p ms (plain_labels xs) (plain_labels (drop (i + 1) xs)) s
 labels_step p {r = r} ms ns xs i x m part s h e q y k some none w light l g n =
     labels_more (weights_in p ms) (heights_in p ms) x.0 (replace (replacement_in p ms) (plain x.1)) (replace_labels (replacement_in p ms) (plain_labels (drop (i + 1) xs))) m part s
     (subst (λ z. LabelsSoFar p ms (plain_labels xs) z r) (labels_next xs i x h e) y)
@@ -179,7 +180,7 @@ counted_same : (ws : List ℕ) (b : Bool) (m : ℕ) (u : PlainType) → m ≡ we
 counted_same ws true m u e = e
 counted_same ws false m u e = refl
 
-counted_heavy : (ws : List ℕ) (b : Bool) (u : PlainType) → 100000 < weigh ws (used_as b u) → 100000 < counted b (weigh ws u)
+counted_heavy : (ws : List ℕ) (b : Bool) (u : PlainType) → WEIGHT_LIMIT < weigh ws (used_as b u) → WEIGHT_LIMIT < counted b (weigh ws u)
 counted_heavy ws true u h = h
 counted_heavy ws false u h = absurd (omega (arith, h))
 

@@ -5,10 +5,8 @@ use Rattle.std.specs.Ordering.{is_lt}
 use Rattle.std.proofs.lemmas.Bool.{eqb-true}
 use Rattle.pict_syntax.specs.declared.code.Code.TheVariants.{K1}
 use Rattle.pict_syntax.specs.declared.span.Span.{Span}
-use Rattle.pict_syntax.specs.declared.type_tree.KindTree.{KindTree}
-use Rattle.pict_syntax.specs.declared.type_tree.KindTree.TheVariants.{Plain as Plain_, Operator as Operator_}
 use Rattle.pict_syntax.specs.Labels.{label_cmp, StandsBefore}
-use Rattle.pict_syntax.specs.Trees.{TypeTree, top_type, int_type, char_type, string_type, bool_type, use_type, both_type, read_type, write_type, respond_type, fields_type, apply_type, rec_type, TypeBinder, type_binder, Bound, unbounded, bound, TypeTrees, no_types, more_types, TypeBinders, no_binders, more_binders, LabelledTypes, no_labelled_types, more_labelled_types}
+use Rattle.pict_syntax.specs.Trees.{KindTree, plain_kind, operator_kind, TypeTree, top_type, int_type, char_type, string_type, bool_type, use_type, both_type, read_type, write_type, respond_type, fields_type, apply_type, rec_type, TypeBinder, type_binder, Bound, unbounded, bound, TypeTrees, no_types, more_types, TypeBinders, no_binders, more_binders, LabelledTypes, no_labelled_types, more_labelled_types}
 use Rattle.pict_types.specs.Types.{PlainType, PlainTypes, no_type, types, PlainLabels, no_label, labels, PlainBound, Free, Below, Operator, PlainBounds, no_bound, bounds, Plain, Op, count_types}
 use Rattle.pict_types.specs.Replacing.{apply_variable}
 use Rattle.pict_types.specs.Kinds.{Kind, proper, operator_of, kind_by, kind_at, kinds_under, StandsBeforeAll, IsWellFormed, AreWellFormed, LabelsAreWellFormed, BoundsAreWellFormed, BoundIsWellFormed}
@@ -33,7 +31,7 @@ kind_of_arity (Some n) = operator_of n
 kind_of_entry : (w : PlainWhat) → kind_of_what w ≡ kind_of_arity (arity w)
 kind_of_entry (Variable Free) = refl
 kind_of_entry (Variable (Below t)) = refl
-kind_of_entry (Variable (Operator n)) = refl
+kind_of_entry (Variable (Operator marks)) = refl
 kind_of_entry (Definition (Plain t)) = refl
 kind_of_entry (Definition (Op n t)) = refl
 
@@ -137,10 +135,10 @@ with_labelled_type_formed ns ks l u (labels m t ls) d w h = go (is_lt (label_cmp
 -- under type binders
 kind_of_binder : (ns : List (List ℕ)) (c : PlainContext) (ms : List ℕ) (k : Option KindTree) (b : Bound) → kind_by (kind_bound k (normal_bound ns c b)) ≡ kind_by (kind_bound k (raw_bound ns ms b))
 kind_of_binder ns c ms None unbounded = refl
-kind_of_binder ns c ms (Some Plain_) unbounded = refl
-kind_of_binder ns c ms (Some (Operator_ n)) b = refl
+kind_of_binder ns c ms (Some plain_kind) unbounded = refl
+kind_of_binder ns c ms (Some (operator_kind marks)) b = refl
 kind_of_binder ns c ms None (bound t) = kind_bound_by (normal ns c t) ∙ sym (kind_bound_by (raw ns ms t))
-kind_of_binder ns c ms (Some Plain_) (bound t) = kind_bound_by (normal ns c t) ∙ sym (kind_bound_by (raw ns ms t))
+kind_of_binder ns c ms (Some plain_kind) (bound t) = kind_bound_by (normal ns c t) ∙ sym (kind_bound_by (raw ns ms t))
 
 pub names_of_under : (ns : List (List ℕ)) (c : PlainContext) (bs : TypeBinders) → names_in (under_binders ns c bs) ≡ names_under (names_in c) bs
 names_of_under ns c no_binders = refl
@@ -207,8 +205,8 @@ mutual
 
   raw_binder_formed : (ns : List (List ℕ)) (c : PlainContext) (b : TypeBinder) → BinderHasDistinctLabels b → binder_stops ns c b ≡ [] → BoundIsWellFormed ns (entry_kinds c) (raw_binder ns (names_in c) b)
   raw_binder_formed ns c (type_binder s id None unbounded) d k = tt
-  raw_binder_formed ns c (type_binder s id (Some Plain_) unbounded) d k = tt
-  raw_binder_formed ns c (type_binder s id (Some (Operator_ n)) unbounded) d k = tt
+  raw_binder_formed ns c (type_binder s id (Some plain_kind) unbounded) d k = tt
+  raw_binder_formed ns c (type_binder s id (Some (operator_kind marks)) unbounded) d k = tt
   raw_binder_formed ns c (type_binder s id None (bound t)) d k = formed_bound_by ns (entry_kinds c) (raw ns (names_in c) t) (raw_formed ns c t d k)
-  raw_binder_formed ns c (type_binder s id (Some Plain_) (bound t)) d k = formed_bound_by ns (entry_kinds c) (raw ns (names_in c) t) (raw_formed ns c t d k)
-  raw_binder_formed ns c (type_binder s id (Some (Operator_ n)) (bound t)) d k = tt
+  raw_binder_formed ns c (type_binder s id (Some plain_kind) (bound t)) d k = formed_bound_by ns (entry_kinds c) (raw ns (names_in c) t) (raw_formed ns c t d k)
+  raw_binder_formed ns c (type_binder s id (Some (operator_kind marks)) (bound t)) d k = tt

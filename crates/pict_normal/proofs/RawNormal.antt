@@ -3,8 +3,7 @@ use Rattle.std.proofs.Common.{◌≡◌, ℕ, suc, Bool, true, false, List, [], 
 use Rattle.std.specs.Prelude.{nat_eq, if◌then◌else◌}
 use Rattle.std.specs.Ordering.{is_lt}
 use Rattle.pict_syntax.specs.declared.span.Span.{Span}
-use Rattle.pict_syntax.specs.declared.type_tree.KindTree.TheVariants.{Plain as Plain_, Operator as Operator_}
-use Rattle.pict_syntax.specs.Trees.{TypeTree, top_type, int_type, char_type, string_type, bool_type, use_type, both_type, read_type, write_type, respond_type, fields_type, apply_type, rec_type, TypeBinder, type_binder, unbounded, bound, TypeTrees, no_types, more_types, TypeBinders, no_binders, more_binders, LabelledTypes, no_labelled_types, more_labelled_types}
+use Rattle.pict_syntax.specs.Trees.{plain_kind, operator_kind, TypeTree, top_type, int_type, char_type, string_type, bool_type, use_type, both_type, read_type, write_type, respond_type, fields_type, apply_type, rec_type, TypeBinder, type_binder, unbounded, bound, TypeTrees, no_types, more_types, TypeBinders, no_binders, more_binders, LabelledTypes, no_labelled_types, more_labelled_types}
 use Rattle.pict_types.specs.Types.{PlainType, Top, Var, Chan, Fields, Rec, Both, Read, Write, Respond, PlainTypes, no_type, types, PlainLabels, no_label, labels, PlainBound, Free, Below, Operator, PlainBounds, no_bound, bounds, PlainArg, Plain, Op}
 use Rattle.pict_types.specs.Renaming.{rename}
 use Rattle.pict_types.specs.Replacing.{bound_by, Head, apply_head, rename_head, nothing, next_variable, apply_variable, Replacement, replacement_beyond, replacement_beyond_all, replace, replace_types, replace_labels, replace_bound, replace_bounds}
@@ -66,12 +65,12 @@ head_further b (Some (an_operator n x)) = refl
 type_first : (b : PlainBound) → IsType (Some (of_bound b)) → Var 0 ≡ meant_type (Some (of_bound b))
 type_first Free h = refl
 type_first (Below t) h = refl
-type_first (Operator n) h = absurd h
+type_first (Operator marks) h = absurd h
 
 head_first : (s : Replacement) (b : PlainBound) → MayBeApplied (Some (of_bound b)) → (replacement_beyond s).head_of 0 ≡ meant_head (Some (of_bound b))
 head_first s Free h = absurd h
 head_first s (Below t) h = absurd h
-head_first s (Operator n) h = refl
+head_first s (Operator marks) h = refl
 
 type_put_further : (s : Replacement) (o : Option ℕ) → type_put (replacement_beyond s) (next_variable o) ≡ rename suc (type_put s o)
 type_put_further s None = refl
@@ -240,13 +239,13 @@ mutual
 
   raw_binder_replaced : (ns : List (List ℕ)) {c : PlainContext} {ms : List ℕ} {s : Replacement} → Means c ms s → (b : TypeBinder) → binder_stops ns c b ≡ [] → replace_bound s (raw_binder ns ms b) ≡ normal_binder ns c b
   raw_binder_replaced ns h (type_binder sp id None unbounded) k = refl
-  raw_binder_replaced ns h (type_binder sp id (Some Plain_) unbounded) k = refl
-  raw_binder_replaced ns h (type_binder sp id (Some (Operator_ n)) unbounded) k = refl
+  raw_binder_replaced ns h (type_binder sp id (Some plain_kind) unbounded) k = refl
+  raw_binder_replaced ns h (type_binder sp id (Some (operator_kind marks)) unbounded) k = refl
   raw_binder_replaced ns {ms = ms} {s = s} h (type_binder sp id None (bound t)) k =
       replace_made s (raw ns ms t) ∙ ap bound_by (raw_replaced ns h t k)
-  raw_binder_replaced ns {ms = ms} {s = s} h (type_binder sp id (Some Plain_) (bound t)) k =
+  raw_binder_replaced ns {ms = ms} {s = s} h (type_binder sp id (Some plain_kind) (bound t)) k =
       replace_made s (raw ns ms t) ∙ ap bound_by (raw_replaced ns h t k)
-  raw_binder_replaced ns h (type_binder sp id (Some (Operator_ n)) (bound t)) k = refl
+  raw_binder_replaced ns h (type_binder sp id (Some (operator_kind marks)) (bound t)) k = refl
 
 -- the normal form is what the entries of the context mean, put for the names
 pub raw_normal : (ns : List (List ℕ)) (c : PlainContext) (t : TypeTree) → kind_stops ns c t ≡ [] → normal ns c t ≡ replace (meanings c) (raw ns (names_in c) t)

@@ -8,7 +8,8 @@ use Rattle.pict_syntax.specs.declared.type_tree.TypeTree.{TypeTree as RTypeTree}
 use Rattle.pict_syntax.specs.declared.type_tree.TypeBinder.{TypeBinder as RTypeBinder}
 use Rattle.pict_syntax.specs.declared.type_tree.LabelledType.{LabelledType as RLabelledType}
 use Rattle.pict_syntax.specs.Trees.{TypeTrees, no_types, TypeBinder, TypeBinders, no_binders, LabelledTypes, no_labelled_types, fields_type}
-use Rattle.pict_syntax.specs.PlainTrees.{type_of, binder_of, types_on, binders_on, labelled_types_on}
+use Rattle.std.specs.Option.{option_map}
+use Rattle.pict_syntax.specs.PlainTrees.{kind_of, type_of, binder_of, types_on, binders_on, labelled_types_on}
 use Rattle.pict_types.specs.declared.types.Ty.{Ty}
 use Rattle.pict_types.specs.declared.types.Bound.{Bound as RBound}
 use Rattle.pict_normal.specs.declared.stops.KindError.{KindError}
@@ -85,7 +86,7 @@ binders_refused ns c e s xs i x err h q r k =
     let b = binder_of (get_or xs i x) in
     binders_first ns (e ++ c) xs i x err h r (subst (λ y. IsFirst y err) (same_stops ns c e s bs b q) k)
 
-pub binders_inner : (e s : PlainContext) (xs : List RTypeBinder) (i : ℕ) (x : RTypeBinder) → i < length xs → s ≡ bound_entry (get_or xs i x).id.name.0 (get_or xs i x).kind ∷ entries_under e (binders_on no_binders (take i xs)) → s ≡ entries_under e (binders_on no_binders (take (i + 1) xs))
+pub binders_inner : (e s : PlainContext) (xs : List RTypeBinder) (i : ℕ) (x : RTypeBinder) → i < length xs → s ≡ bound_entry (get_or xs i x).id.name.0 (option_map kind_of (get_or xs i x).kind) ∷ entries_under e (binders_on no_binders (take i xs)) → s ≡ entries_under e (binders_on no_binders (take (i + 1) xs))
 binders_inner e s xs i x h q = q ∙ sym (ap (entries_under e) (binders_step xs i x h))
 
 -- a record

@@ -5,8 +5,8 @@ use Rattle.std.proofs.lemmas.Bool.{eqb-true, eq-eqb}
 use Rattle.pict_syntax.specs.declared.code.Code.TheVariants.{K1, K2, K3}
 use Rattle.pict_syntax.specs.declared.span.Span.{Span}
 use Rattle.pict_syntax.specs.declared.id.Id.{Id}
-use Rattle.pict_syntax.specs.declared.type_tree.KindTree.TheVariants.{Operator as Operator_}
-use Rattle.pict_syntax.specs.Trees.{TypeTree}
+use Rattle.pict_syntax.specs.declared.type_tree.Mark.{Mark}
+use Rattle.pict_syntax.specs.Trees.{operator_kind, TypeTree}
 use Rattle.pict_types.specs.Types.{PlainType}
 use Rattle.pict_types.specs.Replacing.{replace}
 use Rattle.pict_types.specs.Entries.{PlainContext}
@@ -86,12 +86,12 @@ apply_other s c n i k m h e d = apply_head_other s (meaning c n) k m (kind_is c 
 top_is : (ns : List (List ℕ)) (d : PlainContext) (t : TypeTree) (u : PlainType) (b : Bool) → kind_stops ns d t ≡ [] → u ≡ raw ns (names_in d) t → b ≡ is_top (replace (meanings d) u) → is_top (normal ns d t) ≡ b
 top_is ns d t u b none is top = ap is_top (raw_normal ns d t none) ∙ ap (λ x. is_top (replace (meanings d) x)) (sym is) ∙ sym top
 
-pub operator_fits : (ns : List (List ℕ)) (d : PlainContext) (id : Id) (n : ℕ) (t : TypeTree) (u : PlainType) → kind_stops ns d t ≡ [] → u ≡ raw ns (names_in d) t → true ≡ is_top (replace (meanings d) u) → bound_stops id (Some (Operator_ n)) (kind_stops ns d t) (normal ns d t) ≡ []
-operator_fits ns d id n t u none is top =
-    ap (λ x. bound_stops id (Some (Operator_ n)) x (normal ns d t)) none
+pub operator_fits : (ns : List (List ℕ)) (d : PlainContext) (id : Id) (ms : List Mark) (t : TypeTree) (u : PlainType) → kind_stops ns d t ≡ [] → u ≡ raw ns (names_in d) t → true ≡ is_top (replace (meanings d) u) → bound_stops id (Some (operator_kind ms)) (kind_stops ns d t) (normal ns d t) ≡ []
+operator_fits ns d id ms t u none is top =
+    ap (λ x. bound_stops id (Some (operator_kind ms)) x (normal ns d t)) none
     ∙ ap (λ b. if b then [] else (K3, id.span) ∷ []) (top_is ns d t u true none is top)
 
-pub operator_refused : (ns : List (List ℕ)) (d : PlainContext) (id : Id) (n : ℕ) (t : TypeTree) (u : PlainType) → kind_stops ns d t ≡ [] → u ≡ raw ns (names_in d) t → false ≡ is_top (replace (meanings d) u) → BeginsWith (bound_stops id (Some (Operator_ n)) (kind_stops ns d t) (normal ns d t)) (K3, id.span)
-operator_refused ns d id n t u none is top =
-    subst (λ x. BeginsWith (bound_stops id (Some (Operator_ n)) x (normal ns d t)) (K3, id.span)) (sym none)
+pub operator_refused : (ns : List (List ℕ)) (d : PlainContext) (id : Id) (ms : List Mark) (t : TypeTree) (u : PlainType) → kind_stops ns d t ≡ [] → u ≡ raw ns (names_in d) t → false ≡ is_top (replace (meanings d) u) → BeginsWith (bound_stops id (Some (operator_kind ms)) (kind_stops ns d t) (normal ns d t)) (K3, id.span)
+operator_refused ns d id ms t u none is top =
+    subst (λ x. BeginsWith (bound_stops id (Some (operator_kind ms)) x (normal ns d t)) (K3, id.span)) (sym none)
     (subst (λ b. BeginsWith (if b then [] else (K3, id.span) ∷ []) (K3, id.span)) (sym (top_is ns d t u false none is top)) refl)

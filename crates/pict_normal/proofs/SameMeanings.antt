@@ -1,9 +1,7 @@
 -- Normal forms and refusals of a written type depend on what the names mean alone.
 use Rattle.std.proofs.Common.{◌≡◌, ℕ, Bool, true, false, nat_eq, List, ◌∷◌, ◌++◌, Option, Some, None, refl, sym, ◌∙◌, ap, ap₂}
 use Rattle.std.specs.Prelude.{if◌then◌else◌}
-use Rattle.pict_syntax.specs.declared.type_tree.KindTree.{KindTree}
-use Rattle.pict_syntax.specs.declared.type_tree.KindTree.TheVariants.{Plain as Plain_, Operator as Operator_}
-use Rattle.pict_syntax.specs.Trees.{TypeTree, top_type, int_type, char_type, string_type, bool_type, use_type, both_type, read_type, write_type, respond_type, fields_type, apply_type, rec_type, TypeBinder, type_binder, Bound, unbounded, bound, TypeTrees, no_types, more_types, TypeBinders, no_binders, more_binders, LabelledTypes, no_labelled_types, more_labelled_types}
+use Rattle.pict_syntax.specs.Trees.{KindTree, plain_kind, operator_kind, TypeTree, top_type, int_type, char_type, string_type, bool_type, use_type, both_type, read_type, write_type, respond_type, fields_type, apply_type, rec_type, TypeBinder, type_binder, Bound, unbounded, bound, TypeTrees, no_types, more_types, TypeBinders, no_binders, more_binders, LabelledTypes, no_labelled_types, more_labelled_types}
 use Rattle.pict_types.specs.Types.{PlainType, Top, Int, Char, Str, Boolean, Var, Apply, Chan, Fields, Rec, Both, Read, Write, Respond, PlainBound, Free}
 use Rattle.pict_types.specs.Replacing.{bound_by, apply_head}
 use Rattle.pict_types.specs.Entries.{Variable, PlainContext}
@@ -22,8 +20,8 @@ same_itself c = record { each = λ n. refl }
 -- the bound of a variable is no part of what it means
 same_bound : (k : Option KindTree) (a b : PlainBound) → of_bound a ≡ of_bound b → of_bound (kind_bound k a) ≡ of_bound (kind_bound k b)
 same_bound None a b h = h
-same_bound (Some Plain_) a b h = h
-same_bound (Some (Operator_ n)) a b h = refl
+same_bound (Some plain_kind) a b h = h
+same_bound (Some (operator_kind marks)) a b h = refl
 
 behind_same : (a b : PlainBound) (o : Option Meaning) → behind_entry (Variable a) o ≡ behind_entry (Variable b) o
 behind_same a b None = refl

@@ -1,4 +1,5 @@
 -- Types with their measures, within the limit on weight, and left out where they are too high.
+use Rattle.pict_syntax.specs.declared.limits.TheConstants.{HEIGHT_LIMIT, WEIGHT_LIMIT}
 use Rattle.std.specs.Prelude.{◌≡◌, ℕ, ◌+◌, ◌≤◌, ◌<◌, ◌^◌, max, List, [], ◌∷◌, ◌++◌, Option, Some, None, IfSome, IfNone, map, get_or, Bool, false, nat_lt, if◌then◌else◌}
 use Rattle.std.specs.declared.vec.Vec.{Vec}
 use Rattle.std.specs.declared.alloc.Global.{Global}
@@ -18,7 +19,7 @@ use Rattle.pict_types.specs.Plain.{plain, plain_bound, plain_types}
 
 -- why a type of this weight isn't made: the weight passes its limit, or there is want of memory
 abbrev pub IsReason : ℕ → MakeError → Type 0
-IsReason w TooHeavy = 100000 < w
+IsReason w TooHeavy = WEIGHT_LIMIT < w
 IsReason w Memory = Unit {0}
 
 -- the same for an instance
@@ -35,28 +36,28 @@ IsGrown (Some v) (Some x) xs = xs ≡ v.items ++ x ∷ []
 -- the measures of the type, whose weight is within its limit, the height as a u64 holds it; and the type where it isn't too high
 pub record IsMade (ws hs : List ℕ) (m : Made) (t : PlainType) : Type 0 where
   pub weight : m.measures.weight ≡ weigh ws t
-  pub light : m.measures.weight ≤ 100000
+  pub light : m.measures.weight ≤ WEIGHT_LIMIT
   pub height : m.measures.height ≡ held (rise hs t)
   pub made : IfSome m.ty (λ u. plain u ≡ t)
-  pub low : IfSome m.ty (λ u. m.measures.height ≤ 1000)
-  pub missing : IfNone m.ty (1000 < m.measures.height)
+  pub low : IfSome m.ty (λ u. m.measures.height ≤ HEIGHT_LIMIT)
+  pub missing : IfNone m.ty (HEIGHT_LIMIT < m.measures.height)
 
 -- the same for a type field with this bound
 pub record IsMadeBound (ws hs : List ℕ) (m : MadeBound) (b : PlainBound) : Type 0 where
   pub weight : m.measures.weight ≡ weigh_variable ws b
-  pub light : m.measures.weight ≤ 100000
+  pub light : m.measures.weight ≤ WEIGHT_LIMIT
   pub height : m.measures.height ≡ held (rise_variable hs b)
   pub made : IfSome m.bound (λ d. plain_bound d ≡ b)
-  pub missing : IfNone m.bound (1000 < m.measures.height)
+  pub missing : IfNone m.bound (HEIGHT_LIMIT < m.measures.height)
 
 -- a row that with what is left weighs w and rises h: its items and what is left are the whole
 pub record IsRow {T A : Type 0} (whole : List T → A) (row : Row T) (w left_w h left_h : ℕ) (all : A) : Type 0 where
   pub weight : row.measures.weight + left_w ≡ w
-  pub light : row.measures.weight ≤ 100000
+  pub light : row.measures.weight ≤ WEIGHT_LIMIT
   pub height : held (max row.measures.height left_h) ≡ held h
   pub height_fits : row.measures.height < 2 ^ 64
   pub made : IfSome row.items (λ v. whole v.items ≡ all)
-  pub missing : IfNone row.items (1000 < row.measures.height)
+  pub missing : IfNone row.items (HEIGHT_LIMIT < row.measures.height)
 
 -- Top is in the place of an argument that isn't used; the marks begin with the last argument's
 abbrev pub used_as : Bool → PlainType → PlainType
@@ -84,7 +85,7 @@ kept_of (types u us) = types (kept_as u (count_types us)) (kept_of us)
 
 -- Top is in the place of an argument that is too high
 abbrev pub built_as : List ℕ → PlainType → PlainType
-built_as hs u = if nat_lt 1000 (rise hs u) then Top else u
+built_as hs u = if nat_lt HEIGHT_LIMIT (rise hs u) then Top else u
 
 abbrev pub built_of : List ℕ → PlainTypes → PlainTypes
 built_of hs no_type = no_type

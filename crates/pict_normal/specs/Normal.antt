@@ -1,18 +1,17 @@
 -- Normal forms of written types, and where a written type is refused.
-use Rattle.std.specs.Prelude.{ℕ, suc, nat_eq, nat_lt, if◌then◌else◌, ◌||◌, List, [], ◌∷◌, ◌++◌, Option, Some, None}
+use Rattle.std.specs.Prelude.{ℕ, suc, nat_eq, nat_lt, if◌then◌else◌, ◌||◌, List, [], ◌∷◌, ◌++◌, length, Option, Some, None}
 use Rattle.std.specs.Ordering.{is_lt}
 use Rattle.pict_syntax.specs.declared.code.Code.{Code}
 use Rattle.pict_syntax.specs.declared.code.Code.TheVariants.{K1, K2, K3, K4}
 use Rattle.pict_syntax.specs.declared.span.Span.{Span}
 use Rattle.pict_syntax.specs.declared.id.Id.{Id}
-use Rattle.pict_syntax.specs.declared.type_tree.KindTree.{KindTree}
-use Rattle.pict_syntax.specs.declared.type_tree.KindTree.TheVariants.{Plain as Plain_, Operator as Operator_}
-use Rattle.pict_syntax.specs.Trees.{TypeTree, top_type, int_type, char_type, string_type, bool_type, use_type, both_type, read_type, write_type, respond_type, fields_type, apply_type, rec_type, TypeBinder, type_binder, Bound, unbounded, bound, TypeTrees, no_types, more_types, TypeBinders, no_binders, more_binders, LabelledTypes, no_labelled_types, more_labelled_types}
+use Rattle.pict_syntax.specs.Trees.{KindTree, plain_kind, operator_kind, TypeTree, top_type, int_type, char_type, string_type, bool_type, use_type, both_type, read_type, write_type, respond_type, fields_type, apply_type, rec_type, TypeBinder, type_binder, Bound, unbounded, bound, TypeTrees, no_types, more_types, TypeBinders, no_binders, more_binders, LabelledTypes, no_labelled_types, more_labelled_types}
 use Rattle.pict_types.specs.Types.{is_top, Both, Read, Write, Respond, PlainType, Top, Int, Char, Str, Boolean, Var, Chan, Fields, Rec, PlainTypes, no_type, types, PlainLabels, no_label, labels, PlainBound, Free, Below, Operator, PlainBounds, no_bound, bounds, Plain, Op}
 use Rattle.pict_types.specs.Renaming.{rename}
 use Rattle.pict_types.specs.Replacing.{bound_by, Head, variable, operator, nothing, apply_head, rename_head}
 use Rattle.pict_types.specs.Measures.{weight_of, height_of}
 use Rattle.pict_syntax.specs.Labels.{label_cmp}
+use Rattle.pict_syntax.specs.declared.limits.TheConstants.{HEIGHT_LIMIT, WEIGHT_LIMIT}
 use Rattle.pict_types.specs.Entries.{PlainWhat, Variable, Definition, PlainEntry, PlainContext, variables}
 use Rattle.pict_syntax.specs.Grammar.{type_span}
 
@@ -24,7 +23,7 @@ pub data Meaning : Type 0 where
 abbrev pub of_bound : PlainBound → Meaning
 of_bound Free = a_type (Var 0)
 of_bound (Below t) = a_type (Var 0)
-of_bound (Operator n) = an_operator n (variable 0)
+of_bound (Operator ms) = an_operator (length ms) (variable 0)
 
 abbrev pub of_entry : PlainWhat → Meaning
 of_entry (Variable b) = of_bound b
@@ -74,8 +73,8 @@ with_labelled_type ns l u (labels m t ls) = if is_lt (label_cmp ns l m) then lab
 -- what is known of a type binder with this kind and this bound: an operator has no bound
 abbrev pub kind_bound : Option KindTree → PlainBound → PlainBound
 kind_bound None b = b
-kind_bound (Some Plain_) b = b
-kind_bound (Some (Operator_ n)) b = Operator n
+kind_bound (Some plain_kind) b = b
+kind_bound (Some (operator_kind ms)) b = Operator ms
 
 abbrev pub entry_of : Id → PlainBound → PlainEntry
 entry_of id b = record { name = id.name.0; what = Variable b }
@@ -149,9 +148,9 @@ apply_stops s (Some (an_operator n h)) k = if nat_eq n k then [] else (K1, s) �
 -- an operator variable with a bound, whose own refusals are given, and its normal form: one that expands to Top is none
 abbrev pub bound_stops : Id → Option KindTree → List Stop → PlainType → List Stop
 bound_stops id None stops t = stops
-bound_stops id (Some Plain_) stops t = stops
-bound_stops id (Some (Operator_ n)) [] t = if is_top t then [] else (K3, id.span) ∷ []
-bound_stops id (Some (Operator_ n)) (x ∷ stops) t = (K3, id.span) ∷ x ∷ stops
+bound_stops id (Some plain_kind) stops t = stops
+bound_stops id (Some (operator_kind ms)) [] t = if is_top t then [] else (K3, id.span) ∷ []
+bound_stops id (Some (operator_kind ms)) (x ∷ stops) t = (K3, id.span) ∷ x ∷ stops
 
 abbrev mutual
   -- where the rules of kinds fail in a written type, in reading order
@@ -189,7 +188,7 @@ abbrev mutual
 
 -- a type past a limit is refused as a whole
 abbrev pub size_stop : PlainContext → PlainType → Span → Option Stop
-size_stop c t s = if nat_lt 100000 (weight_of (variables c) t) || nat_lt 1000 (height_of (variables c) t) then Some (K4, s) else None
+size_stop c t s = if nat_lt WEIGHT_LIMIT (weight_of (variables c) t) || nat_lt HEIGHT_LIMIT (height_of (variables c) t) then Some (K4, s) else None
 
 -- the refusal of a written type: the first where a rule of kinds fails, else its size
 abbrev pub first_stop : List Stop → Option Stop → Option Stop

@@ -1,6 +1,8 @@
 // The type binders around a place in a written type.
 
-ghost use Rattle.std.specs.Prelude.{◌≡◌, ◌-◌, ◌<◌, ◌≤◌, [], ◌∷◌, length, drop, OnOk};
+ghost use Rattle.std.specs.Option.{option_map};
+ghost use Rattle.std.specs.Prelude.{◌≡◌, ◌-◌, ◌<◌, ◌≤◌, [], ◌∷◌, length, drop, IfOk, OnOk};
+ghost use Rattle.pict_syntax.specs.PlainTrees.{kind_of};
 ghost use Rattle.pict_normal.specs.BinderEntries.{bound_entry, entries_of};
 ghost use Rattle.pict_types.specs.Entries.{Variable};
 ghost use Rattle.pict_normal.specs.Normal.{kind_bound};
@@ -12,7 +14,7 @@ use pict_syntax::{KindTree, Name};
 use std::alloc::{AllocError, Global};
 
 /// A type binder: its name, and its kind where it is written.
-#[derive(Clone, Copy)]
+#[derive(Drop)]
 pub struct Binder {
     pub name: Name,
     pub kind: Option<KindTree>,
@@ -59,17 +61,17 @@ impl Binders {
     }
 
     /// Of how many arguments the binder at this place is an operator; nothing where it is a type. Takes no memory.
-    pub fn arity(&self, place: usize) -> Option<u32>
+    pub fn arity(&self, place: usize) -> Option<usize>
         requires { place < length (scope_of self.now) }
         ensures { result ≡ arity_at (scope_of self.now) place }
     {
         let binders = self.binders.as_slice();
-        kind_arity(binders[binders.len() - 1 - place].kind)
+        kind_arity(&binders[binders.len() - 1 - place].kind)
     }
 
     /// One more binder, inside. The only error is want of memory.
     pub fn push(&mut self, name: Name, kind: Option<KindTree>) -> Result<(), AllocError>
-        ensures { OnOk result (scope_of self.new ≡ bound_entry name.0 kind ∷ scope_of self.old) }
+        ensures { OnOk result (scope_of self.new ≡ bound_entry name.0 (option_map kind_of kind) ∷ scope_of self.old) }
     {
         self.binders.reserve(1)?;
         self.names.bind(name)?;
@@ -98,12 +100,22 @@ impl Binders {
 }
 
 /// Of how many arguments a type binder of this kind is an operator; nothing where it is a type.
-fn kind_arity(kind: Option<KindTree>) -> Option<u32>
-    ensures { result ≡ arity (Variable (kind_bound kind Free)) }
+fn kind_arity(kind: &Option<KindTree>) -> Option<usize>
+    ensures { result ≡ arity (Variable (kind_bound (option_map kind_of kind.now) Free)) }
 {
     match kind {
         None => None,
         Some(KindTree::Plain) => None,
-        Some(KindTree::Operator(n)) => Some(n),
+        Some(KindTree::Operator(marks)) => Some(marks.as_slice().len()),
+    }
+}
+
+/// A copy of the kind of a type binder.
+pub fn copy_kind(alloc: Global, kind: &Option<KindTree>) -> Result<Option<KindTree>, AllocError>
+    ensures { IfOk result (λ k. option_map kind_of k ≡ option_map kind_of kind.now) }
+{
+    match kind {
+        None => Ok(None),
+        Some(kind) => Ok(Some(kind.copy(alloc)?)),
     }
 }

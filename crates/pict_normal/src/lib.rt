@@ -20,6 +20,3 @@ pub use expansion::expand;
 pub use instance::{instantiate, instantiate_type};
 pub use operators::expand_arg;
 pub use stops::KindError;
-
-#[cfg(test)]
-mod tests;

@@ -1,5 +1,6 @@
 // Types with their measures, within the limit on weight, and left out where they are too high.
 
+ghost use Rattle.pict_syntax.specs.declared.limits.TheConstants.{HEIGHT_LIMIT, WEIGHT_LIMIT};
 ghost use Rattle.std.specs.Prelude.{◌≡◌, ◌+◌, ◌≤◌, ◌<◌, max, List, ℕ, IfErr, IfOk, IfNone, IfSome, IsTrue, IsFalse, [], ◌∷◌, ◌++◌, Some};
 ghost use Rattle.pict_normal.specs.Made.{IsGrown, IsMade, IsMadeBound, IsReason, IsRow};
 ghost use Rattle.pict_types.specs.Measures.{held, heights_under, rise, rise_bounds, rise_labels, rise_types, weigh, weigh_bounds, weigh_labels, weigh_types, weigh_variable, weights_under};
@@ -15,7 +16,7 @@ use thiserror::Error;
 /// Why a type isn't made.
 #[derive(Debug, Drop, Error)]
 pub enum MakeError {
-    /// The type weighs more than 100,000.
+    /// The weight of the type passes its limit.
     #[error("the type is too heavy")]
     TooHeavy,
     /// Want of memory.
@@ -68,8 +69,8 @@ pub struct Row<T> {
 
 /// Whether the measures are within the limits.
 pub fn is_within(measures: Measures) -> bool
-    ensures yes { IsTrue result → (measures.weight ≤ 100000) × (measures.height ≤ 1000) }
-    ensures no { IsFalse result → measures.weight ≤ 100000 → 1000 < measures.height }
+    ensures yes { IsTrue result → (measures.weight ≤ WEIGHT_LIMIT) × (measures.height ≤ HEIGHT_LIMIT) }
+    ensures no { IsFalse result → measures.weight ≤ WEIGHT_LIMIT → HEIGHT_LIMIT < measures.height }
 {
     too_big(measures).is_none()
 }
@@ -77,7 +78,7 @@ pub fn is_within(measures: Measures) -> bool
 /// The measures, where the weight is within its limit.
 pub fn light(measures: Measures) -> Result<Measures, MakeError>
     ensures same { IfOk result (λ m. m ≡ measures) }
-    ensures light { IfOk result (λ m. m.weight ≤ 100000) }
+    ensures light { IfOk result (λ m. m.weight ≤ WEIGHT_LIMIT) }
     ensures reason { IfErr result (λ e. IsReason measures.weight e) }
 {
     match too_big(measures) {
@@ -89,7 +90,7 @@ pub fn light(measures: Measures) -> Result<Measures, MakeError>
 impl Made {
     /// A type with its measures. It is dropped where it is too high.
     pub fn new(measures: Measures, ty: Ty) -> Made
-        requires { measures.weight ≤ 100000 }
+        requires { measures.weight ≤ WEIGHT_LIMIT }
         ensures made { (ws hs : List ℕ) (t : PlainType) → plain ty ≡ t → measures.weight ≡ held (weigh ws t)
             → measures.height ≡ held (rise hs t) → IsMade ws hs result t }
     {
@@ -144,11 +145,11 @@ impl<T: Drop> Row<T> {
     /// One more part, which is none where it is too high.
     pub fn with(self, measures: Measures, part: Option<T>) -> Result<Row<T>, MakeError>
         ensures weight { IfOk result (λ r. r.measures.weight ≡ self.measures.weight + measures.weight) }
-        ensures light { IfOk result (λ r. r.measures.weight ≤ 100000) }
+        ensures light { IfOk result (λ r. r.measures.weight ≤ WEIGHT_LIMIT) }
         ensures height { IfOk result (λ r. r.measures.height ≡ max self.measures.height measures.height) }
         ensures grown { IfOk result (λ r. IfSome r.items (λ v. IsGrown self.items part v.items)) }
-        ensures missing { IfOk result (λ r. IfNone self.items (1000 < self.measures.height) → IfNone part (1000 < measures.height)
-            → IfNone r.items (1000 < r.measures.height)) }
+        ensures missing { IfOk result (λ r. IfNone self.items (HEIGHT_LIMIT < self.measures.height) → IfNone part (HEIGHT_LIMIT < measures.height)
+            → IfNone r.items (HEIGHT_LIMIT < r.measures.height)) }
         ensures reason { IfErr result (λ e. IsReason (self.measures.weight + measures.weight) e) }
     {
         let measures = light(self.measures.beside(measures))?;

@@ -26,7 +26,7 @@ use std::alloc::{AllocError, Global};
 #[derive(Clone, Copy)]
 struct Operator {
     entry: usize,
-    params: u32,
+    params: usize,
 }
 
 /// The operator whose bare name this is.
@@ -57,13 +57,12 @@ fn parameters(alloc: Global, count: u32) -> Result<Vec<Ty>, AllocError>
     Ok(types)
 }
 
-/// The body of an operator in scope.
-fn operator_body(alloc: Global, c: &Context, operator: Operator) -> Result<Ty, AllocError>
-    requires arity { arity_at (plain_context c.now) operator.entry ≡ Some operator.params }
-    ensures { IfOk result (λ t. plain t ≡ body_of operator.params ((meanings (plain_context c.now)).head_of operator.entry)) }
+/// The body of the entry that is an operator of so many parameters.
+fn operator_body(alloc: Global, c: &Context, entry: usize, count: u32) -> Result<Ty, AllocError>
+    requires arity { arity_at (plain_context c.now) entry ≡ Some count }
+    ensures { IfOk result (λ t. plain t ≡ body_of count ((meanings (plain_context c.now)).head_of entry)) }
 {
-    let count = operator.params;
-    match put_entry(c, number(operator.entry)?) {
+    match put_entry(c, number(entry)?) {
         Put::Variable(i) => {
             fits(i, count)?;
             Ok(Ty::Apply(i + count, parameters(alloc, count)?))
@@ -77,7 +76,7 @@ fn operator_body(alloc: Global, c: &Context, operator: Operator) -> Result<Ty, A
 ///
 /// The body of an operator variable is it applied to its parameters, and the body of a definition is its own. An
 /// operator is no type, so it is not measured: what it makes is, where it is put in. The condition is that of `expand`,
-/// and `Memory` also comes where it does there.
+/// and `Memory` also comes where it does there, and where a `u32` can't hold the number of parameters.
 pub fn expand_arg(alloc: Global, c: &Context, t: &TypeTree) -> Result<Arg, KindError>
     requires labels { HasDistinctLabels (type_of t.now) }
     ensures normal { IfOk result (λ a. plain_arg a ≡ normal_arg_in c.now (type_of t.now)) }
@@ -88,9 +87,12 @@ pub fn expand_arg(alloc: Global, c: &Context, t: &TypeTree) -> Result<Arg, KindE
 {
     match named_operator(c, t) {
         None => Ok(Arg::Plain(expand(alloc, c, t)?)),
-        Some(operator) => Ok(Arg::Op {
-            params: operator.params,
-            body: operator_body(alloc, c, operator)?,
-        }),
+        Some(operator) => {
+            let params = number(operator.params)?;
+            Ok(Arg::Op {
+                params,
+                body: operator_body(alloc, c, operator.entry, params)?,
+            })
+        }
     }
 }

@@ -14,10 +14,12 @@ ghost use Rattle.pict_normal.specs.Raw.{raw, raw_binder, raw_binders, raw_labels
 ghost use Rattle.pict_normal.specs.Refusals.{IsFirst};
 ghost use Rattle.pict_types.specs.Types.{Chan, Operator, Rec};
 
-use crate::binders::Binders;
+use crate::binders::{Binders, copy_kind};
 use crate::stops::{KindError, raw_head, raw_use};
 use crate::tops::becomes_top;
-use pict_syntax::{Code, Id, KindTree, LabelledType, Name, TypeBinder, TypeTree, sort_labels};
+use pict_syntax::{
+    Code, Id, KindTree, LabelledType, Mark, Name, TypeBinder, TypeTree, sort_labels,
+};
 use pict_types::{Bound, Cap, Context, Record, Ty, apply_head, bound_by};
 use std::alloc::Global;
 
@@ -149,7 +151,7 @@ fn raw_binders(
     let mut bounds = Vec::new(alloc);
     for b in bs {
         bounds.push(raw_binder(alloc, b, c, inner)?)?;
-        inner.push(b.id.name, b.kind)?;
+        inner.push(b.id.name, copy_kind(alloc, &b.kind)?)?;
     }
     Ok(bounds)
 }
@@ -168,38 +170,38 @@ fn raw_binder(
     ensures inner { OnOk result (scope_of inner.new ≡ scope_of inner.old) }
 {
     match &b.bound {
-        None => match b.kind {
+        None => match &b.kind {
             None => Ok(Bound::Free),
             Some(KindTree::Plain) => Ok(Bound::Free),
-            Some(KindTree::Operator(n)) => Ok(Bound::Operator(n)),
+            Some(KindTree::Operator(marks)) => Ok(Bound::Operator(Vec::from_slice(alloc, marks)?)),
         },
-        Some(t) => match b.kind {
+        Some(t) => match &b.kind {
             None => Ok(bound_by(raw_type(alloc, t, c, inner)?)),
             Some(KindTree::Plain) => Ok(bound_by(raw_type(alloc, t, c, inner)?)),
-            Some(KindTree::Operator(n)) => operator_bound(alloc, n, b.id, t, c, inner),
+            Some(KindTree::Operator(marks)) => operator_bound(alloc, marks, b.id, t, c, inner),
         },
     }
 }
 
-/// What is known of an operator with a bound, which is refused at its name unless it becomes `Top`.
+/// What is known of an operator with these marks and a bound, which is refused at its name unless it becomes `Top`.
 #[cycle(raw)]
 fn operator_bound(
     alloc: Global,
-    n: u32,
+    marks: &[Mark],
     at: Id,
     t: &TypeTree,
     c: &Context,
     inner: &mut Binders,
 ) -> Result<Bound, KindError>
-    ensures raw { IfOk result (λ d. plain_bound d ≡ Operator n) }
-    ensures kinds { IfOk result (λ _. operator_stops at n inner.old c.now (type_of t.now) ≡ []) }
-    ensures first { IfErr result (λ e. IsFirst (operator_stops at n inner.old c.now (type_of t.now)) e) }
+    ensures raw { IfOk result (λ d. plain_bound d ≡ Operator marks.now) }
+    ensures kinds { IfOk result (λ _. operator_stops at marks.now inner.old c.now (type_of t.now) ≡ []) }
+    ensures first { IfErr result (λ e. IsFirst (operator_stops at marks.now inner.old c.now (type_of t.now)) e) }
     ensures inner { OnOk result (scope_of inner.new ≡ scope_of inner.old) }
 {
     match raw_type(alloc, t, c, inner) {
         Ok(t) => {
             if becomes_top(&t, c, &*inner) {
-                return Ok(Bound::Operator(n));
+                return Ok(Bound::Operator(Vec::from_slice(alloc, marks)?));
             }
             Err(KindError::Named(Code::K3, at.span))
         }

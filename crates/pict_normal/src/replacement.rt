@@ -251,7 +251,9 @@ fn made_bound(
     match b {
         Bound::Free => Ok(MadeBound::leaf(Bound::Free)),
         Bound::Below(t) => bound_of(made_type(alloc, t, puts, inner)?),
-        Bound::Operator(n) => Ok(MadeBound::leaf(Bound::Operator(*n))),
+        Bound::Operator(marks) => Ok(MadeBound::leaf(Bound::Operator(Vec::from_slice(
+            alloc, marks,
+        )?))),
     }
 }
 

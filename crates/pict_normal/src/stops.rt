@@ -67,7 +67,7 @@ fn place_of(c: &Context, inner: &Binders, name: Name) -> Result<Option<u32>, All
 }
 
 /// Of how many arguments the name at this place is an operator; nothing where it is a type.
-fn arity(c: &Context, inner: &Binders, place: usize) -> Option<u32>
+fn arity(c: &Context, inner: &Binders, place: usize) -> Option<usize>
     ensures { result ≡ arity_at (around inner.now c.now) place }
 {
     if place < inner.len() {
@@ -110,7 +110,7 @@ pub fn raw_head(
     match arity(c, inner, i as usize) {
         None => Err(KindError::Named(Code::K1, span)),
         Some(n) => {
-            if n as usize == count {
+            if n == count {
                 return Ok(Some(i));
             }
             Err(KindError::Named(Code::K1, span))

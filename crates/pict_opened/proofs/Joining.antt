@@ -3,11 +3,13 @@
 use Rattle.std.proofs.Common.{◌≡◌, ℕ, zero, suc, ◌+◌, ◌-◌, ◌<◌, true, false, List, [], ◌∷◌, ◌++◌, length, refl, sym, ◌∙◌, ap, subst, Some, arith}
 use Rattle.std.specs.Prelude.{nat_lt, if◌then◌else◌}
 use Rattle.std.proofs.lemmas.Bool.Decides.{nat_tests}
-use Rattle.pict_types.specs.Types.{PlainType, PlainBound, Below, TypeContext}
+use Rattle.pict_types.specs.Types.{PlainType, PlainBound, Below, Operator, TypeContext}
 use Rattle.pict_types.specs.Renaming.{bound_of, rename, rename_bound, moved}
 use Rattle.pict_types.specs.Kinds.{Kind, kinds, kind_at}
 use Rattle.pict_types.proofs.Renamed.{renamed_twice, bound_twice, bound_same, bound_alike, bound_further, bound_before, moved_is_suc}
 use Rattle.pict_types.proofs.Formed.{same_kind}
+use Rattle.pict_syntax.specs.declared.type_tree.Mark.{Mark}
+use Rattle.pict_sub.proofs.Renamed.{operator_before}
 use Rattle.pict_erase.specs.Embedding.{Embeds}
 
 -- these bounds with k more variables between them and their context
@@ -101,7 +103,7 @@ kind_first k (y ∷ ys) c d zero h = ap Some (sym (same_kind (moved k (length ys
 kind_first k (y ∷ ys) c d (suc i) h = kind_first k ys c d i (omega (arith, h))
 
 pub joins : (xs ys : List PlainBound) (c d : TypeContext) (g h : ℕ → ℕ) → Embeds g (xs ++ c) d → Embeds h (ys ++ c) d → ((i : ℕ) → g (i + length xs) ≡ h (i + length ys)) → Embeds (joined_by (length ys) g h) (joined_bounds xs ys c) d
-joins xs ys c d g h x y agree = record { keeps = record { each = λ i b e. bounds_ i b (side (length ys) i) e }; kept = λ i k e. kinds_ i k (side (length ys) i) e }
+joins xs ys c d g h x y agree = record { keeps = record { each = λ i b e. bounds_ i b (side (length ys) i) e; marks = λ i ms e. marks_ i ms (side (length ys) i) e }; kept = λ i k e. kinds_ i k (side (length ys) i) e }
   where
     f : ℕ → ℕ
     f = joined_by (length ys) g h
@@ -125,6 +127,17 @@ joins xs ys c d g h x y agree = record { keeps = record { each = λ i b e. bound
         let q = sym (past_bounds (moved_bounds (length xs) ys) (xs ++ c) k) ∙ ap (bound_of (joined_bounds xs ys c)) (sym n) ∙ e in
         let u = bound_before (moved (length (moved_bounds (length xs) ys)) 0) (bound_of (xs ++ c) k) b q in
         ap (bound_of d) (joined_outside (length ys) g h k) ∙ x.keeps.each k u.0 u.1 ∙ ap Below (sym (type_after f (moved (length (moved_bounds (length xs) ys)) 0) g u.0 (λ j. ap f (ap (λ m. j + m) (length_moved (length xs) ys)) ∙ joined_outside (length ys) g h j)) ∙ ap (rename f) u.2)
+
+    marks_ : (i : ℕ) (ms : List Mark) → Side (length ys) i → bound_of (joined_bounds xs ys c) i ≡ Operator ms → bound_of d (f i) ≡ Operator ms
+    marks_ i ms (inside l) e =
+        let q = sym (inserted xs ys c i) ∙ ap (bound_of (joined_bounds xs ys c)) (moved_below (length xs) (length ys) i l) ∙ e in
+        let u = operator_before (moved (length xs) (length ys)) (bound_of (ys ++ c) i) ms q in
+        ap (bound_of d) (joined_inside (length ys) g h i l) ∙ y.keeps.marks i ms u
+    marks_ i ms (outside k) e =
+        let n : k + length ys ≡ k + length (moved_bounds (length xs) ys) = ap (λ m. k + m) (sym (length_moved (length xs) ys)) in
+        let q = sym (past_bounds (moved_bounds (length xs) ys) (xs ++ c) k) ∙ ap (bound_of (joined_bounds xs ys c)) (sym n) ∙ e in
+        let u = operator_before (moved (length (moved_bounds (length xs) ys)) 0) (bound_of (xs ++ c) k) ms q in
+        ap (bound_of d) (joined_outside (length ys) g h k) ∙ x.keeps.marks k ms u
 
     kinds_ : (i : ℕ) (k : Kind) → Side (length ys) i → kind_at (kinds (joined_bounds xs ys c)) i ≡ Some k → kind_at (kinds d) (f i) ≡ Some k
     kinds_ i k (inside l) e = ap (kind_at (kinds d)) (joined_inside (length ys) g h i l) ∙ y.kept i k (sym (kind_first (length xs) ys (xs ++ c) c i l) ∙ e)

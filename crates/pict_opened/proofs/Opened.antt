@@ -1,32 +1,39 @@
 -- What a pattern opens embeds the type variables before it.
 use Rattle.std.proofs.Common.{◌≡◌, ℕ, suc, ◌+◌, List, ◌∷◌, refl, sym, ◌∙◌, ap, arith}
 use Rattle.pict_types.specs.Types.{PlainType, PlainTypes, PlainLabels, PlainBound, Below, TypeContext}
-use Rattle.pict_types.specs.Renaming.{bound_of, rename, rename_bound, moved}
+use Rattle.pict_types.specs.Renaming.{bound_of, rename, moved}
 use Rattle.pict_types.specs.Kinds.{kinds, kind_at}
-use Rattle.pict_types.proofs.Renamed.{rename_same, bound_further}
+use Rattle.pict_types.proofs.Renamed.{rename_same}
+use Rattle.pict_sub.proofs.Renamed.{one_more}
 use Rattle.pict_core.specs.Term.{Pat, Pats, LabelledPats}
 use Rattle.pict_typing.specs.Opening.{Opens, binds_one, binds_none, lowered, opens_unfolding, opens_field, opens_record, OpenTypes, opens_none, opens_more, OpenLabels, opens_no_label, opens_label}
 use Rattle.pict_erase.specs.Embedding.{Embeds}
 use Rattle.pict_opened.proofs.Joining.{type_after}
 
 pub embeds_same : (c : TypeContext) → Embeds (λ i. i) c c
-embeds_same c = record { keeps = record { each = λ i b e. e ∙ ap Below (sym (rename_same b (record { each = λ j. refl }))) }; kept = λ i k e. e }
+embeds_same c = record { keeps = record { each = λ i b e. e ∙ ap Below (sym (rename_same b (record { each = λ j. refl }))); marks = λ i ms e. e }; kept = λ i k e. e }
 
 embeds_none : (c : TypeContext) → Embeds (moved 0 0) c c
 embeds_none c = record {
-  keeps = record { each = λ i b e. ap (bound_of c) (omega arith) ∙ e ∙ ap Below (sym (rename_same b (record { each = λ j. omega arith }))) };
+  keeps = record {
+    each = λ i b e. ap (bound_of c) (omega arith) ∙ e ∙ ap Below (sym (rename_same b (record { each = λ j. omega arith })));
+    marks = λ i ms e. ap (bound_of c) (omega arith) ∙ e;
+  };
   kept = λ i k e. ap (kind_at (kinds c)) (omega arith) ∙ e;
 }
 
 -- g after f is h
 pub embeds_after : {g f : ℕ → ℕ} (h : ℕ → ℕ) {b c d : TypeContext} → Embeds f b c → Embeds g c d → ((i : ℕ) → g (f i) ≡ h i) → Embeds h b d
 embeds_after {g = g} {f = f} h {d = d} x y e = record {
-  keeps = record { each = λ i b q. ap (bound_of d) (sym (e i)) ∙ y.keeps.each (f i) (rename f b) (x.keeps.each i b q) ∙ ap Below (type_after g f h b e) };
+  keeps = record {
+    each = λ i b q. ap (bound_of d) (sym (e i)) ∙ y.keeps.each (f i) (rename f b) (x.keeps.each i b q) ∙ ap Below (type_after g f h b e);
+    marks = λ i ms q. ap (bound_of d) (sym (e i)) ∙ y.keeps.marks (f i) ms (x.keeps.marks i ms q);
+  };
   kept = λ i k q. ap (kind_at (kinds d)) (sym (e i)) ∙ y.kept (f i) k (x.kept i k q);
 }
 
 further_in : (b : PlainBound) (c : TypeContext) → Embeds suc c (b ∷ c)
-further_in b c = record { keeps = record { each = λ i t q. bound_further b c i ∙ ap (rename_bound suc) q }; kept = λ i k q. q }
+further_in b c = record { keeps = one_more b c; kept = λ i k q. q }
 
 embeds_more : (m n : ℕ) {c d e : TypeContext} → Embeds (moved m 0) c d → Embeds (moved n 0) d e → Embeds (moved (m + n) 0) c e
 embeds_more m n x y = embeds_after (moved (m + n) 0) x y (λ i. omega arith)

@@ -1,3 +1,4 @@
 pub mod Exact
+pub mod Imports
 pub mod Loop
 pub mod Others

@@ -1,24 +1,20 @@
 // From the tokens of a text to its program.
 
-ghost use Rattle.std.specs.Prelude.{◌≡◌, ◌<◌, IfOk, IfSome, length};
-ghost use Rattle.pict_syntax.specs.Verdicts.{Verdict, IsVerdict, StandsAtEnd};
-ghost use Rattle.pict_parse.specs.Answers.{Answers, Ends, verdict_of};
-ghost use Rattle.pict_automaton.specs.Machine.{start};
-ghost use Rattle.pict_automaton.specs.Places.{for_value, have_definition, need};
-ghost use Rattle.pict_parse_states.specs.View.{definitions_in, declaration_place_of, place_of, state_of, value_place_of};
-ghost use Rattle.pict_syntax.specs.PlainTrees.{abs_of};
+ghost use Rattle.std.specs.Prelude.{◌≡◌, ◌≢◌, true, false, IfSome};
+ghost use Rattle.pict_syntax.specs.declared.token.TokenKind.TheVariants.{Keyword as KeywordKind};
+ghost use Rattle.pict_syntax.specs.declared.token.Keyword.TheVariants.{Import as ImportKeyword};
+ghost use Rattle.pict_syntax.specs.Programs.{Program as PlainProgram, programs};
+ghost use Rattle.pict_syntax.specs.Verdicts.{Verdict, IsVerdict, end_place};
+ghost use Rattle.pict_parse.specs.Answers.{Answers, IsImportOf, verdict_of};
 
-use crate::token_step::step;
-use pict_parse_states::{
-    DeclarationPlace, Fault, Place, State, ValuePlace, Wait, abs_span, is_within, join,
-};
-use pict_syntax::{Abs, Dec, Definition, Id, NESTING_LIMIT, Program, Span, Token};
-use std::alloc::{AllocError, Global};
+use crate::declarations::parse_declarations;
+use pict_syntax::{Import, Keyword, Program, Span, Token, TokenKind};
+use std::alloc::{AllocError, AllocFailed, Global};
 
 /// Why the tokens of a text are refused.
 #[derive(Debug, Drop, thiserror::Error)]
 pub enum ParseError {
-    /// The place of the first token after which no program can follow, or the end of the text.
+    /// The place of the first token that can't follow those before it, or the end of the text.
     #[error("unexpected token")]
     Unexpected(Span),
     /// The place of the first token that is nested too deep.
@@ -40,48 +36,56 @@ impl From<AllocError> for ParseError {
     }
 }
 
-/// The only program whose tree these tokens are. `end` is the length of the text, in bytes. Takes time in proportion to
-/// the number of tokens.
-///
-/// `Unexpected` comes exactly where the tokens are those of no program and none before the wrong place is nested more
-/// than 200 deep: with the place of the first token after which no program can follow, or, where some program begins
-/// with all of the tokens, with the empty place at `end`. `TooNested` comes exactly where a token is nested more than
-/// 200 deep before which no token is wrong, with the place of the first such token. A token's nesting counts the
-/// brackets, conditionals, type prefixes and abstractions that begin at or before it and end at or after it.
-pub fn parse(alloc: Global, tokens: &[Token], end: u32) -> Result<Program, ParseError>
-    ensures verdict { IfSome (verdict_of result) (IsVerdict tokens.now end) }
-    ensures exact { (verdict : Verdict) → IsVerdict tokens.now end verdict → Answers result verdict }
-{
-    let mut state = start(alloc)?;
-    for token in tokens {
-        state = match step(alloc, token, state) {
-            Ok(next) => next,
-            Err(Fault::Unexpected) => return Err(ParseError::Unexpected(token.span)),
-            Err(Fault::Memory) => return Err(ParseError::Memory),
-        };
-        if !is_within(&state, NESTING_LIMIT) {
-            drop(state);
-            return Err(ParseError::TooNested(token.span));
-        }
-    }
-    match ended(state)? {
-        Some(program) => Ok(program),
-        None => Err(ParseError::Unexpected(end_of(tokens, end))),
+impl<T: Drop> From<AllocFailed<T>> for ParseError {
+    ghost use Rattle.std.specs.Prelude.{◌≡◌};
+    ghost use Rattle.pict_parse.specs.declared.entry.ParseError.TheVariants.{Memory};
+
+    ghost from_gives = { λ _ e. e ≡ Memory };
+
+    fn from(_e: AllocFailed<T>) -> ParseError {
+        ParseError::Memory
     }
 }
 
-/// The state in which reading begins.
-#[tactic(auto, using(pict_syntax::proofs::DeclarationLists::declaration_lists))]
-fn start(alloc: Global) -> Result<State, AllocError>
-    ensures { IfOk result (λ state. state_of state ≡ start) }
+/// The only program whose tree these tokens are. `end` is the length of the text, in bytes. Takes time in proportion to
+/// the number of tokens and the bytes of the imports' names.
+///
+/// A program is imports, each of which is the keyword `import` and a string, and then declarations. No declaration begins
+/// with the keyword, so the imports are read first, two tokens each.
+///
+/// `Unexpected` comes exactly where the tokens are those of no program and none before the wrong place is nested more
+/// than 200 deep: with the place of the first token after which no program can follow, or, where some program begins
+/// with all of the tokens, with the empty place at `end`. So it stands at a token behind `import` that is no string, at
+/// the end where `import` is the last token, and at an `import` behind a declaration. `TooNested` comes exactly where a
+/// token is nested more than 200 deep before which no token is wrong, with the place of the first such token. A token's
+/// nesting counts the brackets, conditionals, type prefixes and abstractions that begin at or before it and end at or
+/// after it: the tokens of an import have none.
+pub fn parse(alloc: Global, tokens: &[Token], end: u32) -> Result<Program, ParseError>
+    ensures verdict { IfSome (verdict_of result) (IsVerdict programs tokens.now (end_place tokens.now end)) }
+    ensures exact { (verdict : Verdict PlainProgram) → IsVerdict programs tokens.now (end_place tokens.now end) verdict → Answers (verdict_of result) verdict }
 {
-    let place = ValuePlace::Waiting(Wait::Top(Vec::new(alloc)));
-    Ok(State::Need(Place::Value(Box::new(alloc, place)?)))
+    let place = end_of(tokens, end);
+    let mut imports = Vec::new(alloc);
+    let mut at = 0;
+    'imports: while at < tokens.len() && is_import(&tokens[at]) {
+        if tokens.len() - at < 2 {
+            return Err(ParseError::Unexpected(place));
+        }
+        match import_of(alloc, &tokens[at + 1]) {
+            Err(error) => return Err(error),
+            Ok(import) => imports.push(import)?,
+        }
+        at += 2;
+    }
+    match parse_declarations(alloc, &tokens[at..], place) {
+        Ok(decs) => Ok(Program { imports, decs }),
+        Err(error) => Err(error),
+    }
 }
 
 /// The empty place at the end of the text that the tokens are of.
 fn end_of(tokens: &[Token], end: u32) -> Span
-    ensures { 0 < length tokens.now → StandsAtEnd tokens.now end result }
+    ensures { result ≡ end_place tokens.now end }
 {
     let text = match tokens.first() {
         Some(first) => first.span.text,
@@ -94,66 +98,26 @@ fn end_of(tokens: &[Token], end: u32) -> Span
     }
 }
 
-/// The program that has been read, where a text may end.
-fn ended(state: State) -> Result<Option<Program>, AllocError>
-    ensures { IfOk result (λ p. Ends (state_of state) p) }
+/// Whether this is the keyword `import`.
+fn is_import(token: &Token) -> bool
+    ensures yes { result ≡ true → token.now.kind ≡ KeywordKind ImportKeyword }
+    ensures no { result ≡ false → token.now.kind ≢ KeywordKind ImportKeyword }
 {
-    match state {
-        State::Need(place) => Ok(ended_at(place)),
-        State::HaveDefinition(from, definitions, id, abs, place) => {
-            ended_by_def(from, definitions, id, abs, place)
-        }
-        other => {
-            drop(other);
-            Ok(None)
-        }
+    match &token.kind {
+        TokenKind::Keyword(Keyword::Import) => true,
+        _ => false,
     }
 }
 
-/// The program before what may come at this place.
-fn ended_at(place: Place) -> Option<Program>
-    ensures { Ends (need (place_of place)) result }
+/// The import whose name this token says: it must be a string.
+fn import_of(alloc: Global, token: &Token) -> Result<Import, ParseError>
+    ensures { IsImportOf token.now result }
 {
-    match place {
-        Place::Value(place) => ended_before_value(Box::into_inner(place)),
-        other => {
-            drop(other);
-            None
-        }
-    }
-}
-
-/// The program before a value that may come.
-fn ended_before_value(place: ValuePlace) -> Option<Program>
-    ensures { Ends (need (for_value (value_place_of place))) result }
-{
-    match place {
-        ValuePlace::Waiting(Wait::Top(decs)) => Some(Program { decs }),
-        other => {
-            drop(other);
-            None
-        }
-    }
-}
-
-/// The program that has been read up to an abstraction of a `def`, where a text may end.
-#[tactic(auto, using(pict_syntax::proofs::ValueLists::tree_lists))]
-fn ended_by_def(
-    from: Span,
-    mut definitions: Vec<Definition>,
-    id: Id,
-    abs: Abs,
-    place: DeclarationPlace,
-) -> Result<Option<Program>, AllocError>
-    ensures { IfOk result (λ p. Ends (have_definition from (definitions_in definitions) id (abs_of abs) (declaration_place_of place)) p) }
-{
-    match place {
-        DeclarationPlace::Top(mut decs) => {
-            let span = join(from, abs_span(&abs));
-            definitions.push(Definition { id, abs })?;
-            decs.push(Dec::Def(span, definitions))?;
-            Ok(Some(Program { decs }))
-        }
-        DeclarationPlace::Paren(..) => Ok(None),
+    match &token.kind {
+        TokenKind::String(name) => Ok(Import {
+            name: name.copy(alloc)?,
+            span: token.span,
+        }),
+        _ => Err(ParseError::Unexpected(token.span)),
     }
 }

@@ -1,8 +1,10 @@
-//! The parser: from the tokens of a text to its program, in one pass over a pushdown automaton.
+//! The parser: from the tokens of a text to its program, in one pass.
 #![tactic(auto)]
 
+mod declarations;
 mod entry;
 mod token_step;
 
+pub use declarations::parse_declarations;
 pub use entry::{ParseError, parse};
-pub use pict_automaton::{law_one_tree, law_one_verdict};
+pub use pict_programs::{law_one_tree, law_one_verdict};

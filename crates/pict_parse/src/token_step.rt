@@ -8,7 +8,7 @@ use pict_parse_types::{
     begin_pattern, begin_type, step_abstraction_open, step_abstraction_parameters,
     step_abstraction_pattern, step_abstraction_result, step_alias_name, step_any, step_bind,
     step_binder_kind, step_binder_name, step_binders, step_definition_keyword, step_hash,
-    step_kind_arguments, step_kind_arrow, step_kind_result, step_let_pattern,
+    step_kind_arguments, step_kind_arrow, step_kind_mark, step_kind_result, step_let_pattern,
     step_need_abstraction, step_need_kind, step_new_keyword, step_new_name,
     step_operator_arguments, step_operator_closed, step_operator_open, step_operator_parameters,
     step_pattern_folded, step_pattern_label, step_pattern_labels, step_pattern_name,
@@ -109,15 +109,18 @@ pub fn step(alloc: Global, token: &Token, state: State) -> Result<State, Fault>
         ),
         State::BinderHash(hash, place) => step_hash(kind, at, hash, place),
         State::BinderName(hash, id, place) => step_binder_name(alloc, kind, at, hash, id, place),
-        State::NeedKind(hash, id, place) => step_need_kind(kind, at, hash, id, place),
-        State::KindArguments(hash, id, count, place) => step_kind_arguments(
-            kind, at, hash, id, count, place,
+        State::NeedKind(hash, id, place) => step_need_kind(alloc, kind, at, hash, id, place),
+        State::KindArguments(hash, id, marks, place) => step_kind_arguments(
+            kind, at, hash, id, marks, place,
         ),
-        State::KindArrow(hash, id, count, place) => step_kind_arrow(
-            kind, at, hash, id, count, place,
+        State::KindMark(hash, id, marks, mark, place) => step_kind_mark(
+            kind, at, hash, id, marks, mark, place,
         ),
-        State::KindResult(hash, id, count, place) => step_kind_result(
-            kind, at, hash, id, count, place,
+        State::KindArrow(hash, id, marks, place) => step_kind_arrow(
+            kind, at, hash, id, marks, place,
+        ),
+        State::KindResult(hash, id, marks, place) => step_kind_result(
+            kind, at, hash, id, marks, place,
         ),
         State::BinderKind(hash, id, written, end, place) => step_binder_kind(
             alloc, kind, at, hash, id, written, end, place,

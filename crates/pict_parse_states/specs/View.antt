@@ -1,5 +1,5 @@
 -- What the parser's values stand for.
-use Rattle.std.specs.Prelude.{◌≡◌, Result, Ok, Err}
+use Rattle.std.specs.Prelude.{◌≡◌, option_map, Result, Ok, Err}
 use Rattle.std.specs.Prelude.{Vec}
 use Rattle.std.specs.declared.alloc.Global.{Global}
 use Rattle.pict_syntax.specs.declared.type_tree.TypeTree.{TypeTree as RTypeTree}
@@ -12,7 +12,7 @@ use Rattle.pict_syntax.specs.declared.tree.Definition.{Definition as RDefinition
 use Rattle.pict_syntax.specs.declared.tree.Val.{Val as RVal}
 use Rattle.pict_syntax.specs.declared.tree.LabelledVal.{LabelledVal as RLabelledVal}
 use Rattle.pict_syntax.specs.declared.tree.Proc.{Proc as RProc}
-use Rattle.pict_syntax.specs.PlainTrees.{type_of, types_on, binders_on, labelled_types_on, annotation_of, pat_of, field_pats_of, pats_on, labelled_pats_on, abs_of, chan_of, val_of, proc_of, definitions_on, decs_on, vals_on, labelled_vals_on, procs_on}
+use Rattle.pict_syntax.specs.PlainTrees.{kind_of, type_of, types_on, binders_on, labelled_types_on, annotation_of, pat_of, field_pats_of, pats_on, labelled_pats_on, abs_of, chan_of, val_of, proc_of, definitions_on, decs_on, vals_on, labelled_vals_on, procs_on}
 use Rattle.pict_syntax.specs.Trees.{TypeTrees, TypeBinders, LabelledTypes, Pats, LabelledPats, Decs, Definitions, Vals, LabelledVals, Procs, no_types, no_binders, no_labelled_types, no_pats, no_labelled_pats, no_decs, no_definitions, no_vals, no_labelled_vals, no_procs}
 use Rattle.pict_parse_states.specs.declared.places.Side.{Side as RSide}
 use Rattle.pict_parse_states.specs.declared.places.Side.TheVariants.{Rightward, Leftward}
@@ -35,10 +35,10 @@ use Rattle.pict_parse_states.specs.declared.places.FieldPatternsPlace.{FieldPatt
 use Rattle.pict_parse_states.specs.declared.places.TypePlace.{TypePlace as RTypePlace, New as TNew, Alias as TAlias, Operator as TOperator, Bind as TBind, Any as TAny, Result as TResult, PatternFold as TPatFold, Fold as TFold, Bound' as TBound, Prefix' as TPrefix, Field' as TField, Label' as TLabel, Apply' as TApply, Rec' as TRec, Argument as TArgument}
 use Rattle.pict_parse_states.specs.declared.places.BinderPlace.{BinderPlace as RBinderPlace, Patterns as BPats, Types' as BTypes}
 use Rattle.pict_parse_states.specs.declared.states.State.{State as RState}
-use Rattle.pict_parse_states.specs.declared.states.State.TheVariants.{Need, FreshName, Arguments, HaveChannel, HaveValue, HaveEither, HaveProcess, HaveProcesses, NewKeyword, NewName, LetPattern, DefinitionKeyword, HaveDefinition, TypeKeyword, AliasName, OperatorOpen, OperatorParameters, OperatorClosed, NeedAbstraction, AbstractionOpen, AbstractionPattern, AbstractionParameters, AbstractionResult, NeedPattern, PatternOpen, PatternRec, PatternFolded, HaveBind, HaveAny, AfterBinders, AfterPatterns, PatternName, AfterPatternLabels, PatternLabel, BinderHash, BinderName, NeedKind, KindArguments, KindArrow, KindResult, BinderKind, NeedType, TypeOpen, RecKeyword, RecName, RecBody, OperatorArguments, AfterTypeBinders, AfterTypes, TypeName, AfterTypeLabels, TypeLabel, FoldKeyword, FoldBody, AfterArguments, AfterValues, ValueName, AfterLabels, ValueLabel}
+use Rattle.pict_parse_states.specs.declared.states.State.TheVariants.{Need, FreshName, Arguments, HaveChannel, HaveValue, HaveEither, HaveProcess, HaveProcesses, NewKeyword, NewName, LetPattern, DefinitionKeyword, HaveDefinition, TypeKeyword, AliasName, OperatorOpen, OperatorParameters, OperatorClosed, NeedAbstraction, AbstractionOpen, AbstractionPattern, AbstractionParameters, AbstractionResult, NeedPattern, PatternOpen, PatternRec, PatternFolded, HaveBind, HaveAny, AfterBinders, AfterPatterns, PatternName, AfterPatternLabels, PatternLabel, BinderHash, BinderName, NeedKind, KindArguments, KindMark, KindArrow, KindResult, BinderKind, NeedType, TypeOpen, RecKeyword, RecName, RecBody, OperatorArguments, AfterTypeBinders, AfterTypes, TypeName, AfterTypeLabels, TypeLabel, FoldKeyword, FoldBody, AfterArguments, AfterValues, ValueName, AfterLabels, ValueLabel}
 use Rattle.pict_parse_states.specs.declared.states.Fault.{Fault}
 use Rattle.pict_parse_states.specs.declared.states.Fault.TheVariants.{Unexpected, Memory}
-use Rattle.pict_automaton.specs.Places.{Side, rightward, leftward, Ask, asks_once, asks_always, Prefix, both, read, write, respond, ValuePlace, in_let, in_function, in_send, in_side, in_field, in_label, in_fold, in_else, waiting, Wait, at_top, in_test, in_then, in_paren, ProcessPlace, in_run, in_process, in_else_process, in_bar, in_then_process, EitherPlace, in_paren_either, in_then_either, ProcessPlaces, process_only, process_either, ValuePlaces, value_only, value_either, Place, for_value, for_process, for_either, DeclarationPlace, top_declarations, paren_declarations, AbstractionPlace, in_definition, in_lambda, in_input, FieldsPlace, in_record, in_apply, PatternPlace, in_let_pattern, in_abstraction_pattern, in_fold_pattern, in_field_pattern, in_label_pattern, FieldPatternsPlace, in_pattern_record, in_parameters, TypePlace, in_new, in_alias, in_operator, in_bind, in_any, in_result, in_pattern_fold_type, in_fold_type, in_bound, in_prefix, in_type_field, in_type_label, in_type_apply, in_rec, in_argument, BinderPlace, of_patterns, of_types, State, stop, need, fresh_name, arguments, have_channel, have_value, have_either, have_process, have_processes, new_keyword, new_name, let_pattern, definition_keyword, have_definition, type_keyword, alias_name, operator_open, operator_parameters, operator_closed, need_abstraction, abstraction_open, abstraction_pattern, abstraction_parameters, abstraction_result, need_pattern, pattern_open, pattern_rec, pattern_folded, have_bind, have_any, after_binders, after_patterns, pattern_name, after_pattern_labels, pattern_label, binder_hash, binder_name, need_kind, kind_arguments, kind_arrow, kind_result, binder_kind, need_type, type_open, rec_keyword, rec_name, rec_body, operator_arguments, after_type_binders, after_types, type_name, after_type_labels, type_label, fold_keyword, fold_body, after_arguments, after_values, value_name, after_labels, value_label}
+use Rattle.pict_automaton.specs.Places.{Side, rightward, leftward, Ask, asks_once, asks_always, Prefix, both, read, write, respond, ValuePlace, in_let, in_function, in_send, in_side, in_field, in_label, in_fold, in_else, waiting, Wait, at_top, in_test, in_then, in_paren, ProcessPlace, in_run, in_process, in_else_process, in_bar, in_then_process, EitherPlace, in_paren_either, in_then_either, ProcessPlaces, process_only, process_either, ValuePlaces, value_only, value_either, Place, for_value, for_process, for_either, DeclarationPlace, top_declarations, paren_declarations, AbstractionPlace, in_definition, in_lambda, in_input, FieldsPlace, in_record, in_apply, PatternPlace, in_let_pattern, in_abstraction_pattern, in_fold_pattern, in_field_pattern, in_label_pattern, FieldPatternsPlace, in_pattern_record, in_parameters, TypePlace, in_new, in_alias, in_operator, in_bind, in_any, in_result, in_pattern_fold_type, in_fold_type, in_bound, in_prefix, in_type_field, in_type_label, in_type_apply, in_rec, in_argument, BinderPlace, of_patterns, of_types, State, stop, need, fresh_name, arguments, have_channel, have_value, have_either, have_process, have_processes, new_keyword, new_name, let_pattern, definition_keyword, have_definition, type_keyword, alias_name, operator_open, operator_parameters, operator_closed, need_abstraction, abstraction_open, abstraction_pattern, abstraction_parameters, abstraction_result, need_pattern, pattern_open, pattern_rec, pattern_folded, have_bind, have_any, after_binders, after_patterns, pattern_name, after_pattern_labels, pattern_label, binder_hash, binder_name, need_kind, kind_arguments, kind_mark, kind_arrow, kind_result, binder_kind, need_type, type_open, rec_keyword, rec_name, rec_body, operator_arguments, after_type_binders, after_types, type_name, after_type_labels, type_label, fold_keyword, fold_body, after_arguments, after_values, value_name, after_labels, value_label}
 
 -- the trees that a vector holds, as a plain list
 abbrev pub types_in : Vec RTypeTree Global → TypeTrees
@@ -162,7 +162,7 @@ abbrev mutual
   type_place_of (TResult o f p) = in_result o (field_pats_of f) (abstraction_place_of p.value)
   type_place_of (TPatFold o p) = in_pattern_fold_type o (pattern_place_of p.value)
   type_place_of (TFold o p) = in_fold_type o (place_of p)
-  type_place_of (TBound h x k _ p) = in_bound h x k (binder_place_of p)
+  type_place_of (TBound h x k _ p) = in_bound h x (option_map kind_of k) (binder_place_of p)
   type_place_of (TPrefix m i _ p) = in_prefix (prefix_of m) i (type_place_of p)
   type_place_of (TField o bs ts _ p) = in_type_field o (binders_in bs) (types_in ts) (type_place_of p)
   type_place_of (TLabel o bs ts ls x _ p) = in_type_label o (binders_in bs) (types_in ts) (labelled_types_in ls) x (type_place_of p)
@@ -212,10 +212,11 @@ state_of (PatternLabel p bs ps ls x) = pattern_label (patterns_place_of p.value)
 state_of (BinderHash h p) = binder_hash h (binder_place_of p.value)
 state_of (BinderName h x p) = binder_name h x (binder_place_of p.value)
 state_of (NeedKind h x p) = need_kind h x (binder_place_of p.value)
-state_of (KindArguments h x n p) = kind_arguments h x n (binder_place_of p.value)
-state_of (KindArrow h x n p) = kind_arrow h x n (binder_place_of p.value)
-state_of (KindResult h x n p) = kind_result h x n (binder_place_of p.value)
-state_of (BinderKind h x k j p) = binder_kind h x k j (binder_place_of p.value)
+state_of (KindArguments h x ms p) = kind_arguments h x ms.items (binder_place_of p.value)
+state_of (KindMark h x ms m p) = kind_mark h x ms.items m (binder_place_of p.value)
+state_of (KindArrow h x ms p) = kind_arrow h x ms.items (binder_place_of p.value)
+state_of (KindResult h x ms p) = kind_result h x ms.items (binder_place_of p.value)
+state_of (BinderKind h x k j p) = binder_kind h x (kind_of k) j (binder_place_of p.value)
 state_of (NeedType p) = need_type (type_place_of p.value)
 state_of (TypeOpen o p) = type_open o (type_place_of p.value)
 state_of (RecKeyword o p) = rec_keyword o (type_place_of p.value)

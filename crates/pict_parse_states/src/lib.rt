@@ -3,7 +3,6 @@
 
 mod opened;
 mod places;
-mod spans;
 mod states;
 mod within;
 
@@ -13,6 +12,5 @@ pub use places::{
     FieldsPlace, PatternPlace, Place, Prefix, ProcessPlace, ProcessPlaces, Side, TypePlace,
     ValuePlace, ValuePlaces, Wait,
 };
-pub use spans::{abs_span, chan_span, join, pat_span, proc_span, type_span, val_span};
 pub use states::{Fault, State};
 pub use within::is_within;

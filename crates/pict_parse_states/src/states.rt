@@ -6,7 +6,7 @@ use crate::places::{
 };
 use pict_syntax::{
     Abs, Chan, Dec, Definition, FieldPats, Id, KindTree, LabelledPat, LabelledType, LabelledVal,
-    Pat, Proc, RType, Span, TypeBinder, TypeTree, Val,
+    Mark, Pat, Proc, RType, Span, TypeBinder, TypeTree, Val,
 };
 use std::alloc::{AllocError, AllocFailed};
 
@@ -88,12 +88,14 @@ pub enum State {
     BinderName(Span, Id, Box<BinderPlace>),
     /// `# Id : . Kind < Type`
     NeedKind(Span, Id, Box<BinderPlace>),
-    /// `( Type* . Type* -> Type )`
-    KindArguments(Span, Id, u32, Box<BinderPlace>),
-    /// `( Type+ -> . Type )`
-    KindArrow(Span, Id, u32, Box<BinderPlace>),
-    /// `( Type+ -> Type . )`
-    KindResult(Span, Id, u32, Box<BinderPlace>),
+    /// `( Mark* . Mark* -> Type )`
+    KindArguments(Span, Id, Vec<Mark>, Box<BinderPlace>),
+    /// `( Mark* + . Type Mark* -> Type )`, `( Mark* - . Type Mark* -> Type )`
+    KindMark(Span, Id, Vec<Mark>, Mark, Box<BinderPlace>),
+    /// `( Mark+ -> . Type )`
+    KindArrow(Span, Id, Vec<Mark>, Box<BinderPlace>),
+    /// `( Mark+ -> Type . )`
+    KindResult(Span, Id, Vec<Mark>, Box<BinderPlace>),
     /// `# Id : Kind . < Type`
     BinderKind(Span, Id, KindTree, Span, Box<BinderPlace>),
     /// `. Type`

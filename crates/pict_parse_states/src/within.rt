@@ -56,6 +56,7 @@ pub fn is_within(state: &State, limit: u32) -> bool
         | State::NeedKind(.., place)
         | State::BinderKind(.., place) => binder_within(place, limit),
         State::KindArguments(.., place)
+        | State::KindMark(.., place)
         | State::KindArrow(.., place)
         | State::KindResult(.., place) => limit > 0 && binder_within(place, limit - 1),
         State::NeedType(place) => type_within(place, limit),

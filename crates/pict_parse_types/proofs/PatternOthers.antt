@@ -1,14 +1,14 @@
 -- What the tokens lead to that no line names.
-use Rattle.std.proofs.Common.{◌≡◌, ℕ, zero, suc, List, [], ◌∷◌, length, refl, arith}
+use Rattle.std.proofs.Common.{◌≡◌, List, [], ◌∷◌, length, refl, arith}
 use Rattle.std.specs.Prelude.{None, Some}
 use Rattle.pict_syntax.specs.declared.span.Span.{Span}
 use Rattle.pict_syntax.specs.declared.id.Id.{Id}
-use Rattle.pict_syntax.specs.declared.type_tree.KindTree.{KindTree}
+use Rattle.pict_syntax.specs.declared.type_tree.Mark.{Mark}
 use Rattle.pict_syntax.specs.declared.token.TokenKind.{TokenKind}
 use Rattle.pict_syntax.specs.declared.token.TokenKind.TheVariants.{Identifier, Keyword, Sign}
 use Rattle.pict_syntax.specs.declared.token.Keyword.TheVariants.{Rec}
 use Rattle.pict_syntax.specs.declared.token.Sign.TheVariants.{Equals, OpenParen, CloseParen, CloseBracket, Colon, Less, Hash}
-use Rattle.pict_syntax.specs.Trees.{TypeBinders, no_binders, Pats, no_pats, bind_pat, any_pat, type_binder, unbounded}
+use Rattle.pict_syntax.specs.Trees.{KindTree, TypeBinders, no_binders, Pats, no_pats, bind_pat, any_pat, type_binder, unbounded}
 use Rattle.pict_syntax.specs.Phrases.{join}
 use Rattle.pict_automaton.specs.Places.{DeclarationPlace, AbstractionPlace, PatternPlace, FieldPatternsPlace, BinderPlace, stop, in_abstraction_pattern, in_parameters, in_fold_pattern, in_field_pattern, operator_closed, kind_arrow}
 use Rattle.pict_automaton.specs.Machine.{begin_pattern, step_pattern, step_patterns, step_binders, step_binder, step_bind, step_need_abstraction, step_abstraction_open, step_pattern_rec, step_any, step_pattern_name, step_binder_name, step_binder_kind, close_operator, kind_arrow_at}
@@ -64,6 +64,10 @@ pub no_parameters : (xs : List Id) → length xs ≡ 0 → (j : Span) (x : Id) (
 no_parameters [] n j x p = refl
 no_parameters (y ∷ ys) e j x p = absurd (omega arith)
 
-pub some_arguments : (n : ℕ) → (n ≡ 0 → ⊥) → (h : Span) (x : Id) (p : BinderPlace) → kind_arrow_at h x n p ≡ kind_arrow h x n p
-some_arguments zero e h x p = absurd (e refl)
-some_arguments (suc n) e h x p = refl
+pub some_marks : (ms : List Mark) → (length ms ≡ 0 → ⊥) → (h : Span) (x : Id) (p : BinderPlace) → kind_arrow_at h x ms p ≡ kind_arrow h x ms p
+some_marks [] n h x p = absurd (n refl)
+some_marks (m ∷ ms) n h x p = refl
+
+pub no_marks : (ms : List Mark) → length ms ≡ 0 → (h : Span) (x : Id) (p : BinderPlace) → kind_arrow_at h x ms p ≡ stop
+no_marks [] n h x p = refl
+no_marks (m ∷ ms) e h x p = absurd (omega arith)

@@ -1,14 +1,16 @@
 // What each token leads to where a type binder or its kind is read.
 
 ghost use Rattle.std.specs.Prelude.{◌≡◌};
-ghost use Rattle.pict_syntax.specs.PlainTrees.{binder_of};
-ghost use Rattle.pict_automaton.specs.Machine.{put_binder, step_binder, step_hash, step_binder_name, step_need_kind, kind_arrow_at, step_kind_arguments, step_kind_arrow, step_kind_result, step_binder_kind};
+ghost use Rattle.pict_syntax.specs.PlainTrees.{binder_of, kind_of};
+ghost use Rattle.pict_automaton.specs.Machine.{put_binder, step_binder, step_hash, step_binder_name, step_need_kind, kind_arrow_at, step_kind_arguments, step_kind_mark, step_kind_arrow, step_kind_result, step_binder_kind};
 ghost use Rattle.pict_parse_states.specs.View.{Gives, binder_place_of};
 
 use crate::patterns::step_binders;
 use crate::types::step_type_binders;
-use pict_parse_states::{BinderPlace, Fault, State, TypePlace, join};
-use pict_syntax::{Id, Keyword, KindTree, Sign, Span, TokenKind, TypeBinder};
+use pict_parse_states::{BinderPlace, Fault, State, TypePlace};
+use pict_syntax::{
+    Id, Keyword, KindTree, Mark, Sign, Span, SymbolName, TokenKind, TypeBinder, join,
+};
 use std::alloc::Global;
 
 /// A whole binder is put where it stands.
@@ -104,6 +106,7 @@ pub fn step_binder_name(
 
 /// The token that begins the kind of a binder.
 pub fn step_need_kind(
+    alloc: Global,
     kind: &TokenKind,
     at: Span,
     hash: Span,
@@ -120,43 +123,84 @@ pub fn step_need_kind(
             at,
             place,
         )),
-        TokenKind::Sign(Sign::OpenParen) => Ok(State::KindArguments(hash, name, 0, place)),
+        TokenKind::Sign(Sign::OpenParen) => Ok(State::KindArguments(
+            hash,
+            name,
+            Vec::new(alloc),
+            place,
+        )),
         _ => Err(Fault::Unexpected),
     }
 }
 
-// The arrow of a kind, behind this many arguments: there must be one.
+// The arrow of a kind, behind these marks: there must be one.
 fn kind_arrow_at(
     hash: Span,
     name: Id,
-    arguments: u32,
+    marks: Vec<Mark>,
     place: Box<BinderPlace>,
 ) -> Result<State, Fault>
-    ensures { Gives result (kind_arrow_at hash name arguments (binder_place_of place.value)) }
+    ensures { Gives result (kind_arrow_at hash name marks.items (binder_place_of place.value)) }
 {
-    match arguments {
-        0 => Err(Fault::Unexpected),
-        _ => Ok(State::KindArrow(hash, name, arguments, place)),
+    if marks.is_empty() {
+        Err(Fault::Unexpected)
+    } else {
+        Ok(State::KindArrow(hash, name, marks, place))
     }
 }
 
-/// The token behind this many arguments of a kind.
+/// The token behind these marks of a kind: `Type` or the sign before it for a further one, or the arrow.
 pub fn step_kind_arguments(
     kind: &TokenKind,
     _at: Span,
     hash: Span,
     name: Id,
-    arguments: u32,
+    mut marks: Vec<Mark>,
     place: Box<BinderPlace>,
 ) -> Result<State, Fault>
-    ensures { Gives result (step_kind_arguments kind.now _at hash name arguments (binder_place_of place.value)) }
+    ensures { Gives result (step_kind_arguments kind.now _at hash name marks.items (binder_place_of place.value)) }
 {
     match kind {
-        TokenKind::Keyword(Keyword::TypeKind) => match arguments.checked_add(1) {
-            Some(arguments) => Ok(State::KindArguments(hash, name, arguments, place)),
-            None => Err(Fault::Memory),
-        },
-        TokenKind::Sign(Sign::Arrow) => kind_arrow_at(hash, name, arguments, place),
+        TokenKind::Keyword(Keyword::TypeKind) => {
+            marks.push(Mark::Plain)?;
+            Ok(State::KindArguments(hash, name, marks, place))
+        }
+        TokenKind::Symbol(SymbolName::Plus, _) => Ok(State::KindMark(
+            hash,
+            name,
+            marks,
+            Mark::Plus,
+            place,
+        )),
+        TokenKind::Symbol(SymbolName::Minus, _) => Ok(State::KindMark(
+            hash,
+            name,
+            marks,
+            Mark::Minus,
+            place,
+        )),
+        TokenKind::Sign(Sign::Arrow) => kind_arrow_at(hash, name, marks, place),
+        _ => Err(Fault::Unexpected),
+    }
+}
+
+/// The token behind the sign `+` or `-` of a kind's argument: `Type`.
+pub fn step_kind_mark(
+    kind: &TokenKind,
+    _at: Span,
+    hash: Span,
+    name: Id,
+    mut marks: Vec<Mark>,
+    mark: Mark,
+    place: Box<BinderPlace>,
+) -> Result<State, Fault>
+    ensures { Gives result (step_kind_mark kind.now _at hash name marks.items mark (binder_place_of place.value)) }
+{
+    match kind {
+        TokenKind::Keyword(Keyword::TypeKind) => {
+            marks.push(mark)?;
+            Ok(State::KindArguments(hash, name, marks, place))
+        }
         _ => Err(Fault::Unexpected),
     }
 }
@@ -167,15 +211,13 @@ pub fn step_kind_arrow(
     _at: Span,
     hash: Span,
     name: Id,
-    arguments: u32,
+    marks: Vec<Mark>,
     place: Box<BinderPlace>,
 ) -> Result<State, Fault>
-    ensures { Gives result (step_kind_arrow kind.now _at hash name arguments (binder_place_of place.value)) }
+    ensures { Gives result (step_kind_arrow kind.now _at hash name marks.items (binder_place_of place.value)) }
 {
     match kind {
-        TokenKind::Keyword(Keyword::TypeKind) => Ok(State::KindResult(
-            hash, name, arguments, place,
-        )),
+        TokenKind::Keyword(Keyword::TypeKind) => Ok(State::KindResult(hash, name, marks, place)),
         _ => Err(Fault::Unexpected),
     }
 }
@@ -186,16 +228,16 @@ pub fn step_kind_result(
     at: Span,
     hash: Span,
     name: Id,
-    arguments: u32,
+    marks: Vec<Mark>,
     place: Box<BinderPlace>,
 ) -> Result<State, Fault>
-    ensures { Gives result (step_kind_result kind.now at hash name arguments (binder_place_of place.value)) }
+    ensures { Gives result (step_kind_result kind.now at hash name marks.items (binder_place_of place.value)) }
 {
     match kind {
         TokenKind::Sign(Sign::CloseParen) => Ok(State::BinderKind(
             hash,
             name,
-            KindTree::Operator(arguments),
+            KindTree::Operator(marks),
             at,
             place,
         )),
@@ -214,7 +256,7 @@ pub fn step_binder_kind(
     end: Span,
     place: Box<BinderPlace>,
 ) -> Result<State, Fault>
-    ensures { Gives result (step_binder_kind kind.now at hash name of end (binder_place_of place.value)) }
+    ensures { Gives result (step_binder_kind kind.now at hash name (kind_of of) end (binder_place_of place.value)) }
 {
     match kind {
         TokenKind::Sign(Sign::Less) => {

@@ -14,7 +14,7 @@ pub use abstractions::{
 };
 pub use binders::{
     step_binder_kind, step_binder_name, step_hash, step_kind_arguments, step_kind_arrow,
-    step_kind_result, step_need_kind,
+    step_kind_mark, step_kind_result, step_need_kind,
 };
 pub use declarations::{
     begin_declaration, step_alias_name, step_definition_keyword, step_new_keyword, step_new_name,

@@ -8,10 +8,10 @@ ghost use Rattle.pict_parse_states.specs.View.{binders_in, pats_in, labelled_pat
 
 use pict_parse_states::{
     AbstractionPlace, BinderPlace, DeclarationPlace, Fault, FieldPatternsPlace, PatternPlace,
-    Place, ProcessPlace, State, TypePlace, ValuePlace, join,
+    Place, ProcessPlace, State, TypePlace, ValuePlace,
 };
 use pict_syntax::{
-    FieldPats, Id, Keyword, LabelledPat, Pat, RType, Sign, Span, TokenKind, TypeBinder,
+    FieldPats, Id, Keyword, LabelledPat, Pat, RType, Sign, Span, TokenKind, TypeBinder, join,
 };
 use std::alloc::Global;
 

@@ -1,7 +1,7 @@
 // Whole types are put where they stand.
 
-ghost use Rattle.std.specs.Prelude.{◌≡◌, IfOk, Some};
-ghost use Rattle.pict_syntax.specs.PlainTrees.{type_of, annotation_of};
+ghost use Rattle.std.specs.Prelude.{◌≡◌, IfOk, Some, option_map};
+ghost use Rattle.pict_syntax.specs.PlainTrees.{kind_of, type_of, annotation_of};
 ghost use Rattle.pict_automaton.specs.Places.{prefixed, in_new, in_alias, in_operator, in_bind, in_any, in_pattern_fold_type, in_fold_type, in_bound, in_type_field, in_type_label, in_type_apply, in_argument};
 ghost use Rattle.pict_automaton.specs.Machine.{put_type};
 ghost use Rattle.pict_parse_states.specs.View.{types_in, binders_in, labelled_types_in, Gives, type_place_of, binder_place_of, pattern_place_of, declaration_place_of, fields_place_of, place_of, prefix_of};
@@ -10,9 +10,11 @@ use crate::binders::put_binder;
 use crate::patterns::put_pattern;
 use pict_parse_states::{
     BinderPlace, DeclarationPlace, Fault, FieldsPlace, PatternPlace, Place, Prefix, State,
-    TypePlace, ValuePlace, join, put_declaration, type_span,
+    TypePlace, ValuePlace, put_declaration,
 };
-use pict_syntax::{Dec, Id, KindTree, LabelledType, Pat, RType, Span, TypeBinder, TypeTree};
+use pict_syntax::{
+    Dec, Id, KindTree, LabelledType, Pat, RType, Span, TypeBinder, TypeTree, join, type_span,
+};
 use std::alloc::{AllocError, Global};
 
 // The type of a prefix and its content.
@@ -149,7 +151,7 @@ fn put_bound(
     tree: TypeTree,
     place: Box<BinderPlace>,
 ) -> Result<State, Fault>
-    ensures { Gives result (put_type (type_of tree) (in_bound hash id kind (binder_place_of place.value))) }
+    ensures { Gives result (put_type (type_of tree) (in_bound hash id (option_map kind_of kind) (binder_place_of place.value))) }
 {
     let span = join(hash, type_span(&tree));
     let tree = Box::new(alloc, tree)?;

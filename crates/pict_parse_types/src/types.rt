@@ -6,8 +6,8 @@ ghost use Rattle.pict_automaton.specs.Machine.{begin_type_keyword, begin_type_si
 ghost use Rattle.pict_parse_states.specs.View.{types_in, binders_in, labelled_types_in, Gives, type_place_of};
 
 use crate::puts::put_type;
-use pict_parse_states::{BinderPlace, Fault, Prefix, State, TypePlace, join};
-use pict_syntax::{Id, Keyword, LabelledType, Sign, Span, TokenKind, TypeBinder, TypeTree};
+use pict_parse_states::{BinderPlace, Fault, Prefix, State, TypePlace};
+use pict_syntax::{Id, Keyword, LabelledType, Sign, Span, TokenKind, TypeBinder, TypeTree, join};
 use std::alloc::Global;
 
 // A type that is a word.

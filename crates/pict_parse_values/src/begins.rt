@@ -9,10 +9,10 @@ ghost use Rattle.pict_parse_states.specs.View.{wait_of, value_place_of, process_
 use crate::puts::{put_processes, put_unboxed, put_value};
 use pict_parse_states::{
     AbstractionPlace, DeclarationPlace, EitherPlace, Fault, FieldsPlace, Place, ProcessPlace,
-    ProcessPlaces, State, ValuePlace, ValuePlaces, Wait, join, of_processes, parens,
+    ProcessPlaces, State, ValuePlace, ValuePlaces, Wait, of_processes, parens,
 };
 use pict_parse_types::begin_declaration;
-use pict_syntax::{Chan, Id, Keyword, Name, Proc, Sign, Span, TokenKind, Val};
+use pict_syntax::{Chan, Id, Keyword, Name, Proc, Sign, Span, TokenKind, Val, join};
 use std::alloc::Global;
 
 // A keyword right behind `(`.

@@ -7,10 +7,12 @@ ghost use Rattle.pict_parse_states.specs.View.{value_place_of, process_place_of,
 
 use pict_parse_states::{
     AbstractionPlace, Ask, EitherPlace, Fault, Place, ProcessPlace, ProcessPlaces, State,
-    ValuePlace, ValuePlaces, abs_span, chan_span, join, pat_span, proc_span, put_declaration,
+    ValuePlace, ValuePlaces, put_declaration,
+};
+use pict_syntax::{
+    Abs, Chan, Dec, LabelledVal, Proc, Val, abs_span, chan_span, join, pat_span, proc_span,
     val_span,
 };
-use pict_syntax::{Abs, Chan, Dec, LabelledVal, Proc, Val};
 use std::alloc::Global;
 
 /// A whole abstraction is put at its place.

@@ -8,12 +8,12 @@ use crate::begins::{begin_value, step_need};
 use crate::puts::{put_channel, put_processes, put_values};
 use pict_parse_states::{
     AbstractionPlace, Ask, DeclarationPlace, EitherPlace, Fault, FieldsPlace, Place, ProcessPlace,
-    ProcessPlaces, Side, State, TypePlace, ValuePlace, ValuePlaces, Wait, abs_span,
-    after_declaration, join, of_processes, parens, then_place, val_span,
+    ProcessPlaces, Side, State, TypePlace, ValuePlace, ValuePlaces, Wait, after_declaration,
+    of_processes, parens, then_place,
 };
 use pict_syntax::{
     Abs, Chan, Dec, Definition, FieldVals, Id, Keyword, LabelledVal, Proc, RType, Sign, Span,
-    TokenKind, TypeTree, Val,
+    TokenKind, TypeTree, Val, abs_span, join, val_span,
 };
 use std::alloc::Global;
 

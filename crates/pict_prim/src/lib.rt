@@ -15,6 +15,3 @@ pub use acts::{apply, attempt};
 pub use deciding::{act_on, act_on_fields, answer_of_numbers};
 pub use outcome::{Done, printed_bytes};
 pub use performing::{perform, room};
-
-#[cfg(test)]
-mod tests;

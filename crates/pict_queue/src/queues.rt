@@ -261,8 +261,8 @@ impl Queues {
         read_words(&mut self.region, queue.first as u64, first, levels, values);
     }
 
-    /// Makes free blocks until there are `n` of this width, in words, with the link. What is past 2^32 words is want of
-    /// memory. Where memory is wanting, some of these blocks may have been made. Where enough are there it takes no memory.
+    /// Makes free blocks until there are `n` of this width, in words, with the link. What is past `WORD_LIMIT` words is want
+    /// of memory. Where memory is wanting, some of these blocks may have been made. Where enough are there it takes no memory.
     #[inline(always)]
     pub fn reserve(&mut self, width: u32, n: u64) -> Result<(), AllocError>
         requires positive { 2 ≤ width }
@@ -575,6 +575,3 @@ fn read_words(
     region.read_values(&token, first, levels, values);
     let _number = token.number();
 }
-
-#[cfg(test)]
-mod tests;

@@ -1,7 +1,6 @@
 pub mod Steps
 pub mod Apart
 pub mod Order
-pub mod Replacing
 pub mod Natural
 pub mod Readings
 pub mod Reductions
@@ -10,4 +9,8 @@ pub mod Finished
 pub mod Renaming
 pub mod Alike
 pub mod Firing
+pub mod Rebuilding
+pub mod Exhausting
+pub mod Reflecting
+pub mod Reaching
 mod Examples

@@ -1,6 +1,6 @@
 // Laws of the definitions. Each is a function that does nothing: its contract is the law.
 
-ghost use Rattle.pict_reduction.specs.Laws.{ChannelsInOrder, CongruentAreAlike, FinishedIsIrreducible, ParkedApart, ReductionsAreReactions, RunsReduce, StepsAreReductions};
+ghost use Rattle.pict_reduction.specs.Laws.{AlikeAreCongruent, ChannelsInOrder, CongruentAreAlike, FinishedIsIrreducible, ParkedApart, ReductionsAreReached, ReductionsAreReactions, RunsReduce, StepsAreReductions};
 
 /// In each configuration that free steps reach from the opening one of a closed process, a parked process stands at a
 /// channel, and no channel has a parked message and a parked reader at once.
@@ -16,8 +16,8 @@ pub fn law_channel_order()
     ensures { ChannelsInOrder }
 {}
 
-/// For each free step of a configuration, the reading before it is congruent to the reading after it, or reduces to it
-/// by one reduction.
+/// For each free step of a configuration, the reading before it is congruent to the reading after it and the step prints
+/// nothing, or the reading reduces to it by one reduction and the step prints exactly what the reduction prints.
 pub fn law_reading()
     ensures { StepsAreReductions }
 {}
@@ -28,8 +28,9 @@ pub fn law_done()
     ensures { FinishedIsIrreducible }
 {}
 
-/// In an oldest-first run of a closed process each step leaves the reading congruent, or reduces it by one reduction; and
-/// where the run is finished no reduction leaves the reading, even up to congruence.
+/// In an oldest-first run of a closed process each step leaves the reading congruent and prints nothing, or reduces it by
+/// one reduction and prints what that prints; and where the run is finished no reduction leaves the reading, even up to
+/// congruence.
 pub fn law_runs_reduce()
     ensures { RunsReduce }
 {}
@@ -42,8 +43,21 @@ pub fn law_components()
 {}
 
 /// Each reduction of a process, also one of a process congruent to it, is the firing of a redex among the process' own
-/// components: one or two of them reduce by one of the four rules, and the components afterwards are those of what they
-/// leave, beside the others.
+/// components, which prints the same: one or two of them reduce by one of the four rules, and the components afterwards are
+/// those of what they leave, beside the others.
 pub fn law_redex()
     ensures { ReductionsAreReactions }
+{}
+
+/// Processes with the same components, up to order and a bijection of the variables bound there, are congruent.
+pub fn law_alike()
+    ensures { AlikeAreCongruent }
+{}
+
+/// Free steps lose no reduction. Let the reading of a configuration that free steps reach from the opening one of a closed
+/// process reduce to a process by one reduction. Then free steps lead from it to a configuration whose reading is that
+/// process, up to congruence: each of them but the last shows nothing and leaves the reading congruent, and the last one
+/// reduces it and prints what the reduction prints.
+pub fn law_reduction_is_reached()
+    ensures { ReductionsAreReached }
 {}

@@ -1,5 +1,5 @@
 -- What each call of a region reads and leaves, from its fields to what contracts see.
-use Rattle.std.proofs.Common.{◌≡◌, ◌≢◌, ℕ, suc, ◌+◌, ◌-◌, ◌^◌, ◌<◌, ◌≤◌, eqb, List, [], ◌∷◌, ◌++◌, length, take, drop, map, replicate, get_or, set, Option, Some, None, refl, sym, ◌∙◌, ap, subst, ⊎_elim, arith, length-append, append_assoc}
+use Rattle.std.proofs.Common.{◌≡◌, ◌≢◌, ℕ, suc, ◌+◌, ◌-◌, ◌<◌, ◌≤◌, eqb, List, [], ◌∷◌, ◌++◌, length, take, drop, map, replicate, get_or, set, Option, Some, None, refl, sym, ◌∙◌, ap, subst, ⊎_elim, arith, length-append, append_assoc}
 use Rattle.std.specs.Option.{IsSome, unwrap_or}
 use Rattle.std.specs.List.{IsDistinct, list_any}
 use Rattle.std.specs.Ordering.{nat_cmp}
@@ -9,6 +9,7 @@ use Rattle.std.proofs.lemmas.List.{get_or_read, get_or-map, get_or_past, length-
 use Rattle.std.proofs.lemmas.Map.Steps.{length-le_from_distinct_below}
 use Rattle.std.proofs.lemmas.Bool.{cases_lt, cases_eq, eq-eqb, ne_eqb, false_from_ne_true}
 use Rattle.std.proofs.lemmas.Option.{none-some}
+use Rattle.pict_syntax.specs.declared.limits.TheConstants.{WORD_LIMIT}
 use Rattle.pict_region.specs.Chain.{chain}
 use Rattle.pict_region.specs.RegionState.{RegionState, IsLive, words_of, width_of, spare}
 use Rattle.pict_region.specs.Layout.{store_of, cut, blocks_of, block_at, list_at, next_of, free_numbers, live_of, made_words, state_of, IsSound, IsLaidOut}
@@ -332,7 +333,7 @@ taken a r width next list words' is kept some list_is next_is words_are =
     let reads = first_read a r width is kept some in
     let end : first + 1 + width ≡ first + 1 + length zeros = omega (arith, length-replicate {A = ℕ} width 0) in
     let made : length store ≡ a.made = omega (arith, length-take a.made words, kept.inside) in
-    let small : length (over store first) ≤ 2 ^ 32 =
+    let small : length (over store first) ≤ WORD_LIMIT =
     omega (arith, length_over (first + 1) zeros store (first + 1 + width) end (omega (arith, reads.low, made)), sound.small) in
     let takes = take_block store (over store first) lists width zeros sound positive reads.listed written small (length-replicate width 0) in
     let is_over : take a.made (over words first) ≡ over store first =
@@ -441,7 +442,7 @@ pub record HasRoom (a b : Inside) (width : ℕ) : Type 0 where
   pub room : a.made + 1 + width ≤ length b.words.items
 
 pub lengthened : (a b : Inside) (width : ℕ) → IsLaidOut a.words.items a.made a.free.items → take (length a.words.items) b.words.items ≡ a.words.items
-    → length b.words.items ≤ 2 ^ 32 → b.free.items ≡ a.free.items → a.made + 1 + width ≤ length b.words.items → HasRoom a b width
+    → length b.words.items ≤ WORD_LIMIT → b.free.items ≡ a.free.items → a.made + 1 + width ≤ length b.words.items → HasRoom a b width
 lengthened a b width kept starts small free room =
     let same : take a.made b.words.items ≡ made_words a = sym (take-take a.made (length a.words.items) b.words.items kept.inside) ∙ ap (take a.made) starts in
     record {
@@ -506,7 +507,7 @@ added a r words' width list is kept' kept same positive listed fits list_is =
     let change : ChangesBlock store store' (length store) block =
     appended store store' block sound.tiled (whole ∙ ap (λ n. store ++ (n ∷ block)) (sym wide)) in
     let many : length both ≡ length words' = length-set (set words' place width) (place + 1) first ∙ length-set words' place width in
-    let small : length store' ≤ 2 ^ 32 = omega (arith, length-take (place + 1 + width) both, many, kept.small) in
+    let small : length store' ≤ WORD_LIMIT = omega (arith, length-take (place + 1 + width) both, many, kept.small) in
     let none_yet = block_at_length store sound.tiled in
     let absent : (v : ℕ) → IsAbsent (free_numbers store lists v) (length store) = λ v.
     false_from_ne_true (list_any (eqb (length store)) (free_numbers store lists v)) (λ stands.

@@ -1,5 +1,5 @@
 -- Live blocks and free blocks: what a look-up finds, and what a write over one block leaves.
-use Rattle.std.proofs.Common.{◌≡◌, ◌≢◌, ℕ, zero, suc, ◌+◌, ◌-◌, ◌^◌, ◌<◌, ◌≤◌, Bool, true, false, cond, not, ◌||◌, eqb, List, [], ◌∷◌, length, get_or, set, Option, Some, None, refl, sym, ◌∙◌, ap, subst, ⊎_elim, ◌⊎◌, inl, inr, add-one, arith}
+use Rattle.std.proofs.Common.{◌≡◌, ◌≢◌, ℕ, zero, suc, ◌+◌, ◌-◌, ◌<◌, ◌≤◌, Bool, true, false, cond, not, ◌||◌, eqb, List, [], ◌∷◌, length, get_or, set, Option, Some, None, refl, sym, ◌∙◌, ap, subst, ⊎_elim, ◌⊎◌, inl, inr, add-one, arith}
 use Rattle.std.specs.List.{IsDistinct, list_any}
 use Rattle.std.specs.Ordering.{nat_cmp, eq_by_cmp}
 use Rattle.std.specs.Cmp.{nat_cmp_total}
@@ -7,6 +7,7 @@ use Rattle.std.specs.FinMap.{FinMap, get, find, insert, remove, from_entries, ge
 use Rattle.std.proofs.lemmas.Bool.{cases_lt, cases_eq, lt-ltb, le-ltb, eq-eqb, ne_eqb, eqb-true, or_cases, both_ways, false_from_ne_true, cond-true, cond-false}
 use Rattle.std.proofs.lemmas.Option.{none-some, same_Some}
 use Rattle.std.proofs.lemmas.List.{length-set, get_or-set_same, get_or-set_other}
+use Rattle.pict_syntax.specs.declared.limits.TheConstants.{WORD_LIMIT}
 use Rattle.pict_region.specs.Chain.{chain}
 use Rattle.pict_region.specs.Layout.{store_of, blocks_of, block_at, numbered, next_of, list_at, free_numbers, is_free, live_of, HasBlock, IsSound}
 use Rattle.pict_region.specs.declared.region.FreeList.{FreeList}
@@ -162,7 +163,7 @@ Stood before after changed n P = StandsIn after n → ((n ≡ changed) × P) ⊎
 
 -- the store is sound after a change of one block
 pub sound_after : (store store' : List ℕ) (lists lists' : List FreeList) (number : ℕ) (block : List ℕ) → IsSound store lists
-    → ChangesBlock store store' number block → length store' ≤ 2 ^ 32
+    → ChangesBlock store store' number block → length store' ≤ WORD_LIMIT
     → 0 < length block → length block < length lists' → length lists ≤ length lists'
     → ((width n : ℕ) → Stood (free_numbers store lists width) (free_numbers store' lists' width) number n (length block ≡ width))
     → ((width : ℕ) → IsDistinct eqb (free_numbers store' lists' width))
@@ -224,7 +225,7 @@ pub record WritesBlock (store store' : List ℕ) (lists : List FreeList) (number
   pub live : live_of store' lists ≡ insert (live_of store lists) number block
 
 pub write_block : (store store' : List ℕ) (lists : List FreeList) (number : ℕ) (block block' : List ℕ) → IsSound store lists
-    → IsHeld store lists number block → length block' ≡ length block → ChangesBlock store store' number block' → length store' ≤ 2 ^ 32
+    → IsHeld store lists number block → length block' ≡ length block → ChangesBlock store store' number block' → length store' ≤ WORD_LIMIT
     → WritesBlock store store' lists number block'
 unfolding free_numbers
 write_block store store' lists number block block' sound held same change small =
@@ -249,7 +250,7 @@ pub record FreesBlock (store store' : List ℕ) (lists lists' : List FreeList) (
   pub live : (n : ℕ) → get (live_of store' lists') n ≡ cond (eqb n number) None (get (live_of store lists) n)
 
 pub free_block : (store store' : List ℕ) (lists : List FreeList) (number width : ℕ) (block : List ℕ) → IsSound store lists
-    → ChangesBlock store store' number block → length store' ≤ 2 ^ 32 → length block ≡ width → 0 < width → width < length lists
+    → ChangesBlock store store' number block → length store' ≤ WORD_LIMIT → length block ≡ width → 0 < width → width < length lists
     → get_or block 0 0 ≡ (list_at lists width).first
     → ((width : ℕ) → IsAbsent (free_numbers store lists width) number)
     → FreesBlock store store' lists (set lists width (record { first = number; count = (list_at lists width).count + 1 })) number
@@ -320,7 +321,7 @@ first_block store lists width sound some =
 
 pub take_block : (store store' : List ℕ) (lists : List FreeList) (width : ℕ) (block' : List ℕ) → IsSound store lists
     → 0 < (list_at lists width).count → width < length lists
-    → ChangesBlock store store' (list_at lists width).first block' → length store' ≤ 2 ^ 32 → length block' ≡ width
+    → ChangesBlock store store' (list_at lists width).first block' → length store' ≤ WORD_LIMIT → length block' ≡ width
     → TakesBlock store store' lists
     (set lists width (record { first = next_of store (list_at lists width).first; count = (list_at lists width).count - 1 }))
     (list_at lists width).first block'

@@ -1,8 +1,9 @@
 -- How a region lies in its store: one block after another, each behind a word that gives its width.
-use Rattle.std.specs.Prelude.{◌≡◌, ℕ, zero, suc, ◌+◌, ◌-◌, ◌^◌, ◌<◌, ◌≤◌, Bool, true, cond, not, eqb, nat_lt, List, [], ◌∷◌, ◌++◌, map, length, take, drop, Option, Some, None, slice_index, slice_index_or}
+use Rattle.std.specs.Prelude.{◌≡◌, ℕ, zero, suc, ◌+◌, ◌-◌, ◌<◌, ◌≤◌, Bool, true, cond, not, eqb, nat_lt, List, [], ◌∷◌, ◌++◌, map, length, take, drop, Option, Some, None, slice_index, slice_index_or}
 use Rattle.std.specs.List.{IsDistinct, list_any}
 use Rattle.std.specs.Ordering.{nat_cmp}
 use Rattle.std.specs.FinMap.{FinMap, from_entries, retain_keys}
+use Rattle.pict_syntax.specs.declared.limits.TheConstants.{WORD_LIMIT}
 use Rattle.pict_region.specs.Chain.{chain}
 use Rattle.pict_region.specs.RegionState.{RegionState}
 use Rattle.pict_region.specs.declared.region.FreeList.{FreeList}
@@ -70,8 +71,8 @@ pub record HasBlock (store : List ℕ) (number width : ℕ) : Type 0 where
   pub at : block_at (blocks_of store) number ≡ Some block
   pub wide : length block ≡ width
 
--- The store is made of blocks, each of a width that has a list, and the lists of free blocks are apart. It has at most 2^32
--- words.
+-- The store is made of blocks, each of a width that has a list, and the lists of free blocks are apart. It has at most
+-- `WORD_LIMIT` words.
 pub record IsSound (store : List ℕ) (lists : List FreeList) : Type 0 where
   pub tiled : store_of (blocks_of store) ≡ store
   pub widths : (number : ℕ) (block : List ℕ) → block_at (blocks_of store) number ≡ Some block
@@ -79,10 +80,10 @@ pub record IsSound (store : List ℕ) (lists : List FreeList) : Type 0 where
   pub free_widths : (width number : ℕ) → list_any (eqb number) (free_numbers store lists width) ≡ true
       → HasBlock store number width
   pub distinct : (width : ℕ) → IsDistinct eqb (free_numbers store lists width)
-  pub small : length store ≤ 2 ^ 32
+  pub small : length store ≤ WORD_LIMIT
 
--- The first `made` words, of at most 2^32, are a store that is sound.
+-- The first `made` words, of at most `WORD_LIMIT`, are a store that is sound.
 pub record IsLaidOut (words : List ℕ) (made : ℕ) (lists : List FreeList) : Type 0 where
   pub sound : IsSound (take made words) lists
   pub inside : made ≤ length words
-  pub small : length words ≤ 2 ^ 32
+  pub small : length words ≤ WORD_LIMIT

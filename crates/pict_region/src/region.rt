@@ -7,11 +7,9 @@ ghost use Rattle.pict_region.specs.Layout.{list_at};
 ghost use Rattle.pict_region.specs.Values.{frame_words, pair_at, AreRising, overlaid};
 
 use crate::block::Block;
+use pict_syntax::WORD_LIMIT;
 use std::alloc::{AllocError, Global};
 use std::marker::Model;
-
-// The most words of a store.
-const MOST_WORDS: usize = 4_294_967_296;
 
 // By how many words a store becomes longer at a time: as many as it has, and no fewer and no more than these.
 const LEAST_PIECE: usize = 1024;
@@ -67,9 +65,9 @@ impl Region {
     }
 
     /// Makes free blocks until there are `n` of this width, in words. The store grows by as many words as it has, at least 1,024
-    /// and at most 65,536, or by what a block needs, if that is more, and what is past 2^32 words is want of memory. Where memory
-    /// is wanting, some of these blocks may have been made, and never more than were wanting. Where enough are there it takes no
-    /// memory. The work stays.
+    /// and at most 65,536, or by what a block needs, if that is more, and what is past `WORD_LIMIT` words is want of memory. Where
+    /// memory is wanting, some of these blocks may have been made, and never more than were wanting. Where enough are there it
+    /// takes no memory. The work stays.
     #[inline(always)]
     pub fn reserve(&mut self, width: u32, n: u64) -> Result<(), AllocError>
         requires positive { 1 ≤ width }
@@ -388,17 +386,18 @@ fn put_block(words: &mut Vec<u64>, lists: &mut Vec<FreeList>, made: usize, width
 #[cold]
 #[inline(never)]
 fn lengthen(words: &mut Vec<u64>, end: usize) -> Result<(), AllocError>
-    requires { vec_len words.old ≤ 2 ^ 32 }
+    requires { vec_len words.old ≤ WORD_LIMIT }
     ensures ok { OnOk result (end ≤ vec_len words.new) }
-    ensures small { vec_len words.new ≤ 2 ^ 32 }
+    ensures small { vec_len words.new ≤ WORD_LIMIT }
     ensures kept { take (vec_len words.old) words.new.items ≡ words.old.items }
 {
-    if end > MOST_WORDS {
+    let most = WORD_LIMIT as usize;
+    if end > most {
         return Err(AllocError);
     }
     let len = words.len();
     let piece = len.max(LEAST_PIECE).min(MOST_PIECE);
-    words.resize((len + piece).min(MOST_WORDS).max(end), 0)?;
+    words.resize((len + piece).min(most).max(end), 0)?;
     Ok(())
 }
 
@@ -481,50 +480,4 @@ fn clear(words: &mut Vec<u64>, start: usize, count: usize)
     ensures len { vec_len words.new ≡ vec_len words.old }
 {
     words[start..start + count].fill(0);
-}
-
-#[cfg(test)]
-mod tests {
-    use super::Region;
-    use std::alloc::AllocError;
-
-    #[test]
-    fn blocks_share_no_word_and_are_cleared(rt: HostRuntime) -> Result<(), AllocError> {
-        let mut region = Region::new(rt.alloc());
-        region.reserve(3, 2)?;
-        let first = region.take(3);
-        let second = region.take(3);
-        region.set(&first, 1, 7);
-        assert_eq!(rt; region.get(&first, 1), 7);
-        assert_eq!(rt; region.get(&second, 1), 0);
-        region.give(first);
-        let third = region.take(3);
-        assert_eq!(rt; region.get(&third, 0), 0);
-        assert_eq!(rt; region.get(&third, 1), 0);
-        assert_eq!(rt; region.get(&third, 2), 0);
-        assert_eq!(rt; region.work(), 10);
-        region.give(second);
-        region.give(third);
-        Ok(())
-    }
-
-    #[test]
-    fn widths_have_blocks_of_their_own(rt: HostRuntime) -> Result<(), AllocError> {
-        let mut region = Region::new(rt.alloc());
-        region.reserve(2, 1)?;
-        region.reserve(5, 1)?;
-        let narrow = region.take(2);
-        let wide = region.take(5);
-        region.set(&narrow, 1, 7);
-        region.set(&wide, 4, 9);
-        assert_eq!(rt; region.get(&narrow, 1), 7);
-        assert_eq!(rt; region.get(&wide, 4), 9);
-        assert_eq!(rt; region.get(&wide, 0), 0);
-        region.give(narrow);
-        let number = wide.number();
-        let wide = region.block(number);
-        assert_eq!(rt; region.get(&wide, 4), 9);
-        region.give(wide);
-        Ok(())
-    }
 }

@@ -4,7 +4,7 @@ use Rattle.std.specs.Fmt.{decimal}
 use Rattle.pict_syntax.specs.Position.{line_of, column_of}
 use Rattle.pict_syntax.specs.declared.span.Span.{Span}
 use Rattle.pict_syntax.specs.declared.code.Code.{Code}
-use Rattle.pict_syntax.specs.declared.code.Code.TheVariants.{B1, L1, L2, L3, L4, L5, P1, P2, S1, S2, S3, S4, K1, K2, K3, K4, Y1, Y2, Y3, Y4, Y5, Y6, Y7, Y8, Y9, Y10, Y11, Y12, Y13, Y14, Y15, Y16, C1}
+use Rattle.pict_syntax.specs.declared.code.Code.TheVariants.{B1, L1, L2, L3, L4, L5, P1, P2, S1, S2, S3, S4, K1, K2, K3, K4, K5, Y1, Y2, Y3, Y4, Y5, Y6, Y7, Y8, Y9, Y10, Y11, Y12, Y13, Y14, Y15, Y16, C1, I1, I2, I3, I4, V1, O1, O2}
 use Rattle.pict_report.specs.Prelude.{prelude_text}
 
 -- a code with its text
@@ -25,6 +25,7 @@ text_of_code K1 = codes "K1 wrong number of type arguments"
 text_of_code K2 = codes "K2 operator needs arguments"
 text_of_code K3 = codes "K3 bound on an operator"
 text_of_code K4 = codes "K4 type too big"
+text_of_code K5 = codes "K5 operator varies otherwise"
 text_of_code Y1 = codes "Y1 not a channel"
 text_of_code Y2 = codes "Y2 no right to send"
 text_of_code Y3 = codes "Y3 no right to receive"
@@ -42,6 +43,13 @@ text_of_code Y14 = codes "Y14 type variable escapes"
 text_of_code Y15 = codes "Y15 new needs a ^ type"
 text_of_code Y16 = codes "Y16 not this package"
 text_of_code C1 = codes "C1 process too deep"
+text_of_code I1 = codes "I1 no such text"
+text_of_code I2 = codes "I2 import cycle"
+text_of_code I3 = codes "I3 too many texts"
+text_of_code I4 = codes "I4 bad import name"
+text_of_code V1 = codes "V1 not a replay file"
+text_of_code O1 = codes "O1 not an object"
+text_of_code O2 = codes "O2 object too big"
 
 -- ---- places
 

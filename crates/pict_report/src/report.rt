@@ -37,6 +37,7 @@ pub fn text_of_code(code: Code) -> &'static str
         Code::K2 => "K2 operator needs arguments",
         Code::K3 => "K3 bound on an operator",
         Code::K4 => "K4 type too big",
+        Code::K5 => "K5 operator varies otherwise",
         Code::Y1 => "Y1 not a channel",
         Code::Y2 => "Y2 no right to send",
         Code::Y3 => "Y3 no right to receive",
@@ -54,6 +55,13 @@ pub fn text_of_code(code: Code) -> &'static str
         Code::Y15 => "Y15 new needs a ^ type",
         Code::Y16 => "Y16 not this package",
         Code::C1 => "C1 process too deep",
+        Code::I1 => "I1 no such text",
+        Code::I2 => "I2 import cycle",
+        Code::I3 => "I3 too many texts",
+        Code::I4 => "I4 bad import name",
+        Code::V1 => "V1 not a replay file",
+        Code::O1 => "O1 not an object",
+        Code::O2 => "O2 object too big",
     }
 }
 

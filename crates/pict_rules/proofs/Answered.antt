@@ -141,7 +141,7 @@ expected d e (Some t) u c i h = needed d h
 
 pub bounded : {s : Sort} → Decides → (e : Environment) (n : Span) (b : PlainBound) (args : List PlainArg) (a : PlainArg) (c : Code) (i : Span) {r : Rule s} → Answered s r → Answered s (within_bound e n b args a c i r)
 bounded d e n Free args a c i h = h
-bounded d e n (Operator m) args a c i h = h
+bounded d e n (Operator ms) args a c i h = h
 bounded d e n (Below b) args a c i h = unstopped _ (needed d h)
 
 pub all_bounded : {s : Sort} → Decides → (e : Environment) (n : Span) (bs : PlainBounds) (earlier args : List PlainArg) (c : Code) {r : Rule s} → Answered s r → Answered s (within_bounds e n bs earlier args c r)

@@ -3,9 +3,10 @@ use Rattle.std.proofs.Common.{List, [], ◌∷◌, ◌++◌, map, not, ◌||◌,
 use Rattle.pict_syntax.specs.declared.id.Id.{Id}
 use Rattle.pict_syntax.specs.declared.span.Span.{Span}
 use Rattle.pict_syntax.specs.declared.code.Code.{Code}
-use Rattle.pict_syntax.specs.declared.code.Code.TheVariants.{K1, Y5, Y6, Y9, Y10, Y14}
+use Rattle.pict_syntax.specs.declared.code.Code.TheVariants.{K1, K5, Y5, Y6, Y9, Y10, Y14}
 use Rattle.pict_syntax.specs.Trees.{TypeTrees, no_types, more_types, TypeBinders, no_binders, more_binders, Pat, bind_pat, any_pat, fields_pat, fold_pat, FieldPats, field_pats, Pats, no_pats, more_pats, LabelledPats, no_labelled_pats, more_labelled_pats, Dec, new_dec, run_dec, let_dec, def_dec, alias_dec, operator_dec, await_dec, Decs, no_decs, more_decs, Definitions, no_definitions, more_definitions, Abs, process_abs, function_abs, Chan, use_chan, fold_chan, block_chan, apply_chan, right_chan, left_chan, Val, of_chan, number_val, character_val, string_val, true_val, false_val, fields_val, if_val, lambda_val, Vals, no_vals, more_vals, FieldVals, field_vals, LabelledVals, no_labelled_vals, more_labelled_vals, Proc, send_proc, receive_proc, serve_proc, if_proc, inert_proc, group_proc, Procs, no_procs, more_procs}
 use Rattle.pict_syntax.specs.Grammar.{type_span, val_span}
+use Rattle.pict_types.specs.AsMarked.{varies_as}
 use Rattle.pict_types.specs.Types.{Chan as Chan_, Respond, PlainType, PlainTypes, PlainLabels, PlainBounds, type_at, count_types, count_bounds}
 use Rattle.pict_types.specs.Replacing.{instance_of}
 use Rattle.pict_normal.specs.Normal.{normal, kind_stop, size_stop, count_trees}
@@ -124,7 +125,7 @@ arguments_asked : (e : Environment) (s : Span) (ts : TypeTrees) (bs : PlainBound
 arguments_asked e s no_types bs x = gives_ tt
 arguments_asked e s (more_types ts t) bs x =
     parts x.0 (λ args h.
-    unless (arg_stop e.names e.context t) (ensures (is_of_kind (normal_arg e.names e.context t) (nth_bound (count_trees ts) bs)) K1 (type_span t) (within_bound_ e s (nth_bound (count_trees ts) bs) args (normal_arg e.names e.context t) Y9 (type_span t) (gives_ tt))))
+    unless (arg_stop e.names e.context t) (ensures (is_of_kind (normal_arg e.names e.context t) (nth_bound (count_trees ts) bs)) K1 (type_span t) (ensures (varies_as (context_of e) (normal_arg e.names e.context t) (nth_bound (count_trees ts) bs)) K5 (type_span t) (within_bound_ e s (nth_bound (count_trees ts) bs) args (normal_arg e.names e.context t) Y9 (type_span t) (gives_ tt)))))
 
 positional_asked : (e : Environment) (s : Span) (vs : Vals) (ps : PlainTypes) (g : Found) → ValsHaveDistinctLabels vs → Steps found_ (rule e (values_fit s vs ps g))
 positional_asked e s no_vals ps g x = gives_ tt

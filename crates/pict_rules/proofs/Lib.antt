@@ -28,4 +28,5 @@ pub mod RegularFound
 pub mod RegularArguments
 pub mod RegularLabels
 pub mod RegularAll
+pub mod SameMarks
 pub mod Worked

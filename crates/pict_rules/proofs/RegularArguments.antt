@@ -1,10 +1,13 @@
 -- Steps of regularity: type arguments, the fields rule and applications.
-use Rattle.std.proofs.Common.{◌≡◌, ◌≤◌, ℕ, suc, not, ◌||◌, nat_eq, if◌then◌else◌, Bool, true, false, List, [], ◌∷◌, ◌++◌, map, length, Option, Some, None, refl, sym, ◌∙◌, ap, subst, arith, eqb-true}
-use Rattle.pict_syntax.specs.declared.code.Code.TheVariants.{K1, Y5, Y6, Y9, Y10}
+use Rattle.std.proofs.Common.{◌≡◌, ◌≤◌, ℕ, suc, not, ◌||◌, nat_eq, if◌then◌else◌, Bool, true, false, List, [], ◌∷◌, ◌++◌, map, length, replicate, Option, Some, None, refl, sym, ◌∙◌, ap, subst, arith, eqb-true}
+use Rattle.std.proofs.lemmas.List.{length-replicate}
+use Rattle.pict_syntax.specs.declared.type_tree.Mark.TheVariants.{Plain as Unmarked}
+use Rattle.pict_syntax.specs.declared.code.Code.TheVariants.{K1, K5, Y5, Y6, Y9, Y10}
 use Rattle.pict_syntax.specs.declared.span.Span.{Span}
 use Rattle.pict_syntax.specs.Trees.{TypeTrees, no_types, more_types, Val, Vals, FieldVals, field_vals, LabelledVals}
 use Rattle.pict_syntax.specs.Grammar.{type_span}
-use Rattle.pict_types.specs.Types.{Both, Read, Write, Respond, PlainType, Top, Int, Char, Str, Boolean, Var, Apply, Chan, Fields, Rec, PlainTypes, PlainLabels, PlainBound, Free, Below, Operator, PlainBounds, no_bound, bounds, PlainArg, Plain, Op, count_types, count_bounds}
+use Rattle.pict_types.specs.AsMarked.{varies_as, VaryAsMarked}
+use Rattle.pict_types.specs.Types.{Both, Read, Write, Respond, PlainType, Top, Int, Char, Str, Boolean, Var, Apply, Chan, Fields, Rec, PlainTypes, PlainLabels, PlainBound, Free, Below, Operator, PlainBounds, no_bound, bounds, PlainArg, Plain, Op, TypeContext, count_types, count_bounds}
 use Rattle.pict_types.specs.Kinds.{Kind, operator_of, kind_by, kinds_under, IsWellFormed, AreWellFormed, LabelsAreWellFormed, BoundsAreWellFormed, ArgIsWellFormed}
 use Rattle.pict_types.specs.Replacing.{IsOfKind, FitTheirFields, arguments, replace, instance_of}
 use Rattle.pict_types.specs.Instances.{ArgsAreWellFormed}
@@ -19,13 +22,13 @@ use Rattle.pict_rules.specs.Shapes.{nth_bound, none_written, all_written, applic
 use Rattle.pict_rules.specs.Environments.{Environment, context_of}
 use Rattle.pict_rules.specs.Rules.{Sort, type_, found_, arguments_, Rule, Result, application, fields_fit, written_arguments, value_fits}
 use Rattle.pict_rules.specs.Clauses.{found_first, in_order, is_of_kind}
-use Rattle.pict_rules.specs.Regular.{IsRegular, IsTypeIn, IsGood, IsExpected, AreFieldsIn, kinds_in, kind_of_slot, kinds_found, kinds_within, kinds_of_fields, FoundFits, FitFirst}
+use Rattle.pict_rules.specs.Regular.{IsRegular, IsTypeIn, IsGood, IsExpected, AreFieldsIn, kinds_in, kind_of_slot, kinds_found, kinds_within, kinds_of_fields, FoundFits, NoOperatorIsFound, FitFirst}
 use Rattle.pict_rules.proofs.Results.{Each, with_result, gives_, parts, splits, ensures, unless, expects, within_bound_, within_bounds_}
 use Rattle.pict_rules.proofs.Regularity.{IsRightlyAsked, IsGoodResult, Step, IfFormed}
 use Rattle.pict_rules.proofs.RegularExpanded.{argument_well}
 use Rattle.pict_rules.proofs.RegularMatched.{head_same, tail_same, within_same, matched_in}
 use Rattle.pict_rules.proofs.RegularProcesses.{exposed_formed}
-use Rattle.pict_rules.proofs.RegularValues.{unless_clear, none_kinds, none_fits}
+use Rattle.pict_rules.proofs.RegularValues.{unless_clear, none_kinds, none_fits, none_no_operator}
 use Rattle.pict_rules.proofs.RegularFields.{ensures_known}
 use Rattle.pict_rules.proofs.RegularAbstractions.{FunctionFormed, function_formed, functions_formed}
 use Rattle.pict_types.proofs.Contexts.{entries_context}
@@ -34,7 +37,7 @@ use Rattle.pict_types.proofs.Contexts.{entries_context}
 abbrev bound_of : Slot → PlainBound
 bound_of (open_slot b) = b
 bound_of (filled (Plain t)) = Free
-bound_of (filled (Op n t)) = Operator n
+bound_of (filled (Op n t)) = Operator (replicate n Unmarked)
 
 abbrev bounds_found : Found → PlainBounds
 bounds_found [] = no_bound
@@ -43,7 +46,7 @@ bounds_found (x ∷ f) = bounds (bound_of x) (bounds_found f)
 bound_kind : (x : Slot) → kind_by (bound_of x) ≡ kind_of_slot x
 bound_kind (open_slot b) = refl
 bound_kind (filled (Plain t)) = refl
-bound_kind (filled (Op n t)) = refl
+bound_kind (filled (Op n t)) = ap operator_of (length-replicate n Unmarked)
 
 kinds_bound : (ks : List Kind) (f : Found) → kinds_under ks (bounds_found f) ≡ kinds_within ks f
 kinds_bound ks [] = refl
@@ -52,9 +55,9 @@ kinds_bound ks (x ∷ f) = kinds_bound (kind_by (bound_of x) ∷ ks) f ∙ ap (�
 slot_of_kind : (x : Slot) → IsOfKind (argument_in x) (bound_of x)
 slot_of_kind (open_slot Free) = tt
 slot_of_kind (open_slot (Below t)) = tt
-slot_of_kind (open_slot (Operator n)) = refl
+slot_of_kind (open_slot (Operator ms)) = refl
 slot_of_kind (filled (Plain t)) = tt
-slot_of_kind (filled (Op n t)) = refl
+slot_of_kind (filled (Op n t)) = sym (length-replicate n Unmarked)
 
 found_fit : (f : Found) → FitTheirFields (map argument_in f) (bounds_found f)
 found_fit [] = tt
@@ -63,7 +66,7 @@ found_fit (x ∷ f) = (slot_of_kind x, found_fit f)
 slot_formed : (e : Environment) (x : Slot) → FoundFits e (x ∷ []) → ArgIsWellFormed e.names (kinds_in e) (argument_in x)
 slot_formed e (open_slot Free) h = tt
 slot_formed e (open_slot (Below t)) h = tt
-slot_formed e (open_slot (Operator n)) h = tt
+slot_formed e (open_slot (Operator ms)) h = tt
 slot_formed e (filled a) h = h.0
 
 pub found_formed : (e : Environment) (f : Found) → FoundFits e f → ArgsAreWellFormed e.names (kinds_in e) (map argument_in f)
@@ -78,19 +81,19 @@ with_found_formed e f t h w =
 of_its_kind : (x : Slot) (b : PlainBound) → kind_of_slot x ≡ kind_by b → IsOfKind (argument_in x) b
 of_its_kind (open_slot Free) Free h = tt
 of_its_kind (open_slot Free) (Below t) h = tt
-of_its_kind (open_slot Free) (Operator n) h = absurd cc
+of_its_kind (open_slot Free) (Operator ms) h = absurd cc
 of_its_kind (open_slot (Below s)) Free h = tt
 of_its_kind (open_slot (Below s)) (Below t) h = tt
-of_its_kind (open_slot (Below s)) (Operator n) h = absurd cc
-of_its_kind (open_slot (Operator m)) Free h = absurd cc
-of_its_kind (open_slot (Operator m)) (Below t) h = absurd cc
-of_its_kind (open_slot (Operator m)) (Operator n) h = cc
+of_its_kind (open_slot (Below s)) (Operator ms) h = absurd cc
+of_its_kind (open_slot (Operator ns)) Free h = absurd cc
+of_its_kind (open_slot (Operator ns)) (Below t) h = absurd cc
+of_its_kind (open_slot (Operator ns)) (Operator ms) h = cc
 of_its_kind (filled (Plain s)) Free h = tt
 of_its_kind (filled (Plain s)) (Below t) h = tt
-of_its_kind (filled (Plain s)) (Operator n) h = absurd cc
+of_its_kind (filled (Plain s)) (Operator ms) h = absurd cc
 of_its_kind (filled (Op m s)) Free h = absurd cc
 of_its_kind (filled (Op m s)) (Below t) h = absurd cc
-of_its_kind (filled (Op m s)) (Operator n) h = cc
+of_its_kind (filled (Op m s)) (Operator ms) h = cc
 
 pub fit_fields : (f : Found) (bs : PlainBounds) → kinds_found f ≡ kinds_of_fields bs → FitTheirFields (map argument_in f) bs
 fit_fields [] no_bound h = tt
@@ -109,10 +112,10 @@ fields_kinds ks (x ∷ f) (bounds b bs) h = fields_kinds (kind_by b ∷ ks) f bs
 arg_kind : (a : PlainArg) (b : PlainBound) → IsOfKind a b → kind_of_slot (filled a) ≡ kind_by b
 arg_kind (Plain t) Free h = refl
 arg_kind (Plain t) (Below s) h = refl
-arg_kind (Plain t) (Operator n) h = absurd h
+arg_kind (Plain t) (Operator ms) h = absurd h
 arg_kind (Op m t) Free h = absurd h
 arg_kind (Op m t) (Below s) h = absurd h
-arg_kind (Op m t) (Operator n) h = ap operator_of h
+arg_kind (Op m t) (Operator ms) h = ap operator_of h
 
 written_kinds : (args : List PlainArg) (bs : PlainBounds) → FitTheirFields args bs → kinds_found (map filled args) ≡ kinds_of_fields bs
 written_kinds [] no_bound h = refl
@@ -133,10 +136,10 @@ all_fit (a ∷ args) (bounds b bs) h n = (h.0, all_fit args bs h.1 (omega (arith
 really_of_kind : (a : PlainArg) (b : PlainBound) → is_of_kind a b ≡ true → IsOfKind a b
 really_of_kind (Plain t) Free h = tt
 really_of_kind (Plain t) (Below s) h = tt
-really_of_kind (Plain t) (Operator n) h = absurd cc
+really_of_kind (Plain t) (Operator ms) h = absurd cc
 really_of_kind (Op m t) Free h = absurd cc
 really_of_kind (Op m t) (Below s) h = absurd cc
-really_of_kind (Op m t) (Operator n) h = eqb-true m n h
+really_of_kind (Op m t) (Operator ms) h = eqb-true m (length ms) h
 
 one_more_fits : (args : List PlainArg) (a : PlainArg) (bs : PlainBounds) → FitFirst args bs → suc (length args) ≤ count_bounds bs → IsOfKind a (nth_bound (length args) bs) → FitFirst (args ++ a ∷ []) bs
 one_more_fits [] a no_bound h n k = absurd (omega (arith, n))
@@ -152,19 +155,30 @@ pub one_longer : (args : List PlainArg) (a : PlainArg) → length (args ++ a ∷
 one_longer [] a = refl
 one_longer (x ∷ args) a = ap suc (one_longer args a)
 
+one_more_varies : (c : TypeContext) (args : List PlainArg) (a : PlainArg) (bs : PlainBounds) → VaryAsMarked c args bs → varies_as c a (nth_bound (length args) bs) ≡ true → VaryAsMarked c (args ++ a ∷ []) bs
+one_more_varies c [] a no_bound h k = tt
+one_more_varies c [] a (bounds b bs) h k = (k, tt)
+one_more_varies c (x ∷ args) a no_bound h k = tt
+one_more_varies c (x ∷ args) a (bounds b bs) h k = (h.0, one_more_varies c args a bs h.1 k)
+
 pub written_regular : (e : Environment) (s : Span) (ts : TypeTrees) (bs : PlainBounds) → TypesHaveDistinctLabels ts → IsRegular e → (count_trees ts ≤ count_bounds bs) × BoundsAreWellFormed e.names (kinds_in e) bs → Step arguments_ e (written_arguments s ts bs)
-written_regular e s no_types bs d r w = gives_ (tt, (tt, refl))
+written_regular e s no_types bs d r w = gives_ (tt, (tt, (refl, tt)))
 written_regular e s (more_types ts t) bs d r w =
     parts (r, (omega (arith, w.0), w.1)) (λ args h.
     unless_clear (arg_stop e.names e.context t) (λ k.
     ensures_known (is_of_kind (normal_arg e.names e.context t) (nth_bound (count_trees ts) bs)) K1 (type_span t) (λ q.
+    ensures_known (varies_as (context_of e) (normal_arg e.names e.context t) (nth_bound (count_trees ts) bs)) K5 (type_span t) (λ z.
     within_bound_ e s (nth_bound (count_trees ts) bs) args (normal_arg e.names e.context t) Y9 (type_span t) (
-    let n = h.1.1.1 in
+    let n = h.1.1.1.0 in
     let fits : IsOfKind (normal_arg e.names e.context t) (nth_bound (length args) bs) = subst (λ m. IsOfKind (normal_arg e.names e.context t) (nth_bound m bs)) (sym n) (really_of_kind (normal_arg e.names e.context t) (nth_bound (count_trees ts) bs) q) in
+    let goes : varies_as (context_of e) (normal_arg e.names e.context t) (nth_bound (length args) bs) ≡ true = ap (λ m. varies_as (context_of e) (normal_arg e.names e.context t) (nth_bound m bs)) n ∙ z in
     gives_ (
       one_more_formed e.names (kinds_in e) args (normal_arg e.names e.context t) h.1.0 (argument_well e.names e.context t r.entries d.1 k),
-      (one_more_fits args (normal_arg e.names e.context t) bs h.1.1.0 (omega (arith, n, w.0)) fits, one_longer args (normal_arg e.names e.context t) ∙ ap suc n),
-    )))))
+      (
+        one_more_fits args (normal_arg e.names e.context t) bs h.1.1.0 (omega (arith, n, w.0)) fits,
+        (one_longer args (normal_arg e.names e.context t) ∙ ap suc n, one_more_varies (context_of e) args (normal_arg e.names e.context t) bs h.1.1.1.1 goes),
+      ),
+    ))))))
 
 -- a value in its field
 pub value_regular : (e : Environment) (s : Span) (v : Val) (t : PlainType) (g : Found) → IsRegular e → IsWellFormed e.names (kinds_within (kinds_in e) g) t × FoundFits e g → Step found_ e (value_fits s v t g)
@@ -195,7 +209,7 @@ either_way : (a b : Bool) → (a || b) ≡ true → not a ≡ true → b ≡ tru
 either_way true b h k = absurd cc
 either_way false b h k = h
 
-pub fields_fit_regular : (e : Environment) (s : Span) (f : FieldVals) (bs : PlainBounds) (ps : PlainTypes) (ms : PlainLabels) (g : Found) → IsRegular e → AreFieldsIn e bs ps ms × ((kinds_found g ≡ kinds_of_fields bs) × FoundFits e g) → Step arguments_ e (fields_fit s f bs ps ms g)
+pub fields_fit_regular : (e : Environment) (s : Span) (f : FieldVals) (bs : PlainBounds) (ps : PlainTypes) (ms : PlainLabels) (g : Found) → IsRegular e → AreFieldsIn e bs ps ms × ((kinds_found g ≡ kinds_of_fields bs) × (FoundFits e g × NoOperatorIsFound g)) → Step arguments_ e (fields_fit s f bs ps ms g)
 fields_fit_regular e s (field_vals ts vs ls) bs ps ms g r w =
     ensures_known (none_written ts || nat_eq (count_trees ts) (count_bounds bs)) Y5 s (λ q.
     ensures (nat_eq (count_vals vs) (count_types ps)) Y5 s (
@@ -203,10 +217,10 @@ fields_fit_regular e s (field_vals ts vs ls) bs ps ms g r w =
     chosen (not (none_written ts)) (λ k.
     let n : count_trees ts ≡ count_bounds bs = eqb-true (count_trees ts) (count_bounds bs) (either_way (none_written ts) _ q k) in
     parts (r, (omega (arith, n), w.0.0)) (λ args h.
-    let fits = all_fit args bs h.1.1.0 (h.1.1.1 ∙ n) in
+    let fits = all_fit args bs h.1.1.0 (h.1.1.1.0 ∙ n) in
     unless (size_stop e.context (instance_of args ps ms) s) (
     ordered e s vs ls ps ms (map filled args) r (fields_in e (map filled args) bs ps ms (written_kinds args bs fits) w.0) (written_fits e args h.1.0) (λ z x y. gives_ (h.1.0, fits)))))
-    (ordered e s vs ls ps ms g r (fields_in e g bs ps ms w.1.0 w.0) w.1.1 (λ z x y.
+    (ordered e s vs ls ps ms g r (fields_in e g bs ps ms w.1.0 w.0) w.1.1.0 (λ z x y.
     ensures (all_found z) Y10 s (
     within_bounds_ e s bs [] (map argument_in z) Y9 (
     gives_ (found_formed e z y, fit_fields z bs (x ∙ w.1.0)))))))))
@@ -252,22 +266,23 @@ applied_formed e (Rec t) w = tt
 record FoundBefore (e : Environment) (bs : PlainBounds) (f : Found) : Type 0 where
   kinds_ : kinds_found f ≡ kinds_of_fields bs
   fits : FoundFits e f
+  no_operator : NoOperatorIsFound f
 
 first_found : (e : Environment) (vs : FieldVals) (g : Function) (o : Option PlainType) → IsRegular e → IsExpected e o → FunctionFormed e (Some g) → FoundBefore e g.binders (found_first e vs g o)
-first_found e (field_vals ts vs ls) g None r x w = record { kinds_ = none_kinds g.binders; fits = none_fits e g.binders }
+first_found e (field_vals ts vs ls) g None r x w = record { kinds_ = none_kinds g.binders; fits = none_fits e g.binders; no_operator = none_no_operator g.binders }
 first_found e (field_vals ts vs ls) g (Some t) r x w = go (none_written ts)
   where
     go : (b : Bool) → FoundBefore e g.binders (if b then matched (context_of e) 0 g.answer t (none_found g.binders) else none_found g.binders)
-    go false = record { kinds_ = none_kinds g.binders; fits = none_fits e g.binders }
+    go false = record { kinds_ = none_kinds g.binders; fits = none_fits e g.binders; no_operator = none_no_operator g.binders }
     go true =
         let k = matched_in e (context_of e) g.answer t (none_found g.binders) (entries_context e.names e.context r.entries) refl (subst (λ ks. IsWellFormed e.names ks g.answer) (fields_kinds (kinds_in e) (none_found g.binders) g.binders (none_kinds g.binders)) w.1) x (none_fits e g.binders) in
-        record { kinds_ = k.kinds_ ∙ none_kinds g.binders; fits = k.fits }
+        record { kinds_ = k.kinds_ ∙ none_kinds g.binders; fits = k.fits; no_operator = k.no_operator (none_no_operator g.binders) }
 
 pub application_regular : (e : Environment) (s : Span) (f : Val) (vs : FieldVals) (o : Option PlainType) → IsRegular e → IsExpected e o → Step type_ e (application s f vs o)
 application_regular e s f vs o r x =
     parts (r, tt) (λ t h.
     functions_formed e (applicable (exposure (context_of e) t)) _ _ (applied_formed e (exposure (context_of e) t) (exposed_formed e t r h.1)) (λ g w.
     let b = first_found e vs g o r x w in
-    parts (r, (w.0, (b.kinds_, b.fits))) (λ args i.
+    parts (r, (w.0, (b.kinds_, (b.fits, b.no_operator)))) (λ args i.
     unless (size_stop e.context (replace (arguments args) g.answer) s) (expects e o (replace (arguments args) g.answer) _ s (
     gives_ (replace_formed e.names g.answer (arguments_keep e.names (kinds_in e) args g.binders i.1.1 i.1.0) w.1))))))

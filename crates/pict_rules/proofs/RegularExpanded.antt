@@ -28,7 +28,7 @@ MeansOperator ns ks (Some (an_operator n h)) = StandsForOperator ns ks n h
 entry_means : (ns : List (List ℕ)) (c : PlainContext) (w : PlainWhat) → EntryIsWellFormed ns (variables c) w → MeansOperator ns (kinds (with_variable w (variables c))) (Some (of_entry w))
 entry_means ns c (Variable Free) h = tt
 entry_means ns c (Variable (Below t)) h = tt
-entry_means ns c (Variable (Operator n)) h = refl
+entry_means ns c (Variable (Operator ms)) h = refl
 entry_means ns c (Definition (Plain t)) h = tt
 entry_means ns c (Definition (Op n t)) h = (refl, h)
 

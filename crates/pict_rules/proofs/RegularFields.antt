@@ -2,8 +2,7 @@
 use Rattle.std.proofs.Common.{◌≡◌, ◌≤◌, ℕ, zero, suc, Bool, true, false, List, [], ◌∷◌, ◌++◌, Some, None, refl, sym, ◌∙◌, ap, subst, arith, nat_eq, eqb-true}
 use Rattle.pict_syntax.specs.declared.code.Code.{Code}
 use Rattle.pict_syntax.specs.declared.span.Span.{Span}
-use Rattle.pict_syntax.specs.declared.type_tree.KindTree.TheVariants.{Plain as Plain_, Operator as Operator_}
-use Rattle.pict_syntax.specs.Trees.{TypeBinder, type_binder, unbounded, bound, TypeBinders, no_binders, more_binders, FieldPats, field_pats, LabelledPats, no_labelled_pats, more_labelled_pats}
+use Rattle.pict_syntax.specs.Trees.{plain_kind, operator_kind, TypeBinder, type_binder, unbounded, bound, TypeBinders, no_binders, more_binders, FieldPats, field_pats, LabelledPats, no_labelled_pats, more_labelled_pats}
 use Rattle.pict_types.specs.Types.{PlainTypes, PlainLabels, PlainBound, PlainBounds, no_bound, bounds, type_at, count_bounds}
 use Rattle.pict_types.specs.Kinds.{Kind, kinds, kind_by, kinds_under, AreWellFormed, LabelsAreWellFormed, BoundIsWellFormed, BoundsAreWellFormed}
 use Rattle.pict_normal.specs.Normal.{normal, normal_binder, and_bound}
@@ -52,11 +51,11 @@ fields_regular e (field_pats bs ps ls) r =
 
 binder_formed : (e : Environment) (b : TypeBinder) → IsRegular e → BinderHasDistinctLabels b → binder_stop e.names e.context b ≡ None → BoundIsWellFormed e.names (kinds_in e) (normal_binder e.names e.context b)
 binder_formed e (type_binder s x None unbounded) r m k = tt
-binder_formed e (type_binder s x (Some Plain_) unbounded) r m k = tt
-binder_formed e (type_binder s x (Some (Operator_ i)) unbounded) r m k = tt
-binder_formed e (type_binder s x (Some (Operator_ i)) (bound t)) r m k = tt
+binder_formed e (type_binder s x (Some plain_kind) unbounded) r m k = tt
+binder_formed e (type_binder s x (Some (operator_kind ms)) unbounded) r m k = tt
+binder_formed e (type_binder s x (Some (operator_kind ms)) (bound t)) r m k = tt
 binder_formed e (type_binder s x None (bound t)) r m k = formed_bound_by e.names (kinds_in e) (normal e.names e.context t) (expands_well e.names e.context t r.entries m k)
-binder_formed e (type_binder s x (Some Plain_) (bound t)) r m k = formed_bound_by e.names (kinds_in e) (normal e.names e.context t) (expands_well e.names e.context t r.entries m k)
+binder_formed e (type_binder s x (Some plain_kind) (bound t)) r m k = formed_bound_by e.names (kinds_in e) (normal e.names e.context t) (expands_well e.names e.context t r.entries m k)
 
 pub binders_regular : (e : Environment) (bs : TypeBinders) → BindersHaveDistinctLabels bs → IsRegular e → Step binders_ e (binders_give bs)
 binders_regular e no_binders i r = gives_ tt

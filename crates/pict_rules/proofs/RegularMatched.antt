@@ -10,14 +10,15 @@ use Rattle.pict_sub.specs.Exposing.{exposure}
 use Rattle.pict_sub.proofs.Followed.{exposure_formed}
 use Rattle.pict_rules.specs.Found.{open_slot, filled, Found, is_missing, is_missing_variable, find, is_same_head, match_channel, match_recursive, match_applied, match_record, match_label, matched, matched_types, matched_labels, matched_bounds, matched_bound}
 use Rattle.pict_rules.specs.Environments.{Environment}
-use Rattle.pict_rules.specs.Regular.{kinds_in, kind_of_slot, kinds_found, kinds_within, FoundFits}
+use Rattle.pict_rules.specs.Regular.{kinds_in, kind_of_slot, kinds_found, kinds_within, FoundFits, NoOperatorIsFound}
 use Rattle.pict_types.proofs.Contexts.{formed_under, kinds_under_is}
 use Rattle.pict_normal.proofs.Used.{and_cases}
 
--- what is kept: the kinds of the type fields, and that what is found is written outside them
+-- what is kept: the kinds of the type fields, that what is found is written outside them, and that no operator is
 pub record Keeps (e : Environment) (f h : Found) : Type 0 where
   pub kinds_ : kinds_found h ≡ kinds_found f
   pub fits : FoundFits e h
+  pub no_operator : NoOperatorIsFound f → NoOperatorIsFound h
 
 abbrev pub kind_list : List Kind → List Kind
 kind_list ks = ks
@@ -35,7 +36,7 @@ within_same ks (x ∷ f) [] h = absurd cc
 within_same ks (x ∷ f) (y ∷ g) h = within_same (kind_of_slot x ∷ ks) f g (tail_same h) ∙ ap (λ k. kinds_within (k ∷ ks) g) (head_same h)
 
 keeps_on : {e : Environment} {f g h : Found} → Keeps e f g → Keeps e g h → Keeps e f h
-keeps_on x y = record { kinds_ = y.kinds_ ∙ x.kinds_; fits = y.fits }
+keeps_on x y = record { kinds_ = y.kinds_ ∙ x.kinds_; fits = y.fits; no_operator = λ z. y.no_operator (x.no_operator z) }
 
 -- the type field that variable j under them is
 outer_kind : (ks : List Kind) (f : Found) (j : ℕ) → kind_at (kinds_within ks f) (length f + j) ≡ kind_at ks j
@@ -50,10 +51,10 @@ fill_last e (open_slot b ∷ f) ks zero j t q m k w h =
     let i : j ≡ length f + 0 = omega (arith, q) in
     let p : Some (kind_by b) ≡ Some proper = sym (outer_kind (kind_by b ∷ ks) f 0) ∙ ap (kind_at (kinds_within (kind_by b ∷ ks) f)) (sym i) ∙ k in
     let r : kind_by b ≡ proper = cc in
-    record { kinds_ = ap (λ z. z ∷ kinds_found f) (sym r); fits = (h, w.1) }
+    record { kinds_ = ap (λ z. z ∷ kinds_found f) (sym r); fits = (h, w.1); no_operator = λ z. (tt, z.1) }
 fill_last e (x ∷ f) ks (suc n) j t q m k w h =
     let r = fill_last e f (kind_of_slot x ∷ ks) n j t (omega (arith, q)) m k w.1 h in
-    record { kinds_ = ap (λ z. kind_of_slot x ∷ z) r.kinds_; fits = (w.0, r.fits) }
+    record { kinds_ = ap (λ z. kind_of_slot x ∷ z) r.kinds_; fits = (w.0, r.fits); no_operator = λ z. (z.0, r.no_operator z.1) }
 
 inner_kind : (inner ks : List Kind) (i : ℕ) → length inner ≤ i → kind_at (inner ++ ks) i ≡ kind_at ks (i - length inner)
 inner_kind [] ks i h = let e : i - 0 ≡ i = omega arith in ap (kind_at ks) (sym e)
@@ -91,7 +92,7 @@ find_keeps e c d i wanted g f p k w h = go (nat_le d i && (is_missing_variable f
   where
     go : (b : Bool) → (b ≡ true → Keeps e f (set f (length f - 1 - (i - d)) (filled (Plain (lowered d g))))) → Keeps e f (if b then set f (length f - 1 - (i - d)) (filled (Plain (lowered d g))) else f)
     go true x = x refl
-    go false x = record { kinds_ = refl; fits = h }
+    go false x = record { kinds_ = refl; fits = h; no_operator = λ z. z }
 
 -- a test, and what is known where it holds
 known : (P : Found → Type 0) (b : Bool) {x y : Found} → (b ≡ true → P x) → P y → P (if b then x else y)
@@ -172,7 +173,7 @@ still : {e : Environment} {f g : Found} → Keeps e f g → (wanted : List Kind)
 still {e = e} {f = f} {g = g} x wanted = ap (λ z. wanted ++ z) (sym (within_same (kinds_in e) g f x.kinds_))
 
 unchanged : {e : Environment} (f : Found) → FoundFits e f → Keeps e f f
-unchanged f h = record { kinds_ = refl; fits = h }
+unchanged f h = record { kinds_ = refl; fits = h; no_operator = λ z. z }
 
 label_at : (P : Found → Type 0) (ns : List (List ℕ)) (ks : List Kind) (l : ℕ) (ms : PlainLabels) (k : PlainType → Found) (f : Found) → LabelsAreWellFormed ns ks ms → ((u : PlainType) → IsWellFormed ns ks u → P (k u)) → P f → P (match_label (type_at l ms) k f)
 label_at P ns ks l no_label k f w h x = x
@@ -238,9 +239,9 @@ mutual
 
   bound_keeps : (e : Environment) (c : TypeContext) (d : ℕ) (wanted : List Kind) (b g : PlainBound) (f : Found) → IsPlace e c d wanted → BoundIsWellFormed e.names (wanted ++ kinds_within (kinds_in e) f) b → BoundIsWellFormed e.names (kinds c) g → FoundFits e f → Keeps e f (matched_bound c d b g f)
   bound_keeps e c d wanted Free g f p x y h = unchanged f h
-  bound_keeps e c d wanted (Operator n) g f p x y h = unchanged f h
+  bound_keeps e c d wanted (Operator ms) g f p x y h = unchanged f h
   bound_keeps e c d wanted (Below w) Free f p x y h = unchanged f h
-  bound_keeps e c d wanted (Below w) (Operator n) f p x y h = unchanged f h
+  bound_keeps e c d wanted (Below w) (Operator ms) f p x y h = unchanged f h
   bound_keeps e c d wanted (Below w) (Below g) f p x y h = matched_keeps e c d wanted w g f p x.1 y.1 h
 
 -- matching in an environment

@@ -19,7 +19,7 @@ use Rattle.pict_rules.specs.Environments.{Environment, KnownValue, context_of, o
 use Rattle.pict_rules.specs.Rules.{Sort, nothing_, type_, Rule, Result, gives, has, unless_stopped, give, refuse}
 use Rattle.pict_syntax.specs.declared.code.Code.TheVariants.{Y14}
 use Rattle.pict_rules.specs.Clauses.{if_record, need_recursive, if_sent, need_outside, gives_below}
-use Rattle.pict_rules.specs.Regular.{IsRegular, IsTypeIn, kinds_in, ValuesAreWellFormed, GrowsFrom, FoundFits, kinds_found, kinds_of_fields}
+use Rattle.pict_rules.specs.Regular.{IsRegular, IsTypeIn, kinds_in, ValuesAreWellFormed, GrowsFrom, FoundFits, NoOperatorIsFound, kinds_found, kinds_of_fields}
 use Rattle.pict_rules.proofs.Results.{Property, ResultProperty, Each, with_result, gives_, refuses, needs, chooses, parts, ensures, unless}
 use Rattle.pict_rules.proofs.Regularity.{IsRightlyAsked, IsGoodResult, Step, IfFormed}
 use Rattle.pict_types.proofs.Formed.{formed_renamed, unfolding_formed}
@@ -162,6 +162,10 @@ pub none_fits : (e : Environment) (bs : PlainBounds) → FoundFits e (none_found
 none_fits e no_bound = tt
 none_fits e (bounds b bs) = (tt, none_fits e bs)
 
+pub none_no_operator : (bs : PlainBounds) → NoOperatorIsFound (none_found bs)
+none_no_operator no_bound = tt
+none_no_operator (bounds b bs) = (tt, none_no_operator bs)
+
 below : (e : Environment) (v : Val) (t : PlainType) (c : Code) → IsRegular e → Each IsRightlyAsked (with_result IsGoodResult) nothing_ (λ x. Unit {0}) (gives_below e v t c)
 below e v t c r = parts (r, tt) (λ s g. needs (gives_ tt))
 
@@ -173,7 +177,7 @@ has_regular e (string_val s b) t r w = below e _ t _ r
 has_regular e (true_val s) t r w = below e _ t _ r
 has_regular e (false_val s) t r w = below e _ t _ r
 has_regular e (fields_val s f) t r w =
-    records_formed e.names (kinds_in e) t w (λ bs ps ls u. parts (r, (u, (none_kinds bs, none_fits e bs))) (λ x h. gives_ tt)) (below e _ t _ r)
+    records_formed e.names (kinds_in e) t w (λ bs ps ls u. parts (r, (u, (none_kinds bs, (none_fits e bs, none_no_operator bs)))) (λ x h. gives_ tt)) (below e _ t _ r)
 has_regular e (if_val at c v v') t r w = parts (r, tt) (λ x h. parts (r, w) (λ y i. parts (r, w) (λ z k. gives_ tt)))
 has_regular e (lambda_val s a) t r w = sents_formed e.names (kinds_in e) t w (λ u k. parts (r, k) (λ x h. gives_ tt)) (below e _ t _ r)
 has_regular e (of_chan (fold_chan s None v)) t r w = recursives_formed e.names (kinds_in e) t _ _ w (λ u k. unless _ (parts (r, k) (λ x h. gives_ tt)))

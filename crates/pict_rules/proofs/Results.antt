@@ -218,7 +218,7 @@ expects e (Some t) u c i h = needs h
 
 pub within_bound_ : {A : Property} {G : ResultProperty} {s : Sort} {P : Result s → Type 0} (e : Environment) (n : Span) (b : PlainBound) (args : List PlainArg) (a : PlainArg) (c : Code) (i : Span) {r : Rule s} → Each A G s P r → Each A G s P (within_bound e n b args a c i r)
 within_bound_ e n Free args a c i h = h
-within_bound_ e n (Operator m) args a c i h = h
+within_bound_ e n (Operator ms) args a c i h = h
 within_bound_ e n (Below b) args a c i h = unless _ (needs h)
 
 pub within_bounds_ : {A : Property} {G : ResultProperty} {s : Sort} {P : Result s → Type 0} (e : Environment) (n : Span) (bs : PlainBounds) (earlier args : List PlainArg) (c : Code) {r : Rule s} → Each A G s P r → Each A G s P (within_bounds e n bs earlier args c r)

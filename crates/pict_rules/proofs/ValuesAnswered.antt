@@ -2,10 +2,11 @@
 use Rattle.std.proofs.Common.{ℕ, ℤ, List, [], ◌∷◌, ◌++◌, map, not, ◌||◌, nat_eq, Option, Some, None, sym, subst}
 use Rattle.pict_syntax.specs.declared.code.Code.{Code}
 use Rattle.pict_syntax.specs.declared.name.Name.{Name}
-use Rattle.pict_syntax.specs.declared.code.Code.TheVariants.{K1, Y5, Y6, Y9, Y10, Y14}
+use Rattle.pict_syntax.specs.declared.code.Code.TheVariants.{K1, K5, Y5, Y6, Y9, Y10, Y14}
 use Rattle.pict_syntax.specs.declared.span.Span.{Span}
 use Rattle.pict_syntax.specs.declared.id.Id.{Id}
 use Rattle.pict_syntax.specs.Trees.{Pat, FieldPats, TypeTree, TypeTrees, no_types, more_types, Dec, new_dec, run_dec, let_dec, def_dec, alias_dec, operator_dec, await_dec, Decs, no_decs, more_decs, Definitions, no_definitions, more_definitions, Abs, process_abs, function_abs, Chan, use_chan, fold_chan, block_chan, apply_chan, right_chan, left_chan, Val, of_chan, number_val, character_val, string_val, true_val, false_val, fields_val, if_val, lambda_val, Vals, no_vals, more_vals, FieldVals, field_vals, LabelledVals, no_labelled_vals, more_labelled_vals, Proc, send_proc, receive_proc, serve_proc, if_proc, inert_proc, group_proc, Procs, no_procs, more_procs}
+use Rattle.pict_types.specs.AsMarked.{varies_as}
 use Rattle.pict_types.specs.Types.{Chan as Chan_, Respond, PlainType, PlainTypes, PlainLabels, PlainBounds, type_at, count_types, count_bounds}
 use Rattle.pict_normal.specs.Normal.{normal, kind_stop, size_stop, count_trees}
 use Rattle.pict_sub.specs.Exposing.{exposure}
@@ -108,7 +109,7 @@ ordered d e i vs ls ps ms f hv hl hk = parted (all_positional d e i vs ps f hv) 
 pub all_arguments : Decides → (e : Environment) (i : Span) (ts : TypeTrees) (bs : PlainBounds) → Answered arguments_ (rule e (written_arguments i ts bs))
 all_arguments d e i no_types bs = given
 all_arguments d e i (more_types ts t) bs =
-    parted (all_arguments d e i ts bs) (λ args. unstopped (arg_stop e.names e.context t) (ensured (is_of_kind (normal_arg e.names e.context t) (nth_bound (count_trees ts) bs)) K1 (type_span t) (bounded d e i (nth_bound (count_trees ts) bs) args (normal_arg e.names e.context t) Y9 (type_span t) given)))
+    parted (all_arguments d e i ts bs) (λ args. unstopped (arg_stop e.names e.context t) (ensured (is_of_kind (normal_arg e.names e.context t) (nth_bound (count_trees ts) bs)) K1 (type_span t) (ensured (varies_as (context_of e) (normal_arg e.names e.context t) (nth_bound (count_trees ts) bs)) K5 (type_span t) (bounded d e i (nth_bound (count_trees ts) bs) args (normal_arg e.names e.context t) Y9 (type_span t) given))))
 
 pub fields_rule : Decides → (e : Environment) (i : Span) (f : FieldVals) (bs : PlainBounds) (ps : PlainTypes) (ms : PlainLabels) (g : Found) → EachField f → Answered arguments_ (rule e (fields_fit i f bs ps ms g))
 fields_rule d e i (field_vals ts vs ls) bs ps ms g h =

@@ -13,7 +13,7 @@ unfolding marks opens
 number_scoped = refl
 
 text_is_no_number : IsSubtype [] Str Int → ⊥
-text_is_no_number d = let e : Str ≡ Int = (only_itself [] Str Int (λ e. cc) (λ e. cc) (λ e. cc) (λ e. cc)).0 d in cc
+text_is_no_number d = let e : Str ≡ Int = (only_itself [] Str Int (λ e. cc) (λ e. cc) (λ e. cc) (λ e. cc) (λ e. cc)).0 d in cc
 
 pub worked_texts : WorkedTexts
 worked_texts = record {

@@ -1,10 +1,9 @@
 -- The clauses of the typing rules: `need_..` has the code and the place of its refusal, and `if_..` goes on in another way.
-use Rattle.std.specs.Prelude.{ℕ, Bool, true, false, nat_eq, if◌then◌else◌, List, [], ◌∷◌, ◌++◌, Option, Some, None}
+use Rattle.std.specs.Prelude.{ℕ, Bool, true, false, nat_eq, if◌then◌else◌, List, [], ◌∷◌, ◌++◌, length, Option, Some, None}
 use Rattle.pict_syntax.specs.declared.code.Code.{Code}
 use Rattle.pict_syntax.specs.declared.span.Span.{Span}
 use Rattle.pict_syntax.specs.declared.id.Id.{Id}
-use Rattle.pict_syntax.specs.declared.type_tree.KindTree.{KindTree}
-use Rattle.pict_syntax.specs.Trees.{TypeBinder, type_binder, Bound, unbounded, bound, Val, Vals, FieldVals, field_vals, LabelledVals}
+use Rattle.pict_syntax.specs.Trees.{KindTree, TypeBinder, type_binder, Bound, unbounded, bound, Val, Vals, FieldVals, field_vals, LabelledVals}
 use Rattle.pict_types.specs.Types.{Capability, Both, Read, Write, Respond, PlainType, Chan, Fields, Rec, PlainTypes, no_type, PlainLabels, no_label, PlainBound, Free, Below, Operator, PlainBounds, no_bound, bounds, PlainArg, Plain, Op, under, is_top}
 use Rattle.pict_types.specs.Replacing.{bound_by, arguments, replace, unfolding_of, type_in}
 use Rattle.pict_normal.specs.Normal.{and_type, normal, normal_binder, entry_of, Stop}
@@ -73,7 +72,7 @@ found_first e (field_vals ts vs ls) r (Some t) = if none_written ts then matched
 -- an argument is below its type field's bound, written with the earlier ones put in
 abbrev pub within_bound : {s : Sort} → Environment → Span → PlainBound → List PlainArg → PlainArg → Code → Span → Rule s → Rule s
 within_bound e node Free earlier a c i r = r
-within_bound e node (Operator n) earlier a c i r = r
+within_bound e node (Operator ms) earlier a c i r = r
 within_bound e node (Below b) earlier a c i r =
     within_limits e (replace (arguments earlier) b) node (
     need (is_subtype (context_of e) (type_in a) (replace (arguments earlier) b)) c i r)
@@ -86,10 +85,10 @@ within_bounds e node (bounds b bs) earlier (a ∷ args) c r = within_bound e nod
 
 -- an argument is of its type field's kind
 abbrev pub is_of_kind : PlainArg → PlainBound → Bool
-is_of_kind (Op m t) (Operator n) = nat_eq m n
+is_of_kind (Op m t) (Operator ms) = nat_eq m (length ms)
 is_of_kind (Op m t) Free = false
 is_of_kind (Op m t) (Below b) = false
-is_of_kind (Plain t) (Operator n) = false
+is_of_kind (Plain t) (Operator ms) = false
 is_of_kind (Plain t) Free = true
 is_of_kind (Plain t) (Below b) = true
 

@@ -39,7 +39,7 @@ abbrev pub argument_in : Slot → PlainArg
 argument_in (filled a) = a
 argument_in (open_slot Free) = Plain Top
 argument_in (open_slot (Below t)) = Plain Top
-argument_in (open_slot (Operator n)) = Op n Top
+argument_in (open_slot (Operator ms)) = Op (length ms) Top
 
 -- a type under the type fields with what is found put in
 abbrev pub with_found : Found → PlainType → PlainType

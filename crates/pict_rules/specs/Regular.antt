@@ -6,6 +6,7 @@ use Rattle.pict_types.specs.Kinds.{Kind, proper, operator_of, kinds, kinds_under
 use Rattle.pict_types.specs.Entries.{EntriesAreWellFormed}
 use Rattle.pict_types.specs.Replacing.{IsOfKind, FitTheirFields}
 use Rattle.pict_types.specs.Instances.{ArgsAreWellFormed}
+use Rattle.pict_types.specs.AsMarked.{VaryAsMarked}
 use Rattle.pict_normal.specs.Normal.{count_trees}
 use Rattle.pict_scope.specs.DistinctLabels.{TypesHaveDistinctLabels, BindersHaveDistinctLabels, IsNewPattern, IsNewValue, PatHasDistinctLabels, FieldPatsHaveDistinctLabels, PatsHaveDistinctLabels, LabelledPatsAreDistinct, DecHasDistinctLabels, DecsHaveDistinctLabels, DefinitionsHaveDistinctLabels, AbsHasDistinctLabels, ChanHasDistinctLabels, ValHasDistinctLabels, ValsHaveDistinctLabels, FieldValsHaveDistinctLabels, LabelledValsAreDistinct, ProcHasDistinctLabels, ProcsHaveDistinctLabels}
 use Rattle.pict_scope.specs.Scopes.{scope_stop}
@@ -104,6 +105,16 @@ abbrev pub FoundFits : Environment → Found → Type 0
 FoundFits e [] = Unit {0}
 FoundFits e (x ∷ f) = SlotFits e x × FoundFits e f
 
+-- no operator is found
+abbrev pub IsNoOperator : Slot → Type 0
+IsNoOperator (open_slot b) = Unit {0}
+IsNoOperator (filled (Plain t)) = Unit {0}
+IsNoOperator (filled (Op n t)) = ⊥
+
+abbrev pub NoOperatorIsFound : Found → Type 0
+NoOperatorIsFound [] = Unit {0}
+NoOperatorIsFound (x ∷ f) = IsNoOperator x × NoOperatorIsFound f
+
 -- fields of a record under its type fields
 abbrev pub AreFieldsIn : Environment → PlainBounds → PlainTypes → PlainLabels → Type 0
 AreFieldsIn e bs ps ls =
@@ -138,11 +149,13 @@ first_bounds zero bs = no_bound
 first_bounds (suc n) no_bound = no_bound
 first_bounds (suc n) (bounds b bs) = bounds b (first_bounds n bs)
 
--- what a judgement is handed is well formed. The fields fit is asked with type fields that are of the kinds of what was found
+-- what a judgement is handed is well formed. The fields fit is asked with type fields that are of the kinds of what was found,
+-- and no operator was
 abbrev pub IsAsked : {s : Sort} → Environment → Judgement s → Type 0
 IsAsked e (has v t) = IsTypeIn e t
 IsAsked e (application s f vs t) = IsExpected e t
-IsAsked e (fields_fit s f bs ps ls g) = AreFieldsIn e bs ps ls × ((kinds_found g ≡ kinds_of_fields bs) × FoundFits e g)
+IsAsked e (fields_fit s f bs ps ls g) =
+    AreFieldsIn e bs ps ls × ((kinds_found g ≡ kinds_of_fields bs) × (FoundFits e g × NoOperatorIsFound g))
 IsAsked e (written_arguments s ts bs) = (count_trees ts ≤ count_bounds bs) × BoundsAreWellFormed e.names (kinds_in e) bs
 IsAsked e (values_fit s vs ps g) = AreWellFormed e.names (kinds_within (kinds_in e) g) ps × FoundFits e g
 IsAsked e (labelled_values_fit s ls ms g) = LabelsAreWellFormed e.names (kinds_within (kinds_in e) g) ms × FoundFits e g
@@ -183,7 +196,9 @@ IsGood e (values_give vs) ts = AreWellFormed e.names (kinds_in e) ts
 IsGood e (labelled_values_give ls) ms = LabelsAreWellFormed e.names (kinds_in e) ms × AreOfValues ls ms
 IsGood e (application s f vs t) u = IsTypeIn e u
 IsGood e (fields_fit s f bs ps ls g) args = ArgsAreWellFormed e.names (kinds_in e) args × FitTheirFields args bs
-IsGood e (written_arguments s ts bs) args = ArgsAreWellFormed e.names (kinds_in e) args × (FitFirst args bs × (length args ≡ count_trees ts))
+IsGood e (written_arguments s ts bs) args =
+    ArgsAreWellFormed e.names (kinds_in e) args
+    × (FitFirst args bs × ((length args ≡ count_trees ts) × VaryAsMarked (context_of e) args bs))
 IsGood e (values_fit s vs ps g) h = (kinds_found h ≡ kinds_found g) × FoundFits e h
 IsGood e (labelled_values_fit s ls ms g) h = (kinds_found h ≡ kinds_found g) × FoundFits e h
 IsGood e (value_fits s v t g) h = (kinds_found h ≡ kinds_found g) × FoundFits e h

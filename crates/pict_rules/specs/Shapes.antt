@@ -1,10 +1,10 @@
 -- The forms of types and of phrases that the rules ask for: what may be applied, what is written, nested applications.
 use Rattle.std.specs.Prelude.{ℕ, zero, suc, Bool, true, false, ◌&&◌, ◌||◌, nat_eq, List, [], ◌∷◌, Option, Some, None}
-use Rattle.pict_syntax.specs.declared.type_tree.KindTree.{KindTree}
-use Rattle.pict_syntax.specs.declared.type_tree.KindTree.TheVariants.{Plain as Plain_, Operator as Operator_}
+use Rattle.pict_syntax.specs.declared.type_tree.Mark.{Mark}
+use Rattle.pict_syntax.specs.declared.type_tree.Mark.TheVariants as mark
 use Rattle.pict_syntax.specs.declared.id.Id.{Id}
 use Rattle.pict_syntax.specs.declared.span.Span.{Span}
-use Rattle.pict_syntax.specs.Trees.{TypeTrees, no_types, more_types, TypeBinder, type_binder, Bound, unbounded, bound, Val, of_chan, use_chan, apply_chan, true_val, Vals, no_vals, more_vals, field_vals, LabelledVals, no_labelled_vals, more_labelled_vals}
+use Rattle.pict_syntax.specs.Trees.{KindTree, plain_kind, operator_kind, TypeTrees, no_types, more_types, TypeBinder, type_binder, Bound, unbounded, bound, Val, of_chan, use_chan, apply_chan, true_val, Vals, no_vals, more_vals, field_vals, LabelledVals, no_labelled_vals, more_labelled_vals}
 use Rattle.pict_types.specs.Types.{Both, Read, Write, Respond, PlainType, Top, Chan, Fields, PlainTypes, no_type, types, PlainLabels, no_label, labels, PlainBound, Free, Below, Operator, PlainBounds, no_bound, bounds}
 use Rattle.pict_syntax.specs.Grammar.{type_span}
 use Rattle.pict_normal.specs.Normal.{Stop, normal, binder_stops, size_stop, first_stop}
@@ -95,15 +95,27 @@ written_bound (type_binder s x k b) = b
 abbrev pub binder_stop : List (List ℕ) → PlainContext → TypeBinder → Option Stop
 binder_stop ns c b = first_stop (binder_stops ns c b) (bound_size_stop ns c (written_bound b))
 
+abbrev pub same_mark : Mark → Mark → Bool
+same_mark mark.Plus mark.Plus = true
+same_mark mark.Minus mark.Minus = true
+same_mark mark.Plain mark.Plain = true
+same_mark _ _ = false
+
+-- the same marks, in order
+abbrev pub same_marks : List Mark → List Mark → Bool
+same_marks [] [] = true
+same_marks (n ∷ ns) (m ∷ ms) = same_mark n m && same_marks ns ms
+same_marks _ _ = false
+
 -- a written kind is that of the field
 abbrev pub kind_agrees : Option KindTree → PlainBound → Bool
 kind_agrees None b = true
-kind_agrees (Some Plain_) (Operator n) = false
-kind_agrees (Some Plain_) Free = true
-kind_agrees (Some Plain_) (Below t) = true
-kind_agrees (Some (Operator_ m)) (Operator n) = nat_eq m n
-kind_agrees (Some (Operator_ m)) Free = false
-kind_agrees (Some (Operator_ m)) (Below t) = false
+kind_agrees (Some plain_kind) (Operator ms) = false
+kind_agrees (Some plain_kind) Free = true
+kind_agrees (Some plain_kind) (Below t) = true
+kind_agrees (Some (operator_kind ns)) (Operator ms) = same_marks ns ms
+kind_agrees (Some (operator_kind ns)) Free = false
+kind_agrees (Some (operator_kind ns)) (Below t) = false
 
 -- the values in order
 abbrev pub vals_onto : Vals → List Val → List Val

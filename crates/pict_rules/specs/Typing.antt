@@ -3,10 +3,11 @@
 -- The lines of an equation are tested in the order written, and the first that is false is the refusal. A code stands on
 -- the line of its condition, with its place. `part e j` is a judgement j on a part, which may be refused itself.
 use Rattle.std.specs.Prelude.{◌||◌, not, nat_eq, if◌then◌else◌, [], ◌∷◌, ◌++◌, map, length, Some, None}
-use Rattle.pict_syntax.specs.declared.code.Code.TheVariants.{Y2, Y3, Y4, Y5, Y6, Y7, Y8, Y10, Y11, Y12, Y13, Y14, Y15, K1, Y1, Y9, Y16}
+use Rattle.pict_syntax.specs.declared.code.Code.TheVariants.{Y2, Y3, Y4, Y5, Y6, Y7, Y8, Y10, Y11, Y12, Y13, Y14, Y15, K1, K5, Y1, Y9, Y16}
 use Rattle.pict_syntax.specs.Trees.{fields_pat, bind_pat, any_pat, fold_pat, no_binders, more_binders, field_pats, no_pats, more_pats, no_labelled_pats, more_labelled_pats, new_dec, run_dec, let_dec, def_dec, alias_dec, operator_dec, await_dec, no_decs, more_decs, no_definitions, more_definitions, process_abs, function_abs, use_chan, fold_chan, block_chan, apply_chan, right_chan, left_chan, of_chan, number_val, character_val, string_val, true_val, false_val, fields_val, if_val, lambda_val, no_vals, more_vals, field_vals, no_labelled_vals, more_labelled_vals, send_proc, receive_proc, serve_proc, if_proc, inert_proc, group_proc, no_procs, more_procs, no_types, more_types}
 use Rattle.pict_types.specs.Types.{Respond, Int, Char, Str, Boolean, Chan, Fields, no_type, no_label, no_bound, Plain, Op, count_types, count_bounds, type_at}
 use Rattle.pict_types.specs.Replacing.{arguments, replace, instance_of}
+use Rattle.pict_types.specs.AsMarked.{varies_as}
 use Rattle.pict_normal.specs.Normal.{and_type, with_labelled_type, count_trees}
 use Rattle.pict_sub.specs.Exposing.{exposure}
 use Rattle.pict_rules.specs.Found.{mentions_missing, with_found, all_found, matched, none_found, filled, argument_in}
@@ -156,14 +157,16 @@ rule e (fields_fit s (field_vals ts vs ls) bs ps ms found) =
     within_bounds e s bs [] (map argument_in g) Y9 (
     give (map argument_in g)))))))
 -- Written type arguments, in order: each is expanded (K1 to K4 where they stand in it), is of its field's kind (K1 at the
--- argument's type), and is below the field's bound with the earlier ones put in (K4 at the node, Y9 at the argument's type).
+-- argument's type), varies as the field's marks say (K5 at the argument's type), and is below the field's bound with the
+-- earlier ones put in (K4 at the node, Y9 at the argument's type).
 rule e (written_arguments s no_types bs) = give []
 rule e (written_arguments s (more_types ts t) bs) =
     part e (written_arguments s ts bs) (λ args.
     expand_argument e t (λ a.
     ensure (is_of_kind a (nth_bound (count_trees ts) bs)) K1 (type_span t) (
+    ensure (varies_as (context_of e) a (nth_bound (count_trees ts) bs)) K5 (type_span t) (
     within_bound e s (nth_bound (count_trees ts) bs) args a Y9 (type_span t) (
-    give (args ++ a ∷ [])))))
+    give (args ++ a ∷ []))))))
 -- The values of positional fields, in written order.
 rule e (values_fit s no_vals ps found) = give found
 rule e (values_fit s (more_vals vs v) ps found) =

@@ -1,7 +1,7 @@
 // The targets of a program's uses.
 
 ghost use Rattle.std.specs.Prelude.{◌≡◌, None, IfErr, IfOk};
-ghost use Rattle.pict_syntax.specs.PlainTrees.{program_of};
+ghost use Rattle.pict_syntax.specs.PlainTrees.{declarations_of};
 ghost use Rattle.pict_scope.specs.Refusals.{IsScopeStop};
 ghost use Rattle.pict_scope.specs.Scopes.{scope_stop, type_targets, value_targets};
 
@@ -20,10 +20,10 @@ use std::alloc::Global;
 /// once, with one look-up in a map of the nearest binders at each use and each binder, and recurses along its nesting alone.
 pub fn resolve(alloc: Global, names: &Names, program: Program) -> Result<Scoped, ScopeError>
     ensures program { IfOk result (λ s. s.program ≡ program) }
-    ensures no_stop { IfOk result (λ _. scope_stop names.now (program_of program) ≡ None) }
-    ensures values { IfOk result (λ s. s.values.items ≡ value_targets names.now (program_of program)) }
-    ensures types { IfOk result (λ s. s.types.items ≡ type_targets names.now (program_of program)) }
-    ensures refused { IfErr result (λ e. IsScopeStop names.now (program_of program) e) }
+    ensures no_stop { IfOk result (λ _. scope_stop names.now (declarations_of program) ≡ None) }
+    ensures values { IfOk result (λ s. s.values.items ≡ value_targets names.now (declarations_of program)) }
+    ensures types { IfOk result (λ s. s.types.items ≡ type_targets names.now (declarations_of program)) }
+    ensures refused { IfErr result (λ e. IsScopeStop names.now (declarations_of program) e) }
 {
     let mut reader = Reader::new(alloc, names);
     read_decs(&mut reader, &program.decs)?;

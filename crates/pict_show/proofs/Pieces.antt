@@ -1,11 +1,11 @@
 -- What the pieces of a line say, when one is taken and others are put back.
-use Rattle.std.proofs.Common.{◌≡◌, ℕ, ◌+◌, ◌<◌, List, [], ◌∷◌, ◌++◌, map, length, refl, sym, ◌∙◌, ap, append_assoc, append-nil, slice_range, slice_index_or, take, drop, length-drop, ◌-◌, ◌==◌, Bool, true, false, suc, ◌^◌, ℤ, pos, negsuc, FitsSigned, w64, OnOk, Result, Ok, Err, length-append, arith}
+use Rattle.std.proofs.Common.{◌≡◌, ℕ, ◌+◌, ◌<◌, List, [], ◌∷◌, ◌++◌, map, length, refl, sym, ◌∙◌, ap, append_assoc, append-nil, slice_range, slice_index_or, take, ◌-◌, ◌==◌, true, false, suc, ℤ, pos, negsuc, FitsSigned, w64, length-append, arith}
 use Rattle.std.proofs.Math.Seq.{take-length}
 use Rattle.std.specs.Fmt.{decimal, signed_decimal}
 use Rattle.std.proofs.lemmas.Fmt.{decimal_nonempty}
 use Rattle.std.specs.List.{flat_map, join_with_byte}
 use Rattle.pict_syntax.specs.Names.{text_of}
-use Rattle.pict_core.specs.Term.{Val, Vals, Labelled, no_vals, more_vals, no_labelled, more_labelled}
+use Rattle.pict_core.specs.Term.{Val, Vals, Labelled, no_vals, more_vals, more_labelled}
 use Rattle.pict_show.specs.Values.{value_text, positional_texts, labelled_texts}
 use Rattle.pict_show.specs.Pending.{rest_text, fields_text, piece_text, pending}
 use Rattle.pict_show.specs.declared.value.Piece.{Piece}

@@ -2,8 +2,6 @@
 #![tactic(auto)]
 
 mod quoted;
-#[cfg(test)]
-mod tests;
 mod value;
 
 pub use quoted::{write_quoted, written};

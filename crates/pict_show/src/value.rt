@@ -3,13 +3,12 @@ ghost use Rattle.std.specs.Prelude.{◌≡◌, ◌++◌, ◌∷◌, ◌<◌, ◌
 ghost use Rattle.std.specs.Fmt.{decimal, signed_decimal};
 ghost use Rattle.pict_core.specs.Plain.{plain_val};
 ghost use Rattle.pict_show.specs.Values.{value_text, truth_text};
-ghost use Rattle.pict_syntax.specs.PrimitiveTexts.{primitive_text};
 ghost use Rattle.pict_show.specs.Pending.{IsSimple, Grows, rest_of, fields_of, piece_text};
 
 use crate::write_quoted;
 use itoa::Buffer;
 use pict_core::CoreVal;
-use pict_syntax::{Name, Names, Prim};
+use pict_syntax::{Name, Names};
 use std::alloc::{AllocError, Global};
 
 /// A part of a value that is still to be written.
@@ -22,34 +21,6 @@ enum Piece<'a> {
         positional: &'a [CoreVal],
         labelled: &'a [(Name, CoreVal)],
     },
-}
-
-/// The name of a primitive.
-fn primitive_name(p: Prim) -> &'static [u8]
-    ensures { result.now ≡ primitive_text p }
-{
-    match p {
-        Prim::Print => b"print",
-        Prim::Printi => b"printi",
-        Prim::Pr => b"pr",
-        Prim::Add => b"+",
-        Prim::Subtract => b"-",
-        Prim::Multiply => b"*",
-        Prim::Divide => b"div",
-        Prim::Remainder => b"mod",
-        Prim::Equal => b"==",
-        Prim::Less => b"<<",
-        Prim::AtMost => b"<=",
-        Prim::Greater => b">>",
-        Prim::AtLeast => b">=",
-        Prim::Chr => b"chr",
-        Prim::Ord => b"ord",
-        Prim::Join => b"+$",
-        Prim::Intstr => b"intstr",
-        Prim::Size => b"size",
-        Prim::Nth => b"nth",
-        Prim::Not => b"not",
-    }
 }
 
 /// Writes a letter and a number in decimal behind what is there. The only error is want of memory.
@@ -117,7 +88,7 @@ fn write_simple(out: &mut Vec<u8>, names: &Names, value: &CoreVal) -> Result<(),
         CoreVal::Char(byte) => write_quoted(out, b'\'', &[*byte]),
         CoreVal::Bool(b) => out.extend_from_slice(truth(*b)),
         CoreVal::Text(bytes) => write_quoted(out, b'"', bytes.slice()),
-        CoreVal::Prim(p) => out.extend_from_slice(primitive_name(*p)),
+        CoreVal::Prim(p) => out.extend_from_slice(p.name()),
         CoreVal::Fields { .. } => Ok(()),
     }
 }

@@ -1,15 +1,17 @@
 -- Whether one type is below another is decided, for all types: by induction on the sum of the weights.
-use Rattle.std.proofs.Common.{◌≡◌, ◌≢◌, ℕ, zero, suc, ◌+◌, ◌≤◌, List, Option, Some, None, Bool, true, false, if◌then◌else◌, refl, sym, ◌∙◌, ap, ap₂, subst, arith, ◌⊎◌, inl, inr, ◌↔◌}
+use Rattle.std.proofs.Common.{◌≡◌, ◌≢◌, ℕ, zero, suc, ◌+◌, ◌≤◌, List, [], ◌∷◌, length, subst₂, Option, Some, None, Bool, true, false, if◌then◌else◌, refl, sym, ◌∙◌, ap, ap₂, subst, arith, ◌⊎◌, inl, inr, ◌↔◌}
 use Rattle.std.specs.Prelude.{nat_eq}
 use Rattle.std.proofs.lemmas.Bool.Decides.{eqb_tells}
-use Rattle.pict_types.specs.Types.{Capability, Both, Read, Write, Respond, PlainType, Top, Int, Char, Str, Boolean, Var, Apply, Chan, Fields, Rec, PlainTypes, no_type, types, PlainLabels, no_label, labels, PlainBound, Free, Below, Operator, PlainBounds, no_bound, bounds, TypeContext, under, type_at}
-use Rattle.pict_types.specs.Renaming.{rename, moved, bound_at}
+use Rattle.pict_types.specs.Types.{Capability, Both, Read, Write, Respond, PlainType, Top, Int, Char, Str, Boolean, Var, Apply, Chan, Fields, Rec, PlainTypes, no_type, types, PlainLabels, no_label, labels, PlainBound, Free, Below, Operator, PlainBounds, no_bound, bounds, TypeContext, under, type_at, count_types}
+use Rattle.pict_syntax.specs.declared.type_tree.Mark.{Mark}
+use Rattle.pict_syntax.specs.declared.type_tree.Mark.TheVariants.{Plus, Minus, Plain as Unmarked}
+use Rattle.pict_types.specs.Renaming.{rename, moved, bound_at, bound_of}
 use Rattle.pict_types.specs.Measures.{weigh, weigh_types, weigh_labels, weights, weight_of}
-use Rattle.pict_sub.specs.Shapes.{shape_of, variable, channel, record_}
-use Rattle.pict_sub.specs.Subtyping.{Rises, both_read, read_read, Falls, both_write, write_write, respond_write, respond_respond, IsSubtype, same, below_top, AreSubtypes, none, by_fields, HasLabels, has_label, has_none}
+use Rattle.pict_sub.specs.Shapes.{shape_of, variable, applied_, channel, record_}
+use Rattle.pict_sub.specs.Subtyping.{CarriesUp, both_read, read_read, CarriesDown, both_write, write_write, respond_write, respond_respond, IsSubtype, same, below_top, AreSubtypes, none, by_fields, by_arguments, AreByMarks, no_more, plus, minus, unmarked, HasLabels, has_label, has_none}
 use Rattle.pict_sub.specs.Laws.{IsDecided}
-use Rattle.pict_sub.proofs.Deciding.{Decides, d_same, d_fields, to_decided, of_decided_types, of_decided_labels}
-use Rattle.pict_sub.proofs.Inversion.{unbounded_variable, bounded_variable_1, rising, falling, neither, only_itself, not_channel, not_record, types_short, types_long, types_more}
+use Rattle.pict_sub.proofs.Deciding.{Decides, d_same, d_fields, d_arguments, to_decided, of_decided_arguments, of_decided_types, of_decided_labels}
+use Rattle.pict_sub.proofs.Inversion.{unbounded_variable, bounded_variable_1, carried_up, carried_down, neither, only_itself, not_applied, not_channel, not_record, types_short, types_long, types_more}
 use Rattle.pict_types.proofs.Sizes.{weight_positive}
 use Rattle.pict_types.proofs.Contexts.{weigh_bound_1, weigh_record}
 
@@ -31,6 +33,17 @@ same_capability Read Read = inl refl
 same_capability Write Write = inl refl
 same_capability Respond Respond = inl refl
 same_capability _ _ = inr (λ e. cc)
+
+same_mark : (a b : Mark) → IsDecided (a ≡ b)
+same_mark Plus Plus = inl refl
+same_mark Minus Minus = inl refl
+same_mark Unmarked Unmarked = inl refl
+same_mark _ _ = inr (λ e. cc)
+
+same_marks : (ms ns : List Mark) → IsDecided (ms ≡ ns)
+same_marks [] [] = inl refl
+same_marks (a ∷ ms) (b ∷ ns) = by_iff (λ e. (cc, cc), λ e. ap₂ (λ x xs. x ∷ xs) e.0 e.1) (both_of (same_mark a b) (same_marks ms ns))
+same_marks _ _ = inr (λ e. cc)
 
 mutual
   pub same_type : (s t : PlainType) → IsDecided (s ≡ t)
@@ -64,7 +77,7 @@ mutual
   pub same_bound : (s t : PlainBound) → IsDecided (s ≡ t)
   same_bound Free Free = inl refl
   same_bound (Below s) (Below t) = by_iff (λ e. cc, λ e. ap Below e) (same_type s t)
-  same_bound (Operator m) (Operator n) = by_iff (λ e. cc, λ e. ap Operator e) (same_number m n)
+  same_bound (Operator m) (Operator n) = by_iff (λ e. cc, λ e. ap Operator e) (same_marks m n)
   same_bound _ _ = inr (λ e. cc)
 
 -- decided for all types of this weight together
@@ -77,6 +90,82 @@ types_decided h c no_type (types t ts) w = inr (types_short c t ts)
 types_decided h c (types s ss) no_type w = inr (types_long c s ss)
 types_decided h c (types s ss) (types t ts) w =
     by_iff (types_more c s t ss ts) (both_of (h.at c s t (omega arith)) (types_decided h c ss ts (omega arith)))
+
+-- arguments by the marks
+pub plus_iff : {c : TypeContext} {s t : PlainType} {ms : List Mark} {ss ts : PlainTypes} → AreByMarks c (Plus ∷ ms) (types s ss) (types t ts) ↔ (IsSubtype c s t × AreByMarks c ms ss ts)
+plus_iff {c = c} {s = s} {t = t} {ms = ms} {ss = ss} {ts = ts} = (go, λ x. plus x.0 x.1)
+  where
+    go : AreByMarks c (Plus ∷ ms) (types s ss) (types t ts) → (IsSubtype c s t × AreByMarks c ms ss ts)
+    go (plus d ds) = (d, ds)
+
+pub minus_iff : {c : TypeContext} {s t : PlainType} {ms : List Mark} {ss ts : PlainTypes} → AreByMarks c (Minus ∷ ms) (types s ss) (types t ts) ↔ (IsSubtype c t s × AreByMarks c ms ss ts)
+minus_iff {c = c} {s = s} {t = t} {ms = ms} {ss = ss} {ts = ts} = (go, λ x. minus x.0 x.1)
+  where
+    go : AreByMarks c (Minus ∷ ms) (types s ss) (types t ts) → (IsSubtype c t s × AreByMarks c ms ss ts)
+    go (minus d ds) = (d, ds)
+
+unmarked_parts : (c : TypeContext) (ms : List Mark) (ss ts : PlainTypes) → AreByMarks c (Unmarked ∷ ms) ss ts → (s t : PlainType) (ss2 ts2 : PlainTypes) → ss ≡ types s ss2 → ts ≡ types t ts2 → (s ≡ t) × AreByMarks c ms ss2 ts2
+unmarked_parts c ms ss ts (unmarked {t = u} {ss = us} {ts = vs} d) s t ss2 ts2 e f =
+    let q : us ≡ ss2 = cc in
+    let r : vs ≡ ts2 = cc in
+    (cc, subst₂ (AreByMarks c ms) q r d)
+
+pub unmarked_iff : {c : TypeContext} {s t : PlainType} {ms : List Mark} {ss ts : PlainTypes} → AreByMarks c (Unmarked ∷ ms) (types s ss) (types t ts) ↔ ((s ≡ t) × AreByMarks c ms ss ts)
+unmarked_iff {c = c} {s = s} {t = t} {ms = ms} {ss = ss} {ts = ts} = (λ d. unmarked_parts c ms (types s ss) (types t ts) d s t ss ts refl refl, λ x. subst (λ y. AreByMarks c (Unmarked ∷ ms) (types s ss) (types y ts)) x.0 (unmarked x.1))
+
+-- as many arguments as marks
+as_many_first : {c : TypeContext} {ms : List Mark} {ss ts : PlainTypes} → AreByMarks c ms ss ts → length ms ≡ count_types ss
+as_many_first no_more = refl
+as_many_first (plus d ds) = ap suc (as_many_first ds)
+as_many_first (minus d ds) = ap suc (as_many_first ds)
+as_many_first (unmarked ds) = ap suc (as_many_first ds)
+
+as_many_second : {c : TypeContext} {ms : List Mark} {ss ts : PlainTypes} → AreByMarks c ms ss ts → length ms ≡ count_types ts
+as_many_second no_more = refl
+as_many_second (plus d ds) = ap suc (as_many_second ds)
+as_many_second (minus d ds) = ap suc (as_many_second ds)
+as_many_second (unmarked ds) = ap suc (as_many_second ds)
+
+arguments_decided : {n : ℕ} → DecidesUpTo n → (c : TypeContext) (ms : List Mark) (ss ts : PlainTypes) → weigh_types (weights c) ss + weigh_types (weights c) ts ≤ n → IsDecided (AreByMarks c ms ss ts)
+arguments_decided h c [] no_type no_type w = inl no_more
+arguments_decided h c [] no_type (types t ts) w = inr (λ d. let z = as_many_second d in absurd cc)
+arguments_decided h c [] (types s ss) ts w = inr (λ d. let z = as_many_first d in absurd cc)
+arguments_decided h c (k ∷ ms) no_type ts w = inr (λ d. let z = as_many_first d in absurd cc)
+arguments_decided h c (k ∷ ms) (types s ss) no_type w = inr (λ d. let z = as_many_second d in absurd cc)
+arguments_decided h c (Plus ∷ ms) (types s ss) (types t ts) w = by_iff plus_iff (both_of (h.at c s t (omega arith)) (arguments_decided h c ms ss ts (omega arith)))
+arguments_decided h c (Minus ∷ ms) (types s ss) (types t ts) w = by_iff minus_iff (both_of (h.at c t s (omega arith)) (arguments_decided h c ms ss ts (omega arith)))
+arguments_decided h c (Unmarked ∷ ms) (types s ss) (types t ts) w = by_iff unmarked_iff (both_of (same_type s t) (arguments_decided h c ms ss ts (omega arith)))
+
+-- two applications are the same, or compare argument by argument
+arguments_or_same : {c : TypeContext} {i j : ℕ} {ss ts : PlainTypes} → Decides c (Apply i ss) (Apply j ts) → (Apply i ss ≡ Apply j ts) ⊎ ((i ≡ j) × ((ms : List Mark) × (bound_of c i ≡ Operator ms) × AreByMarks c ms ss ts))
+arguments_or_same d_same = inl refl
+arguments_or_same (d_arguments {ms = ms} b d) = inr (refl, (ms, b, of_decided_arguments d))
+
+applications_decided : {n : ℕ} → DecidesUpTo n → (c : TypeContext) (i j : ℕ) (ss ts : PlainTypes) → weight_of c (Apply i ss) + weight_of c (Apply j ts) ≤ suc n → IsDecided (IsSubtype c (Apply i ss) (Apply j ts))
+applications_decided {n = n} h c i j ss ts w = first (same_type (Apply i ss) (Apply j ts))
+  where
+    marks : (Apply i ss ≡ Apply j ts → ⊥) → (i ≡ j) → (b : PlainBound) → bound_of c i ≡ b → IsDecided (IsSubtype c (Apply i ss) (Apply j ts))
+    marks ns e (Operator ms) q =
+        by_iff (
+          λ d. elim (arguments_or_same (to_decided d)) [
+            | inl z ↦ absurd (ns z)
+            | inr x ↦
+                let z : Operator x.1.0 ≡ Operator ms = sym x.1.1 ∙ q in
+                let y : x.1.0 ≡ ms = cc in
+                subst (λ k. AreByMarks c k ss ts) y x.1.2
+          ],
+          λ a. subst (λ k. IsSubtype c (Apply i ss) (Apply k ts)) e (by_arguments q a),
+        ) (arguments_decided h c ms ss ts (omega (arith, w)))
+    marks ns e Free q = inr (λ d. elim (arguments_or_same (to_decided d)) [ inl z ↦ ns z | inr x ↦ let z : Operator x.1.0 ≡ Free = sym x.1.1 ∙ q in absurd cc ])
+    marks ns e (Below t) q = inr (λ d. elim (arguments_or_same (to_decided d)) [ inl z ↦ ns z | inr x ↦ let z : Operator x.1.0 ≡ Below t = sym x.1.1 ∙ q in absurd cc ])
+
+    second : (Apply i ss ≡ Apply j ts → ⊥) → IsDecided (i ≡ j) → IsDecided (IsSubtype c (Apply i ss) (Apply j ts))
+    second ns (inl e) = marks ns e (bound_of c i) refl
+    second ns (inr e) = inr (λ d. elim (arguments_or_same (to_decided d)) [ inl q ↦ ns q | inr x ↦ e x.0 ])
+
+    first : IsDecided (Apply i ss ≡ Apply j ts) → IsDecided (IsSubtype c (Apply i ss) (Apply j ts))
+    first (inl q) = inl (subst (IsSubtype c (Apply i ss)) q same)
+    first (inr ns) = second ns (same_number i j)
 
 -- what stands at a label weighs no more than all fields
 weighs_at : (ws : List ℕ) (l : ℕ) (ss : PlainLabels) (s : PlainType) → type_at l ss ≡ Some s → weigh ws s ≤ weigh_labels ws ss
@@ -140,7 +229,7 @@ record_decided {n = n} h c bs cs ps qs ls ms w = first (same_type (Fields bs ps 
     first (inr ns) = second ns (same_bounds bs cs)
 
 -- how a channel type goes with its messages
-way : (m n : Capability) → Rises m n ⊎ (Falls m n ⊎ ((Rises m n → ⊥) × (Falls m n → ⊥)))
+way : (m n : Capability) → CarriesUp m n ⊎ (CarriesDown m n ⊎ ((CarriesUp m n → ⊥) × (CarriesDown m n → ⊥)))
 way Both Both = inr (inr (λ r. elim r [ ], λ f. elim f [ ]))
 way Both Read = inl both_read
 way Both Write = inr (inl both_write)
@@ -160,8 +249,8 @@ way Respond Respond = inr (inl respond_respond)
 
 channels_decided : (c : TypeContext) (m n : Capability) (s t : PlainType) → IsDecided (IsSubtype c s t) → IsDecided (IsSubtype c t s) → IsDecided (IsSubtype c (Chan m s) (Chan n t))
 channels_decided c m n s t d e = elim (way m n) [
-  | inl r ↦ by_iff (rising c m n s t r) d
-  | inr (inl f) ↦ by_iff (falling c m n s t f) e
+  | inl r ↦ by_iff (carried_up c m n s t r) d
+  | inr (inl f) ↦ by_iff (carried_down c m n s t f) e
   | inr (inr x) ↦ by_iff (neither c m n s t x.0 x.1) (both_of (same_capability m n) (same_type s t))
 ]
 
@@ -174,9 +263,9 @@ variable_decided h c i t w (inr ne) nt = go (bound_at c i) refl
     go (Operator a) e = inr (unbounded_variable c i t ne nt (λ b q. let z : Operator a ≡ Below b = sym e ∙ q in absurd (cc)))
     go (Below b) e = by_iff (bounded_variable_1 c i b t ne nt e) (h.at c (rename (moved (i + 1) 0) b) t (omega (arith, w, weigh_bound_1 c i b e)))
 
-rigid_decided : (c : TypeContext) (s t : PlainType) → shape_of s ≢ variable → shape_of s ≢ channel → shape_of s ≢ record_ → IsDecided (t ≡ Top) → IsDecided (IsSubtype c s t)
-rigid_decided c s t nv nc nr (inl e) = inl (subst (IsSubtype c s) (sym e) below_top)
-rigid_decided c s t nv nc nr (inr nt) = by_iff (only_itself c s t nt nv nc nr) (same_type s t)
+rigid_decided : (c : TypeContext) (s t : PlainType) → shape_of s ≢ variable → shape_of s ≢ applied_ → shape_of s ≢ channel → shape_of s ≢ record_ → IsDecided (t ≡ Top) → IsDecided (IsSubtype c s t)
+rigid_decided c s t nv na nc nr (inl e) = inl (subst (IsSubtype c s) (sym e) below_top)
+rigid_decided c s t nv na nc nr (inr nt) = by_iff (only_itself c s t nt nv na nc nr) (same_type s t)
 
 channel_decided : {n : ℕ} → DecidesUpTo n → (c : TypeContext) (m : Capability) (s t : PlainType) → weight_of c (Chan m s) + weight_of c t ≤ suc n → IsDecided (IsSubtype c (Chan m s) t)
 channel_decided h c m s Top w = inl below_top
@@ -202,6 +291,18 @@ fields_decided h c bs ps ls (Apply i ts) w = inr (not_record c bs ps ls (Apply i
 fields_decided h c bs ps ls (Chan m t) w = inr (not_record c bs ps ls (Chan m t) (λ e. cc) (λ e. cc))
 fields_decided h c bs ps ls (Rec t) w = inr (not_record c bs ps ls (Rec t) (λ e. cc) (λ e. cc))
 
+applied_decided : {n : ℕ} → DecidesUpTo n → (c : TypeContext) (i : ℕ) (ss : PlainTypes) (t : PlainType) → weight_of c (Apply i ss) + weight_of c t ≤ suc n → IsDecided (IsSubtype c (Apply i ss) t)
+applied_decided h c i ss Top w = inl below_top
+applied_decided h c i ss (Apply j ts) w = applications_decided h c i j ss ts w
+applied_decided h c i ss Int w = inr (not_applied c i ss Int (λ e. cc) (λ e. cc))
+applied_decided h c i ss Char w = inr (not_applied c i ss Char (λ e. cc) (λ e. cc))
+applied_decided h c i ss Str w = inr (not_applied c i ss Str (λ e. cc) (λ e. cc))
+applied_decided h c i ss Boolean w = inr (not_applied c i ss Boolean (λ e. cc) (λ e. cc))
+applied_decided h c i ss (Var j) w = inr (not_applied c i ss (Var j) (λ e. cc) (λ e. cc))
+applied_decided h c i ss (Chan m t) w = inr (not_applied c i ss (Chan m t) (λ e. cc) (λ e. cc))
+applied_decided h c i ss (Fields bs ps ls) w = inr (not_applied c i ss (Fields bs ps ls) (λ e. cc) (λ e. cc))
+applied_decided h c i ss (Rec t) w = inr (not_applied c i ss (Rec t) (λ e. cc) (λ e. cc))
+
 one_more : {n : ℕ} → DecidesUpTo n → (c : TypeContext) (s t : PlainType) → weight_of c s + weight_of c t ≤ suc n → IsDecided (IsSubtype c s t)
 one_more h c (Var i) t w = variable_or_top (same_type t Top)
   where
@@ -213,13 +314,13 @@ one_more h c (Fields bs ps ls) t w = fields_decided h c bs ps ls t w
 one_more h c Top t w = top_decided (same_type t Top)
   where
     top_decided : IsDecided (t ≡ Top) → IsDecided (IsSubtype c Top t)
-    top_decided d = rigid_decided c Top t (λ e. cc) (λ e. cc) (λ e. cc) d
-one_more h c Int t w = rigid_decided c Int t (λ e. cc) (λ e. cc) (λ e. cc) (same_type t Top)
-one_more h c Char t w = rigid_decided c Char t (λ e. cc) (λ e. cc) (λ e. cc) (same_type t Top)
-one_more h c Str t w = rigid_decided c Str t (λ e. cc) (λ e. cc) (λ e. cc) (same_type t Top)
-one_more h c Boolean t w = rigid_decided c Boolean t (λ e. cc) (λ e. cc) (λ e. cc) (same_type t Top)
-one_more h c (Apply i ts) t w = rigid_decided c (Apply i ts) t (λ e. cc) (λ e. cc) (λ e. cc) (same_type t Top)
-one_more h c (Rec s) t w = rigid_decided c (Rec s) t (λ e. cc) (λ e. cc) (λ e. cc) (same_type t Top)
+    top_decided d = rigid_decided c Top t (λ e. cc) (λ e. cc) (λ e. cc) (λ e. cc) d
+one_more h c Int t w = rigid_decided c Int t (λ e. cc) (λ e. cc) (λ e. cc) (λ e. cc) (same_type t Top)
+one_more h c Char t w = rigid_decided c Char t (λ e. cc) (λ e. cc) (λ e. cc) (λ e. cc) (same_type t Top)
+one_more h c Str t w = rigid_decided c Str t (λ e. cc) (λ e. cc) (λ e. cc) (λ e. cc) (same_type t Top)
+one_more h c Boolean t w = rigid_decided c Boolean t (λ e. cc) (λ e. cc) (λ e. cc) (λ e. cc) (same_type t Top)
+one_more h c (Apply i ts) t w = applied_decided h c i ts t w
+one_more h c (Rec s) t w = rigid_decided c (Rec s) t (λ e. cc) (λ e. cc) (λ e. cc) (λ e. cc) (same_type t Top)
 
 decides : (n : ℕ) → DecidesUpTo n
 decides zero = record { at = λ c s t w. absurd (omega (arith, w, weight_positive c s)) }

@@ -1,19 +1,28 @@
 -- Subtyping without transitivity, decided by the form of the two types, and that it is subtyping.
-use Rattle.std.proofs.Common.{◌≡◌, ℕ, Some, refl, subst, Bool, true, false}
+use Rattle.std.proofs.Common.{◌≡◌, ℕ, List, [], ◌∷◌, Some, refl, sym, ◌∙◌, subst, Bool, true, false}
 use Rattle.std.proofs.lemmas.Bool.{eqb-true}
 use Rattle.std.specs.Prelude.{nat_eq}
-use Rattle.pict_types.specs.Types.{Capability, PlainType, Top, Int, Char, Str, Boolean, Var, Apply, Chan, Fields, Rec, PlainTypes, no_type, types, PlainLabels, no_label, labels, PlainBounds, Below, TypeContext, under, type_at}
+use Rattle.pict_types.specs.Types.{Capability, PlainType, Top, Int, Char, Str, Boolean, Var, Apply, Chan, Fields, Rec, PlainTypes, no_type, types, PlainLabels, no_label, labels, PlainBounds, Below, Operator, TypeContext, under, type_at}
+use Rattle.pict_syntax.specs.declared.type_tree.Mark.{Mark}
+use Rattle.pict_syntax.specs.declared.type_tree.Mark.TheVariants.{Plus, Minus, Plain as Unmarked}
 use Rattle.pict_types.specs.Renaming.{bound_of}
-use Rattle.pict_sub.specs.Subtyping.{Rises, both_read, read_read, Falls, both_write, write_write, respond_respond, respond_write, IsSubtype, same, through, below_top, below_bound, upward, downward, by_fields, AreSubtypes, none, more, HasLabels, has_none, has_label}
+use Rattle.pict_sub.specs.Subtyping.{CarriesUp, both_read, read_read, CarriesDown, both_write, write_write, respond_respond, respond_write, IsSubtype, same, through, below_top, below_bound, upward, downward, by_fields, by_arguments, AreByMarks, no_more, plus, minus, unmarked, AreSubtypes, none, more, HasLabels, has_none, has_label}
 
 mutual
   pub data Decides : TypeContext → PlainType → PlainType → Type 0 where
     d_same : {c : TypeContext} {s : PlainType} → Decides c s s
     d_top : {c : TypeContext} {s : PlainType} → Decides c s Top
     d_bound : {c : TypeContext} {i : ℕ} {b t : PlainType} → bound_of c i ≡ Below b → Decides c b t → Decides c (Var i) t
-    d_up : {c : TypeContext} {m n : Capability} {s t : PlainType} → Rises m n → Decides c s t → Decides c (Chan m s) (Chan n t)
-    d_down : {c : TypeContext} {m n : Capability} {s t : PlainType} → Falls m n → Decides c t s → Decides c (Chan m s) (Chan n t)
+    d_up : {c : TypeContext} {m n : Capability} {s t : PlainType} → CarriesUp m n → Decides c s t → Decides c (Chan m s) (Chan n t)
+    d_down : {c : TypeContext} {m n : Capability} {s t : PlainType} → CarriesDown m n → Decides c t s → Decides c (Chan m s) (Chan n t)
     d_fields : {c : TypeContext} {bs : PlainBounds} {ps qs : PlainTypes} {ls ms : PlainLabels} → DecidesTypes (under c bs) ps qs → DecidesLabels (under c bs) ls ms → Decides c (Fields bs ps ls) (Fields bs qs ms)
+    d_arguments : {c : TypeContext} {i : ℕ} {ms : List Mark} {ss ts : PlainTypes} → bound_of c i ≡ Operator ms → DecidesByMarks c ms ss ts → Decides c (Apply i ss) (Apply i ts)
+
+  pub data DecidesByMarks : TypeContext → List Mark → PlainTypes → PlainTypes → Type 0 where
+    d_no_more : {c : TypeContext} → DecidesByMarks c [] no_type no_type
+    d_plus : {c : TypeContext} {s t : PlainType} {ms : List Mark} {ss ts : PlainTypes} → Decides c s t → DecidesByMarks c ms ss ts → DecidesByMarks c (Plus ∷ ms) (types s ss) (types t ts)
+    d_minus : {c : TypeContext} {s t : PlainType} {ms : List Mark} {ss ts : PlainTypes} → Decides c t s → DecidesByMarks c ms ss ts → DecidesByMarks c (Minus ∷ ms) (types s ss) (types t ts)
+    d_unmarked : {c : TypeContext} {t : PlainType} {ms : List Mark} {ss ts : PlainTypes} → DecidesByMarks c ms ss ts → DecidesByMarks c (Unmarked ∷ ms) (types t ss) (types t ts)
 
   pub data DecidesTypes : TypeContext → PlainTypes → PlainTypes → Type 0 where
     d_none : {c : TypeContext} → DecidesTypes c no_type no_type
@@ -27,46 +36,46 @@ mutual
 Through : PlainType → Type 0
 Through t = (c : TypeContext) (s u : PlainType) → Decides c s t → Decides c t u → Decides c s u
 
-rises_rises : {m n o : Capability} → Rises m n → Rises n o → Rises m o
-rises_rises both_read read_read = both_read
-rises_rises read_read read_read = read_read
+up_then_up : {m n o : Capability} → CarriesUp m n → CarriesUp n o → CarriesUp m o
+up_then_up both_read read_read = both_read
+up_then_up read_read read_read = read_read
 
-falls_falls : {m n o : Capability} → Falls m n → Falls n o → Falls m o
-falls_falls both_write write_write = both_write
-falls_falls write_write write_write = write_write
-falls_falls respond_respond d = d
-falls_falls respond_write write_write = respond_write
+down_then_down : {m n o : Capability} → CarriesDown m n → CarriesDown n o → CarriesDown m o
+down_then_down both_write write_write = both_write
+down_then_down write_write write_write = write_write
+down_then_down respond_respond d = d
+down_then_down respond_write write_write = respond_write
 
-rises_falls : {m n o : Capability} {A : Type 0} → Rises m n → Falls n o → A
-rises_falls both_read d = elim d [ ]
-rises_falls read_read d = elim d [ ]
+up_then_down : {m n o : Capability} {A : Type 0} → CarriesUp m n → CarriesDown n o → A
+up_then_down both_read d = elim d [ ]
+up_then_down read_read d = elim d [ ]
 
-falls_rises : {m n o : Capability} {A : Type 0} → Falls m n → Rises n o → A
-falls_rises both_write d = elim d [ ]
-falls_rises write_write d = elim d [ ]
-falls_rises respond_respond d = elim d [ ]
-falls_rises respond_write d = elim d [ ]
+down_then_up : {m n o : Capability} {A : Type 0} → CarriesDown m n → CarriesUp n o → A
+down_then_up both_write d = elim d [ ]
+down_then_up write_write d = elim d [ ]
+down_then_up respond_respond d = elim d [ ]
+down_then_up respond_write d = elim d [ ]
 
 -- a channel type in the middle
-chan_tail : {c : TypeContext} {m n : Capability} {s t u : PlainType} → Through t → Rises m n → Decides c s t → Decides c (Chan n t) u → Decides c (Chan m s) u
+chan_tail : {c : TypeContext} {m n : Capability} {s t u : PlainType} → Through t → CarriesUp m n → Decides c s t → Decides c (Chan n t) u → Decides c (Chan m s) u
 unfolding Through
 chan_tail h r d d_same = d_up r d
 chan_tail h r d d_top = d_top
-chan_tail {c = c} {s = s} h r d (d_up {t = v} r2 e) = d_up (rises_rises r r2) (h c s v d e)
-chan_tail h r d (d_down f e) = rises_falls r f
+chan_tail {c = c} {s = s} h r d (d_up {t = v} r2 e) = d_up (up_then_up r r2) (h c s v d e)
+chan_tail h r d (d_down f e) = up_then_down r f
 
-chan_tail_fall : {c : TypeContext} {m n : Capability} {s t u : PlainType} → Through t → Falls m n → Decides c t s → Decides c (Chan n t) u → Decides c (Chan m s) u
+chan_tail_down : {c : TypeContext} {m n : Capability} {s t u : PlainType} → Through t → CarriesDown m n → Decides c t s → Decides c (Chan n t) u → Decides c (Chan m s) u
 unfolding Through
-chan_tail_fall h f d d_same = d_down f d
-chan_tail_fall h f d d_top = d_top
-chan_tail_fall h f d (d_up r e) = falls_rises f r
-chan_tail_fall {c = c} {s = s} h f d (d_down {t = v} g e) = d_down (falls_falls f g) (h c v s e d)
+chan_tail_down h f d d_same = d_down f d
+chan_tail_down h f d d_top = d_top
+chan_tail_down h f d (d_up r e) = down_then_up f r
+chan_tail_down {c = c} {s = s} h f d (d_down {t = v} g e) = d_down (down_then_down f g) (h c v s e d)
 
 chan_through : {m : Capability} {t : PlainType} → Through t → {c : TypeContext} {s u : PlainType} → Decides c s (Chan m t) → Decides c (Chan m t) u → Decides c s u
 chan_through h d_same e = e
 chan_through h (d_bound b d) e = d_bound b (chan_through h d e)
 chan_through h (d_up r d) e = chan_tail h r d e
-chan_through h (d_down f d) e = chan_tail_fall h f d e
+chan_through h (d_down f d) e = chan_tail_down h f d e
 
 -- a type in the middle that only variables and itself are below_bound, but for what is above it
 var_through : {c : TypeContext} {i : ℕ} {s u : PlainType} → Decides c s (Var i) → Decides c (Var i) u → Decides c s u
@@ -93,9 +102,33 @@ rec_through : {c : TypeContext} {t s u : PlainType} → Decides c s (Rec t) → 
 rec_through d_same e = e
 rec_through (d_bound b d) e = d_bound b (rec_through d e)
 
-apply_through : {c : TypeContext} {i : ℕ} {ts : PlainTypes} {s u : PlainType} → Decides c s (Apply i ts) → Decides c (Apply i ts) u → Decides c s u
-apply_through d_same e = e
-apply_through (d_bound b d) e = d_bound b (apply_through d e)
+ThroughArguments : PlainTypes → Type 0
+ThroughArguments ts = (c : TypeContext) (ms : List Mark) (ss us : PlainTypes) → DecidesByMarks c ms ss ts → DecidesByMarks c ms ts us → DecidesByMarks c ms ss us
+
+-- an applied operator variable in the middle
+apply_tail : {c : TypeContext} {i : ℕ} {ms : List Mark} {ss ts : PlainTypes} {u : PlainType} → ThroughArguments ts → bound_of c i ≡ Operator ms → DecidesByMarks c ms ss ts → Decides c (Apply i ts) u → Decides c (Apply i ss) u
+unfolding ThroughArguments
+apply_tail h b d d_same = d_arguments b d
+apply_tail h b d d_top = d_top
+apply_tail {c = c} {ms = ms} {ss = ss} {ts = ts} h b d (d_arguments {ms = ns} {ts = us} b2 e) =
+    let q : Operator ns ≡ Operator ms = sym b2 ∙ b in
+    let z : ns ≡ ms = cc in
+    d_arguments b (h c ms ss us d (subst (λ x. DecidesByMarks c x ts us) z e))
+
+apply_through : {c : TypeContext} {i : ℕ} {ts : PlainTypes} {s u : PlainType} → ThroughArguments ts → Decides c s (Apply i ts) → Decides c (Apply i ts) u → Decides c s u
+apply_through h d_same e = e
+apply_through h (d_bound b d) e = d_bound b (apply_through h d e)
+apply_through h (d_arguments b d) e = apply_tail h b d e
+
+no_argument_through : ThroughArguments no_type
+unfolding ThroughArguments
+no_argument_through c ms ss us d_no_more e = e
+
+argument_through : (t : PlainType) (ts : PlainTypes) → Through t → ThroughArguments ts → ThroughArguments (types t ts)
+unfolding Through ThroughArguments
+argument_through t ts h g c ms ss us (d_plus {s = s} d ds) (d_plus {t = u} e es) = d_plus (h c s u d e) (g _ _ _ _ ds es)
+argument_through t ts h g c ms ss us (d_minus {s = s} d ds) (d_minus {t = u} e es) = d_minus (h c u s e d) (g _ _ _ _ ds es)
+argument_through t ts h g c ms ss us (d_unmarked ds) (d_unmarked es) = d_unmarked (g _ _ _ _ ds es)
 
 top_through : {c : TypeContext} {s u : PlainType} → Decides c s Top → Decides c Top u → Decides c s u
 top_through d d_same = d
@@ -170,10 +203,14 @@ mutual
   middle Str c s u d e = string_through d e
   middle Boolean c s u d e = boolean_through d e
   middle (Var i) c s u d e = var_through d e
-  middle (Apply i ts) c s u d e = apply_through d e
+  middle (Apply i ts) c s u d e = apply_through (middle_arguments ts) d e
   middle (Rec t) c s u d e = rec_through d e
   middle (Chan m t) c s u d e = chan_through (middle t) d e
   middle (Fields bs ps ls) c s u d e = fields_through (middle_types ps) (middle_labels ls) d e
+
+  middle_arguments : (ts : PlainTypes) → ThroughArguments ts
+  middle_arguments no_type = no_argument_through
+  middle_arguments (types t ts) = argument_through t ts (middle t) (middle_arguments ts)
 
   middle_types : (ts : PlainTypes) → ThroughAll ts
   middle_types no_type = none_through
@@ -197,6 +234,13 @@ mutual
   to_decided (upward r d) = d_up r (to_decided d)
   to_decided (downward f d) = d_down f (to_decided d)
   to_decided (by_fields d e) = d_fields (to_decided_types d) (to_decided_labels e)
+  to_decided (by_arguments b d) = d_arguments b (to_decided_arguments d)
+
+  pub to_decided_arguments : {c : TypeContext} {ms : List Mark} {ss ts : PlainTypes} → AreByMarks c ms ss ts → DecidesByMarks c ms ss ts
+  to_decided_arguments no_more = d_no_more
+  to_decided_arguments (plus d ds) = d_plus (to_decided d) (to_decided_arguments ds)
+  to_decided_arguments (minus d ds) = d_minus (to_decided d) (to_decided_arguments ds)
+  to_decided_arguments (unmarked ds) = d_unmarked (to_decided_arguments ds)
 
   pub to_decided_types : {c : TypeContext} {ss ts : PlainTypes} → AreSubtypes c ss ts → DecidesTypes c ss ts
   to_decided_types none = d_none
@@ -214,6 +258,13 @@ mutual
   of_decided (d_up r d) = upward r (of_decided d)
   of_decided (d_down f d) = downward f (of_decided d)
   of_decided (d_fields d e) = by_fields (of_decided_types d) (of_decided_labels e)
+  of_decided (d_arguments b d) = by_arguments b (of_decided_arguments d)
+
+  pub of_decided_arguments : {c : TypeContext} {ms : List Mark} {ss ts : PlainTypes} → DecidesByMarks c ms ss ts → AreByMarks c ms ss ts
+  of_decided_arguments d_no_more = no_more
+  of_decided_arguments (d_plus d ds) = plus (of_decided d) (of_decided_arguments ds)
+  of_decided_arguments (d_minus d ds) = minus (of_decided d) (of_decided_arguments ds)
+  of_decided_arguments (d_unmarked ds) = unmarked (of_decided_arguments ds)
 
   pub of_decided_types : {c : TypeContext} {ss ts : PlainTypes} → DecidesTypes c ss ts → AreSubtypes c ss ts
   of_decided_types d_none = none

@@ -1,6 +1,7 @@
 -- A type exposes to its exposure.
-use Rattle.std.proofs.Common.{◌≡◌, ℕ, zero, suc, [], ◌∷◌, refl, sym, ◌∙◌, ap, subst}
+use Rattle.std.proofs.Common.{◌≡◌, ℕ, zero, suc, List, [], ◌∷◌, refl, sym, ◌∙◌, ap, subst}
 use Rattle.pict_types.specs.Types.{PlainType, Top, Int, Char, Str, Boolean, Var, Apply, Chan, Fields, Rec, PlainBound, Free, Below, Operator, TypeContext}
+use Rattle.pict_syntax.specs.declared.type_tree.Mark.{Mark}
 use Rattle.pict_types.specs.Renaming.{rename, rename_bound, moved, bound_of}
 use Rattle.pict_types.proofs.Renamed.{moved_is_suc, bound_further, bound_before}
 use Rattle.pict_sub.specs.Exposing.{HasNoBound, ExposesTo, stays, follows, exposure}
@@ -32,7 +33,7 @@ innermost b c i d e q = let k : zero ≡ i = cc in subst (λ i. bound_of (b ∷ 
 innermost_free : (c : TypeContext) → HasNoBound (Free ∷ c) (Var zero)
 innermost_free c i d e q = let z : Free ≡ Below d = innermost Free c i d e q in cc
 
-innermost_operator : (n : ℕ) (c : TypeContext) → HasNoBound (Operator n ∷ c) (Var zero)
+innermost_operator : (n : List Mark) (c : TypeContext) → HasNoBound (Operator n ∷ c) (Var zero)
 innermost_operator n c i d e q = let z : Operator n ≡ Below d = innermost (Operator n) c i d e q in cc
 
 pub exposes : (c : TypeContext) (t : PlainType) → ExposesTo c t (exposure c t)

@@ -1,16 +1,18 @@
 -- What subtyping says at each form of its two types.
-use Rattle.std.proofs.Common.{◌≡◌, ◌≢◌, ℕ, suc, ◌+◌, List, refl, sym, ◌∙◌, ap, subst, subst₂, add-one, Bool, true, false, ◌⊎◌, inl, inr, ◌↔◌, Some}
+use Rattle.std.proofs.Common.{◌≡◌, ◌≢◌, ℕ, suc, ◌+◌, List, [], ◌∷◌, length, refl, sym, ◌∙◌, ap, subst, subst₂, add-one, Bool, true, false, ◌⊎◌, inl, inr, ◌↔◌, Some}
 use Rattle.std.specs.Prelude.{nat_eq}
 use Rattle.std.proofs.lemmas.Bool.{eq-eqb, ne_eqb, eqb-true}
 use Rattle.pict_syntax.specs.Labels.{StandsBefore}
 use Rattle.pict_syntax.proofs.LabelLemmas.{other_label}
-use Rattle.pict_types.specs.Types.{Capability, PlainType, Top, Var, Chan, Fields, Rec, PlainTypes, no_type, types, PlainLabels, no_label, labels, Below, PlainBounds, TypeContext, under, type_at, count_types, is_top}
+use Rattle.pict_types.specs.Types.{Capability, PlainType, Top, Var, Apply, Chan, Fields, Rec, PlainTypes, no_type, types, PlainLabels, no_label, labels, Below, PlainBounds, TypeContext, under, type_at, count_types, is_top, Operator}
+use Rattle.pict_syntax.specs.declared.type_tree.Mark.{Mark}
+use Rattle.pict_syntax.specs.declared.type_tree.Mark.TheVariants.{Plus, Minus, Plain as Unmarked}
 use Rattle.pict_types.specs.Renaming.{rename, rename_bound, moved, bound_at, bound_of}
 use Rattle.pict_types.specs.Kinds.{Kind, StandsBeforeAll, LabelsAreWellFormed}
-use Rattle.pict_sub.specs.Shapes.{shape_of, variable, channel, record_}
-use Rattle.pict_sub.specs.Subtyping.{Rises, both_read, read_read, Falls, both_write, write_write, respond_respond, respond_write, IsSubtype, same, through, below_top, below_bound, upward, downward, by_fields, AreSubtypes, none, more, HasLabels, has_none, has_label, AreRecordsBelow, AreChannelsBelow, HasBoundBelow}
-use Rattle.pict_sub.specs.Laws.{IsChannel}
-use Rattle.pict_sub.proofs.Deciding.{Decides, d_same, d_top, d_bound, d_up, d_down, d_fields, to_decided, of_decided, of_decided_types, of_decided_labels}
+use Rattle.pict_sub.specs.Shapes.{shape_of, variable, applied_, channel, record_}
+use Rattle.pict_sub.specs.Subtyping.{CarriesUp, both_read, read_read, CarriesDown, both_write, write_write, respond_respond, respond_write, IsSubtype, same, through, below_top, below_bound, upward, downward, by_fields, by_arguments, AreByMarks, no_more, plus, minus, unmarked, AreSubtypes, none, more, HasLabels, has_none, has_label, AreRecordsBelow, AreChannelsBelow, HasBoundBelow}
+use Rattle.pict_sub.specs.Laws.{IsChannel, IsAppliedTo}
+use Rattle.pict_sub.proofs.Deciding.{Decides, DecidesByMarks, d_same, d_top, d_bound, d_up, d_down, d_fields, d_arguments, to_decided, of_decided, of_decided_arguments, of_decided_types, of_decided_labels}
 use Rattle.pict_types.proofs.Formed.{before_further}
 use Rattle.pict_types.proofs.Renamed.{bound_before}
 
@@ -70,17 +72,17 @@ decided_below_channel (d_down f d) = inl (_, _, refl)
 pub below_channel : (c : TypeContext) (n : Capability) (s t : PlainType) → IsSubtype c s (Chan n t) → IsChannel s ⊎ HasBoundBelow c s (Chan n t)
 below_channel c n s t d = decided_below_channel (to_decided d)
 
-not_both : (m n : Capability) → Rises m n → Falls m n → ⊥
+not_both : (m n : Capability) → CarriesUp m n → CarriesDown m n → ⊥
 not_both m n both_read f = elim f [ ]
 not_both m n read_read f = elim f [ ]
 
-pub rising : (c : TypeContext) (m n : Capability) (s t : PlainType) → Rises m n → IsSubtype c (Chan m s) (Chan n t) ↔ IsSubtype c s t
-rising c m n s t r = (λ d. elim (decided_channel (to_decided d)) [ inl e ↦ subst (λ x. IsSubtype c s x) e.1 same | inr (inl x) ↦ x.1 | inr (inr x) ↦ absurd (not_both m n r x.0) ], λ d. upward r d)
+pub carried_up : (c : TypeContext) (m n : Capability) (s t : PlainType) → CarriesUp m n → IsSubtype c (Chan m s) (Chan n t) ↔ IsSubtype c s t
+carried_up c m n s t r = (λ d. elim (decided_channel (to_decided d)) [ inl e ↦ subst (λ x. IsSubtype c s x) e.1 same | inr (inl x) ↦ x.1 | inr (inr x) ↦ absurd (not_both m n r x.0) ], λ d. upward r d)
 
-pub falling : (c : TypeContext) (m n : Capability) (s t : PlainType) → Falls m n → IsSubtype c (Chan m s) (Chan n t) ↔ IsSubtype c t s
-falling c m n s t r = (λ d. elim (decided_channel (to_decided d)) [ inl e ↦ subst (λ x. IsSubtype c x s) e.1 same | inr (inl x) ↦ absurd (not_both m n x.0 r) | inr (inr x) ↦ x.1 ], λ d. downward r d)
+pub carried_down : (c : TypeContext) (m n : Capability) (s t : PlainType) → CarriesDown m n → IsSubtype c (Chan m s) (Chan n t) ↔ IsSubtype c t s
+carried_down c m n s t r = (λ d. elim (decided_channel (to_decided d)) [ inl e ↦ subst (λ x. IsSubtype c x s) e.1 same | inr (inl x) ↦ absurd (not_both m n x.0 r) | inr (inr x) ↦ x.1 ], λ d. downward r d)
 
-pub neither : (c : TypeContext) (m n : Capability) (s t : PlainType) → (Rises m n → ⊥) → (Falls m n → ⊥) → IsSubtype c (Chan m s) (Chan n t) ↔ ((m ≡ n) × (s ≡ t))
+pub neither : (c : TypeContext) (m n : Capability) (s t : PlainType) → (CarriesUp m n → ⊥) → (CarriesDown m n → ⊥) → IsSubtype c (Chan m s) (Chan n t) ↔ ((m ≡ n) × (s ≡ t))
 neither c m n s t r f = (λ d. elim (decided_channel (to_decided d)) [ inl e ↦ e | inr (inl x) ↦ absurd (r x.0) | inr (inr x) ↦ absurd (f x.0) ], λ e. subst₂ (λ x y. IsSubtype c (Chan m s) (Chan x y)) e.0 e.1 same)
 
 -- the same with the code's sum
@@ -105,6 +107,41 @@ from_bound {c = c} {t = t} h = subst (λ s. IsSubtype c s t) (sym h.is) (through
 
 pub below_recursive : (c : TypeContext) (s t : PlainType) → IsSubtype c s (Rec t) ↔ ((s ≡ Rec t) ⊎ HasBoundBelow c s (Rec t))
 below_recursive c s t = (λ d. decided_below_rec (to_decided d), λ x. elim x [ inl e ↦ subst (λ s. IsSubtype c s (Rec t)) (sym e) same | inr h ↦ from_bound h ])
+
+-- applied operator variables: argument by argument, where there are as many as marks
+same_arguments : {c : TypeContext} (ms : List Mark) (ts : PlainTypes) → length ms ≡ count_types ts → AreByMarks c ms ts ts
+same_arguments [] no_type n = no_more
+same_arguments [] (types t ts) n = absurd cc
+same_arguments (k ∷ ms) no_type n = absurd cc
+same_arguments (Plus ∷ ms) (types t ts) n = plus same (same_arguments ms ts cc)
+same_arguments (Minus ∷ ms) (types t ts) n = minus same (same_arguments ms ts cc)
+same_arguments (Unmarked ∷ ms) (types t ts) n = unmarked (same_arguments ms ts cc)
+
+decided_applied : {c : TypeContext} {i j : ℕ} {ss ts : PlainTypes} → (ms : List Mark) → bound_of c i ≡ Operator ms → length ms ≡ count_types ss → Decides c (Apply i ss) (Apply j ts) → (i ≡ j) × AreByMarks c ms ss ts
+decided_applied {ss = ss} ms b n d_same = (refl, same_arguments ms ss n)
+decided_applied {c = c} {ss = ss} {ts = ts} ms b n (d_arguments {ms = ns} b2 d) =
+    let q : Operator ns ≡ Operator ms = sym b2 ∙ b in
+    let z : ns ≡ ms = cc in
+    (refl, of_decided_arguments (subst (λ x. DecidesByMarks c x ss ts) z d))
+
+pub applied : (c : TypeContext) (i j : ℕ) (ms : List Mark) (ss ts : PlainTypes) → bound_of c i ≡ Operator ms → length ms ≡ count_types ss → IsSubtype c (Apply i ss) (Apply j ts) ↔ ((i ≡ j) × AreByMarks c ms ss ts)
+applied c i j ms ss ts b n = (λ d. decided_applied ms b n (to_decided d), λ x. subst (λ y. IsSubtype c (Apply i ss) (Apply y ts)) x.0 (by_arguments b x.1))
+
+decided_above_applied : {c : TypeContext} {i : ℕ} {ss : PlainTypes} {t : PlainType} → Decides c (Apply i ss) t → (t ≡ Top) ⊎ IsAppliedTo i t
+decided_above_applied d_same = inr (_, refl)
+decided_above_applied d_top = inl refl
+decided_above_applied (d_arguments b d) = inr (_, refl)
+
+pub above_applied : (c : TypeContext) (i : ℕ) (ss : PlainTypes) (t : PlainType) → IsSubtype c (Apply i ss) t → (t ≡ Top) ⊎ IsAppliedTo i t
+above_applied c i ss t d = decided_above_applied (to_decided d)
+
+decided_below_applied : {c : TypeContext} {i : ℕ} {s : PlainType} {ts : PlainTypes} → Decides c s (Apply i ts) → IsAppliedTo i s ⊎ HasBoundBelow c s (Apply i ts)
+decided_below_applied d_same = inl (_, refl)
+decided_below_applied (d_bound e d) = inr (bound_below e d)
+decided_below_applied (d_arguments b d) = inl (_, refl)
+
+pub below_applied : (c : TypeContext) (i : ℕ) (s : PlainType) (ts : PlainTypes) → IsSubtype c s (Apply i ts) → IsAppliedTo i s ⊎ HasBoundBelow c s (Apply i ts)
+below_applied c i s ts d = decided_below_applied (to_decided d)
 
 -- rows
 same_types : {c : TypeContext} (ts : PlainTypes) → AreSubtypes c ts ts
@@ -131,7 +168,7 @@ as_many (more d ds) = ap suc (as_many ds)
 label_passed : (l m : ℕ) (s : PlainType) (ss : PlainLabels) → l ≢ m → type_at l (labels m s ss) ≡ type_at l ss
 label_passed l m s ss h = let e : nat_eq l m ≡ false = ne_eqb l m h in rw e refl
 
-label_here : (l : ℕ) (s : PlainType) (ss : PlainLabels) → type_at l (labels l s ss) ≡ Some s
+pub label_here : (l : ℕ) (s : PlainType) (ss : PlainLabels) → type_at l (labels l s ss) ≡ Some s
 label_here l s ss = let e : nat_eq l l ≡ true = eq-eqb l l refl in rw e refl
 
 -- a label that is found comes after what stands before all
@@ -144,7 +181,7 @@ found_after ns m l (labels n s ss) v h e = go (nat_eq l n) refl (λ k. found_aft
     go false q r = r (rw q at e)
 
 -- one more label in the smaller, in front of all the others
-wider : {c : TypeContext} (ns : List (List ℕ)) (m : ℕ) (s : PlainType) (ss ts : PlainLabels) → StandsBeforeAll ns m ss → HasLabels c ss ts → HasLabels c (labels m s ss) ts
+pub wider : {c : TypeContext} (ns : List (List ℕ)) (m : ℕ) (s : PlainType) (ss ts : PlainLabels) → StandsBeforeAll ns m ss → HasLabels c ss ts → HasLabels c (labels m s ss) ts
 wider ns m s ss no_label h has_none = has_none
 wider ns m s ss (labels l t ts) h (has_label {s = v} e d r) =
     has_label (label_passed l m s ss (other_label ns m l (found_after ns m l ss v h e)) ∙ e) d (wider ns m s ss ts h r)
@@ -203,16 +240,17 @@ top_above c s = below_top
 pub ruleset types_rules = (none, types_more, types_short, types_long)
 
 -- by shape, where the second type is not Top
-decided_itself : {c : TypeContext} {s t : PlainType} → Decides c s t → t ≢ Top → shape_of s ≢ variable → shape_of s ≢ channel → shape_of s ≢ record_ → s ≡ t
-decided_itself d_same nt nv nc nr = refl
-decided_itself d_top nt nv nc nr = absurd (nt refl)
-decided_itself (d_bound b d) nt nv nc nr = absurd (nv refl)
-decided_itself (d_up r d) nt nv nc nr = absurd (nc refl)
-decided_itself (d_down f d) nt nv nc nr = absurd (nc refl)
-decided_itself (d_fields d e) nt nv nc nr = absurd (nr refl)
+decided_itself : {c : TypeContext} {s t : PlainType} → Decides c s t → t ≢ Top → shape_of s ≢ variable → shape_of s ≢ applied_ → shape_of s ≢ channel → shape_of s ≢ record_ → s ≡ t
+decided_itself d_same nt nv na nc nr = refl
+decided_itself d_top nt nv na nc nr = absurd (nt refl)
+decided_itself (d_bound b d) nt nv na nc nr = absurd (nv refl)
+decided_itself (d_up r d) nt nv na nc nr = absurd (nc refl)
+decided_itself (d_down f d) nt nv na nc nr = absurd (nc refl)
+decided_itself (d_fields d e) nt nv na nc nr = absurd (nr refl)
+decided_itself (d_arguments b d) nt nv na nc nr = absurd (na refl)
 
-pub only_itself : (c : TypeContext) (s t : PlainType) → t ≢ Top → shape_of s ≢ variable → shape_of s ≢ channel → shape_of s ≢ record_ → IsSubtype c s t ↔ (s ≡ t)
-only_itself c s t nt nv nc nr = (λ d. decided_itself (to_decided d) nt nv nc nr, λ e. subst (IsSubtype c s) e same)
+pub only_itself : (c : TypeContext) (s t : PlainType) → t ≢ Top → shape_of s ≢ variable → shape_of s ≢ applied_ → shape_of s ≢ channel → shape_of s ≢ record_ → IsSubtype c s t ↔ (s ≡ t)
+only_itself c s t nt nv na nc nr = (λ d. decided_itself (to_decided d) nt nv na nc nr, λ e. subst (IsSubtype c s) e same)
 
 decided_channel_only : {c : TypeContext} {m : Capability} {a t : PlainType} → Decides c (Chan m a) t → t ≢ Top → shape_of t ≢ channel → ⊥
 decided_channel_only d_same nt nc = nc refl
@@ -231,13 +269,21 @@ decided_record_only (d_fields d e) nt nr = nr refl
 pub not_record : (c : TypeContext) (bs : PlainBounds) (ps : PlainTypes) (ls : PlainLabels) (t : PlainType) → t ≢ Top → shape_of t ≢ record_ → IsSubtype c (Fields bs ps ls) t → ⊥
 not_record c bs ps ls t nt nr d = decided_record_only (to_decided d) nt nr
 
+decided_applied_only : {c : TypeContext} {i : ℕ} {ss : PlainTypes} {t : PlainType} → Decides c (Apply i ss) t → t ≢ Top → shape_of t ≢ applied_ → ⊥
+decided_applied_only d_same nt nr = nr refl
+decided_applied_only d_top nt nr = nt refl
+decided_applied_only (d_arguments b d) nt nr = nr refl
+
+pub not_applied : (c : TypeContext) (i : ℕ) (ss : PlainTypes) (t : PlainType) → t ≢ Top → shape_of t ≢ applied_ → IsSubtype c (Apply i ss) t → ⊥
+not_applied c i ss t nt nr d = decided_applied_only (to_decided d) nt nr
+
 pub ruleset other_rules = (told_top, told_other, top_above, only_itself)
 
 pub ruleset variable_rules = (unbounded_variable, bounded_variable_1)
 
-pub ruleset channel_rules = (not_channel, rising, falling, neither)
+pub ruleset channel_rules = (not_channel, carried_up, carried_down, neither)
 
 -- the pairs of capabilities that rise, and those that fall
-pub ruleset rising_rows = (both_read, read_read)
+pub ruleset carries_up_rows = (both_read, read_read)
 
-pub ruleset falling_rows = (both_write, write_write, respond_write, respond_respond)
+pub ruleset carries_down_rows = (both_write, write_write, respond_write, respond_respond)

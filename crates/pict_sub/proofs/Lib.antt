@@ -4,5 +4,13 @@ pub mod Below
 pub mod Exposed
 pub mod Followed
 pub mod Renamed
-pub mod Replaced
 pub mod Decidable
+pub mod Marked
+pub mod Marks
+pub mod Varying
+pub mod Apart
+pub mod Carried
+pub mod Operating
+pub mod Put
+pub mod Stays
+pub mod Replaced

@@ -15,7 +15,7 @@ pub data ExposesTo : TypeContext → PlainType → PlainType → Type 0 where
 abbrev pub exposure_by : PlainBound → (PlainType → PlainType) → PlainType
 exposure_by Free f = Var 0
 exposure_by (Below t) f = rename suc (f t)
-exposure_by (Operator n) f = Var 0
+exposure_by (Operator ms) f = Var 0
 
 -- a type within one more variable
 abbrev pub exposure_within : PlainBound → (PlainType → PlainType) → PlainType → PlainType

@@ -1,13 +1,14 @@
 // The laws of subtyping, each as the contract of a function that does nothing.
 
-ghost use Rattle.pict_sub.specs.Laws.{AboveChannels, AboveRecursive, BelowChannels, BelowRecursive, ChannelsByMessages, ExposesAbove, ExposesBelow, ExposesToOne, RecordsByParts, Substitution, SubtypingIsDecided, Weakening};
+ghost use Rattle.pict_sub.specs.Laws.{AboveApplied, AboveChannels, AboveRecursive, AppliedByArguments, BelowApplied, BelowChannels, BelowRecursive, ChannelsByMessages, ExposesAbove, ExposesBelow, ExposesToOne, RecordsByParts, Substitution, SubtypingIsDecided, Weakening};
 
 /// Subtyping is kept where more variables are in scope.
 pub fn law_weakening()
     ensures { Weakening }
 {}
 
-/// Subtyping is kept where types within their bounds, and operators, are put for variables.
+/// Subtyping is kept where types within their bounds, and operators that vary as the marks of their variables say, are
+/// put for variables.
 pub fn law_substitution()
     ensures { Substitution }
 {}
@@ -30,6 +31,15 @@ pub fn law_channels_by_messages()
 /// order, and each label of the greater is in the smaller with a subtype.
 pub fn law_records_by_parts()
     ensures { RecordsByParts }
+{}
+
+/// An operator variable applied twice compares argument by argument: upward where marked `+`, downward where marked `-`,
+/// equal where unmarked. Otherwise only `Top` is above an applied operator variable, and only variables whose bound is below
+/// it are below one.
+pub fn law_applied_by_arguments()
+    ensures between { AppliedByArguments }
+    ensures above { AboveApplied }
+    ensures below { BelowApplied }
 {}
 
 /// Above a recursive type are only `Top` and the type itself, and below it only the type itself and variables whose

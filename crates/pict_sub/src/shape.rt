@@ -1,9 +1,9 @@
 // The shapes of types that subtyping tells apart.
 
 ghost use Rattle.std.specs.Prelude.{◌≡◌, ◌≢◌, IfNone, IfSome};
-ghost use Rattle.pict_types.specs.Plain.{plain, plain_cap, plain_record};
-ghost use Rattle.pict_types.specs.Types.{Chan, Var};
-ghost use Rattle.pict_sub.specs.Shapes.{channel, record_, shape_of, variable};
+ghost use Rattle.pict_types.specs.Plain.{plain, plain_cap, plain_record, plain_types};
+ghost use Rattle.pict_types.specs.Types.{Apply, Chan, Var};
+ghost use Rattle.pict_sub.specs.Shapes.{applied_, channel, record_, shape_of, variable};
 
 use pict_types::{Cap, Record, Ty};
 
@@ -37,6 +37,18 @@ pub fn as_record(t: &Ty) -> Option<&Record>
 {
     match t {
         Ty::Fields(r) => Some(r),
+        _ => None,
+    }
+}
+
+/// The operator variable and the arguments of an applied one.
+#[tactic(auto, using(pict_types::proofs::Rows::plain_apply))]
+pub fn as_applied(t: &Ty) -> Option<(u32, &[Ty])>
+    ensures none { IfNone result (shape_of (plain t.now) ≢ applied_) }
+    ensures some { IfSome result (λ x. plain t.now ≡ Apply x.0 (plain_types x.1.now)) }
+{
+    match t {
+        Ty::Apply(i, ts) => Some((*i, ts)),
         _ => None,
     }
 }

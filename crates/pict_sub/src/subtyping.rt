@@ -1,34 +1,35 @@
 // Subtyping, decided by the form of the two types.
 
-ghost use Rattle.std.specs.Prelude.{◌≡◌, ◌≢◌, ◌+◌, ◌≤◌, ◌<◌, ◌↔◌, IsTrue, IfOk};
+ghost use Rattle.std.specs.Prelude.{◌≡◌, ◌≢◌, length, ◌+◌, ◌≤◌, ◌<◌, ◌↔◌, IsTrue, IfOk};
 ghost use Rattle.pict_types.specs.Measures.{weight_of};
 ghost use Rattle.pict_types.specs.Plain.{plain, plain_cap, plain_labels, plain_record, plain_types};
 ghost use Rattle.pict_types.specs.PlainContext.{IsWrittenIn, type_context};
-ghost use Rattle.pict_types.specs.Types.{Chan, Top, Var};
+ghost use Rattle.pict_types.specs.Types.{Apply, Chan, Operator, Top, Var, count_types};
+ghost use Rattle.pict_types.specs.Renaming.{bound_of};
 ghost use Rattle.pict_sub.specs.Scopes.{AreWrittenAt, IsWrittenAt, LabelsAreWrittenAt, ScopeIsWellFormed, scope_context, weights_of, weights_of_labels, weights_of_types};
-ghost use Rattle.pict_sub.specs.Subtyping.{AreSubtypes, Falls, HasLabels, IsSubtype, Rises};
+ghost use Rattle.pict_sub.specs.Subtyping.{AreByMarks, AreSubtypes, ComparesBy, CarriesDown, HasLabels, IsSubtype, CarriesUp};
 
 use crate::equality::{equal_bounds, equal_types, same_cap};
-use crate::scope::{TypeScope, bound_in};
-use crate::shape::{as_channel, as_record, as_variable};
-use pict_syntax::{Name, Steps};
+use crate::scope::{TypeScope, bound_in, marks_in};
+use crate::shape::{as_applied, as_channel, as_record, as_variable};
+use pict_syntax::{Mark, Name, Steps};
 use pict_types::{Cap, Context, Record, Ty, shift_type};
 use std::alloc::{AllocError, Global};
 use std::marker::Brand;
 use std::sync::ledger::{Blank, Ledger};
 
 /// Whether channel types with these capabilities go up with their messages.
-#[tactic(auto, using(crate::proofs::Inversion::rising_rows))]
-fn rises(m: Cap, n: Cap) -> bool
-    ensures { IsTrue result ↔ Rises (plain_cap m) (plain_cap n) }
+#[tactic(auto, using(crate::proofs::Inversion::carries_up_rows))]
+fn carries_up(m: Cap, n: Cap) -> bool
+    ensures { IsTrue result ↔ CarriesUp (plain_cap m) (plain_cap n) }
 {
     matches!((m, n), (Cap::Both | Cap::Read, Cap::Read))
 }
 
 /// Whether channel types with these capabilities go down with their messages.
-#[tactic(auto, using(crate::proofs::Inversion::falling_rows))]
-fn falls(m: Cap, n: Cap) -> bool
-    ensures { IsTrue result ↔ Falls (plain_cap m) (plain_cap n) }
+#[tactic(auto, using(crate::proofs::Inversion::carries_down_rows))]
+fn carries_down(m: Cap, n: Cap) -> bool
+    ensures { IsTrue result ↔ CarriesDown (plain_cap m) (plain_cap n) }
 {
     match (m, n) {
         (Cap::Both, Cap::Write) => true,
@@ -70,6 +71,9 @@ fn is_below<L: Ledger>(
     }
     if let Some(r) = as_record(s) {
         return record_is_below(alloc, r, t, scope, steps);
+    }
+    if let Some((i, ss)) = as_applied(s) {
+        return applied_is_below(alloc, i, ss, t, scope, steps);
     }
     Ok(equal_types(s, t, steps))
 }
@@ -151,9 +155,9 @@ fn channel_is_below<L: Ledger>(
     match as_channel(t) {
         None => Ok(false),
         Some((n, b)) => {
-            if rises(m, n) {
+            if carries_up(m, n) {
                 is_below(alloc, a, b, scope, steps)
-            } else if falls(m, n) {
+            } else if carries_down(m, n) {
                 is_below(alloc, b, a, scope, steps)
             } else {
                 Ok(same_cap(m, n) && equal_types(a, b, steps))
@@ -209,6 +213,90 @@ fn fields_are_below<L: Ledger>(
         return Ok(false);
     }
     labels_are_below(alloc, &r.labelled, &q.labelled, &inner, steps)
+}
+
+/// The same where `s` is an applied operator variable, and `t` isn't `Top`.
+#[cycle(below)]
+#[tactic(auto, using(pict_types::proofs::Sizes::weight_positive, crate::proofs::Inversion::not_applied))]
+fn applied_is_below<L: Ledger>(
+    alloc: Global,
+    i: u32,
+    ss: &[Ty],
+    t: &Ty,
+    scope: &TypeScope,
+    steps: &mut Steps<L>,
+) -> Result<bool, AllocError>
+    requires context { ScopeIsWellFormed scope.now }
+    requires s { IsWrittenAt scope.now (Apply i (plain_types ss.now)) }
+    requires t { IsWrittenAt scope.now (plain t.now) }
+    requires not_top { plain t.now ≢ Top }
+    ensures answer { IfOk result (λ yes. IsTrue yes ↔ IsSubtype (scope_context scope.now) (Apply i (plain_types ss.now)) (plain t.now)) }
+    ensures cost { steps.new ≤ steps.old + weights_of scope.now (Apply i (plain_types ss.now)) (plain t.now) }
+{
+    steps.tick();
+    match as_applied(t) {
+        None => Ok(false),
+        Some((j, ts)) => {
+            if i != j {
+                return Ok(false);
+            }
+            match marks_in(i, scope) {
+                None => unreachable!(),
+                Some(marks) => arguments_are_below(alloc, marks, ss, ts, scope, steps),
+            }
+        }
+    }
+}
+
+/// Whether an argument compares with another as it is marked.
+#[cycle(below)]
+#[tactic(auto, using(pict_types::proofs::Sizes::weight_rules))]
+fn argument_is_below<L: Ledger>(
+    alloc: Global,
+    mark: Mark,
+    s: &Ty,
+    t: &Ty,
+    scope: &TypeScope,
+    steps: &mut Steps<L>,
+) -> Result<bool, AllocError>
+    requires context { ScopeIsWellFormed scope.now }
+    requires s { IsWrittenAt scope.now (plain s.now) }
+    requires t { IsWrittenAt scope.now (plain t.now) }
+    ensures answer { IfOk result (λ yes. IsTrue yes ↔ ComparesBy (scope_context scope.now) mark (plain s.now) (plain t.now)) }
+    ensures cost { steps.new ≤ steps.old + weights_of scope.now (plain s.now) (plain t.now) }
+{
+    match mark {
+        Mark::Plus => is_below(alloc, s, t, scope, steps),
+        Mark::Minus => is_below(alloc, t, s, scope, steps),
+        Mark::Plain => Ok(equal_types(s, t, steps)),
+    }
+}
+
+/// Whether the arguments compare one by one as they are marked; there are as many as marks.
+#[cycle(below)]
+#[tactic(auto, using(pict_types::proofs::Items::types_read, crate::proofs::Marked::marks_rules))]
+fn arguments_are_below<L: Ledger>(
+    alloc: Global,
+    marks: &[Mark],
+    ss: &[Ty],
+    ts: &[Ty],
+    scope: &TypeScope,
+    steps: &mut Steps<L>,
+) -> Result<bool, AllocError>
+    requires context { ScopeIsWellFormed scope.now }
+    requires ss { AreWrittenAt scope.now (plain_types ss.now) }
+    requires ts { AreWrittenAt scope.now (plain_types ts.now) }
+    requires first { length ss.now ≡ length marks.now }
+    requires second { length ts.now ≡ length marks.now }
+    ensures answer { IfOk result (λ yes. IsTrue yes ↔ AreByMarks (scope_context scope.now) marks.now (plain_types ss.now) (plain_types ts.now)) }
+    ensures cost { steps.new ≤ steps.old + weights_of_types scope.now (plain_types ss.now) (plain_types ts.now) }
+{
+    for i in 0..marks.len() {
+        if !argument_is_below(alloc, marks[i], &ss[i], &ts[i], scope, steps)? {
+            return Ok(false);
+        }
+    }
+    Ok(true)
 }
 
 /// Whether there are as many types, each a subtype in order.

@@ -23,7 +23,7 @@ fn is_listed(alloc: Global, text: &[u8], wanted: &[u8]) -> Result<bool, Fail> {
 
 #[test]
 fn texts_have_these_listings(rt: HostRuntime) -> Result<(), Fail> {
-    let rows: [(&[u8], &[u8]); 5] = [
+    let rows: [(&[u8], &[u8]); 7] = [
         (b"", b"0 {} zero\n"),
         (
             b"new c:^Int run c!1 run c?n = printi!n",
@@ -37,6 +37,15 @@ fn texts_have_these_listings(rt: HostRuntime) -> Result<(), Fail> {
         (
             b"def f (x:Int):Int = (+ x 1) run printi!(f 2)",
             b"0 {} new s0 1\n1 {s0} par 2 4\n2 {s0} serve s0 [s1 s2] 3\n3 {s1 s2} out + [s1 1 s2]\n4 {s0} par 5 10\n5 {s0} new s1 6\n6 {s0 s1} par 7 9\n7 {s1} serve s1 s2 8\n8 {s2} out printi s2\n9 {s0 s1} out s0 [2 s1]\n10 {} zero\n",
+        ),
+        // levels in the order of a pattern with records in it; a frame has those that are used
+        (
+            b"new c:^[Top Top Top] new d:^[Top a=Bool b=[Top]] run d?*[x a=y b=[z]] = if y then c![z x z] else (new e:^Top e!d)",
+            b"0 {} new s0 1\n1 {s0} new s1 2\n2 {s0 s1} par 3 8\n3 {s0 s1} serve s1 [s2 a=s3 b=[s4]] 4\n4 {s0 s1 s2 s3 s4} if s3 5 6\n5 {s0 s2 s4} out s0 [s4 s2 s4]\n6 {s1} new s5 7\n7 {s1 s5} out s5 s1\n8 {} zero\n",
+        ),
+        (
+            b"new u:^[get=Int] def f [x:Int _:Top [] get=y:Bool set=[set=z:Int]] = if y then u![get=x] else ()",
+            b"0 {} new s0 1\n1 {s0} new s1 2\n2 {s0 s1} par 3 7\n3 {s0 s1} serve s1 [s2 _ [] get=s3 set=[set=s4]] 4\n4 {s0 s2 s3} if s3 5 6\n5 {s0 s2} out s0 [get=s2]\n6 {} zero\n7 {} zero\n",
         ),
         (
             b"run if true then print!\"a\\n\" else ()",

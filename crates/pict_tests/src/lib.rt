@@ -1,19 +1,15 @@
-//! Tests that cross crates: what one crate does is compared with what another defines. Nothing else stands here.
+//! Tests of whole programs: the command, its phases, the translation, and the machine beside the definition of its steps. Nothing else stands here.
 #![tactic(auto)]
 
 #[cfg(test)]
 mod codes;
 #[cfg(test)]
+mod command;
+#[cfg(test)]
 mod cuts;
 #[cfg(test)]
-mod nested_forms;
-#[cfg(test)]
-mod parsing;
-#[cfg(test)]
-mod scoping;
+mod phases;
 #[cfg(test)]
 mod steps;
 #[cfg(test)]
 mod translation;
-#[cfg(test)]
-mod typing;

@@ -17,6 +17,3 @@ pub use pict_report::prelude;
 pub use pict_words::{Command, Options, Usage, words_of};
 pub use status::Status;
 pub use top::pict;
-
-#[cfg(test)]
-mod tests;

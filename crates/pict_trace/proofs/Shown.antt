@@ -4,6 +4,7 @@ use Rattle.std.specs.List.{AllByRecursion}
 use Rattle.std.specs.Fmt.{decimal}
 use Rattle.pict_lex.proofs.RunLemmas.{slice_rest}
 use Rattle.pict_syntax.specs.Names.{with_names}
+use Rattle.pict_syntax.specs.declared.limits.TheConstants.{VALUE_NESTING_LIMIT}
 use Rattle.pict_core.specs.Term.{Val}
 use Rattle.pict_core.specs.Step.{Label, Quiet, Comm, Print}
 use Rattle.pict_show.specs.Values.{value_text, quoted}
@@ -61,14 +62,14 @@ no_newline_bad after bytes more x none = printing_only after (λ others rest y. 
 
 -- ---- communications
 
-pub communication_found : (names : List (List ℕ)) (text value r rest : List ℕ) (channel : ℕ) (v : Val) → channel < 2 ^ 32 → text ≡ decimal channel ++ (32 ∷ value) → Reads names 1000 value v r → r ≡ 10 ∷ rest
+pub communication_found : (names : List (List ℕ)) (text value r rest : List ℕ) (channel : ℕ) (v : Val) → channel < 2 ^ 32 → text ≡ decimal channel ++ (32 ∷ value) → Reads names VALUE_NESTING_LIMIT value v r → r ≡ 10 ∷ rest
     → ReadsShown names (99 ∷ text) (Comm channel v) rest
 communication_found names text value r rest channel v few e read f = record {
   readable = (few, (read.orderly, read.low));
   whole = ap (λ t. 99 ∷ t) (e ∙ ap (λ t. decimal channel ++ (32 ∷ t)) (read.whole ∙ ap (λ t. value_text names v ++ t) f) ∙ sym (append_assoc (decimal channel) (32 ∷ value_text names v) (10 ∷ rest)));
 }
 
-communication_only : (text : List ℕ) → ((others : List (List ℕ)) (channel : ℕ) (value : List ℕ) (v : Val) (rest : List ℕ) → channel < 2 ^ 32 → text ≡ decimal channel ++ (32 ∷ value) → Reads others 1000 value v (10 ∷ rest) → ⊥)
+communication_only : (text : List ℕ) → ((others : List (List ℕ)) (channel : ℕ) (value : List ℕ) (v : Val) (rest : List ℕ) → channel < 2 ^ 32 → text ≡ decimal channel ++ (32 ∷ value) → Reads others VALUE_NESTING_LIMIT value v (10 ∷ rest) → ⊥)
     → BeginsNoShown (99 ∷ text)
 communication_only text none others label rest x = by label x.readable x.whole
   where
@@ -84,11 +85,11 @@ pub big_channel_bad : (text value : List ℕ) (n : ℕ) → text ≡ decimal n +
 big_channel_bad text value n e few big =
     communication_only text (λ others channel other v rest small f read. let same = number_unique n channel value other few (omega (arith, small)) (sym e ∙ f) in big (subst (λ k. k < 2 ^ 32) (sym same.0) small))
 
-pub no_value_bad : (text value : List ℕ) (n : ℕ) → text ≡ decimal n ++ (32 ∷ value) → n < 2 ^ 64 → BeginsNoValue 1000 value → BeginsNoShown (99 ∷ text)
+pub no_value_bad : (text value : List ℕ) (n : ℕ) → text ≡ decimal n ++ (32 ∷ value) → n < 2 ^ 64 → BeginsNoValue VALUE_NESTING_LIMIT value → BeginsNoShown (99 ∷ text)
 no_value_bad text value n e few none =
-    communication_only text (λ others channel other v rest small f read. let same = number_unique n channel value other few (omega (arith, small)) (sym e ∙ f) in none others v (10 ∷ rest) (subst (λ t. Reads others 1000 t v (10 ∷ rest)) (sym same.1) read))
+    communication_only text (λ others channel other v rest small f read. let same = number_unique n channel value other few (omega (arith, small)) (sym e ∙ f) in none others v (10 ∷ rest) (subst (λ t. Reads others VALUE_NESTING_LIMIT t v (10 ∷ rest)) (sym same.1) read))
 
-pub no_end_bad : (names : List (List ℕ)) (text value r : List ℕ) (n : ℕ) (v : Val) → text ≡ decimal n ++ (32 ∷ value) → n < 2 ^ 64 → Reads names 1000 value v r → ((rest : List ℕ) → r ≢ 10 ∷ rest) → BeginsNoShown (99 ∷ text)
+pub no_end_bad : (names : List (List ℕ)) (text value r : List ℕ) (n : ℕ) (v : Val) → text ≡ decimal n ++ (32 ∷ value) → n < 2 ^ 64 → Reads names VALUE_NESTING_LIMIT value v r → ((rest : List ℕ) → r ≢ 10 ∷ rest) → BeginsNoShown (99 ∷ text)
 no_end_bad names text value r n v e few read none =
     communication_only text (λ others channel other w rest small f x.
     let same = number_unique n channel value other few (omega (arith, small)) (sym e ∙ f) in

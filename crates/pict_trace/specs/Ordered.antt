@@ -9,7 +9,7 @@ use Rattle.pict_syntax.specs.Names.{text_of}
 use Rattle.pict_core.specs.Term.{Val, Vals, Labelled, Var, Chan, Int, Char, Boolean, Text, PrimitiveVal, Record, no_vals, more_vals, no_labelled, more_labelled, Process, Zero, Par, New, Out, In, If}
 use Rattle.pict_core.specs.Configuration.{Entry, Configuration}
 use Rattle.pict_core.specs.Step.{Label, Quiet, Comm, Print}
-use Rattle.pict_trace.specs.declared.lines.TheConstants.{VALUE_NESTING_LIMIT}
+use Rattle.pict_syntax.specs.declared.limits.TheConstants.{VALUE_NESTING_LIMIT}
 use Rattle.pict_trace.specs.Readable.{IsIdentifier, AreBytes, nesting}
 
 abbrev mutual

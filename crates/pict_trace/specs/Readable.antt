@@ -10,7 +10,7 @@ use Rattle.pict_syntax.specs.Tokens.{IsWord, keyword_text}
 use Rattle.pict_syntax.specs.declared.token.Keyword.{Keyword}
 use Rattle.pict_core.specs.Term.{Val, Vals, Labelled, Var, Chan, Int, Char, Boolean, Text, PrimitiveVal, Record, no_vals, more_vals, no_labelled, more_labelled}
 use Rattle.pict_core.specs.Step.{Label, Quiet, Comm, Print}
-use Rattle.pict_trace.specs.declared.lines.TheConstants.{VALUE_NESTING_LIMIT}
+use Rattle.pict_syntax.specs.declared.limits.TheConstants.{VALUE_NESTING_LIMIT}
 use Rattle.pict_trace.specs.Lines.{line_text, lines_text}
 
 abbrev pub IsIdentifier : List ℕ → Type 0

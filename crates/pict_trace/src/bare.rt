@@ -3,10 +3,8 @@
 ghost use Rattle.std.specs.Prelude.{◌≡◌, ◌≢◌, ◌∷◌, ◌<◌, ◌≤◌, ◌^◌, ℕ, ℤ, FitsSigned, Bool, List, length, slice_index, false, true, IfSome, IfNone, IfOk, None, Err};
 ghost use Rattle.std.specs.Int.{w64};
 ghost use Rattle.std.specs.Fmt.{decimal, signed_decimal};
-ghost use Rattle.pict_syntax.specs.declared.primitive.Primitive.{Primitive};
 ghost use Rattle.pict_core.specs.Plain.{plain_val};
 ghost use Rattle.pict_show.specs.Values.{truth_text};
-ghost use Rattle.pict_syntax.specs.PrimitiveTexts.{primitive_text};
 ghost use Rattle.pict_trace.specs.Reading.{is_end, IsBareText, IsNoBareText, Reads, BeginsNoValue};
 
 use crate::found::{Found, ReadError};
@@ -36,36 +34,6 @@ fn truth_of(word: &[u8]) -> Option<bool>
     match word {
         b"true" => Some(true),
         b"false" => Some(false),
-        _ => None,
-    }
-}
-
-// The primitive with this name.
-fn primitive_of(word: &[u8]) -> Option<Prim>
-    ensures found { IfSome result (λ p. word.now ≡ primitive_text p) }
-    ensures none { IfNone result ((p : Primitive) → word.now ≢ primitive_text p) }
-{
-    match word {
-        b"print" => Some(Prim::Print),
-        b"printi" => Some(Prim::Printi),
-        b"pr" => Some(Prim::Pr),
-        b"+" => Some(Prim::Add),
-        b"-" => Some(Prim::Subtract),
-        b"*" => Some(Prim::Multiply),
-        b"div" => Some(Prim::Divide),
-        b"mod" => Some(Prim::Remainder),
-        b"==" => Some(Prim::Equal),
-        b"<<" => Some(Prim::Less),
-        b"<=" => Some(Prim::AtMost),
-        b">>" => Some(Prim::Greater),
-        b">=" => Some(Prim::AtLeast),
-        b"chr" => Some(Prim::Chr),
-        b"ord" => Some(Prim::Ord),
-        b"+$" => Some(Prim::Join),
-        b"intstr" => Some(Prim::Intstr),
-        b"size" => Some(Prim::Size),
-        b"nth" => Some(Prim::Nth),
-        b"not" => Some(Prim::Not),
         _ => None,
     }
 }
@@ -105,7 +73,7 @@ fn bare_value(word: &[u8]) -> Option<CoreVal>
     if let Some(b) = truth_of(word) {
         return Some(CoreVal::Bool(b));
     }
-    if let Some(p) = primitive_of(word) {
+    if let Some(p) = Prim::named(word) {
         return Some(CoreVal::Prim(p));
     }
     match behind(b"c", word) {

@@ -16,7 +16,4 @@ pub use event::line;
 pub use laws::{
     law_free_steps_keep_order, law_lines_are_read_once, law_runs_are_read_back, law_values_end_once,
 };
-pub use lines::{TraceError, TraceLabel, TraceLine, VALUE_NESTING_LIMIT, read_lines};
-
-#[cfg(test)]
-mod tests;
+pub use lines::{TraceError, TraceLabel, TraceLine, read_lines};

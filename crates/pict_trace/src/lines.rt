@@ -14,12 +14,9 @@ use crate::literal::string_bytes;
 use crate::number::number_of;
 use crate::read::read_value;
 use pict_core::CoreVal;
-use pict_syntax::{Bytes, Names};
+use pict_syntax::{Bytes, Names, VALUE_NESTING_LIMIT};
 use std::alloc::{AllocError, AllocFailed, Global};
 use thiserror::Error;
-
-/// The greatest number of records in one another in a value of a line that is read.
-pub const VALUE_NESTING_LIMIT: u32 = 1000;
 
 /// What a step shows.
 #[derive(Drop)]

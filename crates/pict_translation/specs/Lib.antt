@@ -5,3 +5,4 @@ pub mod Simple
 pub mod Translation
 pub mod Depth
 pub mod Laws
+pub mod Within

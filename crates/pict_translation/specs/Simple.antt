@@ -10,10 +10,6 @@ use Rattle.pict_translation.specs.Patterns.{pat_names, names_before, names_after
 use Rattle.pict_core.specs.Plain.{vals_of}
 use Rattle.pict_translation.specs.Arguments.{labelled_of}
 
--- the record without fields
-abbrev pub unit : core.Val
-unit = core.Record core.no_vals core.no_labelled
-
 -- What is known at a place: the texts of all names, and the names that are bound around it with their core values,
 -- nearest first.
 pub record Around : Type 0 where
@@ -42,13 +38,17 @@ pat_bound p vs e = bound (pat_names e.names p) vs e
 abbrev pub function_bound : FieldPats → List core.Val → Around → Around
 function_bound f vs e = bound (names_after e.names f) (drop (length (names_before e.names f) + 1) vs) (bound (names_before e.names f) vs e)
 
+-- what stands where no program without scope stop has anything: a value without parts
+abbrev pub nothing : core.Val
+nothing = core.Boolean true
+
 abbrev pub answer_channel : List (List ℕ) → FieldPats → List core.Val → core.Val
-answer_channel names f vs = get_or vs (length (names_before names f)) unit
+answer_channel names f vs = get_or vs (length (names_before names f)) nothing
 
 -- A use is its nearest binder's value, or else the primitive of that text. A program without scope stop has no other use.
 abbrev pub or_primitive : List ℕ → Option core.Val → core.Val
 or_primitive text (Some v) = v
-or_primitive text None = unwrap_or (option_map core.PrimitiveVal (primitive_named text)) unit
+or_primitive text None = unwrap_or (option_map core.PrimitiveVal (primitive_named text)) nothing
 
 abbrev pub use_of : Around → ℕ → core.Val
 use_of e n = or_primitive (text_of e.names n) (value_at e.values n)

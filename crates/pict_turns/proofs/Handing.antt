@@ -2,6 +2,7 @@
 use Rattle.std.proofs.Common.{ℕ, suc, ◌+◌, ◌<◌, ◌≤◌, ◌≡◌, ◌==◌, ◌^◌, inl, inr, Bool, true, false, cond, List, [], ◌∷◌, ◌++◌, length, map, refl, sym, ap, ◌∙◌, subst, arith}
 use Rattle.std.proofs.lemmas.Bool.Decides.{nat_tests}
 use Rattle.std.specs.List.{AllByRecursion}
+use Rattle.pict_syntax.specs.declared.limits.TheConstants.{NARROW_LIMIT}
 use Rattle.pict_core.specs.Term.{Process}
 use Rattle.pict_code.specs.Nodes.{nodes_of}
 use Rattle.pict_frames.specs.Framed.{frame_words, node_words}
@@ -30,13 +31,13 @@ use Rattle.pict_turns.proofs.Turns.{frame_is, words_nobody, ready_nobody, nobody
 -- ---- a part gets the turn
 
 -- one whose frame would stand in a block itself
-pub hands_narrow : (core : Process) (s : Store) (number : ℕ) (frame : List ℕ) → HasFrame (nodes_of core) number frame → ArePairs s.heap s.values.items → length frame ≤ 32000
+pub hands_narrow : (core : Process) (s : Store) (number : ℕ) (frame : List ℕ) → HasFrame (nodes_of core) number frame → ArePairs s.heap s.values.items → length frame ≤ NARROW_LIMIT
     → HandsOn core s (record s { turn = NodeTurn number }) number frame
 hands_narrow core s number frame f pairs few = record {
   held = frame_words s.values.items frame;
   holds = narrow_holds s.heap s.values.items frame pairs few;
   turn = ap (λ (ls : List ℕ). node_words s.values.items number ls ∷ []) (frame_is core number f.node f.at ∙ f.is);
-  is = record { node = f.node; at = f.at; narrow = subst (λ (ls : List ℕ). length ls ≤ 32000) (sym f.is) few };
+  is = record { node = f.node; at = f.at; narrow = subst (λ (ls : List ℕ). length ls ≤ NARROW_LIMIT) (sym f.is) few };
   queues = refl;
   keeps = keeps_all s.heap;
   used = subst (UsesNeed s.heap.room s.heap.room) (sym (need_narrow frame few)) (uses_nothing s.heap.room);
@@ -46,7 +47,7 @@ hands_narrow core s number frame f pairs few = record {
 
 -- one of a larger frame, of which a record was made
 pub hands_wide : (core : Process) (s : Store) (heap : HeapState) (pending : Pending) (pair : ℕ × ℕ) (number : ℕ) (frame : List ℕ) → HasFrame (nodes_of core) number frame
-    → ArePairs s.heap s.values.items → 32000 < length frame → length frame < 2 ^ 32 → IsPair heap pair → fields_of (value_in heap pair.0 pair.1) ≡ map (known s.heap s.values.items) frame
+    → ArePairs s.heap s.values.items → NARROW_LIMIT < length frame → length frame < 2 ^ 32 → IsPair heap pair → fields_of (value_in heap pair.0 pair.1) ≡ map (known s.heap s.values.items) frame
     → KeepsWords s.heap heap → UsesNeed s.heap.room heap.room (record_need (length frame)) → KeepsPending s.pending pending
     → HandsOn core s (record s { heap = heap; pending = pending; turn = Wide number pair }) number frame
 hands_wide core s heap pending pair number frame f pairs many countable is fields keeps used kept =
@@ -57,7 +58,7 @@ hands_wide core s heap pending pair number frame f pairs many countable is field
       turn = refl;
       is = record {
         node = f.node;
-        wide = subst (λ (ls : List ℕ). 32000 < length ls) (sym f.is) many;
+        wide = subst (λ (ls : List ℕ). NARROW_LIMIT < length ls) (sym f.is) many;
         is = made_node core s.heap heap keeps s.values.items pairs number f.node (pair.0 ∷ pair.1 ∷ []) f.at
             (subst (λ (ls : List ℕ). HoldsFrame heap (known s.heap s.values.items) ls (pair.0 ∷ pair.1 ∷ [])) (sym f.is) holds);
         record_is = subst (λ (ls : List ℕ). HoldRecord heap (length ls) (pair.0 ∷ pair.1 ∷ [])) (sym f.is) (holds.wide many);

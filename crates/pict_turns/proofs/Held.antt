@@ -2,6 +2,7 @@
 use Rattle.std.proofs.Common.{ℕ, zero, suc, ◌+◌, ◌*◌, ◌≤◌, ◌≡◌, ◌||◌, eqb, Bool, true, false, List, [], ◌∷◌, length, map, drop, get_or, Vec, Global, refl, sym, ap, ◌∙◌, subst, arith}
 use Rattle.std.proofs.lemmas.Bool.Decides.{nat_tests}
 use Rattle.std.specs.List.{list_any}
+use Rattle.pict_syntax.specs.declared.limits.TheConstants.{NARROW_LIMIT}
 use Rattle.pict_code.specs.Levels.{Rises}
 use Rattle.pict_region.specs.RegionState.{RegionState, words_of}
 use Rattle.pict_queue.specs.QueuesState.{QueuesState}
@@ -78,7 +79,7 @@ pairs_read h before values frame o others pairs level = by_case (list_any (eqb l
 -- The values of levels were written by a frame's.
 pub has_read : (s : Store) (queues : QueuesState) (vec : Vec (ℕ × ℕ) Global) (words frame : List ℕ) (values : List (ℕ × ℕ)) → vec.items ≡ values → OnlyWorks s.queues queues
     → length values ≡ length s.values.items → ArePairs s.heap values → frame_values (value_in s.heap) (length frame) (drop 1 words) ≡ map (known s.heap values) frame
-    → (length frame ≤ 32000 → drop 1 words ≡ frame_words values frame)
+    → (length frame ≤ NARROW_LIMIT → drop 1 words ≡ frame_words values frame)
     → HasRead s (record { heap = s.heap; queues = queues; values = vec; pending = s.pending; turn = s.turn }) words frame
 has_read s queues vec words frame values is works levels pairs read same = record {
   values = read ∙ ap (λ (vs : List (ℕ × ℕ)). map (known s.heap vs) frame) (sym is);

@@ -2,6 +2,7 @@
 use Rattle.std.proofs.Common.{ℕ, zero, suc, ◌+◌, ◌-◌, ◌<◌, ◌≤◌, ◌≡◌, ◌≢◌, ◌==◌, inl, inr, Bool, true, false, List, [], ◌∷◌, length, map, refl, sym, ap, ◌∙◌, subst, arith, Some}
 use Rattle.std.proofs.lemmas.Bool.Decides.{nat_tests}
 use Rattle.std.specs.List.{AllByRecursion, slice_get}
+use Rattle.pict_syntax.specs.declared.limits.TheConstants.{NARROW_LIMIT}
 use Rattle.pict_core.specs.Term.{Val, Process}
 use Rattle.pict_core.specs.Step.{Label}
 use Rattle.pict_code.specs.Instruction.{Node}
@@ -52,12 +53,12 @@ module _ (core : Process) (old new : HeapState) (keeps : KeepsWords old new) (va
       let held_is : n.held ≡ b.frame = cc in
       let there : Some n.node ≡ Some node = sym n.at ∙ ap (slice_get (nodes_of core)) number_is ∙ b.at in
       let node_is : n.node ≡ node = cc in
-      let narrow : length node.frame ≤ 32000 → HoldWords old (length node.frame) b.frame =
-      subst (λ (x : Node). length x.frame ≤ 32000 → HoldWords old (length x.frame) b.frame) node_is
-      (subst (λ (ws : List ℕ). length n.node.frame ≤ 32000 → HoldWords old (length n.node.frame) ws) held_is n.narrow) in
-      let wide : 32000 < length node.frame → HoldRecord old (length node.frame) b.frame =
-      subst (λ (x : Node). 32000 < length x.frame → HoldRecord old (length x.frame) b.frame) node_is
-      (subst (λ (ws : List ℕ). 32000 < length n.node.frame → HoldRecord old (length n.node.frame) ws) held_is n.wide) in
+      let narrow : length node.frame ≤ NARROW_LIMIT → HoldWords old (length node.frame) b.frame =
+      subst (λ (x : Node). length x.frame ≤ NARROW_LIMIT → HoldWords old (length x.frame) b.frame) node_is
+      (subst (λ (ws : List ℕ). length n.node.frame ≤ NARROW_LIMIT → HoldWords old (length n.node.frame) ws) held_is n.narrow) in
+      let wide : NARROW_LIMIT < length node.frame → HoldRecord old (length node.frame) b.frame =
+      subst (λ (x : Node). NARROW_LIMIT < length x.frame → HoldRecord old (length x.frame) b.frame) node_is
+      (subst (λ (ws : List ℕ). NARROW_LIMIT < length n.node.frame → HoldRecord old (length n.node.frame) ws) held_is n.wide) in
       record {
         at = b.at;
         frame = b.frame;

@@ -2,6 +2,7 @@
 use Rattle.std.proofs.Common.{ℕ, suc, ◌+◌, ◌-◌, ◌*◌, ◌<◌, ◌≤◌, ◌≡◌, inl, inr, List, [], ◌∷◌, length, map, drop, get_or, refl, sym, ap, ◌∙◌, subst, arith, Some}
 use Rattle.std.proofs.lemmas.Option.{slice_get_within}
 use Rattle.std.specs.List.{AllByRecursion, slice_get}
+use Rattle.pict_syntax.specs.declared.limits.TheConstants.{NARROW_LIMIT}
 use Rattle.pict_core.specs.Term.{Process}
 use Rattle.pict_code.specs.Instruction.{Node}
 use Rattle.pict_code.specs.Nodes.{nodes_of}
@@ -55,7 +56,7 @@ node_read core s n number words frame x number_is f r =
             ∙ ap (map (known n.heap n.values.items)) (sym f.is);
       };
       same = λ few. words_are
-          ∙ ap (λ (us : List ℕ). suc number ∷ us) (sym held ∙ r.same (subst (λ (ls : List ℕ). length ls ≤ 32000) f.is few) ∙ ap (frame_words n.values.items) (sym f.is));
+          ∙ ap (λ (us : List ℕ). suc number ∷ us) (sym held ∙ r.same (subst (λ (ls : List ℕ). length ls ≤ NARROW_LIMIT) f.is few) ∙ ap (frame_words n.values.items) (sym f.is));
       rest = r.rest;
     }
 
@@ -77,7 +78,7 @@ read_frame_is core s n number words frame read f = same_frame (nodes_of core) nu
 -- ---- who has the turn with what was read
 
 module _ (core : Process) (s n : Store) (number : ℕ) (words : List ℕ) (x : IsNode core s.heap words) (number_is : x.number ≡ number) (read : HasReadNode core s n number words) where
-  pub narrow_taken : length read.node.frame ≤ 32000 → words_of_turn (nodes_of core) n.values.items (NodeTurn number) ≡ words ∷ []
+  pub narrow_taken : length read.node.frame ≤ NARROW_LIMIT → words_of_turn (nodes_of core) n.values.items (NodeTurn number) ≡ words ∷ []
   narrow_taken few =
       ap (λ (ls : List ℕ). node_words n.values.items number ls ∷ []) (frame_is core number read.node read.is.at) ∙ ap (λ (ws : List ℕ). ws ∷ []) (sym (read.same few))
 
@@ -86,16 +87,16 @@ module _ (core : Process) (s n : Store) (number : ℕ) (words : List ℕ) (x : I
       let there : Some x.node ≡ Some read.node = sym x.at ∙ ap (slice_get (nodes_of core)) number_is ∙ read.is.at in
       cc
 
-  pub record_held : 32000 < length read.node.frame → HoldRecord s.heap (length read.node.frame) x.held
-  record_held = subst (λ (y : Node). 32000 < length y.frame → HoldRecord s.heap (length y.frame) x.held) same_node x.wide
+  pub record_held : NARROW_LIMIT < length read.node.frame → HoldRecord s.heap (length read.node.frame) x.held
+  record_held = subst (λ (y : Node). NARROW_LIMIT < length y.frame → HoldRecord s.heap (length y.frame) x.held) same_node x.wide
 
-  pub narrow_turn_taken : length read.node.frame ≤ 32000 → IsNarrow core number
+  pub narrow_turn_taken : length read.node.frame ≤ NARROW_LIMIT → IsNarrow core number
   narrow_turn_taken few = record { node = read.node; at = read.is.at; narrow = few }
 
-  held_are : (many : 32000 < length read.node.frame) → words ≡ suc number ∷ (record_held many).pair.0 ∷ (record_held many).pair.1 ∷ []
+  held_are : (many : NARROW_LIMIT < length read.node.frame) → words ≡ suc number ∷ (record_held many).pair.0 ∷ (record_held many).pair.1 ∷ []
   held_are many = x.is ∙ ap (λ (k : ℕ). suc k ∷ x.held) number_is ∙ ap (λ (us : List ℕ). suc number ∷ us) (record_held many).is
 
-  module _ (many : 32000 < length read.node.frame) (pair : ℕ × ℕ) (ws : List ℕ) (words_are : words ≡ drop 1 ws) (first : pair.0 ≡ get_or ws 2 0) (second : pair.1 ≡ get_or ws 3 0) where
+  module _ (many : NARROW_LIMIT < length read.node.frame) (pair : ℕ × ℕ) (ws : List ℕ) (words_are : words ≡ drop 1 ws) (first : pair.0 ≡ get_or ws 2 0) (second : pair.1 ≡ get_or ws 3 0) where
     pub wide_held : words ≡ suc number ∷ pair.0 ∷ pair.1 ∷ []
     wide_held =
         let p = pair_behind ws number (record_held many).pair.0 (record_held many).pair.1 (sym words_are ∙ held_are many) in
@@ -125,9 +126,9 @@ reads_turn_after core s mid new block pairs works r =
 
 -- ---- what a block of who has the turn takes
 
--- a node of at most 32,000 levels
+-- a node of at most `NARROW_LIMIT` levels
 pub record NodeFits (core : Process) (s : Store) (number : ℕ) (frame : List ℕ) : Type 0 where
-  pub narrow : length frame ≤ 32000
+  pub narrow : length frame ≤ NARROW_LIMIT
   pub words : acting_words core s ≡ node_words s.values.items number frame
   pub long : length (node_words s.values.items number frame) + 1 ≡ 2 + 2 * length frame
   pub width : length (acting_words core s) + 1 ≡ 2 + 2 * length frame
@@ -138,7 +139,7 @@ node_fits core s a number e frame f =
     let many = length_frame_words s.values.items frame in
     let same = ap length words in
     record {
-      narrow = subst (λ (ls : List ℕ). length ls ≤ 32000) f.is (node_narrow core s a number e f.node f.at);
+      narrow = subst (λ (ls : List ℕ). length ls ≤ NARROW_LIMIT) f.is (node_narrow core s a number e f.node f.at);
       words = words;
       long = omega (arith, many);
       width = omega (arith, many, same);

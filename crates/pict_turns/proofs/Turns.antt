@@ -2,6 +2,7 @@
 use Rattle.std.proofs.Common.{ℕ, suc, ◌+◌, ◌<◌, ◌≤◌, ◌≡◌, inl, inr, List, [], ◌∷◌, ◌++◌, length, get_or, refl, sym, ap, ◌∙◌, subst, arith, Some, option_map, unwrap_or}
 use Rattle.std.proofs.lemmas.Option.{slice_get_within}
 use Rattle.std.specs.List.{AllByRecursion, slice_get}
+use Rattle.pict_syntax.specs.declared.limits.TheConstants.{NARROW_LIMIT}
 use Rattle.pict_core.specs.Term.{Process}
 use Rattle.pict_code.specs.Instruction.{Node, Op}
 use Rattle.pict_code.specs.Nodes.{nodes_of}
@@ -161,12 +162,12 @@ module _ (core : Process) (s : Store) where
       node_inside = let n = narrow_turn in slice_get_within (nodes_of core) number n.node n.at
 
       -- the frame of the node stands in a block itself
-      pub node_narrow : (node : Node) → slice_get (nodes_of core) number ≡ Some node → length node.frame ≤ 32000
+      pub node_narrow : (node : Node) → slice_get (nodes_of core) number ≡ Some node → length node.frame ≤ NARROW_LIMIT
       node_narrow node at =
           let n = narrow_turn in
           let there : Some n.node ≡ Some node = sym n.at ∙ at in
           let same : n.node ≡ node = cc in
-          subst (λ (x : Node). length x.frame ≤ 32000) same n.narrow
+          subst (λ (x : Node). length x.frame ≤ NARROW_LIMIT) same n.narrow
 
       pub node_width : (frame : List ℕ) → HasFrame (nodes_of core) number frame → length (acting_words core s) + 1 ≡ block_width frame
       node_width frame f =
@@ -177,7 +178,7 @@ module _ (core : Process) (s : Store) where
           let w = width_narrow frame (omega (arith, same, few)) in
           omega (arith, words, many, same, w)
 
-      -- a node of at most 32,000 levels acts
+      -- a node of at most `NARROW_LIMIT` levels acts
       pub acts_node : (node : Node) (op : Op) → slice_get (nodes_of core) number ≡ Some node → node.op ≡ op → ActsBy core s op
       acts_node node op at is = record {
         acting = a;
@@ -205,7 +206,7 @@ module _ (core : Process) (s : Store) where
       pub wide_width : (frame : List ℕ) → HasFrame (nodes_of core) number frame → length (acting_words core s) + 1 ≡ block_width frame
       wide_width frame f =
           let words : length (acting_words core s) ≡ 3 = ap length wide_words_are in
-          let many : 32000 < length f.node.frame = subst (λ (x : Node). 32000 < length x.frame) (wide_node f.node f.at) wide_turn.wide in
+          let many : NARROW_LIMIT < length f.node.frame = subst (λ (x : Node). NARROW_LIMIT < length x.frame) (wide_node f.node f.at) wide_turn.wide in
           let same = ap length f.is in
           let w = width_wide frame (omega (arith, same, many)) in
           omega (arith, words, w)

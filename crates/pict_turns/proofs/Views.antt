@@ -2,6 +2,7 @@
 use Rattle.std.proofs.Common.{ℕ, zero, suc, ◌+◌, ◌<◌, ◌≤◌, ◌≡◌, ◌≢◌, inl, inr, Bool, true, false, cond, nat_lt, List, [], ◌∷◌, length, map, refl, sym, ap, ◌∙◌, arith, Some}
 use Rattle.std.proofs.lemmas.Bool.Decides.{nat_tests}
 use Rattle.std.specs.List.{AllByRecursion, slice_get, slice_set}
+use Rattle.pict_syntax.specs.declared.limits.TheConstants.{NARROW_LIMIT}
 use Rattle.pict_core.specs.Term.{Val, Process, Out}
 use Rattle.pict_code.specs.Frames.{frame_of}
 use Rattle.pict_code.specs.Instruction.{Node}
@@ -50,15 +51,15 @@ module _ (old new : HeapState) (keeps : KeepsWords old new) where
       let f : y ≡ r.pair.1 = let h = r.is in cc in
       ap (λ a. value_in new a y) e ∙ ap (λ b. value_in new r.pair.0 b) f ∙ value_stays r.pair r.word ∙ sym (ap (λ a. value_in old a y) e ∙ ap (λ b. value_in old r.pair.0 b) f)
 
-  frame_by : (n x y : ℕ) (ws : List ℕ) (b : Bool) → nat_lt 32000 n ≡ b → (n ≤ 32000 → HoldWords old n (x ∷ y ∷ ws)) → (32000 < n → HoldRecord old n (x ∷ y ∷ ws))
+  frame_by : (n x y : ℕ) (ws : List ℕ) (b : Bool) → nat_lt NARROW_LIMIT n ≡ b → (n ≤ NARROW_LIMIT → HoldWords old n (x ∷ y ∷ ws)) → (NARROW_LIMIT < n → HoldRecord old n (x ∷ y ∷ ws))
       → cond b (fields_of (value_in new x y)) (values_of (value_in new) (x ∷ y ∷ ws)) ≡ cond b (fields_of (value_in old x y)) (values_of (value_in old) (x ∷ y ∷ ws))
-  frame_by n x y ws true e narrow wide = let many : 32000 < n = grind (arith, nat_tests) in ap fields_of (one_record n x y ws (wide many))
-  frame_by n x y ws false e narrow wide = let few : n ≤ 32000 = grind (arith, nat_tests) in values_stay n (x ∷ y ∷ ws) (narrow few)
+  frame_by n x y ws true e narrow wide = let many : NARROW_LIMIT < n = grind (arith, nat_tests) in ap fields_of (one_record n x y ws (wide many))
+  frame_by n x y ws false e narrow wide = let few : n ≤ NARROW_LIMIT = grind (arith, nat_tests) in values_stay n (x ∷ y ∷ ws) (narrow few)
 
-  pub frame_stays : (n : ℕ) (ws : List ℕ) → (n ≤ 32000 → HoldWords old n ws) → (32000 < n → HoldRecord old n ws) → frame_values (value_in new) n ws ≡ frame_values (value_in old) n ws
+  pub frame_stays : (n : ℕ) (ws : List ℕ) → (n ≤ NARROW_LIMIT → HoldWords old n ws) → (NARROW_LIMIT < n → HoldRecord old n ws) → frame_values (value_in new) n ws ≡ frame_values (value_in old) n ws
   frame_stays n [] narrow wide = refl
   frame_stays n (x ∷ []) narrow wide = refl
-  frame_stays n (x ∷ y ∷ ws) narrow wide = frame_by n x y ws (nat_lt 32000 n) refl narrow wide
+  frame_stays n (x ∷ y ∷ ws) narrow wide = frame_by n x y ws (nat_lt NARROW_LIMIT n) refl narrow wide
 
   pub frame_held : (value : ℕ → Val) (frame held : List ℕ) → HoldsFrame old value frame held → HoldsFrame new value frame held
   frame_held value frame held h = record {

@@ -1,5 +1,6 @@
 -- Blocks hold the values of frames, by words of the heap.
 use Rattle.std.specs.Prelude.{◌≡◌, ◌≤◌, ◌<◌, ◌^◌, ℕ, zero, suc, List, [], ◌∷◌, length, map}
+use Rattle.pict_syntax.specs.declared.limits.TheConstants.{NARROW_LIMIT}
 use Rattle.pict_core.specs.Term.{Val}
 use Rattle.pict_heap.specs.HeapState.{HeapState}
 use Rattle.pict_blocks.specs.Blocks.{value_in, fields_of, frame_values}
@@ -19,9 +20,9 @@ pub record HoldRecord (h : HeapState) (n : ℕ) (ws : List ℕ) : Type 0 where
   pub many : length (fields_of (value_in h pair.0 pair.1)) ≡ n
   pub few : n < 2 ^ 32
 
--- behind its number a block holds these values for the levels of a frame: themselves, or where there are more than 32,000 one
--- record of them
+-- behind its number a block holds these values for the levels of a frame: themselves, or where there are more than
+-- `NARROW_LIMIT` one record of them
 pub record HoldsFrame (h : HeapState) (value : ℕ → Val) (frame held : List ℕ) : Type 0 where
   pub values : frame_values (value_in h) (length frame) held ≡ map value frame
-  pub narrow : length frame ≤ 32000 → HoldWords h (length frame) held
-  pub wide : 32000 < length frame → HoldRecord h (length frame) held
+  pub narrow : length frame ≤ NARROW_LIMIT → HoldWords h (length frame) held
+  pub wide : NARROW_LIMIT < length frame → HoldRecord h (length frame) held

@@ -1,5 +1,6 @@
 -- The parts of a node: one has the turn, others stand in blocks.
 use Rattle.std.specs.Prelude.{◌≡◌, ◌≤◌, ◌+◌, ◌*◌, ◌==◌, ◌⊎◌, ◌++◌, ℕ, suc, nat_lt, List, [], ◌∷◌, length, if◌then◌else◌}
+use Rattle.pict_syntax.specs.declared.limits.TheConstants.{NARROW_LIMIT}
 use Rattle.pict_core.specs.Term.{Process}
 use Rattle.pict_queue.specs.Contents.{contents, KeepsOtherContents}
 use Rattle.pict_region.specs.RegionState.{spare}
@@ -16,11 +17,11 @@ use Rattle.pict_turns.specs.declared.store.Store.{Store}
 
 -- the width of a block for a frame: two words a level, or those of one record
 abbrev pub block_width : List ℕ → ℕ
-block_width frame = if nat_lt 32000 (length frame) then 4 else 2 + 2 * length frame
+block_width frame = if nat_lt NARROW_LIMIT (length frame) then 4 else 2 + 2 * length frame
 
 -- what a block for a frame needs of the heap
 abbrev pub frame_need : List ℕ → Need
-frame_need frame = if nat_lt 32000 (length frame) then record_need (length frame) else no_need
+frame_need frame = if nat_lt NARROW_LIMIT (length frame) then record_need (length frame) else no_need
 
 -- there is a free block for the frame, and room for its record where it needs one
 pub record CanHold (s : Store) (frame : List ℕ) : Type 0 where

@@ -1,5 +1,6 @@
 -- The frame of a node, read out of its block.
 use Rattle.std.specs.Prelude.{◌≡◌, ◌≤◌, ℕ, List, map, length, drop, Some, slice_get}
+use Rattle.pict_syntax.specs.declared.limits.TheConstants.{NARROW_LIMIT}
 use Rattle.pict_core.specs.Term.{Process}
 use Rattle.pict_code.specs.Instruction.{Node}
 use Rattle.pict_frames.specs.Framed.{frame_words, node_words}
@@ -27,12 +28,12 @@ pub record OnlyReads (old new : Store) : Type 0 where
 -- those of each level.
 pub record HasRead (old new : Store) (words frame : List ℕ) : Type 0 where
   pub values : frame_values (value_in new.heap) (length frame) (drop 1 words) ≡ map (known new.heap new.values.items) frame
-  pub same : length frame ≤ 32000 → drop 1 words ≡ frame_words new.values.items frame
+  pub same : length frame ≤ NARROW_LIMIT → drop 1 words ≡ frame_words new.values.items frame
   pub rest : OnlyReads old new
 
 -- The levels of the node's frame have the values that its block holds, and the very words where it holds those of each level.
 pub record HasReadNode (core : Process) (old new : Store) (number : ℕ) (words : List ℕ) : Type 0 where
   pub node : Node
   pub is : IsNodeBlock core new.heap new.values.items number node words
-  pub same : length node.frame ≤ 32000 → words ≡ node_words new.values.items number node.frame
+  pub same : length node.frame ≤ NARROW_LIMIT → words ≡ node_words new.values.items number node.frame
   pub rest : OnlyReads old new

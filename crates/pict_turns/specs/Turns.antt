@@ -1,5 +1,6 @@
 -- Who may have the turn, how it is taken, and what it costs to take it or to set it down.
 use Rattle.std.specs.Prelude.{◌≡◌, ◌≤◌, ◌<◌, ◌+◌, ℕ, suc, List, [], ◌∷◌, length, Some, slice_get}
+use Rattle.pict_syntax.specs.declared.limits.TheConstants.{NARROW_LIMIT}
 use Rattle.pict_core.specs.Term.{Process}
 use Rattle.pict_code.specs.Instruction.{Node}
 use Rattle.pict_code.specs.Nodes.{nodes_of}
@@ -19,12 +20,12 @@ use Rattle.pict_turns.specs.declared.turn.Turn.TheVariants.{Nobody, Node as Node
 pub record IsNarrow (core : Process) (number : ℕ) : Type 0 where
   pub node : Node
   pub at : slice_get (nodes_of core) number ≡ Some node
-  pub narrow : length node.frame ≤ 32000
+  pub narrow : length node.frame ≤ NARROW_LIMIT
 
 -- a node of a larger frame, whose values are those of the levels of its frame, and the fields of the record
 pub record IsWide (core : Process) (h : HeapState) (values : List (ℕ × ℕ)) (number : ℕ) (pair : ℕ × ℕ) : Type 0 where
   pub node : Node
-  pub wide : 32000 < length node.frame
+  pub wide : NARROW_LIMIT < length node.frame
   pub is : IsNodeBlock core h values number node (suc number ∷ pair.0 ∷ pair.1 ∷ [])
   pub record_is : HoldRecord h (length node.frame) (pair.0 ∷ pair.1 ∷ [])
 

@@ -1,6 +1,7 @@
 -- The view of a store: what the blocks of its queues stand for, and who has the turn.
 use Rattle.std.specs.Prelude.{◌≡◌, ◌≤◌, ◌<◌, ◌+◌, ◌-◌, ◌⊎◌, ℕ, zero, suc, Bool, List, [], ◌∷◌, ◌++◌, length, Some, slice_get, slice_index_or, option_map, unwrap_or}
 use Rattle.std.specs.List.{AllByRecursion}
+use Rattle.pict_syntax.specs.declared.limits.TheConstants.{NARROW_LIMIT}
 use Rattle.pict_core.specs.Term.{Process, Val}
 use Rattle.pict_code.specs.Instruction.{Node, CodePat}
 use Rattle.pict_code.specs.Nodes.{nodes_of, input_op}
@@ -69,8 +70,8 @@ pub record IsNode (core : Process) (h : HeapState) (words : List ℕ) : Type 0 w
   pub at : slice_get (nodes_of core) number ≡ Some node
   pub held : List ℕ
   pub is : words ≡ suc number ∷ held
-  pub narrow : length node.frame ≤ 32000 → HoldWords h (length node.frame) held
-  pub wide : 32000 < length node.frame → HoldRecord h (length node.frame) held
+  pub narrow : length node.frame ≤ NARROW_LIMIT → HoldWords h (length node.frame) held
+  pub wide : NARROW_LIMIT < length node.frame → HoldRecord h (length node.frame) held
 
 -- a block of an output of kept values
 pub record IsKept (h : HeapState) (words : List ℕ) : Type 0 where

@@ -11,7 +11,7 @@ mod turn;
 mod turning;
 
 pub use nodes::{choose, end, fork, make_channel};
-pub use parts::{NARROW, make_ready, spawn_part};
+pub use parts::{make_ready, spawn_part};
 pub use reading::{frame_at, read_first};
 pub use reserving::{KEPT_WIDTH, block_width, reserve, reserve_kept, reserve_part, reserve_room};
 pub use store::Store;

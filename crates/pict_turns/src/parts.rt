@@ -15,14 +15,12 @@ use pict_frames::block_of;
 use pict_operands::frame_record;
 use pict_queue::QueueId;
 use pict_region::Block;
-
-/// A frame of at most so many levels stands in a block itself, a larger one in a record.
-pub const NARROW: usize = 32_000;
+use pict_syntax::NARROW_LIMIT;
 
 // A new block of the node with this number, with the values of its frame, which stands in the block.
 #[inline(always)]
 fn make_narrow(store: &mut Store, number: u32, frame: &[u32]) -> Block
-    requires narrow { length frame.now ≤ 32000 }
+    requires narrow { length frame.now ≤ NARROW_LIMIT }
     requires can { CanHold store.old frame.now }
     requires inside { All (λ level. level < length store.old.values.items) frame.now }
     requires pairs { ArePairs store.old.heap store.old.values.items }
@@ -35,7 +33,7 @@ fn make_narrow(store: &mut Store, number: u32, frame: &[u32]) -> Block
 // The same of a frame that stands in a record.
 #[cold]
 fn make_wide(store: &mut Store, number: u32, frame: &[u32]) -> Block
-    requires wide { 32000 < length frame.now }
+    requires wide { NARROW_LIMIT < length frame.now }
     requires can { CanHold store.old frame.now }
     requires inside { All (λ level. level < length store.old.values.items) frame.now }
     requires pairs { ArePairs store.old.heap store.old.values.items }
@@ -55,7 +53,7 @@ fn make_part(store: &mut Store, number: u32, frame: &[u32]) -> Block
     ensures part { IsPart store.old store.new result number frame.now }
     ensures cost { CostsAtMost (block_width frame.now) store.old.queues store.new.queues }
 {
-    if frame.len() <= NARROW {
+    if frame.len() <= NARROW_LIMIT as usize {
         make_narrow(store, number, frame)
     } else {
         make_wide(store, number, frame)
@@ -82,7 +80,7 @@ pub fn spawn_part(store: &mut Store, number: u32, frame: &[u32])
 // The node with this number, of a larger frame, has the turn.
 #[cold]
 fn hand_on_wide(store: &mut Store, number: u32, frame: &[u32])
-    requires wide { 32000 < length frame.now }
+    requires wide { NARROW_LIMIT < length frame.now }
     requires can { CanHold store.old frame.now }
     requires inside { All (λ level. level < length store.old.values.items) frame.now }
     requires pairs { ArePairs store.old.heap store.old.values.items }
@@ -103,7 +101,7 @@ pub(crate) fn hand_on(store: &mut Store, number: u32, frame: &[u32])
     ensures hands { (core : Process) → HasFrame (nodes_of core) number frame.now → HandsOn core store.old store.new number frame.now }
     ensures queues { store.new.queues ≡ store.old.queues }
 {
-    if frame.len() <= NARROW {
+    if frame.len() <= NARROW_LIMIT as usize {
         store.turn = Turn::Node(number as usize);
     } else {
         hand_on_wide(store, number, frame);

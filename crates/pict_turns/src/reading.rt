@@ -13,13 +13,13 @@ ghost use Rattle.pict_turns.specs.Parts.{block_width};
 ghost use Rattle.pict_turns.specs.Reading.{HasFrame, HasRead, HasReadNode};
 ghost use Rattle.pict_turns.specs.Views.{IsNode};
 
-use crate::parts::NARROW;
 use crate::store::Store;
 use pict_code::Node;
 use pict_frames::read_frame;
 use pict_operands::read_record;
 use pict_queue::{QueueId, Queues};
 use pict_region::Block;
+use pict_syntax::NARROW_LIMIT;
 
 /// The frame of the node with this number.
 #[inline(always)]
@@ -33,7 +33,7 @@ pub fn frame_at(code: &[Node], number: usize) -> &[u32]
 // A frame whose values stand in the block itself.
 #[inline(always)]
 pub(crate) fn read_narrow(store: &mut Store, block: &Block, frame: &[u32])
-    requires narrow { length frame.now ≤ 32000 }
+    requires narrow { length frame.now ≤ NARROW_LIMIT }
     requires held { IsHeld store.old.queues block.now }
     requires inside { All (λ level. level < length store.old.values.items) frame.now }
     requires rising { Rises 0 frame.now }
@@ -49,7 +49,7 @@ pub(crate) fn read_narrow(store: &mut Store, block: &Block, frame: &[u32])
 // A frame whose values stand in a record, of which the result is the two words.
 #[cold]
 pub(crate) fn read_wide(store: &mut Store, block: &Block, frame: &[u32]) -> (u64, u64)
-    requires wide { 32000 < length frame.now }
+    requires wide { NARROW_LIMIT < length frame.now }
     requires held { IsHeld store.old.queues block.now }
     requires inside { All (λ level. level < length store.old.values.items) frame.now }
     requires rising { Rises 0 frame.now }
@@ -71,7 +71,7 @@ pub(crate) fn read_wide(store: &mut Store, block: &Block, frame: &[u32]) -> (u64
 // A frame whose values stand in the block itself.
 #[inline(always)]
 fn read_first_narrow(store: &mut Store, queue: QueueId, frame: &[u32])
-    requires narrow { length frame.now ≤ 32000 }
+    requires narrow { length frame.now ≤ NARROW_LIMIT }
     requires queue { IsQueue store.old.queues queue.0 }
     requires inside { All (λ level. level < length store.old.values.items) frame.now }
     requires rising { Rises 0 frame.now }
@@ -103,7 +103,7 @@ fn first_word(queues: &mut Queues, queue: QueueId, i: u32) -> u64
 // A frame whose values stand in a record.
 #[cold]
 fn read_first_wide(store: &mut Store, queue: QueueId, frame: &[u32])
-    requires wide { 32000 < length frame.now }
+    requires wide { NARROW_LIMIT < length frame.now }
     requires queue { IsQueue store.old.queues queue.0 }
     requires inside { All (λ level. level < length store.old.values.items) frame.now }
     requires rising { Rises 0 frame.now }
@@ -130,7 +130,7 @@ pub fn read_first(store: &mut Store, code: &[Node], queue: QueueId, number: usiz
     ensures cost { (frame : List ℕ) → HasFrame (map plain_node code.now) number frame → CostsAtMost (block_width frame) store.old.queues store.new.queues }
 {
     let frame = frame_at(code, number);
-    if frame.len() <= NARROW {
+    if frame.len() <= NARROW_LIMIT as usize {
         read_first_narrow(store, queue, frame);
     } else {
         read_first_wide(store, queue, frame);

@@ -6,10 +6,10 @@ ghost use Rattle.pict_turns.specs.Parts.{block_width, frame_need};
 ghost use Rattle.pict_turns.specs.Reserving.{CanHoldAnd, CanHoldBoth, OnlyReserves};
 ghost use Rattle.pict_turns.specs.Widths.{MakesOnly};
 
-use crate::parts::NARROW;
 use crate::store::Store;
 use pict_operands::both;
 use pict_prim::Need;
+use pict_syntax::NARROW_LIMIT;
 use std::alloc::AllocError;
 
 /// The width of a block of an output of kept values, in words.
@@ -20,7 +20,7 @@ pub const KEPT_WIDTH: u32 = 9;
 fn frame_need(frame: &[u32]) -> Need
     ensures { result ≡ frame_need frame.now }
 {
-    if frame.len() <= NARROW {
+    if frame.len() <= NARROW_LIMIT as usize {
         Need {
             records: 0,
             fields: 0,
@@ -40,7 +40,7 @@ fn frame_need(frame: &[u32]) -> Need
 // The width of a block for a frame that stands in the block itself, in words.
 #[inline(always)]
 fn narrow_width(frame: &[u32]) -> u32
-    requires { length frame.now ≤ 32000 }
+    requires { length frame.now ≤ NARROW_LIMIT }
     ensures value { result ≡ block_width frame.now }
     ensures positive { 2 ≤ result }
     ensures narrow { result ≤ 65535 }
@@ -55,7 +55,7 @@ pub fn block_width(frame: &[u32]) -> u32
     ensures positive { 2 ≤ result }
     ensures narrow { result ≤ 65535 }
 {
-    if frame.len() <= NARROW {
+    if frame.len() <= NARROW_LIMIT as usize {
         narrow_width(frame)
     } else {
         4
@@ -141,11 +141,11 @@ fn reserve_part_and(store: &mut Store, frame: &[u32], further: Need) -> Result<(
 #[inline(always)]
 pub fn reserve_part(store: &mut Store, frame: &[u32], further: Need) -> Result<(), AllocError>
     ensures ok { OnOk result (CanHoldAnd store.new frame.now further) }
-    ensures enough { length frame.now ≤ 32000 → further ≡ no_need → 1 ≤ spare store.old.queues.region (block_width frame.now) → IsOk result }
+    ensures enough { length frame.now ≤ NARROW_LIMIT → further ≡ no_need → 1 ≤ spare store.old.queues.region (block_width frame.now) → IsOk result }
     ensures most { MakesOnly store.old.queues store.new.queues (block_width frame.now ∷ []) }
     ensures rest { OnlyReserves store.old store.new }
 {
-    if frame.len() <= NARROW && is_nothing(further) {
+    if frame.len() <= NARROW_LIMIT as usize && is_nothing(further) {
         store.queues.reserve(narrow_width(frame), 1)
     } else {
         reserve_part_and(store, frame, further)
@@ -197,7 +197,7 @@ pub(crate) fn reserve_parts(
     ensures most { MakesOnly store.old.queues store.new.queues (block_width first.now ∷ block_width second.now ∷ []) }
     ensures rest { OnlyReserves store.old store.new }
 {
-    if first.len() <= NARROW && second.len() <= NARROW {
+    if first.len() <= NARROW_LIMIT as usize && second.len() <= NARROW_LIMIT as usize {
         reserve_blocks(store, narrow_width(first), narrow_width(second))
     } else {
         reserve_wide_parts(store, first, second)

@@ -8,8 +8,8 @@ pub enum Turn {
     Nobody,
     /// The node with this number. The levels of its frame have its values.
     Node(usize),
-    /// The node with this number, whose frame has more than 32,000 levels. They have its values, which are the fields of the
-    /// record of these two words as well.
+    /// The node with this number, whose frame has more than `NARROW_LIMIT` levels. They have its values, which are the fields
+    /// of the record of these two words as well.
     Wide(usize, (u64, u64)),
     /// An output of kept values.
     Output(Kept),

@@ -12,7 +12,6 @@ ghost use Rattle.pict_turns.specs.Reading.{HasFrame};
 ghost use Rattle.pict_turns.specs.Turns.{ReadsTurn, TakesTurn, turn_cost};
 ghost use Rattle.pict_turns.specs.Views.{IsNode, IsKept, IsBlock, acting_words, ready_words};
 
-use crate::parts::NARROW;
 use crate::reading::{frame_at, read_narrow, read_wide};
 use crate::store::Store;
 use crate::turn::Turn;
@@ -20,6 +19,7 @@ use pict_code::Node;
 use pict_frames::{block_of, kept_block, read_kept};
 use pict_queue::QueueId;
 use pict_region::Block;
+use pict_syntax::NARROW_LIMIT;
 
 /// The first of queue 0, where nobody has the turn, has it now, and its block is free. Takes no memory, and time in the levels of
 /// its frame.
@@ -54,7 +54,8 @@ fn read_output(store: &mut Store, block: &Block)
     store.turn = Turn::Output(read_kept(&mut store.queues, block));
 }
 
-// The process of a node's held block, whose frame is of more than 32,000 levels, has the turn. The levels get its values.
+// The process of a node's held block, whose frame is of more than `NARROW_LIMIT` levels, has the turn. The levels get its
+// values.
 #[cold]
 #[inline(never)]
 fn read_wide_node(store: &mut Store, code: &[Node], block: &Block, number: usize)
@@ -62,7 +63,7 @@ fn read_wide_node(store: &mut Store, code: &[Node], block: &Block, number: usize
     requires store { IsStore (core_in code.now) store.old }
     requires held { IsHeld store.old.queues block.now }
     requires is { (n : IsNode (core_in code.now) store.old.heap (held_words store.old.queues.region block.now)) × (n.number ≡ number) }
-    requires wide { (frame : List ℕ) → HasFrame (map plain_node code.now) number frame → 32000 < length frame }
+    requires wide { (frame : List ℕ) → HasFrame (map plain_node code.now) number frame → NARROW_LIMIT < length frame }
     ensures read { ReadsTurn (core_in code.now) store.old store.new (held_words store.old.queues.region block.now) }
     ensures cost { CostsAtMost 2 store.old.queues store.new.queues }
 {
@@ -81,7 +82,7 @@ fn read_node(store: &mut Store, code: &[Node], block: &Block, number: usize)
     ensures cost { CostsAtMost (length (held_words store.old.queues.region block.now) + 1) store.old.queues store.new.queues }
 {
     let frame = frame_at(code, number);
-    if frame.len() <= NARROW {
+    if frame.len() <= NARROW_LIMIT as usize {
         read_narrow(store, block, frame);
         store.turn = Turn::Node(number);
     } else {
@@ -107,7 +108,7 @@ fn read_turn(store: &mut Store, code: &[Node], block: &Block)
     }
 }
 
-// The same as `set_down` where an output or a node of more than 32,000 levels has the turn.
+// The same as `set_down` where an output or a node of more than `NARROW_LIMIT` levels has the turn.
 #[inline(never)]
 fn set_down_other(store: &mut Store, code: &[Node]) -> Block
     requires code { IsCode (map plain_node code.now) }

@@ -78,7 +78,7 @@ mutual
   formed_bound_renamed ns (Operator n) h w = tt
 
 -- one more variable in front
-one_more_kind : (j : Kind) (js : List Kind) → KeepsKinds suc js (j ∷ js)
+pub one_more_kind : (j : Kind) (js : List Kind) → KeepsKinds suc js (j ∷ js)
 one_more_kind j js = record { each = λ i k q. q }
 
 pub kind_bound_by : (t : PlainType) → kind_by (bound_by t) ≡ proper
@@ -143,7 +143,7 @@ count_filled : (s : Filling) (ts : PlainTypes) → count_types (fill_types s ts)
 count_filled s no_type = refl
 count_filled s (types t ts) = ap suc (count_filled s ts)
 
-before_filled : (ns : List (List ℕ)) (s : Filling) (l : ℕ) (ls : PlainLabels) → StandsBeforeAll ns l ls → StandsBeforeAll ns l (fill_labels s ls)
+pub before_filled : (ns : List (List ℕ)) (s : Filling) (l : ℕ) (ls : PlainLabels) → StandsBeforeAll ns l ls → StandsBeforeAll ns l (fill_labels s ls)
 before_filled ns s l no_label h = tt
 before_filled ns s l (labels m t ls) h = (h.0, before_filled ns s l ls h.1)
 
@@ -211,7 +211,7 @@ fills_types {ns = ns} {s = s} {ks = ks} {js = js} (suc n) (types t ts) e w h =
 fills_itself : (ns : List (List ℕ)) (ks : List Kind) → FillsKinds ns no_filling ks ks
 fills_itself ns ks = record { types_ = λ i q. q; heads_ = λ i n q. q }
 
-keeps_parameters : (m : ℕ) {f : ℕ → ℕ} {ks js : List Kind} → KeepsKinds f ks js → KeepsKinds (beyond_times m f) (with_parameters m ks) (with_parameters m js)
+pub keeps_parameters : (m : ℕ) {f : ℕ → ℕ} {ks js : List Kind} → KeepsKinds f ks js → KeepsKinds (beyond_times m f) (with_parameters m ks) (with_parameters m js)
 keeps_parameters zero h = h
 keeps_parameters (suc m) h = keeps_beyond refl (keeps_parameters m h)
 

@@ -26,3 +26,4 @@ pub mod Items
 pub mod Past
 pub mod Within
 mod Worked
+pub mod Bodies

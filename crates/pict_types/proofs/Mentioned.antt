@@ -145,14 +145,14 @@ closed_replaced r t h n = replace_agrees t (all_alike r no_replacement) h ∙ re
 pub record Comes (p q : ℕ → Bool) (f : ℕ → ℕ) : Type 0 where
   pub each : (i : ℕ) → p (f i) ≡ q i
 
-comes_beyond : {p q : ℕ → Bool} {f : ℕ → ℕ} → Comes p q f → Comes (outside p) (outside q) (beyond f)
+pub comes_beyond : {p q : ℕ → Bool} {f : ℕ → ℕ} → Comes p q f → Comes (outside p) (outside q) (beyond f)
 comes_beyond {p = p} {q = q} {f = f} x = record { each = go }
   where
     go : (i : ℕ) → outside p (beyond f i) ≡ outside q i
     go zero = refl
     go (suc i) = x.each i
 
-comes_under : {p q : ℕ → Bool} {f : ℕ → ℕ} (bs : PlainBounds) → Comes p q f → Comes (outside_all (rename_bounds f bs) p) (outside_all bs q) (beyond_all bs f)
+pub comes_under : {p q : ℕ → Bool} {f : ℕ → ℕ} (bs : PlainBounds) → Comes p q f → Comes (outside_all (rename_bounds f bs) p) (outside_all bs q) (beyond_all bs f)
 comes_under no_bound x = x
 comes_under (bounds b bs) x = comes_under bs (comes_beyond x)
 
@@ -170,15 +170,15 @@ mutual
       ap₂ (λ a b. a || b) (mentions_bounds_renamed bs x) (ap₂ (λ a b. a || b) (mentions_types_renamed ps (comes_under bs x)) (mentions_labels_renamed ls (comes_under bs x)))
   mentions_renamed (Rec t) x = mentions_renamed t (comes_beyond x)
 
-  mentions_types_renamed : {p q : ℕ → Bool} {f : ℕ → ℕ} (ts : PlainTypes) → Comes p q f → mentions_types p (rename_types f ts) ≡ mentions_types q ts
+  pub mentions_types_renamed : {p q : ℕ → Bool} {f : ℕ → ℕ} (ts : PlainTypes) → Comes p q f → mentions_types p (rename_types f ts) ≡ mentions_types q ts
   mentions_types_renamed no_type x = refl
   mentions_types_renamed (types t ts) x = ap₂ (λ a b. a || b) (mentions_renamed t x) (mentions_types_renamed ts x)
 
-  mentions_labels_renamed : {p q : ℕ → Bool} {f : ℕ → ℕ} (ls : PlainLabels) → Comes p q f → mentions_labels p (rename_labels f ls) ≡ mentions_labels q ls
+  pub mentions_labels_renamed : {p q : ℕ → Bool} {f : ℕ → ℕ} (ls : PlainLabels) → Comes p q f → mentions_labels p (rename_labels f ls) ≡ mentions_labels q ls
   mentions_labels_renamed no_label x = refl
   mentions_labels_renamed (labels l t ls) x = ap₂ (λ a b. a || b) (mentions_renamed t x) (mentions_labels_renamed ls x)
 
-  mentions_bounds_renamed : {p q : ℕ → Bool} {f : ℕ → ℕ} (bs : PlainBounds) → Comes p q f → mentions_bounds p (rename_bounds f bs) ≡ mentions_bounds q bs
+  pub mentions_bounds_renamed : {p q : ℕ → Bool} {f : ℕ → ℕ} (bs : PlainBounds) → Comes p q f → mentions_bounds p (rename_bounds f bs) ≡ mentions_bounds q bs
   mentions_bounds_renamed no_bound x = refl
   mentions_bounds_renamed (bounds b bs) x = ap₂ (λ a b. a || b) (mentions_bound_renamed b x) (mentions_bounds_renamed bs (comes_beyond x))
 
@@ -191,10 +191,10 @@ pub renamed_mentions : (p : ℕ → Bool) (f : ℕ → ℕ) (t : PlainType) → 
 renamed_mentions p f t = mentions_renamed t (record { each = λ i. refl })
 
 -- no type mentions none of the variables
-record MarksNone (p : ℕ → Bool) : Type 0 where
-  each : (i : ℕ) → p i ≡ false
+pub record MarksNone (p : ℕ → Bool) : Type 0 where
+  pub each : (i : ℕ) → p i ≡ false
 
-none_beyond : {p : ℕ → Bool} → MarksNone p → MarksNone (outside p)
+pub none_beyond : {p : ℕ → Bool} → MarksNone p → MarksNone (outside p)
 none_beyond {p = p} x = record { each = go }
   where
     go : (i : ℕ) → outside p i ≡ false
@@ -209,7 +209,7 @@ pub neither : {a b : Bool} → a ≡ false → b ≡ false → (a || b) ≡ fals
 neither h k = ap₂ (λ a b. a || b) h k
 
 mutual
-  mentions_no : {p : ℕ → Bool} (t : PlainType) → MarksNone p → mentions p t ≡ false
+  pub mentions_no : {p : ℕ → Bool} (t : PlainType) → MarksNone p → mentions p t ≡ false
   mentions_no Top x = refl
   mentions_no Int x = refl
   mentions_no Char x = refl

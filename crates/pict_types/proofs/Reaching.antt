@@ -49,7 +49,7 @@ mutual
   reach_bounds_formed ns ks no_bound w = omega arith
   reach_bounds_formed ns ks (bounds Free bs) w = omega (arith, reach_bounds_formed ns (proper ∷ ks) bs w.1)
   reach_bounds_formed ns ks (bounds (Below t) bs) w = omega (arith, reach_formed ns ks t w.0.1, reach_bounds_formed ns (proper ∷ ks) bs w.1)
-  reach_bounds_formed ns ks (bounds (Operator n) bs) w = omega (arith, reach_bounds_formed ns (operator_of n ∷ ks) bs w.1)
+  reach_bounds_formed ns ks (bounds (Operator n) bs) w = omega (arith, reach_bounds_formed ns (operator_of (length n) ∷ ks) bs w.1)
 
 -- each argument is well formed, and none is greater than the greatest
 pub args_formed : (ns : List (List ℕ)) (ks : List Kind) (xs : List Arg) (i : ℕ) (d : Arg) → i < length xs → ArgsAreWellFormed ns ks (plain_args xs) → ArgIsWellFormed ns ks (plain_arg (get_or xs i d))

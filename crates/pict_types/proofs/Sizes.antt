@@ -106,7 +106,7 @@ mutual
   reach_bounds_weighed ns ks ws no_bound w = omega arith
   reach_bounds_weighed ns ks ws (bounds Free bs) w = omega (arith, reach_bounds_weighed ns (proper ∷ ks) (weigh_variable ws Free ∷ ws) bs w.1)
   reach_bounds_weighed ns ks ws (bounds (Below t) bs) w = omega (arith, reach_weighed ns ks ws t w.0.1, reach_bounds_weighed ns (proper ∷ ks) (weigh_variable ws (Below t) ∷ ws) bs w.1)
-  reach_bounds_weighed ns ks ws (bounds (Operator n) bs) w = omega (arith, reach_bounds_weighed ns (operator_of n ∷ ks) (weigh_variable ws (Operator n) ∷ ws) bs w.1)
+  reach_bounds_weighed ns ks ws (bounds (Operator n) bs) w = omega (arith, reach_bounds_weighed ns (operator_of (length n) ∷ ks) (weigh_variable ws (Operator n) ∷ ws) bs w.1)
 
 -- the same in a context
 pub size_weight : (c : TypeContext) (t : PlainType) → size t ≤ weight_of c t

@@ -1,6 +1,6 @@
 -- Well formed types: each variable has a binder and stands as its kind wants, labels are distinct and in order, and no
 -- bound is Top.
-use Rattle.std.specs.Prelude.{◌≡◌, ℕ, zero, suc, List, [], ◌∷◌, Option, Some, None}
+use Rattle.std.specs.Prelude.{◌≡◌, ℕ, zero, suc, List, [], ◌∷◌, length, Option, Some, None}
 use Rattle.pict_syntax.specs.Labels.{StandsBefore}
 use Rattle.pict_types.specs.Types.{PlainType, Top, Int, Char, Str, Boolean, Var, Apply, Chan, Fields, Rec, PlainTypes, no_type, types, PlainLabels, no_label, labels, PlainBound, Free, Below, Operator, PlainBounds, no_bound, bounds, PlainArg, Plain, Op, TypeContext, count_types, IsNotTop}
 
@@ -12,7 +12,7 @@ pub data Kind : Type 0 where
 abbrev pub kind_by : PlainBound → Kind
 kind_by Free = proper
 kind_by (Below t) = proper
-kind_by (Operator n) = operator_of n
+kind_by (Operator ms) = operator_of (length ms)
 
 -- the kinds of the variables of a context, the innermost first
 abbrev pub kinds : TypeContext → List Kind
@@ -66,7 +66,7 @@ abbrev mutual
   pub BoundIsWellFormed : List (List ℕ) → List Kind → PlainBound → Type 0
   BoundIsWellFormed ns ks Free = Unit {0}
   BoundIsWellFormed ns ks (Below t) = IsNotTop t × IsWellFormed ns ks t
-  BoundIsWellFormed ns ks (Operator n) = Unit {0}
+  BoundIsWellFormed ns ks (Operator ms) = Unit {0}
 
 -- the kinds with those of the n parameters of an operator
 abbrev pub with_parameters : ℕ → List Kind → List Kind

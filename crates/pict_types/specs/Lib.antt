@@ -24,3 +24,6 @@ pub mod Composing
 pub mod Laws
 pub mod Renumbering
 pub mod Among
+pub mod Variance
+pub mod Bodies
+pub mod AsMarked

@@ -44,7 +44,7 @@ abbrev mutual
   pub weigh_variable : List ℕ → PlainBound → ℕ
   weigh_variable ws Free = 1
   weigh_variable ws (Below t) = suc (weigh ws t)
-  weigh_variable ws (Operator n) = 1
+  weigh_variable ws (Operator ms) = 1
 
 -- the weights of the variables of a context
 abbrev pub weights : TypeContext → List ℕ
@@ -89,7 +89,7 @@ abbrev mutual
   pub rise_variable : List ℕ → PlainBound → ℕ
   rise_variable hs Free = 1
   rise_variable hs (Below t) = suc (rise hs t)
-  rise_variable hs (Operator n) = 1
+  rise_variable hs (Operator ms) = 1
 
 abbrev pub heights : TypeContext → List ℕ
 heights [] = []
@@ -131,4 +131,4 @@ abbrev mutual
   pub size_bound : PlainBound → ℕ
   size_bound Free = 1
   size_bound (Below t) = suc (size t)
-  size_bound (Operator n) = 1
+  size_bound (Operator ms) = 1

@@ -42,7 +42,7 @@ abbrev mutual
   pub mentions_bound : (ℕ → Bool) → PlainBound → Bool
   mentions_bound p Free = false
   mentions_bound p (Below t) = mentions p t
-  mentions_bound p (Operator n) = false
+  mentions_bound p (Operator ms) = false
 
   pub mentions_bounds : (ℕ → Bool) → PlainBounds → Bool
   mentions_bounds p no_bound = false

@@ -27,7 +27,7 @@ abbrev mutual
   pub BoundIsNormal : PlainBound → Type 0
   BoundIsNormal Free = Unit {0}
   BoundIsNormal (Below t) = IsNotTop t × IsNormal t
-  BoundIsNormal (Operator n) = Unit {0}
+  BoundIsNormal (Operator ms) = Unit {0}
 
   pub BoundsAreNormal : PlainBounds → Type 0
   BoundsAreNormal no_bound = Unit {0}

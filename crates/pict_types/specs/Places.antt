@@ -1,5 +1,5 @@
 -- Names and the entries of a context, by their places: the innermost has place 0.
-use Rattle.std.specs.Prelude.{◌≡◌, ℕ, zero, suc, List, [], ◌∷◌, map, Option, Some, None}
+use Rattle.std.specs.Prelude.{◌≡◌, ℕ, zero, suc, List, [], ◌∷◌, map, length, Option, Some, None}
 use Rattle.pict_types.specs.Types.{Free, Below, Operator, Plain, Op}
 use Rattle.pict_types.specs.Entries.{PlainWhat, Variable, Definition, PlainContext}
 
@@ -11,7 +11,7 @@ names_in c = map (λ e. e.name) c
 abbrev pub arity : PlainWhat → Option ℕ
 arity (Variable Free) = None
 arity (Variable (Below t)) = None
-arity (Variable (Operator n)) = Some n
+arity (Variable (Operator ms)) = Some (length ms)
 arity (Definition (Plain t)) = None
 arity (Definition (Op n t)) = Some n
 

@@ -35,7 +35,7 @@ abbrev mutual
   pub plain_bound : Bound → PlainBound
   plain_bound Free_ = Free
   plain_bound (Below_ t) = Below (plain t)
-  plain_bound (Operator_ n) = Operator n
+  plain_bound (Operator_ ms) = Operator ms.items
 
   pub plain_row : {m : _} → Row_of-Ty m → PlainTypes
   plain_row end_of-Ty = no_type

@@ -59,7 +59,7 @@ mutual
   bound_prop : (ns : List (List ℕ)) (ks : List Kind) (b : PlainBound) → IsProp (BoundIsWellFormed ns ks b)
   bound_prop ns ks Free = Unit-prop
   bound_prop ns ks (Below t) = ×_prop (Coded-set coded_bool (is_top t) false) (type_prop ns ks t)
-  bound_prop ns ks (Operator n) = Unit-prop
+  bound_prop ns ks (Operator ms) = Unit-prop
 
 entry_prop : (ns : List (List ℕ)) (c : TypeContext) (w : PlainWhat) → IsProp (EntryIsWellFormed ns c w)
 entry_prop ns c (Variable b) = bound_prop ns (kinds c) b

@@ -38,7 +38,7 @@ abbrev mutual
   pub rename_bound : (ℕ → ℕ) → PlainBound → PlainBound
   rename_bound f Free = Free
   rename_bound f (Below t) = Below (rename f t)
-  rename_bound f (Operator n) = Operator n
+  rename_bound f (Operator ms) = Operator ms
 
   pub rename_bounds : (ℕ → ℕ) → PlainBounds → PlainBounds
   rename_bounds f no_bound = no_bound

@@ -1,5 +1,5 @@
 -- Types and operators put for type variables.
-use Rattle.std.specs.Prelude.{◌≡◌, ℕ, zero, suc, List, [], ◌∷◌, Option, Some, None}
+use Rattle.std.specs.Prelude.{◌≡◌, ℕ, zero, suc, List, [], ◌∷◌, length, Option, Some, None}
 use Rattle.std.specs.Option.{option_map}
 use Rattle.pict_types.specs.Types.{PlainType, Top, Int, Char, Str, Boolean, Var, Apply, Chan, Fields, Rec, PlainTypes, no_type, types, PlainLabels, no_label, labels, PlainBound, Free, Below, Operator, PlainBounds, no_bound, bounds, PlainArg, Plain, Op}
 use Rattle.pict_types.specs.Renaming.{beyond_times, rename}
@@ -71,7 +71,7 @@ abbrev mutual
   pub fill_bound : Filling → PlainBound → PlainBound
   fill_bound s Free = Free
   fill_bound s (Below t) = bound_by (fill s t)
-  fill_bound s (Operator n) = Operator n
+  fill_bound s (Operator ms) = Operator ms
 
   pub fill_bounds : Filling → PlainBounds → PlainBounds
   fill_bounds s no_bound = no_bound
@@ -169,7 +169,7 @@ abbrev mutual
   pub replace_bound : Replacement → PlainBound → PlainBound
   replace_bound s Free = Free
   replace_bound s (Below t) = bound_by (replace s t)
-  replace_bound s (Operator n) = Operator n
+  replace_bound s (Operator ms) = Operator ms
 
   pub replace_bounds : Replacement → PlainBounds → PlainBounds
   replace_bounds s no_bound = no_bound
@@ -214,10 +214,10 @@ unfolding_of t = replace (arguments (Plain (Rec t) ∷ [])) t
 abbrev pub IsOfKind : PlainArg → PlainBound → Type 0
 IsOfKind (Plain t) Free = Unit {0}
 IsOfKind (Plain t) (Below b) = Unit {0}
-IsOfKind (Plain t) (Operator n) = ⊥
+IsOfKind (Plain t) (Operator ms) = ⊥
 IsOfKind (Op m t) Free = ⊥
 IsOfKind (Op m t) (Below b) = ⊥
-IsOfKind (Op m t) (Operator n) = m ≡ n
+IsOfKind (Op m t) (Operator ms) = m ≡ length ms
 
 -- there are as many arguments as type fields, each of its field's kind
 abbrev pub FitTheirFields : List PlainArg → PlainBounds → Type 0

@@ -31,4 +31,4 @@ abbrev mutual
   pub reach_bound : PlainBound → ℕ
   reach_bound Free = 0
   reach_bound (Below t) = reach t
-  reach_bound (Operator n) = 0
+  reach_bound (Operator ms) = 0

@@ -50,7 +50,7 @@ pub struct Context<'a> {
 }
 
 impl<'a> Context<'a> {
-    ghost use Rattle.std.specs.Prelude.{◌≡◌, ◌+◌, ◌≤◌, ◌<◌, ◌^◌, [], ◌∷◌, length, drop, slice_get, Some, IfNone, IfSome, OnOk, OnErr};
+    ghost use Rattle.std.specs.Prelude.{◌≡◌, ◌≤◌, ◌<◌, ◌^◌, [], ◌∷◌, length, drop, slice_get, Some, IfNone, IfSome, OnOk, OnErr};
     ghost use Rattle.pict_types.specs.Counting.{variables_inside};
     ghost use Rattle.pict_types.specs.Entries.{EntryIsWellFormed, variables};
     ghost use Rattle.pict_types.specs.Measures.{held, height_of, heights, rise, weigh, weight_of, weights};
@@ -205,7 +205,7 @@ impl<'a> Context<'a> {
     }
 
     /// Of how many arguments entry `i` is an operator; nothing where it is a type, or isn't there. Takes no memory.
-    pub fn arity(&self, i: usize) -> Option<u32>
+    pub fn arity(&self, i: usize) -> Option<usize>
         ensures { result ≡ arity_at (plain_context self.now) i }
     {
         match self.what(i) {
@@ -243,36 +243,5 @@ impl<'a> Context<'a> {
     {
         let known = [variable];
         measure(t, &inside(&known, &Around::Outer(&self.known)))
-    }
-}
-
-#[cfg(test)]
-mod tests {
-    use super::{Context, Entry, What};
-    use crate::types::{Bound, Ty};
-    use pict_syntax::{Name, Names};
-    use std::alloc::AllocError;
-
-    #[test]
-    fn the_innermost_variable_is_the_first(rt: HostRuntime) -> Result<(), AllocError> {
-        let names = Names::new(rt.alloc());
-        let mut c = Context::new(rt.alloc(), &names);
-        c.push(Entry {
-            name: Name(0),
-            what: What::Variable(Bound::Below(Ty::Int)),
-        })?;
-        c.push(Entry {
-            name: Name(1),
-            what: What::Variable(Bound::Free),
-        })?;
-        assert_eq!(rt; c.variables(), 2);
-        assert!(rt; matches!(c.bound(0), Some(Bound::Free)));
-        assert!(rt; matches!(c.bound(1), Some(Bound::Below(Ty::Int))));
-        assert!(rt; c.bound(2).is_none());
-        c.pop();
-        assert_eq!(rt; c.variables(), 1);
-        assert!(rt; matches!(c.take(), Some(Entry { name: Name(0), .. })));
-        assert!(rt; c.take().is_none());
-        Ok(())
     }
 }

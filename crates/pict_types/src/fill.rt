@@ -130,7 +130,7 @@ fn fill_bound(
     match b {
         Bound::Free => Ok(Bound::Free),
         Bound::Below(t) => Ok(bound_by(fill_type(alloc, t, us, by, under)?)),
-        Bound::Operator(n) => Ok(Bound::Operator(*n)),
+        Bound::Operator(marks) => Ok(Bound::Operator(Vec::from_slice(alloc, marks)?)),
     }
 }
 

@@ -13,6 +13,7 @@ mod renumber;
 mod shift;
 mod types;
 mod unfolding;
+mod variance;
 
 pub use context::{Context, Entry, What};
 pub use fill::{apply_head, bound_by, fill_type};
@@ -28,3 +29,4 @@ pub use renumber::deeper;
 pub use shift::{lower_type, shift_type};
 pub use types::{Arg, Bound, Cap, Record, Ty};
 pub use unfolding::unfold;
+pub use variance::{Body, varies};

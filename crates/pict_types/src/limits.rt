@@ -1,8 +1,10 @@
 // The limits of types.
 
 ghost use Rattle.std.specs.Prelude.{◌≡◌, ◌≤◌, ◌<◌, Some, IfNone};
+ghost use Rattle.pict_syntax.specs.declared.limits.TheConstants.{HEIGHT_LIMIT, WEIGHT_LIMIT};
 
 use crate::measure::Measures;
+use pict_syntax::{HEIGHT_LIMIT, WEIGHT_LIMIT};
 use std::alloc::AllocError;
 use thiserror::Error;
 
@@ -16,7 +18,7 @@ pub enum Measure {
 /// Why no type is formed of others.
 #[derive(Debug, Drop, Error)]
 pub enum SizeError {
-    /// The result weighs more than 100,000, or doesn't and is more than 1,000 high.
+    /// The result weighs more than `WEIGHT_LIMIT`, or doesn't and is higher than `HEIGHT_LIMIT`.
     #[error("the type is too big")]
     TooBig(Measure),
     /// Want of memory.
@@ -35,21 +37,15 @@ impl From<AllocError> for SizeError {
     }
 }
 
-/// The greatest weight of a type.
-const MOST_WEIGHT: u64 = 100_000;
-
-/// The greatest height of a type.
-const MOST_HEIGHT: u64 = 1_000;
-
 /// The measure that passes its limit, the weight before the height.
 pub fn too_big(measures: Measures) -> Option<Measure>
-    ensures none { IfNone result ((measures.weight ≤ 100000) × (measures.height ≤ 1000)) }
-    ensures weight { result ≡ Some Measure.Weight → 100000 < measures.weight }
-    ensures height { result ≡ Some Measure.Height → (measures.weight ≤ 100000) × (1000 < measures.height) }
+    ensures none { IfNone result ((measures.weight ≤ WEIGHT_LIMIT) × (measures.height ≤ HEIGHT_LIMIT)) }
+    ensures weight { result ≡ Some Measure.Weight → WEIGHT_LIMIT < measures.weight }
+    ensures height { result ≡ Some Measure.Height → (measures.weight ≤ WEIGHT_LIMIT) × (HEIGHT_LIMIT < measures.height) }
 {
-    if measures.weight > MOST_WEIGHT {
+    if measures.weight > WEIGHT_LIMIT {
         Some(Measure::Weight)
-    } else if measures.height > MOST_HEIGHT {
+    } else if measures.height > HEIGHT_LIMIT {
         Some(Measure::Height)
     } else {
         None

@@ -1,9 +1,8 @@
 // Weight and height of types, computed together, each variable's once.
 
-ghost use Rattle.std.specs.Prelude.{◌≡◌, ◌+◌, ◌≤◌, ◌<◌, max, length, IfSome};
-ghost use Rattle.pict_types.specs.Types.{PlainTypes, PlainLabels};
-ghost use Rattle.pict_types.specs.Measures.{held, measure_at, rise, rise_bounds, rise_labels, rise_types, rise_variable, heights_under, weigh, weigh_bounds, weigh_labels, weigh_types, weigh_variable, weights_under};
-ghost use Rattle.pict_types.specs.Plain.{plain, plain_bound, plain_bounds, plain_labels, plain_types};
+ghost use Rattle.std.specs.Prelude.{◌≡◌, ◌+◌, ◌<◌, max, length, IfSome};
+ghost use Rattle.pict_types.specs.Measures.{held, measure_at, rise, rise_labels, rise_types, rise_variable, weigh, weigh_labels, weigh_types, weigh_variable};
+ghost use Rattle.pict_types.specs.Plain.{plain, plain_bound, plain_labels, plain_types};
 ghost use Rattle.pict_types.specs.Around.{IsLinked, Skips, around_heights, around_weights, heights_inside, rise_rest, weigh_rest, weights_inside};
 
 use crate::types::{Bound, Record, Ty};

@@ -100,7 +100,7 @@ fn renumber_bound(
     match b {
         Bound::Free => Ok(Bound::Free),
         Bound::Below(t) => Ok(Bound::Below(renumber_type(alloc, t, how, from)?)),
-        Bound::Operator(n) => Ok(Bound::Operator(*n)),
+        Bound::Operator(marks) => Ok(Bound::Operator(Vec::from_slice(alloc, marks)?)),
     }
 }
 

@@ -26,33 +26,3 @@ pub fn lower_type(alloc: Global, t: &Ty, by: u32) -> Result<Ty, AllocError>
 {
     renumber_type(alloc, t, Renumbering::Down(by), 0)
 }
-
-#[cfg(test)]
-mod tests {
-    use super::lower_type;
-    use crate::mentioning::{Variables, mentions};
-    use crate::types::{Cap, Ty};
-    use std::alloc::AllocError;
-
-    /// The variable of whose values the type is a channel; the greatest number where it is no such type.
-    fn variable_in(t: &Ty) -> u32 {
-        match t {
-            Ty::Chan(_, inner) => match &**inner {
-                Ty::Var(i) => *i,
-                _ => u32::MAX,
-            },
-            _ => u32::MAX,
-        }
-    }
-
-    #[test]
-    fn a_channel_of_variable_2(rt: HostRuntime) -> Result<(), AllocError> {
-        let t = Ty::Chan(Cap::Both, Box::new(rt.alloc(), Ty::Var(2))?);
-        assert!(rt; !mentions(&t, &Variables::Innermost(2))?);
-        assert!(rt; mentions(&t, &Variables::Innermost(3))?);
-        assert!(rt; mentions(&t, &Variables::Marked(&[true, false, false]))?);
-        assert!(rt; !mentions(&t, &Variables::Marked(&[false, true, true]))?);
-        assert_eq!(rt; variable_in(&lower_type(rt.alloc(), &t, 2)?), 0);
-        Ok(())
-    }
-}

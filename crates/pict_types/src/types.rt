@@ -1,8 +1,8 @@
 // Types in normal form: no definition is left, only operator variables are applied, and variables have no names.
 
-ghost use Rattle.std.specs.Prelude.{◌≡◌, IfOk};
+ghost use Rattle.std.specs.Prelude.{◌≡◌};
 
-use pict_syntax::Name;
+use pict_syntax::{Mark, Name};
 
 /// What may be done with a channel.
 #[derive(Clone, Copy, PartialEq, Eq, Debug)]
@@ -67,8 +67,8 @@ pub enum Bound {
     Free,
     /// A subtype of this type. `Top` is no bound: where one is made, `Free` stands in its place.
     Below(Ty),
-    /// An operator of so many arguments.
-    Operator(u32),
+    /// An operator of as many arguments as marks, which varies as they say.
+    Operator(Vec<Mark>),
 }
 
 /// What may stand for a type variable.
@@ -86,13 +86,13 @@ impl Bound {
     ghost use Rattle.pict_types.specs.Places.{arity};
 
     /// Of how many arguments a variable with this bound is an operator; nothing where it is a type. Takes no memory.
-    pub fn arity(&self) -> Option<u32>
+    pub fn arity(&self) -> Option<usize>
         ensures { result ≡ arity (Variable (plain_bound self.now)) }
     {
         match self {
             Bound::Free => None,
             Bound::Below(_) => None,
-            Bound::Operator(n) => Some(*n),
+            Bound::Operator(marks) => Some(marks.as_slice().len()),
         }
     }
 }
@@ -105,12 +105,12 @@ impl Arg {
     ghost use Rattle.pict_types.specs.Replacing.{type_in};
 
     /// Of how many arguments it is an operator; nothing where it is a type. Takes no memory.
-    pub fn arity(&self) -> Option<u32>
+    pub fn arity(&self) -> Option<usize>
         ensures { result ≡ arity (Definition (plain_arg self.now)) }
     {
         match self {
             Arg::Plain(_) => None,
-            Arg::Op { params, .. } => Some(*params),
+            Arg::Op { params, .. } => Some(*params as usize),
         }
     }
 

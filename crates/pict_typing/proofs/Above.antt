@@ -9,7 +9,7 @@ use Rattle.pict_types.specs.Kinds.{Kind, kinds_under, AreWellFormed, LabelsAreWe
 use Rattle.pict_types.specs.PrimitiveTypes.{takes}
 use Rattle.pict_types.specs.NormalTypes.{BoundIsNormal}
 use Rattle.pict_types.proofs.Replacements.{replace_bound_same, nothing_changed, formed_bound_normal}
-use Rattle.pict_sub.specs.Subtyping.{Rises, read_read, both_read, Falls, write_write, both_write, IsSubtype, through, below_top, by_fields, AreSubtypes, none, more, HasLabels, has_none, has_label, AreChannelsBelow}
+use Rattle.pict_sub.specs.Subtyping.{CarriesUp, read_read, both_read, CarriesDown, write_write, both_write, IsSubtype, through, below_top, by_fields, AreSubtypes, none, more, HasLabels, has_none, has_label, AreChannelsBelow}
 use Rattle.pict_sub.specs.Shapes.{shape_of, other}
 use Rattle.pict_sub.specs.Laws.{IsWithinBounds}
 use Rattle.pict_sub.proofs.Inversion.{channels, above_channel, above_recursive, records, only_itself, not_record, told_top, told_other}
@@ -27,7 +27,7 @@ use Rattle.pict_typing.proofs.Forms.{MaySend, by_subtyping, both_ways, ChannelFi
 -- ---- what is above a type that is no variable
 
 above_base : (s t : PlainType) → shape_of s ≡ other → t ≢ Top → IsSubtype [] s t → s ≡ t
-above_base s t e n d = (only_itself [] s t n (λ q. absurd (cc)) (λ q. absurd (cc)) (λ q. absurd (cc))).0 d
+above_base s t e n d = (only_itself [] s t n (λ q. absurd (cc)) (λ q. absurd (cc)) (λ q. absurd (cc)) (λ q. absurd (cc))).0 d
 
 record IsRecord (t : PlainType) : Type 0 where
   type_fields : PlainBounds
@@ -49,25 +49,25 @@ above_record bs ps ls (Rec t) n d = absurd (not_record [] bs ps ls (Rec t) n (λ
 
 -- ---- an argument within its bound
 
-within_first : (names : List (List ℕ)) (ms : List PlainType) (a : PlainArg) (b : PlainBound) → MayStandFor (over names ms) b a → BoundIsNormal b → IsWithinBounds (arguments (a ∷ [])) (b ∷ []) []
+within_first : (names : List (List ℕ)) (ms : List PlainType) (a : PlainArg) (b : PlainBound) → MayStandFor (over names ms) b a → BoundIsNormal b → IsWithinBounds names (arguments (a ∷ [])) (b ∷ []) []
 within_first names ms a b may w =
     let same_ : MayStandFor (over names ms) (replace_bound no_replacement b) a = subst (λ z. MayStandFor (over names ms) z a) (sym (replace_bound_same b nothing_changed w)) may in
     (argument_instantiates names ms no_replacement [] a b (nothing_instantiates names []) same_).within
 
 -- ---- canonical forms go up
 
-rises : {names : List (List ℕ)} {t u v : PlainType} {m n : Capability} → ChannelFits names t m u → Rises m n → IsSubtype [] u v → ChannelFits names t n v
-rises both_fits both_read d = read_fits d
-rises (read_fits e) read_read d = read_fits (through _ e d)
-rises (write_fits _) x d = elim x [ ]
+carries_up : {names : List (List ℕ)} {t u v : PlainType} {m n : Capability} → ChannelFits names t m u → CarriesUp m n → IsSubtype [] u v → ChannelFits names t n v
+carries_up both_fits both_read d = read_fits d
+carries_up (read_fits e) read_read d = read_fits (through _ e d)
+carries_up (write_fits _) x d = elim x [ ]
 
-falls : {names : List (List ℕ)} {t u v : PlainType} {m n : Capability} → IsTypeIn names [] u → ChannelFits names t m u → Falls m n → IsSubtype [] v u → ChannelFits names t n v
-falls w both_fits both_write d = write_fits (by_subtyping d)
-falls w (write_fits x) write_write d = write_fits (both_ways _ w (by_subtyping d) x)
-falls w (read_fits _) x d = elim x [ ]
+carries_down : {names : List (List ℕ)} {t u v : PlainType} {m n : Capability} → IsTypeIn names [] u → ChannelFits names t m u → CarriesDown m n → IsSubtype [] v u → ChannelFits names t n v
+carries_down w both_fits both_write d = write_fits (by_subtyping d)
+carries_down w (write_fits x) write_write d = write_fits (both_ways _ w (by_subtyping d) x)
+carries_down w (read_fits _) x d = elim x [ ]
 
 channel_moves : {names : List (List ℕ)} {t u v : PlainType} {m n : Capability} → IsTypeIn names [] u → ChannelFits names t m u → AreChannelsBelow [] m n u v → ChannelFits names t n v
-channel_moves {names = names} {t = t} w x h = elim h [ inl e ↦ subst₂ (ChannelFits names t) e.0 e.1 x | inr (inl r) ↦ rises x r.0 r.1 | inr (inr f) ↦ falls w x f.0 f.1 ]
+channel_moves {names = names} {t = t} w x h = elim h [ inl e ↦ subst₂ (ChannelFits names t) e.0 e.1 x | inr (inl r) ↦ carries_up x r.0 r.1 | inr (inr f) ↦ carries_down w x f.0 f.1 ]
 
 -- a primitive may be used at type u with the capability
 record Sends (names : List (List ℕ)) (p : Primitive) (m : Capability) (u : PlainType) : Type 0 where
@@ -75,14 +75,14 @@ record Sends (names : List (List ℕ)) (p : Primitive) (m : Capability) (u : Pla
   may : MaySend names u (erased (takes p))
 
 -- nothing that is only sent on may be received from
-none_rises : {A : Type 0} {n : Capability} → Rises Write n → A
-none_rises r = elim r [ ]
+none_carries_up : {A : Type 0} {n : Capability} → CarriesUp Write n → A
+none_carries_up r = elim r [ ]
 
-primitive_falls : {names : List (List ℕ)} {p : Primitive} {u v : PlainType} {n : Capability} → IsTypeIn names [] u → MaySend names u (erased (takes p)) → Falls Write n → IsSubtype [] v u → Sends names p n v
-primitive_falls w x write_write d = record { writes = refl; may = both_ways _ w (by_subtyping d) x }
+primitive_carries_down : {names : List (List ℕ)} {p : Primitive} {u v : PlainType} {n : Capability} → IsTypeIn names [] u → MaySend names u (erased (takes p)) → CarriesDown Write n → IsSubtype [] v u → Sends names p n v
+primitive_carries_down w x write_write d = record { writes = refl; may = both_ways _ w (by_subtyping d) x }
 
 primitive_moves : {names : List (List ℕ)} {p : Primitive} {u v : PlainType} {n : Capability} → IsTypeIn names [] u → MaySend names u (erased (takes p)) → AreChannelsBelow [] Write n u v → Sends names p n v
-primitive_moves {names = names} {p = p} w x h = elim h [ inl e ↦ record { writes = sym e.0; may = subst (λ y. MaySend names y (erased (takes p))) e.1 x } | inr (inl r) ↦ none_rises r.0 | inr (inr f) ↦ primitive_falls w x f.0 f.1 ]
+primitive_moves {names = names} {p = p} w x h = elim h [ inl e ↦ record { writes = sym e.0; may = subst (λ y. MaySend names y (erased (takes p))) e.1 x } | inr (inl r) ↦ none_carries_up r.0 | inr (inr f) ↦ primitive_carries_down w x f.0 f.1 ]
 
 -- the labels of a type, each found in the value with whatever is above it
 abbrev Raises : List (List ℕ) → List PlainType → Labelled → PlainLabels → Type 0
@@ -152,7 +152,7 @@ module _ (names : List (List ℕ)) (ms : List PlainType) (closed_ : AreClosedTyp
           where
             go : (b : Bool) → is_top t ≡ b → t ≡ Top
             go true q = told_top t q
-            go false q = sym ((only_itself [] Top t (told_other t q) (λ q. absurd (cc)) (λ q. absurd (cc)) (λ q. absurd (cc))).0 d)
+            go false q = sym ((only_itself [] Top t (told_other t q) (λ q. absurd (cc)) (λ q. absurd (cc)) (λ q. absurd (cc)) (λ q. absurd (cc))).0 d)
     fits_above {v = v} t w g int_fits d = or_top _ Int t w int_fits (λ n. subst (Fits names ms v) (above_base Int t refl n d) int_fits)
     fits_above {v = v} t w g char_fits d = or_top _ Char t w char_fits (λ n. subst (Fits names ms v) (above_base Char t refl n d) char_fits)
     fits_above {v = v} t w g boolean_fits d = or_top _ Boolean t w boolean_fits (λ n. subst (Fits names ms v) (above_base Boolean t refl n d) boolean_fits)

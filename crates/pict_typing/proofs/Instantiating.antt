@@ -3,7 +3,7 @@
 use Rattle.std.proofs.Common.{◌≡◌, ℕ, zero, suc, Bool, true, false, List, [], ◌∷◌, refl, sym, ◌∙◌, ap, subst}
 use Rattle.pict_types.specs.Types.{PlainType, Top, Int, PlainBound, Free, Below, Operator, PlainArg, Plain, Op, TypeContext, is_top}
 use Rattle.pict_types.specs.Renaming.{bound_of, rename, rename_bound, moved}
-use Rattle.pict_types.specs.Replacing.{Replacement, replace, replace_bound, bound_by, replacement_beyond, replacement_past, with_arg, type_in, no_replacement, IsOfKind}
+use Rattle.pict_types.specs.Replacing.{Replacement, operator, replace, replace_bound, bound_by, replacement_beyond, replacement_past, with_arg, type_in, head_in, no_replacement, IsOfKind}
 use Rattle.pict_types.specs.Kinds.{Kind, proper, kind_by, with_parameters}
 use Rattle.pict_types.specs.Fitting.{ReplacesKinds}
 use Rattle.pict_types.specs.Composing.{replace_arg}
@@ -13,6 +13,10 @@ use Rattle.pict_types.proofs.Composed.{replace_dropped}
 use Rattle.pict_types.proofs.Renamed.{moved_is_suc, bound_further, bound_before}
 use Rattle.pict_sub.specs.Subtyping.{IsSubtype, below_top}
 use Rattle.pict_sub.proofs.Inversion.{told_top}
+use Rattle.pict_syntax.specs.declared.type_tree.Mark.{Mark}
+use Rattle.pict_sub.specs.Laws.{StandsAsMarked}
+use Rattle.pict_sub.proofs.Renamed.{operator_before}
+use Rattle.pict_sub.proofs.Stays.{operator_replaced}
 use Rattle.pict_sub.proofs.Replaced.{replaced, within_beyond}
 use Rattle.pict_typing.specs.Worlds.{World, over, IsTypeIn, MayStandFor, IsBelow}
 use Rattle.pict_typing.specs.Instantiating.{Instantiates, instantiated}
@@ -43,7 +47,7 @@ below_bound_by c u t x = by_bound (λ b. IsBelow c b (Plain u)) t (λ e. tt) x
 -- ---- instantiations
 
 pub nothing_instantiates : (names : List (List ℕ)) (d : TypeContext) → Instantiates names no_replacement [] d
-nothing_instantiates names d = record { within = record { each = λ i b e. absurd (cc) }; kept = record { types_ = λ i e. absurd (cc); heads_ = λ i n e. absurd (cc) }; normal = nothing_normal }
+nothing_instantiates names d = record { within = record { each = λ i b e. absurd (cc); heads = λ i ms e. absurd (cc) }; kept = record { types_ = λ i e. absurd (cc); heads_ = λ i n e. absurd (cc) }; normal = nothing_normal }
 
 kind_before : (r : Replacement) (a : PlainArg) (b : PlainBound) → IsOfKind a (replace_bound r b) → IsOfKind a b
 kind_before r a Free x = x
@@ -53,8 +57,20 @@ kind_before r a (Operator n) x = x
 -- a closed argument for one more variable in front
 pub argument_instantiates : (names : List (List ℕ)) (ms : List PlainType) (r : Replacement) (c : TypeContext) (a : PlainArg) (b : PlainBound) → Instantiates names r c [] → MayStandFor (over names ms) (replace_bound r b) a → Instantiates names (with_arg a r) (b ∷ c) []
 argument_instantiates names ms r c a b x may =
-    record { within = record { each = go }; kept = arg_keeps a b (kind_before r a b may.of_kind) may.formed x.kept; normal = arg_normal a (formed_arg_normal names [] a may.formed) x.normal }
+    record { within = record { each = go; heads = go2 }; kept = arg_keeps a b (kind_before r a b may.of_kind) may.formed x.kept; normal = arg_normal a (formed_arg_normal names [] a may.formed) x.normal }
   where
+    head_first : (a : PlainArg) (b : PlainBound) → MayStandFor (over names ms) (replace_bound r b) a → (ns : List Mark) → rename_bound (moved 1 0) b ≡ Operator ns → StandsAsMarked names [] ns (head_in a)
+    head_first a Free m ns e = absurd (cc)
+    head_first a (Below s) m ns e = absurd (cc)
+    head_first (Plain u) (Operator ks) m ns e = absurd m.of_kind
+    head_first (Op n u) (Operator ks) m ns e =
+        let q : ks ≡ ns = cc in
+        subst (λ z. StandsAsMarked names [] z (operator n u)) q (m.of_kind, (m.formed, m.below))
+
+    go2 : (i : ℕ) (ns : List Mark) → bound_of (b ∷ c) i ≡ Operator ns → StandsAsMarked names [] ns ((with_arg a r).head_of i)
+    go2 zero ns e = head_first a b may ns e
+    go2 (suc i) ns e = x.within.heads i ns (operator_before suc (bound_of c i) ns (sym (bound_further b c i) ∙ e))
+
     here : (a : PlainArg) (s : PlainType) → MayStandFor (over names ms) (bound_by (replace r s)) a → IsSubtype [] (type_in a) (replace r s)
     here (Plain u) s m = bound_above [] u (replace r s) m.below
     here (Op n u) s m = absurd (kind_of_any (Op n u) (replace r s) Int m.of_kind)
@@ -93,4 +109,4 @@ argument_instantiated {r = r} {d = d} w (Below s) (Plain t) x m =
 argument_instantiated w (Operator n) (Plain t) x m = absurd m.of_kind
 argument_instantiated w Free (Op n t) x m = absurd m.of_kind
 argument_instantiated w (Below s) (Op n t) x m = absurd m.of_kind
-argument_instantiated w (Operator k) (Op n t) x m = record { formed = replace_formed w.names t (kinds_past w.names n x.kept) m.formed; of_kind = m.of_kind; below = tt }
+argument_instantiated {r = r} {d = d} w (Operator k) (Op n t) x m = record { formed = replace_formed w.names t (kinds_past w.names n x.kept) m.formed; of_kind = m.of_kind; below = operator_replaced w.names r w.type_variables d n t k x.within m.of_kind m.formed m.below }

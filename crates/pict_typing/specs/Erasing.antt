@@ -31,7 +31,7 @@ abbrev mutual
   pub erased_bound : PlainBound → PlainBound
   erased_bound Free = Free
   erased_bound (Below t) = Below (erased t)
-  erased_bound (Operator n) = Operator n
+  erased_bound (Operator ms) = Operator ms
 
   pub erased_bounds : PlainBounds → PlainBounds
   erased_bounds no_bound = no_bound

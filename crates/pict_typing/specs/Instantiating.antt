@@ -10,7 +10,7 @@ use Rattle.pict_typing.specs.Worlds.{World}
 
 -- r puts for the variables of c well formed types and operators, written in d, of their kinds and within their bounds
 pub record Instantiates (names : List (List ℕ)) (r : Replacement) (c d : TypeContext) : Type 0 where
-  pub within : IsWithinBounds r c d
+  pub within : IsWithinBounds names r c d
   pub kept : ReplacesKinds names r (kinds c) (kinds d)
   pub normal : ReplacesNormal r
 

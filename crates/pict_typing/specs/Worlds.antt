@@ -1,6 +1,7 @@
 -- What core terms are typed in: types of variables and of channels, and the type variables that these mention.
-use Rattle.std.specs.Prelude.{ℕ, List, [], ◌∷◌, ◌++◌, map}
-use Rattle.pict_types.specs.Types.{PlainType, PlainTypes, PlainLabels, Fields, PlainBound, Below, PlainBounds, PlainArg, Plain, TypeContext}
+use Rattle.std.specs.Prelude.{◌≡◌, ℕ, true, List, [], ◌∷◌, ◌++◌, map}
+use Rattle.pict_types.specs.Types.{PlainType, PlainTypes, PlainLabels, Fields, PlainBound, Below, Operator, PlainBounds, PlainArg, Plain, Op, TypeContext}
+use Rattle.pict_types.specs.Variance.{varies}
 use Rattle.pict_types.specs.Renaming.{rename, moved}
 use Rattle.pict_types.specs.Replacing.{replace, arguments, IsOfKind}
 use Rattle.pict_types.specs.Kinds.{IsWellFormed, ArgIsWellFormed, kinds}
@@ -44,9 +45,10 @@ opened d n ts w = record w { type_variables = d; variables = map (shifted n) w.v
 
 -- ---- arguments of packages
 
--- the argument is below the bound of a type field; a field without one takes any
+-- the argument is below the bound of a type field, or varies as its marks say; a field without either takes any
 abbrev pub IsBelow : TypeContext → PlainBound → PlainArg → Type 0
 IsBelow c (Below b) (Plain t) = IsSubtype c t b
+IsBelow c (Operator ms) (Op n t) = varies c (Op n t) ms ≡ true
 IsBelow c b a = Unit {0}
 
 -- the argument may stand for a type field with this bound

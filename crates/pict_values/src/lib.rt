@@ -6,6 +6,3 @@ mod writing;
 
 pub use printing::printed;
 pub use writing::write_word;
-
-#[cfg(test)]
-mod tests;

@@ -101,18 +101,18 @@ pub is_done : (n fuel : ℕ) (C : Configuration) (v : View) (Seen : List (ℕ ×
     → ((D : Configuration) → IsConfiguration D → StandsFor v D → IsTrue b ↔ (next D ≢ Finished)) → Stood n C v Seen → RanFor C fuel steps run.Done v Seen
 is_done n fuel C v Seen b steps same le e r s =
     let over : next s.last ≡ Finished = finished_by (next s.last) (λ u. not_true b e ((r s.last s.is s.stands).1 u)) in
-    record { ran = record { labels = s.labels; runs = record { steps = n; last = s.last; reached = s.reached; ends = (le, over) }; stands = s.stands; seen = s.seen }; count = same }
+    record { ran = record { labels = s.labels; runs = record { steps = n; last = s.last; reached = s.reached; ends = (le, over) }; is = s.is; stands = s.stands; seen = s.seen }; count = same }
 
 pub is_spent : (n fuel : ℕ) (C : Configuration) (v : View) (Seen : List (ℕ × Label) → Type 0) (b : Bool) → n ≡ fuel → IsTrue b
     → ((D : Configuration) → IsConfiguration D → StandsFor v D → IsTrue b ↔ (next D ≢ Finished)) → Stood n C v Seen → RanFor C fuel fuel run.FuelSpent v Seen
 is_spent n fuel C v Seen b same t r s =
-    record { ran = record { labels = s.labels; runs = record { steps = n; last = s.last; reached = s.reached; ends = (same, (r s.last s.is s.stands).0 t) }; stands = s.stands; seen = s.seen }; count = same }
+    record { ran = record { labels = s.labels; runs = record { steps = n; last = s.last; reached = s.reached; ends = (same, (r s.last s.is s.stands).0 t) }; is = s.is; stands = s.stands; seen = s.seen }; count = same }
 
 pub is_trapped : (n fuel : ℕ) (C : Configuration) (v v' : View) (Seen : List (ℕ × Label) → Type 0) (label : Label) (trap : Option Span) (at : Span) → n < fuel
     → ((D : Configuration) → IsConfiguration D → StandsFor v D → IsStepOf D label trap v') → trap ≡ Some at → Stood n C v Seen → RanFor C fuel (n + 1) (run.Trap at) v' Seen
 is_trapped n fuel C v v' Seen label trap at lt f t s =
     let x = traps_of label trap at s.last v' t (f s.last s.is s.stands) in
-    record { ran = record { labels = s.labels; runs = record { steps = n; last = s.last; reached = s.reached; ends = (lt, x.0) }; stands = x.1; seen = s.seen }; count = refl }
+    record { ran = record { labels = s.labels; runs = record { steps = n; last = s.last; reached = s.reached; ends = (lt, x.0) }; is = s.is; stands = x.1; seen = s.seen }; count = refl }
 
 -- ---- right steps
 
@@ -138,4 +138,4 @@ module _ (n fuel : ℕ) (C : Configuration) (v v' : View) (label : Label) (trap 
 
   -- the showing of the step's label was refused
   pub refused : BrokeOff C fuel (StandsFor v') (SawOrTore f T before after)
-  refused = let x = torn_stood in record { steps = n + 1; few = omega arith; last = x.last; labels = x.labels; reached = x.reached; stands = x.stands; seen = x.seen }
+  refused = let x = torn_stood in record { steps = n + 1; few = omega arith; last = x.last; labels = x.labels; reached = x.reached; is = x.is; stands = x.stands; seen = x.seen }

@@ -1,6 +1,6 @@
 -- What a watcher of a run has seen, and how a run ends.
 use Rattle.std.specs.Prelude.{ℕ, ◌≡◌, ◌≤◌, ◌⊎◌, List, [], ◌∷◌, ◌++◌, Option, Some, None}
-use Rattle.pict_core.specs.Configuration.{Configuration}
+use Rattle.pict_core.specs.Configuration.{Configuration, IsConfiguration}
 use Rattle.pict_core.specs.Step.{Label}
 use Rattle.pict_core.specs.Run.{End, Reaches, RunsFrom, steps_done}
 use Rattle.pict_view.specs.View.{View, StandsFor}
@@ -31,11 +31,12 @@ SawOrTore next torn before after labels = WhereTold (λ b a. (a ≡ view_after n
 
 -- ---- runs
 
--- The run from C with this fuel has this end. The view stands for its last configuration, and what was seen fits its
+-- The run from C with this fuel has this end. It leads to a configuration, for which the view stands, and what was seen fits its
 -- labels.
 pub record Ran (C : Configuration) (fuel : ℕ) (end : End) (v : View) (Seen : List (ℕ × Label) → Type 0) : Type 0 where
   pub labels : List (ℕ × Label)
   pub runs : RunsFrom C fuel end labels
+  pub is : IsConfiguration runs.last
   pub stands : StandsFor v runs.last
   pub seen : Seen labels
 
@@ -44,12 +45,13 @@ pub record RanFor (C : Configuration) (fuel steps : ℕ) (end : End) (v : View) 
   pub ran : Ran C fuel end v Seen
   pub count : steps_done end ran.runs.steps ≡ steps
 
--- The run from C broke off after some of its steps; what was seen fits their labels.
+-- The run from C broke off after some of its steps, which lead to a configuration; what was seen fits their labels.
 pub record BrokeOff (C : Configuration) (fuel : ℕ) (Stands : Configuration → Type 0) (Seen : List (ℕ × Label) → Type 0) : Type 0 where
   pub steps : ℕ
   pub few : steps ≤ fuel
   pub last : Configuration
   pub labels : List (ℕ × Label)
   pub reached : Reaches steps C labels last
+  pub is : IsConfiguration last
   pub stands : Stands last
   pub seen : Seen labels

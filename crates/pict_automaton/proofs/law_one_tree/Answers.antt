@@ -1,4 +1,4 @@
--- The machine that reads programs comes to one end.
+-- The machine that reads declarations comes to one end.
 use Rattle.pict_automaton.proofs.Programs.{one_tree}
 use Rattle.pict_automaton.proofs.law_one_tree.Goals as goal
 

@@ -54,7 +54,7 @@ use Rattle.pict_check.proofs.RecordEnds.{label_asked, label_more, label_refused,
 use Rattle.pict_check.proofs.RowEnds.{all_values, all_fit, fit_asked, fit_more, fit_refused}
 use Rattle.pict_check.proofs.ValueEnds.{below_there, if_end, if_no, if_test, if_yes, lambda_asked, lambda_end, lambda_refused, no_asked, test_asked, yes_asked}
 use Rattle.pict_check.proofs.AnswerFound.{matched_count}
-use Rattle.pict_check.proofs.Arguments.{arguments_fit}
+use Rattle.pict_check.proofs.Arguments.{arguments_fit, arguments_vary}
 use Rattle.pict_check.proofs.FieldsAsked.{arguments_asked, as_many_arguments, as_many_put, as_many_trees, as_many_values, counts_say, in_order_good, labelled_asked, labels_distinct, labels_formed, order_first, order_last, positional_asked, put_asked, put_done, put_labels, put_refused}
 use Rattle.pict_check.proofs.FitEnds.{all_labelled, at_label, at_label_asked, fit_start, given_here, given_lines_in, on_any, labelled_distinct, labelled_good, labelled_more, labelled_refused, labelled_start, labels_within, unlabelled, unlabelled_refused}
 use Rattle.pict_check.proofs.PutFields.{put_count}
@@ -1689,6 +1689,24 @@ fitting::fields_fit-record_instance-requires-clause-fit t c =
     let args = plain_args c.in_ok-args.args.items in
     let a = rw (c.deref-2.ensures.value, c.deref-3.ensures.value) at c.in_ok-args.ensures in
     rw c.deref-4.ensures.value (arguments_fit e c.args.span (types_on no_types parts.type_arguments.items) bs args w (as_many_trees (types_on no_types parts.type_arguments.items) bs some say.0) a)
+
+pub fitting::fields_fit-record_instance-requires-clause-vary : goal.fitting::fields_fit-record_instance-requires-clause-vary
+fitting::fields_fit-record_instance-requires-clause-vary t c =
+    let e = environment_of c.args.env.now in
+    let r = c.args.r.now in
+    let bs = plain_bounds r.binders.items in
+    let ps = plain_types r.positional.items in
+    let ms = plain_labels r.labelled.items in
+    let f = field_vals_of c.args.fields.now in
+    let parts = out-FieldVals c.args.fields.now in
+    let g : Found = found_for r.binders.items c.args.found in
+    let is = field_vals_are c.args.fields.now in
+    let say = counts_say c.args.span f _ _ _ bs ps ms is c.in_ok-counted.ensures in
+    let some = none_on parts.type_arguments.items _ c.is_empty.result parts.type_arguments.ok.0 c.is_empty.ensures ∙ c.if-is_empty.false in
+    let w = arguments_asked e c.args.span f _ _ _ bs ps ms g is c.requires.right (as_many_trees _ bs some say.0) in
+    let args = plain_args c.in_ok-args.args.items in
+    let a = rw (c.deref-2.ensures.value, c.deref-3.ensures.value) at c.in_ok-args.ensures in
+    rw c.deref-4.ensures.value (arguments_vary e c.args.span (types_on no_types parts.type_arguments.items) bs args w a)
 
 pub fitting::fields_fit-returns-in_err-put-clause-answer : goal.fitting::fields_fit-returns-in_err-put-clause-answer
 fitting::fields_fit-returns-in_err-put-clause-answer t c =

@@ -34,7 +34,7 @@ loop-b-preserved c =
     record {
       so_far = binder_bounded (known_names e) (known_entries e) c.args.bs.now c.loop-b.b-index b c.loop-b.bounded c.in_ok-one.one c.both-bounded.result c.loop-b-test.true c.b-item.is c.loop-b.invariant.so_far one c.both-bounded.ensures;
       entries =
-          binder_opened d c.push_type.new.self (known_entries e) c.args.bs.now c.loop-b.b-index b (plain_bound c.bound_by_kind.result) c.loop-b-test.true c.b-item.is c.loop-b.invariant.entries c.in_ok-push_type.ensures.known
-          c.bound_by_kind.ensures;
+          binder_opened d c.push_type.new.self (known_entries e) c.args.bs.now c.loop-b.b-index b (plain_bound c.in_ok-bound.bound) c.loop-b-test.true c.b-item.is c.loop-b.invariant.entries c.in_ok-push_type.ensures.known
+          c.in_ok-bound.ensures;
       grew = grew_twice e d c.push_type.new.self c.loop-b.invariant.grew c.in_ok-push_type.ensures.grew;
     }

@@ -1,6 +1,6 @@
 -- The declarations of the program, where nothing is declared before.
 use Rattle.std.proofs.Common.{sym, subst}
-use Rattle.pict_syntax.specs.PlainTrees.{decs_on, program_of}
+use Rattle.pict_syntax.specs.PlainTrees.{decs_on, declarations_of}
 use Rattle.pict_syntax.specs.Trees.{no_decs}
 use Rattle.pict_rules.specs.Environments.{Environment, no_environment}
 use Rattle.pict_rules.specs.Rules.{declarations, environment_, ok}
@@ -16,7 +16,7 @@ use Rattle.pict_check.proofs.whole.check.Goals as goal
 pub declarations-requires : goal.declarations-requires
 declarations-requires c =
     let names = c.args.names.now in
-    let asked = program_asked names (program_of c.args.scoped.now.program) c.requires.scoped in
+    let asked = program_asked names (declarations_of c.args.scoped.now.program) c.requires.scoped in
     record {
       right = subst (λ (e : Environment). IsWellAsked environment_ e (declarations (decs_on no_decs c.deref.result.now))) (sym c.new-env.ensures)
           (subst (λ xs. IsWellAsked environment_ (no_environment names) (declarations (decs_on no_decs xs))) (sym c.deref.ensures.value) asked);
@@ -26,14 +26,14 @@ pub returns-in-Ok-clause-typed : goal.returns-in-Ok-clause-typed
 returns-in-Ok-clause-typed c =
     let names = c.args.names.now in
     let e = environment_of c.declarations.new.env in
-    program_typed names (program_of c.args.scoped.now.program) e c.requires.scoped
+    program_typed names (declarations_of c.args.scoped.now.program) e c.requires.scoped
     (subst (λ xs. Runs (rule (no_environment names) (declarations (decs_on no_decs xs))) (ok e)) c.deref.ensures.value
     (subst (λ (d : Environment). Runs (rule d (declarations (decs_on no_decs c.deref.result.now))) (ok e)) c.new-env.ensures c.in-Ok.ensures.answer))
 
 pub returns-clause-stuck : goal.returns-clause-stuck
 returns-clause-stuck c =
     let names = c.args.names.now in
-    let p = program_of c.args.scoped.now.program in
+    let p = declarations_of c.args.scoped.now.program in
     let refused =
     subst (λ xs. IsRefused (rule (no_environment names) (declarations (decs_on no_decs xs))) c.in-Err.e) c.deref.ensures.value
     (subst (λ (d : Environment). IsRefused (rule d (declarations (decs_on no_decs c.deref.result.now))) c.in-Err.e) c.new-env.ensures c.in-Err.ensures.answer) in

@@ -1,13 +1,13 @@
 -- A use of a name: its nearest binder, or else the primitive.
-use Rattle.std.proofs.Common.{rules, ◌≡◌, ◌∙◌, Some, None, sym, ap, option_map}
+use Rattle.std.proofs.Common.{rules, ◌≡◌, ◌∙◌, Some, None, true, sym, ap, option_map}
 use Rattle.std.specs.Prelude.{unwrap_or}
 use Rattle.pict_core.specs.Term.{Var, PrimitiveVal}
 use Rattle.pict_syntax.specs.Names.{text_of}
 use Rattle.pict_binders.specs.Numbered.{nearest}
 use Rattle.pict_scope.specs.PrimitiveNames.{primitive_named}
-use Rattle.pict_translation.specs.Simple.{or_primitive, unit}
+use Rattle.pict_translation.specs.Simple.{or_primitive, nothing}
 use Rattle.pict_derive.proofs.LevelLemmas.{value_nearest}
-use Rattle.pict_derive.proofs.Surrounding.{plain_var, plain_primitive, plain_unit}
+use Rattle.pict_derive.proofs.Surrounding.{plain_var, plain_primitive, plain_bool}
 use Rattle.pict_derive.proofs.simple.used.Goals as goal
 
 pub returns-in-Some : goal.returns-in-Some
@@ -22,12 +22,12 @@ returns-in-Some-primitive_named c =
     let h : nearest c.args.scope.now n ≡ None = search rules in
     let p : primitive_named (text_of c.args.names.now n) ≡ Some c.in-Some-primitive_named.primitive = search rules in
     plain_primitive c.in-Some-primitive_named.primitive
-    ∙ sym (ap (or_primitive (text_of c.args.names.now n)) (value_nearest c.args.scope.now n ∙ ap (option_map Var) h) ∙ ap (λ o. unwrap_or (option_map PrimitiveVal o) unit) p)
+    ∙ sym (ap (or_primitive (text_of c.args.names.now n)) (value_nearest c.args.scope.now n ∙ ap (option_map Var) h) ∙ ap (λ o. unwrap_or (option_map PrimitiveVal o) nothing) p)
 
 pub returns-in-None-primitive_named : goal.returns-in-None-primitive_named
 returns-in-None-primitive_named c =
     let n = c.args.name.0 in
     let h : nearest c.args.scope.now n ≡ None = search rules in
     let p : primitive_named (text_of c.args.names.now n) ≡ None = search rules in
-    plain_unit _ _ (search rules) (search rules)
-    ∙ sym (ap (or_primitive (text_of c.args.names.now n)) (value_nearest c.args.scope.now n ∙ ap (option_map Var) h) ∙ ap (λ o. unwrap_or (option_map PrimitiveVal o) unit) p)
+    plain_bool true
+    ∙ sym (ap (or_primitive (text_of c.args.names.now n)) (value_nearest c.args.scope.now n ∙ ap (option_map Var) h) ∙ ap (λ o. unwrap_or (option_map PrimitiveVal o) nothing) p)

@@ -9,4 +9,4 @@ use Rattle.pict_front.proofs.phases.joined.Goals as goal
 pub returns-in-Ok-clause-answer : goal.returns-in-Ok-clause-answer
 returns-in-Ok-clause-answer c =
     subst (λ (p : Decs). IfSome (said_by plain_front c.judged.result) (Judges c.args.names p))
-    (ap (decs_on no_decs) c.in-Ok.ensures.items ∙ declared_behind c.args.program.decs.items c.args.more.decs.items) c.judged.ensures.answer
+    (ap (decs_on no_decs) c.in-Ok.ensures.items ∙ declared_behind c.args.decs.items c.args.more.items) c.judged.ensures.answer

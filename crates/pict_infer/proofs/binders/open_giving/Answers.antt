@@ -1,7 +1,8 @@
 -- One type binder more is open, or is refused.
 use Rattle.std.proofs.Common.{◌≡◌, ◌+◌, length, ◌∙◌, ap, arith, Global}
 use Rattle.std.specs.Prelude.{Vec}
-use Rattle.pict_syntax.specs.PlainTrees.{binders_on, held_bound}
+use Rattle.std.specs.Option.{option_map}
+use Rattle.pict_syntax.specs.PlainTrees.{binders_on, held_bound, kind_of}
 use Rattle.pict_syntax.specs.Trees.{no_binders}
 use Rattle.pict_types.specs.declared.types.Bound.{Bound}
 use Rattle.pict_types.specs.Entries.{variables}
@@ -39,9 +40,9 @@ pub push-requires-in-loop-b : goal.push-requires-in-loop-b
 push-requires-in-loop-b c =
     let d = environment_in c.loop-b.c in
     let b = c.b-item.result in
-    let is = c.own_bound-bound.ensures ∙ ap (λ w. kind_bound b.kind (bound_or_free w)) c.in_ok-written.ensures.bound ∙ ap (kind_bound b.kind) (bound_is_normal d (held_bound b.bound)) in
+    let is = c.in_ok-bound.ensures ∙ ap (λ w. kind_bound (option_map kind_of b.kind) (bound_or_free w)) c.in_ok-written.ensures.bound ∙ ap (kind_bound (option_map kind_of b.kind)) (bound_is_normal d (held_bound b.bound)) in
     record {
-      formed = one_fits (names_of c.args.c.now) (names_of c.loop-b.c) (plain_context c.args.c.now) (plain_context c.loop-b.c) c.args.bs.now c.loop-b.b-index b (plain_bounds c.loop-b.bounds.items) (plain_bound c.own_bound-bound.result)
+      formed = one_fits (names_of c.args.c.now) (names_of c.loop-b.c) (plain_context c.args.c.now) (plain_context c.loop-b.c) c.args.bs.now c.loop-b.b-index b (plain_bounds c.loop-b.bounds.items) (plain_bound c.in_ok-bound.bound)
           c.loop-b-test.true c.b-item.is c.requires.right c.loop-b.invariant.so_far c.in_ok-written.ensures.clear is;
     }
 
@@ -50,14 +51,14 @@ loop-b-preserved c =
     let d = environment_in c.loop-b.c in
     let b = c.b-item.result in
     let x = plain_bounds c.loop-b.bounds.items in
-    let is = c.own_bound-bound.ensures ∙ ap (λ w. kind_bound b.kind (bound_or_free w)) c.in_ok-written.ensures.bound ∙ ap (kind_bound b.kind) (bound_is_normal d (held_bound b.bound)) in
+    let is = c.in_ok-bound.ensures ∙ ap (λ w. kind_bound (option_map kind_of b.kind) (bound_or_free w)) c.in_ok-written.ensures.bound ∙ ap (kind_bound (option_map kind_of b.kind)) (bound_is_normal d (held_bound b.bound)) in
     let more = ap plain_bounds c.in_ok-push.ensures.items ∙ bounds_and c.loop-b.bounds.items c.in_ok-copy.field-0 ∙ ap (and_bound x) c.in_ok-copy.ensures.same in
     let pushed = c.in_ok-push-2.ensures.pushed in
     let count : length (type_context c.push-in-loop-b.new.self) ≡ 1 + length (type_context c.loop-b.c) = ap (λ z. length (variables z)) pushed ∙ omega arith in
     record {
       so_far =
           one_opened (names_of c.args.c.now) (names_of c.loop-b.c) (names_of c.push-in-loop-b.new.self) (plain_context c.args.c.now) (plain_context c.loop-b.c) (plain_context c.push-in-loop-b.new.self) c.args.bs.now c.loop-b.b-index b
-          x (plain_bounds c.push.new.self.items) (plain_bound c.own_bound-bound.result)
+          x (plain_bounds c.push.new.self.items) (plain_bound c.in_ok-bound.bound)
           c.loop-b-test.true c.b-item.is c.loop-b.invariant.so_far c.in_ok-written.ensures.clear is c.push-in-loop-b.ensures.names pushed more;
       grows = omega (arith, count);
     }

@@ -1,5 +1,6 @@
 -- A type within the limits, and one past a limit.
 use Rattle.std.proofs.Common.{◌≤◌, ◌∙◌, ap, Some, arith}
+use Rattle.pict_syntax.specs.declared.limits.TheConstants.{HEIGHT_LIMIT, WEIGHT_LIMIT}
 use Rattle.pict_syntax.specs.declared.code.Code.TheVariants.{K4}
 use Rattle.pict_types.specs.Measures.{weight_of, height_of}
 use Rattle.pict_types.specs.Plain.{plain}
@@ -16,8 +17,8 @@ pub returns-in-None : goal.returns-in-None
 returns-in-None c =
     let d = plain_context c.args.c.now in
     let t = plain c.args.t.now in
-    let w : weight_of (type_context c.args.c.now) t ≤ 100000 = omega (arith, c.measures.ensures.weight, c.in-None.ensures.none.0) in
-    let h : height_of (type_context c.args.c.now) t ≤ 1000 = omega (arith, c.measures.ensures.height, c.in-None.ensures.none.1) in
+    let w : weight_of (type_context c.args.c.now) t ≤ WEIGHT_LIMIT = omega (arith, c.measures.ensures.weight, c.in-None.ensures.none.0) in
+    let h : height_of (type_context c.args.c.now) t ≤ HEIGHT_LIMIT = omega (arith, c.measures.ensures.height, c.in-None.ensures.none.1) in
     clear (size_stop d t c.args.span) (size_clear d t c.args.span w h) give_
 
 pub returns-in-Some : goal.returns-in-Some

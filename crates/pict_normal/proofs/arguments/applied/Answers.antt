@@ -1,4 +1,5 @@
 -- The body with its arguments measures what it does over their measures, and is built where that is within the limits.
+use Rattle.pict_syntax.specs.declared.limits.TheConstants.{HEIGHT_LIMIT, WEIGHT_LIMIT}
 use Rattle.std.proofs.Common.{◌≡◌, ◌≤◌, ◌∙◌, length, map, refl, sym, ap, ap₂, arith}
 use Rattle.pict_types.specs.Types.{PlainTypes, count_types}
 use Rattle.pict_types.specs.Filling.{put_for}
@@ -64,8 +65,8 @@ returns-then-is_within-clause-made c = λ us x.
     let light = c.in_ok-measures.ensures.light in
     let same = ap (λ m. m.weight) c.in_ok-measures.ensures.same in
     let within = c.if-is_within.ensures.yes refl in
-    let few : weigh (weights_inside ms ws) (fill (put_for us c.args.by) body) ≤ 100000 = omega (arith, same, weight, light) in
-    let low : rise (heights_inside ms hs) (fill (put_for us c.args.by) body) ≤ 1000 = omega (arith, height, within.1) in
+    let few : weigh (weights_inside ms ws) (fill (put_for us c.args.by) body) ≤ WEIGHT_LIMIT = omega (arith, same, weight, light) in
+    let low : rise (heights_inside ms hs) (fill (put_for us c.args.by) body) ≤ HEIGHT_LIMIT = omega (arith, height, within.1) in
     let built = ap plain_types c.deref-then-is_within.ensures.value ∙ x.types_ in
     let made = c.in_ok-fill_type.ensures ∙ ap (λ y. fill (put_for y c.args.by) body) built ∙ sym (body_built (weights_inside ms ws) (heights_inside ms hs) c.args.by us body few low) in
     c.new.ensures.made (weights_inside ms ws) (heights_inside ms hs) (fill (put_for us c.args.by) body) made (same ∙ weight) height

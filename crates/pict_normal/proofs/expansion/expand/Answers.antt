@@ -1,4 +1,5 @@
 -- The raw form with what the entries mean put into it is the normal form.
+use Rattle.pict_syntax.specs.declared.limits.TheConstants.{HEIGHT_LIMIT}
 use Rattle.std.proofs.Common.{◌≡◌, ◌≤◌, ◌<◌, ℕ, List, [], Some, None, sym, ◌∙◌, ap, subst, arith, rules}
 use Rattle.std.specs.Prelude.{IfSome, IfNone}
 use Rattle.std.specs.Result.{IsOkAnd}
@@ -17,7 +18,6 @@ use Rattle.pict_normal.specs.Normal.{kind_stop, kind_stops, normal, size_stop}
 use Rattle.pict_types.specs.Entries.{PlainContext, variables}
 use Rattle.pict_types.specs.Plain.{plain}
 use Rattle.pict_types.specs.PlainContext.{names_of, plain_context, type_context}
-use Rattle.pict_normal.specs.Raw.{raw}
 use Rattle.pict_normal.specs.Refusals.{IsRefusal, kind_error}
 use Rattle.pict_types.specs.Replacing.{replace}
 use Rattle.pict_types.specs.WithinLimits.{IsWithinLimits}
@@ -73,7 +73,7 @@ returns-clause-allowed c =
     let r = ap (height_of (type_context c.args.c.now)) is in
     IfOk-weaker c.kept.result (λ u. IsOkAnd c.made_entries.result (λ m. m.ty ≡ Some u)) (λ u. kind_stop ns d t ≡ None)
     (λ u p. ok_both c.made_entries.result (λ m h e.
-    let low = subst (λ o. IfSome o (λ v. m.measures.height ≤ 1000)) e h.low in
+    let low = subst (λ o. IfSome o (λ v. m.measures.height ≤ HEIGHT_LIMIT)) e h.low in
     allowed ns d t c.in_ok-raw.ensures.kinds (omega (arith, w, h.weight, h.light)) (omega (arith, r, h.height, low))) c.made_entries.ensures.made p)
     c.kept.ensures.ok
 
@@ -85,7 +85,7 @@ returns-clause-within c =
     IfOk-weaker c.kept.result (λ u. IsOkAnd c.made_entries.result (λ m. m.ty ≡ Some u)) (λ u. IsWithinLimits k (plain u))
     (λ u p. ok_both c.made_entries.result (λ m h e.
     let same : plain u ≡ t = subst (λ o. IfSome o (λ v. plain v ≡ t)) e h.made in
-    let low : m.measures.height ≤ 1000 = subst (λ o. IfSome o (λ v. m.measures.height ≤ 1000)) e h.low in
+    let low : m.measures.height ≤ HEIGHT_LIMIT = subst (λ o. IfSome o (λ v. m.measures.height ≤ HEIGHT_LIMIT)) e h.low in
     let w = ap (weight_of k) same in
     let r = ap (height_of k) same in
     (omega (arith, w, h.weight, h.light), omega (arith, r, h.height, low))) c.made_entries.ensures.made p)
@@ -105,7 +105,7 @@ returns-clause-refused c =
     let r = ap (height_of (type_context c.args.c.now)) is in
     let none = c.in_ok-raw.ensures.kinds in
     err_both c.kept.result c.made_entries.result (λ m h e p.
-    let missing : 1000 < m.measures.height = subst (λ o. IfNone o (1000 < m.measures.height)) p.0 h.missing in
+    let missing : HEIGHT_LIMIT < m.measures.height = subst (λ o. IfNone o (HEIGHT_LIMIT < m.measures.height)) p.0 h.missing in
     subst (λ x. IsRefusal (kind_stop ns d t) x) (sym p.1)
     (refused_whole ns d t none (λ a b. omega (arith, b, r, h.height, missing)) ∙ ap (λ s. Some (K4, s)) (sym c.span_of.ensures)))
     (λ y h e p. subst (λ x. IsRefusal (kind_stop ns d t) x) (sym p) (refused_by ns d t c.span_of.result y (weight_of (type_context c.args.c.now) (replace (meanings d) (plain c.in_ok-raw.raw))) c.span_of.ensures none w h))

@@ -1,5 +1,5 @@
 -- The body of an operator is well formed.
-use Rattle.std.proofs.Common.{sym, subst}
+use Rattle.std.proofs.Common.{Some, sym, ◌∙◌, ap, subst}
 use Rattle.pict_types.specs.Entries.{variables}
 use Rattle.pict_types.specs.Kinds.{kinds, with_parameters, IsWellFormed}
 use Rattle.pict_types.specs.PlainContext.{names_of, plain_context}
@@ -13,5 +13,7 @@ returns-in_ok-operator_body-in-Some-clause-formed c =
     let ns = names_of c.args.c.now in
     let d = plain_context c.args.c.now in
     let o = c.in-Some.operator in
-    subst (IsWellFormed ns (with_parameters o.params (kinds (variables d)))) (sym c.in_ok-operator_body-in-Some.ensures)
-    (body_formed ns (kinds (variables d)) o.params ((meanings d).head_of o.entry) (head_is ns d o.entry o.params (meanings_keep ns d c.args.c.now.formed) c.in-Some.ensures.arity))
+    let n = c.in_ok-params-in-Some.params in
+    let arity = c.in-Some.ensures.arity ∙ ap Some (sym c.in_ok-params-in-Some.ensures) in
+    subst (IsWellFormed ns (with_parameters n (kinds (variables d)))) (sym c.in_ok-operator_body-in-Some.ensures)
+    (body_formed ns (kinds (variables d)) n ((meanings d).head_of o.entry) (head_is ns d o.entry n (meanings_keep ns d c.args.c.now.formed) arity))

@@ -19,26 +19,23 @@ use Rattle.pict_normal.proofs.operators.operator_body.Goals as goal
 pub unreachable-requires : goal.unreachable-requires
 unreachable-requires c =
     let d = plain_context c.args.c.now in
-    let o = c.args.operator in
     let ns = names_of c.args.c.now in
-    subst (StandsForOperator ns (kinds (variables d)) o.params) (sym (sym (ap put_head c.in-Proper.is) ∙ c.put_entry.ensures.head ∙ ap (meanings d).head_of c.in_ok-number.ensures)) (head_is ns d o.entry o.params (meanings_keep ns d c.args.c.now.formed) c.requires.arity)
+    subst (StandsForOperator ns (kinds (variables d)) c.args.count) (sym (sym (ap put_head c.in-Proper.is) ∙ c.put_entry.ensures.head ∙ ap (meanings d).head_of c.in_ok-number.ensures)) (head_is ns d c.args.entry c.args.count (meanings_keep ns d c.args.c.now.formed) c.requires.arity)
 
 pub returns-in_ok-parameters-in-Variable : goal.returns-in_ok-parameters-in-Variable
 returns-in_ok-parameters-in-Variable c =
     let d = plain_context c.args.c.now in
-    let o = c.args.operator in
     let is = sym (ap put_head c.in-Variable.is) ∙ c.put_entry.ensures.head ∙ ap (meanings d).head_of c.in_ok-number.ensures in
-    let i = c.in-Variable.i + o.params in
-    plain_apply i c.in_ok-parameters-in-Variable.field-0 ∙ ap (Apply i) c.in_ok-parameters-in-Variable.ensures ∙ ap (body_of o.params) is
+    let i = c.in-Variable.i + c.args.count in
+    plain_apply i c.in_ok-parameters-in-Variable.field-0 ∙ ap (Apply i) c.in_ok-parameters-in-Variable.ensures ∙ ap (body_of c.args.count) is
 
 pub returns-in-Operator : goal.returns-in-Operator
 returns-in-Operator c =
     let d = plain_context c.args.c.now in
-    let o = c.args.operator in
     let ns = names_of c.args.c.now in
     let is = sym (ap put_head c.in-Operator.is) ∙ c.put_entry.ensures.head ∙ ap (meanings d).head_of c.in_ok-number.ensures in
-    let same = subst (StandsForOperator ns (kinds (variables d)) o.params) (sym is) (head_is ns d o.entry o.params (meanings_keep ns d c.args.c.now.formed) c.requires.arity) in
+    let same = subst (StandsForOperator ns (kinds (variables d)) c.args.count) (sym is) (head_is ns d c.args.entry c.args.count (meanings_keep ns d c.args.c.now.formed) c.requires.arity) in
     let t = plain c.in-Operator.body.now in
-    let e : rename (moved c.in-Operator.by o.params) t ≡ body_of o.params ((meanings d).head_of o.entry) =
-    ap (λ m. rename (moved c.in-Operator.by m) t) (sym same.0) ∙ ap (body_of o.params) is in
+    let e : rename (moved c.in-Operator.by c.args.count) t ≡ body_of c.args.count ((meanings d).head_of c.args.entry) =
+    ap (λ m. rename (moved c.in-Operator.by m) t) (sym same.0) ∙ ap (body_of c.args.count) is in
     subst (λ u. IfOk c.shift_type.result (λ x. plain x ≡ u)) e c.shift_type.ensures

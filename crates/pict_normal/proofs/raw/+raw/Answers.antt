@@ -1,7 +1,8 @@
 -- Lists, binders and records of raw forms, and the first refusal among them.
 use Rattle.std.proofs.Common.{◌≡◌, suc, ◌+◌, true, false, ◌∷◌, ◌++◌, length, drop, refl, sym, ◌∙◌, ap, ap₂, subst, arith, rules}
 use Rattle.pict_syntax.specs.Trees.{no_types, no_binders, no_labelled_types, fields_type}
-use Rattle.pict_syntax.specs.PlainTrees.{type_of, binder_of, types_on, binders_on, labelled_types_on}
+use Rattle.std.specs.Option.{option_map}
+use Rattle.pict_syntax.specs.PlainTrees.{kind_of, type_of, binder_of, types_on, binders_on, labelled_types_on}
 use Rattle.pict_normal.specs.Around.{around, scope_of}
 use Rattle.pict_normal.specs.BinderEntries.{bound_entry, entries_under}
 use Rattle.pict_normal.specs.Meanings.{meanings}
@@ -27,13 +28,13 @@ pub operator_bound-returns-then-becomes_top-clause-kinds : goal.operator_bound-r
 operator_bound-returns-then-becomes_top-clause-kinds t c =
     let top : true ≡ is_top (replace (meanings (around c.args.inner.now c.args.c.now)) (plain c.in-Ok.t)) =
     sym c.if-becomes_top.true ∙ c.becomes_top.ensures ∙ ap (λ s. is_top (replace (meanings (s ++ plain_context c.args.c.now)) (plain c.in-Ok.t))) c.in-Ok.ensures.inner in
-    operator_fits (names_of c.args.c.now) (around c.args.inner.now c.args.c.now) c.args.at c.args.n (type_of c.args.t.now) (plain c.in-Ok.t) c.in-Ok.ensures.kinds c.in-Ok.ensures.raw top
+    operator_fits (names_of c.args.c.now) (around c.args.inner.now c.args.c.now) c.args.at c.args.marks.now (type_of c.args.t.now) (plain c.in-Ok.t) c.in-Ok.ensures.kinds c.in-Ok.ensures.raw top
 
 pub operator_bound-returns-else-becomes_top-clause-first : goal.operator_bound-returns-else-becomes_top-clause-first
 operator_bound-returns-else-becomes_top-clause-first t c =
     let top : false ≡ is_top (replace (meanings (around c.args.inner.now c.args.c.now)) (plain c.in-Ok.t)) =
     sym c.if-becomes_top.false ∙ c.becomes_top.ensures ∙ ap (λ s. is_top (replace (meanings (s ++ plain_context c.args.c.now)) (plain c.in-Ok.t))) c.in-Ok.ensures.inner in
-    operator_refused (names_of c.args.c.now) (around c.args.inner.now c.args.c.now) c.args.at c.args.n (type_of c.args.t.now) (plain c.in-Ok.t) c.in-Ok.ensures.kinds c.in-Ok.ensures.raw top
+    operator_refused (names_of c.args.c.now) (around c.args.inner.now c.args.c.now) c.args.at c.args.marks.now (type_of c.args.t.now) (plain c.in-Ok.t) c.in-Ok.ensures.kinds c.in-Ok.ensures.raw top
 
 pub raw_binders-loop-b-init : goal.raw_binders-loop-b-init
 raw_binders-loop-b-init t c =
@@ -84,7 +85,7 @@ raw_binders-loop-b-preserved t c =
           (ap (λ y. binder_stops ns (s ++ ctx) (binder_of y)) (sym is) ∙ c.in_ok-raw_binder.ensures.kinds);
       inner =
           binders_inner e (scope_of c.push-in-loop-b.new.self) bs i x c.loop-b-test.true
-          (c.in_ok-push-2.ensures ∙ ap₂ (λ u v. u ∷ v) (ap (λ y. bound_entry y.id.name.0 y.kind) is) (c.in_ok-raw_binder.ensures.inner ∙ c.loop-b.invariant.inner));
+          (c.in_ok-push-2.ensures ∙ ap₂ (λ u v. u ∷ v) (ap (bound_entry c.b-item.result.id.name.0) c.in_ok-copy_kind.ensures ∙ ap (λ y. bound_entry y.id.name.0 (option_map kind_of y.kind)) is) (c.in_ok-raw_binder.ensures.inner ∙ c.loop-b.invariant.inner));
     }
 
 pub raw_labels-loop-l-init : goal.raw_labels-loop-l-init

@@ -1,52 +1,67 @@
-use Rattle.std.proofs.Common.{◌≡◌, Ok, Err, length, subst, arith}
-use Rattle.pict_automaton.specs.Machine.{step}
-use Rattle.pict_automaton.specs.Places.{stop}
-use Rattle.pict_automaton.proofs.Nestings.{shallow_start}
-use Rattle.pict_parse_states.specs.View.{Gives, state_of}
-use Rattle.pict_parse.specs.Answers.{Ends}
+use Rattle.std.proofs.Common.{◌+◌, Ok, refl, sym, subst, arith}
+use Rattle.pict_syntax.specs.Programs.{programs}
+use Rattle.pict_syntax.specs.Verdicts.{IsVerdict, Unexpected, end_place}
+use Rattle.pict_programs.proofs.Reading.{HasRead, read_none, read_import, keyword_last, declared_whole, no_import_here, nothing_left}
+use Rattle.pict_parse_states.specs.View.{decs_in}
+use Rattle.pict_parse.specs.Answers.{declared, refused, verdict_of}
 use Rattle.pict_parse.specs.declared.entry.ParseError.TheVariants as answer
-use Rattle.pict_parse.proofs.Exact.{exact_of}
-use Rattle.pict_parse.proofs.Loop.{unexpected, kept_on, too_nested, program, no_program}
+use Rattle.pict_parse.proofs.Exact.{exact_program}
+use Rattle.pict_parse.proofs.Imports.{refused_name, refused_declarations, of_rest}
+use Rattle.pict_parse.proofs.entry.parse.Goals.{then-imports-test+else-is_import, else-imports-test}
 use Rattle.pict_parse.proofs.entry.parse.Goals as goal
 
-pub loop-token-init : goal.loop-token-init
-loop-token-init c = (c.in_ok-state.ensures, shallow_start c.args.tokens.now)
+pub imports-init : goal.imports-init
+imports-init c = record {
+  read = subst (HasRead c.args.tokens.now (end_place c.args.tokens.now c.args.end) 0) (sym c.new-imports.ensures.items) (read_none c.args.tokens.now (end_place c.args.tokens.now c.args.end));
+  within = omega arith;
+}
 
-pub loop-token-preserved : goal.loop-token-preserved
-loop-token-preserved c =
-    kept_on c.args.tokens.now c.loop-token.token-index c.token-item.result c.loop-token.state c.in-Ok.next c.loop-token-test.true c.token-item.is c.loop-token.invariant (c.in-Ok.ensures) (c.if-not-is_within.ensures)
+pub imports-preserved : goal.imports-preserved
+imports-preserved c = record {
+  read =
+      subst (HasRead c.args.tokens.now (end_place c.args.tokens.now c.args.end) (c.imports.at + 2)) (sym c.in_ok-push-in-Ok.ensures.items)
+      (read_import c.args.tokens.now (end_place c.args.tokens.now c.args.end) c.imports.at c.imports.imports.items c.index-tokens-at.result c.index-tokens-at-in-imports.result c.in-Ok.import
+      (omega (arith, c.imports-test.true, c.if-tokens-at-lt2.false)) c.index-tokens-at.is c.index-tokens-at-in-imports.is (c.if-is_import.ensures.yes refl) c.in-Ok.ensures.0 c.in-Ok.ensures.1 c.imports.invariant.read);
+  within = omega (arith, c.imports-test.true, c.if-tokens-at-lt2.false);
+}
 
-pub returns-in-Err-Unexpected-clause-verdict : goal.returns-in-Err-Unexpected-clause-verdict
-returns-in-Err-Unexpected-clause-verdict c =
-    let stops : step c.token-item.result.kind c.token-item.result.span (state_of c.loop-token.state) ≡ stop =
-    subst (λ f. Gives (Err f) (step c.token-item.result.kind c.token-item.result.span (state_of c.loop-token.state))) c.in-Err-Unexpected.field-0-is (c.in-Err-Unexpected.ensures) in
-    unexpected c.args.tokens.now c.args.end c.loop-token.token-index c.token-item.result c.loop-token.state c.loop-token-test.true c.token-item.is c.loop-token.invariant stops
+pub returns-then-tokens-at-lt2-clause-verdict : goal.returns-then-tokens-at-lt2-clause-verdict
+returns-then-tokens-at-lt2-clause-verdict c =
+    subst (λ place. IsVerdict programs c.args.tokens.now (end_place c.args.tokens.now c.args.end) (Unexpected place)) (sym c.end_of-place.ensures)
+    (keyword_last c.args.tokens.now (end_place c.args.tokens.now c.args.end) c.imports.at c.imports.imports.items c.index-tokens-at.result
+    (omega (arith, c.imports-test.true, c.if-tokens-at-lt2.true)) c.index-tokens-at.is (c.if-is_import.ensures.yes refl) c.imports.invariant.read)
 
-pub returns-then-not-is_within-clause-verdict : goal.returns-then-not-is_within-clause-verdict
-returns-then-not-is_within-clause-verdict c =
-    too_nested c.args.tokens.now c.args.end c.loop-token.token-index c.token-item.result c.loop-token.state c.in-Ok.next c.loop-token-test.true c.token-item.is c.loop-token.invariant (c.in-Ok.ensures) (c.if-not-is_within.ensures)
+pub returns-in-Err-clause-verdict : goal.returns-in-Err-clause-verdict
+returns-in-Err-clause-verdict c =
+    refused_name c.args.tokens.now (end_place c.args.tokens.now c.args.end) c.imports.at c.imports.imports.items c.index-tokens-at.result c.index-tokens-at-in-imports.result c.in-Err.error
+    (omega (arith, c.imports-test.true, c.if-tokens-at-lt2.false)) c.index-tokens-at.is c.index-tokens-at-in-imports.is (c.if-is_import.ensures.yes refl) c.in-Err.ensures c.imports.invariant.read
 
-pub returns-in-Some-clause-verdict : goal.returns-in-Some-clause-verdict
-returns-in-Some-clause-verdict c =
-    let whole : c.loop-token.token-index ≡ length c.args.tokens.now = omega arith in
-    program c.args.tokens.now c.args.end c.loop-token.token-index c.loop-token.state c.in-Some.program whole c.loop-token.invariant (subst (Ends (state_of c.loop-token.state)) c.in-Some.is (c.in_ok-program.ensures))
+pub returns-in-Ok-parse_declarations-clause-verdict : goal.returns-in-Ok-parse_declarations-clause-verdict
+returns-in-Ok-parse_declarations-clause-verdict c =
+    declared_whole c.args.tokens.now (end_place c.args.tokens.now c.args.end) c.imports.at c.imports.imports.items (decs_in c.in-Ok-parse_declarations.decs)
+    (elim c.imports-test.branch [ then-imports-test+else-is_import w ↦ no_import_here c.args.tokens.now c.imports.at w.index-tokens-at.result (omega (arith, w.imports-test.true)) w.index-tokens-at.is (w.if-is_import.ensures.no refl) | else-imports-test w ↦ nothing_left c.args.tokens.now c.imports.at (omega (arith, w.imports-test.false)) ])
+    c.imports.invariant.read
+    (of_rest c.args.tokens.now c.imports.at c.end_of-place.result (end_place c.args.tokens.now c.args.end) c.end_of-place.ensures (declared (Ok c.in-Ok-parse_declarations.decs)) c.in-Ok-parse_declarations.ensures.verdict)
 
-pub returns-in-None-clause-verdict : goal.returns-in-None-clause-verdict
-returns-in-None-clause-verdict c =
-    let whole : c.loop-token.token-index ≡ length c.args.tokens.now = omega arith in
-    no_program c.args.tokens.now c.args.end c.loop-token.token-index c.loop-token.state c.end_of.result whole c.loop-token.invariant (subst (Ends (state_of c.loop-token.state)) c.in-None.is (c.in_ok-program.ensures)) c.end_of.ensures
+pub returns-in-Err-parse_declarations-clause-verdict : goal.returns-in-Err-parse_declarations-clause-verdict
+returns-in-Err-parse_declarations-clause-verdict c =
+    refused_declarations c.args.tokens.now (end_place c.args.tokens.now c.args.end) c.imports.at c.imports.imports.items c.in-Err-parse_declarations.error
+    (elim c.imports-test.branch [ then-imports-test+else-is_import w ↦ no_import_here c.args.tokens.now c.imports.at w.index-tokens-at.result (omega (arith, w.imports-test.true)) w.index-tokens-at.is (w.if-is_import.ensures.no refl) | else-imports-test w ↦ nothing_left c.args.tokens.now c.imports.at (omega (arith, w.imports-test.false)) ])
+    c.imports.invariant.read
+    (of_rest c.args.tokens.now c.imports.at c.end_of-place.result (end_place c.args.tokens.now c.args.end) c.end_of-place.ensures (refused c.in-Err-parse_declarations.error) c.in-Err-parse_declarations.ensures.verdict)
 
-pub returns-in-Err-Unexpected-clause-exact : goal.returns-in-Err-Unexpected-clause-exact
-returns-in-Err-Unexpected-clause-exact c =
-    exact_of c.args.tokens.now c.args.end (Err (answer.Unexpected c.token-item.result.span)) (returns-in-Err-Unexpected-clause-verdict c)
+pub returns-then-tokens-at-lt2-clause-exact : goal.returns-then-tokens-at-lt2-clause-exact
+returns-then-tokens-at-lt2-clause-exact c =
+    exact_program c.args.tokens.now (end_place c.args.tokens.now c.args.end) (refused (answer.Unexpected c.end_of-place.result)) (returns-then-tokens-at-lt2-clause-verdict c)
 
-pub returns-then-not-is_within-clause-exact : goal.returns-then-not-is_within-clause-exact
-returns-then-not-is_within-clause-exact c =
-    exact_of c.args.tokens.now c.args.end (Err (answer.TooNested c.token-item.result.span)) (returns-then-not-is_within-clause-verdict c)
+pub returns-in-Err-clause-exact : goal.returns-in-Err-clause-exact
+returns-in-Err-clause-exact c =
+    exact_program c.args.tokens.now (end_place c.args.tokens.now c.args.end) (refused c.in-Err.error) (returns-in-Err-clause-verdict c)
 
-pub returns-in-Some-clause-exact : goal.returns-in-Some-clause-exact
-returns-in-Some-clause-exact c = exact_of c.args.tokens.now c.args.end (Ok c.in-Some.program) (returns-in-Some-clause-verdict c)
+pub returns-in-Ok-parse_declarations-clause-exact : goal.returns-in-Ok-parse_declarations-clause-exact
+returns-in-Ok-parse_declarations-clause-exact c =
+    exact_program c.args.tokens.now (end_place c.args.tokens.now c.args.end) (verdict_of (Ok (record { imports = c.imports.imports; decs = c.in-Ok-parse_declarations.decs }))) (returns-in-Ok-parse_declarations-clause-verdict c)
 
-pub returns-in-None-clause-exact : goal.returns-in-None-clause-exact
-returns-in-None-clause-exact c =
-    exact_of c.args.tokens.now c.args.end (Err (answer.Unexpected c.end_of.result)) (returns-in-None-clause-verdict c)
+pub returns-in-Err-parse_declarations-clause-exact : goal.returns-in-Err-parse_declarations-clause-exact
+returns-in-Err-parse_declarations-clause-exact c =
+    exact_program c.args.tokens.now (end_place c.args.tokens.now c.args.end) (refused c.in-Err-parse_declarations.error) (returns-in-Err-parse_declarations-clause-verdict c)

@@ -1,7 +1,6 @@
-use Rattle.std.proofs.Common.{◌≡◌, ◌++◌, ◌∷◌, [], map, ap, sym, refl, ◌∙◌, append_assoc}
-use Rattle.pict_core.specs.Plain.{plain_val, plain_field, vals_of, labelled_of}
-use Rattle.pict_show.specs.Values.{value_text}
-use Rattle.pict_show.specs.Pending.{fields_text, pending, piece_text, rest_text}
+use Rattle.std.proofs.Common.{◌++◌, [], map, ap, sym, refl, ◌∙◌}
+use Rattle.pict_core.specs.Plain.{plain_field, labelled_of}
+use Rattle.pict_show.specs.Pending.{pending}
 use Rattle.pict_show.proofs.Pieces.{two_pushed, at_positional, at_labelled, label_written}
 use Rattle.pict_syntax.specs.Names.{text_of}
 use Rattle.pict_show.proofs.value.write_field.Goals as goal

@@ -1,4 +1,4 @@
-use Rattle.std.proofs.Common.{◌≡◌, ◌++◌, ◌<◌, [], length, rules}
+use Rattle.std.proofs.Common.{rules}
 use Rattle.pict_show.proofs.Pieces.{number_grows}
 use Rattle.pict_show.proofs.value.write_number.Goals as goal
 use Rattle.pict_syntax.proofs.ListLemmas.{on_ok}

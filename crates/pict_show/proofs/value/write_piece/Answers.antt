@@ -1,4 +1,4 @@
-use Rattle.std.proofs.Common.{◌≡◌, ◌++◌, ◌∷◌, [], map, sym, ap, ◌∙◌, refl}
+use Rattle.std.proofs.Common.{◌∷◌, [], map, sym, ap, ◌∙◌}
 use Rattle.pict_core.specs.Plain.{plain_val, plain_field, vals_of, labelled_of}
 use Rattle.pict_show.specs.Values.{value_text}
 use Rattle.pict_show.specs.Pending.{pending, fields_text, piece_text}

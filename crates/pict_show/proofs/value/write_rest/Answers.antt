@@ -1,4 +1,4 @@
-use Rattle.std.proofs.Common.{◌≡◌, ◌++◌, ◌∷◌, [], map, sym, length, arith}
+use Rattle.std.proofs.Common.{◌≡◌, [], map, length, arith}
 use Rattle.pict_core.specs.Plain.{plain_val, plain_field, vals_of, labelled_of}
 use Rattle.pict_show.specs.Pending.{pending, fields_text, rest_text}
 use Rattle.pict_show.proofs.Pieces.{byte_written, rest_is}

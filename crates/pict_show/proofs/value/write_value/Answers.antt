@@ -1,5 +1,5 @@
-use Rattle.std.proofs.Common.{◌≡◌, ◌++◌, ◌∷◌, ◌<◌, [], length, ◌∙◌}
-use Rattle.pict_show.specs.Pending.{pending, piece_text}
+use Rattle.std.proofs.Common.{[], ◌∙◌}
+use Rattle.pict_show.specs.Pending.{pending}
 use Rattle.pict_show.proofs.Pieces.{turned, less_left}
 use Rattle.pict_show.proofs.value.write_value.Goals as goal
 

@@ -1,7 +1,8 @@
 -- Two applied variables.
-use Rattle.std.proofs.Common.{◌≡◌, suc, ap, arith}
+use Rattle.std.proofs.Common.{◌≡◌, suc, sym, ◌∙◌, ap, arith}
+use Rattle.pict_types.specs.Types.{Operator}
 use Rattle.pict_types.specs.Measures.{size, size_types}
-use Rattle.pict_types.specs.Plain.{plain, plain_types}
+use Rattle.pict_types.specs.Plain.{plain, plain_bound, plain_types}
 use Rattle.pict_types.proofs.Rows.{apply_is}
 use Rattle.pict_sub.proofs.equality.+equal.Goals as goal
 use Rattle.pict_types.proofs.Alike.{told_alike}
@@ -17,3 +18,9 @@ equal_types-returns-then-i-j-clause-cost g t c =
     let d = apply_is c.args.s.now c.in-Apply-Apply.i c.in-Apply-Apply.ss c.deref.result.now c.in-Apply-Apply.is-0 c.deref.ensures.value in
     let h : size (plain c.args.s.now) ≡ suc (size_types (plain_types c.deref.result.now)) = ap size d in
     omega (arith, h, c.equal_rows.ensures.cost, c.tick.ensures.counted)
+
+pub equal_bound-returns-in-Operator-Operator-clause-answer : goal.equal_bound-returns-in-Operator-Operator-clause-answer
+equal_bound-returns-in-Operator-Operator-clause-answer g t c =
+    let d : plain_bound c.args.b.now ≡ Operator c.deref.result.now = ap plain_bound c.in-Operator-Operator.is-0 ∙ ap Operator (sym c.deref.ensures.value) in
+    let e : plain_bound c.args.d.now ≡ Operator c.deref-in-Operator-Operator.result.now = ap plain_bound c.in-Operator-Operator.is-1 ∙ ap Operator (sym c.deref-in-Operator-Operator.ensures.value) in
+    (λ h. d ∙ ap Operator (c.equal_marks.ensures.answer.0 h) ∙ sym e, λ h. c.equal_marks.ensures.answer.1 (let z : Operator c.deref.result.now ≡ Operator c.deref-in-Operator-Operator.result.now = sym d ∙ h ∙ e in cc))

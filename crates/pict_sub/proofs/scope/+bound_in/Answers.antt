@@ -24,9 +24,9 @@ returns-in-Free-clause-none t c = λ b e.
 
 pub returns-in-Operator-clause-none : goal.returns-in-Operator-clause-none
 returns-in-Operator-clause-none t c = λ b e.
-    let h : bound_at (scope_context c.args.scope.now) c.args.i ≡ Operator c.in-Operator.field-0 =
+    let h : bound_at (scope_context c.args.scope.now) c.args.i ≡ Operator c.in-Operator.field-0.items =
     ap (λ s. bound_at (scope_context s) c.args.i) c.in-Inner.is
     ∙ bound_inside (scope_context c.in-Inner.outer.now) c.in-Inner.bs.now c.args.i _ c.if-i-bs.false
     ∙ ap plain_bound c.in-Operator.is in
-    let z : Operator c.in-Operator.field-0 ≡ Below b = sym h ∙ e in
+    let z : Operator c.in-Operator.field-0.items ≡ Below b = sym h ∙ e in
     absurd (cc)

@@ -1,13 +1,14 @@
 -- The answers on records and on their labels.
-use Rattle.std.proofs.Common.{◌≡◌, suc, ◌+◌, ◌<◌, length, drop, refl, sym, ◌∙◌, ap, subst, arith, true, false}
-use Rattle.pict_types.specs.Types.{Var, under}
-use Rattle.pict_types.specs.Kinds.{kinds}
+use Rattle.std.proofs.Common.{◌≡◌, suc, ◌+◌, ◌<◌, length, drop, refl, sym, ◌∙◌, ap, subst, arith, true, false, Some}
+use Rattle.pict_types.specs.Types.{Var, under, count_types}
+use Rattle.pict_types.specs.Kinds.{kinds, kind_at, operator_of, IsWellFormed}
 use Rattle.pict_types.specs.Measures.{weigh_types, weigh_labels, weigh_bounds, weights, weight_of}
 use Rattle.pict_types.specs.Plain.{plain, plain_record, plain_types, plain_bounds, plain_labels}
 use Rattle.pict_sub.specs.Scopes.{scope_context, scope_names}
 use Rattle.pict_sub.specs.Subtyping.{IsSubtype, same}
 use Rattle.pict_sub.proofs.Below.{ready_as, weigh_as, parts_as, other_fields, second_decides, pass_label, take_label, miss_label, end_labels, all_found}
-use Rattle.pict_types.proofs.Rows.{labels_end}
+use Rattle.pict_types.proofs.Rows.{labels_end, count_types_length}
+use Rattle.pict_sub.proofs.Marked.{operator_there, marks_there, applied_to}
 use Rattle.pict_sub.proofs.subtyping.+below.Goals as goal
 use Rattle.pict_types.proofs.Sizes.{size_weight_bounds, weight_positive}
 use Rattle.pict_types.proofs.Items.{label_read, label_weighs, label_rest}
@@ -236,3 +237,37 @@ labels_are_below-loop-l-preserved g t c =
 pub labels_are_below-returns-clause-answer : goal.labels_are_below-returns-clause-answer
 labels_are_below-returns-clause-answer g t c =
     all_found (scope_context c.args.scope.now) c.args.ls.now c.args.ms.now c.loop-l.l-index c.loop-l.j c.loop-l-test.false c.loop-l.invariant.inside c.loop-l.invariant.same
+
+pub applied_is_below-returns-then-i-j-clause-answer : goal.applied_is_below-returns-then-i-j-clause-answer
+applied_is_below-returns-then-i-j-clause-answer g t c =
+    let ctx = scope_context c.args.scope.now in
+    let o = operator_there ctx c.args.i _ c.requires.s.0 in
+    let e = applied_to ctx c.args.i c.in-Some.j o.0 (plain_types c.args.ss.now) (plain_types c.in-Some.ts.now) (plain c.args.t.now) c.in-Some.ensures.some o.1 o.2 in
+    (λ h. cc, λ d. absurd (c.if-i-j.true (e.0 d).0))
+
+pub applied_is_below-unreachable-requires : goal.applied_is_below-unreachable-requires
+applied_is_below-unreachable-requires g t c =
+    let o = operator_there (scope_context c.args.scope.now) c.args.i _ c.requires.s.0 in
+    c.in-None-marks_in.ensures.none o.0 o.1
+
+pub applied_is_below-arguments_are_below-requires : goal.applied_is_below-arguments_are_below-requires
+applied_is_below-arguments_are_below-requires g t c =
+    let ctx = scope_context c.args.scope.now in
+    let ns = scope_names c.args.scope.now in
+    let ms = c.in-Some-marks_in.marks.now in
+    let e = c.in-Some.ensures.some in
+    let w = subst (IsWellFormed ns (kinds ctx)) e c.requires.t in
+    let k : kind_at (kinds ctx) c.args.i ≡ Some (operator_of (count_types (plain_types c.in-Some.ts.now))) = ap (kind_at (kinds ctx)) c.if-i-j.false ∙ w.0 in
+    let p : weight_of ctx (plain c.args.t.now) ≡ suc (weigh_types (weights ctx) (plain_types c.in-Some.ts.now)) = ap (weight_of ctx) e in
+    let m = c.in-Some-marks_in.ensures.some in
+    let l : length c.args.ss.now ≡ length ms = sym (count_types_length c.args.ss.now) ∙ sym (marks_there ctx c.args.i _ ms c.requires.s.0 m) in
+    let r : length c.in-Some.ts.now ≡ length ms = sym (count_types_length c.in-Some.ts.now) ∙ sym (marks_there ctx c.args.i _ ms k m) in
+    λ κs h. (omega (arith, p), (h, (c.requires.context, (c.requires.s.1, (w.1, (l, r))))))
+
+pub applied_is_below-returns-in-Some-marks_in-clause-answer : goal.applied_is_below-returns-in-Some-marks_in-clause-answer
+applied_is_below-returns-in-Some-marks_in-clause-answer g t c =
+    let ctx = scope_context c.args.scope.now in
+    let ms = c.in-Some-marks_in.marks.now in
+    let m = c.in-Some-marks_in.ensures.some in
+    let n = marks_there ctx c.args.i _ ms c.requires.s.0 m in
+    second_decides c.arguments_are_below.result c.if-i-j.false (applied_to ctx c.args.i c.in-Some.j ms (plain_types c.args.ss.now) (plain_types c.in-Some.ts.now) (plain c.args.t.now) c.in-Some.ensures.some m n) c.arguments_are_below.ensures.answer

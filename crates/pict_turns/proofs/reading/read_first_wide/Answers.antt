@@ -2,6 +2,7 @@ use Rattle.std.proofs.Common.{ℕ, suc, ◌≡◌, true, nat_lt, cond, List, [],
 use Rattle.std.proofs.lemmas.Bool.Decides.{nat_tests}
 use Rattle.std.proofs.lemmas.List.{with_items_is}
 use Rattle.std.specs.Vec.{with_items}
+use Rattle.pict_syntax.specs.declared.limits.TheConstants.{NARROW_LIMIT}
 use Rattle.pict_queue.specs.QueuesState.{QueuesState}
 use Rattle.pict_queue.specs.Contents.{first_words}
 use Rattle.pict_blocks.specs.Blocks.{value_in, values_of, fields_of, frame_values}
@@ -45,7 +46,7 @@ returns-clause-read c =
     let tag : c.first_word-tag.result ≡ r.pair.0 = c.first_word-tag.ensures.word ∙ ap (λ (ws : List ℕ). get_or ws 1 0) whole in
     let payload : c.first_word-payload.result ≡ r.pair.1 =
     c.first_word-payload.ensures.word ∙ ap (λ (x : QueuesState). get_or (first_words x c.args.queue.0) 2 0) c.first_word-tag.ensures.rest ∙ ap (λ (ws : List ℕ). get_or ws 2 0) whole in
-    let test : nat_lt 32000 (length frame) ≡ true = let many = c.requires.wide in grind (arith, nat_tests) in
+    let test : nat_lt NARROW_LIMIT (length frame) ≡ true = let many = c.requires.wide in grind (arith, nat_tests) in
     let before : c.deref_mut.result.now ≡ s.values.items = c.deref_mut.ensures.value in
     let same : length values ≡ length s.values.items = c.read_record.ensures.len ∙ ap length before in
     has_read s c.first_word-payload.new.queues (with_items s.values values) first frame values

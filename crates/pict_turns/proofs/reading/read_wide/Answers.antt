@@ -2,6 +2,7 @@ use Rattle.std.proofs.Common.{ℕ, suc, ◌≡◌, true, nat_lt, cond, List, [],
 use Rattle.std.proofs.lemmas.Bool.Decides.{nat_tests}
 use Rattle.std.proofs.lemmas.List.{with_items_is}
 use Rattle.std.specs.Vec.{with_items}
+use Rattle.pict_syntax.specs.declared.limits.TheConstants.{NARROW_LIMIT}
 use Rattle.pict_queue.specs.Contents.{held_words}
 use Rattle.pict_region.specs.RegionState.{words_of}
 use Rattle.pict_blocks.specs.Blocks.{value_in, values_of, fields_of, frame_values}
@@ -50,7 +51,7 @@ returns-clause-read c =
     let p = pair_behind (words_of s.queues.region c.args.block.now) h.0 r.pair.0 r.pair.1 (h.2 ∙ ap (λ (us : List ℕ). suc h.0 ∷ us) r.is) in
     let tag : pair.0 ≡ r.pair.0 = c.get_pair-pair.ensures.first ∙ p.0 in
     let payload : pair.1 ≡ r.pair.1 = c.get_pair-pair.ensures.second ∙ p.1 in
-    let test : nat_lt 32000 (length frame) ≡ true = let many = c.requires.wide in grind (arith, nat_tests) in
+    let test : nat_lt NARROW_LIMIT (length frame) ≡ true = let many = c.requires.wide in grind (arith, nat_tests) in
     let before : c.deref_mut.result.now ≡ s.values.items = c.deref_mut.ensures.value in
     let same : length values ≡ length s.values.items = c.read_record.ensures.len ∙ ap length before in
     has_read s c.get_pair-pair.new.self (with_items s.values values) (held_words s.queues.region c.args.block.now) frame values

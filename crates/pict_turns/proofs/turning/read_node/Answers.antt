@@ -1,4 +1,5 @@
 use Rattle.std.proofs.Common.{ℕ, List, ◌≤◌, length, map, sym, ap, subst, arith}
+use Rattle.pict_syntax.specs.declared.limits.TheConstants.{NARROW_LIMIT}
 use Rattle.pict_code.specs.Plain.{plain_node}
 use Rattle.pict_queue.specs.QueuesState.{CostsAtMost}
 use Rattle.pict_queue.specs.Contents.{held_words}
@@ -25,12 +26,12 @@ read_narrow-requires-clause-rising c = coded_rising c.args.code.now c.requires.c
 
 pub read_wide_node-requires-clause-wide : goal.read_wide_node-requires-clause-wide
 read_wide_node-requires-clause-wide c = λ frame f.
-    let many = c.if-frame-le-NARROW.false in
+    let many = c.if-frame.false in
     let same = ap length (same_frame (map plain_node c.args.code.now) c.args.number frame c.frame_at-frame.result.now f c.frame_at-frame.ensures) in
     omega (arith, many, same)
 
-pub returns-then-frame-le-NARROW-clause-read : goal.returns-then-frame-le-NARROW-clause-read
-returns-then-frame-le-NARROW-clause-read c =
+pub returns-then-frame-clause-read : goal.returns-then-frame-clause-read
+returns-then-frame-clause-read c =
     let core = core_in c.args.code.now in
     let s = c.args.store.now in
     let n = c.read_narrow.new.store in
@@ -38,16 +39,16 @@ returns-then-frame-le-NARROW-clause-read c =
     let words = held_words s.queues.region c.args.block.now in
     let f = coded_frame c.args.code.now c.requires.code c.args.number frame c.frame_at-frame.ensures in
     let read = node_read core s n c.args.number words frame c.requires.is.0 c.requires.is.1 f c.read_narrow.ensures.read in
-    let few : length read.node.frame ≤ 32000 =
-    subst (λ (ls : List ℕ). length ls ≤ 32000) (sym (read_frame_is core s n c.args.number words frame read f)) c.if-frame-le-NARROW.true in
+    let few : length read.node.frame ≤ NARROW_LIMIT =
+    subst (λ (ls : List ℕ). length ls ≤ NARROW_LIMIT) (sym (read_frame_is core s n c.args.number words frame read f)) c.if-frame.true in
     record {
       words = narrow_taken core s n c.args.number words c.requires.is.0 c.requires.is.1 read few;
       turn = narrow_turn_taken core s n c.args.number words c.requires.is.0 c.requires.is.1 read few;
       rest = reads_aside s n read.rest;
     }
 
-pub returns-then-frame-le-NARROW-clause-cost : goal.returns-then-frame-le-NARROW-clause-cost
-returns-then-frame-le-NARROW-clause-cost c =
+pub returns-then-frame-clause-cost : goal.returns-then-frame-clause-cost
+returns-then-frame-clause-cost c =
     let core = core_in c.args.code.now in
     let s = c.args.store.now in
     let words = held_words s.queues.region c.args.block.now in
@@ -55,13 +56,13 @@ returns-then-frame-le-NARROW-clause-cost c =
     subst (λ (n : ℕ). CostsAtMost n s.queues c.read_narrow.new.store.queues) (sym (words_width core s.heap c.args.number words c.requires.is.0 c.requires.is.1 c.frame_at-frame.result.now f))
     c.read_narrow.ensures.cost
 
-pub returns-else-frame-le-NARROW-clause-cost : goal.returns-else-frame-le-NARROW-clause-cost
-returns-else-frame-le-NARROW-clause-cost c =
+pub returns-else-frame-clause-cost : goal.returns-else-frame-clause-cost
+returns-else-frame-clause-cost c =
     let core = core_in c.args.code.now in
     let s = c.args.store.now in
     let frame = c.frame_at-frame.result.now in
     let words = held_words s.queues.region c.args.block.now in
     let f = coded_frame c.args.code.now c.requires.code c.args.number frame c.frame_at-frame.ensures in
     let width = words_width core s.heap c.args.number words c.requires.is.0 c.requires.is.1 frame f in
-    let four = width_wide frame c.if-frame-le-NARROW.false in
+    let four = width_wide frame c.if-frame.false in
     costs_up s.queues c.read_wide_node.new.store.queues 2 _ (omega (arith, width, four)) c.read_wide_node.ensures.cost

@@ -1,4 +1,5 @@
 use Rattle.std.proofs.Common.{ℕ, List, ◌<◌, ◌∷◌, [], length, refl, sym, ap, subst}
+use Rattle.pict_syntax.specs.declared.limits.TheConstants.{NARROW_LIMIT}
 use Rattle.pict_region.specs.RegionState.{words_of}
 use Rattle.pict_queue.specs.Contents.{held_words}
 use Rattle.pict_turns.specs.Acting.{core_in}
@@ -29,8 +30,8 @@ returns-clause-read c =
     let words = held_words s.queues.region c.args.block.now in
     let f = coded_frame c.args.code.now c.requires.code c.args.number c.frame_at.result.now c.frame_at.ensures in
     let read = node_read core s n c.args.number words c.frame_at.result.now c.requires.is.0 c.requires.is.1 f c.read_wide-pair.ensures.read in
-    let many : 32000 < length read.node.frame =
-    subst (λ (ls : List ℕ). 32000 < length ls) (sym (read_frame_is core s n c.args.number words c.frame_at.result.now read f)) (c.requires.wide c.frame_at.result.now c.frame_at.ensures) in
+    let many : NARROW_LIMIT < length read.node.frame =
+    subst (λ (ls : List ℕ). NARROW_LIMIT < length ls) (sym (read_frame_is core s n c.args.number words c.frame_at.result.now read f)) (c.requires.wide c.frame_at.result.now c.frame_at.ensures) in
     let ws = words_of s.queues.region c.args.block.now in
     record {
       words = ap (λ (us : List ℕ). us ∷ [])

@@ -1,4 +1,4 @@
-use Rattle.std.proofs.Common.{◌≢◌, ◌∙◌, [], List, map, sym, subst}
+use Rattle.std.proofs.Common.{refl, ◌≢◌, ◌∙◌, [], List, map, sym, subst}
 use Rattle.pict_code.specs.Plain.{plain_code, plain_node}
 use Rattle.pict_code.specs.declared.instruction.Node.{Node}
 use Rattle.pict_heap.specs.HeapState.{HeapState}
@@ -62,5 +62,6 @@ returns c =
       work = running_works core old.store mid new given work;
       blocks = running_needs core old.store mid new given blocks;
       plain = λ m. let x = plain (plainly_given core old.store mid given m) in (x.0, λ width. x.1 width ∙ given.blocks width);
+      code = refl;
       channels = step_few old mid new given c.requires.kept c.act.result step;
     }

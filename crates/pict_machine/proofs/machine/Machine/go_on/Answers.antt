@@ -1,6 +1,7 @@
-use Rattle.std.proofs.Common.{◌≡◌, false, inr, refl, arith}
+use Rattle.std.proofs.Common.{◌≡◌, [], false, inr, refl, arith}
 use Rattle.pict_view.proofs.Runs.{still_right}
 use Rattle.pict_machine.specs.Machine.{running_view, heap_of}
+use Rattle.pict_machine.proofs.Bounding.{spends_none, spends_one, spends_on, spends_up}
 use Rattle.pict_machine.proofs.Going.{one_past, stood_of, none_next}
 use Rattle.pict_operands.proofs.Making.{keeps_more}
 use Rattle.pict_machine.proofs.machine.Machine.go_on.Goals as goal
@@ -27,6 +28,8 @@ returns-then-not-is_passed c = record {
     past = c.loop-step.invariant.past;
     then = (omega arith, record { step = c.in-Ok.ensures.ok; event = c.in-Ok.ensures.event });
   };
+  spends = spends_on c.args.self.now c.loop-step.self c.advance.new.self c.loop-step.step 1 _ c.loop-step.invariant.spends (spends_one c.loop-step.self c.advance.new.self c.loop-step.invariant.kept c.in-Ok.ensures.code c.in-Ok.ensures.work c.in-Ok.ensures.blocks) (omega arith);
+  spends_passed = spends_on c.args.self.now c.loop-step.self c.advance.new.self c.loop-step.step 1 _ c.loop-step.invariant.spends (spends_one c.loop-step.self c.advance.new.self c.loop-step.invariant.kept c.in-Ok.ensures.code c.in-Ok.ensures.work c.in-Ok.ensures.blocks) (omega arith);
   keeps = keeps_more _ _ _ c.loop-step.invariant.keeps c.in-Ok.ensures.keeps;
   channels = let k = c.in-Ok.ensures.channels in omega arith;
   made = let k = c.in-Ok.ensures.channels in omega arith;
@@ -38,6 +41,34 @@ loop-step-preserved c =
     record {
       kept = c.in-Ok.ensures.kept;
       few = let k = c.in-Ok.ensures.channels in omega arith;
+      spends = spends_on c.args.self.now c.loop-step.self c.advance.new.self c.loop-step.step 1 _ c.loop-step.invariant.spends (spends_one c.loop-step.self c.advance.new.self c.loop-step.invariant.kept c.in-Ok.ensures.code c.in-Ok.ensures.work c.in-Ok.ensures.blocks) (omega arith);
       keeps = keeps_more _ _ _ c.loop-step.invariant.keeps c.in-Ok.ensures.keeps;
       past = one_past _ _ (heap_of c.advance.new.self) _ _ _ _ c.loop-step.invariant.past past c.in-Ok.ensures.ok;
     }
+
+pub loop-step-init : goal.loop-step-init
+loop-step-init c = record {
+  kept = c.requires.kept;
+  few = omega arith;
+  spends = spends_none c.args.self.now;
+  keeps = search;
+  past = λ C is s. (C, [], tt, (refl, refl), is, s);
+}
+
+pub returns-in-Err-clause-spends : goal.returns-in-Err-clause-spends
+returns-in-Err-clause-spends c = spends_on c.args.self.now c.loop-step.self c.advance.new.self c.loop-step.step 1 _ c.loop-step.invariant.spends (spends_one c.loop-step.self c.advance.new.self c.loop-step.invariant.kept c.in-Err.ensures.code c.in-Err.ensures.work c.in-Err.ensures.blocks) (omega arith)
+
+pub returns-in-Err-clause-spends_passed : goal.returns-in-Err-clause-spends_passed
+returns-in-Err-clause-spends_passed c = spends_on c.args.self.now c.loop-step.self c.advance.new.self c.loop-step.step 1 _ c.loop-step.invariant.spends (spends_one c.loop-step.self c.advance.new.self c.loop-step.invariant.kept c.in-Err.ensures.code c.in-Err.ensures.work c.in-Err.ensures.blocks) (omega arith)
+
+pub returns-then-not-has_next-clause-spends : goal.returns-then-not-has_next-clause-spends
+returns-then-not-has_next-clause-spends c = spends_up c.args.self.now c.loop-step.self c.loop-step.step _ c.loop-step.invariant.spends (omega arith)
+
+pub returns-then-not-has_next-clause-spends_passed : goal.returns-then-not-has_next-clause-spends_passed
+returns-then-not-has_next-clause-spends_passed c = spends_up c.args.self.now c.loop-step.self c.loop-step.step _ c.loop-step.invariant.spends (omega arith)
+
+pub returns-clause-spends : goal.returns-clause-spends
+returns-clause-spends c = spends_up c.args.self.now c.loop-step.self _ _ c.loop-step.invariant.spends (omega arith)
+
+pub returns-clause-spends_passed : goal.returns-clause-spends_passed
+returns-clause-spends_passed c = spends_up c.args.self.now c.loop-step.self _ _ c.loop-step.invariant.spends (omega arith)

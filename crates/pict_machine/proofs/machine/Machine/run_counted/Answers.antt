@@ -5,6 +5,7 @@ use Rattle.pict_view.specs.Watching.{Saw, SawOrTore, RanFor, BrokeOff}
 use Rattle.pict_heap.specs.HeapState.{HeapState, KeepsWords}
 use Rattle.pict_machine.specs.Events.{end_of}
 use Rattle.pict_machine.specs.Machine.{view_of, running_view, heap_of}
+use Rattle.pict_machine.proofs.Bounding.{rested_work, rested_blocks}
 use Rattle.pict_machine.proofs.Running.{ends_same, broken_same}
 use Rattle.pict_machine.proofs.Steps.{idle_view}
 use Rattle.pict_machine.proofs.machine.Machine.run_counted.Goals as goal
@@ -31,3 +32,9 @@ returns-clause-broken g c =
 
 pub returns-clause-keeps : goal.returns-clause-keeps
 returns-clause-keeps g c = subst (λ (h : HeapState). KeepsWords (heap_of c.args.self.now) h) (sym c.rest.ensures.heap) c.run_on-answer.ensures.keeps
+
+pub returns-clause-work : goal.returns-clause-work
+returns-clause-work g c = rested_work c.args.self.now c.run_on-answer.new.self c.rest.new.self c.args.fuel c.run_on-answer.ensures.spends c.rest.ensures.work
+
+pub returns-clause-blocks : goal.returns-clause-blocks
+returns-clause-blocks g c = rested_blocks c.args.self.now c.run_on-answer.new.self c.rest.new.self c.args.fuel c.run_on-answer.ensures.spends c.rest.ensures.blocks

@@ -4,6 +4,7 @@ use Rattle.pict_heap.specs.HeapState.{HeapState}
 use Rattle.pict_machine.specs.Events.{label_of, trap_of, IsEventOf}
 use Rattle.pict_machine.specs.Packed.{label_packed, trap_packed}
 use Rattle.pict_machine.specs.Machine.{running_view, heap_of}
+use Rattle.pict_machine.proofs.Bounding.{spends_on, spends_up}
 use Rattle.pict_machine.proofs.Going.{right_after, stops_of, stood_between, further, event_of, rests, wants}
 use Rattle.pict_machine.proofs.Running.{on_err, seen_steps}
 use Rattle.pict_operands.proofs.Making.{keeps_more}
@@ -72,6 +73,7 @@ loop-done-preserved g c =
       few = let k = c.go_on-passed.ensures.made in let few = c.loop-done.invariant.few in omega (arith, k, few);
       next_stays = λ v n x. c.show.ensures.next_stays v n x ∙ c.loop-done.invariant.next_stays v n x;
       torn_stays = λ v n x after. (λ t. (c.loop-done.invariant.torn_stays v n x after).0 ((c.show.ensures.torn_stays v n x after).0 t), λ t. (c.show.ensures.torn_stays v n x after).1 ((c.loop-done.invariant.torn_stays v n x after).1 t));
+      spends = spends_on c.args.self.now c.loop-done.self c.go_on-passed.new.self c.loop-done.done (c.go_on-passed.result.passed + 1) _ c.loop-done.invariant.spends c.go_on-passed.ensures.spends_passed (omega arith);
       keeps = keeps_more _ _ _ c.loop-done.invariant.keeps c.go_on-passed.ensures.keeps;
       faults_stay = omega (arith, c.loop-done.invariant.faults_stay, c.show.ensures.faults_stay);
       same = g.met.W.Watcher.same_along _ _ _ c.loop-done.invariant.same c.show.ensures.same;
@@ -86,3 +88,26 @@ pub returns-clause-end : goal.returns-clause-end
 returns-clause-end g c C is s =
     let all : c.loop-done.done ≡ c.args.fuel = let within = c.loop-done.invariant.within in omega (arith, within) in
     stops_of _ _ _ _ _ _ c.stopped-2.result.end c.stopped-2.ensures.steps c.loop-done.invariant.kept.held c.stopped-2.ensures.end c.loop-done.invariant.within (λ some. all) (c.loop-done.invariant.stood C is s)
+
+pub returns-in_err-packed-clause-spends : goal.returns-in_err-packed-clause-spends
+returns-in_err-packed-clause-spends g c =
+    let within = c.loop-done.invariant.within in
+    spends_on c.args.self.now c.loop-done.self c.go_on-passed.new.self c.loop-done.done (c.args.fuel - c.loop-done.done) c.args.fuel c.loop-done.invariant.spends c.go_on-passed.ensures.spends (omega (arith, within))
+
+pub returns-in-None-clause-spends : goal.returns-in-None-clause-spends
+returns-in-None-clause-spends g c =
+    let within = c.loop-done.invariant.within in
+    spends_on c.args.self.now c.loop-done.self c.go_on-passed.new.self c.loop-done.done (c.args.fuel - c.loop-done.done) c.args.fuel c.loop-done.invariant.spends c.go_on-passed.ensures.spends (omega (arith, within))
+
+pub returns-in-Some-trap-clause-spends : goal.returns-in-Some-trap-clause-spends
+returns-in-Some-trap-clause-spends g c =
+    let within = c.loop-done.invariant.within in
+    spends_on c.args.self.now c.loop-done.self c.go_on-passed.new.self c.loop-done.done (c.args.fuel - c.loop-done.done) c.args.fuel c.loop-done.invariant.spends c.go_on-passed.ensures.spends (omega (arith, within))
+
+pub returns-in-Err-clause-spends : goal.returns-in-Err-clause-spends
+returns-in-Err-clause-spends g c =
+    let within = c.loop-done.invariant.within in
+    spends_on c.args.self.now c.loop-done.self c.go_on-passed.new.self c.loop-done.done (c.args.fuel - c.loop-done.done) c.args.fuel c.loop-done.invariant.spends c.go_on-passed.ensures.spends (omega (arith, within))
+
+pub returns-clause-spends : goal.returns-clause-spends
+returns-clause-spends g c = let within = c.loop-done.invariant.within in spends_up c.args.self.now c.loop-done.self c.loop-done.done c.args.fuel c.loop-done.invariant.spends (omega (arith, within))

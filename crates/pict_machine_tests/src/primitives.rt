@@ -1,0 +1,242 @@
+// Every primitive at its corners.
+
+use pict_core::CoreVal;
+use pict_prim::{Done, apply, attempt, printed_bytes};
+use pict_syntax::{Bytes, Prim};
+use std::alloc::{AllocError, Global};
+
+// A record of these operands and the channel 7.
+fn two(alloc: Global, v: CoreVal) -> Result<CoreVal, AllocError> {
+    let mut positional = Vec::new(alloc);
+    positional.push(v)?;
+    positional.push(CoreVal::Chan(7))?;
+    Ok(CoreVal::Fields {
+        positional,
+        labelled: Vec::new(alloc),
+    })
+}
+
+fn three(alloc: Global, v: CoreVal, w: CoreVal) -> Result<CoreVal, AllocError> {
+    let mut positional = Vec::new(alloc);
+    positional.push(v)?;
+    positional.push(w)?;
+    positional.push(CoreVal::Chan(7))?;
+    Ok(CoreVal::Fields {
+        positional,
+        labelled: Vec::new(alloc),
+    })
+}
+
+fn text(alloc: Global, bytes: &[u8]) -> Result<CoreVal, AllocError> {
+    Ok(CoreVal::Text(Bytes::copy_of(alloc, bytes)?))
+}
+
+// Whether both are the same number, character, truth value or string.
+fn is_same(a: &CoreVal, b: &CoreVal) -> bool {
+    match (a, b) {
+        (CoreVal::Int(x), CoreVal::Int(y)) => *x == *y,
+        (CoreVal::Char(x), CoreVal::Char(y)) => *x == *y,
+        (CoreVal::Bool(x), CoreVal::Bool(y)) => *x == *y,
+        (CoreVal::Text(x), CoreVal::Text(y)) => x.slice() == y.slice(),
+        _ => false,
+    }
+}
+
+// Whether the primitive answers this value on the channel 7.
+fn answers(
+    alloc: Global,
+    p: Prim,
+    argument: &CoreVal,
+    wanted: &CoreVal,
+) -> Result<bool, AllocError> {
+    match attempt(alloc, p, argument)? {
+        Some(Done::Answer(CoreVal::Chan(7), value)) => Ok(is_same(&value, wanted)),
+        _ => Ok(false),
+    }
+}
+
+const LEAST: i64 = -9223372036854775808;
+
+const GREATEST: i64 = 9223372036854775807;
+
+#[test]
+fn numbers_at_their_corners(rt: HostRuntime) -> Result<(), AllocError> {
+    let alloc = rt.alloc();
+    let numbers = [
+        (Prim::Add, GREATEST, 1, LEAST),
+        (Prim::Subtract, LEAST, 1, GREATEST),
+        (Prim::Multiply, GREATEST, 2, -2),
+        (Prim::Divide, LEAST, -1, LEAST),
+        (Prim::Divide, -7, 2, -3),
+        (Prim::Divide, 7, -2, -3),
+        (Prim::Remainder, LEAST, -1, 0),
+        (Prim::Remainder, -7, 2, -1),
+        (Prim::Remainder, 7, -2, 1),
+    ];
+    for (p, a, b, wanted) in numbers {
+        let argument = three(alloc, CoreVal::Int(a), CoreVal::Int(b))?;
+        assert!(rt;
+            answers(alloc, p, &argument, &CoreVal::Int(wanted))?,
+            "{p:?} {a} {b}"
+        );
+    }
+    let tests = [
+        (Prim::Equal, 2, 2, true),
+        (Prim::Equal, 2, -2, false),
+        (Prim::Less, -1, 0, true),
+        (Prim::Less, 0, 0, false),
+        (Prim::AtMost, 0, 0, true),
+        (Prim::AtMost, 1, 0, false),
+        (Prim::Greater, 0, -1, true),
+        (Prim::Greater, 0, 0, false),
+        (Prim::AtLeast, 0, 0, true),
+        (Prim::AtLeast, -1, 0, false),
+    ];
+    for (p, a, b, wanted) in tests {
+        let argument = three(alloc, CoreVal::Int(a), CoreVal::Int(b))?;
+        assert!(rt;
+            answers(alloc, p, &argument, &CoreVal::Bool(wanted))?,
+            "{p:?} {a} {b}"
+        );
+    }
+    for p in [Prim::Divide, Prim::Remainder] {
+        let argument = three(alloc, CoreVal::Int(1), CoreVal::Int(0))?;
+        assert!(rt;
+            matches!(
+                apply_to_numbers(alloc, p, argument)?,
+                Some(Done::ZeroDivisor)
+            )
+        );
+    }
+    Ok(())
+}
+
+// The same by `apply`, where the primitive takes the argument.
+fn apply_to_numbers(alloc: Global, p: Prim, argument: CoreVal) -> Result<Option<Done>, AllocError> {
+    match attempt(alloc, p, &argument)? {
+        None => Ok(None),
+        Some(_) => Ok(Some(apply(alloc, p, argument)?)),
+    }
+}
+
+#[test]
+fn characters_and_strings_at_their_corners(rt: HostRuntime) -> Result<(), AllocError> {
+    let alloc = rt.alloc();
+    for (n, byte) in [
+        (-1, 255),
+        (0, 0),
+        (255, 255),
+        (256, 0),
+        (-256, 0),
+        (-257, 255),
+        (LEAST, 0),
+    ] {
+        assert!(rt;
+            answers(
+                alloc,
+                Prim::Chr,
+                &two(alloc, CoreVal::Int(n))?,
+                &CoreVal::Char(byte)
+            )?,
+            "{n}"
+        );
+    }
+    assert!(rt;
+        answers(
+            alloc,
+            Prim::Ord,
+            &two(alloc, CoreVal::Char(255))?,
+            &CoreVal::Int(255)
+        )?
+    );
+    assert!(rt;
+        answers(
+            alloc,
+            Prim::Not,
+            &two(alloc, CoreVal::Bool(true))?,
+            &CoreVal::Bool(false)
+        )?
+    );
+    assert!(rt;
+        answers(
+            alloc,
+            Prim::Size,
+            &two(alloc, text(alloc, b"")?)?,
+            &CoreVal::Int(0)
+        )?
+    );
+    assert!(rt;
+        answers(
+            alloc,
+            Prim::Size,
+            &two(alloc, text(alloc, b"abc")?)?,
+            &CoreVal::Int(3)
+        )?
+    );
+    for (place, byte) in [(0, 97), (2, 99), (3, -1), (-1, -1), (LEAST, -1)] {
+        let argument = three(alloc, text(alloc, b"abc")?, CoreVal::Int(place))?;
+        assert!(rt;
+            answers(alloc, Prim::Nth, &argument, &CoreVal::Int(byte))?,
+            "{place}"
+        );
+    }
+    for (n, digits) in [
+        (0, "0"),
+        (-5, "-5"),
+        (LEAST, "-9223372036854775808"),
+        (GREATEST, "9223372036854775807"),
+    ] {
+        let argument = two(alloc, CoreVal::Int(n))?;
+        assert!(rt;
+            answers(
+                alloc,
+                Prim::Intstr,
+                &argument,
+                &text(alloc, digits.as_bytes())?
+            )?,
+            "{n}"
+        );
+    }
+    let argument = three(alloc, text(alloc, b"aA\n")?, text(alloc, b"-5")?)?;
+    assert!(rt; answers(alloc, Prim::Join, &argument, &text(alloc, b"aA\n-5")?)?);
+    Ok(())
+}
+
+// What the primitive prints, if it prints.
+fn printed(alloc: Global, p: Prim, argument: &CoreVal) -> Result<Option<Bytes>, AllocError> {
+    match attempt(alloc, p, argument)? {
+        Some(Done::Printed(v)) => Ok(Some(printed_bytes(alloc, v)?)),
+        Some(Done::PrintedAnswer(v, _k, _a)) => Ok(Some(printed_bytes(alloc, v)?)),
+        _ => Ok(None),
+    }
+}
+
+#[test]
+fn printings_and_other_shapes(rt: HostRuntime) -> Result<(), AllocError> {
+    let alloc = rt.alloc();
+    match printed(alloc, Prim::Print, &text(alloc, b"ab")?)? {
+        Some(bytes) => assert!(rt; bytes.slice() == b"ab".as_slice()),
+        None => assert!(rt; false),
+    }
+    match printed(alloc, Prim::Printi, &CoreVal::Int(-12))? {
+        Some(bytes) => assert!(rt; bytes.slice() == b"-12".as_slice()),
+        None => assert!(rt; false),
+    }
+    match printed(alloc, Prim::Pr, &two(alloc, text(alloc, b"")?)?)? {
+        Some(bytes) => assert!(rt; bytes.slice().is_empty()),
+        None => assert!(rt; false),
+    }
+    assert!(rt; attempt(alloc, Prim::Print, &CoreVal::Int(1))?.is_none());
+    assert!(rt; attempt(alloc, Prim::Print, &two(alloc, text(alloc, b"a")?)?)?.is_none());
+    assert!(rt; attempt(alloc, Prim::Add, &two(alloc, CoreVal::Int(1))?)?.is_none());
+    assert!(rt;
+        attempt(
+            alloc,
+            Prim::Add,
+            &three(alloc, CoreVal::Int(1), CoreVal::Bool(true))?
+        )?
+        .is_none()
+    );
+    assert!(rt; attempt(alloc, Prim::Not, &CoreVal::Bool(true))?.is_none());
+    Ok(())
+}

@@ -1,0 +1,86 @@
+// The worked row of the queues, and a long queue.
+ghost use Rattle.std.specs.Prelude.{◌≡◌, ◌+◌, ◌<◌, ◌≤◌, length};
+ghost use Rattle.pict_region.specs.RegionState.{spare};
+ghost use Rattle.pict_queue.specs.QueuesState.{IsQueue, list_of};
+
+use pict_queue::{QueueId, Queues};
+use std::alloc::AllocError;
+
+// Takes `n` blocks of two words and pushes each to the back of a queue.
+fn build(queues: &mut Queues, q: QueueId, n: u64)
+    requires queue { IsQueue queues.old q.0 }
+    requires spare { n ≤ spare queues.old.region 2 }
+    ensures queue { IsQueue queues.new q.0 }
+    ensures longer { length (list_of queues.new q.0) ≡ length (list_of queues.old q.0) + n }
+{
+    for _ in 0..n {
+        let block = queues.take(2);
+        queues.push_back(q, block);
+    }
+}
+
+// Pops each block of a queue and gives it back, and answers how many there were.
+fn drain(queues: &mut Queues, q: QueueId) -> u64
+    requires queue { IsQueue queues.old q.0 }
+    ensures count { result ≡ length (list_of queues.old q.0) }
+    ensures empty { length (list_of queues.new q.0) ≡ 0 }
+    ensures queue { IsQueue queues.new q.0 }
+{
+    let length = queues.length(q);
+    for _ in 0..length {
+        if let Some(block) = queues.pop_front(q) {
+            queues.give(block);
+        }
+    }
+    length - queues.length(q)
+}
+
+#[test]
+fn a_million_blocks(rt: HostRuntime) -> Result<(), AllocError> {
+    let mut queues = Queues::new(rt.alloc());
+    let queue = queues.add_queue()?;
+    queues.reserve(2, 1_000_000)?;
+    build(&mut queues, queue, 1_000_000);
+    assert_eq!(rt; queues.length(queue), 1_000_000);
+    assert_eq!(rt; drain(&mut queues, queue), 1_000_000);
+    Ok(())
+}
+
+#[test]
+fn blocks_move_from_queue_to_queue(rt: HostRuntime) -> Result<(), AllocError> {
+    let mut queues = Queues::new(rt.alloc());
+    let first = queues.add_queue()?;
+    let second = queues.add_queue()?;
+    queues.reserve(2, 2)?;
+    let a = queues.take(2);
+    queues.set(&a, 1, 7);
+    queues.push_back(first, a);
+    let b = queues.take(2);
+    queues.set(&b, 1, 8);
+    queues.push_back(first, b);
+    queues.move_front(first, second);
+    assert_eq!(rt; queues.length(first), 1);
+    assert_eq!(rt; queues.peek(second, 1), Some(7));
+    assert_eq!(rt; drain(&mut queues, second), 1);
+    assert_eq!(rt; queues.peek(second, 1), None);
+    queues.reserve_queues(1)?;
+    assert_eq!(rt; queues.add_queue()?.0, 2);
+    Ok(())
+}
+
+#[test]
+fn values_are_read_in_place(rt: HostRuntime) -> Result<(), AllocError> {
+    let mut queues = Queues::new(rt.alloc());
+    let queue = queues.add_queue()?;
+    queues.reserve(6, 1)?;
+    let block = queues.take_values(6, 9, &[0, 2], &[(1, 2), (3, 4), (5, 6)]);
+    queues.push_front(queue, block);
+    let mut values = [(0, 0); 3];
+    queues.peek_values(queue, 2, &[0, 2], &mut values);
+    assert_eq!(rt; values, [(1, 2), (0, 0), (5, 6)]);
+    let work = queues.work();
+    queues.move_front(queue, queue);
+    assert_eq!(rt; queues.work(), work);
+    assert_eq!(rt; queues.peek(queue, 1), Some(9));
+    Ok(())
+}

@@ -1,8 +1,0 @@
--- The package is well formed as a type.
-use Rattle.std.proofs.Common.{sym, subst}
-use Rattle.pict_types.specs.Kinds.{IsWellFormed}
-use Rattle.pict_types.proofs.Rows.{plain_fields}
-use Rattle.pict_normal.proofs.instance.tests.past_heavy.Goals as goal
-
-pub with_type-requires-clause-arg : goal.with_type-requires-clause-arg
-with_type-requires-clause-arg c = λ names ks. subst (IsWellFormed names ks) (sym (plain_fields c.in_ok-package.field-0)) (c.in_ok-package.ensures.formed names ks)

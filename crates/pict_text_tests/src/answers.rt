@@ -1,0 +1,81 @@
+// What is said of a text, and tables of texts.
+//
+// A row of a table is `ANSWER | TEXT`, where the answer is `Ok`, or the code of the refusal and its place: the first byte and
+// the one after the last. A line that begins with `--` says what the rows below it are for.
+
+use pict_lex::{LexError, lex};
+use pict_parse::{ParseError, parse};
+use pict_scope::{ScopeError, resolve};
+use pict_syntax::{Code, Names, Span, TEXT_LIMIT};
+use std::alloc::{AllocError, Global};
+use std::process::Abort;
+
+/// How far a text is read.
+#[derive(Clone, Copy, PartialEq, Eq)]
+pub enum Phase {
+    Grammar,
+    Scopes,
+}
+
+/// The code and the place where a text is refused; nothing where it isn't.
+fn refusal(alloc: Global, text: &[u8], phase: Phase) -> Result<Option<(Code, Span)>, AllocError> {
+    if text.len() as u64 > TEXT_LIMIT {
+        return Err(AllocError);
+    }
+    let mut names = Names::new(alloc);
+    let tokens = match lex(alloc, &mut names, text, 1) {
+        Ok(tokens) => tokens,
+        Err(LexError::Named(code, span)) => return Ok(Some((code, span))),
+        Err(LexError::Memory) => return Err(AllocError),
+    };
+    let program = match parse(alloc, &tokens, text.len() as u32) {
+        Ok(program) => program,
+        Err(ParseError::Unexpected(span)) => return Ok(Some((Code::P1, span))),
+        Err(ParseError::TooNested(span)) => return Ok(Some((Code::P2, span))),
+        Err(ParseError::Memory) => return Err(AllocError),
+    };
+    if phase == Phase::Grammar {
+        return Ok(None);
+    }
+    match resolve(alloc, &names, program) {
+        Ok(_) => Ok(None),
+        Err(ScopeError::Named(code, span)) => Ok(Some((code, span))),
+        Err(ScopeError::Memory) => Err(AllocError),
+    }
+}
+
+/// The answer to a text, as a table has it.
+pub fn answer(alloc: Global, text: &[u8], phase: Phase) -> Result<String, AllocError> {
+    match refusal(alloc, text, phase)? {
+        None => format!(in alloc; "Ok"),
+        Some((code, span)) => {
+            let Span { text, start, end } = span;
+            if text == 1 {
+                format!(in alloc; "{code:?} {start}..{end}")
+            } else {
+                format!(in alloc; "{code:?} in another text")
+            }
+        }
+    }
+}
+
+/// Tries the rows of a table.
+pub fn try_table(
+    rt: &impl Abort,
+    alloc: Global,
+    table: &str,
+    phase: Phase,
+) -> Result<(), AllocError> {
+    for row in table.lines() {
+        if !row.is_empty() && !row.starts_with("--") {
+            match row.split_once(" | ") {
+                None => panic!(rt; "no row: {row}"),
+                Some((wanted, text)) => {
+                    let found = answer(alloc, text.as_bytes(), phase)?;
+                    assert!(rt; found.as_str() == wanted, "{row}: {found}");
+                }
+            }
+        }
+    }
+    Ok(())
+}

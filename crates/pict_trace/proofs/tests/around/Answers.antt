@@ -1,6 +1,0 @@
-use Rattle.std.specs.List.{IsDistinct}
-use Rattle.pict_trace.proofs.tests.around.Goals as goal
-
-pub add_record-requires-clause-distinct : goal.add_record-requires-clause-distinct
-unfolding IsDistinct
-add_record-requires-clause-distinct c = tt
