@@ -11,12 +11,13 @@ use Rattle.pict_code.proofs.Closings.{part_under}
 use Rattle.pict_heap.specs.HeapState.{HeapState}
 use Rattle.pict_core.specs.Step.{Quiet}
 use Rattle.pict_view.proofs.Rows.{ends, forks, takes_first, takes_second}
-use Rattle.pict_blocks.specs.Blocks.{value_in, process_of, known, IsNodeBlock}
+use Rattle.pict_blocks.specs.Blocks.{process_of, IsNodeBlock}
+use Rattle.pict_desk.specs.Known.{value_in, known}
 use Rattle.pict_blocks.specs.Laws.{BlocksStep, NodesEnd, PartsFork, TestsChoose}
-use Rattle.pict_blocks.proofs.Parts.{node_with, par_stands, if_stands}
-use Rattle.pict_blocks.proofs.Nodes.{is_zero, is_par, is_if}
-use Rattle.pict_blocks.proofs.Standing.{stands_as, op_is, part_stands}
-use Rattle.pict_blocks.proofs.Operands.{same_operand}
+use Rattle.pict_desk.proofs.Parts.{node_with, par_stands, if_stands}
+use Rattle.pict_desk.proofs.Nodes.{is_zero, is_par, is_if, op_is}
+use Rattle.pict_blocks.proofs.Standing.{stands_as, part_stands}
+use Rattle.pict_desk.proofs.OperandsAround.{same_operand}
 
 pub nodes_end : NodesEnd
 nodes_end core h values number node words b o rest channels =

@@ -1,10 +1,10 @@
-pub mod Variables
-pub mod Putting
-pub mod Parts
-pub mod Nodes
-pub mod Operands
-pub mod Levels
+pub mod Costs
+pub mod Written
+pub mod Held
+pub mod Outputs
 pub mod Standing
 pub mod Forking
 pub mod Opening
 pub mod Meeting
+pub mod WordsHeld
+pub mod Holding

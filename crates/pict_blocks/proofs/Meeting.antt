@@ -14,18 +14,18 @@ use Rattle.pict_code.specs.Standing.{closing}
 use Rattle.pict_code.proofs.Closings.{part_under}
 use Rattle.pict_code.proofs.Numbering.{PlacedAt, in_placed}
 use Rattle.pict_code.proofs.Rebuilding.{pattern_back}
-use Rattle.pict_frames.specs.Framed.{pair_at}
+use Rattle.pict_desk.specs.Known.{pair_at, value_in, known, operand_value}
 use Rattle.pict_heap.specs.HeapState.{HeapState}
 use Rattle.pict_view.proofs.Rows.{output_meets, input_meets}
-use Rattle.pict_blocks.specs.Binding.{levels_of, BindsPattern}
-use Rattle.pict_blocks.specs.Blocks.{value_in, process_of, known, operand_value, IsNodeBlock}
+use Rattle.pict_desk.specs.Binding.{levels_of, BindsPattern}
+use Rattle.pict_blocks.specs.Blocks.{process_of, IsNodeBlock}
 use Rattle.pict_blocks.specs.Laws.{OutputsStand, InputsStand, OutputsMeet, InputsMeet}
-use Rattle.pict_blocks.proofs.Levels.{levels_from, levels_leveled, length_from, values_after}
-use Rattle.pict_blocks.proofs.Nodes.{IsInput, is_out, is_in, is_serve}
-use Rattle.pict_blocks.proofs.Operands.{same_operand}
-use Rattle.pict_blocks.proofs.Parts.{node_with, operand, out_stands, in_stands, body_stands}
-use Rattle.pict_blocks.proofs.Standing.{StandsAs, stands_as, op_is, part_stands}
-use Rattle.pict_blocks.proofs.Variables.{value_in-no_var}
+use Rattle.pict_desk.proofs.BoundLevels.{levels_from, levels_leveled, length_from, values_after}
+use Rattle.pict_desk.proofs.Nodes.{IsInput, is_out, is_in, is_serve, op_is}
+use Rattle.pict_desk.proofs.OperandsAround.{same_operand}
+use Rattle.pict_desk.proofs.Parts.{node_with, operand, out_stands, in_stands, body_stands}
+use Rattle.pict_blocks.proofs.Standing.{StandsAs, stands_as, part_stands}
+use Rattle.pict_desk.proofs.Variables.{value_in-no_var}
 
 pub outputs_stand : OutputsStand
 outputs_stand core h values number chan message at node words closed b o =

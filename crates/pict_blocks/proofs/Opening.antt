@@ -7,14 +7,14 @@ use Rattle.pict_core.specs.Substitution.{replace}
 use Rattle.pict_code.specs.Instruction as op
 use Rattle.pict_code.specs.Standing.{closing}
 use Rattle.pict_code.proofs.Numbering.{PlacedAt, new_placed}
-use Rattle.pict_frames.specs.Framed.{pair_at}
+use Rattle.pict_desk.specs.Known.{pair_at, value_in, known}
 use Rattle.pict_view.proofs.Rows.{makes_channel}
-use Rattle.pict_blocks.specs.Blocks.{value_in, process_of, known}
+use Rattle.pict_blocks.specs.Blocks.{process_of}
 use Rattle.pict_blocks.specs.Laws.{NewsMakeChannels}
-use Rattle.pict_blocks.proofs.Variables.{value_in-no_var}
-use Rattle.pict_blocks.proofs.Parts.{node_with, new_stands, body_stands}
-use Rattle.pict_blocks.proofs.Nodes.{is_new}
-use Rattle.pict_blocks.proofs.Standing.{stands_as, op_is, part_stands}
+use Rattle.pict_desk.proofs.Variables.{value_in-no_var}
+use Rattle.pict_desk.proofs.Parts.{node_with, new_stands, body_stands}
+use Rattle.pict_desk.proofs.Nodes.{is_new, op_is}
+use Rattle.pict_blocks.proofs.Standing.{stands_as, part_stands}
 
 -- one value more, at the new level
 one_more : (n : ℕ) (values later : ℕ → Val) (v : Val) → ((k : ℕ) → k < n → later k ≡ values k) → later n ≡ v

@@ -4,16 +4,17 @@ use Rattle.std.proofs.lemmas.Bool.Decides.{nat_tests}
 use Rattle.pict_syntax.specs.declared.limits.TheConstants.{NARROW_LIMIT}
 use Rattle.pict_core.specs.Term.{Process}
 use Rattle.pict_code.specs.Frames.{frame_of}
-use Rattle.pict_code.specs.Instruction.{Node, Op}
-use Rattle.pict_code.specs.Nodes.{Place, place, op_of}
+use Rattle.pict_code.specs.Instruction.{Node}
+use Rattle.pict_code.specs.Nodes.{Place, place}
 use Rattle.pict_code.specs.Standing.{with_frame}
 use Rattle.pict_code.proofs.Numbering.{PlacedAt}
-use Rattle.pict_frames.specs.Framed.{frame_words}
+use Rattle.pict_blocks.specs.Framed.{frame_words}
 use Rattle.pict_heap.specs.HeapState.{HeapState}
-use Rattle.pict_blocks.specs.Blocks.{value_in, values_of, fields_of, frame_values, node_process, process_of, known, IsNodeBlock}
+use Rattle.pict_blocks.specs.Blocks.{values_of, frame_values, node_process, process_of, IsNodeBlock}
+use Rattle.pict_desk.specs.Known.{value_in, fields_of, known}
 use Rattle.pict_blocks.specs.Laws.{NarrowBlocks}
-use Rattle.pict_blocks.proofs.Parts.{node_with, placed_at}
-use Rattle.pict_blocks.proofs.Nodes.{IsNodeAt, part_of}
+use Rattle.pict_desk.proofs.Parts.{node_with, placed_at}
+use Rattle.pict_desk.proofs.Nodes.{IsNodeAt, part_of}
 
 -- ---- narrow frames
 
@@ -56,10 +57,6 @@ stands_as core h values number node words b =
           ∙ ap (node_process (value_in h) b.frame) p.1.at
           ∙ ap (with_frame p.0) (ap (λ ls. frame_values (value_in h) (length ls) b.frame) (sym frame) ∙ b.holds ∙ ap (map (known h values)) frame);
     }
-
--- the instruction of a part is that of its node
-pub op_is : (core : Process) (number : ℕ) (node : Node) (p : Place) (o : Op) → IsNodeAt core number node p → node.op ≡ o → op_of number p.around p.process ≡ o
-op_is core number node p o at e = ap (λ (n : Node). n.op) at.node_is ∙ e
 
 -- a node at the number of a part is that part's
 pub same_part : (core : Process) (i n : ℕ) (q : Process) (node : Node) (p : Place) → PlacedAt core i n q → IsNodeAt core i node p → place n q ≡ p

@@ -1,33 +1,19 @@
 -- What a block of a machine stands for, by the words behind its link, and what queues of blocks stand for.
-use Rattle.std.specs.Prelude.{◌≡◌, ℕ, zero, suc, nat_lt, List, [], ◌∷◌, map, length, slice_get, Option, Some, None, option_map, unwrap_or, if◌then◌else◌, pos}
+use Rattle.std.specs.Prelude.{◌≡◌, ℕ, zero, suc, nat_lt, List, [], ◌∷◌, map, length, slice_get, Option, Some, None, if◌then◌else◌}
 use Rattle.pict_syntax.specs.declared.limits.TheConstants.{NARROW_LIMIT}
-use Rattle.pict_core.specs.Term.{Val, Vals, Chan, Int, Record, no_vals, more_vals, Process, Zero, Out}
-use Rattle.pict_core.specs.Substitution.{replace_value}
+use Rattle.pict_core.specs.Term.{Val, Process, Zero, Out}
 use Rattle.pict_code.specs.Frames.{frame_of}
 use Rattle.pict_code.specs.Instruction.{Node}
 use Rattle.pict_code.specs.Nodes.{Place, places, nodes_of}
 use Rattle.pict_code.specs.Standing.{with_frame}
-use Rattle.pict_frames.specs.Framed.{pair_at}
-use Rattle.pict_heap.specs.HeapState.{HeapState, value_of}
-use Rattle.pict_heap.specs.Packed.{unpacked}
+use Rattle.pict_desk.specs.Known.{value_in, fields_of, known}
+use Rattle.pict_heap.specs.HeapState.{HeapState}
 use Rattle.pict_view.specs.View.{View}
-
--- what two words stand for in a heap
-abbrev pub value_in : HeapState → ℕ → ℕ → Val
-value_in h tag payload = unwrap_or (option_map (value_of h) (unpacked tag payload)) (Int (pos 0))
 
 -- two words a value, read by `value`
 abbrev pub values_of : (ℕ → ℕ → Val) → List ℕ → List Val
 values_of value (tag ∷ payload ∷ ws) = value tag payload ∷ values_of value ws
 values_of value _ = []
-
-abbrev pub list_of : Vals → List Val
-list_of no_vals = []
-list_of (more_vals v vs) = v ∷ list_of vs
-
-abbrev pub fields_of : Val → List Val
-fields_of (Record vs ls) = list_of vs
-fields_of _ = []
 
 -- the values of a frame: themselves, or where it has more than `NARROW_LIMIT` levels the positional fields of one record
 abbrev pub frame_values : (ℕ → ℕ → Val) → ℕ → List ℕ → List Val
@@ -55,16 +41,6 @@ view_of_contents core value ready channels = record {
   ready = map (process_of core value) ready;
   channels = map (map (process_of core value)) channels;
 }
-
--- ---- what a machine knows of the node that acts
-
--- the value of each level, of which these are the words
-abbrev pub known : HeapState → List (ℕ × ℕ) → ℕ → Val
-known h values level = value_in h (pair_at values level).0 (pair_at values level).1
-
--- an operand, whose variables are levels with these values
-abbrev pub operand_value : (ℕ → Val) → Val → Val
-operand_value value v = replace_value (record { variable = value; channel = Chan }) v
 
 -- These words are a block of the node with this number, which holds the values of the levels of its frame.
 pub record IsNodeBlock (core : Process) (h : HeapState) (values : List (ℕ × ℕ)) (number : ℕ) (node : Node) (words : List ℕ) : Type 0 where

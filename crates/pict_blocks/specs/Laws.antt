@@ -9,12 +9,13 @@ use Rattle.pict_code.specs.Instruction as op
 use Rattle.pict_code.specs.Instruction.{Node, CodePat}
 use Rattle.pict_code.specs.Nodes.{nodes_of, input_op}
 use Rattle.pict_code.specs.ReadBack.{unleveled}
-use Rattle.pict_frames.specs.Framed.{node_words, pair_at}
+use Rattle.pict_blocks.specs.Framed.{node_words}
+use Rattle.pict_desk.specs.Known.{pair_at, value_in, known, operand_value}
 use Rattle.pict_heap.specs.HeapState.{HeapState}
 use Rattle.pict_view.specs.Moved.{Moves, if_replicated}
-use Rattle.pict_view.specs.ViewStep.{next_view}
-use Rattle.pict_blocks.specs.Binding.{BindsPattern}
-use Rattle.pict_blocks.specs.Blocks.{value_in, known, operand_value, process_of, view_of_contents, IsNodeBlock}
+use Rattle.pict_view.specs.Placed.{next_view}
+use Rattle.pict_blocks.specs.Blocks.{process_of, view_of_contents, IsNodeBlock}
+use Rattle.pict_desk.specs.Binding.{BindsPattern}
 
 -- what the ready blocks and the blocks of the channels stand for steps, with this label, to what those stand for
 abbrev pub BlocksStep : Process → HeapState → List (List ℕ) → List (List (List ℕ)) → Label → List (List ℕ) → List (List (List ℕ)) → Type 0

@@ -1,3 +1,7 @@
+pub mod Framed
+pub mod Writing
+pub mod Keeping
 pub mod Blocks
-pub mod Binding
+pub mod Holding
+pub mod Parts
 pub mod Laws

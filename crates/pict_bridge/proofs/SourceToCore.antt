@@ -11,7 +11,7 @@ use Rattle.pict_typing.specs.Worlds.{over}
 use Rattle.pict_typing.specs.Processes as typed
 use Rattle.pict_opened.proofs.Opened.{embeds_same}
 use Rattle.pict_opened.proofs.Reaching.{any_lines, by_steps}
-use Rattle.pict_bridge.specs.Laws.{SourceToCore}
+use Rattle.pict_bridge.specs.Laws.{OpensWellTyped, SourceToCore}
 use Rattle.pict_bridge.specs.Realising.{Realises}
 use Rattle.pict_bridge.proofs.Judged.{Declares, IsSound, Step}
 use Rattle.pict_bridge.proofs.ValueSteps.{condition_step, gives_step, has_step}
@@ -69,3 +69,6 @@ pub source_to_core : SourceToCore
 source_to_core names program t =
     let d : Declares (no_environment names) (λ a rest. decs_core a program rest) t.1.0 = by_steps names program IsSound (step names program t.0) (no_environment names) (declarations program) t.1.0 whole t.1.1 in
     d [] (λ i. i) (over names []) (nothing_realised names) (λ a n. core.Zero) (λ vs g u fo r. typed.inert)
+
+pub opens_well_typed : OpensWellTyped
+opens_well_typed names program t = record { messages = []; closed = tt; one_each = refl; typed = (source_to_core names program t, tt) }

@@ -1,72 +1,32 @@
 -- What a primitive answers of two numbers at hand, and the output of the answer that has the turn then.
-use Rattle.std.proofs.Common.{◌≡◌, ℕ, ℤ, List, [], ◌∷◌, length, get_or, Some, None, refl, sym, ap, ◌∙◌, arith}
+use Rattle.std.proofs.Common.{List, None, refl}
 use Rattle.pict_syntax.specs.declared.primitive.Primitive.{Primitive}
 use Rattle.pict_syntax.specs.declared.span.Span.{Span}
-use Rattle.pict_core.specs.Plain.{plain_val}
-use Rattle.pict_core.specs.Primitives.{Effect, Answer, answers, effect_of}
-use Rattle.pict_core.specs.Term.{Val, Labelled, Int, Record, no_vals, more_vals}
+use Rattle.pict_core.specs.Primitives.{Effect, Answer}
+use Rattle.pict_core.specs.Term.{Val}
 use Rattle.pict_core.specs.declared.value.CoreVal.{CoreVal}
-use Rattle.pict_frames.specs.declared.keeping.Kept.{Kept}
-use Rattle.pict_heap.specs.HeapState.{HeapState, value_of}
-use Rattle.pict_heap.specs.declared.word.Word.{Word}
-use Rattle.pict_prim.specs.Answers.{of_numbers, AnswersWord}
-use Rattle.pict_operands.specs.AtHand.{number_named}
-use Rattle.pict_operands.proofs.Making.{keeps_all}
-use Rattle.pict_turns.specs.Acting.{KeepsHeap}
+use Rattle.pict_desk.specs.declared.kept.Kept.{Kept}
+use Rattle.pict_desk.proofs.Making.{keeps_all}
+use Rattle.pict_desk.specs.Room.{KeepsHeap}
 use Rattle.pict_turns.specs.declared.store.Store.{Store}
 use Rattle.pict_turns.specs.declared.turn.Turn.TheVariants.{Output}
-use Rattle.pict_turns.proofs.Room.{keeps_words, value_kept}
-use Rattle.pict_calls.specs.Answers.{IsAnswerOf}
-use Rattle.pict_calls.specs.Arguments.{operand_in, argument_of}
-use Rattle.pict_calls.specs.Finishing.{IsOutput, HasActed}
+use Rattle.pict_desk.proofs.Numbers.{output_kept}
+use Rattle.pict_desk.specs.Answers.{IsAnswerOf}
+use Rattle.pict_calls.specs.Finishing.{HasActed}
 use Rattle.pict_calls.specs.declared.called.Called.TheVariants as called
-
--- a value that is a number
-pub is_number : (v : Val) (n : ℤ) → Some n ≡ number_named v → v ≡ Int n
-is_number (Int m) n e = cc
-is_number _ n e = cc
-
--- the effect on three fields, of which the first two stand for numbers
-module _ (h : HeapState) (values : List (ℕ × ℕ)) (p : Primitive) (x y z : CoreVal) (a b : ℤ) (answer : Word)
-    (first : operand_in h values (plain_val x) ≡ Int a) (second : operand_in h values (plain_val y) ≡ Int b)
-    (is : (labelled : Labelled) → AnswersWord (λ k. effect_of p (of_numbers a b k labelled)) answer) where
-  pub answered : (fields : List CoreVal) → length fields ≡ 3 → x ≡ get_or fields 0 x → y ≡ get_or fields 1 y → z ≡ get_or fields 2 z
-      → (ls : Labelled) → effect_of p (argument_of h values fields ls) ≡ answers (operand_in h values (plain_val z)) (value_of h answer)
-  answered [] n i j l ls = absurd (omega arith)
-  answered (u ∷ []) n i j l ls = absurd (omega arith)
-  answered (u ∷ v ∷ []) n i j l ls = absurd (omega arith)
-  answered (u ∷ v ∷ w ∷ []) n i j l ls =
-      let operand = λ (c : CoreVal). operand_in h values (plain_val c) in
-      ap (λ c. effect_of p (Record (more_vals c (more_vals (operand v) (more_vals (operand w) no_vals))) ls)) (ap operand (sym i) ∙ first)
-      ∙ ap (λ c. effect_of p (Record (more_vals (Int a) (more_vals c (more_vals (operand w) no_vals))) ls)) (ap operand (sym j) ∙ second)
-      ∙ (is ls).is h (operand w) ∙ ap (λ c. answers (operand c) (value_of h answer)) (sym l)
-  answered (u ∷ v ∷ w ∷ o ∷ fields) n i j l ls = absurd (omega arith)
-
--- an output's kept words, where a heap's room alone has changed
-output_kept : (old new : HeapState) → KeepsHeap old new → (to message : Val) (at : Span) (kept : Kept) → IsOutput old to message at kept → IsOutput new to message at kept
-output_kept old new k to message at kept o =
-    let keeps = keeps_words old new k in
-    record {
-      to_pair = let p = o.to_pair in record { word = p.word; is = keeps.words p.word p.is; fits = p.fits; packs = p.packs };
-      to_is = ap (λ value. value kept.to.0 kept.to.1) (value_kept old new k) ∙ o.to_is;
-      message_pair = let p = o.message_pair in record { word = p.word; is = keeps.words p.word p.is; fits = p.fits; packs = p.packs };
-      message_is = ap (λ value. value kept.message.0 kept.message.1) (value_kept old new k) ∙ o.message_is;
-      at_is = o.at_is;
-      fits = o.fits;
-    }
 
 -- to print nothing, and to answer
 abbrev pub answering : Val → Val → Effect
 answering to answer = record { printed = None; leaves = Answer to answer }
 
 -- the output of the answer has the turn
-pub hands_answer : (old mid : Store) → KeepsHeap old.heap mid.heap → (p : Primitive) (fields : List CoreVal) (at : Span) (kept : Kept) (a : IsAnswerOf old.heap old.values.items p fields at kept)
+pub hands_answer : (old mid : Store) → KeepsHeap old.desk.heap mid.desk.heap → (p : Primitive) (fields : List CoreVal) (at : Span) (kept : Kept) (a : IsAnswerOf old.desk.heap old.desk.values.items p fields at kept)
     → HasActed mid (record mid { turn = Output kept }) (answering a.to a.answer) at called.Quiet
 hands_answer old mid k p fields at kept a = record {
-  turn = record { kept = kept; is = output_kept old.heap mid.heap k a.to a.answer at kept a.output; turn_is = refl };
+  turn = record { kept = kept; is = output_kept old.desk.heap mid.desk.heap k a.to a.answer at kept a.output; turn_is = refl };
   shows = (refl, λ is. cc);
   queues = refl;
   values = refl;
-  keeps = keeps_all mid.heap;
+  keeps = keeps_all mid.desk.heap;
   trap = λ is. cc;
 }

@@ -3,21 +3,25 @@ use Rattle.std.proofs.Common.{ℕ, ◌+◌, ◌≤◌, ◌≡◌, ◌≢◌, Lis
 use Rattle.std.specs.List.{AllByRecursion}
 use Rattle.pict_syntax.specs.declared.primitive.Primitive.{Primitive}
 use Rattle.pict_syntax.specs.declared.span.Span.{Span}
-use Rattle.pict_core.specs.Term.{Val, Process, Out}
+use Rattle.pict_core.specs.Term.{Val, PrimitiveVal, Process, Out}
+use Rattle.pict_core.specs.Deed.{leaves, performs}
 use Rattle.pict_core.specs.Primitives.{Effect, Leaves, Nothing, Answer, Trap, effect_of}
 use Rattle.pict_core.specs.Step.{Label, Quiet, Print, printing}
 use Rattle.pict_code.specs.Nodes.{nodes_of}
-use Rattle.pict_frames.specs.Keeping.{kept_words}
+use Rattle.pict_blocks.specs.Keeping.{kept_words}
 use Rattle.pict_heap.specs.HeapState.{value_of, KeepsWords}
 use Rattle.pict_prim.specs.Done.{printed_of}
 use Rattle.pict_region.specs.RegionState.{spare}
 use Rattle.pict_queue.specs.QueuesState.{QueuesState, IsQueue}
 use Rattle.pict_queue.specs.Contents.{contents, HoldsNoMore}
-use Rattle.pict_view.specs.Moved.{Moves, Stops}
-use Rattle.pict_view.specs.ViewStep.{next_view, act, perform, leave}
-use Rattle.pict_blocks.specs.Blocks.{value_in, process_of, view_of_contents}
-use Rattle.pict_operands.specs.Pairs.{ArePairs}
-use Rattle.pict_operands.proofs.Making.{pairs_keep, keeps_more}
+use Rattle.pict_view.specs.Moved.{Moved, Moves, Stops}
+use Rattle.pict_view.specs.View.{View}
+use Rattle.pict_view.specs.Placed.{next_view}
+use Rattle.pict_view.proofs.Rows.{put, act}
+use Rattle.pict_blocks.specs.Blocks.{process_of, view_of_contents}
+use Rattle.pict_desk.specs.Known.{value_in}
+use Rattle.pict_desk.specs.Pairs.{ArePairs}
+use Rattle.pict_desk.proofs.Making.{pairs_keep, keeps_more}
 use Rattle.pict_turns.specs.Acting.{IsStore, IsDone, HasBlockFor}
 use Rattle.pict_turns.specs.Reserving.{OnlyReserves}
 use Rattle.pict_turns.specs.Turns.{IsTurn, handing, turn_cost}
@@ -26,7 +30,8 @@ use Rattle.pict_turns.specs.declared.store.Store.{Store}
 use Rattle.pict_turns.specs.declared.turn.Turn.{Turn}
 use Rattle.pict_turns.proofs.Views.{block_same, blocks_stay}
 use Rattle.pict_turns.proofs.Rows.{store_by, view_kept, done_by}
-use Rattle.pict_turns.proofs.Room.{value_kept, reserves_nothing, words_still, acting_words_still, acting_still, view_still, refused_still, done_after, refused_after}
+use Rattle.pict_turns.proofs.Room.{reserves_nothing, words_still, acting_words_still, acting_still, view_still, refused_still, done_after, refused_after}
+use Rattle.pict_desk.proofs.MakingRoom.{value_kept}
 use Rattle.pict_turns.proofs.Turns.{nobody_turn, nobody_room, cost_nobody, same_words, acting_block}
 use Rattle.pict_calls.specs.declared.called.Called.{Called}
 use Rattle.pict_calls.specs.declared.called.Called.TheVariants as called
@@ -44,42 +49,46 @@ module _ (core : Process) (old new : Store) (p : Primitive) (v : Val) (at : Span
     (on : CallsOn core old p v at) (is : effect_of p v ≡ Some e) (h : HasActed old new e at called) where
   -- the other ready processes, and the lists of the channels
   rest : List Process
-  rest = map (process_of core (value_in new.heap)) (contents old.queues 0)
+  rest = map (process_of core (value_in new.desk.heap)) (contents old.queues 0)
 
   lists : List (List Process)
-  lists = map (map (process_of core (value_in new.heap))) (channel_lists old.queues)
+  lists = map (map (process_of core (value_in new.desk.heap))) (channel_lists old.queues)
 
-  moved : next_view (view_of_contents core (value_in new.heap) (acting_words core old ∷ contents old.queues 0) (channel_lists old.queues)) ≡ leave rest lists at (printing e.printed) e.leaves
+  -- what the output leaves
+  abbrev leave : Label → Leaves → Moved View
+  leave label l = put rest lists (Out (PrimitiveVal p) v at) (leaves at label l)
+
+  moved : next_view (view_of_contents core (value_in new.desk.heap) (acting_words core old ∷ contents old.queues 0) (channel_lists old.queues)) ≡ leave (printing e.printed) e.leaves
   unfolding rest lists
   moved =
-      ap (act rest lists) (block_same old.heap new.heap h.keeps core (acting_words core old) (acting_block core old on.acting) ∙ on.output)
-      ∙ ap (perform rest lists at) is
+      ap (act rest lists) (block_same old.desk.heap new.desk.heap h.keeps core (acting_words core old) (acting_block core old on.acting) ∙ on.output)
+      ∙ ap (λ o. put rest lists (Out (PrimitiveVal p) v at) (performs at o)) is
 
-  left : (to answer : Val) (r : IsAnswered new.heap to answer at new.turn) → process_of core (value_in new.heap) (kept_words r.kept) ≡ Out to answer at
+  left : (to answer : Val) (r : IsAnswered new.desk.heap to answer at new.turn) → process_of core (value_in new.desk.heap) (kept_words r.kept) ≡ Out to answer at
   left to answer r =
-      ap (λ x. Out x (value_in new.heap r.kept.message.0 r.kept.message.1) r.kept.at) r.is.to_is ∙ ap (λ x. Out to x r.kept.at) r.is.message_is ∙ ap (Out to answer) r.is.at_is
+      ap (λ x. Out x (value_in new.desk.heap r.kept.message.0 r.kept.message.1) r.kept.at) r.is.to_is ∙ ap (λ x. Out to x r.kept.at) r.is.message_is ∙ ap (Out to answer) r.is.at_is
 
   -- by what is left: the step, who has the turn, and a free block for it
-  after : (l : Leaves) (label : Label) → l ≢ Trap → IsTurnAfter new.heap l at new.turn
-      → leave rest lists at label l ≡ Moves (view_of_contents core (value_in new.heap) (turn_words core new ++ contents old.queues 0) (channel_lists old.queues)) label
+  after : (l : Leaves) (label : Label) → l ≢ Trap → IsTurnAfter new.desk.heap l at new.turn
+      → leave label l ≡ Moves (view_of_contents core (value_in new.desk.heap) (turn_words core new ++ contents old.queues 0) (channel_lists old.queues)) label
   unfolding rest lists
   after Nothing label other r =
-      ap (λ (t : Turn). Moves (view_of_contents core (value_in new.heap) (words_of_turn (nodes_of core) new.values.items t ++ contents old.queues 0) (channel_lists old.queues)) label) (sym r)
+      ap (λ (t : Turn). Moves (view_of_contents core (value_in new.desk.heap) (words_of_turn (nodes_of core) new.desk.values.items t ++ contents old.queues 0) (channel_lists old.queues)) label) (sym r)
   after (Answer to answer) label other r =
       ap (λ (q : Process). Moves (record { ready = q ∷ rest; channels = lists }) label) (sym (left to answer r))
-      ∙ ap (λ (t : Turn). Moves (view_of_contents core (value_in new.heap) (words_of_turn (nodes_of core) new.values.items t ++ contents old.queues 0) (channel_lists old.queues)) label) (sym r.turn_is)
+      ∙ ap (λ (t : Turn). Moves (view_of_contents core (value_in new.desk.heap) (words_of_turn (nodes_of core) new.desk.values.items t ++ contents old.queues 0) (channel_lists old.queues)) label) (sym r.turn_is)
   after Trap label other r = absurd (other refl)
 
-  turn_after : (l : Leaves) → l ≢ Trap → IsTurnAfter new.heap l at new.turn → IsTurn core new.heap new.values.items new.turn
-  turn_after Nothing other r = nobody_turn core new.heap new.values.items new.turn r
+  turn_after : (l : Leaves) → l ≢ Trap → IsTurnAfter new.desk.heap l at new.turn → IsTurn core new.desk.heap new.desk.values.items new.turn
+  turn_after Nothing other r = nobody_turn core new.desk.heap new.desk.values.items new.turn r
   turn_after (Answer to answer) other r =
-      subst (IsTurn core new.heap new.values.items) (sym r.turn_is) (record { kept = r.kept; is = refl; fits = r.is.fits; to = r.is.to_pair; message = r.is.message_pair })
+      subst (IsTurn core new.desk.heap new.desk.values.items) (sym r.turn_is) (record { kept = r.kept; is = refl; fits = r.is.fits; to = r.is.to_pair; message = r.is.message_pair })
   turn_after Trap other r = absurd (other refl)
 
-  room_after : (l : Leaves) → l ≢ Trap → IsTurnAfter new.heap l at new.turn → HasRoomToAnswer old.queues l → AllByRecursion (HasBlockFor new.queues.region) (turn_words core new)
+  room_after : (l : Leaves) → l ≢ Trap → IsTurnAfter new.desk.heap l at new.turn → HasRoomToAnswer old.queues l → AllByRecursion (HasBlockFor new.queues.region) (turn_words core new)
   room_after Nothing other r free = nobody_room core new new.queues.region r
   room_after (Answer to answer) other r free =
-      subst (λ (t : Turn). AllByRecursion (HasBlockFor new.queues.region) (words_of_turn (nodes_of core) new.values.items t)) (sym r.turn_is)
+      subst (λ (t : Turn). AllByRecursion (HasBlockFor new.queues.region) (words_of_turn (nodes_of core) new.desk.values.items t)) (sym r.turn_is)
       (subst (λ (q : QueuesState). 1 ≤ spare q.region 9) (sym h.queues) free, tt)
   room_after Trap other r free = absurd (other refl)
 
@@ -88,29 +97,29 @@ module _ (core : Process) (old new : Store) (p : Primitive) (v : Val) (at : Span
       let s = on.acting.store in
       store_by core old new s h.keeps (subst (λ (q : QueuesState). IsQueue q 0) (sym h.queues) s.ready)
       (λ queue.
-      subst (λ (q : QueuesState). AllByRecursion (IsBlock core new.heap) (contents q queue)) (sym h.queues) (blocks_stay old.heap new.heap h.keeps core (contents old.queues queue) (s.blocks queue)))
+      subst (λ (q : QueuesState). AllByRecursion (IsBlock core new.desk.heap) (contents q queue)) (sym h.queues) (blocks_stay old.desk.heap new.desk.heap h.keeps core (contents old.queues queue) (s.blocks queue)))
       (subst (AreWaiting core) (sym h.queues) s.waiting)
-      (subst (λ vs. ArePairs new.heap vs.items) (sym h.values) (pairs_keep old.heap new.heap h.keeps old.values.items s.pairs))
+      (subst (λ vs. ArePairs new.desk.heap vs.items) (sym h.values) (pairs_keep old.desk.heap new.desk.heap h.keeps old.desk.values.items s.pairs))
       (ap (λ vs. length vs.items) h.values) (turn_after e.leaves other h.turn) (room_after e.leaves other h.turn free)
 
   done : (label : Label) → printing e.printed ≡ label → e.leaves ≢ Trap → HasRoomToAnswer old.queues e.leaves → IsDone core old new label
   done label shows other free =
       let same : length new.queues.queues ≡ length old.queues.queues = ap (λ (q : QueuesState). length q.queues) h.queues in
       done_by core old new on.acting h.keeps (turn_words core new ++ contents old.queues 0) (channel_lists old.queues) label
-      (moved ∙ ap (λ l. leave rest lists at l e.leaves) shows ∙ after e.leaves label other h.turn)
+      (moved ∙ ap (λ l. leave l e.leaves) shows ∙ after e.leaves label other h.turn)
       (ap (λ (q : QueuesState). turn_words core new ++ contents q 0) h.queues) (ap channel_lists h.queues)
       (store_after other free) (ap (λ vs. length vs.items) h.values) (omega (arith, same))
       (subst (HoldsNoMore old.queues) (sym h.queues) (λ block held. held))
 
   stops : e.leaves ≡ Trap → next_view (view_with_turn core old) ≡ Stops at
-  stops trap = sym (ap next_view (view_kept core old new on.acting h.keeps)) ∙ moved ∙ ap (leave rest lists at (printing e.printed)) trap
+  stops trap = sym (ap next_view (view_kept core old new on.acting h.keeps)) ∙ moved ∙ ap (leave (printing e.printed)) trap
 
 -- an act of the output that has the turn is a call
 pub called_by : (core : Process) (old new : Store) (p : Primitive) (v : Val) (at : Span) (e : Effect) (called : Called)
     → CallsOn core old p v at → effect_of p v ≡ Some e → HasRoomToAnswer old.queues e.leaves → HasActed old new e at called → IsCalled core old new called
 called_by core old new p v at e called.Quiet on is free h = done core old new p v at e called.Quiet on is h Quiet (ap printing h.shows.0) h.shows.1 free
 called_by core old new p v at e (called.Printed w) on is free h =
-    let bytes = some_is (printed_of (value_of new.heap w)) h.shows.some in
+    let bytes = some_is (printed_of (value_of new.desk.heap w)) h.shows.some in
     record {
       bytes = bytes.0;
       word = h.shows.word;
@@ -127,10 +136,10 @@ called_by core old new p v at e (called.Trapped place) on is free h =
 pub cost_after : (core : Process) (old new : Store) (e : Effect) (at : Span) (called : Called) → HasActed old new e at called → turn_cost core new ≤ turn_cost core old + 13
 cost_after core old new e at called h = by_case e.leaves h.turn h.trap
   where
-    by_case : (l : Leaves) → IsTurnAfter new.heap l at new.turn → (l ≡ Trap → new ≡ old) → turn_cost core new ≤ turn_cost core old + 13
+    by_case : (l : Leaves) → IsTurnAfter new.desk.heap l at new.turn → (l ≡ Trap → new ≡ old) → turn_cost core new ≤ turn_cost core old + 13
     by_case Nothing r trap = let none = cost_nobody core new r in omega (arith, none)
     by_case (Answer to answer) r trap =
-        let one : turn_cost core new ≡ 13 = ap (λ (t : Turn). handing (words_of_turn (nodes_of core) new.values.items t)) r.turn_is in omega (arith, one)
+        let one : turn_cost core new ≡ 13 = ap (λ (t : Turn). handing (words_of_turn (nodes_of core) new.desk.values.items t)) r.turn_is in omega (arith, one)
     by_case Trap r trap = let same : turn_cost core new ≡ turn_cost core old = ap (turn_cost core) (trap refl) in omega (arith, same)
 
 -- ---- once room is made
@@ -140,8 +149,8 @@ module _ (core : Process) (old mid : Store) (r : OnlyReserves old mid) where
   calls_still p v at on = record {
     acting = acting_still core old mid r on.acting;
     output =
-        ap (λ (value : ℕ → ℕ → Val). process_of core value (acting_words core mid)) (value_kept old.heap mid.heap r.heap)
-        ∙ ap (process_of core (value_in old.heap)) (acting_words_still core old mid r) ∙ on.output;
+        ap (λ (value : ℕ → ℕ → Val). process_of core value (acting_words core mid)) (value_kept old.desk.heap mid.desk.heap r.heap)
+        ∙ ap (process_of core (value_in old.desk.heap)) (acting_words_still core old mid r) ∙ on.output;
   }
 
   pub called_after : (last : Store) (called : Called) → IsCalled core mid last called → IsCalled core old last called
@@ -157,16 +166,16 @@ module _ (core : Process) (old mid : Store) (r : OnlyReserves old mid) where
 
 -- ---- once words are made
 
-pub cost_same : (core : Process) (s n : Store) → n.turn ≡ s.turn → n.values ≡ s.values → turn_cost core n ≡ turn_cost core s
+pub cost_same : (core : Process) (s n : Store) → n.turn ≡ s.turn → n.desk.values ≡ s.desk.values → turn_cost core n ≡ turn_cost core s
 cost_same core s n turn values = ap handing (same_words core s n turn (ap (λ vs. vs.items) values))
 
-pub acted_before : (old mid new : Store) (e : Effect) (at : Span) (called : Called) → KeepsWords old.heap mid.heap → mid.queues ≡ old.queues → mid.values ≡ old.values → e.leaves ≢ Trap
+pub acted_before : (old mid new : Store) (e : Effect) (at : Span) (called : Called) → KeepsWords old.desk.heap mid.desk.heap → mid.queues ≡ old.queues → mid.desk.values ≡ old.desk.values → e.leaves ≢ Trap
     → HasActed mid new e at called → HasActed old new e at called
 acted_before old mid new e at called keeps queues values other h = record {
   turn = h.turn;
   shows = h.shows;
   queues = h.queues ∙ queues;
   values = h.values ∙ values;
-  keeps = keeps_more old.heap mid.heap new.heap keeps h.keeps;
+  keeps = keeps_more old.desk.heap mid.desk.heap new.desk.heap keeps h.keeps;
   trap = λ is. absurd (other is);
 }

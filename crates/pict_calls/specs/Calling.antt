@@ -8,8 +8,9 @@ use Rattle.pict_heap.specs.HeapState.{value_of, IsWord}
 use Rattle.pict_heap.specs.declared.word.Word.{Word}
 use Rattle.pict_prim.specs.Done.{printed_of}
 use Rattle.pict_view.specs.Moved.{Stops}
-use Rattle.pict_view.specs.ViewStep.{next_view}
-use Rattle.pict_blocks.specs.Blocks.{value_in, process_of}
+use Rattle.pict_view.specs.Placed.{next_view}
+use Rattle.pict_blocks.specs.Blocks.{process_of}
+use Rattle.pict_desk.specs.Known.{value_in}
 use Rattle.pict_turns.specs.Acting.{HasActing, IsDone, IsRefused}
 use Rattle.pict_turns.specs.Views.{acting_words, view_with_turn}
 use Rattle.pict_turns.specs.declared.store.Store.{Store}
@@ -19,13 +20,13 @@ use Rattle.pict_calls.specs.declared.called.Called.TheVariants as called
 -- Who has the turn is the output of this value to this primitive, at this place in the text.
 pub record CallsOn (core : Process) (s : Store) (p : Primitive) (v : Val) (at : Span) : Type 0 where
   pub acting : HasActing core s
-  pub output : process_of core (value_in s.heap) (acting_words core s) ≡ Out (PrimitiveVal p) v at
+  pub output : process_of core (value_in s.desk.heap) (acting_words core s) ≡ Out (PrimitiveVal p) v at
 
 -- The step is done and prints these bytes: those of the word, a text or a number of the heap.
 pub record IsPrinted (core : Process) (old new : Store) (w : Word) : Type 0 where
   pub bytes : List ℕ
-  pub word : IsWord new.heap w
-  pub prints : printed_of (value_of new.heap w) ≡ Some bytes
+  pub word : IsWord new.desk.heap w
+  pub prints : printed_of (value_of new.desk.heap w) ≡ Some bytes
   pub done : IsDone core old new (Print bytes)
 
 -- The step is a trap at this place: it changes nothing but room, spare blocks and work.

@@ -3,29 +3,18 @@ use Rattle.std.specs.Prelude.{◌≡◌, ◌≢◌, ℕ, None, IsSome}
 use Rattle.pict_syntax.specs.declared.span.Span.{Span}
 use Rattle.pict_core.specs.Term.{Val}
 use Rattle.pict_core.specs.Primitives.{Effect, Leaves, Nothing, Answer, Trap}
-use Rattle.pict_frames.specs.Keeping.{FitsKept}
-use Rattle.pict_frames.specs.declared.keeping.Kept.{Kept}
+use Rattle.pict_desk.specs.Kept.{IsOutput}
+use Rattle.pict_desk.specs.declared.kept.Kept.{Kept}
 use Rattle.pict_heap.specs.HeapState.{HeapState, value_of, IsWord, KeepsWords}
 use Rattle.pict_heap.specs.declared.word.Word.{Word}
 use Rattle.pict_prim.specs.Done.{printed_of}
 use Rattle.pict_prim.specs.declared.act.Act.{Act}
 use Rattle.pict_prim.specs.declared.act.Act.TheVariants as act
-use Rattle.pict_blocks.specs.Blocks.{value_in}
-use Rattle.pict_operands.specs.Pairs.{IsPair}
 use Rattle.pict_turns.specs.declared.store.Store.{Store}
 use Rattle.pict_turns.specs.declared.turn.Turn.{Turn}
 use Rattle.pict_turns.specs.declared.turn.Turn.TheVariants.{Nobody, Output}
 use Rattle.pict_calls.specs.declared.called.Called.{Called}
 use Rattle.pict_calls.specs.declared.called.Called.TheVariants as called
-
--- these kept words are the output of the message on this value, at this place
-pub record IsOutput (h : HeapState) (to message : Val) (at : Span) (kept : Kept) : Type 0 where
-  pub to_pair : IsPair h kept.to
-  pub to_is : value_in h kept.to.0 kept.to.1 ≡ to
-  pub message_pair : IsPair h kept.message
-  pub message_is : value_in h kept.message.0 kept.message.1 ≡ message
-  pub at_is : kept.at ≡ at
-  pub fits : FitsKept kept
 
 -- the output of an answer has the turn
 pub record IsAnswered (h : HeapState) (to answer : Val) (at : Span) (turn : Turn) : Type 0 where
@@ -55,11 +44,11 @@ Shows h e at (called.Trapped place) = (e.leaves ≡ Trap) × (place ≡ at)
 -- The act of the output that had the turn has had this effect. The queues and the values stay, and all words stand for what they
 -- stood for. A trap changes nothing.
 pub record HasActed (old new : Store) (e : Effect) (at : Span) (called : Called) : Type 0 where
-  pub turn : IsTurnAfter new.heap e.leaves at new.turn
-  pub shows : Shows new.heap e at called
+  pub turn : IsTurnAfter new.desk.heap e.leaves at new.turn
+  pub shows : Shows new.desk.heap e at called
   pub queues : new.queues ≡ old.queues
-  pub values : new.values ≡ old.values
-  pub keeps : KeepsWords old.heap new.heap
+  pub values : new.desk.values ≡ old.desk.values
+  pub keeps : KeepsWords old.desk.heap new.desk.heap
   pub trap : e.leaves ≡ Trap → new ≡ old
 
 -- how many free blocks the output that an act leaves needs, so that it can have the turn

@@ -1,4 +1,2 @@
 pub mod Calling
 pub mod Finishing
-pub mod Arguments
-pub mod Answers

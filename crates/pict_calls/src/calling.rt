@@ -6,33 +6,35 @@ ghost use Rattle.pict_core.specs.Primitives.{Effect, effect_of};
 ghost use Rattle.pict_heap.specs.HeapState.{value_of, IsWord};
 ghost use Rattle.pict_prim.specs.Acts.{effect_act, IsActOf};
 ghost use Rattle.pict_turns.specs.Acting.{HasActing, IsRefused};
-ghost use Rattle.pict_turns.specs.Reserving.{KeepsPiles};
+ghost use Rattle.pict_desk.specs.Room.{KeepsPiles};
 ghost use Rattle.pict_turns.specs.Turns.{turn_cost};
 ghost use Rattle.pict_turns.specs.Widths.{MakesOnly, answer_widths};
-ghost use Rattle.pict_calls.specs.Arguments.{record_of_words};
+ghost use Rattle.pict_desk.specs.Arguments.{record_of_words};
 ghost use Rattle.pict_calls.specs.Calling.{CallsOn, IsCalled};
 
 use crate::called::Called;
 use crate::finishing::{finish, outputs};
-use pict_heap::{Heap, Word};
-use pict_prim::{Act, act_on, act_on_fields, room};
+use pict_blocks::KEPT_WIDTH;
+use pict_desk::act_of;
+use pict_heap::Word;
+use pict_prim::{Act, act_on, room};
 use pict_syntax::{Prim, Span};
-use pict_turns::{KEPT_WIDTH, Store, reserve};
+use pict_turns::{Store, reserve};
 use std::alloc::AllocError;
 
 // Does what the primitive is about to do for the output that has the turn, as `call` says.
 #[inline(always)]
 fn carry_out(store: &mut Store, act: Act, at: Span) -> Result<Called, AllocError>
-    requires act { IsActOf store.old.heap act }
-    ensures done { (core : Process) (p : Primitive) (v : Val) → CallsOn core store.old p v at → effect_of p v ≡ Some (effect_act store.old.heap act)
+    requires act { IsActOf store.old.desk.heap act }
+    ensures done { (core : Process) (p : Primitive) (v : Val) → CallsOn core store.old p v at → effect_of p v ≡ Some (effect_act store.old.desk.heap act)
         → IfOk result (IsCalled core store.old store.new) }
     ensures refused { (core : Process) → HasActing core store.old → OnErr result (IsRefused core store.old store.new) }
-    ensures piles { KeepsPiles store.old.pending store.new.pending }
-    ensures blocks { MakesOnly store.old.queues store.new.queues (answer_widths (effect_act store.old.heap act)) }
+    ensures piles { KeepsPiles store.old.desk.pending store.new.desk.pending }
+    ensures blocks { MakesOnly store.old.queues store.new.queues (answer_widths (effect_act store.old.desk.heap act)) }
     ensures work { store.new.queues.region.work ≡ store.old.queues.region.work }
     ensures turn { (core : Process) → turn_cost core store.new ≤ turn_cost core store.old + 13 }
 {
-    let need = room(&store.heap, act);
+    let need = room(&store.desk.heap, act);
     reserve(store, need, KEPT_WIDTH, outputs(act))?;
     Ok(finish(store, act, at))
 }
@@ -42,33 +44,19 @@ fn carry_out(store: &mut Store, act: Act, at: Span) -> Result<Called, AllocError
 /// which is want of memory, change nothing but room and spare blocks.
 #[inline(never)]
 pub fn call(store: &mut Store, p: Prim, argument: Word, at: Span) -> Result<Called, AllocError>
-    requires word { IsWord store.old.heap argument }
-    requires takes { IsSome (effect_of p (value_of store.old.heap argument)) }
-    ensures done { (core : Process) → CallsOn core store.old p (value_of store.old.heap argument) at
+    requires word { IsWord store.old.desk.heap argument }
+    requires takes { IsSome (effect_of p (value_of store.old.desk.heap argument)) }
+    ensures done { (core : Process) → CallsOn core store.old p (value_of store.old.desk.heap argument) at
         → IfOk result (IsCalled core store.old store.new) }
     ensures refused { (core : Process) → HasActing core store.old → OnErr result (IsRefused core store.old store.new) }
-    ensures piles { KeepsPiles store.old.pending store.new.pending }
-    ensures blocks { (e : Effect) → effect_of p (value_of store.old.heap argument) ≡ Some e
+    ensures piles { KeepsPiles store.old.desk.pending store.new.desk.pending }
+    ensures blocks { (e : Effect) → effect_of p (value_of store.old.desk.heap argument) ≡ Some e
         → MakesOnly store.old.queues store.new.queues (answer_widths e) }
     ensures work { store.new.queues.region.work ≡ store.old.queues.region.work }
     ensures turn { (core : Process) → turn_cost core store.new ≤ turn_cost core store.old + 13 }
 {
-    match act_on(&store.heap, p, argument) {
+    match act_on(&store.desk.heap, p, argument) {
         Some(act) => carry_out(store, act, at),
-        None => unreachable!(),
-    }
-}
-
-/// What the primitive is about to do with these fields of a record, which it takes.
-#[inline(always)]
-pub(crate) fn act_of(heap: &Heap, p: Prim, fields: &[Word]) -> Act
-    requires words { All (IsWord heap.now) fields.now }
-    requires takes { (labelled : Labelled) × IsSome (effect_of p (record_of_words heap.now fields.now labelled)) }
-    ensures effect { (labelled : Labelled) → effect_of p (record_of_words heap.now fields.now labelled) ≡ Some (effect_act heap.now result) }
-    ensures act { IsActOf heap.now result }
-{
-    match act_on_fields(heap, p, fields) {
-        Some(act) => act,
         None => unreachable!(),
     }
 }
@@ -81,17 +69,17 @@ pub(crate) fn call_words(
     fields: &[Word],
     at: Span,
 ) -> Result<Called, AllocError>
-    requires words { All (IsWord store.old.heap) fields.now }
-    requires takes { (labelled : Labelled) × IsSome (effect_of p (record_of_words store.old.heap fields.now labelled)) }
-    ensures done { (core : Process) (labelled : Labelled) → CallsOn core store.old p (record_of_words store.old.heap fields.now labelled) at
+    requires words { All (IsWord store.old.desk.heap) fields.now }
+    requires takes { (labelled : Labelled) × IsSome (effect_of p (record_of_words store.old.desk.heap fields.now labelled)) }
+    ensures done { (core : Process) (labelled : Labelled) → CallsOn core store.old p (record_of_words store.old.desk.heap fields.now labelled) at
         → IfOk result (IsCalled core store.old store.new) }
     ensures refused { (core : Process) → HasActing core store.old → OnErr result (IsRefused core store.old store.new) }
-    ensures piles { KeepsPiles store.old.pending store.new.pending }
-    ensures blocks { (labelled : Labelled) (e : Effect) → effect_of p (record_of_words store.old.heap fields.now labelled) ≡ Some e
+    ensures piles { KeepsPiles store.old.desk.pending store.new.desk.pending }
+    ensures blocks { (labelled : Labelled) (e : Effect) → effect_of p (record_of_words store.old.desk.heap fields.now labelled) ≡ Some e
         → MakesOnly store.old.queues store.new.queues (answer_widths e) }
     ensures work { store.new.queues.region.work ≡ store.old.queues.region.work }
     ensures turn { (core : Process) → turn_cost core store.new ≤ turn_cost core store.old + 13 }
 {
-    let act = act_of(&store.heap, p, fields);
+    let act = act_of(&store.desk.heap, p, fields);
     carry_out(store, act, at)
 }

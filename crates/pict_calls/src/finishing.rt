@@ -2,10 +2,11 @@
 ghost use Rattle.std.specs.Prelude.{◌≡◌};
 ghost use Rattle.pict_heap.specs.HeapState.{HeapState, value_of, IsWord};
 ghost use Rattle.pict_prim.specs.Acts.{effect_act, need_of, IsActOf, HasRoom};
-ghost use Rattle.pict_calls.specs.Finishing.{outputs_of, IsOutput, HasActed};
+ghost use Rattle.pict_calls.specs.Finishing.{outputs_of, HasActed};
+ghost use Rattle.pict_desk.specs.Kept.{IsOutput};
 
 use crate::called::Called;
-use pict_frames::Kept;
+use pict_desk::Kept;
 use pict_heap::{Word, pack};
 use pict_prim::{Act, Acted, perform};
 use pict_syntax::Span;
@@ -39,12 +40,12 @@ fn output(to: Word, message: Word, at: Span) -> Kept
 /// still. Takes no memory.
 #[inline(always)]
 pub(crate) fn finish(store: &mut Store, act: Act, at: Span) -> Called
-    requires act { IsActOf store.old.heap act }
-    requires room { HasRoom store.old.heap.room (need_of store.old.heap act) }
-    ensures acted { HasActed store.old store.new (effect_act store.old.heap act) at result }
-    ensures pending { store.new.pending ≡ store.old.pending }
+    requires act { IsActOf store.old.desk.heap act }
+    requires room { HasRoom store.old.desk.heap.room (need_of store.old.desk.heap act) }
+    ensures acted { HasActed store.old store.new (effect_act store.old.desk.heap act) at result }
+    ensures pending { store.new.desk.pending ≡ store.old.desk.pending }
 {
-    match perform(&mut store.heap, act) {
+    match perform(&mut store.desk.heap, act) {
         Acted::Printed(word) => {
             store.turn = Turn::Nobody;
             Called::Printed(word)

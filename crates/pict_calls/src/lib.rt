@@ -3,7 +3,6 @@
 
 mod called;
 mod calling;
-mod effects;
 mod fields;
 mod finishing;
 mod operands;

@@ -5,25 +5,26 @@ ghost use Rattle.pict_core.specs.Closed.{IsOver};
 ghost use Rattle.pict_core.specs.Plain.{plain_val};
 ghost use Rattle.pict_core.specs.Primitives.{Effect, effect_of};
 ghost use Rattle.pict_core.specs.Term.{Process, Text};
-ghost use Rattle.pict_operands.specs.AtHand.{IsOfHeap};
-ghost use Rattle.pict_operands.specs.Pairs.{ArePairs};
+ghost use Rattle.pict_desk.specs.AtHand.{IsOfHeap};
+ghost use Rattle.pict_desk.specs.Pairs.{ArePairs};
 ghost use Rattle.pict_turns.specs.Acting.{HasActing, IsRefused};
-ghost use Rattle.pict_turns.specs.Reserving.{KeepsPiles};
+ghost use Rattle.pict_desk.specs.Room.{KeepsPiles};
 ghost use Rattle.pict_turns.specs.Turns.{turn_cost};
 ghost use Rattle.pict_turns.specs.Widths.{MakesOnly, answer_widths};
 ghost use Rattle.pict_calls.specs.Calling.{CallsOn, IsCalled};
-ghost use Rattle.pict_calls.specs.Arguments.{operand_in};
+ghost use Rattle.pict_desk.specs.Arguments.{operand_in};
 
 use crate::called::Called;
 use crate::calling::call;
 use crate::fields::call_fields;
 use crate::finishing::finish;
+use pict_blocks::KEPT_WIDTH;
 use pict_code::Operand;
 use pict_core::CoreVal;
-use pict_operands::word_at_hand;
+use pict_desk::word_at_hand;
 use pict_prim::{Act, Need};
 use pict_syntax::{Prim, Span};
-use pict_turns::{KEPT_WIDTH, Store, reserve};
+use pict_turns::{Store, reserve};
 use std::alloc::AllocError;
 
 // Who has the turn is the output of this text to `print`, at this place in the text: as `call` says.
@@ -31,7 +32,7 @@ use std::alloc::AllocError;
 fn print_text(store: &mut Store, bytes: &[u8], at: Span) -> Result<Called, AllocError>
     ensures done { (core : Process) → CallsOn core store.old primitive.Print (Text bytes.now) at → IfOk result (IsCalled core store.old store.new) }
     ensures refused { (core : Process) → HasActing core store.old → OnErr result (IsRefused core store.old store.new) }
-    ensures piles { KeepsPiles store.old.pending store.new.pending }
+    ensures piles { KeepsPiles store.old.desk.pending store.new.desk.pending }
     ensures blocks { MakesOnly store.old.queues store.new.queues [] }
     ensures work { store.new.queues.region.work ≡ store.old.queues.region.work }
     ensures turn { (core : Process) → turn_cost core store.new ≤ turn_cost core store.old + 13 }
@@ -43,7 +44,7 @@ fn print_text(store: &mut Store, bytes: &[u8], at: Span) -> Result<Called, Alloc
         bytes: bytes.len() as u64,
     };
     reserve(store, need, KEPT_WIDTH, 0)?;
-    let text = store.heap.add_text(bytes);
+    let text = store.desk.heap.add_text(bytes);
     Ok(finish(store, Act::Print(text), at))
 }
 
@@ -56,20 +57,20 @@ fn call_simple(
     at: Span,
 ) -> Result<Called, AllocError>
     requires at_hand { IsOfHeap (plain_val message.now) → ⊥ }
-    requires over { IsOver (length store.old.values.items) 0 (plain_val message.now) }
-    requires pairs { ArePairs store.old.heap store.old.values.items }
-    requires takes { IsSome (effect_of p (operand_in store.old.heap store.old.values.items (plain_val message.now))) }
+    requires over { IsOver (length store.old.desk.values.items) 0 (plain_val message.now) }
+    requires pairs { ArePairs store.old.desk.heap store.old.desk.values.items }
+    requires takes { IsSome (effect_of p (operand_in store.old.desk.heap store.old.desk.values.items (plain_val message.now))) }
     ensures done { (core : Process)
-        → CallsOn core store.old p (operand_in store.old.heap store.old.values.items (plain_val message.now)) at
+        → CallsOn core store.old p (operand_in store.old.desk.heap store.old.desk.values.items (plain_val message.now)) at
         → IfOk result (IsCalled core store.old store.new) }
     ensures refused { (core : Process) → HasActing core store.old → OnErr result (IsRefused core store.old store.new) }
-    ensures piles { KeepsPiles store.old.pending store.new.pending }
-    ensures blocks { (e : Effect) → effect_of p (operand_in store.old.heap store.old.values.items (plain_val message.now)) ≡ Some e
+    ensures piles { KeepsPiles store.old.desk.pending store.new.desk.pending }
+    ensures blocks { (e : Effect) → effect_of p (operand_in store.old.desk.heap store.old.desk.values.items (plain_val message.now)) ≡ Some e
         → MakesOnly store.old.queues store.new.queues (answer_widths e) }
     ensures work { store.new.queues.region.work ≡ store.old.queues.region.work }
     ensures turn { (core : Process) → turn_cost core store.new ≤ turn_cost core store.old + 13 }
 {
-    match word_at_hand(message, &store.values) {
+    match word_at_hand(message, &store.desk.values) {
         Some(argument) => call(store, p, argument, at),
         None => unreachable!(),
     }
@@ -86,15 +87,15 @@ pub fn call_operand(
     message: &Operand,
     at: Span,
 ) -> Result<Called, AllocError>
-    requires over { IsOver (length store.old.values.items) 0 (plain_val message.now) }
-    requires pairs { ArePairs store.old.heap store.old.values.items }
-    requires takes { IsSome (effect_of p (operand_in store.old.heap store.old.values.items (plain_val message.now))) }
+    requires over { IsOver (length store.old.desk.values.items) 0 (plain_val message.now) }
+    requires pairs { ArePairs store.old.desk.heap store.old.desk.values.items }
+    requires takes { IsSome (effect_of p (operand_in store.old.desk.heap store.old.desk.values.items (plain_val message.now))) }
     ensures done { (core : Process)
-        → CallsOn core store.old p (operand_in store.old.heap store.old.values.items (plain_val message.now)) at
+        → CallsOn core store.old p (operand_in store.old.desk.heap store.old.desk.values.items (plain_val message.now)) at
         → IfOk result (IsCalled core store.old store.new) }
     ensures refused { (core : Process) → HasActing core store.old → OnErr result (IsRefused core store.old store.new) }
-    ensures piles { KeepsPiles store.old.pending store.new.pending }
-    ensures blocks { (e : Effect) → effect_of p (operand_in store.old.heap store.old.values.items (plain_val message.now)) ≡ Some e
+    ensures piles { KeepsPiles store.old.desk.pending store.new.desk.pending }
+    ensures blocks { (e : Effect) → effect_of p (operand_in store.old.desk.heap store.old.desk.values.items (plain_val message.now)) ≡ Some e
         → MakesOnly store.old.queues store.new.queues (answer_widths e) }
     ensures work { store.new.queues.region.work ≡ store.old.queues.region.work }
     ensures turn { (core : Process) → turn_cost core store.new ≤ turn_cost core store.old + 13 }

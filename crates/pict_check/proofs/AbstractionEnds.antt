@@ -41,11 +41,11 @@ use Rattle.pict_infer.proofs.Forming.{exposed_itself, shown_is}
 use Rattle.pict_infer.proofs.MadeKnown.{own_then_parts}
 use Rattle.pict_infer.proofs.Through.{GoesOn, given, needed, refused, refused_on, refused_past, unstopped}
 use Rattle.pict_infer.specs.Shaping.{IsNoRecord}
-use Rattle.pict_check.specs.Definitions.{body_type, function_with, record_answers}
-use Rattle.pict_check.specs.Functions.{IsNoFunction}
-use Rattle.pict_check.specs.Lines.{formed, outside}
-use Rattle.pict_check.proofs.Ends.{answer_past, expands, good_of, past, past_refused, refused_here}
-use Rattle.pict_check.proofs.FieldEnds.{no_function}
+use Rattle.pict_lines.specs.Definitions.{body_type, function_with, record_answers}
+use Rattle.pict_lines.specs.Functions.{IsNoFunction}
+use Rattle.pict_lines.specs.Lines.{formed, outside}
+use Rattle.pict_lines.proofs.Ends.{answer_past, expands, good_of, past, past_refused, refused_here}
+use Rattle.pict_lines.proofs.HeadForms.{no_function}
 
 -- A PROCESS ABSTRACTION GIVES A TYPE
 

@@ -21,10 +21,10 @@ use Rattle.pict_rules.proofs.RegularAbstractions.{FunctionFormed}
 use Rattle.pict_rules.proofs.RegularArguments.{applied_formed}
 use Rattle.pict_rules.proofs.RegularProcesses.{exposed_formed}
 use Rattle.pict_infer.specs.Asking.{IsWellAsked}
-use Rattle.pict_check.specs.Functions.{FunctionIsFormed}
-use Rattle.pict_check.specs.Lines.{found_before}
+use Rattle.pict_lines.specs.Functions.{FunctionIsFormed}
+use Rattle.pict_lines.specs.Lines.{found_before}
 use Rattle.pict_check.proofs.ChannelEnds.{applied_asked}
-use Rattle.pict_check.proofs.Ends.{good_of}
+use Rattle.pict_lines.proofs.Ends.{good_of}
 use Rattle.pict_check.proofs.FieldEnds.{IsFields}
 
 -- USES

@@ -19,8 +19,8 @@ use Rattle.pict_infer.specs.Answering.{IsRefused, IsAnswer, nothing}
 use Rattle.pict_infer.specs.Asking.{IsWellAsked}
 use Rattle.pict_infer.proofs.Asked.{asked_of}
 use Rattle.pict_infer.proofs.Through.{GoesOn, refused_on, refused_past, refused, unstopped, cased_recursive, given}
-use Rattle.pict_check.specs.Lines.{fold_annotated, fold_of, outside}
-use Rattle.pict_check.proofs.Ends.{answer_past, ends_with, past_refused, refused_here}
+use Rattle.pict_lines.specs.Lines.{fold_annotated, fold_of, outside}
+use Rattle.pict_lines.proofs.Ends.{answer_past, ends_with, past_refused, refused_here}
 
 -- FOLDS
 

@@ -1,5 +1,5 @@
 -- Declarations, one lemma for each way that a body ends.
-use Rattle.std.proofs.Common.{◌≡◌, ℕ, ◌+◌, ◌<◌, ◌≤◌, List, length, get_or, take, Bool, true, false, if◌then◌else◌, sym, ap, ◌∙◌, subst, Result, Ok, Err, OnOk}
+use Rattle.std.proofs.Common.{◌≡◌, ℕ, ◌+◌, ◌<◌, List, length, get_or, take, Bool, true, false, if◌then◌else◌, sym, ap, ◌∙◌, subst, Result, Ok, Err, OnOk}
 use Rattle.pict_syntax.specs.declared.span.Span.{Span}
 use Rattle.pict_syntax.specs.declared.tree.Dec.{Dec as RDec}
 use Rattle.pict_syntax.specs.Trees.{Dec, Pat, Proc, Val, no_decs, run_dec, let_dec, await_dec}
@@ -20,9 +20,9 @@ use Rattle.pict_infer.specs.Environments.{environment_of, known_entries, known_n
 use Rattle.pict_infer.specs.Patterns.{GoesAgainst}
 use Rattle.pict_infer.specs.Asking.{IsWellAsked}
 use Rattle.pict_infer.proofs.Asked.{asked_of}
-use Rattle.pict_check.proofs.Grown.{grew_after}
-use Rattle.pict_check.proofs.Ends.{past_refused, refused_here}
-use Rattle.pict_check.proofs.Rows.{row_all, row_asked, row_more, row_refused}
+use Rattle.pict_lines.proofs.Grown.{grew_after}
+use Rattle.pict_lines.proofs.Ends.{past_refused, refused_here}
+use Rattle.pict_lines.proofs.Rows.{row_asked, row_more, row_refused}
 use Rattle.pict_check.proofs.RowEnds.{declarations_row}
 
 -- the place of a declaration doesn't matter
@@ -121,6 +121,3 @@ declaration_refused e d xs i a y h p q = row_refused (declarations_row e) xs i a
 
 pub declaration_asked : (e d : Environment) (xs : List RDec) (i : ℕ) (a : RDec) → i < length xs → IsWellAsked environment_ e (declarations (decs_on no_decs xs)) → Runs (rule e (declarations (decs_on no_decs (take i xs)))) (ok d) → IsWellAsked environment_ d (declaration (dec_of (get_or xs i a)))
 declaration_asked e d xs i a h q p = row_asked (declarations_row e) xs i a d h q p this_part
-
-pub all_declarations : (e d : Environment) (xs : List RDec) (i : ℕ) → length xs ≤ i → Runs (rule e (declarations (decs_on no_decs (take i xs)))) (ok d) → Runs (rule e (declarations (decs_on no_decs xs))) (ok d)
-all_declarations e d xs i h p = row_all (declarations_row e) xs i d h p

@@ -1,35 +1,34 @@
 -- Into the applications of a form from the right.
-use Rattle.std.proofs.Common.{◌≡◌, ℕ, suc, ◌+◌, ◌<◌, refl, sym, ◌∙◌, ap, subst, List, [], ◌∷◌, ◌++◌, length, get_or, drop, Option, None, arith, length-append}
+use Rattle.std.proofs.Common.{◌≡◌, ℕ, suc, ◌+◌, ◌<◌, sym, ◌∙◌, ap, subst, List, [], ◌∷◌, ◌++◌, length, get_or, drop, Option, None, arith, length-append}
 use Rattle.pict_syntax.specs.declared.tree.Val.{Val as RVal}
 use Rattle.pict_syntax.specs.PlainTrees.{val_of}
 use Rattle.pict_types.specs.declared.types.Bound.{Bound}
 use Rattle.pict_types.specs.declared.types.Ty.{Ty}
-use Rattle.pict_types.specs.Kinds.{IsWellFormed, kinds_under}
 use Rattle.pict_types.specs.Types.{PlainType}
 use Rattle.pict_match.specs.declared.found.Found.{Found}
 use Rattle.pict_rules.specs.Environments.{Environment}
-use Rattle.pict_rules.specs.Regular.{IsExpected, IsRegular, kinds_in}
+use Rattle.pict_rules.specs.Regular.{IsExpected}
 use Rattle.pict_rules.specs.Rules.{found_, value_fits, ok}
 use Rattle.pict_rules.specs.Derivations.{Runs}
 use Rattle.pict_rules.specs.Typing.{rule}
 use Rattle.pict_infer.specs.declared.error.InferError.{InferError}
 use Rattle.pict_infer.specs.Answering.{IsRefused, IsStopped}
 use Rattle.pict_infer.specs.Asking.{IsWellAsked}
-use Rattle.pict_check.specs.declared.operators.Operator.{Operator}
-use Rattle.pict_check.specs.Chains.{AreEntered, before_fields, nested, room_stop, wanted_at, wanted_inside}
-use Rattle.pict_check.specs.Judging.{IsRefusedFor}
-use Rattle.pict_check.specs.Nesting.{IsRightForm, right_form, wanted_right}
-use Rattle.pict_check.specs.Operators.{IsFoundFor, IsOperatorIn, found_by, frames_by, operator_of, type_if, vals_of}
-use Rattle.pict_check.specs.Reading.{found_for}
-use Rattle.pict_check.proofs.Frames.{frames_more, length_frames, length_vals, val_at, FieldFinds}
-use Rattle.pict_check.proofs.NestedAsked.{inside_asked, level_asked, step_asked}
-use Rattle.pict_check.proofs.NestedFormed.{after_found, before_found, expected_for, operator_formed, regular_for, second_formed}
-use Rattle.pict_check.proofs.Rights.{IsStep, first_refused, room_refused, step_entered, step_inside}
+use Rattle.pict_lines.specs.declared.operators.Operator.{Operator}
+use Rattle.pict_lines.specs.Chains.{AreEntered, before_fields, nested, room_stop, wanted_at, wanted_inside}
+use Rattle.pict_lines.specs.Judging.{IsRefusedFor}
+use Rattle.pict_lines.specs.Nesting.{AreEnteredSoFar, IsRightForm, right_form, wanted_right}
+use Rattle.pict_lines.specs.Operators.{IsFoundFor, found_by, frames_by, operator_of, type_if, vals_of}
+use Rattle.pict_lines.specs.Reading.{found_for}
+use Rattle.pict_lines.proofs.Frames.{frames_more, length_frames, length_vals, val_at, FieldFinds}
+use Rattle.pict_lines.proofs.NestedAsked.{inside_asked}
+use Rattle.pict_check.proofs.Inward.{level_asked, step_asked, IsStep, first_refused, room_refused, step_entered, step_inside}
+use Rattle.pict_lines.proofs.NestedFormed.{after_found, before_found, expected_for}
 
 -- so many applications are entered, and this is wanted inside
 pub record IsEntering (e : Environment) (o : Operator) (vs : List RVal) (x : Option Ty) (fs : List Found) (w : Option Ty) (i : ℕ) : Type 0 where
   pub form : IsRightForm e o vs x
-  pub entered : AreEntered e o.span (operator_of o) (vals_of vs) (type_if x) (frames_by o fs)
+  pub entered : AreEnteredSoFar e o vs x fs
   pub count : length fs ≡ i
   pub inside : type_if w ≡ wanted_right o x fs
 
@@ -41,17 +40,6 @@ entering_first {e = e} {o = o} {vs = vs} {x = x} p none h = record {
   count = ap length none;
   inside = h ∙ ap (wanted_right o x) (sym none);
 }
-
-pub right_regular : {e e' : Environment} {o : Operator} {vs : List RVal} {x : Option Ty} → IsRightForm e o vs x → e' ≡ e → IsRegular e'
-right_regular {e = e} {o = o} {vs = vs} {x = x} p q = subst IsRegular (sym q) (regular_for e (right_form o vs) (type_if x) p.asked)
-
-pub right_operator : {e e' : Environment} {o : Operator} {vs : List RVal} {x : Option Ty} → IsRightForm e o vs x → e' ≡ e → IsOperatorIn e' o
-right_operator {e = e} {o = o} p q = subst (λ k. IsOperatorIn k o) (sym q) (operator_formed e o.name (operator_of o) p.head (right_regular p refl))
-
--- the second field
-pub right_second : {e e' : Environment} {o : Operator} {vs : List RVal} {x : Option Ty} {u : PlainType} → IsRightForm e o vs x → e' ≡ e → u ≡ (operator_of o).second → IsWellFormed e'.names (kinds_under (kinds_in e') (operator_of o).binders) u
-right_second {e' = e'} {o = o} p q is =
-    subst (λ t. IsWellFormed e'.names (kinds_under (kinds_in e') (operator_of o).binders) t) (sym is) (second_formed e' (operator_of o) (right_operator p q))
 
 pub entering_wanted : {e e' : Environment} {o : Operator} {vs : List RVal} {x : Option Ty} {fs : List Found} {w : Option Ty} {i : ℕ} → IsEntering e o vs x fs w i → i < length vs → e' ≡ e → IsExpected e' (type_if w)
 entering_wanted {e = e} {o = o} {vs = vs} {x = x} {fs = fs} {w = w} p n q =

@@ -1,13 +1,20 @@
 -- Applications and fields, one lemma for each way that a body ends.
-use Rattle.std.proofs.Common.{◌≡◌, ◌||◌, nat_eq, List, [], refl, sym, ap, subst, Bool, true, false, not, if◌then◌else◌, map, Result, Ok, Err, Option, Some, None}
+use Rattle.std.proofs.Common.{◌≡◌, ◌||◌, nat_eq, List, refl, sym, ap, subst, Bool, true, false, not, if◌then◌else◌, map, Result, Ok, Option, Some}
 use Rattle.pict_syntax.specs.declared.code.Code.{Code}
 use Rattle.pict_syntax.specs.declared.code.Code.TheVariants.{Y5, Y6, Y8}
 use Rattle.pict_syntax.specs.declared.span.Span.{Span}
 use Rattle.pict_syntax.specs.Grammar.{val_span}
-use Rattle.pict_syntax.specs.Trees.{Val, Vals, FieldVals, field_vals, LabelledVals, TypeTrees}
+use Rattle.pict_syntax.specs.declared.tree.Abs.TheViews.{out-FieldVals}
+use Rattle.pict_syntax.specs.declared.tree.FieldVals.{FieldVals as RFieldVals}
+use Rattle.pict_syntax.specs.PlainTrees.{field_vals_of, labelled_vals_on, types_on, vals_on}
+use Rattle.pict_syntax.specs.Trees.{Val, Vals, FieldVals, field_vals, LabelledVals, TypeTrees, no_labelled_vals, no_types, no_vals}
 use Rattle.pict_types.specs.Types.{PlainType, PlainTypes, PlainLabels, PlainBounds, PlainArg, count_types, count_bounds}
+use Rattle.pict_types.specs.declared.types.Record.{Record}
+use Rattle.pict_types.specs.Plain.{plain_bounds, plain_labels, plain_types}
 use Rattle.pict_types.specs.Replacing.{instance_of}
-use Rattle.pict_normal.specs.Normal.{count_trees, size_stop, Stop}
+use Rattle.pict_normal.specs.Normal.{count_trees}
+use Rattle.pict_normal.specs.Written.{record_with}
+use Rattle.pict_scope.proofs.ValueForms.{field_vals_are}
 use Rattle.pict_rules.specs.Counts.{count_vals}
 use Rattle.pict_sub.specs.Exposing.{exposure}
 use Rattle.pict_rules.specs.Environments.{Environment, context_of}
@@ -17,27 +24,21 @@ use Rattle.pict_rules.specs.Rules.{Sort, nothing_, type_, arguments_, found_, gi
 use Rattle.pict_rules.specs.Rules as rules
 use Rattle.pict_rules.specs.Clauses.{check, done, found_first, in_order, need_function}
 use Rattle.pict_rules.specs.Typing.{rule}
-use Rattle.pict_rules.specs.Derivations.{Runs, give_, refuse_, part_ok, part_stuck}
+use Rattle.pict_rules.specs.Derivations.{Runs, give_, part_ok, part_stuck}
 use Rattle.pict_rules.specs.Reached.{Asks, this_part, past_part}
 use Rattle.pict_infer.specs.declared.error.InferError.{InferError}
-use Rattle.pict_infer.specs.declared.error.InferError.TheVariants.{Named, Memory}
 use Rattle.pict_infer.specs.Answering.{IsRefused, IsAnswer}
 use Rattle.pict_infer.specs.Asking.{IsWellAsked}
 use Rattle.pict_infer.proofs.Asked.{asked_of}
-use Rattle.pict_infer.proofs.Through.{GoesOn, refused_on, refused_past, refused, unstopped}
-use Rattle.pict_check.specs.Counts.{counted}
-use Rattle.pict_check.specs.Functions.{IsNoFunction}
-use Rattle.pict_check.specs.Lines.{application_end, application_of, fields_end, formed, given_lines}
-use Rattle.pict_check.proofs.Ends.{answer_past, ends_with, past, past_refused, refused_here}
+use Rattle.pict_infer.proofs.Through.{GoesOn, refused_on, refused_past}
+use Rattle.pict_lines.specs.Counts.{counted}
+use Rattle.pict_lines.specs.Functions.{IsNoFunction}
+use Rattle.pict_lines.specs.Lines.{application_end, fields_end, formed, given_lines}
+use Rattle.pict_check.specs.Records.{application_of, fits_record, values_in_order}
+use Rattle.pict_lines.proofs.Ends.{answer_past, ends_with, past, past_refused, refused_here, ensured, formed_is, formed_on}
+use Rattle.pict_lines.proofs.HeadForms.{no_function}
 
 -- APPLICATIONS
-
--- the head may not be applied
-pub no_function : {t : Sort} (o : Option Function) (at : Span) (k : Function → Rule t) (y : InferError) → IsRefused {s = nothing_} (need_function o Y8 at (λ f. done)) y → IsRefused (need_function o Y8 at k) y
-no_function None at k (Named c i) refuse_ = refuse_
-no_function None at k Memory h = tt
-no_function (Some f) at k (Named c i) h = elim h [ ]
-no_function (Some f) at k Memory h = tt
 
 pub head_refused : (e : Environment) (s : Span) (f : Val) (vs : FieldVals) (x : Option PlainType) (t : PlainType) (y : InferError) → Runs (rule e (gives f)) (ok t) → IsNoFunction (applicable (exposure (context_of e) t)) (val_span f) y → IsRefused (rule e (application s f vs x)) y
 head_refused e s f vs x t y p h = past_refused _ _ _ t y p (no_function (applicable (exposure (context_of e) t)) (val_span f) _ y h)
@@ -57,10 +58,6 @@ pub application_done : {T : Type 0} (g : T → PlainType) (e : Environment) (s :
 application_done g e s f vs x t r args a p h q k = past _ _ _ _ t a p (subst (λ z. IsAnswer z g a) (sym (headed e s (val_span f) t vs x r h)) (past _ _ _ _ args a q k))
 
 -- FIELDS
-
-pub ensured : {s t : Sort} (b : Bool) (c : Code) (i : Span) {r : Rule s} {l : Rule t} {k : rules.Result s → Rule t} → GoesOn s t r l k → GoesOn s t (ensure b c i r) (ensure b c i l) k
-ensured true c i g = g
-ensured false c i g = refused
 
 done_on : {t : Sort} (r : Rule t) → GoesOn nothing_ t done r (λ x. r)
 done_on r = record { on_ok = λ x a p h. h; on_stuck = λ c i p. elim p [ ] }
@@ -111,22 +108,6 @@ values_on {t = t} e s vs ls ps ms g k = record { on_ok = on_ok; on_stuck = on_st
 
 -- VALUES OF FIELDS
 
--- what is given is what is answered
-pub given_is : (s : Sort) (x y : rules.Result s) → Runs (give x) (ok y) → y ≡ x
-given_is s x y give_ = refl
-
--- a type that was formed is within the limits, and is the one that is given
-pub formed_is : (e : Environment) (w u : PlainType) (s : Span) → Runs (formed e w s) (ok u) → (size_stop e.context w s ≡ None) × (u ≡ w)
-formed_is e w u s h = go (size_stop e.context w s) h
-  where
-    go : (o : Option Stop) → Runs {s = type_} (unless_stopped o (give w)) (ok u) → (o ≡ None) × (u ≡ w)
-    go None h = (refl, given_is type_ w u h)
-    go (Some x) h = elim h [ ]
-
--- and how a rule goes on with it
-pub formed_on : {t : Sort} (e : Environment) (w : PlainType) (s : Span) (r : Rule t) → GoesOn type_ t (formed e w s) (within_limits e w s r) (λ x. r)
-formed_on e w s r = unstopped (size_stop e.context w s) (record { on_ok = λ x a p h. h; on_stuck = λ c i p. elim p [ ] })
-
 abbrev pub Given : Environment → Span → Val → PlainType → Found → Rule found_
 Given e s v t f = part e (gives v) (λ g. part e (given_fits s v t g (matched (context_of e) 0 t g f)) give)
 
@@ -168,52 +149,77 @@ value_had e s v t u f g r m p h =
     (answer_past _ u r (formed_on e (with_found f t) s (check e (has v (with_found f t)) (give f))) p
     (ends_with _ _ _ _ _ r (λ x. give_) (subst (λ w. IsAnswer (rule e (has v w)) g r) k.1 h)))
 
--- FIELDS, FROM THEIR VALUES
+-- FIELDS OF THE CODE THAT ARE TO FIT A RECORD OF THE CODE
 
--- the fields of the code as their lists
+-- the fields as their lists
 abbrev pub IsFields : FieldVals → TypeTrees → Vals → LabelledVals → Type 0
 IsFields f ts vs ls = f ≡ field_vals ts vs ls
 
-pub counted_refused : (e : Environment) (s : Span) (f : FieldVals) (ts : TypeTrees) (vs : Vals) (ls : LabelledVals) (bs : PlainBounds) (ps : PlainTypes) (ms : PlainLabels) (g : Found) (y : InferError) → IsFields f ts vs ls → IsRefused (counted s f bs ps ms) y → IsRefused (rule e (fields_fit s f bs ps ms g)) y
-counted_refused e s f ts vs ls bs ps ms g y is h =
-    let k = subst (λ z. IsRefused (counted s z bs ps ms) y) is h in
-    subst (λ z. IsRefused (rule e (fields_fit s z bs ps ms g)) y) (sym is)
-    (refused_on y (counts s (field_vals ts vs ls) bs ps ms (if not (none_written ts) then Written e s ts vs ls bs ps ms else Omitted e s vs ls bs ps ms g)) k)
+abbrev pub trees_in : RFieldVals → TypeTrees
+trees_in f = types_on no_types (out-FieldVals f).type_arguments.items
+
+abbrev pub vals_in : RFieldVals → Vals
+vals_in f = vals_on no_vals (out-FieldVals f).positional.items
+
+abbrev pub labels_in : RFieldVals → LabelledVals
+labels_in f = labelled_vals_on no_labelled_vals (out-FieldVals f).labelled.items
+
+-- their counts and labels
+abbrev pub counts_in : Span → RFieldVals → Record → Rule nothing_
+counts_in s f r = counted s (field_vals_of f) (plain_bounds r.binders.items) (plain_types r.positional.items) (plain_labels r.labelled.items)
+
+-- and then one of both ways
+abbrev Counted : Environment → Span → RFieldVals → Record → Found → Bool → Rule arguments_
+Counted e s f r g omitted =
+    if not omitted then Written e s (trees_in f) (vals_in f) (labels_in f) (plain_bounds r.binders.items) (plain_types r.positional.items) (plain_labels r.labelled.items)
+    else Omitted e s (vals_in f) (labels_in f) (plain_bounds r.binders.items) (plain_types r.positional.items) (plain_labels r.labelled.items) g
+
+past_counts : (e : Environment) (s : Span) (f : RFieldVals) (r : Record) (g : Found) (omitted : Bool) → none_written (trees_in f) ≡ omitted → GoesOn nothing_ arguments_ (counts_in s f r) (rule e (fits_record s (field_vals_of f) r g)) (λ x. Counted e s f r g omitted)
+past_counts e s f r g omitted h =
+    subst (λ z. GoesOn nothing_ arguments_ (counted s z (plain_bounds r.binders.items) (plain_types r.positional.items) (plain_labels r.labelled.items)) (rule e (fits_record s z r g)) (λ x. Counted e s f r g omitted)) (sym (field_vals_are f))
+    (subst (λ z. GoesOn nothing_ arguments_ (counted s (field_vals (trees_in f) (vals_in f) (labels_in f)) (plain_bounds r.binders.items) (plain_types r.positional.items) (plain_labels r.labelled.items)) z (λ x. Counted e s f r g omitted)) (sym (fit_rule e s (trees_in f) (vals_in f) (labels_in f) (plain_bounds r.binders.items) (plain_types r.positional.items) (plain_labels r.labelled.items) g omitted h))
+    (counts s (field_vals (trees_in f) (vals_in f) (labels_in f)) (plain_bounds r.binders.items) (plain_types r.positional.items) (plain_labels r.labelled.items) (Counted e s f r g omitted)))
+
+pub counted_refused : (e : Environment) (s : Span) (f : RFieldVals) (r : Record) (g : Found) (y : InferError) → IsRefused (counts_in s f r) y → IsRefused (rule e (fits_record s (field_vals_of f) r g)) y
+counted_refused e s f r g y h = refused_on y (past_counts e s f r g (none_written (trees_in f)) refl) h
 
 -- once the counts are right
-counted_as : {T : Type 0} (f : T → List PlainArg) (e : Environment) (s : Span) (v : FieldVals) (ts : TypeTrees) (vs : Vals) (ls : LabelledVals) (bs : PlainBounds) (ps : PlainTypes) (ms : PlainLabels) (g : Found) (b : Bool) (r : Result T InferError) → IsFields v ts vs ls → none_written ts ≡ b → Runs (counted s v bs ps ms) (ok tt) → IsAnswer (if not b then Written e s ts vs ls bs ps ms else Omitted e s vs ls bs ps ms g) f r → IsAnswer (rule e (fields_fit s v bs ps ms g)) f r
-counted_as f e s v ts vs ls bs ps ms g b r is w p h =
-    subst (λ z. IsAnswer (rule e (fields_fit s z bs ps ms g)) f r) (sym is)
-    (subst (λ z. IsAnswer z f r) (sym (fit_rule e s ts vs ls bs ps ms g b w))
-    (answer_past _ tt r (counts s (field_vals ts vs ls) bs ps ms (if not b then Written e s ts vs ls bs ps ms else Omitted e s vs ls bs ps ms g)) (subst (λ z. Runs (counted s z bs ps ms) (ok tt)) is p) h))
+counted_as : {T : Type 0} (k : T → List PlainArg) (e : Environment) (s : Span) (f : RFieldVals) (r : Record) (g : Found) (omitted : Bool) (x : Result T InferError) → none_written (trees_in f) ≡ omitted → Runs (counts_in s f r) (ok tt) → IsAnswer (Counted e s f r g omitted) k x → IsAnswer (rule e (fits_record s (field_vals_of f) r g)) k x
+counted_as k e s f r g omitted x w p h = answer_past _ tt x (past_counts e s f r g omitted w) p h
 
-counted_to : (e : Environment) (s : Span) (v : FieldVals) (ts : TypeTrees) (vs : Vals) (ls : LabelledVals) (bs : PlainBounds) (ps : PlainTypes) (ms : PlainLabels) (g : Found) (b : Bool) (y : InferError) → IsFields v ts vs ls → none_written ts ≡ b → Runs (counted s v bs ps ms) (ok tt) → IsRefused (if not b then Written e s ts vs ls bs ps ms else Omitted e s vs ls bs ps ms g) y → IsRefused (rule e (fields_fit s v bs ps ms g)) y
-counted_to e s v ts vs ls bs ps ms g b y is w p h = counted_as {T = Unit {0}} (λ x. []) e s v ts vs ls bs ps ms g b (Err y) is w p h
+counted_to : (e : Environment) (s : Span) (f : RFieldVals) (r : Record) (g : Found) (omitted : Bool) (y : InferError) → none_written (trees_in f) ≡ omitted → Runs (counts_in s f r) (ok tt) → IsRefused (Counted e s f r g omitted) y → IsRefused (rule e (fits_record s (field_vals_of f) r g)) y
+counted_to e s f r g omitted y w p h = refused_past tt y (past_counts e s f r g omitted w) p h
+
+-- the values alone, as the definition has them
+pub values_are : (P : Rule found_ → Type 0) (e : Environment) (s : Span) (f : RFieldVals) (r : Record) (g : Found) → P (values_in_order e s (field_vals_of f) r g) → P (in_order e s (vals_in f) (labels_in f) (plain_types r.positional.items) (plain_labels r.labelled.items) g give)
+values_are P e s f r g h = subst (λ z. P (values_in_order e s z r g)) (field_vals_are f) h
 
 -- no type argument is written
-pub omitted_refused : (e : Environment) (s : Span) (v : FieldVals) (ts : TypeTrees) (vs : Vals) (ls : LabelledVals) (bs : PlainBounds) (ps : PlainTypes) (ms : PlainLabels) (g : Found) (y : InferError) → IsFields v ts vs ls → none_written ts ≡ true → Runs (counted s v bs ps ms) (ok tt) → IsRefused {s = found_} (in_order e s vs ls ps ms g give) y → IsRefused (rule e (fields_fit s v bs ps ms g)) y
-omitted_refused e s v ts vs ls bs ps ms g y is w p h = counted_to e s v ts vs ls bs ps ms g true y is w p (refused_on y (values_on e s vs ls ps ms g (λ h. fields_end e s bs h)) h)
+pub omitted_refused : (e : Environment) (s : Span) (f : RFieldVals) (r : Record) (g : Found) (y : InferError) → none_written (trees_in f) ≡ true → Runs (counts_in s f r) (ok tt) → IsRefused (values_in_order e s (field_vals_of f) r g) y → IsRefused (rule e (fits_record s (field_vals_of f) r g)) y
+omitted_refused e s f r g y w p h =
+    counted_to e s f r g true y w p (refused_on y (values_on e s (vals_in f) (labels_in f) (plain_types r.positional.items) (plain_labels r.labelled.items) g (λ h. fields_end e s (plain_bounds r.binders.items) h)) (values_are (λ z. IsRefused z y) e s f r g h))
 
-pub omitted_end : {T : Type 0} (f : T → List PlainArg) (e : Environment) (s : Span) (v : FieldVals) (ts : TypeTrees) (vs : Vals) (ls : LabelledVals) (bs : PlainBounds) (ps : PlainTypes) (ms : PlainLabels) (g h : Found) (r : Result T InferError) → IsFields v ts vs ls → none_written ts ≡ true → Runs (counted s v bs ps ms) (ok tt) → Runs {s = found_} (in_order e s vs ls ps ms g give) (ok h) → IsAnswer (fields_end e s bs h) f r → IsAnswer (rule e (fields_fit s v bs ps ms g)) f r
-omitted_end f e s v ts vs ls bs ps ms g h r is w p q k = counted_as f e s v ts vs ls bs ps ms g true r is w p (answer_past _ h r (values_on e s vs ls ps ms g (λ h. fields_end e s bs h)) q k)
+pub omitted_end : {T : Type 0} (k : T → List PlainArg) (e : Environment) (s : Span) (f : RFieldVals) (r : Record) (g h : Found) (x : Result T InferError) → none_written (trees_in f) ≡ true → Runs (counts_in s f r) (ok tt) → Runs (values_in_order e s (field_vals_of f) r g) (ok h) → IsAnswer (fields_end e s (plain_bounds r.binders.items) h) k x → IsAnswer (rule e (fits_record s (field_vals_of f) r g)) k x
+omitted_end k e s f r g h x w p q a =
+    counted_as k e s f r g true x w p (answer_past _ h x (values_on e s (vals_in f) (labels_in f) (plain_types r.positional.items) (plain_labels r.labelled.items) g (λ h. fields_end e s (plain_bounds r.binders.items) h)) (values_are (λ z. Runs z (ok h)) e s f r g q) a)
 
 -- some are
-pub written_refused : (e : Environment) (s : Span) (v : FieldVals) (ts : TypeTrees) (vs : Vals) (ls : LabelledVals) (bs : PlainBounds) (ps : PlainTypes) (ms : PlainLabels) (g : Found) (y : InferError) → IsFields v ts vs ls → none_written ts ≡ false → Runs (counted s v bs ps ms) (ok tt) → IsRefused (rule e (written_arguments s ts bs)) y → IsRefused (rule e (fields_fit s v bs ps ms g)) y
-written_refused e s v ts vs ls bs ps ms g y is w p h = counted_to e s v ts vs ls bs ps ms g false y is w p (refused_here _ _ _ y h)
+pub written_refused : (e : Environment) (s : Span) (f : RFieldVals) (r : Record) (g : Found) (y : InferError) → none_written (trees_in f) ≡ false → Runs (counts_in s f r) (ok tt) → IsRefused (rule e (written_arguments s (trees_in f) (plain_bounds r.binders.items))) y → IsRefused (rule e (fits_record s (field_vals_of f) r g)) y
+written_refused e s f r g y w p h = counted_to e s f r g false y w p (refused_here _ _ _ y h)
 
-pub instance_refused : (e : Environment) (s : Span) (v : FieldVals) (ts : TypeTrees) (vs : Vals) (ls : LabelledVals) (bs : PlainBounds) (ps : PlainTypes) (ms : PlainLabels) (g : Found) (args : List PlainArg) (y : InferError) → IsFields v ts vs ls → none_written ts ≡ false → Runs (counted s v bs ps ms) (ok tt) → Runs (rule e (written_arguments s ts bs)) (ok args) → IsRefused (formed e (instance_of args ps ms) s) y → IsRefused (rule e (fields_fit s v bs ps ms g)) y
-instance_refused e s v ts vs ls bs ps ms g args y is w p q h =
-    counted_to e s v ts vs ls bs ps ms g false y is w p
-    (past_refused _ _ _ args y q (refused_on y (formed_on e (instance_of args ps ms) s (in_order e s vs ls ps ms (map filled args) (λ x. give args))) h))
+pub instance_refused : (e : Environment) (s : Span) (f : RFieldVals) (r : Record) (g : Found) (args : List PlainArg) (y : InferError) → none_written (trees_in f) ≡ false → Runs (counts_in s f r) (ok tt) → Runs (rule e (written_arguments s (trees_in f) (plain_bounds r.binders.items))) (ok args) → IsRefused (formed e (record_with args r) s) y → IsRefused (rule e (fits_record s (field_vals_of f) r g)) y
+instance_refused e s f r g args y w p q h =
+    counted_to e s f r g false y w p
+    (past_refused _ _ _ args y q (refused_on y (formed_on e (record_with args r) s (in_order e s (vals_in f) (labels_in f) (plain_types r.positional.items) (plain_labels r.labelled.items) (map filled args) (λ x. give args))) h))
 
-pub written_values_refused : (e : Environment) (s : Span) (v : FieldVals) (ts : TypeTrees) (vs : Vals) (ls : LabelledVals) (bs : PlainBounds) (ps : PlainTypes) (ms : PlainLabels) (g : Found) (args : List PlainArg) (u : PlainType) (y : InferError) → IsFields v ts vs ls → none_written ts ≡ false → Runs (counted s v bs ps ms) (ok tt) → Runs (rule e (written_arguments s ts bs)) (ok args) → Runs (formed e (instance_of args ps ms) s) (ok u) → IsRefused {s = found_} (in_order e s vs ls ps ms (map filled args) give) y → IsRefused (rule e (fields_fit s v bs ps ms g)) y
-written_values_refused e s v ts vs ls bs ps ms g args u y is w p q k h =
-    counted_to e s v ts vs ls bs ps ms g false y is w p
-    (past_refused _ _ _ args y q (refused_past u y (formed_on e (instance_of args ps ms) s (in_order e s vs ls ps ms (map filled args) (λ x. give args))) k
-    (refused_on y (values_on e s vs ls ps ms (map filled args) (λ x. give args)) h)))
+pub written_values_refused : (e : Environment) (s : Span) (f : RFieldVals) (r : Record) (g : Found) (args : List PlainArg) (u : PlainType) (y : InferError) → none_written (trees_in f) ≡ false → Runs (counts_in s f r) (ok tt) → Runs (rule e (written_arguments s (trees_in f) (plain_bounds r.binders.items))) (ok args) → Runs (formed e (record_with args r) s) (ok u) → IsRefused {s = found_} (in_order e s (vals_in f) (labels_in f) (plain_types r.positional.items) (plain_labels r.labelled.items) (map filled args) give) y → IsRefused (rule e (fits_record s (field_vals_of f) r g)) y
+written_values_refused e s f r g args u y w p q k h =
+    counted_to e s f r g false y w p
+    (past_refused _ _ _ args y q (refused_past u y (formed_on e (record_with args r) s (in_order e s (vals_in f) (labels_in f) (plain_types r.positional.items) (plain_labels r.labelled.items) (map filled args) (λ x. give args))) k
+    (refused_on y (values_on e s (vals_in f) (labels_in f) (plain_types r.positional.items) (plain_labels r.labelled.items) (map filled args) (λ x. give args)) h)))
 
-pub written_done : (e : Environment) (s : Span) (v : FieldVals) (ts : TypeTrees) (vs : Vals) (ls : LabelledVals) (bs : PlainBounds) (ps : PlainTypes) (ms : PlainLabels) (g h : Found) (args : List PlainArg) (u : PlainType) → IsFields v ts vs ls → none_written ts ≡ false → Runs (counted s v bs ps ms) (ok tt) → Runs (rule e (written_arguments s ts bs)) (ok args) → Runs (formed e (instance_of args ps ms) s) (ok u) → Runs {s = found_} (in_order e s vs ls ps ms (map filled args) give) (ok h) → Runs (rule e (fields_fit s v bs ps ms g)) (ok args)
-written_done e s v ts vs ls bs ps ms g h args u is w p q k r =
-    counted_as {T = Unit {0}} (λ x. args) e s v ts vs ls bs ps ms g false (Ok tt) is w p
-    (part_ok q ((formed_on e (instance_of args ps ms) s (in_order e s vs ls ps ms (map filled args) (λ x. give args))).on_ok u (ok args) k
-    ((values_on e s vs ls ps ms (map filled args) (λ x. give args)).on_ok h (ok args) r give_)))
+pub written_done : (e : Environment) (s : Span) (f : RFieldVals) (r : Record) (g h : Found) (args : List PlainArg) (u : PlainType) → none_written (trees_in f) ≡ false → Runs (counts_in s f r) (ok tt) → Runs (rule e (written_arguments s (trees_in f) (plain_bounds r.binders.items))) (ok args) → Runs (formed e (record_with args r) s) (ok u) → Runs {s = found_} (in_order e s (vals_in f) (labels_in f) (plain_types r.positional.items) (plain_labels r.labelled.items) (map filled args) give) (ok h) → Runs (rule e (fits_record s (field_vals_of f) r g)) (ok args)
+written_done e s f r g h args u w p q k x =
+    counted_as {T = Unit {0}} (λ z. args) e s f r g false (Ok tt) w p
+    (part_ok q ((formed_on e (record_with args r) s (in_order e s (vals_in f) (labels_in f) (plain_types r.positional.items) (plain_labels r.labelled.items) (map filled args) (λ x. give args))).on_ok u (ok args) k
+    ((values_on e s (vals_in f) (labels_in f) (plain_types r.positional.items) (plain_labels r.labelled.items) (map filled args) (λ x. give args)).on_ok h (ok args) x give_)))

@@ -1,5 +1,5 @@
 -- Out of the applications of a form from the left.
-use Rattle.std.proofs.Common.{◌≡◌, ℕ, suc, ◌-◌, ◌<◌, refl, sym, ◌∙◌, ap, subst, List, [], ◌∷◌, ◌++◌, length, get_or, Option, Some, arith, length-append}
+use Rattle.std.proofs.Common.{◌≡◌, ℕ, suc, ◌-◌, ◌<◌, sym, ◌∙◌, ap, subst, List, [], ◌∷◌, ◌++◌, length, get_or, Option, Some, arith, length-append}
 use Rattle.pict_syntax.specs.declared.span.Span.{Span}
 use Rattle.pict_syntax.specs.declared.tree.Val.{Val as RVal}
 use Rattle.pict_syntax.specs.Grammar.{val_span}
@@ -8,41 +8,29 @@ use Rattle.pict_syntax.specs.Trees.{Val, true_val}
 use Rattle.pict_types.specs.declared.types.Arg.{Arg}
 use Rattle.pict_types.specs.declared.types.Bound.{Bound}
 use Rattle.pict_types.specs.declared.types.Ty.{Ty}
-use Rattle.pict_types.specs.Kinds.{IsWellFormed, kinds_under}
 use Rattle.pict_types.specs.Plain.{plain_args}
 use Rattle.pict_types.specs.Types.{PlainType}
 use Rattle.pict_match.specs.declared.found.Found.{Found}
 use Rattle.pict_rules.specs.Environments.{Environment}
-use Rattle.pict_rules.specs.Regular.{IsExpected, IsRegular, kinds_in}
+use Rattle.pict_rules.specs.Regular.{IsExpected}
 use Rattle.pict_rules.specs.Rules.{found_, value_fits, ok}
 use Rattle.pict_rules.specs.Derivations.{Runs}
 use Rattle.pict_rules.specs.Typing.{rule}
 use Rattle.pict_infer.specs.declared.error.InferError.{InferError}
 use Rattle.pict_infer.specs.Answering.{IsRefused}
 use Rattle.pict_infer.specs.Asking.{IsWellAsked}
-use Rattle.pict_check.specs.declared.operators.Operator.{Operator}
-use Rattle.pict_check.specs.Chains.{AreBegun, field_lines, wanted_in}
-use Rattle.pict_check.specs.Judging.{IsFor, IsRefusedFor}
-use Rattle.pict_check.specs.Lines.{application_end, fields_end}
-use Rattle.pict_check.specs.Nesting.{AreAllBegun, IsLeftForm, left_first, left_form, wanted_left}
-use Rattle.pict_check.specs.Operators.{AreFoundFor, HaveRoom, IsFoundFor, IsOperatorIn, found_by, frames_by, operator_of, type_if, vals_of}
-use Rattle.pict_check.specs.Reading.{found_for}
-use Rattle.pict_check.proofs.Frames.{frames_more, length_frames, length_vals, val_at, FieldFinds}
-use Rattle.pict_check.proofs.Lefts.{IsHalf, IsTurn, Taken, half, half_answer, half_done, half_end, half_second, half_span, left_all, turn_first_refused}
-use Rattle.pict_check.proofs.Lefts as lefts
-use Rattle.pict_check.proofs.NestedFormed.{after_found, first_formed, operator_formed, regular_for}
-use Rattle.pict_check.proofs.NestedLevels.{half_asked, turn_found, turn_room, turn_wanted}
-
-pub left_regular : {e e' : Environment} {o : Operator} {vs : List RVal} {x : Option Ty} → IsLeftForm e o vs x → e' ≡ e → IsRegular e'
-left_regular {e = e} {o = o} {vs = vs} {x = x} p q = subst IsRegular (sym q) (regular_for e (left_form o vs) (type_if x) p.asked)
-
-pub left_operator : {e e' : Environment} {o : Operator} {vs : List RVal} {x : Option Ty} → IsLeftForm e o vs x → e' ≡ e → IsOperatorIn e' o
-left_operator {e = e} {o = o} p q = subst (λ k. IsOperatorIn k o) (sym q) (operator_formed e o.name (operator_of o) p.head (left_regular p refl))
-
--- the first field
-pub left_field : {e e' : Environment} {o : Operator} {vs : List RVal} {x : Option Ty} {u : PlainType} → IsLeftForm e o vs x → e' ≡ e → u ≡ (operator_of o).first → IsWellFormed e'.names (kinds_under (kinds_in e') (operator_of o).binders) u
-left_field {e' = e'} {o = o} p q is =
-    subst (λ t. IsWellFormed e'.names (kinds_under (kinds_in e') (operator_of o).binders) t) (sym is) (first_formed e' (operator_of o) (left_operator p q))
+use Rattle.pict_lines.specs.declared.operators.Operator.{Operator}
+use Rattle.pict_lines.specs.Chains.{field_lines, wanted_in}
+use Rattle.pict_lines.specs.Judging.{IsFor, IsRefusedFor}
+use Rattle.pict_lines.specs.Lines.{application_end, fields_end}
+use Rattle.pict_lines.specs.Nesting.{AreBegunSoFar, AreAllBegun, IsLeftForm, left_first, left_form, wanted_left}
+use Rattle.pict_lines.specs.Operators.{AreFoundFor, HaveRoom, IsFoundFor, found_by, frames_by, operator_of, type_if, vals_of}
+use Rattle.pict_lines.specs.Reading.{found_for}
+use Rattle.pict_lines.proofs.Frames.{frames_more, length_frames, length_vals, val_at, FieldFinds}
+use Rattle.pict_check.proofs.Outward.{IsHalf, IsTurn, half, half_answer, half_done, half_end, half_second, half_span, turn_first_refused, half_asked, turn_found, turn_room, turn_wanted}
+use Rattle.pict_lines.proofs.Lefts.{Taken, left_all}
+use Rattle.pict_check.proofs.Outward as outward
+use Rattle.pict_lines.proofs.NestedFormed.{after_found}
 
 -- what stands within the applications that are begun still has its judgement
 abbrev within : Operator → List RVal → List Found → Val
@@ -50,7 +38,7 @@ within o vs fs = Taken o.span o.name (length vs - length fs) (vals_of vs)
 
 pub record IsFinishing (e : Environment) (o : Operator) (vs : List RVal) (x : Option Ty) (fs : List Found) (at : Span) (given : Option Ty) : Type 0 where
   pub form : IsLeftForm e o vs x
-  pub begun : AreBegun e o.span (operator_of o) (type_if x) (frames_by o fs)
+  pub begun : AreBegunSoFar e o x fs
   pub few : length fs < length vs
   pub place : val_span (within o vs fs) ≡ at
   pub inner : IsFor e (within o vs fs) (wanted_left o x fs) (type_if given)
@@ -62,7 +50,7 @@ finishing_first {e = e} {o = o} {vs = vs} {x = x} {fs = fs} {at = at} {given = g
     let one : 1 ≡ length vs - length fs = omega (arith, h.count) in
     let some : 0 < length vs = omega (arith, h.count) in
     let first : val_span (left_first o vs) ≡ at =
-    ap val_span (lefts.left_first o.span o.name (vals_of vs) (val_of r) (omega (arith, length_vals vs, some)) ∙ (val_at vs 0 r (val_of r) some ∙ ap val_of (sym is))) ∙ sym place in
+    ap val_span (outward.left_first o.span o.name (vals_of vs) (val_of r) (omega (arith, length_vals vs, some)) ∙ (val_at vs 0 r (val_of r) some ∙ ap val_of (sym is))) ∙ sym place in
     record {
       form = p;
       begun = h.begun;

@@ -1,5 +1,5 @@
 -- Values that fit fields, one after another: what is asked of the next one, and the ends of a record's values.
-use Rattle.std.proofs.Common.{◌≡◌, ℕ, zero, suc, ◌+◌, ◌<◌, ◌≤◌, List, [], ◌∷◌, length, get_or, take, sym, subst, arith, Result, Ok, Err, OnOk, Option, Some, None}
+use Rattle.std.proofs.Common.{◌≡◌, ℕ, zero, suc, ◌+◌, ◌<◌, ◌≤◌, List, [], ◌∷◌, length, get_or, take, sym, subst, arith, Result, Option, Some, None}
 use Rattle.pict_syntax.specs.declared.span.Span.{Span}
 use Rattle.pict_syntax.specs.declared.id.Id.{Id}
 use Rattle.pict_syntax.specs.declared.tree.LabelledVal.{LabelledVal as RLabelledVal}
@@ -21,9 +21,10 @@ use Rattle.pict_rules.proofs.Regularity.{IfFormed, label_formed}
 use Rattle.pict_infer.specs.declared.error.InferError.{InferError}
 use Rattle.pict_infer.specs.Answering.{IsAnswer, IsRefused}
 use Rattle.pict_infer.specs.Asking.{IsWellAsked}
-use Rattle.pict_check.specs.Lines.{given_lines, labelled_value_fits}
-use Rattle.pict_check.proofs.Ends.{ends_with, good_of, refused_here}
-use Rattle.pict_check.proofs.Rows.{first_of, row_all, row_more, row_refused}
+use Rattle.pict_lines.specs.Lines.{given_lines}
+use Rattle.pict_check.specs.Records.{labelled_value_fits}
+use Rattle.pict_lines.proofs.Ends.{ends_with, good_of, refused_here}
+use Rattle.pict_lines.proofs.Rows.{first_of, row_all, row_more, row_refused}
 use Rattle.pict_check.proofs.RowEnds.{labelled_fit_row}
 
 -- A VALUE THAT GAVE A TYPE
@@ -34,11 +35,6 @@ given_here d e s v t g h m p q w = subst (λ (x : Found). IsWellAsked found_ d (
 
 pub given_lines_in : {T : Type 0} (d e : Environment) (s a b : Span) (t g : PlainType) (h : Found) (f : T → Found) (r : Result T InferError) → d ≡ e → a ≡ b → IsAnswer (given_lines d s a t g h) f r → IsAnswer (given_lines e s b t g h) f r
 given_lines_in d e s a b t g h f r p q k = subst (λ x. IsAnswer (given_lines e s x t g h) f r) q (subst (λ x. IsAnswer (given_lines x s a t g h) f r) p k)
-
--- what holds whatever is answered
-pub on_any : {T E P : Type 0} (r : Result T E) → P → OnOk r P
-on_any (Ok x) h = h
-on_any (Err y) h = tt
 
 -- POSITIONAL VALUES
 

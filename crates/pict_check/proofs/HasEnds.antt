@@ -16,8 +16,8 @@ use Rattle.pict_infer.specs.Answering.{IsRefused, IsAnswer, nothing}
 use Rattle.pict_infer.specs.Asking.{IsWellAsked}
 use Rattle.pict_infer.specs.Shaping.{IsNoRecord}
 use Rattle.pict_infer.proofs.Asked.{asked_of}
-use Rattle.pict_check.specs.Counts.{sent}
-use Rattle.pict_check.proofs.Ends.{ends_with, past, past_refused, refused_here}
+use Rattle.pict_lines.specs.Counts.{sent}
+use Rattle.pict_lines.proofs.Ends.{ends_with, past, past_refused, refused_here}
 
 -- a conditional
 pub has_test_asked : (e : Environment) (s : Span) (c v w : Val) (t : PlainType) → IsWellAsked nothing_ e (has (if_val s c v w) t) → IsWellAsked type_ e (gives c)

@@ -18,9 +18,9 @@ use Rattle.pict_infer.specs.declared.error.InferError.TheVariants.{Named, Memory
 use Rattle.pict_infer.specs.Answering.{IsRefused}
 use Rattle.pict_infer.specs.Asking.{IsWellAsked}
 use Rattle.pict_infer.proofs.Asked.{asked_of}
-use Rattle.pict_check.specs.Judging.{IsAskedFor, IsFor, IsRefusedFor}
-use Rattle.pict_check.specs.Chains.{alone, nested, nested_left}
-use Rattle.pict_check.specs.Operators.{vals_of}
+use Rattle.pict_lines.specs.Judging.{IsAskedFor, IsFor, IsRefusedFor}
+use Rattle.pict_lines.specs.Chains.{alone, nested, nested_left}
+use Rattle.pict_lines.specs.Operators.{vals_of}
 
 onto_on : (us : Vals) (vs : List RVal) (ws : List Val) → vals_onto (vals_on us vs) ws ≡ vals_onto us (map val_of vs ++ ws)
 unfolding vals_on

@@ -11,20 +11,19 @@ use Rattle.pict_types.specs.Types.{Capability, PlainType, Boolean}
 use Rattle.pict_types.specs.Types as types
 use Rattle.pict_sub.specs.Exposing.{exposure}
 use Rattle.pict_rules.specs.Environments.{Environment, context_of}
-use Rattle.pict_rules.specs.Rules.{Sort, Judgement, nothing_, type_, environment_, gives, has, is_condition, abstraction_against, declarations, process, processes, receives, Rule, give, ok, stuck, ensure}
+use Rattle.pict_rules.specs.Rules.{Sort, Judgement, nothing_, type_, environment_, gives, has, is_condition, abstraction_against, declarations, process, processes, receives, Rule, give, ok, ensure}
 use Rattle.pict_rules.specs.Clauses.{check, done, gives_below, may_receive, may_send, need_channel}
 use Rattle.pict_rules.specs.Typing.{rule}
-use Rattle.pict_rules.specs.Derivations.{Runs, give_, refuse_, part_ok}
+use Rattle.pict_rules.specs.Derivations.{Runs, give_, part_ok}
 use Rattle.pict_rules.specs.Reached.{Asks, this_part, past_part}
 use Rattle.pict_infer.specs.declared.error.InferError.{InferError}
 use Rattle.pict_infer.specs.Answering.{IsRefused, IsAnswer, nothing}
 use Rattle.pict_infer.specs.Asking.{IsWellAsked}
 use Rattle.pict_infer.proofs.Asked.{asked_of}
 use Rattle.pict_infer.proofs.Through.{GoesOn, given, refused, refused_on}
-use Rattle.pict_check.specs.Declaring.{IsNoChannel}
-use Rattle.pict_check.specs.Lines.{channel_messages}
-use Rattle.pict_check.proofs.Ends.{answer_past, ends_with, past, past_refused, refused_here}
-use Rattle.pict_check.proofs.Rows.{row_asked, row_more, row_refused}
+use Rattle.pict_lines.specs.Lines.{channel_messages}
+use Rattle.pict_lines.proofs.Ends.{answer_past, ends_with, past, past_refused, refused_here}
+use Rattle.pict_lines.proofs.Rows.{row_asked, row_more, row_refused}
 use Rattle.pict_check.proofs.RowEnds.{processes_row}
 
 -- A CONDITIONAL
@@ -117,25 +116,6 @@ used_asks may c at k (types.Rec v) u h q = elim h [ ]
 -- what a call says of a channel's messages where as much is known, and the channel stands
 pub messages_there : (P : Rule type_ → Type 0) (may : Capability → Bool) (c : Code) (d e : Environment) (at place : Span) (t : PlainType) → d ≡ e → at ≡ place → P (channel_messages may c at (exposure (context_of d) t)) → P (channel_messages may c place (exposure (context_of e) t))
 messages_there P may c d e at place t p q h = subst (λ s. P (channel_messages may c s (exposure (context_of e) t))) q (subst (λ z. P (channel_messages may c at (exposure (context_of z) t))) p h)
-
--- whether it is a channel
-pub no_channel : (may : Capability → Bool) (c : Code) (at : Span) (t : PlainType) → IsNoChannel t → Runs (channel_messages may c at t) (stuck Y1 at)
-no_channel may c at types.Top h = refuse_
-no_channel may c at types.Int h = refuse_
-no_channel may c at types.Char h = refuse_
-no_channel may c at types.Str h = refuse_
-no_channel may c at types.Boolean h = refuse_
-no_channel may c at (types.Var i) h = refuse_
-no_channel may c at (types.Apply i ts) h = refuse_
-no_channel may c at (types.Chan m u) h = absurd h
-no_channel may c at (types.Fields bs ps ls) h = refuse_
-no_channel may c at (types.Rec u) h = refuse_
-
-pub may_not : (may : Capability → Bool) (c : Code) (at : Span) (t u : PlainType) (m : Capability) → t ≡ types.Chan m u → may m ≡ false → Runs (channel_messages may c at t) (stuck c at)
-may_not may c at t u m h k = rw (h, k) refuse_
-
-pub may_be : (may : Capability → Bool) (c : Code) (at : Span) (t u : PlainType) (m : Capability) → t ≡ types.Chan m u → may m ≡ true → Runs (channel_messages may c at t) (ok u)
-may_be may c at t u m h k = rw (h, k) give_
 
 pub send_channel_asked : (e : Environment) (s : Span) (c : Chan) (v : Val) → IsWellAsked nothing_ e (process (send_proc s c v)) → IsWellAsked type_ e (gives (of_chan c))
 send_channel_asked e s c v h = asked_of (process (send_proc s c v)) h this_part

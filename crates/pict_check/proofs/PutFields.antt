@@ -18,38 +18,39 @@ use Rattle.pict_rules.specs.Counts.{count_vals}
 use Rattle.pict_rules.specs.Environments.{Environment}
 use Rattle.pict_rules.specs.Found.{Found, filled, mentions_missing, with_found}
 use Rattle.pict_rules.specs.Regular.{kinds_in, IsRegular, IsTypeIn}
-use Rattle.pict_rules.specs.Rules.{Sort, found_, Judgement, gives, has, values_fit, labelled_values_fit, value_fits, Rule, give, part, ok, stuck, unless_stopped, within_limits}
+use Rattle.pict_rules.specs.Rules.{Sort, found_, Judgement, gives, has, values_fit, labelled_values_fit, value_fits, Rule, give, part, ok, stuck, unless_stopped, within_limits, Answer}
 use Rattle.pict_rules.specs.Shapes.{nth_type}
 use Rattle.pict_rules.specs.Typing.{rule}
-use Rattle.pict_rules.specs.Derivations.{Runs, give_, refuse_, part_ok, part_stuck}
+use Rattle.pict_rules.specs.Derivations.{Runs, give_, part_ok, part_stuck}
 use Rattle.pict_rules.proofs.RegularPatterns.{number_formed}
 use Rattle.pict_scope.specs.DistinctLabels.{ValsHaveDistinctLabels}
 use Rattle.pict_infer.specs.declared.error.InferError.{InferError}
-use Rattle.pict_infer.specs.declared.error.InferError.TheVariants.{Named, Memory}
 use Rattle.pict_infer.specs.Answering.{IsRefused}
 use Rattle.pict_infer.specs.Asking.{IsWellAsked}
-use Rattle.pict_check.specs.Lines.{formed}
-use Rattle.pict_check.proofs.FieldEnds.{formed_is, value_rule}
-use Rattle.pict_check.proofs.Written.{filled_mentions, filled_put, nothing_mentions, nothing_put}
+use Rattle.pict_lines.specs.Lines.{formed}
+use Rattle.pict_infer.proofs.Through.{GoesOn, given, refused_on, unstopped}
+use Rattle.pict_lines.proofs.Ends.{formed_is, given_is}
+use Rattle.pict_check.proofs.FieldEnds.{value_rule}
+use Rattle.pict_lines.proofs.Written.{filled_mentions, filled_put, nothing_mentions, nothing_put}
 use Rattle.pict_types.proofs.Formed.{count_replaced}
 
 -- the second rule answers as the first, which finds nothing, but finds this
 pub record AnswersAs (f : Found) (r q : Rule found_) : Type 0 where
-  pub on_ok : (g : Found) → Runs r (ok g) → (g ≡ []) × Runs q (ok f)
-  pub on_stuck : (c : Code) (i : Span) → Runs r (stuck c i) → Runs q (stuck c i)
+  pub none : (g : Found) → Runs r (ok g) → g ≡ []
+  pub on : GoesOn found_ found_ r q (λ g. give f)
 
 gives_found : (f : Found) → AnswersAs f (give []) (give f)
-gives_found f = record { on_ok = given; on_stuck = λ c i h. elim h [ ] }
-  where
-    given : (g : Found) → Runs {s = found_} (give []) (ok g) → (g ≡ []) × Runs {s = found_} (give f) (ok f)
-    given g give_ = (refl, give_)
+gives_found f = record { none = given_is found_ []; on = given }
 
 -- both go through the same part
 same_part : {s : Sort} (f : Found) (e : Environment) (j : Judgement s) → AnswersAs f (part e j (λ x. give [])) (part e j (λ x. give f))
-same_part {s = s} f e j = record { on_ok = on_ok; on_stuck = on_stuck }
+same_part {s = s} f e j = record { none = none; on = record { on_ok = on_ok; on_stuck = on_stuck } }
   where
-    on_ok : (g : Found) → Runs {s = found_} (part e j (λ x. give [])) (ok g) → (g ≡ []) × Runs {s = found_} (part e j (λ x. give f)) (ok f)
-    on_ok g (part_ok p q) = (((gives_found f).on_ok g q).0, part_ok p give_)
+    none : (g : Found) → Runs {s = found_} (part e j (λ x. give [])) (ok g) → g ≡ []
+    none g (part_ok p q) = given_is found_ [] g q
+
+    on_ok : (g : Found) (a : Answer found_) → Runs {s = found_} (part e j (λ x. give [])) (ok g) → Runs {s = found_} (give f) a → Runs {s = found_} (part e j (λ x. give f)) a
+    on_ok g a (part_ok p q) h = part_ok p h
 
     on_stuck : (c : Code) (i : Span) → Runs {s = found_} (part e j (λ x. give [])) (stuck c i) → Runs {s = found_} (part e j (λ x. give f)) (stuck c i)
     on_stuck c i (part_stuck p) = part_stuck p
@@ -57,26 +58,24 @@ same_part {s = s} f e j = record { on_ok = on_ok; on_stuck = on_stuck }
 
 -- or through parts of which the second answers as the first
 parts : (f : Found) (e : Environment) (j k : Judgement found_) (l m : Found → Rule found_) → AnswersAs f (rule e j) (rule e k) → AnswersAs f (l []) (m f) → AnswersAs f (part e j l) (part e k m)
-parts f e j k l m a b = record { on_ok = on_ok; on_stuck = on_stuck }
+parts f e j k l m a b = record { none = none; on = record { on_ok = on_ok; on_stuck = on_stuck } }
   where
-    on_ok : (g : Found) → Runs (part e j l) (ok g) → (g ≡ []) × Runs (part e k m) (ok f)
-    on_ok g (part_ok {x = h} p q) =
-        let x = a.on_ok h p in
-        let y = b.on_ok g (subst (λ (z : Found). Runs (l z) (ok g)) x.0 q) in
-        (y.0, part_ok x.1 y.1)
+    none : (g : Found) → Runs (part e j l) (ok g) → g ≡ []
+    none g (part_ok {x = h} p q) = b.none g (subst (λ (z : Found). Runs (l z) (ok g)) (a.none h p) q)
+
+    on_ok : (g : Found) (x : Answer found_) → Runs (part e j l) (ok g) → Runs {s = found_} (give f) x → Runs (part e k m) x
+    on_ok g x (part_ok {x = h} p q) r = part_ok (a.on.on_ok h (ok f) p give_) (b.on.on_ok g x (subst (λ (z : Found). Runs (l z) (ok g)) (a.none h p) q) r)
 
     on_stuck : (c : Code) (i : Span) → Runs (part e j l) (stuck c i) → Runs (part e k m) (stuck c i)
-    on_stuck c i (part_stuck p) = part_stuck (a.on_stuck c i p)
-    on_stuck c i (part_ok {x = h} p q) =
-        let x = a.on_ok h p in
-        part_ok x.1 (b.on_stuck c i (subst (λ (z : Found). Runs (l z) (stuck c i)) x.0 q))
+    on_stuck c i (part_stuck p) = part_stuck (a.on.on_stuck c i p)
+    on_stuck c i (part_ok {x = h} p q) = part_ok (a.on.on_ok h (ok f) p give_) (b.on.on_stuck c i (subst (λ (z : Found). Runs (l z) (stuck c i)) (a.none h p) q))
 
 limited : (f : Found) (o : Option Stop) (r q : Rule found_) → AnswersAs f r q → AnswersAs f (unless_stopped o r) (unless_stopped o q)
-limited f None r q h = h
-limited f (Some x) r q h = record { on_ok = λ g p. elim p [ ]; on_stuck = stopped }
+limited f o r q h = record { none = none o; on = unstopped o h.on }
   where
-    stopped : (c : Code) (i : Span) → Runs (unless_stopped (Some x) r) (stuck c i) → Runs (unless_stopped (Some x) q) (stuck c i)
-    stopped c i refuse_ = refuse_
+    none : (o : Option Stop) (g : Found) → Runs (unless_stopped o r) (ok g) → g ≡ []
+    none None g p = h.none g p
+    none (Some x) g p = elim p [ ]
 
 -- a value in its field
 abbrev Had_as : Environment → Span → Val → PlainType → Found → Rule found_
@@ -211,9 +210,8 @@ record_put e s vs ls args r q h w =
 
 pub put_ok : (e : Environment) (s : Span) (vs : Vals) (ls : LabelledVals) (args : List PlainArg) (r q : Record) (g : Found) → Runs (formed e (record_with args r) s) (ok (plain_record q)) → IsTypeIn e (plain_record q)
     → Runs (In_order e s vs ls (plain_types q.positional.items) (plain_labels q.labelled.items) []) (ok g) → Runs (In_order e s vs ls (plain_types r.positional.items) (plain_labels r.labelled.items) (map filled args)) (ok (map filled args))
-put_ok e s vs ls args r q g h w p = ((record_put e s vs ls args r q h w).on_ok g p).1
+put_ok e s vs ls args r q g h w p = (record_put e s vs ls args r q h w).on.on_ok g (ok (map filled args)) p give_
 
 pub put_refused : (e : Environment) (s : Span) (vs : Vals) (ls : LabelledVals) (args : List PlainArg) (r q : Record) (y : InferError) → Runs (formed e (record_with args r) s) (ok (plain_record q)) → IsTypeIn e (plain_record q)
     → IsRefused (In_order e s vs ls (plain_types q.positional.items) (plain_labels q.labelled.items) []) y → IsRefused (In_order e s vs ls (plain_types r.positional.items) (plain_labels r.labelled.items) (map filled args)) y
-put_refused e s vs ls args r q (Named c i) h w p = (record_put e s vs ls args r q h w).on_stuck c i p
-put_refused e s vs ls args r q Memory h w p = tt
+put_refused e s vs ls args r q y h w p = refused_on y (record_put e s vs ls args r q h w).on p

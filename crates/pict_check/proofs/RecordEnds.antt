@@ -26,10 +26,10 @@ use Rattle.pict_infer.specs.declared.error.InferError.{InferError}
 use Rattle.pict_infer.specs.Answering.{IsRefused, IsAnswer}
 use Rattle.pict_infer.specs.Asking.{IsWellAsked}
 use Rattle.pict_infer.proofs.Asked.{asked_of}
-use Rattle.pict_check.specs.Lines.{formed}
-use Rattle.pict_check.proofs.Ends.{past, past_refused, refused_here}
+use Rattle.pict_lines.specs.Lines.{formed}
+use Rattle.pict_lines.proofs.Ends.{past, past_refused, refused_here}
 use Rattle.pict_check.proofs.FieldEnds.{IsFields}
-use Rattle.pict_check.proofs.Rows.{row_all, row_asked, row_more, row_refused}
+use Rattle.pict_lines.proofs.Rows.{row_all, row_asked, row_more, row_refused}
 use Rattle.pict_check.proofs.RowEnds.{labelled_row, value_asked, value_more, value_refused}
 
 -- whether type arguments are written

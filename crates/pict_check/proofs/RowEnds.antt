@@ -6,7 +6,7 @@ use Rattle.pict_syntax.specs.declared.tree.Val.{Val as RVal}
 use Rattle.pict_syntax.specs.declared.tree.LabelledVal.{LabelledVal as RLabelledVal}
 use Rattle.pict_syntax.specs.declared.tree.Dec.{Dec as RDec}
 use Rattle.pict_syntax.specs.declared.tree.Proc.{Proc as RProc}
-use Rattle.pict_syntax.specs.Trees.{Vals, no_vals, more_vals, no_labelled_vals, no_decs, no_procs}
+use Rattle.pict_syntax.specs.Trees.{no_vals, no_labelled_vals, no_decs, no_procs}
 use Rattle.pict_syntax.specs.PlainTrees.{dec_of, proc_of, val_of, vals_on, labelled_vals_on, decs_on, procs_on}
 use Rattle.pict_syntax.proofs.ValueLists.{vals_more, labelled_vals_more, procs_more}
 use Rattle.pict_syntax.proofs.DeclarationLists.{decs_more}
@@ -27,9 +27,10 @@ use Rattle.pict_rules.specs.Reached.{this_part}
 use Rattle.pict_infer.specs.declared.error.InferError.{InferError}
 use Rattle.pict_infer.specs.Answering.{IsRefused}
 use Rattle.pict_infer.specs.Asking.{IsWellAsked}
-use Rattle.pict_check.specs.Lines.{labelled_value_fits}
-use Rattle.pict_check.proofs.Ends.{refused_here}
-use Rattle.pict_check.proofs.Rows.{Row, row_all, row_asked, row_more, row_refused}
+use Rattle.pict_check.specs.Records.{labelled_value_fits}
+use Rattle.pict_lines.proofs.Ends.{refused_here}
+use Rattle.pict_lines.proofs.Rows.{Row, row_all, row_asked, row_more, row_refused}
+use Rattle.pict_lines.proofs.CountEnds.{counted_on}
 
 abbrev pub values_row : (e : Environment) → Row RVal types_ e
 values_row e = record {
@@ -72,12 +73,6 @@ declarations_row e = record {
   next = λ xs x d. part d (declaration (dec_of x)) give;
   more = λ xs x. ap (λ ds. rule e (declarations ds)) (decs_more no_decs xs x);
 }
-
--- how many values there are
-pub counted_on : (vs : Vals) (xs : List RVal) → count_vals (vals_on vs xs) ≡ count_vals vs + length xs
-unfolding vals_on
-counted_on vs [] = omega arith
-counted_on vs (x ∷ xs) = omega (arith, counted_on (more_vals vs (val_of x)) xs)
 
 pub so_many : (xs : List RVal) (i : ℕ) → i ≤ length xs → count_vals (vals_on no_vals (take i xs)) ≡ i
 so_many xs i h = omega (arith, counted_on no_vals (take i xs), length-take-le i xs h)

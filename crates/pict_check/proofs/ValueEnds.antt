@@ -19,8 +19,8 @@ use Rattle.pict_infer.specs.Answering.{IsRefused, IsAnswer, nothing}
 use Rattle.pict_infer.specs.Asking.{IsWellAsked}
 use Rattle.pict_infer.specs.Steps.{below}
 use Rattle.pict_infer.proofs.Asked.{asked_of}
-use Rattle.pict_check.specs.Lines.{either_type, formed}
-use Rattle.pict_check.proofs.Ends.{past, past_refused, refused_here}
+use Rattle.pict_lines.specs.Lines.{either_type, formed}
+use Rattle.pict_lines.proofs.Ends.{past, past_refused, refused_here}
 
 -- a value gives a subtype of a type
 pub below_end : (e : Environment) (v : Val) (t u : PlainType) (c : Code) (r : Result (Unit {0}) InferError) → Runs (rule e (gives v)) (ok u) → IsAnswer (below e u t c (val_span v)) nothing r → IsAnswer (gives_below e v t c) nothing r

@@ -10,17 +10,18 @@ use Rattle.pict_types.specs.Types.{PlainType}
 use Rattle.pict_match.specs.declared.found.Found.{Found}
 use Rattle.pict_rules.specs.Environments.{Environment}
 use Rattle.pict_infer.specs.declared.error.InferError.{InferError}
-use Rattle.pict_check.specs.declared.operators.Operator.{Operator}
-use Rattle.pict_check.specs.Chains.{IsHead, nested, nested_left, wanted_in}
-use Rattle.pict_check.specs.Judging.{IsAskedFor, IsFor, IsRefusedFor}
-use Rattle.pict_check.specs.Nesting.{AreAllBegun, AreAllEntered, IsLeftForm, IsRightForm, left_first, left_form, right_form, right_inside, wanted_left, wanted_right}
-use Rattle.pict_check.specs.Operators.{AreFoundFor, HaveRoom, frames_by, operator_of, type_if, vals_of}
-use Rattle.pict_check.proofs.Frames.{length_frames, length_vals, val_at}
-use Rattle.pict_check.proofs.Lefts.{first_value_for, first_value_refused}
-use Rattle.pict_check.proofs.Lefts as lefts
-use Rattle.pict_check.proofs.NestedAsked.{inside_asked, within_asked}
-use Rattle.pict_check.proofs.NestedFormed.{begun_found, begun_room, entered_found, entered_room}
-use Rattle.pict_check.proofs.Rights.{last_for, last_is, last_refused}
+use Rattle.pict_lines.specs.declared.operators.Operator.{Operator}
+use Rattle.pict_lines.specs.Chains.{IsHead, nested, nested_left}
+use Rattle.pict_lines.specs.Judging.{IsAskedFor, IsFor, IsRefusedFor}
+use Rattle.pict_lines.specs.Nesting.{AreAllBegun, AreAllEntered, IsLeftForm, IsRightForm, left_first, left_form, right_form, right_inside, wanted_left, wanted_right}
+use Rattle.pict_lines.specs.Operators.{AreFoundFor, HaveRoom, frames_by, operator_of, type_if, vals_of}
+use Rattle.pict_lines.proofs.Frames.{length_frames, length_vals, val_at}
+use Rattle.pict_check.proofs.Outward.{first_value_for, first_value_refused}
+use Rattle.pict_check.proofs.Outward as outward
+use Rattle.pict_lines.proofs.NestedAsked.{inside_asked, within_asked}
+use Rattle.pict_lines.proofs.NestedFormed.{begun_found, begun_room, entered_found, entered_room}
+use Rattle.pict_check.proofs.Inward.{last_for, last_refused}
+use Rattle.pict_lines.proofs.Rights.{last_is}
 
 -- THE OPERATOR STANDS WHERE THE FORM HAS IT
 
@@ -58,9 +59,6 @@ all_entered_room {e = e} {o = o} {vs = vs} {x = x} {fs = fs} {ds = ds} {u = u} k
     subst (λ z. HaveRoom z o.span u (frames_by o ds)) (sym q)
     (subst (λ z. HaveRoom e o.span u (frames_by o z)) (sym is)
     (subst (λ t. HaveRoom e o.span t (frames_by o fs)) (sym second) (entered_room e o.span (operator_of o) (vals_of vs) (type_if x) (frames_by o fs) k.entered)))
-
-pub inside_is : {fs ds : List Found} {u : PlainType} {w : Option PlainType} (o : Operator) (x : Option Ty) → w ≡ wanted_in u (type_if x) (frames_by o ds) → u ≡ (operator_of o).second → ds ≡ fs → w ≡ wanted_right o x fs
-inside_is {ds = ds} o x h second is = h ∙ (ap (λ t. wanted_in t (type_if x) (frames_by o ds)) second ∙ ap (λ z. wanted_in (operator_of o).second (type_if x) (frames_by o z)) is)
 
 -- the last value
 last_value : {e : Environment} {o : Operator} {vs : List RVal} {x : Option Ty} {fs : List Found} (r : RVal) → AreAllEntered e o vs x fs → r ≡ get_or vs (length vs - 1) r → get_or (vals_of vs) (length (frames_by o fs)) (val_of r) ≡ val_of r
@@ -107,7 +105,7 @@ first_value {vs = vs} r k is = val_at vs 0 r (val_of r) (omega (arith, k.count))
 pub first_asked : {e : Environment} {o : Operator} {vs : List RVal} {x : Option Ty} {fs : List Found} {w : Option PlainType} (r : RVal) → IsLeftForm e o vs x → AreAllBegun e o vs x fs → w ≡ wanted_left o x fs → r ≡ get_or vs 0 r → IsAskedFor e (val_of r) w
 first_asked {e = e} {o = o} {vs = vs} {x = x} {fs = fs} r p k wanted is =
     subst (IsAskedFor e (val_of r)) (sym wanted)
-    (subst (λ v. IsAskedFor e v (wanted_left o x fs)) (lefts.left_first o.span o.name (vals_of vs) (val_of r) (omega (arith, begun_count k)) ∙ first_value r k is)
+    (subst (λ v. IsAskedFor e v (wanted_left o x fs)) (outward.left_first o.span o.name (vals_of vs) (val_of r) (omega (arith, begun_count k)) ∙ first_value r k is)
     (within_asked e o.span o.name (operator_of o) (vals_of vs) (type_if x) (frames_by o fs) 1 (val_of r) p.head p.asked k.begun (omega arith) (omega (arith, begun_count k))))
 
 pub first_refused : {e : Environment} {o : Operator} {vs : List RVal} {x : Option Ty} {fs : List Found} {w : Option PlainType} (r : RVal) (y : InferError) → IsLeftForm e o vs x → AreAllBegun e o vs x fs → w ≡ wanted_left o x fs → r ≡ get_or vs 0 r → IsRefusedFor e (val_of r) w y → IsRefusedFor e (left_form o vs) (type_if x) y

@@ -1,14 +1,2 @@
-pub mod Lines
-pub mod Functions
-pub mod Reading
-pub mod Counts
 pub mod Records
-pub mod Judging
-pub mod Chains
-pub mod Operators
-pub mod Definitions
-pub mod Nesting
-pub mod Fields
-pub mod Folds
-pub mod Declaring
 pub mod Refused

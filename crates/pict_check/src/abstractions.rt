@@ -8,16 +8,16 @@ ghost use Rattle.pict_rules.specs.Typing.{rule};
 ghost use Rattle.pict_infer.specs.Answering.{IsAnswer, nothing};
 ghost use Rattle.pict_infer.specs.Asking.{IsWellAsked};
 ghost use Rattle.pict_infer.specs.Environments.{environment_of, IsAsBefore};
-ghost use Rattle.pict_check.specs.Definitions.{function_tree};
+ghost use Rattle.pict_lines.specs.Definitions.{function_tree};
 
-use crate::answers::{answer_in, argument, body_type, opened, past_added};
 use crate::processes::process;
-use crate::steps::{expanded, outside};
 use crate::values::{gives, has};
 use pict_infer::{
     Env, InferError, as_record, followed, open_fields, open_fields_against, pattern_against,
     pattern_gives, shown,
 };
+use pict_lines::answers::{answer_in, argument, body_type, opened, past_added};
+use pict_lines::steps::{expanded, outside};
 use pict_syntax::{Abs, Code, FieldPats, RType, Span, TypeTree, Val, val_span};
 use pict_types::{Record, Ty};
 use std::alloc::Global;

@@ -10,21 +10,21 @@ ghost use Rattle.pict_rules.specs.Typing.{rule};
 ghost use Rattle.pict_infer.specs.Answering.{IsAnswer, nothing};
 ghost use Rattle.pict_infer.specs.Asking.{IsWellAsked};
 ghost use Rattle.pict_infer.specs.Environments.{environment_of, IsAsBefore};
-ghost use Rattle.pict_check.specs.Chains.{alone, nested, nested_left};
-ghost use Rattle.pict_check.specs.Judging.{IsAnswerFor, IsAskedFor, IsFor, IsRefusedFor};
-ghost use Rattle.pict_check.specs.Nesting.{AreAllBegun, AreAllEntered, IsLeftForm, IsRightForm, left_first, left_form, right_form, wanted_left};
-ghost use Rattle.pict_check.specs.Operators.{type_if, vals_of};
+ghost use Rattle.pict_lines.specs.Chains.{alone, nested, nested_left};
+ghost use Rattle.pict_lines.specs.Judging.{IsAnswerFor, IsAskedFor, IsFor, IsRefusedFor};
+ghost use Rattle.pict_lines.specs.Nesting.{AreAllBegun, AreAllEntered, IsLeftForm, IsRightForm, left_first, left_form, right_form, wanted_left};
+ghost use Rattle.pict_lines.specs.Operators.{type_if, vals_of};
 
 use crate::fitting::value_fits;
-use crate::left::begin;
-use crate::nested::{
+use crate::values::{gives, has};
+use pict_infer::{Env, InferError};
+use pict_lines::left::begin;
+use pict_lines::nested::{
     copied, end_application, end_fields, field_given, field_wanted, first, operator, second, start,
     true_for, wanted_around,
 };
-use crate::operators::Operator;
-use crate::right::leave;
-use crate::values::{gives, has};
-use pict_infer::{Env, InferError};
+use pict_lines::operators::Operator;
+use pict_lines::right::leave;
 use pict_match::Found;
 use pict_syntax::{Id, Span, Val, val_span};
 use pict_types::Ty;

@@ -16,13 +16,13 @@ ghost use Rattle.pict_infer.specs.Environments.{environment_of, IsAsBefore};
 
 use crate::chains::{left_gives, left_has, right_gives, right_has};
 use crate::declarations::declarations;
-use crate::fields::{application_end, found_first};
 use crate::fitting::fields_fit;
-use crate::folds::{annotated_fold, fold_unfolding, variables};
-use crate::functions::head;
-use crate::steps::{below, outside};
 use crate::values::{gives, has};
 use pict_infer::{Env, InferError};
+use pict_lines::fields::{application_end, found_first};
+use pict_lines::folds::{annotated_fold, fold_unfolding, variables};
+use pict_lines::functions::head;
+use pict_lines::steps::{below, outside};
 use pict_syntax::{Chan, Code, FieldVals, Span, Val, chan_span, val_span};
 use pict_types::{Ty, shift_type};
 use std::alloc::Global;

@@ -9,14 +9,14 @@ ghost use Rattle.pict_rules.specs.Typing.{rule};
 ghost use Rattle.pict_infer.specs.Answering.{IsAnswer};
 ghost use Rattle.pict_infer.specs.Asking.{IsWellAsked};
 ghost use Rattle.pict_infer.specs.Environments.{environment_of, known_entries, known_names, GrewFrom};
-ghost use Rattle.pict_check.specs.Declaring.{valued};
+ghost use Rattle.pict_lines.specs.Declaring.{valued};
 
-use crate::complete::is_complete;
 use crate::definitions::definitions;
 use crate::processes::process;
-use crate::types::{alias, empty_record, new_channel, operator};
 use crate::values::{gives, has};
 use pict_infer::{Env, InferError, pattern_against, typed_pattern};
+use pict_lines::complete::is_complete;
+use pict_lines::types::{alias, empty_record, new_channel, operator};
 use pict_syntax::{Dec, Pat, Val};
 use std::alloc::Global;
 

@@ -2,29 +2,13 @@
 #![tactic(auto)]
 
 mod abstractions;
-mod answers;
 mod chains;
 mod channels;
-mod complete;
-mod counts;
 mod declarations;
 mod definitions;
 mod error;
-mod fields;
 mod fitting;
-mod folds;
-mod functions;
-mod left;
-mod messages;
-mod nested;
-mod operators;
-mod parts;
 mod processes;
-mod records;
-mod right;
-mod signatures;
-mod steps;
-mod types;
 mod values;
 mod whole;
 

@@ -14,12 +14,12 @@ ghost use Rattle.pict_infer.specs.Environments.{environment_of, IsAsBefore};
 
 use crate::abstractions::{abstraction_against, abstraction_gives};
 use crate::channels::{channel_gives, channel_has};
-use crate::fields::none_found;
 use crate::fitting::fields_fit;
-use crate::parts::{as_sent, either, responder};
-use crate::records::record_type;
-use crate::steps::below;
 use pict_infer::{Env, InferError, as_record};
+use pict_lines::fields::none_found;
+use pict_lines::parts::{as_sent, either, responder};
+use pict_lines::records::record_type;
+use pict_lines::steps::below;
 use pict_syntax::{Code, FieldVals, LabelledVal, Name, Span, Val, sort_labels, val_span};
 use pict_types::{Record, Ty};
 use std::alloc::Global;

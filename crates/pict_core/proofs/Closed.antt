@@ -4,7 +4,7 @@ use Rattle.std.proofs.lemmas.Bool.Decides.{nat_tests}
 use Rattle.std.specs.List.{slice_get}
 use Rattle.pict_syntax.specs.declared.primitive.Primitive.{Primitive}
 use Rattle.pict_syntax.specs.declared.primitive.Primitive.TheVariants as primitive
-use Rattle.pict_core.specs.Term.{Val, Vals, Labelled, Pat, Pats, LabelledPats, Bind, Any, RecordPat, no_pats, more_pats, no_labelled_pats, more_labelled_pats, Process, Var, Chan, Int, Char, Boolean, Text, PrimitiveVal, Record, no_vals, more_vals, no_labelled, more_labelled, Zero, Par, New, Out, In, If}
+use Rattle.pict_core.specs.Term.{Val, Vals, Labelled, Pat, Pats, LabelledPats, Bind, Any, RecordPat, no_pats, more_pats, no_labelled_pats, more_labelled_pats, Process, Var, Chan, Int, Char, Boolean, Text, Record, no_vals, more_vals, no_labelled, more_labelled, Zero, Par, New, Out, In, If}
 use Rattle.pict_core.specs.Closed.{IsOver, AreOver, LabelledOver, AllOver, IsUnder, Lacks, IsDistinct, binds, binds_all, binds_labelled}
 use Rattle.pict_core.specs.Substitution.{replace_value, replace_values, replace_labelled, substitution, substitute, value_of_variable}
 use Rattle.pict_core.specs.Matching.{match_value, match_values, match_labelled, both, in_record, at_head, at_end, field_at}
@@ -16,12 +16,8 @@ mutual
   pub over_more : (n n' c c' : ℕ) → n ≤ n' → c ≤ c' → (v : Val) → IsOver n c v → IsOver n' c' v
   over_more n n' c c' h k (Var level) o = omega arith
   over_more n n' c c' h k (Chan number) o = omega arith
-  over_more n n' c c' h k (Int i) o = tt
-  over_more n n' c c' h k (Char i) o = tt
-  over_more n n' c c' h k (Boolean i) o = tt
-  over_more n n' c c' h k (Text i) o = tt
-  over_more n n' c c' h k (PrimitiveVal i) o = tt
   over_more n n' c c' h k (Record vs ls) o = (all_over_more n n' c c' h k vs o.0, labelled_over_more n n' c c' h k ls o.1, o.2)
+  over_more n n' c c' h k _ o = tt
 
   all_over_more : (n n' c c' : ℕ) → n ≤ n' → c ≤ c' → (vs : Vals) → AreOver n c vs → AreOver n' c' vs
   all_over_more n n' c c' h k no_vals o = tt
@@ -65,12 +61,8 @@ mutual
   substitute_over : (n m c : ℕ) (vs : List Val) → m ≡ length vs + n → AllOver 0 c vs → (v : Val) → IsOver m c v → IsOver n c (replace_value (substitution 0 vs) v)
   substitute_over n m c vs e o (Var level) u = variable_over n m c vs e o level u
   substitute_over n m c vs e o (Chan number) u = u
-  substitute_over n m c vs e o (Int i) u = tt
-  substitute_over n m c vs e o (Char i) u = tt
-  substitute_over n m c vs e o (Boolean i) u = tt
-  substitute_over n m c vs e o (Text i) u = tt
-  substitute_over n m c vs e o (PrimitiveVal i) u = tt
   substitute_over n m c vs e o (Record ws ls) u = (substitute_all_over n m c vs e o ws u.0, substitute_labelled_over n m c vs e o ls u.1, distinct_substituted vs ls u.2)
+  substitute_over n m c vs e o _ u = tt
 
   substitute_all_over : (n m c : ℕ) (vs : List Val) → m ≡ length vs + n → AllOver 0 c vs → (ws : Vals) → AreOver m c ws → AreOver n c (replace_values (substitution 0 vs) ws)
   substitute_all_over n m c vs e o no_vals u = tt
@@ -116,14 +108,8 @@ field_over n c label (more_labelled l w ls) o v e = field_cons n c w v (field_at
 -- at a record, from what holds of its fields
 record_fits : (n c i j : ℕ) (f : Vals → Option (List Val)) (g : Labelled → Option (List Val)) → ((vs : Vals) → AreOver n c vs → Fits n c i (f vs)) → ((ls : Labelled) → LabelledOver n c ls → Fits n c j (g ls))
     → (v : Val) → IsOver n c v → Fits n c (i + j) (in_record (λ vs ls. both (f vs) (g ls)) v)
-record_fits n c i j f g h k (Var level) o = tt
-record_fits n c i j f g h k (Chan number) o = tt
-record_fits n c i j f g h k (Int x) o = tt
-record_fits n c i j f g h k (Char x) o = tt
-record_fits n c i j f g h k (Boolean x) o = tt
-record_fits n c i j f g h k (Text x) o = tt
-record_fits n c i j f g h k (PrimitiveVal x) o = tt
 record_fits n c i j f g h k (Record vs ls) o = both_fit n c i j (f vs) (g ls) (h vs o.0) (k ls o.1)
+record_fits n c i j f g h k _ o = tt
 
 head_fits : (n c i j : ℕ) (f : Val → Option (List Val)) (g : Vals → Option (List Val)) → ((v : Val) → IsOver n c v → Fits n c i (f v)) → ((vs : Vals) → AreOver n c vs → Fits n c j (g vs))
     → (vs : Vals) → AreOver n c vs → Fits n c (i + j) (at_head (λ v rest. both (f v) (g rest)) vs)
@@ -168,72 +154,29 @@ EffectOver n c (Some e) = LeavesOver n c e.leaves
 
 module _ (n c : ℕ) where
   int_over : (v : Val) (f : ℤ → Option Effect) → ((i : ℤ) → EffectOver n c (f i)) → EffectOver n c (at_int v f)
-  int_over (Var x) f h = tt
-  int_over (Chan x) f h = tt
   int_over (Int x) f h = h x
-  int_over (Char x) f h = tt
-  int_over (Boolean x) f h = tt
-  int_over (Text x) f h = tt
-  int_over (PrimitiveVal x) f h = tt
-  int_over (Record x y) f h = tt
+  int_over _ f h = tt
 
   char_over : (v : Val) (f : ℕ → Option Effect) → ((i : ℕ) → EffectOver n c (f i)) → EffectOver n c (at_char v f)
-  char_over (Var x) f h = tt
-  char_over (Chan x) f h = tt
-  char_over (Int x) f h = tt
   char_over (Char x) f h = h x
-  char_over (Boolean x) f h = tt
-  char_over (Text x) f h = tt
-  char_over (PrimitiveVal x) f h = tt
-  char_over (Record x y) f h = tt
+  char_over _ f h = tt
 
   bool_over : (v : Val) (f : Bool → Option Effect) → ((i : Bool) → EffectOver n c (f i)) → EffectOver n c (at_bool v f)
-  bool_over (Var x) f h = tt
-  bool_over (Chan x) f h = tt
-  bool_over (Int x) f h = tt
-  bool_over (Char x) f h = tt
   bool_over (Boolean x) f h = h x
-  bool_over (Text x) f h = tt
-  bool_over (PrimitiveVal x) f h = tt
-  bool_over (Record x y) f h = tt
+  bool_over _ f h = tt
 
   text_over : (v : Val) (f : List ℕ → Option Effect) → ((i : List ℕ) → EffectOver n c (f i)) → EffectOver n c (at_text v f)
-  text_over (Var x) f h = tt
-  text_over (Chan x) f h = tt
-  text_over (Int x) f h = tt
-  text_over (Char x) f h = tt
-  text_over (Boolean x) f h = tt
   text_over (Text x) f h = h x
-  text_over (PrimitiveVal x) f h = tt
-  text_over (Record x y) f h = tt
+  text_over _ f h = tt
 
   -- only the last field has to be closed: it is where the answer goes
   two_over : (v : Val) (f : Val → Val → Option Effect) → IsOver n c v → ((u k : Val) → IsOver n c k → EffectOver n c (f u k)) → EffectOver n c (at_two v f)
-  two_over (Var x) f o h = tt
-  two_over (Chan x) f o h = tt
-  two_over (Int x) f o h = tt
-  two_over (Char x) f o h = tt
-  two_over (Boolean x) f o h = tt
-  two_over (Text x) f o h = tt
-  two_over (PrimitiveVal x) f o h = tt
-  two_over (Record no_vals ls) f o h = tt
-  two_over (Record (more_vals u no_vals) ls) f o h = tt
   two_over (Record (more_vals u (more_vals k no_vals)) ls) f o h = h u k o.0.1.0
-  two_over (Record (more_vals u (more_vals k (more_vals x xs))) ls) f o h = tt
+  two_over _ f o h = tt
 
   three_over : (v : Val) (f : Val → Val → Val → Option Effect) → IsOver n c v → ((u w k : Val) → IsOver n c k → EffectOver n c (f u w k)) → EffectOver n c (at_three v f)
-  three_over (Var x) f o h = tt
-  three_over (Chan x) f o h = tt
-  three_over (Int x) f o h = tt
-  three_over (Char x) f o h = tt
-  three_over (Boolean x) f o h = tt
-  three_over (Text x) f o h = tt
-  three_over (PrimitiveVal x) f o h = tt
-  three_over (Record no_vals ls) f o h = tt
-  three_over (Record (more_vals u no_vals) ls) f o h = tt
-  three_over (Record (more_vals u (more_vals w no_vals)) ls) f o h = tt
   three_over (Record (more_vals u (more_vals w (more_vals k no_vals))) ls) f o h = h u w k o.0.1.1.0
-  three_over (Record (more_vals u (more_vals w (more_vals k (more_vals x xs)))) ls) f o h = tt
+  three_over _ f o h = tt
 
   ints_over : (v : Val) (f : ℤ → ℤ → Val → Option Effect) → IsOver n c v → ((a b : ℤ) (k : Val) → IsOver n c k → EffectOver n c (f a b k)) → EffectOver n c (at_ints v f)
   ints_over v f o h = three_over v _ o (λ u w k ok. int_over u _ (λ a. int_over w _ (λ b. h a b k ok)))
@@ -247,16 +190,8 @@ module _ (n c : ℕ) where
   effect_over primitive.Print v o = text_over v _ (λ t. tt)
   effect_over primitive.Printi v o = int_over v _ (λ i. tt)
   effect_over primitive.Pr v o = two_over v _ o (λ s k ok. text_over s _ (λ t. (ok, (tt, tt, tt))))
-  effect_over primitive.Add v o = ints_over v _ o (λ a b k ok. (ok, tt))
-  effect_over primitive.Subtract v o = ints_over v _ o (λ a b k ok. (ok, tt))
-  effect_over primitive.Multiply v o = ints_over v _ o (λ a b k ok. (ok, tt))
   effect_over primitive.Divide v o = ints_over v _ o (λ a b k ok. divided_over b _ (ok, tt))
   effect_over primitive.Remainder v o = ints_over v _ o (λ a b k ok. divided_over b _ (ok, tt))
-  effect_over primitive.Equal v o = ints_over v _ o (λ a b k ok. (ok, tt))
-  effect_over primitive.Less v o = ints_over v _ o (λ a b k ok. (ok, tt))
-  effect_over primitive.AtMost v o = ints_over v _ o (λ a b k ok. (ok, tt))
-  effect_over primitive.Greater v o = ints_over v _ o (λ a b k ok. (ok, tt))
-  effect_over primitive.AtLeast v o = ints_over v _ o (λ a b k ok. (ok, tt))
   effect_over primitive.Chr v o = two_over v _ o (λ u k ok. int_over u _ (λ i. (ok, tt)))
   effect_over primitive.Ord v o = two_over v _ o (λ u k ok. char_over u _ (λ i. (ok, tt)))
   effect_over primitive.Join v o = three_over v _ o (λ s t k ok. text_over s _ (λ front. text_over t _ (λ back. (ok, tt))))
@@ -264,3 +199,4 @@ module _ (n c : ℕ) where
   effect_over primitive.Size v o = two_over v _ o (λ u k ok. text_over u _ (λ i. (ok, tt)))
   effect_over primitive.Nth v o = three_over v _ o (λ s t k ok. text_over s _ (λ bytes. int_over t _ (λ place. (ok, tt))))
   effect_over primitive.Not v o = two_over v _ o (λ u k ok. bool_over u _ (λ i. (ok, tt)))
+  effect_over _ v o = ints_over v _ o (λ a b k ok. (ok, tt))

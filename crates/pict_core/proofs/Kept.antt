@@ -1,24 +1,22 @@
 -- Free steps keep what holds of configurations, and oldest-first steps are free.
 use Rattle.std.proofs.Common.{ℕ, ◌+◌, ◌≡◌, Bool, true, false, List, [], ◌∷◌, refl, sym, subst, Option, Some, None, option_map, option_and_then, arith}
 use Rattle.pict_syntax.specs.declared.span.Span.{Span}
-use Rattle.pict_core.specs.Term.{Val, Pat, Process, Var, Chan, Int, Char, Boolean, Text, PrimitiveVal, Record, Zero, Par, New, Out, In, If}
+use Rattle.pict_core.specs.Term.{Val, Pat, Process, Chan, Boolean, PrimitiveVal, Zero, Par, New, Out, In, If}
 use Rattle.pict_core.specs.Closed.{IsOver, IsUnder, binds}
 use Rattle.pict_core.specs.Matching.{match_value}
 use Rattle.pict_core.specs.Substitution.{substitute}
 use Rattle.pict_core.specs.Primitives.{Effect, Leaves, Nothing, Answer, Trap, effect_of}
 use Rattle.pict_core.specs.Configuration.{Mark, Ready, Parked, Entry, Configuration, IsConfiguration}
-use Rattle.pict_core.specs.Step.{Label, Quiet, StepOutcome, Steps, Traps, Wrong, Finished, gone, kept, added, with_channel, received, served, took, meet_reader, meet_message, meet, printing, leave, perform, send, receive, choose, act, act_entry, Choice, IsWrong, is_ready, is_partner, NamesPartner, IsChoice, free_step, Free, least, entry_at, step_by, oldest_choice}
+use Rattle.pict_core.specs.Step.{Label, Quiet, StepOutcome, Steps, Wrong, gone, kept, added, with_channel, received, served, took, meet_reader, meet_message, meet, printing, leave, perform, send, receive, choose, act, act_entry, Choice, IsWrong, is_ready, is_partner, NamesPartner, IsChoice, free_step, Free, least, entry_at, step_by, oldest_choice}
 use Rattle.pict_core.specs.Laws.{FreeStepsKeepConfigurations, OldestFirstStepsAreFree, WrongStepsAreWrong}
 use Rattle.pict_core.proofs.Closed.{under_more, substitute_under, match_fits, Fits, EffectOver, LeavesOver, effect_over}
 use Rattle.pict_core.proofs.Stamps.{StampsRise-without, StampsRise-with_process, StampsRise-added, AreClosed-without, AreClosed-with_process, AreClosed-added, AreClosed-more, EntryClosed, least_closed, least_passes, least_stands}
 
 -- ---- what an outcome leaves is a configuration
 
-abbrev Keeps : StepOutcome → Type 0
+abbrev pub Keeps : StepOutcome → Type 0
 Keeps (Steps D label) = IsConfiguration D
-Keeps (Traps at) = Unit {0}
-Keeps Wrong = Unit {0}
-Keeps Finished = Unit {0}
+Keeps _ = Unit {0}
 
 -- over so many channels still
 record IsAt (c : ℕ) (C : Configuration) : Type 0 where
@@ -96,35 +94,18 @@ module _ (C : Configuration) (is : IsConfiguration C) (s : ℕ) where
   perform_keeps at (Some e) o = leave_keeps at (printing e.printed) e.leaves o
 
   send_keeps : (partner : Option Entry) (chan message : Val) (at : Span) → EntryClosed C.channels partner → IsUnder 0 C.channels (Out chan message at) → Keeps (send C s partner chan message at)
-  send_keeps partner (Var x) message at k u = tt
   send_keeps partner (Chan c) message at k u = meet_keeps (Out (Chan c) message at) (meet_reader C s c message) partner u k (λ r q h. reader_keeps c message r q u.1 h)
-  send_keeps partner (Int x) message at k u = tt
-  send_keeps partner (Char x) message at k u = tt
-  send_keeps partner (Boolean x) message at k u = tt
-  send_keeps partner (Text x) message at k u = tt
   send_keeps partner (PrimitiveVal f) message at k u = perform_keeps at (effect_of f message) (effect_over 0 C.channels f message u.1)
-  send_keeps partner (Record x y) message at k u = tt
+  send_keeps partner _ message at k u = tt
 
   receive_keeps : (partner : Option Entry) (chan : Val) (replicated : Bool) (pattern : Pat) (body : Process) → EntryClosed C.channels partner → IsUnder 0 C.channels (In chan replicated pattern body) → Keeps (receive C s partner chan replicated pattern body)
-  receive_keeps partner (Var x) replicated pattern body k u = tt
   receive_keeps partner (Chan c) replicated pattern body k u = meet_keeps (In (Chan c) replicated pattern body) (meet_message C s c replicated pattern body) partner u k (λ r q h. message_keeps c replicated pattern body r q u.1 h)
-  receive_keeps partner (Int x) replicated pattern body k u = tt
-  receive_keeps partner (Char x) replicated pattern body k u = tt
-  receive_keeps partner (Boolean x) replicated pattern body k u = tt
-  receive_keeps partner (Text x) replicated pattern body k u = tt
-  receive_keeps partner (PrimitiveVal f) replicated pattern body k u = tt
-  receive_keeps partner (Record x y) replicated pattern body k u = tt
+  receive_keeps partner _ replicated pattern body k u = tt
 
   choose_keeps : (test : Val) (p q : Process) → IsUnder 0 C.channels p → IsUnder 0 C.channels q → Keeps (choose test (Steps (kept s p C) Quiet) (Steps (kept s q C) Quiet))
-  choose_keeps (Var x) p q u k = tt
-  choose_keeps (Chan c) p q u k = tt
-  choose_keeps (Int x) p q u k = tt
-  choose_keeps (Char x) p q u k = tt
   choose_keeps (Boolean true) p q u k = (at_kept C.channels s p C u here).is
   choose_keeps (Boolean false) p q u k = (at_kept C.channels s q C k here).is
-  choose_keeps (Text x) p q u k = tt
-  choose_keeps (PrimitiveVal f) p q u k = tt
-  choose_keeps (Record x y) p q u k = tt
+  choose_keeps _ p q u k = tt
 
   new_channel : (p : Process) → IsUnder (0 + 1) C.channels p → IsUnder 0 (C.channels + 1) (substitute 0 (Chan C.channels ∷ []) p)
   new_channel p u = substitute_under 0 (0 + 1) (C.channels + 1) (Chan C.channels ∷ []) (omega arith) (omega arith, tt) p (under_more (0 + 1) C.channels (C.channels + 1) (omega arith) p u)

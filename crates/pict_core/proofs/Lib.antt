@@ -9,6 +9,10 @@ pub mod Matched
 pub mod Substituting
 pub mod OneRun
 pub mod Onward
+pub mod Placing
+pub mod Deeds
+pub mod Everywhere
+pub mod FreeRuns
 mod Worked
 pub mod Tabled
 pub mod Replacing

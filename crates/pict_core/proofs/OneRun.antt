@@ -28,20 +28,18 @@ steps_at k (suc n) h C ls D r = at (nat_eq k n) refl (λ g. steps_at k n g C r.1
     at true e f = let same : n ≡ k = grind (arith, nat_tests) in (r.0, r.1, D, r.2, subst (λ m. Reaches m C r.1 r.0) same r.3, r.4)
     at false e f = let other : k ≢ n = grind (arith, nat_tests) in f (omega arith)
 
-within : (fuel k : ℕ) (o : StepOutcome) (e : End) → EndsAfter fuel k o e → k ≤ fuel
+pub within : (fuel k : ℕ) (o : StepOutcome) (e : End) → EndsAfter fuel k o e → k ≤ fuel
 within fuel k o Done h = h.0
-within fuel k o FuelSpent h = omega (arith, h.0)
-within fuel k o (Trap at) h = omega (arith, h.0)
-within fuel k o Misshapen h = omega (arith, h.0)
+within fuel k o _ h = omega (arith, h.0)
 
 -- an end with fuel left is no step
-no_step : (fuel k : ℕ) (o : StepOutcome) (e : End) → EndsAfter fuel k o e → k < fuel → (D : Configuration) (label : Label) → o ≢ Steps D label
+pub no_step : (fuel k : ℕ) (o : StepOutcome) (e : End) → EndsAfter fuel k o e → k < fuel → (D : Configuration) (label : Label) → o ≢ Steps D label
 no_step fuel k o Done h l D label e = let f : o ≡ Finished = h.1 in cc
 no_step fuel k o FuelSpent h l D label e = omega (arith, h.0)
 no_step fuel k o (Trap at) h l D label e = let f : o ≡ Traps at = h.1 in cc
 no_step fuel k o Misshapen h l D label e = let f : o ≡ Wrong = h.1 in cc
 
-one_end : (fuel k : ℕ) (o : StepOutcome) (e f : End) → EndsAfter fuel k o e → EndsAfter fuel k o f → e ≡ f
+pub one_end : (fuel k : ℕ) (o : StepOutcome) (e f : End) → EndsAfter fuel k o e → EndsAfter fuel k o f → e ≡ f
 one_end fuel k o Done Done h g = refl
 one_end fuel k o Done FuelSpent h g = absurd (g.1 h.1)
 one_end fuel k o Done (Trap at) h g = let a : o ≡ Finished = h.1 in let b : o ≡ Traps at = g.1 in cc

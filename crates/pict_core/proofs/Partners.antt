@@ -2,7 +2,7 @@
 use Rattle.std.proofs.Common.{ℕ, ◌≡◌, Bool, true, false, not, nat_eq, sym, ap, arith}
 use Rattle.std.proofs.lemmas.Bool.Decides.{nat_tests}
 use Rattle.std.specs.Prelude.{◌&&◌}
-use Rattle.pict_core.specs.Term.{Val, Var, Chan, Int, Char, Boolean, Text, PrimitiveVal, Record}
+use Rattle.pict_core.specs.Term.{Val, Chan}
 use Rattle.pict_core.specs.Step.{is_channel, is_ready, is_parked_reader, is_parked_message, reads, sends}
 use Rattle.pict_core.specs.Configuration.{Entry}
 
@@ -13,14 +13,8 @@ pub own_channel : (c : ℕ) → nat_eq c c ≡ true
 own_channel c = grind (arith, nat_tests)
 
 pub channel_is : (c : ℕ) (chan : Val) → is_channel c chan ≡ true → chan ≡ Chan c
-channel_is c (Var x) h = cc
 channel_is c (Chan number) h = ap Chan (sym (same_channel c number h))
-channel_is c (Int x) h = cc
-channel_is c (Char x) h = cc
-channel_is c (Boolean x) h = cc
-channel_is c (Text x) h = cc
-channel_is c (PrimitiveVal x) h = cc
-channel_is c (Record x y) h = cc
+channel_is c _ h = cc
 
 -- what is parked and passes a test passes it
 pub and_right : (a b : Bool) → not a && b ≡ true → b ≡ true

@@ -66,13 +66,8 @@ value_of_variable-none k = value_of_variable-zero [] k ∙ ap Var (omega arith)
 mutual
   replace_value-none : (v : Val) → replace_value (substitution 0 []) v ≡ v
   replace_value-none (term.Var k) = value_of_variable-none k
-  replace_value-none (term.Chan n) = refl
-  replace_value-none (term.Int n) = refl
-  replace_value-none (term.Char n) = refl
-  replace_value-none (term.Boolean b) = refl
-  replace_value-none (term.Text t) = refl
-  replace_value-none (term.PrimitiveVal p) = refl
   replace_value-none (term.Record vs ls) = let e = replace_values-none vs in let f = replace_labelled-none ls in cc (e, f)
+  replace_value-none _ = refl
 
   replace_values-none : (vs : term.Vals) → replace_values (substitution 0 []) vs ≡ vs
   replace_values-none term.no_vals = refl

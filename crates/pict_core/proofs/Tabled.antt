@@ -34,11 +34,7 @@ taken_row C s c v w at u true pattern body h (Some bound) m = output_meets_serve
 
 reader_row : (C : Configuration) (s c : ℕ) (v : Val) (at : Span) (u : Entry) (q : Process) → u.process ≡ q → IsRow C s (Some u) (Out (Chan c) v at) (meet_reader C s c v u.stamp q)
 reader_row C s c v at u (In w b pattern body) h = taken_row C s c v w at u b pattern body h (match_value pattern v) refl
-reader_row C s c v at u Zero h = tt
-reader_row C s c v at u (Par p q) h = tt
-reader_row C s c v at u (New p) h = tt
-reader_row C s c v at u (Out x y z) h = tt
-reader_row C s c v at u (If t p q) h = tt
+reader_row C s c v at u _ h = tt
 
 got_row : (C : Configuration) (s c : ℕ) (v w : Val) (at : Span) (u : Entry) (b : Bool) (pattern : Pat) (body : Process) → u.process ≡ Out w v at → (x : Option (List Val)) → match_value pattern v ≡ x
     → IsRow C s (Some u) (In (Chan c) b pattern body) (received x body (λ p. Steps (added Ready p (gone u.stamp (took b s C))) (Comm c v)))
@@ -48,11 +44,7 @@ got_row C s c v w at u true pattern body h (Some bound) m = server_meets_message
 
 message_row : (C : Configuration) (s c : ℕ) (b : Bool) (pattern : Pat) (body : Process) (u : Entry) (q : Process) → u.process ≡ q → IsRow C s (Some u) (In (Chan c) b pattern body) (meet_message C s c b pattern body u.stamp q)
 message_row C s c b pattern body u (Out w v at) h = got_row C s c v w at u b pattern body h (match_value pattern v) refl
-message_row C s c b pattern body u Zero h = tt
-message_row C s c b pattern body u (Par p q) h = tt
-message_row C s c b pattern body u (New p) h = tt
-message_row C s c b pattern body u (In w d x y) h = tt
-message_row C s c b pattern body u (If t p q) h = tt
+message_row C s c b pattern body u _ h = tt
 
 out_row : (C : Configuration) (s : ℕ) (o : Option Entry) (chan v : Val) (at : Span) → IsRow C s o (Out chan v at) (act C s o (Out chan v at))
 out_row C s o (PrimitiveVal f) v at = primitive_row C s o f v at (effect_of f v) refl
@@ -79,13 +71,7 @@ in_row C s o (Record x y) b pattern body = tt
 if_row : (C : Configuration) (s : ℕ) (o : Option Entry) (test : Val) (p q : Process) → IsRow C s o (If test p q) (act C s o (If test p q))
 if_row C s o (Boolean true) p q = takes_first
 if_row C s o (Boolean false) p q = takes_second
-if_row C s o (PrimitiveVal f) p q = tt
-if_row C s o (Chan x) p q = tt
-if_row C s o (Var x) p q = tt
-if_row C s o (Int x) p q = tt
-if_row C s o (Char x) p q = tt
-if_row C s o (Text x) p q = tt
-if_row C s o (Record x y) p q = tt
+if_row C s o _ p q = tt
 
 any_row : (C : Configuration) (s : ℕ) (o : Option Entry) (p : Process) → IsRow C s o p (act C s o p)
 any_row C s o Zero = ends

@@ -7,6 +7,10 @@ pub mod Closed
 pub mod Configuration
 pub mod Step
 pub mod Table
+pub mod Deed
+pub mod Placing
 pub mod Run
+pub mod Places
+pub mod FreeRun
 pub mod Laws
 pub mod Found

@@ -3,8 +3,9 @@ use Rattle.std.proofs.Common.{◌≡◌, ℕ, [], ◌∷◌, refl, ap, ◌∙◌
 use Rattle.rand_core.specs.Steps.{first_words}
 use Rattle.rand_pcg.specs.Lcg.{Lcg}
 use Rattle.rand_pcg.specs.Pcg.{pcg32}
+use Rattle.pict_seed.specs.Stream.{generator}
 use Rattle.pict_load.specs.declared.rings.Ring.{Ring}
-use Rattle.pict_load.specs.Rings.{generator, ring_of, drawn, rings_of}
+use Rattle.pict_load.specs.Rings.{ring_of, drawn, rings_of}
 
 -- a ring by two words, and the generator behind them
 abbrev pub ring_at : (Lcg → ℕ × Lcg) → Lcg → Ring

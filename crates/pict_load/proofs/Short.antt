@@ -9,7 +9,8 @@ use Rattle.pict_syntax.specs.declared.limits.TheConstants.{TEXT_LIMIT}
 use Rattle.pict_load.specs.declared.rings.Ring as rings
 use Rattle.pict_load.specs.declared.summary.Tally.{Tally}
 use Rattle.pict_load.specs.declared.summary.Line.TheVariants.{Ring}
-use Rattle.pict_load.specs.Rings.{generator, ring_of, drawn, rings_of}
+use Rattle.pict_seed.specs.Stream.{generator}
+use Rattle.pict_load.specs.Rings.{ring_of, drawn, rings_of}
 use Rattle.pict_load.specs.Summary.{summary_lines}
 use Rattle.pict_load.specs.Text.{channel_line, server_line, token_line, lines_below, channel_lines, server_lines, ring_text, rings_text, load_text}
 

@@ -1,13 +1,9 @@
 -- The rings of a number, as the words of a generator draw them.
 use Rattle.std.specs.Prelude.{ℕ, ◌+◌, ◌%◌, List, [], ◌∷◌}
 use Rattle.rand_core.specs.Steps.{first_words}
-use Rattle.rand_pcg.specs.Lcg.{Lcg, started, increment_of}
-use Rattle.rand_pcg.specs.Pcg.{pcg32, multiplier_64}
+use Rattle.rand_pcg.specs.Pcg.{pcg32}
+use Rattle.pict_seed.specs.Stream.{generator}
 use Rattle.pict_load.specs.declared.rings.Ring.{Ring}
-
--- the generator that begins at a number, in stream 54
-abbrev pub generator : ℕ → Lcg
-generator n = started 64 multiplier_64 n (increment_of 64 54)
 
 -- two words make a ring
 abbrev pub ring_of : ℕ → ℕ → Ring
@@ -18,6 +14,6 @@ abbrev pub drawn : List ℕ → List Ring
 drawn (first ∷ second ∷ words) = ring_of first second ∷ drawn words
 drawn _ = []
 
--- six words make three rings
+-- six words of the generator that begins at a number make three rings
 unfoldable pub rings_of : ℕ → List Ring
 rings_of n = drawn (first_words pcg32 6 (generator n))

@@ -3,6 +3,7 @@ ghost use Rattle.std.specs.Prelude.{◌≡◌};
 ghost use Rattle.rand_pcg.specs.Pcg.{pcg32};
 ghost use Rattle.pict_load.specs.Rings as rings;
 
+use pict_seed::STREAM;
 use rand_core::utils::NextWord;
 use rand_pcg::Lcg64Xsh32;
 
@@ -14,9 +15,6 @@ pub struct Ring {
     /// The number that goes round it, from 10,000 to 19,999: each server sends one less, up to 0.
     pub token: u32,
 }
-
-/// The stream of the generator whose words make the rings.
-const STREAM: u64 = 54;
 
 /// The three rings that the generator draws from a number. Takes no memory.
 pub fn rings_of(n: u64) -> [Ring; 3]

@@ -15,18 +15,19 @@ use Rattle.pict_heap.specs.HeapState.{HeapState}
 use Rattle.pict_queue.specs.QueuesState.{QueuesState, CostsAtMost}
 use Rattle.pict_queue.specs.Contents.{contents}
 use Rattle.pict_region.specs.RegionState.{KeepsBlocks}
-use Rattle.pict_blocks.specs.Blocks.{value_in, process_of}
-use Rattle.pict_frames.specs.Framed.{frame_words}
+use Rattle.pict_blocks.specs.Blocks.{process_of}
+use Rattle.pict_desk.specs.Known.{value_in}
+use Rattle.pict_blocks.specs.Framed.{frame_words}
 use Rattle.pict_turns.specs.Acting.{IsStore}
 use Rattle.pict_turns.specs.Cost.{instruction_size, block_size, partner_size, input_size, output_size, cost_of, first_cost}
-use Rattle.pict_turns.specs.Parts.{block_width}
+use Rattle.pict_blocks.specs.Parts.{block_width}
 use Rattle.pict_turns.specs.Turns.{handing, turn_cost}
 use Rattle.pict_turns.specs.Views.{frame_in, words_of_turn, ready_words, IsBlock}
 use Rattle.pict_turns.specs.Widths.{MakesOnly, how_many, part_width, leaves_widths, answer_widths}
 use Rattle.pict_turns.specs.declared.turn.Turn.{Turn}
 use Rattle.pict_turns.specs.declared.turn.Turn.TheVariants.{Nobody, Node as NodeTurn, Wide, Output}
 use Rattle.pict_turns.specs.declared.store.Store.{Store}
-use Rattle.pict_turns.proofs.Holding.{held_width}
+use Rattle.pict_blocks.proofs.Holding.{held_width}
 use Rattle.pict_turns.proofs.Turns.{turn_blocks}
 use Rattle.pict_machine.specs.Bounds.{largest, greatest_cost, greatest_cost_of, total_blocks, MakesFew, SpendsAtMost}
 use Rattle.pict_machine.specs.Machine.{IsRunning, core_in, queues_of, running_cost, running_widths}
@@ -95,7 +96,7 @@ partner_low all s (In (Record l k) r m b) = omega arith
 cost_low : (core : Process) (s : Store) (words : List ℕ) → cost_of core s words ≤ greatest_cost core
 cost_low core s words =
     let one = block_low (nodes_of core) words in
-    let other = partner_low (nodes_of core) s.queues (process_of core (value_in s.heap) words) in
+    let other = partner_low (nodes_of core) s.queues (process_of core (value_in s.desk.heap) words) in
     omega (arith, one, other)
 
 first_low : (core : Process) (s : Store) (list : List (List ℕ)) → first_cost core s list ≤ greatest_cost core
@@ -123,7 +124,7 @@ handing_low all values (Wide number pair) = let four = four_low all all in omega
 handing_low all values (Output kept) = let four = four_low all all in omega (arith, four)
 
 turn_low : (core : Process) (s : Store) → turn_cost core s ≤ greatest_cost core
-turn_low core s = handing_low (nodes_of core) s.values.items s.turn
+turn_low core s = handing_low (nodes_of core) s.desk.values.items s.turn
 
 -- ---- how many blocks a step needs
 
@@ -232,7 +233,7 @@ module _ (core : Process) (f : List ℕ → ℕ) (most : ℕ) (none : f [] ≤ 0
 
   first_few : (s : Store) (list : List (List ℕ)) → f (first_widths core s list) ≤ 2 * most
   first_few s [] = omega (arith, none)
-  first_few s (words ∷ rest) = block_few s.queues words (process_of core (value_in s.heap) words)
+  first_few s (words ∷ rest) = block_few s.queues words (process_of core (value_in s.desk.heap) words)
 
   -- one for who has the turn
   own_few : (h : HeapState) (words : List ℕ) → IsBlock core h words → f ((length words + 1) ∷ []) ≤ most
@@ -253,7 +254,7 @@ module _ (core : Process) (f : List ℕ → ℕ) (most : ℕ) (none : f [] ≤ 0
 
   running_few : (s : Store) → IsStore core s → f (needs.running_widths core s) ≤ 3 * most
   running_few s is =
-      let own = turn_few s.heap s.values.items s.turn (turn_blocks core s.heap s.values.items s.turn is.turn is.pairs) in
+      let own = turn_few s.desk.heap s.desk.values.items s.turn (turn_blocks core s.desk.heap s.desk.values.items s.turn is.turn is.pairs) in
       let first = first_few s (ready_words core s) in
       let sum = both (turn_widths core s) (first_widths core s (ready_words core s)) in
       omega (arith, own, first, sum)

@@ -20,6 +20,6 @@ pub called_acts : (core : Process) (old new : Store) (c : Called) → IsCalled c
 called_acts core old new called.Quiet is = record { done = is; event = tt }
 called_acts core old new (called.Printed w) is = record {
   done = subst (IsDone core old new) (sym (ap printing is.prints)) is.done;
-  event = record { word = is.word; printed = some_printed (printed_of (value_of new.heap w)) is.bytes is.prints };
+  event = record { word = is.word; printed = some_printed (printed_of (value_of new.desk.heap w)) is.bytes is.prints };
 }
 called_acts core old new (called.Trapped at) is = (is.stops, is.unchanged)

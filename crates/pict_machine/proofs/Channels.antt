@@ -17,21 +17,22 @@ use Rattle.pict_heap.specs.HeapState.{HeapState, value_of}
 use Rattle.pict_heap.specs.declared.word.Word.{Word}
 use Rattle.pict_heap.specs.declared.word.Word.TheVariants as word
 use Rattle.pict_view.specs.Moved.{Misshapen}
-use Rattle.pict_view.specs.ViewStep as view
-use Rattle.pict_blocks.specs.Blocks.{value_in, process_of, known, operand_value}
-use Rattle.pict_blocks.proofs.Meeting.{inputs_stand, outputs_stand}
-use Rattle.pict_blocks.proofs.Standing.{op_is}
-use Rattle.pict_operands.specs.AtHand.{IsOfHeap, channel_named}
-use Rattle.pict_calls.specs.Arguments.{operand_in}
+use Rattle.pict_view.proofs.Rows.{act}
+use Rattle.pict_blocks.specs.Blocks.{process_of}
+use Rattle.pict_blocks.proofs.Meeting.{inputs_stand, outputs_stand, is_input}
+use Rattle.pict_desk.specs.Known.{value_in, known, operand_value}
+use Rattle.pict_desk.proofs.Nodes.{op_is}
+use Rattle.pict_desk.specs.AtHand.{IsOfHeap, channel_named}
+use Rattle.pict_desk.specs.Arguments.{operand_in}
 use Rattle.pict_calls.specs.Calling.{CallsOn}
 use Rattle.pict_calls.proofs.Outputs.{node_calls}
 use Rattle.pict_turns.specs.Acting.{HasActing, ActsBy, IsRight}
 use Rattle.pict_turns.specs.Views.{channel_lists, acting_words}
 use Rattle.pict_turns.specs.declared.store.Store.{Store}
-use Rattle.pict_turns.proofs.Numbered.{place_low, standing}
+use Rattle.pict_turns.proofs.Numbered.{standing}
+use Rattle.pict_desk.proofs.Numbered.{place_low}
 use Rattle.pict_turns.proofs.Rows.{length_lists}
 use Rattle.pict_heap.proofs.Records.{record_is}
-use Rattle.pict_blocks.proofs.Meeting.{is_input}
 use Rattle.pict_meetings.specs.Partners.{Receives}
 use Rattle.pict_meetings.proofs.Fitting.{right_acting, input_there, output_there}
 
@@ -48,77 +49,45 @@ named_channel (term.Text n) c e = cc
 named_channel (term.PrimitiveVal n) c e = cc
 named_channel (term.Record vs ls) c e = cc
 
--- the word that stands for a primitive
-pub prim_word : (h : HeapState) (w : Word) (p : Primitive) → value_of h w ≡ PrimitiveVal p → w ≡ word.Prim p
-prim_word h (word.Prim q) p e = let same : q ≡ p = cc in ap word.Prim same
-prim_word h (word.Int n) p e = cc
-prim_word h (word.Char n) p e = cc
-prim_word h (word.Chan n) p e = cc
-prim_word h (word.Bool n) p e = cc
-prim_word h (word.Text n) p e = cc
-prim_word h (word.Fields n) p e = let r = record_is h n in let f : term.Record r.0 r.1 ≡ PrimitiveVal p = sym r.2 ∙ e in cc
-
--- a text or a record stands for no primitive
-pub no_heap_primitive : (value : ℕ → Val) (v : Val) (p : Primitive) → IsOfHeap v → operand_value value v ≡ PrimitiveVal p → ⊥
-no_heap_primitive value (term.Text bytes) p of_heap e = cc
-no_heap_primitive value (term.Record vs ls) p of_heap e = cc
-no_heap_primitive value (term.Var n) p of_heap e = absurd of_heap
-no_heap_primitive value (term.Chan n) p of_heap e = absurd of_heap
-no_heap_primitive value (term.Int n) p of_heap e = absurd of_heap
-no_heap_primitive value (term.Char n) p of_heap e = absurd of_heap
-no_heap_primitive value (term.Boolean n) p of_heap e = absurd of_heap
-no_heap_primitive value (term.PrimitiveVal n) p of_heap e = absurd of_heap
-
 -- what is received from is a channel
 channel_received : (rest : List Process) (lists : List (List Process)) (v : Val) (replicated : Bool) (pattern : Pat) (body : Process)
-    → view.input rest lists v replicated pattern body ≢ Misshapen → None ≡ channel_named v → ⊥
+    → act rest lists (In v replicated pattern body) ≢ Misshapen → None ≡ channel_named v → ⊥
 channel_received rest lists (term.Chan c) replicated pattern body right none = cc
-channel_received rest lists (term.Var n) replicated pattern body right none = right refl
-channel_received rest lists (term.Int n) replicated pattern body right none = right refl
-channel_received rest lists (term.Char n) replicated pattern body right none = right refl
-channel_received rest lists (term.Boolean n) replicated pattern body right none = right refl
-channel_received rest lists (term.Text n) replicated pattern body right none = right refl
-channel_received rest lists (term.PrimitiveVal n) replicated pattern body right none = right refl
-channel_received rest lists (term.Record vs ls) replicated pattern body right none = right refl
+channel_received rest lists _ replicated pattern body right none = right refl
 
 -- what is sent to is a channel or a primitive
 primitive_sent : (rest : List Process) (lists : List (List Process)) (v message : Val) (at : Span)
-    → view.output rest lists v message at ≢ Misshapen → None ≡ channel_named v → (p : Primitive) × (v ≡ PrimitiveVal p)
+    → act rest lists (Out v message at) ≢ Misshapen → None ≡ channel_named v → (p : Primitive) × (v ≡ PrimitiveVal p)
 primitive_sent rest lists (term.PrimitiveVal p) message at right none = (p, refl)
 primitive_sent rest lists (term.Chan c) message at right none = cc
-primitive_sent rest lists (term.Var n) message at right none = absurd (right refl)
-primitive_sent rest lists (term.Int n) message at right none = absurd (right refl)
-primitive_sent rest lists (term.Char n) message at right none = absurd (right refl)
-primitive_sent rest lists (term.Boolean n) message at right none = absurd (right refl)
-primitive_sent rest lists (term.Text n) message at right none = absurd (right refl)
-primitive_sent rest lists (term.Record vs ls) message at right none = absurd (right refl)
+primitive_sent rest lists _ message at right none = absurd (right refl)
 
 -- ---- an output, of a node or of kept values
 
 module _ (core : Process) (s : Store) (acting : HasActing core s) (right : IsRight core s) (message : Val) (at : Span) where
   -- what it is sent to, where that is no channel
-  pub sent_to : (v : Val) → process_of core (value_in s.heap) (acting_words core s) ≡ Out v message at → None ≡ channel_named v → (p : Primitive) × (v ≡ PrimitiveVal p)
+  pub sent_to : (v : Val) → process_of core (value_in s.desk.heap) (acting_words core s) ≡ Out v message at → None ≡ channel_named v → (p : Primitive) × (v ≡ PrimitiveVal p)
   sent_to v is none =
-      let rest = map (process_of core (value_in s.heap)) (contents s.queues 0) in
-      let lists = map (map (process_of core (value_in s.heap))) (channel_lists s.queues) in
-      primitive_sent rest lists v message at (λ wrong. right_acting core s acting right (ap (view.act rest lists) is ∙ wrong)) none
+      let rest = map (process_of core (value_in s.desk.heap)) (contents s.queues 0) in
+      let lists = map (map (process_of core (value_in s.desk.heap))) (channel_lists s.queues) in
+      primitive_sent rest lists v message at (λ wrong. right_acting core s acting right (ap (act rest lists) is ∙ wrong)) none
 
-  pub output_queue : (c : ℕ) → process_of core (value_in s.heap) (acting_words core s) ≡ Out (Chan c) message at → IsQueue s.queues (c + 1)
+  pub output_queue : (c : ℕ) → process_of core (value_in s.desk.heap) (acting_words core s) ≡ Out (Chan c) message at → IsQueue s.queues (c + 1)
   output_queue c is =
-      let low = output_there (process_of core (value_in s.heap)) (acting_words core s) (contents s.queues 0) (channel_lists s.queues) (right_acting core s acting right) c message at is in
+      let low = output_there (process_of core (value_in s.desk.heap)) (acting_words core s) (contents s.queues 0) (channel_lists s.queues) (right_acting core s acting right) c message at is in
       omega (arith, low, length_lists s.queues 1 (length s.queues.queues - 1))
 
 -- what an output of a node is sent to, where that is no channel
 pub node_sent_to : (core : Process) (s : Store) → IsClosed core → (chan message : Val) (at : Span) → ActsBy core s (op.Out chan message at) → IsRight core s
-    → None ≡ channel_named (operand_value (known s.heap s.values.items) chan) → (p : Primitive) × (operand_value (known s.heap s.values.items) chan ≡ PrimitiveVal p)
+    → None ≡ channel_named (operand_value (known s.desk.heap s.desk.values.items) chan) → (p : Primitive) × (operand_value (known s.desk.heap s.desk.values.items) chan ≡ PrimitiveVal p)
 node_sent_to core s closed chan message at a right =
-    sent_to core s a.acting right (operand_value (known s.heap s.values.items) message) at (operand_value (known s.heap s.values.items) chan)
-    (outputs_stand core s.heap s.values.items a.number chan message at a.node (acting_words core s) closed a.is a.op_is)
+    sent_to core s a.acting right (operand_value (known s.desk.heap s.desk.values.items) message) at (operand_value (known s.desk.heap s.desk.values.items) chan)
+    (outputs_stand core s.desk.heap s.desk.values.items a.number chan message at a.node (acting_words core s) closed a.is a.op_is)
 
 -- it calls the primitive that its operand alone is
 pub node_call : (core : Process) (s : Store) (closed : IsClosed core) (chan message : Val) (at : Span) → ActsBy core s (op.Out chan message at) → IsRight core s
-    → None ≡ channel_named (operand_value (known s.heap s.values.items) chan) → (p : Primitive)
-    → ((q : Primitive) → operand_value (known s.heap s.values.items) chan ≡ PrimitiveVal q → p ≡ q) → CallsOn core s p (operand_in s.heap s.values.items message) at
+    → None ≡ channel_named (operand_value (known s.desk.heap s.desk.values.items) chan) → (p : Primitive)
+    → ((q : Primitive) → operand_value (known s.desk.heap s.desk.values.items) chan ≡ PrimitiveVal q → p ≡ q) → CallsOn core s p (operand_in s.desk.heap s.desk.values.items message) at
 node_call core s closed chan message at a right none p only =
     let to = node_sent_to core s closed chan message at a right none in
     node_calls core s chan message at closed a p (to.1 ∙ ap PrimitiveVal (sym (only to.0 to.1)))
@@ -127,40 +96,40 @@ node_call core s closed chan message at a right none p only =
 
 module _ (core : Process) (s : Store) (closed : IsClosed core) (replicated : Bool) (chan : Val) (pattern : CodePat) (part : ℕ) (a : ActsBy core s (input_op replicated chan pattern part)) where
   -- the variables of its operand are levels that have a place
-  pub input_over : IsOver (length s.values.items) 0 chan
+  pub input_over : IsOver (length s.desk.values.items) 0 chan
   input_over =
       let st = standing core s (input_op replicated chan pattern part) a in
       let n = st.part.around in
       let form = is_input a.number n chan replicated pattern part st.part.process (op_is core a.number a.node st.part (input_op replicated chan pattern part) st.at a.op_is) in
       let under : IsUnder n 0 (In chan replicated form.pattern form.body) = subst (IsUnder n 0) form.is (part_under core a.number st.part closed st.at.at) in
-      let low = place_low (length s.values.items) (places 0 core) a.number st.part a.acting.store.levels st.at.at in
-      over_more n (length s.values.items) 0 0 low (omega arith) chan under.0
+      let low = place_low (length s.desk.values.items) (places 0 core) a.number st.part a.acting.store.levels st.at.at in
+      over_more n (length s.desk.values.items) 0 0 low (omega arith) chan under.0
 
   module _ (right : IsRight core s) where
-    stands : (body : Process) × (process_of core (value_in s.heap) (acting_words core s) ≡ In (operand_value (known s.heap s.values.items) chan) replicated (unleveled pattern) body)
-    stands = inputs_stand core s.heap s.values.items a.number part replicated chan pattern a.node (acting_words core s) closed a.is a.op_is
+    stands : (body : Process) × (process_of core (value_in s.desk.heap) (acting_words core s) ≡ In (operand_value (known s.desk.heap s.desk.values.items) chan) replicated (unleveled pattern) body)
+    stands = inputs_stand core s.desk.heap s.desk.values.items a.number part replicated chan pattern a.node (acting_words core s) closed a.is a.op_is
 
     -- it receives from a channel
-    pub no_input : None ≡ channel_named (operand_value (known s.heap s.values.items) chan) → ⊥
+    pub no_input : None ≡ channel_named (operand_value (known s.desk.heap s.desk.values.items) chan) → ⊥
     no_input none =
-        let rest = map (process_of core (value_in s.heap)) (contents s.queues 0) in
-        let lists = map (map (process_of core (value_in s.heap))) (channel_lists s.queues) in
-        channel_received rest lists (operand_value (known s.heap s.values.items) chan) replicated (unleveled pattern) stands.0
-        (λ wrong. right_acting core s a.acting right (ap (view.act rest lists) stands.1 ∙ wrong)) none
+        let rest = map (process_of core (value_in s.desk.heap)) (contents s.queues 0) in
+        let lists = map (map (process_of core (value_in s.desk.heap))) (channel_lists s.queues) in
+        channel_received rest lists (operand_value (known s.desk.heap s.desk.values.items) chan) replicated (unleveled pattern) stands.0
+        (λ wrong. right_acting core s a.acting right (ap (act rest lists) stands.1 ∙ wrong)) none
 
-  pub receives : (c : ℕ) → operand_value (known s.heap s.values.items) chan ≡ Chan c → Receives core s c replicated pattern part
+  pub receives : (c : ℕ) → operand_value (known s.desk.heap s.desk.values.items) chan ≡ Chan c → Receives core s c replicated pattern part
   receives c is = record { closed = closed; chan = chan; acts = a; from = is }
 
 -- an input's process
 pub input_process : (core : Process) (s : Store) (c : ℕ) (replicated : Bool) (pattern : CodePat) (part : ℕ) → Receives core s c replicated pattern part
-    → (body : Process) × (process_of core (value_in s.heap) (acting_words core s) ≡ In (Chan c) replicated (unleveled pattern) body)
+    → (body : Process) × (process_of core (value_in s.desk.heap) (acting_words core s) ≡ In (Chan c) replicated (unleveled pattern) body)
 input_process core s c replicated pattern part r =
-    let st = inputs_stand core s.heap s.values.items r.acts.number part replicated r.chan pattern r.acts.node (acting_words core s) r.closed r.acts.is r.acts.op_is in
+    let st = inputs_stand core s.desk.heap s.desk.values.items r.acts.number part replicated r.chan pattern r.acts.node (acting_words core s) r.closed r.acts.is r.acts.op_is in
     (st.0, st.1 ∙ ap (λ v. In v replicated (unleveled pattern) st.0) r.from)
 
 -- the channel of an input is there
 pub input_queue : (core : Process) (s : Store) (c : ℕ) (replicated : Bool) (pattern : CodePat) (part : ℕ) → Receives core s c replicated pattern part → IsRight core s → IsQueue s.queues (c + 1)
 input_queue core s c replicated pattern part r right =
     let p = input_process core s c replicated pattern part r in
-    let low = input_there (process_of core (value_in s.heap)) (acting_words core s) (contents s.queues 0) (channel_lists s.queues) (right_acting core s r.acts.acting right) c replicated (unleveled pattern) p.0 p.1 in
+    let low = input_there (process_of core (value_in s.desk.heap)) (acting_words core s) (contents s.queues 0) (channel_lists s.queues) (right_acting core s r.acts.acting right) c replicated (unleveled pattern) p.0 p.1 in
     omega (arith, low, length_lists s.queues 1 (length s.queues.queues - 1))

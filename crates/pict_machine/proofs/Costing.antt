@@ -9,11 +9,12 @@ use Rattle.pict_code.specs.Instruction as op
 use Rattle.pict_code.specs.Instruction.{CodePat, Node, Op}
 use Rattle.pict_code.specs.Nodes.{nodes_of, input_op}
 use Rattle.pict_queue.specs.Contents.{contents}
-use Rattle.pict_blocks.specs.Blocks.{value_in, process_of}
+use Rattle.pict_blocks.specs.Blocks.{process_of}
+use Rattle.pict_desk.specs.Known.{value_in}
 use Rattle.pict_turns.specs.Acting.{ActsBy}
 use Rattle.pict_turns.specs.Cost.{value_size, pattern_size, frame_size, op_size, instruction_size, block_size, input_size, partner_size, cost_of}
-use Rattle.pict_turns.specs.Parts.{block_width}
-use Rattle.pict_turns.specs.Reading.{HasFrame}
+use Rattle.pict_blocks.specs.Parts.{block_width}
+use Rattle.pict_desk.specs.Code.{HasFrame}
 use Rattle.pict_turns.specs.Views.{acting_words}
 use Rattle.pict_turns.specs.declared.store.Store.{Store}
 
@@ -102,11 +103,11 @@ module _ (core : Process) (s : Store) where
 
   -- ---- steps of outputs that meet an input
 
-  module _ (c : ℕ) (v : Val) (at : Span) (out : process_of core (value_in s.heap) (acting_words core s) ≡ term.Out (Chan c) v at)
+  module _ (c : ℕ) (v : Val) (at : Span) (out : process_of core (value_in s.desk.heap) (acting_words core s) ≡ term.Out (Chan c) v at)
       (reader part : ℕ) (held : List ℕ) (others : List (List ℕ)) (waits : contents s.queues (c + 1) ≡ (suc reader ∷ held) ∷ others)
       (node : Node) (there : slice_get (nodes_of core) reader ≡ Some node) (replicated : Bool) (chan : Val) (pattern : CodePat) (is : node.op ≡ input_op replicated chan pattern part)
       (body : List ℕ) (body_frame : HasFrame (nodes_of core) part body) where
-    reader_size : 1 + (length node.frame + length body) ≤ partner_size (nodes_of core) s.queues (process_of core (value_in s.heap) (acting_words core s))
+    reader_size : 1 + (length node.frame + length body) ≤ partner_size (nodes_of core) s.queues (process_of core (value_in s.desk.heap) (acting_words core s))
     reader_size =
         let e = ap (partner_size (nodes_of core) s.queues) out ∙ ap (input_size (nodes_of core)) waits
         ∙ size_is (nodes_of core) reader held (input_op replicated chan pattern part) node there is in

@@ -8,7 +8,6 @@ use Rattle.pict_core.specs.Run.{Reaches, shown}
 use Rattle.pict_view.specs.View.{View, StandsFor}
 use Rattle.pict_view.specs.Stepping.{IsStepOf}
 use Rattle.pict_heap.specs.HeapState.{HeapState}
-use Rattle.pict_view.specs.Held.{IsHeldBy}
 use Rattle.pict_view.specs.Right.{IsRightFor}
 use Rattle.pict_view.specs.Watching.{Saw, SawOrTore, RanFor, BrokeOff, view_after}
 use Rattle.pict_view.proofs.Runs.{Stood, empty_of, is_done, is_spent, saw_more}
@@ -22,7 +21,7 @@ use Rattle.pict_machine.specs.declared.event.End.{End}
 use Rattle.pict_machine.specs.declared.event.End.TheVariants as end
 use Rattle.pict_machine.specs.declared.machine.Machine.{Machine}
 use Rattle.pict_machine.proofs.Running.{broke_before}
-use Rattle.pict_machine.proofs.Taking.{ready_of}
+use Rattle.pict_view.proofs.AtPlaces.{ready_is}
 
 -- ---- labels that are passed over
 
@@ -153,19 +152,19 @@ not_true b e t = cc
 pub none_next : (v : View) (b : Bool) → b ≡ false → IsTrue b ↔ (v.ready ≢ []) → v.ready ≡ []
 none_next v b e r = empty_of v.ready (λ some. not_true b e (r.1 some))
 
-ends_of : (n fuel : ℕ) (C : Configuration) (v : View) (Seen : List (ℕ × Label) → Type 0) (e : End) → IsHeldBy v → StopsAs v e → n ≤ fuel → (v.ready ≢ [] → n ≡ fuel)
+ends_of : (n fuel : ℕ) (C : Configuration) (v : View) (Seen : List (ℕ × Label) → Type 0) (e : End) → StopsAs v e → n ≤ fuel → (v.ready ≢ [] → n ≡ fuel)
     → Stood n C v Seen → RanFor C fuel n (end_of e) v Seen
-ends_of n fuel C v Seen end.Done by none le all s =
-    is_done n fuel C v Seen false n refl le refl (ready_of v by false (λ t. absurd (not_true false refl t), λ some. absurd (some none))) s
-ends_of n fuel C v Seen end.FuelSpent by some le all s =
-    let spent = is_spent n fuel C v Seen true (all some) refl (ready_of v by true (λ t. some, λ t. refl)) s in
+ends_of n fuel C v Seen end.Done none le all s =
+    is_done n fuel C v Seen false n refl le refl (ready_is v false (λ t. absurd (not_true false refl t), λ some. absurd (some none))) s
+ends_of n fuel C v Seen end.FuelSpent some le all s =
+    let spent = is_spent n fuel C v Seen true (all some) refl (ready_is v true (λ t. some, λ t. refl)) s in
     subst (λ (k : ℕ). RanFor C fuel k (end_of end.FuelSpent) v Seen) (sym (all some)) spent
-ends_of n fuel C v Seen (end.Trap at) by none le all s = absurd none
+ends_of n fuel C v Seen (end.Trap at) none le all s = absurd none
 
 -- the end of a run that no trap ends
-pub stops_of : (n fuel steps : ℕ) (C : Configuration) (v : View) (Seen : List (ℕ × Label) → Type 0) (e : End) → steps ≡ n → IsHeldBy v → StopsAs v e → n ≤ fuel → (v.ready ≢ [] → n ≡ fuel)
+pub stops_of : (n fuel steps : ℕ) (C : Configuration) (v : View) (Seen : List (ℕ × Label) → Type 0) (e : End) → steps ≡ n → StopsAs v e → n ≤ fuel → (v.ready ≢ [] → n ≡ fuel)
     → Stood n C v Seen → RanFor C fuel steps (end_of e) v Seen
-stops_of n fuel steps C v Seen e same by stops le all s = subst (λ (k : ℕ). RanFor C fuel k (end_of e) v Seen) (sym same) (ends_of n fuel C v Seen e by stops le all s)
+stops_of n fuel steps C v Seen e same stops le all s = subst (λ (k : ℕ). RanFor C fuel k (end_of e) v Seen) (sym same) (ends_of n fuel C v Seen e stops le all s)
 
 -- where somebody is next as many steps are made as may be
 all_made : (n passed most fuel : ℕ) (v w : View) → n + most ≡ fuel → w ≡ v → (passed ≡ most) ⊎ (v.ready ≡ []) → w.ready ≢ [] → n + passed ≡ fuel
@@ -193,12 +192,12 @@ module _ (p : Bool) (f : List ℕ → ℕ → Label → List ℕ) (passes : IsTr
   event_of e same = (then_of (Ok (Some e)) same).1
 
   -- no further one
-  pub rests : (steps : ℕ) (e : End) → r ≡ Ok None → steps ≡ n + passed → IsHeldBy (running_view new) → StopsAs (running_view new) e
+  pub rests : (steps : ℕ) (e : End) → r ≡ Ok None → steps ≡ n + passed → StopsAs (running_view new) e
       → Stood n C (running_view old) (Saw f before after) → RanFor C fuel steps (end_of e) (running_view new) (Saw f before after)
-  rests steps e same count by stops s =
+  rests steps e same count stops s =
       let t = then_of (Ok None) same in
       let stood = subst (λ (v : View). Stood (n + passed) C v (Saw f before after)) (sym t.0) (stood_between s) in
-      stops_of (n + passed) fuel steps C (running_view new) (Saw f before after) e count by stops within (all_made n passed most fuel gone.between (running_view new) all t.0 t.1) stood
+      stops_of (n + passed) fuel steps C (running_view new) (Saw f before after) e count stops within (all_made n passed most fuel gone.between (running_view new) all t.0 t.1) stood
 
   -- memory is wanting
   pub wants : (e : AllocError) (T : List ℕ → ℕ → Label → List ℕ → Type 0) → r ≡ Err e

@@ -2,15 +2,16 @@
 use Rattle.std.proofs.Common.{ℕ, ◌≡◌, sym, ap, ◌∙◌, subst}
 use Rattle.pict_syntax.specs.declared.primitive.Primitive.{Primitive}
 use Rattle.pict_core.specs.Term.{Process, Chan, Out, PrimitiveVal}
-use Rattle.pict_frames.specs.Keeping.{kept_words}
-use Rattle.pict_frames.specs.declared.keeping.Kept.{Kept}
+use Rattle.pict_blocks.specs.Keeping.{kept_words}
+use Rattle.pict_desk.specs.declared.kept.Kept.{Kept}
 use Rattle.pict_heap.specs.HeapState.{HeapState, IsWord, value_of}
 use Rattle.pict_heap.specs.Packed.{packed, FitsWord}
 use Rattle.pict_heap.specs.declared.word.Word.{Word}
 use Rattle.pict_heap.specs.declared.word.Word.TheVariants as word
-use Rattle.pict_blocks.specs.Blocks.{value_in, process_of}
-use Rattle.pict_operands.specs.Pairs.{IsPair}
-use Rattle.pict_operands.proofs.Pairs.{value_packed}
+use Rattle.pict_blocks.specs.Blocks.{process_of}
+use Rattle.pict_desk.specs.Known.{value_in}
+use Rattle.pict_desk.specs.Pairs.{IsPair}
+use Rattle.pict_desk.proofs.Pairs.{value_packed}
 use Rattle.pict_meetings.specs.Partners.{Sends, SendsKept}
 use Rattle.pict_calls.specs.Calling.{CallsOn}
 use Rattle.pict_turns.specs.Acting.{HasActing}
@@ -46,39 +47,39 @@ same_message k l e =
     ap (λ x. (x, l.message.1)) a ∙ ap (λ y. (k.message.0, y)) b
 
 module _ (core : Process) (s : Store) (acting : HasActing core s) (kept : Kept) (has : s.turn ≡ Output kept) where
-  abbrev held : IsKept s.heap (kept_words kept)
+  abbrev held : IsKept s.desk.heap (kept_words kept)
   held = kept_turn core s acting kept has
 
-  pub kept_to : IsPair s.heap kept.to
-  kept_to = subst (IsPair s.heap) (same_to kept held.kept held.is) held.to
+  pub kept_to : IsPair s.desk.heap kept.to
+  kept_to = subst (IsPair s.desk.heap) (same_to kept held.kept held.is) held.to
 
-  pub kept_message : IsPair s.heap kept.message
-  kept_message = subst (IsPair s.heap) (same_message kept held.kept held.is) held.message
+  pub kept_message : IsPair s.desk.heap kept.message
+  kept_message = subst (IsPair s.desk.heap) (same_message kept held.kept held.is) held.message
 
-  abbrev pub kept_is : IsKept s.heap (acting_words core s)
+  abbrev pub kept_is : IsKept s.desk.heap (acting_words core s)
   kept_is = record { kept = held.kept; is = kept_acts core s acting kept has ∙ held.is; fits = held.fits; to = held.to; message = held.message }
 
-  pub kept_process : process_of core (value_in s.heap) (acting_words core s) ≡ Out (value_in s.heap kept.to.0 kept.to.1) (value_in s.heap kept.message.0 kept.message.1) kept.at
-  kept_process = ap (process_of core (value_in s.heap)) (kept_acts core s acting kept has)
+  pub kept_process : process_of core (value_in s.desk.heap) (acting_words core s) ≡ Out (value_in s.desk.heap kept.to.0 kept.to.1) (value_in s.desk.heap kept.message.0 kept.message.1) kept.at
+  kept_process = ap (process_of core (value_in s.desk.heap)) (kept_acts core s acting kept has)
 
   -- on a channel
-  module _ (c : ℕ) (e : value_in s.heap kept.to.0 kept.to.1 ≡ Chan c) where
+  module _ (c : ℕ) (e : value_in s.desk.heap kept.to.0 kept.to.1 ≡ Chan c) where
     pub kept_send : Sends core s c kept.message kept.at
-    kept_send = record { acting = acting; pair = kept_message; is = kept_process ∙ ap (λ v. Out v (value_in s.heap kept.message.0 kept.message.1) kept.at) e }
+    kept_send = record { acting = acting; pair = kept_message; is = kept_process ∙ ap (λ v. Out v (value_in s.desk.heap kept.message.0 kept.message.1) kept.at) e }
 
     pub sends_kept : SendsKept core s c
     sends_kept = record {
       acting = acting;
       kept = kept_is;
-      to = ap (λ (x : ℕ × ℕ). value_in s.heap x.0 x.1) (same_to kept held.kept held.is) ∙ e;
+      to = ap (λ (x : ℕ × ℕ). value_in s.desk.heap x.0 x.1) (same_to kept held.kept held.is) ∙ e;
     }
 
   -- to a primitive
   pub words_call : (to message : Word) → ((x : Word) → FitsWord x → packed x ≡ kept.to → to ≡ x) → ((x : Word) → FitsWord x → packed x ≡ kept.message → message ≡ x)
-      → (p : Primitive) → to ≡ word.Prim p → CallsOn core s p (value_of s.heap message) kept.at
+      → (p : Primitive) → to ≡ word.Prim p → CallsOn core s p (value_of s.desk.heap message) kept.at
   words_call to message to_only message_only p e = record {
     acting = acting;
     output = kept_process
-        ∙ ap (λ v. Out v (value_in s.heap kept.message.0 kept.message.1) kept.at) (pair_value s.heap kept.to kept_to to to_only ∙ ap (value_of s.heap) e)
-        ∙ ap (λ v. Out (PrimitiveVal p) v kept.at) (pair_value s.heap kept.message kept_message message message_only);
+        ∙ ap (λ v. Out v (value_in s.desk.heap kept.message.0 kept.message.1) kept.at) (pair_value s.desk.heap kept.to kept_to to to_only ∙ ap (value_of s.desk.heap) e)
+        ∙ ap (λ v. Out (PrimitiveVal p) v kept.at) (pair_value s.desk.heap kept.message kept_message message message_only);
   }

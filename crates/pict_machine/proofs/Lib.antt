@@ -1,6 +1,4 @@
-pub mod Counting
 pub mod Opening
-pub mod MadeOnce
 pub mod Codes
 pub mod Passing
 pub mod Channels

@@ -17,26 +17,27 @@ use Rattle.pict_queue.specs.QueuesState.{QueuesState}
 use Rattle.pict_queue.specs.Contents.{contents}
 use Rattle.pict_region.specs.RegionState.{spare, KeepsBlocks}
 use Rattle.pict_heap.specs.HeapState.{HeapState}
-use Rattle.pict_frames.specs.Writing.{OnlyWorks}
-use Rattle.pict_frames.proofs.Held.{works_blocks}
-use Rattle.pict_blocks.specs.Blocks.{value_in, process_of, known, operand_value}
-use Rattle.pict_blocks.proofs.Nodes.{is_if}
-use Rattle.pict_blocks.proofs.Operands.{same_operand}
-use Rattle.pict_blocks.proofs.Parts.{node_with, if_stands}
-use Rattle.pict_blocks.proofs.Standing.{op_is}
+use Rattle.pict_blocks.specs.Writing.{OnlyWorks}
+use Rattle.pict_blocks.proofs.Held.{works_blocks}
+use Rattle.pict_blocks.specs.Blocks.{process_of}
+use Rattle.pict_desk.specs.Known.{value_in, known, operand_value}
+use Rattle.pict_desk.proofs.Nodes.{is_if, op_is}
+use Rattle.pict_desk.proofs.OperandsAround.{same_operand}
+use Rattle.pict_desk.proofs.Parts.{node_with, if_stands}
 use Rattle.pict_meetings.specs.Serving.{IsInputWith}
 use Rattle.pict_meetings.specs.Waiting.{oldest, waits_first}
 use Rattle.pict_meetings.specs.declared.waiting.Waiting.TheVariants.{Output, Input}
 use Rattle.pict_meetings.proofs.Firsts.{first_input}
 use Rattle.pict_meetings.proofs.Ops.{input_waits_first}
-use Rattle.pict_turns.specs.Acting.{core_in, IsCode, IsStore, ActsBy, IsRight}
-use Rattle.pict_turns.specs.Parts.{block_width}
-use Rattle.pict_turns.specs.Reading.{HasFrame}
+use Rattle.pict_turns.specs.Acting.{IsStore, ActsBy, IsRight}
+use Rattle.pict_desk.specs.Code.{core_in, IsCode, HasFrame}
+use Rattle.pict_blocks.specs.Parts.{block_width}
 use Rattle.pict_turns.specs.Views.{acting_words, ready_words}
 use Rattle.pict_turns.specs.Widths.{MakesOnly, how_many, part_width, answer_widths}
 use Rattle.pict_turns.specs.declared.store.Store.{Store}
 use Rattle.pict_turns.proofs.Making.{makes_before, makes_after, makes_beside, makes_part, part_width_is}
-use Rattle.pict_turns.proofs.Numbered.{coded_frame, standing, test_boolean}
+use Rattle.pict_turns.proofs.Numbered.{standing, test_boolean}
+use Rattle.pict_desk.proofs.Numbered.{coded_frame}
 use Rattle.pict_turns.proofs.Turns.{words_nobody, ready_nobody, ready_is}
 use Rattle.pict_turns.specs.declared.turn.Turn.TheVariants.{Nobody}
 use Rattle.pict_machine.specs.Stepping.{GivesTurn}
@@ -110,9 +111,9 @@ module _ (core : Process) (s taken acted : Store) (g : GivesTurn core s taken) (
   makes_more : MakesOnly taken.queues acted.queues ((length (acting_words core taken) + 1) ∷ first_widths core s (ready_words core s))
   makes_more =
       let words = acting_words core taken in
-      let heap : widths_of core taken words ≡ block_widths (nodes_of core) taken.queues words (process_of core (value_in s.heap) words) =
+      let heap : widths_of core taken words ≡ block_widths (nodes_of core) taken.queues words (process_of core (value_in s.desk.heap) words) =
       ap (λ (h : HeapState). block_widths (nodes_of core) taken.queues words (process_of core (value_in h) words)) g.heap in
-      let stays = block_stays (nodes_of core) s.queues taken.queues (λ c. g.others (c + 1) (λ e. omega (arith, e))) words (process_of core (value_in s.heap) words) in
+      let stays = block_stays (nodes_of core) s.queues taken.queues (λ c. g.others (c + 1) (λ e. omega (arith, e))) words (process_of core (value_in s.desk.heap) words) in
       let total : widths_of core s words ≡ first_widths core s (ready_words core s) = ap (first_widths core s) (sym (ready_is core taken words g.acting.has) ∙ g.ready) in
       subst (λ (ws : List ℕ). MakesOnly taken.queues acted.queues ((length words + 1) ∷ ws)) (heap ∙ stays ∙ total) makes
 
@@ -147,7 +148,7 @@ only_worked old mid new needed works makes =
 
 module _ (core : Process) (s : Store) where
   abbrev block_process : Process
-  block_process = process_of core (value_in s.heap) (acting_words core s)
+  block_process = process_of core (value_in s.desk.heap) (acting_words core s)
 
   -- beside the block of who had the turn
   pub needed_beside : (new : Store) (needed : List ℕ) → widths_of core s (acting_words core s) ≡ needed → MakesOnly s.queues new.queues ((length (acting_words core s) + 1) ∷ needed) → MakesNeeded core s new
@@ -265,7 +266,7 @@ module _ (code : List written.Node) (is : IsCode (map plain_node code)) (s : Sto
   meeting_made to_wait needs channel v at out store reader first new makes =
       let core = core_in code in
       let w = input_waits_first code s channel reader is store first in
-      let f = first_input core s.heap (contents s.queues (channel + 1)) reader (store.blocks (channel + 1)) (store.waiting channel) first in
+      let f = first_input core s.desk.heap (contents s.queues (channel + 1)) reader (store.blocks (channel + 1)) (store.waiting channel) first in
       let body = frame_there code w.part (part_low code is reader w.replicated w.pattern w.part w.input) in
       let there : slice_get (nodes_of core) reader ≡ Some w.input.node = ap (λ (ns : List Node). slice_get ns reader) is.nodes_are ∙ w.input.at in
       part_made new w.part body.0 body.1
@@ -276,11 +277,11 @@ module _ (code : List written.Node) (is : IsCode (map plain_node code)) (s : Sto
 
 -- the process of a conditional
 choice_process : (core : Process) (s : Store) (test : Val) (left right : ℕ) → IsClosed core → ActsBy core s (op.If test left right)
-    → (p : Process) × (q : Process) × (block_process core s ≡ term.If (operand_value (known s.heap s.values.items) test) p q)
+    → (p : Process) × (q : Process) × (block_process core s ≡ term.If (operand_value (known s.desk.heap s.desk.values.items) test) p q)
 choice_process core s test left right closed a =
     let st = standing core s (op.If test left right) a in
     let n = st.part.around in
-    let value = known s.heap s.values.items in
+    let value = known s.desk.heap s.desk.values.items in
     let form = is_if a.number n test left right st.part.process (op_is core a.number a.node st.part (op.If test left right) st.at a.op_is) in
     let under : IsUnder n 0 (term.If test form.p form.q) = subst (IsUnder n 0) form.is (part_under core a.number st.part closed st.at.at) in (
       node_with n value form.p,
@@ -302,7 +303,7 @@ module _ (code : List written.Node) (is : IsCode (map plain_node code)) (s : Sto
       (subst (λ (ns : List Node). MakesOnly s.queues new.queues (part_width ns part ∷ [])) (sym is.nodes_are) makes)
 
   pub choice_made : (test : Val) (left right : ℕ) → ActsBy (core_in code) s (op.If test left right) → IsRight (core_in code) s
-      → ((b : Bool) → operand_value (known s.heap s.values.items) test ≡ Boolean b → MakesOnly s.queues new.queues (part_width (map plain_node code) (if b then left else right) ∷ []))
+      → ((b : Bool) → operand_value (known s.desk.heap s.desk.values.items) test ≡ Boolean b → MakesOnly s.queues new.queues (part_width (map plain_node code) (if b then left else right) ∷ []))
       → MakesNeeded (core_in code) s new
   choice_made test left right a right_step makes =
       let b = test_boolean (core_in code) s test left right is.closed a right_step in

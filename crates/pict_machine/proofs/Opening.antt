@@ -16,25 +16,23 @@ use Rattle.pict_code.proofs.Agreeing.{agree}
 use Rattle.pict_code.proofs.Framed.{frame_is_enough}
 use Rattle.pict_queue.specs.QueuesState.{QueuesState}
 use Rattle.pict_queue.specs.Contents.{contents}
-use Rattle.pict_frames.specs.Framed.{pair_at}
+use Rattle.pict_desk.specs.Known.{value_in}
 use Rattle.pict_heap.specs.HeapState.{HeapState}
 use Rattle.std.specs.FinMap.{FinMap, get, empty, get-empty}
 use Rattle.std.specs.Ordering.{nat_cmp}
 use Rattle.pict_region.specs.RegionState.{RegionState, IsLive}
 use Rattle.pict_heap.specs.declared.word.Word.TheVariants as word
-use Rattle.pict_blocks.specs.Blocks.{value_in, node_process, process_of, view_of_contents}
-use Rattle.pict_operands.specs.Pairs.{IsPair, ArePairs}
-use Rattle.pict_operands.proofs.Making.{keeps_all, keeps_more}
-use Rattle.pict_view.specs.View.{StandsFor}
-use Rattle.pict_view.specs.Held.{IsHeldBy}
+use Rattle.pict_blocks.specs.Blocks.{node_process, process_of, view_of_contents}
+use Rattle.pict_desk.proofs.Pairs.{zeros_are_pairs}
+use Rattle.pict_view.specs.View.{StandsFor, KeepsApart}
 use Rattle.pict_turns.specs.Acting.{IsStore}
 use Rattle.pict_turns.specs.Views.{lists_from, channel_lists, IsBlock, CanWait}
 use Rattle.pict_turns.specs.declared.store.Store.{Store}
 use Rattle.pict_turns.specs.declared.turn.Turn.TheVariants.{Nobody}
 use Rattle.pict_turns.proofs.Turns.{nobody_turn, nobody_room}
-use Rattle.pict_machine.specs.Levels.{levels_in}
-use Rattle.pict_machine.specs.Opening.{AreOpening, OnlyMakes}
-use Rattle.pict_machine.proofs.Counting.{places_enough}
+use Rattle.pict_desk.specs.Levels.{levels_in}
+use Rattle.pict_machine.specs.Opening.{AreOpening}
+use Rattle.pict_desk.proofs.Counting.{places_enough}
 
 -- ---- node 0
 
@@ -94,29 +92,14 @@ module _ (core : Process) (h : HeapState) where
         ∙ ap (view_of_contents core (value_in h) ((1 ∷ []) ∷ [])) no_channels
         ∙ ap (λ p. record { ready = p ∷ []; channels = [] }) first_stands
 
-    pub opening_held : IsHeldBy (view_of_contents core (value_in h) (contents s 0) (channel_lists s))
-    opening_held = record { held = record { ready = core ∷ []; queues = [] }; is = sym view_is }
+    pub opening_apart : KeepsApart (view_of_contents core (value_in h) (contents s 0) (channel_lists s))
+    opening_apart = subst KeepsApart (sym view_is) (record { apart = λ c. inl tt })
 
     pub opening_stands : StandsFor (view_of_contents core (value_in h) (contents s 0) (channel_lists s)) (opening core)
     opening_stands = subst (λ v. StandsFor v (opening core)) (sym view_is) (record { channels = refl; ready = refl; parked = λ c. refl })
 
     pub opening_blocks : (queue : ℕ) → AllByRecursion (IsBlock core h) (contents s queue)
     opening_blocks = blocks_by
-
--- ---- the values of levels
-
-zero_pair : (h : HeapState) → IsPair h (0, 0)
-zero_pair h = record { word = word.Int (pos 0); is = tt; fits = search rules; packs = refl }
-
-always_zero : (n level : ℕ) → pair_at (replicate n (0, 0)) level ≡ (0, 0)
-always_zero n level = by_side (nat_lt level n) refl
-  where
-    by_side : (b : Bool) → nat_lt level n ≡ b → pair_at (replicate n (0, 0)) level ≡ (0, 0)
-    by_side true low = get_or-replicate n level (0, 0) (0, 0) (grind (arith, nat_tests))
-    by_side false high = let past : n ≤ level = grind (arith, nat_tests) in get_or_past (replicate n (0, 0)) level (0, 0) (let zeros : List (ℕ × ℕ) = replicate n (0, 0) in let many : length zeros ≡ n = length-replicate {A = ℕ × ℕ} n (0, 0) in omega (arith, past, many))
-
-pub zeros_are_pairs : (h : HeapState) (values : List (ℕ × ℕ)) (n : ℕ) → values ≡ replicate n (0, 0) → ArePairs h values
-zeros_are_pairs h values n e level = subst (IsPair h) (sym (ap (λ vs. pair_at vs level) e ∙ always_zero n level)) (zero_pair h)
 
 -- ---- no block
 
@@ -130,30 +113,22 @@ none_live r none block = no_some (get r.live block) (ap (λ (m : FinMap nat_cmp 
 
 -- ---- the store
 
-module _ (core : Process) (s : Store) (nodes : List Node) (count : ℕ) (is : nodes_of core ≡ nodes) (o : AreOpening s.queues) (values : s.values.items ≡ replicate count (0, 0)) (many : count ≡ levels_in nodes)
+module _ (core : Process) (s : Store) (nodes : List Node) (count : ℕ) (is : nodes_of core ≡ nodes) (o : AreOpening s.queues) (values : s.desk.values.items ≡ replicate count (0, 0)) (many : count ≡ levels_in nodes)
     (idle : s.turn ≡ Nobody) where
-  places_there : AllByRecursion (λ (p : Place). p.around ≤ length s.values.items) (places 0 core)
+  places_there : AllByRecursion (λ (p : Place). p.around ≤ length s.desk.values.items) (places 0 core)
   places_there =
       let zeros : List (ℕ × ℕ) = replicate count (0, 0) in
       let as_many : length zeros ≡ count = length-replicate {A = ℕ × ℕ} count (0, 0) in
-      let counted : length s.values.items ≡ count = ap length values ∙ as_many in
+      let counted : length s.desk.values.items ≡ count = ap length values ∙ as_many in
       subst (λ n. AllByRecursion (λ (p : Place). p.around ≤ n) (places 0 core)) (sym counted) (places_enough core nodes count is many)
 
   pub opening_store : IsStore core s
   opening_store = record {
     ready = omega (arith, o.queues);
-    blocks = opening_blocks core s.heap s.queues o;
+    blocks = opening_blocks core s.desk.heap s.queues o;
     waiting = λ channel. subst (AllByRecursion (CanWait core)) (sym (o.others (channel + 1) (λ same. omega (arith, same)))) tt;
-    pairs = zeros_are_pairs s.heap s.values.items count values;
+    pairs = zeros_are_pairs s.desk.heap s.desk.values.items count values;
     levels = places_there;
-    turn = nobody_turn core s.heap s.values.items s.turn idle;
+    turn = nobody_turn core s.desk.heap s.desk.values.items s.turn idle;
     room = nobody_room core s s.queues.region idle;
   }
-
--- ---- words are made before the first step
-
-pub makes_nothing : (s : Store) → OnlyMakes s s
-makes_nothing s = record { words = keeps_all s.heap; queues = λ o. o; values = refl; turn = refl }
-
-pub makes_more : (a b c : Store) → OnlyMakes a b → OnlyMakes b c → OnlyMakes a c
-makes_more a b c m n = record { words = keeps_more a.heap b.heap c.heap m.words n.words; queues = λ o. n.queues (m.queues o); values = n.values ∙ m.values; turn = n.turn ∙ m.turn }

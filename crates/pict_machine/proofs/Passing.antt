@@ -15,13 +15,14 @@ use Rattle.pict_code.specs.declared.instruction.Op.TheVariants as op
 use Rattle.pict_code.specs.declared.pattern.CodePat as written_pattern
 use Rattle.pict_meetings.specs.Serving.{IsInputWith}
 use Rattle.pict_queue.specs.QueuesState.{QueuesState}
-use Rattle.pict_frames.specs.Writing.{OnlyWorks}
-use Rattle.pict_view.specs.ViewStep.{next_view}
+use Rattle.pict_view.specs.Placed.{next_view}
+use Rattle.pict_blocks.specs.Writing.{OnlyWorks}
 use Rattle.pict_code.specs.Instruction.{Op, CodePat}
 use Rattle.pict_code.specs.Nodes.{input_op}
 use Rattle.pict_meetings.specs.Partners.{Receives}
-use Rattle.pict_blocks.specs.Blocks.{operand_value}
-use Rattle.pict_turns.specs.Acting.{core_in, ActsBy, IsRefused}
+use Rattle.pict_desk.specs.Known.{operand_value}
+use Rattle.pict_turns.specs.Acting.{ActsBy, IsRefused}
+use Rattle.pict_desk.specs.Code.{core_in}
 use Rattle.pict_turns.specs.Reading.{OnlyReads}
 use Rattle.pict_turns.specs.Reserving.{OnlyReserves}
 use Rattle.pict_turns.specs.Views.{view_with_turn}

@@ -17,11 +17,12 @@ use Rattle.pict_region.specs.RegionState.{spare, blocks, live_blocks, KeepsBlock
 use Rattle.pict_queue.specs.QueuesState.{QueuesState}
 use Rattle.pict_queue.specs.Contents.{contents}
 use Rattle.pict_heap.specs.HeapState.{HeapState}
-use Rattle.pict_frames.specs.Keeping.{kept_words}
-use Rattle.pict_frames.specs.Writing.{OnlyWorks}
-use Rattle.pict_frames.proofs.Held.{works_blocks}
-use Rattle.pict_blocks.specs.Blocks.{value_in, process_of}
-use Rattle.pict_operands.specs.AtHand.{IsOfHeap}
+use Rattle.pict_blocks.specs.Keeping.{kept_words}
+use Rattle.pict_blocks.specs.Writing.{OnlyWorks}
+use Rattle.pict_blocks.proofs.Held.{works_blocks}
+use Rattle.pict_blocks.specs.Blocks.{process_of}
+use Rattle.pict_desk.specs.Known.{value_in}
+use Rattle.pict_desk.specs.AtHand.{IsOfHeap}
 use Rattle.pict_meetings.specs.Room.{as_wide}
 use Rattle.pict_meetings.specs.Serving.{IsInputWith}
 use Rattle.pict_meetings.specs.Waiting.{oldest, waits_first}
@@ -29,27 +30,27 @@ use Rattle.pict_meetings.specs.declared.waiting.Waiting.TheVariants.{Output, Inp
 use Rattle.pict_meetings.proofs.Firsts.{first_input, first_message, node_of}
 use Rattle.pict_meetings.proofs.Ops.{same_input}
 use Rattle.pict_meetings.proofs.Wide.{node_wide, first_reused}
-use Rattle.pict_turns.specs.Acting.{core_in, IsCode, IsStore, ActsBy}
-use Rattle.pict_turns.specs.Parts.{block_width}
-use Rattle.pict_turns.specs.Reading.{HasFrame}
+use Rattle.pict_turns.specs.Acting.{IsStore, ActsBy}
+use Rattle.pict_desk.specs.Code.{core_in, IsCode, HasFrame}
+use Rattle.pict_blocks.specs.Parts.{block_width}
 use Rattle.pict_turns.specs.Reserving.{OnlyReserves}
 use Rattle.pict_turns.specs.Views.{IsKept, acting_words}
 use Rattle.pict_turns.specs.Widths.{MakesOnly}
 use Rattle.pict_turns.specs.declared.store.Store.{Store}
-use Rattle.pict_turns.proofs.Holding.{width_narrow}
-use Rattle.pict_turns.proofs.Numbered.{same_frame}
+use Rattle.pict_blocks.proofs.Holding.{width_narrow}
+use Rattle.pict_desk.proofs.Numbered.{same_frame}
 use Rattle.pict_turns.proofs.Turns.{words_nobody, ready_nobody, ready_is}
 use Rattle.pict_turns.specs.declared.turn.Turn.TheVariants.{Nobody}
-use Rattle.pict_machine.specs.Constants.{HasNoVariable}
+use Rattle.pict_desk.specs.Constants.{HasNoVariable}
 use Rattle.pict_machine.specs.Plain.{instruction_of, IsPlainInput, NeedsNoWord, HasWord, HasPlainRoom, SendsPlainly, ReceivesPlainly, ActsPlainly, FirstMeetsPlainly, MeetsPlainly, RunsPlainly, TakesNothing}
 use Rattle.pict_machine.specs.Sending.{EndsAsWide}
 use Rattle.pict_machine.specs.Stepping.{GivesTurn}
 
 -- ---- what waits at channels stays, and so does a plain meeting
 
-module _ (core : Process) (old new : Store) (heap : new.heap ≡ old.heap) (same : (c : ℕ) → contents new.queues (c + 1) ≡ contents old.queues (c + 1))
+module _ (core : Process) (old new : Store) (heap : new.desk.heap ≡ old.desk.heap) (same : (c : ℕ) → contents new.queues (c + 1) ≡ contents old.queues (c + 1))
     (more : (width : ℕ) → spare old.queues.region width ≤ spare new.queues.region width) (acting : List ℕ) where
-  process_same : process_of core (value_in new.heap) acting ≡ process_of core (value_in old.heap) acting
+  process_same : process_of core (value_in new.desk.heap) acting ≡ process_of core (value_in old.desk.heap) acting
   process_same = ap (λ (h : HeapState). process_of core (value_in h) acting) heap
 
   free_same : (width : ℕ) (P : Type 0) → 1 ≤ spare old.queues.region width ⊎ P → 1 ≤ spare new.queues.region width ⊎ P
@@ -172,7 +173,7 @@ input_receives core s chan pattern part a (inl x) = let f = wordless_output core
 input_receives core s chan pattern part a (inr x) = x
 
 -- an output of kept values sends
-pub kept_sends : (core : Process) (s : Store) → IsKept s.heap (acting_words core s) → ActsPlainly core s (acting_words core s) → SendsPlainly core s (acting_words core s)
+pub kept_sends : (core : Process) (s : Store) → IsKept s.desk.heap (acting_words core s) → ActsPlainly core s (acting_words core s) → SendsPlainly core s (acting_words core s)
 kept_sends core s k (inl x) = x
 kept_sends core s k (inr x) = let e : instruction_of (nodes_of core) (kept_words k.kept) ≡ Some (op.In x.input.chan x.input.pattern x.part) = ap (instruction_of (nodes_of core)) (sym k.is) ∙ x.input.is in cc
 
@@ -190,7 +191,7 @@ plain_reader nodes (suc number ∷ held) part others i = there (slice_get nodes 
     there (Some n) at e = (number, i.pattern, refl, record { node = n; at = at; chan = i.chan; is = let f : Some n.op ≡ Some (op.In i.chan i.pattern part) = e in cc })
 
 -- an output that meets an input plainly, on this channel
-module _ (core : Process) (s : Store) (acting : List ℕ) (channel : ℕ) (v : Val) (at : Span) (is : process_of core (value_in s.heap) acting ≡ term.Out (Chan channel) v at) (x : SendsPlainly core s acting) where
+module _ (core : Process) (s : Store) (acting : List ℕ) (channel : ℕ) (v : Val) (at : Span) (is : process_of core (value_in s.desk.heap) acting ≡ term.Out (Chan channel) v at) (x : SendsPlainly core s acting) where
   sent_on : x.channel ≡ channel
   sent_on = let e : term.Out (Chan x.channel) x.message x.at ≡ term.Out (Chan channel) v at = sym x.out ∙ is in cc
 
@@ -203,12 +204,12 @@ module _ (core : Process) (s : Store) (acting : List ℕ) (channel : ℕ) (v : V
       (r.0, r.1, ap oldest waits_there ∙ r.2, r.3)
 
 -- a call of a primitive meets nothing
-pub no_plain_call : (core : Process) (s : Store) (acting : List ℕ) (p : Primitive) (v : Val) (at : Span) → process_of core (value_in s.heap) acting ≡ term.Out (PrimitiveVal p) v at → SendsPlainly core s acting → ⊥
+pub no_plain_call : (core : Process) (s : Store) (acting : List ℕ) (p : Primitive) (v : Val) (at : Span) → process_of core (value_in s.desk.heap) acting ≡ term.Out (PrimitiveVal p) v at → SendsPlainly core s acting → ⊥
 no_plain_call core s acting p v at is x = let e : term.Out (Chan x.channel) x.message x.at ≡ term.Out (PrimitiveVal p) v at = sym x.out ∙ is in cc
 
 -- an input that meets an output plainly, on this channel
 module _ (core : Process) (s : Store) (acting : List ℕ) (channel : ℕ) (replicated : Bool) (pattern : Pat) (body : Process)
-    (is : process_of core (value_in s.heap) acting ≡ term.In (Chan channel) replicated pattern body) (x : ReceivesPlainly core s acting) where
+    (is : process_of core (value_in s.desk.heap) acting ≡ term.In (Chan channel) replicated pattern body) (x : ReceivesPlainly core s acting) where
   received_from : x.channel ≡ channel
   received_from = let e : term.In (Chan x.channel) false x.pattern x.body ≡ term.In (Chan channel) replicated pattern body = sym x.receives ∙ is in cc
 
@@ -250,26 +251,26 @@ module _ (code : List written.Node) (is : IsCode (map plain_node code)) (s : Sto
   -- the block of the input that waits first
   reader_wide : (own held : List ℕ) (rest : List (List ℕ)) → contents s.queues (channel + 1) ≡ (suc reader ∷ held) ∷ rest → HasFrame (map plain_node code) reader own → length (suc reader ∷ held) + 1 ≡ block_width own
   reader_wide own held rest here has =
-      let f = first_input (core_in code) s.heap (contents s.queues (channel + 1)) reader (store.blocks (channel + 1)) (store.waiting channel) first in
+      let f = first_input (core_in code) s.desk.heap (contents s.queues (channel + 1)) reader (store.blocks (channel + 1)) (store.waiting channel) first in
       let both : (suc reader ∷ f.held) ∷ f.rest ≡ (suc reader ∷ held) ∷ rest = sym f.is ∙ here in
       let words : suc reader ∷ held ≡ suc reader ∷ f.held = cc in
-      let n = node_of (core_in code) s.heap reader f.held (suc reader ∷ held) words f.block in
+      let n = node_of (core_in code) s.desk.heap reader f.held (suc reader ∷ held) words f.block in
       let at : slice_get (map plain_node code) reader ≡ Some n.0.node = ap (λ (ns : List Node). slice_get ns reader) (sym is.nodes_are) ∙ ap (slice_get (nodes_of (core_in code))) (sym n.1) ∙ n.0.at in
-      node_wide (core_in code) s.heap (suc reader ∷ held) n.0
+      node_wide (core_in code) s.desk.heap (suc reader ∷ held) n.0
       ∙ ap block_width (same_frame (map plain_node code) reader n.0.node.frame own (record { node = n.0.node; at = at; is = refl }) has)
 
   -- the block that is given back is as wide as that of the frame
   pub one_given : (replicated : Bool) (pattern : CodePat) (part : ℕ) → IsInputWith (map plain_node code) reader replicated pattern part → (frame : List ℕ) → EndsAsWide (map plain_node code) reader frame
       → 1 ≤ as_wide (block_width frame) (cond replicated [] (take 1 (contents s.queues (channel + 1))))
   one_given replicated pattern part i frame e =
-      let f = first_input (core_in code) s.heap (contents s.queues (channel + 1)) reader (store.blocks (channel + 1)) (store.waiting channel) first in
+      let f = first_input (core_in code) s.desk.heap (contents s.queues (channel + 1)) reader (store.blocks (channel + 1)) (store.waiting channel) first in
       let same = same_input (map plain_node code) reader replicated false pattern e.pattern part e.part i e.input in
       let given : cond replicated [] (take 1 (contents s.queues (channel + 1))) ≡ (suc reader ∷ f.held) ∷ [] =
       ap (λ (b : Bool). cond b [] (take 1 (contents s.queues (channel + 1)))) same.0 ∙ ap (take 1) f.is in
       subst (λ (ws : List (List ℕ)). 1 ≤ as_wide (block_width frame) ws) (sym given)
       (first_reused (block_width frame) (suc reader ∷ f.held) [] (reader_wide e.own f.held f.rest f.is e.has ∙ e.wide))
 
-  module _ (v : Val) (at : Span) (out : process_of (core_in code) (value_in s.heap) (acting_words (core_in code) s) ≡ term.Out (Chan channel) v at)
+  module _ (v : Val) (at : Span) (out : process_of (core_in code) (value_in s.desk.heap) (acting_words (core_in code) s) ≡ term.Out (Chan channel) v at)
       (x : SendsPlainly (core_in code) s (acting_words (core_in code) s)) where
     -- the input that waits first is the one that meets plainly
     pub served : (pattern : CodePat) × IsInputWith (map plain_node code) reader false pattern x.part
@@ -292,7 +293,7 @@ module _ (code : List written.Node) (is : IsCode (map plain_node code)) (s : Sto
           cases (inl one) = inl one
           cases (inr (inl e)) = inl (subst (λ (w : ℕ). 1 ≤ spare s.queues.region w) e own_room)
           cases (inr (inr e)) =
-              let f = first_input (core_in code) s.heap (contents s.queues (channel + 1)) reader (store.blocks (channel + 1)) (store.waiting channel) first in
+              let f = first_input (core_in code) s.desk.heap (contents s.queues (channel + 1)) reader (store.blocks (channel + 1)) (store.waiting channel) first in
               let both : (suc reader ∷ f.held) ∷ f.rest ≡ x.waiting ∷ x.others = sym f.is ∙ waits_there (core_in code) s (acting_words (core_in code) s) channel v at out x in
               let words : x.waiting ≡ suc reader ∷ f.held = cc in
               let i = served.1 in
@@ -325,7 +326,7 @@ same_part false v w p q l m e = cc
 -- what waits first is a message
 pub message_length : (core : Process) (s : Store) (acting : List ℕ) → IsStore core s → (x : ReceivesPlainly core s acting) → length (zero ∷ x.held) ≡ 8
 message_length core s acting store x =
-    let f = first_message core s.heap (contents s.queues (x.channel + 1)) (store.blocks (x.channel + 1)) (ap oldest x.waits) in
+    let f = first_message core s.desk.heap (contents s.queues (x.channel + 1)) (store.blocks (x.channel + 1)) (ap oldest x.waits) in
     let both : (zero ∷ x.held) ∷ x.others ≡ kept_words f.kept ∷ f.rest = sym x.waits ∙ f.is in
     let words : zero ∷ x.held ≡ kept_words f.kept = cc in
     ap length words

@@ -6,8 +6,8 @@ use Rattle.pict_code.specs.Plain.{plain_node}
 use Rattle.pict_code.specs.declared.instruction.Node.{Node}
 use Rattle.pict_meetings.specs.Serving.{IsInputWith}
 use Rattle.pict_meetings.proofs.Inputs.{has_part, part_inside}
-use Rattle.pict_turns.specs.Acting.{core_in, IsCode}
-use Rattle.pict_turns.proofs.Numbered.{in_code}
+use Rattle.pict_desk.specs.Code.{core_in, IsCode}
+use Rattle.pict_desk.proofs.Numbered.{in_code}
 
 pub part_low : (code : List Node) → IsCode (map plain_node code) → (number : ℕ) (replicated : Bool) (pattern : CodePat) (part : ℕ) → IsInputWith (map plain_node code) number replicated pattern part → part < length code
 part_low code is number replicated pattern part i =

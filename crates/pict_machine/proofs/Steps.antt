@@ -7,26 +7,26 @@ use Rattle.pict_code.specs.Plain.{plain_code}
 use Rattle.pict_queue.specs.QueuesState.{IsHeld}
 use Rattle.pict_queue.specs.Contents.{contents, KeepsOtherContents, HoldsNoMore}
 use Rattle.pict_heap.specs.HeapState.{HeapState, KeepsWords}
-use Rattle.pict_view.specs.View.{View, StandsFor}
-use Rattle.pict_view.specs.Held.{IsHeldBy}
+use Rattle.pict_view.specs.View.{View, StandsFor, KeepsApart}
 use Rattle.pict_view.specs.Right.{IsRightFor}
 use Rattle.pict_view.specs.Stepping.{IsStepOf}
-use Rattle.pict_turns.specs.Acting.{IsStore, HasActing, IsRefused, KeepsHeap}
+use Rattle.pict_turns.specs.Acting.{IsStore, HasActing, IsRefused}
+use Rattle.pict_desk.specs.Room.{KeepsHeap}
 use Rattle.pict_turns.specs.Turns.{TakesTurn}
 use Rattle.pict_turns.specs.Views.{ready_words}
 use Rattle.pict_turns.specs.declared.store.Store.{Store}
 use Rattle.pict_turns.specs.declared.turn.Turn.TheVariants.{Nobody}
-use Rattle.pict_turns.proofs.Room.{keeps_words}
+use Rattle.pict_desk.proofs.MakingRoom.{keeps_words}
 use Rattle.pict_turns.proofs.Turns.{words_nobody, view_nobody}
-use Rattle.pict_machine.specs.Constants.{AreConstants}
+use Rattle.pict_desk.specs.Constants.{AreConstants}
 use Rattle.pict_machine.specs.Packed.{label_packed, trap_packed, IsPackedOf}
 use Rattle.pict_machine.specs.Machine.{core_in, view_of, running_view, heap_of, channels_of, IsMachine, IsRunning, IsUnchanged}
 use Rattle.pict_machine.specs.Stepping.{GivesTurn, Acts, IsStepBy}
 use Rattle.pict_machine.specs.declared.machine.Machine.{Machine}
 use Rattle.pict_machine.specs.declared.event.PackedEvent.{PackedEvent}
 use Rattle.pict_machine.specs.declared.event.PackedEvent.TheVariants as packed
-use Rattle.pict_machine.proofs.MadeOnce.{constants_keep}
-use Rattle.pict_machine.proofs.Taking.{refused_contents, refused_view, step_of, held_of, rested_view}
+use Rattle.pict_machine.proofs.Taking.{refused_contents, refused_view, step_of, apart_after, rested_view}
+use Rattle.pict_desk.proofs.MadeOnce.{constants_keep}
 
 -- ---- between two calls
 
@@ -34,13 +34,9 @@ module _ (m : Machine) (kept : IsMachine m) where
   pub idle_view : running_view m ≡ view_of m
   idle_view = view_nobody (core_in m) m.store (words_nobody (core_in m) m.store kept.idle)
 
-  -- at each channel messages wait, or readers, and never both
-  pub idle_held : IsHeldBy (view_of m)
-  idle_held = subst IsHeldBy idle_view kept.running.held
-
 -- ---- the turn is set down
 
-module _ (m : Machine) (kept : IsRunning m) (new : Store) (heap : new.heap ≡ m.store.heap) (ready : contents new.queues 0 ≡ ready_words (core_in m) m.store)
+module _ (m : Machine) (kept : IsRunning m) (new : Store) (heap : new.desk.heap ≡ m.store.desk.heap) (ready : contents new.queues 0 ≡ ready_words (core_in m) m.store)
     (others : KeepsOtherContents m.store.queues new.queues 0) (count : length new.queues.queues ≡ length m.store.queues.queues) where
   abbrev rested : Machine
   rested = record m { store = new }
@@ -53,7 +49,7 @@ module _ (m : Machine) (kept : IsRunning m) (new : Store) (heap : new.heap ≡ m
     running = record {
       code = kept.code;
       store = store;
-      held = subst IsHeldBy (sym (view_nobody (core_in m) new (words_nobody (core_in m) new idle) ∙ view_rested)) kept.held;
+      apart = subst KeepsApart (sym (view_nobody (core_in m) new (words_nobody (core_in m) new idle) ∙ view_rested)) kept.apart;
       none_held = λ block held. kept.none_held block (no_more block held);
       constants = subst (λ (h : HeapState). AreConstants h (plain_code m.code) m.constants.items) (sym heap) kept.constants;
     };
@@ -70,25 +66,25 @@ module _ (old : Machine) (taken new : Store) (given : GivesTurn (core_in old) ol
   none_held no_more block held = kept.none_held block (given.no_more block (no_more block held))
 
   -- what was made once is there still
-  still_constant : KeepsWords (heap_of old) new.heap → AreConstants new.heap (plain_code old.code) old.constants.items
-  still_constant keeps = constants_keep (heap_of old) new.heap keeps (plain_code old.code) old.constants.items kept.constants
+  still_constant : KeepsWords (heap_of old) new.desk.heap → AreConstants new.desk.heap (plain_code old.code) old.constants.items
+  still_constant keeps = constants_keep (heap_of old) new.desk.heap keeps (plain_code old.code) old.constants.items kept.constants
 
-  from_old : KeepsWords taken.heap new.heap → KeepsWords (heap_of old) new.heap
-  from_old = subst (λ (h : HeapState). KeepsWords h new.heap) given.heap
+  from_old : KeepsWords taken.desk.heap new.desk.heap → KeepsWords (heap_of old) new.desk.heap
+  from_old = subst (λ (h : HeapState). KeepsWords h new.desk.heap) given.heap
 
   -- ---- a refused step
 
   still_view : IsRefused (core_in old) taken new → running_view after ≡ running_view old
   still_view = refused_view (core_in old) old.store taken given new
 
-  refused_keeps : IsRefused (core_in old) taken new → KeepsWords (heap_of old) new.heap
-  refused_keeps r = from_old (keeps_words taken.heap new.heap r.heap)
+  refused_keeps : IsRefused (core_in old) taken new → KeepsWords (heap_of old) new.desk.heap
+  refused_keeps r = from_old (keeps_words taken.desk.heap new.desk.heap r.heap)
 
   still_kept : IsRefused (core_in old) taken new → IsRunning after
   still_kept r = record {
     code = kept.code;
     store = r.store;
-    held = subst IsHeldBy (sym (still_view r)) kept.held;
+    apart = subst KeepsApart (sym (still_view r)) kept.apart;
     none_held = none_held r.no_more;
     constants = still_constant (refused_keeps r);
   }
@@ -98,7 +94,7 @@ module _ (old : Machine) (taken new : Store) (given : GivesTurn (core_in old) ol
 
   -- ---- a step that is done
 
-  done_keeps : (e : PackedEvent) → Acts (core_in old) taken new e → KeepsWords (heap_of old) new.heap
+  done_keeps : (e : PackedEvent) → Acts (core_in old) taken new e → KeepsWords (heap_of old) new.desk.heap
   done_keeps packed.Quiet a = from_old a.done.keeps
   done_keeps (packed.Comm channel word) a = from_old a.done.keeps
   done_keeps (packed.Print word) a = from_old a.done.keeps
@@ -109,7 +105,7 @@ module _ (old : Machine) (taken new : Store) (given : GivesTurn (core_in old) ol
     machine_by e store no_more a = record {
       code = kept.code;
       store = store;
-      held = held_of (core_in old) old.store taken given new kept.held right.configuration right.is right.stands e a;
+      apart = apart_after (core_in old) old.store taken given new kept.apart right.configuration right.is right.stands e a;
       none_held = none_held no_more;
       constants = still_constant (done_keeps e a);
     }
@@ -133,7 +129,7 @@ module _ (old : Machine) (taken new : Store) (given : GivesTurn (core_in old) ol
   done_few (packed.Print word) a = grown a.done.queues
   done_few (packed.Trapped at) a = still_few a.1
 
-  done_event : (e : PackedEvent) → Acts (core_in old) taken new e → IsPackedOf new.heap e
+  done_event : (e : PackedEvent) → Acts (core_in old) taken new e → IsPackedOf new.desk.heap e
   done_event packed.Quiet a = tt
   done_event (packed.Comm channel word) a = a.event
   done_event (packed.Print word) a = a.event
@@ -142,11 +138,11 @@ module _ (old : Machine) (taken new : Store) (given : GivesTurn (core_in old) ol
   -- ---- both
 
   pub step_ok : (r : Result PackedEvent AllocError) → IsStepBy (core_in old) taken new r
-      → IfOk r (λ e. (C : Configuration) → IsConfiguration C → StandsFor (running_view old) C → IsStepOf C (label_packed new.heap e) (trap_packed e) (running_view after))
-  step_ok (Ok e) a = λ C is stands. step_of (core_in old) old.store taken given new kept.held C is stands e a
+      → IfOk r (λ e. (C : Configuration) → IsConfiguration C → StandsFor (running_view old) C → IsStepOf C (label_packed new.desk.heap e) (trap_packed e) (running_view after))
+  step_ok (Ok e) a = λ C is stands. step_of (core_in old) old.store taken given new kept.apart C is stands e a
   step_ok (Err e) a = tt
 
-  pub step_event : (r : Result PackedEvent AllocError) → IsStepBy (core_in old) taken new r → IfOk r (IsPackedOf new.heap)
+  pub step_event : (r : Result PackedEvent AllocError) → IsStepBy (core_in old) taken new r → IfOk r (IsPackedOf new.desk.heap)
   step_event (Ok e) a = done_event e a
   step_event (Err e) a = tt
 
@@ -154,7 +150,7 @@ module _ (old : Machine) (taken new : Store) (given : GivesTurn (core_in old) ol
   step_refused (Ok e) b = tt
   step_refused (Err e) b = still_view b
 
-  pub step_keeps : (r : Result PackedEvent AllocError) → IsStepBy (core_in old) taken new r → KeepsWords (heap_of old) new.heap
+  pub step_keeps : (r : Result PackedEvent AllocError) → IsStepBy (core_in old) taken new r → KeepsWords (heap_of old) new.desk.heap
   step_keeps (Ok e) a = done_keeps e a
   step_keeps (Err e) b = refused_keeps b
 
@@ -166,7 +162,7 @@ module _ (old : Machine) (taken new : Store) (given : GivesTurn (core_in old) ol
 
 -- the turn is taken, who has it acts, and the turn is set down
 module _ (old : Machine) (kept : IsMachine old) (taken acted new : Store) (acting : HasActing (core_in old) taken) (t : TakesTurn (core_in old) old.store taken)
-    (given : GivesTurn (core_in old) old.store taken) (heap : new.heap ≡ acted.heap) (ready : contents new.queues 0 ≡ ready_words (core_in old) acted)
+    (given : GivesTurn (core_in old) old.store taken) (heap : new.desk.heap ≡ acted.desk.heap) (ready : contents new.queues 0 ≡ ready_words (core_in old) acted)
     (others : KeepsOtherContents acted.queues new.queues 0) (count : length new.queues.queues ≡ length acted.queues.queues) where
   abbrev last : Machine
   last = record old { store = new }
@@ -180,19 +176,19 @@ module _ (old : Machine) (kept : IsMachine old) (taken acted new : Store) (actin
     constants = refl;
     queues = count ∙ r.queues ∙ t.queues;
     contents = refused_contents (core_in old) old.store taken acted new acting t r ready others;
-    heap = subst (λ (h : HeapState). KeepsHeap (heap_of old) h) (sym heap) (subst (λ (h : HeapState). KeepsHeap h acted.heap) t.heap r.heap);
+    heap = subst (λ (h : HeapState). KeepsHeap (heap_of old) h) (sym heap) (subst (λ (h : HeapState). KeepsHeap h acted.desk.heap) t.heap r.heap);
     view = last_view ∙ still_view old taken acted given kept.running r ∙ idle_view old kept;
   }
 
   pub whole_ok : (r : Result PackedEvent AllocError) → IsStepBy (core_in old) taken acted r
-      → IfOk r (λ e. (C : Configuration) → IsConfiguration C → StandsFor (view_of old) C → IsStepOf C (label_packed new.heap e) (trap_packed e) (view_of last))
+      → IfOk r (λ e. (C : Configuration) → IsConfiguration C → StandsFor (view_of old) C → IsStepOf C (label_packed new.desk.heap e) (trap_packed e) (view_of last))
   whole_ok r s =
       subst (λ (h : HeapState). IfOk r (λ e. (C : Configuration) → IsConfiguration C → StandsFor (view_of old) C → IsStepOf C (label_packed h e) (trap_packed e) (view_of last))) (sym heap)
-      (subst (λ (v : View). IfOk r (λ e. (C : Configuration) → IsConfiguration C → StandsFor (view_of old) C → IsStepOf C (label_packed acted.heap e) (trap_packed e) v)) (sym last_view)
-      (subst (λ (v : View). IfOk r (λ e. (C : Configuration) → IsConfiguration C → StandsFor v C → IsStepOf C (label_packed acted.heap e) (trap_packed e) (running_view (record old { store = acted })))) (idle_view old kept)
+      (subst (λ (v : View). IfOk r (λ e. (C : Configuration) → IsConfiguration C → StandsFor (view_of old) C → IsStepOf C (label_packed acted.desk.heap e) (trap_packed e) v)) (sym last_view)
+      (subst (λ (v : View). IfOk r (λ e. (C : Configuration) → IsConfiguration C → StandsFor v C → IsStepOf C (label_packed acted.desk.heap e) (trap_packed e) (running_view (record old { store = acted })))) (idle_view old kept)
       (step_ok old taken acted given kept.running r s)))
 
-  pub whole_event : (r : Result PackedEvent AllocError) → IsStepBy (core_in old) taken acted r → IfOk r (IsPackedOf new.heap)
+  pub whole_event : (r : Result PackedEvent AllocError) → IsStepBy (core_in old) taken acted r → IfOk r (IsPackedOf new.desk.heap)
   whole_event r s = subst (λ (h : HeapState). IfOk r (IsPackedOf h)) (sym heap) (step_event old taken acted given kept.running r s)
 
   pub whole_trapped : (r : Result PackedEvent AllocError) → IsStepBy (core_in old) taken acted r → (at : Span) → r ≡ Ok (packed.Trapped at) → IsUnchanged old last
@@ -202,7 +198,7 @@ module _ (old : Machine) (kept : IsMachine old) (taken acted new : Store) (actin
   whole_refused (Ok e) b = tt
   whole_refused (Err e) b = unchanged b
 
-  pub whole_keeps : (r : Result PackedEvent AllocError) → IsStepBy (core_in old) taken acted r → KeepsWords (heap_of old) new.heap
+  pub whole_keeps : (r : Result PackedEvent AllocError) → IsStepBy (core_in old) taken acted r → KeepsWords (heap_of old) new.desk.heap
   whole_keeps r s = subst (λ (h : HeapState). KeepsWords (heap_of old) h) (sym heap) (step_keeps old taken acted given kept.running r s)
 
   pub whole_few : (r : Result PackedEvent AllocError) → IsStepBy (core_in old) taken acted r → channels_of last ≤ channels_of old + 1

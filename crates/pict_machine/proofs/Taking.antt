@@ -15,25 +15,24 @@ use Rattle.pict_region.specs.RegionState.{spare}
 use Rattle.pict_queue.specs.QueuesState.{IsQueue, CostsAtMost}
 use Rattle.pict_queue.specs.Contents.{contents, KeepsAllContents, KeepsOtherContents}
 use Rattle.pict_heap.specs.HeapState.{HeapState}
-use Rattle.pict_blocks.specs.Blocks.{value_in, process_of, view_of_contents}
-use Rattle.pict_view.specs.View.{View, StandsFor}
+use Rattle.pict_blocks.specs.Blocks.{process_of, view_of_contents}
+use Rattle.pict_view.specs.View.{View, StandsFor, KeepsApart}
+use Rattle.pict_desk.specs.Known.{value_in}
 use Rattle.pict_view.specs.Moved.{Moves, Stops}
-use Rattle.pict_view.specs.ViewStep.{next_view}
-use Rattle.pict_view.specs.Held.{IsHeldBy}
+use Rattle.pict_view.specs.Placed.{next_view}
 use Rattle.pict_view.specs.Laws.{Simulates}
 use Rattle.pict_view.specs.Right.{IsRightFor}
 use Rattle.pict_view.specs.Stepping.{IsStepOf}
-use Rattle.pict_view.proofs.AnyMachine.{views_do}
-use Rattle.pict_view.proofs.Simulated.{ready_is}
-use Rattle.pict_turns.specs.Acting.{core_in, IsCode, IsStore, HasActing, ActsBy, IsDone, IsRefused, IsRight}
-use Rattle.pict_turns.specs.Parts.{block_width}
-use Rattle.pict_turns.specs.Reading.{HasFrame}
+use Rattle.pict_view.proofs.AtPlaces.{views_step}
+use Rattle.pict_turns.specs.Acting.{IsStore, HasActing, ActsBy, IsDone, IsRefused, IsRight}
+use Rattle.pict_desk.specs.Code.{core_in, IsCode, HasFrame}
+use Rattle.pict_blocks.specs.Parts.{block_width}
 use Rattle.pict_turns.specs.Turns.{TakesTurn, turn_cost}
 use Rattle.pict_turns.specs.Widths.{how_many}
 use Rattle.pict_turns.specs.Views.{view_of, view_with_turn, channel_lists, turn_words, acting_words, ready_words}
 use Rattle.pict_turns.specs.declared.store.Store.{Store}
 use Rattle.pict_turns.specs.declared.turn.Turn.TheVariants as turn
-use Rattle.pict_turns.proofs.Room.{value_kept}
+use Rattle.pict_desk.proofs.MakingRoom.{value_kept}
 use Rattle.pict_turns.proofs.Rows.{channels_stay}
 use Rattle.pict_turns.proofs.Taking.{some_acts}
 use Rattle.pict_turns.proofs.Turns.{words_nobody, ready_nobody, ready_is as words_ready, view_nobody, view_is, same_words, acts_node, acts_wide, node_inside, wide_inside, node_width, wide_width}
@@ -105,8 +104,8 @@ module _ (core : Process) (s taken : Store) (idle : s.turn ≡ turn.Nobody) (act
 given_view : (core : Process) (s taken : Store) → GivesTurn core s taken → view_with_turn core taken ≡ view_with_turn core s
 given_view core s taken g =
     ap (λ (h : HeapState). view_of_contents core (value_in h) (ready_words core taken) (channel_lists taken.queues)) g.heap
-    ∙ ap (λ (ready : List (List ℕ)). view_of_contents core (value_in s.heap) ready (channel_lists taken.queues)) g.ready
-    ∙ ap (view_of_contents core (value_in s.heap) (ready_words core s)) (channels_stay s.queues taken.queues g.others g.queues)
+    ∙ ap (λ (ready : List (List ℕ)). view_of_contents core (value_in s.desk.heap) ready (channel_lists taken.queues)) g.ready
+    ∙ ap (view_of_contents core (value_in s.desk.heap) (ready_words core s)) (channels_stay s.queues taken.queues g.others g.queues)
 
 -- the node that has the turn
 module _ (core : Process) (s : Store) (acting : HasActing core s) (number : ℕ) where
@@ -127,11 +126,11 @@ module _ (core : Process) (s : Store) (acting : HasActing core s) (number : ℕ)
 -- somebody is ready: where nobody has the turn, queue 0 has a block
 pub some_ready : (core : Process) (s : Store) → s.turn ≡ turn.Nobody → (view_with_turn core s).ready ≢ [] → contents s.queues 0 ≢ []
 some_ready core s idle ready none =
-    ready (ap (λ (v : View). v.ready) (view_nobody core s (words_nobody core s idle)) ∙ ap (map (process_of core (value_in s.heap))) none)
+    ready (ap (λ (v : View). v.ready) (view_nobody core s (words_nobody core s idle)) ∙ ap (map (process_of core (value_in s.desk.heap))) none)
 
 pub acting_ready : (core : Process) (s : Store) → HasActing core s → (view_with_turn core s).ready ≢ []
 acting_ready core s a none =
-    let e : process_of core (value_in s.heap) (acting_words core s) ∷ map (process_of core (value_in s.heap)) (contents s.queues 0) ≡ [] =
+    let e : process_of core (value_in s.desk.heap) (acting_words core s) ∷ map (process_of core (value_in s.desk.heap)) (contents s.queues 0) ≡ [] =
     sym (ap (λ (v : View). v.ready) (view_is core s (acting_words core s) a.has)) ∙ none in
     cc
 
@@ -139,10 +138,10 @@ acting_ready core s a none =
 
 module _ (core : Process) (s taken : Store) (given : GivesTurn core s taken) where
   -- a step that some configuration takes rightly is right
-  pub right_taken : IsHeldBy (view_with_turn core s) → IsRightFor (view_with_turn core s) 1 → IsRight core taken
+  pub right_taken : KeepsApart (view_with_turn core s) → IsRightFor (view_with_turn core s) 1 → IsRight core taken
   right_taken held right wrong =
       right.right 0 [] right.configuration (omega arith) (refl, refl)
-      (subst (Simulates (view_with_turn core s) right.configuration) (ap next_view (sym (given_view core s taken given)) ∙ wrong) (views_do (view_with_turn core s) right.configuration held right.is right.stands))
+      (subst (Simulates (view_with_turn core s) (next right.configuration)) (ap next_view (sym (given_view core s taken given)) ∙ wrong) (views_step (view_with_turn core s) right.configuration held right.is right.stands))
 
   module _ (new : Store) where
     -- ---- a refused step
@@ -150,41 +149,35 @@ module _ (core : Process) (s taken : Store) (given : GivesTurn core s taken) whe
     -- the store stands for the same still
     pub refused_view : IsRefused core taken new → view_with_turn core new ≡ view_with_turn core s
     refused_view r =
-        ap (λ (value : ℕ → ℕ → Val). view_of_contents core value (ready_words core new) (channel_lists new.queues)) (value_kept taken.heap new.heap r.heap)
-        ∙ ap (λ (words : List (List ℕ)). view_of_contents core (value_in taken.heap) (words ++ contents new.queues 0) (channel_lists new.queues)) (same_words core taken new r.turn r.values)
-        ∙ ap (λ (rest : List (List ℕ)). view_of_contents core (value_in taken.heap) (turn_words core taken ++ rest) (channel_lists new.queues)) (r.contents 0)
-        ∙ ap (view_of_contents core (value_in taken.heap) (ready_words core taken)) (channels_stay taken.queues new.queues (λ queue apart. r.contents queue) r.queues)
+        ap (λ (value : ℕ → ℕ → Val). view_of_contents core value (ready_words core new) (channel_lists new.queues)) (value_kept taken.desk.heap new.desk.heap r.heap)
+        ∙ ap (λ (words : List (List ℕ)). view_of_contents core (value_in taken.desk.heap) (words ++ contents new.queues 0) (channel_lists new.queues)) (same_words core taken new r.turn r.values)
+        ∙ ap (λ (rest : List (List ℕ)). view_of_contents core (value_in taken.desk.heap) (turn_words core taken ++ rest) (channel_lists new.queues)) (r.contents 0)
+        ∙ ap (view_of_contents core (value_in taken.desk.heap) (ready_words core taken)) (channels_stay taken.queues new.queues (λ queue apart. r.contents queue) r.queues)
         ∙ given_view core s taken given
 
     -- ---- a step that is done
 
-    module _ (held : IsHeldBy (view_with_turn core s)) (C : Configuration) (is : IsConfiguration C) (stands : StandsFor (view_with_turn core s) C) where
-      moved : (label : Label) → IsDone core taken new label → Simulates (view_with_turn core s) C (Moves (view_with_turn core new) label)
-      moved label d = subst (Simulates (view_with_turn core s) C) (ap next_view (sym (given_view core s taken given)) ∙ d.moves) (views_do (view_with_turn core s) C held is stands)
+    module _ (held : KeepsApart (view_with_turn core s)) (C : Configuration) (is : IsConfiguration C) (stands : StandsFor (view_with_turn core s) C) where
+      moved : (label : Label) → IsDone core taken new label → Simulates (view_with_turn core s) (next C) (Moves (view_with_turn core new) label)
+      moved label d = subst (Simulates (view_with_turn core s) (next C)) (ap next_view (sym (given_view core s taken given)) ∙ d.moves) (views_step (view_with_turn core s) C held is stands)
 
       stopped : (at : Span) → next_view (view_with_turn core taken) ≡ Stops at → next C ≡ Traps at
-      stopped at e = subst (Simulates (view_with_turn core s) C) (ap next_view (sym (given_view core s taken given)) ∙ e) (views_do (view_with_turn core s) C held is stands)
+      stopped at e = subst (Simulates (view_with_turn core s) (next C)) (ap next_view (sym (given_view core s taken given)) ∙ e) (views_step (view_with_turn core s) C held is stands)
 
-      pub step_of : (e : PackedEvent) → Acts core taken new e → IsStepOf C (label_packed new.heap e) (trap_packed e) (view_with_turn core new)
+      pub step_of : (e : PackedEvent) → Acts core taken new e → IsStepOf C (label_packed new.desk.heap e) (trap_packed e) (view_with_turn core new)
       step_of packed.Quiet a = (moved _ a.done).0
       step_of (packed.Comm channel word) a = (moved _ a.done).0
       step_of (packed.Print word) a = (moved _ a.done).0
       step_of (packed.Trapped at) a = (stopped at a.0, subst (λ v. StandsFor v C) (sym (refused_view a.1)) stands)
 
-      pub held_of : (e : PackedEvent) → Acts core taken new e → IsHeldBy (view_with_turn core new)
-      held_of packed.Quiet a = (moved _ a.done).1
-      held_of (packed.Comm channel word) a = (moved _ a.done).1
-      held_of (packed.Print word) a = (moved _ a.done).1
-      held_of (packed.Trapped at) a = subst IsHeldBy (sym (refused_view a.1)) held
-
--- ---- whether something is ready
-
-pub ready_of : (v : View) → IsHeldBy v → (b : Bool) → IsTrue b ↔ (v.ready ≢ []) → (C : Configuration) → IsConfiguration C → StandsFor v C → IsTrue b ↔ (next C ≢ Finished)
-ready_of v by b r C is stands =
-    ready_is by.held b (subst (λ (u : View). IsTrue b ↔ (u.ready ≢ [])) (sym by.is) r) C is (subst (λ u. StandsFor u C) (sym by.is) stands)
+      pub apart_after : (e : PackedEvent) → Acts core taken new e → KeepsApart (view_with_turn core new)
+      apart_after packed.Quiet a = (moved _ a.done).1
+      apart_after (packed.Comm channel word) a = (moved _ a.done).1
+      apart_after (packed.Print word) a = (moved _ a.done).1
+      apart_after (packed.Trapped at) a = subst KeepsApart (sym (refused_view a.1)) held
 
 -- who has the turn may act
-pub may_act : (code : List Node) (s taken : Store) → GivesTurn (core_in code) s taken → IsCode (map plain_node code) → IsQueue s.queues 0 → IsHeldBy (view_with_turn (core_in code) s)
+pub may_act : (code : List Node) (s taken : Store) → GivesTurn (core_in code) s taken → IsCode (map plain_node code) → IsQueue s.queues 0 → KeepsApart (view_with_turn (core_in code) s)
     → length s.queues.queues - 1 + 1 < 2 ^ 32 → IsRightFor (view_with_turn (core_in code) s) 1 → MayAct code taken
 may_act code s taken given is there by few right = record {
   code_is = is;
@@ -205,9 +198,9 @@ refused_contents core s taken acted new acting t r ready others queue = ⊎_elim
     (cases_eq queue 0)
 
 -- who had the turn is the first of queue 0
-pub rested_view : (core : Process) (s new : Store) → new.heap ≡ s.heap → contents new.queues 0 ≡ ready_words core s → KeepsOtherContents s.queues new.queues 0
+pub rested_view : (core : Process) (s new : Store) → new.desk.heap ≡ s.desk.heap → contents new.queues 0 ≡ ready_words core s → KeepsOtherContents s.queues new.queues 0
     → length new.queues.queues ≡ length s.queues.queues → view_of core new ≡ view_with_turn core s
 rested_view core s new heap ready others count =
     ap (λ (h : HeapState). view_of_contents core (value_in h) (contents new.queues 0) (channel_lists new.queues)) heap
-    ∙ ap (λ (words : List (List ℕ)). view_of_contents core (value_in s.heap) words (channel_lists new.queues)) ready
-    ∙ ap (view_of_contents core (value_in s.heap) (ready_words core s)) (channels_stay s.queues new.queues others count)
+    ∙ ap (λ (words : List (List ℕ)). view_of_contents core (value_in s.desk.heap) words (channel_lists new.queues)) ready
+    ∙ ap (view_of_contents core (value_in s.desk.heap) (ready_words core s)) (channels_stay s.queues new.queues others count)

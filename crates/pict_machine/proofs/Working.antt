@@ -6,15 +6,15 @@ use Rattle.pict_syntax.specs.declared.span.Span.{Span}
 use Rattle.pict_core.specs.Term as term
 use Rattle.pict_core.specs.Term.{Val, Process, Chan}
 use Rattle.pict_code.specs.Instruction as op
-use Rattle.pict_code.specs.Instruction.{Op, CodePat}
-use Rattle.pict_code.specs.Instruction.{Node as AnyNode}
+use Rattle.pict_code.specs.Instruction.{Op, CodePat, Node as AnyNode}
 use Rattle.pict_code.specs.Nodes.{nodes_of, input_op}
 use Rattle.pict_code.specs.Plain.{plain_node}
 use Rattle.pict_code.specs.declared.instruction.Node.{Node}
 use Rattle.pict_queue.specs.QueuesState.{QueuesState, CostsAtMost}
 use Rattle.pict_queue.specs.Contents.{contents}
 use Rattle.pict_heap.specs.HeapState.{HeapState}
-use Rattle.pict_blocks.specs.Blocks.{value_in, process_of}
+use Rattle.pict_blocks.specs.Blocks.{process_of}
+use Rattle.pict_desk.specs.Known.{value_in}
 use Rattle.pict_meetings.specs.Serving.{IsInputWith}
 use Rattle.pict_meetings.specs.Waiting.{waits_first}
 use Rattle.pict_meetings.specs.declared.waiting.Waiting.TheVariants.{Input}
@@ -22,16 +22,17 @@ use Rattle.pict_meetings.proofs.Firsts.{first_input, node_of}
 use Rattle.pict_meetings.proofs.Inputs.{has_part, part_inside}
 use Rattle.pict_meetings.proofs.Ops.{input_waits_first}
 use Rattle.pict_meetings.proofs.Wide.{node_wide}
-use Rattle.pict_turns.specs.Acting.{core_in, IsCode, IsStore, HasActing, ActsBy, IsRefused}
+use Rattle.pict_turns.specs.Acting.{IsStore, HasActing, ActsBy, IsRefused}
+use Rattle.pict_desk.specs.Code.{core_in, IsCode, HasFrame}
 use Rattle.pict_turns.specs.Cost.{block_size, partner_size, input_size, output_size, cost_of, first_cost, step_cost}
-use Rattle.pict_turns.specs.Parts.{block_width}
-use Rattle.pict_turns.specs.Reading.{HasFrame}
+use Rattle.pict_blocks.specs.Parts.{block_width}
 use Rattle.pict_turns.specs.Reserving.{OnlyReserves}
 use Rattle.pict_turns.specs.Turns.{handing, turn_cost}
 use Rattle.pict_turns.specs.Views.{acting_words, ready_words, IsBlock, IsKept}
 use Rattle.pict_turns.specs.declared.store.Store.{Store}
 use Rattle.pict_turns.specs.declared.turn.Turn.TheVariants.{Nobody}
-use Rattle.pict_turns.proofs.Numbered.{in_code, coded_frame, fork_parts, if_parts, new_part}
+use Rattle.pict_turns.proofs.Numbered.{fork_parts, if_parts, new_part}
+use Rattle.pict_desk.proofs.Numbered.{in_code, coded_frame}
 use Rattle.pict_turns.proofs.Turns.{words_nobody, ready_nobody, ready_is, acting_block, cost_is, cost_nobody, same_words}
 use Rattle.pict_machine.specs.Stepping.{GivesTurn}
 use Rattle.pict_machine.specs.Work.{Fits}
@@ -64,10 +65,10 @@ module _ (core : Process) (s : Store) where
   -- a node's block would be as wide as that of its frame
   pub own_wide : (o : Op) (a : ActsBy core s o) → length (acting_words core s) + 1 ≡ block_width a.node.frame
   own_wide o a =
-      let n = node_of core s.heap a.number a.is.frame (acting_words core s) a.is.words_are (subst (IsBlock core s.heap) a.is.words_are (acting_block core s a.acting)) in
+      let n = node_of core s.desk.heap a.number a.is.frame (acting_words core s) a.is.words_are (subst (IsBlock core s.desk.heap) a.is.words_are (acting_block core s a.acting)) in
       let there : Some n.0.node ≡ Some a.node = sym n.0.at ∙ ap (slice_get (nodes_of core)) n.1 ∙ a.is.at in
       let same : n.0.node ≡ a.node = cc in
-      node_wide core s.heap (acting_words core s) n.0 ∙ ap (λ (x : AnyNode). block_width x.frame) same
+      node_wide core s.desk.heap (acting_words core s) n.0 ∙ ap (λ (x : AnyNode). block_width x.frame) same
 
   pub own_cost : (o : Op) (a : ActsBy core s o) → turn_cost core s ≡ block_width a.node.frame + 4
   own_cost o a =
@@ -75,10 +76,10 @@ module _ (core : Process) (s : Store) where
       let w = own_wide o a in
       omega (arith, e, w)
 
-  pub kept_length : IsKept s.heap (acting_words core s) → length (acting_words core s) ≡ 8
+  pub kept_length : IsKept s.desk.heap (acting_words core s) → length (acting_words core s) ≡ 8
   kept_length k = ap length k.is
 
-  pub kept_cost : HasActing core s → IsKept s.heap (acting_words core s) → turn_cost core s ≡ 13
+  pub kept_cost : HasActing core s → IsKept s.desk.heap (acting_words core s) → turn_cost core s ≡ 13
   kept_cost a k =
       let e = cost_is core s (acting_words core s) a.has in
       let n = kept_length k in
@@ -116,7 +117,7 @@ end_works core s new a e =
     let idle = cost_nobody core new (ap (λ (x : Store). x.turn) e) in
     alone_works core s new op.Zero a 0 0 (costs_same s.queues new.queues 0 (ap (λ (x : Store). x.queues.region.work) e)) (omega (arith, idle)) (omega arith)
 
-pub kept_works : (core : Process) (s new : Store) → HasActing core s → IsKept s.heap (acting_words core s) → (k m : ℕ) → CostsAtMost k s.queues new.queues → turn_cost core new ≤ m → m + k ≤ 200 → Fits core s new
+pub kept_works : (core : Process) (s new : Store) → HasActing core s → IsKept s.desk.heap (acting_words core s) → (k m : ℕ) → CostsAtMost k s.queues new.queues → turn_cost core new ≤ m → m + k ≤ 200 → Fits core s new
 kept_works core s new acting kept k m cost turn few =
     let own = kept_cost core s acting kept in
     fits_by core s new k m cost turn (kept_fits core s _ kept.is (turn_cost core s + m + k) (omega (arith, own, few)))
@@ -173,16 +174,16 @@ module _ (code : List Node) (is : IsCode (map plain_node code)) (s new : Store) 
   -- ---- outputs that meet an input
 
   module _ (store : IsStore (core_in code) s) (channel reader : ℕ) (first : waits_first s.queues channel ≡ Input reader) (v : Val) (at : Span)
-      (out : process_of (core_in code) (value_in s.heap) (acting_words (core_in code) s) ≡ term.Out (Chan channel) v at)
+      (out : process_of (core_in code) (value_in s.desk.heap) (acting_words (core_in code) s) ≡ term.Out (Chan channel) v at)
       (turn : (replicated : Bool) (pattern : CodePat) (part : ℕ) (frame : List ℕ) → IsInputWith (map plain_node code) reader replicated pattern part → HasFrame (map plain_node code) part frame
       → turn_cost (core_in code) new ≤ turn_cost (core_in code) s + (block_width frame + 4))
       (cost : (replicated : Bool) (pattern : CodePat) (part : ℕ) (theirs frame : List ℕ) → IsInputWith (map plain_node code) reader replicated pattern part
       → HasFrame (map plain_node code) reader theirs → HasFrame (map plain_node code) part frame → CostsAtMost (block_width theirs + block_width frame + 8) s.queues new.queues) where
-    pub kept_meeting_works : HasActing (core_in code) s → IsKept s.heap (acting_words (core_in code) s) → Fits (core_in code) s new
+    pub kept_meeting_works : HasActing (core_in code) s → IsKept s.desk.heap (acting_words (core_in code) s) → Fits (core_in code) s new
     kept_meeting_works acting kept =
         let core = core_in code in
         let w = input_waits_first code s channel reader is store first in
-        let f = first_input core s.heap (contents s.queues (channel + 1)) reader (store.blocks (channel + 1)) (store.waiting channel) first in
+        let f = first_input core s.desk.heap (contents s.queues (channel + 1)) reader (store.blocks (channel + 1)) (store.waiting channel) first in
         let theirs = w.input.node.frame in
         let theirs_has : HasFrame (map plain_node code) reader theirs = record { node = w.input.node; at = w.input.at; is = refl } in
         let body = frame_there code w.part (part_low code is reader w.replicated w.pattern w.part w.input) in
@@ -197,7 +198,7 @@ module _ (code : List Node) (is : IsCode (map plain_node code)) (s new : Store) 
     meeting_works chan message place a =
         let core = core_in code in
         let w = input_waits_first code s channel reader is store first in
-        let f = first_input core s.heap (contents s.queues (channel + 1)) reader (store.blocks (channel + 1)) (store.waiting channel) first in
+        let f = first_input core s.desk.heap (contents s.queues (channel + 1)) reader (store.blocks (channel + 1)) (store.waiting channel) first in
         let theirs = w.input.node.frame in
         let theirs_has : HasFrame (map plain_node code) reader theirs = record { node = w.input.node; at = w.input.at; is = refl } in
         let body = frame_there code w.part (part_low code is reader w.replicated w.pattern w.part w.input) in
@@ -237,7 +238,7 @@ module _ (core : Process) (s taken acted : Store) (g : GivesTurn core s taken) (
   cost_before : cost_of core taken (acting_words core taken) ≡ first_cost core s (ready_words core s)
   cost_before =
       let words = acting_words core taken in
-      let p = process_of core (value_in s.heap) words in
+      let p = process_of core (value_in s.desk.heap) words in
       let same = partner_stays (nodes_of core) s.queues taken.queues (λ k. g.others (k + 1) (λ e. omega (arith, e))) p in
       ap (λ (h : HeapState). 64 * (block_size (nodes_of core) words + partner_size (nodes_of core) taken.queues (process_of core (value_in h) words))) g.heap
       ∙ ap (λ n. 64 * (block_size (nodes_of core) words + n)) same

@@ -6,13 +6,14 @@ use Rattle.pict_code.specs.ReadBack.{core_of}
 use Rattle.pict_heap.specs.HeapState.{HeapState}
 use Rattle.pict_queue.specs.QueuesState.{QueuesState, IsHeld}
 use Rattle.pict_queue.specs.Contents.{KeepsAllContents}
-use Rattle.pict_view.specs.View.{View}
-use Rattle.pict_view.specs.Held.{IsHeldBy}
-use Rattle.pict_turns.specs.Acting.{IsCode, IsStore, KeepsHeap}
+use Rattle.pict_view.specs.View.{View, KeepsApart}
+use Rattle.pict_turns.specs.Acting.{IsStore}
+use Rattle.pict_desk.specs.Room.{KeepsHeap}
+use Rattle.pict_desk.specs.Code.{IsCode}
 use Rattle.pict_turns.specs.Cost.{step_cost, first_cost}
 use Rattle.pict_turns.specs.Views as store
 use Rattle.pict_turns.specs.declared.turn.Turn.TheVariants.{Nobody}
-use Rattle.pict_machine.specs.Constants.{AreConstants}
+use Rattle.pict_desk.specs.Constants.{AreConstants}
 use Rattle.pict_machine.specs.Needs as needs
 use Rattle.pict_machine.specs.Needs.{needed_widths}
 use Rattle.pict_machine.specs.Plain as plain
@@ -28,7 +29,7 @@ view_of m = store.view_of (core_in m) m.store
 
 -- the texts and records of a machine
 abbrev pub heap_of : Machine → HeapState
-heap_of m = m.store.heap
+heap_of m = m.store.desk.heap
 
 -- its ready processes, and what is parked, as blocks
 abbrev pub queues_of : Machine → QueuesState
@@ -72,7 +73,7 @@ running_view m = store.view_with_turn (core_in m) m.store
 pub record IsRunning (m : Machine) : Type 0 where
   pub code : IsCode (plain_code m.code)
   pub store : IsStore (core_in m) m.store
-  pub held : IsHeldBy (running_view m)
+  pub apart : KeepsApart (running_view m)
   pub none_held : (block : ℕ) → ¬ IsHeld m.store.queues block
   pub constants : AreConstants (heap_of m) (plain_code m.code) m.constants.items
 

@@ -7,7 +7,8 @@ use Rattle.pict_code.specs.Instruction.{Op, Zero, Par, New, Out, In, Serve, If, 
 use Rattle.pict_code.specs.Nodes.{nodes_of}
 use Rattle.pict_queue.specs.QueuesState.{QueuesState}
 use Rattle.pict_queue.specs.Contents.{contents}
-use Rattle.pict_blocks.specs.Blocks.{value_in, process_of}
+use Rattle.pict_blocks.specs.Blocks.{process_of}
+use Rattle.pict_desk.specs.Known.{value_in}
 use Rattle.pict_turns.specs.Views.{turn_words, acting_words, ready_words}
 use Rattle.pict_turns.specs.Widths.{MakesOnly, part_width, answer_widths}
 use Rattle.pict_turns.specs.declared.store.Store.{Store}
@@ -68,7 +69,7 @@ block_widths nodes s (suc number ∷ held) p =
     unwrap_or (option_map (λ (n : Node). node_widths nodes s n.op p) (slice_get nodes number)) []
 
 abbrev pub widths_of : Process → Store → List ℕ → List ℕ
-widths_of core s words = block_widths (nodes_of core) s.queues words (process_of core (value_in s.heap) words)
+widths_of core s words = block_widths (nodes_of core) s.queues words (process_of core (value_in s.desk.heap) words)
 
 -- the step of the first of the ready ones; nothing where none is ready
 abbrev pub first_widths : Process → Store → List (List ℕ) → List ℕ

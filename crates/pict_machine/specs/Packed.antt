@@ -3,9 +3,9 @@ use Rattle.std.specs.Prelude.{Option, Some, None}
 use Rattle.pict_syntax.specs.declared.span.Span.{Span}
 use Rattle.pict_core.specs.Step as step
 use Rattle.pict_core.specs.Step.{printing}
-use Rattle.pict_blocks.specs.Blocks.{value_in}
+use Rattle.pict_desk.specs.Known.{value_in}
 use Rattle.pict_heap.specs.HeapState.{HeapState, value_of}
-use Rattle.pict_operands.specs.Pairs.{IsPair}
+use Rattle.pict_desk.specs.Pairs.{IsPair}
 use Rattle.pict_prim.specs.Acts.{IsPrinted}
 use Rattle.pict_prim.specs.Done.{printed_of}
 use Rattle.pict_machine.specs.declared.event.PackedEvent.{PackedEvent}

@@ -1,6 +1,5 @@
 -- Steps that take no memory: a message and an input that isn't replicated meet.
-use Rattle.std.specs.Prelude.{◌≡◌, ◌≤◌, ◌+◌, ◌⊎◌, ℕ, zero, suc, false, List, [], ◌∷◌, length, slice_get}
-use Rattle.std.specs.Prelude.{Option, Some, None, option_map, Result, IsOk}
+use Rattle.std.specs.Prelude.{◌≡◌, ◌≤◌, ◌+◌, ◌⊎◌, ℕ, zero, suc, false, List, [], ◌∷◌, length, slice_get, Option, Some, None, option_map, Result, IsOk}
 use Rattle.std.specs.declared.alloc.AllocError.{AllocError}
 use Rattle.pict_syntax.specs.declared.limits.TheConstants.{NARROW_LIMIT}
 use Rattle.pict_syntax.specs.declared.span.Span.{Span}
@@ -10,13 +9,14 @@ use Rattle.pict_code.specs.Instruction.{Op, Out, In, Node, CodePat}
 use Rattle.pict_code.specs.Nodes.{nodes_of}
 use Rattle.pict_region.specs.RegionState.{spare, KeepsBlocks}
 use Rattle.pict_queue.specs.Contents.{contents}
-use Rattle.pict_blocks.specs.Blocks.{value_in, process_of}
-use Rattle.pict_operands.specs.AtHand.{IsOfHeap}
-use Rattle.pict_turns.specs.Parts.{block_width}
-use Rattle.pict_turns.specs.Reading.{HasFrame}
+use Rattle.pict_blocks.specs.Blocks.{process_of}
+use Rattle.pict_desk.specs.Known.{value_in}
+use Rattle.pict_desk.specs.AtHand.{IsOfHeap}
+use Rattle.pict_blocks.specs.Parts.{block_width}
+use Rattle.pict_desk.specs.Code.{HasFrame}
 use Rattle.pict_turns.specs.Views.{ready_words}
 use Rattle.pict_turns.specs.declared.store.Store.{Store}
-use Rattle.pict_machine.specs.Constants.{HasNoVariable}
+use Rattle.pict_desk.specs.Constants.{HasNoVariable}
 
 -- the instruction of a block with these words behind its link, if it is one of a node
 abbrev pub instruction_of : List Node → List ℕ → Option Op
@@ -56,7 +56,7 @@ pub record SendsPlainly (core : Process) (s : Store) (acting : List ℕ) : Type 
   pub channel : ℕ
   pub message : Val
   pub at : Span
-  pub out : process_of core (value_in s.heap) acting ≡ term.Out (Chan channel) message at
+  pub out : process_of core (value_in s.desk.heap) acting ≡ term.Out (Chan channel) message at
   pub word : HasWord (nodes_of core) acting
   pub waiting : List ℕ
   pub others : List (List ℕ)
@@ -71,7 +71,7 @@ pub record ReceivesPlainly (core : Process) (s : Store) (acting : List ℕ) : Ty
   pub channel : ℕ
   pub pattern : Pat
   pub body : Process
-  pub receives : process_of core (value_in s.heap) acting ≡ term.In (Chan channel) false pattern body
+  pub receives : process_of core (value_in s.desk.heap) acting ≡ term.In (Chan channel) false pattern body
   pub part : ℕ
   pub input : IsPlainInput (nodes_of core) acting part
   pub held : List ℕ

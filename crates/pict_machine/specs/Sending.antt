@@ -1,21 +1,19 @@
 -- Outputs of nodes, and what calls show.
 use Rattle.std.specs.Prelude.{◌≡◌, ℕ, false, List}
-use Rattle.pict_syntax.specs.declared.primitive.Primitive.{Primitive}
 use Rattle.pict_syntax.specs.declared.span.Span.{Span}
 use Rattle.pict_core.specs.Closed.{IsClosed}
 use Rattle.pict_core.specs.Step.{Comm}
-use Rattle.pict_core.specs.Term.{Process, Val, Chan, PrimitiveVal}
+use Rattle.pict_core.specs.Term.{Process, Val, Chan}
 use Rattle.pict_code.specs.Instruction as op
 use Rattle.pict_code.specs.Instruction.{Node, CodePat}
-use Rattle.pict_blocks.specs.Blocks.{value_in, known, operand_value}
+use Rattle.pict_desk.specs.Known.{value_in, known, operand_value}
 use Rattle.pict_calls.specs.declared.called.Called.{Called}
 use Rattle.pict_calls.specs.declared.called.Called.TheVariants as called
-use Rattle.pict_heap.specs.HeapState.{HeapState}
 use Rattle.pict_meetings.specs.Serving.{IsInputWith}
-use Rattle.pict_operands.specs.Pairs.{IsPair, ArePairs}
+use Rattle.pict_desk.specs.Pairs.{IsPair}
 use Rattle.pict_turns.specs.Acting.{ActsBy, IsDone}
-use Rattle.pict_turns.specs.Parts.{block_width}
-use Rattle.pict_turns.specs.Reading.{HasFrame}
+use Rattle.pict_blocks.specs.Parts.{block_width}
+use Rattle.pict_desk.specs.Code.{HasFrame}
 use Rattle.pict_turns.specs.declared.store.Store.{Store}
 use Rattle.pict_machine.specs.declared.event.PackedEvent.{PackedEvent}
 use Rattle.pict_machine.specs.declared.event.PackedEvent.TheVariants as packed
@@ -25,12 +23,7 @@ pub record SendsOperand (core : Process) (s : Store) (channel : ℕ) (message : 
   pub closed : IsClosed core
   pub chan : Val
   pub acts : ActsBy core s (op.Out chan message at)
-  pub to : operand_value (known s.heap s.values.items) chan ≡ Chan channel
-
--- The operand stands for this primitive. Each variable has the two words of its level among the values.
-pub record StandsForPrimitive (h : HeapState) (values : List (ℕ × ℕ)) (operand : Val) (p : Primitive) : Type 0 where
-  pub pairs : ArePairs h values
-  pub is : operand_value (known h values) operand ≡ PrimitiveVal p
+  pub to : operand_value (known s.desk.heap s.desk.values.items) chan ≡ Chan channel
 
 -- The node with this number is an input that isn't replicated, and its block is as wide as one for the frame.
 pub record EndsAsWide (nodes : List Node) (number : ℕ) (frame : List ℕ) : Type 0 where
@@ -43,8 +36,8 @@ pub record EndsAsWide (nodes : List Node) (number : ℕ) (frame : List ℕ) : Ty
 
 -- The step is done, and what these two words stand for is received on this channel.
 pub record IsReceived (core : Process) (old new : Store) (channel : ℕ) (message : ℕ × ℕ) : Type 0 where
-  pub done : IsDone core old new (Comm channel (value_in new.heap message.0 message.1))
-  pub pair : IsPair new.heap message
+  pub done : IsDone core old new (Comm channel (value_in new.desk.heap message.0 message.1))
+  pub pair : IsPair new.desk.heap message
 
 -- the event of a call of a primitive
 abbrev pub event_called : Called → PackedEvent

@@ -8,8 +8,9 @@ use Rattle.pict_region.specs.RegionState.{spare, KeepsBlocks}
 use Rattle.pict_queue.specs.QueuesState.{CostsAtMost}
 use Rattle.pict_queue.specs.Contents.{KeepsOtherContents, HoldsNoMore}
 use Rattle.pict_view.specs.Moved.{Stops}
-use Rattle.pict_view.specs.ViewStep.{next_view}
-use Rattle.pict_turns.specs.Acting.{core_in, IsCode, HasActing, IsRight, IsDone, IsRefused}
+use Rattle.pict_view.specs.Placed.{next_view}
+use Rattle.pict_turns.specs.Acting.{HasActing, IsRight, IsDone, IsRefused}
+use Rattle.pict_desk.specs.Code.{core_in, IsCode}
 use Rattle.pict_turns.specs.Turns.{turn_cost}
 use Rattle.pict_turns.specs.Views.{ready_words, view_with_turn}
 use Rattle.pict_turns.specs.Widths.{how_many}
@@ -26,7 +27,7 @@ pub record GivesTurn (core : Process) (old new : Store) : Type 0 where
   pub ready : ready_words core new ≡ ready_words core old
   pub others : KeepsOtherContents old.queues new.queues 0
   pub queues : length new.queues.queues ≡ length old.queues.queues
-  pub heap : new.heap ≡ old.heap
+  pub heap : new.desk.heap ≡ old.desk.heap
   pub no_more : HoldsNoMore old.queues new.queues
   pub blocks : KeepsBlocks old.queues.region new.queues.region
   pub freed : (width : ℕ) → spare old.queues.region width + how_many width (turn_widths core new)
@@ -43,8 +44,8 @@ pub record MayAct (code : List Node) (s : Store) : Type 0 where
 
 -- The step is done, and the event has its label, by words of the heap afterwards.
 pub record IsSeen (core : Process) (old new : Store) (e : PackedEvent) : Type 0 where
-  pub done : IsDone core old new (label_packed new.heap e)
-  pub event : IsPackedOf new.heap e
+  pub done : IsDone core old new (label_packed new.desk.heap e)
+  pub event : IsPackedOf new.desk.heap e
 
 -- The step is done and seen, or it divides by zero, and then nothing has changed but room, spare blocks and work.
 abbrev pub Acts : Process → Store → Store → PackedEvent → Type 0

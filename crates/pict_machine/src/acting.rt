@@ -1,9 +1,10 @@
 // The step of who has the turn.
 ghost use Rattle.std.specs.Prelude.{map};
 ghost use Rattle.pict_code.specs.Plain.{plain_op, plain_node};
-ghost use Rattle.pict_turns.specs.Acting.{core_in, ActsBy};
+ghost use Rattle.pict_turns.specs.Acting.{ActsBy};
+ghost use Rattle.pict_desk.specs.Code.{core_in};
 ghost use Rattle.pict_turns.specs.Views.{acting_words};
-ghost use Rattle.pict_machine.specs.Constants.{IsConstantFor, AreConstants};
+ghost use Rattle.pict_desk.specs.Constants.{IsConstantFor, AreConstants};
 ghost use Rattle.pict_machine.specs.Needs.{MakesNeeded};
 ghost use Rattle.pict_machine.specs.Plain.{ActsPlainly, TakesNothing};
 ghost use Rattle.pict_machine.specs.Stepping.{MayAct, IsStepBy};
@@ -25,7 +26,7 @@ pub(crate) fn act(
     store: &mut Store,
 ) -> Result<PackedEvent, AllocError>
     requires may { MayAct code.now store.old }
-    requires constants { AreConstants store.old.heap (map plain_node code.now) constants.now }
+    requires constants { AreConstants store.old.desk.heap (map plain_node code.now) constants.now }
     ensures step { IsStepBy (core_in code.now) store.old store.new result }
     ensures work { Fits (core_in code.now) store.old store.new }
     ensures blocks { MakesNeeded (core_in code.now) store.old store.new }
@@ -49,7 +50,7 @@ fn act_by(
 ) -> Result<PackedEvent, AllocError>
     requires may { MayAct code.now store.old }
     requires acts { ActsBy (core_in code.now) store.old (plain_op op.now) }
-    requires constant { IsConstantFor store.old.heap (plain_op op.now) constant.now }
+    requires constant { IsConstantFor store.old.desk.heap (plain_op op.now) constant.now }
     ensures step { IsStepBy (core_in code.now) store.old store.new result }
     ensures work { Fits (core_in code.now) store.old store.new }
     ensures blocks { MakesNeeded (core_in code.now) store.old store.new }

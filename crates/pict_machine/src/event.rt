@@ -4,8 +4,8 @@ ghost use Rattle.pict_heap.specs.HeapState.{HeapState};
 ghost use Rattle.pict_machine.specs.Events.{label_of, trap_of, IsEventOf};
 ghost use Rattle.pict_machine.specs.Packed.{label_packed, trap_packed, IsPackedOf};
 
+use pict_desk::word_at;
 use pict_heap::Word;
-use pict_operands::word_at;
 use pict_syntax::Span;
 use std::alloc::AllocError;
 use thiserror::Error;

@@ -2,10 +2,8 @@
 #![tactic(auto)]
 
 mod acting;
-mod constants;
 mod event;
 mod laws;
-mod levels;
 mod loading;
 mod machine;
 mod outputs;

@@ -6,16 +6,14 @@ ghost use Rattle.pict_code.specs.Plain.{plain_code};
 ghost use Rattle.pict_code.specs.ReadBack.{core_of};
 ghost use Rattle.pict_queue.specs.QueuesState.{IsQueue};
 ghost use Rattle.pict_view.specs.View.{StandsFor};
-ghost use Rattle.pict_turns.specs.Acting.{IsCode};
+ghost use Rattle.pict_desk.specs.Code.{IsCode};
 ghost use Rattle.pict_machine.specs.Machine.{IsMachine, view_of, heap_of, queues_of, channels_of};
 ghost use Rattle.pict_machine.specs.Opening.{AreOpening};
 
-use crate::constants::make_constants;
-use crate::levels::level_count;
+use pict_blocks::spawn;
 use pict_code::Code;
-use pict_frames::spawn;
+use pict_desk::{Desk, Pending, level_count, make_constants};
 use pict_heap::{Heap, Word};
-use pict_operands::Pending;
 use pict_queue::{QueueId, Queues};
 use pict_turns::{Store, Turn};
 use std::alloc::{AllocError, Global};
@@ -60,17 +58,20 @@ impl Machine {
     {
         let queues = opening_queues(alloc)?;
         let values = vec![in alloc; (0, 0); level_count(&code.nodes)]?;
-        let mut store = Store {
+        let mut desk = Desk {
             heap: Heap::new(alloc),
-            queues,
-            values,
             pending: Pending {
                 words: Vec::new(alloc),
                 labelled: Vec::new(alloc),
             },
+            values,
+        };
+        let constants = make_constants(alloc, &mut desk, &code.nodes)?;
+        let store = Store {
+            desk,
+            queues,
             turn: Turn::Nobody,
         };
-        let constants = make_constants(alloc, &mut store, &code.nodes)?;
         Ok(Machine {
             code,
             constants,
@@ -100,7 +101,7 @@ impl Machine {
     pub fn heap(&self) -> &Heap
         ensures { result.now ≡ heap_of self.now }
     {
-        &self.store.heap
+        &self.store.desk.heap
     }
 
     /// The ready processes in queue 0, and what is parked at each channel in the queue after its number, as blocks. Takes no

@@ -1,27 +1,26 @@
 // The steps of outputs.
 ghost use Rattle.std.specs.Prelude.{◌≡◌, ◌≤◌, ◌+◌, List, length, None, IfOk, IsSome, OnErr, Some};
-ghost use Rattle.pict_syntax.specs.declared.primitive.Primitive.{Primitive};
 ghost use Rattle.pict_core.specs.Closed.{IsOver};
 ghost use Rattle.pict_core.specs.Plain.{plain_val};
 ghost use Rattle.pict_core.specs.Primitives.{Effect, effect_of};
 ghost use Rattle.pict_core.specs.Term.{Process};
 ghost use Rattle.pict_code.specs.Instruction as op;
 ghost use Rattle.pict_code.specs.declared.instruction.Node.{Node as AnyNode};
-ghost use Rattle.pict_heap.specs.HeapState.{HeapState};
-ghost use Rattle.pict_blocks.specs.Blocks.{value_in};
-ghost use Rattle.pict_frames.specs.declared.keeping.Kept.{Kept as AnyKept};
-ghost use Rattle.pict_operands.specs.AtHand.{channel_named};
-ghost use Rattle.pict_operands.specs.Pairs.{ArePairs};
-ghost use Rattle.pict_calls.specs.Arguments.{operand_in};
+ghost use Rattle.pict_desk.specs.Known.{value_in};
+ghost use Rattle.pict_desk.specs.declared.kept.Kept.{Kept as AnyKept};
+ghost use Rattle.pict_desk.specs.AtHand.{channel_named};
+ghost use Rattle.pict_desk.specs.Pairs.{ArePairs};
+ghost use Rattle.pict_desk.specs.Arguments.{operand_in};
 ghost use Rattle.pict_calls.specs.Calling.{CallsOn, IsCalled};
-ghost use Rattle.pict_turns.specs.Acting.{core_in, ActsBy, HasActing, IsRefused};
+ghost use Rattle.pict_turns.specs.Acting.{ActsBy, HasActing, IsRefused};
+ghost use Rattle.pict_desk.specs.Code.{core_in};
 ghost use Rattle.pict_turns.specs.Turns.{turn_cost};
 ghost use Rattle.pict_turns.specs.Widths.{MakesOnly, answer_widths};
 ghost use Rattle.pict_turns.specs.Views.{acting_words};
-ghost use Rattle.pict_machine.specs.Constants.{IsConstant};
+ghost use Rattle.pict_desk.specs.Constants.{IsConstant};
 ghost use Rattle.pict_machine.specs.Needs.{MakesNeeded};
 ghost use Rattle.pict_machine.specs.Plain.{SendsPlainly, TakesNothing};
-ghost use Rattle.pict_machine.specs.Sending.{StandsForPrimitive, event_called};
+ghost use Rattle.pict_machine.specs.Sending.{event_called};
 ghost use Rattle.pict_machine.specs.Stepping.{MayAct, IsStepBy};
 ghost use Rattle.pict_machine.specs.Work.{Fits};
 
@@ -29,10 +28,8 @@ use crate::event::PackedEvent;
 use crate::sending::{send, send_kept};
 use pict_calls::{Called, call, call_operand};
 use pict_code::{Node, Operand};
-use pict_core::CoreVal;
-use pict_frames::Kept;
+use pict_desk::{Kept, channel_at_hand, channel_of, primitive_at_hand, word_at};
 use pict_heap::Word;
-use pict_operands::{channel_at_hand, channel_of, word_at, word_at_hand};
 use pict_syntax::{Prim, Span};
 use pict_turns::{Store, Turn};
 use std::alloc::AllocError;
@@ -54,7 +51,7 @@ fn event_of(called: Called) -> PackedEvent
 fn call_kept(store: &mut Store, kept: Kept) -> Result<PackedEvent, AllocError>
     requires may { (code : List AnyNode) × MayAct code store.old }
     requires kept { store.old.turn ≡ Turn.Output kept }
-    requires elsewhere { channel_named (value_in store.old.heap kept.to.0 kept.to.1) ≡ None }
+    requires elsewhere { channel_named (value_in store.old.desk.heap kept.to.0 kept.to.1) ≡ None }
     ensures step { (code : List AnyNode) → MayAct code store.old → IsStepBy (core_in code) store.old store.new result }
     ensures work { (code : List AnyNode) → MayAct code store.old → Fits (core_in code) store.old store.new }
     ensures blocks { (code : List AnyNode) → MayAct code store.old → MakesNeeded (core_in code) store.old store.new }
@@ -74,7 +71,7 @@ fn call_kept(store: &mut Store, kept: Kept) -> Result<PackedEvent, AllocError>
 fn call_of_turn(store: &mut Store) -> Result<PackedEvent, AllocError>
     requires may { (code : List AnyNode) × MayAct code store.old }
     requires kept { (kept : AnyKept) × (store.old.turn ≡ Turn.Output kept) }
-    requires elsewhere { (kept : AnyKept) → store.old.turn ≡ Turn.Output kept → channel_named (value_in store.old.heap kept.to.0 kept.to.1) ≡ None }
+    requires elsewhere { (kept : AnyKept) → store.old.turn ≡ Turn.Output kept → channel_named (value_in store.old.desk.heap kept.to.0 kept.to.1) ≡ None }
     ensures step { (code : List AnyNode) → MayAct code store.old → IsStepBy (core_in code) store.old store.new result }
     ensures work { (code : List AnyNode) → MayAct code store.old → Fits (core_in code) store.old store.new }
     ensures blocks { (code : List AnyNode) → MayAct code store.old → MakesNeeded (core_in code) store.old store.new }
@@ -106,35 +103,6 @@ pub(crate) fn output_kept(
     }
 }
 
-// The primitive that a variable stands for, which has the two words of its level among `values`.
-#[inline(never)]
-fn primitive_of_variable(operand: &Operand, values: &[(u64, u64)]) -> Prim
-    requires over { IsOver (length values.now) 0 (plain_val operand.now) }
-    requires is { (h : HeapState) × (p : Primitive) × StandsForPrimitive h values.now (plain_val operand.now) p }
-    ensures { (h : HeapState) (p : Primitive) → StandsForPrimitive h values.now (plain_val operand.now) p → result ≡ p }
-{
-    match word_at_hand(operand, values) {
-        Some(word) => match word {
-            Word::Prim(p) => p,
-            _ => unreachable!(),
-        },
-        None => unreachable!(),
-    }
-}
-
-// The primitive that an operand stands for.
-#[inline(always)]
-fn primitive_at_hand(operand: &Operand, values: &[(u64, u64)]) -> Prim
-    requires over { IsOver (length values.now) 0 (plain_val operand.now) }
-    requires is { (h : HeapState) × (p : Primitive) × StandsForPrimitive h values.now (plain_val operand.now) p }
-    ensures { (h : HeapState) (p : Primitive) → StandsForPrimitive h values.now (plain_val operand.now) p → result ≡ p }
-{
-    match operand {
-        CoreVal::Prim(p) => *p,
-        _ => primitive_of_variable(operand, values),
-    }
-}
-
 // The output of an operand to a primitive, as `call_operand` says, or where the operand has a constant as `call` says.
 #[inline(always)]
 fn call_message(
@@ -144,15 +112,15 @@ fn call_message(
     constant: &Option<Word>,
     at: Span,
 ) -> Result<Called, AllocError>
-    requires over { IsOver (length store.old.values.items) 0 (plain_val message.now) }
-    requires pairs { ArePairs store.old.heap store.old.values.items }
-    requires constant { IsConstant store.old.heap (plain_val message.now) constant.now }
-    requires takes { IsSome (effect_of p (operand_in store.old.heap store.old.values.items (plain_val message.now))) }
+    requires over { IsOver (length store.old.desk.values.items) 0 (plain_val message.now) }
+    requires pairs { ArePairs store.old.desk.heap store.old.desk.values.items }
+    requires constant { IsConstant store.old.desk.heap (plain_val message.now) constant.now }
+    requires takes { IsSome (effect_of p (operand_in store.old.desk.heap store.old.desk.values.items (plain_val message.now))) }
     ensures done { (core : Process)
-        → CallsOn core store.old p (operand_in store.old.heap store.old.values.items (plain_val message.now)) at
+        → CallsOn core store.old p (operand_in store.old.desk.heap store.old.desk.values.items (plain_val message.now)) at
         → IfOk result (IsCalled core store.old store.new) }
     ensures refused { (core : Process) → HasActing core store.old → OnErr result (IsRefused core store.old store.new) }
-    ensures blocks { (e : Effect) → effect_of p (operand_in store.old.heap store.old.values.items (plain_val message.now)) ≡ Some e
+    ensures blocks { (e : Effect) → effect_of p (operand_in store.old.desk.heap store.old.desk.values.items (plain_val message.now)) ≡ Some e
         → MakesOnly store.old.queues store.new.queues (answer_widths e) }
     ensures work { store.new.queues.region.work ≡ store.old.queues.region.work }
     ensures turn { (core : Process) → turn_cost core store.new ≤ turn_cost core store.old + 13 }
@@ -175,16 +143,16 @@ pub(crate) fn output(
 ) -> Result<PackedEvent, AllocError>
     requires may { MayAct code.now store.old }
     requires acts { ActsBy (core_in code.now) store.old (op.Out (plain_val chan.now) (plain_val message.now) at) }
-    requires constant { IsConstant store.old.heap (plain_val message.now) constant.now }
+    requires constant { IsConstant store.old.desk.heap (plain_val message.now) constant.now }
     ensures step { IsStepBy (core_in code.now) store.old store.new result }
     ensures work { Fits (core_in code.now) store.old store.new }
     ensures blocks { MakesNeeded (core_in code.now) store.old store.new }
     ensures plain { SendsPlainly (core_in code.now) store.old (acting_words (core_in code.now) store.old) → TakesNothing store.old store.new result }
 {
-    match channel_at_hand(chan, &store.values) {
+    match channel_at_hand(chan, &store.desk.values) {
         Some(channel) => send(code, store, channel, message, constant, at),
         None => {
-            let p = primitive_at_hand(chan, &store.values);
+            let p = primitive_at_hand(chan, &store.desk.values);
             let called = call_message(store, p, message, constant, at)?;
             Ok(event_of(called))
         }

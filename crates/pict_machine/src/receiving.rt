@@ -9,9 +9,10 @@ ghost use Rattle.pict_meetings.specs.Room.{CanHoldBeside};
 ghost use Rattle.pict_meetings.specs.Waiting.{waits_first};
 ghost use Rattle.pict_region.specs.RegionState.{spare};
 ghost use Rattle.pict_queue.specs.QueuesState.{CostsAtMost};
-ghost use Rattle.pict_turns.specs.Acting.{core_in, IsCode, HasActing, ActsBy};
-ghost use Rattle.pict_turns.specs.Parts.{block_width, CanHold};
-ghost use Rattle.pict_turns.specs.Reading.{HasFrame};
+ghost use Rattle.pict_turns.specs.Acting.{HasActing, ActsBy};
+ghost use Rattle.pict_desk.specs.Code.{core_in, IsCode, HasFrame};
+ghost use Rattle.pict_turns.specs.Parts.{CanHold};
+ghost use Rattle.pict_blocks.specs.Parts.{block_width};
 ghost use Rattle.pict_turns.specs.Reserving.{OnlyReserves};
 ghost use Rattle.pict_turns.specs.Turns.{turn_cost};
 ghost use Rattle.pict_turns.specs.Views.{acting_words};
@@ -22,11 +23,12 @@ ghost use Rattle.pict_machine.specs.Stepping.{MayAct, IsStepBy};
 ghost use Rattle.pict_machine.specs.Work.{Fits};
 
 use crate::event::PackedEvent;
+use pict_blocks::{KEPT_WIDTH, block_width};
 use pict_code::{CodePat, Node, Operand};
+use pict_desk::channel_at_hand;
 use pict_meetings::{Waiting, first_waiting, meet_message, park, reserve_beside};
-use pict_operands::channel_at_hand;
 use pict_prim::NO_NEED;
-use pict_turns::{KEPT_WIDTH, Store, Turn, block_width, frame_at, reserve_part};
+use pict_turns::{Store, Turn, frame_at, reserve_part};
 use std::alloc::AllocError;
 
 // The width of the block that who has the turn would have, in words.
@@ -137,7 +139,7 @@ pub(crate) fn input(
     ensures blocks { MakesNeeded (core_in code.now) store.old store.new }
     ensures plain { ReceivesPlainly (core_in code.now) store.old (acting_words (core_in code.now) store.old) → TakesNothing store.old store.new result }
 {
-    match channel_at_hand(chan, &store.values) {
+    match channel_at_hand(chan, &store.desk.values) {
         Some(channel) => receive(code, store, channel, replicated, pattern, part),
         None => unreachable!(),
     }

@@ -10,33 +10,33 @@ ghost use Rattle.pict_meetings.specs.Partners.{Sends, SendsKept};
 ghost use Rattle.pict_meetings.specs.Room.{as_wide, CanHoldAfterAnd};
 ghost use Rattle.pict_meetings.specs.Serving.{IsInputWith};
 ghost use Rattle.pict_meetings.specs.Waiting.{waits_first, NoInputWaits};
-ghost use Rattle.pict_operands.specs.Needs.{need_of, HasRoomFor};
-ghost use Rattle.pict_operands.specs.Pairs.{ArePairs};
+ghost use Rattle.pict_desk.specs.Needs.{need_of, HasRoomFor};
+ghost use Rattle.pict_desk.specs.Pairs.{ArePairs};
 ghost use Rattle.pict_queue.specs.QueuesState.{IsQueue, CostsAtMost};
 ghost use Rattle.pict_region.specs.RegionState.{spare};
-ghost use Rattle.pict_turns.specs.Acting.{core_in, IsCode, IsRefused};
-ghost use Rattle.pict_turns.specs.Parts.{block_width};
-ghost use Rattle.pict_turns.specs.Reading.{HasFrame};
+ghost use Rattle.pict_turns.specs.Acting.{IsRefused};
+ghost use Rattle.pict_desk.specs.Code.{core_in, IsCode, HasFrame};
+ghost use Rattle.pict_blocks.specs.Parts.{block_width};
 ghost use Rattle.pict_turns.specs.Reserving.{OnlyReserves};
 ghost use Rattle.pict_turns.specs.Turns.{turn_cost};
 ghost use Rattle.pict_turns.specs.Views.{acting_words};
 ghost use Rattle.pict_turns.specs.Widths.{MakesOnly};
-ghost use Rattle.pict_machine.specs.Constants.{IsConstant};
+ghost use Rattle.pict_desk.specs.Constants.{IsConstant};
 ghost use Rattle.pict_machine.specs.Needs.{MakesNeeded};
 ghost use Rattle.pict_machine.specs.Plain.{SendsPlainly, TakesNothing};
 ghost use Rattle.pict_machine.specs.Sending.{SendsOperand, EndsAsWide, IsReceived};
 ghost use Rattle.pict_machine.specs.Stepping.{MayAct, IsStepBy};
 ghost use Rattle.pict_machine.specs.Work.{Fits};
 
-use crate::constants::pair_there;
 use crate::event::PackedEvent;
+use pict_blocks::block_width;
 use pict_code::{Node, Op, Operand};
+use pict_desk::{need, pair_there, word_of};
 use pict_heap::{Word, pack};
 use pict_meetings::{Waiting, first_waiting, meet_reader, park, park_output, reserve_served};
-use pict_operands::{need, word_of};
 use pict_prim::NO_NEED;
 use pict_syntax::Span;
-use pict_turns::{Store, block_width, frame_at, reserve_kept};
+use pict_turns::{Store, frame_at, reserve_kept};
 use std::alloc::AllocError;
 
 // The number of an input's part.
@@ -157,7 +157,7 @@ pub(crate) fn send_kept(
 // changes nothing but room.
 fn reserve_message(store: &mut Store, message: &Operand) -> Result<(), AllocError>
     ensures block { OnOk result (1 ≤ spare store.new.queues.region 9) }
-    ensures room { OnOk result (HasRoomFor store.new.heap store.new.pending (need_of (plain_val message.now))) }
+    ensures room { OnOk result (HasRoomFor store.new.desk.heap store.new.desk.pending (need_of (plain_val message.now))) }
     ensures most { MakesOnly store.old.queues store.new.queues (9 ∷ []) }
     ensures rest { OnlyReserves store.old store.new }
 {
@@ -211,8 +211,8 @@ fn park_made(
     at: Span,
 ) -> Result<PackedEvent, AllocError>
     requires queue { IsQueue store.old.queues (channel + 1) }
-    requires over { IsOver (length store.old.values.items) 0 (plain_val message.now) }
-    requires pairs { ArePairs store.old.heap store.old.values.items }
+    requires over { IsOver (length store.old.desk.values.items) 0 (plain_val message.now) }
+    requires pairs { ArePairs store.old.desk.heap store.old.desk.values.items }
     ensures step { (core : Process) → SendsOperand core store.old channel (plain_val message.now) at → NoInputWaits store.old.queues channel
         → IsStepBy core store.old store.new result }
     ensures cost { CostsAtMost 10 store.old.queues store.new.queues }
@@ -220,7 +220,12 @@ fn park_made(
     ensures blocks { MakesOnly store.old.queues store.new.queues (9 ∷ []) }
 {
     reserve_message(store, message)?;
-    let word = word_of(&mut store.heap, &mut store.pending, message, &store.values);
+    let word = word_of(
+        &mut store.desk.heap,
+        &mut store.desk.pending,
+        message,
+        &store.desk.values,
+    );
     park_output(store, channel, pack(word), at);
     Ok(PackedEvent::Quiet)
 }
@@ -235,16 +240,16 @@ fn park_operand(
     at: Span,
 ) -> Result<PackedEvent, AllocError>
     requires queue { IsQueue store.old.queues (channel + 1) }
-    requires over { IsOver (length store.old.values.items) 0 (plain_val message.now) }
-    requires pairs { ArePairs store.old.heap store.old.values.items }
-    requires constant { IsConstant store.old.heap (plain_val message.now) constant.now }
+    requires over { IsOver (length store.old.desk.values.items) 0 (plain_val message.now) }
+    requires pairs { ArePairs store.old.desk.heap store.old.desk.values.items }
+    requires constant { IsConstant store.old.desk.heap (plain_val message.now) constant.now }
     ensures step { (core : Process) → SendsOperand core store.old channel (plain_val message.now) at → NoInputWaits store.old.queues channel
         → IsStepBy core store.old store.new result }
     ensures cost { CostsAtMost 10 store.old.queues store.new.queues }
     ensures turn { (core : Process) → turn_cost core store.new ≤ turn_cost core store.old }
     ensures blocks { MakesOnly store.old.queues store.new.queues (9 ∷ []) }
 {
-    match pair_there(message, constant, &store.values) {
+    match pair_there(message, constant, &store.desk.values) {
         Some(pair) => park_words(store, channel, pair, at),
         None => park_made(store, channel, message, at),
     }
@@ -277,7 +282,12 @@ fn send_made(
     let frame = reader_frame(code, reader);
     let reuses = reader_as_wide(code, reader, frame);
     reserve_meeting(store, frame, message, reuses)?;
-    let word = word_of(&mut store.heap, &mut store.pending, message, &store.values);
+    let word = word_of(
+        &mut store.desk.heap,
+        &mut store.desk.pending,
+        message,
+        &store.desk.values,
+    );
     let value = pack(word);
     meet_reader(store, code, channel, reader, value);
     Ok(PackedEvent::Comm { channel, value })
@@ -296,7 +306,7 @@ fn send_operand(
     requires may { MayAct code.now store.old }
     requires sends { (at : AnySpan) × SendsOperand (core_in code.now) store.old channel (plain_val message.now) at }
     requires first { waits_first store.old.queues channel ≡ Waiting.Input reader }
-    requires constant { IsConstant store.old.heap (plain_val message.now) constant.now }
+    requires constant { IsConstant store.old.desk.heap (plain_val message.now) constant.now }
     ensures step { IsStepBy (core_in code.now) store.old store.new result }
     ensures cost { (replicated : Bool) (pattern : AnyPattern) (part : ℕ) (own frame : List ℕ)
         → IsInputWith (map plain_node code.now) reader replicated pattern part
@@ -310,7 +320,7 @@ fn send_operand(
         → MakesOnly store.old.queues store.new.queues (block_width frame ∷ []) }
     ensures plain { SendsPlainly (core_in code.now) store.old (acting_words (core_in code.now) store.old) → TakesNothing store.old store.new result }
 {
-    match pair_there(message, constant, &store.values) {
+    match pair_there(message, constant, &store.desk.values) {
         Some(pair) => {
             let done = send_to_reader(code, store, channel, reader, pair);
             receipt(done, channel, pair)
@@ -331,7 +341,7 @@ pub(crate) fn send(
 ) -> Result<PackedEvent, AllocError>
     requires may { MayAct code.now store.old }
     requires sends { SendsOperand (core_in code.now) store.old channel (plain_val message.now) at }
-    requires constant { IsConstant store.old.heap (plain_val message.now) constant.now }
+    requires constant { IsConstant store.old.desk.heap (plain_val message.now) constant.now }
     ensures step { IsStepBy (core_in code.now) store.old store.new result }
     ensures work { Fits (core_in code.now) store.old store.new }
     ensures blocks { MakesNeeded (core_in code.now) store.old store.new }

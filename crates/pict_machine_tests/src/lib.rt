@@ -16,6 +16,8 @@ mod processes;
 #[cfg(test)]
 mod queues;
 #[cfg(test)]
+mod ranks;
+#[cfg(test)]
 mod regions;
 #[cfg(test)]
 mod values;

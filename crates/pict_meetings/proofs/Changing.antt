@@ -8,8 +8,8 @@ use Rattle.pict_heap.specs.HeapState.{KeepsWords}
 use Rattle.pict_queue.specs.QueuesState.{QueuesState, IsQueue}
 use Rattle.pict_queue.specs.Contents.{contents, HoldsNoMore}
 use Rattle.pict_blocks.specs.Laws.{BlocksStep}
-use Rattle.pict_operands.specs.Pairs.{ArePairs}
-use Rattle.pict_operands.proofs.Making.{all_back}
+use Rattle.pict_desk.specs.Pairs.{ArePairs}
+use Rattle.pict_desk.proofs.Making.{all_back}
 use Rattle.pict_turns.specs.Views.{lists_from, channel_lists, turn_words, ready_words, acting_words, IsBlock, AreBlocks, CanWait, AreWaiting}
 use Rattle.pict_turns.specs.Acting.{HasBlockFor, HasActing, IsDone}
 use Rattle.pict_turns.specs.Turns.{IsTurn}
@@ -40,24 +40,24 @@ pub record Changes (core : Process) (old new : Store) (channel : ℕ) (ready wai
   pub waiting_are : contents new.queues (channel + 1) ≡ waiting
   pub others : (queue : ℕ) → queue ≢ 0 → queue ≢ channel + 1 → contents new.queues queue ≡ contents old.queues queue
   pub queues : length new.queues.queues ≡ length old.queues.queues
-  pub keeps : KeepsWords old.heap new.heap
-  pub pairs : ArePairs new.heap new.values.items
-  pub levels : length new.values.items ≡ length old.values.items
-  pub turn : IsTurn core new.heap new.values.items new.turn
+  pub keeps : KeepsWords old.desk.heap new.desk.heap
+  pub pairs : ArePairs new.desk.heap new.desk.values.items
+  pub levels : length new.desk.values.items ≡ length old.desk.values.items
+  pub turn : IsTurn core new.desk.heap new.desk.values.items new.turn
   pub room : AllByRecursion (HasBlockFor new.queues.region) (turn_words core new)
 
 module _ (core : Process) (old new : Store) (channel : ℕ) (ready waiting : List (List ℕ)) (acting : HasActing core old)
     (there : IsQueue old.queues (channel + 1)) (changes : Changes core old new channel ready waiting) where
-  blocks_after : AllByRecursion (IsBlock core new.heap) ready → AllByRecursion (IsBlock core new.heap) waiting → AreBlocks core new
+  blocks_after : AllByRecursion (IsBlock core new.desk.heap) ready → AllByRecursion (IsBlock core new.desk.heap) waiting → AreBlocks core new
   blocks_after r w queue =
-      let P : List (List ℕ) → Type 0 = AllByRecursion (IsBlock core new.heap) in
+      let P : List (List ℕ) → Type 0 = AllByRecursion (IsBlock core new.desk.heap) in
       ⊎_elim
       (λ (none : queue ≡ 0).
       subst (λ q. P (contents new.queues q)) (sym none)
-      (all_back (IsBlock core new.heap) (turn_words core new) (contents new.queues 0) (subst P (sym changes.ready_are) r)))
+      (all_back (IsBlock core new.desk.heap) (turn_words core new) (contents new.queues 0) (subst P (sym changes.ready_are) r)))
       (λ (some : queue ≢ 0). ⊎_elim
       (λ (here : queue ≡ channel + 1). subst (λ q. P (contents new.queues q)) (sym here) (subst P (sym changes.waiting_are) w))
-      (λ (apart : queue ≢ channel + 1). subst P (sym (changes.others queue some apart)) (blocks_stay old.heap new.heap changes.keeps core (contents old.queues queue) (acting.store.blocks queue)))
+      (λ (apart : queue ≢ channel + 1). subst P (sym (changes.others queue some apart)) (blocks_stay old.desk.heap new.desk.heap changes.keeps core (contents old.queues queue) (acting.store.blocks queue)))
       (cases_eq queue (channel + 1)))
       (cases_eq queue 0)
 
@@ -80,8 +80,8 @@ module _ (core : Process) (old new : Store) (channel : ℕ) (ready waiting : Lis
       ∙ channels_set old.queues new.queues 1 (length old.queues.queues - 1) channel (omega arith) low others
       ∙ ap (λ n. lists_from new.queues 1 (n - 1)) (sym changes.queues)
 
-  pub done : (label : Label) → AllByRecursion (IsBlock core new.heap) ready → AllByRecursion (IsBlock core new.heap) waiting → AllByRecursion (CanWait core) waiting
-      → BlocksStep core new.heap (acting_words core old ∷ contents old.queues 0) (channel_lists old.queues) label ready (slice_set (channel_lists old.queues) channel waiting)
+  pub done : (label : Label) → AllByRecursion (IsBlock core new.desk.heap) ready → AllByRecursion (IsBlock core new.desk.heap) waiting → AllByRecursion (CanWait core) waiting
+      → BlocksStep core new.desk.heap (acting_words core old ∷ contents old.queues 0) (channel_lists old.queues) label ready (slice_set (channel_lists old.queues) channel waiting)
       → HoldsNoMore old.queues new.queues → IsDone core old new label
   done label r w can step no_more =
       done_by core old new acting changes.keeps ready (slice_set (channel_lists old.queues) channel waiting) label step changes.ready_are (sym channels_after)

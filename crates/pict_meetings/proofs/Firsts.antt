@@ -2,10 +2,10 @@
 use Rattle.std.proofs.Common.{ℕ, zero, suc, ◌≡◌, inl, inr, List, [], ◌∷◌, refl, sym, ap, ◌∙◌}
 use Rattle.std.specs.List.{AllByRecursion}
 use Rattle.pict_core.specs.Term.{Process}
-use Rattle.pict_frames.specs.Keeping.{kept_words}
-use Rattle.pict_frames.specs.declared.keeping.Kept.{Kept}
+use Rattle.pict_blocks.specs.Keeping.{kept_words}
+use Rattle.pict_desk.specs.declared.kept.Kept.{Kept}
 use Rattle.pict_heap.specs.HeapState.{HeapState}
-use Rattle.pict_operands.specs.Pairs.{IsPair}
+use Rattle.pict_desk.specs.Pairs.{IsPair}
 use Rattle.pict_turns.specs.Views.{IsNode, IsBlock, IsInputAt, CanWait}
 use Rattle.pict_meetings.specs.Waiting.{oldest}
 use Rattle.pict_meetings.specs.declared.waiting.Waiting.TheVariants.{Output, Input}

@@ -1,16 +1,19 @@
 -- A step that isn't wrong: its channel is there, and the pattern fits the message.
-use Rattle.std.proofs.Common.{ℕ, zero, suc, ◌<◌, ◌≤◌, ◌≡◌, ◌≢◌, Bool, List, [], ◌∷◌, length, map, refl, ap, ◌∙◌, subst, arith, ⊎_elim, Option, Some, None}
+use Rattle.std.proofs.Common.{ℕ, zero, suc, ◌<◌, ◌≤◌, ◌≡◌, ◌≢◌, Bool, List, [], ◌∷◌, ◌++◌, length, map, refl, ap, ◌∙◌, subst, arith, ⊎_elim, Option, Some, None}
 use Rattle.std.proofs.lemmas.Bool.{cases_lt}
 use Rattle.std.specs.List.{slice_get, slice_set}
-use Rattle.std.specs.Option.{IsSome}
+use Rattle.std.specs.Option.{IsSome, unwrap_or}
 use Rattle.pict_syntax.specs.declared.span.Span.{Span}
 use Rattle.pict_core.specs.Matching.{match_value}
 use Rattle.pict_core.specs.Term.{Val, Pat, Process, Chan, Out, In}
+use Rattle.pict_core.specs.Deed.{serves, offers, takes, asks}
+use Rattle.pict_core.specs.Step.{Quiet}
 use Rattle.pict_view.specs.Moved.{Misshapen}
-use Rattle.pict_view.specs.ViewStep as view
-use Rattle.pict_view.specs.ViewStep.{next_view}
+use Rattle.pict_view.specs.Placed.{moves, at_list, if_input, if_output, next_view}
+use Rattle.pict_view.proofs.Rows.{put, act, list_of}
 use Rattle.pict_queue.specs.Contents.{contents}
-use Rattle.pict_blocks.specs.Blocks.{value_in, view_of_contents}
+use Rattle.pict_blocks.specs.Blocks.{view_of_contents}
+use Rattle.pict_desk.specs.Known.{value_in}
 use Rattle.pict_turns.specs.Acting.{HasActing, IsRight}
 use Rattle.pict_turns.specs.Views.{channel_lists, acting_words}
 use Rattle.pict_turns.specs.declared.store.Store.{Store}
@@ -18,15 +21,10 @@ use Rattle.pict_turns.proofs.Turns.{view_is}
 
 -- who has the turn acts before the others that are ready
 pub right_acting : (core : Process) (s : Store) → HasActing core s → IsRight core s
-    → next_view (view_of_contents core (value_in s.heap) (acting_words core s ∷ contents s.queues 0) (channel_lists s.queues)) ≢ Misshapen
+    → next_view (view_of_contents core (value_in s.desk.heap) (acting_words core s ∷ contents s.queues 0) (channel_lists s.queues)) ≢ Misshapen
 right_acting core s acting right = subst (λ v. next_view v ≢ Misshapen) (view_is core s (acting_words core s) acting.has) right
 
 module _ (f : List ℕ → Process) where
-  list_at : (xs : List (List (List ℕ))) (c : ℕ) (x : List (List ℕ)) → slice_get xs c ≡ Some x → slice_get (map (map f) xs) c ≡ Some (map f x)
-  list_at [] c x e = cc
-  list_at (y ∷ ys) zero x e = let h : y ≡ x = cc in ap (λ z. Some (map f z)) h
-  list_at (y ∷ ys) (suc c) x e = list_at ys c x e
-
   none_at : (xs : List (List (List ℕ))) (c : ℕ) → length xs ≤ c → slice_get (map (map f) xs) c ≡ None
   none_at [] c h = refl
   none_at (y ∷ ys) zero h = absurd (omega arith)
@@ -38,16 +36,18 @@ module _ (f : List ℕ → Process) where
     output_there c v at is = ⊎_elim
         (λ (low : c < length channels). low)
         (λ (high : length channels ≤ c). absurd (right (
-        ap (view.act (map f rest) (map (map f) channels)) is
-        ∙ ap (view.at_list (view.offer (map f rest) (map (map f) channels) c v (Out (Chan c) v at))) (none_at channels c high))))
+        ap (act (map f rest) (map (map f) channels)) is
+        ∙ ap (λ o. put (map f rest) (map (map f) channels) (Out (Chan c) v at) (offers c v (Out (Chan c) v at) (if_input (slice_get (unwrap_or o []) 0)))) (none_at channels c high)
+        ∙ ap (at_list (λ waits. moves (map f rest) (slice_set (map (map f) channels) c (waits ++ Out (Chan c) v at ∷ [])) Quiet)) (none_at channels c high))))
         (cases_lt c (length channels))
 
     pub input_there : (c : ℕ) (b : Bool) (pattern : Pat) (body : Process) → f acting ≡ In (Chan c) b pattern body → c < length channels
     input_there c b pattern body is = ⊎_elim
         (λ (low : c < length channels). low)
         (λ (high : length channels ≤ c). absurd (right (
-        ap (view.act (map f rest) (map (map f) channels)) is
-        ∙ ap (view.at_list (view.ask (map f rest) (map (map f) channels) c b pattern body (In (Chan c) b pattern body))) (none_at channels c high))))
+        ap (act (map f rest) (map (map f) channels)) is
+        ∙ ap (λ o. put (map f rest) (map (map f) channels) (In (Chan c) b pattern body) (asks c b pattern body (In (Chan c) b pattern body) (if_output (slice_get (unwrap_or o []) 0)))) (none_at channels c high)
+        ∙ ap (at_list (λ waits. moves (map f rest) (slice_set (map (map f) channels) c (waits ++ In (Chan c) b pattern body ∷ [])) Quiet)) (none_at channels c high))))
         (cases_lt c (length channels))
 
     pub output_fits : (c : ℕ) (v : Val) (at : Span) (reader : List ℕ) (others : List (List ℕ)) (w : Val) (b : Bool) (pattern : Pat) (body : Process)
@@ -56,10 +56,10 @@ module _ (f : List ℕ → Process) where
       where
         by_match : (o : Option (List Val)) → match_value pattern v ≡ o → IsSome o
         by_match None e = absurd (right (
-            ap (view.act (map f rest) (map (map f) channels)) is
-            ∙ ap (view.at_list (view.offer (map f rest) (map (map f) channels) c v (Out (Chan c) v at))) (list_at channels c (reader ∷ others) here)
-            ∙ ap (λ q. view.offer (map f rest) (map (map f) channels) c v (Out (Chan c) v at) (q ∷ map f others)) reads
-            ∙ ap (view.meet (map f rest) (map (map f) channels) c v b (In w b pattern body) (map f others) body) e))
+            ap (act (map f rest) (map (map f) channels)) is
+            ∙ ap (λ (l : List Process). put (map f rest) (map (map f) channels) (Out (Chan c) v at) (offers c v (Out (Chan c) v at) (if_input (slice_get l 0)))) (list_of (List ℕ) f channels c (reader ∷ others) here)
+            ∙ ap (λ q. put (map f rest) (map (map f) channels) (Out (Chan c) v at) (offers c v (Out (Chan c) v at) (if_input (Some q)))) reads
+            ∙ ap (λ o. put (map f rest) (map (map f) channels) (Out (Chan c) v at) (serves c v b (In w b pattern body) body o)) e))
         by_match (Some bound) e = refl
 
     pub input_fits : (c : ℕ) (b : Bool) (pattern : Pat) (body : Process) (message : List ℕ) (others : List (List ℕ)) (w v : Val) (at : Span)
@@ -68,8 +68,8 @@ module _ (f : List ℕ → Process) where
       where
         by_match : (o : Option (List Val)) → match_value pattern v ≡ o → IsSome o
         by_match None e = absurd (right (
-            ap (view.act (map f rest) (map (map f) channels)) is
-            ∙ ap (view.at_list (view.ask (map f rest) (map (map f) channels) c b pattern body (In (Chan c) b pattern body))) (list_at channels c (message ∷ others) here)
-            ∙ ap (λ q. view.ask (map f rest) (map (map f) channels) c b pattern body (In (Chan c) b pattern body) (q ∷ map f others)) sends
-            ∙ ap (view.get (map f rest) (slice_set (map (map f) channels) c (map f others)) c v b (In (Chan c) b pattern body) body) e))
+            ap (act (map f rest) (map (map f) channels)) is
+            ∙ ap (λ (l : List Process). put (map f rest) (map (map f) channels) (In (Chan c) b pattern body) (asks c b pattern body (In (Chan c) b pattern body) (if_output (slice_get l 0)))) (list_of (List ℕ) f channels c (message ∷ others) here)
+            ∙ ap (λ q. put (map f rest) (map (map f) channels) (In (Chan c) b pattern body) (asks c b pattern body (In (Chan c) b pattern body) (if_output (Some q)))) sends
+            ∙ ap (λ o. put (map f rest) (map (map f) channels) (In (Chan c) b pattern body) (takes c v b body o)) e))
         by_match (Some bound) e = refl

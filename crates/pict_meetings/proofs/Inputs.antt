@@ -15,16 +15,16 @@ use Rattle.pict_code.specs.Standing.{closing, value_at}
 use Rattle.pict_code.proofs.Levels.{frame_has}
 use Rattle.pict_code.proofs.Numbering.{PlacedAt, in_placed}
 use Rattle.pict_heap.specs.HeapState.{HeapState}
-use Rattle.pict_blocks.specs.Binding.{levels_of, levels_of_all, levels_of_labelled}
-use Rattle.pict_blocks.specs.Blocks.{value_in, frame_values, node_process, process_of}
-use Rattle.pict_blocks.proofs.Nodes.{part_of}
+use Rattle.pict_desk.specs.Binding.{levels_of, levels_of_all, levels_of_labelled}
+use Rattle.pict_blocks.specs.Blocks.{frame_values, node_process, process_of}
+use Rattle.pict_desk.specs.Known.{value_in}
+use Rattle.pict_desk.proofs.Nodes.{part_of, op_is}
 use Rattle.pict_blocks.proofs.Meeting.{is_input}
-use Rattle.pict_blocks.proofs.Parts.{placed_at}
-use Rattle.pict_blocks.proofs.Standing.{op_is}
+use Rattle.pict_desk.proofs.Parts.{placed_at}
 use Rattle.pict_turns.specs.Acting.{IsStore}
 use Rattle.pict_turns.specs.Views.{IsInputAt}
 use Rattle.pict_turns.specs.declared.store.Store.{Store}
-use Rattle.pict_turns.proofs.Numbered.{place_low, part_node}
+use Rattle.pict_desk.proofs.Numbered.{place_low, part_node}
 
 -- ---- what a block of an input stands for, whatever values it holds
 
@@ -152,11 +152,11 @@ module _ (core : Process) (pattern : CodePat) (part : ℕ) (p : HasPart core pat
   pattern_rises = subst (λ q. Rises 0 (levels_of q)) (sym p.pattern_is) (spans_rise 0 p.around (p.around + binds p.form) (levels_of (leveled p.around p.form)) (omega arith) (spans_leveled p.around p.form))
 
   -- its levels have places
-  pub pattern_inside : (s : Store) → IsStore core s → AllByRecursion (λ level. level < length s.values.items) (levels_of pattern)
+  pub pattern_inside : (s : Store) → IsStore core s → AllByRecursion (λ level. level < length s.desk.values.items) (levels_of pattern)
   pattern_inside s store =
-      let low = place_low (length s.values.items) (places 0 core) part (place (p.around + binds p.form) p.body) store.levels (placed_at core part (p.around + binds p.form) p.body p.placed) in
-      subst (λ q. AllByRecursion (λ level. level < length s.values.items) (levels_of q)) (sym p.pattern_is)
-      (spans_below p.around (p.around + binds p.form) (length s.values.items) (levels_of (leveled p.around p.form)) low (spans_leveled p.around p.form))
+      let low = place_low (length s.desk.values.items) (places 0 core) part (place (p.around + binds p.form) p.body) store.levels (placed_at core part (p.around + binds p.form) p.body p.placed) in
+      subst (λ q. AllByRecursion (λ level. level < length s.desk.values.items) (levels_of q)) (sym p.pattern_is)
+      (spans_below p.around (p.around + binds p.form) (length s.desk.values.items) (levels_of (leveled p.around p.form)) low (spans_leveled p.around p.form))
 
   -- its part is a node
   pub part_inside : part < length (nodes_of core)

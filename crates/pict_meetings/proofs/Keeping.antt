@@ -6,9 +6,9 @@ use Rattle.pict_core.specs.Term.{Process}
 use Rattle.pict_code.specs.Instruction.{Node}
 use Rattle.pict_code.specs.Levels.{has}
 use Rattle.pict_code.specs.Nodes.{nodes_of}
-use Rattle.pict_frames.specs.Framed.{pair_at, frame_words}
+use Rattle.pict_blocks.specs.Framed.{frame_words}
+use Rattle.pict_desk.specs.Known.{pair_at, value_in, known}
 use Rattle.pict_heap.specs.HeapState.{HeapState}
-use Rattle.pict_blocks.specs.Blocks.{value_in, known}
 use Rattle.pict_turns.specs.Turns.{IsTurn}
 use Rattle.pict_turns.specs.Views.{frame_in, words_of_turn}
 use Rattle.pict_turns.specs.declared.turn.Turn.{Turn}

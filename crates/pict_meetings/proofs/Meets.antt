@@ -10,20 +10,21 @@ use Rattle.pict_core.specs.Term.{Process, Chan, Out}
 use Rattle.pict_code.specs.Instruction.{CodePat, Node}
 use Rattle.pict_code.specs.Nodes.{nodes_of, input_op}
 use Rattle.pict_code.specs.ReadBack.{unleveled}
-use Rattle.pict_frames.specs.Keeping.{kept_words}
-use Rattle.pict_frames.specs.declared.keeping.Kept.{Kept}
+use Rattle.pict_blocks.specs.Keeping.{kept_words}
+use Rattle.pict_desk.specs.declared.kept.Kept.{Kept}
 use Rattle.pict_heap.specs.HeapState.{HeapState, KeepsWords}
 use Rattle.pict_queue.specs.QueuesState.{IsQueue}
 use Rattle.pict_queue.specs.Contents.{contents, KeepsOtherContents, HoldsNoMore}
 use Rattle.pict_view.specs.Moved.{if_replicated}
-use Rattle.pict_blocks.specs.Binding.{levels_of, BindsPattern}
-use Rattle.pict_blocks.specs.Blocks.{value_in, process_of, known, IsNodeBlock}
+use Rattle.pict_desk.specs.Binding.{levels_of, BindsPattern}
+use Rattle.pict_blocks.specs.Blocks.{process_of, IsNodeBlock}
+use Rattle.pict_desk.specs.Known.{value_in, known}
 use Rattle.pict_blocks.specs.Laws.{BlocksStep}
 use Rattle.pict_blocks.proofs.Meeting.{outputs_meet, inputs_meet}
-use Rattle.pict_operands.specs.Pairs.{IsPair, ArePairs}
-use Rattle.pict_operands.proofs.Making.{pairs_keep, operand_keeps}
+use Rattle.pict_desk.specs.Pairs.{IsPair, ArePairs}
+use Rattle.pict_desk.proofs.Making.{pairs_keep, operand_keeps}
 use Rattle.pict_turns.specs.Acting.{HasActing, IsDone}
-use Rattle.pict_turns.specs.Holding.{HoldsFrame}
+use Rattle.pict_blocks.specs.Holding.{HoldsFrame}
 use Rattle.pict_turns.specs.Views.{channel_lists, acting_words, IsBlock, CanWait}
 use Rattle.pict_turns.specs.declared.store.Store.{Store}
 use Rattle.pict_turns.specs.declared.turn.Turn.TheVariants.{Nobody}
@@ -59,14 +60,14 @@ binds_stay core old new keeps pattern pair before after is pairs b = record {
 -- An input takes the oldest message: the store once the message is taken and bound is `mid`, and `new` once the part is ready.
 module _ (core : Process) (old mid new : Store) (channel part : ℕ) (replicated : Bool) (pattern : CodePat) (receives : Receives core old channel replicated pattern part)
     (there : IsQueue old.queues (channel + 1)) (kept : Kept) (rest : List (List ℕ)) (list : contents old.queues (channel + 1) ≡ kept_words kept ∷ rest)
-    (message : IsPair old.heap kept.message)
-    (heap : mid.heap ≡ old.heap) (left : contents mid.queues (channel + 1) ≡ rest) (others : KeepsOtherContents old.queues mid.queues (channel + 1))
+    (message : IsPair old.desk.heap kept.message)
+    (heap : mid.desk.heap ≡ old.desk.heap) (left : contents mid.queues (channel + 1) ≡ rest) (others : KeepsOtherContents old.queues mid.queues (channel + 1))
     (many : length mid.queues.queues ≡ length old.queues.queues)
-    (binds : BindsPattern old.heap pattern (value_in old.heap kept.message.0 kept.message.1) old.values.items mid.values.items) (levels : length mid.values.items ≡ length old.values.items)
-    (pairs : ArePairs old.heap mid.values.items) (node : Node) (at : slice_get (nodes_of core) part ≡ Some node)
+    (binds : BindsPattern old.desk.heap pattern (value_in old.desk.heap kept.message.0 kept.message.1) old.desk.values.items mid.desk.values.items) (levels : length mid.desk.values.items ≡ length old.desk.values.items)
+    (pairs : ArePairs old.desk.heap mid.desk.values.items) (node : Node) (at : slice_get (nodes_of core) part ≡ Some node)
     (readies : Readies core mid new (if_replicated replicated (acting_words core old)) part node.frame) where
-  keeps : KeepsWords old.heap new.heap
-  keeps = subst (λ h. KeepsWords h new.heap) heap readies.keeps
+  keeps : KeepsWords old.desk.heap new.desk.heap
+  keeps = subst (λ h. KeepsWords h new.desk.heap) heap readies.keeps
 
   acting : HasActing core old
   acting = receives.acts.acting
@@ -79,57 +80,57 @@ module _ (core : Process) (old mid new : Store) (channel part : ℕ) (replicated
     others = λ queue some. λ apart. readies.others queue some ∙ others queue apart;
     queues = readies.queues ∙ many;
     keeps = keeps;
-    pairs = subst (ArePairs new.heap) (sym readies.values) (pairs_keep old.heap new.heap keeps mid.values.items pairs);
+    pairs = subst (ArePairs new.desk.heap) (sym readies.values) (pairs_keep old.desk.heap new.desk.heap keeps mid.desk.values.items pairs);
     levels = ap length readies.values ∙ levels;
     turn = readies.turn;
     room = readies.room;
   }
 
-  holds : HoldsFrame new.heap (known old.heap mid.values.items) node.frame readies.held
-  holds = subst (λ h. HoldsFrame new.heap (known h mid.values.items) node.frame readies.held) heap readies.holds
+  holds : HoldsFrame new.desk.heap (known old.desk.heap mid.desk.values.items) node.frame readies.held
+  holds = subst (λ h. HoldsFrame new.desk.heap (known h mid.desk.values.items) node.frame readies.held) heap readies.holds
 
-  step : BlocksStep core new.heap (acting_words core old ∷ contents old.queues 0) (channel_lists old.queues) (Comm channel (value_in new.heap kept.message.0 kept.message.1))
+  step : BlocksStep core new.desk.heap (acting_words core old ∷ contents old.queues 0) (channel_lists old.queues) (Comm channel (value_in new.desk.heap kept.message.0 kept.message.1))
       (if_replicated replicated (acting_words core old) ++ (contents old.queues 0 ++ (suc part ∷ readies.held) ∷ [])) (slice_set (channel_lists old.queues) channel rest)
   step =
       let a = receives.acts in
       let k = kept in
-      let sends : process_of core (value_in new.heap) (kept_words k) ≡ Out (value_in new.heap k.to.0 k.to.1) (value_in new.heap k.message.0 k.message.1) k.at = refl in
-      inputs_meet core new.heap old.values.items mid.values.items a.number part channel replicated receives.chan pattern a.node node
-      (acting_words core old) (suc part ∷ readies.held) (value_in new.heap k.message.0 k.message.1) (value_in new.heap k.to.0 k.to.1) k.at (kept_words k) rest
+      let sends : process_of core (value_in new.desk.heap) (kept_words k) ≡ Out (value_in new.desk.heap k.to.0 k.to.1) (value_in new.desk.heap k.message.0 k.message.1) k.at = refl in
+      inputs_meet core new.desk.heap old.desk.values.items mid.desk.values.items a.number part channel replicated receives.chan pattern a.node node
+      (acting_words core old) (suc part ∷ readies.held) (value_in new.desk.heap k.message.0 k.message.1) (value_in new.desk.heap k.to.0 k.to.1) k.at (kept_words k) rest
       receives.closed
-      (node_block_stays core old.heap new.heap keeps old.values.items acting.store.pairs a.number a.node (acting_words core old) (acting_block core old acting) a.is)
+      (node_block_stays core old.desk.heap new.desk.heap keeps old.desk.values.items acting.store.pairs a.number a.node (acting_words core old) (acting_block core old acting) a.is)
       a.op_is
-      (operand_keeps old.heap new.heap keeps old.values.items acting.store.pairs receives.chan ∙ receives.from)
+      (operand_keeps old.desk.heap new.desk.heap keeps old.desk.values.items acting.store.pairs receives.chan ∙ receives.from)
       sends
-      (binds_stay core old.heap new.heap keeps pattern k.message old.values.items mid.values.items message pairs binds)
-      (made_node core old.heap new.heap keeps mid.values.items pairs part node readies.held at holds)
+      (binds_stay core old.desk.heap new.desk.heap keeps pattern k.message old.desk.values.items mid.desk.values.items message pairs binds)
+      (made_node core old.desk.heap new.desk.heap keeps mid.desk.values.items pairs part node readies.held at holds)
       (contents old.queues 0) (channel_lists old.queues) (channel_there old.queues channel there ∙ ap Some list)
 
-  pub message_met : HoldsNoMore old.queues new.queues → IsDone core old new (Comm channel (value_in new.heap kept.message.0 kept.message.1))
+  pub message_met : HoldsNoMore old.queues new.queues → IsDone core old new (Comm channel (value_in new.desk.heap kept.message.0 kept.message.1))
   message_met no_more =
-      let blocks = subst (AllByRecursion (IsBlock core old.heap)) list (acting.store.blocks (channel + 1)) in
+      let blocks = subst (AllByRecursion (IsBlock core old.desk.heap)) list (acting.store.blocks (channel + 1)) in
       let waiting = subst (AllByRecursion (CanWait core)) list (acting.store.waiting channel) in
       done core old new channel (if_replicated replicated (acting_words core old) ++ (contents old.queues 0 ++ (suc part ∷ readies.held) ∷ [])) rest
-      acting there received (Comm channel (value_in new.heap kept.message.0 kept.message.1))
-      (all_both (IsBlock core new.heap) replicated (acting_words core old) (contents old.queues 0 ++ (suc part ∷ readies.held) ∷ [])
-      (block_stays old.heap new.heap keeps core (acting_words core old) (acting_block core old acting))
-      (all_pushed (IsBlock core new.heap) (contents old.queues 0) (suc part ∷ readies.held) (ready_stay core old new acting.store keeps)
-      (made_block core new.heap (known old.heap mid.values.items) part node readies.held at holds)))
-      (blocks_stay old.heap new.heap keeps core rest blocks.1) waiting.1 step no_more
+      acting there received (Comm channel (value_in new.desk.heap kept.message.0 kept.message.1))
+      (all_both (IsBlock core new.desk.heap) replicated (acting_words core old) (contents old.queues 0 ++ (suc part ∷ readies.held) ∷ [])
+      (block_stays old.desk.heap new.desk.heap keeps core (acting_words core old) (acting_block core old acting))
+      (all_pushed (IsBlock core new.desk.heap) (contents old.queues 0) (suc part ∷ readies.held) (ready_stay core old new acting.store keeps)
+      (made_block core new.desk.heap (known old.desk.heap mid.desk.values.items) part node readies.held at holds)))
+      (blocks_stay old.desk.heap new.desk.heap keeps core rest blocks.1) waiting.1 step no_more
 
 -- The oldest input at the channel takes what who has the turn sends: `taken` is the store once the input's frame is read,
 -- `mid` once the input's block is behind the others or has ended and the message is bound, and `new` once the part is ready.
 module _ (core : Process) (old taken mid new : Store) (channel number part : ℕ) (replicated : Bool) (pattern : CodePat) (message : ℕ × ℕ) (sent_at : Span)
     (closed : IsClosed core) (sends : Sends core old channel message sent_at) (there : IsQueue old.queues (channel + 1))
     (reads : ReadsInput core (record old { turn = Nobody }) taken channel number) (input : IsInputWith (nodes_of core) number replicated pattern part)
-    (heap : mid.heap ≡ old.heap)
+    (heap : mid.desk.heap ≡ old.desk.heap)
     (left : contents mid.queues (channel + 1) ≡ reads.others ++ if_replicated replicated reads.words)
     (others : KeepsOtherContents taken.queues mid.queues (channel + 1)) (many : length mid.queues.queues ≡ length taken.queues.queues)
-    (binds : BindsPattern old.heap pattern (value_in old.heap message.0 message.1) taken.values.items mid.values.items) (levels : length mid.values.items ≡ length taken.values.items)
-    (pairs : ArePairs old.heap mid.values.items) (node : Node) (at : slice_get (nodes_of core) part ≡ Some node)
+    (binds : BindsPattern old.desk.heap pattern (value_in old.desk.heap message.0 message.1) taken.desk.values.items mid.desk.values.items) (levels : length mid.desk.values.items ≡ length taken.desk.values.items)
+    (pairs : ArePairs old.desk.heap mid.desk.values.items) (node : Node) (at : slice_get (nodes_of core) part ≡ Some node)
     (readies : Readies core mid new [] part node.frame) where
-  served_keeps : KeepsWords old.heap new.heap
-  served_keeps = subst (λ h. KeepsWords h new.heap) heap readies.keeps
+  served_keeps : KeepsWords old.desk.heap new.desk.heap
+  served_keeps = subst (λ h. KeepsWords h new.desk.heap) heap readies.keeps
 
   served : Changes core old new channel (contents old.queues 0 ++ (suc part ∷ readies.held) ∷ []) (reads.others ++ if_replicated replicated reads.words)
   served = record {
@@ -139,21 +140,21 @@ module _ (core : Process) (old taken mid new : Store) (channel number part : ℕ
     others = λ queue some. λ apart. readies.others queue some ∙ others queue apart ∙ contents_read (record old { turn = Nobody }) taken reads.read.rest queue;
     queues = readies.queues ∙ many ∙ queues_read (record old { turn = Nobody }) taken reads.read.rest;
     keeps = served_keeps;
-    pairs = subst (ArePairs new.heap) (sym readies.values) (pairs_keep old.heap new.heap served_keeps mid.values.items pairs);
+    pairs = subst (ArePairs new.desk.heap) (sym readies.values) (pairs_keep old.desk.heap new.desk.heap served_keeps mid.desk.values.items pairs);
     levels = ap length readies.values ∙ levels ∙ reads.read.rest.levels;
     turn = readies.turn;
     room = readies.room;
   }
 
-  part_holds : HoldsFrame new.heap (known old.heap mid.values.items) node.frame readies.held
-  part_holds = subst (λ h. HoldsFrame new.heap (known h mid.values.items) node.frame readies.held) heap readies.holds
+  part_holds : HoldsFrame new.desk.heap (known old.desk.heap mid.desk.values.items) node.frame readies.held
+  part_holds = subst (λ h. HoldsFrame new.desk.heap (known h mid.desk.values.items) node.frame readies.held) heap readies.holds
 
   -- what stood at the channel
   stood : contents old.queues (channel + 1) ≡ reads.words ∷ reads.others
   stood = reads.waiting
 
-  stood_blocks : AllByRecursion (IsBlock core old.heap) (reads.words ∷ reads.others)
-  stood_blocks = subst (AllByRecursion (IsBlock core old.heap)) stood (sends.acting.store.blocks (channel + 1))
+  stood_blocks : AllByRecursion (IsBlock core old.desk.heap) (reads.words ∷ reads.others)
+  stood_blocks = subst (AllByRecursion (IsBlock core old.desk.heap)) stood (sends.acting.store.blocks (channel + 1))
 
   stood_waiting : AllByRecursion (CanWait core) (reads.words ∷ reads.others)
   stood_waiting = subst (AllByRecursion (CanWait core)) stood (sends.acting.store.waiting channel)
@@ -164,36 +165,36 @@ module _ (core : Process) (old taken mid new : Store) (channel number part : ℕ
       let same : reads.read.node ≡ input.node = cc in
       ap (λ (n : Node). n.op) same ∙ input.is
 
-  read_pairs : ArePairs old.heap taken.values.items
-  read_pairs = subst (λ h. ArePairs h taken.values.items) reads.read.rest.heap reads.read.rest.pairs
+  read_pairs : ArePairs old.desk.heap taken.desk.values.items
+  read_pairs = subst (λ h. ArePairs h taken.desk.values.items) reads.read.rest.heap reads.read.rest.pairs
 
-  served_step : BlocksStep core new.heap (acting_words core old ∷ contents old.queues 0) (channel_lists old.queues) (Comm channel (value_in new.heap message.0 message.1))
+  served_step : BlocksStep core new.desk.heap (acting_words core old ∷ contents old.queues 0) (channel_lists old.queues) (Comm channel (value_in new.desk.heap message.0 message.1))
       (contents old.queues 0 ++ (suc part ∷ readies.held) ∷ [])
       (slice_set (channel_lists old.queues) channel (reads.others ++ if_replicated replicated reads.words))
   served_step =
       let words = acting_words core old in
-      let is : process_of core (value_in new.heap) words ≡ Out (Chan channel) (value_in new.heap message.0 message.1) sent_at =
-      block_same old.heap new.heap served_keeps core words (acting_block core old sends.acting) ∙ sends.is
-      ∙ ap (λ v. Out (Chan channel) v sent_at) (sym (value_stays old.heap new.heap served_keeps message sends.pair)) in
-      outputs_meet core new.heap taken.values.items mid.values.items channel (value_in new.heap message.0 message.1) sent_at words number part replicated input.chan pattern reads.read.node node
+      let is : process_of core (value_in new.desk.heap) words ≡ Out (Chan channel) (value_in new.desk.heap message.0 message.1) sent_at =
+      block_same old.desk.heap new.desk.heap served_keeps core words (acting_block core old sends.acting) ∙ sends.is
+      ∙ ap (λ v. Out (Chan channel) v sent_at) (sym (value_stays old.desk.heap new.desk.heap served_keeps message sends.pair)) in
+      outputs_meet core new.desk.heap taken.desk.values.items mid.desk.values.items channel (value_in new.desk.heap message.0 message.1) sent_at words number part replicated input.chan pattern reads.read.node node
       reads.words (suc part ∷ readies.held) (reads.others) closed is
-      (node_block_stays core old.heap new.heap served_keeps taken.values.items read_pairs number reads.read.node reads.words stood_blocks.0
-      (subst (λ h. IsNodeBlock core h taken.values.items number reads.read.node reads.words) reads.read.rest.heap reads.read.is))
+      (node_block_stays core old.desk.heap new.desk.heap served_keeps taken.desk.values.items read_pairs number reads.read.node reads.words stood_blocks.0
+      (subst (λ h. IsNodeBlock core h taken.desk.values.items number reads.read.node reads.words) reads.read.rest.heap reads.read.is))
       input_is
-      (binds_stay core old.heap new.heap served_keeps pattern message taken.values.items mid.values.items sends.pair pairs binds)
-      (made_node core old.heap new.heap served_keeps mid.values.items pairs part node readies.held at part_holds)
+      (binds_stay core old.desk.heap new.desk.heap served_keeps pattern message taken.desk.values.items mid.desk.values.items sends.pair pairs binds)
+      (made_node core old.desk.heap new.desk.heap served_keeps mid.desk.values.items pairs part node readies.held at part_holds)
       (contents old.queues 0) (channel_lists old.queues) (channel_there old.queues channel there ∙ ap Some stood)
 
-  pub reader_met : HoldsNoMore old.queues new.queues → IsDone core old new (Comm channel (value_in new.heap message.0 message.1))
+  pub reader_met : HoldsNoMore old.queues new.queues → IsDone core old new (Comm channel (value_in new.desk.heap message.0 message.1))
   reader_met no_more =
       let acting = sends.acting in
       let words = reads.words in
       let rest = reads.others in
-      let blocks = blocks_stay old.heap new.heap served_keeps core (words ∷ rest) stood_blocks in
+      let blocks = blocks_stay old.desk.heap new.desk.heap served_keeps core (words ∷ rest) stood_blocks in
       done core old new channel (contents old.queues 0 ++ (suc part ∷ readies.held) ∷ []) (rest ++ if_replicated replicated words)
-      acting there served (Comm channel (value_in new.heap message.0 message.1))
-      (all_pushed (IsBlock core new.heap) (contents old.queues 0) (suc part ∷ readies.held) (ready_stay core old new acting.store served_keeps)
-      (made_block core new.heap (known old.heap mid.values.items) part node readies.held at part_holds))
-      (all_behind (IsBlock core new.heap) replicated words rest blocks.0 blocks.1)
+      acting there served (Comm channel (value_in new.desk.heap message.0 message.1))
+      (all_pushed (IsBlock core new.desk.heap) (contents old.queues 0) (suc part ∷ readies.held) (ready_stay core old new acting.store served_keeps)
+      (made_block core new.desk.heap (known old.desk.heap mid.desk.values.items) part node readies.held at part_holds))
+      (all_behind (IsBlock core new.desk.heap) replicated words rest blocks.0 blocks.1)
       (all_behind (CanWait core) replicated words rest stood_waiting.0 stood_waiting.1)
       served_step no_more

@@ -7,8 +7,8 @@ use Rattle.pict_code.specs.Plain.{plain_pat}
 use Rattle.pict_code.specs.declared.pattern.CodePat.{the_lemmas}
 use Rattle.pict_code.specs.declared.pattern.CodePat.TheVariants as pattern
 use Rattle.pict_heap.specs.HeapState.{HeapState}
-use Rattle.pict_blocks.specs.Binding.{BindsPattern}
-use Rattle.pict_blocks.specs.Blocks.{value_in}
+use Rattle.pict_desk.specs.Binding.{BindsPattern}
+use Rattle.pict_desk.specs.Known.{value_in}
 
 pub plain_bind : (level : ℕ) → plain_pat (pattern.Bind level) ≡ Bind level
 plain_bind level = search (rules, the_lemmas)

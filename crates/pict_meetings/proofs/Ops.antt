@@ -14,9 +14,10 @@ use Rattle.pict_code.specs.declared.instruction.Op.{Op}
 use Rattle.pict_code.specs.declared.instruction.Op.TheVariants as op
 use Rattle.pict_code.specs.declared.pattern.CodePat as written_pattern
 use Rattle.pict_queue.specs.Contents.{contents}
-use Rattle.pict_turns.specs.Acting.{core_in, IsCode, IsStore}
+use Rattle.pict_turns.specs.Acting.{IsStore}
+use Rattle.pict_desk.specs.Code.{core_in, IsCode}
 use Rattle.pict_turns.specs.declared.store.Store.{Store}
-use Rattle.pict_turns.proofs.Numbered.{in_code}
+use Rattle.pict_desk.proofs.Numbered.{in_code}
 use Rattle.pict_meetings.specs.Serving.{IsInputWith}
 use Rattle.pict_meetings.specs.Waiting.{waits_first}
 use Rattle.pict_meetings.specs.declared.waiting.Waiting.TheVariants.{Input}
@@ -79,7 +80,7 @@ pub record WaitsFirst (code : List written.Node) (number : ℕ) : Type 0 where
 
 pub input_waits_first : (code : List written.Node) (s : Store) (channel number : ℕ) → IsCode (map plain_node code) → IsStore (core_in code) s → waits_first s.queues channel ≡ Input number → WaitsFirst code number
 input_waits_first code s channel number is store first =
-    let f = first_input (core_in code) s.heap (contents s.queues (channel + 1)) number (store.blocks (channel + 1)) (store.waiting channel) first in
+    let f = first_input (core_in code) s.desk.heap (contents s.queues (channel + 1)) number (store.blocks (channel + 1)) (store.waiting channel) first in
     let i = f.input in
     record {
       low = in_code code is number (slice_get_within (nodes_of (core_in code)) number i.node i.at);

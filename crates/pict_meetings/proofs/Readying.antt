@@ -7,11 +7,12 @@ use Rattle.pict_heap.specs.HeapState.{KeepsWords}
 use Rattle.pict_region.specs.RegionState.{spare}
 use Rattle.pict_queue.specs.Contents.{contents, KeepsOtherContents}
 use Rattle.pict_view.specs.Moved.{if_replicated}
-use Rattle.pict_blocks.specs.Blocks.{known}
-use Rattle.pict_operands.specs.Pairs.{ArePairs}
+use Rattle.pict_desk.specs.Known.{known}
+use Rattle.pict_desk.specs.Pairs.{ArePairs}
 use Rattle.pict_turns.specs.Acting.{HasBlockFor}
-use Rattle.pict_turns.specs.Holding.{HoldsFrame}
-use Rattle.pict_turns.specs.Parts.{block_width, CanHold, Spawns, IsLast}
+use Rattle.pict_blocks.specs.Holding.{HoldsFrame}
+use Rattle.pict_turns.specs.Parts.{CanHold, Spawns, IsLast}
+use Rattle.pict_blocks.specs.Parts.{block_width}
 use Rattle.pict_turns.specs.Turns.{IsTurn, handing, turn_cost}
 use Rattle.pict_turns.specs.Views.{turn_words, ready_words}
 use Rattle.pict_turns.specs.declared.store.Store.{Store}
@@ -26,15 +27,15 @@ use Rattle.pict_meetings.specs.Room.{CanHoldBeside}
 -- these, who keep the turn. What other queues hold, and the values, stay, and all words stand for what they stood for.
 pub record Readies (core : Process) (old new : Store) (kept : List (List ℕ)) (number : ℕ) (frame : List ℕ) : Type 0 where
   pub held : List ℕ
-  pub holds : HoldsFrame new.heap (known old.heap old.values.items) frame held
+  pub holds : HoldsFrame new.desk.heap (known old.desk.heap old.desk.values.items) frame held
   pub ready : ready_words core new ≡ kept ++ (contents old.queues 0 ++ (suc number ∷ held) ∷ [])
-  pub turn : IsTurn core new.heap new.values.items new.turn
+  pub turn : IsTurn core new.desk.heap new.desk.values.items new.turn
   pub room : AllByRecursion (HasBlockFor new.queues.region) (turn_words core new)
   pub cost : turn_cost core new ≤ handing kept + (block_width frame + 4)
   pub others : KeepsOtherContents old.queues new.queues 0
   pub queues : length new.queues.queues ≡ length old.queues.queues
-  pub keeps : KeepsWords old.heap new.heap
-  pub values : new.values.items ≡ old.values.items
+  pub keeps : KeepsWords old.desk.heap new.desk.heap
+  pub values : new.desk.values.items ≡ old.desk.values.items
 
 two_or_one : (width second count : ℕ) (b : Bool) → (second == width) ≡ b → (width ≡ second → 2 ≤ count) → 1 ≤ count → cond b 2 1 ≤ count
 two_or_one width second count true e two one = let same : width ≡ second = grind (arith, nat_tests) in two same
@@ -42,7 +43,7 @@ two_or_one width second count false e two one = one
 
 module _ (core : Process) (old new : Store) (number : ℕ) (frame : List ℕ) where
   -- behind who keeps the turn
-  pub behind : (words : List ℕ) → turn_words core old ≡ words ∷ [] → ArePairs old.heap old.values.items → IsTurn core old.heap old.values.items old.turn
+  pub behind : (words : List ℕ) → turn_words core old ≡ words ∷ [] → ArePairs old.desk.heap old.desk.values.items → IsTurn core old.desk.heap old.desk.values.items old.turn
       → CanHoldBeside old (length words + 1) frame → HasBlockFor old.queues.region words → Spawns old new number frame → Readies core old new (words ∷ []) number frame
   behind words is pairs turn beside room s =
       let width = length words + 1 in
@@ -83,7 +84,7 @@ module _ (core : Process) (old new : Store) (number : ℕ) (frame : List ℕ) wh
   alone_last none can last = alone can (subst (λ (x : Store). IsLast core x new number frame) (ap (λ (t : Turn). record old { turn = t }) none) last)
 
   -- behind who keeps the turn where it is kept
-  pub behind_kept : (b : Bool) (words : List ℕ) → turn_words core old ≡ words ∷ [] → ArePairs old.heap old.values.items → IsTurn core old.heap old.values.items old.turn
+  pub behind_kept : (b : Bool) (words : List ℕ) → turn_words core old ≡ words ∷ [] → ArePairs old.desk.heap old.desk.values.items → IsTurn core old.desk.heap old.desk.values.items old.turn
       → (b ≡ true → CanHoldBeside old (length words + 1) frame) → CanHold old frame → HasBlockFor old.queues.region words
       → (b ≡ true → Spawns old new number frame) → (b ≡ false → IsLast core (record old { turn = Nobody }) new number frame)
       → Readies core old new (if_replicated b words) number frame

@@ -12,11 +12,15 @@ use Rattle.pict_code.specs.ReadBack.{core_of, unleveled}
 use Rattle.pict_region.specs.RegionState.{spare}
 use Rattle.pict_queue.specs.QueuesState.{QueuesState, IsQueue}
 use Rattle.pict_queue.specs.Contents.{contents, first_words}
-use Rattle.pict_blocks.specs.Blocks.{value_in, process_of, known, operand_value, IsNodeBlock}
+use Rattle.pict_blocks.specs.Blocks.{process_of, IsNodeBlock}
+use Rattle.pict_desk.specs.Known.{value_in, known, operand_value}
 use Rattle.pict_blocks.proofs.Meeting.{inputs_stand}
-use Rattle.pict_operands.specs.Needs.{HasRoomFor}
-use Rattle.pict_turns.specs.Acting.{IsCode, IsRight}
-use Rattle.pict_turns.specs.Parts.{block_width, frame_need, CanHold}
+use Rattle.pict_desk.specs.Needs.{HasRoomFor}
+use Rattle.pict_turns.specs.Acting.{IsRight}
+use Rattle.pict_desk.specs.Code.{IsCode}
+use Rattle.pict_turns.specs.Parts.{CanHold}
+use Rattle.pict_blocks.specs.Parts.{block_width}
+use Rattle.pict_desk.specs.Room.{frame_need}
 use Rattle.pict_turns.specs.Views.{channel_lists, acting_words}
 use Rattle.pict_turns.specs.declared.store.Store.{Store}
 use Rattle.pict_turns.specs.declared.turn.Turn.TheVariants.{Nobody}
@@ -38,16 +42,16 @@ module _ (core : Process) (number part : ℕ) (replicated : Bool) (pattern : Cod
   serves_part = has_part core number part i.node replicated i.chan pattern i.at i.is
 
   pub serves_fits : (old taken : Store) (channel : ℕ) (message : ℕ × ℕ) (at : Span) → IsClosed core → Sends core old channel message at → IsQueue old.queues (channel + 1)
-      → ReadsInput core (record old { turn = Nobody }) taken channel number → IsRight core old → IsSome (match_value (unleveled pattern) (value_in old.heap message.0 message.1))
+      → ReadsInput core (record old { turn = Nobody }) taken channel number → IsRight core old → IsSome (match_value (unleveled pattern) (value_in old.desk.heap message.0 message.1))
   serves_fits old taken channel message at closed sends there reads right =
       let words = reads.words in
       let same : Some reads.read.node ≡ Some i.node = sym reads.read.is.at ∙ i.at in
       let node_is : reads.read.node ≡ i.node = cc in
       let op_is : reads.read.node.op ≡ input_op replicated i.chan pattern part = ap (λ (n : Node). n.op) node_is ∙ i.is in
-      let is : IsNodeBlock core old.heap taken.values.items number reads.read.node words = subst (λ h. IsNodeBlock core h taken.values.items number reads.read.node words) reads.read.rest.heap reads.read.is in
-      let stands = inputs_stand core old.heap taken.values.items number part replicated i.chan pattern reads.read.node words closed is op_is in
-      output_fits (process_of core (value_in old.heap)) (acting_words core old) (contents old.queues 0) (channel_lists old.queues) (right_acting core old sends.acting right)
-      channel (value_in old.heap message.0 message.1) at words reads.others (operand_value (known old.heap taken.values.items) i.chan) replicated (unleveled pattern) stands.0
+      let is : IsNodeBlock core old.desk.heap taken.desk.values.items number reads.read.node words = subst (λ h. IsNodeBlock core h taken.desk.values.items number reads.read.node words) reads.read.rest.heap reads.read.is in
+      let stands = inputs_stand core old.desk.heap taken.desk.values.items number part replicated i.chan pattern reads.read.node words closed is op_is in
+      output_fits (process_of core (value_in old.desk.heap)) (acting_words core old) (contents old.queues 0) (channel_lists old.queues) (right_acting core old sends.acting right)
+      channel (value_in old.desk.heap message.0 message.1) at words reads.others (operand_value (known old.desk.heap taken.desk.values.items) i.chan) replicated (unleveled pattern) stands.0
       (channel_there old.queues channel there ∙ ap Some reads.waiting) sends.is stands.1
 
 -- ---- what waits at the channel once the input's frame is read
@@ -68,7 +72,7 @@ spare_after width before after reader rest false e h = omega (arith, e, h)
 
 -- there is room still for its part
 pub can_serve : (core : Process) (old taken bound : Store) (channel number : ℕ) (replicated : Bool) (frame : List ℕ) (back : QueuesState)
-    → (reads : ReadsInput core (record old { turn = Nobody }) taken channel number) → bound ≡ record taken { queues = back; values = bound.values }
+    → (reads : ReadsInput core (record old { turn = Nobody }) taken channel number) → bound ≡ record taken { desk = record taken.desk { values = bound.desk.values }; queues = back }
     → ((width : ℕ) → spare back.region width ≡ spare taken.queues.region width + cond replicated 0 (as_wide width (first_words taken.queues (channel + 1) ∷ [])))
     → CanHoldAfter old (cond replicated [] (take 1 (contents old.queues (channel + 1)))) frame → CanHold bound frame
 can_serve core old taken bound channel number replicated frame back reads is spared can =
@@ -79,9 +83,9 @@ can_serve core old taken bound channel number replicated frame back reads is spa
     subst (λ list. 1 ≤ spare old.queues.region width + as_wide width (cond replicated [] (take 1 list))) reads.waiting can.block in
     let free : spare bound.queues.region width ≡ spare old.queues.region width + cond replicated 0 (as_wide width (words ∷ [])) =
     ap (λ (s : Store). spare s.queues.region width) is ∙ spared width ∙ ap (λ (ws : List ℕ). spare taken.queues.region width + cond replicated 0 (as_wide width (ws ∷ []))) first ∙ ap (λ n. n + cond replicated 0 (as_wide width (words ∷ []))) (spare_read (record old { turn = Nobody }) taken reads.read.rest width) in
-    let heap : bound.heap ≡ old.heap = ap (λ (s : Store). s.heap) is ∙ reads.read.rest.heap in
-    let pending : bound.pending ≡ old.pending = ap (λ (s : Store). s.pending) is ∙ reads.read.rest.pending in
+    let heap : bound.desk.heap ≡ old.desk.heap = ap (λ (s : Store). s.desk.heap) is ∙ reads.read.rest.heap in
+    let pending : bound.desk.pending ≡ old.desk.pending = ap (λ (s : Store). s.desk.pending) is ∙ reads.read.rest.pending in
     record {
       block = spare_after width (spare old.queues.region width) (spare bound.queues.region width) words reads.others replicated free there;
-      room = subst (λ h. HasRoomFor h bound.pending (frame_need frame)) (sym heap) (subst (λ p. HasRoomFor old.heap p (frame_need frame)) (sym pending) can.room);
+      room = subst (λ h. HasRoomFor h bound.desk.pending (frame_need frame)) (sym heap) (subst (λ p. HasRoomFor old.desk.heap p (frame_need frame)) (sym pending) can.room);
     }

@@ -6,20 +6,22 @@ use Rattle.pict_core.specs.Step.{Quiet}
 use Rattle.pict_core.specs.Term.{Val, Pat, Process, Chan, Out, In}
 use Rattle.pict_code.specs.Instruction.{CodePat}
 use Rattle.pict_code.specs.ReadBack.{unleveled}
-use Rattle.pict_frames.specs.Keeping.{kept_words, FitsKept}
-use Rattle.pict_frames.specs.declared.keeping.Kept.{Kept}
+use Rattle.pict_blocks.specs.Keeping.{kept_words}
+use Rattle.pict_desk.specs.Kept.{FitsKept}
+use Rattle.pict_desk.specs.declared.kept.Kept.{Kept}
 use Rattle.pict_heap.specs.HeapState.{HeapState}
 use Rattle.pict_heap.specs.Packed.{packed}
 use Rattle.pict_heap.specs.declared.word.Word.TheVariants as word
 use Rattle.pict_queue.specs.QueuesState.{QueuesState, IsQueue}
 use Rattle.pict_queue.specs.Contents.{contents, KeepsOtherContents, HoldsNoMore}
 use Rattle.pict_view.proofs.Rows.{BeginsWithMessage, BeginsWithReader, output_parks, input_parks}
-use Rattle.pict_blocks.specs.Blocks.{value_in, process_of}
+use Rattle.pict_blocks.specs.Blocks.{process_of}
+use Rattle.pict_desk.specs.Known.{value_in}
 use Rattle.pict_blocks.specs.Laws.{BlocksStep}
 use Rattle.pict_blocks.proofs.Meeting.{inputs_stand}
-use Rattle.pict_operands.specs.Pairs.{IsPair}
-use Rattle.pict_operands.proofs.Making.{keeps_all}
-use Rattle.pict_operands.proofs.Pairs.{value_packed}
+use Rattle.pict_desk.specs.Pairs.{IsPair}
+use Rattle.pict_desk.proofs.Making.{keeps_all}
+use Rattle.pict_desk.proofs.Pairs.{value_packed}
 use Rattle.pict_turns.specs.Acting.{HasActing, IsDone}
 use Rattle.pict_turns.specs.Views.{channel_lists, acting_words, IsBlock, IsKept, IsInputAt, CanWait}
 use Rattle.pict_turns.specs.declared.store.Store.{Store}
@@ -87,31 +89,31 @@ module _ (core : Process) (s : Store) (q : QueuesState) (channel : ℕ) (waiting
     waiting_are = pushed;
     others = λ queue some. λ apart. others queue apart;
     queues = many;
-    keeps = keeps_all s.heap;
+    keeps = keeps_all s.desk.heap;
     pairs = acting.store.pairs;
     levels = refl;
     turn = tt;
     room = tt;
   }
 
-  pub waits : IsBlock core s.heap waiting → CanWait core waiting
-      → BlocksStep core s.heap (acting_words core s ∷ contents s.queues 0) (channel_lists s.queues) Quiet (contents s.queues 0)
+  pub waits : IsBlock core s.desk.heap waiting → CanWait core waiting
+      → BlocksStep core s.desk.heap (acting_words core s ∷ contents s.queues 0) (channel_lists s.queues) Quiet (contents s.queues 0)
       (slice_set (channel_lists s.queues) channel (contents s.queues (channel + 1) ++ waiting ∷ []))
       → IsDone core s (record s { queues = q; turn = Nobody }) Quiet
   waits is can step =
       done core s (record s { queues = q; turn = Nobody }) channel (contents s.queues 0) (contents s.queues (channel + 1) ++ waiting ∷ []) acting there one_more Quiet
       (acting.store.blocks 0)
-      (all_pushed (IsBlock core s.heap) (contents s.queues (channel + 1)) waiting (acting.store.blocks (channel + 1)) is)
+      (all_pushed (IsBlock core s.desk.heap) (contents s.queues (channel + 1)) waiting (acting.store.blocks (channel + 1)) is)
       (all_pushed (CanWait core) (contents s.queues (channel + 1)) waiting (acting.store.waiting channel) can)
       step no_more
 
   -- it is an output of kept values, as who had the turn is an output
-  pub output_done : (v : Val) (at : Span) → process_of core (value_in s.heap) (acting_words core s) ≡ Out (Chan channel) v at
-      → (kept : IsKept s.heap waiting) → process_of core (value_in s.heap) waiting ≡ Out (Chan channel) v at
+  pub output_done : (v : Val) (at : Span) → process_of core (value_in s.desk.heap) (acting_words core s) ≡ Out (Chan channel) v at
+      → (kept : IsKept s.desk.heap waiting) → process_of core (value_in s.desk.heap) waiting ≡ Out (Chan channel) v at
       → NoInputWaits s.queues channel → IsDone core s (record s { queues = q; turn = Nobody }) Quiet
   output_done v at is kept same none =
       waits (inr kept) (subst (CanWait core) (sym kept.is) tt)
-      (output_waits core s.heap (acting_words core s) waiting (contents s.queues 0) s.queues channel there v at is same (acting.store.blocks (channel + 1)) none)
+      (output_waits core s.desk.heap (acting_words core s) waiting (contents s.queues 0) s.queues channel there v at is same (acting.store.blocks (channel + 1)) none)
 
 -- who had the turn waits itself
 module _ (core : Process) (s : Store) (q : QueuesState) (channel : ℕ) (there : IsQueue s.queues (channel + 1))
@@ -120,20 +122,20 @@ module _ (core : Process) (s : Store) (q : QueuesState) (channel : ℕ) (there :
   pub kept_done : SendsKept core s channel → NoInputWaits s.queues channel → IsDone core s (record s { queues = q; turn = Nobody }) Quiet
   kept_done sends none =
       let k = sends.kept.kept in
-      let is : process_of core (value_in s.heap) (acting_words core s) ≡ Out (Chan channel) (value_in s.heap k.message.0 k.message.1) k.at =
-      ap (process_of core (value_in s.heap)) sends.kept.is ∙ ap (λ v. Out v (value_in s.heap k.message.0 k.message.1) k.at) sends.to in
-      output_done core s q channel (acting_words core s) sends.acting there pushed others many no_more (value_in s.heap k.message.0 k.message.1) k.at is sends.kept is none
+      let is : process_of core (value_in s.desk.heap) (acting_words core s) ≡ Out (Chan channel) (value_in s.desk.heap k.message.0 k.message.1) k.at =
+      ap (process_of core (value_in s.desk.heap)) sends.kept.is ∙ ap (λ v. Out v (value_in s.desk.heap k.message.0 k.message.1) k.at) sends.to in
+      output_done core s q channel (acting_words core s) sends.acting there pushed others many no_more (value_in s.desk.heap k.message.0 k.message.1) k.at is sends.kept is none
 
   pub input_done : (replicated : Bool) (pattern : CodePat) (part : ℕ) → Receives core s channel replicated pattern part → NoOutputWaits s.queues channel
       → IsDone core s (record s { queues = q; turn = Nobody }) Quiet
   input_done replicated pattern part r none =
       let words = acting_words core s in
       let a = r.acts in
-      let stands = inputs_stand core s.heap s.values.items a.number part replicated r.chan pattern a.node words r.closed a.is a.op_is in
-      let is : process_of core (value_in s.heap) words ≡ In (Chan channel) replicated (unleveled pattern) stands.0 = stands.1 ∙ ap (λ v. In v replicated (unleveled pattern) stands.0) r.from in
+      let stands = inputs_stand core s.desk.heap s.desk.values.items a.number part replicated r.chan pattern a.node words r.closed a.is a.op_is in
+      let is : process_of core (value_in s.desk.heap) words ≡ In (Chan channel) replicated (unleveled pattern) stands.0 = stands.1 ∙ ap (λ v. In v replicated (unleveled pattern) stands.0) r.from in
       let at : IsInputAt core a.number = record { node = a.node; at = a.is.at; replicated = replicated; chan = r.chan; pattern = pattern; part = part; is = a.op_is } in
       waits core s q channel words a.acting there pushed others many no_more (acting_block core s a.acting) (subst (CanWait core) (sym a.is.words_are) at)
-      (input_waits core s.heap words words (contents s.queues 0) s.queues channel there replicated (unleveled pattern) stands.0 is is (a.acting.store.waiting channel) none)
+      (input_waits core s.desk.heap words words (contents s.queues 0) s.queues channel there replicated (unleveled pattern) stands.0 is is (a.acting.store.waiting channel) none)
 
 -- who had the turn ends, and one of an output of kept values waits in its place
 module _ (core : Process) (s : Store) (q : QueuesState) (channel : ℕ) (message : ℕ × ℕ) (at : Span) (k : Kept) (there : IsQueue s.queues (channel + 1))
@@ -141,7 +143,7 @@ module _ (core : Process) (s : Store) (q : QueuesState) (channel : ℕ) (message
   pub sent_done : Sends core s channel message at → contents q (channel + 1) ≡ contents s.queues (channel + 1) ++ kept_words k ∷ [] → KeepsOtherContents s.queues q (channel + 1)
       → length q.queues ≡ length s.queues.queues → HoldsNoMore s.queues q → NoInputWaits s.queues channel → IsDone core s (record s { queues = q; turn = Nobody }) Quiet
   sent_done sends pushed others many no_more none =
-      let h = s.heap in
+      let h = s.desk.heap in
       let kept : IsKept h (kept_words k) = record {
         kept = k;
         is = refl;

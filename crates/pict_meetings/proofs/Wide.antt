@@ -3,9 +3,9 @@ use Rattle.std.proofs.Common.{ℕ, ◌+◌, ◌≤◌, ◌≡◌, ◌==◌, true
 use Rattle.std.proofs.lemmas.Bool.Decides.{nat_tests}
 use Rattle.pict_core.specs.Term.{Process}
 use Rattle.pict_heap.specs.HeapState.{HeapState}
-use Rattle.pict_turns.specs.Parts.{block_width}
+use Rattle.pict_blocks.specs.Parts.{block_width}
 use Rattle.pict_turns.specs.Views.{IsNode}
-use Rattle.pict_turns.proofs.Holding.{held_width}
+use Rattle.pict_blocks.proofs.Holding.{held_width}
 use Rattle.pict_meetings.specs.Room.{as_wide}
 
 -- with its link

@@ -9,11 +9,12 @@ ghost use Rattle.pict_code.specs.Plain.{plain_node, plain_pat};
 ghost use Rattle.pict_region.specs.RegionState.{KeepsBlocks};
 ghost use Rattle.pict_queue.specs.QueuesState.{IsQueue, CostsAtMost};
 ghost use Rattle.pict_queue.specs.Contents.{contents, HoldsNoMore};
-ghost use Rattle.pict_blocks.specs.Blocks.{value_in};
-ghost use Rattle.pict_operands.specs.Pairs.{IsPair, ArePairs};
-ghost use Rattle.pict_turns.specs.Acting.{core_in, IsCode, IsRight, IsDone};
-ghost use Rattle.pict_turns.specs.Parts.{block_width, CanHold, Spawns, IsLast};
-ghost use Rattle.pict_turns.specs.Reading.{HasFrame};
+ghost use Rattle.pict_desk.specs.Known.{value_in};
+ghost use Rattle.pict_desk.specs.Pairs.{IsPair, ArePairs};
+ghost use Rattle.pict_turns.specs.Acting.{IsRight, IsDone};
+ghost use Rattle.pict_desk.specs.Code.{core_in, IsCode, HasFrame};
+ghost use Rattle.pict_turns.specs.Parts.{CanHold, Spawns, IsLast};
+ghost use Rattle.pict_blocks.specs.Parts.{block_width};
 ghost use Rattle.pict_turns.specs.Turns.{turn_cost};
 ghost use Rattle.pict_turns.specs.Views.{acting_words};
 ghost use Rattle.pict_meetings.specs.Partners.{Sends, Receives};
@@ -32,8 +33,8 @@ use pict_turns::{Store, Turn, frame_at, make_ready, spawn_part};
 fn make_last(store: &mut Store, stays: bool, number: u32, frame: &[u32])
     requires queue { IsQueue store.old.queues 0 }
     requires can { CanHold store.old frame.now }
-    requires inside { All (λ level. level < length store.old.values.items) frame.now }
-    requires pairs { ArePairs store.old.heap store.old.values.items }
+    requires inside { All (λ level. level < length store.old.desk.values.items) frame.now }
+    requires pairs { ArePairs store.old.desk.heap store.old.desk.values.items }
     ensures behind { stays ≡ true → Spawns store.old store.new number frame.now }
     ensures alone { stays ≡ false → (core : Process) → HasFrame (nodes_of core) number frame.now
         → IsLast core (record store.old { turn = Turn.Nobody }) store.new number frame.now }
@@ -68,8 +69,8 @@ pub fn meet_message(
     requires can { (frame : List ℕ) → HasFrame (map plain_node code.now) part frame → CanHold store.old frame }
     requires beside { IsTrue replicated → (frame : List ℕ) → HasFrame (map plain_node code.now) part frame
         → CanHoldBeside store.old (length (acting_words (core_in code.now) store.old) + 1) frame }
-    ensures pair { IsPair store.new.heap result }
-    ensures done { IsDone (core_in code.now) store.old store.new (Comm channel (value_in store.new.heap result.0 result.1)) }
+    ensures pair { IsPair store.new.desk.heap result }
+    ensures done { IsDone (core_in code.now) store.old store.new (Comm channel (value_in store.new.desk.heap result.0 result.1)) }
     ensures turn { (frame : List ℕ) → HasFrame (map plain_node code.now) part frame
         → turn_cost (core_in code.now) store.new ≤ turn_cost (core_in code.now) store.old + (block_width frame + 4) }
     ensures blocks { KeepsBlocks store.old.queues.region store.new.queues.region }
@@ -104,7 +105,7 @@ fn serve(
     requires right { IsRight (core_in code.now) store.old }
     requires can { (frame : List ℕ) → HasFrame (map plain_node code.now) part frame
         → CanHoldAfter store.old (if replicated then [] else take 1 (contents store.old.queues (channel + 1))) frame }
-    ensures done { IsDone (core_in code.now) store.old store.new (Comm channel (value_in store.new.heap message.0 message.1)) }
+    ensures done { IsDone (core_in code.now) store.old store.new (Comm channel (value_in store.new.desk.heap message.0 message.1)) }
     ensures turn { (frame : List ℕ) → HasFrame (map plain_node code.now) part frame
         → turn_cost (core_in code.now) store.new ≤ block_width frame + 4 }
     ensures blocks { KeepsBlocks store.old.queues.region store.new.queues.region }
@@ -153,7 +154,7 @@ pub fn meet_reader(
     requires can { (replicated : Bool) (pattern : AnyPattern) (part : ℕ) (frame : List ℕ)
         → IsInputWith (map plain_node code.now) reader replicated pattern part → HasFrame (map plain_node code.now) part frame
         → CanHoldAfter store.old (if replicated then [] else take 1 (contents store.old.queues (channel + 1))) frame }
-    ensures done { IsDone (core_in code.now) store.old store.new (Comm channel (value_in store.new.heap message.0 message.1)) }
+    ensures done { IsDone (core_in code.now) store.old store.new (Comm channel (value_in store.new.desk.heap message.0 message.1)) }
     ensures turn { (replicated : Bool) (pattern : AnyPattern) (part : ℕ) (frame : List ℕ)
         → IsInputWith (map plain_node code.now) reader replicated pattern part → HasFrame (map plain_node code.now) part frame
         → turn_cost (core_in code.now) store.new ≤ block_width frame + 4 }

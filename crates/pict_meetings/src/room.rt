@@ -1,15 +1,17 @@
 // Room for the block of a part that a meeting spawns.
 ghost use Rattle.std.specs.Prelude.{◌≡◌, ◌≤◌, ◌∷◌, [], ℕ, List, length, OnOk, IsOk, IsTrue};
 ghost use Rattle.pict_region.specs.RegionState.{spare, KeepsBlocks};
-ghost use Rattle.pict_operands.specs.Needs.{no_need};
-ghost use Rattle.pict_turns.specs.Parts.{block_width};
+ghost use Rattle.pict_desk.specs.Needs.{no_need};
+ghost use Rattle.pict_blocks.specs.Parts.{block_width};
 ghost use Rattle.pict_turns.specs.Reserving.{OnlyReserves};
 ghost use Rattle.pict_turns.specs.Widths.{MakesOnly};
 ghost use Rattle.pict_meetings.specs.Room.{as_wide, CanHoldAfterAnd, CanHoldBeside};
 
+use pict_blocks::block_width;
+use pict_desk::reserve_room;
 use pict_prim::{NO_NEED, Need};
 use pict_syntax::NARROW_LIMIT;
-use pict_turns::{Store, block_width, reserve_part, reserve_room};
+use pict_turns::{Store, reserve_part};
 use std::alloc::AllocError;
 
 /// Makes room for the block of a frame, once blocks that end are given back, and in the heap and on the piles for so much more:
@@ -32,7 +34,7 @@ pub fn reserve_served(
     ensures rest { OnlyReserves store.old store.new }
 {
     if reuses && frame.len() <= NARROW_LIMIT as usize {
-        reserve_room(store, further)
+        reserve_room(&mut store.desk, further)
     } else {
         reserve_part(store, frame, further)
     }

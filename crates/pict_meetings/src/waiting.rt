@@ -4,7 +4,7 @@ ghost use Rattle.std.specs.List.{AllByRecursion};
 ghost use Rattle.pict_core.specs.Term.{Process};
 ghost use Rattle.pict_queue.specs.QueuesState.{IsQueue, CostsAtMost};
 ghost use Rattle.pict_queue.specs.Contents.{contents, KeepsAllContents, KeepsHeld};
-ghost use Rattle.pict_frames.specs.Writing.{OnlyWorks};
+ghost use Rattle.pict_blocks.specs.Writing.{OnlyWorks};
 ghost use Rattle.pict_turns.specs.Views.{CanWait};
 ghost use Rattle.pict_meetings.specs.Waiting.{waits_first};
 

@@ -1,5 +1,6 @@
 pub mod Steps
 pub mod Apart
+pub mod FreeRuns
 pub mod Order
 pub mod Natural
 pub mod Readings

@@ -5,6 +5,8 @@ use Rattle.pict_core.specs.Closed.{IsClosed}
 use Rattle.pict_core.specs.Configuration.{Configuration, IsConfiguration, opening}
 use Rattle.pict_core.specs.Step.{Label, Choice, Free, Steps, Finished, next}
 use Rattle.pict_core.specs.Run.{Reaches, printed_by}
+use Rattle.pict_core.specs.Places.{Place}
+use Rattle.pict_core.specs.FreeRun.{FreelyRuns}
 use Rattle.pict_reduction.specs.Congruence.{Congruent}
 use Rattle.pict_reduction.specs.Reduction.{Reduces, IsIrreducible}
 use Rattle.pict_reduction.specs.Reading.{reading}
@@ -58,3 +60,9 @@ AlikeAreCongruent = (n : ℕ) (p q : Process) → AreAlike n (components n p) (c
 -- of a closed process is reached by silent steps and then one that reduces.
 abbrev pub ReductionsAreReached : Type 0
 ReductionsAreReached = (p : Process) (C : Configuration) (bytes : List ℕ) (R : Process) → IsClosed p → FreelyReaches (opening p) C → Reduces 0 bytes (reading C) R → IsReachedBySteps C bytes R
+
+-- The free run of a list of places reaches its last configuration by free steps.
+abbrev pub FreeRunsReach : Type 0
+FreeRunsReach =
+    (p : Process) (places : List Place) (labels : List (ℕ × Label)) (D : Configuration) → IsClosed p
+    → FreelyRuns (opening p) places labels D → FreelyReaches (opening p) D

@@ -1,6 +1,6 @@
 // Laws of the definitions. Each is a function that does nothing: its contract is the law.
 
-ghost use Rattle.pict_reduction.specs.Laws.{AlikeAreCongruent, ChannelsInOrder, CongruentAreAlike, FinishedIsIrreducible, ParkedApart, ReductionsAreReached, ReductionsAreReactions, RunsReduce, StepsAreReductions};
+ghost use Rattle.pict_reduction.specs.Laws.{AlikeAreCongruent, ChannelsInOrder, CongruentAreAlike, FinishedIsIrreducible, FreeRunsReach, ParkedApart, ReductionsAreReached, ReductionsAreReactions, RunsReduce, StepsAreReductions};
 
 /// In each configuration that free steps reach from the opening one of a closed process, a parked process stands at a
 /// channel, and no channel has a parked message and a parked reader at once.
@@ -60,4 +60,10 @@ pub fn law_alike()
 /// reduces it and prints what the reduction prints.
 pub fn law_reduction_is_reached()
     ensures { ReductionsAreReached }
+{}
+
+/// The free run of a list of places, from the opening configuration of a closed process, reaches its last configuration by
+/// free steps.
+pub fn law_free_runs_reach()
+    ensures { FreeRunsReach }
 {}

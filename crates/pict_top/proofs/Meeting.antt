@@ -13,7 +13,7 @@ use Rattle.pict_top.specs.Origins.{origin_of}
 use Rattle.pict_top.specs.declared.status.Status.{Status}
 use Rattle.pict_top.specs.declared.status.Status.TheVariants as status
 use Rattle.pict_top.specs.declared.status.Status.TheVariants.{ReadFault, WriteFault, Memory}
-use Rattle.pict_top.proofs.Sound.{accepted_sound}
+use Rattle.pict_top.proofs.Sound.{accepted_freely_sound, accepted_sound}
 use Rattle.pict_top.proofs.Reading.{told_known}
 use Rattle.pict_top.proofs.One.{at_most_one, usage_is_for_no_shape}
 use Rattle.pict_top.proofs.Load.{one_of_load, never_asked, load_not_missing}
@@ -132,5 +132,6 @@ headline words shelf out err s m usage missing =
       load_complete = λ n o shape owes b c. one_status Owes Faults (ShelfFailed shelf) out err s o (λ p q. one_of_load words n shelf.held p o shape q owes) m
           (when_no_fault Owes Faults (ShelfFailed shelf) out err s m (λ failed. never_asked words n shape) b c);
       sound = accepted_sound words shelf.held;
+      any_order = accepted_freely_sound words shelf.held;
       usage_only = λ e. let o = when Owes Faults (ShelfFailed shelf) out err s status.Usage m e in usage_is_for_no_shape words shelf.held o.0 o.1 o.2.0;
     }

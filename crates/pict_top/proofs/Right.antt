@@ -30,7 +30,10 @@ run_is_free p closed (suc n) labels C r =
     let s = oldest_first_is_free r.0 C r.2 x.is r.4 in
     record { is = free_steps_keep r.0 s.0 C r.2 x.is s.1; freely = by_step x.freely s.1 }
 
+-- no configuration that free steps reach is wrong
+pub accepted_is_freely_right : (front : Front) → IsAccepted front → (C : Configuration) → FreelyReaches (opening front.core) C → IsWrong C → ⊥
+accepted_is_freely_right front a C reached = program_is_never_wrong front.names a.program C a.typed (subst (λ p. FreelyReaches (opening p) C) a.core reached)
+
 -- no configuration of the run is wrong
 pub accepted_is_never_wrong : (front : Front) → IsAccepted front → IsClosed front.core → (n : ℕ) (labels : List (ℕ × Label)) (C : Configuration) → Reaches n (opening front.core) labels C → IsWrong C → ⊥
-accepted_is_never_wrong front a closed n labels C reached =
-    program_is_never_wrong front.names a.program C a.typed (subst (λ p. FreelyReaches (opening p) C) a.core (run_is_free front.core closed n labels C reached).freely)
+accepted_is_never_wrong front a closed n labels C reached = accepted_is_freely_right front a C (run_is_free front.core closed n labels C reached).freely

@@ -4,14 +4,18 @@ use Rattle.pict_outside.specs.Texts.{Texts}
 use Rattle.pict_scope.proofs.LabelsScoped.{scoped_distinct}
 use Rattle.pict_core.specs.Closed.{IsClosed}
 use Rattle.pict_translation.proofs.ClosedLemmas.{program_closed}
-use Rattle.pict_reduction.proofs.Finished.{runs_reduce}
+use Rattle.pict_core.specs.Configuration.{opening}
+use Rattle.pict_reduction.proofs.Apart.{freely_reached, opening_reached}
+use Rattle.pict_reduction.proofs.Finished.{finished_is_irreducible, runs_reduce}
+use Rattle.pict_reduction.proofs.Reaching.{reductions_are_reached}
+use Rattle.pict_reduction.proofs.Reductions.{steps_are_reductions}
 use Rattle.pict_front.specs.Front.{Front}
 use Rattle.pict_front.specs.Laws.{IsAccepted}
 use Rattle.pict_front.proofs.TypedPrograms.{accepted_is_typed}
 use Rattle.pict_top.specs.Origins.{origin_of, prelude_of}
 use Rattle.pict_top.specs.Owed.{Accepts}
-use Rattle.pict_top.specs.Soundness.{IsSound}
-use Rattle.pict_top.proofs.Right.{accepted_is_never_wrong}
+use Rattle.pict_top.specs.Soundness.{IsSound, IsFreelySound}
+use Rattle.pict_top.proofs.Right.{accepted_is_freely_right, accepted_is_never_wrong}
 
 accepted_closed : (front : Front) → IsAccepted front → IsClosed front.core
 accepted_closed front a = subst IsClosed (sym a.core) (program_closed front.names a.program (scoped_distinct front.names a.program a.scoped))
@@ -22,3 +26,15 @@ accepted_sound words held front a steps labels C reached =
     let closed = accepted_closed front accepted in
     let r = runs_reduce front.core steps labels C closed reached in
     record { right = accepted_is_never_wrong front accepted closed steps labels C reached; reduces = r.0; finished = r.1 }
+
+pub accepted_freely_sound : (words : List (List ℕ)) (held : Option Texts) (front : Front) → Accepts words held front → IsFreelySound front.core
+accepted_freely_sound words held front a C reached =
+    let accepted = accepted_is_typed (prelude_of (origin_of a.command)) a.text front a.front in
+    let closed = accepted_closed front accepted in
+    let is = (freely_reached (opening front.core) C (opening_reached front.core closed) reached).is in
+    record {
+      right = accepted_is_freely_right front accepted C reached;
+      reduces = λ choice D label. steps_are_reductions C choice D label is;
+      reached = λ bytes R. reductions_are_reached front.core C bytes R closed reached;
+      finished = finished_is_irreducible front.core C closed reached;
+    }

@@ -8,7 +8,7 @@ use Rattle.pict_top.specs.Meets.{IsDecided, SomeOutcome, Delivers, Breaks, Tells
 use Rattle.pict_top.specs.Outcome.{Outcome}
 use Rattle.pict_top.specs.Owed.{OwesWords, FaultsWords, Accepts}
 use Rattle.pict_report.specs.Reports.{usage_report}
-use Rattle.pict_top.specs.Soundness.{IsSound}
+use Rattle.pict_top.specs.Soundness.{IsSound, IsFreelySound}
 use Rattle.pict_words.specs.Words.{HasShape, HasNoShape, Load}
 use Rattle.pict_top.specs.declared.status.Status.{Status}
 use Rattle.pict_top.specs.declared.status.Status.TheVariants.{Usage, ReadFault, WriteFault, Memory, Missing}
@@ -60,3 +60,6 @@ pub record Headline (words : List (List ℕ)) (shelf : ShelfChange) (out err : S
   -- no configuration of an accepted program's run is wrong: no value of a wrong shape is met; each step leaves its reading
   -- congruent or is one reduction of it, and where the run is finished no reduction is left
   pub sound : (accepted : Front) → Accepts words shelf.held accepted → IsSound accepted.core
+  -- and so it is in any order, whichever ready process acts each time, with whichever partner: no free step of the accepted
+  -- program is wrong, each leaves the reading congruent or is one reduction of it, and no reduction is lost
+  pub any_order : (accepted : Front) → Accepts words shelf.held accepted → IsFreelySound accepted.core

@@ -8,11 +8,12 @@ use Rattle.pict_heap.specs.HeapState.{HeapState, KeepsWords}
 use Rattle.pict_region.specs.RegionState.{spare}
 use Rattle.pict_queue.specs.QueuesState.{QueuesState, IsHeld}
 use Rattle.pict_queue.specs.Contents.{held_words, contents, HoldsNoMore}
-use Rattle.pict_frames.specs.Writing.{OnlyWorks}
-use Rattle.pict_frames.proofs.Held.{works_no_more}
-use Rattle.pict_view.specs.ViewStep.{next_view}
-use Rattle.pict_blocks.specs.Blocks.{value_in, view_of_contents}
-use Rattle.pict_operands.specs.Pairs.{ArePairs}
+use Rattle.pict_view.specs.Placed.{next_view}
+use Rattle.pict_blocks.specs.Blocks.{view_of_contents}
+use Rattle.pict_blocks.specs.Writing.{OnlyWorks}
+use Rattle.pict_blocks.proofs.Held.{works_no_more}
+use Rattle.pict_desk.specs.Known.{value_in}
+use Rattle.pict_desk.specs.Pairs.{ArePairs}
 use Rattle.pict_turns.specs.Acting.{HasBlockFor, IsStore, HasActing, IsDone, IsRefused}
 use Rattle.pict_turns.specs.Reading.{OnlyReads}
 use Rattle.pict_turns.specs.Turns.{IsTurn}
@@ -23,13 +24,8 @@ use Rattle.pict_turns.specs.declared.turn.Turn.TheVariants.{Nobody}
 use Rattle.pict_turns.proofs.Turns.{words_nobody, has_words, same_words, room_more}
 
 -- words alone are read
-pub reads_works : (s : Store) (queues : QueuesState) → ArePairs s.heap s.values.items → OnlyWorks s.queues queues → OnlyReads s (record s { queues = queues })
+pub reads_works : (s : Store) (queues : QueuesState) → ArePairs s.desk.heap s.desk.values.items → OnlyWorks s.queues queues → OnlyReads s (record s { queues = queues })
 reads_works s queues pairs works = record { queues = works; heap = refl; pending = refl; turn = refl; levels = refl; pairs = pairs }
-
-pub works_of : (old new : QueuesState) (work : ℕ) → new ≡ record old { region = record old.region { work = work } } → OnlyWorks old new
-works_of old new work e =
-    let same : new.region.work ≡ work = ap (λ (s : QueuesState). s.region.work) e in
-    e ∙ ap (λ (w : ℕ). record old { region = record old.region { work = w } }) (sym same)
 
 pub works_more : (a b c : QueuesState) → OnlyWorks a b → OnlyWorks b c → OnlyWorks a c
 works_more a b c v w = w ∙ ap (λ (s : QueuesState). record s { region = record s.region { work = c.region.work } }) v
@@ -73,10 +69,10 @@ module _ (old new : Store) (r : OnlyReads old new) where
 
   module _ (core : Process) where
     -- the store is one still, where who may have the turn after reading may, and has a free block
-    store_after : IsStore core old → IsTurn core new.heap new.values.items new.turn → turn_words core new ≡ turn_words core old → IsStore core new
+    store_after : IsStore core old → IsTurn core new.desk.heap new.desk.values.items new.turn → turn_words core new ≡ turn_words core old → IsStore core new
     store_after s turn words = record {
       ready = let e = queues_read in let low = s.ready in omega (arith, e, low);
-      blocks = λ queue. subst (AllByRecursion (IsBlock core new.heap)) (sym (contents_read queue)) (subst (λ (h : HeapState). AllByRecursion (IsBlock core h) (contents old.queues queue)) (sym r.heap) (s.blocks queue));
+      blocks = λ queue. subst (AllByRecursion (IsBlock core new.desk.heap)) (sym (contents_read queue)) (subst (λ (h : HeapState). AllByRecursion (IsBlock core h) (contents old.queues queue)) (sym r.heap) (s.blocks queue));
       waiting = λ channel. subst (AllByRecursion (CanWait core)) (sym (contents_read (channel + 1))) (s.waiting channel);
       pairs = r.pairs;
       levels = subst (λ (n : ℕ). AllByRecursion (λ (p : Place). p.around ≤ n) (places 0 core)) (sym r.levels) s.levels;
@@ -89,16 +85,16 @@ module _ (old new : Store) (r : OnlyReads old new) where
     pub store_read_idle : old.turn ≡ Nobody → IsStore core old → IsStore core new
     store_read_idle idle s =
         let still : new.turn ≡ Nobody = r.turn ∙ idle in
-        store_after s (subst (IsTurn core new.heap new.values.items) (sym still) tt) (words_nobody core new still ∙ sym (words_nobody core old idle))
+        store_after s (subst (IsTurn core new.desk.heap new.desk.values.items) (sym still) tt) (words_nobody core new still ∙ sym (words_nobody core old idle))
 
-    module _ (same : new.values.items ≡ old.values.items) where
+    module _ (same : new.desk.values.items ≡ old.desk.values.items) where
       words_same : turn_words core new ≡ turn_words core old
       words_same = same_words core old new r.turn same
 
       pub store_read : IsStore core old → IsStore core new
       store_read s =
-          store_after s (subst (λ (h : HeapState). IsTurn core h new.values.items new.turn) (sym r.heap) (subst (λ (vs : List (ℕ × ℕ)). IsTurn core old.heap vs new.turn) (sym same)
-          (subst (λ (t : Turn). IsTurn core old.heap old.values.items t) (sym r.turn) s.turn))) words_same
+          store_after s (subst (λ (h : HeapState). IsTurn core h new.desk.values.items new.turn) (sym r.heap) (subst (λ (vs : List (ℕ × ℕ)). IsTurn core old.desk.heap vs new.turn) (sym same)
+          (subst (λ (t : Turn). IsTurn core old.desk.heap old.desk.values.items t) (sym r.turn) s.turn))) words_same
 
       pub acting_read : HasActing core old → HasActing core new
       acting_read a = record { store = store_read a.store; has = has_words core new (acting_words core old) (words_same ∙ a.has) }
@@ -107,9 +103,9 @@ module _ (old new : Store) (r : OnlyReads old new) where
       pub view_read : view_with_turn core new ≡ view_with_turn core old
       view_read =
           ap (λ (h : HeapState). view_of_contents core (value_in h) (ready_words core new) (channel_lists new.queues)) r.heap
-          ∙ ap (λ (ws : List (List ℕ)). view_of_contents core (value_in old.heap) (ws ++ contents new.queues 0) (channel_lists new.queues)) words_same
-          ∙ ap (λ (rs : List (List ℕ)). view_of_contents core (value_in old.heap) (turn_words core old ++ rs) (channel_lists new.queues)) (contents_read 0)
-          ∙ ap (view_of_contents core (value_in old.heap) (ready_words core old)) channels_read
+          ∙ ap (λ (ws : List (List ℕ)). view_of_contents core (value_in old.desk.heap) (ws ++ contents new.queues 0) (channel_lists new.queues)) words_same
+          ∙ ap (λ (rs : List (List ℕ)). view_of_contents core (value_in old.desk.heap) (turn_words core old ++ rs) (channel_lists new.queues)) (contents_read 0)
+          ∙ ap (view_of_contents core (value_in old.desk.heap) (ready_words core old)) channels_read
 
       module _ (last : Store) where
         -- a step that is done once blocks are read is a step
@@ -117,7 +113,7 @@ module _ (old new : Store) (r : OnlyReads old new) where
         done_read label d = record {
           moves = sym (ap next_view view_read) ∙ d.moves;
           store = d.store;
-          keeps = subst (λ (h : HeapState). KeepsWords h last.heap) r.heap d.keeps;
+          keeps = subst (λ (h : HeapState). KeepsWords h last.desk.heap) r.heap d.keeps;
           levels = d.levels ∙ r.levels;
           queues = let e = queues_read in let most = d.queues in omega (arith, e, most);
           no_more = λ block held. no_more_read block (d.no_more block held);

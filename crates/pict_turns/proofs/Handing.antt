@@ -5,53 +5,55 @@ use Rattle.std.specs.List.{AllByRecursion}
 use Rattle.pict_syntax.specs.declared.limits.TheConstants.{NARROW_LIMIT}
 use Rattle.pict_core.specs.Term.{Process}
 use Rattle.pict_code.specs.Nodes.{nodes_of}
-use Rattle.pict_frames.specs.Framed.{frame_words, node_words}
+use Rattle.pict_blocks.specs.Framed.{frame_words, node_words}
 use Rattle.pict_heap.specs.HeapState.{HeapState, KeepsWords}
 use Rattle.pict_region.specs.RegionState.{RegionState, spare}
 use Rattle.pict_queue.specs.QueuesState.{QueuesState, IsHeld}
 use Rattle.pict_queue.specs.Contents.{contents, KeepsOtherContents, HoldsNoMore}
 use Rattle.pict_prim.specs.Acts.{UsesNeed}
-use Rattle.pict_blocks.specs.Blocks.{value_in, fields_of, known}
-use Rattle.pict_operands.specs.declared.pending.Pending.{Pending}
-use Rattle.pict_operands.specs.Needs.{record_need, KeepsPending}
-use Rattle.pict_operands.specs.Pairs.{IsPair, ArePairs}
-use Rattle.pict_operands.proofs.Making.{keeps_all, pairs_keep, pile_kept}
+use Rattle.pict_desk.specs.Known.{value_in, fields_of, known}
+use Rattle.pict_desk.specs.declared.pending.Pending.{Pending}
+use Rattle.pict_desk.specs.Needs.{record_need, KeepsPending}
+use Rattle.pict_desk.specs.Pairs.{IsPair, ArePairs}
+use Rattle.pict_desk.proofs.Making.{keeps_all, pairs_keep, pile_kept}
 use Rattle.pict_turns.specs.Acting.{HasBlockFor}
-use Rattle.pict_turns.specs.Holding.{HoldRecord, HoldsFrame}
-use Rattle.pict_turns.specs.Parts.{block_width, HandsOn, IsLast}
-use Rattle.pict_turns.specs.Reading.{HasFrame}
+use Rattle.pict_blocks.specs.Holding.{HoldRecord, HoldsFrame}
+use Rattle.pict_turns.specs.Parts.{HandsOn, IsLast}
+use Rattle.pict_blocks.specs.Parts.{block_width}
+use Rattle.pict_desk.specs.Code.{HasFrame}
 use Rattle.pict_turns.specs.Turns.{IsTurn, turn_cost}
 use Rattle.pict_turns.specs.Views.{turn_words, ready_words}
 use Rattle.pict_turns.specs.declared.store.Store.{Store}
 use Rattle.pict_turns.specs.declared.turn.Turn.TheVariants.{Nobody, Node as NodeTurn, Wide}
-use Rattle.pict_turns.proofs.Holding.{narrow_holds, wide_holds, held_width, need_narrow, need_wide, uses_nothing}
+use Rattle.pict_blocks.proofs.Holding.{narrow_holds, wide_holds, held_width}
+use Rattle.pict_desk.proofs.MakingRoom.{need_narrow, need_wide, uses_nothing}
 use Rattle.pict_turns.proofs.Rows.{made_node}
 use Rattle.pict_turns.proofs.Turns.{frame_is, words_nobody, ready_nobody, nobody_turn, nobody_room, cost_nobody, ready_is, cost_is, room_for}
 
 -- ---- a part gets the turn
 
 -- one whose frame would stand in a block itself
-pub hands_narrow : (core : Process) (s : Store) (number : ℕ) (frame : List ℕ) → HasFrame (nodes_of core) number frame → ArePairs s.heap s.values.items → length frame ≤ NARROW_LIMIT
+pub hands_narrow : (core : Process) (s : Store) (number : ℕ) (frame : List ℕ) → HasFrame (nodes_of core) number frame → ArePairs s.desk.heap s.desk.values.items → length frame ≤ NARROW_LIMIT
     → HandsOn core s (record s { turn = NodeTurn number }) number frame
 hands_narrow core s number frame f pairs few = record {
-  held = frame_words s.values.items frame;
-  holds = narrow_holds s.heap s.values.items frame pairs few;
-  turn = ap (λ (ls : List ℕ). node_words s.values.items number ls ∷ []) (frame_is core number f.node f.at ∙ f.is);
+  held = frame_words s.desk.values.items frame;
+  holds = narrow_holds s.desk.heap s.desk.values.items frame pairs few;
+  turn = ap (λ (ls : List ℕ). node_words s.desk.values.items number ls ∷ []) (frame_is core number f.node f.at ∙ f.is);
   is = record { node = f.node; at = f.at; narrow = subst (λ (ls : List ℕ). length ls ≤ NARROW_LIMIT) (sym f.is) few };
   queues = refl;
-  keeps = keeps_all s.heap;
-  used = subst (UsesNeed s.heap.room s.heap.room) (sym (need_narrow frame few)) (uses_nothing s.heap.room);
+  keeps = keeps_all s.desk.heap;
+  used = subst (UsesNeed s.desk.heap.room s.desk.heap.room) (sym (need_narrow frame few)) (uses_nothing s.desk.heap.room);
   values = refl;
-  pending = pile_kept s.pending;
+  pending = pile_kept s.desk.pending;
 }
 
 -- one of a larger frame, of which a record was made
 pub hands_wide : (core : Process) (s : Store) (heap : HeapState) (pending : Pending) (pair : ℕ × ℕ) (number : ℕ) (frame : List ℕ) → HasFrame (nodes_of core) number frame
-    → ArePairs s.heap s.values.items → NARROW_LIMIT < length frame → length frame < 2 ^ 32 → IsPair heap pair → fields_of (value_in heap pair.0 pair.1) ≡ map (known s.heap s.values.items) frame
-    → KeepsWords s.heap heap → UsesNeed s.heap.room heap.room (record_need (length frame)) → KeepsPending s.pending pending
-    → HandsOn core s (record s { heap = heap; pending = pending; turn = Wide number pair }) number frame
+    → ArePairs s.desk.heap s.desk.values.items → NARROW_LIMIT < length frame → length frame < 2 ^ 32 → IsPair heap pair → fields_of (value_in heap pair.0 pair.1) ≡ map (known s.desk.heap s.desk.values.items) frame
+    → KeepsWords s.desk.heap heap → UsesNeed s.desk.heap.room heap.room (record_need (length frame)) → KeepsPending s.desk.pending pending
+    → HandsOn core s (record s { desk = record s.desk { heap = heap; pending = pending }; turn = Wide number pair }) number frame
 hands_wide core s heap pending pair number frame f pairs many countable is fields keeps used kept =
-    let holds = wide_holds heap (known s.heap s.values.items) frame pair is fields many countable in
+    let holds = wide_holds heap (known s.desk.heap s.desk.values.items) frame pair is fields many countable in
     record {
       held = pair.0 ∷ pair.1 ∷ [];
       holds = holds;
@@ -59,13 +61,13 @@ hands_wide core s heap pending pair number frame f pairs many countable is field
       is = record {
         node = f.node;
         wide = subst (λ (ls : List ℕ). NARROW_LIMIT < length ls) (sym f.is) many;
-        is = made_node core s.heap heap keeps s.values.items pairs number f.node (pair.0 ∷ pair.1 ∷ []) f.at
-            (subst (λ (ls : List ℕ). HoldsFrame heap (known s.heap s.values.items) ls (pair.0 ∷ pair.1 ∷ [])) (sym f.is) holds);
+        is = made_node core s.desk.heap heap keeps s.desk.values.items pairs number f.node (pair.0 ∷ pair.1 ∷ []) f.at
+            (subst (λ (ls : List ℕ). HoldsFrame heap (known s.desk.heap s.desk.values.items) ls (pair.0 ∷ pair.1 ∷ [])) (sym f.is) holds);
         record_is = subst (λ (ls : List ℕ). HoldRecord heap (length ls) (pair.0 ∷ pair.1 ∷ [])) (sym f.is) (holds.wide many);
       };
       queues = refl;
       keeps = keeps;
-      used = subst (UsesNeed s.heap.room heap.room) (sym (need_wide frame many)) used;
+      used = subst (UsesNeed s.desk.heap.room heap.room) (sym (need_wide frame many)) used;
       values = refl;
       pending = kept;
     }
@@ -77,11 +79,11 @@ module _ (core : Process) (old new : Store) (number : ℕ) (frame : List ℕ) (o
   pub handed_room : (r : RegionState) → 1 ≤ spare r (block_width frame) → AllByRecursion (HasBlockFor r) (turn_words core new)
   handed_room r block =
       room_for core new (suc number ∷ one.held) one.turn r
-      (subst (λ (w : ℕ). 1 ≤ spare r w) (sym (held_width new.heap number frame one.held one.holds.narrow one.holds.wide)) block)
+      (subst (λ (w : ℕ). 1 ≤ spare r w) (sym (held_width new.desk.heap number frame one.held one.holds.narrow one.holds.wide)) block)
 
   pub handed_cost : turn_cost core new ≡ block_width frame + 4
   handed_cost =
-      let w = held_width new.heap number frame one.held one.holds.narrow one.holds.wide in
+      let w = held_width new.desk.heap number frame one.held one.holds.narrow one.holds.wide in
       let c = cost_is core new (suc number ∷ one.held) one.turn in
       omega (arith, w, c)
 
@@ -91,8 +93,8 @@ module _ (core : Process) (old new : Store) (number : ℕ) (frame : List ℕ) (o
   pub handed_queues : length new.queues.queues ≡ length old.queues.queues
   handed_queues = ap (λ (q : QueuesState). length q.queues) one.queues
 
-  pub handed_pairs : ArePairs old.heap old.values.items → ArePairs new.heap new.values.items
-  handed_pairs pairs = subst (ArePairs new.heap) (sym one.values) (pairs_keep old.heap new.heap one.keeps old.values.items pairs)
+  pub handed_pairs : ArePairs old.desk.heap old.desk.values.items → ArePairs new.desk.heap new.desk.values.items
+  handed_pairs pairs = subst (ArePairs new.desk.heap) (sym one.values) (pairs_keep old.desk.heap new.desk.heap one.keeps old.desk.values.items pairs)
 
   pub handed_no_more : HoldsNoMore old.queues new.queues
   handed_no_more block held = subst (λ (q : QueuesState). IsHeld q block) one.queues held
@@ -119,14 +121,14 @@ first_left old new first second one other less = by_case (first == second) refl
 -- The node with this number is the last of the ready ones, with the values that the levels of its frame had.
 pub record MadeLast (core : Process) (old new : Store) (number : ℕ) (frame : List ℕ) : Type 0 where
   pub held : List ℕ
-  pub holds : HoldsFrame new.heap (known old.heap old.values.items) frame held
+  pub holds : HoldsFrame new.desk.heap (known old.desk.heap old.desk.values.items) frame held
   pub ready : ready_words core new ≡ contents old.queues 0 ++ (suc number ∷ held) ∷ []
-  pub turn : IsTurn core new.heap new.values.items new.turn
+  pub turn : IsTurn core new.desk.heap new.desk.values.items new.turn
   pub room : AllByRecursion (HasBlockFor new.queues.region) (turn_words core new)
   pub others : KeepsOtherContents old.queues new.queues 0
   pub queues : length new.queues.queues ≡ length old.queues.queues
-  pub keeps : KeepsWords old.heap new.heap
-  pub values : new.values.items ≡ old.values.items
+  pub keeps : KeepsWords old.desk.heap new.desk.heap
+  pub values : new.desk.values.items ≡ old.desk.values.items
   pub cost : turn_cost core new ≤ block_width frame + 4
 
 pub made_last : (core : Process) (old new : Store) (number : ℕ) (frame : List ℕ) → old.turn ≡ Nobody → 1 ≤ spare old.queues.region (block_width frame)
@@ -154,7 +156,7 @@ made_last core old new number frame idle block (inr one) =
       held = one.held;
       holds = one.holds;
       ready = ready_nobody core new (words_nobody core new still) ∙ one.last;
-      turn = nobody_turn core new.heap new.values.items new.turn still;
+      turn = nobody_turn core new.desk.heap new.desk.values.items new.turn still;
       room = nobody_room core new new.queues.region still;
       others = one.others;
       queues = one.queues;

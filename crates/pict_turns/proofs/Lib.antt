@@ -1,6 +1,5 @@
 pub mod Views
 pub mod Turns
-pub mod Holding
 pub mod Placing
 pub mod Rows
 pub mod Handing

@@ -4,8 +4,8 @@ use Rattle.pict_core.specs.Term.{Val, Boolean}
 use Rattle.pict_code.specs.Instruction.{Node}
 use Rattle.pict_region.specs.RegionState.{spare, KeepsBlocks}
 use Rattle.pict_queue.specs.QueuesState.{QueuesState}
-use Rattle.pict_turns.specs.Parts.{block_width}
-use Rattle.pict_turns.specs.Reading.{HasFrame}
+use Rattle.pict_blocks.specs.Parts.{block_width}
+use Rattle.pict_desk.specs.Code.{HasFrame}
 use Rattle.pict_turns.specs.Widths.{MakesOnly, part_width}
 
 -- ---- steps one after another

@@ -3,7 +3,6 @@ use Rattle.std.proofs.Common.{◌≡◌, ◌≢◌, ◌==◌, ℕ, ◌+◌, ◌�
 use Rattle.std.proofs.lemmas.Bool.{cases_eq}
 use Rattle.std.proofs.lemmas.Bool.Decides.{nat_tests}
 use Rattle.pict_region.specs.RegionState.{RegionState, spare, KeepsOtherWidths}
-use Rattle.pict_queue.specs.QueuesState.{QueuesState, CostsAtMost}
 
 -- a block that is given back leaves no width fewer free blocks
 pub given_spare : (old new : RegionState) (width : ℕ) → spare new width ≡ spare old width + 1 → KeepsOtherWidths old new width → (w : ℕ) → spare old w ≤ spare new w
@@ -20,6 +19,3 @@ taken_spare mid new width less others w true e =
 taken_spare mid new width less others w false e =
     let apart : w ≢ width = grind (arith, nat_tests) in
     omega (arith, others w apart)
-
-pub costs_up : (a b : QueuesState) (m n : ℕ) → m ≤ n → CostsAtMost m a b → CostsAtMost n a b
-costs_up a b m n h c = record { least = c.least; most = omega (arith, h, c.most) }

@@ -7,18 +7,19 @@ use Rattle.pict_core.specs.Term.{Val, Process}
 use Rattle.pict_core.specs.Step.{Label}
 use Rattle.pict_code.specs.Instruction.{Node}
 use Rattle.pict_code.specs.Nodes.{Place, places, nodes_of}
-use Rattle.pict_frames.specs.Keeping.{kept_words}
+use Rattle.pict_blocks.specs.Keeping.{kept_words}
 use Rattle.pict_heap.specs.HeapState.{HeapState, KeepsWords}
 use Rattle.pict_queue.specs.QueuesState.{QueuesState, IsQueue}
 use Rattle.pict_queue.specs.Contents.{contents, KeepsOtherContents, HoldsNoMore}
 use Rattle.pict_view.specs.Moved.{Moves}
-use Rattle.pict_view.specs.ViewStep.{next_view}
-use Rattle.pict_blocks.specs.Blocks.{value_in, known, view_of_contents, IsNodeBlock}
+use Rattle.pict_view.specs.Placed.{next_view}
+use Rattle.pict_blocks.specs.Blocks.{view_of_contents, IsNodeBlock}
+use Rattle.pict_desk.specs.Known.{value_in, known}
 use Rattle.pict_blocks.specs.Laws.{BlocksStep}
-use Rattle.pict_operands.specs.Pairs.{ArePairs}
-use Rattle.pict_operands.proofs.Making.{known_keeps, all_back}
+use Rattle.pict_desk.specs.Pairs.{ArePairs}
+use Rattle.pict_desk.proofs.Making.{known_keeps, all_back}
 use Rattle.pict_turns.specs.Acting.{HasBlockFor, IsStore, HasActing, IsDone}
-use Rattle.pict_turns.specs.Holding.{HoldWords, HoldRecord, HoldsFrame}
+use Rattle.pict_blocks.specs.Holding.{HoldWords, HoldRecord, HoldsFrame}
 use Rattle.pict_turns.specs.Turns.{IsTurn}
 use Rattle.pict_turns.specs.Views.{lists_from, channel_lists, turn_words, ready_words, acting_words, view_with_turn, IsBlock, AreBlocks, CanWait, AreWaiting}
 use Rattle.pict_turns.specs.declared.store.Store.{Store}
@@ -80,11 +81,11 @@ module _ (core : Process) (old new : HeapState) (keeps : KeepsWords old new) (va
   turn_stays (Output kept) k = kept_stays old new keeps (kept_words kept) k
 
 -- the same where the values and the turn stay
-pub turn_by : (core : Process) (s n : Store) → KeepsWords s.heap n.heap → ArePairs s.heap s.values.items → n.values.items ≡ s.values.items → n.turn ≡ s.turn
-    → IsTurn core s.heap s.values.items s.turn → IsTurn core n.heap n.values.items n.turn
+pub turn_by : (core : Process) (s n : Store) → KeepsWords s.desk.heap n.desk.heap → ArePairs s.desk.heap s.desk.values.items → n.desk.values.items ≡ s.desk.values.items → n.turn ≡ s.turn
+    → IsTurn core s.desk.heap s.desk.values.items s.turn → IsTurn core n.desk.heap n.desk.values.items n.turn
 turn_by core s n keeps pairs values turn t =
-    subst (λ (vs : List (ℕ × ℕ)). IsTurn core n.heap vs n.turn) (sym values)
-    (subst (IsTurn core n.heap s.values.items) (sym turn) (turn_stays core s.heap n.heap keeps s.values.items pairs s.turn t))
+    subst (λ (vs : List (ℕ × ℕ)). IsTurn core n.desk.heap vs n.turn) (sym values)
+    (subst (IsTurn core n.desk.heap s.desk.values.items) (sym turn) (turn_stays core s.desk.heap n.desk.heap keeps s.desk.values.items pairs s.turn t))
 
 -- ---- lists of queues
 
@@ -100,31 +101,31 @@ channels_stay old new others same =
 
 -- ---- a step
 
-module _ (core : Process) (old new : Store) (store : IsStore core old) (keeps : KeepsWords old.heap new.heap) where
+module _ (core : Process) (old new : Store) (store : IsStore core old) (keeps : KeepsWords old.desk.heap new.desk.heap) where
   -- the queues hold blocks still where queue 0 and who has the turn alone change, to blocks
-  pub blocks_by : (ready : List (List ℕ)) → ready_words core new ≡ ready → AllByRecursion (IsBlock core new.heap) ready → KeepsOtherContents old.queues new.queues 0 → AreBlocks core new
+  pub blocks_by : (ready : List (List ℕ)) → ready_words core new ≡ ready → AllByRecursion (IsBlock core new.desk.heap) ready → KeepsOtherContents old.queues new.queues 0 → AreBlocks core new
   blocks_by ready e are others queue = by_case (queue == 0) refl
     where
-      by_case : (b : Bool) → (queue == 0) ≡ b → AllByRecursion (IsBlock core new.heap) (contents new.queues queue)
+      by_case : (b : Bool) → (queue == 0) ≡ b → AllByRecursion (IsBlock core new.desk.heap) (contents new.queues queue)
       by_case true t =
           let same : 0 ≡ queue = grind (arith, nat_tests) in
-          subst (λ (q : ℕ). AllByRecursion (IsBlock core new.heap) (contents new.queues q)) same
-          (all_back (IsBlock core new.heap) (turn_words core new) (contents new.queues 0) (subst (AllByRecursion (IsBlock core new.heap)) (sym e) are))
+          subst (λ (q : ℕ). AllByRecursion (IsBlock core new.desk.heap) (contents new.queues q)) same
+          (all_back (IsBlock core new.desk.heap) (turn_words core new) (contents new.queues 0) (subst (AllByRecursion (IsBlock core new.desk.heap)) (sym e) are))
       by_case false t =
           let apart : queue ≢ 0 = grind (arith, nat_tests) in
-          subst (AllByRecursion (IsBlock core new.heap)) (sym (others queue apart)) (blocks_stay old.heap new.heap keeps core (contents old.queues queue) (store.blocks queue))
+          subst (AllByRecursion (IsBlock core new.desk.heap)) (sym (others queue apart)) (blocks_stay old.desk.heap new.desk.heap keeps core (contents old.queues queue) (store.blocks queue))
 
   -- the blocks that were ready
-  pub ready_stay : AllByRecursion (IsBlock core new.heap) (contents old.queues 0)
-  ready_stay = blocks_stay old.heap new.heap keeps core (contents old.queues 0) (store.blocks 0)
+  pub ready_stay : AllByRecursion (IsBlock core new.desk.heap) (contents old.queues 0)
+  ready_stay = blocks_stay old.desk.heap new.desk.heap keeps core (contents old.queues 0) (store.blocks 0)
 
   -- what waits at channels is still what may, where queue 0 alone changes
   pub waiting_by : KeepsOtherContents old.queues new.queues 0 → AreWaiting core new.queues
   waiting_by others channel =
       subst (AllByRecursion (CanWait core)) (sym (others (channel + 1) (λ first. omega (arith, first)))) (store.waiting channel)
 
-  pub store_by : IsQueue new.queues 0 → AreBlocks core new → AreWaiting core new.queues → ArePairs new.heap new.values.items → length new.values.items ≡ length old.values.items
-      → IsTurn core new.heap new.values.items new.turn → AllByRecursion (HasBlockFor new.queues.region) (turn_words core new) → IsStore core new
+  pub store_by : IsQueue new.queues 0 → AreBlocks core new → AreWaiting core new.queues → ArePairs new.desk.heap new.desk.values.items → length new.desk.values.items ≡ length old.desk.values.items
+      → IsTurn core new.desk.heap new.desk.values.items new.turn → AllByRecursion (HasBlockFor new.queues.region) (turn_words core new) → IsStore core new
   store_by ready blocks waiting pairs same turn room = record {
     ready = ready;
     blocks = blocks;
@@ -135,23 +136,23 @@ module _ (core : Process) (old new : Store) (store : IsStore core old) (keeps : 
     room = room;
   }
 
-module _ (core : Process) (old new : Store) (acting : HasActing core old) (keeps : KeepsWords old.heap new.heap) where
+module _ (core : Process) (old new : Store) (acting : HasActing core old) (keeps : KeepsWords old.desk.heap new.desk.heap) where
   -- what the store stood for before the step, by the words of the new heap
-  pub view_kept : view_of_contents core (value_in new.heap) (acting_words core old ∷ contents old.queues 0) (channel_lists old.queues) ≡ view_with_turn core old
+  pub view_kept : view_of_contents core (value_in new.desk.heap) (acting_words core old ∷ contents old.queues 0) (channel_lists old.queues) ≡ view_with_turn core old
   view_kept =
-      view_same old.heap new.heap keeps core (acting_words core old ∷ contents old.queues 0) (channel_lists old.queues)
-      (acting_block core old acting, acting.store.blocks 0) (lists_are core old.heap old.queues 1 (length old.queues.queues - 1) acting.store.blocks)
+      view_same old.desk.heap new.desk.heap keeps core (acting_words core old ∷ contents old.queues 0) (channel_lists old.queues)
+      (acting_block core old acting, acting.store.blocks 0) (lists_are core old.desk.heap old.queues 1 (length old.queues.queues - 1) acting.store.blocks)
       ∙ sym (view_is core old (acting_words core old) acting.has)
 
   -- where the blocks step, by the words of the new heap, to what is ready and parked then, the step is done
   pub done_by : (ready : List (List ℕ)) (channels : List (List (List ℕ))) (label : Label)
-      → BlocksStep core new.heap (acting_words core old ∷ contents old.queues 0) (channel_lists old.queues) label ready channels
-      → ready_words core new ≡ ready → channel_lists new.queues ≡ channels → IsStore core new → length new.values.items ≡ length old.values.items
+      → BlocksStep core new.desk.heap (acting_words core old ∷ contents old.queues 0) (channel_lists old.queues) label ready channels
+      → ready_words core new ≡ ready → channel_lists new.queues ≡ channels → IsStore core new → length new.desk.values.items ≡ length old.desk.values.items
       → length new.queues.queues ≤ length old.queues.queues + 1 → HoldsNoMore old.queues new.queues → IsDone core old new label
   done_by ready channels label step at lists store levels queues no_more =
-      let after : view_with_turn core new ≡ view_of_contents core (value_in new.heap) ready channels =
-      ap (λ (rs : List (List ℕ)). view_of_contents core (value_in new.heap) rs (channel_lists new.queues)) at
-      ∙ ap (view_of_contents core (value_in new.heap) ready) lists in
+      let after : view_with_turn core new ≡ view_of_contents core (value_in new.desk.heap) ready channels =
+      ap (λ (rs : List (List ℕ)). view_of_contents core (value_in new.desk.heap) rs (channel_lists new.queues)) at
+      ∙ ap (view_of_contents core (value_in new.desk.heap) ready) lists in
       record {
         moves = sym (ap next_view view_kept) ∙ step ∙ ap (λ v. Moves v label) (sym after);
         store = store;

@@ -13,16 +13,17 @@ use Rattle.pict_region.specs.Chain.{chain}
 use Rattle.pict_region.specs.RegionState.{RegionState, spare}
 use Rattle.pict_queue.specs.QueuesState.{QueuesState, QueueState, IsQueue, link_of, no_queue}
 use Rattle.pict_queue.specs.Contents.{held_words, contents, KeepsAllContents, KeepsOtherContents, HoldsNoMore}
-use Rattle.pict_blocks.specs.Blocks.{known, operand_value}
+use Rattle.pict_desk.specs.Known.{known, operand_value}
 use Rattle.pict_blocks.proofs.Forking.{nodes_end, parts_fork, tests_choose}
 use Rattle.pict_blocks.proofs.Opening.{news_make_channels}
-use Rattle.pict_operands.specs.Pairs.{ArePairs}
-use Rattle.pict_operands.proofs.Making.{keeps_all, keeps_more, pairs_keep, known_keeps, operand_keeps}
+use Rattle.pict_desk.specs.Pairs.{ArePairs}
+use Rattle.pict_desk.proofs.Making.{keeps_all, keeps_more, pairs_keep, known_keeps, operand_keeps}
 use Rattle.pict_turns.specs.Acting.{HasBlockFor, ActsBy, IsDone}
 use Rattle.pict_turns.specs.Channels.{AddsChannel}
-use Rattle.pict_turns.specs.Holding.{HoldsFrame}
-use Rattle.pict_turns.specs.Parts.{block_width, HandsOn, Spawns}
-use Rattle.pict_turns.specs.Reading.{HasFrame}
+use Rattle.pict_blocks.specs.Holding.{HoldsFrame}
+use Rattle.pict_turns.specs.Parts.{HandsOn, Spawns}
+use Rattle.pict_blocks.specs.Parts.{block_width}
+use Rattle.pict_desk.specs.Code.{HasFrame}
 use Rattle.pict_turns.specs.Reserving.{CanHoldBoth}
 use Rattle.pict_turns.specs.Turns.{IsTurn, handing, turn_cost}
 use Rattle.pict_turns.specs.Views.{lists_from, channel_lists, turn_words, ready_words, acting_words, IsBlock}
@@ -30,7 +31,7 @@ use Rattle.pict_turns.specs.declared.store.Store.{Store}
 use Rattle.pict_turns.specs.declared.turn.Turn.TheVariants.{Nobody}
 use Rattle.pict_heap.proofs.Growth.{all_pushed}
 use Rattle.pict_turns.proofs.Handing.{handed_room, handed_cost, handed_contents, handed_queues, handed_pairs, handed_no_more, first_left}
-use Rattle.pict_turns.proofs.Holding.{held_width}
+use Rattle.pict_blocks.proofs.Holding.{held_width}
 use Rattle.pict_turns.proofs.Rows.{made_block, made_node, node_block_stays, turn_by, levels_keep, length_lists, channels_stay, blocks_by, waiting_by, ready_stay, store_by, done_by}
 use Rattle.pict_turns.proofs.Turns.{acting_block, same_words, ready_is, room_for}
 use Rattle.pict_turns.proofs.Views.{frame_held, lists_stay}
@@ -39,10 +40,10 @@ use Rattle.pict_turns.proofs.Views.{frame_held, lists_stay}
 
 pub end_done : (core : Process) (old : Store) → ActsBy core old op.Zero → IsDone core old (record old { turn = Nobody }) Quiet
 end_done core old a =
-    done_by core old (record old { turn = Nobody }) a.acting (keeps_all old.heap) (contents old.queues 0) (channel_lists old.queues) Quiet
-    (nodes_end core old.heap old.values.items a.number a.node (acting_words core old) a.is a.op_is (contents old.queues 0) (channel_lists old.queues))
+    done_by core old (record old { turn = Nobody }) a.acting (keeps_all old.desk.heap) (contents old.queues 0) (channel_lists old.queues) Quiet
+    (nodes_end core old.desk.heap old.desk.values.items a.number a.node (acting_words core old) a.is a.op_is (contents old.queues 0) (channel_lists old.queues))
     refl refl
-    (store_by core old (record old { turn = Nobody }) a.acting.store (keeps_all old.heap) a.acting.store.ready a.acting.store.blocks a.acting.store.waiting a.acting.store.pairs refl tt tt)
+    (store_by core old (record old { turn = Nobody }) a.acting.store (keeps_all old.desk.heap) a.acting.store.ready a.acting.store.blocks a.acting.store.waiting a.acting.store.pairs refl tt tt)
     refl (omega arith) (λ block held. held)
 
 -- ---- a part's block
@@ -57,52 +58,52 @@ module _ (core : Process) (s h n : Store) (l r : ℕ) (first second : Node) (a :
     (at_first : slice_get (nodes_of core) l ≡ Some first) (at_second : slice_get (nodes_of core) r ≡ Some second)
     (one : HandsOn core s h l first.frame) (other : Spawns h n r second.frame)
     (room : 1 ≤ spare n.queues.region (block_width first.frame)) (no_more : HoldsNoMore s.queues n.queues) where
-  forked_keeps : KeepsWords s.heap n.heap
-  forked_keeps = keeps_more s.heap h.heap n.heap one.keeps other.keeps
+  forked_keeps : KeepsWords s.desk.heap n.desk.heap
+  forked_keeps = keeps_more s.desk.heap h.desk.heap n.desk.heap one.keeps other.keeps
 
-  first_held : HoldsFrame n.heap (known s.heap s.values.items) first.frame one.held
-  first_held = frame_held h.heap n.heap other.keeps (known s.heap s.values.items) first.frame one.held one.holds
+  first_held : HoldsFrame n.desk.heap (known s.desk.heap s.desk.values.items) first.frame one.held
+  first_held = frame_held h.desk.heap n.desk.heap other.keeps (known s.desk.heap s.desk.values.items) first.frame one.held one.holds
 
-  second_held : HoldsFrame n.heap (known s.heap s.values.items) second.frame other.held
+  second_held : HoldsFrame n.desk.heap (known s.desk.heap s.desk.values.items) second.frame other.held
   second_held =
-      same_held n.heap (known h.heap h.values.items) (known s.heap s.values.items) second.frame other.held
-      (ap (λ (vs : List (ℕ × ℕ)). map (known h.heap vs) second.frame) one.values ∙ levels_keep core s.heap h.heap one.keeps s.values.items a.acting.store.pairs second.frame) other.holds
+      same_held n.desk.heap (known h.desk.heap h.desk.values.items) (known s.desk.heap s.desk.values.items) second.frame other.held
+      (ap (λ (vs : List (ℕ × ℕ)). map (known h.desk.heap vs) second.frame) one.values ∙ levels_keep core s.desk.heap h.desk.heap one.keeps s.desk.values.items a.acting.store.pairs second.frame) other.holds
 
   forked_words : turn_words core n ≡ (suc l ∷ one.held) ∷ []
   forked_words = same_words core h n other.turn other.values ∙ one.turn
 
-  forked_turn : IsTurn core n.heap n.values.items n.turn
+  forked_turn : IsTurn core n.desk.heap n.desk.values.items n.turn
   forked_turn =
       turn_by core h n other.keeps (handed_pairs core s h l first.frame one a.acting.store.pairs) other.values other.turn one.is
 
   forked_room : AllByRecursion (HasBlockFor n.queues.region) (turn_words core n)
   forked_room =
       room_for core n (suc l ∷ one.held) forked_words n.queues.region
-      (subst (λ (w : ℕ). 1 ≤ spare n.queues.region w) (sym (held_width n.heap l first.frame one.held first_held.narrow first_held.wide)) room)
+      (subst (λ (w : ℕ). 1 ≤ spare n.queues.region w) (sym (held_width n.desk.heap l first.frame one.held first_held.narrow first_held.wide)) room)
 
   fork_done : IsDone core s n Quiet
   fork_done =
-      let levels : length n.values.items ≡ length s.values.items = ap length other.values ∙ ap length one.values in
+      let levels : length n.desk.values.items ≡ length s.desk.values.items = ap length other.values ∙ ap length one.values in
       let same : length n.queues.queues ≡ length s.queues.queues = other.queues ∙ handed_queues core s h l first.frame one in
       let others : KeepsOtherContents s.queues n.queues 0 = λ queue apart. other.others queue apart ∙ handed_contents core s h l first.frame one queue in
-      let pairs : ArePairs n.heap n.values.items =
-      subst (ArePairs n.heap) (sym (other.values ∙ one.values)) (pairs_keep s.heap n.heap forked_keeps s.values.items a.acting.store.pairs) in
+      let pairs : ArePairs n.desk.heap n.desk.values.items =
+      subst (ArePairs n.desk.heap) (sym (other.values ∙ one.values)) (pairs_keep s.desk.heap n.desk.heap forked_keeps s.desk.values.items a.acting.store.pairs) in
       let ready : ready_words core n ≡ (suc l ∷ one.held) ∷ (contents s.queues 0 ++ (suc r ∷ other.held) ∷ []) =
       ready_is core n (suc l ∷ one.held) forked_words
       ∙ ap (λ (rs : List (List ℕ)). (suc l ∷ one.held) ∷ rs) (other.last ∙ ap (λ (rs : List (List ℕ)). rs ++ (suc r ∷ other.held) ∷ []) (handed_contents core s h l first.frame one 0)) in
       done_by core s n a.acting forked_keeps ((suc l ∷ one.held) ∷ (contents s.queues 0 ++ (suc r ∷ other.held) ∷ [])) (channel_lists s.queues) Quiet
-      (parts_fork core n.heap s.values.items a.number l r a.node first second (acting_words core s) (suc l ∷ one.held) (suc r ∷ other.held)
-      (node_block_stays core s.heap n.heap forked_keeps s.values.items a.acting.store.pairs a.number a.node (acting_words core s) (acting_block core s a.acting) a.is)
+      (parts_fork core n.desk.heap s.desk.values.items a.number l r a.node first second (acting_words core s) (suc l ∷ one.held) (suc r ∷ other.held)
+      (node_block_stays core s.desk.heap n.desk.heap forked_keeps s.desk.values.items a.acting.store.pairs a.number a.node (acting_words core s) (acting_block core s a.acting) a.is)
       a.op_is
-      (made_node core s.heap n.heap forked_keeps s.values.items a.acting.store.pairs l first one.held at_first first_held)
-      (made_node core s.heap n.heap forked_keeps s.values.items a.acting.store.pairs r second other.held at_second second_held)
+      (made_node core s.desk.heap n.desk.heap forked_keeps s.desk.values.items a.acting.store.pairs l first one.held at_first first_held)
+      (made_node core s.desk.heap n.desk.heap forked_keeps s.desk.values.items a.acting.store.pairs r second other.held at_second second_held)
       (contents s.queues 0) (channel_lists s.queues))
       ready (channels_stay s.queues n.queues others same)
       (store_by core s n a.acting.store forked_keeps (let low = a.acting.store.ready in omega (arith, same, low))
       (blocks_by core s n a.acting.store forked_keeps ((suc l ∷ one.held) ∷ (contents s.queues 0 ++ (suc r ∷ other.held) ∷ [])) ready (
-        made_block core n.heap (known s.heap s.values.items) l first one.held at_first first_held,
-        all_pushed (IsBlock core n.heap) (contents s.queues 0) (suc r ∷ other.held) (ready_stay core s n a.acting.store forked_keeps)
-            (made_block core n.heap (known s.heap s.values.items) r second other.held at_second second_held),
+        made_block core n.desk.heap (known s.desk.heap s.desk.values.items) l first one.held at_first first_held,
+        all_pushed (IsBlock core n.desk.heap) (contents s.queues 0) (suc r ∷ other.held) (ready_stay core s n a.acting.store forked_keeps)
+            (made_block core n.desk.heap (known s.desk.heap s.desk.values.items) r second other.held at_second second_held),
       ) others) (waiting_by core s n a.acting.store forked_keeps others) pairs levels forked_turn forked_room)
       levels (omega (arith, same)) no_more
 
@@ -131,31 +132,31 @@ module _ (core : Process) (s h n : Store) (l r : ℕ) (first second : List ℕ) 
 -- ---- a conditional
 
 choose_done : (core : Process) (s n : Store) (l r : ℕ) (test : Val) (b : Bool) (part : Node) → IsClosed core → ActsBy core s (op.If test l r)
-    → operand_value (known s.heap s.values.items) test ≡ Boolean b → slice_get (nodes_of core) (cond b l r) ≡ Some part
+    → operand_value (known s.desk.heap s.desk.values.items) test ≡ Boolean b → slice_get (nodes_of core) (cond b l r) ≡ Some part
     → HandsOn core s n (cond b l r) part.frame → 1 ≤ spare n.queues.region (block_width part.frame) → IsDone core s n Quiet
 choose_done core s n l r test b part closed a is at one room =
-    let levels : length n.values.items ≡ length s.values.items = ap length one.values in
+    let levels : length n.desk.values.items ≡ length s.desk.values.items = ap length one.values in
     let words = suc (cond b l r) ∷ one.held in
     let same = handed_queues core s n (cond b l r) part.frame one in
     let others : KeepsOtherContents s.queues n.queues 0 = λ queue apart. handed_contents core s n (cond b l r) part.frame one queue in
     let ready : ready_words core n ≡ words ∷ contents s.queues 0 =
     ready_is core n words one.turn ∙ ap (λ (rs : List (List ℕ)). words ∷ rs) (handed_contents core s n (cond b l r) part.frame one 0) in
     done_by core s n a.acting one.keeps (words ∷ contents s.queues 0) (channel_lists s.queues) Quiet
-    (tests_choose core n.heap s.values.items a.number l r test b a.node part (acting_words core s) words closed
-    (node_block_stays core s.heap n.heap one.keeps s.values.items a.acting.store.pairs a.number a.node (acting_words core s) (acting_block core s a.acting) a.is)
-    a.op_is (operand_keeps s.heap n.heap one.keeps s.values.items a.acting.store.pairs test ∙ is) (made_node core s.heap n.heap one.keeps s.values.items a.acting.store.pairs (cond b l r) part one.held at one.holds)
+    (tests_choose core n.desk.heap s.desk.values.items a.number l r test b a.node part (acting_words core s) words closed
+    (node_block_stays core s.desk.heap n.desk.heap one.keeps s.desk.values.items a.acting.store.pairs a.number a.node (acting_words core s) (acting_block core s a.acting) a.is)
+    a.op_is (operand_keeps s.desk.heap n.desk.heap one.keeps s.desk.values.items a.acting.store.pairs test ∙ is) (made_node core s.desk.heap n.desk.heap one.keeps s.desk.values.items a.acting.store.pairs (cond b l r) part one.held at one.holds)
     (contents s.queues 0) (channel_lists s.queues))
     ready (channels_stay s.queues n.queues others same)
     (store_by core s n a.acting.store one.keeps (let low = a.acting.store.ready in omega (arith, same, low))
     (blocks_by core s n a.acting.store one.keeps (words ∷ contents s.queues 0) ready
-    (made_block core n.heap (known s.heap s.values.items) (cond b l r) part one.held at one.holds, ready_stay core s n a.acting.store one.keeps) others) (waiting_by core s n a.acting.store one.keeps others)
-    (subst (ArePairs n.heap) (sym one.values) (pairs_keep s.heap n.heap one.keeps s.values.items a.acting.store.pairs)) levels
+    (made_block core n.desk.heap (known s.desk.heap s.desk.values.items) (cond b l r) part one.held at one.holds, ready_stay core s n a.acting.store one.keeps) others) (waiting_by core s n a.acting.store one.keeps others)
+    (subst (ArePairs n.desk.heap) (sym one.values) (pairs_keep s.desk.heap n.desk.heap one.keeps s.desk.values.items a.acting.store.pairs)) levels
     one.is (handed_room core s n (cond b l r) part.frame one n.queues.region room))
     levels (omega (arith, same)) (handed_no_more core s n (cond b l r) part.frame one)
 
 -- the same by the frame of the part
 pub choose_by : (core : Process) (s n : Store) (l r k : ℕ) (test : Val) (b : Bool) (frame : List ℕ) → IsClosed core → ActsBy core s (op.If test l r)
-    → operand_value (known s.heap s.values.items) test ≡ Boolean b → k ≡ cond b l r → HasFrame (nodes_of core) k frame → HandsOn core s n k frame
+    → operand_value (known s.desk.heap s.desk.values.items) test ≡ Boolean b → k ≡ cond b l r → HasFrame (nodes_of core) k frame → HandsOn core s n k frame
     → 1 ≤ spare s.queues.region (block_width frame) → IsDone core s n Quiet
 choose_by core s n l r k test b frame closed a is chosen f one block =
     let room : 1 ≤ spare n.queues.region (block_width frame) = subst (λ (q : QueuesState). 1 ≤ spare q.region (block_width frame)) (sym one.queues) block in
@@ -189,31 +190,31 @@ channel_added old new all more ready =
 
 module _ (core : Process) (s c n : Store) (level l : ℕ) (part : Node) (a : ActsBy core s (op.New level l)) (added : AddsChannel s c level)
     (at : slice_get (nodes_of core) l ≡ Some part) (one : HandsOn core c n l part.frame) (room : 1 ≤ spare n.queues.region (block_width part.frame)) where
-  opened_keeps : KeepsWords s.heap n.heap
-  opened_keeps = subst (λ h. KeepsWords h n.heap) added.heap one.keeps
+  opened_keeps : KeepsWords s.desk.heap n.desk.heap
+  opened_keeps = subst (λ h. KeepsWords h n.desk.heap) added.heap one.keeps
 
   channel_done : IsDone core s n Quiet
   channel_done =
       let words = suc l ∷ one.held in
-      let levels : length n.values.items ≡ length s.values.items = ap length one.values ∙ added.levels in
+      let levels : length n.desk.values.items ≡ length s.desk.values.items = ap length one.values ∙ added.levels in
       let ready : ready_words core n ≡ words ∷ contents s.queues 0 =
       ready_is core n words one.turn ∙ ap (λ (rs : List (List ℕ)). words ∷ rs) (handed_contents core c n l part.frame one 0 ∙ added.contents 0) in
       let others : KeepsOtherContents s.queues n.queues 0 = λ queue apart. handed_contents core c n l part.frame one queue ∙ added.contents queue in
       let many : length n.queues.queues ≡ length s.queues.queues + 1 = handed_queues core c n l part.frame one ∙ added.queues in
-      let number : known n.heap c.values.items level ≡ Chan (length (channel_lists s.queues)) =
-      known_keeps c.heap n.heap one.keeps c.values.items added.pairs level ∙ added.value ∙ ap Chan (sym (length_lists s.queues 1 (length s.queues.queues - 1))) in
+      let number : known n.desk.heap c.desk.values.items level ≡ Chan (length (channel_lists s.queues)) =
+      known_keeps c.desk.heap n.desk.heap one.keeps c.desk.values.items added.pairs level ∙ added.value ∙ ap Chan (sym (length_lists s.queues 1 (length s.queues.queues - 1))) in
       done_by core s n a.acting opened_keeps (words ∷ contents s.queues 0) (channel_lists s.queues ++ [] ∷ []) Quiet
-      (news_make_channels core n.heap s.values.items c.values.items a.number level l a.node part (acting_words core s) words
-      (node_block_stays core s.heap n.heap opened_keeps s.values.items a.acting.store.pairs a.number a.node (acting_words core s) (acting_block core s a.acting) a.is)
-      a.op_is (made_node core c.heap n.heap one.keeps c.values.items added.pairs l part one.held at one.holds)
+      (news_make_channels core n.desk.heap s.desk.values.items c.desk.values.items a.number level l a.node part (acting_words core s) words
+      (node_block_stays core s.desk.heap n.desk.heap opened_keeps s.desk.values.items a.acting.store.pairs a.number a.node (acting_words core s) (acting_block core s a.acting) a.is)
+      a.op_is (made_node core c.desk.heap n.desk.heap one.keeps c.desk.values.items added.pairs l part one.held at one.holds)
       (contents s.queues 0) (channel_lists s.queues)
       (λ other low. added.others other (λ same. omega (arith, same, low))) number)
       ready
       (ap (λ (q : QueuesState). channel_lists q) one.queues ∙ channel_added s.queues c.queues added.contents added.queues a.acting.store.ready)
       (store_by core s n a.acting.store opened_keeps (omega (arith, many))
       (blocks_by core s n a.acting.store opened_keeps (words ∷ contents s.queues 0) ready
-      (made_block core n.heap (known c.heap c.values.items) l part one.held at one.holds, ready_stay core s n a.acting.store opened_keeps) others) (waiting_by core s n a.acting.store opened_keeps others)
-      (subst (ArePairs n.heap) (sym one.values) (pairs_keep c.heap n.heap one.keeps c.values.items added.pairs)) levels
+      (made_block core n.desk.heap (known c.desk.heap c.desk.values.items) l part one.held at one.holds, ready_stay core s n a.acting.store opened_keeps) others) (waiting_by core s n a.acting.store opened_keeps others)
+      (subst (ArePairs n.desk.heap) (sym one.values) (pairs_keep c.desk.heap n.desk.heap one.keeps c.desk.values.items added.pairs)) levels
       one.is (handed_room core c n l part.frame one n.queues.region room))
       levels (omega (arith, many)) (λ block held. added.no_more block (handed_no_more core c n l part.frame one block held))
 

@@ -6,34 +6,36 @@ use Rattle.pict_syntax.specs.declared.limits.TheConstants.{NARROW_LIMIT}
 use Rattle.pict_core.specs.Term.{Process}
 use Rattle.pict_code.specs.Instruction.{Node}
 use Rattle.pict_code.specs.Nodes.{nodes_of}
-use Rattle.pict_frames.specs.Framed.{frame_words, node_words}
-use Rattle.pict_frames.specs.Keeping.{kept_words}
-use Rattle.pict_frames.specs.Writing.{IsMade, OnlyWorks}
-use Rattle.pict_frames.specs.declared.keeping.Kept.{Kept}
-use Rattle.pict_frames.proofs.Costs.{costs_more}
-use Rattle.pict_frames.proofs.Held.{works_blocks}
-use Rattle.pict_frames.proofs.Outputs.{word_behind}
+use Rattle.pict_blocks.specs.Framed.{frame_words, node_words}
+use Rattle.pict_blocks.specs.Keeping.{kept_words}
+use Rattle.pict_blocks.specs.Writing.{IsMade, OnlyWorks}
+use Rattle.pict_desk.specs.declared.kept.Kept.{Kept}
+use Rattle.pict_blocks.proofs.Costs.{costs_more}
+use Rattle.pict_blocks.proofs.Held.{works_blocks}
+use Rattle.pict_blocks.proofs.Outputs.{word_behind}
 use Rattle.pict_heap.specs.HeapState.{HeapState}
 use Rattle.pict_region.specs.RegionState.{spare, words_of, width_of, KeepsBlocks, KeepsOtherWidths}
 use Rattle.pict_region.proofs.Pairs.{length_frame_words}
 use Rattle.pict_queue.specs.QueuesState.{QueuesState, KeepsRest, CostsAtMost}
 use Rattle.pict_queue.specs.Contents.{held_words, contents, KeepsAllContents, KeepsOtherContents, HoldsOneMore, Releases}
-use Rattle.pict_blocks.specs.Blocks.{value_in, known, frame_values, IsNodeBlock}
-use Rattle.pict_operands.specs.Pairs.{ArePairs}
-use Rattle.pict_operands.proofs.Making.{keeps_all}
+use Rattle.pict_blocks.specs.Blocks.{frame_values, IsNodeBlock}
+use Rattle.pict_desk.specs.Known.{value_in, known}
+use Rattle.pict_desk.specs.Pairs.{ArePairs}
+use Rattle.pict_desk.proofs.Making.{keeps_all}
 use Rattle.pict_turns.specs.Acting.{IsStore, HasActing}
-use Rattle.pict_turns.specs.Holding.{HoldRecord}
-use Rattle.pict_turns.specs.Parts.{block_width}
-use Rattle.pict_turns.specs.Reading.{HasFrame, HasRead, HasReadNode, OnlyReads}
+use Rattle.pict_blocks.specs.Holding.{HoldRecord}
+use Rattle.pict_blocks.specs.Parts.{block_width}
+use Rattle.pict_turns.specs.Reading.{HasRead, HasReadNode, OnlyReads}
+use Rattle.pict_desk.specs.Code.{HasFrame}
 use Rattle.pict_turns.specs.Turns.{IsNarrow, IsWide, IsTurn, ReadsTurn, TakesTurn, turn_cost}
 use Rattle.pict_turns.specs.Views.{IsNode, IsKept, IsBlock, CanWait, words_of_turn, ready_words, acting_words}
 use Rattle.pict_turns.specs.declared.store.Store.{Store}
 use Rattle.pict_turns.specs.declared.turn.Turn.{Turn}
 use Rattle.pict_turns.specs.declared.turn.Turn.TheVariants.{Nobody, Node as NodeTurn, Wide, Output}
 use Rattle.pict_turns.proofs.AfterReading.{reads_works, reads_more, contents_read, words_read, queues_read, spare_read, no_more_read, store_read_idle}
-use Rattle.pict_turns.proofs.Held.{whole_length, pair_behind}
-use Rattle.pict_turns.proofs.Holding.{held_width}
-use Rattle.pict_turns.proofs.Numbered.{same_frame}
+use Rattle.pict_blocks.proofs.WordsHeld.{whole_length, pair_behind}
+use Rattle.pict_blocks.proofs.Holding.{held_width}
+use Rattle.pict_desk.proofs.Numbered.{same_frame}
 use Rattle.pict_turns.proofs.Placing.{given_spare}
 use Rattle.pict_turns.proofs.Rows.{store_by, blocks_by, waiting_by}
 use Rattle.pict_turns.proofs.Turns.{ready_is, ready_blocks, frame_is, node_words_are, node_narrow, words_nobody, ready_nobody, nobody_turn, nobody_room, acting_is, has_words, cost_is, room_for}
@@ -41,7 +43,7 @@ use Rattle.pict_turns.proofs.Turns.{ready_is, ready_blocks, frame_is, node_words
 -- ---- what a block holds is read
 
 -- the frame of a node's block
-pub node_read : (core : Process) (s n : Store) (number : ℕ) (words frame : List ℕ) → (x : IsNode core s.heap words) → x.number ≡ number → HasFrame (nodes_of core) number frame
+pub node_read : (core : Process) (s n : Store) (number : ℕ) (words frame : List ℕ) → (x : IsNode core s.desk.heap words) → x.number ≡ number → HasFrame (nodes_of core) number frame
     → HasRead s n words frame → HasReadNode core s n number words
 node_read core s n number words frame x number_is f r =
     let words_are : words ≡ suc number ∷ x.held = x.is ∙ ap (λ (k : ℕ). suc k ∷ x.held) number_is in
@@ -52,11 +54,11 @@ node_read core s n number words frame x number_is f r =
         at = f.at;
         frame = x.held;
         words_are = words_are;
-        holds = ap (λ (ls : List ℕ). frame_values (value_in n.heap) (length ls) x.held) f.is ∙ ap (frame_values (value_in n.heap) (length frame)) (sym held) ∙ r.values
-            ∙ ap (map (known n.heap n.values.items)) (sym f.is);
+        holds = ap (λ (ls : List ℕ). frame_values (value_in n.desk.heap) (length ls) x.held) f.is ∙ ap (frame_values (value_in n.desk.heap) (length frame)) (sym held) ∙ r.values
+            ∙ ap (map (known n.desk.heap n.desk.values.items)) (sym f.is);
       };
       same = λ few. words_are
-          ∙ ap (λ (us : List ℕ). suc number ∷ us) (sym held ∙ r.same (subst (λ (ls : List ℕ). length ls ≤ NARROW_LIMIT) f.is few) ∙ ap (frame_words n.values.items) (sym f.is));
+          ∙ ap (λ (us : List ℕ). suc number ∷ us) (sym held ∙ r.same (subst (λ (ls : List ℕ). length ls ≤ NARROW_LIMIT) f.is few) ∙ ap (frame_words n.desk.values.items) (sym f.is));
       rest = r.rest;
     }
 
@@ -77,18 +79,18 @@ read_frame_is core s n number words frame read f = same_frame (nodes_of core) nu
 
 -- ---- who has the turn with what was read
 
-module _ (core : Process) (s n : Store) (number : ℕ) (words : List ℕ) (x : IsNode core s.heap words) (number_is : x.number ≡ number) (read : HasReadNode core s n number words) where
-  pub narrow_taken : length read.node.frame ≤ NARROW_LIMIT → words_of_turn (nodes_of core) n.values.items (NodeTurn number) ≡ words ∷ []
+module _ (core : Process) (s n : Store) (number : ℕ) (words : List ℕ) (x : IsNode core s.desk.heap words) (number_is : x.number ≡ number) (read : HasReadNode core s n number words) where
+  pub narrow_taken : length read.node.frame ≤ NARROW_LIMIT → words_of_turn (nodes_of core) n.desk.values.items (NodeTurn number) ≡ words ∷ []
   narrow_taken few =
-      ap (λ (ls : List ℕ). node_words n.values.items number ls ∷ []) (frame_is core number read.node read.is.at) ∙ ap (λ (ws : List ℕ). ws ∷ []) (sym (read.same few))
+      ap (λ (ls : List ℕ). node_words n.desk.values.items number ls ∷ []) (frame_is core number read.node read.is.at) ∙ ap (λ (ws : List ℕ). ws ∷ []) (sym (read.same few))
 
   same_node : x.node ≡ read.node
   same_node =
       let there : Some x.node ≡ Some read.node = sym x.at ∙ ap (slice_get (nodes_of core)) number_is ∙ read.is.at in
       cc
 
-  pub record_held : NARROW_LIMIT < length read.node.frame → HoldRecord s.heap (length read.node.frame) x.held
-  record_held = subst (λ (y : Node). NARROW_LIMIT < length y.frame → HoldRecord s.heap (length y.frame) x.held) same_node x.wide
+  pub record_held : NARROW_LIMIT < length read.node.frame → HoldRecord s.desk.heap (length read.node.frame) x.held
+  record_held = subst (λ (y : Node). NARROW_LIMIT < length y.frame → HoldRecord s.desk.heap (length y.frame) x.held) same_node x.wide
 
   pub narrow_turn_taken : length read.node.frame ≤ NARROW_LIMIT → IsNarrow core number
   narrow_turn_taken few = record { node = read.node; at = read.is.at; narrow = few }
@@ -102,19 +104,19 @@ module _ (core : Process) (s n : Store) (number : ℕ) (words : List ℕ) (x : I
         let p = pair_behind ws number (record_held many).pair.0 (record_held many).pair.1 (sym words_are ∙ held_are many) in
         held_are many ∙ ap (λ (a : ℕ). suc number ∷ a ∷ (record_held many).pair.1 ∷ []) (sym (first ∙ p.0)) ∙ ap (λ (b : ℕ). suc number ∷ pair.0 ∷ b ∷ []) (sym (second ∙ p.1))
 
-    pub wide_taken : IsWide core n.heap n.values.items number pair
+    pub wide_taken : IsWide core n.desk.heap n.desk.values.items number pair
     wide_taken =
         let held : x.held ≡ pair.0 ∷ pair.1 ∷ [] = ap (drop 1) (sym x.is ∙ wide_held) in
         record {
           node = read.node;
           wide = many;
-          is = subst (IsNodeBlock core n.heap n.values.items number read.node) wide_held read.is;
+          is = subst (IsNodeBlock core n.desk.heap n.desk.values.items number read.node) wide_held read.is;
           record_is = subst (λ (h : HeapState). HoldRecord h (length read.node.frame) (pair.0 ∷ pair.1 ∷ [])) (sym read.rest.heap)
-              (subst (HoldRecord s.heap (length read.node.frame)) held (record_held many));
+              (subst (HoldRecord s.desk.heap (length read.node.frame)) held (record_held many));
         }
 
 -- a word was read before
-pub reads_turn_after : (core : Process) (s : Store) (mid : QueuesState) (new : Store) (block : ℕ) → ArePairs s.heap s.values.items → OnlyWorks s.queues mid
+pub reads_turn_after : (core : Process) (s : Store) (mid : QueuesState) (new : Store) (block : ℕ) → ArePairs s.desk.heap s.desk.values.items → OnlyWorks s.queues mid
     → ReadsTurn core (record s { queues = mid }) new (held_words mid.region block) → ReadsTurn core s new (held_words s.queues.region block)
 reads_turn_after core s mid new block pairs works r =
     let read : OnlyReads s (record s { queues = mid }) = reads_works s mid pairs works in
@@ -129,14 +131,14 @@ reads_turn_after core s mid new block pairs works r =
 -- a node of at most `NARROW_LIMIT` levels
 pub record NodeFits (core : Process) (s : Store) (number : ℕ) (frame : List ℕ) : Type 0 where
   pub narrow : length frame ≤ NARROW_LIMIT
-  pub words : acting_words core s ≡ node_words s.values.items number frame
-  pub long : length (node_words s.values.items number frame) + 1 ≡ 2 + 2 * length frame
+  pub words : acting_words core s ≡ node_words s.desk.values.items number frame
+  pub long : length (node_words s.desk.values.items number frame) + 1 ≡ 2 + 2 * length frame
   pub width : length (acting_words core s) + 1 ≡ 2 + 2 * length frame
 
 pub node_fits : (core : Process) (s : Store) (a : HasActing core s) (number : ℕ) → s.turn ≡ NodeTurn number → (frame : List ℕ) → HasFrame (nodes_of core) number frame → NodeFits core s number frame
 node_fits core s a number e frame f =
-    let words : acting_words core s ≡ node_words s.values.items number frame = node_words_are core s a number e f.node f.at ∙ ap (node_words s.values.items number) f.is in
-    let many = length_frame_words s.values.items frame in
+    let words : acting_words core s ≡ node_words s.desk.values.items number frame = node_words_are core s a number e f.node f.at ∙ ap (node_words s.desk.values.items number) f.is in
+    let many = length_frame_words s.desk.values.items frame in
     let same = ap length words in
     record {
       narrow = subst (λ (ls : List ℕ). length ls ≤ NARROW_LIMIT) f.is (node_narrow core s a number e f.node f.at);
@@ -176,7 +178,7 @@ words_some nodes values (Wide number pair) apart = refl
 words_some nodes values (Output kept) apart = refl
 
 pub some_acts : (core : Process) (s : Store) → IsStore core s → ¬ (s.turn ≡ Nobody) → HasActing core s
-some_acts core s store apart = record { store = store; has = words_some (nodes_of core) s.values.items s.turn apart }
+some_acts core s store apart = record { store = store; has = words_some (nodes_of core) s.desk.values.items s.turn apart }
 
 pub some_other : (turn : Turn) → ¬ (turn ≡ Nobody) → ((number : ℕ) → ¬ (turn ≡ NodeTurn number)) → ((number : ℕ) (pair : ℕ × ℕ) → ¬ (turn ≡ Wide number pair))
     → ((kept : Kept) → ¬ (turn ≡ Output kept)) → ⊥
@@ -190,24 +192,24 @@ some_other (Output kept) nobody node wide output = output kept refl
 -- it is popped
 module _ (core : Process) (old : Store) (popped : QueuesState) (store : IsStore core old) (idle : old.turn ≡ Nobody) (words : List ℕ)
     (first : contents old.queues 0 ≡ words ∷ contents popped 0) (others : KeepsOtherContents old.queues popped 0) (many : length popped.queues ≡ length old.queues.queues) where
-  front : AllByRecursion (IsBlock core old.heap) (words ∷ contents popped 0)
-  front = subst (AllByRecursion (IsBlock core old.heap)) first (store.blocks 0)
+  front : AllByRecursion (IsBlock core old.desk.heap) (words ∷ contents popped 0)
+  front = subst (AllByRecursion (IsBlock core old.desk.heap)) first (store.blocks 0)
 
-  pub popped_block : IsBlock core old.heap words
+  pub popped_block : IsBlock core old.desk.heap words
   popped_block = front.0
 
   pub popped_store : IsStore core (record old { queues = popped })
   popped_store =
       let new : Store = record old { queues = popped } in
-      store_by core old new store (keeps_all old.heap) (let low = store.ready in omega (arith, low, many))
-      (blocks_by core old new store (keeps_all old.heap) (contents popped 0) (ready_nobody core new (words_nobody core new idle)) front.1 others)
-      (waiting_by core old new store (keeps_all old.heap) others) store.pairs refl
-      (nobody_turn core old.heap old.values.items old.turn idle) (nobody_room core new popped.region idle)
+      store_by core old new store (keeps_all old.desk.heap) (let low = store.ready in omega (arith, low, many))
+      (blocks_by core old new store (keeps_all old.desk.heap) (contents popped 0) (ready_nobody core new (words_nobody core new idle)) front.1 others)
+      (waiting_by core old new store (keeps_all old.desk.heap) others) store.pairs refl
+      (nobody_turn core old.desk.heap old.desk.values.items old.turn idle) (nobody_room core new popped.region idle)
 
 -- its frame is read, and its block is given back
 module _ (core : Process) (s n : Store) (block : ℕ) (turn : Turn) (given : QueuesState) (store : IsStore core s) (idle : s.turn ≡ Nobody)
-    (is : IsBlock core s.heap (held_words s.queues.region block)) (read : OnlyReads s n)
-    (words : words_of_turn (nodes_of core) n.values.items turn ≡ held_words s.queues.region block ∷ []) (may : IsTurn core n.heap n.values.items turn)
+    (is : IsBlock core s.desk.heap (held_words s.queues.region block)) (read : OnlyReads s n)
+    (words : words_of_turn (nodes_of core) n.desk.values.items turn ≡ held_words s.queues.region block ∷ []) (may : IsTurn core n.desk.heap n.desk.values.items turn)
     (contents_kept : KeepsAllContents n.queues given) (queues_kept : given.queues ≡ n.queues.queues)
     (freed : spare given.region (width_of n.queues.region block) ≡ spare n.queues.region (width_of n.queues.region block) + 1)
     (widths : KeepsOtherWidths n.queues.region given.region (width_of n.queues.region block)) where
@@ -216,7 +218,7 @@ module _ (core : Process) (s n : Store) (block : ℕ) (turn : Turn) (given : Que
 
   width_is : width_of n.queues.region block ≡ length (held_words s.queues.region block) + 1
   width_is =
-      ap (λ (q : QueuesState). width_of q.region block) read.queues ∙ block_wide core s.heap (words_of s.queues.region block) is
+      ap (λ (q : QueuesState). width_of q.region block) read.queues ∙ block_wide core s.desk.heap (words_of s.queues.region block) is
 
   pub taken_spare_more : (width : ℕ) → spare s.queues.region width ≤ spare given.region width
   taken_spare_more width =
@@ -237,7 +239,7 @@ module _ (core : Process) (s n : Store) (block : ℕ) (turn : Turn) (given : Que
       record {
         store = record {
           ready = let low = before.ready in let e = ap length queues_kept in omega (arith, low, e);
-          blocks = λ queue. subst (AllByRecursion (IsBlock core n.heap)) (sym (contents_kept queue)) (before.blocks queue);
+          blocks = λ queue. subst (AllByRecursion (IsBlock core n.desk.heap)) (sym (contents_kept queue)) (before.blocks queue);
           waiting = λ channel. subst (AllByRecursion (CanWait core)) (sym (contents_kept (channel + 1))) (before.waiting channel);
           pairs = before.pairs;
           levels = before.levels;
@@ -252,7 +254,7 @@ module _ (core : Process) (old : Store) (popped : QueuesState) (block : ℕ) (n 
     (first : contents old.queues 0 ≡ held_words popped.region block ∷ contents popped 0) (others : KeepsOtherContents old.queues popped 0) (rest : KeepsRest old.queues popped)
     (blocks_popped : KeepsBlocks old.queues.region popped.region) (more : HoldsOneMore old.queues popped block)
     (read : OnlyReads (record old { queues = popped }) n)
-    (words : words_of_turn (nodes_of core) n.values.items turn ≡ held_words popped.region block ∷ []) (may : IsTurn core n.heap n.values.items turn)
+    (words : words_of_turn (nodes_of core) n.desk.values.items turn ≡ held_words popped.region block ∷ []) (may : IsTurn core n.desk.heap n.desk.values.items turn)
     (contents_kept : KeepsAllContents n.queues given) (queues_kept : given.queues ≡ n.queues.queues)
     (freed : spare given.region (width_of n.queues.region block) ≡ spare n.queues.region (width_of n.queues.region block) + 1)
     (widths : KeepsOtherWidths n.queues.region given.region (width_of n.queues.region block))
@@ -263,7 +265,7 @@ module _ (core : Process) (old : Store) (popped : QueuesState) (block : ℕ) (n 
   abbrev end : Store
   end = record n { queues = given; turn = turn }
 
-  is_block : IsBlock core old.heap (held_words popped.region block)
+  is_block : IsBlock core old.desk.heap (held_words popped.region block)
   is_block = popped_block core old popped store idle (held_words popped.region block) first others rest.queues
 
   mid_store : IsStore core mid
@@ -327,6 +329,6 @@ module _ (core : Process) (s : Store) (made new : QueuesState) (block : ℕ) (a 
   pub rested_store : IsStore core rested
   rested_store =
       let same = rested_queues in
-      store_by core s rested a.store (keeps_all s.heap) (let low = a.store.ready in omega (arith, low, same))
-      (blocks_by core s rested a.store (keeps_all s.heap) (ready_words core s) rested_ready (ready_blocks core s a.store) rested_others)
-      (waiting_by core s rested a.store (keeps_all s.heap) rested_others) a.store.pairs refl tt tt
+      store_by core s rested a.store (keeps_all s.desk.heap) (let low = a.store.ready in omega (arith, low, same))
+      (blocks_by core s rested a.store (keeps_all s.desk.heap) (ready_words core s) rested_ready (ready_blocks core s a.store) rested_others)
+      (waiting_by core s rested a.store (keeps_all s.desk.heap) rested_others) a.store.pairs refl tt tt

@@ -10,11 +10,12 @@ use Rattle.pict_code.specs.Standing.{with_frame}
 use Rattle.pict_queue.specs.QueuesState.{QueuesState}
 use Rattle.pict_queue.specs.Contents.{contents}
 use Rattle.pict_heap.specs.HeapState.{HeapState, KeepsWords}
-use Rattle.pict_blocks.specs.Blocks.{value_in, values_of, fields_of, frame_values, node_process, process_of, view_of_contents}
-use Rattle.pict_blocks.proofs.Nodes.{part_of}
-use Rattle.pict_operands.specs.Pairs.{IsPair}
-use Rattle.pict_operands.proofs.Pairs.{value_packed}
-use Rattle.pict_turns.specs.Holding.{HoldWords, HoldRecord, HoldsFrame}
+use Rattle.pict_blocks.specs.Blocks.{values_of, frame_values, node_process, process_of, view_of_contents}
+use Rattle.pict_desk.specs.Known.{value_in, fields_of}
+use Rattle.pict_desk.proofs.Nodes.{part_of}
+use Rattle.pict_desk.specs.Pairs.{IsPair}
+use Rattle.pict_desk.proofs.Pairs.{value_packed}
+use Rattle.pict_blocks.specs.Holding.{HoldWords, HoldRecord, HoldsFrame}
 use Rattle.pict_turns.specs.Views.{lists_from, IsNode, IsKept, IsBlock}
 
 module _ (old new : HeapState) (keeps : KeepsWords old new) where

@@ -1,34 +1,22 @@
 -- Somebody has the turn and acts: what is known of a store meanwhile, and what the step does to it.
-use Rattle.std.specs.Prelude.{◌≡◌, ◌≢◌, ◌≤◌, ◌+◌, ℕ, List, [], ◌∷◌, length, map}
+use Rattle.std.specs.Prelude.{◌≡◌, ◌≢◌, ◌≤◌, ◌+◌, ℕ, List, [], ◌∷◌, length}
 use Rattle.std.specs.List.{AllByRecursion}
 use Rattle.pict_core.specs.Term.{Process}
-use Rattle.pict_core.specs.Closed.{IsClosed}
 use Rattle.pict_core.specs.Step.{Label}
 use Rattle.pict_code.specs.Instruction.{Node, Op}
-use Rattle.pict_code.specs.Nodes.{Place, places, nodes_of}
-use Rattle.pict_code.specs.Plain.{plain_node}
-use Rattle.pict_code.specs.ReadBack.{core_of}
-use Rattle.pict_code.specs.declared.instruction.Node as written
-use Rattle.pict_heap.specs.HeapState.{HeapState, KeepsWords}
+use Rattle.pict_code.specs.Nodes.{Place, places}
+use Rattle.pict_heap.specs.HeapState.{KeepsWords}
 use Rattle.pict_queue.specs.QueuesState.{IsQueue}
 use Rattle.pict_queue.specs.Contents.{KeepsAllContents, HoldsNoMore}
 use Rattle.pict_region.specs.RegionState.{RegionState, spare}
 use Rattle.pict_view.specs.Moved.{Moves, Misshapen}
-use Rattle.pict_view.specs.ViewStep.{next_view}
+use Rattle.pict_view.specs.Placed.{next_view}
 use Rattle.pict_blocks.specs.Blocks.{IsNodeBlock}
-use Rattle.pict_operands.specs.Pairs.{ArePairs}
+use Rattle.pict_desk.specs.Pairs.{ArePairs}
+use Rattle.pict_desk.specs.Room.{KeepsHeap}
 use Rattle.pict_turns.specs.Turns.{IsTurn}
 use Rattle.pict_turns.specs.Views.{turn_words, acting_words, view_with_turn, AreBlocks, AreWaiting}
 use Rattle.pict_turns.specs.declared.store.Store.{Store}
-
--- the process of these nodes
-abbrev pub core_in : List written.Node → Process
-core_in code = core_of (map plain_node code)
-
--- these are the nodes of a closed process, `core_of nodes`
-pub record IsCode (nodes : List Node) : Type 0 where
-  pub closed : IsClosed (core_of nodes)
-  pub nodes_are : nodes_of (core_of nodes) ≡ nodes
 
 -- a free block is there for these words and a link
 abbrev pub HasBlockFor : RegionState → List ℕ → Type 0
@@ -41,9 +29,9 @@ pub record IsStore (core : Process) (s : Store) : Type 0 where
   pub ready : IsQueue s.queues 0
   pub blocks : AreBlocks core s
   pub waiting : AreWaiting core s.queues
-  pub pairs : ArePairs s.heap s.values.items
-  pub levels : AllByRecursion (λ (p : Place). p.around ≤ length s.values.items) (places 0 core)
-  pub turn : IsTurn core s.heap s.values.items s.turn
+  pub pairs : ArePairs s.desk.heap s.desk.values.items
+  pub levels : AllByRecursion (λ (p : Place). p.around ≤ length s.desk.values.items) (places 0 core)
+  pub turn : IsTurn core s.desk.heap s.desk.values.items s.turn
   pub room : AllByRecursion (HasBlockFor s.queues.region) (turn_words core s)
 
 -- Somebody has the turn.
@@ -56,7 +44,7 @@ pub record ActsBy (core : Process) (s : Store) (op : Op) : Type 0 where
   pub acting : HasActing core s
   pub number : ℕ
   pub node : Node
-  pub is : IsNodeBlock core s.heap s.values.items number node (acting_words core s)
+  pub is : IsNodeBlock core s.desk.heap s.desk.values.items number node (acting_words core s)
   pub op_is : node.op ≡ op
 
 -- the step isn't wrong
@@ -67,22 +55,17 @@ IsRight core s = next_view (view_with_turn core s) ≢ Misshapen
 pub record IsDone (core : Process) (old new : Store) (label : Label) : Type 0 where
   pub moves : next_view (view_with_turn core old) ≡ Moves (view_with_turn core new) label
   pub store : IsStore core new
-  pub keeps : KeepsWords old.heap new.heap
-  pub levels : length new.values.items ≡ length old.values.items
+  pub keeps : KeepsWords old.desk.heap new.desk.heap
+  pub levels : length new.desk.values.items ≡ length old.desk.values.items
   pub queues : length new.queues.queues ≤ length old.queues.queues + 1
   pub no_more : HoldsNoMore old.queues new.queues
-
--- The heap has the texts and the records that it had.
-pub record KeepsHeap (old new : HeapState) : Type 0 where
-  pub texts : new.texts ≡ old.texts
-  pub records : new.records ≡ old.records
 
 -- The step isn't done: nothing has changed but room, spare blocks and work.
 pub record IsRefused (core : Process) (old new : Store) : Type 0 where
   pub turn : new.turn ≡ old.turn
-  pub values : new.values.items ≡ old.values.items
+  pub values : new.desk.values.items ≡ old.desk.values.items
   pub contents : KeepsAllContents old.queues new.queues
   pub queues : length new.queues.queues ≡ length old.queues.queues
-  pub heap : KeepsHeap old.heap new.heap
+  pub heap : KeepsHeap old.desk.heap new.desk.heap
   pub store : IsStore core new
   pub no_more : HoldsNoMore old.queues new.queues

@@ -6,7 +6,8 @@ use Rattle.pict_code.specs.Instruction.{CodePat, RecordPat, CodePats, no_pats, m
 use Rattle.pict_code.specs.Nodes.{nodes_of}
 use Rattle.pict_queue.specs.QueuesState.{QueuesState}
 use Rattle.pict_queue.specs.Contents.{contents}
-use Rattle.pict_blocks.specs.Blocks.{value_in, process_of}
+use Rattle.pict_blocks.specs.Blocks.{process_of}
+use Rattle.pict_desk.specs.Known.{value_in}
 use Rattle.pict_turns.specs.declared.store.Store.{Store}
 
 -- the nodes of an operand
@@ -80,7 +81,7 @@ partner_size nodes s _ = 0
 
 -- The cost of the step of a block with these words behind its link: 64 times the size of its instruction and of its partner's.
 abbrev pub cost_of : Process → Store → List ℕ → ℕ
-cost_of core s words = 64 * (block_size (nodes_of core) words + partner_size (nodes_of core) s.queues (process_of core (value_in s.heap) words))
+cost_of core s words = 64 * (block_size (nodes_of core) words + partner_size (nodes_of core) s.queues (process_of core (value_in s.desk.heap) words))
 
 -- the cost of the step of the first of the ready ones; nothing where none is ready
 abbrev pub first_cost : Process → Store → List (List ℕ) → ℕ

@@ -1,4 +1,3 @@
-pub mod Holding
 pub mod Parts
 pub mod Views
 pub mod Turns

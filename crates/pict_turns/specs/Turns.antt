@@ -4,12 +4,12 @@ use Rattle.pict_syntax.specs.declared.limits.TheConstants.{NARROW_LIMIT}
 use Rattle.pict_core.specs.Term.{Process}
 use Rattle.pict_code.specs.Instruction.{Node}
 use Rattle.pict_code.specs.Nodes.{nodes_of}
-use Rattle.pict_frames.specs.Keeping.{kept_words}
+use Rattle.pict_blocks.specs.Keeping.{kept_words}
 use Rattle.pict_heap.specs.HeapState.{HeapState}
 use Rattle.pict_queue.specs.Contents.{contents, KeepsOtherContents, HoldsNoMore}
 use Rattle.pict_region.specs.RegionState.{spare, KeepsBlocks}
 use Rattle.pict_blocks.specs.Blocks.{IsNodeBlock}
-use Rattle.pict_turns.specs.Holding.{HoldRecord}
+use Rattle.pict_blocks.specs.Holding.{HoldRecord}
 use Rattle.pict_turns.specs.Reading.{OnlyReads}
 use Rattle.pict_turns.specs.Views.{IsKept, turn_words, acting_words}
 use Rattle.pict_turns.specs.declared.store.Store.{Store}
@@ -40,7 +40,7 @@ IsTurn core h values (Output kept) = IsKept h (kept_words kept)
 -- levels, each of which has the words of a value still.
 pub record ReadsTurn (core : Process) (old new : Store) (held : List ℕ) : Type 0 where
   pub words : turn_words core new ≡ held ∷ []
-  pub turn : IsTurn core new.heap new.values.items new.turn
+  pub turn : IsTurn core new.desk.heap new.desk.values.items new.turn
   pub rest : OnlyReads old (record new { turn = old.turn })
 
 -- The first of queue 0 has the turn now, and its block is free. The other queues, the heap and the piles stay. There are as
@@ -53,9 +53,9 @@ pub record TakesTurn (core : Process) (old new : Store) : Type 0 where
   pub spare : (width : ℕ) → spare old.queues.region width ≤ spare new.queues.region width
   pub blocks : KeepsBlocks old.queues.region new.queues.region
   pub no_more : HoldsNoMore old.queues new.queues
-  pub heap : new.heap ≡ old.heap
-  pub pending : new.pending ≡ old.pending
-  pub levels : length new.values.items ≡ length old.values.items
+  pub heap : new.desk.heap ≡ old.desk.heap
+  pub pending : new.desk.pending ≡ old.desk.pending
+  pub levels : length new.desk.values.items ≡ length old.desk.values.items
 
 -- how many units it takes at most to take the turn from blocks with these words, or to set it down
 abbrev pub handing : List (List ℕ) → ℕ

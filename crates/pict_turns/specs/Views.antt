@@ -7,14 +7,16 @@ use Rattle.pict_code.specs.Instruction.{Node, CodePat}
 use Rattle.pict_code.specs.Nodes.{nodes_of, input_op}
 use Rattle.pict_queue.specs.QueuesState.{QueuesState}
 use Rattle.pict_queue.specs.Contents.{contents}
-use Rattle.pict_frames.specs.Framed.{node_words}
-use Rattle.pict_frames.specs.Keeping.{kept_words, FitsKept}
-use Rattle.pict_frames.specs.declared.keeping.Kept.{Kept}
+use Rattle.pict_blocks.specs.Framed.{node_words}
+use Rattle.pict_blocks.specs.Keeping.{kept_words}
+use Rattle.pict_desk.specs.Kept.{FitsKept}
+use Rattle.pict_desk.specs.declared.kept.Kept.{Kept}
 use Rattle.pict_heap.specs.HeapState.{HeapState}
 use Rattle.pict_view.specs.View.{View}
-use Rattle.pict_blocks.specs.Blocks.{value_in, view_of_contents}
-use Rattle.pict_operands.specs.Pairs.{IsPair}
-use Rattle.pict_turns.specs.Holding.{HoldWords, HoldRecord}
+use Rattle.pict_blocks.specs.Blocks.{view_of_contents}
+use Rattle.pict_desk.specs.Known.{value_in}
+use Rattle.pict_desk.specs.Pairs.{IsPair}
+use Rattle.pict_blocks.specs.Holding.{HoldWords, HoldRecord}
 use Rattle.pict_turns.specs.declared.store.Store.{Store}
 use Rattle.pict_turns.specs.declared.turn.Turn.{Turn}
 use Rattle.pict_turns.specs.declared.turn.Turn.TheVariants.{Nobody, Node as NodeTurn, Wide, Output}
@@ -30,7 +32,7 @@ channel_lists s = lists_from s 1 (length s.queues - 1)
 
 -- the view of a store whose code is that of this process: queue 0 is of the ready processes
 abbrev pub view_of : Process → Store → View
-view_of core s = view_of_contents core (value_in s.heap) (contents s.queues 0) (channel_lists s.queues)
+view_of core s = view_of_contents core (value_in s.desk.heap) (contents s.queues 0) (channel_lists s.queues)
 
 -- ---- who has the turn
 
@@ -47,7 +49,7 @@ words_of_turn nodes values (Wide number record_pair) = (suc number ∷ record_pa
 words_of_turn nodes values (Output kept) = kept_words kept ∷ []
 
 abbrev pub turn_words : Process → Store → List (List ℕ)
-turn_words core s = words_of_turn (nodes_of core) s.values.items s.turn
+turn_words core s = words_of_turn (nodes_of core) s.desk.values.items s.turn
 
 -- who is ready, in order: who has the turn, and then the blocks of queue 0
 abbrev pub ready_words : Process → Store → List (List ℕ)
@@ -59,7 +61,7 @@ acting_words core s = slice_index_or (turn_words core s) 0 []
 
 -- the view of a store in which somebody may have the turn
 abbrev pub view_with_turn : Process → Store → View
-view_with_turn core s = view_of_contents core (value_in s.heap) (ready_words core s) (channel_lists s.queues)
+view_with_turn core s = view_of_contents core (value_in s.desk.heap) (ready_words core s) (channel_lists s.queues)
 
 -- ---- blocks
 
@@ -86,7 +88,7 @@ IsBlock core h words = IsNode core h words ⊎ IsKept h words
 
 -- each queue holds blocks
 abbrev pub AreBlocks : Process → Store → Type 0
-AreBlocks core s = (queue : ℕ) → AllByRecursion (IsBlock core s.heap) (contents s.queues queue)
+AreBlocks core s = (queue : ℕ) → AllByRecursion (IsBlock core s.desk.heap) (contents s.queues queue)
 
 -- the node with this number is an input
 pub record IsInputAt (core : Process) (number : ℕ) : Type 0 where

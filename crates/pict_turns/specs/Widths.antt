@@ -4,7 +4,7 @@ use Rattle.pict_core.specs.Primitives.{Leaves, Nothing, Answer, Trap, Effect}
 use Rattle.pict_code.specs.Instruction.{Node}
 use Rattle.pict_region.specs.RegionState.{spare, blocks}
 use Rattle.pict_queue.specs.QueuesState.{QueuesState}
-use Rattle.pict_turns.specs.Parts.{block_width}
+use Rattle.pict_blocks.specs.Parts.{block_width}
 
 -- how many of these widths are this one
 abbrev pub how_many : ℕ → List ℕ → ℕ

@@ -13,7 +13,7 @@ mod turning;
 pub use nodes::{choose, end, fork, make_channel};
 pub use parts::{make_ready, spawn_part};
 pub use reading::{frame_at, read_first};
-pub use reserving::{KEPT_WIDTH, block_width, reserve, reserve_kept, reserve_part, reserve_room};
+pub use reserving::{reserve, reserve_kept, reserve_part};
 pub use store::Store;
 pub use turn::Turn;
 pub use turning::{return_turn, set_down, take_turn};

@@ -1,19 +1,18 @@
 // Steps of nodes that need no partner.
 ghost use Rattle.std.specs.Prelude.{◌≡◌, ◌<◌, ◌≤◌, ◌+◌, ◌^◌, ◌∷◌, [], ℕ, List, Bool, length, map, max, OnOk, OnErr, if◌then◌else◌};
-ghost use Rattle.pict_core.specs.Closed.{IsOver};
 ghost use Rattle.pict_core.specs.Plain.{plain_val};
 ghost use Rattle.pict_core.specs.Term.{Process, Boolean};
 ghost use Rattle.pict_core.specs.Step.{Quiet};
 ghost use Rattle.pict_code.specs.Instruction as op;
 ghost use Rattle.pict_code.specs.Plain.{plain_node};
 ghost use Rattle.pict_queue.specs.QueuesState.{IsQueue, CostsAtMost};
-ghost use Rattle.pict_blocks.specs.Blocks.{known, operand_value};
-ghost use Rattle.pict_operands.specs.Needs.{no_need};
-ghost use Rattle.pict_operands.specs.Pairs.{ArePairs};
-ghost use Rattle.pict_turns.specs.Acting.{core_in, IsCode, ActsBy, IsRight, IsDone, IsRefused};
+ghost use Rattle.pict_desk.specs.Known.{known, operand_value};
+ghost use Rattle.pict_desk.specs.Needs.{no_need};
+ghost use Rattle.pict_desk.specs.Pairs.{ArePairs};
+ghost use Rattle.pict_turns.specs.Acting.{ActsBy, IsRight, IsDone, IsRefused};
+ghost use Rattle.pict_desk.specs.Code.{core_in, IsCode, HasFrame};
 ghost use Rattle.pict_turns.specs.Channels.{AddsChannel};
-ghost use Rattle.pict_turns.specs.Parts.{block_width};
-ghost use Rattle.pict_turns.specs.Reading.{HasFrame};
+ghost use Rattle.pict_blocks.specs.Parts.{block_width};
 ghost use Rattle.pict_turns.specs.Reserving.{CanHoldAnd, OnlyReserves};
 ghost use Rattle.pict_turns.specs.Turns.{turn_cost};
 ghost use Rattle.pict_turns.specs.Widths.{MakesOnly, part_width};
@@ -24,9 +23,8 @@ use crate::reserving::{reserve_part, reserve_parts};
 use crate::store::Store;
 use crate::turn::Turn;
 use pict_code::{Node, Operand};
-use pict_core::CoreVal;
+use pict_desk::chosen;
 use pict_heap::{Word, pack};
-use pict_operands::is_true;
 use pict_prim::NO_NEED;
 use std::alloc::AllocError;
 
@@ -62,33 +60,6 @@ pub fn fork(store: &mut Store, code: &[Node], left: u32, right: u32) -> Result<(
     Ok(())
 }
 
-// Whether the test of a conditional is true.
-#[inline(always)]
-fn holds(store: &Store, test: &Operand) -> bool
-    requires over { IsOver (length store.now.values.items) 0 (plain_val test.now) }
-    requires pairs { ArePairs store.now.heap store.now.values.items }
-    requires boolean { (b : Bool) × (operand_value (known store.now.heap store.now.values.items) (plain_val test.now) ≡ Boolean b) }
-    ensures { operand_value (known store.now.heap store.now.values.items) (plain_val test.now) ≡ Boolean result }
-{
-    match test {
-        CoreVal::Bool(b) => *b,
-        CoreVal::Var(level) => is_true(store.values[*level as usize]),
-        _ => unreachable!(),
-    }
-}
-
-// The part that the test of a conditional chooses.
-#[inline(always)]
-fn chosen(store: &Store, test: &Operand, yes: u32, no: u32) -> u32
-    requires over { IsOver (length store.now.values.items) 0 (plain_val test.now) }
-    requires pairs { ArePairs store.now.heap store.now.values.items }
-    requires boolean { (b : Bool) × (operand_value (known store.now.heap store.now.values.items) (plain_val test.now) ≡ Boolean b) }
-    ensures { (b : Bool) × (operand_value (known store.now.heap store.now.values.items) (plain_val test.now) ≡ Boolean b)
-        × (result ≡ (if b then yes else no)) }
-{
-    if holds(store, test) { yes } else { no }
-}
-
 /// A conditional, which has the turn: the part that its test chooses has it then. An error, which is want of memory, changes
 /// nothing but room and spare blocks.
 #[inline(always)]
@@ -106,11 +77,11 @@ pub fn choose(
     ensures refused { OnErr result (IsRefused (core_in code.now) store.old store.new) }
     ensures turn { OnOk result ((first second : List ℕ) → HasFrame (map plain_node code.now) yes first → HasFrame (map plain_node code.now) no second
         → turn_cost (core_in code.now) store.new ≤ max (block_width first) (block_width second) + 4) }
-    ensures blocks { (b : Bool) → operand_value (known store.old.heap store.old.values.items) (plain_val test.now) ≡ Boolean b
+    ensures blocks { (b : Bool) → operand_value (known store.old.desk.heap store.old.desk.values.items) (plain_val test.now) ≡ Boolean b
         → MakesOnly store.old.queues store.new.queues (part_width (map plain_node code.now) (if b then yes else no) ∷ []) }
     ensures work { store.new.queues.region.work ≡ store.old.queues.region.work }
 {
-    let part = chosen(store, test, yes, no);
+    let part = chosen(&store.desk, test, yes, no);
     let frame = frame_at(code, part as usize);
     reserve_part(store, frame, NO_NEED)?;
     hand_on(store, part, frame);
@@ -135,15 +106,15 @@ fn add_channel(store: &mut Store, level: u32)
     requires spare { 1 ≤ store.old.queues.spare_queues }
     requires ready { IsQueue store.old.queues 0 }
     requires few { length store.old.queues.queues < 2 ^ 32 }
-    requires inside { level < length store.old.values.items }
-    requires pairs { ArePairs store.old.heap store.old.values.items }
+    requires inside { level < length store.old.desk.values.items }
+    requires pairs { ArePairs store.old.desk.heap store.old.desk.values.items }
     ensures { AddsChannel store.old store.new level }
 {
     let number = match store.queues.add_queue() {
         Ok(queue) => (queue.0 - 1) as u32,
         Err(_) => unreachable!(),
     };
-    store.values[level as usize] = pack(Word::Chan(number));
+    store.desk.values[level as usize] = pack(Word::Chan(number));
 }
 
 /// A restriction, which has the turn: its part has it then, with the next channel as the value of the new level. An error, which is

@@ -5,75 +5,32 @@ ghost use Rattle.pict_code.specs.Nodes.{nodes_of};
 ghost use Rattle.pict_queue.specs.QueuesState.{IsQueue, CostsAtMost};
 ghost use Rattle.pict_region.specs.RegionState.{KeepsBlocks};
 ghost use Rattle.pict_queue.specs.Contents.{KeepsHeld, HoldsNoMore};
-ghost use Rattle.pict_operands.specs.Pairs.{ArePairs};
-ghost use Rattle.pict_turns.specs.Parts.{block_width, CanHold, IsPart, HandsOn, Spawns, IsLast};
-ghost use Rattle.pict_turns.specs.Reading.{HasFrame};
+ghost use Rattle.pict_desk.specs.Pairs.{ArePairs};
+ghost use Rattle.pict_blocks.specs.Parts.{block_width};
+ghost use Rattle.pict_turns.specs.Parts.{CanHold, HandsOn, Spawns, IsLast};
+ghost use Rattle.pict_desk.specs.Code.{HasFrame};
 
 use crate::store::Store;
 use crate::turn::Turn;
-use pict_frames::block_of;
-use pict_operands::frame_record;
+use pict_blocks::make_part;
+use pict_desk::frame_record;
 use pict_queue::QueueId;
-use pict_region::Block;
 use pict_syntax::NARROW_LIMIT;
-
-// A new block of the node with this number, with the values of its frame, which stands in the block.
-#[inline(always)]
-fn make_narrow(store: &mut Store, number: u32, frame: &[u32]) -> Block
-    requires narrow { length frame.now ≤ NARROW_LIMIT }
-    requires can { CanHold store.old frame.now }
-    requires inside { All (λ level. level < length store.old.values.items) frame.now }
-    requires pairs { ArePairs store.old.heap store.old.values.items }
-    ensures part { IsPart store.old store.new result number frame.now }
-    ensures cost { CostsAtMost (block_width frame.now) store.old.queues store.new.queues }
-{
-    block_of(&mut store.queues, number as usize, frame, &store.values)
-}
-
-// The same of a frame that stands in a record.
-#[cold]
-fn make_wide(store: &mut Store, number: u32, frame: &[u32]) -> Block
-    requires wide { NARROW_LIMIT < length frame.now }
-    requires can { CanHold store.old frame.now }
-    requires inside { All (λ level. level < length store.old.values.items) frame.now }
-    requires pairs { ArePairs store.old.heap store.old.values.items }
-    ensures part { IsPart store.old store.new result number frame.now }
-    ensures cost { CostsAtMost (block_width frame.now) store.old.queues store.new.queues }
-{
-    let pair = frame_record(&mut store.heap, &mut store.pending, frame, &store.values);
-    block_of(&mut store.queues, number as usize, &[0], &[pair])
-}
-
-// The same of any frame.
-#[inline(always)]
-fn make_part(store: &mut Store, number: u32, frame: &[u32]) -> Block
-    requires can { CanHold store.old frame.now }
-    requires inside { All (λ level. level < length store.old.values.items) frame.now }
-    requires pairs { ArePairs store.old.heap store.old.values.items }
-    ensures part { IsPart store.old store.new result number frame.now }
-    ensures cost { CostsAtMost (block_width frame.now) store.old.queues store.new.queues }
-{
-    if frame.len() <= NARROW_LIMIT as usize {
-        make_narrow(store, number, frame)
-    } else {
-        make_wide(store, number, frame)
-    }
-}
 
 /// A new block of the node with this number becomes the last of queue 0. Takes no memory.
 #[inline(always)]
 pub fn spawn_part(store: &mut Store, number: u32, frame: &[u32])
     requires queue { IsQueue store.old.queues 0 }
     requires can { CanHold store.old frame.now }
-    requires inside { All (λ level. level < length store.old.values.items) frame.now }
-    requires pairs { ArePairs store.old.heap store.old.values.items }
+    requires inside { All (λ level. level < length store.old.desk.values.items) frame.now }
+    requires pairs { ArePairs store.old.desk.heap store.old.desk.values.items }
     ensures spawns { Spawns store.old store.new number frame.now }
     ensures kept { KeepsHeld store.old.queues store.new.queues }
     ensures no_more { HoldsNoMore store.old.queues store.new.queues }
     ensures blocks { KeepsBlocks store.old.queues.region store.new.queues.region }
     ensures cost { CostsAtMost (block_width frame.now + 2) store.old.queues store.new.queues }
 {
-    let part = make_part(store, number, frame);
+    let part = make_part(&mut store.queues, &mut store.desk, number, frame);
     store.queues.push_back(QueueId(0), part);
 }
 
@@ -82,12 +39,17 @@ pub fn spawn_part(store: &mut Store, number: u32, frame: &[u32])
 fn hand_on_wide(store: &mut Store, number: u32, frame: &[u32])
     requires wide { NARROW_LIMIT < length frame.now }
     requires can { CanHold store.old frame.now }
-    requires inside { All (λ level. level < length store.old.values.items) frame.now }
-    requires pairs { ArePairs store.old.heap store.old.values.items }
+    requires inside { All (λ level. level < length store.old.desk.values.items) frame.now }
+    requires pairs { ArePairs store.old.desk.heap store.old.desk.values.items }
     ensures hands { (core : Process) → HasFrame (nodes_of core) number frame.now → HandsOn core store.old store.new number frame.now }
     ensures queues { store.new.queues ≡ store.old.queues }
 {
-    let pair = frame_record(&mut store.heap, &mut store.pending, frame, &store.values);
+    let pair = frame_record(
+        &mut store.desk.heap,
+        &mut store.desk.pending,
+        frame,
+        &store.desk.values,
+    );
     store.turn = Turn::Wide(number as usize, pair);
 }
 
@@ -96,8 +58,8 @@ fn hand_on_wide(store: &mut Store, number: u32, frame: &[u32])
 #[inline(always)]
 pub(crate) fn hand_on(store: &mut Store, number: u32, frame: &[u32])
     requires can { CanHold store.old frame.now }
-    requires inside { All (λ level. level < length store.old.values.items) frame.now }
-    requires pairs { ArePairs store.old.heap store.old.values.items }
+    requires inside { All (λ level. level < length store.old.desk.values.items) frame.now }
+    requires pairs { ArePairs store.old.desk.heap store.old.desk.values.items }
     ensures hands { (core : Process) → HasFrame (nodes_of core) number frame.now → HandsOn core store.old store.new number frame.now }
     ensures queues { store.new.queues ≡ store.old.queues }
 {
@@ -115,8 +77,8 @@ pub fn make_ready(store: &mut Store, number: u32, frame: &[u32])
     requires nobody { store.old.turn ≡ Turn.Nobody }
     requires queue { IsQueue store.old.queues 0 }
     requires can { CanHold store.old frame.now }
-    requires inside { All (λ level. level < length store.old.values.items) frame.now }
-    requires pairs { ArePairs store.old.heap store.old.values.items }
+    requires inside { All (λ level. level < length store.old.desk.values.items) frame.now }
+    requires pairs { ArePairs store.old.desk.heap store.old.desk.values.items }
     ensures last { (core : Process) → HasFrame (nodes_of core) number frame.now → IsLast core store.old store.new number frame.now }
     ensures kept { KeepsHeld store.old.queues store.new.queues }
     ensures no_more { HoldsNoMore store.old.queues store.new.queues }

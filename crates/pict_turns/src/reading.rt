@@ -1,24 +1,22 @@
-// The frame of a node, read out of its block.
+// The frame of a node, read out of the first block of a queue.
 ghost use Rattle.std.specs.Prelude.{◌≡◌, ◌<◌, ◌≤◌, ◌-◌, ◌∷◌, ℕ, List, suc, All, length, map, slice_index};
 ghost use Rattle.pict_code.specs.Levels.{Rises};
 ghost use Rattle.pict_code.specs.Plain.{plain_node};
-ghost use Rattle.pict_region.specs.RegionState.{words_of};
-ghost use Rattle.pict_queue.specs.QueuesState.{IsQueue, IsHeld, CostsAtMost};
-ghost use Rattle.pict_queue.specs.Contents.{held_words, first_words};
-ghost use Rattle.pict_frames.specs.Writing.{OnlyWorks};
-ghost use Rattle.pict_operands.specs.Pairs.{ArePairs};
-ghost use Rattle.pict_turns.specs.Acting.{core_in, IsCode, IsStore};
-ghost use Rattle.pict_turns.specs.Holding.{HoldWords, HoldRecord};
-ghost use Rattle.pict_turns.specs.Parts.{block_width};
-ghost use Rattle.pict_turns.specs.Reading.{HasFrame, HasRead, HasReadNode};
+ghost use Rattle.pict_queue.specs.QueuesState.{IsQueue, CostsAtMost};
+ghost use Rattle.pict_queue.specs.Contents.{first_words};
+ghost use Rattle.pict_blocks.specs.Writing.{OnlyWorks};
+ghost use Rattle.pict_desk.specs.Pairs.{ArePairs};
+ghost use Rattle.pict_turns.specs.Acting.{IsStore};
+ghost use Rattle.pict_desk.specs.Code.{core_in, IsCode, HasFrame};
+ghost use Rattle.pict_blocks.specs.Holding.{HoldWords, HoldRecord};
+ghost use Rattle.pict_blocks.specs.Parts.{block_width};
+ghost use Rattle.pict_turns.specs.Reading.{HasRead, HasReadNode};
 ghost use Rattle.pict_turns.specs.Views.{IsNode};
 
 use crate::store::Store;
 use pict_code::Node;
-use pict_frames::read_frame;
-use pict_operands::read_record;
+use pict_desk::read_record;
 use pict_queue::{QueueId, Queues};
-use pict_region::Block;
 use pict_syntax::NARROW_LIMIT;
 
 /// The frame of the node with this number.
@@ -32,56 +30,20 @@ pub fn frame_at(code: &[Node], number: usize) -> &[u32]
 
 // A frame whose values stand in the block itself.
 #[inline(always)]
-pub(crate) fn read_narrow(store: &mut Store, block: &Block, frame: &[u32])
-    requires narrow { length frame.now ≤ NARROW_LIMIT }
-    requires held { IsHeld store.old.queues block.now }
-    requires inside { All (λ level. level < length store.old.values.items) frame.now }
-    requires rising { Rises 0 frame.now }
-    requires pairs { ArePairs store.old.heap store.old.values.items }
-    requires holds { (number : ℕ) × (held : List ℕ) × (held_words store.old.queues.region block.now ≡ suc number ∷ held)
-        × HoldWords store.old.heap (length frame.now) held }
-    ensures read { HasRead store.old store.new (held_words store.old.queues.region block.now) frame.now }
-    ensures cost { CostsAtMost (block_width frame.now) store.old.queues store.new.queues }
-{
-    read_frame(&mut store.queues, block, frame, &mut store.values);
-}
-
-// A frame whose values stand in a record, of which the result is the two words.
-#[cold]
-pub(crate) fn read_wide(store: &mut Store, block: &Block, frame: &[u32]) -> (u64, u64)
-    requires wide { NARROW_LIMIT < length frame.now }
-    requires held { IsHeld store.old.queues block.now }
-    requires inside { All (λ level. level < length store.old.values.items) frame.now }
-    requires rising { Rises 0 frame.now }
-    requires pairs { ArePairs store.old.heap store.old.values.items }
-    requires holds { (number : ℕ) × (held : List ℕ) × (held_words store.old.queues.region block.now ≡ suc number ∷ held)
-        × HoldRecord store.old.heap (length frame.now) held }
-    ensures read { HasRead store.old store.new (held_words store.old.queues.region block.now) frame.now }
-    ensures first { result.0 ≡ slice_index (words_of store.old.queues.region block.now) 2 }
-    ensures second { result.1 ≡ slice_index (words_of store.old.queues.region block.now) 3 }
-    ensures cost { CostsAtMost 2 store.old.queues store.new.queues }
-{
-    let pair = store.queues.get_pair(block, 2);
-    read_record(&store.heap, pair, frame, &mut store.values);
-    pair
-}
-
-// ---- out of the first block of a queue, which stays where it is
-
-// A frame whose values stand in the block itself.
-#[inline(always)]
 fn read_first_narrow(store: &mut Store, queue: QueueId, frame: &[u32])
     requires narrow { length frame.now ≤ NARROW_LIMIT }
     requires queue { IsQueue store.old.queues queue.0 }
-    requires inside { All (λ level. level < length store.old.values.items) frame.now }
+    requires inside { All (λ level. level < length store.old.desk.values.items) frame.now }
     requires rising { Rises 0 frame.now }
-    requires pairs { ArePairs store.old.heap store.old.values.items }
+    requires pairs { ArePairs store.old.desk.heap store.old.desk.values.items }
     requires holds { (number : ℕ) × (held : List ℕ) × (first_words store.old.queues queue.0 ≡ suc number ∷ held)
-        × HoldWords store.old.heap (length frame.now) held }
+        × HoldWords store.old.desk.heap (length frame.now) held }
     ensures read { HasRead store.old store.new (first_words store.old.queues queue.0) frame.now }
     ensures cost { CostsAtMost (block_width frame.now) store.old.queues store.new.queues }
 {
-    store.queues.peek_values(queue, 2, frame, &mut store.values);
+    store
+        .queues
+        .peek_values(queue, 2, frame, &mut store.desk.values);
 }
 
 // Word `i` of the first block of a queue, from 1 on.
@@ -105,17 +67,22 @@ fn first_word(queues: &mut Queues, queue: QueueId, i: u32) -> u64
 fn read_first_wide(store: &mut Store, queue: QueueId, frame: &[u32])
     requires wide { NARROW_LIMIT < length frame.now }
     requires queue { IsQueue store.old.queues queue.0 }
-    requires inside { All (λ level. level < length store.old.values.items) frame.now }
+    requires inside { All (λ level. level < length store.old.desk.values.items) frame.now }
     requires rising { Rises 0 frame.now }
-    requires pairs { ArePairs store.old.heap store.old.values.items }
+    requires pairs { ArePairs store.old.desk.heap store.old.desk.values.items }
     requires holds { (number : ℕ) × (held : List ℕ) × (first_words store.old.queues queue.0 ≡ suc number ∷ held)
-        × HoldRecord store.old.heap (length frame.now) held }
+        × HoldRecord store.old.desk.heap (length frame.now) held }
     ensures read { HasRead store.old store.new (first_words store.old.queues queue.0) frame.now }
     ensures cost { CostsAtMost 4 store.old.queues store.new.queues }
 {
     let tag = first_word(&mut store.queues, queue, 2);
     let payload = first_word(&mut store.queues, queue, 3);
-    read_record(&store.heap, (tag, payload), frame, &mut store.values);
+    read_record(
+        &store.desk.heap,
+        (tag, payload),
+        frame,
+        &mut store.desk.values,
+    );
 }
 
 /// Reads the values of a node's frame out of the first block of a queue, each to the place of its level. Nothing else changes but
@@ -125,7 +92,7 @@ pub fn read_first(store: &mut Store, code: &[Node], queue: QueueId, number: usiz
     requires code { IsCode (map plain_node code.now) }
     requires store { IsStore (core_in code.now) store.old }
     requires queue { IsQueue store.old.queues queue.0 }
-    requires is { (n : IsNode (core_in code.now) store.old.heap (first_words store.old.queues queue.0)) × (n.number ≡ number) }
+    requires is { (n : IsNode (core_in code.now) store.old.desk.heap (first_words store.old.queues queue.0)) × (n.number ≡ number) }
     ensures read { HasReadNode (core_in code.now) store.old store.new number (first_words store.old.queues queue.0) }
     ensures cost { (frame : List ℕ) → HasFrame (map plain_node code.now) number frame → CostsAtMost (block_width frame) store.old.queues store.new.queues }
 {

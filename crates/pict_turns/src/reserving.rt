@@ -1,109 +1,18 @@
 // Room for what a step is about to make.
-ghost use Rattle.std.specs.Prelude.{◌≡◌, ◌≤◌, ◌<◌, ◌+◌, ◌-◌, ◌*◌, ◌==◌, ◌∷◌, ◌↔◌, ℕ, [], length, OnOk, IsOk, IsTrue, if◌then◌else◌};
+ghost use Rattle.std.specs.Prelude.{◌≡◌, ◌≤◌, ◌<◌, ◌+◌, ◌-◌, ◌*◌, ◌==◌, ◌∷◌, ℕ, [], length, OnOk, IsOk, if◌then◌else◌};
 ghost use Rattle.pict_region.specs.RegionState.{spare, blocks};
-ghost use Rattle.pict_operands.specs.Needs.{no_need, both_needs, HasRoomFor};
-ghost use Rattle.pict_turns.specs.Parts.{block_width, frame_need};
+ghost use Rattle.pict_desk.specs.Needs.{no_need, both_needs, HasRoomFor};
+ghost use Rattle.pict_desk.specs.Room.{frame_need};
+ghost use Rattle.pict_blocks.specs.Parts.{block_width};
 ghost use Rattle.pict_turns.specs.Reserving.{CanHoldAnd, CanHoldBoth, OnlyReserves};
 ghost use Rattle.pict_turns.specs.Widths.{MakesOnly};
 
 use crate::store::Store;
-use pict_operands::both;
+use pict_blocks::{KEPT_WIDTH, block_width, narrow_width};
+use pict_desk::{both, frame_need, is_nothing, reserve_room};
 use pict_prim::Need;
 use pict_syntax::NARROW_LIMIT;
 use std::alloc::AllocError;
-
-/// The width of a block of an output of kept values, in words.
-pub const KEPT_WIDTH: u32 = 9;
-
-// What a block for a frame needs of the heap.
-#[inline(always)]
-fn frame_need(frame: &[u32]) -> Need
-    ensures { result ≡ frame_need frame.now }
-{
-    if frame.len() <= NARROW_LIMIT as usize {
-        Need {
-            records: 0,
-            fields: 0,
-            texts: 0,
-            bytes: 0,
-        }
-    } else {
-        Need {
-            records: 1,
-            fields: frame.len() as u64,
-            texts: 0,
-            bytes: 0,
-        }
-    }
-}
-
-// The width of a block for a frame that stands in the block itself, in words.
-#[inline(always)]
-fn narrow_width(frame: &[u32]) -> u32
-    requires { length frame.now ≤ NARROW_LIMIT }
-    ensures value { result ≡ block_width frame.now }
-    ensures positive { 2 ≤ result }
-    ensures narrow { result ≤ 65535 }
-{
-    2 + 2 * frame.len() as u32
-}
-
-/// The width of a block for a frame, in words.
-#[inline(always)]
-pub fn block_width(frame: &[u32]) -> u32
-    ensures value { result ≡ block_width frame.now }
-    ensures positive { 2 ≤ result }
-    ensures narrow { result ≤ 65535 }
-{
-    if frame.len() <= NARROW_LIMIT as usize {
-        narrow_width(frame)
-    } else {
-        4
-    }
-}
-
-// Whether there is no need.
-#[inline(always)]
-fn is_nothing(need: Need) -> bool
-    ensures { IsTrue result ↔ (need ≡ no_need) }
-{
-    need.records == 0 && need.fields == 0 && need.texts == 0 && need.bytes == 0
-}
-
-// Makes room for so much in the heap and on both piles. An error, which is want of memory, changes nothing but room, of which there
-// is then no less; a number of fields past 32 bits is want of memory.
-#[inline(never)]
-fn make_room(store: &mut Store, need: Need) -> Result<(), AllocError>
-    ensures free { store.new.queues.region ≡ store.old.queues.region }
-    ensures room { OnOk result (HasRoomFor store.new.heap store.new.pending need) }
-    ensures rest { OnlyReserves store.old store.new }
-{
-    if need.fields > u64::from(u32::MAX) {
-        return Err(AllocError);
-    }
-    store
-        .heap
-        .reserve(need.records, need.fields, need.texts, need.bytes)?;
-    store.pending.words.reserve(need.fields as usize)?;
-    store.pending.labelled.reserve(need.fields as usize)
-}
-
-/// Makes room for so much in the heap and on both piles, and does nothing where there is no need. An error, which is want of
-/// memory, changes nothing but room, of which there is then no less; a number of fields past 32 bits is want of memory.
-#[inline(always)]
-pub fn reserve_room(store: &mut Store, need: Need) -> Result<(), AllocError>
-    ensures enough { need ≡ no_need → IsOk result }
-    ensures same { need ≡ no_need → store.new ≡ store.old }
-    ensures free { store.new.queues.region ≡ store.old.queues.region }
-    ensures room { OnOk result (HasRoomFor store.new.heap store.new.pending need) }
-    ensures rest { OnlyReserves store.old store.new }
-{
-    if is_nothing(need) {
-        Ok(())
-    } else {
-        make_room(store, need)
-    }
-}
 
 /// Makes room for so much in the heap and on the piles, and free blocks until there are `count` of this width, in words. Where
 /// nothing else is needed and so many blocks are free it takes no memory. An error, which is want of memory, changes nothing but
@@ -112,14 +21,14 @@ pub fn reserve_room(store: &mut Store, need: Need) -> Result<(), AllocError>
 pub fn reserve(store: &mut Store, need: Need, width: u32, count: u64) -> Result<(), AllocError>
     requires positive { 2 ≤ width }
     requires narrow { width ≤ 65535 }
-    ensures room { OnOk result (HasRoomFor store.new.heap store.new.pending need) }
+    ensures room { OnOk result (HasRoomFor store.new.desk.heap store.new.desk.pending need) }
     ensures blocks { OnOk result (count ≤ spare store.new.queues.region width) }
     ensures enough { need ≡ no_need → 1 ≤ count → count ≤ spare store.old.queues.region width → IsOk result }
     ensures most { (w : ℕ) → blocks store.new.queues.region w
         ≤ blocks store.old.queues.region w + ((if w == width then count else 0) - spare store.old.queues.region w) }
     ensures rest { OnlyReserves store.old store.new }
 {
-    reserve_room(store, need)?;
+    reserve_room(&mut store.desk, need)?;
     store.queues.reserve(width, count)
 }
 
@@ -182,7 +91,7 @@ fn reserve_wide_parts(store: &mut Store, first: &[u32], second: &[u32]) -> Resul
     ensures rest { OnlyReserves store.old store.new }
 {
     let need = both(frame_need(first), frame_need(second))?;
-    reserve_room(store, need)?;
+    reserve_room(&mut store.desk, need)?;
     reserve_blocks(store, block_width(first), block_width(second))
 }
 
@@ -209,7 +118,7 @@ pub(crate) fn reserve_parts(
 #[inline(never)]
 fn reserve_kept_and(store: &mut Store, need: Need) -> Result<(), AllocError>
     ensures block { OnOk result (1 ≤ spare store.new.queues.region 9) }
-    ensures room { OnOk result (HasRoomFor store.new.heap store.new.pending need) }
+    ensures room { OnOk result (HasRoomFor store.new.desk.heap store.new.desk.pending need) }
     ensures most { MakesOnly store.old.queues store.new.queues (9 ∷ []) }
     ensures rest { OnlyReserves store.old store.new }
 {
@@ -221,7 +130,7 @@ fn reserve_kept_and(store: &mut Store, need: Need) -> Result<(), AllocError>
 #[inline(always)]
 pub fn reserve_kept(store: &mut Store, need: Need) -> Result<(), AllocError>
     ensures block { OnOk result (1 ≤ spare store.new.queues.region 9) }
-    ensures room { OnOk result (HasRoomFor store.new.heap store.new.pending need) }
+    ensures room { OnOk result (HasRoomFor store.new.desk.heap store.new.desk.pending need) }
     ensures enough { need ≡ no_need → 1 ≤ spare store.old.queues.region 9 → IsOk result }
     ensures most { MakesOnly store.old.queues store.new.queues (9 ∷ []) }
     ensures rest { OnlyReserves store.old store.new }

@@ -1,5 +1,5 @@
 // Who has the turn.
-use pict_frames::Kept;
+use pict_desk::Kept;
 
 /// Who has the turn: it acts next, before the ready ones in queue 0, and stands in no block.
 #[derive(Clone, Copy)]

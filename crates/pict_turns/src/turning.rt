@@ -2,21 +2,21 @@
 ghost use Rattle.std.specs.Prelude.{◌≡◌, ◌≢◌, ◌<◌, ◌+◌, ℕ, List, [], length, map};
 ghost use Rattle.pict_core.specs.Term.{Process};
 ghost use Rattle.pict_code.specs.Plain.{plain_node};
-ghost use Rattle.pict_frames.specs.Writing.{IsMade};
+ghost use Rattle.pict_blocks.specs.Writing.{IsMade};
 ghost use Rattle.pict_region.specs.RegionState.{KeepsBlocks};
 ghost use Rattle.pict_queue.specs.QueuesState.{IsHeld, CostsAtMost};
 ghost use Rattle.pict_queue.specs.Contents.{held_words, contents, KeepsOtherContents, HoldsNoMore};
-ghost use Rattle.pict_turns.specs.Acting.{core_in, IsCode, IsStore, HasActing};
-ghost use Rattle.pict_operands.specs.Pairs.{ArePairs};
-ghost use Rattle.pict_turns.specs.Reading.{HasFrame};
+ghost use Rattle.pict_turns.specs.Acting.{IsStore, HasActing};
+ghost use Rattle.pict_desk.specs.Code.{core_in, IsCode, HasFrame};
+ghost use Rattle.pict_desk.specs.Pairs.{ArePairs};
 ghost use Rattle.pict_turns.specs.Turns.{ReadsTurn, TakesTurn, turn_cost};
 ghost use Rattle.pict_turns.specs.Views.{IsNode, IsKept, IsBlock, acting_words, ready_words};
 
-use crate::reading::{frame_at, read_narrow, read_wide};
+use crate::reading::frame_at;
 use crate::store::Store;
 use crate::turn::Turn;
+use pict_blocks::{block_of, kept_block, read_kept, read_narrow, read_wide};
 use pict_code::Node;
-use pict_frames::{block_of, kept_block, read_kept};
 use pict_queue::QueueId;
 use pict_region::Block;
 use pict_syntax::NARROW_LIMIT;
@@ -46,8 +46,8 @@ pub fn take_turn(store: &mut Store, code: &[Node])
 #[inline(never)]
 fn read_output(store: &mut Store, block: &Block)
     requires held { IsHeld store.old.queues block.now }
-    requires kept { IsKept store.old.heap (held_words store.old.queues.region block.now) }
-    requires pairs { ArePairs store.old.heap store.old.values.items }
+    requires kept { IsKept store.old.desk.heap (held_words store.old.queues.region block.now) }
+    requires pairs { ArePairs store.old.desk.heap store.old.desk.values.items }
     ensures read { (core : Process) → ReadsTurn core store.old store.new (held_words store.old.queues.region block.now) }
     ensures cost { CostsAtMost 7 store.old.queues store.new.queues }
 {
@@ -62,12 +62,17 @@ fn read_wide_node(store: &mut Store, code: &[Node], block: &Block, number: usize
     requires code { IsCode (map plain_node code.now) }
     requires store { IsStore (core_in code.now) store.old }
     requires held { IsHeld store.old.queues block.now }
-    requires is { (n : IsNode (core_in code.now) store.old.heap (held_words store.old.queues.region block.now)) × (n.number ≡ number) }
+    requires is { (n : IsNode (core_in code.now) store.old.desk.heap (held_words store.old.queues.region block.now)) × (n.number ≡ number) }
     requires wide { (frame : List ℕ) → HasFrame (map plain_node code.now) number frame → NARROW_LIMIT < length frame }
     ensures read { ReadsTurn (core_in code.now) store.old store.new (held_words store.old.queues.region block.now) }
     ensures cost { CostsAtMost 2 store.old.queues store.new.queues }
 {
-    let pair = read_wide(store, block, frame_at(code, number));
+    let pair = read_wide(
+        &mut store.queues,
+        &mut store.desk,
+        block,
+        frame_at(code, number),
+    );
     store.turn = Turn::Wide(number, pair);
 }
 
@@ -77,13 +82,13 @@ fn read_node(store: &mut Store, code: &[Node], block: &Block, number: usize)
     requires code { IsCode (map plain_node code.now) }
     requires store { IsStore (core_in code.now) store.old }
     requires held { IsHeld store.old.queues block.now }
-    requires is { (n : IsNode (core_in code.now) store.old.heap (held_words store.old.queues.region block.now)) × (n.number ≡ number) }
+    requires is { (n : IsNode (core_in code.now) store.old.desk.heap (held_words store.old.queues.region block.now)) × (n.number ≡ number) }
     ensures read { ReadsTurn (core_in code.now) store.old store.new (held_words store.old.queues.region block.now) }
     ensures cost { CostsAtMost (length (held_words store.old.queues.region block.now) + 1) store.old.queues store.new.queues }
 {
     let frame = frame_at(code, number);
     if frame.len() <= NARROW_LIMIT as usize {
-        read_narrow(store, block, frame);
+        read_narrow(&mut store.queues, &mut store.desk, block, frame);
         store.turn = Turn::Node(number);
     } else {
         read_wide_node(store, code, block, number);
@@ -96,7 +101,7 @@ fn read_turn(store: &mut Store, code: &[Node], block: &Block)
     requires code { IsCode (map plain_node code.now) }
     requires store { IsStore (core_in code.now) store.old }
     requires held { IsHeld store.old.queues block.now }
-    requires is { IsBlock (core_in code.now) store.old.heap (held_words store.old.queues.region block.now) }
+    requires is { IsBlock (core_in code.now) store.old.desk.heap (held_words store.old.queues.region block.now) }
     ensures read { ReadsTurn (core_in code.now) store.old store.new (held_words store.old.queues.region block.now) }
     ensures cost { CostsAtMost (length (held_words store.old.queues.region block.now) + 2) store.old.queues store.new.queues }
 {
@@ -143,7 +148,7 @@ pub fn set_down(store: &mut Store, code: &[Node]) -> Block
         Turn::Node(number) => {
             store.turn = Turn::Nobody;
             let frame = frame_at(code, number);
-            block_of(&mut store.queues, number, frame, &store.values)
+            block_of(&mut store.queues, number, frame, &store.desk.values)
         }
         _ => set_down_other(store, code),
     }

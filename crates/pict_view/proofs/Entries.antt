@@ -1,86 +1,115 @@
--- The processes of a configuration's entries, by their stamps.
-use Rattle.std.proofs.Common.{ℕ, ◌+◌, ◌≤◌, ◌≡◌, Bool, true, false, List, [], ◌∷◌, ◌++◌, map, refl, Some, None, arith, cond}
+-- The entries that pass a test, when one goes, or goes on as another process, or comes.
+use Rattle.std.proofs.Common.{ℕ, zero, suc, ◌+◌, ◌≤◌, ◌≡◌, Bool, true, false, not, nat_eq, List, [], ◌∷◌, ◌++◌, map, refl, sym, ap, ◌∙◌, Some, arith, cond}
+use Rattle.std.specs.Prelude.{filter, slice_get}
 use Rattle.std.proofs.lemmas.Bool.Decides.{nat_tests}
 use Rattle.pict_core.specs.Term.{Process}
 use Rattle.pict_core.specs.Configuration.{Entry, StampsRise}
-use Rattle.pict_core.specs.Step.{least, with_process, is_ready}
+use Rattle.pict_core.specs.Step.{entry_at, with_process, is_ready}
 use Rattle.pict_core.proofs.Stamps.{without, least_above}
 use Rattle.pict_core.proofs.Entries.{with_process_past, without_past}
+use Rattle.pict_core.proofs.Placing.{above}
 use Rattle.pict_view.specs.View.{processes}
+use Rattle.pict_view.specs.Placed as placed
+use Rattle.pict_view.specs.Placed.{instead}
+use Rattle.pict_view.proofs.Lists.{without_suc, instead_suc}
 
--- ---- an entry goes
+filtered : (q : Entry → Bool) (d : Entry) (es : List Entry) (b : Bool) → q d ≡ b → filter q (d ∷ es) ≡ cond b (d ∷ filter q es) (filter q es)
+filtered q d es b e = ap (λ x. cond x (d ∷ filter q es) (filter q es)) e
 
--- a list of processes that is not empty has a least entry
-abbrev pub HasLeast : (Entry → Bool) → List Entry → Process → Type 0
-HasLeast p es x = (t : Entry) × (least p es ≡ Some t) × (t.process ≡ x) × (p t ≡ true)
+past : (s : ℕ) (d : Entry) (es : List Entry) → d.stamp + 1 ≤ s → without s (d ∷ es) ≡ d ∷ without s es
+past s d es h = let t : nat_eq s d.stamp ≡ false = grind (arith, nat_tests, h) in ap (λ b. cond (not b) (d ∷ without s es) (without s es)) t
 
-least_of_cons : (p : Entry → Bool) (u : Entry) (us : List Entry) (x : Process) (rest : List Process) → (processes p us ≡ x ∷ rest → HasLeast p us x) → processes p (u ∷ us) ≡ x ∷ rest → (b : Bool) → p u ≡ b → HasLeast p (u ∷ us) x
-least_of_cons p u us x rest ih e true h = (u, grind (arith, nat_tests), grind (arith, nat_tests), h)
-least_of_cons p u us x rest ih e false h =
-    let tail : processes p us ≡ x ∷ rest = grind (arith, nat_tests) in
-    let r = ih tail in
-    let again : least p us ≡ Some r.0 = r.1 in
-    (r.0, grind (arith, nat_tests), r.2, r.3)
+own : (d : Entry) (es : List Entry) (next : ℕ) → StampsRise (d.stamp + 1) es next → without d.stamp (d ∷ es) ≡ es
+own d es next r =
+    let t : nat_eq d.stamp d.stamp ≡ true = grind (arith, nat_tests) in
+    ap (λ b. cond (not b) (d ∷ without d.stamp es) (without d.stamp es)) t ∙ without_past d.stamp (d.stamp + 1) es next (omega arith) r
 
-pub least_of : (p : Entry → Bool) (es : List Entry) (x : Process) (rest : List Process) → processes p es ≡ x ∷ rest → HasLeast p es x
-least_of p [] x rest e = cc
-least_of p (u ∷ us) x rest e = least_of_cons p u us x rest (least_of p us x rest) e (p u) refl
+past_kept : (s : ℕ) (x : Process) (d : Entry) (es : List Entry) → d.stamp + 1 ≤ s → map (with_process s x) (d ∷ es) ≡ d ∷ map (with_process s x) es
+past_kept s x d es h = let t : nat_eq s d.stamp ≡ false = grind (arith, nat_tests, h) in ap (λ b. cond b (record d { process = x }) d ∷ map (with_process s x) es) t
 
-pub least_none : (p : Entry → Bool) (es : List Entry) → processes p es ≡ [] → least p es ≡ None
-least_none p [] e = refl
-least_none p (u ∷ us) e = let ih : processes p us ≡ [] → least p us ≡ None = least_none p us in grind (arith, nat_tests)
+own_kept : (x : Process) (d : Entry) (es : List Entry) (next : ℕ) → StampsRise (d.stamp + 1) es next → map (with_process d.stamp x) (d ∷ es) ≡ record d { process = x } ∷ es
+own_kept x d es next r =
+    let t : nat_eq d.stamp d.stamp ≡ true = grind (arith, nat_tests) in
+    ap (λ b. cond b (record d { process = x }) d ∷ map (with_process d.stamp x) es) t ∙ ap (λ l. record d { process = x } ∷ l) (with_process_past d.stamp x (d.stamp + 1) es next (omega arith) r)
 
--- the rest of a list, once its least entry is gone
-pub processes-least : (p : Entry → Bool) (low : ℕ) (es : List Entry) (next : ℕ) (t : Entry) → StampsRise low es next → least p es ≡ Some t → processes p es ≡ t.process ∷ processes p (without t.stamp es)
-processes-least p low [] next t r e = cc
-processes-least p low (u ∷ us) next t r e =
-    let ih : least p us ≡ Some t → processes p us ≡ t.process ∷ processes p (without t.stamp us) = processes-least p (u.stamp + 1) us next t r.1 in
-    let above : least p us ≡ Some t → u.stamp + 1 ≤ t.stamp = least_above p (u.stamp + 1) us next t r.1 in
-    let none : without u.stamp us ≡ us = without_past u.stamp (u.stamp + 1) us next (omega arith) r.1 in
-    grind (arith, nat_tests)
+-- ---- the i-th that passes goes
+
+gone_cons : (p : Entry → Bool) (d t : Entry) (es : List Entry) (next i : ℕ) → StampsRise (d.stamp + 1) es next
+    → ((j : ℕ) → slice_get (filter p es) j ≡ Some t → filter p (without t.stamp es) ≡ placed.without j (filter p es))
+    → (b : Bool) → p d ≡ b → slice_get (cond b (d ∷ filter p es) (filter p es)) i ≡ Some t
+    → filter p (without t.stamp (d ∷ es)) ≡ placed.without i (cond b (d ∷ filter p es) (filter p es))
+gone_cons p d t es next zero r ih true h e = let same : d ≡ t = cc in ap (λ (y : Entry). filter p (without y.stamp (d ∷ es))) (sym same) ∙ ap (filter p) (own d es next r)
+gone_cons p d t es next (suc i) r ih true h e =
+    ap (filter p) (past t.stamp d es (above p (d.stamp + 1) es next i t r e)) ∙ filtered p d (without t.stamp es) true h ∙ ap (λ l. d ∷ l) (ih i e)
+    ∙ sym (without_suc i d (filter p es))
+gone_cons p d t es next i r ih false h e = ap (filter p) (past t.stamp d es (above p (d.stamp + 1) es next i t r e)) ∙ filtered p d (without t.stamp es) false h ∙ ih i e
+
+pub place_gone : (p : Entry → Bool) (low : ℕ) (es : List Entry) (next i : ℕ) (t : Entry) → StampsRise low es next → slice_get (filter p es) i ≡ Some t
+    → filter p (without t.stamp es) ≡ placed.without i (filter p es)
+place_gone p low [] next i t r e = cc
+place_gone p low (d ∷ es) next i t r e = gone_cons p d t es next i r.1 (λ j k. place_gone p (d.stamp + 1) es next j t r.1 k) (p d) refl e
 
 -- a test that the entry fails sees nothing of its going
-pub processes-other : (p q : Entry → Bool) (low : ℕ) (es : List Entry) (next : ℕ) (t : Entry) → StampsRise low es next → least p es ≡ Some t → q t ≡ false → processes q (without t.stamp es) ≡ processes q es
-processes-other p q low [] next t r e f = refl
-processes-other p q low (u ∷ us) next t r e f =
-    let ih : least p us ≡ Some t → processes q (without t.stamp us) ≡ processes q us = λ h. processes-other p q (u.stamp + 1) us next t r.1 h f in
-    let above : least p us ≡ Some t → u.stamp + 1 ≤ t.stamp = least_above p (u.stamp + 1) us next t r.1 in
-    let none : without u.stamp us ≡ us = without_past u.stamp (u.stamp + 1) us next (omega arith) r.1 in
-    grind (arith, nat_tests)
+other_cons : (q : Entry → Bool) (d t : Entry) (es : List Entry) (next : ℕ) → StampsRise (d.stamp + 1) es next → q t ≡ false
+    → (entry_at t.stamp es ≡ Some t → filter q (without t.stamp es) ≡ filter q es)
+    → (b : Bool) → nat_eq t.stamp d.stamp ≡ b → cond b (Some d) (entry_at t.stamp es) ≡ Some t → filter q (without t.stamp (d ∷ es)) ≡ filter q (d ∷ es)
+other_cons q d t es next r f ih true h e =
+    let same : d ≡ t = cc in
+    let g : q d ≡ false = ap q same ∙ f in
+    ap (λ (y : Entry). filter q (without y.stamp (d ∷ es))) (sym same) ∙ ap (filter q) (own d es next r) ∙ sym (filtered q d es false g)
+other_cons q d t es next r f ih false h e = go (q d) refl (least_above _ (d.stamp + 1) es next t r e)
+  where
+    go : (b : Bool) → q d ≡ b → d.stamp + 1 ≤ t.stamp → filter q (without t.stamp (d ∷ es)) ≡ filter q (d ∷ es)
+    go b g up = ap (filter q) (past t.stamp d es up) ∙ filtered q d (without t.stamp es) b g ∙ ap (λ l. cond b (d ∷ l) l) (ih e) ∙ sym (filtered q d es b g)
 
-pub least-other : (p q : Entry → Bool) (low : ℕ) (es : List Entry) (next : ℕ) (t : Entry) → StampsRise low es next → least p es ≡ Some t → q t ≡ false → least q (without t.stamp es) ≡ least q es
-least-other p q low [] next t r e f = refl
-least-other p q low (u ∷ us) next t r e f =
-    let ih : least p us ≡ Some t → least q (without t.stamp us) ≡ least q us = λ h. least-other p q (u.stamp + 1) us next t r.1 h f in
-    let above : least p us ≡ Some t → u.stamp + 1 ≤ t.stamp = least_above p (u.stamp + 1) us next t r.1 in
-    let none : without u.stamp us ≡ us = without_past u.stamp (u.stamp + 1) us next (omega arith) r.1 in
-    grind (arith, nat_tests)
+pub other_gone : (q : Entry → Bool) (low : ℕ) (es : List Entry) (next : ℕ) (t : Entry) → StampsRise low es next → entry_at t.stamp es ≡ Some t → q t ≡ false
+    → filter q (without t.stamp es) ≡ filter q es
+other_gone q low [] next t r e f = refl
+other_gone q low (d ∷ es) next t r e f = other_cons q d t es next r.1 f (λ k. other_gone q (d.stamp + 1) es next t r.1 k f) (nat_eq t.stamp d.stamp) refl e
 
--- ---- an entry comes
+-- ---- the i-th that passes goes on as x
 
-pub processes-push : (p : Entry → Bool) (es : List Entry) (u : Entry) → processes p (es ++ u ∷ []) ≡ processes p es ++ cond (p u) (u.process ∷ []) []
-processes-push p [] u = grind (arith, nat_tests)
-processes-push p (v ∷ vs) u = let ih : processes p (vs ++ u ∷ []) ≡ processes p vs ++ cond (p u) (u.process ∷ []) [] = processes-push p vs u in grind (arith, nat_tests)
+kept_cons : (p : Entry → Bool) (x : Process) (d t : Entry) (es : List Entry) (next i : ℕ) → StampsRise (d.stamp + 1) es next → p (record t { process = x }) ≡ true
+    → ((j : ℕ) → slice_get (filter p es) j ≡ Some t → filter p (map (with_process t.stamp x) es) ≡ instead j (record t { process = x }) (filter p es))
+    → (b : Bool) → p d ≡ b → slice_get (cond b (d ∷ filter p es) (filter p es)) i ≡ Some t
+    → filter p (map (with_process t.stamp x) (d ∷ es)) ≡ instead i (record t { process = x }) (cond b (d ∷ filter p es) (filter p es))
+kept_cons p x d t es next zero r f ih true h e =
+    let same : d ≡ t = cc in
+    ap (λ (y : Entry). filter p (map (with_process y.stamp x) (d ∷ es))) (sym same) ∙ ap (filter p) (own_kept x d es next r)
+    ∙ ap (λ (y : Entry). filter p (record y { process = x } ∷ es)) same ∙ filtered p (record t { process = x }) es true f
+kept_cons p x d t es next (suc i) r f ih true h e =
+    ap (filter p) (past_kept t.stamp x d es (above p (d.stamp + 1) es next i t r e)) ∙ filtered p d (map (with_process t.stamp x) es) true h ∙ ap (λ l. d ∷ l) (ih i e)
+    ∙ sym (instead_suc i (record t { process = x }) d (filter p es))
+kept_cons p x d t es next i r f ih false h e =
+    ap (filter p) (past_kept t.stamp x d es (above p (d.stamp + 1) es next i t r e)) ∙ filtered p d (map (with_process t.stamp x) es) false h ∙ ih i e
 
--- ---- an entry keeps its stamp
-
--- the oldest ready process goes on as x
-pub ready-kept : (x : Process) (low : ℕ) (es : List Entry) (next : ℕ) (t : Entry) → StampsRise low es next → least is_ready es ≡ Some t → processes is_ready (map (with_process t.stamp x) es) ≡ x ∷ processes is_ready (without t.stamp es)
-ready-kept x low [] next t r e = cc
-ready-kept x low (u ∷ us) next t r e =
-    let ih : least is_ready us ≡ Some t → processes is_ready (map (with_process t.stamp x) us) ≡ x ∷ processes is_ready (without t.stamp us) = ready-kept x (u.stamp + 1) us next t r.1 in
-    let above : least is_ready us ≡ Some t → u.stamp + 1 ≤ t.stamp = least_above is_ready (u.stamp + 1) us next t r.1 in
-    let none : without u.stamp us ≡ us = without_past u.stamp (u.stamp + 1) us next (omega arith) r.1 in
-    let same : map (with_process u.stamp x) us ≡ us = with_process_past u.stamp x (u.stamp + 1) us next (omega arith) r.1 in
-    grind (arith, nat_tests)
+pub place_kept : (p : Entry → Bool) (x : Process) (low : ℕ) (es : List Entry) (next i : ℕ) (t : Entry) → StampsRise low es next → slice_get (filter p es) i ≡ Some t
+    → p (record t { process = x }) ≡ true → filter p (map (with_process t.stamp x) es) ≡ instead i (record t { process = x }) (filter p es)
+place_kept p x low [] next i t r e f = cc
+place_kept p x low (d ∷ es) next i t r e f = kept_cons p x d t es next i r.1 f (λ j k. place_kept p x (d.stamp + 1) es next j t r.1 k f) (p d) refl e
 
 -- a test that sees only parked processes sees nothing of it
-pub parked-kept : (q : Entry → Bool) (x : Process) (low : ℕ) (es : List Entry) (next : ℕ) (t : Entry) → ((u : Entry) → is_ready u ≡ true → q u ≡ false) → StampsRise low es next → least is_ready es ≡ Some t → processes q (map (with_process t.stamp x) es) ≡ processes q es
-parked-kept q x low [] next t n r e = refl
-parked-kept q x low (u ∷ us) next t n r e =
-    let ih : least is_ready us ≡ Some t → processes q (map (with_process t.stamp x) us) ≡ processes q us = parked-kept q x (u.stamp + 1) us next t n r.1 in
-    let above : least is_ready us ≡ Some t → u.stamp + 1 ≤ t.stamp = least_above is_ready (u.stamp + 1) us next t r.1 in
-    let same : map (with_process u.stamp x) us ≡ us = with_process_past u.stamp x (u.stamp + 1) us next (omega arith) r.1 in
-    let before : is_ready u ≡ true → q u ≡ false = n u in
-    let after : is_ready u ≡ true → q (record u { process = x }) ≡ false = n (record u { process = x }) in
-    grind (arith, nat_tests)
+parked_cons : (q : Entry → Bool) (x : Process) (d t : Entry) (es : List Entry) (next : ℕ) → ((u : Entry) → is_ready u ≡ true → q u ≡ false) → is_ready t ≡ true
+    → StampsRise (d.stamp + 1) es next → (entry_at t.stamp es ≡ Some t → filter q (map (with_process t.stamp x) es) ≡ filter q es)
+    → (b : Bool) → nat_eq t.stamp d.stamp ≡ b → cond b (Some d) (entry_at t.stamp es) ≡ Some t → filter q (map (with_process t.stamp x) (d ∷ es)) ≡ filter q (d ∷ es)
+parked_cons q x d t es next f ready r ih true h e =
+    let same : d ≡ t = cc in
+    let rd : is_ready d ≡ true = ap is_ready same ∙ ready in
+    ap (λ (y : Entry). filter q (map (with_process y.stamp x) (d ∷ es))) (sym same) ∙ ap (filter q) (own_kept x d es next r)
+    ∙ filtered q (record d { process = x }) es false (f (record d { process = x }) rd) ∙ sym (filtered q d es false (f d rd))
+parked_cons q x d t es next f ready r ih false h e = go (q d) refl (least_above _ (d.stamp + 1) es next t r e)
+  where
+    go : (b : Bool) → q d ≡ b → d.stamp + 1 ≤ t.stamp → filter q (map (with_process t.stamp x) (d ∷ es)) ≡ filter q (d ∷ es)
+    go b g up = ap (filter q) (past_kept t.stamp x d es up) ∙ filtered q d (map (with_process t.stamp x) es) b g ∙ ap (λ l. cond b (d ∷ l) l) (ih e) ∙ sym (filtered q d es b g)
+
+pub parked_kept : (q : Entry → Bool) (x : Process) (low : ℕ) (es : List Entry) (next : ℕ) (t : Entry) → ((u : Entry) → is_ready u ≡ true → q u ≡ false) → is_ready t ≡ true
+    → StampsRise low es next → entry_at t.stamp es ≡ Some t → filter q (map (with_process t.stamp x) es) ≡ filter q es
+parked_kept q x low [] next t f ready r e = refl
+parked_kept q x low (d ∷ es) next t f ready r e = parked_cons q x d t es next f ready r.1 (λ k. parked_kept q x (d.stamp + 1) es next t f ready r.1 k) (nat_eq t.stamp d.stamp) refl e
+
+-- ---- one comes
+
+pub processes_push : (p : Entry → Bool) (es : List Entry) (u : Entry) (b : Bool) → p u ≡ b → processes p (es ++ u ∷ []) ≡ processes p es ++ cond b (u.process ∷ []) []
+processes_push p [] u true h = grind (arith, nat_tests)
+processes_push p [] u false h = grind (arith, nat_tests)
+processes_push p (v ∷ vs) u b h = let ih : processes p (vs ++ u ∷ []) ≡ processes p vs ++ cond b (u.process ∷ []) [] = processes_push p vs u b h in grind (arith, nat_tests)

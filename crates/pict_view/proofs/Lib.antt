@@ -1,11 +1,9 @@
+pub mod Lists
 pub mod Entries
-pub mod Holds
-pub mod Steps
-pub mod Parks
-pub mod Meets
-pub mod Simulated
-pub mod Viewed
-pub mod AnyMachine
+pub mod Standing
+pub mod Sides
+pub mod Placing
+pub mod AtPlaces
+pub mod Seen
 pub mod Rows
-pub mod Growing
 pub mod Runs

@@ -2,7 +2,7 @@
 use Rattle.std.proofs.Common.{ℕ, zero, suc, ◌+◌, ◌<◌, ◌≤◌, ◌≡◌, ◌≢◌, inr, Bool, false, List, [], ◌∷◌, ◌++◌, refl, sym, ap, ◌∙◌, subst, Option, Some, None, IsTrue, ◌↔◌, add-one, arith}
 use Rattle.pict_syntax.specs.declared.span.Span.{Span}
 use Rattle.pict_core.specs.Configuration.{Configuration, IsConfiguration}
-use Rattle.pict_core.specs.Step.{Label, StepOutcome, Steps, Traps, Wrong, Finished, next}
+use Rattle.pict_core.specs.Step.{Label, StepOutcome, Traps, Wrong, Finished, next}
 use Rattle.pict_core.specs.Run as run
 use Rattle.pict_core.specs.Run.{Reaches, shown}
 use Rattle.pict_view.specs.View.{View, StandsFor}
@@ -90,9 +90,7 @@ empty_of (x ∷ xs) h = absurd (h (λ e. cc))
 -- what isn't unfinished is finished
 finished_by : (o : StepOutcome) → (o ≢ Finished → ⊥) → o ≡ Finished
 finished_by Finished h = refl
-finished_by Wrong h = absurd (h (λ e. cc))
-finished_by (Traps at) h = absurd (h (λ e. cc))
-finished_by (Steps D label) h = absurd (h (λ e. cc))
+finished_by _ h = absurd (h (λ e. cc))
 
 not_true : (b : Bool) → b ≡ false → IsTrue b → ⊥
 not_true b e t = cc

@@ -1,7 +1,7 @@
 pub mod View
 pub mod Moved
-pub mod ViewStep
-pub mod Held
+pub mod Placed
+pub mod Partners
 pub mod Stepping
 pub mod Right
 pub mod Watching

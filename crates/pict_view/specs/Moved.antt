@@ -1,7 +1,6 @@
 -- What becomes of processes in a step, whatever keeps them.
-use Rattle.std.specs.Prelude.{Bool, true, false, List, [], ◌∷◌, if◌then◌else◌}
+use Rattle.std.specs.Prelude.{Bool, true, false, List, [], ◌∷◌}
 use Rattle.pict_syntax.specs.declared.span.Span.{Span}
-use Rattle.pict_core.specs.Term.{Val, Boolean}
 use Rattle.pict_core.specs.Step.{Label}
 
 -- They move on and show a label, stop at a place by a zero divisor, or the step is wrong; or nothing is ready.
@@ -15,7 +14,3 @@ pub data Moved (S : Type 0) : Type 0 where
 abbrev pub if_replicated : {A : Type 0} → Bool → A → List A
 if_replicated true reader = reader ∷ []
 if_replicated false reader = []
-
-abbrev pub choose : {S : Type 0} → Val → Moved S → Moved S → Moved S
-choose (Boolean b) then_one else_one = if b then then_one else else_one
-choose _ then_one else_one = Misshapen

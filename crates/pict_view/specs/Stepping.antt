@@ -2,15 +2,19 @@
 use Rattle.std.specs.Prelude.{◌≡◌, Option, Some, None}
 use Rattle.pict_syntax.specs.declared.span.Span.{Span}
 use Rattle.pict_core.specs.Configuration.{Configuration, IsConfiguration}
-use Rattle.pict_core.specs.Step.{Label, Steps, Traps, next}
+use Rattle.pict_core.specs.Step.{Label, StepOutcome, Steps, Traps, next}
 use Rattle.pict_view.specs.View.{View, StandsFor}
 
--- the oldest-first step from C has this label, and the view stands for the configuration after it
-pub record Follows (C : Configuration) (label : Label) (v : View) : Type 0 where
+-- the outcome is a step of this label, and the view stands for the configuration after it
+pub record LeadsTo (outcome : StepOutcome) (label : Label) (v : View) : Type 0 where
   pub after : Configuration
-  pub steps : next C ≡ Steps after label
+  pub steps : outcome ≡ Steps after label
   pub is : IsConfiguration after
   pub stands : StandsFor v after
+
+-- the oldest-first step from C has this label, and the view stands for the configuration after it
+abbrev pub Follows : Configuration → Label → View → Type 0
+Follows C label v = LeadsTo (next C) label v
 
 -- The oldest-first step from C has this label, and the view stands for the configuration after it. Where there is a
 -- trap the step traps there, and the view still stands for C.

@@ -1,8 +1,9 @@
 -- The view of a machine, and the configurations that it stands for.
-use Rattle.std.specs.Prelude.{ℕ, Bool, ◌||◌, ◌≡◌, List, [], length, map, filter, slice_get, unwrap_or}
+use Rattle.std.specs.Prelude.{ℕ, Bool, true, ◌||◌, ◌≡◌, ◌⊎◌, List, [], length, map, filter, slice_get, unwrap_or}
+use Rattle.std.specs.List.{AllByRecursion}
 use Rattle.pict_core.specs.Term.{Process}
 use Rattle.pict_core.specs.Configuration.{Entry, Configuration}
-use Rattle.pict_core.specs.Step.{is_ready, is_parked_reader, is_parked_message}
+use Rattle.pict_core.specs.Step.{is_ready, is_parked_reader, is_parked_message, reads, sends}
 
 -- the ready processes in order, and the list of what is parked at each channel, the oldest first; no stamps
 pub record View : Type 0 where
@@ -27,3 +28,14 @@ pub record StandsFor (v : View) (C : Configuration) : Type 0 where
   pub channels : length v.channels ≡ C.channels
   pub ready : processes is_ready C.entries ≡ v.ready
   pub parked : (c : ℕ) → processes (is_parked_at c) C.entries ≡ list_at c v.channels
+
+-- each is an output on channel c, or each an input at it
+abbrev pub AreOutputs : ℕ → List Process → Type 0
+AreOutputs c ps = AllByRecursion (λ p. sends c p ≡ true) ps
+
+abbrev pub AreInputs : ℕ → List Process → Type 0
+AreInputs c ps = AllByRecursion (λ p. reads c p ≡ true) ps
+
+-- The list of each channel is of outputs on it, or of inputs at it. A machine keeps this.
+pub record KeepsApart (v : View) : Type 0 where
+  pub apart : (c : ℕ) → AreOutputs c (list_at c v.channels) ⊎ AreInputs c (list_at c v.channels)

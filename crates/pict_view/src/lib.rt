@@ -4,4 +4,4 @@
 
 mod laws;
 
-pub use laws::law_views_step;
+pub use laws::{law_partners_are_seen, law_places_are_seen, law_places_step, law_views_step};

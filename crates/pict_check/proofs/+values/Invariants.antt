@@ -9,10 +9,10 @@ use Rattle.pict_rules.specs.Typing.{rule}
 use Rattle.pict_rules.specs.Derivations.{Runs}
 use Rattle.pict_rules.specs.Environments.{context_of}
 use Rattle.pict_infer.specs.Environments.{environment_of, known_names, IsAsBefore, GrewFrom}
-use Rattle.pict_check.specs.Reading.{found_for}
+use Rattle.pict_lines.specs.Reading.{found_for}
 use Rattle.pict_check.proofs.Entering.{IsEntering}
 use Rattle.pict_check.proofs.Finishing.{IsFinishing}
-use Rattle.pict_check.specs.Definitions.{AreInside}
+use Rattle.pict_lines.specs.Definitions.{AreInside}
 use Rattle.pict_check.proofs.DefinitionEnds.{ArePast}
 use Rattle.pict_check.proofs.+values.Given as goal
 

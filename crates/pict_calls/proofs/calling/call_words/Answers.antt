@@ -5,5 +5,5 @@ use Rattle.pict_calls.proofs.calling.call_words.Goals as goal
 
 pub returns-clause-blocks : goal.returns-clause-blocks
 returns-clause-blocks c labelled e is =
-    makes_same c.args.store.now.queues c.carry_out.new.store.queues (effect_act c.args.store.now.heap c.act_of-act.result) e
+    makes_same c.args.store.now.queues c.carry_out.new.store.queues (effect_act c.args.store.now.desk.heap c.act_of-act.result) e
     (sym (c.act_of-act.ensures.effect labelled) ∙ is) c.carry_out.ensures.blocks

@@ -4,7 +4,8 @@ use Rattle.pict_prim.specs.Acts.{effect_act}
 use Rattle.pict_region.specs.RegionState.{spare}
 use Rattle.pict_queue.specs.QueuesState.{QueuesState}
 use Rattle.pict_turns.specs.Widths.{MakesOnly, answer_widths}
-use Rattle.pict_turns.proofs.Room.{keeps_words, refused_still}
+use Rattle.pict_turns.proofs.Room.{refused_still}
+use Rattle.pict_desk.proofs.MakingRoom.{keeps_words}
 use Rattle.pict_calls.proofs.Answering.{makes_act, room_for_act}
 use Rattle.pict_calls.proofs.Keeping.{effect_keeps}
 use Rattle.pict_calls.proofs.Stepping.{called_by, calls_still, called_after, cost_still, cost_after}
@@ -15,10 +16,10 @@ returns-clause-done c core p v on is =
     let old = c.args.store.now in
     let mid = c.reserve.new.store in
     let r = c.reserve.ensures.rest in
-    let same = effect_keeps old.heap mid.heap (keeps_words old.heap mid.heap r.heap) c.args.act c.requires.act in
-    let free = room_for_act mid.queues mid.heap c.args.act (subst (λ n. n ≤ spare mid.queues.region 9) c.outputs.ensures c.in_ok-reserve.ensures.blocks) in
+    let same = effect_keeps old.desk.heap mid.desk.heap (keeps_words old.desk.heap mid.desk.heap r.heap) c.args.act c.requires.act in
+    let free = room_for_act mid.queues mid.desk.heap c.args.act (subst (λ n. n ≤ spare mid.queues.region 9) c.outputs.ensures c.in_ok-reserve.ensures.blocks) in
     called_after core old mid r c.finish.new.store c.finish.result
-    (called_by core mid c.finish.new.store p v c.args.at (effect_act mid.heap c.args.act) c.finish.result (calls_still core old mid r p v c.args.at on) (is ∙ ap Some (sym same)) free c.finish.ensures.acted)
+    (called_by core mid c.finish.new.store p v c.args.at (effect_act mid.desk.heap c.args.act) c.finish.result (calls_still core old mid r p v c.args.at on) (is ∙ ap Some (sym same)) free c.finish.ensures.acted)
 
 pub returns-in_err-reserve-clause-refused : goal.returns-in_err-reserve-clause-refused
 returns-in_err-reserve-clause-refused c core acting = on_err c.from_residual.result (refused_still core c.args.store.now c.reserve.new.store c.reserve.ensures.rest acting.store)
@@ -27,20 +28,20 @@ pub returns-clause-blocks : goal.returns-clause-blocks
 returns-clause-blocks c =
     let old = c.args.store.now in
     let mid = c.reserve.new.store in
-    subst (λ (q : QueuesState). MakesOnly old.queues q (answer_widths (effect_act old.heap c.args.act))) (sym c.finish.ensures.acted.queues)
-    (makes_act old.queues mid.queues old.heap c.args.act c.outputs.result c.outputs.ensures c.reserve.ensures.most)
+    subst (λ (q : QueuesState). MakesOnly old.queues q (answer_widths (effect_act old.desk.heap c.args.act))) (sym c.finish.ensures.acted.queues)
+    (makes_act old.queues mid.queues old.desk.heap c.args.act c.outputs.result c.outputs.ensures c.reserve.ensures.most)
 
 pub returns-in_err-reserve-clause-blocks : goal.returns-in_err-reserve-clause-blocks
 returns-in_err-reserve-clause-blocks c =
     let old = c.args.store.now in
-    makes_act old.queues c.reserve.new.store.queues old.heap c.args.act c.outputs.result c.outputs.ensures c.reserve.ensures.most
+    makes_act old.queues c.reserve.new.store.queues old.desk.heap c.args.act c.outputs.result c.outputs.ensures c.reserve.ensures.most
 
 pub returns-clause-turn : goal.returns-clause-turn
 returns-clause-turn c core =
     let old = c.args.store.now in
     let mid = c.reserve.new.store in
     let still = cost_still core old mid c.reserve.ensures.rest in
-    let more = cost_after core mid c.finish.new.store (effect_act mid.heap c.args.act) c.args.at c.finish.result c.finish.ensures.acted in
+    let more = cost_after core mid c.finish.new.store (effect_act mid.desk.heap c.args.act) c.args.at c.finish.result c.finish.ensures.acted in
     omega (arith, still, more)
 
 pub returns-in_err-reserve-clause-turn : goal.returns-in_err-reserve-clause-turn

@@ -1,10 +1,10 @@
 use Rattle.std.proofs.Common.{sym, subst, ◌∙◌}
 use Rattle.pict_code.proofs.Lines.{on_err}
-use Rattle.pict_operands.specs.Pairs.{ArePairs}
+use Rattle.pict_desk.specs.Pairs.{ArePairs}
 use Rattle.pict_turns.specs.declared.turn.Turn.TheVariants.{Output}
 use Rattle.pict_turns.proofs.Room.{refused_still}
-use Rattle.pict_calls.specs.Answers.{IsAnswerOf}
-use Rattle.pict_calls.specs.Arguments.{argument_of}
+use Rattle.pict_desk.specs.Answers.{IsAnswerOf}
+use Rattle.pict_desk.specs.Arguments.{argument_of}
 use Rattle.pict_calls.specs.declared.called.Called.TheVariants as called
 use Rattle.pict_calls.proofs.Answering.{makes_same}
 use Rattle.pict_calls.proofs.Numbers.{answering, hands_answer}
@@ -12,7 +12,7 @@ use Rattle.pict_calls.proofs.Stepping.{called_by, calls_still, called_after}
 use Rattle.pict_calls.proofs.fields.call_fields.Goals as goal
 
 pub answer_at_hand-requires-clause-pairs : goal.answer_at_hand-requires-clause-pairs
-answer_at_hand-requires-clause-pairs c = let h = c.args.store.now.heap in (h, subst (ArePairs h) (sym c.deref.ensures.value) c.requires.pairs)
+answer_at_hand-requires-clause-pairs c = let h = c.args.store.now.desk.heap in (h, subst (ArePairs h) (sym c.deref.ensures.value) c.requires.pairs)
 
 pub returns-in_err-reserve_kept-clause-refused : goal.returns-in_err-reserve_kept-clause-refused
 returns-in_err-reserve_kept-clause-refused c core acting =
@@ -21,8 +21,8 @@ returns-in_err-reserve_kept-clause-refused c core acting =
 pub returns-in_err-reserve_kept-clause-blocks : goal.returns-in_err-reserve_kept-clause-blocks
 returns-in_err-reserve_kept-clause-blocks c labelled e is =
     let s = c.args.store.now in
-    let at_hand = c.in-Some.ensures s.heap (subst (ArePairs s.heap) (sym c.deref.ensures.value) c.requires.pairs) in
-    let a = subst (λ vs. IsAnswerOf s.heap vs c.args.p c.args.fields.now c.args.at c.in-Some.kept) c.deref.ensures.value at_hand in
+    let at_hand = c.in-Some.ensures s.desk.heap (subst (ArePairs s.desk.heap) (sym c.deref.ensures.value) c.requires.pairs) in
+    let a = subst (λ vs. IsAnswerOf s.desk.heap vs c.args.p c.args.fields.now c.args.at c.in-Some.kept) c.deref.ensures.value at_hand in
     makes_same s.queues c.reserve_kept.new.store.queues (answering a.to a.answer) e (sym (a.effect labelled) ∙ is) c.reserve_kept.ensures.most
 
 pub returns-in-Some-clause-done : goal.returns-in-Some-clause-done
@@ -30,9 +30,9 @@ returns-in-Some-clause-done c core labelled on =
     let s = c.args.store.now in
     let mid = c.reserve_kept.new.store in
     let r = c.reserve_kept.ensures.rest in
-    let at_hand = c.in-Some.ensures s.heap (subst (ArePairs s.heap) (sym c.deref.ensures.value) c.requires.pairs) in
-    let a = subst (λ vs. IsAnswerOf s.heap vs c.args.p c.args.fields.now c.args.at c.in-Some.kept) c.deref.ensures.value at_hand in
-    let v = argument_of s.heap s.values.items c.args.fields.now labelled in
+    let at_hand = c.in-Some.ensures s.desk.heap (subst (ArePairs s.desk.heap) (sym c.deref.ensures.value) c.requires.pairs) in
+    let a = subst (λ vs. IsAnswerOf s.desk.heap vs c.args.p c.args.fields.now c.args.at c.in-Some.kept) c.deref.ensures.value at_hand in
+    let v = argument_of s.desk.heap s.desk.values.items c.args.fields.now labelled in
     let last = record mid { turn = Output c.in-Some.kept } in
     called_after core s mid r last called.Quiet
     (called_by core mid last c.args.p v c.args.at (answering a.to a.answer) called.Quiet (calls_still core s mid r c.args.p v c.args.at on) (a.effect labelled) c.in_ok-reserve_kept.ensures.block
@@ -41,6 +41,6 @@ returns-in-Some-clause-done c core labelled on =
 pub returns-in-Some-clause-blocks : goal.returns-in-Some-clause-blocks
 returns-in-Some-clause-blocks c labelled e is =
     let s = c.args.store.now in
-    let at_hand = c.in-Some.ensures s.heap (subst (ArePairs s.heap) (sym c.deref.ensures.value) c.requires.pairs) in
-    let a = subst (λ vs. IsAnswerOf s.heap vs c.args.p c.args.fields.now c.args.at c.in-Some.kept) c.deref.ensures.value at_hand in
+    let at_hand = c.in-Some.ensures s.desk.heap (subst (ArePairs s.desk.heap) (sym c.deref.ensures.value) c.requires.pairs) in
+    let a = subst (λ vs. IsAnswerOf s.desk.heap vs c.args.p c.args.fields.now c.args.at c.in-Some.kept) c.deref.ensures.value at_hand in
     makes_same s.queues c.reserve_kept.new.store.queues (answering a.to a.answer) e (sym (a.effect labelled) ∙ is) c.reserve_kept.ensures.most

@@ -3,76 +3,77 @@ use Rattle.pict_core.specs.Primitives.{Leaves, effect_of}
 use Rattle.pict_code.proofs.Lines.{on_err}
 use Rattle.pict_prim.specs.Acts.{effect_act}
 use Rattle.pict_queue.specs.QueuesState.{QueuesState}
-use Rattle.pict_operands.specs.Pairs.{ArePairs}
-use Rattle.pict_operands.proofs.Making.{keeps_all}
+use Rattle.pict_desk.specs.Pairs.{ArePairs}
+use Rattle.pict_desk.proofs.Making.{keeps_all}
 use Rattle.pict_turns.specs.Widths.{MakesOnly}
+use Rattle.pict_turns.specs.declared.store.Store.{Store}
 use Rattle.pict_turns.proofs.Making.{makes_nothing}
 use Rattle.pict_turns.proofs.Room.{refused_still}
-use Rattle.pict_calls.specs.Arguments.{argument_of}
+use Rattle.pict_desk.specs.Arguments.{argument_of}
 use Rattle.pict_calls.specs.Finishing.{IsTurnAfter}
 use Rattle.pict_calls.specs.declared.called.Called.TheVariants as called
 use Rattle.pict_calls.proofs.Answering.{HasRoomToAnswer, makes_answer, room_for_any}
-use Rattle.pict_calls.proofs.Reckoning.{labels_same, argument_kept, room_then}
+use Rattle.pict_desk.proofs.Reckoning.{labels_same, argument_kept, room_then}
 use Rattle.pict_calls.proofs.Stepping.{some_is, called_by, calls_still, called_after, acted_before, cost_still, cost_same, cost_after}
 use Rattle.pict_calls.proofs.fields.call_making.Goals as goal
 
 pub divides_by_zero-requires-clause-pairs : goal.divides_by_zero-requires-clause-pairs
-divides_by_zero-requires-clause-pairs c = let h = c.args.store.now.heap in (h, subst (ArePairs h) (sym c.deref.ensures.value) c.requires.pairs)
+divides_by_zero-requires-clause-pairs c = let h = c.args.store.now.desk.heap in (h, subst (ArePairs h) (sym c.deref.ensures.value) c.requires.pairs)
 
 pub returns-then-divides_by_zero-clause-done : goal.returns-then-divides_by_zero-clause-done
 returns-then-divides_by_zero-clause-done c core labelled on =
     let s = c.args.store.now in
     let fields = c.args.fields.now in
     let taken = c.requires.takes.0 in
-    let e = some_is (effect_of c.args.p (argument_of s.heap s.values.items fields taken)) c.requires.takes.1 in
-    let zero = c.divides_by_zero.ensures s.heap taken e.0 (subst (ArePairs s.heap) (sym c.deref.ensures.value) c.requires.pairs)
-    (subst (λ vs. effect_of c.args.p (argument_of s.heap vs fields taken) ≡ Some e.0) (sym c.deref.ensures.value) e.1) in
+    let e = some_is (effect_of c.args.p (argument_of s.desk.heap s.desk.values.items fields taken)) c.requires.takes.1 in
+    let zero = c.divides_by_zero.ensures s.desk.heap taken e.0 (subst (ArePairs s.desk.heap) (sym c.deref.ensures.value) c.requires.pairs)
+    (subst (λ vs. effect_of c.args.p (argument_of s.desk.heap vs fields taken) ≡ Some e.0) (sym c.deref.ensures.value) e.1) in
     let trap = zero.0 c.if-divides_by_zero.true in
-    called_by core s s c.args.p (argument_of s.heap s.values.items fields labelled) c.args.at e.0 (called.Trapped c.args.at) on
+    called_by core s s c.args.p (argument_of s.desk.heap s.desk.values.items fields labelled) c.args.at e.0 (called.Trapped c.args.at) on
     (labels_same c.args.p _ labelled taken ∙ e.1) (subst (HasRoomToAnswer s.queues) (sym trap) tt)
     (record {
-      turn = subst (λ (l : Leaves). IsTurnAfter s.heap l c.args.at s.turn) (sym trap) tt;
+      turn = subst (λ (l : Leaves). IsTurnAfter s.desk.heap l c.args.at s.turn) (sym trap) tt;
       shows = (trap, refl);
       queues = refl;
       values = refl;
-      keeps = keeps_all s.heap;
+      keeps = keeps_all s.desk.heap;
       trap = λ is. refl;
     })
 
 pub decide-act-requires-clause-takes : goal.decide-act-requires-clause-takes
 decide-act-requires-clause-takes c =
     let taken = c.requires.takes.0 in
-    let same = argument_kept c.args.store.now c.make_call_room.new.store c.make_call_room.ensures.rest c.args.fields.now taken in
+    let same = (let r = c.make_call_room.ensures.rest in argument_kept c.args.store.now.desk c.make_call_room.new.store.desk r.heap r.values) c.args.fields.now taken in
     (taken, subst (λ v. IsSome (effect_of c.args.p v)) (sym same) c.requires.takes.1)
 
 pub finish-requires-clause-room : goal.finish-requires-clause-room
 finish-requires-clause-room c =
     let taken = c.requires.takes.0 in
     let mid = c.make_call_room.new.store in
-    let made = c.decide-act.new.store in
+    let made : Store = record c.make_call_room.new.store { desk = c.decide-act.new.desk } in
     let r = c.in_ok-make_call_room.ensures.room in
-    let same = argument_kept c.args.store.now mid c.make_call_room.ensures.rest c.args.fields.now taken in
+    let same = (let k = c.make_call_room.ensures.rest in argument_kept c.args.store.now.desk mid.desk k.heap k.values) c.args.fields.now taken in
     let effect = sym (ap (effect_of c.args.p) same) ∙ c.decide-act.ensures.effect taken in
-    room_then mid.heap made.heap mid.pending c.decide-act.result (length c.args.fields.now) r.bytes _ r.room c.decide-act.ensures.used (r.at_most taken (effect_act made.heap c.decide-act.result) effect)
+    room_then mid.desk.heap made.desk.heap mid.desk.pending c.decide-act.result (length c.args.fields.now) r.bytes _ r.room c.decide-act.ensures.used (r.at_most taken (effect_act made.desk.heap c.decide-act.result) effect)
 
 pub returns-clause-done : goal.returns-clause-done
 returns-clause-done c core labelled on =
     let s = c.args.store.now in
     let fields = c.args.fields.now in
     let mid = c.make_call_room.new.store in
-    let made = c.decide-act.new.store in
+    let made : Store = record c.make_call_room.new.store { desk = c.decide-act.new.desk } in
     let last = c.finish.new.store in
     let r = c.make_call_room.ensures.rest in
-    let e = effect_act made.heap c.decide-act.result in
-    let v = argument_of s.heap s.values.items fields labelled in
-    let same = argument_kept s mid r fields labelled in
+    let e = effect_act made.desk.heap c.decide-act.result in
+    let v = argument_of s.desk.heap s.desk.values.items fields labelled in
+    let same = argument_kept s.desk mid.desk r.heap r.values fields labelled in
     let effect = sym (ap (effect_of c.args.p) same) ∙ c.decide-act.ensures.effect labelled in
-    let zero = c.divides_by_zero.ensures s.heap labelled e (subst (ArePairs s.heap) (sym c.deref.ensures.value) c.requires.pairs)
-    (subst (λ vs. effect_of c.args.p (argument_of s.heap vs fields labelled) ≡ Some e) (sym c.deref.ensures.value) effect) in
+    let zero = c.divides_by_zero.ensures s.desk.heap labelled e (subst (ArePairs s.desk.heap) (sym c.deref.ensures.value) c.requires.pairs)
+    (subst (λ vs. effect_of c.args.p (argument_of s.desk.heap vs fields labelled) ≡ Some e) (sym c.deref.ensures.value) effect) in
     called_after core s mid r last c.finish.result
     (called_by core mid last c.args.p v c.args.at e c.finish.result (calls_still core s mid r c.args.p v c.args.at on) effect
     (room_for_any mid.queues e.leaves c.in_ok-make_call_room.ensures.spare)
-    (acted_before mid made last e c.args.at c.finish.result c.decide-act.ensures.keeps c.decide-act.ensures.queues c.decide-act.ensures.values
+    (acted_before mid made last e c.args.at c.finish.result c.decide-act.ensures.keeps refl c.decide-act.ensures.values
     (λ is. let t = zero.1 is in let f = c.if-divides_by_zero.false in cc) c.finish.ensures.acted))
 
 pub returns-in_err-make_call_room-clause-refused : goal.returns-in_err-make_call_room-clause-refused
@@ -87,26 +88,26 @@ returns-clause-blocks c labelled e is =
     let s = c.args.store.now in
     let fields = c.args.fields.now in
     let last = c.finish.new.store in
-    let zero = c.divides_by_zero.ensures s.heap labelled e (subst (ArePairs s.heap) (sym c.deref.ensures.value) c.requires.pairs)
-    (subst (λ vs. effect_of c.args.p (argument_of s.heap vs fields labelled) ≡ Some e) (sym c.deref.ensures.value) is) in
+    let zero = c.divides_by_zero.ensures s.desk.heap labelled e (subst (ArePairs s.desk.heap) (sym c.deref.ensures.value) c.requires.pairs)
+    (subst (λ vs. effect_of c.args.p (argument_of s.desk.heap vs fields labelled) ≡ Some e) (sym c.deref.ensures.value) is) in
     makes_answer s.queues last.queues c.args.p _ labelled e is (λ trap. let t = zero.1 trap in let f = c.if-divides_by_zero.false in cc)
-    (subst (λ (q : QueuesState). MakesOnly s.queues q (9 ∷ [])) (sym (c.finish.ensures.acted.queues ∙ c.decide-act.ensures.queues)) c.make_call_room.ensures.most)
+    (subst (λ (q : QueuesState). MakesOnly s.queues q (9 ∷ [])) (sym c.finish.ensures.acted.queues) c.make_call_room.ensures.most)
 
 pub returns-in_err-make_call_room-clause-blocks : goal.returns-in_err-make_call_room-clause-blocks
 returns-in_err-make_call_room-clause-blocks c labelled e is =
     let s = c.args.store.now in
     let fields = c.args.fields.now in
-    let zero = c.divides_by_zero.ensures s.heap labelled e (subst (ArePairs s.heap) (sym c.deref.ensures.value) c.requires.pairs)
-    (subst (λ vs. effect_of c.args.p (argument_of s.heap vs fields labelled) ≡ Some e) (sym c.deref.ensures.value) is) in
+    let zero = c.divides_by_zero.ensures s.desk.heap labelled e (subst (ArePairs s.desk.heap) (sym c.deref.ensures.value) c.requires.pairs)
+    (subst (λ vs. effect_of c.args.p (argument_of s.desk.heap vs fields labelled) ≡ Some e) (sym c.deref.ensures.value) is) in
     makes_answer s.queues c.make_call_room.new.store.queues c.args.p _ labelled e is (λ trap. let t = zero.1 trap in let f = c.if-divides_by_zero.false in cc)
     c.make_call_room.ensures.most
 
 pub returns-clause-turn : goal.returns-clause-turn
 returns-clause-turn c core =
-    let made = c.decide-act.new.store in
+    let made : Store = record c.make_call_room.new.store { desk = c.decide-act.new.desk } in
     let still = cost_still core c.args.store.now c.make_call_room.new.store c.make_call_room.ensures.rest in
-    let more = cost_after core made c.finish.new.store (effect_act made.heap c.decide-act.result) c.args.at c.finish.result c.finish.ensures.acted in
-    let kept = cost_same core c.make_call_room.new.store made c.decide-act.ensures.turn c.decide-act.ensures.values in
+    let more = cost_after core made c.finish.new.store (effect_act made.desk.heap c.decide-act.result) c.args.at c.finish.result c.finish.ensures.acted in
+    let kept = cost_same core c.make_call_room.new.store made refl c.decide-act.ensures.values in
     omega (arith, still, kept, more)
 
 pub returns-in_err-make_call_room-clause-turn : goal.returns-in_err-make_call_room-clause-turn

@@ -2,8 +2,8 @@ use Rattle.std.proofs.Common.{◌≡◌, ℕ, length, map, Some, sym, ap, ◌∙
 use Rattle.pict_core.specs.Plain.{plain_val, vals_of}
 use Rattle.pict_core.specs.Primitives.{effect_of}
 use Rattle.pict_prim.specs.declared.act.Need.{Need}
-use Rattle.pict_operands.specs.Needs.{both_needs, needs_of, HasRoomFor}
-use Rattle.pict_calls.specs.Arguments.{argument_of}
+use Rattle.pict_desk.specs.Needs.{both_needs, needs_of, HasRoomFor}
+use Rattle.pict_desk.specs.Arguments.{argument_of}
 use Rattle.pict_calls.proofs.fields.make_call_room.Goals as goal
 
 with_bytes : ℕ → ℕ → Need
@@ -22,6 +22,6 @@ returns-clause-room c =
     record {
       bytes = c.answer_len-answered.result;
       at_most = λ labelled e is.
-          c.answer_len-answered.ensures labelled e (subst (λ vs. effect_of c.args.p (argument_of s.heap vs fields labelled) ≡ Some e) (sym c.deref.ensures.value) is);
-      room = subst (HasRoomFor new.heap new.pending) need c.in_ok-reserve_kept.ensures.room;
+          c.answer_len-answered.ensures labelled e (subst (λ vs. effect_of c.args.p (argument_of s.desk.heap vs fields labelled) ≡ Some e) (sym c.deref.ensures.value) is);
+      room = subst (HasRoomFor new.desk.heap new.desk.pending) need c.in_ok-reserve_kept.ensures.room;
     }

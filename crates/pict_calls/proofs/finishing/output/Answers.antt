@@ -1,5 +1,5 @@
 use Rattle.std.proofs.Common.{refl, sym, rules}
-use Rattle.pict_operands.proofs.Pairs.{value_packed}
+use Rattle.pict_desk.proofs.Pairs.{value_packed}
 use Rattle.pict_calls.proofs.finishing.output.Goals as goal
 
 pub returns : goal.returns

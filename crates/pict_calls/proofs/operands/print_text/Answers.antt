@@ -22,8 +22,8 @@ unfolding prints_bytes
 returns-clause-done c core on =
     let old = c.args.store.now in
     let mid = c.reserve.new.store in
-    let made = record mid { heap = c.add_text-text.new.self } in
-    let e = effect_act made.heap (act.Print c.add_text-text.result) in
+    let made = record mid { desk = record mid.desk { heap = c.add_text-text.new.self } } in
+    let e = effect_act made.desk.heap (act.Print c.add_text-text.result) in
     let r = c.reserve.ensures.rest in
     called_after core old mid r c.finish.new.store c.finish.result
     (called_by core mid c.finish.new.store primitive.Print (Text c.args.bytes.now) c.args.at e c.finish.result
@@ -38,20 +38,20 @@ pub returns-clause-blocks : goal.returns-clause-blocks
 returns-clause-blocks c =
     let old = c.args.store.now in
     subst (λ (q : QueuesState). MakesOnly old.queues q []) (sym c.finish.ensures.acted.queues)
-    (makes_act old.queues c.reserve.new.store.queues old.heap act.ZeroDivisor 0 refl c.reserve.ensures.most)
+    (makes_act old.queues c.reserve.new.store.queues old.desk.heap act.ZeroDivisor 0 refl c.reserve.ensures.most)
 
 pub returns-in_err-reserve-clause-blocks : goal.returns-in_err-reserve-clause-blocks
 returns-in_err-reserve-clause-blocks c =
     let old = c.args.store.now in
-    makes_act old.queues c.reserve.new.store.queues old.heap act.ZeroDivisor 0 refl c.reserve.ensures.most
+    makes_act old.queues c.reserve.new.store.queues old.desk.heap act.ZeroDivisor 0 refl c.reserve.ensures.most
 
 pub returns-clause-turn : goal.returns-clause-turn
 returns-clause-turn c core =
     let mid = c.reserve.new.store in
-    let made = record mid { heap = c.add_text-text.new.self } in
+    let made = record mid { desk = record mid.desk { heap = c.add_text-text.new.self } } in
     let still = cost_still core c.args.store.now mid c.reserve.ensures.rest in
     let more : turn_cost core c.finish.new.store ≤ turn_cost core mid + 13 =
-    cost_after core made c.finish.new.store (effect_act made.heap (act.Print c.add_text-text.result)) c.args.at c.finish.result c.finish.ensures.acted in
+    cost_after core made c.finish.new.store (effect_act made.desk.heap (act.Print c.add_text-text.result)) c.args.at c.finish.result c.finish.ensures.acted in
     omega (arith, still, more)
 
 pub returns-in_err-reserve-clause-turn : goal.returns-in_err-reserve-clause-turn

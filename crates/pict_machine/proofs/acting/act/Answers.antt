@@ -2,12 +2,12 @@ use Rattle.std.proofs.Common.{subst, get_or, map, None, arith}
 use Rattle.std.proofs.lemmas.List.{length-map}
 use Rattle.pict_code.specs.Instruction.{Op}
 use Rattle.pict_code.specs.Plain.{plain_node}
-use Rattle.pict_turns.specs.Acting.{core_in}
-use Rattle.pict_turns.proofs.Numbered.{in_code, coded_at}
+use Rattle.pict_desk.specs.Code.{core_in}
+use Rattle.pict_desk.proofs.Numbered.{in_code, coded_at}
 use Rattle.pict_turns.proofs.Turns.{nobody_acts}
-use Rattle.pict_machine.specs.Constants.{IsConstantFor}
+use Rattle.pict_desk.specs.Constants.{IsConstantFor}
 use Rattle.pict_machine.proofs.KeptOutputs.{kept_is}
-use Rattle.pict_machine.proofs.MadeOnce.{as_many, constant_at}
+use Rattle.pict_desk.proofs.MadeOnce.{as_many, constant_at}
 use Rattle.pict_machine.proofs.Passing.{op_read}
 use Rattle.pict_machine.proofs.Plainly.{kept_sends}
 use Rattle.pict_machine.proofs.Taking.{node_low, number_acts}
@@ -24,7 +24,7 @@ pub bounds-constants-number : goal.bounds-constants-number
 bounds-constants-number c =
     let code = c.args.code.now in
     let low = in_code code c.requires.may.code_is c.in-Node.number (node_low (core_in code) c.args.store.now c.requires.may.acting c.in-Node.number c.in-Node.is) in
-    let same = as_many c.args.store.now.heap (map plain_node code) c.args.constants.now c.requires.constants in
+    let same = as_many c.args.store.now.desk.heap (map plain_node code) c.args.constants.now c.requires.constants in
     omega (arith, low, same, length-map code plain_node)
 
 pub act_by-requires-clause-acts : goal.act_by-requires-clause-acts
@@ -40,8 +40,8 @@ act_by-requires-clause-constant c =
     let code = c.args.code.now in
     let low = in_code code c.requires.may.code_is c.in-Node.number (node_low (core_in code) c.args.store.now c.requires.may.acting c.in-Node.number c.in-Node.is) in
     let x = frame_there code c.in-Node.number low in
-    subst (λ (o : Op). IsConstantFor c.args.store.now.heap o (get_or c.args.constants.now c.in-Node.number None)) (op_read code c.in-Node.number c.index-code-number.result x.1.node x.1.at c.index-code-number.is)
-    (constant_at c.args.store.now.heap (map plain_node code) c.args.constants.now c.in-Node.number x.1.node None c.requires.constants x.1.at)
+    subst (λ (o : Op). IsConstantFor c.args.store.now.desk.heap o (get_or c.args.constants.now c.in-Node.number None)) (op_read code c.in-Node.number c.index-code-number.result x.1.node x.1.at c.index-code-number.is)
+    (constant_at c.args.store.now.desk.heap (map plain_node code) c.args.constants.now c.in-Node.number x.1.node None c.requires.constants x.1.at)
 
 pub returns-in-Output-clause-plain : goal.returns-in-Output-clause-plain
 returns-in-Output-clause-plain c x =

@@ -3,7 +3,8 @@ use Rattle.pict_core.specs.Plain.{plain_val}
 use Rattle.pict_code.specs.Instruction as op
 use Rattle.pict_code.specs.Plain.{plain_op, plain_pat}
 use Rattle.pict_region.specs.RegionState.{blocks}
-use Rattle.pict_turns.specs.Acting.{core_in, ActsBy}
+use Rattle.pict_turns.specs.Acting.{ActsBy}
+use Rattle.pict_desk.specs.Code.{core_in}
 use Rattle.pict_turns.specs.declared.store.Store.{Store}
 use Rattle.pict_turns.proofs.Making.{makes_nothing}
 use Rattle.pict_machine.proofs.Working.{refused_cost, end_works, fork_works, choose_works, new_works}

@@ -1,12 +1,13 @@
 use Rattle.std.proofs.Common.{[], sym, ◌∙◌, subst, arith}
-use Rattle.pict_blocks.specs.Blocks.{value_in}
+use Rattle.pict_desk.specs.Known.{value_in}
 use Rattle.pict_heap.specs.HeapState.{value_of}
 use Rattle.pict_calls.proofs.Outputs.{takes}
-use Rattle.pict_turns.specs.Acting.{core_in}
+use Rattle.pict_desk.specs.Code.{core_in}
 use Rattle.pict_turns.specs.Views.{acting_words}
 use Rattle.pict_machine.specs.Stepping.{Acts}
 use Rattle.pict_machine.proofs.Called.{called_acts}
-use Rattle.pict_machine.proofs.Channels.{sent_to, prim_word}
+use Rattle.pict_machine.proofs.Channels.{sent_to}
+use Rattle.pict_desk.proofs.Tagged.{prim_word}
 use Rattle.pict_machine.proofs.KeptOutputs.{kept_to, kept_message, kept_is, kept_process, pair_value, words_call}
 use Rattle.pict_machine.proofs.Needing.{kept_needs, call_needed}
 use Rattle.pict_machine.proofs.Plainly.{no_plain_call}
@@ -30,7 +31,7 @@ call-requires-clause-takes c =
     let m = c.requires.may in
     let core = core_in m.0 in
     let s = c.args.store.now in
-    takes core s c.in-Prim.p (value_of s.heap c.word_at-in-Prim.result) c.args.kept.at
+    takes core s c.in-Prim.p (value_of s.desk.heap c.word_at-in-Prim.result) c.args.kept.at
     (words_call core s m.1.acting c.args.kept c.requires.kept c.word_at.result c.word_at-in-Prim.result c.word_at.ensures c.word_at-in-Prim.ensures c.in-Prim.p c.in-Prim.is)
     m.1.right
 
@@ -40,10 +41,10 @@ unreachable-requires c =
     let core = core_in m.0 in
     let s = c.args.store.now in
     let kept = c.args.kept in
-    let to = sent_to core s m.1.acting m.1.right (value_in s.heap kept.message.0 kept.message.1) kept.at (value_in s.heap kept.to.0 kept.to.1)
+    let to = sent_to core s m.1.acting m.1.right (value_in s.desk.heap kept.message.0 kept.message.1) kept.at (value_in s.desk.heap kept.to.0 kept.to.1)
     (kept_process core s m.1.acting kept c.requires.kept) (sym c.requires.elsewhere) in
     c.in_default.not-Prim to.0
-    (prim_word s.heap c.word_at.result to.0 (sym (pair_value s.heap kept.to (kept_to core s m.1.acting kept c.requires.kept) c.word_at.result c.word_at.ensures) ∙ to.1))
+    (prim_word s.desk.heap c.word_at.result to.0 (sym (pair_value s.desk.heap kept.to (kept_to core s m.1.acting kept c.requires.kept) c.word_at.result c.word_at.ensures) ∙ to.1))
 
 pub returns-clause-step : goal.returns-clause-step
 returns-clause-step c code may =
@@ -65,7 +66,7 @@ pub returns-clause-blocks : goal.returns-clause-blocks
 returns-clause-blocks c code may =
     let core = core_in code in
     let s = c.args.store.now in
-    let v = value_of s.heap c.word_at-in-Prim.result in
+    let v = value_of s.desk.heap c.word_at-in-Prim.result in
     let calls = words_call core s may.acting c.args.kept c.requires.kept c.word_at.result c.word_at-in-Prim.result c.word_at.ensures c.word_at-in-Prim.ensures c.in-Prim.p c.in-Prim.is in
     call_needed core s [] (kept_needs core s _ (kept_is core s may.acting c.args.kept c.requires.kept).is) c.call.new.store c.in-Prim.p v c.args.kept.at calls.output
     (takes core s c.in-Prim.p v c.args.kept.at calls may.right) c.call.ensures.blocks
@@ -75,7 +76,7 @@ returns-clause-plain c code may x =
     let core = core_in code in
     let s = c.args.store.now in
     let calls = words_call core s may.acting c.args.kept c.requires.kept c.word_at.result c.word_at-in-Prim.result c.word_at.ensures c.word_at-in-Prim.ensures c.in-Prim.p c.in-Prim.is in
-    no_plain_call core s (acting_words core s) c.in-Prim.p (value_of s.heap c.word_at-in-Prim.result) c.args.kept.at calls.output x
+    no_plain_call core s (acting_words core s) c.in-Prim.p (value_of s.desk.heap c.word_at-in-Prim.result) c.args.kept.at calls.output x
 
 pub returns-in_err-called-in-Prim-clause-work : goal.returns-in_err-called-in-Prim-clause-work
 returns-in_err-called-in-Prim-clause-work c code may =
@@ -90,7 +91,7 @@ pub returns-in_err-called-in-Prim-clause-blocks : goal.returns-in_err-called-in-
 returns-in_err-called-in-Prim-clause-blocks c code may =
     let core = core_in code in
     let s = c.args.store.now in
-    let v = value_of s.heap c.word_at-in-Prim.result in
+    let v = value_of s.desk.heap c.word_at-in-Prim.result in
     let calls = words_call core s may.acting c.args.kept c.requires.kept c.word_at.result c.word_at-in-Prim.result c.word_at.ensures c.word_at-in-Prim.ensures c.in-Prim.p c.in-Prim.is in
     call_needed core s [] (kept_needs core s _ (kept_is core s may.acting c.args.kept c.requires.kept).is) c.call.new.store c.in-Prim.p v c.args.kept.at calls.output
     (takes core s c.in-Prim.p v c.args.kept.at calls may.right) c.call.ensures.blocks
@@ -100,4 +101,4 @@ returns-in_err-called-in-Prim-clause-plain c code may x =
     let core = core_in code in
     let s = c.args.store.now in
     let calls = words_call core s may.acting c.args.kept c.requires.kept c.word_at.result c.word_at-in-Prim.result c.word_at.ensures c.word_at-in-Prim.ensures c.in-Prim.p c.in-Prim.is in
-    no_plain_call core s (acting_words core s) c.in-Prim.p (value_of s.heap c.word_at-in-Prim.result) c.args.kept.at calls.output x
+    no_plain_call core s (acting_words core s) c.in-Prim.p (value_of s.desk.heap c.word_at-in-Prim.result) c.args.kept.at calls.output x

@@ -1,15 +1,14 @@
 use Rattle.std.proofs.Common.{◌+◌, ◌≡◌, [], ◌∷◌, length, sym, ◌∙◌, subst, arith}
 use Rattle.pict_core.specs.Closed.{IsOver}
 use Rattle.pict_core.specs.Plain.{plain_val}
-use Rattle.pict_blocks.specs.Blocks.{known, operand_value}
-use Rattle.pict_operands.specs.AtHand.{channel_named}
-use Rattle.pict_operands.specs.Pairs.{ArePairs}
+use Rattle.pict_desk.specs.Known.{known, operand_value}
+use Rattle.pict_desk.specs.AtHand.{channel_named, StandsForPrimitive}
+use Rattle.pict_desk.specs.Pairs.{ArePairs}
 use Rattle.pict_calls.proofs.Outputs.{operands_over, takes}
-use Rattle.pict_calls.specs.Arguments.{operand_in}
-use Rattle.pict_turns.specs.Acting.{core_in}
+use Rattle.pict_desk.specs.Arguments.{operand_in}
+use Rattle.pict_desk.specs.Code.{core_in}
 use Rattle.pict_turns.specs.Turns.{turn_cost}
 use Rattle.pict_turns.specs.Views.{acting_words}
-use Rattle.pict_machine.specs.Sending.{StandsForPrimitive}
 use Rattle.pict_machine.specs.Stepping.{Acts}
 use Rattle.pict_machine.proofs.Called.{called_acts}
 use Rattle.pict_machine.proofs.Channels.{named_channel, node_sent_to, node_call}
@@ -26,19 +25,19 @@ channel_at_hand-requires-clause-over c =
     (operands_over (core_in c.args.code.now) s (plain_val c.args.chan.now) (plain_val c.args.message.now) c.args.at c.requires.may.code_is.closed c.requires.acts).0
 
 pub channel_at_hand-requires-clause-pairs : goal.channel_at_hand-requires-clause-pairs
-channel_at_hand-requires-clause-pairs c = (c.args.store.now.heap, subst (ArePairs c.args.store.now.heap) (sym c.deref.ensures.value) c.requires.may.acting.store.pairs)
+channel_at_hand-requires-clause-pairs c = (c.args.store.now.desk.heap, subst (ArePairs c.args.store.now.desk.heap) (sym c.deref.ensures.value) c.requires.may.acting.store.pairs)
 
 pub send-requires-clause-sends : goal.send-requires-clause-sends
 send-requires-clause-sends c =
     let s = c.args.store.now in
-    let pairs = subst (ArePairs s.heap) (sym c.deref.ensures.value) c.requires.may.acting.store.pairs in
-    let named : c.channel_at_hand.result ≡ channel_named (operand_value (known s.heap s.values.items) (plain_val c.args.chan.now)) =
-    subst (λ values. c.channel_at_hand.result ≡ channel_named (operand_value (known s.heap values) (plain_val c.args.chan.now))) c.deref.ensures.value (c.channel_at_hand.ensures s.heap pairs) in
+    let pairs = subst (ArePairs s.desk.heap) (sym c.deref.ensures.value) c.requires.may.acting.store.pairs in
+    let named : c.channel_at_hand.result ≡ channel_named (operand_value (known s.desk.heap s.desk.values.items) (plain_val c.args.chan.now)) =
+    subst (λ values. c.channel_at_hand.result ≡ channel_named (operand_value (known s.desk.heap values) (plain_val c.args.chan.now))) c.deref.ensures.value (c.channel_at_hand.ensures s.desk.heap pairs) in
     record {
       closed = c.requires.may.code_is.closed;
       chan = plain_val c.args.chan.now;
       acts = c.requires.acts;
-      to = named_channel (operand_value (known s.heap s.values.items) (plain_val c.args.chan.now)) c.in-Some.channel (sym c.in-Some.is ∙ named);
+      to = named_channel (operand_value (known s.desk.heap s.desk.values.items) (plain_val c.args.chan.now)) c.in-Some.channel (sym c.in-Some.is ∙ named);
     }
 
 pub primitive_at_hand-p-requires-clause-over : goal.primitive_at_hand-p-requires-clause-over
@@ -53,11 +52,11 @@ primitive_at_hand-p-requires-clause-is c =
     let s = c.args.store.now in
     let chan = plain_val c.args.chan.now in
     let message = plain_val c.args.message.now in
-    let pairs = subst (ArePairs s.heap) (sym c.deref.ensures.value) c.requires.may.acting.store.pairs in
-    let named : c.channel_at_hand.result ≡ channel_named (operand_value (known s.heap s.values.items) chan) =
-    subst (λ values. c.channel_at_hand.result ≡ channel_named (operand_value (known s.heap values) chan)) c.deref.ensures.value (c.channel_at_hand.ensures s.heap pairs) in
+    let pairs = subst (ArePairs s.desk.heap) (sym c.deref.ensures.value) c.requires.may.acting.store.pairs in
+    let named : c.channel_at_hand.result ≡ channel_named (operand_value (known s.desk.heap s.desk.values.items) chan) =
+    subst (λ values. c.channel_at_hand.result ≡ channel_named (operand_value (known s.desk.heap values) chan)) c.deref.ensures.value (c.channel_at_hand.ensures s.desk.heap pairs) in
     let to = node_sent_to core s c.requires.may.code_is.closed chan message c.args.at c.requires.acts c.requires.may.right (sym c.in-None.is ∙ named) in
-    (s.heap, to.0, subst (λ values. StandsForPrimitive s.heap values chan to.0) (sym c.deref-in-None.ensures.value) (record { pairs = c.requires.may.acting.store.pairs; is = to.1 }))
+    (s.desk.heap, to.0, subst (λ values. StandsForPrimitive s.desk.heap values chan to.0) (sym c.deref-in-None.ensures.value) (record { pairs = c.requires.may.acting.store.pairs; is = to.1 }))
 
 pub call_message-requires-clause-over : goal.call_message-requires-clause-over
 call_message-requires-clause-over c =
@@ -70,12 +69,12 @@ call_message-requires-clause-takes c =
     let chan = plain_val c.args.chan.now in
     let message = plain_val c.args.message.now in
     let may = c.requires.may in
-    let pairs = subst (ArePairs s.heap) (sym c.deref.ensures.value) may.acting.store.pairs in
-    let named : c.channel_at_hand.result ≡ channel_named (operand_value (known s.heap s.values.items) chan) =
-    subst (λ values. c.channel_at_hand.result ≡ channel_named (operand_value (known s.heap values) chan)) c.deref.ensures.value (c.channel_at_hand.ensures s.heap pairs) in
+    let pairs = subst (ArePairs s.desk.heap) (sym c.deref.ensures.value) may.acting.store.pairs in
+    let named : c.channel_at_hand.result ≡ channel_named (operand_value (known s.desk.heap s.desk.values.items) chan) =
+    subst (λ values. c.channel_at_hand.result ≡ channel_named (operand_value (known s.desk.heap values) chan)) c.deref.ensures.value (c.channel_at_hand.ensures s.desk.heap pairs) in
     let calls = node_call core s may.code_is.closed chan message c.args.at c.requires.acts may.right (sym c.in-None.is ∙ named) c.primitive_at_hand-p.result
-    (λ q e. c.primitive_at_hand-p.ensures s.heap q (subst (λ values. StandsForPrimitive s.heap values chan q) (sym c.deref-in-None.ensures.value) (record { pairs = may.acting.store.pairs; is = e }))) in
-    takes core s c.primitive_at_hand-p.result (operand_in s.heap s.values.items message) c.args.at calls may.right
+    (λ q e. c.primitive_at_hand-p.ensures s.desk.heap q (subst (λ values. StandsForPrimitive s.desk.heap values chan q) (sym c.deref-in-None.ensures.value) (record { pairs = may.acting.store.pairs; is = e }))) in
+    takes core s c.primitive_at_hand-p.result (operand_in s.desk.heap s.desk.values.items message) c.args.at calls may.right
 
 pub returns-in_ok-called-in-None-clause-step : goal.returns-in_ok-called-in-None-clause-step
 returns-in_ok-called-in-None-clause-step c =
@@ -84,11 +83,11 @@ returns-in_ok-called-in-None-clause-step c =
     let chan = plain_val c.args.chan.now in
     let message = plain_val c.args.message.now in
     let may = c.requires.may in
-    let pairs = subst (ArePairs s.heap) (sym c.deref.ensures.value) may.acting.store.pairs in
-    let named : c.channel_at_hand.result ≡ channel_named (operand_value (known s.heap s.values.items) chan) =
-    subst (λ values. c.channel_at_hand.result ≡ channel_named (operand_value (known s.heap values) chan)) c.deref.ensures.value (c.channel_at_hand.ensures s.heap pairs) in
+    let pairs = subst (ArePairs s.desk.heap) (sym c.deref.ensures.value) may.acting.store.pairs in
+    let named : c.channel_at_hand.result ≡ channel_named (operand_value (known s.desk.heap s.desk.values.items) chan) =
+    subst (λ values. c.channel_at_hand.result ≡ channel_named (operand_value (known s.desk.heap values) chan)) c.deref.ensures.value (c.channel_at_hand.ensures s.desk.heap pairs) in
     let calls = node_call core s may.code_is.closed chan message c.args.at c.requires.acts may.right (sym c.in-None.is ∙ named) c.primitive_at_hand-p.result
-    (λ q e. c.primitive_at_hand-p.ensures s.heap q (subst (λ values. StandsForPrimitive s.heap values chan q) (sym c.deref-in-None.ensures.value) (record { pairs = may.acting.store.pairs; is = e }))) in
+    (λ q e. c.primitive_at_hand-p.ensures s.desk.heap q (subst (λ values. StandsForPrimitive s.desk.heap values chan q) (sym c.deref-in-None.ensures.value) (record { pairs = may.acting.store.pairs; is = e }))) in
     subst (Acts core s c.call_message.new.store) (sym c.event_of.ensures)
     (called_acts core s c.call_message.new.store c.in_ok-called-in-None.called (c.in_ok-called-in-None.ensures.done core calls))
 
@@ -109,12 +108,12 @@ returns-in_ok-called-in-None-clause-blocks c =
     let chan = plain_val c.args.chan.now in
     let message = plain_val c.args.message.now in
     let may = c.requires.may in
-    let pairs = subst (ArePairs s.heap) (sym c.deref.ensures.value) may.acting.store.pairs in
-    let named : c.channel_at_hand.result ≡ channel_named (operand_value (known s.heap s.values.items) chan) =
-    subst (λ values. c.channel_at_hand.result ≡ channel_named (operand_value (known s.heap values) chan)) c.deref.ensures.value (c.channel_at_hand.ensures s.heap pairs) in
+    let pairs = subst (ArePairs s.desk.heap) (sym c.deref.ensures.value) may.acting.store.pairs in
+    let named : c.channel_at_hand.result ≡ channel_named (operand_value (known s.desk.heap s.desk.values.items) chan) =
+    subst (λ values. c.channel_at_hand.result ≡ channel_named (operand_value (known s.desk.heap values) chan)) c.deref.ensures.value (c.channel_at_hand.ensures s.desk.heap pairs) in
     let calls = node_call core s may.code_is.closed chan message c.args.at c.requires.acts may.right (sym c.in-None.is ∙ named) c.primitive_at_hand-p.result
-    (λ q e. c.primitive_at_hand-p.ensures s.heap q (subst (λ values. StandsForPrimitive s.heap values chan q) (sym c.deref-in-None.ensures.value) (record { pairs = may.acting.store.pairs; is = e }))) in
-    let v = operand_in s.heap s.values.items message in
+    (λ q e. c.primitive_at_hand-p.ensures s.desk.heap q (subst (λ values. StandsForPrimitive s.desk.heap values chan q) (sym c.deref-in-None.ensures.value) (record { pairs = may.acting.store.pairs; is = e }))) in
+    let v = operand_in s.desk.heap s.desk.values.items message in
     call_needed core s (9 ∷ []) (node_needs core s (op.Out chan message c.args.at) c.requires.acts) c.call_message.new.store
     c.primitive_at_hand-p.result v c.args.at calls.output (takes core s c.primitive_at_hand-p.result v c.args.at calls may.right) c.call_message.ensures.blocks
 
@@ -125,12 +124,12 @@ returns-in_ok-called-in-None-clause-plain c x =
     let chan = plain_val c.args.chan.now in
     let message = plain_val c.args.message.now in
     let may = c.requires.may in
-    let pairs = subst (ArePairs s.heap) (sym c.deref.ensures.value) may.acting.store.pairs in
-    let named : c.channel_at_hand.result ≡ channel_named (operand_value (known s.heap s.values.items) chan) =
-    subst (λ values. c.channel_at_hand.result ≡ channel_named (operand_value (known s.heap values) chan)) c.deref.ensures.value (c.channel_at_hand.ensures s.heap pairs) in
+    let pairs = subst (ArePairs s.desk.heap) (sym c.deref.ensures.value) may.acting.store.pairs in
+    let named : c.channel_at_hand.result ≡ channel_named (operand_value (known s.desk.heap s.desk.values.items) chan) =
+    subst (λ values. c.channel_at_hand.result ≡ channel_named (operand_value (known s.desk.heap values) chan)) c.deref.ensures.value (c.channel_at_hand.ensures s.desk.heap pairs) in
     let calls = node_call core s may.code_is.closed chan message c.args.at c.requires.acts may.right (sym c.in-None.is ∙ named) c.primitive_at_hand-p.result
-    (λ q e. c.primitive_at_hand-p.ensures s.heap q (subst (λ values. StandsForPrimitive s.heap values chan q) (sym c.deref-in-None.ensures.value) (record { pairs = may.acting.store.pairs; is = e }))) in
-    absurd (no_plain_call core s (acting_words core s) c.primitive_at_hand-p.result (operand_in s.heap s.values.items message) c.args.at calls.output x)
+    (λ q e. c.primitive_at_hand-p.ensures s.desk.heap q (subst (λ values. StandsForPrimitive s.desk.heap values chan q) (sym c.deref-in-None.ensures.value) (record { pairs = may.acting.store.pairs; is = e }))) in
+    absurd (no_plain_call core s (acting_words core s) c.primitive_at_hand-p.result (operand_in s.desk.heap s.desk.values.items message) c.args.at calls.output x)
 
 pub returns-in_err-called-in-None-clause-work : goal.returns-in_err-called-in-None-clause-work
 returns-in_err-called-in-None-clause-work c =
@@ -149,12 +148,12 @@ returns-in_err-called-in-None-clause-blocks c =
     let chan = plain_val c.args.chan.now in
     let message = plain_val c.args.message.now in
     let may = c.requires.may in
-    let pairs = subst (ArePairs s.heap) (sym c.deref.ensures.value) may.acting.store.pairs in
-    let named : c.channel_at_hand.result ≡ channel_named (operand_value (known s.heap s.values.items) chan) =
-    subst (λ values. c.channel_at_hand.result ≡ channel_named (operand_value (known s.heap values) chan)) c.deref.ensures.value (c.channel_at_hand.ensures s.heap pairs) in
+    let pairs = subst (ArePairs s.desk.heap) (sym c.deref.ensures.value) may.acting.store.pairs in
+    let named : c.channel_at_hand.result ≡ channel_named (operand_value (known s.desk.heap s.desk.values.items) chan) =
+    subst (λ values. c.channel_at_hand.result ≡ channel_named (operand_value (known s.desk.heap values) chan)) c.deref.ensures.value (c.channel_at_hand.ensures s.desk.heap pairs) in
     let calls = node_call core s may.code_is.closed chan message c.args.at c.requires.acts may.right (sym c.in-None.is ∙ named) c.primitive_at_hand-p.result
-    (λ q e. c.primitive_at_hand-p.ensures s.heap q (subst (λ values. StandsForPrimitive s.heap values chan q) (sym c.deref-in-None.ensures.value) (record { pairs = may.acting.store.pairs; is = e }))) in
-    let v = operand_in s.heap s.values.items message in
+    (λ q e. c.primitive_at_hand-p.ensures s.desk.heap q (subst (λ values. StandsForPrimitive s.desk.heap values chan q) (sym c.deref-in-None.ensures.value) (record { pairs = may.acting.store.pairs; is = e }))) in
+    let v = operand_in s.desk.heap s.desk.values.items message in
     call_needed core s (9 ∷ []) (node_needs core s (op.Out chan message c.args.at) c.requires.acts) c.call_message.new.store
     c.primitive_at_hand-p.result v c.args.at calls.output (takes core s c.primitive_at_hand-p.result v c.args.at calls may.right) c.call_message.ensures.blocks
 
@@ -165,9 +164,9 @@ returns-in_err-called-in-None-clause-plain c x =
     let chan = plain_val c.args.chan.now in
     let message = plain_val c.args.message.now in
     let may = c.requires.may in
-    let pairs = subst (ArePairs s.heap) (sym c.deref.ensures.value) may.acting.store.pairs in
-    let named : c.channel_at_hand.result ≡ channel_named (operand_value (known s.heap s.values.items) chan) =
-    subst (λ values. c.channel_at_hand.result ≡ channel_named (operand_value (known s.heap values) chan)) c.deref.ensures.value (c.channel_at_hand.ensures s.heap pairs) in
+    let pairs = subst (ArePairs s.desk.heap) (sym c.deref.ensures.value) may.acting.store.pairs in
+    let named : c.channel_at_hand.result ≡ channel_named (operand_value (known s.desk.heap s.desk.values.items) chan) =
+    subst (λ values. c.channel_at_hand.result ≡ channel_named (operand_value (known s.desk.heap values) chan)) c.deref.ensures.value (c.channel_at_hand.ensures s.desk.heap pairs) in
     let calls = node_call core s may.code_is.closed chan message c.args.at c.requires.acts may.right (sym c.in-None.is ∙ named) c.primitive_at_hand-p.result
-    (λ q e. c.primitive_at_hand-p.ensures s.heap q (subst (λ values. StandsForPrimitive s.heap values chan q) (sym c.deref-in-None.ensures.value) (record { pairs = may.acting.store.pairs; is = e }))) in
-    absurd (no_plain_call core s (acting_words core s) c.primitive_at_hand-p.result (operand_in s.heap s.values.items message) c.args.at calls.output x)
+    (λ q e. c.primitive_at_hand-p.ensures s.desk.heap q (subst (λ values. StandsForPrimitive s.desk.heap values chan q) (sym c.deref-in-None.ensures.value) (record { pairs = may.acting.store.pairs; is = e }))) in
+    absurd (no_plain_call core s (acting_words core s) c.primitive_at_hand-p.result (operand_in s.desk.heap s.desk.values.items message) c.args.at calls.output x)

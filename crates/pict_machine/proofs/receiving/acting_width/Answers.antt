@@ -1,6 +1,6 @@
 use Rattle.std.proofs.Common.{sym, ◌∙◌}
-use Rattle.pict_turns.specs.Acting.{core_in}
-use Rattle.pict_turns.proofs.Numbered.{in_code, coded_frame}
+use Rattle.pict_desk.specs.Code.{core_in}
+use Rattle.pict_desk.proofs.Numbered.{in_code, coded_frame}
 use Rattle.pict_turns.proofs.Turns.{nobody_acts}
 use Rattle.pict_machine.proofs.Taking.{node_low, number_wide}
 use Rattle.pict_machine.proofs.receiving.acting_width.Goals as goal

@@ -4,15 +4,15 @@ use Rattle.pict_code.specs.Nodes.{input_op}
 use Rattle.pict_code.specs.Plain.{plain_pat}
 use Rattle.pict_code.specs.ReadBack.{unleveled}
 use Rattle.pict_queue.specs.QueuesState.{QueuesState}
-use Rattle.pict_frames.proofs.Held.{works_blocks}
+use Rattle.pict_blocks.proofs.Held.{works_blocks}
 use Rattle.pict_meetings.specs.Waiting.{oldest}
-use Rattle.pict_turns.specs.Acting.{core_in}
+use Rattle.pict_desk.specs.Code.{core_in}
 use Rattle.pict_turns.specs.declared.store.Store.{Store}
-use Rattle.pict_turns.specs.Parts.{block_width}
+use Rattle.pict_blocks.specs.Parts.{block_width}
 use Rattle.pict_turns.specs.Views.{acting_words}
 use Rattle.pict_turns.proofs.AfterReading.{reads_works, acting_read, done_read}
 use Rattle.pict_turns.proofs.Making.{makes_nothing}
-use Rattle.pict_turns.proofs.Numbered.{in_code}
+use Rattle.pict_desk.proofs.Numbered.{in_code}
 use Rattle.pict_turns.proofs.Turns.{cost_nobody}
 use Rattle.pict_meetings.proofs.Inputs.{part_inside}
 use Rattle.pict_meetings.proofs.Receiving.{receives_part}

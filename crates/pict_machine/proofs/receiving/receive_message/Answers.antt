@@ -5,13 +5,13 @@ use Rattle.pict_code.specs.Nodes.{nodes_of, input_op}
 use Rattle.pict_code.specs.Plain.{plain_pat, plain_node}
 use Rattle.pict_code.specs.ReadBack.{unleveled}
 use Rattle.pict_meetings.specs.Room.{CanHoldBeside}
-use Rattle.pict_turns.specs.Acting.{core_in}
-use Rattle.pict_turns.specs.Parts.{block_width, CanHold}
-use Rattle.pict_turns.specs.Reading.{HasFrame}
+use Rattle.pict_desk.specs.Code.{core_in, HasFrame}
+use Rattle.pict_turns.specs.Parts.{CanHold}
+use Rattle.pict_blocks.specs.Parts.{block_width}
 use Rattle.pict_turns.specs.Views.{acting_words}
 use Rattle.pict_turns.specs.Widths.{MakesOnly}
 use Rattle.pict_turns.proofs.Making.{makes_before}
-use Rattle.pict_turns.proofs.Numbered.{in_code, same_frame}
+use Rattle.pict_desk.proofs.Numbered.{in_code, same_frame}
 use Rattle.pict_turns.proofs.Room.{words_still, done_after, refused_still}
 use Rattle.pict_turns.proofs.Turns.{acting_room}
 use Rattle.pict_calls.proofs.Stepping.{cost_still}

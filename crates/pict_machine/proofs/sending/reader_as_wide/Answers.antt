@@ -2,8 +2,8 @@ use Rattle.std.proofs.Common.{◌≡◌, map, ap, ◌∙◌, arith}
 use Rattle.std.proofs.lemmas.Bool.Decides.{nat_tests}
 use Rattle.pict_code.specs.Plain.{plain_node, plain_pat}
 use Rattle.pict_meetings.proofs.Ops.{is_in_op}
-use Rattle.pict_turns.specs.Parts.{block_width}
-use Rattle.pict_turns.proofs.Numbered.{same_frame}
+use Rattle.pict_blocks.specs.Parts.{block_width}
+use Rattle.pict_desk.proofs.Numbered.{same_frame}
 use Rattle.pict_machine.proofs.Passing.{no_plain_input}
 use Rattle.pict_machine.proofs.sending.reader_as_wide.Goals as goal
 

@@ -1,7 +1,7 @@
 use Rattle.std.proofs.Common.{map, sym, subst}
 use Rattle.pict_code.specs.Plain.{plain_node}
-use Rattle.pict_turns.specs.Reading.{HasFrame}
-use Rattle.pict_turns.proofs.Numbered.{same_frame}
+use Rattle.pict_desk.specs.Code.{HasFrame}
+use Rattle.pict_desk.proofs.Numbered.{same_frame}
 use Rattle.pict_meetings.specs.Serving.{IsInputWith}
 use Rattle.pict_machine.proofs.Serving.{part_low}
 use Rattle.pict_machine.proofs.sending.reader_frame.Goals as goal

@@ -1,11 +1,11 @@
 use Rattle.std.proofs.Common.{◌+◌, ◌<◌, [], ◌∷◌, length, sym, ap, ◌∙◌, subst, arith}
 use Rattle.pict_core.specs.Plain.{plain_val}
-use Rattle.pict_blocks.specs.Blocks.{known, operand_value}
+use Rattle.pict_desk.specs.Known.{known, operand_value}
 use Rattle.pict_code.specs.Instruction as op
 use Rattle.pict_queue.specs.QueuesState.{QueuesState}
 use Rattle.pict_meetings.specs.Waiting.{oldest}
-use Rattle.pict_turns.specs.Acting.{core_in}
-use Rattle.pict_turns.specs.Parts.{block_width}
+use Rattle.pict_desk.specs.Code.{core_in}
+use Rattle.pict_blocks.specs.Parts.{block_width}
 use Rattle.pict_turns.specs.Views.{acting_words}
 use Rattle.pict_machine.proofs.Working.{costs_then, own_cost, alone_works, meeting_works}
 use Rattle.pict_machine.proofs.Channels.{output_queue}
@@ -20,7 +20,7 @@ first_waiting-requires-clause-queue c =
     let core = core_in c.args.code.now in
     let s = c.args.store.now in
     let message = plain_val c.args.message.now in
-    output_queue core s c.requires.may.acting c.requires.may.right (operand_value (known s.heap s.values.items) message) c.args.at c.args.channel
+    output_queue core s c.requires.may.acting c.requires.may.right (operand_value (known s.desk.heap s.desk.values.items) message) c.args.at c.args.channel
     (operand_process core s c.args.channel message c.args.at c.requires.sends)
 
 pub first_waiting-requires-clause-waiting : goal.first_waiting-requires-clause-waiting
@@ -40,7 +40,7 @@ park_operand-requires c =
     let message = plain_val c.args.message.now in
     record {
       queue = subst (λ (x : QueuesState). c.args.channel + 1 < length x.queues) (sym c.first_waiting.ensures.rest)
-          (output_queue core s c.requires.may.acting c.requires.may.right (operand_value (known s.heap s.values.items) message) c.args.at c.args.channel (operand_process core s c.args.channel message c.args.at c.requires.sends));
+          (output_queue core s c.requires.may.acting c.requires.may.right (operand_value (known s.desk.heap s.desk.values.items) message) c.args.at c.args.channel (operand_process core s c.args.channel message c.args.at c.requires.sends));
       over = operand_over core s c.args.channel message c.args.at c.requires.sends;
       pairs = c.requires.may.acting.store.pairs;
       constant = c.requires.constant;
@@ -66,7 +66,7 @@ returns-in-Input-clause-work c =
     let message = plain_val c.args.message.now in
     let x = c.requires.sends in
     meeting_works c.args.code.now c.requires.may.code_is s c.send_operand.new.store c.requires.may.acting.store c.args.channel c.in-Input.reader
-    (sym c.first_waiting.ensures.first ∙ c.in-Input.is) (operand_value (known s.heap s.values.items) message) c.args.at (operand_process core s c.args.channel message c.args.at x)
+    (sym c.first_waiting.ensures.first ∙ c.in-Input.is) (operand_value (known s.desk.heap s.desk.values.items) message) c.args.at (operand_process core s c.args.channel message c.args.at x)
     c.send_operand.ensures.turn
     (λ replicated pattern part theirs frame i g h. costs_then s.queues c.first_waiting.new.queues c.send_operand.new.store.queues 2 _ _ c.first_waiting.ensures.cost (c.send_operand.ensures.cost replicated pattern part theirs frame i g h) (omega arith))
     x.chan message c.args.at x.acts
@@ -88,7 +88,7 @@ returns-in-Input-clause-blocks c =
     let core = core_in c.args.code.now in
     let message = plain_val c.args.message.now in
     let x = c.requires.sends in
-    meeting_made c.args.code.now c.requires.may.code_is s (9 ∷ []) (node_needs core s (op.Out x.chan message c.args.at) x.acts) c.args.channel (operand_value (known s.heap s.values.items) message) c.args.at
+    meeting_made c.args.code.now c.requires.may.code_is s (9 ∷ []) (node_needs core s (op.Out x.chan message c.args.at) x.acts) c.args.channel (operand_value (known s.desk.heap s.desk.values.items) message) c.args.at
     (operand_process core s c.args.channel message c.args.at x) c.requires.may.acting.store
     c.in-Input.reader (sym c.first_waiting.ensures.first ∙ c.in-Input.is) c.send_operand.new.store
     (λ replicated pattern part frame i f. only_worked s.queues c.first_waiting.new.queues c.send_operand.new.store.queues (block_width frame ∷ []) c.first_waiting.ensures.rest (c.send_operand.ensures.blocks replicated pattern part frame i f))
@@ -100,7 +100,7 @@ returns-in_default-clause-blocks c =
     let message = plain_val c.args.message.now in
     let x = c.requires.sends in
     needed_by core s c.park_operand.new.store (9 ∷ [])
-    (wait_needs core s (9 ∷ []) (node_needs core s (op.Out x.chan message c.args.at) x.acts) c.args.channel (operand_value (known s.heap s.values.items) message) c.args.at
+    (wait_needs core s (9 ∷ []) (node_needs core s (op.Out x.chan message c.args.at) x.acts) c.args.channel (operand_value (known s.desk.heap s.desk.values.items) message) c.args.at
     (operand_process core s c.args.channel message c.args.at x)
     (λ number e. c.in_default.not-Input number (c.first_waiting.ensures.first ∙ e)))
     (only_worked s.queues c.first_waiting.new.queues c.park_operand.new.store.queues (9 ∷ []) c.first_waiting.ensures.rest c.park_operand.ensures.blocks)
@@ -117,6 +117,6 @@ returns-in_default-clause-plain c x =
     let core = core_in c.args.code.now in
     let s = c.args.store.now in
     let message = plain_val c.args.message.now in
-    let served = serves core s (acting_words core s) c.args.channel (operand_value (known s.heap s.values.items) message) c.args.at
+    let served = serves core s (acting_words core s) c.args.channel (operand_value (known s.desk.heap s.desk.values.items) message) c.args.at
     (operand_process core s c.args.channel message c.args.at c.requires.sends) x in
     absurd (c.in_default.not-Input served.0 (c.first_waiting.ensures.first ∙ served.2))

@@ -1,11 +1,11 @@
 use Rattle.std.proofs.Common.{◌+◌, ◌<◌, [], ◌∷◌, length, refl, sym, ap, ◌∙◌, subst, arith}
 use Rattle.pict_core.specs.Step.{Quiet}
-use Rattle.pict_blocks.specs.Blocks.{value_in}
+use Rattle.pict_desk.specs.Known.{value_in}
 use Rattle.pict_queue.specs.QueuesState.{QueuesState}
-use Rattle.pict_frames.proofs.Held.{works_blocks}
+use Rattle.pict_blocks.proofs.Held.{works_blocks}
 use Rattle.pict_meetings.specs.Waiting.{oldest}
-use Rattle.pict_turns.specs.Acting.{core_in}
-use Rattle.pict_turns.specs.Parts.{block_width}
+use Rattle.pict_desk.specs.Code.{core_in}
+use Rattle.pict_blocks.specs.Parts.{block_width}
 use Rattle.pict_turns.specs.Views.{acting_words}
 use Rattle.pict_turns.specs.declared.store.Store.{Store}
 use Rattle.pict_turns.proofs.AfterReading.{reads_works, done_read, acting_read}
@@ -23,7 +23,7 @@ pub first_waiting-requires-clause-queue : goal.first_waiting-requires-clause-que
 first_waiting-requires-clause-queue c =
     let s = c.args.store.now in
     let x = c.requires.sends in
-    output_queue (core_in c.args.code.now) s c.requires.may.acting c.requires.may.right (value_in s.heap c.args.message.0 c.args.message.1) x.0 c.args.channel x.1.is
+    output_queue (core_in c.args.code.now) s c.requires.may.acting c.requires.may.right (value_in s.desk.heap c.args.message.0 c.args.message.1) x.0 c.args.channel x.1.is
 
 pub first_waiting-requires-clause-waiting : goal.first_waiting-requires-clause-waiting
 first_waiting-requires-clause-waiting c = (core_in c.args.code.now, c.requires.may.acting.store.waiting c.args.channel)
@@ -46,7 +46,7 @@ park-requires c =
       code = c.requires.may.code_is;
       acting = acting_read s mid (reads_works s q c.requires.may.acting.store.pairs c.first_waiting.ensures.rest) (core_in c.args.code.now) refl c.requires.may.acting;
       queue = subst (λ (q : QueuesState). c.args.channel + 1 < length q.queues) (sym c.first_waiting.ensures.rest)
-          (output_queue (core_in c.args.code.now) s c.requires.may.acting c.requires.may.right (value_in s.heap c.args.message.0 c.args.message.1) x.0 c.args.channel x.1.is);
+          (output_queue (core_in c.args.code.now) s c.requires.may.acting c.requires.may.right (value_in s.desk.heap c.args.message.0 c.args.message.1) x.0 c.args.channel x.1.is);
     }
 
 pub returns-in-Input-clause-step : goal.returns-in-Input-clause-step
@@ -75,7 +75,7 @@ returns-in-Input-clause-work c =
     let s = c.args.store.now in
     let x = c.requires.sends in
     kept_meeting_works c.args.code.now c.requires.may.code_is s c.send_to_reader-done.new.store c.requires.may.acting.store c.args.channel c.in-Input.reader
-    (sym c.first_waiting.ensures.first ∙ c.in-Input.is) (value_in s.heap c.args.message.0 c.args.message.1) x.0 x.1.is
+    (sym c.first_waiting.ensures.first ∙ c.in-Input.is) (value_in s.desk.heap c.args.message.0 c.args.message.1) x.0 x.1.is
     c.send_to_reader-done.ensures.turn
     (λ replicated pattern part theirs frame i f g. costs_then s.queues c.first_waiting.new.queues c.send_to_reader-done.new.store.queues 2 _ _ c.first_waiting.ensures.cost (c.send_to_reader-done.ensures.cost replicated pattern part theirs frame i f g) (omega arith))
     c.requires.may.acting c.requires.kept.kept
@@ -94,7 +94,7 @@ returns-in-Input-clause-blocks c =
     let s = c.args.store.now in
     let core = core_in c.args.code.now in
     let x = c.requires.sends in
-    meeting_made c.args.code.now c.requires.may.code_is s [] (kept_needs core s _ c.requires.kept.kept.is) c.args.channel (value_in s.heap c.args.message.0 c.args.message.1) x.0 x.1.is c.requires.may.acting.store
+    meeting_made c.args.code.now c.requires.may.code_is s [] (kept_needs core s _ c.requires.kept.kept.is) c.args.channel (value_in s.desk.heap c.args.message.0 c.args.message.1) x.0 x.1.is c.requires.may.acting.store
     c.in-Input.reader (sym c.first_waiting.ensures.first ∙ c.in-Input.is) c.send_to_reader-done.new.store
     (λ replicated pattern part frame i f. only_worked s.queues c.first_waiting.new.queues c.send_to_reader-done.new.store.queues (block_width frame ∷ []) c.first_waiting.ensures.rest (c.send_to_reader-done.ensures.blocks replicated pattern part frame i f))
 
@@ -104,7 +104,7 @@ returns-in_default-clause-blocks c =
     let core = core_in c.args.code.now in
     let x = c.requires.sends in
     needed_by core s c.park.new.store []
-    (wait_needs core s [] (kept_needs core s _ c.requires.kept.kept.is) c.args.channel (value_in s.heap c.args.message.0 c.args.message.1) x.0 x.1.is
+    (wait_needs core s [] (kept_needs core s _ c.requires.kept.kept.is) c.args.channel (value_in s.desk.heap c.args.message.0 c.args.message.1) x.0 x.1.is
     (λ number e. c.in_default.not-Input number (c.first_waiting.ensures.first ∙ e)))
     (makes_nothing s.queues c.park.new.store.queues [] (λ width. c.park.ensures.blocks width ∙ works_blocks s.queues c.first_waiting.new.queues c.first_waiting.ensures.rest width))
 
@@ -121,5 +121,5 @@ returns-in_default-clause-plain c x =
     let core = core_in c.args.code.now in
     let s = c.args.store.now in
     let sends = c.requires.sends in
-    let served = serves core s (acting_words core s) c.args.channel (value_in s.heap c.args.message.0 c.args.message.1) sends.0 sends.1.is x in
+    let served = serves core s (acting_words core s) c.args.channel (value_in s.desk.heap c.args.message.0 c.args.message.1) sends.0 sends.1.is x in
     absurd (c.in_default.not-Input served.0 (c.first_waiting.ensures.first ∙ served.2))

@@ -5,12 +5,13 @@ use Rattle.pict_queue.specs.Contents.{contents}
 use Rattle.pict_meetings.specs.Room.{CanHoldAfter}
 use Rattle.pict_meetings.specs.Waiting.{oldest}
 use Rattle.pict_meetings.proofs.Ops.{input_waits_first}
-use Rattle.pict_turns.specs.Acting.{core_in}
-use Rattle.pict_turns.specs.Parts.{block_width}
+use Rattle.pict_desk.specs.Code.{core_in}
+use Rattle.pict_blocks.specs.Parts.{block_width}
 use Rattle.pict_turns.specs.Widths.{MakesOnly}
 use Rattle.pict_turns.proofs.Making.{makes_before}
 use Rattle.pict_turns.specs.declared.store.Store.{Store}
-use Rattle.pict_turns.proofs.Room.{has_room, room_swapped, refused_still}
+use Rattle.pict_turns.proofs.Room.{refused_still}
+use Rattle.pict_desk.proofs.MakingRoom.{has_room, room_swapped}
 use Rattle.pict_calls.proofs.Stepping.{cost_still}
 use Rattle.pict_machine.proofs.Working.{costs_reserved}
 use Rattle.pict_machine.proofs.Growing.{operand_reserved, operand_over, sends_made, done_made, right_made, can_grown}
@@ -46,7 +47,7 @@ word_of-word-requires-clause-room c =
     let given : List (List ℕ) = cond w.replicated [] (take 1 (contents mid.queues (c.args.channel + 1))) in
     let can = c.in_ok-reserve_meeting.ensures.room given (λ reused. one_given code may.code_is mid may.acting.store c.args.channel c.args.reader first w.replicated w.pattern w.part w.input
     c.reader_frame-frame.result.now (c.reader_as_wide-reuses.ensures.0 reused)) in
-    has_room mid.heap mid.pending _ _ (room_swapped mid.heap mid.pending _ _ can.room)
+    has_room mid.desk.heap mid.desk.pending _ _ (room_swapped mid.desk.heap mid.desk.pending _ _ can.room)
 
 pub meet_reader-requires-clause-sends : goal.meet_reader-requires-clause-sends
 meet_reader-requires-clause-sends c =
@@ -67,7 +68,7 @@ pub meet_reader-requires-clause-can : goal.meet_reader-requires-clause-can
 meet_reader-requires-clause-can c = λ replicated pattern part frame i f.
     let code = c.args.code.now in
     let mid = c.reserve_meeting.new.store in
-    let grown : Store = record mid { heap = c.word_of-word.new.heap; pending = c.word_of-word.new.pending } in
+    let grown : Store = record mid { desk = record mid.desk { heap = c.word_of-word.new.heap; pending = c.word_of-word.new.pending } } in
     let may = may_reserve code c.args.store.now mid c.reserve_meeting.ensures.rest c.requires.may in
     let first = ap oldest (c.reserve_meeting.ensures.rest.contents (c.args.channel + 1)) ∙ c.requires.first in
     subst (CanHoldAfter grown _) (c.reader_frame-frame.ensures replicated pattern part frame i f)
@@ -81,7 +82,7 @@ returns-clause-step c =
     let x = c.requires.sends in
     let new = c.meet_reader.new.store in
     let mid = c.reserve_meeting.new.store in
-    let grown : Store = record mid { heap = c.word_of-word.new.heap; pending = c.word_of-word.new.pending } in
+    let grown : Store = record mid { desk = record mid.desk { heap = c.word_of-word.new.heap; pending = c.word_of-word.new.pending } } in
     record {
       done = done_made core c.args.store.now mid c.reserve_meeting.ensures.rest c.args.channel (plain_val c.args.message.now) x.0 x.1
           c.word_of-word.new.heap c.word_of-word.new.pending c.deref.result.now c.deref.ensures.value c.word_of-word.result c.word_of-word.ensures.made new _ c.meet_reader.ensures.done;

@@ -1,10 +1,10 @@
 use Rattle.std.proofs.Common.{◌+◌, false, ◌∷◌, [], refl, ap, ◌∙◌, subst, arith}
-use Rattle.pict_blocks.specs.Blocks.{value_in}
+use Rattle.pict_desk.specs.Known.{value_in}
 use Rattle.pict_meetings.specs.Room.{CanHoldAfter}
 use Rattle.pict_meetings.specs.Waiting.{oldest}
 use Rattle.pict_meetings.proofs.Ops.{input_waits_first}
-use Rattle.pict_turns.specs.Acting.{core_in}
-use Rattle.pict_turns.specs.Parts.{block_width}
+use Rattle.pict_desk.specs.Code.{core_in}
+use Rattle.pict_blocks.specs.Parts.{block_width}
 use Rattle.pict_turns.specs.Widths.{MakesOnly}
 use Rattle.pict_turns.proofs.Making.{makes_before}
 use Rattle.pict_turns.proofs.Room.{done_after, refused_still}
@@ -56,7 +56,7 @@ returns-clause-ok c =
     let met = c.meet_reader.ensures.done in
     record {
       done = done_after core old mid rest new _ met;
-      pair = pair_stays mid.heap new.heap met.keeps c.args.message (sends_reserved core old mid rest c.args.channel c.args.message x.0 x.1).pair;
+      pair = pair_stays mid.desk.heap new.desk.heap met.keeps c.args.message (sends_reserved core old mid rest c.args.channel c.args.message x.0 x.1).pair;
     }
 
 pub returns-in_err-reserve_served-clause-refused : goal.returns-in_err-reserve_served-clause-refused
@@ -92,7 +92,7 @@ returns-clause-plain c x =
     let core = core_in code in
     let s = c.args.store.now in
     let sends = c.requires.sends in
-    let v = value_in s.heap c.args.message.0 c.args.message.1 in
+    let v = value_in s.desk.heap c.args.message.0 c.args.message.1 in
     let i = served code c.requires.may.code_is s c.requires.may.acting.store c.args.channel c.args.reader c.requires.first v sends.0 sends.1.is x in
     let has = part_has code c.requires.may.code_is s c.requires.may.acting.store c.args.channel c.args.reader c.requires.first v sends.0 sends.1.is x in
     let r = c.reserve_served.ensures in
@@ -108,7 +108,7 @@ returns-in_err-reserve_served-clause-plain c x =
     let core = core_in code in
     let s = c.args.store.now in
     let sends = c.requires.sends in
-    let v = value_in s.heap c.args.message.0 c.args.message.1 in
+    let v = value_in s.desk.heap c.args.message.0 c.args.message.1 in
     let i = served code c.requires.may.code_is s c.requires.may.acting.store c.args.channel c.args.reader c.requires.first v sends.0 sends.1.is x in
     let has = part_has code c.requires.may.code_is s c.requires.may.acting.store c.args.channel c.args.reader c.requires.first v sends.0 sends.1.is x in
     let r = c.in_err-reserve_served.ensures in

@@ -1,4 +1,4 @@
-use Rattle.pict_turns.specs.Acting.{core_in}
+use Rattle.pict_desk.specs.Code.{core_in}
 use Rattle.pict_machine.proofs.Taking.{turn_given, first_given, some_ready}
 use Rattle.pict_machine.proofs.stepping.ensure_turn.Goals as goal
 

@@ -1,6 +1,6 @@
 use Rattle.std.proofs.Common.{ℕ, map, subst}
 use Rattle.pict_code.specs.Plain.{plain_node, plain_pat}
-use Rattle.pict_turns.specs.Reading.{HasFrame}
+use Rattle.pict_desk.specs.Code.{HasFrame}
 use Rattle.pict_meetings.proofs.Ops.{same_input, input_waits_first}
 use Rattle.pict_meetings.proofs.meeting.meet_reader.Goals as goal
 

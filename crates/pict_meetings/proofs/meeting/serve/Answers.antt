@@ -8,18 +8,19 @@ use Rattle.pict_region.specs.RegionState.{blocks}
 use Rattle.pict_queue.specs.QueuesState.{IsHeld}
 use Rattle.pict_queue.specs.Contents.{contents}
 use Rattle.pict_view.specs.Moved.{if_replicated}
-use Rattle.pict_frames.proofs.Held.{works_blocks}
-use Rattle.pict_blocks.specs.Binding.{levels_of, BindsPattern}
-use Rattle.pict_blocks.specs.Blocks.{value_in}
-use Rattle.pict_operands.specs.Pairs.{ArePairs}
-use Rattle.pict_turns.specs.Acting.{core_in}
-use Rattle.pict_turns.specs.Parts.{block_width}
+use Rattle.pict_blocks.proofs.Held.{works_blocks}
+use Rattle.pict_desk.specs.Binding.{levels_of, BindsPattern}
+use Rattle.pict_desk.specs.Known.{value_in}
+use Rattle.pict_desk.specs.Pairs.{ArePairs}
+use Rattle.pict_desk.specs.Code.{core_in}
+use Rattle.pict_blocks.specs.Parts.{block_width}
 use Rattle.pict_turns.specs.Turns.{turn_cost}
 use Rattle.pict_turns.specs.declared.store.Store.{Store}
 use Rattle.pict_turns.specs.declared.turn.Turn.TheVariants.{Nobody}
 use Rattle.pict_turns.proofs.AfterReading.{no_more_read}
 use Rattle.pict_turns.proofs.Handing.{made_last}
-use Rattle.pict_turns.proofs.Numbered.{coded_at, coded_inside, in_code, same_frame}
+use Rattle.pict_turns.proofs.Numbered.{coded_inside}
+use Rattle.pict_desk.proofs.Numbered.{coded_at, in_code, same_frame}
 use Rattle.pict_turns.proofs.Turns.{set_aside}
 use Rattle.pict_meetings.proofs.Inputs.{pattern_rises, pattern_inside, part_inside}
 use Rattle.pict_meetings.proofs.Meets.{reader_met}
@@ -76,7 +77,7 @@ make_ready-requires-clause-inside c =
 pub make_ready-requires-clause-pairs : goal.make_ready-requires-clause-pairs
 make_ready-requires-clause-pairs c =
     let bound = c.bind_levels.new.store in
-    subst (λ h. ArePairs h bound.values.items) (sym (ap (λ (s : Store). s.heap) c.bind_levels.ensures.rest)) c.bind_levels.ensures.pairs
+    subst (λ h. ArePairs h bound.desk.values.items) (sym (ap (λ (s : Store). s.desk.heap) c.bind_levels.ensures.rest)) c.bind_levels.ensures.pairs
 
 pub returns-clause-done : goal.returns-clause-done
 returns-clause-done c =
@@ -100,13 +101,13 @@ returns-clause-done c =
     (c.make_ready.ensures.last core (record { node = f.node; at = at; is = f.is })) in
     reader_met core old taken bound new c.args.channel c.args.number c.args.part c.args.replicated p c.args.message c.requires.sends.0
     c.requires.code.closed c.requires.sends.1 c.requires.queue reads i
-    (ap (λ (s : Store). s.heap) rest ∙ reads.read.rest.heap)
+    (ap (λ (s : Store). s.desk.heap) rest ∙ reads.read.rest.heap)
     (ap (λ (s : Store). contents s.queues (c.args.channel + 1)) rest ∙ left)
     (λ queue apart. ap (λ (s : Store). contents s.queues queue) rest ∙ c.settle.ensures.others queue apart)
     (ap (λ (s : Store). length s.queues.queues) rest ∙ c.settle.ensures.queues)
-    (subst (λ h. BindsPattern h p (value_in h c.args.message.0 c.args.message.1) taken.values.items bound.values.items) reads.read.rest.heap c.bind_levels.ensures.binds)
+    (subst (λ h. BindsPattern h p (value_in h c.args.message.0 c.args.message.1) taken.desk.values.items bound.desk.values.items) reads.read.rest.heap c.bind_levels.ensures.binds)
     c.bind_levels.ensures.levels
-    (subst (λ h. ArePairs h bound.values.items) reads.read.rest.heap c.bind_levels.ensures.pairs)
+    (subst (λ h. ArePairs h bound.desk.values.items) reads.read.rest.heap c.bind_levels.ensures.pairs)
     f.node at
     (subst (λ (ls : List ℕ). Readies core bound new [] c.args.part ls) (sym f.is) readies)
     (λ other held. no_more_read (record old { turn = Nobody }) taken reads.read.rest other

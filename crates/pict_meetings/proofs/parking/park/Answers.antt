@@ -1,7 +1,8 @@
 use Rattle.std.proofs.Common.{◌+◌, length, sym, ap, ◌∙◌, subst}
 use Rattle.pict_core.specs.Step.{Quiet}
-use Rattle.pict_frames.proofs.Held.{made_pushed, made_no_more}
-use Rattle.pict_turns.specs.Acting.{core_in, IsDone}
+use Rattle.pict_blocks.proofs.Held.{made_pushed, made_no_more}
+use Rattle.pict_turns.specs.Acting.{IsDone}
+use Rattle.pict_desk.specs.Code.{core_in}
 use Rattle.pict_turns.specs.Views.{acting_words}
 use Rattle.pict_turns.specs.declared.store.Store.{Store}
 use Rattle.pict_meetings.proofs.Waits.{kept_done, input_done}

@@ -1,6 +1,6 @@
 use Rattle.std.proofs.Common.{◌+◌, length, ap, ◌∙◌}
-use Rattle.pict_frames.specs.Keeping.{kept_words}
-use Rattle.pict_frames.proofs.Held.{made_pushed, made_no_more}
+use Rattle.pict_blocks.specs.Keeping.{kept_words}
+use Rattle.pict_blocks.proofs.Held.{made_pushed, made_no_more}
 use Rattle.pict_meetings.proofs.Waits.{sent_done}
 use Rattle.pict_meetings.proofs.parking.park_output.Goals as goal
 

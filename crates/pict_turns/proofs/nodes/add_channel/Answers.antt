@@ -2,7 +2,7 @@ use Rattle.std.proofs.Common.{ℕ, ◌-◌, length, refl, sym, ap, ◌∙◌}
 use Rattle.std.proofs.lemmas.List.{length-set, get_or-set_other, length_push}
 use Rattle.pict_core.specs.Term.{Chan}
 use Rattle.pict_heap.specs.declared.word.Word.TheVariants as word
-use Rattle.pict_operands.proofs.Pairs.{set_here, set_pairs}
+use Rattle.pict_desk.proofs.Pairs.{set_here, set_pairs}
 use Rattle.pict_queue.specs.QueuesState.{no_queue}
 use Rattle.pict_turns.proofs.nodes.add_channel.Goals as goal
 
@@ -13,10 +13,10 @@ returns c =
     let w = word.Chan (c.in-Ok.queue.0 - 1) in
     let packs = sym c.pack.ensures.pair in
     record {
-      value = set_here s.heap s.values.items level w c.pack.result c.pack.ensures.fits packs c.requires.inside ∙ ap (λ (n : ℕ). Chan (n - 1)) c.in-Ok.ensures.number;
-      others = λ other apart. get_or-set_other s.values.items level other c.pack.result (0, 0) apart;
-      levels = length-set s.values.items level c.pack.result;
-      pairs = set_pairs s.heap s.values.items level w c.pack.result c.pack.ensures.fits packs c.requires.inside tt c.requires.pairs;
+      value = set_here s.desk.heap s.desk.values.items level w c.pack.result c.pack.ensures.fits packs c.requires.inside ∙ ap (λ (n : ℕ). Chan (n - 1)) c.in-Ok.ensures.number;
+      others = λ other apart. get_or-set_other s.desk.values.items level other c.pack.result (0, 0) apart;
+      levels = length-set s.desk.values.items level c.pack.result;
+      pairs = set_pairs s.desk.heap s.desk.values.items level w c.pack.result c.pack.ensures.fits packs c.requires.inside tt c.requires.pairs;
       queues = ap length c.in-Ok.ensures.queues ∙ length_push s.queues.queues no_queue;
       region = c.add_queue.ensures.region;
       contents = c.add_queue.ensures.contents;

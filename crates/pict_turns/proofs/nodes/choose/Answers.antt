@@ -5,14 +5,15 @@ use Rattle.pict_core.specs.Term.{Val}
 use Rattle.pict_code.specs.Instruction as op
 use Rattle.pict_code.specs.Plain.{plain_node}
 use Rattle.pict_code.proofs.Lines.{on_err}
-use Rattle.pict_blocks.specs.Blocks.{operand_value}
+use Rattle.pict_desk.specs.Known.{operand_value}
 use Rattle.pict_queue.specs.QueuesState.{QueuesState}
-use Rattle.pict_turns.specs.Acting.{core_in}
-use Rattle.pict_turns.specs.Parts.{block_width}
+use Rattle.pict_desk.specs.Code.{core_in}
+use Rattle.pict_blocks.specs.Parts.{block_width}
 use Rattle.pict_turns.specs.Widths.{MakesOnly}
 use Rattle.pict_turns.proofs.Handing.{handed_cost}
 use Rattle.pict_turns.proofs.Making.{makes_chosen}
-use Rattle.pict_turns.proofs.Numbered.{coded_frame, coded_inside, in_code, if_parts, test_over, test_boolean, chosen_low, chosen_width}
+use Rattle.pict_turns.proofs.Numbered.{coded_inside, if_parts, test_over, test_boolean, chosen_width}
+use Rattle.pict_desk.proofs.Numbered.{coded_frame, in_code, chosen_low}
 use Rattle.pict_turns.proofs.Room.{can_hold, store_still, acts_still, known_still, done_after, refused_still}
 use Rattle.pict_turns.proofs.Steps.{choose_by}
 use Rattle.pict_turns.proofs.nodes.choose.Goals as goal

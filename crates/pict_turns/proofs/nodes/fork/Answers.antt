@@ -4,15 +4,16 @@ use Rattle.pict_core.specs.Step.{Quiet}
 use Rattle.pict_code.specs.Instruction as op
 use Rattle.pict_code.specs.Plain.{plain_node}
 use Rattle.pict_code.proofs.Lines.{on_err}
-use Rattle.pict_frames.proofs.Costs.{costs_more, costs_nothing}
+use Rattle.pict_blocks.proofs.Costs.{costs_more, costs_nothing}
 use Rattle.pict_queue.specs.QueuesState.{QueuesState, IsQueue, CostsAtMost}
-use Rattle.pict_turns.specs.Acting.{core_in}
-use Rattle.pict_turns.specs.Parts.{block_width}
+use Rattle.pict_desk.specs.Code.{core_in}
+use Rattle.pict_blocks.specs.Parts.{block_width}
 use Rattle.pict_turns.specs.Turns.{turn_cost}
 use Rattle.pict_turns.specs.Widths.{MakesOnly}
 use Rattle.pict_turns.proofs.Handing.{handed_pairs}
 use Rattle.pict_turns.proofs.Making.{makes_before, makes_parts}
-use Rattle.pict_turns.proofs.Numbered.{coded_frame, coded_inside, in_code, fork_parts, same_frame}
+use Rattle.pict_turns.proofs.Numbered.{coded_inside, fork_parts}
+use Rattle.pict_desk.proofs.Numbered.{coded_frame, in_code, same_frame}
 use Rattle.pict_turns.proofs.Room.{can_first, can_second, store_still, acts_still, done_after, refused_still}
 use Rattle.pict_turns.proofs.Steps.{fork_by, fork_cost}
 use Rattle.pict_turns.proofs.nodes.fork.Goals as goal

@@ -6,13 +6,15 @@ use Rattle.pict_code.specs.Plain.{plain_node}
 use Rattle.pict_code.proofs.Lines.{on_err}
 use Rattle.pict_region.specs.RegionState.{RegionState, spare, blocks, KeepsBlocks}
 use Rattle.pict_queue.specs.QueuesState.{QueuesState}
-use Rattle.pict_operands.specs.Needs.{HasRoomFor}
-use Rattle.pict_turns.specs.Acting.{core_in}
-use Rattle.pict_turns.specs.Parts.{block_width, frame_need}
+use Rattle.pict_desk.specs.Needs.{HasRoomFor}
+use Rattle.pict_desk.specs.Code.{core_in}
+use Rattle.pict_blocks.specs.Parts.{block_width}
+use Rattle.pict_desk.specs.Room.{frame_need}
 use Rattle.pict_turns.specs.Widths.{MakesOnly}
 use Rattle.pict_turns.proofs.Handing.{handed_cost}
 use Rattle.pict_turns.proofs.Making.{makes_before, makes_part}
-use Rattle.pict_turns.proofs.Numbered.{coded_frame, coded_inside, in_code, new_part, same_frame}
+use Rattle.pict_turns.proofs.Numbered.{coded_inside, new_part}
+use Rattle.pict_desk.proofs.Numbered.{coded_frame, in_code, same_frame}
 use Rattle.pict_turns.proofs.Room.{can_hold, store_still, acts_still, done_after, refused_still}
 use Rattle.pict_turns.proofs.Steps.{channel_by}
 use Rattle.pict_turns.proofs.nodes.make_channel.Goals as goal
@@ -39,8 +41,8 @@ hand_on-requires-clause-can c =
     let added = c.add_channel.ensures in
     record {
       block = subst (λ (r : RegionState). 1 ≤ spare r (block_width frame)) (sym added.region) can.block;
-      room = subst (λ h. HasRoomFor h c.add_channel.new.store.pending (frame_need frame)) (sym added.heap)
-          (subst (λ p. HasRoomFor c.reserve_channel.new.store.heap p (frame_need frame)) (sym added.pending) can.room);
+      room = subst (λ h. HasRoomFor h c.add_channel.new.store.desk.pending (frame_need frame)) (sym added.heap)
+          (subst (λ p. HasRoomFor c.reserve_channel.new.store.desk.heap p (frame_need frame)) (sym added.pending) can.room);
     }
 
 pub hand_on-requires-clause-inside : goal.hand_on-requires-clause-inside

@@ -1,16 +1,16 @@
 use Rattle.std.proofs.Common.{suc, ◌≡◌, ◌==◌, ◌∷◌, ◌++◌, [], length, get_or, ap, ◌∙◌, refl, arith}
 use Rattle.pict_region.specs.RegionState.{spare}
 use Rattle.pict_queue.specs.Contents.{contents}
-use Rattle.pict_turns.specs.Parts.{block_width}
-use Rattle.pict_frames.proofs.Costs.{costs_more}
-use Rattle.pict_frames.proofs.Held.{made_kept, made_no_more}
+use Rattle.pict_blocks.specs.Parts.{block_width}
+use Rattle.pict_blocks.proofs.Costs.{costs_more}
+use Rattle.pict_blocks.proofs.Held.{made_kept, made_no_more}
 use Rattle.pict_turns.proofs.Placing.{taken_spare}
 use Rattle.pict_turns.proofs.parts.spawn_part.Goals as goal
 
 pub returns-clause-spawns : goal.returns-clause-spawns
 returns-clause-spawns c =
     let p = c.make_part-part.ensures.part in
-    let made = c.make_part-part.new.store.queues in
+    let made = c.make_part-part.new.queues in
     record {
       held = p.held;
       holds = p.holds;
@@ -23,7 +23,7 @@ returns-clause-spawns c =
       queues = c.push_back.ensures.rest.queues ∙ ap length p.made.queues;
       keeps = p.keeps;
       used = p.used;
-      turn = p.turn;
+      turn = refl;
       values = p.values;
       pending = p.pending;
     }
@@ -31,16 +31,16 @@ returns-clause-spawns c =
 pub returns-clause-kept : goal.returns-clause-kept
 returns-clause-kept c =
     let p = c.make_part-part.ensures.part in
-    made_kept c.args.store.now.queues c.make_part-part.new.store.queues c.push_back.new.self _ _ _ p.made c.push_back.ensures.kept
+    made_kept c.args.store.now.queues c.make_part-part.new.queues c.push_back.new.self _ _ _ p.made c.push_back.ensures.kept
 
 pub returns-clause-no_more : goal.returns-clause-no_more
 returns-clause-no_more c =
-    made_no_more c.args.store.now.queues c.make_part-part.new.store.queues c.push_back.new.self _ _ _ c.make_part-part.ensures.part.made c.push_back.ensures.gone
+    made_no_more c.args.store.now.queues c.make_part-part.new.queues c.push_back.new.self _ _ _ c.make_part-part.ensures.part.made c.push_back.ensures.gone
 
 pub returns-clause-blocks : goal.returns-clause-blocks
 returns-clause-blocks c = λ width. c.push_back.ensures.blocks width ∙ c.make_part-part.ensures.part.made.blocks width
 
 pub returns-clause-cost : goal.returns-clause-cost
 returns-clause-cost c =
-    costs_more c.args.store.now.queues c.make_part-part.new.store.queues c.push_back.new.self (block_width c.args.frame.now) 2 _ (omega arith)
+    costs_more c.args.store.now.queues c.make_part-part.new.queues c.push_back.new.self (block_width c.args.frame.now) 2 _ (omega arith)
     c.make_part-part.ensures.cost c.push_back.ensures.cost

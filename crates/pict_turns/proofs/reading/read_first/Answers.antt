@@ -1,4 +1,5 @@
-use Rattle.pict_turns.proofs.Numbered.{coded_inside, coded_rising}
+use Rattle.pict_turns.proofs.Numbered.{coded_inside}
+use Rattle.pict_desk.proofs.Numbered.{coded_rising}
 use Rattle.pict_turns.proofs.reading.read_first.Goals as goal
 
 pub read_first_narrow-requires-clause-inside : goal.read_first_narrow-requires-clause-inside

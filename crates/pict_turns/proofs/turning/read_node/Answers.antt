@@ -3,11 +3,14 @@ use Rattle.pict_syntax.specs.declared.limits.TheConstants.{NARROW_LIMIT}
 use Rattle.pict_code.specs.Plain.{plain_node}
 use Rattle.pict_queue.specs.QueuesState.{CostsAtMost}
 use Rattle.pict_queue.specs.Contents.{held_words}
-use Rattle.pict_turns.specs.Acting.{core_in}
+use Rattle.pict_desk.specs.Code.{core_in}
+use Rattle.pict_turns.specs.declared.store.Store.{Store}
+use Rattle.pict_turns.proofs.Held.{has_read_by}
 use Rattle.pict_turns.proofs.AfterReading.{reads_aside}
-use Rattle.pict_turns.proofs.Holding.{width_wide}
-use Rattle.pict_turns.proofs.Numbered.{coded_frame, coded_inside, coded_rising, in_code, same_frame}
-use Rattle.pict_turns.proofs.Placing.{costs_up}
+use Rattle.pict_blocks.proofs.Holding.{width_wide}
+use Rattle.pict_turns.proofs.Numbered.{coded_inside}
+use Rattle.pict_desk.proofs.Numbered.{coded_frame, coded_rising, in_code, same_frame}
+use Rattle.pict_blocks.proofs.Costs.{costs_up}
 use Rattle.pict_turns.proofs.Taking.{node_low, node_read, read_frame_is, words_width, narrow_taken, narrow_turn_taken}
 use Rattle.pict_turns.proofs.turning.read_node.Goals as goal
 
@@ -16,7 +19,7 @@ frame_at-frame-requires c =
     let core = core_in c.args.code.now in
     let s = c.args.store.now in
     in_code c.args.code.now c.requires.code c.args.number
-    (node_low core s.heap c.args.number (held_words s.queues.region c.args.block.now) c.requires.is.0 c.requires.is.1)
+    (node_low core s.desk.heap c.args.number (held_words s.queues.region c.args.block.now) c.requires.is.0 c.requires.is.1)
 
 pub read_narrow-requires-clause-inside : goal.read_narrow-requires-clause-inside
 read_narrow-requires-clause-inside c = coded_inside c.args.code.now c.requires.code c.args.store.now c.requires.store c.args.number c.frame_at-frame.result.now c.frame_at-frame.ensures
@@ -34,11 +37,11 @@ pub returns-then-frame-clause-read : goal.returns-then-frame-clause-read
 returns-then-frame-clause-read c =
     let core = core_in c.args.code.now in
     let s = c.args.store.now in
-    let n = c.read_narrow.new.store in
+    let n : Store = record s { desk = c.read_narrow.new.desk; queues = c.read_narrow.new.queues } in
     let frame = c.frame_at-frame.result.now in
     let words = held_words s.queues.region c.args.block.now in
     let f = coded_frame c.args.code.now c.requires.code c.args.number frame c.frame_at-frame.ensures in
-    let read = node_read core s n c.args.number words frame c.requires.is.0 c.requires.is.1 f c.read_narrow.ensures.read in
+    let read = node_read core s n c.args.number words frame c.requires.is.0 c.requires.is.1 f (has_read_by s c.read_narrow.new.queues c.read_narrow.new.desk words frame c.read_narrow.ensures.rest c.read_narrow.ensures.read) in
     let few : length read.node.frame ≤ NARROW_LIMIT =
     subst (λ (ls : List ℕ). length ls ≤ NARROW_LIMIT) (sym (read_frame_is core s n c.args.number words frame read f)) c.if-frame.true in
     record {
@@ -53,7 +56,7 @@ returns-then-frame-clause-cost c =
     let s = c.args.store.now in
     let words = held_words s.queues.region c.args.block.now in
     let f = coded_frame c.args.code.now c.requires.code c.args.number c.frame_at-frame.result.now c.frame_at-frame.ensures in
-    subst (λ (n : ℕ). CostsAtMost n s.queues c.read_narrow.new.store.queues) (sym (words_width core s.heap c.args.number words c.requires.is.0 c.requires.is.1 c.frame_at-frame.result.now f))
+    subst (λ (n : ℕ). CostsAtMost n s.queues c.read_narrow.new.queues) (sym (words_width core s.desk.heap c.args.number words c.requires.is.0 c.requires.is.1 c.frame_at-frame.result.now f))
     c.read_narrow.ensures.cost
 
 pub returns-else-frame-clause-cost : goal.returns-else-frame-clause-cost
@@ -63,6 +66,6 @@ returns-else-frame-clause-cost c =
     let frame = c.frame_at-frame.result.now in
     let words = held_words s.queues.region c.args.block.now in
     let f = coded_frame c.args.code.now c.requires.code c.args.number frame c.frame_at-frame.ensures in
-    let width = words_width core s.heap c.args.number words c.requires.is.0 c.requires.is.1 frame f in
+    let width = words_width core s.desk.heap c.args.number words c.requires.is.0 c.requires.is.1 frame f in
     let four = width_wide frame c.if-frame.false in
     costs_up s.queues c.read_wide_node.new.store.queues 2 _ (omega (arith, width, four)) c.read_wide_node.ensures.cost

@@ -1,10 +1,10 @@
 use Rattle.std.proofs.Common.{ℕ, List, ◌∷◌, [], drop, ap, sym, ◌∙◌}
-use Rattle.pict_frames.specs.Keeping.{kept_words}
-use Rattle.pict_frames.specs.declared.keeping.Kept.{Kept}
+use Rattle.pict_blocks.specs.Keeping.{kept_words}
+use Rattle.pict_desk.specs.declared.kept.Kept.{Kept}
 use Rattle.pict_region.specs.RegionState.{words_of}
 use Rattle.pict_queue.specs.Contents.{held_words}
 use Rattle.pict_turns.proofs.AfterReading.{reads_works}
-use Rattle.pict_turns.proofs.Held.{whole_length}
+use Rattle.pict_blocks.proofs.WordsHeld.{whole_length}
 use Rattle.pict_turns.proofs.Taking.{kept_taken}
 use Rattle.pict_turns.proofs.turning.read_output.Goals as goal
 
@@ -23,6 +23,6 @@ returns-clause-read c = λ core.
     let same = c.read_kept.ensures.kept k.kept k.fits k.is in
     record {
       words = ap (λ (kept : Kept). kept_words kept ∷ []) same ∙ ap (λ (us : List ℕ). us ∷ []) (sym k.is);
-      turn = kept_taken s.heap (held_words s.queues.region c.args.block.now) k c.read_kept.result same;
+      turn = kept_taken s.desk.heap (held_words s.queues.region c.args.block.now) k c.read_kept.result same;
       rest = reads_works s c.read_kept.new.queues c.requires.pairs c.read_kept.ensures.rest;
     }

@@ -1,17 +1,18 @@
 use Rattle.std.proofs.Common.{ℕ, ◌+◌, ◌-◌, ◌≡◌, List, length, refl, sym, ap, subst, arith}
-use Rattle.pict_frames.proofs.Costs.{costs_more, costs_one}
+use Rattle.pict_blocks.proofs.Costs.{costs_more, costs_one}
 use Rattle.pict_region.specs.RegionState.{words_of}
 use Rattle.pict_queue.specs.QueuesState.{QueuesState}
 use Rattle.pict_queue.specs.Contents.{held_words}
-use Rattle.pict_turns.specs.Acting.{core_in}
+use Rattle.pict_desk.specs.Code.{core_in}
 use Rattle.pict_turns.specs.Views.{IsNode, IsKept}
-use Rattle.pict_turns.proofs.AfterReading.{store_read, works_of, reads_works}
+use Rattle.pict_turns.proofs.AfterReading.{store_read, reads_works}
+use Rattle.pict_blocks.proofs.Written.{works_of}
 use Rattle.pict_turns.proofs.Taking.{block_some, kept_first, node_first, reads_turn_after}
 use Rattle.pict_turns.proofs.turning.read_turn.Goals as goal
 
 pub get-first-requires-clause-inside : goal.get-first-requires-clause-inside
 get-first-requires-clause-inside c =
-    block_some (core_in c.args.code.now) c.args.store.now.heap (words_of c.args.store.now.queues.region c.args.block.now) c.requires.is
+    block_some (core_in c.args.code.now) c.args.store.now.desk.heap (words_of c.args.store.now.queues.region c.args.block.now) c.requires.is
 
 pub read_output-requires-clause-held : goal.read_output-requires-clause-held
 read_output-requires-clause-held c = (c.get-first.ensures.kept c.args.block.now c.requires.held).held
@@ -22,7 +23,7 @@ read_output-requires-clause-kept c =
     let s = c.args.store.now in
     let ws = words_of s.queues.region c.args.block.now in
     let same = ap (λ (q : QueuesState). held_words q.region c.args.block.now) c.get-first.ensures.rest in
-    subst (IsKept s.heap) (sym same) (kept_first core s.heap ws c.requires.is (let w = c.get-first.ensures.word in omega (arith, w)))
+    subst (IsKept s.desk.heap) (sym same) (kept_first core s.desk.heap ws c.requires.is (let w = c.get-first.ensures.word in omega (arith, w)))
 
 pub read_output-requires-clause-pairs : goal.read_output-requires-clause-pairs
 read_output-requires-clause-pairs c = c.requires.store.pairs
@@ -39,7 +40,7 @@ returns-then-first-eq0-clause-cost c =
     let core = core_in c.args.code.now in
     let s = c.args.store.now in
     let ws = words_of s.queues.region c.args.block.now in
-    let k = kept_first core s.heap ws c.requires.is (let w = c.get-first.ensures.word in omega (arith, w)) in
+    let k = kept_first core s.desk.heap ws c.requires.is (let w = c.get-first.ensures.word in omega (arith, w)) in
     let long : length (held_words s.queues.region c.args.block.now) ≡ 8 = ap length k.is in
     let work = ap (λ (q : QueuesState). q.region.work) c.get-first.ensures.rest in
     costs_more s.queues c.get-first.new.self c.read_output.new.store.queues 1 7 (length (held_words s.queues.region c.args.block.now) + 2) (omega (arith, long))
@@ -59,10 +60,10 @@ read_node-requires-clause-is c =
     let core = core_in c.args.code.now in
     let s = c.args.store.now in
     let ws = words_of s.queues.region c.args.block.now in
-    let n = node_first core s.heap ws c.requires.is (let w = c.get-first.ensures.word in omega (arith, w)) in
+    let n = node_first core s.desk.heap ws c.requires.is (let w = c.get-first.ensures.word in omega (arith, w)) in
     let same = ap (λ (q : QueuesState). held_words q.region c.args.block.now) c.get-first.ensures.rest in
     let word = c.get-first.ensures.word in
-    subst (λ (us : List ℕ). (x : IsNode core s.heap us) × (x.number ≡ c.get-first.result - 1)) (sym same) (n.0, let e = n.1 in omega (arith, e, word))
+    subst (λ (us : List ℕ). (x : IsNode core s.desk.heap us) × (x.number ≡ c.get-first.result - 1)) (sym same) (n.0, let e = n.1 in omega (arith, e, word))
 
 pub returns-else-first-eq0-clause-read : goal.returns-else-first-eq0-clause-read
 returns-else-first-eq0-clause-read c =

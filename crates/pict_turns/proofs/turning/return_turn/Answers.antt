@@ -1,7 +1,8 @@
 use Rattle.std.proofs.Common.{◌+◌, length, sym, ap, ◌∙◌, subst, arith}
-use Rattle.pict_frames.proofs.Costs.{costs_more}
-use Rattle.pict_frames.proofs.Held.{made_no_more}
-use Rattle.pict_turns.specs.Acting.{core_in, IsStore}
+use Rattle.pict_blocks.proofs.Costs.{costs_more}
+use Rattle.pict_blocks.proofs.Held.{made_no_more}
+use Rattle.pict_turns.specs.Acting.{IsStore}
+use Rattle.pict_desk.specs.Code.{core_in}
 use Rattle.pict_turns.specs.Views.{acting_words}
 use Rattle.pict_turns.specs.declared.store.Store.{Store}
 use Rattle.pict_turns.specs.declared.turn.Turn.{Turn}

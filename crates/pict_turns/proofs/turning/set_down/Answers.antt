@@ -1,11 +1,12 @@
 use Rattle.std.proofs.Common.{ℕ, ◌+◌, ◌*◌, ◌≤◌, ◌<◌, List, length, sym, subst, arith}
 use Rattle.std.specs.List.{All}
-use Rattle.pict_frames.specs.Framed.{node_words}
-use Rattle.pict_frames.specs.Writing.{IsMade}
+use Rattle.pict_blocks.specs.Framed.{node_words}
+use Rattle.pict_blocks.specs.Writing.{IsMade}
 use Rattle.pict_region.specs.RegionState.{spare}
-use Rattle.pict_turns.specs.Acting.{core_in}
-use Rattle.pict_turns.proofs.Numbered.{coded_frame, coded_inside, in_code}
-use Rattle.pict_turns.proofs.Placing.{costs_up}
+use Rattle.pict_desk.specs.Code.{core_in}
+use Rattle.pict_turns.proofs.Numbered.{coded_inside}
+use Rattle.pict_desk.proofs.Numbered.{coded_frame, in_code}
+use Rattle.pict_blocks.proofs.Costs.{costs_up}
 use Rattle.pict_turns.proofs.Taking.{node_fits}
 use Rattle.pict_turns.proofs.Turns.{acting_room, node_inside}
 use Rattle.pict_turns.proofs.turning.set_down.Goals as goal
@@ -39,7 +40,7 @@ returns-in-Node-clause-made c =
     let f = coded_frame c.args.code.now c.requires.code c.in-Node.number c.frame_at-frame.result.now c.frame_at-frame.ensures in
     let fits = node_fits core s c.requires.acting c.in-Node.number c.in-Node.is c.frame_at-frame.result.now f in
     subst (λ (ws : List ℕ). IsMade s.queues c.block_of.new.queues c.block_of.result ws (length ws + 1)) (sym fits.words)
-    (subst (IsMade s.queues c.block_of.new.queues c.block_of.result (node_words s.values.items c.in-Node.number c.frame_at-frame.result.now)) (sym fits.long)
+    (subst (IsMade s.queues c.block_of.new.queues c.block_of.result (node_words s.desk.values.items c.in-Node.number c.frame_at-frame.result.now)) (sym fits.long)
     (subst (λ (vs : List (ℕ × ℕ)). IsMade s.queues c.block_of.new.queues c.block_of.result (node_words vs c.in-Node.number c.frame_at-frame.result.now) (2 + 2 * length c.frame_at-frame.result.now))
     c.deref.ensures.value c.block_of.ensures.made))
 

@@ -1,9 +1,9 @@
 use Rattle.std.proofs.Common.{ℕ, ◌+◌, ◌≤◌, ◌<◌, List, length, sym, ap, subst, arith}
-use Rattle.pict_frames.specs.Writing.{IsMade}
+use Rattle.pict_blocks.specs.Writing.{IsMade}
 use Rattle.pict_region.specs.RegionState.{spare}
-use Rattle.pict_turns.specs.Acting.{core_in}
-use Rattle.pict_turns.proofs.Numbered.{in_code}
-use Rattle.pict_turns.proofs.Placing.{costs_up}
+use Rattle.pict_desk.specs.Code.{core_in}
+use Rattle.pict_desk.proofs.Numbered.{in_code}
+use Rattle.pict_blocks.proofs.Costs.{costs_up}
 use Rattle.pict_turns.proofs.Taking.{some_other}
 use Rattle.pict_turns.proofs.Turns.{acting_room, nobody_acts, kept_acts, wide_inside, wide_words_are}
 use Rattle.pict_turns.proofs.turning.set_down_other.Goals as goal

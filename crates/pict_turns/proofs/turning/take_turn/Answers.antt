@@ -1,8 +1,8 @@
 use Rattle.std.proofs.Common.{ap}
-use Rattle.pict_frames.proofs.Costs.{costs_one}
+use Rattle.pict_blocks.proofs.Costs.{costs_one}
 use Rattle.pict_queue.specs.QueuesState.{QueuesState}
 use Rattle.pict_queue.specs.Contents.{held_words}
-use Rattle.pict_turns.specs.Acting.{core_in}
+use Rattle.pict_desk.specs.Code.{core_in}
 use Rattle.pict_turns.proofs.AfterReading.{held_read}
 use Rattle.pict_turns.proofs.Taking.{popped_block, popped_store, turn_acting, turn_takes, turn_costs}
 use Rattle.pict_turns.proofs.turning.take_turn.Goals as goal

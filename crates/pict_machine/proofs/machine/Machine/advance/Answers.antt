@@ -2,9 +2,10 @@ use Rattle.std.proofs.Common.{refl, ◌≢◌, ◌∙◌, [], List, map, sym, su
 use Rattle.pict_code.specs.Plain.{plain_code, plain_node}
 use Rattle.pict_code.specs.declared.instruction.Node.{Node}
 use Rattle.pict_heap.specs.HeapState.{HeapState}
-use Rattle.pict_turns.specs.Acting.{core_in, IsCode, IsStore}
+use Rattle.pict_turns.specs.Acting.{IsStore}
+use Rattle.pict_desk.specs.Code.{core_in, IsCode}
 use Rattle.pict_turns.specs.Views.{view_with_turn, acting_words}
-use Rattle.pict_machine.specs.Constants.{AreConstants}
+use Rattle.pict_desk.specs.Constants.{AreConstants}
 use Rattle.pict_machine.specs.Stepping.{GivesTurn, MayAct, IsStepBy}
 use Rattle.pict_machine.proofs.Taking.{may_act}
 use Rattle.pict_machine.proofs.Steps.{step_kept, step_ok, step_event, step_refused, step_keeps, step_few}
@@ -31,7 +32,7 @@ act-requires-clause-may c =
     let mid = c.ensure_turn.new.store in
     let given = subst (λ (code : List Node). GivesTurn (core_in code) old.store mid) c.deref.ensures.value c.ensure_turn.ensures in
     subst (λ (code : List Node). MayAct code mid) (sym c.deref-2.ensures.value)
-    (may_act old.code.nodes.items old.store mid given c.requires.kept.code c.requires.kept.store.ready c.requires.kept.held c.requires.few c.requires.right)
+    (may_act old.code.nodes.items old.store mid given c.requires.kept.code c.requires.kept.store.ready c.requires.kept.apart c.requires.few c.requires.right)
 
 pub act-requires-clause-constants : goal.act-requires-clause-constants
 act-requires-clause-constants c =
@@ -39,8 +40,8 @@ act-requires-clause-constants c =
     let mid = c.ensure_turn.new.store in
     let given = subst (λ (code : List Node). GivesTurn (core_in code) old.store mid) c.deref.ensures.value c.ensure_turn.ensures in
     subst (λ (h : HeapState). AreConstants h (map plain_node c.deref-2.result.now) c.deref-3.result.now) (sym given.heap)
-    (subst (λ (code : List Node). AreConstants old.store.heap (map plain_node code) c.deref-3.result.now) (sym c.deref-2.ensures.value)
-    (subst (AreConstants old.store.heap (plain_code old.code)) (sym c.deref-3.ensures.value) c.requires.kept.constants))
+    (subst (λ (code : List Node). AreConstants old.store.desk.heap (map plain_node code) c.deref-3.result.now) (sym c.deref-2.ensures.value)
+    (subst (AreConstants old.store.desk.heap (plain_code old.code)) (sym c.deref-3.ensures.value) c.requires.kept.constants))
 
 pub returns : goal.returns
 returns c =

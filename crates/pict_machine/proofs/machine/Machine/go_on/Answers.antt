@@ -3,7 +3,7 @@ use Rattle.pict_view.proofs.Runs.{still_right}
 use Rattle.pict_machine.specs.Machine.{running_view, heap_of}
 use Rattle.pict_machine.proofs.Bounding.{spends_none, spends_one, spends_on, spends_up}
 use Rattle.pict_machine.proofs.Going.{one_past, stood_of, none_next}
-use Rattle.pict_operands.proofs.Making.{keeps_more}
+use Rattle.pict_desk.proofs.Making.{keeps_more}
 use Rattle.pict_machine.proofs.machine.Machine.go_on.Goals as goal
 
 pub advance-requires-clause-right : goal.advance-requires-clause-right

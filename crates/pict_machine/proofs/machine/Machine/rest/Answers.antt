@@ -3,7 +3,8 @@ use Rattle.pict_code.specs.Plain.{plain_node}
 use Rattle.pict_code.specs.declared.instruction.Node.{Node}
 use Rattle.pict_queue.specs.Contents.{contents}
 use Rattle.pict_queue.specs.QueuesState.{CostsAtMost}
-use Rattle.pict_turns.specs.Acting.{core_in, IsCode, IsStore}
+use Rattle.pict_turns.specs.Acting.{IsStore}
+use Rattle.pict_desk.specs.Code.{core_in, IsCode}
 use Rattle.pict_turns.specs.Turns.{turn_cost}
 use Rattle.pict_turns.specs.Views.{ready_words}
 use Rattle.pict_turns.specs.declared.store.Store.{Store}
@@ -24,7 +25,7 @@ returns c =
     let old = c.args.self.now in
     let new = c.return_turn.new.store in
     let back = c.return_turn.ensures in
-    let heap = ap (λ (s : Store). s.heap) back.rest in
+    let heap = ap (λ (s : Store). s.desk.heap) back.rest in
     let store = subst (λ (code : List Node). IsStore (core_in code) new) c.deref.ensures.value back.store in
     let ready = subst (λ (code : List Node). contents new.queues 0 ≡ ready_words (core_in code) old.store) c.deref.ensures.value back.ready in
     let cost = subst (λ (code : List Node). CostsAtMost (turn_cost (core_in code) old.store) old.store.queues new.queues) c.deref.ensures.value back.cost in

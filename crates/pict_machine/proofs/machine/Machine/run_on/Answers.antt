@@ -7,7 +7,7 @@ use Rattle.pict_machine.specs.Machine.{running_view, heap_of}
 use Rattle.pict_machine.proofs.Bounding.{spends_on, spends_up}
 use Rattle.pict_machine.proofs.Going.{right_after, stops_of, stood_between, further, event_of, rests, wants}
 use Rattle.pict_machine.proofs.Running.{on_err, seen_steps}
-use Rattle.pict_operands.proofs.Making.{keeps_more}
+use Rattle.pict_desk.proofs.Making.{keeps_more}
 use Rattle.pict_machine.proofs.machine.Machine.run_on.Goals as goal
 
 pub go_on-passed-requires-clause-right : goal.go_on-passed-requires-clause-right
@@ -25,7 +25,7 @@ pub returns-in-None-clause-end : goal.returns-in-None-clause-end
 returns-in-None-clause-end g c C is s =
     let all : c.loop-done.done + (c.args.fuel - c.loop-done.done) ≡ c.args.fuel = omega arith in
     let none : c.go_on-passed.result.event ≡ Ok None = cc in
-    rests c.passes-passes.result (g.W.Watcher.next c.args.watcher.now) c.passes-passes.ensures (g.W.Watcher.view c.args.watcher.now) (g.W.Watcher.view c.loop-done.watcher) _ _ _ _ _ _ _ _ c.go_on-passed.ensures.gone all _ c.stopped.result.end none c.stopped.ensures.steps c.go_on-passed.ensures.kept.held c.stopped.ensures.end (c.loop-done.invariant.stood C is s)
+    rests c.passes-passes.result (g.W.Watcher.next c.args.watcher.now) c.passes-passes.ensures (g.W.Watcher.view c.args.watcher.now) (g.W.Watcher.view c.loop-done.watcher) _ _ _ _ _ _ _ _ c.go_on-passed.ensures.gone all _ c.stopped.result.end none c.stopped.ensures.steps c.stopped.ensures.end (c.loop-done.invariant.stood C is s)
 
 pub unpacked-event-requires : goal.unpacked-event-requires
 unpacked-event-requires g c =
@@ -87,7 +87,7 @@ loop-done-preserved g c =
 pub returns-clause-end : goal.returns-clause-end
 returns-clause-end g c C is s =
     let all : c.loop-done.done ≡ c.args.fuel = let within = c.loop-done.invariant.within in omega (arith, within) in
-    stops_of _ _ _ _ _ _ c.stopped-2.result.end c.stopped-2.ensures.steps c.loop-done.invariant.kept.held c.stopped-2.ensures.end c.loop-done.invariant.within (λ some. all) (c.loop-done.invariant.stood C is s)
+    stops_of _ _ _ _ _ _ c.stopped-2.result.end c.stopped-2.ensures.steps c.stopped-2.ensures.end c.loop-done.invariant.within (λ some. all) (c.loop-done.invariant.stood C is s)
 
 pub returns-in_err-packed-clause-spends : goal.returns-in_err-packed-clause-spends
 returns-in_err-packed-clause-spends g c =

@@ -1,5 +1,6 @@
 use Rattle.std.proofs.Common.{◌≡◌, List, map, ap, ◌∙◌, sym, subst}
-use Rattle.pict_blocks.specs.Blocks.{value_in, process_of}
+use Rattle.pict_blocks.specs.Blocks.{process_of}
+use Rattle.pict_desk.specs.Known.{value_in}
 use Rattle.pict_code.specs.Plain.{plain_code, plain_node}
 use Rattle.pict_code.specs.declared.instruction.Node.{Node}
 use Rattle.pict_heap.specs.HeapState.{HeapState}
@@ -7,11 +8,12 @@ use Rattle.pict_queue.specs.QueuesState.{CostsAtMost}
 use Rattle.pict_queue.specs.Contents.{contents}
 use Rattle.pict_view.specs.View.{View}
 use Rattle.pict_view.specs.Right.{IsRightFor}
-use Rattle.pict_turns.specs.Acting.{core_in, IsCode, IsStore, HasActing}
+use Rattle.pict_turns.specs.Acting.{IsStore, HasActing}
+use Rattle.pict_desk.specs.Code.{core_in, IsCode}
 use Rattle.pict_turns.specs.Turns.{TakesTurn, turn_cost}
 use Rattle.pict_turns.specs.Views.{acting_words, ready_words}
 use Rattle.pict_turns.specs.declared.store.Store.{Store}
-use Rattle.pict_machine.specs.Constants.{AreConstants}
+use Rattle.pict_desk.specs.Constants.{AreConstants}
 use Rattle.pict_machine.specs.Needs.{MakesNeeded}
 use Rattle.pict_machine.specs.Plain.{ActsPlainly, TakesNothing}
 use Rattle.pict_machine.specs.Stepping.{MayAct, IsStepBy}
@@ -30,7 +32,7 @@ take_turn-requires c =
       code = subst (λ (code : List Node). IsCode (map plain_node code)) (sym c.deref.ensures.value) c.requires.kept.running.code;
       store = subst (λ (code : List Node). IsStore (core_in code) old.store) (sym c.deref.ensures.value) c.requires.kept.running.store;
       nobody = c.requires.kept.idle;
-      some = λ none. c.requires.ready (ap (map (process_of (core_in old.code.nodes.items) (value_in old.store.heap))) none);
+      some = λ none. c.requires.ready (ap (map (process_of (core_in old.code.nodes.items) (value_in old.store.desk.heap))) none);
     }
 
 pub act-result-requires-clause-may : goal.act-result-requires-clause-may
@@ -43,15 +45,15 @@ act-result-requires-clause-may c =
     let before = subst (λ (code : List Node). CostsAtMost (turn_cost (core_in code) taken) old.store.queues taken.queues) c.deref.ensures.value c.take_turn.ensures.cost in
     let given = first_given (core_in old.code.nodes.items) old.store taken kept.idle acting takes before in
     subst (λ (code : List Node). MayAct code taken) (sym c.deref-2.ensures.value)
-    (may_act old.code.nodes.items old.store taken given kept.running.code kept.running.store.ready kept.running.held c.requires.few
+    (may_act old.code.nodes.items old.store taken given kept.running.code kept.running.store.ready kept.running.apart c.requires.few
     (subst (λ (v : View). IsRightFor v 1) (sym (idle_view old kept)) c.requires.right))
 
 pub act-result-requires-clause-constants : goal.act-result-requires-clause-constants
 act-result-requires-clause-constants c =
     let old = c.args.self.now in
     subst (λ (h : HeapState). AreConstants h (map plain_node c.deref-2.result.now) c.deref-3.result.now) (sym c.take_turn.ensures.takes.heap)
-    (subst (λ (code : List Node). AreConstants old.store.heap (map plain_node code) c.deref-3.result.now) (sym c.deref-2.ensures.value)
-    (subst (AreConstants old.store.heap (plain_code old.code)) (sym c.deref-3.ensures.value) c.requires.kept.running.constants))
+    (subst (λ (code : List Node). AreConstants old.store.desk.heap (map plain_node code) c.deref-3.result.now) (sym c.deref-2.ensures.value)
+    (subst (AreConstants old.store.desk.heap (plain_code old.code)) (sym c.deref-3.ensures.value) c.requires.kept.running.constants))
 
 pub return_turn-requires-clause-store : goal.return_turn-requires-clause-store
 return_turn-requires-clause-store c =
@@ -88,7 +90,7 @@ returns c =
     let store = subst (λ (code : List Node). IsStore (core_in code) new) c.deref-4.ensures.value back.store in
     let ready = subst (λ (code : List Node). contents new.queues 0 ≡ ready_words (core_in code) acted) c.deref-4.ensures.value back.ready in
     let after = subst (λ (code : List Node). CostsAtMost (turn_cost (core_in code) acted) acted.queues new.queues) c.deref-4.ensures.value back.cost in
-    let heap = ap (λ (s : Store). s.heap) back.rest in
+    let heap = ap (λ (s : Store). s.desk.heap) back.rest in
     record {
       kept = whole_kept old kept taken acted new acting takes given heap ready back.others back.queues store (ap (λ (s : Store). s.turn) back.rest) back.no_more c.requires.right result step;
       ok = whole_ok old kept taken acted new acting takes given heap ready back.others back.queues result step;

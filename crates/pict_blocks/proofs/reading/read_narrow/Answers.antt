@@ -1,0 +1,37 @@
+use Rattle.std.proofs.Common.{ℕ, suc, ◌≡◌, List, length, drop, sym, ap, ◌∙◌, subst, arith}
+use Rattle.std.proofs.lemmas.List.{with_items_is}
+use Rattle.std.specs.Vec.{with_items}
+use Rattle.pict_queue.specs.Contents.{held_words}
+use Rattle.pict_blocks.specs.Framed.{frame_words}
+use Rattle.pict_desk.specs.Known.{pair_at, value_in}
+use Rattle.pict_region.specs.RegionState.{words_of}
+use Rattle.pict_blocks.specs.Blocks.{frame_values}
+use Rattle.pict_blocks.proofs.Standing.{frame_back}
+use Rattle.pict_blocks.specs.Holding.{HoldWords}
+use Rattle.pict_blocks.proofs.WordsHeld.{held_length, whole_length, behind_number, pairs_read, has_read_frame}
+use Rattle.pict_blocks.proofs.reading.read_narrow.Goals as goal
+
+pub read_frame-requires-clause-wide : goal.read_frame-requires-clause-wide
+read_frame-requires-clause-wide c =
+    let h = c.requires.holds in
+    let whole = whole_length (words_of c.args.queues.now.region c.args.block.now) (suc h.0) h.1 h.2 in
+    let held = held_length c.args.desk.now.heap (length c.args.frame.now) h.1 h.3 in
+    omega (arith, whole, held)
+
+pub returns-clause-read : goal.returns-clause-read
+returns-clause-read c =
+    let d = c.args.desk.now in
+    let frame = c.args.frame.now in
+    let values = c.read_frame.new.values in
+    let h = c.requires.holds in
+    let ws = words_of c.args.queues.now.region c.args.block.now in
+    let words : frame_words values frame ≡ h.1 = c.read_frame.ensures.words ∙ behind_number ws h.0 h.1 h.2 in
+    let held : drop 1 (held_words c.args.queues.now.region c.args.block.now) ≡ frame_words values frame = ap (drop 1) h.2 ∙ sym words in
+    let before : c.deref_mut.result.now ≡ d.values.items = c.deref_mut.ensures.value in
+    let same : length values ≡ length d.values.items = c.read_frame.ensures.len ∙ ap length before in
+    has_read_frame d (with_items d.values values) (held_words c.args.queues.now.region c.args.block.now) frame values
+    (with_items_is d.values values (same ∙ sym d.values.ok.0)) same
+    (pairs_read d.heap d.values.items values frame (subst (HoldWords d.heap (length frame)) (sym words) h.3)
+    (λ level none. c.read_frame.ensures.others level none ∙ ap (λ (vs : List (ℕ × ℕ)). pair_at vs level) before) c.requires.pairs)
+    (ap (frame_values (value_in d.heap) (length frame)) held ∙ frame_back d.heap values frame (length frame) c.requires.narrow)
+    (λ few. held)

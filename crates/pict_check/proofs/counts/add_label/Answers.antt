@@ -1,6 +1,0 @@
--- The set has one label more.
-use Rattle.pict_check.proofs.Labels.{label_added}
-use Rattle.pict_check.proofs.counts.add_label.Goals as goal
-
-pub returns : goal.returns
-returns c = label_added c.args.written.now c.insert.new.self c.args.label c.in_ok-insert.ensures.updates.0

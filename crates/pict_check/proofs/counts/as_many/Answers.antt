@@ -1,6 +1,0 @@
--- The lengths are the counts.
-use Rattle.pict_check.proofs.CountEnds.{values_counted}
-use Rattle.pict_check.proofs.counts.as_many.Goals as goal
-
-pub returns : goal.returns
-returns c = values_counted c.args.vs.now c.args.ps.now

@@ -1,8 +1,0 @@
--- The arguments so far.
-use Rattle.std.proofs.Common.{take}
-use Rattle.pict_types.specs.Plain.{plain_args}
-use Rattle.pict_check.proofs.Finding.{AreFound}
-use Rattle.pict_check.proofs.fields.all_found.Given as goal
-
-abbrev pub invariant-loop-x : goal.invariant-loop-x
-invariant-loop-x l = AreFound (take l.x-index l.x-items) (plain_args l.args.items)

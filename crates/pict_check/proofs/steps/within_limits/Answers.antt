@@ -1,5 +1,0 @@
--- What is known is in the context.
-use Rattle.pict_check.proofs.steps.within_limits.Goals as goal
-
-pub returns : goal.returns
-returns c = rw (c.context.ensures.entries) at c.within_limits.ensures

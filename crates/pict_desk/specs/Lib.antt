@@ -1,0 +1,13 @@
+pub mod Known
+pub mod Pairs
+pub mod Parts
+pub mod AtHand
+pub mod Needs
+pub mod Binding
+pub mod Code
+pub mod Levels
+pub mod Constants
+pub mod Room
+pub mod Kept
+pub mod Arguments
+pub mod Answers

@@ -1,4 +1,0 @@
-pub mod Costs
-pub mod Written
-pub mod Held
-pub mod Outputs

@@ -1,3 +1,0 @@
-pub mod Framed
-pub mod Writing
-pub mod Keeping

@@ -1,0 +1,23 @@
+-- The type is none of a channel, or the channel may not be used so, or its messages are given.
+use Rattle.std.proofs.Common.{sym, ◌∙◌, subst}
+use Rattle.pict_syntax.specs.declared.code.Code.TheVariants.{Y3}
+use Rattle.pict_sub.specs.Exposing.{exposure}
+use Rattle.pict_types.specs.Plain.{plain, plain_cap}
+use Rattle.pict_rules.specs.Clauses.{may_receive}
+use Rattle.pict_rules.specs.Environments.{context_of}
+use Rattle.pict_infer.specs.Environments.{environment_of}
+use Rattle.pict_lines.specs.Declaring.{IsNoChannel}
+use Rattle.pict_lines.proofs.MessageEnds.{may_be, may_not, no_channel}
+use Rattle.pict_lines.proofs.messages.messages_received.Goals as goal
+
+pub returns-in-None : goal.returns-in-None
+returns-in-None c =
+    no_channel may_receive Y3 c.args.at (exposure (context_of (environment_of c.args.env.now)) (plain c.args.t)) (subst IsNoChannel c.in_ok-exposed.ensures c.in-None.ensures.none)
+
+pub returns-then-may_receive : goal.returns-then-may_receive
+returns-then-may_receive c =
+    may_be may_receive Y3 c.args.at (exposure (context_of (environment_of c.args.env.now)) (plain c.args.t)) (plain c.in-Some.u) (plain_cap c.in-Some.cap) (sym c.in_ok-exposed.ensures ∙ c.in-Some.ensures.some) (sym c.may_receive.ensures ∙ c.if-may_receive.true)
+
+pub returns-else-may_receive : goal.returns-else-may_receive
+returns-else-may_receive c =
+    may_not may_receive Y3 c.args.at (exposure (context_of (environment_of c.args.env.now)) (plain c.args.t)) (plain c.in-Some.u) (plain_cap c.in-Some.cap) (sym c.in_ok-exposed.ensures ∙ c.in-Some.ensures.some) (sym c.may_receive.ensures ∙ c.if-may_receive.false)

@@ -1,0 +1,12 @@
+pub mod Lines
+pub mod Functions
+pub mod Reading
+pub mod Counts
+pub mod Judging
+pub mod Chains
+pub mod Operators
+pub mod Definitions
+pub mod Nesting
+pub mod Fields
+pub mod Folds
+pub mod Declaring

@@ -1,0 +1,15 @@
+pub mod Puts
+pub mod Unions
+pub mod Moving
+pub mod Partners
+pub mod Suiting
+pub mod Acting
+pub mod Freed
+pub mod Keeping
+pub mod Rows
+pub mod Viewing
+pub mod Leasts
+pub mod Running
+pub mod Alone
+pub mod Possible
+pub mod Seeds

@@ -1,0 +1,14 @@
+pub mod Once
+pub mod Dressed
+pub mod DressedSteps
+pub mod Places
+pub mod Whole
+pub mod Rows
+pub mod Tables
+pub mod Objects
+pub mod Sizes
+pub mod Writing
+pub mod Ordered
+pub mod Placed
+pub mod Fitted
+pub mod Encoded

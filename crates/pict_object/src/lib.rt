@@ -1,0 +1,17 @@
+//! Objects: core processes as bytes.
+#![tactic(auto)]
+
+mod encoding;
+mod error;
+mod labels;
+mod laws;
+mod size;
+mod write;
+
+pub use encoding::encode;
+pub use error::EncodeError;
+pub use laws::{
+    law_cores_have_one_object, law_labels_extend, law_objects_are_read_once,
+    law_objects_have_one_core, law_runs_are_dressed, law_steps_are_dressed, law_tables_are_one,
+    law_without_places,
+};

@@ -1,5 +1,0 @@
-use Rattle.pict_operands.proofs.Tagged.{channel_elsewhere}
-use Rattle.pict_operands.proofs.kinds.channel_of.Goals as goal
-
-pub returns-else-pair-eq-CHANNEL : goal.returns-else-pair-eq-CHANNEL
-returns-else-pair-eq-CHANNEL c h is = channel_elsewhere h c.args.pair is c.if-pair-eq-CHANNEL.false

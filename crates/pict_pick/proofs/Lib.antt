@@ -1,0 +1,3 @@
+pub mod Running
+mod OneRun
+mod Picking
