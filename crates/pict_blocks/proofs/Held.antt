@@ -35,6 +35,7 @@ module _ (old taken new : QueuesState) (block width : ℕ) (ws : List ℕ)
     spare = let e : spare new.region width ≡ spare taken.region width = ap (λ f. get_or f width 0) written.free in omega (arith, e, left);
     widths = λ other n. ap (λ f. get_or f other 0) written.free ∙ widths other n;
     queues = written.queues ∙ ap (λ (s : QueuesState). s.queues) rest;
+    spare_queues = written.spare_queues ∙ ap (λ (s : QueuesState). s.spare_queues) rest;
     apart = apart;
     kept = λ other h.
         let t = kept other h in

@@ -29,6 +29,7 @@ pub record IsMade (old new : QueuesState) (block : ℕ) (words : List ℕ) (widt
   pub spare : spare new.region width + 1 ≡ spare old.region width
   pub widths : KeepsOtherWidths old.region new.region width
   pub queues : new.queues ≡ old.queues
+  pub spare_queues : new.spare_queues ≡ old.spare_queues
   pub apart : (other : ℕ) → IsHeld old other → other ≢ block
   pub kept : KeepsHeld old new
   pub more : HoldsOneMore old new block

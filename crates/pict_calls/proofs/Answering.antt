@@ -4,7 +4,7 @@ use Rattle.pict_syntax.specs.declared.primitive.Primitive.{Primitive}
 use Rattle.pict_syntax.specs.declared.primitive.Primitive.TheVariants as primitive
 use Rattle.pict_core.specs.Primitives.{Effect, Leaves, Nothing, Answer, Trap, effect_of, at_int, at_char, at_bool, at_text, at_two, at_three, at_ints, divided_by}
 use Rattle.pict_core.specs.Term.{Val, Vals, Labelled, Int, Char, Boolean, Text, Record, no_vals, more_vals}
-use Rattle.pict_region.specs.RegionState.{spare, blocks}
+use Rattle.pict_region.specs.RegionState.{spare, blocks, LosesNoBlock}
 use Rattle.pict_heap.specs.HeapState.{HeapState}
 use Rattle.pict_prim.specs.Acts.{effect_act}
 use Rattle.pict_prim.specs.declared.act.Act.{Act}
@@ -90,7 +90,7 @@ module _ (old new : QueuesState) where
       → MakesOnly old new (9 ∷ []) → MakesOnly old new (answer_widths e)
   makes_answer p vs ls e is no_trap makes =
       let widths : answer_widths e ≡ 9 ∷ [] = subst Answers is (record_answers p vs ls) no_trap in
-      λ width. rw widths (makes width)
+      subst (λ (ws : List ℕ). MakesOnly old new ws) (sym widths) makes
 
   -- the same effect, found twice
   pub makes_same : (effect e : Effect) → Some effect ≡ Some e → MakesOnly old new (answer_widths effect)
@@ -111,13 +111,16 @@ needed_act h (act.Spell k n) width = omega arith
 needed_act h act.ZeroDivisor width = none_of (width == 9)
 
 -- room has been made for an act's outputs
-pub makes_act : (old new : QueuesState) (h : HeapState) (a : Act) (count : ℕ) → count ≡ outputs_of a
+pub makes_act : (old new : QueuesState) (h : HeapState) (a : Act) (count : ℕ) → count ≡ outputs_of a → LosesNoBlock old.region new.region
     → ((width : ℕ) → blocks new.region width ≤ blocks old.region width + ((if width == 9 then count else 0) - spare old.region width))
     → MakesOnly old new (answer_widths (effect_act h a))
-makes_act old new h a count is makes width =
-    let needed = subst (λ (n : ℕ). (if width == 9 then n else 0) ≤ how_many width (answer_widths (effect_act h a))) (sym is) (needed_act h a width) in
-    let m = makes width in
-    omega (arith, needed, m)
+makes_act old new h a count is least makes = record {
+  least = least;
+  most = λ width.
+      let needed = subst (λ (n : ℕ). (if width == 9 then n else 0) ≤ how_many width (answer_widths (effect_act h a))) (sym is) (needed_act h a width) in
+      let m = makes width in
+      omega (arith, needed, m);
+}
 
 -- ---- room for an answer
 

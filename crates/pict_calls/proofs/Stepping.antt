@@ -110,6 +110,7 @@ module _ (core : Process) (old new : Store) (p : Primitive) (v : Val) (at : Span
       (ap (λ (q : QueuesState). turn_words core new ++ contents q 0) h.queues) (ap channel_lists h.queues)
       (store_after other free) (ap (λ vs. length vs.items) h.values) (omega (arith, same))
       (subst (HoldsNoMore old.queues) (sym h.queues) (λ block held. held))
+      (let count = ap (λ (q : QueuesState). length q.queues + q.spare_queues) h.queues in omega (arith, count))
 
   stops : e.leaves ≡ Trap → next_view (view_with_turn core old) ≡ Stops at
   stops trap = sym (ap next_view (view_kept core old new on.acting h.keeps)) ∙ moved ∙ ap (leave (printing e.printed)) trap

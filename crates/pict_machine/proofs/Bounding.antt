@@ -12,7 +12,7 @@ use Rattle.pict_code.specs.Plain.{plain_code}
 use Rattle.pict_code.specs.ReadBack.{core_of}
 use Rattle.pict_code.specs.declared.instruction.Code.{Code}
 use Rattle.pict_heap.specs.HeapState.{HeapState}
-use Rattle.pict_queue.specs.QueuesState.{QueuesState, CostsAtMost}
+use Rattle.pict_queue.specs.QueuesState.{QueuesState, CostsAtMost, LosesNoQueue}
 use Rattle.pict_queue.specs.Contents.{contents}
 use Rattle.pict_region.specs.RegionState.{KeepsBlocks}
 use Rattle.pict_blocks.specs.Blocks.{process_of}
@@ -285,7 +285,7 @@ total_one (w ∷ ws) x = let e = total_one ws x in let one = turned w x in omega
 
 total_made : (old new : QueuesState) (needed ws : List ℕ) → MakesOnly old new needed → total_blocks new.region ws ≤ total_blocks old.region ws + total_many ws needed
 total_made old new needed [] makes = omega arith
-total_made old new needed (w ∷ ws) makes = let e = total_made old new needed ws makes in let one = makes w in omega (arith, e, one)
+total_made old new needed (w ∷ ws) makes = let e = total_made old new needed ws makes in let one = makes.most w in omega (arith, e, one)
 
 total_kept : (old new : QueuesState) (ws : List ℕ) → KeepsBlocks old.region new.region → total_blocks new.region ws ≡ total_blocks old.region ws
 total_kept old new [] keeps = refl
@@ -300,6 +300,7 @@ none_each width other apart = by_case (width == other) refl
 
 one_step : (core : Process) (s : Store) (old new : QueuesState) → IsStore core s → MakesOnly old new (needs.running_widths core s) → MakesFew core 1 old new
 one_step core s old new is makes = record {
+  least = makes.least;
   few = λ widths distinct.
       let one : (x : ℕ) → total_many widths (x ∷ []) ≤ 1 = λ x. let e = total_one widths x in let d = distinct x in omega (arith, e, d) in
       let few = running_few core (total_many widths) 1 (total_none widths) (total_append widths) (λ number. one (part_width (nodes_of core) number)) (one 9) s is in
@@ -310,7 +311,7 @@ one_step core s old new is makes = record {
       running_few core (how_many width) 0 (omega arith) (many_append width) (λ number. none_each width (part_width (nodes_of core) number) (λ same. apart (inr (number, same))))
       (none_each width 9 (λ same. apart (inl (sym same)))) s is
       in
-      let made = makes width in
+      let made = makes.most width in
       omega (arith, few, made);
 }
 
@@ -320,13 +321,14 @@ pub spends_none : (m : Machine) → SpendsAtMost 0 m m
 spends_none m = record {
   code = refl;
   work = record { least = omega arith; most = omega arith };
-  blocks = record { few = λ widths distinct. omega arith; others = λ width apart. omega arith };
+  blocks = record { least = λ width. omega arith; few = λ widths distinct. omega arith; others = λ width apart. omega arith };
+  queues = omega arith;
 }
 
 -- one step of a run
 pub spends_one : (old new : Machine) → IsRunning old → new.code ≡ old.code → CostsAtMost (running_cost old) (queues_of old) (queues_of new) → MakesOnly (queues_of old) (queues_of new) (running_widths old)
-    → SpendsAtMost 1 old new
-spends_one old new kept code work makes =
+    → LosesNoQueue (queues_of old) (queues_of new) → SpendsAtMost 1 old new
+spends_one old new kept code work makes queues =
     let core = core_in old in
     let up = first_low core old.store (ready_words core old.store) in
     let one = one-mul (greatest_cost core) in
@@ -336,6 +338,7 @@ spends_one old new kept code work makes =
       code = code;
       work = record { least = least; most = omega (arith, most, up, one) };
       blocks = one_step core old.store (queues_of old) (queues_of new) kept.store makes;
+      queues = queues;
     }
 
 -- who has the turn is set down
@@ -359,6 +362,7 @@ worked_on a b c k n most w x y up =
 
 made_on : (core : Process) (a b c : QueuesState) (k n most : ℕ) → MakesFew core k a b → MakesFew core n b c → k + n ≤ most → MakesFew core most a c
 made_on core a b c k n most x y up = record {
+  least = λ width. let d = x.least width in let e = y.least width in omega (arith, d, e);
   few = λ widths distinct. let d = x.few widths distinct in let e = y.few widths distinct in omega (arith, d, e, up);
   others = λ width apart. let d = x.others width apart in let e = y.others width apart in omega (arith, d, e);
 }
@@ -371,6 +375,7 @@ spends_on a b c k n most x y up =
       code = y.code ∙ x.code;
       work = worked_on (queues_of a) (queues_of b) (queues_of c) k n most (greatest_cost_of a) x.work work up;
       blocks = made_on (core_in a) (queues_of a) (queues_of b) (queues_of c) k n most x.blocks blocks up;
+      queues = let first = x.queues in let then_ = y.queues in omega (arith, first, then_);
     }
 
 -- no more steps
@@ -389,6 +394,7 @@ rested_work a b c k x work =
 
 pub rested_blocks : (a b c : Machine) (k : ℕ) → SpendsAtMost k a b → KeepsBlocks (queues_of b).region (queues_of c).region → MakesFew (core_in a) k (queues_of a) (queues_of c)
 rested_blocks a b c k x keeps = record {
+  least = λ width. let d = x.blocks.least width in let e = keeps width in omega (arith, d, e);
   few = λ widths distinct. let d = x.blocks.few widths distinct in let e = total_kept (queues_of b) (queues_of c) widths keeps in omega (arith, d, e);
   others = λ width apart. let d = x.blocks.others width apart in let e = keeps width in omega (arith, d, e);
 }

@@ -13,16 +13,13 @@ use Rattle.pict_code.specs.ReadBack.{unleveled}
 use Rattle.pict_code.proofs.Closings.{part_under}
 use Rattle.pict_queue.specs.QueuesState.{IsQueue}
 use Rattle.pict_queue.specs.Contents.{contents}
-use Rattle.pict_heap.specs.HeapState.{HeapState, value_of}
-use Rattle.pict_heap.specs.declared.word.Word.{Word}
-use Rattle.pict_heap.specs.declared.word.Word.TheVariants as word
 use Rattle.pict_view.specs.Moved.{Misshapen}
 use Rattle.pict_view.proofs.Rows.{act}
 use Rattle.pict_blocks.specs.Blocks.{process_of}
 use Rattle.pict_blocks.proofs.Meeting.{inputs_stand, outputs_stand, is_input}
 use Rattle.pict_desk.specs.Known.{value_in, known, operand_value}
 use Rattle.pict_desk.proofs.Nodes.{op_is}
-use Rattle.pict_desk.specs.AtHand.{IsOfHeap, channel_named}
+use Rattle.pict_desk.specs.AtHand.{channel_named}
 use Rattle.pict_desk.specs.Arguments.{operand_in}
 use Rattle.pict_calls.specs.Calling.{CallsOn}
 use Rattle.pict_calls.proofs.Outputs.{node_calls}
@@ -32,7 +29,6 @@ use Rattle.pict_turns.specs.declared.store.Store.{Store}
 use Rattle.pict_turns.proofs.Numbered.{standing}
 use Rattle.pict_desk.proofs.Numbered.{place_low}
 use Rattle.pict_turns.proofs.Rows.{length_lists}
-use Rattle.pict_heap.proofs.Records.{record_is}
 use Rattle.pict_meetings.specs.Partners.{Receives}
 use Rattle.pict_meetings.proofs.Fitting.{right_acting, input_there, output_there}
 

@@ -129,6 +129,7 @@ module _ (core : Process) (old : Store) (heap : HeapState) (pending : Pending) (
     levels = d.levels;
     queues = d.queues;
     no_more = d.no_more;
+    no_loss = d.no_loss;
   }
 
   pub sends_grown : (channel : ℕ) (v : Val) (at : Span) (pair : ℕ × ℕ) → process_of core (value_in old.desk.heap) (acting_words core old) ≡ Out (Chan channel) v at → IsPair heap pair

@@ -118,17 +118,20 @@ module _ (core : Process) (s taken acted : Store) (g : GivesTurn core s taken) (
       subst (λ (ws : List ℕ). MakesOnly taken.queues acted.queues ((length words + 1) ∷ ws)) (heap ∙ stays ∙ total) makes
 
   pub running_needs : MakesOnly s.queues acted.queues (running_widths core s)
-  running_needs width =
-      let words = acting_words core taken in
-      let needed = first_widths core s (ready_words core s) in
-      let most = makes_more width in
-      let beside = many_beside width (length words + 1) needed in
-      let own : how_many width (turn_widths core taken) ≡ how_many width ((length words + 1) ∷ []) =
-      ap (λ (ws : List (List ℕ)). how_many width (map (λ (w : List ℕ). length w + 1) ws)) g.acting.has in
-      let free = g.freed width in
-      let both = many_append width (turn_widths core s) needed in
-      let before = g.blocks width in
-      omega (arith, most, beside, own, free, both, before)
+  running_needs = record {
+    least = λ width. let least = makes_more.least width in let before = g.blocks width in omega (arith, least, before);
+    most = λ width.
+        let words = acting_words core taken in
+        let needed = first_widths core s (ready_words core s) in
+        let most = makes_more.most width in
+        let beside = many_beside width (length words + 1) needed in
+        let own : how_many width (turn_widths core taken) ≡ how_many width ((length words + 1) ∷ []) =
+        ap (λ (ws : List (List ℕ)). how_many width (map (λ (w : List ℕ). length w + 1) ws)) g.acting.has in
+        let free = g.freed width in
+        let both = many_append width (turn_widths core s) needed in
+        let before = g.blocks width in
+        omega (arith, most, beside, own, free, both, before);
+  }
 
   -- and the turn is set down
   pub needed_whole : (last : Store) → s.turn ≡ Nobody → KeepsBlocks acted.queues.region last.queues.region → MakesOnly s.queues last.queues (needed_widths core s)

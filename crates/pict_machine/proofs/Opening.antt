@@ -1,8 +1,8 @@
 -- What a machine stands for before its first step.
-use Rattle.std.proofs.Common.{ℕ, ◌+◌, ◌-◌, ◌≤◌, ◌≡◌, ◌≢◌, Bool, true, false, cond, nat_lt, pos, inl, List, [], ◌∷◌, length, replicate, refl, sym, ap, ◌∙◌, subst, arith, rules, Option, Some, None, IsSome, ⊎_elim}
+use Rattle.std.proofs.Common.{ℕ, ◌+◌, ◌-◌, ◌≤◌, ◌≡◌, ◌≢◌, false, cond, nat_lt, inl, List, [], ◌∷◌, length, replicate, refl, sym, ap, ◌∙◌, subst, arith, Option, Some, None, IsSome, ⊎_elim}
 use Rattle.std.proofs.lemmas.Bool.{cases_eq, false≢true}
 use Rattle.std.proofs.lemmas.Option.{none-some}
-use Rattle.std.proofs.lemmas.List.{get_or-replicate, get_or_past, length-replicate}
+use Rattle.std.proofs.lemmas.List.{length-replicate}
 use Rattle.std.proofs.lemmas.Bool.Decides.{nat_tests}
 use Rattle.std.specs.List.{AllByRecursion, slice_get}
 use Rattle.pict_core.specs.Term.{Val, Process, Zero, Par, New, Out, In, If, Var}
@@ -21,7 +21,6 @@ use Rattle.pict_heap.specs.HeapState.{HeapState}
 use Rattle.std.specs.FinMap.{FinMap, get, empty, get-empty}
 use Rattle.std.specs.Ordering.{nat_cmp}
 use Rattle.pict_region.specs.RegionState.{RegionState, IsLive}
-use Rattle.pict_heap.specs.declared.word.Word.TheVariants as word
 use Rattle.pict_blocks.specs.Blocks.{node_process, process_of, view_of_contents}
 use Rattle.pict_desk.proofs.Pairs.{zeros_are_pairs}
 use Rattle.pict_view.specs.View.{StandsFor, KeepsApart}

@@ -231,7 +231,7 @@ module _ (old mid : Store) (width : ℕ) (r : OnlyReserves old mid) (makes : Mak
           let low = r.spare w in
           let same : live_blocks mid.queues.region w ≡ live_blocks old.queues.region w = ap (λ live. live_blocks (record old.queues.region { live = live }) w) r.live in
           let most : blocks mid.queues.region w ≤ blocks old.queues.region w + ((cond b 1 0 + 0) - spare old.queues.region w) =
-          subst (λ (t : Bool). blocks mid.queues.region w ≤ blocks old.queues.region w + ((cond t 1 0 + 0) - spare old.queues.region w)) test (makes w) in
+          subst (λ (t : Bool). blocks mid.queues.region w ≤ blocks old.queues.region w + ((cond t 1 0 + 0) - spare old.queues.region w)) test (makes.most w) in
           let free : cond b 1 0 + 0 ≤ spare old.queues.region w = some_free b test in
           omega (arith, low, same, most, free)
         where

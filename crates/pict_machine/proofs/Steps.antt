@@ -1,23 +1,27 @@
 -- A step of a machine that runs, by what the step of who has the turn does, and who has the turn set down afterwards.
-use Rattle.std.proofs.Common.{ℕ, ◌+◌, ◌≤◌, ◌≡◌, length, refl, sym, ◌∙◌, subst, arith, Result, Ok, Err, IfOk, OnErr}
+use Rattle.std.proofs.Common.{ℕ, ◌+◌, ◌≤◌, ◌≡◌, ◌≢◌, List, [], get_or, length, refl, sym, ap, ◌∙◌, subst, arith, ⊎_elim, Result, Ok, Err, IfOk, OnErr}
+use Rattle.std.proofs.lemmas.Bool.{cases_eq}
 use Rattle.std.specs.declared.alloc.AllocError.{AllocError}
 use Rattle.pict_syntax.specs.declared.span.Span.{Span}
 use Rattle.pict_core.specs.Configuration.{Configuration, IsConfiguration}
 use Rattle.pict_code.specs.Plain.{plain_code}
-use Rattle.pict_queue.specs.QueuesState.{IsHeld}
+use Rattle.pict_queue.specs.QueuesState.{IsHeld, LosesNoQueue}
 use Rattle.pict_queue.specs.Contents.{contents, KeepsOtherContents, HoldsNoMore}
 use Rattle.pict_heap.specs.HeapState.{HeapState, KeepsWords}
 use Rattle.pict_view.specs.View.{View, StandsFor, KeepsApart}
 use Rattle.pict_view.specs.Right.{IsRightFor}
 use Rattle.pict_view.specs.Stepping.{IsStepOf}
-use Rattle.pict_turns.specs.Acting.{IsStore, HasActing, IsRefused}
+use Rattle.pict_region.specs.RegionState.{spare}
+use Rattle.pict_prim.specs.Acts.{UsesNeed}
+use Rattle.pict_desk.specs.Needs.{no_need}
+use Rattle.pict_turns.specs.Acting.{IsStore, HasActing, IsRefused, KeepsSpare}
 use Rattle.pict_desk.specs.Room.{KeepsHeap}
-use Rattle.pict_turns.specs.Turns.{TakesTurn}
-use Rattle.pict_turns.specs.Views.{ready_words}
+use Rattle.pict_turns.specs.Turns.{TakesTurn, TakesOneBlock}
+use Rattle.pict_turns.specs.Views.{acting_words, ready_words}
 use Rattle.pict_turns.specs.declared.store.Store.{Store}
 use Rattle.pict_turns.specs.declared.turn.Turn.TheVariants.{Nobody}
 use Rattle.pict_desk.proofs.MakingRoom.{keeps_words}
-use Rattle.pict_turns.proofs.Turns.{words_nobody, view_nobody}
+use Rattle.pict_turns.proofs.Turns.{words_nobody, view_nobody, same_words}
 use Rattle.pict_desk.specs.Constants.{AreConstants}
 use Rattle.pict_machine.specs.Packed.{label_packed, trap_packed, IsPackedOf}
 use Rattle.pict_machine.specs.Machine.{core_in, view_of, running_view, heap_of, channels_of, IsMachine, IsRunning, IsUnchanged}
@@ -135,7 +139,24 @@ module _ (old : Machine) (taken new : Store) (given : GivesTurn (core_in old) ol
   done_event (packed.Print word) a = a.event
   done_event (packed.Trapped at) a = tt
 
+  -- no queue is lost
+  grown_queues : LosesNoQueue taken.queues new.queues → LosesNoQueue old.store.queues new.queues
+  grown_queues least = let count = given.queues in let left = given.spare_queues in omega (arith, count, left, least)
+
+  refused_queues : IsRefused (core_in old) taken new → LosesNoQueue old.store.queues new.queues
+  refused_queues r = let same = r.queues in let more = r.spare.queues in grown_queues (omega (arith, same, more))
+
+  done_queues : (e : PackedEvent) → Acts (core_in old) taken new e → LosesNoQueue old.store.queues new.queues
+  done_queues packed.Quiet a = grown_queues a.done.no_loss
+  done_queues (packed.Comm channel word) a = grown_queues a.done.no_loss
+  done_queues (packed.Print word) a = grown_queues a.done.no_loss
+  done_queues (packed.Trapped at) a = refused_queues a.1
+
   -- ---- both
+
+  pub step_queues : (r : Result PackedEvent AllocError) → IsStepBy (core_in old) taken new r → LosesNoQueue old.store.queues new.queues
+  step_queues (Ok e) a = done_queues e a
+  step_queues (Err e) b = refused_queues b
 
   pub step_ok : (r : Result PackedEvent AllocError) → IsStepBy (core_in old) taken new r
       → IfOk r (λ e. (C : Configuration) → IsConfiguration C → StandsFor (running_view old) C → IsStepOf C (label_packed new.desk.heap e) (trap_packed e) (running_view after))
@@ -170,14 +191,36 @@ module _ (old : Machine) (kept : IsMachine old) (taken acted new : Store) (actin
   last_view : view_of last ≡ running_view (record old { store = acted })
   last_view = rested_view (core_in old) acted new heap ready others count
 
-  unchanged : IsRefused (core_in old) taken acted → IsUnchanged old last
-  unchanged r = record {
+  -- a free block was taken back for who had the turn, and no more
+  spare_kept : TakesOneBlock acted.queues new.queues (length (acting_words (core_in old) acted) + 1) → IsRefused (core_in old) taken acted → KeepsSpare old.store new
+  spare_kept down r =
+      let width = length (acting_words (core_in old) acted) + 1 in
+      let same : length (acting_words (core_in old) taken) + 1 ≡ width =
+      ap (λ (ws : List (List ℕ)). length (get_or ws 0 []) + 1) (sym (same_words (core_in old) taken acted r.turn r.values)) in
+      let freed : spare taken.queues.region width ≡ spare old.store.queues.region width + 1 =
+      subst (λ (w : ℕ). spare taken.queues.region w ≡ spare old.store.queues.region w + 1) same t.freed in
+      record {
+        blocks = λ w. ⊎_elim
+            (λ (here : w ≡ width).
+            let more = r.spare.blocks width in
+            let back = down.own in
+            subst (λ (k : ℕ). spare old.store.queues.region k ≤ spare new.queues.region k) (sym here) (omega (arith, freed, more, back)))
+            (λ (apart : w ≢ width). let first = t.spare w in let more = r.spare.blocks w in let back = down.others w apart in omega (arith, first, more, back))
+            (cases_eq w width);
+        queues = let first = t.spare_queues in let more = r.spare.queues in let back = down.queues in omega (arith, first, more, back);
+        room = subst (λ (h : HeapState). UsesNeed (heap_of old).room h.room no_need) (sym heap)
+            (subst (λ (h : HeapState). UsesNeed h.room acted.desk.heap.room no_need) t.heap r.spare.room);
+      }
+
+  unchanged : TakesOneBlock acted.queues new.queues (length (acting_words (core_in old) acted) + 1) → IsRefused (core_in old) taken acted → IsUnchanged old last
+  unchanged down r = record {
     code = refl;
     constants = refl;
     queues = count ∙ r.queues ∙ t.queues;
     contents = refused_contents (core_in old) old.store taken acted new acting t r ready others;
     heap = subst (λ (h : HeapState). KeepsHeap (heap_of old) h) (sym heap) (subst (λ (h : HeapState). KeepsHeap h acted.desk.heap) t.heap r.heap);
     view = last_view ∙ still_view old taken acted given kept.running r ∙ idle_view old kept;
+    spare = spare_kept down r;
   }
 
   pub whole_ok : (r : Result PackedEvent AllocError) → IsStepBy (core_in old) taken acted r
@@ -191,15 +234,21 @@ module _ (old : Machine) (kept : IsMachine old) (taken acted new : Store) (actin
   pub whole_event : (r : Result PackedEvent AllocError) → IsStepBy (core_in old) taken acted r → IfOk r (IsPackedOf new.desk.heap)
   whole_event r s = subst (λ (h : HeapState). IfOk r (IsPackedOf h)) (sym heap) (step_event old taken acted given kept.running r s)
 
-  pub whole_trapped : (r : Result PackedEvent AllocError) → IsStepBy (core_in old) taken acted r → (at : Span) → r ≡ Ok (packed.Trapped at) → IsUnchanged old last
-  whole_trapped r s at e = let acts : IsStepBy (core_in old) taken acted (Ok (packed.Trapped at)) = subst (IsStepBy (core_in old) taken acted) e s in unchanged acts.1
+  pub whole_trapped : TakesOneBlock acted.queues new.queues (length (acting_words (core_in old) acted) + 1) → (r : Result PackedEvent AllocError) → IsStepBy (core_in old) taken acted r
+      → (at : Span) → r ≡ Ok (packed.Trapped at) → IsUnchanged old last
+  whole_trapped down r s at e = let acts : IsStepBy (core_in old) taken acted (Ok (packed.Trapped at)) = subst (IsStepBy (core_in old) taken acted) e s in unchanged down acts.1
 
-  pub whole_refused : (r : Result PackedEvent AllocError) → IsStepBy (core_in old) taken acted r → OnErr r (IsUnchanged old last)
-  whole_refused (Ok e) b = tt
-  whole_refused (Err e) b = unchanged b
+  pub whole_refused : TakesOneBlock acted.queues new.queues (length (acting_words (core_in old) acted) + 1) → (r : Result PackedEvent AllocError) → IsStepBy (core_in old) taken acted r
+      → OnErr r (IsUnchanged old last)
+  whole_refused down (Ok e) b = tt
+  whole_refused down (Err e) b = unchanged down b
 
   pub whole_keeps : (r : Result PackedEvent AllocError) → IsStepBy (core_in old) taken acted r → KeepsWords (heap_of old) new.desk.heap
   whole_keeps r s = subst (λ (h : HeapState). KeepsWords (heap_of old) h) (sym heap) (step_keeps old taken acted given kept.running r s)
+
+  pub whole_queues : TakesOneBlock acted.queues new.queues (length (acting_words (core_in old) acted) + 1) → (r : Result PackedEvent AllocError) → IsStepBy (core_in old) taken acted r
+      → LosesNoQueue old.store.queues new.queues
+  whole_queues down r s = let least = step_queues old taken acted given kept.running r s in let back = down.queues in omega (arith, least, count, back)
 
   pub whole_few : (r : Result PackedEvent AllocError) → IsStepBy (core_in old) taken acted r → channels_of last ≤ channels_of old + 1
   whole_few r s = let e = step_few old taken acted given kept.running r s in omega (arith, e, count)

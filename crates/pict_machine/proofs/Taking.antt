@@ -1,12 +1,12 @@
 -- From what the step of who has the turn does to what the machine stands for.
-use Rattle.std.proofs.Common.{ℕ, map, ◌<◌, ◌≤◌, ◌^◌, ◌==◌, Bool, true, false, cond, IsTrue, ◌↔◌, ◌+◌, ◌-◌, ◌≡◌, ◌≢◌, List, [], ◌∷◌, ◌++◌, length, refl, sym, ap, ◌∙◌, subst, arith, Some, inl, inr, ◌⊎◌, ⊎_elim}
+use Rattle.std.proofs.Common.{ℕ, map, ◌<◌, ◌≤◌, ◌^◌, ◌==◌, Bool, true, false, cond, ◌+◌, ◌-◌, ◌≡◌, ◌≢◌, List, [], ◌∷◌, ◌++◌, length, refl, sym, ap, ◌∙◌, subst, arith, Some, inl, inr, ◌⊎◌, ⊎_elim}
 use Rattle.std.proofs.lemmas.Bool.{cases_eq}
 use Rattle.std.proofs.lemmas.Bool.Decides.{nat_tests}
 use Rattle.std.specs.List.{slice_get}
 use Rattle.pict_syntax.specs.declared.span.Span.{Span}
 use Rattle.pict_core.specs.Term.{Val, Process}
 use Rattle.pict_core.specs.Configuration.{Configuration, IsConfiguration}
-use Rattle.pict_core.specs.Step.{Label, Traps, Finished, next}
+use Rattle.pict_core.specs.Step.{Label, Traps, next}
 use Rattle.pict_code.specs.Instruction.{Op, Node as AnyNode}
 use Rattle.pict_code.specs.Nodes.{nodes_of}
 use Rattle.pict_code.specs.Plain.{plain_node}
@@ -51,6 +51,7 @@ turn_given core s store some = record {
   ready = refl;
   others = λ queue apart. refl;
   queues = refl;
+  spare_queues = refl;
   heap = refl;
   no_more = λ block held. held;
   blocks = λ width. refl;
@@ -92,6 +93,7 @@ module _ (core : Process) (s taken : Store) (idle : s.turn ≡ turn.Nobody) (act
     ready = words_ready core taken (acting_words core taken) acting.has ∙ sym t.first ∙ sym (ready_nobody core s (words_nobody core s idle));
     others = t.others;
     queues = t.queues;
+    spare_queues = t.spare_queues;
     heap = t.heap;
     no_more = t.no_more;
     blocks = t.blocks;

@@ -3,8 +3,8 @@ use Rattle.std.specs.Prelude.{ℕ, ◌≡◌, ◌≤◌, ◌+◌, ◌*◌, ◌�
 use Rattle.pict_core.specs.Term.{Process}
 use Rattle.pict_code.specs.Instruction.{Node}
 use Rattle.pict_code.specs.Nodes.{nodes_of}
-use Rattle.pict_queue.specs.QueuesState.{QueuesState, CostsAtMost}
-use Rattle.pict_region.specs.RegionState.{RegionState, blocks}
+use Rattle.pict_queue.specs.QueuesState.{QueuesState, CostsAtMost, LosesNoQueue}
+use Rattle.pict_region.specs.RegionState.{RegionState, blocks, LosesNoBlock}
 use Rattle.pict_turns.specs.Cost.{instruction_size}
 use Rattle.pict_turns.specs.Widths.{how_many, part_width}
 use Rattle.pict_machine.specs.Machine.{core_in, queues_of}
@@ -34,13 +34,15 @@ total_blocks r [] = 0
 total_blocks r (w ∷ ws) = blocks r w + total_blocks r ws
 
 -- There are at most three blocks more for each of these steps, of all widths together: of any list of widths in which none stands
--- twice. There are none more of a width that the code doesn't have.
+-- twice. There are none more of a width that the code doesn't have. None is lost.
 pub record MakesFew (core : Process) (steps : ℕ) (old new : QueuesState) : Type 0 where
+  pub least : LosesNoBlock old.region new.region
   pub few : (widths : List ℕ) → ((width : ℕ) → how_many width widths ≤ 1) → total_blocks new.region widths ≤ total_blocks old.region widths + 3 * steps
   pub others : (width : ℕ) → ¬ IsWidthIn core width → blocks new.region width ≤ blocks old.region width
 
--- So many steps of a machine's code have cost at most what they may, and made at most the blocks that they may.
+-- So many steps of a machine's code have cost at most what they may, made at most the blocks that they may, and lost no queue.
 pub record SpendsAtMost (steps : ℕ) (old new : Machine) : Type 0 where
   pub code : new.code ≡ old.code
   pub work : CostsAtMost (steps * greatest_cost_of old) (queues_of old) (queues_of new)
   pub blocks : MakesFew (core_in old) steps (queues_of old) (queues_of new)
+  pub queues : LosesNoQueue (queues_of old) (queues_of new)

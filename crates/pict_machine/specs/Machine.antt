@@ -7,7 +7,7 @@ use Rattle.pict_heap.specs.HeapState.{HeapState}
 use Rattle.pict_queue.specs.QueuesState.{QueuesState, IsHeld}
 use Rattle.pict_queue.specs.Contents.{KeepsAllContents}
 use Rattle.pict_view.specs.View.{View, KeepsApart}
-use Rattle.pict_turns.specs.Acting.{IsStore}
+use Rattle.pict_turns.specs.Acting.{IsStore, KeepsSpare}
 use Rattle.pict_desk.specs.Room.{KeepsHeap}
 use Rattle.pict_desk.specs.Code.{IsCode}
 use Rattle.pict_turns.specs.Cost.{step_cost, first_cost}
@@ -82,7 +82,8 @@ pub record IsMachine (m : Machine) : Type 0 where
   pub running : IsRunning m
   pub idle : m.store.turn ≡ Nobody
 
--- Nothing has changed but room, spare blocks, work, and the values of levels, which count only while somebody has the turn.
+-- Nothing has changed but room, spare blocks, work, and the values of levels, which count only while somebody has the turn. Nothing
+-- that is spare is thrown away.
 pub record IsUnchanged (old new : Machine) : Type 0 where
   pub code : new.code ≡ old.code
   pub constants : new.constants ≡ old.constants
@@ -90,3 +91,4 @@ pub record IsUnchanged (old new : Machine) : Type 0 where
   pub contents : KeepsAllContents old.store.queues new.store.queues
   pub heap : KeepsHeap (heap_of old) (heap_of new)
   pub view : view_of new ≡ view_of old
+  pub spare : KeepsSpare old.store new.store

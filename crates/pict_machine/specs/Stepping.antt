@@ -27,6 +27,7 @@ pub record GivesTurn (core : Process) (old new : Store) : Type 0 where
   pub ready : ready_words core new ≡ ready_words core old
   pub others : KeepsOtherContents old.queues new.queues 0
   pub queues : length new.queues.queues ≡ length old.queues.queues
+  pub spare_queues : new.queues.spare_queues ≡ old.queues.spare_queues
   pub heap : new.desk.heap ≡ old.desk.heap
   pub no_more : HoldsNoMore old.queues new.queues
   pub blocks : KeepsBlocks old.queues.region new.queues.region

@@ -7,7 +7,7 @@ ghost use Rattle.pict_view.specs.Right.{IsRightFor};
 ghost use Rattle.pict_view.specs.Stepping.{IsStepOf};
 ghost use Rattle.pict_view.specs.View.{StandsFor};
 ghost use Rattle.pict_region.specs.RegionState.{KeepsBlocks};
-ghost use Rattle.pict_queue.specs.QueuesState.{CostsAtMost};
+ghost use Rattle.pict_queue.specs.QueuesState.{CostsAtMost, LosesNoQueue};
 ghost use Rattle.pict_turns.specs.Acting.{IsStore};
 ghost use Rattle.pict_desk.specs.Code.{core_in, IsCode};
 ghost use Rattle.pict_turns.specs.Views.{view_with_turn};
@@ -67,11 +67,12 @@ impl Machine {
     /// The event is the label of the oldest-first step, for each configuration that the machine stands for, by words of the
     /// heap, and the machine stands for the next configuration. `Trapped` comes exactly where the step divides by zero. The
     /// only error is want of memory. After a trap or an error nothing has changed but room, spare blocks, work, and the values
-    /// of levels, which count for nothing between two calls, so the step can be tried again.
+    /// of levels, which count for nothing between two calls, so the step can be tried again. There are no fewer free blocks of any
+    /// width then, no fewer spare queues, and no less room in the heap.
     ///
     /// Whatever the answer, the work of the queues rises by at most 64 times the sizes of the acting instruction and of its
     /// partner's, however many processes wait. Blocks are made only where fewer are free than the step needs, and then only as
-    /// many as are wanting. Where a message and an input that isn't replicated meet, what is sent is no operand that is a text or
+    /// many as are wanting, and neither a block nor a queue is lost. Where a message and an input that isn't replicated meet, what is sent is no operand that is a text or
     /// a record with a variable, and the block of the input's part is as wide as a free one or one of the two that meet, no memory
     /// is taken.
     ///
@@ -95,6 +96,7 @@ impl Machine {
         ensures plain { MeetsPlainly self.old
             → IsOk result × KeepsBlocks (queues_of self.old).region (queues_of self.new).region }
         ensures channels { channels_of self.new ≤ channels_of self.old + 1 }
+        ensures queues { LosesNoQueue (queues_of self.old) (queues_of self.new) }
     {
         match self.step_packed() {
             Ok(event) => Ok(event.unpacked()),
@@ -120,6 +122,7 @@ impl Machine {
         ensures plain { MeetsPlainly self.old
             → IsOk result × KeepsBlocks (queues_of self.old).region (queues_of self.new).region }
         ensures channels { channels_of self.new ≤ channels_of self.old + 1 }
+        ensures queues { LosesNoQueue (queues_of self.old) (queues_of self.new) }
     {
         take_turn(&mut self.store, &self.code.nodes);
         let result = act(&self.code.nodes, &self.constants, &mut self.store);
@@ -157,6 +160,7 @@ impl Machine {
         ensures plain { RunsPlainly self.old
             → IsOk result × KeepsBlocks (queues_of self.old).region (queues_of self.new).region }
         ensures channels { channels_of self.new ≤ channels_of self.old + 1 }
+        ensures queues { LosesNoQueue (queues_of self.old) (queues_of self.new) }
         ensures code { self.new.code ≡ self.old.code }
     {
         ensure_turn(&mut self.store, &self.code.nodes);
@@ -219,6 +223,7 @@ impl Machine {
         ensures work { CostsAtMost (greatest_cost_of self.old) (queues_of self.old) (queues_of self.new) }
         ensures blocks { KeepsBlocks (queues_of self.old).region (queues_of self.new).region }
         ensures channels { channels_of self.new ≡ channels_of self.old }
+        ensures queues { LosesNoQueue (queues_of self.old) (queues_of self.new) }
     {
         return_turn(&mut self.store, &self.code.nodes);
     }

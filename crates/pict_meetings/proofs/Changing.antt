@@ -5,7 +5,7 @@ use Rattle.std.specs.List.{AllByRecursion, slice_set}
 use Rattle.pict_core.specs.Step.{Label}
 use Rattle.pict_core.specs.Term.{Process}
 use Rattle.pict_heap.specs.HeapState.{KeepsWords}
-use Rattle.pict_queue.specs.QueuesState.{QueuesState, IsQueue}
+use Rattle.pict_queue.specs.QueuesState.{QueuesState, IsQueue, LosesNoQueue}
 use Rattle.pict_queue.specs.Contents.{contents, HoldsNoMore}
 use Rattle.pict_blocks.specs.Laws.{BlocksStep}
 use Rattle.pict_desk.specs.Pairs.{ArePairs}
@@ -82,8 +82,8 @@ module _ (core : Process) (old new : Store) (channel : ℕ) (ready waiting : Lis
 
   pub done : (label : Label) → AllByRecursion (IsBlock core new.desk.heap) ready → AllByRecursion (IsBlock core new.desk.heap) waiting → AllByRecursion (CanWait core) waiting
       → BlocksStep core new.desk.heap (acting_words core old ∷ contents old.queues 0) (channel_lists old.queues) label ready (slice_set (channel_lists old.queues) channel waiting)
-      → HoldsNoMore old.queues new.queues → IsDone core old new label
-  done label r w can step no_more =
+      → HoldsNoMore old.queues new.queues → LosesNoQueue old.queues new.queues → IsDone core old new label
+  done label r w can step no_more no_loss =
       done_by core old new acting changes.keeps ready (slice_set (channel_lists old.queues) channel waiting) label step changes.ready_are (sym channels_after)
       (store_by core old new acting.store changes.keeps (omega (arith, acting.store.ready, changes.queues)) (blocks_after r w) (waiting_after can) changes.pairs changes.levels changes.turn changes.room)
-      changes.levels (omega (arith, changes.queues)) no_more
+      changes.levels (omega (arith, changes.queues)) no_more no_loss

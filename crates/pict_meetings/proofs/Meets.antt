@@ -13,7 +13,7 @@ use Rattle.pict_code.specs.ReadBack.{unleveled}
 use Rattle.pict_blocks.specs.Keeping.{kept_words}
 use Rattle.pict_desk.specs.declared.kept.Kept.{Kept}
 use Rattle.pict_heap.specs.HeapState.{HeapState, KeepsWords}
-use Rattle.pict_queue.specs.QueuesState.{IsQueue}
+use Rattle.pict_queue.specs.QueuesState.{IsQueue, LosesNoQueue}
 use Rattle.pict_queue.specs.Contents.{contents, KeepsOtherContents, HoldsNoMore}
 use Rattle.pict_view.specs.Moved.{if_replicated}
 use Rattle.pict_desk.specs.Binding.{levels_of, BindsPattern}
@@ -106,8 +106,8 @@ module _ (core : Process) (old mid new : Store) (channel part : ℕ) (replicated
       (made_node core old.desk.heap new.desk.heap keeps mid.desk.values.items pairs part node readies.held at holds)
       (contents old.queues 0) (channel_lists old.queues) (channel_there old.queues channel there ∙ ap Some list)
 
-  pub message_met : HoldsNoMore old.queues new.queues → IsDone core old new (Comm channel (value_in new.desk.heap kept.message.0 kept.message.1))
-  message_met no_more =
+  pub message_met : HoldsNoMore old.queues new.queues → LosesNoQueue old.queues new.queues → IsDone core old new (Comm channel (value_in new.desk.heap kept.message.0 kept.message.1))
+  message_met no_more no_loss =
       let blocks = subst (AllByRecursion (IsBlock core old.desk.heap)) list (acting.store.blocks (channel + 1)) in
       let waiting = subst (AllByRecursion (CanWait core)) list (acting.store.waiting channel) in
       done core old new channel (if_replicated replicated (acting_words core old) ++ (contents old.queues 0 ++ (suc part ∷ readies.held) ∷ [])) rest
@@ -116,7 +116,7 @@ module _ (core : Process) (old mid new : Store) (channel part : ℕ) (replicated
       (block_stays old.desk.heap new.desk.heap keeps core (acting_words core old) (acting_block core old acting))
       (all_pushed (IsBlock core new.desk.heap) (contents old.queues 0) (suc part ∷ readies.held) (ready_stay core old new acting.store keeps)
       (made_block core new.desk.heap (known old.desk.heap mid.desk.values.items) part node readies.held at holds)))
-      (blocks_stay old.desk.heap new.desk.heap keeps core rest blocks.1) waiting.1 step no_more
+      (blocks_stay old.desk.heap new.desk.heap keeps core rest blocks.1) waiting.1 step no_more no_loss
 
 -- The oldest input at the channel takes what who has the turn sends: `taken` is the store once the input's frame is read,
 -- `mid` once the input's block is behind the others or has ended and the message is bound, and `new` once the part is ready.
@@ -185,8 +185,8 @@ module _ (core : Process) (old taken mid new : Store) (channel number part : ℕ
       (made_node core old.desk.heap new.desk.heap served_keeps mid.desk.values.items pairs part node readies.held at part_holds)
       (contents old.queues 0) (channel_lists old.queues) (channel_there old.queues channel there ∙ ap Some stood)
 
-  pub reader_met : HoldsNoMore old.queues new.queues → IsDone core old new (Comm channel (value_in new.desk.heap message.0 message.1))
-  reader_met no_more =
+  pub reader_met : HoldsNoMore old.queues new.queues → LosesNoQueue old.queues new.queues → IsDone core old new (Comm channel (value_in new.desk.heap message.0 message.1))
+  reader_met no_more no_loss =
       let acting = sends.acting in
       let words = reads.words in
       let rest = reads.others in
@@ -197,4 +197,4 @@ module _ (core : Process) (old taken mid new : Store) (channel number part : ℕ
       (made_block core new.desk.heap (known old.desk.heap mid.desk.values.items) part node readies.held at part_holds))
       (all_behind (IsBlock core new.desk.heap) replicated words rest blocks.0 blocks.1)
       (all_behind (CanWait core) replicated words rest stood_waiting.0 stood_waiting.1)
-      served_step no_more
+      served_step no_more no_loss

@@ -12,7 +12,7 @@ use Rattle.pict_desk.specs.declared.kept.Kept.{Kept}
 use Rattle.pict_heap.specs.HeapState.{HeapState}
 use Rattle.pict_heap.specs.Packed.{packed}
 use Rattle.pict_heap.specs.declared.word.Word.TheVariants as word
-use Rattle.pict_queue.specs.QueuesState.{QueuesState, IsQueue}
+use Rattle.pict_queue.specs.QueuesState.{QueuesState, IsQueue, LosesNoQueue}
 use Rattle.pict_queue.specs.Contents.{contents, KeepsOtherContents, HoldsNoMore}
 use Rattle.pict_view.proofs.Rows.{BeginsWithMessage, BeginsWithReader, output_parks, input_parks}
 use Rattle.pict_blocks.specs.Blocks.{process_of}
@@ -82,7 +82,7 @@ module _ (core : Process) (h : HeapState) (words waiting : List ℕ) (ready : Li
 
 module _ (core : Process) (s : Store) (q : QueuesState) (channel : ℕ) (waiting : List ℕ) (acting : HasActing core s) (there : IsQueue s.queues (channel + 1))
     (pushed : contents q (channel + 1) ≡ contents s.queues (channel + 1) ++ waiting ∷ []) (others : KeepsOtherContents s.queues q (channel + 1)) (many : length q.queues ≡ length s.queues.queues)
-    (no_more : HoldsNoMore s.queues q) where
+    (no_more : HoldsNoMore s.queues q) (no_loss : LosesNoQueue s.queues q) where
   one_more : Changes core s (record s { queues = q; turn = Nobody }) channel (contents s.queues 0) (contents s.queues (channel + 1) ++ waiting ∷ [])
   one_more = record {
     ready_are = others 0 (λ e. omega (arith, e));
@@ -105,7 +105,7 @@ module _ (core : Process) (s : Store) (q : QueuesState) (channel : ℕ) (waiting
       (acting.store.blocks 0)
       (all_pushed (IsBlock core s.desk.heap) (contents s.queues (channel + 1)) waiting (acting.store.blocks (channel + 1)) is)
       (all_pushed (CanWait core) (contents s.queues (channel + 1)) waiting (acting.store.waiting channel) can)
-      step no_more
+      step no_more no_loss
 
   -- it is an output of kept values, as who had the turn is an output
   pub output_done : (v : Val) (at : Span) → process_of core (value_in s.desk.heap) (acting_words core s) ≡ Out (Chan channel) v at
@@ -118,13 +118,13 @@ module _ (core : Process) (s : Store) (q : QueuesState) (channel : ℕ) (waiting
 -- who had the turn waits itself
 module _ (core : Process) (s : Store) (q : QueuesState) (channel : ℕ) (there : IsQueue s.queues (channel + 1))
     (pushed : contents q (channel + 1) ≡ contents s.queues (channel + 1) ++ acting_words core s ∷ []) (others : KeepsOtherContents s.queues q (channel + 1)) (many : length q.queues ≡ length s.queues.queues)
-    (no_more : HoldsNoMore s.queues q) where
+    (no_more : HoldsNoMore s.queues q) (no_loss : LosesNoQueue s.queues q) where
   pub kept_done : SendsKept core s channel → NoInputWaits s.queues channel → IsDone core s (record s { queues = q; turn = Nobody }) Quiet
   kept_done sends none =
       let k = sends.kept.kept in
       let is : process_of core (value_in s.desk.heap) (acting_words core s) ≡ Out (Chan channel) (value_in s.desk.heap k.message.0 k.message.1) k.at =
       ap (process_of core (value_in s.desk.heap)) sends.kept.is ∙ ap (λ v. Out v (value_in s.desk.heap k.message.0 k.message.1) k.at) sends.to in
-      output_done core s q channel (acting_words core s) sends.acting there pushed others many no_more (value_in s.desk.heap k.message.0 k.message.1) k.at is sends.kept is none
+      output_done core s q channel (acting_words core s) sends.acting there pushed others many no_more no_loss (value_in s.desk.heap k.message.0 k.message.1) k.at is sends.kept is none
 
   pub input_done : (replicated : Bool) (pattern : CodePat) (part : ℕ) → Receives core s channel replicated pattern part → NoOutputWaits s.queues channel
       → IsDone core s (record s { queues = q; turn = Nobody }) Quiet
@@ -134,15 +134,15 @@ module _ (core : Process) (s : Store) (q : QueuesState) (channel : ℕ) (there :
       let stands = inputs_stand core s.desk.heap s.desk.values.items a.number part replicated r.chan pattern a.node words r.closed a.is a.op_is in
       let is : process_of core (value_in s.desk.heap) words ≡ In (Chan channel) replicated (unleveled pattern) stands.0 = stands.1 ∙ ap (λ v. In v replicated (unleveled pattern) stands.0) r.from in
       let at : IsInputAt core a.number = record { node = a.node; at = a.is.at; replicated = replicated; chan = r.chan; pattern = pattern; part = part; is = a.op_is } in
-      waits core s q channel words a.acting there pushed others many no_more (acting_block core s a.acting) (subst (CanWait core) (sym a.is.words_are) at)
+      waits core s q channel words a.acting there pushed others many no_more no_loss (acting_block core s a.acting) (subst (CanWait core) (sym a.is.words_are) at)
       (input_waits core s.desk.heap words words (contents s.queues 0) s.queues channel there replicated (unleveled pattern) stands.0 is is (a.acting.store.waiting channel) none)
 
 -- who had the turn ends, and one of an output of kept values waits in its place
 module _ (core : Process) (s : Store) (q : QueuesState) (channel : ℕ) (message : ℕ × ℕ) (at : Span) (k : Kept) (there : IsQueue s.queues (channel + 1))
     (to : packed (word.Chan channel) ≡ k.to) (same_message : k.message ≡ message) (same_at : k.at ≡ at) (number : channel < 2 ^ 32) (fits : FitsKept k) where
   pub sent_done : Sends core s channel message at → contents q (channel + 1) ≡ contents s.queues (channel + 1) ++ kept_words k ∷ [] → KeepsOtherContents s.queues q (channel + 1)
-      → length q.queues ≡ length s.queues.queues → HoldsNoMore s.queues q → NoInputWaits s.queues channel → IsDone core s (record s { queues = q; turn = Nobody }) Quiet
-  sent_done sends pushed others many no_more none =
+      → length q.queues ≡ length s.queues.queues → HoldsNoMore s.queues q → LosesNoQueue s.queues q → NoInputWaits s.queues channel → IsDone core s (record s { queues = q; turn = Nobody }) Quiet
+  sent_done sends pushed others many no_more no_loss none =
       let h = s.desk.heap in
       let kept : IsKept h (kept_words k) = record {
         kept = k;
@@ -154,4 +154,4 @@ module _ (core : Process) (s : Store) (q : QueuesState) (channel : ℕ) (message
       let same : process_of core (value_in h) (kept_words k) ≡ Out (Chan channel) (value_in h message.0 message.1) at =
       ap (λ v. Out v (value_in h k.message.0 k.message.1) k.at) (value_packed h (word.Chan channel) k.to number to)
       ∙ ap (λ (p : ℕ × ℕ). Out (Chan channel) (value_in h p.0 p.1) k.at) same_message ∙ ap (Out (Chan channel) (value_in h message.0 message.1)) same_at in
-      output_done core s q channel (kept_words k) sends.acting there pushed others many no_more (value_in h message.0 message.1) at sends.is kept same none
+      output_done core s q channel (kept_words k) sends.acting there pushed others many no_more no_loss (value_in h message.0 message.1) at sends.is kept same none

@@ -27,6 +27,7 @@ pub(crate) fn wait_behind(queues: &mut Queues, block: Block, channel: u32)
     ensures blocks { KeepsBlocks queues.old.region queues.new.region }
     ensures free { queues.new.region.free ≡ queues.old.region.free }
     ensures queues { length queues.new.queues ≡ length queues.old.queues }
+    ensures spare_queues { queues.new.spare_queues ≡ queues.old.spare_queues }
     ensures cost { CostsAtMost 2 queues.old queues.new }
 {
     queues.push_back(queue_of(channel), block);

@@ -39,6 +39,7 @@ fn make_last(store: &mut Store, stays: bool, number: u32, frame: &[u32])
     ensures alone { stays ≡ false → (core : Process) → HasFrame (nodes_of core) number frame.now
         → IsLast core (record store.old { turn = Turn.Nobody }) store.new number frame.now }
     ensures no_more { HoldsNoMore store.old.queues store.new.queues }
+    ensures spare_queues { store.new.queues.spare_queues ≡ store.old.queues.spare_queues }
     ensures blocks { KeepsBlocks store.old.queues.region store.new.queues.region }
     ensures cost { CostsAtMost (block_width frame.now + 2) store.old.queues store.new.queues }
 {

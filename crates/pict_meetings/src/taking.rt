@@ -33,6 +33,7 @@ pub(crate) fn take_message(queues: &mut Queues, channel: u32) -> (u64, u64)
     ensures blocks { KeepsBlocks queues.old.region queues.new.region }
     ensures spare { (width : ℕ) → spare queues.old.region width ≤ spare queues.new.region width }
     ensures queues { length queues.new.queues ≡ length queues.old.queues }
+    ensures spare_queues { queues.new.spare_queues ≡ queues.old.spare_queues }
     ensures cost { CostsAtMost 5 queues.old queues.new }
 {
     match queues.pop_front(queue_of(channel)) {
@@ -73,6 +74,7 @@ fn go_behind(queues: &mut Queues, channel: u32)
     ensures blocks { KeepsBlocks queues.old.region queues.new.region }
     ensures spare { (width : ℕ) → spare queues.new.region width ≡ spare queues.old.region width }
     ensures queues { length queues.new.queues ≡ length queues.old.queues }
+    ensures spare_queues { queues.new.spare_queues ≡ queues.old.spare_queues }
     ensures cost { CostsAtMost 4 queues.old queues.new }
 {
     let queue = queue_of(channel);
@@ -93,6 +95,7 @@ pub(crate) fn settle(queues: &mut Queues, channel: u32, replicated: bool)
     ensures spare { (width : ℕ) → spare queues.new.region width
         ≡ spare queues.old.region width + (if replicated then 0 else as_wide width (first_words queues.old (channel + 1) ∷ [])) }
     ensures queues { length queues.new.queues ≡ length queues.old.queues }
+    ensures spare_queues { queues.new.spare_queues ≡ queues.old.spare_queues }
     ensures cost { CostsAtMost 4 queues.old queues.new }
 {
     let queue = queue_of(channel);

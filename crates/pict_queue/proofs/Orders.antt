@@ -14,8 +14,9 @@ use Rattle.pict_region.specs.Chain.{chain}
 use Rattle.pict_region.specs.RegionState.{RegionState, IsLive, width_of}
 use Rattle.pict_region.proofs.Chains.{StandsIn, IsAbsent, stands_apart, stands_first, stands_later, chain-length, chain-same, distinct_rest, distinct_absent, distinct_more}
 use Rattle.pict_queue.specs.QueuesState.{QueueState, QueuesState, link_of, no_queue, list_of, IsHeld, HasEachBlockOnce}
-use Rattle.pict_queue.specs.Threads.{state_of, queue_in, thread, IsThreaded}
-use Rattle.pict_queue.specs.declared.queues.Queue.{Queue}
+use Rattle.pict_queue.specs.Threads.{state_of, thread, IsThreaded}
+use Rattle.pict_queue.specs.Ends.{queue_in, ends_of}
+use Rattle.pict_queue.specs.declared.ends.Queue.{Queue}
 use Rattle.pict_queue.specs.declared.queues.Queues.TheInside.{Inside}
 use Rattle.pict_queue.proofs.Links.{LinksBlock, thread_kept, chain_pushed, last_stands}
 
@@ -32,10 +33,10 @@ queue_seen queues number = ⊎_elim
     ∙ sym (ap (λ q. let seen : QueueState = record { first = q.first; count = q.length } in seen) (get_or_past queues number (record { first = 0; last = 0; length = 0 }) past)))
     (cases_lt number (length queues))
 
-pub list_is : (a : Inside) (queue : ℕ) → list_of (state_of a) queue ≡ thread a.region a.queues.items queue
-list_is a queue = ap (λ q. chain (link_of a.region) q.first q.count) (queue_seen a.queues.items queue)
+pub list_is : (a : Inside) (queue : ℕ) → list_of (state_of a) queue ≡ thread a.region a.ends.queues.items queue
+list_is a queue = ap (λ q. chain (link_of a.region) q.first q.count) (queue_seen a.ends.queues.items queue)
 
-pub once_seen : (a : Inside) → IsThreaded a.region a.queues.items → HasEachBlockOnce (state_of a)
+pub once_seen : (a : Inside) → IsThreaded a.region a.ends.queues.items → HasEachBlockOnce (state_of a)
 once_seen a threaded = record {
   live = λ queue block stands. threaded.live queue block (subst (λ ns. StandsIn ns block) (list_is a queue) stands);
   once = λ queue. subst (IsDistinct eqb) (sym (list_is a queue)) (threaded.once queue);
@@ -48,19 +49,19 @@ pub record StandsApart (r : RegionState) (queues : List Queue) (block : ℕ) : T
   pub live : IsLive r block
   pub absent : (queue : ℕ) → IsAbsent (thread r queues queue) block
 
-pub apart_if_held : (a : Inside) (s : QueuesState) (block : ℕ) → state_of a ≡ s → IsHeld s block → StandsApart a.region a.queues.items block
+pub apart_if_held : (a : Inside) (s : QueuesState) (block : ℕ) → state_of a ≡ s → IsHeld s block → StandsApart a.region a.ends.queues.items block
 apart_if_held a s block is held =
     let here : IsHeld (state_of a) block = subst (λ t. IsHeld t block) (sym is) held in
     record {
       live = here.live;
-      absent = λ queue. false_from_ne_true (list_any (eqb block) (thread a.region a.queues.items queue)) (λ stands.
+      absent = λ queue. false_from_ne_true (list_any (eqb block) (thread a.region a.ends.queues.items queue)) (λ stands.
           here.apart queue (subst (λ ns. StandsIn ns block) (sym (list_is a queue)) stands));
     }
 
-pub held_if_apart : (a : Inside) (block : ℕ) → StandsApart a.region a.queues.items block → IsHeld (state_of a) block
+pub held_if_apart : (a : Inside) (block : ℕ) → StandsApart a.region a.ends.queues.items block → IsHeld (state_of a) block
 held_if_apart a block apart = record {
   live = apart.live;
-  apart = λ queue stands. both_ways (list_any (eqb block) (thread a.region a.queues.items queue)) (apart.absent queue)
+  apart = λ queue stands. both_ways (list_any (eqb block) (thread a.region a.ends.queues.items queue)) (apart.absent queue)
       (subst (λ ns. StandsIn ns block) (list_is a queue) stands);
 }
 
@@ -182,15 +183,17 @@ length_fits r queues number block threaded apart =
     let at_most : length all ≤ 2 ^ 32 - 1 = length-le_from_distinct_below all (2 ^ 32 - 1) distinct (λ q stands. threaded.small q (live q stands)) in
     omega (arith, at_most, chain-length (link_of r) queue.first queue.length)
 
--- the queue, or where it is empty, the ends that it gets by one block
-abbrev pub ends_of : Queue → ℕ → Queue
-ends_of queue block = cond (eqb queue.length 0) (record { first = block; last = block; length = 0 }) queue
-
 ends_more : (queue : Queue) (block : ℕ) → 0 < queue.length → ends_of queue block ≡ queue
 ends_more queue block some = cond-false (eqb queue.length 0) (record { first = block; last = block; length = 0 }) queue (ne_eqb queue.length 0 (λ e. omega (arith, e, some)))
 
 ends_none : (queue : Queue) (block : ℕ) → queue.length ≡ 0 → ends_of queue block ≡ record { first = block; last = block; length = 0 }
 ends_none queue block none = cond-true (eqb queue.length 0) (record { first = block; last = block; length = 0 }) queue (eq-eqb queue.length 0 none)
+
+pub ends_length : (queue : Queue) (block : ℕ) → (ends_of queue block).length ≡ queue.length
+ends_length queue block = ⊎_elim
+    (λ none. ap (λ (q : Queue). q.length) (ends_none queue block none) ∙ sym none)
+    (λ ne. ap (λ (q : Queue). q.length) (ends_more queue block (omega (arith, ne))))
+    (cases_eq queue.length 0)
 
 pushed : (r r' : RegionState) (first last count block : ℕ) → IsDistinct eqb (chain (link_of r) first count)
     → (0 < count → get_or (chain (link_of r) first count) (count - 1) 0 ≡ last)
@@ -271,6 +274,11 @@ pushed_back r r' queues number block queue ends threaded inside apart queue_is e
       others = others;
     }
 
+-- a chain of no number begins anywhere
+chain_from : (next : ℕ → ℕ) (first other count : ℕ) → (0 < count → first ≡ other) → chain next first count ≡ chain next other count
+chain_from next first other zero same = refl
+chain_from next first other (suc count) same = ap (λ n. chain next n (suc count)) (same (omega arith))
+
 pub record PushesFront (r r' : RegionState) (queues queues' : List Queue) (number block : ℕ) : Type 0 where
   pub threaded : IsThreaded r' queues'
   pub list : thread r' queues' number ≡ block ∷ thread r queues number
@@ -278,17 +286,19 @@ pub record PushesFront (r r' : RegionState) (queues queues' : List Queue) (numbe
 
 pub pushed_front : (r r' : RegionState) (queues : List Queue) (number block : ℕ) (queue ends : Queue) → IsThreaded r queues → number < length queues → StandsApart r queues block
     → queue ≡ queue_in queues number → ends ≡ ends_of queue block
-    → LinksBlock r r' block queue.first
+    → LinksBlock r r' block ends.first
     → PushesFront r r' queues (set queues number (record { first = block; last = ends.last; length = queue.length + 1 })) number block
 pushed_front r r' queues number block queue ends threaded inside apart queue_is ends_are links =
     let old : List ℕ = thread r queues number in
     let new : Queue = record { first = block; last = ends.last; length = queue.length + 1 } in
-    let kept = λ (q : ℕ). thread_kept r r' block queue.first (queue_in queues q).first (queue_in queues q).length links (apart.absent q) in
+    let kept = λ (q : ℕ). thread_kept r r' block ends.first (queue_in queues q).first (queue_in queues q).length links (apart.absent q) in
     let others : (other : ℕ) → other ≢ number → thread r' (set queues number new) other ≡ thread r queues other = λ other ne.
     ap (λ q. chain (link_of r') q.first q.length) (queue_in-elsewhere queues number other new ne) ∙ kept other in
     let own : chain (link_of r') new.first new.length ≡ block ∷ old =
     ap (chain (link_of r') block) (add-one queue.length)
     ∙ ap (λ first. block ∷ chain (link_of r') first queue.length) links.link
+    ∙ ap (λ ns. block ∷ ns)
+    (chain_from (link_of r') ends.first queue.first queue.length (λ more. ap (λ (q : Queue). q.first) (ends_are ∙ ends_more queue block more)))
     ∙ ap (λ q. block ∷ chain (link_of r') q.first q.length) queue_is
     ∙ ap (λ ns. block ∷ ns) (kept number) in
     record {
@@ -330,11 +340,6 @@ pub record PopsFront (r r' : RegionState) (queues queues' : List Queue) (number 
   pub list : thread r queues number ≡ (queue_in queues number).first ∷ thread r' queues' number
   pub others : (other : ℕ) → other ≢ number → thread r' queues' other ≡ thread r queues other
   pub apart : StandsApart r' queues' (queue_in queues number).first
-
--- a chain of no number begins anywhere
-chain_from : (next : ℕ → ℕ) (first other count : ℕ) → (0 < count → first ≡ other) → chain next first count ≡ chain next other count
-chain_from next first other zero same = refl
-chain_from next first other (suc count) same = ap (λ n. chain next n (suc count)) (same (omega arith))
 
 pub popped_front : (r r' : RegionState) (queues : List Queue) (number next : ℕ) (queue : Queue) → IsThreaded r queues → number < length queues
     → r'.live ≡ r.live → queue ≡ queue_in queues number → 0 < queue.length → (1 < queue.length → next ≡ link_of r queue.first)

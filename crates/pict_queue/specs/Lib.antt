@@ -1,3 +1,4 @@
 pub mod QueuesState
 pub mod Contents
+pub mod Ends
 pub mod Threads

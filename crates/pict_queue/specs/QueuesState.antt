@@ -82,6 +82,10 @@ abbrev pub moved_list : QueuesState → ℕ → ℕ → ℕ → List ℕ
 moved_list s from to queue =
     if queue == to then without_first s from queue ++ take 1 (list_of s from) else without_first s from queue
 
+-- there are no fewer queues, those that can be added without memory among them
+abbrev pub LosesNoQueue : QueuesState → QueuesState → Type 0
+LosesNoQueue old new = length old.queues + old.spare_queues ≤ length new.queues + new.spare_queues
+
 -- nothing but links and the order of blocks in queues has changed, and work
 pub record KeepsRest (old new : QueuesState) : Type 0 where
   pub contents : KeepsContents old.region new.region

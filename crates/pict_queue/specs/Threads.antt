@@ -1,22 +1,20 @@
 -- How queues lie in a region: each is a thread through the links of its blocks, with its last block known.
-use Rattle.std.specs.Prelude.{◌≡◌, ℕ, ◌+◌, ◌-◌, ◌^◌, ◌<◌, ◌≤◌, eqb, List, map, slice_index, slice_index_or, true, vec_len}
+use Rattle.std.specs.Prelude.{◌≡◌, ℕ, ◌+◌, ◌-◌, ◌^◌, ◌<◌, ◌≤◌, eqb, List, map, slice_index, true, vec_len}
 use Rattle.std.specs.Vec.{vec_capacity}
 use Rattle.std.specs.List.{IsDistinct, list_any}
 use Rattle.pict_region.specs.Chain.{chain}
 use Rattle.pict_region.specs.RegionState.{RegionState, IsLive, width_of}
 use Rattle.pict_queue.specs.QueuesState.{QueuesState, link_of}
-use Rattle.pict_queue.specs.declared.queues.Queue.{Queue}
+use Rattle.pict_queue.specs.Ends.{queue_in}
+use Rattle.pict_queue.specs.declared.ends.Queue.{Queue}
 use Rattle.pict_queue.specs.declared.queues.Queues.TheInside.{Inside}
 
 abbrev pub state_of : Inside → QueuesState
 state_of a = record {
   region = a.region;
-  queues = map (λ q. record { first = q.first; count = q.length }) a.queues.items;
+  queues = map (λ q. record { first = q.first; count = q.length }) a.ends.queues.items;
   spare_queues = a.spare;
 }
-
-abbrev pub queue_in : List Queue → ℕ → Queue
-queue_in queues number = slice_index_or queues number (record { first = 0; last = 0; length = 0 })
 
 -- the blocks of a queue
 abbrev pub thread : RegionState → List Queue → ℕ → List ℕ
@@ -33,5 +31,5 @@ pub record IsThreaded (r : RegionState) (queues : List Queue) : Type 0 where
   pub small : (block : ℕ) → IsLive r block → block < 2 ^ 32 - 1
 
 pub record IsSound (a : Inside) : Type 0 where
-  pub threaded : IsThreaded a.region a.queues.items
-  pub room : vec_len a.queues + a.spare ≤ vec_capacity a.queues
+  pub threaded : IsThreaded a.region a.ends.queues.items
+  pub room : vec_len a.ends.queues + a.spare ≤ vec_capacity a.ends.queues

@@ -1,6 +1,7 @@
 //! Queues of blocks of one region, threaded through the first word of each block.
 #![tactic(auto)]
 
+mod ends;
 mod queues;
 
 pub use pict_region::Block;

@@ -3,11 +3,12 @@ ghost use Rattle.std.specs.Prelude.{◌≡◌, ◌≢◌, ◌+◌, ◌-◌, ◌<
 ghost use Rattle.std.specs.Option.{option_map, option_to_list};
 ghost use Rattle.std.specs.FinMap.{get, insert, remove, empty};
 ghost use Rattle.std.specs.List.{list_any};
-ghost use Rattle.pict_region.specs.RegionState.{IsLive, words_of, width_of, spare, blocks, KeepsBlocks, KeepsOtherWidths, raised, raised_by, GainsWords};
+ghost use Rattle.pict_region.specs.RegionState.{IsLive, words_of, width_of, spare, blocks, KeepsBlocks, LosesNoBlock, KeepsOtherWidths, raised, raised_by, GainsWords};
 ghost use Rattle.pict_region.specs.Values.{frame_words, pair_at, AreRising};
 ghost use Rattle.pict_queue.specs.Contents.{held_words, contents, first_words, moved_contents, KeepsAllContents, KeepsOtherContents, KeepsHeld, KeepsOtherHeld, HoldsNoMore, HoldsOneMore, Releases};
 ghost use Rattle.pict_queue.specs.QueuesState.{IsQueue, IsHeld, HasEachBlockOnce, list_of, no_queue, link_of, moved_list, KeepsOtherQueues, KeepsQueues, KeepsRest, CostsAtMost};
 
+use crate::ends::{Ends, Queue};
 use pict_region::{Block, Region};
 use std::alloc::{AllocError, Global};
 use std::marker::Model;
@@ -16,21 +17,13 @@ use std::marker::Model;
 #[derive(Clone, Copy)]
 pub struct QueueId(pub u64);
 
-/// One queue: the numbers of its first and its last block, which mean nothing while it is empty, and its length.
-#[derive(Clone, Copy)]
-struct Queue {
-    first: u32,
-    last: u32,
-    length: u32,
-}
-
 /// Queues of blocks. Word 0 of each block is its link, so a caller's words begin at 1. Contracts see the region and, for
 /// each queue, its first block and its length, and read the list of a queue by the links: its blocks, and their contents,
 /// the words behind the links. A block is in exactly one queue, or held by the caller, or free.
 #[derive(Drop)]
 pub struct Queues {
     region: Region,
-    queues: Vec<Queue>,
+    ends: Ends,
     spare: u64,
 }
 
@@ -59,7 +52,7 @@ impl Queues {
     {
         Queues {
             region: Region::new(alloc),
-            queues: Vec::new(alloc),
+            ends: Ends::new(alloc),
             spare: 0,
         }
     }
@@ -78,12 +71,8 @@ impl Queues {
         ensures region { self.new.region ≡ self.old.region }
         ensures err { OnErr result (self.new ≡ self.old) }
     {
-        let number = self.queues.len() as u64;
-        self.queues.push(Queue {
-            first: 0,
-            last: 0,
-            length: 0,
-        })?;
+        let number = self.ends.count();
+        self.ends.push()?;
         self.spare = self.spare.saturating_sub(1);
         Ok(QueueId(number))
     }
@@ -98,7 +87,7 @@ impl Queues {
         ensures err { OnErr result (self.new ≡ self.old) }
     {
         if self.spare < n {
-            self.queues.reserve(n as usize)?;
+            self.ends.reserve(n)?;
             self.spare = n;
         }
         Ok(())
@@ -111,7 +100,7 @@ impl Queues {
         ensures value { result ≡ length (list_of self.now q.0) }
         ensures once { HasEachBlockOnce self.now }
     {
-        self.queues[q.0 as usize].length as u64
+        self.ends.length(q.0) as u64
     }
 
     /// A held block becomes the last of a queue. Takes no memory.
@@ -130,15 +119,15 @@ impl Queues {
         ensures once { HasEachBlockOnce self.new }
         ensures cost { CostsAtMost 2 self.old self.new }
     {
-        let queue = self.queues[q.0 as usize];
-        let number = b.number() as u32;
-        let ends = ends(queue, number);
-        set_link(&mut self.region, ends.last as u64, number as u64);
-        self.queues[q.0 as usize] = Queue {
+        let number = b.number();
+        let (ends, last) = self.ends.last_or(&mut self.region, q.0, number);
+        set_link(&mut self.region, last, number);
+        let queue = Queue {
             first: ends.first,
-            last: number,
-            length: queue.length + 1,
+            last: number as u32,
+            length: ends.length + 1,
         };
+        self.ends.put(q.0, queue);
     }
 
     /// A held block becomes the first of a queue. Takes no memory.
@@ -157,15 +146,16 @@ impl Queues {
         ensures once { HasEachBlockOnce self.new }
         ensures cost { CostsAtMost 2 self.old self.new }
     {
-        let queue = self.queues[q.0 as usize];
-        let number = b.number() as u32;
-        let ends = ends(queue, number);
-        set_link(&mut self.region, number as u64, queue.first as u64);
-        self.queues[q.0 as usize] = Queue {
-            first: number,
+        let number = b.name();
+        let (ends, last) = self.ends.last_or(&mut self.region, q.0, number);
+        let _last = last.number();
+        set_link(&mut self.region, b, ends.first as u64);
+        let queue = Queue {
+            first: number as u32,
             last: ends.last,
-            length: queue.length + 1,
+            length: ends.length + 1,
         };
+        self.ends.put(q.0, queue);
     }
 
     /// The first block of a queue, which the caller then holds, or None exactly where the queue is empty. Takes no memory.
@@ -186,7 +176,7 @@ impl Queues {
         ensures once { HasEachBlockOnce self.new }
         ensures cost { CostsAtMost 2 self.old self.new }
     {
-        if self.queues[q.0 as usize].length == 0 {
+        if self.ends.length(q.0) == 0 {
             None
         } else {
             Some(self.pop(q))
@@ -230,11 +220,11 @@ impl Queues {
         ensures no_more { HoldsNoMore self.old self.new }
         ensures cost { CostsAtMost 2 self.old self.new }
     {
-        let queue = self.queues[q.0 as usize];
-        if queue.length == 0 {
+        if self.ends.length(q.0) == 0 {
             return None;
         }
-        Some(word(&mut self.region, queue.first as u64, i))
+        let (_, block) = self.ends.first(&mut self.region, q.0);
+        Some(word(&mut self.region, block, i))
     }
 
     /// Reads the values of these levels out of the first block of a queue that isn't empty, two words each from word `first`
@@ -257,17 +247,18 @@ impl Queues {
         ensures no_more { HoldsNoMore self.old self.new }
         ensures cost { CostsAtMost (2 * length levels.now + 1) self.old self.new }
     {
-        let queue = self.queues[q.0 as usize];
-        read_words(&mut self.region, queue.first as u64, first, levels, values);
+        let (_, block) = self.ends.first(&mut self.region, q.0);
+        read_words(&mut self.region, block, first, levels, values);
     }
 
     /// Makes free blocks until there are `n` of this width, in words, with the link. What is past `WORD_LIMIT` words is want
-    /// of memory. Where memory is wanting, some of these blocks may have been made. Where enough are there it takes no memory.
+    /// of memory. Where memory is wanting, some of these blocks may have been made. Where enough are there, as where none are asked
+    /// for, it takes no memory. No block is lost.
     #[inline(always)]
     pub fn reserve(&mut self, width: u32, n: u64) -> Result<(), AllocError>
         requires positive { 2 ≤ width }
         requires narrow { width ≤ 65535 }
-        ensures room { 1 ≤ n → n ≤ spare self.old.region width → IsOk result }
+        ensures room { n ≤ spare self.old.region width → IsOk result }
         ensures ok { OnOk result (spare self.new.region width ≡ max n (spare self.old.region width)) }
         ensures err { OnErr result (spare self.old.region width ≤ spare self.new.region width) }
         ensures most { spare self.new.region width ≤ max n (spare self.old.region width) }
@@ -280,6 +271,7 @@ impl Queues {
         ensures no_more { HoldsNoMore self.old self.new }
         ensures blocks { (w : ℕ) → blocks self.new.region w
             ≤ blocks self.old.region w + ((if w == width then n else 0) - spare self.old.region w) }
+        ensures least { LosesNoBlock self.old.region self.new.region }
     {
         self.region.reserve(width, n)
     }
@@ -483,31 +475,15 @@ impl Queues {
         ensures once { HasEachBlockOnce self.new }
         ensures cost { CostsAtMost 2 self.old self.new }
     {
-        let queue = self.queues[q.0 as usize];
-        let block = self.region.block(queue.first as u64);
+        let (queue, block) = self.ends.first(&mut self.region, q.0);
         let next = number_in(self.region.get(&block, 0));
-        self.queues[q.0 as usize] = Queue {
+        let rest = Queue {
             first: next,
             last: queue.last,
             length: queue.length - 1,
         };
+        self.ends.put(q.0, rest);
         block
-    }
-}
-
-// The queue, or where it is empty, one whose ends are this block.
-#[inline(always)]
-fn ends(queue: Queue, block: u32) -> Queue
-    ensures { result ≡ (if queue.length == 0 then record { first = block; last = block; length = 0 } else queue) }
-{
-    if queue.length == 0 {
-        Queue {
-            first: block,
-            last: block,
-            length: 0,
-        }
-    } else {
-        queue
     }
 }
 
@@ -519,43 +495,41 @@ fn number_in(link: u64) -> u32
     (link % 4_294_967_296) as u32
 }
 
-// Makes `next` the link of a live block.
+// Makes `next` the link of a live block, whose token is spent.
 #[inline(always)]
-fn set_link(region: &mut Region, block: u64, next: u64)
+fn set_link(region: &mut Region, block: Block, next: u64)
     requires live { IsLive region.old block }
     requires wide { 1 ≤ width_of region.old block }
     ensures live { region.new.live ≡ insert region.old.live block (slice_set (words_of region.old block) 0 next) }
     ensures free { region.new.free ≡ region.old.free }
     ensures blocks { KeepsBlocks region.old region.new }
     ensures least { region.old.work ≤ region.new.work }
-    ensures most { region.new.work ≤ region.old.work + 2 }
+    ensures most { region.new.work ≤ region.old.work + 1 }
 {
-    let token = region.block(block);
-    region.set(&token, 0, next);
-    let _number = token.number();
+    region.set(&block, 0, next);
+    let _number = block.number();
 }
 
-// A word of a live block.
+// A word of a live block, whose token is spent.
 #[inline(always)]
-fn word(region: &mut Region, block: u64, i: u32) -> u64
+fn word(region: &mut Region, block: Block, i: u32) -> u64
     requires live { IsLive region.old block }
     requires inside { i < width_of region.old block }
     ensures value { result ≡ slice_index (words_of region.old block) i }
     ensures rest { region.new ≡ record region.old { work = region.new.work } }
     ensures least { region.old.work ≤ region.new.work }
-    ensures most { region.new.work ≤ region.old.work + 2 }
+    ensures most { region.new.work ≤ region.old.work + 1 }
 {
-    let token = region.block(block);
-    let word = region.get(&token, i);
-    let _number = token.number();
+    let word = region.get(&block, i);
+    let _number = block.number();
     word
 }
 
-// Reads the values of levels out of a live block, two words each from this word on.
+// Reads the values of levels out of a live block, whose token is spent, two words each from this word on.
 #[inline(always)]
 fn read_words(
     region: &mut Region,
-    block: u64,
+    block: Block,
     first: u32,
     levels: &[u32],
     values: &mut [(u64, u64)],
@@ -569,9 +543,8 @@ fn read_words(
     ensures len { length values.new ≡ length values.old }
     ensures rest { region.new ≡ record region.old { work = region.new.work } }
     ensures least { region.old.work ≤ region.new.work }
-    ensures most { region.new.work ≤ region.old.work + (2 * length levels.now + 1) }
+    ensures most { region.new.work ≤ region.old.work + 2 * length levels.now }
 {
-    let token = region.block(block);
-    region.read_values(&token, first, levels, values);
-    let _number = token.number();
+    region.read_values(&block, first, levels, values);
+    let _number = block.number();
 }

@@ -1,11 +1,11 @@
 -- How many blocks there are, after a change of one live block.
-use Rattle.std.proofs.Common.{◌≡◌, ◌≢◌, ℕ, ◌+◌, Bool, true, false, cond, eqb, List, [], ◌∷◌, length, map, filter, get_or, Less, Equal, Greater, is_eq, Some, None, refl, sym, ◌∙◌, ap, subst, ⊎_elim, arith}
+use Rattle.std.proofs.Common.{◌≤◌, ◌≡◌, ◌≢◌, ℕ, ◌+◌, Bool, true, false, cond, eqb, List, [], ◌∷◌, length, map, filter, get_or, Less, Equal, Greater, is_eq, Some, None, refl, sym, ◌∙◌, ap, subst, ⊎_elim, arith}
 use Rattle.std.specs.Ordering.{nat_cmp}
 use Rattle.std.specs.Cmp.{nat_cmp_total}
 use Rattle.std.specs.FinMap.{get, insert, remove, values, entries, find, put, entries-insert, get-entries}
 use Rattle.std.proofs.lemmas.Bool.{cases_eq, eq-eqb, ne_eqb}
 use Rattle.std.proofs.lemmas.Option.{none-some}
-use Rattle.pict_region.specs.RegionState.{RegionState, IsLive, words_of, width_of, spare, live_blocks, KeepsBlocks, KeepsOtherWidths}
+use Rattle.pict_region.specs.RegionState.{RegionState, IsLive, words_of, width_of, spare, live_blocks, KeepsBlocks, LosesNoBlock, KeepsOtherWidths}
 use Rattle.pict_region.proofs.Frees.{is_insert}
 use Rattle.pict_region.proofs.Calls.{some_words}
 use Rattle.pict_region.proofs.Uses.{Live, get_inserted, get_insert_apart, get_removed, get_remove_apart}
@@ -87,6 +87,15 @@ pub blocks_same : (old new : RegionState) → new.live ≡ old.live → new.free
 blocks_same old new live free width =
     ap (λ (m : Live). get_or new.free width 0 + length (filter (λ ws. eqb (length ws) width) (values m))) live
     ∙ ap (λ f. get_or f width 0 + live_blocks old width) free
+
+-- of one width there are no fewer free blocks, and nothing else has changed
+pub blocks_more : (old new : RegionState) (width : ℕ) → new.live ≡ old.live → spare old width ≤ spare new width → KeepsOtherWidths old new width → LosesNoBlock old new
+blocks_more old new width live more others v =
+    let same : live_blocks new v ≡ live_blocks old v = ap (λ (m : Live). length (filter (λ ws. eqb (length ws) v) (values m))) live in
+    ⊎_elim
+    (λ (here : v ≡ width). let low : spare old v ≤ spare new v = subst (λ w. spare old w ≤ spare new w) (sym here) more in omega (arith, same, low))
+    (λ (apart : v ≢ width). let e = others v apart in omega (arith, same, e))
+    (cases_eq v width)
 
 -- one block of this width was free and is live
 pub blocks_taken : (old new : RegionState) (number width : ℕ) (ws : List ℕ) → get old.live number ≡ None → new.live ≡ insert old.live number ws → length ws ≡ width

@@ -1,8 +1,8 @@
 // The region: its store of words, its lists of free blocks, and its work.
-ghost use Rattle.std.specs.Prelude.{◌≡◌, ◌≢◌, ◌+◌, ◌-◌, ◌^◌, ◌<◌, ◌≤◌, ◌==◌, ◌*◌, if◌then◌else◌, ℕ, [], length, max, None, All, eqb, false, OnOk, OnErr, IsOk, IsSome, slice_index, slice_set, slice_index_or, replicate, take, drop, ◌++◌, ◌∷◌, vec_len};
+ghost use Rattle.std.specs.Prelude.{◌≡◌, ◌≢◌, ◌+◌, ◌-◌, ◌^◌, ◌<◌, ◌≤◌, ◌==◌, ◌*◌, if◌then◌else◌, ℕ, [], length, max, min, None, All, eqb, false, OnOk, OnErr, IsOk, IsSome, slice_index, slice_set, slice_index_or, replicate, take, drop, ◌++◌, ◌∷◌, vec_len};
 ghost use Rattle.std.specs.FinMap.{get, insert, remove, empty};
 ghost use Rattle.std.specs.List.{list_any};
-ghost use Rattle.pict_region.specs.RegionState.{IsLive, words_of, width_of, spare, blocks, KeepsBlocks, KeepsOtherWidths, raised, raised_by, GainsWords};
+ghost use Rattle.pict_region.specs.RegionState.{IsLive, words_of, width_of, spare, blocks, KeepsBlocks, LosesNoBlock, KeepsOtherWidths, raised, raised_by, GainsWords};
 ghost use Rattle.pict_region.specs.Layout.{list_at};
 ghost use Rattle.pict_region.specs.Values.{frame_words, pair_at, AreRising, overlaid};
 
@@ -66,18 +66,19 @@ impl Region {
 
     /// Makes free blocks until there are `n` of this width, in words. The store grows by as many words as it has, at least 1,024
     /// and at most 65,536, or by what a block needs, if that is more, and what is past `WORD_LIMIT` words is want of memory. Where
-    /// memory is wanting, some of these blocks may have been made, and never more than were wanting. Where enough are there it
-    /// takes no memory. The work stays.
+    /// memory is wanting, some of these blocks may have been made, and never more than were wanting. Where enough are there, as
+    /// where none are asked for, it takes no memory. No block is lost, and the work stays.
     #[inline(always)]
     pub fn reserve(&mut self, width: u32, n: u64) -> Result<(), AllocError>
         requires positive { 1 ≤ width }
         requires narrow { width ≤ 65535 }
-        ensures room { 1 ≤ n → n ≤ spare self.old width → IsOk result }
+        ensures room { n ≤ spare self.old width → IsOk result }
         ensures ok { OnOk result (spare self.new width ≡ max n (spare self.old width)) }
         ensures err { OnErr result (spare self.old width ≤ spare self.new width) }
         ensures most { spare self.new width ≤ max n (spare self.old width) }
         ensures others { KeepsOtherWidths self.old self.new width }
         ensures blocks { (w : ℕ) → blocks self.new w ≤ blocks self.old w + ((if w == width then n else 0) - spare self.old w) }
+        ensures least { LosesNoBlock self.old self.new }
         ensures live { self.new.live ≡ self.old.live }
         ensures work { self.new.work ≡ self.old.work }
     {
@@ -269,18 +270,24 @@ impl Region {
         self.free[width as usize].count
     }
 
-    // Makes free blocks until there are `n` of this width. One is made with no call, where the store is long enough.
+    // Makes free blocks until there are `n` of this width. One is made with no call, where the store is long enough. Takes no memory
+    // where none are asked for.
     #[inline(never)]
     fn make_spare(&mut self, width: u32, n: u64) -> Result<(), AllocError>
         requires positive { 1 ≤ width }
         requires wanting { width < length self.old.free → spare self.old width < n }
+        ensures none { n ≡ 0 → IsOk result }
         ensures ok { OnOk result (spare self.new width ≡ max n (spare self.old width)) }
         ensures err { OnErr result (spare self.old width ≤ spare self.new width) }
+        ensures more { spare self.old width ≤ spare self.new width }
         ensures most { spare self.new width ≤ max n (spare self.old width) }
         ensures others { KeepsOtherWidths self.old self.new width }
         ensures live { self.new.live ≡ self.old.live }
         ensures work { self.new.work ≡ self.old.work }
     {
+        if n == 0 {
+            return Ok(());
+        }
         if self.free.len() > width as usize && self.add_block(width) && n <= self.spare(width) {
             return Ok(());
         }
@@ -293,6 +300,7 @@ impl Region {
         requires positive { 1 ≤ width }
         ensures ok { OnOk result (spare self.new width ≡ max n (spare self.old width)) }
         ensures err { OnErr result (spare self.old width ≤ spare self.new width) }
+        ensures more { spare self.old width ≤ spare self.new width }
         ensures most { spare self.new width ≤ max n (spare self.old width) }
         ensures others { KeepsOtherWidths self.old self.new width }
         ensures live { self.new.live ≡ self.old.live }
@@ -389,6 +397,7 @@ fn lengthen(words: &mut Vec<u64>, end: usize) -> Result<(), AllocError>
     requires { vec_len words.old ≤ WORD_LIMIT }
     ensures ok { OnOk result (end ≤ vec_len words.new) }
     ensures small { vec_len words.new ≤ WORD_LIMIT }
+    ensures grown { vec_len words.new ≤ max end (vec_len words.old + min (max (vec_len words.old) LEAST_PIECE) MOST_PIECE) }
     ensures kept { take (vec_len words.old) words.new.items ≡ words.old.items }
 {
     let most = WORD_LIMIT as usize;

@@ -22,6 +22,7 @@ use Rattle.pict_turns.specs.declared.store.Store.{Store}
 use Rattle.pict_turns.specs.declared.turn.Turn.{Turn}
 use Rattle.pict_turns.specs.declared.turn.Turn.TheVariants.{Nobody}
 use Rattle.pict_turns.proofs.Turns.{words_nobody, has_words, same_words, room_more}
+use Rattle.pict_turns.proofs.Spare.{spare_more, reads_spare}
 
 -- words alone are read
 pub reads_works : (s : Store) (queues : QueuesState) → ArePairs s.desk.heap s.desk.values.items → OnlyWorks s.queues queues → OnlyReads s (record s { queues = queues })
@@ -117,6 +118,7 @@ module _ (old new : Store) (r : OnlyReads old new) where
           levels = d.levels ∙ r.levels;
           queues = let e = queues_read in let most = d.queues in omega (arith, e, most);
           no_more = λ block held. no_more_read block (d.no_more block held);
+          no_loss = let count = ap (λ (s : QueuesState). length s.queues + s.spare_queues) r.queues in let least = d.no_loss in omega (arith, count, least);
         }
 
         pub refused_read : IsRefused core new last → IsRefused core old last
@@ -128,4 +130,5 @@ module _ (old new : Store) (r : OnlyReads old new) where
           heap = record { texts = d.heap.texts ∙ ap (λ (h : HeapState). h.texts) r.heap; records = d.heap.records ∙ ap (λ (h : HeapState). h.records) r.heap };
           store = d.store;
           no_more = λ block held. no_more_read block (d.no_more block held);
+          spare = spare_more old new last (reads_spare old new r) d.spare;
         }

@@ -3,6 +3,7 @@ pub mod Turns
 pub mod Placing
 pub mod Rows
 pub mod Handing
+pub mod Spare
 pub mod Room
 pub mod Numbered
 pub mod Held

@@ -11,20 +11,29 @@ use Rattle.pict_turns.specs.Widths.{MakesOnly, part_width}
 -- ---- steps one after another
 
 pub makes_nothing : (old new : QueuesState) (needed : List ℕ) → KeepsBlocks old.region new.region → MakesOnly old new needed
-makes_nothing old new needed keeps width = let e = keeps width in omega (arith, e)
+makes_nothing old new needed keeps = record {
+  least = λ width. let e = keeps width in omega (arith, e);
+  most = λ width. let e = keeps width in omega (arith, e);
+}
 
 -- a block more may be needed
 pub makes_beside : (old new : QueuesState) (width : ℕ) (needed : List ℕ) → MakesOnly old new needed → MakesOnly old new (width ∷ needed)
-makes_beside old new width needed makes w = let m = makes w in omega (arith, m)
+makes_beside old new width needed makes = record { least = makes.least; most = λ w. let m = makes.most w in omega (arith, m) }
 
 module _ (old mid new : QueuesState) (needed : List ℕ) where
   -- blocks are only moved, taken and given afterwards
   pub makes_before : MakesOnly old mid needed → KeepsBlocks mid.region new.region → MakesOnly old new needed
-  makes_before makes keeps width = let m = makes width in let e = keeps width in omega (arith, m, e)
+  makes_before makes keeps = record {
+    least = λ width. let m = makes.least width in let e = keeps width in omega (arith, m, e);
+    most = λ width. let m = makes.most width in let e = keeps width in omega (arith, m, e);
+  }
 
   -- blocks are only moved and given before
   pub makes_after : KeepsBlocks old.region mid.region → ((width : ℕ) → spare old.region width ≤ spare mid.region width) → MakesOnly mid new needed → MakesOnly old new needed
-  makes_after keeps more makes width = let e = keeps width in let s = more width in let m = makes width in omega (arith, e, s, m)
+  makes_after keeps more makes = record {
+    least = λ width. let e = keeps width in let m = makes.least width in omega (arith, e, m);
+    most = λ width. let e = keeps width in let s = more width in let m = makes.most width in omega (arith, e, s, m);
+  }
 
 -- ---- the widths of parts
 

@@ -25,6 +25,7 @@ use Rattle.pict_turns.specs.Views.{IsBlock, CanWait, lists_from, channel_lists, 
 use Rattle.pict_turns.specs.declared.store.Store.{Store}
 use Rattle.pict_turns.proofs.Turns.{same_words, has_words, room_more, acting_block}
 use Rattle.pict_turns.proofs.Views.{blocks_stay, lists_stay}
+use Rattle.pict_turns.proofs.Spare.{spare_more, reserves_spare}
 use Rattle.pict_turns.proofs.Rows.{node_block_stays, turn_by}
 
 -- ---- room for several
@@ -102,6 +103,7 @@ module _ (core : Process) (old new : Store) (r : OnlyReserves old new) where
     heap = r.heap;
     store = store_still s;
     no_more = r.no_more;
+    spare = reserves_spare old new r;
   }
 
   pub acting_words_still : acting_words core new ≡ acting_words core old
@@ -147,6 +149,7 @@ module _ (core : Process) (old new : Store) (r : OnlyReserves old new) where
       levels = d.levels ∙ ap length r.values;
       queues = let e = ap length r.queues in let most = d.queues in omega (arith, e, most);
       no_more = λ block held. r.no_more block (d.no_more block held);
+      no_loss = let e = ap length r.queues in let more = r.spare_queues in let least = d.no_loss in omega (arith, e, more, least);
     }
 
     pub refused_after : IsRefused core new last → IsRefused core old last
@@ -158,4 +161,5 @@ module _ (core : Process) (old new : Store) (r : OnlyReserves old new) where
       heap = record { texts = d.heap.texts ∙ r.heap.texts; records = d.heap.records ∙ r.heap.records };
       store = d.store;
       no_more = λ block held. r.no_more block (d.no_more block held);
+      spare = spare_more old new last (reserves_spare old new r) d.spare;
     }

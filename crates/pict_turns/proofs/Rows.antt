@@ -9,7 +9,7 @@ use Rattle.pict_code.specs.Instruction.{Node}
 use Rattle.pict_code.specs.Nodes.{Place, places, nodes_of}
 use Rattle.pict_blocks.specs.Keeping.{kept_words}
 use Rattle.pict_heap.specs.HeapState.{HeapState, KeepsWords}
-use Rattle.pict_queue.specs.QueuesState.{QueuesState, IsQueue}
+use Rattle.pict_queue.specs.QueuesState.{QueuesState, IsQueue, LosesNoQueue}
 use Rattle.pict_queue.specs.Contents.{contents, KeepsOtherContents, HoldsNoMore}
 use Rattle.pict_view.specs.Moved.{Moves}
 use Rattle.pict_view.specs.Placed.{next_view}
@@ -148,8 +148,8 @@ module _ (core : Process) (old new : Store) (acting : HasActing core old) (keeps
   pub done_by : (ready : List (List ℕ)) (channels : List (List (List ℕ))) (label : Label)
       → BlocksStep core new.desk.heap (acting_words core old ∷ contents old.queues 0) (channel_lists old.queues) label ready channels
       → ready_words core new ≡ ready → channel_lists new.queues ≡ channels → IsStore core new → length new.desk.values.items ≡ length old.desk.values.items
-      → length new.queues.queues ≤ length old.queues.queues + 1 → HoldsNoMore old.queues new.queues → IsDone core old new label
-  done_by ready channels label step at lists store levels queues no_more =
+      → length new.queues.queues ≤ length old.queues.queues + 1 → HoldsNoMore old.queues new.queues → LosesNoQueue old.queues new.queues → IsDone core old new label
+  done_by ready channels label step at lists store levels queues no_more no_loss =
       let after : view_with_turn core new ≡ view_of_contents core (value_in new.desk.heap) ready channels =
       ap (λ (rs : List (List ℕ)). view_of_contents core (value_in new.desk.heap) rs (channel_lists new.queues)) at
       ∙ ap (view_of_contents core (value_in new.desk.heap) ready) lists in
@@ -160,4 +160,5 @@ module _ (core : Process) (old new : Store) (acting : HasActing core old) (keeps
         levels = levels;
         queues = queues;
         no_more = no_more;
+        no_loss = no_loss;
       }

@@ -11,7 +11,7 @@ use Rattle.pict_code.specs.Nodes.{nodes_of}
 use Rattle.pict_heap.specs.HeapState.{HeapState, KeepsWords}
 use Rattle.pict_region.specs.Chain.{chain}
 use Rattle.pict_region.specs.RegionState.{RegionState, spare}
-use Rattle.pict_queue.specs.QueuesState.{QueuesState, QueueState, IsQueue, link_of, no_queue}
+use Rattle.pict_queue.specs.QueuesState.{QueuesState, QueueState, IsQueue, link_of, no_queue, LosesNoQueue}
 use Rattle.pict_queue.specs.Contents.{held_words, contents, KeepsAllContents, KeepsOtherContents, HoldsNoMore}
 use Rattle.pict_desk.specs.Known.{known, operand_value}
 use Rattle.pict_blocks.proofs.Forking.{nodes_end, parts_fork, tests_choose}
@@ -44,7 +44,7 @@ end_done core old a =
     (nodes_end core old.desk.heap old.desk.values.items a.number a.node (acting_words core old) a.is a.op_is (contents old.queues 0) (channel_lists old.queues))
     refl refl
     (store_by core old (record old { turn = Nobody }) a.acting.store (keeps_all old.desk.heap) a.acting.store.ready a.acting.store.blocks a.acting.store.waiting a.acting.store.pairs refl tt tt)
-    refl (omega arith) (λ block held. held)
+    refl (omega arith) (λ block held. held) (omega arith)
 
 -- ---- a part's block
 
@@ -57,7 +57,7 @@ same_held h f g frame held e x = record { values = x.values ∙ e; narrow = x.na
 module _ (core : Process) (s h n : Store) (l r : ℕ) (first second : Node) (a : ActsBy core s (op.Par l r))
     (at_first : slice_get (nodes_of core) l ≡ Some first) (at_second : slice_get (nodes_of core) r ≡ Some second)
     (one : HandsOn core s h l first.frame) (other : Spawns h n r second.frame)
-    (room : 1 ≤ spare n.queues.region (block_width first.frame)) (no_more : HoldsNoMore s.queues n.queues) where
+    (room : 1 ≤ spare n.queues.region (block_width first.frame)) (no_more : HoldsNoMore s.queues n.queues) (no_loss : LosesNoQueue s.queues n.queues) where
   forked_keeps : KeepsWords s.desk.heap n.desk.heap
   forked_keeps = keeps_more s.desk.heap h.desk.heap n.desk.heap one.keeps other.keeps
 
@@ -105,13 +105,13 @@ module _ (core : Process) (s h n : Store) (l r : ℕ) (first second : Node) (a :
         all_pushed (IsBlock core n.desk.heap) (contents s.queues 0) (suc r ∷ other.held) (ready_stay core s n a.acting.store forked_keeps)
             (made_block core n.desk.heap (known s.desk.heap s.desk.values.items) r second other.held at_second second_held),
       ) others) (waiting_by core s n a.acting.store forked_keeps others) pairs levels forked_turn forked_room)
-      levels (omega (arith, same)) no_more
+      levels (omega (arith, same)) no_more no_loss
 
 -- the same by the frames of the parts
 module _ (core : Process) (s h n : Store) (l r : ℕ) (first second : List ℕ) (one : HandsOn core s h l first) (other : Spawns h n r second) where
   pub fork_by : HasFrame (nodes_of core) l first → HasFrame (nodes_of core) r second → ActsBy core s (op.Par l r) → CanHoldBoth s first second → HoldsNoMore h.queues n.queues
-      → IsDone core s n Quiet
-  fork_by f g a can no_more =
+      → LosesNoQueue h.queues n.queues → IsDone core s n Quiet
+  fork_by f g a can no_more no_loss =
       let room : 1 ≤ spare n.queues.region (block_width first) =
       first_left h.queues.region n.queues.region (block_width first) (block_width second)
       (subst (λ (q : QueuesState). 1 ≤ spare q.region (block_width first)) (sym one.queues) can.one)
@@ -122,6 +122,7 @@ module _ (core : Process) (s h n : Store) (l r : ℕ) (first second : List ℕ) 
       (subst (λ (frame : List ℕ). Spawns h n r frame) (sym g.is) other)
       (subst (λ (frame : List ℕ). 1 ≤ spare n.queues.region (block_width frame)) (sym f.is) room)
       (λ block held. handed_no_more core s h l first one block (no_more block held))
+      (subst (λ (q : QueuesState). LosesNoQueue q n.queues) one.queues no_loss)
 
   pub fork_cost : turn_cost core n ≤ block_width first + 4
   fork_cost =
@@ -153,6 +154,7 @@ choose_done core s n l r test b part closed a is at one room =
     (subst (ArePairs n.desk.heap) (sym one.values) (pairs_keep s.desk.heap n.desk.heap one.keeps s.desk.values.items a.acting.store.pairs)) levels
     one.is (handed_room core s n (cond b l r) part.frame one n.queues.region room))
     levels (omega (arith, same)) (handed_no_more core s n (cond b l r) part.frame one)
+    (let count = ap (λ (q : QueuesState). length q.queues + q.spare_queues) one.queues in omega (arith, count))
 
 -- the same by the frame of the part
 pub choose_by : (core : Process) (s n : Store) (l r k : ℕ) (test : Val) (b : Bool) (frame : List ℕ) → IsClosed core → ActsBy core s (op.If test l r)
@@ -217,6 +219,7 @@ module _ (core : Process) (s c n : Store) (level l : ℕ) (part : Node) (a : Act
       (subst (ArePairs n.desk.heap) (sym one.values) (pairs_keep c.desk.heap n.desk.heap one.keeps c.desk.values.items added.pairs)) levels
       one.is (handed_room core c n l part.frame one n.queues.region room))
       levels (omega (arith, many)) (λ block held. added.no_more block (handed_no_more core c n l part.frame one block held))
+      (let count = ap (λ (q : QueuesState). length q.queues + q.spare_queues) one.queues in let more = added.queues in let left = added.spare_queues in omega (arith, count, more, left))
 
 -- the same by the frame of the part
 pub channel_by : (core : Process) (s c n : Store) (level l : ℕ) (frame : List ℕ) → ActsBy core s (op.New level l) → AddsChannel s c level → HasFrame (nodes_of core) l frame

@@ -277,13 +277,14 @@ module _ (core : Process) (old : Store) (popped : QueuesState) (block : ℕ) (n 
   acting_held : acting_words core end ≡ held_words popped.region block
   acting_held = acting_is core end (held_words popped.region block) words
 
-  pub turn_takes : TakesTurn core old end
-  turn_takes =
+  pub turn_takes : given.spare_queues ≡ n.queues.spare_queues → TakesTurn core old end
+  turn_takes spare_kept =
       let kept : contents given 0 ≡ contents popped 0 = contents_kept 0 ∙ contents_read mid n read 0 in
       record {
         first = first ∙ ap (λ (ws : List ℕ). ws ∷ contents popped 0) (sym acting_held) ∙ ap (λ (rs : List (List ℕ)). acting_words core end ∷ rs) (sym kept);
         others = λ queue apart. contents_kept queue ∙ contents_read mid n read queue ∙ others queue apart;
         queues = ap length queues_kept ∙ queues_read mid n read ∙ rest.queues;
+        spare_queues = spare_kept ∙ ap (λ (s : QueuesState). s.spare_queues) read.queues ∙ rest.spare_queues;
         spare = λ width.
             let e : spare popped.region width ≡ spare old.queues.region width = ap (λ (f : List ℕ). get_or f width 0) rest.free in
             let m = taken_spare_more core mid n block turn given mid_store idle is_block read words may contents_kept queues_kept freed widths width in

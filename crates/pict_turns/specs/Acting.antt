@@ -6,12 +6,14 @@ use Rattle.pict_core.specs.Step.{Label}
 use Rattle.pict_code.specs.Instruction.{Node, Op}
 use Rattle.pict_code.specs.Nodes.{Place, places}
 use Rattle.pict_heap.specs.HeapState.{KeepsWords}
-use Rattle.pict_queue.specs.QueuesState.{IsQueue}
+use Rattle.pict_queue.specs.QueuesState.{IsQueue, LosesNoQueue}
 use Rattle.pict_queue.specs.Contents.{KeepsAllContents, HoldsNoMore}
 use Rattle.pict_region.specs.RegionState.{RegionState, spare}
+use Rattle.pict_prim.specs.Acts.{UsesNeed}
 use Rattle.pict_view.specs.Moved.{Moves, Misshapen}
 use Rattle.pict_view.specs.Placed.{next_view}
 use Rattle.pict_blocks.specs.Blocks.{IsNodeBlock}
+use Rattle.pict_desk.specs.Needs.{no_need}
 use Rattle.pict_desk.specs.Pairs.{ArePairs}
 use Rattle.pict_desk.specs.Room.{KeepsHeap}
 use Rattle.pict_turns.specs.Turns.{IsTurn}
@@ -51,7 +53,7 @@ pub record ActsBy (core : Process) (s : Store) (op : Op) : Type 0 where
 abbrev pub IsRight : Process → Store → Type 0
 IsRight core s = next_view (view_with_turn core s) ≢ Misshapen
 
--- The step is done, with this label. No block is held that wasn't.
+-- The step is done, with this label. No block is held that wasn't, and no queue is lost.
 pub record IsDone (core : Process) (old new : Store) (label : Label) : Type 0 where
   pub moves : next_view (view_with_turn core old) ≡ Moves (view_with_turn core new) label
   pub store : IsStore core new
@@ -59,8 +61,16 @@ pub record IsDone (core : Process) (old new : Store) (label : Label) : Type 0 wh
   pub levels : length new.desk.values.items ≡ length old.desk.values.items
   pub queues : length new.queues.queues ≤ length old.queues.queues + 1
   pub no_more : HoldsNoMore old.queues new.queues
+  pub no_loss : LosesNoQueue old.queues new.queues
 
--- The step isn't done: nothing has changed but room, spare blocks and work.
+-- Nothing that is spare is thrown away: there are no fewer free blocks of any width and no fewer spare queues, and the heap has no
+-- less room.
+pub record KeepsSpare (old new : Store) : Type 0 where
+  pub blocks : (width : ℕ) → spare old.queues.region width ≤ spare new.queues.region width
+  pub queues : old.queues.spare_queues ≤ new.queues.spare_queues
+  pub room : UsesNeed old.desk.heap.room new.desk.heap.room no_need
+
+-- The step isn't done: nothing has changed but room, spare blocks and work, and nothing spare is thrown away.
 pub record IsRefused (core : Process) (old new : Store) : Type 0 where
   pub turn : new.turn ≡ old.turn
   pub values : new.desk.values.items ≡ old.desk.values.items
@@ -69,3 +79,4 @@ pub record IsRefused (core : Process) (old new : Store) : Type 0 where
   pub heap : KeepsHeap old.desk.heap new.desk.heap
   pub store : IsStore core new
   pub no_more : HoldsNoMore old.queues new.queues
+  pub spare : KeepsSpare old new

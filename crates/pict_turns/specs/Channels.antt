@@ -1,5 +1,5 @@
 -- A new channel.
-use Rattle.std.specs.Prelude.{◌≡◌, ◌≢◌, ◌+◌, ◌-◌, ℕ, length}
+use Rattle.std.specs.Prelude.{◌≡◌, ◌≢◌, ◌≤◌, ◌+◌, ◌-◌, ℕ, length}
 use Rattle.pict_core.specs.Term.{Chan}
 use Rattle.pict_desk.specs.Known.{pair_at, known}
 use Rattle.pict_queue.specs.Contents.{KeepsAllContents, KeepsHeld, HoldsNoMore}
@@ -13,6 +13,7 @@ pub record AddsChannel (old new : Store) (level : ℕ) : Type 0 where
   pub levels : length new.desk.values.items ≡ length old.desk.values.items
   pub pairs : ArePairs new.desk.heap new.desk.values.items
   pub queues : length new.queues.queues ≡ length old.queues.queues + 1
+  pub spare_queues : old.queues.spare_queues ≤ new.queues.spare_queues + 1
   pub region : new.queues.region ≡ old.queues.region
   pub contents : KeepsAllContents old.queues new.queues
   pub held : KeepsHeld old.queues new.queues

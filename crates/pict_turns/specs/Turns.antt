@@ -6,8 +6,9 @@ use Rattle.pict_code.specs.Instruction.{Node}
 use Rattle.pict_code.specs.Nodes.{nodes_of}
 use Rattle.pict_blocks.specs.Keeping.{kept_words}
 use Rattle.pict_heap.specs.HeapState.{HeapState}
+use Rattle.pict_queue.specs.QueuesState.{QueuesState}
 use Rattle.pict_queue.specs.Contents.{contents, KeepsOtherContents, HoldsNoMore}
-use Rattle.pict_region.specs.RegionState.{spare, KeepsBlocks}
+use Rattle.pict_region.specs.RegionState.{spare, KeepsBlocks, KeepsOtherWidths}
 use Rattle.pict_blocks.specs.Blocks.{IsNodeBlock}
 use Rattle.pict_blocks.specs.Holding.{HoldRecord}
 use Rattle.pict_turns.specs.Reading.{OnlyReads}
@@ -44,11 +45,12 @@ pub record ReadsTurn (core : Process) (old new : Store) (held : List ℕ) : Type
   pub rest : OnlyReads old (record new { turn = old.turn })
 
 -- The first of queue 0 has the turn now, and its block is free. The other queues, the heap and the piles stay. There are as
--- many blocks, queues and levels, and no fewer free blocks, and no block is held that wasn't.
+-- many blocks, queues, spare queues and levels, and no fewer free blocks, and no block is held that wasn't.
 pub record TakesTurn (core : Process) (old new : Store) : Type 0 where
   pub first : contents old.queues 0 ≡ acting_words core new ∷ contents new.queues 0
   pub others : KeepsOtherContents old.queues new.queues 0
   pub queues : length new.queues.queues ≡ length old.queues.queues
+  pub spare_queues : new.queues.spare_queues ≡ old.queues.spare_queues
   pub freed : spare new.queues.region (length (acting_words core new) + 1) ≡ spare old.queues.region (length (acting_words core new) + 1) + 1
   pub spare : (width : ℕ) → spare old.queues.region width ≤ spare new.queues.region width
   pub blocks : KeepsBlocks old.queues.region new.queues.region
@@ -56,6 +58,12 @@ pub record TakesTurn (core : Process) (old new : Store) : Type 0 where
   pub heap : new.desk.heap ≡ old.desk.heap
   pub pending : new.desk.pending ≡ old.desk.pending
   pub levels : length new.desk.values.items ≡ length old.desk.values.items
+
+-- A free block of this width at most is taken, and as many of the others, and queues, are spare still.
+pub record TakesOneBlock (old new : QueuesState) (width : ℕ) : Type 0 where
+  pub own : spare old.region width ≤ spare new.region width + 1
+  pub others : KeepsOtherWidths old.region new.region width
+  pub queues : new.spare_queues ≡ old.spare_queues
 
 -- how many units it takes at most to take the turn from blocks with these words, or to set it down
 abbrev pub handing : List (List ℕ) → ℕ

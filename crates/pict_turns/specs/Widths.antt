@@ -1,8 +1,8 @@
--- How many blocks of each width a step makes: no more than the blocks that it needs and that aren't free.
+-- How many blocks of each width a step makes: no more than the blocks that it needs and that aren't free; and it loses none.
 use Rattle.std.specs.Prelude.{◌≤◌, ◌+◌, ◌-◌, ◌==◌, ℕ, List, [], ◌∷◌, if◌then◌else◌, slice_get, option_map, unwrap_or}
 use Rattle.pict_core.specs.Primitives.{Leaves, Nothing, Answer, Trap, Effect}
 use Rattle.pict_code.specs.Instruction.{Node}
-use Rattle.pict_region.specs.RegionState.{spare, blocks}
+use Rattle.pict_region.specs.RegionState.{spare, blocks, LosesNoBlock}
 use Rattle.pict_queue.specs.QueuesState.{QueuesState}
 use Rattle.pict_blocks.specs.Parts.{block_width}
 
@@ -11,10 +11,11 @@ abbrev pub how_many : ℕ → List ℕ → ℕ
 how_many width [] = 0
 how_many width (w ∷ ws) = (if width == w then 1 else 0) + how_many width ws
 
--- Blocks were made only where fewer were free than blocks of these widths are needed, and then only as many as were wanting.
-abbrev pub MakesOnly : QueuesState → QueuesState → List ℕ → Type 0
-MakesOnly old new needed =
-    (width : ℕ) → blocks new.region width ≤ blocks old.region width + (how_many width needed - spare old.region width)
+-- Blocks were made only where fewer were free than blocks of these widths are needed, and then only as many as were wanting. None
+-- was lost.
+pub record MakesOnly (old new : QueuesState) (needed : List ℕ) : Type 0 where
+  pub least : LosesNoBlock old.region new.region
+  pub most : (width : ℕ) → blocks new.region width ≤ blocks old.region width + (how_many width needed - spare old.region width)
 
 -- the width of a block for the frame of the node with this number
 abbrev pub part_width : List Node → ℕ → ℕ

@@ -27,6 +27,7 @@ pub fn spawn_part(store: &mut Store, number: u32, frame: &[u32])
     ensures spawns { Spawns store.old store.new number frame.now }
     ensures kept { KeepsHeld store.old.queues store.new.queues }
     ensures no_more { HoldsNoMore store.old.queues store.new.queues }
+    ensures spare_queues { store.new.queues.spare_queues ≡ store.old.queues.spare_queues }
     ensures blocks { KeepsBlocks store.old.queues.region store.new.queues.region }
     ensures cost { CostsAtMost (block_width frame.now + 2) store.old.queues store.new.queues }
 {
@@ -82,6 +83,7 @@ pub fn make_ready(store: &mut Store, number: u32, frame: &[u32])
     ensures last { (core : Process) → HasFrame (nodes_of core) number frame.now → IsLast core store.old store.new number frame.now }
     ensures kept { KeepsHeld store.old.queues store.new.queues }
     ensures no_more { HoldsNoMore store.old.queues store.new.queues }
+    ensures spare_queues { store.new.queues.spare_queues ≡ store.old.queues.spare_queues }
     ensures blocks { KeepsBlocks store.old.queues.region store.new.queues.region }
     ensures cost { CostsAtMost (block_width frame.now + 2) store.old.queues store.new.queues }
 {

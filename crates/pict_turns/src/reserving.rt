@@ -1,6 +1,6 @@
 // Room for what a step is about to make.
 ghost use Rattle.std.specs.Prelude.{◌≡◌, ◌≤◌, ◌<◌, ◌+◌, ◌-◌, ◌*◌, ◌==◌, ◌∷◌, ℕ, [], length, OnOk, IsOk, if◌then◌else◌};
-ghost use Rattle.pict_region.specs.RegionState.{spare, blocks};
+ghost use Rattle.pict_region.specs.RegionState.{spare, blocks, LosesNoBlock};
 ghost use Rattle.pict_desk.specs.Needs.{no_need, both_needs, HasRoomFor};
 ghost use Rattle.pict_desk.specs.Room.{frame_need};
 ghost use Rattle.pict_blocks.specs.Parts.{block_width};
@@ -15,7 +15,7 @@ use pict_syntax::NARROW_LIMIT;
 use std::alloc::AllocError;
 
 /// Makes room for so much in the heap and on the piles, and free blocks until there are `count` of this width, in words. Where
-/// nothing else is needed and so many blocks are free it takes no memory. An error, which is want of memory, changes nothing but
+/// nothing else is needed and so many blocks are free, or none is asked for, it takes no memory. An error, which is want of memory, changes nothing but
 /// room, of which there is then no less; a number of fields past 32 bits is want of memory.
 #[inline(always)]
 pub fn reserve(store: &mut Store, need: Need, width: u32, count: u64) -> Result<(), AllocError>
@@ -23,9 +23,10 @@ pub fn reserve(store: &mut Store, need: Need, width: u32, count: u64) -> Result<
     requires narrow { width ≤ 65535 }
     ensures room { OnOk result (HasRoomFor store.new.desk.heap store.new.desk.pending need) }
     ensures blocks { OnOk result (count ≤ spare store.new.queues.region width) }
-    ensures enough { need ≡ no_need → 1 ≤ count → count ≤ spare store.old.queues.region width → IsOk result }
+    ensures enough { need ≡ no_need → count ≤ spare store.old.queues.region width → IsOk result }
     ensures most { (w : ℕ) → blocks store.new.queues.region w
         ≤ blocks store.old.queues.region w + ((if w == width then count else 0) - spare store.old.queues.region w) }
+    ensures least { LosesNoBlock store.old.queues.region store.new.queues.region }
     ensures rest { OnlyReserves store.old store.new }
 {
     reserve_room(&mut store.desk, need)?;

@@ -9,7 +9,7 @@ ghost use Rattle.pict_queue.specs.Contents.{held_words, contents, KeepsOtherCont
 ghost use Rattle.pict_turns.specs.Acting.{IsStore, HasActing};
 ghost use Rattle.pict_desk.specs.Code.{core_in, IsCode, HasFrame};
 ghost use Rattle.pict_desk.specs.Pairs.{ArePairs};
-ghost use Rattle.pict_turns.specs.Turns.{ReadsTurn, TakesTurn, turn_cost};
+ghost use Rattle.pict_turns.specs.Turns.{ReadsTurn, TakesTurn, TakesOneBlock, turn_cost};
 ghost use Rattle.pict_turns.specs.Views.{IsNode, IsKept, IsBlock, acting_words, ready_words};
 
 use crate::reading::frame_at;
@@ -166,6 +166,7 @@ pub fn return_turn(store: &mut Store, code: &[Node])
     ensures queues { length store.new.queues.queues ≡ length store.old.queues.queues }
     ensures no_more { HoldsNoMore store.old.queues store.new.queues }
     ensures blocks { KeepsBlocks store.old.queues.region store.new.queues.region }
+    ensures takes { TakesOneBlock store.old.queues store.new.queues (length (acting_words (core_in code.now) store.old) + 1) }
     ensures cost { CostsAtMost (turn_cost (core_in code.now) store.old) store.old.queues store.new.queues }
 {
     match store.turn {

@@ -11,6 +11,7 @@ returns-clause-made c = record {
   spare = c.take_values.ensures.spare;
   widths = c.take_values.ensures.others;
   queues = ap (λ (s : QueuesState). s.queues) c.take_values.ensures.rest;
+  spare_queues = ap (λ (s : QueuesState). s.spare_queues) c.take_values.ensures.rest;
   apart = c.take_values.ensures.apart;
   kept = c.take_values.ensures.kept;
   more = c.take_values.ensures.more;

@@ -29,12 +29,12 @@ returns-clause-blocks c =
     let old = c.args.store.now in
     let mid = c.reserve.new.store in
     subst (λ (q : QueuesState). MakesOnly old.queues q (answer_widths (effect_act old.desk.heap c.args.act))) (sym c.finish.ensures.acted.queues)
-    (makes_act old.queues mid.queues old.desk.heap c.args.act c.outputs.result c.outputs.ensures c.reserve.ensures.most)
+    (makes_act old.queues mid.queues old.desk.heap c.args.act c.outputs.result c.outputs.ensures c.reserve.ensures.least c.reserve.ensures.most)
 
 pub returns-in_err-reserve-clause-blocks : goal.returns-in_err-reserve-clause-blocks
 returns-in_err-reserve-clause-blocks c =
     let old = c.args.store.now in
-    makes_act old.queues c.reserve.new.store.queues old.desk.heap c.args.act c.outputs.result c.outputs.ensures c.reserve.ensures.most
+    makes_act old.queues c.reserve.new.store.queues old.desk.heap c.args.act c.outputs.result c.outputs.ensures c.reserve.ensures.least c.reserve.ensures.most
 
 pub returns-clause-turn : goal.returns-clause-turn
 returns-clause-turn c core =

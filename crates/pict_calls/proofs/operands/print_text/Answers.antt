@@ -38,12 +38,12 @@ pub returns-clause-blocks : goal.returns-clause-blocks
 returns-clause-blocks c =
     let old = c.args.store.now in
     subst (λ (q : QueuesState). MakesOnly old.queues q []) (sym c.finish.ensures.acted.queues)
-    (makes_act old.queues c.reserve.new.store.queues old.desk.heap act.ZeroDivisor 0 refl c.reserve.ensures.most)
+    (makes_act old.queues c.reserve.new.store.queues old.desk.heap act.ZeroDivisor 0 refl c.reserve.ensures.least c.reserve.ensures.most)
 
 pub returns-in_err-reserve-clause-blocks : goal.returns-in_err-reserve-clause-blocks
 returns-in_err-reserve-clause-blocks c =
     let old = c.args.store.now in
-    makes_act old.queues c.reserve.new.store.queues old.desk.heap act.ZeroDivisor 0 refl c.reserve.ensures.most
+    makes_act old.queues c.reserve.new.store.queues old.desk.heap act.ZeroDivisor 0 refl c.reserve.ensures.least c.reserve.ensures.most
 
 pub returns-clause-turn : goal.returns-clause-turn
 returns-clause-turn c core =

@@ -1,4 +1,4 @@
-use Rattle.std.proofs.Common.{ℕ, ◌+◌, ◌<◌, ◌≤◌, List, length, map, sym, ap, ◌∙◌, subst}
+use Rattle.std.proofs.Common.{ℕ, ◌+◌, ◌<◌, ◌≤◌, List, length, map, sym, ap, ◌∙◌, subst, arith}
 use Rattle.std.specs.List.{All}
 use Rattle.std.specs.Option.{IsSome}
 use Rattle.pict_core.specs.Matching.{match_value}
@@ -121,7 +121,13 @@ returns-clause-done c =
     c.bind_levels.ensures.levels c.bind_levels.ensures.pairs f.node (coded_at c.args.code.now c.requires.code c.args.part frame f)
     (subst (λ (ls : List ℕ). Readies core mid new (if_replicated c.args.replicated (acting_words core s)) c.args.part ls) (sym f.is) readies)
     (λ other held.
-    c.take_message-message.ensures.no_more other (subst (λ (x : Store). IsHeld x.queues other) rest (c.make_last.ensures.no_more other held))))
+    c.take_message-message.ensures.no_more other (subst (λ (x : Store). IsHeld x.queues other) rest (c.make_last.ensures.no_more other held)))
+    (let first = c.take_message-message.ensures.queues in
+    let left = c.take_message-message.ensures.spare_queues in
+    let bound = ap (λ (x : Store). length x.queues.queues + x.queues.spare_queues) rest in
+    let same = readies.queues in
+    let last = c.make_last.ensures.spare_queues in
+    omega (arith, first, left, bound, same, last)))
 
 pub returns-clause-turn : goal.returns-clause-turn
 returns-clause-turn c = λ frame has_frame.

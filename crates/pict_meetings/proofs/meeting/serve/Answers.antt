@@ -5,7 +5,7 @@ use Rattle.pict_core.specs.Matching.{match_value}
 use Rattle.pict_code.specs.Plain.{plain_node, plain_pat}
 use Rattle.pict_code.specs.ReadBack.{unleveled}
 use Rattle.pict_region.specs.RegionState.{blocks}
-use Rattle.pict_queue.specs.QueuesState.{IsHeld}
+use Rattle.pict_queue.specs.QueuesState.{QueuesState, IsHeld}
 use Rattle.pict_queue.specs.Contents.{contents}
 use Rattle.pict_view.specs.Moved.{if_replicated}
 use Rattle.pict_blocks.proofs.Held.{works_blocks}
@@ -112,6 +112,13 @@ returns-clause-done c =
     (subst (λ (ls : List ℕ). Readies core bound new [] c.args.part ls) (sym f.is) readies)
     (λ other held. no_more_read (record old { turn = Nobody }) taken reads.read.rest other
     (c.settle.ensures.no_more other (subst (λ (s : Store). IsHeld s.queues other) rest (c.make_ready.ensures.no_more other held))))
+    (let read = ap (λ (q : QueuesState). length q.queues + q.spare_queues) reads.read.rest.queues in
+    let first = c.settle.ensures.queues in
+    let left = c.settle.ensures.spare_queues in
+    let bind = ap (λ (s : Store). length s.queues.queues + s.queues.spare_queues) rest in
+    let same = readies.queues in
+    let last = c.make_ready.ensures.spare_queues in
+    omega (arith, read, first, left, bind, same, last))
 
 pub returns-clause-turn : goal.returns-clause-turn
 returns-clause-turn c = λ frame has_frame.

@@ -1,4 +1,4 @@
-use Rattle.std.proofs.Common.{◌+◌, length, sym, ap, ◌∙◌, subst}
+use Rattle.std.proofs.Common.{◌+◌, length, sym, ap, ◌∙◌, subst, arith}
 use Rattle.pict_core.specs.Step.{Quiet}
 use Rattle.pict_blocks.proofs.Held.{made_pushed, made_no_more}
 use Rattle.pict_turns.specs.Acting.{IsDone}
@@ -23,6 +23,7 @@ returns-clause-output c sends none =
     (λ other apart. w.others other apart ∙ m.contents other)
     (w.queues ∙ ap length m.queues)
     (made_no_more s.queues down q c.set_down-block.result (length words + 1) words m w.gone)
+    (let count = ap length m.queues in let left = m.spare_queues in let more = w.queues in let behind = w.spare_queues in omega (arith, count, left, more, behind))
     sends none)
 
 pub returns-clause-input : goal.returns-clause-input
@@ -40,4 +41,5 @@ returns-clause-input c replicated pattern part receives none =
     (λ other apart. w.others other apart ∙ m.contents other)
     (w.queues ∙ ap length m.queues)
     (made_no_more s.queues down q c.set_down-block.result (length words + 1) words m w.gone)
+    (let count = ap length m.queues in let left = m.spare_queues in let more = w.queues in let behind = w.spare_queues in omega (arith, count, left, more, behind))
     replicated pattern part receives none)

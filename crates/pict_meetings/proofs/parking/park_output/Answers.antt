@@ -1,4 +1,4 @@
-use Rattle.std.proofs.Common.{◌+◌, length, ap, ◌∙◌}
+use Rattle.std.proofs.Common.{◌+◌, length, ap, ◌∙◌, arith}
 use Rattle.pict_blocks.specs.Keeping.{kept_words}
 use Rattle.pict_blocks.proofs.Held.{made_pushed, made_no_more}
 use Rattle.pict_meetings.proofs.Waits.{sent_done}
@@ -18,4 +18,5 @@ returns-clause-done c core sends none =
     (λ other apart. w.others other apart ∙ m.contents other)
     (w.queues ∙ ap length m.queues)
     (made_no_more s.queues made q c.kept_block-waiting.result 9 (kept_words k.result) m w.gone)
+    (let count = ap length m.queues in let left = m.spare_queues in let more = w.queues in let behind = w.spare_queues in omega (arith, count, left, more, behind))
     none

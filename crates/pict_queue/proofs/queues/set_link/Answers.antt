@@ -1,7 +1,6 @@
-use Rattle.std.proofs.Common.{ap, arith}
+use Rattle.std.proofs.Common.{arith}
 use Rattle.pict_queue.proofs.Costs.{raised_least}
 use Rattle.pict_queue.proofs.queues.set_link.Goals as goal
 
 pub returns-clause-least : goal.returns-clause-least
-returns-clause-least c =
-    omega (arith, raised_least c.args.region.now.work, raised_least c.block-token.new.self.work, ap (λ r. r.work) c.block-token.ensures.rest, c.set.ensures.work)
+returns-clause-least c = omega (arith, raised_least c.args.region.now.work, c.set.ensures.work)

@@ -1,4 +1,4 @@
-use Rattle.std.proofs.Common.{ℕ, ◌-◌, length, refl, sym, ap, ◌∙◌}
+use Rattle.std.proofs.Common.{ℕ, ◌-◌, length, refl, sym, ap, ◌∙◌, arith}
 use Rattle.std.proofs.lemmas.List.{length-set, get_or-set_other, length_push}
 use Rattle.pict_core.specs.Term.{Chan}
 use Rattle.pict_heap.specs.declared.word.Word.TheVariants as word
@@ -18,6 +18,7 @@ returns c =
       levels = length-set s.desk.values.items level c.pack.result;
       pairs = set_pairs s.desk.heap s.desk.values.items level w c.pack.result c.pack.ensures.fits packs c.requires.inside tt c.requires.pairs;
       queues = ap length c.in-Ok.ensures.queues ∙ length_push s.queues.queues no_queue;
+      spare_queues = let left = c.in-Ok.ensures.spare_queues in omega (arith, left);
       region = c.add_queue.ensures.region;
       contents = c.add_queue.ensures.contents;
       held = c.add_queue.ensures.kept;

@@ -83,7 +83,8 @@ returns-clause-done c =
     let g = coded_frame c.args.code.now c.requires.code c.args.right c.frame_at-second.result.now c.frame_at-second.ensures in
     done_after core old mid rest last Quiet
     (fork_by core mid handed last c.args.left c.args.right c.frame_at-first.result.now c.frame_at-second.result.now (c.hand_on.ensures.hands core f) c.spawn_part.ensures.spawns f g
-    (acts_still core old mid rest (op.Par c.args.left c.args.right) c.requires.acts) c.in_ok-reserve_parts.ensures.ok c.spawn_part.ensures.no_more)
+    (acts_still core old mid rest (op.Par c.args.left c.args.right) c.requires.acts) c.in_ok-reserve_parts.ensures.ok c.spawn_part.ensures.no_more
+    (let same = c.spawn_part.ensures.spawns.queues in let left = c.spawn_part.ensures.spare_queues in omega (arith, same, left)))
 
 pub returns-clause-turn : goal.returns-clause-turn
 returns-clause-turn c = λ first is.

@@ -37,6 +37,9 @@ pub returns-clause-no_more : goal.returns-clause-no_more
 returns-clause-no_more c =
     made_no_more c.args.store.now.queues c.make_part-part.new.queues c.push_back.new.self _ _ _ c.make_part-part.ensures.part.made c.push_back.ensures.gone
 
+pub returns-clause-spare_queues : goal.returns-clause-spare_queues
+returns-clause-spare_queues c = c.push_back.ensures.rest.spare_queues ∙ c.make_part-part.ensures.part.made.spare_queues
+
 pub returns-clause-blocks : goal.returns-clause-blocks
 returns-clause-blocks c = λ width. c.push_back.ensures.blocks width ∙ c.make_part-part.ensures.part.made.blocks width
 

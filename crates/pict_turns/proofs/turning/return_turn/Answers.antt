@@ -1,6 +1,7 @@
-use Rattle.std.proofs.Common.{◌+◌, length, sym, ap, ◌∙◌, subst, arith}
+use Rattle.std.proofs.Common.{ℕ, List, ◌+◌, ◌≡◌, get_or, length, sym, ap, ◌∙◌, subst, arith}
 use Rattle.pict_blocks.proofs.Costs.{costs_more}
 use Rattle.pict_blocks.proofs.Held.{made_no_more}
+use Rattle.pict_region.specs.RegionState.{spare}
 use Rattle.pict_turns.specs.Acting.{IsStore}
 use Rattle.pict_desk.specs.Code.{core_in}
 use Rattle.pict_turns.specs.Views.{acting_words}
@@ -53,6 +54,20 @@ returns-in_default-clause-no_more c =
 
 pub returns-in_default-clause-blocks : goal.returns-in_default-clause-blocks
 returns-in_default-clause-blocks c = λ width. c.push_front.ensures.blocks width ∙ c.set_down-block.ensures.made.blocks width
+
+pub returns-in_default-clause-takes : goal.returns-in_default-clause-takes
+returns-in_default-clause-takes c =
+    let old = c.args.store.now.queues in
+    let made = c.set_down-block.new.store.queues in
+    let new = c.push_front.new.self in
+    let width = length (acting_words (core_in c.args.code.now) c.args.store.now) + 1 in
+    let m = c.set_down-block.ensures.made in
+    let free : (w : ℕ) → spare new.region w ≡ spare made.region w = λ w. ap (λ (f : List ℕ). get_or f w 0) c.push_front.ensures.rest.free in
+    record {
+      own = let e = free width in let s = m.spare in omega (arith, e, s);
+      others = λ other apart. free other ∙ m.widths other apart;
+      queues = c.push_front.ensures.rest.spare_queues ∙ m.spare_queues;
+    }
 
 pub returns-in_default-clause-cost : goal.returns-in_default-clause-cost
 returns-in_default-clause-cost c =

@@ -34,7 +34,7 @@ returns-clause-takes c =
     turn_takes (core_in c.args.code.now) c.args.store.now c.pop_front.new.self c.in-Some.block (record c.read_turn.new.store { turn = c.args.store.now.turn }) c.read_turn.new.store.turn c.give.new.self c.requires.store c.requires.nobody
     c.in-Some.ensures.popped c.in-Some.ensures.other_contents c.in-Some.ensures.rest c.in-Some.ensures.blocks c.in-Some.ensures.more
     c.read_turn.ensures.read.rest c.read_turn.ensures.read.words c.read_turn.ensures.read.turn c.give.ensures.contents (ap (λ (q : QueuesState). q.queues) c.give.ensures.rest)
-    c.give.ensures.spare c.give.ensures.others c.give.ensures.gone c.give.ensures.blocks
+    c.give.ensures.spare c.give.ensures.others c.give.ensures.gone c.give.ensures.blocks (ap (λ (q : QueuesState). q.spare_queues) c.give.ensures.rest)
 
 pub returns-clause-cost : goal.returns-clause-cost
 returns-clause-cost c =

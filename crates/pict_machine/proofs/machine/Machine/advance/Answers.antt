@@ -8,7 +8,7 @@ use Rattle.pict_turns.specs.Views.{view_with_turn, acting_words}
 use Rattle.pict_desk.specs.Constants.{AreConstants}
 use Rattle.pict_machine.specs.Stepping.{GivesTurn, MayAct, IsStepBy}
 use Rattle.pict_machine.proofs.Taking.{may_act}
-use Rattle.pict_machine.proofs.Steps.{step_kept, step_ok, step_event, step_refused, step_keeps, step_few}
+use Rattle.pict_machine.proofs.Steps.{step_kept, step_ok, step_event, step_refused, step_keeps, step_few, step_queues}
 use Rattle.pict_machine.specs.Needs.{MakesNeeded}
 use Rattle.pict_machine.specs.Plain.{ActsPlainly, TakesNothing}
 use Rattle.pict_machine.specs.Work.{Fits}
@@ -65,4 +65,5 @@ returns c =
       plain = λ m. let x = plain (plainly_given core old.store mid given m) in (x.0, λ width. x.1 width ∙ given.blocks width);
       code = refl;
       channels = step_few old mid new given c.requires.kept c.act.result step;
+      queues = step_queues old mid new given c.requires.kept c.act.result step;
     }

@@ -1,4 +1,4 @@
-use Rattle.std.proofs.Common.{sym, subst}
+use Rattle.std.proofs.Common.{sym, subst, arith}
 use Rattle.pict_view.specs.Right.{IsRightFor}
 use Rattle.pict_view.specs.View.{View, StandsFor}
 use Rattle.pict_view.specs.Watching.{Saw, SawOrTore, RanFor, BrokeOff}
@@ -38,3 +38,6 @@ returns-clause-work g c = rested_work c.args.self.now c.run_on-answer.new.self c
 
 pub returns-clause-blocks : goal.returns-clause-blocks
 returns-clause-blocks g c = rested_blocks c.args.self.now c.run_on-answer.new.self c.rest.new.self c.args.fuel c.run_on-answer.ensures.spends c.rest.ensures.blocks
+
+pub returns-clause-queues : goal.returns-clause-queues
+returns-clause-queues g c = let first = c.run_on-answer.ensures.spends.queues in let then_ = c.rest.ensures.queues in omega (arith, first, then_)

@@ -1,4 +1,4 @@
-use Rattle.std.proofs.Common.{◌≡◌, List, map, ap, ◌∙◌, sym, subst}
+use Rattle.std.proofs.Common.{◌≡◌, ◌+◌, List, length, map, ap, ◌∙◌, sym, subst}
 use Rattle.pict_blocks.specs.Blocks.{process_of}
 use Rattle.pict_desk.specs.Known.{value_in}
 use Rattle.pict_code.specs.Plain.{plain_code, plain_node}
@@ -10,7 +10,7 @@ use Rattle.pict_view.specs.View.{View}
 use Rattle.pict_view.specs.Right.{IsRightFor}
 use Rattle.pict_turns.specs.Acting.{IsStore, HasActing}
 use Rattle.pict_desk.specs.Code.{core_in, IsCode}
-use Rattle.pict_turns.specs.Turns.{TakesTurn, turn_cost}
+use Rattle.pict_turns.specs.Turns.{TakesTurn, TakesOneBlock, turn_cost}
 use Rattle.pict_turns.specs.Views.{acting_words, ready_words}
 use Rattle.pict_turns.specs.declared.store.Store.{Store}
 use Rattle.pict_desk.specs.Constants.{AreConstants}
@@ -20,7 +20,7 @@ use Rattle.pict_machine.specs.Stepping.{MayAct, IsStepBy}
 use Rattle.pict_machine.specs.Work.{Fits}
 use Rattle.pict_machine.proofs.Needing.{needed_whole}
 use Rattle.pict_machine.proofs.Plainly.{plainly_given, idle_plainly}
-use Rattle.pict_machine.proofs.Steps.{idle_view, step_kept, whole_kept, whole_ok, whole_event, whole_trapped, whole_refused, whole_keeps, whole_few}
+use Rattle.pict_machine.proofs.Steps.{idle_view, step_kept, whole_kept, whole_ok, whole_event, whole_trapped, whole_refused, whole_keeps, whole_few, whole_queues}
 use Rattle.pict_machine.proofs.Taking.{first_given, may_act}
 use Rattle.pict_machine.proofs.Working.{step_works}
 use Rattle.pict_machine.proofs.machine.Machine.step_packed.Goals as goal
@@ -90,13 +90,14 @@ returns c =
     let store = subst (λ (code : List Node). IsStore (core_in code) new) c.deref-4.ensures.value back.store in
     let ready = subst (λ (code : List Node). contents new.queues 0 ≡ ready_words (core_in code) acted) c.deref-4.ensures.value back.ready in
     let after = subst (λ (code : List Node). CostsAtMost (turn_cost (core_in code) acted) acted.queues new.queues) c.deref-4.ensures.value back.cost in
+    let down = subst (λ (code : List Node). TakesOneBlock acted.queues new.queues (length (acting_words (core_in code) acted) + 1)) c.deref-4.ensures.value back.takes in
     let heap = ap (λ (s : Store). s.desk.heap) back.rest in
     record {
       kept = whole_kept old kept taken acted new acting takes given heap ready back.others back.queues store (ap (λ (s : Store). s.turn) back.rest) back.no_more c.requires.right result step;
       ok = whole_ok old kept taken acted new acting takes given heap ready back.others back.queues result step;
       event = whole_event old kept taken acted new acting takes given heap ready back.others back.queues result step;
-      trapped = whole_trapped old kept taken acted new acting takes given heap ready back.others back.queues result step;
-      refused = whole_refused old kept taken acted new acting takes given heap ready back.others back.queues result step;
+      trapped = whole_trapped old kept taken acted new acting takes given heap ready back.others back.queues down result step;
+      refused = whole_refused old kept taken acted new acting takes given heap ready back.others back.queues down result step;
       keeps = whole_keeps old kept taken acted new acting takes given heap ready back.others back.queues result step;
       work = step_works core old.store taken acted given work new kept.idle after;
       blocks = needed_whole core old.store taken acted given blocks new kept.idle back.blocks;
@@ -104,4 +105,5 @@ returns c =
           let x = plain (plainly_given core old.store taken given (idle_plainly core old.store kept.idle m)) in
           (x.0, λ width. back.blocks width ∙ x.1 width ∙ takes.blocks width);
       channels = whole_few old kept taken acted new acting takes given heap ready back.others back.queues result step;
+      queues = whole_queues old kept taken acted new acting takes given heap ready back.others back.queues down result step;
     }

@@ -4,24 +4,25 @@ use Rattle.pict_queue.specs.QueuesState.{link_of}
 use Rattle.pict_queue.specs.declared.queues.Queues.TheInside.{Inside}
 use Rattle.pict_queue.proofs.Orders.{list_is, queue_in-added, threaded_added}
 use Rattle.pict_queue.proofs.Calls.{list_seen}
-use Rattle.pict_queue.specs.Threads.{queue_in, state_of}
+use Rattle.pict_queue.specs.Threads.{state_of}
+use Rattle.pict_queue.specs.Ends.{queue_in}
 use Rattle.pict_queue.proofs.Kept.{contents_same, held_same, no_more_same}
 use Rattle.pict_queue.proofs.queues.Queues.add_queue.Goals as goal
 
 pub invariant_of-self-2 : goal.invariant_of-self-2
 invariant_of-self-2 c = record {
-  threaded = threaded_added c.self.inside.region c.self.inside.queues.items c.push.new.self.items c.self.invariant.threaded c.in_ok-push.ensures.items;
-  room = omega (arith, c.self.invariant.room, c.in_ok-push.ensures.len, c.in_ok-push.ensures.capacity, c.push.new.self.ok, c.saturating_sub-self-inside.ensures);
+  threaded = threaded_added c.self.inside.region c.self.inside.ends.queues.items c.push.new.self.queues.items c.self.invariant.threaded c.in_ok-push.ensures.items;
+  room = omega (arith, c.self.invariant.room, c.in_ok-push.ensures.len, c.in_ok-push.ensures.capacity, c.push.new.self.queues.ok, c.saturating_sub-self-inside.ensures);
 }
 
 after : (c : goal.After-self-1) → Inside
-after c = record { region = c.self.inside.region; queues = c.push.new.self; spare = c.saturating_sub-self-inside.result }
+after c = record { region = c.self.inside.region; ends = c.push.new.self; spare = c.saturating_sub-self-inside.result }
 
 pub returns-clause-lists : goal.returns-clause-lists
 unfolding after
 returns-clause-lists c queue =
     list_is (after c) queue
-    ∙ ap (λ q. chain (link_of c.self.inside.region) q.first q.length) (ap (λ qs. queue_in qs queue) c.in_ok-push.ensures.items ∙ queue_in-added c.self.inside.queues.items queue)
+    ∙ ap (λ q. chain (link_of c.self.inside.region) q.first q.length) (ap (λ qs. queue_in qs queue) c.in_ok-push.ensures.items ∙ queue_in-added c.self.inside.ends.queues.items queue)
     ∙ sym (list_seen c.self.inside _ queue c.self.view_is)
 
 pub returns-clause-contents : goal.returns-clause-contents

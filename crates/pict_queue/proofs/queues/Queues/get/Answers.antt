@@ -7,12 +7,12 @@ use Rattle.pict_queue.proofs.queues.Queues.get.Goals as goal
 
 pub invariant_of-self : goal.invariant_of-self
 invariant_of-self c = record {
-  threaded = (live_kept c.self.inside.region c.get.new.self c.self.inside.queues.items c.self.invariant.threaded (ap (λ r. r.live) c.get.ensures.rest)).threaded;
+  threaded = (live_kept c.self.inside.region c.get.new.self c.self.inside.ends.queues.items c.self.invariant.threaded (ap (λ r. r.live) c.get.ensures.rest)).threaded;
   room = c.self.invariant.room;
 }
 
 after : (c : goal.After-get) → QueuesState
-after c = state_of (record { region = c.get.new.self; queues = c.self.inside.queues; spare = c.self.inside.spare })
+after c = state_of (record { region = c.get.new.self; ends = c.self.inside.ends; spare = c.self.inside.spare })
 
 live : (c : goal.After-get) → (after c).region.live ≡ c.args.self.now.region.live
 unfolding after

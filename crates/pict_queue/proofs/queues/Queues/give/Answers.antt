@@ -11,12 +11,12 @@ use Rattle.pict_queue.proofs.Kept.{contents_beside, held_beside, one_more_beside
 use Rattle.pict_queue.proofs.queues.Queues.give.Goals as goal
 
 after : (c : goal.After-give) → Inside
-after c = record { region = c.give.new.self; queues = c.self.inside.queues; spare = c.self.inside.spare }
+after c = record { region = c.give.new.self; ends = c.self.inside.ends; spare = c.self.inside.spare }
 
-stays : (c : goal.After-give) → ThreadsStay c.self.inside.region c.give.new.self c.self.inside.queues.items
+stays : (c : goal.After-give) → ThreadsStay c.self.inside.region c.give.new.self c.self.inside.ends.queues.items
 stays c =
     let gone = ap (λ m. get m c.args.b) c.give.ensures.live ∙ get_removed c.self.inside.region.live c.args.b in
-    apart_changed c.self.inside.region c.give.new.self c.self.inside.queues.items c.args.b c.self.invariant.threaded
+    apart_changed c.self.inside.region c.give.new.self c.self.inside.ends.queues.items c.args.b c.self.invariant.threaded
     (apart_if_held c.self.inside _ c.args.b c.self.view_is c.requires).absent
     (λ other apart. ap (λ m. get m other) c.give.ensures.live ∙ get_remove_apart c.self.inside.region.live c.args.b other apart)
     (λ live. absurd (both_ways (is_some (get c.give.new.self.live c.args.b)) (ap is_some gone) live))

@@ -7,12 +7,12 @@ use Rattle.pict_queue.proofs.queues.Queues.read_values.Goals as goal
 
 pub invariant_of-self : goal.invariant_of-self
 invariant_of-self c = record {
-  threaded = (live_kept c.self.inside.region c.read_values.new.self c.self.inside.queues.items c.self.invariant.threaded (ap (λ r. r.live) c.read_values.ensures.rest)).threaded;
+  threaded = (live_kept c.self.inside.region c.read_values.new.self c.self.inside.ends.queues.items c.self.invariant.threaded (ap (λ r. r.live) c.read_values.ensures.rest)).threaded;
   room = c.self.invariant.room;
 }
 
 after : (c : goal.After-values-1) → QueuesState
-after c = state_of (record { region = c.read_values.new.self; queues = c.self.inside.queues; spare = c.self.inside.spare })
+after c = state_of (record { region = c.read_values.new.self; ends = c.self.inside.ends; spare = c.self.inside.spare })
 
 live : (c : goal.After-values-1) → (after c).region.live ≡ c.args.self.now.region.live
 unfolding after

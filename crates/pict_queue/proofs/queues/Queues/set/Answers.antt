@@ -13,18 +13,18 @@ use Rattle.pict_queue.proofs.Kept.{contents_beside, held_beside, one_more_beside
 use Rattle.pict_queue.proofs.queues.Queues.set.Goals as goal
 
 after : (c : goal.After-set) → Inside
-after c = record { region = c.set.new.self; queues = c.self.inside.queues; spare = c.self.inside.spare }
+after c = record { region = c.set.new.self; ends = c.self.inside.ends; spare = c.self.inside.spare }
 
-held : (c : goal.After-set) → StandsApart c.self.inside.region c.self.inside.queues.items c.args.b.now
+held : (c : goal.After-set) → StandsApart c.self.inside.region c.self.inside.ends.queues.items c.args.b.now
 held c = apart_if_held c.self.inside _ c.args.b.now c.self.view_is c.requires.held
 
-stays : (c : goal.After-set) → ThreadsStay c.self.inside.region c.set.new.self c.self.inside.queues.items
+stays : (c : goal.After-set) → ThreadsStay c.self.inside.region c.set.new.self c.self.inside.ends.queues.items
 stays c =
     let block : List ℕ = set (words_of c.self.inside.region c.args.b.now) c.args.i c.args.word in
     let found = ap (λ m. get m c.args.b.now) c.set.ensures.live ∙ get_inserted c.self.inside.region.live c.args.b.now block in
     let same : width_of c.set.new.self c.args.b.now ≡ width_of c.self.inside.region c.args.b.now =
     ap (λ o. length (unwrap_or o [])) found ∙ length-set (words_of c.self.inside.region c.args.b.now) c.args.i c.args.word in
-    apart_changed c.self.inside.region c.set.new.self c.self.inside.queues.items c.args.b.now c.self.invariant.threaded (held c).absent
+    apart_changed c.self.inside.region c.set.new.self c.self.inside.ends.queues.items c.args.b.now c.self.invariant.threaded (held c).absent
     (λ other apart. ap (λ m. get m other) c.set.ensures.live ∙ get_insert_apart c.self.inside.region.live c.args.b.now block other apart)
     (λ live. (omega (arith, c.self.invariant.threaded.wide c.args.b.now (held c).live, same), c.self.invariant.threaded.small c.args.b.now (held c).live))
 

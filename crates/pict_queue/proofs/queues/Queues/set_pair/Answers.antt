@@ -13,19 +13,19 @@ use Rattle.pict_queue.proofs.Kept.{contents_beside, held_beside, one_more_beside
 use Rattle.pict_queue.proofs.queues.Queues.set_pair.Goals as goal
 
 after : (c : goal.After-set_pair) → Inside
-after c = record { region = c.set_pair.new.self; queues = c.self.inside.queues; spare = c.self.inside.spare }
+after c = record { region = c.set_pair.new.self; ends = c.self.inside.ends; spare = c.self.inside.spare }
 
-held : (c : goal.After-set_pair) → StandsApart c.self.inside.region c.self.inside.queues.items c.args.b.now
+held : (c : goal.After-set_pair) → StandsApart c.self.inside.region c.self.inside.ends.queues.items c.args.b.now
 held c = apart_if_held c.self.inside _ c.args.b.now c.self.view_is c.requires.held
 
-stays : (c : goal.After-set_pair) → ThreadsStay c.self.inside.region c.set_pair.new.self c.self.inside.queues.items
+stays : (c : goal.After-set_pair) → ThreadsStay c.self.inside.region c.set_pair.new.self c.self.inside.ends.queues.items
 stays c =
     let block : List ℕ = set (set (words_of c.self.inside.region c.args.b.now) c.args.i c.args.pair.0) (c.args.i + 1) c.args.pair.1 in
     let found = ap (λ m. get m c.args.b.now) c.set_pair.ensures.live ∙ get_inserted c.self.inside.region.live c.args.b.now block in
     let same : width_of c.set_pair.new.self c.args.b.now ≡ width_of c.self.inside.region c.args.b.now =
     ap (λ o. length (unwrap_or o [])) found ∙ length-set (set (words_of c.self.inside.region c.args.b.now) c.args.i c.args.pair.0) (c.args.i + 1) c.args.pair.1
     ∙ length-set (words_of c.self.inside.region c.args.b.now) c.args.i c.args.pair.0 in
-    apart_changed c.self.inside.region c.set_pair.new.self c.self.inside.queues.items c.args.b.now c.self.invariant.threaded (held c).absent
+    apart_changed c.self.inside.region c.set_pair.new.self c.self.inside.ends.queues.items c.args.b.now c.self.invariant.threaded (held c).absent
     (λ other apart. ap (λ m. get m other) c.set_pair.ensures.live ∙ get_insert_apart c.self.inside.region.live c.args.b.now block other apart)
     (λ live. (omega (arith, c.self.invariant.threaded.wide c.args.b.now (held c).live, same), c.self.invariant.threaded.small c.args.b.now (held c).live))
 

@@ -13,15 +13,15 @@ use Rattle.pict_queue.proofs.Kept.{contents_beside, held_beside, one_more_beside
 use Rattle.pict_queue.proofs.queues.Queues.take.Goals as goal
 
 after : (c : goal.After-take) → Inside
-after c = record { region = c.take.new.self; queues = c.self.inside.queues; spare = c.self.inside.spare }
+after c = record { region = c.take.new.self; ends = c.self.inside.ends; spare = c.self.inside.spare }
 
-stays : (c : goal.After-take) → ThreadsStay c.self.inside.region c.take.new.self c.self.inside.queues.items
+stays : (c : goal.After-take) → ThreadsStay c.self.inside.region c.take.new.self c.self.inside.ends.queues.items
 stays c =
     let block : List ℕ = replicate c.args.width 0 in
     let found = ap (λ m. get m c.take.result) c.take.ensures.live ∙ get_inserted c.self.inside.region.live c.take.result block in
     let wide : width_of c.take.new.self c.take.result ≡ c.args.width = ap (λ o. length (unwrap_or o [])) found ∙ length-replicate c.args.width 0 in
-    apart_changed c.self.inside.region c.take.new.self c.self.inside.queues.items c.take.result c.self.invariant.threaded
-    (absent_if_new c.self.inside.region c.self.inside.queues.items c.take.result c.self.invariant.threaded c.take.ensures.fresh)
+    apart_changed c.self.inside.region c.take.new.self c.self.inside.ends.queues.items c.take.result c.self.invariant.threaded
+    (absent_if_new c.self.inside.region c.self.inside.ends.queues.items c.take.result c.self.invariant.threaded c.take.ensures.fresh)
     (λ other apart. ap (λ m. get m other) c.take.ensures.live ∙ get_insert_apart c.self.inside.region.live c.take.result block other apart)
     (λ live. (omega (arith, c.requires.wide, wide), c.take.ensures.small))
 
@@ -40,7 +40,7 @@ returns-clause-held c =
     held_if_apart (after c) c.take.result (record {
       live = ap is_some found;
       absent = λ q. ap (list_any (eqb c.take.result)) ((stays c).same q)
-          ∙ absent_if_new c.self.inside.region c.self.inside.queues.items c.take.result c.self.invariant.threaded c.take.ensures.fresh q;
+          ∙ absent_if_new c.self.inside.region c.self.inside.ends.queues.items c.take.result c.self.invariant.threaded c.take.ensures.fresh q;
     })
 
 others : (c : goal.After-take) (other : ℕ) → other ≢ c.take.result → get c.take.new.self.live other ≡ get c.args.self.now.region.live other

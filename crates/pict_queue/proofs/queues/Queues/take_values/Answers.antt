@@ -13,7 +13,7 @@ use Rattle.pict_queue.proofs.Kept.{contents_beside, held_beside, one_more_beside
 use Rattle.pict_queue.proofs.queues.Queues.take_values.Goals as goal
 
 after : (c : goal.After-take_values) → Inside
-after c = record { region = c.take_values.new.self; queues = c.self.inside.queues; spare = c.self.inside.spare }
+after c = record { region = c.take_values.new.self; ends = c.self.inside.ends; spare = c.self.inside.spare }
 
 -- the words of the block
 words : (c : goal.After-take_values) → List ℕ
@@ -23,13 +23,13 @@ gained : (c : goal.After-take_values) → get c.take_values.new.self.live c.take
 unfolding words
 gained c = ap (λ m. get m c.take_values.result) c.take_values.ensures.live.live ∙ get_inserted c.self.inside.region.live c.take_values.result (words c)
 
-stays : (c : goal.After-take_values) → ThreadsStay c.self.inside.region c.take_values.new.self c.self.inside.queues.items
+stays : (c : goal.After-take_values) → ThreadsStay c.self.inside.region c.take_values.new.self c.self.inside.ends.queues.items
 unfolding words
 stays c =
     let found = gained c in
     let wide : width_of c.take_values.new.self c.take_values.result ≡ length (words c) = ap (λ o. length (unwrap_or o [])) found in
-    apart_changed c.self.inside.region c.take_values.new.self c.self.inside.queues.items c.take_values.result c.self.invariant.threaded
-    (absent_if_new c.self.inside.region c.self.inside.queues.items c.take_values.result c.self.invariant.threaded c.take_values.ensures.fresh)
+    apart_changed c.self.inside.region c.take_values.new.self c.self.inside.ends.queues.items c.take_values.result c.self.invariant.threaded
+    (absent_if_new c.self.inside.region c.self.inside.ends.queues.items c.take_values.result c.self.invariant.threaded c.take_values.ensures.fresh)
     (λ other apart. ap (λ m. get m other) c.take_values.ensures.live.live ∙ get_insert_apart c.self.inside.region.live c.take_values.result (words c) other apart)
     (λ live. (omega (arith, wide), c.take_values.ensures.small))
 
@@ -47,7 +47,7 @@ returns-clause-held c =
     held_if_apart (after c) c.take_values.result (record {
       live = ap is_some found;
       absent = λ q. ap (list_any (eqb c.take_values.result)) ((stays c).same q)
-          ∙ absent_if_new c.self.inside.region c.self.inside.queues.items c.take_values.result c.self.invariant.threaded c.take_values.ensures.fresh q;
+          ∙ absent_if_new c.self.inside.region c.self.inside.ends.queues.items c.take_values.result c.self.invariant.threaded c.take_values.ensures.fresh q;
     })
 
 others : (c : goal.After-take_values) (other : ℕ) → other ≢ c.take_values.result → get c.take_values.new.self.live other ≡ get c.args.self.now.region.live other
