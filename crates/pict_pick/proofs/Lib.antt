@@ -1,3 +1,3 @@
 pub mod Running
-mod OneRun
-mod Picking
+pub mod OneRun
+pub mod Picking

@@ -8,6 +8,8 @@ pub mod Right
 pub mod Continuing
 pub mod Written
 pub mod Running
+pub mod Picked
+pub mod Recording
 pub mod Counting
 pub mod Runs
 pub mod Some

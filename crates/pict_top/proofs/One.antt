@@ -6,7 +6,7 @@ use Rattle.pict_core.specs.Configuration.{opening}
 use Rattle.pict_core.specs.Run as run
 use Rattle.pict_core.specs.Run.{steps_done}
 use Rattle.pict_core.proofs.OneRun.{one_run}
-use Rattle.pict_words.specs.Words.{Command, Run, Trace, Check, Code, Load, HasShape, HasNoShape, default_fuel}
+use Rattle.pict_words.specs.Words.{Command, Run, Trace, Check, Code, Load, Pick, Picked, HasShape, HasNoShape, default_fuel}
 use Rattle.pict_words.proofs.Commands.{one_command}
 use Rattle.pict_front.specs.Phases.{Phase, accepts, refuses}
 use Rattle.pict_front.specs.Front.{Stop, Front}
@@ -16,10 +16,12 @@ use Rattle.pict_top.specs.declared.run.Finish.{Finish}
 use Rattle.pict_top.specs.declared.run.Finish.TheVariants.{Done, FuelSpent, Trap}
 use Rattle.pict_top.specs.Origins.{origin_of, name_of, prelude_of}
 use Rattle.pict_top.specs.Answer.{Answer, Absent, Refusal, Ended, IsAnswer, IsDone, Does, Shows, Writing}
+use Rattle.pict_top.specs.Picking.{PicksAndShows, Recording}
 use Rattle.pict_top.specs.Outcome.{Outcome, outcome_of, text_in}
 use Rattle.pict_top.specs.Owed.{OwesCommand, OwesWords}
 use Rattle.pict_top.specs.declared.status.Status.TheVariants as status
 use Rattle.pict_top.proofs.Reading.{IsKnown}
+use Rattle.pict_top.proofs.Recording.{one_picked}
 
 -- ---- answers
 
@@ -43,6 +45,10 @@ one_shown p fuel written e g a b x y =
     λ i. written (steps_done (one.0 i) (one.2 i)) (same i) (one.1 i) in
     (same, x.shows ∙ bytes ∙ sym y.shows)
 
+one_pick : (p : Process) (seed fuel : ℕ) (written : Recording) (e g : Finish) (a b : List ℕ) → PicksAndShows p seed fuel written e a → PicksAndShows p seed fuel written g b → (e ≡ g) × (a ≡ b)
+one_pick p seed fuel written e g a b x y =
+    let one = one_picked p seed fuel written e g a b x y in (sym (known_by e) ∙ ap finish_by one.0 ∙ known_by g, one.1)
+
 -- a command's work has one end, and writes the same bytes
 one_work : (command : Command) (names : List (List ℕ)) (p : Process) (e g : Finish) (a b : List ℕ) → Does command names p e a → Does command names p g b → (e ≡ g) × (a ≡ b)
 one_work (Run o) names p e g a b x y = one_shown p o.fuel _ e g a b x y
@@ -50,6 +56,8 @@ one_work (Trace o) names p e g a b x y = one_shown p o.fuel _ e g a b x y
 one_work (Check o) names p e g a b x y = (x.done ∙ sym y.done, x.nothing ∙ sym y.nothing)
 one_work (Code o) names p e g a b x y = (x.done ∙ sym y.done, x.listing ∙ sym y.listing)
 one_work (Load n) names p e g a b x y = one_shown p default_fuel _ e g a b x y
+one_work (Pick seed o) names p e g a b x y = one_pick p seed o.fuel _ e g a b x y
+one_work (Picked seed o) names p e g a b x y = one_pick p seed o.fuel _ e g a b x y
 
 one_done : (command : Command) (said : Phase Stop Front) (a b : Answer) → IsDone command said a → IsDone command said b → a ≡ b
 one_done command (refuses (code, span)) a b x y = x ∙ sym y

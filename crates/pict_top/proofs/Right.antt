@@ -5,8 +5,8 @@ use Rattle.pict_core.specs.Closed.{IsClosed}
 use Rattle.pict_core.specs.Configuration.{Configuration, IsConfiguration, opening}
 use Rattle.pict_core.specs.Step.{Label, IsWrong}
 use Rattle.pict_core.specs.Run.{Reaches}
-use Rattle.pict_core.proofs.Kept.{free_steps_keep, oldest_first_is_free}
-use Rattle.pict_reduction.specs.Reached.{FreelyReaches, at_start, by_step}
+use Rattle.pict_core.proofs.Kept.{free_steps_keep, oldest_first_is_free, wrong_steps}
+use Rattle.pict_reduction.specs.Reached.{FreelyReaches, NoFreeRunIsWrong, at_start, by_step}
 use Rattle.pict_reduction.proofs.Apart.{opening_reached}
 use Rattle.pict_sound.proofs.Programs.{program_is_never_wrong, program_steps_are_not_wrong}
 use Rattle.pict_view.specs.Right.{RunsRight}
@@ -30,8 +30,13 @@ run_is_free p closed (suc n) labels C r =
     let s = oldest_first_is_free r.0 C r.2 x.is r.4 in
     record { is = free_steps_keep r.0 s.0 C r.2 x.is s.1; freely = by_step x.freely s.1 }
 
+-- where no free run is wrong none of the oldest-first steps is
+pub runs_right : (p : Process) → IsClosed p → NoFreeRunIsWrong p → (fuel : ℕ) → RunsRight p fuel
+runs_right p closed right fuel n labels C few reached wrong =
+    let f = run_is_free p closed n labels C reached in right C f.freely (wrong_steps C f.is wrong)
+
 -- no configuration that free steps reach is wrong
-pub accepted_is_freely_right : (front : Front) → IsAccepted front → (C : Configuration) → FreelyReaches (opening front.core) C → IsWrong C → ⊥
+pub accepted_is_freely_right : (front : Front) → IsAccepted front → NoFreeRunIsWrong front.core
 accepted_is_freely_right front a C reached = program_is_never_wrong front.names a.program C a.typed (subst (λ p. FreelyReaches (opening p) C) a.core reached)
 
 -- no configuration of the run is wrong

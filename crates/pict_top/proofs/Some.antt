@@ -5,12 +5,14 @@ use Rattle.pict_syntax.specs.declared.limits.TheConstants.{TEXT_LIMIT}
 use Rattle.pict_outside.specs.Texts.{Texts}
 use Rattle.pict_syntax.specs.declared.code.Code.TheVariants.{B1}
 use Rattle.pict_core.specs.Term.{Process}
+use Rattle.pict_core.specs.Closed.{IsClosed}
 use Rattle.pict_core.specs.Configuration.{opening}
 use Rattle.pict_core.specs.Run.{steps_done}
+use Rattle.pict_reduction.specs.Reached.{NoFreeRunIsWrong}
 use Rattle.pict_view.specs.Right.{RunsRight}
 use Rattle.pict_code.specs.Nodes.{nodes_of}
 use Rattle.pict_code.specs.Listing.{listing_text}
-use Rattle.pict_words.specs.Words.{Command, Run, Trace, Check, Code, Load, default_fuel}
+use Rattle.pict_words.specs.Words.{Command, Run, Trace, Check, Code, Load, Pick, Picked, default_fuel}
 use Rattle.pict_words.proofs.Some.{shape_or_not}
 use Rattle.pict_load.specs.Text.{load_text}
 use Rattle.pict_front.specs.Phases.{Phase, accepts, refuses}
@@ -27,7 +29,9 @@ use Rattle.pict_top.specs.Owed.{OwesCommand, OwesWords}
 use Rattle.pict_top.specs.Laws.{OneOutcome, LoadNeedsNoShelf}
 use Rattle.pict_top.proofs.Reading.{told_known, told_some}
 use Rattle.pict_top.proofs.Continuing.{continues_from}
-use Rattle.pict_top.proofs.Right.{accepted_runs_right}
+use Rattle.pict_top.proofs.Recording.{some_picked}
+use Rattle.pict_top.proofs.Right.{runs_right, accepted_is_freely_right}
+use Rattle.pict_top.proofs.Sound.{accepted_closed}
 use Rattle.pict_top.proofs.One.{at_most_one}
 use Rattle.pict_top.proofs.Load.{one_of_load, never_asked}
 
@@ -39,17 +43,20 @@ some_shown p fuel written right =
     (on.finish, written (steps_done (end_of on.finish) on.runs.steps) on.finish on.rest, record { labels = on.rest; runs = on.runs; shows = refl })
 
 -- a command's work ends somehow
-some_work : (command : Command) (names : List (List ℕ)) (p : Process) → ((fuel : ℕ) → RunsRight p fuel) → (e : Finish) × (bytes : List ℕ) × Does command names p e bytes
-some_work (Run o) names p right = some_shown p o.fuel _ (right o.fuel)
-some_work (Trace o) names p right = some_shown p o.fuel _ (right o.fuel)
-some_work (Check o) names p right = (Done, [], record { done = refl; nothing = refl })
-some_work (Code o) names p right = (Done, listing_text names (nodes_of p), record { done = refl; listing = refl })
-some_work (Load n) names p right = some_shown p default_fuel _ (right default_fuel)
+some_work : (command : Command) (names : List (List ℕ)) (p : Process) → IsClosed p → NoFreeRunIsWrong p → (e : Finish) × (bytes : List ℕ) × Does command names p e bytes
+some_work (Run o) names p closed right = some_shown p o.fuel _ (runs_right p closed right o.fuel)
+some_work (Trace o) names p closed right = some_shown p o.fuel _ (runs_right p closed right o.fuel)
+some_work (Check o) names p closed right = (Done, [], record { done = refl; nothing = refl })
+some_work (Code o) names p closed right = (Done, listing_text names (nodes_of p), record { done = refl; listing = refl })
+some_work (Load n) names p closed right = some_shown p default_fuel _ (runs_right p closed right default_fuel)
+some_work (Pick seed o) names p closed right = some_picked p seed o.fuel _ closed right
+some_work (Picked seed o) names p closed right = some_picked p seed o.fuel _ closed right
 
 some_done : (command : Command) (text : List ℕ) (said : Phase Stop Front) → IsFront (prelude_of (origin_of command)) text said → (a : Answer) × IsDone command said a
 some_done command text (refuses (code, span)) stands = (Refusal code span, refl)
 some_done command text (accepts front) stands =
-    let some = some_work command front.names front.core (accepted_runs_right front (accepted_is_typed (prelude_of (origin_of command)) text front stands)) in
+    let accepted = accepted_is_typed (prelude_of (origin_of command)) text front stands in
+    let some = some_work command front.names front.core (accepted_closed front accepted) (accepted_is_freely_right front accepted) in
     (Ended some.0 some.1, (some.0, some.1, some.2, refl))
 
 some_answer : (command : Command) (file : Option (List ℕ)) → (a : Answer) × IsAnswer command file a

@@ -17,7 +17,7 @@ use Rattle.pict_top.specs.Owed.{Accepts}
 use Rattle.pict_top.specs.Soundness.{IsSound, IsFreelySound}
 use Rattle.pict_top.proofs.Right.{accepted_is_freely_right, accepted_is_never_wrong}
 
-accepted_closed : (front : Front) → IsAccepted front → IsClosed front.core
+pub accepted_closed : (front : Front) → IsAccepted front → IsClosed front.core
 accepted_closed front a = subst IsClosed (sym a.core) (program_closed front.names a.program (scoped_distinct front.names a.program a.scoped))
 
 pub accepted_sound : (words : List (List ℕ)) (held : Option Texts) (front : Front) → Accepts words held front → IsSound front.core

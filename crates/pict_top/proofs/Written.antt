@@ -8,7 +8,7 @@ use Rattle.pict_view.specs.Watching.{view_after, Saw, SawOrTore, IsTorn}
 use Rattle.pict_top.specs.Printed.{Form, written_in, written_after, WrittenInPart}
 
 module _ (form : Form) where
-  written-append : (ls ms : List (ℕ × Label)) → written_in form (ls ++ ms) ≡ written_in form ls ++ written_in form ms
+  pub written-append : (ls ms : List (ℕ × Label)) → written_in form (ls ++ ms) ≡ written_in form ls ++ written_in form ms
   written-append [] ms = refl
   written-append (l ∷ ls) ms = ap (λ b. form l.0 l.1 ++ b) (written-append ls ms) ∙ sym (append_assoc (form l.0 l.1) (written_in form ls) (written_in form ms))
 

@@ -12,12 +12,13 @@ use Rattle.pict_code.specs.Listing.{listing_text}
 use Rattle.pict_trace.specs.Lines.{lines_text}
 use Rattle.pict_front.specs.Phases.{Phase, accepts, refuses}
 use Rattle.pict_front.specs.Front.{Stop, Front, IsFront, first_place}
-use Rattle.pict_words.specs.Words.{Command, Run, Trace, Check, Code, Load, default_fuel}
+use Rattle.pict_words.specs.Words.{Command, Run, Trace, Check, Code, Load, Pick, Picked, default_fuel}
 use Rattle.pict_load.specs.Text.{load_text}
 use Rattle.pict_load.specs.Counted.{communications_of}
 use Rattle.pict_load.specs.Summary.{summary_text}
 use Rattle.pict_top.specs.Origins.{origin_of, prelude_of}
 use Rattle.pict_top.specs.Ends.{end_of, machine_end}
+use Rattle.pict_top.specs.Picking.{PicksAndShows, picked_bytes, recorded}
 use Rattle.pict_top.specs.declared.run.Finish.{Finish}
 use Rattle.pict_top.specs.declared.run.Finish.TheVariants.{Done}
 
@@ -65,6 +66,8 @@ Does (Trace options) names process = Shows process options.fuel (traced names)
 Does (Check options) names process = IsChecked
 Does (Code options) names process = Lists names process
 Does (Load n) names process = Shows process default_fuel (summed_up n)
+Does (Pick seed options) names process = PicksAndShows process seed options.fuel picked_bytes
+Does (Picked seed options) names process = PicksAndShows process seed options.fuel (recorded names)
 
 pub data Answer : Type 0 where
   Absent : Answer

@@ -1,12 +1,14 @@
 pub mod Numbers
 pub mod Origins
 pub mod Ends
+pub mod Picking
 pub mod Answer
 pub mod Outcome
 pub mod Owed
 pub mod Changes
 pub mod Meets
 pub mod Printed
+pub mod Notes
 pub mod Soundness
 pub mod Headline
 pub mod Laws

@@ -1,7 +1,7 @@
 -- Where a command's text comes from.
 use Rattle.std.specs.Prelude.{◌≡◌, ℕ, Bool, true, false, List, Option, Some, None, IfSome, codes}
 use Rattle.pict_outside.specs.Texts.{Texts, text_of}
-use Rattle.pict_words.specs.Words.{Command, Run, Trace, Check, Code, Load}
+use Rattle.pict_words.specs.Words.{Command, Run, Trace, Check, Code, Load, Pick, Picked}
 use Rattle.pict_report.specs.Prelude.{prelude_text}
 use Rattle.pict_load.specs.Text.{load_text}
 
@@ -16,6 +16,8 @@ origin_of (Trace options) = File options.bare options.file
 origin_of (Check options) = File options.bare options.file
 origin_of (Code options) = File options.bare options.file
 origin_of (Load n) = Own (codes "load") (load_text n)
+origin_of (Pick seed options) = File options.bare options.file
+origin_of (Picked seed options) = File options.bare options.file
 
 -- the name of a text in reports
 abbrev pub name_of : Origin → List ℕ

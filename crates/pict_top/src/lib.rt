@@ -3,7 +3,9 @@
 
 mod form;
 mod laws;
+mod notes;
 mod origin;
+mod picking;
 mod print;
 mod printer;
 mod run;

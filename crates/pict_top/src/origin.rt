@@ -21,6 +21,8 @@ pub fn name_of<'a>(command: Command<'a>) -> &'a str
         Command::Check(options) => options.file,
         Command::Code(options) => options.file,
         Command::Load(_) => "load",
+        Command::Pick(_, options) => options.file,
+        Command::Picked(_, options) => options.file,
     }
 }
 
@@ -35,6 +37,8 @@ pub fn prelude_of(command: Command<'_>) -> Option<&'static [u8]>
         Command::Check(options) => prelude_unless_bare(options),
         Command::Code(options) => prelude_unless_bare(options),
         Command::Load(_) => None,
+        Command::Pick(_, options) => prelude_unless_bare(options),
+        Command::Picked(_, options) => prelude_unless_bare(options),
     }
 }
 

@@ -33,8 +33,10 @@ use std::alloc::{AllocError, Global};
 /// `run` runs the program and writes what it prints on `out`, each printing that isn't empty in one write right after its step;
 /// `trace` writes a line for each communication and each printing, each in one write right after its step; `code` runs nothing,
 /// and writes the listing of the program's instructions, each line in one write. `load` reads no file: it makes a program from a
-/// number, runs it, and writes a summary, each line in one write. The text of the status, if it has one, is written on `err` in
-/// one write.
+/// number, runs it, and writes a summary, each line in one write. `pick` runs the program with choices from a seed, and writes
+/// what it prints as `run` does; `picked` runs it twice, and writes a line for each of these choices, the line `trace`, and then
+/// the lines that `trace` would write of this run, each in one write. The text of the status, if it has one, is written on `err`
+/// in one write.
 pub fn pict<S: Shelf, O: Sink, E: Sink>(
     alloc: Global,
     words: &[&str],

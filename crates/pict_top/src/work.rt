@@ -2,6 +2,7 @@
 ghost use Rattle.std.specs.Prelude.{◌≡◌, ◌≤◌, IfOk, Err, None, Some, length};
 ghost use Rattle.pict_core.specs.Closed.{IsClosed};
 ghost use Rattle.pict_core.specs.Plain.{plain_core};
+ghost use Rattle.pict_reduction.specs.Reached.{NoFreeRunIsWrong};
 ghost use Rattle.pict_view.specs.Right.{RunsRight};
 ghost use Rattle.pict_load.specs.Text.{load_text};
 ghost use Rattle.pict_words.specs.Plain.{plain_command};
@@ -12,6 +13,8 @@ ghost use Rattle.pict_top.specs.Origins.{origin_of, MayRead};
 ghost use Rattle.pict_top.specs.Printed.{Finished, Somehow};
 
 use crate::form::Form;
+use crate::notes::Note;
+use crate::picking::{record_picks, run_picked};
 use crate::run::{Broken, Finish, finish_of, run_core};
 use pict_code::{ListError, listing};
 use pict_core::Core;
@@ -23,8 +26,8 @@ use pict_syntax::{FUEL_LIMIT, Names};
 use pict_words::{Command, DEFAULT_FUEL};
 use std::alloc::{AllocError, Global};
 
-/// Does a command's work with a text that it reads, and with the text's names and core process, of whose run with the command's
-/// fuel no step may be wrong. On an error a beginning of what the work writes was written; `Sink` comes only where the sink's count of faults rose.
+/// Does a command's work with a text that it reads, and with the text's names and core process, of which no free run may be
+/// wrong. On an error a beginning of what the work writes was written; `Sink` comes only where the sink's count of faults rose.
 pub fn perform<O: Sink>(
     alloc: Global,
     command: Command<'_>,
@@ -35,7 +38,7 @@ pub fn perform<O: Sink>(
     requires read { MayRead None (origin_of (plain_command command)) (Some text.now) }
     requires closed { IsClosed (plain_core front.core) }
     requires fuel { fuel_of (plain_command command) ≤ FUEL_LIMIT }
-    requires right { RunsRight (plain_core front.core) (fuel_of (plain_command command)) }
+    requires right { NoFreeRunIsWrong (plain_core front.core) }
     ensures done { IfOk result (λ finish. Finished (Does (plain_command command.entry) front.names (plain_core front.core)) finish
         (change_of O.taken O.faults out.old out.new)) }
     ensures sink { result ≡ Err Broken.Sink → Somehow (Does (plain_command command.entry) front.names (plain_core front.core))
@@ -51,6 +54,13 @@ pub fn perform<O: Sink>(
         Command::Check(_) => Ok(Finish::Done),
         Command::Code(_) => list_core(alloc, &names, &core, out),
         Command::Load(n) => sum_up(alloc, n, text.len() as u64, core, out),
+        Command::Pick(seed, options) => {
+            let note = Note::Shown(Form::Printed);
+            run_picked(alloc, note, &names, &core, seed, options.fuel, out)
+        }
+        Command::Picked(seed, options) => {
+            record_picks(alloc, &names, &core, seed, options.fuel, out)
+        }
     }
 }
 

@@ -20,23 +20,23 @@ use Rattle.pict_trace.proofs.Gained.{labels_kept}
 use Rattle.pict_trace.proofs.Fields.{labels_extend}
 use Rattle.pict_lex.proofs.StepLemmas.{with_names_last}
 
--- ---- the number in front
+-- ---- the number in front, and the byte that ends it
 
-pub number_found : (text : List ℕ) (n : ℕ) (len : ℕ) (rest : List ℕ) → take len text ≡ decimal n → take (length text - len) (drop len text) ≡ 32 ∷ rest → text ≡ decimal n ++ (32 ∷ rest)
-number_found text n len rest e f = sym (take-append-drop len text) ∙ ap (λ t. t ++ drop len text) e ∙ ap (λ t. decimal n ++ t) (sym (slice_rest text len) ∙ f)
+pub number_found : (text : List ℕ) (stop n : ℕ) (len : ℕ) (rest : List ℕ) → take len text ≡ decimal n → take (length text - len) (drop len text) ≡ stop ∷ rest → text ≡ decimal n ++ (stop ∷ rest)
+number_found text stop n len rest e f = sym (take-append-drop len text) ∙ ap (λ t. t ++ drop len text) e ∙ ap (λ t. decimal n ++ t) (sym (slice_rest text len) ∙ f)
 
-number_parts : (text : List ℕ) (len n : ℕ) (rest : List ℕ) → ((k : ℕ) → k < len → is_end (get_or text k 0) ≡ false) → (len < length text → is_end (get_or text len 0) ≡ true) → n < 2 ^ 64 → text ≡ decimal n ++ (32 ∷ rest)
-    → (take len text ≡ decimal n) × (drop len text ≡ 32 ∷ rest)
-number_parts text len n rest before ends few e =
-    run_same is_solid (take len text) (decimal n) (drop len text) (32 ∷ rest) (solid_taken len text before) (digits_all is_solid digit_solid (decimal n) (numeral n few).1) (stops_solid (drop len text) (ends_drop len text ends)) refl (take-append-drop len text ∙ e)
+number_parts : (text : List ℕ) (stop len n : ℕ) (rest : List ℕ) → is_end stop ≡ true → ((k : ℕ) → k < len → is_end (get_or text k 0) ≡ false) → (len < length text → is_end (get_or text len 0) ≡ true) → n < 2 ^ 64 → text ≡ decimal n ++ (stop ∷ rest)
+    → (take len text ≡ decimal n) × (drop len text ≡ stop ∷ rest)
+number_parts text stop len n rest is before ends few e =
+    run_same is_solid (take len text) (decimal n) (drop len text) (stop ∷ rest) (solid_taken len text before) (digits_all is_solid digit_solid (decimal n) (numeral n few).1) (stops_solid (drop len text) (ends_drop len text ends)) (stops_solid (stop ∷ rest) is) (take-append-drop len text ∙ e)
 
-pub number_none : (text : List ℕ) (len : ℕ) → ((k : ℕ) → k < len → is_end (get_or text k 0) ≡ false) → (len < length text → is_end (get_or text len 0) ≡ true) → ((n : ℕ) → n < 2 ^ 64 → take len text ≢ decimal n)
-    → (n : ℕ) (rest : List ℕ) → n < 2 ^ 64 → text ≢ decimal n ++ (32 ∷ rest)
-number_none text len before ends none n rest few e = none n few (number_parts text len n rest before ends few e).0
+pub number_none : (text : List ℕ) (stop len : ℕ) → is_end stop ≡ true → ((k : ℕ) → k < len → is_end (get_or text k 0) ≡ false) → (len < length text → is_end (get_or text len 0) ≡ true) → ((n : ℕ) → n < 2 ^ 64 → take len text ≢ decimal n)
+    → (n : ℕ) (rest : List ℕ) → n < 2 ^ 64 → text ≢ decimal n ++ (stop ∷ rest)
+number_none text stop len is before ends none n rest few e = none n few (number_parts text stop len n rest is before ends few e).0
 
-pub space_none : (text : List ℕ) (len : ℕ) → ((k : ℕ) → k < len → is_end (get_or text k 0) ≡ false) → (len < length text → is_end (get_or text len 0) ≡ true) → ((rest : List ℕ) → take (length text - len) (drop len text) ≢ 32 ∷ rest)
-    → (n : ℕ) (rest : List ℕ) → n < 2 ^ 64 → text ≢ decimal n ++ (32 ∷ rest)
-space_none text len before ends none n rest few e = none rest (slice_rest text len ∙ (number_parts text len n rest before ends few e).1)
+pub stop_none : (text : List ℕ) (stop len : ℕ) → is_end stop ≡ true → ((k : ℕ) → k < len → is_end (get_or text k 0) ≡ false) → (len < length text → is_end (get_or text len 0) ≡ true) → ((rest : List ℕ) → take (length text - len) (drop len text) ≢ stop ∷ rest)
+    → (n : ℕ) (rest : List ℕ) → n < 2 ^ 64 → text ≢ decimal n ++ (stop ∷ rest)
+stop_none text stop len is before ends none n rest few e = none rest (slice_rest text len ∙ (number_parts text stop len n rest is before ends few e).1)
 
 -- ---- printings
 

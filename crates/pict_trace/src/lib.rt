@@ -16,4 +16,4 @@ pub use event::line;
 pub use laws::{
     law_free_steps_keep_order, law_lines_are_read_once, law_runs_are_read_back, law_values_end_once,
 };
-pub use lines::{TraceError, TraceLabel, TraceLine, read_lines};
+pub use lines::{TraceError, TraceLabel, TraceLine, number_until, read_lines};

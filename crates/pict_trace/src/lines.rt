@@ -1,11 +1,11 @@
 // Lines of traces, read back.
 
-ghost use Rattle.std.specs.Prelude.{ℕ, List, ◌≡◌, ◌≢◌, ◌+◌, ◌<◌, ◌^◌, [], ◌∷◌, ◌++◌, codes, length, map, IfOk, IfSome, None, Err};
+ghost use Rattle.std.specs.Prelude.{ℕ, List, true, ◌≡◌, ◌≢◌, ◌+◌, ◌<◌, ◌^◌, [], ◌∷◌, ◌++◌, codes, length, map, IfOk, IfSome, None, Err};
 ghost use Rattle.std.specs.Fmt.{decimal};
 ghost use Rattle.pict_syntax.specs.Names.{with_names};
 ghost use Rattle.pict_trace.specs.Readable.{IsLines, IsFirstBad, BeginsWithLine, GainsLabels, labels_in_line, labels_in};
 ghost use Rattle.pict_trace.specs.Plain.{plain_line, plain_label};
-ghost use Rattle.pict_trace.specs.Reading.{EndsString, EndsNoString, ReadsShown, BeginsNoShown, ReadsLine, Grows};
+ghost use Rattle.pict_trace.specs.Reading.{is_end, EndsString, EndsNoString, ReadsShown, BeginsNoShown, ReadsLine, Grows};
 
 use crate::bare::word_end;
 use crate::found::ReadError;
@@ -83,15 +83,17 @@ struct FoundLine<'a> {
     rest: &'a [u8],
 }
 
-// The number at the front of a text that a space follows, and the text behind the space.
-fn number_at<'a>(text: &'a [u8]) -> Option<(u64, &'a [u8])>
-    ensures some { IfSome result (λ r. text.now ≡ decimal r.0 ++ (32 ∷ r.1.now)) }
+/// The number at the front of a text that this byte follows, and the text behind the byte; None exactly where no number below
+/// 2^64, in decimal without a leading zero, stands there with the byte behind it. The byte is a space, a newline or `]`.
+pub fn number_until<'a>(text: &'a [u8], stop: u8) -> Option<(u64, &'a [u8])>
+    requires stop { is_end stop ≡ true }
+    ensures some { IfSome result (λ r. text.now ≡ decimal r.0 ++ (stop ∷ r.1.now)) }
     ensures small { IfSome result (λ r. r.0 < 2 ^ 64) }
-    ensures none { result ≡ None → (n : ℕ) (rest : List ℕ) → n < 2 ^ 64 → text.now ≢ decimal n ++ (32 ∷ rest) }
+    ensures none { result ≡ None → (n : ℕ) (rest : List ℕ) → n < 2 ^ 64 → text.now ≢ decimal n ++ (stop ∷ rest) }
 {
     let len = word_end(text);
     match number_of(&text[..len]) {
-        Some(n) => match behind(b" ", &text[len..]) {
+        Some(n) => match behind(&[stop], &text[len..]) {
             Some(rest) => Some((n, rest)),
             None => None,
         },
@@ -99,13 +101,13 @@ fn number_at<'a>(text: &'a [u8]) -> Option<(u64, &'a [u8])>
     }
 }
 
-// The same, where a line has to have it.
+// The number that a space follows, where a line has to have it.
 fn number_before<'a>(text: &'a [u8]) -> Result<(u64, &'a [u8]), ReadError>
     ensures some { IfOk result (λ r. text.now ≡ decimal r.0 ++ (32 ∷ r.1.now)) }
     ensures small { IfOk result (λ r. r.0 < 2 ^ 64) }
     ensures bad { result ≡ Err ReadError.Bad → (n : ℕ) (rest : List ℕ) → n < 2 ^ 64 → text.now ≢ decimal n ++ (32 ∷ rest) }
 {
-    match number_at(text) {
+    match number_until(text, b' ') {
         Some(found) => Ok(found),
         None => Err(ReadError::Bad),
     }

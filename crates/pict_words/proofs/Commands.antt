@@ -1,11 +1,12 @@
 -- Words of the shape of a command have the shape of no other.
-use Rattle.std.proofs.Common.{◌≡◌, ℕ, ◌+◌, ◌==◌, ◌≤◌, Bool, true, false, List, [], ◌∷◌, length, get_or, Option, Some, None, refl, sym, ◌∙◌, ap, subst, arith, codes, if◌then◌else◌}
+use Rattle.std.proofs.Common.{◌≡◌, ℕ, ◌+◌, ◌==◌, ◌≤◌, Bool, true, false, List, [], ◌∷◌, length, get_or, Option, Some, None, refl, sym, ◌∙◌, ap, subst, arith, codes, if◌then◌else◌, Result, Ok, Err, OnErr}
 use Rattle.std.specs.Prelude.{is_some}
 use Rattle.std.proofs.lemmas.Fmt.{decimal_injective}
 use Rattle.pict_syntax.specs.declared.limits.TheConstants.{FUEL_LIMIT}
-use Rattle.pict_words.specs.Words.{Options, Command, Run, Trace, Check, Code, Load, AsksFor, AsksToLoad, HasShape, HasNoShape, fuel_words}
-use Rattle.pict_words.specs.Asked.{Found, IsAsked, HasWord, ReadsFile}
+use Rattle.pict_words.specs.Words.{Options, Command, Run, Trace, Check, Code, Load, Pick, Picked, AsksFor, AsksToLoad, HasShape, HasNoShape, fuel_words}
+use Rattle.pict_words.specs.Asked.{Found, IsAsked, HasWord, TakesNoSeed, FoundSeed, IsSeeded, HasSeedWord, TakesSeed, unseeded}
 use Rattle.pict_words.proofs.Shapes.{words_for, two_are, three_are, four_are, five_are, at}
+use Rattle.pict_words.proofs.Seeds.{without_seed, seed_written}
 
 -- ---- what is asked for
 
@@ -54,12 +55,13 @@ one_asked words a b f g o p (w, x, s) (v, y, t) =
 
 -- ---- commands by their words
 
--- words of different sums of their first two letters are different
+-- words of different sums of three of their letters are different
 abbrev sum_of : List ℕ → ℕ
-sum_of word = get_or word 0 0 + get_or word 1 0
+sum_of word = get_or word 0 0 + get_or word 1 0 + get_or word 4 0
 
 abbrev rank_by : ℕ → ℕ
-rank_by sum = if sum == 231 then 0 else if sum == 230 then 1 else if sum == 203 then 2 else if sum == 210 then 3 else 4
+rank_by sum =
+    if sum == 231 then 0 else if sum == 331 then 1 else if sum == 310 then 2 else if sum == 210 then 3 else if sum == 219 then 4 else if sum == 217 then 5 else if sum == 318 then 6 else 7
 
 abbrev rank_of : Command → ℕ
 rank_of (Run o) = 0
@@ -67,20 +69,20 @@ rank_of (Trace o) = 1
 rank_of (Check o) = 2
 rank_of (Code o) = 3
 rank_of (Load n) = 4
+rank_of (Pick n o) = 5
+rank_of (Picked n o) = 6
 
-ranked : (word : List ℕ) (f : Bool) (o : Options) (command : Command) → HasWord word f o command → rank_of command ≡ rank_by (sum_of word)
-ranked word f o (Run p) h = sym (ap (λ w. rank_by (sum_of w)) h.0)
-ranked word f o (Trace p) h = sym (ap (λ w. rank_by (sum_of w)) h.0)
-ranked word f o (Check p) h = sym (ap (λ w. rank_by (sum_of w)) h.0)
-ranked word f o (Code p) h = sym (ap (λ w. rank_by (sum_of w)) h.0)
-ranked word f o (Load n) h = absurd h
+abbrev rank_in : List (List ℕ) → ℕ
+rank_in words = rank_by (sum_of (at 0 words))
 
-pub reads_file : (word : List ℕ) (f : Bool) (o : Options) (command : Command) → HasWord word f o command → ReadsFile command
-reads_file word f o (Run p) h = tt
-reads_file word f o (Trace p) h = tt
-reads_file word f o (Check p) h = tt
-reads_file word f o (Code p) h = tt
-reads_file word f o (Load n) h = absurd h
+ranked : (words : List (List ℕ)) (command : Command) → HasShape words command → rank_of command ≡ rank_in words
+ranked words (Run o) (w, s) = sym (ap rank_in s.shape)
+ranked words (Trace o) (w, s) = sym (ap rank_in s.shape)
+ranked words (Check o) s = sym (ap rank_in s.shape)
+ranked words (Code o) s = sym (ap rank_in s.shape)
+ranked words (Load n) s = sym (ap rank_in s.shape)
+ranked words (Pick n o) (w, s) = sym (ap rank_in s.shape)
+ranked words (Picked n o) (w, s) = sym (ap rank_in s.shape)
 
 same_command : (word : List ℕ) (f : Bool) (o : Options) (c d : Command) → HasWord word f o c → HasWord word f o d → rank_of c ≡ rank_of d → c ≡ d
 same_command word f o (Run p) (Run q) h k e = ap Run (h.1 ∙ sym k.1)
@@ -88,11 +90,12 @@ same_command word f o (Trace p) (Trace q) h k e = ap Trace (h.1 ∙ sym k.1)
 same_command word f o (Check p) (Check q) h k e = ap Check (h.1 ∙ sym k.1)
 same_command word f o (Code p) (Code q) h k e = ap Code (h.1 ∙ sym k.1)
 same_command word f o (Load m) d h k e = absurd h
+same_command word f o (Pick m p) d h k e = absurd h
+same_command word f o (Picked m p) d h k e = absurd h
 same_command word f o c (Load n) h k e = absurd k
+same_command word f o c (Pick m p) h k e = absurd k
+same_command word f o c (Picked m p) h k e = absurd k
 same_command word f o c d h k e = absurd (omega (arith, e))
-
-one_by_word : (word : List ℕ) (f : Bool) (o : Options) (c d : Command) → HasWord word f o c → HasWord word f o d → c ≡ d
-one_by_word word f o c d h k = same_command word f o c d h k (ranked word f o c h ∙ sym (ranked word f o d k))
 
 -- ---- shapes
 
@@ -104,12 +107,14 @@ pub record AskedBy (words : List (List ℕ)) (command : Command) : Type 0 where
   pub asked : IsAsked word fueled options words
   pub has : HasWord word fueled options command
 
-asked_as : (words : List (List ℕ)) (command : Command) → ReadsFile command → HasShape words command → AskedBy words command
+asked_as : (words : List (List ℕ)) (command : Command) → TakesNoSeed command → HasShape words command → AskedBy words command
 asked_as words (Run o) file (w, s) = record { word = codes "run"; fueled = is_some w; options = o; asked = (w, refl, s); has = (refl, refl) }
 asked_as words (Trace o) file (w, s) = record { word = codes "trace"; fueled = is_some w; options = o; asked = (w, refl, s); has = (refl, refl) }
 asked_as words (Check o) file s = record { word = codes "check"; fueled = false; options = o; asked = (None, refl, s); has = (refl, refl, refl) }
 asked_as words (Code o) file s = record { word = codes "code"; fueled = false; options = o; asked = (None, refl, s); has = (refl, refl, refl) }
 asked_as words (Load n) file s = absurd file
+asked_as words (Pick n o) file s = absurd file
+asked_as words (Picked n o) file s = absurd file
 
 -- no fuel is written
 none_of : (w : Option ℕ) → is_some w ≡ false → w ≡ None
@@ -124,55 +129,112 @@ shape_of words word f o (Check p) (w, x, s) h =
 shape_of words word f o (Code p) (w, x, s) h =
     subst (λ q. AsksFor (codes "code") None q words) (sym h.1) (subst (λ a. AsksFor a None o words) h.0 (subst (λ v. AsksFor word v o words) (none_of w (x ∙ h.2)) s))
 shape_of words word f o (Load n) a h = absurd h
+shape_of words word f o (Pick n p) a h = absurd h
+shape_of words word f o (Picked n p) a h = absurd h
 
 -- what else words have the shape of has the same word and options
-same_has : (words : List (List ℕ)) (word : List ℕ) (f : Bool) (o : Options) (command : Command) → IsAsked word f o words → ReadsFile command → HasShape words command → HasWord word f o command
+same_has : (words : List (List ℕ)) (word : List ℕ) (f : Bool) (o : Options) (command : Command) → IsAsked word f o words → TakesNoSeed command → HasShape words command → HasWord word f o command
 same_has words word f o command a file shape =
     let b = asked_as words command file shape in
     let same = one_asked words b.word word b.fueled f b.options o b.asked a in
     subst (λ q. HasWord word f q command) same.options (subst (λ g. HasWord word g b.options command) same.fueled (subst (λ v. HasWord v b.fueled b.options command) same.word b.has))
 
-pub no_other : (words : List (List ℕ)) (word : List ℕ) (f : Bool) (o : Options) → IsAsked word f o words → ((command : Command) → HasWord word f o command → ⊥) → (command : Command) → ReadsFile command → HasShape words command → ⊥
+pub no_other : (words : List (List ℕ)) (word : List ℕ) (f : Bool) (o : Options) → IsAsked word f o words → ((command : Command) → HasWord word f o command → ⊥) → (command : Command) → TakesNoSeed command → HasShape words command → ⊥
 no_other words word f o a none command file shape = none command (same_has words word f o command a file shape)
 
-pub found_by : (words : List (List ℕ)) (command : Command) → ReadsFile command → HasShape words command → (word : List ℕ) × Found word words
+pub found_by : (words : List (List ℕ)) (command : Command) → TakesNoSeed command → HasShape words command → (word : List ℕ) × Found word words
 found_by words command file shape = let b = asked_as words command file shape in (b.word, (b.asked.0, b.options, b.asked.2))
 
-file_commands : (words : List (List ℕ)) (c d : Command) → ReadsFile c → ReadsFile d → HasShape words c → HasShape words d → c ≡ d
-file_commands words c d file other s t =
-    let a = asked_as words c file s in one_by_word a.word a.fueled a.options c d a.has (same_has words a.word a.fueled a.options d a.asked other t)
+file_commands : (words : List (List ℕ)) (c d : Command) → TakesNoSeed c → TakesNoSeed d → rank_of c ≡ rank_of d → HasShape words c → HasShape words d → c ≡ d
+file_commands words c d file other e s t =
+    let a = asked_as words c file s in same_command a.word a.fueled a.options c d a.has (same_has words a.word a.fueled a.options d a.asked other t) e
 
--- ---- `load`
+-- ---- with a seed
 
-no_load : (words : List (List ℕ)) (n : ℕ) (c : Command) → ReadsFile c → HasShape words c → AsksToLoad n words → ⊥
-no_load words n c file s load =
-    let a = asked_as words c file s in
-    let first : a.word ≡ codes "load" = ap (at 0) (sym a.asked.2.shape ∙ load.shape) in
-    not_load a.word a.fueled a.options c first a.has
-  where
-    not_load : (word : List ℕ) (f : Bool) (o : Options) (command : Command) → word ≡ codes "load" → HasWord word f o command → ⊥
-    not_load word f o (Run p) e h = let x : 0 ≡ 4 = ranked word f o (Run p) h ∙ ap (λ w. rank_by (sum_of w)) e in omega (arith, x)
-    not_load word f o (Trace p) e h = let x : 1 ≡ 4 = ranked word f o (Trace p) h ∙ ap (λ w. rank_by (sum_of w)) e in omega (arith, x)
-    not_load word f o (Check p) e h = let x : 2 ≡ 4 = ranked word f o (Check p) h ∙ ap (λ w. rank_by (sum_of w)) e in omega (arith, x)
-    not_load word f o (Code p) e h = let x : 3 ≡ 4 = ranked word f o (Code p) h ∙ ap (λ w. rank_by (sum_of w)) e in omega (arith, x)
-    not_load word f o (Load m) e h = h
+-- the seed and what else words ask for
+pub record SameSeeded (a b : List ℕ) (m n : ℕ) (o p : Options) : Type 0 where
+  pub word : a ≡ b
+  pub seed : m ≡ n
+  pub options : o ≡ p
+
+one_seeded : (words : List (List ℕ)) (a b : List ℕ) (m n : ℕ) (o p : Options) → IsSeeded a m o words → IsSeeded b n p words → SameSeeded a b m n o p
+one_seeded words a b m n o p (w, s) (v, t) =
+    let same = one_asked (unseeded words) a b (is_some w) (is_some v) o p (w, refl, without_seed words a w m o s) (v, refl, without_seed words b v n p t) in
+    record { word = same.word; seed = decimal_injective m n s.fits t.fits (sym (seed_written words a w m o s) ∙ seed_written words b v n p t); options = same.options }
+
+-- what words of the shape of a command with a seed ask for
+pub record SeededBy (words : List (List ℕ)) (command : Command) : Type 0 where
+  pub word : List ℕ
+  pub seed : ℕ
+  pub options : Options
+  pub asked : IsSeeded word seed options words
+  pub has : HasSeedWord word seed options command
+
+seeded_as : (words : List (List ℕ)) (command : Command) → TakesSeed command → HasShape words command → SeededBy words command
+seeded_as words (Pick n o) takes s = record { word = codes "pick"; seed = n; options = o; asked = s; has = (refl, refl, refl) }
+seeded_as words (Picked n o) takes s = record { word = codes "picked"; seed = n; options = o; asked = s; has = (refl, refl, refl) }
+seeded_as words c takes s = absurd takes
+
+as_seeded : (words : List (List ℕ)) (a b : List ℕ) (m n : ℕ) (o p : Options) → a ≡ b → n ≡ m → p ≡ o → IsSeeded a m o words → IsSeeded b n p words
+as_seeded words a b m n o p word seed options s =
+    subst (λ v. IsSeeded v n p words) word (subst (λ k. IsSeeded a k p words) (sym seed) (subst (λ q. IsSeeded a m q words) (sym options) s))
+
+pub seeded_shape : (words : List (List ℕ)) (word : List ℕ) (seed : ℕ) (o : Options) (command : Command) → IsSeeded word seed o words → HasSeedWord word seed o command → HasShape words command
+seeded_shape words word seed o (Pick n p) a h = as_seeded words word (codes "pick") seed n o p h.0 h.1 h.2 a
+seeded_shape words word seed o (Picked n p) a h = as_seeded words word (codes "picked") seed n o p h.0 h.1 h.2 a
+seeded_shape words word seed o c a h = absurd h
+
+has_seeded : (a b : List ℕ) (m n : ℕ) (o p : Options) (command : Command) → SameSeeded a b m n o p → HasSeedWord a m o command → HasSeedWord b n p command
+has_seeded a b m n o p command same h =
+    subst (λ v. HasSeedWord v n p command) same.word (subst (λ k. HasSeedWord a k p command) same.seed (subst (λ q. HasSeedWord a m q command) same.options h))
+
+pub no_other_seeded : (words : List (List ℕ)) (word : List ℕ) (seed : ℕ) (o : Options) → IsSeeded word seed o words → ((command : Command) → HasSeedWord word seed o command → ⊥) → (command : Command) → TakesSeed command → HasShape words command → ⊥
+no_other_seeded words word seed o a none command takes shape =
+    let b = seeded_as words command takes shape in
+    none command (has_seeded b.word word b.seed seed b.options o command (one_seeded words b.word word b.seed seed b.options o b.asked a) b.has)
+
+pub found_seeded : (words : List (List ℕ)) (command : Command) → TakesSeed command → HasShape words command → (word : List ℕ) × FoundSeed word words
+found_seeded words command takes shape = let b = seeded_as words command takes shape in (b.word, (b.seed, b.options, b.asked))
+
+-- ---- all commands
 
 same_load : (words : List (List ℕ)) (m n : ℕ) → AsksToLoad m words → AsksToLoad n words → m ≡ n
 same_load words m n a b = decimal_injective m n (a.fits) (b.fits) (ap (at 1) (sym a.shape ∙ b.shape))
 
-pub one_command : (words : List (List ℕ)) (c d : Command) → HasShape words c → HasShape words d → c ≡ d
-one_command words (Load m) (Load n) s t = ap Load (same_load words m n s t)
-one_command words (Load m) (Run o) s t = absurd (no_load words m (Run o) tt t s)
-one_command words (Load m) (Trace o) s t = absurd (no_load words m (Trace o) tt t s)
-one_command words (Load m) (Check o) s t = absurd (no_load words m (Check o) tt t s)
-one_command words (Load m) (Code o) s t = absurd (no_load words m (Code o) tt t s)
-one_command words (Run o) (Load n) s t = absurd (no_load words n (Run o) tt s t)
-one_command words (Trace o) (Load n) s t = absurd (no_load words n (Trace o) tt s t)
-one_command words (Check o) (Load n) s t = absurd (no_load words n (Check o) tt s t)
-one_command words (Code o) (Load n) s t = absurd (no_load words n (Code o) tt s t)
-one_command words c d s t = file_commands words c d tt tt s t
+same_shape : (words : List (List ℕ)) (c d : Command) → rank_of c ≡ rank_of d → HasShape words c → HasShape words d → c ≡ d
+same_shape words (Run o) (Run p) e s t = file_commands words (Run o) (Run p) tt tt e s t
+same_shape words (Trace o) (Trace p) e s t = file_commands words (Trace o) (Trace p) tt tt e s t
+same_shape words (Check o) (Check p) e s t = file_commands words (Check o) (Check p) tt tt e s t
+same_shape words (Code o) (Code p) e s t = file_commands words (Code o) (Code p) tt tt e s t
+same_shape words (Load m) (Load n) e s t = ap Load (same_load words m n s t)
+same_shape words (Pick m o) (Pick n p) e s t = let x = one_seeded words _ _ m n o p s t in λ i. Pick (x.seed i) (x.options i)
+same_shape words (Picked m o) (Picked n p) e s t = let x = one_seeded words _ _ m n o p s t in λ i. Picked (x.seed i) (x.options i)
+same_shape words c d e s t = absurd (omega (arith, e))
 
--- no command over a file, and no `load`
-pub no_shape : (words : List (List ℕ)) → ((command : Command) → ReadsFile command → HasShape words command → ⊥) → ((n : ℕ) → AsksToLoad n words → ⊥) → HasNoShape words
-no_shape words no_file no_load (Load n) s = no_load n s
-no_shape words no_file no_load c s = no_file c tt s
+pub one_command : (words : List (List ℕ)) (c d : Command) → HasShape words c → HasShape words d → c ≡ d
+one_command words c d s t = same_shape words c d (ranked words c s ∙ sym (ranked words d t)) s t
+
+-- no command with a seed, and no `load`
+pub no_others : (words : List (List ℕ)) → ((command : Command) → TakesSeed command → HasShape words command → ⊥) → ((n : ℕ) → AsksToLoad n words → ⊥) → (command : Command) → (TakesNoSeed command → ⊥) → HasShape words command → ⊥
+no_others words no_seeded no_load (Load n) never s = no_load n s
+no_others words no_seeded no_load (Pick n o) never s = no_seeded (Pick n o) tt s
+no_others words no_seeded no_load (Picked n o) never s = no_seeded (Picked n o) tt s
+no_others words no_seeded no_load c never s = never tt
+
+-- no command over a file without a seed either
+pub no_shape : (words : List (List ℕ)) → ((command : Command) → TakesNoSeed command → HasShape words command → ⊥) → ((command : Command) → (TakesNoSeed command → ⊥) → HasShape words command → ⊥) → HasNoShape words
+no_shape words no_file no_other (Load n) s = no_other (Load n) (λ x. x) s
+no_shape words no_file no_other (Pick n o) s = no_other (Pick n o) (λ x. x) s
+no_shape words no_file no_other (Picked n o) s = no_other (Picked n o) (λ x. x) s
+no_shape words no_file no_other c s = no_file c tt s
+
+-- the same, where that is said of an error
+pub no_shape_on_error : {T E : Type 0} (r : Result T E) (words : List (List ℕ)) → ((command : Command) → TakesNoSeed command → HasShape words command → ⊥)
+    → OnErr r ((command : Command) → (TakesNoSeed command → ⊥) → HasShape words command → ⊥) → OnErr r (HasNoShape words)
+no_shape_on_error (Ok x) words no_file no_other = tt
+no_shape_on_error (Err e) words no_file no_other = no_shape words no_file no_other
+
+pub no_others_on_error : {T E : Type 0} (r : Result T E) (words : List (List ℕ)) → ((command : Command) → TakesSeed command → HasShape words command → ⊥) → OnErr r ((n : ℕ) → AsksToLoad n words → ⊥)
+    → OnErr r ((command : Command) → (TakesNoSeed command → ⊥) → HasShape words command → ⊥)
+no_others_on_error (Ok x) words no_seeded no_load = tt
+no_others_on_error (Err e) words no_seeded no_load = no_others words no_seeded no_load

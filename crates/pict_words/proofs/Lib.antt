@@ -1,4 +1,5 @@
 pub mod Lists
 pub mod Shapes
+pub mod Seeds
 pub mod Commands
 pub mod Some

@@ -1,7 +1,7 @@
 -- Lists of a known length.
 use Rattle.std.proofs.Common.{◌≡◌, ℕ, ◌<◌, ◌≤◌, List, [], ◌∷◌, length, get_or, arith, Bor, refl, subst}
 use Rattle.pict_words.specs.Plain.{texts_of}
-use Rattle.pict_words.specs.Asked.{Found}
+use Rattle.pict_words.specs.Asked.{Found, FoundSeed}
 
 pub two_words : (words : List (Bor (List ℕ))) (d : Bor (List ℕ)) → 2 ≤ length words → length words < 3 → texts_of words ≡ (get_or words 0 d).now ∷ (get_or words 1 d).now ∷ []
 two_words [] d p q = absurd (omega arith)
@@ -37,3 +37,18 @@ five_words (x ∷ y ∷ z ∷ u ∷ v ∷ w ∷ rest) d p q = absurd (omega arit
 -- what isn't found in these words isn't found in the same ones
 pub none_in : (r : Type 0) (words lent : List (List ℕ)) → words ≡ lent → (r → (name : List ℕ) → Found name lent → ⊥) → r → (name : List ℕ) → Found name words → ⊥
 none_in r words lent same none e name found = none e name (subst (Found name) same found)
+
+pub six_words : (words : List (Bor (List ℕ))) (d : Bor (List ℕ)) → 6 ≤ length words → length words < 7
+    → texts_of words ≡ (get_or words 0 d).now ∷ (get_or words 1 d).now ∷ (get_or words 2 d).now ∷ (get_or words 3 d).now ∷ (get_or words 4 d).now ∷ (get_or words 5 d).now ∷ []
+six_words [] d p q = absurd (omega arith)
+six_words (x ∷ []) d p q = absurd (omega arith)
+six_words (x ∷ y ∷ []) d p q = absurd (omega arith)
+six_words (x ∷ y ∷ z ∷ []) d p q = absurd (omega arith)
+six_words (x ∷ y ∷ z ∷ u ∷ []) d p q = absurd (omega arith)
+six_words (x ∷ y ∷ z ∷ u ∷ v ∷ []) d p q = absurd (omega arith)
+six_words (x ∷ y ∷ z ∷ u ∷ v ∷ w ∷ []) d p q = refl
+six_words (x ∷ y ∷ z ∷ u ∷ v ∷ w ∷ t ∷ rest) d p q = absurd (omega arith)
+
+-- what isn't found with a seed in these words isn't found in the same ones
+pub none_seeded_in : (r : Type 0) (words lent : List (List ℕ)) → words ≡ lent → (r → (name : List ℕ) → FoundSeed name lent → ⊥) → r → (name : List ℕ) → FoundSeed name words → ⊥
+none_seeded_in r words lent same none e name found = none e name (subst (FoundSeed name) same found)

@@ -1,16 +1,17 @@
 -- Words have the shape of a command, or none.
-use Rattle.std.proofs.Common.{◌≡◌, ◌≢◌, ℕ, ◌≤◌, ◌<◌, ◌^◌, ◌⊎◌, Bool, true, false, inl, inr, List, [], ◌∷◌, length, refl, sym, ◌∙◌, ap, arith, codes}
+use Rattle.std.proofs.Common.{◌≡◌, ◌≢◌, ℕ, ◌≤◌, ◌<◌, ◌^◌, ◌⊎◌, Bool, true, false, inl, inr, List, [], ◌∷◌, length, refl, sym, ◌∙◌, ap, subst, arith, codes}
 use Rattle.std.specs.Fmt.{decimal}
 use Rattle.std.specs.Str.Parse.{digits_value}
 use Rattle.std.proofs.lemmas.Bool.{cases_lt}
 use Rattle.std.proofs.lemmas.Fmt.{decimal_is_IsNumeral}
 use Rattle.pict_syntax.specs.declared.limits.TheConstants.{FUEL_LIMIT}
 use Rattle.pict_total.proofs.Choices.{same_or_not, same_text_or_not}
-use Rattle.pict_words.specs.Words.{Options, Command, Run, Trace, Check, Code, Load, AsksToLoad, HasShape, HasNoShape, IsFileWord}
-use Rattle.pict_words.specs.Asked.{Found, IsAsked, HasWord, ReadsFile}
+use Rattle.pict_words.specs.Words.{Options, Command, Run, Trace, Check, Code, Load, Pick, Picked, AsksToLoad, HasShape, HasNoShape, IsFileWord}
+use Rattle.pict_words.specs.Asked.{Found, IsAsked, HasWord, TakesNoSeed, FoundSeed, IsSeeded, HasSeedWord, TakesSeed, unseeded, seed_in}
 use Rattle.pict_words.specs.Laws.{OneCommand}
 use Rattle.pict_words.proofs.Shapes.{at, two_asked, two_not_found, three_asked, three_not_found, four_asked, four_not_found, five_asked, five_not_found, not_found}
-use Rattle.pict_words.proofs.Commands.{shape_of, no_other, found_by, one_command, no_shape}
+use Rattle.pict_words.proofs.Seeds.{with_word, seeded_asked, no_plain, no_seed, not_seeded}
+use Rattle.pict_words.proofs.Commands.{shape_of, no_other, found_by, seeded_shape, no_other_seeded, found_seeded, one_command, no_others, no_shape}
 
 -- ---- numbers
 
@@ -107,6 +108,8 @@ no_word word f o no_run no_trace no_check no_code (Trace p) h = no_trace h.0
 no_word word f o no_run no_trace no_check no_code (Check p) h = no_check h.2 h.0
 no_word word f o no_run no_trace no_check no_code (Code p) h = no_code h.2 h.0
 no_word word f o no_run no_trace no_check no_code (Load n) h = h
+no_word word f o no_run no_trace no_check no_code (Pick n p) h = h
+no_word word f o no_run no_trace no_check no_code (Picked n p) h = h
 
 -- the fuel is written only where the command runs a program
 unrun : (word : List ℕ) (f : Bool) (o : Options) → word ≢ codes "run" → word ≢ codes "trace" → ByWord word f o
@@ -126,7 +129,7 @@ by_word word f o = elim (same_text_or_not word (codes "run")) [
 ]
 
 abbrev ByFile : List (List ℕ) → Type 0
-ByFile words = ((command : Command) × HasShape words command) ⊎ ((command : Command) → ReadsFile command → HasShape words command → ⊥)
+ByFile words = ((command : Command) × HasShape words command) ⊎ ((command : Command) → TakesNoSeed command → HasShape words command → ⊥)
 
 file_command : (words : List (List ℕ)) → ByFile words
 file_command words = elim (asked_or_not words) [
@@ -136,6 +139,65 @@ file_command words = elim (asked_or_not words) [
   ]
   | inr none ↦ inr (λ command file shape. let b = found_by words command file shape in none b.0 b.1)
 ]
+
+-- ---- with a seed
+
+-- words ask for something with a seed, or don't
+abbrev AsksSeed : List (List ℕ) → Type 0
+AsksSeed words = ((word : List ℕ) × (seed : ℕ) × (options : Options) × IsSeeded word seed options words) ⊎ ((word : List ℕ) → FoundSeed word words → ⊥)
+
+-- by the words without it
+seeded_or_not : (words plain : List (List ℕ)) (s : List ℕ) → with_word s plain ≡ words → plain ≡ unseeded words → s ≡ seed_in words → AsksSeed words
+seeded_or_not words plain s put without same = elim (asked_or_not plain) [
+  | inl a ↦ elim (number_or_not 18446744073709551615 (omega arith) s) [
+    | inl w ↦
+        let few : w.0 ≤ 18446744073709551615 = w.1 in
+        inl (a.0, w.0, a.2, subst (IsSeeded a.0 w.0 a.2) put (seeded_asked plain a.0 s a.1 a.2 w.0 a.3 w.2 (omega arith)))
+    | inr none ↦ inr (no_seed words (λ n fits e. none (n, omega (arith, fits), same ∙ e)))
+  ]
+  | inr none ↦ inr (no_plain words (λ name found. none name (subst (Found name) (sym without) found)))
+]
+
+asks_seed_or_not : (words : List (List ℕ)) → AsksSeed words
+asks_seed_or_not [] = inr (not_seeded [] (λ x y. omega (arith, x)))
+asks_seed_or_not (a ∷ []) = inr (not_seeded (a ∷ []) (λ x y. omega (arith, x)))
+asks_seed_or_not (a ∷ b ∷ []) = inr (not_seeded (a ∷ b ∷ []) (λ x y. omega (arith, x)))
+asks_seed_or_not (a ∷ s ∷ f ∷ []) = seeded_or_not (a ∷ s ∷ f ∷ []) (a ∷ f ∷ []) s refl refl refl
+asks_seed_or_not (a ∷ b ∷ s ∷ f ∷ []) = seeded_or_not (a ∷ b ∷ s ∷ f ∷ []) (a ∷ b ∷ f ∷ []) s refl refl refl
+asks_seed_or_not (a ∷ c ∷ n ∷ s ∷ f ∷ []) = seeded_or_not (a ∷ c ∷ n ∷ s ∷ f ∷ []) (a ∷ c ∷ n ∷ f ∷ []) s refl refl refl
+asks_seed_or_not (a ∷ b ∷ c ∷ n ∷ s ∷ f ∷ []) = seeded_or_not (a ∷ b ∷ c ∷ n ∷ s ∷ f ∷ []) (a ∷ b ∷ c ∷ n ∷ f ∷ []) s refl refl refl
+asks_seed_or_not (a ∷ b ∷ c ∷ n ∷ s ∷ f ∷ g ∷ more) = inr (not_seeded (a ∷ b ∷ c ∷ n ∷ s ∷ f ∷ g ∷ more) (λ x y. omega (arith, y)))
+
+abbrev BySeedWord : List ℕ → ℕ → Options → Type 0
+BySeedWord word seed o = ((command : Command) × HasSeedWord word seed o command) ⊎ ((command : Command) → HasSeedWord word seed o command → ⊥)
+
+no_seed_word : (word : List ℕ) (seed : ℕ) (o : Options) → word ≢ codes "pick" → word ≢ codes "picked" → (command : Command) → HasSeedWord word seed o command → ⊥
+no_seed_word word seed o no_pick no_picked (Pick n p) h = no_pick h.0
+no_seed_word word seed o no_pick no_picked (Picked n p) h = no_picked h.0
+no_seed_word word seed o no_pick no_picked c h = h
+
+by_seed_word : (word : List ℕ) (seed : ℕ) (o : Options) → BySeedWord word seed o
+by_seed_word word seed o = elim (same_text_or_not word (codes "pick")) [
+  | inl e ↦ inl (Pick seed o, (e, refl, refl))
+  | inr no_pick ↦ elim (same_text_or_not word (codes "picked")) [
+    | inl e ↦ inl (Picked seed o, (e, refl, refl))
+    | inr no_picked ↦ inr (no_seed_word word seed o no_pick no_picked)
+  ]
+]
+
+abbrev BySeed : List (List ℕ) → Type 0
+BySeed words = ((command : Command) × HasShape words command) ⊎ ((command : Command) → TakesSeed command → HasShape words command → ⊥)
+
+seed_command : (words : List (List ℕ)) → BySeed words
+seed_command words = elim (asks_seed_or_not words) [
+  | inl a ↦ elim (by_seed_word a.0 a.1 a.2) [
+    | inl c ↦ inl (c.0, seeded_shape words a.0 a.1 a.2 c.0 a.3 c.1)
+    | inr none ↦ inr (no_other_seeded words a.0 a.1 a.2 a.3 none)
+  ]
+  | inr none ↦ inr (λ command takes shape. let b = found_seeded words command takes shape in none b.0 b.1)
+]
+
+-- ---- all commands
 
 abbrev ByLoad : List (List ℕ) → Type 0
 ByLoad words = ((n : ℕ) × AsksToLoad n words) ⊎ ((n : ℕ) → AsksToLoad n words → ⊥)
@@ -161,7 +223,13 @@ load_command (a ∷ b ∷ c ∷ more) = inr (length_of_load (a ∷ b ∷ c ∷ m
 pub shape_or_not : (words : List (List ℕ)) → ((command : Command) × HasShape words command) ⊎ HasNoShape words
 shape_or_not words = elim (file_command words) [
   | inl c ↦ inl c
-  | inr no_file ↦ elim (load_command words) [ inl l ↦ inl (Load l.0, l.1) | inr no_load ↦ inr (no_shape words no_file no_load) ]
+  | inr no_file ↦ elim (seed_command words) [
+    | inl c ↦ inl c
+    | inr no_seeded ↦ elim (load_command words) [
+      | inl l ↦ inl (Load l.0, l.1)
+      | inr no_load ↦ inr (no_shape words no_file (no_others words no_seeded no_load))
+    ]
+  ]
 ]
 
 pub law : OneCommand

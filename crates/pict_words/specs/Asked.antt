@@ -1,8 +1,8 @@
 -- How words are read: devices of the proof.
-use Rattle.std.specs.Prelude.{◌≡◌, ℕ, ◌≤◌, Bool, false, List, Option, is_some, codes}
+use Rattle.std.specs.Prelude.{◌≡◌, ℕ, ◌≤◌, ◌<◌, ◌^◌, Bool, false, List, [], ◌∷◌, Option, is_some, codes}
 use Rattle.std.specs.Fmt.{decimal}
 use Rattle.pict_syntax.specs.declared.limits.TheConstants.{FUEL_LIMIT}
-use Rattle.pict_words.specs.Words.{Options, Command, Run, Trace, Check, Code, Load, AsksFor}
+use Rattle.pict_words.specs.Words.{Options, Command, Run, Trace, Check, Code, Load, Pick, Picked, AsksFor, AsksWithSeed}
 
 -- the words ask for some options, with this word for a command
 abbrev pub Found : List ℕ → List (List ℕ) → Type 0
@@ -23,8 +23,52 @@ HasWord word fueled options (Trace o) = (word ≡ codes "trace") × (o ≡ optio
 HasWord word fueled options (Check o) = (word ≡ codes "check") × (o ≡ options) × (fueled ≡ false)
 HasWord word fueled options (Code o) = (word ≡ codes "code") × (o ≡ options) × (fueled ≡ false)
 HasWord word fueled options (Load n) = ⊥
+HasWord word fueled options (Pick n o) = ⊥
+HasWord word fueled options (Picked n o) = ⊥
 
--- the command reads a file
-abbrev pub ReadsFile : Command → Type 0
-ReadsFile (Load n) = ⊥
-ReadsFile _ = Unit {0}
+-- the command is over a file, and takes no seed
+abbrev pub TakesNoSeed : Command → Type 0
+TakesNoSeed (Load n) = ⊥
+TakesNoSeed (Pick n o) = ⊥
+TakesNoSeed (Picked n o) = ⊥
+TakesNoSeed _ = Unit {0}
+
+-- ---- with a seed
+
+-- words without the last but one
+abbrev pub unseeded : List (List ℕ) → List (List ℕ)
+unseeded [] = []
+unseeded (word ∷ []) = word ∷ []
+unseeded (seed ∷ file ∷ []) = file ∷ []
+unseeded (word ∷ seed ∷ file ∷ more) = word ∷ unseeded (seed ∷ file ∷ more)
+
+-- the last word but one
+abbrev pub seed_in : List (List ℕ) → List ℕ
+seed_in [] = []
+seed_in (word ∷ []) = []
+seed_in (seed ∷ file ∷ []) = seed
+seed_in (word ∷ seed ∷ file ∷ more) = seed_in (seed ∷ file ∷ more)
+
+-- the words ask for this seed and these options, with this word for a command
+abbrev pub IsSeeded : List ℕ → ℕ → Options → List (List ℕ) → Type 0
+IsSeeded word seed options words = (written : Option ℕ) × AsksWithSeed word written seed options words
+
+-- they ask for some seed and options
+abbrev pub FoundSeed : List ℕ → List (List ℕ) → Type 0
+FoundSeed word words = (seed : ℕ) × (options : Options) × IsSeeded word seed options words
+
+-- the word writes a seed
+abbrev pub WritesSeed : List ℕ → Type 0
+WritesSeed word = (seed : ℕ) × (seed < 2 ^ 64) × (word ≡ decimal seed)
+
+-- the command has this word, this seed and these options
+abbrev pub HasSeedWord : List ℕ → ℕ → Options → Command → Type 0
+HasSeedWord word seed options (Pick n o) = (word ≡ codes "pick") × (n ≡ seed) × (o ≡ options)
+HasSeedWord word seed options (Picked n o) = (word ≡ codes "picked") × (n ≡ seed) × (o ≡ options)
+HasSeedWord word seed options _ = ⊥
+
+-- the command takes a seed
+abbrev pub TakesSeed : Command → Type 0
+TakesSeed (Pick n o) = Unit {0}
+TakesSeed (Picked n o) = Unit {0}
+TakesSeed _ = ⊥

@@ -4,7 +4,7 @@ use Rattle.std.specs.Borrow.{Bor}
 use Rattle.pict_words.specs.Words as words
 use Rattle.pict_words.specs.declared.words.Options.{Options}
 use Rattle.pict_words.specs.declared.words.Command.{Command}
-use Rattle.pict_words.specs.declared.words.Command.TheVariants.{Run, Trace, Check, Code, Load}
+use Rattle.pict_words.specs.declared.words.Command.TheVariants.{Run, Trace, Check, Code, Load, Pick, Picked}
 
 -- borrowed texts as the texts themselves
 abbrev pub texts_of : List (Bor (List ℕ)) → List (List ℕ)
@@ -19,3 +19,5 @@ plain_command (Trace options) = words.Trace (plain_options options)
 plain_command (Check options) = words.Check (plain_options options)
 plain_command (Code options) = words.Code (plain_options options)
 plain_command (Load n) = words.Load n
+plain_command (Pick seed options) = words.Pick seed (plain_options options)
+plain_command (Picked seed options) = words.Picked seed (plain_options options)

@@ -16,6 +16,8 @@ pub data Command : Type 0 where
   Check : Options → Command
   Code : Options → Command
   Load : ℕ → Command
+  Pick : ℕ → Options → Command
+  Picked : ℕ → Options → Command
 
 -- the fuel without `--fuel`
 abbrev pub default_fuel : ℕ
@@ -43,6 +45,14 @@ pub record AsksFor (word : List ℕ) (written : Option ℕ) (options : Options) 
   pub within : options.fuel ≤ FUEL_LIMIT
   pub file : IsFileWord options.file
 
+-- `COMMAND [--bare] [--fuel N] SEED FILE`, with this seed, in decimal, without a sign and without a leading zero
+pub record AsksWithSeed (word : List ℕ) (written : Option ℕ) (seed : ℕ) (options : Options) (words : List (List ℕ)) : Type 0 where
+  pub shape : words ≡ word ∷ (bare_words options.bare ++ (fuel_words written ++ decimal seed ∷ options.file ∷ []))
+  pub fuel : options.fuel ≡ unwrap_or written default_fuel
+  pub within : options.fuel ≤ FUEL_LIMIT
+  pub fits : seed < 2 ^ 64
+  pub file : IsFileWord options.file
+
 -- `load N`, where N is decimal, without a sign and without a leading zero
 pub record AsksToLoad (n : ℕ) (words : List (List ℕ)) : Type 0 where
   pub shape : words ≡ codes "load" ∷ decimal n ∷ []
@@ -55,6 +65,8 @@ HasShape words (Trace options) = (written : Option ℕ) × AsksFor (codes "trace
 HasShape words (Check options) = AsksFor (codes "check") None options words
 HasShape words (Code options) = AsksFor (codes "code") None options words
 HasShape words (Load n) = AsksToLoad n words
+HasShape words (Pick seed options) = (written : Option ℕ) × AsksWithSeed (codes "pick") written seed options words
+HasShape words (Picked seed options) = (written : Option ℕ) × AsksWithSeed (codes "picked") written seed options words
 
 -- the words have no listed shape
 abbrev pub HasNoShape : List (List ℕ) → Type 0
@@ -67,3 +79,5 @@ fuel_of (Trace options) = options.fuel
 fuel_of (Check options) = options.fuel
 fuel_of (Code options) = options.fuel
 fuel_of (Load n) = default_fuel
+fuel_of (Pick seed options) = options.fuel
+fuel_of (Picked seed options) = options.fuel

@@ -4,7 +4,7 @@ ghost use Rattle.std.specs.Fmt.{decimal};
 ghost use Rattle.pict_words.specs.Words as shapes;
 ghost use Rattle.pict_words.specs.Words.{HasShape, HasNoShape, IsFileWord, AsksToLoad};
 ghost use Rattle.pict_words.specs.Plain.{texts_of, plain_command, plain_options};
-ghost use Rattle.pict_words.specs.Asked.{IsAsked, Found, HasWord, ReadsFile};
+ghost use Rattle.pict_words.specs.Asked.{IsAsked, Found, HasWord, TakesNoSeed, IsSeeded, FoundSeed, HasSeedWord, TakesSeed};
 ghost use Rattle.pict_words.specs.Laws.{OneCommand};
 
 use itoa::Buffer;
@@ -34,6 +34,10 @@ pub enum Command<'a> {
     Code(Options<'a>),
     /// `load`: makes a program from a number, runs it, and writes a summary.
     Load(u64),
+    /// `pick`: checks and runs a program with choices from a seed, and writes what it prints.
+    Pick(u64, Options<'a>),
+    /// `picked`: the same run, of which it writes the choices and the trace.
+    Picked(u64, Options<'a>),
 }
 
 /// The words have no listed shape.
@@ -51,12 +55,31 @@ struct Asked<'a> {
     fueled: bool,
 }
 
+/// The word for a command, its seed, and how it is to take its text.
+#[derive(Clone, Copy)]
+struct Seeded<'a> {
+    word: &'a str,
+    seed: u64,
+    options: Options<'a>,
+}
+
 /// The command that the words ask for. The error comes exactly where they have no listed shape. Takes no memory.
 pub fn words_of<'a>(words: &[&'a str]) -> Result<Command<'a>, Usage>
     ensures shape { IfOk result (λ command. HasShape (texts_of words.now) (plain_command command)) }
     ensures usage { OnErr result (HasNoShape (texts_of words.now)) }
 {
     match file_command(words) {
+        Some(command) => Ok(command),
+        None => other_command(words),
+    }
+}
+
+/// The command that the words ask for, where it isn't one over a file without a seed.
+fn other_command<'a>(words: &[&'a str]) -> Result<Command<'a>, Usage>
+    ensures shape { IfOk result (λ command. HasShape (texts_of words.now) (plain_command command)) }
+    ensures usage { OnErr result ((command : shapes.Command) → (TakesNoSeed command → ⊥) → HasShape (texts_of words.now) command → ⊥) }
+{
+    match seed_command(words) {
         Some(command) => Ok(command),
         None => load_command(words),
     }
@@ -65,7 +88,7 @@ pub fn words_of<'a>(words: &[&'a str]) -> Result<Command<'a>, Usage>
 /// The command over a file that the words ask for.
 fn file_command<'a>(words: &[&'a str]) -> Option<Command<'a>>
     ensures some { IfSome result (λ command. HasShape (texts_of words.now) (plain_command command)) }
-    ensures none { result ≡ None → (command : shapes.Command) → ReadsFile command → HasShape (texts_of words.now) command → ⊥ }
+    ensures none { result ≡ None → (command : shapes.Command) → TakesNoSeed command → HasShape (texts_of words.now) command → ⊥ }
 {
     match asked_by(words) {
         None => None,
@@ -198,6 +221,130 @@ fn asked_by_five<'a>(
         options,
         fueled: true,
     })
+}
+
+/// The command with choices from a seed that the words ask for.
+fn seed_command<'a>(words: &[&'a str]) -> Option<Command<'a>>
+    ensures some { IfSome result (λ command. HasShape (texts_of words.now) (plain_command command)) }
+    ensures none { result ≡ None → (command : shapes.Command) → TakesSeed command → HasShape (texts_of words.now) command → ⊥ }
+{
+    match seeded_by(words) {
+        None => None,
+        Some(seeded) => picking_of(seeded),
+    }
+}
+
+/// The command with choices from a seed that these words ask for by its word.
+fn picking_of<'a>(seeded: Seeded<'a>) -> Option<Command<'a>>
+    ensures some { IfSome result (λ command.
+        HasSeedWord seeded.entry.word.now seeded.entry.seed (plain_options seeded.entry.options) (plain_command command)) }
+    ensures none { result ≡ None → (command : shapes.Command)
+        → HasSeedWord seeded.entry.word.now seeded.entry.seed (plain_options seeded.entry.options) command → ⊥ }
+{
+    match seeded.word {
+        "pick" => Some(Command::Pick(seeded.seed, seeded.options)),
+        "picked" => Some(Command::Picked(seeded.seed, seeded.options)),
+        _ => None,
+    }
+}
+
+/// What the words ask for, where they have the shape of a command with a seed.
+fn seeded_by<'a>(words: &[&'a str]) -> Option<Seeded<'a>>
+    ensures some { IfSome result (λ s. IsSeeded s.word.now s.seed (plain_options s.options) (texts_of words.now)) }
+    ensures none { result ≡ None → (word : List ℕ) → FoundSeed word (texts_of words.now) → ⊥ }
+{
+    if let [word, seed, file] = words {
+        return seeded_by_three(word, seed, file);
+    }
+    if let [word, bare, seed, file] = words {
+        return seeded_by_four(word, bare, seed, file);
+    }
+    if let [word, option, fuel, seed, file] = words {
+        return seeded_by_five(word, option, fuel, seed, file);
+    }
+    if let [word, bare, option, fuel, seed, file] = words {
+        return seeded_by_six(word, bare, option, fuel, seed, file);
+    }
+    None
+}
+
+/// The same of three words: the default fuel, behind the prelude.
+fn seeded_by_three<'a>(word: &'a str, seed: &str, file: &'a str) -> Option<Seeded<'a>>
+    ensures some { IfSome result (λ s.
+        IsSeeded s.word.now s.seed (plain_options s.options) (word.entry.now ∷ seed.now ∷ file.entry.now ∷ [])) }
+    ensures none { result ≡ None → (name : List ℕ) → FoundSeed name (word.entry.now ∷ seed.now ∷ file.entry.now ∷ []) → ⊥ }
+{
+    match asked_by_two(word, file) {
+        None => None,
+        Some(asked) => with_seed(asked, seed),
+    }
+}
+
+/// The same of four words: the default fuel, without the prelude.
+fn seeded_by_four<'a>(word: &'a str, bare: &str, seed: &str, file: &'a str) -> Option<Seeded<'a>>
+    ensures some { IfSome result (λ s.
+        IsSeeded s.word.now s.seed (plain_options s.options) (word.entry.now ∷ bare.now ∷ seed.now ∷ file.entry.now ∷ [])) }
+    ensures none { result ≡ None → (name : List ℕ) → FoundSeed name (word.entry.now ∷ bare.now ∷ seed.now ∷ file.entry.now ∷ []) → ⊥ }
+{
+    match asked_by_three(word, bare, file) {
+        None => None,
+        Some(asked) => with_seed(asked, seed),
+    }
+}
+
+/// The same of five words: a written fuel, behind the prelude.
+fn seeded_by_five<'a>(
+    word: &'a str,
+    option: &str,
+    fuel: &str,
+    seed: &str,
+    file: &'a str,
+) -> Option<Seeded<'a>>
+    ensures some { IfSome result (λ s.
+        IsSeeded s.word.now s.seed (plain_options s.options) (word.entry.now ∷ option.now ∷ fuel.now ∷ seed.now ∷ file.entry.now ∷ [])) }
+    ensures none { result ≡ None → (name : List ℕ)
+        → FoundSeed name (word.entry.now ∷ option.now ∷ fuel.now ∷ seed.now ∷ file.entry.now ∷ []) → ⊥ }
+{
+    match asked_by_four(word, option, fuel, file) {
+        None => None,
+        Some(asked) => with_seed(asked, seed),
+    }
+}
+
+/// The same of six words: a written fuel, without the prelude.
+fn seeded_by_six<'a>(
+    word: &'a str,
+    bare: &str,
+    option: &str,
+    fuel: &str,
+    seed: &str,
+    file: &'a str,
+) -> Option<Seeded<'a>>
+    ensures some { IfSome result (λ s. IsSeeded s.word.now s.seed (plain_options s.options)
+        (word.entry.now ∷ bare.now ∷ option.now ∷ fuel.now ∷ seed.now ∷ file.entry.now ∷ [])) }
+    ensures none { result ≡ None → (name : List ℕ)
+        → FoundSeed name (word.entry.now ∷ bare.now ∷ option.now ∷ fuel.now ∷ seed.now ∷ file.entry.now ∷ []) → ⊥ }
+{
+    match asked_by_five(word, bare, option, fuel, file) {
+        None => None,
+        Some(asked) => with_seed(asked, seed),
+    }
+}
+
+/// What is asked for, with the seed that a word writes.
+fn with_seed<'a>(asked: Asked<'a>, seed: &str) -> Option<Seeded<'a>>
+    ensures some { IfSome result (λ s. (s.word.now ≡ asked.entry.word.now) × (s.options ≡ asked.entry.options)
+        × (seed.now ≡ decimal s.seed) × (s.seed < 2 ^ 64)) }
+    ensures none { result ≡ None → (n : ℕ) → n < 2 ^ 64 → seed.now ≢ decimal n }
+{
+    match number_of(seed) {
+        None => None,
+        Some(seed) => Some(Seeded {
+            word: asked.word,
+            seed,
+            options: asked.options,
+        }),
+    }
 }
 
 /// The command `load` that the words ask for.

@@ -5,12 +5,12 @@ use Rattle.pict_top.specs.Changes.{change_of, GainedFront, FailedWithin}
 use Rattle.pict_words.specs.Plain.{plain_command}
 use Rattle.pict_top.specs.Origins.{origin_of, prelude_of}
 use Rattle.pict_front.proofs.TypedPrograms.{accepted_is_typed}
-use Rattle.pict_top.proofs.Right.{accepted_runs_right}
+use Rattle.pict_top.proofs.Right.{accepted_is_freely_right}
 use Rattle.pict_top.proofs.Runs.{some_outcome, came_to_end}
 use Rattle.pict_top.proofs.top.run_ready.Goals as goal
 
 pub perform-requires-clause-right : goal.perform-requires-clause-right
-perform-requires-clause-right g c = let front = plain_front c.args.front in accepted_runs_right front (accepted_is_typed (prelude_of (origin_of (plain_command c.args.command))) c.args.text.now front c.requires.stands) _
+perform-requires-clause-right g c = let front = plain_front c.args.front in accepted_is_freely_right front (accepted_is_typed (prelude_of (origin_of (plain_command c.args.command))) c.args.text.now front c.requires.stands)
 
 pub returns-in-Err-Memory-clause-meets : goal.returns-in-Err-Memory-clause-meets
 returns-in-Err-Memory-clause-meets g c =

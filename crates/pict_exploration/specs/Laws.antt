@@ -1,0 +1,37 @@
+-- The laws of explorations, each the contract of a public function that does nothing.
+use Rattle.std.specs.Prelude.{ℕ, ◌≡◌, List}
+use Rattle.pict_syntax.specs.declared.span.Span.{Span}
+use Rattle.pict_core.specs.Term.{Process}
+use Rattle.pict_core.specs.Closed.{IsClosed}
+use Rattle.pict_core.specs.Configuration.{Configuration, opening}
+use Rattle.pict_core.specs.Step.{Choice, IsChoice, Traps, Finished, free_step, next}
+use Rattle.pict_reduction.specs.Reading.{reading}
+use Rattle.pict_exploration.specs.Explored.{FreelyPrints, ReducesTo, Found, IsFoundAs, Explores}
+
+-- Whatever free steps of the process reach, in any order, is found, up to congruence, with the bytes that they print.
+abbrev pub ExplorationsCoverRuns : Type 0
+ExplorationsCoverRuns =
+    (p : Process) (found : Found) → IsClosed p → Explores p found
+    → (C : Configuration) (bytes : List ℕ) → FreelyPrints (opening p) bytes C → IsFoundAs found bytes (reading C)
+
+-- So is whatever the process reduces to.
+abbrev pub ExplorationsCoverReductions : Type 0
+ExplorationsCoverReductions =
+    (p : Process) (found : Found) → IsClosed p → Explores p found
+    → (q : Process) (bytes : List ℕ) → ReducesTo 0 (reading (opening p)) bytes q → IsFoundAs found bytes q
+
+-- A finished configuration that free steps reach is found as one that is finished.
+abbrev pub FinishedRunsAreFound : Type 0
+FinishedRunsAreFound =
+    (p : Process) (found : Found) → IsClosed p → Explores p found
+    → (C : Configuration) (bytes : List ℕ) → FreelyPrints (opening p) bytes C → next C ≡ Finished
+    → (f : IsFoundAs found bytes (reading C)) × (next f.configuration ≡ Finished)
+
+-- Where a choice divides by zero in what free steps reach, one divides by zero, at the same place of the text, in what is
+-- found as that.
+abbrev pub TrapsAreFound : Type 0
+TrapsAreFound =
+    (p : Process) (found : Found) → IsClosed p → Explores p found
+    → (C : Configuration) (bytes : List ℕ) (choice : Choice) (at : Span) → FreelyPrints (opening p) bytes C
+    → IsChoice C choice → free_step C choice ≡ Traps at
+    → (f : IsFoundAs found bytes (reading C)) × (other : Choice) × IsChoice f.configuration other × (free_step f.configuration other ≡ Traps at)

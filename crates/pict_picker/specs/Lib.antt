@@ -1,0 +1,10 @@
+pub mod Waiting
+pub mod Picker
+pub mod Events
+pub mod Stepping
+pub mod Parts
+pub mod Deeds
+pub mod Calling
+pub mod Acting
+pub mod Lists
+pub mod Partners

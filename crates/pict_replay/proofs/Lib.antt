@@ -1,0 +1,4 @@
+mod Deciding
+mod Replaying
+mod Verdicts
+mod OneReading

@@ -1,0 +1,4 @@
+pub mod Replayed
+pub mod Files
+pub mod Plain
+pub mod Laws
