@@ -1,0 +1,16 @@
+pub mod OneAfterAnother
+pub mod OneReading
+pub mod ReadAnswers
+pub mod ReadPlaces
+pub mod Growing
+pub mod OneVisit
+pub mod OneReached
+pub mod Placed
+pub mod Printable
+pub mod Asking
+pub mod Beginning
+pub mod Opening
+pub mod Following
+pub mod Visiting
+pub mod Entering
+pub mod Causes

@@ -1,0 +1,12 @@
+pub mod Phases
+pub mod Sources
+pub mod Places
+pub mod Reading
+pub mod Fetching
+pub mod Gathered
+pub mod Reached
+pub mod Laws
+pub mod Answers
+pub mod Kept
+pub mod Found
+pub mod Entry
