@@ -1,21 +1,26 @@
-# After a report on FILE: the line of its place with a caret below, and the entry of PAGE whose heading is the report's text.
+# After a report on FILE: the line of its place with a caret below, unless it was shown already, and the entry of PAGE whose
+# heading is the report's text.
 BEGIN {
     file = ENVIRON["FILE"]
     page = ENVIRON["PAGE"]
 }
-$0 == "fuel spent" || /^usage: / { entry($0) }
-file != "" && index($0, file ":") == 1 {
+/^ *[0-9]+ \| / { shown_already = 1 }
+$0 == "fuel spent" || /^usage: / { heading = $0 }
+file != "" && heading == "" && index($0, file ":") == 1 {
     rest = substr($0, length(file) + 2)
     if (match(rest, /^[0-9]+:[0-9]+: /)) {
         split(rest, at, ":")
-        place(at[1] + 0, at[2] + 0)
         rest = substr(rest, RLENGTH)
     }
     sub(/^ /, "", rest)
-    entry(rest)
+    heading = rest
 }
 # (of a place in the prelude there is no line to show)
-file != "prelude" && match($0, /^prelude:[0-9]+:[0-9]+: /) { entry(substr($0, RLENGTH + 1)) }
+file != "prelude" && match($0, /^prelude:[0-9]+:[0-9]+: /) { heading = substr($0, RLENGTH + 1) }
+END {
+    if (at[1] != "" && !shown_already) place(at[1] + 0, at[2] + 0)
+    if (heading != "") entry(heading)
+}
 
 # Of a long line a part is shown. Bytes that don't begin a character take no column, and those that can't be shown are `?`.
 function place(row, column,    number, text, from, before) {
@@ -25,12 +30,12 @@ function place(row, column,    number, text, from, before) {
     from = column > 100 ? column - 80 : 1
     before = shown(substr(text, from, column - from))
     text = shown(substr(text, from, 140))
+    gsub(/[\200-\277]/, "", before)
     gsub(/[^\t]/, " ", before)
     printf "%6d | %s\n       | %s^\n", row, text, before
 }
 function shown(text) {
     gsub(/[\001-\010\013-\037\177]/, "?", text)
-    gsub(/[\200-\277]/, "", text)
     return text
 }
 function entry(heading,    line, inside, example, last) {

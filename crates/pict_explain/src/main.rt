@@ -1,0 +1,91 @@
+//! Does what `pict` does, with its output, its reports and its status, and tells more of a refusal: the line of the text with a
+//! caret, which tokens could stand there, and what may be meant.
+//!
+//! Its words are those of `pict`. The file is read once, so that report and explanation speak of the same bytes. With the words
+//! `mistakes FILE` it tells of each text of a file what is reported and told of it: a line that begins with `== ` and has a
+//! name begins a text, which stands behind the prelude if the word `prelude` follows the name.
+#![tactic(auto)]
+
+mod mistakes;
+mod telling;
+
+ghost use Rattle.std.specs.Prelude.{◌≤◌, length};
+ghost use Rattle.pict_syntax.specs.declared.limits.TheConstants.{TEXT_LIMIT};
+
+use anyhow::Error;
+use mistakes::tell_mistakes;
+use pict_outside::{Fetched, FolderShelf, Shelf, StreamSink};
+use pict_syntax::TEXT_LIMIT;
+use pict_top::{Command, Options, Status, pict, words_of};
+use std::env;
+use std::io::Write;
+use std::process::ExitCode;
+use telling::{shelf_of, told};
+
+/// Does what the words ask for, over the files of the system.
+fn do_plainly(rt: &HostRuntime, words: &[&str]) -> Status {
+    let mut shelf = FolderShelf::new(rt);
+    let mut out = StreamSink::new(rt.stdout());
+    let mut err = StreamSink::new(rt.stderr());
+    pict(rt.alloc(), words, &mut shelf, &mut out, &mut err)
+}
+
+/// Does what the words ask for with the text of their file, and tells of a refusal.
+fn do_with(
+    rt: &HostRuntime,
+    words: &[&str],
+    options: Options<'_>,
+    text: &[u8],
+) -> Result<Status, Error>
+    requires short { length text.now ≤ TEXT_LIMIT }
+{
+    let mut shelf = shelf_of(rt.alloc(), options.file, text)?;
+    let mut out = StreamSink::new(rt.stdout());
+    let mut err = StreamSink::new(rt.stderr());
+    let status = pict(rt.alloc(), words, &mut shelf, &mut out, &mut err);
+    if status == Status::Refused {
+        let more = told(rt.alloc(), text, options.bare)?;
+        rt.stderr().write_all(&more)?;
+    }
+    Ok(status)
+}
+
+/// Does what the words ask for of a file, and tells of a refusal.
+fn do_file(rt: &HostRuntime, words: &[&str], options: Options<'_>) -> Result<Status, Error> {
+    let mut shelf = FolderShelf::new(rt);
+    match shelf.fetch(rt.alloc(), options.file, TEXT_LIMIT) {
+        Ok(Fetched::Text(text)) => do_with(rt, words, options, &text),
+        _ => Ok(do_plainly(rt, words)),
+    }
+}
+
+/// Does what the words ask for.
+fn do_words(rt: &HostRuntime, words: &[&str]) -> Result<Status, Error> {
+    if let [first, file] = words {
+        if *first == "mistakes" {
+            return tell_mistakes(rt, file);
+        }
+    }
+    match words_of(words) {
+        Ok(Command::Run(options) | Command::Trace(options)) => do_file(rt, words, options),
+        Ok(Command::Check(options) | Command::Code(options)) => do_file(rt, words, options),
+        _ => Ok(do_plainly(rt, words)),
+    }
+}
+
+/// Collects the words, and does what they ask for.
+fn run(rt: &HostRuntime) -> Result<Status, Error> {
+    let mut texts = Vec::new(rt.alloc());
+    for word in env::args(rt)?.skip(1) {
+        texts.push(word)?;
+    }
+    let mut words = Vec::new(rt.alloc());
+    for text in &texts {
+        words.push(text.as_str())?;
+    }
+    do_words(rt, &words)
+}
+
+fn main(rt: HostRuntime) -> Result<ExitCode, Error> {
+    Ok(ExitCode::from(run(&rt)?.number()))
+}

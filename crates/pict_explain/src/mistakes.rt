@@ -1,0 +1,86 @@
+// Texts with usual mistakes, and what is told of each.
+
+use crate::telling::{shelf_of, told};
+use anyhow::Error;
+use pict_outside::{Fetched, FolderShelf, Shelf, StreamSink};
+use pict_syntax::TEXT_LIMIT;
+use pict_top::{Status, pict};
+use std::io::Write;
+use std::str::from_utf8;
+
+/// The word behind a name whose text stands behind the prelude.
+const PRELUDE: &str = " prelude";
+
+/// Tells of a text what is reported and told of it, on the standard output.
+fn tell_text(rt: &HostRuntime, name: &str, text: &[u8], bare: bool) -> Result<(), Error> {
+    if text.len() as u64 > TEXT_LIMIT {
+        return Ok(());
+    }
+    let mut shelf = shelf_of(rt.alloc(), name, text)?;
+    let mut out = StreamSink::new(rt.stdout());
+    let mut err = StreamSink::new(rt.stdout());
+    let status = if bare {
+        pict(
+            rt.alloc(),
+            &["check", "--bare", name],
+            &mut shelf,
+            &mut out,
+            &mut err,
+        )
+    } else {
+        pict(rt.alloc(), &["check", name], &mut shelf, &mut out, &mut err)
+    };
+    match status {
+        Status::Refused => {
+            let more = told(rt.alloc(), text, bare)?;
+            rt.stdout().write_all(&more)?
+        }
+        _ => println!(rt; "{name}: accepted")?,
+    }
+    Ok(())
+}
+
+/// Tells of the text that this line begins, unless it is the first.
+fn tell_block(rt: &HostRuntime, head: &str, text: &[u8]) -> Result<(), Error> {
+    if head.is_empty() {
+        return Ok(());
+    }
+    match head.strip_suffix(PRELUDE) {
+        Some(name) => tell_text(rt, name, text, false),
+        None => tell_text(rt, head, text, true),
+    }
+}
+
+/// Tells of each text of a file.
+fn tell_texts(rt: &HostRuntime, texts: &str) -> Result<(), Error> {
+    let mut head = "";
+    let mut text = Vec::new(rt.alloc());
+    for line in texts.lines() {
+        match line.strip_prefix("== ") {
+            Some(next) => {
+                tell_block(rt, head, &text)?;
+                head = next;
+                text = Vec::new(rt.alloc());
+            }
+            None => {
+                text.extend_from_slice(line.as_bytes())?;
+                text.push(b'\n')?;
+            }
+        }
+    }
+    tell_block(rt, head, &text)
+}
+
+/// Tells of each text of the file that has this name.
+pub fn tell_mistakes(rt: &HostRuntime, file: &str) -> Result<Status, Error> {
+    let mut shelf = FolderShelf::new(rt);
+    match shelf.fetch(rt.alloc(), file, TEXT_LIMIT) {
+        Ok(Fetched::Text(bytes)) => {
+            if let Ok(texts) = from_utf8(&bytes) {
+                tell_texts(rt, texts)?;
+            }
+            Ok(Status::Done)
+        }
+        _ => Ok(Status::Missing),
+    }
+}
