@@ -1,0 +1,187 @@
+//! The command for a host that isn't Rattle: one call over one text and two buffers in memory.
+#![tactic(auto)]
+
+#[cfg(test)]
+mod tests;
+
+ghost use Rattle.std.specs.Prelude.{◌≡◌, ◌≤◌, Some, IfOk, length, take};
+ghost use Rattle.std.specs.Fmt.{decimal};
+ghost use Rattle.pict_outside.specs.Entries.{pairs_of};
+ghost use Rattle.pict_outside.specs.Texts as texts;
+ghost use Rattle.pict_words.specs.Plain.{texts_of};
+ghost use Rattle.pict_web.specs.Asked.{words_for, texts_with};
+ghost use Rattle.pict_web.specs.Delivered.{IsDelivered, IsInBuffers, IsAnswered};
+
+use itoa::Buffer;
+use pict_outside::{Entry, MemoryShelf, MemorySink};
+use pict_top::{Status, pict};
+use std::alloc::{AllocError, Global};
+
+/// How many bytes at the beginning of each of the two buffers a call has written.
+#[repr(C)]
+#[derive(Clone, Copy, Debug)]
+pub struct Lengths {
+    pub printed: u64,
+    pub reported: u64,
+}
+
+/// How the command ended, and the sinks that it wrote on.
+#[derive(Drop)]
+struct Ended {
+    status: Status,
+    printed: MemorySink,
+    reported: MemorySink,
+}
+
+/// Runs (0), traces (1), checks (2) or lists the code of (any other `command`) a text, as the command of that word does with a
+/// file `main.pi` that holds it, and answers the number of the status. What is written on the output goes to the beginning of
+/// `out`, what is reported to that of `err`. `fuel` counts where the command runs the text. Where the output has more bytes
+/// than `out`, the status is that of a sink that failed, and `out` has a beginning of them.
+#[tactic(auto, using(crate::proofs::Delivering::answered))]
+#[unsafe(no_mangle)]
+pub extern "C" fn pict_web_call(
+    alloc: Global,
+    command: u8,
+    bare: bool,
+    fuel: u64,
+    text: &[u8],
+    out: &mut [u8],
+    err: &mut [u8],
+    lengths: &mut Lengths,
+) -> u8
+    ensures out_length { length out.new ≡ length out.old }
+    ensures err_length { length err.new ≡ length err.old }
+    ensures printed_fits { lengths.new.printed ≤ length out.new }
+    ensures reported_fits { lengths.new.reported ≤ length err.new }
+    ensures answered { IsAnswered (words_for command bare (decimal fuel)) (texts.texts_of (texts_with text.now)) result
+        out.new lengths.new.printed err.new lengths.new.reported }
+{
+    match call(alloc, command, bare, fuel, text, out, err, lengths) {
+        Ok(status) => status.number(),
+        Err(AllocError) => {
+            *lengths = Lengths {
+                printed: 0,
+                reported: 0,
+            };
+            Status::Memory.number()
+        }
+    }
+}
+
+/// The same but for the number of the status. The error is want of memory, and says nothing of the buffers.
+#[tactic(auto, using(crate::proofs::Delivering::moved))]
+fn call(
+    alloc: Global,
+    command: u8,
+    bare: bool,
+    fuel: u64,
+    text: &[u8],
+    out: &mut [u8],
+    err: &mut [u8],
+    lengths: &mut Lengths,
+) -> Result<Status, AllocError>
+    ensures out_length { length out.new ≡ length out.old }
+    ensures err_length { length err.new ≡ length err.old }
+    ensures printed_fits { IfOk result (λ _. lengths.new.printed ≤ length out.new) }
+    ensures reported_fits { IfOk result (λ _. lengths.new.reported ≤ length err.new) }
+    ensures answered { IfOk result (λ status. IsInBuffers (words_for command bare (decimal fuel)) (texts.texts_of (texts_with text.now)) status
+        out.new lengths.new.printed err.new lengths.new.reported) }
+{
+    let room = out.len() as u64;
+    let report_room = err.len() as u64;
+    let ended = asked(alloc, command, bare, fuel, text, room, report_room)?;
+    let printed = ended.printed.taken();
+    let reported = ended.reported.taken();
+    if out.len() < printed.len() || err.len() < reported.len() {
+        return Err(AllocError);
+    }
+    put(printed, out);
+    put(reported, err);
+    *lengths = Lengths {
+        printed: printed.len() as u64,
+        reported: reported.len() as u64,
+    };
+    Ok(ended.status)
+}
+
+/// The command with its words over the one text, on two sinks of these capacities.
+fn asked(
+    alloc: Global,
+    command: u8,
+    bare: bool,
+    fuel: u64,
+    text: &[u8],
+    room: u64,
+    report_room: u64,
+) -> Result<Ended, AllocError>
+    ensures { IfOk result (λ ended. IsDelivered (words_for command bare (decimal fuel)) (texts.texts_of (texts_with text.now))
+        ended.status ended.printed.taken ended.reported.taken) }
+{
+    let mut digits = Buffer::new();
+    let words = words_of(alloc, command, bare, digits.format(fuel))?;
+    let entries = entries_of(alloc, text)?;
+    over(alloc, &words, entries, room, report_room)
+}
+
+/// The words of the command, with this number of steps.
+fn words_of<'a>(
+    alloc: Global,
+    command: u8,
+    bare: bool,
+    fuel: &'a str,
+) -> Result<Vec<&'a str>, AllocError>
+    ensures { IfOk result (λ words. texts_of words.items ≡ words_for command bare fuel.now) }
+{
+    match (command, bare) {
+        (0, true) => Ok(vec![in alloc; "run", "--bare", "--fuel", fuel, "main.pi"]?),
+        (0, false) => Ok(vec![in alloc; "run", "--fuel", fuel, "main.pi"]?),
+        (1, true) => Ok(vec![in alloc; "trace", "--bare", "--fuel", fuel, "main.pi"]?),
+        (1, false) => Ok(vec![in alloc; "trace", "--fuel", fuel, "main.pi"]?),
+        (2, true) => Ok(vec![in alloc; "check", "--bare", "main.pi"]?),
+        (2, false) => Ok(vec![in alloc; "check", "main.pi"]?),
+        (_, true) => Ok(vec![in alloc; "code", "--bare", "main.pi"]?),
+        (_, false) => Ok(vec![in alloc; "code", "main.pi"]?),
+    }
+}
+
+/// The one text under its name.
+fn entries_of(alloc: Global, text: &[u8]) -> Result<Vec<Entry>, AllocError>
+    ensures { IfOk result (λ entries. pairs_of entries.items ≡ texts_with text.now) }
+{
+    let name = Vec::from_slice(alloc, b"main.pi")?;
+    let text = Vec::from_slice(alloc, text)?;
+    let mut entries = Vec::new(alloc);
+    entries.push(Entry { name, text })?;
+    Ok(entries)
+}
+
+/// The top call with these words over these texts, on two sinks of these capacities, whose writes fail nowhere else.
+fn over(
+    alloc: Global,
+    words: &[&str],
+    entries: Vec<Entry>,
+    room: u64,
+    report_room: u64,
+) -> Result<Ended, AllocError>
+    ensures { IfOk result (λ ended. IsDelivered (texts_of words.now) (texts.texts_of (pairs_of entries.items))
+        ended.status ended.printed.taken ended.reported.taken) }
+{
+    let mut shelf = MemoryShelf::new(entries, Vec::new(alloc));
+    let mut printed = MemorySink::new(alloc, room, Vec::new(alloc))?;
+    let mut reported = MemorySink::new(alloc, report_room, Vec::new(alloc))?;
+    let status = pict(alloc, words, &mut shelf, &mut printed, &mut reported);
+    Ok(Ended {
+        status,
+        printed,
+        reported,
+    })
+}
+
+/// Copies the bytes to the beginning of `to`.
+pub(crate) fn put(bytes: &[u8], to: &mut [u8])
+    requires fits { length bytes.now ≤ length to.old }
+    ensures length { length to.new ≡ length to.old }
+    ensures copied { take (length bytes.now) to.new ≡ bytes.now }
+{
+    to[..bytes.len()].copy_from_slice(bytes);
+}

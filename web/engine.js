@@ -1,0 +1,72 @@
+// The program's code behind one function, in a worker or in Node.
+'use strict';
+(function (pict) {
+  pict.COMMANDS = ['run', 'trace', 'check', 'code'];
+  const OUT = 4 << 20, ERR = 4096, MEMORY = 7, SPENT = 3;
+  const NOTHING = { status: MEMORY, out: new Uint8Array(), err: new Uint8Array() };
+
+  // A call takes a fresh memory, so that no call sees what another left. Addresses and lengths are numbers of 64 bits.
+  async function opened(module) {
+    const it = (await WebAssembly.instantiate(module, {})).exports;
+    return {
+      code: it,
+      room: size => it.malloc(BigInt(Math.max(size, 1))),
+      put: (at, bytes) => new Uint8Array(it.memory.buffer, Number(at), bytes.length).set(bytes),
+      bytes: (at, size) => new Uint8Array(it.memory.buffer, Number(at), size).slice(),
+      numbers: at => [...new BigUint64Array(it.memory.buffer, Number(at), 2)].map(Number),
+    };
+  }
+
+  // The status of a command over a text, what it prints and what it reports.
+  pict.call = async function (module, command, bare, fuel, text) {
+    const memory = await opened(module);
+    const rooms = [text.length, OUT, ERR, 16].map(memory.room), [at, out, err, lengths] = rooms;
+    if (rooms.includes(0n)) return NOTHING;
+    memory.put(at, text);
+    const status = memory.code.pict_web_call(pict.COMMANDS.indexOf(command), bare ? 1 : 0, BigInt(fuel),
+      at, BigInt(text.length), out, BigInt(OUT), err, BigInt(ERR), lengths);
+    const [printed, reported] = memory.numbers(lengths);
+    return { status: status & 255, out: memory.bytes(out, printed), err: memory.bytes(err, reported) };
+  };
+
+  // Whether the module tells the steps of a run.
+  pict.tells = module => WebAssembly.Module.exports(module).some(it => it.name === 'pict_web_steps');
+
+  // The lines of the first steps of a run; status 1 where the text is refused.
+  pict.steps = async function (module, bare, text) {
+    const memory = await opened(module);
+    const rooms = [text.length, OUT, 16].map(memory.room), [at, out, lengths] = rooms;
+    if (rooms.includes(0n)) return NOTHING;
+    memory.put(at, text);
+    const status = memory.code.pict_web_steps(bare ? 1 : 0, at, BigInt(text.length), out, BigInt(OUT), lengths);
+    return { status: status & 255, out: memory.bytes(out, memory.numbers(lengths)[0]), err: new Uint8Array() };
+  };
+
+  // Growing numbers of steps, so that what a run prints is seen while it goes on: what it prints with less fuel is a beginning
+  // of what it prints with more.
+  pict.fuels = function (fuel) {
+    const all = [];
+    for (let some = 20000n; some < BigInt(fuel); some *= 8n) all.push(some);
+    return [...all, BigInt(fuel)];
+  };
+
+  // What a worker does with a job. Each answer says whether it is the last one. A trap of the module or a full stack is no
+  // answer of the program.
+  pict.work = async function (module, job, answer) {
+    try {
+      if (job.command === 'steps') {
+        answer({ ...await pict.steps(module, job.bare, job.text), last: true });
+        return;
+      }
+      const fuels = job.command === 'run' ? pict.fuels(job.fuel) : [BigInt(job.fuel)];
+      for (const fuel of fuels) {
+        const said = await pict.call(module, job.command, job.bare, fuel, job.text);
+        const last = said.status !== SPENT || fuel === fuels[fuels.length - 1];
+        answer({ ...said, last, fuel: String(fuel) });
+        if (last) return;
+      }
+    } catch (error) {
+      answer({ failed: String(error), last: true });
+    }
+  };
+})(globalThis.pict = globalThis.pict || {});
