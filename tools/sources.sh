@@ -1,3 +1,4 @@
+# shellcheck shell=sh disable=SC2154 # who reads this sets `here`
 # What the program is built of, and whether out/pict is built of exactly that. Read by ./pict, ./build and .ci/run, with
 # `here` set to the top of the repository. In the folder out/ there stand:
 #   pict    the proved program
@@ -6,9 +7,10 @@
 #   seen    the folders of these crates, in the first line, and then size and times of each source, of the program and of
 #           the toolchain's command, as they were when all sums were last compared
 
-# The crates under the program, each with those that it stands on, as crates.txt has them. Each comes after those.
+# The crates under the program, or under this one, each with those that it stands on, as crates.txt has them. Each comes after
+# those.
 crates() {
-    awk '
+    awk -v top="${1:-pict}" '
         !/^#/ && /:/ { line = $0; sub(/:.*/, ""); name = $1; sub(/^[^:]*:/, "", line); below[name] = line }
         function under(name,    count, parts, i) {
             if (name in seen || !(name in below)) return
@@ -17,7 +19,7 @@ crates() {
             for (i = 1; i <= count; i++) under(parts[i])
             print name ":" below[name]
         }
-        END { under("pict") }' "$here/crates.txt"
+        END { under(top) }' "$here/crates.txt"
 }
 
 # The folders of these crates, in one line.
@@ -73,4 +75,16 @@ $(listing $folders)" != "$(exec cat "$here/out/seen")" ] || return 0
 take() {
     mkdir -p "$here/out" && cp "$here/crates/pict/out/pict" "$here/out/pict.$$" && mv -f "$here/out/pict.$$" "$here/out/pict" &&
         { echo "$1" && sum_of_program; } >"$here/out/built.$$" && mv -f "$here/out/built.$$" "$here/out/built" && is_fresh
+}
+
+# Whether this program, which stands beside pict, is built (rt run in its crate, or the gate) and no source under it is newer.
+# shellcheck disable=SC2046 # the names of folders have no blanks
+is_built() {
+    [ -x "$here/crates/$1/out/$1" ] || return 1
+    (
+        cd "$here" || exit
+        newer=$(find -H crates.txt $(crates "$1" | sed 's|^\([^:]*\):.*|crates/\1|') \
+            \( -name out -o -name must-fail -o -name more-edits -o -name data \) -prune -o -type f -newer "crates/$1/out/$1" -print -quit)
+        [ -z "$newer" ]
+    )
 }

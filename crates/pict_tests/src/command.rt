@@ -594,7 +594,6 @@ fn other_words(rt: HostRuntime) -> Result<(), AllocError> {
         usage(&["run", "--bare", "--fuel", "", "F"]),
         usage(&["run", "--bare", "--fuel", "1000000001", "F"]),
         usage(&["run", "--bare", "--fuel", "18446744073709551617", "F"]),
-        usage(&["pick", "--bare", "01", "F"]),
         usage(&["load"]),
         usage(&["load", "01"]),
         usage(&["load", "+1"]),
@@ -605,6 +604,180 @@ fn other_words(rt: HostRuntime) -> Result<(), AllocError> {
             words: &["run", "--bare", "--fuel", "1000000000", "F"],
             ..HELLO
         },
+    ];
+    for case in &cases {
+        try_case(&rt, rt.alloc(), case)?;
+    }
+    Ok(())
+}
+
+const BESIDE: &[u8] = b"run (print!\"a\" | print!\"b\")";
+
+// Two writers of one cell, and one who waits and then reads it.
+const RACE: &[u8] = b"new cell:^String
+def write [word:String] = cell?_ = cell!word
+def wait [rounds:Int] = if (== rounds 0) then cell?word = print!word else wait![(- rounds 1)]
+run cell!\"empty\"
+run (write![\"first\"] | write![\"second\"] | wait![10])
+";
+
+/// Runs with choices from a seed, and what they choose.
+#[test]
+fn picks(rt: HostRuntime) -> Result<(), AllocError> {
+    let spent = Case {
+        status: Status::FuelSpent,
+        err: b"fuel spent\n",
+        ..HELLO
+    };
+    let cases = [
+        written(RUN, BESIDE, b"ab"),
+        written(&["pick", "--bare", "42", "F"], BESIDE, b"ba"),
+        written(
+            &["picked", "--bare", "42", "F"],
+            BESIDE,
+            b"0 0\n1 0\n0 0\n1 0\n0 0\ntrace\n4 print \"b\"\n5 print \"a\"\n",
+        ),
+        written(&["pick", "--bare", "--fuel", "5", "42", "F"], BESIDE, b"ba"),
+        Case {
+            words: &["pick", "--bare", "--fuel", "4", "42", "F"],
+            text: BESIDE,
+            out: b"b",
+            ..spent
+        },
+        Case {
+            words: &["picked", "--bare", "--fuel", "4", "42", "F"],
+            text: BESIDE,
+            out: b"0 0\n1 0\n0 0\n1 0\ntrace\n4 print \"b\"\n",
+            ..spent
+        },
+        written(&["pick", "--bare", "0", "F"], RACE, b"first"),
+        written(&["pick", "--bare", "1", "F"], RACE, b"second"),
+        // The greatest seed and fuel.
+        written(
+            &[
+                "picked",
+                "--bare",
+                "--fuel",
+                "1000000000",
+                "18446744073709551615",
+                "F",
+            ],
+            b"",
+            b"0 0\ntrace\n",
+        ),
+    ];
+    for case in &cases {
+        try_case(&rt, rt.alloc(), case)?;
+    }
+    Ok(())
+}
+
+/// Devices that fail and steps that trap under choices from a seed.
+#[test]
+fn picks_that_end_otherwise(rt: HostRuntime) -> Result<(), AllocError> {
+    let picked: &[&str] = &["picked", "--bare", "42", "F"];
+    let trap = Case {
+        words: picked,
+        text: b"run div![1 0 printi]",
+        status: Status::Trap,
+        err: b"F:1:5: division by zero\n",
+        ..HELLO
+    };
+    let cases = [
+        // A step that traps has no line.
+        Case {
+            out: b"0 0\n1 0\ntrace\n",
+            ..trap
+        },
+        Case {
+            words: &["pick", "--bare", "42", "F"],
+            out: b"",
+            ..trap
+        },
+        Case {
+            words: &["picked", "--bare", "--fuel", "2", "42", "F"],
+            status: Status::FuelSpent,
+            out: b"0 0\n1 0\ntrace\n",
+            err: b"fuel spent\n",
+            ..trap
+        },
+        // The write of the second choice fails, that of `trace`, and that of the trace's first line.
+        Case {
+            text: BESIDE,
+            out_fails: Some(Fail { call: 2, takes: 2 }),
+            status: Status::WriteFault,
+            out: b"0 0\n1 ",
+            err: b"",
+            ..trap
+        },
+        Case {
+            text: BESIDE,
+            out_fails: Some(Fail { call: 6, takes: 1 }),
+            status: Status::WriteFault,
+            out: b"0 0\n1 0\n0 0\n1 0\n0 0\nt",
+            err: b"",
+            ..trap
+        },
+        Case {
+            text: BESIDE,
+            out_fails: Some(Fail { call: 7, takes: 0 }),
+            status: Status::WriteFault,
+            out: b"0 0\n1 0\n0 0\n1 0\n0 0\ntrace\n",
+            err: b"",
+            ..trap
+        },
+        Case {
+            words: &["pick", "1", "G"],
+            status: Status::Missing,
+            out: b"",
+            err: b"G: no such file\n",
+            ..trap
+        },
+        Case {
+            shelf_fails: true,
+            status: Status::ReadFault,
+            out: b"",
+            err: b"F: cannot be read\n",
+            ..trap
+        },
+        Case {
+            text: b"run x!1",
+            status: Status::Refused,
+            out: b"",
+            err: b"F:1:5: S1 unbound name\n",
+            ..trap
+        },
+    ];
+    for case in &cases {
+        try_case(&rt, rt.alloc(), case)?;
+    }
+    Ok(())
+}
+
+/// Seeds are decimal, without a sign and without a leading zero, and below 2 to the power 64; and they aren't left out.
+#[test]
+fn words_with_seeds(rt: HostRuntime) -> Result<(), AllocError> {
+    let cases = [
+        usage(&["pick", "--bare", "01", "F"]),
+        usage(&["pick"]),
+        usage(&["pick", "F"]),
+        usage(&["pick", "1"]),
+        usage(&["pick", "--bare", "F"]),
+        usage(&["pick", "--bare", "1"]),
+        usage(&["pick", "1", ""]),
+        usage(&["pick", "1", "-F"]),
+        usage(&["pick", "+1", "F"]),
+        usage(&["pick", "18446744073709551616", "F"]),
+        usage(&["pick", "1", "--bare", "F"]),
+        usage(&["pick", "--fuel", "01", "1", "F"]),
+        usage(&["pick", "--fuel", "1", "--bare", "1", "F"]),
+        usage(&["pick", "--bare", "--fuel", "1", "F"]),
+        usage(&["pick", "--bare", "--fuel", "1", "1", "F", "G"]),
+        usage(&["picked", "--bare", "00", "F"]),
+        usage(&["picked", "F"]),
+        usage(&["picks", "1", "F"]),
+        usage(&["run", "1", "F"]),
+        usage(&["run", "--bare", "1", "F"]),
     ];
     for case in &cases {
         try_case(&rt, rt.alloc(), case)?;

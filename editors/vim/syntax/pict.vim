@@ -3,7 +3,8 @@ if exists('b:current_syntax') | finish | endif
 syntax case match
 syntax sync fromstart
 
-" An identifier may have quotes in it, as x', so a quote after a letter opens no character.
+" An identifier may have quotes in it, as x', so a quote after a letter opens no character, and run' is no keyword.
+syntax iskeyword @,48-57,_,39
 syntax match pictIdentifier "\<\a[A-Za-z0-9_']*"
 syntax match pictNumber "-\?\d\+"
 syntax match pictSign "?\*\|->\|[!?=|()\[\]:;<>\\^/#_]"
