@@ -99,14 +99,17 @@ fn printed_by_a_list(alloc: Global, seed: u64) -> Result<Vec<u8>, AllocError> {
     let mut digits = Buffer::new();
     ready.push(Item::Rest(0))?;
     for _ in 0..2 * COUNT + 1 {
+        if ready.is_empty() {
+            break;
+        }
         let place = chooser.choose(ready.len() as u64) as usize;
         match ready[place] {
             Item::Rest(first) => {
-                if first == COUNT {
-                    ready.remove(place);
-                } else {
+                if first < COUNT {
                     ready[place] = Item::Printing(first);
                     ready.push(Item::Rest(first + 1))?;
+                } else {
+                    ready.remove(place);
                 }
             }
             Item::Printing(number) => {
