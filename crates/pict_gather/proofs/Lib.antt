@@ -13,4 +13,5 @@ pub mod Opening
 pub mod Following
 pub mod Visiting
 pub mod Entering
+pub mod Holding
 pub mod Causes

@@ -83,7 +83,7 @@ by_recursion : {A : Type 0} (P : A → Type 0) (xs : List A) → All P xs → Al
 by_recursion P [] h = tt
 by_recursion P (x ∷ xs) h = (h zero x (omega arith), by_recursion P xs (λ k d below. h (suc k) d (omega arith)))
 
-program_is : (a b : Read) → (let said : Read → Phase Stop Read = λ r. accepts r in said a ≡ said b) → a ≡ b
+pub program_is : (a b : Read) → (let said : Read → Phase Stop Read = λ r. accepts r in said a ≡ said b) → a ≡ b
 program_is a b e = cc
 
 pub imports_lie : (names : List (List ℕ)) (n : ℕ) (text : List ℕ) (r : Read) → Reads names n text (accepts r) → AllByRecursion (λ x. LiesIn n text x.span) r.program.imports
