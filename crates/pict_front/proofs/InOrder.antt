@@ -1,23 +1,32 @@
--- The core process of an accepted text has its labels in order, so what its run writes is read back.
-use Rattle.std.proofs.Common.{◌≡◌, ℕ, ◌+◌, true, List, [], ◌∷◌, ◌++◌, length, Some, sym, ◌∙◌, ap, subst, unwrap_or}
+-- The core process of an accepted file has its labels in order, so what its run writes is read back.
+use Rattle.std.proofs.Common.{◌≡◌, ℕ, ◌+◌, zero, suc, true, List, [], ◌∷◌, ◌++◌, length, Some, sym, ◌∙◌, ap, subst, unwrap_or}
+use Rattle.std.specs.Prelude.{slice_get}
+use Rattle.pict_syntax.specs.declared.source.Source.{Source}
+use Rattle.pict_syntax.specs.declared.token.Token.{Token}
+use Rattle.pict_syntax.specs.declared.token.TokenKind.{TokenKind}
+use Rattle.pict_syntax.specs.declared.token.TokenKind.TheVariants.{Identifier}
 use Rattle.pict_syntax.specs.Names.{with_name, with_names, number_of, text_of, HasNoRepeats}
 use Rattle.pict_syntax.specs.Cuts.{Piece, blank, comment, token, ArePieces, named, tokens_of}
+use Rattle.pict_syntax.specs.Programs.{Program, programs}
 use Rattle.pict_syntax.specs.Tokens.{identifier, symbol, keyword, number, character, string, sign}
 use Rattle.pict_syntax.specs.Trees.{Decs, no_decs, more_decs}
 use Rattle.pict_syntax.proofs.NamesLemmas.{has_name, stands_there, has_kept, has_interned, with_grows, interned_distinct}
+use Rattle.pict_gather.specs.Phases.{accepts}
+use Rattle.pict_gather.specs.Reading.{Read, Reads}
+use Rattle.pict_gather.specs.Fetching.{MayGive}
+use Rattle.pict_gather.specs.Gathered.{Gathered, behind, with_source}
+use Rattle.pict_gather.proofs.Holding.{read_by, is_reached, IsOfTexts, reached_holds}
 use Rattle.pict_scope.proofs.LabelsScoped.{scoped_distinct}
 use Rattle.pict_trace.specs.Readable.{IsIdentifier}
 use Rattle.pict_trace.specs.Ordered.{IsOrderedProcess}
 use Rattle.pict_trace.proofs.ReadBack.{runs_are_read_back}
-use Rattle.pict_front.specs.Phases.{accepts, Then, Each}
-use Rattle.pict_front.specs.Front.{Front, Numbered, Cut, Lexes, Parses, Judges, texts_in_order, named_in, names_in, tokens_in, behind, joined}
+use Rattle.pict_front.specs.Front.{Front}
 use Rattle.pict_front.specs.Laws.{AcceptedIsOrdered, AcceptedIsReadBack}
-use Rattle.pict_front.proofs.OneAfterAnother.{accepted_then, each_accepted}
-use Rattle.pict_front.proofs.TypedPrograms.{judged}
+use Rattle.pict_front.proofs.TypedPrograms.{gathered}
 use Rattle.pict_front.proofs.Labelled.{DecsLabels}
 use Rattle.pict_front.proofs.Rising.{IsLabel}
 use Rattle.pict_front.proofs.Ordering.{program_ordered}
-use Rattle.pict_front.proofs.Tokens.{Hold, decs_labels}
+use Rattle.pict_front.proofs.Tokens.{Hold, KindHolds, split, decs_labels}
 
 -- ---- names
 
@@ -42,10 +51,6 @@ all_distinct names (text ∷ texts) distinct = all_distinct (with_name names tex
 none_distinct : HasNoRepeats []
 none_distinct i j text a b = absurd cc
 
-both_named : (names xs ys : List (List ℕ)) → AllNamed names (xs ++ ys) → AllNamed names xs × AllNamed names ys
-both_named names [] ys all = (tt, all)
-both_named names (x ∷ xs) ys all = let rest = both_named names xs ys all.1 in ((all.0, rest.0), rest.1)
-
 -- ---- tokens
 
 identifier_label : (names : List (List ℕ)) (text : List ℕ) → has_name names text ≡ true → IsIdentifier text → IsLabel names (number_of names text)
@@ -66,43 +71,68 @@ tokens_hold names n place (token bytes (character value) ∷ ps) rest are all = 
 tokens_hold names n place (token bytes (string values) ∷ ps) rest are all = (tt, tokens_hold names n (place + length bytes) ps rest are.1 all)
 tokens_hold names n place (token bytes (sign s) ∷ ps) rest are all = (tt, tokens_hold names n (place + length bytes) ps rest are.1 all)
 
--- ---- texts
-
-abbrev AreCut : List Cut → Type 0
-AreCut [] = Unit {0}
-AreCut (c ∷ cs) = ArePieces c.pieces [] × AreCut cs
-
-are_cut : (ns : List Numbered) (cs : List Cut) → Each Lexes ns (accepts cs) → AreCut cs
-are_cut [] cs each = let got : cs ≡ [] = cc in subst AreCut (sym got) tt
-are_cut (n ∷ ns) cs each =
-    let read = each_accepted Lexes n ns cs each in
-    subst AreCut (sym read.4) (subst (λ (c : Cut). ArePieces c.pieces []) (sym read.2.2) read.2.1.each, are_cut ns read.1 read.3)
-
 behind_labels : (P : ℕ → Type 0) (first ds : Decs) → DecsLabels P first → DecsLabels P ds → DecsLabels P (behind first ds)
 behind_labels P first no_decs a b = a
 behind_labels P first (more_decs ds d) a b = (behind_labels P first ds a b.0, b.1)
 
-joined_labels : (names : List (List ℕ)) (cs : List Cut) (ps : List Decs) → AreCut cs → AllNamed names (named_in cs) → Each (Parses names) cs (accepts ps) → DecsLabels (IsLabel names) (joined ps)
-joined_labels names [] ps are all each = let got : ps ≡ [] = cc in subst (λ ds. DecsLabels (IsLabel names) (joined ds)) (sym got) tt
-joined_labels names (c ∷ cs) ps are all each =
-    let read = each_accepted (Parses names) c cs ps each in
-    let parts = both_named names (named c.pieces) (named_in cs) all in
-    let first = decs_labels (IsLabel names) read.0 (tokens_in names c) read.2.tree (tokens_hold names c.number 0 c.pieces [] are.0 parts.0) in
-    subst (λ ds. DecsLabels (IsLabel names) (joined ds)) (sym read.4) (behind_labels (IsLabel names) read.0 (joined read.1) first (joined_labels names cs read.1 are.1 parts.1 read.3))
+-- ---- the declarations of all texts
+
+get_front : (xs ys : List (List ℕ)) (i : ℕ) (x : List ℕ) → slice_get xs i ≡ Some x → slice_get (xs ++ ys) i ≡ Some x
+get_front [] ys i x e = absurd cc
+get_front (y ∷ xs) ys zero x e = e
+get_front (y ∷ xs) ys (suc i) x e = get_front xs ys i x e
+
+label_kept : (names others : List (List ℕ)) (n : ℕ) → IsLabel names n → IsLabel (names ++ others) n
+label_kept names others n h =
+    let stands = get_front names others n (text_of names n) h.0 in
+    let same : text_of (names ++ others) n ≡ text_of names n = ap (λ o. unwrap_or o []) stands in
+    (stands ∙ ap Some (sym same), subst IsIdentifier (sym same) h.1)
+
+module _ (P Q : ℕ → Type 0) (f : (n : ℕ) → P n → Q n) where
+  kind_holds : (k : TokenKind) → KindHolds P k → KindHolds Q k
+  kind_holds (Identifier n) h = f n.0 h
+  kind_holds k h = tt
+
+  holds_on : (ts : List Token) → Hold P ts → Hold Q ts
+  holds_on [] h = tt
+  holds_on (t ∷ ts) h = (kind_holds t.kind h.0, holds_on ts h.1)
+
+program_labels : (Q : ℕ → Type 0) (p : Program) (ts : List Token) → programs.tree ts p → Hold Q ts → DecsLabels Q p.decs
+program_labels Q p ts (us, vs, is, imports, decs) h = decs_labels Q p.decs vs decs (split Q us vs (subst (Hold Q) (sym is) h)).1
+
+module _ (Q : ℕ → Type 0) where
+  abbrev Labelled : List Source → List (List ℕ) → Decs → Type 0
+  Labelled sources names ds = ((n : ℕ) → IsLabel names n → Q n) → DecsLabels Q ds
+
+  text_labels : (sources : List Source) (names : List (List ℕ)) (name t : List ℕ) (r : Read) → Reads names (length sources) t (accepts r) → Labelled (with_source sources name t) r.names r.program.decs
+  text_labels sources names name t r reads f =
+      let by = read_by names (length sources) t r reads in
+      let all : AllNamed r.names (named by.0) = subst (λ ns. AllNamed ns (named by.0)) (sym by.1.names_are) (all_named names (named by.0)) in
+      let hold = tokens_hold r.names (length sources) 0 by.0 [] by.1.cut.each all in
+      program_labels Q r.program (tokens_of r.names (length sources) 0 by.0) by.1.parsed.tree (holds_on (IsLabel r.names) Q f _ hold)
+
+  of_texts : IsOfTexts Labelled
+  of_texts = record {
+    grows = λ ss more names others ds h f. h (λ n label. f n (label_kept names others n label));
+    joins = λ ss names ds es a b f. behind_labels Q ds es (a f) (b f);
+    reads = text_labels;
+  }
 
 -- ---- the law
 
 pub accepted_is_ordered : AcceptedIsOrdered
-accepted_is_ordered prelude text f front =
-    let read = accepted_then (Each Lexes (texts_in_order prelude text)) (λ texts. Then (Each (Parses (names_in texts)) texts) (λ programs. Judges (names_in texts) (joined programs))) f front in
-    let names = names_in read.0 in
-    let parsed = accepted_then (Each (Parses names) read.0) (λ programs. Judges names (joined programs)) f read.2 in
-    let labels = joined_labels names read.0 parsed.0 (are_cut (texts_in_order prelude text) read.0 read.1) (all_named [] (named_in read.0)) parsed.1 in
-    let j = judged names (joined parsed.0) f parsed.2 in
-    let ordered = program_ordered names (all_distinct [] (named_in read.0) none_distinct) (joined parsed.0) labels (scoped_distinct names (joined parsed.0) j.scoped) in
-    let P : Front → Type 0 = λ g. HasNoRepeats g.names × IsOrderedProcess g.names g.core in
-    subst P j.is (all_distinct [] (named_in read.0) none_distinct, ordered)
+accepted_is_ordered held prelude file a front =
+    let read = gathered held prelude file a front in
+    let g : Gathered = read.0 in
+    let Q : ℕ → Type 0 = IsLabel g.names in
+    let labels : DecsLabels Q g.decs = reached_holds (Labelled Q) (of_texts Q) (MayGive held) prelude file g (λ f. tt) read.1.reaches (λ n h. h) in
+    let reached = is_reached (MayGive held) prelude file g read.1.reaches in
+    let distinct : HasNoRepeats g.names = subst HasNoRepeats (sym reached.names) (all_distinct [] reached.words none_distinct) in
+    let j = read.1.judged_as in
+    let ordered = program_ordered g.names distinct g.decs labels (scoped_distinct g.names g.decs j.scoped) in
+    let P : Front → Type 0 = λ f. HasNoRepeats f.names × IsOrderedProcess f.names f.core in
+    subst P j.is (distinct, ordered)
 
 pub accepted_is_read_back : AcceptedIsReadBack
-accepted_is_read_back prelude text f n labels C front reached fits =
-    let ordered = accepted_is_ordered prelude text f front in runs_are_read_back f.names f.core n labels C ordered.0 ordered.1 reached fits
+accepted_is_read_back held prelude file a n labels C front reached fits =
+    let ordered = accepted_is_ordered held prelude file a front in runs_are_read_back a.front.names a.front.core n labels C ordered.0 ordered.1 reached fits

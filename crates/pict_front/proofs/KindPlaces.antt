@@ -1,5 +1,6 @@
--- Where a written type is refused is one of its places.
+-- Where a written type is refused is one of its places, and nothing is said to be absent.
 use Rattle.std.proofs.Common.{ℕ, Bool, true, false, if◌then◌else◌, nat_eq, nat_lt, ◌||◌, List, [], ◌∷◌, ◌++◌, Option, Some, None}
+use Rattle.pict_syntax.specs.declared.code.Code.TheVariants.{K1, K3, K4}
 use Rattle.pict_syntax.specs.declared.id.Id.{Id}
 use Rattle.pict_syntax.specs.declared.span.Span.{Span}
 use Rattle.pict_syntax.specs.Grammar.{type_span}
@@ -11,16 +12,16 @@ use Rattle.pict_normal.specs.Normal.{Meaning, a_type, an_operator, meaning, norm
 use Rattle.pict_types.specs.Types.{Free}
 use Rattle.pict_normal.specs.WrittenArguments.{named, stop_meant, arg_stop}
 use Rattle.pict_rules.specs.Shapes.{bound_size_stop, written_bound, binder_stop}
-use Rattle.pict_front.proofs.Standing.{TypeStands, TypesStand, LabelledTypesStand, BinderStands, BoundStands, BindersStand}
+use Rattle.pict_front.proofs.Standing.{Line, TypeStands, TypesStand, LabelledTypesStand, BinderStands, BoundStands, BindersStand}
 
 module _ (P : Span → Type 0) where
   abbrev StopsStand : List Stop → Type 0
   StopsStand [] = Unit {0}
-  StopsStand (stop ∷ stops) = P stop.1 × StopsStand stops
+  StopsStand (stop ∷ stops) = Line P stop × StopsStand stops
 
   abbrev pub StopStands : Option Stop → Type 0
   StopStands None = Unit {0}
-  StopStands (Some stop) = P stop.1
+  StopStands (Some stop) = Line P stop
 
   both : (xs ys : List Stop) → StopsStand xs → StopsStand ys → StopsStand (xs ++ ys)
   both [] ys h k = k
@@ -29,22 +30,22 @@ module _ (P : Span → Type 0) where
   use_stands : (s : Span) (m : Option Meaning) → P s → StopsStand (use_stops s m)
   use_stands s None h = tt
   use_stands s (Some (a_type t)) h = tt
-  use_stands s (Some (an_operator n o)) h = (h, tt)
+  use_stands s (Some (an_operator n o)) h = ((tt, h), tt)
 
-  unless_equal : (s : Span) (b : Bool) (stop : Stop) → P stop.1 → StopsStand (if b then [] else stop ∷ [])
+  unless_equal : (s : Span) (b : Bool) (stop : Stop) → Line P stop → StopsStand (if b then [] else stop ∷ [])
   unless_equal s true stop h = tt
   unless_equal s false stop h = (h, tt)
 
   apply_stands : (s : Span) (m : Option Meaning) (k : ℕ) → P s → StopsStand (apply_stops s m k)
   apply_stands s None k h = tt
-  apply_stands s (Some (a_type t)) k h = (h, tt)
-  apply_stands s (Some (an_operator n o)) k h = unless_equal s (nat_eq n k) _ h
+  apply_stands s (Some (a_type t)) k h = ((tt, h), tt)
+  apply_stands s (Some (an_operator n o)) k h = unless_equal s (nat_eq n k) (K1, s) (tt, h)
 
   bound_stands : (x : Id) (k : Option KindTree) (stops : List Stop) (t : PlainType) → P x.span → StopsStand stops → StopsStand (bound_stops x k stops t)
   bound_stands x None stops t h all = all
   bound_stands x (Some plain_kind) stops t h all = all
-  bound_stands x (Some (operator_kind ms)) [] t h all = unless_equal x.span (is_top t) _ h
-  bound_stands x (Some (operator_kind ms)) (stop ∷ stops) t h all = (h, all)
+  bound_stands x (Some (operator_kind ms)) [] t h all = unless_equal x.span (is_top t) (K3, x.span) (tt, h)
+  bound_stands x (Some (operator_kind ms)) (stop ∷ stops) t h all = ((tt, h), all)
 
   mutual
     stops_stand : (ns : List (List ℕ)) (c : PlainContext) (t : TypeTree) → TypeStands P t → StopsStand (kind_stops ns c t)
@@ -81,13 +82,13 @@ module _ (P : Span → Type 0) where
     binder_stops_stand ns c (type_binder s x k unbounded) h = tt
     binder_stops_stand ns c (type_binder s x k (bound t)) h = bound_stands x k (kind_stops ns c t) (normal ns c t) h.1.0 (stops_stand ns c t h.1.1)
 
-  if_some : (b : Bool) (stop : Stop) → P stop.1 → StopStands (if b then Some stop else None)
+  if_some : (b : Bool) (stop : Stop) → Line P stop → StopStands (if b then Some stop else None)
   if_some true stop h = h
   if_some false stop h = tt
 
   -- a type past a limit is refused where it is formed
   pub size_stands : (c : PlainContext) (t : PlainType) (s : Span) → P s → StopStands (size_stop c t s)
-  size_stands c t s h = if_some (nat_lt 100000 (weight_of (variables c) t) || nat_lt 1000 (height_of (variables c) t)) _ h
+  size_stands c t s h = if_some (nat_lt 100000 (weight_of (variables c) t) || nat_lt 1000 (height_of (variables c) t)) (K4, s) (tt, h)
 
   first_stands : (stops : List Stop) (o : Option Stop) → StopsStand stops → StopStands o → StopStands (first_stop stops o)
   first_stands [] o h k = k

@@ -1,4 +1,3 @@
-pub mod OneAfterAnother
 pub mod EachPhase
 pub mod TypedPrograms
 pub mod Labelled

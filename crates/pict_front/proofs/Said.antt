@@ -1,5 +1,5 @@
 -- What the answers of the calls say of the phases behind the grammar.
-use Rattle.std.proofs.Common.{◌≡◌, ℕ, ◌≤◌, ◌<◌, List, Option, Some, None, Result, Ok, Err, IfSome, IfErr, IfOk, refl, sym, subst, inl, inr}
+use Rattle.std.proofs.Common.{◌≡◌, ℕ, ◌≤◌, ◌<◌, List, Option, Some, None, Err, IfSome, refl, sym, subst, inl, inr}
 use Rattle.pict_syntax.specs.declared.limits.TheConstants.{DEPTH_LIMIT}
 use Rattle.pict_syntax.specs.Trees.{Decs}
 use Rattle.pict_syntax.specs.declared.tree.Program.{Program}
@@ -15,12 +15,10 @@ use Rattle.pict_core.specs.Term.{Process, depth_of}
 use Rattle.pict_translation.specs.Translation.{program_core}
 use Rattle.pict_front.specs.declared.refusal.Refusal.{Refusal}
 use Rattle.pict_front.specs.declared.refusal.Refusal.TheVariants.{Named, Memory}
-use Rattle.pict_front.specs.Phases.{Phase, accepts, refuses, Then}
-use Rattle.pict_front.specs.Front.{Stop, Front, Checks, Translates, Judges, stopped_by, IsFront}
-use Rattle.pict_front.specs.Laws.{IsAccepted}
-use Rattle.pict_front.specs.Answers.{IsPlaced, said_by, of_derive_error, of_type_error}
-use Rattle.pict_front.proofs.Placed.{refused_is_placed}
-use Rattle.pict_front.proofs.TypedPrograms.{accepted_is_typed}
+use Rattle.pict_gather.specs.Phases.{Phase, accepts, refuses, Then}
+use Rattle.pict_gather.specs.Reading.{Stop}
+use Rattle.pict_front.specs.Front.{Front, Checks, Translates, Judges, stopped_by}
+use Rattle.pict_front.specs.Answers.{said_by, of_derive_error, of_type_error}
 
 -- a core process within the limit of depth
 pub translated : (names : List (List ℕ)) (p : Decs) (core : Process) → core ≡ program_core names p → depth_of core ≤ DEPTH_LIMIT
@@ -57,14 +55,3 @@ stuck f names q p same none (check.Named code span) stop r is =
     (scoped names (declarations_of p) none (refuses (code, span))
     (subst (λ r. Then (Checks names (declarations_of r)) (λ typed. Translates names (declarations_of r)) (refuses (code, span))) same (refuses (code, span), stop, refl)))
 stuck f names q p same none check.Memory stop r is = subst (λ s. IfSome (said_by f (Err s)) (Judges names (declarations_of p))) (sym is) tt
-
--- an answer's refusal is placed
-pub placed : {A : Type 0} (f : A → Front) (prelude : Option (List ℕ)) (text : List ℕ) (r : Result A Refusal) → IfSome (said_by f r) (IsFront prelude text) → IfErr r (IsPlaced prelude text)
-placed f prelude text (Ok x) h = tt
-placed f prelude text (Err (Named code span)) h = refused_is_placed prelude text code span h
-placed f prelude text (Err Memory) h = tt
-
--- an answer's core process comes from a typed program
-pub accepted : {A : Type 0} (f : A → Front) (prelude : Option (List ℕ)) (text : List ℕ) (r : Result A Refusal) → IfSome (said_by f r) (IsFront prelude text) → IfOk r (λ x. IsAccepted (f x))
-accepted f prelude text (Ok x) h = accepted_is_typed prelude text (f x) h
-accepted f prelude text (Err e) h = tt

@@ -1,4 +1,4 @@
--- Where a rule of scopes fails in a program is one of the program's places.
+-- Where a rule of scopes fails in a program is one of the program's places, and nothing is said to be absent.
 use Rattle.std.proofs.Common.{◌≡◌, ℕ, Bool, true, false, List, [], ◌∷◌, ◌++◌, Option, Some, None, subst}
 use Rattle.pict_syntax.specs.declared.code.Code.{Code}
 use Rattle.pict_syntax.specs.declared.id.Id.{Id}
@@ -10,14 +10,14 @@ use Rattle.pict_scope.specs.Marks.{Mark, Stop, value_used, type_used, value_boun
 use Rattle.pict_scope.specs.Outlines.{Outline, empty, ◌▸◌, closed, value_use, type_use, binds_value, binds_type, binds_all, defines, pattern_value, pattern_type, pattern, group, once, opens, marks, twice_if, twice_if_bound, bound_as}
 use Rattle.pict_scope.specs.Forms.{in_type, in_types, in_labelled_types, in_binders, in_binder, in_bound, in_annotation, in_pattern_binder, in_pattern_binders, in_pat, in_field_pats, in_pats, in_labelled_pats, with_parameters, in_dec, in_decs, in_definitions, in_abs, in_chan, in_val, in_vals, in_field_vals, in_labelled_vals, in_proc, in_procs}
 use Rattle.pict_scope.specs.Scopes.{outermost, program_marks, scope_stop}
-use Rattle.pict_front.proofs.Standing.{TypeStands, TypesStand, LabelledTypesStand, BinderStands, BoundStands, BindersStand, AnnotationStands, PatStands, FieldPatsStand, PatsStand, LabelledPatsStand, IdsStand, DecStands, DecsStand, DefinitionsStand, AbsStands, ChanStands, ValStands, ValsStand, FieldValsStand, LabelledValsStand, ProcStands, ProcsStand}
+use Rattle.pict_front.proofs.Standing.{Line, TypeStands, TypesStand, LabelledTypesStand, BinderStands, BoundStands, BindersStand, AnnotationStands, PatStands, FieldPatsStand, PatsStand, LabelledPatsStand, IdsStand, DecStands, DecsStand, DefinitionsStand, AbsStands, ChanStands, ValStands, ValsStand, FieldValsStand, LabelledValsStand, ProcStands, ProcsStand}
 
 module _ (P : Span → Type 0) where
   abbrev MarkStands : Mark → Type 0
   MarkStands (value_used s t) = P s
   MarkStands (type_used s n) = P s
   MarkStands (value_bound n) = Unit {0}
-  MarkStands (stands_twice c s) = P s
+  MarkStands (stands_twice c s) = Line P (c, s)
 
   abbrev MarksStand : List Mark → Type 0
   MarksStand [] = Unit {0}
@@ -25,13 +25,13 @@ module _ (P : Span → Type 0) where
 
   abbrev StopStands : Option Stop → Type 0
   StopStands None = Unit {0}
-  StopStands (Some stop) = P stop.1
+  StopStands (Some stop) = Line P stop
 
   first_stands : (ms : List Mark) → MarksStand ms → StopStands (first_stop ms)
   first_stands [] h = tt
-  first_stands (value_used s None ∷ ms) h = h.0
+  first_stands (value_used s None ∷ ms) h = (tt, h.0)
   first_stands (value_used s (Some t) ∷ ms) h = first_stands ms h.1
-  first_stands (type_used s None ∷ ms) h = h.0
+  first_stands (type_used s None ∷ ms) h = (tt, h.0)
   first_stands (type_used s (Some n) ∷ ms) h = first_stands ms h.1
   first_stands (value_bound n ∷ ms) h = first_stands ms h.1
   first_stands (stands_twice c s ∷ ms) h = h.0
@@ -55,14 +55,14 @@ module _ (P : Span → Type 0) where
   OutlineStands (pattern_type x o) = P x.span × OutlineStands o
   OutlineStands (pattern o p) = OutlineStands o × OutlineStands p
   OutlineStands (group o) = OutlineStands o
-  OutlineStands (once c x) = P x.span
+  OutlineStands (once c x) = Line P (c, x.span)
 
-  twice_stands : (b : Bool) (c : Code) (x : Id) → P x.span → MarksStand (twice_if b c x)
+  twice_stands : (b : Bool) (c : Code) (x : Id) → Line P (c, x.span) → MarksStand (twice_if b c x)
   twice_stands true c x h = (h, tt)
   twice_stands false c x h = tt
 
   bound_twice_stands : (o : Option ℕ) (x : Id) → P x.span → MarksStand (twice_if_bound o x)
-  bound_twice_stands (Some n) x h = (h, tt)
+  bound_twice_stands (Some n) x h = ((tt, h), tt)
   bound_twice_stands None x h = tt
 
   bound_stands : (o : Option ℕ) → MarksStand (bound_as o)
@@ -110,14 +110,14 @@ module _ (P : Span → Type 0) where
 
     labelled_types_outline : (ls : LabelledTypes) → LabelledTypesStand P ls → OutlineStands (in_labelled_types ls)
     labelled_types_outline no_labelled_types h = tt
-    labelled_types_outline (more_labelled_types ls x t) h = (labelled_types_outline ls h.0, (h.1.0, type_outline t h.1.1))
+    labelled_types_outline (more_labelled_types ls x t) h = (labelled_types_outline ls h.0, ((tt, h.1.0), type_outline t h.1.1))
 
     binders_outline : (bs : TypeBinders) → BindersStand P bs → OutlineStands (in_binders bs)
     binders_outline no_binders h = tt
     binders_outline (more_binders bs b) h = (binders_outline bs h.0, binder_outline b h.1)
 
     binder_outline : (b : TypeBinder) → BinderStands P b → OutlineStands (in_binder b)
-    binder_outline (type_binder s x k b) h = (h.1.0, bound_outline b h.1.1)
+    binder_outline (type_binder s x k b) h = ((tt, h.1.0), bound_outline b h.1.1)
 
     bound_outline : (b : Bound) → BoundStands P b → OutlineStands (in_bound b)
     bound_outline unbounded h = tt
@@ -150,11 +150,11 @@ module _ (P : Span → Type 0) where
 
     labelled_pats_outline : (ls : LabelledPats) → LabelledPatsStand P ls → OutlineStands (in_labelled_pats ls)
     labelled_pats_outline no_labelled_pats h = tt
-    labelled_pats_outline (more_labelled_pats ls x p) h = (labelled_pats_outline ls h.0, (h.1.0, pat_outline p h.1.1))
+    labelled_pats_outline (more_labelled_pats ls x p) h = (labelled_pats_outline ls h.0, ((tt, h.1.0), pat_outline p h.1.1))
 
   parameters_outline : (o : Outline) (xs : List Id) → OutlineStands o → IdsStand P xs → OutlineStands (with_parameters o xs)
   parameters_outline o [] h k = h
-  parameters_outline o (x ∷ xs) h k = parameters_outline _ xs (h, (k.0, tt)) k.1
+  parameters_outline o (x ∷ xs) h k = parameters_outline _ xs (h, ((tt, k.0), tt)) k.1
 
   mutual
     dec_outline : (d : Dec) → DecStands P d → OutlineStands (in_dec d)
@@ -172,7 +172,7 @@ module _ (P : Span → Type 0) where
 
     definitions_outline : (ds : Definitions) → DefinitionsStand P ds → OutlineStands (in_definitions ds)
     definitions_outline no_definitions h = tt
-    definitions_outline (more_definitions ds x a) h = (definitions_outline ds h.0, (h.1.0, (tt, abs_outline a h.1.1)))
+    definitions_outline (more_definitions ds x a) h = (definitions_outline ds h.0, ((tt, h.1.0), (tt, abs_outline a h.1.1)))
 
     abs_outline : (a : Abs) → AbsStands P a → OutlineStands (in_abs a)
     abs_outline (process_abs s p q) h = ((pat_outline p h.1.0, tt), proc_outline q h.1.1)
@@ -206,7 +206,7 @@ module _ (P : Span → Type 0) where
 
     labelled_vals_outline : (ls : LabelledVals) → LabelledValsStand P ls → OutlineStands (in_labelled_vals ls)
     labelled_vals_outline no_labelled_vals h = tt
-    labelled_vals_outline (more_labelled_vals ls x v) h = (labelled_vals_outline ls h.0, (h.1.0, val_outline v h.1.1))
+    labelled_vals_outline (more_labelled_vals ls x v) h = (labelled_vals_outline ls h.0, ((tt, h.1.0), val_outline v h.1.1))
 
     proc_outline : (p : Proc) → ProcStands P p → OutlineStands (in_proc p)
     proc_outline (send_proc s c v) h = (chan_outline c h.1.0, val_outline v h.1.1)
@@ -221,7 +221,7 @@ module _ (P : Span → Type 0) where
     procs_outline (more_procs ps p) h = (procs_outline ps h.0, proc_outline p h.1)
 
   -- the stop of a program whose places all have the property
-  pub scope_stands : (names : List (List ℕ)) (p : Decs) (c : Code) (s : Span) → DecsStand P p → scope_stop names p ≡ Some (c, s) → P s
+  pub scope_stands : (names : List (List ℕ)) (p : Decs) (c : Code) (s : Span) → DecsStand P p → scope_stop names p ≡ Some (c, s) → Line P (c, s)
   scope_stands names p c s h is =
       let stands : StopStands (scope_stop names p) = first_stands (program_marks names p) (marks_stand (in_decs p) (outermost names) (decs_outline p h)) in
       subst StopStands is stands

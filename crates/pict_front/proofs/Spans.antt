@@ -66,7 +66,7 @@ module _ (n finish : ℕ) (P : Span → Type 0) (stands : (s : Span) → s.text 
   spans : (low high : ℕ) (s : Span) → In low high s → low ≤ high
   spans low high s l = omega (arith, l.from, l.ordered, l.to)
 
-  split : (low high : ℕ) (us vs : List Token) → Ascend low high (us ++ vs) → (mid : ℕ) × Ascend low mid us × Ascend mid high vs
+  pub split : (low high : ℕ) (us vs : List Token) → Ascend low high (us ++ vs) → (mid : ℕ) × Ascend low mid us × Ascend mid high vs
   split low high [] vs a = (low, omega arith, a)
   split low high (u ∷ us) vs a = let r = split u.span.end high us vs a.1 in (r.0, (a.0, r.1), r.2)
 

@@ -1,8 +1,19 @@
 -- Trees all of whose places have a property.
 use Rattle.std.specs.Prelude.{List, [], ◌∷◌, Some, None}
+use Rattle.pict_syntax.specs.declared.code.Code.{Code}
+use Rattle.pict_syntax.specs.declared.code.Code.TheVariants.{I1}
 use Rattle.pict_syntax.specs.declared.id.Id.{Id}
 use Rattle.pict_syntax.specs.declared.span.Span.{Span}
 use Rattle.pict_syntax.specs.Trees.{TypeTree, top_type, int_type, char_type, string_type, bool_type, use_type, both_type, read_type, write_type, respond_type, fields_type, apply_type, rec_type, TypeBinder, type_binder, Bound, unbounded, bound, TypeTrees, no_types, more_types, TypeBinders, no_binders, more_binders, LabelledTypes, no_labelled_types, more_labelled_types, RType, Pat, bind_pat, any_pat, fields_pat, fold_pat, FieldPats, field_pats, Pats, no_pats, more_pats, LabelledPats, no_labelled_pats, more_labelled_pats, Dec, new_dec, run_dec, let_dec, def_dec, alias_dec, operator_dec, await_dec, Decs, no_decs, more_decs, Definitions, no_definitions, more_definitions, Abs, process_abs, function_abs, Chan, use_chan, fold_chan, block_chan, apply_chan, right_chan, left_chan, Val, of_chan, number_val, character_val, string_val, true_val, false_val, fields_val, if_val, lambda_val, Vals, no_vals, more_vals, FieldVals, field_vals, LabelledVals, no_labelled_vals, more_labelled_vals, Proc, send_proc, receive_proc, serve_proc, if_proc, inert_proc, group_proc, Procs, no_procs, more_procs}
+
+-- a code by which nothing is said to be absent
+abbrev pub IsNoAbsence : Code → Type 0
+IsNoAbsence I1 = ⊥
+IsNoAbsence code = Unit {0}
+
+-- a refusal at a place with the property, by which nothing is said to be absent
+abbrev pub Line : (Span → Type 0) → Code × Span → Type 0
+Line P stop = IsNoAbsence stop.0 × P stop.1
 
 module _ (P : Span → Type 0) where
   abbrev mutual

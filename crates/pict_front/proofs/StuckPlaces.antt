@@ -1,7 +1,8 @@
 -- Where the typing rules refuse a program is one of the program's places: each line of each rule is refused at a place of the
--- phrase that is judged, or within a part of it.
+-- phrase that is judged, or within a part of it, and says of nothing that it is absent.
 use Rattle.std.proofs.Common.{ℕ, Bool, true, false, if◌then◌else◌, not, nat_eq, ◌||◌, List, [], ◌∷◌, ◌++◌, map, Option, Some, None}
 use Rattle.pict_syntax.specs.declared.code.Code.{Code}
+use Rattle.pict_syntax.specs.declared.code.Code.TheVariants.{Y4, Y12}
 use Rattle.pict_syntax.specs.declared.id.Id.{Id}
 use Rattle.pict_syntax.specs.declared.span.Span.{Span}
 use Rattle.pict_syntax.specs.Grammar.{type_span, pat_span, chan_span, val_span}
@@ -22,7 +23,7 @@ use Rattle.pict_rules.specs.Rules.{Sort, nothing_, type_, types_, labels_, argum
 use Rattle.pict_rules.specs.Clauses.{if_record, need_recursive, need_channel, need_function, need_outside, expect, if_sent, within_bound, within_bounds, if_labelled, gives_below, need_same_bound, need_both, answering, argument_type, with_own, written_kind, binder_span, is_of_kind, may_send, may_receive}
 use Rattle.pict_rules.specs.Typing.{rule}
 use Rattle.pict_rules.specs.Derivations.{Runs, give_, refuse_, met, failed, yes, no, part_ok, part_stuck, IsStuckAt}
-use Rattle.pict_front.proofs.Standing.{TypeStands, TypesStand, BinderStands, BindersStand, PatStands, FieldPatsStand, PatsStand, LabelledPatsStand, DecStands, DecsStand, DefinitionsStand, AbsStands, ChanStands, ValStands, ValsStand, FieldValsStand, LabelledValsStand, ProcStands, ProcsStand}
+use Rattle.pict_front.proofs.Standing.{IsNoAbsence, Line, TypeStands, TypesStand, BinderStands, BindersStand, PatStands, FieldPatsStand, PatsStand, LabelledPatsStand, DecStands, DecsStand, DefinitionsStand, AbsStands, ChanStands, ValStands, ValsStand, FieldValsStand, LabelledValsStand, ProcStands, ProcsStand}
 use Rattle.pict_front.proofs.KindPlaces.{StopStands, type_place, size_stands, kind_stands, argument_stands, binder_stands}
 
 module _ (P : Span → Type 0) where
@@ -83,8 +84,8 @@ module _ (P : Span → Type 0) where
   -- each refusal of the rule has the property, each part stands, and so does what it gives, where what its parts give does
   abbrev LinesStand : {s : Sort} → Rule s → Type 0
   LinesStand {s = s} (give x) = GivenStands s x
-  LinesStand (refuse c i) = P i
-  LinesStand (need q c i r) = P i × LinesStand r
+  LinesStand (refuse c i) = Line P (c, i)
+  LinesStand (need q c i r) = Line P (c, i) × LinesStand r
   LinesStand (either q r r') = LinesStand r × LinesStand r'
   LinesStand (part {r = t} e j k) = JudgedStands j × ((x : Result t) → GivenStands t x → LinesStand (k x))
 
@@ -93,7 +94,7 @@ module _ (P : Span → Type 0) where
 
   abbrev AnswerStands : {s : Sort} → Answer s → Type 0
   AnswerStands {s = s} (ok x) = GivenStands s x
-  AnswerStands (stuck c i) = P i
+  AnswerStands (stuck c i) = Line P (c, i)
 
   abbrev AllStand : Type 0
   AllStand = (s : Sort) (e : Environment) (j : Judgement s) → JudgedStands j → Stands s (rule e j)
@@ -113,10 +114,10 @@ module _ (P : Span → Type 0) where
   given : {s : Sort} {x : Result s} → GivenStands s x → Stands s (give x)
   given h = record { lines = h }
 
-  refused : {s : Sort} {c : Code} {i : Span} → P i → Stands s (refuse c i)
+  refused : {s : Sort} {c : Code} {i : Span} → Line P (c, i) → Stands s (refuse c i)
   refused h = record { lines = h }
 
-  needed : {s : Sort} {q : Condition} {c : Code} {i : Span} {r : Rule s} → P i → Stands s r → Stands s (need q c i r)
+  needed : {s : Sort} {q : Condition} {c : Code} {i : Span} {r : Rule s} → Line P (c, i) → Stands s r → Stands s (need q c i r)
   needed h k = record { lines = (h, k.lines) }
 
   chosen : {s : Sort} {q : Condition} {r r' : Rule s} → Stands s r → Stands s r' → Stands s (either q r r')
@@ -129,7 +130,7 @@ module _ (P : Span → Type 0) where
   branched true h k = h
   branched false h k = k
 
-  ensured : {s : Sort} (b : Bool) (c : Code) (i : Span) {r : Rule s} → P i → Stands s r → Stands s (ensure b c i r)
+  ensured : {s : Sort} (b : Bool) (c : Code) (i : Span) {r : Rule s} → Line P (c, i) → Stands s r → Stands s (ensure b c i r)
   ensured b c i p h = branched b h (refused p)
 
   unless : {s : Sort} (o : Option Stop) {r : Rule s} → StopStands P o → Stands s r → Stands s (unless_stopped o r)
@@ -148,7 +149,7 @@ module _ (P : Span → Type 0) where
   in_records (Fields bs ps ls) f h = f bs ps ls
   in_records (Rec t) f h = h
 
-  in_recursives : {s : Sort} (t : PlainType) (c : Code) (i : Span) {k : PlainType → Rule s} → P i → ((u : PlainType) → Stands s (k u)) → Stands s (need_recursive t c i k)
+  in_recursives : {s : Sort} (t : PlainType) (c : Code) (i : Span) {k : PlainType → Rule s} → Line P (c, i) → ((u : PlainType) → Stands s (k u)) → Stands s (need_recursive t c i k)
   in_recursives Top c i p f = refused p
   in_recursives Int c i p f = refused p
   in_recursives Char_ c i p f = refused p
@@ -160,7 +161,7 @@ module _ (P : Span → Type 0) where
   in_recursives (Fields bs ps ls) c i p f = refused p
   in_recursives (Rec t) c i p f = f _
 
-  in_channels : {s : Sort} (t : PlainType) (c : Code) (i : Span) {k : Capability → PlainType → Rule s} → P i → ((m : Capability) (u : PlainType) → Stands s (k m u)) → Stands s (need_channel t c i k)
+  in_channels : {s : Sort} (t : PlainType) (c : Code) (i : Span) {k : Capability → PlainType → Rule s} → Line P (c, i) → ((m : Capability) (u : PlainType) → Stands s (k m u)) → Stands s (need_channel t c i k)
   in_channels Top c i p f = refused p
   in_channels Int c i p f = refused p
   in_channels Char_ c i p f = refused p
@@ -187,7 +188,7 @@ module _ (P : Span → Type 0) where
   in_sents (Fields bs ps ls) f h = h
   in_sents (Rec t) f h = h
 
-  in_boths : {s : Sort} (t : PlainType) (c : Code) (i : Span) {r : Rule s} → P i → Stands s r → Stands s (need_both t c i r)
+  in_boths : {s : Sort} (t : PlainType) (c : Code) (i : Span) {r : Rule s} → Line P (c, i) → Stands s r → Stands s (need_both t c i r)
   in_boths Top c i p h = refused p
   in_boths Int c i p h = refused p
   in_boths Char_ c i p h = refused p
@@ -202,28 +203,28 @@ module _ (P : Span → Type 0) where
   in_boths (Fields bs ps ls) c i p h = refused p
   in_boths (Rec t) c i p h = refused p
 
-  in_functions : {s : Sort} (o : Option Function) (c : Code) (i : Span) {k : Function → Rule s} → P i → ((f : Function) → Stands s (k f)) → Stands s (need_function o c i k)
+  in_functions : {s : Sort} (o : Option Function) (c : Code) (i : Span) {k : Function → Rule s} → Line P (c, i) → ((f : Function) → Stands s (k f)) → Stands s (need_function o c i k)
   in_functions None c i p f = refused p
   in_functions (Some x) c i p f = f x
 
-  outside : {s : Sort} (n : ℕ) (t : PlainType) (c : Code) (i : Span) {k : PlainType → Rule s} → P i → ((u : PlainType) → Stands s (k u)) → Stands s (need_outside n t c i k)
+  outside : {s : Sort} (n : ℕ) (t : PlainType) (c : Code) (i : Span) {k : PlainType → Rule s} → Line P (c, i) → ((u : PlainType) → Stands s (k u)) → Stands s (need_outside n t c i k)
   outside n t c i p f = branched (mentions_innermost n t) (refused p) (f (lowered n t))
 
-  expected : {s : Sort} (e : Environment) (o : Option PlainType) (u : PlainType) (c : Code) (i : Span) {r : Rule s} → P i → Stands s r → Stands s (expect e o u c i r)
+  expected : {s : Sort} (e : Environment) (o : Option PlainType) (u : PlainType) (c : Code) (i : Span) {r : Rule s} → Line P (c, i) → Stands s r → Stands s (expect e o u c i r)
   expected e None u c i p h = h
   expected e (Some t) u c i p h = needed p h
 
-  bounded : {s : Sort} (e : Environment) (n : Span) (b : PlainBound) (args : List PlainArg) (a : PlainArg) (c : Code) (i : Span) {r : Rule s} → P n → P i → Stands s r → Stands s (within_bound e n b args a c i r)
+  bounded : {s : Sort} (e : Environment) (n : Span) (b : PlainBound) (args : List PlainArg) (a : PlainArg) (c : Code) (i : Span) {r : Rule s} → P n → Line P (c, i) → Stands s r → Stands s (within_bound e n b args a c i r)
   bounded e n Free args a c i p q h = h
   bounded e n (Operator m) args a c i p q h = h
   bounded e n (Below b) args a c i p q h = unless _ (size_stands P e.context (replace (arguments args) b) n p) (needed q h)
 
-  all_bounded : {s : Sort} (e : Environment) (n : Span) (bs : PlainBounds) (earlier args : List PlainArg) (c : Code) {r : Rule s} → P n → Stands s r → Stands s (within_bounds e n bs earlier args c r)
+  all_bounded : {s : Sort} (e : Environment) (n : Span) (bs : PlainBounds) (earlier args : List PlainArg) (c : Code) {r : Rule s} → Line P (c, n) → Stands s r → Stands s (within_bounds e n bs earlier args c r)
   all_bounded e n no_bound earlier args c p h = h
   all_bounded e n (bounds b bs) earlier [] c p h = refused p
-  all_bounded e n (bounds b bs) earlier (a ∷ args) c p h = bounded e n b earlier a c n p p (all_bounded e n bs (earlier ++ a ∷ []) args c p h)
+  all_bounded e n (bounds b bs) earlier (a ∷ args) c p h = bounded e n b earlier a c n p.1 p (all_bounded e n bs (earlier ++ a ∷ []) args c p h)
 
-  same_bounds : {s : Sort} (e : Environment) (o : Bound) (b : PlainBound) (c : Code) (i : Span) {r : Rule s} → P i → Stands s r → Stands s (need_same_bound e o b c i r)
+  same_bounds : {s : Sort} (e : Environment) (o : Bound) (b : PlainBound) (c : Code) (i : Span) {r : Rule s} → Line P (c, i) → Stands s r → Stands s (need_same_bound e o b c i r)
   same_bounds e unbounded b c i p h = h
   same_bounds e (bound t) b c i p h = branched (is_top (normal e.names e.context t)) h (needed p h)
 
@@ -293,8 +294,8 @@ module _ (P : Span → Type 0) where
 
   -- ---- values
 
-  below : (e : Environment) (v : Val) (t : PlainType) (c : Code) → ValStands P v → Stands nothing_ (gives_below e v t c)
-  below e v t c h = asked h (λ s k. needed (val_place v h) (given tt))
+  below : (e : Environment) (v : Val) (t : PlainType) (c : Code) → IsNoAbsence c → ValStands P v → Stands nothing_ (gives_below e v t c)
+  below e v t c allowed h = asked h (λ s k. needed (allowed, val_place v h) (given tt))
 
   val_gives : (e : Environment) (v : Val) → ValStands P v → Stands type_ (rule e (gives v))
   val_gives e (of_chan (use_chan s n)) h = given tt
@@ -304,34 +305,34 @@ module _ (P : Span → Type 0) where
   val_gives e (true_val s) h = given tt
   val_gives e (false_val s) h = given tt
   val_gives e (fields_val s (field_vals ts vs ls)) h =
-      ensured (none_written ts) _ s h.0 (asked h.1.1.0 (λ ps k. asked h.1.1.1 (λ ms l. measured e (Fields no_bound ps ms) s h.0 (given tt))))
+      ensured (none_written ts) _ s (tt, h.0) (asked h.1.1.0 (λ ps k. asked h.1.1.1 (λ ms l. measured e (Fields no_bound ps ms) s h.0 (given tt))))
   val_gives e (if_val s c v w) h =
-      asked h.1.0 (λ b k. asked h.1.1.0 (λ t l. asked h.1.1.1 (λ u m. chosen (given tt) (chosen (given tt) (refused h.0)))))
+      asked h.1.0 (λ b k. asked h.1.1.0 (λ t l. asked h.1.1.1 (λ u m. chosen (given tt) (chosen (given tt) (refused (tt, h.0))))))
   val_gives e (lambda_val s a) h = asked h.1 (λ r k. measured e (Chan_ Respond r) s h.0 (given tt))
-  val_gives e (of_chan (fold_chan s None v)) h = refused h.0
+  val_gives e (of_chan (fold_chan s None v)) h = refused (tt, h.0)
   val_gives e (of_chan (fold_chan s (Some a) v)) h =
-      expanded e a h.1.0 (in_recursives (normal e.names e.context a) _ (type_span a) (type_place P a h.1.0) (λ u. measured e u s h.0 (asked h.1.1 (λ x k. given tt))))
-  val_gives e (of_chan (block_chan s ds v)) h = asked h.1.0 (λ d k. asked h.1.1 (λ t l. outside (opened_since e d) t _ s h.0 (λ u. given {x = u} tt)))
+      expanded e a h.1.0 (in_recursives (normal e.names e.context a) _ (type_span a) (tt, type_place P a h.1.0) (λ u. measured e u s h.0 (asked h.1.1 (λ x k. given tt))))
+  val_gives e (of_chan (block_chan s ds v)) h = asked h.1.0 (λ d k. asked h.1.1 (λ t l. outside (opened_since e d) t _ s (tt, h.0) (λ u. given {x = u} tt)))
   val_gives e (of_chan (apply_chan s f vs)) h = asked h (λ t k. given tt)
   val_gives e (of_chan (right_chan s f vs)) h = asked (right_form s f vs h) (λ t k. given tt)
   val_gives e (of_chan (left_chan s f vs)) h = asked (left_form s f vs h) (λ t k. given tt)
 
   val_has : (e : Environment) (v : Val) (t : PlainType) → ValStands P v → Stands nothing_ (rule e (has v t))
-  val_has e (fields_val s f) t h = in_records t (λ bs ps ls. asked h (λ x k. given tt)) (below e (fields_val s f) t _ h)
+  val_has e (fields_val s f) t h = in_records t (λ bs ps ls. asked h (λ x k. given tt)) (below e (fields_val s f) t Y4 tt h)
   val_has e (if_val s c v w) t h = asked h.1.0 (λ b k. asked h.1.1.0 (λ x l. asked h.1.1.1 (λ y m. given tt)))
-  val_has e (lambda_val s a) t h = in_sents t (λ r. asked h.1 (λ x k. given tt)) (below e (lambda_val s a) t _ h)
-  val_has e (of_chan (fold_chan s None v)) t h = in_recursives t _ s h.0 (λ u. measured e u s h.0 (asked h.1.1 (λ x k. given tt)))
+  val_has e (lambda_val s a) t h = in_sents t (λ r. asked h.1 (λ x k. given tt)) (below e (lambda_val s a) t Y4 tt h)
+  val_has e (of_chan (fold_chan s None v)) t h = in_recursives t _ s (tt, h.0) (λ u. measured e u s h.0 (asked h.1.1 (λ x k. given tt)))
   val_has e (of_chan (block_chan s ds v)) t h = asked h.1.0 (λ d k. asked h.1.1 (λ x l. given tt))
   val_has e (of_chan (apply_chan s f vs)) t h = asked h (λ u k. given tt)
   val_has e (of_chan (right_chan s f vs)) t h = asked (right_form s f vs h) (λ u k. given tt)
   val_has e (of_chan (left_chan s f vs)) t h = asked (left_form s f vs h) (λ u k. given tt)
-  val_has e (of_chan (fold_chan s (Some a) v)) t h = below e (of_chan (fold_chan s (Some a) v)) t _ h
-  val_has e (of_chan (use_chan s n)) t h = below e (of_chan (use_chan s n)) t _ h
-  val_has e (number_val s n) t h = below e (number_val s n) t _ h
-  val_has e (character_val s b) t h = below e (character_val s b) t _ h
-  val_has e (string_val s b) t h = below e (string_val s b) t _ h
-  val_has e (true_val s) t h = below e (true_val s) t _ h
-  val_has e (false_val s) t h = below e (false_val s) t _ h
+  val_has e (of_chan (fold_chan s (Some a) v)) t h = below e (of_chan (fold_chan s (Some a) v)) t Y4 tt h
+  val_has e (of_chan (use_chan s n)) t h = below e (of_chan (use_chan s n)) t Y4 tt h
+  val_has e (number_val s n) t h = below e (number_val s n) t Y4 tt h
+  val_has e (character_val s b) t h = below e (character_val s b) t Y4 tt h
+  val_has e (string_val s b) t h = below e (string_val s b) t Y4 tt h
+  val_has e (true_val s) t h = below e (true_val s) t Y4 tt h
+  val_has e (false_val s) t h = below e (false_val s) t Y4 tt h
 
   vals_give : (e : Environment) (vs : Vals) → ValsStand P vs → Stands types_ (rule e (values_give vs))
   vals_give e no_vals h = given tt
@@ -343,27 +344,27 @@ module _ (P : Span → Type 0) where
 
   applied : (e : Environment) (s : Span) (f : Val) (vs : FieldVals) (o : Option PlainType) → P s × (ValStands P f × FieldValsStand P vs) → Stands type_ (rule e (application s f vs o))
   applied e s f vs o h =
-      asked h.1.0 (λ t k. in_functions (applicable (exposure (context_of e) t)) _ (val_span f) (val_place f h.1.0) (λ r.
-      asked (h.0, h.1.1) (λ args l. measured e (replace (arguments args) r.answer) s h.0 (expected e o (replace (arguments args) r.answer) _ s h.0 (given tt)))))
+      asked h.1.0 (λ t k. in_functions (applicable (exposure (context_of e) t)) _ (val_span f) (tt, val_place f h.1.0) (λ r.
+      asked (h.0, h.1.1) (λ args l. measured e (replace (arguments args) r.answer) s h.0 (expected e o (replace (arguments args) r.answer) _ s (tt, h.0) (given tt)))))
 
   fit : (e : Environment) (s : Span) (f : FieldVals) (bs : PlainBounds) (ps : PlainTypes) (ms : PlainLabels) (g : Found) → P s × FieldValsStand P f → Stands arguments_ (rule e (fields_fit s f bs ps ms g))
   fit e s (field_vals ts vs ls) bs ps ms g h =
-      ensured (none_written ts || nat_eq (count_trees ts) (count_bounds bs)) _ s h.0 (
-      ensured (nat_eq (count_vals vs) (count_types ps)) _ s h.0 (
-      ensured (all_written ms ls) _ s h.0 (
+      ensured (none_written ts || nat_eq (count_trees ts) (count_bounds bs)) _ s (tt, h.0) (
+      ensured (nat_eq (count_vals vs) (count_types ps)) _ s (tt, h.0) (
+      ensured (all_written ms ls) _ s (tt, h.0) (
       branched (not (none_written ts))
       (asked (h.0, h.1.0) (λ args k. measured e (instance_of args ps ms) s h.0 (
       asked (h.0, h.1.1.0) (λ a l. asked (h.0, h.1.1.1) (λ b m. given tt)))))
       (asked (h.0, h.1.1.0) (λ a l. asked (h.0, h.1.1.1) (λ b m.
-      ensured (all_found b) _ s h.0 (all_bounded e s bs [] (map argument_in b) _ h.0 (given tt))))))))
+      ensured (all_found b) _ s (tt, h.0) (all_bounded e s bs [] (map argument_in b) _ (tt, h.0) (given tt))))))))
 
   arguments_stand : (e : Environment) (s : Span) (ts : TypeTrees) (bs : PlainBounds) → P s × TypesStand P ts → Stands arguments_ (rule e (written_arguments s ts bs))
   arguments_stand e s no_types bs h = given tt
   arguments_stand e s (more_types ts t) bs h =
       asked (h.0, h.1.0) (λ args k. unless _ (argument_stands P e.names e.context t h.1.1) (
-      ensured (is_of_kind (normal_arg e.names e.context t) (nth_bound (count_trees ts) bs)) _ (type_span t) (type_place P t h.1.1) (
-      ensured (varies_as (context_of e) (normal_arg e.names e.context t) (nth_bound (count_trees ts) bs)) _ (type_span t) (type_place P t h.1.1) (
-      bounded e s (nth_bound (count_trees ts) bs) args (normal_arg e.names e.context t) _ (type_span t) h.0 (type_place P t h.1.1) (given tt)))))
+      ensured (is_of_kind (normal_arg e.names e.context t) (nth_bound (count_trees ts) bs)) _ (type_span t) (tt, type_place P t h.1.1) (
+      ensured (varies_as (context_of e) (normal_arg e.names e.context t) (nth_bound (count_trees ts) bs)) _ (type_span t) (tt, type_place P t h.1.1) (
+      bounded e s (nth_bound (count_trees ts) bs) args (normal_arg e.names e.context t) _ (type_span t) h.0 (tt, type_place P t h.1.1) (given tt)))))
 
   vals_fit : (e : Environment) (s : Span) (vs : Vals) (ps : PlainTypes) (g : Found) → P s × ValsStand P vs → Stands found_ (rule e (values_fit s vs ps g))
   vals_fit e s no_vals ps g h = given tt
@@ -380,7 +381,7 @@ module _ (P : Span → Type 0) where
 
   given_fit : (e : Environment) (s : Span) (v : Val) (t u : PlainType) (g : Found) → P s × ValStands P v → Stands found_ (rule e (given_fits s v t u g))
   given_fit e s v t u g h =
-      ensured (not (mentions_missing g t)) _ (val_span v) (val_place v h.1) (measured e (with_found g t) s h.0 (needed (val_place v h.1) (given tt)))
+      ensured (not (mentions_missing g t)) _ (val_span v) (tt, val_place v h.1) (measured e (with_found g t) s h.0 (needed (tt, val_place v h.1) (given tt)))
 
   -- ---- abstractions
 
@@ -389,27 +390,27 @@ module _ (P : Span → Type 0) where
   abs_gives e (function_abs s f (Some a) v) h =
       asked h.1.0 (λ g k. expanded (with_own e g.own) a h.1.1.0 (asked h.1.1.1 (λ x l. measured e (argument_type g (normal e.names (with_own e g.own).context a)) s h.0 (given tt))))
   abs_gives e (function_abs s f None v) h =
-      asked h.1.0 (λ g k. asked h.1.1.1 (λ t l. outside (opened g.adds) t _ (val_span v) (val_place v h.1.1.1) (λ u. measured e (argument_type g u) s h.0 (given {x = argument_type g u} tt))))
+      asked h.1.0 (λ g k. asked h.1.1.1 (λ t l. outside (opened g.adds) t _ (val_span v) (tt, val_place v h.1.1.1) (λ u. measured e (argument_type g u) s h.0 (given {x = argument_type g u} tt))))
 
   abs_against : (e : Environment) (a : Abs) (r : PlainType) → AbsStands P a → Stands nothing_ (rule e (abstraction_against a r))
   abs_against e (process_abs s p q) r h = asked h.1.0 (λ x k. asked h.1.1 (λ y l. given tt))
   abs_against e (function_abs s f None v) r h =
-      in_functions (answering e r) _ s h.0 (λ g. asked (h.0, h.1.0) (λ x k. asked h.1.1.1 (λ y l. given tt)))
+      in_functions (answering e r) _ s (tt, h.0) (λ g. asked (h.0, h.1.0) (λ x k. asked h.1.1.1 (λ y l. given tt)))
   abs_against e (function_abs s f (Some a) v) r h =
-      in_functions (answering e r) _ s h.0 (λ g. asked (h.0, h.1.0) (λ x k.
-      expanded (with_own e x.own) a h.1.1.0 (needed (type_place P a h.1.1.0) (asked h.1.1.1 (λ y l. given tt)))))
+      in_functions (answering e r) _ s (tt, h.0) (λ g. asked (h.0, h.1.0) (λ x k.
+      expanded (with_own e x.own) a h.1.1.0 (needed (tt, type_place P a h.1.1.0) (asked h.1.1.1 (λ y l. given tt)))))
 
   -- ---- patterns
 
   pat_gives : (e : Environment) (p : Pat) → PatStands P p → Stands pattern_ (rule e (pattern_gives p))
-  pat_gives e (bind_pat s x None) h = refused h.0
+  pat_gives e (bind_pat s x None) h = refused (tt, h.0)
   pat_gives e (bind_pat s x (Some a)) h = expanded e a h.1.1 (given tt)
-  pat_gives e (any_pat s None) h = refused h.0
+  pat_gives e (any_pat s None) h = refused (tt, h.0)
   pat_gives e (any_pat s (Some a)) h = expanded e a h.1 (given tt)
   pat_gives e (fields_pat s f) h = asked h.1 (λ g k. measured e (Fields (bounds_of g.own) g.positional g.labelled) s h.0 (given tt))
-  pat_gives e (fold_pat s None p) h = refused h.0
+  pat_gives e (fold_pat s None p) h = refused (tt, h.0)
   pat_gives e (fold_pat s (Some a) p) h =
-      expanded e a h.1.0 (in_recursives (normal e.names e.context a) _ s h.0 (λ u. measured e u s h.0 (asked h.1.1 (λ x k. given tt))))
+      expanded e a h.1.0 (in_recursives (normal e.names e.context a) _ s (tt, h.0) (λ u. measured e u s h.0 (asked h.1.1 (λ x k. given tt))))
 
   fields_given : (e : Environment) (f : FieldPats) → FieldPatsStand P f → Stands fields_ (rule e (fields_give f))
   fields_given e (field_pats bs ps ls) h = asked h.0 (λ own k. asked h.1.0 (λ g l. asked h.1.1 (λ x m. given tt)))
@@ -428,26 +429,26 @@ module _ (P : Span → Type 0) where
 
   pat_against : (e : Environment) (p : Pat) (t : PlainType) → PatStands P p → Stands extension_ (rule e (pattern_against p t))
   pat_against e (bind_pat s x None) t h = given tt
-  pat_against e (bind_pat s x (Some a)) t h = expanded e a h.1.1 (needed h.0 (given tt))
+  pat_against e (bind_pat s x (Some a)) t h = expanded e a h.1.1 (needed (tt, h.0) (given tt))
   pat_against e (any_pat s None) t h = given tt
-  pat_against e (any_pat s (Some a)) t h = expanded e a h.1 (needed h.0 (given tt))
-  pat_against e (fields_pat s f) t h = in_records (exposure (context_of e) t) (λ bs ps ls. asked h (λ x k. given tt)) (refused h.0)
+  pat_against e (any_pat s (Some a)) t h = expanded e a h.1 (needed (tt, h.0) (given tt))
+  pat_against e (fields_pat s f) t h = in_records (exposure (context_of e) t) (λ bs ps ls. asked h (λ x k. given tt)) (refused (tt, h.0))
   pat_against e (fold_pat s (Some a) p) t h =
-      expanded e a h.1.0 (in_recursives (normal e.names e.context a) _ s h.0 (λ u. needed h.0 (measured e u s h.0 (asked h.1.1 (λ x k. given tt)))))
-  pat_against e (fold_pat s None p) t h = in_recursives (exposure (context_of e) t) _ s h.0 (λ u. measured e u s h.0 (asked h.1.1 (λ x k. given tt)))
+      expanded e a h.1.0 (in_recursives (normal e.names e.context a) _ s (tt, h.0) (λ u. needed (tt, h.0) (measured e u s h.0 (asked h.1.1 (λ x k. given tt)))))
+  pat_against e (fold_pat s None p) t h = in_recursives (exposure (context_of e) t) _ s (tt, h.0) (λ u. measured e u s h.0 (asked h.1.1 (λ x k. given tt)))
 
   fields_go : (e : Environment) (s : Span) (f : FieldPats) (rs : PlainBounds) (ts : PlainTypes) (ms : PlainLabels) → P s × FieldPatsStand P f → Stands opened_ (rule e (fields_against s f rs ts ms))
   fields_go e s (field_pats bs ps ls) rs ts ms h =
-      ensured (nat_eq (count_binders bs) (count_bounds rs)) _ s h.0 (
-      ensured (nat_eq (count_pats ps) (count_types ts)) _ s h.0 (
+      ensured (nat_eq (count_binders bs) (count_bounds rs)) _ s (tt, h.0) (
+      ensured (nat_eq (count_pats ps) (count_types ts)) _ s (tt, h.0) (
       asked h.1.0 (λ own k. asked h.1.1.0 (λ x l. asked h.1.1.1 (λ y m. given tt)))))
 
   binders_go : (e : Environment) (bs : TypeBinders) (rs : PlainBounds) → BindersStand P bs → Stands binders_ (rule e (binders_against bs rs))
   binders_go e no_binders rs h = given tt
   binders_go e (more_binders bs b) rs h =
       asked h.0 (λ own k. unless _ (binder_stands P e.names (with_own e own).context b h.1) (
-      ensured (kind_agrees (written_kind b) (nth_bound (count_binders bs) rs)) _ (binder_span b) (binder_place b h.1) (
-      same_bounds (with_own e own) (written_bound b) (nth_bound (count_binders bs) rs) _ (binder_span b) (binder_place b h.1) (given tt))))
+      ensured (kind_agrees (written_kind b) (nth_bound (count_binders bs) rs)) _ (binder_span b) (tt, binder_place b h.1) (
+      same_bounds (with_own e own) (written_bound b) (nth_bound (count_binders bs) rs) _ (binder_span b) (tt, binder_place b h.1) (given tt))))
 
   pats_go : (e : Environment) (ps : Pats) (ts : PlainTypes) → PatsStand P ps → Stands extension_ (rule e (patterns_against ps ts))
   pats_go e no_pats ts h = given tt
@@ -456,12 +457,12 @@ module _ (P : Span → Type 0) where
   labelled_pats_go : (e : Environment) (ls : LabelledPats) (ms : PlainLabels) → LabelledPatsStand P ls → Stands extension_ (rule e (labelled_patterns_against ls ms))
   labelled_pats_go e no_labelled_pats ms h = given tt
   labelled_pats_go e (more_labelled_pats ls l p) ms h =
-      asked h.0 (λ x k. labelled (type_at l.name.0 ms) (λ t. asked h.1.1 (λ y m. given tt)) (refused (pat_place p h.1.1)))
+      asked h.0 (λ x k. labelled (type_at l.name.0 ms) (λ t. asked h.1.1 (λ y m. given tt)) (refused (tt, pat_place p h.1.1)))
 
   -- ---- declarations
 
   dec_stands : (e : Environment) (d : Dec) → DecStands P d → Stands environment_ (rule e (declaration d))
-  dec_stands e (new_dec s x t) h = expanded e t h.1.1 (in_boths (normal e.names e.context t) _ (type_span t) (type_place P t h.1.1) (given tt))
+  dec_stands e (new_dec s x t) h = expanded e t h.1.1 (in_boths (normal e.names e.context t) _ (type_span t) (tt, type_place P t h.1.1) (given tt))
   dec_stands e (run_dec s p) h = asked h.1 (λ x k. given tt)
   dec_stands e (let_dec s p v) h =
       branched (is_complete e.names e.context p)
@@ -486,7 +487,7 @@ module _ (P : Span → Type 0) where
 
   signature_stands : (e : Environment) (x : Id) (a : Abs) → AbsStands P a → Stands signature_ (rule e (signature x a))
   signature_stands e x (process_abs s p q) h = asked h.1.0 (λ g k. measured e (Chan_ Respond g.has) s h.0 (given h.1.1))
-  signature_stands e x (function_abs s f None v) h = asked h.1.0 (λ g k. refused h.0)
+  signature_stands e x (function_abs s f None v) h = asked h.1.0 (λ g k. refused (tt, h.0))
   signature_stands e x (function_abs s f (Some a) v) h =
       asked h.1.0 (λ g k. expanded (with_own e g.own) a h.1.1.0 (
       measured e (argument_type g (normal e.names (with_own e g.own).context a)) s h.0 (
@@ -504,8 +505,8 @@ module _ (P : Span → Type 0) where
 
   proc_stands : (e : Environment) (p : Proc) → ProcStands P p → Stands nothing_ (rule e (process p))
   proc_stands e (send_proc s c v) h =
-      asked h.1.0 (λ t k. in_channels (exposure (context_of e) t) _ (chan_span c) (chan_place c h.1.0) (λ m u.
-      ensured (may_send m) _ (chan_span c) (chan_place c h.1.0) (asked h.1.1 (λ x l. given tt))))
+      asked h.1.0 (λ t k. in_channels (exposure (context_of e) t) _ (chan_span c) (tt, chan_place c h.1.0) (λ m u.
+      ensured (may_send m) _ (chan_span c) (tt, chan_place c h.1.0) (asked h.1.1 (λ x l. given tt))))
   proc_stands e (receive_proc s c a) h = asked h.1 (λ x k. given tt)
   proc_stands e (serve_proc s c a) h = asked h.1 (λ x k. given tt)
   proc_stands e (if_proc s c p q) h = asked h.1.0 (λ b k. asked h.1.1.0 (λ x l. asked h.1.1.1 (λ y m. given tt)))
@@ -518,15 +519,15 @@ module _ (P : Span → Type 0) where
 
   received : (e : Environment) (c : Chan) (a : Abs) → ChanStands P c × AbsStands P a → Stands nothing_ (rule e (receives c a))
   received e c a h =
-      asked h.0 (λ t k. in_channels (exposure (context_of e) t) _ (chan_span c) (chan_place c h.0) (λ m u.
-      ensured (may_receive m) _ (chan_span c) (chan_place c h.0) (asked h.1 (λ x l. given tt))))
+      asked h.0 (λ t k. in_channels (exposure (context_of e) t) _ (chan_span c) (tt, chan_place c h.0) (λ m u.
+      ensured (may_receive m) _ (chan_span c) (tt, chan_place c h.0) (asked h.1 (λ x l. given tt))))
 
   -- ---- each judgement
 
   all_stand : AllStand
   all_stand s e (gives v) h = val_gives e v h
   all_stand s e (has v t) h = val_has e v t h
-  all_stand s e (is_condition v) h = below e v Boolean _ h
+  all_stand s e (is_condition v) h = below e v Boolean Y12 tt h
   all_stand s e (values_give vs) h = vals_give e vs h
   all_stand s e (labelled_values_give ls) h = labelled_give e ls h
   all_stand s e (application i f vs o) h = applied e i f vs o h
@@ -559,5 +560,5 @@ module _ (P : Span → Type 0) where
   all_stand s e (receives c a) h = received e c a h
 
   -- the refusal of a program whose places all have the property
-  pub stuck_stands : (names : List (List ℕ)) (p : Decs) (c : Code) (i : Span) → DecsStand P p → IsStuckAt names p c i → P i
+  pub stuck_stands : (names : List (List ℕ)) (p : Decs) (c : Code) (i : Span) → DecsStand P p → IsStuckAt names p c i → Line P (c, i)
   stuck_stands names p c i h is = answer_stands all_stand is (all_stand environment_ (no_environment names) (declarations p) h).lines

@@ -12,7 +12,7 @@ use Rattle.pict_syntax.specs.Trees.{Dec, new_dec, run_dec, let_dec, def_dec, ali
 use Rattle.pict_front.proofs.Labelled.{DecLabels, DecsLabels, DefinitionsLabels, AbsLabels, ChanLabels, ValLabels, ValsLabels, FieldLabels, LabelledLabels, ProcLabels, ProcsLabels}
 
 module _ (P : ℕ → Type 0) where
-  abbrev KindHolds : TokenKind → Type 0
+  abbrev pub KindHolds : TokenKind → Type 0
   KindHolds (Identifier n) = P n.0
   KindHolds _ = Unit {0}
 
@@ -21,7 +21,7 @@ module _ (P : ℕ → Type 0) where
   Hold [] = Unit {0}
   Hold (t ∷ ts) = KindHolds t.kind × Hold ts
 
-  split : (us vs : List Token) → Hold (us ++ vs) → Hold us × Hold vs
+  pub split : (us vs : List Token) → Hold (us ++ vs) → Hold us × Hold vs
   split [] vs h = (tt, h)
   split (u ∷ us) vs h = let rest = split us vs h.1 in ((h.0, rest.0), rest.1)
 

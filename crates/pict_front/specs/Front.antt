@@ -1,89 +1,35 @@
--- What the phases before a run say of a program text, behind a prelude where there is one: the refusal by the first rule or
--- limit that fails, with its code and place, or the program's core process. Each phase reads the prelude first.
-use Rattle.std.specs.Prelude.{◌≡◌, ◌⊎◌, ℕ, ◌<◌, ◌≤◌, List, [], ◌∷◌, ◌++◌, length, Option, Some, None}
+-- What the phases before a run say of a file with the texts that it reaches, behind a prelude where there is one: the refusal by
+-- the first rule or limit that fails, with its code and place, or the program's core process. The texts are gathered first, and
+-- each phase from scopes on looks at the declarations of all of them.
+use Rattle.std.specs.Prelude.{◌≡◌, ◌⊎◌, ℕ, ◌<◌, ◌≤◌, List, Option, Some, None}
 use Rattle.pict_syntax.specs.declared.limits.TheConstants.{DEPTH_LIMIT}
-use Rattle.pict_syntax.specs.declared.code.Code.{Code}
-use Rattle.pict_syntax.specs.declared.code.Code.TheVariants.{P1, P2, C1}
+use Rattle.pict_syntax.specs.declared.code.Code.TheVariants.{C1}
+use Rattle.pict_syntax.specs.declared.source.Source.{Source}
 use Rattle.pict_syntax.specs.declared.span.Span.{Span}
-use Rattle.pict_syntax.specs.declared.token.Token.{Token}
-use Rattle.pict_syntax.specs.Names.{with_names}
-use Rattle.pict_syntax.specs.Cuts.{Piece, IsWholeCut, named, tokens_of, IsLexStop}
-use Rattle.pict_syntax.specs.Trees.{Decs, no_decs, more_decs}
-use Rattle.pict_syntax.specs.Programs.{declarations}
-use Rattle.pict_syntax.specs.Verdicts.{Whole, Unexpected, TooNested, IsVerdict}
+use Rattle.pict_syntax.specs.Trees.{Decs}
+use Rattle.pict_gather.specs.Phases.{Phase, accepts, refuses, Then}
+use Rattle.pict_gather.specs.Reading.{Stop}
+use Rattle.pict_gather.specs.Fetching.{Fetch}
+use Rattle.pict_gather.specs.Gathered.{Gathered, EarlyEnd, refused}
+use Rattle.pict_gather.specs.Reached.{Absent, Gathering, Reaches}
 use Rattle.pict_scope.specs.Scopes.{scope_stop}
 use Rattle.pict_rules.specs.Derivations.{IsTyped, IsStuckAt}
 use Rattle.pict_core.specs.Term.{Process, depth_of}
 use Rattle.pict_translation.specs.Translation.{program_core}
-use Rattle.pict_front.specs.Phases.{Phase, accepts, refuses, Then, Each}
-
--- a refusal: its code and its place
-abbrev pub Stop : Type 0
-Stop = Code × Span
 
 -- a program's core process, and the names whose numbers it has
 pub record Front : Type 0 where
   pub names : List (List ℕ)
   pub core : Process
 
--- a text, and its number in places
-pub record Numbered : Type 0 where
-  pub number : ℕ
-  pub text : List ℕ
-
--- a text that is cut into pieces: its number, its length, and the pieces
-pub record Cut : Type 0 where
-  pub number : ℕ
-  pub end : ℕ
-  pub pieces : List Piece
-
--- the prelude, where there is one, has number 0, and the file number 1
-abbrev pub texts_in_order : Option (List ℕ) → List ℕ → List Numbered
-texts_in_order None text = record { number = 1; text = text } ∷ []
-texts_in_order (Some prelude) text = record { number = 0; text = prelude } ∷ record { number = 1; text = text } ∷ []
+-- the same, with the texts that it is read from
+pub record Accepted : Type 0 where
+  pub sources : List Source
+  pub front : Front
 
 -- the first byte of the file
 abbrev pub first_place : Span
 first_place = record { text = 1; start = 0; end = 0 }
-
--- TOKENS: the text has a whole cut, or cutting it stops at a place
-abbrev pub Lexes : Numbered → Phase Stop Cut → Type 0
-Lexes t (accepts c) = (pieces : List Piece) × IsWholeCut t.text pieces × (c ≡ record { number = t.number; end = length t.text; pieces = pieces })
-Lexes t (refuses (code, span)) = IsLexStop t.number t.text code span
-
--- the names of the texts, in the order of their first occurrences
-abbrev pub named_in : List Cut → List (List ℕ)
-named_in [] = []
-named_in (c ∷ cs) = named c.pieces ++ named_in cs
-
-abbrev pub names_in : List Cut → List (List ℕ)
-names_in texts = with_names [] (named_in texts)
-
-abbrev pub tokens_in : List (List ℕ) → Cut → List Token
-tokens_in names c = tokens_of names c.number 0 c.pieces
-
--- the empty place at this end of the text that has this number
-abbrev pub end_at : ℕ → ℕ → Span
-end_at number end = record { text = number; start = end; end = end }
-
--- GRAMMAR: the tokens are those of declarations; else the first one that no declarations have there, or that is nested too
--- deep
-abbrev pub HasVerdict : List Token → Span → Phase Stop Decs → Type 0
-HasVerdict tokens end (accepts p) = IsVerdict declarations tokens end (Whole p)
-HasVerdict tokens end (refuses (code, span)) =
-    ((code ≡ P1) × IsVerdict declarations tokens end (Unexpected span)) ⊎ ((code ≡ P2) × IsVerdict declarations tokens end (TooNested span))
-
-abbrev pub Parses : List (List ℕ) → Cut → Phase Stop Decs → Type 0
-Parses names c = HasVerdict (tokens_in names c) (end_at c.number c.end)
-
--- the declarations of one program behind those of another
-abbrev pub behind : Decs → Decs → Decs
-behind first no_decs = first
-behind first (more_decs ds d) = more_decs (behind first ds) d
-
-abbrev pub joined : List Decs → Decs
-joined [] = no_decs
-joined (p ∷ ps) = behind p (joined ps)
 
 -- SCOPES: no rule of scopes fails, or a first one does
 abbrev pub stopped_by : Option Stop → Phase Stop (Unit {0})
@@ -108,9 +54,15 @@ Judges names p =
     Then (Checks names p) (λ typed.
     Translates names p))
 
--- all phases
-abbrev pub IsFront : Option (List ℕ) → List ℕ → Phase Stop Front → Type 0
-IsFront prelude text =
-    Then (Each Lexes (texts_in_order prelude text)) (λ texts.
-    Then (Each (Parses (names_in texts)) texts) (λ programs.
-    Judges (names_in texts) (joined programs)))
+-- what these phases say, with the texts
+abbrev pub with_texts : List Source → Phase Stop Front → Phase EarlyEnd Accepted
+with_texts sources (accepts f) = accepts (record { sources = sources; front = f })
+with_texts sources (refuses (code, span)) = refuses (refused sources code span)
+
+abbrev pub JudgesTexts : Gathered → Phase EarlyEnd Accepted → Type 0
+JudgesTexts g answer = (said : Phase Stop Front) × Judges g.names g.decs said × (answer ≡ with_texts g.sources said)
+
+-- all phases over a file, where `Gives` says what the shelf gives. There is an answer where there is such a file
+abbrev pub IsFront : (List ℕ → Fetch → Type 0) → Option (List ℕ) → List ℕ → Option (Phase EarlyEnd Accepted) → Type 0
+IsFront Gives prelude file None = Reaches Gives prelude file Absent
+IsFront Gives prelude file (Some answer) = Then (λ said. Reaches Gives prelude file (Gathering said)) JudgesTexts answer

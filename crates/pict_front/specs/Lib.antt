@@ -1,5 +1,3 @@
-pub mod Phases
 pub mod Front
-pub mod Places
 pub mod Laws
 pub mod Answers

@@ -1,4 +1,5 @@
-//! The phases before a run in their order: tokens, grammar, scopes, types, translation. The first refusal ends the work.
+//! The phases before a run in their order: texts are gathered, by tokens, grammar and imports; then scopes, types, translation.
+//! The first refusal ends the work.
 #![tactic(auto)]
 
 mod accepted;
@@ -12,4 +13,4 @@ pub use laws::{
     law_refused_is_placed,
 };
 pub use phases::front;
-pub use refusal::Refusal;
+pub use refusal::FrontError;

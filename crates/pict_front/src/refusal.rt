@@ -1,12 +1,11 @@
-// Why a text has no core process.
+// Why a file has no core process.
 
 ghost use Rattle.std.specs.Prelude.{◌≡◌};
-ghost use Rattle.pict_front.specs.Answers.{of_lex_error, of_parse_error, of_scope_error, of_type_error, of_derive_error};
+ghost use Rattle.pict_front.specs.Answers.{of_derive_error, of_gather_error, of_refusal, of_scope_error, of_type_error};
 
 use pict_check::TypeError;
 use pict_derive::DeriveError;
-use pict_lex::LexError;
-use pict_parse::ParseError;
+use pict_gather::GatherError;
 use pict_scope::ScopeError;
 use pict_syntax::{Code, Span};
 use std::alloc::{AllocError, AllocFailed};
@@ -19,7 +18,7 @@ const FIRST_PLACE: Span = Span {
     end: 0,
 };
 
-/// Why a text has no core process.
+/// Why a file has no core process.
 #[derive(Clone, Copy, PartialEq, Eq, Debug, Error)]
 pub enum Refusal {
     /// The text, or the prelude before it, is refused at this place: by the rule or the limit with this code.
@@ -52,25 +51,21 @@ impl<T: Drop> From<AllocFailed<T>> for Refusal {
     }
 }
 
-/// The refusal of the tokens.
-pub(crate) fn of_lex_error(error: LexError) -> Refusal
-    ensures { result ≡ of_lex_error error }
-{
-    match error {
-        LexError::Named(code, span) => Refusal::Named(code, span),
-        LexError::Memory => Refusal::Memory,
-    }
-}
-
-/// The refusal of the grammar.
-pub(crate) fn of_parse_error(error: ParseError) -> Refusal
-    ensures { result ≡ of_parse_error error }
-{
-    match error {
-        ParseError::Unexpected(span) => Refusal::Named(Code::P1, span),
-        ParseError::TooNested(span) => Refusal::Named(Code::P2, span),
-        ParseError::Memory => Refusal::Memory,
-    }
+/// Why a file has no core process.
+#[derive(Clone, Copy, PartialEq, Eq, Debug, Error)]
+pub enum FrontError {
+    /// The prelude, the file or a text that it reaches is refused at this place: by the rule or the limit with this code.
+    #[error("{0:?} at {1:?}")]
+    Named(Code, Span),
+    /// There is no such file.
+    #[error("no such file")]
+    Missing,
+    /// The shelf failed, which was asked for the last of the texts.
+    #[error("the shelf failed")]
+    Failed,
+    /// Want of memory.
+    #[error("want of memory")]
+    Memory,
 }
 
 /// The refusal of the scopes.
@@ -100,5 +95,27 @@ pub(crate) fn of_derive_error(error: DeriveError) -> Refusal
     match error {
         DeriveError::TooDeep(_) => Refusal::Named(Code::C1, FIRST_PLACE),
         DeriveError::Memory => Refusal::Memory,
+    }
+}
+
+/// The phases behind the grammar refuse.
+pub(crate) fn of_refusal(refusal: Refusal) -> FrontError
+    ensures { result ≡ of_refusal refusal }
+{
+    match refusal {
+        Refusal::Named(code, span) => FrontError::Named(code, span),
+        Refusal::Memory => FrontError::Memory,
+    }
+}
+
+/// The texts are not gathered.
+pub(crate) fn of_gather_error(error: GatherError) -> FrontError
+    ensures { result ≡ of_gather_error error }
+{
+    match error {
+        GatherError::Named(code, span) => FrontError::Named(code, span),
+        GatherError::Missing => FrontError::Missing,
+        GatherError::Failed => FrontError::Failed,
+        GatherError::Memory => FrontError::Memory,
     }
 }
