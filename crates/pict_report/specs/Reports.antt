@@ -1,11 +1,13 @@
 -- The texts that are written on the error output.
-use Rattle.std.specs.Prelude.{ℕ, ◌==◌, List, [], ◌∷◌, ◌++◌, if◌then◌else◌, codes}
+use Rattle.std.specs.Prelude.{ℕ, ◌≤◌, List, [], ◌∷◌, ◌++◌, length, get_or, codes}
+use Rattle.std.specs.List.{All}
 use Rattle.std.specs.Fmt.{decimal}
+use Rattle.pict_syntax.specs.declared.limits.TheConstants.{TEXT_LIMIT}
+use Rattle.pict_syntax.specs.declared.source.Source.{Source}
 use Rattle.pict_syntax.specs.Position.{line_of, column_of}
 use Rattle.pict_syntax.specs.declared.span.Span.{Span}
 use Rattle.pict_syntax.specs.declared.code.Code.{Code}
 use Rattle.pict_syntax.specs.declared.code.Code.TheVariants.{B1, L1, L2, L3, L4, L5, P1, P2, S1, S2, S3, S4, K1, K2, K3, K4, K5, Y1, Y2, Y3, Y4, Y5, Y6, Y7, Y8, Y9, Y10, Y11, Y12, Y13, Y14, Y15, Y16, C1, I1, I2, I3, I4, V1, O1, O2}
-use Rattle.pict_report.specs.Prelude.{prelude_text}
 
 -- a code with its text
 abbrev pub text_of_code : Code → List ℕ
@@ -63,9 +65,17 @@ pub record Position : Type 0 where
 abbrev pub position_in : List ℕ → List ℕ → ℕ → Position
 position_in name text at = record { name = name; row = line_of text at; column = column_of text at }
 
--- the start of a place in the text that has this name, or in the prelude, whose number in places is 0
-abbrev pub position_of : List ℕ → List ℕ → Span → Position
-position_of name text span = if span.text == 0 then position_in (codes "prelude") prelude_text span.start else position_in name text span.start
+-- the text with this number; one without a name and without bytes where there is none
+abbrev pub source_at : List Source → ℕ → Source
+source_at sources number = get_or sources number (record { name = []; text = [] })
+
+-- the start of a place, in the text whose number it has
+abbrev pub position_of : List Source → Span → Position
+position_of sources span = let source = source_at sources span.text in position_in source.name source.text span.start
+
+-- each of the texts is within the limit of a text
+abbrev pub AreShort : List Source → Type 0
+AreShort sources = All (λ s. length s.text ≤ TEXT_LIMIT) sources
 
 -- what is said of a place, behind its position. 58 is a colon
 abbrev pub at_position : Position → List ℕ → List ℕ
@@ -73,7 +83,7 @@ at_position p said = p.name ++ (58 ∷ (decimal p.row ++ (58 ∷ (decimal p.colu
 
 -- ---- reports
 
--- a line about a file
+-- a line about a text, by its name
 abbrev pub line : List ℕ → List ℕ → List ℕ
 line file rest = file ++ (rest ++ 10 ∷ [])
 
@@ -93,7 +103,7 @@ spent_report = line (codes "fuel spent") []
 abbrev pub missing_report : List ℕ → List ℕ
 missing_report file = line file (codes ": no such file")
 
--- a file that can't be read
+-- a text that can't be read
 abbrev pub fault_report : List ℕ → List ℕ
 fault_report file = line file (codes ": cannot be read")
 

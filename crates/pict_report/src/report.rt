@@ -1,12 +1,11 @@
 // The texts that are written on the error output.
-ghost use Rattle.std.specs.Prelude.{◌≡◌, ◌≤◌, IfOk, string_bytes, length};
+ghost use Rattle.std.specs.Prelude.{◌≡◌, ◌≤◌, ◌++◌, IfOk, length};
 ghost use Rattle.pict_syntax.specs.declared.limits.TheConstants.{TEXT_LIMIT};
 ghost use Rattle.pict_report.specs.Reports as reports;
 ghost use Rattle.pict_report.specs.Plain.{plain_position};
-ghost use Rattle.pict_report.specs.Reports.{text_of_code, line, position_of, refusal_report, trap_report};
+ghost use Rattle.pict_report.specs.Reports.{AreShort, text_of_code, line, position_of, refusal_report, trap_report};
 
-use crate::source::prelude;
-use pict_syntax::{Code, Span, line_col};
+use pict_syntax::{Code, Sources, Span, line_col};
 use std::alloc::{AllocError, Global};
 
 /// What is written where the words have no listed shape.
@@ -68,26 +67,25 @@ pub fn text_of_code(code: Code) -> &'static str
 /// What a report says of a place: the name of a text, and a line and a column of it, both counted from 1.
 #[derive(Clone, Copy, Debug)]
 pub struct Position<'a> {
-    pub name: &'a str,
+    pub name: &'a [u8],
     pub row: u32,
     pub column: u32,
 }
 
-/// The start of a place in the text that has this name, or in the prelude, whose number in places is 0. Behind the end of the
-/// text it is the end. Takes no memory.
-pub fn position_of<'a>(name: &'a str, text: &[u8], span: Span) -> Position<'a>
-    requires short { length text.now ≤ TEXT_LIMIT }
-    ensures { plain_position result ≡ position_of name.entry.now text.now span }
+/// The start of a place in the text whose number it has. Behind the end of the text it is the end; where there is no text with
+/// this number it is the first line and column of one without a name. Takes no memory.
+pub fn position_of<'a>(sources: &'a Sources, span: Span) -> Position<'a>
+    requires short { AreShort sources.now.list.items }
+    ensures { plain_position result ≡ position_of sources.entry.now.list.items span }
 {
-    if span.text == 0 {
-        position_in("prelude", prelude(), span.start)
-    } else {
-        position_in(name, text, span.start)
+    match sources.list.get(span.text as usize) {
+        Some(source) => position_in(source.name.slice(), source.text.slice(), span.start),
+        None => position_in(b"", b"", span.start),
     }
 }
 
 /// A byte of the text that has this name.
-fn position_in<'a>(name: &'a str, text: &[u8], at: u32) -> Position<'a>
+fn position_in<'a>(name: &'a [u8], text: &[u8], at: u32) -> Position<'a>
     requires short { length text.now ≤ TEXT_LIMIT }
     ensures { plain_position result ≡ reports.position_in name.entry.now text.now at }
 {
@@ -95,26 +93,38 @@ fn position_in<'a>(name: &'a str, text: &[u8], at: u32) -> Position<'a>
     Position { name, row, column }
 }
 
-/// A line about a file.
-pub fn line(alloc: Global, file: &str, rest: &str) -> Result<String, AllocError>
-    ensures { IfOk result (λ text. string_bytes text ≡ line file.now rest.now) }
+/// A line about a text, by its name.
+pub fn line(alloc: Global, name: &[u8], rest: &str) -> Result<Vec<u8>, AllocError>
+    ensures { IfOk result (λ text. text.items ≡ line name.now rest.now) }
 {
-    format!(in alloc; "{file}{rest}\n")
+    let said = format!(in alloc; "{rest}\n")?;
+    joined(alloc, name, said.as_bytes())
 }
 
 /// The report of a refusal.
-pub fn refusal(alloc: Global, position: Position<'_>, code: Code) -> Result<String, AllocError>
-    ensures { IfOk result (λ text. string_bytes text ≡ refusal_report (plain_position position.entry) code) }
+pub fn refusal(alloc: Global, position: Position<'_>, code: Code) -> Result<Vec<u8>, AllocError>
+    ensures { IfOk result (λ text. text.items ≡ refusal_report (plain_position position.entry) code) }
 {
     let Position { name, row, column } = position;
     let text = text_of_code(code);
-    format!(in alloc; "{name}:{row}:{column}: {text}\n")
+    let said = format!(in alloc; ":{row}:{column}: {text}\n")?;
+    joined(alloc, name, said.as_bytes())
 }
 
 /// The report of a division by zero.
-pub fn trap(alloc: Global, position: Position<'_>) -> Result<String, AllocError>
-    ensures { IfOk result (λ text. string_bytes text ≡ trap_report (plain_position position.entry)) }
+pub fn trap(alloc: Global, position: Position<'_>) -> Result<Vec<u8>, AllocError>
+    ensures { IfOk result (λ text. text.items ≡ trap_report (plain_position position.entry)) }
 {
     let Position { name, row, column } = position;
-    format!(in alloc; "{name}:{row}:{column}: division by zero\n")
+    let said = format!(in alloc; ":{row}:{column}: division by zero\n")?;
+    joined(alloc, name, said.as_bytes())
+}
+
+/// A name, and what is said of it.
+fn joined(alloc: Global, name: &[u8], said: &[u8]) -> Result<Vec<u8>, AllocError>
+    ensures { IfOk result (λ text. text.items ≡ name.now ++ said.now) }
+{
+    let mut text = Vec::from_slice(alloc, name)?;
+    text.extend_from_slice(said)?;
+    Ok(text)
 }

@@ -1,3 +1,7 @@
+pub mod Only
+pub mod Short
+pub mod NoFault
+pub mod Each
 pub mod Reading
 pub mod Files
 pub mod One

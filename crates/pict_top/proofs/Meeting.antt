@@ -1,12 +1,12 @@
 -- How a call meets what is owed.
-use Rattle.std.proofs.Common.{◌≡◌, ℕ, List, Some, ap, refl, sym, ◌∙◌, subst, ◌⊎◌, inl, inr}
+use Rattle.std.proofs.Common.{◌≡◌, ℕ, ◌<◌, List, Some, ap, refl, sym, ◌∙◌, subst, ◌⊎◌, inl, inr, arith}
 use Rattle.pict_outside.specs.Counts.{Rose}
 use Rattle.pict_outside.proofs.Gaining.{front_of_all}
 use Rattle.pict_top.specs.Outcome.{Outcome}
 use Rattle.pict_top.specs.Changes.{SinkChange, Gained, GainedFront, Untouched, Failed}
 use Rattle.pict_top.specs.Meets.{Meets, Reports, Tells, IsDecided, Delivers, SomeOutcome}
 use Rattle.pict_top.specs.Headline.{Headline, ShelfChange, ShelfFailed}
-use Rattle.pict_top.specs.Owed.{OwesWords, FaultsWords}
+use Rattle.pict_top.specs.Owed.{OwesWords, OwesWithEach, FaultsWords}
 use Rattle.pict_report.specs.Reports.{usage_report}
 use Rattle.pict_words.specs.Words.{HasNoShape}
 use Rattle.pict_top.specs.Origins.{origin_of}
@@ -14,9 +14,9 @@ use Rattle.pict_top.specs.declared.status.Status.{Status}
 use Rattle.pict_top.specs.declared.status.Status.TheVariants as status
 use Rattle.pict_top.specs.declared.status.Status.TheVariants.{ReadFault, WriteFault, Memory}
 use Rattle.pict_top.proofs.Sound.{accepted_freely_sound, accepted_sound}
-use Rattle.pict_top.proofs.Reading.{told_known}
+use Rattle.pict_top.proofs.Reading.{told_shelf}
 use Rattle.pict_top.proofs.One.{at_most_one, usage_is_for_no_shape}
-use Rattle.pict_top.proofs.Load.{one_of_load, never_asked, load_not_missing}
+use Rattle.pict_top.proofs.Load.{one_of_load, never_asked, load_not_missing, each_not_missing}
 
 decided : (Owes Faults : Outcome → Type 0) (failed : Type 0) (out err : SinkChange) (s : Status) → IsDecided s → (o : Outcome) → Owes o → o.status ≡ s → Delivers out err o → Meets Owes Faults failed out err s
 decided Owes Faults failed out err ReadFault is o owes e d = absurd is
@@ -27,14 +27,25 @@ decided Owes Faults failed out err s is o owes e d = (o, owes, (e, d))
 some_more : (Owes More P : Outcome → Type 0) → ((o : Outcome) → Owes o → More o) → SomeOutcome Owes P → SomeOutcome More P
 some_more Owes More P f m = (m.0, f m.0 m.1, m.2)
 
--- what is owed may grow
-pub weaken : (Owes Faults More MoreFaults : Outcome → Type 0) (failed more_failed : Type 0) (out err : SinkChange) (s : Status) → ((o : Outcome) → Owes o → More o) → ((o : Outcome) → Faults o → MoreFaults o) → (failed → more_failed) → Meets Owes Faults failed out err s → Meets More MoreFaults more_failed out err s
-weaken Owes Faults More MoreFaults failed more_failed out err ReadFault f g h m = (h m.0, some_more Faults MoreFaults _ g m.1)
-weaken Owes Faults More MoreFaults failed more_failed out err WriteFault f g h m =
-    elim m [ inl broke ↦ inl (some_more Owes More _ f broke) | inr (p, broke) ↦ inr (h p, some_more Faults MoreFaults _ g broke) ]
-weaken Owes Faults More MoreFaults failed more_failed out err Memory f g h m =
+-- what is owed may grow, and so may faults where the shelf failed
+pub weaken : (Owes Faults More MoreFaults : Outcome → Type 0) (failed more_failed : Type 0) (out err : SinkChange) (s : Status) → ((o : Outcome) → Owes o → More o) → (failed → more_failed × ((o : Outcome) → Faults o → MoreFaults o))
+    → Meets Owes Faults failed out err s → Meets More MoreFaults more_failed out err s
+weaken Owes Faults More MoreFaults failed more_failed out err ReadFault f g m = let h = g m.0 in (h.0, some_more Faults MoreFaults _ h.1 m.1)
+weaken Owes Faults More MoreFaults failed more_failed out err WriteFault f g m =
+    elim m [ inl broke ↦ inl (some_more Owes More _ f broke) | inr (p, broke) ↦ let h = g p in inr (h.0, some_more Faults MoreFaults _ h.1 broke) ]
+weaken Owes Faults More MoreFaults failed more_failed out err Memory f g m =
     (m.0, elim m.1 [ inl none ↦ inl none | inr part ↦ inr (some_more Owes More _ f part) ])
-weaken Owes Faults More MoreFaults failed more_failed out err s f g h m = some_more Owes More _ f m
+weaken Owes Faults More MoreFaults failed more_failed out err s f g m = some_more Owes More _ f m
+
+-- the same, or something else
+pub weaken_either : (Owes Faults More MoreFaults : Outcome → Type 0) (failed more_failed else_ : Type 0) (out err : SinkChange) (s : Status) → ((o : Outcome) → Owes o → More o) → (failed → more_failed × ((o : Outcome) → Faults o → MoreFaults o))
+    → Meets Owes Faults failed out err s ⊎ else_ → Meets More MoreFaults more_failed out err s ⊎ else_
+weaken_either Owes Faults More MoreFaults failed more_failed else_ out err s f g (inl m) = inl (weaken Owes Faults More MoreFaults failed more_failed out err s f g m)
+weaken_either Owes Faults More MoreFaults failed more_failed else_ out err s f g (inr x) = inr x
+
+-- a count that is 0 didn't rise
+pub never_rises : Rose 0 0 → ⊥
+never_rises rose = let less = rose (λ e. omega (arith, e)) in omega (arith, less)
 
 -- a text is written behind an outcome that prints nothing
 pub told : (Owes Faults : Outcome → Type 0) (failed : Type 0) (out err : SinkChange) (s : Status) (o : Outcome) → Owes o → IsDecided o.status → Gained out o.printed → Tells o.status o.report err s → Meets Owes Faults failed out err s
@@ -108,14 +119,16 @@ pub when : (Owes Faults : Outcome → Type 0) (failed : Type 0) (out err : SinkC
 when Owes Faults failed out err s t m e = let P : Status → Type 0 = Meets Owes Faults failed out err in subst P e m
 
 -- what `pict` promises, from what its parts do
-pub headline : (words : List (List ℕ)) (shelf : ShelfChange) (out err : SinkChange) (s : Status) → Meets (OwesWords words shelf.held) (FaultsWords words) (ShelfFailed shelf) out err s
-    → (HasNoShape words → Untouched out × Tells status.Usage usage_report err s) → (s ≡ status.Missing → Rose shelf.old_misses shelf.new_misses) → Headline words shelf out err s
-headline words shelf out err s m usage missing =
+pub headline : (words : List (List ℕ)) (shelf : ShelfChange) (out err : SinkChange) (s : Status) → Meets (OwesWords words shelf.held) (FaultsWords words shelf.held) (ShelfFailed shelf) out err s
+    → (HasNoShape words → Untouched out × Tells status.Usage usage_report err s)
+    → Meets (OwesWithEach words shelf.held) (FaultsWords words shelf.held) (ShelfFailed shelf) out err s ⊎ Rose shelf.old_misses shelf.new_misses → Headline words shelf out err s
+headline words shelf out err s m usage each =
     let Owes = OwesWords words shelf.held in
-    let Faults = FaultsWords words in
+    let Each = OwesWithEach words shelf.held in
+    let Faults = FaultsWords words shelf.held in
     record {
       complete = λ texts o told owes a b c. one_status Owes Faults (ShelfFailed shelf) out err s o
-          (λ p q. at_most_one words (Some texts) p o (λ command shape. told_known texts (origin_of command)) (subst (λ held. OwesWords words held p) told q) owes) m
+          (λ p q. at_most_one words (Some texts) p o (λ command shape. told_shelf texts (origin_of command)) (subst (λ held. OwesWords words held p) told q) owes) m
           (when_no_fault Owes Faults (ShelfFailed shelf) out err s m (λ failed. absurd (a failed)) b c);
       answered = λ a. when_no_fault Owes Faults (ShelfFailed shelf) out err s m (λ failed. absurd (a failed));
       decided = when_decided Owes Faults (ShelfFailed shelf) out err s m;
@@ -123,14 +136,18 @@ headline words shelf out err s m usage missing =
       read_fault = λ e. when Owes Faults (ShelfFailed shelf) out err s ReadFault m e;
       memory = λ e. (when Owes Faults (ShelfFailed shelf) out err s Memory m e).0;
       printed = front_printed Owes Faults (ShelfFailed shelf) out err s m;
-      missing = missing;
+      missing = λ e. elim each [
+        | inl n ↦ let o = when Each Faults (ShelfFailed shelf) out err s status.Missing n e in absurd (each_not_missing words shelf.held o.0 o.1 o.2.0)
+        | inr rose ↦ rose
+      ];
+      absent = λ is. elim each [ inl n ↦ inl (when_decided Each Faults (ShelfFailed shelf) out err s n is) | inr rose ↦ inr rose ];
       usage = usage;
       load_never = λ n shape. (
-        λ e. let fault = when Owes Faults (ShelfFailed shelf) out err s ReadFault m e in never_asked words n shape fault.1.0 fault.1.1,
+        λ e. let fault = when Owes Faults (ShelfFailed shelf) out err s ReadFault m e in never_asked words n shelf.held shape fault.1.0 fault.1.1,
         λ e. let o = when Owes Faults (ShelfFailed shelf) out err s status.Missing m e in load_not_missing words n shelf.held o.0 shape o.1 o.2.0,
       );
       load_complete = λ n o shape owes b c. one_status Owes Faults (ShelfFailed shelf) out err s o (λ p q. one_of_load words n shelf.held p o shape q owes) m
-          (when_no_fault Owes Faults (ShelfFailed shelf) out err s m (λ failed. never_asked words n shape) b c);
+          (when_no_fault Owes Faults (ShelfFailed shelf) out err s m (λ failed. never_asked words n shelf.held shape) b c);
       sound = accepted_sound words shelf.held;
       any_order = accepted_freely_sound words shelf.held;
       usage_only = λ e. let o = when Owes Faults (ShelfFailed shelf) out err s status.Usage m e in usage_is_for_no_shape words shelf.held o.0 o.1 o.2.0;

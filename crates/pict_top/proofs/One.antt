@@ -1,4 +1,4 @@
--- Words come to at most one outcome where only one text may be read.
+-- Words come to at most one outcome where the texts are told.
 use Rattle.std.proofs.Common.{arith, ◌≡◌, ℕ, inl, inr, List, Option, Some, None, refl, ap, sym, ◌∙◌, subst}
 use Rattle.pict_outside.specs.Texts.{Texts}
 use Rattle.pict_core.specs.Term.{Process}
@@ -8,19 +8,21 @@ use Rattle.pict_core.specs.Run.{steps_done}
 use Rattle.pict_core.proofs.OneRun.{one_run}
 use Rattle.pict_words.specs.Words.{Command, Run, Trace, Check, Code, Load, Pick, Picked, HasShape, HasNoShape, default_fuel}
 use Rattle.pict_words.proofs.Commands.{one_command}
-use Rattle.pict_front.specs.Phases.{Phase, accepts, refuses}
-use Rattle.pict_front.specs.Front.{Stop, Front}
+use Rattle.pict_gather.specs.Phases.{Phase, accepts, refuses}
+use Rattle.pict_gather.specs.Fetching.{MayGive}
+use Rattle.pict_gather.specs.Gathered.{EarlyEnd, refused, failed}
+use Rattle.pict_front.specs.Front.{Accepted}
 use Rattle.pict_front.proofs.EachPhase.{one_front}
 use Rattle.pict_top.specs.Ends.{end_of}
 use Rattle.pict_top.specs.declared.run.Finish.{Finish}
 use Rattle.pict_top.specs.declared.run.Finish.TheVariants.{Done, FuelSpent, Trap}
-use Rattle.pict_top.specs.Origins.{origin_of, name_of, prelude_of}
+use Rattle.pict_top.specs.Origins.{origin_of, name_of, prelude_of, given}
 use Rattle.pict_top.specs.Answer.{Answer, Absent, Refusal, Ended, IsAnswer, IsDone, Does, Shows, Writing}
 use Rattle.pict_top.specs.Picking.{PicksAndShows, Recording}
-use Rattle.pict_top.specs.Outcome.{Outcome, outcome_of, text_in}
-use Rattle.pict_top.specs.Owed.{OwesCommand, OwesWords}
+use Rattle.pict_top.specs.Outcome.{Outcome, outcome_of}
+use Rattle.pict_top.specs.Owed.{Owes, OwesWords}
 use Rattle.pict_top.specs.declared.status.Status.TheVariants as status
-use Rattle.pict_top.proofs.Reading.{IsKnown}
+use Rattle.pict_top.proofs.Reading.{IsTold}
 use Rattle.pict_top.proofs.Recording.{one_picked}
 
 -- ---- answers
@@ -59,50 +61,48 @@ one_work (Load n) names p e g a b x y = one_shown p default_fuel _ e g a b x y
 one_work (Pick seed o) names p e g a b x y = one_pick p seed o.fuel _ e g a b x y
 one_work (Picked seed o) names p e g a b x y = one_pick p seed o.fuel _ e g a b x y
 
-one_done : (command : Command) (said : Phase Stop Front) (a b : Answer) → IsDone command said a → IsDone command said b → a ≡ b
-one_done command (refuses (code, span)) a b x y = x ∙ sym y
-one_done command (accepts front) a b (e, ls, r, x) (g, ms, s, y) =
-    let one = one_work command front.names front.core e g ls ms r s in
-    x ∙ ap (λ finish. Ended finish ls) one.0 ∙ ap (Ended g) one.1 ∙ sym y
+one_done : (command : Command) (said : Option (Phase EarlyEnd Accepted)) (a b : Answer) → IsDone command said a → IsDone command said b → a ≡ b
+one_done command None a b x y = x ∙ sym y
+one_done command (Some (refuses (refused sources code span))) a b x y = x ∙ sym y
+one_done command (Some (refuses (failed sources))) a b x y = absurd x
+one_done command (Some (accepts p)) a b (e, ls, r, x) (g, ms, s, y) =
+    let one = one_work command p.front.names p.front.core e g ls ms r s in
+    x ∙ ap (λ finish. Ended p.sources finish ls) one.0 ∙ ap (Ended p.sources g) one.1 ∙ sym y
 
-one_answer : (command : Command) (file : Option (List ℕ)) (a b : Answer) → IsAnswer command file a → IsAnswer command file b → a ≡ b
-one_answer command None a b x y = x ∙ sym y
-one_answer command (Some text) a b (inl x) (inl y) = x.refused ∙ sym y.refused
-one_answer command (Some text) a b (inl x) (inr y) = let l = x.long in let s = y.short in absurd (omega arith)
-one_answer command (Some text) a b (inr x) (inl y) = let l = y.long in let s = x.short in absurd (omega arith)
-one_answer command (Some text) a b (inr x) (inr y) =
-    let P : Phase Stop Front → Type 0 = λ said. IsDone command said a in
-    let one = one_front (prelude_of (origin_of command)) text in
+one_answer : (texts : Texts) (command : Command) (a b : Answer) → IsAnswer (MayGive (Some texts)) command a → IsAnswer (MayGive (Some texts)) command b → a ≡ b
+one_answer texts command a b x y =
+    let P : Option (Phase EarlyEnd Accepted) → Type 0 = λ said. IsDone command said a in
+    let one = one_front texts (prelude_of (origin_of command)) (name_of (origin_of command)) in
     one_done command y.said a b (subst P (one.2 x.said x.front ∙ sym (one.2 y.said y.front)) x.done) y.done
 
 -- ---- outcomes
 
-one_of_command : (held : Option Texts) (command : Command) (o p : Outcome) → IsKnown held (origin_of command) → OwesCommand held command o → OwesCommand held command p → o ≡ p
-one_of_command held command o p known x y =
-    let same : x.text ≡ y.text = known x.text y.text x.reads y.reads in
-    let name : List ℕ = name_of (origin_of command) in
-    let P : Option (List ℕ) → Type 0 = λ text. IsAnswer command text x.answer in
-    let answer = one_answer command y.text x.answer y.answer (subst P same x.answers) y.answers in
-    x.comes ∙ ap (λ text. outcome_of name (text_in text) x.answer) same ∙ ap (outcome_of name (text_in y.text)) answer ∙ sym y.comes
+one_of_texts : (texts : Texts) (command : Command) (o p : Outcome) → Owes (MayGive (Some texts)) command o → Owes (MayGive (Some texts)) command p → o ≡ p
+one_of_texts texts command o p x y = x.comes ∙ ap (outcome_of (name_of (origin_of command))) (one_answer texts command x.answer y.answer x.answers y.answers) ∙ sym y.comes
 
-pub at_most_one : (words : List (List ℕ)) (held : Option Texts) (o p : Outcome) → ((command : Command) → HasShape words command → IsKnown held (origin_of command)) → OwesWords words held o → OwesWords words held p → o ≡ p
-at_most_one words held o p known (inl (c, s, x)) (inl (d, t, y)) =
-    let P : Command → Type 0 = λ command. OwesCommand held command o in
-    one_of_command held d o p (known d t) (subst P (one_command words c d s t) x) y
-at_most_one words held o p known (inl (c, s, x)) (inr (none, e)) = absurd (none c s)
-at_most_one words held o p known (inr (none, e)) (inl (d, t, y)) = absurd (none d t)
-at_most_one words held o p known (inr (none, e)) (inr (none', e')) = e ∙ sym e'
+one_of_command : (held : Option Texts) (command : Command) (o p : Outcome) → IsTold held (origin_of command) → Owes (given held (origin_of command)) command o → Owes (given held (origin_of command)) command p → o ≡ p
+one_of_command held command o p (texts, told) x y =
+    let given_by : Outcome → Option Texts → Type 0 = λ q reads. Owes (MayGive reads) command q in
+    one_of_texts texts command o p (subst (given_by o) told x) (subst (given_by p) told y)
+
+pub at_most_one : (words : List (List ℕ)) (held : Option Texts) (o p : Outcome) → ((command : Command) → HasShape words command → IsTold held (origin_of command)) → OwesWords words held o → OwesWords words held p → o ≡ p
+at_most_one words held o p told (inl (c, s, x)) (inl (d, t, y)) =
+    let P : Command → Type 0 = λ command. Owes (given held (origin_of command)) command o in
+    one_of_command held d o p (told d t) (subst P (one_command words c d s t) x) y
+at_most_one words held o p told (inl (c, s, x)) (inr (none, e)) = absurd (none c s)
+at_most_one words held o p told (inr (none, e)) (inl (d, t, y)) = absurd (none d t)
+at_most_one words held o p told (inr (none, e)) (inr (none', e')) = e ∙ sym e'
 
 -- ---- the status Usage
 
-decides_else : (name text : List ℕ) (a : Answer) → (outcome_of name text a).status ≡ status.Usage → ⊥
-decides_else name text Absent is = cc
-decides_else name text (Refusal code span) is = cc
-decides_else name text (Ended Done bytes) is = cc
-decides_else name text (Ended FuelSpent bytes) is = cc
-decides_else name text (Ended (Trap at) bytes) is = cc
+decides_else : (name : List ℕ) (a : Answer) → (outcome_of name a).status ≡ status.Usage → ⊥
+decides_else name Absent is = cc
+decides_else name (Refusal sources code span) is = cc
+decides_else name (Ended sources Done bytes) is = cc
+decides_else name (Ended sources FuelSpent bytes) is = cc
+decides_else name (Ended sources (Trap at) bytes) is = cc
 
 pub usage_is_for_no_shape : (words : List (List ℕ)) (held : Option Texts) (o : Outcome) → OwesWords words held o → o.status ≡ status.Usage → HasNoShape words
 usage_is_for_no_shape words held o (inl (command, shape, owes)) is =
-    absurd (decides_else (name_of (origin_of command)) (text_in owes.text) owes.answer (sym (ap (λ x. x.status) owes.comes) ∙ is))
+    absurd (decides_else (name_of (origin_of command)) owes.answer (sym (ap (λ x. x.status) owes.comes) ∙ is))
 usage_is_for_no_shape words held o (inr (none, e)) is = none

@@ -1,30 +1,62 @@
--- The texts that may be read.
-use Rattle.std.proofs.Common.{◌≡◌, ℕ, List, Option, Some, None, refl, sym, ◌∙◌, ap}
+-- What a command is given: from the shelf, or its own text.
+use Rattle.std.proofs.Common.{◌≡◌, ℕ, List, length, Option, Some, None, refl, sym, ◌∙◌, ap, subst}
 use Rattle.pict_outside.specs.Texts.{Texts, text_of}
-use Rattle.pict_top.specs.Origins.{Origin, File, Own, name_of, MayHold, MayRead, Asks, IsOwn}
+use Rattle.pict_words.specs.Words.{Command}
+use Rattle.pict_gather.specs.Fetching.{MayGive, missing}
+use Rattle.pict_top.specs.Origins.{Origin, File, Own, origin_of, name_of, only, reads_from, AsksShelf, IsOwn, own_length, MayGiveText, given, given_each}
+use Rattle.pict_top.specs.Outcome.{Outcome}
+use Rattle.pict_top.specs.Owed.{Owes}
+use Rattle.pict_top.proofs.Only.{is_there}
 
--- of a file that is asked for it is what the shelf may hold
-pub reads_file : (held : Option Texts) (origin : Origin) (text : Option (List ℕ)) → Asks origin (name_of origin) → MayHold held (name_of origin) text → MayRead held origin text
-reads_file held (File bare name) text asks holds = holds
-reads_file held (Own name own) text asks holds = absurd asks
+-- ---- from the shelf
 
-pub reads_any : (origin : Origin) (text : List ℕ) → Asks origin (name_of origin) → MayRead None origin (Some text)
-reads_any (File bare name) text asks = tt
-reads_any (Own name own) text asks = absurd asks
+pub owes_asked : (held : Option Texts) (origin : Origin) (command : Command) (o : Outcome) → AsksShelf origin → Owes (MayGive held) command o → Owes (given held origin) command o
+owes_asked held (File bare name) command o asks owes = owes
+owes_asked held (Own name own) command o asks owes = absurd asks
 
-pub reads_own : (held : Option Texts) (origin : Origin) (text : List ℕ) → IsOwn origin text → MayRead held origin (Some text)
-reads_own held (File bare name) text own = absurd own
-reads_own held (Own name text') text own = ap Some own
+pub owes_each : (held : Option Texts) (origin : Origin) (command : Command) (o : Outcome) → AsksShelf origin → Owes (MayGiveText held) command o → Owes (given_each held origin) command o
+owes_each held (File bare name) command o asks owes = owes
+owes_each held (Own name own) command o asks owes = absurd asks
 
--- only one text may be read
-abbrev pub IsKnown : Option Texts → Origin → Type 0
-IsKnown held origin = (a b : Option (List ℕ)) → MayRead held origin a → MayRead held origin b → a ≡ b
+pub nothing_own : (origin : Origin) → AsksShelf origin → 0 ≡ own_length origin
+nothing_own (File bare name) asks = refl
+nothing_own (Own name own) asks = absurd asks
 
-pub told_known : (texts : Texts) (origin : Origin) → IsKnown (Some texts) origin
-told_known texts (File bare name) a b x y = sym x ∙ y
-told_known texts (Own name own) a b x y = x ∙ sym y
+-- ---- the command's own text
 
--- some text, or nothing, may be read
-pub told_some : (texts : Texts) (origin : Origin) → (text : Option (List ℕ)) × MayRead (Some texts) origin text
-told_some texts (File bare name) = (text_of texts name, refl)
-told_some texts (Own name own) = (Some own, refl)
+pub owes_own : (held : Option Texts) (origin : Origin) (t : List ℕ) (command : Command) (o : Outcome) → IsOwn origin t → Owes (MayGive (Some (only (name_of origin) t))) command o → Owes (given held origin) command o
+owes_own held (File bare name) t command o own owes = absurd own
+owes_own held (Own name text) t command o own owes = subst (λ x. Owes (MayGive (Some (only name x))) command o) own owes
+
+pub owes_own_each : (held : Option Texts) (origin : Origin) (t : List ℕ) (command : Command) (o : Outcome) → IsOwn origin t → Owes (MayGive (Some (only (name_of origin) t))) command o → Owes (given_each held origin) command o
+owes_own_each held (File bare name) t command o own owes = absurd own
+owes_own_each held (Own name text) t command o own owes = subst (λ x. Owes (MayGive (Some (only name x))) command o) own owes
+
+pub same_text : (name held_name own held_own : List ℕ) (command : Command) (o : Outcome) → held_name ≡ name → held_own ≡ own
+    → Owes (MayGive (Some (only held_name held_own))) command o → Owes (MayGive (Some (only name own))) command o
+same_text name held_name own held_own command o is text owes =
+    subst (λ x. Owes (MayGive (Some (only name x))) command o) text (subst (λ x. Owes (MayGive (Some (only x held_own))) command o) is owes)
+
+pub own_bytes : (origin : Origin) (t : List ℕ) → IsOwn origin t → length t ≡ own_length origin
+own_bytes (File bare name) t own = absurd own
+own_bytes (Own name text) t own = ap length own
+
+-- ---- texts that are told
+
+-- these are the texts that are told
+abbrev pub IsTold : Option Texts → Origin → Type 0
+IsTold held origin = (texts : Texts) × (reads_from held origin ≡ Some texts)
+
+pub told_shelf : (texts : Texts) (origin : Origin) → IsTold (Some texts) origin
+told_shelf texts (File bare name) = (texts, refl)
+told_shelf texts (Own name own) = (only name own, refl)
+
+-- ---- the file is there
+
+pub own_there : (held : Option Texts) (name own : List ℕ) → given held (Own name own) name missing → ⊥
+own_there held name own lacks = let is = sym (is_there name own) ∙ lacks in absurd cc
+
+-- where each text is there
+pub each_there : (held : Option Texts) (origin : Origin) → given_each held origin (name_of origin) missing → ⊥
+each_there held (File bare name) lacks = lacks
+each_there held (Own name own) lacks = own_there held name own lacks

@@ -1,9 +1,6 @@
 -- Words come to an outcome over a shelf that tells its texts, and the words `load N` over any; and so to exactly one.
-use Rattle.std.proofs.Common.{ℕ, inl, inr, List, [], length, Option, Some, None, refl, arith}
-use Rattle.std.proofs.lemmas.Bool.{cases_lt}
-use Rattle.pict_syntax.specs.declared.limits.TheConstants.{TEXT_LIMIT}
+use Rattle.std.proofs.Common.{◌≡◌, ℕ, inl, inr, List, [], Option, Some, None, refl, sym, subst, arith}
 use Rattle.pict_outside.specs.Texts.{Texts}
-use Rattle.pict_syntax.specs.declared.code.Code.TheVariants.{B1}
 use Rattle.pict_core.specs.Term.{Process}
 use Rattle.pict_core.specs.Closed.{IsClosed}
 use Rattle.pict_core.specs.Configuration.{opening}
@@ -14,26 +11,28 @@ use Rattle.pict_code.specs.Nodes.{nodes_of}
 use Rattle.pict_code.specs.Listing.{listing_text}
 use Rattle.pict_words.specs.Words.{Command, Run, Trace, Check, Code, Load, Pick, Picked, default_fuel}
 use Rattle.pict_words.proofs.Some.{shape_or_not}
-use Rattle.pict_load.specs.Text.{load_text}
-use Rattle.pict_front.specs.Phases.{Phase, accepts, refuses}
-use Rattle.pict_front.specs.Front.{Stop, Front, IsFront, first_place}
+use Rattle.pict_gather.specs.Phases.{Phase, accepts, refuses}
+use Rattle.pict_gather.specs.Fetching.{MayGive}
+use Rattle.pict_gather.specs.Gathered.{EarlyEnd, refused, failed}
+use Rattle.pict_front.specs.Front.{Accepted, IsFront}
 use Rattle.pict_front.proofs.TypedPrograms.{accepted_is_typed}
 use Rattle.pict_front.proofs.EachPhase.{one_front}
 use Rattle.pict_top.specs.Ends.{end_of}
 use Rattle.pict_top.specs.declared.run.Finish.{Finish}
 use Rattle.pict_top.specs.declared.run.Finish.TheVariants.{Done}
-use Rattle.pict_top.specs.Origins.{origin_of, name_of, prelude_of, MayRead}
+use Rattle.pict_top.specs.Origins.{origin_of, name_of, prelude_of, given}
 use Rattle.pict_top.specs.Answer.{Answer, Absent, Refusal, Ended, IsAnswer, IsDone, Does, Shows, Writing}
-use Rattle.pict_top.specs.Outcome.{Outcome, outcome_of, text_in, usage_outcome}
-use Rattle.pict_top.specs.Owed.{OwesCommand, OwesWords}
+use Rattle.pict_top.specs.Outcome.{Outcome, outcome_of, usage_outcome}
+use Rattle.pict_top.specs.Owed.{Owes, OwesWords}
 use Rattle.pict_top.specs.Laws.{OneOutcome, LoadNeedsNoShelf}
-use Rattle.pict_top.proofs.Reading.{told_known, told_some}
+use Rattle.pict_top.proofs.NoFault.{front_unfailed}
+use Rattle.pict_top.proofs.Reading.{IsTold, told_shelf}
 use Rattle.pict_top.proofs.Continuing.{continues_from}
 use Rattle.pict_top.proofs.Recording.{some_picked}
 use Rattle.pict_top.proofs.Right.{runs_right, accepted_is_freely_right}
 use Rattle.pict_top.proofs.Sound.{accepted_closed}
 use Rattle.pict_top.proofs.One.{at_most_one}
-use Rattle.pict_top.proofs.Load.{one_of_load, never_asked}
+use Rattle.pict_top.proofs.Load.{told_load, one_of_load, never_asked}
 
 -- ---- answers
 
@@ -52,45 +51,41 @@ some_work (Load n) names p closed right = some_shown p default_fuel _ (runs_righ
 some_work (Pick seed o) names p closed right = some_picked p seed o.fuel _ closed right
 some_work (Picked seed o) names p closed right = some_picked p seed o.fuel _ closed right
 
-some_done : (command : Command) (text : List ℕ) (said : Phase Stop Front) → IsFront (prelude_of (origin_of command)) text said → (a : Answer) × IsDone command said a
-some_done command text (refuses (code, span)) stands = (Refusal code span, refl)
-some_done command text (accepts front) stands =
-    let accepted = accepted_is_typed (prelude_of (origin_of command)) text front stands in
-    let some = some_work command front.names front.core (accepted_closed front accepted) (accepted_is_freely_right front accepted) in
-    (Ended some.0 some.1, (some.0, some.1, some.2, refl))
-
-some_answer : (command : Command) (file : Option (List ℕ)) → (a : Answer) × IsAnswer command file a
-some_answer command None = (Absent, refl)
-some_answer command (Some text) = elim (cases_lt TEXT_LIMIT (length text)) [
-  | inl long ↦ (Refusal B1 first_place, inl (record { long = long; refused = refl }))
-  | inr short ↦
-      let one = one_front (prelude_of (origin_of command)) text in
-      let a = some_done command text one.0 one.1 in
-      (a.0, inr (record { short = short; said = one.0; front = one.1; done = a.1 }))
-]
+some_done : (texts : Texts) (command : Command) (said : Option (Phase EarlyEnd Accepted)) → IsFront (MayGive (Some texts)) (prelude_of (origin_of command)) (name_of (origin_of command)) said
+    → (a : Answer) × IsDone command said a
+some_done texts command None stands = (Absent, refl)
+some_done texts command (Some (refuses (refused sources code span))) stands = (Refusal sources code span, refl)
+some_done texts command (Some (refuses (failed sources))) stands =
+    absurd (front_unfailed (MayGive (Some texts)) (λ name no. no) (prelude_of (origin_of command)) (name_of (origin_of command)) (refuses (failed sources)) stands)
+some_done texts command (Some (accepts p)) stands =
+    let accepted = accepted_is_typed (Some texts) (prelude_of (origin_of command)) (name_of (origin_of command)) p stands in
+    let some = some_work command p.front.names p.front.core (accepted_closed p.front accepted) (accepted_is_freely_right p.front accepted) in
+    (Ended p.sources some.0 some.1, (some.0, some.1, some.2, refl))
 
 -- ---- outcomes
 
-some_of_command : (held : Option Texts) (command : Command) (text : Option (List ℕ)) → MayRead held (origin_of command) text → (o : Outcome) × OwesCommand held command o
-some_of_command held command text reads =
-    let a = some_answer command text in
-    (outcome_of (name_of (origin_of command)) (text_in text) a.0, record { text = text; reads = reads; answer = a.0; answers = a.1; comes = refl })
+some_of_texts : (texts : Texts) (command : Command) → (o : Outcome) × Owes (MayGive (Some texts)) command o
+some_of_texts texts command =
+    let one = one_front texts (prelude_of (origin_of command)) (name_of (origin_of command)) in
+    let a = some_done texts command one.0 one.1 in
+    (outcome_of (name_of (origin_of command)) a.0, record { answer = a.0; answers = record { said = one.0; front = one.1; done = a.1 }; comes = refl })
+
+some_of_command : (held : Option Texts) (command : Command) → IsTold held (origin_of command) → (o : Outcome) × Owes (given held (origin_of command)) command o
+some_of_command held command (texts, told) =
+    let some = some_of_texts texts command in (some.0, subst (λ reads. Owes (MayGive reads) command some.0) (sym told) some.1)
 
 some_outcome : (words : List (List ℕ)) (texts : Texts) → (o : Outcome) × OwesWords words (Some texts) o
 some_outcome words texts = elim (shape_or_not words) [
-  | inl c ↦ let text = told_some texts (origin_of c.0) in let o = some_of_command (Some texts) c.0 text.0 text.1 in (o.0, inl (c.0, c.1, o.1))
+  | inl c ↦ let o = some_of_command (Some texts) c.0 (told_shelf texts (origin_of c.0)) in (o.0, inl (c.0, c.1, o.1))
   | inr none ↦ (usage_outcome, inr (none, refl))
 ]
 
 pub one_outcome : OneOutcome
 one_outcome words texts =
-    let some = some_outcome words texts in (some.0, some.1, λ p owes. at_most_one words (Some texts) p some.0 (λ command shape. told_known texts (origin_of command)) owes some.1)
+    let some = some_outcome words texts in (some.0, some.1, λ p owes. at_most_one words (Some texts) p some.0 (λ command shape. told_shelf texts (origin_of command)) owes some.1)
 
 pub load_needs_no_shelf : LoadNeedsNoShelf
-load_needs_no_shelf words n shape = (
-  λ held.
-      let some = some_of_command held (Load n) (Some (load_text n)) refl in
-      let owes : OwesWords words held some.0 = inl (Load n, shape, some.1) in
-      (some.0, owes, λ p owed. one_of_load words n held p some.0 shape owed owes),
-  never_asked words n shape,
-)
+load_needs_no_shelf words n held shape =
+    let some = some_of_command held (Load n) (told_load held n) in
+    let owes : OwesWords words held some.0 = inl (Load n, shape, some.1) in
+    ((some.0, owes, λ p owed. one_of_load words n held p some.0 shape owed owes), never_asked words n held shape)

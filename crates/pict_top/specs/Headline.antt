@@ -6,7 +6,7 @@ use Rattle.pict_front.specs.Front.{Front}
 use Rattle.pict_top.specs.Changes.{SinkChange, Untouched, Gained, GainedFront, Failed, FailedWithin}
 use Rattle.pict_top.specs.Meets.{IsDecided, SomeOutcome, Delivers, Breaks, Tells}
 use Rattle.pict_top.specs.Outcome.{Outcome}
-use Rattle.pict_top.specs.Owed.{OwesWords, FaultsWords, Accepts}
+use Rattle.pict_top.specs.Owed.{OwesWords, OwesWithEach, FaultsWords, Accepts}
 use Rattle.pict_report.specs.Reports.{usage_report}
 use Rattle.pict_top.specs.Soundness.{IsSound, IsFreelySound}
 use Rattle.pict_words.specs.Words.{HasShape, HasNoShape, Load}
@@ -41,15 +41,19 @@ pub record Headline (words : List (List ℕ)) (shelf : ShelfChange) (out err : S
   pub decided : IsDecided status → SomeOutcome (OwesWords words shelf.held) (λ o. (o.status ≡ status) × Delivers out err o)
   -- a sink failed on the way, and took a beginning of what was to be written on it
   pub write_fault : status ≡ WriteFault → SomeOutcome (OwesWords words shelf.held) (Breaks out err)
-      ⊎ (ShelfFailed shelf × SomeOutcome (FaultsWords words) (λ o. Untouched out × FailedWithin err o.report))
+      ⊎ (ShelfFailed shelf × SomeOutcome (FaultsWords words shelf.held) (λ o. Untouched out × FailedWithin err o.report))
   -- the shelf failed, and that was reported
-  pub read_fault : status ≡ ReadFault → ShelfFailed shelf × SomeOutcome (FaultsWords words) (λ o. Untouched out × Gained err o.report)
+  pub read_fault : status ≡ ReadFault → ShelfFailed shelf × SomeOutcome (FaultsWords words shelf.held) (λ o. Untouched out × Gained err o.report)
   -- memory ran out, and nothing was reported
   pub memory : status ≡ Memory → Untouched err
   -- whatever the status, `out` has gained a beginning of what the command writes
   pub printed : Untouched out ⊎ SomeOutcome (OwesWords words shelf.held) (λ o. GainedFront out o.printed)
   -- the shelf missed the file
   pub missing : status ≡ Missing → Rose shelf.old_misses shelf.new_misses
+  -- the shelf missed a text where the import of one is refused since there is no such text (I1): in every other case the outcome that
+  -- was written whole is also owed where the shelf has each text it is asked for
+  pub absent : IsDecided status → SomeOutcome (OwesWithEach words shelf.held) (λ o. (o.status ≡ status) × Delivers out err o)
+      ⊎ Rose shelf.old_misses shelf.new_misses
   -- words of no listed shape come to the usage text and nothing else, and no other words do
   pub usage : HasNoShape words → Untouched out × Tells Usage usage_report err status
   pub usage_only : status ≡ Usage → HasNoShape words

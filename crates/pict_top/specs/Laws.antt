@@ -1,7 +1,7 @@
 -- The laws of what words come to.
 use Rattle.std.specs.Prelude.{ℕ, List, Option, Some}
 use Rattle.pict_outside.specs.Texts.{Texts}
-use Rattle.pict_front.specs.Phases.{Exactly}
+use Rattle.pict_gather.specs.Phases.{Exactly}
 use Rattle.pict_words.specs.Words.{HasShape, Load}
 use Rattle.pict_top.specs.Outcome.{Outcome}
 use Rattle.pict_top.specs.Owed.{OwesWords, FaultsWords}
@@ -14,4 +14,4 @@ OneOutcome = (words : List (List ℕ)) (texts : Texts) → Exactly (OwesWords wo
 -- reading could fail
 abbrev pub LoadNeedsNoShelf : Type 0
 LoadNeedsNoShelf =
-    (words : List (List ℕ)) (n : ℕ) → HasShape words (Load n) → ((held : Option Texts) → Exactly (OwesWords words held)) × ((o : Outcome) → FaultsWords words o → ⊥)
+    (words : List (List ℕ)) (n : ℕ) (held : Option Texts) → HasShape words (Load n) → Exactly (OwesWords words held) × ((o : Outcome) → FaultsWords words held o → ⊥)

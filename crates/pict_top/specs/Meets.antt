@@ -1,5 +1,6 @@
 -- What stands after each status of a command.
 use Rattle.std.specs.Prelude.{◌≡◌, ◌⊎◌, ℕ, List}
+use Rattle.pict_syntax.specs.declared.source.Source.{Source}
 use Rattle.pict_top.specs.Outcome.{Outcome}
 use Rattle.pict_top.specs.Changes.{SinkChange, Untouched, Gained, GainedFront, FailedWithin}
 use Rattle.pict_top.specs.declared.run.Finish.{Finish}
@@ -47,7 +48,7 @@ abbrev pub Reports : Status → List ℕ → SinkChange → Status → Type 0
 Reports status text err result = Tells status text err result ⊎ ((result ≡ Memory) × Untouched err)
 
 -- what is reported behind the end of the work: nothing of work that is done
-abbrev pub EndReports : List ℕ → List ℕ → Finish → SinkChange → Status → Type 0
-EndReports name text Done err result = (result ≡ status.Done) × Untouched err
-EndReports name text FuelSpent err result = Tells status.FuelSpent spent_report err result
-EndReports name text (Trap at) err result = Reports status.Trap (trap_report (position_of name text at)) err result
+abbrev pub EndReports : List Source → Finish → SinkChange → Status → Type 0
+EndReports sources Done err result = (result ≡ status.Done) × Untouched err
+EndReports sources FuelSpent err result = Tells status.FuelSpent spent_report err result
+EndReports sources (Trap at) err result = Reports status.Trap (trap_report (position_of sources at)) err result

@@ -1,9 +1,10 @@
--- Where a command's text comes from.
-use Rattle.std.specs.Prelude.{◌≡◌, ℕ, Bool, true, false, List, Option, Some, None, IfSome, codes}
-use Rattle.pict_outside.specs.Texts.{Texts, text_of}
+-- Where a command's texts come from.
+use Rattle.std.specs.Prelude.{◌≡◌, ℕ, Bool, true, false, List, [], ◌∷◌, length, Option, Some, None, codes}
+use Rattle.pict_outside.specs.Texts.{Texts, texts_of}
 use Rattle.pict_words.specs.Words.{Command, Run, Trace, Check, Code, Load, Pick, Picked}
 use Rattle.pict_report.specs.Prelude.{prelude_text}
 use Rattle.pict_load.specs.Text.{load_text}
+use Rattle.pict_gather.specs.Fetching.{Fetch, missing, MayGive}
 
 -- the file of this name, without the prelude or behind it; or the command itself: the name of its text, and the text
 pub data Origin : Type 0 where
@@ -19,32 +20,53 @@ origin_of (Load n) = Own (codes "load") (load_text n)
 origin_of (Pick seed options) = File options.bare options.file
 origin_of (Picked seed options) = File options.bare options.file
 
--- the name of a text in reports
+-- the name of the file, or that of the command's own text, which stands for one
 abbrev pub name_of : Origin → List ℕ
 name_of (File bare name) = name
-name_of (Own name text) = name
+name_of (Own name own) = name
 
--- what stands before a text
+-- what stands before the file
 abbrev pub prelude_of : Origin → Option (List ℕ)
 prelude_of (File true name) = None
 prelude_of (File false name) = Some prelude_text
-prelude_of (Own name text) = None
+prelude_of (Own name own) = None
 
--- a file, or nothing, that a shelf may hold under this name: what it tells, or any where it doesn't tell
-abbrev pub MayHold : Option Texts → List ℕ → Option (List ℕ) → Type 0
-MayHold held name file = IfSome held (λ texts. text_of texts name ≡ file)
+-- this text is all there is
+unfoldable pub only : List ℕ → List ℕ → Texts
+only name own = texts_of ((name, own) ∷ [])
 
--- a text, or nothing, that is read over a shelf which holds, if it tells them, these texts
-abbrev pub MayRead : Option Texts → Origin → Option (List ℕ) → Type 0
-MayRead held (File bare name) text = MayHold held name text
-MayRead held (Own name own) text = text ≡ Some own
+-- the texts that a command reads from: those of the shelf, where it tells them; or the command's own text, and no other
+abbrev pub reads_from : Option Texts → Origin → Option Texts
+reads_from held (File bare name) = held
+reads_from held (Own name own) = Some (only name own)
 
--- the name of the file that the shelf is asked for, if it is
-abbrev pub Asks : Origin → List ℕ → Type 0
-Asks (File bare name) asked = asked ≡ name
-Asks (Own name text) asked = ⊥
+-- the command asks the shelf for its texts
+abbrev pub AsksShelf : Origin → Type 0
+AsksShelf (File bare name) = Unit {0}
+AsksShelf (Own name own) = ⊥
 
 -- the text is the command's own
 abbrev pub IsOwn : Origin → List ℕ → Type 0
-IsOwn (File bare name) text = ⊥
-IsOwn (Own name own) text = text ≡ own
+IsOwn (File bare name) t = ⊥
+IsOwn (Own name own) t = t ≡ own
+
+-- how many bytes the command's own text has
+abbrev pub own_length : Origin → ℕ
+own_length (File bare name) = 0
+own_length (Own name own) = length own
+
+-- ---- what a command is given under a name
+
+-- what is given by a shelf that has each text it is asked for
+abbrev pub MayGiveText : Option Texts → List ℕ → Fetch → Type 0
+MayGiveText held name missing = ⊥
+MayGiveText held name f = MayGive held name f
+
+-- what a command may be given, where no device fails
+abbrev pub given : Option Texts → Origin → List ℕ → Fetch → Type 0
+given held origin = MayGive (reads_from held origin)
+
+-- the same, where the shelf has each text it is asked for
+abbrev pub given_each : Option Texts → Origin → List ℕ → Fetch → Type 0
+given_each held (File bare name) = MayGiveText held
+given_each held (Own name own) = given held (Own name own)

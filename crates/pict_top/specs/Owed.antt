@@ -1,45 +1,58 @@
 -- What the words come to over a shelf, where no device fails.
-use Rattle.std.specs.Prelude.{◌≡◌, ◌⊎◌, ℕ, ◌≤◌, List, length, Option, Some}
-use Rattle.pict_syntax.specs.declared.limits.TheConstants.{TEXT_LIMIT}
+use Rattle.std.specs.Prelude.{◌≡◌, ◌⊎◌, ℕ, List, Option, Some}
+use Rattle.pict_syntax.specs.declared.source.Source.{Source}
 use Rattle.pict_outside.specs.Texts.{Texts}
 use Rattle.pict_words.specs.Words.{Command, HasShape, HasNoShape}
-use Rattle.pict_front.specs.Phases.{accepts}
+use Rattle.pict_gather.specs.Phases.{accepts, refuses}
+use Rattle.pict_gather.specs.Fetching.{Fetch, MayGiveOrFail}
+use Rattle.pict_gather.specs.Gathered.{failed}
 use Rattle.pict_front.specs.Front.{Front, IsFront}
-use Rattle.pict_top.specs.Origins.{origin_of, name_of, prelude_of, MayRead, Asks}
-use Rattle.pict_top.specs.Answer.{Answer, IsAnswer}
-use Rattle.pict_top.specs.Outcome.{Outcome, outcome_of, text_in, read_fault, usage_outcome}
+use Rattle.pict_top.specs.Origins.{Origin, origin_of, name_of, prelude_of, AsksShelf, given, given_each}
+use Rattle.pict_top.specs.Answer.{Answer, Ended, Does, IsAnswer}
+use Rattle.pict_top.specs.declared.run.Finish.{Finish}
+use Rattle.pict_top.specs.Outcome.{Outcome, outcome_of, read_fault, usage_outcome}
 
--- what a command comes to over a shelf that holds, if it tells them, these texts
-pub record OwesCommand (held : Option Texts) (command : Command) (o : Outcome) : Type 0 where
-  pub text : Option (List ℕ)
-  pub reads : MayRead held (origin_of command) text
+-- what a command comes to, where `Gives` says what it is given under a name
+pub record Owes (Gives : List ℕ → Fetch → Type 0) (command : Command) (o : Outcome) : Type 0 where
   pub answer : Answer
-  pub answers : IsAnswer command text answer
-  pub comes : o ≡ outcome_of (name_of (origin_of command)) (text_in text) answer
+  pub answers : IsAnswer Gives command answer
+  pub comes : o ≡ outcome_of (name_of (origin_of command)) answer
 
--- what the words come to
+-- what a command comes to with a program that is accepted, and the texts that it is read from
+abbrev pub OwesWork : List Source → Front → Command → Outcome → Type 0
+OwesWork sources front command o =
+    (finish : Finish) × (bytes : List ℕ) × Does command front.names front.core finish bytes × (o ≡ outcome_of (name_of (origin_of command)) (Ended sources finish bytes))
+
+-- what the words come to, where `Gives` says what a command is given
+abbrev pub OwesBy : (Origin → List ℕ → Fetch → Type 0) → List (List ℕ) → Outcome → Type 0
+OwesBy Gives words o = ((command : Command) × HasShape words command × Owes (Gives (origin_of command)) command o) ⊎ (HasNoShape words × (o ≡ usage_outcome))
+
+-- over a shelf that holds, if it tells them, these texts
 abbrev pub OwesWords : List (List ℕ) → Option Texts → Outcome → Type 0
-OwesWords words held o = ((command : Command) × HasShape words command × OwesCommand held command o) ⊎ (HasNoShape words × (o ≡ usage_outcome))
+OwesWords words held = OwesBy (given held) words
 
--- the text of the words, as it may be read over a shelf, is accepted: its names and its core process are these
+-- the same, where the shelf has each text it is asked for
+abbrev pub OwesWithEach : List (List ℕ) → Option Texts → Outcome → Type 0
+OwesWithEach words held = OwesBy (given_each held) words
+
+-- the file of the words, with the texts that it reaches, is accepted: its names and its core process are these
 pub record Accepts (words : List (List ℕ)) (held : Option Texts) (accepted : Front) : Type 0 where
   pub command : Command
   pub shape : HasShape words command
-  pub text : List ℕ
-  pub reads : MayRead held (origin_of command) (Some text)
-  pub short : length text ≤ TEXT_LIMIT
-  pub front : IsFront (prelude_of (origin_of command)) text (accepts accepted)
+  pub sources : List Source
+  pub front : IsFront (given held (origin_of command)) (prelude_of (origin_of command)) (name_of (origin_of command)) (Some (accepts (record { sources = sources; front = accepted })))
 
--- what a command comes to where the shelf fails, which was asked for a file
-pub record FaultsCommand (command : Command) (o : Outcome) : Type 0 where
-  pub name : List ℕ
-  pub asks : Asks (origin_of command) name
-  pub comes : o ≡ read_fault name
+-- what a command comes to where a shelf fails that holds, if it tells them, these texts: it was asked for the last text that was
+-- come to
+pub record Faults (held : Option Texts) (command : Command) (o : Outcome) : Type 0 where
+  pub sources : List Source
+  pub front : IsFront (MayGiveOrFail held) (prelude_of (origin_of command)) (name_of (origin_of command)) (Some (refuses (failed sources)))
+  pub comes : o ≡ read_fault sources
+
+-- what a command comes to where the shelf fails that it asks for its texts
+abbrev pub FaultsCommand : Option Texts → Command → Outcome → Type 0
+FaultsCommand held command o = AsksShelf (origin_of command) × Faults held command o
 
 -- the same of words
-abbrev pub FaultsWords : List (List ℕ) → Outcome → Type 0
-FaultsWords words o = (command : Command) × HasShape words command × FaultsCommand command o
-
--- what a command comes to over this text
-abbrev pub OwesText : List ℕ → Command → Outcome → Type 0
-OwesText text command o = (answer : Answer) × IsAnswer command (Some text) answer × (o ≡ outcome_of (name_of (origin_of command)) text answer)
+abbrev pub FaultsWords : List (List ℕ) → Option Texts → Outcome → Type 0
+FaultsWords words held o = (command : Command) × HasShape words command × FaultsCommand held command o

@@ -4,6 +4,7 @@
 mod form;
 mod laws;
 mod notes;
+mod one_shelf;
 mod origin;
 mod picking;
 mod print;
@@ -14,6 +15,7 @@ mod top;
 mod work;
 
 pub use laws::{law_load_needs_no_shelf, law_one_outcome};
+pub use one_shelf::OneShelf;
 pub use pict_load::load_text;
 pub use pict_report::prelude;
 pub use pict_words::{Command, Options, Usage, words_of};

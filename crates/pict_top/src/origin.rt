@@ -1,17 +1,17 @@
-// Where a command's text comes from.
+// Where a command's texts come from.
 ghost use Rattle.std.specs.Prelude.{◌≡◌, ◌≤◌, IfOk, IfSome, MatchOption, length};
 ghost use Rattle.pict_syntax.specs.declared.limits.TheConstants.{TEXT_LIMIT};
-ghost use Rattle.pict_front.specs.Answers.{lent};
+ghost use Rattle.pict_gather.specs.Entry.{lent};
 ghost use Rattle.pict_words.specs.Plain.{plain_command};
 ghost use Rattle.pict_top.specs.Origins as origins;
-ghost use Rattle.pict_top.specs.Origins.{origin_of, Asks, IsOwn};
+ghost use Rattle.pict_top.specs.Origins.{AsksShelf, IsOwn, origin_of};
 
 use pict_load::load_text;
 use pict_report::prelude;
 use pict_words::{Command, Options};
 use std::alloc::{AllocError, Global};
 
-/// The name of a command's text in reports: its file's, or `load`. Takes no memory.
+/// The name of a command's file, or `load` for the text that stands for one. Takes no memory.
 pub fn name_of<'a>(command: Command<'a>) -> &'a str
     ensures { result.now ≡ origins.name_of (origin_of (plain_command command.entry)) }
 {
@@ -26,7 +26,7 @@ pub fn name_of<'a>(command: Command<'a>) -> &'a str
     }
 }
 
-/// What stands before a command's text: the prelude, unless the text stands alone. Takes no memory.
+/// What stands before a command's file: the prelude, unless the file stands alone. Takes no memory.
 pub fn prelude_of(command: Command<'_>) -> Option<&'static [u8]>
     ensures is { lent result ≡ origins.prelude_of (origin_of (plain_command command.entry)) }
     ensures short { IfSome result (λ bytes. length bytes.now ≤ TEXT_LIMIT) }
@@ -42,7 +42,7 @@ pub fn prelude_of(command: Command<'_>) -> Option<&'static [u8]>
     }
 }
 
-/// The prelude, unless the text of a file stands alone.
+/// The prelude, unless a file stands alone.
 fn prelude_unless_bare(options: Options<'_>) -> Option<&'static [u8]>
     ensures is { lent result ≡ origins.prelude_of (origins.File options.entry.bare options.entry.file.now) }
     ensures short { IfSome result (λ bytes. length bytes.now ≤ TEXT_LIMIT) }
@@ -50,11 +50,10 @@ fn prelude_unless_bare(options: Options<'_>) -> Option<&'static [u8]>
     if options.bare { None } else { Some(prelude()) }
 }
 
-/// The text that a command makes itself, within the limit of a text; none where it reads a file. The error is want of memory.
+/// The text that a command makes itself; none where it reads a file. The error is want of memory.
 pub fn own_text(alloc: Global, command: Command<'_>) -> Result<Option<Vec<u8>>, AllocError>
-    ensures { IfOk result (λ own. MatchOption own
-        (Asks (origin_of (plain_command command.entry)) (origins.name_of (origin_of (plain_command command.entry))))
-        (λ text. IsOwn (origin_of (plain_command command.entry)) text.items × (length text.items ≤ TEXT_LIMIT))) }
+    ensures { IfOk result (λ own. MatchOption own (AsksShelf (origin_of (plain_command command.entry)))
+        (λ text. IsOwn (origin_of (plain_command command.entry)) text.items)) }
 {
     match command {
         Command::Load(n) => Ok(Some(load_text(alloc, n)?)),

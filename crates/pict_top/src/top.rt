@@ -1,35 +1,38 @@
 // The top call: what the words ask for, done over a shelf and two sinks.
-ghost use Rattle.std.specs.Prelude.{◌≡◌, ◌≤◌, Some, None, length};
+ghost use Rattle.std.specs.Prelude.{◌≡◌, ◌≤◌, ◌⊎◌, Some};
 ghost use Rattle.pict_outside.specs.Counts.{Rose};
 ghost use Rattle.pict_core.specs.Closed.{IsClosed};
 ghost use Rattle.pict_core.specs.Plain.{plain_core};
 ghost use Rattle.pict_front.specs.Answers.{plain_front};
-ghost use Rattle.pict_front.specs.Front.{IsFront};
-ghost use Rattle.pict_front.specs.Phases.{accepts};
+ghost use Rattle.pict_front.specs.Laws.{IsAccepted};
+ghost use Rattle.pict_gather.specs.Fetching.{MayGive};
 ghost use Rattle.pict_words.specs.Plain.{plain_command, texts_of};
 ghost use Rattle.pict_words.specs.Words.{HasNoShape, fuel_of};
-ghost use Rattle.pict_report.specs.Reports.{line, position_of, refusal_report, trap_report, usage_report};
+ghost use Rattle.pict_report.specs.Reports.{AreShort, line, position_of, refusal_report, trap_report, usage_report};
 ghost use Rattle.pict_top.specs.Changes.{change_of, Untouched};
 ghost use Rattle.pict_top.specs.Headline.{Headline, shelf_change};
 ghost use Rattle.pict_top.specs.Meets.{Meets, Reports, EndReports, Tells};
 ghost use Rattle.pict_top.specs.Origins as origins;
-ghost use Rattle.pict_top.specs.Origins.{origin_of, MayRead, Asks};
-ghost use Rattle.pict_top.specs.Owed.{OwesText, OwesCommand, OwesWords, FaultsCommand, FaultsWords};
+ghost use Rattle.pict_top.specs.Origins.{IsOwn, MayGiveText, given, given_each, only, origin_of, own_length};
+ghost use Rattle.pict_top.specs.Outcome as outcomes;
+ghost use Rattle.pict_top.specs.Owed.{Faults, FaultsCommand, FaultsWords, Owes, OwesWithEach, OwesWords, OwesWork};
 
+use crate::one_shelf::OneShelf;
 use crate::origin::{name_of, own_text, prelude_of};
 use crate::run::{Broken, Finish};
 use crate::status::Status;
 use crate::work::perform;
-use pict_front::{Front, Refusal, front};
-use pict_outside::{Fetched, Shelf, ShelfError, Sink, SinkFailed};
+use pict_front::{Front, FrontError, front};
+use pict_outside::{Shelf, Sink, SinkFailed};
 use pict_report as report;
-use pict_syntax::{Code, FUEL_LIMIT, Span, TEXT_LIMIT};
+use pict_syntax::{Code, FUEL_LIMIT, Sources, Span};
 use pict_words::{Command, Usage, words_of};
 use std::alloc::{AllocError, Global};
 
 /// Does what the words ask for, and answers how it ended.
 ///
-/// It reads the file from the shelf, and checks its text, behind the prelude unless it is to stand alone. `check` ends there.
+/// It reads the file from the shelf, and each text that the file reaches by its imports, and checks them, behind the prelude unless
+/// they are to stand alone. A text is read once; a report names the text in which its place is. `check` ends there.
 /// `run` runs the program and writes what it prints on `out`, each printing that isn't empty in one write right after its step;
 /// `trace` writes a line for each communication and each printing, each in one write right after its step; `code` runs nothing,
 /// and writes the listing of the program's instructions, each line in one write. `load` reads no file: it makes a program from a
@@ -61,11 +64,13 @@ fn run_words<S: Shelf, O: Sink, E: Sink>(
     out: &mut O,
     err: &mut E,
 ) -> Status
-    ensures meets { Meets (OwesWords (texts_of words.now) (S.held shelf.old)) (FaultsWords (texts_of words.now))
+    ensures meets { Meets (OwesWords (texts_of words.now) (S.held shelf.old)) (FaultsWords (texts_of words.now) (S.held shelf.old))
         (Rose (S.faults shelf.old) (S.faults shelf.new)) (change_of O.taken O.faults out.old out.new) (change_of E.taken E.faults err.old err.new) result }
     ensures usage { HasNoShape (texts_of words.now) → Untouched (change_of O.taken O.faults out.old out.new)
         × Tells Status.Usage usage_report (change_of E.taken E.faults err.old err.new) result }
-    ensures missing { result ≡ Status.Missing → Rose (S.misses shelf.old) (S.misses shelf.new) }
+    ensures each { Meets (OwesWithEach (texts_of words.now) (S.held shelf.old)) (FaultsWords (texts_of words.now) (S.held shelf.old))
+        (Rose (S.faults shelf.old) (S.faults shelf.new)) (change_of O.taken O.faults out.old out.new) (change_of E.taken E.faults err.old err.new) result
+        ⊎ Rose (S.misses shelf.old) (S.misses shelf.new) }
     ensures held { S.held shelf.new ≡ S.held shelf.old }
     ensures counts { (S.faults shelf.old ≤ S.faults shelf.new) × (S.misses shelf.old ≤ S.misses shelf.new)
         × (O.faults out.old ≤ O.faults out.new) × (E.faults err.old ≤ E.faults err.new) }
@@ -76,7 +81,7 @@ fn run_words<S: Shelf, O: Sink, E: Sink>(
     }
 }
 
-/// Does what a command does, with its own text or with that of a file.
+/// Does what a command does, with its own text or with a file.
 fn run_command<S: Shelf, O: Sink, E: Sink>(
     alloc: Global,
     command: Command<'_>,
@@ -85,183 +90,176 @@ fn run_command<S: Shelf, O: Sink, E: Sink>(
     err: &mut E,
 ) -> Status
     requires fuel { fuel_of (plain_command command) ≤ FUEL_LIMIT }
-    ensures meets { Meets (OwesCommand (S.held shelf.old) (plain_command command.entry)) (FaultsCommand (plain_command command.entry))
-        (Rose (S.faults shelf.old) (S.faults shelf.new)) (change_of O.taken O.faults out.old out.new) (change_of E.taken E.faults err.old err.new) result }
-    ensures missing { result ≡ Status.Missing → Rose (S.misses shelf.old) (S.misses shelf.new) }
+    ensures meets { Meets (Owes (given (S.held shelf.old) (origin_of (plain_command command.entry))) (plain_command command.entry))
+        (FaultsCommand (S.held shelf.old) (plain_command command.entry)) (Rose (S.faults shelf.old) (S.faults shelf.new))
+        (change_of O.taken O.faults out.old out.new) (change_of E.taken E.faults err.old err.new) result }
+    ensures each { Meets (Owes (given_each (S.held shelf.old) (origin_of (plain_command command.entry))) (plain_command command.entry))
+        (FaultsCommand (S.held shelf.old) (plain_command command.entry)) (Rose (S.faults shelf.old) (S.faults shelf.new))
+        (change_of O.taken O.faults out.old out.new) (change_of E.taken E.faults err.old err.new) result
+        ⊎ Rose (S.misses shelf.old) (S.misses shelf.new) }
     ensures held { S.held shelf.new ≡ S.held shelf.old }
     ensures counts { (S.faults shelf.old ≤ S.faults shelf.new) × (S.misses shelf.old ≤ S.misses shelf.new)
         × (O.faults out.old ≤ O.faults out.new) × (E.faults err.old ≤ E.faults err.new) }
 {
     match own_text(alloc, command) {
         Err(AllocError) => Status::Memory,
-        Ok(Some(text)) => run_text(alloc, command, &text, out, err),
-        Ok(None) => run_file(alloc, command, shelf, out, err),
+        Ok(Some(text)) => run_own(alloc, command, text, out, err),
+        Ok(None) => run_file(alloc, command, 0, shelf, out, err),
     }
 }
 
-/// Fetches the file of a command, and does with its text what the command does.
+/// Does with a command's own text what the command does.
+fn run_own<O: Sink, E: Sink>(
+    alloc: Global,
+    command: Command<'_>,
+    text: Vec<u8>,
+    out: &mut O,
+    err: &mut E,
+) -> Status
+    requires fuel { fuel_of (plain_command command) ≤ FUEL_LIMIT }
+    requires own { IsOwn (origin_of (plain_command command)) text.items }
+    ensures meets { Meets (Owes (MayGive (Some (only (origins.name_of (origin_of (plain_command command.entry))) text.items)))
+        (plain_command command.entry)) (λ o. ⊥) ⊥ (change_of O.taken O.faults out.old out.new) (change_of E.taken E.faults err.old err.new) result }
+    ensures faults_stay { O.faults out.old ≤ O.faults out.new }
+    ensures err_faults_stay { E.faults err.old ≤ E.faults err.new }
+{
+    let own = text.len() as u64;
+    match OneShelf::new(alloc, name_of(command), text) {
+        Err(AllocError) => Status::Memory,
+        Ok(mut shelf) => run_file(alloc, command, own, &mut shelf, out, err),
+    }
+}
+
+/// Does with a file of this shelf, and with the texts that it reaches, what a command does.
 fn run_file<S: Shelf, O: Sink, E: Sink>(
     alloc: Global,
     command: Command<'_>,
+    own: u64,
     shelf: &mut S,
     out: &mut O,
     err: &mut E,
 ) -> Status
     requires fuel { fuel_of (plain_command command) ≤ FUEL_LIMIT }
-    requires asks { Asks (origin_of (plain_command command)) (origins.name_of (origin_of (plain_command command))) }
-    ensures meets { Meets (OwesCommand (S.held shelf.old) (plain_command command.entry)) (FaultsCommand (plain_command command.entry))
+    requires own { own ≡ own_length (origin_of (plain_command command)) }
+    ensures meets { Meets (Owes (MayGive (S.held shelf.old)) (plain_command command.entry)) (Faults (S.held shelf.old) (plain_command command.entry))
         (Rose (S.faults shelf.old) (S.faults shelf.new)) (change_of O.taken O.faults out.old out.new) (change_of E.taken E.faults err.old err.new) result }
-    ensures missing { result ≡ Status.Missing → Rose (S.misses shelf.old) (S.misses shelf.new) }
+    ensures each { Meets (Owes (MayGiveText (S.held shelf.old)) (plain_command command.entry)) (Faults (S.held shelf.old) (plain_command command.entry))
+        (Rose (S.faults shelf.old) (S.faults shelf.new)) (change_of O.taken O.faults out.old out.new) (change_of E.taken E.faults err.old err.new) result
+        ⊎ Rose (S.misses shelf.old) (S.misses shelf.new) }
     ensures held { S.held shelf.new ≡ S.held shelf.old }
     ensures counts { (S.faults shelf.old ≤ S.faults shelf.new) × (S.misses shelf.old ≤ S.misses shelf.new)
         × (O.faults out.old ≤ O.faults out.new) × (E.faults err.old ≤ E.faults err.new) }
 {
-    match shelf.fetch(alloc, name_of(command), TEXT_LIMIT) {
-        Ok(Fetched::Text(text)) => run_text(alloc, command, &text, out, err),
-        Ok(Fetched::Missing) => report_line(alloc, command, ": no such file", Status::Missing, err),
-        Ok(Fetched::TooLong(_)) => refuse(alloc, command, &[], FIRST_PLACE, Code::B1, err),
-        Err(ShelfError::Failed) => report_line(
-            alloc,
-            command,
-            ": cannot be read",
-            Status::ReadFault,
-            err,
-        ),
-        Err(ShelfError::Memory) => Status::Memory,
+    let mut sources = Sources::new(alloc);
+    match front(
+        alloc,
+        prelude_of(command),
+        name_of(command),
+        shelf,
+        &mut sources,
+    ) {
+        Err(FrontError::Memory) => Status::Memory,
+        Err(FrontError::Missing) => {
+            let name = name_of(command).as_bytes();
+            report_line(alloc, name, ": no such file", Status::Missing, err)
+        }
+        Err(FrontError::Failed) => {
+            let name = last_name(&sources);
+            report_line(alloc, name, ": cannot be read", Status::ReadFault, err)
+        }
+        Err(FrontError::Named(code, span)) => refuse(alloc, &sources, span, code, err),
+        Ok(front) => run_ready(alloc, command, own, &sources, front, out, err),
     }
 }
 
-/// The first byte of a file.
-const FIRST_PLACE: Span = Span {
-    text: 1,
-    start: 0,
-    end: 0,
-};
-
-/// Does with a text what a command does.
-fn run_text<O: Sink, E: Sink>(
-    alloc: Global,
-    command: Command<'_>,
-    text: &[u8],
-    out: &mut O,
-    err: &mut E,
-) -> Status
-    requires short { length text.now ≤ TEXT_LIMIT }
-    requires fuel { fuel_of (plain_command command) ≤ FUEL_LIMIT }
-    requires read { MayRead None (origin_of (plain_command command)) (Some text.now) }
-    ensures meets { Meets (OwesText text.now (plain_command command.entry)) (λ o. ⊥) ⊥
-        (change_of O.taken O.faults out.old out.new) (change_of E.taken E.faults err.old err.new) result }
-    ensures faults_stay { O.faults out.old ≤ O.faults out.new }
-    ensures err_faults_stay { E.faults err.old ≤ E.faults err.new }
+/// The name of the last text; nothing where there is no text.
+fn last_name(sources: &Sources) -> &[u8]
+    ensures { result.now ≡ outcomes.last_name sources.now.list.items }
 {
-    match front(alloc, prelude_of(command), text) {
-        Err(Refusal::Memory) => Status::Memory,
-        Err(Refusal::Named(code, span)) => refuse(alloc, command, text, span, code, err),
-        Ok(front) => run_ready(alloc, command, text, front, out, err),
+    match sources.list.last() {
+        Some(source) => source.name.slice(),
+        None => b"",
     }
 }
 
-/// Does with an accepted text what a command does.
+/// Does with an accepted program what a command does.
 fn run_ready<O: Sink, E: Sink>(
     alloc: Global,
     command: Command<'_>,
-    text: &[u8],
+    own: u64,
+    sources: &Sources,
     front: Front,
     out: &mut O,
     err: &mut E,
 ) -> Status
-    requires short { length text.now ≤ TEXT_LIMIT }
+    requires short { AreShort sources.now.list.items }
     requires fuel { fuel_of (plain_command command) ≤ FUEL_LIMIT }
-    requires read { MayRead None (origin_of (plain_command command)) (Some text.now) }
-    requires stands { IsFront (origins.prelude_of (origin_of (plain_command command))) text.now (accepts (plain_front front)) }
+    requires own { own ≡ own_length (origin_of (plain_command command)) }
+    requires accepted { IsAccepted (plain_front front) }
     requires closed { IsClosed (plain_core front.core) }
-    ensures meets { Meets (OwesText text.now (plain_command command.entry)) (λ o. ⊥) ⊥
+    ensures meets { Meets (OwesWork sources.now.list.items (plain_front front) (plain_command command.entry)) (λ o. ⊥) ⊥
         (change_of O.taken O.faults out.old out.new) (change_of E.taken E.faults err.old err.new) result }
     ensures faults_stay { O.faults out.old ≤ O.faults out.new }
     ensures err_faults_stay { E.faults err.old ≤ E.faults err.new }
 {
-    match perform(alloc, command, text, front, out) {
+    match perform(alloc, command, own, front, out) {
         Err(Broken::Memory) => Status::Memory,
         Err(Broken::Sink) => Status::WriteFault,
-        Ok(finish) => report_end(alloc, command, text, finish, err),
+        Ok(finish) => report_end(alloc, sources, finish, err),
     }
 }
 
 /// Reports how a command's work ended.
-fn report_end<E: Sink>(
-    alloc: Global,
-    command: Command<'_>,
-    text: &[u8],
-    finish: Finish,
-    err: &mut E,
-) -> Status
-    requires short { length text.now ≤ TEXT_LIMIT }
-    ensures text { EndReports (origins.name_of (origin_of (plain_command command.entry))) text.now finish (change_of E.taken E.faults err.old err.new) result }
+fn report_end<E: Sink>(alloc: Global, sources: &Sources, finish: Finish, err: &mut E) -> Status
+    requires short { AreShort sources.now.list.items }
+    ensures text { EndReports sources.now.list.items finish (change_of E.taken E.faults err.old err.new) result }
     ensures faults_stay { E.faults err.old ≤ E.faults err.new }
 {
     match finish {
         Finish::Done => Status::Done,
         Finish::FuelSpent => tell(report::SPENT, Status::FuelSpent, err),
-        Finish::Trap(at) => report_trap(alloc, command, text, at, err),
+        Finish::Trap(at) => report_trap(alloc, sources, at, err),
     }
 }
 
-/// Reports a division by zero at a place of a command's text, or of the prelude before it.
-fn report_trap<E: Sink>(
-    alloc: Global,
-    command: Command<'_>,
-    text: &[u8],
-    at: Span,
-    err: &mut E,
-) -> Status
-    requires short { length text.now ≤ TEXT_LIMIT }
-    ensures text { Reports Status.Trap (trap_report (position_of (origins.name_of (origin_of (plain_command command.entry))) text.now at))
-        (change_of E.taken E.faults err.old err.new) result }
+/// Reports a division by zero at a place of one of the texts.
+fn report_trap<E: Sink>(alloc: Global, sources: &Sources, at: Span, err: &mut E) -> Status
+    requires short { AreShort sources.now.list.items }
+    ensures text { Reports Status.Trap (trap_report (position_of sources.now.list.items at)) (change_of E.taken E.faults err.old err.new) result }
     ensures faults_stay { E.faults err.old ≤ E.faults err.new }
 {
-    let position = report::position_of(name_of(command), text, at);
-    match report::trap(alloc, position) {
+    match report::trap(alloc, report::position_of(sources, at)) {
         Err(AllocError) => Status::Memory,
-        Ok(text) => tell(text.as_bytes(), Status::Trap, err),
+        Ok(text) => tell(&text, Status::Trap, err),
     }
 }
 
-/// Reports a refusal at a place of a command's text, or of the prelude before it.
-fn refuse<E: Sink>(
-    alloc: Global,
-    command: Command<'_>,
-    text: &[u8],
-    at: Span,
-    code: Code,
-    err: &mut E,
-) -> Status
-    requires short { length text.now ≤ TEXT_LIMIT }
-    ensures text { Reports Status.Refused (refusal_report (position_of (origins.name_of (origin_of (plain_command command.entry))) text.now at) code)
-        (change_of E.taken E.faults err.old err.new) result }
+/// Reports a refusal at a place of one of the texts.
+fn refuse<E: Sink>(alloc: Global, sources: &Sources, at: Span, code: Code, err: &mut E) -> Status
+    requires short { AreShort sources.now.list.items }
+    ensures text { Reports Status.Refused (refusal_report (position_of sources.now.list.items at) code) (change_of E.taken E.faults err.old err.new) result }
     ensures faults_stay { E.faults err.old ≤ E.faults err.new }
 {
-    let position = report::position_of(name_of(command), text, at);
-    match report::refusal(alloc, position, code) {
+    match report::refusal(alloc, report::position_of(sources, at), code) {
         Err(AllocError) => Status::Memory,
-        Ok(text) => tell(text.as_bytes(), Status::Refused, err),
+        Ok(text) => tell(&text, Status::Refused, err),
     }
 }
 
-/// Reports a status by a line about a command's file.
+/// Reports a status by a line about a text, by its name.
 fn report_line<E: Sink>(
     alloc: Global,
-    command: Command<'_>,
+    name: &[u8],
     rest: &str,
     status: Status,
     err: &mut E,
 ) -> Status
-    ensures text { Reports status (line (origins.name_of (origin_of (plain_command command.entry))) rest.now)
-        (change_of E.taken E.faults err.old err.new) result }
+    ensures text { Reports status (line name.now rest.now) (change_of E.taken E.faults err.old err.new) result }
     ensures faults_stay { E.faults err.old ≤ E.faults err.new }
 {
-    match report::line(alloc, name_of(command), rest) {
+    match report::line(alloc, name, rest) {
         Err(AllocError) => Status::Memory,
-        Ok(text) => tell(text.as_bytes(), status, err),
+        Ok(text) => tell(&text, status, err),
     }
 }
 

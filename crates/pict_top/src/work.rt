@@ -1,5 +1,5 @@
-// What each command does with an accepted text.
-ghost use Rattle.std.specs.Prelude.{◌≡◌, ◌≤◌, IfOk, Err, None, Some, length};
+// What each command does with an accepted program.
+ghost use Rattle.std.specs.Prelude.{◌≡◌, ◌≤◌, IfOk, Err, length};
 ghost use Rattle.pict_core.specs.Closed.{IsClosed};
 ghost use Rattle.pict_core.specs.Plain.{plain_core};
 ghost use Rattle.pict_reduction.specs.Reached.{NoFreeRunIsWrong};
@@ -9,7 +9,7 @@ ghost use Rattle.pict_words.specs.Plain.{plain_command};
 ghost use Rattle.pict_words.specs.Words.{fuel_of};
 ghost use Rattle.pict_top.specs.Answer.{Does, Lists, Shows, summed_up};
 ghost use Rattle.pict_top.specs.Changes.{change_of, GainedFront, FailedWithin};
-ghost use Rattle.pict_top.specs.Origins.{origin_of, MayRead};
+ghost use Rattle.pict_top.specs.Origins.{origin_of, own_length};
 ghost use Rattle.pict_top.specs.Printed.{Finished, Somehow};
 
 use crate::form::Form;
@@ -26,16 +26,17 @@ use pict_syntax::{FUEL_LIMIT, Names};
 use pict_words::{Command, DEFAULT_FUEL};
 use std::alloc::{AllocError, Global};
 
-/// Does a command's work with a text that it reads, and with the text's names and core process, of which no free run may be
-/// wrong. On an error a beginning of what the work writes was written; `Sink` comes only where the sink's count of faults rose.
+/// Does a command's work with a program's names and core process, of which no free run may be wrong. `own` is how many bytes the
+/// command's own text has. On an error a beginning of what the work writes was written; `Sink` comes only where the sink's count
+/// of faults rose.
 pub fn perform<O: Sink>(
     alloc: Global,
     command: Command<'_>,
-    text: &[u8],
+    own: u64,
     front: Front,
     out: &mut O,
 ) -> Result<Finish, Broken>
-    requires read { MayRead None (origin_of (plain_command command)) (Some text.now) }
+    requires own { own ≡ own_length (origin_of (plain_command command)) }
     requires closed { IsClosed (plain_core front.core) }
     requires fuel { fuel_of (plain_command command) ≤ FUEL_LIMIT }
     requires right { NoFreeRunIsWrong (plain_core front.core) }
@@ -53,7 +54,7 @@ pub fn perform<O: Sink>(
         Command::Trace(options) => run_core(alloc, Form::Line, &names, core, options.fuel, out),
         Command::Check(_) => Ok(Finish::Done),
         Command::Code(_) => list_core(alloc, &names, &core, out),
-        Command::Load(n) => sum_up(alloc, n, text.len() as u64, core, out),
+        Command::Load(n) => sum_up(alloc, n, own, core, out),
         Command::Pick(seed, options) => {
             let note = Note::Shown(Form::Printed);
             run_picked(alloc, note, &names, &core, seed, options.fuel, out)

@@ -1,42 +1,89 @@
-use Rattle.std.proofs.Common.{[], Some, Err, ap, refl}
+use Rattle.std.proofs.Common.{[], Some, Err, ap, refl, inl, inr}
 use Rattle.pict_outside.proofs.Gaining.{keeps_same, appends_nothing}
-use Rattle.pict_syntax.specs.declared.code.Code.TheVariants.{B1}
 use Rattle.pict_words.specs.Plain.{plain_command}
-use Rattle.pict_top.specs.Origins.{origin_of}
-use Rattle.pict_top.proofs.Meeting.{reported, faulted, weaken}
+use Rattle.pict_front.specs.Answers.{plain_front}
+use Rattle.pict_gather.specs.Fetching.{MayGive}
+use Rattle.pict_gather.specs.Phases.{accepts, refuses}
+use Rattle.pict_gather.specs.Gathered.{refused}
+use Rattle.pict_top.specs.Origins.{origin_of, prelude_of, MayGiveText}
 use Rattle.pict_top.specs.Answer.{Absent, Refusal}
-use Rattle.pict_front.specs.Front.{first_place}
 use Rattle.pict_top.specs.Outcome.{outcome_of, read_fault}
-use Rattle.pict_top.proofs.Reading.{reads_file, reads_any}
-use Rattle.pict_top.proofs.Files.{name, owes_text, owes_absent, owes_too_long}
+use Rattle.pict_top.proofs.Each.{accepted_each, each_or_missed}
+use Rattle.pict_top.proofs.Short.{front_short}
+use Rattle.pict_top.proofs.Meeting.{reported, faulted, weaken}
+use Rattle.pict_top.proofs.Files.{name, owes_absent, owes_refusal, owes_work}
 use Rattle.pict_top.proofs.top.run_file.Goals as goal
 
-pub run_text-requires-clause-read : goal.run_text-requires-clause-read
-run_text-requires-clause-read g c = reads_any (origin_of (plain_command c.args.command)) _ c.requires.asks
+-- ---- there is no such file
 
-pub returns-in-Ok-Text-clause-meets : goal.returns-in-Ok-Text-clause-meets
-returns-in-Ok-Text-clause-meets g c =
-    let given = rw (c.in-Ok-Text.field-0-is, c.name_of.ensures) at c.in-Ok-Text.ensures.given in
+pub returns-in-Err-Missing-clause-meets : goal.returns-in-Err-Missing-clause-meets
+returns-in-Err-Missing-clause-meets g c =
     let command = plain_command c.args.command in
-    weaken _ _ _ _ _ _ _ _ _
-    (λ o owes. owes_text _ command c.in-Ok-Text.text.items (reads_file _ (origin_of command) (Some c.in-Ok-Text.text.items) c.requires.asks given.1) o (rw (← c.deref.ensures.value) owes))
-    (λ o no. absurd no) (λ no. absurd no) c.run_text.ensures.meets
+    let stands = rw (c.in-Err-Missing.field-0-is, c.prelude_of.ensures.is, c.name_of.ensures) at c.in-Err-Missing.ensures.answer in
+    let text = rw (c.as_bytes-name.ensures.value, c.name_of-in-Err-Missing.ensures) at c.report_line.ensures.text in
+    reported _ _ _ _ _ _ (outcome_of (name command) Absent) (owes_absent (MayGive _) command stands) tt (appends_nothing _ _ (keeps_same _)) text
 
-pub returns-in-Ok-Missing-clause-meets : goal.returns-in-Ok-Missing-clause-meets
-returns-in-Ok-Missing-clause-meets g c =
-    let given = rw (c.in-Ok-Missing.field-0-is, c.name_of.ensures) at c.in-Ok-Missing.ensures.given in
-    let command = plain_command c.args.command in
-    reported _ _ _ _ _ _ (outcome_of (name command) [] Absent) (owes_absent _ command c.requires.asks given) tt
-    (appends_nothing _ _ (keeps_same _)) c.report_line.ensures.text
+pub returns-in-Err-Missing-clause-each : goal.returns-in-Err-Missing-clause-each
+returns-in-Err-Missing-clause-each g c = inr (c.in-Err-Missing.ensures.missed (ap Err c.in-Err-Missing.field-0-is))
 
-pub returns-in-Ok-TooLong-clause-meets : goal.returns-in-Ok-TooLong-clause-meets
-returns-in-Ok-TooLong-clause-meets g c =
-    let given = rw (c.in-Ok-TooLong.field-0-is, c.name_of.ensures) at c.in-Ok-TooLong.ensures.given in
-    let command = plain_command c.args.command in
-    reported _ _ _ _ _ _ (outcome_of (name command) [] (Refusal B1 first_place)) (owes_too_long _ command _ c.requires.asks given.0 given.1) tt
-    (appends_nothing _ _ (keeps_same _)) c.refuse.ensures.text
+-- ---- the shelf failed
 
 pub returns-in-Err-Failed-clause-meets : goal.returns-in-Err-Failed-clause-meets
 returns-in-Err-Failed-clause-meets g c =
     let command = plain_command c.args.command in
-    faulted _ _ _ _ _ _ (read_fault (name command)) (c.in-Err-Failed.ensures.failed (ap Err c.in-Err-Failed.field-0-is)) (record { name = name command; asks = c.requires.asks; comes = refl }) (keeps_same _) c.report_line-in-Err-Failed.ensures.text
+    let stands = rw (c.in-Err-Failed.field-0-is, c.prelude_of.ensures.is, c.name_of.ensures) at c.in-Err-Failed.ensures.answer in
+    let text = rw (c.last_name-name.ensures) at c.report_line-in-Err-Failed.ensures.text in
+    faulted _ _ _ _ _ _ (read_fault c.front.new.sources.list.items) (c.in-Err-Failed.ensures.failed (ap Err c.in-Err-Failed.field-0-is))
+    (record { sources = c.front.new.sources.list.items; front = stands; comes = refl }) (keeps_same _) text
+
+pub returns-in-Err-Failed-clause-each : goal.returns-in-Err-Failed-clause-each
+returns-in-Err-Failed-clause-each g c =
+    let command = plain_command c.args.command in
+    let stands = rw (c.in-Err-Failed.field-0-is, c.prelude_of.ensures.is, c.name_of.ensures) at c.in-Err-Failed.ensures.answer in
+    let text = rw (c.last_name-name.ensures) at c.report_line-in-Err-Failed.ensures.text in
+    inl (faulted _ _ _ _ _ _ (read_fault c.front.new.sources.list.items) (c.in-Err-Failed.ensures.failed (ap Err c.in-Err-Failed.field-0-is))
+    (record { sources = c.front.new.sources.list.items; front = stands; comes = refl }) (keeps_same _) text)
+
+-- ---- a text is refused
+
+pub refuse-requires : goal.refuse-requires
+refuse-requires g c =
+    let stands = rw (c.in-Err-Named.field-0-is) at c.in-Err-Named.ensures.answer in
+    record { short = front_short (MayGive _) c.prelude_of.result _ (refuses (refused _ c.in-Err-Named.code c.in-Err-Named.span)) c.prelude_of.ensures.short stands }
+
+pub returns-in-Err-Named-clause-meets : goal.returns-in-Err-Named-clause-meets
+returns-in-Err-Named-clause-meets g c =
+    let command = plain_command c.args.command in
+    let stands = rw (c.in-Err-Named.field-0-is, c.prelude_of.ensures.is, c.name_of.ensures) at c.in-Err-Named.ensures.answer in
+    reported _ _ _ _ _ _ (outcome_of (name command) (Refusal _ c.in-Err-Named.code c.in-Err-Named.span)) (owes_refusal (MayGive _) command _ c.in-Err-Named.code c.in-Err-Named.span stands) tt
+    (appends_nothing _ _ (keeps_same _)) c.refuse.ensures.text
+
+pub returns-in-Err-Named-clause-each : goal.returns-in-Err-Named-clause-each
+returns-in-Err-Named-clause-each g c =
+    let command = plain_command c.args.command in
+    let stands = rw (c.in-Err-Named.field-0-is, c.prelude_of.ensures.is, c.name_of.ensures) at c.in-Err-Named.ensures.answer in
+    let missed = rw (c.in-Err-Named.field-0-is) at c.in-Err-Named.ensures.absent in
+    elim (each_or_missed _ _ _ _ _ _ c.in-Err-Named.code c.in-Err-Named.span missed stands) [
+      | inl each ↦
+          inl (reported _ _ _ _ _ _ (outcome_of (name command) (Refusal _ c.in-Err-Named.code c.in-Err-Named.span)) (owes_refusal (MayGiveText _) command _ c.in-Err-Named.code c.in-Err-Named.span each) tt
+          (appends_nothing _ _ (keeps_same _)) c.refuse.ensures.text)
+      | inr rose ↦ inr rose
+    ]
+
+-- ---- the program is accepted
+
+pub run_ready-requires-clause-short : goal.run_ready-requires-clause-short
+run_ready-requires-clause-short g c =
+    front_short (MayGive _) c.prelude_of.result _ (accepts (record { sources = _; front = plain_front c.in-Ok.front })) c.prelude_of.ensures.short c.in-Ok.ensures.answer
+
+pub returns-clause-meets : goal.returns-clause-meets
+returns-clause-meets g c =
+    let command = plain_command c.args.command in
+    let stands = rw (c.prelude_of.ensures.is, c.name_of.ensures) at c.in-Ok.ensures.answer in
+    weaken _ _ _ _ _ _ _ _ _ (owes_work (MayGive _) command _ stands) (λ no. absurd no) c.run_ready.ensures.meets
+
+pub returns-clause-each : goal.returns-clause-each
+returns-clause-each g c =
+    let command = plain_command c.args.command in
+    let stands = rw (c.prelude_of.ensures.is, c.name_of.ensures) at c.in-Ok.ensures.answer in
+    inl (weaken _ _ _ _ _ _ _ _ _ (owes_work (MayGiveText _) command _ (accepted_each _ _ _ _ stands)) (λ no. absurd no) c.run_ready.ensures.meets)
