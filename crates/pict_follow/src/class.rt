@@ -1,18 +1,19 @@
 // Kinds of tokens, and a token of each.
 
 ghost use Rattle.std.specs.Prelude.{◌≡◌};
-ghost use Rattle.pict_follow.specs.Classes.{sample, sample_kind};
+ghost use Rattle.pict_follow.specs.Classes.{class_of, sample, sample_kind};
 
 use pict_syntax::{Bytes, Keyword, Name, Sign, Span, SymbolName, Token, TokenKind};
 use std::alloc::Global;
 
-/// A kind of token, without what it says.
+/// A kind of token, without what it says and where it stands: any other token of the same kind may stand in its place, as
+/// `law_kinds_decide` says.
 #[derive(Clone, Copy, PartialEq, Eq, Debug)]
 pub enum Class {
     /// A name of letters and digits.
     Word,
-    /// A symbol name.
-    Operator,
+    /// This symbol name.
+    Symbol(SymbolName),
     /// A number.
     Digits,
     /// A character.
@@ -26,11 +27,13 @@ pub enum Class {
 }
 
 impl Class {
-    /// The kind of token that this is. Takes no memory.
-    pub fn of(kind: &TokenKind) -> Class {
+    /// The kind of a token of which this is what it says. Takes no memory.
+    pub fn of(kind: &TokenKind) -> Class
+        ensures { result ≡ class_of kind.now }
+    {
         match kind {
             TokenKind::Identifier(_) => Class::Word,
-            TokenKind::Symbol(_, _) => Class::Operator,
+            TokenKind::Symbol(symbol, _) => Class::Symbol(*symbol),
             TokenKind::Keyword(keyword) => Class::Key(*keyword),
             TokenKind::Number(_) => Class::Digits,
             TokenKind::Character(_) => Class::Letter,
@@ -63,7 +66,7 @@ fn kind_of(alloc: Global, class: Class) -> TokenKind
 {
     match class {
         Class::Word => TokenKind::Identifier(Name(0)),
-        Class::Operator => TokenKind::Symbol(SymbolName::Plus, Name(0)),
+        Class::Symbol(symbol) => TokenKind::Symbol(symbol, Name(0)),
         Class::Digits => TokenKind::Number(0),
         Class::Letter => TokenKind::Character(0),
         Class::Text => TokenKind::String(Bytes::from_vec(Vec::new(alloc))),

@@ -3,8 +3,10 @@
 
 mod class;
 mod follow;
+mod laws;
 mod verdict;
 
 pub use class::Class;
 pub use follow::could_stand;
+pub use laws::law_kinds_decide;
 pub use verdict::{are_whole, can_go_on};

@@ -10,7 +10,7 @@ use crate::opened::{declaration_of, opened};
 use crate::piece::{front, index_of, pieces_of};
 use crate::scene::Scene;
 use crate::writing::put_place;
-use crate::{missing, operators, processes, words};
+use crate::{imports, missing, operators, processes, words};
 use pict_follow::{Class, are_whole, can_go_on, could_stand};
 use pict_lex::{LexError, lex};
 use pict_syntax::{Keyword, Names, Sign, TEXT_LIMIT, Token};
@@ -71,7 +71,7 @@ fn put_scene(
     put_told(alloc, out, &scene)
 }
 
-/// The kinds that may follow these tokens, if some declarations begin with them.
+/// The kinds that may follow these tokens, if some program begins with them.
 fn could_follow(alloc: Global, tokens: &mut Vec<Token>) -> Result<Option<Vec<Class>>, AllocError> {
     if can_go_on(alloc, tokens)? {
         Ok(Some(could_stand(alloc, tokens, &KINDS)?))
@@ -133,6 +133,7 @@ fn opened_by(class: Class) -> &'static str {
         Class::Mark(Sign::OpenParen) => "what stands in `( )`",
         Class::Mark(Sign::OpenBracket) => "what stands in `[ ]`",
         Class::Key(Keyword::If) => "an `if`",
+        Class::Key(Keyword::Import) => "an `import`",
         Class::Key(Keyword::New) => "a `new`",
         Class::Key(Keyword::Run) => "a `run`",
         Class::Key(Keyword::Val) => "a `val`",
@@ -186,7 +187,7 @@ fn hint_of(scene: &Scene<'_>) -> Option<Hint> {
         return first;
     }
     let sign = scene.mark(0, Sign::Less) || scene.mark(0, Sign::Greater);
-    let other = scene.stands(0, Class::Operator) || scene.mark(0, Sign::Semicolon);
+    let other = scene.symbol(0) || scene.mark(0, Sign::Semicolon);
     if scene.can_type() && (sign || other) {
         return None;
     }
@@ -197,9 +198,10 @@ fn hint_of(scene: &Scene<'_>) -> Option<Hint> {
     last_of(scene)
 }
 
-/// Words and signs of other languages, and what is written otherwise.
+/// Imports, words and signs of other languages, and what is written otherwise.
 fn first_of(scene: &Scene<'_>) -> Option<Hint> {
     words::comment(scene)
+        .or(imports::imported(scene))
         .or(words::keyword(scene))
         .or(words::logic(scene))
         .or(words::sign(scene))

@@ -29,6 +29,9 @@ pub enum Row {
     EmptyRecord,
     Equal,
     Function,
+    ImportEnd,
+    ImportFirst,
+    ImportName,
     InPlace,
     Infix,
     InfixText,
@@ -97,6 +100,9 @@ fn text_of(row: Row) -> &'static str {
             "numbers are compared by `(== a b)`: the operator stands first, in round brackets",
         Row::Function =>
             "a function is `def f (x:T):U = value`, a process with arguments `def f [x:T] = process`",
+        Row::ImportEnd => "an import ends with the name of the text: no `;` stands behind it",
+        Row::ImportFirst => "imports stand first in a text, before all declarations",
+        Row::ImportName => "the name of a text stands in double quotes: `import \"%\"`",
         Row::InPlace => {
             "a value isn't received in place: `c?x = P` goes on as P; in sequence it is `val x = (recv c)`, with \
              `def recv [#X c:?X r:/X] = c?x = r!x`"

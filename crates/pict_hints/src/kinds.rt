@@ -1,12 +1,20 @@
 // The kinds of tokens that are tried, and what they are called.
 
 use pict_follow::Class;
-use pict_syntax::{Keyword, Sign};
+use pict_syntax::{Keyword, Sign, SymbolName};
 
-/// All kinds that may stand in declarations.
-pub const KINDS: [Class; 42] = [
+/// All kinds of tokens.
+pub const KINDS: [Class; 51] = [
     Class::Word,
-    Class::Operator,
+    Class::Symbol(SymbolName::Plus),
+    Class::Symbol(SymbolName::Minus),
+    Class::Symbol(SymbolName::Star),
+    Class::Symbol(SymbolName::PlusDollar),
+    Class::Symbol(SymbolName::EqualsEquals),
+    Class::Symbol(SymbolName::LessLess),
+    Class::Symbol(SymbolName::LessEquals),
+    Class::Symbol(SymbolName::GreaterGreater),
+    Class::Symbol(SymbolName::GreaterEquals),
     Class::Digits,
     Class::Letter,
     Class::Text,
@@ -15,6 +23,7 @@ pub const KINDS: [Class; 42] = [
     Class::Key(Keyword::Else),
     Class::Key(Keyword::False),
     Class::Key(Keyword::If),
+    Class::Key(Keyword::Import),
     Class::Key(Keyword::New),
     Class::Key(Keyword::Rec),
     Class::Key(Keyword::Run),
@@ -49,10 +58,22 @@ pub const KINDS: [Class; 42] = [
     Class::Mark(Sign::Arrow),
 ];
 
-/// With what a value begins.
-pub const VALUE: [Class; 11] = [
+/// The symbol names.
+pub const SYMBOLS: [Class; 9] = [
+    Class::Symbol(SymbolName::Plus),
+    Class::Symbol(SymbolName::Minus),
+    Class::Symbol(SymbolName::Star),
+    Class::Symbol(SymbolName::PlusDollar),
+    Class::Symbol(SymbolName::EqualsEquals),
+    Class::Symbol(SymbolName::LessLess),
+    Class::Symbol(SymbolName::LessEquals),
+    Class::Symbol(SymbolName::GreaterGreater),
+    Class::Symbol(SymbolName::GreaterEquals),
+];
+
+/// With what a value begins, beside a symbol name.
+pub const VALUE: [Class; 10] = [
     Class::Word,
-    Class::Operator,
     Class::Digits,
     Class::Letter,
     Class::Text,
@@ -64,10 +85,9 @@ pub const VALUE: [Class; 11] = [
     Class::Mark(Sign::Backslash),
 ];
 
-/// With what a process begins.
-pub const PROCESS: [Class; 4] = [
+/// With what a process begins, beside a symbol name.
+pub const PROCESS: [Class; 3] = [
     Class::Word,
-    Class::Operator,
     Class::Key(Keyword::If),
     Class::Mark(Sign::OpenParen),
 ];
@@ -106,9 +126,6 @@ pub const DECLARATION: [Class; 5] = [
     Class::Key(Keyword::TypeDefinition),
 ];
 
-/// Both kinds of names.
-pub const NAME: [Class; 2] = [Class::Word, Class::Operator];
-
 /// Whether all of these are among those.
 pub fn holds_all(those: &[Class], these: &[Class]) -> bool {
     for class in these {
@@ -119,16 +136,35 @@ pub fn holds_all(those: &[Class], these: &[Class]) -> bool {
     true
 }
 
-/// What a kind is called: a keyword and a sign by themselves.
+/// Whether every symbol name is among those.
+pub fn holds_symbols(those: &[Class]) -> bool {
+    holds_all(those, &SYMBOLS)
+}
+
+/// What a kind is called: a symbol name, a keyword and a sign by themselves.
 pub fn name_of(class: Class) -> &'static str {
     match class {
         Class::Word => "a name",
-        Class::Operator => "a symbol name",
+        Class::Symbol(symbol) => name_of_symbol(symbol),
         Class::Digits => "a number",
         Class::Letter => "a character",
         Class::Text => "a string",
         Class::Key(keyword) => name_of_keyword(keyword),
         Class::Mark(sign) => name_of_sign(sign),
+    }
+}
+
+fn name_of_symbol(symbol: SymbolName) -> &'static str {
+    match symbol {
+        SymbolName::Plus => "`+`",
+        SymbolName::Minus => "`-`",
+        SymbolName::Star => "`*`",
+        SymbolName::PlusDollar => "`+$`",
+        SymbolName::EqualsEquals => "`==`",
+        SymbolName::LessLess => "`<<`",
+        SymbolName::LessEquals => "`<=`",
+        SymbolName::GreaterGreater => "`>>`",
+        SymbolName::GreaterEquals => "`>=`",
     }
 }
 

@@ -9,6 +9,7 @@ mod distance;
 mod explaining;
 mod grammar;
 mod hint;
+mod imports;
 mod kinds;
 mod line;
 mod listed;

@@ -1,7 +1,8 @@
 // What could stand somewhere, as a text: whole classes by their names, then single tokens.
 
 use crate::kinds::{
-    DECLARATION, KINDS, NAME, PATTERN, PROCESS, RIGHTS, TYPE, VALUE, holds_all, name_of,
+    DECLARATION, KINDS, PATTERN, PROCESS, RIGHTS, SYMBOLS, TYPE, VALUE, holds_all, holds_symbols,
+    name_of,
 };
 use pict_follow::Class;
 use std::alloc::{AllocError, Global};
@@ -14,7 +15,7 @@ enum Part {
     Types,
     Pattern,
     Declaration,
-    Name,
+    Symbols,
     One(Class),
     End,
 }
@@ -27,7 +28,7 @@ impl Part {
             Part::Types => "a type",
             Part::Pattern => "a pattern",
             Part::Declaration => "a declaration",
-            Part::Name => "a name",
+            Part::Symbols => "a symbol name",
             Part::One(class) => name_of(class),
             Part::End => "the end of the text",
         }
@@ -45,10 +46,13 @@ impl Parts {
     /// Adds a class, of which these are the kinds.
     fn class(&mut self, part: Part, kinds: &[Class]) -> Result<(), AllocError> {
         self.parts.push(part)?;
-        for class in kinds {
-            self.spoken.push(*class)?;
-        }
-        Ok(())
+        self.spoken.extend_from_slice(kinds)
+    }
+
+    /// Adds a class, of which these are the kinds, and the symbol names.
+    fn class_with_symbols(&mut self, part: Part, kinds: &[Class]) -> Result<(), AllocError> {
+        self.class(part, kinds)?;
+        self.spoken.extend_from_slice(&SYMBOLS)
     }
 }
 
@@ -74,13 +78,14 @@ pub fn put_listed(
 
 /// Values, processes, types and patterns.
 fn add_values(parts: &mut Parts, could: &[Class]) -> Result<(), AllocError> {
-    let value = holds_all(could, &VALUE);
+    let symbols = holds_symbols(could);
+    let value = symbols && holds_all(could, &VALUE);
     let types = holds_all(could, &TYPE);
     let pattern = holds_all(could, &PATTERN);
     if value {
-        parts.class(Part::Value, &VALUE)?;
-    } else if holds_all(could, &PROCESS) && !types && !pattern {
-        parts.class(Part::Process, &PROCESS)?;
+        parts.class_with_symbols(Part::Value, &VALUE)?;
+    } else if symbols && holds_all(could, &PROCESS) && !types && !pattern {
+        parts.class_with_symbols(Part::Process, &PROCESS)?;
     }
     if types {
         parts.class(Part::Types, &TYPE)?;
@@ -94,19 +99,18 @@ fn add_values(parts: &mut Parts, could: &[Class]) -> Result<(), AllocError> {
     Ok(())
 }
 
-/// Declarations and names.
+/// Declarations and symbol names.
 fn add_others(parts: &mut Parts, could: &[Class]) -> Result<(), AllocError> {
     if holds_all(could, &DECLARATION) {
         parts.class(Part::Declaration, &DECLARATION)?;
     }
-    let spoken = parts.spoken.contains(&Class::Word) || parts.spoken.contains(&Class::Operator);
-    if holds_all(could, &NAME) && !spoken {
-        parts.class(Part::Name, &NAME)?;
+    if holds_symbols(could) && !parts.spoken.contains(&SYMBOLS[0]) {
+        parts.class(Part::Symbols, &SYMBOLS)?;
     }
     Ok(())
 }
 
-/// Single kinds of which no class speaks.
+/// Single kinds of which no class speaks: a symbol name by itself where not each of them could stand.
 fn add_single(parts: &mut Parts, could: &[Class]) -> Result<(), AllocError> {
     for class in &KINDS {
         if could.contains(class) && !parts.spoken.contains(class) {

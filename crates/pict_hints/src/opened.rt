@@ -1,6 +1,6 @@
 // What is open before a token: brackets, conditionals that lack a part, and the declaration that is being read.
 
-use crate::piece::{Piece, is_declaration, is_value};
+use crate::piece::{Piece, is_beginning, is_value};
 use pict_follow::{Class, are_whole};
 use pict_syntax::{Keyword, Sign, Token};
 use std::alloc::{AllocError, Global};
@@ -8,7 +8,7 @@ use std::alloc::{AllocError, Global};
 /// At how many places the beginning of a declaration is looked for.
 const TRIES: usize = 40;
 
-/// The numbers of the tokens that opened what is open behind these, which some declarations begin with: the brackets and the
+/// The numbers of the tokens that opened what is open behind these, which some program begins with: the brackets and the
 /// conditionals whose `else` hasn't come, the innermost last.
 pub fn opened(alloc: Global, pieces: &[Piece]) -> Result<Vec<usize>, AllocError> {
     let mut unclosed = Vec::new(alloc);
@@ -26,12 +26,12 @@ pub fn opened(alloc: Global, pieces: &[Piece]) -> Result<Vec<usize>, AllocError>
     Ok(unclosed)
 }
 
-/// The numbers of the tokens that stand in no brackets and with which a declaration may begin.
+/// The numbers of the tokens that stand in no brackets and with which a declaration or an import may begin.
 fn beginnings(alloc: Global, pieces: &[Piece]) -> Result<Vec<usize>, AllocError> {
     let mut found = Vec::new(alloc);
     let mut depth: usize = 0;
     for (index, piece) in pieces.iter().enumerate() {
-        if depth == 0 && (is_declaration(piece.class) || is_value(piece.class)) {
+        if depth == 0 && (is_beginning(piece.class) || is_value(piece.class)) {
             found.push(index)?;
         }
         match piece.class {
@@ -52,8 +52,8 @@ fn before(tokens: &[Token], count: usize) -> &[Token] {
     }
 }
 
-/// The number of the token with which the declaration begins that is being read at the end of these tokens: the last one before
-/// which the tokens are whole declarations. It is looked for at some places only.
+/// The number of the token with which the declaration or the import begins that is being read at the end of these tokens: the last
+/// one before which the tokens are a whole program. It is looked for at some places only.
 pub fn declaration_of(
     alloc: Global,
     tokens: &[Token],

@@ -1,7 +1,7 @@
 // Rows on operators between values, on numbers that are compared, and on functions that are called.
 
 use crate::hint::{Hint, Row, says};
-use crate::piece::{is_name, is_value};
+use crate::piece::is_value;
 use crate::scene::Scene;
 use pict_follow::Class;
 use pict_syntax::{Keyword, Sign};
@@ -23,21 +23,13 @@ fn begins_operand(scene: &Scene<'_>) -> bool {
     }
 }
 
-/// Whether the token before the wrong one is a name.
-fn is_named(scene: &Scene<'_>) -> bool {
-    match scene.kind(1) {
-        None => false,
-        Some(class) => is_name(class),
-    }
-}
-
 /// An operator between two values, at the operator.
 pub fn at_operator(scene: &Scene<'_>) -> Option<Hint> {
     let then = scene.only(Class::Key(Keyword::Then));
     if then && scene.mark(0, Sign::Equals) && is_operand(scene, 1) {
         return says(scene, Row::Equal, 0);
     }
-    if !scene.stands(0, Class::Operator) {
+    if !scene.symbol(0) {
         return None;
     }
     let ended = is_operand(scene, 1) || scene.mark(1, Sign::CloseBracket);
@@ -88,7 +80,7 @@ pub fn minus(scene: &Scene<'_>) -> Option<Hint> {
 /// An operator between two values, behind the operator, which was read as a value.
 pub fn behind_operator(scene: &Scene<'_>) -> Option<Hint> {
     let ended = scene.stops() || begins_operand(scene) || scene.mark(0, Sign::CloseParen);
-    let between = scene.stands(1, Class::Operator) && is_operand(scene, 2);
+    let between = scene.symbol(1) && is_operand(scene, 2);
     if !ended || !between || !scene.can_mark(Sign::Semicolon) {
         return None;
     }
@@ -100,7 +92,7 @@ pub fn behind_operator(scene: &Scene<'_>) -> Option<Hint> {
 
 /// A function in a condition that is called without brackets.
 pub fn condition(scene: &Scene<'_>) -> Option<Hint> {
-    if scene.only(Class::Key(Keyword::Then)) && begins_operand(scene) && is_named(scene) {
+    if scene.only(Class::Key(Keyword::Then)) && begins_operand(scene) && scene.named(1) {
         return says(scene, Row::Call, 1);
     }
     None

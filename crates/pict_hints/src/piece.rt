@@ -54,7 +54,7 @@ pub fn front(pieces: &[Piece], count: usize) -> &[Piece] {
 
 /// Whether this is a name, of letters and digits or a symbol name.
 pub fn is_name(class: Class) -> bool {
-    matches!(class, Class::Word | Class::Operator)
+    matches!(class, Class::Word | Class::Symbol(_))
 }
 
 /// Whether this is a keyword that begins a declaration.
@@ -67,10 +67,15 @@ pub fn is_declaration(class: Class) -> bool {
     )
 }
 
+/// Whether this is a keyword that begins a declaration or an import.
+pub fn is_beginning(class: Class) -> bool {
+    is_declaration(class) || class == Class::Key(Keyword::Import)
+}
+
 /// Whether a value may begin with this.
 pub fn is_value(class: Class) -> bool {
     match class {
-        Class::Word | Class::Operator | Class::Digits | Class::Letter | Class::Text => true,
+        Class::Word | Class::Symbol(_) | Class::Digits | Class::Letter | Class::Text => true,
         Class::Key(Keyword::True | Keyword::False | Keyword::If) => true,
         Class::Mark(Sign::OpenParen | Sign::OpenBracket | Sign::Backslash) => true,
         _ => false,
@@ -80,7 +85,7 @@ pub fn is_value(class: Class) -> bool {
 /// Whether a value may end with this.
 pub fn ends_value(class: Class) -> bool {
     match class {
-        Class::Word | Class::Operator | Class::Digits | Class::Letter | Class::Text => true,
+        Class::Word | Class::Symbol(_) | Class::Digits | Class::Letter | Class::Text => true,
         Class::Mark(Sign::CloseParen | Sign::CloseBracket) => true,
         _ => false,
     }

@@ -12,7 +12,7 @@ fn is_process(scene: &Scene<'_>) -> bool {
         None => false,
         Some(class) => is_arrow(class),
     };
-    arrow && (scene.stands(1, Class::Word) || scene.stands(1, Class::Operator))
+    arrow && scene.named(1)
 }
 
 /// Whether the `=` two places before the wrong token is that of a function: before it the fields of one end, or its type.

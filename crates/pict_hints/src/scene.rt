@@ -1,7 +1,7 @@
 // A wrong token, those around it, and what could stand in its place.
 
-use crate::kinds::{TYPE, VALUE, holds_all};
-use crate::piece::{Piece, is_declaration, kind_at};
+use crate::kinds::{TYPE, VALUE, holds_all, holds_symbols};
+use crate::piece::{Piece, is_beginning, is_declaration, is_name, kind_at};
 use crate::writing::part;
 use pict_follow::Class;
 use pict_syntax::{Keyword, Sign};
@@ -21,7 +21,7 @@ pub struct Scene<'a> {
     pub ends: bool,
     /// The numbers of the tokens that opened what is open, the innermost last.
     pub unclosed: &'a [usize],
-    /// The number of the token with which the declaration begins that is being read, where it is known.
+    /// The number of the token with which the declaration or the import begins that is being read, where it is known.
     pub declaration: Option<usize>,
 }
 
@@ -65,6 +65,19 @@ impl Scene<'_> {
         self.stands(back, Class::Key(keyword))
     }
 
+    /// Whether it is a symbol name.
+    pub fn symbol(&self, back: usize) -> bool {
+        matches!(self.kind(back), Some(Class::Symbol(_)))
+    }
+
+    /// Whether it is a name, of letters and digits or a symbol name.
+    pub fn named(&self, back: usize) -> bool {
+        match self.kind(back) {
+            None => false,
+            Some(class) => is_name(class),
+        }
+    }
+
     /// Whether the next token is this sign.
     pub fn next_mark(&self, sign: Sign) -> bool {
         match self.next_kind() {
@@ -100,7 +113,7 @@ impl Scene<'_> {
     /// The bytes of the name so many places before the wrong token; none where no name stands there.
     pub fn word(&self, back: usize) -> &[u8] {
         match self.kind(back) {
-            Some(Class::Word | Class::Operator) => self.bytes(back),
+            Some(Class::Word | Class::Symbol(_)) => self.bytes(back),
             _ => &[],
         }
     }
@@ -122,7 +135,7 @@ impl Scene<'_> {
 
     /// Whether a value could stand here.
     pub fn can_value(&self) -> bool {
-        holds_all(self.could, &VALUE)
+        holds_all(self.could, &VALUE) && holds_symbols(self.could)
     }
 
     /// Whether a type could stand here.
@@ -184,7 +197,7 @@ impl Scene<'_> {
         match self.declaration {
             None => None,
             Some(index) => match self.pieces.get(index) {
-                Some(piece) if !is_declaration(piece.class) => Some(index),
+                Some(piece) if !is_beginning(piece.class) => Some(index),
                 _ => None,
             },
         }

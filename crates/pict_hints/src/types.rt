@@ -138,7 +138,7 @@ fn unwritten(scene: &Scene<'_>) -> Option<&'static str> {
 /// Something that is applied and is no function.
 fn applied(scene: &Scene<'_>) -> Option<&'static str> {
     match scene.next_kind() {
-        Some(Class::Operator) => {
+        Some(Class::Symbol(_)) => {
             return Some("operators stand first, in round brackets: `(+ a b)`");
         }
         Some(Class::Mark(Sign::CloseParen)) => {
