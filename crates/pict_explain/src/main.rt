@@ -1,7 +1,7 @@
 //! Does what `pict` does, with its output, its reports and its status, and tells more of a refusal: the line of the text with a
 //! caret, which tokens could stand there, and what may be meant.
 //!
-//! Its words are those of `pict`. The file is read once, so that report and explanation speak of the same bytes. With the words
+//! Its words are those of `pict`. Each text is read once, so that report and explanation speak of the same bytes. With the words
 //! `mistakes FILE` it tells of each text of a file what is reported and told of it: a line that begins with `== ` and has a
 //! name begins a text, which stands behind the prelude if the word `prelude` follows the name.
 #![tactic(auto)]
@@ -9,18 +9,16 @@
 mod mistakes;
 mod telling;
 
-ghost use Rattle.std.specs.Prelude.{◌≤◌, length};
-ghost use Rattle.pict_syntax.specs.declared.limits.TheConstants.{TEXT_LIMIT};
-
 use anyhow::Error;
 use mistakes::tell_mistakes;
-use pict_outside::{Fetched, FolderShelf, Shelf, StreamSink};
-use pict_syntax::TEXT_LIMIT;
+use pict_front::FrontError;
+use pict_outside::{FolderShelf, StreamSink};
+use pict_syntax::{Code, Sources};
 use pict_top::{Command, Options, Status, pict, words_of};
 use std::env;
 use std::io::Write;
 use std::process::ExitCode;
-use telling::{shelf_of, told};
+use telling::{phases, shelf_of, told};
 
 /// Does what the words ask for, over the files of the system.
 fn do_plainly(rt: &HostRuntime, words: &[&str]) -> Status {
@@ -30,32 +28,34 @@ fn do_plainly(rt: &HostRuntime, words: &[&str]) -> Status {
     pict(rt.alloc(), words, &mut shelf, &mut out, &mut err)
 }
 
-/// Does what the words ask for with the text of their file, and tells of a refusal.
-fn do_with(
-    rt: &HostRuntime,
-    words: &[&str],
-    options: Options<'_>,
-    text: &[u8],
-) -> Result<Status, Error>
-    requires short { length text.now ≤ TEXT_LIMIT }
-{
-    let mut shelf = shelf_of(rt.alloc(), options.file, text)?;
+/// Does what the words ask for, over the texts that were read.
+fn do_with(rt: &HostRuntime, words: &[&str], sources: &Sources) -> Result<Status, Error> {
+    let mut shelf = shelf_of(rt.alloc(), sources)?;
     let mut out = StreamSink::new(rt.stdout());
     let mut err = StreamSink::new(rt.stderr());
-    let status = pict(rt.alloc(), words, &mut shelf, &mut out, &mut err);
-    if status == Status::Refused {
-        let more = told(rt.alloc(), text, options.bare)?;
-        rt.stderr().write_all(&more)?;
-    }
-    Ok(status)
+    Ok(pict(rt.alloc(), words, &mut shelf, &mut out, &mut err))
 }
 
 /// Does what the words ask for of a file, and tells of a refusal.
 fn do_file(rt: &HostRuntime, words: &[&str], options: Options<'_>) -> Result<Status, Error> {
-    let mut shelf = FolderShelf::new(rt);
-    match shelf.fetch(rt.alloc(), options.file, TEXT_LIMIT) {
-        Ok(Fetched::Text(text)) => do_with(rt, words, options, &text),
-        _ => Ok(do_plainly(rt, words)),
+    let mut folder = FolderShelf::new(rt);
+    let mut sources = Sources::new(rt.alloc());
+    match phases(
+        rt.alloc(),
+        options.bare,
+        options.file,
+        &mut folder,
+        &mut sources,
+    ) {
+        Ok(_) => do_with(rt, words, &sources),
+        Err(FrontError::Named(Code::B1, _)) => Ok(do_plainly(rt, words)),
+        Err(FrontError::Named(code, place)) => {
+            let status = do_with(rt, words, &sources)?;
+            let more = told(rt.alloc(), &sources, code, place, options.bare)?;
+            rt.stderr().write_all(&more)?;
+            Ok(status)
+        }
+        Err(_) => Ok(do_plainly(rt, words)),
     }
 }
 

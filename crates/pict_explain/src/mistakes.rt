@@ -1,10 +1,11 @@
 // Texts with usual mistakes, and what is told of each.
 
-use crate::telling::{shelf_of, told};
+use crate::telling::{phases, told};
 use anyhow::Error;
+use pict_front::FrontError;
 use pict_outside::{Fetched, FolderShelf, Shelf, StreamSink};
-use pict_syntax::TEXT_LIMIT;
-use pict_top::{Status, pict};
+use pict_syntax::{Sources, TEXT_LIMIT};
+use pict_top::{OneShelf, Status, pict};
 use std::io::Write;
 use std::str::from_utf8;
 
@@ -13,10 +14,8 @@ const PRELUDE: &str = " prelude";
 
 /// Tells of a text what is reported and told of it, on the standard output.
 fn tell_text(rt: &HostRuntime, name: &str, text: &[u8], bare: bool) -> Result<(), Error> {
-    if text.len() as u64 > TEXT_LIMIT {
-        return Ok(());
-    }
-    let mut shelf = shelf_of(rt.alloc(), name, text)?;
+    let text = Vec::from_slice(rt.alloc(), text)?;
+    let mut shelf = OneShelf::new(rt.alloc(), name, text)?;
     let mut out = StreamSink::new(rt.stdout());
     let mut err = StreamSink::new(rt.stdout());
     let status = if bare {
@@ -32,8 +31,17 @@ fn tell_text(rt: &HostRuntime, name: &str, text: &[u8], bare: bool) -> Result<()
     };
     match status {
         Status::Refused => {
-            let more = told(rt.alloc(), text, bare)?;
-            rt.stdout().write_all(&more)?
+            let mut sources = Sources::new(rt.alloc());
+            if let Err(FrontError::Named(code, place)) = phases(
+                rt.alloc(),
+                bare,
+                name,
+                &mut shelf,
+                &mut sources,
+            ) {
+                let more = told(rt.alloc(), &sources, code, place, bare)?;
+                rt.stdout().write_all(&more)?;
+            }
         }
         _ => println!(rt; "{name}: accepted")?,
     }

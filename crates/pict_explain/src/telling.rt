@@ -1,42 +1,57 @@
-// What is told of a text.
+// What is told of a file.
 
-ghost use Rattle.std.specs.Prelude.{◌≤◌, length};
-ghost use Rattle.pict_syntax.specs.declared.limits.TheConstants.{TEXT_LIMIT};
+ghost use Rattle.std.specs.Prelude.{◌≡◌, []};
 
-use pict_front::{Front, Refusal, front};
+use pict_front::{Front, FrontError, front};
 use pict_hints::explanation;
-use pict_outside::{Entry, MemoryShelf};
-use pict_syntax::TEXT_LIMIT;
+use pict_outside::{Entry, MemoryShelf, Shelf};
+use pict_syntax::{Code, Sources, Span, TEXT_LIMIT};
 use pict_top::prelude;
 use std::alloc::{AllocError, Global};
 
-/// A shelf with a copy of this text alone.
-pub fn shelf_of(alloc: Global, file: &str, text: &[u8]) -> Result<MemoryShelf, AllocError> {
+/// A shelf with copies of the texts that were read, each under its name.
+pub fn shelf_of(alloc: Global, sources: &Sources) -> Result<MemoryShelf, AllocError> {
     let mut entries = Vec::new(alloc);
-    let name = Vec::from_slice(alloc, file.as_bytes())?;
-    let text = Vec::from_slice(alloc, text)?;
-    entries.push(Entry { name, text })?;
+    for source in sources.list.iter().skip(1) {
+        let name = Vec::from_slice(alloc, source.name.slice())?;
+        let text = Vec::from_slice(alloc, source.text.slice())?;
+        entries.push(Entry { name, text })?;
+    }
     Ok(MemoryShelf::new(entries, Vec::new(alloc)))
 }
 
-/// What the phases say of a text.
-fn phases(alloc: Global, text: &[u8], bare: bool) -> Result<Front, Refusal>
-    requires short { length text.now ≤ TEXT_LIMIT }
+/// What the phases say of a file, behind the prelude unless it is `bare`. `sources` gains the texts that were read.
+pub fn phases<S: Shelf>(
+    alloc: Global,
+    bare: bool,
+    file: &str,
+    shelf: &mut S,
+    sources: &mut Sources,
+) -> Result<Front, FrontError>
+    requires empty { sources.old.list.items ≡ [] }
 {
     if bare {
-        front(alloc, None, text)
+        front(alloc, None, file, shelf, sources)
     } else {
-        front(alloc, Some(prelude()), text)
+        front(alloc, Some(prelude()), file, shelf, sources)
     }
 }
 
-/// What is told of a text below the report of its refusal; nothing, if it is accepted. The only error is want of memory.
-pub fn told(alloc: Global, text: &[u8], bare: bool) -> Result<Vec<u8>, AllocError>
-    requires short { length text.now ≤ TEXT_LIMIT }
-{
-    match phases(alloc, text, bare) {
-        Ok(_) => Ok(Vec::new(alloc)),
-        Err(Refusal::Memory) => Err(AllocError),
-        Err(Refusal::Named(code, place)) => explanation(alloc, code, place, text, bare),
+/// What is told, below its report, of a refusal with this code at this place in one of these texts. The only error is want of
+/// memory.
+pub fn told(
+    alloc: Global,
+    sources: &Sources,
+    code: Code,
+    place: Span,
+    bare: bool,
+) -> Result<Vec<u8>, AllocError> {
+    let Some(source) = sources.list.get(place.text as usize) else {
+        return Ok(Vec::new(alloc));
+    };
+    let text = source.text.slice();
+    if text.len() as u64 > TEXT_LIMIT {
+        return Ok(Vec::new(alloc));
     }
+    explanation(alloc, code, place, text, bare)
 }

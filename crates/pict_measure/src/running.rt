@@ -10,7 +10,8 @@ use pict_core::Core;
 use pict_front::front;
 use pict_heap::Heap;
 use pict_machine::{End, Event, Machine, RunError, Watcher};
-use pict_syntax::{FUEL_LIMIT, TEXT_LIMIT};
+use pict_syntax::{FUEL_LIMIT, Sources};
+use pict_top::OneShelf;
 use std::alloc::{AllocError, Global};
 use std::time::Instant;
 
@@ -73,15 +74,19 @@ fn ring(alloc: Global, servers: u32, work: Work) -> Result<Vec<u8>, AllocError> 
     Ok(text)
 }
 
+/// The name of a text.
+const FILE: &str = "ring";
+
 /// The core process of a text; nothing where the text is refused, or memory is wanting for it.
-fn accepted(alloc: Global, text: &[u8]) -> Option<Core>
+fn accepted(alloc: Global, text: Vec<u8>) -> Option<Core>
     ensures closed { IfSome result (λ core. IsClosed (plain_core core)) }
     ensures right { IfSome result (λ core. (fuel : ℕ) → RunsRight (plain_core core) fuel) }
 {
-    if text.len() as u64 > TEXT_LIMIT {
+    let Ok(mut shelf) = OneShelf::new(alloc, FILE, text) else {
         return None;
-    }
-    match front(alloc, None, text) {
+    };
+    let mut sources = Sources::new(alloc);
+    match front(alloc, None, FILE, &mut shelf, &mut sources) {
         Ok(front) => Some(front.core),
         Err(_) => None,
     }
@@ -98,7 +103,7 @@ pub fn measure(
 ) -> Result<(), Error> {
     let fuel = (steps as u64).min(FUEL_LIMIT);
     let text = ring(rt.alloc(), servers, work)?;
-    let Some(core) = accepted(rt.alloc(), &text) else {
+    let Some(core) = accepted(rt.alloc(), text) else {
         println!(rt; "run {name}: refused")?;
         return Ok(());
     };

@@ -3,7 +3,7 @@
 //!
 //! Each of its words names a file with a text of the bare language; without a word it reads the standard input. Of each it
 //! follows at most 1,000 steps. A text that is refused, or cannot be read, is reported as `pict check` reports it, and ends
-//! the work with its status.
+//! the work with its status. It stands alone: no text is there that it could import.
 #![tactic(auto)]
 
 mod cells;
@@ -18,11 +18,10 @@ ghost use Rattle.pict_syntax.specs.declared.limits.TheConstants.{TEXT_LIMIT};
 
 use anyhow::Error;
 use pict_front::front;
-use pict_outside::{Entry, Fetched, FolderShelf, MemoryShelf, Shelf, StreamSink};
-use pict_syntax::TEXT_LIMIT;
-use pict_top::{Status, pict};
+use pict_outside::{Fetched, FolderShelf, Shelf, StreamSink};
+use pict_syntax::{Sources, TEXT_LIMIT};
+use pict_top::{OneShelf, Status, pict};
 use run::follow;
-use std::alloc::AllocError;
 use std::env;
 use std::io::Write;
 use std::process::ExitCode;
@@ -47,23 +46,15 @@ fn report<S: Shelf>(rt: &HostRuntime, file: &str, shelf: &mut S) -> Status {
     )
 }
 
-/// A shelf with this text alone.
-fn shelf_of(rt: &HostRuntime, file: &str, text: Vec<u8>) -> Result<MemoryShelf, AllocError> {
-    let mut entries = Vec::new(rt.alloc());
-    let name = Vec::from_slice(rt.alloc(), file.as_bytes())?;
-    entries.push(Entry { name, text })?;
-    Ok(MemoryShelf::new(entries, Vec::new(rt.alloc())))
-}
-
 /// Tells the run of a text, or reports why it is refused.
 fn tell_text(rt: &HostRuntime, file: &str, text: Vec<u8>) -> Result<Status, Error>
     requires short { vec_len text ≤ TEXT_LIMIT }
 {
-    match front(rt.alloc(), None, &text) {
-        Err(_) => {
-            let mut shelf = shelf_of(rt, file, text)?;
-            Ok(report(rt, file, &mut shelf))
-        }
+    let copy = Vec::from_slice(rt.alloc(), &text)?;
+    let mut shelf = OneShelf::new(rt.alloc(), file, copy)?;
+    let mut sources = Sources::new(rt.alloc());
+    match front(rt.alloc(), None, file, &mut shelf, &mut sources) {
+        Err(_) => Ok(report(rt, file, &mut shelf)),
         Ok(front) => {
             let run = follow(rt.alloc(), front.core, MOST)?;
             let table = told(rt.alloc(), &front.names, &text, &run)?;

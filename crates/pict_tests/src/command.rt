@@ -447,7 +447,7 @@ fn refusals(rt: HostRuntime) -> Result<(), AllocError> {
         refused(b"run (a!b |)", b"F:1:11: P1 unexpected token\n"),
         refused(b"run ()\nrun\n (0 |", b"F:3:5: P1 unexpected token\n"),
         refused(b"run () import \"L\"", b"F:1:8: P1 unexpected token\n"),
-        refused(b"import \"L\"", b"F:1:1: P1 unexpected token\n"),
+        refused(b"import \"L\"", b"F:1:8: I1 no such text\n"),
         refused(
             b"run printi!9223372036854775808",
             b"F:1:12: L4 number out of range\n",

@@ -1,24 +1,32 @@
 // Texts that are cut at the end of a token.
 
 use crate::translation::{COUNTER, PRELUDE};
-use pict_front::{Refusal, front};
+use pict_front::{FrontError, front};
 use pict_lex::lex;
-use pict_syntax::{Code, Names, TEXT_LIMIT};
+use pict_syntax::{Code, Names, Sources, TEXT_LIMIT};
+use pict_top::OneShelf;
 use std::alloc::Global;
 
 /// Whether no token of a text behind the prelude is refused, nor its nesting, and the grammar at its end alone.
 fn is_refused_at_its_end_alone(alloc: Global, text: &[u8]) -> bool {
-    if text.len() as u64 > TEXT_LIMIT || PRELUDE.len() as u64 > TEXT_LIMIT {
+    let Ok(copy) = Vec::from_slice(alloc, text) else {
+        return false;
+    };
+    let Ok(mut shelf) = OneShelf::new(alloc, "F", copy) else {
+        return false;
+    };
+    if PRELUDE.len() as u64 > TEXT_LIMIT {
         return false;
     }
-    match front(alloc, Some(PRELUDE), text) {
+    let mut sources = Sources::new(alloc);
+    match front(alloc, Some(PRELUDE), "F", &mut shelf, &mut sources) {
         Ok(_) => true,
-        Err(Refusal::Memory) => false,
-        Err(Refusal::Named(code, span)) => match code {
+        Err(FrontError::Named(code, span)) => match code {
             Code::L1 | Code::L2 | Code::L3 | Code::L4 | Code::L5 | Code::P2 => false,
             Code::P1 => span.text == 1 && span.start as usize == text.len(),
             _ => true,
         },
+        Err(_) => false,
     }
 }
 

@@ -8,6 +8,8 @@ mod command;
 #[cfg(test)]
 mod cuts;
 #[cfg(test)]
+mod imports;
+#[cfg(test)]
 mod orders;
 #[cfg(test)]
 mod phases;

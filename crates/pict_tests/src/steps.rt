@@ -13,22 +13,30 @@ use pict_heap::Heap;
 use pict_machine::{End, Event, Machine, RunError, Stopped, Watcher};
 use pict_reference::{Label, Reference, StepOutcome};
 use pict_show::write_value;
-use pict_syntax::{FUEL_LIMIT, Names, Span, TEXT_LIMIT};
+use pict_syntax::{FUEL_LIMIT, Names, Sources, Span};
+use pict_top::OneShelf;
 use pict_values::{printed, write_word};
 use std::alloc::{AllocError, Global};
 use std::process::Abort;
 
 // ---- accepted texts
 
+/// The name of a text.
+const FILE: &str = "F";
+
 /// The core process of a text; nothing where the text is refused.
 pub fn accepted(alloc: Global, text: &[u8]) -> Option<Core>
     ensures closed { IfSome result (λ core. IsClosed (plain_core core)) }
     ensures right { IfSome result (λ core. (fuel : ℕ) → RunsRight (plain_core core) fuel) }
 {
-    if text.len() as u64 > TEXT_LIMIT {
+    let Ok(text) = Vec::from_slice(alloc, text) else {
         return None;
-    }
-    match front(alloc, None, text) {
+    };
+    let Ok(mut shelf) = OneShelf::new(alloc, FILE, text) else {
+        return None;
+    };
+    let mut sources = Sources::new(alloc);
+    match front(alloc, None, FILE, &mut shelf, &mut sources) {
         Ok(front) => Some(front.core),
         Err(_) => None,
     }

@@ -1,4 +1,5 @@
-//! Tests of what is read: names and bytes, devices, tokens, programs and their scopes. Nothing else stands here.
+//! Tests of what is read: names and bytes, devices, tokens, programs, the texts that they reach, and scopes; and of what is told of
+//! wrong tokens. Nothing else stands here.
 #![tactic(auto)]
 
 #[cfg(test)]
@@ -8,8 +9,12 @@ mod basics;
 #[cfg(test)]
 mod devices;
 #[cfg(test)]
+mod imports;
+#[cfg(test)]
 mod programs;
 #[cfg(test)]
 mod scopes;
 #[cfg(test)]
 mod tokens;
+#[cfg(test)]
+mod wrong_tokens;

@@ -2,5 +2,5 @@ use Rattle.pict_front.specs.Answers.{plain_front}
 use Rattle.pict_top.proofs.Right.{accepted_runs_right}
 use Rattle.pict_tests.proofs.steps.accepted.Goals as goal
 
-pub returns-in-Ok-clause-right : goal.returns-in-Ok-clause-right
-returns-in-Ok-clause-right c = accepted_runs_right (plain_front c.in-Ok.front) c.in-Ok.ensures.accepted
+pub returns-in-Ok-front-clause-right : goal.returns-in-Ok-front-clause-right
+returns-in-Ok-front-clause-right c = accepted_runs_right (plain_front c.in-Ok-front.front) c.in-Ok-front.ensures.accepted

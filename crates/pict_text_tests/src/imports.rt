@@ -1,0 +1,274 @@
+// What a file reaches by its imports, and where it is refused.
+//
+// A row of a table is `ANSWER | NAME = TEXT | NAME = TEXT ..`: the texts of a shelf, of which the first is the file. The answer
+// is `Ok`, the number of declarations, and the names of the texts in the order in which their visits end; or the code of the
+// refusal, the name of the text in which it stands, and its place: the first byte and the one after the last. A line that
+// begins with `--` says what the rows below it are for.
+
+use pict_gather::{GatherError, Gathering, gather};
+use pict_outside::{Entry, MemoryShelf};
+use pict_syntax::{Bytes, Sources, Span, TEXT_LIMIT};
+use std::alloc::{AllocError, Global};
+use std::process::Abort;
+
+const TEXTS: &str = r#"
+Ok 2: L F | F = import "L" run printi!(twice 4) | L = def twice (n:Int):Int = (+ n n)
+Ok 3: L M F | F = import "L" import "M" run print!"f" | L = run print!"l" | M = import "L" run print!"m"
+I2 G 7..10 | F = import "G" | G = import "F"
+I1 F 7..10 | F = import "Q"
+I4 F 7..9 | F = import ""
+P1 F 7..13 | F = run () import "L"
+-- a text is visited once, where the first of its imports stands
+Ok 4: D B C F | F = import "B" import "C" run () | B = import "D" run () | C = import "D" run () | D = run ()
+Ok 1: L F | F = import "L" import "L" | L = run ()
+Ok 3: B D C F | F = import "C" import "B" | B = run () | C = import "D" import "B" run () | D = import "B" run ()
+-- a file that imports itself, under its own name and another
+I2 F 7..10 | F = import "F"
+I2 F 7..12 | ./F = import "F" | F = import "./F"
+-- names are bytes: an escape is its byte, and two names are two texts
+Ok 1: L F | F = import "\x4c" import "L" | L = run ()
+Ok 2: L ./L F | F = import "L" import "./L" | L = run () | ./L = run ()
+-- no text has the name of the prelude by itself
+Ok 1: prelude F | F = import "prelude" | prelude = run ()
+I1 F 7..16 | F = import "prelude"
+-- bad names
+I4 F 7..11 | F = import "-L" | -L = run ()
+I4 F 7..13 | F = import "\x7f" | L = run ()
+I4 F 7..14 | F = import "L\x0a" | L = run ()
+Ok 1:  ~- F | F = import " ~-" |  ~- = run ()
+-- each import is followed before the next is looked at, and a text is read before its imports
+I1 F 7..10 | F = import "Q" import ""
+I4 F 7..9 | F = import "" import "Q"
+L1 F 10..11 | F = import "" @
+P1 F 9..10 | F = import "")
+P1 L 0..1 | F = import "L" import "" | L = )
+L2 L 4..5 | F = import "L" | L = run "
+"#;
+
+/// The name of a text.
+fn name_of(name: &Bytes) -> &str {
+    match str::from_utf8(name.slice()) {
+        Ok(name) => name,
+        Err(_) => "?",
+    }
+}
+
+/// The answer where all was gathered.
+fn whole(alloc: Global, gathering: &Gathering) -> Result<String, AllocError> {
+    let mut answer = format!(in alloc; "Ok {}:", gathering.decs.len())?;
+    for name in &gathering.ended {
+        answer.push_str(" ")?;
+        answer.push_str(name_of(name))?;
+    }
+    Ok(answer)
+}
+
+/// What a file comes to, as a table has it.
+fn answer(
+    alloc: Global,
+    prelude: &[u8],
+    file: &str,
+    shelf: &mut MemoryShelf,
+) -> Result<String, AllocError> {
+    let mut sources = Sources::new(alloc);
+    let gathered = if prelude.is_empty() {
+        gather(alloc, None, file, shelf, &mut sources)
+    } else if prelude.len() as u64 <= TEXT_LIMIT {
+        gather(alloc, Some(prelude), file, shelf, &mut sources)
+    } else {
+        return Err(AllocError);
+    };
+    match gathered {
+        Ok(gathering) => whole(alloc, &gathering),
+        Err(GatherError::Named(code, Span { text, start, end })) => {
+            let name = match sources.list.get(text as usize) {
+                Some(source) => name_of(&source.name),
+                None => "no text",
+            };
+            format!(in alloc; "{code:?} {name} {start}..{end}")
+        }
+        Err(GatherError::Missing) => format!(in alloc; "Missing"),
+        Err(GatherError::Failed) => {
+            let name = match sources.list.last() {
+                Some(source) => name_of(&source.name),
+                None => "no text",
+            };
+            format!(in alloc; "Failed {name}")
+        }
+        Err(GatherError::Memory) => Err(AllocError),
+    }
+}
+
+/// A text under a name.
+fn entry_of(alloc: Global, name: &[u8], text: &[u8]) -> Result<Entry, AllocError> {
+    let name = name.to_vec(alloc)?;
+    let text = text.to_vec(alloc)?;
+    Ok(Entry { name, text })
+}
+
+/// Tries a row of the table.
+fn try_row(rt: &impl Abort, alloc: Global, wanted: &str, texts: &str) -> Result<(), AllocError> {
+    let Some((file, _)) = texts.split_once(" = ") else {
+        panic!(rt; "no file: {texts}");
+    };
+    let mut entries = Vec::new(alloc);
+    for text in texts.split(" | ") {
+        match text.split_once(" = ") {
+            None => panic!(rt; "no text: {text}"),
+            Some((name, text)) => {
+                entries.push(entry_of(alloc, name.as_bytes(), text.as_bytes())?)?;
+            }
+        }
+    }
+    let mut shelf = MemoryShelf::new(entries, Vec::new(alloc));
+    let found = answer(alloc, b"", file, &mut shelf)?;
+    assert!(rt; found.as_str() == wanted, "{texts}: {found}");
+    Ok(())
+}
+
+#[test]
+fn imports(rt: HostRuntime) -> Result<(), AllocError> {
+    for row in TEXTS.lines() {
+        if !row.is_empty() && !row.starts_with("--") {
+            match row.split_once(" | ") {
+                None => panic!(rt; "no row: {row}"),
+                Some((wanted, texts)) => try_row(&rt, rt.alloc(), wanted, texts)?,
+            }
+        }
+    }
+    Ok(())
+}
+
+/// The nesting of a text is looked at before its imports.
+#[test]
+fn nesting_before_imports(rt: HostRuntime) -> Result<(), AllocError> {
+    let alloc = rt.alloc();
+    let mut text = b"import \"\" run ".to_vec(alloc)?;
+    let mut open = vec![in alloc; b'('; 201]?;
+    text.append(&mut open)?;
+    let mut entries = Vec::new(alloc);
+    entries.push(entry_of(alloc, b"F", &text)?)?;
+    let mut shelf = MemoryShelf::new(entries, Vec::new(alloc));
+    let found = answer(alloc, b"", "F", &mut shelf)?;
+    assert!(rt; found.as_str() == "P2 F 214..215", "{found}");
+    Ok(())
+}
+
+/// So many texts, from `1` on, each of which imports the next, and the last one no text.
+fn chain_of(alloc: Global, count: u32) -> Result<Vec<Entry>, AllocError> {
+    let mut entries = Vec::new(alloc);
+    for number in 1..=count {
+        let name = format!(in alloc; "{number}")?;
+        let text = if number == count {
+            format!(in alloc; "run ()")?
+        } else {
+            let next = number.saturating_add(1);
+            format!(in alloc; "import \"{next}\" run ()")?
+        };
+        entries.push(entry_of(alloc, name.as_bytes(), text.as_bytes())?)?;
+    }
+    Ok(entries)
+}
+
+/// A chain of 64 texts is gathered. In one of 65 the last is one too many, also where it isn't there.
+#[test]
+fn long_chains(rt: HostRuntime) -> Result<(), AllocError> {
+    let alloc = rt.alloc();
+    let mut shelf = MemoryShelf::new(chain_of(alloc, 64)?, Vec::new(alloc));
+    let found = answer(alloc, b"", "1", &mut shelf)?;
+    assert!(rt; found.starts_with("Ok 64: 64 63 62 "), "{found}");
+    let mut shelf = MemoryShelf::new(chain_of(alloc, 65)?, Vec::new(alloc));
+    let found = answer(alloc, b"", "1", &mut shelf)?;
+    assert!(rt; found.as_str() == "I3 64 7..11", "{found}");
+    let mut entries = chain_of(alloc, 65)?;
+    drop(entries.pop());
+    let mut shelf = MemoryShelf::new(entries, Vec::new(alloc));
+    let found = answer(alloc, b"", "1", &mut shelf)?;
+    assert!(rt; found.as_str() == "I3 64 7..11", "{found}");
+    Ok(())
+}
+
+/// A text of so many bytes that begins with these, and is blank behind them.
+fn blanks(alloc: Global, front: &[u8], length: usize) -> Result<Vec<u8>, AllocError> {
+    let mut text = front.to_vec(alloc)?;
+    let more = length.saturating_sub(front.len());
+    let mut rest = vec![in alloc; b' '; more]?;
+    text.append(&mut rest)?;
+    Ok(text)
+}
+
+/// What `F`, which imports `L` and then `M`, comes to, by the lengths of the three.
+fn by_lengths(
+    alloc: Global,
+    file: usize,
+    first: usize,
+    second: usize,
+) -> Result<String, AllocError> {
+    let mut entries = Vec::new(alloc);
+    let name = b"F".to_vec(alloc)?;
+    let text = blanks(alloc, b"import \"L\" import \"M\"", file)?;
+    entries.push(Entry { name, text })?;
+    let name = b"L".to_vec(alloc)?;
+    let text = blanks(alloc, b"", first)?;
+    entries.push(Entry { name, text })?;
+    let name = b"M".to_vec(alloc)?;
+    let text = blanks(alloc, b"", second)?;
+    entries.push(Entry { name, text })?;
+    answer(
+        alloc,
+        b"run ()",
+        "F",
+        &mut MemoryShelf::new(entries, Vec::new(alloc)),
+    )
+}
+
+/// The bytes of a file and of the texts that it reaches are counted together, those of the prelude aren't, and the refusal
+/// stands at the text that is one too many bytes long. An empty text has room where none is left.
+#[test]
+fn bytes_together(rt: HostRuntime) -> Result<(), AllocError> {
+    let rows = [
+        (524_288, 524_288, 0, "Ok 1: L M F"),
+        (524_288, 524_289, 0, "B1 L 0..0"),
+        (524_288, 524_288, 1, "B1 M 0..0"),
+        (1_048_577, 0, 0, "B1 F 0..0"),
+    ];
+    for (file, first, second, wanted) in rows {
+        let found = by_lengths(rt.alloc(), file, first, second)?;
+        assert!(rt;
+            found.as_str() == wanted,
+            "{file} {first} {second}: {found}"
+        );
+    }
+    Ok(())
+}
+
+/// A shelf that fails, at the file and at an import; a file that isn't there; and a prelude: it is read behind the fetch of
+/// the file and before its visit, and its imports are passed over.
+#[test]
+fn shelves_and_preludes(rt: HostRuntime) -> Result<(), AllocError> {
+    let alloc = rt.alloc();
+    let rows = [
+        (1, "", "F", "Failed F"),
+        (2, "", "F", "Failed L"),
+        (3, "", "F", "Ok 2: L F"),
+        (0, "", "G", "Missing"),
+        (1, "run print!", "F", "Failed F"),
+        (0, "run print!", "G", "Missing"),
+        (0, "run print!", "B", "P1 prelude 10..10"),
+        (0, "import \"\" run () run ()", "F", "Ok 4: L F"),
+        (0, "import \"L\" run ()", "B", "L1 B 0..1"),
+    ];
+    for (fails, prelude, file, wanted) in rows {
+        let mut entries = Vec::new(alloc);
+        entries.push(entry_of(alloc, b"F", b"import \"L\" run ()")?)?;
+        entries.push(entry_of(alloc, b"L", b"run ()")?)?;
+        entries.push(entry_of(alloc, b"B", b"@")?)?;
+        let mut shelf = MemoryShelf::new(entries, vec![in alloc; fails]?);
+        let found = answer(alloc, prelude.as_bytes(), file, &mut shelf)?;
+        assert!(rt;
+            found.as_str() == wanted,
+            "{fails} {prelude} {file}: {found}"
+        );
+    }
+    Ok(())
+}
