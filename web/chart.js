@@ -13,6 +13,12 @@
   }
 
   // The events of a trace, or null where a line is none. An event's channel is null where something is printed.
+  // A trace alone: all lines, or those behind choices and the line `trace`.
+  pict.traceIn = function (text) {
+    const cut = /^trace\n/m.exec(text);
+    return cut ? text.slice(cut.index + cut[0].length) : text;
+  };
+
   pict.readTrace = function (text) {
     const lines = text.split('\n');
     if (lines.pop() !== '') return null;

@@ -1,7 +1,7 @@
 // The program's code behind one function, in a worker or in Node.
 'use strict';
 (function (pict) {
-  pict.COMMANDS = ['run', 'trace', 'check', 'code'];
+  pict.COMMANDS = ['run', 'trace', 'check', 'pick', 'picked', 'code'];
   const OUT = 4 << 20, ERR = 4096, MEMORY = 7, SPENT = 3;
   const NOTHING = { status: MEMORY, out: new Uint8Array(), err: new Uint8Array() };
 
@@ -13,18 +13,30 @@
       room: size => it.malloc(BigInt(Math.max(size, 1))),
       put: (at, bytes) => new Uint8Array(it.memory.buffer, Number(at), bytes.length).set(bytes),
       bytes: (at, size) => new Uint8Array(it.memory.buffer, Number(at), size).slice(),
+      putNumbers: (at, numbers) => new BigUint64Array(it.memory.buffer, Number(at), numbers.length).set(numbers.map(BigInt)),
       numbers: at => [...new BigUint64Array(it.memory.buffer, Number(at), 2)].map(Number),
     };
   }
 
-  // The status of a command over a text, what it prints and what it reports.
-  pict.call = async function (module, command, bare, fuel, text) {
-    const memory = await opened(module);
-    const rooms = [text.length, OUT, ERR, 16].map(memory.room), [at, out, err, lengths] = rooms;
+  // The program as the file main.pi, and the modules behind it, as one list of bytes, with how long each name and each text is.
+  pict.joined = function (text, modules) {
+    const encoded = it => new TextEncoder().encode(it), parts = [encoded('main.pi'), text];
+    for (const [name, module] of Object.entries(modules)) parts.push(encoded(name), encoded(module));
+    const bytes = new Uint8Array(parts.reduce((sum, it) => sum + it.length, 0));
+    let at = 0;
+    for (const it of parts) { bytes.set(it, at); at += it.length; }
+    return [bytes, parts.map(it => it.length)];
+  };
+
+  // The status of a job's command over its text and its modules, what it prints and what it reports.
+  pict.call = async function (module, { command, bare, fuel, seed = 0, text, modules = {} }) {
+    const memory = await opened(module), [bytes, sizes] = pict.joined(text, modules);
+    const rooms = [bytes.length, 8 * sizes.length, OUT, ERR, 16].map(memory.room), [at, cuts, out, err, lengths] = rooms;
     if (rooms.includes(0n)) return NOTHING;
-    memory.put(at, text);
-    const status = memory.code.pict_web_call(pict.COMMANDS.indexOf(command), bare ? 1 : 0, BigInt(fuel),
-      at, BigInt(text.length), out, BigInt(OUT), err, BigInt(ERR), lengths);
+    memory.put(at, bytes);
+    memory.putNumbers(cuts, sizes);
+    const status = memory.code.pict_web_call(pict.COMMANDS.indexOf(command), bare ? 1 : 0, BigInt(fuel), BigInt(seed),
+      at, BigInt(bytes.length), cuts, BigInt(sizes.length / 2), out, BigInt(OUT), err, BigInt(ERR), lengths);
     const [printed, reported] = memory.numbers(lengths);
     return { status: status & 255, out: memory.bytes(out, printed), err: memory.bytes(err, reported) };
   };
@@ -58,9 +70,9 @@
         answer({ ...await pict.steps(module, job.bare, job.text), last: true });
         return;
       }
-      const fuels = job.command === 'run' ? pict.fuels(job.fuel) : [BigInt(job.fuel)];
+      const prints = job.command === 'run' || job.command === 'pick', fuels = prints ? pict.fuels(job.fuel) : [BigInt(job.fuel)];
       for (const fuel of fuels) {
-        const said = await pict.call(module, job.command, job.bare, fuel, job.text);
+        const said = await pict.call(module, { ...job, fuel });
         const last = said.status !== SPENT || fuel === fuels[fuels.length - 1];
         answer({ ...said, last, fuel: String(fuel) });
         if (last) return;

@@ -1,7 +1,7 @@
 // The page: what its buttons, tabs and keys do.
 'use strict';
 (function (pict) {
-  const GREATEST = 1000000000, DEFAULT = '1000000', REFUSED = 1, SPENT = 3;
+  const GREATEST = 1000000000, DEFAULT = '1000000', REFUSED = 1, SPENT = 3, SEEDS = 18446744073709551616n;
   const VIEWS = ['run', 'steps', 'chart', 'trace', 'code', 'forms'];
   const ENDS = [
     'Done.', 'Refused.', 'The words have no listed shape.', 'The steps are spent; something is ready still.',
@@ -23,6 +23,13 @@
     const text = $('fuel').value.trim();
     return /^(0|[1-9][0-9]{0,9})$/.test(text) && Number(text) <= GREATEST ? text : null;
   };
+  // The number that chooses an order, '' for the oldest first, or null where it is no such number.
+  const seed = () => {
+    const text = $('seed').value.trim();
+    return text === '' || (/^(0|[1-9][0-9]{0,19})$/.test(text) && BigInt(text) < SEEDS) ? text : null;
+  };
+  // A command, or the one that does the same in the order that is chosen.
+  const ordered = command => seed() ? { run: 'pick', trace: 'picked' }[command] || command : command;
 
   // ---- the program
 
@@ -46,8 +53,9 @@
   // Has the worker do a command, and hands each of its answers on.
   function ask(command, then) {
     cancel();
-    const steps = fuel();
+    const steps = fuel(), order = seed();
     if (steps === null) { say(`Steps: a number from 0 to ${GREATEST}.`); $('fuel').focus(); return; }
+    if (order === null) { say(`Order: nothing, or a number from 0 to ${SEEDS - 1n}.`); $('seed').focus(); return; }
     if (!module) { say(without); return; }
     worker = worker || pict.startWorker(module);
     working(true);
@@ -59,7 +67,8 @@
       if (data.last) working(false);
       then(data);
     };
-    worker.postMessage({ command, bare: bare(), fuel: steps, text: pict.editor.bytes });
+    const job = { command: ordered(command), bare: bare(), fuel: steps, seed: order || '0' };
+    worker.postMessage({ ...job, text: pict.editor.bytes, modules: pict.MODULES });
   }
 
   // What a command of a view comes to, shown as it comes.
@@ -80,12 +89,12 @@
 
   // Shows a report with its line, a caret and what is said of it elsewhere; nothing where it is empty.
   function report(text) {
-    const found = /^(main\.pi|prelude):([0-9]+):([0-9]+): ([^\n]*)\n$/.exec(text), heading = found ? found[4] : text.trim();
+    const found = /^(.*):([0-9]+):([0-9]+): ([^\n]*)\n$/.exec(text), heading = found ? found[4] : text.trim();
     $('refusal').hidden = text === '';
     place = found && found[1] === 'main.pi' ? { line: Number(found[2]), column: Number(found[3]) } : null;
     faults = [];
     if (text === '') return;
-    const where = found ? `${found[1] === 'prelude' ? 'Prelude, line' : 'Line'} ${found[2]}, column ${found[3]}: ` : '';
+    const where = found ? `${place ? 'Line' : `${found[1]}, line`} ${found[2]}, column ${found[3]}: ` : '';
     $('report').textContent = where + heading;
     $('entry').innerHTML = pict.REFUSALS[heading] || '';
     $('goto').hidden = $('caret').hidden = !place;
@@ -156,11 +165,13 @@
     pict.editor.load(program.text);
     $('prelude').checked = !program.bare;
     $('fuel').value = program.fuel || DEFAULT;
+    $('seed').value = program.seed || '';
     changed();
   }
 
   async function share() {
-    const fragment = await pict.toFragment({ text: pict.editor.text, bare: bare(), fuel: fuel() || DEFAULT });
+    const settings = { bare: bare(), fuel: fuel() || DEFAULT, seed: seed() || '' };
+    const fragment = await pict.toFragment({ text: pict.editor.text, ...settings });
     history.replaceState(null, '', fragment);
     try {
       await navigator.clipboard.writeText(location.href);
@@ -241,6 +252,7 @@
     on('theme', 'click', theme);
     on('prelude', 'change', changed);
     on('fuel', 'change', changed);
+    on('seed', 'change', changed);
     on('goto', 'click', () => place && pict.editor.goTo(place.line, place.column));
     on('about-link', 'click', about);
     for (const key of VIEWS) on('tab-' + key, 'click', () => show(key));

@@ -34,7 +34,7 @@
 
   // A trace as a chart, so many rows at a time. `go` is called with the number of a step whose row is chosen.
   views.chart = function (said, go, from = 0) {
-    const events = pict.readTrace(textOf(said.out).replace(/[^\n]*$/, ''));
+    const events = pict.readTrace(pict.traceIn(textOf(said.out)).replace(/[^\n]*$/, ''));
     if (!events || events.length === 0) { panel(note(NOTHING.trace)); return; }
     const shown = events.slice(from, from + ROWS), width = Math.max(300, $('panel').clientWidth - 4);
     const turn = (textContent, to, disabled) =>

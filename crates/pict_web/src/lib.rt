@@ -1,15 +1,15 @@
-//! The command for a host that isn't Rattle: one call over one text and two buffers in memory.
+//! The command for a host that isn't Rattle: one call over texts and two buffers in memory.
 #![tactic(auto)]
 
 #[cfg(test)]
 mod tests;
 
-ghost use Rattle.std.specs.Prelude.{◌≡◌, ◌≤◌, Some, IfOk, length, take};
+ghost use Rattle.std.specs.Prelude.{◌≡◌, ◌≤◌, Some, IfOk, length, take, drop};
 ghost use Rattle.std.specs.Fmt.{decimal};
 ghost use Rattle.pict_outside.specs.Entries.{pairs_of};
-ghost use Rattle.pict_outside.specs.Texts as texts;
+ghost use Rattle.pict_outside.specs.Texts.{texts_of as held_texts};
 ghost use Rattle.pict_words.specs.Plain.{texts_of};
-ghost use Rattle.pict_web.specs.Asked.{words_for, texts_with};
+ghost use Rattle.pict_web.specs.Asked.{words_for, texts_cut};
 ghost use Rattle.pict_web.specs.Delivered.{IsDelivered, IsInBuffers, IsAnswered};
 
 use itoa::Buffer;
@@ -25,6 +25,14 @@ pub struct Lengths {
     pub reported: u64,
 }
 
+/// How many bytes the name of a text has, and how many the text itself.
+#[repr(C)]
+#[derive(Clone, Copy, Debug)]
+pub struct Cut {
+    pub name: u64,
+    pub text: u64,
+}
+
 /// How the command ended, and the sinks that it wrote on.
 #[derive(Drop)]
 struct Ended {
@@ -33,10 +41,12 @@ struct Ended {
     reported: MemorySink,
 }
 
-/// Runs (0), traces (1), checks (2) or lists the code of (any other `command`) a text, as the command of that word does with a
-/// file `main.pi` that holds it, and answers the number of the status. What is written on the output goes to the beginning of
-/// `out`, what is reported to that of `err`. `fuel` counts where the command runs the text. Where the output has more bytes
-/// than `out`, the status is that of a sink that failed, and `out` has a beginning of them.
+/// Runs (0), traces (1), checks (2), picks (3), writes what is picked (4) or lists the code of (any other `command`) the text
+/// `main.pi`, as the command of that word does with a file of this name, and answers the number of the status. `texts` has the
+/// names and the texts that there are, one name and one text behind the other, and `cuts` how long each is; the first of a name
+/// counts. What is written on the output goes to the beginning of `out`, what is reported to that of `err`. `fuel` counts where
+/// the command runs the text, and `seed` where it picks. Where the output has more bytes than `out`, the status is that of a sink
+/// that failed, and `out` has a beginning of them.
 #[tactic(auto, using(crate::proofs::Delivering::answered))]
 #[unsafe(no_mangle)]
 pub extern "C" fn pict_web_call(
@@ -44,7 +54,9 @@ pub extern "C" fn pict_web_call(
     command: u8,
     bare: bool,
     fuel: u64,
-    text: &[u8],
+    seed: u64,
+    texts: &[u8],
+    cuts: &[Cut],
     out: &mut [u8],
     err: &mut [u8],
     lengths: &mut Lengths,
@@ -53,10 +65,12 @@ pub extern "C" fn pict_web_call(
     ensures err_length { length err.new ≡ length err.old }
     ensures printed_fits { lengths.new.printed ≤ length out.new }
     ensures reported_fits { lengths.new.reported ≤ length err.new }
-    ensures answered { IsAnswered (words_for command bare (decimal fuel)) (texts.texts_of (texts_with text.now)) result
+    ensures answered { IsAnswered (words_for command bare (decimal fuel) (decimal seed)) (held_texts (texts_cut cuts.now texts.now)) result
         out.new lengths.new.printed err.new lengths.new.reported }
 {
-    match call(alloc, command, bare, fuel, text, out, err, lengths) {
+    match call(
+        alloc, command, bare, fuel, seed, texts, cuts, out, err, lengths,
+    ) {
         Ok(status) => status.number(),
         Err(AllocError) => {
             *lengths = Lengths {
@@ -75,7 +89,9 @@ fn call(
     command: u8,
     bare: bool,
     fuel: u64,
-    text: &[u8],
+    seed: u64,
+    texts: &[u8],
+    cuts: &[Cut],
     out: &mut [u8],
     err: &mut [u8],
     lengths: &mut Lengths,
@@ -84,12 +100,22 @@ fn call(
     ensures err_length { length err.new ≡ length err.old }
     ensures printed_fits { IfOk result (λ _. lengths.new.printed ≤ length out.new) }
     ensures reported_fits { IfOk result (λ _. lengths.new.reported ≤ length err.new) }
-    ensures answered { IfOk result (λ status. IsInBuffers (words_for command bare (decimal fuel)) (texts.texts_of (texts_with text.now)) status
+    ensures answered { IfOk result (λ status. IsInBuffers (words_for command bare (decimal fuel) (decimal seed)) (held_texts (texts_cut cuts.now texts.now)) status
         out.new lengths.new.printed err.new lengths.new.reported) }
 {
     let room = out.len() as u64;
     let report_room = err.len() as u64;
-    let ended = asked(alloc, command, bare, fuel, text, room, report_room)?;
+    let ended = asked(
+        alloc,
+        command,
+        bare,
+        fuel,
+        seed,
+        texts,
+        cuts,
+        room,
+        report_room,
+    )?;
     let printed = ended.printed.taken();
     let reported = ended.reported.taken();
     if out.len() < printed.len() || err.len() < reported.len() {
@@ -104,33 +130,38 @@ fn call(
     Ok(ended.status)
 }
 
-/// The command with its words over the one text, on two sinks of these capacities.
+/// The command with its words over the texts, on two sinks of these capacities.
 fn asked(
     alloc: Global,
     command: u8,
     bare: bool,
     fuel: u64,
-    text: &[u8],
+    seed: u64,
+    texts: &[u8],
+    cuts: &[Cut],
     room: u64,
     report_room: u64,
 ) -> Result<Ended, AllocError>
-    ensures { IfOk result (λ ended. IsDelivered (words_for command bare (decimal fuel)) (texts.texts_of (texts_with text.now))
+    ensures { IfOk result (λ ended. IsDelivered (words_for command bare (decimal fuel) (decimal seed)) (held_texts (texts_cut cuts.now texts.now))
         ended.status ended.printed.taken ended.reported.taken) }
 {
     let mut digits = Buffer::new();
-    let words = words_of(alloc, command, bare, digits.format(fuel))?;
-    let entries = entries_of(alloc, text)?;
+    let mut seed_digits = Buffer::new();
+    let fuel = digits.format(fuel);
+    let words = words_of(alloc, command, bare, fuel, seed_digits.format(seed))?;
+    let entries = entries_of(alloc, texts, cuts)?;
     over(alloc, &words, entries, room, report_room)
 }
 
-/// The words of the command, with this number of steps.
+/// The words of the command, with this number of steps and this seed.
 fn words_of<'a>(
     alloc: Global,
     command: u8,
     bare: bool,
     fuel: &'a str,
+    seed: &'a str,
 ) -> Result<Vec<&'a str>, AllocError>
-    ensures { IfOk result (λ words. texts_of words.items ≡ words_for command bare fuel.now) }
+    ensures { IfOk result (λ words. texts_of words.items ≡ words_for command bare fuel.now seed.now) }
 {
     match (command, bare) {
         (0, true) => Ok(vec![in alloc; "run", "--bare", "--fuel", fuel, "main.pi"]?),
@@ -139,20 +170,51 @@ fn words_of<'a>(
         (1, false) => Ok(vec![in alloc; "trace", "--fuel", fuel, "main.pi"]?),
         (2, true) => Ok(vec![in alloc; "check", "--bare", "main.pi"]?),
         (2, false) => Ok(vec![in alloc; "check", "main.pi"]?),
+        (3, true) => Ok(vec![in alloc; "pick", "--bare", "--fuel", fuel, seed, "main.pi"]?),
+        (3, false) => Ok(vec![in alloc; "pick", "--fuel", fuel, seed, "main.pi"]?),
+        (4, true) => Ok(vec![in alloc; "picked", "--bare", "--fuel", fuel, seed, "main.pi"]?),
+        (4, false) => Ok(vec![in alloc; "picked", "--fuel", fuel, seed, "main.pi"]?),
         (_, true) => Ok(vec![in alloc; "code", "--bare", "main.pi"]?),
         (_, false) => Ok(vec![in alloc; "code", "main.pi"]?),
     }
 }
 
-/// The one text under its name.
-fn entries_of(alloc: Global, text: &[u8]) -> Result<Vec<Entry>, AllocError>
-    ensures { IfOk result (λ entries. pairs_of entries.items ≡ texts_with text.now) }
+/// The texts by their names, each as long as its cut says, or as far as there are bytes.
+fn entries_of(alloc: Global, texts: &[u8], cuts: &[Cut]) -> Result<Vec<Entry>, AllocError>
+    ensures { IfOk result (λ entries. pairs_of entries.items ≡ texts_cut cuts.now texts.now) }
 {
-    let name = Vec::from_slice(alloc, b"main.pi")?;
-    let text = Vec::from_slice(alloc, text)?;
     let mut entries = Vec::new(alloc);
-    entries.push(Entry { name, text })?;
+    let mut rest = texts;
+    for cut in cuts {
+        let (name, behind) = cut_off(rest, cut.name);
+        let (text, left) = cut_off(behind, cut.text);
+        entries.push(entry(alloc, name, text)?)?;
+        rest = left;
+    }
     Ok(entries)
+}
+
+/// A text under its name.
+fn entry(alloc: Global, name: &[u8], text: &[u8]) -> Result<Entry, AllocError>
+    ensures name { IfOk result (λ it. it.name.items ≡ name.now) }
+    ensures text { IfOk result (λ it. it.text.items ≡ text.now) }
+{
+    Ok(Entry {
+        name: Vec::from_slice(alloc, name)?,
+        text: Vec::from_slice(alloc, text)?,
+    })
+}
+
+/// The first bytes, so many, or all where there are fewer, and those behind.
+fn cut_off(bytes: &[u8], count: u64) -> (&[u8], &[u8])
+    ensures first { result.0.now ≡ take count bytes.now }
+    ensures rest { result.1.now ≡ drop count bytes.now }
+{
+    if count < bytes.len() as u64 {
+        bytes.split_at(count as usize)
+    } else {
+        (bytes, &[])
+    }
 }
 
 /// The top call with these words over these texts, on two sinks of these capacities, whose writes fail nowhere else.
@@ -163,7 +225,7 @@ fn over(
     room: u64,
     report_room: u64,
 ) -> Result<Ended, AllocError>
-    ensures { IfOk result (λ ended. IsDelivered (texts_of words.now) (texts.texts_of (pairs_of entries.items))
+    ensures { IfOk result (λ ended. IsDelivered (texts_of words.now) (held_texts (pairs_of entries.items))
         ended.status ended.printed.taken ended.reported.taken) }
 {
     let mut shelf = MemoryShelf::new(entries, Vec::new(alloc));
