@@ -39,8 +39,15 @@ const EXAMPLES: [&str; 29] = [
     "source.pi",
 ];
 
-/// The examples that use the prelude.
-const WITH_PRELUDE: [&str; 2] = ["counter.pi", "broadcast.pi"];
+/// The examples that use the prelude; the last four import modules of `lib`.
+const WITH_PRELUDE: [&str; 6] = [
+    "counter.pi",
+    "broadcast.pi",
+    "words.pi",
+    "workers.pi",
+    "bank.pi",
+    "diamond.pi",
+];
 
 /// The example that runs without end.
 const WITHOUT_END: &str = "forever.pi";
