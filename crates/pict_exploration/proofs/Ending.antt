@@ -1,23 +1,20 @@
 -- Finished runs end in what is found.
-use Rattle.std.proofs.Common.{ℕ, zero, suc, ◌<◌, ◌≡◌, ◌⊎◌, inl, inr, Bool, true, false, not, ◌&&◌, nat_eq, cond, List, [], ◌∷◌, refl, sym, ap, ◌∙◌, subst, arith, Option, Some, None, option_map}
-use Rattle.pict_syntax.specs.declared.span.Span.{Span}
-use Rattle.pict_core.specs.Term.{Val, Pat, Process, Var, Chan, Int, Char, Boolean, Text, PrimitiveVal, Record, Zero, Par, New, Out, In, If}
-use Rattle.pict_core.specs.Closed.{IsClosed, IsOver, IsUnder}
-use Rattle.pict_core.specs.Configuration.{Entry, Configuration, IsConfiguration, opening}
-use Rattle.pict_core.specs.Step.{Choice, Finished, next, step_by, is_ready, is_partner, is_parked_reader, is_parked_message, reads, sends, is_channel, least, entry_at}
-use Rattle.pict_core.proofs.Stamps.{EntryClosed, least_closed, least_passes, least_stands}
-use Rattle.pict_core.proofs.Entries.{Each, Fails, none_passes, each_found}
+use Rattle.std.proofs.Common.{ℕ, zero, suc, ◌<◌, ◌≡◌, inl, inr, Bool, true, false, ◌&&◌, cond, List, [], ◌∷◌, refl, sym, ap, ◌∙◌, subst, arith, Option, Some, None, option_map}
+use Rattle.pict_core.specs.Term.{Val, Process, Var, Chan, Int, Char, Boolean, Text, PrimitiveVal, Record, Zero, Par, New, Out, In, If}
+use Rattle.pict_core.specs.Closed.{IsOver, IsUnder}
+use Rattle.pict_core.specs.Configuration.{Entry, Configuration, IsConfiguration}
+use Rattle.pict_core.specs.Step.{Finished, next, step_by, is_ready, is_partner, is_parked_reader, is_parked_message, reads, sends, least}
+use Rattle.pict_core.proofs.Stamps.{EntryClosed, least_closed, least_passes}
+use Rattle.pict_core.proofs.Entries.{Fails, none_passes, each_found}
 use Rattle.pict_core.proofs.Partners.{channel_is, and_right}
-use Rattle.pict_reduction.specs.Congruence.{Congruent, symmetric}
 use Rattle.pict_reduction.specs.Reading.{read, composition, declare, reading}
-use Rattle.pict_reduction.specs.Silent.{IsStill, is_silent, acts_silently, parks, is_chan, has_none}
+use Rattle.pict_reduction.specs.Silent.{IsStill, is_silent, acts_silently, parks, has_none}
 use Rattle.pict_reduction.proofs.Readings.{read_val}
 use Rattle.pict_reduction.proofs.Apart.{IsReached}
-use Rattle.pict_reduction.proofs.Inert.{SendsOn, ReadsOn, IsBelow, IsInert, inert_same}
+use Rattle.pict_reduction.proofs.Inert.{SendsOn, ReadsOn, IsInert, inert_same}
 use Rattle.pict_reduction.proofs.Finished.{finished_inert}
-use Rattle.pict_exploration.specs.Explored.{FreelyPrints, Found, Has, IsFoundAs, Explores}
 use Rattle.pict_exploration.specs.Laws.{FinishedRunsAreFound}
-use Rattle.pict_exploration.proofs.Covering.{prints_reached, cover_runs}
+use Rattle.pict_exploration.proofs.Covering.{prints_reached, cover_runs, found_reached}
 
 -- ---- what is inert doesn't meet itself
 
@@ -136,7 +133,7 @@ module _ (V : Configuration) (is : IsConfiguration V) (still : IsStill V) (inert
 pub finished_runs : FinishedRunsAreFound
 finished_runs p F u x C bytes h e =
     let f = cover_runs p F u x C bytes h in
-    let V = f.configuration in
-    let r : IsReached V = prints_reached p u bytes V (x.reached V bytes f.is) in
+    let V = f.vertex.configuration in
+    let r : IsReached V = found_reached p F u x f.vertex f.is in
     let inert : IsInert 0 (reading V) = (inert_same 0 (reading V) (reading C) f.same).1 (finished_inert C (prints_reached p u bytes C h) e) in
-    (f, still_finished V r.is (x.still V bytes f.is) (undeclared_inert V.channels (composition V.channels V.entries) inert))
+    (f, still_finished V r.is (x.still f.vertex f.is) (undeclared_inert V.channels (composition V.channels V.entries) inert))

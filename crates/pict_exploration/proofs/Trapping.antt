@@ -1,33 +1,29 @@
 -- Divisions by zero that some order meets are met where what is found stands.
 use Rattle.std.proofs.Common.{ℕ, zero, suc, ◌+◌, ◌≡◌, ◌⊎◌, inl, inr, Bool, true, false, nat_eq, ◌≤◌, List, [], ◌∷◌, ◌++◌, map, refl, sym, ap, ◌∙◌, subst, arith, cond, Option, Some, None, option_map, option_and_then}
-use Rattle.std.specs.Prelude.{IsPermutation}
 use Rattle.std.proofs.lemmas.List.Sorted.{IsPermutation-sym}
 use Rattle.pict_syntax.specs.declared.span.Span.{Span}
 use Rattle.pict_syntax.specs.declared.primitive.Primitive.{Primitive}
 use Rattle.pict_core.specs.Term.{Val, Pat, Process, Var, Chan, Int, Char, Boolean, Text, PrimitiveVal, Record, Zero, Par, New, Out, In, If}
-use Rattle.pict_core.specs.Closed.{IsClosed}
 use Rattle.pict_core.specs.Matching.{match_value}
 use Rattle.pict_core.specs.Primitives.{Effect, Leaves, Nothing, Answer, Trap, effect_of}
-use Rattle.pict_core.specs.Configuration.{Entry, Configuration, StampsRise, opening}
-use Rattle.pict_core.specs.Step.{Choice, StepOutcome, Steps, Traps, Wrong, Finished, IsChoice, free_step, is_ready, is_partner, least, entry_at, act, act_entry, leave, perform, printing, received, meet_reader, meet_message}
-use Rattle.pict_reduction.specs.Congruence.{Congruent, symmetric}
+use Rattle.pict_core.specs.Configuration.{Entry, Configuration, StampsRise}
+use Rattle.pict_core.specs.Step.{Choice, StepOutcome, Traps, IsChoice, free_step, is_ready, is_partner, least, entry_at, act, act_entry, leave, perform, printing, received, meet_reader, meet_message}
+use Rattle.pict_reduction.specs.Congruence.{symmetric}
 use Rattle.pict_reduction.specs.Reading.{naming, read, composition, declare, reading}
-use Rattle.pict_reduction.specs.Components.{Components, components, renamed, make_room, AreAlike}
+use Rattle.pict_reduction.specs.Components.{Components, components, renamed, AreAlike}
 use Rattle.pict_reduction.specs.Congruence.{renaming}
 use Rattle.pict_reduction.specs.Silent.{IsStill}
 use Rattle.pict_core.proofs.Stamps.{least_above}
 use Rattle.pict_core.proofs.Partners.{own_channel}
 use Rattle.std.proofs.lemmas.Bool.Decides.{nat_tests}
 use Rattle.pict_reduction.proofs.Natural.{effect_natural, replace_effect, replace_leaves}
-use Rattle.pict_reduction.proofs.Readings.{read_val}
 use Rattle.pict_reduction.proofs.Reflecting.{primitive_read}
 use Rattle.pict_reduction.proofs.Alike.{congruent_are_alike}
 use Rattle.pict_reduction.proofs.Apart.{IsReached}
 use Rattle.pict_reduction.proofs.Rebuilding.{Picks, here, there, Picked, permutation_picked}
-use Rattle.pict_reduction.proofs.Reaching.{readings, OutRead, out_read, primitive_back, reading_components, ready_by, never_partner, no_stand_primitive}
-use Rattle.pict_exploration.specs.Explored.{FreelyPrints, Found, Has, IsFoundAs, Explores}
+use Rattle.pict_reduction.proofs.Reaching.{readings, out_read, primitive_back, reading_components, ready_by, never_partner, no_stand_primitive}
 use Rattle.pict_exploration.specs.Laws.{TrapsAreFound}
-use Rattle.pict_exploration.proofs.Covering.{prints_reached, cover_runs}
+use Rattle.pict_exploration.proofs.Covering.{cover_runs, found_reached}
 
 -- ---- outputs that divide by zero
 
@@ -241,12 +237,12 @@ module _ (V : Configuration) (r : IsReached V) (still : IsStill V) (at : Span) w
 pub traps_found : TrapsAreFound
 traps_found p F u x C bytes choice at h c e =
     let f = cover_runs p F u x C bytes h in
-    let V = f.configuration in
-    let r : IsReached V = prints_reached p u bytes V (x.reached V bytes f.is) in
+    let V = f.vertex.configuration in
+    let r : IsReached V = found_reached p F u x f.vertex f.is in
     let t = choice_trap C choice at c e in
     let here : HasTrap at (components 0 (reading C)).primes = declared_trap 0 C.channels at (composition C.channels C.entries) (λ m. entry_trap m C.channels at t.0 t.1 C.entries t.2 t.3) in
     let alike : AreAlike 0 (components 0 (reading C)) (components 0 (reading V)) = congruent_are_alike 0 (reading C) (reading V) (symmetric f.same) in
     let there : HasTrap at (components 0 (reading V)).primes =
     picked_trap at _ _ (permutation_picked _ _ (IsPermutation-sym _ _ alike.same)) (each_trap alike.bijection at (components 0 (reading C)).primes here) in
-    let c' = traps_there V r (x.still V bytes f.is) at there in
+    let c' = traps_there V r (x.still f.vertex f.is) at there in
     (f, c'.0, c'.1, c'.2)

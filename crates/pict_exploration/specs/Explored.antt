@@ -3,7 +3,9 @@ use Rattle.std.specs.Prelude.{ℕ, ◌≡◌, List, [], ◌++◌, Some, slice_ge
 use Rattle.pict_core.specs.Term.{Process}
 use Rattle.pict_core.specs.Configuration.{Configuration, opening}
 use Rattle.pict_core.specs.Step.{Label, Choice, Free}
-use Rattle.pict_core.specs.Run.{printed_by}
+use Rattle.pict_core.specs.Run.{printed_by, bytes_of}
+use Rattle.pict_core.specs.Places.{Place}
+use Rattle.pict_core.specs.FreeRun.{FreelyRuns}
 use Rattle.pict_reduction.specs.Congruence.{Congruent}
 use Rattle.pict_reduction.specs.Reduction.{Reduces}
 use Rattle.pict_reduction.specs.Reading.{reading}
@@ -21,24 +23,34 @@ pub data ReducesTo (n : ℕ) (p : Process) : List ℕ → Process → Type 0 whe
   by_reduction : {q r : Process} {bytes more : List ℕ}
       → ReducesTo n p bytes q → Reduces n more q r → ReducesTo n p (bytes ++ more) r
 
--- what is found: configurations, each with the bytes that were printed on the way to it
-abbrev pub Found : Type 0
-Found = List (Configuration × List ℕ)
+-- What is found: a configuration, choices that lead to it, and the bytes that their steps print.
+pub record Vertex : Type 0 where
+  pub choices : List Place
+  pub bytes : List ℕ
+  pub configuration : Configuration
 
-abbrev pub Has : Found → Configuration → List ℕ → Type 0
-Has found C bytes = (i : ℕ) × (slice_get found i ≡ Some (C, bytes))
+-- The choices of the vertex lead from the opening configuration of p to its own, and print its bytes.
+pub record IsReachedByChoices (p : Process) (v : Vertex) : Type 0 where
+  pub labels : List (ℕ × Label)
+  pub runs : FreelyRuns (opening p) v.choices labels v.configuration
+  pub prints : bytes_of labels ≡ v.bytes
+
+abbrev pub Has : List Vertex → Vertex → Type 0
+Has found v = (i : ℕ) × (slice_get found i ≡ Some v)
 
 -- with these bytes a configuration is found whose reading is p, up to congruence
-pub record IsFoundAs (found : Found) (bytes : List ℕ) (p : Process) : Type 0 where
-  pub configuration : Configuration
-  pub is : Has found configuration bytes
-  pub same : Congruent 0 (reading configuration) p
+pub record IsFoundAs (found : List Vertex) (bytes : List ℕ) (p : Process) : Type 0 where
+  pub vertex : Vertex
+  pub is : Has found vertex
+  pub printed : vertex.bytes ≡ bytes
+  pub same : Congruent 0 (reading vertex.configuration) p
 
--- An exploration of a process. Each configuration that is found is reached with its bytes, and has no silent step left; the
--- opening one is found, up to congruence, and so is what each step of one that is found leads to.
-pub record Explores (p : Process) (found : Found) : Type 0 where
-  pub reached : (C : Configuration) (bytes : List ℕ) → Has found C bytes → FreelyPrints (opening p) bytes C
-  pub still : (C : Configuration) (bytes : List ℕ) → Has found C bytes → IsStill C
+-- An exploration of a process. Each vertex that is found is reached by its choices, and has no silent step left; the opening
+-- configuration is found, up to congruence, and so is what each step of one that is found leads to. Of choices whose step is
+-- wrong nothing is said.
+pub record Explores (p : Process) (found : List Vertex) : Type 0 where
+  pub reached : (v : Vertex) → Has found v → IsReachedByChoices p v
+  pub still : (v : Vertex) → Has found v → IsStill v.configuration
   pub opens : IsFoundAs found [] (reading (opening p))
-  pub steps : (C : Configuration) (bytes : List ℕ) (choice : Choice) (D : Configuration) (label : Label)
-      → Has found C bytes → Free C choice D label → IsFoundAs found (bytes ++ printed_by label) (reading D)
+  pub steps : (v : Vertex) (choice : Choice) (D : Configuration) (label : Label)
+      → Has found v → Free v.configuration choice D label → IsFoundAs found (v.bytes ++ printed_by label) (reading D)

@@ -1,6 +1,17 @@
 // Laws of the definitions. Each is a function that does nothing: its contract is the law.
 
-ghost use Rattle.pict_exploration.specs.Laws.{ExplorationsCoverReductions, ExplorationsCoverRuns, FinishedRunsAreFound, TrapsAreFound};
+ghost use Rattle.pict_exploration.specs.Laws.{ExplorationsCoverReductions, ExplorationsCoverRuns, FinishedRunsAreFound, FoundIsReduced, PrintingsHavePlaces, TrapsAreFound};
+
+/// Free steps of a closed process lead to a configuration and print certain bytes exactly where choices by place do.
+pub fn law_printings_have_places()
+    ensures { PrintingsHavePlaces }
+{}
+
+/// What an exploration of a closed process finds is what the process reduces to, up to congruence, by reductions that print the
+/// bytes with which it is found.
+pub fn law_found_is_reduced()
+    ensures { FoundIsReduced }
+{}
 
 /// Whatever free steps of a closed process reach, in any order, is found by an exploration of it, up to congruence, with the
 /// bytes that they print.
