@@ -73,3 +73,7 @@ settled xss mid new c j w taken stays low m n at there kept =
 
 pub as_many_items : (rs : List (Ranking Waiting)) → length (items_of rs) ≡ length rs
 as_many_items rs = length-map rs (λ (r : Ranking Waiting). r.items)
+
+-- where the same wait everywhere there are as many channels
+pub same_many : (rs ss : List (Ranking Waiting)) → items_of ss ≡ items_of rs → length ss ≡ length rs
+same_many rs ss e = sym (as_many_items ss) ∙ ap length e ∙ as_many_items rs

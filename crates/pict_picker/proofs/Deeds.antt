@@ -14,7 +14,7 @@ use Rattle.pict_code.specs.Instruction.{Op, CodePat}
 use Rattle.pict_code.specs.Nodes.{Place, places, input_op}
 use Rattle.pict_code.specs.ReadBack.{unleveled}
 use Rattle.pict_code.specs.declared.instruction.Node as written
-use Rattle.pict_heap.specs.HeapState.{KeepsWords}
+use Rattle.pict_heap.specs.HeapState.{HeapState, KeepsWords}
 use Rattle.pict_heap.specs.Packed.{packed, FitsWord}
 use Rattle.pict_heap.specs.declared.word.Word.TheVariants as word
 use Rattle.pict_view.specs.View.{list_at}
@@ -23,6 +23,7 @@ use Rattle.pict_desk.specs.Code.{core_in}
 use Rattle.pict_desk.specs.Constants.{OnlyMakes}
 use Rattle.pict_desk.specs.Known.{known, operand_value}
 use Rattle.pict_desk.specs.Pairs.{IsPair, ArePairs}
+use Rattle.pict_desk.specs.Room.{KeepsHeap}
 use Rattle.pict_desk.specs.declared.desk.Desk.{Desk}
 use Rattle.pict_desk.specs.declared.kept.Kept.{Kept}
 use Rattle.pict_desk.proofs.Making.{keeps_all, pairs_keep}
@@ -44,6 +45,10 @@ use Rattle.pict_picker.proofs.Standing.{part_waits}
 
 pub keeps_desk : (core : Process) (d : Desk) → IsDesk core d → KeepsDesk core d d
 keeps_desk core d is = record { words = keeps_all d.heap; desk = is }
+
+-- a heap that is as it was keeps its texts and its records
+pub heap_stays : (old new : HeapState) → new ≡ old → KeepsHeap old new
+heap_stays old new e = record { texts = ap (λ (h : HeapState). h.texts) e; records = ap (λ (h : HeapState). h.records) e }
 
 -- words may have been made
 pub makes_desk : (core : Process) (old new : Desk) → OnlyMakes old new → IsDesk core old → KeepsDesk core old new

@@ -1,11 +1,13 @@
 -- What primitives do, as deeds.
-use Rattle.std.proofs.Common.{ℕ, ◌≡◌, List, refl, sym, ap, ◌∙◌, subst, Option, Some, None, IsSome}
+use Rattle.std.proofs.Common.{ℕ, ◌≡◌, List, [], Ok, refl, sym, ap, ◌∙◌, subst, Option, Some, None, IsSome}
 use Rattle.pict_syntax.specs.declared.primitive.Primitive.{Primitive}
+use Rattle.pict_syntax.specs.declared.primitive.Primitive.TheVariants as primitive
 use Rattle.pict_syntax.specs.declared.span.Span.{Span}
-use Rattle.pict_core.specs.Term.{Val, Out}
+use Rattle.pict_core.specs.Term.{Val, Text, Zero, Out}
 use Rattle.pict_core.specs.Deed as deeds
-use Rattle.pict_core.specs.Primitives.{Effect, Answer, answers, effect_of}
-use Rattle.pict_core.specs.Step.{Quiet, printing}
+use Rattle.pict_core.specs.Deed.{leaves}
+use Rattle.pict_core.specs.Primitives.{Effect, Leaves, Nothing, Answer, Trap, answers, effect_of}
+use Rattle.pict_core.specs.Step.{Label, Quiet, printing}
 use Rattle.pict_heap.specs.Fields.{text_bytes}
 use Rattle.pict_heap.specs.HeapState.{HeapState, value_of, text_of, KeepsWords}
 use Rattle.pict_heap.specs.declared.word.Word.{Word}
@@ -22,9 +24,11 @@ use Rattle.pict_desk.specs.Room.{OnlyMakesRoom}
 use Rattle.pict_desk.specs.declared.desk.Desk.{Desk}
 use Rattle.pict_desk.specs.declared.kept.Kept.{Kept}
 use Rattle.pict_desk.proofs.Making.{keeps_more}
-use Rattle.pict_desk.proofs.MakingRoom.{keeps_words, value_kept}
+use Rattle.pict_desk.proofs.MakingRoom.{keeps_words, piles_kept, uses_nothing, value_kept}
 use Rattle.pict_picker.specs.Calling.{HasEffect}
+use Rattle.pict_picker.specs.Deeds.{IsUndone}
 use Rattle.pict_picker.specs.Waiting.{kept_process}
+use Rattle.pict_picker.specs.declared.deed.Deed.{Deed}
 use Rattle.pict_picker.specs.declared.deed.Deed.TheVariants as deed
 use Rattle.pict_picker.specs.declared.waiting.Waiting.TheVariants.{Output}
 
@@ -108,7 +112,16 @@ module _ (old new : HeapState) (keeps : KeepsWords old new) where
   need_keeps (act.Spell k n) is = refl
   need_keeps act.ZeroDivisor is = refl
 
+-- only `print` takes a text
+pub of_text : (p : Primitive) (bytes : List ℕ) (e : Effect) → effect_of p (Text bytes) ≡ Some e → effect_of primitive.Print (Text bytes) ≡ Some e
+of_text primitive.Print bytes e is = is
+of_text _ bytes e is = cc
+
 -- ---- words that are made
+
+-- nothing has changed
+pub room_stays : (d : Desk) → OnlyMakesRoom d d
+room_stays d = record { heap = record { texts = refl; records = refl }; room = uses_nothing d.heap.room; pending = piles_kept d.pending; values = refl }
 
 module _ (old mid : Desk) (r : OnlyMakesRoom old mid) where
   pub makes_room : OnlyMakes old mid
@@ -138,3 +151,38 @@ same_effect x e o f g = let both : Some x ≡ Some e = sym f ∙ g in cc
 pub no_effect : (o : Option Effect) → o ≡ None → IsSome o → ⊥
 no_effect None e some = cc
 no_effect (Some x) e some = cc
+
+-- ---- where nothing is done
+
+stops_leave : (at span : Span) (label : Label) (l : Leaves) → deeds.Stops span ≡ leaves at label l → l ≡ Trap
+stops_leave at span label Nothing e = cc
+stops_leave at span label (Answer k a) e = cc
+stops_leave at span label Trap e = refl
+
+-- a deed that is undone has a trap for its effect
+pub undone_traps : (h : HeapState) (e : Effect) (at : Span) (d : Deed) → HasEffect h e at d → IsUndone (Ok d) → e.leaves ≡ Trap
+undone_traps h e at (deed.Stops span) has u = stops_leave at span (printing e.printed) e.leaves (has.is Zero [] 0 Zero)
+undone_traps h e at (deed.Ends word) has u = absurd u
+undone_traps h e at (deed.Keeps w word) has u = absurd u
+undone_traps h e at (deed.Forks left right) has u = absurd u
+undone_traps h e at (deed.Opens part) has u = absurd u
+undone_traps h e at (deed.Waits c) has u = absurd u
+undone_traps h e at (deed.Parks c kept) has u = absurd u
+undone_traps h e at (deed.Serves c m b body) has u = absurd u
+undone_traps h e at (deed.Takes c m b body) has u = absurd u
+
+traps_zero : (h : HeapState) (a : Act) → (effect_act h a).leaves ≡ Trap → a ≡ act.ZeroDivisor
+traps_zero h (act.Print w) e = cc
+traps_zero h (act.Answer k a) e = cc
+traps_zero h (act.PrintAnswer w k) e = cc
+traps_zero h (act.Join k a b) e = cc
+traps_zero h (act.Spell k n) e = cc
+traps_zero h act.ZeroDivisor e = refl
+
+-- a trap is a deed that stops
+pub trap_stops : (h : HeapState) (e : Effect) (at : Span) → e.leaves ≡ Trap → HasEffect h e at (deed.Stops at)
+trap_stops h e at trap = record { is = λ core lists j own. ap (leaves at (printing e.printed)) (sym trap); fits = λ core lists j own. tt }
+
+-- and the act divides by zero
+pub undone_zero : (old new : HeapState) (a : Act) (at : Span) (d : Deed) → HasEffect new (effect_act old a) at d → IsUndone (Ok d) → a ≡ act.ZeroDivisor
+undone_zero old new a at d has u = traps_zero old a (undone_traps new (effect_act old a) at d has u)

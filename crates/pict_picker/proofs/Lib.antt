@@ -6,6 +6,7 @@ pub mod AtChannel
 pub mod Channels
 pub mod Acts
 pub mod Deeds
+pub mod Widths
 pub mod Serving
 pub mod ReadNodes
 pub mod Taken
@@ -13,6 +14,7 @@ pub mod Effects
 pub mod Outputs
 pub mod Places
 pub mod Steps
+pub mod Waits
 pub mod Whole
 pub mod Counts
 pub mod Opening

@@ -1,5 +1,5 @@
 -- A step at a place, from the deed that is placed there.
-use Rattle.std.proofs.Common.{ℕ, ◌<◌, ◌≡◌, ◌≢◌, Bool, true, false, cond, List, [], ◌∷◌, length, map, filter, refl, sym, ap, ◌∙◌, subst, Some}
+use Rattle.std.proofs.Common.{ℕ, ◌≡◌, ◌≢◌, Bool, true, false, cond, List, [], ◌∷◌, length, map, filter, refl, sym, ap, ◌∙◌, subst, Some}
 use Rattle.std.specs.List.{AllByRecursion, slice_get}
 use Rattle.pict_syntax.specs.declared.span.Span.{Span}
 use Rattle.pict_core.specs.Term.{Process}
@@ -22,12 +22,11 @@ use Rattle.pict_desk.specs.declared.desk.Desk.{Desk}
 use Rattle.pict_picker.specs.Acting.{MayAct}
 use Rattle.pict_picker.specs.Deeds.{deed_at, deed_of, FitsDeed, IsDeed}
 use Rattle.pict_picker.specs.Events.{label_of, trap_of}
-use Rattle.pict_picker.specs.Lists.{SameItems, grows_at, MayPlace, outcome_of, IsPlaced}
+use Rattle.pict_picker.specs.Lists.{SameItems, MayPlace, outcome_of, IsPlaced}
 use Rattle.pict_picker.specs.Picker.{channel_processes, view_of_lists, IsDesk, AreLists}
 use Rattle.pict_picker.specs.Stepping.{place, IsRightAt, IsStepAt}
 use Rattle.pict_picker.specs.Waiting.{processes_of, AreWaiting, AreParked}
 use Rattle.pict_picker.specs.declared.deed.Deed.{Deed}
-use Rattle.pict_picker.specs.declared.deed.Deed.TheVariants as deed
 use Rattle.pict_picker.specs.declared.did.Did.{Did}
 use Rattle.pict_picker.specs.declared.did.Did.TheVariants as did
 use Rattle.pict_picker.specs.declared.lists.Lists.{Lists}
@@ -93,13 +92,6 @@ module _ (v : View) (i j : ℕ) (apart : KeepsApart v) (r : IsRightAt v i j) whe
     stays_apart same = apart_by answer r.configuration same (simulates r.configuration r.is r.stands)
 
 -- ---- from the deed of a process to its place in the lists
-
--- the channel at which one more may wait is there
-pub grows_by : (core : Process) (h : HeapState) (lists : List (List Process)) (j : ℕ) (own : Process) (d : Deed) → FitsDeed core h lists j own d → (c : ℕ) → grows_at d ≡ Some c → c < length lists
-grows_by core h lists j own (deed.Waits k) f c e = let same : k ≡ c = cc in subst (λ n. n < length lists) same f.0
-grows_by core h lists j own (deed.Parks k kept) f c e = let same : k ≡ c = cc in subst (λ n. n < length lists) same f.0
-grows_by core h lists j own (deed.Serves k m b w) f c e = let same : k ≡ c = cc in subst (λ n. n < length lists) same f.0
-grows_by core h lists j own _ f c e = cc
 
 module _ (core : Process) (old new : HeapState) (keeps : KeepsWords old new) (first made : Lists) (are : AreLists core old first) (same : SameItems first made) where
   pub ready_same : processes_of core new made.ready.items ≡ processes_of core old first.ready.items

@@ -1,5 +1,6 @@
 -- What a process does in a step, by words.
-use Rattle.std.specs.Prelude.{◌≡◌, ◌<◌, ℕ, true, List, length, slice_index_or, Option, Some, None}
+use Rattle.std.specs.Prelude.{◌≡◌, ◌<◌, ℕ, true, List, length, slice_index_or, Option, Some, None, Result, Ok, Err}
+use Rattle.std.specs.declared.alloc.AllocError.{AllocError}
 use Rattle.pict_core.specs.Term.{Process, Zero}
 use Rattle.pict_core.specs.Deed as deeds
 use Rattle.pict_core.specs.Step.{Label, Quiet, printing}
@@ -64,3 +65,9 @@ deed_at lists j own = deeds.deed (length lists) (partner_at j lists own) own
 pub record IsDeed (core : Process) (h : HeapState) (lists : List (List Process)) (j : ℕ) (own : Process) (d : Deed) : Type 0 where
   pub is : deed_at lists j own ≡ deed_of core h lists j own d
   pub fits : FitsDeed core h lists j own d
+
+-- Nothing is done: memory is wanting, or the step divides by zero.
+abbrev pub IsUndone : Result Deed AllocError → Type 0
+IsUndone (Err error) = Unit {0}
+IsUndone (Ok (deed.Stops at)) = Unit {0}
+IsUndone (Ok d) = ⊥

@@ -38,18 +38,18 @@ grows_at (deed.Parks c kept) = Some c
 grows_at (deed.Serves c message replicated body) = Some c
 grows_at _ = None
 
--- there is room for one more that is ready, for one more channel, and for one more at the deed's channel
-pub record HasRoomIn (lists : Lists) (d : Deed) : Type 0 where
+-- there is room for one more that is ready, for one more channel, and for one more at this channel, if one is told
+pub record HasRoomIn (lists : Lists) (channel : Option ℕ) : Type 0 where
   pub ready : 1 ≤ lists.ready.room
   pub channels : length lists.channels.items + 1 ≤ vec_capacity lists.channels
-  pub parked : (c : ℕ) → grows_at d ≡ Some c → 1 ≤ room_at c lists.channels.items
+  pub parked : (c : ℕ) → channel ≡ Some c → 1 ≤ room_at c lists.channels.items
 
 -- who is ready once the i-th ready process has acted, which stays or leaves
 abbrev pub left_ready : ℕ → List Waiting → Bool → List Waiting
 left_ready i ready true = ready
 left_ready i ready false = without i ready
 
--- The deed is one of the i-th ready process.
+-- The words of the deed fit these lists, in which this is the i-th ready process.
 pub record MayPlace (core : Process) (h : HeapState) (lists : Lists) (i j : ℕ) (d : Deed) : Type 0 where
   pub are : AreLists core h lists
   pub own : Process

@@ -12,6 +12,10 @@ stands_at (Out (Chan c) message at) = Some (c, true)
 stands_at (In (Chan c) replicated pattern body) = Some (c, false)
 stands_at _ = None
 
+-- the channel alone
+abbrev pub channel_in : Option (ℕ × Bool) → Option ℕ
+channel_in stands = option_map (λ (s : ℕ × Bool). s.0) stands
+
 -- the same of a node with this instruction, where its operand has the value that is told
 abbrev pub stands_by : (Val → Val) → Op → Option (ℕ × Bool)
 stands_by value (op.Out chan message at) = option_map (λ c. (c, true)) (channel_named (value chan))

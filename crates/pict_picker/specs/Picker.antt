@@ -1,15 +1,16 @@
 -- What a picker stands for, and what it keeps from call to call.
-use Rattle.std.specs.Prelude.{◌≡◌, ◌≤◌, List, map, length}
+use Rattle.std.specs.Prelude.{◌≡◌, ◌≤◌, ℕ, List, map, length}
 use Rattle.std.specs.List.{AllByRecursion}
 use Rattle.pict_core.specs.Term.{Process}
 use Rattle.pict_code.specs.Nodes.{Place, places}
 use Rattle.pict_code.specs.Plain.{plain_code}
 use Rattle.pict_code.specs.ReadBack.{core_of}
-use Rattle.pict_heap.specs.HeapState.{HeapState, KeepsWords}
+use Rattle.pict_heap.specs.HeapState.{HeapState}
 use Rattle.pict_ranked.specs.Ranking.{Ranking}
 use Rattle.pict_view.specs.View.{View, KeepsApart}
 use Rattle.pict_desk.specs.Code.{IsCode}
 use Rattle.pict_desk.specs.Pairs.{ArePairs}
+use Rattle.pict_desk.specs.Room.{KeepsHeap}
 use Rattle.pict_desk.specs.declared.desk.Desk.{Desk}
 use Rattle.pict_picker.specs.Waiting.{processes_of, AreWaiting, AreParked}
 use Rattle.pict_picker.specs.declared.lists.Lists.{Lists}
@@ -42,6 +43,10 @@ core_in p = core_of (plain_code p.code)
 abbrev pub heap_of : Picker → HeapState
 heap_of p = p.desk.heap
 
+-- how many channels are made: each has a list
+abbrev pub channels_of : Picker → ℕ
+channels_of p = length p.lists.channels.items
+
 -- the view of a picker
 abbrev pub view_of : Picker → View
 view_of p = view_of_lists (core_in p) (heap_of p) p.lists
@@ -56,19 +61,18 @@ pub record AreLists (core : Process) (h : HeapState) (lists : Lists) : Type 0 wh
   pub ready : AreWaiting core h lists.ready.items
   pub parked : AllByRecursion (AreParked core h) (channel_items lists)
 
--- What holds of a picker between two calls. Its code is that of a closed process, and so are its processes. At each channel
--- messages wait, or readers, and never both.
+-- What holds of a picker between two calls. Its code is that of a closed process, and its processes are of this code. At each
+-- channel messages wait, or readers, and never both.
 pub record IsPicker (p : Picker) : Type 0 where
   pub code : IsCode (plain_code p.code)
   pub desk : IsDesk (core_in p) p.desk
   pub lists : AreLists (core_in p) (heap_of p) p.lists
   pub apart : KeepsApart (view_of p)
 
--- The same processes stand in the same places, and all words stand for what they stood for. The heap may have more words, and
--- there may be more room.
+-- Nothing has changed but room, and the values of levels, which count only while a process acts.
 pub record IsUnchanged (old new : Picker) : Type 0 where
   pub code : new.code ≡ old.code
   pub ready : new.lists.ready.items ≡ old.lists.ready.items
   pub parked : channel_items new.lists ≡ channel_items old.lists
-  pub words : KeepsWords (heap_of old) (heap_of new)
+  pub heap : KeepsHeap (heap_of old) (heap_of new)
   pub view : view_of new ≡ view_of old

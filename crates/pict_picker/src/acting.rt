@@ -1,12 +1,13 @@
 // The deed of a process.
-ghost use Rattle.std.specs.Prelude.{◌≡◌, IfOk, Some, slice_get};
+ghost use Rattle.std.specs.Prelude.{◌≡◌, ◌<◌, ◌^◌, IfOk, Some, length, slice_get};
 ghost use Rattle.pict_core.specs.Plain.{plain_val};
 ghost use Rattle.pict_core.specs.Term.{Process};
 ghost use Rattle.pict_code.specs.Nodes.{places, input_op};
 ghost use Rattle.pict_code.specs.Plain.{plain_op, plain_pat};
 ghost use Rattle.pict_desk.specs.Code.{core_in};
+ghost use Rattle.pict_desk.specs.Room.{KeepsHeap};
 ghost use Rattle.pict_picker.specs.Acting.{ActsBy, MayAct};
-ghost use Rattle.pict_picker.specs.Deeds.{IsDeed};
+ghost use Rattle.pict_picker.specs.Deeds.{IsDeed, IsUndone};
 ghost use Rattle.pict_picker.specs.Parts.{KeepsDesk};
 ghost use Rattle.pict_picker.specs.Picker.{AreLists, channel_processes};
 ghost use Rattle.pict_picker.specs.Waiting.{node_process, processes_of, IsNode};
@@ -41,6 +42,7 @@ fn input(
         (input_op replicated (plain_val chan.now) (plain_pat pattern.now) part) own
         → IfOk result (IsDeed (core_in code.now) desk.new.heap (channel_processes (core_in code.now) desk.old.heap lists.now) j own) }
     ensures rest { KeepsDesk (core_in code.now) desk.old desk.new }
+    ensures heap { desk.new.heap ≡ desk.old.heap }
 {
     match channel_at_hand(chan, &desk.values) {
         Some(channel) => receive(
@@ -69,10 +71,12 @@ fn act_by(
     op: &Op,
 ) -> Result<Deed, AllocError>
     requires lists { AreLists (core_in code.now) desk.old.heap lists.now }
+    requires few { length lists.now.channels.items < 2 ^ 32 }
     requires acts { (own : Process) × ActsBy code.now desk.old (channel_processes (core_in code.now) desk.old.heap lists.now) j (plain_op op.now) own }
     ensures deed { (own : Process) → ActsBy code.now desk.old (channel_processes (core_in code.now) desk.old.heap lists.now) j (plain_op op.now) own
         → IfOk result (IsDeed (core_in code.now) desk.new.heap (channel_processes (core_in code.now) desk.old.heap lists.now) j own) }
     ensures rest { KeepsDesk (core_in code.now) desk.old desk.new }
+    ensures undone { IsUndone result → KeepsHeap desk.old.heap desk.new.heap }
 {
     match op {
         Op::Zero => Ok(Deed::Ends(None)),
@@ -100,12 +104,14 @@ fn act_node(
     frame: &[(u64, u64)],
 ) -> Result<Deed, AllocError>
     requires lists { AreLists (core_in code.now) desk.old.heap lists.now }
+    requires few { length lists.now.channels.items < 2 ^ 32 }
     requires node { IsNode (core_in code.now) desk.old.heap number frame.now }
     requires acts { MayAct code.now desk.old (channel_processes (core_in code.now) desk.old.heap lists.now) j
         (node_process desk.old.heap frame.now (slice_get (places 0 (core_in code.now)) number)) }
     ensures deed { IfOk result (IsDeed (core_in code.now) desk.new.heap (channel_processes (core_in code.now) desk.old.heap lists.now) j
         (node_process desk.old.heap frame.now (slice_get (places 0 (core_in code.now)) number))) }
     ensures rest { KeepsDesk (core_in code.now) desk.old desk.new }
+    ensures undone { IsUndone result → KeepsHeap desk.old.heap desk.new.heap }
 {
     let node = &code[number as usize];
     read_frame(desk, &node.frame, frame);
@@ -113,7 +119,8 @@ fn act_node(
 }
 
 /// What the `i`-th ready process does, with the `j`-th that waits at its channel, before any list changes. The only error is
-/// want of memory; whatever the answer, all words stand for what they stood for.
+/// want of memory. Whatever the answer, all words stand for what they stood for; after an error or a trap the heap has the texts
+/// and the records that it had.
 pub(crate) fn act(
     alloc: Global,
     code: &[Node],
@@ -123,11 +130,13 @@ pub(crate) fn act(
     j: usize,
 ) -> Result<Deed, AllocError>
     requires lists { AreLists (core_in code.now) desk.old.heap lists.now }
+    requires few { length lists.now.channels.items < 2 ^ 32 }
     requires acts { (own : Process) × (slice_get (processes_of (core_in code.now) desk.old.heap lists.now.ready.items) i ≡ Some own)
         × MayAct code.now desk.old (channel_processes (core_in code.now) desk.old.heap lists.now) j own }
     ensures deed { (own : Process) → slice_get (processes_of (core_in code.now) desk.old.heap lists.now.ready.items) i ≡ Some own
         → IfOk result (IsDeed (core_in code.now) desk.new.heap (channel_processes (core_in code.now) desk.old.heap lists.now) j own) }
     ensures rest { KeepsDesk (core_in code.now) desk.old desk.new }
+    ensures undone { IsUndone result → KeepsHeap desk.old.heap desk.new.heap }
 {
     match lists.ready.get(i) {
         Waiting::Node(number, frame) => act_node(alloc, code, desk, lists, j, *number, frame),

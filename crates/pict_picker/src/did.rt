@@ -19,7 +19,7 @@ pub enum Did {
     },
     /// This text or number is printed. A number is printed as its decimal text.
     Print(Word),
-    /// The step divides by zero, for the output at this place. It changes nothing but room and words that nothing stands for.
+    /// The step divides by zero, for the output at this place. It changes nothing but room.
     Trapped(Span),
 }
 

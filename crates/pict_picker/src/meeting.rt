@@ -1,5 +1,6 @@
 // The deeds of outputs and inputs at a channel.
-ghost use Rattle.std.specs.Prelude.{◌≡◌, ◌<◌, ℕ, Bool, List, length, IfOk, IsSome};
+ghost use Rattle.std.specs.Prelude.{◌≡◌, ◌<◌, ◌≤◌, [], ℕ, Bool, List, length, map, slice_get, IfOk, IsSome, Ok};
+ghost use Rattle.std.specs.Vec.{vec_capacity};
 ghost use Rattle.std.specs.List.{AllByRecursion};
 ghost use Rattle.pict_syntax.specs.declared.span.Span.{Span as AnySpan};
 ghost use Rattle.pict_core.specs.Matching.{match_value};
@@ -7,18 +8,18 @@ ghost use Rattle.pict_core.specs.Term.{Process, Val};
 ghost use Rattle.pict_code.specs.Instruction.{CodePat as AnyPattern};
 ghost use Rattle.pict_code.specs.Levels.{Rises};
 ghost use Rattle.pict_code.specs.Nodes.{input_op};
-ghost use Rattle.pict_code.specs.Plain.{plain_op, plain_pat};
+ghost use Rattle.pict_code.specs.Plain.{plain_node, plain_op, plain_pat};
 ghost use Rattle.pict_code.specs.ReadBack.{unleveled};
 ghost use Rattle.pict_desk.specs.Binding.{levels_of, BindsPattern};
 ghost use Rattle.pict_desk.specs.Code.{core_in};
 ghost use Rattle.pict_desk.specs.Pairs.{IsPair, ArePairs};
 ghost use Rattle.pict_picker.specs.Acting.{IsKeptOn, ReadsAt, ReceivesOn, SendsOn, SentAt, WaitAt};
-ghost use Rattle.pict_picker.specs.Deeds.{IsDeed};
-ghost use Rattle.pict_picker.specs.Parts.{KeepsDesk};
+ghost use Rattle.pict_picker.specs.Deeds.{IsDeed, IsUndone};
+ghost use Rattle.pict_picker.specs.Parts.{reader_width, HasRoomAt, KeepsDesk};
 ghost use Rattle.pict_picker.specs.Waiting.{pair_value};
 
 use crate::deed::Deed;
-use crate::frames::{make_part, read_frame};
+use crate::frames::{fill_part, make_part, read_frame};
 use crate::waiting::Waiting;
 use pict_code::{CodePat, Node, Op};
 use pict_desk::{Desk, Kept, bind, word_at};
@@ -54,33 +55,38 @@ fn bind_message(desk: &mut Desk, pattern: &CodePat, message: (u64, u64))
     bind(&desk.heap, pattern, word_at(message), &mut desk.values);
 }
 
-// Of an output whose partner is the input of the node with this number, of this frame. The only error is want of memory.
+// Of an output whose partner is the input of the node with this number, of this frame. The input's part gets `room` for its
+// frame, which is empty. Takes no memory.
 fn serve(
-    alloc: Global,
     code: &[Node],
     desk: &mut Desk,
     channel: u32,
     message: (u64, u64),
     number: u32,
     frame: &[(u64, u64)],
-) -> Result<Deed, AllocError>
+    room: Vec<(u64, u64)>,
+) -> Deed
     requires acts { (lists : List (List Process)) × (j : ℕ) × (at : AnySpan) × (own : Process) × SendsOn code.now desk.old lists j channel message at own
         × ReadsAt code.now desk.old lists j channel number frame.now }
+    requires empty { room.items ≡ [] }
+    requires room { reader_width (map plain_node code.now) (slice_get (map plain_node code.now) number) ≤ vec_capacity room }
     ensures deed { (lists : List (List Process)) (j : ℕ) (at : AnySpan) (own : Process) → SendsOn code.now desk.old lists j channel message at own
-        → ReadsAt code.now desk.old lists j channel number frame.now → IfOk result (IsDeed (core_in code.now) desk.new.heap lists j own) }
+        → ReadsAt code.now desk.old lists j channel number frame.now → IsDeed (core_in code.now) desk.new.heap lists j own result }
     ensures rest { KeepsDesk (core_in code.now) desk.old desk.new }
+    ensures heap { desk.new.heap ≡ desk.old.heap }
+    ensures done { IsUndone (Ok result) → ⊥ }
 {
     let node = &code[number as usize];
     read_frame(desk, &node.frame, frame);
     let (pattern, part, replicated) = input_of(&node.op);
     bind_message(desk, pattern, message);
-    let body = make_part(alloc, code, desk, part)?;
-    Ok(Deed::Serves {
+    let body = fill_part(code, desk, part, room);
+    Deed::Serves {
         channel,
         message,
         replicated,
         body,
-    })
+    }
 }
 
 // The kept words of an output of this message on the channel.
@@ -95,9 +101,8 @@ fn kept_on(channel: u32, message: (u64, u64), at: Span) -> Kept
 }
 
 /// Of an output of this message on the channel, at which these wait: it meets the `j`-th, if that is an input, and else it
-/// waits. The only error is want of memory.
+/// waits. Where there is an input its part gets `room` for its frame, which is empty. Takes no memory.
 pub(crate) fn send(
-    alloc: Global,
     code: &[Node],
     desk: &mut Desk,
     list: &Ranked<Waiting>,
@@ -105,19 +110,24 @@ pub(crate) fn send(
     channel: u32,
     message: (u64, u64),
     at: Span,
-) -> Result<Deed, AllocError>
+    room: Vec<(u64, u64)>,
+) -> Deed
     requires acts { (lists : List (List Process)) × (own : Process) × SendsOn code.now desk.old lists j channel message at own
         × WaitAt code.now desk.old lists channel list.now.items }
+    requires empty { room.items ≡ [] }
+    requires room { HasRoomAt (map plain_node code.now) list.now.items j (vec_capacity room) }
     ensures deed { (lists : List (List Process)) (own : Process) → SendsOn code.now desk.old lists j channel message at own
-        → WaitAt code.now desk.old lists channel list.now.items → IfOk result (IsDeed (core_in code.now) desk.new.heap lists j own) }
+        → WaitAt code.now desk.old lists channel list.now.items → IsDeed (core_in code.now) desk.new.heap lists j own result }
     ensures rest { KeepsDesk (core_in code.now) desk.old desk.new }
+    ensures heap { desk.new.heap ≡ desk.old.heap }
+    ensures done { IsUndone (Ok result) → ⊥ }
 {
     if j >= list.len() {
-        return Ok(Deed::Parks(channel, kept_on(channel, message, at)));
+        return Deed::Parks(channel, kept_on(channel, message, at));
     }
     match list.get(j) {
-        Waiting::Node(number, frame) => serve(alloc, code, desk, channel, message, *number, frame),
-        Waiting::Output(_) => Ok(Deed::Parks(channel, kept_on(channel, message, at))),
+        Waiting::Node(number, frame) => serve(code, desk, channel, message, *number, frame, room),
+        Waiting::Output(_) => Deed::Parks(channel, kept_on(channel, message, at)),
     }
 }
 
@@ -139,6 +149,7 @@ fn take(
         → ReceivesOn code.now desk.old lists j channel replicated (plain_pat pattern.now) part own
         → SentAt desk.old lists j channel message → IfOk result (IsDeed (core_in code.now) desk.new.heap lists j own) }
     ensures rest { KeepsDesk (core_in code.now) desk.old desk.new }
+    ensures heap { desk.new.heap ≡ desk.old.heap }
 {
     bind_message(desk, pattern, message);
     let body = make_part(alloc, code, desk, part)?;
@@ -170,6 +181,7 @@ pub(crate) fn receive(
         → ReceivesOn code.now desk.old lists j channel replicated (plain_pat pattern.now) part own
         → WaitAt code.now desk.old lists channel list.now.items → IfOk result (IsDeed (core_in code.now) desk.new.heap lists j own) }
     ensures rest { KeepsDesk (core_in code.now) desk.old desk.new }
+    ensures heap { desk.new.heap ≡ desk.old.heap }
 {
     if j >= list.len() {
         return Ok(Deed::Waits(channel));

@@ -1,5 +1,5 @@
 // The deeds of nodes that need no partner.
-ghost use Rattle.std.specs.Prelude.{◌≡◌, ℕ, List, IfOk, length};
+ghost use Rattle.std.specs.Prelude.{◌≡◌, ◌<◌, ◌^◌, ℕ, List, IfOk, length};
 ghost use Rattle.pict_core.specs.Plain.{plain_val};
 ghost use Rattle.pict_core.specs.Term.{Process};
 ghost use Rattle.pict_code.specs.Instruction as op;
@@ -51,7 +51,7 @@ pub(crate) fn choose(
 }
 
 /// Of a restriction, where there are so many channels: its part has its place, with the next channel as the value of the new
-/// level. The only error is want of memory, also where there would be 2 to the power 32 channels.
+/// level. The only error is want of memory.
 pub(crate) fn open(
     alloc: Global,
     code: &[Node],
@@ -61,13 +61,12 @@ pub(crate) fn open(
     part: u32,
 ) -> Result<Deed, AllocError>
     requires acts { (lists : List (List Process)) × (j : ℕ) × (own : Process) × ActsBy code.now desk.old lists j (op.New level part) own }
+    requires few { channels < 2 ^ 32 }
     ensures deed { (lists : List (List Process)) (j : ℕ) (own : Process) → ActsBy code.now desk.old lists j (op.New level part) own
         → length lists ≡ channels → IfOk result (IsDeed (core_in code.now) desk.new.heap lists j own) }
     ensures rest { KeepsDesk (core_in code.now) desk.old desk.new }
+    ensures heap { desk.new.heap ≡ desk.old.heap }
 {
-    if channels >= u32::MAX as usize {
-        return Err(AllocError);
-    }
     desk.values[level as usize] = pack(Word::Chan(channels as u32));
     let opened = make_part(alloc, code, desk, part)?;
     Ok(Deed::Opens(opened))

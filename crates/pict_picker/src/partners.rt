@@ -10,7 +10,7 @@ ghost use Rattle.pict_desk.specs.AtHand.{channel_named};
 ghost use Rattle.pict_desk.specs.Code.{core_in, IsCode};
 ghost use Rattle.pict_desk.specs.Known.{operand_value};
 ghost use Rattle.pict_desk.specs.Pairs.{IsPair};
-ghost use Rattle.pict_picker.specs.Partners.{stands_at, stands_by, is_partner_of};
+ghost use Rattle.pict_picker.specs.Partners.{stands_at, channel_in, stands_by, is_partner_of};
 ghost use Rattle.pict_picker.specs.Waiting.{pair_value, process_of, processes_of, IsWaiting, AreParked};
 
 use crate::waiting::Waiting;
@@ -85,6 +85,18 @@ pub(crate) fn channel_of_waiting(code: &[Node], waiting: &Waiting) -> Option<(u3
             channel_of_op(&node.op, &node.frame, frame)
         }
         Waiting::Output(kept) => on_side(channel_of(kept.to), true),
+    }
+}
+
+/// The channel at which a process stands, on whichever side. Takes no memory, and time in the levels of its frame.
+pub(crate) fn own_channel(code: &[Node], waiting: &Waiting) -> Option<u32>
+    requires code { IsCode (map plain_node code.now) }
+    requires waiting { (h : HeapState) × IsWaiting (core_in code.now) h waiting.now }
+    ensures { (h : HeapState) → IsWaiting (core_in code.now) h waiting.now → result ≡ channel_in (stands_at (process_of (core_in code.now) h waiting.now)) }
+{
+    match channel_of_waiting(code, waiting) {
+        Some((channel, _)) => Some(channel),
+        None => None,
     }
 }
 

@@ -9,7 +9,7 @@ ghost use Rattle.pict_view.specs.Partners.{partners_in};
 ghost use Rattle.pict_view.specs.View.{StandsFor, list_at};
 ghost use Rattle.pict_desk.specs.Code.{IsCode};
 ghost use Rattle.pict_picker.specs.Partners.{is_partner_of};
-ghost use Rattle.pict_picker.specs.Picker.{IsPicker, view_of, heap_of};
+ghost use Rattle.pict_picker.specs.Picker.{IsPicker, view_of, heap_of, channels_of};
 
 use crate::lists::Lists;
 use crate::partners::{channel_of_waiting, count_partners};
@@ -42,6 +42,7 @@ impl Picker {
         ensures kept { IfOk result (λ p. IsPicker p) }
         ensures stands { IfOk result (λ p. StandsFor (view_of p) (opening (core_of (plain_code code)))) }
         ensures is { IsConfiguration (opening (core_of (plain_code code))) }
+        ensures channels { IfOk result (λ p. channels_of p ≡ 0) }
     {
         let values = vec![in alloc; (0, 0); level_count(&code.nodes)]?;
         let mut ready = Ranked::new(alloc);

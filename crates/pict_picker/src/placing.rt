@@ -1,5 +1,5 @@
 // Deeds are placed in lists.
-ghost use Rattle.std.specs.Prelude.{◌≡◌, ◌<◌, ◌≤◌, ◌++◌, ◌∷◌, [], ℕ, length, slice_get, slice_set, Some, OnOk};
+ghost use Rattle.std.specs.Prelude.{◌≡◌, ◌<◌, ◌≤◌, ◌+◌, ◌++◌, ◌∷◌, [], ℕ, length, slice_get, slice_set, Some, OnOk};
 ghost use Rattle.pict_syntax.specs.declared.span.Span.{Span as AnySpan};
 ghost use Rattle.pict_core.specs.Term.{Process};
 ghost use Rattle.pict_heap.specs.HeapState.{HeapState, value_of};
@@ -21,29 +21,18 @@ use pict_heap::Word;
 use pict_ranked::Ranked;
 use std::alloc::{AllocError, Global};
 
-/// Makes room for what the deed adds to the lists. The only error is want of memory, and the same stand everywhere then.
-pub(crate) fn reserve(lists: &mut Lists, deed: &Deed) -> Result<(), AllocError>
-    requires there { (c : ℕ) → grows_at deed.now ≡ Some c → c < length lists.old.channels.items }
-    ensures room { OnOk result (HasRoomIn lists.new deed.now) }
+/// Makes room for what the step of a process adds to the lists that stands at this channel, or at none. The only error is want of
+/// memory. Whatever the answer, the same stand everywhere.
+pub(crate) fn reserve(lists: &mut Lists, channel: Option<u32>) -> Result<(), AllocError>
+    requires there { (c : ℕ) → channel ≡ Some c → c < length lists.old.channels.items }
+    ensures room { OnOk result (HasRoomIn lists.new channel) }
     ensures same { SameItems lists.old lists.new }
 {
     lists.ready.reserve(1)?;
     lists.channels.reserve(1)?;
-    match channel_that_grows(deed) {
+    match channel {
         Some(channel) => lists.channels[channel as usize].reserve(1),
         None => Ok(()),
-    }
-}
-
-// The channel at which one more may wait after the deed.
-fn channel_that_grows(deed: &Deed) -> Option<u32>
-    ensures { result ≡ grows_at deed.now }
-{
-    match deed {
-        Deed::Waits(channel) => Some(*channel),
-        Deed::Parks(channel, _) => Some(*channel),
-        Deed::Serves { channel, .. } => Some(*channel),
-        _ => None,
     }
 }
 
@@ -52,6 +41,7 @@ fn push_at(lists: &mut Lists, channel: u32, waiting: Waiting)
     requires there { channel < length lists.old.channels.items }
     requires room { 1 ≤ room_at channel lists.old.channels.items }
     ensures items { channel_items lists.new ≡ slice_set (channel_items lists.old) channel (items_at channel lists.old.channels.items ++ waiting ∷ []) }
+    ensures len { length lists.new.channels.items ≡ length lists.old.channels.items }
     ensures ready { lists.new.ready ≡ lists.old.ready }
 {
     lists.channels[channel as usize].push(waiting);
@@ -78,6 +68,7 @@ fn settle_at(lists: &mut Lists, channel: u32, j: usize, stays: bool)
     ensures items { (w : AnyWaiting) → slice_get (items_at channel lists.old.channels.items) j ≡ Some w
         → channel_items lists.new
         ≡ slice_set (channel_items lists.old) channel (without j (items_at channel lists.old.channels.items) ++ if_replicated stays w) }
+    ensures len { length lists.new.channels.items ≡ length lists.old.channels.items }
     ensures ready { lists.new.ready ≡ lists.old.ready }
 {
     let taken = take_at(lists, channel, j);
@@ -115,10 +106,11 @@ fn shown(word: Option<Word>) -> Did
 /// Places the deed of the `i`-th ready process, with the `j`-th at its channel. Takes no memory.
 pub(crate) fn place_deed(alloc: Global, lists: &mut Lists, i: usize, j: usize, deed: Deed) -> Did
     requires may { (core : Process) × (h : HeapState) × MayPlace core h lists.old i j deed }
-    requires room { HasRoomIn lists.old deed }
+    requires room { HasRoomIn lists.old (grows_at deed) }
     ensures placed { (core : Process) (h : HeapState) (m : MayPlace core h lists.old i j deed)
         → IsPlaced core h lists.old lists.new i j m.own deed result }
-    ensures trapped { (at : AnySpan) → result ≡ Did.Trapped at → lists.new ≡ lists.old }
+    ensures trapped { (at : AnySpan) → result ≡ Did.Trapped at → (deed ≡ Deed.Stops at) × (lists.new ≡ lists.old) }
+    ensures channels { length lists.new.channels.items ≤ length lists.old.channels.items + 1 }
 {
     match deed {
         Deed::Ends(word) => {

@@ -8,14 +8,16 @@ ghost use Rattle.pict_desk.specs.Arguments.{operand_in};
 ghost use Rattle.pict_desk.specs.AtHand.{channel_named};
 ghost use Rattle.pict_desk.specs.Code.{core_in};
 ghost use Rattle.pict_desk.specs.Constants.{OnlyMakes};
+ghost use Rattle.pict_desk.specs.Room.{KeepsHeap};
 ghost use Rattle.pict_picker.specs.Acting.{ActsBy, MayAct};
-ghost use Rattle.pict_picker.specs.Deeds.{IsDeed};
+ghost use Rattle.pict_picker.specs.Deeds.{IsDeed, IsUndone};
 ghost use Rattle.pict_picker.specs.Parts.{KeepsDesk};
 ghost use Rattle.pict_picker.specs.Picker.{AreLists, channel_processes};
 ghost use Rattle.pict_picker.specs.Waiting.{pair_value, kept_process, IsKept};
 
 use crate::calling::{call, call_operand, make_word};
 use crate::deed::Deed;
+use crate::frames::reserve_frame;
 use crate::lists::Lists;
 use crate::meeting::send;
 use pict_code::{Node, Operand};
@@ -44,18 +46,12 @@ fn send_operand(
         (op.Out (plain_val chan.now) (plain_val message.now) at) own
         → IfOk result (IsDeed (core_in code.now) desk.new.heap (channel_processes (core_in code.now) desk.old.heap lists.now) j own) }
     ensures rest { KeepsDesk (core_in code.now) desk.old desk.new }
+    ensures undone { IsUndone result → KeepsHeap desk.old.heap desk.new.heap }
 {
+    let list = &lists.channels[channel as usize];
+    let room = reserve_frame(alloc, code, list, j)?;
     let word = make_word(desk, message)?;
-    send(
-        alloc,
-        code,
-        desk,
-        &lists.channels[channel as usize],
-        j,
-        channel,
-        pack(word),
-        at,
-    )
+    Ok(send(code, desk, list, j, channel, pack(word), at, room))
 }
 
 /// Of an output of the second operand on the first, whose partner is the `j`-th at its channel. The only error is want of
@@ -77,6 +73,7 @@ pub(crate) fn output(
         (op.Out (plain_val chan.now) (plain_val message.now) at) own
         → IfOk result (IsDeed (core_in code.now) desk.new.heap (channel_processes (core_in code.now) desk.old.heap lists.now) j own) }
     ensures rest { KeepsDesk (core_in code.now) desk.old desk.new }
+    ensures undone { IsUndone result → KeepsHeap desk.old.heap desk.new.heap }
 {
     match channel_at_hand(chan, &desk.values) {
         Some(channel) => send_operand(alloc, code, desk, lists, j, channel, chan, message, at),
@@ -95,6 +92,7 @@ fn call_kept(desk: &mut Desk, kept: Kept) -> Result<Deed, AllocError>
     ensures deed { (code : List AnyNode) (lists : List (List Process)) (j : ℕ) → MayAct code desk.old lists j (kept_process desk.old.heap kept)
         → IfOk result (IsDeed (core_in code) desk.new.heap lists j (kept_process desk.old.heap kept)) }
     ensures rest { OnlyMakes desk.old desk.new }
+    ensures undone { IsUndone result → KeepsHeap desk.old.heap desk.new.heap }
 {
     match word_at(kept.to) {
         Word::Prim(p) => call(desk, p, word_at(kept.message), kept.at),
@@ -117,18 +115,14 @@ pub(crate) fn output_kept(
     ensures deed { IfOk result (IsDeed (core_in code.now) desk.new.heap (channel_processes (core_in code.now) desk.old.heap lists.now) j
         (kept_process desk.old.heap kept)) }
     ensures rest { KeepsDesk (core_in code.now) desk.old desk.new }
+    ensures undone { IsUndone result → KeepsHeap desk.old.heap desk.new.heap }
 {
     match channel_of(kept.to) {
-        Some(channel) => send(
-            alloc,
-            code,
-            desk,
-            &lists.channels[channel as usize],
-            j,
-            channel,
-            kept.message,
-            kept.at,
-        ),
+        Some(channel) => {
+            let list = &lists.channels[channel as usize];
+            let room = reserve_frame(alloc, code, list, j)?;
+            Ok(send(code, desk, list, j, channel, kept.message, kept.at, room))
+        }
         None => call_kept(desk, kept),
     }
 }

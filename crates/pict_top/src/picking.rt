@@ -4,7 +4,7 @@ ghost use Rattle.pict_core.specs.Closed.{IsClosed};
 ghost use Rattle.pict_core.specs.Configuration.{Configuration, IsConfiguration, opening};
 ghost use Rattle.pict_core.specs.Plain.{plain_core};
 ghost use Rattle.pict_pick.specs.Picked.{picked};
-ghost use Rattle.pict_picker.specs.Picker.{IsPicker, view_of};
+ghost use Rattle.pict_picker.specs.Picker.{IsPicker, view_of, channels_of};
 ghost use Rattle.pict_reduction.specs.Reached.{NoFreeRunIsWrong};
 ghost use Rattle.pict_seed.specs.Stream.{chosen};
 ghost use Rattle.pict_top.specs.Changes.{change_of, GainedFront, FailedWithin};
@@ -59,7 +59,7 @@ pub fn record_picks<O: Sink>(
     run_picked(alloc, Note::Shown(Form::Line), names, core, seed, fuel, out)
 }
 
-/// Runs a process with choices from a seed, for up to `fuel` steps, and writes this of each step right behind it. No free run of
+/// Runs a process with choices from a seed, for up to `fuel` steps, and writes `note` of each step right after it. No free run of
 /// the process may be wrong. On an error a beginning of what is written of the run was written; `Sink` comes only where the
 /// sink's count of faults rose.
 pub fn run_picked<O: Sink>(
@@ -116,6 +116,7 @@ fn load_core(alloc: Global, core: &Core) -> Result<Picker, AllocError>
     ensures kept { IfOk result (λ picker. IsPicker picker) }
     ensures stands { IfOk result (λ picker. StandsFor (view_of picker) (opening (plain_core core.now))) }
     ensures is { IfOk result (λ picker. IsConfiguration (opening (plain_core core.now))) }
+    ensures channels { IfOk result (λ picker. channels_of picker ≡ 0) }
 {
     let code = lower(alloc, core)?;
     Picker::load(alloc, code)

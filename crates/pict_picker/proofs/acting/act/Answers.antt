@@ -15,6 +15,7 @@ act_node-requires c =
       node = node_taken c.args.code.now d lists c.requires.lists c.args.i c.get.result.now c.get.ensures c.in-Node.number c.in-Node.frame c.in-Node.is c.deref.result.now c.deref.ensures.value;
       acts = node_may c.args.code.now d lists c.requires.lists c.args.i c.get.result.now c.get.ensures c.in-Node.number c.in-Node.frame c.in-Node.is c.deref.result.now c.deref.ensures.value
           c.args.j c.requires.acts.0 c.requires.acts.1 c.requires.acts.2;
+      few = c.requires.few;
     }
 
 pub returns-in-Node-clause-deed : goal.returns-in-Node-clause-deed

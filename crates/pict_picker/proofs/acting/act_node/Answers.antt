@@ -4,6 +4,7 @@ use Rattle.pict_code.specs.Levels.{Rises}
 use Rattle.pict_code.specs.Nodes.{places}
 use Rattle.pict_desk.specs.Code.{core_in}
 use Rattle.pict_desk.specs.Known.{pair_at}
+use Rattle.pict_desk.specs.Room.{KeepsHeap}
 use Rattle.pict_picker.specs.Waiting.{node_process}
 use Rattle.pict_picker.proofs.Acts.{node_low, as_many, levels_inside, levels_rise}
 use Rattle.pict_picker.proofs.ReadNodes.{node_lists, node_acts_by, node_keeps, node_deed}
@@ -40,6 +41,7 @@ act_by-requires c =
         node_acts_by c.args.code.now d c.args.lists.now c.args.j c.args.number c.args.frame.now c.requires.node c.requires.acts c.index-code-number.result c.index-code-number.is
             r.new.desk r.ensures.heap r.ensures.len r.ensures.pairs is,
       );
+      few = c.requires.few;
     }
 
 pub returns-clause-deed : goal.returns-clause-deed
@@ -56,3 +58,6 @@ pub returns-clause-rest : goal.returns-clause-rest
 returns-clause-rest c =
     let r = c.read_frame in
     node_keeps c.args.code.now c.args.desk.now r.new.desk r.ensures.heap c.act_by.new.desk c.act_by.ensures.rest
+
+pub returns-clause-undone : goal.returns-clause-undone
+returns-clause-undone c u = subst (λ h. KeepsHeap h c.act_by.new.desk.heap) c.read_frame.ensures.heap (c.act_by.ensures.undone u)

@@ -3,9 +3,10 @@ use Rattle.pict_core.specs.Primitives.{Effect, effect_of}
 use Rattle.pict_heap.specs.HeapState.{value_of}
 use Rattle.pict_prim.specs.Acts.{effect_act, IsActOf, HasRoom}
 use Rattle.pict_desk.proofs.Making.{keeps_more}
+use Rattle.pict_desk.specs.Room.{KeepsHeap}
 use Rattle.pict_desk.proofs.MakingRoom.{keeps_words}
 use Rattle.pict_picker.specs.Calling.{HasEffect}
-use Rattle.pict_picker.proofs.Effects.{act_keeps, effect_keeps, need_keeps, makes_room, same_effect, no_effect}
+use Rattle.pict_picker.proofs.Effects.{act_keeps, effect_keeps, need_keeps, makes_room, same_effect, no_effect, undone_zero}
 use Rattle.pict_picker.proofs.calling.call.Goals as goal
 
 pub room-need-requires : goal.room-need-requires
@@ -48,3 +49,13 @@ pub unreachable-requires : goal.unreachable-requires
 unreachable-requires c =
     let old = c.args.desk.now.heap in
     no_effect (effect_of c.args.p (value_of old c.args.argument)) (sym c.act_on.ensures.effect ∙ ap (option_map (effect_act old)) c.in-None.is) c.requires.takes
+
+pub returns-clause-undone : goal.returns-clause-undone
+returns-clause-undone c u =
+    let old = c.args.desk.now.heap in
+    let mid = c.reserve_room.new.desk.heap in
+    let zero = undone_zero mid c.finish.new.heap c.in-Some.act c.args.at c.finish.result c.finish.ensures.effect u in
+    subst (KeepsHeap old) (sym (c.finish.ensures.zero zero)) c.reserve_room.ensures.rest.heap
+
+pub returns-in_err-reserve_room-in-Some-clause-undone : goal.returns-in_err-reserve_room-in-Some-clause-undone
+returns-in_err-reserve_room-in-Some-clause-undone c u = c.reserve_room.ensures.rest.heap

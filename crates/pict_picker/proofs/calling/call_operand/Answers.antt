@@ -1,27 +1,30 @@
-use Rattle.std.proofs.Common.{sym, ap, ◌∙◌, subst, refl}
+use Rattle.std.proofs.Common.{◌≡◌, IsSome, Some, sym, ap, ◌∙◌, subst}
 use Rattle.pict_core.specs.Plain.{plain_val}
 use Rattle.pict_core.specs.Primitives.{effect_of}
-use Rattle.pict_desk.specs.Answers.{IsAnswerOf}
+use Rattle.pict_core.specs.Term.{Text}
+use Rattle.pict_core.specs.declared.value.CoreVal.{CoreVal}
 use Rattle.pict_desk.specs.Arguments.{operand_in}
-use Rattle.pict_desk.specs.Pairs.{ArePairs}
-use Rattle.pict_desk.proofs.Making.{keeps_all}
 use Rattle.pict_desk.proofs.Reckoning.{labels_of, made_argument}
-use Rattle.pict_picker.proofs.Effects.{at_hand}
+use Rattle.pict_desk.proofs.Recording.{plain_text}
+use Rattle.pict_picker.proofs.Effects.{of_text}
 use Rattle.pict_picker.proofs.calling.call_operand.Goals as goal
 
-pub answer_at_hand-requires-clause-pairs : goal.answer_at_hand-requires-clause-pairs
-answer_at_hand-requires-clause-pairs c = let h = c.args.desk.now.heap in (h, subst (ArePairs h) (sym c.deref-in-Fields.ensures.value) c.requires.pairs)
-
-pub returns-in-Some-clause-effect : goal.returns-in-Some-clause-effect
-returns-in-Some-clause-effect c e is =
+pub call_fields-requires-clause-takes : goal.call_fields-requires-clause-takes
+call_fields-requires-clause-takes c =
     let d = c.args.desk.now in
-    let h = d.heap in
-    let fields = c.deref.result.now in
-    let answer = c.in-Some.ensures h (subst (ArePairs h) (sym c.deref-in-Fields.ensures.value) c.requires.pairs) in
-    let a = subst (λ vs. IsAnswerOf h vs c.args.p fields c.args.at c.in-Some.kept) c.deref-in-Fields.ensures.value answer in
-    let whole = made_argument h d.values.items c.args.message.now c.in-Fields.positional c.in-Fields.labelled fields c.in-Fields.is c.deref.ensures.value in
-    at_hand h c.args.at c.args.p (operand_in h d.values.items (plain_val c.args.message.now)) a.to a.answer c.in-Some.kept e
-    (ap (effect_of c.args.p) whole ∙ a.effect (labels_of h d.values.items c.in-Fields.labelled.items)) a.output is
+    let is = made_argument d.heap d.values.items c.args.message.now c.in-Fields.positional c.in-Fields.labelled c.deref.result.now c.in-Fields.is c.deref.ensures.value in
+    (labels_of d.heap d.values.items c.in-Fields.labelled.items, subst (λ v. IsSome (effect_of c.args.p v)) is c.requires.takes)
 
-pub returns-in-Some-clause-rest : goal.returns-in-Some-clause-rest
-returns-in-Some-clause-rest c = record { words = keeps_all c.args.desk.now.heap; values = refl }
+pub returns-in-Fields-clause-effect : goal.returns-in-Fields-clause-effect
+returns-in-Fields-clause-effect c e effect =
+    let d = c.args.desk.now in
+    let is = made_argument d.heap d.values.items c.args.message.now c.in-Fields.positional c.in-Fields.labelled c.deref.result.now c.in-Fields.is c.deref.ensures.value in
+    c.call_fields.ensures.effect (labels_of d.heap d.values.items c.in-Fields.labelled.items) e (subst (λ v. effect_of c.args.p v ≡ Some e) is effect)
+
+pub returns-in-Text-clause-effect : goal.returns-in-Text-clause-effect
+returns-in-Text-clause-effect c e is =
+    let d = c.args.desk.now in
+    let same : operand_in d.heap d.values.items (plain_val c.args.message.now) ≡ Text c.slice.result.now =
+    ap (λ (m : CoreVal). operand_in d.heap d.values.items (plain_val m)) c.in-Text.is ∙ ap (operand_in d.heap d.values.items) (plain_text c.in-Text.bytes)
+    ∙ ap Text (sym c.slice.ensures) in
+    c.print_text.ensures.effect c.args.at e (of_text c.args.p c.slice.result.now e (subst (λ v. effect_of c.args.p v ≡ Some e) same is))

@@ -1,6 +1,9 @@
-use Rattle.std.proofs.Common.{◌≤◌, sym, ap, ◌∙◌, subst, Some}
+use Rattle.std.proofs.Common.{◌≤◌, map, sym, ap, ◌∙◌, subst, Some}
+use Rattle.std.specs.Vec.{vec_capacity}
+use Rattle.pict_code.specs.Plain.{plain_node}
 use Rattle.pict_desk.specs.Code.{core_in}
 use Rattle.pict_picker.specs.Acting.{ReadsAt}
+use Rattle.pict_picker.specs.Parts.{waiting_width}
 use Rattle.pict_picker.proofs.Deeds.{keeps_desk, reads_at, node_is, alone_deed, beside_deed}
 use Rattle.pict_picker.proofs.meeting.send.Goals as goal
 
@@ -27,6 +30,8 @@ serve-requires c =
             (reads_at c.args.code.now c.args.desk.now a.0 c.args.channel c.args.list.now.items a.3 c.args.j c.in-Node.number c.get.result.now c.in-Node.frame.items c.get.ensures
             (node_is c.get.result.now c.in-Node.number c.in-Node.frame c.in-Node.is)),
       );
+      empty = c.requires.empty;
+      room = subst (λ w. waiting_width (map plain_node c.args.code.now) w ≤ vec_capacity c.args.room) c.in-Node.is (c.requires.room c.get.result.now c.get.ensures);
     }
 
 pub returns-in-Node-clause-deed : goal.returns-in-Node-clause-deed

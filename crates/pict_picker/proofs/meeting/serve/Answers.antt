@@ -1,8 +1,10 @@
-use Rattle.std.proofs.Common.{◌<◌, ◌≡◌, length, sym, ap, ◌∙◌, subst, map}
+use Rattle.std.proofs.Common.{◌<◌, ◌≤◌, ◌≡◌, length, sym, ap, ◌∙◌, subst, map}
 use Rattle.std.specs.List.{All}
+use Rattle.std.specs.Vec.{vec_capacity}
 use Rattle.pict_code.specs.Levels.{Rises}
 use Rattle.pict_code.specs.Plain.{plain_pat}
 use Rattle.pict_desk.specs.Known.{pair_at}
+use Rattle.pict_picker.proofs.Widths.{read_width}
 use Rattle.pict_picker.proofs.Serving.{serve_low, serve_many, serve_frame_inside, serve_frame_rises, serve_input, serve_pair, serve_fits, serve_places, serve_rises, serve_inside, read_desk, bound_desk, serve_deed}
 use Rattle.pict_picker.proofs.meeting.serve.Goals as goal
 
@@ -60,8 +62,8 @@ bind_message-requires c =
           r.new.desk r.ensures.heap r.ensures.len r.ensures.pairs is).desk.pairs;
     }
 
-pub make_part-requires : goal.make_part-requires
-make_part-requires c =
+pub fill_part-body-requires : goal.fill_part-body-requires
+fill_part-body-requires c =
     let a = c.requires.acts in
     let r = c.read_frame in
     let o = c.input_of-part in
@@ -77,6 +79,10 @@ make_part-requires c =
       desk = (bound_desk c.args.code.now c.args.desk.now a.0 a.1 c.args.channel c.args.message a.2 a.3 a.4 c.args.number c.args.frame.now a.5 node there
           r.new.desk r.ensures.heap r.ensures.len r.ensures.pairs is o.result.2 o.ensures.0 p o.result.1 o.ensures.1
           b.new.desk b.ensures.heap b.ensures.len b.ensures.pairs).desk;
+      empty = c.requires.empty;
+      room = subst (λ n. n ≤ vec_capacity c.args.room)
+          (read_width c.args.code.now c.args.number node (serve_low c.args.code.now c.args.desk.now a.0 a.1 c.args.channel c.args.message a.2 a.3 a.4 c.args.number c.args.frame.now a.5) there
+          o.result.2 o.ensures.0 p o.result.1 o.ensures.1) c.requires.room;
     }
 
 pub returns-clause-deed : goal.returns-clause-deed
@@ -87,7 +93,7 @@ returns-clause-deed c lists j at own s x =
     let is = subst (λ ls. map (pair_at r.new.desk.values.items) ls ≡ c.args.frame.now) c.deref.ensures.value r.ensures.read in
     serve_deed c.args.code.now c.args.desk.now lists j c.args.channel c.args.message at own s c.args.number c.args.frame.now x c.index-code-number.result c.index-code-number.is
     r.new.desk r.ensures.heap r.ensures.len r.ensures.pairs is o.result.2 o.ensures.0 (plain_pat o.result.0.now) o.result.1 o.ensures.1
-    b.new.desk b.ensures.heap b.ensures.len b.ensures.pairs c.in_ok-body.body b.ensures.binds c.in_ok-body.ensures
+    b.new.desk b.ensures.heap b.ensures.len b.ensures.pairs c.fill_part-body.result b.ensures.binds c.fill_part-body.ensures
 
 pub returns-clause-rest : goal.returns-clause-rest
 returns-clause-rest c =
@@ -100,13 +106,5 @@ returns-clause-rest c =
     r.new.desk r.ensures.heap r.ensures.len r.ensures.pairs is o.result.2 o.ensures.0 (plain_pat o.result.0.now) o.result.1 o.ensures.1
     b.new.desk b.ensures.heap b.ensures.len b.ensures.pairs
 
-pub returns-in_err-body-clause-rest : goal.returns-in_err-body-clause-rest
-returns-in_err-body-clause-rest c =
-    let a = c.requires.acts in
-    let r = c.read_frame in
-    let o = c.input_of-part in
-    let b = c.bind_message in
-    let is = subst (λ ls. map (pair_at r.new.desk.values.items) ls ≡ c.args.frame.now) c.deref.ensures.value r.ensures.read in
-    bound_desk c.args.code.now c.args.desk.now a.0 a.1 c.args.channel c.args.message a.2 a.3 a.4 c.args.number c.args.frame.now a.5 c.index-code-number.result c.index-code-number.is
-    r.new.desk r.ensures.heap r.ensures.len r.ensures.pairs is o.result.2 o.ensures.0 (plain_pat o.result.0.now) o.result.1 o.ensures.1
-    b.new.desk b.ensures.heap b.ensures.len b.ensures.pairs
+pub returns-clause-heap : goal.returns-clause-heap
+returns-clause-heap c = c.bind_message.ensures.heap ∙ c.read_frame.ensures.heap

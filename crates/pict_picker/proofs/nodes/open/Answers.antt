@@ -2,12 +2,9 @@ use Rattle.std.proofs.Common.{refl, sym, arith}
 use Rattle.std.proofs.lemmas.List.{length-set}
 use Rattle.pict_desk.specs.Code.{core_in}
 use Rattle.pict_desk.proofs.Numbered.{in_code}
-use Rattle.pict_picker.proofs.Deeds.{keeps_desk, values_desk, opened_pairs, open_deed}
+use Rattle.pict_picker.proofs.Deeds.{values_desk, opened_pairs, open_deed}
 use Rattle.pict_picker.proofs.Rows.{new_inside, new_level}
 use Rattle.pict_picker.proofs.nodes.open.Goals as goal
-
-pub returns-then-channels-clause-rest : goal.returns-then-channels-clause-rest
-returns-then-channels-clause-rest c = keeps_desk (core_in c.args.code.now) c.args.desk.now c.requires.acts.3.may.desk
 
 pub index_mut-requires : goal.index_mut-requires
 index_mut-requires c =

@@ -1,4 +1,4 @@
-use Rattle.std.proofs.Common.{◌++◌, ◌∷◌, [], get_or, refl, sym, ap, ◌∙◌, subst}
+use Rattle.std.proofs.Common.{◌≡◌, ◌++◌, ◌∷◌, [], length, length-append, get_or, refl, sym, ap, ◌∙◌, subst, arith}
 use Rattle.pict_core.specs.Step.{Comm}
 use Rattle.pict_heap.specs.HeapState.{IsWord}
 use Rattle.pict_ranked.specs.Ranking.{Ranking}
@@ -6,6 +6,7 @@ use Rattle.pict_desk.proofs.Reading.{whole_value}
 use Rattle.pict_picker.specs.Deeds.{FitsDeed}
 use Rattle.pict_picker.specs.Lists.{IsPlaced}
 use Rattle.pict_picker.specs.Picker.{channel_items, channel_processes}
+use Rattle.pict_picker.specs.declared.deed.Deed.TheVariants as deed
 use Rattle.pict_picker.specs.declared.did.Did.TheVariants as did
 use Rattle.pict_picker.specs.declared.lists.Lists.{Lists}
 use Rattle.pict_picker.specs.declared.waiting.Waiting.{Waiting}
@@ -100,3 +101,36 @@ returns-in-Takes-clause-placed c core h m =
     (takes_placed core h old new c.args.i c.args.j m.own m.are (did.Comm d.channel word) d.channel many.0 d.message d.replicated d.body fits.3
     (ap (λ (r : Ranking Waiting). r.items) c.take_at.ensures.ready ∙ c.go_on-in-Takes.ensures) c.take_at.ensures.items
     (ap (Comm d.channel) (whole_value h d.message word pair c.word_at-in-Takes.ensures)) (subst (IsWord h) (sym (c.word_at-in-Takes.ensures pair.word pair.fits pair.packs)) pair.is) (λ at e. cc))
+
+pub returns-in-Ends-clause-trapped : goal.returns-in-Ends-clause-trapped
+returns-in-Ends-clause-trapped c at e = absurd (c.shown.ensures.trap at e)
+
+pub returns-in-Keeps-clause-trapped : goal.returns-in-Keeps-clause-trapped
+returns-in-Keeps-clause-trapped c at e = absurd (c.shown-in-Keeps.ensures.trap at e)
+
+pub returns-in-Forks-clause-trapped : goal.returns-in-Forks-clause-trapped
+returns-in-Forks-clause-trapped c at e = (cc, cc)
+
+pub returns-in-Opens-clause-trapped : goal.returns-in-Opens-clause-trapped
+returns-in-Opens-clause-trapped c at e = (cc, cc)
+
+pub returns-in-Waits-clause-trapped : goal.returns-in-Waits-clause-trapped
+returns-in-Waits-clause-trapped c at e = (cc, cc)
+
+pub returns-in-Parks-clause-trapped : goal.returns-in-Parks-clause-trapped
+returns-in-Parks-clause-trapped c at e = (cc, cc)
+
+pub returns-in-Serves-clause-trapped : goal.returns-in-Serves-clause-trapped
+returns-in-Serves-clause-trapped c at e = (cc, cc)
+
+pub returns-in-Takes-clause-trapped : goal.returns-in-Takes-clause-trapped
+returns-in-Takes-clause-trapped c at e = (cc, cc)
+
+pub returns-in-Stops-clause-trapped : goal.returns-in-Stops-clause-trapped
+returns-in-Stops-clause-trapped c at e = let same : c.in-Stops.at ≡ at = cc in (c.in-Stops.is ∙ ap deed.Stops same, refl)
+
+pub returns-in-Opens-clause-channels : goal.returns-in-Opens-clause-channels
+returns-in-Opens-clause-channels c =
+    let n = ap length c.push_reserved.ensures.items in
+    let m = length-append c.args.lists.now.channels.items (c.new.result ∷ []) in
+    omega (arith, n, m)

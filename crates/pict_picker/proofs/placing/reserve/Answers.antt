@@ -9,7 +9,7 @@ pub returns-in-Some-clause-same : goal.returns-in-Some-clause-same
 returns-in-Some-clause-same c =
     let channel = c.in-Some.channel in
     let same = c.reserve-2.ensures.items in
-    let low = c.requires.there channel (sym c.channel_that_grows.ensures ∙ c.in-Some.is) in
+    let low = c.requires.there channel c.in-Some.is in
     record {
       ready = c.reserve.ensures.items;
       parked = items_stay c.reserve-2.new.self.items channel c.index_mut.result.now c.reserve-in-Some.new.self (subst (λ (rs : List (Ranking Waiting)). channel < length rs) (sym same) low)

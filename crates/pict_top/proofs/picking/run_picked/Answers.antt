@@ -31,6 +31,7 @@ loop-done-init g c =
     record {
       within = omega arith;
       kept = c.in-Ok.ensures.kept;
+      channels = let none = c.in-Ok.ensures.channels in omega (arith, none);
       so_far = subst (λ (h : Lcg). HasPicked p c.args.seed 0 v h Wrote) (sym c.new-chooser.ensures) (begun p c.args.seed v Wrote c.in-Ok.ensures.is c.in-Ok.ensures.stands (wrote_nothing c.args.note c.args.names.now told));
       faults_stay = omega arith;
     }
@@ -95,6 +96,7 @@ loop-done-preserved g c =
     record {
       within = omega (arith, lt);
       kept = c.step_choice.ensures.kept;
+      channels = omega (arith, c.loop-done.invariant.channels, c.step_choice.ensures.channels);
       so_far = picked_on (plain_core c.args.core.now) c.args.seed c.args.fuel c.args.note c.args.names.now c.loop-done.done (view_of c.loop-done.picker) w c.loop-done.chooser c.pick_place.new.chooser
           (change_of g.O.Sink.taken g.O.Sink.faults c.args.out.now c.write_note.new.out) (g.O.Sink.taken c.loop-done.out) place label c.loop-done.invariant.so_far c.in-Some.ensures.picked
           (λ C is stands. leads_of label (trap_of did) C place w (sym c.in-None-trap.ensures) (c.in-Ok-step_choice.ensures.ok C is stands))

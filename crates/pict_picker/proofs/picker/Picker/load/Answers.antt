@@ -1,4 +1,4 @@
-use Rattle.std.proofs.Common.{◌≡◌, List, [], ◌∷◌, ◌++◌, replicate, map, ap, ◌∙◌, refl}
+use Rattle.std.proofs.Common.{◌≡◌, List, [], ◌∷◌, ◌++◌, length, replicate, map, ap, ◌∙◌, refl}
 use Rattle.pict_code.specs.Plain.{plain_code, plain_node}
 use Rattle.pict_code.specs.ReadBack.{core_of}
 use Rattle.pict_desk.specs.Levels.{levels_in}
@@ -31,3 +31,6 @@ returns-clause-stands c =
     let lists : Lists = record { ready = c.push.new.self; channels = c.new-5.result } in
     let ready = c.push.ensures.items ∙ ap (λ (ws : List Waiting). ws ++ w ∷ []) (c.reserve.ensures.items ∙ c.new-ready.ensures.items) in
     opening_stands (core_of (plain_code c.args.code)) c.new-2.result lists w (refl, c.new.ensures.items) ready c.new-5.ensures.items
+
+pub returns-clause-channels : goal.returns-clause-channels
+returns-clause-channels c = ap length c.new-5.ensures.items

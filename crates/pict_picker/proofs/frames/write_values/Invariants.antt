@@ -1,7 +1,7 @@
 use Rattle.std.proofs.Common.{◌≡◌, ◌≤◌, length, map, take}
 use Rattle.std.specs.Vec.{vec_capacity}
 use Rattle.pict_desk.specs.Known.{pair_at}
-use Rattle.pict_picker.proofs.frames.frame_of_levels.Given as goal
+use Rattle.pict_picker.proofs.frames.write_values.Given as goal
 
 abbrev pub invariant-loop-level : goal.invariant-loop-level
 invariant-loop-level l = record {

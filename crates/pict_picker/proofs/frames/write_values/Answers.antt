@@ -1,7 +1,7 @@
 use Rattle.std.proofs.Common.{◌∷◌, [], ◌++◌, map, get_or, refl, sym, ap, ◌∙◌, arith}
 use Rattle.pict_desk.specs.Known.{pair_at}
 use Rattle.pict_desk.proofs.Making.{take_level, take_whole}
-use Rattle.pict_picker.proofs.frames.frame_of_levels.Goals as goal
+use Rattle.pict_picker.proofs.frames.write_values.Goals as goal
 
 pub loop-level-preserved : goal.loop-level-preserved
 loop-level-preserved c =
