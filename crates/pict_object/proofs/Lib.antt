@@ -12,3 +12,14 @@ pub mod Ordered
 pub mod Placed
 pub mod Fitted
 pub mod Encoded
+pub mod Lists
+pub mod Fronts
+pub mod Found
+pub mod Standing
+pub mod Again
+pub mod Decoded
+pub mod Loops
+pub mod Numbering
+pub mod Forms
+pub mod TableLemmas
+pub mod Answering

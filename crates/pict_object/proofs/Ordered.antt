@@ -134,7 +134,7 @@ kept text last (x ∷ ts) d = go (kept text last ts d) (λ k. kept text x ts k) 
 
 -- ---- no two places of texts that rise have one text
 
-in_at : (ts : List (List ℕ)) (i : ℕ) → i < length ts → In (get_or ts i []) ts
+pub in_at : (ts : List (List ℕ)) (i : ℕ) → i < length ts → In (get_or ts i []) ts
 in_at [] i h = absurd (omega (arith, h))
 in_at (x ∷ ts) zero h = in_first x ts
 in_at (x ∷ ts) (suc i) h = in_rest (get_or ts i []) x ts (in_at ts i (omega (arith, h)))

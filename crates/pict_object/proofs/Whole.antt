@@ -17,7 +17,7 @@ one_text a b r s f g h =
     let n = count_once (length a) (length b) (a ++ r) (b ++ s) f g h in
     text_once a b r s n.0 n.1
 
-tables_once : (t u : List (List ℕ)) (r s : List ℕ) → length t ≡ length u → AllByRecursion (λ text. length text < 2 ^ 32) t → AllByRecursion (λ text. length text < 2 ^ 32) u
+pub tables_once : (t u : List (List ℕ)) (r s : List ℕ) → length t ≡ length u → AllByRecursion (λ text. length text < 2 ^ 32) t → AllByRecursion (λ text. length text < 2 ^ 32) u
     → flat_map text_bytes t ++ r ≡ flat_map text_bytes u ++ s → (t ≡ u) × (r ≡ s)
 tables_once [] [] r s n f g h = (refl, h)
 tables_once [] (y ∷ u) r s n f g h = absurd (omega (arith, n))

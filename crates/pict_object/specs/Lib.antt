@@ -6,3 +6,6 @@ pub mod Laws
 pub mod Sizes
 pub mod Collected
 pub mod Small
+pub mod Reading
+pub mod Decoded
+pub mod Heads

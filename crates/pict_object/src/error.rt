@@ -1,6 +1,6 @@
-// Why a process is not written.
+// Why a process is not written, and why none is read.
 
-use std::alloc::AllocError;
+use std::alloc::{AllocError, AllocFailed};
 use thiserror::Error;
 
 /// Why a process is not written as an object.
@@ -22,5 +22,38 @@ impl From<AllocError> for EncodeError {
 
     fn from(_: AllocError) -> EncodeError {
         EncodeError::Memory
+    }
+}
+
+/// Why no process is read from bytes.
+#[derive(Debug, Drop, Error)]
+pub enum DecodeError {
+    /// The bytes are no object.
+    #[error("not an object")]
+    NotObject,
+    /// Memory ran out.
+    #[error("out of memory")]
+    Memory,
+}
+
+impl From<AllocError> for DecodeError {
+    ghost use Rattle.std.specs.Prelude.{◌≡◌};
+    ghost use Rattle.pict_object.specs.declared.error.DecodeError.TheVariants.{Memory};
+
+    ghost from_gives = { λ _ e. e ≡ Memory };
+
+    fn from(_: AllocError) -> DecodeError {
+        DecodeError::Memory
+    }
+}
+
+impl<T: Drop> From<AllocFailed<T>> for DecodeError {
+    ghost use Rattle.std.specs.Prelude.{◌≡◌};
+    ghost use Rattle.pict_object.specs.declared.error.DecodeError.TheVariants.{Memory};
+
+    ghost from_gives = { λ _ e. e ≡ Memory };
+
+    fn from(_: AllocFailed<T>) -> DecodeError {
+        DecodeError::Memory
     }
 }
