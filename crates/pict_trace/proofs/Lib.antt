@@ -14,3 +14,4 @@ pub mod Shown
 mod Rows
 pub mod Ordered
 pub mod ReadBack
+pub mod Ends

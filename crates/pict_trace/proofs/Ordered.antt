@@ -1,5 +1,5 @@
 -- Steps keep the order of labels.
-use Rattle.std.proofs.Common.{ℕ, zero, suc, ℤ, pos, negsuc, ◌-◌, nat_lt, nat_eq, Bool, true, false, List, [], ◌∷◌, ◌++◌, Option, Some, None, option_and_then, slice_get, unwrap_or, filter, map, if◌then◌else◌, sym, subst, length}
+use Rattle.std.proofs.Common.{ℕ, zero, suc, ◌+◌, ℤ, pos, negsuc, ◌-◌, nat_lt, nat_eq, Bool, true, false, List, [], ◌∷◌, ◌++◌, Option, Some, None, option_and_then, slice_get, unwrap_or, filter, map, if◌then◌else◌, sym, subst, length}
 use Rattle.std.specs.List.{AllByRecursion}
 use Rattle.pict_syntax.specs.Names.{text_of}
 use Rattle.pict_syntax.specs.declared.span.Span.{Span}
@@ -12,6 +12,8 @@ use Rattle.pict_core.specs.Primitives.{Effect, Leaves, Nothing, Answer, Trap, at
 use Rattle.pict_core.specs.Configuration.{Mark, Ready, Parked, Entry, Configuration, opening}
 use Rattle.pict_core.specs.Step.{Label, Quiet, Comm, Print, StepOutcome, Steps, Traps, Wrong, Finished, gone, kept, added, with_process, with_channel, received, served, took, meet_reader, meet_message, meet, printing, leave, perform, send, receive, choose, act, act_entry, Choice, free_step, Free, least, entry_at, step_by, oldest_choice}
 use Rattle.pict_core.specs.Run.{Reaches, shown}
+use Rattle.pict_core.specs.Places.{Place, choice_at}
+use Rattle.pict_core.specs.FreeRun.{FreelyRuns, at_start, by_step}
 use Rattle.pict_trace.specs.Ordered.{IsOrdered, AreOrdered, LabelsRise, IsOrderedProcess, IsOrderedConfiguration, IsOrderedLabel}
 
 module _ (names : List (List ℕ)) where
@@ -375,8 +377,18 @@ module _ (names : List (List ℕ)) where
       let k : Is D × IsOrderedLabel names label = subst Keeps steps (step_by_keeps M (oldest_choice M) b.0) in
       (k.0, subst (AllByRecursion (λ (l : ℕ × Label). IsOrderedLabel names l.1)) (sym e) (labels_joined before (shown (suc n) label) b.1 (shown_ordered (suc n) label k.1)))
 
+  freely : (C D : Configuration) (places : List Place) (labels : List (ℕ × Label)) → Is C → FreelyRuns C places labels D → Is D × AllByRecursion (λ (l : ℕ × Label). IsOrderedLabel names l.1) labels
+  freely C D places labels is at_start = (is, tt)
+  freely C D places labels is (by_step {places = ps} {labels = ls} {D = M} {place = place} {label = label} r there steps) =
+      let b = freely C M ps ls is r in
+      let k : Is D × IsOrderedLabel names label = subst Keeps steps (step_by_keeps M (choice_at M place) b.0) in
+      (k.0, labels_joined ls (shown (length ps + 1) label) b.1 (shown_ordered (length ps + 1) label k.1))
+
 pub free_steps_keep_order : (names : List (List ℕ)) (C : Configuration) (choice : Choice) (D : Configuration) (label : Label) → IsOrderedConfiguration names C → Free C choice D label → IsOrderedConfiguration names D × IsOrderedLabel names label
 free_steps_keep_order names C choice D label is free = subst (Keeps names) free.steps (free_step_keeps names C choice is)
 
 pub runs_show_order : (names : List (List ℕ)) (p : Process) (n : ℕ) (labels : List (ℕ × Label)) (C : Configuration) → IsOrderedProcess names p → Reaches n (opening p) labels C → AllByRecursion (λ (l : ℕ × Label). IsOrderedLabel names l.1) labels
 runs_show_order names p n labels C is r = (reached names n (opening p) C labels (is, tt) r).1
+
+pub free_runs_show_order : (names : List (List ℕ)) (p : Process) (places : List Place) (labels : List (ℕ × Label)) (C : Configuration) → IsOrderedProcess names p → FreelyRuns (opening p) places labels C → AllByRecursion (λ (l : ℕ × Label). IsOrderedLabel names l.1) labels
+free_runs_show_order names p places labels C is r = (freely names (opening p) C places labels (is, tt) r).1

@@ -1,15 +1,15 @@
--- What a run writes is read back as its labels.
+-- What runs write is read back as their labels.
 use Rattle.std.proofs.Common.{ℕ, List, [], ◌∷◌, sym, ◌∙◌, append-nil}
 use Rattle.std.specs.List.{AllByRecursion}
-use Rattle.pict_syntax.specs.Names.{text_of}
+use Rattle.pict_syntax.specs.Names.{text_of, HasNoRepeats}
 use Rattle.pict_core.specs.Term.{Val, Vals, Labelled, Var, Chan, Int, Char, Boolean, Text, PrimitiveVal, Record, no_vals, more_vals, no_labelled, more_labelled}
 use Rattle.pict_core.specs.Step.{Label, Quiet, Comm, Print}
 use Rattle.pict_trace.specs.Lines.{lines_text}
 use Rattle.pict_trace.specs.Readable.{IsOrderly, AreOrderly, LabelsAfter, IsReadable}
 use Rattle.pict_trace.specs.Ordered.{IsOrdered, AreOrdered, LabelsRise, IsOrderedLabel, IsInRange, AreInRange, LabelledInRange, FitsLine}
-use Rattle.pict_trace.specs.Laws.{RunsAreReadBack}
+use Rattle.pict_trace.specs.Laws.{AreReadBack, RunsAreReadBack, FreeRunsAreReadBack}
 use Rattle.pict_trace.proofs.Unique.{lines_unique}
-use Rattle.pict_trace.proofs.Ordered.{runs_show_order}
+use Rattle.pict_trace.proofs.Ordered.{runs_show_order, free_runs_show_order}
 
 module _ (names : List (List ℕ)) where
   mutual
@@ -40,9 +40,16 @@ module _ (names : List (List ℕ)) where
   all_readable [] o f = tt
   all_readable (l ∷ ls) o f = (readable l o.0 f.0, all_readable ls o.1 f.1)
 
+  -- labels in order that fit are read back
+  read_back : (labels : List (ℕ × Label)) → HasNoRepeats names → AllByRecursion (λ (l : ℕ × Label). IsOrderedLabel names l.1) labels → AllByRecursion FitsLine labels → AreReadBack names labels
+  read_back labels distinct ordered fits =
+      let all = all_readable labels ordered fits in (
+        record { shown = all; whole = sym (append-nil (lines_text names labels)) },
+        λ others read. lines_unique names distinct others labels read.shown all (sym (append-nil (lines_text names others)) ∙ sym read.whole),
+      )
+
 pub runs_are_read_back : RunsAreReadBack
-runs_are_read_back names p n labels C distinct ordered reached fits =
-    let all = all_readable names labels (runs_show_order names p n labels C ordered reached) fits in (
-      record { shown = all; whole = sym (append-nil (lines_text names labels)) },
-      λ others read. lines_unique names distinct others labels read.shown all (sym (append-nil (lines_text names others)) ∙ sym read.whole),
-    )
+runs_are_read_back names p n labels C distinct ordered reached fits = read_back names labels distinct (runs_show_order names p n labels C ordered reached) fits
+
+pub free_runs_are_read_back : FreeRunsAreReadBack
+free_runs_are_read_back names p places labels C distinct ordered runs fits = read_back names labels distinct (free_runs_show_order names p places labels C ordered runs) fits

@@ -10,7 +10,7 @@ use Rattle.pict_show.specs.Values.{value_text}
 use Rattle.pict_show.specs.Pending.{fields_text}
 use Rattle.pict_trace.specs.Readable.{IsIdentifier, IsOrderly, AreOrderly, LabelsAfter, labels_of, nesting, nesting_all, nesting_labelled}
 use Rattle.pict_trace.specs.Reading.{Ends, Reads, ReadsFields, ReadsLabelled, BeginsNoValue, BeginsNoFields, BeginsNoLabel, BeginsNoLabelAfter, BeginsNoLabelled, spaced_labels}
-use Rattle.pict_trace.proofs.Unique.{spaced, ends_spaced, ends_labels, closes_labels, Closes, opened, tail, never_same, lead, lead_of, lead_value, lead_word, value_ends, record_ends, no_label, label_unique}
+use Rattle.pict_trace.proofs.Unique.{spaced, ends_spaced, ends_labels, closes_labels, Closes, opened, tail, never_same, lead, lead_of, lead_value, value_ends, record_ends, no_label, label_unique}
 use Rattle.pict_trace.proofs.Kept.{Extends, text_kept, kept_vals, kept_labels, kept_spaced, kept_spaced_labels}
 
 -- ---- what is left

@@ -15,7 +15,7 @@ use Rattle.pict_trace.proofs.Growing.{same_names}
 use Rattle.pict_trace.proofs.Unique.{tail, first_of_bytes, is_solid, run_same, stops_solid, digits_all, digit_solid, numeral, number_unique, value_ends}
 use Rattle.pict_trace.proofs.Bares.{ends_drop, solid_taken}
 use Rattle.pict_trace.proofs.Literals.{string_closed, string_same}
-use Rattle.pict_trace.proofs.Kept.{kept_value}
+use Rattle.pict_trace.proofs.Kept.{Extends, kept_value}
 use Rattle.pict_trace.proofs.Gained.{labels_kept}
 use Rattle.pict_trace.proofs.Fields.{labels_extend}
 use Rattle.pict_lex.proofs.StepLemmas.{with_names_last}
@@ -170,6 +170,15 @@ one_line_more names new text rest rest' lines line x gained read =
     record {
       shown = readable_more new lines line shown read.readable;
       whole = x.whole ∙ ap (λ t. t ++ rest) (sym same) ∙ ap (λ t. lines_text new lines ++ t) read.whole ∙ sym (lines_more new lines line rest');
+    }
+
+-- lines are so by more names
+pub lines_stand : (names new : List (List ℕ)) (text rest : List ℕ) (lines : List (ℕ × Label)) → BeginsWithLines names text lines rest → Extends names new → BeginsWithLines new text lines rest
+lines_stand names new text rest lines x (more, e) =
+    let kept = kept_lines names more lines x.shown in
+    record {
+      shown = subst (λ n. AllByRecursion (IsReadable n) lines) (sym e) kept.1;
+      whole = x.whole ∙ ap (λ t. t ++ rest) (sym (ap (λ n. lines_text n lines) e ∙ kept.0));
     }
 
 pub lines_gained : (old names new : List (List ℕ)) (lines : List (ℕ × Label)) (line : ℕ × Label) → AllByRecursion (IsReadable names) lines → names ≡ with_names old (labels_in names lines) → new ≡ with_names names (labels_in_line new line)

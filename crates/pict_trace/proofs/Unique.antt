@@ -610,7 +610,7 @@ line_unique names d (m, l) (n, k) a c h i e =
     let q = shown_unique names d l k a c h.1 i.1 r.1 in
     (ap (λ t. (t, l)) r.0 ∙ ap (λ t. (n, t)) q.0, q.1)
 
-line_some : (names : List (List ℕ)) (l : ℕ × Label) (a : List ℕ) → IsReadable names l → line_text names l.0 l.1 ++ a ≢ []
+pub line_some : (names : List (List ℕ)) (l : ℕ × Label) (a : List ℕ) → IsReadable names l → line_text names l.0 l.1 ++ a ≢ []
 line_some names l a h e = by (decimal l.0) (numeral l.0 h.0) e
   where
     by : (ds : List ℕ) → IsNumeral 10 ds → (ds ++ (32 ∷ (shown_text names l.1 ++ 10 ∷ []))) ++ a ≢ []

@@ -3,8 +3,8 @@
 ghost use Rattle.std.specs.Prelude.{◌≡◌, ◌≢◌, ◌++◌, ◌↔◌, ℕ, List, IsTrue, IfSome, None};
 ghost use Rattle.pict_trace.specs.Reading.{is_end, Ends};
 
-// The text behind these bytes, where it begins with them.
-pub(crate) fn behind<'a>(bytes: &[u8], text: &'a [u8]) -> Option<&'a [u8]>
+/// The text behind these bytes, or None exactly where it doesn't begin with them. Takes no memory.
+pub fn behind<'a>(bytes: &[u8], text: &'a [u8]) -> Option<&'a [u8]>
     ensures some { IfSome result (λ rest. text.now ≡ bytes.now ++ rest.now) }
     ensures none { result ≡ None → (rest : List ℕ) → text.now ≢ bytes.now ++ rest }
 {

@@ -3,7 +3,7 @@
 ghost use Rattle.std.specs.Prelude.{ℕ, List, true, ◌≡◌, ◌≢◌, ◌+◌, ◌<◌, ◌^◌, [], ◌∷◌, ◌++◌, codes, length, map, IfOk, IfSome, None, Err};
 ghost use Rattle.std.specs.Fmt.{decimal};
 ghost use Rattle.pict_syntax.specs.Names.{with_names};
-ghost use Rattle.pict_trace.specs.Readable.{IsLines, IsFirstBad, BeginsWithLine, GainsLabels, labels_in_line, labels_in};
+ghost use Rattle.pict_trace.specs.Readable.{IsLines, IsFirstBad, BeginsWithLine, BeginsWithLines, GainsLabels, labels_in_line, labels_in};
 ghost use Rattle.pict_trace.specs.Plain.{plain_line, plain_label};
 ghost use Rattle.pict_trace.specs.Reading.{is_end, EndsString, EndsNoString, ReadsShown, BeginsNoShown, ReadsLine, Grows};
 
@@ -15,7 +15,7 @@ use crate::number::number_of;
 use crate::read::read_value;
 use pict_core::CoreVal;
 use pict_syntax::{Bytes, Names, VALUE_NESTING_LIMIT};
-use std::alloc::{AllocError, AllocFailed, Global};
+use std::alloc::{AllocError, Global};
 use thiserror::Error;
 
 /// What a step shows.
@@ -54,17 +54,6 @@ impl From<AllocError> for TraceError {
     ghost from_gives = { λ _ e. e ≡ Memory };
 
     fn from(_: AllocError) -> TraceError {
-        TraceError::Memory
-    }
-}
-
-impl<T: Drop> From<AllocFailed<T>> for TraceError {
-    ghost use Rattle.std.specs.Prelude.{◌≡◌};
-    ghost use Rattle.pict_trace.specs.declared.lines.TraceError.TheVariants.{Memory};
-
-    ghost from_gives = { λ _ e. e ≡ Memory };
-
-    fn from(_: AllocFailed<T>) -> TraceError {
         TraceError::Memory
     }
 }
@@ -227,13 +216,45 @@ fn read_line<'a>(
     })
 }
 
+/// What the lines at the front of a text say, as many as there are, in order, and the text behind them, which begins with no
+/// line. `names` gains the labels of their records that it lacked, and the records have them by their numbers there; it gains
+/// no others where no text is behind them.
+///
+/// A line is one as `line` writes them, of a value without variables whose records have distinct identifiers as labels in the
+/// order of their bytes, and that nests at most `VALUE_NESTING_LIMIT` records. The only error is want of memory. Whatever the
+/// answer, `names` keeps its entries at their places, and gains labels of the text alone.
+pub fn begin_lines<'a>(
+    alloc: Global,
+    names: &mut Names,
+    text: &'a [u8],
+) -> Result<(Vec<TraceLine>, &'a [u8]), AllocError>
+    requires room { length names.old + length text.now < 2 ^ 32 }
+    ensures lines { IfOk result (λ r. BeginsWithLines names.new text.now (map plain_line r.0.items) r.1.now) }
+    ensures no_more { IfOk result (λ r. (others : List (List ℕ)) → ¬ BeginsWithLine others r.1.now) }
+    ensures gained { IfOk result (λ r. r.1.now ≡ [] → names.new ≡ with_names names.old (labels_in names.new (map plain_line r.0.items))) }
+    ensures kept { GainsLabels text.now names.old names.new }
+{
+    let mut lines = Vec::new(alloc);
+    let mut rest = text;
+    'lines: while !rest.is_empty() {
+        match read_line(alloc, names, rest) {
+            Ok(found) => {
+                lines.push(found.line)?;
+                rest = found.rest;
+            }
+            Err(ReadError::Bad) => return Ok((lines, rest)),
+            Err(ReadError::Memory) => return Err(AllocError),
+        }
+    }
+    Ok((lines, rest))
+}
+
 /// What the lines of a text say, in order, to the end of the text. `names` gains the labels of their records that it
 /// lacked, and the records have them by their numbers there.
 ///
-/// The error `Bad` comes exactly at the first line that isn't one as `line` writes them, of a value without variables whose
-/// records have distinct identifiers as labels in the order of their bytes, and that nests at most `VALUE_NESTING_LIMIT`
-/// records. The bytes behind the last newline, where there are some, are a line, and none of these. The only other error is
-/// want of memory. Whatever the answer, `names` keeps its entries at their places, and gains labels of the text alone.
+/// The error `Bad` comes exactly at the first line that isn't one, as `begin_lines` takes them. The bytes behind the last
+/// newline, where there are some, are a line, and none of these. The only other error is want of memory. Whatever the answer,
+/// `names` keeps its entries at their places, and gains labels of the text alone.
 pub fn read_lines(
     alloc: Global,
     names: &mut Names,
@@ -245,17 +266,9 @@ pub fn read_lines(
     ensures gained { IfOk result (λ lines. names.new ≡ with_names names.old (labels_in names.new (map plain_line lines.items))) }
     ensures kept { GainsLabels text.now names.old names.new }
 {
-    let mut lines = Vec::new(alloc);
-    let mut rest = text;
-    'lines: while !rest.is_empty() {
-        match read_line(alloc, names, rest) {
-            Ok(found) => {
-                lines.push(found.line)?;
-                rest = found.rest;
-            }
-            Err(ReadError::Bad) => return Err(TraceError::Bad(lines.len() as u64 + 1)),
-            Err(ReadError::Memory) => return Err(TraceError::Memory),
-        }
+    let found = begin_lines(alloc, names, text)?;
+    if !found.1.is_empty() {
+        return Err(TraceError::Bad(found.0.len() as u64 + 1));
     }
-    Ok(lines)
+    Ok(found.0)
 }

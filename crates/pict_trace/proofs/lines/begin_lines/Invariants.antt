@@ -3,7 +3,7 @@ use Rattle.pict_syntax.specs.Names.{with_names}
 use Rattle.pict_trace.specs.Plain.{plain_line}
 use Rattle.pict_trace.specs.Readable.{BeginsWithLines, labels_in}
 use Rattle.pict_trace.specs.Reading.{Grows}
-use Rattle.pict_trace.proofs.lines.read_lines.Given as goal
+use Rattle.pict_trace.proofs.lines.begin_lines.Given as goal
 
 abbrev pub invariant-lines : goal.invariant-lines
 invariant-lines l = record {
