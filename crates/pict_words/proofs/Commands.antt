@@ -3,15 +3,13 @@ use Rattle.std.proofs.Common.{◌≡◌, ℕ, ◌+◌, ◌==◌, ◌≤◌, Bool
 use Rattle.std.specs.Prelude.{is_some}
 use Rattle.std.proofs.lemmas.Fmt.{decimal_injective}
 use Rattle.pict_syntax.specs.declared.limits.TheConstants.{FUEL_LIMIT}
-use Rattle.pict_words.specs.Words.{Options, Command, Run, Trace, Check, Code, Load, Pick, Picked, AsksFor, AsksToLoad, HasShape, HasNoShape, fuel_words}
+use Rattle.pict_words.specs.Words.{Options, Command, Run, Trace, Check, Code, Load, Pick, Picked, Replay, AsksFor, AsksToLoad, AsksToReplay, HasShape, HasNoShape, fuel_words}
 use Rattle.pict_words.specs.Asked.{Found, IsAsked, HasWord, TakesNoSeed, FoundSeed, IsSeeded, HasSeedWord, TakesSeed, unseeded}
 use Rattle.pict_words.proofs.Shapes.{words_for, two_are, three_are, four_are, five_are, at}
 use Rattle.pict_words.proofs.Seeds.{without_seed, seed_written}
+use Rattle.pict_words.proofs.Replays.{same_options, same_replay, same_trace}
 
 -- ---- what is asked for
-
-same_options : (o p : Options) → o.bare ≡ p.bare → o.fuel ≡ p.fuel → o.file ≡ p.file → o ≡ p
-same_options o p bare fuel file i = record { bare = bare i; fuel = fuel i; file = file i }
 
 -- the parts of words that are the same
 pub record SameParts (a b : List ℕ) (x y : Bool) (w v : Option ℕ) (f g : List ℕ) : Type 0 where
@@ -61,7 +59,7 @@ sum_of word = get_or word 0 0 + get_or word 1 0 + get_or word 4 0
 
 abbrev rank_by : ℕ → ℕ
 rank_by sum =
-    if sum == 231 then 0 else if sum == 331 then 1 else if sum == 310 then 2 else if sum == 210 then 3 else if sum == 219 then 4 else if sum == 217 then 5 else if sum == 318 then 6 else 7
+    if sum == 231 then 0 else if sum == 331 then 1 else if sum == 310 then 2 else if sum == 210 then 3 else if sum == 219 then 4 else if sum == 217 then 5 else if sum == 318 then 6 else if sum == 312 then 7 else 8
 
 abbrev rank_of : Command → ℕ
 rank_of (Run o) = 0
@@ -71,6 +69,7 @@ rank_of (Code o) = 3
 rank_of (Load n) = 4
 rank_of (Pick n o) = 5
 rank_of (Picked n o) = 6
+rank_of (Replay o trace) = 7
 
 abbrev rank_in : List (List ℕ) → ℕ
 rank_in words = rank_by (sum_of (at 0 words))
@@ -83,6 +82,7 @@ ranked words (Code o) s = sym (ap rank_in s.shape)
 ranked words (Load n) s = sym (ap rank_in s.shape)
 ranked words (Pick n o) (w, s) = sym (ap rank_in s.shape)
 ranked words (Picked n o) (w, s) = sym (ap rank_in s.shape)
+ranked words (Replay o trace) s = sym (ap rank_in s.shape)
 
 same_command : (word : List ℕ) (f : Bool) (o : Options) (c d : Command) → HasWord word f o c → HasWord word f o d → rank_of c ≡ rank_of d → c ≡ d
 same_command word f o (Run p) (Run q) h k e = ap Run (h.1 ∙ sym k.1)
@@ -92,9 +92,11 @@ same_command word f o (Code p) (Code q) h k e = ap Code (h.1 ∙ sym k.1)
 same_command word f o (Load m) d h k e = absurd h
 same_command word f o (Pick m p) d h k e = absurd h
 same_command word f o (Picked m p) d h k e = absurd h
+same_command word f o (Replay p trace) d h k e = absurd h
 same_command word f o c (Load n) h k e = absurd k
 same_command word f o c (Pick m p) h k e = absurd k
 same_command word f o c (Picked m p) h k e = absurd k
+same_command word f o c (Replay p trace) h k e = absurd k
 same_command word f o c d h k e = absurd (omega (arith, e))
 
 -- ---- shapes
@@ -115,6 +117,7 @@ asked_as words (Code o) file s = record { word = codes "code"; fueled = false; o
 asked_as words (Load n) file s = absurd file
 asked_as words (Pick n o) file s = absurd file
 asked_as words (Picked n o) file s = absurd file
+asked_as words (Replay o trace) file s = absurd file
 
 -- no fuel is written
 none_of : (w : Option ℕ) → is_some w ≡ false → w ≡ None
@@ -131,6 +134,7 @@ shape_of words word f o (Code p) (w, x, s) h =
 shape_of words word f o (Load n) a h = absurd h
 shape_of words word f o (Pick n p) a h = absurd h
 shape_of words word f o (Picked n p) a h = absurd h
+shape_of words word f o (Replay p trace) a h = absurd h
 
 -- what else words have the shape of has the same word and options
 same_has : (words : List (List ℕ)) (word : List ℕ) (f : Bool) (o : Options) (command : Command) → IsAsked word f o words → TakesNoSeed command → HasShape words command → HasWord word f o command
@@ -209,23 +213,27 @@ same_shape words (Code o) (Code p) e s t = file_commands words (Code o) (Code p)
 same_shape words (Load m) (Load n) e s t = ap Load (same_load words m n s t)
 same_shape words (Pick m o) (Pick n p) e s t = let x = one_seeded words _ _ m n o p s t in λ i. Pick (x.seed i) (x.options i)
 same_shape words (Picked m o) (Picked n p) e s t = let x = one_seeded words _ _ m n o p s t in λ i. Picked (x.seed i) (x.options i)
+same_shape words (Replay o a) (Replay p b) e s t = let x = same_replay words o p a b s t in λ i. Replay (x i) (same_trace words o p a b s t i)
 same_shape words c d e s t = absurd (omega (arith, e))
 
 pub one_command : (words : List (List ℕ)) (c d : Command) → HasShape words c → HasShape words d → c ≡ d
 one_command words c d s t = same_shape words c d (ranked words c s ∙ sym (ranked words d t)) s t
 
--- no command with a seed, and no `load`
-pub no_others : (words : List (List ℕ)) → ((command : Command) → TakesSeed command → HasShape words command → ⊥) → ((n : ℕ) → AsksToLoad n words → ⊥) → (command : Command) → (TakesNoSeed command → ⊥) → HasShape words command → ⊥
-no_others words no_seeded no_load (Load n) never s = no_load n s
-no_others words no_seeded no_load (Pick n o) never s = no_seeded (Pick n o) tt s
-no_others words no_seeded no_load (Picked n o) never s = no_seeded (Picked n o) tt s
-no_others words no_seeded no_load c never s = never tt
+-- no command with a seed, no `load` and no `replay`
+pub no_others : (words : List (List ℕ)) → ((command : Command) → TakesSeed command → HasShape words command → ⊥) → ((n : ℕ) → AsksToLoad n words → ⊥)
+    → ((o : Options) (trace : List ℕ) → AsksToReplay o trace words → ⊥) → (command : Command) → (TakesNoSeed command → ⊥) → HasShape words command → ⊥
+no_others words no_seeded no_load no_replay (Load n) never s = no_load n s
+no_others words no_seeded no_load no_replay (Pick n o) never s = no_seeded (Pick n o) tt s
+no_others words no_seeded no_load no_replay (Picked n o) never s = no_seeded (Picked n o) tt s
+no_others words no_seeded no_load no_replay (Replay o trace) never s = no_replay o trace s
+no_others words no_seeded no_load no_replay c never s = never tt
 
 -- no command over a file without a seed either
 pub no_shape : (words : List (List ℕ)) → ((command : Command) → TakesNoSeed command → HasShape words command → ⊥) → ((command : Command) → (TakesNoSeed command → ⊥) → HasShape words command → ⊥) → HasNoShape words
 no_shape words no_file no_other (Load n) s = no_other (Load n) (λ x. x) s
 no_shape words no_file no_other (Pick n o) s = no_other (Pick n o) (λ x. x) s
 no_shape words no_file no_other (Picked n o) s = no_other (Picked n o) (λ x. x) s
+no_shape words no_file no_other (Replay o trace) s = no_other (Replay o trace) (λ x. x) s
 no_shape words no_file no_other c s = no_file c tt s
 
 -- the same, where that is said of an error
@@ -235,6 +243,6 @@ no_shape_on_error (Ok x) words no_file no_other = tt
 no_shape_on_error (Err e) words no_file no_other = no_shape words no_file no_other
 
 pub no_others_on_error : {T E : Type 0} (r : Result T E) (words : List (List ℕ)) → ((command : Command) → TakesSeed command → HasShape words command → ⊥) → OnErr r ((n : ℕ) → AsksToLoad n words → ⊥)
-    → OnErr r ((command : Command) → (TakesNoSeed command → ⊥) → HasShape words command → ⊥)
-no_others_on_error (Ok x) words no_seeded no_load = tt
-no_others_on_error (Err e) words no_seeded no_load = no_others words no_seeded no_load
+    → OnErr r ((o : Options) (trace : List ℕ) → AsksToReplay o trace words → ⊥) → OnErr r ((command : Command) → (TakesNoSeed command → ⊥) → HasShape words command → ⊥)
+no_others_on_error (Ok x) words no_seeded no_load no_replay = tt
+no_others_on_error (Err e) words no_seeded no_load no_replay = no_others words no_seeded no_load no_replay

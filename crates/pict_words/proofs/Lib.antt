@@ -1,5 +1,6 @@
 pub mod Lists
 pub mod Shapes
 pub mod Seeds
+pub mod Replays
 pub mod Commands
 pub mod Some

@@ -6,11 +6,12 @@ use Rattle.std.proofs.lemmas.Bool.{cases_lt}
 use Rattle.std.proofs.lemmas.Fmt.{decimal_is_IsNumeral}
 use Rattle.pict_syntax.specs.declared.limits.TheConstants.{FUEL_LIMIT}
 use Rattle.pict_total.proofs.Choices.{same_or_not, same_text_or_not}
-use Rattle.pict_words.specs.Words.{Options, Command, Run, Trace, Check, Code, Load, Pick, Picked, AsksToLoad, HasShape, HasNoShape, IsFileWord}
+use Rattle.pict_words.specs.Words.{Options, Command, Run, Trace, Check, Code, Load, Pick, Picked, Replay, AsksToLoad, HasShape, HasNoShape, IsFileWord, default_fuel}
 use Rattle.pict_words.specs.Asked.{Found, IsAsked, HasWord, TakesNoSeed, FoundSeed, IsSeeded, HasSeedWord, TakesSeed, unseeded, seed_in}
 use Rattle.pict_words.specs.Laws.{OneCommand}
 use Rattle.pict_words.proofs.Shapes.{at, two_asked, two_not_found, three_asked, three_not_found, four_asked, four_not_found, five_asked, five_not_found, not_found}
 use Rattle.pict_words.proofs.Seeds.{with_word, seeded_asked, no_plain, no_seed, not_seeded}
+use Rattle.pict_words.proofs.Replays.{ByReplay, three_not, four_not, other_number}
 use Rattle.pict_words.proofs.Commands.{shape_of, no_other, found_by, seeded_shape, no_other_seeded, found_seeded, one_command, no_others, no_shape}
 
 -- ---- numbers
@@ -110,6 +111,7 @@ no_word word f o no_run no_trace no_check no_code (Code p) h = no_code h.2 h.0
 no_word word f o no_run no_trace no_check no_code (Load n) h = h
 no_word word f o no_run no_trace no_check no_code (Pick n p) h = h
 no_word word f o no_run no_trace no_check no_code (Picked n p) h = h
+no_word word f o no_run no_trace no_check no_code (Replay p trace) h = h
 
 -- the fuel is written only where the command runs a program
 unrun : (word : List ℕ) (f : Bool) (o : Options) → word ≢ codes "run" → word ≢ codes "trace" → ByWord word f o
@@ -220,6 +222,41 @@ load_command (a ∷ []) = inr (length_of_load (a ∷ []) (λ e. omega (arith, e)
 load_command (a ∷ b ∷ []) = load_of_two a b
 load_command (a ∷ b ∷ c ∷ more) = inr (length_of_load (a ∷ b ∷ c ∷ more) (λ e. omega (arith, e)))
 
+replay_of_three : (a f t : List ℕ) → ByReplay (a ∷ f ∷ t ∷ [])
+replay_of_three a f t = elim (same_text_or_not a (codes "replay")) [
+  | inl word ↦ elim (file_word_or_not f) [
+    | inl first ↦ elim (file_word_or_not t) [
+      | inl second ↦ inl (record { bare = false; fuel = default_fuel; file = f }, t, record { shape = ap (λ w. w ∷ f ∷ t ∷ []) word; fuel = refl; file = first; second = second })
+      | inr never ↦ inr (three_not a f t (λ same is. never))
+    ]
+    | inr never ↦ inr (three_not a f t (λ same is other. never is))
+  ]
+  | inr other ↦ inr (three_not a f t (λ same is also. other same))
+]
+
+replay_of_four : (a b f t : List ℕ) → ByReplay (a ∷ b ∷ f ∷ t ∷ [])
+replay_of_four a b f t = elim (same_text_or_not a (codes "replay")) [
+  | inl word ↦ elim (same_text_or_not b (codes "--bare")) [
+    | inl bare ↦ elim (file_word_or_not f) [
+      | inl first ↦ elim (file_word_or_not t) [
+        | inl second ↦ inl (record { bare = true; fuel = default_fuel; file = f }, t, record { shape = λ i. word i ∷ bare i ∷ f ∷ t ∷ []; fuel = refl; file = first; second = second })
+        | inr never ↦ inr (four_not a b f t (λ same alone is. never))
+      ]
+      | inr never ↦ inr (four_not a b f t (λ same alone is other. never is))
+    ]
+    | inr other ↦ inr (four_not a b f t (λ same alone is also. other alone))
+  ]
+  | inr other ↦ inr (four_not a b f t (λ same alone is also. other same))
+]
+
+replay_command : (words : List (List ℕ)) → ByReplay words
+replay_command [] = inr (other_number [] (λ e. omega (arith, e)) (λ e. omega (arith, e)))
+replay_command (a ∷ []) = inr (other_number (a ∷ []) (λ e. omega (arith, e)) (λ e. omega (arith, e)))
+replay_command (a ∷ b ∷ []) = inr (other_number (a ∷ b ∷ []) (λ e. omega (arith, e)) (λ e. omega (arith, e)))
+replay_command (a ∷ f ∷ t ∷ []) = replay_of_three a f t
+replay_command (a ∷ b ∷ f ∷ t ∷ []) = replay_of_four a b f t
+replay_command (a ∷ b ∷ c ∷ d ∷ e ∷ more) = inr (other_number (a ∷ b ∷ c ∷ d ∷ e ∷ more) (λ x. omega (arith, x)) (λ x. omega (arith, x)))
+
 pub shape_or_not : (words : List (List ℕ)) → ((command : Command) × HasShape words command) ⊎ HasNoShape words
 shape_or_not words = elim (file_command words) [
   | inl c ↦ inl c
@@ -227,7 +264,10 @@ shape_or_not words = elim (file_command words) [
     | inl c ↦ inl c
     | inr no_seeded ↦ elim (load_command words) [
       | inl l ↦ inl (Load l.0, l.1)
-      | inr no_load ↦ inr (no_shape words no_file (no_others words no_seeded no_load))
+      | inr no_load ↦ elim (replay_command words) [
+        | inl r ↦ inl (Replay r.0 r.1, r.2)
+        | inr no_replay ↦ inr (no_shape words no_file (no_others words no_seeded no_load no_replay))
+      ]
     ]
   ]
 ]

@@ -2,7 +2,7 @@
 use Rattle.std.specs.Prelude.{◌≡◌, ℕ, ◌≤◌, ◌<◌, ◌^◌, Bool, false, List, [], ◌∷◌, Option, is_some, codes}
 use Rattle.std.specs.Fmt.{decimal}
 use Rattle.pict_syntax.specs.declared.limits.TheConstants.{FUEL_LIMIT}
-use Rattle.pict_words.specs.Words.{Options, Command, Run, Trace, Check, Code, Load, Pick, Picked, AsksFor, AsksWithSeed}
+use Rattle.pict_words.specs.Words.{Options, Command, Run, Trace, Check, Code, Load, Pick, Picked, Replay, default_fuel, IsFileWord, AsksFor, AsksWithSeed}
 
 -- the words ask for some options, with this word for a command
 abbrev pub Found : List ℕ → List (List ℕ) → Type 0
@@ -25,12 +25,14 @@ HasWord word fueled options (Code o) = (word ≡ codes "code") × (o ≡ options
 HasWord word fueled options (Load n) = ⊥
 HasWord word fueled options (Pick n o) = ⊥
 HasWord word fueled options (Picked n o) = ⊥
+HasWord word fueled options (Replay o trace) = ⊥
 
--- the command is over a file, and takes no seed
+-- the command is over a file alone, and takes no seed
 abbrev pub TakesNoSeed : Command → Type 0
 TakesNoSeed (Load n) = ⊥
 TakesNoSeed (Pick n o) = ⊥
 TakesNoSeed (Picked n o) = ⊥
+TakesNoSeed (Replay o trace) = ⊥
 TakesNoSeed _ = Unit {0}
 
 -- ---- with a seed
@@ -72,3 +74,11 @@ abbrev pub TakesSeed : Command → Type 0
 TakesSeed (Pick n o) = Unit {0}
 TakesSeed (Picked n o) = Unit {0}
 TakesSeed _ = ⊥
+
+-- ---- with a second file
+
+-- the command replays the trace of this name over this file
+pub record IsReplayOf (bare : Bool) (file trace : List ℕ) (command : Command) : Type 0 where
+  pub is : command ≡ Replay (record { bare = bare; fuel = default_fuel; file = file }) trace
+  pub first : IsFileWord file
+  pub second : IsFileWord trace

@@ -18,6 +18,7 @@ pub data Command : Type 0 where
   Load : ℕ → Command
   Pick : ℕ → Options → Command
   Picked : ℕ → Options → Command
+  Replay : Options → List ℕ → Command
 
 -- the fuel without `--fuel`
 abbrev pub default_fuel : ℕ
@@ -58,6 +59,13 @@ pub record AsksToLoad (n : ℕ) (words : List (List ℕ)) : Type 0 where
   pub shape : words ≡ codes "load" ∷ decimal n ∷ []
   pub fits : n < 2 ^ 64
 
+-- `replay [--bare] FILE TRACE`. Nothing runs out: the fuel is the default one
+pub record AsksToReplay (options : Options) (trace : List ℕ) (words : List (List ℕ)) : Type 0 where
+  pub shape : words ≡ codes "replay" ∷ (bare_words options.bare ++ options.file ∷ trace ∷ [])
+  pub fuel : options.fuel ≡ default_fuel
+  pub file : IsFileWord options.file
+  pub second : IsFileWord trace
+
 -- the words have the shape of this command. Its fuel may be written where it runs a file
 abbrev pub HasShape : List (List ℕ) → Command → Type 0
 HasShape words (Run options) = (written : Option ℕ) × AsksFor (codes "run") written options words
@@ -67,6 +75,7 @@ HasShape words (Code options) = AsksFor (codes "code") None options words
 HasShape words (Load n) = AsksToLoad n words
 HasShape words (Pick seed options) = (written : Option ℕ) × AsksWithSeed (codes "pick") written seed options words
 HasShape words (Picked seed options) = (written : Option ℕ) × AsksWithSeed (codes "picked") written seed options words
+HasShape words (Replay options trace) = AsksToReplay options trace words
 
 -- the words have no listed shape
 abbrev pub HasNoShape : List (List ℕ) → Type 0
@@ -81,3 +90,4 @@ fuel_of (Code options) = options.fuel
 fuel_of (Load n) = default_fuel
 fuel_of (Pick seed options) = options.fuel
 fuel_of (Picked seed options) = options.fuel
+fuel_of (Replay options trace) = options.fuel

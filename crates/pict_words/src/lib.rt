@@ -1,6 +1,7 @@
 //! The words after the program's name, and what they ask for.
 #![tactic(auto)]
 
+mod replaying;
 mod words;
 
 pub use words::{Command, DEFAULT_FUEL, Options, Usage, law_one_command, words_of};

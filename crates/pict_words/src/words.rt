@@ -2,11 +2,12 @@
 ghost use Rattle.std.specs.Prelude.{◌≡◌, ◌≢◌, ◌↔◌, ◌≤◌, ◌<◌, ◌^◌, ℕ, List, [], ◌∷◌, None, IfOk, IfSome, OnErr, IsTrue};
 ghost use Rattle.std.specs.Fmt.{decimal};
 ghost use Rattle.pict_words.specs.Words as shapes;
-ghost use Rattle.pict_words.specs.Words.{HasShape, HasNoShape, IsFileWord, AsksToLoad};
+ghost use Rattle.pict_words.specs.Words.{HasShape, HasNoShape, IsFileWord, AsksToLoad, AsksToReplay};
 ghost use Rattle.pict_words.specs.Plain.{texts_of, plain_command, plain_options};
 ghost use Rattle.pict_words.specs.Asked.{IsAsked, Found, HasWord, TakesNoSeed, IsSeeded, FoundSeed, HasSeedWord, TakesSeed};
 ghost use Rattle.pict_words.specs.Laws.{OneCommand};
 
+use crate::replaying::replay_command;
 use itoa::Buffer;
 use pict_syntax::FUEL_LIMIT;
 
@@ -38,6 +39,8 @@ pub enum Command<'a> {
     Pick(u64, Options<'a>),
     /// `picked`: the same run, of which it writes the choices and the trace.
     Picked(u64, Options<'a>),
+    /// `replay`: checks a program, and says whether a replay file, whose name is the second one, agrees with it.
+    Replay(Options<'a>, &'a str),
 }
 
 /// The words have no listed shape.
@@ -80,6 +83,18 @@ fn other_command<'a>(words: &[&'a str]) -> Result<Command<'a>, Usage>
     ensures usage { OnErr result ((command : shapes.Command) → (TakesNoSeed command → ⊥) → HasShape (texts_of words.now) command → ⊥) }
 {
     match seed_command(words) {
+        Some(command) => Ok(command),
+        None => last_command(words),
+    }
+}
+
+/// The command that the words ask for, where it is `replay` or `load`.
+fn last_command<'a>(words: &[&'a str]) -> Result<Command<'a>, Usage>
+    ensures shape { IfOk result (λ command. HasShape (texts_of words.now) (plain_command command)) }
+    ensures no_load { OnErr result ((n : ℕ) → AsksToLoad n (texts_of words.now) → ⊥) }
+    ensures no_replay { OnErr result ((options : shapes.Options) (trace : List ℕ) → AsksToReplay options trace (texts_of words.now) → ⊥) }
+{
+    match replay_command(words) {
         Some(command) => Ok(command),
         None => load_command(words),
     }
@@ -405,7 +420,7 @@ fn number_of(word: &str) -> Option<u64>
 }
 
 /// Whether the word may name a file.
-fn is_file_word(word: &str) -> bool
+pub(crate) fn is_file_word(word: &str) -> bool
     ensures { IsTrue result ↔ IsFileWord word.now }
 {
     match word.as_bytes().first() {

@@ -3,4 +3,5 @@ use Rattle.pict_words.proofs.Commands.{no_others_on_error}
 use Rattle.pict_words.proofs.words.other_command.Goals as goal
 
 pub returns-in-None-clause-usage : goal.returns-in-None-clause-usage
-returns-in-None-clause-usage c = no_others_on_error c.load_command.result (texts_of c.args.words.now) (c.seed_command.ensures.none c.in-None.is) c.load_command.ensures.usage
+returns-in-None-clause-usage c =
+    no_others_on_error c.last_command.result (texts_of c.args.words.now) (c.seed_command.ensures.none c.in-None.is) c.last_command.ensures.no_load c.last_command.ensures.no_replay
