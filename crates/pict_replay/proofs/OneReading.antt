@@ -1,5 +1,5 @@
 -- Lines of choices, read from their texts: each in one way.
-use Rattle.std.proofs.Common.{ℕ, zero, suc, ◌+◌, ◌-◌, ◌<◌, ◌≤◌, ◌≡◌, ◌≢◌, ◌^◌, ◌==◌, true, false, List, [], ◌∷◌, ◌++◌, length, length-append, append_assoc, refl, sym, ap, ◌∙◌, subst, arith}
+use Rattle.std.proofs.Common.{ℕ, ◌+◌, ◌<◌, ◌≡◌, ◌≢◌, ◌^◌, false, List, [], ◌∷◌, ◌++◌, length, length-append, append_assoc, refl, sym, ap, ◌∙◌, subst, arith}
 use Rattle.std.specs.List.{AllByRecursion}
 use Rattle.std.specs.Fmt.{decimal}
 use Rattle.std.proofs.lemmas.Fmt.{decimal_injective}
@@ -19,7 +19,7 @@ same_numbers stop m n a c is few small e =
 
 -- ---- a line is that of one choice
 
-spread : (place : Place) (a : List ℕ) → choice_text place ++ a ≡ decimal place.ready ++ (32 ∷ (decimal place.partner ++ (10 ∷ a)))
+pub spread : (place : Place) (a : List ℕ) → choice_text place ++ a ≡ decimal place.ready ++ (32 ∷ (decimal place.partner ++ (10 ∷ a)))
 spread place a =
     append_assoc (decimal place.ready) (32 ∷ (decimal place.partner ++ (10 ∷ []))) a
     ∙ ap (λ l. decimal place.ready ++ (32 ∷ l)) (append_assoc (decimal place.partner) (10 ∷ []) a)
@@ -34,7 +34,7 @@ one_choice p q a c w v e =
 digit_there : (ds a : List ℕ) → (d : ℕ) × (rest : List ℕ) × (ds ≡ d ∷ rest) → [] ≡ ds ++ a → ⊥
 digit_there ds a f e = let g : [] ≡ f.0 ∷ (f.1 ++ a) = e ∙ ap (λ l. l ++ a) f.2 in cc g
 
-end_no_choice : BeginsWithChoice [] → ⊥
+pub end_no_choice : BeginsWithChoice [] → ⊥
 end_no_choice b =
     let f = first_digit (decimal b.0.ready) (numeral b.0.ready b.2.0) in
     digit_there (decimal b.0.ready) _ (f.0, f.1, f.2) (b.3 ∙ spread b.0 b.1)
@@ -50,7 +50,7 @@ one_cut (p ∷ ps) (q ∷ qs) a c w v n m e =
     let r = one_cut ps qs a c w.1 v.1 n m s.1 in
     (ap (λ x. x ∷ ps) s.0 ∙ ap (λ l. q ∷ l) r.0, r.1)
 
-same_cut : (text : List ℕ) (ps qs : List Place) (a c : List ℕ) → BeginsWithChoices text ps a → BeginsWithChoices text qs c → (BeginsWithChoice a → ⊥) → (BeginsWithChoice c → ⊥) → (ps ≡ qs) × (a ≡ c)
+pub same_cut : (text : List ℕ) (ps qs : List Place) (a c : List ℕ) → BeginsWithChoices text ps a → BeginsWithChoices text qs c → (BeginsWithChoice a → ⊥) → (BeginsWithChoice c → ⊥) → (ps ≡ qs) × (a ≡ c)
 same_cut text ps qs a c x y n m = one_cut ps qs a c x.writable y.writable n m (sym x.whole ∙ y.whole)
 
 pub choices_are_read_once : ChoicesAreReadOnce
@@ -65,7 +65,7 @@ choices_are_read_once text = record {
 pub none_yet : (text : List ℕ) → BeginsWithChoices text [] text
 none_yet text = record { writable = tt; whole = refl }
 
-writable_more : (ps : List Place) (p : Place) → AllByRecursion IsWritable ps → IsWritable p → AllByRecursion IsWritable (ps ++ p ∷ [])
+pub writable_more : (ps : List Place) (p : Place) → AllByRecursion IsWritable ps → IsWritable p → AllByRecursion IsWritable (ps ++ p ∷ [])
 writable_more [] p h w = (w, tt)
 writable_more (q ∷ ps) p h w = (h.0, writable_more ps p h.1 w)
 
@@ -89,16 +89,11 @@ shorter rest more p e =
     let second = length-append (decimal p.partner) (10 ∷ more) in
     omega (arith, whole, first, second)
 
-pub first_bad : (text rest : List ℕ) (ps : List Place) (number : ℕ) → BeginsWithChoices text ps rest → number ≡ length ps + 1 → (length rest == 0) ≡ false → ¬ BeginsWithChoice rest → IsFirstBadChoice text number
-first_bad text rest ps number x place more bad = record { places = ps; rest = rest; before = x; place = place; more = some_left rest more; bad = bad }
-  where
-    some_left : (r : List ℕ) → (length r == 0) ≡ false → r ≢ []
-    some_left [] h e = grind (arith, h)
-    some_left (y ∷ ys) h e = cc
+pub first_bad : (text rest : List ℕ) (ps : List Place) (number : ℕ) → BeginsWithChoices text ps rest → number ≡ length ps + 1 → rest ≢ [] → ¬ BeginsWithChoice rest → IsFirstBadChoice text number
+first_bad text rest ps number x place more bad = record { places = ps; rest = rest; before = x; place = place; more = more; bad = bad }
 
-pub all_choices : (text rest : List ℕ) (ps : List Place) → BeginsWithChoices text ps rest → (length rest == 0) ≡ true → IsChoices text ps
-all_choices text [] ps x h = x
-all_choices text (y ∷ ys) ps x h = grind (arith, h)
+pub all_choices : (text rest : List ℕ) (ps : List Place) → BeginsWithChoices text ps rest → rest ≡ [] → IsChoices text ps
+all_choices text rest ps x e = subst (BeginsWithChoices text ps) e x
 
 -- ---- the choice in front
 

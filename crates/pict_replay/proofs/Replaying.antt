@@ -1,10 +1,9 @@
 -- What agrees is replayed to its end, and has no fault; what has a fault has one.
-use Rattle.std.proofs.Common.{ℕ, zero, suc, ◌+◌, ◌<◌, ◌≤◌, ◌≡◌, ◌≢◌, ◌⊎◌, inl, inr, Bool, true, false, nat_eq, nat_lt, cond, List, [], ◌∷◌, ◌++◌, length, append_assoc, append-nil, refl, sym, ap, ◌∙◌, subst, arith}
-use Rattle.std.specs.Prelude.{◌||◌, ◌↔◌, ◌-◌}
+use Rattle.std.proofs.Common.{ℕ, ◌+◌, ◌<◌, ◌≤◌, ◌≡◌, ◌⊎◌, inl, inr, Bool, true, false, nat_eq, nat_lt, cond, List, [], ◌∷◌, ◌++◌, length, append_assoc, append-nil, refl, sym, ap, ◌∙◌, subst, arith}
+use Rattle.std.specs.Prelude.{◌||◌, ◌-◌}
 use Rattle.std.proofs.lemmas.Bool.Decides.{nat_tests}
 use Rattle.std.proofs.lemmas.List.{length_push, same_from_push}
-use Rattle.pict_syntax.specs.declared.span.Span.{Span}
-use Rattle.pict_core.specs.Term.{Val, Process}
+use Rattle.pict_core.specs.Term.{Process}
 use Rattle.pict_core.specs.Configuration.{Configuration, opening}
 use Rattle.pict_core.specs.Step.{Label, Quiet, Comm, Print, Steps, Traps}
 use Rattle.pict_core.specs.Run.{shown}

@@ -1,10 +1,10 @@
 -- Where no free run is wrong, choices and lines agree or have a fault.
-use Rattle.std.proofs.Common.{ℕ, zero, suc, ◌+◌, ◌<◌, ◌≤◌, ◌≡◌, ◌≢◌, ◌⊎◌, inl, inr, Bool, true, false, List, [], ◌∷◌, ◌++◌, length, append_assoc, append-nil, refl, sym, ap, ◌∙◌, subst, arith, Option, Some, option_map}
+use Rattle.std.proofs.Common.{ℕ, zero, suc, ◌+◌, ◌<◌, ◌≤◌, ◌≡◌, ◌⊎◌, inl, inr, Bool, true, false, List, [], ◌∷◌, ◌++◌, length, append_assoc, append-nil, refl, sym, ap, ◌∙◌, subst, arith, Option, Some, option_map}
 use Rattle.std.specs.Prelude.{filter, slice_get, option_and_then}
 use Rattle.pict_core.specs.Term.{Process}
 use Rattle.pict_core.specs.Closed.{IsClosed}
 use Rattle.pict_core.specs.Configuration.{Entry, Configuration, IsConfiguration, opening}
-use Rattle.pict_core.specs.Step.{Label, StepOutcome, Steps, Traps, Wrong, Finished, is_ready, is_partner, entry_at, act_entry, step_by}
+use Rattle.pict_core.specs.Step.{StepOutcome, Steps, Traps, Wrong, Finished, is_ready, is_partner, entry_at, act_entry, step_by}
 use Rattle.pict_core.specs.Run.{shown}
 use Rattle.pict_core.proofs.Tabled.{never_finished}
 use Rattle.pict_core.specs.Places.{Place, IsPlace, ready_entries, partner_entries, partners_at, choice_by, outcome_at}

@@ -2,11 +2,11 @@
 
 ghost use Rattle.std.specs.Prelude.{ℕ, List, ◌≡◌, ◌≢◌, ◌<◌, ◌^◌, ◌∷◌, ◌++◌, map, IfOk, IfSome, None, Err};
 ghost use Rattle.std.specs.Fmt.{decimal};
-ghost use Rattle.pict_replay.specs.Files.{choice_text, BeginsWithChoice, IsChoices, IsFirstBadChoice};
+ghost use Rattle.pict_replay.specs.Files.{choice_text, BeginsWithChoice, BeginsWithChoices, IsChoices, IsFirstBadChoice};
 ghost use Rattle.pict_replay.specs.Plain.{place_of};
 
 use pict_trace::number_until;
-use std::alloc::{AllocError, AllocFailed, Global};
+use std::alloc::{AllocError, Global};
 use thiserror::Error;
 
 /// A choice by place: a ready process, and one of its partners, each counted from 0 in the order of their stamps.
@@ -40,17 +40,6 @@ impl From<AllocError> for ChoicesError {
     }
 }
 
-impl<T: Drop> From<AllocFailed<T>> for ChoicesError {
-    ghost use Rattle.std.specs.Prelude.{◌≡◌};
-    ghost use Rattle.pict_replay.specs.declared.choices.ChoicesError.TheVariants.{Memory};
-
-    ghost from_gives = { λ _ e. e ≡ Memory };
-
-    fn from(_: AllocFailed<T>) -> ChoicesError {
-        ChoicesError::Memory
-    }
-}
-
 // The choice whose line is at the front of a text, and the text behind the line.
 fn choice_at<'a>(text: &'a [u8]) -> Option<(Choice, &'a [u8])>
     ensures some { IfSome result (λ r. text.now ≡ choice_text (place_of r.0) ++ r.1.now) }
@@ -73,6 +62,24 @@ fn choice_at<'a>(text: &'a [u8]) -> Option<(Choice, &'a [u8])>
     }
 }
 
+/// The choices at the front of a text, as many as there are, in order, and the text behind their lines, which begins with none.
+/// The only error is want of memory. It takes time in the bytes of the lines.
+pub(crate) fn begin_choices<'a>(
+    alloc: Global,
+    text: &'a [u8],
+) -> Result<(Vec<Choice>, &'a [u8]), AllocError>
+    ensures choices { IfOk result (λ r. BeginsWithChoices text.now (map place_of r.0.items) r.1.now) }
+    ensures no_more { IfOk result (λ r. ¬ BeginsWithChoice r.1.now) }
+{
+    let mut choices = Vec::new(alloc);
+    let mut rest = text;
+    'lines: while let Some(found) = choice_at(rest) {
+        choices.push(found.0)?;
+        rest = found.1;
+    }
+    Ok((choices, rest))
+}
+
 /// The choices of the lines of a text, in order, to its end: each line is two numbers below 2^64, in decimal without a
 /// leading zero, with one space between them.
 ///
@@ -82,16 +89,9 @@ pub fn read_choices(alloc: Global, text: &[u8]) -> Result<Vec<Choice>, ChoicesEr
     ensures choices { IfOk result (λ choices. IsChoices text.now (map place_of choices.items)) }
     ensures bad { (number : ℕ) → result ≡ Err (ChoicesError.Bad number) → IsFirstBadChoice text.now number }
 {
-    let mut choices = Vec::new(alloc);
-    let mut rest = text;
-    'lines: while !rest.is_empty() {
-        match choice_at(rest) {
-            Some(found) => {
-                choices.push(found.0)?;
-                rest = found.1;
-            }
-            None => return Err(ChoicesError::Bad(choices.len() as u64 + 1)),
-        }
+    let found = begin_choices(alloc, text)?;
+    if !found.1.is_empty() {
+        return Err(ChoicesError::Bad(found.0.len() as u64 + 1));
     }
-    Ok(choices)
+    Ok(found.0)
 }

@@ -1,4 +1,3 @@
-use Rattle.pict_replay.specs.Plain.{place_of}
 use Rattle.pict_replay.proofs.OneReading.{choice_found, no_first, no_second}
 use Rattle.pict_replay.proofs.choices.choice_at.Goals as goal
 

@@ -1,32 +1,19 @@
-use Rattle.std.proofs.Common.{◌≡◌, ◌+◌, map, length, sym, ◌∙◌, ap, subst, arith}
+use Rattle.std.proofs.Common.{◌≡◌, ◌+◌, map, length, sym, ◌∙◌, arith}
 use Rattle.std.proofs.lemmas.List.{length-map}
-use Rattle.pict_replay.specs.Files.{BeginsWithChoices}
 use Rattle.pict_replay.specs.Plain.{place_of}
-use Rattle.pict_trace.proofs.Steps.{pushed}
-use Rattle.pict_replay.proofs.OneReading.{none_yet, one_more, shorter, first_bad, all_choices}
+use Rattle.pict_trace.proofs.Shown.{some_left, nothing_left}
+use Rattle.pict_replay.proofs.OneReading.{first_bad, all_choices}
 use Rattle.pict_replay.proofs.choices.read_choices.Goals as goal
 
-pub lines-init : goal.lines-init
-lines-init c = record { before = subst (λ l. BeginsWithChoices c.args.text.now (map place_of l) c.args.text.now) (sym c.new-choices.ensures.items) (none_yet c.args.text.now) }
-
-pub lines-preserved : goal.lines-preserved
-lines-preserved c =
-    let found = c.in-Some.found in
-    record {
-      before = subst (λ l. BeginsWithChoices c.args.text.now l found.1.now) (sym (pushed place_of c.lines.choices.items c.push.new.self.items found.0 c.in_ok-push-in-Some.ensures.items))
-          (one_more c.args.text.now c.lines.rest.now found.1.now (map place_of c.lines.choices.items) (place_of found.0) c.lines.invariant.before c.in-Some.ensures.ready c.in-Some.ensures.partner c.in-Some.ensures.some);
-    }
-
-pub lines-smaller : goal.lines-smaller
-lines-smaller c = shorter c.lines.rest.now c.in-Some.found.1.now (place_of c.in-Some.found.0) c.in-Some.ensures.some
-
-pub returns-in-None-clause-bad : goal.returns-in-None-clause-bad
-returns-in-None-clause-bad c number e =
+pub returns-then-not-is_empty-clause-bad : goal.returns-then-not-is_empty-clause-bad
+returns-then-not-is_empty-clause-bad c number e =
+    let found = c.in_ok-found.found in
     let same : c.len.result + 1 ≡ number = cc in
-    let count : length (map place_of c.lines.choices.items) ≡ length c.lines.choices.items = length-map c.lines.choices.items place_of in
-    first_bad c.args.text.now c.lines.rest.now (map place_of c.lines.choices.items) number c.lines.invariant.before (let k = c.len.ensures in omega (arith, same, k, count))
-    (sym c.is_empty.ensures ∙ c.lines-test.true) (c.choice_at.ensures.none c.in-None.is)
+    let count : length (map place_of found.0.items) ≡ length found.0.items = length-map found.0.items place_of in
+    first_bad c.args.text.now found.1.now (map place_of found.0.items) number c.in_ok-found.ensures.choices (let k = c.len.ensures in omega (arith, same, k, count))
+    (some_left found.1.now (sym c.is_empty.ensures ∙ c.if-not-is_empty.true)) c.in_ok-found.ensures.no_more
 
 pub returns-clause-choices : goal.returns-clause-choices
 returns-clause-choices c =
-    all_choices c.args.text.now c.lines.rest.now (map place_of c.lines.choices.items) c.lines.invariant.before (sym c.is_empty.ensures ∙ c.lines-test.false)
+    let found = c.in_ok-found.found in
+    all_choices c.args.text.now found.1.now (map place_of found.0.items) c.in_ok-found.ensures.choices (nothing_left found.1.now (sym c.is_empty.ensures ∙ c.if-not-is_empty.false))
