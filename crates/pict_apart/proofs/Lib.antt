@@ -1,0 +1,4 @@
+pub mod Looking
+pub mod Alike
+pub mod Patterns
+pub mod Same

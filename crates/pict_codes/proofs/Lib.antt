@@ -1,0 +1,6 @@
+pub mod Lines
+pub mod Expanding
+pub mod Own
+pub mod Origins
+pub mod PatternAsks
+pub mod Scoping
