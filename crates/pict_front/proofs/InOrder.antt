@@ -1,6 +1,7 @@
 -- The core process of an accepted file has its labels in order, so what its run writes is read back.
-use Rattle.std.proofs.Common.{◌≡◌, ℕ, ◌+◌, zero, suc, true, List, [], ◌∷◌, ◌++◌, length, Some, sym, ◌∙◌, ap, subst, unwrap_or}
+use Rattle.std.proofs.Common.{◌≡◌, ℕ, ◌+◌, zero, suc, true, List, [], ◌∷◌, ◌++◌, length, Option, Some, sym, ◌∙◌, ap, subst, unwrap_or}
 use Rattle.std.specs.Prelude.{slice_get}
+use Rattle.pict_outside.specs.Texts.{Texts}
 use Rattle.pict_syntax.specs.declared.source.Source.{Source}
 use Rattle.pict_syntax.specs.declared.token.Token.{Token}
 use Rattle.pict_syntax.specs.declared.token.TokenKind.{TokenKind}
@@ -15,6 +16,7 @@ use Rattle.pict_gather.specs.Phases.{accepts}
 use Rattle.pict_gather.specs.Reading.{Read, Reads}
 use Rattle.pict_gather.specs.Fetching.{MayGive}
 use Rattle.pict_gather.specs.Gathered.{Gathered, behind, with_source}
+use Rattle.pict_gather.specs.Reached.{Gathering, Reaches}
 use Rattle.pict_gather.proofs.Holding.{read_by, is_reached, IsOfTexts, reached_holds}
 use Rattle.pict_scope.proofs.LabelsScoped.{scoped_distinct}
 use Rattle.pict_trace.specs.Readable.{IsIdentifier}
@@ -118,16 +120,25 @@ module _ (Q : ℕ → Type 0) where
     reads = text_labels;
   }
 
+-- the labels of what was gathered are its names, and no name stands twice
+pub gathered_labels : (held : Option Texts) (prelude : Option (List ℕ)) (file : List ℕ) (g : Gathered) → Reaches (MayGive held) prelude file (Gathering (accepts g)) → DecsLabels (IsLabel g.names) g.decs
+gathered_labels held prelude file g reaches =
+    let Q : ℕ → Type 0 = IsLabel g.names in
+    reached_holds (Labelled Q) (of_texts Q) (MayGive held) prelude file g (λ f. tt) reaches (λ n h. h)
+
+pub gathered_distinct : (held : Option Texts) (prelude : Option (List ℕ)) (file : List ℕ) (g : Gathered) → Reaches (MayGive held) prelude file (Gathering (accepts g)) → HasNoRepeats g.names
+gathered_distinct held prelude file g reaches =
+    let reached = is_reached (MayGive held) prelude file g reaches in
+    subst HasNoRepeats (sym reached.names) (all_distinct [] reached.words none_distinct)
+
 -- ---- the law
 
 pub accepted_is_ordered : AcceptedIsOrdered
 accepted_is_ordered held prelude file a front =
     let read = gathered held prelude file a front in
     let g : Gathered = read.0 in
-    let Q : ℕ → Type 0 = IsLabel g.names in
-    let labels : DecsLabels Q g.decs = reached_holds (Labelled Q) (of_texts Q) (MayGive held) prelude file g (λ f. tt) read.1.reaches (λ n h. h) in
-    let reached = is_reached (MayGive held) prelude file g read.1.reaches in
-    let distinct : HasNoRepeats g.names = subst HasNoRepeats (sym reached.names) (all_distinct [] reached.words none_distinct) in
+    let labels = gathered_labels held prelude file g read.1.reaches in
+    let distinct = gathered_distinct held prelude file g read.1.reaches in
     let j = read.1.judged_as in
     let ordered = program_ordered g.names distinct g.decs labels (scoped_distinct g.names g.decs j.scoped) in
     let P : Front → Type 0 = λ f. HasNoRepeats f.names × IsOrderedProcess f.names f.core in

@@ -1,13 +1,31 @@
--- Declarations in which every label of a record of values has a property.
+-- Declarations in which every label of a record of values or of patterns has a property.
 use Rattle.std.specs.Prelude.{ℕ}
-use Rattle.pict_syntax.specs.Trees.{Dec, new_dec, run_dec, let_dec, def_dec, alias_dec, operator_dec, await_dec, Decs, no_decs, more_decs, Definitions, no_definitions, more_definitions, Abs, process_abs, function_abs, Chan, use_chan, fold_chan, block_chan, apply_chan, right_chan, left_chan, Val, of_chan, number_val, character_val, string_val, true_val, false_val, fields_val, if_val, lambda_val, Vals, no_vals, more_vals, FieldVals, field_vals, LabelledVals, no_labelled_vals, more_labelled_vals, Proc, send_proc, receive_proc, serve_proc, if_proc, inert_proc, group_proc, Procs, no_procs, more_procs}
+use Rattle.pict_syntax.specs.Trees.{Pat, bind_pat, any_pat, fields_pat, fold_pat, FieldPats, field_pats, Pats, no_pats, more_pats, LabelledPats, no_labelled_pats, more_labelled_pats, Dec, new_dec, run_dec, let_dec, def_dec, alias_dec, operator_dec, await_dec, Decs, no_decs, more_decs, Definitions, no_definitions, more_definitions, Abs, process_abs, function_abs, Chan, use_chan, fold_chan, block_chan, apply_chan, right_chan, left_chan, Val, of_chan, number_val, character_val, string_val, true_val, false_val, fields_val, if_val, lambda_val, Vals, no_vals, more_vals, FieldVals, field_vals, LabelledVals, no_labelled_vals, more_labelled_vals, Proc, send_proc, receive_proc, serve_proc, if_proc, inert_proc, group_proc, Procs, no_procs, more_procs}
 
 module _ (P : ℕ → Type 0) where
+  abbrev mutual
+    pub PatLabels : Pat → Type 0
+    PatLabels (bind_pat s x r) = Unit {0}
+    PatLabels (any_pat s r) = Unit {0}
+    PatLabels (fields_pat s f) = FieldPatLabels f
+    PatLabels (fold_pat s r p) = PatLabels p
+
+    pub FieldPatLabels : FieldPats → Type 0
+    FieldPatLabels (field_pats bs ps ls) = PatsLabels ps × LabelledPatLabels ls
+
+    pub PatsLabels : Pats → Type 0
+    PatsLabels no_pats = Unit {0}
+    PatsLabels (more_pats ps p) = PatsLabels ps × PatLabels p
+
+    pub LabelledPatLabels : LabelledPats → Type 0
+    LabelledPatLabels no_labelled_pats = Unit {0}
+    LabelledPatLabels (more_labelled_pats ls x p) = LabelledPatLabels ls × (P x.name.0 × PatLabels p)
+
   abbrev mutual
     pub DecLabels : Dec → Type 0
     DecLabels (new_dec s x t) = Unit {0}
     DecLabels (run_dec s p) = ProcLabels p
-    DecLabels (let_dec s p v) = ValLabels v
+    DecLabels (let_dec s p v) = PatLabels p × ValLabels v
     DecLabels (def_dec s ds) = DefinitionsLabels ds
     DecLabels (alias_dec s x t) = Unit {0}
     DecLabels (operator_dec s x xs t) = Unit {0}
@@ -22,8 +40,8 @@ module _ (P : ℕ → Type 0) where
     DefinitionsLabels (more_definitions ds x a) = DefinitionsLabels ds × AbsLabels a
 
     pub AbsLabels : Abs → Type 0
-    AbsLabels (process_abs s p q) = ProcLabels q
-    AbsLabels (function_abs s f r v) = ValLabels v
+    AbsLabels (process_abs s p q) = PatLabels p × ProcLabels q
+    AbsLabels (function_abs s f r v) = FieldPatLabels f × ValLabels v
 
     pub ChanLabels : Chan → Type 0
     ChanLabels (use_chan s n) = Unit {0}

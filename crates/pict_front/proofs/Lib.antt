@@ -4,7 +4,9 @@ pub mod Labelled
 pub mod Rising
 pub mod Tokens
 pub mod Ordering
+pub mod PatternOrder
 pub mod InOrder
+pub mod ObjectCores
 pub mod Standing
 pub mod Spans
 pub mod ScopePlaces

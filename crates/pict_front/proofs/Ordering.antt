@@ -18,7 +18,7 @@ use Rattle.pict_translation.specs.Simple.{Around, value_at, binding, function_bo
 use Rattle.pict_translation.specs.Translation.{program_core, definition_names, sending, sending_chan, decs_core, dec_core, proc_core, procs_core, reader, with_fields, arguments, with_vals, with_labelled, servers}
 use Rattle.pict_trace.specs.Ordered.{IsOrdered, IsOrderedProcess}
 use Rattle.pict_front.proofs.Labelled.{DecLabels, DecsLabels, DefinitionsLabels, AbsLabels, ChanLabels, ValLabels, ValsLabels, FieldLabels, LabelledLabels, ProcLabels, ProcsLabels}
-use Rattle.pict_front.proofs.Rising.{IsLabel, AllOrdered, FieldsOrdered, Apart, AreApart, record_ordered, all_ordered_more, fields_ordered_more, apart_more, are_apart_more}
+use Rattle.pict_front.proofs.Rising.{IsLabel, AllOrdered, FieldsOrdered, Apart, AreApart, record_ordered, all_ordered_more, fields_hold_more, apart_more, are_apart_more}
 
 module _ (names : List (List ℕ)) (distinct : HasNoRepeats names) where
   -- what is known at a place where these values are bound
@@ -92,7 +92,7 @@ module _ (names : List (List ℕ)) (distinct : HasNoRepeats names) where
 
   more_fields : (ls : LabelledVals) (ws : List (ℕ × Val)) (l : Id) (v : tree.Val) (u : Val) → AreFields ls ws → IsLabel names l.name.0 → IsNewValue l.name.0 ls → IsOrdered names u → AreFields (more_labelled_vals ls l v) (ws ++ (l.name.0, u) ∷ [])
   more_fields ls ws l v u are is new o = record {
-    ordered = fields_ordered_more names ws l.name.0 u are.ordered is o;
+    ordered = fields_hold_more names (IsOrdered names) ws l.name.0 u are.ordered is o;
     apart = are_apart_more ws l.name.0 u are.apart (are.fresh l.name.0 new);
     fresh = λ m other. apart_more m ws l.name.0 u (are.fresh m other.0) other.1;
   }
@@ -285,15 +285,15 @@ module _ (names : List (List ℕ)) (distinct : HasNoRepeats names) where
         (λ i u ou. h i (ws ++ (x.name.0, u) ∷ []) (more_fields ls ws x v u are l.1.0 d.1.0 ou)) m) n
 
     abs_ordered : (bs : List (ℕ × Val)) (a : Abs) → AbsLabels (IsLabel names) a → AbsHasDistinctLabels a → ValuesOrdered bs → (replicated : Bool) → Sends (λ x. reader (at bs) a x replicated)
-    abs_ordered bs (process_abs s p q) l d o replicated n x ox = (ox, proc_ordered (binding (pat_names names p) (variables n (binds (pat_core names p))) bs) q l d.1 (pat_ordered n (binds (pat_core names p)) (pat_names names p) bs o) _)
+    abs_ordered bs (process_abs s p q) l d o replicated n x ox = (ox, proc_ordered (binding (pat_names names p) (variables n (binds (pat_core names p))) bs) q l.1 d.1 (pat_ordered n (binds (pat_core names p)) (pat_names names p) bs o) _)
     abs_ordered bs (function_abs s f t v) l d o replicated n x ox =
-        (ox, val_ordered (function_bound f (variables n (binds (function_pat names f))) (at bs)).values v l d.1.1 (function_ordered n (binds (function_pat names f)) f bs o) _ _ (answer_ordered n (binds (function_pat names f)) f))
+        (ox, val_ordered (function_bound f (variables n (binds (function_pat names f))) (at bs)).values v l.1 d.1.1 (function_ordered n (binds (function_pat names f)) f bs o) _ _ (answer_ordered n (binds (function_pat names f)) f))
 
     dec_ordered : (bs : List (ℕ × Val)) (x : Dec) → DecLabels (IsLabel names) x → DecHasDistinctLabels x → ValuesOrdered bs → (rest : Around → Placed)
         → ((n : ℕ) (cs : List (ℕ × Val)) → ValuesOrdered cs → IsOrderedProcess names (rest (at cs) n)) → (n : ℕ) → IsOrderedProcess names (dec_core (at bs) x rest n)
     dec_ordered bs (new_dec s x t) l d o rest h n = h (n + 1) (binding (x.name.0 ∷ []) (Var n ∷ []) bs) (tt, o)
     dec_ordered bs (run_dec s p) l d o rest h n = (proc_ordered bs p l d o n, h n bs o)
-    dec_ordered bs (let_dec s p v) l d o rest h n = ((tt, h _ (binding (pat_names names p) (variables (n + 1) (binds (pat_core names p))) bs) (pat_ordered (n + 1) (binds (pat_core names p)) (pat_names names p) bs o)), val_ordered bs v l d.1 o (n + 1) (Var n) tt)
+    dec_ordered bs (let_dec s p v) l d o rest h n = ((tt, h _ (binding (pat_names names p) (variables (n + 1) (binds (pat_core names p))) bs) (pat_ordered (n + 1) (binds (pat_core names p)) (pat_names names p) bs o)), val_ordered bs v l.1 d.1 o (n + 1) (Var n) tt)
     dec_ordered bs (def_dec s ds) l d o rest h n =
         channels_ordered (length (definition_names ds)) _ (λ m xs a.
         let more = binding_ordered (definition_names ds) xs bs a o in

@@ -14,7 +14,6 @@ use Rattle.pict_derive.specs.declared.whole.DeriveError.TheVariants as derive
 use Rattle.pict_core.specs.Term.{Process, depth_of}
 use Rattle.pict_translation.specs.Translation.{program_core}
 use Rattle.pict_front.specs.declared.refusal.Refusal.{Refusal}
-use Rattle.pict_front.specs.declared.refusal.Refusal.TheVariants.{Named, Memory}
 use Rattle.pict_gather.specs.Phases.{Phase, accepts, refuses, Then}
 use Rattle.pict_gather.specs.Reading.{Stop}
 use Rattle.pict_front.specs.Front.{Front, Checks, Translates, Judges, stopped_by}

@@ -7,9 +7,9 @@ use Rattle.pict_syntax.specs.declared.token.TokenKind.{TokenKind}
 use Rattle.pict_syntax.specs.declared.token.TokenKind.TheVariants.{Identifier}
 use Rattle.pict_syntax.specs.declared.token.Sign.{Sign as AnySign}
 use Rattle.pict_syntax.specs.Phrases.{Phrase, ◌▸◌, ident, led, between, closed}
-use Rattle.pict_syntax.specs.Grammar.{val_span, abs_span, proc_span, IsDec, AreDecs, AreDefinitionsAnd, IsAbs, IsChan, IsVal, AreVals, AreFieldVals, AreLabelledVals, IsProc, AreProcsBar}
-use Rattle.pict_syntax.specs.Trees.{Dec, new_dec, run_dec, let_dec, def_dec, alias_dec, operator_dec, await_dec, Decs, no_decs, more_decs, Definitions, no_definitions, more_definitions, Abs, process_abs, function_abs, Chan, use_chan, fold_chan, block_chan, apply_chan, right_chan, left_chan, Val, of_chan, number_val, character_val, string_val, true_val, false_val, fields_val, if_val, lambda_val, Vals, no_vals, more_vals, FieldVals, field_vals, LabelledVals, no_labelled_vals, more_labelled_vals, Proc, send_proc, receive_proc, serve_proc, if_proc, inert_proc, group_proc, Procs, no_procs, more_procs}
-use Rattle.pict_front.proofs.Labelled.{DecLabels, DecsLabels, DefinitionsLabels, AbsLabels, ChanLabels, ValLabels, ValsLabels, FieldLabels, LabelledLabels, ProcLabels, ProcsLabels}
+use Rattle.pict_syntax.specs.Grammar.{val_span, abs_span, proc_span, IsPat, AreFieldPats, ArePats, AreLabelledPats, IsDec, AreDecs, AreDefinitionsAnd, IsAbs, IsChan, IsVal, AreVals, AreFieldVals, AreLabelledVals, IsProc, AreProcsBar}
+use Rattle.pict_syntax.specs.Trees.{Pat, bind_pat, any_pat, fields_pat, fold_pat, FieldPats, field_pats, Pats, no_pats, more_pats, LabelledPats, no_labelled_pats, more_labelled_pats, Dec, new_dec, run_dec, let_dec, def_dec, alias_dec, operator_dec, await_dec, Decs, no_decs, more_decs, Definitions, no_definitions, more_definitions, Abs, process_abs, function_abs, Chan, use_chan, fold_chan, block_chan, apply_chan, right_chan, left_chan, Val, of_chan, number_val, character_val, string_val, true_val, false_val, fields_val, if_val, lambda_val, Vals, no_vals, more_vals, FieldVals, field_vals, LabelledVals, no_labelled_vals, more_labelled_vals, Proc, send_proc, receive_proc, serve_proc, if_proc, inert_proc, group_proc, Procs, no_procs, more_procs}
+use Rattle.pict_front.proofs.Labelled.{PatLabels, FieldPatLabels, PatsLabels, LabelledPatLabels, DecLabels, DecsLabels, DefinitionsLabels, AbsLabels, ChanLabels, ValLabels, ValsLabels, FieldLabels, LabelledLabels, ProcLabels, ProcsLabels}
 
 module _ (P : ℕ → Type 0) where
   abbrev pub KindHolds : TokenKind → Type 0
@@ -51,12 +51,32 @@ module _ (P : ℕ → Type 0) where
   label x ts is h = (subst Hold is h).0
 
   mutual
+    unfolding IsPat AreFieldPats ArePats AreLabelledPats
+
+    pat_labels : (p : Pat) → Says (IsPat p) (PatLabels P p)
+    pat_labels (bind_pat s x r) ts is h = tt
+    pat_labels (any_pat s r) ts is h = tt
+    pat_labels (fields_pat s f) ts is h = inside s _ _ _ (field_pat_labels f) ts is h
+    pat_labels (fold_pat s r p) ts is h = inside s _ _ _ (second _ _ (second _ _ (pat_labels p))) ts is h
+
+    field_pat_labels : (f : FieldPats) → Says (AreFieldPats f) (FieldPatLabels P f)
+    field_pat_labels (field_pats bs ps ls) ts is h = second _ _ (both _ _ (pats_labels ps) (labelled_pat_labels ls)) ts is h
+
+    pats_labels : (ps : Pats) → Says (ArePats ps) (PatsLabels P ps)
+    pats_labels no_pats ts is h = tt
+    pats_labels (more_pats ps p) ts is h = both _ _ (pats_labels ps) (pat_labels p) ts is h
+
+    labelled_pat_labels : (ls : LabelledPats) → Says (AreLabelledPats ls) (LabelledPatLabels P ls)
+    labelled_pat_labels no_labelled_pats ts is h = tt
+    labelled_pat_labels (more_labelled_pats ls x p) ts is h = both _ _ (labelled_pat_labels ls) (both _ _ (label x) (second _ _ (pat_labels p))) ts is h
+
+  mutual
     unfolding IsDec AreDecs AreDefinitionsAnd IsAbs IsChan IsVal AreVals AreFieldVals AreLabelledVals IsProc AreProcsBar
 
     dec_labels : (d : Dec) → Says (IsDec d) (DecLabels P d)
     dec_labels (new_dec s x t) ts is h = tt
     dec_labels (run_dec s p) ts is h = after s _ _ (proc_span p) (proc_labels p) ts is h
-    dec_labels (let_dec s p v) ts is h = after s _ _ (val_span v) (second _ _ (second _ _ (val_labels v))) ts is h
+    dec_labels (let_dec s p v) ts is h = after s _ _ (val_span v) (both _ _ (pat_labels p) (second _ _ (val_labels v))) ts is h
     dec_labels (def_dec s no_definitions) ts is h = absurd is
     dec_labels (def_dec s (more_definitions ds x a)) ts is h = after s _ _ (abs_span a) (both _ _ (definitions_labels ds) (second _ _ (abs_labels a))) ts is h
     dec_labels (alias_dec s x t) ts is h = tt
@@ -72,8 +92,8 @@ module _ (P : ℕ → Type 0) where
     definitions_labels (more_definitions ds x a) ts is h = both _ _ (definitions_labels ds) (second _ _ (first _ _ (abs_labels a))) ts is h
 
     abs_labels : (a : Abs) → Says (IsAbs a) (AbsLabels P a)
-    abs_labels (process_abs s p q) ts is h = second _ _ (second _ _ (proc_labels q)) ts is.1 h
-    abs_labels (function_abs s f r v) ts is h = after s _ _ (val_span v) (second _ _ (second _ _ (second _ _ (second _ _ (val_labels v))))) ts is h
+    abs_labels (process_abs s p q) ts is h = both _ _ (pat_labels p) (second _ _ (proc_labels q)) ts is.1 h
+    abs_labels (function_abs s f r v) ts is h = after s _ _ (val_span v) (both _ _ (field_pat_labels f) (second _ _ (second _ _ (second _ _ (val_labels v))))) ts is h
 
     chan_labels : (c : Chan) → Says (IsChan c) (ChanLabels P c)
     chan_labels (use_chan s n) ts is h = tt

@@ -10,6 +10,7 @@ use Rattle.pict_core.specs.Term.{depth_of}
 use Rattle.pict_core.specs.Configuration.{Configuration, opening}
 use Rattle.pict_core.specs.Step.{Label}
 use Rattle.pict_core.specs.Run.{Reaches}
+use Rattle.pict_object.specs.Cores.{IsObjectCore}
 use Rattle.pict_trace.specs.Lines.{lines_text}
 use Rattle.pict_trace.specs.Readable.{IsLines}
 use Rattle.pict_trace.specs.Ordered.{IsOrderedProcess, FitsLine}
@@ -51,6 +52,11 @@ AcceptedIsTyped = (held : Option Texts) (prelude : Option (List ℕ)) (file : Li
 abbrev pub AcceptedIsOrdered : Type 0
 AcceptedIsOrdered = (held : Option Texts) (prelude : Option (List ℕ)) (file : List ℕ) (a : Accepted)
     → IsFront (MayGive held) prelude file (Some (accepts a)) → HasNoRepeats a.front.names × IsOrderedProcess a.front.names a.front.core
+
+-- its core process meets the bounds of objects, so it has one
+abbrev pub AcceptedHasObject : Type 0
+AcceptedHasObject = (held : Option Texts) (prelude : Option (List ℕ)) (file : List ℕ) (a : Accepted)
+    → IsFront (MayGive held) prelude file (Some (accepts a)) → IsObjectCore a.front.names a.front.core
 
 -- what its run writes, where numbers and nesting fit, is read back as the labels of its steps and as nothing else
 abbrev pub AcceptedIsReadBack : Type 0

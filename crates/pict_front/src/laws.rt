@@ -1,6 +1,6 @@
 // The laws of the phases before a run, each as the contract of a function that does nothing.
 
-ghost use Rattle.pict_front.specs.Laws.{AcceptedIsOrdered, AcceptedIsReadBack, AcceptedIsTyped, OneFront, RefusedIsPlaced};
+ghost use Rattle.pict_front.specs.Laws.{AcceptedHasObject, AcceptedIsOrdered, AcceptedIsReadBack, AcceptedIsTyped, OneFront, RefusedIsPlaced};
 
 /// Over a shelf that tells its texts every file, behind a prelude or without one, has exactly one answer by the phases: there is no
 /// such file, or the core process of a program, or a refusal with one code at one place.
@@ -23,6 +23,12 @@ pub fn law_accepted_is_typed()
 /// distinct; and no two of its names are the same.
 pub fn law_accepted_is_ordered()
     ensures { AcceptedIsOrdered }
+{}
+
+/// The core process of an accepted file meets the bounds of objects: closed, within the limits of depth and of nesting, its
+/// labels identifiers, those of each record and of each record pattern in the order of their bytes. So it has an object.
+pub fn law_accepted_has_object()
+    ensures { AcceptedHasObject }
 {}
 
 /// What a run of an accepted file writes, a line for each step that shows something, is read back as the labels of these

@@ -9,8 +9,8 @@ mod refusal;
 
 pub use accepted::Front;
 pub use laws::{
-    law_accepted_is_ordered, law_accepted_is_read_back, law_accepted_is_typed, law_one_front,
-    law_refused_is_placed,
+    law_accepted_has_object, law_accepted_is_ordered, law_accepted_is_read_back,
+    law_accepted_is_typed, law_one_front, law_refused_is_placed,
 };
 pub use phases::front;
 pub use refusal::FrontError;
