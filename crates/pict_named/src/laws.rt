@@ -1,0 +1,9 @@
+// Targets of uses. It is a function that does nothing: its contract is the law.
+
+ghost use Rattle.pict_named.specs.Laws.{TypeTargetsAreNamed};
+
+/// In a program in which no rule of scopes fails, the target of each use of a type is the place of a binder of types among those of
+/// the program in reading order, from 0, and this binder has the name that is used.
+pub fn law_type_targets_are_named()
+    ensures { TypeTargetsAreNamed }
+{}
