@@ -1,0 +1,6 @@
+//! Which refusals come before a run.
+#![tactic(auto)]
+
+mod laws;
+
+pub use laws::{law_front_codes, law_gathering_codes};
