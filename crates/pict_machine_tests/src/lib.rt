@@ -20,6 +20,8 @@ mod ranks;
 #[cfg(test)]
 mod regions;
 #[cfg(test)]
+mod replays;
+#[cfg(test)]
 mod values;
 #[cfg(test)]
 mod words;

@@ -1,0 +1,237 @@
+// Replay files of processes made by hand: what is wrong with them, and which step is the first at fault.
+ghost use Rattle.std.specs.Prelude.{ℕ, ◌+◌, IfOk};
+ghost use Rattle.pict_core.specs.Closed.{IsOver};
+ghost use Rattle.pict_core.specs.Plain.{plain_core, plain_val};
+ghost use Rattle.pict_machine_tests.specs.Gentle.{IsGentleOver};
+
+use pict_core::{Core, CorePat, CoreVal, Part};
+use pict_lower::lower;
+use pict_replay::{FileError, Verdict, read_file, replay};
+use pict_syntax::{Bytes, Name, Names, Prim, Span};
+use std::alloc::{AllocError, Global};
+use std::process::Abort;
+
+const HERE: Span = Span {
+    text: 1,
+    start: 0,
+    end: 0,
+};
+
+/// What is said of a text as a replay file.
+#[derive(Clone, Copy, Debug, PartialEq, Eq)]
+enum Told {
+    /// It is none, at this byte.
+    NoFile(usize),
+    /// What replaying it says.
+    Said(Verdict),
+}
+
+const YES: Told = Told::Said(Verdict::Yes);
+
+fn no(step: u64) -> Told {
+    Told::Said(Verdict::No(step))
+}
+
+/// The printing of a text.
+fn printing(alloc: Global, bytes: &[u8]) -> Result<Core, AllocError>
+    ensures { IfOk result (λ p. IsGentleOver 0 (plain_core p)) }
+{
+    Ok(Core::Out {
+        chan: CoreVal::Prim(Prim::Print),
+        message: CoreVal::Text(Bytes::copy_of(alloc, bytes)?),
+        at: HERE,
+    })
+}
+
+/// Two processes beside each other.
+fn beside(alloc: Global, left: Core, right: Core) -> Result<Core, AllocError>
+    ensures { (n : ℕ) → IsGentleOver n (plain_core left) → IsGentleOver n (plain_core right) → IfOk result (λ p. IsGentleOver n (plain_core p)) }
+{
+    let left = Part::new(alloc, left)?;
+    Ok(Core::Par(left, Part::new(alloc, right)?))
+}
+
+/// A new channel, on which this value is sent and received.
+fn meeting(alloc: Global, message: CoreVal) -> Result<Core, AllocError>
+    requires { IsOver 1 0 (plain_val message) }
+    ensures { IfOk result (λ p. IsGentleOver 0 (plain_core p)) }
+{
+    let output = Core::Out {
+        chan: CoreVal::Var(0),
+        message,
+        at: HERE,
+    };
+    let input = Core::In {
+        chan: CoreVal::Var(0),
+        replicated: false,
+        pattern: CorePat::Any,
+        body: Part::new(alloc, Core::Zero)?,
+    };
+    let both = beside(alloc, output, input)?;
+    Ok(Core::New(Part::new(alloc, both)?))
+}
+
+/// What is said of a text as a replay file of a process, by names whose first is `a`. The text is short.
+fn answer(alloc: Global, process: &Core, text: &[u8]) -> Result<Told, AllocError>
+    requires { IsGentleOver 0 (plain_core process.now) }
+{
+    if text.len() > 10_000 {
+        return Err(AllocError);
+    }
+    let mut names = Names::new(alloc);
+    names.intern(b"a")?;
+    let file = match read_file(alloc, &mut names, text) {
+        Ok(file) => file,
+        Err(FileError::NoFile(at)) => return Ok(Told::NoFile(at)),
+        Err(FileError::Memory) => return Err(AllocError),
+    };
+    let code = lower(alloc, process)?;
+    let verdict = replay(alloc, code, &file.choices, &file.expected)?;
+    Ok(Told::Said(verdict))
+}
+
+#[test]
+fn two_printings(rt: HostRuntime) -> Result<(), AllocError> {
+    let a = rt.alloc();
+    let both = beside(a, printing(a, b"a")?, printing(a, b"b")?)?;
+    let process = beside(a, both, Core::Zero)?;
+    let rows: [(&[u8], Told); 16] = [
+        (
+            b"0 0\n1 0\n0 0\n1 0\n0 0\ntrace\n4 print \"b\"\n5 print \"a\"\n",
+            YES,
+        ),
+        (
+            b"0 0\n1 0\n0 0\n1 0\n0 0\ntrace\n4 print \"b\"\n5 print \"b\"\n",
+            no(5),
+        ),
+        (
+            b"0 0\n1 0\n0 0\n1 0\n0 0\ntrace\n4 print \"b\"\n6 print \"a\"\n",
+            no(5),
+        ),
+        (
+            b"0 0\n1 0\n0 0\n1 0\ntrace\n4 print \"b\"\n5 print \"a\"\n",
+            no(5),
+        ),
+        (
+            b"0 0\n1 0\n0 0\n1 0\n0 0\n0 0\ntrace\n4 print \"b\"\n5 print \"a\"\n",
+            no(6),
+        ),
+        (
+            b"7 0\n1 0\n0 0\n1 0\n0 0\ntrace\n4 print \"b\"\n5 print \"a\"\n",
+            no(1),
+        ),
+        (b"0 1\ntrace\n", no(1)),
+        (b"0 0\n1 0\ntrace\n5 print \"a\"\n1 print \"b\"\n", no(2)),
+        (b"0 0\ntrace\n0 print \"a\"\n", no(1)),
+        (
+            b"0  0\n1 0\n0 0\n1 0\n0 0\ntrace\n4 print \"b\"\n5 print \"a\"\n",
+            Told::NoFile(0),
+        ),
+        (b"0 0\n18446744073709551616 0\ntrace\n", Told::NoFile(4)),
+        (
+            b"0 0\ntrace\n1 print \"b\"\n2 print \"a\"",
+            Told::NoFile(22),
+        ),
+        (b"0 0\ntrace\ntrace\n", Told::NoFile(10)),
+        (b"0 0\ntrace", Told::NoFile(4)),
+        (b"0 0\n", Told::NoFile(4)),
+        (b"", Told::NoFile(0)),
+    ];
+    for (text, expected) in &rows {
+        assert_eq!(rt; answer(a, &process, text)?, *expected);
+    }
+    assert_eq!(rt; answer(a, &Core::Zero, b"trace\n")?, YES);
+    Ok(())
+}
+
+/// The record `[1 "s" a=true]`.
+fn message(alloc: Global) -> Result<CoreVal, AllocError>
+    ensures { IfOk result (λ v. IsOver 1 0 (plain_val v)) }
+{
+    let mut positional = Vec::new(alloc);
+    positional.push(CoreVal::Int(1))?;
+    positional.push(CoreVal::Text(Bytes::copy_of(alloc, b"s")?))?;
+    let mut labelled = Vec::new(alloc);
+    labelled.push((Name(0), CoreVal::Bool(true)))?;
+    Ok(CoreVal::Fields {
+        positional,
+        labelled,
+    })
+}
+
+#[test]
+fn one_communication(rt: HostRuntime) -> Result<(), AllocError> {
+    let a = rt.alloc();
+    let process = meeting(a, message(a)?)?;
+    let rows: [(&[u8], Told); 8] = [
+        (
+            b"0 0\n0 0\n0 0\n0 0\n0 0\ntrace\n4 c0 [1 \"s\" a=true]\n",
+            YES,
+        ),
+        (
+            b"0 0\n0 0\n0 0\n0 0\n0 0\ntrace\n4 c1 [1 \"s\" a=true]\n",
+            no(4),
+        ),
+        (
+            b"0 0\n0 0\n0 0\n0 0\n0 0\ntrace\n4 c0 [1 \"s\" a=false]\n",
+            no(4),
+        ),
+        (
+            b"0 0\n0 0\n0 0\n0 0\n0 0\ntrace\n4 c0 [1 \"s\" b=true]\n",
+            no(4),
+        ),
+        (b"0 0\n0 0\n0 0\n0 0\n0 0\ntrace\n4 c0 [1 \"s\"]\n", no(4)),
+        (b"0 0\n0 0\n0 0\n0 0\n0 0\ntrace\n4 c0 [1 a=true]\n", no(4)),
+        (
+            b"0 0\n0 0\n0 0\n0 1\n0 0\ntrace\n4 c0 [1 \"s\" a=true]\n",
+            no(4),
+        ),
+        (
+            b"0 0\n0 0\n1 0\n0 0\n0 0\ntrace\n4 c0 [1 \"s\" a=true]\n",
+            YES,
+        ),
+    ];
+    for (text, expected) in &rows {
+        assert_eq!(rt; answer(a, &process, text)?, *expected);
+    }
+    Ok(())
+}
+
+/// So many records, each the one field of the next, around 1.
+fn nested(alloc: Global, depth: u32) -> Result<CoreVal, AllocError>
+    ensures { IfOk result (λ v. IsOver 1 0 (plain_val v)) }
+{
+    let mut value = CoreVal::Int(1);
+    for _ in 0..depth {
+        let mut positional = Vec::new(alloc);
+        positional.push(value)?;
+        value = CoreVal::Fields {
+            positional,
+            labelled: Vec::new(alloc),
+        };
+    }
+    Ok(value)
+}
+
+// Behind these bytes this byte, so many times.
+fn repeat(out: &mut Vec<u8>, byte: u8, count: u32) -> Result<(), AllocError> {
+    for _ in 0..count {
+        out.push(byte)?;
+    }
+    Ok(())
+}
+
+#[test]
+fn deep_values(rt: HostRuntime) -> Result<(), AllocError> {
+    let a = rt.alloc();
+    let process = meeting(a, nested(a, 1_000)?)?;
+    for (inner, expected) in [(b'1', YES), (b'2', no(4))] {
+        let mut text = b"0 0\n0 0\n0 0\n0 0\ntrace\n4 c0 ".to_vec(a)?;
+        repeat(&mut text, b'[', 1_000)?;
+        text.push(inner)?;
+        repeat(&mut text, b']', 1_000)?;
+        text.push(b'\n')?;
+        assert_eq!(rt; answer(a, &process, &text)?, expected);
+    }
+    Ok(())
+}
