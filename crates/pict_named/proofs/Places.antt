@@ -15,22 +15,22 @@ use Rattle.pict_scope.proofs.Clean.{left_clean, right_clean}
 use Rattle.pict_named.specs.Named.{types_bound, types_used}
 use Rattle.pict_named.specs.Laws.{TypeTargetsAreNamed}
 
-abbrev some : {A : Type 0} → A → Option A
+abbrev pub some : {A : Type 0} → A → Option A
 some x = Some x
 
-abbrev name_at : List ℕ → ℕ → Option ℕ
+abbrev pub name_at : List ℕ → ℕ → Option ℕ
 name_at all k = slice_get all k
 
 -- each binder has the number of a place at which its name stands
-abbrev Named : List ℕ → List Binder → Type 0
+abbrev pub Named : List ℕ → List Binder → Type 0
 Named all [] = Unit {0}
 Named all (b ∷ bs) = (name_at all b.number ≡ Some b.name) × Named all bs
 
-named_both : (all : List ℕ) (bs cs : List Binder) → Named all bs → Named all cs → Named all (bs ++ cs)
+pub named_both : (all : List ℕ) (bs cs : List Binder) → Named all bs → Named all cs → Named all (bs ++ cs)
 named_both all [] cs h k = k
 named_both all (b ∷ bs) cs h k = (h.0, named_both all bs cs h.1 k)
 
-named_nearest : (all : List ℕ) (bs : List Binder) (n k : ℕ) → Named all bs → nearest bs n ≡ Some k → name_at all k ≡ Some n
+pub named_nearest : (all : List ℕ) (bs : List Binder) (n k : ℕ) → Named all bs → nearest bs n ≡ Some k → name_at all k ≡ Some n
 named_nearest all [] n k h e = absurd cc
 named_nearest all (b ∷ bs) n k h e = go (nat_eq b.name n) refl e (named_nearest all bs n k h.1)
   where
@@ -87,22 +87,22 @@ values_types : (xs : List Id) (a : Around) → ((with_values xs a).types_ ≡ a.
 values_types [] a = (refl, refl, refl)
 values_types (x ∷ xs) a = values_types xs (with_value x a)
 
-nothing_bound : (before : List ℕ) {n : ℕ} → n ≡ length before → n ≡ length (before ++ [])
+pub nothing_bound : (before : List ℕ) {n : ℕ} → n ≡ length before → n ≡ length (before ++ [])
 nothing_bound before h = h ∙ ap length (sym (append-nil before))
 
-one_further : (before : List ℕ) (x : ℕ) {n : ℕ} → n ≡ length before → suc n ≡ length (before ++ x ∷ [])
+pub one_further : (before : List ℕ) (x : ℕ) {n : ℕ} → n ≡ length before → suc n ≡ length (before ++ x ∷ [])
 one_further before x h = let e = length-append before (x ∷ []) in omega (arith, h, e)
 
-first_part : (before bs cs after all : List ℕ) → all ≡ before ++ ((bs ++ cs) ++ after) → all ≡ before ++ (bs ++ (cs ++ after))
+pub first_part : (before bs cs after all : List ℕ) → all ≡ before ++ ((bs ++ cs) ++ after) → all ≡ before ++ (bs ++ (cs ++ after))
 first_part before bs cs after all h = h ∙ ap (λ x. before ++ x) (append_assoc bs cs after)
 
-second_part : (before bs cs after all : List ℕ) → all ≡ before ++ ((bs ++ cs) ++ after) → all ≡ (before ++ bs) ++ (cs ++ after)
+pub second_part : (before bs cs after all : List ℕ) → all ≡ before ++ ((bs ++ cs) ++ after) → all ≡ (before ++ bs) ++ (cs ++ after)
 second_part before bs cs after all h = first_part before bs cs after all h ∙ sym (append_assoc before bs (cs ++ after))
 
-behind_one : (before bs after all : List ℕ) (x : ℕ) → all ≡ before ++ ((x ∷ bs) ++ after) → all ≡ (before ++ x ∷ []) ++ (bs ++ after)
+pub behind_one : (before bs after all : List ℕ) (x : ℕ) → all ≡ before ++ ((x ∷ bs) ++ after) → all ≡ (before ++ x ∷ []) ++ (bs ++ after)
 behind_one before bs after all x h = h ∙ sym (append_assoc before (x ∷ []) (bs ++ after))
 
-at_place : (before bs after all : List ℕ) (x n : ℕ) → all ≡ before ++ ((x ∷ bs) ++ after) → n ≡ length before → name_at all n ≡ Some x
+pub at_place : (before bs after all : List ℕ) (x n : ℕ) → all ≡ before ++ ((x ∷ bs) ++ after) → n ≡ length before → name_at all n ≡ Some x
 at_place before bs after all x n h e = ap (λ z. name_at z n) h ∙ (ap (name_at (before ++ (x ∷ (bs ++ after)))) e ∙ there before (bs ++ after) x)
 
 goes : (all before after : List ℕ) (o : Outline) (a : Around) → all ≡ before ++ (types_bound o ++ after) → a.next_type ≡ length before → Good all a → first_stop (marks o a) ≡ None → Goes all before o a

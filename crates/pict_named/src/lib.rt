@@ -3,4 +3,4 @@
 
 mod laws;
 
-pub use laws::law_type_targets_are_named;
+pub use laws::{law_type_targets_are_named, law_value_targets_are_named};
