@@ -1,4 +1,4 @@
--- The law of the targets of types.
+-- The laws of the targets of types and of values.
 use Rattle.std.specs.Prelude.{◌≡◌, ℕ, List, [], ◌∷◌, map, Some, None, slice_get}
 use Rattle.pict_syntax.specs.Names.{text_of}
 use Rattle.pict_syntax.specs.Trees.{Decs}
