@@ -25,6 +25,8 @@ impl Picker {
     /// no slots. After a trap or an error nothing has changed but room, and the values of levels, which count for nothing between
     /// two calls, so the step can be tried again, or another one.
     ///
+    /// The channels and a new one have to be fewer than 2 to the power 32: a picker begins with none, and a step makes one at most.
+    ///
     /// There has to be such a place, and the step may not be wrong: some configuration that the picker stands for has the
     /// place, and takes the step rightly. A wrong step is one that sends to or receives from what is no channel, tests what is no
     /// Bool, gives a primitive what it doesn't take, or meets a value that doesn't fit a pattern.
