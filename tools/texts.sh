@@ -82,3 +82,12 @@ hand_over() {
         fi
     done
 }
+
+# Hands over a replay file, under its own name.
+give_trace() {
+    if is_below "$1"; then
+        give_import "$1"
+    elif [ -e "$1" ]; then
+        say "an unproved run doesn't find $1; ./build, once, proves and builds the program, which does"
+    fi
+}

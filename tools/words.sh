@@ -18,6 +18,13 @@ is_command() {
     grep -qsF "\"$1\"" "$here"/crates/pict_words/src/*.rt
 }
 
+# Whether a word may name a file.
+is_file_word() {
+    case ${1-} in
+        '' | -*) return 1 ;;
+    esac
+}
+
 # Whether words have one of the shapes. It says yes of a command that the program has and that isn't known here.
 have_shape() {
     is_command "${1-}" || return
@@ -28,7 +35,7 @@ have_shape() {
             [ $# -eq 1 ] && is_number "$1" 18446744073709551615
             return
             ;;
-        run | trace | check | code | pick | picked) ;;
+        run | trace | check | code | pick | picked | replay) ;;
         *) return 0 ;;
     esac
     [ "${1-}" != --bare ] || shift
@@ -43,11 +50,12 @@ have_shape() {
             is_number "${1-}" 18446744073709551615 || return
             shift
             ;;
+        replay)
+            is_file_word "${1-}" || return
+            shift
+            ;;
     esac
-    [ $# -eq 1 ] || return
-    case $1 in
-        '' | -*) return 1 ;;
-    esac
+    [ $# -eq 1 ] && is_file_word "$1"
 }
 
 # Ends with the program's text and status where words have no shape (2) or name a file that isn't there (8). Else it comes back:
@@ -60,12 +68,15 @@ answer_at_once() {
         exit 2
     }
     case $1 in
-        run | trace | check | code | pick | picked) ;;
+        run | trace | check | code | pick | picked | replay) ;;
         *) return 0 ;;
     esac
-    for last in "$@"; do :; done
-    if ! [ -e "$last" ] && LC_ALL=C head -c 1 -- "$last" 2>&1 >/dev/null | grep -q 'No such file or directory$'; then
-        printf '%s: no such file\n' "$last" >&2
+    file='' last=''
+    for word in "$@"; do file=$last last=$word; done
+    # (of a replay the program is looked at first, the word before the last one)
+    [ "$1" = replay ] || file=$last
+    if ! [ -e "$file" ] && LC_ALL=C head -c 1 -- "$file" 2>&1 >/dev/null | grep -q 'No such file or directory$'; then
+        printf '%s: no such file\n' "$file" >&2
         exit 8
     fi
 }

@@ -776,6 +776,12 @@ fn words_with_seeds(rt: HostRuntime) -> Result<(), AllocError> {
         usage(&["picked", "--bare", "00", "F"]),
         usage(&["picked", "F"]),
         usage(&["picks", "1", "F"]),
+        usage(&["replay", "F"]),
+        usage(&["replay", "--bare", "F"]),
+        usage(&["replay", "F", "T", "F"]),
+        usage(&["replay", "F", "-T"]),
+        usage(&["replay", "", "T"]),
+        usage(&["replay", "--fuel", "1", "F", "T"]),
         usage(&["run", "1", "F"]),
         usage(&["run", "--bare", "1", "F"]),
     ];

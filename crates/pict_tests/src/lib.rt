@@ -14,6 +14,8 @@ mod orders;
 #[cfg(test)]
 mod phases;
 #[cfg(test)]
+mod replays;
+#[cfg(test)]
 mod steps;
 #[cfg(test)]
 mod translation;

@@ -9,7 +9,7 @@ use Rattle.pict_syntax.specs.declared.span.Span.{Span}
 use Rattle.pict_syntax.specs.declared.tree.Import.{Import}
 use Rattle.pict_gather.specs.Phases.{Phase, accepts, refuses}
 use Rattle.pict_gather.specs.Fetching.{MayGive}
-use Rattle.pict_gather.specs.Gathered.{Gathered, EarlyEnd, refused, failed, Visits, too_long, unread, cut_off, whole, Along, none, next, stop, Leads, at_once, absent, unfetched, visit}
+use Rattle.pict_gather.specs.Gathered.{Gathered, EarlyEnd, refused, Visits, too_long, unread, cut_off, whole, Along, none, next, stop, Leads, at_once, absent, unfetched, visit}
 use Rattle.pict_gather.specs.Reached.{Reached, Absent, Gathering, Gathers, bare, unread_prelude, behind_prelude, Reaches, not_there, unfetched_file, there}
 use Rattle.pict_front.specs.declared.refusal.FrontError.TheVariants.{Named}
 use Rattle.pict_front.specs.Answers.{MissedInFront}

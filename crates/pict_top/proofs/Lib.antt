@@ -4,6 +4,7 @@ pub mod NoFault
 pub mod Each
 pub mod Reading
 pub mod Files
+pub mod Replayed
 pub mod One
 pub mod Load
 pub mod Sound
@@ -16,4 +17,7 @@ pub mod Picked
 pub mod Recording
 pub mod Counting
 pub mod Runs
+pub mod Few
+pub mod Judging
 pub mod Some
+pub mod Answered

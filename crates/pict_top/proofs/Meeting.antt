@@ -1,5 +1,5 @@
 -- How a call meets what is owed.
-use Rattle.std.proofs.Common.{◌≡◌, ℕ, ◌<◌, List, Some, ap, refl, sym, ◌∙◌, subst, ◌⊎◌, inl, inr, arith}
+use Rattle.std.proofs.Common.{◌≤◌, ◌≡◌, ℕ, List, Some, ap, refl, sym, ◌∙◌, subst, ◌⊎◌, inl, inr, arith}
 use Rattle.pict_outside.specs.Counts.{Rose}
 use Rattle.pict_outside.proofs.Gaining.{front_of_all}
 use Rattle.pict_top.specs.Outcome.{Outcome}
@@ -42,6 +42,16 @@ pub weaken_either : (Owes Faults More MoreFaults : Outcome → Type 0) (failed m
     → Meets Owes Faults failed out err s ⊎ else_ → Meets More MoreFaults more_failed out err s ⊎ else_
 weaken_either Owes Faults More MoreFaults failed more_failed else_ out err s f g (inl m) = inl (weaken Owes Faults More MoreFaults failed more_failed out err s f g m)
 weaken_either Owes Faults More MoreFaults failed more_failed else_ out err s f g (inr x) = inr x
+
+-- the same, where what else there is may grow too
+pub weaken_else : (Owes Faults More MoreFaults : Outcome → Type 0) (failed more_failed else_ more_else : Type 0) (out err : SinkChange) (s : Status) → ((o : Outcome) → Owes o → More o)
+    → (failed → more_failed × ((o : Outcome) → Faults o → MoreFaults o)) → (else_ → more_else) → Meets Owes Faults failed out err s ⊎ else_ → Meets More MoreFaults more_failed out err s ⊎ more_else
+weaken_else Owes Faults More MoreFaults failed more_failed else_ more_else out err s f g h (inl m) = inl (weaken Owes Faults More MoreFaults failed more_failed out err s f g m)
+weaken_else Owes Faults More MoreFaults failed more_failed else_ more_else out err s f g h (inr x) = inr (h x)
+
+-- a count that rose had risen from before
+pub rose_earlier : (first before now : ℕ) → first ≤ before → Rose before now → Rose first now
+rose_earlier first before now few rose many = let more = rose many in omega (arith, more, few)
 
 -- a count that is 0 didn't rise
 pub never_rises : Rose 0 0 → ⊥

@@ -1,5 +1,5 @@
 -- Where no fault is given, gathering never says that the shelf failed.
-use Rattle.std.proofs.Common.{if◌then◌else◌, ◌≡◌, ℕ, Bool, true, false, not, nat_le, List, [], length, Option, Some, None, subst, sym}
+use Rattle.std.proofs.Common.{if◌then◌else◌, ℕ, Bool, true, false, not, nat_le, List, length, Option, Some, None, subst, sym}
 use Rattle.pict_syntax.specs.declared.limits.TheConstants.{SOURCE_LIMIT}
 use Rattle.pict_syntax.specs.declared.code.Code.TheVariants.{I2, I3, I4}
 use Rattle.pict_syntax.specs.declared.source.Source.{Source}

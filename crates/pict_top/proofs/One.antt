@@ -1,29 +1,34 @@
 -- Words come to at most one outcome where the texts are told.
-use Rattle.std.proofs.Common.{arith, ◌≡◌, ℕ, inl, inr, List, Option, Some, None, refl, ap, sym, ◌∙◌, subst}
+use Rattle.std.proofs.Common.{◌≡◌, ℕ, inl, inr, List, Option, Some, None, refl, ap, sym, ◌∙◌, subst}
 use Rattle.pict_outside.specs.Texts.{Texts}
 use Rattle.pict_core.specs.Term.{Process}
 use Rattle.pict_core.specs.Configuration.{opening}
 use Rattle.pict_core.specs.Run as run
 use Rattle.pict_core.specs.Run.{steps_done}
 use Rattle.pict_core.proofs.OneRun.{one_run}
-use Rattle.pict_words.specs.Words.{Command, Run, Trace, Check, Code, Load, Pick, Picked, HasShape, HasNoShape, default_fuel}
+use Rattle.pict_words.specs.Words.{Command, Run, Trace, Check, Code, Load, Pick, Picked, Replay, HasShape, HasNoShape, default_fuel}
 use Rattle.pict_words.proofs.Commands.{one_command}
 use Rattle.pict_gather.specs.Phases.{Phase, accepts, refuses}
 use Rattle.pict_gather.specs.Fetching.{MayGive}
 use Rattle.pict_gather.specs.Gathered.{EarlyEnd, refused, failed}
-use Rattle.pict_front.specs.Front.{Accepted}
+use Rattle.pict_syntax.specs.declared.source.Source.{Source}
+use Rattle.pict_syntax.specs.Names.{HasNoRepeats}
+use Rattle.pict_front.specs.Front.{Front, Accepted, IsFront}
+use Rattle.pict_front.proofs.InOrder.{accepted_is_ordered}
+use Rattle.pict_replay.specs.declared.judging.Verdict.TheVariants.{Yes, No}
 use Rattle.pict_front.proofs.EachPhase.{one_front}
 use Rattle.pict_top.specs.Ends.{end_of}
 use Rattle.pict_top.specs.declared.run.Finish.{Finish}
 use Rattle.pict_top.specs.declared.run.Finish.TheVariants.{Done, FuelSpent, Trap}
-use Rattle.pict_top.specs.Origins.{origin_of, name_of, prelude_of, given}
-use Rattle.pict_top.specs.Answer.{Answer, Absent, Refusal, Ended, IsAnswer, IsDone, Does, Shows, Writing}
+use Rattle.pict_top.specs.Origins.{origin_of, name_of, prelude_of, trace_of, given}
+use Rattle.pict_top.specs.Answer.{Answer, Absent, Refusal, Ended, Judged, IsAnswer, IsWorked, IsDone, Does, Shows, Writing}
 use Rattle.pict_top.specs.Picking.{PicksAndShows, Recording}
 use Rattle.pict_top.specs.Outcome.{Outcome, outcome_of}
 use Rattle.pict_top.specs.Owed.{Owes, OwesWords}
 use Rattle.pict_top.specs.declared.status.Status.TheVariants as status
 use Rattle.pict_top.proofs.Reading.{IsTold}
 use Rattle.pict_top.proofs.Recording.{one_picked}
+use Rattle.pict_top.proofs.Replayed.{one_replayed}
 
 -- ---- answers
 
@@ -60,25 +65,35 @@ one_work (Code o) names p e g a b x y = (x.done ∙ sym y.done, x.listing ∙ sy
 one_work (Load n) names p e g a b x y = one_shown p default_fuel _ e g a b x y
 one_work (Pick seed o) names p e g a b x y = one_pick p seed o.fuel _ e g a b x y
 one_work (Picked seed o) names p e g a b x y = one_pick p seed o.fuel _ e g a b x y
+one_work (Replay o trace) names p e g a b x y = (x.done ∙ sym y.done, x.nothing ∙ sym y.nothing)
 
-one_done : (command : Command) (said : Option (Phase EarlyEnd Accepted)) (a b : Answer) → IsDone command said a → IsDone command said b → a ≡ b
-one_done command None a b x y = x ∙ sym y
-one_done command (Some (refuses (refused sources code span))) a b x y = x ∙ sym y
-one_done command (Some (refuses (failed sources))) a b x y = absurd x
-one_done command (Some (accepts p)) a b (e, ls, r, x) (g, ms, s, y) =
-    let one = one_work command p.front.names p.front.core e g ls ms r s in
-    x ∙ ap (λ finish. Ended p.sources finish ls) one.0 ∙ ap (Ended p.sources g) one.1 ∙ sym y
+module _ (texts : Texts) (command : Command) where
+  worked_once : (sources : List Source) (front : Front) (t : Option (List ℕ)) (a b : Answer) → HasNoRepeats front.names → IsWorked (MayGive (Some texts)) command sources front t a
+      → IsWorked (MayGive (Some texts)) command sources front t b → a ≡ b
+  worked_once sources front None a b distinct (e, ls, r, x) (g, ms, s, y) =
+      let one = one_work command front.names front.core e g ls ms r s in
+      x ∙ ap (λ finish. Ended sources finish ls) one.0 ∙ ap (Ended sources g) one.1 ∙ sym y
+  worked_once sources front (Some trace) a b distinct x y = one_replayed texts trace front a b distinct x y
+
+  one_done : (said : Option (Phase EarlyEnd Accepted)) (a b : Answer) → IsFront (MayGive (Some texts)) (prelude_of (origin_of command)) (name_of (origin_of command)) said
+      → IsDone (MayGive (Some texts)) command said a → IsDone (MayGive (Some texts)) command said b → a ≡ b
+  one_done None a b stands x y = x ∙ sym y
+  one_done (Some (refuses (refused sources code span))) a b stands x y = x ∙ sym y
+  one_done (Some (refuses (failed sources))) a b stands x y = absurd x
+  one_done (Some (accepts p)) a b stands x y =
+      let ordered = accepted_is_ordered (Some texts) (prelude_of (origin_of command)) (name_of (origin_of command)) p stands in
+      worked_once p.sources p.front (trace_of command) a b ordered.0 x y
 
 one_answer : (texts : Texts) (command : Command) (a b : Answer) → IsAnswer (MayGive (Some texts)) command a → IsAnswer (MayGive (Some texts)) command b → a ≡ b
 one_answer texts command a b x y =
-    let P : Option (Phase EarlyEnd Accepted) → Type 0 = λ said. IsDone command said a in
+    let P : Option (Phase EarlyEnd Accepted) → Type 0 = λ said. IsDone (MayGive (Some texts)) command said a in
     let one = one_front texts (prelude_of (origin_of command)) (name_of (origin_of command)) in
-    one_done command y.said a b (subst P (one.2 x.said x.front ∙ sym (one.2 y.said y.front)) x.done) y.done
+    one_done texts command y.said a b y.front (subst P (one.2 x.said x.front ∙ sym (one.2 y.said y.front)) x.done) y.done
 
 -- ---- outcomes
 
 one_of_texts : (texts : Texts) (command : Command) (o p : Outcome) → Owes (MayGive (Some texts)) command o → Owes (MayGive (Some texts)) command p → o ≡ p
-one_of_texts texts command o p x y = x.comes ∙ ap (outcome_of (name_of (origin_of command))) (one_answer texts command x.answer y.answer x.answers y.answers) ∙ sym y.comes
+one_of_texts texts command o p x y = x.comes ∙ ap outcome_of (one_answer texts command x.answer y.answer x.answers y.answers) ∙ sym y.comes
 
 one_of_command : (held : Option Texts) (command : Command) (o p : Outcome) → IsTold held (origin_of command) → Owes (given held (origin_of command)) command o → Owes (given held (origin_of command)) command p → o ≡ p
 one_of_command held command o p (texts, told) x y =
@@ -95,14 +110,16 @@ at_most_one words held o p told (inr (none, e)) (inr (none', e')) = e ∙ sym e'
 
 -- ---- the status Usage
 
-decides_else : (name : List ℕ) (a : Answer) → (outcome_of name a).status ≡ status.Usage → ⊥
-decides_else name Absent is = cc
-decides_else name (Refusal sources code span) is = cc
-decides_else name (Ended sources Done bytes) is = cc
-decides_else name (Ended sources FuelSpent bytes) is = cc
-decides_else name (Ended sources (Trap at) bytes) is = cc
+decides_else : (a : Answer) → (outcome_of a).status ≡ status.Usage → ⊥
+decides_else (Absent name) is = cc
+decides_else (Refusal sources code span) is = cc
+decides_else (Ended sources Done bytes) is = cc
+decides_else (Ended sources FuelSpent bytes) is = cc
+decides_else (Ended sources (Trap at) bytes) is = cc
+decides_else (Judged Yes) is = cc
+decides_else (Judged (No k)) is = cc
 
 pub usage_is_for_no_shape : (words : List (List ℕ)) (held : Option Texts) (o : Outcome) → OwesWords words held o → o.status ≡ status.Usage → HasNoShape words
 usage_is_for_no_shape words held o (inl (command, shape, owes)) is =
-    absurd (decides_else (name_of (origin_of command)) owes.answer (sym (ap (λ x. x.status) owes.comes) ∙ is))
+    absurd (decides_else owes.answer (sym (ap (λ x. x.status) owes.comes) ∙ is))
 usage_is_for_no_shape words held o (inr (none, e)) is = none

@@ -1,10 +1,9 @@
 -- The texts of a shelf that holds one.
-use Rattle.std.proofs.Common.{◌≡◌, ℕ, ◌<◌, ◌≤◌, Bool, true, false, List, [], ◌∷◌, length, Option, Some, None, cond, refl, sym, ap, subst, ◌∙◌, arith, nat_eq}
+use Rattle.std.proofs.Common.{◌≡◌, ℕ, ◌<◌, ◌≤◌, Bool, true, false, List, [], ◌∷◌, length, Some, None, cond, refl, sym, ap, subst, ◌∙◌, arith, nat_eq}
 use Rattle.std.specs.Prelude.{◌↔◌, IsSomeAnd}
 use Rattle.std.proofs.lemmas.Slice.Eq.{bytes_eq-Decides}
-use Rattle.std.specs.Ordering.{nat_cmp, eq_by_cmp}
-use Rattle.std.specs.Cmp.Lexicographic.{slice_cmp, pointwise, texts_ties, nat_list_cmp_total}
-use Rattle.std.specs.FinMap.{find, get-from_entries}
+use Rattle.std.specs.Cmp.Lexicographic.{pointwise, texts_ties, nat_list_cmp_total}
+use Rattle.std.specs.FinMap.{get-from_entries}
 use Rattle.pict_outside.specs.Texts.{Texts, text_of, MayGive, IsTooLong, IsLongerThan}
 use Rattle.pict_outside.specs.declared.shelf.Fetched.{Fetched}
 use Rattle.pict_outside.specs.declared.shelf.Fetched.TheVariants.{Text, Missing, TooLong}

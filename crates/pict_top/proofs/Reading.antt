@@ -1,9 +1,9 @@
 -- What a command is given: from the shelf, or its own text.
-use Rattle.std.proofs.Common.{◌≡◌, ℕ, List, length, Option, Some, None, refl, sym, ◌∙◌, ap, subst}
-use Rattle.pict_outside.specs.Texts.{Texts, text_of}
-use Rattle.pict_words.specs.Words.{Command}
+use Rattle.std.proofs.Common.{◌≡◌, ℕ, List, length, Option, Some, refl, sym, ◌∙◌, ap, subst}
+use Rattle.pict_outside.specs.Texts.{Texts}
+use Rattle.pict_words.specs.Words.{Command, Run, Trace, Check, Code, Load, Pick, Picked, Replay}
 use Rattle.pict_gather.specs.Fetching.{MayGive, missing}
-use Rattle.pict_top.specs.Origins.{Origin, File, Own, origin_of, name_of, only, reads_from, AsksShelf, IsOwn, own_length, MayGiveText, given, given_each}
+use Rattle.pict_top.specs.Origins.{Origin, File, Own, origin_of, trace_of, name_of, only, reads_from, AsksShelf, IsOwn, own_length, MayGiveText, given, given_each}
 use Rattle.pict_top.specs.Outcome.{Outcome}
 use Rattle.pict_top.specs.Owed.{Owes}
 use Rattle.pict_top.proofs.Only.{is_there}
@@ -60,3 +60,13 @@ own_there held name own lacks = let is = sym (is_there name own) ∙ lacks in ab
 pub each_there : (held : Option Texts) (origin : Origin) → given_each held origin (name_of origin) missing → ⊥
 each_there held (File bare name) lacks = lacks
 each_there held (Own name own) lacks = own_there held name own lacks
+
+pub second_there : (held : Option Texts) (command : Command) (trace : List ℕ) → trace_of command ≡ Some trace → given_each held (origin_of command) trace missing → ⊥
+second_there held (Replay options name) trace takes lacks = lacks
+second_there held (Run options) trace takes lacks = cc
+second_there held (Trace options) trace takes lacks = cc
+second_there held (Check options) trace takes lacks = cc
+second_there held (Code options) trace takes lacks = cc
+second_there held (Load n) trace takes lacks = cc
+second_there held (Pick seed options) trace takes lacks = cc
+second_there held (Picked seed options) trace takes lacks = cc

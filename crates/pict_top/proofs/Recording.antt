@@ -24,7 +24,8 @@ use Rattle.pict_trace.specs.Lines.{line_text}
 use Rattle.pict_top.specs.Ends.{end_of}
 use Rattle.pict_top.specs.Changes.{SinkChange, Gained, GainedFront, Untouched, Failed, FailedWithin}
 use Rattle.pict_replay.specs.Files.{choice_text}
-use Rattle.pict_top.specs.Picking.{Recording, PicksAndShows, picked_choices, picked_lines, trace_line, recorded}
+use Rattle.pict_replay.specs.Files.{trace_line}
+use Rattle.pict_top.specs.Picking.{Recording, PicksAndShows, picked_choices, picked_lines, recorded}
 use Rattle.pict_top.specs.Notes.{note_text, notes_in, EndsWithoutFuel}
 use Rattle.pict_top.specs.Printed.{Finished, Somehow}
 use Rattle.pict_top.specs.declared.form.Form.TheVariants.{Printed, Line}

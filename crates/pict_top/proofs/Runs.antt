@@ -14,18 +14,17 @@ use Rattle.pict_top.specs.Printed.{Finished, Somehow}
 use Rattle.pict_top.specs.Meets.{Meets, EndReports, SomeOutcome}
 use Rattle.pict_top.specs.declared.status.Status.{Status}
 use Rattle.pict_top.proofs.Meeting.{told, reported, delivered}
-use Rattle.pict_top.proofs.Files.{name}
 
 module _ (sources : List Source) (front : Front) (command : Command) where
   -- some outcome of the work has what is so of its bytes
   pub some_outcome : (P : List ℕ → Type 0) → Somehow (Does command front.names front.core) P → SomeOutcome (OwesWork sources front command) (λ o. P o.printed)
-  some_outcome P some = (outcome_of (name command) (Ended sources some.finish some.bytes), (some.finish, some.bytes, some.does, refl), some.holds)
+  some_outcome P some = (outcome_of (Ended sources some.finish some.bytes), (some.finish, some.bytes, some.does, refl), some.holds)
 
   -- the work came to its end, and that was reported
   pub came_to_end : (finish : Finish) (out err : SinkChange) (s : Status) → Finished (Does command front.names front.core) finish out → EndReports sources finish err s → Meets (OwesWork sources front command) (λ o. ⊥) ⊥ out err s
   came_to_end Done out err s work reports =
-      delivered _ _ _ _ _ _ (outcome_of (name command) (Ended sources Done work.bytes)) (Done, work.bytes, work.does, refl) tt work.written (appends_nothing _ _ reports.1) reports.0
+      delivered _ _ _ _ _ _ (outcome_of (Ended sources Done work.bytes)) (Done, work.bytes, work.does, refl) tt work.written (appends_nothing _ _ reports.1) reports.0
   came_to_end FuelSpent out err s work reports =
-      told _ _ _ _ _ _ (outcome_of (name command) (Ended sources FuelSpent work.bytes)) (FuelSpent, work.bytes, work.does, refl) tt work.written reports
+      told _ _ _ _ _ _ (outcome_of (Ended sources FuelSpent work.bytes)) (FuelSpent, work.bytes, work.does, refl) tt work.written reports
   came_to_end (Trap at) out err s work reports =
-      reported _ _ _ _ _ _ (outcome_of (name command) (Ended sources (Trap at) work.bytes)) (Trap at, work.bytes, work.does, refl) tt work.written reports
+      reported _ _ _ _ _ _ (outcome_of (Ended sources (Trap at) work.bytes)) (Trap at, work.bytes, work.does, refl) tt work.written reports

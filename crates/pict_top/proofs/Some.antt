@@ -1,5 +1,5 @@
 -- Words come to an outcome over a shelf that tells its texts, and the words `load N` over any; and so to exactly one.
-use Rattle.std.proofs.Common.{◌≡◌, ℕ, inl, inr, List, [], Option, Some, None, refl, sym, subst, arith}
+use Rattle.std.proofs.Common.{ℕ, inl, inr, List, [], Option, Some, None, refl, sym, subst, arith}
 use Rattle.pict_outside.specs.Texts.{Texts}
 use Rattle.pict_core.specs.Term.{Process}
 use Rattle.pict_core.specs.Closed.{IsClosed}
@@ -9,19 +9,20 @@ use Rattle.pict_reduction.specs.Reached.{NoFreeRunIsWrong}
 use Rattle.pict_view.specs.Right.{RunsRight}
 use Rattle.pict_code.specs.Nodes.{nodes_of}
 use Rattle.pict_code.specs.Listing.{listing_text}
-use Rattle.pict_words.specs.Words.{Command, Run, Trace, Check, Code, Load, Pick, Picked, default_fuel}
+use Rattle.pict_words.specs.Words.{Command, Run, Trace, Check, Code, Load, Pick, Picked, Replay, default_fuel}
 use Rattle.pict_words.proofs.Some.{shape_or_not}
 use Rattle.pict_gather.specs.Phases.{Phase, accepts, refuses}
 use Rattle.pict_gather.specs.Fetching.{MayGive}
 use Rattle.pict_gather.specs.Gathered.{EarlyEnd, refused, failed}
-use Rattle.pict_front.specs.Front.{Accepted, IsFront}
+use Rattle.pict_syntax.specs.declared.source.Source.{Source}
+use Rattle.pict_front.specs.Front.{Front, Accepted, IsFront}
 use Rattle.pict_front.proofs.TypedPrograms.{accepted_is_typed}
 use Rattle.pict_front.proofs.EachPhase.{one_front}
 use Rattle.pict_top.specs.Ends.{end_of}
 use Rattle.pict_top.specs.declared.run.Finish.{Finish}
 use Rattle.pict_top.specs.declared.run.Finish.TheVariants.{Done}
-use Rattle.pict_top.specs.Origins.{origin_of, name_of, prelude_of, given}
-use Rattle.pict_top.specs.Answer.{Answer, Absent, Refusal, Ended, IsAnswer, IsDone, Does, Shows, Writing}
+use Rattle.pict_top.specs.Origins.{origin_of, name_of, prelude_of, trace_of, given}
+use Rattle.pict_top.specs.Answer.{Answer, Absent, Refusal, Ended, IsWorked, IsDone, Does, Shows, Writing}
 use Rattle.pict_top.specs.Outcome.{Outcome, outcome_of, usage_outcome}
 use Rattle.pict_top.specs.Owed.{Owes, OwesWords}
 use Rattle.pict_top.specs.Laws.{OneOutcome, LoadNeedsNoShelf}
@@ -29,6 +30,7 @@ use Rattle.pict_top.proofs.NoFault.{front_unfailed}
 use Rattle.pict_top.proofs.Reading.{IsTold, told_shelf}
 use Rattle.pict_top.proofs.Continuing.{continues_from}
 use Rattle.pict_top.proofs.Recording.{some_picked}
+use Rattle.pict_top.proofs.Replayed.{some_replayed}
 use Rattle.pict_top.proofs.Right.{runs_right, accepted_is_freely_right}
 use Rattle.pict_top.proofs.Sound.{accepted_closed}
 use Rattle.pict_top.proofs.One.{at_most_one}
@@ -50,17 +52,23 @@ some_work (Code o) names p closed right = (Done, listing_text names (nodes_of p)
 some_work (Load n) names p closed right = some_shown p default_fuel _ (runs_right p closed right default_fuel)
 some_work (Pick seed o) names p closed right = some_picked p seed o.fuel _ closed right
 some_work (Picked seed o) names p closed right = some_picked p seed o.fuel _ closed right
+some_work (Replay o trace) names p closed right = (Done, [], record { done = refl; nothing = refl })
+
+some_worked : (texts : Texts) (command : Command) (sources : List Source) (front : Front) (t : Option (List ℕ)) → IsClosed front.core → NoFreeRunIsWrong front.core
+    → (a : Answer) × IsWorked (MayGive (Some texts)) command sources front t a
+some_worked texts command sources front None closed right =
+    let some = some_work command front.names front.core closed right in (Ended sources some.0 some.1, (some.0, some.1, some.2, refl))
+some_worked texts command sources front (Some trace) closed right = some_replayed texts trace front closed right
 
 some_done : (texts : Texts) (command : Command) (said : Option (Phase EarlyEnd Accepted)) → IsFront (MayGive (Some texts)) (prelude_of (origin_of command)) (name_of (origin_of command)) said
-    → (a : Answer) × IsDone command said a
-some_done texts command None stands = (Absent, refl)
+    → (a : Answer) × IsDone (MayGive (Some texts)) command said a
+some_done texts command None stands = (Absent (name_of (origin_of command)), refl)
 some_done texts command (Some (refuses (refused sources code span))) stands = (Refusal sources code span, refl)
 some_done texts command (Some (refuses (failed sources))) stands =
     absurd (front_unfailed (MayGive (Some texts)) (λ name no. no) (prelude_of (origin_of command)) (name_of (origin_of command)) (refuses (failed sources)) stands)
 some_done texts command (Some (accepts p)) stands =
     let accepted = accepted_is_typed (Some texts) (prelude_of (origin_of command)) (name_of (origin_of command)) p stands in
-    let some = some_work command p.front.names p.front.core (accepted_closed p.front accepted) (accepted_is_freely_right p.front accepted) in
-    (Ended p.sources some.0 some.1, (some.0, some.1, some.2, refl))
+    some_worked texts command p.sources p.front (trace_of command) (accepted_closed p.front accepted) (accepted_is_freely_right p.front accepted)
 
 -- ---- outcomes
 
@@ -68,7 +76,7 @@ some_of_texts : (texts : Texts) (command : Command) → (o : Outcome) × Owes (M
 some_of_texts texts command =
     let one = one_front texts (prelude_of (origin_of command)) (name_of (origin_of command)) in
     let a = some_done texts command one.0 one.1 in
-    (outcome_of (name_of (origin_of command)) a.0, record { answer = a.0; answers = record { said = one.0; front = one.1; done = a.1 }; comes = refl })
+    (outcome_of a.0, record { answer = a.0; answers = record { said = one.0; front = one.1; done = a.1 }; comes = refl })
 
 some_of_command : (held : Option Texts) (command : Command) → IsTold held (origin_of command) → (o : Outcome) × Owes (given held (origin_of command)) command o
 some_of_command held command (texts, told) =

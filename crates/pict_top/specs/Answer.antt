@@ -1,24 +1,31 @@
 -- The answer to a file by the definitions: there is no such file, or a text is refused, or the command does its work with the
--- program.
-use Rattle.std.specs.Prelude.{◌≡◌, ℕ, List, [], length, Option, Some, None}
+-- program, or says whether a replay file agrees with it.
+use Rattle.std.specs.Prelude.{◌≡◌, ℕ, ◌≤◌, ◌<◌, List, [], ◌∷◌, length, Option, Some, None}
+use Rattle.pict_syntax.specs.declared.limits.TheConstants.{TEXT_LIMIT}
 use Rattle.pict_syntax.specs.declared.code.Code as refusals
+use Rattle.pict_syntax.specs.declared.code.Code.TheVariants.{B1, V1}
 use Rattle.pict_syntax.specs.declared.source.Source.{Source}
 use Rattle.pict_syntax.specs.declared.span.Span.{Span}
 use Rattle.pict_core.specs.Term.{Process}
 use Rattle.pict_core.specs.Step.{Label}
 use Rattle.pict_core.specs.Run.{Runs, bytes_of, steps_done}
+use Rattle.pict_core.specs.Places.{Place}
 use Rattle.pict_code.specs.Nodes.{nodes_of}
 use Rattle.pict_code.specs.Listing.{listing_text}
 use Rattle.pict_trace.specs.Lines.{lines_text}
 use Rattle.pict_gather.specs.Phases.{Phase, accepts, refuses}
-use Rattle.pict_gather.specs.Fetching.{Fetch}
+use Rattle.pict_gather.specs.Fetching.{Fetch, text, missing}
 use Rattle.pict_gather.specs.Gathered.{EarlyEnd, refused, failed}
-use Rattle.pict_front.specs.Front.{Accepted, IsFront}
-use Rattle.pict_words.specs.Words.{Command, Run, Trace, Check, Code, Load, Pick, Picked, default_fuel}
+use Rattle.pict_front.specs.Front.{Front, Accepted, IsFront}
+use Rattle.pict_replay.specs.Files.{IsFileFor, IsNoFile}
+use Rattle.pict_replay.specs.Replayed.{Line}
+use Rattle.pict_replay.specs.Verdicts.{IsVerdict}
+use Rattle.pict_replay.specs.declared.judging.Verdict.{Verdict}
+use Rattle.pict_words.specs.Words.{Command, Run, Trace, Check, Code, Load, Pick, Picked, Replay, default_fuel}
 use Rattle.pict_load.specs.Text.{load_text}
 use Rattle.pict_load.specs.Counted.{communications_of}
 use Rattle.pict_load.specs.Summary.{summary_text}
-use Rattle.pict_top.specs.Origins.{origin_of, name_of, prelude_of}
+use Rattle.pict_top.specs.Origins.{origin_of, name_of, prelude_of, trace_of}
 use Rattle.pict_top.specs.Ends.{end_of, machine_end}
 use Rattle.pict_top.specs.Picking.{PicksAndShows, picked_bytes, recorded}
 use Rattle.pict_top.specs.declared.run.Finish.{Finish}
@@ -61,7 +68,8 @@ pub record IsChecked (finish : Finish) (bytes : List ℕ) : Type 0 where
   pub done : finish ≡ Done
   pub nothing : bytes ≡ []
 
--- what a command does with the names and the core process of a program: a row for each command
+-- What a command does with the names and the core process of a program: a row for each command. `replay` checks it as `check` does;
+-- what it answers hangs on its second file, as `IsReplayed` says.
 abbrev pub Does : Command → List (List ℕ) → Process → Work
 Does (Run options) names process = Shows process options.fuel printed
 Does (Trace options) names process = Shows process options.fuel (traced names)
@@ -70,23 +78,47 @@ Does (Code options) names process = Lists names process
 Does (Load n) names process = Shows process default_fuel (summed_up n)
 Does (Pick seed options) names process = PicksAndShows process seed options.fuel picked_bytes
 Does (Picked seed options) names process = PicksAndShows process seed options.fuel (recorded names)
+Does (Replay options trace) names process = IsChecked
 
--- with the texts that were read. A refusal, and how the work ended, may stand in any of them
+-- With the name of the text that isn't there, or with the texts that were read. A refusal, and how the work ended, may stand in any of them
 pub data Answer : Type 0 where
-  Absent : Answer
+  Absent : List ℕ → Answer
   Refusal : List Source → refusals.Code → Span → Answer
   Ended : List Source → Finish → List ℕ → Answer
+  Judged : Verdict → Answer
+
+-- a text alone, and a byte of it
+abbrev pub alone : List ℕ → List ℕ → List Source
+alone name t = record { name = name; text = t } ∷ []
+
+abbrev pub byte_at : ℕ → Span
+byte_at at = record { text = 0; start = at; end = at }
+
+-- What is answered on the text under this name as a replay file, where `Gives` says what a shelf gives, and this program is accepted:
+-- it isn't there, or is too long, or no replay file; or it is one, whose choices and lines agree with the program or have a fault.
+pub data IsReplayed (Gives : List ℕ → Fetch → Type 0) (trace : List ℕ) (front : Front) : Answer → Type 0 where
+  not_there : Gives trace missing → IsReplayed Gives trace front (Absent trace)
+  too_long : {t : List ℕ} → Gives trace (text t) → TEXT_LIMIT < length t → IsReplayed Gives trace front (Refusal (alone trace []) B1 (byte_at 0))
+  no_file : {t : List ℕ} {at : ℕ} → Gives trace (text t) → length t ≤ TEXT_LIMIT → IsNoFile t at → IsReplayed Gives trace front (Refusal (alone trace t) V1 (byte_at at))
+  judged : {t : List ℕ} {names : List (List ℕ)} {places : List Place} {lines : List Line} {verdict : Verdict}
+      → Gives trace (text t) → length t ≤ TEXT_LIMIT → IsFileFor front.names names t places lines → IsVerdict front.core places lines verdict
+      → IsReplayed Gives trace front (Judged verdict)
+
+-- what a command comes to with an accepted program, by the name of its replay file, where it takes one
+abbrev pub IsWorked : (List ℕ → Fetch → Type 0) → Command → List Source → Front → Option (List ℕ) → Answer → Type 0
+IsWorked Gives command sources front None answer =
+    (finish : Finish) × (bytes : List ℕ) × Does command front.names front.core finish bytes × (answer ≡ Ended sources finish bytes)
+IsWorked Gives command sources front (Some trace) answer = IsReplayed Gives trace front answer
 
 -- behind the phases before the command's own work. That the shelf failed is no answer
-abbrev pub IsDone : Command → Option (Phase EarlyEnd Accepted) → Answer → Type 0
-IsDone command None answer = answer ≡ Absent
-IsDone command (Some (refuses (refused sources code span))) answer = answer ≡ Refusal sources code span
-IsDone command (Some (refuses (failed sources))) answer = ⊥
-IsDone command (Some (accepts a)) answer =
-    (finish : Finish) × (bytes : List ℕ) × Does command a.front.names a.front.core finish bytes × (answer ≡ Ended a.sources finish bytes)
+abbrev pub IsDone : (List ℕ → Fetch → Type 0) → Command → Option (Phase EarlyEnd Accepted) → Answer → Type 0
+IsDone Gives command None answer = answer ≡ Absent (name_of (origin_of command))
+IsDone Gives command (Some (refuses (refused sources code span))) answer = answer ≡ Refusal sources code span
+IsDone Gives command (Some (refuses (failed sources))) answer = ⊥
+IsDone Gives command (Some (accepts a)) answer = IsWorked Gives command a.sources a.front (trace_of command) answer
 
 -- where `Gives` says what a command is given under a name
 pub record IsAnswer (Gives : List ℕ → Fetch → Type 0) (command : Command) (answer : Answer) : Type 0 where
   pub said : Option (Phase EarlyEnd Accepted)
   pub front : IsFront Gives (prelude_of (origin_of command)) (name_of (origin_of command)) said
-  pub done : IsDone command said answer
+  pub done : IsDone Gives command said answer

@@ -1,7 +1,7 @@
 -- Where a command's texts come from.
 use Rattle.std.specs.Prelude.{◌≡◌, ℕ, Bool, true, false, List, [], ◌∷◌, length, Option, Some, None, codes}
 use Rattle.pict_outside.specs.Texts.{Texts, texts_of}
-use Rattle.pict_words.specs.Words.{Command, Run, Trace, Check, Code, Load, Pick, Picked}
+use Rattle.pict_words.specs.Words.{Command, Run, Trace, Check, Code, Load, Pick, Picked, Replay}
 use Rattle.pict_report.specs.Prelude.{prelude_text}
 use Rattle.pict_load.specs.Text.{load_text}
 use Rattle.pict_gather.specs.Fetching.{Fetch, missing, MayGive}
@@ -19,6 +19,7 @@ origin_of (Code options) = File options.bare options.file
 origin_of (Load n) = Own (codes "load") (load_text n)
 origin_of (Pick seed options) = File options.bare options.file
 origin_of (Picked seed options) = File options.bare options.file
+origin_of (Replay options trace) = File options.bare options.file
 
 -- the name of the file, or that of the command's own text, which stands for one
 abbrev pub name_of : Origin → List ℕ
@@ -54,6 +55,11 @@ IsOwn (Own name own) t = t ≡ own
 abbrev pub own_length : Origin → ℕ
 own_length (File bare name) = 0
 own_length (Own name own) = length own
+
+-- the name of the replay file, where the command replays one over its program
+abbrev pub trace_of : Command → Option (List ℕ)
+trace_of (Replay options trace) = Some trace
+trace_of command = None
 
 -- ---- what a command is given under a name
 

@@ -1,9 +1,12 @@
 -- What a command comes to, by the answer to its file, where no device fails.
-use Rattle.std.specs.Prelude.{ℕ, ◌-◌, List, [], length}
+use Rattle.std.specs.Prelude.{ℕ, ◌-◌, List, [], ◌∷◌, ◌++◌, length, codes}
+use Rattle.std.specs.Fmt.{decimal}
 use Rattle.pict_syntax.specs.declared.source.Source.{Source}
 use Rattle.pict_top.specs.declared.run.Finish.{Finish}
 use Rattle.pict_top.specs.declared.run.Finish.TheVariants.{Done, FuelSpent, Trap}
-use Rattle.pict_top.specs.Answer.{Answer, Absent, Refusal, Ended}
+use Rattle.pict_replay.specs.declared.judging.Verdict.{Verdict}
+use Rattle.pict_replay.specs.declared.judging.Verdict.TheVariants.{Yes, No}
+use Rattle.pict_top.specs.Answer.{Answer, Absent, Refusal, Ended, Judged}
 use Rattle.pict_report.specs.Reports.{source_at, position_of, missing_report, refusal_report, fault_report, usage_report, spent_report, trap_report}
 use Rattle.pict_top.specs.declared.status.Status.{Status}
 use Rattle.pict_top.specs.declared.status.Status.TheVariants as status
@@ -25,11 +28,21 @@ report_of_end sources Done = []
 report_of_end sources FuelSpent = spent_report
 report_of_end sources (Trap at) = trap_report (position_of sources at)
 
--- by the name of the file, and the answer
-abbrev pub outcome_of : List ℕ → Answer → Outcome
-outcome_of name Absent = record { status = status.Missing; printed = []; report = missing_report name }
-outcome_of name (Refusal sources code span) = record { status = status.Refused; printed = []; report = refusal_report (position_of sources span) code }
-outcome_of name (Ended sources finish bytes) = record { status = status_of_end finish; printed = bytes; report = report_of_end sources finish }
+-- a line that tells a verdict: `yes`, or `no` and the first step at fault
+abbrev pub verdict_line : Verdict → List ℕ
+verdict_line Yes = codes "yes" ++ 10 ∷ []
+verdict_line (No number) = codes "no " ++ (decimal number ++ 10 ∷ [])
+
+abbrev pub status_of_verdict : Verdict → Status
+status_of_verdict Yes = status.Done
+status_of_verdict (No number) = status.Rejected
+
+-- by the answer
+abbrev pub outcome_of : Answer → Outcome
+outcome_of (Absent name) = record { status = status.Missing; printed = []; report = missing_report name }
+outcome_of (Refusal sources code span) = record { status = status.Refused; printed = []; report = refusal_report (position_of sources span) code }
+outcome_of (Ended sources finish bytes) = record { status = status_of_end finish; printed = bytes; report = report_of_end sources finish }
+outcome_of (Judged verdict) = record { status = status_of_verdict verdict; printed = verdict_line verdict; report = [] }
 
 -- the name of the last of these texts; none where there is no text
 abbrev pub last_name : List Source → List ℕ

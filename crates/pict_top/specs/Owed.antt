@@ -1,14 +1,14 @@
 -- What the words come to over a shelf, where no device fails.
-use Rattle.std.specs.Prelude.{◌≡◌, ◌⊎◌, ℕ, List, Option, Some}
+use Rattle.std.specs.Prelude.{◌≡◌, ◌⊎◌, ℕ, List, [], Option, Some}
 use Rattle.pict_syntax.specs.declared.source.Source.{Source}
 use Rattle.pict_outside.specs.Texts.{Texts}
 use Rattle.pict_words.specs.Words.{Command, HasShape, HasNoShape}
 use Rattle.pict_gather.specs.Phases.{accepts, refuses}
-use Rattle.pict_gather.specs.Fetching.{Fetch, MayGiveOrFail}
+use Rattle.pict_gather.specs.Fetching.{Fetch, MayGive, MayGiveOrFail}
 use Rattle.pict_gather.specs.Gathered.{failed}
-use Rattle.pict_front.specs.Front.{Front, IsFront}
-use Rattle.pict_top.specs.Origins.{Origin, origin_of, name_of, prelude_of, AsksShelf, given, given_each}
-use Rattle.pict_top.specs.Answer.{Answer, Ended, Does, IsAnswer}
+use Rattle.pict_front.specs.Front.{Front, Accepted, IsFront}
+use Rattle.pict_top.specs.Origins.{Origin, origin_of, name_of, prelude_of, trace_of, AsksShelf, given, given_each}
+use Rattle.pict_top.specs.Answer.{Answer, Ended, Does, alone, IsAnswer, IsReplayed}
 use Rattle.pict_top.specs.declared.run.Finish.{Finish}
 use Rattle.pict_top.specs.Outcome.{Outcome, outcome_of, read_fault, usage_outcome}
 
@@ -16,12 +16,16 @@ use Rattle.pict_top.specs.Outcome.{Outcome, outcome_of, read_fault, usage_outcom
 pub record Owes (Gives : List ℕ → Fetch → Type 0) (command : Command) (o : Outcome) : Type 0 where
   pub answer : Answer
   pub answers : IsAnswer Gives command answer
-  pub comes : o ≡ outcome_of (name_of (origin_of command)) answer
+  pub comes : o ≡ outcome_of answer
 
 -- what a command comes to with a program that is accepted, and the texts that it is read from
 abbrev pub OwesWork : List Source → Front → Command → Outcome → Type 0
 OwesWork sources front command o =
-    (finish : Finish) × (bytes : List ℕ) × Does command front.names front.core finish bytes × (o ≡ outcome_of (name_of (origin_of command)) (Ended sources finish bytes))
+    (finish : Finish) × (bytes : List ℕ) × Does command front.names front.core finish bytes × (o ≡ outcome_of (Ended sources finish bytes))
+
+-- what the replay of the text under this name comes to over a program that is accepted, where `Gives` says what a shelf gives
+abbrev pub OwesReplay : (List ℕ → Fetch → Type 0) → List ℕ → Front → Outcome → Type 0
+OwesReplay Gives trace front o = (answer : Answer) × IsReplayed Gives trace front answer × (o ≡ outcome_of answer)
 
 -- what the words come to, where `Gives` says what a command is given
 abbrev pub OwesBy : (Origin → List ℕ → Fetch → Type 0) → List (List ℕ) → Outcome → Type 0
@@ -49,9 +53,24 @@ pub record Faults (held : Option Texts) (command : Command) (o : Outcome) : Type
   pub front : IsFront (MayGiveOrFail held) (prelude_of (origin_of command)) (name_of (origin_of command)) (Some (refuses (failed sources)))
   pub comes : o ≡ read_fault sources
 
+-- the shelf fails that is asked for a replay file
+abbrev pub IsTraceFault : List ℕ → Outcome → Type 0
+IsTraceFault trace o = o ≡ read_fault (alone trace [])
+
+-- what a command comes to where the file is accepted, and the shelf fails that is asked for its replay file
+pub record FaultsTrace (held : Option Texts) (command : Command) (o : Outcome) : Type 0 where
+  pub trace : List ℕ
+  pub takes : trace_of command ≡ Some trace
+  pub accepted : Accepted
+  pub front : IsFront (MayGive held) (prelude_of (origin_of command)) (name_of (origin_of command)) (Some (accepts accepted))
+  pub comes : IsTraceFault trace o
+
+abbrev pub FaultsFile : Option Texts → Command → Outcome → Type 0
+FaultsFile held command o = Faults held command o ⊎ FaultsTrace held command o
+
 -- what a command comes to where the shelf fails that it asks for its texts
 abbrev pub FaultsCommand : Option Texts → Command → Outcome → Type 0
-FaultsCommand held command o = AsksShelf (origin_of command) × Faults held command o
+FaultsCommand held command o = AsksShelf (origin_of command) × FaultsFile held command o
 
 -- the same of words
 abbrev pub FaultsWords : List (List ℕ) → Option Texts → Outcome → Type 0

@@ -1,11 +1,11 @@
 -- Runs with choices from a seed, and what is written of them.
-use Rattle.std.specs.Prelude.{◌≡◌, ℕ, List, [], ◌∷◌, ◌++◌, codes}
+use Rattle.std.specs.Prelude.{◌≡◌, ℕ, List}
 use Rattle.pict_core.specs.Term.{Process}
 use Rattle.pict_core.specs.Step.{Label}
 use Rattle.pict_core.specs.Run.{bytes_of}
 use Rattle.pict_core.specs.Places.{Place}
 use Rattle.pict_pick.specs.Picked.{PicksRun}
-use Rattle.pict_replay.specs.Files.{choices_text}
+use Rattle.pict_replay.specs.Files.{choices_text, file_text}
 use Rattle.pict_trace.specs.Lines.{lines_text}
 use Rattle.pict_top.specs.Ends.{end_of}
 use Rattle.pict_top.specs.declared.run.Finish.{Finish}
@@ -33,10 +33,6 @@ picked_lines names places labels = lines_text names labels
 abbrev pub picked_choices : Recording
 picked_choices places labels = choices_text places
 
--- the line between choices and trace
-abbrev pub trace_line : List ℕ
-trace_line = codes "trace" ++ 10 ∷ []
-
 -- the choices, the line `trace`, and the trace
 abbrev pub recorded : List (List ℕ) → Recording
-recorded names places labels = picked_choices places labels ++ (trace_line ++ picked_lines names places labels)
+recorded names places labels = file_text names places labels

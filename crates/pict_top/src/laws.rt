@@ -1,6 +1,6 @@
 // The laws of what words come to, each as the contract of a function that does nothing.
 
-ghost use Rattle.pict_top.specs.Laws.{LoadNeedsNoShelf, OneOutcome};
+ghost use Rattle.pict_top.specs.Laws.{LoadNeedsNoShelf, OneOutcome, PickedIsAnswered};
 
 /// Over a shelf that tells its texts the words come to exactly one outcome.
 pub fn law_one_outcome()
@@ -10,4 +10,9 @@ pub fn law_one_outcome()
 /// Over any shelf, whether or not it tells its texts, `load N` comes to exactly one outcome, and no file is read.
 pub fn law_load_needs_no_shelf()
     ensures { LoadNeedsNoShelf }
+{}
+
+/// What `picked` writes is answered `yes` by `replay`, over the same program, where it fits.
+pub fn law_picked_is_answered()
+    ensures { PickedIsAnswered }
 {}

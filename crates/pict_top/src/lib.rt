@@ -9,12 +9,13 @@ mod origin;
 mod picking;
 mod print;
 mod printer;
+mod replaying;
 mod run;
 mod status;
 mod top;
 mod work;
 
-pub use laws::{law_load_needs_no_shelf, law_one_outcome};
+pub use laws::{law_load_needs_no_shelf, law_one_outcome, law_picked_is_answered};
 pub use one_shelf::OneShelf;
 pub use pict_load::load_text;
 pub use pict_report::prelude;

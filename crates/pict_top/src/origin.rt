@@ -23,6 +23,7 @@ pub fn name_of<'a>(command: Command<'a>) -> &'a str
         Command::Load(_) => "load",
         Command::Pick(_, options) => options.file,
         Command::Picked(_, options) => options.file,
+        Command::Replay(options, _) => options.file,
     }
 }
 
@@ -39,6 +40,17 @@ pub fn prelude_of(command: Command<'_>) -> Option<&'static [u8]>
         Command::Load(_) => None,
         Command::Pick(_, options) => prelude_unless_bare(options),
         Command::Picked(_, options) => prelude_unless_bare(options),
+        Command::Replay(options, _) => prelude_unless_bare(options),
+    }
+}
+
+/// The name of the replay file, where the command replays one over its program. Takes no memory.
+pub fn trace_of<'a>(command: Command<'a>) -> Option<&'a str>
+    ensures { lent result ≡ origins.trace_of (plain_command command.entry) }
+{
+    match command {
+        Command::Replay(_, trace) => Some(trace),
+        _ => None,
     }
 }
 

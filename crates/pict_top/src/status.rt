@@ -21,6 +21,8 @@ pub enum Status {
     Memory,
     /// The shelf has no such file.
     Missing,
+    /// A replay file doesn't agree with the program.
+    Rejected,
 }
 
 impl Status {
@@ -41,6 +43,7 @@ impl Status {
             Status::WriteFault => 6,
             Status::Memory => 7,
             Status::Missing => 8,
+            Status::Rejected => 10,
         }
     }
 }

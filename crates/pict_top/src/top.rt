@@ -15,10 +15,11 @@ ghost use Rattle.pict_top.specs.Meets.{Meets, Reports, EndReports, Tells};
 ghost use Rattle.pict_top.specs.Origins as origins;
 ghost use Rattle.pict_top.specs.Origins.{IsOwn, MayGiveText, given, given_each, only, origin_of, own_length};
 ghost use Rattle.pict_top.specs.Outcome as outcomes;
-ghost use Rattle.pict_top.specs.Owed.{Faults, FaultsCommand, FaultsWords, Owes, OwesWithEach, OwesWords, OwesWork};
+ghost use Rattle.pict_top.specs.Owed.{FaultsCommand, FaultsFile, FaultsWords, Owes, OwesWithEach, OwesWords, OwesWork};
 
 use crate::one_shelf::OneShelf;
-use crate::origin::{name_of, own_text, prelude_of};
+use crate::origin::{name_of, own_text, prelude_of, trace_of};
+use crate::replaying::replay_over;
 use crate::run::{Broken, Finish};
 use crate::status::Status;
 use crate::work::perform;
@@ -38,8 +39,9 @@ use std::alloc::{AllocError, Global};
 /// and writes the listing of the program's instructions, each line in one write. `load` reads no file: it makes a program from a
 /// number, runs it, and writes a summary, each line in one write. `pick` runs the program with choices from a seed, and writes
 /// what it prints as `run` does; `picked` runs it twice, and writes a line for each of these choices, the line `trace`, and then
-/// the lines that `trace` would write of this run, each in one write. The text of the status, if it has one, is written on `err`
-/// in one write.
+/// the lines that `trace` would write of this run, each in one write. `replay` reads a second file, once the first is accepted, and
+/// says in one write whether it is such a choice of steps and such a trace of this program, or the first step that is at fault. The
+/// text of the status, if it has one, is written on `err` in one write.
 pub fn pict<S: Shelf, O: Sink, E: Sink>(
     alloc: Global,
     words: &[&str],
@@ -141,9 +143,9 @@ fn run_file<S: Shelf, O: Sink, E: Sink>(
 ) -> Status
     requires fuel { fuel_of (plain_command command) ≤ FUEL_LIMIT }
     requires own { own ≡ own_length (origin_of (plain_command command)) }
-    ensures meets { Meets (Owes (MayGive (S.held shelf.old)) (plain_command command.entry)) (Faults (S.held shelf.old) (plain_command command.entry))
+    ensures meets { Meets (Owes (MayGive (S.held shelf.old)) (plain_command command.entry)) (FaultsFile (S.held shelf.old) (plain_command command.entry))
         (Rose (S.faults shelf.old) (S.faults shelf.new)) (change_of O.taken O.faults out.old out.new) (change_of E.taken E.faults err.old err.new) result }
-    ensures each { Meets (Owes (MayGiveText (S.held shelf.old)) (plain_command command.entry)) (Faults (S.held shelf.old) (plain_command command.entry))
+    ensures each { Meets (Owes (MayGiveText (S.held shelf.old)) (plain_command command.entry)) (FaultsFile (S.held shelf.old) (plain_command command.entry))
         (Rose (S.faults shelf.old) (S.faults shelf.new)) (change_of O.taken O.faults out.old out.new) (change_of E.taken E.faults err.old err.new) result
         ⊎ Rose (S.misses shelf.old) (S.misses shelf.new) }
     ensures held { S.held shelf.new ≡ S.held shelf.old }
@@ -168,7 +170,10 @@ fn run_file<S: Shelf, O: Sink, E: Sink>(
             report_line(alloc, name, ": cannot be read", Status::ReadFault, err)
         }
         Err(FrontError::Named(code, span)) => refuse(alloc, &sources, span, code, err),
-        Ok(front) => run_ready(alloc, command, own, &sources, front, out, err),
+        Ok(front) => match trace_of(command) {
+            Some(trace) => replay_over(alloc, trace, shelf, front, out, err),
+            None => run_ready(alloc, command, own, &sources, front, out, err),
+        },
     }
 }
 
@@ -235,7 +240,13 @@ fn report_trap<E: Sink>(alloc: Global, sources: &Sources, at: Span, err: &mut E)
 }
 
 /// Reports a refusal at a place of one of the texts.
-fn refuse<E: Sink>(alloc: Global, sources: &Sources, at: Span, code: Code, err: &mut E) -> Status
+pub(crate) fn refuse<E: Sink>(
+    alloc: Global,
+    sources: &Sources,
+    at: Span,
+    code: Code,
+    err: &mut E,
+) -> Status
     requires short { AreShort sources.now.list.items }
     ensures text { Reports Status.Refused (refusal_report (position_of sources.now.list.items at) code) (change_of E.taken E.faults err.old err.new) result }
     ensures faults_stay { E.faults err.old ≤ E.faults err.new }
@@ -247,7 +258,7 @@ fn refuse<E: Sink>(alloc: Global, sources: &Sources, at: Span, code: Code, err: 
 }
 
 /// Reports a status by a line about a text, by its name.
-fn report_line<E: Sink>(
+pub(crate) fn report_line<E: Sink>(
     alloc: Global,
     name: &[u8],
     rest: &str,
@@ -264,7 +275,7 @@ fn report_line<E: Sink>(
 }
 
 /// Writes the text of a status.
-fn tell<E: Sink>(text: &[u8], status: Status, err: &mut E) -> Status
+pub(crate) fn tell<E: Sink>(text: &[u8], status: Status, err: &mut E) -> Status
     ensures text { Tells status text.now (change_of E.taken E.faults err.old err.new) result }
     ensures faults_stay { E.faults err.old ≤ E.faults err.new }
 {

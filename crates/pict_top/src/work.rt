@@ -62,6 +62,7 @@ pub fn perform<O: Sink>(
         Command::Picked(seed, options) => {
             record_picks(alloc, &names, &core, seed, options.fuel, out)
         }
+        Command::Replay(_, _) => Ok(Finish::Done),
     }
 }
 

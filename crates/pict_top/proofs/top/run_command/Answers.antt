@@ -1,4 +1,4 @@
-use Rattle.std.proofs.Common.{inl, inr}
+use Rattle.std.proofs.Common.{inl}
 use Rattle.pict_words.specs.Plain.{plain_command}
 use Rattle.pict_top.specs.Origins.{origin_of}
 use Rattle.pict_top.proofs.Meeting.{weaken, weaken_either}

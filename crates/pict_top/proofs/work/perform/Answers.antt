@@ -15,3 +15,6 @@ sum_up-requires-clause-right g c = runs_right (plain_core c.args.front.core) c.r
 
 pub returns-in-Check-clause-done : goal.returns-in-Check-clause-done
 returns-in-Check-clause-done g c = rw (c.in-Check.is) (record { bytes = []; does = record { done = refl; nothing = refl }; written = appends_nothing _ _ (keeps_same _) })
+
+pub returns-in-Replay-clause-done : goal.returns-in-Replay-clause-done
+returns-in-Replay-clause-done g c = rw (c.in-Replay.is) (record { bytes = []; does = record { done = refl; nothing = refl }; written = appends_nothing _ _ (keeps_same _) })

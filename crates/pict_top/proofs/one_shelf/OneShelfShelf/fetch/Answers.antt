@@ -1,6 +1,6 @@
-use Rattle.std.proofs.Common.{◌≡◌, ◌<◌, ◌≤◌, true, false, length, nat_eq, sym, ◌∙◌, arith, ap}
+use Rattle.std.proofs.Common.{◌≡◌, ◌≤◌, true, false, length, nat_eq, sym, ◌∙◌, arith, ap}
 use Rattle.std.specs.Cmp.Lexicographic.{pointwise}
-use Rattle.pict_outside.specs.declared.shelf.Fetched.TheVariants.{Text, Missing, TooLong}
+use Rattle.pict_outside.specs.declared.shelf.Fetched.TheVariants.{Text, TooLong}
 use Rattle.pict_top.specs.Origins.{only}
 use Rattle.pict_top.proofs.Only.{IsRight, found, passed, none_there, whole_there}
 use Rattle.pict_top.proofs.one_shelf.OneShelfShelf.fetch.Goals as goal
