@@ -29,8 +29,8 @@ pub enum Verdict {
 /// possible and the lines are exactly the labels that their steps show, in order, with the numbers of the steps; else it gives
 /// the first step that is at fault. No free run of the process may be wrong.
 ///
-/// The only error is want of memory, which is also the answer where a record of a line has more than 4,294,967,295 fields. It
-/// recurses along the values of the lines. It takes time in the lines, and for each choice that of the picker's step.
+/// The only error is want of memory, which is also the answer where there are more than 4,294,967,295 choices, or a record of a line
+/// has more fields. It recurses along the values of the lines. It takes time in the lines, and for each choice that of the picker's step.
 pub fn replay(
     alloc: Global,
     code: Code,
@@ -43,6 +43,9 @@ pub fn replay(
     ensures no { (number : ℕ) → result ≡ Ok (Verdict.No number)
         → IsFault (core_of (plain_code code)) (map place_of choices.now) (map plain_line expected.now) number }
 {
+    if choices.len() > u32::MAX as usize {
+        return Err(AllocError);
+    }
     let least = least_numbers(alloc, expected)?;
     let mut picker = Picker::load(alloc, code)?;
     let mut used = 0;

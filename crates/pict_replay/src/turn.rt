@@ -1,5 +1,5 @@
 // One choice of a replay: its step, and whether it shows what the lines give.
-ghost use Rattle.std.specs.Prelude.{◌≡◌, ◌≤◌, ◌↔◌, ◌∷◌, [], ℕ, IsTrue, IfOk, IfSome, Ok, None, true, false, map, length, drop};
+ghost use Rattle.std.specs.Prelude.{◌≡◌, ◌≤◌, ◌<◌, ◌+◌, ◌^◌, ◌↔◌, ◌∷◌, [], ℕ, IsTrue, IfOk, IfSome, Ok, None, true, false, map, length, drop};
 ghost use Rattle.pict_core.specs.Configuration.{Configuration, IsConfiguration};
 ghost use Rattle.pict_core.specs.Places.{IsPlace};
 ghost use Rattle.pict_core.specs.Run.{shown};
@@ -8,7 +8,7 @@ ghost use Rattle.pict_heap.specs.HeapState.{HeapState};
 ghost use Rattle.pict_trace.specs.Plain.{plain_label, plain_line};
 ghost use Rattle.pict_view.specs.View.{StandsFor};
 ghost use Rattle.pict_picker.specs.Events.{label_of, trap_of, IsDidOf};
-ghost use Rattle.pict_picker.specs.Picker.{IsPicker, view_of};
+ghost use Rattle.pict_picker.specs.Picker.{IsPicker, view_of, channels_of};
 ghost use Rattle.pict_replay.specs.Plain.{place_of};
 ghost use Rattle.pict_replay.specs.Replayed.{given, unused_after};
 ghost use Rattle.pict_replay.specs.Turns.{StandsRight, IsAsGiven, FailsAt};
@@ -31,8 +31,10 @@ pub(crate) fn take_choice(
     unused: &[Expected],
 ) -> Result<bool, AllocError>
     requires kept { IsPicker picker.old }
+    requires few { channels_of picker.old + 1 < 2 ^ 32 }
     requires right { StandsRight (view_of picker.old) }
     ensures kept { IsPicker picker.new }
+    ensures channels { channels_of picker.new ≤ channels_of picker.old + 1 }
     ensures as_given { result ≡ Ok true → (C : Configuration) → IsConfiguration C → StandsFor (view_of picker.old) C
         → IsAsGiven number C (place_of choice) (map plain_line unused.now) (view_of picker.new) }
     ensures fails { result ≡ Ok false → (C : Configuration) → IsConfiguration C → StandsFor (view_of picker.old) C

@@ -14,6 +14,7 @@ use Rattle.pict_replay.proofs.judging.replay.Goals as goal
 pub loop-done-init : goal.loop-done-init
 loop-done-init c = record {
   kept = c.in_ok-picker.ensures.kept;
+  channels = let none = c.in_ok-picker.ensures.channels in omega (arith, none);
   within = omega arith;
   so_far = begun (core_of (plain_code c.args.code)) (map plain_line c.args.expected.now) (view_of c.in_ok-picker.picker) c.load.ensures.is c.in_ok-picker.ensures.stands;
 }
@@ -37,6 +38,7 @@ returns-then-not-as_given-clause-no c number e =
 pub loop-done-preserved : goal.loop-done-preserved
 loop-done-preserved c = record {
   kept = c.take_choice.ensures.kept;
+  channels = omega (arith, c.loop-done.invariant.channels, c.take_choice.ensures.channels);
   within =
       let few = c.loop-done.invariant.within in
       let some = c.count_used-used.ensures.within in
