@@ -1,8 +1,9 @@
 //! Measures how fast the phases of the compiler work.
 //!
-//! Without a word it works on texts of 1,000 bytes and prints what it found in them, reads files at the end of
-//! the longest chain of texts, each nested as deep as may be, and runs 1,000 steps of rings of servers. With a number from 1 to 1,048,576 as its word it works on texts of so many bytes and runs so many steps, and
-//! prints how long each took and how many bytes or steps that is in a second: `rt run -- 1048576`.
+//! Without a word it works on texts of 1,000 bytes and prints what it found in them, reads files at the end of the longest chain
+//! of texts, each nested as deep as may be, and runs 1,000 steps of rings of servers. With a number from 1 to 1,048,576 as its
+//! word it works on texts of so many bytes and runs so many steps, and prints how long each took and how many bytes or steps
+//! that is in a second: `rt run -- 1048576`.
 #![tactic(auto)]
 
 mod importing;
