@@ -6,7 +6,7 @@ ghost use Rattle.pict_machine_tests.specs.Gentle.{IsGentleOver};
 
 use pict_core::{Core, CorePat, CoreVal, Part};
 use pict_lower::lower;
-use pict_replay::{FileError, Verdict, read_file, replay};
+use pict_replay::{ChoicesError, FileError, Verdict, read_choices, read_file, replay};
 use pict_syntax::{Bytes, Name, Names, Prim, Span};
 use std::alloc::{AllocError, Global};
 use std::process::Abort;
@@ -232,6 +232,48 @@ fn deep_values(rt: HostRuntime) -> Result<(), AllocError> {
         repeat(&mut text, b']', 1_000)?;
         text.push(b'\n')?;
         assert_eq!(rt; answer(a, &process, &text)?, expected);
+    }
+    Ok(())
+}
+
+/// What is said of a text as lines of choices.
+#[derive(Clone, Copy, Debug, PartialEq, Eq)]
+enum Lines {
+    /// So many choices, of which the last has these numbers.
+    Choices(usize, u64, u64),
+    /// This line is none.
+    Bad(u64),
+}
+
+fn lines(alloc: Global, text: &[u8]) -> Result<Lines, AllocError> {
+    match read_choices(alloc, text) {
+        Ok(choices) => match choices.last() {
+            Some(choice) => Ok(Lines::Choices(choices.len(), choice.ready, choice.partner)),
+            None => Ok(Lines::Choices(0, 0, 0)),
+        },
+        Err(ChoicesError::Bad(number)) => Ok(Lines::Bad(number)),
+        Err(ChoicesError::Memory) => Err(AllocError),
+    }
+}
+
+#[test]
+fn lines_of_choices(rt: HostRuntime) -> Result<(), AllocError> {
+    let a = rt.alloc();
+    let rows: [(&[u8], Lines); 8] = [
+        (b"", Lines::Choices(0, 0, 0)),
+        (b"0 0\n1 0\n", Lines::Choices(2, 1, 0)),
+        (
+            b"3 18446744073709551615\n",
+            Lines::Choices(1, 3, 18446744073709551615),
+        ),
+        (b"3 18446744073709551616\n", Lines::Bad(1)),
+        (b"0 0\n01 0\n", Lines::Bad(2)),
+        (b"0 0\n1 0", Lines::Bad(2)),
+        (b"0 0\n\n", Lines::Bad(2)),
+        (b"0  0\n", Lines::Bad(1)),
+    ];
+    for (text, expected) in &rows {
+        assert_eq!(rt; lines(a, text)?, *expected);
     }
     Ok(())
 }
