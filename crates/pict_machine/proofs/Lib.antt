@@ -15,3 +15,5 @@ pub mod Steps
 pub mod Running
 pub mod Going
 pub mod Bounding
+pub mod Wrongs
+pub mod Asking

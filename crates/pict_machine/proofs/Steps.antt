@@ -84,7 +84,7 @@ module _ (old : Machine) (taken new : Store) (given : GivesTurn (core_in old) ol
   refused_keeps : IsRefused (core_in old) taken new → KeepsWords (heap_of old) new.desk.heap
   refused_keeps r = from_old (keeps_words taken.desk.heap new.desk.heap r.heap)
 
-  still_kept : IsRefused (core_in old) taken new → IsRunning after
+  pub still_kept : IsRefused (core_in old) taken new → IsRunning after
   still_kept r = record {
     code = kept.code;
     store = r.store;

@@ -103,7 +103,7 @@ module _ (core : Process) (s taken : Store) (idle : s.turn ≡ turn.Nobody) (act
   }
 
 -- the store stands for what it stood for
-given_view : (core : Process) (s taken : Store) → GivesTurn core s taken → view_with_turn core taken ≡ view_with_turn core s
+pub given_view : (core : Process) (s taken : Store) → GivesTurn core s taken → view_with_turn core taken ≡ view_with_turn core s
 given_view core s taken g =
     ap (λ (h : HeapState). view_of_contents core (value_in h) (ready_words core taken) (channel_lists taken.queues)) g.heap
     ∙ ap (λ (ready : List (List ℕ)). view_of_contents core (value_in s.desk.heap) ready (channel_lists taken.queues)) g.ready

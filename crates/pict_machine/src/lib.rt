@@ -11,8 +11,9 @@ mod receiving;
 mod run;
 mod sending;
 mod stepping;
+mod wrong;
 
 pub use event::{End, Event, RunError, Stopped};
 pub use laws::law_closed_processes_have_codes;
 pub use machine::Machine;
-pub use run::Watcher;
+pub use run::{Watcher, show};

@@ -69,8 +69,9 @@ pub trait Watcher {
     ghost same_along: { (u v w : Self) → same u v → same v w → same u w };
 }
 
-// Shows the event, unless it is quiet or a trap.
-fn show<W: Watcher>(
+/// Shows the event of the step with this number, unless it is quiet or a trap. Errors, and what the watcher is afterwards, are as
+/// its `see` says.
+pub fn show<W: Watcher>(
     watcher: &mut W,
     heap: &Heap,
     number: u64,
