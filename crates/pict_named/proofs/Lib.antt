@@ -1,4 +1,7 @@
-pub mod Places
-pub mod Numbers
+pub mod Standing
+pub mod Reading
+pub mod Trees
+pub mod Types
+pub mod Values
 pub mod Defining
 pub mod Targets

@@ -1,18 +1,32 @@
--- The targets of values are binders of their names.
-use Rattle.std.proofs.Common.{◌≡◌, ℕ, suc, ◌+◌, ◌<◌, nat_eq, Bool, true, false, if◌then◌else◌, not, List, [], ◌∷◌, map, length, Some, slice_get, refl, sym, ◌∙◌, ap, append-nil, eqb-true, arith}
+-- The target of each use is the nearest binder whose scope holds it.
+use Rattle.std.proofs.Common.{◌≡◌, ℕ, suc, ◌+◌, ◌<◌, nat_eq, Bool, true, false, if◌then◌else◌, not, List, [], ◌∷◌, map, length, Some, slice_get, refl, sym, ◌∙◌, ap, subst, append-nil, eqb-true, arith}
 use Rattle.std.specs.List.{position_or_len}
+use Rattle.pict_syntax.specs.declared.id.Id.{Id}
 use Rattle.pict_scope.specs.declared.target.Target.{Target}
 use Rattle.pict_scope.specs.declared.target.Target.TheVariants.{Prim, Binder}
 use Rattle.pict_scope.specs.Marks.{value_meanings, binders_read, by_place}
 use Rattle.pict_scope.specs.Forms.{in_decs}
-use Rattle.pict_scope.specs.Scopes.{outermost, program_marks}
+use Rattle.pict_scope.specs.Scopes.{outermost, program_marks, type_targets, value_targets}
 use Rattle.pict_scope.specs.Laws.{AreAmongBinders}
 use Rattle.pict_scope.proofs.BindersRead.{targets_are_binders}
-use Rattle.pict_named.specs.Named.{values_bound, values_used}
-use Rattle.pict_named.specs.Laws.{AreTargetsOf, ValueTargetsAreNamed}
-use Rattle.pict_named.proofs.Places.{some, name_at}
-use Rattle.pict_named.proofs.Numbers.{AreMeant, numbered, goes_on}
-use Rattle.pict_named.proofs.Defining.{decs_defined}
+use Rattle.pict_named.specs.Phrases.{Use}
+use Rattle.pict_named.specs.Binders.{types_bound, values_bound}
+use Rattle.pict_named.specs.Laws.{HaveBinders, TypeTargetsAreNearest, AreTargetsOf, ValueTargetsAreNearest}
+use Rattle.pict_named.proofs.Standing.{Ids, some, id_at, value_uses_of}
+use Rattle.pict_named.proofs.Types.{goes}
+use Rattle.pict_named.proofs.Values.{numbered, goes_on}
+use Rattle.pict_named.proofs.Trees.{program_reads}
+use Rattle.pict_named.proofs.Defining.{all_defined}
+
+-- around a whole program nothing is bound
+abbrev nobody : Ids
+nobody = record { values = []; types_ = []; pattern_values = []; pattern_types = [] }
+
+pub type_targets_nearest : TypeTargetsAreNearest
+type_targets_nearest texts p h =
+    let all = types_bound (in_decs p) in
+    subst (λ us. HaveBinders all us (type_targets texts p)) ((program_reads p).types_ nobody)
+    (goes all [] [] (in_decs p) (outermost texts) nobody (sym (append-nil all)) refl (record { types_ = tt; pattern_types = tt }) h).used
 
 same_head : {A : Type 0} {x y : A} {xs ys : List A} → x ∷ xs ≡ y ∷ ys → x ≡ y
 same_head h = cc
@@ -20,27 +34,30 @@ same_head h = cc
 same_tail : {A : Type 0} {x y : A} {xs ys : List A} → x ∷ xs ≡ y ∷ ys → xs ≡ ys
 same_tail h = cc
 
--- the place of a number in the order is that of its name
-place_named : (all order bound : List ℕ) (k n : ℕ) → map (name_at all) order ≡ map some bound → name_at all k ≡ Some n → position_or_len (λ m. nat_eq k m) order < length order → slice_get bound (position_or_len (λ m. nat_eq k m) order) ≡ Some n
-place_named all [] bound k n h e lt = absurd (omega (arith, lt))
-place_named all (o ∷ order) [] k n h e lt = absurd cc
-place_named all (o ∷ order) (b ∷ bound) k n h e lt = go (nat_eq k o) refl lt (place_named all order bound k n (same_tail h) e)
+-- what has a number is at the place of the number
+place_named : (all : List Id) (order : List ℕ) (bound : List Id) (k : ℕ) (x : Id) → map (id_at all) order ≡ map some bound → id_at all k ≡ Some x → position_or_len (λ m. nat_eq k m) order < length order → slice_get bound (position_or_len (λ m. nat_eq k m) order) ≡ Some x
+place_named all [] bound k x h e lt = absurd (omega (arith, lt))
+place_named all (o ∷ order) [] k x h e lt = absurd cc
+place_named all (o ∷ order) (b ∷ bound) k x h e lt = go (nat_eq k o) refl lt (place_named all order bound k x (same_tail h) e)
   where
     go : (t : Bool) → nat_eq k o ≡ t → (if not t then 1 + position_or_len (λ m. nat_eq k m) order else 0) < length (o ∷ order)
-        → (position_or_len (λ m. nat_eq k m) order < length order → slice_get bound (position_or_len (λ m. nat_eq k m) order) ≡ Some n)
-        → slice_get (b ∷ bound) (if not t then 1 + position_or_len (λ m. nat_eq k m) order else 0) ≡ Some n
-    go true q l f = sym (same_head h) ∙ (ap (name_at all) (sym (eqb-true k o q)) ∙ e)
+        → (position_or_len (λ m. nat_eq k m) order < length order → slice_get bound (position_or_len (λ m. nat_eq k m) order) ≡ Some x)
+        → slice_get (b ∷ bound) (if not t then 1 + position_or_len (λ m. nat_eq k m) order else 0) ≡ Some x
+    go true q l f = sym (same_head h) ∙ (ap (id_at all) (sym (eqb-true k o q)) ∙ e)
     go false q l f = let one : 1 + position_or_len (λ m. nat_eq k m) order ≡ suc (position_or_len (λ m. nat_eq k m) order) = omega arith in ap (slice_get (b ∷ bound)) one ∙ f (omega (arith, l))
 
-targets_of : (texts : List (List ℕ)) (all order bound ns : List ℕ) (ts : List Target) → map (name_at all) order ≡ map some bound → AreMeant texts all ns ts → AreAmongBinders (length order) (map (by_place order) ts) → AreTargetsOf texts bound ns (map (by_place order) ts)
+targets_of : (texts : List (List ℕ)) (all : List Id) (order : List ℕ) (bound : List Id) (us : List Use) (ts : List Target) → map (id_at all) order ≡ map some bound → AreTargetsOf texts all us ts → AreAmongBinders (length order) (map (by_place order) ts) → AreTargetsOf texts bound us (map (by_place order) ts)
 targets_of texts all order bound [] [] h m a = tt
 targets_of texts all order bound [] (t ∷ ts) h m a = absurd m
-targets_of texts all order bound (n ∷ ns) [] h m a = absurd m
-targets_of texts all order bound (n ∷ ns) (Prim q ∷ ts) h m a = (m.0, targets_of texts all order bound ns ts h m.1 a.1)
-targets_of texts all order bound (n ∷ ns) (Binder k ∷ ts) h m a = (place_named all order bound k n h m.0 a.0, targets_of texts all order bound ns ts h m.1 a.1)
+targets_of texts all order bound (u ∷ us) [] h m a = absurd m
+targets_of texts all order bound (u ∷ us) (Prim q ∷ ts) h m a = (m.0, targets_of texts all order bound us ts h m.1 a.1)
+targets_of texts all order bound (u ∷ us) (Binder k ∷ ts) h m a =
+    (record { binder = m.0.binder; stands = place_named all order bound k m.0.binder h m.0.stands a.0; is_nearest = m.0.is_nearest }, targets_of texts all order bound us ts h m.1 a.1)
 
-pub value_targets_named : ValueTargetsAreNamed
-value_targets_named texts p h =
+pub value_targets_nearest : ValueTargetsAreNearest
+value_targets_nearest texts p h =
     let all = numbered (in_decs p) in
-    let g = goes_on texts all [] [] (in_decs p) (outermost texts) (sym (append-nil all)) refl (record { values = tt; pattern_values = tt }) refl (decs_defined p (outermost texts)) h in
-    targets_of texts all (binders_read (program_marks texts p)) (values_bound (in_decs p)) (values_used (in_decs p)) (value_meanings (program_marks texts p)) g.bound g.used (targets_are_binders texts p h)
+    let bound = values_bound (in_decs p) in
+    let g = goes_on texts all [] [] (in_decs p) (outermost texts) nobody (sym (append-nil all)) refl (record { values = tt; pattern_values = tt }) refl (all_defined p nobody (outermost texts) h) h in
+    subst (λ us. AreTargetsOf texts bound us (value_targets texts p)) ((program_reads p).values nobody)
+    (targets_of texts all (binders_read (program_marks texts p)) bound (value_uses_of (in_decs p) nobody) (value_meanings (program_marks texts p)) g.bound g.used (targets_are_binders texts p h))

@@ -1,2 +1,5 @@
-pub mod Named
+pub mod Phrases
+pub mod Extents
+pub mod Binders
+pub mod Worked
 pub mod Laws
