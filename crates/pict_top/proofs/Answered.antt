@@ -1,18 +1,29 @@
 -- What is written of a picked run is answered `yes`.
-use Rattle.std.proofs.Common.{◌≡◌, ℕ, List, [], ◌∷◌, ◌++◌, refl, sym, ◌∙◌, ap, subst}
+use Rattle.std.proofs.Common.{◌≡◌, ℕ, ◌+◌, ◌≤◌, ◌<◌, ◌^◌, Bool, true, false, List, [], ◌∷◌, ◌++◌, length, Option, refl, sym, ◌∙◌, ap, subst, arith, length-append}
+use Rattle.std.specs.Prelude.{IfSome}
+use Rattle.std.specs.Fmt.{decimal}
 use Rattle.std.specs.List.{AllByRecursion}
 use Rattle.pict_syntax.specs.Names.{text_of, with_name, with_names}
 use Rattle.pict_syntax.specs.Tokens.{IsWord}
 use Rattle.pict_syntax.proofs.NamesLemmas.{with_there, has_standing}
 use Rattle.pict_core.specs.Term.{Val, Vals, Labelled, Var, Chan, Int, Char, Boolean, Text, PrimitiveVal, Record, no_vals, more_vals, no_labelled, more_labelled}
 use Rattle.pict_core.specs.Step.{Label, Quiet, Comm, Print}
+use Rattle.pict_core.specs.Places.{Place}
+use Rattle.pict_report.specs.Prelude.{prelude_text}
+use Rattle.pict_pick.proofs.Running.{picked_runs_are_free}
+use Rattle.pict_trace.specs.Lines.{lines_text}
 use Rattle.pict_trace.specs.Readable.{IsOrderly, AreOrderly, LabelsAfter, IsReadable, labels_of, labels_of_all, labels_of_labelled, labels_in_line, labels_in}
 use Rattle.pict_trace.proofs.Unique.{name_stands}
 use Rattle.pict_front.proofs.InOrder.{accepted_is_ordered}
-use Rattle.pict_replay.specs.Files.{IsFile}
+use Rattle.pict_front.proofs.ObjectCores.{accepted_has_object}
+use Rattle.pict_ranges.proofs.Running.{free_runs_fit_lines}
+use Rattle.pict_ranges.proofs.Lengths.{short_lines}
+use Rattle.pict_ranges.proofs.Accepting.{accepted_is_in_range}
+use Rattle.pict_replay.specs.Files.{IsFile, choice_text, choices_text, trace_line, file_text}
 use Rattle.pict_replay.proofs.Written.{picked_is_answered as replay_answers}
 use Rattle.pict_top.specs.Answer.{judged}
 use Rattle.pict_top.specs.Ends.{end_of}
+use Rattle.pict_top.specs.Origins.{File, prelude_of}
 use Rattle.pict_top.specs.Laws.{PickedIsAnswered}
 
 module _ (names : List (List ℕ)) where
@@ -59,11 +70,48 @@ module _ (names : List (List ℕ)) where
   lines_gain [] h = refl
   lines_gain (line ∷ lines) h = gain_both (labels_in_line names line) (labels_in names lines) (line_gain line h.0) (lines_gain lines h.1)
 
+-- ---- lengths
+
+-- the line of a choice has a byte at least
+choices_long : (places : List Place) → length places ≤ length (choices_text places)
+choices_long [] = omega arith
+choices_long (p ∷ ps) =
+    let r = choices_long ps in
+    let a = length-append (decimal p.ready) (32 ∷ (decimal p.partner ++ (10 ∷ []))) in
+    let b = length-append (choice_text p) (choices_text ps) in
+    omega (arith, r, a, b)
+
+file_long : (names : List (List ℕ)) (places : List Place) (labels : List (ℕ × Label)) → length (choices_text places) + length (lines_text names labels) ≤ length (file_text names places labels)
+file_long names places labels =
+    let a = length-append (choices_text places) (trace_line ++ lines_text names labels) in
+    let b = length-append trace_line (lines_text names labels) in
+    omega (arith, a, b)
+
+prelude_long : length prelude_text ≡ 663
+unfolding prelude_text
+prelude_long = refl
+
+prelude_short : (alone : Bool) (file : List ℕ) → IfSome (prelude_of (File alone file)) (λ text. length text < 2 ^ 63)
+prelude_short true file = tt
+prelude_short false file = let long = prelude_long in omega (arith, long)
+
+-- ---- the law
+
 pub picked_is_answered : PickedIsAnswered
-picked_is_answered held prelude file trace bytes a seed fuel finish front r fits few gives =
+picked_is_answered held alone file trace bytes a seed fuel finish front r low few gives =
+    let prelude : Option (List ℕ) = prelude_of (File alone file) in
+    let f = a.front in
     let ordered = accepted_is_ordered held prelude file a front in
-    let x = replay_answers a.front.names a.front.core seed fuel (end_of finish) r.places r.labels ordered.0 ordered.1 r.runs fits in
+    let size : length bytes ≡ length (file_text f.names r.places r.labels) = ap length r.shows in
+    let parts = file_long f.names r.places r.labels in
+    let long = choices_long r.places in
+    let lines : length (lines_text f.names r.labels) < 2 ^ 63 = omega (arith, few, size, parts) in
+    let fits = free_runs_fit_lines f.core r.places r.labels r.runs.last (accepted_has_object held prelude file a front).closed
+        (accepted_is_in_range held prelude file a front (prelude_short alone file))
+        (picked_runs_are_free f.core seed fuel (end_of finish) r.places r.labels r.runs)
+        (short_lines f.names r.labels lines) (omega (arith, few, size, parts, long)) low in
+    let x = replay_answers f.names f.core seed fuel (end_of finish) r.places r.labels ordered.0 ordered.1 r.runs fits in
     judged gives few (record {
-      file = subst (λ t. IsFile a.front.names t r.places r.labels) (sym r.shows) x.file;
-      gained = sym (lines_gain a.front.names r.labels x.file.lines_are.shown);
+      file = subst (λ t. IsFile f.names t r.places r.labels) (sym r.shows) x.file;
+      gained = sym (lines_gain f.names r.labels x.file.lines_are.shown);
     }) x.agrees

@@ -1,15 +1,16 @@
 -- The laws of what words come to.
-use Rattle.std.specs.Prelude.{ℕ, ◌≤◌, List, length, Option, Some}
+use Rattle.std.specs.Prelude.{ℕ, ◌≤◌, Bool, List, length, Option, Some}
 use Rattle.std.specs.List.{AllByRecursion}
 use Rattle.pict_syntax.specs.declared.limits.TheConstants.{TEXT_LIMIT}
 use Rattle.pict_outside.specs.Texts.{Texts}
 use Rattle.pict_gather.specs.Phases.{Exactly, accepts}
 use Rattle.pict_gather.specs.Fetching.{MayGive, text}
 use Rattle.pict_front.specs.Front.{Accepted, IsFront}
-use Rattle.pict_trace.specs.Ordered.{FitsLine}
+use Rattle.pict_ranges.specs.Ranges.{NestsWithin}
 use Rattle.pict_replay.specs.declared.judging.Verdict.TheVariants.{Yes}
 use Rattle.pict_words.specs.Words.{HasShape, Load}
 use Rattle.pict_top.specs.Answer.{Judged, IsReplayed}
+use Rattle.pict_top.specs.Origins.{File, prelude_of}
 use Rattle.pict_top.specs.Picking.{PicksAndShows, recorded}
 use Rattle.pict_top.specs.declared.run.Finish.{Finish}
 use Rattle.pict_top.specs.Outcome.{Outcome}
@@ -25,10 +26,11 @@ abbrev pub LoadNeedsNoShelf : Type 0
 LoadNeedsNoShelf =
     (words : List (List ℕ)) (n : ℕ) (held : Option Texts) → HasShape words (Load n) → Exactly (OwesWords words held) × ((o : Outcome) → FaultsWords words held o → ⊥)
 
--- What `picked` writes of an accepted program, where the numbers and the nesting of what its steps show fit a line and it is no longer
--- than a text may be, is answered `yes` over the same program.
+-- What `picked` writes of an accepted program, alone or behind the prelude, where that is no longer than a text may be and values
+-- nest no deeper than in a line that is read, is answered `yes` over the same program.
 abbrev pub PickedIsAnswered : Type 0
 PickedIsAnswered =
-    (held : Option Texts) (prelude : Option (List ℕ)) (file trace bytes : List ℕ) (a : Accepted) (seed fuel : ℕ) (finish : Finish)
-    → IsFront (MayGive held) prelude file (Some (accepts a)) → (r : PicksAndShows a.front.core seed fuel (recorded a.front.names) finish bytes)
-    → AllByRecursion FitsLine r.labels → length bytes ≤ TEXT_LIMIT → MayGive held trace (text bytes) → IsReplayed (MayGive held) trace a.front (Judged Yes)
+    (held : Option Texts) (alone : Bool) (file trace bytes : List ℕ) (a : Accepted) (seed fuel : ℕ) (finish : Finish)
+    → IsFront (MayGive held) (prelude_of (File alone file)) file (Some (accepts a))
+    → (r : PicksAndShows a.front.core seed fuel (recorded a.front.names) finish bytes) → AllByRecursion NestsWithin r.labels → length bytes ≤ TEXT_LIMIT
+    → MayGive held trace (text bytes) → IsReplayed (MayGive held) trace a.front (Judged Yes)

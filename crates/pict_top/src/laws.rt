@@ -12,7 +12,8 @@ pub fn law_load_needs_no_shelf()
     ensures { LoadNeedsNoShelf }
 {}
 
-/// What `picked` writes is answered `yes` by `replay`, over the same program, where it fits.
+/// What `picked` writes is answered `yes` by `replay`, over the same program, unless it is longer than a text may be or values nest
+/// deeper than in a line that is read.
 pub fn law_picked_is_answered()
     ensures { PickedIsAnswered }
 {}

@@ -1,0 +1,9 @@
+pub mod Effects
+pub mod Steps
+pub mod Running
+pub mod Oldest
+pub mod Lengths
+pub mod Literals
+pub mod Tokens
+pub mod Translated
+pub mod Accepting

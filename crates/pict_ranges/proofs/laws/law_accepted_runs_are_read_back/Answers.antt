@@ -1,0 +1,5 @@
+use Rattle.pict_ranges.proofs.Accepting.{accepted_runs_are_read_back}
+use Rattle.pict_ranges.proofs.laws.law_accepted_runs_are_read_back.Goals as goal
+
+pub returns : goal.returns
+returns c = accepted_runs_are_read_back
