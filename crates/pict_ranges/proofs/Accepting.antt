@@ -1,5 +1,5 @@
 -- Each value of the core process of an accepted file is within the ranges of the machine, and what its runs write is read back.
-use Rattle.std.proofs.Common.{◌≡◌, ℕ, ◌+◌, ◌<◌, ◌≤◌, ◌^◌, List, [], ◌∷◌, ◌++◌, length, Option, Some, None, sym, ◌∙◌, ap, subst, arith, append-nil}
+use Rattle.std.proofs.Common.{◌≡◌, ℕ, ◌<◌, ◌^◌, List, [], length, Option, Some, None, sym, ◌∙◌, ap, subst, arith, append-nil}
 use Rattle.std.specs.Prelude.{IfSome}
 use Rattle.pict_syntax.specs.declared.token.Token.{Token}
 use Rattle.pict_syntax.specs.declared.tree.Import.{Import}
@@ -8,7 +8,6 @@ use Rattle.pict_syntax.specs.Programs.{Program, programs}
 use Rattle.pict_syntax.specs.Trees.{Decs, no_decs, more_decs}
 use Rattle.pict_core.specs.Closed.{IsClosed}
 use Rattle.pict_core.specs.Configuration.{opening}
-use Rattle.pict_outside.specs.Texts.{Texts}
 use Rattle.pict_gather.specs.Phases.{Phase, accepts, refuses}
 use Rattle.pict_gather.specs.Reading.{Read, Reads}
 use Rattle.pict_gather.specs.Fetching.{Fetch, MayGive}

@@ -1,10 +1,9 @@
 -- Primitives take values of the machine to such, and to strings of any length.
-use Rattle.std.proofs.Common.{ℕ, zero, suc, ◌+◌, ◌-◌, ◌%◌, ◌^◌, ◌<◌, ◌≤◌, Bool, ℤ, pos, negsuc, List, [], ◌∷◌, ◌++◌, length, Option, Some, None, option_map, slice_get, unwrap_or, arith, FitsSigned}
+use Rattle.std.proofs.Common.{ℕ, zero, suc, ◌^◌, ◌<◌, ◌≤◌, Bool, ℤ, pos, negsuc, List, [], ◌∷◌, ◌++◌, length, Option, Some, None, option_map, slice_get, unwrap_or, arith, FitsSigned}
 use Rattle.std.specs.Prelude.{int_rem, unsigned_abs}
 use Rattle.std.specs.Int.{w64, int_rem_euclid}
 use Rattle.std.specs.Fmt.{signed_decimal}
 use Rattle.std.specs.Str.{IsAscii}
-use Rattle.std.specs.List.{AllByRecursion}
 use Rattle.std.proofs.lemmas.Int.{SFits-int_wrap, rem_below, fits_signed_from_abs}
 use Rattle.std.proofs.lemmas.Nat.{mod_below}
 use Rattle.pict_syntax.specs.declared.primitive.Primitive.{Primitive}

@@ -1,13 +1,13 @@
 -- A line is no shorter than a string that it shows.
-use Rattle.std.proofs.Common.{ℕ, ◌+◌, ◌<◌, ◌≤◌, ◌^◌, List, [], ◌∷◌, ◌++◌, length, map, arith, length-append}
+use Rattle.std.proofs.Common.{ℕ, ◌<◌, ◌≤◌, ◌^◌, List, [], ◌∷◌, ◌++◌, length, map, arith, length-append}
 use Rattle.std.proofs.lemmas.List.{length-map}
 use Rattle.std.specs.Fmt.{decimal}
 use Rattle.std.specs.List.{AllByRecursion}
 use Rattle.pict_syntax.specs.Tokens.{Item, plain, newline, tab, backslash, double_quote, single_quote, hexadecimal, item_bytes, items_bytes}
-use Rattle.pict_core.specs.Term.{Val, Text}
-use Rattle.pict_core.specs.Step.{Label, Quiet, Comm, Print}
-use Rattle.pict_show.specs.Values.{item_of, quoted, value_text}
-use Rattle.pict_trace.specs.Lines.{shown_text, line_text, lines_text}
+use Rattle.pict_core.specs.Term.{Text}
+use Rattle.pict_core.specs.Step.{Label, Comm}
+use Rattle.pict_show.specs.Values.{item_of, quoted}
+use Rattle.pict_trace.specs.Lines.{line_text, lines_text}
 use Rattle.pict_ranges.specs.Ranges.{IsShort}
 
 pub item_some : (i : Item) → 1 ≤ length (item_bytes i)

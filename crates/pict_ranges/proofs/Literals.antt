@@ -1,5 +1,5 @@
 -- Declarations in which each literal is within the ranges of the machine.
-use Rattle.std.specs.Prelude.{ℕ, ◌<◌, ◌^◌, FitsSigned, length}
+use Rattle.std.specs.Prelude.{◌<◌, ◌^◌, FitsSigned, length}
 use Rattle.std.specs.Int.{w64}
 use Rattle.pict_trace.specs.Readable.{AreBytes}
 use Rattle.pict_syntax.specs.Trees.{Dec, new_dec, run_dec, let_dec, def_dec, alias_dec, operator_dec, await_dec, Decs, no_decs, more_decs, Definitions, no_definitions, more_definitions, Abs, process_abs, function_abs, Chan, use_chan, fold_chan, block_chan, apply_chan, right_chan, left_chan, Val, of_chan, number_val, character_val, string_val, true_val, false_val, fields_val, if_val, lambda_val, Vals, no_vals, more_vals, FieldVals, field_vals, LabelledVals, no_labelled_vals, more_labelled_vals, Proc, send_proc, receive_proc, serve_proc, if_proc, inert_proc, group_proc, Procs, no_procs, more_procs}

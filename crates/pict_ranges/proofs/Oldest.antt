@@ -3,7 +3,7 @@ use Rattle.std.proofs.Common.{◌≡◌, ℕ, zero, suc, ◌+◌, List, [], ◌�
 use Rattle.pict_core.specs.Configuration.{Configuration, IsConfiguration}
 use Rattle.pict_core.specs.Step.{Label, Steps, step_by}
 use Rattle.pict_core.specs.Run.{Reaches, shown}
-use Rattle.pict_core.specs.Places.{Place, choice_at, outcome_at}
+use Rattle.pict_core.specs.Places.{Place, outcome_at}
 use Rattle.pict_core.specs.FreeRun.{FreelyRuns, at_start, by_step}
 use Rattle.pict_core.proofs.Kept.{free_steps_keep, oldest_first_is_free}
 use Rattle.pict_core.proofs.Everywhere.{choices_have_places}

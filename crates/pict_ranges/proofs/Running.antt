@@ -1,20 +1,19 @@
 -- What free runs show is within ranges, and fits lines that are read.
-use Rattle.std.proofs.Common.{◌≡◌, ℕ, ◌+◌, ◌<◌, ◌≤◌, ◌^◌, List, [], ◌∷◌, ◌++◌, length, refl, sym, subst, arith, length-append}
+use Rattle.std.proofs.Common.{◌≡◌, ℕ, ◌+◌, ◌≤◌, ◌^◌, List, [], ◌∷◌, ◌++◌, length, refl, sym, subst, arith, length-append}
 use Rattle.std.specs.List.{AllByRecursion}
-use Rattle.pict_syntax.specs.declared.limits.TheConstants.{VALUE_NESTING_LIMIT}
 use Rattle.pict_core.specs.Term.{Val, Vals, Labelled, Var, Chan, Int, Char, Boolean, Text, PrimitiveVal, Record, no_vals, more_vals, no_labelled, more_labelled, Process}
 use Rattle.pict_core.specs.Closed.{IsOver, AreOver, LabelledOver, IsClosed}
 use Rattle.pict_core.specs.Configuration.{Configuration, IsConfiguration, opening}
 use Rattle.pict_core.specs.Step.{Label, Quiet, Comm, Print, Steps}
 use Rattle.pict_core.specs.Run.{shown}
-use Rattle.pict_core.specs.Places.{Place, IsPlace, choice_at, outcome_at}
+use Rattle.pict_core.specs.Places.{Place, choice_at}
 use Rattle.pict_core.specs.FreeRun.{FreelyRuns, at_start, by_step}
 use Rattle.pict_core.proofs.Closed.{over_more}
 use Rattle.pict_core.proofs.Kept.{free_steps_keep}
 use Rattle.pict_core.proofs.Placing.{places_are_free}
 use Rattle.pict_object.proofs.Lists.{all_both, all_weaker, all_split}
 use Rattle.pict_trace.specs.Ordered.{IsInRange, AreInRange, LabelledInRange, FitsLine}
-use Rattle.pict_ranges.specs.Ranges.{IsMachineValue, AreMachineValues, AreMachineFields, IsMachineMessage, IsMachineProcess, IsMachineConfiguration, IsShort, IsShownAmong, IsShownWithin, NestsWithin}
+use Rattle.pict_ranges.specs.Ranges.{IsMachineValue, AreMachineValues, AreMachineFields, IsMachineConfiguration, IsShort, IsShownAmong, IsShownWithin, NestsWithin}
 use Rattle.pict_ranges.specs.Laws.{FreeRunsAreInRange, FreeRunsFitLines}
 use Rattle.pict_ranges.proofs.Steps.{StepIs, step_by_is, value_of}
 

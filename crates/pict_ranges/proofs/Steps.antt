@@ -1,14 +1,14 @@
 -- Free steps keep values within ranges: what a process does, and then its place in a configuration.
-use Rattle.std.proofs.Common.{◌≡◌, ℕ, zero, suc, ◌+◌, ◌-◌, ◌<◌, ◌≤◌, nat_lt, nat_eq, Bool, true, false, List, [], ◌∷◌, ◌++◌, length, Option, Some, None, option_map, option_and_then, slice_get, unwrap_or, filter, map, if◌then◌else◌, refl, sym, subst, arith}
+use Rattle.std.proofs.Common.{◌≡◌, ℕ, zero, suc, ◌+◌, ◌-◌, ◌≤◌, nat_lt, nat_eq, Bool, true, false, List, [], ◌∷◌, ◌++◌, length, Option, Some, None, option_map, option_and_then, slice_get, unwrap_or, filter, map, if◌then◌else◌, refl, sym, subst, arith}
 use Rattle.std.specs.List.{AllByRecursion}
 use Rattle.pict_syntax.specs.declared.span.Span.{Span}
 use Rattle.pict_core.specs.Term.{Val, Vals, Labelled, Var, Chan, Int, Char, Boolean, Text, PrimitiveVal, Record, no_vals, more_vals, no_labelled, more_labelled, Pat, Pats, LabelledPats, Bind, Any, RecordPat, no_pats, more_pats, no_labelled_pats, more_labelled_pats, Process, Zero, Par, New, Out, In, If}
-use Rattle.pict_core.specs.Closed.{IsOver, IsUnder}
+use Rattle.pict_core.specs.Closed.{IsUnder}
 use Rattle.pict_core.specs.Matching.{field_at, match_value, match_values, match_labelled, both}
 use Rattle.pict_core.specs.Substitution.{Replacement, replace_value, replace_values, replace_labelled, replace, value_of_variable, substitution, substitute}
 use Rattle.pict_core.specs.Primitives.{Effect, Leaves, Nothing, Answer, Trap, effect_of}
 use Rattle.pict_core.specs.Configuration.{Mark, Ready, Parked, Entry, Configuration, IsConfiguration}
-use Rattle.pict_core.specs.Step.{Label, Quiet, Comm, Print, StepOutcome, Steps, Traps, Wrong, Finished, gone, kept, added, with_process, with_channel, served, took, printing, act, act_entry, Choice, free_step, Free, least, entry_at, step_by}
+use Rattle.pict_core.specs.Step.{Label, Comm, StepOutcome, Steps, Traps, Wrong, Finished, gone, kept, added, with_process, with_channel, served, took, printing, act, act_entry, Choice, free_step, least, entry_at, step_by}
 use Rattle.pict_core.specs.Deed.{Deed, Ends, Keeps, Forks, Opens, Parks, Serves, Takes, Stops, Misfits, leaves, performs, serves, offers, takes, asks, sends, receives, chooses, deed}
 use Rattle.pict_core.specs.Placing.{place, stamp_or_none}
 use Rattle.pict_core.proofs.Deeds.{acts_are_placed}

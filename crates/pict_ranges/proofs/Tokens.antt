@@ -1,5 +1,5 @@
 -- The literals of a program are tokens of its text, and these are within the ranges of the machine where the text isn't too long.
-use Rattle.std.proofs.Common.{◌≡◌, ℕ, ◌+◌, ◌*◌, ◌<◌, ◌≤◌, ◌^◌, List, [], ◌∷◌, ◌++◌, length, map, IsTrue, FitsSigned, sym, ◌∙◌, ap, subst, arith, length-append}
+use Rattle.std.proofs.Common.{ℕ, ◌+◌, ◌<◌, ◌≤◌, ◌^◌, List, [], ◌∷◌, ◌++◌, length, map, IsTrue, FitsSigned, sym, ap, subst, arith, length-append}
 use Rattle.std.specs.Int.{w64}
 use Rattle.std.specs.Char.{digit_value, is_ascii_hexdigit}
 use Rattle.std.proofs.lemmas.Bool.Decides.{nat_tests}
@@ -9,8 +9,8 @@ use Rattle.pict_syntax.specs.declared.token.Token.{Token}
 use Rattle.pict_syntax.specs.declared.token.TokenKind.{TokenKind}
 use Rattle.pict_syntax.specs.declared.token.TokenKind.TheVariants.{Number, Character, String}
 use Rattle.pict_syntax.specs.declared.token.Sign.{Sign as AnySign}
-use Rattle.pict_syntax.specs.Cuts.{Piece, blank, comment, token, ArePieces, joined, piece_bytes, tokens_of}
-use Rattle.pict_syntax.specs.Tokens.{identifier, symbol, keyword, number, character, string, sign, Item, plain, newline, tab, backslash, double_quote, single_quote, hexadecimal, item_bytes, item_value, items_bytes, IsItem, AreItems, Spells}
+use Rattle.pict_syntax.specs.Cuts.{Piece, blank, comment, token, ArePieces, joined, tokens_of}
+use Rattle.pict_syntax.specs.Tokens.{identifier, symbol, keyword, number, character, string, sign, Item, plain, newline, tab, backslash, double_quote, single_quote, hexadecimal, item_value, items_bytes, IsItem, AreItems, Spells}
 use Rattle.pict_syntax.specs.Phrases.{Phrase, ◌▸◌, led, between, closed}
 use Rattle.pict_syntax.specs.Grammar.{val_span, abs_span, proc_span, IsDec, AreDecs, AreDefinitionsAnd, IsAbs, IsChan, IsVal, AreVals, AreFieldVals, AreLabelledVals, IsProc, AreProcsBar}
 use Rattle.pict_syntax.specs.Trees.{Dec, new_dec, run_dec, let_dec, def_dec, alias_dec, operator_dec, await_dec, Decs, no_decs, more_decs, Definitions, no_definitions, more_definitions, Abs, process_abs, function_abs, Chan, use_chan, fold_chan, block_chan, apply_chan, right_chan, left_chan, Val, of_chan, number_val, character_val, string_val, true_val, false_val, fields_val, if_val, lambda_val, Vals, no_vals, more_vals, FieldVals, field_vals, LabelledVals, no_labelled_vals, more_labelled_vals, Proc, send_proc, receive_proc, serve_proc, if_proc, inert_proc, group_proc, Procs, no_procs, more_procs}
