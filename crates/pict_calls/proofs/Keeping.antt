@@ -5,7 +5,7 @@ use Rattle.pict_heap.specs.Fields.{text_bytes}
 use Rattle.pict_heap.specs.HeapState.{HeapState, text_of, KeepsWords}
 use Rattle.pict_heap.specs.declared.word.Word.{Word}
 use Rattle.pict_prim.specs.Acts.{effect_act, need_of, IsActOf, IsPrinted, IsTextWord}
-use Rattle.pict_prim.specs.Done.{printed_of}
+use Rattle.pict_prim.specs.Printed.{printed_of}
 use Rattle.pict_prim.specs.declared.act.Act.{Act}
 use Rattle.pict_prim.specs.declared.act.Act.TheVariants as act
 

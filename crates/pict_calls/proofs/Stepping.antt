@@ -10,7 +10,7 @@ use Rattle.pict_core.specs.Step.{Label, Quiet, Print, printing}
 use Rattle.pict_code.specs.Nodes.{nodes_of}
 use Rattle.pict_blocks.specs.Keeping.{kept_words}
 use Rattle.pict_heap.specs.HeapState.{value_of, KeepsWords}
-use Rattle.pict_prim.specs.Done.{printed_of}
+use Rattle.pict_prim.specs.Printed.{printed_of}
 use Rattle.pict_region.specs.RegionState.{spare}
 use Rattle.pict_queue.specs.QueuesState.{QueuesState, IsQueue}
 use Rattle.pict_queue.specs.Contents.{contents, HoldsNoMore}

@@ -6,7 +6,7 @@ use Rattle.pict_core.specs.Term.{Val, PrimitiveVal, Process, Out}
 use Rattle.pict_core.specs.Step.{Quiet, Print}
 use Rattle.pict_heap.specs.HeapState.{value_of, IsWord}
 use Rattle.pict_heap.specs.declared.word.Word.{Word}
-use Rattle.pict_prim.specs.Done.{printed_of}
+use Rattle.pict_prim.specs.Printed.{printed_of}
 use Rattle.pict_view.specs.Moved.{Stops}
 use Rattle.pict_view.specs.Placed.{next_view}
 use Rattle.pict_blocks.specs.Blocks.{process_of}

@@ -7,7 +7,7 @@ use Rattle.pict_desk.specs.Kept.{IsOutput}
 use Rattle.pict_desk.specs.declared.kept.Kept.{Kept}
 use Rattle.pict_heap.specs.HeapState.{HeapState, value_of, IsWord, KeepsWords}
 use Rattle.pict_heap.specs.declared.word.Word.{Word}
-use Rattle.pict_prim.specs.Done.{printed_of}
+use Rattle.pict_prim.specs.Printed.{printed_of}
 use Rattle.pict_prim.specs.declared.act.Act.{Act}
 use Rattle.pict_prim.specs.declared.act.Act.TheVariants as act
 use Rattle.pict_turns.specs.declared.store.Store.{Store}

@@ -17,7 +17,7 @@ use crate::finishing::{finish, outputs};
 use pict_blocks::KEPT_WIDTH;
 use pict_desk::act_of;
 use pict_heap::Word;
-use pict_prim::{Act, act_on, room};
+use pict_prim::{Act, act_on, room_of};
 use pict_syntax::{Prim, Span};
 use pict_turns::{Store, reserve};
 use std::alloc::AllocError;
@@ -34,7 +34,7 @@ fn carry_out(store: &mut Store, act: Act, at: Span) -> Result<Called, AllocError
     ensures work { store.new.queues.region.work ≡ store.old.queues.region.work }
     ensures turn { (core : Process) → turn_cost core store.new ≤ turn_cost core store.old + 13 }
 {
-    let need = room(&store.desk.heap, act);
+    let need = room_of(&store.desk.heap, act);
     reserve(store, need, KEPT_WIDTH, outputs(act))?;
     Ok(finish(store, act, at))
 }

@@ -8,7 +8,7 @@ ghost use Rattle.pict_desk.specs.Kept.{IsOutput};
 use crate::called::Called;
 use pict_desk::Kept;
 use pict_heap::{Word, pack};
-use pict_prim::{Act, Acted, perform};
+use pict_prim::{Act, Done, perform};
 use pict_syntax::Span;
 use pict_turns::{Store, Turn};
 
@@ -46,18 +46,18 @@ pub(crate) fn finish(store: &mut Store, act: Act, at: Span) -> Called
     ensures pending { store.new.desk.pending ≡ store.old.desk.pending }
 {
     match perform(&mut store.desk.heap, act) {
-        Acted::Printed(word) => {
+        Done::Printed(word) => {
             store.turn = Turn::Nobody;
             Called::Printed(word)
         }
-        Acted::Answer(to, answer) => {
+        Done::Answer(to, answer) => {
             store.turn = Turn::Output(output(to, answer, at));
             Called::Quiet
         }
-        Acted::PrintedAnswer(word, to, answer) => {
+        Done::PrintedAnswer(word, to, answer) => {
             store.turn = Turn::Output(output(to, answer, at));
             Called::Printed(word)
         }
-        Acted::ZeroDivisor => Called::Trapped(at),
+        Done::ZeroDivisor => Called::Trapped(at),
     }
 }

@@ -3,7 +3,7 @@ use Rattle.std.proofs.Common.{ℕ, ◌≡◌, List, ap, sym, subst, Some, IsSome
 use Rattle.pict_core.specs.Term.{Process}
 use Rattle.pict_core.specs.Step.{printing}
 use Rattle.pict_heap.specs.HeapState.{value_of}
-use Rattle.pict_prim.specs.Done.{printed_of}
+use Rattle.pict_prim.specs.Printed.{printed_of}
 use Rattle.pict_calls.specs.Calling.{IsCalled}
 use Rattle.pict_calls.specs.declared.called.Called.{Called}
 use Rattle.pict_calls.specs.declared.called.Called.TheVariants as called

@@ -7,7 +7,7 @@ use Rattle.pict_core.specs.Step.{printing}
 use Rattle.pict_core.specs.Run as run
 use Rattle.pict_heap.specs.HeapState.{HeapState, IsWord, value_of}
 use Rattle.pict_prim.specs.Acts.{IsPrinted}
-use Rattle.pict_prim.specs.Done.{printed_of}
+use Rattle.pict_prim.specs.Printed.{printed_of}
 use Rattle.pict_machine.specs.declared.event.End.{End}
 use Rattle.pict_machine.specs.declared.event.End.TheVariants as end
 use Rattle.pict_machine.specs.declared.event.Event.{Event}

@@ -7,7 +7,7 @@ use Rattle.pict_desk.specs.Known.{value_in}
 use Rattle.pict_heap.specs.HeapState.{HeapState, value_of}
 use Rattle.pict_desk.specs.Pairs.{IsPair}
 use Rattle.pict_prim.specs.Acts.{IsPrinted}
-use Rattle.pict_prim.specs.Done.{printed_of}
+use Rattle.pict_prim.specs.Printed.{printed_of}
 use Rattle.pict_machine.specs.declared.event.PackedEvent.{PackedEvent}
 use Rattle.pict_machine.specs.declared.event.PackedEvent.TheVariants as packed
 

@@ -1,7 +1,12 @@
 // Every primitive at its corners.
 
+ghost use Rattle.std.specs.Prelude.{IfOk, IfSome};
+ghost use Rattle.pict_heap.specs.HeapState.{IsWord};
+ghost use Rattle.pict_prim.specs.Acts.{IsDoneOf};
+
 use pict_core::CoreVal;
-use pict_prim::{Done, apply, attempt, printed_bytes};
+use pict_heap::{Heap, Word};
+use pict_prim::{Done, Need, ValueDone, act_on, apply, attempt_on_value, printed_bytes, room};
 use pict_syntax::{Bytes, Prim};
 use std::alloc::{AllocError, Global};
 
@@ -49,8 +54,8 @@ fn answers(
     argument: &CoreVal,
     wanted: &CoreVal,
 ) -> Result<bool, AllocError> {
-    match attempt(alloc, p, argument)? {
-        Some(Done::Answer(CoreVal::Chan(7), value)) => Ok(is_same(&value, wanted)),
+    match attempt_on_value(alloc, p, argument)? {
+        Some(ValueDone::Answer(CoreVal::Chan(7), value)) => Ok(is_same(&value, wanted)),
         _ => Ok(false),
     }
 }
@@ -103,20 +108,12 @@ fn numbers_at_their_corners(rt: HostRuntime) -> Result<(), AllocError> {
         let argument = three(alloc, CoreVal::Int(1), CoreVal::Int(0))?;
         assert!(rt;
             matches!(
-                apply_to_numbers(alloc, p, argument)?,
-                Some(Done::ZeroDivisor)
+                attempt_on_value(alloc, p, &argument)?,
+                Some(ValueDone::ZeroDivisor)
             )
         );
     }
     Ok(())
-}
-
-// The same by `apply`, where the primitive takes the argument.
-fn apply_to_numbers(alloc: Global, p: Prim, argument: CoreVal) -> Result<Option<Done>, AllocError> {
-    match attempt(alloc, p, &argument)? {
-        None => Ok(None),
-        Some(_) => Ok(Some(apply(alloc, p, argument)?)),
-    }
 }
 
 #[test]
@@ -204,9 +201,9 @@ fn characters_and_strings_at_their_corners(rt: HostRuntime) -> Result<(), AllocE
 
 // What the primitive prints, if it prints.
 fn printed(alloc: Global, p: Prim, argument: &CoreVal) -> Result<Option<Bytes>, AllocError> {
-    match attempt(alloc, p, argument)? {
-        Some(Done::Printed(v)) => Ok(Some(printed_bytes(alloc, v)?)),
-        Some(Done::PrintedAnswer(v, _k, _a)) => Ok(Some(printed_bytes(alloc, v)?)),
+    match attempt_on_value(alloc, p, argument)? {
+        Some(ValueDone::Printed(v)) => Ok(Some(printed_bytes(alloc, v)?)),
+        Some(ValueDone::PrintedAnswer(v, _k, _a)) => Ok(Some(printed_bytes(alloc, v)?)),
         _ => Ok(None),
     }
 }
@@ -226,17 +223,96 @@ fn printings_and_other_shapes(rt: HostRuntime) -> Result<(), AllocError> {
         Some(bytes) => assert!(rt; bytes.slice().is_empty()),
         None => assert!(rt; false),
     }
-    assert!(rt; attempt(alloc, Prim::Print, &CoreVal::Int(1))?.is_none());
-    assert!(rt; attempt(alloc, Prim::Print, &two(alloc, text(alloc, b"a")?)?)?.is_none());
-    assert!(rt; attempt(alloc, Prim::Add, &two(alloc, CoreVal::Int(1))?)?.is_none());
+    assert!(rt; attempt_on_value(alloc, Prim::Print, &CoreVal::Int(1))?.is_none());
+    assert!(rt; attempt_on_value(alloc, Prim::Print, &two(alloc, text(alloc, b"a")?)?)?.is_none());
+    assert!(rt; attempt_on_value(alloc, Prim::Add, &two(alloc, CoreVal::Int(1))?)?.is_none());
     assert!(rt;
-        attempt(
+        attempt_on_value(
             alloc,
             Prim::Add,
             &three(alloc, CoreVal::Int(1), CoreVal::Bool(true))?
         )?
         .is_none()
     );
-    assert!(rt; attempt(alloc, Prim::Not, &CoreVal::Bool(true))?.is_none());
+    assert!(rt; attempt_on_value(alloc, Prim::Not, &CoreVal::Bool(true))?.is_none());
+    Ok(())
+}
+
+// What the primitive adds to the heap, and what it does, where it takes the argument.
+fn act(heap: &mut Heap, p: Prim, argument: Word) -> Result<Option<(Need, Done)>, AllocError>
+    requires { IsWord heap.old argument }
+    ensures { IfOk result (λ o. IfSome o (λ x. IsDoneOf heap.new x.1)) }
+{
+    match act_on(heap, p, argument) {
+        None => Ok(None),
+        Some(_) => {
+            let need = room(heap, p, argument);
+            heap.reserve(need.records, need.fields, need.texts, need.bytes)?;
+            Ok(Some((need, apply(heap, p, argument))))
+        }
+    }
+}
+
+#[test]
+fn words_are_acted_on(rt: HostRuntime) -> Result<(), AllocError> {
+    let mut heap = Heap::new(rt.alloc());
+    heap.reserve(1, 3, 2, 5)?;
+    let front = heap.add_text(b"ab");
+    let back = heap.add_text(b"cde");
+    let argument = heap.add_record(&[front, back, Word::Chan(7)], &[]);
+    match act(&mut heap, Prim::Join, argument)? {
+        Some((need, Done::Answer(Word::Chan(7), text))) => {
+            assert_eq!(rt; (need.records, need.fields, need.texts, need.bytes), (0, 0, 1, 5));
+            assert!(rt; heap.bytes(text) == Some(b"abcde".as_slice()));
+        }
+        _ => assert!(rt; false),
+    }
+    Ok(())
+}
+
+#[test]
+fn numbers_are_spelled(rt: HostRuntime) -> Result<(), AllocError> {
+    let mut heap = Heap::new(rt.alloc());
+    heap.reserve(1, 2, 0, 0)?;
+    let argument = heap.add_record(&[Word::Int(-5), Word::Chan(7)], &[]);
+    match act(&mut heap, Prim::Intstr, argument)? {
+        Some((need, Done::Answer(Word::Chan(7), text))) => {
+            assert_eq!(rt; (need.records, need.fields, need.texts, need.bytes), (0, 0, 1, 20));
+            assert!(rt; heap.bytes(text) == Some(b"-5".as_slice()));
+        }
+        _ => assert!(rt; false),
+    }
+    Ok(())
+}
+
+#[test]
+fn printed_words_come_first(rt: HostRuntime) -> Result<(), AllocError> {
+    let mut heap = Heap::new(rt.alloc());
+    heap.reserve(1, 2, 1, 1)?;
+    let text = heap.add_text(b"a");
+    let argument = heap.add_record(&[text, Word::Chan(7)], &[]);
+    match act(&mut heap, Prim::Pr, argument)? {
+        Some((need, Done::PrintedAnswer(printed, Word::Chan(7), unit))) => {
+            assert_eq!(rt; (need.records, need.fields, need.texts, need.bytes), (1, 0, 0, 0));
+            assert!(rt; printed == text);
+            assert_eq!(rt; heap.count(unit), Some(0));
+        }
+        _ => assert!(rt; false),
+    }
+    Ok(())
+}
+
+#[test]
+fn divisions_of_words_by_zero_are_told(rt: HostRuntime) -> Result<(), AllocError> {
+    let mut heap = Heap::new(rt.alloc());
+    heap.reserve(1, 3, 0, 0)?;
+    let argument = heap.add_record(&[Word::Int(1), Word::Int(0), Word::Chan(7)], &[]);
+    match act(&mut heap, Prim::Divide, argument)? {
+        Some((need, Done::ZeroDivisor)) => {
+            assert_eq!(rt; (need.records, need.fields, need.texts, need.bytes), (0, 0, 0, 0));
+        }
+        _ => assert!(rt; false),
+    }
+    assert!(rt; act(&mut heap, Prim::Print, argument)?.is_none());
     Ok(())
 }

@@ -11,11 +11,11 @@ use Rattle.pict_core.specs.Step.{Label, Quiet, printing}
 use Rattle.pict_heap.specs.Fields.{text_bytes}
 use Rattle.pict_heap.specs.HeapState.{HeapState, value_of, text_of, KeepsWords}
 use Rattle.pict_heap.specs.declared.word.Word.{Word}
-use Rattle.pict_prim.specs.Acts.{effect_act, effect_acted, need_of, IsActOf, IsActedOf, IsPrinted, IsTextWord}
-use Rattle.pict_prim.specs.Done.{printed_of}
+use Rattle.pict_prim.specs.Acts.{effect_act, effect_done, need_of, IsActOf, IsDoneOf, IsPrinted, IsTextWord}
+use Rattle.pict_prim.specs.Printed.{printed_of}
 use Rattle.pict_prim.specs.declared.act.Act.{Act}
 use Rattle.pict_prim.specs.declared.act.Act.TheVariants as act
-use Rattle.pict_prim.specs.declared.act.Acted.TheVariants as acted
+use Rattle.pict_prim.specs.declared.act.Done.TheVariants as done
 use Rattle.pict_desk.specs.Constants.{OnlyMakes}
 use Rattle.pict_desk.specs.Kept.{IsOutput}
 use Rattle.pict_desk.specs.Known.{pair_at, value_in, known, operand_value}
@@ -51,13 +51,13 @@ module _ (h : HeapState) (at : Span) where
     fits = λ core lists j own. (record { to = o.to_pair; message = o.message_pair }, tt);
   }
 
-  pub acted_printed : (w : Word) (e : Effect) → effect_acted h (acted.Printed w) ≡ e → IsActedOf h (acted.Printed w) → HasEffect h e at (deed.Ends (Some w))
+  pub acted_printed : (w : Word) (e : Effect) → effect_done h (done.Printed w) ≡ e → IsDoneOf h (done.Printed w) → HasEffect h e at (deed.Ends (Some w))
   acted_printed w e is words = subst (λ (x : Effect). HasEffect h x at (deed.Ends (Some w))) is (record { is = λ core lists j own. refl; fits = λ core lists j own. words })
 
-  pub acted_answer : (k a : Word) (e : Effect) (kept : Kept) → effect_acted h (acted.Answer k a) ≡ e → IsOutput h (value_of h k) (value_of h a) at kept → HasEffect h e at (deed.Keeps (Output kept) None)
+  pub acted_answer : (k a : Word) (e : Effect) (kept : Kept) → effect_done h (done.Answer k a) ≡ e → IsOutput h (value_of h k) (value_of h a) at kept → HasEffect h e at (deed.Keeps (Output kept) None)
   acted_answer k a e kept is o = subst (λ (x : Effect). HasEffect h x at (deed.Keeps (Output kept) None)) is (answer_effect (value_of h k) (value_of h a) kept o)
 
-  pub acted_printed_answer : (w k a : Word) (e : Effect) (kept : Kept) → effect_acted h (acted.PrintedAnswer w k a) ≡ e → IsPrinted h w → IsOutput h (value_of h k) (value_of h a) at kept
+  pub acted_printed_answer : (w k a : Word) (e : Effect) (kept : Kept) → effect_done h (done.PrintedAnswer w k a) ≡ e → IsPrinted h w → IsOutput h (value_of h k) (value_of h a) at kept
       → HasEffect h e at (deed.Keeps (Output kept) (Some w))
   acted_printed_answer w k a e kept is printed o =
       subst (λ (x : Effect). HasEffect h x at (deed.Keeps (Output kept) (Some w))) is (record {
@@ -65,7 +65,7 @@ module _ (h : HeapState) (at : Span) where
         fits = λ core lists j own. (record { to = o.to_pair; message = o.message_pair }, printed);
       })
 
-  pub acted_stops : (e : Effect) → effect_acted h acted.ZeroDivisor ≡ e → HasEffect h e at (deed.Stops at)
+  pub acted_stops : (e : Effect) → effect_done h done.ZeroDivisor ≡ e → HasEffect h e at (deed.Stops at)
   acted_stops e is = subst (λ (x : Effect). HasEffect h x at (deed.Stops at)) is (record { is = λ core lists j own. refl; fits = λ core lists j own. tt })
 
   -- an answer that is known before the words of its operands are made

@@ -7,7 +7,7 @@ use Rattle.pict_core.specs.Step.{Label, Quiet, printing}
 use Rattle.pict_heap.specs.HeapState.{HeapState, value_of}
 use Rattle.pict_heap.specs.declared.word.Word.{Word}
 use Rattle.pict_prim.specs.Acts.{IsPrinted}
-use Rattle.pict_prim.specs.Done.{printed_of}
+use Rattle.pict_prim.specs.Printed.{printed_of}
 use Rattle.pict_view.specs.Partners.{is_input}
 use Rattle.pict_view.specs.Placed.{partner_at}
 use Rattle.pict_view.specs.View.{list_at}

@@ -5,7 +5,7 @@ use Rattle.pict_core.specs.Step as step
 use Rattle.pict_core.specs.Step.{printing}
 use Rattle.pict_heap.specs.HeapState.{HeapState, IsWord, value_of}
 use Rattle.pict_prim.specs.Acts.{IsPrinted}
-use Rattle.pict_prim.specs.Done.{printed_of}
+use Rattle.pict_prim.specs.Printed.{printed_of}
 use Rattle.pict_picker.specs.declared.did.Did.{Did}
 use Rattle.pict_picker.specs.declared.did.Did.TheVariants as did
 

@@ -27,7 +27,7 @@ use pict_desk::{
     reserve_room, word_at_hand, word_of,
 };
 use pict_heap::{Heap, Word, pack};
-use pict_prim::{Act, Acted, Need, act_on, perform, room};
+use pict_prim::{Act, Done, Need, act_on, perform, room_of};
 use pict_syntax::{Prim, Span};
 use std::alloc::AllocError;
 
@@ -66,15 +66,15 @@ fn finish(heap: &mut Heap, act: Act, at: Span) -> Deed
     ensures zero { act ≡ Act.ZeroDivisor → heap.new ≡ heap.old }
 {
     match perform(heap, act) {
-        Acted::Printed(word) => Deed::Ends(Some(word)),
-        Acted::Answer(to, answer) => {
+        Done::Printed(word) => Deed::Ends(Some(word)),
+        Done::Answer(to, answer) => {
             Deed::Keeps(Waiting::Output(output_to(to, answer, at)), None)
         }
-        Acted::PrintedAnswer(word, to, answer) => Deed::Keeps(
+        Done::PrintedAnswer(word, to, answer) => Deed::Keeps(
             Waiting::Output(output_to(to, answer, at)),
             Some(word),
         ),
-        Acted::ZeroDivisor => Deed::Stops(at),
+        Done::ZeroDivisor => Deed::Stops(at),
     }
 }
 
@@ -89,7 +89,7 @@ pub(crate) fn call(desk: &mut Desk, p: Prim, argument: Word, at: Span) -> Result
 {
     match act_on(&desk.heap, p, argument) {
         Some(act) => {
-            let need = room(&desk.heap, act);
+            let need = room_of(&desk.heap, act);
             reserve_room(desk, need)?;
             Ok(finish(&mut desk.heap, act, at))
         }

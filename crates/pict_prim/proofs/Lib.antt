@@ -3,3 +3,4 @@ pub mod Counted
 pub mod SameNumbers
 pub mod Shapes
 pub mod Bases
+pub mod Needs

@@ -44,7 +44,7 @@ none_of_int (Text n) f h = refl
 none_of_int (PrimitiveVal n) f h = refl
 none_of_int (Record vs ls) f h = refl
 
-no_numbers : (x y : Val) → at_int x (λ a. at_int y (λ b. None)) ≡ None
+pub no_numbers : (x y : Val) → at_int x (λ a. at_int y (λ b. None)) ≡ None
 no_numbers x y = none_of_int x _ (λ a. none_of_int y _ (λ b. refl))
 
 three_by : (p : Primitive) (x y k : Val) (ls : Labelled) → effect_of p (Record (more_vals x (more_vals y (more_vals k no_vals))) ls) ≡ three_effect p x y k

@@ -6,11 +6,11 @@ use Rattle.pict_core.specs.Primitives.{Effect, Nothing, Answer, Trap}
 use Rattle.pict_heap.specs.Fields.{text_bytes}
 use Rattle.pict_heap.specs.HeapState.{HeapState, Room, value_of, text_of, IsWord, UsesRoom}
 use Rattle.pict_heap.specs.declared.word.Word.{Word}
-use Rattle.pict_prim.specs.Done.{printed_of}
+use Rattle.pict_prim.specs.Printed.{printed_of}
 use Rattle.pict_prim.specs.declared.act.Act.{Act}
 use Rattle.pict_prim.specs.declared.act.Act.TheVariants as act
-use Rattle.pict_prim.specs.declared.act.Acted.{Acted}
-use Rattle.pict_prim.specs.declared.act.Acted.TheVariants as acted
+use Rattle.pict_prim.specs.declared.act.Done.{Done}
+use Rattle.pict_prim.specs.declared.act.Done.TheVariants as done
 use Rattle.pict_prim.specs.declared.act.Need.{Need}
 
 -- the effect that an act is to have
@@ -42,17 +42,17 @@ IsActOf h (act.Spell k n) = IsWord h k
 IsActOf h act.ZeroDivisor = Unit {0}
 
 -- the effect that it had
-abbrev pub effect_acted : HeapState → Acted → Effect
-effect_acted h (acted.Printed w) = record { printed = printed_of (value_of h w); leaves = Nothing }
-effect_acted h (acted.Answer k a) = record { printed = None; leaves = Answer (value_of h k) (value_of h a) }
-effect_acted h (acted.PrintedAnswer w k a) = record { printed = printed_of (value_of h w); leaves = Answer (value_of h k) (value_of h a) }
-effect_acted h acted.ZeroDivisor = record { printed = None; leaves = Trap }
+abbrev pub effect_done : HeapState → Done → Effect
+effect_done h (done.Printed w) = record { printed = printed_of (value_of h w); leaves = Nothing }
+effect_done h (done.Answer k a) = record { printed = None; leaves = Answer (value_of h k) (value_of h a) }
+effect_done h (done.PrintedAnswer w k a) = record { printed = printed_of (value_of h w); leaves = Answer (value_of h k) (value_of h a) }
+effect_done h done.ZeroDivisor = record { printed = None; leaves = Trap }
 
-abbrev pub IsActedOf : HeapState → Acted → Type 0
-IsActedOf h (acted.Printed w) = IsPrinted h w
-IsActedOf h (acted.Answer k a) = IsWord h k × IsWord h a
-IsActedOf h (acted.PrintedAnswer w k a) = IsPrinted h w × IsWord h k × IsWord h a
-IsActedOf h acted.ZeroDivisor = Unit {0}
+abbrev pub IsDoneOf : HeapState → Done → Type 0
+IsDoneOf h (done.Printed w) = IsPrinted h w
+IsDoneOf h (done.Answer k a) = IsWord h k × IsWord h a
+IsDoneOf h (done.PrintedAnswer w k a) = IsPrinted h w × IsWord h k × IsWord h a
+IsDoneOf h done.ZeroDivisor = Unit {0}
 
 -- What an act adds to the heap. A decimal text is given room for the longest, of twenty bytes.
 abbrev pub need_of : HeapState → Act → Need
@@ -60,6 +60,13 @@ need_of h (act.PrintAnswer w k) = record { records = 1; fields = 0; texts = 0; b
 need_of h (act.Join k a b) = record { records = 0; fields = 0; texts = 1; bytes = length (text_of h a) + length (text_of h b) }
 need_of h (act.Spell k n) = record { records = 0; fields = 0; texts = 1; bytes = 20 }
 need_of h _ = record { records = 0; fields = 0; texts = 0; bytes = 0 }
+
+-- it adds nothing
+abbrev pub AddsNothing : Act → Type 0
+AddsNothing (act.PrintAnswer w k) = ⊥
+AddsNothing (act.Join k a b) = ⊥
+AddsNothing (act.Spell k n) = ⊥
+AddsNothing _ = Unit {0}
 
 -- there is room for it
 pub record HasRoom (room : Room) (need : Need) : Type 0 where

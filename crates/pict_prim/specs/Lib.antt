@@ -1,4 +1,6 @@
-pub mod Done
+pub mod Printed
+pub mod ValueDone
+pub mod Needed
 pub mod Calculated
 pub mod Families
 pub mod Acts

@@ -20,7 +20,7 @@ pub enum Act {
 
 /// What a primitive did with words of a heap.
 #[derive(Clone, Copy)]
-pub enum Acted {
+pub enum Done {
     /// It printed this text or number, and its output ends.
     Printed(Word),
     /// It leaves an output: where to send, and what.

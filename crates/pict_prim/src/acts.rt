@@ -1,14 +1,14 @@
-// A primitive acts on its argument.
+// A primitive acts on a core value.
 
-ghost use Rattle.std.specs.Prelude.{◌≡◌, IfOk, IsSome, IfSome, Some, option_map};
+ghost use Rattle.std.specs.Prelude.{◌≡◌, IfOk, IfSome, option_map};
 ghost use Rattle.pict_core.specs.Plain.{plain_val};
 ghost use Rattle.pict_core.specs.Primitives.{effect_of, at_two, at_three, at_ints};
-ghost use Rattle.pict_prim.specs.Done.{effect_done, PrintsText, Attempts};
+ghost use Rattle.pict_prim.specs.ValueDone.{effect_value_done, PrintsText, Attempts};
 ghost use Rattle.pict_prim.specs.Families.{int_effect, one_effect, text_effect};
 
 use crate::numbers::act_on_numbers;
 use crate::operands::{three_fields, two_fields, two_numbers};
-use crate::outcome::Done;
+use crate::outcome::ValueDone;
 use crate::texts::{
     chr, intstr, join, negate, nth, ord, print, print_and_answer, print_number, size,
 };
@@ -18,8 +18,12 @@ use std::alloc::{AllocError, Global};
 
 /// What the primitive does to the argument. `None` exactly where the argument has not the primitive's shape, and
 /// `ZeroDivisor` exactly where the divisor is zero. The only error is want of memory.
-pub fn attempt(alloc: Global, p: Prim, argument: &CoreVal) -> Result<Option<Done>, AllocError>
-    ensures effect { IfOk result (λ done. option_map effect_done done ≡ effect_of p (plain_val argument.now)) }
+pub fn attempt_on_value(
+    alloc: Global,
+    p: Prim,
+    argument: &CoreVal,
+) -> Result<Option<ValueDone>, AllocError>
+    ensures effect { IfOk result (λ done. option_map effect_value_done done ≡ effect_of p (plain_val argument.now)) }
     ensures printed { IfOk result (λ done. IfSome done PrintsText) }
 {
     match p {
@@ -38,7 +42,7 @@ pub fn attempt(alloc: Global, p: Prim, argument: &CoreVal) -> Result<Option<Done
 }
 
 // On a record of one operand and where to send.
-fn attempt_one(alloc: Global, p: Prim, argument: &CoreVal) -> Result<Option<Done>, AllocError>
+fn attempt_one(alloc: Global, p: Prim, argument: &CoreVal) -> Result<Option<ValueDone>, AllocError>
     ensures { Attempts result (at_two (plain_val argument.now) (one_effect p)) }
 {
     match two_fields(argument) {
@@ -47,7 +51,12 @@ fn attempt_one(alloc: Global, p: Prim, argument: &CoreVal) -> Result<Option<Done
     }
 }
 
-fn act_on_one(alloc: Global, p: Prim, v: &CoreVal, k: &CoreVal) -> Result<Option<Done>, AllocError>
+fn act_on_one(
+    alloc: Global,
+    p: Prim,
+    v: &CoreVal,
+    k: &CoreVal,
+) -> Result<Option<ValueDone>, AllocError>
     ensures { Attempts result (one_effect p (plain_val v.now) (plain_val k.now)) }
 {
     match p {
@@ -62,7 +71,11 @@ fn act_on_one(alloc: Global, p: Prim, v: &CoreVal, k: &CoreVal) -> Result<Option
 }
 
 // On a record of a string, a further operand and where to send.
-fn attempt_texts(alloc: Global, p: Prim, argument: &CoreVal) -> Result<Option<Done>, AllocError>
+fn attempt_texts(
+    alloc: Global,
+    p: Prim,
+    argument: &CoreVal,
+) -> Result<Option<ValueDone>, AllocError>
     ensures { Attempts result (at_three (plain_val argument.now) (text_effect p)) }
 {
     match three_fields(argument) {
@@ -77,7 +90,7 @@ fn act_on_texts(
     v: &CoreVal,
     w: &CoreVal,
     k: &CoreVal,
-) -> Result<Option<Done>, AllocError>
+) -> Result<Option<ValueDone>, AllocError>
     ensures { Attempts result (text_effect p (plain_val v.now) (plain_val w.now) (plain_val k.now)) }
 {
     match p {
@@ -88,24 +101,15 @@ fn act_on_texts(
 }
 
 // On a record of two numbers and where to send.
-fn attempt_numbers(alloc: Global, p: Prim, argument: &CoreVal) -> Result<Option<Done>, AllocError>
+fn attempt_numbers(
+    alloc: Global,
+    p: Prim,
+    argument: &CoreVal,
+) -> Result<Option<ValueDone>, AllocError>
     ensures { Attempts result (at_ints (plain_val argument.now) (int_effect p)) }
 {
     match two_numbers(argument) {
         None => Ok(None),
         Some((a, b, k)) => act_on_numbers(alloc, p, a, b, k),
-    }
-}
-
-/// What the primitive does to an argument of its shape: `ZeroDivisor` exactly where the divisor is zero. The only error
-/// is want of memory.
-pub fn apply(alloc: Global, p: Prim, argument: CoreVal) -> Result<Done, AllocError>
-    requires { IsSome (effect_of p (plain_val argument)) }
-    ensures effect { IfOk result (λ done. effect_of p (plain_val argument) ≡ Some (effect_done done)) }
-    ensures printed { IfOk result PrintsText }
-{
-    match attempt(alloc, p, &argument)? {
-        None => unreachable!(),
-        Some(done) => Ok(done),
     }
 }

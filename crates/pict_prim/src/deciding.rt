@@ -8,7 +8,9 @@ ghost use Rattle.pict_core.specs.Plain.{vals_of};
 ghost use Rattle.pict_core.specs.Primitives.{Effect, Answer, answers, prints, effect_of, at_int, at_char, at_bool, at_text, byte_at};
 ghost use Rattle.pict_heap.specs.Fields.{positional_count, positional_field};
 ghost use Rattle.pict_heap.specs.HeapState.{HeapState, value_of, IsWord};
-ghost use Rattle.pict_prim.specs.Acts.{effect_act, IsActOf};
+ghost use Rattle.pict_syntax.specs.declared.primitive.Primitive.TheVariants as primitive;
+ghost use Rattle.pict_prim.specs.Acts.{effect_act, need_of, AddsNothing, IsActOf};
+ghost use Rattle.pict_prim.specs.Needed.{needed, of_three};
 ghost use Rattle.pict_prim.specs.Answers.{of_numbers, AnswersWord, AnswersNothing};
 ghost use Rattle.pict_prim.specs.Calculated.{effect_calculated, effect_answered};
 ghost use Rattle.pict_prim.specs.Families.{one_effect, three_effect, simple_effect, int_effect};
@@ -20,12 +22,13 @@ use pict_heap::{Heap, Word};
 use pict_syntax::Prim;
 
 /// What the primitive is to do to an argument of the heap, or None exactly where the argument has not the primitive's
-/// shape. Takes no memory.
+/// shape. To do it adds to the heap what the primitive needs. Takes no memory.
 #[inline(always)]
 pub fn act_on(heap: &Heap, p: Prim, argument: Word) -> Option<Act>
     requires { IsWord heap.now argument }
     ensures effect { option_map (effect_act heap.now) result ≡ effect_of p (value_of heap.now argument) }
     ensures words { IfSome result (IsActOf heap.now) }
+    ensures need { IfSome result (λ act. need_of heap.now act ≡ needed p (value_of heap.now argument)) }
 {
     match heap.count(argument) {
         None => act_on_simple(p, argument),
@@ -74,6 +77,7 @@ fn act_on_pair(heap: &Heap, p: Prim, argument: Word) -> Option<Act>
     requires two { positional_count (value_of heap.now argument) ≡ Some 2 }
     ensures effect { option_map (effect_act heap.now) result ≡ effect_of p (value_of heap.now argument) }
     ensures words { IfSome result (IsActOf heap.now) }
+    ensures need { IfSome result (λ act. need_of heap.now act ≡ needed p (value_of heap.now argument)) }
 {
     let v = field(heap, argument, 0);
     let k = field(heap, argument, 1);
@@ -87,6 +91,7 @@ fn act_on_triple(heap: &Heap, p: Prim, argument: Word) -> Option<Act>
     requires three { positional_count (value_of heap.now argument) ≡ Some 3 }
     ensures effect { option_map (effect_act heap.now) result ≡ effect_of p (value_of heap.now argument) }
     ensures words { IfSome result (IsActOf heap.now) }
+    ensures need { IfSome result (λ act. need_of heap.now act ≡ needed p (value_of heap.now argument)) }
 {
     let v = field(heap, argument, 0);
     let w = field(heap, argument, 1);
@@ -113,6 +118,7 @@ fn field(heap: &Heap, w: Word, i: u32) -> Word
 fn act_on_simple(p: Prim, argument: Word) -> Option<Act>
     ensures effect { (h : HeapState) → option_map (effect_act h) result ≡ simple_effect p (value_of h argument) }
     ensures words { (h : HeapState) → IsWord h argument → IfSome result (IsActOf h) }
+    ensures need { (h : HeapState) (v : Val) → IfSome result (λ act. need_of h act ≡ needed p v) }
 {
     match p {
         Prim::Print => print(argument),
@@ -128,6 +134,7 @@ fn act_on_two(heap: &Heap, p: Prim, v: Word, k: Word) -> Option<Act>
     requires target { IsWord heap.now k }
     ensures effect { option_map (effect_act heap.now) result ≡ one_effect p (value_of heap.now v) (value_of heap.now k) }
     ensures words { IfSome result (IsActOf heap.now) }
+    ensures need { (v : Val) → IfSome result (λ act. need_of heap.now act ≡ needed p v) }
 {
     match p {
         Prim::Pr => print_and_answer(v, k),
@@ -148,6 +155,8 @@ fn act_on_three(heap: &Heap, p: Prim, v: Word, w: Word, k: Word) -> Option<Act>
     requires target { IsWord heap.now k }
     ensures effect { option_map (effect_act heap.now) result ≡ three_effect p (value_of heap.now v) (value_of heap.now w) (value_of heap.now k) }
     ensures words { IfSome result (IsActOf heap.now) }
+    ensures need { (labels : Labelled) → IfSome result (λ act. need_of heap.now act
+        ≡ needed p (of_three (value_of heap.now v) (value_of heap.now w) (value_of heap.now k) labels)) }
 {
     match p {
         Prim::Join => join(v, w, k),
@@ -162,6 +171,7 @@ fn act_on_operands(p: Prim, v: Word, w: Word, k: Word) -> Option<Act>
     ensures effect { (h : HeapState) → option_map (effect_act h) result
         ≡ at_int (value_of h v) (λ a. at_int (value_of h w) (λ b. int_effect p a b (value_of h k))) }
     ensures words { (h : HeapState) → IsWord h k → IfSome result (IsActOf h) }
+    ensures plain { IfSome result AddsNothing }
 {
     match v {
         Word::Int(a) => match w {
@@ -176,6 +186,7 @@ fn act_on_operands(p: Prim, v: Word, w: Word, k: Word) -> Option<Act>
 fn act_on_numbers(p: Prim, a: i64, b: i64, k: Word) -> Option<Act>
     ensures effect { (h : HeapState) → option_map (effect_act h) result ≡ int_effect p a b (value_of h k) }
     ensures words { (h : HeapState) → IsWord h k → IfSome result (IsActOf h) }
+    ensures plain { IfSome result AddsNothing }
 {
     match calculate(p, a, b) {
         None => None,
@@ -187,6 +198,7 @@ fn act_on_numbers(p: Prim, a: i64, b: i64, k: Word) -> Option<Act>
 fn answer_calculated(k: Word, calculated: Calculated) -> Act
     ensures effect { (h : HeapState) → effect_act h result ≡ effect_calculated (value_of h k) calculated }
     ensures words { (h : HeapState) → IsWord h k → IsActOf h result }
+    ensures plain { AddsNothing result }
 {
     match answered(calculated) {
         Some(answer) => Act::Answer(k, answer),
@@ -212,6 +224,7 @@ fn answered(calculated: Calculated) -> Option<Word>
 fn print(argument: Word) -> Option<Act>
     ensures effect { (h : HeapState) → option_map (effect_act h) result ≡ at_text (value_of h argument) prints }
     ensures words { (h : HeapState) → IsWord h argument → IfSome result (IsActOf h) }
+    ensures need { (h : HeapState) (v : Val) → IfSome result (λ act. need_of h act ≡ needed primitive.Print v) }
 {
     match argument {
         Word::Text(_) => Some(Act::Print(argument)),
@@ -224,6 +237,7 @@ fn print(argument: Word) -> Option<Act>
 fn print_number(argument: Word) -> Option<Act>
     ensures effect { (h : HeapState) → option_map (effect_act h) result ≡ at_int (value_of h argument) (λ n. prints (signed_decimal n)) }
     ensures words { (h : HeapState) → IsWord h argument → IfSome result (IsActOf h) }
+    ensures need { (h : HeapState) (v : Val) → IfSome result (λ act. need_of h act ≡ needed primitive.Printi v) }
 {
     match argument {
         Word::Int(_) => Some(Act::Print(argument)),
@@ -237,6 +251,7 @@ fn print_and_answer(text: Word, k: Word) -> Option<Act>
     ensures effect { (h : HeapState) → option_map (effect_act h) result ≡ at_text (value_of h text)
         (λ bytes. Some (record { printed = Some bytes; leaves = Answer (value_of h k) (Record no_vals no_labelled) })) }
     ensures words { (h : HeapState) → IsWord h text → IsWord h k → IfSome result (IsActOf h) }
+    ensures need { (h : HeapState) (v : Val) → IfSome result (λ act. need_of h act ≡ needed primitive.Pr v) }
 {
     match text {
         Word::Text(_) => Some(Act::PrintAnswer(text, k)),
@@ -250,6 +265,7 @@ fn chr(n: Word, k: Word) -> Option<Act>
     ensures effect { (h : HeapState) → option_map (effect_act h) result
         ≡ at_int (value_of h n) (λ a. answers (value_of h k) (Char (unsigned_abs (int_rem_euclid a (pos 256))))) }
     ensures words { (h : HeapState) → IsWord h k → IfSome result (IsActOf h) }
+    ensures need { (h : HeapState) (v : Val) → IfSome result (λ act. need_of h act ≡ needed primitive.Chr v) }
 {
     match n {
         Word::Int(a) => Some(Act::Answer(k, Word::Char(a.rem_euclid(256) as u8))),
@@ -262,6 +278,7 @@ fn chr(n: Word, k: Word) -> Option<Act>
 fn ord(c: Word, k: Word) -> Option<Act>
     ensures effect { (h : HeapState) → option_map (effect_act h) result ≡ at_char (value_of h c) (λ byte. answers (value_of h k) (Int (pos byte))) }
     ensures words { (h : HeapState) → IsWord h k → IfSome result (IsActOf h) }
+    ensures need { (h : HeapState) (v : Val) → IfSome result (λ act. need_of h act ≡ needed primitive.Ord v) }
 {
     match c {
         Word::Char(byte) => Some(Act::Answer(k, Word::Int(byte as i64))),
@@ -274,6 +291,7 @@ fn ord(c: Word, k: Word) -> Option<Act>
 fn spell(n: Word, k: Word) -> Option<Act>
     ensures effect { (h : HeapState) → option_map (effect_act h) result ≡ at_int (value_of h n) (λ a. answers (value_of h k) (Text (signed_decimal a))) }
     ensures words { (h : HeapState) → IsWord h k → IfSome result (IsActOf h) }
+    ensures need { (h : HeapState) (v : Val) → IfSome result (λ act. need_of h act ≡ needed primitive.Intstr v) }
 {
     match n {
         Word::Int(a) => Some(Act::Spell(k, a)),
@@ -286,6 +304,7 @@ fn spell(n: Word, k: Word) -> Option<Act>
 fn negate(b: Word, k: Word) -> Option<Act>
     ensures effect { (h : HeapState) → option_map (effect_act h) result ≡ at_bool (value_of h b) (λ c. answers (value_of h k) (Boolean (not c))) }
     ensures words { (h : HeapState) → IsWord h k → IfSome result (IsActOf h) }
+    ensures need { (h : HeapState) (v : Val) → IfSome result (λ act. need_of h act ≡ needed primitive.Not v) }
 {
     match b {
         Word::Bool(c) => Some(Act::Answer(k, Word::Bool(!c))),
@@ -300,6 +319,7 @@ fn size(heap: &Heap, text: Word, k: Word) -> Option<Act>
     ensures effect { option_map (effect_act heap.now) result
         ≡ at_text (value_of heap.now text) (λ bytes. answers (value_of heap.now k) (Int (pos (length bytes)))) }
     ensures words { IsWord heap.now k → IfSome result (IsActOf heap.now) }
+    ensures need { (h : HeapState) (v : Val) → IfSome result (λ act. need_of h act ≡ needed primitive.Size v) }
 {
     match heap.bytes(text) {
         Some(bytes) => Some(Act::Answer(k, Word::Int(bytes.len() as i64))),
@@ -313,6 +333,8 @@ fn join(s: Word, t: Word, k: Word) -> Option<Act>
     ensures effect { (h : HeapState) → option_map (effect_act h) result ≡ at_text (value_of h s)
         (λ front. at_text (value_of h t) (λ back. answers (value_of h k) (Text (front ++ back)))) }
     ensures words { (h : HeapState) → IsWord h s → IsWord h t → IsWord h k → IfSome result (IsActOf h) }
+    ensures need { (h : HeapState) (labels : Labelled) → IfSome result (λ act. need_of h act
+        ≡ needed primitive.Join (of_three (value_of h s) (value_of h t) (value_of h k) labels)) }
 {
     match s {
         Word::Text(_) => match t {
@@ -330,6 +352,7 @@ fn nth(heap: &Heap, s: Word, n: Word, k: Word) -> Option<Act>
     ensures effect { option_map (effect_act heap.now) result ≡ at_text (value_of heap.now s)
         (λ bytes. at_int (value_of heap.now n) (λ index. answers (value_of heap.now k) (Int (byte_at bytes index)))) }
     ensures words { IsWord heap.now k → IfSome result (IsActOf heap.now) }
+    ensures need { (h : HeapState) (v : Val) → IfSome result (λ act. need_of h act ≡ needed primitive.Nth v) }
 {
     match heap.bytes(s) {
         Some(bytes) => match n {

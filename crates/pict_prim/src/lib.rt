@@ -3,6 +3,7 @@
 
 mod act;
 mod acts;
+mod applying;
 mod deciding;
 mod numbers;
 mod operands;
@@ -10,8 +11,9 @@ mod outcome;
 mod performing;
 mod texts;
 
-pub use act::{Act, Acted, NO_NEED, Need};
-pub use acts::{apply, attempt};
+pub use act::{Act, Done, NO_NEED, Need};
+pub use acts::attempt_on_value;
+pub use applying::{apply, room};
 pub use deciding::{act_on, act_on_fields, answer_of_numbers};
-pub use outcome::{Done, printed_bytes};
-pub use performing::{perform, room};
+pub use outcome::{ValueDone, printed_bytes};
+pub use performing::{perform, room_of};

@@ -5,11 +5,11 @@ ghost use Rattle.std.specs.Int.{w64, int_wrap};
 ghost use Rattle.pict_core.specs.Plain.{plain_val};
 ghost use Rattle.pict_core.specs.Term.{Val};
 ghost use Rattle.pict_prim.specs.Calculated.{effect_calculated};
-ghost use Rattle.pict_prim.specs.Done.{Attempts};
+ghost use Rattle.pict_prim.specs.ValueDone.{Attempts};
 ghost use Rattle.pict_prim.specs.Families.{int_effect};
 ghost use Rattle.pict_syntax.specs.declared.primitive.Primitive.TheVariants.{Divide, Remainder};
 
-use crate::outcome::{Done, answer};
+use crate::outcome::{ValueDone, answer};
 use pict_core::CoreVal;
 use pict_syntax::Prim;
 use std::alloc::{AllocError, Global};
@@ -107,7 +107,7 @@ pub fn act_on_numbers(
     a: i64,
     b: i64,
     k: &CoreVal,
-) -> Result<Option<Done>, AllocError>
+) -> Result<Option<ValueDone>, AllocError>
     ensures { Attempts result (int_effect p a b (plain_val k.now)) }
 {
     match calculate(p, a, b) {
@@ -120,12 +120,12 @@ fn answer_calculated(
     alloc: Global,
     k: &CoreVal,
     calculated: Calculated,
-) -> Result<Option<Done>, AllocError>
+) -> Result<Option<ValueDone>, AllocError>
     ensures { Attempts result (Some (effect_calculated (plain_val k.now) calculated)) }
 {
     match calculated {
         Calculated::Number(n) => answer(alloc, k, CoreVal::Int(n)),
         Calculated::Truth(b) => answer(alloc, k, CoreVal::Bool(b)),
-        Calculated::ZeroDivisor => Ok(Some(Done::ZeroDivisor)),
+        Calculated::ZeroDivisor => Ok(Some(ValueDone::ZeroDivisor)),
     }
 }

@@ -4,9 +4,9 @@ ghost use Rattle.std.specs.Prelude.{◌≡◌, ◌≤◌, ◌<◌, ◌^◌, leng
 ghost use Rattle.std.specs.Fmt.{signed_decimal};
 ghost use Rattle.pict_core.specs.Term.{Text, Record, no_vals, no_labelled};
 ghost use Rattle.pict_heap.specs.HeapState.{value_of, text_of, IsWord, KeepsWords, UsesRoom};
-ghost use Rattle.pict_prim.specs.Acts.{effect_act, effect_acted, need_of, IsActOf, IsActedOf, HasRoom, UsesNeed};
+ghost use Rattle.pict_prim.specs.Acts.{effect_act, effect_done, need_of, IsActOf, IsDoneOf, HasRoom, UsesNeed};
 
-use crate::act::{Act, Acted, NO_NEED, Need};
+use crate::act::{Act, Done, NO_NEED, Need};
 use itoa::Buffer;
 use pict_heap::{Heap, Word};
 use pict_syntax::Name;
@@ -14,7 +14,7 @@ use pict_syntax::Name;
 /// What the act adds to the heap: exactly so many records, fields and texts; of bytes, for a decimal text up to 19 more.
 /// Takes no memory.
 #[inline(always)]
-pub fn room(heap: &Heap, act: Act) -> Need
+pub fn room_of(heap: &Heap, act: Act) -> Need
     requires { IsActOf heap.now act }
     ensures { result ≡ need_of heap.now act }
 {
@@ -56,31 +56,31 @@ fn text_len(heap: &Heap, w: Word) -> u64
 
 /// Performs the act. Every word stands for what it stood for; no more room is used than the act needs. Takes no memory.
 #[inline(always)]
-pub fn perform(heap: &mut Heap, act: Act) -> Acted
+pub fn perform(heap: &mut Heap, act: Act) -> Done
     requires act { IsActOf heap.old act }
     requires room { HasRoom heap.old.room (need_of heap.old act) }
-    ensures effect { effect_acted heap.new result ≡ effect_act heap.old act }
-    ensures words { IsActedOf heap.new result }
+    ensures effect { effect_done heap.new result ≡ effect_act heap.old act }
+    ensures words { IsDoneOf heap.new result }
     ensures keeps { KeepsWords heap.old heap.new }
     ensures room { UsesNeed heap.old.room heap.new.room (need_of heap.old act) }
     ensures zero { act ≡ Act.ZeroDivisor → heap.new ≡ heap.old }
 {
     match act {
-        Act::Print(w) => Acted::Printed(w),
-        Act::Answer(k, a) => Acted::Answer(k, a),
+        Act::Print(w) => Done::Printed(w),
+        Act::Answer(k, a) => Done::Answer(k, a),
         Act::PrintAnswer(w, k) => {
             let unit = add_unit(heap);
-            Acted::PrintedAnswer(w, k, unit)
+            Done::PrintedAnswer(w, k, unit)
         }
         Act::Join(k, a, b) => {
             let text = heap.join_texts(a, b);
-            Acted::Answer(k, text)
+            Done::Answer(k, text)
         }
         Act::Spell(k, n) => {
             let text = add_decimal(heap, n);
-            Acted::Answer(k, text)
+            Done::Answer(k, text)
         }
-        Act::ZeroDivisor => Acted::ZeroDivisor,
+        Act::ZeroDivisor => Done::ZeroDivisor,
     }
 }
 

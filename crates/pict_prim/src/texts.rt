@@ -6,9 +6,9 @@ ghost use Rattle.std.specs.Fmt.{signed_decimal};
 ghost use Rattle.pict_core.specs.Term.{Int, Char, Text, Boolean, Record, no_vals, no_labelled};
 ghost use Rattle.pict_core.specs.Plain.{plain_val};
 ghost use Rattle.pict_core.specs.Primitives.{Answer, answers, prints, at_int, at_char, at_bool, at_text, byte_at};
-ghost use Rattle.pict_prim.specs.Done.{Attempts};
+ghost use Rattle.pict_prim.specs.ValueDone.{Attempts};
 
-use crate::outcome::{Done, answer};
+use crate::outcome::{ValueDone, answer};
 use itoa::Buffer;
 use pict_core::CoreVal;
 use pict_syntax::Bytes;
@@ -45,21 +45,21 @@ pub fn byte(bytes: &[u8], index: i64) -> i64
 }
 
 /// `print`: the string is printed. `None` where the argument is no string.
-pub fn print(alloc: Global, argument: &CoreVal) -> Result<Option<Done>, AllocError>
+pub fn print(alloc: Global, argument: &CoreVal) -> Result<Option<ValueDone>, AllocError>
     ensures { Attempts result (at_text (plain_val argument.now) prints) }
 {
     match argument {
-        CoreVal::Text(bytes) => Ok(Some(Done::Printed(CoreVal::Text(bytes.copy(alloc)?)))),
+        CoreVal::Text(bytes) => Ok(Some(ValueDone::Printed(CoreVal::Text(bytes.copy(alloc)?)))),
         _ => Ok(None),
     }
 }
 
 /// `printi`: the number is printed in decimal. `None` where the argument is no number.
-pub fn print_number(argument: &CoreVal) -> Result<Option<Done>, AllocError>
+pub fn print_number(argument: &CoreVal) -> Result<Option<ValueDone>, AllocError>
     ensures { Attempts result (at_int (plain_val argument.now) (λ n. prints (signed_decimal n))) }
 {
     match argument {
-        CoreVal::Int(n) => Ok(Some(Done::Printed(CoreVal::Int(*n)))),
+        CoreVal::Int(n) => Ok(Some(ValueDone::Printed(CoreVal::Int(*n)))),
         _ => Ok(None),
     }
 }
@@ -69,7 +69,7 @@ pub fn print_and_answer(
     alloc: Global,
     text: &CoreVal,
     k: &CoreVal,
-) -> Result<Option<Done>, AllocError>
+) -> Result<Option<ValueDone>, AllocError>
     ensures { Attempts result (at_text (plain_val text.now)
         (λ bytes. Some (record { printed = Some bytes; leaves = Answer (plain_val k.now) (Record no_vals no_labelled) }))) }
 {
@@ -80,14 +80,14 @@ pub fn print_and_answer(
                 positional: Vec::new(alloc),
                 labelled: Vec::new(alloc),
             };
-            Ok(Some(Done::PrintedAnswer(CoreVal::Text(bytes), k.copy(alloc)?, unit)))
+            Ok(Some(ValueDone::PrintedAnswer(CoreVal::Text(bytes), k.copy(alloc)?, unit)))
         }
         _ => Ok(None),
     }
 }
 
 /// `chr`: the character of the number's remainder by 256, from 0 on.
-pub fn chr(alloc: Global, n: &CoreVal, k: &CoreVal) -> Result<Option<Done>, AllocError>
+pub fn chr(alloc: Global, n: &CoreVal, k: &CoreVal) -> Result<Option<ValueDone>, AllocError>
     ensures { Attempts result (at_int (plain_val n.now) (λ a. answers (plain_val k.now) (Char (unsigned_abs (int_rem_euclid a (pos 256)))))) }
 {
     match n {
@@ -97,7 +97,7 @@ pub fn chr(alloc: Global, n: &CoreVal, k: &CoreVal) -> Result<Option<Done>, Allo
 }
 
 /// `ord`: the number of the character.
-pub fn ord(alloc: Global, c: &CoreVal, k: &CoreVal) -> Result<Option<Done>, AllocError>
+pub fn ord(alloc: Global, c: &CoreVal, k: &CoreVal) -> Result<Option<ValueDone>, AllocError>
     ensures { Attempts result (at_char (plain_val c.now) (λ byte. answers (plain_val k.now) (Int (pos byte)))) }
 {
     match c {
@@ -107,7 +107,7 @@ pub fn ord(alloc: Global, c: &CoreVal, k: &CoreVal) -> Result<Option<Done>, Allo
 }
 
 /// `intstr`: the decimal text of the number.
-pub fn intstr(alloc: Global, n: &CoreVal, k: &CoreVal) -> Result<Option<Done>, AllocError>
+pub fn intstr(alloc: Global, n: &CoreVal, k: &CoreVal) -> Result<Option<ValueDone>, AllocError>
     ensures { Attempts result (at_int (plain_val n.now) (λ a. answers (plain_val k.now) (Text (signed_decimal a)))) }
 {
     match n {
@@ -117,7 +117,7 @@ pub fn intstr(alloc: Global, n: &CoreVal, k: &CoreVal) -> Result<Option<Done>, A
 }
 
 /// `size`: how many bytes the string has.
-pub fn size(alloc: Global, text: &CoreVal, k: &CoreVal) -> Result<Option<Done>, AllocError>
+pub fn size(alloc: Global, text: &CoreVal, k: &CoreVal) -> Result<Option<ValueDone>, AllocError>
     ensures { Attempts result (at_text (plain_val text.now) (λ bytes. answers (plain_val k.now) (Int (pos (length bytes))))) }
 {
     match text {
@@ -127,7 +127,7 @@ pub fn size(alloc: Global, text: &CoreVal, k: &CoreVal) -> Result<Option<Done>, 
 }
 
 /// `not`: the other truth value.
-pub fn negate(alloc: Global, b: &CoreVal, k: &CoreVal) -> Result<Option<Done>, AllocError>
+pub fn negate(alloc: Global, b: &CoreVal, k: &CoreVal) -> Result<Option<ValueDone>, AllocError>
     ensures { Attempts result (at_bool (plain_val b.now) (λ c. answers (plain_val k.now) (Boolean (not c)))) }
 {
     match b {
@@ -142,7 +142,7 @@ pub fn join(
     s: &CoreVal,
     t: &CoreVal,
     k: &CoreVal,
-) -> Result<Option<Done>, AllocError>
+) -> Result<Option<ValueDone>, AllocError>
     ensures { Attempts result (at_text (plain_val s.now)
         (λ front. at_text (plain_val t.now) (λ back. answers (plain_val k.now) (Text (front ++ back))))) }
 {
@@ -160,7 +160,12 @@ pub fn join(
 }
 
 /// `nth`: the byte at an index from 0, as a number, or -1 out of range.
-pub fn nth(alloc: Global, s: &CoreVal, n: &CoreVal, k: &CoreVal) -> Result<Option<Done>, AllocError>
+pub fn nth(
+    alloc: Global,
+    s: &CoreVal,
+    n: &CoreVal,
+    k: &CoreVal,
+) -> Result<Option<ValueDone>, AllocError>
     ensures { Attempts result (at_text (plain_val s.now)
         (λ bytes. at_int (plain_val n.now) (λ index. answers (plain_val k.now) (Int (byte_at bytes index))))) }
 {

@@ -6,7 +6,7 @@ ghost use Rattle.pict_core.specs.Term.{Chan, Out, In};
 ghost use Rattle.pict_core.specs.Primitives.{effect_of};
 ghost use Rattle.pict_core.specs.Substitution.{substitute as substitute_plain};
 ghost use Rattle.pict_core.specs.Matching.{match_value};
-ghost use Rattle.pict_prim.specs.Done.{effect_done, PrintsText};
+ghost use Rattle.pict_prim.specs.ValueDone.{effect_value_done, PrintsText};
 ghost use Rattle.pict_core.specs.Configuration.{IsConfiguration, opening, Ready, Parked};
 ghost use Rattle.pict_core.specs.Step.{next as next_plain, send as send_plain, receive as receive_plain, choose as choose_plain, perform as perform_plain, leave as leave_plain, printing, Steps as StepsTo, Quiet as QuietLabel, gone as gone_plain, kept as kept_plain, added as added_plain, with_channel, served as served_plain, took as took_plain, meet_reader as meet_plain_reader, meet_message as meet_plain_message, is_ready, least, is_parked_reader, is_parked_message};
 ghost use Rattle.pict_reference.specs.Plain.{configuration_of, acts_in, mark_of, plain_entry, IsOutcome, Gives, IsCopyOf};
@@ -14,7 +14,7 @@ ghost use Rattle.pict_reference.specs.Plain.{configuration_of, acts_in, mark_of,
 use crate::entry::{Entry, oldest_message, oldest_reader, oldest_ready, with_process};
 use crate::outcome::{Label, StepOutcome};
 use pict_core::{Core, CorePat, CoreVal, Part, match_value, substitute};
-use pict_prim::{Done, attempt, printed_bytes};
+use pict_prim::{ValueDone, attempt_on_value, printed_bytes};
 use pict_syntax::{Prim, Span};
 use std::alloc::{AllocError, Global};
 
@@ -141,27 +141,27 @@ impl Reference {
     }
 
     // What a primitive leaves, for the output at the stamp.
-    fn leave(&mut self, s: u64, done: Done, at: Span) -> Result<StepOutcome, AllocError>
+    fn leave(&mut self, s: u64, done: ValueDone, at: Span) -> Result<StepOutcome, AllocError>
         requires { PrintsText done }
-        ensures { Gives result (leave_plain (configuration_of self.old) s at (printing (effect_done done).printed) (effect_done done).leaves)
+        ensures { Gives result (leave_plain (configuration_of self.old) s at (printing (effect_value_done done).printed) (effect_value_done done).leaves)
             (configuration_of self.old) (configuration_of self.new) }
     {
         match done {
-            Done::Printed(printed) => {
+            ValueDone::Printed(printed) => {
                 let bytes = printed_bytes(self.alloc, printed)?;
                 self.gone(s);
                 Ok(StepOutcome::Steps(Label::Print(bytes)))
             }
-            Done::Answer(chan, message) => {
+            ValueDone::Answer(chan, message) => {
                 self.kept(s, &Core::Out { chan, message, at })?;
                 Ok(StepOutcome::Steps(Label::Quiet))
             }
-            Done::PrintedAnswer(printed, chan, message) => {
+            ValueDone::PrintedAnswer(printed, chan, message) => {
                 let bytes = printed_bytes(self.alloc, printed)?;
                 self.kept(s, &Core::Out { chan, message, at })?;
                 Ok(StepOutcome::Steps(Label::Print(bytes)))
             }
-            Done::ZeroDivisor => Ok(StepOutcome::Traps(at)),
+            ValueDone::ZeroDivisor => Ok(StepOutcome::Traps(at)),
         }
     }
 
@@ -175,7 +175,7 @@ impl Reference {
         ensures { Gives result (perform_plain (configuration_of self.old) s at (effect_of primitive (plain_val message.now)))
             (configuration_of self.old) (configuration_of self.new) }
     {
-        match attempt(self.alloc, primitive, message)? {
+        match attempt_on_value(self.alloc, primitive, message)? {
             None => Ok(StepOutcome::Wrong),
             Some(done) => self.leave(s, done, at),
         }

@@ -6,7 +6,7 @@ use Rattle.pict_heap.specs.HeapState.{HeapState, value_of}
 use Rattle.pict_heap.specs.declared.word.Word.{Word}
 use Rattle.pict_heap.specs.declared.word.Word.TheVariants as word
 use Rattle.pict_heap.proofs.Records.{record_is}
-use Rattle.pict_prim.specs.Done.{printed_of}
+use Rattle.pict_prim.specs.Printed.{printed_of}
 use Rattle.pict_values.specs.Fields.{positional_in, labelled_in}
 
 -- the word of a record stands for a record of its fields

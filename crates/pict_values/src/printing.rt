@@ -3,7 +3,7 @@
 ghost use Rattle.std.specs.Prelude.{◌≡◌, Some};
 ghost use Rattle.pict_heap.specs.HeapState.{value_of};
 ghost use Rattle.pict_prim.specs.Acts.{IsPrinted};
-ghost use Rattle.pict_prim.specs.Done.{printed_of};
+ghost use Rattle.pict_prim.specs.Printed.{printed_of};
 
 use itoa::Buffer;
 use pict_heap::{Heap, Word};

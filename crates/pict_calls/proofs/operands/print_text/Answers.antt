@@ -4,7 +4,7 @@ use Rattle.pict_core.specs.Primitives.{Effect, Nothing}
 use Rattle.pict_core.specs.Term.{Val, Text}
 use Rattle.pict_code.proofs.Lines.{on_err}
 use Rattle.pict_prim.specs.Acts.{effect_act}
-use Rattle.pict_prim.specs.Done.{printed_of}
+use Rattle.pict_prim.specs.Printed.{printed_of}
 use Rattle.pict_prim.specs.declared.act.Act.TheVariants as act
 use Rattle.pict_queue.specs.QueuesState.{QueuesState}
 use Rattle.pict_turns.specs.Turns.{turn_cost}

@@ -9,8 +9,8 @@ use Rattle.pict_picker.specs.Calling.{HasEffect}
 use Rattle.pict_picker.proofs.Effects.{act_keeps, effect_keeps, need_keeps, makes_room, same_effect, no_effect, undone_zero}
 use Rattle.pict_picker.proofs.calling.call.Goals as goal
 
-pub room-need-requires : goal.room-need-requires
-room-need-requires c = subst (λ o. IfSome o (IsActOf c.args.desk.now.heap)) c.in-Some.is c.act_on.ensures.words
+pub room_of-need-requires : goal.room_of-need-requires
+room_of-need-requires c = subst (λ o. IfSome o (IsActOf c.args.desk.now.heap)) c.in-Some.is c.act_on.ensures.words
 
 pub finish-requires-clause-act : goal.finish-requires-clause-act
 finish-requires-clause-act c =
@@ -23,7 +23,7 @@ finish-requires-clause-room c =
     let old = c.args.desk.now.heap in
     let mid = c.reserve_room.new.desk.heap in
     let is = subst (λ o. IfSome o (IsActOf old)) c.in-Some.is c.act_on.ensures.words in
-    subst (HasRoom mid.room) (c.room-need.ensures ∙ sym (need_keeps old mid (keeps_words old mid c.reserve_room.ensures.rest.heap) c.in-Some.act is)) c.in_ok-reserve_room-in-Some.ensures.room.heap
+    subst (HasRoom mid.room) (c.room_of-need.ensures ∙ sym (need_keeps old mid (keeps_words old mid c.reserve_room.ensures.rest.heap) c.in-Some.act is)) c.in_ok-reserve_room-in-Some.ensures.room.heap
 
 pub returns-clause-effect : goal.returns-clause-effect
 returns-clause-effect c e is =

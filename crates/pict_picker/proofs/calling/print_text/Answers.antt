@@ -2,7 +2,7 @@ use Rattle.std.proofs.Common.{IsSome, Some, sym, ap, subst, refl}
 use Rattle.pict_syntax.specs.declared.primitive.Primitive.TheVariants as primitive
 use Rattle.pict_core.specs.Primitives.{Effect, Nothing, effect_of}
 use Rattle.pict_core.specs.Term.{Val, Text}
-use Rattle.pict_prim.specs.Done.{printed_of}
+use Rattle.pict_prim.specs.Printed.{printed_of}
 use Rattle.pict_desk.proofs.Making.{keeps_more}
 use Rattle.pict_picker.proofs.Effects.{acted_printed, makes_room, same_effect}
 use Rattle.pict_picker.proofs.calling.print_text.Goals as goal

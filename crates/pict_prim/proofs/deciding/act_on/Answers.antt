@@ -13,3 +13,6 @@ returns-in-Some-clause-effect c =
 
 pub returns-in-None-clause-words : goal.returns-in-None-clause-words
 returns-in-None-clause-words c = c.act_on_simple.ensures.words c.args.heap.now c.requires
+
+pub returns-in-None-clause-need : goal.returns-in-None-clause-need
+returns-in-None-clause-need c = c.act_on_simple.ensures.need c.args.heap.now (value_of c.args.heap.now c.args.argument)

@@ -13,3 +13,6 @@ pub returns-clause-effect : goal.returns-clause-effect
 returns-clause-effect c =
     c.act_on_two.ensures.effect
     ∙ sym (two_of c.args.p (value_of c.args.heap.now c.args.argument) _ _ c.requires.two c.field-v.ensures.value c.field-k.ensures.value)
+
+pub returns-clause-need : goal.returns-clause-need
+returns-clause-need c = c.act_on_two.ensures.need (value_of c.args.heap.now c.args.argument)

@@ -2,7 +2,7 @@ use Rattle.std.proofs.Common.{subst, ◌∙◌}
 use Rattle.std.specs.Int.{w64}
 use Rattle.std.proofs.lemmas.Int.{to_z-of_z}
 use Rattle.pict_core.specs.Plain.{plain_val}
-use Rattle.pict_prim.specs.Done.{Attempts}
+use Rattle.pict_prim.specs.ValueDone.{Attempts}
 use Rattle.pict_prim.proofs.SameNumbers.{same_numbers}
 use Rattle.pict_prim.proofs.numbers.act_on_numbers.Goals as goal
 
