@@ -107,6 +107,14 @@ missing_report file = line file (codes ": no such file")
 abbrev pub fault_report : List ℕ → List ℕ
 fault_report file = line file (codes ": cannot be read")
 
+-- a division by zero in the run of an object, which has no places
+abbrev pub object_trap_report : List ℕ → List ℕ
+object_trap_report object = line object (codes ": division by zero")
+
+-- a step of the run of an object is wrong
+abbrev pub misshapen_report : List ℕ → List ℕ
+misshapen_report object = line object (codes ": message of a wrong shape")
+
 -- the words have no listed shape
 abbrev pub usage_report : List ℕ
 usage_report = line (codes "usage: pict run|trace|check|code [--bare] [--fuel N] FILE, or pict load N") []

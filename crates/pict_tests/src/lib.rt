@@ -10,6 +10,8 @@ mod cuts;
 #[cfg(test)]
 mod imports;
 #[cfg(test)]
+mod objects;
+#[cfg(test)]
 mod orders;
 #[cfg(test)]
 mod phases;

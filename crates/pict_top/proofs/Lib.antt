@@ -5,6 +5,9 @@ pub mod Each
 pub mod Reading
 pub mod Files
 pub mod Replayed
+pub mod Beyond
+pub mod GuardedEnds
+pub mod Executions
 pub mod One
 pub mod Load
 pub mod Sound
@@ -19,5 +22,7 @@ pub mod Counting
 pub mod Runs
 pub mod Few
 pub mod Judging
+pub mod Executing
+pub mod Building
 pub mod Some
 pub mod Answered

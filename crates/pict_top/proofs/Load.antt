@@ -6,9 +6,9 @@ use Rattle.pict_outside.specs.Texts.{Texts}
 use Rattle.pict_words.specs.Words.{Command, Load, HasShape}
 use Rattle.pict_words.proofs.Commands.{one_command}
 use Rattle.pict_top.specs.declared.status.Status.TheVariants as status
-use Rattle.pict_top.specs.Origins.{origin_of, only, AsksShelf, given, given_each}
+use Rattle.pict_top.specs.Origins.{origin_of, only, given, given_each}
 use Rattle.pict_top.specs.Outcome.{Outcome}
-use Rattle.pict_top.specs.Owed.{Owes, OwesWords, OwesWithEach, FaultsWords}
+use Rattle.pict_top.specs.Owed.{Owes, OwesWords, OwesWithEach, FaultsCommand, FaultsWords}
 use Rattle.pict_top.proofs.Reading.{IsTold, own_there, each_there, second_there}
 use Rattle.pict_top.proofs.Files.{not_missing}
 use Rattle.pict_top.proofs.One.{at_most_one}
@@ -28,7 +28,8 @@ one_of_load words n held o p shape = at_most_one words held o p (told words n he
 
 -- there is no file whose reading could fail
 pub never_asked : (words : List (List ℕ)) (n : ℕ) (held : Option Texts) → HasShape words (Load n) → (o : Outcome) → FaultsWords words held o → ⊥
-never_asked words n held shape o (command, other, faults) = subst (λ c. AsksShelf (origin_of c)) (is_load words n command shape other) faults.0
+never_asked words n held shape o (command, other, faults) =
+    let own : FaultsCommand held (Load n) o = subst (λ c. FaultsCommand held c o) (is_load words n command shape other) faults in own.0
 
 -- nor one that is missing
 pub load_not_missing : (words : List (List ℕ)) (n : ℕ) (held : Option Texts) (o : Outcome) → HasShape words (Load n) → OwesWords words held o → o.status ≡ status.Missing → ⊥

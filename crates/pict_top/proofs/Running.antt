@@ -19,7 +19,7 @@ use Rattle.pict_top.proofs.Continuing.{continues_from}
 use Rattle.pict_top.proofs.Written.{saw_all, saw_part}
 
 -- what is written label by label is what is shown of all
-written_is_shown : (form : Form) (names : List (List ℕ)) (steps : ℕ) (finish : Finish) (labels : List (ℕ × Label)) → written_in (form_of form names) labels ≡ shown_in form names steps finish labels
+pub written_is_shown : (form : Form) (names : List (List ℕ)) (steps : ℕ) (finish : Finish) (labels : List (ℕ × Label)) → written_in (form_of form names) labels ≡ shown_in form names steps finish labels
 written_is_shown Printed names steps finish [] = refl
 written_is_shown Printed names steps finish (l ∷ ls) = ap (λ b. printed_by l.1 ++ b) (written_is_shown Printed names steps finish ls)
 written_is_shown Line names steps finish labels = refl

@@ -1,5 +1,5 @@
 -- Words come to an outcome over a shelf that tells its texts, and the words `load N` over any; and so to exactly one.
-use Rattle.std.proofs.Common.{ℕ, inl, inr, List, [], Option, Some, None, refl, sym, subst, arith}
+use Rattle.std.proofs.Common.{◌≡◌, ℕ, Bool, true, false, inl, inr, List, [], Option, Some, None, refl, sym, subst, arith}
 use Rattle.pict_outside.specs.Texts.{Texts}
 use Rattle.pict_core.specs.Term.{Process}
 use Rattle.pict_core.specs.Closed.{IsClosed}
@@ -9,7 +9,7 @@ use Rattle.pict_reduction.specs.Reached.{NoFreeRunIsWrong}
 use Rattle.pict_view.specs.Right.{RunsRight}
 use Rattle.pict_code.specs.Nodes.{nodes_of}
 use Rattle.pict_code.specs.Listing.{listing_text}
-use Rattle.pict_words.specs.Words.{Command, Run, Trace, Check, Code, Load, Pick, Picked, Replay, default_fuel}
+use Rattle.pict_words.specs.Words.{Command, Run, Trace, Check, Code, Load, Pick, Picked, Replay, Build, Exec, default_fuel}
 use Rattle.pict_words.proofs.Some.{shape_or_not}
 use Rattle.pict_gather.specs.Phases.{Phase, accepts, refuses}
 use Rattle.pict_gather.specs.Fetching.{MayGive}
@@ -18,19 +18,25 @@ use Rattle.pict_syntax.specs.declared.source.Source.{Source}
 use Rattle.pict_front.specs.Front.{Front, Accepted, IsFront}
 use Rattle.pict_front.proofs.TypedPrograms.{accepted_is_typed}
 use Rattle.pict_front.proofs.EachPhase.{one_front}
+use Rattle.pict_front.proofs.ObjectCores.{accepted_has_object}
+use Rattle.pict_object.specs.Cores.{IsObjectCore}
+use Rattle.pict_built.proofs.Sized.{sized}
+use Rattle.pict_syntax.specs.declared.limits.TheConstants.{OBJECT_LIMIT}
 use Rattle.pict_top.specs.Ends.{end_of}
 use Rattle.pict_top.specs.declared.run.Finish.{Finish}
 use Rattle.pict_top.specs.declared.run.Finish.TheVariants.{Done}
-use Rattle.pict_top.specs.Origins.{origin_of, name_of, prelude_of, trace_of, given}
-use Rattle.pict_top.specs.Answer.{Answer, Absent, Refusal, Ended, IsWorked, IsDone, Does, Shows, Writing}
+use Rattle.pict_top.specs.Origins.{origin_of, name_of, prelude_of, trace_of, TakesText, Works, builds, given}
+use Rattle.pict_top.specs.Answer.{Answer, Absent, Refusal, Ended, IsAnswer, IsBuilt, built, too_big, IsMade, IsWorked, IsDone, Does, Shows, Writing}
 use Rattle.pict_top.specs.Outcome.{Outcome, outcome_of, usage_outcome}
-use Rattle.pict_top.specs.Owed.{Owes, OwesWords}
+use Rattle.pict_top.specs.Owed.{Owes, OwesText, OwesWords}
 use Rattle.pict_top.specs.Laws.{OneOutcome, LoadNeedsNoShelf}
 use Rattle.pict_top.proofs.NoFault.{front_unfailed}
 use Rattle.pict_top.proofs.Reading.{IsTold, told_shelf}
 use Rattle.pict_top.proofs.Continuing.{continues_from}
 use Rattle.pict_top.proofs.Recording.{some_picked}
 use Rattle.pict_top.proofs.Replayed.{some_replayed}
+use Rattle.pict_top.proofs.Executions.{some_executed}
+use Rattle.pict_top.proofs.Files.{owes_text, owes_run, works_by}
 use Rattle.pict_top.proofs.Right.{runs_right, accepted_is_freely_right}
 use Rattle.pict_top.proofs.Sound.{accepted_closed}
 use Rattle.pict_top.proofs.One.{at_most_one}
@@ -44,39 +50,65 @@ some_shown p fuel written right =
     (on.finish, written (steps_done (end_of on.finish) on.runs.steps) on.finish on.rest, record { labels = on.rest; runs = on.runs; shows = refl })
 
 -- a command's work ends somehow
-some_work : (command : Command) (names : List (List ℕ)) (p : Process) → IsClosed p → NoFreeRunIsWrong p → (e : Finish) × (bytes : List ℕ) × Does command names p e bytes
-some_work (Run o) names p closed right = some_shown p o.fuel _ (runs_right p closed right o.fuel)
-some_work (Trace o) names p closed right = some_shown p o.fuel _ (runs_right p closed right o.fuel)
-some_work (Check o) names p closed right = (Done, [], record { done = refl; nothing = refl })
-some_work (Code o) names p closed right = (Done, listing_text names (nodes_of p), record { done = refl; listing = refl })
-some_work (Load n) names p closed right = some_shown p default_fuel _ (runs_right p closed right default_fuel)
-some_work (Pick seed o) names p closed right = some_picked p seed o.fuel _ closed right
-some_work (Picked seed o) names p closed right = some_picked p seed o.fuel _ closed right
-some_work (Replay o trace) names p closed right = (Done, [], record { done = refl; nothing = refl })
+some_work : (command : Command) (names : List (List ℕ)) (p : Process) → Works command → IsClosed p → NoFreeRunIsWrong p → (e : Finish) × (bytes : List ℕ) × Does command names p e bytes
+some_work (Run o) names p works closed right = some_shown p o.fuel _ (runs_right p closed right o.fuel)
+some_work (Trace o) names p works closed right = some_shown p o.fuel _ (runs_right p closed right o.fuel)
+some_work (Check o) names p works closed right = (Done, [], record { done = refl; nothing = refl })
+some_work (Code o) names p works closed right = (Done, listing_text names (nodes_of p), record { done = refl; listing = refl })
+some_work (Load n) names p works closed right = some_shown p default_fuel _ (runs_right p closed right default_fuel)
+some_work (Pick seed o) names p works closed right = some_picked p seed o.fuel _ closed right
+some_work (Picked seed o) names p works closed right = some_picked p seed o.fuel _ closed right
+some_work (Replay o trace) names p works closed right = (Done, [], record { done = refl; nothing = refl })
+some_work (Build o) names p works closed right = absurd works
+some_work (Exec fuel object) names p works closed right = absurd works
 
-some_worked : (texts : Texts) (command : Command) (sources : List Source) (front : Front) (t : Option (List ℕ)) → IsClosed front.core → NoFreeRunIsWrong front.core
-    → (a : Answer) × IsWorked (MayGive (Some texts)) command sources front t a
-some_worked texts command sources front None closed right =
-    let some = some_work command front.names front.core closed right in (Ended sources some.0 some.1, (some.0, some.1, some.2, refl))
-some_worked texts command sources front (Some trace) closed right = some_replayed texts trace front closed right
+some_built : (sources : List Source) (front : Front) → IsObjectCore front.names front.core → (a : Answer) × IsBuilt sources front a
+some_built sources front core = elim (sized front.names front.core OBJECT_LIMIT core) [
+  | inl f ↦ (_, built f.1 f.2)
+  | inr none ↦ (_, too_big none)
+]
 
-some_done : (texts : Texts) (command : Command) (said : Option (Phase EarlyEnd Accepted)) → IsFront (MayGive (Some texts)) (prelude_of (origin_of command)) (name_of (origin_of command)) said
+some_made : (by : Bool) (command : Command) (sources : List Source) (front : Front) → builds command ≡ by → TakesText command → IsObjectCore front.names front.core → IsClosed front.core → NoFreeRunIsWrong front.core
+    → (a : Answer) × IsMade by command sources front a
+some_made true command sources front is takes core closed right = some_built sources front core
+some_made false command sources front is takes core closed right =
+    let some = some_work command front.names front.core (works_by command takes is) closed right in (Ended sources some.0 some.1, (some.0, some.1, some.2, refl))
+
+some_worked : (texts : Texts) (command : Command) (sources : List Source) (front : Front) (t : Option (List ℕ)) → TakesText command → IsObjectCore front.names front.core → IsClosed front.core
+    → NoFreeRunIsWrong front.core → (a : Answer) × IsWorked (MayGive (Some texts)) command sources front t a
+some_worked texts command sources front None takes core closed right = some_made (builds command) command sources front refl takes core closed right
+some_worked texts command sources front (Some trace) takes core closed right = some_replayed texts trace front closed right
+
+some_done : (texts : Texts) (command : Command) (said : Option (Phase EarlyEnd Accepted)) → TakesText command → IsFront (MayGive (Some texts)) (prelude_of (origin_of command)) (name_of (origin_of command)) said
     → (a : Answer) × IsDone (MayGive (Some texts)) command said a
-some_done texts command None stands = (Absent (name_of (origin_of command)), refl)
-some_done texts command (Some (refuses (refused sources code span))) stands = (Refusal sources code span, refl)
-some_done texts command (Some (refuses (failed sources))) stands =
+some_done texts command None takes stands = (Absent (name_of (origin_of command)), refl)
+some_done texts command (Some (refuses (refused sources code span))) takes stands = (Refusal sources code span, refl)
+some_done texts command (Some (refuses (failed sources))) takes stands =
     absurd (front_unfailed (MayGive (Some texts)) (λ name no. no) (prelude_of (origin_of command)) (name_of (origin_of command)) (refuses (failed sources)) stands)
-some_done texts command (Some (accepts p)) stands =
+some_done texts command (Some (accepts p)) takes stands =
     let accepted = accepted_is_typed (Some texts) (prelude_of (origin_of command)) (name_of (origin_of command)) p stands in
-    some_worked texts command p.sources p.front (trace_of command) (accepted_closed p.front accepted) (accepted_is_freely_right p.front accepted)
+    let core = accepted_has_object (Some texts) (prelude_of (origin_of command)) (name_of (origin_of command)) p stands in
+    some_worked texts command p.sources p.front (trace_of command) takes core (accepted_closed p.front accepted) (accepted_is_freely_right p.front accepted)
 
 -- ---- outcomes
 
-some_of_texts : (texts : Texts) (command : Command) → (o : Outcome) × Owes (MayGive (Some texts)) command o
-some_of_texts texts command =
+some_of_file : (texts : Texts) (command : Command) → TakesText command → (o : Outcome) × Owes (MayGive (Some texts)) command o
+some_of_file texts command takes =
     let one = one_front texts (prelude_of (origin_of command)) (name_of (origin_of command)) in
-    let a = some_done texts command one.0 one.1 in
-    (outcome_of a.0, record { answer = a.0; answers = record { said = one.0; front = one.1; done = a.1 }; comes = refl })
+    let a = some_done texts command one.0 takes one.1 in
+    (outcome_of a.0, owes_text (MayGive (Some texts)) command (outcome_of a.0) takes (record { answer = a.0; answers = record { said = one.0; front = one.1; done = a.1 }; comes = refl }))
+
+some_of_texts : (texts : Texts) (command : Command) → (o : Outcome) × Owes (MayGive (Some texts)) command o
+some_of_texts texts (Exec fuel object) = let a = some_executed texts object fuel in (outcome_of a.0, owes_run (MayGive (Some texts)) object fuel (outcome_of a.0) (a.0, a.1, refl))
+some_of_texts texts (Run o) = some_of_file texts (Run o) tt
+some_of_texts texts (Trace o) = some_of_file texts (Trace o) tt
+some_of_texts texts (Check o) = some_of_file texts (Check o) tt
+some_of_texts texts (Code o) = some_of_file texts (Code o) tt
+some_of_texts texts (Load n) = some_of_file texts (Load n) tt
+some_of_texts texts (Pick seed o) = some_of_file texts (Pick seed o) tt
+some_of_texts texts (Picked seed o) = some_of_file texts (Picked seed o) tt
+some_of_texts texts (Replay o trace) = some_of_file texts (Replay o trace) tt
+some_of_texts texts (Build o) = some_of_file texts (Build o) tt
 
 some_of_command : (held : Option Texts) (command : Command) → IsTold held (origin_of command) → (o : Outcome) × Owes (given held (origin_of command)) command o
 some_of_command held command (texts, told) =

@@ -1,9 +1,10 @@
 -- The answer to a file by the definitions: there is no such file, or a text is refused, or the command does its work with the
--- program, or says whether a replay file agrees with it.
-use Rattle.std.specs.Prelude.{◌≡◌, ℕ, ◌≤◌, ◌<◌, List, [], ◌∷◌, length, Option, Some, None}
-use Rattle.pict_syntax.specs.declared.limits.TheConstants.{TEXT_LIMIT}
+-- program, or says whether a replay file agrees with it, or writes its object. An object is answered as a file of its own: there is
+-- none, or it is refused, or run.
+use Rattle.std.specs.Prelude.{◌≡◌, ℕ, ◌≤◌, ◌<◌, Bool, true, false, List, [], ◌∷◌, length, Option, Some, None}
+use Rattle.pict_syntax.specs.declared.limits.TheConstants.{TEXT_LIMIT, OBJECT_LIMIT}
 use Rattle.pict_syntax.specs.declared.code.Code as refusals
-use Rattle.pict_syntax.specs.declared.code.Code.TheVariants.{B1, V1}
+use Rattle.pict_syntax.specs.declared.code.Code.TheVariants.{B1, V1, O1, O2}
 use Rattle.pict_syntax.specs.declared.source.Source.{Source}
 use Rattle.pict_syntax.specs.declared.span.Span.{Span}
 use Rattle.pict_core.specs.Term.{Process}
@@ -16,16 +17,21 @@ use Rattle.pict_trace.specs.Lines.{lines_text}
 use Rattle.pict_gather.specs.Phases.{Phase, accepts, refuses}
 use Rattle.pict_gather.specs.Fetching.{Fetch, text, missing}
 use Rattle.pict_gather.specs.Gathered.{EarlyEnd, refused, failed}
-use Rattle.pict_front.specs.Front.{Front, Accepted, IsFront}
+use Rattle.pict_front.specs.Front.{Front, Accepted, IsFront, first_place}
 use Rattle.pict_replay.specs.Files.{IsFileFor, IsNoFile}
 use Rattle.pict_replay.specs.Replayed.{Line}
 use Rattle.pict_replay.specs.Verdicts.{IsVerdict}
 use Rattle.pict_replay.specs.declared.judging.Verdict.{Verdict}
-use Rattle.pict_words.specs.Words.{Command, Run, Trace, Check, Code, Load, Pick, Picked, Replay, default_fuel}
+use Rattle.pict_object.specs.Cores.{IsObject}
+use Rattle.pict_object.specs.Decoded.{IsNoObject, IsDecoded}
+use Rattle.pict_built.specs.Laws.{AreBytes}
+use Rattle.pict_exec.specs.Ends as guarded
+use Rattle.pict_exec.specs.declared.guarded.ExecEnd.{ExecEnd}
+use Rattle.pict_words.specs.Words.{Command, Run, Trace, Check, Code, Load, Pick, Picked, Replay, Build, Exec, default_fuel}
 use Rattle.pict_load.specs.Text.{load_text}
 use Rattle.pict_load.specs.Counted.{communications_of}
 use Rattle.pict_load.specs.Summary.{summary_text}
-use Rattle.pict_top.specs.Origins.{origin_of, name_of, prelude_of, trace_of}
+use Rattle.pict_top.specs.Origins.{origin_of, name_of, prelude_of, trace_of, builds}
 use Rattle.pict_top.specs.Ends.{end_of, machine_end}
 use Rattle.pict_top.specs.Picking.{PicksAndShows, picked_bytes, recorded}
 use Rattle.pict_top.specs.declared.run.Finish.{Finish}
@@ -69,7 +75,8 @@ pub record IsChecked (finish : Finish) (bytes : List ℕ) : Type 0 where
   pub nothing : bytes ≡ []
 
 -- What a command does with the names and the core process of a program: a row for each command. `replay` checks it as `check` does;
--- what it answers hangs on its second file, as `IsReplayed` says.
+-- what it answers hangs on its second file, as `IsReplayed` says. What `build` comes to says `IsBuilt`, and `exec` has no program:
+-- neither has a row.
 abbrev pub Does : Command → List (List ℕ) → Process → Work
 Does (Run options) names process = Shows process options.fuel printed
 Does (Trace options) names process = Shows process options.fuel (traced names)
@@ -79,13 +86,17 @@ Does (Load n) names process = Shows process default_fuel (summed_up n)
 Does (Pick seed options) names process = PicksAndShows process seed options.fuel picked_bytes
 Does (Picked seed options) names process = PicksAndShows process seed options.fuel (recorded names)
 Does (Replay options trace) names process = IsChecked
+Does (Build options) names process = λ finish bytes. ⊥
+Does (Exec fuel object) names process = λ finish bytes. ⊥
 
--- With the name of the text that isn't there, or with the texts that were read. A refusal, and how the work ended, may stand in any of them
+-- With the name of the text that isn't there, or with the texts that were read. A refusal, and how the work ended, may stand in any of them.
+-- The run of an object has its name, its end and the bytes that it printed
 pub data Answer : Type 0 where
   Absent : List ℕ → Answer
   Refusal : List Source → refusals.Code → Span → Answer
   Ended : List Source → Finish → List ℕ → Answer
   Judged : Verdict → Answer
+  Executed : List ℕ → ExecEnd → List ℕ → Answer
 
 -- a text alone, and a byte of it
 abbrev pub alone : List ℕ → List ℕ → List Source
@@ -104,10 +115,21 @@ pub data IsReplayed (Gives : List ℕ → Fetch → Type 0) (trace : List ℕ) (
       → Gives trace (text t) → length t ≤ TEXT_LIMIT → IsFileFor front.names names t places lines → IsVerdict front.core places lines verdict
       → IsReplayed Gives trace front (Judged verdict)
 
+-- What `build` comes to with an accepted program: the object of its process is written, and that is all; or each object of it is too
+-- long, and the file is refused at its first byte.
+pub data IsBuilt (sources : List Source) (front : Front) : Answer → Type 0 where
+  built : {bytes : List ℕ} → IsObject front.names bytes front.core → length bytes ≤ OBJECT_LIMIT → IsBuilt sources front (Ended sources Done bytes)
+  too_big : ((bytes : List ℕ) → IsObject front.names bytes front.core → OBJECT_LIMIT < length bytes) → IsBuilt sources front (Refusal sources O2 first_place)
+
+-- what a command comes to with an accepted program alone, by whether it builds
+abbrev pub IsMade : Bool → Command → List Source → Front → Answer → Type 0
+IsMade false command sources front answer =
+    (finish : Finish) × (bytes : List ℕ) × Does command front.names front.core finish bytes × (answer ≡ Ended sources finish bytes)
+IsMade true command sources front answer = IsBuilt sources front answer
+
 -- what a command comes to with an accepted program, by the name of its replay file, where it takes one
 abbrev pub IsWorked : (List ℕ → Fetch → Type 0) → Command → List Source → Front → Option (List ℕ) → Answer → Type 0
-IsWorked Gives command sources front None answer =
-    (finish : Finish) × (bytes : List ℕ) × Does command front.names front.core finish bytes × (answer ≡ Ended sources finish bytes)
+IsWorked Gives command sources front None answer = IsMade (builds command) command sources front answer
 IsWorked Gives command sources front (Some trace) answer = IsReplayed Gives trace front answer
 
 -- behind the phases before the command's own work. That the shelf failed is no answer
@@ -117,8 +139,33 @@ IsDone Gives command (Some (refuses (refused sources code span))) answer = answe
 IsDone Gives command (Some (refuses (failed sources))) answer = ⊥
 IsDone Gives command (Some (accepts a)) answer = IsWorked Gives command a.sources a.front (trace_of command) answer
 
--- where `Gives` says what a command is given under a name
-pub record IsAnswer (Gives : List ℕ → Fetch → Type 0) (command : Command) (answer : Answer) : Type 0 where
+-- where `Gives` says what a command is given under a name, and it takes the text of a program
+pub record IsTextAnswer (Gives : List ℕ → Fetch → Type 0) (command : Command) (answer : Answer) : Type 0 where
   pub said : Option (Phase EarlyEnd Accepted)
   pub front : IsFront Gives (prelude_of (origin_of command)) (name_of (origin_of command)) said
   pub done : IsDone Gives command said answer
+
+-- These bytes are the object of a process, whose labels are numbered by the object's own, and which has no places. It runs with this
+-- fuel to this end, and prints these bytes.
+pub record RunsObject (object : List ℕ) (fuel : ℕ) (end : ExecEnd) (bytes : List ℕ) : Type 0 where
+  pub names : List (List ℕ)
+  pub process : Process
+  pub is : IsDecoded [] names object process
+  pub labels : List (ℕ × Label)
+  pub runs : Runs process fuel (guarded.end_of end) labels
+  pub prints : bytes ≡ bytes_of labels
+
+-- What `exec` comes to with the file of this name and this fuel: it isn't there; or is too long, or no object, and refused at its first
+-- byte; or it is run, and a wrong step within the fuel is the end of that.
+pub data IsExecuted (Gives : List ℕ → Fetch → Type 0) (object : List ℕ) (fuel : ℕ) : Answer → Type 0 where
+  none_there : Gives object missing → IsExecuted Gives object fuel (Absent object)
+  over_limit : {t : List ℕ} → Gives object (text t) → OBJECT_LIMIT < length t → IsExecuted Gives object fuel (Refusal (alone object []) O2 (byte_at 0))
+  no_object : {t : List ℕ} → Gives object (text t) → length t ≤ OBJECT_LIMIT → (AreBytes t → IsNoObject t)
+      → IsExecuted Gives object fuel (Refusal (alone object []) O1 (byte_at 0))
+  executed : {t bytes : List ℕ} {end : ExecEnd} → Gives object (text t) → length t ≤ OBJECT_LIMIT → AreBytes t → RunsObject t fuel end bytes
+      → IsExecuted Gives object fuel (Executed object end bytes)
+
+-- where `Gives` says what a command is given under a name
+abbrev pub IsAnswer : (List ℕ → Fetch → Type 0) → Command → Answer → Type 0
+IsAnswer Gives (Exec fuel object) answer = IsExecuted Gives object fuel answer
+IsAnswer Gives command answer = IsTextAnswer Gives command answer

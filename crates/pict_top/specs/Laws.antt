@@ -1,19 +1,22 @@
 -- The laws of what words come to.
-use Rattle.std.specs.Prelude.{ℕ, ◌≤◌, Bool, List, length, Option, Some}
+use Rattle.std.specs.Prelude.{◌≡◌, ℕ, ◌≤◌, Bool, List, length, Option, Some}
 use Rattle.std.specs.List.{AllByRecursion}
-use Rattle.pict_syntax.specs.declared.limits.TheConstants.{TEXT_LIMIT}
+use Rattle.pict_syntax.specs.declared.limits.TheConstants.{TEXT_LIMIT, OBJECT_LIMIT}
 use Rattle.pict_outside.specs.Texts.{Texts}
 use Rattle.pict_gather.specs.Phases.{Exactly, accepts}
 use Rattle.pict_gather.specs.Fetching.{MayGive, text}
 use Rattle.pict_front.specs.Front.{Accepted, IsFront}
 use Rattle.pict_ranges.specs.Ranges.{NestsWithin}
+use Rattle.pict_object.specs.Cores.{IsObject}
+use Rattle.pict_built.specs.Laws.{AreBytes}
+use Rattle.pict_exec.specs.declared.guarded.ExecEnd.{ExecEnd}
 use Rattle.pict_replay.specs.declared.judging.Verdict.TheVariants.{Yes}
 use Rattle.pict_words.specs.Words.{HasShape, Load}
-use Rattle.pict_top.specs.Answer.{Judged, IsReplayed}
+use Rattle.pict_top.specs.Answer.{Judged, Executed, Shows, printed, IsReplayed, IsExecuted}
 use Rattle.pict_top.specs.Origins.{File, prelude_of}
 use Rattle.pict_top.specs.Picking.{PicksAndShows, recorded}
 use Rattle.pict_top.specs.declared.run.Finish.{Finish}
-use Rattle.pict_top.specs.Outcome.{Outcome}
+use Rattle.pict_top.specs.Outcome.{Outcome, status_of_end, status_of_guarded}
 use Rattle.pict_top.specs.Owed.{OwesWords, FaultsWords}
 
 -- words over a shelf that tells its texts come to exactly one outcome: to one, and to no other
@@ -34,3 +37,12 @@ PickedIsAnswered =
     → IsFront (MayGive held) (prelude_of (File alone file)) file (Some (accepts a))
     → (r : PicksAndShows a.front.core seed fuel (recorded a.front.names) finish bytes) → AllByRecursion NestsWithin r.labels → length bytes ≤ TEXT_LIMIT
     → MayGive held trace (text bytes) → IsReplayed (MayGive held) trace a.front (Judged Yes)
+
+-- The object of an accepted program, as `build` writes it, is run by `exec` as `run` runs the program, whatever the fuel: with the same
+-- status, which is never Misshapen, and the same bytes.
+abbrev pub BuiltRunsAsText : Type 0
+BuiltRunsAsText =
+    (held : Option Texts) (prelude : Option (List ℕ)) (file object t bytes : List ℕ) (a : Accepted) (fuel : ℕ) (finish : Finish)
+    → IsFront (MayGive held) prelude file (Some (accepts a)) → IsObject a.front.names t a.front.core → length t ≤ OBJECT_LIMIT → AreBytes t
+    → MayGive held object (text t) → Shows a.front.core fuel printed finish bytes
+    → (end : ExecEnd) × (status_of_guarded end ≡ status_of_end finish) × IsExecuted (MayGive held) object fuel (Executed object end bytes)

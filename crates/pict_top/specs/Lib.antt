@@ -7,6 +7,7 @@ pub mod Outcome
 pub mod Owed
 pub mod Changes
 pub mod Meets
+pub mod Guarded
 pub mod Printed
 pub mod Notes
 pub mod Soundness

@@ -5,7 +5,9 @@ use Rattle.pict_top.specs.Outcome.{Outcome}
 use Rattle.pict_top.specs.Changes.{SinkChange, Untouched, Gained, GainedFront, FailedWithin}
 use Rattle.pict_top.specs.declared.run.Finish.{Finish}
 use Rattle.pict_top.specs.declared.run.Finish.TheVariants.{Done, FuelSpent, Trap}
-use Rattle.pict_report.specs.Reports.{position_of, spent_report, trap_report}
+use Rattle.pict_exec.specs.declared.guarded.ExecEnd.{ExecEnd}
+use Rattle.pict_exec.specs.declared.guarded.ExecEnd.TheVariants as guarded
+use Rattle.pict_report.specs.Reports.{position_of, spent_report, trap_report, object_trap_report, misshapen_report}
 use Rattle.pict_top.specs.declared.status.Status.{Status}
 use Rattle.pict_top.specs.declared.status.Status.TheVariants as status
 use Rattle.pict_top.specs.declared.status.Status.TheVariants.{ReadFault, WriteFault, Memory}
@@ -52,3 +54,10 @@ abbrev pub EndReports : List Source → Finish → SinkChange → Status → Typ
 EndReports sources Done err result = (result ≡ status.Done) × Untouched err
 EndReports sources FuelSpent err result = Tells status.FuelSpent spent_report err result
 EndReports sources (Trap at) err result = Reports status.Trap (trap_report (position_of sources at)) err result
+
+-- the same of the end of an object's run
+abbrev pub RunReports : List ℕ → ExecEnd → SinkChange → Status → Type 0
+RunReports object guarded.Done err result = (result ≡ status.Done) × Untouched err
+RunReports object guarded.FuelSpent err result = Tells status.FuelSpent spent_report err result
+RunReports object (guarded.Trap at) err result = Reports status.Trap (object_trap_report object) err result
+RunReports object guarded.Misshapen err result = Reports status.Misshapen (misshapen_report object) err result

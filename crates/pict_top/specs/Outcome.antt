@@ -4,10 +4,12 @@ use Rattle.std.specs.Fmt.{decimal}
 use Rattle.pict_syntax.specs.declared.source.Source.{Source}
 use Rattle.pict_top.specs.declared.run.Finish.{Finish}
 use Rattle.pict_top.specs.declared.run.Finish.TheVariants.{Done, FuelSpent, Trap}
+use Rattle.pict_exec.specs.declared.guarded.ExecEnd.{ExecEnd}
+use Rattle.pict_exec.specs.declared.guarded.ExecEnd.TheVariants as guarded
 use Rattle.pict_replay.specs.declared.judging.Verdict.{Verdict}
 use Rattle.pict_replay.specs.declared.judging.Verdict.TheVariants.{Yes, No}
-use Rattle.pict_top.specs.Answer.{Answer, Absent, Refusal, Ended, Judged}
-use Rattle.pict_report.specs.Reports.{source_at, position_of, missing_report, refusal_report, fault_report, usage_report, spent_report, trap_report}
+use Rattle.pict_top.specs.Answer.{Answer, Absent, Refusal, Ended, Judged, Executed}
+use Rattle.pict_report.specs.Reports.{source_at, position_of, missing_report, refusal_report, fault_report, usage_report, spent_report, trap_report, object_trap_report, misshapen_report}
 use Rattle.pict_top.specs.declared.status.Status.{Status}
 use Rattle.pict_top.specs.declared.status.Status.TheVariants as status
 
@@ -37,12 +39,26 @@ abbrev pub status_of_verdict : Verdict → Status
 status_of_verdict Yes = status.Done
 status_of_verdict (No number) = status.Rejected
 
+abbrev pub status_of_guarded : ExecEnd → Status
+status_of_guarded guarded.Done = status.Done
+status_of_guarded guarded.FuelSpent = status.FuelSpent
+status_of_guarded (guarded.Trap at) = status.Trap
+status_of_guarded guarded.Misshapen = status.Misshapen
+
+-- what is reported of the end of an object's run, with the name of the object: it has no places
+abbrev pub report_of_guarded : List ℕ → ExecEnd → List ℕ
+report_of_guarded object guarded.Done = []
+report_of_guarded object guarded.FuelSpent = spent_report
+report_of_guarded object (guarded.Trap at) = object_trap_report object
+report_of_guarded object guarded.Misshapen = misshapen_report object
+
 -- by the answer
 abbrev pub outcome_of : Answer → Outcome
 outcome_of (Absent name) = record { status = status.Missing; printed = []; report = missing_report name }
 outcome_of (Refusal sources code span) = record { status = status.Refused; printed = []; report = refusal_report (position_of sources span) code }
 outcome_of (Ended sources finish bytes) = record { status = status_of_end finish; printed = bytes; report = report_of_end sources finish }
 outcome_of (Judged verdict) = record { status = status_of_verdict verdict; printed = verdict_line verdict; report = [] }
+outcome_of (Executed object end bytes) = record { status = status_of_guarded end; printed = bytes; report = report_of_guarded object end }
 
 -- the name of the last of these texts; none where there is no text
 abbrev pub last_name : List Source → List ℕ

@@ -1,6 +1,6 @@
 // The laws of what words come to, each as the contract of a function that does nothing.
 
-ghost use Rattle.pict_top.specs.Laws.{LoadNeedsNoShelf, OneOutcome, PickedIsAnswered};
+ghost use Rattle.pict_top.specs.Laws.{BuiltRunsAsText, LoadNeedsNoShelf, OneOutcome, PickedIsAnswered};
 
 /// Over a shelf that tells its texts the words come to exactly one outcome.
 pub fn law_one_outcome()
@@ -16,4 +16,9 @@ pub fn law_load_needs_no_shelf()
 /// deeper than in a line that is read.
 pub fn law_picked_is_answered()
     ensures { PickedIsAnswered }
+{}
+
+/// What `build` writes of a program is run by `exec` as `run` runs the program: with the same status and the same bytes.
+pub fn law_built_runs_as_text()
+    ensures { BuiltRunsAsText }
 {}

@@ -4,6 +4,7 @@
 mod form;
 mod laws;
 mod notes;
+mod objects;
 mod one_shelf;
 mod origin;
 mod picking;
@@ -15,7 +16,9 @@ mod status;
 mod top;
 mod work;
 
-pub use laws::{law_load_needs_no_shelf, law_one_outcome, law_picked_is_answered};
+pub use laws::{
+    law_built_runs_as_text, law_load_needs_no_shelf, law_one_outcome, law_picked_is_answered,
+};
 pub use one_shelf::OneShelf;
 pub use pict_load::load_text;
 pub use pict_report::prelude;

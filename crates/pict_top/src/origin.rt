@@ -11,7 +11,7 @@ use pict_report::prelude;
 use pict_words::{Command, Options};
 use std::alloc::{AllocError, Global};
 
-/// The name of a command's file, or `load` for the text that stands for one. Takes no memory.
+/// The name of a command's file or object, or `load` for the text that stands for one. Takes no memory.
 pub fn name_of<'a>(command: Command<'a>) -> &'a str
     ensures { result.now ≡ origins.name_of (origin_of (plain_command command.entry)) }
 {
@@ -24,6 +24,8 @@ pub fn name_of<'a>(command: Command<'a>) -> &'a str
         Command::Pick(_, options) => options.file,
         Command::Picked(_, options) => options.file,
         Command::Replay(options, _) => options.file,
+        Command::Build(options) => options.file,
+        Command::Exec(_, object) => object,
     }
 }
 
@@ -41,6 +43,8 @@ pub fn prelude_of(command: Command<'_>) -> Option<&'static [u8]>
         Command::Pick(_, options) => prelude_unless_bare(options),
         Command::Picked(_, options) => prelude_unless_bare(options),
         Command::Replay(options, _) => prelude_unless_bare(options),
+        Command::Build(options) => prelude_unless_bare(options),
+        Command::Exec(_, _) => None,
     }
 }
 
@@ -54,6 +58,16 @@ pub fn trace_of<'a>(command: Command<'a>) -> Option<&'a str>
     }
 }
 
+/// Whether the command writes the object of its program. Takes no memory.
+pub fn builds(command: Command<'_>) -> bool
+    ensures { result ≡ origins.builds (plain_command command.entry) }
+{
+    match command {
+        Command::Build(_) => true,
+        _ => false,
+    }
+}
+
 /// The prelude, unless a file stands alone.
 fn prelude_unless_bare(options: Options<'_>) -> Option<&'static [u8]>
     ensures is { lent result ≡ origins.prelude_of (origins.File options.entry.bare options.entry.file.now) }
@@ -62,7 +76,7 @@ fn prelude_unless_bare(options: Options<'_>) -> Option<&'static [u8]>
     if options.bare { None } else { Some(prelude()) }
 }
 
-/// The text that a command makes itself; none where it reads a file. The error is want of memory.
+/// The text that a command makes itself; none where it reads a file or an object. The error is want of memory.
 pub fn own_text(alloc: Global, command: Command<'_>) -> Result<Option<Vec<u8>>, AllocError>
     ensures { IfOk result (λ own. MatchOption own (AsksShelf (origin_of (plain_command command.entry)))
         (λ text. IsOwn (origin_of (plain_command command.entry)) text.items)) }

@@ -64,7 +64,7 @@ pub fn replay_over<S: Shelf, O: Sink, E: Sink>(
 }
 
 /// Reports a refusal at a byte of a text, by its name.
-fn refuse_alone<E: Sink>(
+pub(crate) fn refuse_alone<E: Sink>(
     alloc: Global,
     name: &[u8],
     found: Vec<u8>,

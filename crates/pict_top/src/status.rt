@@ -21,6 +21,8 @@ pub enum Status {
     Memory,
     /// The shelf has no such file.
     Missing,
+    /// A step of an object's run is wrong: a message of another shape than the step asks for.
+    Misshapen,
     /// A replay file doesn't agree with the program.
     Rejected,
 }
@@ -43,6 +45,7 @@ impl Status {
             Status::WriteFault => 6,
             Status::Memory => 7,
             Status::Missing => 8,
+            Status::Misshapen => 9,
             Status::Rejected => 10,
         }
     }

@@ -6,6 +6,7 @@ ghost use Rattle.pict_core.specs.Plain.{plain_core};
 ghost use Rattle.pict_front.specs.Answers.{plain_front};
 ghost use Rattle.pict_front.specs.Laws.{IsAccepted};
 ghost use Rattle.pict_gather.specs.Fetching.{MayGive};
+ghost use Rattle.pict_object.specs.Cores.{IsObjectCore};
 ghost use Rattle.pict_words.specs.Plain.{plain_command, texts_of};
 ghost use Rattle.pict_words.specs.Words.{HasNoShape, fuel_of};
 ghost use Rattle.pict_report.specs.Reports.{AreShort, line, position_of, refusal_report, trap_report, usage_report};
@@ -13,12 +14,13 @@ ghost use Rattle.pict_top.specs.Changes.{change_of, Untouched};
 ghost use Rattle.pict_top.specs.Headline.{Headline, shelf_change};
 ghost use Rattle.pict_top.specs.Meets.{Meets, Reports, EndReports, Tells};
 ghost use Rattle.pict_top.specs.Origins as origins;
-ghost use Rattle.pict_top.specs.Origins.{IsOwn, MayGiveText, given, given_each, only, origin_of, own_length};
+ghost use Rattle.pict_top.specs.Origins.{IsOwn, MayGiveText, TakesText, Works, given, given_each, only, origin_of, own_length};
 ghost use Rattle.pict_top.specs.Outcome as outcomes;
-ghost use Rattle.pict_top.specs.Owed.{FaultsCommand, FaultsFile, FaultsWords, Owes, OwesWithEach, OwesWords, OwesWork};
+ghost use Rattle.pict_top.specs.Owed.{FaultsCommand, FaultsFile, FaultsText, FaultsWords, Owes, OwesMade, OwesText, OwesWithEach, OwesWords, OwesWork};
 
 use crate::one_shelf::OneShelf;
-use crate::origin::{name_of, own_text, prelude_of, trace_of};
+use crate::objects::{build_object, execute_object};
+use crate::origin::{builds, name_of, own_text, prelude_of, trace_of};
 use crate::replaying::replay_over;
 use crate::run::{Broken, Finish};
 use crate::status::Status;
@@ -40,8 +42,9 @@ use std::alloc::{AllocError, Global};
 /// number, runs it, and writes a summary, each line in one write. `pick` runs the program with choices from a seed, and writes
 /// what it prints as `run` does; `picked` runs it twice, and writes a line for each of these choices, the line `trace`, and then
 /// the lines that `trace` would write of this run, each in one write. `replay` reads a second file, once the first is accepted, and
-/// says in one write whether it is such a choice of steps and such a trace of this program, or the first step that is at fault. The
-/// text of the status, if it has one, is written on `err` in one write.
+/// says in one write whether it is such a choice of steps and such a trace of this program, or the first step that is at fault.
+/// `build` writes the object of the program's core process, in one write; `exec` reads no program but such an object, and runs it as
+/// `run` does, up to a step that is wrong. The text of the status, if it has one, is written on `err` in one write.
 pub fn pict<S: Shelf, O: Sink, E: Sink>(
     alloc: Global,
     words: &[&str],
@@ -83,7 +86,7 @@ fn run_words<S: Shelf, O: Sink, E: Sink>(
     }
 }
 
-/// Does what a command does, with its own text or with a file.
+/// Does what a command does, with an object, or with a text.
 fn run_command<S: Shelf, O: Sink, E: Sink>(
     alloc: Global,
     command: Command<'_>,
@@ -97,6 +100,33 @@ fn run_command<S: Shelf, O: Sink, E: Sink>(
         (change_of O.taken O.faults out.old out.new) (change_of E.taken E.faults err.old err.new) result }
     ensures each { Meets (Owes (given_each (S.held shelf.old) (origin_of (plain_command command.entry))) (plain_command command.entry))
         (FaultsCommand (S.held shelf.old) (plain_command command.entry)) (Rose (S.faults shelf.old) (S.faults shelf.new))
+        (change_of O.taken O.faults out.old out.new) (change_of E.taken E.faults err.old err.new) result
+        ⊎ Rose (S.misses shelf.old) (S.misses shelf.new) }
+    ensures held { S.held shelf.new ≡ S.held shelf.old }
+    ensures counts { (S.faults shelf.old ≤ S.faults shelf.new) × (S.misses shelf.old ≤ S.misses shelf.new)
+        × (O.faults out.old ≤ O.faults out.new) × (E.faults err.old ≤ E.faults err.new) }
+{
+    match command {
+        Command::Exec(fuel, object) => execute_object(alloc, object, fuel, shelf, out, err),
+        _ => run_text(alloc, command, shelf, out, err),
+    }
+}
+
+/// Does what a command does, with its own text or with a file.
+fn run_text<S: Shelf, O: Sink, E: Sink>(
+    alloc: Global,
+    command: Command<'_>,
+    shelf: &mut S,
+    out: &mut O,
+    err: &mut E,
+) -> Status
+    requires takes { TakesText (plain_command command) }
+    requires fuel { fuel_of (plain_command command) ≤ FUEL_LIMIT }
+    ensures meets { Meets (OwesText (given (S.held shelf.old) (origin_of (plain_command command.entry))) (plain_command command.entry))
+        (FaultsText (S.held shelf.old) (plain_command command.entry)) (Rose (S.faults shelf.old) (S.faults shelf.new))
+        (change_of O.taken O.faults out.old out.new) (change_of E.taken E.faults err.old err.new) result }
+    ensures each { Meets (OwesText (given_each (S.held shelf.old) (origin_of (plain_command command.entry))) (plain_command command.entry))
+        (FaultsText (S.held shelf.old) (plain_command command.entry)) (Rose (S.faults shelf.old) (S.faults shelf.new))
         (change_of O.taken O.faults out.old out.new) (change_of E.taken E.faults err.old err.new) result
         ⊎ Rose (S.misses shelf.old) (S.misses shelf.new) }
     ensures held { S.held shelf.new ≡ S.held shelf.old }
@@ -118,9 +148,10 @@ fn run_own<O: Sink, E: Sink>(
     out: &mut O,
     err: &mut E,
 ) -> Status
+    requires takes { TakesText (plain_command command) }
     requires fuel { fuel_of (plain_command command) ≤ FUEL_LIMIT }
     requires own { IsOwn (origin_of (plain_command command)) text.items }
-    ensures meets { Meets (Owes (MayGive (Some (only (origins.name_of (origin_of (plain_command command.entry))) text.items)))
+    ensures meets { Meets (OwesText (MayGive (Some (only (origins.name_of (origin_of (plain_command command.entry))) text.items)))
         (plain_command command.entry)) (λ o. ⊥) ⊥ (change_of O.taken O.faults out.old out.new) (change_of E.taken E.faults err.old err.new) result }
     ensures faults_stay { O.faults out.old ≤ O.faults out.new }
     ensures err_faults_stay { E.faults err.old ≤ E.faults err.new }
@@ -141,11 +172,12 @@ fn run_file<S: Shelf, O: Sink, E: Sink>(
     out: &mut O,
     err: &mut E,
 ) -> Status
+    requires takes { TakesText (plain_command command) }
     requires fuel { fuel_of (plain_command command) ≤ FUEL_LIMIT }
     requires own { own ≡ own_length (origin_of (plain_command command)) }
-    ensures meets { Meets (Owes (MayGive (S.held shelf.old)) (plain_command command.entry)) (FaultsFile (S.held shelf.old) (plain_command command.entry))
+    ensures meets { Meets (OwesText (MayGive (S.held shelf.old)) (plain_command command.entry)) (FaultsFile (S.held shelf.old) (plain_command command.entry))
         (Rose (S.faults shelf.old) (S.faults shelf.new)) (change_of O.taken O.faults out.old out.new) (change_of E.taken E.faults err.old err.new) result }
-    ensures each { Meets (Owes (MayGiveText (S.held shelf.old)) (plain_command command.entry)) (FaultsFile (S.held shelf.old) (plain_command command.entry))
+    ensures each { Meets (OwesText (MayGiveText (S.held shelf.old)) (plain_command command.entry)) (FaultsFile (S.held shelf.old) (plain_command command.entry))
         (Rose (S.faults shelf.old) (S.faults shelf.new)) (change_of O.taken O.faults out.old out.new) (change_of E.taken E.faults err.old err.new) result
         ⊎ Rose (S.misses shelf.old) (S.misses shelf.new) }
     ensures held { S.held shelf.new ≡ S.held shelf.old }
@@ -172,7 +204,7 @@ fn run_file<S: Shelf, O: Sink, E: Sink>(
         Err(FrontError::Named(code, span)) => refuse(alloc, &sources, span, code, err),
         Ok(front) => match trace_of(command) {
             Some(trace) => replay_over(alloc, trace, shelf, front, out, err),
-            None => run_ready(alloc, command, own, &sources, front, out, err),
+            None => work_with(alloc, command, own, &sources, front, out, err),
         },
     }
 }
@@ -187,7 +219,36 @@ fn last_name(sources: &Sources) -> &[u8]
     }
 }
 
-/// Does with an accepted program what a command does.
+/// Does with an accepted program what a command does with it alone: writes its object, or does its work.
+fn work_with<O: Sink, E: Sink>(
+    alloc: Global,
+    command: Command<'_>,
+    own: u64,
+    sources: &Sources,
+    front: Front,
+    out: &mut O,
+    err: &mut E,
+) -> Status
+    requires takes { TakesText (plain_command command) }
+    requires short { AreShort sources.now.list.items }
+    requires fuel { fuel_of (plain_command command) ≤ FUEL_LIMIT }
+    requires own { own ≡ own_length (origin_of (plain_command command)) }
+    requires accepted { IsAccepted (plain_front front) }
+    requires closed { IsClosed (plain_core front.core) }
+    requires object { IsObjectCore front.names (plain_core front.core) }
+    ensures meets { Meets (OwesMade sources.now.list.items (plain_front front) (plain_command command.entry)) (λ o. ⊥) ⊥
+        (change_of O.taken O.faults out.old out.new) (change_of E.taken E.faults err.old err.new) result }
+    ensures faults_stay { O.faults out.old ≤ O.faults out.new }
+    ensures err_faults_stay { E.faults err.old ≤ E.faults err.new }
+{
+    if builds(command) {
+        build_object(alloc, sources, front, out, err)
+    } else {
+        run_ready(alloc, command, own, sources, front, out, err)
+    }
+}
+
+/// Does with an accepted program the work of a command.
 fn run_ready<O: Sink, E: Sink>(
     alloc: Global,
     command: Command<'_>,
@@ -197,6 +258,7 @@ fn run_ready<O: Sink, E: Sink>(
     out: &mut O,
     err: &mut E,
 ) -> Status
+    requires works { Works (plain_command command) }
     requires short { AreShort sources.now.list.items }
     requires fuel { fuel_of (plain_command command) ≤ FUEL_LIMIT }
     requires own { own ≡ own_length (origin_of (plain_command command)) }

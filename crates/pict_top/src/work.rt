@@ -9,7 +9,7 @@ ghost use Rattle.pict_words.specs.Plain.{plain_command};
 ghost use Rattle.pict_words.specs.Words.{fuel_of};
 ghost use Rattle.pict_top.specs.Answer.{Does, Lists, Shows, summed_up};
 ghost use Rattle.pict_top.specs.Changes.{change_of, GainedFront, FailedWithin};
-ghost use Rattle.pict_top.specs.Origins.{origin_of, own_length};
+ghost use Rattle.pict_top.specs.Origins.{Works, origin_of, own_length};
 ghost use Rattle.pict_top.specs.Printed.{Finished, Somehow};
 
 use crate::form::Form;
@@ -26,7 +26,8 @@ use pict_syntax::{FUEL_LIMIT, Names};
 use pict_words::{Command, DEFAULT_FUEL};
 use std::alloc::{AllocError, Global};
 
-/// Does a command's work with a program's names and core process, of which no free run may be wrong. `own` is how many bytes the
+/// Does a command's work with a program's names and core process, of which no free run may be wrong. It has such work: it neither
+/// writes an object nor takes one. `own` is how many bytes the
 /// command's own text has. On an error a beginning of what the work writes was written; `Sink` comes only where the sink's count
 /// of faults rose.
 pub fn perform<O: Sink>(
@@ -36,6 +37,7 @@ pub fn perform<O: Sink>(
     front: Front,
     out: &mut O,
 ) -> Result<Finish, Broken>
+    requires works { Works (plain_command command) }
     requires own { own ≡ own_length (origin_of (plain_command command)) }
     requires closed { IsClosed (plain_core front.core) }
     requires fuel { fuel_of (plain_command command) ≤ FUEL_LIMIT }
@@ -63,6 +65,8 @@ pub fn perform<O: Sink>(
             record_picks(alloc, &names, &core, seed, options.fuel, out)
         }
         Command::Replay(_, _) => Ok(Finish::Done),
+        Command::Build(_) => unreachable!(),
+        Command::Exec(_, _) => unreachable!(),
     }
 }
 

@@ -3,7 +3,7 @@ use Rattle.std.proofs.Common.{◌≡◌, ℕ, ◌+◌, ◌==◌, ◌≤◌, Bool
 use Rattle.std.specs.Prelude.{is_some}
 use Rattle.std.proofs.lemmas.Fmt.{decimal_injective}
 use Rattle.pict_syntax.specs.declared.limits.TheConstants.{FUEL_LIMIT}
-use Rattle.pict_words.specs.Words.{Options, Command, Run, Trace, Check, Code, Load, Pick, Picked, Replay, AsksFor, AsksToLoad, AsksToReplay, HasShape, HasNoShape, fuel_words}
+use Rattle.pict_words.specs.Words.{Options, Command, Run, Trace, Check, Code, Load, Pick, Picked, Replay, Build, Exec, AsksFor, AsksToLoad, AsksToReplay, HasShape, HasNoShape, fuel_words}
 use Rattle.pict_words.specs.Asked.{Found, IsAsked, HasWord, TakesNoSeed, FoundSeed, IsSeeded, HasSeedWord, TakesSeed, unseeded}
 use Rattle.pict_words.proofs.Shapes.{words_for, two_are, three_are, four_are, five_are, at}
 use Rattle.pict_words.proofs.Seeds.{without_seed, seed_written}
@@ -59,7 +59,7 @@ sum_of word = get_or word 0 0 + get_or word 1 0 + get_or word 4 0
 
 abbrev rank_by : ℕ → ℕ
 rank_by sum =
-    if sum == 231 then 0 else if sum == 331 then 1 else if sum == 310 then 2 else if sum == 210 then 3 else if sum == 219 then 4 else if sum == 217 then 5 else if sum == 318 then 6 else if sum == 312 then 7 else 8
+    if sum == 231 then 0 else if sum == 331 then 1 else if sum == 310 then 2 else if sum == 210 then 3 else if sum == 219 then 4 else if sum == 217 then 5 else if sum == 318 then 6 else if sum == 312 then 7 else if sum == 315 then 8 else if sum == 221 then 9 else 10
 
 abbrev rank_of : Command → ℕ
 rank_of (Run o) = 0
@@ -70,6 +70,8 @@ rank_of (Load n) = 4
 rank_of (Pick n o) = 5
 rank_of (Picked n o) = 6
 rank_of (Replay o trace) = 7
+rank_of (Build o) = 8
+rank_of (Exec fuel object) = 9
 
 abbrev rank_in : List (List ℕ) → ℕ
 rank_in words = rank_by (sum_of (at 0 words))
@@ -83,12 +85,16 @@ ranked words (Load n) s = sym (ap rank_in s.shape)
 ranked words (Pick n o) (w, s) = sym (ap rank_in s.shape)
 ranked words (Picked n o) (w, s) = sym (ap rank_in s.shape)
 ranked words (Replay o trace) s = sym (ap rank_in s.shape)
+ranked words (Build o) s = sym (ap rank_in s.shape)
+ranked words (Exec fuel object) (w, s) = sym (ap rank_in s.shape)
 
 same_command : (word : List ℕ) (f : Bool) (o : Options) (c d : Command) → HasWord word f o c → HasWord word f o d → rank_of c ≡ rank_of d → c ≡ d
 same_command word f o (Run p) (Run q) h k e = ap Run (h.1 ∙ sym k.1)
 same_command word f o (Trace p) (Trace q) h k e = ap Trace (h.1 ∙ sym k.1)
 same_command word f o (Check p) (Check q) h k e = ap Check (h.1 ∙ sym k.1)
 same_command word f o (Code p) (Code q) h k e = ap Code (h.1 ∙ sym k.1)
+same_command word f o (Build p) (Build q) h k e = ap Build (h.1 ∙ sym k.1)
+same_command word f o (Exec m a) (Exec n b) h k e = λ i. Exec ((h.2 ∙ sym k.2) i) ((h.3 ∙ sym k.3) i)
 same_command word f o (Load m) d h k e = absurd h
 same_command word f o (Pick m p) d h k e = absurd h
 same_command word f o (Picked m p) d h k e = absurd h
@@ -114,6 +120,9 @@ asked_as words (Run o) file (w, s) = record { word = codes "run"; fueled = is_so
 asked_as words (Trace o) file (w, s) = record { word = codes "trace"; fueled = is_some w; options = o; asked = (w, refl, s); has = (refl, refl) }
 asked_as words (Check o) file s = record { word = codes "check"; fueled = false; options = o; asked = (None, refl, s); has = (refl, refl, refl) }
 asked_as words (Code o) file s = record { word = codes "code"; fueled = false; options = o; asked = (None, refl, s); has = (refl, refl, refl) }
+asked_as words (Build o) file s = record { word = codes "build"; fueled = false; options = o; asked = (None, refl, s); has = (refl, refl, refl) }
+asked_as words (Exec fuel object) file (w, s) =
+    record { word = codes "exec"; fueled = is_some w; options = record { bare = false; fuel = fuel; file = object }; asked = (w, refl, s); has = (refl, refl, refl, refl) }
 asked_as words (Load n) file s = absurd file
 asked_as words (Pick n o) file s = absurd file
 asked_as words (Picked n o) file s = absurd file
@@ -131,6 +140,11 @@ shape_of words word f o (Check p) (w, x, s) h =
     subst (λ q. AsksFor (codes "check") None q words) (sym h.1) (subst (λ a. AsksFor a None o words) h.0 (subst (λ v. AsksFor word v o words) (none_of w (x ∙ h.2)) s))
 shape_of words word f o (Code p) (w, x, s) h =
     subst (λ q. AsksFor (codes "code") None q words) (sym h.1) (subst (λ a. AsksFor a None o words) h.0 (subst (λ v. AsksFor word v o words) (none_of w (x ∙ h.2)) s))
+shape_of words word f o (Build p) (w, x, s) h =
+    subst (λ q. AsksFor (codes "build") None q words) (sym h.1) (subst (λ a. AsksFor a None o words) h.0 (subst (λ v. AsksFor word v o words) (none_of w (x ∙ h.2)) s))
+shape_of words word f o (Exec fuel object) (w, x, s) h =
+    let same : o ≡ record { bare = false; fuel = fuel; file = object } = same_options o (record { bare = false; fuel = fuel; file = object }) h.1 (sym h.2) (sym h.3) in
+    (w, subst (λ q. AsksFor (codes "exec") w q words) same (subst (λ a. AsksFor a w o words) h.0 s))
 shape_of words word f o (Load n) a h = absurd h
 shape_of words word f o (Pick n p) a h = absurd h
 shape_of words word f o (Picked n p) a h = absurd h
@@ -210,6 +224,8 @@ same_shape words (Run o) (Run p) e s t = file_commands words (Run o) (Run p) tt 
 same_shape words (Trace o) (Trace p) e s t = file_commands words (Trace o) (Trace p) tt tt e s t
 same_shape words (Check o) (Check p) e s t = file_commands words (Check o) (Check p) tt tt e s t
 same_shape words (Code o) (Code p) e s t = file_commands words (Code o) (Code p) tt tt e s t
+same_shape words (Build o) (Build p) e s t = file_commands words (Build o) (Build p) tt tt e s t
+same_shape words (Exec m a) (Exec n b) e s t = file_commands words (Exec m a) (Exec n b) tt tt e s t
 same_shape words (Load m) (Load n) e s t = ap Load (same_load words m n s t)
 same_shape words (Pick m o) (Pick n p) e s t = let x = one_seeded words _ _ m n o p s t in λ i. Pick (x.seed i) (x.options i)
 same_shape words (Picked m o) (Picked n p) e s t = let x = one_seeded words _ _ m n o p s t in λ i. Picked (x.seed i) (x.options i)

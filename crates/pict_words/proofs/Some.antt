@@ -6,7 +6,7 @@ use Rattle.std.proofs.lemmas.Bool.{cases_lt}
 use Rattle.std.proofs.lemmas.Fmt.{decimal_is_IsNumeral}
 use Rattle.pict_syntax.specs.declared.limits.TheConstants.{FUEL_LIMIT}
 use Rattle.pict_total.proofs.Choices.{same_or_not, same_text_or_not}
-use Rattle.pict_words.specs.Words.{Options, Command, Run, Trace, Check, Code, Load, Pick, Picked, Replay, AsksToLoad, HasShape, HasNoShape, IsFileWord, default_fuel}
+use Rattle.pict_words.specs.Words.{Options, Command, Run, Trace, Check, Code, Load, Pick, Picked, Replay, Build, Exec, AsksToLoad, HasShape, HasNoShape, IsFileWord, default_fuel}
 use Rattle.pict_words.specs.Asked.{Found, IsAsked, HasWord, TakesNoSeed, FoundSeed, IsSeeded, HasSeedWord, TakesSeed, unseeded, seed_in}
 use Rattle.pict_words.specs.Laws.{OneCommand}
 use Rattle.pict_words.proofs.Shapes.{at, two_asked, two_not_found, three_asked, three_not_found, four_asked, four_not_found, five_asked, five_not_found, not_found}
@@ -103,31 +103,55 @@ asked_or_not (a ∷ b ∷ c ∷ d ∷ e ∷ f ∷ more) = inr (not_found (a ∷ 
 abbrev ByWord : List ℕ → Bool → Options → Type 0
 ByWord word f o = ((command : Command) × HasWord word f o command) ⊎ ((command : Command) → HasWord word f o command → ⊥)
 
-no_word : (word : List ℕ) (f : Bool) (o : Options) → word ≢ codes "run" → word ≢ codes "trace" → (f ≡ false → word ≢ codes "check") → (f ≡ false → word ≢ codes "code") → (command : Command) → HasWord word f o command → ⊥
-no_word word f o no_run no_trace no_check no_code (Run p) h = no_run h.0
-no_word word f o no_run no_trace no_check no_code (Trace p) h = no_trace h.0
-no_word word f o no_run no_trace no_check no_code (Check p) h = no_check h.2 h.0
-no_word word f o no_run no_trace no_check no_code (Code p) h = no_code h.2 h.0
-no_word word f o no_run no_trace no_check no_code (Load n) h = h
-no_word word f o no_run no_trace no_check no_code (Pick n p) h = h
-no_word word f o no_run no_trace no_check no_code (Picked n p) h = h
-no_word word f o no_run no_trace no_check no_code (Replay p trace) h = h
+-- the word is that of no command
+record IsOther (word : List ℕ) (f : Bool) (o : Options) : Type 0 where
+  pub run : word ≢ codes "run"
+  pub trace : word ≢ codes "trace"
+  pub exec : o.bare ≡ false → word ≢ codes "exec"
+  pub check : f ≡ false → word ≢ codes "check"
+  pub code : f ≡ false → word ≢ codes "code"
+  pub build : f ≡ false → word ≢ codes "build"
 
--- the fuel is written only where the command runs a program
-unrun : (word : List ℕ) (f : Bool) (o : Options) → word ≢ codes "run" → word ≢ codes "trace" → ByWord word f o
-unrun word true o no_run no_trace = inr (no_word word true o no_run no_trace (λ e. cc) (λ e. cc))
-unrun word false o no_run no_trace = elim (same_text_or_not word (codes "check")) [
+no_word : (word : List ℕ) (f : Bool) (o : Options) → IsOther word f o → (command : Command) → HasWord word f o command → ⊥
+no_word word f o other (Run p) h = other.run h.0
+no_word word f o other (Trace p) h = other.trace h.0
+no_word word f o other (Check p) h = other.check h.2 h.0
+no_word word f o other (Code p) h = other.code h.2 h.0
+no_word word f o other (Load n) h = h
+no_word word f o other (Pick n p) h = h
+no_word word f o other (Picked n p) h = h
+no_word word f o other (Replay p trace) h = h
+no_word word f o other (Build p) h = other.build h.2 h.0
+no_word word f o other (Exec fuel object) h = other.exec h.1 h.0
+
+-- the fuel is written only where the command runs something
+unrun : (word : List ℕ) (f : Bool) (o : Options) → word ≢ codes "run" → word ≢ codes "trace" → (o.bare ≡ false → word ≢ codes "exec") → ByWord word f o
+unrun word true o no_run no_trace no_exec =
+    inr (no_word word true o (record { run = no_run; trace = no_trace; exec = no_exec; check = λ e. cc; code = λ e. cc; build = λ e. cc }))
+unrun word false o no_run no_trace no_exec = elim (same_text_or_not word (codes "check")) [
   | inl e ↦ inl (Check o, (e, refl, refl))
   | inr no_check ↦ elim (same_text_or_not word (codes "code")) [
     | inl e ↦ inl (Code o, (e, refl, refl))
-    | inr no_code ↦ inr (no_word word false o no_run no_trace (λ e. no_check) (λ e. no_code))
+    | inr no_code ↦ elim (same_text_or_not word (codes "build")) [
+      | inl e ↦ inl (Build o, (e, refl, refl))
+      | inr no_build ↦
+          inr (no_word word false o (record { run = no_run; trace = no_trace; exec = no_exec; check = λ e. no_check; code = λ e. no_code; build = λ e. no_build }))
+    ]
   ]
+]
+
+-- an object stands alone, and `--bare` isn't written
+executes : (word : List ℕ) (f bare : Bool) (o : Options) → o.bare ≡ bare → word ≢ codes "run" → word ≢ codes "trace" → ByWord word f o
+executes word f true o alone no_run no_trace = unrun word f o no_run no_trace (λ e. let x = sym alone ∙ e in cc)
+executes word f false o alone no_run no_trace = elim (same_text_or_not word (codes "exec")) [
+  | inl e ↦ inl (Exec o.fuel o.file, (e, alone, refl, refl))
+  | inr no_exec ↦ unrun word f o no_run no_trace (λ e. no_exec)
 ]
 
 by_word : (word : List ℕ) (f : Bool) (o : Options) → ByWord word f o
 by_word word f o = elim (same_text_or_not word (codes "run")) [
   | inl e ↦ inl (Run o, (e, refl))
-  | inr no_run ↦ elim (same_text_or_not word (codes "trace")) [ inl e ↦ inl (Trace o, (e, refl)) | inr no_trace ↦ unrun word f o no_run no_trace ]
+  | inr no_run ↦ elim (same_text_or_not word (codes "trace")) [ inl e ↦ inl (Trace o, (e, refl)) | inr no_trace ↦ executes word f o.bare o refl no_run no_trace ]
 ]
 
 abbrev ByFile : List (List ℕ) → Type 0

@@ -2,7 +2,7 @@
 use Rattle.std.specs.Prelude.{◌≡◌, ℕ, ◌≤◌, ◌<◌, ◌^◌, Bool, false, List, [], ◌∷◌, Option, is_some, codes}
 use Rattle.std.specs.Fmt.{decimal}
 use Rattle.pict_syntax.specs.declared.limits.TheConstants.{FUEL_LIMIT}
-use Rattle.pict_words.specs.Words.{Options, Command, Run, Trace, Check, Code, Load, Pick, Picked, Replay, default_fuel, IsFileWord, AsksFor, AsksWithSeed}
+use Rattle.pict_words.specs.Words.{Options, Command, Run, Trace, Check, Code, Load, Pick, Picked, Replay, Build, Exec, default_fuel, IsFileWord, AsksFor, AsksWithSeed}
 
 -- the words ask for some options, with this word for a command
 abbrev pub Found : List ℕ → List (List ℕ) → Type 0
@@ -26,6 +26,8 @@ HasWord word fueled options (Load n) = ⊥
 HasWord word fueled options (Pick n o) = ⊥
 HasWord word fueled options (Picked n o) = ⊥
 HasWord word fueled options (Replay o trace) = ⊥
+HasWord word fueled options (Build o) = (word ≡ codes "build") × (o ≡ options) × (fueled ≡ false)
+HasWord word fueled options (Exec fuel object) = (word ≡ codes "exec") × (options.bare ≡ false) × (fuel ≡ options.fuel) × (object ≡ options.file)
 
 -- the command is over a file alone, and takes no seed
 abbrev pub TakesNoSeed : Command → Type 0

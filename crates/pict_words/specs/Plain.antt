@@ -4,7 +4,7 @@ use Rattle.std.specs.Borrow.{Bor}
 use Rattle.pict_words.specs.Words as words
 use Rattle.pict_words.specs.declared.words.Options.{Options}
 use Rattle.pict_words.specs.declared.words.Command.{Command}
-use Rattle.pict_words.specs.declared.words.Command.TheVariants.{Run, Trace, Check, Code, Load, Pick, Picked, Replay}
+use Rattle.pict_words.specs.declared.words.Command.TheVariants.{Run, Trace, Check, Code, Load, Pick, Picked, Replay, Build, Exec}
 
 -- borrowed texts as the texts themselves
 abbrev pub texts_of : List (Bor (List ℕ)) → List (List ℕ)
@@ -22,3 +22,5 @@ plain_command (Load n) = words.Load n
 plain_command (Pick seed options) = words.Pick seed (plain_options options)
 plain_command (Picked seed options) = words.Picked seed (plain_options options)
 plain_command (Replay options trace) = words.Replay (plain_options options) trace.now
+plain_command (Build options) = words.Build (plain_options options)
+plain_command (Exec fuel object) = words.Exec fuel object.now

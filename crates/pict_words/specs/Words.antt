@@ -19,6 +19,8 @@ pub data Command : Type 0 where
   Pick : ℕ → Options → Command
   Picked : ℕ → Options → Command
   Replay : Options → List ℕ → Command
+  Build : Options → Command
+  Exec : ℕ → List ℕ → Command
 
 -- the fuel without `--fuel`
 abbrev pub default_fuel : ℕ
@@ -66,6 +68,10 @@ pub record AsksToReplay (options : Options) (trace : List ℕ) (words : List (Li
   pub file : IsFileWord options.file
   pub second : IsFileWord trace
 
+-- `exec [--fuel N] OBJECT`, with this fuel, where it is written. An object is a file, which nothing stands before
+abbrev pub AsksToExec : Option ℕ → ℕ → List ℕ → List (List ℕ) → Type 0
+AsksToExec written fuel object = AsksFor (codes "exec") written (record { bare = false; fuel = fuel; file = object })
+
 -- the words have the shape of this command. Its fuel may be written where it runs a file
 abbrev pub HasShape : List (List ℕ) → Command → Type 0
 HasShape words (Run options) = (written : Option ℕ) × AsksFor (codes "run") written options words
@@ -76,6 +82,8 @@ HasShape words (Load n) = AsksToLoad n words
 HasShape words (Pick seed options) = (written : Option ℕ) × AsksWithSeed (codes "pick") written seed options words
 HasShape words (Picked seed options) = (written : Option ℕ) × AsksWithSeed (codes "picked") written seed options words
 HasShape words (Replay options trace) = AsksToReplay options trace words
+HasShape words (Build options) = AsksFor (codes "build") None options words
+HasShape words (Exec fuel object) = (written : Option ℕ) × AsksToExec written fuel object words
 
 -- the words have no listed shape
 abbrev pub HasNoShape : List (List ℕ) → Type 0
@@ -91,3 +99,5 @@ fuel_of (Load n) = default_fuel
 fuel_of (Pick seed options) = options.fuel
 fuel_of (Picked seed options) = options.fuel
 fuel_of (Replay options trace) = options.fuel
+fuel_of (Build options) = options.fuel
+fuel_of (Exec fuel object) = fuel

@@ -41,6 +41,10 @@ pub enum Command<'a> {
     Picked(u64, Options<'a>),
     /// `replay`: checks a program, and says whether a replay file, whose name is the second one, agrees with it.
     Replay(Options<'a>, &'a str),
+    /// `build`: checks a program, and writes its core process as an object.
+    Build(Options<'a>),
+    /// `exec`: runs the object of this name for up to so many steps, and writes what it prints.
+    Exec(u64, &'a str),
 }
 
 /// The words have no listed shape.
@@ -122,6 +126,10 @@ fn command_of<'a>(asked: Asked<'a>) -> Option<Command<'a>>
         "trace" => Some(Command::Trace(asked.options)),
         "check" if !asked.fueled => Some(Command::Check(asked.options)),
         "code" if !asked.fueled => Some(Command::Code(asked.options)),
+        "build" if !asked.fueled => Some(Command::Build(asked.options)),
+        "exec" if !asked.options.bare => {
+            Some(Command::Exec(asked.options.fuel, asked.options.file))
+        }
         _ => None,
     }
 }

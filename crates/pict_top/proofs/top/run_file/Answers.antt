@@ -2,6 +2,7 @@ use Rattle.std.proofs.Common.{◌≡◌, Err, ap, refl, sym, ◌∙◌, subst, i
 use Rattle.pict_outside.proofs.Gaining.{keeps_same, appends_nothing}
 use Rattle.pict_words.specs.Plain.{plain_command}
 use Rattle.pict_front.specs.Answers.{plain_front}
+use Rattle.pict_front.proofs.ObjectCores.{accepted_has_object}
 use Rattle.pict_gather.specs.Fetching.{MayGive}
 use Rattle.pict_gather.specs.Entry.{lent}
 use Rattle.pict_gather.specs.Phases.{accepts, refuses}
@@ -14,7 +15,7 @@ use Rattle.pict_top.proofs.Each.{accepted_each, each_or_missed}
 use Rattle.pict_top.proofs.Short.{front_short}
 use Rattle.pict_top.proofs.Few.{front_few}
 use Rattle.pict_top.proofs.Meeting.{reported, faulted, weaken, weaken_else, rose_earlier}
-use Rattle.pict_top.proofs.Files.{name, owes_absent, owes_refusal, owes_work, owes_replay}
+use Rattle.pict_top.proofs.Files.{name, owes_absent, owes_refusal, owes_made, owes_replay}
 use Rattle.pict_top.proofs.top.run_file.Goals as goal
 
 -- ---- there is no such file
@@ -75,8 +76,12 @@ returns-in-Err-Named-clause-each g c =
 
 -- ---- the program is accepted
 
-pub run_ready-requires-clause-short : goal.run_ready-requires-clause-short
-run_ready-requires-clause-short g c =
+pub work_with-requires-clause-object : goal.work_with-requires-clause-object
+work_with-requires-clause-object g c =
+    accepted_has_object _ (lent c.prelude_of.result) _ (record { sources = _; front = plain_front c.in-Ok.front }) c.in-Ok.ensures.answer
+
+pub work_with-requires-clause-short : goal.work_with-requires-clause-short
+work_with-requires-clause-short g c =
     front_short (MayGive _) c.prelude_of.result _ (accepts (record { sources = _; front = plain_front c.in-Ok.front })) c.prelude_of.ensures.short c.in-Ok.ensures.answer
 
 pub returns-clause-meets : goal.returns-clause-meets
@@ -84,14 +89,14 @@ returns-clause-meets g c =
     let command = plain_command c.args.command in
     let stands = rw (c.prelude_of.ensures.is, c.name_of.ensures) at c.in-Ok.ensures.answer in
     let takes = sym c.trace_of.ensures ∙ ap lent c.in-None.is in
-    weaken _ _ _ _ _ _ _ _ _ (owes_work (MayGive _) command _ takes stands) (λ no. absurd no) c.run_ready.ensures.meets
+    weaken _ _ _ _ _ _ _ _ _ (owes_made (MayGive _) command _ takes stands) (λ no. absurd no) c.work_with.ensures.meets
 
 pub returns-clause-each : goal.returns-clause-each
 returns-clause-each g c =
     let command = plain_command c.args.command in
     let stands = rw (c.prelude_of.ensures.is, c.name_of.ensures) at c.in-Ok.ensures.answer in
     let takes = sym c.trace_of.ensures ∙ ap lent c.in-None.is in
-    inl (weaken _ _ _ _ _ _ _ _ _ (owes_work (MayGiveText _) command _ takes (accepted_each _ _ _ _ stands)) (λ no. absurd no) c.run_ready.ensures.meets)
+    inl (weaken _ _ _ _ _ _ _ _ _ (owes_made (MayGiveText _) command _ takes (accepted_each _ _ _ _ stands)) (λ no. absurd no) c.work_with.ensures.meets)
 
 -- ---- a replay file over it
 
