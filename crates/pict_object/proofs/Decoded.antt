@@ -29,7 +29,7 @@ use Rattle.pict_object.proofs.Found.{AreFor}
 use Rattle.pict_object.proofs.Standing.{IsWholeRead, whole_read}
 use Rattle.pict_object.proofs.Again.{relabelled, whole_again}
 
-same_some : {A : Type 0} (x y : A) → Some x ≡ Some y → x ≡ y
+pub same_some : {A : Type 0} (x y : A) → Some x ≡ Some y → x ≡ y
 same_some x y e = cc
 
 -- ---- lists
@@ -79,7 +79,7 @@ texts_before before (text ∷ table) h zero (suc k) l m = after_it text (get_or 
 texts_before before (text ∷ table) h (suc j) zero l m = absurd (omega (arith, l))
 texts_before before (text ∷ table) h (suc j) (suc k) l m = texts_before text table h.1 j k (omega (arith, l)) (omega (arith, m))
 
-text_at_number : (table : List (List ℕ)) (text : List ℕ) → IsIn text table → get_or table (number_of table text) [] ≡ text
+pub text_at_number : (table : List (List ℕ)) (text : List ℕ) → IsIn text table → get_or table (number_of table text) [] ≡ text
 text_at_number table text h = get_or_from_slice_get table (number_of table text) text [] (stands_there table text h)
 
 number_at_place : (table : List (List ℕ)) → TextsRise [] table → (k : ℕ) → k < length table → number_of table (get_or table k []) ≡ k
@@ -186,7 +186,7 @@ module _ (d : Dress) where
 -- ---- what is read of an object
 
 -- what holds of the texts of labels holds of one that is among them
-found : (P : List ℕ → Type 0) (names : List (List ℕ)) (text : List ℕ) (labels : List ℕ) → AllByRecursion (λ label. P (text_of names label)) labels → list_any (λ label. bytes_eq text (text_of names label)) labels ≡ true → P text
+pub found : (P : List ℕ → Type 0) (names : List (List ℕ)) (text : List ℕ) (labels : List ℕ) → AllByRecursion (λ label. P (text_of names label)) labels → list_any (λ label. bytes_eq text (text_of names label)) labels ≡ true → P text
 found P names text [] h k = absurd cc
 found P names text (l ∷ labels) h k = go (bytes_eq text (text_of names l)) (list_any (λ label. bytes_eq text (text_of names label)) labels) refl k (found P names text labels h.1)
   where
@@ -354,12 +354,12 @@ gained old new table bytes rest count fits head used e =
 
 -- ---- no object
 
-heads_once : (bytes : List ℕ) (t u : List (List ℕ)) (r s : List ℕ) → IsHead bytes t r → IsHead bytes u s → (t ≡ u) × (r ≡ s)
+pub heads_once : (bytes : List ℕ) (t u : List (List ℕ)) (r s : List ℕ) → IsHead bytes t r → IsHead bytes u s → (t ≡ u) × (r ≡ s)
 heads_once bytes t u r s f g =
     let n = count_once (length t) (length u) (flat_map text_bytes t ++ r) (flat_map text_bytes u ++ s) f.few g.few (ap (drop 5) (sym f.is ∙ g.is)) in
     tables_once t u r s n.0 f.short g.short n.1
 
-head_of : (names : List (List ℕ)) (bytes : List ℕ) (p : Process) (f : IsObject names bytes p) → IsHead bytes f.table (process_bytes (place_in names f.table) p)
+pub head_of : (names : List (List ℕ)) (bytes : List ℕ) (p : Process) (f : IsObject names bytes p) → IsHead bytes f.table (process_bytes (place_in names f.table) p)
 head_of names bytes p f = record {
   labels = label_texts [] f.table f.labels.rise (λ text h. found IsLabelText names text (labels_of p) f.core.identifiers ((f.labels.exactly text).0 h));
   few = f.fits.few;
@@ -368,7 +368,7 @@ head_of names bytes p f = record {
 }
 
 -- texts of a table that rises have places that go up
-places_up : (table : List (List ℕ)) → TextsRise [] table → (a b : List ℕ) → IsIn a table → IsIn b table → Before a b → number_of table a < number_of table b
+pub places_up : (table : List (List ℕ)) → TextsRise [] table → (a b : List ℕ) → IsIn a table → IsIn b table → Before a b → number_of table a < number_of table b
 places_up table up a b h k less = elim (cases_lt (number_of table a) (number_of table b)) [
   | inl lower ↦ lower
   | inr upper ↦ absurd (elim (cases_lt (number_of table b) (number_of table a)) [

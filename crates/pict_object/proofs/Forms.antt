@@ -1,11 +1,13 @@
 -- What is read behind a tag.
-use Rattle.std.proofs.Common.{◌≡◌, ◌≢◌, ℕ, zero, suc, ◌-◌, ◌<◌, ◌≤◌, cond, eqb, List, [], ◌∷◌, length, take, drop, get_or, Option, Some, None, unwrap_or, refl, sym, ap, ◌∙◌, subst, arith}
+use Rattle.std.proofs.Common.{◌≡◌, ◌≢◌, ℕ, zero, suc, ◌-◌, ◌<◌, ◌≤◌, Bool, cond, eqb, List, [], ◌∷◌, length, take, drop, get_or, Option, Some, None, unwrap_or, refl, sym, ap, ◌∙◌, subst, arith}
 use Rattle.std.proofs.lemmas.Bool.{ne_eqb}
 use Rattle.pict_syntax.specs.declared.name.Name.{Name}
-use Rattle.pict_core.specs.Term.{Pat, Bind, Any}
+use Rattle.pict_syntax.specs.declared.limits.TheConstants.{NESTING_LIMIT}
+use Rattle.pict_core.specs.Term.{Val, Pat, Bind, Any, Process, In}
+use Rattle.pict_core.specs.Closed.{binds}
 use Rattle.pict_object.specs.declared.error.DecodeError.{DecodeError}
 use Rattle.pict_object.specs.declared.error.DecodeError.TheVariants as error
-use Rattle.pict_object.specs.Reading.{◌>>=◌, Refuses, byte_at, nothing_at, simple_at, record_at, tagged_value_at, value_at, record_pattern_at, tagged_pattern_at, pattern_at, tagged_at, node_at, process_at}
+use Rattle.pict_object.specs.Reading.{◌>>=◌, Refuses, byte_at, nothing_at, simple_at, record_at, tagged_value_at, value_at, record_pattern_at, tagged_pattern_at, pattern_at, more, receiver_at, in_at, tagged_at, node_at, process_at}
 
 -- ---- steps of a reading
 
@@ -119,6 +121,32 @@ process_is_tagged labels zero bound tag rest n = absurd (omega (arith, n))
 process_is_tagged labels (suc left) bound tag rest n =
     let less : suc left - 1 ≡ left = omega arith in
     ap (λ k. tagged_at labels (process_at labels k) bound tag rest) (sym less)
+
+read_both : {A B C D : Type 0} (o : Option A) (f : A → Option B) (both : A → B → C) (g : C → Option D) → ((o >>= λ x. f x >>= λ y. Some (both x y)) >>= g) ≡ (o >>= λ x. f x >>= λ y. g (both x y))
+read_both None f both g = refl
+read_both {B = B} (Some x) f both g = last (f x)
+  where
+    last : (o : Option B) → ((o >>= λ y. Some (both x y)) >>= g) ≡ (o >>= λ y. g (both x y))
+    last None = refl
+    last (Some y) = refl
+
+-- the body of an input, behind what is before it
+abbrev body_at : Bool → (ℕ → List ℕ → Option (Process × List ℕ)) → ℕ → (Val × Pat) × List ℕ → Option (Process × List ℕ)
+body_at replicated part bound x = part (more bound (binds x.0.1)) x.1 >>= λ body. Some (In x.0.0 replicated x.0.1 body.0, body.1)
+
+module _ (labels : List Name) (replicated : Bool) (part : ℕ → List ℕ → Option (Process × List ℕ)) (bound : ℕ) (bytes : List ℕ) where
+  in_is : (receiver_at labels bound bytes >>= body_at replicated part bound) ≡ in_at labels replicated part bound bytes
+  unfolding receiver_at in_at
+  in_is =
+      read_both (value_at labels bound NESTING_LIMIT bytes) (λ chan. pattern_at labels NESTING_LIMIT chan.1) (λ chan pattern. ((chan.0, pattern.0), pattern.1)) (body_at replicated part bound)
+
+  pub receiver_ends : (e : DecodeError) → Refuses e (receiver_at labels bound bytes) → Refuses e (in_at labels replicated part bound bytes)
+  receiver_ends e h = subst (Refuses e) in_is (refuses_first e (receiver_at labels bound bytes) (body_at replicated part bound) h)
+
+  pub receiver_goes_on : (chan : Val) (pattern : Pat) (mid : List ℕ) (inner : ℕ) → receiver_at labels bound bytes ≡ Some ((chan, pattern), mid) → inner ≡ more bound (binds pattern)
+      → (part inner mid >>= λ body. Some (In chan replicated pattern body.0, body.1)) ≡ in_at labels replicated part bound bytes
+  receiver_goes_on chan pattern mid inner h k =
+      ap (λ n. part n mid >>= λ body. Some (In chan replicated pattern body.0, body.1)) k ∙ ap (λ z. z >>= body_at replicated part bound) (sym h) ∙ in_is
 
 -- ---- the first byte
 

@@ -108,6 +108,10 @@ WithoutPlaces = (p : Process) → dressed undressed p ≡ bare p
 abbrev pub renumbered : List (List ℕ) → List (List ℕ) → ℕ → ℕ
 renumbered names others label = if list_any (bytes_eq (text_of names label)) others then number_of others (text_of names label) else length others + label
 
+-- labels have the numbers of their texts in another list of names, and each place is nowhere
+abbrev pub anew : List (List ℕ) → List (List ℕ) → Dress
+anew names others = record { label = renumbered names others; place = λ at. nowhere }
+
 -- labels of which each has a text of its own stay apart
 abbrev pub LabelsExtend : Type 0
 LabelsExtend =

@@ -8,7 +8,8 @@ use Rattle.pict_syntax.specs.declared.primitive.Primitive.{Primitive}
 use Rattle.pict_syntax.specs.declared.primitive.Primitive.TheVariants as primitive
 use Rattle.pict_core.specs.Term.{Val, Var, Int, Char, Boolean, Text, PrimitiveVal, Record, Pat, Bind, Any, RecordPat, Process, Zero, Par, New, Out, In, If}
 use Rattle.pict_core.specs.Closed.{binds}
-use Rattle.pict_core.specs.Plain.{vals_of, labelled_of, pats_of, labelled_pats_of}
+use Rattle.pict_core.specs.declared.process.Part.{Part}
+use Rattle.pict_core.specs.Plain.{vals_of, labelled_of, pats_of, labelled_pats_of, plain_core, core_of}
 use Rattle.pict_object.specs.declared.error.DecodeError.{DecodeError}
 use Rattle.pict_object.specs.declared.error.DecodeError.TheVariants as error
 use Rattle.pict_object.specs.Objects.{nowhere}
@@ -18,6 +19,10 @@ abbrev pub ◌>>=◌ : {A B : Type 0} → Option A → (A → Option B) → Opti
 None >>= f = None
 (Some x) >>= f = f x
 
+-- the same, for clauses
+abbrev pub and_then : {A B : Type 0} → Option A → (A → Option B) → Option B
+and_then read f = read >>= f
+
 -- what a function returned, seen by view, is what is read, unless memory ran out
 abbrev pub Refuses : {Y : Type 0} → DecodeError → Option Y → Type 0
 Refuses error.NotObject read = read ≡ None
@@ -26,6 +31,10 @@ Refuses error.Memory read = Unit {0}
 abbrev pub Gives : {X Y : Type 0} → (X → Y) → Result X DecodeError → Option Y → Type 0
 Gives view (Ok x) read = read ≡ Some (view x)
 Gives view (Err e) read = Refuses e read
+
+-- the process that a part holds, and what is behind it
+abbrev pub part_and : List ℕ → Part → Process × List ℕ
+part_and rest part = (plain_core (core_of part), rest)
 
 -- ---- numbers and bytes
 
@@ -190,6 +199,13 @@ out_at labels bound bytes = do
   chan ← value_at labels bound NESTING_LIMIT bytes
   message ← value_at labels bound NESTING_LIMIT chan.1
   Some (Out chan.0 message.0 nowhere, message.1)
+
+-- a channel and a pattern
+unfoldable pub receiver_at : List Name → ℕ → List ℕ → Option ((Val × Pat) × List ℕ)
+receiver_at labels bound bytes = do
+  chan ← value_at labels bound NESTING_LIMIT bytes
+  pattern ← pattern_at labels NESTING_LIMIT chan.1
+  Some ((chan.0, pattern.0), pattern.1)
 
 unfoldable pub in_at : List Name → Bool → (ℕ → List ℕ → Option (Process × List ℕ)) → ℕ → List ℕ → Option (Process × List ℕ)
 in_at labels replicated part bound bytes = do

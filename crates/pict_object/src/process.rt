@@ -1,12 +1,13 @@
-// Processes read from the bytes of an object. The helpers that make a part unpack no results, and each form has a function of
-// its own: so frames are small, and a deep process takes little stack.
+// Processes read from the bytes of an object. A reading moves on the bytes that it was lent, what stands before the parts of a
+// process is read into boxes, each form has a function of its own, and the helpers that make a process unpack its last part: so
+// frames are small, and a deep process takes little stack.
 
 ghost use Rattle.pict_core.specs.Plain.{plain_core, plain_val, plain_pat, core_of, GivesPart};
-ghost use Rattle.std.specs.Prelude.{◌≡◌};
+ghost use Rattle.std.specs.Prelude.{◌≡◌, ℕ, List, Option, Some};
 ghost use Rattle.pict_core.specs.Closed.{binds};
-ghost use Rattle.pict_core.specs.Term.{Zero, Par, New, Out, In, If};
+ghost use Rattle.pict_core.specs.Term.{Val, Pat, Process, Zero, Par, New, Out, In, If};
 ghost use Rattle.pict_object.specs.Objects.{nowhere};
-ghost use Rattle.pict_object.specs.Reading.{Gives, more, par_at, new_at, out_at, in_at, if_at, tagged_at, process_at, whole_at};
+ghost use Rattle.pict_object.specs.Reading.{and_then, part_and, Gives, more, value_at, receiver_at, par_at, new_at, out_at, in_at, if_at, tagged_at, process_at, whole_at};
 
 use crate::error::DecodeError;
 use crate::pattern::{read_pattern, variables};
@@ -15,22 +16,34 @@ use pict_core::{Core, CorePat, CoreVal, Part};
 use pict_syntax::{DEPTH_LIMIT, NESTING_LIMIT, Name, Span};
 use std::alloc::{AllocError, Global};
 
-fn zero(alloc: Global) -> Result<Part, AllocError>
-    ensures { GivesPart result Zero }
-{
-    Part::new(alloc, Core::Zero)
+// What an input has before its body.
+#[derive(Drop)]
+struct Receiver {
+    chan: CoreVal,
+    pattern: CorePat,
 }
 
-fn par(alloc: Global, left: Part, right: Part) -> Result<Part, AllocError>
-    ensures { GivesPart result (Par (plain_core (core_of left)) (plain_core (core_of right))) }
+#[inline(never)]
+fn zero(alloc: Global) -> Result<Part, DecodeError>
+    ensures { (rest : List ℕ) → Gives (part_and rest) result (Some (Zero, rest)) }
 {
-    Part::new(alloc, Core::Par(left, right))
+    Ok(Part::new(alloc, Core::Zero)?)
 }
 
-fn new(alloc: Global, body: Part) -> Result<Part, AllocError>
-    ensures { GivesPart result (New (plain_core (core_of body))) }
+#[inline(never)]
+fn par(alloc: Global, left: Part, right: Result<Part, DecodeError>) -> Result<Part, DecodeError>
+    ensures { (read : Option (Process × List ℕ)) (rest : List ℕ) → Gives (part_and rest) right read
+        → Gives (part_and rest) result (and_then read (λ right. Some (Par (plain_core (core_of left)) right.0, right.1))) }
 {
-    Part::new(alloc, Core::New(body))
+    Ok(Part::new(alloc, Core::Par(left, right?))?)
+}
+
+#[inline(never)]
+fn new(alloc: Global, body: Result<Part, DecodeError>) -> Result<Part, DecodeError>
+    ensures { (read : Option (Process × List ℕ)) (rest : List ℕ) → Gives (part_and rest) body read
+        → Gives (part_and rest) result (and_then read (λ body. Some (New body.0, body.1))) }
+{
+    Ok(Part::new(alloc, Core::New(body?))?)
 }
 
 fn output(alloc: Global, chan: CoreVal, message: CoreVal) -> Result<Part, AllocError>
@@ -44,58 +57,111 @@ fn output(alloc: Global, chan: CoreVal, message: CoreVal) -> Result<Part, AllocE
     Part::new(alloc, Core::Out { chan, message, at })
 }
 
+#[inline(never)]
 fn input(
     alloc: Global,
-    chan: CoreVal,
     replicated: bool,
-    pattern: CorePat,
-    body: Part,
-) -> Result<Part, AllocError>
-    ensures { GivesPart result (In (plain_val chan) replicated (plain_pat pattern) (plain_core (core_of body))) }
+    receiver: Box<Receiver>,
+    body: Result<Part, DecodeError>,
+) -> Result<Part, DecodeError>
+    ensures { (read : Option (Process × List ℕ)) (rest : List ℕ) → Gives (part_and rest) body read
+        → Gives (part_and rest) result
+        (and_then read (λ body. Some (In (plain_val receiver.value.chan) replicated (plain_pat receiver.value.pattern) body.0, body.1))) }
 {
-    Part::new(
-        alloc,
-        Core::In {
-            chan,
-            replicated,
-            pattern,
-            body,
-        },
-    )
+    let body = body?;
+    let Receiver { chan, pattern } = Box::into_inner(receiver);
+    let process = Core::In {
+        chan,
+        replicated,
+        pattern,
+        body,
+    };
+    Ok(Part::new(alloc, process)?)
 }
 
-fn conditional(alloc: Global, test: CoreVal, yes: Part, no: Part) -> Result<Part, AllocError>
-    ensures { GivesPart result (If (plain_val test) (plain_core (core_of yes)) (plain_core (core_of no))) }
+#[inline(never)]
+fn conditional(
+    alloc: Global,
+    test: Box<CoreVal>,
+    yes: Part,
+    no: Result<Part, DecodeError>,
+) -> Result<Part, DecodeError>
+    ensures { (read : Option (Process × List ℕ)) (rest : List ℕ) → Gives (part_and rest) no read
+        → Gives (part_and rest) result
+        (and_then read (λ second. Some (If (plain_val test.value) (plain_core (core_of yes)) second.0, second.1))) }
 {
-    Part::new(alloc, Core::If { test, yes, no })
+    let no = no?;
+    let process = Core::If {
+        test: Box::into_inner(test),
+        yes,
+        no,
+    };
+    Ok(Part::new(alloc, process)?)
 }
 
-// How many variables there are behind a pattern, where there were so many before it. Held at the greatest `u64`.
-fn inside(bound: u64, pattern: &CorePat) -> u64
-    ensures { result ≡ more bound (binds (plain_pat pattern.now)) }
+// How many variables there are in the body of an input, where there were so many before it. Held at the greatest `u64`.
+#[inline(never)]
+fn inside(bound: u64, receiver: &Receiver) -> u64
+    ensures { result ≡ more bound (binds (plain_pat receiver.now.pattern)) }
 {
-    bound.saturating_add(variables(pattern))
+    bound.saturating_add(variables(&receiver.pattern))
 }
 
-/// The process at the front, of at most the depth `left` and under so many variables, and what is behind it. No place has a
-/// text.
+// The value at the front, under so many variables; `rest` is then what is behind it.
+#[inline(never)]
+fn take_value<'a>(
+    alloc: Global,
+    rest: &mut &'a [u8],
+    labels: &[Name],
+    bound: u64,
+) -> Result<Box<CoreVal>, DecodeError>
+    ensures { Gives {Y = Val × List ℕ} (λ x. (plain_val x.value, rest.new.now)) result (value_at labels.now bound NESTING_LIMIT rest.old.now) }
+{
+    let (value, behind) = read_value(alloc, *rest, labels, bound, NESTING_LIMIT)?;
+    *rest = behind;
+    Ok(Box::new(alloc, value)?)
+}
+
+// The channel and the pattern at the front, under so many variables; `rest` is then what is behind them.
+#[inline(never)]
+#[tactic(auto, unfolding(crate::specs::Reading::receiver_at))]
+fn take_receiver<'a>(
+    alloc: Global,
+    rest: &mut &'a [u8],
+    labels: &[Name],
+    bound: u64,
+) -> Result<Box<Receiver>, DecodeError>
+    ensures { Gives {Y = (Val × Pat) × List ℕ} (λ x. ((plain_val x.value.chan, plain_pat x.value.pattern), rest.new.now)) result (receiver_at labels.now bound rest.old.now) }
+{
+    let (chan, behind) = read_value(alloc, *rest, labels, bound, NESTING_LIMIT)?;
+    let (pattern, behind) = read_pattern(alloc, behind, labels, NESTING_LIMIT)?;
+    *rest = behind;
+    Ok(Box::new(alloc, Receiver { chan, pattern })?)
+}
+
+/// The process at the front, of at most the depth `left` and under so many variables; `rest` is then what is behind it. No place
+/// has a text.
 #[cycle(read_part)]
 #[tactic(auto, using(crate::proofs::Forms::process_too_deep))]
 pub(crate) fn read_part<'a>(
     alloc: Global,
-    bytes: &'a [u8],
+    rest: &mut &'a [u8],
     labels: &[Name],
     bound: u64,
     left: u64,
-) -> Result<(Part, &'a [u8]), DecodeError>
-    ensures { Gives (λ x. (plain_core (core_of x.0), x.1.now)) result (process_at labels.now left bound bytes.now) }
+) -> Result<Part, DecodeError>
+    ensures { Gives (part_and rest.new.now) result (process_at labels.now left bound rest.old.now) }
 {
     if left == 0 {
         return Err(DecodeError::NotObject);
     }
+    let bytes: &'a [u8] = *rest;
     match bytes {
         [] => Err(DecodeError::NotObject),
-        [tag, rest @ ..] => read_tagged(alloc, *tag, rest, labels, bound, left - 1),
+        [tag, behind @ ..] => {
+            *rest = behind;
+            read_tagged(alloc, *tag, rest, labels, bound, left - 1)
+        }
     }
 }
 
@@ -105,103 +171,107 @@ pub(crate) fn read_part<'a>(
 fn read_tagged<'a>(
     alloc: Global,
     tag: u8,
-    bytes: &'a [u8],
+    rest: &mut &'a [u8],
     labels: &[Name],
     bound: u64,
     left: u64,
-) -> Result<(Part, &'a [u8]), DecodeError>
-    ensures { Gives (λ x. (plain_core (core_of x.0), x.1.now)) result (tagged_at labels.now (process_at labels.now left) bound tag bytes.now) }
+) -> Result<Part, DecodeError>
+    ensures { Gives (part_and rest.new.now) result (tagged_at labels.now (process_at labels.now left) bound tag rest.old.now) }
 {
     match tag {
-        0 => Ok((zero(alloc)?, bytes)),
-        1 => read_par(alloc, bytes, labels, bound, left),
-        2 => read_new(alloc, bytes, labels, bound, left),
-        3 => read_out(alloc, bytes, labels, bound),
-        4 => read_in(alloc, false, bytes, labels, bound, left),
-        5 => read_in(alloc, true, bytes, labels, bound, left),
-        6 => read_if(alloc, bytes, labels, bound, left),
+        0 => zero(alloc),
+        1 => read_par(alloc, rest, labels, bound, left),
+        2 => read_new(alloc, rest, labels, bound, left),
+        3 => read_out(alloc, rest, labels, bound),
+        4 => read_in(alloc, false, rest, labels, bound, left),
+        5 => read_in(alloc, true, rest, labels, bound, left),
+        6 => read_if(alloc, rest, labels, bound, left),
         _ => Err(DecodeError::NotObject),
     }
 }
 
 #[cycle(read_part)]
+#[inline(never)]
 #[tactic(auto, unfolding(crate::specs::Reading::par_at))]
 fn read_par<'a>(
     alloc: Global,
-    bytes: &'a [u8],
+    rest: &mut &'a [u8],
     labels: &[Name],
     bound: u64,
     left: u64,
-) -> Result<(Part, &'a [u8]), DecodeError>
-    ensures { Gives (λ x. (plain_core (core_of x.0), x.1.now)) result (par_at (process_at labels.now left) bound bytes.now) }
+) -> Result<Part, DecodeError>
+    ensures { Gives (part_and rest.new.now) result (par_at (process_at labels.now left) bound rest.old.now) }
 {
-    let (first, rest) = read_part(alloc, bytes, labels, bound, left)?;
-    let (second, rest) = read_part(alloc, rest, labels, bound, left)?;
-    Ok((par(alloc, first, second)?, rest))
+    let first = read_part(alloc, rest, labels, bound, left)?;
+    par(alloc, first, read_part(alloc, rest, labels, bound, left))
 }
 
 #[cycle(read_part)]
+#[inline(never)]
 #[tactic(auto, unfolding(crate::specs::Reading::new_at))]
 fn read_new<'a>(
     alloc: Global,
-    bytes: &'a [u8],
+    rest: &mut &'a [u8],
     labels: &[Name],
     bound: u64,
     left: u64,
-) -> Result<(Part, &'a [u8]), DecodeError>
-    ensures { Gives (λ x. (plain_core (core_of x.0), x.1.now)) result (new_at (process_at labels.now left) bound bytes.now) }
+) -> Result<Part, DecodeError>
+    ensures { Gives (part_and rest.new.now) result (new_at (process_at labels.now left) bound rest.old.now) }
 {
-    let (body, rest) = read_part(alloc, bytes, labels, bound.saturating_add(1), left)?;
-    Ok((new(alloc, body)?, rest))
+    let inner = bound.saturating_add(1);
+    new(alloc, read_part(alloc, rest, labels, inner, left))
 }
 
+#[inline(never)]
 #[tactic(auto, unfolding(crate::specs::Reading::out_at))]
 fn read_out<'a>(
     alloc: Global,
-    bytes: &'a [u8],
+    rest: &mut &'a [u8],
     labels: &[Name],
     bound: u64,
-) -> Result<(Part, &'a [u8]), DecodeError>
-    ensures { Gives (λ x. (plain_core (core_of x.0), x.1.now)) result (out_at labels.now bound bytes.now) }
+) -> Result<Part, DecodeError>
+    ensures { Gives (part_and rest.new.now) result (out_at labels.now bound rest.old.now) }
 {
-    let (chan, rest) = read_value(alloc, bytes, labels, bound, NESTING_LIMIT)?;
-    let (message, rest) = read_value(alloc, rest, labels, bound, NESTING_LIMIT)?;
-    Ok((output(alloc, chan, message)?, rest))
+    let (chan, behind) = read_value(alloc, *rest, labels, bound, NESTING_LIMIT)?;
+    let (message, behind) = read_value(alloc, behind, labels, bound, NESTING_LIMIT)?;
+    *rest = behind;
+    Ok(output(alloc, chan, message)?)
 }
 
 #[cycle(read_part)]
-#[tactic(auto, unfolding(crate::specs::Reading::in_at))]
+#[inline(never)]
 fn read_in<'a>(
     alloc: Global,
     replicated: bool,
-    bytes: &'a [u8],
+    rest: &mut &'a [u8],
     labels: &[Name],
     bound: u64,
     left: u64,
-) -> Result<(Part, &'a [u8]), DecodeError>
-    ensures { Gives (λ x. (plain_core (core_of x.0), x.1.now)) result (in_at labels.now replicated (process_at labels.now left) bound bytes.now) }
+) -> Result<Part, DecodeError>
+    ensures { Gives (part_and rest.new.now) result (in_at labels.now replicated (process_at labels.now left) bound rest.old.now) }
 {
-    let (chan, rest) = read_value(alloc, bytes, labels, bound, NESTING_LIMIT)?;
-    let (pattern, rest) = read_pattern(alloc, rest, labels, NESTING_LIMIT)?;
-    let (body, rest) = read_part(alloc, rest, labels, inside(bound, &pattern), left)?;
-    Ok((input(alloc, chan, replicated, pattern, body)?, rest))
+    let receiver = take_receiver(alloc, rest, labels, bound)?;
+    let inner = inside(bound, &receiver);
+    let body = read_part(alloc, rest, labels, inner, left);
+    input(alloc, replicated, receiver, body)
 }
 
 #[cycle(read_part)]
+#[inline(never)]
 #[tactic(auto, unfolding(crate::specs::Reading::if_at))]
 fn read_if<'a>(
     alloc: Global,
-    bytes: &'a [u8],
+    rest: &mut &'a [u8],
     labels: &[Name],
     bound: u64,
     left: u64,
-) -> Result<(Part, &'a [u8]), DecodeError>
-    ensures { Gives (λ x. (plain_core (core_of x.0), x.1.now)) result (if_at labels.now (process_at labels.now left) bound bytes.now) }
+) -> Result<Part, DecodeError>
+    ensures { Gives (part_and rest.new.now) result (if_at labels.now (process_at labels.now left) bound rest.old.now) }
 {
-    let (test, rest) = read_value(alloc, bytes, labels, bound, NESTING_LIMIT)?;
-    let (yes, rest) = read_part(alloc, rest, labels, bound, left)?;
-    let (no, rest) = read_part(alloc, rest, labels, bound, left)?;
-    Ok((conditional(alloc, test, yes, no)?, rest))
+    let test = take_value(alloc, rest, labels, bound)?;
+    let yes = read_part(alloc, rest, labels, bound, left)?;
+    let no = read_part(alloc, rest, labels, bound, left);
+    conditional(alloc, test, yes, no)
 }
 
 /// The process that all of these bytes are.
@@ -209,7 +279,8 @@ fn read_if<'a>(
 pub(crate) fn read_whole(alloc: Global, bytes: &[u8], labels: &[Name]) -> Result<Core, DecodeError>
     ensures { Gives (λ core. plain_core core) result (whole_at labels.now bytes.now) }
 {
-    let (part, rest) = read_part(alloc, bytes, labels, 0, DEPTH_LIMIT)?;
+    let mut rest = bytes;
+    let part = read_part(alloc, &mut rest, labels, 0, DEPTH_LIMIT)?;
     if !rest.is_empty() {
         return Err(DecodeError::NotObject);
     }
