@@ -7,8 +7,7 @@
     'Done.', 'Refused.', 'The words have no listed shape.', 'The steps are spent; something is ready still.',
     'A division by zero.', 'A fault of reading.', 'What is written is longer than this page takes; its beginning is shown.',
     'Memory ran out.', 'No such file.',
-    // (no command ends with 9)
-    undefined, 'Rejected: this is no run of the program.',
+    'Misshapen: a message has a wrong shape.', 'Rejected: this is no run of the program.',
   ];
   const $ = id => document.getElementById(id);
   const textOf = bytes => new TextDecoder().decode(bytes);
