@@ -75,14 +75,17 @@ built_runs_as_text held prelude file object t bytes a fuel finish front f few fi
       let names = a.front.names in
       let core = a.front.core in
       let ordered = accepted_is_ordered held prelude file a front in
-      let written = runs_as_written names d.0 t core d.1 ordered.0 f d.2 fuel (end_of finish) r.labels r.runs in
-      (guarded_by finish, same_status finish, executed gives few fits (record {
-        names = d.0;
-        process = d.1;
-        is = d.2;
-        labels = written.0;
-        runs = subst (λ e. Runs d.1 fuel e written.0) (same_end finish) written.1;
-        prints = r.shows ∙ sym written.2;
-      }))
+      let written = runs_as_written names d.0 t core d.1 ordered.0 f d.2 fuel (end_of finish) r.labels r.runs in (
+        guarded_by finish,
+        same_status finish,
+        executed gives few fits (record {
+          names = d.0;
+          process = d.1;
+          is = d.2;
+          labels = written.0;
+          runs = subst (λ e. Runs d.1 fuel e written.0) (same_end finish) written.1;
+          prints = r.shows ∙ sym written.2;
+        }),
+      )
   | inr none ↦ absurd (none a.front.names a.front.core f)
 ]

@@ -85,15 +85,17 @@ module _ (texts : Texts) (object : List ℕ) (fuel : ℕ) where
 
   ran : (t : List ℕ) (names : List (List ℕ)) (p : Process) → MayGive (Some texts) object (text t) → length t ≤ OBJECT_LIMIT → AreBytes t → IsDecoded [] names t p → SomeAnswer
   ran t names p m few fits is =
-      let on = goes_on_from 0 (opening p) fuel [] (opening p) (omega arith) (refl, refl) in
-      (_, executed m few fits (record {
-        names = names;
-        process = p;
-        is = is;
-        labels = on.rest;
-        runs = subst (λ e. Runs p fuel e on.rest) (sym (end_again on.end)) on.runs;
-        prints = refl;
-      }))
+      let on = goes_on_from 0 (opening p) fuel [] (opening p) (omega arith) (refl, refl) in (
+        _,
+        executed m few fits (record {
+          names = names;
+          process = p;
+          is = is;
+          labels = on.rest;
+          runs = subst (λ e. Runs p fuel e on.rest) (sym (end_again on.end)) on.runs;
+          prints = refl;
+        }),
+      )
 
   of_bytes : (t : List ℕ) → MayGive (Some texts) object (text t) → length t ≤ OBJECT_LIMIT → Decided (AreBytes t) → SomeAnswer
   of_bytes t m few (inr never) = (_, no_object m few (λ fits. absurd (never fits)))

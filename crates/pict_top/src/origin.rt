@@ -3,8 +3,9 @@ ghost use Rattle.std.specs.Prelude.{◌≡◌, ◌≤◌, IfOk, IfSome, MatchOpt
 ghost use Rattle.pict_syntax.specs.declared.limits.TheConstants.{TEXT_LIMIT};
 ghost use Rattle.pict_gather.specs.Entry.{lent};
 ghost use Rattle.pict_words.specs.Plain.{plain_command};
+ghost use Rattle.pict_words.specs.Words as words;
 ghost use Rattle.pict_top.specs.Origins as origins;
-ghost use Rattle.pict_top.specs.Origins.{AsksShelf, IsOwn, origin_of};
+ghost use Rattle.pict_top.specs.Origins.{AsksShelf, IsOwn, TakesText, origin_of};
 
 use pict_load::load_text;
 use pict_report::prelude;
@@ -54,6 +55,17 @@ pub fn trace_of<'a>(command: Command<'a>) -> Option<&'a str>
 {
     match command {
         Command::Replay(_, trace) => Some(trace),
+        _ => None,
+    }
+}
+
+/// The object that a command runs, and the greatest number of steps; none where the command takes the text of a program. Takes no
+/// memory.
+pub fn object_of<'a>(command: Command<'a>) -> Option<(&'a str, u64)>
+    ensures { MatchOption result (TakesText (plain_command command.entry)) (λ run. plain_command command.entry ≡ words.Exec run.1 run.0.now) }
+{
+    match command {
+        Command::Exec(fuel, object) => Some((object, fuel)),
         _ => None,
     }
 }

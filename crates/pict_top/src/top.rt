@@ -18,9 +18,9 @@ ghost use Rattle.pict_top.specs.Origins.{IsOwn, MayGiveText, TakesText, Works, g
 ghost use Rattle.pict_top.specs.Outcome as outcomes;
 ghost use Rattle.pict_top.specs.Owed.{FaultsCommand, FaultsFile, FaultsText, FaultsWords, Owes, OwesMade, OwesText, OwesWithEach, OwesWords, OwesWork};
 
-use crate::one_shelf::OneShelf;
 use crate::objects::{build_object, execute_object};
-use crate::origin::{builds, name_of, own_text, prelude_of, trace_of};
+use crate::one_shelf::OneShelf;
+use crate::origin::{builds, name_of, object_of, own_text, prelude_of, trace_of};
 use crate::replaying::replay_over;
 use crate::run::{Broken, Finish};
 use crate::status::Status;
@@ -106,9 +106,9 @@ fn run_command<S: Shelf, O: Sink, E: Sink>(
     ensures counts { (S.faults shelf.old ≤ S.faults shelf.new) × (S.misses shelf.old ≤ S.misses shelf.new)
         × (O.faults out.old ≤ O.faults out.new) × (E.faults err.old ≤ E.faults err.new) }
 {
-    match command {
-        Command::Exec(fuel, object) => execute_object(alloc, object, fuel, shelf, out, err),
-        _ => run_text(alloc, command, shelf, out, err),
+    match object_of(command) {
+        Some((object, fuel)) => execute_object(alloc, object, fuel, shelf, out, err),
+        None => run_text(alloc, command, shelf, out, err),
     }
 }
 

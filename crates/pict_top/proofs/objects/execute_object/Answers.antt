@@ -49,15 +49,15 @@ pub run_found-requires-clause-short : goal.run_found-requires-clause-short
 run_found-requires-clause-short g c =
     (subst (outside.MayGive (g.S.Shelf.held c.args.shelf.now) c.args.object.now OBJECT_LIMIT) c.in-Ok-Text.field-0-is c.in-Ok-Text.ensures.given).0
 
-pub returns-clause-meets : goal.returns-clause-meets
-returns-clause-meets g c =
+pub returns-in-Ok-Text-clause-meets : goal.returns-in-Ok-Text-clause-meets
+returns-in-Ok-Text-clause-meets g c =
     let held = g.S.Shelf.held c.args.shelf.now in
     let given = subst (outside.MayGive held c.args.object.now OBJECT_LIMIT) c.in-Ok-Text.field-0-is c.in-Ok-Text.ensures.given in
     let meets = rw (c.as_bytes-name.ensures.value) at c.run_found.ensures.meets in
     weaken _ _ _ _ _ _ _ _ _ (λ o owes. owes) (λ no. absurd no) (meets held given.1)
 
-pub returns-clause-each : goal.returns-clause-each
-returns-clause-each g c =
+pub returns-in-Ok-Text-clause-each : goal.returns-in-Ok-Text-clause-each
+returns-in-Ok-Text-clause-each g c =
     let held = g.S.Shelf.held c.args.shelf.now in
     let given = subst (outside.MayGive held c.args.object.now OBJECT_LIMIT) c.in-Ok-Text.field-0-is c.in-Ok-Text.ensures.given in
     let each = rw (c.as_bytes-name.ensures.value) at c.run_found.ensures.each in
