@@ -262,7 +262,10 @@ fn words_are_acted_on(rt: HostRuntime) -> Result<(), AllocError> {
     let argument = heap.add_record(&[front, back, Word::Chan(7)], &[]);
     match act(&mut heap, Prim::Join, argument)? {
         Some((need, Done::Answer(Word::Chan(7), text))) => {
-            assert_eq!(rt; (need.records, need.fields, need.texts, need.bytes), (0, 0, 1, 5));
+            assert_eq!(rt;
+                (need.records, need.fields, need.texts, need.bytes),
+                (0, 0, 1, 5)
+            );
             assert!(rt; heap.bytes(text) == Some(b"abcde".as_slice()));
         }
         _ => assert!(rt; false),
@@ -277,7 +280,10 @@ fn numbers_are_spelled(rt: HostRuntime) -> Result<(), AllocError> {
     let argument = heap.add_record(&[Word::Int(-5), Word::Chan(7)], &[]);
     match act(&mut heap, Prim::Intstr, argument)? {
         Some((need, Done::Answer(Word::Chan(7), text))) => {
-            assert_eq!(rt; (need.records, need.fields, need.texts, need.bytes), (0, 0, 1, 20));
+            assert_eq!(rt;
+                (need.records, need.fields, need.texts, need.bytes),
+                (0, 0, 1, 20)
+            );
             assert!(rt; heap.bytes(text) == Some(b"-5".as_slice()));
         }
         _ => assert!(rt; false),
@@ -293,7 +299,10 @@ fn printed_words_come_first(rt: HostRuntime) -> Result<(), AllocError> {
     let argument = heap.add_record(&[text, Word::Chan(7)], &[]);
     match act(&mut heap, Prim::Pr, argument)? {
         Some((need, Done::PrintedAnswer(printed, Word::Chan(7), unit))) => {
-            assert_eq!(rt; (need.records, need.fields, need.texts, need.bytes), (1, 0, 0, 0));
+            assert_eq!(rt;
+                (need.records, need.fields, need.texts, need.bytes),
+                (1, 0, 0, 0)
+            );
             assert!(rt; printed == text);
             assert_eq!(rt; heap.count(unit), Some(0));
         }
@@ -309,7 +318,10 @@ fn divisions_of_words_by_zero_are_told(rt: HostRuntime) -> Result<(), AllocError
     let argument = heap.add_record(&[Word::Int(1), Word::Int(0), Word::Chan(7)], &[]);
     match act(&mut heap, Prim::Divide, argument)? {
         Some((need, Done::ZeroDivisor)) => {
-            assert_eq!(rt; (need.records, need.fields, need.texts, need.bytes), (0, 0, 0, 0));
+            assert_eq!(rt;
+                (need.records, need.fields, need.texts, need.bytes),
+                (0, 0, 0, 0)
+            );
         }
         _ => assert!(rt; false),
     }

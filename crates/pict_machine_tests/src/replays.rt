@@ -245,7 +245,7 @@ enum Lines {
     Bad(u64),
 }
 
-fn lines(alloc: Global, text: &[u8]) -> Result<Lines, AllocError> {
+fn said_of(alloc: Global, text: &[u8]) -> Result<Lines, AllocError> {
     match read_choices(alloc, text) {
         Ok(choices) => match choices.last() {
             Some(choice) => Ok(Lines::Choices(choices.len(), choice.ready, choice.partner)),
@@ -273,7 +273,7 @@ fn lines_of_choices(rt: HostRuntime) -> Result<(), AllocError> {
         (b"0  0\n", Lines::Bad(1)),
     ];
     for (text, expected) in &rows {
-        assert_eq!(rt; lines(a, text)?, *expected);
+        assert_eq!(rt; said_of(a, text)?, *expected);
     }
     Ok(())
 }

@@ -107,9 +107,9 @@ picked_is_answered held alone file trace bytes a seed fuel finish front r low fe
     let long = choices_long r.places in
     let lines : length (lines_text f.names r.labels) < 2 ^ 63 = omega (arith, few, size, parts) in
     let fits = free_runs_fit_lines f.core r.places r.labels r.runs.last (accepted_has_object held prelude file a front).closed
-        (accepted_is_in_range held prelude file a front (prelude_short alone file))
-        (picked_runs_are_free f.core seed fuel (end_of finish) r.places r.labels r.runs)
-        (short_lines f.names r.labels lines) (omega (arith, few, size, parts, long)) low in
+    (accepted_is_in_range held prelude file a front (prelude_short alone file))
+    (picked_runs_are_free f.core seed fuel (end_of finish) r.places r.labels r.runs)
+    (short_lines f.names r.labels lines) (omega (arith, few, size, parts, long)) low in
     let x = replay_answers f.names f.core seed fuel (end_of finish) r.places r.labels ordered.0 ordered.1 r.runs fits in
     judged gives few (record {
       file = subst (λ t. IsFile f.names t r.places r.labels) (sym r.shows) x.file;

@@ -1,5 +1,5 @@
 -- What the run of an object comes to.
-use Rattle.std.proofs.Common.{◌≡◌, ℕ, ◌≤◌, inl, inr, List, [], length, refl, sym, subst, ◌++◌}
+use Rattle.std.proofs.Common.{◌≡◌, ℕ, ◌≤◌, List, [], length, refl, sym, subst, ◌++◌}
 use Rattle.pict_syntax.specs.declared.limits.TheConstants.{OBJECT_LIMIT}
 use Rattle.pict_core.specs.Term.{Process}
 use Rattle.pict_core.specs.Step.{Label}

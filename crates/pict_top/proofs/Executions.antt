@@ -1,5 +1,5 @@
 -- The file of an object comes to one answer.
-use Rattle.std.proofs.Common.{◌≡◌, ℕ, zero, suc, ◌^◌, ◌<◌, ◌≤◌, inl, inr, List, [], ◌∷◌, length, get_or, Option, Some, None, refl, sym, ◌∙◌, ap, subst, arith}
+use Rattle.std.proofs.Common.{◌≡◌, ℕ, zero, suc, ◌^◌, ◌<◌, ◌≤◌, inl, inr, List, [], ◌∷◌, length, Option, Some, None, refl, sym, ◌∙◌, ap, subst, arith}
 use Rattle.std.proofs.lemmas.Bool.{cases_lt}
 use Rattle.pict_syntax.specs.declared.limits.TheConstants.{OBJECT_LIMIT}
 use Rattle.pict_outside.specs.Texts.{Texts, text_of}
@@ -15,7 +15,7 @@ use Rattle.pict_built.proofs.Labels.{decoded_once}
 use Rattle.pict_built.proofs.Deciding.{decided}
 use Rattle.pict_exec.specs.Ends.{end_of}
 use Rattle.pict_exec.specs.declared.guarded.ExecEnd.{ExecEnd}
-use Rattle.pict_top.specs.Answer.{Answer, Absent, Refusal, Executed, RunsObject, IsExecuted, none_there, over_limit, no_object, executed}
+use Rattle.pict_top.specs.Answer.{Answer, Absent, Executed, RunsObject, IsExecuted, none_there, over_limit, no_object, executed}
 use Rattle.pict_top.proofs.Beyond.{goes_on_from}
 use Rattle.pict_top.proofs.GuardedEnds.{guarded_end, end_again, known_end}
 

@@ -1,19 +1,24 @@
 // Objects: those of accepted programs are written, and those of files are run.
-ghost use Rattle.std.specs.Prelude.{◌≡◌, ◌≤◌, ◌⊎◌, Option, IfOk, Err, length};
+ghost use Rattle.std.specs.Prelude.{◌≡◌, ◌≤◌, ◌⊎◌, Option, IfOk, OnErr, Err, length};
 ghost use Rattle.pict_syntax.specs.declared.limits.TheConstants.{OBJECT_LIMIT};
 ghost use Rattle.pict_core.specs.Closed.{IsClosed};
+ghost use Rattle.pict_core.specs.Configuration.{opening};
 ghost use Rattle.pict_core.specs.Plain.{plain_core};
 ghost use Rattle.pict_outside.specs.Counts.{Rose};
 ghost use Rattle.pict_outside.specs.Texts.{Texts};
 ghost use Rattle.pict_front.specs.Answers.{plain_front};
 ghost use Rattle.pict_gather.specs.Fetching.{text, MayGive};
 ghost use Rattle.pict_object.specs.Cores.{IsObjectCore};
+ghost use Rattle.pict_view.specs.Watching.{BrokeOff, Saw, SawOrTore};
+ghost use Rattle.pict_exec.specs.Ends.{Anywhere, Executed, end_of};
 ghost use Rattle.pict_exec.specs.declared.guarded.ExecEnd.{ExecEnd as AnyEnd};
 ghost use Rattle.pict_report.specs.Reports.{AreShort};
 ghost use Rattle.pict_top.specs.Changes.{change_of, FailedWithin, GainedFront};
 ghost use Rattle.pict_top.specs.Guarded.{RanTo, RanSomehow};
 ghost use Rattle.pict_top.specs.Meets.{Meets, RunReports};
 ghost use Rattle.pict_top.specs.Origins.{MayGiveText};
+ghost use Rattle.pict_top.specs.Printed.{form_of, written_after, WrittenInPart};
+ghost use Rattle.pict_top.specs.declared.form.Form.TheVariants as form;
 ghost use Rattle.pict_top.specs.Owed.{IsObjectFault, OwesObject, OwesRun};
 
 use crate::form::Form;
@@ -86,7 +91,7 @@ pub fn execute_object<S: Shelf, O: Sink, E: Sink>(
         }
         Ok(Fetched::Missing) => report_line(alloc, name, ": no such file", Status::Missing, err),
         Ok(Fetched::TooLong(_)) => refuse_alone(alloc, name, Vec::new(alloc), 0, Code::O2, err),
-        Ok(Fetched::Text(found)) => run_found(alloc, name, found, fuel, out, err),
+        Ok(Fetched::Text(found)) => run_found(alloc, name, &found, fuel, out, err),
     }
 }
 
@@ -94,22 +99,22 @@ pub fn execute_object<S: Shelf, O: Sink, E: Sink>(
 fn run_found<O: Sink, E: Sink>(
     alloc: Global,
     name: &[u8],
-    found: Vec<u8>,
+    found: &[u8],
     fuel: u64,
     out: &mut O,
     err: &mut E,
 ) -> Status
-    requires short { length found.items ≤ OBJECT_LIMIT }
+    requires short { length found.now ≤ OBJECT_LIMIT }
     requires fuel { fuel ≤ FUEL_LIMIT }
-    ensures meets { (held : Option Texts) → MayGive held name.now (text found.items) → Meets (OwesRun (MayGive held) name.now fuel) (λ o. ⊥) ⊥
+    ensures meets { (held : Option Texts) → MayGive held name.now (text found.now) → Meets (OwesRun (MayGive held) name.now fuel) (λ o. ⊥) ⊥
         (change_of O.taken O.faults out.old out.new) (change_of E.taken E.faults err.old err.new) result }
-    ensures each { (held : Option Texts) → MayGive held name.now (text found.items) → Meets (OwesRun (MayGiveText held) name.now fuel) (λ o. ⊥) ⊥
+    ensures each { (held : Option Texts) → MayGive held name.now (text found.now) → Meets (OwesRun (MayGiveText held) name.now fuel) (λ o. ⊥) ⊥
         (change_of O.taken O.faults out.old out.new) (change_of E.taken E.faults err.old err.new) result }
     ensures faults_stay { O.faults out.old ≤ O.faults out.new }
     ensures err_faults_stay { E.faults err.old ≤ E.faults err.new }
 {
     let mut names = Names::new(alloc);
-    let core = match decode(alloc, &mut names, &found) {
+    let core = match decode(alloc, &mut names, found) {
         Ok(core) => core,
         Err(DecodeError::Memory) => return Status::Memory,
         Err(DecodeError::NotObject) => {
@@ -138,17 +143,37 @@ fn run_guarded<O: Sink>(
     ensures memory { result ≡ Err Broken.Memory → RanSomehow (plain_core core.now) fuel (GainedFront (change_of O.taken O.faults out.old out.new)) }
     ensures faults_stay { O.faults out.old ≤ O.faults out.new }
 {
+    match print_run(alloc, names, core, fuel, out) {
+        Ok(end) => Ok(end),
+        Err(RunError::Sink) => Err(Broken::Sink),
+        Err(RunError::Memory) => Err(Broken::Memory),
+    }
+}
+
+/// The same, by what a watcher sees who writes what is printed.
+fn print_run<O: Sink>(
+    alloc: Global,
+    names: &Names,
+    core: &Core,
+    fuel: u64,
+    out: &mut O,
+) -> Result<ExecEnd, RunError>
+    requires closed { IsClosed (plain_core core.now) }
+    requires fuel { fuel ≤ FUEL_LIMIT }
+    ensures end { IfOk result (λ end. Executed (plain_core core.now) fuel (end_of end)
+        (Saw (written_after (form_of form.Printed names.now)) (O.taken out.old) (O.taken out.new))) }
+    ensures broken { OnErr result (BrokeOff (opening (plain_core core.now)) fuel Anywhere
+        (SawOrTore (written_after (form_of form.Printed names.now)) (WrittenInPart (form_of form.Printed names.now)) (O.taken out.old) (O.taken out.new))) }
+    ensures sink { result ≡ Err RunError.Sink → Rose (O.faults out.old) (O.faults out.new) }
+    ensures faults_stay { O.faults out.old ≤ O.faults out.new }
+{
     let mut printer = Printer {
         alloc,
         form: Form::Printed,
         names,
         out,
     };
-    match execute(alloc, core, fuel, &mut printer) {
-        Ok(end) => Ok(end),
-        Err(RunError::Sink) => Err(Broken::Sink),
-        Err(RunError::Memory) => Err(Broken::Memory),
-    }
+    execute(alloc, core, fuel, &mut printer)
 }
 
 /// Reports how the run of an object ended.

@@ -1,8 +1,9 @@
-use Rattle.std.proofs.Common.{[], Err, ap, refl, subst, inl}
+use Rattle.std.proofs.Common.{◌≤◌, [], length, Err, ap, refl, sym, subst, inl}
 use Rattle.pict_syntax.specs.declared.limits.TheConstants.{OBJECT_LIMIT}
 use Rattle.pict_syntax.specs.declared.code.Code.TheVariants.{O2}
 use Rattle.pict_outside.specs.Texts as outside
 use Rattle.pict_outside.proofs.Gaining.{keeps_same, appends_nothing}
+use Rattle.pict_gather.specs.Fetching.{MayGive, text}
 use Rattle.pict_gather.proofs.Asking.{too_long_told}
 use Rattle.pict_top.specs.Answer.{Absent, Refusal, alone, byte_at, none_there, over_limit}
 use Rattle.pict_top.specs.Outcome.{outcome_of, read_fault}
@@ -47,18 +48,19 @@ returns-in-Ok-TooLong-clause-each g c =
 
 pub run_found-requires-clause-short : goal.run_found-requires-clause-short
 run_found-requires-clause-short g c =
-    (subst (outside.MayGive (g.S.Shelf.held c.args.shelf.now) c.args.object.now OBJECT_LIMIT) c.in-Ok-Text.field-0-is c.in-Ok-Text.ensures.given).0
+    let given = subst (outside.MayGive (g.S.Shelf.held c.args.shelf.now) c.args.object.now OBJECT_LIMIT) c.in-Ok-Text.field-0-is c.in-Ok-Text.ensures.given in
+    subst (λ bytes. length bytes ≤ OBJECT_LIMIT) (sym c.deref.ensures.value) given.0
 
 pub returns-in-Ok-Text-clause-meets : goal.returns-in-Ok-Text-clause-meets
 returns-in-Ok-Text-clause-meets g c =
     let held = g.S.Shelf.held c.args.shelf.now in
     let given = subst (outside.MayGive held c.args.object.now OBJECT_LIMIT) c.in-Ok-Text.field-0-is c.in-Ok-Text.ensures.given in
     let meets = rw (c.as_bytes-name.ensures.value) at c.run_found.ensures.meets in
-    weaken _ _ _ _ _ _ _ _ _ (λ o owes. owes) (λ no. absurd no) (meets held given.1)
+    weaken _ _ _ _ _ _ _ _ _ (λ o owes. owes) (λ no. absurd no) (meets held (subst (λ bytes. MayGive held c.args.object.now (text bytes)) (sym c.deref.ensures.value) given.1))
 
 pub returns-in-Ok-Text-clause-each : goal.returns-in-Ok-Text-clause-each
 returns-in-Ok-Text-clause-each g c =
     let held = g.S.Shelf.held c.args.shelf.now in
     let given = subst (outside.MayGive held c.args.object.now OBJECT_LIMIT) c.in-Ok-Text.field-0-is c.in-Ok-Text.ensures.given in
     let each = rw (c.as_bytes-name.ensures.value) at c.run_found.ensures.each in
-    inl (weaken _ _ _ _ _ _ _ _ _ (λ o owes. owes) (λ no. absurd no) (each held given.1))
+    inl (weaken _ _ _ _ _ _ _ _ _ (λ o owes. owes) (λ no. absurd no) (each held (subst (λ bytes. MayGive held c.args.object.now (text bytes)) (sym c.deref.ensures.value) given.1)))

@@ -13,7 +13,7 @@ returns-then-builds-clause-meets g c =
     let command = plain_command c.args.command in
     weaken _ _ _ _ _ _ _ _ _ (λ o. made_by_build c.args.sources.now.list.items (plain_front c.args.front) command o (sym c.builds.ensures ∙ c.if-builds.true)) (λ no. absurd no) c.build_object.ensures.meets
 
-pub returns-clause-meets : goal.returns-clause-meets
-returns-clause-meets g c =
+pub returns-else-builds-clause-meets : goal.returns-else-builds-clause-meets
+returns-else-builds-clause-meets g c =
     let command = plain_command c.args.command in
     weaken _ _ _ _ _ _ _ _ _ (λ o. made_by_work c.args.sources.now.list.items (plain_front c.args.front) command o (sym c.builds.ensures ∙ c.if-builds.false)) (λ no. absurd no) c.run_ready.ensures.meets
