@@ -35,12 +35,13 @@ have_shape() {
             [ $# -eq 1 ] && is_number "$1" 18446744073709551615
             return
             ;;
-        run | trace | check | code | pick | picked | replay) ;;
+        run | trace | check | code | pick | picked | replay | build | exec) ;;
         *) return 0 ;;
     esac
-    [ "${1-}" != --bare ] || shift
+    # (an object has no prelude)
+    [ "${1-}" != --bare ] || [ "$command" = exec ] || shift
     case $command${1-} in
-        run--fuel | trace--fuel | pick--fuel | picked--fuel)
+        run--fuel | trace--fuel | pick--fuel | picked--fuel | exec--fuel)
             is_number "${2-}" 1000000000 || return
             shift 2
             ;;
@@ -68,7 +69,7 @@ answer_at_once() {
         exit 2
     }
     case $1 in
-        run | trace | check | code | pick | picked | replay) ;;
+        run | trace | check | code | pick | picked | replay | build | exec) ;;
         *) return 0 ;;
     esac
     file='' last=''
