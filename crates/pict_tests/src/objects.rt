@@ -212,52 +212,6 @@ fn objects_of_devices(rt: HostRuntime) -> Result<(), AllocError> {
     Ok(())
 }
 
-/// What is built of a program, behind the prelude, runs with this fuel as the program does.
-fn try_built(
-    rt: &impl Abort,
-    alloc: Global,
-    program: &[u8],
-    fuel: &str,
-    err: &[u8],
-) -> Result<(), AllocError> {
-    let mut texts = Vec::new(alloc);
-    texts.push(entry(alloc, b"F", program)?)?;
-    let mut shelf = MemoryShelf::new(texts, Vec::new(alloc));
-    let mut object = MemorySink::new(alloc, 100_000, Vec::new(alloc))?;
-    let mut out = sink_of(alloc, None)?;
-    let mut said = sink_of(alloc, None)?;
-    let built = pict(alloc, &["build", "F"], &mut shelf, &mut object, &mut said);
-    assert_eq!(rt; built, Status::Done);
-    let words = ["run", "--fuel", fuel, "F"];
-    let status = pict(alloc, &words, &mut shelf, &mut out, &mut said);
-    let words = ["exec", "--fuel", fuel, "O"];
-    try_case(
-        rt,
-        alloc,
-        &Case {
-            words: &words,
-            object: Some(object.taken()),
-            status,
-            out: out.taken(),
-            err,
-            ..RUN
-        },
-    )
-}
-
-#[test]
-fn built_programs(rt: HostRuntime) -> Result<(), AllocError> {
-    let alloc = rt.alloc();
-    let fields: &[u8] = b"new c:^[a=Int b=Int] run c![b=2 a=1] run c?[b=x] = printi!x";
-    try_built(&rt, alloc, fields, "1000", b"")?;
-    try_built(&rt, alloc, fields, "3", b"fuel spent\n")?;
-    let lists: &[u8] = b"val l = (cons 3 (cons 12 (nil)))
-(foldl \\(_:[] n:Int):[] = (pr (+$ (intstr n) \" \")) [] l);";
-    try_built(&rt, alloc, lists, "1000", b"")?;
-    let divides: &[u8] = b"run (print!\"a\" | div![1 0 printi])";
-    try_built(&rt, alloc, divides, "1000", b"O: division by zero\n")
-}
-
 /// A file of a byte more than an object may have.
 #[test]
 fn the_longest_object(rt: HostRuntime) -> Result<(), AllocError> {
