@@ -54,7 +54,7 @@ fn declaration(alloc: Global, env: &mut Env, d: &Dec) -> Result<(), InferError>
         Dec::Alias(_, id, t) => alias(alloc, env, *id, t),
         Dec::Operator(_, id, params, t) => operator(alloc, env, *id, params, t),
         Dec::Await(_, v) => {
-            let empty = empty_record(alloc);
+            let empty = empty_record(alloc)?;
             has(alloc, env, v, &empty)
         }
     }

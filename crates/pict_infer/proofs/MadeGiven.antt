@@ -7,7 +7,7 @@ use Rattle.pict_types.specs.declared.context.Context.{Context}
 use Rattle.pict_types.specs.Entries.{PlainContext, variables, EntriesAreWellFormed}
 use Rattle.pict_types.specs.PlainContext.{plain_context, type_context}
 use Rattle.pict_types.specs.Plain.{plain_record}
-use Rattle.pict_rules.specs.Environments.{Environment, Extension, KnownType, entries_of, extended, within}
+use Rattle.pict_rules.specs.Environments.{Environment, Extension, KnownType, entries_of, within}
 use Rattle.pict_rules.specs.Rules.{pattern_, fields_, ok, stuck, pattern_gives, fields_give}
 use Rattle.pict_rules.specs.Clauses.{with_own}
 use Rattle.pict_rules.specs.Typing.{rule}
@@ -28,12 +28,12 @@ use Rattle.pict_infer.specs.Answering.{IsRefused, IsAnswer}
 use Rattle.pict_infer.specs.Asking.{IsWellAsked}
 use Rattle.pict_infer.specs.Places.{environment_in}
 use Rattle.pict_infer.specs.Opening.{HasFields}
-use Rattle.pict_infer.specs.Environments.{environment_of, known_entries, known_names, GrewFrom, IsAsBefore, IsPlaceOf, MayBeAdded}
+use Rattle.pict_infer.specs.Environments.{environment_of, known_entries, known_names, IsAsBefore, IsPlaceOf, MayBeAdded}
 use Rattle.pict_infer.specs.Giving.{typed_pattern, OpensFields}
-use Rattle.pict_infer.specs.Given.{AreGiven, AreGivenOpen, FieldsOpen, GivesType, HasOpenedOwn, IsClosed, IsTyped, IsUnderOwn}
+use Rattle.pict_infer.specs.Given.{AreGivenOpen, FieldsOpen, GivesType, HasOpenedOwn, IsClosed, IsTyped, IsUnderOwn}
 use Rattle.pict_infer.proofs.Depths.{types_length}
 use Rattle.pict_infer.proofs.Growing.{environment, grew_types, opened_types}
-use Rattle.pict_infer.proofs.MadeKnown.{formed_in, grew_twice, own_then_parts, without_values}
+use Rattle.pict_infer.proofs.MadeKnown.{formed_in, without_values}
 use Rattle.pict_infer.proofs.TakenBack.{IsTakenBack, taken_back}
 use Rattle.pict_infer.proofs.Unused.{pattern_passes, fields_pass}
 use Rattle.pict_rules.proofs.OwnBinders.{opened_count}
@@ -110,15 +110,6 @@ pub fields_answer : (old new : Env) (f : FieldPats) (r : Result GivenFields Infe
     → IfOk r (λ x. x.adds.base ≡ length (type_context new.context)) → new.values.items ≡ old.values.items → FieldsOpen old new f r
 fields_answer old new f (Ok x) a h b v = fields_typed old new f x a h b v
 fields_answer old new f (Err y) a h b v = parts_refused (environment_of old) f y h
-
-pub become_given : (old mid new : Env) (f : FieldPats) (x : GivenFields) → AreGivenOpen old mid f x → environment_of new ≡ extended (environment_of mid) (extension_of x.adds) → GrewFrom mid new → AreGiven old new f x.has
-become_given old mid new f x o k g = record {
-  fields = o.fields;
-  holds = o.holds;
-  known = k ∙ ap₂ extended o.under.known o.adds ∙ own_then_parts (environment_of old) o.fields.own o.fields.adds;
-  record_ = o.record_;
-  grew = grew_twice old mid new o.grew g;
-}
 
 pub own_back : (p : Place) (before now : Env) (own taken : List KnownType) (left : PlainContext) → IsPlaceOf p before → IsUnderOwn before now own → known_entries now ≡ entries_of taken ++ left → length left ≡ p.entries → IsTakenBack (known_entries before) own taken left
 own_back p before now own taken left i u k l = taken_back (known_entries before) own taken (known_entries now) left (ap (λ (z : Environment). z.context) u.known) k (l ∙ i.entries)

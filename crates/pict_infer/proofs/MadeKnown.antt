@@ -30,7 +30,7 @@ use Rattle.pict_infer.specs.Answering.{IsRefused}
 use Rattle.pict_infer.specs.Asking.{IsWellAsked}
 use Rattle.pict_infer.specs.Environments.{environment_of, known_entries, known_names, GrewFrom, MayBeAdded}
 use Rattle.pict_infer.specs.Opening.{OpensAgainst, against_fields}
-use Rattle.pict_infer.specs.Patterns.{AreKnown, AreOpen, FieldsOpenAgainst, GoesAgainst, IsKnown}
+use Rattle.pict_infer.specs.Patterns.{AreOpen, FieldsOpenAgainst, GoesAgainst, IsKnown}
 use Rattle.pict_infer.specs.Places.{environment_in}
 use Rattle.pict_infer.proofs.Growing.{environment, grew_types, opened_types}
 use Rattle.pict_infer.proofs.Unused.{against_passes, fields_against_pass}
@@ -118,14 +118,6 @@ pub own_then_parts : (e : Environment) (own : List KnownType) (x : Extension) �
 own_then_parts e own x =
     environment e.names e.names _ _ _ _ refl (both_entries x.binders own e.context)
     (ap (λ z. x.values ++ z) (values_twice (opened x) (length own) e.values ∙ ap (λ n. rename_values (moved n 0) e.values) (sym (length-append x.binders own))))
-
-pub become_known : (old mid new : Env) (j : Judgement opened_) (x : Added) → AreOpen old mid j x → environment_of new ≡ extended (environment_of mid) (extension_of x) → GrewFrom mid new → AreKnown old new j
-become_known old mid new j x o k g = record {
-  fields = o.fields;
-  holds = o.holds;
-  known = k ∙ ap₂ extended o.known o.adds ∙ own_then_parts (environment_of old) o.fields.own o.fields.adds;
-  grew = grew_twice old mid new o.grew g;
-}
 
 -- errors that are handed on
 pub goes_err : (old new : Env) (j : Judgement extension_) (x : Result (Unit {0}) InferError) (y : InferError) → IsErrAnd x (λ z. z ≡ y) → IsRefused (rule (environment_of old) j) y → GoesAgainst old new j x

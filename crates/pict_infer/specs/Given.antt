@@ -3,11 +3,10 @@ use Rattle.std.specs.Prelude.{◌≡◌, List, Result, Ok, Err}
 use Rattle.pict_syntax.specs.Trees.{Pat, FieldPats}
 use Rattle.pict_types.specs.Types.{PlainType, Fields}
 use Rattle.pict_types.specs.declared.types.Ty.{Ty}
-use Rattle.pict_types.specs.declared.types.Record.{Record}
 use Rattle.pict_types.specs.Plain.{plain, plain_record}
 use Rattle.pict_rules.specs.Environments.{Extension, KnownType, bounds_of, extended, within}
 use Rattle.pict_rules.specs.Rules.{ok, pattern_gives, fields_give, TypedFields}
-use Rattle.pict_rules.specs.Clauses.{with_fields, with_own}
+use Rattle.pict_rules.specs.Clauses.{with_own}
 use Rattle.pict_rules.specs.Typing.{rule}
 use Rattle.pict_rules.specs.Derivations.{Runs}
 use Rattle.pict_infer.specs.declared.env.Env.{Env}
@@ -65,18 +64,6 @@ pub record AreGivenOpen (old new : Env) (f : FieldPats) (x : GivenFields) : Type
 abbrev pub FieldsOpen : Env → Env → FieldPats → Result GivenFields InferError → Type 0
 FieldsOpen old new f (Ok x) = AreGivenOpen old new f x
 FieldsOpen old new f (Err y) = IsRefused (rule (environment_of old) (fields_give f)) y
-
--- this is the record of the fields, and their own type variables are known, and all that their parts add
-pub record AreGiven (old new : Env) (f : FieldPats) (r : Record) : Type 0 where
-  pub fields : TypedFields
-  pub holds : Runs (rule (environment_of old) (fields_give f)) (ok fields)
-  pub known : environment_of new ≡ with_fields (environment_of old) fields.own fields.adds
-  pub record_ : plain_record r ≡ record_given fields
-  pub grew : GrewFrom old new
-
-abbrev pub FieldsGive : Env → Env → FieldPats → Result Record InferError → Type 0
-FieldsGive old new f (Ok r) = AreGiven old new f r
-FieldsGive old new f (Err y) = IsRefused (rule (environment_of old) (fields_give f)) y
 
 -- since this place type variables alone became known
 pub record HasOpenedOwn (p : Place) (now : Env) : Type 0 where

@@ -2,7 +2,7 @@
 use Rattle.std.specs.Prelude.{◌≡◌, Result, Ok, Err}
 use Rattle.pict_rules.specs.Environments.{Extension, extended}
 use Rattle.pict_rules.specs.Rules.{extension_, opened_, Judgement, OpenedFields, ok}
-use Rattle.pict_rules.specs.Clauses.{with_fields, with_own}
+use Rattle.pict_rules.specs.Clauses.{with_own}
 use Rattle.pict_rules.specs.Typing.{rule}
 use Rattle.pict_rules.specs.Derivations.{Runs}
 use Rattle.pict_infer.specs.declared.env.Env.{Env}
@@ -23,17 +23,6 @@ pub record IsKnown (old new : Env) (j : Judgement extension_) : Type 0 where
 abbrev pub GoesAgainst : Env → Env → Judgement extension_ → Result (Unit {0}) InferError → Type 0
 GoesAgainst old new j (Ok x) = IsKnown old new j
 GoesAgainst old new j (Err y) = IsRefused (rule (environment_of old) j) y
-
--- the own type variables of fields are known, and all that their parts add
-pub record AreKnown (old new : Env) (j : Judgement opened_) : Type 0 where
-  pub fields : OpenedFields
-  pub holds : Runs (rule (environment_of old) j) (ok fields)
-  pub known : environment_of new ≡ with_fields (environment_of old) fields.own fields.adds
-  pub grew : GrewFrom old new
-
-abbrev pub FieldsGoAgainst : Env → Env → Judgement opened_ → Result (Unit {0}) InferError → Type 0
-FieldsGoAgainst old new j (Ok x) = AreKnown old new j
-FieldsGoAgainst old new j (Err y) = IsRefused (rule (environment_of old) j) y
 
 -- the own type variables of fields are known; this is what their parts add within them, and it may be added
 pub record AreOpen (old new : Env) (j : Judgement opened_) (x : Added) : Type 0 where

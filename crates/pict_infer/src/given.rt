@@ -7,7 +7,7 @@ ghost use Rattle.pict_rules.specs.Rules.{fields_, fields_give, pattern_, pattern
 ghost use Rattle.pict_infer.specs.declared.env.Env.{Env};
 ghost use Rattle.pict_infer.specs.Asking.{IsWellAsked};
 ghost use Rattle.pict_infer.specs.Environments.{environment_of, IsPlaceOf, MayBeAdded};
-ghost use Rattle.pict_infer.specs.Given.{FieldsGive, FieldsOpen, Gives, GivesType, HasOpenedOwn, IsClosed, IsUnderOwn};
+ghost use Rattle.pict_infer.specs.Given.{FieldsOpen, Gives, GivesType, HasOpenedOwn, IsClosed, IsUnderOwn};
 
 use crate::added::Added;
 use crate::binders::taken;
@@ -15,7 +15,7 @@ use crate::env::{Env, Place};
 use crate::error::InferError;
 use crate::giving::{Typed, TypedFields, give, open_parts};
 use pict_syntax::{FieldPats, Pat};
-use pict_types::{Record, Ty};
+use pict_types::Ty;
 use std::alloc::{AllocError, Global};
 
 /// The type of a pattern, and what it adds, which doesn't become known. The refusals are Y4 to Y7, Y13, Y16 and K1 to K4.
@@ -49,17 +49,6 @@ pub fn open_fields(
     ensures answer { FieldsOpen env.old env.new (field_pats_of fields.now) result }
 {
     open_parts(alloc, &mut env.context, fields)
-}
-
-/// The record type of fields. Their own type variables become known, and all that their parts add. Refusals and errors
-/// are those of `typed_pattern`.
-pub fn fields_give(alloc: Global, env: &mut Env, fields: &FieldPats) -> Result<Record, InferError>
-    requires right { IsWellAsked fields_ (environment_of env.old) (fields_give (field_pats_of fields.now)) }
-    ensures answer { FieldsGive env.old env.new (field_pats_of fields.now) result }
-{
-    let fields = open_fields(alloc, env, fields)?;
-    env.add(fields.adds)?;
-    Ok(fields.has)
 }
 
 /// Forgets the type variables of fields that have become known since a place, and puts them around what the parts of the

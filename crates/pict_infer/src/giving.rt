@@ -19,6 +19,7 @@ use crate::formed::{annotated, recursive, unfolded, within_limits};
 use pict_syntax::{FieldPats, Id, LabelledPat, Name, Pat, RType, Span, sort_labels};
 use pict_types::{Context, Record, Ty};
 use std::alloc::Global;
+use std::rc::Rc;
 
 /// The type of a pattern, and what it adds.
 #[derive(Drop)]
@@ -139,7 +140,7 @@ fn give_record(
     let before = c.len();
     let fields = open_parts(alloc, c, parts)?;
     let own = taken(alloc, c, before)?;
-    let has = Ty::Fields(fields.has);
+    let has = Ty::Fields(Rc::new(alloc, fields.has)?);
     within_limits(&*c, &has, span)?;
     let adds = fields.adds.under(own)?;
     Ok(Typed { has, adds })

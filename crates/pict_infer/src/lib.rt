@@ -20,9 +20,9 @@ pub use error::{InferError, refusal, size_refusal};
 pub use formed::{
     annotated, as_record, below, expanded, followed, recursive, shown, unfolded, within_limits,
 };
-pub use given::{close_fields, fields_give, open_fields, pattern_gives, typed_pattern};
+pub use given::{close_fields, open_fields, pattern_gives, typed_pattern};
 pub use giving::{Typed, TypedFields};
 pub use known::{Binder, Known};
 pub use labels::labelled_type;
-pub use patterns::{fields_against, open_fields_against, pattern_against};
+pub use patterns::{open_fields_against, pattern_against};
 pub use primitives::type_of;

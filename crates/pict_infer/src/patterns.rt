@@ -6,14 +6,14 @@ ghost use Rattle.pict_rules.specs.Rules.{extension_, opened_, pattern_against};
 ghost use Rattle.pict_infer.specs.Asking.{IsWellAsked};
 ghost use Rattle.pict_infer.specs.Environments.{environment_of};
 ghost use Rattle.pict_infer.specs.Opening.{against_fields};
-ghost use Rattle.pict_infer.specs.Patterns.{FieldsGoAgainst, FieldsOpenAgainst, GoesAgainst};
+ghost use Rattle.pict_infer.specs.Patterns.{FieldsOpenAgainst, GoesAgainst};
 
 use crate::added::Added;
 use crate::against::{against, open_parts_against};
 use crate::env::Env;
 use crate::error::InferError;
 use pict_syntax::{FieldPats, Name, Pat, Span};
-use pict_types::{Bound, Record, Ty};
+use pict_types::{Bound, Ty};
 use std::alloc::Global;
 
 /// Makes known what a pattern adds against a type, which is written in the type variables that are known. The refusals
@@ -23,32 +23,6 @@ pub fn pattern_against(alloc: Global, env: &mut Env, p: &Pat, t: &Ty) -> Result<
     ensures answer { GoesAgainst env.old env.new (pattern_against (pat_of p.now) (plain t.now)) result }
 {
     let added = against(alloc, &mut env.context, p, t)?;
-    Ok(env.add(added)?)
-}
-
-/// Makes known the own type variables of fields that go against a record, and all that their parts add. The pattern or
-/// the function stands at `span`. Refusals and errors are those of `pattern_against`.
-pub fn fields_against(
-    alloc: Global,
-    env: &mut Env,
-    fields: &FieldPats,
-    r: &Record,
-    span: Span,
-) -> Result<(), InferError>
-    requires right { IsWellAsked opened_ (environment_of env.old)
-        (against_fields span (field_pats_of fields.now) r.now.binders.items r.now.positional.items r.now.labelled.items) }
-    ensures answer { FieldsGoAgainst env.old env.new
-        (against_fields span (field_pats_of fields.now) r.now.binders.items r.now.positional.items r.now.labelled.items) result }
-{
-    let added = open_fields_against(
-        alloc,
-        env,
-        fields,
-        &r.binders,
-        &r.positional,
-        &r.labelled,
-        span,
-    )?;
     Ok(env.add(added)?)
 }
 

@@ -8,6 +8,7 @@ ghost use Rattle.pict_types.specs.PrimitiveTypes.{one_operand, takes, two_operan
 use pict_syntax::Primitive;
 use pict_types::{Cap, Record, Ty};
 use std::alloc::{AllocError, Global};
+use std::rc::Rc;
 
 /// The type of a primitive: it may be sent what it takes, once for each answer.
 pub fn type_of(alloc: Global, primitive: Primitive) -> Result<Ty, AllocError>
@@ -24,7 +25,7 @@ fn takes(alloc: Global, primitive: Primitive) -> Result<Ty, AllocError>
     match primitive {
         Primitive::Print => Ok(Ty::Str),
         Primitive::Printi => Ok(Ty::Int),
-        Primitive::Pr => one_operand(alloc, Ty::Str, record_of(alloc, Vec::new(alloc))),
+        Primitive::Pr => one_operand(alloc, Ty::Str, record_of(alloc, Vec::new(alloc))?),
         Primitive::Add => two_operands(alloc, Ty::Int, Ty::Int, Ty::Int),
         Primitive::Subtract => two_operands(alloc, Ty::Int, Ty::Int, Ty::Int),
         Primitive::Multiply => two_operands(alloc, Ty::Int, Ty::Int, Ty::Int),
@@ -49,20 +50,21 @@ fn takes(alloc: Global, primitive: Primitive) -> Result<Ty, AllocError>
 fn respond(alloc: Global, r: Ty) -> Result<Ty, AllocError>
     ensures { IfOk result (λ t. plain t ≡ Chan Respond (plain r)) }
 {
-    Ok(Ty::Chan(Cap::Respond, Box::new(alloc, r)?))
+    Ok(Ty::Chan(Cap::Respond, Rc::new(alloc, r)?))
 }
 
 /// The record type of these positional fields.
-fn record_of(alloc: Global, positional: Vec<Ty>) -> Ty
-    ensures { plain result ≡ Fields no_bound (plain_types positional.items) no_label }
+fn record_of(alloc: Global, positional: Vec<Ty>) -> Result<Ty, AllocError>
+    ensures { IfOk result (λ t. plain t ≡ Fields no_bound (plain_types positional.items) no_label) }
 {
     let binders = Vec::new(alloc);
     let labelled = Vec::new(alloc);
-    Ty::Fields(Record {
+    let r = Record {
         binders,
         positional,
         labelled,
-    })
+    };
+    Ok(Ty::Fields(Rc::new(alloc, r)?))
 }
 
 /// The record of one operand and the channel for the answer.
@@ -73,7 +75,7 @@ fn one_operand(alloc: Global, s: Ty, r: Ty) -> Result<Ty, AllocError>
     let mut positional = Vec::new(alloc);
     positional.push(s)?;
     positional.push(answer)?;
-    Ok(record_of(alloc, positional))
+    record_of(alloc, positional)
 }
 
 /// The record of two operands and the channel for the answer.
@@ -85,5 +87,5 @@ fn two_operands(alloc: Global, s: Ty, t: Ty, r: Ty) -> Result<Ty, AllocError>
     positional.push(s)?;
     positional.push(t)?;
     positional.push(answer)?;
-    Ok(record_of(alloc, positional))
+    record_of(alloc, positional)
 }

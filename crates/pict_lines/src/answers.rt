@@ -25,14 +25,15 @@ use pict_sub::{TypeScope, expose_in};
 use pict_syntax::{Code, RType, Span, TypeTree, type_span};
 use pict_types::{Bound, Cap, Context, Record, Ty, shift_type};
 use std::alloc::{AllocError, Global};
+use std::rc::Rc;
 
 /// The messages of `/U`, `!U` or `^U`; nothing where the type is none of these. Takes no memory.
-fn sendable(t: Ty) -> Option<Ty>
-    ensures none { IfNone result (sendable (plain t) ≡ None) }
-    ensures some { IfSome result (λ u. sendable (plain t) ≡ Some (plain u)) }
+fn sendable(t: &Ty) -> Option<&Ty>
+    ensures none { IfNone result (sendable (plain t.now) ≡ None) }
+    ensures some { IfSome result (λ u. sendable (plain t.now) ≡ Some (plain u.now)) }
 {
     match t {
-        Ty::Chan(Cap::Respond | Cap::Write | Cap::Both, u) => Some(Box::into_inner(u)),
+        Ty::Chan(Cap::Respond | Cap::Write | Cap::Both, u) => Some(u),
         _ => None,
     }
 }
@@ -45,7 +46,10 @@ fn sent_under(alloc: Global, c: &Context, bs: &[Bound], last: &Ty) -> Result<Opt
     let outer = TypeScope::Outer(c);
     let scope = TypeScope::Inner(bs, &outer);
     let exposed = expose_in(alloc, &scope, last)?;
-    Ok(sendable(exposed))
+    match sendable(&exposed) {
+        None => Ok(None),
+        Some(u) => Ok(Some(u.copy(alloc)?)),
+    }
 }
 
 /// The type of the answer of a function that takes this record, under the type fields of the record: what may be sent on
@@ -99,9 +103,9 @@ pub fn argument(
     ensures { IsAnswer (formed (environment_of env.now) (answering_record fields (plain answer)) span) plain result }
 {
     let mut fields = fields;
-    let channel = Ty::Chan(Cap::Respond, Box::new(alloc, answer)?);
+    let channel = Ty::Chan(Cap::Respond, Rc::new(alloc, answer)?);
     fields.positional.push(channel)?;
-    limited(env, Ty::Fields(fields), span)
+    limited(env, Ty::Fields(Rc::new(alloc, fields)?), span)
 }
 
 /// A written result type, which is below the answer's type. The refusals are K1 to K4, and Y4 at it.

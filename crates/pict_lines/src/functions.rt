@@ -12,7 +12,7 @@ use crate::steps::exposed;
 use pict_infer::{Env, InferError};
 use pict_syntax::{Code, Span};
 use pict_types::{Cap, Record, Ty};
-use std::alloc::Global;
+use std::alloc::{AllocError, Global};
 
 /// What a function takes but for the channel of its answer, and the type of its answer, both under its type fields.
 #[derive(Drop)]
@@ -22,51 +22,58 @@ pub struct Function {
 }
 
 /// The messages of `/U` or `!U`; nothing where the type is none of these. Takes no memory.
-fn messages(t: Ty) -> Option<Ty>
-    ensures none { IfNone result (respond_or_write (plain t) ≡ None) }
-    ensures some { IfSome result (λ u. respond_or_write (plain t) ≡ Some (plain u)) }
+fn messages(t: &Ty) -> Option<&Ty>
+    ensures none { IfNone result (respond_or_write (plain t.now) ≡ None) }
+    ensures some { IfSome result (λ u. respond_or_write (plain t.now) ≡ Some (plain u.now)) }
 {
     match t {
-        Ty::Chan(Cap::Respond | Cap::Write, u) => Some(Box::into_inner(u)),
+        Ty::Chan(Cap::Respond | Cap::Write, u) => Some(u),
         _ => None,
     }
 }
 
-/// The function that takes these fields; nothing where the last positional one is no channel for its answer.
-fn function_in(r: Record) -> Option<Function>
-    ensures none { IfNone result (function_in r ≡ None) }
-    ensures some { IfSome result (λ f. function_in r ≡ Some (function_of f)) }
+/// The function that takes these fields; nothing where the last positional one is no channel for its answer. The only
+/// error is want of memory.
+fn function_in(alloc: Global, r: Record) -> Result<Option<Function>, AllocError>
+    ensures none { IfOk result (λ o. IfNone o (function_in r ≡ None)) }
+    ensures some { IfOk result (λ o. IfSome o (λ f. function_in r ≡ Some (function_of f))) }
 {
     let mut fields = r;
-    let last = fields.positional.pop()?;
-    let answer = messages(last)?;
-    Some(Function { fields, answer })
+    let Some(last) = fields.positional.pop() else {
+        return Ok(None);
+    };
+    match messages(&last) {
+        None => Ok(None),
+        Some(u) => {
+            let answer = u.copy(alloc)?;
+            Ok(Some(Function { fields, answer }))
+        }
+    }
 }
 
 /// The function that takes the fields of a record type; nothing where the type is none, or its last positional field is
-/// no channel for the answer.
-#[tactic(auto, using(pict_types::proofs::Rows::plain_fields))]
-fn function_by(r: Ty) -> Option<Function>
-    ensures none { IfNone result (function_by (λ bs. respond_or_write) (plain r) ≡ None) }
-    ensures some { IfSome result (λ f. function_by (λ bs. respond_or_write) (plain r) ≡ Some (function_of f)) }
+/// no channel for the answer. The only error is want of memory.
+fn function_by(alloc: Global, r: &Ty) -> Result<Option<Function>, AllocError>
+    ensures none { IfOk result (λ o. IfNone o (function_by (λ bs. respond_or_write) (plain r.now) ≡ None)) }
+    ensures some { IfOk result (λ o. IfSome o (λ f. function_by (λ bs. respond_or_write) (plain r.now) ≡ Some (function_of f))) }
 {
     match r {
-        Ty::Fields(r) => function_in(r),
-        _ => None,
+        Ty::Fields(r) => function_in(alloc, r.copy(alloc)?),
+        _ => Ok(None),
     }
 }
 
 /// A type that may be applied: `^R`, `!R` or `/R`, where R is a record whose last positional field is `/U` or `!U`.
-/// Takes no memory.
-fn applicable(t: Ty) -> Option<Function>
-    ensures none { IfNone result (applicable (plain t) ≡ None) }
-    ensures some { IfSome result (λ f. applicable (plain t) ≡ Some (function_of f)) }
+/// The only error is want of memory.
+fn applicable(alloc: Global, t: &Ty) -> Result<Option<Function>, AllocError>
+    ensures none { IfOk result (λ o. IfNone o (applicable (plain t.now) ≡ None)) }
+    ensures some { IfOk result (λ o. IfSome o (λ f. applicable (plain t.now) ≡ Some (function_of f))) }
 {
     match t {
-        Ty::Chan(Cap::Both, r) => function_by(Box::into_inner(r)),
-        Ty::Chan(Cap::Write, r) => function_by(Box::into_inner(r)),
-        Ty::Chan(Cap::Respond, r) => function_by(Box::into_inner(r)),
-        _ => None,
+        Ty::Chan(Cap::Both, r) => function_by(alloc, r),
+        Ty::Chan(Cap::Write, r) => function_by(alloc, r),
+        Ty::Chan(Cap::Respond, r) => function_by(alloc, r),
+        _ => Ok(None),
     }
 }
 
@@ -76,7 +83,8 @@ pub fn head(alloc: Global, env: &Env, t: Ty, at: Span) -> Result<Function, Infer
     ensures refused { IfErr result (λ y. IsNoFunction (applicable (exposure (context_of (environment_of env.now)) (plain t))) at y) }
 {
     let exposed = exposed(alloc, env, t)?;
-    match applicable(exposed) {
+    let found = applicable(alloc, &exposed)?;
+    match found {
         Some(f) => Ok(f),
         None => Err(InferError::Named(Code::Y8, at)),
     }

@@ -19,12 +19,12 @@ use pict_types::{Cap, Ty};
 use std::alloc::Global;
 
 /// The capability of a channel type, and its messages; nothing where the type is none of a channel. Takes no memory.
-fn channel(t: Ty) -> Option<(Cap, Ty)>
-    ensures none { IfNone result (IsNoChannel (plain t)) }
-    ensures some { IfSome result (λ c. plain t ≡ Chan (plain_cap c.0) (plain c.1)) }
+fn channel(t: &Ty) -> Option<(Cap, &Ty)>
+    ensures none { IfNone result (IsNoChannel (plain t.now)) }
+    ensures some { IfSome result (λ c. plain t.now ≡ Chan (plain_cap c.0) (plain c.1.now)) }
 {
     match t {
-        Ty::Chan(cap, u) => Some((cap, Box::into_inner(u))),
+        Ty::Chan(cap, u) => Some((*cap, u)),
         _ => None,
     }
 }
@@ -58,11 +58,11 @@ pub fn messages_sent(alloc: Global, env: &Env, t: Ty, at: Span) -> Result<Ty, In
     ensures { IsAnswer (channel_messages may_send Y2 at (exposure (context_of (environment_of env.now)) (plain t))) plain result }
 {
     let exposed = exposed(alloc, env, t)?;
-    match channel(exposed) {
+    match channel(&exposed) {
         None => Err(InferError::Named(Code::Y1, at)),
         Some((cap, u)) => {
             if may_send(cap) {
-                return Ok(u);
+                return Ok(u.copy(alloc)?);
             }
             Err(InferError::Named(Code::Y2, at))
         }
@@ -75,11 +75,11 @@ pub fn messages_received(alloc: Global, env: &Env, t: Ty, at: Span) -> Result<Ty
     ensures { IsAnswer (channel_messages may_receive Y3 at (exposure (context_of (environment_of env.now)) (plain t))) plain result }
 {
     let exposed = exposed(alloc, env, t)?;
-    match channel(exposed) {
+    match channel(&exposed) {
         None => Err(InferError::Named(Code::Y1, at)),
         Some((cap, u)) => {
             if may_receive(cap) {
-                return Ok(u);
+                return Ok(u.copy(alloc)?);
             }
             Err(InferError::Named(Code::Y3, at))
         }

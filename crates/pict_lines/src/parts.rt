@@ -15,6 +15,7 @@ use pict_sub::is_subtype;
 use pict_syntax::{Code, Span};
 use pict_types::{Cap, Ty};
 use std::alloc::Global;
+use std::rc::Rc;
 
 /// The greater of the types of two branches. Y11 at the place where none is a subtype of the other.
 pub fn either(alloc: Global, env: &Env, s: Ty, t: Ty, span: Span) -> Result<Ty, InferError>
@@ -45,7 +46,7 @@ pub fn limited(env: &Env, t: Ty, span: Span) -> Result<Ty, InferError>
 pub fn responder(alloc: Global, env: &Env, r: Ty, span: Span) -> Result<Ty, InferError>
     ensures { IsAnswer (formed (environment_of env.now) (Chan Respond (plain r)) span) plain result }
 {
-    let t = Ty::Chan(Cap::Respond, Box::new(alloc, r)?);
+    let t = Ty::Chan(Cap::Respond, Rc::new(alloc, r)?);
     limited(env, t, span)
 }
 

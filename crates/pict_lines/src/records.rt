@@ -26,18 +26,24 @@ use pict_infer::{Env, InferError, refusal, size_refusal};
 use pict_normal::{expand_arg, instantiate};
 use pict_syntax::{Code, Name, Span, TypeTree, type_span};
 use pict_types::{Arg, Bound, Record, Ty, varies};
-use std::alloc::Global;
+use std::alloc::{AllocError, Global};
+use std::rc::Rc;
 
-/// The record type of these fields.
-pub fn fields_type(alloc: Global, positional: Vec<Ty>, labelled: Vec<(Name, Ty)>) -> Ty
-    ensures { plain result ≡ Fields no_bound (plain_types positional.items) (plain_labels labelled.items) }
+/// The record type of these fields. The only error is want of memory.
+pub fn fields_type(
+    alloc: Global,
+    positional: Vec<Ty>,
+    labelled: Vec<(Name, Ty)>,
+) -> Result<Ty, AllocError>
+    ensures { IfOk result (λ t. plain t ≡ Fields no_bound (plain_types positional.items) (plain_labels labelled.items)) }
 {
     let binders = Vec::new(alloc);
-    Ty::Fields(Record {
+    let r = Record {
         binders,
         positional,
         labelled,
-    })
+    };
+    Ok(Ty::Fields(Rc::new(alloc, r)?))
 }
 
 /// The type of a record with fields of these types. K4 at the place where it passes a limit.
@@ -50,7 +56,7 @@ pub fn record_type(
 ) -> Result<Ty, InferError>
     ensures { IsAnswer (formed (environment_of env.now) (Fields no_bound (plain_types positional.items) (plain_labels labelled.items)) span) plain result }
 {
-    let t = fields_type(alloc, positional, labelled);
+    let t = fields_type(alloc, positional, labelled)?;
     limited(env, t, span)
 }
 

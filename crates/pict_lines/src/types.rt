@@ -1,6 +1,6 @@
 // Declarations that need no value, of channels and types; and the type of what is awaited.
 
-ghost use Rattle.std.specs.Prelude.{◌≡◌, ◌+◌, length, OnOk};
+ghost use Rattle.std.specs.Prelude.{◌≡◌, ◌+◌, length, IfOk, OnOk};
 ghost use Rattle.pict_syntax.specs.PlainTrees.{type_of};
 ghost use Rattle.pict_syntax.specs.Trees.{alias_dec, new_dec};
 ghost use Rattle.pict_types.specs.Plain.{plain};
@@ -21,9 +21,9 @@ use pict_syntax::{Code, Id, TypeTree, type_span};
 use pict_types::{Arg, Bound, Cap, Ty};
 use std::alloc::{AllocError, Global};
 
-/// The type of the record without fields. Takes no memory.
-pub fn empty_record(alloc: Global) -> Ty
-    ensures { plain result ≡ empty_record }
+/// The type of the record without fields. The only error is want of memory.
+pub fn empty_record(alloc: Global) -> Result<Ty, AllocError>
+    ensures { IfOk result (λ t. plain t ≡ empty_record) }
 {
     fields_type(alloc, Vec::new(alloc), Vec::new(alloc))
 }

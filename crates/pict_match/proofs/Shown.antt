@@ -25,9 +25,9 @@ shows c Char_ h = stands c Char (λ e. cc)
 shows c Str_ h = stands c Str (λ e. cc)
 shows c Bool_ h = stands c Boolean (λ e. cc)
 shows c (Var_ i) h = absurd (h i refl)
-shows c (Apply_ i n ts) h = stands c (plain (Apply_ i n ts)) (λ e. cc)
+shows c (Apply_ i p n ts) h = stands c (plain (Apply_ i p n ts)) (λ e. cc)
 shows c (Chan_ m p t) h = stands c (plain (Chan_ m p t)) (λ e. cc)
-shows c (Fields_ a bs b ps d ls) h = stands c (plain (Fields_ a bs b ps d ls)) (λ e. cc)
+shows c (Fields_ p a bs b ps d ls) h = stands c (plain (Fields_ p a bs b ps d ls)) (λ e. cc)
 shows c (Rec_ p t) h = stands c (plain (Rec_ p t)) (λ e. cc)
 
 -- the parts of a wanted type are well formed in some variables

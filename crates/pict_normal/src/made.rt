@@ -11,6 +11,7 @@ ghost use Rattle.pict_types.specs.Types.{Apply, Chan, Fields, PlainBounds, Plain
 use pict_syntax::Name;
 use pict_types::{Bound, Cap, Measure, Measures, Record, Ty, too_big};
 use std::alloc::{AllocError, AllocFailed, Global};
+use std::rc::Rc;
 use thiserror::Error;
 
 /// Why a type isn't made.
@@ -206,7 +207,7 @@ pub fn channel(alloc: Global, cap: Cap, part: Made) -> Result<Made, MakeError>
 {
     let measures = light(part.measures.above())?;
     match part.ty {
-        Some(u) => Ok(Made::new(measures, Ty::Chan(cap, Box::new(alloc, u)?))),
+        Some(u) => Ok(Made::new(measures, Ty::Chan(cap, Rc::new(alloc, u)?))),
         None => Ok(Made { measures, ty: None }),
     }
 }
@@ -218,13 +219,13 @@ pub fn recursive(alloc: Global, body: Made) -> Result<Made, MakeError>
 {
     let measures = light(body.measures.above())?;
     match body.ty {
-        Some(u) => Ok(Made::new(measures, Ty::Rec(Box::new(alloc, u)?))),
+        Some(u) => Ok(Made::new(measures, Ty::Rec(Rc::new(alloc, u)?))),
         None => Ok(Made { measures, ty: None }),
     }
 }
 
 /// An operator variable with these arguments.
-pub fn applied_variable(i: u32, args: Row<Ty>) -> Result<Made, MakeError>
+pub fn applied_variable(alloc: Global, i: u32, args: Row<Ty>) -> Result<Made, MakeError>
     ensures made { IfOk result (λ m. (ws hs : List ℕ) (ts : PlainTypes) → IsRow plain_types args (weigh_types ws ts) 0 (rise_types hs ts) 0 ts
         → IsMade ws hs m (Apply i ts)) }
     ensures reason { IfErr result (λ e. (ws hs : List ℕ) (ts : PlainTypes) → IsRow plain_types args (weigh_types ws ts) 0 (rise_types hs ts) 0 ts
@@ -232,13 +233,14 @@ pub fn applied_variable(i: u32, args: Row<Ty>) -> Result<Made, MakeError>
 {
     let measures = light(args.measures.above())?;
     match args.items {
-        Some(us) => Ok(Made::new(measures, Ty::Apply(i, us))),
+        Some(us) => Ok(Made::new(measures, Ty::Apply(i, Rc::new(alloc, us)?))),
         None => Ok(Made { measures, ty: None }),
     }
 }
 
 /// A record type with these fields.
 pub fn fields(
+    alloc: Global,
     binders: Row<Bound>,
     positional: Row<Ty>,
     labelled: Row<(Name, Ty)>,
@@ -264,14 +266,12 @@ pub fn fields(
         && let Some(positional) = positional.items
         && let Some(labelled) = labelled.items
     {
-        return Ok(Made::new(
-            measures,
-            Ty::Fields(Record {
-                binders,
-                positional,
-                labelled,
-            }),
-        ));
+        let r = Record {
+            binders,
+            positional,
+            labelled,
+        };
+        return Ok(Made::new(measures, Ty::Fields(Rc::new(alloc, r)?)));
     }
     Ok(Made { measures, ty: None })
 }

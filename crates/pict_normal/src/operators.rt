@@ -21,6 +21,7 @@ use crate::stops::KindError;
 use pict_syntax::TypeTree;
 use pict_types::{Arg, Context, Ty, shift_type};
 use std::alloc::{AllocError, Global};
+use std::rc::Rc;
 
 /// An entry of the context that is an operator, counted from the innermost, and the number of its parameters.
 #[derive(Clone, Copy)]
@@ -65,7 +66,7 @@ fn operator_body(alloc: Global, c: &Context, entry: usize, count: u32) -> Result
     match put_entry(c, number(entry)?) {
         Put::Variable(i) => {
             fits(i, count)?;
-            Ok(Ty::Apply(i + count, parameters(alloc, count)?))
+            Ok(Ty::Apply(i + count, Rc::new(alloc, parameters(alloc, count)?)?))
         }
         Put::Operator { body, by, .. } => shift_type(alloc, body, by, count as usize),
         Put::Proper(..) => unreachable!(),

@@ -22,6 +22,7 @@ use pict_syntax::{
 };
 use pict_types::{Bound, Cap, Context, Record, Ty, apply_head, bound_by};
 use std::alloc::Global;
+use std::rc::Rc;
 
 /// The type of a tree, where each name is the variable of its binder in `inner` or of its entry, which come after
 /// these. It is refused at the first place in reading order where a rule of kinds fails.
@@ -49,10 +50,13 @@ pub fn raw_type(
         TypeTree::Read(_, t) => raw_channel(alloc, Cap::Read, t, c, inner),
         TypeTree::Write(_, t) => raw_channel(alloc, Cap::Write, t, c, inner),
         TypeTree::Respond(_, t) => raw_channel(alloc, Cap::Respond, t, c, inner),
-        TypeTree::Fields(_, bs, ts, ls) => Ok(Ty::Fields(raw_record(alloc, bs, ts, ls, c, inner)?)),
+        TypeTree::Fields(_, bs, ts, ls) => Ok(Ty::Fields(Rc::new(
+            alloc,
+            raw_record(alloc, bs, ts, ls, c, inner)?,
+        )?)),
         TypeTree::Apply(span, id, ts) => {
             let head = raw_head(*span, id.name, ts.as_slice().len(), c, &*inner)?;
-            Ok(apply_head(head, raw_types(alloc, ts, c, inner)?))
+            Ok(apply_head(alloc, head, raw_types(alloc, ts, c, inner)?)?)
         }
         TypeTree::Rec(_, id, t) => raw_recursion(alloc, id.name, t, c, inner),
     }
@@ -71,7 +75,7 @@ fn raw_channel(
     ensures first { IfErr result (λ e. IsFirst (kind_stops (names_of c.now) (around inner.old c.now) (type_of t.now)) e) }
     ensures inner { OnOk result (scope_of inner.new ≡ scope_of inner.old) }
 {
-    Ok(Ty::Chan(cap, Box::new(alloc, raw_type(alloc, t, c, inner)?)?))
+    Ok(Ty::Chan(cap, Rc::new(alloc, raw_type(alloc, t, c, inner)?)?))
 }
 
 /// A recursive type with this variable and this body.
@@ -91,7 +95,7 @@ fn raw_recursion(
     inner.push(name, None)?;
     let body = raw_type(alloc, t, c, inner)?;
     inner.pop();
-    Ok(Ty::Rec(Box::new(alloc, body)?))
+    Ok(Ty::Rec(Rc::new(alloc, body)?))
 }
 
 #[cycle(raw)]

@@ -99,7 +99,7 @@ fn made_apply(
 {
     let put = puts.put_under(i, inner.as_slice().len())?;
     match put {
-        Put::Variable(k) => applied_variable(k, made_types(alloc, ts, puts, inner)?),
+        Put::Variable(k) => applied_variable(alloc, k, made_types(alloc, ts, puts, inner)?),
         Put::Proper(_, _) => Ok(Made::leaf(Ty::Top)),
         Put::Operator { params, body, by } => {
             let used = used_parameters(alloc, body, params)?;
@@ -301,5 +301,5 @@ fn made_record(
     let positional = made_types(alloc, &r.positional, puts, inner)?;
     let labelled = made_labels(alloc, &r.labelled, puts, inner)?;
     inner.truncate(depth);
-    fields(binders, positional, labelled)
+    fields(alloc, binders, positional, labelled)
 }

@@ -203,3 +203,14 @@ fn wide_types_are_compared(rt: HostRuntime) -> Result<(), AllocError> {
     }
     Ok(())
 }
+
+/// Mentions of a type that weighs 65,535, and values of it: each shares its parts, so that they fit in memory.
+#[test]
+fn mentions_share_a_heavy_type(rt: HostRuntime) -> Result<(), AllocError> {
+    let alloc = rt.alloc();
+    let parts = [HEAVY, "", ""];
+    let text = twice(alloc, parts, "new c:^Z15 val b = c ", [400, 0])?;
+    let found = answer(alloc, 0, text.as_bytes())?;
+    assert!(rt; found.as_str() == "Ok", "{found}");
+    Ok(())
+}

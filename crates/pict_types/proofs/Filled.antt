@@ -17,9 +17,9 @@ bound_by_other Char_ h = refl
 bound_by_other Str_ h = refl
 bound_by_other Bool_ h = refl
 bound_by_other (Var_ i) h = refl
-bound_by_other (Apply_ i shape ts) h = refl
+bound_by_other (Apply_ i p shape ts) h = refl
 bound_by_other (Chan_ m p t) h = refl
-bound_by_other (Fields_ a bs b ps c ls) h = refl
+bound_by_other (Fields_ p a bs b ps c ls) h = refl
 bound_by_other (Rec_ p t) h = refl
 
 -- the variables of the binders stay

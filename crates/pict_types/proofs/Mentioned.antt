@@ -1,13 +1,15 @@
 -- A type depends only on the variables that it mentions, and is well formed without those that it doesn't.
-use Rattle.std.proofs.Common.{◌≡◌, ℕ, zero, suc, ◌+◌, ◌-◌, ◌≤◌, Bool, true, false, ◌||◌, List, [], ◌∷◌, ◌++◌, length, Some, refl, sym, ◌∙◌, ap, ap₂, arith}
-use Rattle.std.specs.Prelude.{nat_lt}
+use Rattle.std.proofs.Common.{◌≡◌, ℕ, zero, suc, ◌+◌, ◌-◌, ◌≤◌, ◌<◌, Bool, true, false, ◌||◌, List, [], ◌∷◌, ◌++◌, length, Some, refl, sym, ◌∙◌, ap, ap₂, arith}
+use Rattle.std.specs.Prelude.{nat_le, nat_lt}
 use Rattle.std.proofs.lemmas.Bool.{ltb-false, le-ltb}
+use Rattle.std.proofs.lemmas.Bool.Decides.{nat_tests}
 use Rattle.pict_types.specs.Types.{PlainType, Top, Int, Char, Str, Boolean, Var, Apply, Chan, Fields, Rec, PlainTypes, no_type, types, PlainLabels, no_label, labels, PlainBound, Free, Below, Operator, PlainBounds, no_bound, bounds, count_types}
 use Rattle.pict_types.specs.Kinds.{Kind, proper, operator_of, kind_by, kinds_under, kind_at, IsWellFormed, AreWellFormed, LabelsAreWellFormed, BoundsAreWellFormed, BoundIsWellFormed}
-use Rattle.pict_types.specs.Renaming.{beyond, beyond_all, rename, rename_types, rename_labels, rename_bound, rename_bounds, moved}
+use Rattle.pict_types.specs.Renaming.{beyond, beyond_all, beyond_times, rename, rename_types, rename_labels, rename_bound, rename_bounds, moved}
 use Rattle.pict_types.specs.Replacing.{bound_by, Replacement, rename_head, replacement_beyond, replacement_beyond_all, no_replacement, apply_head, replace, replace_types, replace_labels, replace_bounds, replace_bound}
 use Rattle.pict_types.specs.NormalTypes.{IsNormal}
 use Rattle.pict_types.specs.Mentions.{outside, outside_all, mentions, mentions_types, mentions_labels, mentions_bound, mentions_bounds, mentions_innermost, lowered, IsClosed}
+use Rattle.pict_types.proofs.Moving.{times_low}
 use Rattle.pict_types.proofs.Renamed.{renamed_twice, rename_same, top_renamed}
 use Rattle.pict_types.proofs.Replacements.{replace_same, nothing_changed}
 use Rattle.pict_types.proofs.Formed.{same_kind, count_renamed, before_renamed}
@@ -134,6 +136,16 @@ all_agree f g = record { each = λ i h. absurd (cc) }
 
 pub closed_renamed : (f : ℕ → ℕ) (t : PlainType) → IsClosed t → rename f t ≡ t
 closed_renamed f t h = rename_agrees t (all_agree f (λ i. i)) h ∙ rename_same t (record { each = λ i. refl })
+
+-- and one that mentions none but the innermost variables is, where these stay
+outer_agree : (f : ℕ → ℕ) (d : ℕ) → AgreeBut (nat_le d) (beyond_times d f) (λ i. i)
+outer_agree f d = record { each = λ i h. times_low f d i (below i h) }
+  where
+    below : (i : ℕ) → nat_le d i ≡ false → i < d
+    below i h = grind (arith, nat_tests)
+
+pub inner_renamed : (f : ℕ → ℕ) (d : ℕ) (t : PlainType) → mentions (nat_le d) t ≡ false → rename (beyond_times d f) t ≡ t
+inner_renamed f d t h = rename_agrees t (outer_agree f d) h ∙ rename_same t (record { each = λ i. refl })
 
 pub closed_replaced : (r : Replacement) (t : PlainType) → IsClosed t → IsNormal t → replace r t ≡ t
 closed_replaced r t h n = replace_agrees t (all_alike r no_replacement) h ∙ replace_same t nothing_changed n

@@ -3,6 +3,7 @@ use mathlib.Core.Former.{Count}
 use Rattle.std.proofs.Common.{◌≡◌, ℕ, zero, suc, ◌+◌, ◌≤◌, ◌<◌, List, [], ◌∷◌, ◌++◌, length, get_or, drop, take, refl, sym, ◌∙◌, ap, arith, add-one, drop-cons}
 use Rattle.std.proofs.lemmas.List.{drop_all}
 use Rattle.std.specs.declared.vec.Vec.{Vec}
+use Rattle.std.specs.declared.rc.Rc.{Rc}
 use Rattle.std.specs.declared.alloc.Global.{Global}
 use Rattle.pict_syntax.specs.declared.name.Name.{Name}
 use Rattle.pict_types.specs.declared.types.Ty.{Ty}
@@ -29,32 +30,32 @@ label_row_items n end_of-Record-labelled-2 = refl
 label_row_items n (more_of-Record-labelled-2 l t ls) = ap (labels l.0 (plain t)) (label_row_items _ ls)
 
 abbrev row_of : Ty → (n : Count) × Row_of-Ty n
-row_of (Apply_' i shape ts) = (_, ts)
-row_of (Fields_' a bs b ps c ls) = (_, ps)
+row_of (Apply_' i p shape ts) = (_, ts)
+row_of (Fields_' p a bs b ps c ls) = (_, ps)
 row_of _ = (_, end_of-Ty)
 
 abbrev bound_row_of : Ty → (n : Count) × Row_of-Bound n
-bound_row_of (Fields_' a bs b ps c ls) = (_, bs)
+bound_row_of (Fields_' p a bs b ps c ls) = (_, bs)
 bound_row_of _ = (_, end_of-Bound)
 
 abbrev label_row_of : Ty → (n : Count) × Row_of-Record-labelled-2 n
-label_row_of (Fields_' a bs b ps c ls) = (_, ls)
+label_row_of (Fields_' p a bs b ps c ls) = (_, ls)
 label_row_of _ = (_, end_of-Record-labelled-2)
 
-pub plain_apply : (i : ℕ) (v : Vec Ty Global) → plain (Apply_ i v) ≡ Apply i (plain_types v.items)
+pub plain_apply : (i : ℕ) (v : Rc (Vec Ty Global) Global) → plain (Apply_ i v) ≡ Apply i (plain_types v.value.items)
 plain_apply i v =
     let r = row_of (Apply_ i v) in
-    ap (Apply i) (row_items r.0 r.1 ∙ ap plain_types (items_hidden-the_row-Ty-0 v))
+    ap (Apply i) (row_items r.0 r.1 ∙ ap plain_types (items_hidden-the_row-Ty-0 v.value))
 
-pub plain_fields : (r : Record) → plain (Fields_ r) ≡ plain_record r
+pub plain_fields : (r : Rc Record Global) → plain (Fields_ r) ≡ plain_record r.value
 plain_fields r =
     let ps = row_of (Fields_ r) in
     let bs = bound_row_of (Fields_ r) in
     let ls = label_row_of (Fields_ r) in
     three Fields
-    (bound_row_items bs.0 bs.1 ∙ ap plain_bounds (items_hidden-the_row-Bound-1 r.binders))
-    (row_items ps.0 ps.1 ∙ ap plain_types (items_hidden-the_row-Ty-0 r.positional))
-    (label_row_items ls.0 ls.1 ∙ ap plain_labels (items_hidden-the_row-Record-labelled-2-2 r.labelled))
+    (bound_row_items bs.0 bs.1 ∙ ap plain_bounds (items_hidden-the_row-Bound-1 r.value.binders))
+    (row_items ps.0 ps.1 ∙ ap plain_types (items_hidden-the_row-Ty-0 r.value.positional))
+    (label_row_items ls.0 ls.1 ∙ ap plain_labels (items_hidden-the_row-Record-labelled-2-2 r.value.labelled))
 
 -- one row behind another, and the same for the other two kinds
 abbrev pub then_types : PlainTypes → PlainTypes → PlainTypes
@@ -137,7 +138,7 @@ size_bounds_drop [] (suc n) h = absurd (omega arith)
 size_bounds_drop (x ∷ xs) (suc n) h = omega (arith, size_bounds_drop xs n (omega arith), size_bound_positive (plain_bound x))
 
 -- an applied variable, told by what it is
-pub plain_is_apply : (t : Ty) (i : ℕ) (v : Vec Ty Global) → t ≡ Apply_ i v → plain t ≡ Apply i (plain_types v.items)
+pub plain_is_apply : (t : Ty) (i : ℕ) (v : Rc (Vec Ty Global) Global) → t ≡ Apply_ i v → plain t ≡ Apply i (plain_types v.value.items)
 plain_is_apply t i v e = ap plain e ∙ plain_apply i v
 
 size_bounds_take : (xs : List Bound) (n : ℕ) → size_bounds (plain_bounds (take n xs)) ≤ size_bounds (plain_bounds xs)
@@ -186,8 +187,12 @@ count_size_bounds (bounds (Below t) bs) = omega (arith, count_size_bounds bs)
 count_size_bounds (bounds (Operator n) bs) = omega (arith, count_size_bounds bs)
 
 -- the same where its arguments are read as a slice
-pub apply_is : (t : Ty) (i : ℕ) (v : Vec Ty Global) (xs : List Ty) → t ≡ Apply_ i v → xs ≡ v.items → plain t ≡ Apply i (plain_types xs)
+pub apply_is : (t : Ty) (i : ℕ) (v : Rc (Vec Ty Global) Global) (xs : List Ty) → t ≡ Apply_ i v → xs ≡ v.value.items → plain t ≡ Apply i (plain_types xs)
 apply_is t i v xs e h = plain_is_apply t i v e ∙ ap (λ x. Apply i (plain_types x)) (sym h)
+
+-- a record type, told by what it is, where its record is read
+pub record_is : (t : Ty) (v : Rc Record Global) (r : Record) → t ≡ Fields_ v → r ≡ v.value → plain t ≡ plain_record r
+record_is t v r e h = ap plain e ∙ plain_fields v ∙ ap plain_record (sym h)
 
 -- what a loop over a row needs
 pub ruleset types_rules = (types_push, types_drop, types_end, types_then_none, size_types_item)

@@ -27,9 +27,9 @@ abbrev mutual
   plain Str_ = Str
   plain Bool_ = Boolean
   plain (Var_ i) = Var i
-  plain (Apply_ i shape ts) = Apply i (plain_row ts)
+  plain (Apply_ i p shape ts) = Apply i (plain_row ts)
   plain (Chan_ m p t) = Chan (plain_cap m) (plain t)
-  plain (Fields_ a bs b ps c ls) = Fields (plain_bound_row bs) (plain_row ps) (plain_label_row ls)
+  plain (Fields_ p a bs b ps c ls) = Fields (plain_bound_row bs) (plain_row ps) (plain_label_row ls)
   plain (Rec_ p t) = Rec (plain t)
 
   pub plain_bound : Bound → PlainBound

@@ -7,9 +7,7 @@ use crate::types::{Arg, Bound, Record, Ty};
 use pict_syntax::Name;
 use std::alloc::{AllocError, Global};
 
-#[tactic(auto, using(crate::proofs::Rows::plain_apply, crate::proofs::Rows::plain_fields))]
-#[cycle(copy)]
-fn copy_type(alloc: Global, t: &Ty) -> Result<Ty, AllocError>
+fn copy_type(t: &Ty) -> Result<Ty, AllocError>
     ensures { IfOk result (λ u. plain u ≡ plain t.now) }
 {
     match t {
@@ -19,14 +17,13 @@ fn copy_type(alloc: Global, t: &Ty) -> Result<Ty, AllocError>
         Ty::Str => Ok(Ty::Str),
         Ty::Bool => Ok(Ty::Bool),
         Ty::Var(i) => Ok(Ty::Var(*i)),
-        Ty::Apply(i, ts) => Ok(Ty::Apply(*i, copy_types(alloc, ts)?)),
-        Ty::Chan(cap, t) => Ok(Ty::Chan(*cap, Box::new(alloc, copy_type(alloc, t)?)?)),
-        Ty::Fields(r) => Ok(Ty::Fields(copy_record(alloc, r)?)),
-        Ty::Rec(t) => Ok(Ty::Rec(Box::new(alloc, copy_type(alloc, t)?)?)),
+        Ty::Apply(i, ts) => Ok(Ty::Apply(*i, ts.clone()?)),
+        Ty::Chan(cap, t) => Ok(Ty::Chan(*cap, t.clone()?)),
+        Ty::Fields(r) => Ok(Ty::Fields(r.clone()?)),
+        Ty::Rec(t) => Ok(Ty::Rec(t.clone()?)),
     }
 }
 
-#[cycle(copy)]
 fn copy_record(alloc: Global, r: &Record) -> Result<Record, AllocError>
     ensures { IfOk result (λ q. plain_record q ≡ plain_record r.now) }
 {
@@ -37,49 +34,45 @@ fn copy_record(alloc: Global, r: &Record) -> Result<Record, AllocError>
     })
 }
 
-#[cycle(copy)]
 fn copy_bound(alloc: Global, b: &Bound) -> Result<Bound, AllocError>
     ensures { IfOk result (λ d. plain_bound d ≡ plain_bound b.now) }
 {
     match b {
         Bound::Free => Ok(Bound::Free),
-        Bound::Below(t) => Ok(Bound::Below(copy_type(alloc, t)?)),
+        Bound::Below(t) => Ok(Bound::Below(copy_type(t)?)),
         Bound::Operator(marks) => Ok(Bound::Operator(Vec::from_slice(alloc, marks)?)),
     }
 }
 
-#[cycle(copy)]
 #[tactic(auto, using(crate::proofs::Rows::types_rules))]
 fn copy_types(alloc: Global, ts: &[Ty]) -> Result<Vec<Ty>, AllocError>
     ensures { IfOk result (λ us. plain_types us.items ≡ plain_types ts.now) }
 {
-    let mut copies = Vec::new(alloc);
+    let mut copies = Vec::with_capacity(alloc, ts.len())?;
     for t in ts {
-        copies.push(copy_type(alloc, t)?)?;
+        copies.push(copy_type(t)?)?;
     }
     Ok(copies)
 }
 
-#[cycle(copy)]
 #[tactic(auto, using(crate::proofs::Rows::bounds_rules))]
 fn copy_bounds(alloc: Global, bs: &[Bound]) -> Result<Vec<Bound>, AllocError>
     ensures { IfOk result (λ us. plain_bounds us.items ≡ plain_bounds bs.now) }
 {
-    let mut copies = Vec::new(alloc);
+    let mut copies = Vec::with_capacity(alloc, bs.len())?;
     for b in bs {
         copies.push(copy_bound(alloc, b)?)?;
     }
     Ok(copies)
 }
 
-#[cycle(copy)]
 #[tactic(auto, using(crate::proofs::Rows::labels_rules))]
 fn copy_labels(alloc: Global, ls: &[(Name, Ty)]) -> Result<Vec<(Name, Ty)>, AllocError>
     ensures { IfOk result (λ us. plain_labels us.items ≡ plain_labels ls.now) }
 {
-    let mut copies = Vec::new(alloc);
+    let mut copies = Vec::with_capacity(alloc, ls.len())?;
     for l in ls {
-        copies.push((l.0, copy_type(alloc, &l.1)?))?;
+        copies.push((l.0, copy_type(&l.1)?))?;
     }
     Ok(copies)
 }
@@ -89,7 +82,7 @@ impl Ty {
     pub fn copy(&self, alloc: Global) -> Result<Ty, AllocError>
         ensures same { IfOk result (λ u. plain u ≡ plain self.now) }
     {
-        copy_type(alloc, self)
+        copy_type(self)
     }
 }
 
@@ -117,10 +110,10 @@ impl Arg {
         ensures same { IfOk result (λ a. plain_arg a ≡ plain_arg self.now) }
     {
         match self {
-            Arg::Plain(t) => Ok(Arg::Plain(copy_type(alloc, t)?)),
+            Arg::Plain(t) => Ok(Arg::Plain(copy_type(t)?)),
             Arg::Op { params, body } => Ok(Arg::Op {
                 params: *params,
-                body: copy_type(alloc, body)?,
+                body: copy_type(body)?,
             }),
         }
     }

@@ -1,15 +1,18 @@
 // Types put for the innermost type variables.
 
-ghost use Rattle.std.specs.Prelude.{◌≡◌, IfOk};
+ghost use Rattle.std.specs.Prelude.{◌≡◌, IfOk, IsTrue, Some};
+ghost use Rattle.pict_types.specs.Renumbering.{changed, changed_bound, changed_record};
 ghost use Rattle.pict_types.specs.Filling.{filling_past, put_for};
 ghost use Rattle.pict_types.specs.Plain.{plain, plain_bound, plain_bounds, plain_labels, plain_record, plain_types};
+ghost use Rattle.pict_types.specs.Types.{Var};
 ghost use Rattle.pict_types.specs.Replacing.{apply_variable, bound_by, fill, fill_bound, fill_bounds, fill_labels, fill_types};
 
-use crate::renumber::deeper;
+use crate::renumber::{Renumbered, both, bound_or_copy, deeper, is_left, type_or_copy};
 use crate::shift::shift_type;
 use crate::types::{Bound, Record, Ty};
 use pict_syntax::Name;
 use std::alloc::{AllocError, Global};
+use std::rc::Rc;
 
 /// The bound that a type makes: `Top` is none.
 #[tactic(auto, using(crate::proofs::Filled::bound_by_other))]
@@ -54,136 +57,215 @@ fn fill_head(i: u32, us: &[Ty], by: u32, under: usize) -> Result<Option<u32>, Al
     Ok(Some(beyond.checked_add(by).ok_or(AllocError)?))
 }
 
-/// The type with `us` put for the innermost variables, the last one for variable 0, and `by` more binders between it
-/// and its context; the `under` innermost variables stay.
-///
-/// The only error is want of memory, and a variable past the greatest `u32` is one.
+/// The type filled as `fill_type` says; nothing where it is as it was.
 #[cycle(fill)]
 #[tactic(auto, using(crate::proofs::Rows::plain_apply, crate::proofs::Rows::plain_fields))]
-pub fn fill_type(alloc: Global, t: &Ty, us: &[Ty], by: u32, under: usize) -> Result<Ty, AllocError>
-    ensures { IfOk result (λ u. plain u ≡ fill (filling_past under (put_for (plain_types us.now) by)) (plain t.now)) }
+fn filled_type(
+    alloc: Global,
+    t: &Ty,
+    us: &[Ty],
+    by: u32,
+    under: usize,
+) -> Result<Option<Ty>, AllocError>
+    ensures { IfOk result (λ o. changed o (plain t.now) ≡ fill (filling_past under (put_for (plain_types us.now) by)) (plain t.now)) }
 {
     match t {
-        Ty::Top => Ok(Ty::Top),
-        Ty::Int => Ok(Ty::Int),
-        Ty::Char => Ok(Ty::Char),
-        Ty::Str => Ok(Ty::Str),
-        Ty::Bool => Ok(Ty::Bool),
-        Ty::Var(i) => fill_variable(alloc, *i, us, by, under),
+        Ty::Top => Ok(None),
+        Ty::Int => Ok(None),
+        Ty::Char => Ok(None),
+        Ty::Str => Ok(None),
+        Ty::Bool => Ok(None),
+        Ty::Var(i) => {
+            let u = fill_variable(alloc, *i, us, by, under)?;
+            if is_variable(&u, *i) {
+                return Ok(None);
+            }
+            Ok(Some(u))
+        }
         Ty::Apply(i, ts) => {
             let head = fill_head(*i, us, by, under)?;
-            let ts = fill_types(alloc, ts, us, by, under)?;
-            Ok(apply_head(head, ts))
+            let row = filled_types(alloc, ts, us, by, under)?;
+            if row.same && is_head(head, *i) {
+                return Ok(None);
+            }
+            let applied = apply_head(alloc, head, row.items)?;
+            Ok(Some(applied))
         }
-        Ty::Chan(cap, t) => Ok(Ty::Chan(
-            *cap,
-            Box::new(alloc, fill_type(alloc, t, us, by, under)?)?,
-        )),
-        Ty::Fields(r) => Ok(Ty::Fields(fill_record(alloc, r, us, by, under)?)),
-        Ty::Rec(t) => Ok(Ty::Rec(Box::new(
-            alloc,
-            fill_type(alloc, t, us, by, deeper(under, 1)?)?,
-        )?)),
+        Ty::Chan(cap, t) => match filled_type(alloc, t, us, by, under)? {
+            None => Ok(None),
+            Some(u) => Ok(Some(Ty::Chan(*cap, Rc::new(alloc, u)?))),
+        },
+        Ty::Fields(r) => match filled_record(alloc, r, us, by, under)? {
+            None => Ok(None),
+            Some(q) => Ok(Some(Ty::Fields(Rc::new(alloc, q)?))),
+        },
+        Ty::Rec(t) => {
+            let inside = deeper(under, 1)?;
+            match filled_type(alloc, t, us, by, inside)? {
+                None => Ok(None),
+                Some(u) => Ok(Some(Ty::Rec(Rc::new(alloc, u)?))),
+            }
+        }
+    }
+}
+
+/// Whether it is this variable.
+fn is_variable(u: &Ty, i: u32) -> bool
+    ensures { IsTrue result → plain u.now ≡ Var i }
+{
+    match u {
+        Ty::Var(j) => *j == i,
+        _ => false,
+    }
+}
+
+/// Whether it is this variable.
+fn is_head(head: Option<u32>, i: u32) -> bool
+    ensures { IsTrue result → head ≡ Some i }
+{
+    match head {
+        None => false,
+        Some(j) => j == i,
     }
 }
 
 /// An applied variable; `Top` where there is none.
 #[tactic(auto, using(crate::proofs::Rows::plain_apply))]
-pub fn apply_head(head: Option<u32>, ts: Vec<Ty>) -> Ty
-    ensures { plain result ≡ apply_variable head (plain_types ts.items) }
+pub fn apply_head(alloc: Global, head: Option<u32>, ts: Vec<Ty>) -> Result<Ty, AllocError>
+    ensures { IfOk result (λ u. plain u ≡ apply_variable head (plain_types ts.items)) }
 {
     match head {
-        Some(i) => Ty::Apply(i, ts),
-        None => Ty::Top,
+        Some(i) => Ok(Ty::Apply(i, Rc::new(alloc, ts)?)),
+        None => Ok(Ty::Top),
     }
 }
 
 #[cycle(fill)]
 #[tactic(auto, using(crate::proofs::Filled::past_all, crate::proofs::Rows::count_bounds_length, crate::proofs::Rows::count_size_bounds))]
-fn fill_record(
+fn filled_record(
     alloc: Global,
     r: &Record,
     us: &[Ty],
     by: u32,
     under: usize,
-) -> Result<Record, AllocError>
-    ensures { IfOk result (λ u. plain_record u ≡ fill (filling_past under (put_for (plain_types us.now) by)) (plain_record r.now)) }
+) -> Result<Option<Record>, AllocError>
+    ensures { IfOk result (λ o. changed_record o (plain_record r.now) ≡ fill (filling_past under (put_for (plain_types us.now) by)) (plain_record r.now)) }
 {
     let inside = deeper(under, r.binders.as_slice().len())?;
-    Ok(Record {
-        binders: fill_bounds(alloc, &r.binders, us, by, under)?,
-        positional: fill_types(alloc, &r.positional, us, by, inside)?,
-        labelled: fill_labels(alloc, &r.labelled, us, by, inside)?,
-    })
+    let binders = filled_bounds(alloc, &r.binders, us, by, under)?;
+    let positional = filled_types(alloc, &r.positional, us, by, inside)?;
+    let labelled = filled_labels(alloc, &r.labelled, us, by, inside)?;
+    if binders.same && positional.same && labelled.same {
+        return Ok(None);
+    }
+    Ok(Some(Record {
+        binders: binders.items,
+        positional: positional.items,
+        labelled: labelled.items,
+    }))
 }
 
 #[cycle(fill)]
-fn fill_bound(
+fn filled_bound(
     alloc: Global,
     b: &Bound,
     us: &[Ty],
     by: u32,
     under: usize,
-) -> Result<Bound, AllocError>
-    ensures { IfOk result (λ u. plain_bound u ≡ fill_bound (filling_past under (put_for (plain_types us.now) by)) (plain_bound b.now)) }
+) -> Result<Option<Bound>, AllocError>
+    ensures { IfOk result (λ o. changed_bound o (plain_bound b.now) ≡ fill_bound (filling_past under (put_for (plain_types us.now) by)) (plain_bound b.now)) }
 {
     match b {
-        Bound::Free => Ok(Bound::Free),
-        Bound::Below(t) => Ok(bound_by(fill_type(alloc, t, us, by, under)?)),
-        Bound::Operator(marks) => Ok(Bound::Operator(Vec::from_slice(alloc, marks)?)),
+        Bound::Free => Ok(None),
+        Bound::Below(t) => {
+            let made = filled_type(alloc, t, us, by, under)?;
+            let u = type_or_copy(alloc, made, t)?;
+            Ok(Some(bound_by(u)))
+        }
+        Bound::Operator(_) => Ok(None),
     }
 }
 
 #[cycle(fill)]
 #[tactic(auto, using(crate::proofs::Rows::types_rules))]
-fn fill_types(
+fn filled_types(
     alloc: Global,
     ts: &[Ty],
     us: &[Ty],
     by: u32,
     under: usize,
-) -> Result<Vec<Ty>, AllocError>
-    ensures { IfOk result (λ xs. plain_types xs.items ≡ fill_types (filling_past under (put_for (plain_types us.now) by)) (plain_types ts.now)) }
+) -> Result<Renumbered<Ty>, AllocError>
+    ensures row { IfOk result (λ m. plain_types m.items.items ≡ fill_types (filling_past under (put_for (plain_types us.now) by)) (plain_types ts.now)) }
+    ensures same { IfOk result (λ m. IsTrue m.same → fill_types (filling_past under (put_for (plain_types us.now) by)) (plain_types ts.now) ≡ plain_types ts.now) }
 {
-    let mut filled = Vec::new(alloc);
+    let mut items = Vec::with_capacity(alloc, ts.len())?;
+    let mut same = true;
     for t in ts {
-        filled.push(fill_type(alloc, t, us, by, under)?)?;
+        let u = match filled_type(alloc, t, us, by, under)? {
+            None => t.copy(alloc)?,
+            Some(u) => {
+                same = false;
+                u
+            }
+        };
+        items.push(u)?;
     }
-    Ok(filled)
+    Ok(Renumbered { items, same })
 }
 
 #[cycle(fill)]
 #[tactic(auto, using(crate::proofs::Rows::labels_rules))]
-fn fill_labels(
+fn filled_labels(
     alloc: Global,
     ls: &[(Name, Ty)],
     us: &[Ty],
     by: u32,
     under: usize,
-) -> Result<Vec<(Name, Ty)>, AllocError>
-    ensures { IfOk result (λ xs. plain_labels xs.items ≡ fill_labels (filling_past under (put_for (plain_types us.now) by)) (plain_labels ls.now)) }
+) -> Result<Renumbered<(Name, Ty)>, AllocError>
+    ensures row { IfOk result (λ m. plain_labels m.items.items ≡ fill_labels (filling_past under (put_for (plain_types us.now) by)) (plain_labels ls.now)) }
+    ensures same { IfOk result (λ m. IsTrue m.same → fill_labels (filling_past under (put_for (plain_types us.now) by)) (plain_labels ls.now) ≡ plain_labels ls.now) }
 {
-    let mut filled = Vec::new(alloc);
+    let mut items = Vec::with_capacity(alloc, ls.len())?;
+    let mut same = true;
     for l in ls {
-        filled.push((l.0, fill_type(alloc, &l.1, us, by, under)?))?;
+        let made = filled_type(alloc, &l.1, us, by, under)?;
+        same = both(same, is_left(&made));
+        let u = type_or_copy(alloc, made, &l.1)?;
+        items.push((l.0, u))?;
     }
-    Ok(filled)
+    Ok(Renumbered { items, same })
 }
 
 #[cycle(fill)]
 #[tactic(auto, using(crate::proofs::Rows::bounds_rules))]
-fn fill_bounds(
+fn filled_bounds(
     alloc: Global,
     bs: &[Bound],
     us: &[Ty],
     by: u32,
     under: usize,
-) -> Result<Vec<Bound>, AllocError>
-    ensures { IfOk result (λ xs. plain_bounds xs.items ≡ fill_bounds (filling_past under (put_for (plain_types us.now) by)) (plain_bounds bs.now)) }
+) -> Result<Renumbered<Bound>, AllocError>
+    ensures row { IfOk result (λ m. plain_bounds m.items.items ≡ fill_bounds (filling_past under (put_for (plain_types us.now) by)) (plain_bounds bs.now)) }
+    ensures same { IfOk result (λ m. IsTrue m.same → fill_bounds (filling_past under (put_for (plain_types us.now) by)) (plain_bounds bs.now) ≡ plain_bounds bs.now) }
 {
-    let mut filled = Vec::new(alloc);
+    let mut items = Vec::with_capacity(alloc, bs.len())?;
+    let mut same = true;
     for (i, b) in bs.iter().enumerate() {
-        filled.push(fill_bound(alloc, b, us, by, deeper(under, i)?)?)?;
+        let made = filled_bound(alloc, b, us, by, deeper(under, i)?)?;
+        same = both(same, is_left(&made));
+        let d = bound_or_copy(alloc, made, b)?;
+        items.push(d)?;
     }
-    Ok(filled)
+    Ok(Renumbered { items, same })
+}
+
+/// The type with `us` put for the innermost variables, the last one for variable 0, and `by` more binders between it
+/// and its context; the `under` innermost variables stay.
+///
+/// The only error is want of memory, and a variable past the greatest `u32` is one.
+pub fn fill_type(alloc: Global, t: &Ty, us: &[Ty], by: u32, under: usize) -> Result<Ty, AllocError>
+    ensures { IfOk result (λ u. plain u ≡ fill (filling_past under (put_for (plain_types us.now) by)) (plain t.now)) }
+{
+    let made = filled_type(alloc, t, us, by, under)?;
+    type_or_copy(alloc, made, t)
 }

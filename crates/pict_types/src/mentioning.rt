@@ -15,6 +15,8 @@ use std::alloc::AllocError;
 pub enum Variables<'a> {
     /// So many of the innermost.
     Innermost(u32),
+    /// All but so many of the innermost.
+    Outer(usize),
     /// Those with a mark; the last mark is that of variable 0.
     Marked(&'a [bool]),
 }
@@ -30,6 +32,7 @@ fn is_among(i: u32, variables: &Variables, under: usize) -> bool
     let i = i as usize - under;
     match variables {
         Variables::Innermost(n) => i < *n as usize,
+        Variables::Outer(n) => *n <= i,
         Variables::Marked(marks) => i < marks.len() && marks[marks.len() - 1 - i],
     }
 }

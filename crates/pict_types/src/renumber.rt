@@ -1,13 +1,15 @@
-// Types with their free variables renumbered.
+// Types with their free variables renumbered. What doesn't change is shared, and not made anew.
 
-ghost use Rattle.std.specs.Prelude.{◌≡◌, ◌+◌, IfOk};
+ghost use Rattle.std.specs.Prelude.{◌≡◌, ◌+◌, IfOk, IsTrue, None};
 ghost use Rattle.pict_types.specs.Plain.{plain, plain_bound, plain_bounds, plain_labels, plain_record, plain_types};
 ghost use Rattle.pict_types.specs.Renaming.{beyond_times, rename, rename_bound, rename_bounds, rename_labels, rename_types};
-ghost use Rattle.pict_types.specs.Renumbering.{renumbered};
+ghost use Rattle.pict_types.specs.Renumbering.{changed, changed_bound, changed_record, renumbered};
 
+use crate::mentioning::{Variables, mentions};
 use crate::types::{Bound, Record, Ty};
 use pict_syntax::Name;
 use std::alloc::{AllocError, Global};
+use std::rc::Rc;
 
 /// What becomes of the variables beyond the innermost ones that stay.
 #[derive(Clone, Copy)]
@@ -39,118 +41,224 @@ fn renumber_variable(i: u32, how: Renumbering, from: usize) -> Result<u32, Alloc
     }
 }
 
-/// The type with its free variables renumbered, where the `from` innermost ones stay.
-///
-/// The only error is want of memory, and a variable past the greatest `u32` is one.
+/// A row that was renumbered, and whether it is as it was.
+#[derive(Drop)]
+pub struct Renumbered<T> {
+    pub items: Vec<T>,
+    pub same: bool,
+}
+
+/// Whether both hold.
+pub fn both(a: bool, b: bool) -> bool
+    ensures left { IsTrue result → IsTrue a }
+    ensures right { IsTrue result → IsTrue b }
+{
+    a && b
+}
+
+/// Whether nothing was made.
+pub fn is_left<T>(made: &Option<T>) -> bool
+    ensures { IsTrue result → made.now ≡ None }
+{
+    match made {
+        None => true,
+        Some(_) => false,
+    }
+}
+
+/// What was made, or the same type once more where nothing was.
+pub fn type_or_copy(alloc: Global, made: Option<Ty>, t: &Ty) -> Result<Ty, AllocError>
+    ensures { IfOk result (λ u. plain u ≡ changed made (plain t.now)) }
+{
+    match made {
+        None => t.copy(alloc),
+        Some(u) => Ok(u),
+    }
+}
+
+/// What was made, or the same bound once more where nothing was.
+pub fn bound_or_copy(alloc: Global, made: Option<Bound>, b: &Bound) -> Result<Bound, AllocError>
+    ensures { IfOk result (λ u. plain_bound u ≡ changed_bound made (plain_bound b.now)) }
+{
+    match made {
+        None => b.copy(alloc),
+        Some(u) => Ok(u),
+    }
+}
+
+/// The type with its free variables renumbered, where the `from` innermost ones stay; nothing where it is as it was.
 #[cycle(renumber)]
 #[tactic(auto, using(crate::proofs::Rows::plain_apply, crate::proofs::Rows::plain_fields))]
-pub fn renumber_type(alloc: Global, t: &Ty, how: Renumbering, from: usize) -> Result<Ty, AllocError>
-    ensures { IfOk result (λ u. plain u ≡ rename (beyond_times from (renumbered how)) (plain t.now)) }
+fn changed_type(
+    alloc: Global,
+    t: &Ty,
+    how: Renumbering,
+    from: usize,
+) -> Result<Option<Ty>, AllocError>
+    ensures { IfOk result (λ o. changed o (plain t.now) ≡ rename (beyond_times from (renumbered how)) (plain t.now)) }
 {
     match t {
-        Ty::Top => Ok(Ty::Top),
-        Ty::Int => Ok(Ty::Int),
-        Ty::Char => Ok(Ty::Char),
-        Ty::Str => Ok(Ty::Str),
-        Ty::Bool => Ok(Ty::Bool),
-        Ty::Var(i) => Ok(Ty::Var(renumber_variable(*i, how, from)?)),
-        Ty::Apply(i, ts) => {
-            let i = renumber_variable(*i, how, from)?;
-            Ok(Ty::Apply(i, renumber_types(alloc, ts, how, from)?))
+        Ty::Top => Ok(None),
+        Ty::Int => Ok(None),
+        Ty::Char => Ok(None),
+        Ty::Str => Ok(None),
+        Ty::Bool => Ok(None),
+        Ty::Var(i) => {
+            let j = renumber_variable(*i, how, from)?;
+            if j == *i {
+                return Ok(None);
+            }
+            Ok(Some(Ty::Var(j)))
         }
-        Ty::Chan(cap, t) => Ok(Ty::Chan(
-            *cap,
-            Box::new(alloc, renumber_type(alloc, t, how, from)?)?,
-        )),
-        Ty::Fields(r) => Ok(Ty::Fields(renumber_record(alloc, r, how, from)?)),
-        Ty::Rec(t) => Ok(Ty::Rec(Box::new(
-            alloc,
-            renumber_type(alloc, t, how, deeper(from, 1)?)?,
-        )?)),
+        Ty::Apply(i, ts) => {
+            let j = renumber_variable(*i, how, from)?;
+            let row = changed_types(alloc, ts, how, from)?;
+            if j == *i && row.same {
+                return Ok(None);
+            }
+            Ok(Some(Ty::Apply(j, Rc::new(alloc, row.items)?)))
+        }
+        Ty::Chan(cap, t) => match changed_type(alloc, t, how, from)? {
+            None => Ok(None),
+            Some(u) => Ok(Some(Ty::Chan(*cap, Rc::new(alloc, u)?))),
+        },
+        Ty::Fields(r) => match changed_record(alloc, r, how, from)? {
+            None => Ok(None),
+            Some(q) => Ok(Some(Ty::Fields(Rc::new(alloc, q)?))),
+        },
+        Ty::Rec(t) => {
+            let inside = deeper(from, 1)?;
+            match changed_type(alloc, t, how, inside)? {
+                None => Ok(None),
+                Some(u) => Ok(Some(Ty::Rec(Rc::new(alloc, u)?))),
+            }
+        }
     }
 }
 
 #[cycle(renumber)]
 #[tactic(auto, using(crate::proofs::Moving::times_all, crate::proofs::Rows::count_bounds_length, crate::proofs::Rows::count_size_bounds))]
-fn renumber_record(
+fn changed_record(
     alloc: Global,
     r: &Record,
     how: Renumbering,
     from: usize,
-) -> Result<Record, AllocError>
-    ensures { IfOk result (λ u. plain_record u ≡ rename (beyond_times from (renumbered how)) (plain_record r.now)) }
+) -> Result<Option<Record>, AllocError>
+    ensures { IfOk result (λ o. changed_record o (plain_record r.now) ≡ rename (beyond_times from (renumbered how)) (plain_record r.now)) }
 {
     let under = deeper(from, r.binders.as_slice().len())?;
-    Ok(Record {
-        binders: renumber_bounds(alloc, &r.binders, how, from)?,
-        positional: renumber_types(alloc, &r.positional, how, under)?,
-        labelled: renumber_labels(alloc, &r.labelled, how, under)?,
-    })
+    let binders = changed_bounds(alloc, &r.binders, how, from)?;
+    let positional = changed_types(alloc, &r.positional, how, under)?;
+    let labelled = changed_labels(alloc, &r.labelled, how, under)?;
+    if binders.same && positional.same && labelled.same {
+        return Ok(None);
+    }
+    Ok(Some(Record {
+        binders: binders.items,
+        positional: positional.items,
+        labelled: labelled.items,
+    }))
 }
 
 #[cycle(renumber)]
-fn renumber_bound(
+fn changed_bound(
     alloc: Global,
     b: &Bound,
     how: Renumbering,
     from: usize,
-) -> Result<Bound, AllocError>
-    ensures { IfOk result (λ u. plain_bound u ≡ rename_bound (beyond_times from (renumbered how)) (plain_bound b.now)) }
+) -> Result<Option<Bound>, AllocError>
+    ensures { IfOk result (λ o. changed_bound o (plain_bound b.now) ≡ rename_bound (beyond_times from (renumbered how)) (plain_bound b.now)) }
 {
     match b {
-        Bound::Free => Ok(Bound::Free),
-        Bound::Below(t) => Ok(Bound::Below(renumber_type(alloc, t, how, from)?)),
-        Bound::Operator(marks) => Ok(Bound::Operator(Vec::from_slice(alloc, marks)?)),
+        Bound::Free => Ok(None),
+        Bound::Below(t) => match changed_type(alloc, t, how, from)? {
+            None => Ok(None),
+            Some(u) => Ok(Some(Bound::Below(u))),
+        },
+        Bound::Operator(_) => Ok(None),
     }
 }
 
 #[cycle(renumber)]
 #[tactic(auto, using(crate::proofs::Rows::types_rules))]
-fn renumber_types(
+fn changed_types(
     alloc: Global,
     ts: &[Ty],
     how: Renumbering,
     from: usize,
-) -> Result<Vec<Ty>, AllocError>
-    ensures { IfOk result (λ us. plain_types us.items ≡ rename_types (beyond_times from (renumbered how)) (plain_types ts.now)) }
+) -> Result<Renumbered<Ty>, AllocError>
+    ensures row { IfOk result (λ m. plain_types m.items.items ≡ rename_types (beyond_times from (renumbered how)) (plain_types ts.now)) }
+    ensures same { IfOk result (λ m. IsTrue m.same → rename_types (beyond_times from (renumbered how)) (plain_types ts.now) ≡ plain_types ts.now) }
 {
-    let mut moved = Vec::new(alloc);
+    let mut items = Vec::with_capacity(alloc, ts.len())?;
+    let mut same = true;
     for t in ts {
-        moved.push(renumber_type(alloc, t, how, from)?)?;
+        let u = match changed_type(alloc, t, how, from)? {
+            None => t.copy(alloc)?,
+            Some(u) => {
+                same = false;
+                u
+            }
+        };
+        items.push(u)?;
     }
-    Ok(moved)
+    Ok(Renumbered { items, same })
 }
 
 #[cycle(renumber)]
 #[tactic(auto, using(crate::proofs::Rows::labels_rules))]
-fn renumber_labels(
+fn changed_labels(
     alloc: Global,
     ls: &[(Name, Ty)],
     how: Renumbering,
     from: usize,
-) -> Result<Vec<(Name, Ty)>, AllocError>
-    ensures { IfOk result (λ us. plain_labels us.items ≡ rename_labels (beyond_times from (renumbered how)) (plain_labels ls.now)) }
+) -> Result<Renumbered<(Name, Ty)>, AllocError>
+    ensures row { IfOk result (λ m. plain_labels m.items.items ≡ rename_labels (beyond_times from (renumbered how)) (plain_labels ls.now)) }
+    ensures same { IfOk result (λ m. IsTrue m.same → rename_labels (beyond_times from (renumbered how)) (plain_labels ls.now) ≡ plain_labels ls.now) }
 {
-    let mut moved = Vec::new(alloc);
+    let mut items = Vec::with_capacity(alloc, ls.len())?;
+    let mut same = true;
     for l in ls {
-        moved.push((l.0, renumber_type(alloc, &l.1, how, from)?))?;
+        let made = changed_type(alloc, &l.1, how, from)?;
+        same = both(same, is_left(&made));
+        let u = type_or_copy(alloc, made, &l.1)?;
+        items.push((l.0, u))?;
     }
-    Ok(moved)
+    Ok(Renumbered { items, same })
 }
 
 #[cycle(renumber)]
 #[tactic(auto, using(crate::proofs::Rows::bounds_rules))]
-fn renumber_bounds(
+fn changed_bounds(
     alloc: Global,
     bs: &[Bound],
     how: Renumbering,
     from: usize,
-) -> Result<Vec<Bound>, AllocError>
-    ensures { IfOk result (λ us. plain_bounds us.items ≡ rename_bounds (beyond_times from (renumbered how)) (plain_bounds bs.now)) }
+) -> Result<Renumbered<Bound>, AllocError>
+    ensures row { IfOk result (λ m. plain_bounds m.items.items ≡ rename_bounds (beyond_times from (renumbered how)) (plain_bounds bs.now)) }
+    ensures same { IfOk result (λ m. IsTrue m.same → rename_bounds (beyond_times from (renumbered how)) (plain_bounds bs.now) ≡ plain_bounds bs.now) }
 {
-    let mut moved = Vec::new(alloc);
+    let mut items = Vec::with_capacity(alloc, bs.len())?;
+    let mut same = true;
     for (i, b) in bs.iter().enumerate() {
-        moved.push(renumber_bound(alloc, b, how, deeper(from, i)?)?)?;
+        let made = changed_bound(alloc, b, how, deeper(from, i)?)?;
+        same = both(same, is_left(&made));
+        let d = bound_or_copy(alloc, made, b)?;
+        items.push(d)?;
     }
-    Ok(moved)
+    Ok(Renumbered { items, same })
+}
+
+/// The type with its free variables renumbered, where the `from` innermost ones stay.
+///
+/// The only error is want of memory, and a variable past the greatest `u32` is one.
+pub fn renumber_type(alloc: Global, t: &Ty, how: Renumbering, from: usize) -> Result<Ty, AllocError>
+    ensures { IfOk result (λ u. plain u ≡ rename (beyond_times from (renumbered how)) (plain t.now)) }
+{
+    let changes = mentions(t, &Variables::Outer(from))?;
+    if changes {
+        let made = changed_type(alloc, t, how, from)?;
+        return type_or_copy(alloc, made, t);
+    }
+    t.copy(alloc)
 }

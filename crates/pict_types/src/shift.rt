@@ -9,12 +9,16 @@ use crate::renumber::{Renumbering, renumber_type};
 use crate::types::Ty;
 use std::alloc::{AllocError, Global};
 
-/// The type with `by` more variables between it and its context; the `from` innermost variables stay.
+/// The type with `by` more variables between it and its context; the `from` innermost variables stay. It is shared where
+/// there are no more.
 ///
 /// The only error is want of memory, and a variable past the greatest `u32` is one.
 pub fn shift_type(alloc: Global, t: &Ty, by: u32, from: usize) -> Result<Ty, AllocError>
     ensures { IfOk result (λ u. plain u ≡ rename (moved by from) (plain t.now)) }
 {
+    if by == 0 {
+        return t.copy(alloc);
+    }
     renumber_type(alloc, t, Renumbering::Up(by), from)
 }
 
@@ -24,5 +28,8 @@ pub fn shift_type(alloc: Global, t: &Ty, by: u32, from: usize) -> Result<Ty, All
 pub fn lower_type(alloc: Global, t: &Ty, by: u32) -> Result<Ty, AllocError>
     ensures { IfOk result (λ u. plain u ≡ lowered by (plain t.now)) }
 {
+    if by == 0 {
+        return t.copy(alloc);
+    }
     renumber_type(alloc, t, Renumbering::Down(by), 0)
 }

@@ -3,6 +3,7 @@
 ghost use Rattle.std.specs.Prelude.{◌≡◌};
 
 use pict_syntax::{Mark, Name};
+use std::rc::Rc;
 
 /// What may be done with a channel.
 #[derive(Clone, Copy, PartialEq, Eq, Debug)]
@@ -17,7 +18,7 @@ pub enum Cap {
     Respond,
 }
 
-/// A type in normal form.
+/// A type in normal form. Its parts are shared: a copy has the same parts.
 ///
 /// A type variable, and an operator variable that is applied, is the number of binders between the use and its
 /// binder. Binders are the type fields of a record, over the later type fields and all fields of that record, and
@@ -38,13 +39,13 @@ pub enum Ty {
     /// A type variable.
     Var(u32),
     /// An operator variable with its arguments.
-    Apply(u32, Vec<Ty>),
+    Apply(u32, Rc<Vec<Ty>>),
     /// A channel type with the type of its messages.
-    Chan(Cap, Box<Ty>),
+    Chan(Cap, Rc<Ty>),
     /// A record type.
-    Fields(Record),
+    Fields(Rc<Record>),
     /// A recursive type; its body has one more variable, which stands for the whole.
-    Rec(Box<Ty>),
+    Rec(Rc<Ty>),
 }
 
 /// The type fields, the positional fields and the labelled fields of a record type.

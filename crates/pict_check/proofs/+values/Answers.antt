@@ -1017,11 +1017,11 @@ declarations::declaration-returns-in-Operator-clause-answer = declarations.decla
 pub declarations::declaration-has-requires : goal.declarations::declaration-has-requires
 declarations::declaration-has-requires = declarations.declaration-has-requires
 
-pub declarations::declaration-returns-in-Await-clause-answer : goal.declarations::declaration-returns-in-Await-clause-answer
-declarations::declaration-returns-in-Await-clause-answer = declarations.declaration-returns-in-Await-clause-answer
+pub declarations::declaration-returns-in_ok-empty-in-Await-clause-answer : goal.declarations::declaration-returns-in_ok-empty-in-Await-clause-answer
+declarations::declaration-returns-in_ok-empty-in-Await-clause-answer = declarations.declaration-returns-in_ok-empty-in-Await-clause-answer
 
-pub declarations::declaration-returns-in-Await-clause-grew : goal.declarations::declaration-returns-in-Await-clause-grew
-declarations::declaration-returns-in-Await-clause-grew = declarations.declaration-returns-in-Await-clause-grew
+pub declarations::declaration-returns-in_ok-empty-in-Await-clause-grew : goal.declarations::declaration-returns-in_ok-empty-in-Await-clause-grew
+declarations::declaration-returns-in_ok-empty-in-Await-clause-grew = declarations.declaration-returns-in_ok-empty-in-Await-clause-grew
 
 pub declarations::value_of_pattern-typed_pattern-requires : goal.declarations::value_of_pattern-typed_pattern-requires
 declarations::value_of_pattern-typed_pattern-requires = declarations.value_of_pattern-typed_pattern-requires

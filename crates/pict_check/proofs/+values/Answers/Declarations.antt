@@ -162,19 +162,19 @@ declaration-has-requires t c =
     let v = val_of c.deref-in-Await.result.now in
     let is = await_read c.args.d.now i.field-0 i.v c.deref-in-Await.result.now i.is c.deref-in-Await.ensures in
     let asked = await_asked e i.field-0 v (subst (λ (d : Dec). IsWellAsked environment_ e (declaration d)) is c.requires.right) in
-    (search (rules, the_lemmas), subst (λ u. IsWellAsked nothing_ e (has v u)) (sym c.empty_record-empty.ensures) asked)
+    (search (rules, the_lemmas), subst (λ u. IsWellAsked nothing_ e (has v u)) (sym c.in_ok-empty-in-Await.ensures) asked)
 
-pub declaration-returns-in-Await-clause-answer : goal.declarations::declaration-returns-in-Await-clause-answer
-declaration-returns-in-Await-clause-answer t c =
+pub declaration-returns-in_ok-empty-in-Await-clause-answer : goal.declarations::declaration-returns-in_ok-empty-in-Await-clause-answer
+declaration-returns-in_ok-empty-in-Await-clause-answer t c =
     let e = environment_of c.args.env.now in
     let i = c.in-Await in
     let v = val_of c.deref-in-Await.result.now in
     let is = await_read c.args.d.now i.field-0 i.v c.deref-in-Await.result.now i.is c.deref-in-Await.ensures in
     subst (λ (d : Dec). IsAnswer (rule e (declaration d)) (λ _. environment_of c.has.new.env) c.has.result) (sym is)
-    (await_end c.args.env.now c.has.new.env i.field-0 v c.has.result c.has.ensures.same (subst (λ u. IsAnswer (rule e (has v u)) nothing c.has.result) c.empty_record-empty.ensures c.has.ensures.answer))
+    (await_end c.args.env.now c.has.new.env i.field-0 v c.has.result c.has.ensures.same (subst (λ u. IsAnswer (rule e (has v u)) nothing c.has.result) c.in_ok-empty-in-Await.ensures c.has.ensures.answer))
 
-pub declaration-returns-in-Await-clause-grew : goal.declarations::declaration-returns-in-Await-clause-grew
-declaration-returns-in-Await-clause-grew t c = result_grew c.has.result c.args.env.now c.has.new.env c.has.ensures.same
+pub declaration-returns-in_ok-empty-in-Await-clause-grew : goal.declarations::declaration-returns-in_ok-empty-in-Await-clause-grew
+declaration-returns-in_ok-empty-in-Await-clause-grew t c = result_grew c.has.result c.args.env.now c.has.new.env c.has.ensures.same
 
 -- a value that has the type of its pattern
 pub value_of_pattern-typed_pattern-requires : goal.declarations::value_of_pattern-typed_pattern-requires

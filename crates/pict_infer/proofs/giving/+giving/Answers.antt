@@ -6,7 +6,7 @@ use Rattle.pict_syntax.specs.Trees.{Pat, fields_pat, fold_pat, no_labelled_pats,
 use Rattle.pict_syntax.specs.PlainTrees.{annotation_of, field_pats_of, labelled_pats_on, pat_of, pats_on}
 use Rattle.pict_syntax.specs.Labels.{by_number, in_label_order}
 use Rattle.pict_types.specs.declared.types.Ty.TheVariants.{Fields}
-use Rattle.pict_types.specs.Plain.{plain, plain_labels, plain_types}
+use Rattle.pict_types.specs.Plain.{plain, plain_labels, plain_record, plain_types}
 use Rattle.pict_types.specs.PlainContext.{type_context}
 use Rattle.pict_types.specs.Types.{PlainBounds, Fields as PlainFields}
 use Rattle.pict_types.proofs.Rows.{plain_fields}
@@ -154,11 +154,18 @@ give_record-returns-in_err-within_limits-clause-answer t c =
     let e = environment_in c.args.c.now in
     let f = field_pats_of c.args.parts.now in
     let h = c.in_ok-fields.ensures.answer in
-    let r = c.in_ok-fields.fields.has in
+    let v = c.in_ok-new.field-0 in
+    let read = plain_fields v ∙ ap plain_record c.in_ok-new.ensures.ok ∙ h.has in
     let back = record_closed c.args.c.now c.open_parts.new.c c.taken.new.c h.given.own c.in_ok-own.own.items c.len-before.result h.inside c.in_ok-own.ensures.taken c.in_ok-own.ensures.left c.len-before.ensures c.taken.ensures.names in
     let err = c.in_err-within_limits.field-0.0 in
     answer_err (rule e (pattern_gives (fields_pat c.args.span f))) typed_pattern c.from_residual-in_err-within_limits.result err c.from_residual-in_err-within_limits.ensures.1
-    (record_too_big e c.args.span f h.given (plain (Fields r)) err h.gives (plain_fields r ∙ h.has) (subst (λ (d : Environment). IsRefused (limited d (plain (Fields r)) c.args.span) err) back.same c.in_err-within_limits.ensures))
+    (record_too_big e c.args.span f h.given (plain (Fields v)) err h.gives read (subst (λ (d : Environment). IsRefused (limited d (plain (Fields v)) c.args.span) err) back.same c.in_err-within_limits.ensures))
+
+pub give_record-returns-in_err-new-clause-grows : goal.give_record-returns-in_err-new-clause-grows
+give_record-returns-in_err-new-clause-grows t c =
+    let h = c.in_ok-fields.ensures.answer in
+    let back = record_closed c.args.c.now c.open_parts.new.c c.taken.new.c h.given.own c.in_ok-own.own.items c.len-before.result h.inside c.in_ok-own.ensures.taken c.in_ok-own.ensures.left c.len-before.ensures c.taken.ensures.names in
+    no_fewer (length (type_context c.args.c.now)) (length (type_context c.taken.new.c)) (as_many c.args.c.now c.taken.new.c back.same)
 
 pub give_record-returns-in_err-within_limits-clause-grows : goal.give_record-returns-in_err-within_limits-clause-grows
 give_record-returns-in_err-within_limits-clause-grows t c =
@@ -182,10 +189,11 @@ pub give_record-returns-clause-answer : goal.give_record-returns-clause-answer
 give_record-returns-clause-answer t c =
     let e = environment_in c.args.c.now in
     let h = c.in_ok-fields.ensures.answer in
-    let r = c.in_ok-fields.fields.has in
+    let v = c.in_ok-new.field-0 in
+    let read = plain_fields v ∙ ap plain_record c.in_ok-new.ensures.ok ∙ h.has in
     let back = record_closed c.args.c.now c.open_parts.new.c c.taken.new.c h.given.own c.in_ok-own.own.items c.len-before.result h.inside c.in_ok-own.ensures.taken c.in_ok-own.ensures.left c.len-before.ensures c.taken.ensures.names in
-    record_typed e c.args.span (field_pats_of c.args.parts.now) h.given (plain (Fields r)) (extension_of c.in_ok-adds.adds) h.gives (plain_fields r ∙ h.has)
-    (subst (λ (d : Environment). Runs (limited d (plain (Fields r)) c.args.span) (ok tt)) back.same c.in_ok-within_limits.ensures) (c.in_ok-adds.ensures.under ∙ ap₂ within back.own_ h.adds)
+    record_typed e c.args.span (field_pats_of c.args.parts.now) h.given (plain (Fields v)) (extension_of c.in_ok-adds.adds) h.gives read
+    (subst (λ (d : Environment). Runs (limited d (plain (Fields v)) c.args.span) (ok tt)) back.same c.in_ok-within_limits.ensures) (c.in_ok-adds.ensures.under ∙ ap₂ within back.own_ h.adds)
 
 pub give_record-returns-clause-base : goal.give_record-returns-clause-base
 give_record-returns-clause-base t c =

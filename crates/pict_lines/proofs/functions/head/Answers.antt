@@ -4,5 +4,12 @@ use Rattle.pict_rules.specs.Shapes.{applicable}
 use Rattle.pict_lines.proofs.HeadForms.{no_function_here}
 use Rattle.pict_lines.proofs.functions.head.Goals as goal
 
+pub returns-in-Some-clause-ok : goal.returns-in-Some-clause-ok
+returns-in-Some-clause-ok c =
+    let h = rw c.in-Some.is at c.in_ok-found.ensures.some in
+    ap applicable (sym c.in_ok-exposed.ensures) ∙ h
+
 pub returns-in-None-clause-refused : goal.returns-in-None-clause-refused
-returns-in-None-clause-refused c = no_function_here _ c.args.at (ap applicable (sym c.in_ok-exposed.ensures) ∙ c.in-None.ensures.none)
+returns-in-None-clause-refused c =
+    let h = rw c.in-None.is at c.in_ok-found.ensures.none in
+    no_function_here _ c.args.at (ap applicable (sym c.in_ok-exposed.ensures) ∙ h)

@@ -7,6 +7,9 @@ use Rattle.pict_rules.specs.Clauses.{may_receive}
 use Rattle.pict_rules.specs.Environments.{context_of}
 use Rattle.pict_infer.specs.Environments.{environment_of}
 use Rattle.pict_lines.specs.Declaring.{IsNoChannel}
+use Rattle.pict_rules.specs.Rules.{ok}
+use Rattle.pict_rules.specs.Derivations.{Runs}
+use Rattle.pict_lines.specs.Lines.{channel_messages}
 use Rattle.pict_lines.proofs.MessageEnds.{may_be, may_not, no_channel}
 use Rattle.pict_lines.proofs.messages.messages_received.Goals as goal
 
@@ -16,8 +19,10 @@ returns-in-None c =
 
 pub returns-then-may_receive : goal.returns-then-may_receive
 returns-then-may_receive c =
-    may_be may_receive Y3 c.args.at (exposure (context_of (environment_of c.args.env.now)) (plain c.args.t)) (plain c.in-Some.u) (plain_cap c.in-Some.cap) (sym c.in_ok-exposed.ensures ∙ c.in-Some.ensures.some) (sym c.may_receive.ensures ∙ c.if-may_receive.true)
+    let rule = channel_messages may_receive Y3 c.args.at (exposure (context_of (environment_of c.args.env.now)) (plain c.args.t)) in
+    subst (λ u. Runs rule (ok u)) (sym c.in_ok-copy-in-Some.ensures.same)
+    (may_be may_receive Y3 c.args.at (exposure (context_of (environment_of c.args.env.now)) (plain c.args.t)) (plain c.in-Some.u.now) (plain_cap c.in-Some.cap) (sym c.in_ok-exposed.ensures ∙ c.in-Some.ensures.some) (sym c.may_receive.ensures ∙ c.if-may_receive.true))
 
 pub returns-else-may_receive : goal.returns-else-may_receive
 returns-else-may_receive c =
-    may_not may_receive Y3 c.args.at (exposure (context_of (environment_of c.args.env.now)) (plain c.args.t)) (plain c.in-Some.u) (plain_cap c.in-Some.cap) (sym c.in_ok-exposed.ensures ∙ c.in-Some.ensures.some) (sym c.may_receive.ensures ∙ c.if-may_receive.false)
+    may_not may_receive Y3 c.args.at (exposure (context_of (environment_of c.args.env.now)) (plain c.args.t)) (plain c.in-Some.u.now) (plain_cap c.in-Some.cap) (sym c.in_ok-exposed.ensures ∙ c.in-Some.ensures.some) (sym c.may_receive.ensures ∙ c.if-may_receive.false)

@@ -1,4 +1,4 @@
--- The box holds what was put into it.
+-- The counted part holds what was put into it.
 use Rattle.std.proofs.Common.{◌≡◌, rules, subst}
 use Rattle.pict_types.specs.Plain.{plain}
 use Rattle.pict_types.specs.Types.{PlainType, Chan, Respond}

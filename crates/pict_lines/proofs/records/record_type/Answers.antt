@@ -7,4 +7,4 @@ use Rattle.pict_lines.specs.Lines.{formed}
 use Rattle.pict_lines.proofs.records.record_type.Goals as goal
 
 pub returns : goal.returns
-returns c = subst (λ z. IsAnswer (formed (environment_of c.args.env.now) z c.args.span) plain c.limited.result) c.fields_type-t.ensures c.limited.ensures
+returns c = subst (λ z. IsAnswer (formed (environment_of c.args.env.now) z c.args.span) plain c.limited.result) c.in_ok-t.ensures c.limited.ensures

@@ -5,7 +5,7 @@ use Rattle.pict_types.specs.Types.{Apply, under}
 use Rattle.pict_types.specs.Kinds.{IsWellFormed, kinds}
 use Rattle.pict_types.specs.Measures.{size, size_types, size_labels}
 use Rattle.pict_types.specs.Plain.{plain, plain_bound, plain_bounds, plain_labels, plain_record, plain_types}
-use Rattle.pict_types.proofs.Rows.{apply_is, plain_fields, labels_end}
+use Rattle.pict_types.proofs.Rows.{apply_is, record_is, labels_end}
 use Rattle.pict_sub.specs.Exposing.{exposure}
 use Rattle.pict_sub.specs.Scopes.{scope_context}
 use Rattle.pict_types.proofs.Items.{bound_size, item_size, label_read, label_size, types_formed}
@@ -23,36 +23,36 @@ use Rattle.pict_match.proofs.matching.+matching.Goals as goal
 
 pub match_at-match_arguments-requires : goal.match_at-match_arguments-requires
 match_at-match_arguments-requires t c =
-    let e = apply_is c.args.wanted.now c.in-Apply.i c.in-Apply.ws c.deref.result.now c.in-Apply.is c.deref.ensures.value in
-    let h : size (plain c.args.wanted.now) ≡ suc (size_types (plain_types c.deref.result.now)) = ap size e in
+    let e = apply_is c.args.wanted.now c.in-Apply.i c.in-Apply.ws c.deref-in-Apply.result.now c.in-Apply.is (c.deref-in-Apply.ensures.value ∙ ap (λ v. v.items) c.deref.ensures) in
+    let h : size (plain c.args.wanted.now) ≡ suc (size_types (plain_types c.deref-in-Apply.result.now)) = ap size e in
     (omega (arith, h), (c.requires.context, (formed_arguments (subst (IsFormed c.args.names.now) e c.requires.wanted), c.requires.given)))
 
 pub match_at-returns-in-Apply : goal.match_at-returns-in-Apply
 match_at-returns-in-Apply t c =
-    let e = apply_is c.args.wanted.now c.in-Apply.i c.in-Apply.ws c.deref.result.now c.in-Apply.is c.deref.ensures.value in
+    let e = apply_is c.args.wanted.now c.in-Apply.i c.in-Apply.ws c.deref-in-Apply.result.now c.in-Apply.is (c.deref-in-Apply.ensures.value ∙ ap (λ v. v.items) c.deref.ensures) in
     subst (λ x. Finds c.match_arguments.result (matched (scope_context c.args.scope.now) c.args.inner x (plain c.args.given.now)) (found_in c.args.found.now) (found_in c.match_arguments.new.found)) (sym e) c.match_arguments.ensures
 
 pub match_arguments-match_types-requires : goal.match_arguments-match_types-requires
 match_arguments-match_types-requires t c =
-    let e : Apply c.in-Apply.j (plain_types c.deref.result.now) ≡ exposure (scope_context c.args.scope.now) (plain c.args.given.now) =
-    sym (apply_is c.shown.result.now c.in-Apply.j c.in-Apply.us c.deref.result.now c.in-Apply.is c.deref.ensures.value) ∙ c.shown.ensures ∙ c.in_ok-followed.ensures in
-    (omega arith, (c.requires.context, (c.requires.wanted, shown_arguments c.args.names.now (scope_context c.args.scope.now) (plain c.args.given.now) c.in-Apply.j (plain_types c.deref.result.now) c.requires.context c.requires.given e)))
+    let e : Apply c.in-Apply.j (plain_types c.deref-then-is_same_head.result.now) ≡ exposure (scope_context c.args.scope.now) (plain c.args.given.now) =
+    sym (apply_is c.shown.result.now c.in-Apply.j c.in-Apply.us c.deref-then-is_same_head.result.now c.in-Apply.is (c.deref-then-is_same_head.ensures.value ∙ ap (λ v. v.items) c.deref.ensures)) ∙ c.shown.ensures ∙ c.in_ok-followed.ensures in
+    (omega arith, (c.requires.context, (c.requires.wanted, shown_arguments c.args.names.now (scope_context c.args.scope.now) (plain c.args.given.now) c.in-Apply.j (plain_types c.deref-then-is_same_head.result.now) c.requires.context c.requires.given e)))
 
 pub match_arguments-returns-then-is_same_head : goal.match_arguments-returns-then-is_same_head
 match_arguments-returns-then-is_same_head t c =
     let ctx = scope_context c.args.scope.now in
     let f = found_in c.args.found.now in
     let ws = plain_types c.args.wanted.now in
-    let us = plain_types c.deref.result.now in
+    let us = plain_types c.deref-then-is_same_head.result.now in
     let e : Apply c.in-Apply.j us ≡ exposure ctx (plain c.args.given.now) =
-    sym (apply_is c.shown.result.now c.in-Apply.j c.in-Apply.us c.deref.result.now c.in-Apply.is c.deref.ensures.value) ∙ c.shown.ensures ∙ c.in_ok-followed.ensures in
+    sym (apply_is c.shown.result.now c.in-Apply.j c.in-Apply.us c.deref-then-is_same_head.result.now c.in-Apply.is (c.deref-then-is_same_head.ensures.value ∙ ap (λ v. v.items) c.deref.ensures)) ∙ c.shown.ensures ∙ c.in_ok-followed.ensures in
     let is = arguments_same ctx c.args.inner c.args.i c.in-Apply.j ws us (plain c.args.given.now) f e (sym c.is_same_head.ensures ∙ c.if-is_same_head.true) in
     finds_same c.match_types.result (matched_types ctx c.args.inner ws us) (by_arguments ctx c.args.inner c.args.i ws (plain c.args.given.now)) f (found_in c.match_types.new.found) is c.match_types.ensures
 
 pub match_record-match_records-requires : goal.match_record-match_records-requires
 match_record-match_records-requires t c =
-    let e : plain_record c.in-Fields.q ≡ exposure (scope_context c.args.scope.now) (plain c.args.given.now) =
-    sym (plain_fields c.in-Fields.q) ∙ ap plain (sym c.in-Fields.is) ∙ c.shown.ensures ∙ c.in_ok-followed.ensures in
+    let e : plain_record c.deref.result.now ≡ exposure (scope_context c.args.scope.now) (plain c.args.given.now) =
+    sym (record_is c.shown.result.now c.in-Fields.q c.deref.result.now c.in-Fields.is c.deref.ensures) ∙ c.shown.ensures ∙ c.in_ok-followed.ensures in
     (omega arith, (c.requires.context, (c.requires.wanted, shown_fields c.args.names.now (scope_context c.args.scope.now) (plain c.args.given.now) _ _ _ c.requires.context c.requires.given e)))
 
 pub match_records-match_types-requires : goal.match_records-match_types-requires

@@ -4,7 +4,7 @@ use Rattle.std.specs.Prelude.{IfOk}
 use Rattle.pict_types.specs.Entries.{variables}
 use Rattle.pict_types.specs.Fitting.{StandsForOperator}
 use Rattle.pict_types.specs.Kinds.{kinds}
-use Rattle.pict_types.specs.Plain.{plain}
+use Rattle.pict_types.specs.Plain.{plain, plain_types}
 use Rattle.pict_types.specs.PlainContext.{names_of, plain_context}
 use Rattle.pict_types.specs.Renaming.{moved, rename}
 use Rattle.pict_normal.specs.Meanings.{meanings}
@@ -22,12 +22,12 @@ unreachable-requires c =
     let ns = names_of c.args.c.now in
     subst (StandsForOperator ns (kinds (variables d)) c.args.count) (sym (sym (ap put_head c.in-Proper.is) ∙ c.put_entry.ensures.head ∙ ap (meanings d).head_of c.in_ok-number.ensures)) (head_is ns d c.args.entry c.args.count (meanings_keep ns d c.args.c.now.formed) c.requires.arity)
 
-pub returns-in_ok-parameters-in-Variable : goal.returns-in_ok-parameters-in-Variable
-returns-in_ok-parameters-in-Variable c =
+pub returns-in_ok-new-in-Variable : goal.returns-in_ok-new-in-Variable
+returns-in_ok-new-in-Variable c =
     let d = plain_context c.args.c.now in
     let is = sym (ap put_head c.in-Variable.is) ∙ c.put_entry.ensures.head ∙ ap (meanings d).head_of c.in_ok-number.ensures in
     let i = c.in-Variable.i + c.args.count in
-    plain_apply i c.in_ok-parameters-in-Variable.field-0 ∙ ap (Apply i) c.in_ok-parameters-in-Variable.ensures ∙ ap (body_of c.args.count) is
+    plain_apply i c.in_ok-new-in-Variable.field-0 ∙ ap (λ v. Apply i (plain_types v.items)) c.in_ok-new-in-Variable.ensures.ok ∙ ap (Apply i) c.in_ok-parameters-in-Variable.ensures ∙ ap (body_of c.args.count) is
 
 pub returns-in-Operator : goal.returns-in-Operator
 returns-in-Operator c =

@@ -8,7 +8,7 @@ use Rattle.pict_normal.specs.BinderEntries.{bound_entry, entries_under}
 use Rattle.pict_normal.specs.Meanings.{meanings}
 use Rattle.pict_types.specs.Types.{is_top}
 use Rattle.pict_normal.specs.Normal.{meaning, count_trees, apply_stops, kind_stops, types_stops, labels_stops, binders_stops, binder_stops}
-use Rattle.pict_types.specs.Plain.{plain, plain_types, plain_labels, plain_bounds}
+use Rattle.pict_types.specs.Plain.{plain, plain_record, plain_types, plain_labels, plain_bounds}
 use Rattle.pict_types.specs.PlainContext.{names_of, plain_context}
 use Rattle.pict_types.specs.Places.{names_in}
 use Rattle.pict_normal.specs.Sizes.{nodes, nodes_of_binder, nodes_of_binders, nodes_of_types, nodes_of_labels}
@@ -232,14 +232,14 @@ raw_type-returns-in_err-raw_record-in-Fields-clause-first t c =
     passed_up c.from_residual.result err (λ x. IsFirst (kind_stops (names_of c.args.c.now) d (type_of c.args.t.now)) x) c.from_residual.ensures.1
     (subst (λ y. IsFirst (kind_stops (names_of c.args.c.now) d y) err) (sym e) (c.in_err-raw_record-in-Fields.ensures.first c.in-Fields.field-0))
 
-pub raw_type-returns-in_ok-raw_record-in-Fields-clause-raw : goal.raw_type-returns-in_ok-raw_record-in-Fields-clause-raw
-raw_type-returns-in_ok-raw_record-in-Fields-clause-raw t c =
+pub raw_type-returns-in_ok-new-in-Fields-clause-raw : goal.raw_type-returns-in_ok-new-in-Fields-clause-raw
+raw_type-returns-in_ok-new-in-Fields-clause-raw t c =
     let d = around c.args.inner.now c.args.c.now in
     let e = fields_tree c.args.t.now c.in-Fields.field-0 c.in-Fields.bs c.in-Fields.ts c.in-Fields.ls c.deref-in-Fields.result.now c.deref-in-Fields-2.result.now c.deref-in-Fields-3.result.now c.in-Fields.is c.deref-in-Fields.ensures.value c.deref-in-Fields-2.ensures.value c.deref-in-Fields-3.ensures.value in
-    plain_fields c.in_ok-raw_record-in-Fields.field-0 ∙ c.in_ok-raw_record-in-Fields.ensures.raw c.in-Fields.field-0 ∙ ap (raw (names_of c.args.c.now) (names_in d)) (sym e)
+    plain_fields c.in_ok-new-in-Fields.field-0 ∙ ap plain_record c.in_ok-new-in-Fields.ensures.ok ∙ c.in_ok-raw_record-in-Fields.ensures.raw c.in-Fields.field-0 ∙ ap (raw (names_of c.args.c.now) (names_in d)) (sym e)
 
-pub raw_type-returns-in_ok-raw_record-in-Fields-clause-kinds : goal.raw_type-returns-in_ok-raw_record-in-Fields-clause-kinds
-raw_type-returns-in_ok-raw_record-in-Fields-clause-kinds t c =
+pub raw_type-returns-in_ok-new-in-Fields-clause-kinds : goal.raw_type-returns-in_ok-new-in-Fields-clause-kinds
+raw_type-returns-in_ok-new-in-Fields-clause-kinds t c =
     let d = around c.args.inner.now c.args.c.now in
     let e = fields_tree c.args.t.now c.in-Fields.field-0 c.in-Fields.bs c.in-Fields.ts c.in-Fields.ls c.deref-in-Fields.result.now c.deref-in-Fields-2.result.now c.deref-in-Fields-3.result.now c.in-Fields.is c.deref-in-Fields.ensures.value c.deref-in-Fields-2.ensures.value c.deref-in-Fields-3.ensures.value in
     ap (kind_stops (names_of c.args.c.now) d) e ∙ c.in_ok-raw_record-in-Fields.ensures.kinds c.in-Fields.field-0
@@ -277,14 +277,14 @@ raw_type-returns-in_err-raw_types-in-Apply-clause-first t c =
     (subst (λ y. IsFirst (kind_stops ns d y) err) (sym e)
     (first_after (apply_stops c.in-Apply.span m (count_trees ts)) (types_stops ns d ts) err (sym (ap (apply_stops c.in-Apply.span m) n) ∙ c.in_ok-head-in-Apply.ensures.kinds) c.in_err-raw_types-in-Apply.ensures.first))
 
-pub raw_type-returns-in_ok-raw_types-in-Apply-clause-raw : goal.raw_type-returns-in_ok-raw_types-in-Apply-clause-raw
-raw_type-returns-in_ok-raw_types-in-Apply-clause-raw t c =
+pub raw_type-returns-in_ok-apply_head-in-Apply-clause-raw : goal.raw_type-returns-in_ok-apply_head-in-Apply-clause-raw
+raw_type-returns-in_ok-apply_head-in-Apply-clause-raw t c =
     let d = around c.args.inner.now c.args.c.now in
     let e = apply_tree c.args.t.now c.in-Apply.span c.in-Apply.id c.in-Apply.ts c.deref-in-Apply.result.now c.in-Apply.is c.deref-in-Apply.ensures.value in
-    c.apply_head.ensures ∙ ap₂ apply_variable c.in_ok-head-in-Apply.ensures.raw c.in_ok-raw_types-in-Apply.ensures.raw ∙ ap (raw (names_of c.args.c.now) (names_in d)) (sym e)
+    c.in_ok-apply_head-in-Apply.ensures ∙ ap₂ apply_variable c.in_ok-head-in-Apply.ensures.raw c.in_ok-raw_types-in-Apply.ensures.raw ∙ ap (raw (names_of c.args.c.now) (names_in d)) (sym e)
 
-pub raw_type-returns-in_ok-raw_types-in-Apply-clause-kinds : goal.raw_type-returns-in_ok-raw_types-in-Apply-clause-kinds
-raw_type-returns-in_ok-raw_types-in-Apply-clause-kinds t c =
+pub raw_type-returns-in_ok-apply_head-in-Apply-clause-kinds : goal.raw_type-returns-in_ok-apply_head-in-Apply-clause-kinds
+raw_type-returns-in_ok-apply_head-in-Apply-clause-kinds t c =
     let ns = names_of c.args.c.now in
     let d = around c.args.inner.now c.args.c.now in
     let xs = c.deref-in-Apply.result.now in

@@ -17,7 +17,7 @@ use Rattle.pict_normal.proofs.Operating.{measured_count, operator_count, operato
 use Rattle.pict_normal.proofs.Parts.{part_same, makes_same, leaf_made, body_made, body_reason, head_made, operator_is, reason_same, reasons_same, record_fields, types_step, types_all, types_reason, labels_step, labels_all, labels_reason, arguments_step, arguments_all, arguments_reason, weight_reason, weight_step, types_under_reason, labels_under_reason}
 use Rattle.pict_normal.proofs.Placing.{placed_part, placed_same, placed_rec, placed_under, placed_item, placed_label, placed_bound}
 use Rattle.pict_normal.proofs.Used.{AreTheUsed, only_used_same, used_weigh}
-use Rattle.pict_types.proofs.Rows.{apply_is, plain_fields}
+use Rattle.pict_types.proofs.Rows.{apply_is, record_is}
 use Rattle.pict_normal.proofs.replacement.+made.Goals as goal
 use Rattle.pict_types.proofs.Within.{bound_weight}
 use Rattle.pict_types.proofs.Items.{item_size, label_size, bound_size}
@@ -55,8 +55,8 @@ made_type-returns-in-Bool-clause-made t c =
 pub made_type-made_apply-requires : goal.made_type-made_apply-requires
 made_type-made_apply-requires t c =
     let p = c.args.puts.now in
-    let ts = plain_types c.deref-in-Apply.result.now in
-    let e = apply_is c.args.t.now c.in-Apply.i c.in-Apply.ts c.deref-in-Apply.result.now c.in-Apply.is c.deref-in-Apply.ensures.value in
+    let ts = plain_types c.deref-in-Apply-2.result.now in
+    let e = apply_is c.args.t.now c.in-Apply.i c.in-Apply.ts c.deref-in-Apply-2.result.now c.in-Apply.is (c.deref-in-Apply-2.ensures.value ∙ ap (λ v. v.items) c.deref-in-Apply.ensures) in
     let h : size (plain c.args.t.now) ≡ suc (size_types ts) = ap size e in
     (omega (arith, h), placed_part (λ ks. IsWellFormed (names_in p) ks (Apply c.in-Apply.i ts)) (λ ks w. subst (IsWellFormed (names_in p) ks) e w) c.requires.placed)
 
@@ -64,21 +64,21 @@ pub made_type-returns-in-Apply-clause-made : goal.made_type-returns-in-Apply-cla
 made_type-returns-in-Apply-clause-made t c =
     let p = c.args.puts.now in
     let ms = c.args.inner.now.items in
-    let e = apply_is c.args.t.now c.in-Apply.i c.in-Apply.ts c.deref-in-Apply.result.now c.in-Apply.is c.deref-in-Apply.ensures.value in
-    makes_same p c.made_apply.result ms ms (Apply c.in-Apply.i (plain_types c.deref-in-Apply.result.now)) (plain c.args.t.now) refl (sym e) c.made_apply.ensures.made
+    let e = apply_is c.args.t.now c.in-Apply.i c.in-Apply.ts c.deref-in-Apply-2.result.now c.in-Apply.is (c.deref-in-Apply-2.ensures.value ∙ ap (λ v. v.items) c.deref-in-Apply.ensures) in
+    makes_same p c.made_apply.result ms ms (Apply c.in-Apply.i (plain_types c.deref-in-Apply-2.result.now)) (plain c.args.t.now) refl (sym e) c.made_apply.ensures.made
 
 pub made_type-returns-in-Apply-clause-reason : goal.made_type-returns-in-Apply-clause-reason
 made_type-returns-in-Apply-clause-reason t c =
     let p = c.args.puts.now in
     let ms = c.args.inner.now.items in
-    let e = apply_is c.args.t.now c.in-Apply.i c.in-Apply.ts c.deref-in-Apply.result.now c.in-Apply.is c.deref-in-Apply.ensures.value in
-    reasons_same p c.made_apply.result ms (Apply c.in-Apply.i (plain_types c.deref-in-Apply.result.now)) (plain c.args.t.now) (sym e) c.made_apply.ensures.reason
+    let e = apply_is c.args.t.now c.in-Apply.i c.in-Apply.ts c.deref-in-Apply-2.result.now c.in-Apply.is (c.deref-in-Apply-2.ensures.value ∙ ap (λ v. v.items) c.deref-in-Apply.ensures) in
+    reasons_same p c.made_apply.result ms (Apply c.in-Apply.i (plain_types c.deref-in-Apply-2.result.now)) (plain c.args.t.now) (sym e) c.made_apply.ensures.reason
 
 pub made_type-made_record-requires : goal.made_type-made_record-requires
 made_type-made_record-requires t c =
     let p = c.args.puts.now in
-    let r = c.in-Fields.r in
-    let e : plain c.args.t.now ≡ plain_record r = ap plain c.in-Fields.is ∙ plain_fields r in
+    let r = c.deref-in-Fields.result.now in
+    let e = record_is c.args.t.now c.in-Fields.r r c.in-Fields.is c.deref-in-Fields.ensures in
     let h : size (plain c.args.t.now) ≡ size (plain_record r) = ap size e in
     (omega (arith, h), placed_part (λ ks. IsWellFormed (names_in p) ks (plain_record r)) (λ ks w. subst (IsWellFormed (names_in p) ks) e w) c.requires.placed)
 
@@ -86,16 +86,16 @@ pub made_type-returns-in-Fields-clause-made : goal.made_type-returns-in-Fields-c
 made_type-returns-in-Fields-clause-made t c =
     let p = c.args.puts.now in
     let ms = c.args.inner.now.items in
-    let r = c.in-Fields.r in
-    let e : plain c.args.t.now ≡ plain_record r = ap plain c.in-Fields.is ∙ plain_fields r in
+    let r = c.deref-in-Fields.result.now in
+    let e = record_is c.args.t.now c.in-Fields.r r c.in-Fields.is c.deref-in-Fields.ensures in
     makes_same p c.made_record.result ms ms (plain_record r) (plain c.args.t.now) refl (sym e) c.made_record.ensures.made
 
 pub made_type-returns-in-Fields-clause-reason : goal.made_type-returns-in-Fields-clause-reason
 made_type-returns-in-Fields-clause-reason t c =
     let p = c.args.puts.now in
     let ms = c.args.inner.now.items in
-    let r = c.in-Fields.r in
-    let e : plain c.args.t.now ≡ plain_record r = ap plain c.in-Fields.is ∙ plain_fields r in
+    let r = c.deref-in-Fields.result.now in
+    let e = record_is c.args.t.now c.in-Fields.r r c.in-Fields.is c.deref-in-Fields.ensures in
     reasons_same p c.made_record.result ms (plain_record r) (plain c.args.t.now) (sym e) c.made_record.ensures.reason
 
 pub made_type-made_type-requires-in-Rec : goal.made_type-made_type-requires-in-Rec

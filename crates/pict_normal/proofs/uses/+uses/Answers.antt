@@ -5,7 +5,7 @@ use Rattle.std.proofs.lemmas.Result.{on_ok_weaker}
 use Rattle.pict_types.specs.Types.{count_bounds}
 use Rattle.pict_types.specs.Measures.{size, size_bound, size_types, size_labels, size_bounds}
 use Rattle.pict_types.specs.Plain.{plain, plain_bound, plain_record, plain_types, plain_labels, plain_bounds}
-use Rattle.pict_types.proofs.Rows.{apply_is, plain_fields, count_bounds_length, size_bounds_reach}
+use Rattle.pict_types.proofs.Rows.{apply_is, record_is, count_bounds_length, size_bounds_reach}
 use Rattle.pict_normal.specs.Uses.{uses, uses_types, uses_labels, uses_bounds}
 use Rattle.pict_normal.proofs.Marking.{marked_as, marked_three}
 use Rattle.pict_normal.proofs.uses.+uses.Goals as goal
@@ -65,14 +65,14 @@ mark_record-returns t c =
 
 pub mark_type-mark_types-requires : goal.mark_type-mark_types-requires
 mark_type-mark_types-requires t c =
-    let e = apply_is c.args.t.now c.in-Apply.j c.in-Apply.ts c.deref.result.now c.in-Apply.is c.deref.ensures.value in
-    let h : size (plain c.args.t.now) ≡ suc (size_types (plain_types c.deref.result.now)) = ap size e in
+    let e = apply_is c.args.t.now c.in-Apply.j c.in-Apply.ts c.deref-then-takes_arguments.result.now c.in-Apply.is (c.deref-then-takes_arguments.ensures.value ∙ ap (λ v. v.items) c.deref.ensures) in
+    let h : size (plain c.args.t.now) ≡ suc (size_types (plain_types c.deref-then-takes_arguments.result.now)) = ap size e in
     omega (arith, h)
 
 pub mark_type-mark_record-requires : goal.mark_type-mark_record-requires
 mark_type-mark_record-requires t c =
-    let r = c.in-Fields.r in
-    let e : plain c.args.t.now ≡ plain_record r = ap plain c.in-Fields.is ∙ plain_fields r in
+    let r = c.deref-in-Fields.result.now in
+    let e = record_is c.args.t.now c.in-Fields.r r c.in-Fields.is c.deref-in-Fields.ensures in
     let h : size (plain c.args.t.now) ≡ size (plain_record r) = ap size e in
     omega (arith, h)
 
@@ -80,12 +80,12 @@ pub mark_type-returns-then-takes_arguments : goal.mark_type-returns-then-takes_a
 mark_type-returns-then-takes_arguments t c =
     let n = length c.args.used.now in
     let d = c.args.depth in
-    let e = apply_is c.args.t.now c.in-Apply.j c.in-Apply.ts c.deref.result.now c.in-Apply.is c.deref.ensures.value in
+    let e = apply_is c.args.t.now c.in-Apply.j c.in-Apply.ts c.deref-then-takes_arguments.result.now c.in-Apply.is (c.deref-then-takes_arguments.ensures.value ∙ ap (λ v. v.items) c.deref.ensures) in
     let takes = sym c.takes_arguments.ensures ∙ c.if-takes_arguments.true in
-    on_ok_weaker c.mark_types.result (marked_as (λ i. uses n d i (plain c.args.t.now)) (λ i. ap (uses n d i) e ∙ ap (λ b. b && uses_types n d i (plain_types c.deref.result.now)) takes)) c.mark_types.ensures
+    on_ok_weaker c.mark_types.result (marked_as (λ i. uses n d i (plain c.args.t.now)) (λ i. ap (uses n d i) e ∙ ap (λ b. b && uses_types n d i (plain_types c.deref-then-takes_arguments.result.now)) takes)) c.mark_types.ensures
 
 pub mark_type-returns-in-Fields : goal.mark_type-returns-in-Fields
 mark_type-returns-in-Fields t c =
     let n = length c.args.used.now in
     let d = c.args.depth in
-    on_ok_weaker c.mark_record.result (marked_as (λ i. uses n d i (plain c.args.t.now)) (λ i. ap (uses n d i) (ap plain c.in-Fields.is ∙ plain_fields c.in-Fields.r))) c.mark_record.ensures
+    on_ok_weaker c.mark_record.result (marked_as (λ i. uses n d i (plain c.args.t.now)) (λ i. ap (uses n d i) (record_is c.args.t.now c.in-Fields.r c.deref-in-Fields.result.now c.in-Fields.is c.deref-in-Fields.ensures))) c.mark_record.ensures

@@ -12,19 +12,19 @@ use Rattle.pict_types.proofs.measure.+measure.Goals as goal
 pub measure-measure_types-requires : goal.measure-measure_types-requires
 measure-measure_types-requires t c =
     let e = plain_is_apply c.args.t.now c.in-Apply.field-0 c.in-Apply.ts c.in-Apply.is in
-    let h : size (plain c.args.t.now) ≡ suc (size_types (plain_types c.deref.result.now)) = ap size e ∙ ap (λ x. suc (size_types (plain_types x))) (sym c.deref.ensures.value) in
+    let h : size (plain c.args.t.now) ≡ suc (size_types (plain_types c.deref-in-Apply.result.now)) = ap size e ∙ ap (λ x. suc (size_types (plain_types x))) (sym (c.deref-in-Apply.ensures.value ∙ ap (λ v. v.items) c.deref.ensures)) in
     (omega (arith, h), c.requires.linked)
 
 pub measure-returns-in-Apply-clause-weight : goal.measure-returns-in-Apply-clause-weight
 measure-returns-in-Apply-clause-weight t c =
     let e = plain_is_apply c.args.t.now c.in-Apply.field-0 c.in-Apply.ts c.in-Apply.is in
-    let h : weigh (around_weights c.args.around.now) (plain c.args.t.now) ≡ suc (weigh_types (around_weights c.args.around.now) (plain_types c.deref.result.now)) = ap (weigh (around_weights c.args.around.now)) e ∙ ap (λ x. suc (weigh_types (around_weights c.args.around.now) (plain_types x))) (sym c.deref.ensures.value) in
+    let h : weigh (around_weights c.args.around.now) (plain c.args.t.now) ≡ suc (weigh_types (around_weights c.args.around.now) (plain_types c.deref-in-Apply.result.now)) = ap (weigh (around_weights c.args.around.now)) e ∙ ap (λ x. suc (weigh_types (around_weights c.args.around.now) (plain_types x))) (sym (c.deref-in-Apply.ensures.value ∙ ap (λ v. v.items) c.deref.ensures)) in
     omega (arith, h, c.measure_types.ensures.weight, c.above.ensures.weight)
 
 pub measure-returns-in-Apply-clause-height : goal.measure-returns-in-Apply-clause-height
 measure-returns-in-Apply-clause-height t c =
     let e = plain_is_apply c.args.t.now c.in-Apply.field-0 c.in-Apply.ts c.in-Apply.is in
-    let h : rise (around_heights c.args.around.now) (plain c.args.t.now) ≡ suc (rise_types (around_heights c.args.around.now) (plain_types c.deref.result.now)) = ap (rise (around_heights c.args.around.now)) e ∙ ap (λ x. suc (rise_types (around_heights c.args.around.now) (plain_types x))) (sym c.deref.ensures.value) in
+    let h : rise (around_heights c.args.around.now) (plain c.args.t.now) ≡ suc (rise_types (around_heights c.args.around.now) (plain_types c.deref-in-Apply.result.now)) = ap (rise (around_heights c.args.around.now)) e ∙ ap (λ x. suc (rise_types (around_heights c.args.around.now) (plain_types x))) (sym (c.deref-in-Apply.ensures.value ∙ ap (λ v. v.items) c.deref.ensures)) in
     omega (arith, h, c.measure_types.ensures.height, c.above.ensures.height)
 
 pub measure_block-loop-k-preserved : goal.measure_block-loop-k-preserved

@@ -11,17 +11,17 @@ use Rattle.pict_types.proofs.mentioning.+mentions.Goals as goal
 
 pub type_mentions-types_mention-requires : goal.type_mentions-types_mention-requires
 type_mentions-types_mention-requires t c =
-    let e = apply_is c.args.t.now c.in-Apply.i c.in-Apply.ts c.deref.result.now c.in-Apply.is c.deref.ensures.value in
-    let h : size (plain c.args.t.now) ≡ suc (size_types (plain_types c.deref.result.now)) = ap size e in
+    let e = apply_is c.args.t.now c.in-Apply.i c.in-Apply.ts c.deref-in-Apply.result.now c.in-Apply.is (c.deref-in-Apply.ensures.value ∙ ap (λ v. v.items) c.deref.ensures) in
+    let h : size (plain c.args.t.now) ≡ suc (size_types (plain_types c.deref-in-Apply.result.now)) = ap size e in
     (omega (arith, h), tt)
 
 pub type_mentions-returns-else-is_among : goal.type_mentions-returns-else-is_among
 type_mentions-returns-else-is_among t c =
     let f = outside_times c.args.under (is_among c.args.variables.now) in
-    let e = apply_is c.args.t.now c.in-Apply.i c.in-Apply.ts c.deref.result.now c.in-Apply.is c.deref.ensures.value in
+    let e = apply_is c.args.t.now c.in-Apply.i c.in-Apply.ts c.deref-in-Apply.result.now c.in-Apply.is (c.deref-in-Apply.ensures.value ∙ ap (λ v. v.items) c.deref.ensures) in
     let n : f c.in-Apply.i ≡ false = sym c.is_among-in-Apply.ensures ∙ c.if-is_among.false in
     c.in_ok-rest-in-Apply.ensures
-    ∙ sym (ap (λ x. x || mentions_types f (plain_types c.deref.result.now)) n)
+    ∙ sym (ap (λ x. x || mentions_types f (plain_types c.deref-in-Apply.result.now)) n)
     ∙ ap (mentions f) (sym e)
 
 pub type_mentions-returns-in_ok-deeper-in-Rec : goal.type_mentions-returns-in_ok-deeper-in-Rec

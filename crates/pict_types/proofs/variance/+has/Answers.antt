@@ -11,17 +11,17 @@ use Rattle.pict_types.proofs.variance.+has.Goals as goal
 
 pub type_has-types_have-requires : goal.type_has-types_have-requires
 type_has-types_have-requires t c =
-    let e = apply_is c.args.t.now c.in-Apply.i c.in-Apply.ts c.deref.result.now c.in-Apply.is c.deref.ensures.value in
-    let h : size (plain c.args.t.now) ≡ suc (size_types (plain_types c.deref.result.now)) = ap size e in
+    let e = apply_is c.args.t.now c.in-Apply.i c.in-Apply.ts c.deref-else-is_parameter.result.now c.in-Apply.is (c.deref-else-is_parameter.ensures.value ∙ ap (λ v. v.items) c.deref.ensures) in
+    let h : size (plain c.args.t.now) ≡ suc (size_types (plain_types c.deref-else-is_parameter.result.now)) = ap size e in
     (omega (arith, h), tt)
 
 pub type_has-returns-else-is_parameter : goal.type_has-returns-else-is_parameter
 type_has-returns-else-is_parameter t c =
     let f = only (seen c.args.body.now c.args.x) in
-    let e = apply_is c.args.t.now c.in-Apply.i c.in-Apply.ts c.deref.result.now c.in-Apply.is c.deref.ensures.value in
+    let e = apply_is c.args.t.now c.in-Apply.i c.in-Apply.ts c.deref-else-is_parameter.result.now c.in-Apply.is (c.deref-else-is_parameter.ensures.value ∙ ap (λ v. v.items) c.deref.ensures) in
     let n : f c.in-Apply.i ≡ false = sym c.is_parameter-in-Apply.ensures ∙ c.if-is_parameter.false in
     c.types_have.ensures
-    ∙ sym (ap (λ x. x || mentions_types f (plain_types c.deref.result.now)) n)
+    ∙ sym (ap (λ x. x || mentions_types f (plain_types c.deref-else-is_parameter.result.now)) n)
     ∙ ap (mentions f) (sym e)
 
 pub bounds_have-returns-then-bound_has : goal.bounds_have-returns-then-bound_has
