@@ -9,7 +9,7 @@ returns-in-Some-clause-ok c =
     let h = rw c.in-Some.is at c.in_ok-found.ensures.some in
     ap applicable (sym c.in_ok-exposed.ensures) ∙ h
 
-pub returns-in-None-clause-refused : goal.returns-in-None-clause-refused
-returns-in-None-clause-refused c =
+pub returns-clause-refused : goal.returns-clause-refused
+returns-clause-refused c =
     let h = rw c.in-None.is at c.in_ok-found.ensures.none in
     no_function_here _ c.args.at (ap applicable (sym c.in_ok-exposed.ensures) ∙ h)

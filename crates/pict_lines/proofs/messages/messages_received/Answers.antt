@@ -23,6 +23,6 @@ returns-then-may_receive c =
     subst (λ u. Runs rule (ok u)) (sym c.in_ok-copy-in-Some.ensures.same)
     (may_be may_receive Y3 c.args.at (exposure (context_of (environment_of c.args.env.now)) (plain c.args.t)) (plain c.in-Some.u.now) (plain_cap c.in-Some.cap) (sym c.in_ok-exposed.ensures ∙ c.in-Some.ensures.some) (sym c.may_receive.ensures ∙ c.if-may_receive.true))
 
-pub returns-else-may_receive : goal.returns-else-may_receive
-returns-else-may_receive c =
+pub returns : goal.returns
+returns c =
     may_not may_receive Y3 c.args.at (exposure (context_of (environment_of c.args.env.now)) (plain c.args.t)) (plain c.in-Some.u.now) (plain_cap c.in-Some.cap) (sym c.in_ok-exposed.ensures ∙ c.in-Some.ensures.some) (sym c.may_receive.ensures ∙ c.if-may_receive.false)

@@ -23,6 +23,6 @@ returns-then-may_send c =
     subst (λ u. Runs rule (ok u)) (sym c.in_ok-copy-in-Some.ensures.same)
     (may_be may_send Y2 c.args.at (exposure (context_of (environment_of c.args.env.now)) (plain c.args.t)) (plain c.in-Some.u.now) (plain_cap c.in-Some.cap) (sym c.in_ok-exposed.ensures ∙ c.in-Some.ensures.some) (sym c.may_send.ensures ∙ c.if-may_send.true))
 
-pub returns-else-may_send : goal.returns-else-may_send
-returns-else-may_send c =
+pub returns : goal.returns
+returns c =
     may_not may_send Y2 c.args.at (exposure (context_of (environment_of c.args.env.now)) (plain c.args.t)) (plain c.in-Some.u.now) (plain_cap c.in-Some.cap) (sym c.in_ok-exposed.ensures ∙ c.in-Some.ensures.some) (sym c.may_send.ensures ∙ c.if-may_send.false)
