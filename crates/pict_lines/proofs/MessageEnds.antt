@@ -3,7 +3,6 @@ use Rattle.std.proofs.Common.{◌≡◌, Bool, true, false}
 use Rattle.pict_syntax.specs.declared.code.Code.{Code}
 use Rattle.pict_syntax.specs.declared.code.Code.TheVariants.{Y1}
 use Rattle.pict_syntax.specs.declared.span.Span.{Span}
-use Rattle.pict_syntax.specs.Trees.{Chan}
 use Rattle.pict_types.specs.Types.{Capability, PlainType, Boolean}
 use Rattle.pict_types.specs.Types as types
 use Rattle.pict_rules.specs.Rules.{ok, stuck}
