@@ -209,7 +209,7 @@ fn wide_types_are_compared(rt: HostRuntime) -> Result<(), AllocError> {
 fn mentions_share_a_heavy_type(rt: HostRuntime) -> Result<(), AllocError> {
     let alloc = rt.alloc();
     let parts = [HEAVY, "", ""];
-    let text = twice(alloc, parts, "new c:^Z15 val b = c ", [400, 0])?;
+    let text = twice(alloc, parts, "new c:^Z15 val b = c ", [100, 0])?;
     let found = answer(alloc, 0, text.as_bytes())?;
     assert!(rt; found.as_str() == "Ok", "{found}");
     Ok(())
