@@ -175,7 +175,7 @@ signatures_refused e ds y h = refused_here _ _ _ y h
 
 definitions_end : (e d : Environment) (ds : Definitions) (ss : List Signature) (r : Result (Unit {0}) InferError) → Runs (rule e (signatures ds)) (ok ss) → IsAnswer (rule (with_signatures e ss) (bodies ss)) nothing r → OnOk r (d ≡ with_signatures e ss) → IsAnswer (rule e (declaration (defined ds))) (λ _. d) r
 definitions_end e d ds ss (Ok x) p h k = part_ok p (part_ok h (subst (λ z. Runs {s = environment_} (give (with_signatures e ss)) (ok z)) (sym k) give_))
-definitions_end e d ds ss (Err (Named c i)) p h k = part_ok p (part_stuck h)
+definitions_end e d ds ss (Err (Named c i told)) p h k = part_ok p (part_stuck h)
 definitions_end e d ds ss (Err Memory) p h k = tt
 
 pub definitions_answer : (old mid new : Env) (ds : List RDefinition) (xs : List Inside) (r : Result (Unit {0}) InferError) → AreSigned old mid ds xs → ((ss : List Signature) → AreInside (length (context_of (environment_of mid))) ds xs ss → IsAnswer (rule (environment_of mid) (bodies ss)) nothing r) → OnOk r (IsAsBefore mid new) → IsAnswer (rule (environment_of old) (declaration (defined (definitions_on no_definitions ds)))) (λ _. environment_of new) r

@@ -75,19 +75,19 @@ left_has e s f vs t u h = part_ok (subst (λ z. IsFor e (from_first (left_nested
 
 -- and refused
 gives_refused : (e : Environment) (s : Span) (f : Id) (vs : List RVal) (y : InferError) → IsRefusedFor e (from_first (right_nested s f) s (vals_onto (vals_on no_vals vs) [])) None y → IsRefused (rule e (gives (Right s f vs))) y
-gives_refused e s f vs (Named c i) h = part_stuck h
+gives_refused e s f vs (Named c i told) h = part_stuck h
 gives_refused e s f vs Memory h = tt
 
 has_refused : (e : Environment) (s : Span) (f : Id) (vs : List RVal) (t : PlainType) (y : InferError) → IsRefusedFor e (from_first (right_nested s f) s (vals_onto (vals_on no_vals vs) [])) (Some t) y → IsRefused (rule e (has (Right s f vs) t)) y
-has_refused e s f vs t (Named c i) h = part_stuck h
+has_refused e s f vs t (Named c i told) h = part_stuck h
 has_refused e s f vs t Memory h = tt
 
 gives_refused_left : (e : Environment) (s : Span) (f : Id) (vs : List RVal) (y : InferError) → IsRefusedFor e (from_first (left_nested s f) s (vals_onto (vals_on no_vals vs) [])) None y → IsRefused (rule e (gives (Left s f vs))) y
-gives_refused_left e s f vs (Named c i) h = part_stuck h
+gives_refused_left e s f vs (Named c i told) h = part_stuck h
 gives_refused_left e s f vs Memory h = tt
 
 has_refused_left : (e : Environment) (s : Span) (f : Id) (vs : List RVal) (t : PlainType) (y : InferError) → IsRefusedFor e (from_first (left_nested s f) s (vals_onto (vals_on no_vals vs) [])) (Some t) y → IsRefused (rule e (has (Left s f vs) t)) y
-has_refused_left e s f vs t (Named c i) h = part_stuck h
+has_refused_left e s f vs t (Named c i told) h = part_stuck h
 has_refused_left e s f vs t Memory h = tt
 
 pub right_gives_refused : (e : Environment) (s : Span) (f : Id) (vs : List RVal) (y : InferError) → IsRefusedFor e (nested s f (vals_of vs)) None y → IsRefused (rule e (gives (Right s f vs))) y

@@ -21,5 +21,5 @@ pub program_typed : (names : List (List ℕ)) (p : Decs) (e : Environment) → s
 program_typed names p e h r = (h, (e, r))
 
 pub program_stuck : (names : List (List ℕ)) (p : Decs) (y : InferError) → IsRefused (rule (no_environment names) (declarations p)) y → IsTypeStop names p (of_infer_error y)
-program_stuck names p (Named c i) h = h
+program_stuck names p (Named c i told) h = h
 program_stuck names p Memory h = tt

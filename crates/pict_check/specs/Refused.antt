@@ -8,10 +8,10 @@ use Rattle.pict_check.specs.declared.error.TypeError.{TypeError}
 use Rattle.pict_check.specs.declared.error.TypeError.TheVariants.{Named, Memory}
 
 abbrev pub of_infer_error : InferError → TypeError
-of_infer_error (infer.Named c i) = Named c i
+of_infer_error (infer.Named c i told) = Named c i told
 of_infer_error infer.Memory = Memory
 
 -- it is the place where the typing rules are stuck, with its code; want of memory may come at any time
 abbrev pub IsTypeStop : List (List ℕ) → Decs → TypeError → Type 0
-IsTypeStop names p (Named c i) = IsStuckAt names p c i
+IsTypeStop names p (Named c i told) = IsStuckAt names p c i
 IsTypeStop names p Memory = Unit {0}

@@ -12,10 +12,7 @@ ghost use Rattle.pict_lines.specs.Definitions.{function_tree};
 
 use crate::processes::process;
 use crate::values::{gives, has};
-use pict_infer::{
-    Env, InferError, as_record, followed, open_fields, open_fields_against, pattern_against,
-    pattern_gives, shown,
-};
+use pict_infer::{Env, InferError, Told, as_record, followed, open_fields, open_fields_against, pattern_against, pattern_gives, shown};
 use pict_lines::answers::{answer_in, argument, body_type, opened, past_added};
 use pict_lines::steps::{expanded, outside};
 use pict_syntax::{Abs, Code, FieldPats, RType, Span, TypeTree, Val, val_span};
@@ -114,7 +111,7 @@ pub fn abstraction_against(
         Abs::Function(span, fields, annotation, v) => {
             let followed = followed(alloc, env.context(), t)?;
             match as_record(shown(&followed, t)) {
-                None => Err(InferError::Named(Code::Y8, *span)),
+                None => Err(InferError::Named(Code::Y8, *span, Told::Nothing)),
                 Some(r) => function_against(alloc, env, v, fields, annotation, r, *span),
             }
         }

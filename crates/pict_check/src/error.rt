@@ -3,7 +3,7 @@
 ghost use Rattle.std.specs.Prelude.{◌≡◌};
 ghost use Rattle.pict_check.specs.Refused.{of_infer_error};
 
-use pict_infer::InferError;
+use pict_infer::{InferError, Told};
 use pict_syntax::{Code, Span};
 use std::alloc::{AllocError, AllocFailed};
 use thiserror::Error;
@@ -11,9 +11,9 @@ use thiserror::Error;
 /// Why the typing rules refuse a program.
 #[derive(Debug, Drop, Error)]
 pub enum TypeError {
-    /// The first line of the rules that is false, by its code and at its place: K1 to K5 and Y1 to Y16.
+    /// The first line of the rules that is false, by its code and at its place: K1 to K5 and Y1 to Y16; with what is told of it.
     #[error("{0:?} at {1:?}")]
-    Named(Code, Span),
+    Named(Code, Span, Told),
     /// Want of memory.
     #[error("want of memory")]
     Memory,
@@ -46,7 +46,7 @@ pub fn refusal(e: InferError) -> TypeError
     ensures { result ≡ of_infer_error e }
 {
     match e {
-        InferError::Named(code, span) => TypeError::Named(code, span),
+        InferError::Named(code, span, told) => TypeError::Named(code, span, told),
         InferError::Memory => TypeError::Memory,
     }
 }

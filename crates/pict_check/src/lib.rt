@@ -14,4 +14,4 @@ mod whole;
 
 pub use error::TypeError;
 pub use pict_rules::law_typed_or_stuck;
-pub use whole::check;
+pub use whole::{check, check_in};

@@ -15,7 +15,7 @@ ghost use Rattle.pict_infer.specs.Environments.{environment_of, IsAsBefore};
 use crate::abstractions::{abstraction_against, abstraction_gives};
 use crate::channels::{channel_gives, channel_has};
 use crate::fitting::fields_fit;
-use pict_infer::{Env, InferError, as_record};
+use pict_infer::{Env, InferError, Told, as_record};
 use pict_lines::fields::none_found;
 use pict_lines::parts::{as_sent, either, responder};
 use pict_lines::records::record_type;
@@ -113,7 +113,7 @@ fn record_gives(
     ensures same { OnOk result (IsAsBefore env.old env.new) }
 {
     if !fields.type_arguments.is_empty() {
-        return Err(InferError::Named(Code::Y7, span));
+        return Err(InferError::Named(Code::Y7, span, Told::Nothing));
     }
     let positional = values_give(alloc, env, &fields.positional)?;
     let labelled = labelled_values_give(alloc, env, &fields.labelled)?;

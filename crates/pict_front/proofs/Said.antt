@@ -49,7 +49,7 @@ typed names q p same none is (Some answer) h =
 -- the typing rules refuse the program
 pub stuck : {A : Type 0} (f : A → Front) (names : List (List ℕ)) (q p : Program) → q ≡ p → scope_stop names (declarations_of p) ≡ None → (error : TypeError) → IsTypeStop names (declarations_of q) error
     → (r : Refusal) → r ≡ of_type_error error → IfSome (said_by f (Err r)) (Judges names (declarations_of p))
-stuck f names q p same none (check.Named code span) stop r is =
+stuck f names q p same none (check.Named code span told) stop r is =
     subst (λ s. IfSome (said_by f (Err s)) (Judges names (declarations_of p))) (sym is)
     (scoped names (declarations_of p) none (refuses (code, span))
     (subst (λ r. Then (Checks names (declarations_of r)) (λ typed. Translates names (declarations_of r)) (refuses (code, span))) same (refuses (code, span), stop, refl)))

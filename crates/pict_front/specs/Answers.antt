@@ -36,7 +36,7 @@ of_scope_error (scope.Named code span) = Named code span
 of_scope_error scope.Memory = Memory
 
 abbrev pub of_type_error : TypeError → Refusal
-of_type_error (check.Named code span) = Named code span
+of_type_error (check.Named code span told) = Named code span
 of_type_error check.Memory = Memory
 
 -- a process that is too deep is refused at the first byte of the file

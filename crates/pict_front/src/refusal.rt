@@ -83,7 +83,7 @@ pub(crate) fn of_type_error(error: TypeError) -> Refusal
     ensures { result ≡ of_type_error error }
 {
     match error {
-        TypeError::Named(code, span) => Refusal::Named(code, span),
+        TypeError::Named(code, span, _) => Refusal::Named(code, span),
         TypeError::Memory => Refusal::Memory,
     }
 }

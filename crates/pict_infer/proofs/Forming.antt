@@ -28,6 +28,7 @@ use Rattle.pict_rules.specs.Clauses.{done, need_recursive}
 use Rattle.pict_rules.specs.Derivations.{Runs, give_, refuse_}
 use Rattle.pict_infer.specs.declared.error.InferError.{InferError}
 use Rattle.pict_infer.specs.declared.error.InferError.TheVariants.{Named, Memory}
+use Rattle.pict_infer.specs.declared.error.Told.TheVariants.{Nothing}
 use Rattle.pict_infer.specs.Answering.{IsRefused, IsStopped, of_kind_error, of_size_error}
 use Rattle.pict_infer.specs.Shaping.{is_recursive, is_variable}
 use Rattle.pict_infer.specs.Steps.{shown}
@@ -37,7 +38,7 @@ pub clear : {s : Sort} (o : Option Stop) {r : Rule s} {a : Answer s} → o ≡ N
 clear o h p = rw h p
 
 pub stopped : {s : Sort} (o : Option Stop) (r : Rule s) (y : InferError) → IsStopped o y → IsRefused (unless_stopped o r) y
-stopped o r (Named c i) h = rw h refuse_
+stopped o r (Named c i told) h = rw h refuse_
 stopped o r Memory h = tt
 
 pub stopped_by : (o : Option Stop) (e : KindError) → IsRefusal o e → IsStopped o (of_kind_error e)
@@ -51,7 +52,7 @@ expanded_ok o n u h e = clear {s = type_} o h (subst (λ (v : PlainType). Runs {
 pub expanded_err : (o : Option Stop) (n : PlainType) (e : KindError) → IsRefusal o e → IsRefused {s = type_} (unless_stopped o (give n)) (of_kind_error e)
 expanded_err o n e h = stopped {s = type_} o (give n) (of_kind_error e) (stopped_by o e h)
 
-pub size_past : (c : PlainContext) (t : PlainType) (s : Span) → (weight_of (variables c) t ≤ WEIGHT_LIMIT → height_of (variables c) t ≤ HEIGHT_LIMIT → ⊥) → IsStopped (size_stop c t s) (Named K4 s)
+pub size_past : (c : PlainContext) (t : PlainType) (s : Span) → (weight_of (variables c) t ≤ WEIGHT_LIMIT → height_of (variables c) t ≤ HEIGHT_LIMIT → ⊥) → IsStopped (size_stop c t s) (Named K4 s Nothing)
 size_past c t s h = too_big c t s h
 
 -- recursive types
@@ -114,7 +115,7 @@ past_limit Height w h p q a b = let x : HEIGHT_LIMIT < h = q refl in omega (arit
 
 pub unfolded_err : (c : PlainContext) (t : PlainType) (s : Span) (e : SizeError) → (e ≡ TooBig Weight → WEIGHT_LIMIT < weight_of (variables c) t) → (e ≡ TooBig Height → (weight_of (variables c) t ≤ WEIGHT_LIMIT) × (HEIGHT_LIMIT < height_of (variables c) t)) → IsRefused {s = type_} (unless_stopped (size_stop c t s) (give t)) (of_size_error s e)
 unfolded_err c t s (TooBig m) p q =
-    stopped {s = type_} (size_stop c t s) (give t) (Named K4 s) (size_past c t s (λ a b. past_limit m (weight_of (variables c) t) (height_of (variables c) t) (λ e. p (ap TooBig e)) (λ e. (q (ap TooBig e)).1) a b))
+    stopped {s = type_} (size_stop c t s) (give t) (Named K4 s Nothing) (size_past c t s (λ a b. past_limit m (weight_of (variables c) t) (height_of (variables c) t) (λ e. p (ap TooBig e)) (λ e. (q (ap TooBig e)).1) a b))
 unfolded_err c t s SizeMemory p q = tt
 
 -- a condition that was tested
@@ -130,8 +131,8 @@ expanded_is None n u give_ = (refl, refl)
 expanded_is (Some x) n u h = elim h [ ]
 
 pub refused_is : (o : Option Stop) (n : PlainType) (y : InferError) → IsRefused {s = type_} (unless_stopped o (give n)) y → IsStopped o y
-refused_is None n (Named c i) h = elim h [ ]
-refused_is (Some x) n (Named c i) refuse_ = refl
+refused_is None n (Named c i told) h = elim h [ ]
+refused_is (Some x) n (Named c i told) refuse_ = refl
 refused_is o n Memory h = tt
 
 -- what is exposed

@@ -136,17 +136,17 @@ record_typed e s f g t x p is h k =
 
 -- the fields: the type binders, then the positional ones, then the labelled ones
 pub binders_refused : (e : Environment) (bs : TypeBinders) (ps : Pats) (ls : LabelledPats) (y : InferError) → IsRefused (rule e (binders_give bs)) y → IsRefused (rule e (fields_give (field_pats bs ps ls))) y
-binders_refused e bs ps ls (Named c i) h = part_stuck h
+binders_refused e bs ps ls (Named c i told) h = part_stuck h
 binders_refused e bs ps ls Memory h = tt
 
 pub positional_refused : (e : Environment) (bs : TypeBinders) (ps : Pats) (ls : LabelledPats) (own : List KnownType) (y : InferError) → Runs (rule e (binders_give bs)) (ok own) → IsRefused (rule (with_own e own) (patterns_give ps)) y
     → IsRefused (rule e (fields_give (field_pats bs ps ls))) y
-positional_refused e bs ps ls own (Named c i) p h = part_ok p (part_stuck h)
+positional_refused e bs ps ls own (Named c i told) p h = part_ok p (part_stuck h)
 positional_refused e bs ps ls own Memory p h = tt
 
 pub labelled_refused : (e : Environment) (bs : TypeBinders) (ps : Pats) (ls : LabelledPats) (own : List KnownType) (g : TypedPatterns) (y : InferError) → Runs (rule e (binders_give bs)) (ok own) → Runs (rule (with_own e own) (patterns_give ps)) (ok g)
     → IsRefused (rule (with_own e own) (labelled_patterns_give ls)) y → IsRefused (rule e (fields_give (field_pats bs ps ls))) y
-labelled_refused e bs ps ls own g (Named c i) p q h = part_ok p (part_ok q (part_stuck h))
+labelled_refused e bs ps ls own g (Named c i told) p q h = part_ok p (part_ok q (part_stuck h))
 labelled_refused e bs ps ls own g Memory p q h = tt
 
 pub fields_typed : (e : Environment) (bs : TypeBinders) (ps : Pats) (ls : LabelledPats) (own : List KnownType) (g : TypedPatterns) (h : TypedLabels) → Runs (rule e (binders_give bs)) (ok own) → Runs (rule (with_own e own) (patterns_give ps)) (ok g)
@@ -159,11 +159,11 @@ one_pattern_more e xs i p g h n is r k =
     subst (λ ps. Runs (rule e (patterns_give ps)) (ok (record { have = and_type g.have h.has; adds = joined g.adds h.adds }))) (sym (next_pat xs i p n is)) (part_ok r (part_ok k give_))
 
 refused_further : (e : Environment) (y : InferError) (ps : Pats) (p : Pat) → IsRefused (rule e (patterns_give ps)) y → IsRefused (rule e (patterns_give (more_pats ps p))) y
-refused_further e (Named c i) ps p h = part_stuck h
+refused_further e (Named c i told) ps p h = part_stuck h
 refused_further e Memory ps p h = tt
 
 refused_here : (e : Environment) (y : InferError) (ps : Pats) (p : Pat) (g : TypedPatterns) → Runs (rule e (patterns_give ps)) (ok g) → IsRefused (rule e (pattern_gives p)) y → IsRefused (rule e (patterns_give (more_pats ps p))) y
-refused_here e (Named c i) ps p g r h = part_ok r (part_stuck h)
+refused_here e (Named c i told) ps p g r h = part_ok r (part_stuck h)
 refused_here e Memory ps p g r h = tt
 
 pub pattern_refused : (e : Environment) (xs : List RPat) (i : ℕ) (p : RPat) (g : TypedPatterns) (y : InferError) → i < length xs → p ≡ get_or xs i p → Runs (rule e (patterns_give (pats_on no_pats (take i xs)))) (ok g)
@@ -177,11 +177,11 @@ one_label_more e xs i l g h n is r k =
     subst (λ ls. Runs (rule e (labelled_patterns_give ls)) (ok (record { have = with_labelled_type e.names l.label.name.0 h.has g.have; adds = joined g.adds h.adds }))) (sym (next_labelled xs i l n is)) (part_ok r (part_ok k give_))
 
 label_further : (e : Environment) (y : InferError) (ls : LabelledPats) (l : Id) (p : Pat) → IsRefused (rule e (labelled_patterns_give ls)) y → IsRefused (rule e (labelled_patterns_give (more_labelled_pats ls l p))) y
-label_further e (Named c i) ls l p h = part_stuck h
+label_further e (Named c i told) ls l p h = part_stuck h
 label_further e Memory ls l p h = tt
 
 label_here : (e : Environment) (y : InferError) (ls : LabelledPats) (l : Id) (p : Pat) (g : TypedLabels) → Runs (rule e (labelled_patterns_give ls)) (ok g) → IsRefused (rule e (pattern_gives p)) y → IsRefused (rule e (labelled_patterns_give (more_labelled_pats ls l p))) y
-label_here e (Named c i) ls l p g r h = part_ok r (part_stuck h)
+label_here e (Named c i told) ls l p g r h = part_ok r (part_stuck h)
 label_here e Memory ls l p g r h = tt
 
 pub label_refused : (e : Environment) (xs : List RLabelledPat) (i : ℕ) (l : RLabelledPat) (g : TypedLabels) (y : InferError) → i < length xs → l ≡ get_or xs i l → Runs (rule e (labelled_patterns_give (labelled_pats_on no_labelled_pats (take i xs)))) (ok g)

@@ -39,11 +39,11 @@ use Rattle.pict_infer.proofs.Unused.{pattern_passes, fields_pass}
 use Rattle.pict_rules.proofs.OwnBinders.{opened_count}
 
 giving_refused : (e : Environment) (p : Pat) (y : InferError) → IsRefused (rule (without_values e) (pattern_gives p)) y → IsRefused (rule e (pattern_gives p)) y
-giving_refused e p (Named c i) h = (pattern_passes p (without_values e) e.values).on (stuck c i) h
+giving_refused e p (Named c i told) h = (pattern_passes p (without_values e) e.values).on (stuck c i) h
 giving_refused e p Memory h = tt
 
 parts_refused : (e : Environment) (f : FieldPats) (y : InferError) → IsRefused (rule (without_values e) (fields_give f)) y → IsRefused (rule e (fields_give f)) y
-parts_refused e f (Named c i) h = (fields_pass f (without_values e) e.values).on (stuck c i) h
+parts_refused e f (Named c i told) h = (fields_pass f (without_values e) e.values).on (stuck c i) h
 parts_refused e f Memory h = tt
 
 -- a context that is as it was, and the same values

@@ -43,14 +43,14 @@ pub pattern_holds : (e : Environment) (p : Pat) (t : PlainType) (x : Extension) 
 pattern_holds e p t x h = (against_passes p (without_values e) e.values t).on (ok x) h
 
 pub pattern_is_refused : (e : Environment) (p : Pat) (t : PlainType) (y : InferError) → IsRefused (rule (without_values e) (pattern_against p t)) y → IsRefused (rule e (pattern_against p t)) y
-pattern_is_refused e p t (Named c i) h = (against_passes p (without_values e) e.values t).on (stuck c i) h
+pattern_is_refused e p t (Named c i told) h = (against_passes p (without_values e) e.values t).on (stuck c i) h
 pattern_is_refused e p t Memory h = tt
 
 pub fields_hold : (e : Environment) (s : Span) (f : FieldPats) (bs : PlainBounds) (ps : PlainTypes) (ls : PlainLabels) (x : OpenedFields) → Runs (rule (without_values e) (fields_against s f bs ps ls)) (ok x) → Runs (rule e (fields_against s f bs ps ls)) (ok x)
 fields_hold e s f bs ps ls x h = (fields_against_pass f (without_values e) e.values s bs ps ls).on (ok x) h
 
 pub fields_are_refused : (e : Environment) (s : Span) (f : FieldPats) (bs : PlainBounds) (ps : PlainTypes) (ls : PlainLabels) (y : InferError) → IsRefused (rule (without_values e) (fields_against s f bs ps ls)) y → IsRefused (rule e (fields_against s f bs ps ls)) y
-fields_are_refused e s f bs ps ls (Named c i) h = (fields_against_pass f (without_values e) e.values s bs ps ls).on (stuck c i) h
+fields_are_refused e s f bs ps ls (Named c i told) h = (fields_against_pass f (without_values e) e.values s bs ps ls).on (stuck c i) h
 fields_are_refused e s f bs ps ls Memory h = tt
 
 -- what may be added after the judgement on a pattern

@@ -112,11 +112,11 @@ one_fits ns ms c c1 xs i b x u h is a o s k =
 give_refused_on : (e : Environment) (bs : TypeBinders) (xs : List RTypeBinder) (y : InferError) → IsRefused (rule e (binders_give bs)) y → IsRefused (rule e (binders_give (binders_on bs xs))) y
 unfolding binders_on
 give_refused_on e bs [] y h = h
-give_refused_on e bs (x ∷ xs) (Named c i) h = give_refused_on e (more_binders bs (binder_of x)) xs (Named c i) (part_stuck h)
+give_refused_on e bs (x ∷ xs) (Named c i told) h = give_refused_on e (more_binders bs (binder_of x)) xs (Named c i told) (part_stuck h)
 give_refused_on e bs (x ∷ xs) Memory h = give_refused_on e (more_binders bs (binder_of x)) xs Memory tt
 
 give_refused_here : (e d : Environment) (bs : TypeBinders) (own : List KnownType) (b : TypeBinder) (y : InferError) → Runs (rule e (binders_give bs)) (ok own) → d ≡ with_own e own → IsStopped (stop_of_binder d b) y → IsRefused (rule e (binders_give (more_binders bs b))) y
-give_refused_here e d bs own b (Named c i) r q h = part_ok r (stopped (stop_of_binder (with_own e own) b) _ (Named c i) (subst (λ z. IsStopped (stop_of_binder z b) (Named c i)) q h))
+give_refused_here e d bs own b (Named c i told) r q h = part_ok r (stopped (stop_of_binder (with_own e own) b) _ (Named c i told) (subst (λ z. IsStopped (stop_of_binder z b) (Named c i told)) q h))
 give_refused_here e d bs own b Memory r q h = tt
 
 pub opening_refused : (e d : Environment) (xs : List RTypeBinder) (i : ℕ) (b : RTypeBinder) (x : PlainBounds) (y : InferError) → i < length xs → b ≡ get_or xs i b → HasOpened e d (rule e (binders_give (binders_on no_binders (take i xs)))) x
@@ -208,12 +208,12 @@ against_fits ns ms c c1 xs fs i b f u h is k at a o s same =
 against_refused_on : (e : Environment) (bs : TypeBinders) (xs : List RTypeBinder) (rs : PlainBounds) (y : InferError) → IsRefused (rule e (binders_against bs rs)) y → IsRefused (rule e (binders_against (binders_on bs xs) rs)) y
 unfolding binders_on
 against_refused_on e bs [] rs y h = h
-against_refused_on e bs (x ∷ xs) rs (Named c i) h = against_refused_on e (more_binders bs (binder_of x)) xs rs (Named c i) (part_stuck h)
+against_refused_on e bs (x ∷ xs) rs (Named c i told) h = against_refused_on e (more_binders bs (binder_of x)) xs rs (Named c i told) (part_stuck h)
 against_refused_on e bs (x ∷ xs) rs Memory h = against_refused_on e (more_binders bs (binder_of x)) xs rs Memory tt
 
 against_refused_here : (e d : Environment) (bs : TypeBinders) (b : TypeBinder) (rs : PlainBounds) (own : List KnownType) (r : PlainBound) (y : InferError) → Runs (rule e (binders_against bs rs)) (ok own) → d ≡ with_own e own → nth_bound (count_binders bs) rs ≡ r
     → IsRefused (binder_agrees d b r) y → IsRefused (rule e (binders_against (more_binders bs b) rs)) y
-against_refused_here e d bs b rs own r (Named c i) h q n s = against_here e d bs b rs own r (stuck c i) h q n ((step_on d b r own).on_stuck c i s)
+against_refused_here e d bs b rs own r (Named c i told) h q n s = against_here e d bs b rs own r (stuck c i) h q n ((step_on d b r own).on_stuck c i s)
 against_refused_here e d bs b rs own r Memory h q n s = tt
 
 pub against_refused : (e d : Environment) (xs : List RTypeBinder) (fs : List RBound) (i : ℕ) (b : RTypeBinder) (f : RBound) (x : PlainBounds) (y : InferError) → i < length xs → b ≡ get_or xs i b → i < length fs → f ≡ get_or fs i f

@@ -84,11 +84,11 @@ one_pattern_more e xs i p ts x y h is r k =
     subst (λ ps. Runs (rule e (patterns_against ps ts)) (ok (joined x y))) (sym (next_pat xs i p h is)) (part_ok r (part_ok now give_))
 
 refused_more : (e : Environment) (ts : PlainTypes) (y : InferError) (ps : Pats) (q : Pat) → IsRefused (rule e (patterns_against ps ts)) y → IsRefused (rule e (patterns_against (more_pats ps q) ts)) y
-refused_more e ts (Named c i) ps q h = part_stuck h
+refused_more e ts (Named c i told) ps q h = part_stuck h
 refused_more e ts Memory ps q h = tt
 
 refused_here : (e : Environment) (ps : Pats) (p : Pat) (ts : PlainTypes) (x : Extension) (y : InferError) → Runs (rule e (patterns_against ps ts)) (ok x) → IsRefused (rule e (pattern_against p (nth_type (count_pats ps) ts))) y → IsRefused (rule e (patterns_against (more_pats ps p) ts)) y
-refused_here e ps p ts x (Named c i) r h = part_ok r (part_stuck h)
+refused_here e ps p ts x (Named c i told) r h = part_ok r (part_stuck h)
 refused_here e ps p ts x Memory r h = tt
 
 pub pattern_refused : (e : Environment) (xs : List RPat) (i : ℕ) (p : RPat) (ts : PlainTypes) (x : Extension) (y : InferError) → i < length xs → p ≡ get_or xs i p → Runs (rule e (patterns_against (pats_on no_pats (take i xs)) ts)) (ok x)
@@ -100,7 +100,7 @@ pattern_refused e xs i p ts x y h is r k =
 
 -- labelled patterns
 label_refused_more : (e : Environment) (ms : PlainLabels) (y : InferError) (ls : LabelledPats) (l : Id) (q : Pat) → IsRefused (rule e (labelled_patterns_against ls ms)) y → IsRefused (rule e (labelled_patterns_against (more_labelled_pats ls l q) ms)) y
-label_refused_more e ms (Named c i) ls l q h = part_stuck h
+label_refused_more e ms (Named c i told) ls l q h = part_stuck h
 label_refused_more e ms Memory ls l q h = tt
 
 at_label_ok : (e : Environment) (l : ℕ) (p : Pat) (ms : PlainLabels) (o : Option PlainType) (x y : Extension) → Runs {s = extension_} (if_labelled o (λ t. rule e (pattern_against p t)) (refuse Y6 (pat_span p))) (ok y)
@@ -120,7 +120,7 @@ one_label_more e xs i l ms x y h is r k =
     (part_ok r (at_label_ok e l.label.name.0 (pat_of l.pat) ms (type_at l.label.name.0 ms) x y k))
 
 label_here : (e : Environment) (ls : LabelledPats) (l : Id) (p : Pat) (ms : PlainLabels) (x : Extension) (y : InferError) → Runs (rule e (labelled_patterns_against ls ms)) (ok x) → IsRefused (at_label e l.name.0 p ms) y → IsRefused (rule e (labelled_patterns_against (more_labelled_pats ls l p) ms)) y
-label_here e ls l p ms x (Named c i) r h = part_ok r (at_label_stuck e p (type_at l.name.0 ms) x c i h)
+label_here e ls l p ms x (Named c i told) r h = part_ok r (at_label_stuck e p (type_at l.name.0 ms) x c i h)
 label_here e ls l p ms x Memory r h = tt
 
 pub label_refused : (e : Environment) (xs : List RLabelledPat) (i : ℕ) (l : RLabelledPat) (ms : PlainLabels) (x : Extension) (y : InferError) → i < length xs → l ≡ get_or xs i l
@@ -148,7 +148,7 @@ pub closed_ok : (e : Environment) (j : Judgement opened_) (x : OpenedFields) (z 
 closed_ok e j x z h q = part_ok h (subst (λ (w : Extension). Runs {s = extension_} (give (within x.own x.adds)) (ok w)) (sym q) give_)
 
 pub closed_refused : (e : Environment) (j : Judgement opened_) (y : InferError) → IsRefused (rule e j) y → IsRefused (closed_fields e j) y
-closed_refused e j (Named c i) h = part_stuck h
+closed_refused e j (Named c i told) h = part_stuck h
 closed_refused e j Memory h = tt
 
 -- a variable and a wildcard without annotation
@@ -279,17 +279,17 @@ exposed_answer e s t r (Err y) q p h = subst (λ w. IsRefused (exposed_rule e s 
 
 -- the ends of fields
 pub own_refused : (e : Environment) (bs : TypeBinders) (ps : Pats) (ls : LabelledPats) (rs : PlainBounds) (ts : PlainTypes) (ms : PlainLabels) (y : InferError) → IsRefused (rule e (binders_against bs rs)) y → IsRefused (after_counts e bs ps ls rs ts ms) y
-own_refused e bs ps ls rs ts ms (Named c i) h = part_stuck h
+own_refused e bs ps ls rs ts ms (Named c i told) h = part_stuck h
 own_refused e bs ps ls rs ts ms Memory h = tt
 
 pub positional_refused : (e d : Environment) (bs : TypeBinders) (ps : Pats) (ls : LabelledPats) (rs : PlainBounds) (ts : PlainTypes) (ms : PlainLabels) (own : List KnownType) (y : InferError) → Runs (rule e (binders_against bs rs)) (ok own) → d ≡ with_own e own
     → IsRefused (rule d (patterns_against ps ts)) y → IsRefused (after_counts e bs ps ls rs ts ms) y
-positional_refused e d bs ps ls rs ts ms own (Named c i) r q h = part_ok r (part_stuck (subst (λ z. Runs (rule z (patterns_against ps ts)) (stuck c i)) q h))
+positional_refused e d bs ps ls rs ts ms own (Named c i told) r q h = part_ok r (part_stuck (subst (λ z. Runs (rule z (patterns_against ps ts)) (stuck c i)) q h))
 positional_refused e d bs ps ls rs ts ms own Memory r q h = tt
 
 pub labelled_refused : (e d : Environment) (bs : TypeBinders) (ps : Pats) (ls : LabelledPats) (rs : PlainBounds) (ts : PlainTypes) (ms : PlainLabels) (own : List KnownType) (x : Extension) (y : InferError) → Runs (rule e (binders_against bs rs)) (ok own) → d ≡ with_own e own
     → Runs (rule d (patterns_against ps ts)) (ok x) → IsRefused (rule d (labelled_patterns_against ls ms)) y → IsRefused (after_counts e bs ps ls rs ts ms) y
-labelled_refused e d bs ps ls rs ts ms own x (Named c i) r q k h =
+labelled_refused e d bs ps ls rs ts ms own x (Named c i told) r q k h =
     part_ok r (part_ok (subst (λ z. Runs (rule z (patterns_against ps ts)) (ok x)) q k) (part_stuck (subst (λ z. Runs (rule z (labelled_patterns_against ls ms)) (stuck c i)) q h)))
 labelled_refused e d bs ps ls rs ts ms own x Memory r q k h = tt
 
@@ -301,5 +301,5 @@ all_typed e d bs ps ls rs ts ms own x y r q k h =
 -- the counts, of what was refused
 pub counted_refused : (e : Environment) (s : Span) (bs : TypeBinders) (ps : Pats) (ls : LabelledPats) (rs : PlainBounds) (ts : PlainTypes) (ms : PlainLabels) (y : InferError) → count_binders bs ≡ count_bounds rs → count_pats ps ≡ count_types ts → IsRefused (after_counts e bs ps ls rs ts ms) y
     → IsRefused (rule e (fields_against s (field_pats bs ps ls) rs ts ms)) y
-counted_refused e s bs ps ls rs ts ms (Named c i) q r h = counted e s bs ps ls rs ts ms (stuck c i) q r h
+counted_refused e s bs ps ls rs ts ms (Named c i told) q r h = counted e s bs ps ls rs ts ms (stuck c i) q r h
 counted_refused e s bs ps ls rs ts ms Memory q r h = tt

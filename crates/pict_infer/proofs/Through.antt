@@ -19,11 +19,11 @@ pub record GoesOn (s t : Sort) (r : Rule s) (q : Rule t) (k : Result s → Rule 
   pub on_stuck : (c : Code) (i : Span) → Runs r (stuck c i) → Runs q (stuck c i)
 
 pub refused_on : {s t : Sort} {r : Rule s} {q : Rule t} {k : Result s → Rule t} (y : InferError) → GoesOn s t r q k → IsRefused r y → IsRefused q y
-refused_on (Named c i) g h = g.on_stuck c i h
+refused_on (Named c i told) g h = g.on_stuck c i h
 refused_on Memory g h = tt
 
 pub refused_past : {s t : Sort} {r : Rule s} {q : Rule t} {k : Result s → Rule t} (x : Result s) (y : InferError) → GoesOn s t r q k → Runs r (ok x) → IsRefused (k x) y → IsRefused q y
-refused_past x (Named c i) g p h = g.on_ok x (stuck c i) p h
+refused_past x (Named c i told) g p h = g.on_ok x (stuck c i) p h
 refused_past x Memory g p h = tt
 
 given_ok : {s t : Sort} {x : Result s} (k : Result s → Rule t) (y : Result s) (a : Answer t) → Runs (give x) (ok y) → Runs (k y) a → Runs (k x) a

@@ -20,7 +20,7 @@ ghost use Rattle.pict_infer.specs.Steps.{fold_unfolded};
 
 use crate::added::Added;
 use crate::binders::{open_against, taken};
-use crate::error::InferError;
+use crate::error::{InferError, Told};
 use crate::formed::{as_record, below, expanded, followed, recursive, shown, unfolded};
 use crate::labels::labelled_type;
 use pict_syntax::{Code, FieldPats, Id, LabelledPat, Name, Pat, RType, Span, TypeTree, pat_span};
@@ -192,7 +192,7 @@ fn record_against(
 {
     let followed = followed(alloc, &*c, t)?;
     match as_record(shown(&followed, t)) {
-        None => Err(InferError::Named(Code::Y5, span)),
+        None => Err(InferError::Named(Code::Y5, span, Told::Nothing)),
         Some(r) => parts_against(alloc, c, parts, r, span),
     }
 }
@@ -245,10 +245,10 @@ pub fn open_parts_against(
     ensures grows { length (type_context c.old) ≤ length (type_context c.new) }
 {
     if parts.binders.len() != binders.len() {
-        return Err(InferError::Named(Code::Y5, span));
+        return Err(InferError::Named(Code::Y5, span, Told::Nothing));
     }
     if parts.positional.len() != positional.len() {
-        return Err(InferError::Named(Code::Y5, span));
+        return Err(InferError::Named(Code::Y5, span, Told::Nothing));
     }
     open_against(alloc, c, &parts.binders, binders)?;
     let first = all_against(alloc, c, &parts.positional, positional)?;
@@ -293,7 +293,7 @@ fn label_against(
     ensures grows { length (type_context c.old) ≤ length (type_context c.new) }
 {
     match labelled_type(c.names(), fields, l.label.name) {
-        None => Err(InferError::Named(Code::Y6, pat_span(&l.pat))),
+        None => Err(InferError::Named(Code::Y6, pat_span(&l.pat), Told::Nothing)),
         Some(t) => against(alloc, c, &l.pat, t),
     }
 }

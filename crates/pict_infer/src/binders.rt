@@ -20,7 +20,7 @@ ghost use Rattle.pict_infer.specs.Knowing.{known_types};
 ghost use Rattle.pict_infer.specs.Opening.{Opens, SaysTheSame, binder_agrees, bound_or_free, bound_stop, expanded_bound, held_type};
 ghost use Rattle.pict_infer.specs.Places.{IsUnderVariables, environment_in};
 
-use crate::error::InferError;
+use crate::error::{InferError, Told};
 use crate::formed::expanded;
 use crate::known::Binder;
 use pict_normal::{KindError, expand};
@@ -47,9 +47,9 @@ fn operator_bound(
             if u.is_top() {
                 return Ok(u);
             }
-            Err(InferError::Named(Code::K3, id.span))
+            Err(InferError::Named(Code::K3, id.span, Told::Nothing))
         }
-        Err(KindError::Named(_, _)) => Err(InferError::Named(Code::K3, id.span)),
+        Err(KindError::Named(_, _)) => Err(InferError::Named(Code::K3, id.span, Told::Nothing)),
         Err(KindError::Memory) => Err(InferError::Memory),
     }
 }
@@ -153,7 +153,7 @@ fn binder_against(
     if kind_agrees(&b.kind, field) && bound_agrees(&written, field) {
         return Ok(());
     }
-    Err(InferError::Named(Code::Y16, b.span))
+    Err(InferError::Named(Code::Y16, b.span, Told::Nothing))
 }
 
 /// Opens type binders that say themselves what they are, and gives their bounds. The refusals are K1 to K4.

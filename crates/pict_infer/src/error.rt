@@ -5,16 +5,32 @@ ghost use Rattle.pict_infer.specs.Answering.{of_kind_error, of_size_error};
 
 use pict_normal::KindError;
 use pict_syntax::{Code, Span};
-use pict_types::SizeError;
+use pict_types::{SizeError, Ty};
 use std::alloc::{AllocError, AllocFailed};
+use std::fmt;
 use thiserror::Error;
+
+/// What is told beside a refusal, for those who explain it. No rule speaks of it.
+#[derive(Drop)]
+pub enum Told {
+    /// Nothing.
+    Nothing,
+    /// The type that stands there and the one that is wanted, which it isn't below.
+    Types(Ty, Ty),
+}
+
+impl fmt::Debug for Told {
+    fn fmt<W: fmt::Write>(&self, f: &mut fmt::Formatter<W>) -> fmt::Result {
+        f.write_str("Told")
+    }
+}
 
 /// Why the typing rules refuse a phrase.
 #[derive(Debug, Drop, Error)]
 pub enum InferError {
-    /// The first line of the rules that is false, by its code and at its place: K1 to K5 and Y1 to Y16.
+    /// The first line of the rules that is false, by its code and at its place: K1 to K5 and Y1 to Y16; with what is told of it.
     #[error("{0:?} at {1:?}")]
-    Named(Code, Span),
+    Named(Code, Span, Told),
     /// Want of memory.
     #[error("want of memory")]
     Memory,
@@ -47,7 +63,7 @@ pub fn refusal(e: KindError) -> InferError
     ensures { result ≡ of_kind_error e }
 {
     match e {
-        KindError::Named(code, span) => InferError::Named(code, span),
+        KindError::Named(code, span) => InferError::Named(code, span, Told::Nothing),
         KindError::Memory => InferError::Memory,
     }
 }
@@ -57,7 +73,7 @@ pub fn size_refusal(e: SizeError, span: Span) -> InferError
     ensures { result ≡ of_size_error span e }
 {
     match e {
-        SizeError::TooBig(_) => InferError::Named(Code::K4, span),
+        SizeError::TooBig(_) => InferError::Named(Code::K4, span, Told::Nothing),
         SizeError::Memory => InferError::Memory,
     }
 }

@@ -7,12 +7,12 @@ ghost use Rattle.pict_types.specs.PlainContext.{IsWrittenIn, type_context};
 ghost use Rattle.pict_types.specs.Recursion.{IsRecursive};
 ghost use Rattle.pict_scope.specs.DistinctLabels.{AnnotationHasDistinctLabels, HasDistinctLabels};
 ghost use Rattle.pict_sub.specs.Exposing.{exposure};
-ghost use Rattle.pict_infer.specs.Answering.{IsAnswer, nothing};
+ghost use Rattle.pict_infer.specs.Answering.{AreToldBy, IsAnswer, nothing};
 ghost use Rattle.pict_infer.specs.Shaping.{is_recursive, is_variable, IsNoRecord};
 ghost use Rattle.pict_infer.specs.Steps.{annotated, below, expanded, limited, recursive, shown, unfolded};
 ghost use Rattle.pict_infer.specs.Places.{environment_in};
 
-use crate::error::{InferError, refusal, size_refusal};
+use crate::error::{InferError, Told, refusal, size_refusal};
 use pict_normal::expand;
 use pict_sub::{expose, is_subtype};
 use pict_syntax::{Code, RType, Span, TypeTree};
@@ -43,7 +43,7 @@ pub fn annotated(
     ensures formed { IfOk result (λ u. IsWrittenIn c.now (plain u)) }
 {
     match &annotation.of {
-        None => Err(InferError::Named(Code::Y7, span)),
+        None => Err(InferError::Named(Code::Y7, span, Told::Nothing)),
         Some(t) => expanded(alloc, c, t),
     }
 }
@@ -54,7 +54,7 @@ pub fn within_limits(c: &Context, t: &Ty, span: Span) -> Result<(), InferError>
 {
     match too_big(c.measures(t)) {
         None => Ok(()),
-        Some(_) => Err(InferError::Named(Code::K4, span)),
+        Some(_) => Err(InferError::Named(Code::K4, span, Told::Nothing)),
     }
 }
 
@@ -75,7 +75,15 @@ pub fn below(
     if below {
         return Ok(());
     }
-    Err(InferError::Named(code, span))
+    let told = types_told(alloc, s, t)?;
+    Err(InferError::Named(code, span, told))
+}
+
+// These two types, to be told. The only error is want of memory.
+fn types_told(alloc: Global, s: &Ty, t: &Ty) -> Result<Told, AllocError>
+    ensures { IfOk result (AreToldBy (plain s.now) (plain t.now)) }
+{
+    Ok(Told::Types(s.copy(alloc)?, t.copy(alloc)?))
 }
 
 /// Whether it is a recursive type. Takes no memory.
@@ -141,7 +149,7 @@ pub fn recursive(t: &Ty, span: Span) -> Result<(), InferError>
     if is_recursive(t) {
         return Ok(());
     }
-    Err(InferError::Named(Code::Y13, span))
+    Err(InferError::Named(Code::Y13, span, Told::Nothing))
 }
 
 /// The unfolding of a recursive type. K4 at the place where it passes a limit.

@@ -16,7 +16,7 @@ mod primitives;
 
 pub use added::Added;
 pub use env::{Env, Place};
-pub use error::{InferError, refusal, size_refusal};
+pub use error::{InferError, Told, refusal, size_refusal};
 pub use formed::{
     annotated, as_record, below, expanded, followed, recursive, shown, unfolded, within_limits,
 };

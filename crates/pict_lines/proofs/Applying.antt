@@ -42,22 +42,22 @@ field_by false e s v t g g2 u r h k = passed (size_stop e.context (with_found g 
 
 pub after_by : (m : Bool) (e : Environment) (s : Span) (v : Val) (t : PlainType) (g : Found) (u : Option PlainType) (x : InferError) → room_stop e s (if m then None else Some (with_found g t)) ≡ None → IsFor e v (if m then None else Some (with_found g t)) u → IsRefused (if m then if_given e s v t g u else give g) x → IsRefused (if m then then_matched e s v t g else then_had e s v t g) x
 after_by true e s v t g None x r h k = absurd h
-after_by true e s v t g (Some u) (Named c i) r h k = part_ok h (part_stuck k)
+after_by true e s v t g (Some u) (Named c i told) r h k = part_ok h (part_stuck k)
 after_by true e s v t g (Some u) Memory r h k = tt
-after_by false e s v t g u (Named c i) r h k = passed (size_stop e.context (with_found g t) s) (check e (has v (with_found g t)) (give g)) (stuck c i) r (part_ok h k)
+after_by false e s v t g u (Named c i told) r h k = passed (size_stop e.context (with_found g t) s) (check e (has v (with_found g t)) (give g)) (stuck c i) r (part_ok h k)
 after_by false e s v t g u Memory r h k = tt
 
 pub refused_by : (m : Bool) (e : Environment) (s : Span) (v : Val) (t : PlainType) (g : Found) (x : InferError) → room_stop e s (if m then None else Some (with_found g t)) ≡ None → IsRefusedFor e v (if m then None else Some (with_found g t)) x → IsRefused (if m then then_matched e s v t g else then_had e s v t g) x
-refused_by true e s v t g (Named c i) r h = part_stuck h
+refused_by true e s v t g (Named c i told) r h = part_stuck h
 refused_by true e s v t g Memory r h = tt
-refused_by false e s v t g (Named c i) r h = passed (size_stop e.context (with_found g t) s) (check e (has v (with_found g t)) (give g)) (stuck c i) r (part_stuck h)
+refused_by false e s v t g (Named c i told) r h = passed (size_stop e.context (with_found g t) s) (check e (has v (with_found g t)) (give g)) (stuck c i) r (part_stuck h)
 refused_by false e s v t g Memory r h = tt
 
 -- the limits are passed by what is wanted
 pub roomless_by : (m : Bool) (e : Environment) (s : Span) (v : Val) (t : PlainType) (g : Found) (x : InferError) → IsStopped (room_stop e s (if m then None else Some (with_found g t))) x → IsRefused (if m then then_matched e s v t g else then_had e s v t g) x
-roomless_by true e s v t g (Named c i) h = absurd cc
+roomless_by true e s v t g (Named c i told) h = absurd cc
 roomless_by true e s v t g Memory h = tt
-roomless_by false e s v t g (Named c i) h = passed_not (size_stop e.context (with_found g t) s) (check e (has v (with_found g t)) (give g)) c i h
+roomless_by false e s v t g (Named c i told) h = passed_not (size_stop e.context (with_found g t) s) (check e (has v (with_found g t)) (give g)) c i h
 roomless_by false e s v t g Memory h = tt
 
 -- the fields of an application to two values
@@ -74,15 +74,15 @@ pub both_ok : (e : Environment) (s : Span) (v w : Val) (o : Operator) (f g g2 : 
 both_ok e s v w o f g g2 args p q r = part_ok (part_ok (part_ok give_ (part_ok p give_)) (part_ok q give_)) (part_ok give_ r)
 
 pub both_first : (e : Environment) (s : Span) (v w : Val) (o : Operator) (f : Found) (x : InferError) → IsRefused (Field1 e s v o f) x → IsRefused (Both e s v w o f) x
-both_first e s v w o f (Named c i) p = part_stuck (part_stuck (part_ok give_ (part_stuck p)))
+both_first e s v w o f (Named c i told) p = part_stuck (part_stuck (part_ok give_ (part_stuck p)))
 both_first e s v w o f Memory p = tt
 
 pub both_second : (e : Environment) (s : Span) (v w : Val) (o : Operator) (f g : Found) (x : InferError) → Runs (Field1 e s v o f) (ok g) → IsRefused (Field2 e s w o g) x → IsRefused (Both e s v w o f) x
-both_second e s v w o f g (Named c i) p q = part_stuck (part_ok (part_ok give_ (part_ok p give_)) (part_stuck q))
+both_second e s v w o f g (Named c i told) p q = part_stuck (part_ok (part_ok give_ (part_ok p give_)) (part_stuck q))
 both_second e s v w o f g Memory p q = tt
 
 pub both_end : (e : Environment) (s : Span) (v w : Val) (o : Operator) (f g g2 : Found) (x : InferError) → Runs (Field1 e s v o f) (ok g) → Runs (Field2 e s w o g) (ok g2) → IsRefused (fields_end e s o.binders g2) x → IsRefused (Both e s v w o f) x
-both_end e s v w o f g g2 (Named c i) p q r = part_ok (part_ok (part_ok give_ (part_ok p give_)) (part_ok q give_)) (part_ok give_ r)
+both_end e s v w o f g g2 (Named c i told) p q r = part_ok (part_ok (part_ok give_ (part_ok p give_)) (part_ok q give_)) (part_ok give_ r)
 both_end e s v w o f g g2 Memory p q r = tt
 
 -- the application, from its fields
@@ -97,14 +97,14 @@ on_ok e s f v w o None args t h p q = headed e s f v w o None (ok t) h (part_ok 
 on_ok e s f v w o (Some u) args t h p q = headed e s f v w o (Some u) (ok t) h (part_ok p q)
 
 pub on_fields : (e : Environment) (s : Span) (f : Id) (v w : Val) (o : Operator) (x : Option PlainType) (y : InferError) → IsHead e f o → IsRefused (Both e s v w o (before_fields e o x)) y → IsRefused (On e s f v w x) y
-on_fields e s f v w o None (Named c i) h p = headed e s f v w o None (stuck c i) h (part_stuck p)
-on_fields e s f v w o (Some u) (Named c i) h p = headed e s f v w o (Some u) (stuck c i) h (part_stuck p)
+on_fields e s f v w o None (Named c i told) h p = headed e s f v w o None (stuck c i) h (part_stuck p)
+on_fields e s f v w o (Some u) (Named c i told) h p = headed e s f v w o (Some u) (stuck c i) h (part_stuck p)
 on_fields e s f v w o None Memory h p = tt
 on_fields e s f v w o (Some u) Memory h p = tt
 
 pub on_end : (e : Environment) (s : Span) (f : Id) (v w : Val) (o : Operator) (x : Option PlainType) (args : List PlainArg) (y : InferError) → IsHead e f o → Runs (Both e s v w o (before_fields e o x)) (ok args) → IsRefused (application_end e s o.answer args x) y → IsRefused (On e s f v w x) y
-on_end e s f v w o None args (Named c i) h p q = headed e s f v w o None (stuck c i) h (part_ok p q)
-on_end e s f v w o (Some u) args (Named c i) h p q = headed e s f v w o (Some u) (stuck c i) h (part_ok p q)
+on_end e s f v w o None args (Named c i told) h p q = headed e s f v w o None (stuck c i) h (part_ok p q)
+on_end e s f v w o (Some u) args (Named c i told) h p q = headed e s f v w o (Some u) (stuck c i) h (part_ok p q)
 on_end e s f v w o None args Memory h p q = tt
 on_end e s f v w o (Some u) args Memory h p q = tt
 
@@ -114,7 +114,7 @@ for_on e s f v w None t h = part_ok h give_
 for_on e s f v w (Some u) t h = part_ok h give_
 
 pub for_refused : (e : Environment) (s : Span) (f : Id) (v w : Val) (x : Option PlainType) (y : InferError) → IsRefused (On e s f v w x) y → IsRefusedFor e (applied_to s f v w) x y
-for_refused e s f v w None (Named c i) h = part_stuck h
-for_refused e s f v w (Some u) (Named c i) h = part_stuck h
+for_refused e s f v w None (Named c i told) h = part_stuck h
+for_refused e s f v w (Some u) (Named c i told) h = part_stuck h
 for_refused e s f v w None Memory h = tt
 for_refused e s f v w (Some u) Memory h = tt

@@ -27,21 +27,21 @@ good_of {s = s} {e = e} {j = j} {x = x} h p = regularity s e j x h.labels h.regu
 -- a part that has a result, and how the rule goes on
 pub past : {s t : Sort} {T : Type 0} (e : Environment) (j : Judgement t) (k : rules.Result t → Rule s) (f : T → rules.Result s) (x : rules.Result t) (r : Result T InferError) → Runs (rule e j) (ok x) → IsAnswer (k x) f r → IsAnswer (part e j k) f r
 past e j k f x (Ok y) p h = part_ok p h
-past e j k f x (Err (Named c i)) p h = part_ok p h
+past e j k f x (Err (Named c i told)) p h = part_ok p h
 past e j k f x (Err Memory) p h = tt
 
 pub past_refused : {s t : Sort} (e : Environment) (j : Judgement t) (k : rules.Result t → Rule s) (x : rules.Result t) (y : InferError) → Runs (rule e j) (ok x) → IsRefused (k x) y → IsRefused (part e j k) y
-past_refused e j k x (Named c i) p h = part_ok p h
+past_refused e j k x (Named c i told) p h = part_ok p h
 past_refused e j k x Memory p h = tt
 
 pub refused_here : {s t : Sort} (e : Environment) (j : Judgement t) (k : rules.Result t → Rule s) (y : InferError) → IsRefused (rule e j) y → IsRefused (part e j k) y
-refused_here e j k (Named c i) h = part_stuck h
+refused_here e j k (Named c i told) h = part_stuck h
 refused_here e j k Memory h = tt
 
 -- the part is the last
 pub ends_with : {s t : Sort} {T : Type 0} (e : Environment) (j : Judgement t) (k : rules.Result t → Rule s) (f : T → rules.Result t) (g : T → rules.Result s) (r : Result T InferError) → ((x : T) → Runs (k (f x)) (ok (g x))) → IsAnswer (rule e j) f r → IsAnswer (part e j k) g r
 ends_with e j k f g (Ok x) h p = part_ok p (h x)
-ends_with e j k f g (Err (Named c i)) h p = part_stuck p
+ends_with e j k f g (Err (Named c i told)) h p = part_stuck p
 ends_with e j k f g (Err Memory) h p = tt
 
 -- the same after any step

@@ -41,7 +41,7 @@ pub ruleset function_rules = (function_none, function_some, no_function_here)
 
 -- the head may not be applied
 pub no_function : {t : Sort} (o : Option Function) (at : Span) (k : Function → Rule t) (y : InferError) → IsRefused {s = nothing_} (need_function o Y8 at (λ f. done)) y → IsRefused (need_function o Y8 at k) y
-no_function None at k (Named c i) refuse_ = refuse_
+no_function None at k (Named c i told) refuse_ = refuse_
 no_function None at k Memory h = tt
-no_function (Some f) at k (Named c i) h = elim h [ ]
+no_function (Some f) at k (Named c i told) h = elim h [ ]
 no_function (Some f) at k Memory h = tt

@@ -31,6 +31,7 @@ use Rattle.pict_rules.proofs.RegularArguments.{fields_kinds}
 use Rattle.pict_rules.proofs.RegularMatched.{matched_in}
 use Rattle.pict_infer.specs.declared.error.InferError.{InferError}
 use Rattle.pict_infer.specs.declared.error.InferError.TheVariants.{Named, Memory}
+use Rattle.pict_infer.specs.declared.error.Told.TheVariants.{Nothing}
 use Rattle.pict_infer.specs.Answering.{IsRefused, IsStopped}
 use Rattle.pict_lines.specs.Lines.{formed}
 use Rattle.pict_infer.specs.Steps.{below, shown}
@@ -72,10 +73,10 @@ some_label : (ls : List (Name × Ty)) → 0 < length ls → plain_labels ls ≡ 
 some_label [] n h = absurd (omega (arith, n))
 some_label (l ∷ ls) n h = cc
 
-pub unfit_by_number : (e : Environment) (f : Function) (s : Span) → length f.fields.positional.items ≢ 2 → IsUnfit e (function_of f) s (Named Y5 s)
+pub unfit_by_number : (e : Environment) (f : Function) (s : Span) → length f.fields.positional.items ≢ 2 → IsUnfit e (function_of f) s (Named Y5 s Nothing)
 unfit_by_number e f s h = unfit_number e (function_of f) s (other_number f.fields.positional.items h)
 
-pub unfit_by_label : (e : Environment) (f : Function) (s : Span) → length f.fields.positional.items ≡ 2 → 0 < length f.fields.labelled.items → IsUnfit e (function_of f) s (Named Y6 s)
+pub unfit_by_label : (e : Environment) (f : Function) (s : Span) → length f.fields.positional.items ≡ 2 → 0 < length f.fields.labelled.items → IsUnfit e (function_of f) s (Named Y6 s Nothing)
 unfit_by_label e f s h n = unfit_label e (function_of f) s (this_number f.fields.positional.items h) (some_label f.fields.labelled.items n)
 
 pub head_is : (e : Environment) (f : Id) (g : Function) (t : PlainType) (o : Operator) → t ≡ type_of_use e f.name.0 → applicable (exposure (context_of e) t) ≡ Some (function_of g) → o.function ≡ g → IsHead e f (operator_of o)
@@ -93,7 +94,7 @@ pub true_has : (e : Environment) (s : Span) (t : PlainType) → Runs (below e Bo
 true_has e s t h = part_ok give_ h
 
 pub true_refused : (e : Environment) (s : Span) (t : PlainType) (y : InferError) → IsRefused (below e Boolean t Y4 s) y → IsRefused (rule e (has (true_val s) t)) y
-true_refused e s t (Named c i) h = part_ok give_ h
+true_refused e s t (Named c i told) h = part_ok give_ h
 true_refused e s t Memory h = tt
 
 -- WHAT A FIELD IS WANTED TO HAVE
@@ -130,7 +131,7 @@ shown_room e s o t g bs r is m h = wanted_room e s (plain t) (shown r t) (found_
 
 -- no refusal is left but want of memory
 only_memory : (o : Option Stop) (y : InferError) → o ≡ None → IsStopped o y → y ≡ Memory
-only_memory o (Named c i) h k = absurd cc
+only_memory o (Named c i told) h k = absurd cc
 only_memory o Memory h k = refl
 
 pub memory_alone : {T : Type 0} (o : Option Stop) (r : Result T InferError) → o ≡ None → IfErr r (IsStopped o) → IfErr r (λ y. y ≡ Memory)

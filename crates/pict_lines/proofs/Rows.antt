@@ -22,9 +22,9 @@ pub record Row (A : Type 0) (s : Sort) (e : Environment) : Type 0 where
 -- a refusal of the first ones is one of all
 refused_on : {A : Type 0} {s : Sort} {e : Environment} (w : Row A s e) (xs ys : List A) (y : InferError) → IsRefused (rule e (w.judged xs)) y → IsRefused (rule e (w.judged (xs ++ ys))) y
 refused_on {e = e} w xs [] y h = subst (λ z. IsRefused (rule e (w.judged z)) y) (sym (append-nil xs)) h
-refused_on {e = e} w xs (z ∷ ys) (Named c i) h =
-    subst (λ l. IsRefused (rule e (w.judged l)) (Named c i)) (append_assoc xs (z ∷ []) ys)
-    (refused_on w (xs ++ z ∷ []) ys (Named c i) (subst (λ r. Runs r (stuck c i)) (sym (w.more xs z)) (part_stuck h)))
+refused_on {e = e} w xs (z ∷ ys) (Named c i told) h =
+    subst (λ l. IsRefused (rule e (w.judged l)) (Named c i told)) (append_assoc xs (z ∷ []) ys)
+    (refused_on w (xs ++ z ∷ []) ys (Named c i told) (subst (λ r. Runs r (stuck c i)) (sym (w.more xs z)) (part_stuck h)))
 refused_on w xs (z ∷ ys) Memory h = tt
 
 pub one_more : {A : Type 0} (xs : List A) (i : ℕ) (d : A) → i < length xs → take (i + 1) xs ≡ take i xs ++ get_or xs i d ∷ []
@@ -39,9 +39,9 @@ row_more {e = e} w xs i d x y h p q =
 
 pub row_refused : {A : Type 0} {s : Sort} {e : Environment} (w : Row A s e) (xs : List A) (i : ℕ) (d : A) (x : rules.Result s) (y : InferError) → i < length xs → Runs (rule e (w.judged (take i xs))) (ok x) → IsRefused (w.next (take i xs) (get_or xs i d) x) y → IsRefused (rule e (w.judged xs)) y
 row_refused w xs i d x Memory h p q = tt
-row_refused {e = e} w xs i d x (Named c j) h p q =
-    subst (λ z. IsRefused (rule e (w.judged z)) (Named c j)) (sym (all_of xs i d h))
-    (refused_on w (take i xs ++ get_or xs i d ∷ []) (drop (i + 1) xs) (Named c j) (subst (λ r. Runs r (stuck c j)) (sym (w.more (take i xs) (get_or xs i d))) (part_ok p q)))
+row_refused {e = e} w xs i d x (Named c j told) h p q =
+    subst (λ z. IsRefused (rule e (w.judged z)) (Named c j told)) (sym (all_of xs i d h))
+    (refused_on w (take i xs ++ get_or xs i d ∷ []) (drop (i + 1) xs) (Named c j told) (subst (λ r. Runs r (stuck c j)) (sym (w.more (take i xs) (get_or xs i d))) (part_ok p q)))
 
 pub row_all : {A : Type 0} {s : Sort} {e : Environment} (w : Row A s e) (xs : List A) (i : ℕ) (x : rules.Result s) → length xs ≤ i → Runs (rule e (w.judged (take i xs))) (ok x) → Runs (rule e (w.judged xs)) (ok x)
 row_all {e = e} w xs i x h p = subst (λ z. Runs (rule e (w.judged z)) (ok x)) (take_all i xs h) p

@@ -66,7 +66,7 @@ before_names : (e : Environment) (ss : List Signature) (x : Id) (a : Abs) (r : A
 before_names e ss x a r h = signature_passes (with_signatures e ss) e.values x a r h
 
 refused_before_names : (e : Environment) (ss : List Signature) (x : Id) (a : Abs) (y : InferError) → IsRefused (rule (with_signatures e ss) (signature x a)) y → IsRefused (rule e (signature x a)) y
-refused_before_names e ss x a (Named c i) h = before_names e ss x a (stuck c i) h
+refused_before_names e ss x a (Named c i told) h = before_names e ss x a (stuck c i) h
 refused_before_names e ss x a Memory h = tt
 
 -- SIGNATURES IN ORDER

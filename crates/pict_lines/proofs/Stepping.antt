@@ -49,11 +49,11 @@ instance_err c w s x y h p q = subst (IsRefused {s = type_} (unless_stopped (siz
 
 -- recursive types
 given_never : (s t : Sort) (x : rules.Result s) (r : Rule t) (y : InferError) → IsRefused {s = s} (give x) y → IsRefused r y
-given_never s t x r (Named c i) h = elim h [ ]
+given_never s t x r (Named c i told) h = elim h [ ]
 given_never s t x r Memory h = tt
 
 refuse_on : (s t : Sort) (d : Code) (j : Span) (y : InferError) → IsRefused {s = s} (refuse d j) y → IsRefused {s = t} (refuse d j) y
-refuse_on s t d j (Named c i) refuse_ = refuse_
+refuse_on s t d j (Named c i told) refuse_ = refuse_
 refuse_on s t d j Memory h = tt
 
 pub recursive_refused : {t : Sort} (u : PlainType) (s : Span) (l : PlainType → Rule t) (y : InferError) → IsRefused (recursive u s) y → IsRefused (need_recursive u Y13 s l) y

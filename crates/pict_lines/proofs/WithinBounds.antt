@@ -101,7 +101,7 @@ one_below e n bs args i b a h k at is p x = record {
 
 pub one_above : (e : Environment) (n : Span) (bs : List Bound) (args : List Arg) (i : ℕ) (b : Bound) (a : Arg) (y : InferError) → i < length bs → i < length args → b ≡ get_or bs i b → a ≡ get_or args i a
     → IsRefused (within_one e n (plain_bound b) (plain_args (take i args)) (plain_arg a) n) y → IsLeft e n bs args i → IsRefused (within_all e n (plain_bounds bs) (plain_args args)) y
-one_above e n bs args i b a (Named c j) h k at is p x =
+one_above e n bs args i b a (Named c j told) h k at is p x =
     x.goes (stuck c j)
     (subst (λ z. Runs z (stuck c j)) (sym (left_next e n bs args i b a h k at is)) ((within_then e n (plain_bound b) (plain_args (take i args)) (plain_arg a) n (Left e n bs args (i + 1))).on_stuck c j p))
 one_above e n bs args i b a Memory h k at is p x = tt

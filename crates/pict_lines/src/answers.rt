@@ -20,7 +20,7 @@ ghost use Rattle.pict_lines.specs.Lines.{formed};
 
 use crate::parts::limited;
 use crate::steps::{below, expanded};
-use pict_infer::{Added, Env, InferError};
+use pict_infer::{Added, Env, InferError, Told};
 use pict_sub::{TypeScope, expose_in};
 use pict_syntax::{Code, RType, Span, TypeTree, type_span};
 use pict_types::{Bound, Cap, Context, Record, Ty, shift_type};
@@ -61,12 +61,12 @@ pub fn answer_in(alloc: Global, env: &Env, r: &Record, at: Span) -> Result<Ty, I
 {
     let count = r.positional.len();
     if count == 0 {
-        return Err(InferError::Named(Code::Y8, at));
+        return Err(InferError::Named(Code::Y8, at, Told::Nothing));
     }
     let last = &r.positional[count - 1];
     match sent_under(alloc, env.context(), &r.binders, last)? {
         Some(u) => Ok(u),
-        None => Err(InferError::Named(Code::Y8, at)),
+        None => Err(InferError::Named(Code::Y8, at, Told::Nothing)),
     }
 }
 

@@ -8,7 +8,7 @@ ghost use Rattle.pict_rules.specs.Shapes.{all_written};
 ghost use Rattle.pict_infer.specs.Answering.{IsAnswer, nothing};
 ghost use Rattle.pict_lines.specs.Counts.{as_many, counted, none_or_as_many, AddsLabel, HasLabels};
 
-use pict_infer::InferError;
+use pict_infer::{InferError, Told};
 use pict_syntax::{Code, FieldVals, LabelledVal, Name, Span, TypeTree, Val};
 use pict_types::{Bound, Record, Ty};
 use std::alloc::{AllocError, Global};
@@ -70,13 +70,13 @@ pub fn counted(alloc: Global, fields: &FieldVals, r: &Record, span: Span) -> Res
         (plain_labels r.now.labelled.items)) nothing result }
 {
     if !none_or_as_many(&fields.type_arguments, &r.binders) {
-        return Err(InferError::Named(Code::Y5, span));
+        return Err(InferError::Named(Code::Y5, span, Told::Nothing));
     }
     if !as_many(&fields.positional, &r.positional) {
-        return Err(InferError::Named(Code::Y5, span));
+        return Err(InferError::Named(Code::Y5, span, Told::Nothing));
     }
     if !all_written(alloc, &fields.labelled, &r.labelled)? {
-        return Err(InferError::Named(Code::Y6, span));
+        return Err(InferError::Named(Code::Y6, span, Told::Nothing));
     }
     Ok(())
 }

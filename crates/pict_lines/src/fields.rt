@@ -17,7 +17,7 @@ ghost use Rattle.pict_lines.specs.Reading.{found_for, slot};
 
 use crate::functions::Function;
 use crate::steps::{below, within_limits};
-use pict_infer::{Env, InferError, shown, size_refusal};
+use pict_infer::{Env, InferError, Told, shown, size_refusal};
 use pict_match::{Found, match_type};
 use pict_normal::instantiate_type;
 use pict_syntax::{Code, Span};
@@ -147,7 +147,7 @@ pub fn given_fits(
         (λ _. found_for bs.now found.now) result }
 {
     if mentions_missing(alloc, t, found)? {
-        return Err(InferError::Named(Code::Y10, at));
+        return Err(InferError::Named(Code::Y10, at, Told::Nothing));
     }
     let put = wanted(alloc, env, t, bs, found, node)?;
     below(alloc, env, given, shown(&put, t), Code::Y4, at)
@@ -222,7 +222,7 @@ fn all_found(alloc: Global, found: &Found, node: Span) -> Result<Vec<Arg>, Infer
     for x in &found.list {
         match x {
             Some(t) => args.push(Arg::Plain(t.copy(alloc)?))?,
-            None => return Err(InferError::Named(Code::Y10, node)),
+            None => return Err(InferError::Named(Code::Y10, node, Told::Nothing)),
         }
     }
     Ok(args)

@@ -11,7 +11,7 @@ ghost use Rattle.pict_lines.specs.Folds.{annotated_types};
 ghost use Rattle.pict_lines.specs.Lines.{fold_annotated, fold_from, fold_of, fold_written, variables};
 
 use crate::steps::{expanded, unfolded};
-use pict_infer::{Env, InferError, recursive};
+use pict_infer::{Env, InferError, Told, recursive};
 use pict_syntax::{Code, RType, Span, TypeTree, type_span};
 use pict_types::Ty;
 use std::alloc::Global;
@@ -58,7 +58,7 @@ pub fn annotated_fold(
     ensures formed { IfOk result (λ f. IsTypeIn (environment_of env.now) (plain f.unfolding)) }
 {
     match &annotation.of {
-        None => Err(InferError::Named(Code::Y7, span)),
+        None => Err(InferError::Named(Code::Y7, span, Told::Nothing)),
         Some(t) => written_fold(alloc, env, t, span),
     }
 }

@@ -9,7 +9,7 @@ ghost use Rattle.pict_infer.specs.Environments.{environment_of};
 ghost use Rattle.pict_lines.specs.Functions.{function_of, IsNoFunction, function_in};
 
 use crate::steps::exposed;
-use pict_infer::{Env, InferError};
+use pict_infer::{Env, InferError, Told};
 use pict_syntax::{Code, Span};
 use pict_types::{Cap, Record, Ty};
 use std::alloc::{AllocError, Global};
@@ -86,6 +86,6 @@ pub fn head(alloc: Global, env: &Env, t: Ty, at: Span) -> Result<Function, Infer
     let found = applicable(alloc, &exposed)?;
     match found {
         Some(f) => Ok(f),
-        None => Err(InferError::Named(Code::Y8, at)),
+        None => Err(InferError::Named(Code::Y8, at, Told::Nothing)),
     }
 }

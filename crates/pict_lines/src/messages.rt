@@ -13,7 +13,7 @@ ghost use Rattle.pict_lines.specs.Declaring.{IsNoChannel};
 ghost use Rattle.pict_lines.specs.Lines.{channel_messages};
 
 use crate::steps::exposed;
-use pict_infer::{Env, InferError};
+use pict_infer::{Env, InferError, Told};
 use pict_syntax::{Code, Span};
 use pict_types::{Cap, Ty};
 use std::alloc::Global;
@@ -59,12 +59,12 @@ pub fn messages_sent(alloc: Global, env: &Env, t: Ty, at: Span) -> Result<Ty, In
 {
     let exposed = exposed(alloc, env, t)?;
     match channel(&exposed) {
-        None => Err(InferError::Named(Code::Y1, at)),
+        None => Err(InferError::Named(Code::Y1, at, Told::Nothing)),
         Some((cap, u)) => {
             if may_send(cap) {
                 return Ok(u.copy(alloc)?);
             }
-            Err(InferError::Named(Code::Y2, at))
+            Err(InferError::Named(Code::Y2, at, Told::Nothing))
         }
     }
 }
@@ -76,12 +76,12 @@ pub fn messages_received(alloc: Global, env: &Env, t: Ty, at: Span) -> Result<Ty
 {
     let exposed = exposed(alloc, env, t)?;
     match channel(&exposed) {
-        None => Err(InferError::Named(Code::Y1, at)),
+        None => Err(InferError::Named(Code::Y1, at, Told::Nothing)),
         Some((cap, u)) => {
             if may_receive(cap) {
                 return Ok(u.copy(alloc)?);
             }
-            Err(InferError::Named(Code::Y3, at))
+            Err(InferError::Named(Code::Y3, at, Told::Nothing))
         }
     }
 }

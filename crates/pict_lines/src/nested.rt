@@ -23,7 +23,7 @@ use crate::fields::{
 use crate::functions::{Function, head};
 use crate::operators::Operator;
 use crate::steps::below;
-use pict_infer::{Env, InferError};
+use pict_infer::{Env, InferError, Told};
 use pict_match::{Found, match_type};
 use pict_syntax::{Code, Id, Span};
 use pict_types::{Arg, Ty};
@@ -80,10 +80,10 @@ fn two_fields(function: Function, name: Id, span: Span) -> Result<Operator, Infe
     ensures refused { IfErr result (λ y. (e : Environment) → IsUnfit e (function_of function) span y) }
 {
     if function.fields.positional.len() != 2 {
-        return Err(InferError::Named(Code::Y5, span));
+        return Err(InferError::Named(Code::Y5, span, Told::Nothing));
     }
     if !function.fields.labelled.is_empty() {
-        return Err(InferError::Named(Code::Y6, span));
+        return Err(InferError::Named(Code::Y6, span, Told::Nothing));
     }
     Ok(Operator {
         span,

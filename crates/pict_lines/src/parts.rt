@@ -10,7 +10,7 @@ ghost use Rattle.pict_lines.specs.Counts.{sent};
 ghost use Rattle.pict_lines.specs.Lines.{either_type, formed};
 
 use crate::steps::within_limits;
-use pict_infer::{Env, InferError};
+use pict_infer::{Env, InferError, Told};
 use pict_sub::is_subtype;
 use pict_syntax::{Code, Span};
 use pict_types::{Cap, Ty};
@@ -29,7 +29,7 @@ pub fn either(alloc: Global, env: &Env, s: Ty, t: Ty, span: Span) -> Result<Ty, 
     if is_subtype(alloc, env.context(), &t, &s)? {
         return Ok(s);
     }
-    Err(InferError::Named(Code::Y11, span))
+    Err(InferError::Named(Code::Y11, span, Told::Nothing))
 }
 
 /// The type. K4 at the place where it passes a limit. Takes no memory.

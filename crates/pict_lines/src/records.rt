@@ -22,7 +22,7 @@ ghost use Rattle.pict_lines.specs.Lines.{argument_after, argument_expanded, argu
 
 use crate::fields::within_bound;
 use crate::parts::limited;
-use pict_infer::{Env, InferError, refusal, size_refusal};
+use pict_infer::{Env, InferError, Told, refusal, size_refusal};
 use pict_normal::{expand_arg, instantiate};
 use pict_syntax::{Code, Name, Span, TypeTree, type_span};
 use pict_types::{Arg, Bound, Record, Ty, varies};
@@ -138,10 +138,10 @@ fn argument_fits(
     ensures { IsAnswer (argument_fits (environment_of env.now) node at (plain_bound b.now) (plain_args earlier.now) (plain_arg a.now)) nothing result }
 {
     if !is_of_kind(a, b) {
-        return Err(InferError::Named(Code::K1, at));
+        return Err(InferError::Named(Code::K1, at, Told::Nothing));
     }
     if !varies_as(env, a, b) {
-        return Err(InferError::Named(Code::K5, at));
+        return Err(InferError::Named(Code::K5, at, Told::Nothing));
     }
     within_bound(alloc, env, b, earlier, a, at, node)
 }

@@ -13,7 +13,7 @@ ghost use Rattle.pict_infer.specs.Environments.{environment_of};
 ghost use Rattle.pict_infer.specs.Steps.{below, expanded, limited, unfolded};
 ghost use Rattle.pict_lines.specs.Lines.{outside};
 
-use pict_infer::{Env, InferError};
+use pict_infer::{Env, InferError, Told};
 use pict_syntax::{Code, Span, TypeTree};
 use pict_types::{Ty, Variables, lower_type, mentions};
 use std::alloc::{AllocError, Global};
@@ -75,7 +75,7 @@ pub fn outside(alloc: Global, t: Ty, count: u32, span: Span) -> Result<Ty, Infer
     ensures { IsAnswer (outside count (plain t) span) plain result }
 {
     if mentions(&t, &Variables::Innermost(count))? {
-        return Err(InferError::Named(Code::Y14, span));
+        return Err(InferError::Named(Code::Y14, span, Told::Nothing));
     }
     if count == 0 {
         return Ok(t);

@@ -16,7 +16,7 @@ ghost use Rattle.pict_lines.specs.Declaring.{channel_type, is_both, new_operator
 use crate::folds::variables;
 use crate::records::fields_type;
 use crate::steps::expanded;
-use pict_infer::{Env, InferError};
+use pict_infer::{Env, InferError, Told};
 use pict_syntax::{Code, Id, TypeTree, type_span};
 use pict_types::{Arg, Bound, Cap, Ty};
 use std::alloc::{AllocError, Global};
@@ -57,7 +57,7 @@ fn channel_type(alloc: Global, env: &Env, t: &TypeTree) -> Result<Ty, InferError
             if is_both(&u) {
                 return Ok(u);
             }
-            Err(InferError::Named(Code::Y15, type_span(t)))
+            Err(InferError::Named(Code::Y15, type_span(t), Told::Nothing))
         }
         Err(e) => Err(e),
     }

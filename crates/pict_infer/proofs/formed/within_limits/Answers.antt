@@ -9,6 +9,7 @@ use Rattle.pict_normal.specs.Normal.{size_stop}
 use Rattle.pict_rules.specs.Clauses.{done}
 use Rattle.pict_rules.specs.Derivations.{give_}
 use Rattle.pict_infer.specs.declared.error.InferError.TheVariants.{Named}
+use Rattle.pict_infer.specs.declared.error.Told.TheVariants.{Nothing}
 use Rattle.pict_infer.proofs.Forming.{clear, stopped, size_past, past_limit}
 use Rattle.pict_infer.proofs.formed.within_limits.Goals as goal
 use Rattle.pict_normal.proofs.Expanded.{size_clear}
@@ -26,6 +27,6 @@ returns-in-Some c =
     let d = plain_context c.args.c.now in
     let t = plain c.args.t.now in
     let m = c.measures.result in
-    stopped (size_stop d t c.args.span) done (Named K4 c.args.span) (size_past d t c.args.span (λ a b.
+    stopped (size_stop d t c.args.span) done (Named K4 c.args.span Nothing) (size_past d t c.args.span (λ a b.
     past_limit c.in-Some.field-0 m.weight m.height (λ e. c.too_big.ensures.weight (c.in-Some.is ∙ ap Some e)) (λ e. (c.too_big.ensures.height (c.in-Some.is ∙ ap Some e)).1)
     (omega (arith, a, c.measures.ensures.weight)) (omega (arith, b, c.measures.ensures.height))))

@@ -11,14 +11,14 @@ use Rattle.pict_infer.specs.Asking.{IsWellAsked}
 use Rattle.pict_infer.specs.Environments.{environment_of}
 use Rattle.pict_check.specs.Refused.{IsTypeStop}
 use Rattle.pict_check.proofs.ProgramEnds.{program_asked, program_stuck, program_typed}
-use Rattle.pict_check.proofs.whole.check.Goals as goal
+use Rattle.pict_check.proofs.whole.check_in.Goals as goal
 
 pub declarations-requires : goal.declarations-requires
 declarations-requires c =
     let names = c.args.names.now in
     let asked = program_asked names (declarations_of c.args.scoped.now.program) c.requires.scoped in
     record {
-      right = subst (λ (e : Environment). IsWellAsked environment_ e (declarations (decs_on no_decs c.deref.result.now))) (sym c.new-env.ensures)
+      right = subst (λ (e : Environment). IsWellAsked environment_ e (declarations (decs_on no_decs c.deref.result.now))) (sym c.requires.empty)
           (subst (λ xs. IsWellAsked environment_ (no_environment names) (declarations (decs_on no_decs xs))) (sym c.deref.ensures.value) asked);
     }
 
@@ -28,7 +28,7 @@ returns-in-Ok-clause-typed c =
     let e = environment_of c.declarations.new.env in
     program_typed names (declarations_of c.args.scoped.now.program) e c.requires.scoped
     (subst (λ xs. Runs (rule (no_environment names) (declarations (decs_on no_decs xs))) (ok e)) c.deref.ensures.value
-    (subst (λ (d : Environment). Runs (rule d (declarations (decs_on no_decs c.deref.result.now))) (ok e)) c.new-env.ensures c.in-Ok.ensures.answer))
+    (subst (λ (d : Environment). Runs (rule d (declarations (decs_on no_decs c.deref.result.now))) (ok e)) c.requires.empty c.in-Ok.ensures.answer))
 
 pub returns-clause-stuck : goal.returns-clause-stuck
 returns-clause-stuck c =
@@ -36,5 +36,5 @@ returns-clause-stuck c =
     let p = declarations_of c.args.scoped.now.program in
     let refused =
     subst (λ xs. IsRefused (rule (no_environment names) (declarations (decs_on no_decs xs))) c.in-Err.e) c.deref.ensures.value
-    (subst (λ (d : Environment). IsRefused (rule d (declarations (decs_on no_decs c.deref.result.now))) c.in-Err.e) c.new-env.ensures c.in-Err.ensures.answer) in
+    (subst (λ (d : Environment). IsRefused (rule d (declarations (decs_on no_decs c.deref.result.now))) c.in-Err.e) c.requires.empty c.in-Err.ensures.answer) in
     subst (IsTypeStop names p) (sym c.refusal.ensures) (program_stuck names p c.in-Err.e refused)
