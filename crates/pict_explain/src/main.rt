@@ -18,7 +18,7 @@ use pict_top::{Command, Options, Status, pict, words_of};
 use std::env;
 use std::io::Write;
 use std::process::ExitCode;
-use telling::{phases, shelf_of, told};
+use telling::{phases, shelf_of, told, types};
 
 /// Does what the words ask for, over the files of the system.
 fn do_plainly(rt: &HostRuntime, words: &[&str]) -> Status {
@@ -51,7 +51,16 @@ fn do_file(rt: &HostRuntime, words: &[&str], options: Options<'_>) -> Result<Sta
         Err(FrontError::Named(Code::B1, _)) => Ok(do_plainly(rt, words)),
         Err(FrontError::Named(code, place)) => {
             let status = do_with(rt, words, &sources)?;
-            let more = told(rt.alloc(), &sources, code, place, options.bare)?;
+            let mut shelf = shelf_of(rt.alloc(), &sources)?;
+            let types = types(rt.alloc(), options.bare, options.file, &mut shelf)?;
+            let more = told(
+                rt.alloc(),
+                &sources,
+                code,
+                place,
+                options.bare,
+                &types,
+            )?;
             rt.stderr().write_all(&more)?;
             Ok(status)
         }

@@ -1,6 +1,6 @@
 // Texts with usual mistakes, and what is told of each.
 
-use crate::telling::{phases, told};
+use crate::telling::{phases, told, types};
 use anyhow::Error;
 use pict_front::FrontError;
 use pict_outside::{Fetched, FolderShelf, Shelf, StreamSink};
@@ -39,7 +39,8 @@ fn tell_text(rt: &HostRuntime, name: &str, text: &[u8], bare: bool) -> Result<()
                 &mut shelf,
                 &mut sources,
             ) {
-                let more = told(rt.alloc(), &sources, code, place, bare)?;
+                let types = types(rt.alloc(), bare, name, &mut shelf)?;
+                let more = told(rt.alloc(), &sources, code, place, bare, &types)?;
                 rt.stdout().write_all(&more)?;
             }
         }

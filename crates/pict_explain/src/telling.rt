@@ -2,10 +2,15 @@
 
 ghost use Rattle.std.specs.Prelude.{◌≡◌, []};
 
+use pict_check::{TypeError, check_in};
 use pict_front::{Front, FrontError, front};
+use pict_gather::gather;
 use pict_hints::explanation;
+use pict_infer::Env;
+use pict_misfit::put_types;
 use pict_outside::{Entry, MemoryShelf, Shelf};
-use pict_syntax::{Code, Sources, Span, TEXT_LIMIT};
+use pict_scope::resolve;
+use pict_syntax::{Code, Dec, Names, Program, Sources, Span, TEXT_LIMIT};
 use pict_top::prelude;
 use std::alloc::{AllocError, Global};
 
@@ -37,14 +42,48 @@ pub fn phases<S: Shelf>(
     }
 }
 
-/// What is told, below its report, of a refusal with this code at this place in one of these texts. The only error is want of
-/// memory.
+/// What is told of types where the typing rules refuse these declarations.
+fn types_in(alloc: Global, names: &Names, decs: Vec<Dec>) -> Result<Vec<u8>, AllocError> {
+    let mut out = Vec::new(alloc);
+    let imports = Vec::new(alloc);
+    if let Ok(scoped) = resolve(alloc, names, Program { imports, decs }) {
+        let mut env = Env::new(alloc, names);
+        if let Err(TypeError::Named(_, _, told)) = check_in(alloc, &mut env, names, &scoped) {
+            put_types(alloc, &mut out, names, env, &told)?;
+        }
+    }
+    Ok(out)
+}
+
+/// What is told of types where the typing rules refuse a file, behind the prelude unless it is `bare`; nothing where something else
+/// refuses it. The only error is want of memory.
+pub fn types<S: Shelf>(
+    alloc: Global,
+    bare: bool,
+    file: &str,
+    shelf: &mut S,
+) -> Result<Vec<u8>, AllocError> {
+    let mut sources = Sources::new(alloc);
+    let gathered = if bare {
+        gather(alloc, None, file, shelf, &mut sources)
+    } else {
+        gather(alloc, Some(prelude()), file, shelf, &mut sources)
+    };
+    match gathered {
+        Ok(gathering) => types_in(alloc, &gathering.names, gathering.decs),
+        Err(_) => Ok(Vec::new(alloc)),
+    }
+}
+
+/// What is told, below its report, of a refusal with this code at this place in one of these texts, and of its types. The only error
+/// is want of memory.
 pub fn told(
     alloc: Global,
     sources: &Sources,
     code: Code,
     place: Span,
     bare: bool,
+    types: &[u8],
 ) -> Result<Vec<u8>, AllocError> {
     let Some(source) = sources.list.get(place.text as usize) else {
         return Ok(Vec::new(alloc));
@@ -53,5 +92,5 @@ pub fn told(
     if text.len() as u64 > TEXT_LIMIT {
         return Ok(Vec::new(alloc));
     }
-    explanation(alloc, code, place, text, bare)
+    explanation(alloc, code, place, text, bare, types)
 }

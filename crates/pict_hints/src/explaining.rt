@@ -13,13 +13,14 @@ use std::alloc::{AllocError, Global};
 
 /// What is told below the report of a text that is refused with this code at this place: the line with a caret, and what is
 /// known of the code there. Of a place in the prelude, whose number is 0, nothing is told. `bare` says whether the text stands
-/// without the prelude. The only error is want of memory.
+/// without the prelude; `types` are lines that are told below the line. The only error is want of memory.
 pub fn explanation(
     alloc: Global,
     code: Code,
     place: Span,
     text: &[u8],
     bare: bool,
+    types: &[u8],
 ) -> Result<Vec<u8>, AllocError>
     requires short { length text.now ≤ TEXT_LIMIT }
 {
@@ -27,6 +28,7 @@ pub fn explanation(
         return Ok(Vec::new(alloc));
     }
     let mut out = shown_line(alloc, text, place.start)?;
+    out.extend_from_slice(types)?;
     match code {
         Code::L1 | Code::L2 | Code::L3 => put_byte(&mut out, code, text, place.start as usize)?,
         Code::P1 => put_wrong_token(alloc, &mut out, text, place.start)?,

@@ -65,6 +65,14 @@ impl<'a> Env<'a> {
         &self.context
     }
 
+    /// The type variables and definitions that were known, for those who go on without the values. Takes no memory.
+    pub fn into_context(self) -> Context<'a>
+        ensures names { names_of result ≡ known_names self }
+        ensures entries { plain_context result ≡ known_entries self }
+    {
+        self.context
+    }
+
     /// The type of the nearest value of a name, or else of the primitive, written in all the type variables. The only
     /// error is want of memory.
     pub fn type_of_use(&self, alloc: Global, name: Name) -> Result<Ty, AllocError>
