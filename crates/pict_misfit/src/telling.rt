@@ -70,7 +70,15 @@ fn put_why(
             out.extend_from_slice(&given)?;
             out.extend_from_slice(b"` stands here, `")?;
             out.extend_from_slice(&wanted)?;
-            out.extend_from_slice(b"` is wanted")
+            out.extend_from_slice(b"` is wanted")?;
+            if clash.turned {
+                out.extend_from_slice(b"; there `")?;
+                out.extend_from_slice(&wanted)?;
+                out.extend_from_slice(b"` has to be below `")?;
+                out.extend_from_slice(&given)?;
+                out.push(b'`')?;
+            }
+            Ok(())
         }
         Why::Cap(given, wanted) => {
             out.extend_from_slice(b"`")?;
@@ -124,9 +132,6 @@ fn put_clash(
     out.extend_from_slice(b": ")?;
     put_why(alloc, out, speech, clash)?;
     out.push(b'\n')?;
-    if clash.turned && !path.is_empty() {
-        out.extend_from_slice(b"  (what is sent goes the other way: there the wanted type has to be below)\n")?;
-    }
     Ok(())
 }
 

@@ -31,7 +31,7 @@ fn told(alloc: Global, text: &[u8], beginning: &str) -> Result<String, AllocErro
     if text.len() as u64 > TEXT_LIMIT {
         return Err(AllocError);
     }
-    let bytes = explanation(alloc, Code::P1, place, text, true)?;
+    let bytes = explanation(alloc, Code::P1, place, text, true, &[])?;
     let Ok(lines) = from_utf8(&bytes) else {
         return format!(in alloc; "no text");
     };
