@@ -1,5 +1,5 @@
 -- When a call's result is what a rule answers.
-use Rattle.std.specs.Prelude.{◌≡◌, ◌×◌, ⊥, Option, Some, Result, Ok, Err}
+use Rattle.std.specs.Prelude.{◌≡◌, Option, Some, Result, Ok, Err}
 use Rattle.pict_syntax.specs.declared.code.Code.TheVariants.{K4}
 use Rattle.pict_syntax.specs.declared.span.Span.{Span}
 use Rattle.pict_types.specs.declared.limits.SizeError.{SizeError}

@@ -67,8 +67,8 @@ impl<'a> Env<'a> {
 
     /// The type variables and definitions that were known, for those who go on without the values. Takes no memory.
     pub fn into_context(self) -> Context<'a>
-        ensures names { names_of result ≡ known_names self }
-        ensures entries { plain_context result ≡ known_entries self }
+        ensures names { names_of result ≡ known_names self.entry }
+        ensures entries { plain_context result ≡ known_entries self.entry }
     {
         self.context
     }

@@ -10,6 +10,9 @@ use std::alloc::{AllocError, Global};
 /// How many pairs of nodes are compared at most.
 const MOST_PAIRS: u32 = 100_000;
 
+/// A difference that lies deeper than this isn't told.
+const DEEPEST: u32 = 200;
+
 /// A step from a type to a part of it.
 #[derive(Clone, Copy)]
 pub enum Step {
@@ -84,10 +87,12 @@ fn first_clash<'a>(
     given: Part<'a>,
     wanted: Part<'a>,
     turned: bool,
+    deep: u32,
 ) -> Result<Option<Clash<'a>>, AllocError> {
-    if !count(&mut walk.left, 1) {
+    if deep == 0 || !count(&mut walk.left, 1) {
         return Ok(None);
     }
+    let deep = deep - 1;
     let here = Clash {
         given,
         wanted,
@@ -110,13 +115,13 @@ fn first_clash<'a>(
                 under: wanted.under,
             };
             path.push(Step::Content)?;
-            let found = content_clash(walk, path, s, t, turned, high)?;
+            let found = content_clash(walk, path, s, t, turned, high, deep)?;
             if found.is_none() {
                 let _ = path.pop();
             }
             Ok(found)
         }
-        (Ty::Fields(r), Ty::Fields(q)) => record_clash(walk, path, r, q, here),
+        (Ty::Fields(r), Ty::Fields(q)) => record_clash(walk, path, r, q, here, deep),
         (Ty::Rec(s), Ty::Rec(t)) => {
             if !count(&mut walk.left, 100) || equal(given.of, wanted.of) {
                 return Ok(None);
@@ -130,7 +135,7 @@ fn first_clash<'a>(
                 of: t,
                 under: wanted.under.saturating_add(1),
             };
-            let found = content_clash(walk, path, s, t, turned, Cap::Both)?;
+            let found = content_clash(walk, path, s, t, turned, Cap::Both, deep)?;
             if found.is_some() {
                 return Ok(found);
             }
@@ -178,16 +183,17 @@ fn content_clash<'a>(
     wanted: Part<'a>,
     turned: bool,
     high: Cap,
+    deep: u32,
 ) -> Result<Option<Clash<'a>>, AllocError> {
     match high {
-        Cap::Read => first_clash(walk, path, given, wanted, turned),
-        Cap::Write | Cap::Respond => first_clash(walk, path, given, wanted, !turned),
+        Cap::Read => first_clash(walk, path, given, wanted, turned, deep),
+        Cap::Write | Cap::Respond => first_clash(walk, path, given, wanted, !turned, deep),
         Cap::Both => {
-            let found = first_clash(walk, path, given, wanted, turned)?;
+            let found = first_clash(walk, path, given, wanted, turned, deep)?;
             if found.is_some() {
                 return Ok(found);
             }
-            first_clash(walk, path, given, wanted, !turned)
+            first_clash(walk, path, given, wanted, !turned, deep)
         }
     }
 }
@@ -229,6 +235,7 @@ fn record_clash<'a>(
     r: &'a Record,
     q: &'a Record,
     here: Clash<'a>,
+    deep: u32,
 ) -> Result<Option<Clash<'a>>, AllocError> {
     if !are_same_binders(&r.binders, &q.binders) {
         let why = Why::TypeFields;
@@ -250,13 +257,13 @@ fn record_clash<'a>(
             under: wanted_under,
         };
         path.push(Step::Field(i + 1))?;
-        let found = first_clash(walk, path, s, t, here.turned)?;
+        let found = first_clash(walk, path, s, t, here.turned, deep)?;
         if found.is_some() {
             return Ok(found);
         }
         let _ = path.pop();
     }
-    labels_clash(walk, path, r, q, here)
+    labels_clash(walk, path, r, q, here, deep)
 }
 
 /// The same of the labelled fields of two records: each label of the greater one has to be in the smaller.
@@ -267,6 +274,7 @@ fn labels_clash<'a>(
     r: &'a Record,
     q: &'a Record,
     here: Clash<'a>,
+    deep: u32,
 ) -> Result<Option<Clash<'a>>, AllocError> {
     let given_under = here.given.under.saturating_add(r.binders.len());
     let wanted_under = here.wanted.under.saturating_add(q.binders.len());
@@ -286,7 +294,7 @@ fn labels_clash<'a>(
             under: wanted_under,
         };
         path.push(Step::Labelled(label))?;
-        let found = first_clash(walk, path, s, t, here.turned)?;
+        let found = first_clash(walk, path, s, t, here.turned, deep)?;
         if found.is_some() {
             return Ok(found);
         }
@@ -316,7 +324,7 @@ pub fn clash<'a>(
         of: wanted,
         under: 0,
     };
-    match first_clash(&mut walk, &mut path, given, wanted, false)? {
+    match first_clash(&mut walk, &mut path, given, wanted, false, DEEPEST)? {
         None => Ok(None),
         Some(clash) => Ok(Some((path, clash))),
     }

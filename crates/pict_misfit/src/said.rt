@@ -9,6 +9,9 @@ use std::alloc::{AllocError, Global};
 /// What a walk through a whole part costs, in pairs of nodes that are compared.
 const WALK: u32 = 100;
 
+/// A definition that is deeper than this says no type.
+const DEEPEST: u32 = 64;
+
 /// A part of a type, under so many binders of that type.
 #[derive(Clone, Copy)]
 pub struct Part<'a> {
@@ -90,10 +93,12 @@ fn type_fits<'a>(
     inner: usize,
     found: &mut Found<'a>,
     left: &mut u32,
+    deep: u32,
 ) -> Result<bool, AllocError> {
-    if !count(left, 1) {
+    if deep == 0 || !count(left, 1) {
         return Ok(false);
     }
+    let deep = deep - 1;
     match (body, part.of) {
         (Ty::Var(i), _) => variable_fits(*i as usize, part, inner, found, left),
         (Ty::Top, Ty::Top) => Ok(true),
@@ -105,21 +110,21 @@ fn type_fits<'a>(
             if i != j {
                 return Ok(false);
             }
-            types_fit(bodies, ts, part.under, inner, found, left)
+            types_fit(bodies, ts, part.under, inner, found, left, deep)
         }
         (Ty::Chan(m, body), Ty::Chan(n, of)) => {
             if *m != *n {
                 return Ok(false);
             }
             let under = part.under;
-            type_fits(body, Part { of, under }, inner, found, left)
+            type_fits(body, Part { of, under }, inner, found, left, deep)
         }
         (Ty::Fields(body), Ty::Fields(of)) => {
-            record_fits(body, of, part.under, inner, found, left)
+            record_fits(body, of, part.under, inner, found, left, deep)
         }
         (Ty::Rec(body), Ty::Rec(of)) => {
             let under = part.under.saturating_add(1);
-            type_fits(body, Part { of, under }, inner.saturating_add(1), found, left)
+            type_fits(body, Part { of, under }, inner.saturating_add(1), found, left, deep)
         }
         _ => Ok(false),
     }
@@ -133,17 +138,18 @@ fn record_fits<'a>(
     inner: usize,
     found: &mut Found<'a>,
     left: &mut u32,
+    deep: u32,
 ) -> Result<bool, AllocError> {
     let binders = body.binders.len();
-    if !bounds_fit(&body.binders, &of.binders, under, inner, found, left)? {
+    if !bounds_fit(&body.binders, &of.binders, under, inner, found, left, deep)? {
         return Ok(false);
     }
     let under = under.saturating_add(binders);
     let inner = inner.saturating_add(binders);
-    if !types_fit(&body.positional, &of.positional, under, inner, found, left)? {
+    if !types_fit(&body.positional, &of.positional, under, inner, found, left, deep)? {
         return Ok(false);
     }
-    labels_fit(&body.labelled, &of.labelled, under, inner, found, left)
+    labels_fit(&body.labelled, &of.labelled, under, inner, found, left, deep)
 }
 
 #[cycle(fits)]
@@ -154,13 +160,14 @@ fn types_fit<'a>(
     inner: usize,
     found: &mut Found<'a>,
     left: &mut u32,
+    deep: u32,
 ) -> Result<bool, AllocError> {
     if bodies.len() != ts.len() {
         return Ok(false);
     }
     for i in 0..bodies.len() {
         let part = Part { of: &ts[i], under };
-        if !type_fits(&bodies[i], part, inner, found, left)? {
+        if !type_fits(&bodies[i], part, inner, found, left, deep)? {
             return Ok(false);
         }
     }
@@ -175,6 +182,7 @@ fn labels_fit<'a>(
     inner: usize,
     found: &mut Found<'a>,
     left: &mut u32,
+    deep: u32,
 ) -> Result<bool, AllocError> {
     if bodies.len() != ts.len() {
         return Ok(false);
@@ -187,7 +195,7 @@ fn labels_fit<'a>(
             of: &ts[i].1,
             under,
         };
-        if !type_fits(&bodies[i].1, part, inner, found, left)? {
+        if !type_fits(&bodies[i].1, part, inner, found, left, deep)? {
             return Ok(false);
         }
     }
@@ -202,6 +210,7 @@ fn bounds_fit<'a>(
     inner: usize,
     found: &mut Found<'a>,
     left: &mut u32,
+    deep: u32,
 ) -> Result<bool, AllocError> {
     if bodies.len() != bounds.len() {
         return Ok(false);
@@ -215,7 +224,7 @@ fn bounds_fit<'a>(
                     of,
                     under: under.saturating_add(i),
                 };
-                type_fits(body, part, inner.saturating_add(i), found, left)?
+                type_fits(body, part, inner.saturating_add(i), found, left, deep)?
             }
             _ => false,
         };
@@ -239,7 +248,7 @@ fn arguments<'a>(
         parts.push(None)?;
     }
     let mut found = Found { parts };
-    if !type_fits(&definition.body, part, 0, &mut found, left)? {
+    if !type_fits(&definition.body, part, 0, &mut found, left, DEEPEST)? {
         return Ok(None);
     }
     let mut arguments = Vec::new(alloc);
