@@ -12,7 +12,10 @@ ghost use Rattle.pict_lines.specs.Definitions.{function_tree};
 
 use crate::processes::process;
 use crate::values::{gives, has};
-use pict_infer::{Env, InferError, Told, as_record, followed, open_fields, open_fields_against, pattern_against, pattern_gives, shown};
+use pict_infer::{
+    Env, InferError, Told, as_record, followed, open_fields, open_fields_against, pattern_against,
+    pattern_gives, shown,
+};
 use pict_lines::answers::{answer_in, argument, body_type, opened, past_added};
 use pict_lines::steps::{expanded, outside};
 use pict_syntax::{Abs, Code, FieldPats, RType, Span, TypeTree, Val, val_span};

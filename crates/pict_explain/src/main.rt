@@ -53,14 +53,7 @@ fn do_file(rt: &HostRuntime, words: &[&str], options: Options<'_>) -> Result<Sta
             let status = do_with(rt, words, &sources)?;
             let mut shelf = shelf_of(rt.alloc(), &sources)?;
             let types = types(rt.alloc(), options.bare, options.file, &mut shelf)?;
-            let more = told(
-                rt.alloc(),
-                &sources,
-                code,
-                place,
-                options.bare,
-                &types,
-            )?;
+            let more = told(rt.alloc(), &sources, code, place, options.bare, &types)?;
             rt.stderr().write_all(&more)?;
             Ok(status)
         }

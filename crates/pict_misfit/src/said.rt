@@ -35,12 +35,7 @@ pub fn count(left: &mut u32, pairs: u32) -> bool {
 }
 
 /// Whether what is found for a parameter agrees with what was found before.
-fn agrees<'a>(
-    param: usize,
-    part: Part<'a>,
-    found: &mut Found<'a>,
-    left: &mut u32,
-) -> bool {
+fn agrees<'a>(param: usize, part: Part<'a>, found: &mut Found<'a>, left: &mut u32) -> bool {
     if param >= found.parts.len() {
         return false;
     }
@@ -124,7 +119,14 @@ fn type_fits<'a>(
         }
         (Ty::Rec(body), Ty::Rec(of)) => {
             let under = part.under.saturating_add(1);
-            type_fits(body, Part { of, under }, inner.saturating_add(1), found, left, deep)
+            type_fits(
+                body,
+                Part { of, under },
+                inner.saturating_add(1),
+                found,
+                left,
+                deep,
+            )
         }
         _ => Ok(false),
     }
@@ -146,10 +148,26 @@ fn record_fits<'a>(
     }
     let under = under.saturating_add(binders);
     let inner = inner.saturating_add(binders);
-    if !types_fit(&body.positional, &of.positional, under, inner, found, left, deep)? {
+    if !types_fit(
+        &body.positional,
+        &of.positional,
+        under,
+        inner,
+        found,
+        left,
+        deep,
+    )? {
         return Ok(false);
     }
-    labels_fit(&body.labelled, &of.labelled, under, inner, found, left, deep)
+    labels_fit(
+        &body.labelled,
+        &of.labelled,
+        under,
+        inner,
+        found,
+        left,
+        deep,
+    )
 }
 
 #[cycle(fits)]
