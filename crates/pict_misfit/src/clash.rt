@@ -305,7 +305,7 @@ fn labels_clash<'a>(
 
 /// The first part in which the given type isn't below the wanted one, with the path to it; nothing where that isn't told by their
 /// forms. The only error is want of memory.
-pub fn clash<'a>(
+pub fn difference<'a>(
     alloc: Global,
     known: &Known,
     given: &'a Ty,

@@ -67,7 +67,7 @@ fn keep(definitions: &mut Vec<Definition>, definition: Definition) -> Result<(),
 }
 
 /// What is known in a context. The only error is want of memory.
-pub fn known(alloc: Global, mut context: Context<'_>) -> Result<Known, AllocError> {
+pub fn known_in(alloc: Global, mut context: Context<'_>) -> Result<Known, AllocError> {
     let mut seen = Vec::new(alloc);
     let mut variables = Vec::new(alloc);
     let mut definitions = Vec::new(alloc);

@@ -1,7 +1,7 @@
 // What is told of the two types of a refusal.
 
-use crate::clash::{Clash, Step, Why, clash};
-use crate::known::known;
+use crate::clash::{Clash, Step, Why, difference};
+use crate::known::known_in;
 use crate::said::Part;
 use crate::written::{Speech, sign_of, text_of};
 use itoa::Buffer;
@@ -114,7 +114,7 @@ fn put_clash(
     given: &Ty,
     wanted: &Ty,
 ) -> Result<(), AllocError> {
-    let Some((path, clash)) = clash(alloc, speech.known, given, wanted)? else {
+    let Some((path, clash)) = difference(alloc, speech.known, given, wanted)? else {
         return Ok(());
     };
     let whole = match clash.why {
@@ -149,7 +149,7 @@ pub fn put_types(
         Told::Nothing => return Ok(()),
         Told::Types(given, wanted) => (given, wanted),
     };
-    let known = known(alloc, env.into_context())?;
+    let known = known_in(alloc, env.into_context())?;
     let speech = Speech {
         names,
         known: &known,
