@@ -30,8 +30,8 @@ returns-in-Ok-clause-typed c =
     (subst (λ xs. Runs (rule (no_environment names) (declarations (decs_on no_decs xs))) (ok e)) c.deref.ensures.value
     (subst (λ (d : Environment). Runs (rule d (declarations (decs_on no_decs c.deref.result.now))) (ok e)) c.requires.empty c.in-Ok.ensures.answer))
 
-pub returns-clause-stuck : goal.returns-clause-stuck
-returns-clause-stuck c =
+pub returns-in-Err-clause-stuck : goal.returns-in-Err-clause-stuck
+returns-in-Err-clause-stuck c =
     let names = c.args.names.now in
     let p = declarations_of c.args.scoped.now.program in
     let refused =
