@@ -6,11 +6,13 @@ use Rattle.pict_core.specs.Primitives.{Effect, Leaves, Nothing, Answer, Trap, ef
 use Rattle.pict_core.specs.Term.{Val, Vals, Labelled, Int, Char, Boolean, Text, Record, no_vals, more_vals}
 use Rattle.pict_region.specs.RegionState.{spare, blocks, LosesNoBlock}
 use Rattle.pict_heap.specs.HeapState.{HeapState}
-use Rattle.pict_prim.specs.Acts.{effect_act}
+use Rattle.pict_prim.specs.Acts.{effect_act, answer_need}
 use Rattle.pict_prim.specs.declared.act.Act.{Act}
 use Rattle.pict_prim.specs.declared.act.Act.TheVariants as act
 use Rattle.pict_queue.specs.QueuesState.{QueuesState}
 use Rattle.pict_turns.specs.Widths.{how_many, MakesOnly, leaves_widths, answer_widths}
+use Rattle.pict_turns.specs.Growing.{AddsAtMost}
+use Rattle.pict_turns.specs.declared.store.Store.{Store}
 use Rattle.pict_calls.specs.Finishing.{outputs_of}
 
 -- ---- a primitive that takes a record answers, or divides by zero
@@ -96,6 +98,10 @@ module _ (old new : QueuesState) where
   pub makes_same : (effect e : Effect) → Some effect ≡ Some e → MakesOnly old new (answer_widths effect)
       → MakesOnly old new (answer_widths e)
   makes_same effect e is makes = let same : effect ≡ e = cc in subst (λ (x : Effect). MakesOnly old new (answer_widths x)) same makes
+
+-- the same effect, found twice
+pub adds_same : (old new : Store) (effect e : Effect) → Some effect ≡ Some e → AddsAtMost old new (answer_need effect) → AddsAtMost old new (answer_need e)
+adds_same old new effect e is adds = let same : effect ≡ e = cc in subst (λ (x : Effect). AddsAtMost old new (answer_need x)) same adds
 
 none_of : (t : Bool) → (if t then 0 else 0) ≤ 0
 none_of true = omega arith

@@ -1,8 +1,8 @@
 -- An output to a primitive acts: what it is, and what becomes of it.
-use Rattle.std.specs.Prelude.{◌≡◌, ℕ, List, Some}
+use Rattle.std.specs.Prelude.{◌≡◌, ℕ, List, Some, length}
 use Rattle.pict_syntax.specs.declared.primitive.Primitive.{Primitive}
 use Rattle.pict_syntax.specs.declared.span.Span.{Span}
-use Rattle.pict_core.specs.Term.{Val, PrimitiveVal, Process, Out}
+use Rattle.pict_core.specs.Term.{Val, PrimitiveVal, Process, Out, Record, Text}
 use Rattle.pict_core.specs.Step.{Quiet, Print}
 use Rattle.pict_heap.specs.HeapState.{value_of, IsWord}
 use Rattle.pict_heap.specs.declared.word.Word.{Word}
@@ -10,6 +10,8 @@ use Rattle.pict_prim.specs.Printed.{printed_of}
 use Rattle.pict_view.specs.Moved.{Stops}
 use Rattle.pict_view.specs.Placed.{next_view}
 use Rattle.pict_blocks.specs.Blocks.{process_of}
+use Rattle.pict_prim.specs.declared.act.Need.{Need}
+use Rattle.pict_desk.specs.Needs.{no_need, text_need, needs_of}
 use Rattle.pict_desk.specs.Known.{value_in}
 use Rattle.pict_turns.specs.Acting.{HasActing, IsDone, IsRefused}
 use Rattle.pict_turns.specs.Views.{acting_words, view_with_turn}
@@ -39,3 +41,10 @@ abbrev pub IsCalled : Process → Store → Store → Called → Type 0
 IsCalled core old new called.Quiet = IsDone core old new Quiet
 IsCalled core old new (called.Printed w) = IsPrinted core old new w
 IsCalled core old new (called.Trapped at) = IsTrapped core old new at
+
+-- What the words of an operand need that is given to a primitive: those of a record's fields without labels, since the record itself
+-- is not made, or that of a text.
+abbrev pub argument_need : Val → Need
+argument_need (Record vs ls) = needs_of vs
+argument_need (Text bytes) = text_need (length bytes)
+argument_need _ = no_need

@@ -4,9 +4,10 @@ ghost use Rattle.pict_syntax.specs.declared.primitive.Primitive.{Primitive};
 ghost use Rattle.pict_core.specs.Term.{Val, Labelled, Process};
 ghost use Rattle.pict_core.specs.Primitives.{Effect, effect_of};
 ghost use Rattle.pict_heap.specs.HeapState.{value_of, IsWord};
-ghost use Rattle.pict_prim.specs.Acts.{effect_act, IsActOf};
+ghost use Rattle.pict_prim.specs.Acts.{effect_act, answer_need, IsActOf};
 ghost use Rattle.pict_turns.specs.Acting.{HasActing, IsRefused};
 ghost use Rattle.pict_desk.specs.Room.{KeepsPiles};
+ghost use Rattle.pict_turns.specs.Growing.{AddsAtMost};
 ghost use Rattle.pict_turns.specs.Turns.{turn_cost};
 ghost use Rattle.pict_turns.specs.Widths.{MakesOnly, answer_widths};
 ghost use Rattle.pict_desk.specs.Arguments.{record_of_words};
@@ -31,6 +32,7 @@ fn carry_out(store: &mut Store, act: Act, at: Span) -> Result<Called, AllocError
     ensures refused { (core : Process) → HasActing core store.old → OnErr result (IsRefused core store.old store.new) }
     ensures piles { KeepsPiles store.old.desk.pending store.new.desk.pending }
     ensures blocks { MakesOnly store.old.queues store.new.queues (answer_widths (effect_act store.old.desk.heap act)) }
+    ensures adds { AddsAtMost store.old store.new (answer_need (effect_act store.old.desk.heap act)) }
     ensures work { store.new.queues.region.work ≡ store.old.queues.region.work }
     ensures turn { (core : Process) → turn_cost core store.new ≤ turn_cost core store.old + 13 }
 {
@@ -40,8 +42,8 @@ fn carry_out(store: &mut Store, act: Act, at: Span) -> Result<Called, AllocError
 }
 
 /// Who has the turn is the output of the word to the primitive, at this place in the text: the primitive acts. It prints, or
-/// answers, or both; the answer's output, of kept values at the same place, has the turn then. Dividing by zero and an error,
-/// which is want of memory, change nothing but room and spare blocks.
+/// answers, or both; the answer's output, of kept values at the same place, has the turn then. The heap has at most what is answered
+/// more. Dividing by zero and an error, which is want of memory, change nothing but room and spare blocks.
 #[inline(never)]
 pub fn call(store: &mut Store, p: Prim, argument: Word, at: Span) -> Result<Called, AllocError>
     requires word { IsWord store.old.desk.heap argument }
@@ -52,6 +54,7 @@ pub fn call(store: &mut Store, p: Prim, argument: Word, at: Span) -> Result<Call
     ensures piles { KeepsPiles store.old.desk.pending store.new.desk.pending }
     ensures blocks { (e : Effect) → effect_of p (value_of store.old.desk.heap argument) ≡ Some e
         → MakesOnly store.old.queues store.new.queues (answer_widths e) }
+    ensures adds { (e : Effect) → effect_of p (value_of store.old.desk.heap argument) ≡ Some e → AddsAtMost store.old store.new (answer_need e) }
     ensures work { store.new.queues.region.work ≡ store.old.queues.region.work }
     ensures turn { (core : Process) → turn_cost core store.new ≤ turn_cost core store.old + 13 }
 {
@@ -77,6 +80,8 @@ pub(crate) fn call_words(
     ensures piles { KeepsPiles store.old.desk.pending store.new.desk.pending }
     ensures blocks { (labelled : Labelled) (e : Effect) → effect_of p (record_of_words store.old.desk.heap fields.now labelled) ≡ Some e
         → MakesOnly store.old.queues store.new.queues (answer_widths e) }
+    ensures adds { (labelled : Labelled) (e : Effect) → effect_of p (record_of_words store.old.desk.heap fields.now labelled) ≡ Some e
+        → AddsAtMost store.old store.new (answer_need e) }
     ensures work { store.new.queues.region.work ≡ store.old.queues.region.work }
     ensures turn { (core : Process) → turn_cost core store.new ≤ turn_cost core store.old + 13 }
 {

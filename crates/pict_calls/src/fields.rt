@@ -9,7 +9,10 @@ ghost use Rattle.pict_desk.specs.Pairs.{ArePairs};
 ghost use Rattle.pict_turns.specs.Acting.{HasActing, IsRefused};
 ghost use Rattle.pict_turns.specs.Reserving.{OnlyReserves};
 ghost use Rattle.pict_desk.specs.Room.{KeepsPiles};
+ghost use Rattle.pict_turns.specs.Growing.{AddsAtMost};
 ghost use Rattle.pict_turns.specs.Turns.{turn_cost};
+ghost use Rattle.pict_prim.specs.Acts.{answer_need};
+ghost use Rattle.pict_desk.specs.Needs.{both_needs, needs_of};
 ghost use Rattle.pict_turns.specs.Widths.{MakesOnly, answer_widths};
 ghost use Rattle.pict_calls.specs.Calling.{CallsOn, IsCalled};
 ghost use Rattle.pict_desk.specs.Arguments.{argument_of, HasRoomForCall};
@@ -67,6 +70,9 @@ fn call_making(
     ensures blocks { (labelled : Labelled) (e : Effect)
         → effect_of p (argument_of store.old.desk.heap store.old.desk.values.items fields.now labelled) ≡ Some e
         → MakesOnly store.old.queues store.new.queues (answer_widths e) }
+    ensures adds { (labelled : Labelled) (e : Effect)
+        → effect_of p (argument_of store.old.desk.heap store.old.desk.values.items fields.now labelled) ≡ Some e
+        → AddsAtMost store.old store.new (both_needs (needs_of (vals_of (map plain_val fields.now))) (answer_need e)) }
     ensures work { store.new.queues.region.work ≡ store.old.queues.region.work }
     ensures turn { (core : Process) → turn_cost core store.new ≤ turn_cost core store.old + 13 }
 {
@@ -92,6 +98,9 @@ fn call_any(store: &mut Store, p: Prim, fields: &[Operand], at: Span) -> Result<
     ensures blocks { (labelled : Labelled) (e : Effect)
         → effect_of p (argument_of store.old.desk.heap store.old.desk.values.items fields.now labelled) ≡ Some e
         → MakesOnly store.old.queues store.new.queues (answer_widths e) }
+    ensures adds { (labelled : Labelled) (e : Effect)
+        → effect_of p (argument_of store.old.desk.heap store.old.desk.values.items fields.now labelled) ≡ Some e
+        → AddsAtMost store.old store.new (both_needs (needs_of (vals_of (map plain_val fields.now))) (answer_need e)) }
     ensures work { store.new.queues.region.work ≡ store.old.queues.region.work }
     ensures turn { (core : Process) → turn_cost core store.new ≤ turn_cost core store.old + 13 }
 {
@@ -105,7 +114,8 @@ fn call_any(store: &mut Store, p: Prim, fields: &[Operand], at: Span) -> Result<
 }
 
 /// Who has the turn is the output of a record with these fields and any labels to the primitive, at this place in the text: the
-/// primitive acts, as `call` says. The record is not made, and what a primitive answers of two numbers goes through no heap.
+/// primitive acts, as `call` says. The record is not made, only the words of its fields that are texts or records, and what a
+/// primitive answers of two numbers goes through no heap.
 #[inline(always)]
 pub(crate) fn call_fields(
     store: &mut Store,
@@ -124,6 +134,9 @@ pub(crate) fn call_fields(
     ensures blocks { (labelled : Labelled) (e : Effect)
         → effect_of p (argument_of store.old.desk.heap store.old.desk.values.items fields.now labelled) ≡ Some e
         → MakesOnly store.old.queues store.new.queues (answer_widths e) }
+    ensures adds { (labelled : Labelled) (e : Effect)
+        → effect_of p (argument_of store.old.desk.heap store.old.desk.values.items fields.now labelled) ≡ Some e
+        → AddsAtMost store.old store.new (both_needs (needs_of (vals_of (map plain_val fields.now))) (answer_need e)) }
     ensures work { store.new.queues.region.work ≡ store.old.queues.region.work }
     ensures turn { (core : Process) → turn_cost core store.new ≤ turn_cost core store.old + 13 }
 {

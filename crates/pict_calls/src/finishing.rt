@@ -1,7 +1,8 @@
 // What a primitive is about to do is done, and its output ends.
 ghost use Rattle.std.specs.Prelude.{◌≡◌};
 ghost use Rattle.pict_heap.specs.HeapState.{HeapState, value_of, IsWord};
-ghost use Rattle.pict_prim.specs.Acts.{effect_act, need_of, IsActOf, HasRoom};
+ghost use Rattle.pict_prim.specs.Acts.{effect_act, need_of, answer_need, IsActOf, HasRoom};
+ghost use Rattle.pict_turns.specs.Growing.{AddsAtMost};
 ghost use Rattle.pict_calls.specs.Finishing.{outputs_of, HasActed};
 ghost use Rattle.pict_desk.specs.Kept.{IsOutput};
 
@@ -44,6 +45,7 @@ pub(crate) fn finish(store: &mut Store, act: Act, at: Span) -> Called
     requires room { HasRoom store.old.desk.heap.room (need_of store.old.desk.heap act) }
     ensures acted { HasActed store.old store.new (effect_act store.old.desk.heap act) at result }
     ensures pending { store.new.desk.pending ≡ store.old.desk.pending }
+    ensures adds { AddsAtMost store.old store.new (answer_need (effect_act store.old.desk.heap act)) }
 {
     match perform(&mut store.desk.heap, act) {
         Done::Printed(word) => {

@@ -9,9 +9,12 @@ ghost use Rattle.pict_desk.specs.AtHand.{IsOfHeap};
 ghost use Rattle.pict_desk.specs.Pairs.{ArePairs};
 ghost use Rattle.pict_turns.specs.Acting.{HasActing, IsRefused};
 ghost use Rattle.pict_desk.specs.Room.{KeepsPiles};
+ghost use Rattle.pict_turns.specs.Growing.{AddsAtMost};
 ghost use Rattle.pict_turns.specs.Turns.{turn_cost};
+ghost use Rattle.pict_prim.specs.Acts.{answer_need};
+ghost use Rattle.pict_desk.specs.Needs.{both_needs, text_need};
 ghost use Rattle.pict_turns.specs.Widths.{MakesOnly, answer_widths};
-ghost use Rattle.pict_calls.specs.Calling.{CallsOn, IsCalled};
+ghost use Rattle.pict_calls.specs.Calling.{CallsOn, IsCalled, argument_need};
 ghost use Rattle.pict_desk.specs.Arguments.{operand_in};
 
 use crate::called::Called;
@@ -34,6 +37,7 @@ fn print_text(store: &mut Store, bytes: &[u8], at: Span) -> Result<Called, Alloc
     ensures refused { (core : Process) → HasActing core store.old → OnErr result (IsRefused core store.old store.new) }
     ensures piles { KeepsPiles store.old.desk.pending store.new.desk.pending }
     ensures blocks { MakesOnly store.old.queues store.new.queues [] }
+    ensures adds { AddsAtMost store.old store.new (text_need (length bytes.now)) }
     ensures work { store.new.queues.region.work ≡ store.old.queues.region.work }
     ensures turn { (core : Process) → turn_cost core store.new ≤ turn_cost core store.old + 13 }
 {
@@ -67,6 +71,8 @@ fn call_simple(
     ensures piles { KeepsPiles store.old.desk.pending store.new.desk.pending }
     ensures blocks { (e : Effect) → effect_of p (operand_in store.old.desk.heap store.old.desk.values.items (plain_val message.now)) ≡ Some e
         → MakesOnly store.old.queues store.new.queues (answer_widths e) }
+    ensures adds { (e : Effect) → effect_of p (operand_in store.old.desk.heap store.old.desk.values.items (plain_val message.now)) ≡ Some e
+        → AddsAtMost store.old store.new (answer_need e) }
     ensures work { store.new.queues.region.work ≡ store.old.queues.region.work }
     ensures turn { (core : Process) → turn_cost core store.new ≤ turn_cost core store.old + 13 }
 {
@@ -79,7 +85,8 @@ fn call_simple(
 /// Who has the turn is the output of the operand to the primitive, at this place in the text; each variable of the operand has the
 /// two words of its level in the store. The primitive acts: it prints, or answers, or both; the answer's output, of kept values
 /// at the same place, has the turn then. Dividing by zero and an error, which is want of memory, change nothing but room and
-/// spare blocks. A record that is the operand is not made. It takes time in the nodes of the operand and in the bytes of texts.
+/// spare blocks. A record that is the operand is not made. The heap has at most the words of its fields without labels and what is
+/// answered more. It takes time in the nodes of the operand and in the bytes of texts.
 #[inline(always)]
 pub fn call_operand(
     store: &mut Store,
@@ -97,6 +104,8 @@ pub fn call_operand(
     ensures piles { KeepsPiles store.old.desk.pending store.new.desk.pending }
     ensures blocks { (e : Effect) → effect_of p (operand_in store.old.desk.heap store.old.desk.values.items (plain_val message.now)) ≡ Some e
         → MakesOnly store.old.queues store.new.queues (answer_widths e) }
+    ensures adds { (e : Effect) → effect_of p (operand_in store.old.desk.heap store.old.desk.values.items (plain_val message.now)) ≡ Some e
+        → AddsAtMost store.old store.new (both_needs (argument_need (plain_val message.now)) (answer_need e)) }
     ensures work { store.new.queues.region.work ≡ store.old.queues.region.work }
     ensures turn { (core : Process) → turn_cost core store.new ≤ turn_cost core store.old + 13 }
 {

@@ -4,6 +4,7 @@ use Rattle.std.proofs.lemmas.Bool.Decides.{nat_tests}
 use Rattle.pict_syntax.specs.declared.limits.TheConstants.{NARROW_LIMIT}
 use Rattle.pict_core.specs.Term.{Val}
 use Rattle.pict_heap.specs.HeapState.{HeapState, RecordState, Room, KeepsWords, IsWordOf, word_value, values_of}
+use Rattle.pict_heap.proofs.Rooms.{room_stays}
 use Rattle.pict_prim.specs.Acts.{UsesNeed}
 use Rattle.pict_prim.specs.declared.act.Need.{Need}
 use Rattle.pict_desk.specs.Known.{value_in}
@@ -83,4 +84,4 @@ pub need_wide : (frame : List ℕ) → NARROW_LIMIT < length frame → frame_nee
 need_wide frame many = let test : nat_lt NARROW_LIMIT (length frame) ≡ true = grind (arith, nat_tests) in ap (λ b. cond b (record_need (length frame)) no_need) test
 
 pub uses_nothing : (room : Room) → UsesNeed room room no_need
-uses_nothing room = record { records_left = omega arith; fields_left = omega arith; texts_left = omega arith; bytes_left = omega arith }
+uses_nothing room = record { records_left = omega arith; fields_left = omega arith; texts_left = omega arith; bytes_left = omega arith; records_more = omega arith; fields_more = omega arith; texts_more = omega arith; bytes_more = omega arith; kept = room_stays room }

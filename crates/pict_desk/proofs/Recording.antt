@@ -16,6 +16,7 @@ use Rattle.pict_core.specs.Closed as closed
 use Rattle.pict_core.specs.Plain.{plain_val, plain_field, vals_of, labelled_of}
 use Rattle.pict_core.specs.Substitution.{replace_values}
 use Rattle.pict_heap.specs.Fields.{count}
+use Rattle.pict_heap.proofs.Rooms.{room_kept}
 use Rattle.pict_heap.specs.HeapState.{HeapState, Room, value_of, IsWord, KeepsWords, UsesRoom, record_of}
 use Rattle.pict_heap.specs.declared.word.Word.{Word}
 use Rattle.pict_prim.specs.declared.act.Need.{Need}
@@ -104,6 +105,11 @@ all_used r0 r1 r2 r3 n a b u v w = record {
   fields_left = let x = u.fields_left in let y = v.fields_left in let z = w.fields_left in omega (arith, x, y, z);
   texts_left = let x = u.texts_left in let y = v.texts_left in let z = w.texts_left in omega (arith, x, y, z);
   bytes_left = let x = u.bytes_left in let y = v.bytes_left in let z = w.bytes_left in omega (arith, x, y, z);
+  records_more = let x = u.records_more in let y = v.records_more in let z = w.records_more in omega (arith, x, y, z);
+  fields_more = let x = u.fields_more in let y = v.fields_more in let z = w.fields_more in omega (arith, x, y, z);
+  texts_more = let x = u.texts_more in let y = v.texts_more in let z = w.texts_more in omega (arith, x, y, z);
+  bytes_more = let x = u.bytes_more in let y = v.bytes_more in let z = w.bytes_more in omega (arith, x, y, z);
+  kept = room_kept r0 r1 r3 u.kept (room_kept r1 r2 r3 v.kept w.kept);
 }
 
 -- ---- labels stand once
@@ -232,6 +238,11 @@ module _ (h0 h : HeapState) (p0 p : Pending) (operands : List CoreVal) (i : ℕ)
     fields_left = let m = (need_more (λ n. n.fields) (λ a b. refl) refl operands i x low is).0 in let a = u.fields_left in let b = v.fields_left in omega (arith, m, a, b);
     texts_left = let m = (need_more (λ n. n.texts) (λ a b. refl) refl operands i x low is).0 in let a = u.texts_left in let b = v.texts_left in omega (arith, m, a, b);
     bytes_left = let m = (need_more (λ n. n.bytes) (λ a b. refl) refl operands i x low is).0 in let a = u.bytes_left in let b = v.bytes_left in omega (arith, m, a, b);
+    records_more = let m = (need_more (λ n. n.records) (λ a b. refl) refl operands i x low is).0 in let a = u.records_more in let b = v.records_more in omega (arith, m, a, b);
+    fields_more = let m = (need_more (λ n. n.fields) (λ a b. refl) refl operands i x low is).0 in let a = u.fields_more in let b = v.fields_more in omega (arith, m, a, b);
+    texts_more = let m = (need_more (λ n. n.texts) (λ a b. refl) refl operands i x low is).0 in let a = u.texts_more in let b = v.texts_more in omega (arith, m, a, b);
+    bytes_more = let m = (need_more (λ n. n.bytes) (λ a b. refl) refl operands i x low is).0 in let a = u.bytes_more in let b = v.bytes_more in omega (arith, m, a, b);
+    kept = room_kept h0.room h.room h'.room u.kept v.kept;
   }
 
   pub piled_next : (h' : HeapState) (next last : Pending) (values : List (ℕ × ℕ)) (w : Word) → KeepsWords h0 h → ArePairs h0 values → PilesWords h p0 p (map (λ v. operand_value (known h0 values) (plain_val v)) (take i operands))
@@ -269,6 +280,11 @@ module _ (h0 h : HeapState) (p0 p : Pending) (operands : List (Name × CoreVal))
     fields_left = let m = (labelled_need_more (λ n. n.fields) (λ a b. refl) refl operands i x low is).0 in let a = u.fields_left in let b = v.fields_left in omega (arith, m, a, b);
     texts_left = let m = (labelled_need_more (λ n. n.texts) (λ a b. refl) refl operands i x low is).0 in let a = u.texts_left in let b = v.texts_left in omega (arith, m, a, b);
     bytes_left = let m = (labelled_need_more (λ n. n.bytes) (λ a b. refl) refl operands i x low is).0 in let a = u.bytes_left in let b = v.bytes_left in omega (arith, m, a, b);
+    records_more = let m = (labelled_need_more (λ n. n.records) (λ a b. refl) refl operands i x low is).0 in let a = u.records_more in let b = v.records_more in omega (arith, m, a, b);
+    fields_more = let m = (labelled_need_more (λ n. n.fields) (λ a b. refl) refl operands i x low is).0 in let a = u.fields_more in let b = v.fields_more in omega (arith, m, a, b);
+    texts_more = let m = (labelled_need_more (λ n. n.texts) (λ a b. refl) refl operands i x low is).0 in let a = u.texts_more in let b = v.texts_more in omega (arith, m, a, b);
+    bytes_more = let m = (labelled_need_more (λ n. n.bytes) (λ a b. refl) refl operands i x low is).0 in let a = u.bytes_more in let b = v.bytes_more in omega (arith, m, a, b);
+    kept = room_kept h0.room h.room h'.room u.kept v.kept;
   }
 
   pub labelled_piled_next : (h' : HeapState) (next last : Pending) (values : List (ℕ × ℕ)) (w : Word) → KeepsWords h0 h → ArePairs h0 values

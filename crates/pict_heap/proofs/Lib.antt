@@ -4,3 +4,4 @@ pub mod Look
 pub mod Pairs
 pub mod Index
 pub mod Records
+pub mod Rooms

@@ -1,4 +1,4 @@
--- What a heap stands for: texts and records by their numbers, and room for more.
+-- What a heap stands for: texts and records by their numbers, how much there is, and room for more.
 use Rattle.std.specs.Prelude.{◌≡◌, ℕ, ◌+◌, ◌<◌, ◌≤◌, List, [], ◌∷◌, ◌++◌, map, length, slice_index_or, ◌==◌, if◌then◌else◌, Option, Some, None, unwrap_or}
 use Rattle.std.specs.List.{fold}
 use Rattle.pict_core.specs.Term as term
@@ -12,12 +12,20 @@ pub record RecordState : Type 0 where
   pub positional : List Word
   pub labelled : List (Name × Word)
 
--- for how many records, fields, texts and bytes there is room
+-- how many records, fields of records, texts, and bytes of texts
+pub record Amount : Type 0 where
+  pub records : ℕ
+  pub fields : ℕ
+  pub texts : ℕ
+  pub bytes : ℕ
+
+-- for how many records, fields, texts and bytes there is room, and how many there are
 pub record Room : Type 0 where
   pub records : ℕ
   pub fields : ℕ
   pub texts : ℕ
   pub bytes : ℕ
+  pub used : Amount
 
 pub record HeapState : Type 0 where
   pub texts : List (List ℕ)
@@ -71,12 +79,31 @@ pub record KeepsWords (old new : HeapState) : Type 0 where
   pub words : (w : Word) → IsWord old w → IsWord new w
   pub values : (w : Word) → IsWord old w → value_of new w ≡ value_of old w
 
--- room for so much has been used, and no more
+-- what there is, and the room for more, are together no less: no room is lost
+pub record LosesNoRoom (old new : Room) : Type 0 where
+  pub records : old.records + old.used.records ≤ new.records + new.used.records
+  pub fields : old.fields + old.used.fields ≤ new.fields + new.used.fields
+  pub texts : old.texts + old.used.texts ≤ new.texts + new.used.texts
+  pub bytes : old.bytes + old.used.bytes ≤ new.bytes + new.used.bytes
+
+-- Room for so much has been used, and no more: there is at most so much more, and no room is lost.
 pub record UsesRoom (old new : Room) (records fields texts bytes : ℕ) : Type 0 where
   pub records_left : old.records ≤ new.records + records
   pub fields_left : old.fields ≤ new.fields + fields
   pub texts_left : old.texts ≤ new.texts + texts
   pub bytes_left : old.bytes ≤ new.bytes + bytes
+  pub records_more : new.used.records ≤ old.used.records + records
+  pub fields_more : new.used.fields ≤ old.used.fields + fields
+  pub texts_more : new.used.texts ≤ old.used.texts + texts
+  pub bytes_more : new.used.bytes ≤ old.used.bytes + bytes
+  pub kept : LosesNoRoom old new
+
+-- there is exactly so much more
+pub record GrowsBy (old new : Room) (records fields texts bytes : ℕ) : Type 0 where
+  pub records_more : new.used.records ≡ old.used.records + records
+  pub fields_more : new.used.fields ≡ old.used.fields + fields
+  pub texts_more : new.used.texts ≡ old.used.texts + texts
+  pub bytes_more : new.used.bytes ≡ old.used.bytes + bytes
 
 -- the word of the first field with this label
 abbrev pub word_with_label : ℕ → List (Name × Word) → Option Word

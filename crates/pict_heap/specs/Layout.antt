@@ -28,6 +28,12 @@ state_of a = record {
     fields = min (vec_capacity a.words - vec_len a.words) (min (vec_capacity a.labelled - vec_len a.labelled) (vec_capacity a.sorted - vec_len a.sorted));
     texts = vec_capacity a.texts - vec_len a.texts;
     bytes = vec_capacity a.bytes - vec_len a.bytes;
+    used = record {
+      records = vec_len a.records;
+      fields = vec_len a.words + vec_len a.labelled;
+      texts = vec_len a.texts;
+      bytes = vec_len a.bytes;
+    };
   };
 }
 

@@ -5,7 +5,7 @@ ghost use Rattle.std.specs.List.{IsDistinct};
 ghost use Rattle.std.specs.List.Sorted.{IsPermutation, IsNonDecreasingBy};
 ghost use Rattle.std.specs.Option.{option_map};
 ghost use Rattle.pict_core.specs.Term as term;
-ghost use Rattle.pict_heap.specs.HeapState.{value_of, word_with_label, text_of, IsWord, KeepsWords, UsesRoom, record_of};
+ghost use Rattle.pict_heap.specs.HeapState.{value_of, word_with_label, text_of, IsWord, KeepsWords, UsesRoom, GrowsBy, record_of};
 ghost use Rattle.pict_heap.specs.Layout.{IsWithin, slice_of_word, AreRising, label_of};
 ghost use Rattle.pict_heap.specs.Fields.{positional_field, labelled_field, labelled_field_at, positional_count, text_bytes};
 
@@ -28,8 +28,8 @@ struct Record {
     labelled: Slice,
 }
 
-/// Texts and records, which never change. Contracts see, for each word, the value that it stands for, and the room for
-/// more.
+/// Texts and records, which never change. Contracts see, for each word, the value that it stands for, how many
+/// texts, bytes of texts, records and fields of records there are, and the room for more.
 #[derive(Drop)]
 pub struct Heap {
     bytes: Vec<u8>,
@@ -68,8 +68,8 @@ impl Heap {
         }
     }
 
-    /// Makes room for at least so many records, fields of records, texts, and bytes of texts. Where memory is wanting,
-    /// some of the room may have been made.
+    /// Makes room for at least so many records, fields of records, texts, and bytes of texts. Nothing is added. Where memory
+    /// is wanting, some of the room may have been made.
     pub fn reserve(
         &mut self,
         records: u64,
@@ -83,6 +83,7 @@ impl Heap {
         ensures bytes { OnOk result (bytes ≤ self.new.room.bytes) }
         ensures rest { self.new ≡ record self.old { room = self.new.room } }
         ensures room { UsesRoom self.old.room self.new.room 0 0 0 0 }
+        ensures grows { GrowsBy self.old.room self.new.room 0 0 0 0 }
     {
         self.records.reserve(records as usize)?;
         self.words.reserve(fields as usize)?;
@@ -92,7 +93,7 @@ impl Heap {
         self.bytes.reserve(bytes as usize)
     }
 
-    /// A new record of these fields. Its labels stand in the order given. Takes no memory.
+    /// A new record of these fields. Its labels stand in the order given. Nothing else is added. Takes no memory.
     pub fn add_record(&mut self, positional: &[Word], labelled: &[(Name, Word)]) -> Word
         requires room { 1 ≤ self.old.room.records }
         requires fields { length positional.now + length labelled.now ≤ self.old.room.fields }
@@ -104,6 +105,7 @@ impl Heap {
         ensures value { value_of self.new result ≡ record_of self.old positional.now labelled.now }
         ensures keeps { KeepsWords self.old self.new }
         ensures room { UsesRoom self.old.room self.new.room 1 (length positional.now + length labelled.now) 0 0 }
+        ensures grows { GrowsBy self.old.room self.new.room 1 (length positional.now + length labelled.now) 0 0 }
     {
         let number = self.records.len() as u64;
         let positional = append(&mut self.words, positional);
@@ -117,7 +119,7 @@ impl Heap {
         Word::Fields(number)
     }
 
-    /// A new text of these bytes. Takes no memory.
+    /// A new text of these bytes. Nothing else is added. Takes no memory.
     pub fn add_text(&mut self, bytes: &[u8]) -> Word
         requires room { 1 ≤ self.old.room.texts }
         requires bytes { length bytes.now ≤ self.old.room.bytes }
@@ -125,6 +127,7 @@ impl Heap {
         ensures value { value_of self.new result ≡ term.Text bytes.now }
         ensures keeps { KeepsWords self.old self.new }
         ensures room { UsesRoom self.old.room self.new.room 0 0 1 (length bytes.now) }
+        ensures grows { GrowsBy self.old.room self.new.room 0 0 1 (length bytes.now) }
     {
         let number = self.texts.len() as u64;
         let text = append(&mut self.bytes, bytes);
@@ -132,7 +135,7 @@ impl Heap {
         Word::Text(number)
     }
 
-    /// The text of the bytes of `a` followed by those of `b`. Takes no memory.
+    /// The text of the bytes of `a` followed by those of `b`, which is added. Takes no memory.
     pub fn join_texts(&mut self, a: Word, b: Word) -> Word
         requires room { 1 ≤ self.old.room.texts }
         requires words { IsWord self.old a × IsWord self.old b }
@@ -143,6 +146,7 @@ impl Heap {
         ensures value { value_of self.new result ≡ term.Text (text_of self.old a ++ text_of self.old b) }
         ensures keeps { KeepsWords self.old self.new }
         ensures room { UsesRoom self.old.room self.new.room 0 0 1 (length (text_of self.old a) + length (text_of self.old b)) }
+        ensures grows { GrowsBy self.old.room self.new.room 0 0 1 (length (text_of self.old a) + length (text_of self.old b)) }
     {
         let number = self.texts.len() as u64;
         let first = slice_of(&self.texts, a);

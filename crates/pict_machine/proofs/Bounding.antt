@@ -30,7 +30,9 @@ use Rattle.pict_turns.specs.declared.store.Store.{Store}
 use Rattle.pict_blocks.proofs.Holding.{held_width}
 use Rattle.pict_turns.proofs.Turns.{turn_blocks}
 use Rattle.pict_machine.specs.Bounds.{largest, greatest_cost, greatest_cost_of, total_blocks, MakesFew, SpendsAtMost}
-use Rattle.pict_machine.specs.Machine.{IsRunning, core_in, queues_of, running_cost, running_widths}
+use Rattle.pict_heap.specs.HeapState.{LosesNoRoom}
+use Rattle.pict_heap.proofs.Rooms.{room_stays, room_kept}
+use Rattle.pict_machine.specs.Machine.{IsRunning, core_in, queues_of, running_cost, running_widths, heap_of}
 use Rattle.pict_machine.specs.Needs as needs
 use Rattle.pict_machine.specs.Needs.{input_widths, served_widths, taken_widths, output_widths, receipt_widths, choice_widths, node_widths, block_widths, widths_of, first_widths, turn_widths}
 use Rattle.pict_machine.specs.declared.machine.Machine.{Machine}
@@ -323,12 +325,13 @@ spends_none m = record {
   work = record { least = omega arith; most = omega arith };
   blocks = record { least = λ width. omega arith; few = λ widths distinct. omega arith; others = λ width apart. omega arith };
   queues = omega arith;
+  room = room_stays (heap_of m).room;
 }
 
 -- one step of a run
 pub spends_one : (old new : Machine) → IsRunning old → new.code ≡ old.code → CostsAtMost (running_cost old) (queues_of old) (queues_of new) → MakesOnly (queues_of old) (queues_of new) (running_widths old)
-    → LosesNoQueue (queues_of old) (queues_of new) → SpendsAtMost 1 old new
-spends_one old new kept code work makes queues =
+    → LosesNoQueue (queues_of old) (queues_of new) → LosesNoRoom (heap_of old).room (heap_of new).room → SpendsAtMost 1 old new
+spends_one old new kept code work makes queues room =
     let core = core_in old in
     let up = first_low core old.store (ready_words core old.store) in
     let one = one-mul (greatest_cost core) in
@@ -339,6 +342,7 @@ spends_one old new kept code work makes queues =
       work = record { least = least; most = omega (arith, most, up, one) };
       blocks = one_step core old.store (queues_of old) (queues_of new) kept.store makes;
       queues = queues;
+      room = room;
     }
 
 -- who has the turn is set down
@@ -376,6 +380,7 @@ spends_on a b c k n most x y up =
       work = worked_on (queues_of a) (queues_of b) (queues_of c) k n most (greatest_cost_of a) x.work work up;
       blocks = made_on (core_in a) (queues_of a) (queues_of b) (queues_of c) k n most x.blocks blocks up;
       queues = let first = x.queues in let then_ = y.queues in omega (arith, first, then_);
+      room = room_kept (heap_of a).room (heap_of b).room (heap_of c).room x.room y.room;
     }
 
 -- no more steps

@@ -10,6 +10,7 @@ pub mod Called
 pub mod KeptOutputs
 pub mod Taking
 pub mod Needing
+pub mod Adding
 pub mod Plainly
 pub mod Steps
 pub mod Running

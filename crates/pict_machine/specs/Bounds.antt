@@ -7,7 +7,8 @@ use Rattle.pict_queue.specs.QueuesState.{QueuesState, CostsAtMost, LosesNoQueue}
 use Rattle.pict_region.specs.RegionState.{RegionState, blocks, LosesNoBlock}
 use Rattle.pict_turns.specs.Cost.{instruction_size}
 use Rattle.pict_turns.specs.Widths.{how_many, part_width}
-use Rattle.pict_machine.specs.Machine.{core_in, queues_of}
+use Rattle.pict_heap.specs.HeapState.{LosesNoRoom}
+use Rattle.pict_machine.specs.Machine.{core_in, heap_of, queues_of}
 use Rattle.pict_machine.specs.declared.machine.Machine.{Machine}
 
 -- the size of the largest of these instructions of a code, or that of an output of kept values, which is 4, if that is larger
@@ -40,9 +41,11 @@ pub record MakesFew (core : Process) (steps : ℕ) (old new : QueuesState) : Typ
   pub few : (widths : List ℕ) → ((width : ℕ) → how_many width widths ≤ 1) → total_blocks new.region widths ≤ total_blocks old.region widths + 3 * steps
   pub others : (width : ℕ) → ¬ IsWidthIn core width → blocks new.region width ≤ blocks old.region width
 
--- So many steps of a machine's code have cost at most what they may, made at most the blocks that they may, and lost no queue.
+-- So many steps of a machine's code have cost at most what they may, made at most the blocks that they may, and lost no queue and no
+-- room of the heap.
 pub record SpendsAtMost (steps : ℕ) (old new : Machine) : Type 0 where
   pub code : new.code ≡ old.code
   pub work : CostsAtMost (steps * greatest_cost_of old) (queues_of old) (queues_of new)
   pub blocks : MakesFew (core_in old) steps (queues_of old) (queues_of new)
   pub queues : LosesNoQueue (queues_of old) (queues_of new)
+  pub room : LosesNoRoom (heap_of old).room (heap_of new).room

@@ -4,6 +4,7 @@ use Rattle.pict_core.specs.Term.{Process}
 use Rattle.pict_code.specs.Plain.{plain_code}
 use Rattle.pict_code.specs.ReadBack.{core_of}
 use Rattle.pict_heap.specs.HeapState.{HeapState}
+use Rattle.pict_prim.specs.declared.act.Need.{Need}
 use Rattle.pict_queue.specs.QueuesState.{QueuesState, IsHeld}
 use Rattle.pict_queue.specs.Contents.{KeepsAllContents}
 use Rattle.pict_view.specs.View.{View, KeepsApart}
@@ -16,6 +17,7 @@ use Rattle.pict_turns.specs.declared.turn.Turn.TheVariants.{Nobody}
 use Rattle.pict_desk.specs.Constants.{AreConstants}
 use Rattle.pict_machine.specs.Needs as needs
 use Rattle.pict_machine.specs.Needs.{needed_widths}
+use Rattle.pict_machine.specs.Growing.{heap_need, running_need}
 use Rattle.pict_machine.specs.Plain as plain
 use Rattle.pict_machine.specs.declared.machine.Machine.{Machine}
 
@@ -47,6 +49,10 @@ cost_of m = step_cost (core_in m) m.store
 abbrev pub widths_of : Machine → List ℕ
 widths_of m = needed_widths (core_in m) m.store
 
+-- what the next step needs of the heap
+abbrev pub heap_need_of : Machine → Need
+heap_need_of m = heap_need (core_in m) m.store
+
 -- the next step is a plain meeting of a message and an input
 abbrev pub MeetsPlainly : Machine → Type 0
 MeetsPlainly m = plain.MeetsPlainly (core_in m) m.store
@@ -58,6 +64,10 @@ running_cost m = first_cost (core_in m) m.store (store.ready_words (core_in m) m
 -- the widths of the blocks that the next step of a run needs, beside one for who has the turn
 abbrev pub running_widths : Machine → List ℕ
 running_widths m = needs.running_widths (core_in m) m.store
+
+-- what the next step of a run needs of the heap
+abbrev pub running_need_of : Machine → Need
+running_need_of m = running_need (core_in m) m.store
 
 -- the next step of a run is a plain meeting of a message and an input
 abbrev pub RunsPlainly : Machine → Type 0

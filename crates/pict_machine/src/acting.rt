@@ -5,6 +5,7 @@ ghost use Rattle.pict_turns.specs.Acting.{ActsBy};
 ghost use Rattle.pict_desk.specs.Code.{core_in};
 ghost use Rattle.pict_turns.specs.Views.{acting_words};
 ghost use Rattle.pict_desk.specs.Constants.{IsConstantFor, AreConstants};
+ghost use Rattle.pict_machine.specs.Growing.{AddsNeeded};
 ghost use Rattle.pict_machine.specs.Needs.{MakesNeeded};
 ghost use Rattle.pict_machine.specs.Plain.{ActsPlainly, TakesNothing};
 ghost use Rattle.pict_machine.specs.Stepping.{MayAct, IsStepBy};
@@ -30,6 +31,7 @@ pub(crate) fn act(
     ensures step { IsStepBy (core_in code.now) store.old store.new result }
     ensures work { Fits (core_in code.now) store.old store.new }
     ensures blocks { MakesNeeded (core_in code.now) store.old store.new }
+    ensures adds { AddsNeeded (core_in code.now) store.old store.new }
     ensures plain { ActsPlainly (core_in code.now) store.old (acting_words (core_in code.now) store.old) → TakesNothing store.old store.new result }
 {
     match store.turn {
@@ -54,6 +56,7 @@ fn act_by(
     ensures step { IsStepBy (core_in code.now) store.old store.new result }
     ensures work { Fits (core_in code.now) store.old store.new }
     ensures blocks { MakesNeeded (core_in code.now) store.old store.new }
+    ensures adds { AddsNeeded (core_in code.now) store.old store.new }
     ensures plain { ActsPlainly (core_in code.now) store.old (acting_words (core_in code.now) store.old) → TakesNothing store.old store.new result }
 {
     match op {

@@ -14,10 +14,14 @@ ghost use Rattle.pict_desk.specs.Arguments.{operand_in};
 ghost use Rattle.pict_calls.specs.Calling.{CallsOn, IsCalled};
 ghost use Rattle.pict_turns.specs.Acting.{ActsBy, HasActing, IsRefused};
 ghost use Rattle.pict_desk.specs.Code.{core_in};
+ghost use Rattle.pict_turns.specs.Growing.{AddsAtMost};
 ghost use Rattle.pict_turns.specs.Turns.{turn_cost};
+ghost use Rattle.pict_prim.specs.Acts.{answer_need};
+ghost use Rattle.pict_desk.specs.Needs.{both_needs};
 ghost use Rattle.pict_turns.specs.Widths.{MakesOnly, answer_widths};
 ghost use Rattle.pict_turns.specs.Views.{acting_words};
 ghost use Rattle.pict_desk.specs.Constants.{IsConstant};
+ghost use Rattle.pict_machine.specs.Growing.{AddsNeeded, given_need};
 ghost use Rattle.pict_machine.specs.Needs.{MakesNeeded};
 ghost use Rattle.pict_machine.specs.Plain.{SendsPlainly, TakesNothing};
 ghost use Rattle.pict_machine.specs.Sending.{event_called};
@@ -55,6 +59,7 @@ fn call_kept(store: &mut Store, kept: Kept) -> Result<PackedEvent, AllocError>
     ensures step { (code : List AnyNode) → MayAct code store.old → IsStepBy (core_in code) store.old store.new result }
     ensures work { (code : List AnyNode) → MayAct code store.old → Fits (core_in code) store.old store.new }
     ensures blocks { (code : List AnyNode) → MayAct code store.old → MakesNeeded (core_in code) store.old store.new }
+    ensures adds { (code : List AnyNode) → MayAct code store.old → AddsNeeded (core_in code) store.old store.new }
     ensures plain { (code : List AnyNode) → MayAct code store.old → ¬ SendsPlainly (core_in code) store.old (acting_words (core_in code) store.old) }
 {
     match word_at(kept.to) {
@@ -75,6 +80,7 @@ fn call_of_turn(store: &mut Store) -> Result<PackedEvent, AllocError>
     ensures step { (code : List AnyNode) → MayAct code store.old → IsStepBy (core_in code) store.old store.new result }
     ensures work { (code : List AnyNode) → MayAct code store.old → Fits (core_in code) store.old store.new }
     ensures blocks { (code : List AnyNode) → MayAct code store.old → MakesNeeded (core_in code) store.old store.new }
+    ensures adds { (code : List AnyNode) → MayAct code store.old → AddsNeeded (core_in code) store.old store.new }
     ensures plain { (code : List AnyNode) → MayAct code store.old → ¬ SendsPlainly (core_in code) store.old (acting_words (core_in code) store.old) }
 {
     match store.turn {
@@ -95,6 +101,7 @@ pub(crate) fn output_kept(
     ensures step { IsStepBy (core_in code.now) store.old store.new result }
     ensures work { Fits (core_in code.now) store.old store.new }
     ensures blocks { MakesNeeded (core_in code.now) store.old store.new }
+    ensures adds { AddsNeeded (core_in code.now) store.old store.new }
     ensures plain { SendsPlainly (core_in code.now) store.old (acting_words (core_in code.now) store.old) → TakesNothing store.old store.new result }
 {
     match channel_of(kept.to) {
@@ -122,6 +129,8 @@ fn call_message(
     ensures refused { (core : Process) → HasActing core store.old → OnErr result (IsRefused core store.old store.new) }
     ensures blocks { (e : Effect) → effect_of p (operand_in store.old.desk.heap store.old.desk.values.items (plain_val message.now)) ≡ Some e
         → MakesOnly store.old.queues store.new.queues (answer_widths e) }
+    ensures adds { (e : Effect) → effect_of p (operand_in store.old.desk.heap store.old.desk.values.items (plain_val message.now)) ≡ Some e
+        → AddsAtMost store.old store.new (both_needs (given_need (plain_val message.now)) (answer_need e)) }
     ensures work { store.new.queues.region.work ≡ store.old.queues.region.work }
     ensures turn { (core : Process) → turn_cost core store.new ≤ turn_cost core store.old + 13 }
 {
@@ -147,6 +156,7 @@ pub(crate) fn output(
     ensures step { IsStepBy (core_in code.now) store.old store.new result }
     ensures work { Fits (core_in code.now) store.old store.new }
     ensures blocks { MakesNeeded (core_in code.now) store.old store.new }
+    ensures adds { AddsNeeded (core_in code.now) store.old store.new }
     ensures plain { SendsPlainly (core_in code.now) store.old (acting_words (core_in code.now) store.old) → TakesNothing store.old store.new result }
 {
     match channel_at_hand(chan, &store.desk.values) {

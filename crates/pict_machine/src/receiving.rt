@@ -14,9 +14,11 @@ ghost use Rattle.pict_desk.specs.Code.{core_in, IsCode, HasFrame};
 ghost use Rattle.pict_turns.specs.Parts.{CanHold};
 ghost use Rattle.pict_blocks.specs.Parts.{block_width};
 ghost use Rattle.pict_turns.specs.Reserving.{OnlyReserves};
+ghost use Rattle.pict_turns.specs.Growing.{AddsAtMost, part_need};
 ghost use Rattle.pict_turns.specs.Turns.{turn_cost};
 ghost use Rattle.pict_turns.specs.Views.{acting_words};
 ghost use Rattle.pict_turns.specs.Widths.{MakesOnly};
+ghost use Rattle.pict_machine.specs.Growing.{AddsNeeded};
 ghost use Rattle.pict_machine.specs.Needs.{MakesNeeded};
 ghost use Rattle.pict_machine.specs.Plain.{ReceivesPlainly, TakesNothing};
 ghost use Rattle.pict_machine.specs.Stepping.{MayAct, IsStepBy};
@@ -87,6 +89,7 @@ fn receive_message(
         → turn_cost (core_in code.now) store.new ≤ turn_cost (core_in code.now) store.old + (block_width frame + 4) }
     ensures blocks { (frame : List ℕ) → HasFrame (map plain_node code.now) part frame
         → MakesOnly store.old.queues store.new.queues ((length (acting_words (core_in code.now) store.old) + 1) ∷ block_width frame ∷ []) }
+    ensures adds { AddsAtMost store.old store.new (part_need (map plain_node code.now) part) }
     ensures plain { ReceivesPlainly (core_in code.now) store.old (acting_words (core_in code.now) store.old) → TakesNothing store.old store.new result }
 {
     let width = acting_width(code, store);
@@ -111,6 +114,7 @@ fn receive(
     ensures step { IsStepBy (core_in code.now) store.old store.new result }
     ensures work { Fits (core_in code.now) store.old store.new }
     ensures blocks { MakesNeeded (core_in code.now) store.old store.new }
+    ensures adds { AddsNeeded (core_in code.now) store.old store.new }
     ensures plain { ReceivesPlainly (core_in code.now) store.old (acting_words (core_in code.now) store.old) → TakesNothing store.old store.new result }
 {
     match first_waiting(&mut store.queues, channel) {
@@ -137,6 +141,7 @@ pub(crate) fn input(
     ensures step { IsStepBy (core_in code.now) store.old store.new result }
     ensures work { Fits (core_in code.now) store.old store.new }
     ensures blocks { MakesNeeded (core_in code.now) store.old store.new }
+    ensures adds { AddsNeeded (core_in code.now) store.old store.new }
     ensures plain { ReceivesPlainly (core_in code.now) store.old (acting_words (core_in code.now) store.old) → TakesNothing store.old store.new result }
 {
     match channel_at_hand(chan, &store.desk.values) {

@@ -4,7 +4,7 @@ ghost use Rattle.pict_outside.specs.Counts.{Rose};
 ghost use Rattle.pict_core.specs.Configuration.{Configuration, IsConfiguration};
 ghost use Rattle.pict_core.specs.Step.{Label};
 ghost use Rattle.pict_core.specs.Run.{shown};
-ghost use Rattle.pict_heap.specs.HeapState.{KeepsWords};
+ghost use Rattle.pict_heap.specs.HeapState.{KeepsWords, LosesNoRoom};
 ghost use Rattle.pict_queue.specs.QueuesState.{CostsAtMost, LosesNoQueue};
 ghost use Rattle.pict_view.specs.View.{StandsFor};
 ghost use Rattle.pict_view.specs.Right.{IsRightFor};
@@ -107,7 +107,8 @@ impl Machine {
     ///
     /// Whatever the answer and whatever waits, the work of the queues rises by at most `fuel + 1` times the greatest cost of a step
     /// of the code. There are at most `3 * fuel` blocks more, of all widths together, and none more of a width that no node of the
-    /// code and no output of kept values has; neither a block nor a queue is lost.
+    /// code and no output of kept values has; neither a block nor a queue nor room of the heap is lost: what there is and what is spare
+    /// are together no less.
     ///
     /// No step within the fuel may be wrong: so it is in the run of some configuration that the machine stands for.
     pub fn run_counted<W: Watcher>(
@@ -128,6 +129,7 @@ impl Machine {
         ensures work { CostsAtMost ((fuel + 1) * greatest_cost_of self.old) (queues_of self.old) (queues_of self.new) }
         ensures blocks { MakesFew (core_in self.old) fuel (queues_of self.old) (queues_of self.new) }
         ensures queues { LosesNoQueue (queues_of self.old) (queues_of self.new) }
+        ensures room { LosesNoRoom (heap_of self.old).room (heap_of self.new).room }
         ensures channels { channels_of self.new ≤ channels_of self.old + fuel }
         ensures keeps { KeepsWords (heap_of self.old) (heap_of self.new) }
         ensures faults_stay { W.faults watcher.old ≤ W.faults watcher.new }
@@ -221,6 +223,7 @@ impl Machine {
         ensures work { CostsAtMost ((fuel + 1) * greatest_cost_of self.old) (queues_of self.old) (queues_of self.new) }
         ensures blocks { MakesFew (core_in self.old) fuel (queues_of self.old) (queues_of self.new) }
         ensures queues { LosesNoQueue (queues_of self.old) (queues_of self.new) }
+        ensures room { LosesNoRoom (heap_of self.old).room (heap_of self.new).room }
         ensures channels { channels_of self.new ≤ channels_of self.old + fuel }
         ensures keeps { KeepsWords (heap_of self.old) (heap_of self.new) }
         ensures faults_stay { W.faults watcher.old ≤ W.faults watcher.new }

@@ -10,7 +10,7 @@ ghost use Rattle.pict_meetings.specs.Partners.{Sends, SendsKept};
 ghost use Rattle.pict_meetings.specs.Room.{as_wide, CanHoldAfterAnd};
 ghost use Rattle.pict_meetings.specs.Serving.{IsInputWith};
 ghost use Rattle.pict_meetings.specs.Waiting.{waits_first, NoInputWaits};
-ghost use Rattle.pict_desk.specs.Needs.{need_of, HasRoomFor};
+ghost use Rattle.pict_desk.specs.Needs.{need_of, both_needs, no_need, HasRoomFor};
 ghost use Rattle.pict_desk.specs.Pairs.{ArePairs};
 ghost use Rattle.pict_queue.specs.QueuesState.{IsQueue, CostsAtMost};
 ghost use Rattle.pict_region.specs.RegionState.{spare};
@@ -18,10 +18,12 @@ ghost use Rattle.pict_turns.specs.Acting.{IsRefused};
 ghost use Rattle.pict_desk.specs.Code.{core_in, IsCode, HasFrame};
 ghost use Rattle.pict_blocks.specs.Parts.{block_width};
 ghost use Rattle.pict_turns.specs.Reserving.{OnlyReserves};
+ghost use Rattle.pict_turns.specs.Growing.{AddsAtMost, part_need};
 ghost use Rattle.pict_turns.specs.Turns.{turn_cost};
 ghost use Rattle.pict_turns.specs.Views.{acting_words};
 ghost use Rattle.pict_turns.specs.Widths.{MakesOnly};
 ghost use Rattle.pict_desk.specs.Constants.{IsConstant};
+ghost use Rattle.pict_machine.specs.Growing.{AddsNeeded, message_need};
 ghost use Rattle.pict_machine.specs.Needs.{MakesNeeded};
 ghost use Rattle.pict_machine.specs.Plain.{SendsPlainly, TakesNothing};
 ghost use Rattle.pict_machine.specs.Sending.{SendsOperand, EndsAsWide, IsReceived};
@@ -98,6 +100,8 @@ fn send_to_reader(
     ensures blocks { (replicated : Bool) (pattern : AnyPattern) (part : ℕ) (frame : List ℕ)
         → IsInputWith (map plain_node code.now) reader replicated pattern part → HasFrame (map plain_node code.now) part frame
         → MakesOnly store.old.queues store.new.queues (block_width frame ∷ []) }
+    ensures adds { (replicated : Bool) (pattern : AnyPattern) (part : ℕ) → IsInputWith (map plain_node code.now) reader replicated pattern part
+        → AddsAtMost store.old store.new (part_need (map plain_node code.now) part) }
     ensures plain { SendsPlainly (core_in code.now) store.old (acting_words (core_in code.now) store.old) → TakesNothing store.old store.new result }
 {
     let frame = reader_frame(code, reader);
@@ -139,6 +143,7 @@ pub(crate) fn send_kept(
     ensures step { IsStepBy (core_in code.now) store.old store.new result }
     ensures work { Fits (core_in code.now) store.old store.new }
     ensures blocks { MakesNeeded (core_in code.now) store.old store.new }
+    ensures adds { AddsNeeded (core_in code.now) store.old store.new }
     ensures plain { SendsPlainly (core_in code.now) store.old (acting_words (core_in code.now) store.old) → TakesNothing store.old store.new result }
 {
     match first_waiting(&mut store.queues, channel) {
@@ -196,6 +201,7 @@ fn park_words(
     ensures cost { CostsAtMost 10 store.old.queues store.new.queues }
     ensures turn { (core : Process) → turn_cost core store.new ≤ turn_cost core store.old }
     ensures blocks { MakesOnly store.old.queues store.new.queues (9 ∷ []) }
+    ensures adds { AddsAtMost store.old store.new no_need }
 {
     reserve_kept(store, NO_NEED)?;
     park_output(store, channel, message, at);
@@ -218,6 +224,7 @@ fn park_made(
     ensures cost { CostsAtMost 10 store.old.queues store.new.queues }
     ensures turn { (core : Process) → turn_cost core store.new ≤ turn_cost core store.old }
     ensures blocks { MakesOnly store.old.queues store.new.queues (9 ∷ []) }
+    ensures adds { AddsAtMost store.old store.new (need_of (plain_val message.now)) }
 {
     reserve_message(store, message)?;
     let word = word_of(
@@ -248,6 +255,7 @@ fn park_operand(
     ensures cost { CostsAtMost 10 store.old.queues store.new.queues }
     ensures turn { (core : Process) → turn_cost core store.new ≤ turn_cost core store.old }
     ensures blocks { MakesOnly store.old.queues store.new.queues (9 ∷ []) }
+    ensures adds { AddsAtMost store.old store.new (message_need (plain_val message.now)) }
 {
     match pair_there(message, constant, &store.desk.values) {
         Some(pair) => park_words(store, channel, pair, at),
@@ -278,6 +286,8 @@ fn send_made(
     ensures blocks { (replicated : Bool) (pattern : AnyPattern) (part : ℕ) (frame : List ℕ)
         → IsInputWith (map plain_node code.now) reader replicated pattern part → HasFrame (map plain_node code.now) part frame
         → MakesOnly store.old.queues store.new.queues (block_width frame ∷ []) }
+    ensures adds { (replicated : Bool) (pattern : AnyPattern) (part : ℕ) → IsInputWith (map plain_node code.now) reader replicated pattern part
+        → AddsAtMost store.old store.new (both_needs (need_of (plain_val message.now)) (part_need (map plain_node code.now) part)) }
 {
     let frame = reader_frame(code, reader);
     let reuses = reader_as_wide(code, reader, frame);
@@ -318,6 +328,8 @@ fn send_operand(
     ensures blocks { (replicated : Bool) (pattern : AnyPattern) (part : ℕ) (frame : List ℕ)
         → IsInputWith (map plain_node code.now) reader replicated pattern part → HasFrame (map plain_node code.now) part frame
         → MakesOnly store.old.queues store.new.queues (block_width frame ∷ []) }
+    ensures adds { (replicated : Bool) (pattern : AnyPattern) (part : ℕ) → IsInputWith (map plain_node code.now) reader replicated pattern part
+        → AddsAtMost store.old store.new (both_needs (message_need (plain_val message.now)) (part_need (map plain_node code.now) part)) }
     ensures plain { SendsPlainly (core_in code.now) store.old (acting_words (core_in code.now) store.old) → TakesNothing store.old store.new result }
 {
     match pair_there(message, constant, &store.desk.values) {
@@ -345,6 +357,7 @@ pub(crate) fn send(
     ensures step { IsStepBy (core_in code.now) store.old store.new result }
     ensures work { Fits (core_in code.now) store.old store.new }
     ensures blocks { MakesNeeded (core_in code.now) store.old store.new }
+    ensures adds { AddsNeeded (core_in code.now) store.old store.new }
     ensures plain { SendsPlainly (core_in code.now) store.old (acting_words (core_in code.now) store.old) → TakesNothing store.old store.new result }
 {
     match first_waiting(&mut store.queues, channel) {

@@ -3,6 +3,7 @@ ghost use Rattle.std.specs.Prelude.{◌≡◌, ◌≢◌, ◌≤◌, ◌<◌, �
 ghost use Rattle.pict_core.specs.Configuration.{Configuration, IsConfiguration};
 ghost use Rattle.pict_code.specs.Plain.{plain_node};
 ghost use Rattle.pict_heap.specs.HeapState.{KeepsWords};
+ghost use Rattle.pict_prim.specs.Acts.{UsesNeed};
 ghost use Rattle.pict_view.specs.Right.{IsRightFor};
 ghost use Rattle.pict_view.specs.Stepping.{IsStepOf};
 ghost use Rattle.pict_view.specs.View.{StandsFor};
@@ -14,7 +15,7 @@ ghost use Rattle.pict_turns.specs.Views.{view_with_turn};
 ghost use Rattle.pict_turns.specs.Widths.{MakesOnly};
 ghost use Rattle.pict_machine.specs.Events.{label_of, trap_of, IsEventOf};
 ghost use Rattle.pict_machine.specs.Packed.{label_packed, trap_packed, IsPackedOf};
-ghost use Rattle.pict_machine.specs.Machine.{IsMachine, IsRunning, IsUnchanged, MeetsPlainly, RunsPlainly, running_view, running_cost, running_widths, view_of, heap_of, queues_of, channels_of, cost_of, widths_of};
+ghost use Rattle.pict_machine.specs.Machine.{IsMachine, IsRunning, IsUnchanged, MeetsPlainly, RunsPlainly, running_view, running_cost, running_widths, view_of, heap_of, queues_of, channels_of, cost_of, widths_of, heap_need_of, running_need_of};
 ghost use Rattle.pict_machine.specs.Bounds.{greatest_cost_of, SpendsAtMost};
 ghost use Rattle.pict_machine.specs.Going.{GoesOn, IsPassed};
 ghost use Rattle.pict_machine.specs.Stepping.{GivesTurn};
@@ -72,9 +73,11 @@ impl Machine {
     ///
     /// Whatever the answer, the work of the queues rises by at most 64 times the sizes of the acting instruction and of its
     /// partner's, however many processes wait. Blocks are made only where fewer are free than the step needs, and then only as
-    /// many as are wanting, and neither a block nor a queue is lost. Where a message and an input that isn't replicated meet, what is sent is no operand that is a text or
-    /// a record with a variable, and the block of the input's part is as wide as a free one or one of the two that meet, no memory
-    /// is taken.
+    /// many as are wanting, and neither a block nor a queue is lost. The heap has at most the texts and records more that the step
+    /// needs: those of an operand with a variable that is sent, or of its fields where it is given to a primitive, what a primitive
+    /// answers, and a record for each part whose frame is too large to stand in a block. No room of it is lost. Where a message and
+    /// an input that isn't replicated meet, what is sent is no operand that is a text or a record with a variable, and the block of
+    /// the input's part is as wide as a free one or one of the two that meet, no memory is taken.
     ///
     /// The step may not be wrong: some configuration that the machine stands for takes it rightly. A wrong step is one that
     /// sends to or receives from what is no channel, tests what is no Bool, gives a primitive what it doesn't take, or
@@ -93,6 +96,7 @@ impl Machine {
         ensures keeps { KeepsWords (heap_of self.old) (heap_of self.new) }
         ensures work { CostsAtMost (cost_of self.old) (queues_of self.old) (queues_of self.new) }
         ensures blocks { MakesOnly (queues_of self.old) (queues_of self.new) (widths_of self.old) }
+        ensures adds { UsesNeed (heap_of self.old).room (heap_of self.new).room (heap_need_of self.old) }
         ensures plain { MeetsPlainly self.old
             → IsOk result × KeepsBlocks (queues_of self.old).region (queues_of self.new).region }
         ensures channels { channels_of self.new ≤ channels_of self.old + 1 }
@@ -119,6 +123,7 @@ impl Machine {
         ensures keeps { KeepsWords (heap_of self.old) (heap_of self.new) }
         ensures work { CostsAtMost (cost_of self.old) (queues_of self.old) (queues_of self.new) }
         ensures blocks { MakesOnly (queues_of self.old) (queues_of self.new) (widths_of self.old) }
+        ensures adds { UsesNeed (heap_of self.old).room (heap_of self.new).room (heap_need_of self.old) }
         ensures plain { MeetsPlainly self.old
             → IsOk result × KeepsBlocks (queues_of self.old).region (queues_of self.new).region }
         ensures channels { channels_of self.new ≤ channels_of self.old + 1 }
@@ -157,6 +162,7 @@ impl Machine {
         ensures keeps { KeepsWords (heap_of self.old) (heap_of self.new) }
         ensures work { CostsAtMost (running_cost self.old) (queues_of self.old) (queues_of self.new) }
         ensures blocks { MakesOnly (queues_of self.old) (queues_of self.new) (running_widths self.old) }
+        ensures adds { UsesNeed (heap_of self.old).room (heap_of self.new).room (running_need_of self.old) }
         ensures plain { RunsPlainly self.old
             → IsOk result × KeepsBlocks (queues_of self.old).region (queues_of self.new).region }
         ensures channels { channels_of self.new ≤ channels_of self.old + 1 }

@@ -15,6 +15,7 @@ ghost use Rattle.pict_turns.specs.Acting.{IsRight, IsDone};
 ghost use Rattle.pict_desk.specs.Code.{core_in, IsCode, HasFrame};
 ghost use Rattle.pict_turns.specs.Parts.{CanHold, Spawns, IsLast};
 ghost use Rattle.pict_blocks.specs.Parts.{block_width};
+ghost use Rattle.pict_turns.specs.Growing.{AddsAtMost, part_need};
 ghost use Rattle.pict_turns.specs.Turns.{turn_cost};
 ghost use Rattle.pict_turns.specs.Views.{acting_words};
 ghost use Rattle.pict_meetings.specs.Partners.{Sends, Receives};
@@ -75,6 +76,7 @@ pub fn meet_message(
     ensures turn { (frame : List ℕ) → HasFrame (map plain_node code.now) part frame
         → turn_cost (core_in code.now) store.new ≤ turn_cost (core_in code.now) store.old + (block_width frame + 4) }
     ensures blocks { KeepsBlocks store.old.queues.region store.new.queues.region }
+    ensures adds { AddsAtMost store.old store.new (part_need (map plain_node code.now) part) }
     ensures cost { (frame : List ℕ) → HasFrame (map plain_node code.now) part frame
         → CostsAtMost (block_width frame + 7) store.old.queues store.new.queues }
 {
@@ -110,6 +112,7 @@ fn serve(
     ensures turn { (frame : List ℕ) → HasFrame (map plain_node code.now) part frame
         → turn_cost (core_in code.now) store.new ≤ block_width frame + 4 }
     ensures blocks { KeepsBlocks store.old.queues.region store.new.queues.region }
+    ensures adds { AddsAtMost store.old store.new (part_need (map plain_node code.now) part) }
     ensures cost { (own frame : List ℕ) → HasFrame (map plain_node code.now) number own → HasFrame (map plain_node code.now) part frame
         → CostsAtMost (block_width own + block_width frame + 6) store.old.queues store.new.queues }
 {
@@ -160,6 +163,8 @@ pub fn meet_reader(
         → IsInputWith (map plain_node code.now) reader replicated pattern part → HasFrame (map plain_node code.now) part frame
         → turn_cost (core_in code.now) store.new ≤ block_width frame + 4 }
     ensures blocks { KeepsBlocks store.old.queues.region store.new.queues.region }
+    ensures adds { (replicated : Bool) (pattern : AnyPattern) (part : ℕ) → IsInputWith (map plain_node code.now) reader replicated pattern part
+        → AddsAtMost store.old store.new (part_need (map plain_node code.now) part) }
     ensures cost { (replicated : Bool) (pattern : AnyPattern) (part : ℕ) (own frame : List ℕ)
         → IsInputWith (map plain_node code.now) reader replicated pattern part
         → HasFrame (map plain_node code.now) reader own → HasFrame (map plain_node code.now) part frame

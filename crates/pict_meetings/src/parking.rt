@@ -35,6 +35,7 @@ pub fn park(store: &mut Store, code: &[Node], channel: u32)
     ensures input { (replicated : Bool) (pattern : CodePat) (part : ℕ) → Receives (core_in code.now) store.old channel replicated pattern part
         → NoOutputWaits store.old.queues channel → IsDone (core_in code.now) store.old store.new Quiet }
     ensures turn { store.new.turn ≡ Turn.Nobody }
+    ensures desk { store.new.desk ≡ store.old.desk }
     ensures blocks { KeepsBlocks store.old.queues.region store.new.queues.region }
     ensures cost { CostsAtMost (length (acting_words (core_in code.now) store.old) + 3) store.old.queues store.new.queues }
 {
@@ -66,6 +67,7 @@ pub fn park_output(store: &mut Store, channel: u32, message: (u64, u64), at: Spa
     ensures done { (core : Process) → Sends core store.old channel message at → NoInputWaits store.old.queues channel
         → IsDone core store.old store.new Quiet }
     ensures turn { store.new.turn ≡ Turn.Nobody }
+    ensures desk { store.new.desk ≡ store.old.desk }
     ensures blocks { KeepsBlocks store.old.queues.region store.new.queues.region }
     ensures cost { CostsAtMost 10 store.old.queues store.new.queues }
 {

@@ -2,7 +2,7 @@
 use Rattle.std.specs.Prelude.{◌+◌, ◌≤◌, length, ◌++◌, None, IsSome}
 use Rattle.std.specs.Fmt.{signed_decimal}
 use Rattle.pict_core.specs.Term.{Text, Record, no_vals, no_labelled}
-use Rattle.pict_core.specs.Primitives.{Effect, Nothing, Answer, Trap}
+use Rattle.pict_core.specs.Primitives.{Effect, Leaves, Nothing, Answer, Trap}
 use Rattle.pict_heap.specs.Fields.{text_bytes}
 use Rattle.pict_heap.specs.HeapState.{HeapState, Room, value_of, text_of, IsWord, UsesRoom}
 use Rattle.pict_heap.specs.declared.word.Word.{Word}
@@ -54,12 +54,22 @@ IsDoneOf h (done.Answer k a) = IsWord h k × IsWord h a
 IsDoneOf h (done.PrintedAnswer w k a) = IsPrinted h w × IsWord h k × IsWord h a
 IsDoneOf h done.ZeroDivisor = Unit {0}
 
--- What an act adds to the heap. A decimal text is given room for the longest, of twenty bytes.
+-- For what an act needs room in the heap. A decimal text is given room for the longest, of twenty bytes.
 abbrev pub need_of : HeapState → Act → Need
 need_of h (act.PrintAnswer w k) = record { records = 1; fields = 0; texts = 0; bytes = 0 }
 need_of h (act.Join k a b) = record { records = 0; fields = 0; texts = 1; bytes = length (text_of h a) + length (text_of h b) }
 need_of h (act.Spell k n) = record { records = 0; fields = 0; texts = 1; bytes = 20 }
 need_of h _ = record { records = 0; fields = 0; texts = 0; bytes = 0 }
+
+-- What an effect needs of a heap: an answer that is a text needs this text, one that is a record needs the record without fields, and
+-- any other nothing.
+abbrev pub leaves_need : Leaves → Need
+leaves_need (Answer k (Text bytes)) = record { records = 0; fields = 0; texts = 1; bytes = length bytes }
+leaves_need (Answer k (Record vs ls)) = record { records = 1; fields = 0; texts = 0; bytes = 0 }
+leaves_need _ = record { records = 0; fields = 0; texts = 0; bytes = 0 }
+
+abbrev pub answer_need : Effect → Need
+answer_need e = leaves_need e.leaves
 
 -- it adds nothing
 abbrev pub AddsNothing : Act → Type 0
@@ -75,6 +85,6 @@ pub record HasRoom (room : Room) (need : Need) : Type 0 where
   pub texts : need.texts ≤ room.texts
   pub bytes : need.bytes ≤ room.bytes
 
--- no more than this has been used
+-- no more room than for this has been used, and there is no more than this more
 abbrev pub UsesNeed : Room → Room → Need → Type 0
 UsesNeed old new need = UsesRoom old new need.records need.fields need.texts need.bytes

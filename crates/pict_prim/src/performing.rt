@@ -4,15 +4,15 @@ ghost use Rattle.std.specs.Prelude.{◌≡◌, ◌≤◌, ◌<◌, ◌^◌, leng
 ghost use Rattle.std.specs.Fmt.{signed_decimal};
 ghost use Rattle.pict_core.specs.Term.{Text, Record, no_vals, no_labelled};
 ghost use Rattle.pict_heap.specs.HeapState.{value_of, text_of, IsWord, KeepsWords, UsesRoom};
-ghost use Rattle.pict_prim.specs.Acts.{effect_act, effect_done, need_of, IsActOf, IsDoneOf, HasRoom, UsesNeed};
+ghost use Rattle.pict_prim.specs.Acts.{effect_act, effect_done, need_of, answer_need, IsActOf, IsDoneOf, HasRoom, UsesNeed};
 
 use crate::act::{Act, Done, NO_NEED, Need};
 use itoa::Buffer;
 use pict_heap::{Heap, Word};
 use pict_syntax::Name;
 
-/// What the act adds to the heap: exactly so many records, fields and texts; of bytes, for a decimal text up to 19 more.
-/// Takes no memory.
+/// For how much the act needs room in the heap: for as many records, fields and texts as it adds; of bytes, for a decimal text up
+/// to 19 more. Takes no memory.
 #[inline(always)]
 pub fn room_of(heap: &Heap, act: Act) -> Need
     requires { IsActOf heap.now act }
@@ -54,7 +54,8 @@ fn text_len(heap: &Heap, w: Word) -> u64
     }
 }
 
-/// Performs the act. Every word stands for what it stood for; no more room is used than the act needs. Takes no memory.
+/// Performs the act. Every word stands for what it stood for; no more room is used than the act needs, and no more is added than
+/// what it answers, where that is a text or a record. Takes no memory.
 #[inline(always)]
 pub fn perform(heap: &mut Heap, act: Act) -> Done
     requires act { IsActOf heap.old act }
@@ -63,6 +64,7 @@ pub fn perform(heap: &mut Heap, act: Act) -> Done
     ensures words { IsDoneOf heap.new result }
     ensures keeps { KeepsWords heap.old heap.new }
     ensures room { UsesNeed heap.old.room heap.new.room (need_of heap.old act) }
+    ensures adds { UsesNeed heap.old.room heap.new.room (answer_need (effect_act heap.old act)) }
     ensures zero { act ≡ Act.ZeroDivisor → heap.new ≡ heap.old }
 {
     match act {
@@ -107,6 +109,7 @@ fn add_decimal(heap: &mut Heap, n: i64) -> Word
     ensures value { value_of heap.new result ≡ Text (signed_decimal n) }
     ensures keeps { KeepsWords heap.old heap.new }
     ensures room { UsesRoom heap.old.room heap.new.room 0 0 1 20 }
+    ensures adds { UsesRoom heap.old.room heap.new.room 0 0 1 (length (signed_decimal n)) }
 {
     let mut buffer = Buffer::new();
     heap.add_text(buffer.format(n).as_bytes())

@@ -11,3 +11,4 @@ pub mod Steps
 pub mod AfterReading
 pub mod Taking
 pub mod Making
+pub mod Adding

@@ -6,6 +6,7 @@ use Rattle.pict_core.specs.Step.{Label}
 use Rattle.pict_code.specs.Instruction.{Op}
 use Rattle.pict_code.specs.Nodes.{Place, places}
 use Rattle.pict_heap.specs.HeapState.{KeepsWords}
+use Rattle.pict_heap.proofs.Rooms.{room_stays}
 use Rattle.pict_region.specs.RegionState.{spare}
 use Rattle.pict_queue.specs.QueuesState.{QueuesState}
 use Rattle.pict_queue.specs.Contents.{contents}
@@ -53,7 +54,7 @@ can_second core old new number first second c one = record {
 pub reserves_nothing : (s : Store) → OnlyReserves s s
 reserves_nothing s = record {
   heap = record { texts = refl; records = refl };
-  room = record { records_left = omega arith; fields_left = omega arith; texts_left = omega arith; bytes_left = omega arith };
+  room = record { records_left = omega arith; fields_left = omega arith; texts_left = omega arith; bytes_left = omega arith; records_more = omega arith; fields_more = omega arith; texts_more = omega arith; bytes_more = omega arith; kept = room_stays s.desk.heap.room };
   pending = piles_kept s.desk.pending;
   live = refl;
   work = refl;

@@ -1,8 +1,9 @@
 -- What is spare, and isn't thrown away.
-use Rattle.std.proofs.Common.{ap, arith}
+use Rattle.std.proofs.Common.{ap, sym, subst, arith}
 use Rattle.pict_region.specs.RegionState.{spare}
 use Rattle.pict_queue.specs.QueuesState.{QueuesState}
-use Rattle.pict_heap.specs.HeapState.{HeapState, Room}
+use Rattle.pict_heap.specs.HeapState.{HeapState, Room, LosesNoRoom}
+use Rattle.pict_heap.proofs.Rooms.{room_stays, room_kept}
 use Rattle.pict_prim.specs.Acts.{UsesNeed}
 use Rattle.pict_desk.specs.Needs.{no_need}
 use Rattle.pict_turns.specs.Acting.{KeepsSpare}
@@ -16,6 +17,11 @@ no_less_room a b c x y = record {
   fields_left = let d = x.fields_left in let e = y.fields_left in omega (arith, d, e);
   texts_left = let d = x.texts_left in let e = y.texts_left in omega (arith, d, e);
   bytes_left = let d = x.bytes_left in let e = y.bytes_left in omega (arith, d, e);
+  records_more = let d = x.records_more in let e = y.records_more in omega (arith, d, e);
+  fields_more = let d = x.fields_more in let e = y.fields_more in omega (arith, d, e);
+  texts_more = let d = x.texts_more in let e = y.texts_more in omega (arith, d, e);
+  bytes_more = let d = x.bytes_more in let e = y.bytes_more in omega (arith, d, e);
+  kept = room_kept a b c x.kept y.kept;
 }
 
 pub spare_more : (a b c : Store) → KeepsSpare a b → KeepsSpare b c → KeepsSpare a c
@@ -39,5 +45,10 @@ reads_spare old new r = record {
     fields_left = let e = ap (λ (h : HeapState). h.room.fields) r.heap in omega (arith, e);
     texts_left = let e = ap (λ (h : HeapState). h.room.texts) r.heap in omega (arith, e);
     bytes_left = let e = ap (λ (h : HeapState). h.room.bytes) r.heap in omega (arith, e);
+    records_more = let e = ap (λ (h : HeapState). h.room.used.records) r.heap in omega (arith, e);
+    fields_more = let e = ap (λ (h : HeapState). h.room.used.fields) r.heap in omega (arith, e);
+    texts_more = let e = ap (λ (h : HeapState). h.room.used.texts) r.heap in omega (arith, e);
+    bytes_more = let e = ap (λ (h : HeapState). h.room.used.bytes) r.heap in omega (arith, e);
+    kept = subst (λ (h : HeapState). LosesNoRoom old.desk.heap.room h.room) (sym r.heap) (room_stays old.desk.heap.room);
   };
 }

@@ -7,3 +7,4 @@ pub mod Reading
 pub mod Channels
 pub mod Cost
 pub mod Widths
+pub mod Growing

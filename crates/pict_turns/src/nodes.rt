@@ -7,11 +7,12 @@ ghost use Rattle.pict_code.specs.Instruction as op;
 ghost use Rattle.pict_code.specs.Plain.{plain_node};
 ghost use Rattle.pict_queue.specs.QueuesState.{IsQueue, CostsAtMost};
 ghost use Rattle.pict_desk.specs.Known.{known, operand_value};
-ghost use Rattle.pict_desk.specs.Needs.{no_need};
+ghost use Rattle.pict_desk.specs.Needs.{no_need, both_needs};
 ghost use Rattle.pict_desk.specs.Pairs.{ArePairs};
 ghost use Rattle.pict_turns.specs.Acting.{ActsBy, IsRight, IsDone, IsRefused};
 ghost use Rattle.pict_desk.specs.Code.{core_in, IsCode, HasFrame};
 ghost use Rattle.pict_turns.specs.Channels.{AddsChannel};
+ghost use Rattle.pict_turns.specs.Growing.{AddsAtMost, part_need};
 ghost use Rattle.pict_blocks.specs.Parts.{block_width};
 ghost use Rattle.pict_turns.specs.Reserving.{CanHoldAnd, OnlyReserves};
 ghost use Rattle.pict_turns.specs.Turns.{turn_cost};
@@ -49,6 +50,7 @@ pub fn fork(store: &mut Store, code: &[Node], left: u32, right: u32) -> Result<(
         → turn_cost (core_in code.now) store.new ≤ block_width first + 4) }
     ensures blocks { MakesOnly store.old.queues store.new.queues
         (part_width (map plain_node code.now) left ∷ part_width (map plain_node code.now) right ∷ []) }
+    ensures adds { AddsAtMost store.old store.new (both_needs (part_need (map plain_node code.now) left) (part_need (map plain_node code.now) right)) }
     ensures cost { (second : List ℕ) → HasFrame (map plain_node code.now) right second
         → CostsAtMost (block_width second + 2) store.old.queues store.new.queues }
 {
@@ -79,6 +81,8 @@ pub fn choose(
         → turn_cost (core_in code.now) store.new ≤ max (block_width first) (block_width second) + 4) }
     ensures blocks { (b : Bool) → operand_value (known store.old.desk.heap store.old.desk.values.items) (plain_val test.now) ≡ Boolean b
         → MakesOnly store.old.queues store.new.queues (part_width (map plain_node code.now) (if b then yes else no) ∷ []) }
+    ensures adds { (b : Bool) → operand_value (known store.old.desk.heap store.old.desk.values.items) (plain_val test.now) ≡ Boolean b
+        → AddsAtMost store.old store.new (part_need (map plain_node code.now) (if b then yes else no)) }
     ensures work { store.new.queues.region.work ≡ store.old.queues.region.work }
 {
     let part = chosen(&store.desk, test, yes, no);
@@ -134,6 +138,7 @@ pub fn make_channel(
     ensures turn { OnOk result ((frame : List ℕ) → HasFrame (map plain_node code.now) part frame
         → turn_cost (core_in code.now) store.new ≤ block_width frame + 4) }
     ensures blocks { MakesOnly store.old.queues store.new.queues (part_width (map plain_node code.now) part ∷ []) }
+    ensures adds { AddsAtMost store.old store.new (part_need (map plain_node code.now) part) }
     ensures work { store.new.queues.region.work ≡ store.old.queues.region.work }
 {
     let frame = frame_at(code, part as usize);

@@ -1,6 +1,7 @@
 use Rattle.std.proofs.Common.{◌≤◌, Some, sym, ap, ◌∙◌, subst, arith}
 use Rattle.pict_code.proofs.Lines.{on_err}
-use Rattle.pict_prim.specs.Acts.{effect_act}
+use Rattle.pict_core.specs.Primitives.{Effect}
+use Rattle.pict_prim.specs.Acts.{effect_act, answer_need}
 use Rattle.pict_region.specs.RegionState.{spare}
 use Rattle.pict_queue.specs.QueuesState.{QueuesState}
 use Rattle.pict_turns.specs.Widths.{MakesOnly, answer_widths}
@@ -9,6 +10,8 @@ use Rattle.pict_desk.proofs.MakingRoom.{keeps_words}
 use Rattle.pict_calls.proofs.Answering.{makes_act, room_for_act}
 use Rattle.pict_calls.proofs.Keeping.{effect_keeps}
 use Rattle.pict_calls.proofs.Stepping.{called_by, calls_still, called_after, cost_still, cost_after}
+use Rattle.pict_turns.proofs.Adding.{used_after, used_less}
+use Rattle.pict_turns.specs.Growing.{AddsAtMost}
 use Rattle.pict_calls.proofs.calling.carry_out.Goals as goal
 
 pub returns-clause-done : goal.returns-clause-done
@@ -46,3 +49,15 @@ returns-clause-turn c core =
 
 pub returns-in_err-reserve-clause-turn : goal.returns-in_err-reserve-clause-turn
 returns-in_err-reserve-clause-turn c core = let still = cost_still core c.args.store.now c.reserve.new.store c.reserve.ensures.rest in omega (arith, still)
+
+pub returns-clause-adds : goal.returns-clause-adds
+returns-clause-adds c =
+    let old = c.args.store.now in
+    let mid = c.reserve.new.store in
+    let last = c.finish.new.store in
+    let r = c.reserve.ensures.rest in
+    let same = effect_keeps old.desk.heap mid.desk.heap (keeps_words old.desk.heap mid.desk.heap r.heap) c.args.act c.requires.act in
+    used_after old.desk.heap.room mid.desk.heap.room last.desk.heap.room _ r.room (subst (λ (e : Effect). AddsAtMost mid last (answer_need e)) same c.finish.ensures.adds)
+
+pub returns-in_err-reserve-clause-adds : goal.returns-in_err-reserve-clause-adds
+returns-in_err-reserve-clause-adds c = used_less c.args.store.now.desk.heap.room c.reserve.new.store.desk.heap.room _ c.reserve.ensures.rest.room

@@ -2,6 +2,7 @@ use Rattle.std.proofs.Common.{sym, subst, ◌∙◌}
 use Rattle.pict_code.proofs.Lines.{on_err}
 use Rattle.pict_desk.specs.Pairs.{ArePairs}
 use Rattle.pict_turns.specs.declared.turn.Turn.TheVariants.{Output}
+use Rattle.pict_turns.proofs.Adding.{used_less}
 use Rattle.pict_turns.proofs.Room.{refused_still}
 use Rattle.pict_desk.specs.Answers.{IsAnswerOf}
 use Rattle.pict_desk.specs.Arguments.{argument_of}
@@ -44,3 +45,9 @@ returns-in-Some-clause-blocks c labelled e is =
     let at_hand = c.in-Some.ensures s.desk.heap (subst (ArePairs s.desk.heap) (sym c.deref.ensures.value) c.requires.pairs) in
     let a = subst (λ vs. IsAnswerOf s.desk.heap vs c.args.p c.args.fields.now c.args.at c.in-Some.kept) c.deref.ensures.value at_hand in
     makes_same s.queues c.reserve_kept.new.store.queues (answering a.to a.answer) e (sym (a.effect labelled) ∙ is) c.reserve_kept.ensures.most
+
+pub returns-in-Some-clause-adds : goal.returns-in-Some-clause-adds
+returns-in-Some-clause-adds c labelled e is = used_less c.args.store.now.desk.heap.room c.reserve_kept.new.store.desk.heap.room _ c.reserve_kept.ensures.rest.room
+
+pub returns-in_err-reserve_kept-clause-adds : goal.returns-in_err-reserve_kept-clause-adds
+returns-in_err-reserve_kept-clause-adds c labelled e is = used_less c.args.store.now.desk.heap.room c.reserve_kept.new.store.desk.heap.room _ c.reserve_kept.ensures.rest.room

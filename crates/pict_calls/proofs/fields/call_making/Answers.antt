@@ -8,11 +8,13 @@ use Rattle.pict_desk.proofs.Making.{keeps_all}
 use Rattle.pict_turns.specs.Widths.{MakesOnly}
 use Rattle.pict_turns.specs.declared.store.Store.{Store}
 use Rattle.pict_turns.proofs.Making.{makes_nothing}
+use Rattle.pict_desk.proofs.MakingRoom.{uses_nothing}
+use Rattle.pict_turns.proofs.Adding.{used_both, used_after, used_less}
 use Rattle.pict_turns.proofs.Room.{refused_still}
 use Rattle.pict_desk.specs.Arguments.{argument_of}
 use Rattle.pict_calls.specs.Finishing.{IsTurnAfter}
 use Rattle.pict_calls.specs.declared.called.Called.TheVariants as called
-use Rattle.pict_calls.proofs.Answering.{HasRoomToAnswer, makes_answer, room_for_any}
+use Rattle.pict_calls.proofs.Answering.{HasRoomToAnswer, makes_answer, adds_same, room_for_any}
 use Rattle.pict_desk.proofs.Reckoning.{labels_same, argument_kept, room_then}
 use Rattle.pict_calls.proofs.Stepping.{some_is, called_by, calls_still, called_after, acted_before, cost_still, cost_same, cost_after}
 use Rattle.pict_calls.proofs.fields.call_making.Goals as goal
@@ -113,3 +115,22 @@ returns-clause-turn c core =
 pub returns-in_err-make_call_room-clause-turn : goal.returns-in_err-make_call_room-clause-turn
 returns-in_err-make_call_room-clause-turn c core =
     let still = cost_still core c.args.store.now c.make_call_room.new.store c.make_call_room.ensures.rest in omega (arith, still)
+
+pub returns-then-divides_by_zero-clause-adds : goal.returns-then-divides_by_zero-clause-adds
+returns-then-divides_by_zero-clause-adds c _ e _ = let room = c.args.store.now.desk.heap.room in used_less room room _ (uses_nothing room)
+
+pub returns-clause-adds : goal.returns-clause-adds
+returns-clause-adds c labelled e is =
+    let s = c.args.store.now in
+    let mid = c.make_call_room.new.store in
+    let made : Store = record c.make_call_room.new.store { desk = c.decide-act.new.desk } in
+    let last = c.finish.new.store in
+    let r = c.make_call_room.ensures.rest in
+    let same = argument_kept s.desk mid.desk r.heap r.values c.args.fields.now labelled in
+    let effect = sym (ap (effect_of c.args.p) same) ∙ c.decide-act.ensures.effect labelled in
+    used_after s.desk.heap.room mid.desk.heap.room last.desk.heap.room _ r.room
+    (used_both mid.desk.heap.room made.desk.heap.room last.desk.heap.room _ _ c.decide-act.ensures.used
+    (adds_same made last (effect_act made.desk.heap c.decide-act.result) e (sym effect ∙ is) c.finish.ensures.adds))
+
+pub returns-in_err-make_call_room-clause-adds : goal.returns-in_err-make_call_room-clause-adds
+returns-in_err-make_call_room-clause-adds c labelled e is = used_less c.args.store.now.desk.heap.room c.make_call_room.new.store.desk.heap.room _ c.make_call_room.ensures.rest.room

@@ -9,6 +9,7 @@ use Rattle.pict_prim.specs.declared.act.Act.TheVariants as act
 use Rattle.pict_queue.specs.QueuesState.{QueuesState}
 use Rattle.pict_turns.specs.Turns.{turn_cost}
 use Rattle.pict_turns.specs.Widths.{MakesOnly}
+use Rattle.pict_turns.proofs.Adding.{used_before, used_after, used_less}
 use Rattle.pict_turns.proofs.Room.{refused_still}
 use Rattle.pict_calls.proofs.Answering.{makes_act}
 use Rattle.pict_calls.proofs.Stepping.{called_by, calls_still, called_after, acted_before, cost_still, cost_after}
@@ -56,3 +57,15 @@ returns-clause-turn c core =
 
 pub returns-in_err-reserve-clause-turn : goal.returns-in_err-reserve-clause-turn
 returns-in_err-reserve-clause-turn c core = let still = cost_still core c.args.store.now c.reserve.new.store c.reserve.ensures.rest in omega (arith, still)
+
+pub returns-clause-adds : goal.returns-clause-adds
+returns-clause-adds c =
+    let old = c.args.store.now in
+    let mid = c.reserve.new.store in
+    let made = record mid { desk = record mid.desk { heap = c.add_text-text.new.self } } in
+    let last = c.finish.new.store in
+    used_after old.desk.heap.room mid.desk.heap.room last.desk.heap.room _ c.reserve.ensures.rest.room
+    (used_before mid.desk.heap.room made.desk.heap.room last.desk.heap.room _ c.add_text-text.ensures.room c.finish.ensures.adds)
+
+pub returns-in_err-reserve-clause-adds : goal.returns-in_err-reserve-clause-adds
+returns-in_err-reserve-clause-adds c = used_less c.args.store.now.desk.heap.room c.reserve.new.store.desk.heap.room _ c.reserve.ensures.rest.room

@@ -9,6 +9,7 @@ use Rattle.pict_turns.specs.declared.store.Store.{Store}
 use Rattle.pict_turns.proofs.Making.{makes_nothing}
 use Rattle.pict_machine.proofs.Working.{refused_cost, end_works, fork_works, choose_works, new_works}
 use Rattle.pict_machine.proofs.Needing.{needed_by, node_needs, fork_made, new_made, choice_made}
+use Rattle.pict_machine.proofs.Adding.{desk_same, adds_none, fork_added, new_added, choice_added}
 use Rattle.pict_machine.proofs.Plainly.{has_partner, output_sends, input_receives}
 use Rattle.pict_machine.proofs.acting.act_by.Goals as goal
 
@@ -136,3 +137,37 @@ pub returns-in-In-clause-plain : goal.returns-in-In-clause-plain
 returns-in-In-clause-plain c x =
     let a = subst (ActsBy (core_in c.args.code.now) c.args.store.now) (ap plain_op c.in-In.is) c.requires.acts in
     c.input.ensures.plain (input_receives (core_in c.args.code.now) c.args.store.now (plain_val c.in-In.chan) (plain_pat c.in-In.pattern) c.in-In.part a x)
+
+pub returns-in-Zero-clause-adds : goal.returns-in-Zero-clause-adds
+returns-in-Zero-clause-adds c =
+    adds_none (core_in c.args.code.now) c.args.store.now c.end.new.store (desk_same c.args.store.now c.end.new.store (ap (λ (x : Store). x.desk) c.end.ensures.rest))
+
+pub returns-in_err-fork-in-Par-clause-adds : goal.returns-in_err-fork-in-Par-clause-adds
+returns-in_err-fork-in-Par-clause-adds c =
+    let a = subst (ActsBy (core_in c.args.code.now) c.args.store.now) (ap plain_op c.in-Par.is) c.requires.acts in
+    fork_added c.args.code.now c.requires.may.code_is c.args.store.now c.fork.new.store c.in-Par.left c.in-Par.right a c.fork.ensures.adds
+
+pub returns-in_ok-fork-in-Par-clause-adds : goal.returns-in_ok-fork-in-Par-clause-adds
+returns-in_ok-fork-in-Par-clause-adds c =
+    let a = subst (ActsBy (core_in c.args.code.now) c.args.store.now) (ap plain_op c.in-Par.is) c.requires.acts in
+    fork_added c.args.code.now c.requires.may.code_is c.args.store.now c.fork.new.store c.in-Par.left c.in-Par.right a c.fork.ensures.adds
+
+pub returns-in_err-make_channel-in-New-clause-adds : goal.returns-in_err-make_channel-in-New-clause-adds
+returns-in_err-make_channel-in-New-clause-adds c =
+    let a = subst (ActsBy (core_in c.args.code.now) c.args.store.now) (ap plain_op c.in-New.is) c.requires.acts in
+    new_added c.args.code.now c.requires.may.code_is c.args.store.now c.make_channel.new.store c.in-New.level c.in-New.part a c.make_channel.ensures.adds
+
+pub returns-in_ok-make_channel-in-New-clause-adds : goal.returns-in_ok-make_channel-in-New-clause-adds
+returns-in_ok-make_channel-in-New-clause-adds c =
+    let a = subst (ActsBy (core_in c.args.code.now) c.args.store.now) (ap plain_op c.in-New.is) c.requires.acts in
+    new_added c.args.code.now c.requires.may.code_is c.args.store.now c.make_channel.new.store c.in-New.level c.in-New.part a c.make_channel.ensures.adds
+
+pub returns-in_err-choose-in-If-clause-adds : goal.returns-in_err-choose-in-If-clause-adds
+returns-in_err-choose-in-If-clause-adds c =
+    let a = subst (ActsBy (core_in c.args.code.now) c.args.store.now) (ap plain_op c.in-If.is) c.requires.acts in
+    choice_added c.args.code.now c.requires.may.code_is c.args.store.now c.choose.new.store (plain_val c.in-If.test) c.in-If.yes c.in-If.no a c.requires.may.right c.choose.ensures.adds
+
+pub returns-in_ok-choose-in-If-clause-adds : goal.returns-in_ok-choose-in-If-clause-adds
+returns-in_ok-choose-in-If-clause-adds c =
+    let a = subst (ActsBy (core_in c.args.code.now) c.args.store.now) (ap plain_op c.in-If.is) c.requires.acts in
+    choice_added c.args.code.now c.requires.may.code_is c.args.store.now c.choose.new.store (plain_val c.in-If.test) c.in-If.yes c.in-If.no a c.requires.may.right c.choose.ensures.adds

@@ -10,6 +10,9 @@ use Rattle.pict_machine.proofs.Channels.{sent_to}
 use Rattle.pict_desk.proofs.Tagged.{prim_word}
 use Rattle.pict_machine.proofs.KeptOutputs.{kept_to, kept_message, kept_is, kept_process, pair_value, words_call}
 use Rattle.pict_machine.proofs.Needing.{kept_needs, call_needed}
+use Rattle.pict_desk.specs.Needs.{no_need}
+use Rattle.pict_turns.proofs.Adding.{used_beside}
+use Rattle.pict_machine.proofs.Adding.{kept_adds, call_adds}
 use Rattle.pict_machine.proofs.Plainly.{no_plain_call}
 use Rattle.pict_machine.proofs.Working.{costs_same, kept_cost, kept_works}
 use Rattle.pict_machine.proofs.outputs.call_kept.Goals as goal
@@ -102,3 +105,21 @@ returns-in_err-called-in-Prim-clause-plain c code may x =
     let s = c.args.store.now in
     let calls = words_call core s may.acting c.args.kept c.requires.kept c.word_at.result c.word_at-in-Prim.result c.word_at.ensures c.word_at-in-Prim.ensures c.in-Prim.p c.in-Prim.is in
     no_plain_call core s (acting_words core s) c.in-Prim.p (value_of s.desk.heap c.word_at-in-Prim.result) c.args.kept.at calls.output x
+
+pub returns-clause-adds : goal.returns-clause-adds
+returns-clause-adds c code may =
+    let core = core_in code in
+    let s = c.args.store.now in
+    let v = value_of s.desk.heap c.word_at-in-Prim.result in
+    let calls = words_call core s may.acting c.args.kept c.requires.kept c.word_at.result c.word_at-in-Prim.result c.word_at.ensures c.word_at-in-Prim.ensures c.in-Prim.p c.in-Prim.is in
+    call_adds core s no_need no_need (kept_adds core s _ (kept_is core s may.acting c.args.kept c.requires.kept).is) c.call.new.store c.in-Prim.p v c.args.kept.at calls.output
+    (takes core s c.in-Prim.p v c.args.kept.at calls may.right) (λ e is. used_beside s.desk.heap.room c.call.new.store.desk.heap.room no_need _ (c.call.ensures.adds e is))
+
+pub returns-in_err-called-in-Prim-clause-adds : goal.returns-in_err-called-in-Prim-clause-adds
+returns-in_err-called-in-Prim-clause-adds c code may =
+    let core = core_in code in
+    let s = c.args.store.now in
+    let v = value_of s.desk.heap c.word_at-in-Prim.result in
+    let calls = words_call core s may.acting c.args.kept c.requires.kept c.word_at.result c.word_at-in-Prim.result c.word_at.ensures c.word_at-in-Prim.ensures c.in-Prim.p c.in-Prim.is in
+    call_adds core s no_need no_need (kept_adds core s _ (kept_is core s may.acting c.args.kept c.requires.kept).is) c.call.new.store c.in-Prim.p v c.args.kept.at calls.output
+    (takes core s c.in-Prim.p v c.args.kept.at calls may.right) (λ e is. used_beside s.desk.heap.room c.call.new.store.desk.heap.room no_need _ (c.call.ensures.adds e is))

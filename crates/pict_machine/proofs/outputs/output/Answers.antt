@@ -14,6 +14,8 @@ use Rattle.pict_machine.proofs.Called.{called_acts}
 use Rattle.pict_machine.proofs.Channels.{named_channel, node_sent_to, node_call}
 use Rattle.pict_code.specs.Instruction as op
 use Rattle.pict_machine.proofs.Needing.{node_needs, call_needed}
+use Rattle.pict_machine.specs.Growing.{message_need, given_need}
+use Rattle.pict_machine.proofs.Adding.{node_adds, call_adds}
 use Rattle.pict_machine.proofs.Plainly.{no_plain_call}
 use Rattle.pict_machine.proofs.Working.{costs_same, own_cost, alone_works}
 use Rattle.pict_machine.proofs.outputs.output.Goals as goal
@@ -170,3 +172,35 @@ returns-in_err-called-in-None-clause-plain c x =
     let calls = node_call core s may.code_is.closed chan message c.args.at c.requires.acts may.right (sym c.in-None.is ∙ named) c.primitive_at_hand-p.result
     (λ q e. c.primitive_at_hand-p.ensures s.desk.heap q (subst (λ values. StandsForPrimitive s.desk.heap values chan q) (sym c.deref-in-None.ensures.value) (record { pairs = may.acting.store.pairs; is = e }))) in
     absurd (no_plain_call core s (acting_words core s) c.primitive_at_hand-p.result (operand_in s.desk.heap s.desk.values.items message) c.args.at calls.output x)
+
+pub returns-in_ok-called-in-None-clause-adds : goal.returns-in_ok-called-in-None-clause-adds
+returns-in_ok-called-in-None-clause-adds c =
+    let core = core_in c.args.code.now in
+    let s = c.args.store.now in
+    let chan = plain_val c.args.chan.now in
+    let message = plain_val c.args.message.now in
+    let may = c.requires.may in
+    let pairs = subst (ArePairs s.desk.heap) (sym c.deref.ensures.value) may.acting.store.pairs in
+    let named : c.channel_at_hand.result ≡ channel_named (operand_value (known s.desk.heap s.desk.values.items) chan) =
+    subst (λ values. c.channel_at_hand.result ≡ channel_named (operand_value (known s.desk.heap values) chan)) c.deref.ensures.value (c.channel_at_hand.ensures s.desk.heap pairs) in
+    let calls = node_call core s may.code_is.closed chan message c.args.at c.requires.acts may.right (sym c.in-None.is ∙ named) c.primitive_at_hand-p.result
+    (λ q e. c.primitive_at_hand-p.ensures s.desk.heap q (subst (λ values. StandsForPrimitive s.desk.heap values chan q) (sym c.deref-in-None.ensures.value) (record { pairs = may.acting.store.pairs; is = e }))) in
+    let v = operand_in s.desk.heap s.desk.values.items message in
+    call_adds core s (message_need message) (given_need message) (node_adds core s (op.Out chan message c.args.at) c.requires.acts) c.call_message.new.store
+    c.primitive_at_hand-p.result v c.args.at calls.output (takes core s c.primitive_at_hand-p.result v c.args.at calls may.right) c.call_message.ensures.adds
+
+pub returns-in_err-called-in-None-clause-adds : goal.returns-in_err-called-in-None-clause-adds
+returns-in_err-called-in-None-clause-adds c =
+    let core = core_in c.args.code.now in
+    let s = c.args.store.now in
+    let chan = plain_val c.args.chan.now in
+    let message = plain_val c.args.message.now in
+    let may = c.requires.may in
+    let pairs = subst (ArePairs s.desk.heap) (sym c.deref.ensures.value) may.acting.store.pairs in
+    let named : c.channel_at_hand.result ≡ channel_named (operand_value (known s.desk.heap s.desk.values.items) chan) =
+    subst (λ values. c.channel_at_hand.result ≡ channel_named (operand_value (known s.desk.heap values) chan)) c.deref.ensures.value (c.channel_at_hand.ensures s.desk.heap pairs) in
+    let calls = node_call core s may.code_is.closed chan message c.args.at c.requires.acts may.right (sym c.in-None.is ∙ named) c.primitive_at_hand-p.result
+    (λ q e. c.primitive_at_hand-p.ensures s.desk.heap q (subst (λ values. StandsForPrimitive s.desk.heap values chan q) (sym c.deref-in-None.ensures.value) (record { pairs = may.acting.store.pairs; is = e }))) in
+    let v = operand_in s.desk.heap s.desk.values.items message in
+    call_adds core s (message_need message) (given_need message) (node_adds core s (op.Out chan message c.args.at) c.requires.acts) c.call_message.new.store
+    c.primitive_at_hand-p.result v c.args.at calls.output (takes core s c.primitive_at_hand-p.result v c.args.at calls may.right) c.call_message.ensures.adds

@@ -18,6 +18,7 @@ use Rattle.pict_meetings.proofs.Inputs.{part_inside}
 use Rattle.pict_meetings.proofs.Receiving.{receives_part}
 use Rattle.pict_machine.proofs.Channels.{input_process, input_queue}
 use Rattle.pict_machine.proofs.Needing.{only_worked, needed_by, receipt_needs, waiting_needs, part_made_beside}
+use Rattle.pict_machine.proofs.Adding.{desk_same, adds_none, receipt_adds, part_added}
 use Rattle.pict_machine.proofs.Plainly.{plainly_received, nothing_worked, message_waits}
 use Rattle.pict_machine.proofs.Working.{frame_there, costs_then, own_wide, alone_works, input_works}
 use Rattle.pict_machine.proofs.Passing.{may_worked, step_worked, receives_worked}
@@ -125,3 +126,18 @@ returns-in_default-clause-plain c x =
     let pattern = plain_pat c.args.pattern.now in
     let p = input_process core s c.args.channel c.args.replicated pattern c.args.part c.requires.receives in
     absurd (c.in_default.not-Output (c.first_waiting.ensures.first ∙ message_waits core s (acting_words core s) c.args.channel c.args.replicated (unleveled pattern) p.0 p.1 x))
+
+pub returns-in-Output-clause-adds : goal.returns-in-Output-clause-adds
+returns-in-Output-clause-adds c =
+    let core = core_in c.args.code.now in
+    let s = c.args.store.now in
+    let pattern = plain_pat c.args.pattern.now in
+    let receives = c.requires.receives in
+    let p = input_process core s c.args.channel c.args.replicated pattern c.args.part receives in
+    part_added c.args.code.now c.requires.may.code_is s c.receive_message.new.store c.args.part
+    (receipt_adds core s c.args.replicated receives.chan pattern c.args.part receives.acts c.args.channel (unleveled pattern) p.0 p.1 (sym c.first_waiting.ensures.first ∙ c.in-Output.is))
+    c.receive_message.ensures.adds
+
+pub returns-in_default-clause-adds : goal.returns-in_default-clause-adds
+returns-in_default-clause-adds c =
+    adds_none (core_in c.args.code.now) c.args.store.now c.park.new.store (desk_same c.args.store.now c.park.new.store c.park.ensures.desk)

@@ -19,6 +19,7 @@ use Rattle.pict_meetings.proofs.Inputs.{part_inside}
 use Rattle.pict_meetings.proofs.Receiving.{receives_part}
 use Rattle.pict_machine.proofs.Passing.{refused_step, may_reserve, receives_reserved}
 use Rattle.pict_machine.proofs.Channels.{input_process}
+use Rattle.pict_turns.proofs.Adding.{used_after, used_less}
 use Rattle.pict_machine.proofs.Plainly.{plain_input, same_part, not_replicated, message_length, receives_kept}
 use Rattle.pict_machine.proofs.Working.{costs_reserved}
 use Rattle.pict_machine.proofs.receiving.receive_message.Goals as goal
@@ -131,3 +132,12 @@ returns-in_err-reserve_part_of_input-clause-plain c x =
     (same_frame nodes c.args.part c.frame_at-frame.result.now x.room.frame c.frame_at-frame.ensures has) r.rest (r.one once) (r.plain once) in
     let no = kept.0 in
     cc
+
+pub returns-clause-adds : goal.returns-clause-adds
+returns-clause-adds c =
+    used_after c.args.store.now.desk.heap.room c.reserve_part_of_input.new.store.desk.heap.room c.meet_message-value.new.store.desk.heap.room _ c.reserve_part_of_input.ensures.rest.room
+    c.meet_message-value.ensures.adds
+
+pub returns-in_err-reserve_part_of_input-clause-adds : goal.returns-in_err-reserve_part_of_input-clause-adds
+returns-in_err-reserve_part_of_input-clause-adds c =
+    used_less c.args.store.now.desk.heap.room c.reserve_part_of_input.new.store.desk.heap.room _ c.reserve_part_of_input.ensures.rest.room

@@ -5,6 +5,9 @@ use Rattle.pict_meetings.specs.Waiting.{oldest}
 use Rattle.pict_turns.proofs.Room.{refused_still}
 use Rattle.pict_turns.proofs.Turns.{cost_nobody}
 use Rattle.pict_calls.proofs.Stepping.{cost_still}
+use Rattle.pict_turns.specs.declared.store.Store.{Store}
+use Rattle.pict_turns.proofs.Adding.{used_before, used_after, used_less}
+use Rattle.pict_machine.proofs.Adding.{desk_same}
 use Rattle.pict_machine.proofs.Passing.{refused_step}
 use Rattle.pict_machine.proofs.Growing.{sends_made, done_made}
 use Rattle.pict_machine.proofs.sending.park_made.Goals as goal
@@ -32,3 +35,14 @@ returns-clause-turn c core = let e = cost_nobody core c.park_output.new.store c.
 
 pub returns-in_err-reserve_message-clause-turn : goal.returns-in_err-reserve_message-clause-turn
 returns-in_err-reserve_message-clause-turn c core = let e = cost_still core c.args.store.now c.reserve_message.new.store c.reserve_message.ensures.rest in omega (arith, e)
+
+pub returns-clause-adds : goal.returns-clause-adds
+returns-clause-adds c =
+    let mid = c.reserve_message.new.store in
+    let made : Store = record mid { desk = record mid.desk { heap = c.word_of-word.new.heap; pending = c.word_of-word.new.pending } } in
+    let last = c.park_output.new.store in
+    used_after c.args.store.now.desk.heap.room mid.desk.heap.room last.desk.heap.room _ c.reserve_message.ensures.rest.room
+    (used_before mid.desk.heap.room made.desk.heap.room last.desk.heap.room _ c.word_of-word.ensures.used (desk_same made last c.park_output.ensures.desk))
+
+pub returns-in_err-reserve_message-clause-adds : goal.returns-in_err-reserve_message-clause-adds
+returns-in_err-reserve_message-clause-adds c = used_less c.args.store.now.desk.heap.room c.reserve_message.new.store.desk.heap.room _ c.reserve_message.ensures.rest.room

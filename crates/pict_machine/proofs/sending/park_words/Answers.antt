@@ -4,6 +4,8 @@ use Rattle.pict_meetings.specs.Waiting.{oldest}
 use Rattle.pict_turns.proofs.Room.{done_after, refused_still}
 use Rattle.pict_turns.proofs.Turns.{cost_nobody}
 use Rattle.pict_calls.proofs.Stepping.{cost_still}
+use Rattle.pict_turns.proofs.Adding.{used_before}
+use Rattle.pict_machine.proofs.Adding.{desk_same}
 use Rattle.pict_machine.proofs.Passing.{refused_step}
 use Rattle.pict_machine.proofs.Growing.{sends_reserved}
 use Rattle.pict_machine.proofs.sending.park_words.Goals as goal
@@ -28,3 +30,9 @@ returns-clause-turn c core = let e = cost_nobody core c.park_output.new.store c.
 
 pub returns-in_err-reserve_kept-clause-turn : goal.returns-in_err-reserve_kept-clause-turn
 returns-in_err-reserve_kept-clause-turn c core = let e = cost_still core c.args.store.now c.reserve_kept.new.store c.reserve_kept.ensures.rest in omega (arith, e)
+
+pub returns-clause-adds : goal.returns-clause-adds
+returns-clause-adds c =
+    let mid = c.reserve_kept.new.store in
+    let last = c.park_output.new.store in
+    used_before c.args.store.now.desk.heap.room mid.desk.heap.room last.desk.heap.room _ c.reserve_kept.ensures.rest.room (desk_same mid last c.park_output.ensures.desk)

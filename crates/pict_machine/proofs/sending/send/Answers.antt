@@ -12,6 +12,8 @@ use Rattle.pict_machine.proofs.Channels.{output_queue}
 use Rattle.pict_machine.proofs.Growing.{operand_worked, operand_process, operand_over}
 use Rattle.pict_machine.proofs.Passing.{may_worked, step_worked}
 use Rattle.pict_machine.proofs.Needing.{only_worked, needed_by, node_needs, wait_needs, meeting_made}
+use Rattle.pict_machine.specs.Growing.{message_need, given_need}
+use Rattle.pict_machine.proofs.Adding.{node_adds, wait_adds, meeting_added}
 use Rattle.pict_machine.proofs.Plainly.{plainly_sent, nothing_worked, serves}
 use Rattle.pict_machine.proofs.sending.send.Goals as goal
 
@@ -120,3 +122,22 @@ returns-in_default-clause-plain c x =
     let served = serves core s (acting_words core s) c.args.channel (operand_value (known s.desk.heap s.desk.values.items) message) c.args.at
     (operand_process core s c.args.channel message c.args.at c.requires.sends) x in
     absurd (c.in_default.not-Input served.0 (c.first_waiting.ensures.first ∙ served.2))
+
+pub returns-in-Input-clause-adds : goal.returns-in-Input-clause-adds
+returns-in-Input-clause-adds c =
+    let s = c.args.store.now in
+    let core = core_in c.args.code.now in
+    let message = plain_val c.args.message.now in
+    let x = c.requires.sends in
+    meeting_added c.args.code.now c.requires.may.code_is s (message_need message) (given_need message) (node_adds core s (op.Out x.chan message c.args.at) x.acts) c.args.channel
+    (operand_value (known s.desk.heap s.desk.values.items) message) c.args.at (operand_process core s c.args.channel message c.args.at x) c.requires.may.acting.store
+    c.in-Input.reader (sym c.first_waiting.ensures.first ∙ c.in-Input.is) c.send_operand.new.store c.send_operand.ensures.adds
+
+pub returns-in_default-clause-adds : goal.returns-in_default-clause-adds
+returns-in_default-clause-adds c =
+    let s = c.args.store.now in
+    let core = core_in c.args.code.now in
+    let message = plain_val c.args.message.now in
+    let x = c.requires.sends in
+    wait_adds core s (message_need message) (given_need message) (node_adds core s (op.Out x.chan message c.args.at) x.acts) c.args.channel (operand_value (known s.desk.heap s.desk.values.items) message) c.args.at
+    (operand_process core s c.args.channel message c.args.at x) c.park_operand.new.store c.park_operand.ensures.adds

@@ -16,6 +16,9 @@ use Rattle.pict_machine.proofs.Channels.{output_queue}
 use Rattle.pict_machine.proofs.Growing.{sends_worked, kept_worked}
 use Rattle.pict_machine.proofs.Passing.{may_worked, step_worked}
 use Rattle.pict_machine.proofs.Needing.{only_worked, needed_by, kept_needs, wait_needs, meeting_made}
+use Rattle.pict_desk.specs.Needs.{no_need}
+use Rattle.pict_turns.proofs.Adding.{used_beside}
+use Rattle.pict_machine.proofs.Adding.{kept_adds, desk_same, adds_none, meeting_added}
 use Rattle.pict_machine.proofs.Plainly.{plainly_sent, nothing_worked, serves}
 use Rattle.pict_machine.proofs.sending.send_kept.Goals as goal
 
@@ -123,3 +126,16 @@ returns-in_default-clause-plain c x =
     let sends = c.requires.sends in
     let served = serves core s (acting_words core s) c.args.channel (value_in s.desk.heap c.args.message.0 c.args.message.1) sends.0 sends.1.is x in
     absurd (c.in_default.not-Input served.0 (c.first_waiting.ensures.first ∙ served.2))
+
+pub returns-in-Input-clause-adds : goal.returns-in-Input-clause-adds
+returns-in-Input-clause-adds c =
+    let s = c.args.store.now in
+    let core = core_in c.args.code.now in
+    let x = c.requires.sends in
+    meeting_added c.args.code.now c.requires.may.code_is s no_need no_need (kept_adds core s _ c.requires.kept.kept.is) c.args.channel (value_in s.desk.heap c.args.message.0 c.args.message.1) x.0 x.1.is
+    c.requires.may.acting.store c.in-Input.reader (sym c.first_waiting.ensures.first ∙ c.in-Input.is) c.send_to_reader-done.new.store
+    (λ replicated pattern part i. used_beside s.desk.heap.room c.send_to_reader-done.new.store.desk.heap.room no_need _ (c.send_to_reader-done.ensures.adds replicated pattern part i))
+
+pub returns-in_default-clause-adds : goal.returns-in_default-clause-adds
+returns-in_default-clause-adds c =
+    adds_none (core_in c.args.code.now) c.args.store.now c.park.new.store (desk_same c.args.store.now c.park.new.store c.park.ensures.desk)

@@ -16,6 +16,7 @@ use Rattle.pict_calls.proofs.Stepping.{cost_still}
 use Rattle.pict_machine.proofs.Working.{costs_reserved}
 use Rattle.pict_machine.proofs.Growing.{operand_reserved, operand_over, sends_made, done_made, right_made, can_grown}
 use Rattle.pict_machine.proofs.Passing.{refused_step, may_reserve}
+use Rattle.pict_turns.proofs.Adding.{used_both, used_after, used_less}
 use Rattle.pict_machine.proofs.Plainly.{one_given}
 use Rattle.pict_machine.proofs.sending.send_made.Goals as goal
 
@@ -120,3 +121,15 @@ returns-clause-blocks c replicated pattern part frame i f =
 pub returns-in_err-reserve_meeting-clause-blocks : goal.returns-in_err-reserve_meeting-clause-blocks
 returns-in_err-reserve_meeting-clause-blocks c replicated pattern part frame i f =
     subst (λ frame. MakesOnly c.args.store.now.queues c.reserve_meeting.new.store.queues (block_width frame ∷ [])) (c.reader_frame-frame.ensures replicated pattern part frame i f) c.reserve_meeting.ensures.most
+
+pub returns-clause-adds : goal.returns-clause-adds
+returns-clause-adds c replicated pattern part i =
+    let old = c.args.store.now.desk.heap.room in
+    let mid = c.reserve_meeting.new.store.desk.heap.room in
+    let last = c.meet_reader.new.store.desk.heap.room in
+    used_after old mid last _ c.reserve_meeting.ensures.rest.room
+    (used_both mid c.word_of-word.new.heap.room last _ _ c.word_of-word.ensures.used (c.meet_reader.ensures.adds replicated pattern part i))
+
+pub returns-in_err-reserve_meeting-clause-adds : goal.returns-in_err-reserve_meeting-clause-adds
+returns-in_err-reserve_meeting-clause-adds c replicated pattern part i =
+    used_less c.args.store.now.desk.heap.room c.reserve_meeting.new.store.desk.heap.room _ c.reserve_meeting.ensures.rest.room

@@ -1,4 +1,4 @@
-use Rattle.std.proofs.Common.{◌≡◌, length, refl, sym, subst}
+use Rattle.std.proofs.Common.{◌≡◌, length, map, refl, sym, subst}
 use Rattle.pict_core.specs.Closed.{IsOver}
 use Rattle.pict_core.specs.Plain.{plain_val}
 use Rattle.pict_code.specs.Instruction as op
@@ -8,6 +8,12 @@ use Rattle.pict_desk.specs.Pairs.{ArePairs}
 use Rattle.pict_desk.specs.Code.{core_in}
 use Rattle.pict_desk.specs.Constants.{HasNoVariable}
 use Rattle.pict_machine.proofs.Growing.{operand_over, sends_pair}
+use Rattle.pict_code.specs.Plain.{plain_node}
+use Rattle.pict_prim.specs.declared.act.Need.{Need}
+use Rattle.pict_desk.specs.Needs.{both_needs}
+use Rattle.pict_turns.specs.Growing.{AddsAtMost, part_need}
+use Rattle.pict_turns.proofs.Adding.{used_beside}
+use Rattle.pict_machine.proofs.Adding.{message_is}
 use Rattle.pict_machine.proofs.Plainly.{wordless_output}
 use Rattle.pict_machine.proofs.sending.send_operand.Goals as goal
 
@@ -40,3 +46,14 @@ returns-in-None-clause-plain c x =
     let same : message ≡ wordless.1 = cc in
     let none = c.in-None.ensures.none s.desk.heap c.requires.constant refl in
     absurd (none.1 (subst HasNoVariable (sym same) (wordless.4 (subst IsOfHeap same none.0))))
+
+pub returns-in-Some-clause-adds : goal.returns-in-Some-clause-adds
+returns-in-Some-clause-adds c replicated pattern part i =
+    used_beside c.args.store.now.desk.heap.room c.send_to_reader-done.new.store.desk.heap.room _ _ (c.send_to_reader-done.ensures.adds replicated pattern part i)
+
+pub returns-in-None-clause-adds : goal.returns-in-None-clause-adds
+returns-in-None-clause-adds c replicated pattern part i =
+    let s = c.args.store.now in
+    let none = c.in-None.ensures.none s.desk.heap c.requires.constant refl in
+    subst (λ (n : Need). AddsAtMost s c.send_made.new.store (both_needs n (part_need (map plain_node c.args.code.now) part))) (sym (message_is (plain_val c.args.message.now) (λ of_heap. none.1)))
+    (c.send_made.ensures.adds replicated pattern part i)

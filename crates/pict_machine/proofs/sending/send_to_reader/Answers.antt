@@ -14,6 +14,7 @@ use Rattle.pict_calls.proofs.Stepping.{cost_still}
 use Rattle.pict_machine.proofs.Working.{costs_reserved}
 use Rattle.pict_machine.proofs.Growing.{sends_reserved, can_after}
 use Rattle.pict_machine.proofs.Passing.{may_reserve}
+use Rattle.pict_turns.proofs.Adding.{used_after, used_less}
 use Rattle.pict_machine.proofs.Plainly.{one_given, served, part_has, sends_kept}
 use Rattle.pict_machine.proofs.Running.{on_err}
 use Rattle.pict_machine.proofs.sending.send_to_reader.Goals as goal
@@ -118,3 +119,12 @@ returns-in_err-reserve_served-clause-plain c x =
     (λ reused few. r.plain reused few refl) (λ few one. r.enough few refl one) r.blocks in
     let no = kept.0 in
     cc
+
+pub returns-clause-adds : goal.returns-clause-adds
+returns-clause-adds c replicated pattern part i =
+    used_after c.args.store.now.desk.heap.room c.reserve_served.new.store.desk.heap.room c.meet_reader.new.store.desk.heap.room _ c.reserve_served.ensures.rest.room
+    (c.meet_reader.ensures.adds replicated pattern part i)
+
+pub returns-in_err-reserve_served-clause-adds : goal.returns-in_err-reserve_served-clause-adds
+returns-in_err-reserve_served-clause-adds c replicated pattern part i =
+    used_less c.args.store.now.desk.heap.room c.reserve_served.new.store.desk.heap.room _ c.reserve_served.ensures.rest.room

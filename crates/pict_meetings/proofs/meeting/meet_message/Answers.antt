@@ -19,6 +19,7 @@ use Rattle.pict_blocks.specs.Parts.{block_width}
 use Rattle.pict_turns.specs.Turns.{turn_cost}
 use Rattle.pict_turns.specs.Views.{acting_words}
 use Rattle.pict_turns.specs.declared.store.Store.{Store}
+use Rattle.pict_turns.proofs.Adding.{used_behind, used_same, adds_part}
 use Rattle.pict_turns.proofs.Numbered.{coded_inside}
 use Rattle.pict_desk.proofs.Numbered.{coded_at, in_code, same_frame}
 use Rattle.pict_turns.proofs.Views.{pair_stays}
@@ -150,3 +151,16 @@ returns-clause-turn c = λ frame has_frame.
 pub returns-clause-blocks : goal.returns-clause-blocks
 returns-clause-blocks c = λ width.
     c.make_last.ensures.blocks width ∙ ap (λ (x : Store). blocks x.queues.region width) c.bind_levels.ensures.rest ∙ c.take_message-message.ensures.blocks width
+
+pub returns-clause-adds : goal.returns-clause-adds
+returns-clause-adds c =
+    let core = core_in c.args.code.now in
+    let s = c.args.store.now in
+    let mid = c.bind_levels.new.store in
+    let new = c.make_last.new.store in
+    let own = c.frame_at-frame.result.now in
+    let f = c.frame_at-frame.ensures in
+    adds_part (map plain_node c.args.code.now) s new c.args.part own f
+    (used_same s.desk.heap mid.desk.heap new.desk.heap.room _ (ap (λ (x : Store). x.desk.heap) c.bind_levels.ensures.rest)
+    (used_behind core c.args.replicated mid new c.args.part own c.make_last.ensures.behind
+    (λ e. c.make_last.ensures.alone e core (record { node = f.node; at = coded_at c.args.code.now c.requires.code c.args.part own f; is = f.is }))))

@@ -17,6 +17,7 @@ use Rattle.pict_blocks.specs.Parts.{block_width}
 use Rattle.pict_turns.specs.Turns.{turn_cost}
 use Rattle.pict_turns.specs.declared.store.Store.{Store}
 use Rattle.pict_turns.specs.declared.turn.Turn.TheVariants.{Nobody}
+use Rattle.pict_turns.proofs.Adding.{used_last, used_same, adds_part}
 use Rattle.pict_turns.proofs.AfterReading.{no_more_read}
 use Rattle.pict_turns.proofs.Handing.{made_last}
 use Rattle.pict_turns.proofs.Numbered.{coded_inside}
@@ -147,3 +148,15 @@ settle-requires-clause-some c =
     let first = ap length (first_read c.args.store.now c.read_waiting.new.store c.args.channel c.args.number reads) in
     let words = ap length reads.read.is.words_are in
     omega (arith, first, words)
+
+pub returns-clause-adds : goal.returns-clause-adds
+returns-clause-adds c =
+    let core = core_in c.args.code.now in
+    let old = c.args.store.now in
+    let bound = c.bind_levels.new.store in
+    let new = c.make_ready.new.store in
+    let own = c.frame_at-frame.result.now in
+    let f = c.frame_at-frame.ensures in
+    adds_part (map plain_node c.args.code.now) old new c.args.part own f
+    (used_same old.desk.heap bound.desk.heap new.desk.heap.room _ (ap (λ (s : Store). s.desk.heap) c.bind_levels.ensures.rest ∙ c.read_waiting.ensures.reads.read.rest.heap)
+    (used_last core bound new c.args.part own (c.make_ready.ensures.last core (record { node = f.node; at = coded_at c.args.code.now c.requires.code c.args.part own f; is = f.is }))))

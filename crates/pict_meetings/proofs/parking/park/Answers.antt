@@ -43,3 +43,6 @@ returns-clause-input c replicated pattern part receives none =
     (made_no_more s.queues down q c.set_down-block.result (length words + 1) words m w.gone)
     (let count = ap length m.queues in let left = m.spare_queues in let more = w.queues in let behind = w.spare_queues in omega (arith, count, left, more, behind))
     replicated pattern part receives none)
+
+pub returns-clause-desk : goal.returns-clause-desk
+returns-clause-desk c = ap (λ (x : Store). x.desk) c.set_down-block.ensures.rest

@@ -16,7 +16,7 @@ use Rattle.pict_prim.proofs.deciding.answer_of_numbers.Goals as goal
 
 -- a heap without texts and records
 nothing : HeapState
-nothing = record { texts = []; records = []; room = record { records = 0; fields = 0; texts = 0; bytes = 0 } }
+nothing = record { texts = []; records = []; room = record { records = 0; fields = 0; texts = 0; bytes = 0; used = record { records = 0; fields = 0; texts = 0; bytes = 0 } } }
 
 module _ (effect : Val → Option Effect) (calculated : Calculated) (same : (k : Val) → Some (effect_calculated k calculated) ≡ effect k) where
   word_answered : (o : Option Word) → ((h : HeapState) (k : Val) → effect_calculated k calculated ≡ effect_answered h k o) → ((h : HeapState) → IfSome o (IsWord h))

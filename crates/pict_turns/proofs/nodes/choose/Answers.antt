@@ -10,6 +10,7 @@ use Rattle.pict_queue.specs.QueuesState.{QueuesState}
 use Rattle.pict_desk.specs.Code.{core_in}
 use Rattle.pict_blocks.specs.Parts.{block_width}
 use Rattle.pict_turns.specs.Widths.{MakesOnly}
+use Rattle.pict_turns.proofs.Adding.{used_after, used_less, adds_chosen}
 use Rattle.pict_turns.proofs.Handing.{handed_cost}
 use Rattle.pict_turns.proofs.Making.{makes_chosen}
 use Rattle.pict_turns.proofs.Numbered.{coded_inside, if_parts, test_over, test_boolean, chosen_width}
@@ -76,6 +77,14 @@ returns-clause-blocks c = λ b is.
     makes_chosen (map plain_node c.args.code.now) old c.hand_on.new.store.queues _ a.0 b c.args.yes c.args.no c.chosen-part.result _ a.1 is a.2 c.frame_at-frame.ensures
     (subst (λ (q : QueuesState). MakesOnly old q (block_width c.frame_at-frame.result.now ∷ [])) (sym c.hand_on.ensures.queues) c.reserve_part.ensures.most)
 
+pub returns-clause-adds : goal.returns-clause-adds
+returns-clause-adds c = λ b is.
+    let a = c.chosen-part.ensures in
+    let old = c.args.store.now in
+    let f = coded_frame c.args.code.now c.requires.code c.chosen-part.result c.frame_at-frame.result.now c.frame_at-frame.ensures in
+    adds_chosen (map plain_node c.args.code.now) old c.hand_on.new.store _ a.0 b c.args.yes c.args.no c.chosen-part.result _ a.1 is a.2 c.frame_at-frame.ensures
+    (used_after old.desk.heap.room c.reserve_part.new.store.desk.heap.room c.hand_on.new.store.desk.heap.room _ c.reserve_part.ensures.rest.room (c.hand_on.ensures.hands (core_in c.args.code.now) f).used)
+
 pub returns-clause-work : goal.returns-clause-work
 returns-clause-work c = ap (λ (q : QueuesState). q.region.work) c.hand_on.ensures.queues ∙ c.reserve_part.ensures.rest.work
 
@@ -88,3 +97,6 @@ returns-in_err-reserve_part-clause-blocks c = λ b is.
     let a = c.chosen-part.ensures in
     makes_chosen (map plain_node c.args.code.now) c.args.store.now.queues c.reserve_part.new.store.queues _ a.0 b c.args.yes c.args.no c.chosen-part.result _ a.1 is a.2 c.frame_at-frame.ensures
     c.reserve_part.ensures.most
+
+pub returns-in_err-reserve_part-clause-adds : goal.returns-in_err-reserve_part-clause-adds
+returns-in_err-reserve_part-clause-adds c = λ b is. used_less c.args.store.now.desk.heap.room c.reserve_part.new.store.desk.heap.room _ c.reserve_part.ensures.rest.room

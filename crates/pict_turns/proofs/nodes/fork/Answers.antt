@@ -10,6 +10,7 @@ use Rattle.pict_desk.specs.Code.{core_in}
 use Rattle.pict_blocks.specs.Parts.{block_width}
 use Rattle.pict_turns.specs.Turns.{turn_cost}
 use Rattle.pict_turns.specs.Widths.{MakesOnly}
+use Rattle.pict_turns.proofs.Adding.{used_less, adds_parts}
 use Rattle.pict_turns.proofs.Handing.{handed_pairs}
 use Rattle.pict_turns.proofs.Making.{makes_before, makes_parts}
 use Rattle.pict_turns.proofs.Numbered.{coded_inside, fork_parts}
@@ -105,6 +106,12 @@ returns-clause-blocks c =
     makes_parts (map plain_node c.args.code.now) old last c.args.left c.args.right _ _ c.frame_at-first.ensures c.frame_at-second.ensures
     (makes_before old handed last needed (subst (λ (q : QueuesState). MakesOnly old q needed) (sym c.hand_on.ensures.queues) c.reserve_parts.ensures.most) c.spawn_part.ensures.blocks)
 
+pub returns-clause-adds : goal.returns-clause-adds
+returns-clause-adds c =
+    let f = coded_frame c.args.code.now c.requires.code c.args.left c.frame_at-first.result.now c.frame_at-first.ensures in
+    adds_parts (map plain_node c.args.code.now) c.args.store.now c.reserve_parts.new.store c.hand_on.new.store c.spawn_part.new.store c.args.left c.args.right _ _ c.frame_at-first.ensures c.frame_at-second.ensures
+    c.reserve_parts.ensures.rest.room (c.hand_on.ensures.hands (core_in c.args.code.now) f).used c.spawn_part.ensures.spawns.used
+
 pub returns-clause-cost : goal.returns-clause-cost
 returns-clause-cost c = λ second is.
     let old = c.args.store.now.queues in
@@ -123,6 +130,9 @@ pub returns-in_err-reserve_parts-clause-blocks : goal.returns-in_err-reserve_par
 returns-in_err-reserve_parts-clause-blocks c =
     makes_parts (map plain_node c.args.code.now) c.args.store.now.queues c.reserve_parts.new.store.queues c.args.left c.args.right _ _ c.frame_at-first.ensures c.frame_at-second.ensures
     c.reserve_parts.ensures.most
+
+pub returns-in_err-reserve_parts-clause-adds : goal.returns-in_err-reserve_parts-clause-adds
+returns-in_err-reserve_parts-clause-adds c = used_less c.args.store.now.desk.heap.room c.reserve_parts.new.store.desk.heap.room _ c.reserve_parts.ensures.rest.room
 
 pub returns-in_err-reserve_parts-clause-cost : goal.returns-in_err-reserve_parts-clause-cost
 returns-in_err-reserve_parts-clause-cost c = λ second is.

@@ -11,6 +11,7 @@ use Rattle.pict_desk.specs.Code.{core_in}
 use Rattle.pict_blocks.specs.Parts.{block_width}
 use Rattle.pict_desk.specs.Room.{frame_need}
 use Rattle.pict_turns.specs.Widths.{MakesOnly}
+use Rattle.pict_turns.proofs.Adding.{used_after, used_less, used_same, adds_part}
 use Rattle.pict_turns.proofs.Handing.{handed_cost}
 use Rattle.pict_turns.proofs.Making.{makes_before, makes_part}
 use Rattle.pict_turns.proofs.Numbered.{coded_inside, new_part}
@@ -86,6 +87,17 @@ returns-clause-blocks c =
     makes_part (map plain_node c.args.code.now) old last c.args.part _ c.frame_at-frame.ensures
     (subst (λ (q : QueuesState). MakesOnly old q needed) (sym c.hand_on.ensures.queues) (makes_before old mid opened needed c.reserve_channel.ensures.most same))
 
+pub returns-clause-adds : goal.returns-clause-adds
+returns-clause-adds c =
+    let old = c.args.store.now in
+    let mid = c.reserve_channel.new.store in
+    let opened = c.add_channel.new.store in
+    let last = c.hand_on.new.store in
+    let f = coded_frame c.args.code.now c.requires.code c.args.part c.frame_at-frame.result.now c.frame_at-frame.ensures in
+    adds_part (map plain_node c.args.code.now) old last c.args.part _ c.frame_at-frame.ensures
+    (used_after old.desk.heap.room mid.desk.heap.room last.desk.heap.room _ c.reserve_channel.ensures.rest.room
+    (used_same mid.desk.heap opened.desk.heap last.desk.heap.room _ c.add_channel.ensures.heap (c.hand_on.ensures.hands (core_in c.args.code.now) f).used))
+
 pub returns-clause-work : goal.returns-clause-work
 returns-clause-work c =
     ap (λ (q : QueuesState). q.region.work) c.hand_on.ensures.queues ∙ ap (λ (r : RegionState). r.work) c.add_channel.ensures.region ∙ c.reserve_channel.ensures.rest.work
@@ -97,3 +109,6 @@ returns-in_err-reserve_channel-clause-refused c =
 pub returns-in_err-reserve_channel-clause-blocks : goal.returns-in_err-reserve_channel-clause-blocks
 returns-in_err-reserve_channel-clause-blocks c =
     makes_part (map plain_node c.args.code.now) c.args.store.now.queues c.reserve_channel.new.store.queues c.args.part _ c.frame_at-frame.ensures c.reserve_channel.ensures.most
+
+pub returns-in_err-reserve_channel-clause-adds : goal.returns-in_err-reserve_channel-clause-adds
+returns-in_err-reserve_channel-clause-adds c = used_less c.args.store.now.desk.heap.room c.reserve_channel.new.store.desk.heap.room _ c.reserve_channel.ensures.rest.room

@@ -1,3 +1,4 @@
+use Rattle.std.specs.Prelude.{vec_len}
 use Rattle.std.proofs.Common.{◌≡◌, ◌∙◌, ◌+◌, ◌-◌, ◌++◌, ℕ, List, length, refl, ap, sym, arith, length-append}
 use Rattle.pict_core.specs.Term as term
 use Rattle.pict_heap.specs.HeapState.{text_of}
@@ -73,17 +74,50 @@ pub returns-clause-keeps : goal.returns-clause-keeps
 unfolding after
 returns-clause-keeps c = kept_by_text c.self.inside (after c) _ (joined c) c.self.view_is c.self.invariant (adds c)
 
+texts_exactly : (c : goal.After-push_reserved) → vec_len c.push_reserved.new.self ≡ c.args.self.now.room.used.texts + 1
+texts_exactly c = let e = ap (λ h. h.room.used.texts) c.self.view_is in let f = c.push_reserved.ensures.len in omega (arith, e, f)
+
+bytes_exactly : (c : goal.After-push_reserved) → vec_len c.append_slices-text.new.list ≡ c.args.self.now.room.used.bytes + (length (text_of c.args.self.now c.args.a) + length (text_of c.args.self.now c.args.b))
+bytes_exactly c =
+    let e = ap (λ h. h.room.used.bytes) c.self.view_is in
+    let f = c.append_slices-text.ensures.len in
+    let a = slice_length c.self.inside _ _ _ (first c) in
+    let b = slice_length c.self.inside _ _ _ (second c) in
+    omega (arith, e, f, a, b)
+
 pub returns-clause-room : goal.returns-clause-room
-returns-clause-room c = record {
-  records_left = omega (arith, ap (λ h. h.room.records) c.self.view_is);
-  fields_left = omega (arith, ap (λ h. h.room.fields) c.self.view_is);
-  texts_left = omega (arith, ap (λ h. h.room.texts) c.self.view_is, c.push_reserved.ensures.len, c.push_reserved.ensures.capacity);
-  bytes_left = omega (
-    arith,
-    ap (λ h. h.room.bytes) c.self.view_is,
-    c.append_slices-text.ensures.len,
-    c.append_slices-text.ensures.capacity,
-    slice_length c.self.inside _ _ _ (first c),
-    slice_length c.self.inside _ _ _ (second c),
-  );
+returns-clause-room c =
+    let records = ap (λ h. h.room.records) c.self.view_is in
+    let fields = ap (λ h. h.room.fields) c.self.view_is in
+    let texts = ap (λ h. h.room.texts) c.self.view_is in
+    let bytes = ap (λ h. h.room.bytes) c.self.view_is in
+    let some_records = ap (λ h. h.room.used.records) c.self.view_is in
+    let some_fields = ap (λ h. h.room.used.fields) c.self.view_is in
+    let more_texts = texts_exactly c in
+    let more_bytes = bytes_exactly c in
+    let a = slice_length c.self.inside _ _ _ (first c) in
+    let b = slice_length c.self.inside _ _ _ (second c) in
+    record {
+      records_left = omega (arith, records);
+      fields_left = omega (arith, fields);
+      texts_left = omega (arith, texts, c.push_reserved.ensures.len, c.push_reserved.ensures.capacity);
+      bytes_left = omega (arith, bytes, c.append_slices-text.ensures.len, c.append_slices-text.ensures.capacity, a, b);
+      records_more = omega (arith, some_records);
+      fields_more = omega (arith, some_fields);
+      texts_more = omega (arith, more_texts);
+      bytes_more = omega (arith, more_bytes);
+      kept = record {
+        records = omega (arith, records, some_records);
+        fields = omega (arith, fields, some_fields);
+        texts = omega (arith, texts, more_texts, c.push_reserved.ensures.len, c.push_reserved.ensures.capacity);
+        bytes = omega (arith, bytes, more_bytes, c.append_slices-text.ensures.len, c.append_slices-text.ensures.capacity, a, b);
+      };
+    }
+
+pub returns-clause-grows : goal.returns-clause-grows
+returns-clause-grows c = record {
+  records_more = let e = ap (λ h. h.room.used.records) c.self.view_is in omega (arith, e);
+  fields_more = let e = ap (λ h. h.room.used.fields) c.self.view_is in omega (arith, e);
+  texts_more = texts_exactly c;
+  bytes_more = bytes_exactly c;
 }

@@ -13,6 +13,8 @@ use Rattle.pict_machine.specs.Needs.{MakesNeeded}
 use Rattle.pict_machine.specs.Plain.{ActsPlainly, TakesNothing}
 use Rattle.pict_machine.specs.Work.{Fits}
 use Rattle.pict_machine.proofs.Needing.{running_needs}
+use Rattle.pict_machine.specs.Growing.{AddsNeeded}
+use Rattle.pict_machine.proofs.Adding.{running_adds}
 use Rattle.pict_machine.proofs.Plainly.{plainly_given}
 use Rattle.pict_machine.proofs.Working.{running_works}
 use Rattle.pict_machine.proofs.machine.Machine.advance.Goals as goal
@@ -53,6 +55,7 @@ returns c =
     let step = subst (λ (code : List Node). IsStepBy (core_in code) mid new c.act.result) c.deref-2.ensures.value c.act.ensures.step in
     let work = subst (λ (code : List Node). Fits (core_in code) mid new) c.deref-2.ensures.value c.act.ensures.work in
     let blocks = subst (λ (code : List Node). MakesNeeded (core_in code) mid new) c.deref-2.ensures.value c.act.ensures.blocks in
+    let adds = subst (λ (code : List Node). AddsNeeded (core_in code) mid new) c.deref-2.ensures.value c.act.ensures.adds in
     let plain = subst (λ (code : List Node). ActsPlainly (core_in code) mid (acting_words (core_in code) mid) → TakesNothing mid new c.act.result) c.deref-2.ensures.value c.act.ensures.plain in
     record {
       kept = step_kept old mid new given c.requires.kept c.requires.right c.act.result step;
@@ -62,6 +65,7 @@ returns c =
       keeps = step_keeps old mid new given c.requires.kept c.act.result step;
       work = running_works core old.store mid new given work;
       blocks = running_needs core old.store mid new given blocks;
+      adds = running_adds core old.store mid new given adds;
       plain = λ m. let x = plain (plainly_given core old.store mid given m) in (x.0, λ width. x.1 width ∙ given.blocks width);
       code = refl;
       channels = step_few old mid new given c.requires.kept c.act.result step;

@@ -28,8 +28,8 @@ returns-then-not-is_passed c = record {
     past = c.loop-step.invariant.past;
     then = (omega arith, record { step = c.in-Ok.ensures.ok; event = c.in-Ok.ensures.event });
   };
-  spends = spends_on c.args.self.now c.loop-step.self c.advance.new.self c.loop-step.step 1 _ c.loop-step.invariant.spends (spends_one c.loop-step.self c.advance.new.self c.loop-step.invariant.kept c.in-Ok.ensures.code c.in-Ok.ensures.work c.in-Ok.ensures.blocks c.in-Ok.ensures.queues) (omega arith);
-  spends_passed = spends_on c.args.self.now c.loop-step.self c.advance.new.self c.loop-step.step 1 _ c.loop-step.invariant.spends (spends_one c.loop-step.self c.advance.new.self c.loop-step.invariant.kept c.in-Ok.ensures.code c.in-Ok.ensures.work c.in-Ok.ensures.blocks c.in-Ok.ensures.queues) (omega arith);
+  spends = spends_on c.args.self.now c.loop-step.self c.advance.new.self c.loop-step.step 1 _ c.loop-step.invariant.spends (spends_one c.loop-step.self c.advance.new.self c.loop-step.invariant.kept c.in-Ok.ensures.code c.in-Ok.ensures.work c.in-Ok.ensures.blocks c.in-Ok.ensures.queues c.in-Ok.ensures.adds.kept) (omega arith);
+  spends_passed = spends_on c.args.self.now c.loop-step.self c.advance.new.self c.loop-step.step 1 _ c.loop-step.invariant.spends (spends_one c.loop-step.self c.advance.new.self c.loop-step.invariant.kept c.in-Ok.ensures.code c.in-Ok.ensures.work c.in-Ok.ensures.blocks c.in-Ok.ensures.queues c.in-Ok.ensures.adds.kept) (omega arith);
   keeps = keeps_more _ _ _ c.loop-step.invariant.keeps c.in-Ok.ensures.keeps;
   channels = let k = c.in-Ok.ensures.channels in omega arith;
   made = let k = c.in-Ok.ensures.channels in omega arith;
@@ -41,7 +41,7 @@ loop-step-preserved c =
     record {
       kept = c.in-Ok.ensures.kept;
       few = let k = c.in-Ok.ensures.channels in omega arith;
-      spends = spends_on c.args.self.now c.loop-step.self c.advance.new.self c.loop-step.step 1 _ c.loop-step.invariant.spends (spends_one c.loop-step.self c.advance.new.self c.loop-step.invariant.kept c.in-Ok.ensures.code c.in-Ok.ensures.work c.in-Ok.ensures.blocks c.in-Ok.ensures.queues) (omega arith);
+      spends = spends_on c.args.self.now c.loop-step.self c.advance.new.self c.loop-step.step 1 _ c.loop-step.invariant.spends (spends_one c.loop-step.self c.advance.new.self c.loop-step.invariant.kept c.in-Ok.ensures.code c.in-Ok.ensures.work c.in-Ok.ensures.blocks c.in-Ok.ensures.queues c.in-Ok.ensures.adds.kept) (omega arith);
       keeps = keeps_more _ _ _ c.loop-step.invariant.keeps c.in-Ok.ensures.keeps;
       past = one_past _ _ (heap_of c.advance.new.self) _ _ _ _ c.loop-step.invariant.past past c.in-Ok.ensures.ok;
     }
@@ -56,10 +56,10 @@ loop-step-init c = record {
 }
 
 pub returns-in-Err-clause-spends : goal.returns-in-Err-clause-spends
-returns-in-Err-clause-spends c = spends_on c.args.self.now c.loop-step.self c.advance.new.self c.loop-step.step 1 _ c.loop-step.invariant.spends (spends_one c.loop-step.self c.advance.new.self c.loop-step.invariant.kept c.in-Err.ensures.code c.in-Err.ensures.work c.in-Err.ensures.blocks c.in-Err.ensures.queues) (omega arith)
+returns-in-Err-clause-spends c = spends_on c.args.self.now c.loop-step.self c.advance.new.self c.loop-step.step 1 _ c.loop-step.invariant.spends (spends_one c.loop-step.self c.advance.new.self c.loop-step.invariant.kept c.in-Err.ensures.code c.in-Err.ensures.work c.in-Err.ensures.blocks c.in-Err.ensures.queues c.in-Err.ensures.adds.kept) (omega arith)
 
 pub returns-in-Err-clause-spends_passed : goal.returns-in-Err-clause-spends_passed
-returns-in-Err-clause-spends_passed c = spends_on c.args.self.now c.loop-step.self c.advance.new.self c.loop-step.step 1 _ c.loop-step.invariant.spends (spends_one c.loop-step.self c.advance.new.self c.loop-step.invariant.kept c.in-Err.ensures.code c.in-Err.ensures.work c.in-Err.ensures.blocks c.in-Err.ensures.queues) (omega arith)
+returns-in-Err-clause-spends_passed c = spends_on c.args.self.now c.loop-step.self c.advance.new.self c.loop-step.step 1 _ c.loop-step.invariant.spends (spends_one c.loop-step.self c.advance.new.self c.loop-step.invariant.kept c.in-Err.ensures.code c.in-Err.ensures.work c.in-Err.ensures.blocks c.in-Err.ensures.queues c.in-Err.ensures.adds.kept) (omega arith)
 
 pub returns-then-not-has_next-clause-spends : goal.returns-then-not-has_next-clause-spends
 returns-then-not-has_next-clause-spends c = spends_up c.args.self.now c.loop-step.self c.loop-step.step _ c.loop-step.invariant.spends (omega arith)

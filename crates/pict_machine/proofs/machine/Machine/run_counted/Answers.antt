@@ -2,7 +2,7 @@ use Rattle.std.proofs.Common.{sym, subst, arith}
 use Rattle.pict_view.specs.Right.{IsRightFor}
 use Rattle.pict_view.specs.View.{View, StandsFor}
 use Rattle.pict_view.specs.Watching.{Saw, SawOrTore, RanFor, BrokeOff}
-use Rattle.pict_heap.specs.HeapState.{HeapState, KeepsWords}
+use Rattle.pict_heap.specs.HeapState.{HeapState, KeepsWords, LosesNoRoom}
 use Rattle.pict_machine.specs.Events.{end_of}
 use Rattle.pict_machine.specs.Machine.{view_of, running_view, heap_of}
 use Rattle.pict_machine.proofs.Bounding.{rested_work, rested_blocks}
@@ -41,3 +41,6 @@ returns-clause-blocks g c = rested_blocks c.args.self.now c.run_on-answer.new.se
 
 pub returns-clause-queues : goal.returns-clause-queues
 returns-clause-queues g c = let first = c.run_on-answer.ensures.spends.queues in let then_ = c.rest.ensures.queues in omega (arith, first, then_)
+
+pub returns-clause-room : goal.returns-clause-room
+returns-clause-room g c = subst (λ (h : HeapState). LosesNoRoom (heap_of c.args.self.now).room h.room) (sym c.rest.ensures.heap) c.run_on-answer.ensures.spends.room

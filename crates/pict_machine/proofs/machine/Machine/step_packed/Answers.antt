@@ -19,6 +19,8 @@ use Rattle.pict_machine.specs.Plain.{ActsPlainly, TakesNothing}
 use Rattle.pict_machine.specs.Stepping.{MayAct, IsStepBy}
 use Rattle.pict_machine.specs.Work.{Fits}
 use Rattle.pict_machine.proofs.Needing.{needed_whole}
+use Rattle.pict_machine.specs.Growing.{AddsNeeded}
+use Rattle.pict_machine.proofs.Adding.{whole_adds}
 use Rattle.pict_machine.proofs.Plainly.{plainly_given, idle_plainly}
 use Rattle.pict_machine.proofs.Steps.{idle_view, step_kept, whole_kept, whole_ok, whole_event, whole_trapped, whole_refused, whole_keeps, whole_few, whole_queues}
 use Rattle.pict_machine.proofs.Taking.{first_given, may_act}
@@ -85,6 +87,7 @@ returns c =
     let step = subst (λ (code : List Node). IsStepBy (core_in code) taken acted result) c.deref-2.ensures.value c.act-result.ensures.step in
     let work = subst (λ (code : List Node). Fits (core_in code) taken acted) c.deref-2.ensures.value c.act-result.ensures.work in
     let blocks = subst (λ (code : List Node). MakesNeeded (core_in code) taken acted) c.deref-2.ensures.value c.act-result.ensures.blocks in
+    let adds = subst (λ (code : List Node). AddsNeeded (core_in code) taken acted) c.deref-2.ensures.value c.act-result.ensures.adds in
     let plain = subst (λ (code : List Node). ActsPlainly (core_in code) taken (acting_words (core_in code) taken) → TakesNothing taken acted result) c.deref-2.ensures.value c.act-result.ensures.plain in
     let back = c.return_turn.ensures in
     let store = subst (λ (code : List Node). IsStore (core_in code) new) c.deref-4.ensures.value back.store in
@@ -101,6 +104,7 @@ returns c =
       keeps = whole_keeps old kept taken acted new acting takes given heap ready back.others back.queues result step;
       work = step_works core old.store taken acted given work new kept.idle after;
       blocks = needed_whole core old.store taken acted given blocks new kept.idle back.blocks;
+      adds = whole_adds core old.store taken acted given adds new kept.idle heap;
       plain = λ m.
           let x = plain (plainly_given core old.store taken given (idle_plainly core old.store kept.idle m)) in
           (x.0, λ width. back.blocks width ∙ x.1 width ∙ takes.blocks width);
