@@ -1,6 +1,7 @@
 -- What a step needs of the heap, from the clauses of what it does.
-use Rattle.std.proofs.Common.{ℕ, zero, suc, ◌+◌, ◌≡◌, ◌≢◌, ◌||◌, Bool, true, false, if◌then◌else◌, List, [], ◌∷◌, refl, sym, ap, ◌∙◌, subst, arith, Option, Some, None, IsSome, option_map, unwrap_or, map}
+use Rattle.std.proofs.Common.{ℕ, zero, suc, ◌+◌, ◌≡◌, ◌≢◌, ◌||◌, Bool, true, false, if◌then◌else◌, inl, inr, List, [], ◌∷◌, refl, sym, ap, ◌∙◌, subst, arith, Option, Some, None, IsSome, option_map, unwrap_or, map}
 use Rattle.std.specs.List.{slice_get}
+use Rattle.std.proofs.lemmas.Bool.Decides.{nat_tests}
 use Rattle.pict_syntax.specs.declared.span.Span.{Span}
 use Rattle.pict_syntax.specs.declared.primitive.Primitive.{Primitive}
 use Rattle.pict_core.specs.Closed.{IsClosed, IsUnder}
@@ -26,7 +27,7 @@ use Rattle.pict_desk.specs.AtHand.{IsOfHeap}
 use Rattle.pict_desk.specs.Constants.{HasNoVariable, HaveNoVariable, LabelledHaveNone}
 use Rattle.pict_desk.specs.Code.{core_in, IsCode}
 use Rattle.pict_desk.specs.declared.desk.Desk.{Desk}
-use Rattle.pict_desk.proofs.MakingRoom.{uses_nothing}
+use Rattle.pict_desk.proofs.MakingRoom.{uses_nothing, need_narrow}
 use Rattle.pict_desk.proofs.Nodes.{is_if, op_is}
 use Rattle.pict_desk.proofs.OperandsAround.{same_operand}
 use Rattle.pict_desk.proofs.Parts.{node_with, if_stands}
@@ -41,17 +42,22 @@ use Rattle.pict_turns.specs.Growing.{AddsAtMost, part_need}
 use Rattle.pict_turns.specs.Views.{acting_words, ready_words}
 use Rattle.pict_turns.specs.declared.store.Store.{Store}
 use Rattle.pict_turns.specs.declared.turn.Turn.TheVariants.{Nobody}
-use Rattle.pict_turns.proofs.Adding.{used_with, used_less, used_same}
+use Rattle.pict_turns.proofs.Adding.{used_with, used_less, used_same, part_need_is}
 use Rattle.pict_turns.proofs.Numbered.{standing, test_boolean}
 use Rattle.pict_turns.proofs.Turns.{words_nobody, ready_nobody, ready_is}
+use Rattle.pict_machine.specs.Plain.{IsPlainInput, NeedsNoWord, HasWord, HasPlainRoom, ActsPlainly, MeetsPlainly}
 use Rattle.pict_machine.specs.Stepping.{GivesTurn}
 use Rattle.pict_machine.specs.Growing.{has_variable, have_variable, labelled_have, message_need, given_need, input_need, served_need, taken_need, output_need, receipt_need, choice_need, node_need, block_need, words_need, first_need, heap_need, running_need, AddsNeeded}
 
 -- ---- operands without variables
 
+or_neither : (a b : Bool) → a ≡ false → b ≡ false → a || b ≡ false
+or_neither true b e f = cc
+or_neither false b e f = f
+
 neither : (a b c d : Bool) → a || b ≡ false → (a ≡ false → c ≡ false) → (b ≡ false → d ≡ false) → c || d ≡ false
 neither true b c d none f g = cc
-neither false b c d none f g = let e = f refl in let h = g none in cc
+neither false b c d none f g = or_neither c d (f refl) (g none)
 
 mutual
   none_there : (v : Val) → has_variable v ≡ false → HasNoVariable v
@@ -321,3 +327,91 @@ module _ (code : List written.Node) (is : IsCode (map plain_node code)) (s : Sto
       adds_by (core_in code) s new _
       (node_adds (core_in code) s (op.If test left right) a ∙ ap (choice_need (nodes_of (core_in code)) left right) (p.2 ∙ ap (λ v. term.If v p.0 p.1) b.1))
       (subst (λ (ns : List Node). AddsAtMost s new (part_need ns (if b.0 then left else right))) (sym is.nodes_are) (adds b.0 b.1))
+
+-- ---- a plain meeting needs nothing
+
+or_left : (a b : Bool) → a || b ≡ false → a ≡ false
+or_left true b h = cc
+or_left false b h = refl
+
+or_right : (a b : Bool) → a || b ≡ false → b ≡ false
+or_right true b h = cc
+or_right false b h = h
+
+mutual
+  no_variable : (v : Val) → HasNoVariable v → has_variable v ≡ false
+  no_variable (term.Var l) none = let e = none l in absurd (grind (arith, nat_tests, e))
+  no_variable (term.Chan c) none = refl
+  no_variable (term.Int i) none = refl
+  no_variable (term.Char b) none = refl
+  no_variable (term.Boolean b) none = refl
+  no_variable (term.Text bytes) none = refl
+  no_variable (term.PrimitiveVal p) none = refl
+  no_variable (term.Record vs ls) none =
+      or_neither (have_variable vs) (labelled_have ls) (no_variable_in vs (λ level. or_left _ _ (none level))) (no_labelled_variable ls (λ level. or_right (in_values level vs) _ (none level)))
+
+  no_variable_in : (vs : Vals) → HaveNoVariable vs → have_variable vs ≡ false
+  no_variable_in term.no_vals none = refl
+  no_variable_in (term.more_vals v vs) none =
+      or_neither (has_variable v) (have_variable vs) (no_variable v (λ level. or_left _ _ (none level))) (no_variable_in vs (λ level. or_right (in_value level v) _ (none level)))
+
+  no_labelled_variable : (ls : Labelled) → LabelledHaveNone ls → labelled_have ls ≡ false
+  no_labelled_variable term.no_labelled none = refl
+  no_labelled_variable (term.more_labelled label v ls) none =
+      or_neither (has_variable v) (labelled_have ls) (no_variable v (λ level. or_left _ _ (none level))) (no_labelled_variable ls (λ level. or_right (in_value level v) _ (none level)))
+
+plain_message : (v : Val) → (IsOfHeap v → HasNoVariable v) → message_need v ≡ no_need
+plain_message (term.Var l) none = refl
+plain_message (term.Chan c) none = refl
+plain_message (term.Int i) none = refl
+plain_message (term.Char b) none = refl
+plain_message (term.Boolean b) none = refl
+plain_message (term.Text bytes) none = refl
+plain_message (term.PrimitiveVal p) none = refl
+plain_message (term.Record vs ls) none = ap (λ b. if b then need_of (term.Record vs ls) else no_need) (no_variable (term.Record vs ls) (none tt))
+
+-- what is found of a node is that of its instruction
+found : (f : Op → Need) (o : Option Node) (p : Op) → option_map (λ (n : Node). n.op) o ≡ Some p → unwrap_or (option_map (λ (n : Node). f n.op) o) no_need ≡ f p
+found f None p e = cc
+found f (Some n) p e =
+    let there : Some n.op ≡ Some p = e in
+    let same : n.op ≡ p = cc in
+    ap f same
+
+module _ (core : Process) (s : Store) where
+  narrow_part : (part : ℕ) (acting waiting : List ℕ) → HasPlainRoom core s part acting waiting → part_need (nodes_of core) part ≡ no_need
+  narrow_part part acting waiting room = part_need_is (nodes_of core) part room.frame room.has ∙ need_narrow room.frame room.narrow
+
+  served_plainly : (waiting : List ℕ) (others : List (List ℕ)) (part : ℕ) → IsPlainInput (nodes_of core) waiting part → served_need (nodes_of core) (waiting ∷ others) ≡ part_need (nodes_of core) part
+  served_plainly [] others part i = let e = i.is in cc
+  served_plainly (zero ∷ held) others part i = let e = i.is in cc
+  served_plainly (suc number ∷ held) others part i = found (input_need (nodes_of core)) (slice_get (nodes_of core) number) (op.In i.chan i.pattern part) i.is
+
+  wordless : (words : List ℕ) (p : Process) (c : ℕ) (v : Val) (at : Span) → HasWord (nodes_of core) words → p ≡ term.Out (Chan c) v at
+      → block_need (nodes_of core) s.queues words p ≡ both_needs no_need (served_need (nodes_of core) (contents s.queues (c + 1)))
+  wordless [] p c v at word is = absurd word
+  wordless (zero ∷ held) p c v at word is = ap (output_need (nodes_of core) s.queues no_need no_need) is
+  wordless (suc number ∷ held) p c v at word is =
+      let out : NeedsNoWord (nodes_of core) (suc number ∷ held) = word in
+      found (λ o. node_need (nodes_of core) s.queues o p) (slice_get (nodes_of core) number) (op.Out out.chan out.message out.at) out.is
+      ∙ ap (output_need (nodes_of core) s.queues (message_need out.message) (given_need out.message)) is
+      ∙ ap (λ (n : Need). both_needs n (served_need (nodes_of core) (contents s.queues (c + 1)))) (plain_message out.message out.needs_none)
+
+  received_plainly : (acting : List ℕ) (part c : ℕ) (p : Process) (form : Pat) (body : Process) → IsPlainInput (nodes_of core) acting part → p ≡ term.In (Chan c) false form body
+      → block_need (nodes_of core) s.queues acting p ≡ taken_need (nodes_of core) part (contents s.queues (c + 1))
+  received_plainly [] part c p form body i is = let e = i.is in cc
+  received_plainly (zero ∷ held) part c p form body i is = let e = i.is in cc
+  received_plainly (suc number ∷ held) part c p form body i is =
+      found (λ o. node_need (nodes_of core) s.queues o p) (slice_get (nodes_of core) number) (op.In i.chan i.pattern part) i.is ∙ ap (receipt_need (nodes_of core) s.queues part) is
+
+  acts_plainly : (acting : List ℕ) → ActsPlainly core s acting → words_need core s acting ≡ no_need
+  acts_plainly acting (inl x) =
+      wordless acting (process_of core (value_in s.desk.heap) acting) x.channel x.message x.at x.word x.out
+      ∙ ap (λ (ws : List (List ℕ)). both_needs no_need (served_need (nodes_of core) ws)) x.waits
+      ∙ ap (both_needs no_need) (served_plainly x.waiting x.others x.part x.input ∙ narrow_part x.part acting x.waiting x.room)
+  acts_plainly acting (inr x) =
+      received_plainly acting x.part x.channel (process_of core (value_in s.desk.heap) acting) x.pattern x.body x.input x.receives
+      ∙ ap (taken_need (nodes_of core) x.part) x.waits ∙ narrow_part x.part acting (zero ∷ x.held) x.room
+
+  pub plain_need : MeetsPlainly core s → heap_need core s ≡ no_need
+  plain_need m = ap (first_need core s) m.first ∙ acts_plainly m.acting m.plainly

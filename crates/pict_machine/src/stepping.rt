@@ -4,6 +4,7 @@ ghost use Rattle.pict_core.specs.Configuration.{Configuration, IsConfiguration};
 ghost use Rattle.pict_code.specs.Plain.{plain_node};
 ghost use Rattle.pict_heap.specs.HeapState.{KeepsWords};
 ghost use Rattle.pict_prim.specs.Acts.{UsesNeed};
+ghost use Rattle.pict_desk.specs.Needs.{no_need};
 ghost use Rattle.pict_view.specs.Right.{IsRightFor};
 ghost use Rattle.pict_view.specs.Stepping.{IsStepOf};
 ghost use Rattle.pict_view.specs.View.{StandsFor};
@@ -77,7 +78,7 @@ impl Machine {
     /// needs: those of an operand with a variable that is sent, or of its fields where it is given to a primitive, what a primitive
     /// answers, and a record for each part whose frame is too large to stand in a block. No room of it is lost. Where a message and
     /// an input that isn't replicated meet, what is sent is no operand that is a text or a record with a variable, and the block of
-    /// the input's part is as wide as a free one or one of the two that meet, no memory is taken.
+    /// the input's part is as wide as a free one or one of the two that meet, no memory is taken, and nothing is added to the heap.
     ///
     /// The step may not be wrong: some configuration that the machine stands for takes it rightly. A wrong step is one that
     /// sends to or receives from what is no channel, tests what is no Bool, gives a primitive what it doesn't take, or
@@ -97,6 +98,7 @@ impl Machine {
         ensures work { CostsAtMost (cost_of self.old) (queues_of self.old) (queues_of self.new) }
         ensures blocks { MakesOnly (queues_of self.old) (queues_of self.new) (widths_of self.old) }
         ensures adds { UsesNeed (heap_of self.old).room (heap_of self.new).room (heap_need_of self.old) }
+        ensures plain_adds { MeetsPlainly self.old → UsesNeed (heap_of self.old).room (heap_of self.new).room no_need }
         ensures plain { MeetsPlainly self.old
             → IsOk result × KeepsBlocks (queues_of self.old).region (queues_of self.new).region }
         ensures channels { channels_of self.new ≤ channels_of self.old + 1 }

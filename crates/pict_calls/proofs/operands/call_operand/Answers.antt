@@ -1,13 +1,13 @@
-use Rattle.std.proofs.Common.{◌≡◌, IsSome, Some, sym, ap, refl, subst}
+use Rattle.std.proofs.Common.{◌≡◌, ◌∙◌, ℕ, List, length, IsSome, Some, sym, ap, refl, subst}
 use Rattle.pict_core.specs.Primitives.{effect_of}
 use Rattle.pict_core.specs.Term.{Val}
 use Rattle.pict_calls.specs.Calling.{CallsOn, argument_need}
 use Rattle.pict_core.specs.Plain.{plain_val}
 use Rattle.pict_prim.specs.Acts.{answer_need}
 use Rattle.pict_prim.specs.declared.act.Need.{Need}
-use Rattle.pict_desk.specs.Needs.{both_needs}
+use Rattle.pict_desk.specs.Needs.{both_needs, text_need}
 use Rattle.pict_desk.proofs.Reckoning.{labels_of, made_argument}
-use Rattle.pict_desk.proofs.Recording.{record_val}
+use Rattle.pict_desk.proofs.Recording.{record_val, plain_text}
 use Rattle.pict_turns.specs.Growing.{AddsAtMost}
 use Rattle.pict_turns.proofs.Adding.{used_beside, used_with}
 use Rattle.pict_calls.proofs.operands.call_operand.Goals as goal
@@ -41,7 +41,9 @@ returns-in-Fields-clause-adds c e effect =
 pub returns-in-Text-clause-adds : goal.returns-in-Text-clause-adds
 returns-in-Text-clause-adds c e effect =
     let s = c.args.store.now in
-    subst (λ (n : Need). AddsAtMost s c.print_text.new.store (both_needs n (answer_need e))) (sym (ap (λ m. argument_need (plain_val m)) c.in-Text.is))
+    let form = ap plain_val c.in-Text.is ∙ plain_text c.in-Text.bytes in
+    let need = ap argument_need form ∙ ap (λ (bytes : List ℕ). text_need (length bytes)) (sym c.slice.ensures) in
+    subst (λ (n : Need). AddsAtMost s c.print_text.new.store (both_needs n (answer_need e))) (sym need)
     (used_with s.desk.heap.room c.print_text.new.store.desk.heap.room _ _ c.print_text.ensures.adds)
 
 pub returns-in_default-clause-adds : goal.returns-in_default-clause-adds

@@ -1,6 +1,9 @@
-use Rattle.std.proofs.Common.{◌≡◌, sym, ap, ◌∙◌, Ok, refl}
+use Rattle.std.proofs.Common.{◌≡◌, sym, ap, ◌∙◌, Ok, refl, subst}
 use Rattle.pict_machine.specs.Events.{trap_of}
-use Rattle.pict_machine.specs.Machine.{heap_of, view_of}
+use Rattle.pict_prim.specs.Acts.{UsesNeed}
+use Rattle.pict_prim.specs.declared.act.Need.{Need}
+use Rattle.pict_machine.specs.Machine.{core_in, heap_of, view_of}
+use Rattle.pict_machine.proofs.Adding.{plain_need}
 use Rattle.pict_machine.specs.declared.event.Event.TheVariants as event
 use Rattle.pict_machine.proofs.Running.{seen_steps, trapped_packed}
 use Rattle.pict_machine.proofs.machine.Machine.step.Goals as goal
@@ -22,3 +25,13 @@ returns-in-Ok-clause-trapped c at is =
     let same : c.unpacked.result ≡ event.Trapped at = cc is in
     let trap = trapped_packed c.in-Ok.event at (sym (ap trap_of same) ∙ c.unpacked.ensures.trap) in
     c.step_packed.ensures.trapped at (c.in-Ok.is ∙ ap Ok trap)
+
+pub returns-in-Ok-clause-plain_adds : goal.returns-in-Ok-clause-plain_adds
+returns-in-Ok-clause-plain_adds c m =
+    let old = c.args.self.now in
+    subst (λ (n : Need). UsesNeed (heap_of old).room (heap_of c.step_packed.new.self).room n) (plain_need (core_in old) old.store m) c.step_packed.ensures.adds
+
+pub returns-in-Err-clause-plain_adds : goal.returns-in-Err-clause-plain_adds
+returns-in-Err-clause-plain_adds c m =
+    let old = c.args.self.now in
+    subst (λ (n : Need). UsesNeed (heap_of old).room (heap_of c.step_packed.new.self).room n) (plain_need (core_in old) old.store m) c.step_packed.ensures.adds
