@@ -47,7 +47,7 @@ returns-in-Some-clause-blocks c labelled e is =
     makes_same s.queues c.reserve_kept.new.store.queues (answering a.to a.answer) e (sym (a.effect labelled) ∙ is) c.reserve_kept.ensures.most
 
 pub returns-in-Some-clause-adds : goal.returns-in-Some-clause-adds
-returns-in-Some-clause-adds c labelled e is = used_less c.args.store.now.desk.heap.room c.reserve_kept.new.store.desk.heap.room _ c.reserve_kept.ensures.rest.room
+returns-in-Some-clause-adds c _ e _ = used_less c.args.store.now.desk.heap.room c.reserve_kept.new.store.desk.heap.room _ c.reserve_kept.ensures.rest.room
 
 pub returns-in_err-reserve_kept-clause-adds : goal.returns-in_err-reserve_kept-clause-adds
-returns-in_err-reserve_kept-clause-adds c labelled e is = used_less c.args.store.now.desk.heap.room c.reserve_kept.new.store.desk.heap.room _ c.reserve_kept.ensures.rest.room
+returns-in_err-reserve_kept-clause-adds c _ e _ = used_less c.args.store.now.desk.heap.room c.reserve_kept.new.store.desk.heap.room _ c.reserve_kept.ensures.rest.room

@@ -133,4 +133,4 @@ returns-clause-adds c labelled e is =
     (adds_same made last (effect_act made.desk.heap c.decide-act.result) e (sym effect ∙ is) c.finish.ensures.adds))
 
 pub returns-in_err-make_call_room-clause-adds : goal.returns-in_err-make_call_room-clause-adds
-returns-in_err-make_call_room-clause-adds c labelled e is = used_less c.args.store.now.desk.heap.room c.make_call_room.new.store.desk.heap.room _ c.make_call_room.ensures.rest.room
+returns-in_err-make_call_room-clause-adds c _ e _ = used_less c.args.store.now.desk.heap.room c.make_call_room.new.store.desk.heap.room _ c.make_call_room.ensures.rest.room
