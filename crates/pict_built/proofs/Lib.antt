@@ -4,3 +4,4 @@ pub mod Deciding
 pub mod Alike
 pub mod Written
 pub mod Sized
+pub mod Back

@@ -1,25 +1,23 @@
 -- What is read of the object of a process runs as that process.
-use Rattle.std.proofs.Common.{◌≡◌, ℕ, zero, suc, ◌+◌, ◌<◌, inl, inr, List, [], ◌∷◌, length, get_or, Option, Some, IsTrue, refl, sym, ◌∙◌, ap, ap₂, subst, unwrap_or, arith, if◌then◌else◌}
+use Rattle.std.proofs.Common.{◌≡◌, ℕ, ◌+◌, List, [], length, Option, Some, IsTrue, refl, sym, ◌∙◌, ap, ap₂, subst, unwrap_or, arith, if◌then◌else◌}
 use Rattle.std.specs.Prelude.{slice_get}
 use Rattle.std.specs.List.{list_any}
 use Rattle.std.specs.Str.{bytes_eq}
-use Rattle.std.proofs.lemmas.Bool.{cases_lt}
-use Rattle.std.proofs.lemmas.Option.{get_or_from_slice_get}
 use Rattle.pict_syntax.specs.declared.name.Name.{Name}
 use Rattle.pict_syntax.specs.Names.{text_of, number_of, HasNoRepeats}
 use Rattle.pict_syntax.proofs.NamesLemmas.{stands_there}
 use Rattle.pict_core.specs.Term.{Process}
 use Rattle.pict_core.specs.Step.{Label}
 use Rattle.pict_core.specs.Run.{End, Done, FuelSpent, Trap, Misshapen, Runs, bytes_of}
-use Rattle.pict_object.specs.Objects.{nowhere, process_bytes, place_in, TextsRise}
+use Rattle.pict_object.specs.Objects.{process_bytes, place_in}
 use Rattle.pict_object.specs.Cores.{ComesBefore, IsObject}
 use Rattle.pict_object.specs.Decoded.{IsDecoded}
-use Rattle.pict_object.specs.Dressing.{Dress, KeepsLabelsApart, dressed, dressed_end, dressed_labels, undressed, renumbered}
+use Rattle.pict_object.specs.Dressing.{Dress, KeepsLabelsApart, dressed, dressed_end, dressed_labels, undressed, anew}
 use Rattle.pict_object.specs.Heads.{own_labels}
 use Rattle.pict_object.specs.Reading.{label_in, whole_at}
 use Rattle.pict_object.proofs.Places.{number_below}
-use Rattle.pict_object.proofs.Tables.{Before, In, trans, not_itself, after_it}
-use Rattle.pict_object.proofs.Ordered.{in_at}
+use Rattle.pict_object.proofs.Tables.{In, not_itself, after_it}
+use Rattle.pict_object.proofs.Decoded.{places_up}
 use Rattle.pict_object.proofs.Objects.{has_text, own_label}
 use Rattle.pict_object.proofs.Whole.{without_places, labels_extend}
 use Rattle.pict_object.proofs.Again.{relabelled, whole_again}
@@ -27,36 +25,6 @@ use Rattle.pict_object.proofs.DressedSteps.{runs_are_dressed}
 use Rattle.pict_built.specs.Laws.{placeless, DecodedRunsAsWritten}
 use Rattle.pict_built.proofs.Labels.{own_names, own_number, own_length, one_head, decoded_distinct}
 use Rattle.pict_built.proofs.Alike.{alike}
-
--- ---- labels that rise have places that go up
-
-text_at_number : (table : List (List ℕ)) (text : List ℕ) → In text table → get_or table (number_of table text) [] ≡ text
-text_at_number table text h = get_or_from_slice_get table (number_of table text) text [] (stands_there table text h)
-
-texts_before : (before : List ℕ) (table : List (List ℕ)) → TextsRise before table → (j k : ℕ) → j < k → k < length table → Before (get_or table j []) (get_or table k [])
-texts_before before [] h j k l m = absurd (omega (arith, m))
-texts_before before (text ∷ table) h zero zero l m = absurd (omega (arith, l))
-texts_before before (text ∷ table) h zero (suc k) l m = after_it text (get_or table k []) table h.1 (in_at table k (omega (arith, m)))
-texts_before before (text ∷ table) h (suc j) zero l m = absurd (omega (arith, l))
-texts_before before (text ∷ table) h (suc j) (suc k) l m = texts_before text table h.1 j k (omega (arith, l)) (omega (arith, m))
-
-module _ (table : List (List ℕ)) (up : TextsRise [] table) (a b : List ℕ) (there : In a table) (also : In b table) where
-  -- of two texts at these places that of the lower one comes first
-  lower_before : number_of table b < number_of table a → Before b a
-  lower_before lower =
-      subst (λ x. Before x a) (text_at_number table b also)
-      (subst (Before (get_or table (number_of table b) [])) (text_at_number table a there) (texts_before [] table up (number_of table b) (number_of table a) lower (number_below table a there)))
-
-  places_up : Before a b → number_of table a < number_of table b
-  places_up first = elim (cases_lt (number_of table a) (number_of table b)) [
-    | inl lower ↦ lower
-    | inr upper ↦ elim (cases_lt (number_of table b) (number_of table a)) [
-      | inl lower ↦ absurd (not_itself a (trans a b a first (lower_before lower)))
-      | inr same ↦
-          let e : number_of table b ≡ number_of table a = omega (arith, upper, same) in
-          absurd (not_itself a (subst (Before a) (sym (text_at_number table b also) ∙ ap (λ k. get_or table k []) e ∙ text_at_number table a there) first))
-    ]
-  ]
 
 -- ---- what is read
 
@@ -85,7 +53,7 @@ module _ (names : List (List ℕ)) (bytes : List ℕ) (p : Process) (f : IsObjec
 
   -- other numbers for labels, among those of the object, which keep all labels apart
   abbrev by_label : Dress
-  by_label = record { label = renumbered names f.table; place = λ at. nowhere }
+  by_label = anew names f.table
 
   same_number : (l : ℕ) → Placed l → by_place.label l ≡ by_label.label l
   same_number l h = place_number l h ∙ sym (ap (λ there. if there then number_of f.table (text_of names l) else length f.table + l) h)

@@ -4,7 +4,7 @@ use Rattle.pict_syntax.specs.Names.{HasNoRepeats}
 use Rattle.pict_core.specs.Term.{Process}
 use Rattle.pict_core.specs.Step.{Label}
 use Rattle.pict_core.specs.Run.{End, Done, FuelSpent, Trap, Misshapen, Runs, bytes_of}
-use Rattle.pict_object.specs.Objects.{nowhere}
+use Rattle.pict_object.specs.Objects.{nowhere, bare}
 use Rattle.pict_object.specs.Cores.{IsObjectCore, IsObject}
 use Rattle.pict_object.specs.Decoded.{IsNoObject, IsDecoded}
 
@@ -39,3 +39,8 @@ DecodedRunsAsWritten =
     (names others : List (List ℕ)) (bytes : List ℕ) (p q : Process) → HasNoRepeats names → IsObject names bytes p → IsDecoded [] others bytes q
     → (fuel : ℕ) (end : End) (labels : List (ℕ × Label)) → Runs p fuel end labels
     → (shown : List (ℕ × Label)) × Runs q fuel (placeless end) shown × (bytes_of shown ≡ bytes_of labels)
+
+-- what was written is read over the same names as the process without places, and the names stay as they are
+abbrev pub WrittenIsReadBack : Type 0
+WrittenIsReadBack =
+    (names new : List (List ℕ)) (bytes : List ℕ) (p q : Process) → HasNoRepeats names → IsObject names bytes p → IsDecoded names new bytes q → (new ≡ names) × (q ≡ bare p)

@@ -1,6 +1,6 @@
 // Laws of the definitions. Each is a function that does nothing: its contract is the law.
 
-ghost use Rattle.pict_built.specs.Laws.{BytesAreDecided, DecodedRunsAsWritten, ObjectsAreDecodedOnce, ObjectsAreSized};
+ghost use Rattle.pict_built.specs.Laws.{BytesAreDecided, DecodedRunsAsWritten, ObjectsAreDecodedOnce, ObjectsAreSized, WrittenIsReadBack};
 
 /// Bytes are the object of some process, or of none.
 pub fn law_bytes_are_decided()
@@ -21,4 +21,9 @@ pub fn law_objects_are_sized()
 /// the same bytes.
 pub fn law_decoded_runs_as_written()
     ensures { DecodedRunsAsWritten }
+{}
+
+/// What was written of a process is read back over the same names, which stay as they are: the process without its places.
+pub fn law_written_is_read_back()
+    ensures { WrittenIsReadBack }
 {}
