@@ -1,5 +1,5 @@
 // A process is run, and each step is looked at before it is made.
-ghost use Rattle.std.specs.Prelude.{◌≡◌, ◌≤◌, ◌<◌, ◌+◌, ◌^◌, ◌↔◌, ℕ, List, IfOk, OnErr, Err};
+ghost use Rattle.std.specs.Prelude.{◌≡◌, ◌≤◌, ◌<◌, ◌+◌, ◌^◌, ◌↔◌, ℕ, List, IfOk, OnOk, OnErr, Err};
 ghost use Rattle.pict_outside.specs.Counts.{Rose};
 ghost use Rattle.pict_core.specs.Closed.{IsClosed};
 ghost use Rattle.pict_core.specs.Configuration.{Configuration, IsConfiguration, opening};
@@ -10,7 +10,9 @@ ghost use Rattle.pict_view.specs.Watching.{Saw, SawOrTore, Ran, BrokeOff};
 ghost use Rattle.pict_machine.specs.Machine.{IsMachine, view_of, channels_of};
 ghost use Rattle.pict_machine.specs.declared.event.RunError.TheVariants as RunError;
 ghost use Rattle.pict_exec.specs.Ends.{end_of, Executed, Anywhere};
+ghost use Rattle.pict_exec.specs.Room.{bound_around};
 
+use crate::room::{FRAME_LIMIT, check_frames};
 use pict_core::Core;
 use pict_lower::lower;
 use pict_machine::{Machine, RunError, Watcher, show};
@@ -38,6 +40,9 @@ pub enum ExecEnd {
 /// view is as if it had seen exactly the labels of the steps before, in order. `Sink` and `Memory` break the run off: the view is
 /// then as if the watcher had seen the labels of some steps of the run, or is one that `torn` allows for the last of them. `Sink` comes
 /// only where the watcher's count of faults rose.
+///
+/// A process around whose parts more variables are bound than `FRAME_LIMIT`, those around each part counted, finds no memory, and is
+/// refused before any is asked for.
 pub fn execute<W: Watcher>(
     alloc: Global,
     core: &Core,
@@ -48,6 +53,7 @@ pub fn execute<W: Watcher>(
     requires fuel { fuel ≤ FUEL_LIMIT }
     ensures end { IfOk result (λ end. Executed (plain_core core.now) fuel (end_of end)
         (Saw (W.next watcher.old) (W.view watcher.old) (W.view watcher.new))) }
+    ensures room { OnOk result (bound_around 0 (plain_core core.now) ≤ FRAME_LIMIT) }
     ensures broken { OnErr result (BrokeOff (opening (plain_core core.now)) fuel Anywhere
         (SawOrTore (W.next watcher.old) (W.torn watcher.old) (W.view watcher.old) (W.view watcher.new))) }
     ensures sink { result ≡ Err RunError.Sink → Rose (W.faults watcher.old) (W.faults watcher.new) }
@@ -60,14 +66,16 @@ pub fn execute<W: Watcher>(
     go(&mut machine, fuel, watcher)
 }
 
-// The machine of a closed process.
+// The machine of a closed process whose frames have room.
 fn load(alloc: Global, core: &Core) -> Result<Machine, AllocError>
     requires closed { IsClosed (plain_core core.now) }
+    ensures room { OnOk result (bound_around 0 (plain_core core.now) ≤ FRAME_LIMIT) }
     ensures kept { IfOk result (λ m. IsMachine m) }
     ensures stands { IfOk result (λ m. StandsFor (view_of m) (opening (plain_core core.now))) }
     ensures is { IfOk result (λ m. IsConfiguration (opening (plain_core core.now))) }
     ensures channels { IfOk result (λ m. channels_of m ≡ 0) }
 {
+    check_frames(core)?;
     let code = lower(alloc, core)?;
     Machine::load(alloc, code)
 }
