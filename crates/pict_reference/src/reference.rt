@@ -464,6 +464,13 @@ impl Reference {
         &self.entries
     }
 
+    /// The stamp that is given next. Takes no memory.
+    pub fn next_stamp(&self) -> u64
+        ensures { result ≡ (configuration_of self.now).next_stamp }
+    {
+        self.next_stamp
+    }
+
     /// Whether there are numbers left for one more channel and two more stamps.
     pub fn has_room(&self) -> bool
         ensures { IsTrue result ↔ (((configuration_of self.now).channels + 1 < 2 ^ 32) × ((configuration_of self.now).next_stamp + 2 < 2 ^ 64)) }

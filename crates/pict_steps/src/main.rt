@@ -7,21 +7,15 @@
 #![tactic(auto)]
 
 mod cells;
-mod place;
-mod rule;
-mod run;
 mod table;
 mod telling;
-
-ghost use Rattle.std.specs.Prelude.{◌≤◌, vec_len};
-ghost use Rattle.pict_syntax.specs.declared.limits.TheConstants.{TEXT_LIMIT};
 
 use anyhow::Error;
 use pict_front::front;
 use pict_outside::{Fetched, FolderShelf, Shelf, StreamSink};
+use pict_stepper::follow;
 use pict_syntax::{Sources, TEXT_LIMIT};
 use pict_top::{OneShelf, Status, pict};
-use run::follow;
 use std::env;
 use std::io::Write;
 use std::process::ExitCode;
@@ -47,17 +41,14 @@ fn report<S: Shelf>(rt: &HostRuntime, file: &str, shelf: &mut S) -> Status {
 }
 
 /// Tells the run of a text, or reports why it is refused.
-fn tell_text(rt: &HostRuntime, file: &str, text: Vec<u8>) -> Result<Status, Error>
-    requires short { vec_len text ≤ TEXT_LIMIT }
-{
-    let copy = Vec::from_slice(rt.alloc(), &text)?;
-    let mut shelf = OneShelf::new(rt.alloc(), file, copy)?;
+fn tell_text(rt: &HostRuntime, file: &str, text: Vec<u8>) -> Result<Status, Error> {
+    let mut shelf = OneShelf::new(rt.alloc(), file, text)?;
     let mut sources = Sources::new(rt.alloc());
     match front(rt.alloc(), None, file, &mut shelf, &mut sources) {
         Err(_) => Ok(report(rt, file, &mut shelf)),
         Ok(front) => {
             let run = follow(rt.alloc(), front.core, MOST)?;
-            let table = told(rt.alloc(), &front.names, &text, &run)?;
+            let table = told(rt.alloc(), &front.names, &sources, &run)?;
             rt.stdout().write_all(&table)?;
             Ok(Status::Done)
         }

@@ -1,0 +1,5 @@
+pub mod Rows
+pub mod Touched
+pub mod Putting
+pub mod Turns
+pub mod Following

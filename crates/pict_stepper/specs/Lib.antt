@@ -1,0 +1,4 @@
+pub mod Rules
+pub mod Told
+pub mod Touched
+pub mod Steps
