@@ -3,3 +3,4 @@ pub mod Touched
 pub mod Putting
 pub mod Turns
 pub mod Following
+pub mod Writing

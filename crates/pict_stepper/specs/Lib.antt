@@ -2,3 +2,4 @@ pub mod Rules
 pub mod Told
 pub mod Touched
 pub mod Steps
+pub mod Lines

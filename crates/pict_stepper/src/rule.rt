@@ -6,6 +6,7 @@ ghost use Rattle.pict_core.specs.Configuration.{Configuration};
 ghost use Rattle.pict_core.specs.Step.{Label};
 ghost use Rattle.pict_core.specs.Table.{Row};
 ghost use Rattle.pict_reference.specs.Plain.{plain_entry};
+ghost use Rattle.pict_stepper.specs.Lines.{rule_text};
 ghost use Rattle.pict_stepper.specs.Rules.{rule_of_row, rule_for, branch_rule, performing_rule, reader_rule, sending_rule, output_rule, receiving_rule};
 
 use pict_core::{Core, CoreVal};
@@ -15,24 +16,39 @@ use pict_syntax::Prim;
 /// A row of the table of steps.
 #[derive(Clone, Copy, PartialEq, Eq, Debug)]
 pub enum Rule {
+    /// The inert process goes.
     Ends,
+    /// Of two processes side by side the first goes on, and the second comes.
     Forks,
+    /// A new channel is made.
     MakesChannel,
+    /// A conditional goes on as its first branch.
     TakesFirst,
+    /// A conditional goes on as its second branch.
     TakesSecond,
+    /// A primitive prints, and nothing is left.
     PrimitiveEnds,
+    /// A primitive answers on a channel.
     PrimitiveAnswers,
+    /// A message waits at its channel.
     OutputParks,
+    /// A message is received by a reader that serves once.
     OutputMeetsReader,
+    /// A message is received by a reader that serves again and again.
     OutputMeetsServer,
+    /// A reader waits at its channel.
     InputParks,
+    /// A reader that serves once receives a message.
     ReaderMeetsMessage,
+    /// A reader that serves again and again receives a message.
     ServerMeetsMessage,
 }
 
 impl Rule {
     /// The name of the row in the table.
-    pub fn name(self) -> &'static str {
+    pub fn name(self) -> &'static str
+        ensures text { result.now ≡ rule_text self }
+    {
         match self {
             Rule::Ends => "ends",
             Rule::Forks => "forks",
