@@ -51,6 +51,7 @@ pub struct Clash<'a> {
 }
 
 /// What a walk through two types knows and counts.
+#[derive(Drop)]
 struct Walk<'k> {
     known: &'k Known,
     left: u32,

@@ -20,6 +20,7 @@ pub struct Part<'a> {
 }
 
 /// What was found for the parameters of a definition, the first parameter first.
+#[derive(Drop)]
 struct Found<'a> {
     parts: Vec<Option<Part<'a>>>,
 }

@@ -39,7 +39,7 @@ fn refusal(alloc: Global, text: &[u8]) -> Result<Option<(Code, Span)>, AllocErro
     };
     match check(alloc, &names, &scoped) {
         Ok(()) => Ok(None),
-        Err(TypeError::Named(code, span)) => Ok(Some((code, span))),
+        Err(TypeError::Named(code, span, _)) => Ok(Some((code, span))),
         Err(TypeError::Memory) => Err(AllocError),
     }
 }
