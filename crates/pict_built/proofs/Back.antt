@@ -1,5 +1,7 @@
 -- What was written is read back over the same names.
-use Rattle.std.proofs.Common.{◌≡◌, ℕ, true, List, [], ◌∷◌, sym, ◌∙◌, ap, subst, refl}
+use Rattle.std.proofs.Common.{◌≡◌, ℕ, true, List, [], ◌∷◌, slice_get, Some, IsTrue, sym, ◌∙◌, ap, subst, refl}
+use Rattle.std.specs.List.{AllByRecursion, list_any}
+use Rattle.std.specs.Str.{bytes_eq}
 use Rattle.pict_syntax.specs.Names.{text_of, with_names}
 use Rattle.pict_syntax.proofs.NamesLemmas.{has_name, has_standing, with_there}
 use Rattle.pict_core.specs.Term.{Process}

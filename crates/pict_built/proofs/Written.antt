@@ -3,16 +3,18 @@ use Rattle.std.proofs.Common.{◌≡◌, ℕ, ◌+◌, List, [], length, Option,
 use Rattle.std.specs.Prelude.{slice_get}
 use Rattle.std.specs.List.{list_any}
 use Rattle.std.specs.Str.{bytes_eq}
+use Rattle.pict_syntax.specs.declared.name.Name.{Name}
 use Rattle.pict_syntax.specs.Names.{text_of, number_of, HasNoRepeats}
 use Rattle.pict_syntax.proofs.NamesLemmas.{stands_there}
 use Rattle.pict_core.specs.Term.{Process}
-use Rattle.pict_core.specs.Run.{End, Done, FuelSpent, Trap, Misshapen, Runs}
+use Rattle.pict_core.specs.Step.{Label}
+use Rattle.pict_core.specs.Run.{End, Done, FuelSpent, Trap, Misshapen, Runs, bytes_of}
 use Rattle.pict_object.specs.Objects.{process_bytes, place_in}
 use Rattle.pict_object.specs.Cores.{ComesBefore, IsObject}
 use Rattle.pict_object.specs.Decoded.{IsDecoded}
 use Rattle.pict_object.specs.Dressing.{Dress, KeepsLabelsApart, dressed, dressed_end, dressed_labels, undressed, anew}
 use Rattle.pict_object.specs.Heads.{own_labels}
-use Rattle.pict_object.specs.Reading.{whole_at}
+use Rattle.pict_object.specs.Reading.{label_in, whole_at}
 use Rattle.pict_object.proofs.Places.{number_below}
 use Rattle.pict_object.proofs.Tables.{In, not_itself, after_it}
 use Rattle.pict_object.proofs.Decoded.{places_up}
