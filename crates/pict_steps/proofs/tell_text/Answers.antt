@@ -1,5 +1,4 @@
 use Rattle.std.proofs.Common.{None}
-use Rattle.pict_gather.specs.Fetching.{MayGive}
 use Rattle.pict_gather.specs.Phases.{accepts}
 use Rattle.pict_front.specs.Answers.{plain_front}
 use Rattle.pict_top.proofs.Right.{accepted_runs_right}
@@ -11,5 +10,5 @@ follow-requires-clause-right c = accepted_runs_right (plain_front c.in-Ok.front)
 
 pub told-requires : goal.told-requires
 told-requires c = record {
-  short = front_short (MayGive _) None _ (accepts (record { sources = _; front = plain_front c.in-Ok.front })) tt c.in-Ok.ensures.answer;
+  short = front_short _ None _ (accepts (record { sources = _; front = plain_front c.in-Ok.front })) tt c.in-Ok.ensures.answer;
 }
