@@ -43,13 +43,13 @@ pub fn phases<S: Shelf>(
 }
 
 /// What is told of types where the typing rules refuse these declarations.
-fn types_in(alloc: Global, names: &Names, decs: Vec<Dec>) -> Result<Vec<u8>, AllocError> {
+fn types_in(alloc: Global, names: Names, decs: Vec<Dec>) -> Result<Vec<u8>, AllocError> {
     let mut out = Vec::new(alloc);
     let imports = Vec::new(alloc);
-    if let Ok(scoped) = resolve(alloc, names, Program { imports, decs }) {
-        let mut env = Env::new(alloc, names);
-        if let Err(TypeError::Named(_, _, told)) = check_in(alloc, &mut env, names, &scoped) {
-            put_types(alloc, &mut out, names, env, &told)?;
+    if let Ok(scoped) = resolve(alloc, &names, Program { imports, decs }) {
+        let mut env = Env::new(alloc, &names);
+        if let Err(TypeError::Named(_, _, told)) = check_in(alloc, &mut env, &names, &scoped) {
+            put_types(alloc, &mut out, &names, env, &told)?;
         }
     }
     Ok(out)
@@ -70,7 +70,7 @@ pub fn types<S: Shelf>(
         gather(alloc, Some(prelude()), file, shelf, &mut sources)
     };
     match gathered {
-        Ok(gathering) => types_in(alloc, &gathering.names, gathering.decs),
+        Ok(gathering) => types_in(alloc, gathering.names, gathering.decs),
         Err(_) => Ok(Vec::new(alloc)),
     }
 }
