@@ -16,6 +16,7 @@ pub mod LabelOrder
 pub mod BecomingTop
 pub mod SameMeanings
 pub mod Behind
+pub mod Defined
 pub mod BinderPlaces
 pub mod BareOperators
 pub mod Used

@@ -8,9 +8,10 @@ use Rattle.pict_normal.specs.declared.puts.Puts.{Puts}
 use Rattle.pict_normal.specs.declared.puts.Source.{Source}
 use Rattle.pict_normal.specs.declared.puts.Source.TheVariants.{Arguments as Arguments_, Entries as Entries_}
 use Rattle.pict_types.specs.Around.{weights_inside, heights_inside}
-use Rattle.pict_types.specs.Entries.{PlainContext}
+use Rattle.pict_types.specs.Entries.{Definition, PlainContext}
 use Rattle.pict_normal.specs.Meanings.{meanings}
-use Rattle.pict_types.specs.Types.{PlainType, Top, Var, PlainBounds, count_bounds, TypeContext}
+use Rattle.pict_types.specs.Places.{IsWhatAt}
+use Rattle.pict_types.specs.Types.{PlainArg, PlainType, Top, Var, PlainBounds, count_bounds, TypeContext}
 use Rattle.pict_types.specs.Renaming.{rename, moved}
 use Rattle.pict_types.specs.Replacing.{Head, variable, operator, nothing, Replacement, replacement_past, replace_bounds, arguments}
 use Rattle.pict_types.specs.Kinds.{Kind}
@@ -51,6 +52,13 @@ context_in p = p.context.now
 
 abbrev pub replacement_of : Puts → Replacement
 replacement_of p = replacement_by p.source (plain_context p.context.now)
+
+-- variable i, under so many binders, is the definition at this place of the context
+pub record IsDefined (p : Puts) (depth i place : ℕ) : Type 0 where
+  pub arg : PlainArg
+  pub there : IsWhatAt (plain_context p.context.now) place (Definition arg)
+  pub behind : i ≡ place + depth
+  pub put : replacement_of p ≡ meanings (plain_context p.context.now)
 
 abbrev pub names_in : Puts → List (List ℕ)
 names_in p = names_of (context_in p)

@@ -1,10 +1,10 @@
 // What stands for the variables of a type.
 
-ghost use Rattle.std.specs.Prelude.{◌≡◌, ℕ, IfOk, length};
+ghost use Rattle.std.specs.Prelude.{◌≡◌, ℕ, IfOk, IfSome, length};
 ghost use Rattle.pict_normal.specs.Meanings.{meanings};
 ghost use Rattle.pict_types.specs.Plain.{plain_args};
 ghost use Rattle.pict_types.specs.PlainContext.{plain_context, type_context};
-ghost use Rattle.pict_normal.specs.Putting.{HasRoom, put_head, put_type, replacement_of, variables_in};
+ghost use Rattle.pict_normal.specs.Putting.{HasRoom, IsDefined, put_head, put_type, replacement_of, variables_in};
 ghost use Rattle.pict_types.specs.Replacing.{arguments, replacement_past};
 
 use crate::numbers::fits;
@@ -82,5 +82,22 @@ impl<'a, 'n> Puts<'a, 'n> {
         let under = depth as u32;
         fits(self.context.variables(), under)?;
         Ok(self.put_at(i - under).under(under))
+    }
+
+    /// The entry of the definition that variable `i` is under so many binders; nothing where it is none. Takes no memory.
+    pub fn definition(&self, i: u32, depth: usize) -> Option<usize>
+        ensures { IfSome result (λ place. IsDefined self.now depth i place) }
+    {
+        if (i as usize) < depth {
+            return None;
+        }
+        let place = i as usize - depth;
+        match self.source {
+            Source::Arguments(_) => None,
+            Source::Entries => match self.context.what(place) {
+                Some(What::Definition(_)) => Some(place),
+                _ => None,
+            },
+        }
     }
 }

@@ -1,11 +1,13 @@
 // Types and operators put for type variables, exactly, and not beyond what is too heavy.
 
-ghost use Rattle.std.specs.Prelude.{◌≡◌, ◌+◌, ◌≤◌, ◌<◌, ◌^◌, List, ℕ, IfErr, IfOk, IfSome, None, Some, OnOk, length, map};
+ghost use Rattle.std.specs.Prelude.{◌≡◌, ◌+◌, ◌≤◌, ◌<◌, ◌^◌, List, ℕ, IfErr, IfOk, IfSome, IsTrue, None, Some, OnOk, length, map};
 ghost use Rattle.pict_types.specs.Kinds.{AreWellFormed, BoundIsWellFormed, BoundsAreWellFormed, IsWellFormed, LabelsAreWellFormed, kind_at, proper};
 ghost use Rattle.pict_normal.specs.Made.{IsReason, IsRow, counted, only_used, used_as, weight_used};
-ghost use Rattle.pict_types.specs.Measures.{heights_under, held, rise_bounds, rise_labels, rise_types, rise_variable, weigh, weigh_bounds, weigh_labels, weigh_types, weigh_variable, weights_under};
+ghost use Rattle.pict_types.specs.Mentions.{IsClosed};
+ghost use Rattle.pict_types.specs.Renaming.{moved, rename};
+ghost use Rattle.pict_types.specs.Measures.{heights_under, held, rise, rise_bounds, rise_labels, rise_types, rise_variable, weigh, weigh_bounds, weigh_labels, weigh_types, weigh_variable, weights_under};
 ghost use Rattle.pict_types.specs.Plain.{plain, plain_bound, plain_bounds, plain_labels, plain_record, plain_types};
-ghost use Rattle.pict_normal.specs.Putting.{IsPlaced, IsUnder, heights_in, names_in, weights_in};
+ghost use Rattle.pict_normal.specs.Putting.{IsPlaced, IsUnder, heights_in, names_in, variables_in, weights_in};
 ghost use Rattle.pict_normal.specs.Placed.{AreArgumentsIn, IsMadeBoundIn, IsMadeIn, replaced, replaced_bound, replaced_bounds, replaced_labels, replaced_types};
 ghost use Rattle.pict_types.specs.Types.{Apply, Var, count_bounds};
 
@@ -19,7 +21,52 @@ use crate::puts::Puts;
 use crate::uses::used_parameters;
 use pict_syntax::Name;
 use pict_types::{Bound, Measures, Record, Ty, shift_type};
-use std::alloc::Global;
+use std::alloc::{AllocError, Global};
+
+/// The measures of a type that stands for the variable `i` under the binders of `inner`. Those of a definition are known.
+fn put_measures(puts: &Puts, i: u32, inner: &[Measures], t: &Ty, by: u32) -> Measures
+    requires put { rename (moved by 0) (plain t.now) ≡ replaced puts.now inner.now (Var i) }
+    requires inside { length inner.now ≤ by }
+    requires outside { by ≤ length (variables_in puts.now) + length inner.now }
+    ensures weight { result.weight ≡ held (weigh (weights_in puts.now inner.now) (replaced puts.now inner.now (Var i))) }
+    ensures height { result.height ≡ held (rise (heights_in puts.now inner.now) (replaced puts.now inner.now (Var i))) }
+{
+    match puts.definition(i, inner.len()) {
+        Some(place) => puts.context.definition_measures(place),
+        None => puts
+            .context
+            .measures_inside(&[], by - inner.len() as u32, t),
+    }
+}
+
+/// Whether what stands for the variable `i` under the binders of `inner` is known to mention no variable. Takes no memory.
+fn is_closed_put(puts: &Puts, i: u32, inner: &[Measures]) -> bool
+    ensures { IsTrue result → IsClosed (replaced puts.now inner.now (Var i)) }
+{
+    match puts.definition(i, inner.len()) {
+        Some(place) => puts.context.definition_is_closed(place),
+        None => false,
+    }
+}
+
+/// A type that stands for the variable `i` under the binders of `inner`, moved past `by` variables. It is shared where it is known
+/// to mention none.
+fn moved_put(
+    alloc: Global,
+    puts: &Puts,
+    i: u32,
+    inner: &[Measures],
+    t: &Ty,
+    by: u32,
+) -> Result<Ty, AllocError>
+    requires put { rename (moved by 0) (plain t.now) ≡ replaced puts.now inner.now (Var i) }
+    ensures { IfOk result (λ u. plain u ≡ replaced puts.now inner.now (Var i)) }
+{
+    if is_closed_put(puts, i, inner) {
+        return t.copy(alloc);
+    }
+    shift_type(alloc, t, by, 0)
+}
 
 /// What stands for the variable `i` under the binders of `inner`.
 fn made_variable(alloc: Global, i: u32, puts: &Puts, inner: &[Measures]) -> Result<Made, MakeError>
@@ -37,9 +84,9 @@ fn made_variable(alloc: Global, i: u32, puts: &Puts, inner: &[Measures]) -> Resu
             Ok(Made::new(measures, t))
         }
         Put::Proper(t, by) => {
-            let measures = light(c.measures_inside(&[], by - depth as u32, t))?;
+            let measures = light(put_measures(puts, i, inner, t, by))?;
             if is_within(measures) {
-                return Ok(Made::new(measures, shift_type(alloc, t, by, 0)?));
+                return Ok(Made::new(measures, moved_put(alloc, puts, i, inner, t, by)?));
             }
             Ok(Made { measures, ty: None })
         }

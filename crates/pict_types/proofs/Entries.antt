@@ -47,13 +47,13 @@ weighs_held_under m x vs ws t h e = h ∙ ap (λ y. held (weigh (x ∷ y) t)) e 
 pub rises_held_under : (m x : ℕ) (vs ws : List ℕ) (t : PlainType) → m ≡ held (rise (x ∷ vs) t) → vs ≡ map held ws → m ≡ held (rise (x ∷ ws) t)
 rises_held_under m x vs ws t h e = h ∙ ap (λ y. held (rise (x ∷ y) t)) e ∙ (rise_held (alike_more alike (held_list ws)) t).same
 
-variable_weighs : (m : ℕ) (vs ws : List ℕ) (b : PlainBound) → m ≡ held (weigh_variable vs b) → vs ≡ map held ws → m ≡ held (weigh_variable ws b)
+pub variable_weighs : (m : ℕ) (vs ws : List ℕ) (b : PlainBound) → m ≡ held (weigh_variable vs b) → vs ≡ map held ws → m ≡ held (weigh_variable ws b)
 variable_weighs m vs ws b h e = h ∙ ap (λ x. held (weigh_variable x b)) e ∙ (weigh_variable_held (held_list ws) b).same
 
-variable_rises : (m : ℕ) (vs ws : List ℕ) (b : PlainBound) → m ≡ held (rise_variable vs b) → vs ≡ map held ws → m ≡ held (rise_variable ws b)
+pub variable_rises : (m : ℕ) (vs ws : List ℕ) (b : PlainBound) → m ≡ held (rise_variable vs b) → vs ≡ map held ws → m ≡ held (rise_variable ws b)
 variable_rises m vs ws b h e = h ∙ ap (λ x. held (rise_variable x b)) e ∙ (rise_variable_held (held_list ws) b).same
 
-two : {A : Type 0} {x y : A} {xs ys : List A} → x ≡ y → xs ≡ ys → x ∷ xs ≡ y ∷ ys
+pub two : {A : Type 0} {x y : A} {xs ys : List A} → x ≡ y → xs ≡ ys → x ∷ xs ≡ y ∷ ys
 two p q = cc
 
 -- the invariants of a context with one more variable
@@ -149,14 +149,17 @@ stands (e ∷ c) i h = go e.what refl (λ j k. stands c j k) i h
         subst (StandsAt (e ∷ c) i) (sym (ap (λ w. get_or (with_place w (length c) (places c)) i 0) q))
         (stands_further e c i i (get_or (places c) i 0) (ap (λ w. slice_get (with_variable w (variables c)) i) q) (r i (omega arith)))
 
+-- what the code reads from the end
+pub last_at : {A : Type 0} (f : A → ℕ) (xs : List A) (i : ℕ) (d : A) → i < length xs → f (get_or xs (length xs - 1 - i) d) ≡ get_or (reverse (map f xs)) i 0
+last_at f xs i d k =
+    let m : length (map f xs) ≡ length xs = simp length-map refl in
+    let k2 : i < length (map f xs) = omega arith in
+    let k3 : length xs - 1 - i < length xs = omega arith in
+    sym (get_or-reverse (map f xs) i 0 k2 ∙ ap (λ n. get_or (map f xs) (n - 1 - i) 0) m ∙ get_or-map f xs (length xs - 1 - i) d 0 k3)
+
 -- the place that the code reads
 place_at : (ks : List Known) (c : PlainContext) (i : ℕ) (d : Known) → reverse (map (λ k. k.place) ks) ≡ places c → i < length ks → (get_or ks (length ks - 1 - i) d).place ≡ get_or (places c) i 0
-place_at ks c i d h k =
-    let m : length (map (λ x. x.place) ks) ≡ length ks = simp length-map refl in
-    let k2 : i < length (map (λ x. x.place) ks) = omega arith in
-    let k3 : length ks - 1 - i < length ks = omega arith in
-    sym (get_or-reverse (map (λ x. x.place) ks) i 0 k2 ∙ ap (λ n. get_or (map (λ x. x.place) ks) (n - 1 - i) 0) m ∙ get_or-map (λ x. x.place) ks (length ks - 1 - i) d 0 k3)
-    ∙ ap (λ x. get_or x i 0) h
+place_at ks c i d h k = last_at (λ x. x.place) ks i d k ∙ ap (λ x. get_or x i 0) h
 
 -- the entry that the code reads
 pub entry_at : (es : List Entry) (p : ℕ) (d : Entry) → p < length es → get_or (plain_entries es) (length (plain_entries es) - 1 - p) (plain_entry d) ≡ plain_entry (get_or es p d)

@@ -3,6 +3,7 @@ pub mod Rows
 pub mod Around
 pub mod Held
 pub mod Entries
+pub mod EntryMeasures
 pub mod Moving
 pub mod Renamed
 pub mod Filled

@@ -1,8 +1,10 @@
 -- Contexts as plain data: named type variables and definitions in scope, the innermost first.
-use Rattle.std.specs.Prelude.{ℕ, List, [], ◌∷◌, map, length}
+use Rattle.std.specs.Prelude.{ℕ, Bool, true, false, not, List, [], ◌∷◌, map, length}
 use Rattle.pict_types.specs.Types.{PlainBound, PlainArg, TypeContext}
 use Rattle.pict_types.specs.Kinds.{BoundIsWellFormed, ArgIsWellFormed, kinds}
-use Rattle.pict_types.specs.Measures.{held, weights, heights}
+use Rattle.pict_types.specs.Measures.{held, weigh, weigh_variable, weights, rise, rise_variable, heights}
+use Rattle.pict_types.specs.Mentions.{mentions}
+use Rattle.pict_types.specs.Replacing.{type_in}
 
 pub data PlainWhat : Type 0 where
   Variable : PlainBound → PlainWhat
@@ -48,3 +50,29 @@ held_weights c = map held (weights (variables c))
 
 abbrev pub held_heights : PlainContext → List ℕ
 held_heights c = map held (heights (variables c))
+
+-- what an entry weighs, from the weights of the variables around it: a variable, or the type that a definition stands for
+abbrev pub weight_of_what : List ℕ → PlainWhat → ℕ
+weight_of_what ws (Variable b) = weigh_variable ws b
+weight_of_what ws (Definition a) = weigh ws (type_in a)
+
+abbrev pub height_of_what : List ℕ → PlainWhat → ℕ
+height_of_what hs (Variable b) = rise_variable hs b
+height_of_what hs (Definition a) = rise hs (type_in a)
+
+-- the measures of the entries as a u64 holds them, the innermost first
+abbrev pub entry_weights : PlainContext → List ℕ
+entry_weights [] = []
+entry_weights (e ∷ c) = held (weight_of_what (weights (variables c)) e.what) ∷ entry_weights c
+
+abbrev pub entry_heights : PlainContext → List ℕ
+entry_heights [] = []
+entry_heights (e ∷ c) = held (height_of_what (heights (variables c)) e.what) ∷ entry_heights c
+
+-- an entry is the definition of a type that mentions no variable
+abbrev pub is_closed : PlainWhat → Bool
+is_closed (Variable b) = false
+is_closed (Definition a) = not (mentions (λ i. true) (type_in a))
+
+abbrev pub closed_entries : PlainContext → List Bool
+closed_entries c = map (λ e. is_closed e.what) c

@@ -1,13 +1,16 @@
 // The type variables and definitions in scope.
 
-ghost use Rattle.std.specs.Prelude.{◌≡◌, ◌<◌, ◌^◌, length, map, reverse};
+ghost use Rattle.std.specs.Prelude.{◌≡◌, ◌<◌, ◌^◌, length, map, reverse, IfOk};
 ghost use Rattle.pict_types.specs.Counting.{variables_around};
-ghost use Rattle.pict_types.specs.Entries.{EntriesAreWellFormed, held_heights, held_weights, places, variables};
-ghost use Rattle.pict_types.specs.PlainEntries.{plain_entries};
+ghost use Rattle.pict_types.specs.Entries.{EntriesAreWellFormed, closed_entries, entry_heights, entry_weights, held_heights, held_weights, height_of_what, is_closed, places, variables, weight_of_what};
+ghost use Rattle.pict_types.specs.Around.{IsLinked, around_heights, around_weights};
+ghost use Rattle.pict_types.specs.Measures.{held};
+ghost use Rattle.pict_types.specs.PlainEntries.{plain_entries, plain_what};
 ghost use Rattle.pict_types.specs.Places.{names_in};
 ghost use Rattle.pict_types.specs.Props.{entries_prop};
 
 use crate::measure::{Around, Known, Measures, inside, measure, measure_bound};
+use crate::mentioning::{Variables, mentions};
 use crate::types::{Arg, Bound, Ty};
 use pict_binders::Nearest;
 use pict_syntax::{Name, Names};
@@ -40,19 +43,55 @@ pub struct Context<'a> {
     nearest: Nearest,
     /// For each entry the number of type variables around it.
     around: Vec<usize>,
+    /// For each entry what it measures.
+    sizes: Vec<Measures>,
+    /// For each entry whether it is a definition of a type that mentions no variable.
+    closed: Vec<bool>,
     ghost formed: { EntriesAreWellFormed names.now (plain_entries entries.items) } by { entries_prop names.now (plain_entries entries.items) },
     ghost placed: { reverse (map (λ k. k.place) known.items) ≡ places (plain_entries entries.items) },
     ghost weighed: { reverse (map (λ k. k.measures.weight) known.items) ≡ held_weights (plain_entries entries.items) },
     ghost measured: { reverse (map (λ k. k.measures.height) known.items) ≡ held_heights (plain_entries entries.items) },
     ghost named: { nearest ≡ names_in (plain_entries entries.items) },
+    ghost entries_weighed: { reverse (map (λ m. m.weight) sizes.items) ≡ entry_weights (plain_entries entries.items) },
+    ghost entries_measured: { reverse (map (λ m. m.height) sizes.items) ≡ entry_heights (plain_entries entries.items) },
+    ghost entries_closed: { reverse closed.items ≡ closed_entries (plain_entries entries.items) },
     ghost counted: { reverse around.items ≡ variables_around (plain_entries entries.items) },
     ghost few: { length (variables (plain_entries entries.items)) < 2 ^ 32 },
 }
 
+/// What an entry measures: a variable, or the type that a definition stands for. Takes no memory.
+fn measure_what(what: &What, around: &Around) -> Measures
+    requires linked { IsLinked around.now }
+    ensures weight { result.weight ≡ held (weight_of_what (around_weights around.now) (plain_what what.now)) }
+    ensures height { result.height ≡ held (height_of_what (around_heights around.now) (plain_what what.now)) }
+{
+    match what {
+        What::Variable(bound) => measure_bound(bound, around),
+        What::Definition(Arg::Plain(t)) => measure(t, around),
+        What::Definition(Arg::Op { .. }) => Measures::LEAF,
+    }
+}
+
+/// Whether an entry is a definition of a type that mentions no variable. Takes no memory; the only error is that of a type under
+/// more binders than a `usize` can count.
+#[tactic(auto, using(crate::proofs::EntryMeasures::outer_all))]
+fn is_closed(what: &What) -> Result<bool, AllocError>
+    ensures { IfOk result (λ b. b ≡ is_closed (plain_what what.now)) }
+{
+    match what {
+        What::Variable(_) => Ok(false),
+        What::Definition(Arg::Plain(t)) => Ok(!mentions(t, &Variables::Outer(0))?),
+        What::Definition(Arg::Op { .. }) => Ok(true),
+    }
+}
+
 impl<'a> Context<'a> {
-    ghost use Rattle.std.specs.Prelude.{◌≡◌, ◌≤◌, ◌<◌, ◌^◌, [], ◌∷◌, length, drop, slice_get, Some, IfNone, IfSome, OnOk, OnErr};
+    ghost use Rattle.std.specs.Prelude.{◌≡◌, ◌≤◌, ◌<◌, ◌^◌, [], ◌∷◌, not, true, length, drop, slice_get, Some, IfNone, IfSome, OnOk, OnErr};
     ghost use Rattle.pict_types.specs.Counting.{variables_inside};
-    ghost use Rattle.pict_types.specs.Entries.{EntryIsWellFormed, variables};
+    ghost use Rattle.pict_types.specs.Entries.{Definition, EntryIsWellFormed, variables};
+    ghost use Rattle.pict_types.specs.Mentions.{mentions};
+    ghost use Rattle.pict_types.specs.Replacing.{type_in};
+    ghost use Rattle.pict_types.specs.Types.{PlainArg};
     ghost use Rattle.pict_types.specs.Measures.{held, height_of, heights, rise, weigh, weight_of, weights};
     ghost use Rattle.pict_types.specs.Plain.{plain, plain_bound};
     ghost use Rattle.pict_binders.specs.Names.{place_of};
@@ -72,6 +111,8 @@ impl<'a> Context<'a> {
             known: Vec::new(alloc),
             nearest: Nearest::new(alloc),
             around: Vec::new(alloc),
+            sizes: Vec::new(alloc),
+            closed: Vec::new(alloc),
         }
     }
 
@@ -89,12 +130,17 @@ impl<'a> Context<'a> {
         self.entries.reserve(1)?;
         self.known.reserve(1)?;
         self.around.reserve(1)?;
+        self.sizes.reserve(1)?;
+        self.closed.reserve(1)?;
+        let closed = is_closed(&entry.what)?;
         self.nearest.bind(entry.name)?;
         let count = self.known.as_slice().len();
         self.around.push_reserved(count);
+        let measures = measure_what(&entry.what, &Around::Outer(&self.known));
+        self.sizes.push_reserved(measures);
+        self.closed.push_reserved(closed);
         match &entry.what {
-            What::Variable(bound) => {
-                let measures = measure_bound(bound, &Around::Outer(&self.known));
+            What::Variable(_) => {
                 let place = self.entries.as_slice().len();
                 self.known.push_reserved(Known { place, measures });
                 self.entries.push_reserved(entry);
@@ -116,6 +162,8 @@ impl<'a> Context<'a> {
     {
         let _ = self.nearest.unbind();
         let _ = self.around.pop();
+        let _ = self.sizes.pop();
+        let _ = self.closed.pop();
         let entry = self.entries.pop()?;
         if let What::Variable(_) = entry.what {
             let _ = self.known.pop();
@@ -202,6 +250,29 @@ impl<'a> Context<'a> {
         let around = self.around.as_slice();
         let outer = around[around.len() - i];
         (self.known.as_slice().len() - outer) as u32
+    }
+
+    /// What the type that definition `i` stands for measures where it was written, each held at the greatest `u64`; entries
+    /// are counted from the innermost. Takes no memory.
+    pub fn definition_measures(&self, i: usize) -> Measures
+        requires entry { i < length (plain_context self.now) }
+        ensures weight { (a : PlainArg) → IsWhatAt (plain_context self.now) i (Definition a)
+            → result.weight ≡ held (weigh (drop (variables_inside i (plain_context self.now)) (weights (type_context self.now))) (type_in a)) }
+        ensures height { (a : PlainArg) → IsWhatAt (plain_context self.now) i (Definition a)
+            → result.height ≡ held (rise (drop (variables_inside i (plain_context self.now)) (heights (type_context self.now))) (type_in a)) }
+    {
+        let sizes = self.sizes.as_slice();
+        sizes[sizes.len() - 1 - i]
+    }
+
+    /// Whether the type that definition `i` stands for mentions no variable; entries are counted from the innermost. Takes no
+    /// memory.
+    pub fn definition_is_closed(&self, i: usize) -> bool
+        requires entry { i < length (plain_context self.now) }
+        ensures { (a : PlainArg) → IsWhatAt (plain_context self.now) i (Definition a) → result ≡ not (mentions (λ j. true) (type_in a)) }
+    {
+        let closed = self.closed.as_slice();
+        closed[closed.len() - 1 - i]
     }
 
     /// Of how many arguments entry `i` is an operator; nothing where it is a type, or isn't there. Takes no memory.

@@ -1,8 +1,8 @@
 -- Operator variables, recursive types, and one field more.
-use Rattle.std.proofs.Common.{◌≡◌, suc, ◌+◌, drop, get_or, ◌∙◌, sym, ap, ap₂, arith}
+use Rattle.std.proofs.Common.{◌≡◌, suc, ◌+◌, drop, ◌∙◌, sym, ap, ap₂, arith}
 use Rattle.pict_types.specs.Types.{Rec, bounds, labels}
 use Rattle.pict_types.specs.Measures.{size, size_types}
-use Rattle.pict_types.specs.Replacing.{apply_variable, fill, fill_bound, fill_bounds, fill_labels, fill_types, filling_beyond}
+use Rattle.pict_types.specs.Replacing.{apply_variable, fill, fill_bound, fill_bounds, fill_labels, filling_beyond}
 use Rattle.pict_types.specs.Filling.{filling_past, put_for}
 use Rattle.pict_types.specs.Renumbering.{changed, changed_bound}
 use Rattle.pict_types.specs.Plain.{plain, plain_bound, plain_types, plain_bounds, plain_labels}

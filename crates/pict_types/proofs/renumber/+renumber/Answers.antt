@@ -1,5 +1,5 @@
 -- Operator variables, recursive types, and one type field more.
-use Rattle.std.proofs.Common.{◌≡◌, suc, ◌+◌, drop, get_or, ◌∙◌, sym, ap, ap₂, arith}
+use Rattle.std.proofs.Common.{◌≡◌, suc, ◌+◌, drop, ◌∙◌, sym, ap, ap₂, arith}
 use Rattle.pict_types.specs.Types.{Apply, Rec, bounds, labels}
 use Rattle.pict_types.specs.Measures.{size, size_types}
 use Rattle.pict_types.specs.Renaming.{rename, rename_bound, rename_bounds, rename_labels, beyond, beyond_times}
