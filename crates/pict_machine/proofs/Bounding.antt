@@ -29,14 +29,14 @@ use Rattle.pict_turns.specs.declared.turn.Turn.TheVariants.{Nobody, Node as Node
 use Rattle.pict_turns.specs.declared.store.Store.{Store}
 use Rattle.pict_blocks.proofs.Holding.{held_width}
 use Rattle.pict_turns.proofs.Turns.{turn_blocks}
-use Rattle.pict_machine.specs.Bounds.{largest, greatest_cost, greatest_cost_of, total_blocks, MakesFew, SpendsAtMost}
+use Rattle.pict_machine.specs.Bounds.{largest, greatest_cost, greatest_cost_of, total_blocks, IsWidthIn, MakesFew, SpendsAtMost}
 use Rattle.pict_heap.specs.HeapState.{LosesNoRoom}
 use Rattle.pict_heap.proofs.Rooms.{room_stays, room_kept}
 use Rattle.pict_machine.specs.Machine.{IsRunning, core_in, queues_of, running_cost, running_widths, heap_of}
-use Rattle.pict_machine.specs.Needs as needs
-use Rattle.pict_machine.specs.Needs.{input_widths, served_widths, taken_widths, output_widths, receipt_widths, choice_widths, node_widths, block_widths, widths_of, first_widths, turn_widths}
+use Rattle.pict_acting.specs.Needs as needs
+use Rattle.pict_acting.specs.Needs.{input_widths, served_widths, taken_widths, output_widths, receipt_widths, choice_widths, node_widths, block_widths, widths_of, first_widths, turn_widths}
 use Rattle.pict_machine.specs.declared.machine.Machine.{Machine}
-use Rattle.pict_machine.proofs.Needing.{many_append}
+use Rattle.pict_acting.proofs.Needing.{many_append}
 
 -- ---- what a step costs
 
@@ -316,6 +316,34 @@ one_step core s old new is makes = record {
       let made = makes.most width in
       omega (arith, few, made);
 }
+
+-- blocks of three widths of the code are no more than a step may make
+pub made_few : (core : Process) (old new : QueuesState) (a b c : ℕ) → IsWidthIn core a → IsWidthIn core b → IsWidthIn core c → MakesOnly old new (a ∷ b ∷ c ∷ []) → MakesFew core 1 old new
+made_few core old new a b c in_a in_b in_c makes = record {
+  least = makes.least;
+  few = λ widths distinct.
+      let one : (x : ℕ) → total_many widths (x ∷ []) ≤ 1 = λ x. let e = total_one widths x in let d = distinct x in omega (arith, e, d) in
+      let first = total_append widths (a ∷ []) (b ∷ c ∷ []) in
+      let second = total_append widths (b ∷ []) (c ∷ []) in
+      let made = total_made old new (a ∷ b ∷ c ∷ []) widths makes in
+      let x = one a in
+      let y = one b in
+      let z = one c in
+      omega (arith, first, second, made, x, y, z);
+  others = λ width apart.
+      let none : (other : ℕ) → IsWidthIn core other → how_many width (other ∷ []) ≤ 0 = λ other is. none_each width other (λ same. apart (subst (IsWidthIn core) same is)) in
+      let made = makes.most width in
+      let first = many_append width (a ∷ []) (b ∷ c ∷ []) in
+      let second = many_append width (b ∷ []) (c ∷ []) in
+      let x = none a in_a in
+      let y = none b in_b in
+      let z = none c in_c in
+      omega (arith, first, second, made, x, y, z);
+}
+
+-- a block of a node is made and pushed at less than the greatest cost
+pub push_low : (core : Process) (number : ℕ) (node : Node) → slice_get (nodes_of core) number ≡ Some node → 2 * length node.frame + 4 ≤ greatest_cost core
+push_low core number node at = let le = low (nodes_of core) (nodes_of core) number node at in omega (arith, le)
 
 -- ---- steps after others
 

@@ -12,11 +12,11 @@ use Rattle.pict_view.specs.Right.{IsRightFor}
 use Rattle.pict_view.specs.Watching.{Saw, SawOrTore, RanFor, BrokeOff, view_after}
 use Rattle.pict_view.proofs.Runs.{Stood, empty_of, is_done, is_spent, saw_more}
 use Rattle.pict_machine.specs.Events.{end_of, PassesCommunications}
-use Rattle.pict_machine.specs.Packed.{label_packed, trap_packed}
+use Rattle.pict_acting.specs.Packed.{label_packed, trap_packed}
 use Rattle.pict_machine.specs.Going.{IsPassed, ArePassed, GoesPast, GoesOn, HasEvent, ThenComes, StopsAs}
 use Rattle.pict_machine.specs.Machine.{running_view}
-use Rattle.pict_machine.specs.declared.event.PackedEvent.{PackedEvent}
-use Rattle.pict_machine.specs.declared.event.PackedEvent.TheVariants as packed
+use Rattle.pict_acting.specs.declared.event.PackedEvent.{PackedEvent}
+use Rattle.pict_acting.specs.declared.event.PackedEvent.TheVariants as packed
 use Rattle.pict_machine.specs.declared.event.End.{End}
 use Rattle.pict_machine.specs.declared.event.End.TheVariants as end
 use Rattle.pict_machine.specs.declared.machine.Machine.{Machine}
@@ -147,6 +147,21 @@ one_past p n h e v w u go past step C is stands =
 
 not_true : (b : Bool) → b ≡ false → IsTrue b → ⊥
 not_true b e t = cc
+
+-- steps that show nothing are passed over, whatever else is
+any_passed : (p : Bool) (ks : List (ℕ × Label)) → ArePassed false ks → ArePassed p ks
+any_passed p [] a = tt
+any_passed p ((n, Quiet) ∷ ks) a = absurd a
+any_passed p ((n, Comm c v) ∷ ks) a = absurd (not_true false refl a.0)
+any_passed p ((n, Print bytes) ∷ ks) a = absurd a
+
+-- some of them more
+pub past_both : (p : Bool) (n k : ℕ) (v w u : View) → GoesPast p n v w → GoesPast false k w u → GoesPast p (n + k) v u
+past_both p n k v w u before after C is stands =
+    let (D, labels, passed, reached, at, by) = before C is stands in
+    let (E, ks, quiet, further, there, lasts) = after D at by in
+    let (more, all, same) = reaches_more n k C D E labels ks reached further in
+    (E, labels ++ more, passed_both p labels more passed (same p (any_passed p ks quiet)), all, there, lasts)
 
 -- nobody is next
 pub none_next : (v : View) (b : Bool) → b ≡ false → IsTrue b ↔ (v.ready ≢ []) → v.ready ≡ []

@@ -85,7 +85,7 @@ module _ (core : Process) (h : HeapState) where
     no_channels : channel_lists s ≡ []
     no_channels = let e : length s.queues - 1 ≡ 0 = omega (arith, o.queues) in ap (lists_from s 1) e
 
-    view_is : view_of_contents core (value_in h) (contents s 0) (channel_lists s) ≡ record { ready = core ∷ []; channels = [] }
+    pub view_is : view_of_contents core (value_in h) (contents s 0) (channel_lists s) ≡ record { ready = core ∷ []; channels = [] }
     view_is =
         ap (λ ready. view_of_contents core (value_in h) ready (channel_lists s)) o.ready
         ∙ ap (view_of_contents core (value_in h) ((1 ∷ []) ∷ [])) no_channels

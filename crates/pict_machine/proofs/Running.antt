@@ -9,10 +9,10 @@ use Rattle.pict_view.specs.Stepping.{IsStepOf}
 use Rattle.pict_view.proofs.Runs.{Stood}
 use Rattle.pict_syntax.specs.declared.span.Span.{Span}
 use Rattle.pict_machine.specs.Events.{label_of, trap_of}
-use Rattle.pict_machine.specs.Packed.{label_packed, trap_packed}
+use Rattle.pict_acting.specs.Packed.{label_packed, trap_packed}
 use Rattle.pict_machine.specs.declared.event.Event.{Event}
-use Rattle.pict_machine.specs.declared.event.PackedEvent.{PackedEvent}
-use Rattle.pict_machine.specs.declared.event.PackedEvent.TheVariants as packed
+use Rattle.pict_acting.specs.declared.event.PackedEvent.{PackedEvent}
+use Rattle.pict_acting.specs.declared.event.PackedEvent.TheVariants as packed
 
 saw_all : (f : List ℕ → ℕ → Label → List ℕ) (T : List ℕ → ℕ → Label → List ℕ → Type 0) (before after : Option (List ℕ)) (labels : List (ℕ × Label)) → Saw f before after labels → SawOrTore f T before after labels
 saw_all f T None after labels d = tt
@@ -32,14 +32,6 @@ broke_before n fuel C v v' f T before after few same s = record {
   stands = subst (λ w. StandsFor w s.last) (sym same) s.stands;
   seen = saw_all f T before after s.labels s.seen;
 }
-
-pub on_ok : {T E P Q : Type 0} (r : Result T E) → (P → Q) → OnOk r P → OnOk r Q
-on_ok (Ok x) f p = f p
-on_ok (Err e) f p = tt
-
-pub on_err : {T E P : Type 0} (r : Result T E) → P → OnErr r P
-on_err (Ok x) p = tt
-on_err (Err e) p = p
 
 -- a step's label, by words of an equal heap, where the event is unpacked
 pub seen_steps : (h h' : HeapState) (e : PackedEvent) (x : Event) (v v' : View) → h ≡ h' → label_of h' x ≡ label_packed h' e → trap_of x ≡ trap_packed e

@@ -2,8 +2,9 @@
 ghost use Rattle.std.specs.Prelude.{◌≡◌};
 ghost use Rattle.pict_heap.specs.HeapState.{HeapState};
 ghost use Rattle.pict_machine.specs.Events.{label_of, trap_of, IsEventOf};
-ghost use Rattle.pict_machine.specs.Packed.{label_packed, trap_packed, IsPackedOf};
+ghost use Rattle.pict_acting.specs.Packed.{label_packed, trap_packed, IsPackedOf};
 
+use pict_acting::PackedEvent;
 use pict_desk::word_at;
 use pict_heap::Word;
 use pict_syntax::Span;
@@ -81,32 +82,21 @@ impl Event {
     }
 }
 
-// An event before the two words of a value that is received are told apart.
-#[derive(Clone, Copy)]
-pub(crate) enum PackedEvent {
-    Quiet,
-    Comm { channel: u32, value: (u64, u64) },
-    Print(Word),
-    Trapped(Span),
-}
-
-impl PackedEvent {
-    // The event itself.
-    #[inline(always)]
-    pub(crate) fn unpacked(self) -> Event
-        requires { (h : HeapState) × IsPackedOf h self }
-        ensures label { (h : HeapState) → IsPackedOf h self → label_of h result ≡ label_packed h self }
-        ensures event { (h : HeapState) → IsPackedOf h self → IsEventOf h result }
-        ensures trap { trap_of result ≡ trap_packed self }
-    {
-        match self {
-            PackedEvent::Quiet => Event::Quiet,
-            PackedEvent::Comm { channel, value } => Event::Comm {
-                channel,
-                value: word_at(value),
-            },
-            PackedEvent::Print(word) => Event::Print(word),
-            PackedEvent::Trapped(at) => Event::Trapped(at),
-        }
+// The event itself, with the value that is received as a word.
+#[inline(always)]
+pub(crate) fn unpacked(event: PackedEvent) -> Event
+    requires { (h : HeapState) × IsPackedOf h event }
+    ensures label { (h : HeapState) → IsPackedOf h event → label_of h result ≡ label_packed h event }
+    ensures event { (h : HeapState) → IsPackedOf h event → IsEventOf h result }
+    ensures trap { trap_of result ≡ trap_packed event }
+{
+    match event {
+        PackedEvent::Quiet => Event::Quiet,
+        PackedEvent::Comm { channel, value } => Event::Comm {
+            channel,
+            value: word_at(value),
+        },
+        PackedEvent::Print(word) => Event::Print(word),
+        PackedEvent::Trapped(at) => Event::Trapped(at),
     }
 }

@@ -1,19 +1,16 @@
 //! The machine in blocks: it runs the code of closed core processes step by step, the oldest ready process first.
 #![tactic(auto)]
 
-mod acting;
+mod chain;
 mod event;
 mod laws;
 mod loading;
 mod machine;
-mod outputs;
-mod receiving;
 mod run;
-mod sending;
 mod stepping;
 mod wrong;
 
 pub use event::{End, Event, RunError, Stopped};
 pub use laws::law_closed_processes_have_codes;
-pub use machine::Machine;
+pub use machine::{Machine, opening_queues};
 pub use run::{Watcher, show};

@@ -32,8 +32,9 @@ pub struct Machine {
     pub(crate) store: Store,
 }
 
-// Queue 0 alone, with the block of node 0.
-fn opening_queues(alloc: Global) -> Result<Queues, AllocError>
+/// Queue 0 alone, with a block of node 0 and no value: the queues of a machine before its first step. The only error is want of
+/// memory.
+pub fn opening_queues(alloc: Global) -> Result<Queues, AllocError>
     ensures { IfOk result (λ queues. AreOpening queues) }
 {
     let mut queues = Queues::new(alloc);

@@ -14,7 +14,7 @@ ghost use Rattle.pict_machine.specs.Bounds.{greatest_cost_of, MakesFew, SpendsAt
 ghost use Rattle.pict_machine.specs.Machine.{IsMachine, IsRunning, core_in, running_view, view_of, heap_of, queues_of, channels_of};
 ghost use Rattle.pict_machine.specs.Going.{StopsAs};
 
-use crate::event::{End, Event, RunError, Stopped};
+use crate::event::{End, Event, RunError, Stopped, unpacked};
 use crate::machine::Machine;
 use crate::stepping::Gone;
 use pict_heap::Heap;
@@ -169,7 +169,7 @@ impl Machine {
             let Gone { passed, event } = self.go_on(fuel - done, passes);
             done += passed;
             let event = match event? {
-                Some(packed) => packed.unpacked(),
+                Some(packed) => unpacked(packed),
                 None => return Ok(self.stopped(done)),
             };
             done += 1;

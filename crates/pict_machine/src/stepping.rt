@@ -15,15 +15,17 @@ ghost use Rattle.pict_desk.specs.Code.{core_in, IsCode};
 ghost use Rattle.pict_turns.specs.Views.{view_with_turn};
 ghost use Rattle.pict_turns.specs.Widths.{MakesOnly};
 ghost use Rattle.pict_machine.specs.Events.{label_of, trap_of, IsEventOf};
-ghost use Rattle.pict_machine.specs.Packed.{label_packed, trap_packed, IsPackedOf};
+ghost use Rattle.pict_acting.specs.Packed.{label_packed, trap_packed, IsPackedOf};
 ghost use Rattle.pict_machine.specs.Machine.{IsMachine, IsRunning, IsUnchanged, MeetsPlainly, RunsPlainly, running_view, running_cost, running_widths, view_of, heap_of, queues_of, channels_of, cost_of, widths_of, heap_need_of, running_need_of};
 ghost use Rattle.pict_machine.specs.Bounds.{greatest_cost_of, SpendsAtMost};
+ghost use Rattle.pict_machine.specs.Chain.{MakesSteps};
 ghost use Rattle.pict_machine.specs.Going.{GoesOn, IsPassed};
-ghost use Rattle.pict_machine.specs.Stepping.{GivesTurn};
+ghost use Rattle.pict_acting.specs.Stepping.{GivesTurn};
 
-use crate::acting::act;
-use crate::event::{Event, PackedEvent};
+use crate::chain::{Received, call_at_once};
+use crate::event::{Event, unpacked};
 use crate::machine::Machine;
+use pict_acting::{PackedEvent, act};
 use pict_code::Node;
 use pict_syntax::Span;
 use pict_turns::{Store, Turn, return_turn, take_turn};
@@ -35,6 +37,14 @@ pub(crate) struct Gone {
     pub(crate) passed: u64,
     // The event of the step after them, if there is one.
     pub(crate) event: Result<Option<PackedEvent>, AllocError>,
+}
+
+// Steps that are made in one go.
+pub(crate) struct Steps {
+    // How many show nothing, before the last one.
+    pub(crate) quiet: u64,
+    // The event of the last one.
+    pub(crate) event: PackedEvent,
 }
 
 // Somebody has the turn afterwards: who has it, or else the first of queue 0, whose block is free then. Takes no memory.
@@ -105,7 +115,7 @@ impl Machine {
         ensures queues { LosesNoQueue (queues_of self.old) (queues_of self.new) }
     {
         match self.step_packed() {
-            Ok(event) => Ok(event.unpacked()),
+            Ok(event) => Ok(unpacked(event)),
             Err(error) => Err(error),
         }
     }
@@ -175,6 +185,36 @@ impl Machine {
         act(&self.code.nodes, &self.constants, &mut self.store)
     }
 
+    // At most so many steps of a run, of which all but the last one show nothing: the five of a call of a primitive whose answer is
+    // awaited, where nobody else is ready, or else one. An error, which is want of memory, is that of no step. They cost no more than
+    // one step may.
+    #[inline(always)]
+    fn make_steps(&mut self, most: u64) -> Result<Steps, AllocError>
+        requires kept { IsRunning self.old }
+        requires some { 1 ≤ most }
+        requires ready { (running_view self.old).ready ≢ [] }
+        requires few { channels_of self.old + 1 < 2 ^ 32 }
+        requires right { IsRightFor (running_view self.old) 1 }
+        ensures kept { IsRunning self.new }
+        ensures made { IfOk result (MakesSteps self.old self.new) }
+        ensures within { IfOk result (λ steps. steps.quiet + 1 ≤ most) }
+        ensures refused { OnErr result (running_view self.new ≡ running_view self.old) }
+        ensures keeps { KeepsWords (heap_of self.old) (heap_of self.new) }
+        ensures spends { SpendsAtMost 1 self.old self.new }
+        ensures channels { channels_of self.new ≤ channels_of self.old + 1 }
+    {
+        match call_at_once(&self.code.nodes, &mut self.store, most)? {
+            Some(Received { channel, value }) => Ok(Steps {
+                quiet: 4,
+                event: PackedEvent::Comm { channel, value },
+            }),
+            None => {
+                let event = self.advance()?;
+                Ok(Steps { quiet: 0, event })
+            }
+        }
+    }
+
     // Up to `most` steps of a run, until one shows something that isn't passed over or divides by zero, nobody is next, or memory
     // is wanting. Only the last one can have an event or an error. Communications are passed over where `passes` is true.
     //
@@ -192,21 +232,23 @@ impl Machine {
         ensures spends { SpendsAtMost most self.old self.new }
         ensures spends_passed { SpendsAtMost (result.passed + 1) self.old self.new }
     {
-        for step in 0..most {
+        let mut step = 0;
+        while step < most {
             if !self.has_next() {
                 return Gone {
                     passed: step,
                     event: Ok(None),
                 };
             }
-            match self.advance() {
-                Ok(event) => {
+            match self.make_steps(most - step) {
+                Ok(Steps { quiet, event }) => {
                     if !is_passed(&event, passes) {
                         return Gone {
-                            passed: step,
+                            passed: step + quiet,
                             event: Ok(Some(event)),
                         };
                     }
+                    step += quiet + 1;
                 }
                 Err(error) => {
                     return Gone {

@@ -144,7 +144,7 @@ fn first_clash<'a>(
             Ok(Some(here))
         }
         _ => {
-            if is_surely_below(walk.known, given, wanted, turned) {
+            if may_be_below(walk.known, given, wanted, turned) {
                 Ok(None)
             } else {
                 Ok(Some(here))
@@ -155,7 +155,7 @@ fn first_clash<'a>(
 
 /// Whether two types, of which one is no channel type, no record and not recursive, or which have different forms, may be below one
 /// another, for all that is told by their form.
-fn is_surely_below(known: &Known, given: Part<'_>, wanted: Part<'_>, turned: bool) -> bool {
+fn may_be_below(known: &Known, given: Part<'_>, wanted: Part<'_>, turned: bool) -> bool {
     let (low, high) = if turned {
         (wanted, given)
     } else {

@@ -1,6 +1,7 @@
 -- A part gets the turn, or becomes the last of the ready ones: what the store is then.
 use Rattle.std.proofs.Common.{ℕ, suc, ◌+◌, ◌<◌, ◌≤◌, ◌≡◌, ◌==◌, ◌^◌, inl, inr, Bool, true, false, cond, List, [], ◌∷◌, ◌++◌, length, map, refl, sym, ap, ◌∙◌, subst, arith}
 use Rattle.std.proofs.lemmas.Bool.Decides.{nat_tests}
+use Rattle.std.proofs.lemmas.Option.{slice_get_within}
 use Rattle.std.specs.List.{AllByRecursion}
 use Rattle.pict_syntax.specs.declared.limits.TheConstants.{NARROW_LIMIT}
 use Rattle.pict_core.specs.Term.{Process}
@@ -18,16 +19,21 @@ use Rattle.pict_desk.specs.Pairs.{IsPair, ArePairs}
 use Rattle.pict_desk.proofs.Making.{keeps_all, pairs_keep, pile_kept}
 use Rattle.pict_turns.specs.Acting.{HasBlockFor}
 use Rattle.pict_blocks.specs.Holding.{HoldRecord, HoldsFrame}
-use Rattle.pict_turns.specs.Parts.{HandsOn, IsLast}
+use Rattle.pict_turns.specs.Parts.{HandsOn, HasRecord, IsLast}
+use Rattle.pict_blocks.specs.Blocks.{frame_values}
 use Rattle.pict_blocks.specs.Parts.{block_width}
 use Rattle.pict_desk.specs.Code.{HasFrame}
-use Rattle.pict_turns.specs.Turns.{IsTurn, turn_cost}
+use Rattle.pict_desk.specs.Room.{frame_need}
+use Rattle.pict_desk.proofs.Numbered.{same_frame}
+use Rattle.pict_turns.specs.Turns.{IsTurn, IsWide, turn_cost}
 use Rattle.pict_turns.specs.Views.{turn_words, ready_words}
 use Rattle.pict_turns.specs.declared.store.Store.{Store}
+use Rattle.pict_turns.specs.declared.turn.Turn.{Turn}
 use Rattle.pict_turns.specs.declared.turn.Turn.TheVariants.{Nobody, Node as NodeTurn, Wide}
 use Rattle.pict_blocks.proofs.Holding.{narrow_holds, wide_holds, held_width}
 use Rattle.pict_desk.proofs.MakingRoom.{need_narrow, need_wide, uses_nothing}
-use Rattle.pict_turns.proofs.Rows.{made_node}
+use Rattle.pict_turns.proofs.Adding.{used_less}
+use Rattle.pict_turns.proofs.Rows.{made_node, turn_stays}
 use Rattle.pict_turns.proofs.Turns.{frame_is, words_nobody, ready_nobody, nobody_turn, nobody_room, cost_nobody, ready_is, cost_is, room_for}
 
 -- ---- a part gets the turn
@@ -72,6 +78,43 @@ hands_wide core s heap pending pair number frame f pairs many countable is field
       pending = kept;
     }
 
+-- one of a larger frame, of which the record was there
+pub hands_kept : (core : Process) (s : Store) (pair : ℕ × ℕ) (number : ℕ) (frame : List ℕ) → HasFrame (nodes_of core) number frame → ArePairs s.desk.heap s.desk.values.items
+    → HasRecord s frame pair → HandsOn core s (record s { turn = Wide number pair }) number frame
+hands_kept core s pair number frame f pairs kept = record {
+  held = pair.0 ∷ pair.1 ∷ [];
+  holds = kept.holds;
+  turn = refl;
+  is = record {
+    node = f.node;
+    wide = subst (λ (ls : List ℕ). NARROW_LIMIT < length ls) (sym f.is) kept.wide;
+    is = made_node core s.desk.heap s.desk.heap (keeps_all s.desk.heap) s.desk.values.items pairs number f.node (pair.0 ∷ pair.1 ∷ []) f.at
+        (subst (λ (ls : List ℕ). HoldsFrame s.desk.heap (known s.desk.heap s.desk.values.items) ls (pair.0 ∷ pair.1 ∷ [])) (sym f.is) kept.holds);
+    record_is = subst (λ (ls : List ℕ). HoldRecord s.desk.heap (length ls) (pair.0 ∷ pair.1 ∷ [])) (sym f.is) (kept.holds.wide kept.wide);
+  };
+  queues = refl;
+  keeps = keeps_all s.desk.heap;
+  used = used_less s.desk.heap.room s.desk.heap.room (frame_need frame) (uses_nothing s.desk.heap.room);
+  values = refl;
+  pending = pile_kept s.desk.pending;
+}
+
+-- the record of who has the turn is one of each frame that is the same
+pub turn_record : (core : Process) (s : Store) (number : ℕ) (pair : ℕ × ℕ) (frame : List ℕ) → IsWide core s.desk.heap s.desk.values.items number pair
+    → HasFrame (nodes_of core) number frame → HasRecord s frame pair
+turn_record core s number pair frame w f =
+    let same : w.node.frame ≡ frame = same_frame (nodes_of core) number w.node.frame frame (record { node = w.node; at = w.is.at; is = refl }) f in
+    let held : pair.0 ∷ pair.1 ∷ [] ≡ w.is.frame = let h = w.is.words_are in cc in
+    let values = ap (frame_values (value_in s.desk.heap) (length w.node.frame)) held ∙ w.is.holds in
+    record {
+      wide = subst (λ (ls : List ℕ). NARROW_LIMIT < length ls) same w.wide;
+      holds = subst (λ (ls : List ℕ). HoldsFrame s.desk.heap (known s.desk.heap s.desk.values.items) ls (pair.0 ∷ pair.1 ∷ [])) same
+          (record { values = values; narrow = λ few. let many = w.wide in absurd (omega (arith, few, many)); wide = λ _. w.record_is });
+    }
+
+pub wide_within : (core : Process) (s : Store) (number : ℕ) (pair : ℕ × ℕ) → IsWide core s.desk.heap s.desk.values.items number pair → number < length (nodes_of core)
+wide_within core s number pair w = slice_get_within (nodes_of core) number w.node w.is.at
+
 -- ---- who has the turn then
 
 module _ (core : Process) (old new : Store) (number : ℕ) (frame : List ℕ) (one : HandsOn core old new number frame) where
@@ -95,6 +138,13 @@ module _ (core : Process) (old new : Store) (number : ℕ) (frame : List ℕ) (o
 
   pub handed_pairs : ArePairs old.desk.heap old.desk.values.items → ArePairs new.desk.heap new.desk.values.items
   handed_pairs pairs = subst (ArePairs new.desk.heap) (sym one.values) (pairs_keep old.desk.heap new.desk.heap one.keeps old.desk.values.items pairs)
+
+  -- who had the turn before may still have it
+  pub handed_turn : ArePairs old.desk.heap old.desk.values.items → (turn : Turn) → IsTurn core old.desk.heap old.desk.values.items turn
+      → IsTurn core new.desk.heap new.desk.values.items turn
+  handed_turn pairs turn is =
+      subst (λ (vs : List (ℕ × ℕ)). IsTurn core new.desk.heap vs turn) (sym one.values)
+      (turn_stays core old.desk.heap new.desk.heap one.keeps old.desk.values.items pairs turn is)
 
   pub handed_no_more : HoldsNoMore old.queues new.queues
   handed_no_more block held = subst (λ (q : QueuesState). IsHeld q block) one.queues held

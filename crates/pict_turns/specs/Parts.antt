@@ -1,5 +1,6 @@
 -- The parts of a node: one has the turn, others stand in blocks.
-use Rattle.std.specs.Prelude.{◌≡◌, ◌≤◌, ◌+◌, ◌==◌, ◌⊎◌, ◌++◌, ℕ, suc, List, [], ◌∷◌, length, if◌then◌else◌}
+use Rattle.std.specs.Prelude.{◌≡◌, ◌≤◌, ◌<◌, ◌+◌, ◌==◌, ◌⊎◌, ◌++◌, ℕ, suc, List, [], ◌∷◌, length, if◌then◌else◌}
+use Rattle.pict_syntax.specs.declared.limits.TheConstants.{NARROW_LIMIT}
 use Rattle.pict_core.specs.Term.{Process}
 use Rattle.pict_queue.specs.Contents.{contents, KeepsOtherContents}
 use Rattle.pict_region.specs.RegionState.{spare}
@@ -17,6 +18,11 @@ use Rattle.pict_turns.specs.declared.store.Store.{Store}
 -- there is a free block for the frame, and room for its record where it needs one
 abbrev pub CanHold : Store → List ℕ → Type 0
 CanHold s frame = HasPlaceFor s.queues s.desk frame
+
+-- this record has the values that the levels of the frame have, which are more than `NARROW_LIMIT`
+pub record HasRecord (s : Store) (frame : List ℕ) (pair : ℕ × ℕ) : Type 0 where
+  pub wide : NARROW_LIMIT < length frame
+  pub holds : HoldsFrame s.desk.heap (known s.desk.heap s.desk.values.items) frame (pair.0 ∷ pair.1 ∷ [])
 
 -- The node with this number has the turn, with the values that the levels of its frame had. The queues and the values stay, and
 -- all words stand for what they stood for.

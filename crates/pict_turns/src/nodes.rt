@@ -18,7 +18,7 @@ ghost use Rattle.pict_turns.specs.Reserving.{CanHoldAnd, OnlyReserves};
 ghost use Rattle.pict_turns.specs.Turns.{turn_cost};
 ghost use Rattle.pict_turns.specs.Widths.{MakesOnly, part_width};
 
-use crate::parts::{hand_on, spawn_part};
+use crate::parts::{hand_on, hand_on_from, spawn_from};
 use crate::reading::frame_at;
 use crate::reserving::{reserve_part, reserve_parts};
 use crate::store::Store;
@@ -57,8 +57,9 @@ pub fn fork(store: &mut Store, code: &[Node], left: u32, right: u32) -> Result<(
     let first = frame_at(code, left as usize);
     let second = frame_at(code, right as usize);
     reserve_parts(store, first, second)?;
-    hand_on(store, left, first);
-    spawn_part(store, right, second);
+    let turn = store.turn;
+    hand_on_from(store, code, turn, left, first);
+    spawn_from(store, code, turn, right, second);
     Ok(())
 }
 
@@ -88,7 +89,8 @@ pub fn choose(
     let part = chosen(&store.desk, test, yes, no);
     let frame = frame_at(code, part as usize);
     reserve_part(store, frame, NO_NEED)?;
-    hand_on(store, part, frame);
+    let turn = store.turn;
+    hand_on_from(store, code, turn, part, frame);
     Ok(())
 }
 

@@ -1,18 +1,23 @@
 // The parts of a node: one has the turn, others stand in blocks.
-ghost use Rattle.std.specs.Prelude.{◌≡◌, ◌<◌, ◌≤◌, ◌+◌, All, length};
+ghost use Rattle.std.specs.Prelude.{◌≡◌, ◌<◌, ◌≤◌, ◌+◌, ℕ, List, All, IfSome, length, map};
+ghost use Rattle.pict_syntax.specs.declared.limits.TheConstants.{NARROW_LIMIT};
 ghost use Rattle.pict_core.specs.Term.{Process};
 ghost use Rattle.pict_code.specs.Nodes.{nodes_of};
+ghost use Rattle.pict_code.specs.Plain.{plain_node};
 ghost use Rattle.pict_queue.specs.QueuesState.{IsQueue, CostsAtMost};
-ghost use Rattle.pict_region.specs.RegionState.{KeepsBlocks};
+ghost use Rattle.pict_region.specs.RegionState.{spare, KeepsBlocks};
 ghost use Rattle.pict_queue.specs.Contents.{KeepsHeld, HoldsNoMore};
 ghost use Rattle.pict_desk.specs.Pairs.{ArePairs};
 ghost use Rattle.pict_blocks.specs.Parts.{block_width};
-ghost use Rattle.pict_turns.specs.Parts.{CanHold, HandsOn, Spawns, IsLast};
-ghost use Rattle.pict_desk.specs.Code.{HasFrame};
+ghost use Rattle.pict_turns.specs.Parts.{CanHold, HandsOn, HasRecord, Spawns, IsLast};
+ghost use Rattle.pict_turns.specs.Turns.{IsTurn};
+ghost use Rattle.pict_desk.specs.Code.{core_in, HasFrame, IsCode};
 
+use crate::reading::frame_at;
 use crate::store::Store;
 use crate::turn::Turn;
-use pict_blocks::make_part;
+use pict_blocks::{block_of, make_part};
+use pict_code::Node;
 use pict_desk::frame_record;
 use pict_queue::QueueId;
 use pict_syntax::NARROW_LIMIT;
@@ -68,6 +73,122 @@ pub(crate) fn hand_on(store: &mut Store, number: u32, frame: &[u32])
         store.turn = Turn::Node(number as usize);
     } else {
         hand_on_wide(store, number, frame);
+    }
+}
+
+// The record of who has the turn, or of who had it, as that of this frame: where the two frames are the same one, of more than
+// `NARROW_LIMIT` levels. Takes no memory.
+#[cold]
+fn record_of(store: &Store, code: &[Node], turn: Turn, frame: &[u32]) -> Option<(u64, u64)>
+    requires code { IsCode (map plain_node code.now) }
+    requires turn { IsTurn (core_in code.now) store.now.desk.heap store.now.desk.values.items turn }
+    ensures { IfSome result (HasRecord store.now frame.now) }
+{
+    match turn {
+        Turn::Wide(number, pair) => {
+            if frame_at(code, number) == frame {
+                return Some(pair);
+            }
+            None
+        }
+        _ => None,
+    }
+}
+
+// The same as `hand_on_from` of a larger frame.
+#[cold]
+fn hand_on_wide_from(store: &mut Store, code: &[Node], turn: Turn, number: u32, frame: &[u32])
+    requires code { IsCode (map plain_node code.now) }
+    requires turn { IsTurn (core_in code.now) store.old.desk.heap store.old.desk.values.items turn }
+    requires wide { NARROW_LIMIT < length frame.now }
+    requires can { CanHold store.old frame.now }
+    requires inside { All (λ level. level < length store.old.desk.values.items) frame.now }
+    requires pairs { ArePairs store.old.desk.heap store.old.desk.values.items }
+    ensures hands { (core : Process) → HasFrame (nodes_of core) number frame.now → HandsOn core store.old store.new number frame.now }
+    ensures queues { store.new.queues ≡ store.old.queues }
+{
+    match record_of(&*store, code, turn, frame) {
+        Some(pair) => store.turn = Turn::Wide(number as usize, pair),
+        None => hand_on_wide(store, number, frame),
+    }
+}
+
+// The same as `hand_on`, by who had this turn: a record of the same frame is handed on, and not made anew.
+#[inline(always)]
+pub(crate) fn hand_on_from(store: &mut Store, code: &[Node], turn: Turn, number: u32, frame: &[u32])
+    requires code { IsCode (map plain_node code.now) }
+    requires turn { IsTurn (core_in code.now) store.old.desk.heap store.old.desk.values.items turn }
+    requires can { CanHold store.old frame.now }
+    requires inside { All (λ level. level < length store.old.desk.values.items) frame.now }
+    requires pairs { ArePairs store.old.desk.heap store.old.desk.values.items }
+    ensures hands { (core : Process) → HasFrame (nodes_of core) number frame.now → HandsOn core store.old store.new number frame.now }
+    ensures queues { store.new.queues ≡ store.old.queues }
+{
+    if frame.len() <= NARROW_LIMIT as usize {
+        store.turn = Turn::Node(number as usize);
+    } else {
+        hand_on_wide_from(store, code, turn, number, frame);
+    }
+}
+
+// A new block of the node with this number becomes the last of queue 0, with this record for its frame. Takes no memory.
+#[cold]
+fn spawn_record(store: &mut Store, number: u32, pair: (u64, u64))
+    requires queue { IsQueue store.old.queues 0 }
+    requires block { 1 ≤ spare store.old.queues.region 4 }
+    ensures spawns { (frame : List ℕ) → HasRecord store.old frame pair → Spawns store.old store.new number frame }
+    ensures kept { KeepsHeld store.old.queues store.new.queues }
+    ensures no_more { HoldsNoMore store.old.queues store.new.queues }
+    ensures spare_queues { store.new.queues.spare_queues ≡ store.old.queues.spare_queues }
+    ensures blocks { KeepsBlocks store.old.queues.region store.new.queues.region }
+    ensures cost { CostsAtMost 6 store.old.queues store.new.queues }
+{
+    let part = block_of(&mut store.queues, number as usize, &[0], &[pair]);
+    store.queues.push_back(QueueId(0), part);
+}
+
+// The same as `spawn_from` of a larger frame.
+#[cold]
+fn spawn_wide_from(store: &mut Store, code: &[Node], turn: Turn, number: u32, frame: &[u32])
+    requires code { IsCode (map plain_node code.now) }
+    requires turn { IsTurn (core_in code.now) store.old.desk.heap store.old.desk.values.items turn }
+    requires queue { IsQueue store.old.queues 0 }
+    requires can { CanHold store.old frame.now }
+    requires inside { All (λ level. level < length store.old.desk.values.items) frame.now }
+    requires pairs { ArePairs store.old.desk.heap store.old.desk.values.items }
+    ensures spawns { Spawns store.old store.new number frame.now }
+    ensures kept { KeepsHeld store.old.queues store.new.queues }
+    ensures no_more { HoldsNoMore store.old.queues store.new.queues }
+    ensures spare_queues { store.new.queues.spare_queues ≡ store.old.queues.spare_queues }
+    ensures blocks { KeepsBlocks store.old.queues.region store.new.queues.region }
+    ensures cost { CostsAtMost (block_width frame.now + 2) store.old.queues store.new.queues }
+{
+    match record_of(&*store, code, turn, frame) {
+        Some(pair) => spawn_record(store, number, pair),
+        None => spawn_part(store, number, frame),
+    }
+}
+
+// The same as `spawn_part`, by who had this turn: the block gets a record of the same frame, and none is made.
+#[inline(always)]
+pub(crate) fn spawn_from(store: &mut Store, code: &[Node], turn: Turn, number: u32, frame: &[u32])
+    requires code { IsCode (map plain_node code.now) }
+    requires turn { IsTurn (core_in code.now) store.old.desk.heap store.old.desk.values.items turn }
+    requires queue { IsQueue store.old.queues 0 }
+    requires can { CanHold store.old frame.now }
+    requires inside { All (λ level. level < length store.old.desk.values.items) frame.now }
+    requires pairs { ArePairs store.old.desk.heap store.old.desk.values.items }
+    ensures spawns { Spawns store.old store.new number frame.now }
+    ensures kept { KeepsHeld store.old.queues store.new.queues }
+    ensures no_more { HoldsNoMore store.old.queues store.new.queues }
+    ensures spare_queues { store.new.queues.spare_queues ≡ store.old.queues.spare_queues }
+    ensures blocks { KeepsBlocks store.old.queues.region store.new.queues.region }
+    ensures cost { CostsAtMost (block_width frame.now + 2) store.old.queues store.new.queues }
+{
+    if frame.len() <= NARROW_LIMIT as usize {
+        spawn_part(store, number, frame);
+    } else {
+        spawn_wide_from(store, code, turn, number, frame);
     }
 }
 

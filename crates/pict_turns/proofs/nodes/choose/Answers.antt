@@ -34,17 +34,21 @@ frame_at-frame-requires c =
     chosen_low b.0 c.args.yes c.args.no _ c.chosen-part.result
     (in_code c.args.code.now c.requires.code c.args.yes low.0) (in_code c.args.code.now c.requires.code c.args.no low.1) b.2
 
-pub hand_on-requires-clause-can : goal.hand_on-requires-clause-can
-hand_on-requires-clause-can c = can_hold c.reserve_part.new.store c.frame_at-frame.result.now _ c.in_ok-reserve_part.ensures.ok
+pub hand_on_from-requires-clause-turn : goal.hand_on_from-requires-clause-turn
+hand_on_from-requires-clause-turn c =
+    (store_still (core_in c.args.code.now) c.args.store.now c.reserve_part.new.store c.reserve_part.ensures.rest c.requires.acts.acting.store).turn
 
-pub hand_on-requires-clause-inside : goal.hand_on-requires-clause-inside
-hand_on-requires-clause-inside c =
+pub hand_on_from-requires-clause-can : goal.hand_on_from-requires-clause-can
+hand_on_from-requires-clause-can c = can_hold c.reserve_part.new.store c.frame_at-frame.result.now _ c.in_ok-reserve_part.ensures.ok
+
+pub hand_on_from-requires-clause-inside : goal.hand_on_from-requires-clause-inside
+hand_on_from-requires-clause-inside c =
     let mid = c.reserve_part.new.store in
     coded_inside c.args.code.now c.requires.code mid (store_still (core_in c.args.code.now) c.args.store.now mid c.reserve_part.ensures.rest c.requires.acts.acting.store)
     c.chosen-part.result c.frame_at-frame.result.now c.frame_at-frame.ensures
 
-pub hand_on-requires-clause-pairs : goal.hand_on-requires-clause-pairs
-hand_on-requires-clause-pairs c =
+pub hand_on_from-requires-clause-pairs : goal.hand_on_from-requires-clause-pairs
+hand_on_from-requires-clause-pairs c =
     (store_still (core_in c.args.code.now) c.args.store.now c.reserve_part.new.store c.reserve_part.ensures.rest c.requires.acts.acting.store).pairs
 
 pub returns-clause-done : goal.returns-clause-done
@@ -56,10 +60,10 @@ returns-clause-done c =
     let f = coded_frame c.args.code.now c.requires.code c.chosen-part.result c.frame_at-frame.result.now c.frame_at-frame.ensures in
     let test = plain_val c.args.test.now in
     let b = c.chosen-part.ensures in
-    done_after core old mid rest c.hand_on.new.store Quiet
-    (choose_by core mid c.hand_on.new.store c.args.yes c.args.no c.chosen-part.result test b.0 c.frame_at-frame.result.now c.requires.code.closed
+    done_after core old mid rest c.hand_on_from.new.store Quiet
+    (choose_by core mid c.hand_on_from.new.store c.args.yes c.args.no c.chosen-part.result test b.0 c.frame_at-frame.result.now c.requires.code.closed
     (acts_still core old mid rest (op.If test c.args.yes c.args.no) c.requires.acts)
-    (ap (λ (value : ℕ → Val). operand_value value test) (known_still core old mid rest) ∙ b.1) b.2 f (c.hand_on.ensures.hands core f) c.in_ok-reserve_part.ensures.ok.block)
+    (ap (λ (value : ℕ → Val). operand_value value test) (known_still core old mid rest) ∙ b.1) b.2 f (c.hand_on_from.ensures.hands core f) c.in_ok-reserve_part.ensures.ok.block)
 
 pub returns-clause-turn : goal.returns-clause-turn
 returns-clause-turn c = λ first second one other.
@@ -67,26 +71,26 @@ returns-clause-turn c = λ first second one other.
     let f = coded_frame c.args.code.now c.requires.code c.chosen-part.result c.frame_at-frame.result.now c.frame_at-frame.ensures in
     let b = c.chosen-part.ensures in
     let low = chosen_width (map plain_node c.args.code.now) b.0 c.chosen-part.result c.args.yes c.args.no c.frame_at-frame.result.now first second b.2 c.frame_at-frame.ensures one other in
-    let cost = handed_cost core c.reserve_part.new.store c.hand_on.new.store c.chosen-part.result c.frame_at-frame.result.now (c.hand_on.ensures.hands core f) in
+    let cost = handed_cost core c.reserve_part.new.store c.hand_on_from.new.store c.chosen-part.result c.frame_at-frame.result.now (c.hand_on_from.ensures.hands core f) in
     omega (arith, low, cost)
 
 pub returns-clause-blocks : goal.returns-clause-blocks
 returns-clause-blocks c = λ b is.
     let a = c.chosen-part.ensures in
     let old = c.args.store.now.queues in
-    makes_chosen (map plain_node c.args.code.now) old c.hand_on.new.store.queues _ a.0 b c.args.yes c.args.no c.chosen-part.result _ a.1 is a.2 c.frame_at-frame.ensures
-    (subst (λ (q : QueuesState). MakesOnly old q (block_width c.frame_at-frame.result.now ∷ [])) (sym c.hand_on.ensures.queues) c.reserve_part.ensures.most)
+    makes_chosen (map plain_node c.args.code.now) old c.hand_on_from.new.store.queues _ a.0 b c.args.yes c.args.no c.chosen-part.result _ a.1 is a.2 c.frame_at-frame.ensures
+    (subst (λ (q : QueuesState). MakesOnly old q (block_width c.frame_at-frame.result.now ∷ [])) (sym c.hand_on_from.ensures.queues) c.reserve_part.ensures.most)
 
 pub returns-clause-adds : goal.returns-clause-adds
 returns-clause-adds c = λ b is.
     let a = c.chosen-part.ensures in
     let old = c.args.store.now in
     let f = coded_frame c.args.code.now c.requires.code c.chosen-part.result c.frame_at-frame.result.now c.frame_at-frame.ensures in
-    adds_chosen (map plain_node c.args.code.now) old c.hand_on.new.store _ a.0 b c.args.yes c.args.no c.chosen-part.result _ a.1 is a.2 c.frame_at-frame.ensures
-    (used_after old.desk.heap.room c.reserve_part.new.store.desk.heap.room c.hand_on.new.store.desk.heap.room _ c.reserve_part.ensures.rest.room (c.hand_on.ensures.hands (core_in c.args.code.now) f).used)
+    adds_chosen (map plain_node c.args.code.now) old c.hand_on_from.new.store _ a.0 b c.args.yes c.args.no c.chosen-part.result _ a.1 is a.2 c.frame_at-frame.ensures
+    (used_after old.desk.heap.room c.reserve_part.new.store.desk.heap.room c.hand_on_from.new.store.desk.heap.room _ c.reserve_part.ensures.rest.room (c.hand_on_from.ensures.hands (core_in c.args.code.now) f).used)
 
 pub returns-clause-work : goal.returns-clause-work
-returns-clause-work c = ap (λ (q : QueuesState). q.region.work) c.hand_on.ensures.queues ∙ c.reserve_part.ensures.rest.work
+returns-clause-work c = ap (λ (q : QueuesState). q.region.work) c.hand_on_from.ensures.queues ∙ c.reserve_part.ensures.rest.work
 
 pub returns-in_err-reserve_part-clause-refused : goal.returns-in_err-reserve_part-clause-refused
 returns-in_err-reserve_part-clause-refused c =

@@ -11,7 +11,7 @@ use Rattle.pict_blocks.specs.Parts.{block_width}
 use Rattle.pict_turns.specs.Turns.{turn_cost}
 use Rattle.pict_turns.specs.Widths.{MakesOnly}
 use Rattle.pict_turns.proofs.Adding.{used_less, adds_parts}
-use Rattle.pict_turns.proofs.Handing.{handed_pairs}
+use Rattle.pict_turns.proofs.Handing.{handed_pairs, handed_turn}
 use Rattle.pict_turns.proofs.Making.{makes_before, makes_parts}
 use Rattle.pict_turns.proofs.Numbered.{coded_inside, fork_parts}
 use Rattle.pict_desk.proofs.Numbered.{coded_frame, in_code, same_frame}
@@ -27,49 +27,61 @@ pub frame_at-second-requires : goal.frame_at-second-requires
 frame_at-second-requires c =
     in_code c.args.code.now c.requires.code c.args.right (fork_parts (core_in c.args.code.now) c.args.store.now c.args.left c.args.right c.requires.acts).1
 
-pub hand_on-requires-clause-can : goal.hand_on-requires-clause-can
-hand_on-requires-clause-can c =
+pub hand_on_from-requires-clause-turn : goal.hand_on_from-requires-clause-turn
+hand_on_from-requires-clause-turn c =
+    (store_still (core_in c.args.code.now) c.args.store.now c.reserve_parts.new.store c.reserve_parts.ensures.rest c.requires.acts.acting.store).turn
+
+pub spawn_from-requires-clause-turn : goal.spawn_from-requires-clause-turn
+spawn_from-requires-clause-turn c =
+    let core = core_in c.args.code.now in
+    let mid = c.reserve_parts.new.store in
+    let f = coded_frame c.args.code.now c.requires.code c.args.left c.frame_at-first.result.now c.frame_at-first.ensures in
+    let still = store_still core c.args.store.now mid c.reserve_parts.ensures.rest c.requires.acts.acting.store in
+    handed_turn core mid c.hand_on_from.new.store c.args.left c.frame_at-first.result.now (c.hand_on_from.ensures.hands core f) still.pairs mid.turn still.turn
+
+pub hand_on_from-requires-clause-can : goal.hand_on_from-requires-clause-can
+hand_on_from-requires-clause-can c =
     let mid = c.reserve_parts.new.store in
     let both = c.in_ok-reserve_parts.ensures.ok in
     can_first mid c.frame_at-first.result.now c.frame_at-second.result.now both
 
-pub hand_on-requires-clause-inside : goal.hand_on-requires-clause-inside
-hand_on-requires-clause-inside c =
+pub hand_on_from-requires-clause-inside : goal.hand_on_from-requires-clause-inside
+hand_on_from-requires-clause-inside c =
     let mid = c.reserve_parts.new.store in
     coded_inside c.args.code.now c.requires.code mid (store_still (core_in c.args.code.now) c.args.store.now mid c.reserve_parts.ensures.rest c.requires.acts.acting.store)
     c.args.left c.frame_at-first.result.now c.frame_at-first.ensures
 
-pub hand_on-requires-clause-pairs : goal.hand_on-requires-clause-pairs
-hand_on-requires-clause-pairs c =
+pub hand_on_from-requires-clause-pairs : goal.hand_on_from-requires-clause-pairs
+hand_on_from-requires-clause-pairs c =
     (store_still (core_in c.args.code.now) c.args.store.now c.reserve_parts.new.store c.reserve_parts.ensures.rest c.requires.acts.acting.store).pairs
 
-pub spawn_part-requires-clause-queue : goal.spawn_part-requires-clause-queue
-spawn_part-requires-clause-queue c =
+pub spawn_from-requires-clause-queue : goal.spawn_from-requires-clause-queue
+spawn_from-requires-clause-queue c =
     let ready = (store_still (core_in c.args.code.now) c.args.store.now c.reserve_parts.new.store c.reserve_parts.ensures.rest c.requires.acts.acting.store).ready in
-    subst (λ (q : QueuesState). IsQueue q 0) (sym c.hand_on.ensures.queues) ready
+    subst (λ (q : QueuesState). IsQueue q 0) (sym c.hand_on_from.ensures.queues) ready
 
-pub spawn_part-requires-clause-can : goal.spawn_part-requires-clause-can
-spawn_part-requires-clause-can c =
+pub spawn_from-requires-clause-can : goal.spawn_from-requires-clause-can
+spawn_from-requires-clause-can c =
     let core = core_in c.args.code.now in
     let f = coded_frame c.args.code.now c.requires.code c.args.left c.frame_at-first.result.now c.frame_at-first.ensures in
-    can_second core c.reserve_parts.new.store c.hand_on.new.store c.args.left c.frame_at-first.result.now c.frame_at-second.result.now c.in_ok-reserve_parts.ensures.ok
-    (c.hand_on.ensures.hands core f)
+    can_second core c.reserve_parts.new.store c.hand_on_from.new.store c.args.left c.frame_at-first.result.now c.frame_at-second.result.now c.in_ok-reserve_parts.ensures.ok
+    (c.hand_on_from.ensures.hands core f)
 
-pub spawn_part-requires-clause-inside : goal.spawn_part-requires-clause-inside
-spawn_part-requires-clause-inside c =
+pub spawn_from-requires-clause-inside : goal.spawn_from-requires-clause-inside
+spawn_from-requires-clause-inside c =
     let core = core_in c.args.code.now in
     let mid = c.reserve_parts.new.store in
     let f = coded_frame c.args.code.now c.requires.code c.args.left c.frame_at-first.result.now c.frame_at-first.ensures in
     let inside = coded_inside c.args.code.now c.requires.code mid (store_still core c.args.store.now mid c.reserve_parts.ensures.rest c.requires.acts.acting.store)
     c.args.right c.frame_at-second.result.now c.frame_at-second.ensures in
-    subst (λ (vs : List (ℕ × ℕ)). All (λ level. level < length vs) c.frame_at-second.result.now) (sym (c.hand_on.ensures.hands core f).values) inside
+    subst (λ (vs : List (ℕ × ℕ)). All (λ level. level < length vs) c.frame_at-second.result.now) (sym (c.hand_on_from.ensures.hands core f).values) inside
 
-pub spawn_part-requires-clause-pairs : goal.spawn_part-requires-clause-pairs
-spawn_part-requires-clause-pairs c =
+pub spawn_from-requires-clause-pairs : goal.spawn_from-requires-clause-pairs
+spawn_from-requires-clause-pairs c =
     let core = core_in c.args.code.now in
     let mid = c.reserve_parts.new.store in
     let f = coded_frame c.args.code.now c.requires.code c.args.left c.frame_at-first.result.now c.frame_at-first.ensures in
-    handed_pairs core mid c.hand_on.new.store c.args.left c.frame_at-first.result.now (c.hand_on.ensures.hands core f)
+    handed_pairs core mid c.hand_on_from.new.store c.args.left c.frame_at-first.result.now (c.hand_on_from.ensures.hands core f)
     (store_still core c.args.store.now mid c.reserve_parts.ensures.rest c.requires.acts.acting.store).pairs
 
 pub returns-clause-done : goal.returns-clause-done
@@ -77,50 +89,50 @@ returns-clause-done c =
     let core = core_in c.args.code.now in
     let old = c.args.store.now in
     let mid = c.reserve_parts.new.store in
-    let handed = c.hand_on.new.store in
-    let last = c.spawn_part.new.store in
+    let handed = c.hand_on_from.new.store in
+    let last = c.spawn_from.new.store in
     let rest = c.reserve_parts.ensures.rest in
     let f = coded_frame c.args.code.now c.requires.code c.args.left c.frame_at-first.result.now c.frame_at-first.ensures in
     let g = coded_frame c.args.code.now c.requires.code c.args.right c.frame_at-second.result.now c.frame_at-second.ensures in
     done_after core old mid rest last Quiet
-    (fork_by core mid handed last c.args.left c.args.right c.frame_at-first.result.now c.frame_at-second.result.now (c.hand_on.ensures.hands core f) c.spawn_part.ensures.spawns f g
-    (acts_still core old mid rest (op.Par c.args.left c.args.right) c.requires.acts) c.in_ok-reserve_parts.ensures.ok c.spawn_part.ensures.no_more
-    (let same = c.spawn_part.ensures.spawns.queues in let left = c.spawn_part.ensures.spare_queues in omega (arith, same, left)))
+    (fork_by core mid handed last c.args.left c.args.right c.frame_at-first.result.now c.frame_at-second.result.now (c.hand_on_from.ensures.hands core f) c.spawn_from.ensures.spawns f g
+    (acts_still core old mid rest (op.Par c.args.left c.args.right) c.requires.acts) c.in_ok-reserve_parts.ensures.ok c.spawn_from.ensures.no_more
+    (let same = c.spawn_from.ensures.spawns.queues in let left = c.spawn_from.ensures.spare_queues in omega (arith, same, left)))
 
 pub returns-clause-turn : goal.returns-clause-turn
 returns-clause-turn c = λ first is.
     let core = core_in c.args.code.now in
     let f = coded_frame c.args.code.now c.requires.code c.args.left c.frame_at-first.result.now c.frame_at-first.ensures in
     let same = same_frame (map plain_node c.args.code.now) c.args.left first c.frame_at-first.result.now is c.frame_at-first.ensures in
-    let cost = fork_cost core c.reserve_parts.new.store c.hand_on.new.store c.spawn_part.new.store c.args.left c.args.right c.frame_at-first.result.now c.frame_at-second.result.now
-    (c.hand_on.ensures.hands core f) c.spawn_part.ensures.spawns in
-    subst (λ (frame : List ℕ). turn_cost core c.spawn_part.new.store ≤ block_width frame + 4) (sym same) cost
+    let cost = fork_cost core c.reserve_parts.new.store c.hand_on_from.new.store c.spawn_from.new.store c.args.left c.args.right c.frame_at-first.result.now c.frame_at-second.result.now
+    (c.hand_on_from.ensures.hands core f) c.spawn_from.ensures.spawns in
+    subst (λ (frame : List ℕ). turn_cost core c.spawn_from.new.store ≤ block_width frame + 4) (sym same) cost
 
 pub returns-clause-blocks : goal.returns-clause-blocks
 returns-clause-blocks c =
     let old = c.args.store.now.queues in
     let mid = c.reserve_parts.new.store.queues in
-    let handed = c.hand_on.new.store.queues in
-    let last = c.spawn_part.new.store.queues in
+    let handed = c.hand_on_from.new.store.queues in
+    let last = c.spawn_from.new.store.queues in
     let needed = block_width c.frame_at-first.result.now ∷ block_width c.frame_at-second.result.now ∷ [] in
     makes_parts (map plain_node c.args.code.now) old last c.args.left c.args.right _ _ c.frame_at-first.ensures c.frame_at-second.ensures
-    (makes_before old handed last needed (subst (λ (q : QueuesState). MakesOnly old q needed) (sym c.hand_on.ensures.queues) c.reserve_parts.ensures.most) c.spawn_part.ensures.blocks)
+    (makes_before old handed last needed (subst (λ (q : QueuesState). MakesOnly old q needed) (sym c.hand_on_from.ensures.queues) c.reserve_parts.ensures.most) c.spawn_from.ensures.blocks)
 
 pub returns-clause-adds : goal.returns-clause-adds
 returns-clause-adds c =
     let f = coded_frame c.args.code.now c.requires.code c.args.left c.frame_at-first.result.now c.frame_at-first.ensures in
-    adds_parts (map plain_node c.args.code.now) c.args.store.now c.reserve_parts.new.store c.hand_on.new.store c.spawn_part.new.store c.args.left c.args.right _ _ c.frame_at-first.ensures c.frame_at-second.ensures
-    c.reserve_parts.ensures.rest.room (c.hand_on.ensures.hands (core_in c.args.code.now) f).used c.spawn_part.ensures.spawns.used
+    adds_parts (map plain_node c.args.code.now) c.args.store.now c.reserve_parts.new.store c.hand_on_from.new.store c.spawn_from.new.store c.args.left c.args.right _ _ c.frame_at-first.ensures c.frame_at-second.ensures
+    c.reserve_parts.ensures.rest.room (c.hand_on_from.ensures.hands (core_in c.args.code.now) f).used c.spawn_from.ensures.spawns.used
 
 pub returns-clause-cost : goal.returns-clause-cost
 returns-clause-cost c = λ second is.
     let old = c.args.store.now.queues in
-    let handed = c.hand_on.new.store.queues in
-    let last = c.spawn_part.new.store.queues in
+    let handed = c.hand_on_from.new.store.queues in
+    let last = c.spawn_from.new.store.queues in
     let same = same_frame (map plain_node c.args.code.now) c.args.right second c.frame_at-second.result.now is c.frame_at-second.ensures in
-    let work = ap (λ (q : QueuesState). q.region.work) c.hand_on.ensures.queues ∙ c.reserve_parts.ensures.rest.work in
+    let work = ap (λ (q : QueuesState). q.region.work) c.hand_on_from.ensures.queues ∙ c.reserve_parts.ensures.rest.work in
     subst (λ (frame : List ℕ). CostsAtMost (block_width frame + 2) old last) (sym same)
-    (costs_more old handed last 0 (block_width c.frame_at-second.result.now + 2) _ (omega arith) (costs_nothing old handed work) c.spawn_part.ensures.cost)
+    (costs_more old handed last 0 (block_width c.frame_at-second.result.now + 2) _ (omega arith) (costs_nothing old handed work) c.spawn_from.ensures.cost)
 
 pub returns-in_err-reserve_parts-clause-refused : goal.returns-in_err-reserve_parts-clause-refused
 returns-in_err-reserve_parts-clause-refused c =

@@ -6,17 +6,17 @@ use Rattle.pict_turns.specs.Acting.{IsStore}
 use Rattle.pict_desk.specs.Code.{core_in, IsCode}
 use Rattle.pict_turns.specs.Views.{view_with_turn, acting_words}
 use Rattle.pict_desk.specs.Constants.{AreConstants}
-use Rattle.pict_machine.specs.Stepping.{GivesTurn, MayAct, IsStepBy}
-use Rattle.pict_machine.proofs.Taking.{may_act}
+use Rattle.pict_acting.specs.Stepping.{GivesTurn, MayAct, IsStepBy}
+use Rattle.pict_acting.proofs.Taking.{may_act}
 use Rattle.pict_machine.proofs.Steps.{step_kept, step_ok, step_event, step_refused, step_keeps, step_few, step_queues}
-use Rattle.pict_machine.specs.Needs.{MakesNeeded}
-use Rattle.pict_machine.specs.Plain.{ActsPlainly, TakesNothing}
-use Rattle.pict_machine.specs.Work.{Fits}
-use Rattle.pict_machine.proofs.Needing.{running_needs}
-use Rattle.pict_machine.specs.Growing.{AddsNeeded}
-use Rattle.pict_machine.proofs.Adding.{running_adds}
-use Rattle.pict_machine.proofs.Plainly.{plainly_given}
-use Rattle.pict_machine.proofs.Working.{running_works}
+use Rattle.pict_acting.specs.Needs.{MakesNeeded}
+use Rattle.pict_acting.specs.Plain.{ActsPlainly, TakesNothing}
+use Rattle.pict_acting.specs.Work.{Fits}
+use Rattle.pict_acting.proofs.Needing.{running_needs}
+use Rattle.pict_acting.specs.Growing.{AddsNeeded}
+use Rattle.pict_acting.proofs.Adding.{running_adds}
+use Rattle.pict_acting.proofs.Plainly.{plainly_given}
+use Rattle.pict_acting.proofs.Working.{running_works}
 use Rattle.pict_machine.proofs.machine.Machine.advance.Goals as goal
 
 pub ensure_turn-requires : goal.ensure_turn-requires

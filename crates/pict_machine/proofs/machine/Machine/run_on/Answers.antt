@@ -2,11 +2,12 @@ use Rattle.std.proofs.Common.{◌≡◌, ◌+◌, ◌-◌, ◌≤◌, Some, None
 use Rattle.pict_view.proofs.Runs.{is_trapped, one_more, saw_more, refused}
 use Rattle.pict_heap.specs.HeapState.{HeapState}
 use Rattle.pict_machine.specs.Events.{label_of, trap_of, IsEventOf}
-use Rattle.pict_machine.specs.Packed.{label_packed, trap_packed}
+use Rattle.pict_acting.specs.Packed.{label_packed, trap_packed}
 use Rattle.pict_machine.specs.Machine.{running_view, heap_of}
 use Rattle.pict_machine.proofs.Bounding.{spends_on, spends_up}
 use Rattle.pict_machine.proofs.Going.{right_after, stops_of, stood_between, further, event_of, rests, wants}
-use Rattle.pict_machine.proofs.Running.{on_err, seen_steps}
+use Rattle.pict_code.proofs.Lines.{on_err}
+use Rattle.pict_machine.proofs.Running.{seen_steps}
 use Rattle.pict_desk.proofs.Making.{keeps_more}
 use Rattle.pict_machine.proofs.machine.Machine.run_on.Goals as goal
 

@@ -14,17 +14,17 @@ use Rattle.pict_turns.specs.Turns.{TakesTurn, TakesOneBlock, turn_cost}
 use Rattle.pict_turns.specs.Views.{acting_words, ready_words}
 use Rattle.pict_turns.specs.declared.store.Store.{Store}
 use Rattle.pict_desk.specs.Constants.{AreConstants}
-use Rattle.pict_machine.specs.Needs.{MakesNeeded}
-use Rattle.pict_machine.specs.Plain.{ActsPlainly, TakesNothing}
-use Rattle.pict_machine.specs.Stepping.{MayAct, IsStepBy}
-use Rattle.pict_machine.specs.Work.{Fits}
-use Rattle.pict_machine.proofs.Needing.{needed_whole}
-use Rattle.pict_machine.specs.Growing.{AddsNeeded}
-use Rattle.pict_machine.proofs.Adding.{whole_adds}
-use Rattle.pict_machine.proofs.Plainly.{plainly_given, idle_plainly}
+use Rattle.pict_acting.specs.Needs.{MakesNeeded}
+use Rattle.pict_acting.specs.Plain.{ActsPlainly, TakesNothing}
+use Rattle.pict_acting.specs.Stepping.{MayAct, IsStepBy}
+use Rattle.pict_acting.specs.Work.{Fits}
+use Rattle.pict_acting.proofs.Needing.{needed_whole}
+use Rattle.pict_acting.specs.Growing.{AddsNeeded}
+use Rattle.pict_acting.proofs.Adding.{whole_adds}
+use Rattle.pict_acting.proofs.Plainly.{plainly_given, idle_plainly}
 use Rattle.pict_machine.proofs.Steps.{idle_view, step_kept, whole_kept, whole_ok, whole_event, whole_trapped, whole_refused, whole_keeps, whole_few, whole_queues}
-use Rattle.pict_machine.proofs.Taking.{first_given, may_act}
-use Rattle.pict_machine.proofs.Working.{step_works}
+use Rattle.pict_acting.proofs.Taking.{first_given, may_act}
+use Rattle.pict_acting.proofs.Working.{step_works}
 use Rattle.pict_machine.proofs.machine.Machine.step_packed.Goals as goal
 
 pub take_turn-requires : goal.take_turn-requires

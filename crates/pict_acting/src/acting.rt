@@ -1,0 +1,93 @@
+// The step of who has the turn.
+ghost use Rattle.std.specs.Prelude.{map};
+ghost use Rattle.pict_code.specs.Plain.{plain_op, plain_node};
+ghost use Rattle.pict_turns.specs.Acting.{ActsBy};
+ghost use Rattle.pict_desk.specs.Code.{core_in};
+ghost use Rattle.pict_turns.specs.Views.{acting_words};
+ghost use Rattle.pict_desk.specs.Constants.{IsConstantFor, AreConstants};
+ghost use Rattle.pict_acting.specs.Growing.{AddsNeeded};
+ghost use Rattle.pict_acting.specs.Needs.{MakesNeeded};
+ghost use Rattle.pict_acting.specs.Plain.{ActsPlainly, TakesNothing};
+ghost use Rattle.pict_acting.specs.Stepping.{MayAct, IsStepBy};
+ghost use Rattle.pict_acting.specs.Work.{Fits};
+
+use crate::event::PackedEvent;
+use crate::outputs::{output, output_kept};
+use crate::receiving::input;
+use pict_code::{Node, Op};
+use pict_heap::Word;
+use pict_turns::{Store, Turn, choose, end, fork, make_channel};
+use std::alloc::AllocError;
+
+/// The step of who has the turn, with its oldest partner.
+///
+/// The event is the label of the oldest-first step of the store's view, by words of the heap, and the store has the view after
+/// it; who has the turn keeps it, hands it on, or nobody has it then. The only error is want of memory. Where memory is wanting,
+/// or the step divides by zero, nothing changes but room, spare blocks and work.
+///
+/// The code is the code of a closed process, somebody has the turn, the step isn't wrong, and there may be a channel more.
+/// `constants` has one place for each node: the word of an output's message that is a text or a record without variables.
+///
+/// Whatever the answer, the work of the queues rises by at most the step's cost, blocks are made only where fewer are free than
+/// the step needs, and the heap has at most the texts and records more that the step needs. A plain meeting of a message and an
+/// input takes no memory.
+pub fn act(
+    code: &[Node],
+    constants: &[Option<Word>],
+    store: &mut Store,
+) -> Result<PackedEvent, AllocError>
+    requires may { MayAct code.now store.old }
+    requires constants { AreConstants store.old.desk.heap (map plain_node code.now) constants.now }
+    ensures step { IsStepBy (core_in code.now) store.old store.new result }
+    ensures work { Fits (core_in code.now) store.old store.new }
+    ensures blocks { MakesNeeded (core_in code.now) store.old store.new }
+    ensures adds { AddsNeeded (core_in code.now) store.old store.new }
+    ensures plain { ActsPlainly (core_in code.now) store.old (acting_words (core_in code.now) store.old) → TakesNothing store.old store.new result }
+{
+    match store.turn {
+        Turn::Nobody => unreachable!(),
+        Turn::Node(number) | Turn::Wide(number, _) => {
+            act_by(code, store, &code[number].op, &constants[number])
+        }
+        Turn::Output(kept) => output_kept(code, store, kept),
+    }
+}
+
+// The same of a node with this instruction and this constant, whose levels have the values of its frame.
+fn act_by(
+    code: &[Node],
+    store: &mut Store,
+    op: &Op,
+    constant: &Option<Word>,
+) -> Result<PackedEvent, AllocError>
+    requires may { MayAct code.now store.old }
+    requires acts { ActsBy (core_in code.now) store.old (plain_op op.now) }
+    requires constant { IsConstantFor store.old.desk.heap (plain_op op.now) constant.now }
+    ensures step { IsStepBy (core_in code.now) store.old store.new result }
+    ensures work { Fits (core_in code.now) store.old store.new }
+    ensures blocks { MakesNeeded (core_in code.now) store.old store.new }
+    ensures adds { AddsNeeded (core_in code.now) store.old store.new }
+    ensures plain { ActsPlainly (core_in code.now) store.old (acting_words (core_in code.now) store.old) → TakesNothing store.old store.new result }
+{
+    match op {
+        Op::Zero => {
+            end(store);
+            Ok(PackedEvent::Quiet)
+        }
+        Op::Par(left, right) => {
+            fork(store, code, *left, *right)?;
+            Ok(PackedEvent::Quiet)
+        }
+        Op::New(level, part) => {
+            make_channel(store, code, *level, *part)?;
+            Ok(PackedEvent::Quiet)
+        }
+        Op::If(test, yes, no) => {
+            choose(store, code, test, *yes, *no)?;
+            Ok(PackedEvent::Quiet)
+        }
+        Op::Out(chan, message, at) => output(code, store, chan, message, constant, *at),
+        Op::In(chan, pattern, part) => input(code, store, chan, false, pattern, *part),
+        Op::Serve(chan, pattern, part) => input(code, store, chan, true, pattern, *part),
+    }
+}

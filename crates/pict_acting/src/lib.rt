@@ -1,0 +1,12 @@
+//! The step of who has the turn, over the blocks of a store: outputs, inputs, calls of primitives, and the parts of nodes.
+#![tactic(auto)]
+
+mod acting;
+mod event;
+mod outputs;
+mod receiving;
+mod sending;
+
+pub use acting::act;
+pub use event::PackedEvent;
+pub use receiving::acting_width;

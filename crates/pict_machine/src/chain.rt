@@ -1,0 +1,301 @@
+// A call of a primitive whose answer is awaited: five steps in one go.
+ghost use Rattle.std.specs.Prelude.{◌≡◌, ◌<◌, ◌≤◌, ◌+◌, ◌^◌, ◌∷◌, ◌↔◌, [], ℕ, List, length, map, IfOk, IfSome, IsTrue, OnErr, OnOk, Ok, Some, None};
+ghost use Rattle.std.specs.List.{AllByRecursion};
+ghost use Rattle.pict_syntax.specs.declared.span.Span.{Span};
+ghost use Rattle.pict_core.specs.Closed.{IsOver, AreOver};
+ghost use Rattle.pict_core.specs.Plain.{plain_val, vals_of};
+ghost use Rattle.pict_core.specs.Term.{Val, Var, Int};
+ghost use Rattle.pict_code.specs.Instruction as op;
+ghost use Rattle.pict_code.specs.Nodes.{Place, places, nodes_of};
+ghost use Rattle.pict_code.specs.Plain.{plain_node, plain_op};
+ghost use Rattle.pict_heap.specs.HeapState.{HeapState};
+ghost use Rattle.pict_queue.specs.QueuesState.{IsQueue, CostsAtMost};
+ghost use Rattle.pict_queue.specs.Contents.{contents};
+ghost use Rattle.pict_region.specs.RegionState.{spare};
+ghost use Rattle.pict_blocks.specs.Parts.{block_width};
+ghost use Rattle.pict_desk.specs.Arguments.{operand_in};
+ghost use Rattle.pict_desk.specs.Code.{core_in, IsCode};
+ghost use Rattle.pict_desk.specs.Pairs.{ArePairs};
+ghost use Rattle.pict_meetings.specs.Room.{CanHoldBeside};
+ghost use Rattle.pict_turns.specs.Acting.{IsStore};
+ghost use Rattle.pict_turns.specs.Channels.{AddsChannel};
+ghost use Rattle.pict_turns.specs.Reserving.{OnlyReserves};
+ghost use Rattle.pict_turns.specs.Turns.{IsNarrow};
+ghost use Rattle.pict_turns.specs.Widths.{MakesOnly};
+ghost use Rattle.pict_machine.specs.declared.chain.Received.{Received as AnyReceived};
+ghost use Rattle.pict_machine.specs.Bounds.{greatest_cost, MakesFew};
+ghost use Rattle.pict_machine.specs.Chain.{KeepsOtherLevels, AnswersAt, CallsAt, IsNarrowWith, BeginsCall, MakesCall};
+
+use pict_blocks::{block_of, block_width};
+use pict_code::{CodePat, Node, Op, Operand};
+use pict_core::CoreVal;
+use pict_desk::number_at_hand;
+use pict_heap::{Word, pack};
+use pict_meetings::reserve_beside;
+use pict_prim::{NO_NEED, answer_of_numbers};
+use pict_queue::QueueId;
+use pict_syntax::{NARROW_LIMIT, Prim};
+use pict_turns::{Store, Turn, frame_at, reserve_part};
+use std::alloc::AllocError;
+
+// A call that a node begins: the level of the new channel, the number of the reader's node that waits there, the level that it binds
+// and the number of its part, and what the primitive answers.
+#[derive(Clone, Copy)]
+struct Call {
+    level: u32,
+    reader: u32,
+    bound: u32,
+    part: u32,
+    answer: Word,
+}
+
+// What the reader receives: the number of the channel, and the two words of the value.
+#[derive(Clone, Copy)]
+pub(crate) struct Received {
+    pub(crate) channel: u32,
+    pub(crate) value: (u64, u64),
+}
+
+// Whether the operand is the variable of this level.
+#[inline(always)]
+fn is_level(operand: &Operand, level: u32) -> bool
+    ensures { IsTrue result ↔ (plain_val operand.now ≡ Var level) }
+{
+    match operand {
+        CoreVal::Var(own) => *own == level,
+        _ => false,
+    }
+}
+
+// The number that an operand stands for whatever value this level gets, or None where it stands for no number, or is the variable of
+// this level. Each variable has the two words of its level among `values`.
+#[inline(always)]
+fn number_beside(operand: &Operand, level: u32, values: &[(u64, u64)]) -> Option<i64>
+    requires over { IsOver (length values.now) 0 (plain_val operand.now) }
+    requires pairs { (h : HeapState) × ArePairs h values.now }
+    ensures { (h : HeapState) → ArePairs h values.now → (later : List (ℕ × ℕ)) → KeepsOtherLevels level values.now later
+        → IfSome result (λ n. operand_in h later (plain_val operand.now) ≡ Int n) }
+{
+    if is_level(operand, level) {
+        return None;
+    }
+    number_at_hand(operand, values)
+}
+
+// What the primitive answers of a record of two numbers and the variable of this level, whatever value the level gets, or None where
+// the fields are others or it answers nothing.
+#[inline(always)]
+fn answer_at(p: Prim, fields: &[Operand], level: u32, values: &[(u64, u64)]) -> Option<Word>
+    requires over { AreOver (length values.now) 0 (vals_of (map plain_val fields.now)) }
+    requires pairs { (h : HeapState) × ArePairs h values.now }
+    ensures { (h : HeapState) → ArePairs h values.now → IfSome result (AnswersAt h values.now p fields.now level) }
+{
+    if fields.len() != 3 {
+        return None;
+    }
+    if !is_level(&fields[2], level) {
+        return None;
+    }
+    let a = number_beside(&fields[0], level, values)?;
+    let b = number_beside(&fields[1], level, values)?;
+    let answer = answer_of_numbers(p, a, b)?;
+    Some(answer)
+}
+
+// The same of the output to a primitive that an instruction is, or None where it is another instruction.
+#[inline(always)]
+fn called_at(instruction: &Op, level: u32, values: &[(u64, u64)]) -> Option<Word>
+    requires over { (chan message : Val) (at : Span) → plain_op instruction.now ≡ op.Out chan message at → IsOver (length values.now) 0 message }
+    requires pairs { (h : HeapState) × ArePairs h values.now }
+    ensures { (h : HeapState) → ArePairs h values.now → IfSome result (CallsAt h values.now (plain_op instruction.now) level) }
+{
+    let (chan, message) = match instruction {
+        Op::Out(chan, message, _) => (chan, message),
+        _ => return None,
+    };
+    let p = match chan {
+        CoreVal::Prim(p) => *p,
+        _ => return None,
+    };
+    match message {
+        CoreVal::Fields { positional, .. } => answer_at(p, positional, level, values),
+        _ => None,
+    }
+}
+
+// The level and the part of an instruction that makes a channel.
+#[inline(always)]
+fn opened(instruction: &Op) -> Option<(u32, u32)>
+    ensures { IfSome result (λ r. plain_op instruction.now ≡ op.New r.0 r.1) }
+{
+    match instruction {
+        Op::New(level, part) => Some((*level, *part)),
+        _ => None,
+    }
+}
+
+// The parts of a parallel composition.
+#[inline(always)]
+fn forked(instruction: &Op) -> Option<(u32, u32)>
+    ensures { IfSome result (λ r. plain_op instruction.now ≡ op.Par r.0 r.1) }
+{
+    match instruction {
+        Op::Par(left, right) => Some((*left, *right)),
+        _ => None,
+    }
+}
+
+// The level that a replicated input from this level binds to all that it receives, and its part.
+#[inline(always)]
+fn awaited(instruction: &Op, level: u32) -> Option<(u32, u32)>
+    ensures { IfSome result (λ r. plain_op instruction.now ≡ op.Serve (Var level) (op.Bind r.0) r.1) }
+{
+    match instruction {
+        Op::Serve(chan, CodePat::Bind(bound), part) => {
+            if is_level(chan, level) {
+                Some((*bound, *part))
+            } else {
+                None
+            }
+        }
+        _ => None,
+    }
+}
+
+// The instruction of the node with this number, where its frame stands in a block itself.
+#[inline(always)]
+fn narrow_op(code: &[Node], number: u32) -> Option<&Op>
+    requires code { IsCode (map plain_node code.now) }
+    requires inside { number < length code.now }
+    ensures { IfSome result (λ instruction. IsNarrowWith (core_in code.now) number (plain_op instruction.now)) }
+{
+    if frame_at(code, number as usize).len() <= NARROW_LIMIT as usize {
+        Some(&code[number as usize].op)
+    } else {
+        None
+    }
+}
+
+// The call that the node with this number begins, if it begins one.
+#[inline(always)]
+fn call_of(code: &[Node], values: &[(u64, u64)], number: usize) -> Option<Call>
+    requires code { IsCode (map plain_node code.now) }
+    requires narrow { IsNarrow (core_in code.now) number }
+    requires levels { AllByRecursion (λ (p : Place). p.around ≤ length values.now) (places 0 (core_in code.now)) }
+    requires pairs { (h : HeapState) × ArePairs h values.now }
+    ensures { (h : HeapState) → ArePairs h values.now → IfSome result (BeginsCall (core_in code.now) h values.now number) }
+{
+    let (level, both) = opened(&code[number].op)?;
+    let (reader, output) = forked(narrow_op(code, both)?)?;
+    let (bound, part) = awaited(narrow_op(code, reader)?, level)?;
+    narrow_op(code, part)?;
+    let answer = called_at(narrow_op(code, output)?, level, values)?;
+    Some(Call {
+        level,
+        reader,
+        bound,
+        part,
+        answer,
+    })
+}
+
+// Makes room for blocks of both frames and for a channel. An error, which is want of memory, changes nothing but room.
+#[inline(always)]
+fn make_room(store: &mut Store, own: &[u32], frame: &[u32]) -> Result<(), AllocError>
+    ensures both { OnOk result (CanHoldBeside store.new (block_width own.now) frame.now) }
+    ensures own { OnOk result (1 ≤ spare store.new.queues.region (block_width own.now)) }
+    ensures queue { OnOk result (1 ≤ store.new.queues.spare_queues) }
+    ensures most { MakesOnly store.old.queues store.new.queues (block_width own.now ∷ block_width own.now ∷ block_width frame.now ∷ []) }
+    ensures rest { OnlyReserves store.old store.new }
+{
+    reserve_part(store, own, NO_NEED)?;
+    reserve_beside(store, frame, block_width(own))?;
+    store.queues.reserve_queues(1)
+}
+
+// A new channel, as the value of this level. Takes no memory.
+#[inline(always)]
+fn add_channel(store: &mut Store, level: u32) -> u32
+    requires spare { 1 ≤ store.old.queues.spare_queues }
+    requires ready { IsQueue store.old.queues 0 }
+    requires few { length store.old.queues.queues < 2 ^ 32 }
+    requires inside { level < length store.old.desk.values.items }
+    requires pairs { ArePairs store.old.desk.heap store.old.desk.values.items }
+    ensures number { result + 1 ≡ length store.old.queues.queues }
+    ensures adds { AddsChannel store.old store.new level }
+{
+    let number = match store.queues.add_queue() {
+        Ok(queue) => (queue.0 - 1) as u32,
+        Err(_) => unreachable!(),
+    };
+    store.desk.values[level as usize] = pack(Word::Chan(number));
+    number
+}
+
+// Makes the five steps of the call that who has the turn begins, where nobody else is ready. An error, which is want of memory,
+// changes nothing but room. They make no more blocks and cost no more than one step may.
+#[inline(always)]
+fn make_call(code: &[Node], store: &mut Store, call: Call) -> Result<Received, AllocError>
+    requires code { IsCode (map plain_node code.now) }
+    requires store { IsStore (core_in code.now) store.old }
+    requires begins { (number : ℕ) × (store.old.turn ≡ Turn.Node number)
+        × ((h : HeapState) → ArePairs h store.old.desk.values.items → BeginsCall (core_in code.now) h store.old.desk.values.items number call) }
+    requires alone { contents store.old.queues 0 ≡ [] }
+    requires few { length store.old.queues.queues < 2 ^ 32 }
+    ensures made { IfOk result (MakesCall (core_in code.now) store.old store.new) }
+    ensures refused { OnErr result (OnlyReserves store.old store.new) }
+    ensures blocks { MakesFew (core_in code.now) 1 store.old.queues store.new.queues }
+    ensures cost { CostsAtMost (greatest_cost (core_in code.now)) store.old.queues store.new.queues }
+{
+    let own = frame_at(code, call.reader as usize);
+    let frame = frame_at(code, call.part as usize);
+    make_room(store, own, frame)?;
+    let channel = add_channel(store, call.level);
+    let block = block_of(
+        &mut store.queues,
+        call.reader as usize,
+        own,
+        &store.desk.values,
+    );
+    store
+        .queues
+        .push_back(QueueId(u64::from(channel) + 1), block);
+    let value = pack(call.answer);
+    store.desk.values[call.bound as usize] = value;
+    store.turn = Turn::Node(call.part as usize);
+    Ok(Received { channel, value })
+}
+
+// The five steps of a call that who has the turn begins, where nobody else is ready and so many steps may be made. None where it
+// isn't so, and then nothing has changed. An error, which is want of memory, changes nothing but room.
+#[inline(always)]
+pub(crate) fn call_at_once(
+    code: &[Node],
+    store: &mut Store,
+    most: u64,
+) -> Result<Option<Received>, AllocError>
+    requires code { IsCode (map plain_node code.now) }
+    requires store { IsStore (core_in code.now) store.old }
+    requires few { length store.old.queues.queues < 2 ^ 32 }
+    ensures called { (received : AnyReceived) → result ≡ Ok (Some received)
+        → (5 ≤ most) × MakesCall (core_in code.now) store.old store.new received }
+    ensures none { result ≡ Ok None → store.new ≡ store.old }
+    ensures refused { OnErr result (OnlyReserves store.old store.new) }
+    ensures blocks { MakesFew (core_in code.now) 1 store.old.queues store.new.queues }
+    ensures cost { CostsAtMost (greatest_cost (core_in code.now)) store.old.queues store.new.queues }
+{
+    let number = match store.turn {
+        Turn::Node(number) => number,
+        _ => return Ok(None),
+    };
+    if most < 5 {
+        return Ok(None);
+    }
+    if store.queues.length(QueueId(0)) > 0 {
+        return Ok(None);
+    }
+    match call_of(code, &store.desk.values, number) {
+        Some(call) => Ok(Some(make_call(code, store, call)?)),
+        None => Ok(None),
+    }
+}
