@@ -8,6 +8,7 @@ pub mod Freed
 pub mod Keeping
 pub mod Rows
 pub mod Viewing
+pub mod Elsewhere
 pub mod Leasts
 pub mod Running
 pub mod Alone

@@ -21,7 +21,7 @@ use Rattle.pict_network.specs.Events.{Happening, Moved, Stepped, Stopped, Missha
 use Rattle.pict_network.specs.SiteView.{list_for, view_at, IsViewed, IsNoFork, ActsAreViewed}
 use Rattle.pict_network.proofs.Unions.{get_again}
 
-none_here : (b : Bool) → cond b (processes_of []) [] ≡ []
+pub none_here : (b : Bool) → cond b (processes_of []) [] ≡ []
 none_here true = refl
 none_here false = refl
 
@@ -38,15 +38,15 @@ Beside s o Misshapen = o ≡ view.Misshapen
 Beside s o NoEvent = o ≡ view.Over
 
 -- a home, if there is one, is this site
-abbrev IsHere : ℕ → Option ℕ → Type 0
+abbrev pub IsHere : ℕ → Option ℕ → Type 0
 IsHere s None = Unit {0}
 IsHere s (Some g) = nat_eq g s ≡ true
 
-abbrev site_of : Home → ℕ
+abbrev pub site_of : Home → ℕ
 site_of h = h.site
 
 -- of a deed that is placed at its site alone
-abbrev Local : Network → ℕ → Deed → Type 0
+abbrev pub Local : Network → ℕ → Deed → Type 0
 Local N s (Ends label) = Unit {0}
 Local N s (Keeps q label) = Unit {0}
 Local N s (Forks q k) = nat_eq (length N.sites) 1 ≡ true
@@ -219,9 +219,9 @@ module _ (N : Network) (s : ℕ) where
         ∙ sym (ap (λ (o : Option (List Process)). unwrap_or o []) (slice_get-map (λ (h : Home). processes_of h.parked) N.channels c))
 
   -- what is placed here, and the same in the view
-  record Here (p : Process) : Type 0 where
-    same : deed (length (map (list_for s) N.channels)) (partner_at 0 (map (list_for s) N.channels) p) p ≡ deed_in N p
-    local : Local N s (deed_in N p)
+  pub record Here (p : Process) : Type 0 where
+    pub same : deed (length (map (list_for s) N.channels)) (partner_at 0 (map (list_for s) N.channels) p) p ≡ deed_in N p
+    pub local : Local N s (deed_in N p)
 
   out_here : (chan message : Val) (at : Span) → IsHere s (home_at N.channels chan) → Here (Out chan message at)
   out_here (Var v) message at a = record { same = refl; local = tt }
@@ -253,7 +253,7 @@ module _ (N : Network) (s : ℕ) where
   par_local p q (inl a) = absurd a
   par_local p q (inr a) = a
 
-  is_here : (p : Process) → IsNoFork p ⊎ (nat_eq (length N.sites) 1 ≡ true) → IsHere s (home_of N.channels p) → Here p
+  pub is_here : (p : Process) → IsNoFork p ⊎ (nat_eq (length N.sites) 1 ≡ true) → IsHere s (home_of N.channels p) → Here p
   is_here Zero f a = record { same = refl; local = tt }
   is_here (Par p q) f a = record { same = refl; local = par_local p q f }
   is_here (New p) f a = record { same = ap (λ n. deed n None (New p)) (length-map N.channels (list_for s)); local = tt }
@@ -297,7 +297,7 @@ as_is s N o e (Stopped at) b = e ∙ b
 as_is s N o e Misshapen b = e ∙ b
 as_is s N o e NoEvent b = e ∙ b
 
-act_viewed : (N : Network) (s : ℕ) (x : Item) (rest : List Item) → slice_get N.sites s ≡ Some (x ∷ rest) → IsNoFork x.process ⊎ (nat_eq (length N.sites) 1 ≡ true) → IsViewed s N (act_of N s (Some (x ∷ rest)))
+pub act_viewed : (N : Network) (s : ℕ) (x : Item) (rest : List Item) → slice_get N.sites s ≡ Some (x ∷ rest) → IsNoFork x.process ⊎ (nat_eq (length N.sites) 1 ≡ true) → IsViewed s N (act_of N s (Some (x ∷ rest)))
 act_viewed N s x rest at fork = as_is s N (after N s x rest at fork) (whole_view N s x rest at fork) (act_of N s (Some (x ∷ rest))) (act_beside N s x rest at fork)
 
 pub acts_are_viewed : ActsAreViewed

@@ -1,6 +1,6 @@
 -- A site as the view of a machine: what is ready there, and what is parked at its own channels.
 use Rattle.std.specs.Prelude.{ℕ, ◌≡◌, nat_eq, List, [], ◌∷◌, map, Some, slice_get, if◌then◌else◌}
-use Rattle.pict_core.specs.Term.{Process, Par}
+use Rattle.pict_core.specs.Term.{Process, Par, New}
 use Rattle.pict_view.specs.View.{View}
 use Rattle.pict_view.specs.Moved as view
 use Rattle.pict_view.specs.Placed.{next_view}
@@ -27,6 +27,11 @@ IsViewed s N NoEvent = next_view (view_at s N) ≡ view.Over
 abbrev pub IsNoFork : Process → Type 0
 IsNoFork (Par p q) = ⊥
 IsNoFork _ = Unit {0}
+
+-- a process that opens no channel
+abbrev pub IsNoOpening : Process → Type 0
+IsNoOpening (New p) = ⊥
+IsNoOpening _ = Unit {0}
 
 -- The act of a process that forks nothing is a step of the site's view.
 abbrev pub ActsAreViewed : Type 0

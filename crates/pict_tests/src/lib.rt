@@ -18,6 +18,8 @@ mod phases;
 #[cfg(test)]
 mod replays;
 #[cfg(test)]
+mod sites;
+#[cfg(test)]
 mod steps;
 #[cfg(test)]
 mod translation;

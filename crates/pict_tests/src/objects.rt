@@ -226,3 +226,215 @@ fn the_longest_object(rt: HostRuntime) -> Result<(), AllocError> {
         },
     )
 }
+
+/// An object whose run stops before a wrong step, and what is printed until then.
+fn misshapen<'a>(object: &'a [u8], out: &'a [u8]) -> Case<'a> {
+    Case {
+        object: Some(object),
+        status: Status::Misshapen,
+        out,
+        err: b"O: message of a wrong shape\n",
+        ..RUN
+    }
+}
+
+/// Steps that are wrong, each in an object of its own.
+#[test]
+fn wrong_steps(rt: HostRuntime) -> Result<(), AllocError> {
+    let cases = [
+        // print!"a" | true!'b'
+        misshapen(
+            b"PICT\x01\0\0\0\0\x01\x03\x16\0\x15\0\0\0\x01a\x03\x14\x12b",
+            b"a",
+        ),
+        // if 'a' 0 0, and false?_ = 0
+        misshapen(b"PICT\x01\0\0\0\0\x06\x12a\0\0", b""),
+        misshapen(b"PICT\x01\0\0\0\0\x04\x13\x21\0", b""),
+        // The first step is wrong, and counts.
+        Case {
+            words: &["exec", "--fuel", "1", "O"],
+            ..misshapen(b"PICT\x01\0\0\0\0\x06\x12a\0\0", b"")
+        },
+        Case {
+            words: &["exec", "--fuel", "0", "O"],
+            status: Status::FuelSpent,
+            err: b"fuel spent\n",
+            ..misshapen(b"PICT\x01\0\0\0\0\x06\x12a\0\0", b"")
+        },
+        // new x (x!'a' | x?[] = 0), where the message waits, and the other way round
+        misshapen(
+            b"PICT\x01\0\0\0\0\x02\x01\x03\x10\0\0\0\0\x12a\x04\x10\0\0\0\0\x22\0\0\0\0\0\0\0\0\0",
+            b"",
+        ),
+        misshapen(
+            b"PICT\x01\0\0\0\0\x02\x01\x04\x10\0\0\0\0\x22\0\0\0\0\0\0\0\0\0\x03\x10\0\0\0\0\x12a",
+            b"",
+        ),
+        // new x (x?[a=_] = 0 | x![]), where the label is wanting
+        misshapen(
+            b"PICT\x01\0\0\0\x01\0\0\0\x01a\x02\x01\x04\x10\0\0\0\0\x22\0\0\0\0\0\0\0\x01\0\0\0\0\x21\0\x03\x10\0\0\0\0\x17\0\0\0\0\0\0\0\0",
+            b"",
+        ),
+    ];
+    for case in &cases {
+        try_case(&rt, rt.alloc(), case)?;
+    }
+    Ok(())
+}
+
+/// Counts of what isn't there, labels that may not be, and a variable that nothing binds.
+#[test]
+fn bytes_that_are_no_object(rt: HostRuntime) -> Result<(), AllocError> {
+    let cases = [
+        // as many labels as a count can say, bytes of a label, bytes of a string, values, and patterns
+        refused(b"PICT\x01\xff\xff\xff\xff"),
+        refused(b"PICT\x01\0\0\0\x01\xff\xff\xff\xff"),
+        refused(b"PICT\x01\0\0\0\0\x03\x16\0\x15\xff\xff\xff\xff"),
+        refused(b"PICT\x01\0\0\0\0\x03\x16\0\x17\xff\xff\xff\xff"),
+        refused(b"PICT\x01\0\0\0\0\x04\x16\0\x22\xff\xff\xff\xff"),
+        // print![if=false], print![a=false] with a label more, print![a=false b=true] with labels that fall, and with one twice
+        refused(b"PICT\x01\0\0\0\x01\0\0\0\x02if\x03\x16\0\x17\0\0\0\0\0\0\0\x01\0\0\0\0\x13"),
+        refused(
+            b"PICT\x01\0\0\0\x02\0\0\0\x01a\0\0\0\x01b\x03\x16\0\x17\0\0\0\0\0\0\0\x01\0\0\0\0\x13",
+        ),
+        refused(
+            b"PICT\x01\0\0\0\x02\0\0\0\x01b\0\0\0\x01a\x03\x16\0\x17\0\0\0\0\0\0\0\x02\0\0\0\0\x13\0\0\0\x01\x14",
+        ),
+        refused(
+            b"PICT\x01\0\0\0\x02\0\0\0\x01a\0\0\0\x01a\x03\x16\0\x17\0\0\0\0\0\0\0\x02\0\0\0\0\x13\0\0\0\x01\x14",
+        ),
+        // new x y!'a'
+        refused(b"PICT\x01\0\0\0\0\x02\x03\x10\0\0\0\x01\x12a"),
+    ];
+    for case in &cases {
+        try_case(&rt, rt.alloc(), case)?;
+    }
+    Ok(())
+}
+
+/// An object that begins so, and has so many of these bytes, then a process or a value of one byte, and behind it as many of others.
+fn nested(
+    alloc: Global,
+    start: &[u8],
+    around: &[u8],
+    count: usize,
+    inside: u8,
+    behind: &[u8],
+) -> Result<Vec<u8>, AllocError> {
+    let mut object = start.to_vec(alloc)?;
+    for _ in 0..count {
+        object.extend_from_slice(around)?;
+    }
+    object.push(inside)?;
+    for _ in 0..count {
+        object.extend_from_slice(behind)?;
+    }
+    Ok(object)
+}
+
+/// An object that does nothing that shows.
+fn quiet<'a>(object: &'a [u8]) -> Case<'a> {
+    Case {
+        object: Some(object),
+        out: b"",
+        ..RUN
+    }
+}
+
+/// As many channels around an empty process as make it as deep as it may be, and one more.
+#[test]
+fn deep_objects(rt: HostRuntime) -> Result<(), AllocError> {
+    let alloc = rt.alloc();
+    let start: &[u8] = b"PICT\x01\0\0\0\0";
+    let deep = nested(alloc, start, b"\x02", 4_999, 0, b"")?;
+    try_case(&rt, alloc, &quiet(&deep))?;
+    let deeper = nested(alloc, start, b"\x02", 5_000, 0, b"")?;
+    try_case(&rt, alloc, &refused(&deeper))
+}
+
+/// As many records around a truth value, sent on a new channel, as there may be, and one more.
+#[test]
+fn nested_records(rt: HostRuntime) -> Result<(), AllocError> {
+    let alloc = rt.alloc();
+    let start: &[u8] = b"PICT\x01\0\0\0\0\x02\x03\x10\0\0\0\0";
+    let deep = nested(alloc, start, b"\x17\0\0\0\x01", 200, 0x13, b"\0\0\0\0")?;
+    try_case(&rt, alloc, &quiet(&deep))?;
+    let deeper = nested(alloc, start, b"\x17\0\0\0\x01", 201, 0x13, b"\0\0\0\0")?;
+    try_case(&rt, alloc, &refused(&deeper))
+}
+
+/// The object of an input by a pattern of so many variables, behind which 2,979 processes are: a channel is bound around the input.
+fn wide_object(alloc: Global, variables: u32) -> Result<Vec<u8>, AllocError> {
+    let mut object = b"PICT\x01\0\0\0\0\x02\x04\x10\0\0\0\0\x22".to_vec(alloc)?;
+    object.extend_from_slice(&variables.to_be_bytes())?;
+    for _ in 0..variables {
+        object.push(0x20)?;
+    }
+    object.extend_from_slice(b"\0\0\0\0")?;
+    for _ in 0..1_489 {
+        object.extend_from_slice(b"\x01\0")?;
+    }
+    object.push(0)?;
+    Ok(object)
+}
+
+/// As many variables around the parts of a process as there may be, 1 + 2,979 * 360,437, and more.
+#[test]
+fn wide_objects(rt: HostRuntime) -> Result<(), AllocError> {
+    let alloc = rt.alloc();
+    let wide = wide_object(alloc, 360_436)?;
+    try_case(&rt, alloc, &quiet(&wide))?;
+    let wider = wide_object(alloc, 360_437)?;
+    try_case(
+        &rt,
+        alloc,
+        &Case {
+            status: Status::Memory,
+            ..quiet(&wider)
+        },
+    )
+}
+
+/// A shelf that has this file.
+fn shelf_of(alloc: Global, name: &[u8], text: &[u8]) -> Result<MemoryShelf, AllocError> {
+    let mut entries = Vec::new(alloc);
+    entries.push(entry(alloc, name, text)?)?;
+    Ok(MemoryShelf::new(entries, Vec::new(alloc)))
+}
+
+/// What is built of a program, behind the prelude, runs with this fuel as the program does, but for what is reported.
+fn try_built(
+    rt: &impl Abort,
+    alloc: Global,
+    program: &[u8],
+    fuel: &'static str,
+    err: &[u8],
+) -> Result<(), AllocError> {
+    let mut shelf = shelf_of(alloc, b"F", program)?;
+    let mut object = MemorySink::new(alloc, 100_000, Vec::new(alloc))?;
+    let mut ran = sink_of(alloc, None)?;
+    let mut said = sink_of(alloc, None)?;
+    let built = pict(alloc, &["build", "F"], &mut shelf, &mut object, &mut said);
+    assert_eq!(rt; built, Status::Done);
+    let run = ["run", "--fuel", fuel, "F"];
+    let status = pict(alloc, &run, &mut shelf, &mut ran, &mut said);
+    let mut objects = shelf_of(alloc, b"O", object.taken())?;
+    let mut out = sink_of(alloc, None)?;
+    let mut reported = sink_of(alloc, None)?;
+    let exec = ["exec", "--fuel", fuel, "O"];
+    let executed = pict(alloc, &exec, &mut objects, &mut out, &mut reported);
+    assert_eq!(rt; executed, status);
+    assert!(rt; out.taken() == ran.taken());
+    assert!(rt; reported.taken() == err);
+    Ok(())
+}
+
+#[test]
+fn built_programs(rt: HostRuntime) -> Result<(), AllocError> {
+    let alloc = rt.alloc();
+    let fields: &[u8] = b"new c:^[a=Int b=Int] run c![b=2 a=1] run c?[b=x a=_] = printi!x";
+    try_built(&rt, alloc, fields, "100000", b"")?;
+    try_built(&rt, alloc, fields, "3", b"fuel spent\n")?;
+    let divides: &[u8] = b"run (print!\"a\" | div![1 0 printi])";
+    try_built(&rt, alloc, divides, "100000", b"O: division by zero\n")
+}

@@ -18,6 +18,7 @@ pub mod Written
 pub mod Running
 pub mod Picked
 pub mod Recording
+pub mod Sited
 pub mod Counting
 pub mod Runs
 pub mod Few

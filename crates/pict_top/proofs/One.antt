@@ -6,7 +6,7 @@ use Rattle.pict_core.specs.Configuration.{opening}
 use Rattle.pict_core.specs.Run as run
 use Rattle.pict_core.specs.Run.{steps_done}
 use Rattle.pict_core.proofs.OneRun.{one_run}
-use Rattle.pict_words.specs.Words.{Command, Run, Trace, Check, Code, Load, Pick, Picked, Replay, Build, Exec, HasShape, HasNoShape, default_fuel}
+use Rattle.pict_words.specs.Words.{Command, Run, Trace, Check, Code, Load, Pick, Picked, Replay, Build, Exec, Sites, HasShape, HasNoShape, default_fuel}
 use Rattle.pict_words.proofs.Commands.{one_command}
 use Rattle.pict_gather.specs.Phases.{Phase, accepts, refuses}
 use Rattle.pict_gather.specs.Fetching.{MayGive}
@@ -27,10 +27,12 @@ use Rattle.pict_top.specs.declared.run.Finish.TheVariants.{Done, FuelSpent, Trap
 use Rattle.pict_top.specs.Origins.{origin_of, name_of, prelude_of, trace_of, builds, given}
 use Rattle.pict_top.specs.Answer.{Answer, Absent, Refusal, Ended, Judged, Executed, IsAnswer, IsTextAnswer, IsBuilt, built, too_big, IsMade, IsWorked, IsDone, Does, Shows, Writing}
 use Rattle.pict_top.specs.Picking.{PicksAndShows, Recording}
+use Rattle.pict_top.specs.Siting.{NetworkShows}
 use Rattle.pict_top.specs.Outcome.{Outcome, outcome_of}
 use Rattle.pict_top.specs.Owed.{Owes, OwesWords}
 use Rattle.pict_top.specs.declared.status.Status.TheVariants as status
 use Rattle.pict_top.proofs.Reading.{IsTold}
+use Rattle.pict_top.proofs.Sited.{one_sited}
 use Rattle.pict_top.proofs.Recording.{one_picked}
 use Rattle.pict_top.proofs.Replayed.{one_replayed}
 use Rattle.pict_top.proofs.Executions.{one_executed}
@@ -61,6 +63,10 @@ one_pick : (p : Process) (seed fuel : ℕ) (written : Recording) (e g : Finish) 
 one_pick p seed fuel written e g a b x y =
     let one = one_picked p seed fuel written e g a b x y in (sym (known_by e) ∙ ap finish_by one.0 ∙ known_by g, one.1)
 
+one_on_sites : (p : Process) (sites seed fuel : ℕ) (e g : Finish) (a b : List ℕ) → NetworkShows p sites seed fuel e a → NetworkShows p sites seed fuel g b → (e ≡ g) × (a ≡ b)
+one_on_sites p sites seed fuel e g a b x y =
+    let one = one_sited p sites seed fuel e g a b x y in (sym (known_by e) ∙ ap finish_by one.0 ∙ known_by g, one.1)
+
 -- a command's work has one end, and writes the same bytes
 one_work : (command : Command) (names : List (List ℕ)) (p : Process) (e g : Finish) (a b : List ℕ) → Does command names p e a → Does command names p g b → (e ≡ g) × (a ≡ b)
 one_work (Run o) names p e g a b x y = one_shown p o.fuel _ e g a b x y
@@ -73,6 +79,7 @@ one_work (Picked seed o) names p e g a b x y = one_pick p seed o.fuel _ e g a b 
 one_work (Replay o trace) names p e g a b x y = (x.done ∙ sym y.done, x.nothing ∙ sym y.nothing)
 one_work (Build o) names p e g a b x y = absurd x
 one_work (Exec fuel object) names p e g a b x y = absurd x
+one_work (Sites sites seed o) names p e g a b x y = one_on_sites p sites seed o.fuel e g a b x y
 
 -- a process has one object, which is within the limit or isn't
 beyond : (front : Front) (bytes : List ℕ) → IsObject front.names bytes front.core → length bytes ≤ OBJECT_LIMIT

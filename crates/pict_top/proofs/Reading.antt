@@ -1,7 +1,7 @@
 -- What a command is given: from the shelf, or its own text.
 use Rattle.std.proofs.Common.{◌≡◌, ℕ, List, length, Option, Some, refl, sym, ◌∙◌, ap, subst}
 use Rattle.pict_outside.specs.Texts.{Texts}
-use Rattle.pict_words.specs.Words.{Command, Run, Trace, Check, Code, Load, Pick, Picked, Replay, Build, Exec}
+use Rattle.pict_words.specs.Words.{Command, Run, Trace, Check, Code, Load, Pick, Picked, Replay, Build, Exec, Sites}
 use Rattle.pict_gather.specs.Fetching.{MayGive, missing}
 use Rattle.pict_top.specs.Origins.{Origin, File, Own, Object, TakesText, origin_of, trace_of, name_of, only, reads_from, AsksShelf, IsOwn, own_length, MayGiveText, given, given_each}
 use Rattle.pict_top.specs.Outcome.{Outcome}
@@ -84,3 +84,4 @@ second_there held (Code options) trace takes lacks = cc
 second_there held (Load n) trace takes lacks = cc
 second_there held (Pick seed options) trace takes lacks = cc
 second_there held (Picked seed options) trace takes lacks = cc
+second_there held (Sites sites seed options) trace takes lacks = cc

@@ -9,7 +9,7 @@ use Rattle.pict_reduction.specs.Reached.{NoFreeRunIsWrong}
 use Rattle.pict_view.specs.Right.{RunsRight}
 use Rattle.pict_code.specs.Nodes.{nodes_of}
 use Rattle.pict_code.specs.Listing.{listing_text}
-use Rattle.pict_words.specs.Words.{Command, Run, Trace, Check, Code, Load, Pick, Picked, Replay, Build, Exec, default_fuel}
+use Rattle.pict_words.specs.Words.{Command, Run, Trace, Check, Code, Load, Pick, Picked, Replay, Build, Exec, Sites, default_fuel}
 use Rattle.pict_words.proofs.Some.{shape_or_not}
 use Rattle.pict_gather.specs.Phases.{Phase, accepts, refuses}
 use Rattle.pict_gather.specs.Fetching.{MayGive}
@@ -34,6 +34,7 @@ use Rattle.pict_top.proofs.NoFault.{front_unfailed}
 use Rattle.pict_top.proofs.Reading.{IsTold, told_shelf}
 use Rattle.pict_top.proofs.Continuing.{continues_from}
 use Rattle.pict_top.proofs.Recording.{some_picked}
+use Rattle.pict_top.proofs.Sited.{some_sited}
 use Rattle.pict_top.proofs.Replayed.{some_replayed}
 use Rattle.pict_top.proofs.Executions.{some_executed}
 use Rattle.pict_top.proofs.Files.{owes_text, owes_run, works_by}
@@ -61,6 +62,7 @@ some_work (Picked seed o) names p works closed right = some_picked p seed o.fuel
 some_work (Replay o trace) names p works closed right = (Done, [], record { done = refl; nothing = refl })
 some_work (Build o) names p works closed right = absurd works
 some_work (Exec fuel object) names p works closed right = absurd works
+some_work (Sites sites seed o) names p works closed right = some_sited p sites seed o.fuel closed right
 
 some_built : (sources : List Source) (front : Front) → IsObjectCore front.names front.core → (a : Answer) × IsBuilt sources front a
 some_built sources front core = elim (sized front.names front.core OBJECT_LIMIT core) [
@@ -109,6 +111,7 @@ some_of_texts texts (Pick seed o) = some_of_file texts (Pick seed o) tt
 some_of_texts texts (Picked seed o) = some_of_file texts (Picked seed o) tt
 some_of_texts texts (Replay o trace) = some_of_file texts (Replay o trace) tt
 some_of_texts texts (Build o) = some_of_file texts (Build o) tt
+some_of_texts texts (Sites sites seed o) = some_of_file texts (Sites sites seed o) tt
 
 some_of_command : (held : Option Texts) (command : Command) → IsTold held (origin_of command) → (o : Outcome) × Owes (given held (origin_of command)) command o
 some_of_command held command (texts, told) =

@@ -27,13 +27,14 @@ use Rattle.pict_object.specs.Decoded.{IsNoObject, IsDecoded}
 use Rattle.pict_built.specs.Laws.{AreBytes}
 use Rattle.pict_exec.specs.Ends as guarded
 use Rattle.pict_exec.specs.declared.guarded.ExecEnd.{ExecEnd}
-use Rattle.pict_words.specs.Words.{Command, Run, Trace, Check, Code, Load, Pick, Picked, Replay, Build, Exec, default_fuel}
+use Rattle.pict_words.specs.Words.{Command, Run, Trace, Check, Code, Load, Pick, Picked, Replay, Build, Exec, Sites, default_fuel}
 use Rattle.pict_load.specs.Text.{load_text}
 use Rattle.pict_load.specs.Counted.{communications_of}
 use Rattle.pict_load.specs.Summary.{summary_text}
 use Rattle.pict_top.specs.Origins.{origin_of, name_of, prelude_of, trace_of, builds}
 use Rattle.pict_top.specs.Ends.{end_of, machine_end}
 use Rattle.pict_top.specs.Picking.{PicksAndShows, picked_bytes, recorded}
+use Rattle.pict_top.specs.Siting.{NetworkShows}
 use Rattle.pict_top.specs.declared.run.Finish.{Finish}
 use Rattle.pict_top.specs.declared.run.Finish.TheVariants.{Done}
 
@@ -88,6 +89,7 @@ Does (Picked seed options) names process = PicksAndShows process seed options.fu
 Does (Replay options trace) names process = IsChecked
 Does (Build options) names process = λ finish bytes. ⊥
 Does (Exec fuel object) names process = λ finish bytes. ⊥
+Does (Sites sites seed options) names process = NetworkShows process sites seed options.fuel
 
 -- With the name of the text that isn't there, or with the texts that were read. A refusal, and how the work ended, may stand in any of them.
 -- The run of an object has its name, its end and the bytes that it printed

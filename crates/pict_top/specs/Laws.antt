@@ -3,6 +3,8 @@ use Rattle.std.specs.Prelude.{◌≡◌, ℕ, ◌≤◌, Bool, List, length, Opt
 use Rattle.std.specs.List.{AllByRecursion}
 use Rattle.pict_syntax.specs.declared.limits.TheConstants.{TEXT_LIMIT, OBJECT_LIMIT}
 use Rattle.pict_outside.specs.Texts.{Texts}
+use Rattle.pict_core.specs.Term.{Process}
+use Rattle.pict_core.specs.Closed.{IsClosed}
 use Rattle.pict_gather.specs.Phases.{Exactly, accepts}
 use Rattle.pict_gather.specs.Fetching.{MayGive, text}
 use Rattle.pict_front.specs.Front.{Accepted, IsFront}
@@ -15,6 +17,7 @@ use Rattle.pict_words.specs.Words.{HasShape, Load}
 use Rattle.pict_top.specs.Answer.{Judged, Executed, Shows, printed, IsReplayed, IsExecuted}
 use Rattle.pict_top.specs.Origins.{File, prelude_of}
 use Rattle.pict_top.specs.Picking.{PicksAndShows, recorded}
+use Rattle.pict_top.specs.Siting.{NetworkShows}
 use Rattle.pict_top.specs.declared.run.Finish.{Finish}
 use Rattle.pict_top.specs.Outcome.{Outcome, status_of_end, status_of_guarded}
 use Rattle.pict_top.specs.Owed.{OwesWords, FaultsWords}
@@ -37,6 +40,12 @@ PickedIsAnswered =
     → IsFront (MayGive held) (prelude_of (File alone file)) file (Some (accepts a))
     → (r : PicksAndShows a.front.core seed fuel (recorded a.front.names) finish bytes) → AllByRecursion NestsWithin r.labels → length bytes ≤ TEXT_LIMIT
     → MayGive held trace (text bytes) → IsReplayed (MayGive held) trace a.front (Judged Yes)
+
+-- On one site a program runs as `run` runs it, whatever the seed: it ends so, and prints the same bytes.
+abbrev pub OneSiteRunsAsText : Type 0
+OneSiteRunsAsText =
+    (process : Process) (seed fuel : ℕ) (finish : Finish) (bytes : List ℕ) → IsClosed process
+    → NetworkShows process 1 seed fuel finish bytes → Shows process fuel printed finish bytes
 
 -- The object of an accepted program, as `build` writes it, is run by `exec` as `run` runs the program, whatever the fuel: with the same
 -- status, which is never Misshapen, and the same bytes.

@@ -2,6 +2,7 @@ pub mod Numbers
 pub mod Origins
 pub mod Ends
 pub mod Picking
+pub mod Siting
 pub mod Answer
 pub mod Outcome
 pub mod Owed

@@ -1,7 +1,7 @@
 -- Where a command's texts come from.
 use Rattle.std.specs.Prelude.{◌≡◌, ℕ, Bool, true, false, List, [], ◌∷◌, length, Option, Some, None, codes}
 use Rattle.pict_outside.specs.Texts.{Texts, texts_of}
-use Rattle.pict_words.specs.Words.{Command, Run, Trace, Check, Code, Load, Pick, Picked, Replay, Build, Exec}
+use Rattle.pict_words.specs.Words.{Command, Run, Trace, Check, Code, Load, Pick, Picked, Replay, Build, Exec, Sites}
 use Rattle.pict_report.specs.Prelude.{prelude_text}
 use Rattle.pict_load.specs.Text.{load_text}
 use Rattle.pict_gather.specs.Fetching.{Fetch, missing, MayGive}
@@ -24,6 +24,7 @@ origin_of (Picked seed options) = File options.bare options.file
 origin_of (Replay options trace) = File options.bare options.file
 origin_of (Build options) = File options.bare options.file
 origin_of (Exec fuel object) = Object object
+origin_of (Sites sites seed options) = File options.bare options.file
 
 -- the name of the file, or that of the command's own text, which stands for one
 abbrev pub name_of : Origin → List ℕ

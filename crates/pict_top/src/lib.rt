@@ -12,12 +12,14 @@ mod print;
 mod printer;
 mod replaying;
 mod run;
+mod siting;
 mod status;
 mod top;
 mod work;
 
 pub use laws::{
-    law_built_runs_as_text, law_load_needs_no_shelf, law_one_outcome, law_picked_is_answered,
+    law_built_runs_as_text, law_load_needs_no_shelf, law_one_outcome, law_one_site_runs_as_text,
+    law_picked_is_answered,
 };
 pub use one_shelf::OneShelf;
 pub use pict_load::load_text;

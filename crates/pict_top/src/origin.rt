@@ -27,6 +27,7 @@ pub fn name_of<'a>(command: Command<'a>) -> &'a str
         Command::Replay(options, _) => options.file,
         Command::Build(options) => options.file,
         Command::Exec(_, object) => object,
+        Command::Sites(_, _, options) => options.file,
     }
 }
 
@@ -46,6 +47,7 @@ pub fn prelude_of(command: Command<'_>) -> Option<&'static [u8]>
         Command::Replay(options, _) => prelude_unless_bare(options),
         Command::Build(options) => prelude_unless_bare(options),
         Command::Exec(_, _) => None,
+        Command::Sites(_, _, options) => prelude_unless_bare(options),
     }
 }
 

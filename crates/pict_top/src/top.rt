@@ -8,7 +8,7 @@ ghost use Rattle.pict_front.specs.Laws.{IsAccepted};
 ghost use Rattle.pict_gather.specs.Fetching.{MayGive};
 ghost use Rattle.pict_object.specs.Cores.{IsObjectCore};
 ghost use Rattle.pict_words.specs.Plain.{plain_command, texts_of};
-ghost use Rattle.pict_words.specs.Words.{HasNoShape, fuel_of};
+ghost use Rattle.pict_words.specs.Words.{HasNoShape, IsSiteCount, fuel_of, sites_of};
 ghost use Rattle.pict_report.specs.Reports.{AreShort, line, position_of, refusal_report, trap_report, usage_report};
 ghost use Rattle.pict_top.specs.Changes.{change_of, Untouched};
 ghost use Rattle.pict_top.specs.Headline.{Headline, shelf_change};
@@ -95,6 +95,7 @@ fn run_command<S: Shelf, O: Sink, E: Sink>(
     err: &mut E,
 ) -> Status
     requires fuel { fuel_of (plain_command command) ≤ FUEL_LIMIT }
+    requires sites { IsSiteCount (sites_of (plain_command command)) }
     ensures meets { Meets (Owes (given (S.held shelf.old) (origin_of (plain_command command.entry))) (plain_command command.entry))
         (FaultsCommand (S.held shelf.old) (plain_command command.entry)) (Rose (S.faults shelf.old) (S.faults shelf.new))
         (change_of O.taken O.faults out.old out.new) (change_of E.taken E.faults err.old err.new) result }
@@ -122,6 +123,7 @@ fn run_text<S: Shelf, O: Sink, E: Sink>(
 ) -> Status
     requires takes { TakesText (plain_command command) }
     requires fuel { fuel_of (plain_command command) ≤ FUEL_LIMIT }
+    requires sites { IsSiteCount (sites_of (plain_command command)) }
     ensures meets { Meets (OwesText (given (S.held shelf.old) (origin_of (plain_command command.entry))) (plain_command command.entry))
         (FaultsText (S.held shelf.old) (plain_command command.entry)) (Rose (S.faults shelf.old) (S.faults shelf.new))
         (change_of O.taken O.faults out.old out.new) (change_of E.taken E.faults err.old err.new) result }
@@ -150,6 +152,7 @@ fn run_own<O: Sink, E: Sink>(
 ) -> Status
     requires takes { TakesText (plain_command command) }
     requires fuel { fuel_of (plain_command command) ≤ FUEL_LIMIT }
+    requires sites { IsSiteCount (sites_of (plain_command command)) }
     requires own { IsOwn (origin_of (plain_command command)) text.items }
     ensures meets { Meets (OwesText (MayGive (Some (only (origins.name_of (origin_of (plain_command command.entry))) text.items)))
         (plain_command command.entry)) (λ o. ⊥) ⊥ (change_of O.taken O.faults out.old out.new) (change_of E.taken E.faults err.old err.new) result }
@@ -174,6 +177,7 @@ fn run_file<S: Shelf, O: Sink, E: Sink>(
 ) -> Status
     requires takes { TakesText (plain_command command) }
     requires fuel { fuel_of (plain_command command) ≤ FUEL_LIMIT }
+    requires sites { IsSiteCount (sites_of (plain_command command)) }
     requires own { own ≡ own_length (origin_of (plain_command command)) }
     ensures meets { Meets (OwesText (MayGive (S.held shelf.old)) (plain_command command.entry)) (FaultsFile (S.held shelf.old) (plain_command command.entry))
         (Rose (S.faults shelf.old) (S.faults shelf.new)) (change_of O.taken O.faults out.old out.new) (change_of E.taken E.faults err.old err.new) result }
@@ -232,6 +236,7 @@ fn work_with<O: Sink, E: Sink>(
     requires takes { TakesText (plain_command command) }
     requires short { AreShort sources.now.list.items }
     requires fuel { fuel_of (plain_command command) ≤ FUEL_LIMIT }
+    requires sites { IsSiteCount (sites_of (plain_command command)) }
     requires own { own ≡ own_length (origin_of (plain_command command)) }
     requires accepted { IsAccepted (plain_front front) }
     requires closed { IsClosed (plain_core front.core) }
@@ -261,6 +266,7 @@ fn run_ready<O: Sink, E: Sink>(
     requires works { Works (plain_command command) }
     requires short { AreShort sources.now.list.items }
     requires fuel { fuel_of (plain_command command) ≤ FUEL_LIMIT }
+    requires sites { IsSiteCount (sites_of (plain_command command)) }
     requires own { own ≡ own_length (origin_of (plain_command command)) }
     requires accepted { IsAccepted (plain_front front) }
     requires closed { IsClosed (plain_core front.core) }

@@ -6,7 +6,7 @@ ghost use Rattle.pict_reduction.specs.Reached.{NoFreeRunIsWrong};
 ghost use Rattle.pict_view.specs.Right.{RunsRight};
 ghost use Rattle.pict_load.specs.Text.{load_text};
 ghost use Rattle.pict_words.specs.Plain.{plain_command};
-ghost use Rattle.pict_words.specs.Words.{fuel_of};
+ghost use Rattle.pict_words.specs.Words.{IsSiteCount, fuel_of, sites_of};
 ghost use Rattle.pict_top.specs.Answer.{Does, Lists, Shows, summed_up};
 ghost use Rattle.pict_top.specs.Changes.{change_of, GainedFront, FailedWithin};
 ghost use Rattle.pict_top.specs.Origins.{Works, origin_of, own_length};
@@ -16,6 +16,7 @@ use crate::form::Form;
 use crate::notes::Note;
 use crate::picking::{record_picks, run_picked};
 use crate::run::{Broken, Finish, finish_of, run_core};
+use crate::siting::run_sites;
 use pict_code::{ListError, listing};
 use pict_core::Core;
 use pict_front::Front;
@@ -41,6 +42,7 @@ pub fn perform<O: Sink>(
     requires own { own ≡ own_length (origin_of (plain_command command)) }
     requires closed { IsClosed (plain_core front.core) }
     requires fuel { fuel_of (plain_command command) ≤ FUEL_LIMIT }
+    requires sites { IsSiteCount (sites_of (plain_command command)) }
     requires right { NoFreeRunIsWrong (plain_core front.core) }
     ensures done { IfOk result (λ finish. Finished (Does (plain_command command.entry) front.names (plain_core front.core)) finish
         (change_of O.taken O.faults out.old out.new)) }
@@ -67,6 +69,9 @@ pub fn perform<O: Sink>(
         Command::Replay(_, _) => Ok(Finish::Done),
         Command::Build(_) => unreachable!(),
         Command::Exec(_, _) => unreachable!(),
+        Command::Sites(sites, seed, options) => {
+            run_sites(alloc, &names, &core, sites, seed, options.fuel, out)
+        }
     }
 }
 

@@ -3,10 +3,11 @@ use Rattle.std.proofs.Common.{◌≡◌, ℕ, ◌+◌, ◌==◌, ◌≤◌, Bool
 use Rattle.std.specs.Prelude.{is_some}
 use Rattle.std.proofs.lemmas.Fmt.{decimal_injective}
 use Rattle.pict_syntax.specs.declared.limits.TheConstants.{FUEL_LIMIT}
-use Rattle.pict_words.specs.Words.{Options, Command, Run, Trace, Check, Code, Load, Pick, Picked, Replay, Build, Exec, AsksFor, AsksToLoad, AsksToReplay, HasShape, HasNoShape, fuel_words}
-use Rattle.pict_words.specs.Asked.{Found, IsAsked, HasWord, TakesNoSeed, FoundSeed, IsSeeded, HasSeedWord, TakesSeed, unseeded}
+use Rattle.pict_words.specs.Words.{Options, Command, Run, Trace, Check, Code, Load, Pick, Picked, Replay, Build, Exec, Sites, AsksFor, AsksForSites, AsksToLoad, AsksToReplay, HasShape, HasNoShape, fuel_words}
+use Rattle.pict_words.specs.Asked.{Found, IsAsked, HasWord, TakesNoSeed, FoundSeed, IsSeeded, HasSeedWord, TakesSeed, unseeded, unsited, sites_in, AsksNoSites, WritesSites}
 use Rattle.pict_words.proofs.Shapes.{words_for, two_are, three_are, four_are, five_are, at}
 use Rattle.pict_words.proofs.Seeds.{without_seed, seed_written}
+use Rattle.pict_words.proofs.Sites.{without_sites, sites_written}
 use Rattle.pict_words.proofs.Replays.{same_options, same_replay, same_trace}
 
 -- ---- what is asked for
@@ -59,7 +60,7 @@ sum_of word = get_or word 0 0 + get_or word 1 0 + get_or word 4 0
 
 abbrev rank_by : ℕ → ℕ
 rank_by sum =
-    if sum == 231 then 0 else if sum == 331 then 1 else if sum == 310 then 2 else if sum == 210 then 3 else if sum == 219 then 4 else if sum == 217 then 5 else if sum == 318 then 6 else if sum == 312 then 7 else if sum == 315 then 8 else if sum == 221 then 9 else 10
+    if sum == 231 then 0 else if sum == 331 then 1 else if sum == 310 then 2 else if sum == 210 then 3 else if sum == 219 then 4 else if sum == 217 then 5 else if sum == 318 then 6 else if sum == 312 then 7 else if sum == 315 then 8 else if sum == 221 then 9 else if sum == 335 then 10 else 11
 
 abbrev rank_of : Command → ℕ
 rank_of (Run o) = 0
@@ -72,6 +73,7 @@ rank_of (Picked n o) = 6
 rank_of (Replay o trace) = 7
 rank_of (Build o) = 8
 rank_of (Exec fuel object) = 9
+rank_of (Sites k n o) = 10
 
 abbrev rank_in : List (List ℕ) → ℕ
 rank_in words = rank_by (sum_of (at 0 words))
@@ -87,6 +89,7 @@ ranked words (Picked n o) (w, s) = sym (ap rank_in s.shape)
 ranked words (Replay o trace) s = sym (ap rank_in s.shape)
 ranked words (Build o) s = sym (ap rank_in s.shape)
 ranked words (Exec fuel object) (w, s) = sym (ap rank_in s.shape)
+ranked words (Sites k n o) (w, s) = sym (ap rank_in s.shape)
 
 same_command : (word : List ℕ) (f : Bool) (o : Options) (c d : Command) → HasWord word f o c → HasWord word f o d → rank_of c ≡ rank_of d → c ≡ d
 same_command word f o (Run p) (Run q) h k e = ap Run (h.1 ∙ sym k.1)
@@ -99,10 +102,12 @@ same_command word f o (Load m) d h k e = absurd h
 same_command word f o (Pick m p) d h k e = absurd h
 same_command word f o (Picked m p) d h k e = absurd h
 same_command word f o (Replay p trace) d h k e = absurd h
+same_command word f o (Sites j m p) d h k e = absurd h
 same_command word f o c (Load n) h k e = absurd k
 same_command word f o c (Pick m p) h k e = absurd k
 same_command word f o c (Picked m p) h k e = absurd k
 same_command word f o c (Replay p trace) h k e = absurd k
+same_command word f o c (Sites j m p) h k e = absurd k
 same_command word f o c d h k e = absurd (omega (arith, e))
 
 -- ---- shapes
@@ -127,6 +132,7 @@ asked_as words (Load n) file s = absurd file
 asked_as words (Pick n o) file s = absurd file
 asked_as words (Picked n o) file s = absurd file
 asked_as words (Replay o trace) file s = absurd file
+asked_as words (Sites k n o) file s = absurd file
 
 -- no fuel is written
 none_of : (w : Option ℕ) → is_some w ≡ false → w ≡ None
@@ -149,6 +155,7 @@ shape_of words word f o (Load n) a h = absurd h
 shape_of words word f o (Pick n p) a h = absurd h
 shape_of words word f o (Picked n p) a h = absurd h
 shape_of words word f o (Replay p trace) a h = absurd h
+shape_of words word f o (Sites k n p) a h = absurd h
 
 -- what else words have the shape of has the same word and options
 same_has : (words : List (List ℕ)) (word : List ℕ) (f : Bool) (o : Options) (command : Command) → IsAsked word f o words → TakesNoSeed command → HasShape words command → HasWord word f o command
@@ -214,6 +221,29 @@ no_other_seeded words word seed o a none command takes shape =
 pub found_seeded : (words : List (List ℕ)) (command : Command) → TakesSeed command → HasShape words command → (word : List ℕ) × FoundSeed word words
 found_seeded words command takes shape = let b = seeded_as words command takes shape in (b.word, (b.seed, b.options, b.asked))
 
+-- ---- with a number of sites
+
+-- where the words without the sites ask for something, and this isn't `sites` on as many sites as the word says
+pub no_sites : (words : List (List ℕ)) (word : List ℕ) (seed : ℕ) (o : Options) → IsSeeded word seed o (unsited words)
+    → (word ≡ codes "sites" → (n : ℕ) → WritesSites (sites_in words) n → ⊥) → AsksNoSites words
+no_sites words word seed o a none w sites m p s =
+    none (one_seeded (unsited words) word (codes "sites") seed m o p a (w, without_sites words w sites m p s)).word sites (sites_written words w sites m p s)
+
+-- the sites, the seed and the options are known by the words
+pub record SameSites (j k m n : ℕ) (o p : Options) : Type 0 where
+  pub sites : j ≡ k
+  pub seed : m ≡ n
+  pub options : o ≡ p
+
+one_sited : (words : List (List ℕ)) (w v : Option ℕ) (j k m n : ℕ) (o p : Options) → AsksForSites w j m o words → AsksForSites v k n p words → SameSites j k m n o p
+one_sited words w v j k m n o p s t =
+    let same = one_seeded (unsited words) (codes "sites") (codes "sites") m n o p (w, without_sites words w j m o s) (v, without_sites words v k n p t) in
+    let few : j ≤ 64 = s.few in
+    let few' : k ≤ 64 = t.few in
+    let first = sites_written words w j m o s in
+    let second = sites_written words v k n p t in
+    record { sites = decimal_injective j k (omega arith) (omega arith) (sym first.is ∙ second.is); seed = same.seed; options = same.options }
+
 -- ---- all commands
 
 same_load : (words : List (List ℕ)) (m n : ℕ) → AsksToLoad m words → AsksToLoad n words → m ≡ n
@@ -230,19 +260,21 @@ same_shape words (Load m) (Load n) e s t = ap Load (same_load words m n s t)
 same_shape words (Pick m o) (Pick n p) e s t = let x = one_seeded words _ _ m n o p s t in λ i. Pick (x.seed i) (x.options i)
 same_shape words (Picked m o) (Picked n p) e s t = let x = one_seeded words _ _ m n o p s t in λ i. Picked (x.seed i) (x.options i)
 same_shape words (Replay o a) (Replay p b) e s t = let x = same_replay words o p a b s t in λ i. Replay (x i) (same_trace words o p a b s t i)
+same_shape words (Sites j m o) (Sites k n p) e (w, s) (v, t) = let x = one_sited words w v j k m n o p s t in λ i. Sites (x.sites i) (x.seed i) (x.options i)
 same_shape words c d e s t = absurd (omega (arith, e))
 
 pub one_command : (words : List (List ℕ)) (c d : Command) → HasShape words c → HasShape words d → c ≡ d
 one_command words c d s t = same_shape words c d (ranked words c s ∙ sym (ranked words d t)) s t
 
--- no command with a seed, no `load` and no `replay`
-pub no_others : (words : List (List ℕ)) → ((command : Command) → TakesSeed command → HasShape words command → ⊥) → ((n : ℕ) → AsksToLoad n words → ⊥)
+-- no command with a seed, no `sites`, no `load` and no `replay`
+pub no_others : (words : List (List ℕ)) → ((command : Command) → TakesSeed command → HasShape words command → ⊥) → AsksNoSites words → ((n : ℕ) → AsksToLoad n words → ⊥)
     → ((o : Options) (trace : List ℕ) → AsksToReplay o trace words → ⊥) → (command : Command) → (TakesNoSeed command → ⊥) → HasShape words command → ⊥
-no_others words no_seeded no_load no_replay (Load n) never s = no_load n s
-no_others words no_seeded no_load no_replay (Pick n o) never s = no_seeded (Pick n o) tt s
-no_others words no_seeded no_load no_replay (Picked n o) never s = no_seeded (Picked n o) tt s
-no_others words no_seeded no_load no_replay (Replay o trace) never s = no_replay o trace s
-no_others words no_seeded no_load no_replay c never s = never tt
+no_others words no_seeded no_sited no_load no_replay (Load n) never s = no_load n s
+no_others words no_seeded no_sited no_load no_replay (Pick n o) never s = no_seeded (Pick n o) tt s
+no_others words no_seeded no_sited no_load no_replay (Picked n o) never s = no_seeded (Picked n o) tt s
+no_others words no_seeded no_sited no_load no_replay (Replay o trace) never s = no_replay o trace s
+no_others words no_seeded no_sited no_load no_replay (Sites k n o) never (w, s) = no_sited w k n o s
+no_others words no_seeded no_sited no_load no_replay c never s = never tt
 
 -- no command over a file without a seed either
 pub no_shape : (words : List (List ℕ)) → ((command : Command) → TakesNoSeed command → HasShape words command → ⊥) → ((command : Command) → (TakesNoSeed command → ⊥) → HasShape words command → ⊥) → HasNoShape words
@@ -250,6 +282,7 @@ no_shape words no_file no_other (Load n) s = no_other (Load n) (λ x. x) s
 no_shape words no_file no_other (Pick n o) s = no_other (Pick n o) (λ x. x) s
 no_shape words no_file no_other (Picked n o) s = no_other (Picked n o) (λ x. x) s
 no_shape words no_file no_other (Replay o trace) s = no_other (Replay o trace) (λ x. x) s
+no_shape words no_file no_other (Sites k n o) s = no_other (Sites k n o) (λ x. x) s
 no_shape words no_file no_other c s = no_file c tt s
 
 -- the same, where that is said of an error
@@ -258,7 +291,11 @@ pub no_shape_on_error : {T E : Type 0} (r : Result T E) (words : List (List ℕ)
 no_shape_on_error (Ok x) words no_file no_other = tt
 no_shape_on_error (Err e) words no_file no_other = no_shape words no_file no_other
 
-pub no_others_on_error : {T E : Type 0} (r : Result T E) (words : List (List ℕ)) → ((command : Command) → TakesSeed command → HasShape words command → ⊥) → OnErr r ((n : ℕ) → AsksToLoad n words → ⊥)
+pub no_others_on_error : {T E : Type 0} (r : Result T E) (words : List (List ℕ)) → ((command : Command) → TakesSeed command → HasShape words command → ⊥) → OnErr r (AsksNoSites words) → OnErr r ((n : ℕ) → AsksToLoad n words → ⊥)
     → OnErr r ((o : Options) (trace : List ℕ) → AsksToReplay o trace words → ⊥) → OnErr r ((command : Command) → (TakesNoSeed command → ⊥) → HasShape words command → ⊥)
-no_others_on_error (Ok x) words no_seeded no_load no_replay = tt
-no_others_on_error (Err e) words no_seeded no_load no_replay = no_others words no_seeded no_load no_replay
+no_others_on_error (Ok x) words no_seeded no_sited no_load no_replay = tt
+no_others_on_error (Err e) words no_seeded no_sited no_load no_replay = no_others words no_seeded no_sited no_load no_replay
+
+pub no_sites_on_error : {T E : Type 0} (r : Result T E) (words : List (List ℕ)) → AsksNoSites words → OnErr r (AsksNoSites words)
+no_sites_on_error (Ok x) words no_sited = tt
+no_sites_on_error (Err e) words no_sited = no_sited

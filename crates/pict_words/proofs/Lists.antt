@@ -49,6 +49,18 @@ six_words (x ∷ y ∷ z ∷ u ∷ v ∷ []) d p q = absurd (omega arith)
 six_words (x ∷ y ∷ z ∷ u ∷ v ∷ w ∷ []) d p q = refl
 six_words (x ∷ y ∷ z ∷ u ∷ v ∷ w ∷ t ∷ rest) d p q = absurd (omega arith)
 
+pub seven_words : (words : List (Bor (List ℕ))) (d : Bor (List ℕ)) → 7 ≤ length words → length words < 8
+    → texts_of words ≡ (get_or words 0 d).now ∷ (get_or words 1 d).now ∷ (get_or words 2 d).now ∷ (get_or words 3 d).now ∷ (get_or words 4 d).now ∷ (get_or words 5 d).now ∷ (get_or words 6 d).now ∷ []
+seven_words [] d p q = absurd (omega arith)
+seven_words (x ∷ []) d p q = absurd (omega arith)
+seven_words (x ∷ y ∷ []) d p q = absurd (omega arith)
+seven_words (x ∷ y ∷ z ∷ []) d p q = absurd (omega arith)
+seven_words (x ∷ y ∷ z ∷ u ∷ []) d p q = absurd (omega arith)
+seven_words (x ∷ y ∷ z ∷ u ∷ v ∷ []) d p q = absurd (omega arith)
+seven_words (x ∷ y ∷ z ∷ u ∷ v ∷ w ∷ []) d p q = absurd (omega arith)
+seven_words (x ∷ y ∷ z ∷ u ∷ v ∷ w ∷ t ∷ []) d p q = refl
+seven_words (x ∷ y ∷ z ∷ u ∷ v ∷ w ∷ t ∷ s ∷ rest) d p q = absurd (omega arith)
+
 -- what isn't found with a seed in these words isn't found in the same ones
 pub none_seeded_in : (r : Type 0) (words lent : List (List ℕ)) → words ≡ lent → (r → (name : List ℕ) → FoundSeed name lent → ⊥) → r → (name : List ℕ) → FoundSeed name words → ⊥
 none_seeded_in r words lent same none e name found = none e name (subst (FoundSeed name) same found)

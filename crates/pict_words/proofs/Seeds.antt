@@ -8,7 +8,7 @@ use Rattle.pict_words.specs.declared.words.Options as declared
 use Rattle.pict_words.specs.declared.words.Seeded.{Seeded}
 use Rattle.pict_words.proofs.Shapes.{words_for}
 
-abbrev seeded_for : List ℕ → Bool → Option ℕ → List ℕ → List ℕ → List (List ℕ)
+abbrev pub seeded_for : List ℕ → Bool → Option ℕ → List ℕ → List ℕ → List (List ℕ)
 seeded_for word bare written seed file = word ∷ (bare_words bare ++ (fuel_words written ++ seed ∷ file ∷ []))
 
 unseeded_for : (word : List ℕ) (bare : Bool) (w : Option ℕ) (seed file : List ℕ) → unseeded (seeded_for word bare w seed file) ≡ words_for word bare w file

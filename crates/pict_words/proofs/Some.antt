@@ -1,18 +1,19 @@
 -- Words have the shape of a command, or none.
-use Rattle.std.proofs.Common.{◌≡◌, ◌≢◌, ℕ, ◌≤◌, ◌<◌, ◌^◌, ◌⊎◌, Bool, true, false, inl, inr, List, [], ◌∷◌, length, refl, sym, ◌∙◌, ap, subst, arith, codes}
+use Rattle.std.proofs.Common.{◌≡◌, ◌≢◌, ℕ, zero, suc, ◌≤◌, ◌<◌, ◌^◌, ◌⊎◌, Bool, true, false, inl, inr, List, [], ◌∷◌, length, refl, sym, ◌∙◌, ap, subst, arith, codes}
 use Rattle.std.specs.Fmt.{decimal}
 use Rattle.std.specs.Str.Parse.{digits_value}
 use Rattle.std.proofs.lemmas.Bool.{cases_lt}
-use Rattle.std.proofs.lemmas.Fmt.{decimal_is_IsNumeral}
+use Rattle.std.proofs.lemmas.Fmt.{decimal_injective, decimal_is_IsNumeral}
 use Rattle.pict_syntax.specs.declared.limits.TheConstants.{FUEL_LIMIT}
 use Rattle.pict_total.proofs.Choices.{same_or_not, same_text_or_not}
-use Rattle.pict_words.specs.Words.{Options, Command, Run, Trace, Check, Code, Load, Pick, Picked, Replay, Build, Exec, AsksToLoad, HasShape, HasNoShape, IsFileWord, default_fuel}
-use Rattle.pict_words.specs.Asked.{Found, IsAsked, HasWord, TakesNoSeed, FoundSeed, IsSeeded, HasSeedWord, TakesSeed, unseeded, seed_in}
+use Rattle.pict_words.specs.Words.{Options, Command, Run, Trace, Check, Code, Load, Pick, Picked, Replay, Build, Exec, Sites, AsksToLoad, HasShape, HasNoShape, IsFileWord, default_fuel}
+use Rattle.pict_words.specs.Asked.{Found, IsAsked, HasWord, TakesNoSeed, FoundSeed, IsSeeded, HasSeedWord, TakesSeed, unseeded, seed_in, unsited, sites_in, with_sites, AsksNoSites, WritesSites}
 use Rattle.pict_words.specs.Laws.{OneCommand}
 use Rattle.pict_words.proofs.Shapes.{at, two_asked, two_not_found, three_asked, three_not_found, four_asked, four_not_found, five_asked, five_not_found, not_found}
 use Rattle.pict_words.proofs.Seeds.{with_word, seeded_asked, no_plain, no_seed, not_seeded}
+use Rattle.pict_words.proofs.Sites.{sited_asked, no_seeded, not_sited}
 use Rattle.pict_words.proofs.Replays.{ByReplay, three_not, four_not, other_number}
-use Rattle.pict_words.proofs.Commands.{shape_of, no_other, found_by, seeded_shape, no_other_seeded, found_seeded, one_command, no_others, no_shape}
+use Rattle.pict_words.proofs.Commands.{shape_of, no_other, found_by, seeded_shape, no_other_seeded, found_seeded, one_command, no_others, no_shape, no_sites}
 
 -- ---- numbers
 
@@ -121,6 +122,7 @@ no_word word f o other (Load n) h = h
 no_word word f o other (Pick n p) h = h
 no_word word f o other (Picked n p) h = h
 no_word word f o other (Replay p trace) h = h
+no_word word f o other (Sites k n p) h = h
 no_word word f o other (Build p) h = other.build h.2 h.0
 no_word word f o other (Exec fuel object) h = other.exec h.1 h.0
 
@@ -223,6 +225,46 @@ seed_command words = elim (asks_seed_or_not words) [
   | inr none ↦ inr (λ command takes shape. let b = found_seeded words command takes shape in none b.0 b.1)
 ]
 
+-- ---- with a number of sites
+
+-- a word writes a number of sites, or none
+sites_or_not : (k : List ℕ) → ((n : ℕ) × WritesSites k n) ⊎ ((n : ℕ) → WritesSites k n → ⊥)
+sites_or_not k = elim (number_or_not 64 (omega arith) k) [
+  | inl w ↦ by w.0 w.1 w.2
+  | inr none ↦ inr (λ n x. let few : n ≤ 64 = x.few in none (n, few, x.is))
+]
+  where
+    by : (n : ℕ) → n ≤ 64 → k ≡ decimal n → ((n : ℕ) × WritesSites k n) ⊎ ((n : ℕ) → WritesSites k n → ⊥)
+    by zero few is = inr (λ n x. let some : 1 ≤ n = x.some in let most : n ≤ 64 = x.few in let same : 0 ≡ n = decimal_injective 0 n (omega arith) (omega arith) (sym is ∙ x.is) in omega (arith, some, same))
+    by (suc n) few is = inl (suc n, record { is = is; some = omega arith; few = few })
+
+abbrev BySites : List (List ℕ) → Type 0
+BySites words = ((command : Command) × HasShape words command) ⊎ AsksNoSites words
+
+-- by the words without it
+sited_or_not : (words plain : List (List ℕ)) (k : List ℕ) → with_sites k plain ≡ words → plain ≡ unsited words → k ≡ sites_in words → BySites words
+sited_or_not words plain k put without same = elim (asks_seed_or_not plain) [
+  | inl a ↦ elim (same_text_or_not a.0 (codes "sites")) [
+    | inl is ↦ elim (sites_or_not k) [
+      | inl n ↦ inl (Sites n.0 a.1 a.2, subst (λ w. HasShape w (Sites n.0 a.1 a.2)) put (sited_asked plain a.0 k n.0 a.1 a.2 a.3 is n.1))
+      | inr none ↦ inr (no_sites words a.0 a.1 a.2 (subst (IsSeeded a.0 a.1 a.2) without a.3) (λ e n x. none n (subst (λ w. WritesSites w n) (sym same) x)))
+    ]
+    | inr other ↦ inr (no_sites words a.0 a.1 a.2 (subst (IsSeeded a.0 a.1 a.2) without a.3) (λ e n x. other e))
+  ]
+  | inr none ↦ inr (no_seeded words (λ name found. none name (subst (FoundSeed name) (sym without) found)))
+]
+
+sites_command : (words : List (List ℕ)) → BySites words
+sites_command [] = inr (not_sited [] (λ x y. omega (arith, x)))
+sites_command (a ∷ []) = inr (not_sited (a ∷ []) (λ x y. omega (arith, x)))
+sites_command (a ∷ b ∷ []) = inr (not_sited (a ∷ b ∷ []) (λ x y. omega (arith, x)))
+sites_command (a ∷ b ∷ c ∷ []) = inr (not_sited (a ∷ b ∷ c ∷ []) (λ x y. omega (arith, x)))
+sites_command (a ∷ k ∷ s ∷ f ∷ []) = sited_or_not (a ∷ k ∷ s ∷ f ∷ []) (a ∷ s ∷ f ∷ []) k refl refl refl
+sites_command (a ∷ b ∷ k ∷ s ∷ f ∷ []) = sited_or_not (a ∷ b ∷ k ∷ s ∷ f ∷ []) (a ∷ b ∷ s ∷ f ∷ []) k refl refl refl
+sites_command (a ∷ c ∷ n ∷ k ∷ s ∷ f ∷ []) = sited_or_not (a ∷ c ∷ n ∷ k ∷ s ∷ f ∷ []) (a ∷ c ∷ n ∷ s ∷ f ∷ []) k refl refl refl
+sites_command (a ∷ b ∷ c ∷ n ∷ k ∷ s ∷ f ∷ []) = sited_or_not (a ∷ b ∷ c ∷ n ∷ k ∷ s ∷ f ∷ []) (a ∷ b ∷ c ∷ n ∷ s ∷ f ∷ []) k refl refl refl
+sites_command (a ∷ b ∷ c ∷ n ∷ k ∷ s ∷ f ∷ g ∷ more) = inr (not_sited (a ∷ b ∷ c ∷ n ∷ k ∷ s ∷ f ∷ g ∷ more) (λ x y. omega (arith, y)))
+
 -- ---- all commands
 
 abbrev ByLoad : List (List ℕ) → Type 0
@@ -286,11 +328,14 @@ shape_or_not words = elim (file_command words) [
   | inl c ↦ inl c
   | inr no_file ↦ elim (seed_command words) [
     | inl c ↦ inl c
-    | inr no_seeded ↦ elim (load_command words) [
-      | inl l ↦ inl (Load l.0, l.1)
-      | inr no_load ↦ elim (replay_command words) [
-        | inl r ↦ inl (Replay r.0 r.1, r.2)
-        | inr no_replay ↦ inr (no_shape words no_file (no_others words no_seeded no_load no_replay))
+    | inr none_seeded ↦ elim (sites_command words) [
+      | inl c ↦ inl c
+      | inr no_sited ↦ elim (load_command words) [
+        | inl l ↦ inl (Load l.0, l.1)
+        | inr no_load ↦ elim (replay_command words) [
+          | inl r ↦ inl (Replay r.0 r.1, r.2)
+          | inr no_replay ↦ inr (no_shape words no_file (no_others words none_seeded no_sited no_load no_replay))
+        ]
       ]
     ]
   ]

@@ -4,7 +4,7 @@ use Rattle.std.specs.Borrow.{Bor}
 use Rattle.pict_words.specs.Words as words
 use Rattle.pict_words.specs.declared.words.Options.{Options}
 use Rattle.pict_words.specs.declared.words.Command.{Command}
-use Rattle.pict_words.specs.declared.words.Command.TheVariants.{Run, Trace, Check, Code, Load, Pick, Picked, Replay, Build, Exec}
+use Rattle.pict_words.specs.declared.words.Command.TheVariants.{Run, Trace, Check, Code, Load, Pick, Picked, Replay, Build, Exec, Sites}
 
 -- borrowed texts as the texts themselves
 abbrev pub texts_of : List (Bor (List ℕ)) → List (List ℕ)
@@ -24,3 +24,4 @@ plain_command (Picked seed options) = words.Picked seed (plain_options options)
 plain_command (Replay options trace) = words.Replay (plain_options options) trace.now
 plain_command (Build options) = words.Build (plain_options options)
 plain_command (Exec fuel object) = words.Exec fuel object.now
+plain_command (Sites sites seed options) = words.Sites sites seed (plain_options options)

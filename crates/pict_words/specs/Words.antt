@@ -21,10 +21,19 @@ pub data Command : Type 0 where
   Replay : Options → List ℕ → Command
   Build : Options → Command
   Exec : ℕ → List ℕ → Command
+  Sites : ℕ → ℕ → Options → Command
 
 -- the fuel without `--fuel`
 abbrev pub default_fuel : ℕ
 default_fuel = 1000000
+
+-- the greatest number of sites
+abbrev pub most_sites : ℕ
+most_sites = 64
+
+-- there may be so many sites
+abbrev pub IsSiteCount : ℕ → Type 0
+IsSiteCount sites = (1 ≤ sites) × (sites ≤ most_sites)
 
 -- a word that may name a file: it isn't empty and doesn't begin with `-`
 pub record IsFileWord (word : List ℕ) : Type 0 where
@@ -56,6 +65,17 @@ pub record AsksWithSeed (word : List ℕ) (written : Option ℕ) (seed : ℕ) (o
   pub fits : seed < 2 ^ 64
   pub file : IsFileWord options.file
 
+-- `sites [--bare] [--fuel N] K SEED FILE`, on so many sites, at least one, and with this seed: both in decimal, without a sign and
+-- without a leading zero
+pub record AsksForSites (written : Option ℕ) (sites seed : ℕ) (options : Options) (words : List (List ℕ)) : Type 0 where
+  pub shape : words ≡ codes "sites" ∷ (bare_words options.bare ++ (fuel_words written ++ decimal sites ∷ decimal seed ∷ options.file ∷ []))
+  pub fuel : options.fuel ≡ unwrap_or written default_fuel
+  pub within : options.fuel ≤ FUEL_LIMIT
+  pub some : 1 ≤ sites
+  pub few : sites ≤ most_sites
+  pub fits : seed < 2 ^ 64
+  pub file : IsFileWord options.file
+
 -- `load N`, where N is decimal, without a sign and without a leading zero
 pub record AsksToLoad (n : ℕ) (words : List (List ℕ)) : Type 0 where
   pub shape : words ≡ codes "load" ∷ decimal n ∷ []
@@ -84,6 +104,7 @@ HasShape words (Picked seed options) = (written : Option ℕ) × AsksWithSeed (c
 HasShape words (Replay options trace) = AsksToReplay options trace words
 HasShape words (Build options) = AsksFor (codes "build") None options words
 HasShape words (Exec fuel object) = (written : Option ℕ) × AsksToExec written fuel object words
+HasShape words (Sites sites seed options) = (written : Option ℕ) × AsksForSites written sites seed options words
 
 -- the words have no listed shape
 abbrev pub HasNoShape : List (List ℕ) → Type 0
@@ -101,3 +122,9 @@ fuel_of (Picked seed options) = options.fuel
 fuel_of (Replay options trace) = options.fuel
 fuel_of (Build options) = options.fuel
 fuel_of (Exec fuel object) = fuel
+fuel_of (Sites sites seed options) = options.fuel
+
+-- on how many sites a command runs a program
+abbrev pub sites_of : Command → ℕ
+sites_of (Sites sites seed options) = sites
+sites_of command = 1

@@ -2,6 +2,7 @@
 #![tactic(auto)]
 
 mod replaying;
+mod siting;
 mod words;
 
-pub use words::{Command, DEFAULT_FUEL, Options, Usage, law_one_command, words_of};
+pub use words::{Command, DEFAULT_FUEL, Options, SITE_LIMIT, Usage, law_one_command, words_of};

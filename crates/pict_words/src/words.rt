@@ -4,10 +4,11 @@ ghost use Rattle.std.specs.Fmt.{decimal};
 ghost use Rattle.pict_words.specs.Words as shapes;
 ghost use Rattle.pict_words.specs.Words.{HasShape, HasNoShape, IsFileWord, AsksToLoad, AsksToReplay};
 ghost use Rattle.pict_words.specs.Plain.{texts_of, plain_command, plain_options};
-ghost use Rattle.pict_words.specs.Asked.{IsAsked, Found, HasWord, TakesNoSeed, IsSeeded, FoundSeed, HasSeedWord, TakesSeed};
+ghost use Rattle.pict_words.specs.Asked.{IsAsked, Found, HasWord, TakesNoSeed, IsSeeded, FoundSeed, HasSeedWord, TakesSeed, AsksNoSites};
 ghost use Rattle.pict_words.specs.Laws.{OneCommand};
 
 use crate::replaying::replay_command;
+use crate::siting::sites_command;
 use itoa::Buffer;
 use pict_syntax::FUEL_LIMIT;
 
@@ -45,6 +46,8 @@ pub enum Command<'a> {
     Build(Options<'a>),
     /// `exec`: runs the object of this name for up to so many steps, and writes what it prints.
     Exec(u64, &'a str),
+    /// `sites`: checks and runs a program on so many sites, whose events are chosen by a seed, and writes what it prints.
+    Sites(u32, u64, Options<'a>),
 }
 
 /// The words have no listed shape.
@@ -53,6 +56,9 @@ pub struct Usage;
 
 /// The fuel of a run without `--fuel`.
 pub const DEFAULT_FUEL: u64 = 1_000_000;
+
+/// The greatest number of sites.
+pub const SITE_LIMIT: u64 = 64;
 
 /// The word for a command, how it is to take its text, and whether its fuel is written.
 #[derive(Clone, Copy)]
@@ -64,10 +70,10 @@ struct Asked<'a> {
 
 /// The word for a command, its seed, and how it is to take its text.
 #[derive(Clone, Copy)]
-struct Seeded<'a> {
-    word: &'a str,
-    seed: u64,
-    options: Options<'a>,
+pub(crate) struct Seeded<'a> {
+    pub(crate) word: &'a str,
+    pub(crate) seed: u64,
+    pub(crate) options: Options<'a>,
 }
 
 /// The command that the words ask for. The error comes exactly where they have no listed shape. Takes no memory.
@@ -87,6 +93,19 @@ fn other_command<'a>(words: &[&'a str]) -> Result<Command<'a>, Usage>
     ensures usage { OnErr result ((command : shapes.Command) → (TakesNoSeed command → ⊥) → HasShape (texts_of words.now) command → ⊥) }
 {
     match seed_command(words) {
+        Some(command) => Ok(command),
+        None => further_command(words),
+    }
+}
+
+/// The command that the words ask for, where it is `sites`, `replay` or `load`.
+fn further_command<'a>(words: &[&'a str]) -> Result<Command<'a>, Usage>
+    ensures shape { IfOk result (λ command. HasShape (texts_of words.now) (plain_command command)) }
+    ensures no_sites { OnErr result (AsksNoSites (texts_of words.now)) }
+    ensures no_load { OnErr result ((n : ℕ) → AsksToLoad n (texts_of words.now) → ⊥) }
+    ensures no_replay { OnErr result ((options : shapes.Options) (trace : List ℕ) → AsksToReplay options trace (texts_of words.now) → ⊥) }
+{
+    match sites_command(words) {
         Some(command) => Ok(command),
         None => last_command(words),
     }
@@ -292,7 +311,7 @@ fn seeded_by<'a>(words: &[&'a str]) -> Option<Seeded<'a>>
 }
 
 /// The same of three words: the default fuel, behind the prelude.
-fn seeded_by_three<'a>(word: &'a str, seed: &str, file: &'a str) -> Option<Seeded<'a>>
+pub(crate) fn seeded_by_three<'a>(word: &'a str, seed: &str, file: &'a str) -> Option<Seeded<'a>>
     ensures some { IfSome result (λ s.
         IsSeeded s.word.now s.seed (plain_options s.options) (word.entry.now ∷ seed.now ∷ file.entry.now ∷ [])) }
     ensures none { result ≡ None → (name : List ℕ) → FoundSeed name (word.entry.now ∷ seed.now ∷ file.entry.now ∷ []) → ⊥ }
@@ -304,7 +323,12 @@ fn seeded_by_three<'a>(word: &'a str, seed: &str, file: &'a str) -> Option<Seede
 }
 
 /// The same of four words: the default fuel, without the prelude.
-fn seeded_by_four<'a>(word: &'a str, bare: &str, seed: &str, file: &'a str) -> Option<Seeded<'a>>
+pub(crate) fn seeded_by_four<'a>(
+    word: &'a str,
+    bare: &str,
+    seed: &str,
+    file: &'a str,
+) -> Option<Seeded<'a>>
     ensures some { IfSome result (λ s.
         IsSeeded s.word.now s.seed (plain_options s.options) (word.entry.now ∷ bare.now ∷ seed.now ∷ file.entry.now ∷ [])) }
     ensures none { result ≡ None → (name : List ℕ) → FoundSeed name (word.entry.now ∷ bare.now ∷ seed.now ∷ file.entry.now ∷ []) → ⊥ }
@@ -316,7 +340,7 @@ fn seeded_by_four<'a>(word: &'a str, bare: &str, seed: &str, file: &'a str) -> O
 }
 
 /// The same of five words: a written fuel, behind the prelude.
-fn seeded_by_five<'a>(
+pub(crate) fn seeded_by_five<'a>(
     word: &'a str,
     option: &str,
     fuel: &str,
@@ -335,7 +359,7 @@ fn seeded_by_five<'a>(
 }
 
 /// The same of six words: a written fuel, without the prelude.
-fn seeded_by_six<'a>(
+pub(crate) fn seeded_by_six<'a>(
     word: &'a str,
     bare: &str,
     option: &str,
@@ -412,7 +436,7 @@ fn fuel_of(word: &str) -> Option<u64>
 }
 
 /// The number that a word writes, in decimal, without a sign and without a leading zero.
-fn number_of(word: &str) -> Option<u64>
+pub(crate) fn number_of(word: &str) -> Option<u64>
     ensures some { IfSome result (λ n. word.now ≡ decimal n) }
     ensures none { result ≡ None → (n : ℕ) → n < 2 ^ 64 → word.now ≢ decimal n }
 {

@@ -4,4 +4,5 @@ use Rattle.pict_words.proofs.words.other_command.Goals as goal
 
 pub returns-in-None-clause-usage : goal.returns-in-None-clause-usage
 returns-in-None-clause-usage c =
-    no_others_on_error c.last_command.result (texts_of c.args.words.now) (c.seed_command.ensures.none c.in-None.is) c.last_command.ensures.no_load c.last_command.ensures.no_replay
+    let further = c.further_command.ensures in
+    no_others_on_error c.further_command.result (texts_of c.args.words.now) (c.seed_command.ensures.none c.in-None.is) further.no_sites further.no_load further.no_replay

@@ -1,0 +1,170 @@
+-- One event more of a run.
+use Rattle.std.proofs.Common.{ℕ, length, ◌≡◌, ◌≢◌, ◌≤◌, ◌<◌, ◌+◌, ◌↔◌, inl, inr, List, [], ◌∷◌, ◌++◌, refl, sym, ap, ◌∙◌, subst, Option, Some, None, arith}
+use Rattle.std.proofs.lemmas.List.{append-nil}
+use Rattle.rand_pcg.specs.Lcg.{Lcg}
+use Rattle.pict_syntax.specs.declared.span.Span.{Span}
+use Rattle.pict_core.specs.Step.{Label}
+use Rattle.pict_core.specs.Run as run
+use Rattle.pict_core.specs.Run.{shown}
+use Rattle.pict_heap.specs.HeapState.{HeapState}
+use Rattle.pict_view.specs.Watching.{WhereTold, Saw, SawOrTore}
+use Rattle.pict_view.proofs.Runs.{saw_more, saw_nothing, tore_last}
+use Rattle.pict_picker.specs.Events.{label_of, trap_of}
+use Rattle.pict_picker.specs.declared.did.Did.{Did}
+use Rattle.pict_picker.specs.declared.did.Did.TheVariants as did
+use Rattle.pict_network.specs.Network.{Network}
+use Rattle.pict_network.specs.Events.{Happening, Stepped, Stopped, Event, events}
+use Rattle.pict_network.specs.Runs.{Chooses, at_start, by_move, by_step, choice, next_happening}
+use Rattle.pict_network.proofs.Possible.{next_is_possible}
+use Rattle.pict_sites.specs.declared.happened.Happened.{Happened}
+use Rattle.pict_sites.specs.declared.happened.Happened.TheVariants as happened
+use Rattle.pict_sites.specs.Happening.{IsDid, IsNext}
+use Rattle.pict_sites.specs.Runs.{ComesTo, RanOn, BrokeOffOn, IsGone, IsBrokenOff}
+use Rattle.pict_sites.specs.declared.running.Gone.TheVariants as gone
+
+module _ (heap : HeapState) (Stands : Network → Type 0) (N : Network) (h : Happening) where
+  pub leads_of : (d : Did) → None ≡ trap_of d → IsDid heap Stands N d h → (M : Network) × (h ≡ Stepped M (label_of heap d)) × Stands M
+  leads_of did.Quiet none is = is
+  leads_of (did.Comm channel value) none is = is
+  leads_of (did.Print word) none is = is
+  leads_of (did.Trapped at) none is = cc
+
+  pub traps_of : (d : Did) (at : Span) → Some at ≡ trap_of d → IsDid heap Stands N d h → (h ≡ Stopped at) × Stands N
+  traps_of did.Quiet at some is = cc
+  traps_of (did.Comm channel value) at some is = cc
+  traps_of (did.Print word) at some is = cc
+  traps_of (did.Trapped there) at some is = let same : there ≡ at = cc in (is.0 ∙ ap Stopped same, is.1)
+
+-- ---- one event
+
+module _ (heap : HeapState) (Stands : Network → Type 0) (N : Network) (g h : Lcg) (steps : ℕ) (Seen : List (ℕ × Label) → Type 0) where
+  step_of : (x : Happened) (d : Did) → x ≡ happened.Stepped d → None ≡ trap_of d → IsNext heap Stands N g h (Some x)
+      → ((M : Network) × (next_happening N g ≡ Stepped M (label_of heap d)) × Stands M) × (h ≡ (choice N g).1)
+  step_of happened.Moved d e none is = cc
+  step_of (happened.Stepped b) d e none is =
+      let same : b ≡ d = cc in
+      (leads_of heap Stands N (next_happening N g) d none (subst (λ z. IsDid heap Stands N z (next_happening N g)) same is.0), is.1)
+
+  pub gone_moved : (x : Happened) → x ≡ happened.Moved → Seen [] → IsNext heap Stands N g h (Some x) → IsGone Stands N g h steps Seen gone.Moved
+  gone_moved happened.Moved e seen is = (is.0.0, is.0.1, is.0.2, is.1, seen)
+  gone_moved (happened.Stepped d) e seen is = cc
+
+  pub gone_stepped : (x : Happened) (d : Did) → x ≡ happened.Stepped d → None ≡ trap_of d → Seen (shown (steps + 1) (label_of heap d))
+      → IsNext heap Stands N g h (Some x) → IsGone Stands N g h steps Seen gone.Stepped
+  gone_stepped x d e none seen is =
+      let s = step_of x d e none is in
+      (s.0.0, label_of heap d, s.0.1, s.0.2, s.1, seen)
+
+  pub gone_torn : (Torn : ℕ → Label → Type 0) (x : Happened) (d : Did) → x ≡ happened.Stepped d → None ≡ trap_of d
+      → shown (steps + 1) (label_of heap d) ≡ (steps + 1, label_of heap d) ∷ [] → Torn (steps + 1) (label_of heap d)
+      → IsNext heap Stands N g h (Some x) → IsBrokenOff Stands N g h steps Seen Torn
+  gone_torn Torn x d e none one torn is =
+      let s = step_of x d e none is in
+      inr (s.0.0, label_of heap d, s.0.1, s.0.2, s.1, one, torn)
+
+-- ---- runs
+
+abbrev View : Type 0
+View = Option (List ℕ)
+
+abbrev Next : Type 0
+Next = List ℕ → ℕ → Label → List ℕ
+
+-- what was seen before and after an event in which nothing was
+same_seen : (f g : Next) → ((v : List ℕ) (n : ℕ) (l : Label) → g v n l ≡ f v n l) → (before mid after : View) (labels : List (ℕ × Label)) → Saw f before mid labels → Saw g mid after [] → Saw f before after labels
+same_seen f g same before mid after labels a b = subst (Saw f before after) (append-nil labels) (saw_more f g same before mid after [] b labels a)
+
+saw_all : (f : Next) (T : List ℕ → ℕ → Label → List ℕ → Type 0) (before after : View) (labels : List (ℕ × Label)) → Saw f before after labels → SawOrTore f T before after labels
+saw_all f T None after labels d = tt
+saw_all f T (Some b) None labels d = d
+saw_all f T (Some b) (Some a) labels d = inl d
+
+module _ (Old New : Network → Type 0) (N : Network) (g k h : Lcg) (count steps : ℕ) (f q : Next) (same : (v : List ℕ) (n : ℕ) (l : Label) → q v n l ≡ f v n l) (before mid after : View)
+    (c : ComesTo Old N g count steps k (Saw f before mid)) where
+  pub comes_moved : IsGone New c.last k h steps (Saw q mid after) gone.Moved → ComesTo New N g (count + 1) steps h (Saw f before after)
+  comes_moved x = record {
+    labels = c.labels;
+    last = x.0;
+    chooses = subst (Chooses N g (count + 1) steps c.labels x.0) (sym x.3) (by_move c.chooses x.1);
+    stands = x.2;
+    seen = same_seen f q same before mid after c.labels c.seen x.4;
+  }
+
+  pub comes_stepped : IsGone New c.last k h steps (Saw q mid after) gone.Stepped → ComesTo New N g (count + 1) (steps + 1) h (Saw f before after)
+  comes_stepped x = record {
+    labels = c.labels ++ shown (steps + 1) x.1;
+    last = x.0;
+    chooses = subst (Chooses N g (count + 1) (steps + 1) (c.labels ++ shown (steps + 1) x.1) x.0) (sym x.4) (by_step c.chooses x.2);
+    stands = x.3;
+    seen = saw_more f q same before mid after (shown (steps + 1) x.1) x.5 c.labels c.seen;
+  }
+
+  module _ (fuel : ℕ) where
+    pub ran_done : count ≤ fuel → IsGone New c.last k h steps (Saw q mid after) gone.Done → RanOn New N g fuel run.Done (Saw f before after)
+    ran_done few x = record {
+      count = count;
+      steps = steps;
+      after = k;
+      comes = record { labels = c.labels; last = c.last; chooses = c.chooses; stands = x.1; seen = same_seen f q same before mid after c.labels c.seen x.2 };
+      ends = (few, x.0);
+    }
+
+    pub ran_trapped : (at : Span) → count < fuel → IsGone New c.last k h steps (Saw q mid after) (gone.Trapped at) → RanOn New N g fuel (run.Trap at) (Saw f before after)
+    ran_trapped at few x = record {
+      count = count;
+      steps = steps;
+      after = k;
+      comes = record { labels = c.labels; last = c.last; chooses = c.chooses; stands = x.1; seen = same_seen f q same before mid after c.labels c.seen x.2 };
+      ends = (few, x.0);
+    }
+
+    pub broke_on : (T U : List ℕ → ℕ → Label → List ℕ → Type 0) → ((v : List ℕ) (n : ℕ) (l : Label) (a : List ℕ) → U v n l a ↔ T v n l a) → count < fuel
+        → IsBrokenOff New c.last k h steps (Saw q mid after) (λ number label. WhereTold (λ b a. U b number label a) mid after) → BrokeOffOn New N g fuel (SawOrTore f T before after)
+    broke_on T U torn few (inl x) = record {
+      count = count;
+      steps = steps;
+      after = k;
+      few = omega (arith, few);
+      comes = record { labels = c.labels; last = c.last; chooses = c.chooses; stands = x.0; seen = saw_all f T before after c.labels (same_seen f q same before mid after c.labels c.seen x.1) };
+    }
+    broke_on T U torn few (inr x) = record {
+      count = count + 1;
+      steps = steps + 1;
+      after = (choice c.last k).1;
+      few = omega (arith, few);
+      comes = record {
+        labels = c.labels ++ shown (steps + 1) x.1;
+        last = x.0;
+        chooses = by_step c.chooses x.2;
+        stands = x.3;
+        seen = subst (λ ls. SawOrTore f T before after (c.labels ++ ls)) (sym x.5) (tore_last f T U torn (steps + 1) x.1 before mid after x.6 c.labels c.seen);
+      };
+    }
+
+pub comes_none : (Stands : Network → Type 0) (N : Network) (g : Lcg) (f : Next) (before : View) → Stands N → ComesTo Stands N g 0 0 g (Saw f before before)
+comes_none Stands N g f before st = record { labels = []; last = N; chooses = at_start; stands = st; seen = saw_nothing f before }
+
+-- ---- the fuel is spent
+
+empty_of : (es : List Event) → length es ≡ 0 → es ≡ []
+empty_of [] e = refl
+empty_of (event ∷ es) e = absurd (omega (arith, e))
+
+module _ (Stands : Network → Type 0) (N : Network) (g k : Lcg) (count steps fuel : ℕ) (Seen : List (ℕ × Label) → Type 0) (c : ComesTo Stands N g count steps k Seen) (all : count ≡ fuel) where
+  pub ran_out : length (events c.last) ≡ 0 → RanOn Stands N g fuel run.Done Seen
+  ran_out none = record {
+    count = count;
+    steps = steps;
+    after = k;
+    comes = c;
+    ends = (omega (arith, all), (next_is_possible c.last k).1 (empty_of (events c.last) none));
+  }
+
+  pub ran_spent : length (events c.last) ≢ 0 → RanOn Stands N g fuel run.FuelSpent Seen
+  ran_spent some = record {
+    count = count;
+    steps = steps;
+    after = k;
+    comes = c;
+    ends = (all, λ e. some (ap length ((next_is_possible c.last k).0 e)));
+  }

@@ -1,0 +1,11 @@
+pub mod Views
+pub mod Network
+pub mod Working
+pub mod Happening
+pub mod Standing
+pub mod Turning
+pub mod Opening
+pub mod Passing
+pub mod Places
+pub mod Runs
+pub mod Laws
