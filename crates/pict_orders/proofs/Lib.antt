@@ -1,0 +1,11 @@
+pub mod Lists
+pub mod Entries
+pub mod Passing
+pub mod Placed
+pub mod Silently
+pub mod Renaming
+pub mod Going
+pub mod Ending
+pub mod Scanning
+pub mod Trying
+pub mod Beginning

@@ -1,0 +1,10 @@
+use Rattle.std.proofs.Common.{◌≡◌, map, drop, filter}
+use Rattle.std.specs.List.{slice_get}
+use Rattle.pict_core.specs.Plain.{plain_core}
+use Rattle.pict_core.specs.Step.{is_partner}
+use Rattle.pict_shared.specs.Plain.{plain_held}
+use Rattle.pict_orders.proofs.places.partner_among.Given as goal
+
+abbrev pub invariant-loop-entry : goal.invariant-loop-entry
+invariant-loop-entry l = slice_get (filter (is_partner (plain_core l.process)) (map plain_held (drop l.entry-index l.entries))) l.left
+    ≡ slice_get (filter (is_partner (plain_core l.process)) (map plain_held l.entries)) l.j

@@ -1,0 +1,45 @@
+-- What a search has found.
+use Rattle.std.specs.Prelude.{ℕ, ◌≡◌, List, map, slice_get, Some}
+use Rattle.pict_syntax.specs.declared.span.Span.{Span}
+use Rattle.pict_core.specs.Term.{Process}
+use Rattle.pict_core.specs.Step.{Traps}
+use Rattle.pict_core.specs.Places.{Place, IsPlace, outcome_at}
+use Rattle.pict_reduction.specs.Silent.{IsStill}
+use Rattle.pict_exploration.specs.Explored.{Vertex, Has, IsReachedByChoices}
+use Rattle.pict_orders.specs.Plain.{configuration_of, place_of}
+use Rattle.pict_orders.specs.declared.search.Found.{Found}
+use Rattle.pict_orders.specs.declared.search.Trap.{Trap}
+
+abbrev pub vertex_of : Found → Vertex
+vertex_of f = record { choices = map place_of f.choices.items; bytes = f.bytes.items; configuration = configuration_of f.state }
+
+-- the vertices that are found
+abbrev pub vertices : List Found → List Vertex
+vertices = map vertex_of
+
+-- The trap is one: the vertex has this place, and its step there divides by zero, at this place of the text.
+pub record IsTrap (found : List Vertex) (t : Trap) : Type 0 where
+  pub vertex : Vertex
+  pub is : slice_get found t.vertex ≡ Some vertex
+  pub there : IsPlace vertex.configuration (place_of t.choice)
+  pub traps : outcome_at vertex.configuration (place_of t.choice) ≡ Traps t.at
+
+-- Each vertex is reached by its choices and has no silent step left, and each trap is one.
+pub record IsSearch (p : Process) (found : List Vertex) (traps : List Trap) : Type 0 where
+  pub reached : (v : Vertex) → Has found v → IsReachedByChoices p v
+  pub still : (v : Vertex) → Has found v → IsStill v.configuration
+  pub trapped : (i : ℕ) (t : Trap) → slice_get traps i ≡ Some t → IsTrap found t
+
+-- a trap of this vertex, at this place of the text, is listed
+pub record HasTrap (traps : List Trap) (number : ℕ) (at : Span) : Type 0 where
+  pub index : ℕ
+  pub trap : Trap
+  pub listed : slice_get traps index ≡ Some trap
+  pub vertex : trap.vertex ≡ number
+  pub same : trap.at ≡ at
+
+-- Wherever the step of a vertex at a place divides by zero, a trap of the vertex is listed, at the same place of the text.
+abbrev pub ListsTraps : List Vertex → List Trap → Type 0
+ListsTraps found traps =
+    (number : ℕ) (v : Vertex) → slice_get found number ≡ Some v
+    → (there : Place) (at : Span) → IsPlace v.configuration there → outcome_at v.configuration there ≡ Traps at → HasTrap traps number at

@@ -1,0 +1,4 @@
+pub mod Plain
+pub mod Settling
+pub mod Found
+pub mod Going

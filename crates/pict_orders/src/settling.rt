@@ -1,0 +1,115 @@
+// Silent steps, as long as there are any.
+
+ghost use Rattle.std.specs.Prelude.{◌≡◌, IsTrue, not, map, IfOk};
+ghost use Rattle.pict_core.specs.Plain.{plain_core, plain_val};
+ghost use Rattle.pict_core.specs.Configuration.{IsConfiguration};
+ghost use Rattle.pict_core.specs.Step.{is_partner as is_plain_partner, least};
+ghost use Rattle.pict_reduction.specs.Silent.{is_silent as is_plain_silent, is_chan, has_none, parks as parks_plain};
+ghost use Rattle.pict_orders.specs.Plain.{configuration_of, place_of};
+ghost use Rattle.pict_shared.specs.Plain.{plain_held};
+ghost use Rattle.pict_orders.specs.Settling.{FirstSilent, SettlesOnce, Settles};
+
+use crate::choice::Choice;
+use crate::state::State;
+use pict_core::{Core, CoreVal};
+use pict_shared::{Held, is_partner};
+use std::alloc::AllocError;
+
+fn has_partner(process: &Core, entries: &[Held]) -> bool
+    ensures { not result ≡ has_none (least (is_plain_partner (plain_core process.now)) (map plain_held entries.now)) }
+{
+    for entry in entries {
+        if is_partner(process, entry) {
+            return true;
+        }
+    }
+    false
+}
+
+fn is_channel(value: &CoreVal) -> bool
+    ensures { result ≡ is_chan (plain_val value.now) }
+{
+    matches!(value, CoreVal::Chan(_))
+}
+
+// Whether an output or input with this subject parks.
+fn parks(entries: &[Held], chan: &CoreVal, process: &Core) -> bool
+    ensures { result ≡ parks_plain (map plain_held entries.now) (plain_val chan.now) (plain_core process.now) }
+{
+    is_channel(chan) && !has_partner(process, entries)
+}
+
+// Whether the process acts silently among these.
+fn is_silent(entries: &[Held], process: &Core) -> bool
+    ensures { result ≡ is_plain_silent (map plain_held entries.now) (plain_core process.now) }
+{
+    match process {
+        Core::Zero => true,
+        Core::Par(_, _) => true,
+        Core::New(_) => true,
+        Core::Out { chan, .. } => parks(entries, chan, process),
+        Core::In { chan, .. } => parks(entries, chan, process),
+        Core::If { .. } => false,
+    }
+}
+
+// The number, among the ready ones, of the first that acts silently.
+fn first_silent(entries: &[Held]) -> Option<usize>
+    ensures { FirstSilent (map plain_held entries.now) result }
+{
+    let mut count = 0;
+    for entry in entries {
+        if entry.ready {
+            if is_silent(entries, &entry.process.core) {
+                return Some(count);
+            }
+            count += 1;
+        }
+    }
+    None
+}
+
+impl State {
+    // One silent step, if there is any: whether there was one. Its choice is written behind the others.
+    fn settle_once(&mut self, choices: &mut Vec<Choice>) -> Result<Once, AllocError>
+        ensures { IfOk result (λ once. IsConfiguration (configuration_of self.old) → SettlesOnce once
+            (map place_of choices.old.items) (configuration_of self.old) (map place_of choices.new.items) (configuration_of self.new)) }
+    {
+        match first_silent(&self.entries) {
+            None => Ok(Once::Still),
+            Some(ready) => {
+                if !self.has_room() {
+                    return Ok(Once::NoRoom);
+                }
+                let choice = Choice { ready, partner: 0 };
+                self.step_at(choice)?;
+                choices.push(choice)?;
+                Ok(Once::Stepped)
+            }
+        }
+    }
+
+    /// All silent steps, one after the other, until none is left: their choices are written behind the others. The answer is
+    /// false where the numbers of channels or stamps are used up before. The only error is want of memory.
+    pub fn settle(&mut self, choices: &mut Vec<Choice>) -> Result<bool, AllocError>
+        ensures { IfOk result (λ done. IsConfiguration (configuration_of self.old) → IsTrue done → Settles
+            (map place_of choices.old.items) (configuration_of self.old) (map place_of choices.new.items) (configuration_of self.new)) }
+    {
+        for _ in 0..u64::MAX {
+            match self.settle_once(choices)? {
+                Once::Still => return Ok(true),
+                Once::NoRoom => return Ok(false),
+                Once::Stepped => {}
+            }
+        }
+        Ok(false)
+    }
+}
+
+// What became of a silent step.
+#[derive(Clone, Copy)]
+enum Once {
+    Still,
+    NoRoom,
+    Stepped,
+}
