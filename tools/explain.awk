@@ -5,6 +5,8 @@ BEGIN {
     page = ENVIRON["PAGE"]
 }
 /^ *[0-9]+ \| / { shown_already = 1 }
+# (who waits at the end of a run)
+/^  `/ { next }
 heading == "" && ($0 == "fuel spent" || /^usage: /) { heading = $0 }
 heading == "" && match($0, /: (no such file|cannot be read)$/) { heading = substr($0, RSTART + 2) }
 # (a name may have colons, so the last place of the line is taken)

@@ -1,6 +1,11 @@
 // What is told of a file.
 
-ghost use Rattle.std.specs.Prelude.{◌≡◌, []};
+ghost use Rattle.std.specs.Prelude.{◌≡◌, ◌≤◌, [], IfOk, IfSome, length};
+ghost use Rattle.pict_syntax.specs.declared.limits.TheConstants.{TEXT_LIMIT};
+ghost use Rattle.pict_core.specs.Plain.{plain_core};
+ghost use Rattle.pict_core.specs.Closed.{IsClosed};
+ghost use Rattle.pict_view.specs.Right.{RunsRight};
+ghost use Rattle.pict_report.specs.Reports.{AreShort};
 
 use pict_check::{TypeError, check_in};
 use pict_front::{Front, FrontError, front};
@@ -25,6 +30,13 @@ pub fn shelf_of(alloc: Global, sources: &Sources) -> Result<MemoryShelf, AllocEr
     Ok(MemoryShelf::new(entries, Vec::new(alloc)))
 }
 
+/// The prelude, unless a text stands without it.
+pub fn prelude_unless(bare: bool) -> Option<&'static [u8]>
+    ensures short { IfSome result (λ bytes. length bytes.now ≤ TEXT_LIMIT) }
+{
+    if bare { None } else { Some(prelude()) }
+}
+
 /// What the phases say of a file, behind the prelude unless it is `bare`. `sources` gains the texts that were read.
 pub fn phases<S: Shelf>(
     alloc: Global,
@@ -34,12 +46,11 @@ pub fn phases<S: Shelf>(
     sources: &mut Sources,
 ) -> Result<Front, FrontError>
     requires empty { sources.old.list.items ≡ [] }
+    ensures short { IfOk result (λ front. AreShort sources.new.list.items) }
+    ensures closed { IfOk result (λ front. IsClosed (plain_core front.core)) }
+    ensures right { IfOk result (λ front. RunsRight (plain_core front.core) 10000) }
 {
-    if bare {
-        front(alloc, None, file, shelf, sources)
-    } else {
-        front(alloc, Some(prelude()), file, shelf, sources)
-    }
+    front(alloc, prelude_unless(bare), file, shelf, sources)
 }
 
 /// What is told of types where the typing rules refuse these declarations.
@@ -64,12 +75,7 @@ pub fn types<S: Shelf>(
     shelf: &mut S,
 ) -> Result<Vec<u8>, AllocError> {
     let mut sources = Sources::new(alloc);
-    let gathered = if bare {
-        gather(alloc, None, file, shelf, &mut sources)
-    } else {
-        gather(alloc, Some(prelude()), file, shelf, &mut sources)
-    };
-    match gathered {
+    match gather(alloc, prelude_unless(bare), file, shelf, &mut sources) {
         Ok(gathering) => types_in(alloc, gathering.names, gathering.decs),
         Err(_) => Ok(Vec::new(alloc)),
     }

@@ -1,5 +1,5 @@
 //! Tells each step of a small run: who acts, by which row of the table of steps, with which partner, and what is shown;
-//! and at the end who waits where.
+//! and at the end who waits where, by the names and places of channels.
 //!
 //! Each of its words names a file with a text of the bare language; without a word it reads the standard input. Of each it
 //! follows at most 1,000 steps. A text that is refused, or cannot be read, is reported as `pict check` reports it, and ends
@@ -10,12 +10,18 @@ mod cells;
 mod table;
 mod telling;
 
+ghost use Rattle.pict_report.specs.Reports.{AreShort};
+
 use anyhow::Error;
+use pict_core::Core;
 use pict_front::front;
 use pict_outside::{Fetched, FolderShelf, Shelf, StreamSink};
-use pict_stepper::follow;
-use pict_syntax::{Sources, TEXT_LIMIT};
+use pict_places::{Origin, fits, places_of_file};
+use pict_stepper::{Run, follow};
+use pict_syntax::{Names, Sources, TEXT_LIMIT};
 use pict_top::{OneShelf, Status, pict};
+use pict_waits::who_waits;
+use std::alloc::{AllocError, Global};
 use std::env;
 use std::io::Write;
 use std::process::ExitCode;
@@ -40,6 +46,39 @@ fn report<S: Shelf>(rt: &HostRuntime, file: &str, shelf: &mut S) -> Status {
     )
 }
 
+/// What the nodes of an accepted file's code come from; none where that isn't known.
+fn origins_of<S: Shelf>(
+    alloc: Global,
+    file: &str,
+    shelf: &mut S,
+    process: &Core,
+) -> Result<Option<Vec<Origin>>, AllocError> {
+    let origins = places_of_file(alloc, None, file, shelf)?;
+    if fits(alloc, process, &origins)? {
+        return Ok(Some(origins));
+    }
+    Ok(None)
+}
+
+/// Who waits at the end of a run, by the names and places of channels; nothing where that isn't known, or where it has no end.
+fn left_by(
+    alloc: Global,
+    names: &Names,
+    sources: &Sources,
+    origins: &Option<Vec<Origin>>,
+    run: &Run,
+) -> Result<Vec<u8>, AllocError>
+    requires short { AreShort sources.now.list.items }
+{
+    match origins {
+        None => Ok(Vec::new(alloc)),
+        Some(origins) => match who_waits(alloc, names, sources, origins, run)? {
+            None => Ok(Vec::new(alloc)),
+            Some(told) => Ok(told.text),
+        },
+    }
+}
+
 /// Tells the run of a text, or reports why it is refused.
 fn tell_text(rt: &HostRuntime, file: &str, text: Vec<u8>) -> Result<Status, Error> {
     let mut shelf = OneShelf::new(rt.alloc(), file, text)?;
@@ -47,9 +86,12 @@ fn tell_text(rt: &HostRuntime, file: &str, text: Vec<u8>) -> Result<Status, Erro
     match front(rt.alloc(), None, file, &mut shelf, &mut sources) {
         Err(_) => Ok(report(rt, file, &mut shelf)),
         Ok(front) => {
+            let origins = origins_of(rt.alloc(), file, &mut shelf, &front.core)?;
             let run = follow(rt.alloc(), front.core, MOST)?;
             let table = told(rt.alloc(), &front.names, &sources, &run)?;
+            let left = left_by(rt.alloc(), &front.names, &sources, &origins, &run)?;
             rt.stdout().write_all(&table)?;
+            rt.stdout().write_all(&left)?;
             Ok(Status::Done)
         }
     }

@@ -1,0 +1,8 @@
+use Rattle.pict_explain.proofs.Accepted.{accepted_short, accepted_right}
+use Rattle.pict_explain.proofs.telling.phases.Goals as goal
+
+pub returns-clause-short : goal.returns-clause-short
+returns-clause-short g c = accepted_short c.front.result _ c.prelude_unless.result _ _ c.prelude_unless.ensures.short c.front.ensures.answer
+
+pub returns-clause-right : goal.returns-clause-right
+returns-clause-right g c = accepted_right c.front.result 10000 c.front.ensures.accepted
