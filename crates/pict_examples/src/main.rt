@@ -1,13 +1,16 @@
 //! Runs each example of the folder `examples`, and writes its name, what it prints, what is reported and the number of its
-//! status.
+//! status. Then builds the object of each, runs that, and writes how many come to what their programs come to.
 #![tactic(auto)]
 
+mod alike;
+
+use alike::is_alike;
 use anyhow::Error;
 use pict_outside::{FolderShelf, StreamSink};
 use pict_top::pict;
 
 /// The examples that stand alone, in the order of their index.
-const EXAMPLES: [&str; 29] = [
+const EXAMPLES: [&str; 33] = [
     "hello.pi",
     "message.pi",
     "server.pi",
@@ -21,9 +24,13 @@ const EXAMPLES: [&str; 29] = [
     "account.pi",
     "lock.pi",
     "buffer.pi",
+    "one_place.pi",
     "race.pi",
+    "lost.pi",
     "deadlock.pi",
+    "in_order.pi",
     "philosophers.pi",
+    "table.pi",
     "future.pi",
     "fib.pi",
     "ring.pi",
@@ -52,6 +59,14 @@ const WITH_PRELUDE: [&str; 6] = [
 /// The example that runs without end.
 const WITHOUT_END: &str = "forever.pi";
 
+/// The fuel of an example that ends.
+const MUCH: &str = "100000";
+
+/// The fuel of an example.
+fn fuel_of(name: &str) -> &'static str {
+    if name == WITHOUT_END { "100" } else { MUCH }
+}
+
 fn run_example(rt: &HostRuntime, name: &str, words: &[&str]) -> Result<(), Error> {
     println!(rt; "{name}")?;
     let mut shelf = FolderShelf::new(rt);
@@ -62,13 +77,46 @@ fn run_example(rt: &HostRuntime, name: &str, words: &[&str]) -> Result<(), Error
     Ok(())
 }
 
+/// Writes how many examples are run as objects as they are as programs, and the names of the others.
+fn compare(rt: &HostRuntime) -> Result<(), Error> {
+    let mut shelf = FolderShelf::new(rt);
+    let mut alike: u64 = 0;
+    for name in EXAMPLES {
+        let fuel = fuel_of(name);
+        let run = ["run", "--bare", "--fuel", fuel, name];
+        let same = is_alike(
+            rt.alloc(),
+            &mut shelf,
+            &run,
+            &["build", "--bare", name],
+            fuel,
+        )?;
+        alike = alike.saturating_add(told(rt, name, same)?);
+    }
+    for name in WITH_PRELUDE {
+        let run = ["run", "--fuel", MUCH, name];
+        let same = is_alike(rt.alloc(), &mut shelf, &run, &["build", name], MUCH)?;
+        alike = alike.saturating_add(told(rt, name, same)?);
+    }
+    println!(rt; "{alike} objects run as their programs")?;
+    Ok(())
+}
+
+/// Writes the name of an example that runs otherwise as an object. 1 where it runs alike.
+fn told(rt: &HostRuntime, name: &str, same: bool) -> Result<u64, Error> {
+    if same {
+        return Ok(1);
+    }
+    println!(rt; "{name} runs otherwise as an object")?;
+    Ok(0)
+}
+
 fn main(rt: HostRuntime) -> Result<(), Error> {
     for name in EXAMPLES {
-        let fuel = if name == WITHOUT_END { "100" } else { "100000" };
-        run_example(&rt, name, &["run", "--bare", "--fuel", fuel, name])?;
+        run_example(&rt, name, &["run", "--bare", "--fuel", fuel_of(name), name])?;
     }
     for name in WITH_PRELUDE {
         run_example(&rt, name, &["run", name])?;
     }
-    Ok(())
+    compare(&rt)
 }
