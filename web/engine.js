@@ -44,13 +44,15 @@
   // Whether the module tells the steps of a run.
   pict.tells = module => WebAssembly.Module.exports(module).some(it => it.name === 'pict_web_steps');
 
-  // The lines of the first steps of a run; status 1 where the text is refused.
-  pict.steps = async function (module, bare, text) {
-    const memory = await opened(module);
-    const rooms = [text.length, OUT, 16].map(memory.room), [at, out, lengths] = rooms;
+  // The lines of the first steps of a run of a job's text; status 1 where that is refused.
+  pict.steps = async function (module, { bare, text, modules = {} }) {
+    const memory = await opened(module), [bytes, sizes] = pict.joined(text, modules);
+    const rooms = [bytes.length, 8 * sizes.length, OUT, 16].map(memory.room), [at, cuts, out, lengths] = rooms;
     if (rooms.includes(0n)) return NOTHING;
-    memory.put(at, text);
-    const status = memory.code.pict_web_steps(bare ? 1 : 0, at, BigInt(text.length), out, BigInt(OUT), lengths);
+    memory.put(at, bytes);
+    memory.putNumbers(cuts, sizes);
+    const status = memory.code.pict_web_steps(bare ? 1 : 0, at, BigInt(bytes.length), cuts, BigInt(sizes.length / 2),
+      out, BigInt(OUT), lengths);
     return { status: status & 255, out: memory.bytes(out, memory.numbers(lengths)[0]), err: new Uint8Array() };
   };
 
@@ -67,7 +69,7 @@
   pict.work = async function (module, job, answer) {
     try {
       if (job.command === 'steps') {
-        answer({ ...await pict.steps(module, job.bare, job.text), last: true });
+        answer({ ...await pict.steps(module, job), last: true });
         return;
       }
       const prints = job.command === 'run' || job.command === 'pick', fuels = prints ? pict.fuels(job.fuel) : [BigInt(job.fuel)];

@@ -74,14 +74,14 @@
 
   // What a command of a view comes to, shown as it comes.
   function begin(command) {
-    const begun = performance.now();
+    const begun = performance.now(), oldest = command === 'steps' && seed() ? ' These are the steps of the oldest first.' : '';
     ask(command, said => {
       const took = `${Math.round(performance.now() - begun)} ms.`;
       if (command === 'steps' && said.status === REFUSED) { begin('check'); return; }
       if (said.last) answers.set(command, said);
       report(said.status === SPENT ? '' : textOf(said.err));
       if (command === 'check' && said.status === 0) say(`Accepted. ${took}`);
-      else say(said.last ? `${ENDS[said.status] || 'It failed.'} ${took}` : `It runs; so far up to ${said.fuel} steps.`);
+      else say(said.last ? `${ENDS[said.status] || 'It failed.'} ${took}${oldest}` : `It runs; so far up to ${said.fuel} steps.`);
       if (command !== 'check') draw(said);
     });
   }
@@ -123,7 +123,8 @@
 
   // Shows a step, if the module tells them.
   function toStep(number) {
-    if ($('tab-steps').hidden) return;
+    // (steps are told of the run in which the oldest acts first)
+    if ($('tab-steps').hidden || seed()) return;
     show('steps');
     pict.stepper.goWhenTold(number);
   }

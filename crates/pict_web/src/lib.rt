@@ -1,6 +1,7 @@
-//! The command for a host that isn't Rattle: one call over texts and two buffers in memory.
+//! The command for a host that isn't Rattle: one call over texts and two buffers in memory; and the steps of a run.
 #![tactic(auto)]
 
+mod steps;
 #[cfg(test)]
 mod tests;
 
@@ -16,6 +17,7 @@ use itoa::Buffer;
 use pict_outside::{Entry, MemoryShelf, MemorySink};
 use pict_top::{Status, pict};
 use std::alloc::{AllocError, Global};
+pub use steps::pict_web_steps;
 
 /// How many bytes at the beginning of each of the two buffers a call has written.
 #[repr(C)]
@@ -180,7 +182,11 @@ fn words_of<'a>(
 }
 
 /// The texts by their names, each as long as its cut says, or as far as there are bytes.
-fn entries_of(alloc: Global, texts: &[u8], cuts: &[Cut]) -> Result<Vec<Entry>, AllocError>
+pub(crate) fn entries_of(
+    alloc: Global,
+    texts: &[u8],
+    cuts: &[Cut],
+) -> Result<Vec<Entry>, AllocError>
     ensures { IfOk result (λ entries. pairs_of entries.items ≡ texts_cut cuts.now texts.now) }
 {
     let mut entries = Vec::new(alloc);

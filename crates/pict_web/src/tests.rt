@@ -1,5 +1,5 @@
 // Runs through the call.
-use crate::{Cut, Lengths, pict_web_call};
+use crate::{Cut, Lengths, pict_web_call, pict_web_steps};
 use std::alloc::Global;
 use std::test::Fail;
 
@@ -43,5 +43,29 @@ fn programs_are_run(rt: HostRuntime) -> Result<(), Fail> {
     let cuts = [Cut { name: 7, text: 27 }];
     assert!(rt; answered(alloc, 0, 0, texts, &cuts, &mut out) == (0, b"ab".as_slice()));
     assert!(rt; answered(alloc, 3, 42, texts, &cuts, &mut out) == (0, b"ba".as_slice()));
+    Ok(())
+}
+
+const LINES: &[u8] = b"come\t0\tready\tP | Q\t..1:5
+step\t1\t0\tforks\t\t
+come\t0\tready\tprint!\"hi\"\t1:5
+come\t1\tready\t0\t
+step\t2\t0\tprimitive_ends\t\tprints \"hi\"
+step\t3\t1\tends\t\t
+end\tfinished
+";
+
+#[test]
+fn steps_are_told(rt: HostRuntime) -> Result<(), Fail> {
+    let cuts = [Cut { name: 7, text: 14 }];
+    let mut out = [0u8; 300];
+    let mut lengths = Lengths {
+        printed: 0,
+        reported: 0,
+    };
+    let texts = b"main.pirun print!\"hi\"";
+    let told = pict_web_steps(rt.alloc(), true, texts, &cuts, &mut out, &mut lengths);
+    assert!(rt; told == 0 && lengths.reported == 0);
+    assert!(rt; &out[..lengths.printed as usize] == LINES);
     Ok(())
 }

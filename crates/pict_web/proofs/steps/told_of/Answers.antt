@@ -1,0 +1,29 @@
+use Rattle.std.proofs.Common.{[], ap, sym, subst}
+use Rattle.pict_outside.specs.Entries.{pairs_of}
+use Rattle.pict_outside.specs.Texts.{texts_of}
+use Rattle.pict_gather.specs.Phases.{accepts}
+use Rattle.pict_front.specs.Answers.{plain_front}
+use Rattle.pict_top.proofs.Right.{accepted_runs_right}
+use Rattle.pict_top.proofs.Short.{front_short}
+use Rattle.pict_web.specs.Stepped.{Says}
+use Rattle.pict_web.proofs.Stepping.{refused_says, accepted_says}
+use Rattle.pict_web.proofs.steps.told_of.Goals as goal
+
+pub steps_of-requires-clause-right : goal.steps_of-requires-clause-right
+steps_of-requires-clause-right c = accepted_runs_right (plain_front c.in-Ok.front) c.in-Ok.ensures.accepted 1000
+
+pub steps_of-requires-clause-short : goal.steps_of-requires-clause-short
+steps_of-requires-clause-short c =
+    front_short _ c.prelude_unless-prelude.result _ (accepts (record { sources = _; front = plain_front c.in-Ok.front }))
+    c.prelude_unless-prelude.ensures.short c.in-Ok.ensures.answer
+
+pub returns-in-Err : goal.returns-in-Err
+returns-in-Err c =
+    subst (λ s. Says c.args.bare (texts_of (pairs_of c.args.entries.items)) s []) (sym c.status_of.ensures)
+    (refused_says c.args.bare c.new-shelf.result.pairs (pairs_of c.args.entries.items) _ c.in-Err.error _
+    (ap (λ s. s.pairs) c.new-shelf.ensures) c.prelude_unless-prelude.ensures.is c.in-Err.ensures.answer)
+
+pub returns : goal.returns
+returns c =
+    accepted_says c.args.bare c.new-shelf.result.pairs (pairs_of c.args.entries.items) _ (record { sources = _; front = plain_front c.in-Ok.front }) _
+    (ap (λ s. s.pairs) c.new-shelf.ensures) c.prelude_unless-prelude.ensures.is c.in-Ok.ensures.answer c.steps_of.ensures
