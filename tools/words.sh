@@ -35,19 +35,25 @@ have_shape() {
             [ $# -eq 1 ] && is_number "$1" 18446744073709551615
             return
             ;;
-        run | trace | check | code | pick | picked | replay | build | exec) ;;
+        run | trace | check | code | pick | picked | sites | replay | build | exec) ;;
         *) return 0 ;;
     esac
     # (an object has no prelude)
     [ "${1-}" != --bare ] || [ "$command" = exec ] || shift
     case $command${1-} in
-        run--fuel | trace--fuel | pick--fuel | picked--fuel | exec--fuel)
+        run--fuel | trace--fuel | pick--fuel | picked--fuel | sites--fuel | exec--fuel)
             is_number "${2-}" 1000000000 || return
             shift 2
             ;;
     esac
     case $command in
-        pick | picked)
+        sites)
+            is_number "${1-}" 64 && [ "$1" != 0 ] || return
+            shift
+            ;;
+    esac
+    case $command in
+        pick | picked | sites)
             is_number "${1-}" 18446744073709551615 || return
             shift
             ;;
@@ -69,7 +75,7 @@ answer_at_once() {
         exit 2
     }
     case $1 in
-        run | trace | check | code | pick | picked | replay | build | exec) ;;
+        run | trace | check | code | pick | picked | sites | replay | build | exec) ;;
         *) return 0 ;;
     esac
     file='' last=''
@@ -80,4 +86,10 @@ answer_at_once() {
         printf '%s: no such file\n' "$file" >&2
         exit 8
     fi
+}
+
+# The same of the word `channels` and words behind it, with which ./explain does what `check` does.
+answer_as_check() {
+    shift
+    answer_at_once check "$@"
 }
