@@ -6,7 +6,7 @@ use Rattle.pict_stepper.specs.declared.run.End.TheVariants as end
 use Rattle.pict_waits.specs.declared.telling.Told.{Told}
 use Rattle.pict_waits.specs.Waiting.{waits_of, all_wait}
 
--- of these entries those who wait are told, and whether they all wait for each other
+-- of these entries those who wait are told, and whether they all wait for messages, and none is left
 pub record Tells (es : List Entry) (t : Told) : Type 0 where
   pub waits : t.waits.items ≡ waits_of es
   pub all_wait : t.all_wait ≡ all_wait (waits_of es)

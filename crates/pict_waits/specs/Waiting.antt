@@ -39,7 +39,7 @@ waiting_by e = waiting_if e.mark e.stamp (place_of e.process)
 abbrev pub waits_of : List Entry → List Waiting
 waits_of es = flat_map waiting_by es
 
--- ---- whether they all wait for each other
+-- ---- whether they all wait for messages, and none is left
 
 abbrev pub is_message : Kind → Bool
 is_message kind.Message = true

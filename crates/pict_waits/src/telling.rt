@@ -26,7 +26,7 @@ const SHOWN: usize = 44;
 pub struct Told {
     /// Who they are, in the order of their stamps.
     pub waits: Vec<Waiting>,
-    /// Whether none of them is a message, and one of them receives one message: they all wait for each other.
+    /// Whether none of them is a message, and one of them receives one message: all wait for messages, and none is left.
     pub all_wait: bool,
     /// Whether somebody waits who isn't a server, and isn't a message at a channel at which others were read.
     pub in_vain: bool,
@@ -107,7 +107,7 @@ fn add(sorted: &mut Sorted, known: &Known<'_>, waiting: Waiting) -> Result<(), A
     sorted.add(why, Spot { node, channel })
 }
 
-/// What is told of all of them, who all wait for each other or not.
+/// What is told of all of them, who all wait for messages, of which none is left, or not.
 fn text_of(
     alloc: Global,
     known: &Known<'_>,

@@ -142,8 +142,8 @@ fn has_reader(waits: &[Waiting]) -> bool
     false
 }
 
-/// Whether none of those who wait is a message, and one of them receives one message. Where nothing is ready they all wait for
-/// each other then, and for nobody else.
+/// Whether none of those who wait is a message, and one of them receives one message. Where nothing is ready that one waits for
+/// ever, and no message is left for anybody.
 pub fn all_wait(waits: &[Waiting]) -> bool
     ensures { result ≡ all_wait waits.now }
 {
