@@ -9,8 +9,10 @@ use Rattle.pict_core.specs.Run.{Reaches, shown}
 use Rattle.pict_core.proofs.Kept.{free_steps_keep, oldest_first_is_free}
 use Rattle.pict_reference.specs.Plain.{plain_label}
 use Rattle.pict_stepper.specs.declared.run.Step.{Step}
+use Rattle.pict_stepper.specs.declared.run.End.{End}
+use Rattle.pict_stepper.specs.declared.run.End.TheVariants as end
 use Rattle.pict_stepper.specs.Told.{after_step, after_steps, shown_by}
-use Rattle.pict_stepper.specs.Steps.{IsStep, LeadTo, Tells}
+use Rattle.pict_stepper.specs.Steps.{IsStep, LeadTo, EndsBy, Tells}
 use Rattle.pict_stepper.proofs.Turns.{step_is_next}
 
 -- a step takes at most one channel and two stamps
@@ -133,3 +135,11 @@ none_yet p closed = record {
 pub tells_from : (p : Process) (es : List Entry) (steps : List Step) (C : Configuration) → Follows p steps C → es ≡ (opening p).entries
     → (k : ℕ) → k ≤ length steps → Tells p es k (take k steps)
 tells_from p es steps C f same = subst (λ xs. (k : ℕ) → k ≤ length steps → Tells p xs k (take k steps)) (sym same) f.told
+
+-- ---- where a run stands that is followed no further
+
+-- a fact beside the one that holds where no step has ended it
+pub ends_beside : (A B : Type 0) (C : Configuration) (e : End) → A → EndsBy B C e → EndsBy (A × B) C e
+ends_beside A B C end.Finished a h = h
+ends_beside A B C (end.Trap at) a h = h
+ends_beside A B C end.GoesOn a h = (a, h)

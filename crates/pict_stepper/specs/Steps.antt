@@ -1,5 +1,5 @@
 -- Small runs, step by step.
-use Rattle.std.specs.Prelude.{ℕ, ◌≡◌, ◌≤◌, List, [], ◌∷◌, length, take, map, filter, Option, Some, None, option_map}
+use Rattle.std.specs.Prelude.{ℕ, ◌≡◌, ◌≢◌, ◌≤◌, List, [], ◌∷◌, length, take, map, filter, Option, Some, None, option_map}
 use Rattle.pict_core.specs.Term.{Val, Chan, Process}
 use Rattle.pict_core.specs.Plain.{plain_core}
 use Rattle.pict_core.specs.Configuration.{Configuration, opening}
@@ -34,6 +34,10 @@ abbrev pub LeadTo : Configuration → List Step → Configuration → Type 0
 LeadTo C [] D = C ≡ D
 LeadTo C (t ∷ ts) D = (M : Configuration) × IsStep C t M × LeadTo M ts D
 
+-- somebody is ready
+abbrev pub IsBusy : Configuration → Type 0
+IsBusy C = least is_ready C.entries ≢ None
+
 -- why a run is followed no further than to C: it stops there, or this fact holds
 abbrev pub EndsBy : Type 0 → Configuration → End → Type 0
 EndsBy otherwise C end.Finished = next C ≡ Finished
@@ -44,12 +48,12 @@ EndsBy otherwise C end.GoesOn = otherwise
 abbrev pub Tells : Process → List plain.Entry → ℕ → List Step → Type 0
 Tells p first k steps = (C : Configuration) × Reaches k (opening p) (shown_by 1 steps) C × (after_steps first steps ≡ C.entries)
 
--- the run of the process, followed for at most so many steps
+-- The run of the process, followed for at most so many steps: to its end, or for so many, and then somebody is ready still.
 pub record IsRun (p : Process) (most : ℕ) (run : Run) : Type 0 where
   pub steps : LeadTo (opening p) run.steps.items (configuration_of run.last)
   pub told : (k : ℕ) → k ≤ length run.steps.items → Tells p (plain_entry run.first ∷ []) k (take k run.steps.items)
   pub few : length run.steps.items ≤ most
-  pub ends : EndsBy (length run.steps.items ≡ most) (configuration_of run.last) run.end
+  pub ends : EndsBy ((length run.steps.items ≡ most) × IsBusy (configuration_of run.last)) (configuration_of run.last) run.end
 
 -- ---- one step
 

@@ -7,7 +7,7 @@ ghost use Rattle.pict_core.specs.Configuration.{IsConfiguration};
 ghost use Rattle.pict_core.specs.Step.{least, is_partner, is_parked_reader, is_parked_message, at_channel, Wrong, next as next_plain};
 ghost use Rattle.pict_view.specs.Right.{RunsRight};
 ghost use Rattle.pict_reference.specs.Plain.{plain_entry, configuration_of};
-ghost use Rattle.pict_stepper.specs.Steps.{channel_number, IsTurn, IsStepOf, IsOutcome, IsRun};
+ghost use Rattle.pict_stepper.specs.Steps.{channel_number, IsBusy, EndsBy, IsTurn, IsStepOf, IsOutcome, IsRun};
 ghost use Rattle.pict_stepper.specs.Told.{is_stamp_of, stamp_of};
 ghost use Rattle.pict_stepper.specs.Touched.{is_touched};
 
@@ -42,7 +42,7 @@ pub enum End {
     Finished,
     /// The next step divides by zero, for the output at this place.
     Trap(Span),
-    /// It was followed as far as was asked; something may be ready still.
+    /// It was followed as far as was asked, and somebody is ready still.
     GoesOn,
 }
 
@@ -234,7 +234,17 @@ fn next(alloc: Global, reference: &mut Reference) -> Result<Outcome, AllocError>
     }
 }
 
-/// Follows the run of a process for at most so many steps. The only error is want of memory.
+// Where a run stands that is followed no further, though no step has ended it.
+fn end_of(last: &Reference) -> End
+    ensures { EndsBy (IsBusy (configuration_of last.now)) (configuration_of last.now) result }
+{
+    match oldest_ready(last.entries()) {
+        None => End::Finished,
+        Some(_) => End::GoesOn,
+    }
+}
+
+/// Follows the run of a process for at most so many steps. A run of exactly so many is finished. The only error is want of memory.
 pub fn follow(alloc: Global, process: Core, most: usize) -> Result<Run, AllocError>
     requires few { most + 1 < 2 ^ 32 }
     requires closed { IsClosed (plain_core process) }
@@ -261,10 +271,11 @@ pub fn follow(alloc: Global, process: Core, most: usize) -> Result<Run, AllocErr
             }
         }
     }
+    let end = end_of(&last);
     Ok(Run {
         first,
         steps,
         last,
-        end: End::GoesOn,
+        end,
     })
 }

@@ -63,7 +63,7 @@ fn write_end(out: &mut Vec<u8>, sources: &Sources, end: End) -> Result<(), Alloc
             write_place(out, sources, at)?;
             out.extend_from_slice(b". ")
         }
-        End::GoesOn => out.extend_from_slice(b" steps, and something may be ready still. "),
+        End::GoesOn => out.extend_from_slice(b" steps, and somebody is ready still. "),
     }
 }
 

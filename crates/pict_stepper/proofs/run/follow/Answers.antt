@@ -3,7 +3,7 @@ use Rattle.pict_core.specs.Plain.{plain_core}
 use Rattle.pict_core.specs.Configuration.{Ready, opening}
 use Rattle.pict_reference.specs.Plain.{configuration_of}
 use Rattle.pict_stepper.specs.Steps.{IsOutcome}
-use Rattle.pict_stepper.proofs.Following.{Follows, none_yet, one_more, tells_from}
+use Rattle.pict_stepper.proofs.Following.{Follows, none_yet, one_more, tells_from, ends_beside}
 use Rattle.pict_stepper.proofs.run.follow.Goals as goal
 
 pub steps-preserved : goal.steps-preserved
@@ -43,5 +43,5 @@ returns c =
       steps = f.leads;
       told = tells_from (plain_core c.args.process) _ _ _ f (ap (λ q. record { stamp = 0; mark = Ready; process = q } ∷ []) c.in_ok-copy.ensures);
       few = c.steps.invariant.few;
-      ends = omega (arith, c.steps-test.false, c.len.ensures, c.steps.invariant.few);
+      ends = ends_beside _ _ (configuration_of c.steps.last) _ (omega (arith, c.steps-test.false, c.len.ensures, c.steps.invariant.few)) c.end_of-end.ensures;
     }
