@@ -191,7 +191,7 @@ module _ (core : Process) (s : ℕ) (n : Sites) (w : AreWorking core s n) (actin
 
 -- ---- a process that goes to another site
 
-home_below : (homes : List ℕ) (o : Option ℕ) (g k : ℕ) → home_in homes o ≡ Some g → AllByRecursion (λ h. h < k) homes → g < k
+pub home_below : (homes : List ℕ) (o : Option ℕ) (g k : ℕ) → home_in homes o ≡ Some g → AllByRecursion (λ h. h < k) homes → g < k
 home_below homes None g k e all = cc
 home_below homes (Some c) g k e all = each (λ h. h < k) homes c g all e
 

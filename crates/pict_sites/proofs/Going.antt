@@ -1,5 +1,5 @@
 -- One event more of a run.
-use Rattle.std.proofs.Common.{ℕ, length, ◌≡◌, ◌≢◌, ◌≤◌, ◌<◌, ◌+◌, ◌↔◌, inl, inr, List, [], ◌∷◌, ◌++◌, refl, sym, ap, ◌∙◌, subst, Option, Some, None, arith}
+use Rattle.std.proofs.Common.{ℕ, length, ◌≡◌, ◌≢◌, ◌≤◌, ◌<◌, ◌+◌, ◌↔◌, inl, inr, List, [], ◌∷◌, ◌++◌, sym, ap, ◌∙◌, subst, Option, Some, None, Result, Ok, Err, IfOk, OnErr, arith}
 use Rattle.std.proofs.lemmas.List.{append-nil}
 use Rattle.rand_pcg.specs.Lcg.{Lcg}
 use Rattle.pict_syntax.specs.declared.span.Span.{Span}
@@ -13,7 +13,7 @@ use Rattle.pict_picker.specs.Events.{label_of, trap_of}
 use Rattle.pict_picker.specs.declared.did.Did.{Did}
 use Rattle.pict_picker.specs.declared.did.Did.TheVariants as did
 use Rattle.pict_network.specs.Network.{Network}
-use Rattle.pict_network.specs.Events.{Happening, Stepped, Stopped, Event, events}
+use Rattle.pict_network.specs.Events.{Happening, Stepped, Stopped, events}
 use Rattle.pict_network.specs.Runs.{Chooses, at_start, by_move, by_step, choice, next_happening}
 use Rattle.pict_network.proofs.Possible.{next_is_possible}
 use Rattle.pict_sites.specs.declared.happened.Happened.{Happened}
@@ -21,6 +21,7 @@ use Rattle.pict_sites.specs.declared.happened.Happened.TheVariants as happened
 use Rattle.pict_sites.specs.Happening.{IsDid, IsNext}
 use Rattle.pict_sites.specs.Runs.{ComesTo, RanOn, BrokeOffOn, IsGone, IsBrokenOff}
 use Rattle.pict_sites.specs.declared.running.Gone.TheVariants as gone
+use Rattle.pict_sites.proofs.Lists.{none_of}
 
 module _ (heap : HeapState) (Stands : Network → Type 0) (N : Network) (h : Happening) where
   pub leads_of : (d : Did) → None ≡ trap_of d → IsDid heap Stands N d h → (M : Network) × (h ≡ Stepped M (label_of heap d)) × Stands M
@@ -146,10 +147,6 @@ comes_none Stands N g f before st = record { labels = []; last = N; chooses = at
 
 -- ---- the fuel is spent
 
-empty_of : (es : List Event) → length es ≡ 0 → es ≡ []
-empty_of [] e = refl
-empty_of (event ∷ es) e = absurd (omega (arith, e))
-
 module _ (Stands : Network → Type 0) (N : Network) (g k : Lcg) (count steps fuel : ℕ) (Seen : List (ℕ × Label) → Type 0) (c : ComesTo Stands N g count steps k Seen) (all : count ≡ fuel) where
   pub ran_out : length (events c.last) ≡ 0 → RanOn Stands N g fuel run.Done Seen
   ran_out none = record {
@@ -157,7 +154,7 @@ module _ (Stands : Network → Type 0) (N : Network) (g k : Lcg) (count steps fu
     steps = steps;
     after = k;
     comes = c;
-    ends = (omega (arith, all), (next_is_possible c.last k).1 (empty_of (events c.last) none));
+    ends = (omega (arith, all), (next_is_possible c.last k).1 (none_of (events c.last) none));
   }
 
   pub ran_spent : length (events c.last) ≢ 0 → RanOn Stands N g fuel run.FuelSpent Seen
@@ -168,3 +165,23 @@ module _ (Stands : Network → Type 0) (N : Network) (g k : Lcg) (count steps fu
     comes = c;
     ends = (all, λ e. some (ap length ((next_is_possible c.last k).0 e)));
   }
+
+-- ---- what a run comes to, by another name of the networks
+
+module _ (Old New : Network → Type 0) (f : (N : Network) → Old N → New N) (N : Network) (g : Lcg) (fuel : ℕ) (Seen : List (ℕ × Label) → Type 0) where
+  abbrev comes_as : (count steps : ℕ) (h : Lcg) → ComesTo Old N g count steps h Seen → ComesTo New N g count steps h Seen
+  comes_as count steps h c = record { labels = c.labels; last = c.last; chooses = c.chooses; stands = f c.last c.stands; seen = c.seen }
+
+  pub ran_as : (end : run.End) → RanOn Old N g fuel end Seen → RanOn New N g fuel end Seen
+  ran_as end r = record { count = r.count; steps = r.steps; after = r.after; comes = comes_as r.count r.steps r.after r.comes; ends = r.ends }
+
+  pub broke_as : BrokeOffOn Old N g fuel Seen → BrokeOffOn New N g fuel Seen
+  broke_as r = record { count = r.count; steps = r.steps; after = r.after; few = r.few; comes = comes_as r.count r.steps r.after r.comes }
+
+pub end_as : {X E : Type 0} (P Q : X → Type 0) → ((x : X) → P x → Q x) → (r : Result X E) → IfOk r P → IfOk r Q
+end_as P Q f (Ok x) p = f x p
+end_as P Q f (Err e) p = tt
+
+pub error_as : {X E : Type 0} (P Q : Type 0) → (P → Q) → (r : Result X E) → OnErr r P → OnErr r Q
+error_as P Q f (Ok x) p = tt
+error_as P Q f (Err e) p = f p

@@ -15,4 +15,5 @@ pub mod Delivered
 pub mod Loaded
 pub mod Arrivals
 pub mod Going
+pub mod Only
 pub mod Right

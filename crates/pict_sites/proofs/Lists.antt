@@ -66,3 +66,13 @@ pub got_same : {X : Type 0} (xs : List X) (i : ℕ) (x : X) → i < length xs �
 got_same [] i x low e = absurd (omega (arith, low))
 got_same (y ∷ ys) zero x low e = ap Some (sym e)
 got_same (y ∷ ys) (suc i) x low e = got_same ys i x (omega (arith, low)) e
+
+-- ---- short lists
+
+pub none_of : {X : Type 0} (xs : List X) → length xs ≡ 0 → xs ≡ []
+none_of [] e = refl
+none_of (x ∷ xs) e = absurd (omega (arith, e))
+
+pub one_of : {X : Type 0} (xs : List X) → length xs ≡ 1 → (x : X) × (xs ≡ x ∷ [])
+one_of [] e = absurd (omega (arith, e))
+one_of (x ∷ xs) e = (x, ap (λ ys. x ∷ ys) (none_of xs (omega (arith, e))))

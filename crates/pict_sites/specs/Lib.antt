@@ -8,4 +8,5 @@ pub mod Opening
 pub mod Passing
 pub mod Places
 pub mod Runs
+pub mod Alone
 pub mod Laws

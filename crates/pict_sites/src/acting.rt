@@ -25,9 +25,7 @@ use crate::standing::{Form, form_of_turn, home_elsewhere};
 use pict_code::Node;
 use pict_heap::Word;
 use pict_picker::Did;
-use pict_turns::{return_turn, take_turn};
 use std::alloc::AllocError;
-use std::mem::swap;
 
 impl Sites {
     /// The first process of site s acts. An error, which is want of memory, changes nothing but room, free blocks, work and the
@@ -46,16 +44,15 @@ impl Sites {
         requires few { count_channels self.old + 1 < 2 ^ 32 }
         requires right { IsRightFor (StandFor (core_in code.now) self.old) (λ N. events.act_at N s) }
         ensures sites { AreSites (core_in code.now) self.new }
-        ensures happens { Happens (heap_in self.new) (StandFor (core_in code.now) self.old) (StandFor (core_in code.now) self.new) (λ N. events.act_at N s) result }
+        ensures happens { Happens (heap_in self.new) (StandFor (core_in code.now) self.old) (StandFor (core_in code.now) self.new)
+            (λ N. events.act_at N s) result }
         ensures words { IfOk result (HasWords (heap_in self.new)) }
         ensures keeps { KeepsWords (heap_in self.old) (heap_in self.new) }
         ensures channels { count_channels self.new ≤ count_channels self.old + 1 }
     {
-        swap(&mut self.store.queues, &mut self.queues[s]);
-        take_turn(&mut self.store, code);
+        self.lend(code, s);
         let happened = self.act_of_turn(code, constants, s);
-        return_turn(&mut self.store, code);
-        swap(&mut self.store.queues, &mut self.queues[s]);
+        self.settle(code, s);
         happened
     }
 
@@ -73,7 +70,8 @@ impl Sites {
         requires few { count_channels self.old + 1 < 2 ^ 32 }
         requires right { IsRightFor (StandWhile (core_in code.now) s self.old) (λ N. events.act_at N s) }
         ensures working { AreWorking (core_in code.now) s self.new }
-        ensures happens { Happens (heap_in self.new) (StandWhile (core_in code.now) s self.old) (StandWhile (core_in code.now) s self.new) (λ N. events.act_at N s) result }
+        ensures happens { Happens (heap_in self.new) (StandWhile (core_in code.now) s self.old) (StandWhile (core_in code.now) s self.new)
+            (λ N. events.act_at N s) result }
         ensures words { IfOk result (HasWords (heap_in self.new)) }
         ensures keeps { KeepsWords (heap_in self.old) (heap_in self.new) }
         ensures channels { count_channels self.new ≤ count_channels self.old + 1 }
@@ -107,8 +105,9 @@ impl Sites {
         }
     }
 
-    // Who has the turn acts at site s, where it stands at no channel of another site.
-    fn act_here(
+    /// Who has the turn acts at site s, where it stands at no channel of another site. An error, which is want of memory, changes
+    /// nothing but room, free blocks and work. At the only site nothing becomes a packet.
+    pub(crate) fn act_here(
         &mut self,
         code: &[Node],
         constants: &[Option<Word>],
@@ -122,10 +121,13 @@ impl Sites {
         requires right { IsRightFor (StandWhile (core_in code.now) s self.old) (λ N. events.act_at N s) }
         requires here { other_home s (home_in self.old.homes.items (channel_at (acting_process (core_in code.now) self.old.store))) ≡ None }
         ensures working { AreWorking (core_in code.now) s self.new }
-        ensures happens { Happens (heap_in self.new) (StandWhile (core_in code.now) s self.old) (StandWhile (core_in code.now) s self.new) (λ N. events.act_at N s) result }
+        ensures happens { Happens (heap_in self.new) (StandWhile (core_in code.now) s self.old) (StandWhile (core_in code.now) s self.new)
+            (λ N. events.act_at N s) result }
         ensures words { IfOk result (HasWords (heap_in self.new)) }
         ensures keeps { KeepsWords (heap_in self.old) (heap_in self.new) }
         ensures channels { count_channels self.new ≤ count_channels self.old + 1 }
+        ensures count { length self.new.queues.items ≡ length self.old.queues.items }
+        ensures to { length self.old.queues.items ≡ 1 → self.new.to.items ≡ self.old.to.items }
     {
         match form_of_turn(code, &self.store) {
             Form::Fork(left, right) => {
@@ -158,10 +160,13 @@ impl Sites {
         requires fork { IsNoFork (acting_process (core_in code.now) self.old.store) ⊎ (length self.old.queues.items ≡ 1) }
         requires opening { IsNoOpening (acting_process (core_in code.now) self.old.store) }
         ensures working { AreWorking (core_in code.now) s self.new }
-        ensures happens { Happens (heap_in self.new) (StandWhile (core_in code.now) s self.old) (StandWhile (core_in code.now) s self.new) (λ N. events.act_at N s) result }
+        ensures happens { Happens (heap_in self.new) (StandWhile (core_in code.now) s self.old) (StandWhile (core_in code.now) s self.new)
+            (λ N. events.act_at N s) result }
         ensures words { IfOk result (HasWords (heap_in self.new)) }
         ensures keeps { KeepsWords (heap_in self.old) (heap_in self.new) }
         ensures channels { self.new.homes ≡ self.old.homes }
+        ensures queues { self.new.queues ≡ self.old.queues }
+        ensures to { self.new.to ≡ self.old.to }
     {
         let did = step(code, constants, &mut self.store)?;
         Ok(Happened::Stepped(did))
@@ -182,10 +187,13 @@ impl Sites {
         requires few { count_channels self.old + 1 < 2 ^ 32 }
         requires right { IsRightFor (StandWhile (core_in code.now) s self.old) (λ N. events.act_at N s) }
         ensures working { AreWorking (core_in code.now) s self.new }
-        ensures happens { Happens (heap_in self.new) (StandWhile (core_in code.now) s self.old) (StandWhile (core_in code.now) s self.new) (λ N. events.act_at N s) result }
+        ensures happens { Happens (heap_in self.new) (StandWhile (core_in code.now) s self.old) (StandWhile (core_in code.now) s self.new)
+            (λ N. events.act_at N s) result }
         ensures words { IfOk result (HasWords (heap_in self.new)) }
         ensures keeps { KeepsWords (heap_in self.old) (heap_in self.new) }
         ensures channels { count_channels self.new ≤ count_channels self.old + 1 }
+        ensures count { length self.new.queues.items ≡ length self.old.queues.items }
+        ensures to { self.new.to ≡ self.old.to }
     {
         reserve_queues(&mut self.queues)?;
         self.homes.push(s as u32)?;
@@ -216,10 +224,12 @@ impl Sites {
         requires acts { ActsBy (core_in code.now) self.old.store (op.Par left right) }
         requires several { length self.old.queues.items ≢ 1 }
         ensures working { AreWorking (core_in code.now) s self.new }
-        ensures happens { Happens (heap_in self.new) (StandWhile (core_in code.now) s self.old) (StandWhile (core_in code.now) s self.new) (λ N. events.act_at N s) result }
+        ensures happens { Happens (heap_in self.new) (StandWhile (core_in code.now) s self.old) (StandWhile (core_in code.now) s self.new)
+            (λ N. events.act_at N s) result }
         ensures words { IfOk result (HasWords (heap_in self.new)) }
         ensures keeps { KeepsWords (heap_in self.old) (heap_in self.new) }
         ensures channels { self.new.homes ≡ self.old.homes }
+        ensures queues { self.new.queues ≡ self.old.queues }
     {
         let to = (s + 1) % self.queues.len();
         self.to.push(to as u32)?;

@@ -2,12 +2,14 @@
 #![tactic(auto)]
 
 mod acting;
+mod alone;
 mod choosing;
 mod delivering;
 mod did;
 mod event;
 mod happened;
 mod laws;
+mod lending;
 mod loading;
 mod network;
 mod opening;

@@ -20,8 +20,8 @@ pub(crate) enum Place {
     Delivery(usize),
 }
 
-// Whether queue 0 has a block.
-fn is_busy(queues: &Queues) -> bool
+/// Whether queue 0 has a block.
+pub(crate) fn is_busy(queues: &Queues) -> bool
     requires { IsQueue queues.now 0 }
     ensures { IsTrue result ↔ (contents queues.now 0 ≢ []) }
 {
@@ -32,7 +32,8 @@ impl Sites {
     /// How many events are possible. Takes no memory, and time in the sites.
     pub(crate) fn count(&self) -> u64
         requires { (core : Process) × AreSites core self.now }
-        ensures { (core : Process) (N : plain.Network) → AreSites core self.now → StandFor core self.now N → result ≡ length (events.events N) }
+        ensures { (core : Process) (N : plain.Network) → AreSites core self.now → StandFor core self.now N
+            → result ≡ length (events.events N) }
     {
         let mut busy = 0;
         for s in 0..self.queues.len() {
@@ -45,7 +46,8 @@ impl Sites {
 
     /// The i-th of the possible events, from 0. Takes no memory, and time in the sites.
     pub(crate) fn place(&self, i: u64) -> Place
-        requires sites { (core : Process) × AreSites core self.now × ((N : plain.Network) × StandFor core self.now N × (i < length (events.events N))) }
+        requires sites { (core : Process) × AreSites core self.now
+            × ((N : plain.Network) × StandFor core self.now N × (i < length (events.events N))) }
         ensures there { IsThere self.now result }
         ensures event { (core : Process) (N : plain.Network) → AreSites core self.now → StandFor core self.now N
             → slice_get (events.events N) i ≡ Some (event_of result) }

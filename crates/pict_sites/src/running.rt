@@ -10,6 +10,7 @@ ghost use Rattle.pict_picker.specs.Events.{label_of, IsDidOf};
 ghost use Rattle.pict_network.specs.Network as plain;
 ghost use Rattle.pict_network.specs.Events as events;
 ghost use Rattle.pict_network.specs.Runs.{next_happening};
+ghost use Rattle.pict_sites.specs.Alone.{IsRunning, StandsIn};
 ghost use Rattle.pict_sites.specs.Network.{channels_of, StandsForNetwork, IsNetworkStore};
 ghost use Rattle.pict_sites.specs.Runs.{RanOn, BrokeOffOn, IsRightFrom, IsGone, IsBrokenOff};
 
@@ -59,12 +60,14 @@ fn show_did<W: Watcher>(
     did: &Did,
 ) -> Result<(), RunError>
     requires { IsDidOf heap.now did.now }
-    ensures seen { OnOk result (Saw (W.next watcher.old) (W.view watcher.old) (W.view watcher.new) (shown number (label_of heap.now did.now))) }
+    ensures seen { OnOk result (Saw (W.next watcher.old) (W.view watcher.old) (W.view watcher.new)
+        (shown number (label_of heap.now did.now))) }
     ensures torn { OnErr result (WhereTold (λ before after. W.torn watcher.old before number (label_of heap.now did.now) after)
         (W.view watcher.old) (W.view watcher.new)) }
     ensures one { OnErr result (shown number (label_of heap.now did.now) ≡ (number, label_of heap.now did.now) ∷ []) }
     ensures next_stays { (v : List ℕ) (n : ℕ) (l : Label) → W.next watcher.new v n l ≡ W.next watcher.old v n l }
-    ensures torn_stays { (v : List ℕ) (n : ℕ) (l : Label) (after : List ℕ) → W.torn watcher.new v n l after ↔ W.torn watcher.old v n l after }
+    ensures torn_stays { (v : List ℕ) (n : ℕ) (l : Label) (after : List ℕ)
+        → W.torn watcher.new v n l after ↔ W.torn watcher.old v n l after }
     ensures faults_stay { W.faults watcher.old ≤ W.faults watcher.new }
     ensures sink { result ≡ Err RunError.Sink → Rose (W.faults watcher.old) (W.faults watcher.new) }
     ensures same { W.same watcher.old watcher.new }
@@ -74,31 +77,37 @@ fn show_did<W: Watcher>(
 }
 
 impl Network {
-    // The next event, after so many steps, and what it shows.
+    // The next event, after so many steps, and what it shows, in a run of the only site or of several.
+    #[inline(always)]
     fn advance<W: Watcher>(
         &mut self,
+        alone: bool,
         chooser: &mut Chooser,
         steps: u64,
         watcher: &mut W,
     ) -> Result<Gone, RunError>
-        requires kept { IsNetworkStore self.old }
+        requires kept { IsRunning alone self.old }
         requires few { channels_of self.old + 1 < 2 ^ 32 }
         requires low { steps < FUEL_LIMIT }
-        requires right { (N : plain.Network) × StandsForNetwork self.old N × (next_happening N chooser.old ≢ events.Misshapen) }
-        ensures kept { IsNetworkStore self.new }
-        ensures gone { IfOk result (λ gone. (N : plain.Network) → StandsForNetwork self.old N
-            → IsGone (StandsForNetwork self.new) N chooser.old chooser.new steps (Saw (W.next watcher.old) (W.view watcher.old) (W.view watcher.new)) gone) }
-        ensures broken { OnErr result ((N : plain.Network) → StandsForNetwork self.old N
-            → IsBrokenOff (StandsForNetwork self.new) N chooser.old chooser.new steps (Saw (W.next watcher.old) (W.view watcher.old) (W.view watcher.new))
-            (λ number label. WhereTold (λ before after. W.torn watcher.old before number label after) (W.view watcher.old) (W.view watcher.new))) }
+        requires right { (N : plain.Network) × StandsIn alone self.old N × (next_happening N chooser.old ≢ events.Misshapen) }
+        ensures kept { IsRunning alone self.new }
+        ensures gone { IfOk result (λ gone. (N : plain.Network) → StandsIn alone self.old N
+            → IsGone (StandsIn alone self.new) N chooser.old chooser.new steps
+            (Saw (W.next watcher.old) (W.view watcher.old) (W.view watcher.new)) gone) }
+        ensures broken { OnErr result ((N : plain.Network) → StandsIn alone self.old N
+            → IsBrokenOff (StandsIn alone self.new) N chooser.old chooser.new steps
+            (Saw (W.next watcher.old) (W.view watcher.old) (W.view watcher.new))
+            (λ number label. WhereTold (λ before after. W.torn watcher.old before number label after)
+            (W.view watcher.old) (W.view watcher.new))) }
         ensures sink { result ≡ Err RunError.Sink → Rose (W.faults watcher.old) (W.faults watcher.new) }
         ensures channels { channels_of self.new ≤ channels_of self.old + 1 }
         ensures next_stays { (v : List ℕ) (n : ℕ) (l : Label) → W.next watcher.new v n l ≡ W.next watcher.old v n l }
-        ensures torn_stays { (v : List ℕ) (n : ℕ) (l : Label) (after : List ℕ) → W.torn watcher.new v n l after ↔ W.torn watcher.old v n l after }
+        ensures torn_stays { (v : List ℕ) (n : ℕ) (l : Label) (after : List ℕ)
+            → W.torn watcher.new v n l after ↔ W.torn watcher.old v n l after }
         ensures faults_stay { W.faults watcher.old ≤ W.faults watcher.new }
         ensures same { W.same watcher.old watcher.new }
     {
-        let happened = match self.next_event(chooser) {
+        let happened = match self.next_in(alone, chooser) {
             Ok(Some(happened)) => happened,
             Ok(None) => return Ok(Gone::Done),
             Err(AllocError) => return Err(RunError::Memory),
@@ -115,6 +124,46 @@ impl Network {
             Ok(()) => Ok(Gone::Stepped),
             Err(error) => Err(error),
         }
+    }
+
+    // The same as `run`, where the queues of the only site may be lent before and afterwards.
+    fn run_on<W: Watcher>(
+        &mut self,
+        alone: bool,
+        chooser: &mut Chooser,
+        fuel: u64,
+        watcher: &mut W,
+    ) -> Result<End, RunError>
+        requires kept { IsRunning alone self.old }
+        requires fuel { fuel ≤ FUEL_LIMIT }
+        requires few { channels_of self.old + fuel < 2 ^ 32 }
+        requires right { (N : plain.Network) × StandsIn alone self.old N × IsRightFrom N chooser.old }
+        ensures kept { IsRunning alone self.new }
+        ensures end { IfOk result (λ end. (N : plain.Network) → StandsIn alone self.old N
+            → RanOn (StandsIn alone self.new) N chooser.old fuel (machine.end_of end)
+            (Saw (W.next watcher.old) (W.view watcher.old) (W.view watcher.new))) }
+        ensures broken { OnErr result ((N : plain.Network) → StandsIn alone self.old N
+            → BrokeOffOn (StandsIn alone self.new) N chooser.old fuel
+            (SawOrTore (W.next watcher.old) (W.torn watcher.old) (W.view watcher.old) (W.view watcher.new))) }
+        ensures sink { result ≡ Err RunError.Sink → Rose (W.faults watcher.old) (W.faults watcher.new) }
+        ensures channels { channels_of self.new ≤ channels_of self.old + fuel }
+        ensures faults_stay { W.faults watcher.old ≤ W.faults watcher.new }
+        ensures same { W.same watcher.old watcher.new }
+    {
+        let mut steps = 0;
+        for count in 0..fuel {
+            match self.advance(alone, chooser, steps, watcher) {
+                Ok(Gone::Done) => return Ok(End::Done),
+                Ok(Gone::Trapped(at)) => return Ok(End::Trap(at)),
+                Ok(Gone::Moved) => continue,
+                Ok(Gone::Stepped) => steps += 1,
+                Err(error) => return Err(error),
+            }
+        }
+        if self.is_over(alone) {
+            return Ok(End::Done);
+        }
+        Ok(End::FuelSpent)
     }
 
     /// Up to `fuel` events, each the one that the chooser chooses, until none is possible or a step traps. After each step that shows
@@ -137,7 +186,8 @@ impl Network {
         requires right { (N : plain.Network) × StandsForNetwork self.old N × IsRightFrom N chooser.old }
         ensures kept { IsNetworkStore self.new }
         ensures end { IfOk result (λ end. (N : plain.Network) → StandsForNetwork self.old N
-            → RanOn (StandsForNetwork self.new) N chooser.old fuel (machine.end_of end) (Saw (W.next watcher.old) (W.view watcher.old) (W.view watcher.new))) }
+            → RanOn (StandsForNetwork self.new) N chooser.old fuel (machine.end_of end)
+            (Saw (W.next watcher.old) (W.view watcher.old) (W.view watcher.new))) }
         ensures broken { OnErr result ((N : plain.Network) → StandsForNetwork self.old N
             → BrokeOffOn (StandsForNetwork self.new) N chooser.old fuel
             (SawOrTore (W.next watcher.old) (W.torn watcher.old) (W.view watcher.old) (W.view watcher.new))) }
@@ -146,19 +196,9 @@ impl Network {
         ensures faults_stay { W.faults watcher.old ≤ W.faults watcher.new }
         ensures same { W.same watcher.old watcher.new }
     {
-        let mut steps = 0;
-        for count in 0..fuel {
-            match self.advance(chooser, steps, watcher) {
-                Ok(Gone::Done) => return Ok(End::Done),
-                Ok(Gone::Trapped(at)) => return Ok(End::Trap(at)),
-                Ok(Gone::Moved) => continue,
-                Ok(Gone::Stepped) => steps += 1,
-                Err(error) => return Err(error),
-            }
-        }
-        if self.events() == 0 {
-            return Ok(End::Done);
-        }
-        Ok(End::FuelSpent)
+        let alone = self.begin();
+        let answer = self.run_on(alone, chooser, fuel, watcher);
+        self.rest(alone);
+        answer
     }
 }

@@ -1,100 +1,31 @@
-use Rattle.std.proofs.Common.{◌≡◌, ◌≤◌, ◌<◌, ◌∙◌, refl, sym, subst, arith}
-use Rattle.pict_view.specs.Watching.{Saw}
-use Rattle.pict_sites.specs.declared.running.Gone.{Gone}
-use Rattle.pict_sites.specs.declared.running.Gone.TheVariants as gone
+use Rattle.pict_view.specs.Watching.{Saw, SawOrTore}
+use Rattle.pict_machine.specs.Events as machine
+use Rattle.pict_network.specs.Network as plain
+use Rattle.pict_sites.specs.Alone.{StandsIn}
 use Rattle.pict_sites.specs.Network.{StandsForNetwork}
-use Rattle.pict_sites.specs.Runs.{IsGone}
-use Rattle.pict_sites.proofs.Going.{comes_none, comes_moved, comes_stepped, ran_done, ran_trapped, broke_on, ran_out, ran_spent}
+use Rattle.pict_sites.specs.Runs.{RanOn, BrokeOffOn}
+use Rattle.pict_sites.proofs.Going.{ran_as, broke_as, end_as, error_as}
 use Rattle.pict_sites.proofs.network.Network.run.Goals as goal
 
-pub loop-count-init : goal.loop-count-init
-loop-count-init g c =
-    record {
-      kept = c.requires.kept;
-      channels = omega arith;
-      few = omega arith;
-      so_far = λ N st. comes_none (StandsForNetwork c.args.self.now) N c.args.chooser.now (g.W.Watcher.next c.args.watcher.now) (g.W.Watcher.view c.args.watcher.now) st;
-      next_stays = λ v n k. refl;
-      torn_stays = λ v n k after. (λ t. t, λ t. t);
-      faults_stay = omega arith;
-      same = g.met.W.Watcher.same_itself _;
-    }
-
-pub returns-in-Ok-Done-clause-end : goal.returns-in-Ok-Done-clause-end
-returns-in-Ok-Done-clause-end g c N st =
-    let s = c.loop-count.invariant.so_far N st in
-    let few : c.loop-count.count ≤ c.args.fuel = omega (arith, c.loop-count-test.true) in
-    ran_done (StandsForNetwork c.loop-count.self) (StandsForNetwork c.advance.new.self) N c.args.chooser.now c.loop-count.chooser c.advance.new.chooser c.loop-count.count c.loop-count.steps (g.W.Watcher.next c.args.watcher.now)
-    (g.W.Watcher.next c.loop-count.watcher) c.loop-count.invariant.next_stays (g.W.Watcher.view c.args.watcher.now) (g.W.Watcher.view c.loop-count.watcher) (g.W.Watcher.view c.advance.new.watcher) s c.args.fuel few
-    (subst (λ (x : Gone). IsGone (StandsForNetwork c.advance.new.self) s.last c.loop-count.chooser c.advance.new.chooser c.loop-count.steps
-    (Saw (g.W.Watcher.next c.loop-count.watcher) (g.W.Watcher.view c.loop-count.watcher) (g.W.Watcher.view c.advance.new.watcher)) x)
-    (let is : c.in-Ok-Done.field-0 ≡ gone.Done = cc in is) (c.in-Ok-Done.ensures.gone s.last s.stands))
-
-pub returns-in-Ok-Trapped-clause-end : goal.returns-in-Ok-Trapped-clause-end
-returns-in-Ok-Trapped-clause-end g c N st =
-    let s = c.loop-count.invariant.so_far N st in
-    let few : c.loop-count.count < c.args.fuel = omega (arith, c.loop-count-test.true) in
-    ran_trapped (StandsForNetwork c.loop-count.self) (StandsForNetwork c.advance.new.self) N c.args.chooser.now c.loop-count.chooser c.advance.new.chooser c.loop-count.count c.loop-count.steps (g.W.Watcher.next c.args.watcher.now)
-    (g.W.Watcher.next c.loop-count.watcher) c.loop-count.invariant.next_stays (g.W.Watcher.view c.args.watcher.now) (g.W.Watcher.view c.loop-count.watcher) (g.W.Watcher.view c.advance.new.watcher) s c.args.fuel c.in-Ok-Trapped.at few
-    (subst (λ (x : Gone). IsGone (StandsForNetwork c.advance.new.self) s.last c.loop-count.chooser c.advance.new.chooser c.loop-count.steps
-    (Saw (g.W.Watcher.next c.loop-count.watcher) (g.W.Watcher.view c.loop-count.watcher) (g.W.Watcher.view c.advance.new.watcher)) x)
-    (let is : c.in-Ok-Trapped.field-0 ≡ (gone.Trapped c.in-Ok-Trapped.at) = cc in is) (c.in-Ok-Trapped.ensures.gone s.last s.stands))
-
-pub returns-in-Err-clause-broken : goal.returns-in-Err-clause-broken
-returns-in-Err-clause-broken g c N st =
-    let s = c.loop-count.invariant.so_far N st in
-    let few : c.loop-count.count < c.args.fuel = omega (arith, c.loop-count-test.true) in
-    broke_on (StandsForNetwork c.loop-count.self) (StandsForNetwork c.advance.new.self) N c.args.chooser.now c.loop-count.chooser c.advance.new.chooser c.loop-count.count c.loop-count.steps (g.W.Watcher.next c.args.watcher.now)
-    (g.W.Watcher.next c.loop-count.watcher) c.loop-count.invariant.next_stays (g.W.Watcher.view c.args.watcher.now) (g.W.Watcher.view c.loop-count.watcher) (g.W.Watcher.view c.advance.new.watcher) s c.args.fuel (g.W.Watcher.torn c.args.watcher.now) (g.W.Watcher.torn c.loop-count.watcher) c.loop-count.invariant.torn_stays few (c.in-Err.ensures.broken s.last s.stands)
-
-pub loop-count-preserved : goal.loop-count-preserved
-loop-count-preserved g c =
-    record {
-      kept = c.advance.ensures.kept;
-      channels = omega (arith, c.loop-count.invariant.channels, c.advance.ensures.channels);
-      few = omega (arith, c.loop-count.invariant.few);
-      so_far = λ N st.
-          let s = c.loop-count.invariant.so_far N st in
-          comes_stepped (StandsForNetwork c.loop-count.self) (StandsForNetwork c.advance.new.self) N c.args.chooser.now c.loop-count.chooser c.advance.new.chooser c.loop-count.count c.loop-count.steps (g.W.Watcher.next c.args.watcher.now)
-          (g.W.Watcher.next c.loop-count.watcher) c.loop-count.invariant.next_stays (g.W.Watcher.view c.args.watcher.now) (g.W.Watcher.view c.loop-count.watcher) (g.W.Watcher.view c.advance.new.watcher) s
-          (subst (λ (x : Gone). IsGone (StandsForNetwork c.advance.new.self) s.last c.loop-count.chooser c.advance.new.chooser c.loop-count.steps
-          (Saw (g.W.Watcher.next c.loop-count.watcher) (g.W.Watcher.view c.loop-count.watcher) (g.W.Watcher.view c.advance.new.watcher)) x)
-          (let is : c.in-Ok-Stepped.field-0 ≡ gone.Stepped = cc in is) (c.in-Ok-Stepped.ensures.gone s.last s.stands));
-      next_stays = λ v n k. c.advance.ensures.next_stays v n k ∙ c.loop-count.invariant.next_stays v n k;
-      torn_stays = λ v n k after. (λ t. (c.loop-count.invariant.torn_stays v n k after).0 ((c.advance.ensures.torn_stays v n k after).0 t), λ t. (c.advance.ensures.torn_stays v n k after).1 ((c.loop-count.invariant.torn_stays v n k after).1 t));
-      faults_stay = omega (arith, c.loop-count.invariant.faults_stay, c.advance.ensures.faults_stay);
-      same = g.met.W.Watcher.same_along _ _ _ c.loop-count.invariant.same c.advance.ensures.same;
-    }
-
-pub loop-count-preserved-in-Ok-Moved : goal.loop-count-preserved-in-Ok-Moved
-loop-count-preserved-in-Ok-Moved g c =
-    record {
-      kept = c.advance.ensures.kept;
-      channels = omega (arith, c.loop-count.invariant.channels, c.advance.ensures.channels);
-      few = omega (arith, c.loop-count.invariant.few);
-      so_far = λ N st.
-          let s = c.loop-count.invariant.so_far N st in
-          comes_moved (StandsForNetwork c.loop-count.self) (StandsForNetwork c.advance.new.self) N c.args.chooser.now c.loop-count.chooser c.advance.new.chooser c.loop-count.count c.loop-count.steps (g.W.Watcher.next c.args.watcher.now)
-          (g.W.Watcher.next c.loop-count.watcher) c.loop-count.invariant.next_stays (g.W.Watcher.view c.args.watcher.now) (g.W.Watcher.view c.loop-count.watcher) (g.W.Watcher.view c.advance.new.watcher) s
-          (subst (λ (x : Gone). IsGone (StandsForNetwork c.advance.new.self) s.last c.loop-count.chooser c.advance.new.chooser c.loop-count.steps
-          (Saw (g.W.Watcher.next c.loop-count.watcher) (g.W.Watcher.view c.loop-count.watcher) (g.W.Watcher.view c.advance.new.watcher)) x)
-          (let is : c.in-Ok-Moved.field-0 ≡ gone.Moved = cc in is) (c.in-Ok-Moved.ensures.gone s.last s.stands));
-      next_stays = λ v n k. c.advance.ensures.next_stays v n k ∙ c.loop-count.invariant.next_stays v n k;
-      torn_stays = λ v n k after. (λ t. (c.loop-count.invariant.torn_stays v n k after).0 ((c.advance.ensures.torn_stays v n k after).0 t), λ t. (c.advance.ensures.torn_stays v n k after).1 ((c.loop-count.invariant.torn_stays v n k after).1 t));
-      faults_stay = omega (arith, c.loop-count.invariant.faults_stay, c.advance.ensures.faults_stay);
-      same = g.met.W.Watcher.same_along _ _ _ c.loop-count.invariant.same c.advance.ensures.same;
-    }
-
-pub returns-then-events-eq0-clause-end : goal.returns-then-events-eq0-clause-end
-returns-then-events-eq0-clause-end g c N st =
-    let s = c.loop-count.invariant.so_far N st in
-    let all : c.loop-count.count ≡ c.args.fuel = omega (arith, c.loop-count-test.false, c.loop-count.auto.count-end) in
-    ran_out (StandsForNetwork c.loop-count.self) N c.args.chooser.now c.loop-count.chooser c.loop-count.count c.loop-count.steps c.args.fuel
-    (Saw (g.W.Watcher.next c.args.watcher.now) (g.W.Watcher.view c.args.watcher.now) (g.W.Watcher.view c.loop-count.watcher)) s all (sym (c.events.ensures s.last s.stands) ∙ c.if-events-eq0.true)
+pub run_on-answer-requires-clause-right : goal.run_on-answer-requires-clause-right
+run_on-answer-requires-clause-right g c = (c.requires.right.0, c.begin-alone.ensures.stands c.requires.right.0 c.requires.right.1, c.requires.right.2)
 
 pub returns-clause-end : goal.returns-clause-end
-returns-clause-end g c N st =
-    let s = c.loop-count.invariant.so_far N st in
-    let all : c.loop-count.count ≡ c.args.fuel = omega (arith, c.loop-count-test.false, c.loop-count.auto.count-end) in
-    ran_spent (StandsForNetwork c.loop-count.self) N c.args.chooser.now c.loop-count.chooser c.loop-count.count c.loop-count.steps c.args.fuel
-    (Saw (g.W.Watcher.next c.args.watcher.now) (g.W.Watcher.view c.args.watcher.now) (g.W.Watcher.view c.loop-count.watcher)) s all (λ e. c.if-events-eq0.false (c.events.ensures s.last s.stands ∙ e))
+returns-clause-end g c =
+    let mid = c.run_on-answer.new.self in
+    let last = c.rest.new.self in
+    let saw = Saw (g.W.Watcher.next c.args.watcher.now) (g.W.Watcher.view c.args.watcher.now) (g.W.Watcher.view c.run_on-answer.new.watcher) in
+    end_as (λ end. (N : plain.Network) → StandsIn c.begin-alone.result c.begin-alone.new.self N → RanOn (StandsIn c.begin-alone.result mid) N c.args.chooser.now c.args.fuel (machine.end_of end) saw)
+    (λ end. (N : plain.Network) → StandsForNetwork c.args.self.now N → RanOn (StandsForNetwork last) N c.args.chooser.now c.args.fuel (machine.end_of end) saw)
+    (λ end ran N st. ran_as (StandsIn c.begin-alone.result mid) (StandsForNetwork last) c.rest.ensures.stands N c.args.chooser.now c.args.fuel saw (machine.end_of end) (ran N (c.begin-alone.ensures.stands N st)))
+    c.run_on-answer.result c.run_on-answer.ensures.end
+
+pub returns-clause-broken : goal.returns-clause-broken
+returns-clause-broken g c =
+    let mid = c.run_on-answer.new.self in
+    let last = c.rest.new.self in
+    let saw = SawOrTore (g.W.Watcher.next c.args.watcher.now) (g.W.Watcher.torn c.args.watcher.now) (g.W.Watcher.view c.args.watcher.now) (g.W.Watcher.view c.run_on-answer.new.watcher) in
+    error_as ((N : plain.Network) → StandsIn c.begin-alone.result c.begin-alone.new.self N → BrokeOffOn (StandsIn c.begin-alone.result mid) N c.args.chooser.now c.args.fuel saw)
+    ((N : plain.Network) → StandsForNetwork c.args.self.now N → BrokeOffOn (StandsForNetwork last) N c.args.chooser.now c.args.fuel saw)
+    (λ broke N st. broke_as (StandsIn c.begin-alone.result mid) (StandsForNetwork last) c.rest.ensures.stands N c.args.chooser.now c.args.fuel saw (broke N (c.begin-alone.ensures.stands N st)))
+    c.run_on-answer.result c.run_on-answer.ensures.broken
