@@ -1,0 +1,5 @@
+mod Forms
+mod Tables
+mod Written
+mod Saying
+mod Sighted
