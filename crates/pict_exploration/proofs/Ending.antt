@@ -7,12 +7,14 @@ use Rattle.pict_core.specs.Step.{Finished, next, step_by, is_ready, is_partner, 
 use Rattle.pict_core.proofs.Stamps.{EntryClosed, least_closed, least_passes}
 use Rattle.pict_core.proofs.Entries.{Fails, none_passes, each_found}
 use Rattle.pict_core.proofs.Partners.{channel_is, and_right}
+use Rattle.pict_reduction.specs.Congruence.{Congruent, symmetric}
 use Rattle.pict_reduction.specs.Reading.{read, composition, declare, reading}
 use Rattle.pict_reduction.specs.Silent.{IsStill, is_silent, acts_silently, parks, has_none}
 use Rattle.pict_reduction.proofs.Readings.{read_val}
 use Rattle.pict_reduction.proofs.Apart.{IsReached}
-use Rattle.pict_reduction.proofs.Inert.{SendsOn, ReadsOn, IsInert, inert_same}
+use Rattle.pict_reduction.proofs.Inert.{SendsOn, ReadsOn, IsInert, inert_same, inert_irreducible}
 use Rattle.pict_reduction.proofs.Finished.{finished_inert}
+use Rattle.pict_exploration.specs.Alone.{SettlesTo, at_end, by_reduction}
 use Rattle.pict_exploration.specs.Laws.{FinishedRunsAreFound}
 use Rattle.pict_exploration.proofs.Covering.{prints_reached, cover_runs, found_reached}
 
@@ -130,10 +132,19 @@ module _ (V : Configuration) (is : IsConfiguration V) (still : IsStill V) (inert
   pub still_finished : next V ≡ Finished
   still_finished = finished_by (least is_ready V.entries) refl
 
+-- what is inert settles to nothing but itself
+inert_settles : (p q : Process) → IsInert 0 p → SettlesTo 0 p q → Congruent 0 p q
+inert_settles p q i (at_end c) = c
+inert_settles p q i (by_reduction {q = m} h k) = absurd (inert_irreducible 0 [] p m h.reduces i)
+
 pub finished_runs : FinishedRunsAreFound
 finished_runs p F u x C bytes h e =
     let f = cover_runs p F u x C bytes h in
     let V = f.vertex.configuration in
     let r : IsReached V = found_reached p F u x f.vertex f.is in
-    let inert : IsInert 0 (reading V) = (inert_same 0 (reading V) (reading C) f.same).1 (finished_inert C (prints_reached p u bytes C h) e) in
-    (f, still_finished V r.is (x.still f.vertex f.is) (undeclared_inert V.channels (composition V.channels V.entries) inert))
+    let finished : IsInert 0 (reading C) = finished_inert C (prints_reached p u bytes C h) e in
+    let same : Congruent 0 (reading C) (reading V) = inert_settles (reading C) (reading V) finished f.settles in
+    let inert : IsInert 0 (reading V) = (inert_same 0 (reading C) (reading V) same).0 finished in (
+      record { vertex = f.vertex; is = f.is; printed = f.printed; same = symmetric same },
+      still_finished V r.is (x.still f.vertex f.is) (undeclared_inert V.channels (composition V.channels V.entries) inert),
+    )

@@ -8,7 +8,10 @@ use Rattle.pict_core.specs.Matching.{match_value}
 use Rattle.pict_core.specs.Primitives.{Effect, Leaves, Nothing, Answer, Trap, effect_of}
 use Rattle.pict_core.specs.Configuration.{Entry, Configuration, StampsRise}
 use Rattle.pict_core.specs.Step.{Choice, StepOutcome, Traps, IsChoice, free_step, is_ready, is_partner, least, entry_at, act, act_entry, leave, perform, printing, received, meet_reader, meet_message}
-use Rattle.pict_reduction.specs.Congruence.{symmetric}
+use Rattle.pict_core.proofs.Replacing.{two}
+use Rattle.pict_reduction.specs.Congruence.{Congruent, symmetric}
+use Rattle.pict_reduction.specs.Reduction.{left_by}
+use Rattle.pict_reduction.specs.Redex.{Fires, communicates, serves, chooses, performs}
 use Rattle.pict_reduction.specs.Reading.{naming, read, composition, declare, reading}
 use Rattle.pict_reduction.specs.Components.{Components, components, renamed, AreAlike}
 use Rattle.pict_reduction.specs.Congruence.{renaming}
@@ -20,10 +23,12 @@ use Rattle.pict_reduction.proofs.Natural.{effect_natural, replace_effect, replac
 use Rattle.pict_reduction.proofs.Reflecting.{primitive_read}
 use Rattle.pict_reduction.proofs.Alike.{congruent_are_alike}
 use Rattle.pict_reduction.proofs.Apart.{IsReached}
-use Rattle.pict_reduction.proofs.Rebuilding.{Picks, here, there, Picked, permutation_picked}
+use Rattle.pict_reduction.proofs.Rebuilding.{together, Picks, here, there, Picked, permutation_picked}
 use Rattle.pict_reduction.proofs.Reaching.{readings, out_read, primitive_back, reading_components, ready_by, never_partner, no_stand_primitive}
+use Rattle.pict_exploration.specs.Alone.{ReducesAlone, SettlesTo, at_end, by_reduction}
 use Rattle.pict_exploration.specs.Laws.{TrapsAreFound}
 use Rattle.pict_exploration.proofs.Covering.{cover_runs, found_reached}
+use Rattle.pict_exploration.proofs.Redexes.{FiresAlone, fires_by_itself}
 
 -- ---- outputs that divide by zero
 
@@ -234,6 +239,48 @@ module _ (V : Configuration) (r : IsReached V) (still : IsStill V) (at : Span) w
       acts_by t.entry t.trap.primitive o.message t.stands is t.trap.effect t.trap.traps (effect_of t.trap.primitive o.message) refl
       (sym (primitive_read V.channels t.trap.primitive o.message) ∙ ap (effect_of t.trap.primitive) o.message_read ∙ t.trap.acts)
 
+-- ---- what settles keeps its traps
+
+together_trap : (m : ℕ) (at : Span) (ps : List Process) → HasTrap at ps → HasTrap at (components m (together ps)).primes
+together_trap m at ps (first {p = p} {ps = qs} h) = front_trap at _ _ (each_trap _ at _ (trap_components m at p h))
+together_trap m at ps (later {p = p} {ps = qs} h) = back_trap at _ _ (each_trap _ at _ (together_trap m at qs h))
+
+-- what divides by zero is no redex
+no_redex : (m : ℕ) (bytes : List ℕ) (at : Span) (x : Process) (redex : List Process) (residual : Process) → IsTrap at x → redex ≡ x ∷ [] → Fires m bytes redex residual → ⊥
+no_redex m bytes at x redex residual t e (communicates name h) = cc
+no_redex m bytes at x redex residual t e (serves name h) = cc
+no_redex m bytes at x redex residual t e (chooses {b = b} {p = p} {q = q}) = let g : If (Boolean b) p q ≡ x = cc in let is : If (Boolean b) p q ≡ Out (PrimitiveVal t.primitive) t.value at = g ∙ t.is in cc
+no_redex m bytes at x redex residual t e (performs {f = f} {v = v} {at = place} {effect = effect} {p = p} h k) =
+    let here : Out (PrimitiveVal f) v place ≡ x = cc in
+    let is : Out (PrimitiveVal f) v place ≡ Out (PrimitiveVal t.primitive) t.value at = here ∙ t.is in
+    let g : f ≡ t.primitive = cc in
+    let w : v ≡ t.value = cc in
+    let some : Some effect ≡ Some t.effect = sym h ∙ two effect_of g w ∙ t.acts in
+    let same : effect ≡ t.effect = cc in
+    let leaves : effect.leaves ≡ Trap = ap (λ (e : Effect). e.leaves) same ∙ t.traps in
+    let none : None ≡ Some p = sym (ap (left_by place) leaves) ∙ k in
+    cc
+
+rest_trap : (n : ℕ) (at : Span) (p q : Process) (h : FiresAlone n [] p q) → HasTrap at (h.acting ∷ h.rest) → HasTrap at h.rest
+rest_trap n at p q h (first t) = absurd (no_redex (n + (components n p).news) [] at h.acting (h.acting ∷ []) h.residual t refl h.fires)
+rest_trap n at p q h (later t) = t
+
+alike_trap : (n : ℕ) (at : Span) (p q : Process) → Congruent n p q → HasTrap at (components n p).primes → HasTrap at (components n q).primes
+alike_trap n at p q c h =
+    let alike : AreAlike n (components n p) (components n q) = congruent_are_alike n p q c in
+    picked_trap at _ _ (permutation_picked _ _ (IsPermutation-sym _ _ alike.same)) (each_trap alike.bijection at (components n p).primes h)
+
+alone_trap : (n : ℕ) (at : Span) (p q : Process) → ReducesAlone n p q → HasTrap at (components n p).primes → HasTrap at (components n q).primes
+alone_trap n at p q a h =
+    let f = fires_by_itself n [] p q a.reduces a.alone in
+    let k = (components n p).news in
+    let rest : HasTrap at f.rest = rest_trap n at p q f (picked_trap at (f.acting ∷ f.rest) (components n p).primes (permutation_picked _ _ (IsPermutation-sym _ _ f.chosen)) h) in
+    alike_trap n at _ q (symmetric f.left) (declared_trap n k at (Par f.residual (together f.rest)) (λ m. back_trap at _ _ (each_trap _ at _ (together_trap m at f.rest rest))))
+
+settled_trap : (at : Span) (p q : Process) → SettlesTo 0 p q → HasTrap at (components 0 p).primes → HasTrap at (components 0 q).primes
+settled_trap at p q (at_end c) h = alike_trap 0 at p q c h
+settled_trap at p q (by_reduction {q = m} a k) h = settled_trap at m q k (alone_trap 0 at p m a h)
+
 pub traps_found : TrapsAreFound
 traps_found p F u x C bytes choice at h c e =
     let f = cover_runs p F u x C bytes h in
@@ -241,8 +288,5 @@ traps_found p F u x C bytes choice at h c e =
     let r : IsReached V = found_reached p F u x f.vertex f.is in
     let t = choice_trap C choice at c e in
     let here : HasTrap at (components 0 (reading C)).primes = declared_trap 0 C.channels at (composition C.channels C.entries) (λ m. entry_trap m C.channels at t.0 t.1 C.entries t.2 t.3) in
-    let alike : AreAlike 0 (components 0 (reading C)) (components 0 (reading V)) = congruent_are_alike 0 (reading C) (reading V) (symmetric f.same) in
-    let there : HasTrap at (components 0 (reading V)).primes =
-    picked_trap at _ _ (permutation_picked _ _ (IsPermutation-sym _ _ alike.same)) (each_trap alike.bijection at (components 0 (reading C)).primes here) in
-    let c' = traps_there V r (x.still f.vertex f.is) at there in
+    let c' = traps_there V r (x.still f.vertex f.is) at (settled_trap at (reading C) (reading V) f.settles here) in
     (f, c'.0, c'.1, c'.2)

@@ -10,6 +10,7 @@ use Rattle.pict_reduction.specs.Congruence.{Congruent}
 use Rattle.pict_reduction.specs.Reduction.{Reduces}
 use Rattle.pict_reduction.specs.Reading.{reading}
 use Rattle.pict_reduction.specs.Silent.{IsStill}
+use Rattle.pict_exploration.specs.Alone.{SettlesTo}
 
 -- Some free steps, or none, lead from C to a configuration, and print these bytes.
 pub data FreelyPrints (C : Configuration) : List ℕ → Configuration → Type 0 where
@@ -45,12 +46,19 @@ pub record IsFoundAs (found : List Vertex) (bytes : List ℕ) (p : Process) : Ty
   pub printed : vertex.bytes ≡ bytes
   pub same : Congruent 0 (reading vertex.configuration) p
 
--- An exploration of a process. Each vertex that is found is reached by its choices, and has no silent step left; the opening
--- configuration is found, up to congruence, and so is what each step of one that is found leads to. Of choices whose step is
--- wrong nothing is said.
+-- so is what p settles to: reductions of one process by itself that print nothing, or none, lead from p to its reading
+pub record IsFoundSettled (found : List Vertex) (bytes : List ℕ) (p : Process) : Type 0 where
+  pub vertex : Vertex
+  pub is : Has found vertex
+  pub printed : vertex.bytes ≡ bytes
+  pub settles : SettlesTo 0 p (reading vertex.configuration)
+
+-- An exploration of a process. Each vertex that is found is reached by its choices, and has no silent step left; what the
+-- opening configuration settles to is found, up to congruence, and so is what each step of one that is found leads to, once it
+-- has settled. Of choices whose step is wrong nothing is said.
 pub record Explores (p : Process) (found : List Vertex) : Type 0 where
   pub reached : (v : Vertex) → Has found v → IsReachedByChoices p v
   pub still : (v : Vertex) → Has found v → IsStill v.configuration
-  pub opens : IsFoundAs found [] (reading (opening p))
+  pub opens : IsFoundSettled found [] (reading (opening p))
   pub steps : (v : Vertex) (choice : Choice) (D : Configuration) (label : Label)
-      → Has found v → Free v.configuration choice D label → IsFoundAs found (v.bytes ++ printed_by label) (reading D)
+      → Has found v → Free v.configuration choice D label → IsFoundSettled found (v.bytes ++ printed_by label) (reading D)

@@ -8,7 +8,7 @@ use Rattle.pict_core.specs.Places.{Place}
 use Rattle.pict_core.specs.FreeRun.{at_start}
 use Rattle.pict_reduction.specs.Reading.{reading}
 use Rattle.pict_reduction.proofs.Apart.{opening_reached}
-use Rattle.pict_exploration.specs.Explored.{IsReachedByChoices, IsFoundAs, Explores}
+use Rattle.pict_exploration.specs.Explored.{IsReachedByChoices, IsFoundAs, IsFoundSettled, Explores}
 use Rattle.pict_orders.specs.Plain.{place_of}
 use Rattle.pict_orders.specs.declared.choice.Choice.{Choice}
 use Rattle.pict_orders.specs.Settling.{vertex, Settles}
@@ -25,13 +25,13 @@ use Rattle.pict_orders.proofs.Ending.{explores, lists_traps}
 module _ (s : Search) (before after : List Place) (bytes : List ℕ) (C D : Configuration) (settled : IsConfiguration C → Settles before C after D) where
   -- it is there
   pub reach_known : (same : List ℕ) → same ≡ bytes → IsFoundAs (vertices s.found.items) same (reading D) → (p : Process) → IsSearch p (vertices s.found.items) s.traps.items → IsConfiguration C
-      → IsReachedByChoices p (vertex before bytes C) → Goes p s s All (IsFoundAs (vertices s.found.items) bytes (reading C))
-  reach_known same e found p h is r = goes_no_further p s All (IsFoundAs (vertices s.found.items) bytes (reading C)) h
-      (λ all. found_before (vertices s.found.items) bytes C D (subst (λ (b : List ℕ). IsFoundAs (vertices s.found.items) b (reading D)) e found) (settled is).0.same)
+      → IsReachedByChoices p (vertex before bytes C) → Goes p s s All (IsFoundSettled (vertices s.found.items) bytes (reading C))
+  reach_known same e found p h is r = goes_no_further p s All (IsFoundSettled (vertices s.found.items) bytes (reading C)) h
+      (λ all. found_before (vertices s.found.items) bytes C D (subst (λ (b : List ℕ). IsFoundAs (vertices s.found.items) b (reading D)) e found) (settled is).0.settles)
 
   -- it is new
   pub reach_new : (t : Search) → IsAdded s t (vertex after bytes D) → (p : Process) → IsSearch p (vertices s.found.items) s.traps.items → IsConfiguration C
-      → IsReachedByChoices p (vertex before bytes C) → Goes p s t All (IsFoundAs (vertices t.found.items) bytes (reading C))
+      → IsReachedByChoices p (vertex before bytes C) → Goes p s t All (IsFoundSettled (vertices t.found.items) bytes (reading C))
   reach_new t added p h is r = reach_added p s t before after bytes C D h r (settled is) added
 
 -- ---- the opening configuration
@@ -41,15 +41,15 @@ starts p = record { labels = []; runs = at_start; prints = refl }
 
 pub begin_by : (p : Process) (s t : Search) (r : Result Extent AllocError) (cs : List Choice) (bytes : List ℕ) (C : Configuration) → cs ≡ [] → bytes ≡ [] → C ≡ opening p
     → IfOk r (λ extent. (q : Process) → IsSearch q (vertices s.found.items) s.traps.items → IsConfiguration C → IsReachedByChoices q (vertex (map place_of cs) bytes C)
-    → Goes q s t extent (IsFoundAs (vertices t.found.items) bytes (reading C)))
+    → Goes q s t extent (IsFoundSettled (vertices t.found.items) bytes (reading C)))
     → IfOk r (λ extent. IsClosed p → IsSearch p (vertices s.found.items) s.traps.items → Goes p s t extent (IsOpened p t))
 begin_by p s t (Ok extent) cs bytes C ec eb e reach = λ closed h.
     let there : IsReachedByChoices p (vertex (map place_of cs) bytes C) =
     subst (λ (l : List Choice). IsReachedByChoices p (vertex (map place_of l) bytes C)) (sym ec)
     (subst (λ (b : List ℕ). IsReachedByChoices p (vertex [] b C)) (sym eb) (subst (λ (X : Configuration). IsReachedByChoices p (vertex [] [] X)) (sym e) (starts p))) in
     let is : IsConfiguration C = subst IsConfiguration (sym e) (opening_reached p closed).is in
-    goes_as p s t extent (IsFoundAs (vertices t.found.items) bytes (reading C)) (IsOpened p t) (reach p h is there)
-    (λ found. subst (λ (b : List ℕ). IsFoundAs (vertices t.found.items) b (reading (opening p))) eb (subst (λ (X : Configuration). IsFoundAs (vertices t.found.items) bytes (reading X)) e found))
+    goes_as p s t extent (IsFoundSettled (vertices t.found.items) bytes (reading C)) (IsOpened p t) (reach p h is there)
+    (λ found. subst (λ (b : List ℕ). IsFoundSettled (vertices t.found.items) b (reading (opening p))) eb (subst (λ (X : Configuration). IsFoundSettled (vertices t.found.items) bytes (reading X)) e found))
 begin_by p s t (Err x) cs bytes C ec eb e reach = reach
 
 -- ---- the whole search

@@ -10,12 +10,13 @@ use Rattle.pict_core.specs.Configuration.{Configuration, IsConfiguration}
 use Rattle.pict_core.specs.Step.{Label, StepOutcome, Steps, Traps, Wrong, Finished}
 use Rattle.pict_core.specs.Run.{printed_by}
 use Rattle.pict_core.specs.Places.{Place, ready_entries, partners_at, outcome_at}
-use Rattle.pict_reduction.specs.Congruence.{Congruent, transitive, symmetric}
+use Rattle.pict_reduction.specs.Congruence.{symmetric}
 use Rattle.pict_reduction.specs.Reading.{reading}
 use Rattle.pict_reduction.specs.Silent.{IsStill}
 use Rattle.pict_reduction.proofs.Apart.{IsReached}
-use Rattle.pict_exploration.specs.Explored.{Vertex, Has, IsReachedByChoices, IsFoundAs}
-use Rattle.pict_exploration.proofs.Covering.{reached_prints, prints_reached}
+use Rattle.pict_exploration.specs.Explored.{Vertex, Has, IsReachedByChoices, IsFoundAs, IsFoundSettled}
+use Rattle.pict_exploration.specs.Alone.{SettlesTo, at_end}
+use Rattle.pict_exploration.proofs.Covering.{reached_prints, prints_reached, settles_then}
 use Rattle.pict_orders.specs.Plain.{configuration_of, place, place_of}
 use Rattle.pict_orders.specs.Settling.{vertex, Settles}
 use Rattle.pict_orders.specs.declared.choice.Choice.{Choice}
@@ -27,7 +28,7 @@ use Rattle.pict_orders.specs.declared.search.Found.{Found}
 use Rattle.pict_orders.specs.declared.search.Search.{Search}
 use Rattle.pict_orders.specs.declared.search.Trap.{Trap}
 use Rattle.pict_orders.proofs.Lists.{or_last, get_front, get_below, get_last, get_own, get_within}
-use Rattle.pict_orders.proofs.Silently.{reached_more, place_keeps}
+use Rattle.pict_orders.proofs.Quietly.{reached_more, place_keeps}
 
 -- ---- what was found stays
 
@@ -51,8 +52,8 @@ same_vertex s t h number v l e =
 pub still_vertex : (s t : Search) → Extends s t → (number : ℕ) (v : Vertex) → slice_get (vertices s.found.items) number ≡ Some v → slice_get (vertices t.found.items) number ≡ Some v
 still_vertex s t h number v e = ap (λ (vs : List Vertex). slice_get vs number) h.found ∙ get_front (vertices s.found.items) h.more number v e
 
-pub found_still : (s t : Search) → Extends s t → (bytes : List ℕ) (q : Process) → IsFoundAs (vertices s.found.items) bytes q → IsFoundAs (vertices t.found.items) bytes q
-found_still s t h bytes q f = record { vertex = f.vertex; is = (f.is.0, still_vertex s t h f.is.0 f.vertex f.is.1); printed = f.printed; same = f.same }
+pub found_still : (s t : Search) → Extends s t → (bytes : List ℕ) (q : Process) → IsFoundSettled (vertices s.found.items) bytes q → IsFoundSettled (vertices t.found.items) bytes q
+found_still s t h bytes q f = record { vertex = f.vertex; is = (f.is.0, still_vertex s t h f.is.0 f.vertex f.is.1); printed = f.printed; settles = f.settles }
 
 covered_still : (s t : Search) → Extends s t → (number : ℕ) (v : Vertex) (o : StepOutcome) → IsCovered s number v o → IsCovered t number v o
 covered_still s t h number v (Steps D label) c = found_still s t h (v.bytes ++ printed_by label) (reading D) c
@@ -96,12 +97,12 @@ search_added p s t v a h r still = (
 )
 
 -- a vertex that is the last one is found
-pub added_found : (s t : Search) (v : Vertex) (bytes : List ℕ) (q : Process) → IsAdded s t v → v.bytes ≡ bytes → Congruent 0 (reading v.configuration) q → IsFoundAs (vertices t.found.items) bytes q
+pub added_found : (s t : Search) (v : Vertex) (bytes : List ℕ) (q : Process) → IsAdded s t v → v.bytes ≡ bytes → SettlesTo 0 q (reading v.configuration) → IsFoundSettled (vertices t.found.items) bytes q
 added_found s t v bytes q a e c = record {
   vertex = v;
   is = (length (vertices s.found.items), ap (λ (F : List Vertex). slice_get F (length (vertices s.found.items))) a.found ∙ get_own (vertices s.found.items) v);
   printed = e;
-  same = c;
+  settles = c;
 }
 
 pub empty_search : (p : Process) → IsSearch p [] []
@@ -192,14 +193,14 @@ goes_no_further p s extent Done h f = record { is = h; extends = extends_itself 
 pub goes_as : (p : Process) (s t : Search) (extent : Extent) (A B : Type 0) → Goes p s t extent A → (A → B) → Goes p s t extent B
 goes_as p s t extent A B g f = record { is = g.is; extends = g.extends; done = λ e. f (g.done e) }
 
-pub found_before : (F : List Vertex) (bytes : List ℕ) (C D : Configuration) → IsFoundAs F bytes (reading D) → Congruent 0 (reading C) (reading D) → IsFoundAs F bytes (reading C)
-found_before F bytes C D f c = record { vertex = f.vertex; is = f.is; printed = f.printed; same = transitive f.same (symmetric c) }
+pub found_before : (F : List Vertex) (bytes : List ℕ) (C D : Configuration) → IsFoundAs F bytes (reading D) → SettlesTo 0 (reading C) (reading D) → IsFoundSettled F bytes (reading C)
+found_before F bytes C D f c = record { vertex = f.vertex; is = f.is; printed = f.printed; settles = settles_then c (at_end (symmetric f.same)) }
 
 pub reach_added : (p : Process) (s t : Search) (before after : List Place) (bytes : List ℕ) (C D : Configuration) → IsSearch p (vertices s.found.items) s.traps.items → IsReachedByChoices p (vertex before bytes C)
-    → Settles before C after D → IsAdded s t (vertex after bytes D) → Goes p s t All (IsFoundAs (vertices t.found.items) bytes (reading C))
+    → Settles before C after D → IsAdded s t (vertex after bytes D) → Goes p s t All (IsFoundSettled (vertices t.found.items) bytes (reading C))
 reach_added p s t before after bytes C D h r settled added =
     let a = search_added p s t (vertex after bytes D) added h (settled.0.runs p bytes r) settled.1 in
-    record { is = a.0; extends = a.1; done = λ e. added_found s t (vertex after bytes D) bytes (reading C) added refl (symmetric settled.0.same) }
+    record { is = a.0; extends = a.1; done = λ e. added_found s t (vertex after bytes D) bytes (reading C) added refl settled.0.settles }
 
 -- the vertex of a number is that of what is kept under it
 pub own_vertex : (fs : List Found) (number : ℕ) (f : Found) (v : Vertex) → slice_get fs number ≡ Some f → slice_get (vertices fs) number ≡ Some v → vertex_of f ≡ v
@@ -212,7 +213,7 @@ its_vertex fs number f e = slice_get-map vertex_of fs number ∙ ap (option_map 
 
 pub went_on : (p : Process) (s t : Search) (extent : Extent) (number : ℕ) (f : Found) (choice : Choice) (D : Configuration) (label : Label) (choices : List Choice) (bytes : List ℕ)
     → slice_get s.found.items number ≡ Some f → choices ≡ f.choices.items ++ choice ∷ [] → bytes ≡ f.bytes.items ++ printed_by label
-    → (IsSearch p (vertices s.found.items) s.traps.items → IsConfiguration D → IsReachedByChoices p (vertex (map place_of choices) bytes D) → Goes p s t extent (IsFoundAs (vertices t.found.items) bytes (reading D)))
+    → (IsSearch p (vertices s.found.items) s.traps.items → IsConfiguration D → IsReachedByChoices p (vertex (map place_of choices) bytes D) → Goes p s t extent (IsFoundSettled (vertices t.found.items) bytes (reading D)))
     → IsClosed p → IsSearch p (vertices s.found.items) s.traps.items → IsStepFrom (vertices s.found.items) number (place_of choice) D label → Goes p s t extent (IsFoundBy s t number label D)
 went_on p s t extent number f choice D label choices bytes kept cs bs reach u h step =
     let own : vertex_of f ≡ step.vertex = own_vertex s.found.items number f step.vertex kept step.is in
@@ -223,9 +224,9 @@ went_on p s t extent number f choice D label choices bytes kept cs bs reach u h 
     let printed : bytes ≡ step.vertex.bytes ++ printed_by label = bs ∙ ap (λ (v : Vertex). v.bytes ++ printed_by label) own in
     let there : IsReachedByChoices p (vertex (map place_of choices) bytes D) =
     subst (λ (l : List Place). IsReachedByChoices p (vertex l bytes D)) (sym written) (subst (λ (b : List ℕ). IsReachedByChoices p (vertex (step.vertex.choices ++ place_of choice ∷ []) b D)) (sym printed) reached) in
-    goes_as p s t extent (IsFoundAs (vertices t.found.items) bytes (reading D)) (IsFoundBy s t number label D)
+    goes_as p s t extent (IsFoundSettled (vertices t.found.items) bytes (reading D)) (IsFoundBy s t number label D)
     (reach h (after_is p (vertices s.found.items) s.traps.items number (place_of choice) D label u h step) there)
-    (λ found v e. subst (λ (b : List ℕ). IsFoundAs (vertices t.found.items) b (reading D)) (bs ∙ ap (λ (w : Vertex). w.bytes ++ printed_by label) (own_vertex s.found.items number f v kept e)) found)
+    (λ found v e. subst (λ (b : List ℕ). IsFoundSettled (vertices t.found.items) b (reading D)) (bs ∙ ap (λ (w : Vertex). w.bytes ++ printed_by label) (own_vertex s.found.items number f v kept e)) found)
 
 pub tried_steps : (p : Process) (s t : Search) (extent : Extent) (number : ℕ) (f : Found) (at : Place) (D : Configuration) (label : Label) → slice_get s.found.items number ≡ Some f → number < length s.found.items
     → outcome_at (configuration_of f.state) at ≡ Steps D label → IsThere (vertices s.found.items) number at
@@ -315,7 +316,7 @@ expanded_all p s t number n f kept within many h = record {
 
 pub go_by : (s t : Search) (r : Result Extent AllocError) (number : ℕ) (f : Found) (choice : Choice) (D : Configuration) (label : Label) (choices : List Choice) (bytes : List ℕ)
     → slice_get s.found.items number ≡ Some f → choices ≡ f.choices.items ++ choice ∷ [] → bytes ≡ f.bytes.items ++ printed_by label
-    → IfOk r (λ extent. (p : Process) → IsSearch p (vertices s.found.items) s.traps.items → IsConfiguration D → IsReachedByChoices p (vertex (map place_of choices) bytes D) → Goes p s t extent (IsFoundAs (vertices t.found.items) bytes (reading D)))
+    → IfOk r (λ extent. (p : Process) → IsSearch p (vertices s.found.items) s.traps.items → IsConfiguration D → IsReachedByChoices p (vertex (map place_of choices) bytes D) → Goes p s t extent (IsFoundSettled (vertices t.found.items) bytes (reading D)))
     → IfOk r (λ extent. (p : Process) → IsClosed p → IsSearch p (vertices s.found.items) s.traps.items → IsStepFrom (vertices s.found.items) number (place_of choice) D label → Goes p s t extent (IsFoundBy s t number label D))
 go_by s t (Ok extent) number f choice D label choices bytes kept cs bs k = λ p u h step. went_on p s t extent number f choice D label choices bytes kept cs bs (k p) u h step
 go_by s t (Err e) number f choice D label choices bytes kept cs bs k = k

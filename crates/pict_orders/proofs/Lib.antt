@@ -2,10 +2,11 @@ pub mod Lists
 pub mod Entries
 pub mod Passing
 pub mod Placed
-pub mod Silently
+pub mod Quietly
 pub mod Renaming
 pub mod Going
 pub mod Ending
 pub mod Scanning
+pub mod Choosing
 pub mod Trying
 pub mod Beginning

@@ -6,7 +6,7 @@ use Rattle.pict_core.specs.Step.{Label, StepOutcome, Steps, Traps, Wrong, Finish
 use Rattle.pict_core.specs.Run.{printed_by}
 use Rattle.pict_core.specs.Places.{Place, IsPlace, ready_entries, outcome_at}
 use Rattle.pict_reduction.specs.Reading.{reading}
-use Rattle.pict_exploration.specs.Explored.{Vertex, IsFoundAs}
+use Rattle.pict_exploration.specs.Explored.{Vertex, IsFoundSettled}
 use Rattle.pict_orders.specs.Plain.{place}
 use Rattle.pict_orders.specs.Found.{vertices, IsSearch, HasTrap}
 use Rattle.pict_orders.specs.declared.search.Extent.{Extent}
@@ -48,15 +48,15 @@ pub record IsStepFrom (found : List Vertex) (number : ℕ) (at : Place) (D : Con
   pub there : IsPlace vertex.configuration at
   pub steps : outcome_at vertex.configuration at ≡ Steps D label
 
--- D is found, with the bytes of the vertex of this number and those of the label
+-- what D settles to is found, with the bytes of the vertex of this number and those of the label
 abbrev pub IsFoundBy : Search → Search → ℕ → Label → Configuration → Type 0
 IsFoundBy old new number label D =
     (v : Vertex) → slice_get (vertices old.found.items) number ≡ Some v
-    → IsFoundAs (vertices new.found.items) (v.bytes ++ printed_by label) (reading D)
+    → IsFoundSettled (vertices new.found.items) (v.bytes ++ printed_by label) (reading D)
 
--- what a step of a vertex leads to is found; or it traps, and that is listed
+-- what a step of a vertex leads to is found, once it has settled; or it traps, and that is listed
 abbrev pub IsCovered : Search → ℕ → Vertex → StepOutcome → Type 0
-IsCovered s number v (Steps D label) = IsFoundAs (vertices s.found.items) (v.bytes ++ printed_by label) (reading D)
+IsCovered s number v (Steps D label) = IsFoundSettled (vertices s.found.items) (v.bytes ++ printed_by label) (reading D)
 IsCovered s number v (Traps at) = HasTrap s.traps.items number at
 IsCovered s number v Wrong = Unit {0}
 IsCovered s number v Finished = Unit {0}
@@ -82,9 +82,9 @@ IsExpanded s number =
 abbrev pub AreExpanded : Search → Type 0
 AreExpanded s = (number : ℕ) → IsExpanded s number
 
--- the opening configuration is found
+-- what the opening configuration settles to is found
 abbrev pub IsOpened : Process → Search → Type 0
-IsOpened p s = IsFoundAs (vertices s.found.items) [] (reading (opening p))
+IsOpened p s = IsFoundSettled (vertices s.found.items) [] (reading (opening p))
 
 -- it is found, and all vertices are expanded
 pub record IsWhole (p : Process) (s : Search) : Type 0 where

@@ -9,7 +9,7 @@ ghost use Rattle.pict_core.specs.Configuration.{IsConfiguration};
 ghost use Rattle.pict_reduction.specs.Congruence.{Congruent};
 ghost use Rattle.pict_reduction.specs.Reading.{reading};
 ghost use Rattle.pict_reference.specs.Plain.{plain_label};
-ghost use Rattle.pict_exploration.specs.Explored.{IsReachedByChoices, IsFoundAs, Explores};
+ghost use Rattle.pict_exploration.specs.Explored.{IsReachedByChoices, IsFoundAs, IsFoundSettled, Explores};
 ghost use Rattle.pict_orders.specs.Plain.{configuration_of, place_of};
 ghost use Rattle.pict_orders.specs.Settling.{vertex};
 ghost use Rattle.pict_orders.specs.Found.{vertices, IsSearch, ListsTraps};
@@ -204,8 +204,8 @@ impl Search {
         Ok(())
     }
 
-    // The configuration is reached by these choices, which print these bytes: the vertex to which its silent steps lead is
-    // found, from now on at the latest.
+    // The configuration is reached by these choices, which print these bytes: the vertex to which its silent steps, and those of
+    // one process by itself, lead is found, from now on at the latest.
     fn reach(
         &mut self,
         choices: Vec<Choice>,
@@ -218,7 +218,7 @@ impl Search {
         ensures goes { IfOk result (λ extent. (p : Process) → IsSearch p (vertices self.old.found.items) self.old.traps.items
             → IsConfiguration (configuration_of state)
             → IsReachedByChoices p (vertex (map place_of choices.items) bytes.items (configuration_of state))
-            → Goes p self.old self.new extent (IsFoundAs (vertices self.new.found.items) bytes.items (reading (configuration_of state)))) }
+            → Goes p self.old self.new extent (IsFoundSettled (vertices self.new.found.items) bytes.items (reading (configuration_of state)))) }
     {
         let mut choices = choices;
         let mut state = state;
@@ -374,8 +374,9 @@ impl Search {
 }
 
 /// Searches for all that a closed process can do, in any order of steps. From each vertex that is found the steps of all ready
-/// processes, with each of their partners, are taken, and after each of them all silent steps; what they lead to is a vertex,
-/// unless one with the same bytes and a congruent configuration is found. The search ends early where more vertices than
+/// processes, with each of their partners, are taken, and after each of them all silent steps, and all conditionals and outputs
+/// to primitives that answer and print nothing: these commute with all other steps. What they lead to is a vertex, unless one
+/// with the same bytes and a congruent configuration is found. The search ends early where more vertices than
 /// `limit` would be found, and then it has found as many; or where the numbers of channels or stamps are used up. The only error
 /// is want of memory.
 pub fn explore(alloc: Global, process: Core, limit: usize) -> Result<Exploration, AllocError>

@@ -1,19 +1,21 @@
-// Silent steps, as long as there are any.
+// Silent steps, and steps of one process by itself that print nothing, as long as there are any.
 
-ghost use Rattle.std.specs.Prelude.{◌≡◌, IsTrue, not, map, IfOk};
+ghost use Rattle.std.specs.Prelude.{◌≡◌, IsTrue, not, map, IfOk, IfSome, option_map};
 ghost use Rattle.pict_core.specs.Plain.{plain_core, plain_val};
+ghost use Rattle.pict_prim.specs.ValueDone.{effect_value_done, PrintsText};
 ghost use Rattle.pict_core.specs.Configuration.{IsConfiguration};
 ghost use Rattle.pict_core.specs.Step.{is_partner as is_plain_partner, least};
 ghost use Rattle.pict_reduction.specs.Silent.{is_silent as is_plain_silent, is_chan, has_none, parks as parks_plain};
 ghost use Rattle.pict_orders.specs.Plain.{configuration_of, place_of};
 ghost use Rattle.pict_shared.specs.Plain.{plain_held};
-ghost use Rattle.pict_orders.specs.Settling.{FirstSilent, SettlesOnce, Settles};
+ghost use Rattle.pict_orders.specs.Settling.{FirstReady, FirstQuiet, is_truth_value as is_plain_truth_value, is_quiet_effect, is_answered as is_plain_answered, goes_alone as goes_plain_alone, SettlesOnce, Settles};
 
 use crate::choice::Choice;
 use crate::state::State;
 use pict_core::{Core, CoreVal};
+use pict_prim::{ValueDone, attempt_on_value};
 use pict_shared::{Held, is_partner};
-use std::alloc::AllocError;
+use std::alloc::{AllocError, Global};
 
 fn has_partner(process: &Core, entries: &[Held]) -> bool
     ensures { not result ≡ has_none (least (is_plain_partner (plain_core process.now)) (map plain_held entries.now)) }
@@ -55,7 +57,7 @@ fn is_silent(entries: &[Held], process: &Core) -> bool
 
 // The number, among the ready ones, of the first that acts silently.
 fn first_silent(entries: &[Held]) -> Option<usize>
-    ensures { FirstSilent (map plain_held entries.now) result }
+    ensures { FirstReady (is_plain_silent (map plain_held entries.now)) (map plain_held entries.now) result }
 {
     let mut count = 0;
     for entry in entries {
@@ -69,13 +71,78 @@ fn first_silent(entries: &[Held]) -> Option<usize>
     None
 }
 
+// Whether an answer is left, and nothing printed.
+fn is_answer(done: &Option<ValueDone>) -> bool
+    requires { IfSome done.now PrintsText }
+    ensures { result ≡ is_quiet_effect (option_map effect_value_done done.now) }
+{
+    matches!(done, Some(ValueDone::Answer(_, _)))
+}
+
+// Whether an output with this subject is one to a primitive that answers and prints nothing.
+fn is_answered(alloc: Global, chan: &CoreVal, message: &CoreVal) -> Result<bool, AllocError>
+    ensures { IfOk result (λ b. b ≡ is_plain_answered (plain_val chan.now) (plain_val message.now)) }
+{
+    match chan {
+        CoreVal::Prim(primitive) => {
+            let done = attempt_on_value(alloc, *primitive, message)?;
+            Ok(is_answer(&done))
+        }
+        _ => Ok(false),
+    }
+}
+
+fn is_truth_value(value: &CoreVal) -> bool
+    ensures { result ≡ is_plain_truth_value (plain_val value.now) }
+{
+    matches!(value, CoreVal::Bool(_))
+}
+
+// Whether the process reduces by itself and prints nothing.
+fn goes_alone(alloc: Global, process: &Core) -> Result<bool, AllocError>
+    ensures { IfOk result (λ b. b ≡ goes_plain_alone (plain_core process.now)) }
+{
+    match process {
+        Core::If { test, .. } => Ok(is_truth_value(test)),
+        Core::Out { chan, message, .. } => is_answered(alloc, chan, message),
+        _ => Ok(false),
+    }
+}
+
+// The number, among the ready ones, of the first that reduces by itself and prints nothing.
+fn first_alone(alloc: Global, entries: &[Held]) -> Result<Option<usize>, AllocError>
+    ensures { IfOk result (λ first. FirstReady goes_plain_alone (map plain_held entries.now) first) }
+{
+    let mut count = 0;
+    for entry in entries {
+        if entry.ready {
+            if goes_alone(alloc, &entry.process.core)? {
+                return Ok(Some(count));
+            }
+            count += 1;
+        }
+    }
+    Ok(None)
+}
+
+// The number, among the ready ones, of the first that acts silently, or else of the first that reduces by itself.
+fn first_quiet(alloc: Global, entries: &[Held]) -> Result<Option<usize>, AllocError>
+    ensures { IfOk result (λ first. FirstQuiet (map plain_held entries.now) first) }
+{
+    match first_silent(entries) {
+        Some(ready) => Ok(Some(ready)),
+        None => first_alone(alloc, entries),
+    }
+}
+
 impl State {
-    // One silent step, if there is any: whether there was one. Its choice is written behind the others.
+    // One silent step, or one of a process by itself, if there is any: whether there was one. Its choice is written behind the
+    // others.
     fn settle_once(&mut self, choices: &mut Vec<Choice>) -> Result<Once, AllocError>
         ensures { IfOk result (λ once. IsConfiguration (configuration_of self.old) → SettlesOnce once
             (map place_of choices.old.items) (configuration_of self.old) (map place_of choices.new.items) (configuration_of self.new)) }
     {
-        match first_silent(&self.entries) {
+        match first_quiet(self.alloc, &self.entries)? {
             None => Ok(Once::Still),
             Some(ready) => {
                 if !self.has_room() {
@@ -89,8 +156,9 @@ impl State {
         }
     }
 
-    /// All silent steps, one after the other, until none is left: their choices are written behind the others. The answer is
-    /// false where the numbers of channels or stamps are used up before. The only error is want of memory.
+    /// All silent steps, and all steps of one process by itself that print nothing, one after the other, until none is left:
+    /// their choices are written behind the others. The answer is false where the numbers of channels or stamps are used up
+    /// before. The only error is want of memory.
     pub fn settle(&mut self, choices: &mut Vec<Choice>) -> Result<bool, AllocError>
         ensures { IfOk result (λ done. IsConfiguration (configuration_of self.old) → IsTrue done → Settles
             (map place_of choices.old.items) (configuration_of self.old) (map place_of choices.new.items) (configuration_of self.new)) }
@@ -106,7 +174,7 @@ impl State {
     }
 }
 
-// What became of a silent step.
+// What became of such a step.
 #[derive(Clone, Copy)]
 enum Once {
     Still,

@@ -3,18 +3,18 @@ use Rattle.std.proofs.lemmas.List.{map-append}
 use Rattle.pict_shared.specs.declared.held.Held.{Held}
 use Rattle.pict_shared.specs.Plain.{plain_held}
 use Rattle.pict_orders.specs.Plain.{configuration_of, place_of}
-use Rattle.pict_orders.specs.Settling.{FirstSilent}
-use Rattle.pict_orders.proofs.Silently.{settled_by}
+use Rattle.pict_orders.specs.Settling.{FirstQuiet}
+use Rattle.pict_orders.proofs.Quietly.{settled_by}
 use Rattle.pict_orders.proofs.state.State.settle_once.Goals as goal
 
 pub returns-in_ok-push-in-Some : goal.returns-in_ok-push-in-Some
 returns-in_ok-push-in-Some c =
-    settled_by (configuration_of c.args.self.now) _ _ _ _ _ _ (subst (λ (l : List Held). FirstSilent (map plain_held l) c.first_silent.result) c.deref.ensures.value c.first_silent.ensures)
+    settled_by (configuration_of c.args.self.now) _ _ _ _ _ _ (subst (λ (l : List Held). FirstQuiet (map plain_held l) c.in_ok-first_quiet.field-0) c.deref.ensures.value c.in_ok-first_quiet.ensures)
     c.in-Some.is (ap (map place_of) c.in_ok-push-in-Some.ensures.items ∙ map-append place_of _ _) c.in_ok-step_at-in-Some.ensures
 
 pub returns-in-None : goal.returns-in-None
 returns-in-None c = λ is. (
   refl,
   refl,
-  subst (λ (l : List Held). FirstSilent (map plain_held l) None) c.deref.ensures.value (subst (FirstSilent (map plain_held c.deref.result.now)) c.in-None.is c.first_silent.ensures),
+  subst (λ (l : List Held). FirstQuiet (map plain_held l) None) c.deref.ensures.value (subst (FirstQuiet (map plain_held c.deref.result.now)) c.in-None.is c.in_ok-first_quiet.ensures),
 )
