@@ -7,9 +7,7 @@
 //! `channels [--bare] FILE` it does what `check` does, and writes what the channels of an accepted file's run are called.
 #![tactic(auto)]
 
-mod ending;
 mod mistakes;
-mod telling;
 
 ghost use Rattle.pict_core.specs.Plain.{plain_core};
 ghost use Rattle.pict_core.specs.Closed.{IsClosed};
@@ -17,16 +15,15 @@ ghost use Rattle.pict_view.specs.Right.{RunsRight};
 ghost use Rattle.pict_report.specs.Reports.{AreShort};
 
 use anyhow::Error;
-use ending::{told_at_end, told_channels};
 use mistakes::tell_mistakes;
 use pict_front::{Front, FrontError};
 use pict_outside::{FolderShelf, StreamSink};
 use pict_syntax::{Code, Sources};
+use pict_telling::{phases, shelf_of, told, told_at_end, told_channels, types};
 use pict_top::{Command, Options, Status, pict, words_of};
 use std::env;
 use std::io::Write;
 use std::process::ExitCode;
-use telling::{phases, shelf_of, told, types};
 
 /// What is told of a file whose words are done.
 #[derive(Clone, Copy, PartialEq, Eq, Debug)]

@@ -1,10 +1,10 @@
 // Texts with usual mistakes, and what is told of each.
 
-use crate::telling::{phases, told, types};
 use anyhow::Error;
 use pict_front::FrontError;
 use pict_outside::{Fetched, FolderShelf, Shelf, StreamSink};
 use pict_syntax::{Sources, TEXT_LIMIT};
+use pict_telling::{phases, told, types};
 use pict_top::{OneShelf, Status, pict};
 use std::io::Write;
 use std::str::from_utf8;

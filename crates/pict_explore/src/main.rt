@@ -9,11 +9,6 @@
 #![tactic(auto)]
 
 mod asked;
-mod graph;
-mod outcome;
-mod picture;
-mod telling;
-mod waiting;
 
 ghost use Rattle.pict_core.specs.Closed.{IsClosed};
 ghost use Rattle.pict_core.specs.Plain.{plain_core};
@@ -21,21 +16,18 @@ ghost use Rattle.pict_report.specs.Reports.{AreShort};
 
 use anyhow::Error;
 use asked::{Asked, Wanted, options_of};
-use graph::edges;
-use outcome::{Outcome, outcomes};
 use pict_core::Core;
 use pict_front::{Front, front};
 use pict_orders::{Exploration, Found, explore};
+use pict_outcomes::{Outcome, aut, dot, edges, outcomes, told};
 use pict_outside::{FolderShelf, StreamSink};
 use pict_report::prelude;
 use pict_syntax::{Names, Sources};
 use pict_top::{Status, pict};
 use pict_way::way;
-use picture::{aut, dot};
 use std::env;
 use std::io::Write;
 use std::process::ExitCode;
-use telling::told;
 
 /// Does what the words ask of `pict`.
 fn do_plainly(rt: &HostRuntime, words: &[&str]) -> Status {

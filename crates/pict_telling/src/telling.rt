@@ -14,9 +14,9 @@ use pict_hints::explanation;
 use pict_infer::Env;
 use pict_misfit::put_types;
 use pict_outside::{Entry, MemoryShelf, Shelf};
+use pict_report::prelude;
 use pict_scope::resolve;
 use pict_syntax::{Code, Dec, Names, Program, Sources, Span, TEXT_LIMIT};
-use pict_top::prelude;
 use std::alloc::{AllocError, Global};
 
 /// A shelf with copies of the texts that were read, each under its name.

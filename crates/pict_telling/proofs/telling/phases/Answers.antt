@@ -1,5 +1,5 @@
-use Rattle.pict_explain.proofs.Accepted.{accepted_short, accepted_right}
-use Rattle.pict_explain.proofs.telling.phases.Goals as goal
+use Rattle.pict_telling.proofs.Accepted.{accepted_short, accepted_right}
+use Rattle.pict_telling.proofs.telling.phases.Goals as goal
 
 pub returns-clause-short : goal.returns-clause-short
 returns-clause-short g c = accepted_short c.front.result _ c.prelude_unless.result _ _ c.prelude_unless.ensures.short c.front.ensures.answer
