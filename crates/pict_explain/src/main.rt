@@ -19,7 +19,7 @@ use mistakes::tell_mistakes;
 use pict_front::{Front, FrontError};
 use pict_outside::{FolderShelf, StreamSink};
 use pict_syntax::{Code, Sources};
-use pict_telling::{phases, shelf_of, told, told_at_end, told_channels, types};
+use pict_telling::{phases, shelf_of, told_at_end, told_channels, told_of_refusal};
 use pict_top::{Command, Options, Status, pict, words_of};
 use std::env;
 use std::io::Write;
@@ -102,9 +102,8 @@ fn do_file(
         Err(FrontError::Named(Code::B1, _)) => Ok(do_plainly(rt, words)),
         Err(FrontError::Named(code, place)) => {
             let status = do_with(rt, words, &sources)?;
-            let mut shelf = shelf_of(rt.alloc(), &sources)?;
-            let types = types(rt.alloc(), options.bare, options.file, &mut shelf)?;
-            let more = told(rt.alloc(), &sources, code, place, options.bare, &types)?;
+            let Options { bare, file, .. } = options;
+            let more = told_of_refusal(rt.alloc(), bare, file, &sources, code, place)?;
             rt.stderr().write_all(&more)?;
             Ok(status)
         }

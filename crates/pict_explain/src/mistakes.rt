@@ -4,7 +4,7 @@ use anyhow::Error;
 use pict_front::FrontError;
 use pict_outside::{Fetched, FolderShelf, Shelf, StreamSink};
 use pict_syntax::{Sources, TEXT_LIMIT};
-use pict_telling::{phases, told, types};
+use pict_telling::{phases, told_of_refusal};
 use pict_top::{OneShelf, Status, pict};
 use std::io::Write;
 use std::str::from_utf8;
@@ -39,8 +39,7 @@ fn tell_text(rt: &HostRuntime, name: &str, text: &[u8], bare: bool) -> Result<()
                 &mut shelf,
                 &mut sources,
             ) {
-                let types = types(rt.alloc(), bare, name, &mut shelf)?;
-                let more = told(rt.alloc(), &sources, code, place, bare, &types)?;
+                let more = told_of_refusal(rt.alloc(), bare, name, &sources, code, place)?;
                 rt.stdout().write_all(&more)?;
             }
         }

@@ -19,7 +19,7 @@ use asked::{Asked, Wanted, options_of};
 use pict_core::Core;
 use pict_front::{Front, front};
 use pict_orders::{Exploration, Found, explore};
-use pict_outcomes::{Outcome, aut, dot, edges, outcomes, told};
+use pict_outcomes::{aut, dot, edges, outcomes, told, vertex_of};
 use pict_outside::{FolderShelf, StreamSink};
 use pict_report::prelude;
 use pict_syntax::{Names, Sources};
@@ -43,21 +43,6 @@ fn report(rt: &HostRuntime, file: &str, bare: bool) -> Status {
         do_plainly(rt, &["check", "--bare", file])
     } else {
         do_plainly(rt, &["check", file])
-    }
-}
-
-/// The vertex of the outcome of this number, from 1 on.
-fn vertex_of<'a>(
-    exploration: &'a Exploration,
-    all: &[Outcome],
-    number: usize,
-) -> Option<&'a Found> {
-    if number == 0 {
-        return None;
-    }
-    match all.get(number - 1) {
-        None => None,
-        Some(outcome) => exploration.found.get(outcome.vertex),
     }
 }
 

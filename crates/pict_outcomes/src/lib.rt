@@ -8,6 +8,6 @@ mod telling;
 mod waiting;
 
 pub use graph::{Edge, edges};
-pub use outcome::{Outcome, outcomes};
+pub use outcome::{Outcome, outcomes, vertex_of};
 pub use picture::{aut, dot};
 pub use telling::told;

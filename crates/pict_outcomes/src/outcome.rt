@@ -134,3 +134,18 @@ pub fn outcomes(alloc: Global, exploration: &Exploration) -> Result<Vec<Outcome>
     }
     Ok(all)
 }
+
+/// The vertex of the outcome of this number, from 1 on, of these outcomes of an exploration; none where there is no such outcome.
+pub fn vertex_of<'a>(
+    exploration: &'a Exploration,
+    all: &[Outcome],
+    number: usize,
+) -> Option<&'a Found> {
+    if number == 0 {
+        return None;
+    }
+    match all.get(number - 1) {
+        None => None,
+        Some(outcome) => exploration.found.get(outcome.vertex),
+    }
+}

@@ -6,4 +6,4 @@ mod ending;
 mod telling;
 
 pub use ending::{told_at_end, told_channels};
-pub use telling::{phases, prelude_unless, shelf_of, told, types};
+pub use telling::{phases, prelude_unless, shelf_of, told_of_refusal};

@@ -5,7 +5,9 @@ ghost use Rattle.pict_syntax.specs.declared.limits.TheConstants.{TEXT_LIMIT};
 ghost use Rattle.pict_core.specs.Plain.{plain_core};
 ghost use Rattle.pict_core.specs.Closed.{IsClosed};
 ghost use Rattle.pict_view.specs.Right.{RunsRight};
+ghost use Rattle.pict_gather.specs.Entry.{lent};
 ghost use Rattle.pict_report.specs.Reports.{AreShort};
+ghost use Rattle.pict_telling.specs.Behind.{prelude_for};
 
 use pict_check::{TypeError, check_in};
 use pict_front::{Front, FrontError, front};
@@ -32,6 +34,7 @@ pub fn shelf_of(alloc: Global, sources: &Sources) -> Result<MemoryShelf, AllocEr
 
 /// The prelude, unless a text stands without it.
 pub fn prelude_unless(bare: bool) -> Option<&'static [u8]>
+    ensures is { lent result ≡ prelude_for bare }
     ensures short { IfSome result (λ bytes. length bytes.now ≤ TEXT_LIMIT) }
 {
     if bare { None } else { Some(prelude()) }
@@ -68,7 +71,7 @@ fn types_in(alloc: Global, names: Names, decs: Vec<Dec>) -> Result<Vec<u8>, Allo
 
 /// What is told of types where the typing rules refuse a file, behind the prelude unless it is `bare`; nothing where something else
 /// refuses it. The only error is want of memory.
-pub fn types<S: Shelf>(
+fn types<S: Shelf>(
     alloc: Global,
     bare: bool,
     file: &str,
@@ -83,7 +86,7 @@ pub fn types<S: Shelf>(
 
 /// What is told, below its report, of a refusal with this code at this place in one of these texts, and of its types. The only error
 /// is want of memory.
-pub fn told(
+fn told(
     alloc: Global,
     sources: &Sources,
     code: Code,
@@ -99,4 +102,22 @@ pub fn told(
         return Ok(Vec::new(alloc));
     }
     explanation(alloc, code, place, text, bare, types)
+}
+
+/// What is told, below its report, of the refusal of a file with this code at this place in one of these texts, those that were read;
+/// nothing where they are too long. The only error is want of memory.
+pub fn told_of_refusal(
+    alloc: Global,
+    bare: bool,
+    file: &str,
+    sources: &Sources,
+    code: Code,
+    place: Span,
+) -> Result<Vec<u8>, AllocError> {
+    if code == Code::B1 {
+        return Ok(Vec::new(alloc));
+    }
+    let mut shelf = shelf_of(alloc, sources)?;
+    let types = types(alloc, bare, file, &mut shelf)?;
+    told(alloc, sources, code, place, bare, &types)
 }
