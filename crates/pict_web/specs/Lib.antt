@@ -1,3 +1,6 @@
 pub mod Asked
 pub mod Delivered
+pub mod Told
 pub mod Stepped
+pub mod Ordered
+pub mod Reasoned

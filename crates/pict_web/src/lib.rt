@@ -1,6 +1,10 @@
-//! The command for a host that isn't Rattle: one call over texts and two buffers in memory; and the steps of a run.
+//! The command for a host that isn't Rattle: one call over texts and two buffers in memory; and what is told beside it: the steps of a
+//! run, the reasons of a refusal or of an end, and all orders.
 #![tactic(auto)]
 
+mod handing;
+mod orders;
+mod reasons;
 mod steps;
 #[cfg(test)]
 mod tests;
@@ -14,8 +18,10 @@ ghost use Rattle.pict_web.specs.Asked.{words_for, texts_cut};
 ghost use Rattle.pict_web.specs.Delivered.{IsDelivered, IsInBuffers, IsAnswered};
 
 use itoa::Buffer;
+pub use orders::pict_web_orders;
 use pict_outside::{Entry, MemoryShelf, MemorySink};
 use pict_top::{Status, pict};
+pub use reasons::pict_web_reasons;
 use std::alloc::{AllocError, Global};
 pub use steps::pict_web_steps;
 
@@ -43,12 +49,12 @@ struct Ended {
     reported: MemorySink,
 }
 
-/// Runs (0), traces (1), checks (2), picks (3), writes what is picked (4) or lists the code of (any other `command`) the text
-/// `main.pi`, as the command of that word does with a file of this name, and answers the number of the status. `texts` has the
-/// names and the texts that there are, one name and one text behind the other, and `cuts` how long each is; the first of a name
+/// Runs (0), traces (1), checks (2), picks (3), writes what is picked (4), runs on sites (5) or lists the code of (any other `command`)
+/// the text `main.pi`, as the command of that word does with a file of this name, and answers the number of the status. `texts` has
+/// the names and the texts that there are, one name and one text behind the other, and `cuts` how long each is; the first of a name
 /// counts. What is written on the output goes to the beginning of `out`, what is reported to that of `err`. `fuel` counts where
-/// the command runs the text, and `seed` where it picks. Where the output has more bytes than `out`, the status is that of a sink
-/// that failed, and `out` has a beginning of them.
+/// the command runs the text, `seed` where it picks or runs on sites, and `sites` where it runs on as many. Where the output has more
+/// bytes than `out`, the status is that of a sink that failed, and `out` has a beginning of them.
 #[tactic(auto, using(crate::proofs::Delivering::answered))]
 #[unsafe(no_mangle)]
 pub extern "C" fn pict_web_call(
@@ -57,6 +63,7 @@ pub extern "C" fn pict_web_call(
     bare: bool,
     fuel: u64,
     seed: u64,
+    sites: u64,
     texts: &[u8],
     cuts: &[Cut],
     out: &mut [u8],
@@ -67,11 +74,11 @@ pub extern "C" fn pict_web_call(
     ensures err_length { length err.new ≡ length err.old }
     ensures printed_fits { lengths.new.printed ≤ length out.new }
     ensures reported_fits { lengths.new.reported ≤ length err.new }
-    ensures answered { IsAnswered (words_for command bare (decimal fuel) (decimal seed)) (held_texts (texts_cut cuts.now texts.now)) result
-        out.new lengths.new.printed err.new lengths.new.reported }
+    ensures answered { IsAnswered (words_for command bare (decimal fuel) (decimal seed) (decimal sites)) (held_texts (texts_cut cuts.now texts.now))
+        result out.new lengths.new.printed err.new lengths.new.reported }
 {
     match call(
-        alloc, command, bare, fuel, seed, texts, cuts, out, err, lengths,
+        alloc, command, bare, fuel, seed, sites, texts, cuts, out, err, lengths,
     ) {
         Ok(status) => status.number(),
         Err(AllocError) => {
@@ -92,6 +99,7 @@ fn call(
     bare: bool,
     fuel: u64,
     seed: u64,
+    sites: u64,
     texts: &[u8],
     cuts: &[Cut],
     out: &mut [u8],
@@ -102,8 +110,8 @@ fn call(
     ensures err_length { length err.new ≡ length err.old }
     ensures printed_fits { IfOk result (λ _. lengths.new.printed ≤ length out.new) }
     ensures reported_fits { IfOk result (λ _. lengths.new.reported ≤ length err.new) }
-    ensures answered { IfOk result (λ status. IsInBuffers (words_for command bare (decimal fuel) (decimal seed)) (held_texts (texts_cut cuts.now texts.now)) status
-        out.new lengths.new.printed err.new lengths.new.reported) }
+    ensures answered { IfOk result (λ status. IsInBuffers (words_for command bare (decimal fuel) (decimal seed) (decimal sites))
+        (held_texts (texts_cut cuts.now texts.now)) status out.new lengths.new.printed err.new lengths.new.reported) }
 {
     let room = out.len() as u64;
     let report_room = err.len() as u64;
@@ -113,6 +121,7 @@ fn call(
         bare,
         fuel,
         seed,
+        sites,
         texts,
         cuts,
         room,
@@ -139,31 +148,35 @@ fn asked(
     bare: bool,
     fuel: u64,
     seed: u64,
+    sites: u64,
     texts: &[u8],
     cuts: &[Cut],
     room: u64,
     report_room: u64,
 ) -> Result<Ended, AllocError>
-    ensures { IfOk result (λ ended. IsDelivered (words_for command bare (decimal fuel) (decimal seed)) (held_texts (texts_cut cuts.now texts.now))
-        ended.status ended.printed.taken ended.reported.taken) }
+    ensures { IfOk result (λ ended. IsDelivered (words_for command bare (decimal fuel) (decimal seed) (decimal sites))
+        (held_texts (texts_cut cuts.now texts.now)) ended.status ended.printed.taken ended.reported.taken) }
 {
     let mut digits = Buffer::new();
     let mut seed_digits = Buffer::new();
+    let mut site_digits = Buffer::new();
     let fuel = digits.format(fuel);
-    let words = words_of(alloc, command, bare, fuel, seed_digits.format(seed))?;
+    let seed = seed_digits.format(seed);
+    let words = words_of(alloc, command, bare, fuel, seed, site_digits.format(sites))?;
     let entries = entries_of(alloc, texts, cuts)?;
     over(alloc, &words, entries, room, report_room)
 }
 
-/// The words of the command, with this number of steps and this seed.
+/// The words of the command, with this number of steps, this seed and this number of sites.
 fn words_of<'a>(
     alloc: Global,
     command: u8,
     bare: bool,
     fuel: &'a str,
     seed: &'a str,
+    sites: &'a str,
 ) -> Result<Vec<&'a str>, AllocError>
-    ensures { IfOk result (λ words. texts_of words.items ≡ words_for command bare fuel.now seed.now) }
+    ensures { IfOk result (λ words. texts_of words.items ≡ words_for command bare fuel.now seed.now sites.now) }
 {
     match (command, bare) {
         (0, true) => Ok(vec![in alloc; "run", "--bare", "--fuel", fuel, "main.pi"]?),
@@ -176,6 +189,8 @@ fn words_of<'a>(
         (3, false) => Ok(vec![in alloc; "pick", "--fuel", fuel, seed, "main.pi"]?),
         (4, true) => Ok(vec![in alloc; "picked", "--bare", "--fuel", fuel, seed, "main.pi"]?),
         (4, false) => Ok(vec![in alloc; "picked", "--fuel", fuel, seed, "main.pi"]?),
+        (5, true) => Ok(vec![in alloc; "sites", "--bare", "--fuel", fuel, sites, seed, "main.pi"]?),
+        (5, false) => Ok(vec![in alloc; "sites", "--fuel", fuel, sites, seed, "main.pi"]?),
         (_, true) => Ok(vec![in alloc; "code", "--bare", "main.pi"]?),
         (_, false) => Ok(vec![in alloc; "code", "main.pi"]?),
     }

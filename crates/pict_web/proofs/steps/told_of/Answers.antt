@@ -1,12 +1,13 @@
-use Rattle.std.proofs.Common.{[], ap, sym, subst}
+use Rattle.std.proofs.Common.{ap, sym, subst}
 use Rattle.pict_outside.specs.Entries.{pairs_of}
 use Rattle.pict_outside.specs.Texts.{texts_of}
 use Rattle.pict_gather.specs.Phases.{accepts}
 use Rattle.pict_front.specs.Answers.{plain_front}
 use Rattle.pict_top.proofs.Right.{accepted_runs_right}
 use Rattle.pict_top.proofs.Short.{front_short}
-use Rattle.pict_web.specs.Stepped.{Says}
-use Rattle.pict_web.proofs.Stepping.{refused_says, accepted_says}
+use Rattle.pict_web.specs.Told.{SaysNothing}
+use Rattle.pict_web.specs.Stepped.{steps_of}
+use Rattle.pict_web.proofs.Telling.{refused_says, accepted_says}
 use Rattle.pict_web.proofs.steps.told_of.Goals as goal
 
 pub steps_of-requires-clause-right : goal.steps_of-requires-clause-right
@@ -19,11 +20,11 @@ steps_of-requires-clause-short c =
 
 pub returns-in-Err : goal.returns-in-Err
 returns-in-Err c =
-    subst (λ s. Says c.args.bare (texts_of (pairs_of c.args.entries.items)) s []) (sym c.status_of.ensures)
+    subst (SaysNothing c.args.bare (texts_of (pairs_of c.args.entries.items))) (sym c.status_of.ensures)
     (refused_says c.args.bare c.new-shelf.result.pairs (pairs_of c.args.entries.items) _ c.in-Err.error _
     (ap (λ s. s.pairs) c.new-shelf.ensures) c.prelude_unless-prelude.ensures.is c.in-Err.ensures.answer)
 
 pub returns : goal.returns
 returns c =
-    accepted_says c.args.bare c.new-shelf.result.pairs (pairs_of c.args.entries.items) _ (record { sources = _; front = plain_front c.in-Ok.front }) _
+    accepted_says steps_of c.args.bare c.new-shelf.result.pairs (pairs_of c.args.entries.items) _ (record { sources = _; front = plain_front c.in-Ok.front }) _
     (ap (λ s. s.pairs) c.new-shelf.ensures) c.prelude_unless-prelude.ensures.is c.in-Ok.ensures.answer c.steps_of.ensures
