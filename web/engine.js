@@ -1,8 +1,8 @@
 // The program's code behind one function, in a worker or in Node.
 'use strict';
 (function (pict) {
-  pict.COMMANDS = ['run', 'trace', 'check', 'pick', 'picked', 'code'];
-  const OUT = 4 << 20, ERR = 4096, MEMORY = 7, SPENT = 3;
+  pict.COMMANDS = ['run', 'trace', 'check', 'pick', 'picked', 'sites', 'code'];
+  const OUT = 4 << 20, ERR = 4096, MEMORY = 7, SPENT = 3, CONFIGURATIONS = 20000;
   const NOTHING = { status: MEMORY, out: new Uint8Array(), err: new Uint8Array() };
 
   // A call takes a fresh memory, so that no call sees what another left. Addresses and lengths are numbers of 64 bits.
@@ -29,30 +29,39 @@
   };
 
   // The status of a job's command over its text and its modules, what it prints and what it reports.
-  pict.call = async function (module, { command, bare, fuel, seed = 0, text, modules = {} }) {
+  pict.call = async function (module, { command, bare, fuel, seed = 0, sites = 1, text, modules = {} }) {
     const memory = await opened(module), [bytes, sizes] = pict.joined(text, modules);
     const rooms = [bytes.length, 8 * sizes.length, OUT, ERR, 16].map(memory.room), [at, cuts, out, err, lengths] = rooms;
     if (rooms.includes(0n)) return NOTHING;
     memory.put(at, bytes);
     memory.putNumbers(cuts, sizes);
-    const status = memory.code.pict_web_call(pict.COMMANDS.indexOf(command), bare ? 1 : 0, BigInt(fuel), BigInt(seed),
+    const status = memory.code.pict_web_call(pict.COMMANDS.indexOf(command), bare ? 1 : 0, BigInt(fuel), BigInt(seed), BigInt(sites),
       at, BigInt(bytes.length), cuts, BigInt(sizes.length / 2), out, BigInt(OUT), err, BigInt(ERR), lengths);
     const [printed, reported] = memory.numbers(lengths);
     return { status: status & 255, out: memory.bytes(out, printed), err: memory.bytes(err, reported) };
   };
 
-  // Whether the module tells the steps of a run.
-  pict.tells = module => WebAssembly.Module.exports(module).some(it => it.name === 'pict_web_steps');
+  // What is told of a program beside what the command answers, by names: the module's call, and what it takes before the texts.
+  const flag = is => is ? 1 : 0;
+  const orders = what => ({ bare, most = CONFIGURATIONS, outcome = 0 }) =>
+    ['pict_web_orders', what, flag(bare), BigInt(most), BigInt(outcome)];
+  const TOLD = {
+    steps: ({ bare }) => ['pict_web_steps', flag(bare)], reasons: ({ bare }) => ['pict_web_reasons', flag(bare)],
+    outcomes: orders(0), way: orders(1), graph: orders(2),
+  };
 
-  // The lines of the first steps of a run of a job's text; status 1 where that is refused.
-  pict.steps = async function (module, { bare, text, modules = {} }) {
-    const memory = await opened(module), [bytes, sizes] = pict.joined(text, modules);
+  // Whether the module has the call that tells this.
+  pict.tells = (module, name) => WebAssembly.Module.exports(module).some(it => it.name === TOLD[name]({})[0]);
+
+  // What is told of a job's text; status 1 where that is refused.
+  pict.tell = async function (module, job) {
+    const memory = await opened(module), [bytes, sizes] = pict.joined(job.text, job.modules || {});
     const rooms = [bytes.length, 8 * sizes.length, OUT, 16].map(memory.room), [at, cuts, out, lengths] = rooms;
     if (rooms.includes(0n)) return NOTHING;
     memory.put(at, bytes);
     memory.putNumbers(cuts, sizes);
-    const status = memory.code.pict_web_steps(bare ? 1 : 0, at, BigInt(bytes.length), cuts, BigInt(sizes.length / 2),
-      out, BigInt(OUT), lengths);
+    const [call, ...first] = TOLD[job.command](job);
+    const status = memory.code[call](...first, at, BigInt(bytes.length), cuts, BigInt(sizes.length / 2), out, BigInt(OUT), lengths);
     return { status: status & 255, out: memory.bytes(out, memory.numbers(lengths)[0]), err: new Uint8Array() };
   };
 
@@ -68,11 +77,11 @@
   // answer of the program.
   pict.work = async function (module, job, answer) {
     try {
-      if (job.command === 'steps') {
-        answer({ ...await pict.steps(module, job), last: true });
+      if (job.command in TOLD) {
+        answer({ ...await pict.tell(module, job), last: true });
         return;
       }
-      const prints = job.command === 'run' || job.command === 'pick', fuels = prints ? pict.fuels(job.fuel) : [BigInt(job.fuel)];
+      const prints = ['run', 'pick', 'sites'].includes(job.command), fuels = prints ? pict.fuels(job.fuel) : [BigInt(job.fuel)];
       for (const fuel of fuels) {
         const said = await pict.call(module, { ...job, fuel });
         const last = said.status !== SPENT || fuel === fuels[fuels.length - 1];

@@ -1,8 +1,10 @@
 // The page: what its buttons, tabs and keys do.
 'use strict';
 (function (pict) {
-  const GREATEST = 1000000000, DEFAULT = '1000000', REFUSED = 1, SPENT = 3, SEEDS = 18446744073709551616n;
-  const VIEWS = ['run', 'steps', 'chart', 'trace', 'code', 'forms'];
+  const GREATEST = 1000000000, DEFAULT = '1000000', REFUSED = 1, SPENT = 3, SEEDS = 18446744073709551616n, SITES = 64;
+  const VIEWS = ['run', 'steps', 'chart', 'orders', 'trace', 'code', 'forms'];
+  // What a view asks for, where that isn't its name.
+  const ASKS = { chart: 'trace', orders: 'outcomes' };
   const ENDS = [
     'Done.', 'Refused.', 'The words have no listed shape.', 'The steps are spent; something is ready still.',
     'A division by zero.', 'A fault of reading.', 'What is written is longer than this page takes; its beginning is shown.',
@@ -29,8 +31,21 @@
     const text = $('seed').value.trim();
     return text === '' || (/^(0|[1-9][0-9]{0,19})$/.test(text) && BigInt(text) < SEEDS) ? text : null;
   };
-  // A command, or the one that does the same in the order that is chosen.
-  const ordered = command => seed() ? { run: 'pick', trace: 'picked' }[command] || command : command;
+  // The number of sites, '' for a run without, or null where it is no such number.
+  const sites = () => {
+    const text = $('sites').value.trim();
+    return text === '' || (/^[1-9][0-9]?$/.test(text) && Number(text) <= SITES) ? text : null;
+  };
+  // A command, or the one that does the same on sites or in the order that is chosen.
+  const ordered = command => {
+    if (sites() && command === 'run') return 'sites';
+    return seed() ? { run: 'pick', trace: 'picked' }[command] || command : command;
+  };
+  // What is told of a view that knows no other order than the oldest first.
+  const oldest = command => {
+    const other = sites() && command !== 'run' ? 'on sites' : seed() && command === 'steps' ? 'in this order' : '';
+    return other && ['steps', 'trace'].includes(command) ? ` This isn\u2019t the run ${other}.` : '';
+  };
 
   // ---- the program
 
@@ -51,16 +66,10 @@
 
   const stop = () => cancel() && say('Stopped.');
 
-  // Has the worker do a command, and hands each of its answers on.
-  function ask(command, then) {
-    cancel();
-    const steps = fuel(), order = seed();
-    if (steps === null) { say(`Steps: a number from 0 to ${GREATEST}.`); $('fuel').focus(); return; }
-    if (order === null) { say(`Order: nothing, or a number from 0 to ${SEEDS - 1n}.`); $('seed').focus(); return; }
-    if (!module) { say(without); return; }
+  // Has the worker do a job with the present text, and hands each of its answers on.
+  function work(job, then) {
     worker = worker || pict.startWorker(module);
     working(true);
-    say('It runs; Escape stops it.');
     const fails = why => { cancel(); worker = null; working(false); say('The engine failed: ' + why); };
     worker.onerror = event => { event.preventDefault(); fails(event.message); };
     worker.onmessage = ({ data }) => {
@@ -68,21 +77,55 @@
       if (data.last) working(false);
       then(data);
     };
-    const job = { command: ordered(command), bare: bare(), fuel: steps, seed: order || '0' };
-    worker.postMessage({ ...job, text: pict.editor.bytes, modules: pict.MODULES });
+    worker.postMessage({ ...job, bare: bare(), text: pict.editor.bytes, modules: pict.MODULES });
   }
 
-  // What a command of a view comes to, shown as it comes.
+  // Has a command done by the settings.
+  function ask(command, then) {
+    cancel();
+    const fields = { fuel: fuel(), seed: seed(), sites: sites() }, wrong = Object.keys(fields).find(key => fields[key] === null);
+    const wanted = { fuel: `Steps: a number from 0 to ${GREATEST}.`, seed: `Order: nothing, or a number from 0 to ${SEEDS - 1n}.`,
+      sites: `Sites: nothing, or a number from 1 to ${SITES}.` };
+    if (wrong) { say(wanted[wrong]); $(wrong).focus(); return; }
+    if (!module) { say(without); return; }
+    say('It runs; Escape stops it.');
+    work({ command: ordered(command), fuel: fields.fuel, seed: fields.seed || '0', sites: fields.sites || '1' }, then);
+  }
+
+  // What a command of a view comes to, shown as it comes; and then, where that is told, why.
   function begin(command) {
-    const begun = performance.now(), oldest = command === 'steps' && seed() ? ' These are the steps of the oldest first.' : '';
+    const begun = performance.now(), more = oldest(command);
     ask(command, said => {
-      const took = `${Math.round(performance.now() - begun)} ms.`;
-      if (command === 'steps' && said.status === REFUSED) { begin('check'); return; }
+      const took = `${Math.round(performance.now() - begun)} ms.`, refused = said.status === REFUSED;
+      if (refused && ['steps', 'outcomes'].includes(command)) { begin('check'); return; }
       if (said.last) answers.set(command, said);
       report(said.status === SPENT ? '' : textOf(said.err));
       if (command === 'check' && said.status === 0) say(`Accepted. ${took}`);
-      else say(said.last ? `${ENDS[said.status] || 'It failed.'} ${took}${oldest}` : `It runs; so far up to ${said.fuel} steps.`);
+      else say(said.last ? `${ENDS[said.status] || 'It failed.'} ${took}${more}` : `It runs; so far up to ${said.fuel} steps.`);
       if (command !== 'check') draw(said);
+      if (said.last && (refused || (command === 'run' && said.status === 0 && !seed() && !sites()))) reasons();
+    });
+  }
+
+  // Shows why the program is refused, or who waits at the end of its run.
+  function reasons() {
+    const shown = said => {
+      if (said.status === REFUSED) explain(textOf(said.out));
+      else if (view === 'run' && answers.has('run')) draw(answers.get('run'));
+    };
+    const known = answers.get('reasons');
+    if (known) shown(known);
+    else if (pict.tells(module, 'reasons')) work({ command: 'reasons' }, said => { answers.set('reasons', said); shown(said); });
+  }
+
+  // Asks for what else is told of all orders, and shows it.
+  function further(what, outcome) {
+    cancel();
+    work({ command: what, outcome: outcome || 0 }, said => {
+      if (view !== 'orders') return;
+      if (said.status !== 0) say(ENDS[said.status]);
+      else if (what === 'way') pict.orders.way(said, outcome);
+      else pict.orders.graph(said);
     });
   }
 
@@ -107,6 +150,13 @@
     pict.editor.reveal(place.line);
   }
 
+  // Shows, in the place of the line, what is told of a refusal: the line with a caret, what could stand there, and what may be meant.
+  function explain(told) {
+    if (told === '') return;
+    $('caret').hidden = false;
+    $('caret').textContent = told;
+  }
+
   // A line, of which a part is shown where it is long, with a caret below.
   function caret(line, at) {
     const from = Math.max(0, at - 60);
@@ -116,9 +166,11 @@
   // ---- the views
 
   function draw(said) {
+    const why = answers.get('reasons'), ended = view === 'run' && said.last && said.status === 0 && why && why.status === 0;
     if (view === 'steps') pict.stepper.show(textOf(said.out));
     else if (view === 'chart') pict.views.chart(said, toStep);
-    else pict.views.text(said, view);
+    else if (view === 'orders' && said.status === 0) pict.orders.show(textOf(said.out), further);
+    else pict.views.text(said, view, ended && !seed() && !sites() ? textOf(why.out) : '');
   }
 
   // Shows a step, if the module tells them.
@@ -140,7 +192,7 @@
     $('panel').replaceChildren();
     pict.editor.paint(faults);
     if (name === 'forms') { pict.views.forms(text => load({ text, bare: true })); return; }
-    const command = name === 'chart' ? 'trace' : name, known = answers.get(command);
+    const command = ASKS[name] || name, known = answers.get(command);
     if (known) draw(known); else begin(command);
   }
 
@@ -168,11 +220,12 @@
     $('prelude').checked = !program.bare;
     $('fuel').value = program.fuel || DEFAULT;
     $('seed').value = program.seed || '';
+    $('sites').value = program.sites || '';
     changed();
   }
 
   async function share() {
-    const settings = { bare: bare(), fuel: fuel() || DEFAULT, seed: seed() || '' };
+    const settings = { bare: bare(), fuel: fuel() || DEFAULT, seed: seed() || '', sites: sites() || '' };
     const fragment = await pict.toFragment({ text: pict.editor.text, ...settings });
     history.replaceState(null, '', fragment);
     try {
@@ -252,9 +305,7 @@
     on('stop', 'click', stop);
     on('share', 'click', share);
     on('theme', 'click', theme);
-    on('prelude', 'change', changed);
-    on('fuel', 'change', changed);
-    on('seed', 'change', changed);
+    for (const id of ['prelude', 'fuel', 'seed', 'sites']) on(id, 'change', changed);
     on('goto', 'click', () => place && pict.editor.goTo(place.line, place.column));
     on('about-link', 'click', about);
     for (const key of VIEWS) on('tab-' + key, 'click', () => show(key));
@@ -268,7 +319,8 @@
     if (!(await fromAddress())) load(programs.get('hello.pi'));
     try {
       module = await pict.loadModule();
-      $('tab-steps').hidden = !pict.tells(module);
+      $('tab-steps').hidden = !pict.tells(module, 'steps');
+      $('tab-orders').hidden = !pict.tells(module, 'outcomes');
       say('Ready. Ctrl+Enter runs the program.');
       // (how long that took since the page was asked for)
       document.body.dataset.ready = Math.ceil(performance.now());

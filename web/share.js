@@ -1,6 +1,6 @@
 // A program and its settings as the fragment of an address, which isn't sent to any server: #1.SETTINGS.FUEL.TEXT. SETTINGS are
-// letters (p: behind the prelude, z: TEXT is deflated) and then the number that chooses an order, if one does, and TEXT is base64
-// with - and _ and without =.
+// letters (p: behind the prelude, z: TEXT is deflated), then the number that chooses an order, if one does, and then s and the number
+// of sites, if it runs on some; TEXT is base64 with - and _ and without =.
 'use strict';
 (function (pict) {
   const LONGEST = 1048576;
@@ -27,21 +27,22 @@
     return Uint8Array.from(atob(text.replace(/-/g, '+').replace(/_/g, '/')), it => it.charCodeAt(0));
   };
 
-  pict.toFragment = async function ({ text, bare, fuel, seed = '' }) {
+  pict.toFragment = async function ({ text, bare, fuel, seed = '', sites = '' }) {
     const bytes = new TextEncoder().encode(text);
     const packed = typeof CompressionStream === 'function' ? await through(bytes, new CompressionStream('deflate-raw')) : null;
-    return `#1.${bare ? '' : 'p'}${packed ? 'z' : ''}${seed}.${fuel}.${pict.toBase64(packed || bytes)}`;
+    return `#1.${bare ? '' : 'p'}${packed ? 'z' : ''}${seed}${sites && 's' + sites}.${fuel}.${pict.toBase64(packed || bytes)}`;
   };
 
   // The program of a fragment, or null. Nothing is run before somebody asks for it.
   pict.fromFragment = async function (fragment) {
-    const found = /^#1\.(p?)(z?)((?:0|[1-9][0-9]{0,19})?)\.(0|[1-9][0-9]{0,9})\.([A-Za-z0-9_-]*)$/.exec(fragment);
+    const found = /^#1\.(p?)(z?)((?:0|[1-9][0-9]{0,19})?)(?:s([1-9][0-9]?))?\.(0|[1-9][0-9]{0,9})\.([A-Za-z0-9_-]*)$/.exec(fragment);
     if (!found) return null;
     try {
-      const packed = pict.fromBase64(found[5]);
+      const packed = pict.fromBase64(found[6]);
       const bytes = found[2] ? await through(packed, new DecompressionStream('deflate-raw')) : packed;
       if (!bytes || bytes.length > LONGEST) return null;
-      return { text: new TextDecoder('utf-8', { fatal: true }).decode(bytes), bare: !found[1], fuel: found[4], seed: found[3] };
+      const decoded = new TextDecoder('utf-8', { fatal: true }).decode(bytes);
+      return { text: decoded, bare: !found[1], fuel: found[5], seed: found[3], sites: found[4] || '' };
     } catch {
       return null;
     }

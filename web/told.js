@@ -1,4 +1,4 @@
-// The steps of a run, read from the lines that the program tells, and who is there after each of them.
+// What the program tells as lines, read: the steps of a run, with who is there after each of them, and all orders.
 'use strict';
 (function (pict) {
   // { first, steps: [{ number, actor, rule, partner, shown, come }], end }; `first` and `come` are entries
@@ -51,6 +51,35 @@
   pict.placeOf = function (place) {
     const found = /^(?:\.\.)?([0-9]+):([0-9]+)$/.exec(place || '');
     return found ? { line: Number(found[1]), column: Number(found[2]) } : null;
+  };
+
+  // What is told of all orders: { head, outcomes: [{ number, prints, lines }], note }. The first line counts configurations, and
+  // each outcome begins with its number.
+  pict.readOutcomes = function (text) {
+    const [head, ...lines] = text.split('\n'), outcomes = [], notes = [];
+    for (const line of lines) {
+      const first = /^([1-9][0-9]*)\. (.*)$/.exec(line);
+      if (first) outcomes.push({ number: Number(first[1]), prints: first[2], lines: [] });
+      else if (/^ /.test(line) && outcomes.length > 0) outcomes[outcomes.length - 1].lines.push(line.replace(/^   /, ''));
+      else if (line !== '') notes.push(line);
+    }
+    return { head, outcomes, note: notes.join(' ') };
+  };
+
+  // How many configurations the first line counts.
+  pict.configurationsIn = head => Number(/^[0-9]*/.exec(head)[0]);
+
+  // The graph of configurations from its text for Graphviz: { count, ends, edges: [{ from, to, label }] }. Its vertices are the
+  // numbers below `count`, of which 0 is the first.
+  pict.readGraph = function (text) {
+    const edges = [], ends = new Set();
+    for (const line of text.split('\n')) {
+      const end = /^([0-9]+) \[shape=doublecircle\]$/.exec(line), edge = /^([0-9]+) -> ([0-9]+) \[label="(.*)"\]$/.exec(line);
+      if (end) ends.add(Number(end[1]));
+      if (edge) edges.push({ from: Number(edge[1]), to: Number(edge[2]), label: edge[3].replace(/\\(.)/g, '$1') });
+    }
+    const count = Math.max(0, ...ends, ...edges.flatMap(it => [it.from, it.to])) + 1;
+    return { count, ends, edges };
   };
 
   // What each row of the table of steps does.

@@ -4,6 +4,7 @@
   const SHOWN = 200000, ROWS = 200;
   const NOTHING = {
     run: 'Nothing is printed.', trace: 'No message is received, and nothing is printed.', code: 'There is no listing.',
+    orders: 'Nothing is told.',
   };
   const $ = id => document.getElementById(id);
   const textOf = bytes => new TextDecoder().decode(bytes);
@@ -19,10 +20,11 @@
   const panel = (...inside) => $('panel').replaceChildren(...inside);
   const note = text => make('p', { className: 'note', textContent: text });
 
-  // Bytes as text: what is printed, a trace or a listing.
-  views.text = function (said, name) {
+  // Bytes as text: what is printed, a trace or a listing. `reasons` say who waits at the end.
+  views.text = function (said, name, reasons = '') {
     const notes = said.out.length > SHOWN ? [note(`${said.out.length} bytes, of which the first ${SHOWN} are shown.`)] : [];
     if (said.out.length === 0 && said.last) notes.push(note(NOTHING[name]));
+    if (reasons) notes.push(make('section', { className: 'reasons', says: 'Who waits' }, make('pre', { textContent: reasons })));
     panel(make('pre', { textContent: textOf(said.out.subarray(0, SHOWN)), className: name === 'run' ? '' : 'code' }), ...notes);
   };
 
@@ -32,13 +34,13 @@
     return make('a', { textContent: 'Save as SVG', download: 'run.svg', href });
   }
 
-  // A trace as a chart, so many rows at a time. `go` is called with the number of a step whose row is chosen.
-  views.chart = function (said, go, from = 0) {
+  // A trace as a chart, so many rows at a time. `go`, if there is one, is called with the number of a step whose row is chosen.
+  views.chart = function (said, go, from = 0, into = $('panel')) {
     const events = pict.readTrace(pict.traceIn(textOf(said.out)).replace(/[^\n]*$/, ''));
-    if (!events || events.length === 0) { panel(note(NOTHING.trace)); return; }
+    if (!events || events.length === 0) { into.replaceChildren(note(NOTHING.trace)); return; }
     const shown = events.slice(from, from + ROWS), width = Math.max(300, $('panel').clientWidth - 4);
     const turn = (textContent, to, disabled) =>
-      make('button', { textContent, disabled, onclick: () => views.chart(said, go, to) });
+      make('button', { textContent, disabled, onclick: () => views.chart(said, go, to, into) });
     const parts = events.length <= ROWS ? [] : [
       turn('Earlier', from - ROWS, from === 0), turn('Later', from + ROWS, from + ROWS >= events.length),
       make('span', { className: 'note', textContent: `Lines ${from + 1} to ${from + shown.length} of ${events.length}` }),
@@ -48,12 +50,12 @@
       onclick: event => chosen(event, go),
     });
     const legend = make('ul', { className: 'legend', innerHTML: pict.LEGEND });
-    panel(legend, make('div', { className: 'bar' }, ...parts, saved(shown)), box);
+    into.replaceChildren(legend, make('div', { className: 'bar' }, ...parts, saved(shown)), box);
   };
 
   function chosen(event, go) {
     const row = event.target.closest('.event');
-    if (row) go(Number(row.dataset.step));
+    if (row && go) go(Number(row.dataset.step));
   }
 
   // The forms of the language. `load` puts an example into the editor.
