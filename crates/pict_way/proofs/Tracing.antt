@@ -13,7 +13,7 @@ use Rattle.pict_trace.specs.Lines.{line_text, lines_text}
 use Rattle.pict_replay.specs.Replayed.{Line}
 use Rattle.pict_orders.specs.Plain.{place_of}
 use Rattle.pict_orders.specs.declared.choice.Choice.{Choice}
-use Rattle.pict_orders.proofs.Silently.{place_keeps}
+use Rattle.pict_orders.proofs.Quietly.{place_keeps}
 use Rattle.pict_way.specs.Tracing.{IsTracedStep, IsTraced}
 use Rattle.pict_way.proofs.Writing.{before, place_more}
 
