@@ -1,4 +1,4 @@
-// Programs and their objects.
+// Programs, their objects, and their runs on sites.
 
 use anyhow::Error;
 use pict_outside::{Entry, MemoryShelf, MemorySink, Shelf};
@@ -57,4 +57,32 @@ pub fn is_alike<S: Shelf>(
             && executed.out.taken() == ran.out.taken()
             && executed.err.taken() == ran.err.taken(),
     )
+}
+
+/// Whether two commands come to the same status, and the same is printed and reported.
+pub fn is_same<S: Shelf>(
+    alloc: Global,
+    shelf: &mut S,
+    words: &[&str],
+    others: &[&str],
+) -> Result<bool, Error> {
+    let one = answer(alloc, words, shelf)?;
+    let other = answer(alloc, others, shelf)?;
+    Ok(
+        one.status == other.status
+            && one.out.taken() == other.out.taken()
+            && one.err.taken() == other.err.taken(),
+    )
+}
+
+/// Whether a command ends as a run does of which no step is wrong: nothing is possible any more, the fuel is spent, or a step
+/// divides by zero.
+pub fn is_right<S: Shelf>(alloc: Global, shelf: &mut S, words: &[&str]) -> Result<bool, Error> {
+    let ran = answer(alloc, words, shelf)?;
+    Ok(match ran.status {
+        Status::Done => true,
+        Status::FuelSpent => true,
+        Status::Trap => true,
+        _ => false,
+    })
 }

@@ -1,10 +1,11 @@
 //! Runs each example of the folder `examples`, and writes its name, what it prints, what is reported and the number of its
-//! status. Then builds the object of each, runs that, and writes how many come to what their programs come to.
+//! status. Then builds the object of each, runs that, and writes how many come to what their programs come to; and runs each on
+//! one site, and on several, and writes how many come to the same there, and how many to an end that a run may have.
 #![tactic(auto)]
 
 mod alike;
 
-use alike::is_alike;
+use alike::{is_alike, is_right, is_same};
 use anyhow::Error;
 use pict_outside::{FolderShelf, StreamSink};
 use pict_top::pict;
@@ -59,6 +60,12 @@ const WITH_PRELUDE: [&str; 6] = [
 /// The example that runs without end.
 const WITHOUT_END: &str = "forever.pi";
 
+/// How many sites an example is run on, beside one.
+const SITES: [&str; 3] = ["2", "5", "64"];
+
+/// The seed by which the events of sites are chosen.
+const SEED: &str = "42";
+
 /// The fuel of an example that ends.
 const MUCH: &str = "100000";
 
@@ -91,24 +98,71 @@ fn compare(rt: &HostRuntime) -> Result<(), Error> {
             &["build", "--bare", name],
             fuel,
         )?;
-        alike = alike.saturating_add(told(rt, name, same)?);
+        alike = alike.saturating_add(told(rt, name, same, "as an object")?);
     }
     for name in WITH_PRELUDE {
         let run = ["run", "--fuel", MUCH, name];
         let same = is_alike(rt.alloc(), &mut shelf, &run, &["build", name], MUCH)?;
-        alike = alike.saturating_add(told(rt, name, same)?);
+        alike = alike.saturating_add(told(rt, name, same, "as an object")?);
     }
     println!(rt; "{alike} objects run as their programs")?;
     Ok(())
 }
 
-/// Writes the name of an example that runs otherwise as an object. 1 where it runs alike.
-fn told(rt: &HostRuntime, name: &str, same: bool) -> Result<u64, Error> {
+/// Writes the name of an example that runs otherwise so. 1 where it runs alike.
+fn told(rt: &HostRuntime, name: &str, same: bool, so: &str) -> Result<u64, Error> {
     if same {
         return Ok(1);
     }
-    println!(rt; "{name} runs otherwise as an object")?;
+    println!(rt; "{name} runs otherwise {so}")?;
     Ok(0)
+}
+
+/// The words of a run without the prelude on so many sites.
+fn bare_on<'a>(sites: &'a str, fuel: &'a str, name: &'a str) -> [&'a str; 7] {
+    ["sites", "--bare", "--fuel", fuel, sites, SEED, name]
+}
+
+/// The words of a run with the prelude on so many sites.
+fn run_on<'a>(sites: &'a str, name: &'a str) -> [&'a str; 6] {
+    ["sites", "--fuel", MUCH, sites, SEED, name]
+}
+
+/// Writes how many examples run on one site as `run` runs them, and the names of the others.
+fn compare_on_one_site(rt: &HostRuntime) -> Result<(), Error> {
+    let mut shelf = FolderShelf::new(rt);
+    let mut alike: u64 = 0;
+    for name in EXAMPLES {
+        let fuel = fuel_of(name);
+        let run = ["run", "--bare", "--fuel", fuel, name];
+        let same = is_same(rt.alloc(), &mut shelf, &run, &bare_on("1", fuel, name))?;
+        alike = alike.saturating_add(told(rt, name, same, "on one site")?);
+    }
+    for name in WITH_PRELUDE {
+        let run = ["run", "--fuel", MUCH, name];
+        let same = is_same(rt.alloc(), &mut shelf, &run, &run_on("1", name))?;
+        alike = alike.saturating_add(told(rt, name, same, "on one site")?);
+    }
+    println!(rt; "{alike} programs run on one site as without sites")?;
+    Ok(())
+}
+
+/// Writes how many runs of examples on several sites end as a run may, and the names of the others.
+fn run_on_sites(rt: &HostRuntime) -> Result<(), Error> {
+    let mut shelf = FolderShelf::new(rt);
+    let mut right: u64 = 0;
+    for sites in SITES {
+        for name in EXAMPLES {
+            let ends = is_right(rt.alloc(), &mut shelf, &bare_on(sites, fuel_of(name), name))?;
+            right = right.saturating_add(told(rt, name, ends, "on sites")?);
+        }
+        for name in WITH_PRELUDE {
+            let ends = is_right(rt.alloc(), &mut shelf, &run_on(sites, name))?;
+            right = right.saturating_add(told(rt, name, ends, "on sites")?);
+        }
+    }
+    println!(rt; "{right} runs on 2, 5 and 64 sites end as runs do")?;
+    Ok(())
 }
 
 fn main(rt: HostRuntime) -> Result<(), Error> {
@@ -118,5 +172,7 @@ fn main(rt: HostRuntime) -> Result<(), Error> {
     for name in WITH_PRELUDE {
         run_example(&rt, name, &["run", name])?;
     }
-    compare(&rt)
+    compare(&rt)?;
+    compare_on_one_site(&rt)?;
+    run_on_sites(&rt)
 }
