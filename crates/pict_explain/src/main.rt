@@ -1,12 +1,15 @@
 //! Does what `pict` does, with its output, its reports and its status, and tells more: of a refusal the line of the text with a
-//! caret, which tokens could stand there, and what may be meant; of a run that has ended who waits in vain, and where.
+//! caret, which tokens could stand there, and what may be meant; of a run that has ended who waits in vain, and where; and of an
+//! accepted text that is checked which names are never used, and on which channels nobody receives, or nobody sends.
 //!
 //! Its words are those of `pict`. Each text is read once, so that report and explanation speak of the same bytes. With the words
 //! `mistakes FILE` it tells of each text of a file what is reported and told of it: a line that begins with `== ` and has a
-//! name begins a text, which stands behind the prelude if the word `prelude` follows the name. With the words
+//! name begins a text, which stands behind the prelude if the word `prelude` follows the name; behind the word `run` it is
+//! told who waits in vain at the end of the text's run, and behind the word `channels` what its channels are called. With the words
 //! `channels [--bare] FILE` it does what `check` does, and writes what the channels of an accepted file's run are called.
 #![tactic(auto)]
 
+mod certain;
 mod mistakes;
 
 ghost use Rattle.pict_core.specs.Plain.{plain_core};
@@ -15,6 +18,7 @@ ghost use Rattle.pict_view.specs.Right.{RunsRight};
 ghost use Rattle.pict_report.specs.Reports.{AreShort};
 
 use anyhow::Error;
+use certain::told_certain;
 use mistakes::tell_mistakes;
 use pict_front::{Front, FrontError};
 use pict_outside::{FolderShelf, StreamSink};
@@ -29,6 +33,7 @@ use std::process::ExitCode;
 #[derive(Clone, Copy, PartialEq, Eq, Debug)]
 enum More {
     Nothing,
+    Certain,
     WhoWaits,
     Channels,
 }
@@ -64,6 +69,11 @@ fn tell_more(
     let Options { bare, file, .. } = options;
     match more {
         More::Nothing => {}
+        More::Certain => {
+            let mut shelf = shelf_of(rt.alloc(), sources)?;
+            let text = told_certain(rt.alloc(), bare, file, &mut shelf)?;
+            rt.stderr().write_all(&text)?;
+        }
         More::WhoWaits => {
             let text = told_at_end(rt.alloc(), bare, file, sources, front)?;
             rt.stderr().write_all(&text)?;
@@ -125,7 +135,8 @@ fn do_words(rt: &HostRuntime, words: &[&str]) -> Result<Status, Error> {
     }
     match words_of(words) {
         Ok(Command::Run(options)) => do_file(rt, words, options, More::WhoWaits),
-        Ok(Command::Trace(options) | Command::Check(options) | Command::Code(options)) => {
+        Ok(Command::Check(options)) => do_file(rt, words, options, More::Certain),
+        Ok(Command::Trace(options) | Command::Code(options)) => {
             do_file(rt, words, options, More::Nothing)
         }
         _ => Ok(do_plainly(rt, words)),

@@ -1,16 +1,23 @@
-// Texts with usual mistakes, and what is told of each.
+// Texts with usual mistakes, and what is told of each; and runs, and what is told of these.
 
+use crate::certain::told_certain;
 use anyhow::Error;
 use pict_front::FrontError;
 use pict_outside::{Fetched, FolderShelf, Shelf, StreamSink};
 use pict_syntax::{Sources, TEXT_LIMIT};
-use pict_telling::{phases, told_of_refusal};
+use pict_telling::{phases, told_at_end, told_channels, told_of_refusal};
 use pict_top::{OneShelf, Status, pict};
 use std::io::Write;
 use std::str::from_utf8;
 
 /// The word behind a name whose text stands behind the prelude.
 const PRELUDE: &str = " prelude";
+
+/// The word behind a name whose text is run alone, to tell who waits in vain at its end.
+const RUN: &str = " run";
+
+/// The word behind a name whose text is run alone, to tell what its channels are called.
+const CHANNELS: &str = " channels";
 
 /// Tells of a text what is reported and told of it, on the standard output.
 fn tell_text(rt: &HostRuntime, name: &str, text: &[u8], bare: bool) -> Result<(), Error> {
@@ -43,7 +50,28 @@ fn tell_text(rt: &HostRuntime, name: &str, text: &[u8], bare: bool) -> Result<()
                 rt.stdout().write_all(&more)?;
             }
         }
-        _ => println!(rt; "{name}: accepted")?,
+        _ => {
+            println!(rt; "{name}: accepted")?;
+            let more = told_certain(rt.alloc(), bare, name, &mut shelf)?;
+            rt.stdout().write_all(&more)?;
+        }
+    }
+    Ok(())
+}
+
+/// Tells of the run of a text that stands alone who waits in vain at its end, or what its channels are called, on the standard output.
+fn tell_run(rt: &HostRuntime, name: &str, text: &[u8], channels: bool) -> Result<(), Error> {
+    let text = Vec::from_slice(rt.alloc(), text)?;
+    let mut shelf = OneShelf::new(rt.alloc(), name, text)?;
+    let mut sources = Sources::new(rt.alloc());
+    println!(rt; "{name}:")?;
+    if let Ok(front) = phases(rt.alloc(), true, name, &mut shelf, &mut sources) {
+        let told = if channels {
+            told_channels(rt.alloc(), true, name, &sources, front)?
+        } else {
+            told_at_end(rt.alloc(), true, name, &sources, front)?
+        };
+        rt.stdout().write_all(&told)?;
     }
     Ok(())
 }
@@ -52,6 +80,12 @@ fn tell_text(rt: &HostRuntime, name: &str, text: &[u8], bare: bool) -> Result<()
 fn tell_block(rt: &HostRuntime, head: &str, text: &[u8]) -> Result<(), Error> {
     if head.is_empty() {
         return Ok(());
+    }
+    if let Some(name) = head.strip_suffix(RUN) {
+        return tell_run(rt, name, text, false);
+    }
+    if let Some(name) = head.strip_suffix(CHANNELS) {
+        return tell_run(rt, name, text, true);
     }
     match head.strip_suffix(PRELUDE) {
         Some(name) => tell_text(rt, name, text, false),
