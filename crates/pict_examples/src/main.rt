@@ -1,14 +1,17 @@
 //! Runs each example of the folder `examples`, and writes its name, what it prints, what is reported and the number of its
-//! status. Then builds the object of each, runs that, and writes how many come to what their programs come to; and runs each on
-//! one site, and on several, and writes how many come to the same there, and how many to an end that a run may have.
+//! status. Then builds the object of each, runs that, and writes how many come to what their programs come to; runs each on one
+//! site, and on several, and writes how many come to the same there, and how many to an end that a run may have; and writes the
+//! names of those whose code has other nodes than their texts tell.
 #![tactic(auto)]
 
 mod alike;
+mod nodes;
 
 use alike::{is_alike, is_right, is_same};
 use anyhow::Error;
+use nodes::have_places;
 use pict_outside::{FolderShelf, StreamSink};
-use pict_top::pict;
+use pict_top::{pict, prelude};
 
 /// The examples that stand alone, in the order of their index.
 const EXAMPLES: [&str; 33] = [
@@ -165,6 +168,22 @@ fn run_on_sites(rt: &HostRuntime) -> Result<(), Error> {
     Ok(())
 }
 
+/// Writes the names of the examples whose code has other nodes than their texts tell.
+fn compare_nodes(rt: &HostRuntime) -> Result<(), Error> {
+    let mut shelf = FolderShelf::new(rt);
+    for name in EXAMPLES {
+        if !have_places(rt.alloc(), &mut shelf, None, name)? {
+            println!(rt; "{name} has other nodes")?;
+        }
+    }
+    for name in WITH_PRELUDE {
+        if !have_places(rt.alloc(), &mut shelf, Some(prelude()), name)? {
+            println!(rt; "{name} has other nodes")?;
+        }
+    }
+    Ok(())
+}
+
 fn main(rt: HostRuntime) -> Result<(), Error> {
     for name in EXAMPLES {
         run_example(&rt, name, &["run", "--bare", "--fuel", fuel_of(name), name])?;
@@ -174,5 +193,6 @@ fn main(rt: HostRuntime) -> Result<(), Error> {
     }
     compare(&rt)?;
     compare_on_one_site(&rt)?;
-    run_on_sites(&rt)
+    run_on_sites(&rt)?;
+    compare_nodes(&rt)
 }
