@@ -1,4 +1,5 @@
 // Worked runs on several sites by the command, as tables.
+use itoa::Buffer;
 use pict_outside::{Entry, Fail, MemoryShelf, MemorySink};
 use pict_top::{Status, pict};
 use std::alloc::{AllocError, Global};
@@ -188,6 +189,83 @@ fn runs_on_sites_that_end_otherwise(rt: HostRuntime) -> Result<(), AllocError> {
     ];
     for case in &cases {
         try_case(&rt, rt.alloc(), case)?;
+    }
+    Ok(())
+}
+
+/// A call from site 1 of a function of site 0, where a primitive answers it: so an output of kept values goes home. And a step at
+/// site 1 that divides by zero.
+#[test]
+fn runs_away_from_home(rt: HostRuntime) -> Result<(), AllocError> {
+    let cases = [
+        Case {
+            text: b"def f (n:Int):Int = (+ n 1) run (() | printi!(f 2))",
+            out: b"3",
+            ..ON_TWO
+        },
+        Case {
+            text: b"run (() | div![1 0 printi])",
+            status: Status::Trap,
+            out: b"",
+            err: b"F:1:11: division by zero\n",
+            ..ON_TWO
+        },
+        Case {
+            words: &["sites", "--bare", "64", "3", "F"],
+            text: b"run (() | div![1 0 printi])",
+            status: Status::Trap,
+            out: b"",
+            err: b"F:1:11: division by zero\n",
+            ..ON_TWO
+        },
+    ];
+    for case in &cases {
+        try_case(&rt, rt.alloc(), case)?;
+    }
+    Ok(())
+}
+
+// More names than the frame of a process may have that stands in a block itself.
+const WIDE: u32 = 33_000;
+
+/// As many names, each with this behind it.
+fn push_names(text: &mut Vec<u8>, behind: &[u8]) -> Result<(), AllocError> {
+    for n in 0..WIDE {
+        let mut buffer = Buffer::new();
+        text.push(b'x')?;
+        text.extend_from_slice(buffer.format(n).as_bytes())?;
+        text.extend_from_slice(behind)?;
+    }
+    Ok(())
+}
+
+/// A function of so many values, of which the part that goes to the next site sends all.
+fn wide_text(alloc: Global) -> Result<Vec<u8>, AllocError> {
+    let mut text = b"new d:^Top run d?_ = print!\"got\" def f [".to_vec(alloc)?;
+    push_names(&mut text, b":Int ")?;
+    text.extend_from_slice(b"] = (() | d![")?;
+    push_names(&mut text, b" ")?;
+    text.extend_from_slice(b"]) run f![")?;
+    for _ in 0..WIDE {
+        text.extend_from_slice(b"1 ")?;
+    }
+    text.push(b']')?;
+    Ok(text)
+}
+
+/// A process whose values stand in a record, since they are too many for a block, goes to the next site and from there home.
+#[test]
+fn wide_processes_move(rt: HostRuntime) -> Result<(), AllocError> {
+    let alloc = rt.alloc();
+    let text = wide_text(alloc)?;
+    for sites in ["1", "2", "64"] {
+        let case = Case {
+            words: &["sites", "--bare", sites, "42", "F"],
+            text: &text,
+            out: b"got",
+            ..ON_TWO
+        };
+        try_case(&rt, alloc, &case)?;
     }
     Ok(())
 }
