@@ -1,11 +1,12 @@
 //! Tells all that a small program can do, whichever ready process acts next: each outcome, which is what it prints with who waits
 //! where nothing is ready any more, or with the place where it divides by zero.
 //!
-//! Its words are files, each told by itself. Before them may stand `--bare` where they stand alone, without the prelude; `--limit` and how
-//! many configurations are found at most; and `--way` and the number of an outcome of those that are told: then it writes, in place of
-//! all that it tells, a replay file of a way there, to which `pict replay` answers `yes`. With `--dot` or `--aut` it writes in its
-//! place the graph of the configurations, for Graphviz or in the Aldebaran format. A text that is refused, or cannot be
-//! read, is reported as `pict check` reports it, and ends the work with its status.
+//! Its words are files, each told by itself. Before a file may stand options, which hold for it and for those behind it: `--bare` where
+//! it stands alone, without the prelude; `--limit` and how many configurations are found at most; and `--way` and the number of an
+//! outcome of those that are told: then it writes, in place of all that it tells, a replay file of a way there, to which `pict replay`
+//! answers `yes`. With `--dot`, `--svg` or `--aut` it writes in its place the graph of the configurations, for Graphviz, as a picture
+//! where it is small, or in the Aldebaran format; `--mark` and the number of an outcome marks a way there in the first two. A text that
+//! is refused, or cannot be read, is reported as `pict check` reports it, and ends the work with its status.
 #![tactic(auto)]
 
 mod asked;
@@ -15,11 +16,14 @@ ghost use Rattle.pict_core.specs.Plain.{plain_core};
 ghost use Rattle.pict_report.specs.Reports.{AreShort};
 
 use anyhow::Error;
-use asked::{Asked, Wanted, options_of};
+use asked::{Asked, Wanted, are_asked_well, options_before};
 use pict_core::Core;
 use pict_front::{Front, front};
-use pict_orders::{Exploration, Found, explore};
-use pict_outcomes::{aut, dot, edges, outcomes, told, vertex_of};
+use pict_orders::{Exploration, Extent, Found, explore};
+use pict_outcomes::{
+    Graph, MOST_CONFIGURATIONS, MOST_REDUCTIONS, Marks, Outcome, aut, edges, marked_dot, marks_of,
+    outcomes, svg, told, vertex_of,
+};
 use pict_outside::{FolderShelf, StreamSink};
 use pict_report::prelude;
 use pict_syntax::{Names, Sources};
@@ -46,6 +50,13 @@ fn report(rt: &HostRuntime, file: &str, bare: bool) -> Status {
     }
 }
 
+/// Says that there is no such outcome.
+fn no_outcome(rt: &HostRuntime) -> Result<Status, Error> {
+    rt.stderr()
+        .write_all(b"explore: there is no outcome of this number\n")?;
+    Ok(Status::Usage)
+}
+
 /// Writes a replay file of a way to an outcome.
 fn tell_way(
     rt: &HostRuntime,
@@ -56,13 +67,44 @@ fn tell_way(
     requires closed { IsClosed (plain_core process) }
 {
     let Some(found) = found else {
-        rt.stderr()
-            .write_all(b"explore: there is no outcome of this number\n")?;
-        return Ok(Status::Usage);
+        return no_outcome(rt);
     };
-    if let Some(text) = way(rt.alloc(), names, process, &found.choices)? {
-        rt.stdout().write_all(&text)?;
+    match way(rt.alloc(), names, process, &found.choices)? {
+        Some(text) => {
+            rt.stdout().write_all(&text)?;
+            Ok(Status::Done)
+        }
+        None => {
+            rt.stderr().write_all(b"explore: the numbers of channels or stamps are used up\n")?;
+            Ok(Status::Memory)
+        }
     }
+}
+
+/// Writes the picture of a graph, if it is small.
+fn draw_small(
+    rt: &HostRuntime,
+    names: &Names,
+    sources: &Sources,
+    graph: &Graph,
+    outcomes: &[Outcome],
+    marks: &Marks,
+    mark: Option<usize>,
+) -> Result<Status, Error>
+    requires short { AreShort sources.now.list.items }
+{
+    if graph.exploration.found.len() > MOST_CONFIGURATIONS || graph.edges.len() > MOST_REDUCTIONS {
+        rt.stderr().write_all(
+            b"explore: the graph is too large for a picture; --dot writes it for Graphviz\n",
+        )?;
+        return Ok(Status::Refused);
+    }
+    let marked = match mark {
+        None => None,
+        Some(number) => Some(number as u64),
+    };
+    let text = svg(rt.alloc(), names, sources, graph, outcomes, marks, marked)?;
+    rt.stdout().write_all(&text)?;
     Ok(Status::Done)
 }
 
@@ -70,12 +112,34 @@ fn tell_way(
 fn draw(
     rt: &HostRuntime,
     names: &Names,
+    sources: &Sources,
     exploration: &Exploration,
-    for_graphviz: bool,
-) -> Result<Status, Error> {
+    outcomes: &[Outcome],
+    asked: Asked,
+) -> Result<Status, Error>
+    requires short { AreShort sources.now.list.items }
+{
+    let end = match asked.mark {
+        None => None,
+        Some(number) => vertex_of(exploration, outcomes, number),
+    };
+    if asked.mark.is_some() && end.is_none() {
+        return no_outcome(rt);
+    }
+    if exploration.extent != Extent::All {
+        rt.stderr().write_all(b"explore: there are more configurations, which the graph lacks\n")?;
+    }
     let edges = edges(rt.alloc(), exploration)?;
-    let text = if for_graphviz {
-        dot(rt.alloc(), names, exploration, &edges)?
+    let graph = Graph {
+        exploration,
+        edges: &edges,
+    };
+    let marks = marks_of(rt.alloc(), &exploration.found, &edges, end)?;
+    if asked.wanted == Wanted::Svg {
+        return draw_small(rt, names, sources, &graph, outcomes, &marks, asked.mark);
+    }
+    let text = if asked.wanted == Wanted::Dot {
+        marked_dot(rt.alloc(), names, &graph, &marks)?
     } else {
         aut(rt.alloc(), exploration, &edges)?
     };
@@ -101,8 +165,7 @@ fn tell(rt: &HostRuntime, accepted: Front, sources: &Sources, asked: Asked) -> R
             let found = vertex_of(&exploration, &all, number);
             tell_way(rt, &accepted.names, process, found)
         }
-        Wanted::Dot => draw(rt, &accepted.names, &exploration, true),
-        Wanted::Aut => draw(rt, &accepted.names, &exploration, false),
+        _ => draw(rt, &accepted.names, sources, &exploration, &all, asked),
     }
 }
 
@@ -135,16 +198,20 @@ fn tell_file(rt: &HostRuntime, file: &str, asked: Asked) -> Result<Status, Error
 }
 
 /// Tells of each file, with an empty line between two.
-fn tell_files(rt: &HostRuntime, words: &[String], asked: Asked) -> Result<Status, Error> {
-    for (index, file) in words.iter().enumerate() {
-        if index >= asked.words {
-            if index > asked.words {
-                println!(rt; "")?;
+fn tell_files(rt: &HostRuntime, words: &[String]) -> Result<Status, Error> {
+    let mut asked = Asked::plain();
+    for count in 0..words.len() {
+        if let Some(next) = options_before(asked, words) {
+            if let Some(file) = words.get(next.words) {
+                if count > 0 {
+                    println!(rt; "")?;
+                }
+                match tell_file(rt, file.as_str(), next)? {
+                    Status::Done => {}
+                    status => return Ok(status),
+                }
             }
-            match tell_file(rt, file.as_str(), asked)? {
-                Status::Done => {}
-                status => return Ok(status),
-            }
+            asked = next.behind(1);
         }
     }
     Ok(Status::Done)
@@ -156,9 +223,10 @@ fn run(rt: &HostRuntime) -> Result<Status, Error> {
     for word in env::args(rt)?.skip(1) {
         words.push(word)?;
     }
-    match options_of(&words) {
-        None => Ok(Status::Usage),
-        Some(asked) => tell_files(rt, &words, asked),
+    if are_asked_well(&words) {
+        tell_files(rt, &words)
+    } else {
+        Ok(Status::Usage)
     }
 }
 

@@ -87,6 +87,24 @@ fn four_printings(alloc: Global) -> Result<Core, AllocError>
     beside(alloc, first, second)
 }
 
+/// Prints one text or another, by a truth value.
+fn conditional(alloc: Global, test: bool) -> Result<Core, AllocError>
+    ensures { (n : ℕ) → IfOk result (λ p. IsUnder n 0 (plain_core p)) }
+{
+    Ok(Core::If {
+        test: CoreVal::Bool(test),
+        yes: Part::new(alloc, printing(alloc, b"a")?)?,
+        no: Part::new(alloc, printing(alloc, b"b")?)?,
+    })
+}
+
+/// Two conditionals beside each other.
+fn conditionals(alloc: Global) -> Result<Core, AllocError>
+    ensures { IfOk result (λ p. IsClosed (plain_core p)) }
+{
+    beside(alloc, conditional(alloc, true)?, conditional(alloc, false)?)
+}
+
 /// Reads a text from the channel of this level, and ends.
 fn taker(alloc: Global, level: u32) -> Result<Core, AllocError>
     ensures { (n : ℕ) → level < n → IfOk result (λ p. IsUnder n 0 (plain_core p)) }
@@ -275,6 +293,18 @@ fn printings_have_all_orders(rt: HostRuntime) -> Result<(), AllocError> {
     assert_eq!(rt; exploration.found.len(), 1 + 4 + 12 + 24 + 24);
     assert_eq!(rt; count_ends(&exploration), 24);
     assert!(rt; ends(&exploration, b"dbca", 0));
+    Ok(())
+}
+
+// They are taken at once: what is found is what two printings beside each other can do.
+#[test]
+fn conditionals_have_no_orders(rt: HostRuntime) -> Result<(), AllocError> {
+    let exploration = explore(rt.alloc(), conditionals(rt.alloc())?, 100)?;
+    assert_eq!(rt; exploration.extent, Extent::All);
+    assert_eq!(rt; exploration.found.len(), 1 + 2 + 2);
+    assert_eq!(rt; count_ends(&exploration), 2);
+    assert!(rt; ends(&exploration, b"ab", 0));
+    assert!(rt; ends(&exploration, b"ba", 0));
     Ok(())
 }
 

@@ -13,8 +13,19 @@ pub struct Edge {
     pub from: usize,
     /// Where it leads.
     pub to: usize,
+    /// The choice that it makes.
+    pub choice: Choice,
     /// What it shows.
     pub label: Label,
+}
+
+/// What is found, and the reductions between the vertices.
+#[derive(Clone, Copy)]
+pub struct Graph<'a> {
+    /// What is found.
+    pub exploration: &'a Exploration,
+    /// The reductions, by the numbers of the vertices from which they lead.
+    pub edges: &'a [Edge],
 }
 
 // The vertices by numbers that are the same for vertices alike.
@@ -130,7 +141,12 @@ fn add_edge(
         if state.settle(&mut silent)? {
             let bytes = bytes_with(alloc, &found.bytes, &label)?;
             if let Some(to) = number_of(alloc, all, index, &bytes, &state)? {
-                edges.push(Edge { from, to, label })?;
+                edges.push(Edge {
+                    from,
+                    to,
+                    choice,
+                    label,
+                })?;
             }
         }
     }

@@ -34,18 +34,16 @@ fn reductions_of(exploration: &Exploration) -> u64 {
     count.saturating_sub(exploration.traps.len() as u64)
 }
 
-// The first line: how many configurations and reductions there are, and whether these are all.
-fn write_head(out: &mut Vec<u8>, exploration: &Exploration) -> Result<(), AllocError> {
+/// Writes how many configurations and reductions there are, and whether these are all. The only error is want of memory.
+pub fn write_counts(out: &mut Vec<u8>, exploration: &Exploration) -> Result<(), AllocError> {
     write_count(out, exploration.found.len() as u64, b"configuration")?;
     out.extend_from_slice(b", ")?;
     write_count(out, reductions_of(exploration), b"reduction")?;
     match exploration.extent {
-        Extent::All => out.extend_from_slice(b", all orders\n"),
-        Extent::Limit => {
-            out.extend_from_slice(b"; there are more, and outcomes may be missing\n")
-        }
+        Extent::All => out.extend_from_slice(b", all orders"),
+        Extent::Limit => { out.extend_from_slice(b"; there are more, and outcomes may be missing") }
         Extent::NoRoom => out.extend_from_slice(
-            b"; the numbers of channels or stamps are used up, and outcomes may be missing\n",
+            b"; the numbers of channels or stamps are used up, and outcomes may be missing",
         ),
     }
 }
@@ -188,7 +186,8 @@ pub fn told(
     requires short { AreShort sources.now.list.items }
 {
     let mut out = Vec::new(alloc);
-    write_head(&mut out, exploration)?;
+    write_counts(&mut out, exploration)?;
+    out.push(b'\n')?;
     for (index, outcome) in outcomes.iter().enumerate() {
         if let Some(found) = exploration.found.get(outcome.vertex) {
             write_decimal(&mut out, index as u64 + 1)?;
