@@ -22,8 +22,8 @@ returns-in-Ok c =
     about_accepted c.args.bare c.new-shelf.result.pairs (pairs_of c.args.entries.items) _ (record { sources = _; front = plain_front c.in-Ok.front })
     (ap (λ s. s.pairs) c.new-shelf.ensures) c.prelude_unless-prelude.ensures.is c.in-Ok.ensures.answer
 
-pub returns-in-Err : goal.returns-in-Err
-returns-in-Err c =
+pub returns : goal.returns
+returns c =
     subst (IsAbout c.args.bare (texts_of (pairs_of c.args.entries.items))) (sym c.status_of.ensures)
     (about_refused c.args.bare (texts_of (pairs_of c.args.entries.items)) c.in-Err.error
     (refused_says c.args.bare c.new-shelf.result.pairs (pairs_of c.args.entries.items) _ c.in-Err.error _
