@@ -1,10 +1,9 @@
 -- What is told over a shelf in memory, and what is copied of it.
-use Rattle.std.proofs.Common.{◌≡◌, ◌<◌, ℕ, Bool, List, [], ◌++◌, length, take, drop, take-append-drop, Option, Some, None, IfSome, IfOk, Result, Ok, Err, sym, refl, subst, ap, ◌∙◌, arith}
+use Rattle.std.proofs.Common.{◌≡◌, ◌<◌, ℕ, Bool, List, [], ◌++◌, length, take, drop, take-append-drop, Option, Some, None, IfSome, Result, Ok, Err, sym, refl, subst, ap, ◌∙◌, arith}
 use Rattle.std.proofs.lemmas.List.{length-take-le}
 use Rattle.std.specs.Prelude.{Vec}
 use Rattle.std.specs.declared.alloc.Global.{Global}
 use Rattle.pict_syntax.specs.declared.source.Sources.{Sources}
-use Rattle.pict_outside.specs.Bytes.{IsFrontOf}
 use Rattle.pict_outside.specs.Texts.{Texts, texts_of}
 use Rattle.pict_gather.specs.Fetching.{MayGive}
 use Rattle.pict_gather.specs.Gathered.{EarlyEnd, refused}
