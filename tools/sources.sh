@@ -4,6 +4,7 @@
 #   pict    the proved program
 #   built   what it was built of: the toolchain, the crates under it with what they stand on, and the sum of each
 #           source, as `sources` prints them; and the sum of the program itself, last
+#   unproved/NAME, unproved/NAME.of   a program that an unproved run compiled, and the toolchain that did
 #   seen    the folders of these crates, in the first line, and then size and times of each source, of the program and of
 #           the toolchain's command, as they were when all sums were last compared
 
@@ -77,14 +78,25 @@ take() {
         { echo "$1" && sum_of_program; } >"$here/out/built.$$" && mv -f "$here/out/built.$$" "$here/out/built" && is_fresh
 }
 
-# Whether this program, which stands beside pict, is built (rt run in its crate, or the gate) and no source under it is newer.
+# Whether this file, of the top of the repository, is there, and none of the sources under this crate is newer.
 # shellcheck disable=SC2046 # the names of folders have no blanks
-is_built() {
-    [ -x "$here/crates/$1/out/$1" ] || return 1
+is_no_older() {
+    [ -x "$here/$1" ] || return 1
     (
         cd "$here" || exit
-        newer=$(find -H crates.txt $(crates "$1" | sed 's|^\([^:]*\):.*|crates/\1|') \
-            \( -name out -o -name must-fail -o -name more-edits -o -name data \) -prune -o -type f -newer "crates/$1/out/$1" -print -quit)
+        newer=$(find -H crates.txt $(crates "$2" | sed 's|^\([^:]*\):.*|crates/\1|') \
+            \( -name out -o -name must-fail -o -name more-edits -o -name data \) -prune -o -type f -newer "$1" -print -quit)
         [ -z "$newer" ]
     )
+}
+
+# Whether this program, which stands beside pict, is built (rt run in its crate, or the gate) and no source under it is newer.
+is_built() {
+    is_no_older "crates/$1/out/$1" "$1"
+}
+
+# Whether an unproved run kept this program (tools/try-keep), no source under it is newer, and it is of the present toolchain.
+is_kept() {
+    [ -x "$here/out/unproved/$1" ] && [ "$(rt version 2>/dev/null)" = "$(cat "$here/out/unproved/$1.of" 2>/dev/null)" ] &&
+        is_no_older "out/unproved/$1" "$1"
 }
