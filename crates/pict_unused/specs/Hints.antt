@@ -1,5 +1,6 @@
 -- What is certain of a binder, by the roles in which it is used.
-use Rattle.std.specs.Prelude.{ℕ, ◌+◌, nat_eq, Bool, true, false, ◌||◌, List, [], ◌∷◌, Option, Some, None}
+use Rattle.std.specs.Prelude.{ℕ, ◌+◌, nat_eq, Bool, true, false, List, [], ◌∷◌, Option, Some, None}
+use Rattle.std.specs.List.{list_any}
 use Rattle.pict_syntax.specs.declared.id.Id.{Id}
 use Rattle.pict_syntax.specs.Trees.{Decs}
 use Rattle.pict_scope.specs.declared.target.Target.{Target}
@@ -49,10 +50,6 @@ abbrev pub hands_on : Role → Bool
 hands_on HandedOn = true
 hands_on _ = false
 
-abbrev pub is_some : (Role → Bool) → List Role → Bool
-is_some f [] = false
-is_some f (role ∷ roles) = f role || is_some f roles
-
 -- what is said of a binder on which some use sends, on which some receives, and which some use hands on
 abbrev pub said_where : Form → Bool → Bool → Bool → Option Said
 said_where form false false false = Some NeverUsed
@@ -61,7 +58,7 @@ said_where New false true false = Some NobodySends
 said_where _ _ _ _ = None
 
 abbrev pub said_of : Form → List Role → Option Said
-said_of form roles = said_where form (is_some sends roles) (is_some receives roles) (is_some hands_on roles)
+said_of form roles = said_where form (list_any sends roles) (list_any receives roles) (list_any hands_on roles)
 
 abbrev pub hint_if : Option Said → Id → List Hint → List Hint
 hint_if (Some said) x hints = record { said = said; id = x } ∷ hints

@@ -7,13 +7,13 @@ use Rattle.pict_unused.specs.declared.certain.Said.{Said}
 use Rattle.pict_unused.specs.declared.certain.Said.TheVariants.{NeverUsed, NobodyReceives, NobodySends}
 use Rattle.pict_unused.specs.Hints.{sends, receives, said_of}
 
--- there is a role, and each is so
+-- each role is so
 abbrev pub AreAll : (Role → Bool) → List Role → Type 0
 AreAll f [] = Unit {0}
 AreAll f (role ∷ roles) = IsTrue (f role) × AreAll f roles
 
--- certain of a binder of this form that is used in these roles: it isn't used; or `new` binds it, and each of its uses, of which
--- there is one, sends on it; or each receives on it
+-- certain of a binder of this form that is used in these roles: it isn't used; or `new` binds it, it is used, and each use sends on
+-- it, by an output or a call; or each receives on it
 abbrev pub IsCertain : Said → Form → List Role → Type 0
 IsCertain NeverUsed form roles = roles ≡ []
 IsCertain NobodyReceives form roles = (form ≡ New) × ((roles ≡ [] → ⊥) × AreAll sends roles)

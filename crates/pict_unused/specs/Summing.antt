@@ -1,10 +1,11 @@
 -- In which roles binders are used, by their numbers, as a table in which who isn't there has no use.
 use Rattle.std.specs.Prelude.{◌≡◌, ℕ, nat_eq, false, ◌||◌, List, get_or, if◌then◌else◌}
+use Rattle.std.specs.List.{list_any}
 use Rattle.pict_scope.specs.declared.target.Target.{Target}
 use Rattle.pict_scope.specs.declared.target.Target.TheVariants.{Prim, Binder}
 use Rattle.pict_unused.specs.declared.item.Role.{Role}
 use Rattle.pict_unused.specs.declared.summing.Uses.{Uses}
-use Rattle.pict_unused.specs.Hints.{roles_of, sends, receives, hands_on, is_some}
+use Rattle.pict_unused.specs.Hints.{roles_of, sends, receives, hands_on}
 
 abbrev pub no_uses : Uses
 no_uses = record { sends = false; receives = false; hands_on = false }
@@ -14,7 +15,7 @@ and_use role u = record { sends = sends role || u.sends; receives = receives rol
 
 -- whether some of the roles sends, receives, hands on
 abbrev pub summary : List Role → Uses
-summary roles = record { sends = is_some sends roles; receives = is_some receives roles; hands_on = is_some hands_on roles }
+summary roles = record { sends = list_any sends roles; receives = list_any receives roles; hands_on = list_any hands_on roles }
 
 -- the table has this of each binder
 abbrev pub AreSummed : List Role → List Target → List Uses → Type 0
