@@ -15,7 +15,7 @@ use Rattle.pict_reduction.specs.Redex.{Fires, communicates, serves, chooses, per
 use Rattle.pict_reduction.proofs.Reductions.{same_process, exchange_front}
 use Rattle.pict_reduction.proofs.Firing.{reductions_are_reactions}
 use Rattle.pict_reduction.proofs.Rebuilding.{together, rebuilds, declared, left_rebuilt, alike_rebuilt, Picks, here, there, Picked, permutation_picked, picked_together}
-use Rattle.pict_exploration.specs.Alone.{IsAlone, ReducesAlone}
+use Rattle.pict_exploration.specs.Alone.{IsByItself, ReducesAlone}
 use Rattle.pict_exploration.specs.Laws.{Joins, AloneCommutes}
 use Rattle.pict_exploration.proofs.Redexes.{FiresAlone, fires_by_itself}
 
@@ -53,7 +53,7 @@ fires_reduces m bytes redex residual (serves name e) = rule.up_to (in_par reflex
 fires_reduces m bytes redex residual chooses = rule.up_to unit rule.chooses reflexive
 fires_reduces m bytes redex residual (performs e h) = rule.up_to unit (rule.performs e h) reflexive
 
-fires_alone : (m : ℕ) (bytes : List ℕ) (x : Process) (redex : List Process) (residual : Process) → redex ≡ x ∷ [] → (h : Fires m bytes redex residual) → IsAlone (fires_reduces m bytes redex residual h)
+fires_alone : (m : ℕ) (bytes : List ℕ) (x : Process) (redex : List Process) (residual : Process) → redex ≡ x ∷ [] → (h : Fires m bytes redex residual) → IsByItself (fires_reduces m bytes redex residual h)
 unfolding fires_reduces
 fires_alone m bytes x redex residual e (communicates name h) = cc
 fires_alone m bytes x redex residual e (serves name h) = cc

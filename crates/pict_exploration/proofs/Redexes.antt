@@ -16,7 +16,7 @@ use Rattle.pict_reduction.proofs.Renaming.{then, same, each-then, each_as, each-
 use Rattle.pict_reduction.proofs.Alike.{permutes_inverse, equal_lists, congruent_are_alike}
 use Rattle.pict_reduction.proofs.Reductions.{same_process}
 use Rattle.pict_reduction.proofs.Rebuilding.{together, rebuilds, alike_rebuilt, beside_rebuilt}
-use Rattle.pict_exploration.specs.Alone.{IsAlone}
+use Rattle.pict_exploration.specs.Alone.{IsByItself}
 
 -- One component of p fires by itself, and q is what is left beside the others.
 pub record FiresAlone (n : ℕ) (bytes : List ℕ) (p q : Process) : Type 0 where
@@ -114,7 +114,7 @@ alone_alike n bytes p p' q q' c d h =
       left = transitive (symmetric d) (transitive h.left (alike_rebuilt n _ _ left_alike));
     }
 
-pub fires_by_itself : (n : ℕ) (bytes : List ℕ) (p q : Process) (h : Reduces n bytes p q) → IsAlone h → FiresAlone n bytes p q
+pub fires_by_itself : (n : ℕ) (bytes : List ℕ) (p q : Process) (h : Reduces n bytes p q) → IsByItself h → FiresAlone n bytes p q
 fires_by_itself n bytes p q (rule.communicates x e) a = absurd a
 fires_by_itself n bytes p q (rule.serves x e) a = absurd a
 fires_by_itself n bytes p q rule.chooses a = alone_itself n bytes p q refl chooses

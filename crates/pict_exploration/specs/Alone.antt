@@ -5,20 +5,20 @@ use Rattle.pict_reduction.specs.Congruence.{Congruent}
 use Rattle.pict_reduction.specs.Reduction.{Reduces}
 use Rattle.pict_reduction.specs.Reduction as rule
 
--- what reduces is a conditional, or an output to a primitive
-abbrev pub IsAlone : {n : ℕ} {bytes : List ℕ} {p q : Process} → Reduces n bytes p q → Type 0
-IsAlone (rule.communicates name matches) = ⊥
-IsAlone (rule.serves name matches) = ⊥
-IsAlone rule.chooses = Unit {0}
-IsAlone (rule.performs acts leaves) = Unit {0}
-IsAlone (rule.in_par h) = IsAlone h
-IsAlone (rule.in_new h) = IsAlone h
-IsAlone (rule.up_to c h d) = IsAlone h
+-- what reduces is one process by itself: a conditional, or an output to a primitive
+abbrev pub IsByItself : {n : ℕ} {bytes : List ℕ} {p q : Process} → Reduces n bytes p q → Type 0
+IsByItself (rule.communicates name matches) = ⊥
+IsByItself (rule.serves name matches) = ⊥
+IsByItself rule.chooses = Unit {0}
+IsByItself (rule.performs acts leaves) = Unit {0}
+IsByItself (rule.in_par h) = IsByItself h
+IsByItself (rule.in_new h) = IsByItself h
+IsByItself (rule.up_to c h d) = IsByItself h
 
 -- One process of p reduces by itself and prints nothing; q is what is left.
 pub record ReducesAlone (n : ℕ) (p q : Process) : Type 0 where
   pub reduces : Reduces n [] p q
-  pub alone : IsAlone reduces
+  pub alone : IsByItself reduces
 
 -- Some such reductions, or none, lead from p to q, up to congruence.
 pub data SettlesTo (n : ℕ) : Process → Process → Type 0 where
