@@ -40,7 +40,7 @@ plain_op (op.Serve chan pattern part) = plain.Serve (plain_val chan) (plain_pat 
 plain_op (op.If test left right) = plain.If (plain_val test) left right
 
 abbrev pub plain_node : Node → plain.Node
-plain_node node = record { frame = node.frame.items; op = plain_op node.op }
+plain_node node = record { frame = node.frame.value.items; op = plain_op node.op }
 
 abbrev pub plain_code : Code → List plain.Node
 plain_code code = map plain_node code.nodes.items

@@ -2,6 +2,7 @@
 use crate::CodePat;
 use pict_core::CoreVal;
 use pict_syntax::Span;
+use std::rc::Rc;
 
 /// An operand: a core value. A variable is its level already.
 pub type Operand = CoreVal;
@@ -28,8 +29,8 @@ pub enum Op {
 /// One process of a code.
 #[derive(Drop)]
 pub struct Node {
-    /// The levels of its free variables, increasing.
-    pub frame: Vec<u32>,
+    /// The levels of its free variables, increasing. Nodes whose frames are the same list may share it.
+    pub frame: Rc<Vec<u32>>,
     /// What it does.
     pub op: Op,
 }

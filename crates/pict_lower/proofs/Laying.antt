@@ -1,5 +1,6 @@
 -- Nodes and sizes laid from the last place to the first.
 use Rattle.std.proofs.Common.{◌≡◌, ℕ, zero, suc, ◌+◌, ◌-◌, ◌<◌, ◌≤◌, Bool, true, false, List, [], ◌∷◌, ◌++◌, map, drop, take, reverse, length, get_or, refl, sym, ap, ◌∙◌, subst, arith, append-nil, slice_get, Option, None, Some, option_map, unwrap_or, Vec, Global}
+use Rattle.std.specs.declared.rc.Rc.{Rc}
 use Rattle.std.proofs.lemmas.List.{get_or-reverse, get_or_past, length-reverse, length-map, reverse-append, map-append, drop_more}
 use Rattle.std.proofs.lemmas.Option.{slice_get-get_or, unwrap_or-slice_get}
 use Rattle.pict_core.specs.Term.{Process, Zero, Par, New, Out, In, If}
@@ -129,7 +130,7 @@ size_is n (Out chan message at) = refl
 size_is n (In chan replicated pattern body) = omega arith
 size_is n (If test p q) = omega arith
 
-pub node_made : (number : ℕ) (p : Place) (frame : Vec ℕ Global) (op : Op) → frame.items ≡ frame_of p.around p.process → plain_op op ≡ op_of number p.around p.process
+pub node_made : (number : ℕ) (p : Place) (frame : Rc (Vec ℕ Global) Global) (op : Op) → frame.value.items ≡ frame_of p.around p.process → plain_op op ≡ op_of number p.around p.process
     → plain_node (record { frame = frame; op = op }) ≡ node_of number p
 node_made number p frame op e f = cc (e, f)
 

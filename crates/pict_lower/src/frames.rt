@@ -1,5 +1,5 @@
 // Frames.
-ghost use Rattle.std.specs.Prelude.{◌≡◌, ℕ, List, ◌++◌, ◌||◌, map, reverse, IfOk, OnOk};
+ghost use Rattle.std.specs.Prelude.{◌≡◌, ℕ, List, ◌++◌, ◌||◌, map, reverse, IfOk, IfSome, OnOk};
 ghost use Rattle.pict_core.specs.Plain.{plain_core};
 ghost use Rattle.pict_code.specs.Frames.{frame_of};
 ghost use Rattle.pict_code.specs.Levels.{has};
@@ -12,6 +12,7 @@ use crate::places::Place;
 use pict_code::Node;
 use pict_core::Core;
 use std::alloc::{AllocError, Global};
+use std::rc::Rc;
 
 /// The frame of a part, from the frames of its own parts.
 pub fn frame_from<'a>(
@@ -50,4 +51,36 @@ fn operands(levels: &mut Vec<u32>, process: &Core) -> Result<(), AllocError>
         Core::In { chan, .. } => variables(levels, chan),
         Core::If { test, .. } => variables(levels, test),
     }
+}
+
+/// A frame of these levels: that of the last node, or of the node so many before it, where it is the same list, else a new one.
+pub fn shared(
+    alloc: Global,
+    nodes: &[Node],
+    back: u32,
+    levels: Vec<u32>,
+) -> Result<Rc<Vec<u32>>, AllocError>
+    ensures { IfOk result (λ frame. frame.value.items ≡ levels.items) }
+{
+    if let Some(frame) = same_frame(nodes, 0, &levels)? {
+        return Ok(frame);
+    }
+    if let Some(frame) = same_frame(nodes, back, &levels)? {
+        return Ok(frame);
+    }
+    Ok(Rc::new(alloc, levels)?)
+}
+
+/// The frame of the node so many before the last, if there is such a node and its frame has these levels.
+fn same_frame(nodes: &[Node], back: u32, levels: &[u32]) -> Result<Option<Rc<Vec<u32>>>, AllocError>
+    ensures { IfOk result (λ found. IfSome found (λ frame. frame.value.items ≡ levels.now)) }
+{
+    let back = back as usize;
+    if back < nodes.len() {
+        let node = &nodes[nodes.len() - 1 - back];
+        if node.frame.as_slice() == levels {
+            return Ok(Some(node.frame.clone()?));
+        }
+    }
+    Ok(None)
 }

@@ -7,7 +7,7 @@ ghost use Rattle.pict_code.specs.Plain.{plain_code, plain_node, plain_op};
 ghost use Rattle.pict_lower.specs.Laid.{IsLaid, IsNext, has_first, has_second, frame_back, size_back};
 ghost use Rattle.pict_lower.specs.Parts.{parts, parts_of, all_places, plain_place, size_at};
 
-use crate::frames::frame_from;
+use crate::frames::{frame_from, shared};
 use crate::patterns::leveled;
 use crate::places::{Place, places_of};
 use crate::sums::sum;
@@ -71,12 +71,13 @@ fn add_node<'a>(
     let first = size_back(two, sizes, 0);
     let second = size_back(three, sizes, first);
     let op = op_of(alloc, number, first, place)?;
-    let frame = frame_from(
+    let levels = frame_from(
         alloc,
         place,
         frame_back(two, nodes, 0),
         frame_back(three, nodes, first),
     )?;
+    let frame = shared(alloc, nodes, first, levels)?;
     let size = sum(sum(1, first)?, second)?;
     nodes.push(Node { frame, op })?;
     sizes.push(size)?;

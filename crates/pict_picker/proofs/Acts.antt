@@ -59,16 +59,16 @@ module _ (code : List written.Node) (is : IsCode (map plain_node code)) where
       pub node_at : slice_get (nodes_of (core_in code)) number ≡ Some (plain_node node)
       node_at = node_read number node node_low read
 
-      pub as_many : length frame ≡ length node.frame.items
+      pub as_many : length frame ≡ length node.frame.value.items
       as_many =
           let e : Some n.node ≡ Some (plain_node node) = sym n.at ∙ node_at in
           let same : n.node ≡ plain_node node = cc in
           n.many ∙ ap (λ (x : Node). length x.frame) same
 
-      pub levels_inside : (d : Desk) → IsDesk (core_in code) d → All (λ level. level < length d.values.items) node.frame.items
+      pub levels_inside : (d : Desk) → IsDesk (core_in code) d → All (λ level. level < length d.values.items) node.frame.value.items
       levels_inside d desk = frame_below (core_in code) (length d.values.items) desk.levels number (plain_node node) node_at
 
-      pub levels_rise : Rises 0 node.frame.items
+      pub levels_rise : Rises 0 node.frame.value.items
       levels_rise = frame_rising (core_in code) number (plain_node node) node_at
 
 -- the process of a node whose frame is read

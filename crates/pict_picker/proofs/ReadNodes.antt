@@ -28,7 +28,7 @@ module _ (code : List written.Node) (d : Desk) (lists : Lists) where
   pub node_acts_by : (j number : ℕ) (frame : List (ℕ × ℕ)) (n : IsNode (core_in code) d.heap number frame)
       → MayAct code d (channel_processes (core_in code) d.heap lists) j (node_process d.heap frame (slice_get (places 0 (core_in code)) number))
       → (node : written.Node) → node ≡ get_or code number node → (read : Desk) (heap : read.heap ≡ d.heap) → length read.values.items ≡ length d.values.items
-      → ((h : HeapState) → ArePairs h d.values.items → All (IsPair h) frame → ArePairs h read.values.items) → map (pair_at read.values.items) node.frame.items ≡ frame
+      → ((h : HeapState) → ArePairs h d.values.items → All (IsPair h) frame → ArePairs h read.values.items) → map (pair_at read.values.items) node.frame.value.items ≡ frame
       → ActsBy code read (channel_processes (core_in code) read.heap lists) j (plain_op node.op) (node_process d.heap frame (slice_get (places 0 (core_in code)) number))
   node_acts_by j number frame n may node there read heap len pairs is =
       let own = node_process d.heap frame (slice_get (places 0 (core_in code)) number) in

@@ -35,17 +35,17 @@ module _ (code : List written.Node) (d : Desk) (lists : List (List Process)) (j 
   serve_low = node_low code s.may.code_is d.heap number frame r.node
 
   module _ (node : written.Node) (there : node ≡ get_or code number node) where
-    pub serve_many : length frame ≡ length node.frame.items
+    pub serve_many : length frame ≡ length node.frame.value.items
     serve_many = as_many code s.may.code_is d.heap number frame r.node node there
 
-    pub serve_frame_inside : All (λ level. level < length d.values.items) node.frame.items
+    pub serve_frame_inside : All (λ level. level < length d.values.items) node.frame.value.items
     serve_frame_inside = levels_inside code s.may.code_is d.heap number frame r.node node there d s.may.desk
 
-    pub serve_frame_rises : Rises 0 node.frame.items
+    pub serve_frame_rises : Rises 0 node.frame.value.items
     serve_frame_rises = levels_rise code s.may.code_is d.heap number frame r.node node there
 
     module _ (read : Desk) (heap : read.heap ≡ d.heap) (len : length read.values.items ≡ length d.values.items)
-        (pairs : (h : HeapState) → ArePairs h d.values.items → All (IsPair h) frame → ArePairs h read.values.items) (is : map (pair_at read.values.items) node.frame.items ≡ frame) where
+        (pairs : (h : HeapState) → ArePairs h d.values.items → All (IsPair h) frame → ArePairs h read.values.items) (is : map (pair_at read.values.items) node.frame.value.items ≡ frame) where
       read_pairs : ArePairs d.heap read.values.items
       read_pairs = pairs d.heap s.may.desk.pairs (All-from_recursion (IsPair d.heap) frame r.node.pairs)
 

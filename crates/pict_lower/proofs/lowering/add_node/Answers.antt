@@ -37,5 +37,5 @@ returns c = λ rest laid.
     ∙ second_size (c.args.number + 1) n p rest nodes sizes laid c.has_second-three.result c.size_back-first.result c.has_second-three.ensures first in
     laid_more c.args.number (plain_place c.args.place) rest nodes c.push.new.self.items sizes c.push-2.new.self.items
     (record { frame = c.in_ok-frame.frame; op = c.in_ok-op.op }) c.in_ok-size.size c.in_ok-push.ensures.items c.in_ok-push-2.ensures.items
-    (node_made c.args.number (plain_place c.args.place) c.in_ok-frame.frame c.in_ok-op.op c.in_ok-frame.ensures (c.in_ok-op.ensures first))
+    (node_made c.args.number (plain_place c.args.place) c.in_ok-frame.frame c.in_ok-op.op (c.in_ok-frame.ensures ∙ c.in_ok-levels.ensures) (c.in_ok-op.ensures first))
     (omega (arith, c.in_ok-size.ensures, c.in_ok-sum.ensures, first, second, size_is n p)) laid

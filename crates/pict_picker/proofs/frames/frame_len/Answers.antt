@@ -11,7 +11,7 @@ returns-in-Some c =
     let node = c.in-Some.node.now in
     let at = c.in-Some.ensures.lookup in
     let there : slice_get code c.args.number ≡ Some node = slice_get_read code (length code) c.args.number node refl at.3.0 at.1 in
-    c.len.ensures ∙ node.frame.ok.0 ∙ sym (ap frame_width (node_there code c.args.number node there))
+    c.len.ensures ∙ c.deref.result.now.ok.0 ∙ ap (λ v. length v.items) c.deref.ensures ∙ sym (ap frame_width (node_there code c.args.number node there))
 
 pub returns-in-None : goal.returns-in-None
 returns-in-None c = let code = c.args.code.now in sym (ap frame_width (node_missing code c.args.number (slice_get_past code c.args.number c.in-None.ensures.lookup.3)))

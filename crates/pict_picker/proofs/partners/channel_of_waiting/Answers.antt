@@ -21,8 +21,8 @@ returns-in-Node c h waits =
     let node = c.index-code-number.result in
     let is = subst (IsWaiting core h) c.in-Node.is waits in
     let there = node_at code c.requires.code h number frame is node c.index-code-number.is in
-    let lent = c.deref-in-Node.ensures.value in
+    let lent = c.deref-in-Node-2.ensures.value in
     c.channel_of_op.ensures h (subst (All (IsPair h)) (sym lent) (λ k d low. all_get (IsPair h) frame k d is.pairs low))
-    ∙ ap (λ (vs : List (ℕ × ℕ)). stands_by (operand_value (value_at c.deref.result.now (map (pair_value h) vs))) (plain_op node.op)) lent
-    ∙ ap (λ (ls : List ℕ). stands_by (operand_value (value_at ls (map (pair_value h) frame))) (plain_op node.op)) c.deref.ensures.value
+    ∙ ap (λ (vs : List (ℕ × ℕ)). stands_by (operand_value (value_at c.deref-in-Node.result.now (map (pair_value h) vs))) (plain_op node.op)) lent
+    ∙ ap (λ (ls : List ℕ). stands_by (operand_value (value_at ls (map (pair_value h) frame))) (plain_op node.op)) (c.deref-in-Node.ensures.value ∙ ap (λ v. v.items) c.deref.ensures)
     ∙ sym (ap (λ w. stands_at (process_of core h w)) c.in-Node.is ∙ node_stands_at core h number (plain_node node) frame c.requires.code.closed there)

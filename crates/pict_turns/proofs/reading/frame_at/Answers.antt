@@ -11,5 +11,5 @@ returns c =
       node = plain_node node;
       at = slice_get-map plain_node c.args.code.now c.args.number
           ∙ ap (option_map plain_node) (slice_get_read c.args.code.now (length c.args.code.now) c.args.number node refl c.requires c.index-code-number.is);
-      is = ap (λ (n : written.Node). n.frame.items) c.index-code-number.is ∙ sym c.deref.ensures.value;
+      is = ap (λ (n : written.Node). n.frame.value.items) c.index-code-number.is ∙ sym (c.deref-2.ensures.value ∙ ap (λ v. v.items) c.deref.ensures);
     }
