@@ -12,10 +12,11 @@ use Rattle.pict_exploration.specs.Explored.{IsReachedByChoices, IsFoundAs, IsFou
 use Rattle.pict_orders.specs.Plain.{place_of}
 use Rattle.pict_orders.specs.declared.choice.Choice.{Choice}
 use Rattle.pict_orders.specs.Settling.{vertex, Settles}
+use Rattle.pict_orders.specs.Room.{ComesToFull}
 use Rattle.pict_orders.specs.Found.{vertices, IsSearch, ListsTraps}
 use Rattle.pict_orders.specs.Going.{Goes, IsAdded, IsOpened, IsWhole, AreExpanded}
 use Rattle.pict_orders.specs.declared.search.Extent.{Extent}
-use Rattle.pict_orders.specs.declared.search.Extent.TheVariants.{All}
+use Rattle.pict_orders.specs.declared.search.Extent.TheVariants.{All, NoRoom}
 use Rattle.pict_orders.specs.declared.search.Search.{Search}
 use Rattle.pict_orders.proofs.Going.{extends_then, found_still, goes_no_further, goes_as, found_before, reach_added}
 use Rattle.pict_orders.proofs.Ending.{explores, lists_traps}
@@ -26,8 +27,8 @@ module _ (s : Search) (before after : List Place) (bytes : List ℕ) (C D : Conf
   -- it is there
   pub reach_known : (same : List ℕ) → same ≡ bytes → IsFoundAs (vertices s.found.items) same (reading D) → (p : Process) → IsSearch p (vertices s.found.items) s.traps.items → IsConfiguration C
       → IsReachedByChoices p (vertex before bytes C) → Goes p s s All (IsFoundSettled (vertices s.found.items) bytes (reading C))
-  reach_known same e found p h is r = goes_no_further p s All (IsFoundSettled (vertices s.found.items) bytes (reading C)) h
-      (λ all. found_before (vertices s.found.items) bytes C D (subst (λ (b : List ℕ). IsFoundAs (vertices s.found.items) b (reading D)) e found) (settled is).0.settles)
+  reach_known same e found p h is r = goes_no_further p s (IsFoundSettled (vertices s.found.items) bytes (reading C)) h
+      (found_before (vertices s.found.items) bytes C D (subst (λ (b : List ℕ). IsFoundAs (vertices s.found.items) b (reading D)) e found) (settled is).0.settles)
 
   -- it is new
   pub reach_new : (t : Search) → IsAdded s t (vertex after bytes D) → (p : Process) → IsSearch p (vertices s.found.items) s.traps.items → IsConfiguration C
@@ -65,16 +66,20 @@ whole_by p s t u extent (Ok last) begun all run = λ closed h.
       is = g.is;
       extends = extends_then s t u b.extends g.extends;
       done = λ e. record { opened = found_still t u g.extends [] (reading (opening p)) (b.done all); expanded = g.done e };
+      full = g.full;
     }
 whole_by p s t u extent (Err x) begun all run = run
 
 pub half_by : (p : Process) (s t : Search) (extent : Extent) → Goes p s t extent (IsOpened p t) → (extent ≡ All → ⊥) → Goes p s t extent (IsWhole p t)
-half_by p s t extent g ends = record { is = g.is; extends = g.extends; done = λ e. absurd (ends e) }
+half_by p s t extent g ends = record { is = g.is; extends = g.extends; done = λ e. absurd (ends e); full = g.full }
 
 -- ---- what is found in the end
 
 pub all_explored : (p : Process) (s t : Search) (extent : Extent) → Goes p s t extent (IsWhole p t) → extent ≡ All → Explores p (vertices t.found.items)
 all_explored p s t extent g all = explores p t g.is (g.done all)
+
+pub all_full : (p : Process) (s t : Search) (extent : Extent) → Goes p s t extent (IsWhole p t) → extent ≡ NoRoom → ComesToFull p
+all_full p s t extent g none = g.full none
 
 pub all_traps : (p : Process) (s t : Search) (extent : Extent) → Goes p s t extent (IsWhole p t) → extent ≡ All → ListsTraps (vertices t.found.items) t.traps.items
 all_traps p s t extent g all = lists_traps p t (g.done all)

@@ -9,6 +9,6 @@ pub silent_first : (es : List Entry) (i : ℕ) → FirstReady (is_silent es) es 
 silent_first es i h = (h.0, h.1, inl h.2)
 
 pub alone_first : (es : List Entry) (r : Result (Option ℕ) AllocError) → FirstReady (is_silent es) es None → IfOk r (λ first. FirstReady goes_alone es first) → IfOk r (λ first. FirstQuiet es first)
-alone_first es (Ok None) h k = h
+alone_first es (Ok None) h k = (h, k)
 alone_first es (Ok (Some i)) h k = (k.0, k.1, inr k.2)
 alone_first es (Err e) h k = k

@@ -12,7 +12,7 @@ use Rattle.pict_orders.specs.declared.search.Search.{Search}
 pub explores : (p : Process) (s : Search) → IsSearch p (vertices s.found.items) s.traps.items → IsWhole p s → Explores p (vertices s.found.items)
 explores p s h w = record {
   reached = h.reached;
-  still = h.still;
+  still = λ v has. (h.settled v has).still;
   opens = w.opened;
   steps = λ v choice D label has free.
       let c = choices_have_places v.configuration choice free.chosen in

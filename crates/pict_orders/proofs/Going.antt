@@ -12,18 +12,18 @@ use Rattle.pict_core.specs.Run.{printed_by}
 use Rattle.pict_core.specs.Places.{Place, ready_entries, partners_at, outcome_at}
 use Rattle.pict_reduction.specs.Congruence.{symmetric}
 use Rattle.pict_reduction.specs.Reading.{reading}
-use Rattle.pict_reduction.specs.Silent.{IsStill}
 use Rattle.pict_reduction.proofs.Apart.{IsReached}
 use Rattle.pict_exploration.specs.Explored.{Vertex, Has, IsReachedByChoices, IsFoundAs, IsFoundSettled}
 use Rattle.pict_exploration.specs.Alone.{SettlesTo, at_end}
 use Rattle.pict_exploration.proofs.Covering.{reached_prints, prints_reached, settles_then}
 use Rattle.pict_orders.specs.Plain.{configuration_of, place, place_of}
-use Rattle.pict_orders.specs.Settling.{vertex, Settles}
+use Rattle.pict_orders.specs.Settling.{vertex, IsSettled, Settles, SettlesToFull}
+use Rattle.pict_orders.specs.Room.{IsFull, ComesToFull}
 use Rattle.pict_orders.specs.declared.choice.Choice.{Choice}
 use Rattle.pict_orders.specs.Found.{vertex_of, vertices, IsTrap, IsSearch}
 use Rattle.pict_orders.specs.Going.{Extends, Goes, IsAdded, IsThere, IsReadyAt, IsStepFrom, IsFoundBy, IsCovered, IsTried, AreTried, IsExpanded, AreExpanded}
 use Rattle.pict_orders.specs.declared.search.Extent.{Extent}
-use Rattle.pict_orders.specs.declared.search.Extent.TheVariants.{All}
+use Rattle.pict_orders.specs.declared.search.Extent.TheVariants.{All, NoRoom}
 use Rattle.pict_orders.specs.declared.search.Found.{Found}
 use Rattle.pict_orders.specs.declared.search.Search.{Search}
 use Rattle.pict_orders.specs.declared.search.Trap.{Trap}
@@ -85,12 +85,12 @@ one_of P F v w f h k = go (get_last F v w k.0 k.1)
     go (inl e) = f w (k.0, e)
     go (inr e) = subst P e h
 
-pub search_added : (p : Process) (s t : Search) (v : Vertex) → IsAdded s t v → IsSearch p (vertices s.found.items) s.traps.items → IsReachedByChoices p v → IsStill v.configuration
+pub search_added : (p : Process) (s t : Search) (v : Vertex) → IsAdded s t v → IsSearch p (vertices s.found.items) s.traps.items → IsReachedByChoices p v → IsSettled v.configuration
     → IsSearch p (vertices t.found.items) t.traps.items × Extends s t
-search_added p s t v a h r still = (
+search_added p s t v a h r settled = (
   subst (λ (ts : List Trap). IsSearch p (vertices t.found.items) ts) (sym a.traps) (subst (λ (F : List Vertex). IsSearch p F s.traps.items) (sym a.found) (record {
     reached = λ w k. one_of (IsReachedByChoices p) (vertices s.found.items) v w h.reached r k;
-    still = λ w k. one_of (λ (u : Vertex). IsStill u.configuration) (vertices s.found.items) v w h.still still k;
+    settled = λ w k. one_of (λ (u : Vertex). IsSettled u.configuration) (vertices s.found.items) v w h.settled settled k;
     trapped = λ i u e. trap_still (vertices s.found.items) v u (h.trapped i u e);
   })),
   record { more = v ∷ []; more_traps = []; found = a.found; traps = a.traps ∙ sym (append-nil s.traps.items) },
@@ -106,7 +106,7 @@ added_found s t v bytes q a e c = record {
 }
 
 pub empty_search : (p : Process) → IsSearch p [] []
-empty_search p = record { reached = λ v h. let e = h.1 in cc; still = λ v h. let e = h.1 in cc; trapped = λ i t e. cc }
+empty_search p = record { reached = λ v h. let e = h.1 in cc; settled = λ v h. let e = h.1 in cc; trapped = λ i t e. cc }
 
 -- ---- configurations of vertices
 
@@ -186,12 +186,35 @@ run_through p s t number h l n v e =
 
 -- ---- the search goes on
 
-pub goes_no_further : (p : Process) (s : Search) (extent : Extent) (Done : Type 0) → IsSearch p (vertices s.found.items) s.traps.items → (extent ≡ All → Done) → Goes p s s extent Done
-goes_no_further p s extent Done h f = record { is = h; extends = extends_itself s; done = f }
+pub all_has_room : {A : Type 0} → All ≡ NoRoom → A
+all_has_room e = let never : ⊥ = cc in absurd never
+
+pub no_room_is_not_all : {A : Type 0} → NoRoom ≡ All → A
+no_room_is_not_all e = let never : ⊥ = cc in absurd never
+
+pub goes_no_further : (p : Process) (s : Search) (Done : Type 0) → IsSearch p (vertices s.found.items) s.traps.items → Done → Goes p s s All Done
+goes_no_further p s Done h done = record { is = h; extends = extends_itself s; done = λ e. done; full = λ e. all_has_room e }
+
+-- it ends, since the numbers are used up
+pub goes_to_full : (p : Process) (s : Search) (Done : Type 0) → IsSearch p (vertices s.found.items) s.traps.items → ComesToFull p → Goes p s s NoRoom Done
+goes_to_full p s Done h full = record { is = h; extends = extends_itself s; done = λ e. no_room_is_not_all e; full = λ e. full }
 
 -- what a search says of one fact it says of what follows from it
 pub goes_as : (p : Process) (s t : Search) (extent : Extent) (A B : Type 0) → Goes p s t extent A → (A → B) → Goes p s t extent B
-goes_as p s t extent A B g f = record { is = g.is; extends = g.extends; done = λ e. f (g.done e) }
+goes_as p s t extent A B g f = record { is = g.is; extends = g.extends; done = λ e. f (g.done e); full = g.full }
+
+-- what settles until the numbers are used up
+pub settles_to_full : (p : Process) (before after : List Place) (bytes : List ℕ) (C D : Configuration) → IsReachedByChoices p (vertex before bytes C) → SettlesToFull before C after D → ComesToFull p
+settles_to_full p before after bytes C D r h = record { vertex = vertex after bytes D; reached = h.0.runs p bytes r; full = h.1 }
+
+-- a vertex that is found, in which they are
+pub found_full : (p : Process) (s : Search) (number : ℕ) (f : Found) (C : Configuration) → slice_get s.found.items number ≡ Some f → C ≡ configuration_of f.state → IsFull C
+    → IsSearch p (vertices s.found.items) s.traps.items → ComesToFull p
+found_full p s number f C kept same full h = record {
+  vertex = vertex_of f;
+  reached = h.reached (vertex_of f) (number, slice_get-map vertex_of s.found.items number ∙ ap (option_map vertex_of) kept);
+  full = subst IsFull same full;
+}
 
 pub found_before : (F : List Vertex) (bytes : List ℕ) (C D : Configuration) → IsFoundAs F bytes (reading D) → SettlesTo 0 (reading C) (reading D) → IsFoundSettled F bytes (reading C)
 found_before F bytes C D f c = record { vertex = f.vertex; is = f.is; printed = f.printed; settles = settles_then c (at_end (symmetric f.same)) }
@@ -200,7 +223,7 @@ pub reach_added : (p : Process) (s t : Search) (before after : List Place) (byte
     → Settles before C after D → IsAdded s t (vertex after bytes D) → Goes p s t All (IsFoundSettled (vertices t.found.items) bytes (reading C))
 reach_added p s t before after bytes C D h r settled added =
     let a = search_added p s t (vertex after bytes D) added h (settled.0.runs p bytes r) settled.1 in
-    record { is = a.0; extends = a.1; done = λ e. added_found s t (vertex after bytes D) bytes (reading C) added refl settled.0.settles }
+    record { is = a.0; extends = a.1; done = λ e. added_found s t (vertex after bytes D) bytes (reading C) added refl settled.0.settles; full = λ e. all_has_room e }
 
 -- the vertex of a number is that of what is kept under it
 pub own_vertex : (fs : List Found) (number : ℕ) (f : Found) (v : Vertex) → slice_get fs number ≡ Some f → slice_get (vertices fs) number ≡ Some v → vertex_of f ≡ v
@@ -243,8 +266,8 @@ tried_steps p s t extent number f at D label kept within steps there go =
 pub tried_nothing : (p : Process) (s : Search) (number : ℕ) (f : Found) (at : Place) (o : StepOutcome) → slice_get s.found.items number ≡ Some f → outcome_at (configuration_of f.state) at ≡ o
     → ((v : Vertex) → IsCovered s number v o) → IsSearch p (vertices s.found.items) s.traps.items → Goes p s s All (IsTried s number at)
 tried_nothing p s number f at o kept is covered h =
-    goes_no_further p s All (IsTried s number at) h
-    (λ all v e. subst (IsCovered s number v) (sym (ap (λ (w : Vertex). outcome_at w.configuration at) (sym (own_vertex s.found.items number f v kept e)) ∙ is)) (covered v))
+    goes_no_further p s (IsTried s number at) h
+    (λ v e. subst (IsCovered s number v) (sym (ap (λ (w : Vertex). outcome_at w.configuration at) (sym (own_vertex s.found.items number f v kept e)) ∙ is)) (covered v))
 
 pub tried_trap : (p : Process) (s t : Search) (number : ℕ) (f : Found) (trap : Trap) → slice_get s.found.items number ≡ Some f → t.found ≡ s.found → t.traps.items ≡ s.traps.items ++ trap ∷ [] → trap.vertex ≡ number
     → outcome_at (configuration_of f.state) (place_of trap.choice) ≡ Traps trap.at → IsThere (vertices s.found.items) number (place_of trap.choice) → IsSearch p (vertices s.found.items) s.traps.items
@@ -253,7 +276,7 @@ tried_trap p s t number f trap kept same more named traps there h =
     let fs : vertices t.found.items ≡ vertices s.found.items = ap (λ x. vertices x.items) same in
     let is : slice_get (vertices s.found.items) number ≡ Some (vertex_of f) = its_vertex s.found.items number f kept in
     let own : IsTrap (vertices s.found.items) trap = record { vertex = vertex_of f; is = ap (slice_get (vertices s.found.items)) named ∙ is; there = there (vertex_of f) is; traps = traps } in
-    let all : IsSearch p (vertices s.found.items) (s.traps.items ++ trap ∷ []) = record { reached = h.reached; still = h.still; trapped = λ i u e. one_trap i u own (get_last s.traps.items trap u i e) } in
+    let all : IsSearch p (vertices s.found.items) (s.traps.items ++ trap ∷ []) = record { reached = h.reached; settled = h.settled; trapped = λ i u e. one_trap i u own (get_last s.traps.items trap u i e) } in
     record {
       is = subst (λ (F : List Vertex). IsSearch p F t.traps.items) (sym fs) (subst (λ (ts : List Trap). IsSearch p (vertices s.found.items) ts) (sym more) all);
       extends = record { more = []; more_traps = trap ∷ []; found = fs ∙ sym (append-nil (vertices s.found.items)); traps = more };
@@ -261,6 +284,7 @@ tried_trap p s t number f trap kept same more named traps there h =
           let before : slice_get (vertices s.found.items) number ≡ Some v = ap (λ (F : List Vertex). slice_get F number) (sym fs) ∙ k in
           subst (IsCovered t number v) (sym (ap (λ (w : Vertex). outcome_at w.configuration (place_of trap.choice)) (sym (own_vertex s.found.items number f v kept before)) ∙ traps))
           (record { index = length s.traps.items; trap = trap; listed = ap (λ (ts : List Trap). slice_get ts (length s.traps.items)) more ∙ get_own s.traps.items trap; vertex = named; same = refl });
+      full = λ e. all_has_room e;
     }
   where
     one_trap : (i : ℕ) (u : Trap) → IsTrap (vertices s.found.items) trap → (slice_get s.traps.items i ≡ Some u) ⊎ (trap ≡ u) → IsTrap (vertices s.found.items) u
@@ -289,6 +313,7 @@ tried_all p s t number ready m f kept within many h = record {
       let own : vertex_of f ≡ v = own_vertex s.found.items number f v kept (same_vertex s t h.extends number v within k) in
       let same : m ≡ length (partners_at v.configuration ready) = many ∙ ap (λ (w : Vertex). length (partners_at w.configuration ready)) own in
       h.tried j (below j same there.partner) v k;
+  full = λ e. all_has_room e;
 }
   where
     below : {n : ℕ} (j : ℕ) → m ≡ n → (j < n) ⊎ ((n ≡ 0) × (j ≡ 0)) → j < max m 1
@@ -312,6 +337,7 @@ expanded_all p s t number n f kept within many h = record {
       let same : n ≡ length (ready_entries v.configuration) = many ∙ ap (λ (w : Vertex). length (ready_entries w.configuration)) own in
       let below : at.ready < length (ready_entries v.configuration) = there.ready in
       h.tried at.ready (omega (arith, same, below)) v k at.partner there;
+  full = λ e. all_has_room e;
 }
 
 pub go_by : (s t : Search) (r : Result Extent AllocError) (number : ℕ) (f : Found) (choice : Choice) (D : Configuration) (label : Label) (choices : List Choice) (bytes : List ℕ)

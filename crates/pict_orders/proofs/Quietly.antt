@@ -31,7 +31,7 @@ use Rattle.pict_reference.specs.Plain.{IsOutcome}
 use Rattle.pict_reference.specs.declared.outcome.StepOutcome.{StepOutcome as Made}
 use Rattle.pict_reference.specs.declared.outcome.StepOutcome.TheVariants as made
 use Rattle.pict_orders.specs.Plain.{place}
-use Rattle.pict_orders.specs.Settling.{vertex, is_quiet, is_quiet_effect, goes_alone, FirstQuiet, LeadsQuietly, SettlesOnce, Settles}
+use Rattle.pict_orders.specs.Settling.{vertex, is_quiet, is_quiet_effect, goes_alone, FirstQuiet, LeadsQuietly, SettlesOnce, Settles, SettlesToFull}
 use Rattle.pict_orders.specs.declared.settling.Once.{Once}
 use Rattle.pict_orders.specs.declared.settling.Once.TheVariants as once
 use Rattle.pict_orders.proofs.Lists.{none_left, get_within}
@@ -218,10 +218,14 @@ settled_by C D i before after o m f e h k is = subst (λ (l : List Place). Leads
 -- ---- one after the other
 
 module _ (start : List Place) (O : Configuration) (before after : List Place) (C D : Configuration) (o : Once) (so_far : LeadsQuietly start O before C) (next : IsConfiguration C → SettlesOnce o before C after D) where
+  stays : after ≡ before → D ≡ C → LeadsQuietly start O after D
+  stays e f = subst (λ (l : List Place). LeadsQuietly start O l D) (sym e) (subst (λ (X : Configuration). LeadsQuietly start O before X) (sym f) so_far)
+
   pub settled_all : o ≡ once.Still → Settles start O after D
-  settled_all e =
-      let s : SettlesOnce once.Still before C after D = subst (λ (x : Once). SettlesOnce x before C after D) e (next so_far.is) in
-      (subst (λ (l : List Place). LeadsQuietly start O l D) (sym s.0) (subst (λ (X : Configuration). LeadsQuietly start O before X) (sym s.1) so_far), s.2)
+  settled_all e = let s : SettlesOnce once.Still before C after D = subst (λ (x : Once). SettlesOnce x before C after D) e (next so_far.is) in (stays s.0 s.1, s.2)
+
+  pub settled_full : o ≡ once.NoRoom → SettlesToFull start O after D
+  settled_full e = let s : SettlesOnce once.NoRoom before C after D = subst (λ (x : Once). SettlesOnce x before C after D) e (next so_far.is) in (stays s.0 s.1, s.2)
 
   pub settled_more : o ≡ once.Stepped → LeadsQuietly start O after D
   settled_more e = then_quietly start before after O C D so_far (subst (λ (x : Once). SettlesOnce x before C after D) e (next so_far.is))

@@ -19,21 +19,24 @@ use Rattle.pict_reference.specs.declared.outcome.StepOutcome.TheVariants as made
 use Rattle.pict_orders.specs.Plain.{configuration_of, place, place_of}
 use Rattle.pict_orders.specs.declared.choice.Choice.{Choice}
 use Rattle.pict_orders.specs.Found.{vertex_of, vertices, IsSearch}
-use Rattle.pict_orders.specs.Going.{Goes, IsAdded, IsThere, IsReadyAt, IsStepFrom, IsFoundBy, IsTried, AreTried, IsExpanded, AreExpanded}
+use Rattle.pict_orders.specs.Going.{Extends, Goes, IsAdded, IsThere, IsReadyAt, IsStepFrom, IsFoundBy, IsTried, AreTried, IsExpanded, AreExpanded}
 use Rattle.pict_orders.specs.declared.search.Extent.{Extent}
 use Rattle.pict_orders.specs.declared.search.Extent.TheVariants.{All, Limit, NoRoom}
 use Rattle.pict_orders.specs.declared.search.Found.{Found}
 use Rattle.pict_orders.specs.declared.search.Search.{Search}
 use Rattle.pict_orders.specs.declared.search.Trap.{Trap}
-use Rattle.pict_orders.proofs.Going.{same_vertex, extends_itself, extends_then, its_vertex, vertex_is, tried_steps, tried_trap, tried_nothing, there_at, ready_at, tried_all, expanded_all, empty_search, TriedSoFar, ExpandedSoFar, RunSoFar, tried_more, expanded_more, run_more, run_through}
+use Rattle.pict_orders.proofs.Going.{same_vertex, all_has_room, extends_itself, extends_then, its_vertex, vertex_is, tried_steps, tried_trap, tried_nothing, there_at, ready_at, tried_all, expanded_all, empty_search, TriedSoFar, ExpandedSoFar, RunSoFar, tried_more, expanded_more, run_more, run_through}
 
--- ---- a search that ends early promises no more
+-- ---- a search that ends by its limit promises no more
 
-pub limit_is_not_all : {A : Type 0} → Limit ≡ All → A
+limit_is_not_all : {A : Type 0} → Limit ≡ All → A
 limit_is_not_all e = let never : ⊥ = cc in absurd never
 
-pub no_room_is_not_all : {A : Type 0} → NoRoom ≡ All → A
-no_room_is_not_all e = let never : ⊥ = cc in absurd never
+limit_has_room : {A : Type 0} → Limit ≡ NoRoom → A
+limit_has_room e = let never : ⊥ = cc in absurd never
+
+pub goes_to_limit : (p : Process) (s t : Search) (Done : Type 0) → IsSearch p (vertices t.found.items) t.traps.items → Extends s t → Goes p s t Limit Done
+goes_to_limit p s t Done h e = record { is = h; extends = e; done = λ x. limit_is_not_all x; full = λ x. limit_has_room x }
 
 -- ---- vertices
 
@@ -115,7 +118,7 @@ module _ (p : Process) (s t u : Search) (number ready partner m : ℕ) (f : Foun
   try_on all = tried_more p s t u number ready partner within far went.is went.extends (went.done all)
 
   pub try_no_more : (extent ≡ All → ⊥) → Goes p s u extent (AreTried u number ready)
-  try_no_more ends = record { is = went.is; extends = extends_then s t u far.extends went.extends; done = λ e. absurd (ends e) }
+  try_no_more ends = record { is = went.is; extends = extends_then s t u far.extends went.extends; done = λ e. absurd (ends e); full = went.full }
 
 -- all partners were tried
 pub try_all : (p : Process) (s t : Search) (number ready partner m : ℕ) (f : Found) → number < length s.found.items → f ≡ get_or s.found.items number f
@@ -137,7 +140,7 @@ module _ (p : Process) (s t u : Search) (number ready n : ℕ) (f : Found) (exte
   expand_on all = expanded_more p s t u number ready within far reached.is reached.extends (reached.done all)
 
   pub expand_no_more : (extent ≡ All → ⊥) → Goes p s u extent (IsExpanded u number)
-  expand_no_more ends = record { is = reached.is; extends = extends_then s t u far.extends reached.extends; done = λ e. absurd (ends e) }
+  expand_no_more ends = record { is = reached.is; extends = extends_then s t u far.extends reached.extends; done = λ e. absurd (ends e); full = reached.full }
 
 -- all ready processes were
 pub expand_all : (p : Process) (s t : Search) (number ready n : ℕ) (f : Found) → number < length s.found.items → f ≡ get_or s.found.items number f
@@ -157,12 +160,12 @@ module _ (p : Process) (s t u : Search) (number : ℕ) (extent : Extent) (within
   run_on all = let went = goes p closed far.is in run_more p s t u number far within went.is went.extends (went.done all)
 
   pub run_no_more : (extent ≡ All → ⊥) → Goes p s u extent (AreExpanded u)
-  run_no_more ends = let went = goes p closed far.is in record { is = went.is; extends = extends_then s t u far.extends went.extends; done = λ e. absurd (ends e) }
+  run_no_more ends = let went = goes p closed far.is in record { is = went.is; extends = extends_then s t u far.extends went.extends; done = λ e. absurd (ends e); full = went.full }
 
 -- there are no more
 pub run_all : (p : Process) (s t : Search) (number : ℕ) → RunSoFar p s t number → length t.found.items ≤ number → Goes p s t All (AreExpanded t)
-run_all p s t number far end = record { is = far.is; extends = far.extends; done = λ e. run_through p s t number far end }
+run_all p s t number far end = record { is = far.is; extends = far.extends; done = λ e. run_through p s t number far end; full = λ e. all_has_room e }
 
 -- there are no more numbers
 pub run_out : (p : Process) (s t : Search) (number : ℕ) → RunSoFar p s t number → Goes p s t Limit (AreExpanded t)
-run_out p s t number far = record { is = far.is; extends = far.extends; done = λ e. limit_is_not_all e }
+run_out p s t number far = goes_to_limit p s t (AreExpanded t) far.is far.extends

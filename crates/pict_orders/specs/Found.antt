@@ -4,9 +4,9 @@ use Rattle.pict_syntax.specs.declared.span.Span.{Span}
 use Rattle.pict_core.specs.Term.{Process}
 use Rattle.pict_core.specs.Step.{Traps}
 use Rattle.pict_core.specs.Places.{Place, IsPlace, outcome_at}
-use Rattle.pict_reduction.specs.Silent.{IsStill}
 use Rattle.pict_exploration.specs.Explored.{Vertex, Has, IsReachedByChoices}
 use Rattle.pict_orders.specs.Plain.{configuration_of, place_of}
+use Rattle.pict_orders.specs.Settling.{IsSettled}
 use Rattle.pict_orders.specs.declared.search.Found.{Found}
 use Rattle.pict_orders.specs.declared.search.Trap.{Trap}
 
@@ -24,10 +24,10 @@ pub record IsTrap (found : List Vertex) (t : Trap) : Type 0 where
   pub there : IsPlace vertex.configuration (place_of t.choice)
   pub traps : outcome_at vertex.configuration (place_of t.choice) ≡ Traps t.at
 
--- Each vertex is reached by its choices and has no silent step left, and each trap is one.
+-- Each vertex is reached by its choices and has settled, and each trap is one.
 pub record IsSearch (p : Process) (found : List Vertex) (traps : List Trap) : Type 0 where
   pub reached : (v : Vertex) → Has found v → IsReachedByChoices p v
-  pub still : (v : Vertex) → Has found v → IsStill v.configuration
+  pub settled : (v : Vertex) → Has found v → IsSettled v.configuration
   pub trapped : (i : ℕ) (t : Trap) → slice_get traps i ≡ Some t → IsTrap found t
 
 -- a trap of this vertex, at this place of the text, is listed

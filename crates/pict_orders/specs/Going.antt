@@ -8,9 +8,10 @@ use Rattle.pict_core.specs.Places.{Place, IsPlace, ready_entries, outcome_at}
 use Rattle.pict_reduction.specs.Reading.{reading}
 use Rattle.pict_exploration.specs.Explored.{Vertex, IsFoundSettled}
 use Rattle.pict_orders.specs.Plain.{place}
+use Rattle.pict_orders.specs.Room.{ComesToFull}
 use Rattle.pict_orders.specs.Found.{vertices, IsSearch, HasTrap}
 use Rattle.pict_orders.specs.declared.search.Extent.{Extent}
-use Rattle.pict_orders.specs.declared.search.Extent.TheVariants.{All}
+use Rattle.pict_orders.specs.declared.search.Extent.TheVariants.{All, NoRoom}
 use Rattle.pict_orders.specs.declared.search.Search.{Search}
 use Rattle.pict_orders.specs.declared.search.Trap.{Trap}
 
@@ -21,11 +22,12 @@ pub record Extends (old new : Search) : Type 0 where
   pub found : vertices new.found.items ≡ vertices old.found.items ++ more
   pub traps : new.traps.items ≡ old.traps.items ++ more_traps
 
--- The search goes on; and where nothing is left out this is done.
+-- The search goes on; where nothing is left out this is done; and where it ends for want of numbers, choices lead to that.
 pub record Goes (p : Process) (old new : Search) (extent : Extent) (Done : Type 0) : Type 0 where
   pub is : IsSearch p (vertices new.found.items) new.traps.items
   pub extends : Extends old new
   pub done : extent ≡ All → Done
+  pub full : extent ≡ NoRoom → ComesToFull p
 
 -- one vertex more is found
 pub record IsAdded (old new : Search) (v : Vertex) : Type 0 where

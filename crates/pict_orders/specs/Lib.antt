@@ -1,4 +1,5 @@
 pub mod Plain
+pub mod Room
 pub mod Settling
 pub mod Found
 pub mod Going

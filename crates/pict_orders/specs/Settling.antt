@@ -9,6 +9,7 @@ use Rattle.pict_reduction.specs.Reading.{reading}
 use Rattle.pict_reduction.specs.Silent.{IsStill, is_silent, acts_silently}
 use Rattle.pict_exploration.specs.Alone.{SettlesTo}
 use Rattle.pict_exploration.specs.Explored.{Vertex, IsReachedByChoices}
+use Rattle.pict_orders.specs.Room.{IsFull}
 use Rattle.pict_orders.specs.declared.settling.Once.{Once}
 use Rattle.pict_orders.specs.declared.settling.Once.TheVariants as once
 
@@ -45,9 +46,18 @@ abbrev pub FirstReady : (Process → Bool) → List Entry → Option ℕ → Typ
 FirstReady t es None = least (is_ready_for t) es ≡ None
 FirstReady t es (Some i) = (a : Entry) × (slice_get (filter is_ready es) i ≡ Some a) × (t a.process ≡ true)
 
--- None acts silently; or the one of this number, among those that are ready, acts silently or by itself.
+-- no ready process reduces by itself and prints nothing
+abbrev pub NoneGoesAlone : List Entry → Type 0
+NoneGoesAlone es = least (is_ready_for goes_alone) es ≡ None
+
+-- No ready process of the configuration acts silently, and none reduces by itself and prints nothing.
+pub record IsSettled (C : Configuration) : Type 0 where
+  pub still : IsStill C
+  pub none : NoneGoesAlone C.entries
+
+-- None acts silently or by itself; or the one of this number, among those that are ready, does.
 abbrev pub FirstQuiet : List Entry → Option ℕ → Type 0
-FirstQuiet es None = least (acts_silently es) es ≡ None
+FirstQuiet es None = (least (acts_silently es) es ≡ None) × NoneGoesAlone es
 FirstQuiet es (Some i) = (a : Entry) × (slice_get (filter is_ready es) i ≡ Some a) × ((is_silent es a.process ≡ true) ⊎ (goes_alone a.process ≡ true))
 
 abbrev pub vertex : List Place → List ℕ → Configuration → Vertex
@@ -59,12 +69,16 @@ pub record LeadsQuietly (before : List Place) (C : Configuration) (after : List 
   pub settles : SettlesTo 0 (reading C) (reading D)
   pub runs : (p : Process) (bytes : List ℕ) → IsReachedByChoices p (vertex before bytes C) → IsReachedByChoices p (vertex after bytes D)
 
--- One such step, or none: D has no silent one left; or there are no numbers for one more.
+-- One such step, or none: D has settled; or there may be no numbers for one more.
 abbrev pub SettlesOnce : Once → List Place → Configuration → List Place → Configuration → Type 0
-SettlesOnce once.Still before C after D = (after ≡ before) × (D ≡ C) × IsStill D
-SettlesOnce once.NoRoom before C after D = Unit {0}
+SettlesOnce once.Still before C after D = (after ≡ before) × (D ≡ C) × IsSettled D
+SettlesOnce once.NoRoom before C after D = (after ≡ before) × (D ≡ C) × IsFull D
 SettlesOnce once.Stepped before C after D = LeadsQuietly before C after D
 
--- All of them, until D has no silent one left.
+-- All of them, until D has settled.
 abbrev pub Settles : List Place → Configuration → List Place → Configuration → Type 0
-Settles before C after D = LeadsQuietly before C after D × IsStill D
+Settles before C after D = LeadsQuietly before C after D × IsSettled D
+
+-- Some of them, until there may be no numbers for one more.
+abbrev pub SettlesToFull : List Place → Configuration → List Place → Configuration → Type 0
+SettlesToFull before C after D = LeadsQuietly before C after D × IsFull D

@@ -11,9 +11,10 @@ ghost use Rattle.pict_reduction.specs.Reading.{reading};
 ghost use Rattle.pict_reference.specs.Plain.{plain_label};
 ghost use Rattle.pict_exploration.specs.Explored.{IsReachedByChoices, IsFoundAs, IsFoundSettled, Explores};
 ghost use Rattle.pict_orders.specs.Plain.{configuration_of, place_of};
+ghost use Rattle.pict_orders.specs.Room.{ComesToFull};
 ghost use Rattle.pict_orders.specs.Settling.{vertex};
 ghost use Rattle.pict_orders.specs.Found.{vertices, IsSearch, ListsTraps};
-ghost use Rattle.pict_orders.specs.declared.search.Extent.TheVariants.{All, Limit};
+ghost use Rattle.pict_orders.specs.declared.search.Extent.TheVariants.{All, Limit, NoRoom};
 ghost use Rattle.pict_orders.specs.Going.{Goes, IsAdded, IsFoundBy, IsStepFrom, IsTried, AreTried, IsExpanded, AreExpanded, IsThere, IsReadyAt, IsOpened, IsWhole};
 
 use crate::alike::are_alike;
@@ -34,7 +35,7 @@ pub struct Found {
     pub choices: Vec<Choice>,
     /// The bytes.
     pub bytes: Vec<u8>,
-    /// The configuration, in which no silent step is left.
+    /// The configuration, in which no silent step is left, and no step of one process by itself that prints nothing.
     pub state: State,
     // A guess at names of its channels.
     guess: Guess,
@@ -81,9 +82,9 @@ struct Search {
 pub enum Extent {
     /// All orders.
     All,
-    /// There are more vertices than were asked for.
+    /// As many vertices as were asked for, and a step leads to what isn't taken for one of them.
     Limit,
-    /// A configuration has as many channels, or stamps, as there are numbers.
+    /// Up to a configuration for which there is no number of one more channel, or none of two more stamps.
     NoRoom,
 }
 
@@ -214,6 +215,7 @@ impl Search {
     ) -> Result<Extent, AllocError>
         ensures grows { OnOk result (length self.old.found.items ≤ length self.new.found.items) }
         ensures limit { OnOk result (self.new.limit ≡ self.old.limit) }
+        ensures few { OnOk result (length self.old.found.items ≤ self.old.limit → length self.new.found.items ≤ self.old.limit) }
         ensures limited { IfOk result (λ extent. extent ≡ Limit → self.old.limit ≤ length self.new.found.items) }
         ensures goes { IfOk result (λ extent. (p : Process) → IsSearch p (vertices self.old.found.items) self.old.traps.items
             → IsConfiguration (configuration_of state)
@@ -248,6 +250,7 @@ impl Search {
         requires { number < length self.old.found.items }
         ensures grows { OnOk result (length self.old.found.items ≤ length self.new.found.items) }
         ensures limit { OnOk result (self.new.limit ≡ self.old.limit) }
+        ensures few { OnOk result (length self.old.found.items ≤ self.old.limit → length self.new.found.items ≤ self.old.limit) }
         ensures limited { IfOk result (λ extent. extent ≡ Limit → self.old.limit ≤ length self.new.found.items) }
         ensures goes { IfOk result (λ extent. (p : Process) → IsClosed p → IsSearch p (vertices self.old.found.items) self.old.traps.items
             → IsStepFrom (vertices self.old.found.items) number (place_of choice) (configuration_of state) (plain_label label.now)
@@ -264,6 +267,7 @@ impl Search {
         requires { number < length self.old.found.items }
         ensures grows { OnOk result (length self.old.found.items ≤ length self.new.found.items) }
         ensures limit { OnOk result (self.new.limit ≡ self.old.limit) }
+        ensures few { OnOk result (length self.old.found.items ≤ self.old.limit → length self.new.found.items ≤ self.old.limit) }
         ensures limited { IfOk result (λ extent. extent ≡ Limit → self.old.limit ≤ length self.new.found.items) }
         ensures goes { IfOk result (λ extent. (p : Process) → IsClosed p → IsSearch p (vertices self.old.found.items) self.old.traps.items
             → IsThere (vertices self.old.found.items) number (place_of choice)
@@ -294,6 +298,7 @@ impl Search {
         requires { number < length self.old.found.items }
         ensures grows { OnOk result (length self.old.found.items ≤ length self.new.found.items) }
         ensures limit { OnOk result (self.new.limit ≡ self.old.limit) }
+        ensures few { OnOk result (length self.old.found.items ≤ self.old.limit → length self.new.found.items ≤ self.old.limit) }
         ensures limited { IfOk result (λ extent. extent ≡ Limit → self.old.limit ≤ length self.new.found.items) }
         ensures goes { IfOk result (λ extent. (p : Process) → IsClosed p → IsSearch p (vertices self.old.found.items) self.old.traps.items
             → IsReadyAt (vertices self.old.found.items) number ready
@@ -314,6 +319,7 @@ impl Search {
         requires { number < length self.old.found.items }
         ensures grows { OnOk result (length self.old.found.items ≤ length self.new.found.items) }
         ensures limit { OnOk result (self.new.limit ≡ self.old.limit) }
+        ensures few { OnOk result (length self.old.found.items ≤ self.old.limit → length self.new.found.items ≤ self.old.limit) }
         ensures limited { IfOk result (λ extent. extent ≡ Limit → self.old.limit ≤ length self.new.found.items) }
         ensures goes { IfOk result (λ extent. (p : Process) → IsClosed p → IsSearch p (vertices self.old.found.items) self.old.traps.items
             → Goes p self.old self.new extent (IsExpanded self.new number)) }
@@ -331,6 +337,7 @@ impl Search {
     // Takes all steps of each vertex, until no more are found.
     fn run(&mut self) -> Result<Extent, AllocError>
         ensures limit { OnOk result (self.new.limit ≡ self.old.limit) }
+        ensures few { OnOk result (length self.old.found.items ≤ self.old.limit → length self.new.found.items ≤ self.old.limit) }
         ensures limited { IfOk result (λ extent. extent ≡ Limit → self.old.limit ≤ length self.new.found.items) }
         ensures goes { IfOk result (λ extent. (p : Process) → IsClosed p → IsSearch p (vertices self.old.found.items) self.old.traps.items
             → Goes p self.old self.new extent (AreExpanded self.new)) }
@@ -350,6 +357,7 @@ impl Search {
     // From the opening configuration.
     fn begin(&mut self, process: Core) -> Result<Extent, AllocError>
         ensures limit { OnOk result (self.new.limit ≡ self.old.limit) }
+        ensures few { OnOk result (length self.old.found.items ≤ self.old.limit → length self.new.found.items ≤ self.old.limit) }
         ensures limited { IfOk result (λ extent. extent ≡ Limit → self.old.limit ≤ length self.new.found.items) }
         ensures goes { IfOk result (λ extent. IsClosed (plain_core process)
             → IsSearch (plain_core process) (vertices self.old.found.items) self.old.traps.items
@@ -361,6 +369,7 @@ impl Search {
 
     fn explore(&mut self, process: Core) -> Result<Extent, AllocError>
         ensures limit { OnOk result (self.new.limit ≡ self.old.limit) }
+        ensures few { OnOk result (length self.old.found.items ≤ self.old.limit → length self.new.found.items ≤ self.old.limit) }
         ensures limited { IfOk result (λ extent. extent ≡ Limit → self.old.limit ≤ length self.new.found.items) }
         ensures goes { IfOk result (λ extent. IsClosed (plain_core process)
             → IsSearch (plain_core process) (vertices self.old.found.items) self.old.traps.items
@@ -377,13 +386,15 @@ impl Search {
 /// processes, with each of their partners, are taken, and after each of them all silent steps, and all conditionals and outputs
 /// to primitives that answer and print nothing: these commute with all other steps. What they lead to is a vertex, unless one
 /// with the same bytes and a congruent configuration is found. The search ends early where more vertices than
-/// `limit` would be found, and then it has found as many; or where the numbers of channels or stamps are used up. The only error
-/// is want of memory.
+/// `limit` would be found, and then it has found as many; or where some choices lead to a configuration for which there is no number
+/// of one more channel, or none of two more stamps. The only error is want of memory.
 pub fn explore(alloc: Global, process: Core, limit: usize) -> Result<Exploration, AllocError>
     requires closed { IsClosed (plain_core process) }
     ensures found { IfOk result (λ e. IsSearch (plain_core process) (vertices e.found.items) e.traps.items) }
     ensures all { IfOk result (λ e. e.extent ≡ All → Explores (plain_core process) (vertices e.found.items)) }
+    ensures few { IfOk result (λ e. length e.found.items ≤ limit) }
     ensures limited { IfOk result (λ e. e.extent ≡ Limit → limit ≤ length e.found.items) }
+    ensures full { IfOk result (λ e. e.extent ≡ NoRoom → ComesToFull (plain_core process)) }
     ensures traps { IfOk result (λ e. e.extent ≡ All → ListsTraps (vertices e.found.items) e.traps.items) }
 {
     let mut search = Search {

@@ -1,6 +1,6 @@
 // Silent steps, and steps of one process by itself that print nothing, as long as there are any.
 
-ghost use Rattle.std.specs.Prelude.{◌≡◌, IsTrue, not, map, IfOk, IfSome, option_map};
+ghost use Rattle.std.specs.Prelude.{◌≡◌, ◌+◌, false, IsTrue, not, map, IfOk, IfSome, option_map, vec_len};
 ghost use Rattle.pict_core.specs.Plain.{plain_core, plain_val};
 ghost use Rattle.pict_prim.specs.ValueDone.{effect_value_done, PrintsText};
 ghost use Rattle.pict_core.specs.Configuration.{IsConfiguration};
@@ -8,7 +8,7 @@ ghost use Rattle.pict_core.specs.Step.{is_partner as is_plain_partner, least};
 ghost use Rattle.pict_reduction.specs.Silent.{is_silent as is_plain_silent, is_chan, has_none, parks as parks_plain};
 ghost use Rattle.pict_orders.specs.Plain.{configuration_of, place_of};
 ghost use Rattle.pict_shared.specs.Plain.{plain_held};
-ghost use Rattle.pict_orders.specs.Settling.{FirstReady, FirstQuiet, is_truth_value as is_plain_truth_value, is_quiet_effect, is_answered as is_plain_answered, goes_alone as goes_plain_alone, SettlesOnce, Settles};
+ghost use Rattle.pict_orders.specs.Settling.{FirstReady, FirstQuiet, is_truth_value as is_plain_truth_value, is_quiet_effect, is_answered as is_plain_answered, goes_alone as goes_plain_alone, SettlesOnce, Settles, SettlesToFull};
 
 use crate::choice::Choice;
 use crate::state::State;
@@ -139,7 +139,8 @@ impl State {
     // One silent step, or one of a process by itself, if there is any: whether there was one. Its choice is written behind the
     // others.
     fn settle_once(&mut self, choices: &mut Vec<Choice>) -> Result<Once, AllocError>
-        ensures { IfOk result (λ once. IsConfiguration (configuration_of self.old) → SettlesOnce once
+        ensures grows { IfOk result (λ once. once ≡ Once.Stepped → vec_len choices.new ≡ vec_len choices.old + 1) }
+        ensures settles { IfOk result (λ once. IsConfiguration (configuration_of self.old) → SettlesOnce once
             (map place_of choices.old.items) (configuration_of self.old) (map place_of choices.new.items) (configuration_of self.new)) }
     {
         match first_quiet(self.alloc, &self.entries)? {
@@ -157,20 +158,22 @@ impl State {
     }
 
     /// All silent steps, and all steps of one process by itself that print nothing, one after the other, until none is left:
-    /// their choices are written behind the others. The answer is false where the numbers of channels or stamps are used up
-    /// before. The only error is want of memory.
+    /// their choices are written behind the others. The answer is false where there may be no numbers of channels or stamps for one
+    /// more of them. The only error is want of memory.
     pub fn settle(&mut self, choices: &mut Vec<Choice>) -> Result<bool, AllocError>
-        ensures { IfOk result (λ done. IsConfiguration (configuration_of self.old) → IsTrue done → Settles
+        ensures settled { IfOk result (λ done. IsConfiguration (configuration_of self.old) → IsTrue done → Settles
+            (map place_of choices.old.items) (configuration_of self.old) (map place_of choices.new.items) (configuration_of self.new)) }
+        ensures full { IfOk result (λ done. IsConfiguration (configuration_of self.old) → done ≡ false → SettlesToFull
             (map place_of choices.old.items) (configuration_of self.old) (map place_of choices.new.items) (configuration_of self.new)) }
     {
-        for _ in 0..u64::MAX {
+        for round in 0..u64::MAX {
             match self.settle_once(choices)? {
                 Once::Still => return Ok(true),
                 Once::NoRoom => return Ok(false),
                 Once::Stepped => {}
             }
         }
-        Ok(false)
+        unreachable!()
     }
 }
 

@@ -1,10 +1,11 @@
 // A configuration, which shares its processes with others.
 
-ghost use Rattle.std.specs.Prelude.{◌≡◌, ◌+◌, ◌<◌, ◌^◌, IsTrue, IfOk, OnOk, map, if◌then◌else◌};
+ghost use Rattle.std.specs.Prelude.{◌≡◌, ◌+◌, ◌<◌, ◌^◌, false, IsTrue, IfOk, OnOk, map, if◌then◌else◌};
 ghost use Rattle.pict_core.specs.Plain.{plain_core};
 ghost use Rattle.pict_core.specs.Configuration.{opening, Ready, Parked};
 ghost use Rattle.pict_core.specs.Step.{gone as gone_plain, kept as kept_plain, added as added_plain};
 ghost use Rattle.pict_orders.specs.Plain.{configuration_of};
+ghost use Rattle.pict_orders.specs.Room.{IsFull};
 ghost use Rattle.pict_shared.specs.Plain.{plain_held};
 
 use pict_core::Core;
@@ -72,6 +73,7 @@ impl State {
     pub fn has_room(&self) -> bool
         ensures channels { IsTrue result → (configuration_of self.now).channels + 1 < 2 ^ 32 }
         ensures stamps { IsTrue result → (configuration_of self.now).next_stamp + 2 < 2 ^ 64 }
+        ensures full { result ≡ false → IsFull (configuration_of self.now) }
     {
         self.channels < u32::MAX && self.next_stamp < u64::MAX - 1
     }

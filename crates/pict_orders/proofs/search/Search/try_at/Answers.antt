@@ -1,11 +1,15 @@
 use Rattle.std.proofs.Common.{refl}
+use Rattle.std.proofs.lemmas.Option.{slice_get_read}
 use Rattle.pict_orders.specs.Plain.{configuration_of}
-use Rattle.pict_orders.proofs.Going.{goes_no_further}
-use Rattle.pict_orders.proofs.Trying.{no_room_is_not_all, try_steps, try_trap, try_wrong, try_finished}
+use Rattle.pict_orders.proofs.Going.{goes_to_full, found_full}
+use Rattle.pict_orders.proofs.Trying.{try_steps, try_trap, try_wrong, try_finished}
 use Rattle.pict_orders.proofs.search.Search.try_at.Goals as goal
 
 pub returns-then-not-has_room-clause-goes : goal.returns-then-not-has_room-clause-goes
-returns-then-not-has_room-clause-goes c = λ p u h there. goes_no_further p c.args.self.now _ _ h (λ e. no_room_is_not_all e)
+returns-then-not-has_room-clause-goes c = λ p u h there.
+    goes_to_full p c.args.self.now _ h
+    (found_full p c.args.self.now c.args.number c.index.result.now (configuration_of c.in_ok-state.state) (slice_get_read _ _ _ _ refl c.requires c.index.ensures) c.in_ok-state.ensures
+    (c.has_room.ensures.full c.if-not-has_room.true) h)
 
 pub returns-in-Steps-clause-goes : goal.returns-in-Steps-clause-goes
 returns-in-Steps-clause-goes c =

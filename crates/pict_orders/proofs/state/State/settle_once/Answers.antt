@@ -7,14 +7,15 @@ use Rattle.pict_orders.specs.Settling.{FirstQuiet}
 use Rattle.pict_orders.proofs.Quietly.{settled_by}
 use Rattle.pict_orders.proofs.state.State.settle_once.Goals as goal
 
-pub returns-in_ok-push-in-Some : goal.returns-in_ok-push-in-Some
-returns-in_ok-push-in-Some c =
+pub returns-in_ok-push-in-Some-clause-settles : goal.returns-in_ok-push-in-Some-clause-settles
+returns-in_ok-push-in-Some-clause-settles c =
     settled_by (configuration_of c.args.self.now) _ _ _ _ _ _ (subst (λ (l : List Held). FirstQuiet (map plain_held l) c.in_ok-first_quiet.field-0) c.deref.ensures.value c.in_ok-first_quiet.ensures)
     c.in-Some.is (ap (map place_of) c.in_ok-push-in-Some.ensures.items ∙ map-append place_of _ _) c.in_ok-step_at-in-Some.ensures
 
-pub returns-in-None : goal.returns-in-None
-returns-in-None c = λ is. (
-  refl,
-  refl,
-  subst (λ (l : List Held). FirstQuiet (map plain_held l) None) c.deref.ensures.value (subst (FirstQuiet (map plain_held c.deref.result.now)) c.in-None.is c.in_ok-first_quiet.ensures),
-)
+pub returns-then-not-has_room-clause-settles : goal.returns-then-not-has_room-clause-settles
+returns-then-not-has_room-clause-settles c = λ is. (refl, refl, c.has_room.ensures.full c.if-not-has_room.true)
+
+pub returns-in-None-clause-settles : goal.returns-in-None-clause-settles
+returns-in-None-clause-settles c = λ is.
+    let none = subst (λ (l : List Held). FirstQuiet (map plain_held l) None) c.deref.ensures.value (subst (FirstQuiet (map plain_held c.deref.result.now)) c.in-None.is c.in_ok-first_quiet.ensures) in
+    (refl, refl, record { still = none.0; none = none.1 })
