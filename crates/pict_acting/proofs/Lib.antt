@@ -10,3 +10,6 @@ pub mod Taking
 pub mod Needing
 pub mod Adding
 pub mod Plainly
+pub mod Bounding
+pub mod CallNodes
+pub mod CallSteps

@@ -5,3 +5,5 @@ pub mod Plain
 pub mod Stepping
 pub mod Sending
 pub mod Work
+pub mod Bounds
+pub mod Chain

@@ -2,11 +2,13 @@
 #![tactic(auto)]
 
 mod acting;
+mod chain;
 mod event;
 mod outputs;
 mod receiving;
 mod sending;
 
 pub use acting::act;
+pub use chain::{Received, call_at_once};
 pub use event::PackedEvent;
 pub use receiving::acting_width;

@@ -17,11 +17,12 @@ use Rattle.pict_desk.proofs.MakingRoom.{keeps_words}
 use Rattle.pict_turns.specs.Reserving.{OnlyReserves}
 use Rattle.pict_turns.specs.declared.store.Store.{Store}
 use Rattle.pict_turns.proofs.Room.{store_still, view_still}
-use Rattle.pict_machine.specs.Bounds.{greatest_cost, MakesFew, SpendsAtMost}
-use Rattle.pict_machine.specs.Chain.{MakesCall, MakesSteps}
-use Rattle.pict_machine.specs.Going.{GoesPast, HasEvent}
+use Rattle.pict_acting.specs.Bounds.{greatest_cost, MakesFew}
+use Rattle.pict_machine.specs.Bounds.{SpendsAtMost}
+use Rattle.pict_acting.specs.Chain.{MakesCall}
+use Rattle.pict_machine.specs.Going.{GoesPast, HasEvent, MakesSteps}
 use Rattle.pict_machine.specs.Machine.{IsRunning, core_in, running_view, heap_of}
-use Rattle.pict_machine.specs.declared.chain.Received.{Received}
+use Rattle.pict_acting.specs.declared.chain.Received.{Received}
 use Rattle.pict_acting.specs.declared.event.PackedEvent.{PackedEvent}
 use Rattle.pict_acting.specs.declared.event.PackedEvent.TheVariants as packed
 use Rattle.pict_machine.specs.declared.machine.Machine.{Machine}

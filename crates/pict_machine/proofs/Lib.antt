@@ -6,6 +6,4 @@ pub mod Going
 pub mod Bounding
 pub mod Wrongs
 pub mod Asking
-pub mod CallNodes
-pub mod CallSteps
 pub mod CallRuns

@@ -1,5 +1,5 @@
 -- Steps of a run that a watcher needn't be shown, the step after them, and where a run stops.
-use Rattle.std.specs.Prelude.{◌≡◌, ◌≢◌, ◌≤◌, ◌<◌, ◌⊎◌, ℕ, Bool, IsTrue, List, [], ◌∷◌, Option, Some, None, Result, Ok, Err}
+use Rattle.std.specs.Prelude.{◌≡◌, ◌≢◌, ◌≤◌, ◌<◌, ◌⊎◌, ℕ, Bool, false, IsTrue, List, [], ◌∷◌, Option, Some, None, Result, Ok, Err}
 use Rattle.std.specs.declared.alloc.AllocError.{AllocError}
 use Rattle.pict_core.specs.Configuration.{Configuration, IsConfiguration}
 use Rattle.pict_core.specs.Step.{Label, Quiet, Comm, Print}
@@ -13,6 +13,7 @@ use Rattle.pict_acting.specs.declared.event.PackedEvent.TheVariants as packed
 use Rattle.pict_machine.specs.declared.event.End.{End}
 use Rattle.pict_machine.specs.declared.event.End.TheVariants as end
 use Rattle.pict_machine.specs.declared.machine.Machine.{Machine}
+use Rattle.pict_machine.specs.declared.stepping.Steps.{Steps}
 
 -- an event that a run passes over: a quiet one, and a communication where these are passed over
 abbrev pub IsPassed : Bool → PackedEvent → Type 0
@@ -54,6 +55,12 @@ pub record GoesOn (passes : Bool) (old new : Machine) (most passed : ℕ) (event
   pub few : passed ≤ most
   pub past : GoesPast passes passed (running_view old) between
   pub then : ThenComes between new most passed event
+
+-- From each configuration for which the machine stood so many steps show nothing, and the one after them has this event.
+pub record MakesSteps (old new : Machine) (steps : Steps) : Type 0 where
+  pub between : View
+  pub past : GoesPast false steps.quiet (running_view old) between
+  pub then : HasEvent between new steps.event
 
 -- a run that no trap ends is done where nobody is next, and else its fuel is spent
 abbrev pub StopsAs : View → End → Type 0

@@ -1,7 +1,6 @@
 //! The machine in blocks: it runs the code of closed core processes step by step, the oldest ready process first.
 #![tactic(auto)]
 
-mod chain;
 mod event;
 mod laws;
 mod loading;

@@ -10,7 +10,8 @@ ghost use Rattle.pict_view.specs.View.{StandsFor};
 ghost use Rattle.pict_view.specs.Right.{IsRightFor};
 ghost use Rattle.pict_view.specs.Watching.{WhereTold, Saw, SawOrTore, Ran, RanFor, BrokeOff};
 ghost use Rattle.pict_machine.specs.Events.{label_of, end_of, IsEventOf, IsShown, PassesCommunications};
-ghost use Rattle.pict_machine.specs.Bounds.{greatest_cost_of, MakesFew, SpendsAtMost};
+ghost use Rattle.pict_acting.specs.Bounds.{MakesFew};
+ghost use Rattle.pict_machine.specs.Bounds.{greatest_cost_of, SpendsAtMost};
 ghost use Rattle.pict_machine.specs.Machine.{IsMachine, IsRunning, core_in, running_view, view_of, heap_of, queues_of, channels_of};
 ghost use Rattle.pict_machine.specs.Going.{StopsAs};
 

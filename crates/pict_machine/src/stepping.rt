@@ -18,14 +18,12 @@ ghost use Rattle.pict_machine.specs.Events.{label_of, trap_of, IsEventOf};
 ghost use Rattle.pict_acting.specs.Packed.{label_packed, trap_packed, IsPackedOf};
 ghost use Rattle.pict_machine.specs.Machine.{IsMachine, IsRunning, IsUnchanged, MeetsPlainly, RunsPlainly, running_view, running_cost, running_widths, view_of, heap_of, queues_of, channels_of, cost_of, widths_of, heap_need_of, running_need_of};
 ghost use Rattle.pict_machine.specs.Bounds.{greatest_cost_of, SpendsAtMost};
-ghost use Rattle.pict_machine.specs.Chain.{MakesSteps};
-ghost use Rattle.pict_machine.specs.Going.{GoesOn, IsPassed};
+ghost use Rattle.pict_machine.specs.Going.{GoesOn, IsPassed, MakesSteps};
 ghost use Rattle.pict_acting.specs.Stepping.{GivesTurn};
 
-use crate::chain::{Received, call_at_once};
 use crate::event::{Event, unpacked};
 use crate::machine::Machine;
-use pict_acting::{PackedEvent, act};
+use pict_acting::{PackedEvent, Received, act, call_at_once};
 use pict_code::Node;
 use pict_syntax::Span;
 use pict_turns::{Store, Turn, return_turn, take_turn};

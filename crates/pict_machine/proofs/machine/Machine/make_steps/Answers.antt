@@ -4,8 +4,10 @@ use Rattle.pict_code.proofs.Lines.{on_err}
 use Rattle.pict_queue.specs.QueuesState.{CostsAtMost}
 use Rattle.pict_desk.specs.Code.{core_in}
 use Rattle.pict_turns.specs.declared.store.Store.{Store}
-use Rattle.pict_machine.specs.Bounds.{greatest_cost, MakesFew, SpendsAtMost}
-use Rattle.pict_machine.specs.Chain.{MakesCall, MakesSteps}
+use Rattle.pict_acting.specs.Bounds.{greatest_cost, MakesFew}
+use Rattle.pict_machine.specs.Bounds.{SpendsAtMost}
+use Rattle.pict_acting.specs.Chain.{MakesCall}
+use Rattle.pict_machine.specs.Going.{MakesSteps}
 use Rattle.pict_machine.specs.Machine.{IsRunning}
 use Rattle.pict_machine.specs.declared.machine.Machine.{Machine}
 use Rattle.pict_machine.proofs.Bounding.{spends_one}

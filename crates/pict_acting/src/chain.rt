@@ -6,7 +6,7 @@ ghost use Rattle.pict_core.specs.Closed.{IsOver, AreOver};
 ghost use Rattle.pict_core.specs.Plain.{plain_val, vals_of};
 ghost use Rattle.pict_core.specs.Term.{Val, Var, Int};
 ghost use Rattle.pict_code.specs.Instruction as op;
-ghost use Rattle.pict_code.specs.Nodes.{Place, places, nodes_of};
+ghost use Rattle.pict_code.specs.Nodes.{Place, places};
 ghost use Rattle.pict_code.specs.Plain.{plain_node, plain_op};
 ghost use Rattle.pict_heap.specs.HeapState.{HeapState};
 ghost use Rattle.pict_queue.specs.QueuesState.{IsQueue, CostsAtMost};
@@ -22,9 +22,9 @@ ghost use Rattle.pict_turns.specs.Channels.{AddsChannel};
 ghost use Rattle.pict_turns.specs.Reserving.{OnlyReserves};
 ghost use Rattle.pict_turns.specs.Turns.{IsNarrow};
 ghost use Rattle.pict_turns.specs.Widths.{MakesOnly};
-ghost use Rattle.pict_machine.specs.declared.chain.Received.{Received as AnyReceived};
-ghost use Rattle.pict_machine.specs.Bounds.{greatest_cost, MakesFew};
-ghost use Rattle.pict_machine.specs.Chain.{KeepsOtherLevels, AnswersAt, CallsAt, IsNarrowWith, BeginsCall, MakesCall};
+ghost use Rattle.pict_acting.specs.declared.chain.Received.{Received as AnyReceived};
+ghost use Rattle.pict_acting.specs.Bounds.{greatest_cost, MakesFew};
+ghost use Rattle.pict_acting.specs.Chain.{KeepsOtherLevels, AnswersAt, CallsAt, IsNarrowWith, BeginsCall, MakesCall};
 
 use pict_blocks::{block_of, block_width};
 use pict_code::{CodePat, Node, Op, Operand};
@@ -49,11 +49,13 @@ struct Call {
     answer: Word,
 }
 
-// What the reader receives: the number of the channel, and the two words of the value.
+/// What the reader of a call receives.
 #[derive(Clone, Copy)]
-pub(crate) struct Received {
-    pub(crate) channel: u32,
-    pub(crate) value: (u64, u64),
+pub struct Received {
+    /// The channel's number.
+    pub channel: u32,
+    /// The two words of the value's word.
+    pub value: (u64, u64),
 }
 
 // Whether the operand is the variable of this level.
@@ -266,10 +268,14 @@ fn make_call(code: &[Node], store: &mut Store, call: Call) -> Result<Received, A
     Ok(Received { channel, value })
 }
 
-// The five steps of a call that who has the turn begins, where nobody else is ready and so many steps may be made. None where it
-// isn't so, and then nothing has changed. An error, which is want of memory, changes nothing but room.
+/// The five steps of a call that who has the turn begins, where nobody else is ready and so many steps may be made; or None where it
+/// isn't so, and then nothing has changed.
+///
+/// A channel is made, a replicated reader waits there, a primitive answers there, and the reader receives what is returned: the first
+/// four steps show nothing, and the fifth this communication. An error, which is want of memory, changes nothing but room. The five
+/// make no more blocks and cost no more than one step of the code may. There are fewer channels than 2 to the power 32.
 #[inline(always)]
-pub(crate) fn call_at_once(
+pub fn call_at_once(
     code: &[Node],
     store: &mut Store,
     most: u64,

@@ -5,8 +5,8 @@ use Rattle.pict_core.specs.Term.{PrimitiveVal, Val}
 use Rattle.pict_code.specs.Instruction as op
 use Rattle.pict_code.specs.Plain.{plain_op}
 use Rattle.pict_desk.proofs.Recording.{record_val}
-use Rattle.pict_machine.proofs.CallNodes.{plain_primitive, calls_of}
-use Rattle.pict_machine.proofs.chain.called_at.Goals as goal
+use Rattle.pict_acting.proofs.CallNodes.{plain_primitive, calls_of}
+use Rattle.pict_acting.proofs.chain.called_at.Goals as goal
 
 pub answer_at-requires-clause-over : goal.answer_at-requires-clause-over
 answer_at-requires-clause-over c =

@@ -8,8 +8,8 @@ use Rattle.pict_code.specs.declared.instruction.Node.{Node}
 use Rattle.pict_desk.specs.Code.{core_in}
 use Rattle.pict_desk.proofs.Numbered.{in_code}
 use Rattle.pict_meetings.proofs.Inputs.{has_part, part_inside}
-use Rattle.pict_machine.proofs.CallNodes.{narrow_with, also_with, message_over, new_part_inside, par_parts_inside}
-use Rattle.pict_machine.proofs.chain.call_of.Goals as goal
+use Rattle.pict_acting.proofs.CallNodes.{narrow_with, also_with, message_over, new_part_inside, par_parts_inside}
+use Rattle.pict_acting.proofs.chain.call_of.Goals as goal
 
 pub narrow_op-requires-clause-inside : goal.narrow_op-requires-clause-inside
 narrow_op-requires-clause-inside c =

@@ -21,12 +21,12 @@ use Rattle.pict_turns.specs.Turns.{IsNarrow}
 use Rattle.pict_turns.proofs.Making.{makes_before, part_width_is}
 use Rattle.pict_turns.proofs.Numbered.{coded_inside}
 use Rattle.pict_turns.proofs.Room.{store_still}
-use Rattle.pict_machine.specs.Bounds.{IsWidthIn}
-use Rattle.pict_machine.specs.Chain.{BeginsCall}
-use Rattle.pict_machine.proofs.Bounding.{made_few, push_low}
-use Rattle.pict_machine.proofs.CallNodes.{new_level_inside}
-use Rattle.pict_machine.proofs.CallSteps.{call_made, call_after, another_left}
-use Rattle.pict_machine.proofs.chain.make_call.Goals as goal
+use Rattle.pict_acting.specs.Bounds.{IsWidthIn}
+use Rattle.pict_acting.specs.Chain.{BeginsCall}
+use Rattle.pict_acting.proofs.Bounding.{made_few, push_low}
+use Rattle.pict_acting.proofs.CallNodes.{new_level_inside}
+use Rattle.pict_acting.proofs.CallSteps.{call_made, call_after, another_left}
+use Rattle.pict_acting.proofs.chain.make_call.Goals as goal
 
 -- the frame of a node that the code has is one of the code's widths
 wide_in : (code : List written.Node) (is : IsCode (map plain_node code)) (number : ℕ) (frame : List ℕ) → HasFrame (map plain_node code) number frame → IsWidthIn (core_in code) (block_width frame)

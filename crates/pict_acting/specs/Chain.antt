@@ -1,6 +1,6 @@
 -- A call of a primitive whose answer is awaited: five steps. A channel is made, a reader waits there beside an output to a primitive,
 -- the primitive answers there, and the reader receives the answer.
-use Rattle.std.specs.Prelude.{◌≡◌, ◌≢◌, ◌≤◌, ◌+◌, ℕ, false, List, length}
+use Rattle.std.specs.Prelude.{◌≡◌, ◌≢◌, ◌+◌, ℕ, List, length}
 use Rattle.pict_syntax.specs.declared.primitive.Primitive.{Primitive}
 use Rattle.pict_syntax.specs.declared.span.Span.{Span}
 use Rattle.pict_core.specs.Primitives.{effect_of, answers}
@@ -22,12 +22,8 @@ use Rattle.pict_turns.specs.Acting.{IsStore}
 use Rattle.pict_turns.specs.Turns.{IsNarrow}
 use Rattle.pict_turns.specs.Views.{view_with_turn}
 use Rattle.pict_turns.specs.declared.store.Store.{Store}
-use Rattle.pict_machine.specs.Going.{GoesPast, HasEvent}
-use Rattle.pict_machine.specs.Machine.{running_view}
-use Rattle.pict_machine.specs.declared.chain.Call.{Call}
-use Rattle.pict_machine.specs.declared.chain.Received.{Received}
-use Rattle.pict_machine.specs.declared.machine.Machine.{Machine}
-use Rattle.pict_machine.specs.declared.stepping.Steps.{Steps}
+use Rattle.pict_acting.specs.declared.chain.Call.{Call}
+use Rattle.pict_acting.specs.declared.chain.Received.{Received}
 
 -- the two words of each level but this one stay
 abbrev pub KeepsOtherLevels : ℕ → List (ℕ × ℕ) → List (ℕ × ℕ) → Type 0
@@ -83,13 +79,8 @@ pub record MakesCall (core : Process) (old new : Store) (received : Received) : 
   pub pair : IsPair new.desk.heap received.value
   pub store : IsStore core new
   pub keeps : KeepsWords old.desk.heap new.desk.heap
-  pub queues : length new.queues.queues ≤ length old.queues.queues + 1
+  pub levels : length new.desk.values.items ≡ length old.desk.values.items
+  pub queues : length new.queues.queues ≡ length old.queues.queues + 1
   pub no_more : HoldsNoMore old.queues new.queues
   pub no_loss : LosesNoQueue old.queues new.queues
   pub room : LosesNoRoom old.desk.heap.room new.desk.heap.room
-
--- From each configuration for which the machine stood so many steps show nothing, and the one after them has this event.
-pub record MakesSteps (old new : Machine) (steps : Steps) : Type 0 where
-  pub between : View
-  pub past : GoesPast false steps.quiet (running_view old) between
-  pub then : HasEvent between new steps.event

@@ -6,7 +6,7 @@ use Rattle.pict_core.specs.Term.{Int, Var, no_labelled}
 use Rattle.pict_heap.specs.HeapState.{value_of}
 use Rattle.pict_desk.specs.Arguments.{operand_in}
 use Rattle.pict_desk.proofs.Numbers.{answered}
-use Rattle.pict_machine.proofs.chain.answer_at.Goals as goal
+use Rattle.pict_acting.proofs.chain.answer_at.Goals as goal
 
 pub returns : goal.returns
 returns c h pairs =

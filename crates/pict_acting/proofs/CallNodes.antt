@@ -32,7 +32,7 @@ use Rattle.pict_desk.proofs.Numbers.{is_number}
 use Rattle.pict_desk.proofs.Parts.{placed_at}
 use Rattle.pict_desk.proofs.Reckoning.{made_argument, labels_of}
 use Rattle.pict_turns.specs.Turns.{IsNarrow}
-use Rattle.pict_machine.specs.Chain.{KeepsOtherLevels, AnswersAt, CallsAt, IsNarrowWith}
+use Rattle.pict_acting.specs.Chain.{KeepsOtherLevels, AnswersAt, CallsAt, IsNarrowWith}
 
 -- ---- a node as it is written
 

@@ -1,8 +1,8 @@
 use Rattle.std.proofs.Common.{◌≢◌}
 use Rattle.pict_core.specs.Plain.{plain_val}
 use Rattle.pict_core.specs.Term.{Var}
-use Rattle.pict_machine.proofs.CallNodes.{numbers_stay}
-use Rattle.pict_machine.proofs.chain.number_beside.Goals as goal
+use Rattle.pict_acting.proofs.CallNodes.{numbers_stay}
+use Rattle.pict_acting.proofs.chain.number_beside.Goals as goal
 
 pub returns : goal.returns
 returns c h pairs later keeps =

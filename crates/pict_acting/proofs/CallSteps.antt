@@ -56,9 +56,9 @@ use Rattle.pict_turns.proofs.Rows.{length_lists, made_block, store_by}
 use Rattle.pict_turns.proofs.Steps.{nothing_past, channel_added}
 use Rattle.pict_turns.proofs.Turns.{frame_is, room_for, view_is}
 use Rattle.pict_turns.proofs.Views.{block_stays, blocks_stay, list_set}
-use Rattle.pict_machine.specs.Chain.{KeepsOtherLevels, BeginsCall, MakesCall}
-use Rattle.pict_machine.specs.declared.chain.Call.{Call}
-use Rattle.pict_machine.specs.declared.chain.Received.{Received}
+use Rattle.pict_acting.specs.Chain.{KeepsOtherLevels, BeginsCall, MakesCall}
+use Rattle.pict_acting.specs.declared.chain.Call.{Call}
+use Rattle.pict_acting.specs.declared.chain.Received.{Received}
 
 -- The call begins in the store s. In c its channel is made; in n the reader waits there, and the part has the turn.
 module _ (core : Process) (closed : IsClosed core) (s c n : Store) (number channel : ℕ) (call : Call) (value : ℕ × ℕ) (store : IsStore core s) (turn : s.turn ≡ NodeTurn number)
@@ -257,10 +257,13 @@ module _ (core : Process) (closed : IsClosed core) (s c n : Store) (number chann
       let wide = width_narrow b.part.node.frame b.part.narrow in
       omega (arith, many_words, wide)
 
+  levels_left : length n.desk.values.items ≡ length s.desk.values.items
+  levels_left = ap length values ∙ length-set v1 call.bound value ∙ added.levels
+
   store_left : IsStore core n
   store_left =
       store_by core s n store keeps (let first = store.ready in omega (arith, many, more, first)) blocks_left waiting_left pairs2
-      (ap length values ∙ length-set v1 call.bound value ∙ added.levels)
+      levels_left
       (subst (IsTurn core n.desk.heap n.desk.values.items) (sym last) b.part)
       (room_for core n part_words turn_left n.queues.region (subst (λ (w : ℕ). 1 ≤ spare n.queues.region w) (sym part_wide) room))
 
@@ -295,6 +298,7 @@ module _ (core : Process) (closed : IsClosed core) (s c n : Store) (number chann
     pair = subst (λ (g : HeapState). IsPair g value) (sym heap) (record { word = call.answer; is = b.answer.word; fits = fits; packs = packs });
     store = store_left;
     keeps = keeps;
+    levels = levels_left;
     queues = omega (arith, many, more);
     no_more = λ block held. added.no_more block (no_more block held);
     no_loss = let left = added.spare_queues in omega (arith, many, more, left, spare_queues);
@@ -318,7 +322,8 @@ call_after core old s n r only m =
       pair = m.pair;
       store = m.store;
       keeps = keeps_more old.desk.heap s.desk.heap n.desk.heap first m.keeps;
-      queues = let e = ap length only.queues in let most = m.queues in omega (arith, e, most);
+      levels = m.levels ∙ ap length only.values;
+      queues = let e = ap length only.queues in let one = m.queues in omega (arith, e, one);
       no_more = λ block held. only.no_more block (m.no_more block held);
       no_loss = let e = ap length only.queues in let more = only.spare_queues in let least = m.no_loss in omega (arith, e, more, least);
       room = room_kept old.desk.heap.room s.desk.heap.room n.desk.heap.room only.room.kept m.room;
