@@ -16,4 +16,5 @@ pub mod Loaded
 pub mod Arrivals
 pub mod Going
 pub mod Only
+pub mod Calls
 pub mod Right

@@ -56,10 +56,10 @@ module _ (N : Network) (items : List Item) (sites : N.sites ≡ items ∷ []) (p
       ap (λ (z : List (List Item)). acts_from 0 z ++ deliveries_from 0 N.packets) sites
       ∙ ap (λ (z : List Packet). acts_from 0 (items ∷ []) ++ deliveries_from 0 z) packets
 
-  draws_none : (g : Lcg) → choice N g ≡ (0, g)
+  pub draws_none : (g : Lcg) → choice N g ≡ (0, g)
   draws_none g = ap (λ (z : List Event). chosen (length z) g) only ∙ chosen_few (length (acts_from 0 (items ∷ []) ++ [])) g (at_most_one items)
 
-  act_is_next : (g : Lcg) → next_happening N g ≡ act_at N 0
+  pub act_is_next : (g : Lcg) → next_happening N g ≡ act_at N 0
   act_is_next g =
       ap (λ (z : ℕ × Lcg). happening_at N z.0) (draws_none g) ∙ ap (λ (z : List Event). happening_of N (slice_get z 0)) only ∙ acts_first N items sites
 
@@ -73,7 +73,7 @@ module _ (core : Process) (n : Sites) (one : length n.queues.items ≡ 1) (none 
   only_site : (items : List Item) × (N.sites ≡ items ∷ [])
   only_site = one_of N.sites (sym st.count ∙ one)
 
-  no_packet : N.packets ≡ []
+  pub no_packet : N.packets ≡ []
   no_packet = none_of N.packets (sym (length-map N.packets (λ (p : Packet). p.to)) ∙ sym (ap length st.to) ∙ none)
 
   pub acts_next : (g : Lcg) → next_happening N g ≡ act_at N 0
@@ -101,7 +101,7 @@ module _ (core : Process) (n : Sites) (one : length n.queues.items ≡ 1) (none 
 
 -- ---- homes
 
-at_home : (o : Option ℕ) → ((g : ℕ) → o ≡ Some g → g < 1) → other_home 0 o ≡ None
+pub at_home : (o : Option ℕ) → ((g : ℕ) → o ≡ Some g → g < 1) → other_home 0 o ≡ None
 at_home None low = refl
 at_home (Some zero) low = refl
 at_home (Some (suc g)) low = let l = low (suc g) refl in absurd (omega (arith, l))

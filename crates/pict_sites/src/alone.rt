@@ -8,8 +8,9 @@ ghost use Rattle.pict_network.specs.Runs.{next_happening};
 ghost use Rattle.pict_sites.specs.Alone.{IsAlone, IsRunning, StandsIn};
 ghost use Rattle.pict_sites.specs.Happening.{HasWords, IsNext};
 ghost use Rattle.pict_sites.specs.Network.{heap_of, channels_of, StandsForNetwork, IsNetworkStore};
+ghost use Rattle.pict_sites.specs.Runs.{AreNext};
 
-use crate::happened::Happened;
+use crate::happened::{Events, Happened};
 use crate::lending::{ensure_turn, has_next};
 use crate::network::Network;
 use pict_seed::Chooser;
@@ -56,7 +57,7 @@ impl Network {
 
     // The event of the only site, as `next_event` says whichever is chosen, since there is no other; or nothing where nobody is ready.
     #[inline(always)]
-    fn next_alone(&mut self) -> Result<Option<Happened>, AllocError>
+    fn event_alone(&mut self) -> Result<Option<Happened>, AllocError>
         requires kept { IsAlone self.old }
         requires few { channels_of self.old + 1 < 2 ^ 32 }
         requires right { (N : plain.Network) × (g : Lcg) × StandsIn true self.old N × (next_happening N g ≢ events.Misshapen) }
@@ -75,26 +76,59 @@ impl Network {
         Ok(Some(happened))
     }
 
-    /// The event that the chooser chooses, as `next_event` says, in a run of the only site or of several.
+    // Events of the only site, at most so many: the five of a call of a primitive whose answer is awaited, where nobody else is ready,
+    // or else one; or nothing where nobody is ready.
+    #[inline(always)]
+    fn next_alone(&mut self, most: u64) -> Result<Events, AllocError>
+        requires kept { IsAlone self.old }
+        requires some { 1 ≤ most }
+        requires few { channels_of self.old + 1 < 2 ^ 32 }
+        requires right { (N : plain.Network) × (g : Lcg) × StandsIn true self.old N × (next_happening N g ≢ events.Misshapen) }
+        ensures kept { IsAlone self.new }
+        ensures ok { IfOk result (λ next. (N : plain.Network) (g : Lcg) → StandsIn true self.old N
+            → AreNext (heap_of self.new) (StandsIn true self.new) N g g next) }
+        ensures within { IfOk result (λ next. next.quiet + 1 ≤ most) }
+        ensures words { IfOk result (λ next. IfSome next.last (HasWords (heap_of self.new))) }
+        ensures refused { OnErr result ((N : plain.Network) → StandsIn true self.old N → StandsIn true self.new N) }
+        ensures channels { channels_of self.new ≤ channels_of self.old + 1 }
+    {
+        match self.sites.call(&self.code.nodes, most)? {
+            Some(did) => Ok(Events {
+                quiet: 4,
+                last: Some(Happened::Stepped(did)),
+            }),
+            None => {
+                let last = self.event_alone()?;
+                Ok(Events { quiet: 0, last })
+            }
+        }
+    }
+
+    /// Events that the chooser chooses, at most so many, in a run of the only site or of several: of several the one that `next_event`
+    /// says.
     #[inline(always)]
     pub(crate) fn next_in(
         &mut self,
         alone: bool,
         chooser: &mut Chooser,
-    ) -> Result<Option<Happened>, AllocError>
+        most: u64,
+    ) -> Result<Events, AllocError>
         requires kept { IsRunning alone self.old }
+        requires some { 1 ≤ most }
         requires few { channels_of self.old + 1 < 2 ^ 32 }
         requires right { (N : plain.Network) × StandsIn alone self.old N × (next_happening N chooser.old ≢ events.Misshapen) }
         ensures kept { IsRunning alone self.new }
         ensures ok { IfOk result (λ next. (N : plain.Network) → StandsIn alone self.old N
-            → IsNext (heap_of self.new) (StandsIn alone self.new) N chooser.old chooser.new next) }
-        ensures words { IfOk result (λ next. IfSome next (HasWords (heap_of self.new))) }
+            → AreNext (heap_of self.new) (StandsIn alone self.new) N chooser.old chooser.new next) }
+        ensures within { IfOk result (λ next. next.quiet + 1 ≤ most) }
+        ensures words { IfOk result (λ next. IfSome next.last (HasWords (heap_of self.new))) }
         ensures refused { OnErr result ((N : plain.Network) → StandsIn alone self.old N → StandsIn alone self.new N) }
         ensures channels { channels_of self.new ≤ channels_of self.old + 1 }
     {
         if alone {
-            return self.next_alone();
+            return self.next_alone(most);
         }
-        self.next_event(chooser)
+        let last = self.next_event(chooser)?;
+        Ok(Events { quiet: 0, last })
     }
 }

@@ -1,4 +1,4 @@
-// What an event answers.
+// What events answer.
 use pict_picker::Did;
 
 /// What happened by an event.
@@ -8,4 +8,13 @@ pub enum Happened {
     Moved,
     /// A process stepped, and this is what the step shows, by words of the network's heap.
     Stepped(Did),
+}
+
+/// Events of a run that happen in one go.
+#[derive(Clone, Copy)]
+pub(crate) struct Events {
+    /// How many steps show nothing, one after the other.
+    pub(crate) quiet: u64,
+    /// The event after them, if one is possible.
+    pub(crate) last: Option<Happened>,
 }

@@ -3,6 +3,7 @@
 
 mod acting;
 mod alone;
+mod calling;
 mod choosing;
 mod delivering;
 mod did;

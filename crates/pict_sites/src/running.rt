@@ -12,9 +12,9 @@ ghost use Rattle.pict_network.specs.Events as events;
 ghost use Rattle.pict_network.specs.Runs.{next_happening};
 ghost use Rattle.pict_sites.specs.Alone.{IsRunning, StandsIn};
 ghost use Rattle.pict_sites.specs.Network.{channels_of, StandsForNetwork, IsNetworkStore};
-ghost use Rattle.pict_sites.specs.Runs.{RanOn, BrokeOffOn, IsRightFrom, IsGone, IsBrokenOff};
+ghost use Rattle.pict_sites.specs.Runs.{RanOn, BrokeOffOn, IsRightFrom, AreGone, AreBrokenOff};
 
-use crate::happened::Happened;
+use crate::happened::{Events, Happened};
 use crate::network::Network;
 use pict_heap::Heap;
 use pict_machine::{End, Event, RunError, Watcher, show};
@@ -34,6 +34,15 @@ pub(crate) enum Gone {
     Stepped,
     // The step divides by zero, for the output at this place.
     Trapped(Span),
+}
+
+// Events of a run, and what came of them.
+#[derive(Clone, Copy)]
+pub(crate) struct Went {
+    // How many steps show nothing, one after the other.
+    pub(crate) quiet: u64,
+    // What the event after them came to.
+    pub(crate) gone: Gone,
 }
 
 // What a step shows, as the event of a machine.
@@ -77,25 +86,28 @@ fn show_did<W: Watcher>(
 }
 
 impl Network {
-    // The next event, after so many steps, and what it shows, in a run of the only site or of several.
+    // The next events, at most so many, after so many steps, and what the last of them shows, in a run of the only site or of several.
     #[inline(always)]
     fn advance<W: Watcher>(
         &mut self,
         alone: bool,
         chooser: &mut Chooser,
         steps: u64,
+        most: u64,
         watcher: &mut W,
-    ) -> Result<Gone, RunError>
+    ) -> Result<Went, RunError>
         requires kept { IsRunning alone self.old }
+        requires some { 1 ≤ most }
         requires few { channels_of self.old + 1 < 2 ^ 32 }
-        requires low { steps < FUEL_LIMIT }
+        requires low { steps + most ≤ FUEL_LIMIT }
         requires right { (N : plain.Network) × StandsIn alone self.old N × (next_happening N chooser.old ≢ events.Misshapen) }
         ensures kept { IsRunning alone self.new }
-        ensures gone { IfOk result (λ gone. (N : plain.Network) → StandsIn alone self.old N
-            → IsGone (StandsIn alone self.new) N chooser.old chooser.new steps
-            (Saw (W.next watcher.old) (W.view watcher.old) (W.view watcher.new)) gone) }
+        ensures gone { IfOk result (λ went. (N : plain.Network) → StandsIn alone self.old N
+            → AreGone (StandsIn alone self.new) N chooser.old chooser.new steps
+            (Saw (W.next watcher.old) (W.view watcher.old) (W.view watcher.new)) went) }
+        ensures within { IfOk result (λ went. went.quiet + 1 ≤ most) }
         ensures broken { OnErr result ((N : plain.Network) → StandsIn alone self.old N
-            → IsBrokenOff (StandsIn alone self.new) N chooser.old chooser.new steps
+            → AreBrokenOff (StandsIn alone self.new) N chooser.old chooser.new steps most
             (Saw (W.next watcher.old) (W.view watcher.old) (W.view watcher.new))
             (λ number label. WhereTold (λ before after. W.torn watcher.old before number label after)
             (W.view watcher.old) (W.view watcher.new))) }
@@ -107,21 +119,36 @@ impl Network {
         ensures faults_stay { W.faults watcher.old ≤ W.faults watcher.new }
         ensures same { W.same watcher.old watcher.new }
     {
-        let happened = match self.next_in(alone, chooser) {
-            Ok(Some(happened)) => happened,
-            Ok(None) => return Ok(Gone::Done),
+        let Events { quiet, last } = match self.next_in(alone, chooser, most) {
+            Ok(next) => next,
             Err(AllocError) => return Err(RunError::Memory),
         };
+        let happened = match last {
+            Some(happened) => happened,
+            None => return Ok(Went {
+                quiet,
+                gone: Gone::Done,
+            }),
+        };
         let did = match happened {
-            Happened::Moved => return Ok(Gone::Moved),
+            Happened::Moved => return Ok(Went {
+                quiet,
+                gone: Gone::Moved,
+            }),
             Happened::Stepped(did) => did,
         };
         match did.trap() {
-            Some(at) => return Ok(Gone::Trapped(at)),
+            Some(at) => return Ok(Went {
+                quiet,
+                gone: Gone::Trapped(at),
+            }),
             None => {}
         }
-        match show_did(watcher, self.heap(), steps + 1, &did) {
-            Ok(()) => Ok(Gone::Stepped),
+        match show_did(watcher, self.heap(), steps + quiet + 1, &did) {
+            Ok(()) => Ok(Went {
+                quiet,
+                gone: Gone::Stepped,
+            }),
             Err(error) => Err(error),
         }
     }
@@ -150,14 +177,26 @@ impl Network {
         ensures faults_stay { W.faults watcher.old ≤ W.faults watcher.new }
         ensures same { W.same watcher.old watcher.new }
     {
+        let mut count = 0;
         let mut steps = 0;
-        for count in 0..fuel {
-            match self.advance(alone, chooser, steps, watcher) {
-                Ok(Gone::Done) => return Ok(End::Done),
-                Ok(Gone::Trapped(at)) => return Ok(End::Trap(at)),
-                Ok(Gone::Moved) => continue,
-                Ok(Gone::Stepped) => steps += 1,
+        while count < fuel {
+            let Went { quiet, gone } = match self.advance(
+                alone,
+                chooser,
+                steps,
+                fuel - count,
+                watcher,
+            ) {
+                Ok(went) => went,
                 Err(error) => return Err(error),
+            };
+            count += quiet + 1;
+            steps += quiet;
+            match gone {
+                Gone::Done => return Ok(End::Done),
+                Gone::Trapped(at) => return Ok(End::Trap(at)),
+                Gone::Moved => {}
+                Gone::Stepped => steps += 1,
             }
         }
         if self.is_over(alone) {

@@ -1,85 +1,101 @@
-use Rattle.std.proofs.Common.{◌≡◌, false, List, refl, sym, ◌∙◌, subst}
+use Rattle.std.proofs.Common.{ℕ, ◌≡◌, List, length, refl, sym, ap, ◌∙◌, subst, Option, None, Result, Ok, arith}
+use Rattle.std.specs.declared.alloc.AllocError.{AllocError}
 use Rattle.pict_code.specs.declared.instruction.Node.{Node}
 use Rattle.pict_code.proofs.Lines.{on_err}
 use Rattle.pict_desk.specs.Code as code
-use Rattle.pict_acting.specs.Stepping.{GivesTurn}
-use Rattle.pict_network.specs.Events.{act_at}
-use Rattle.pict_sites.specs.Happening.{IsHappened}
-use Rattle.pict_sites.specs.Network.{core_in}
-use Rattle.pict_sites.specs.Views.{heap_in}
+use Rattle.pict_picker.specs.declared.did.Did.{Did}
+use Rattle.pict_network.specs.Network as plain
+use Rattle.pict_sites.specs.Alone.{IsCalled}
+use Rattle.pict_sites.specs.Network.{core_in, heap_of}
 use Rattle.pict_sites.specs.Working.{StandWhile, AreWorking}
-use Rattle.pict_sites.proofs.Only.{acts_next, is_next, none_next, stays_home, given_working, given_stand, alone_still}
+use Rattle.pict_sites.specs.declared.network.Network.{Network}
+use Rattle.pict_sites.specs.declared.sites.Sites.{Sites}
+use Rattle.pict_sites.proofs.Calls.{some_called, none_called}
+use Rattle.pict_sites.proofs.Going.{goes_none}
+use Rattle.pict_sites.proofs.Only.{alone_still}
 use Rattle.pict_sites.proofs.network.Network.next_alone.Goals as goal
 
-pub returns-then-not-has_next-clause-ok : goal.returns-then-not-has_next-clause-ok
-returns-then-not-has_next-clause-ok c N g st =
-    let n = c.args.self.now in
-    let k = c.requires.kept in
-    let f : c.has_next.result ≡ false = cc in
-    (none_next (core_in n) n.sites k.one k.none N st c.has_next.result (c.has_next.ensures (core_in n) k.sites.store) f, st, refl)
+pub call-requires-clause-working : goal.call-requires-clause-working
+call-requires-clause-working c =
+    subst (λ (nodes : List Node). AreWorking (code.core_in nodes) 0 c.args.self.now.sites) (sym c.deref.ensures.value) c.requires.kept.sites
 
-pub act_here-requires-clause-working : goal.act_here-requires-clause-working
-act_here-requires-clause-working c =
+pub returns-in_err-did-clause-kept : goal.returns-in_err-did-clause-kept
+returns-in_err-did-clause-kept c =
     let n = c.args.self.now in
-    let new = c.ensure_turn.new.store in
-    let given = subst (λ (nodes : List Node). GivesTurn (code.core_in nodes) n.sites.store new) c.deref.ensures.value c.ensure_turn.ensures.given in
-    subst (λ (nodes : List Node). AreWorking (code.core_in nodes) 0 (record n.sites { store = new })) (sym c.deref-2.ensures.value)
-    (given_working (core_in n) 0 n.sites c.requires.kept.sites new given c.ensure_turn.ensures.levels)
+    let call = c.call.ensures in
+    alone_still n c.requires.kept (heap_of n) refl c.call.new.self call.keeps c.deref.result.now c.deref.ensures.value call.working (ap (λ qs. length qs.items) call.queues) (ap (λ ts. ts.items) call.to)
 
-pub act_here-requires-clause-right : goal.act_here-requires-clause-right
-act_here-requires-clause-right c =
+pub returns-in_err-did-clause-refused : goal.returns-in_err-did-clause-refused
+returns-in_err-did-clause-refused c =
     let n = c.args.self.now in
-    let k = c.requires.kept in
-    let new = c.ensure_turn.new.store in
-    let given = subst (λ (nodes : List Node). GivesTurn (code.core_in nodes) n.sites.store new) c.deref.ensures.value c.ensure_turn.ensures.given in
-    let r = c.requires.right in
-    record {
-      network = r.0;
-      stands = subst (λ (nodes : List Node). StandWhile (code.core_in nodes) 0 (record n.sites { store = new }) r.0) (sym c.deref-2.ensures.value)
-          (given_stand (core_in n) 0 n.sites k.sites new given c.ensure_turn.ensures.levels r.0 r.2);
-      right = λ e. r.3 (acts_next (core_in n) n.sites k.one k.none r.0 r.2 r.1 ∙ e);
-    }
-
-pub act_here-requires-clause-here : goal.act_here-requires-clause-here
-act_here-requires-clause-here c =
-    let n = c.args.self.now in
-    stays_home (core_in n) n.sites c.requires.kept.sites c.requires.kept.one _
-
-pub returns-in_err-happened-clause-kept : goal.returns-in_err-happened-clause-kept
-returns-in_err-happened-clause-kept c =
-    let k = c.requires.kept in
-    let acts = c.act_here.ensures in
-    alone_still c.args.self.now k c.ensure_turn.new.store.desk.heap c.ensure_turn.ensures.given.heap c.act_here.new.self acts.keeps c.deref-2.result.now c.deref-2.ensures.value
-    acts.working acts.count (acts.to k.one)
-
-pub returns-in_err-happened-clause-refused : goal.returns-in_err-happened-clause-refused
-returns-in_err-happened-clause-refused c =
-    let n = c.args.self.now in
-    let new = c.ensure_turn.new.store in
-    let given = subst (λ (nodes : List Node). GivesTurn (code.core_in nodes) n.sites.store new) c.deref.ensures.value c.ensure_turn.ensures.given in
     on_err c.from_residual.result
-    (λ N st. subst (λ (nodes : List Node). StandWhile (code.core_in nodes) 0 c.act_here.new.self N) c.deref-2.ensures.value
-    (c.in_err-happened.ensures.happens N
-    (subst (λ (nodes : List Node). StandWhile (code.core_in nodes) 0 (record n.sites { store = new }) N) (sym c.deref-2.ensures.value)
-    (given_stand (core_in n) 0 n.sites c.requires.kept.sites new given c.ensure_turn.ensures.levels N st))))
+    (λ N st. subst (λ (nodes : List Node). StandWhile (code.core_in nodes) 0 c.call.new.self N) c.deref.ensures.value
+    (c.in_err-did.ensures.called N (subst (λ (nodes : List Node). StandWhile (code.core_in nodes) 0 n.sites N) (sym c.deref.ensures.value) st)))
 
-pub returns-clause-kept : goal.returns-clause-kept
-returns-clause-kept c =
-    let k = c.requires.kept in
-    let acts = c.act_here.ensures in
-    alone_still c.args.self.now k c.ensure_turn.new.store.desk.heap c.ensure_turn.ensures.given.heap c.act_here.new.self acts.keeps c.deref-2.result.now c.deref-2.ensures.value
-    acts.working acts.count (acts.to k.one)
-
-pub returns-clause-ok : goal.returns-clause-ok
-returns-clause-ok c N g st =
+pub returns-in-Some-clause-kept : goal.returns-in-Some-clause-kept
+returns-in-Some-clause-kept c =
     let n = c.args.self.now in
-    let k = c.requires.kept in
-    let m = c.act_here.new.self in
-    let new = c.ensure_turn.new.store in
-    let x = c.in_ok-happened.happened in
-    let given = subst (λ (nodes : List Node). GivesTurn (code.core_in nodes) n.sites.store new) c.deref.ensures.value c.ensure_turn.ensures.given in
-    is_next (core_in n) n.sites k.one k.none N st (heap_in m) (StandWhile (core_in n) 0 m) x g
-    (subst (λ (nodes : List Node). IsHappened (heap_in m) (StandWhile (code.core_in nodes) 0 m) N x (act_at N 0)) c.deref-2.ensures.value
-    (c.in_ok-happened.ensures.happens N
-    (subst (λ (nodes : List Node). StandWhile (code.core_in nodes) 0 (record n.sites { store = new }) N) (sym c.deref-2.ensures.value)
-    (given_stand (core_in n) 0 n.sites k.sites new given c.ensure_turn.ensures.levels N st))))
+    let call = c.call.ensures in
+    alone_still n c.requires.kept (heap_of n) refl c.call.new.self call.keeps c.deref.result.now c.deref.ensures.value call.working (ap (λ qs. length qs.items) call.queues) (ap (λ ts. ts.items) call.to)
+
+pub returns-in-Some-clause-ok : goal.returns-in-Some-clause-ok
+returns-in-Some-clause-ok c N g st =
+    let n = c.args.self.now in
+    let is = subst (λ (nodes : List Node). IsCalled (code.core_in nodes) n.sites c.call.new.self c.args.most c.call.result) c.deref.ensures.value c.call.ensures.called in
+    (some_called (core_in n) n.sites c.call.new.self c.args.most c.call.result c.in-Some.did (c.in_ok-did.was ∙ ap Ok c.in-Some.is) is).2 N g st
+
+pub returns-in-Some-clause-within : goal.returns-in-Some-clause-within
+returns-in-Some-clause-within c =
+    (some_called (code.core_in c.deref.result.now) c.args.self.now.sites c.call.new.self c.args.most c.call.result c.in-Some.did (c.in_ok-did.was ∙ ap Ok c.in-Some.is) c.call.ensures.called).0
+
+pub returns-in-Some-clause-words : goal.returns-in-Some-clause-words
+returns-in-Some-clause-words c =
+    (some_called (code.core_in c.deref.result.now) c.args.self.now.sites c.call.new.self c.args.most c.call.result c.in-Some.did (c.in_ok-did.was ∙ ap Ok c.in-Some.is) c.call.ensures.called).1
+
+-- what stood before no call stands still
+still : (n : Network) (m : Sites) (nodes : List Node) (most : ℕ) (x : Result (Option Did) AllocError) → nodes ≡ n.code.nodes.items → x ≡ Ok None → IsCalled (code.core_in nodes) n.sites m most x
+    → (N : plain.Network) → StandWhile (core_in n) 0 n.sites N → StandWhile (core_in n) 0 m N
+still n m nodes most x value none is =
+    none_called (core_in n) n.sites m most x none (subst (λ (ns : List Node). IsCalled (code.core_in ns) n.sites m most x) value is)
+
+pub event_alone-requires-clause-kept : goal.event_alone-requires-clause-kept
+event_alone-requires-clause-kept c =
+    let n = c.args.self.now in
+    let call = c.call.ensures in
+    alone_still n c.requires.kept (heap_of n) refl c.call.new.self call.keeps c.deref.result.now c.deref.ensures.value call.working (ap (λ qs. length qs.items) call.queues) (ap (λ ts. ts.items) call.to)
+
+pub event_alone-requires-clause-few : goal.event_alone-requires-clause-few
+event_alone-requires-clause-few c =
+    let few = c.requires.few in
+    let same = c.call.ensures.still (c.in_ok-did.was ∙ ap Ok c.in-None.is) in
+    omega (arith, few, same)
+
+pub event_alone-requires-clause-right : goal.event_alone-requires-clause-right
+event_alone-requires-clause-right c =
+    let r = c.requires.right in
+    (r.0, r.1, still c.args.self.now c.call.new.self c.deref.result.now c.args.most c.call.result c.deref.ensures.value (c.in_ok-did.was ∙ ap Ok c.in-None.is) c.call.ensures.called r.0 r.2, r.3)
+
+pub returns-in_err-last-in-None-clause-refused : goal.returns-in_err-last-in-None-clause-refused
+returns-in_err-last-in-None-clause-refused c =
+    on_err c.from_residual-in_err-last-in-None.result
+    (λ N st. c.in_err-last-in-None.ensures.refused N
+    (still c.args.self.now c.call.new.self c.deref.result.now c.args.most c.call.result c.deref.ensures.value (c.in_ok-did.was ∙ ap Ok c.in-None.is) c.call.ensures.called N st))
+
+pub returns-in_err-last-in-None-clause-channels : goal.returns-in_err-last-in-None-clause-channels
+returns-in_err-last-in-None-clause-channels c =
+    let same = c.call.ensures.still (c.in_ok-did.was ∙ ap Ok c.in-None.is) in
+    let more = c.event_alone.ensures.channels in
+    omega (arith, same, more)
+
+pub returns-in_ok-last-in-None-clause-ok : goal.returns-in_ok-last-in-None-clause-ok
+returns-in_ok-last-in-None-clause-ok c N g st = (
+  goes_none N g,
+  c.in_ok-last-in-None.ensures.ok N g
+      (still c.args.self.now c.call.new.self c.deref.result.now c.args.most c.call.result c.deref.ensures.value (c.in_ok-did.was ∙ ap Ok c.in-None.is) c.call.ensures.called N st),
+)
+
+pub returns-in_ok-last-in-None-clause-channels : goal.returns-in_ok-last-in-None-clause-channels
+returns-in_ok-last-in-None-clause-channels c =
+    let same = c.call.ensures.still (c.in_ok-did.was ∙ ap Ok c.in-None.is) in
+    let more = c.event_alone.ensures.channels in
+    omega (arith, same, more)

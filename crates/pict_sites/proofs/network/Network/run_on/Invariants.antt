@@ -1,4 +1,4 @@
-use Rattle.std.proofs.Common.{ℕ, ◌≡◌, ◌≤◌, ◌+◌, ◌↔◌, List}
+use Rattle.std.proofs.Common.{ℕ, ◌≡◌, ◌≤◌, ◌+◌, ◌-◌, ◌↔◌, List}
 use Rattle.pict_core.specs.Step.{Label}
 use Rattle.pict_view.specs.Watching.{Saw}
 use Rattle.pict_network.specs.Network as plain
@@ -7,8 +7,12 @@ use Rattle.pict_sites.specs.Network.{channels_of}
 use Rattle.pict_sites.specs.Runs.{ComesTo}
 use Rattle.pict_sites.proofs.network.Network.run_on.Given as goal
 
+abbrev pub decreases-loop-count : goal.decreases-loop-count
+decreases-loop-count g l = l.fuel - l.count
+
 abbrev pub invariant-loop-count : goal.invariant-loop-count
 invariant-loop-count g l = record {
+  within : l.count ≤ l.fuel;
   kept : IsRunning l.fn.alone l.self;
   channels : channels_of l.self ≤ channels_of l.fn.self + l.count;
   few : l.steps ≤ l.count;
