@@ -1,6 +1,6 @@
 -- Steps by place, one more at a time.
-use Rattle.std.proofs.Common.{ℕ, ◌≡◌, ◌+◌, ◌<◌, ◌≤◌, List, [], ◌∷◌, ◌++◌, take, length, get_or, map, sym, ap, ◌∙◌, subst, arith, append-nil}
-use Rattle.std.proofs.lemmas.List.{length-map, length-take-le}
+use Rattle.std.proofs.Common.{ℕ, ◌≡◌, ◌+◌, ◌<◌, ◌≤◌, ◌⊎◌, List, [], ◌∷◌, ◌++◌, take, drop, take-append-drop, append_assoc, length, get_or, map, sym, ap, ◌∙◌, subst, arith, append-nil}
+use Rattle.std.proofs.lemmas.List.{length-map, length-take-le, map-append}
 use Rattle.std.proofs.lemmas.Grind.{flat_map-append}
 use Rattle.pict_core.specs.Term.{Process}
 use Rattle.pict_core.specs.Closed.{IsClosed}
@@ -14,6 +14,8 @@ use Rattle.pict_replay.specs.Replayed.{Line}
 use Rattle.pict_orders.specs.Plain.{place_of}
 use Rattle.pict_orders.specs.declared.choice.Choice.{Choice}
 use Rattle.pict_orders.proofs.Quietly.{place_keeps}
+use Rattle.pict_orders.specs.Room.{IsFull}
+use Rattle.pict_way.specs.Way.{LeadsNowhere, IsStuck}
 use Rattle.pict_way.specs.Tracing.{IsTracedStep, IsTraced}
 use Rattle.pict_way.proofs.Writing.{before, place_more}
 
@@ -58,3 +60,21 @@ traced_more names p cs i number d C D old out new within e t s =
 
 pub traced : (names : List (List ℕ)) (p : Process) (places : List Place) (C : Configuration) (old new : List ℕ) → TracedSoFar names p places C old new → IsTraced names p places old new
 traced names p places C old new t = record { labels = t.labels; last = C; runs = t.runs; text = t.text }
+
+-- ---- a choice that can't be made
+
+-- the choices before it were made
+pub stuck_at : (names : List (List ℕ)) (p : Process) (cs : List Choice) (i : ℕ) (d : Choice) (C : Configuration) (old new : List ℕ) → i < length cs
+    → TracedSoFar names p (map place_of (take i cs)) C old new → LeadsNowhere C (place_of (get_or cs i d)) ⊎ IsFull C → IsStuck p (map place_of cs)
+stuck_at names p cs i d C old new within t stuck = record {
+  made = map place_of (take i cs);
+  next = place_of (get_or cs i d);
+  rest = map place_of (drop (i + 1) cs);
+  whole = ap (map place_of) (sym (take-append-drop (i + 1) cs)) ∙ map-append place_of (take (i + 1) cs) (drop (i + 1) cs)
+      ∙ ap (λ (l : List Place). l ++ map place_of (drop (i + 1) cs)) (place_more cs i d within)
+      ∙ append_assoc (map place_of (take i cs)) (place_of (get_or cs i d) ∷ []) (map place_of (drop (i + 1) cs));
+  labels = t.labels;
+  last = C;
+  runs = t.runs;
+  stuck = stuck;
+}

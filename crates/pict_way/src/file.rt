@@ -1,16 +1,17 @@
 // The replay file of choices.
 
-ghost use Rattle.std.specs.Prelude.{◌≡◌, ◌++◌, IsTrue, IfOk, IfSome, OnOk, map};
+ghost use Rattle.std.specs.Prelude.{◌≡◌, ◌++◌, ◌⊎◌, false, None, IsTrue, IfOk, IfSome, OnOk, map};
 ghost use Rattle.pict_core.specs.Closed.{IsClosed};
 ghost use Rattle.pict_core.specs.Configuration.{IsConfiguration};
 ghost use Rattle.pict_core.specs.Places.{IsPlace};
 ghost use Rattle.pict_core.specs.Plain.{plain_core};
 ghost use Rattle.pict_core.specs.Run.{shown};
 ghost use Rattle.pict_orders.specs.Plain.{configuration_of, place_of};
+ghost use Rattle.pict_orders.specs.Room.{IsFull};
 ghost use Rattle.pict_reference.specs.Plain.{plain_label};
 ghost use Rattle.pict_replay.specs.Files.{choice_text, choices_text};
 ghost use Rattle.pict_trace.specs.Lines.{lines_text, shown_text};
-ghost use Rattle.pict_way.specs.Way.{IsWay};
+ghost use Rattle.pict_way.specs.Way.{IsStuck, IsWay, LeadsNowhere};
 ghost use Rattle.pict_way.specs.Tracing.{IsTraced, IsTracedStep};
 
 use pict_core::Core;
@@ -88,7 +89,8 @@ fn write_line(
 
 // Whether the configuration has this place.
 fn has_place(state: &State, choice: Choice) -> bool
-    ensures { IsTrue result → IsPlace (configuration_of state.now) (place_of choice) }
+    ensures there { IsTrue result → IsPlace (configuration_of state.now) (place_of choice) }
+    ensures none { result ≡ false → ¬ IsPlace (configuration_of state.now) (place_of choice) }
 {
     if choice.ready >= state.ready_count() {
         return false;
@@ -100,8 +102,7 @@ fn has_place(state: &State, choice: Choice) -> bool
     partners == 0 && choice.partner == 0
 }
 
-// Takes the step of a choice, and writes its line. The answer is false where there is no such step, or where the numbers of channels or stamps
-// are used up.
+// Takes the step of a choice, and writes its line. The answer is false where there is no such step, or where there may be no numbers for it.
 fn write_step(
     alloc: Global,
     out: &mut Vec<u8>,
@@ -110,8 +111,10 @@ fn write_step(
     state: &mut State,
     choice: &Choice,
 ) -> Result<bool, AllocError>
-    ensures { IfOk result (λ done. IsTrue done → IsConfiguration (configuration_of state.old)
+    ensures traced { IfOk result (λ done. IsTrue done → IsConfiguration (configuration_of state.old)
         → IsTracedStep names.now number (configuration_of state.old) (place_of choice.now) (configuration_of state.new) out.old.items out.new.items) }
+    ensures stuck { IfOk result (λ done. done ≡ false → IsConfiguration (configuration_of state.old)
+        → LeadsNowhere (configuration_of state.old) (place_of choice.now) ⊎ IsFull (configuration_of state.old)) }
 {
     if !state.has_room() {
         return Ok(false);
@@ -130,7 +133,8 @@ fn write_step(
     }
 }
 
-// Takes the steps of choices from the opening configuration on, and writes their lines. The answer is false where one of them isn't there.
+// Takes the steps of choices from the opening configuration on, and writes their lines. The answer is false where one of them isn't there, or
+// there may be no numbers for it.
 fn write_trace(
     alloc: Global,
     out: &mut Vec<u8>,
@@ -139,8 +143,9 @@ fn write_trace(
     choices: &[Choice],
 ) -> Result<bool, AllocError>
     requires closed { IsClosed (plain_core process) }
-    ensures { IfOk result (λ done. IsTrue done
+    ensures traced { IfOk result (λ done. IsTrue done
         → IsTraced names.now (plain_core process) (map place_of choices.now) out.old.items out.new.items) }
+    ensures stuck { IfOk result (λ done. done ≡ false → IsStuck (plain_core process) (map place_of choices.now)) }
 {
     let mut state = State::open(alloc, process)?;
     for (index, choice) in choices.iter().enumerate() {
@@ -153,8 +158,8 @@ fn write_trace(
 
 /// The replay file of choices that a closed process makes one after the other, from its beginning: a line for each of them, the
 /// line `trace`, and by these names a line for each step that shows something, with the number of the step. There is none where a
-/// choice can't be made: its ready process or its partner isn't there, its step traps or is wrong, or the numbers of channels or
-/// stamps are used up. The only error is want of memory.
+/// choice can't be made: its ready process or its partner isn't there, or its step traps or is wrong; or where there is no number of one
+/// more channel, or none of two more stamps. The only error is want of memory.
 pub fn way(
     alloc: Global,
     names: &Names,
@@ -163,6 +168,7 @@ pub fn way(
 ) -> Result<Option<Vec<u8>>, AllocError>
     requires closed { IsClosed (plain_core process) }
     ensures file { IfOk result (λ found. IfSome found (λ text. IsWay names.now (plain_core process) (map place_of choices.now) text.items)) }
+    ensures none { IfOk result (λ found. found ≡ None → IsStuck (plain_core process) (map place_of choices.now)) }
 {
     let mut out = Vec::new(alloc);
     write_choices(&mut out, choices)?;
