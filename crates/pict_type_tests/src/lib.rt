@@ -8,6 +8,8 @@ mod calls;
 #[cfg(test)]
 mod forms;
 #[cfg(test)]
+mod sharing;
+#[cfg(test)]
 mod types;
 #[cfg(test)]
 mod typing;

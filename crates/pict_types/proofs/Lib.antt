@@ -28,3 +28,4 @@ pub mod Past
 pub mod Within
 mod Worked
 pub mod Bodies
+pub mod Marks

@@ -1,13 +1,16 @@
 // Types put for the innermost type variables.
 
-ghost use Rattle.std.specs.Prelude.{◌≡◌, IfOk, IsTrue, Some};
+ghost use Rattle.std.specs.Prelude.{◌≡◌, IfOk, IfSome, IsTrue, Some};
 ghost use Rattle.pict_types.specs.Renumbering.{changed, changed_bound, changed_record};
 ghost use Rattle.pict_types.specs.Filling.{filling_past, put_for};
 ghost use Rattle.pict_types.specs.Plain.{plain, plain_bound, plain_bounds, plain_labels, plain_record, plain_types};
 ghost use Rattle.pict_types.specs.Types.{Var};
 ghost use Rattle.pict_types.specs.Replacing.{apply_variable, bound_by, fill, fill_bound, fill_bounds, fill_labels, fill_types};
 
+use crate::parts::Parts;
+use crate::prints::{Fingerprint, is_part};
 use crate::renumber::{Renumbered, both, bound_or_copy, deeper, is_left, type_or_copy};
+use crate::same_filled::is_filled;
 use crate::shift::shift_type;
 use crate::types::{Bound, Record, Ty};
 use pict_syntax::Name;
@@ -44,7 +47,7 @@ fn fill_variable(alloc: Global, i: u32, us: &[Ty], by: u32, under: usize) -> Res
 
 /// What an applied variable `i` becomes; nothing where a type is put for it.
 #[tactic(auto, using(crate::proofs::Filled::head_rules))]
-fn fill_head(i: u32, us: &[Ty], by: u32, under: usize) -> Result<Option<u32>, AllocError>
+pub fn fill_head(i: u32, us: &[Ty], by: u32, under: usize) -> Result<Option<u32>, AllocError>
     ensures { IfOk result (λ o. o ≡ (filling_past under (put_for (plain_types us.now) by)).head_for i) }
 {
     if (i as usize) < under {
@@ -57,15 +60,63 @@ fn fill_head(i: u32, us: &[Ty], by: u32, under: usize) -> Result<Option<u32>, Al
     Ok(Some(beyond.checked_add(by).ok_or(AllocError)?))
 }
 
-/// The type filled as `fill_type` says; nothing where it is as it was.
+/// What was made of a part that is like this one; nothing where none is known.
+fn filled_before(
+    alloc: Global,
+    t: &Ty,
+    us: &[Ty],
+    by: u32,
+    under: usize,
+    parts: &mut Parts,
+    print: Fingerprint,
+) -> Result<Option<Ty>, AllocError>
+    ensures { IfOk result (λ o. IfSome o (λ u. plain u ≡ fill (filling_past under (put_for (plain_types us.now) by)) (plain t.now))) }
+{
+    let Some(u) = parts.made_of(print) else {
+        return Ok(None);
+    };
+    if !is_filled(t, u, us, by, under)? {
+        return Ok(None);
+    }
+    let u = u.copy(alloc)?;
+    parts.pass(print);
+    Ok(Some(u))
+}
+
+/// The type filled as `fill_type` says; nothing where it is as it was. What was made of a like part is taken.
 #[cycle(fill)]
-#[tactic(auto, using(crate::proofs::Rows::plain_apply, crate::proofs::Rows::plain_fields))]
 fn filled_type(
     alloc: Global,
     t: &Ty,
     us: &[Ty],
     by: u32,
     under: usize,
+    parts: &mut Parts,
+) -> Result<Option<Ty>, AllocError>
+    ensures { IfOk result (λ o. changed o (plain t.now) ≡ fill (filling_past under (put_for (plain_types us.now) by)) (plain t.now)) }
+{
+    if !is_part(t) {
+        return filled_anew(alloc, t, us, by, under, parts);
+    }
+    let print = parts.enter(under);
+    if let Some(u) = filled_before(alloc, t, us, by, under, parts, print)? {
+        return Ok(Some(u));
+    }
+    let made = filled_anew(alloc, t, us, by, under, parts)?;
+    parts.keep(alloc, print, &made)?;
+    Ok(made)
+}
+
+/// The same, where what was made of the type itself isn't taken.
+#[cycle(fill)]
+#[tactic(auto, using(crate::proofs::Rows::plain_apply, crate::proofs::Rows::plain_fields))]
+fn filled_anew(
+    alloc: Global,
+    t: &Ty,
+    us: &[Ty],
+    by: u32,
+    under: usize,
+    parts: &mut Parts,
 ) -> Result<Option<Ty>, AllocError>
     ensures { IfOk result (λ o. changed o (plain t.now) ≡ fill (filling_past under (put_for (plain_types us.now) by)) (plain t.now)) }
 {
@@ -84,24 +135,24 @@ fn filled_type(
         }
         Ty::Apply(i, ts) => {
             let head = fill_head(*i, us, by, under)?;
-            let row = filled_types(alloc, ts, us, by, under)?;
+            let row = filled_types(alloc, ts, us, by, under, parts)?;
             if row.same && is_head(head, *i) {
                 return Ok(None);
             }
             let applied = apply_head(alloc, head, row.items)?;
             Ok(Some(applied))
         }
-        Ty::Chan(cap, t) => match filled_type(alloc, t, us, by, under)? {
+        Ty::Chan(cap, t) => match filled_type(alloc, t, us, by, under, parts)? {
             None => Ok(None),
             Some(u) => Ok(Some(Ty::Chan(*cap, Rc::new(alloc, u)?))),
         },
-        Ty::Fields(r) => match filled_record(alloc, r, us, by, under)? {
+        Ty::Fields(r) => match filled_record(alloc, r, us, by, under, parts)? {
             None => Ok(None),
             Some(q) => Ok(Some(Ty::Fields(Rc::new(alloc, q)?))),
         },
         Ty::Rec(t) => {
             let inside = deeper(under, 1)?;
-            match filled_type(alloc, t, us, by, inside)? {
+            match filled_type(alloc, t, us, by, inside, parts)? {
                 None => Ok(None),
                 Some(u) => Ok(Some(Ty::Rec(Rc::new(alloc, u)?))),
             }
@@ -110,7 +161,7 @@ fn filled_type(
 }
 
 /// Whether it is this variable.
-fn is_variable(u: &Ty, i: u32) -> bool
+pub fn is_variable(u: &Ty, i: u32) -> bool
     ensures { IsTrue result → plain u.now ≡ Var i }
 {
     match u {
@@ -120,7 +171,7 @@ fn is_variable(u: &Ty, i: u32) -> bool
 }
 
 /// Whether it is this variable.
-fn is_head(head: Option<u32>, i: u32) -> bool
+pub fn is_head(head: Option<u32>, i: u32) -> bool
     ensures { IsTrue result → head ≡ Some i }
 {
     match head {
@@ -148,13 +199,14 @@ fn filled_record(
     us: &[Ty],
     by: u32,
     under: usize,
+    parts: &mut Parts,
 ) -> Result<Option<Record>, AllocError>
     ensures { IfOk result (λ o. changed_record o (plain_record r.now) ≡ fill (filling_past under (put_for (plain_types us.now) by)) (plain_record r.now)) }
 {
     let inside = deeper(under, r.binders.as_slice().len())?;
-    let binders = filled_bounds(alloc, &r.binders, us, by, under)?;
-    let positional = filled_types(alloc, &r.positional, us, by, inside)?;
-    let labelled = filled_labels(alloc, &r.labelled, us, by, inside)?;
+    let binders = filled_bounds(alloc, &r.binders, us, by, under, parts)?;
+    let positional = filled_types(alloc, &r.positional, us, by, inside, parts)?;
+    let labelled = filled_labels(alloc, &r.labelled, us, by, inside, parts)?;
     if binders.same && positional.same && labelled.same {
         return Ok(None);
     }
@@ -172,13 +224,14 @@ fn filled_bound(
     us: &[Ty],
     by: u32,
     under: usize,
+    parts: &mut Parts,
 ) -> Result<Option<Bound>, AllocError>
     ensures { IfOk result (λ o. changed_bound o (plain_bound b.now) ≡ fill_bound (filling_past under (put_for (plain_types us.now) by)) (plain_bound b.now)) }
 {
     match b {
         Bound::Free => Ok(None),
         Bound::Below(t) => {
-            let made = filled_type(alloc, t, us, by, under)?;
+            let made = filled_type(alloc, t, us, by, under, parts)?;
             let u = type_or_copy(alloc, made, t)?;
             Ok(Some(bound_by(u)))
         }
@@ -194,6 +247,7 @@ fn filled_types(
     us: &[Ty],
     by: u32,
     under: usize,
+    parts: &mut Parts,
 ) -> Result<Renumbered<Ty>, AllocError>
     ensures row { IfOk result (λ m. plain_types m.items.items ≡ fill_types (filling_past under (put_for (plain_types us.now) by)) (plain_types ts.now)) }
     ensures same { IfOk result (λ m. IsTrue m.same → fill_types (filling_past under (put_for (plain_types us.now) by)) (plain_types ts.now) ≡ plain_types ts.now) }
@@ -201,7 +255,7 @@ fn filled_types(
     let mut items = Vec::with_capacity(alloc, ts.len())?;
     let mut same = true;
     for t in ts {
-        let u = match filled_type(alloc, t, us, by, under)? {
+        let u = match filled_type(alloc, t, us, by, under, parts)? {
             None => t.copy(alloc)?,
             Some(u) => {
                 same = false;
@@ -221,6 +275,7 @@ fn filled_labels(
     us: &[Ty],
     by: u32,
     under: usize,
+    parts: &mut Parts,
 ) -> Result<Renumbered<(Name, Ty)>, AllocError>
     ensures row { IfOk result (λ m. plain_labels m.items.items ≡ fill_labels (filling_past under (put_for (plain_types us.now) by)) (plain_labels ls.now)) }
     ensures same { IfOk result (λ m. IsTrue m.same → fill_labels (filling_past under (put_for (plain_types us.now) by)) (plain_labels ls.now) ≡ plain_labels ls.now) }
@@ -228,7 +283,7 @@ fn filled_labels(
     let mut items = Vec::with_capacity(alloc, ls.len())?;
     let mut same = true;
     for l in ls {
-        let made = filled_type(alloc, &l.1, us, by, under)?;
+        let made = filled_type(alloc, &l.1, us, by, under, parts)?;
         same = both(same, is_left(&made));
         let u = type_or_copy(alloc, made, &l.1)?;
         items.push((l.0, u))?;
@@ -244,6 +299,7 @@ fn filled_bounds(
     us: &[Ty],
     by: u32,
     under: usize,
+    parts: &mut Parts,
 ) -> Result<Renumbered<Bound>, AllocError>
     ensures row { IfOk result (λ m. plain_bounds m.items.items ≡ fill_bounds (filling_past under (put_for (plain_types us.now) by)) (plain_bounds bs.now)) }
     ensures same { IfOk result (λ m. IsTrue m.same → fill_bounds (filling_past under (put_for (plain_types us.now) by)) (plain_bounds bs.now) ≡ plain_bounds bs.now) }
@@ -251,7 +307,7 @@ fn filled_bounds(
     let mut items = Vec::with_capacity(alloc, bs.len())?;
     let mut same = true;
     for (i, b) in bs.iter().enumerate() {
-        let made = filled_bound(alloc, b, us, by, deeper(under, i)?)?;
+        let made = filled_bound(alloc, b, us, by, deeper(under, i)?, parts)?;
         same = both(same, is_left(&made));
         let d = bound_or_copy(alloc, made, b)?;
         items.push(d)?;
@@ -266,6 +322,7 @@ fn filled_bounds(
 pub fn fill_type(alloc: Global, t: &Ty, us: &[Ty], by: u32, under: usize) -> Result<Ty, AllocError>
     ensures { IfOk result (λ u. plain u ≡ fill (filling_past under (put_for (plain_types us.now) by)) (plain t.now)) }
 {
-    let made = filled_type(alloc, t, us, by, under)?;
+    let mut parts = Parts::of(alloc, t)?;
+    let made = filled_type(alloc, t, us, by, under, &mut parts)?;
     type_or_copy(alloc, made, t)
 }

@@ -6,10 +6,15 @@ mod copy;
 mod fill;
 mod laws;
 mod limits;
+mod marking;
 mod measure;
 mod measures;
 mod mentioning;
+mod parts;
+mod prints;
 mod renumber;
+mod same_filled;
+mod same_renumbered;
 mod shift;
 mod types;
 mod unfolding;
@@ -22,6 +27,7 @@ pub use laws::{
     law_only_what_is_mentioned_counts,
 };
 pub use limits::{Measure, SizeError, too_big};
+pub use marking::equal_marks;
 pub use measure::Measures;
 pub use measures::{height, weight};
 pub use mentioning::{Variables, mentions};

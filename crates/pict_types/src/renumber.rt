@@ -1,11 +1,14 @@
 // Types with their free variables renumbered. What doesn't change is shared, and not made anew.
 
-ghost use Rattle.std.specs.Prelude.{◌≡◌, ◌+◌, IfOk, IsTrue, None};
+ghost use Rattle.std.specs.Prelude.{◌≡◌, ◌+◌, IfOk, IfSome, IsTrue, None};
 ghost use Rattle.pict_types.specs.Plain.{plain, plain_bound, plain_bounds, plain_labels, plain_record, plain_types};
 ghost use Rattle.pict_types.specs.Renaming.{beyond_times, rename, rename_bound, rename_bounds, rename_labels, rename_types};
 ghost use Rattle.pict_types.specs.Renumbering.{changed, changed_bound, changed_record, renumbered};
 
 use crate::mentioning::{Variables, mentions};
+use crate::parts::Parts;
+use crate::prints::{Fingerprint, is_part};
+use crate::same_renumbered::is_renumbered;
 use crate::types::{Bound, Record, Ty};
 use pict_syntax::Name;
 use std::alloc::{AllocError, Global};
@@ -29,7 +32,7 @@ pub fn deeper(binders: usize, more: usize) -> Result<usize, AllocError>
 
 /// Variable `i` renumbered, where the `from` innermost ones stay. An error where a `u32` can't hold it.
 #[tactic(auto, using(crate::proofs::Moving::times_low, crate::proofs::Moving::times_up, crate::proofs::Moving::times_down))]
-fn renumber_variable(i: u32, how: Renumbering, from: usize) -> Result<u32, AllocError>
+pub fn renumber_variable(i: u32, how: Renumbering, from: usize) -> Result<u32, AllocError>
     ensures { IfOk result (λ j. j ≡ beyond_times from (renumbered how) i) }
 {
     if (i as usize) < from {
@@ -86,14 +89,61 @@ pub fn bound_or_copy(alloc: Global, made: Option<Bound>, b: &Bound) -> Result<Bo
     }
 }
 
+/// What was made of a part that is like this one; nothing where none is known.
+fn changed_before(
+    alloc: Global,
+    t: &Ty,
+    how: Renumbering,
+    from: usize,
+    parts: &mut Parts,
+    print: Fingerprint,
+) -> Result<Option<Ty>, AllocError>
+    ensures { IfOk result (λ o. IfSome o (λ u. plain u ≡ rename (beyond_times from (renumbered how)) (plain t.now))) }
+{
+    let Some(u) = parts.made_of(print) else {
+        return Ok(None);
+    };
+    if !is_renumbered(t, u, how, from)? {
+        return Ok(None);
+    }
+    let u = u.copy(alloc)?;
+    parts.pass(print);
+    Ok(Some(u))
+}
+
 /// The type with its free variables renumbered, where the `from` innermost ones stay; nothing where it is as it was.
+/// What was made of a like part is taken.
 #[cycle(renumber)]
-#[tactic(auto, using(crate::proofs::Rows::plain_apply, crate::proofs::Rows::plain_fields))]
 fn changed_type(
     alloc: Global,
     t: &Ty,
     how: Renumbering,
     from: usize,
+    parts: &mut Parts,
+) -> Result<Option<Ty>, AllocError>
+    ensures { IfOk result (λ o. changed o (plain t.now) ≡ rename (beyond_times from (renumbered how)) (plain t.now)) }
+{
+    if !is_part(t) {
+        return changed_anew(alloc, t, how, from, parts);
+    }
+    let print = parts.enter(from);
+    if let Some(u) = changed_before(alloc, t, how, from, parts, print)? {
+        return Ok(Some(u));
+    }
+    let made = changed_anew(alloc, t, how, from, parts)?;
+    parts.keep(alloc, print, &made)?;
+    Ok(made)
+}
+
+/// The same, where what was made of the type itself isn't taken.
+#[cycle(renumber)]
+#[tactic(auto, using(crate::proofs::Rows::plain_apply, crate::proofs::Rows::plain_fields))]
+fn changed_anew(
+    alloc: Global,
+    t: &Ty,
+    how: Renumbering,
+    from: usize,
+    parts: &mut Parts,
 ) -> Result<Option<Ty>, AllocError>
     ensures { IfOk result (λ o. changed o (plain t.now) ≡ rename (beyond_times from (renumbered how)) (plain t.now)) }
 {
@@ -112,23 +162,23 @@ fn changed_type(
         }
         Ty::Apply(i, ts) => {
             let j = renumber_variable(*i, how, from)?;
-            let row = changed_types(alloc, ts, how, from)?;
+            let row = changed_types(alloc, ts, how, from, parts)?;
             if j == *i && row.same {
                 return Ok(None);
             }
             Ok(Some(Ty::Apply(j, Rc::new(alloc, row.items)?)))
         }
-        Ty::Chan(cap, t) => match changed_type(alloc, t, how, from)? {
+        Ty::Chan(cap, t) => match changed_type(alloc, t, how, from, parts)? {
             None => Ok(None),
             Some(u) => Ok(Some(Ty::Chan(*cap, Rc::new(alloc, u)?))),
         },
-        Ty::Fields(r) => match changed_record(alloc, r, how, from)? {
+        Ty::Fields(r) => match changed_record(alloc, r, how, from, parts)? {
             None => Ok(None),
             Some(q) => Ok(Some(Ty::Fields(Rc::new(alloc, q)?))),
         },
         Ty::Rec(t) => {
             let inside = deeper(from, 1)?;
-            match changed_type(alloc, t, how, inside)? {
+            match changed_type(alloc, t, how, inside, parts)? {
                 None => Ok(None),
                 Some(u) => Ok(Some(Ty::Rec(Rc::new(alloc, u)?))),
             }
@@ -143,13 +193,14 @@ fn changed_record(
     r: &Record,
     how: Renumbering,
     from: usize,
+    parts: &mut Parts,
 ) -> Result<Option<Record>, AllocError>
     ensures { IfOk result (λ o. changed_record o (plain_record r.now) ≡ rename (beyond_times from (renumbered how)) (plain_record r.now)) }
 {
     let under = deeper(from, r.binders.as_slice().len())?;
-    let binders = changed_bounds(alloc, &r.binders, how, from)?;
-    let positional = changed_types(alloc, &r.positional, how, under)?;
-    let labelled = changed_labels(alloc, &r.labelled, how, under)?;
+    let binders = changed_bounds(alloc, &r.binders, how, from, parts)?;
+    let positional = changed_types(alloc, &r.positional, how, under, parts)?;
+    let labelled = changed_labels(alloc, &r.labelled, how, under, parts)?;
     if binders.same && positional.same && labelled.same {
         return Ok(None);
     }
@@ -166,12 +217,13 @@ fn changed_bound(
     b: &Bound,
     how: Renumbering,
     from: usize,
+    parts: &mut Parts,
 ) -> Result<Option<Bound>, AllocError>
     ensures { IfOk result (λ o. changed_bound o (plain_bound b.now) ≡ rename_bound (beyond_times from (renumbered how)) (plain_bound b.now)) }
 {
     match b {
         Bound::Free => Ok(None),
-        Bound::Below(t) => match changed_type(alloc, t, how, from)? {
+        Bound::Below(t) => match changed_type(alloc, t, how, from, parts)? {
             None => Ok(None),
             Some(u) => Ok(Some(Bound::Below(u))),
         },
@@ -186,6 +238,7 @@ fn changed_types(
     ts: &[Ty],
     how: Renumbering,
     from: usize,
+    parts: &mut Parts,
 ) -> Result<Renumbered<Ty>, AllocError>
     ensures row { IfOk result (λ m. plain_types m.items.items ≡ rename_types (beyond_times from (renumbered how)) (plain_types ts.now)) }
     ensures same { IfOk result (λ m. IsTrue m.same → rename_types (beyond_times from (renumbered how)) (plain_types ts.now) ≡ plain_types ts.now) }
@@ -193,7 +246,7 @@ fn changed_types(
     let mut items = Vec::with_capacity(alloc, ts.len())?;
     let mut same = true;
     for t in ts {
-        let u = match changed_type(alloc, t, how, from)? {
+        let u = match changed_type(alloc, t, how, from, parts)? {
             None => t.copy(alloc)?,
             Some(u) => {
                 same = false;
@@ -212,6 +265,7 @@ fn changed_labels(
     ls: &[(Name, Ty)],
     how: Renumbering,
     from: usize,
+    parts: &mut Parts,
 ) -> Result<Renumbered<(Name, Ty)>, AllocError>
     ensures row { IfOk result (λ m. plain_labels m.items.items ≡ rename_labels (beyond_times from (renumbered how)) (plain_labels ls.now)) }
     ensures same { IfOk result (λ m. IsTrue m.same → rename_labels (beyond_times from (renumbered how)) (plain_labels ls.now) ≡ plain_labels ls.now) }
@@ -219,7 +273,7 @@ fn changed_labels(
     let mut items = Vec::with_capacity(alloc, ls.len())?;
     let mut same = true;
     for l in ls {
-        let made = changed_type(alloc, &l.1, how, from)?;
+        let made = changed_type(alloc, &l.1, how, from, parts)?;
         same = both(same, is_left(&made));
         let u = type_or_copy(alloc, made, &l.1)?;
         items.push((l.0, u))?;
@@ -234,6 +288,7 @@ fn changed_bounds(
     bs: &[Bound],
     how: Renumbering,
     from: usize,
+    parts: &mut Parts,
 ) -> Result<Renumbered<Bound>, AllocError>
     ensures row { IfOk result (λ m. plain_bounds m.items.items ≡ rename_bounds (beyond_times from (renumbered how)) (plain_bounds bs.now)) }
     ensures same { IfOk result (λ m. IsTrue m.same → rename_bounds (beyond_times from (renumbered how)) (plain_bounds bs.now) ≡ plain_bounds bs.now) }
@@ -241,7 +296,7 @@ fn changed_bounds(
     let mut items = Vec::with_capacity(alloc, bs.len())?;
     let mut same = true;
     for (i, b) in bs.iter().enumerate() {
-        let made = changed_bound(alloc, b, how, deeper(from, i)?)?;
+        let made = changed_bound(alloc, b, how, deeper(from, i)?, parts)?;
         same = both(same, is_left(&made));
         let d = bound_or_copy(alloc, made, b)?;
         items.push(d)?;
@@ -257,7 +312,8 @@ pub fn renumber_type(alloc: Global, t: &Ty, how: Renumbering, from: usize) -> Re
 {
     let changes = mentions(t, &Variables::Outer(from))?;
     if changes {
-        let made = changed_type(alloc, t, how, from)?;
+        let mut parts = Parts::of(alloc, t)?;
+        let made = changed_type(alloc, t, how, from, &mut parts)?;
         return type_or_copy(alloc, made, t);
     }
     t.copy(alloc)

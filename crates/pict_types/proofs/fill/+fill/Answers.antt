@@ -9,27 +9,27 @@ use Rattle.pict_types.specs.Plain.{plain, plain_bound, plain_types, plain_bounds
 use Rattle.pict_types.proofs.Rows.{apply_is, bounds_drop, bounds_push, then_bounds, labels_drop, labels_push, then_labels}
 use Rattle.pict_types.proofs.fill.+fill.Goals as goal
 
-pub filled_type-filled_types-requires : goal.filled_type-filled_types-requires
-filled_type-filled_types-requires t c =
+pub filled_anew-filled_types-requires : goal.filled_anew-filled_types-requires
+filled_anew-filled_types-requires t c =
     let e = apply_is c.args.t.now c.in-Apply.i c.in-Apply.ts c.deref-in-Apply.result.now c.in-Apply.is (c.deref-in-Apply.ensures.value ∙ ap (λ v. v.items) c.deref.ensures) in
     let h : size (plain c.args.t.now) ≡ suc (size_types (plain_types c.deref-in-Apply.result.now)) = ap size e in
     (omega (arith, h), tt)
 
-pub filled_type-returns-then-is_head : goal.filled_type-returns-then-is_head
-filled_type-returns-then-is_head t c =
+pub filled_anew-returns-then-is_head : goal.filled_anew-returns-then-is_head
+filled_anew-returns-then-is_head t c =
     let e = apply_is c.args.t.now c.in-Apply.i c.in-Apply.ts c.deref-in-Apply.result.now c.in-Apply.is (c.deref-in-Apply.ensures.value ∙ ap (λ v. v.items) c.deref.ensures) in
     let h = sym c.in_ok-head-in-Apply.ensures ∙ c.is_head.ensures c.if-is_head.true in
     e ∙ sym (ap₂ apply_variable h (c.in_ok-row-in-Apply.ensures.same c.if-row.true)) ∙ ap (fill (filling_past c.args.under (put_for (plain_types c.args.us.now) c.args.by))) (sym e)
 
-pub filled_type-returns-in_ok-applied-in-Apply : goal.filled_type-returns-in_ok-applied-in-Apply
-filled_type-returns-in_ok-applied-in-Apply t c =
+pub filled_anew-returns-in_ok-applied-in-Apply : goal.filled_anew-returns-in_ok-applied-in-Apply
+filled_anew-returns-in_ok-applied-in-Apply t c =
     let e = apply_is c.args.t.now c.in-Apply.i c.in-Apply.ts c.deref-in-Apply.result.now c.in-Apply.is (c.deref-in-Apply.ensures.value ∙ ap (λ v. v.items) c.deref.ensures) in
     c.in_ok-applied-in-Apply.ensures
     ∙ ap₂ apply_variable c.in_ok-head-in-Apply.ensures c.in_ok-row-in-Apply.ensures.row
     ∙ ap (fill (filling_past c.args.under (put_for (plain_types c.args.us.now) c.args.by))) (sym e)
 
-pub filled_type-returns-in-None-3 : goal.filled_type-returns-in-None-3
-filled_type-returns-in-None-3 t c =
+pub filled_anew-returns-in-None-3 : goal.filled_anew-returns-in-None-3
+filled_anew-returns-in-None-3 t c =
     let s = put_for (plain_types c.args.us.now) c.args.by in
     let b = plain c.deref-in-Rec.result.now in
     let e : plain c.args.t.now ≡ Rec b = ap plain c.in-Rec.is ∙ ap (λ x. Rec (plain x)) (sym c.deref-in-Rec.ensures) in
@@ -40,8 +40,8 @@ filled_type-returns-in-None-3 t c =
     ∙ ap (λ n. Rec (fill (filling_past n s) b)) d
     ∙ ap (fill (filling_past c.args.under (put_for (plain_types c.args.us.now) c.args.by))) (sym e)
 
-pub filled_type-returns-in_ok-new-in-Some-3 : goal.filled_type-returns-in_ok-new-in-Some-3
-filled_type-returns-in_ok-new-in-Some-3 t c =
+pub filled_anew-returns-in_ok-new-in-Some-3 : goal.filled_anew-returns-in_ok-new-in-Some-3
+filled_anew-returns-in_ok-new-in-Some-3 t c =
     let s = put_for (plain_types c.args.us.now) c.args.by in
     let b = plain c.deref-in-Rec.result.now in
     let e : plain c.args.t.now ≡ Rec b = ap plain c.in-Rec.is ∙ ap (λ x. Rec (plain x)) (sym c.deref-in-Rec.ensures) in

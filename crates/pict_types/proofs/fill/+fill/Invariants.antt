@@ -23,19 +23,22 @@ invariant-filled_bounds-loop-i l =
     × (l.same ≡ true → fill_bounds (filling_past (l.under + l.i) (put_for (plain_types l.us) l.by)) (plain_bounds (drop l.i l.bs)) ≡ (plain_bounds (drop l.i l.bs)) → fill_bounds (filling_past l.under (put_for (plain_types l.us) l.by)) (plain_bounds l.bs) ≡ plain_bounds l.bs)
 
 abbrev pub decreases-filled_type : goal.decreases-filled_type
-decreases-filled_type l = 3 * size (plain l.t.now)
+decreases-filled_type l = 4 * size (plain l.t.now) + 1
+
+abbrev pub decreases-filled_anew : goal.decreases-filled_anew
+decreases-filled_anew l = 4 * size (plain l.t.now)
 
 abbrev pub decreases-filled_record : goal.decreases-filled_record
-decreases-filled_record l = 3 * size (plain_record l.r.now) - 1
+decreases-filled_record l = 4 * size (plain_record l.r.now) - 1
 
 abbrev pub decreases-filled_bound : goal.decreases-filled_bound
-decreases-filled_bound l = 3 * size_bound (plain_bound l.b.now)
+decreases-filled_bound l = 4 * size_bound (plain_bound l.b.now)
 
 abbrev pub decreases-filled_types : goal.decreases-filled_types
-decreases-filled_types l = 3 * size_types (plain_types l.ts.now) + 1
+decreases-filled_types l = 4 * size_types (plain_types l.ts.now) + 2
 
 abbrev pub decreases-filled_labels : goal.decreases-filled_labels
-decreases-filled_labels l = 3 * size_labels (plain_labels l.ls.now) + 1
+decreases-filled_labels l = 4 * size_labels (plain_labels l.ls.now) + 2
 
 abbrev pub decreases-filled_bounds : goal.decreases-filled_bounds
-decreases-filled_bounds l = 3 * size_bounds (plain_bounds l.bs.now) + 1
+decreases-filled_bounds l = 4 * size_bounds (plain_bounds l.bs.now) + 2

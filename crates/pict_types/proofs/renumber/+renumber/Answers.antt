@@ -8,28 +8,28 @@ use Rattle.pict_types.specs.Plain.{plain, plain_bound, plain_types, plain_bounds
 use Rattle.pict_types.proofs.Rows.{apply_is, plain_apply, bounds_drop, bounds_push, then_bounds, labels_drop, labels_push, then_labels}
 use Rattle.pict_types.proofs.renumber.+renumber.Goals as goal
 
-pub changed_type-changed_types-requires : goal.changed_type-changed_types-requires
-changed_type-changed_types-requires t c =
+pub changed_anew-changed_types-requires : goal.changed_anew-changed_types-requires
+changed_anew-changed_types-requires t c =
     let e = apply_is c.args.t.now c.in-Apply.i c.in-Apply.ts c.deref-in-Apply.result.now c.in-Apply.is (c.deref-in-Apply.ensures.value ∙ ap (λ v. v.items) c.deref.ensures) in
     let h : size (plain c.args.t.now) ≡ suc (size_types (plain_types c.deref-in-Apply.result.now)) = ap size e in
     (omega (arith, h), tt)
 
-pub changed_type-returns-then-row : goal.changed_type-returns-then-row
-changed_type-returns-then-row t c =
+pub changed_anew-returns-then-row : goal.changed_anew-returns-then-row
+changed_anew-returns-then-row t c =
     let e = apply_is c.args.t.now c.in-Apply.i c.in-Apply.ts c.deref-in-Apply.result.now c.in-Apply.is (c.deref-in-Apply.ensures.value ∙ ap (λ v. v.items) c.deref.ensures) in
     let j = sym c.in_ok-j-in-Apply.ensures ∙ c.if-j-i-2.true in
     e ∙ sym (ap₂ Apply j (c.in_ok-row-in-Apply.ensures.same c.if-row.true)) ∙ ap (rename (beyond_times c.args.from (renumbered c.args.how))) (sym e)
 
-pub changed_type-returns-in_ok-new-in-Apply : goal.changed_type-returns-in_ok-new-in-Apply
-changed_type-returns-in_ok-new-in-Apply t c =
+pub changed_anew-returns-in_ok-new-in-Apply : goal.changed_anew-returns-in_ok-new-in-Apply
+changed_anew-returns-in_ok-new-in-Apply t c =
     let e = apply_is c.args.t.now c.in-Apply.i c.in-Apply.ts c.deref-in-Apply.result.now c.in-Apply.is (c.deref-in-Apply.ensures.value ∙ ap (λ v. v.items) c.deref.ensures) in
     plain_apply c.in_ok-j-in-Apply.j c.in_ok-new-in-Apply.field-0
     ∙ ap (λ v. Apply c.in_ok-j-in-Apply.j (plain_types v.items)) c.in_ok-new-in-Apply.ensures.ok
     ∙ ap₂ Apply c.in_ok-j-in-Apply.ensures c.in_ok-row-in-Apply.ensures.row
     ∙ ap (rename (beyond_times c.args.from (renumbered c.args.how))) (sym e)
 
-pub changed_type-returns-in-None-3 : goal.changed_type-returns-in-None-3
-changed_type-returns-in-None-3 t c =
+pub changed_anew-returns-in-None-3 : goal.changed_anew-returns-in-None-3
+changed_anew-returns-in-None-3 t c =
     let f = renumbered c.args.how in
     let b = plain c.deref-in-Rec.result.now in
     let e : plain c.args.t.now ≡ Rec b = ap plain c.in-Rec.is ∙ ap (λ x. Rec (plain x)) (sym c.deref-in-Rec.ensures) in
@@ -40,8 +40,8 @@ changed_type-returns-in-None-3 t c =
     ∙ ap (λ n. Rec (rename (beyond_times n f) b)) d
     ∙ ap (rename (beyond_times c.args.from f)) (sym e)
 
-pub changed_type-returns-in_ok-new-in-Some-3 : goal.changed_type-returns-in_ok-new-in-Some-3
-changed_type-returns-in_ok-new-in-Some-3 t c =
+pub changed_anew-returns-in_ok-new-in-Some-3 : goal.changed_anew-returns-in_ok-new-in-Some-3
+changed_anew-returns-in_ok-new-in-Some-3 t c =
     let f = renumbered c.args.how in
     let b = plain c.deref-in-Rec.result.now in
     let e : plain c.args.t.now ≡ Rec b = ap plain c.in-Rec.is ∙ ap (λ x. Rec (plain x)) (sym c.deref-in-Rec.ensures) in

@@ -23,19 +23,22 @@ invariant-changed_bounds-loop-i l =
     × (l.same ≡ true → rename_bounds (beyond_times (l.from + l.i) (renumbered l.how)) (plain_bounds (drop l.i l.bs)) ≡ (plain_bounds (drop l.i l.bs)) → rename_bounds (beyond_times l.from (renumbered l.how)) (plain_bounds l.bs) ≡ plain_bounds l.bs)
 
 abbrev pub decreases-changed_type : goal.decreases-changed_type
-decreases-changed_type l = 3 * size (plain l.t.now)
+decreases-changed_type l = 4 * size (plain l.t.now) + 1
+
+abbrev pub decreases-changed_anew : goal.decreases-changed_anew
+decreases-changed_anew l = 4 * size (plain l.t.now)
 
 abbrev pub decreases-changed_record : goal.decreases-changed_record
-decreases-changed_record l = 3 * size (plain_record l.r.now) - 1
+decreases-changed_record l = 4 * size (plain_record l.r.now) - 1
 
 abbrev pub decreases-changed_bound : goal.decreases-changed_bound
-decreases-changed_bound l = 3 * size_bound (plain_bound l.b.now)
+decreases-changed_bound l = 4 * size_bound (plain_bound l.b.now)
 
 abbrev pub decreases-changed_types : goal.decreases-changed_types
-decreases-changed_types l = 3 * size_types (plain_types l.ts.now) + 1
+decreases-changed_types l = 4 * size_types (plain_types l.ts.now) + 2
 
 abbrev pub decreases-changed_labels : goal.decreases-changed_labels
-decreases-changed_labels l = 3 * size_labels (plain_labels l.ls.now) + 1
+decreases-changed_labels l = 4 * size_labels (plain_labels l.ls.now) + 2
 
 abbrev pub decreases-changed_bounds : goal.decreases-changed_bounds
-decreases-changed_bounds l = 3 * size_bounds (plain_bounds l.bs.now) + 1
+decreases-changed_bounds l = 4 * size_bounds (plain_bounds l.bs.now) + 2
