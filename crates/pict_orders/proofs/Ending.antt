@@ -17,8 +17,8 @@ explores p s h w = record {
   steps = λ v choice D label has free.
       let c = choices_have_places v.configuration choice free.chosen in
       let steps : outcome_at v.configuration c.0 ≡ Steps D label = ap (step_by v.configuration) c.2 ∙ free.steps in
-      subst (IsCovered s has.0 v) steps (w.expanded has.0 v has.1 c.0 c.1);
+      subst (IsCovered s has.0 v c.0) steps (w.expanded has.0 v has.1 c.0 c.1);
 }
 
 pub lists_traps : (p : Process) (s : Search) → IsWhole p s → ListsTraps (vertices s.found.items) s.traps.items
-lists_traps p s w number v e there at is traps = subst (IsCovered s number v) traps (w.expanded number v e there is)
+lists_traps p s w number v e there at is traps = subst (IsCovered s number v there) traps (w.expanded number v e there is)

@@ -55,23 +55,24 @@ still_vertex s t h number v e = ap (λ (vs : List Vertex). slice_get vs number) 
 pub found_still : (s t : Search) → Extends s t → (bytes : List ℕ) (q : Process) → IsFoundSettled (vertices s.found.items) bytes q → IsFoundSettled (vertices t.found.items) bytes q
 found_still s t h bytes q f = record { vertex = f.vertex; is = (f.is.0, still_vertex s t h f.is.0 f.vertex f.is.1); printed = f.printed; settles = f.settles }
 
-covered_still : (s t : Search) → Extends s t → (number : ℕ) (v : Vertex) (o : StepOutcome) → IsCovered s number v o → IsCovered t number v o
-covered_still s t h number v (Steps D label) c = found_still s t h (v.bytes ++ printed_by label) (reading D) c
-covered_still s t h number v (Traps at) c = record {
+covered_still : (s t : Search) → Extends s t → (number : ℕ) (v : Vertex) (there : Place) (o : StepOutcome) → IsCovered s number v there o → IsCovered t number v there o
+covered_still s t h number v there (Steps D label) c = found_still s t h (v.bytes ++ printed_by label) (reading D) c
+covered_still s t h number v there (Traps at) c = record {
   index = c.index;
   trap = c.trap;
   listed = ap (λ (ts : List Trap). slice_get ts c.index) h.traps ∙ get_front s.traps.items h.more_traps c.index c.trap c.listed;
   vertex = c.vertex;
+  choice = c.choice;
   same = c.same;
 }
-covered_still s t h number v Wrong c = tt
-covered_still s t h number v Finished c = tt
+covered_still s t h number v there Wrong c = tt
+covered_still s t h number v there Finished c = tt
 
 pub tried_still : (s t : Search) → Extends s t → (number : ℕ) → number < length s.found.items → (at : Place) → IsTried s number at → IsTried t number at
-tried_still s t h number l at c = λ v e. covered_still s t h number v (outcome_at v.configuration at) (c v (same_vertex s t h number v l e))
+tried_still s t h number l at c = λ v e. covered_still s t h number v at (outcome_at v.configuration at) (c v (same_vertex s t h number v l e))
 
 pub expanded_still : (s t : Search) → Extends s t → (number : ℕ) → number < length s.found.items → IsExpanded s number → IsExpanded t number
-expanded_still s t h number l c = λ v e at there. covered_still s t h number v (outcome_at v.configuration at) (c v (same_vertex s t h number v l e) at there)
+expanded_still s t h number l c = λ v e at there. covered_still s t h number v at (outcome_at v.configuration at) (c v (same_vertex s t h number v l e) at there)
 
 -- ---- one vertex more, one trap more
 
@@ -165,7 +166,7 @@ expanded_more p s t u number ready l h is e new =
     }
   where
     next : (i : ℕ) → (i < ready) ⊎ (i ≡ ready) → length s.found.items ≤ length t.found.items → AreTried u number i
-    next i (inl a) g = λ v at j there. covered_still t u e number v (outcome_at v.configuration (place i j)) (h.tried i a v (same_vertex t u e number v (omega (arith, l, g)) at) j there)
+    next i (inl a) g = λ v at j there. covered_still t u e number v (place i j) (outcome_at v.configuration (place i j)) (h.tried i a v (same_vertex t u e number v (omega (arith, l, g)) at) j there)
     next i (inr a) g = subst (AreTried u number) (sym a) new
 
 pub run_more : (p : Process) (s t u : Search) (number : ℕ) → RunSoFar p s t number → number < length t.found.items → IsSearch p (vertices u.found.items) u.traps.items → Extends t u → IsExpanded u number → RunSoFar p s u (number + 1)
@@ -261,13 +262,13 @@ tried_steps p s t extent number f at D label kept within steps there go =
     (λ found v e.
     let before : slice_get (vertices s.found.items) number ≡ Some v = same_vertex s t g.extends number v within e in
     let own : vertex_of f ≡ v = own_vertex s.found.items number f v kept before in
-    subst (IsCovered t number v) (sym (ap (λ (w : Vertex). outcome_at w.configuration at) (sym own) ∙ steps)) (found v before))
+    subst (IsCovered t number v at) (sym (ap (λ (w : Vertex). outcome_at w.configuration at) (sym own) ∙ steps)) (found v before))
 
 pub tried_nothing : (p : Process) (s : Search) (number : ℕ) (f : Found) (at : Place) (o : StepOutcome) → slice_get s.found.items number ≡ Some f → outcome_at (configuration_of f.state) at ≡ o
-    → ((v : Vertex) → IsCovered s number v o) → IsSearch p (vertices s.found.items) s.traps.items → Goes p s s All (IsTried s number at)
+    → ((v : Vertex) → IsCovered s number v at o) → IsSearch p (vertices s.found.items) s.traps.items → Goes p s s All (IsTried s number at)
 tried_nothing p s number f at o kept is covered h =
     goes_no_further p s (IsTried s number at) h
-    (λ v e. subst (IsCovered s number v) (sym (ap (λ (w : Vertex). outcome_at w.configuration at) (sym (own_vertex s.found.items number f v kept e)) ∙ is)) (covered v))
+    (λ v e. subst (IsCovered s number v at) (sym (ap (λ (w : Vertex). outcome_at w.configuration at) (sym (own_vertex s.found.items number f v kept e)) ∙ is)) (covered v))
 
 pub tried_trap : (p : Process) (s t : Search) (number : ℕ) (f : Found) (trap : Trap) → slice_get s.found.items number ≡ Some f → t.found ≡ s.found → t.traps.items ≡ s.traps.items ++ trap ∷ [] → trap.vertex ≡ number
     → outcome_at (configuration_of f.state) (place_of trap.choice) ≡ Traps trap.at → IsThere (vertices s.found.items) number (place_of trap.choice) → IsSearch p (vertices s.found.items) s.traps.items
@@ -282,8 +283,8 @@ tried_trap p s t number f trap kept same more named traps there h =
       extends = record { more = []; more_traps = trap ∷ []; found = fs ∙ sym (append-nil (vertices s.found.items)); traps = more };
       done = λ e v k.
           let before : slice_get (vertices s.found.items) number ≡ Some v = ap (λ (F : List Vertex). slice_get F number) (sym fs) ∙ k in
-          subst (IsCovered t number v) (sym (ap (λ (w : Vertex). outcome_at w.configuration (place_of trap.choice)) (sym (own_vertex s.found.items number f v kept before)) ∙ traps))
-          (record { index = length s.traps.items; trap = trap; listed = ap (λ (ts : List Trap). slice_get ts (length s.traps.items)) more ∙ get_own s.traps.items trap; vertex = named; same = refl });
+          subst (IsCovered t number v (place_of trap.choice)) (sym (ap (λ (w : Vertex). outcome_at w.configuration (place_of trap.choice)) (sym (own_vertex s.found.items number f v kept before)) ∙ traps))
+          (record { index = length s.traps.items; trap = trap; listed = ap (λ (ts : List Trap). slice_get ts (length s.traps.items)) more ∙ get_own s.traps.items trap; vertex = named; choice = refl; same = refl });
       full = λ e. all_has_room e;
     }
   where

@@ -30,16 +30,17 @@ pub record IsSearch (p : Process) (found : List Vertex) (traps : List Trap) : Ty
   pub settled : (v : Vertex) → Has found v → IsSettled v.configuration
   pub trapped : (i : ℕ) (t : Trap) → slice_get traps i ≡ Some t → IsTrap found t
 
--- a trap of this vertex, at this place of the text, is listed
-pub record HasTrap (traps : List Trap) (number : ℕ) (at : Span) : Type 0 where
+-- a trap of this vertex with this choice, at this place of the text, is listed
+pub record HasTrap (traps : List Trap) (number : ℕ) (there : Place) (at : Span) : Type 0 where
   pub index : ℕ
   pub trap : Trap
   pub listed : slice_get traps index ≡ Some trap
   pub vertex : trap.vertex ≡ number
+  pub choice : place_of trap.choice ≡ there
   pub same : trap.at ≡ at
 
--- Wherever the step of a vertex at a place divides by zero, a trap of the vertex is listed, at the same place of the text.
+-- Wherever the step of a vertex at a place divides by zero, this trap of the vertex is listed, at the same place of the text.
 abbrev pub ListsTraps : List Vertex → List Trap → Type 0
 ListsTraps found traps =
     (number : ℕ) (v : Vertex) → slice_get found number ≡ Some v
-    → (there : Place) (at : Span) → IsPlace v.configuration there → outcome_at v.configuration there ≡ Traps at → HasTrap traps number at
+    → (there : Place) (at : Span) → IsPlace v.configuration there → outcome_at v.configuration there ≡ Traps at → HasTrap traps number there at

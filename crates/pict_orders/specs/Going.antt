@@ -56,29 +56,29 @@ IsFoundBy old new number label D =
     (v : Vertex) → slice_get (vertices old.found.items) number ≡ Some v
     → IsFoundSettled (vertices new.found.items) (v.bytes ++ printed_by label) (reading D)
 
--- what a step of a vertex leads to is found, once it has settled; or it traps, and that is listed
-abbrev pub IsCovered : Search → ℕ → Vertex → StepOutcome → Type 0
-IsCovered s number v (Steps D label) = IsFoundSettled (vertices s.found.items) (v.bytes ++ printed_by label) (reading D)
-IsCovered s number v (Traps at) = HasTrap s.traps.items number at
-IsCovered s number v Wrong = Unit {0}
-IsCovered s number v Finished = Unit {0}
+-- what the step of a vertex at a place leads to is found, once it has settled; or it traps, and that is listed
+abbrev pub IsCovered : Search → ℕ → Vertex → Place → StepOutcome → Type 0
+IsCovered s number v there (Steps D label) = IsFoundSettled (vertices s.found.items) (v.bytes ++ printed_by label) (reading D)
+IsCovered s number v there (Traps at) = HasTrap s.traps.items number there at
+IsCovered s number v there Wrong = Unit {0}
+IsCovered s number v there Finished = Unit {0}
 
 -- the step of the vertex of this number at the place is covered
 abbrev pub IsTried : Search → ℕ → Place → Type 0
 IsTried s number there =
-    (v : Vertex) → slice_get (vertices s.found.items) number ≡ Some v → IsCovered s number v (outcome_at v.configuration there)
+    (v : Vertex) → slice_get (vertices s.found.items) number ≡ Some v → IsCovered s number v there (outcome_at v.configuration there)
 
 -- so are its steps at all places of one ready process
 abbrev pub AreTried : Search → ℕ → ℕ → Type 0
 AreTried s number ready =
     (v : Vertex) → slice_get (vertices s.found.items) number ≡ Some v
-    → (j : ℕ) → IsPlace v.configuration (place ready j) → IsCovered s number v (outcome_at v.configuration (place ready j))
+    → (j : ℕ) → IsPlace v.configuration (place ready j) → IsCovered s number v (place ready j) (outcome_at v.configuration (place ready j))
 
 -- so are its steps at all places
 abbrev pub IsExpanded : Search → ℕ → Type 0
 IsExpanded s number =
     (v : Vertex) → slice_get (vertices s.found.items) number ≡ Some v
-    → (there : Place) → IsPlace v.configuration there → IsCovered s number v (outcome_at v.configuration there)
+    → (there : Place) → IsPlace v.configuration there → IsCovered s number v there (outcome_at v.configuration there)
 
 -- all vertices are expanded
 abbrev pub AreExpanded : Search → Type 0

@@ -82,7 +82,7 @@ struct Search {
 pub enum Extent {
     /// All orders.
     All,
-    /// As many vertices as were asked for, and a step leads to what isn't taken for one of them.
+    /// As many vertices as were asked for; what was come to next isn't taken for one of them.
     Limit,
     /// Up to a configuration for which there is no number of one more channel, or none of two more stamps.
     NoRoom,
