@@ -9,6 +9,7 @@ use pict_heap::{Heap, Word};
 use pict_prim::{Done, Need, ValueDone, act_on, apply, attempt_on_value, printed_bytes, room};
 use pict_syntax::{Bytes, Prim};
 use std::alloc::{AllocError, Global};
+use std::process::Abort;
 
 // A record of these operands and the channel 7.
 fn two(alloc: Global, v: CoreVal) -> Result<CoreVal, AllocError> {
@@ -64,6 +65,44 @@ const LEAST: i64 = -9223372036854775808;
 
 const GREATEST: i64 = 9223372036854775807;
 
+// Tries what the primitive answers on the channel 7.
+fn try_answer(
+    rt: &impl Abort,
+    alloc: Global,
+    p: Prim,
+    argument: CoreVal,
+    wanted: CoreVal,
+) -> Result<(), AllocError> {
+    let is_answered = answers(alloc, p, &argument, &wanted)?;
+    assert!(rt; is_answered, "{p:?}");
+    Ok(())
+}
+
+// Tries what the primitive answers one operand.
+fn try_one(
+    rt: &impl Abort,
+    alloc: Global,
+    p: Prim,
+    v: CoreVal,
+    wanted: CoreVal,
+) -> Result<(), AllocError> {
+    let argument = two(alloc, v)?;
+    try_answer(rt, alloc, p, argument, wanted)
+}
+
+// Tries what the primitive answers two operands.
+fn try_two(
+    rt: &impl Abort,
+    alloc: Global,
+    p: Prim,
+    v: CoreVal,
+    w: CoreVal,
+    wanted: CoreVal,
+) -> Result<(), AllocError> {
+    let argument = three(alloc, v, w)?;
+    try_answer(rt, alloc, p, argument, wanted)
+}
+
 #[test]
 fn numbers_at_their_corners(rt: HostRuntime) -> Result<(), AllocError> {
     let alloc = rt.alloc();
@@ -79,12 +118,21 @@ fn numbers_at_their_corners(rt: HostRuntime) -> Result<(), AllocError> {
         (Prim::Remainder, 7, -2, 1),
     ];
     for (p, a, b, wanted) in numbers {
-        let argument = three(alloc, CoreVal::Int(a), CoreVal::Int(b))?;
-        assert!(rt;
-            answers(alloc, p, &argument, &CoreVal::Int(wanted))?,
-            "{p:?} {a} {b}"
-        );
+        try_two(
+            &rt,
+            alloc,
+            p,
+            CoreVal::Int(a),
+            CoreVal::Int(b),
+            CoreVal::Int(wanted),
+        )?;
     }
+    Ok(())
+}
+
+#[test]
+fn numbers_are_compared(rt: HostRuntime) -> Result<(), AllocError> {
+    let alloc = rt.alloc();
     let tests = [
         (Prim::Equal, 2, 2, true),
         (Prim::Equal, 2, -2, false),
@@ -98,26 +146,38 @@ fn numbers_at_their_corners(rt: HostRuntime) -> Result<(), AllocError> {
         (Prim::AtLeast, -1, 0, false),
     ];
     for (p, a, b, wanted) in tests {
-        let argument = three(alloc, CoreVal::Int(a), CoreVal::Int(b))?;
-        assert!(rt;
-            answers(alloc, p, &argument, &CoreVal::Bool(wanted))?,
-            "{p:?} {a} {b}"
-        );
+        try_two(
+            &rt,
+            alloc,
+            p,
+            CoreVal::Int(a),
+            CoreVal::Int(b),
+            CoreVal::Bool(wanted),
+        )?;
     }
+    Ok(())
+}
+
+// Whether the primitive finds that it is to divide by zero.
+fn is_zero_divisor(alloc: Global, p: Prim, argument: CoreVal) -> Result<bool, AllocError> {
+    match attempt_on_value(alloc, p, &argument)? {
+        Some(ValueDone::ZeroDivisor) => Ok(true),
+        _ => Ok(false),
+    }
+}
+
+#[test]
+fn nothing_is_divided_by_zero(rt: HostRuntime) -> Result<(), AllocError> {
+    let alloc = rt.alloc();
     for p in [Prim::Divide, Prim::Remainder] {
         let argument = three(alloc, CoreVal::Int(1), CoreVal::Int(0))?;
-        assert!(rt;
-            matches!(
-                attempt_on_value(alloc, p, &argument)?,
-                Some(ValueDone::ZeroDivisor)
-            )
-        );
+        assert!(rt; is_zero_divisor(alloc, p, argument)?, "{p:?}");
     }
     Ok(())
 }
 
 #[test]
-fn characters_and_strings_at_their_corners(rt: HostRuntime) -> Result<(), AllocError> {
+fn characters_at_their_corners(rt: HostRuntime) -> Result<(), AllocError> {
     let alloc = rt.alloc();
     for (n, byte) in [
         (-1, 255),
@@ -128,75 +188,68 @@ fn characters_and_strings_at_their_corners(rt: HostRuntime) -> Result<(), AllocE
         (-257, 255),
         (LEAST, 0),
     ] {
-        assert!(rt;
-            answers(
-                alloc,
-                Prim::Chr,
-                &two(alloc, CoreVal::Int(n))?,
-                &CoreVal::Char(byte)
-            )?,
-            "{n}"
-        );
+        try_one(&rt, alloc, Prim::Chr, CoreVal::Int(n), CoreVal::Char(byte))?;
     }
-    assert!(rt;
-        answers(
-            alloc,
-            Prim::Ord,
-            &two(alloc, CoreVal::Char(255))?,
-            &CoreVal::Int(255)
-        )?
-    );
-    assert!(rt;
-        answers(
-            alloc,
-            Prim::Not,
-            &two(alloc, CoreVal::Bool(true))?,
-            &CoreVal::Bool(false)
-        )?
-    );
-    assert!(rt;
-        answers(
+    try_one(&rt, alloc, Prim::Ord, CoreVal::Char(255), CoreVal::Int(255))?;
+    try_one(
+        &rt,
+        alloc,
+        Prim::Not,
+        CoreVal::Bool(true),
+        CoreVal::Bool(false),
+    )
+}
+
+#[test]
+fn bytes_of_strings(rt: HostRuntime) -> Result<(), AllocError> {
+    let alloc = rt.alloc();
+    for (bytes, size) in [(b"".as_slice(), 0), (b"abc".as_slice(), 3)] {
+        try_one(
+            &rt,
             alloc,
             Prim::Size,
-            &two(alloc, text(alloc, b"")?)?,
-            &CoreVal::Int(0)
-        )?
-    );
-    assert!(rt;
-        answers(
-            alloc,
-            Prim::Size,
-            &two(alloc, text(alloc, b"abc")?)?,
-            &CoreVal::Int(3)
-        )?
-    );
+            text(alloc, bytes)?,
+            CoreVal::Int(size),
+        )?;
+    }
     for (place, byte) in [(0, 97), (2, 99), (3, -1), (-1, -1), (LEAST, -1)] {
-        let argument = three(alloc, text(alloc, b"abc")?, CoreVal::Int(place))?;
-        assert!(rt;
-            answers(alloc, Prim::Nth, &argument, &CoreVal::Int(byte))?,
-            "{place}"
-        );
+        try_two(
+            &rt,
+            alloc,
+            Prim::Nth,
+            text(alloc, b"abc")?,
+            CoreVal::Int(place),
+            CoreVal::Int(byte),
+        )?;
     }
+    Ok(())
+}
+
+#[test]
+fn strings_that_are_made(rt: HostRuntime) -> Result<(), AllocError> {
+    let alloc = rt.alloc();
     for (n, digits) in [
         (0, "0"),
         (-5, "-5"),
         (LEAST, "-9223372036854775808"),
         (GREATEST, "9223372036854775807"),
     ] {
-        let argument = two(alloc, CoreVal::Int(n))?;
-        assert!(rt;
-            answers(
-                alloc,
-                Prim::Intstr,
-                &argument,
-                &text(alloc, digits.as_bytes())?
-            )?,
-            "{n}"
-        );
+        try_one(
+            &rt,
+            alloc,
+            Prim::Intstr,
+            CoreVal::Int(n),
+            text(alloc, digits.as_bytes())?,
+        )?;
     }
-    let argument = three(alloc, text(alloc, b"aA\n")?, text(alloc, b"-5")?)?;
-    assert!(rt; answers(alloc, Prim::Join, &argument, &text(alloc, b"aA\n-5")?)?);
-    Ok(())
+    try_two(
+        &rt,
+        alloc,
+        Prim::Join,
+        text(alloc, b"aA\n")?,
+        text(alloc, b"-5")?,
+        text(alloc, b"aA\n-5")?,
+    )
 }
 
 // What the primitive prints, if it prints.
@@ -208,33 +261,43 @@ fn printed(alloc: Global, p: Prim, argument: &CoreVal) -> Result<Option<Bytes>, 
     }
 }
 
+// Tries what the primitive prints.
+fn try_printed(
+    rt: &impl Abort,
+    alloc: Global,
+    p: Prim,
+    argument: CoreVal,
+    wanted: &[u8],
+) -> Result<(), AllocError> {
+    match printed(alloc, p, &argument)? {
+        Some(bytes) => assert!(rt; bytes.slice() == wanted, "{p:?}"),
+        None => panic!(rt; "{p:?}"),
+    }
+    Ok(())
+}
+
 #[test]
-fn printings_and_other_shapes(rt: HostRuntime) -> Result<(), AllocError> {
+fn printings(rt: HostRuntime) -> Result<(), AllocError> {
     let alloc = rt.alloc();
-    match printed(alloc, Prim::Print, &text(alloc, b"ab")?)? {
-        Some(bytes) => assert!(rt; bytes.slice() == b"ab".as_slice()),
-        None => assert!(rt; false),
-    }
-    match printed(alloc, Prim::Printi, &CoreVal::Int(-12))? {
-        Some(bytes) => assert!(rt; bytes.slice() == b"-12".as_slice()),
-        None => assert!(rt; false),
-    }
-    match printed(alloc, Prim::Pr, &two(alloc, text(alloc, b"")?)?)? {
-        Some(bytes) => assert!(rt; bytes.slice().is_empty()),
-        None => assert!(rt; false),
-    }
-    assert!(rt; attempt_on_value(alloc, Prim::Print, &CoreVal::Int(1))?.is_none());
-    assert!(rt; attempt_on_value(alloc, Prim::Print, &two(alloc, text(alloc, b"a")?)?)?.is_none());
-    assert!(rt; attempt_on_value(alloc, Prim::Add, &two(alloc, CoreVal::Int(1))?)?.is_none());
-    assert!(rt;
-        attempt_on_value(
-            alloc,
-            Prim::Add,
-            &three(alloc, CoreVal::Int(1), CoreVal::Bool(true))?
-        )?
-        .is_none()
-    );
-    assert!(rt; attempt_on_value(alloc, Prim::Not, &CoreVal::Bool(true))?.is_none());
+    try_printed(&rt, alloc, Prim::Print, text(alloc, b"ab")?, b"ab")?;
+    try_printed(&rt, alloc, Prim::Printi, CoreVal::Int(-12), b"-12")?;
+    try_printed(&rt, alloc, Prim::Pr, two(alloc, text(alloc, b"")?)?, b"")
+}
+
+// Whether the primitive does nothing with the argument.
+fn is_misfit(alloc: Global, p: Prim, argument: CoreVal) -> Result<bool, AllocError> {
+    Ok(attempt_on_value(alloc, p, &argument)?.is_none())
+}
+
+#[test]
+fn other_shapes(rt: HostRuntime) -> Result<(), AllocError> {
+    let alloc = rt.alloc();
+    assert!(rt; is_misfit(alloc, Prim::Print, CoreVal::Int(1))?);
+    assert!(rt; is_misfit(alloc, Prim::Print, two(alloc, text(alloc, b"a")?)?)?);
+    assert!(rt; is_misfit(alloc, Prim::Add, two(alloc, CoreVal::Int(1))?)?);
+    let mixed = three(alloc, CoreVal::Int(1), CoreVal::Bool(true))?;
+    assert!(rt; is_misfit(alloc, Prim::Add, mixed)?);
+    assert!(rt; is_misfit(alloc, Prim::Not, CoreVal::Bool(true))?);
     Ok(())
 }
 

@@ -23,9 +23,10 @@ enum Nesting {
 // One level more around the process.
 fn wrap(alloc: Global, nesting: Nesting, process: Core) -> Result<Core, AllocError> {
     let part = Part::new(alloc, process)?;
+    let nothing = Part::new(alloc, Core::Zero)?;
     match nesting {
-        Nesting::Left => Ok(Core::Par(part, Part::new(alloc, Core::Zero)?)),
-        Nesting::Right => Ok(Core::Par(Part::new(alloc, Core::Zero)?, part)),
+        Nesting::Left => Ok(Core::Par(part, nothing)),
+        Nesting::Right => Ok(Core::Par(nothing, part)),
         Nesting::New => Ok(Core::New(part)),
         Nesting::Body => Ok(Core::In {
             chan: CoreVal::Var(0),
@@ -36,7 +37,7 @@ fn wrap(alloc: Global, nesting: Nesting, process: Core) -> Result<Core, AllocErr
         Nesting::Branch => Ok(Core::If {
             test: CoreVal::Bool(true),
             yes: part,
-            no: Part::new(alloc, Core::Zero)?,
+            no: nothing,
         }),
     }
 }

@@ -1,77 +1,119 @@
-// Values and their texts, as one table.
+// Values and their texts.
 use pict_core::CoreVal;
 use pict_show::write_value;
 use pict_syntax::{Bytes, Name, Names, Prim};
 use std::alloc::{AllocError, Global};
 use std::process::Abort;
 
-fn shows(
-    rt: &impl Abort,
-    alloc: Global,
-    names: &Names,
-    value: &CoreVal,
-    text: &[u8],
-) -> Result<(), AllocError> {
+// The names set and get, in this order.
+fn set_and_get(alloc: Global) -> Result<Names, AllocError> {
+    let mut names = Names::new(alloc);
+    names.intern(b"set")?;
+    names.intern(b"get")?;
+    Ok(names)
+}
+
+// Tries the text of a value, by these names.
+fn shows(rt: &impl Abort, alloc: Global, value: CoreVal, text: &[u8]) -> Result<(), AllocError> {
+    let names = set_and_get(alloc)?;
     let mut out = Vec::new(alloc);
-    write_value(alloc, &mut out, names, value)?;
+    write_value(alloc, &mut out, &names, &value)?;
     assert!(rt; out.as_slice() == text);
     Ok(())
 }
 
 #[test]
-fn values(rt: HostRuntime) -> Result<(), AllocError> {
+fn variables_and_channels(rt: HostRuntime) -> Result<(), AllocError> {
     let alloc = rt.alloc();
-    let names = Names::new(alloc);
-    let rows: [(CoreVal, &[u8]); 12] = [
-        (CoreVal::Var(0), b"s0"),
-        (CoreVal::Chan(4294967295), b"c4294967295"),
-        (CoreVal::Int(0), b"0"),
-        (CoreVal::Int(-9223372036854775808), b"-9223372036854775808"),
-        (CoreVal::Bool(true), b"true"),
-        (CoreVal::Bool(false), b"false"),
-        (CoreVal::Char(b'\''), b"'\\''"),
-        (CoreVal::Char(b'"'), b"'\"'"),
-        (CoreVal::Char(0), b"'\\x00'"),
-        (CoreVal::Prim(Prim::Join), b"+$"),
-        (CoreVal::Prim(Prim::Printi), b"printi"),
-        (
-            CoreVal::Text(Bytes::copy_of(alloc, b"a~ \t\n\\\"'\x7f\xff")?),
-            b"\"a~ \\t\\n\\\\\\\"'\\x7f\\xff\"",
-        ),
-    ];
-    for (value, text) in &rows {
-        shows(&rt, alloc, &names, value, text)?;
+    shows(&rt, alloc, CoreVal::Var(0), b"s0")?;
+    shows(&rt, alloc, CoreVal::Chan(4294967295), b"c4294967295")
+}
+
+#[test]
+fn numbers(rt: HostRuntime) -> Result<(), AllocError> {
+    let alloc = rt.alloc();
+    for (n, text) in [
+        (0, b"0".as_slice()),
+        (-9223372036854775808, b"-9223372036854775808".as_slice()),
+    ] {
+        shows(&rt, alloc, CoreVal::Int(n), text)?;
     }
     Ok(())
 }
 
 #[test]
-fn records(rt: HostRuntime) -> Result<(), AllocError> {
+fn truth_values_and_primitives(rt: HostRuntime) -> Result<(), AllocError> {
     let alloc = rt.alloc();
-    let mut names = Names::new(alloc);
-    names.intern(b"set")?;
-    names.intern(b"get")?;
-    let empty = CoreVal::Fields {
+    for (b, text) in [(true, b"true".as_slice()), (false, b"false".as_slice())] {
+        shows(&rt, alloc, CoreVal::Bool(b), text)?;
+    }
+    for (p, text) in [
+        (Prim::Join, b"+$".as_slice()),
+        (Prim::Printi, b"printi".as_slice()),
+    ] {
+        shows(&rt, alloc, CoreVal::Prim(p), text)?;
+    }
+    Ok(())
+}
+
+#[test]
+fn characters(rt: HostRuntime) -> Result<(), AllocError> {
+    let alloc = rt.alloc();
+    for (byte, text) in [
+        (b'\'', b"'\\''".as_slice()),
+        (b'"', b"'\"'".as_slice()),
+        (0, b"'\\x00'".as_slice()),
+    ] {
+        shows(&rt, alloc, CoreVal::Char(byte), text)?;
+    }
+    Ok(())
+}
+
+#[test]
+fn strings(rt: HostRuntime) -> Result<(), AllocError> {
+    let alloc = rt.alloc();
+    let string = Bytes::copy_of(alloc, b"a~ \t\n\\\"'\x7f\xff")?;
+    let text = b"\"a~ \\t\\n\\\\\\\"'\\x7f\\xff\"";
+    shows(&rt, alloc, CoreVal::Text(string), text)
+}
+
+// The record with no fields.
+fn empty(alloc: Global) -> CoreVal {
+    CoreVal::Fields {
         positional: Vec::new(alloc),
         labelled: Vec::new(alloc),
-    };
-    shows(&rt, alloc, &names, &empty, b"[]")?;
+    }
+}
+
+// The record [get=2 set=s3].
+fn inner(alloc: Global) -> Result<CoreVal, AllocError> {
     let mut labelled = Vec::new(alloc);
     labelled.push((Name(1), CoreVal::Int(2)))?;
     labelled.push((Name(0), CoreVal::Var(3)))?;
-    let inner = CoreVal::Fields {
+    Ok(CoreVal::Fields {
         positional: Vec::new(alloc),
         labelled,
-    };
-    shows(&rt, alloc, &names, &inner, b"[get=2 set=s3]")?;
-    let mut positional = Vec::new(alloc);
-    positional.push(empty)?;
-    positional.push(CoreVal::Chan(1))?;
+    })
+}
+
+// The record [[] c1 set=V], where V is a value.
+fn outer(alloc: Global, value: CoreVal) -> Result<CoreVal, AllocError> {
     let mut labelled = Vec::new(alloc);
-    labelled.push((Name(0), inner))?;
-    let outer = CoreVal::Fields {
+    labelled.push((Name(0), value))?;
+    let mut positional = Vec::new(alloc);
+    positional.push(empty(alloc))?;
+    positional.push(CoreVal::Chan(1))?;
+    Ok(CoreVal::Fields {
         positional,
         labelled,
-    };
-    shows(&rt, alloc, &names, &outer, b"[[] c1 set=[get=2 set=s3]]")
+    })
+}
+
+#[test]
+fn records(rt: HostRuntime) -> Result<(), AllocError> {
+    let alloc = rt.alloc();
+    shows(&rt, alloc, empty(alloc), b"[]")?;
+    shows(&rt, alloc, inner(alloc)?, b"[get=2 set=s3]")?;
+    let value = outer(alloc, inner(alloc)?)?;
+    shows(&rt, alloc, value, b"[[] c1 set=[get=2 set=s3]]")
 }
