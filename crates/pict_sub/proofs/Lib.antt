@@ -6,7 +6,6 @@ pub mod Followed
 pub mod Renamed
 pub mod Decidable
 pub mod Marked
-pub mod Marks
 pub mod Varying
 pub mod Apart
 pub mod Carried

@@ -6,7 +6,7 @@ use Rattle.pict_types.specs.Types.{PlainType, Apply, PlainTypes, no_type, types,
 use Rattle.pict_types.specs.Renaming.{rename_bound, moved, bound_at}
 use Rattle.pict_types.specs.Kinds.{kinds, kind_at, operator_of}
 use Rattle.pict_sub.specs.Subtyping.{IsSubtype, AreByMarks, no_more, ComparesBy}
-use Rattle.pict_sub.proofs.Marks.{marks_drop, marks_end}
+use Rattle.pict_types.proofs.Marks.{marks_drop, marks_end}
 use Rattle.pict_sub.proofs.Inversion.{applied}
 use Rattle.pict_sub.proofs.Decidable.{plus_iff, minus_iff, unmarked_iff}
 

@@ -4,8 +4,8 @@ ghost use Rattle.std.specs.Prelude.{◌≡◌, ◌+◌, ◌≤◌, ◌<◌, ◌�
 ghost use Rattle.pict_types.specs.Measures.{size, size_bound, size_bounds, size_labels, size_types};
 ghost use Rattle.pict_types.specs.Plain.{plain, plain_bound, plain_bounds, plain_cap, plain_labels, plain_record, plain_types};
 
-use pict_syntax::{Mark, Name, Steps};
-use pict_types::{Bound, Cap, Record, Ty};
+use pict_syntax::{Name, Steps};
+use pict_types::{Bound, Cap, Record, Ty, equal_marks};
 use std::marker::Brand;
 use std::sync::ledger::{Blank, Ledger};
 
@@ -14,22 +14,6 @@ pub fn same_cap(m: Cap, n: Cap) -> bool
     ensures { IsTrue result ↔ (plain_cap m ≡ plain_cap n) }
 {
     m == n
-}
-
-/// Whether two operators have the same marks. Marks count nothing.
-#[tactic(auto, using(crate::proofs::Marks::marks_compared))]
-pub fn equal_marks(ms: &[Mark], ns: &[Mark]) -> bool
-    ensures answer { IsTrue result ↔ (ms.now ≡ ns.now) }
-{
-    if ms.len() != ns.len() {
-        return false;
-    }
-    for i in 0..ms.len() {
-        if ms[i] != ns[i] {
-            return false;
-        }
-    }
-    true
 }
 
 /// Whether the types are the same, up to bound names and the order of labels, which normal forms don't have.
