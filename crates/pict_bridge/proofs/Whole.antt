@@ -13,7 +13,7 @@ use Rattle.pict_scope.specs.PrimitiveNames.{primitive_named}
 use Rattle.pict_rules.specs.Environments.{Environment, context_of, known_type, type_or_top, type_or_primitive, type_of_use}
 use Rattle.pict_rules.specs.Regular.{IsTypeIn}
 use Rattle.pict_translation.specs.Placed.{Placed, output, new_channel}
-use Rattle.pict_translation.specs.Simple.{Around, value_at, or_primitive, use_of, nothing, simple}
+use Rattle.pict_translation.specs.Simple.{value_at, or_primitive, use_of, nothing, simple}
 use Rattle.pict_translation.specs.Translation.{sending}
 use Rattle.pict_typing.specs.Erasing.{erased}
 use Rattle.pict_typing.specs.Worlds.{World, IsType, with_variable}
@@ -23,8 +23,8 @@ use Rattle.pict_typing.specs.Processes.{IsTyped, AreClosedTypes}
 use Rattle.pict_typing.proofs.Closed.{closed_renamed}
 use Rattle.pict_typing.proofs.Forms.{takes_type}
 use Rattle.pict_opened.specs.Opening.{meaning}
-use Rattle.pict_bridge.specs.Standing.{Stands, Sends, OnItsWay}
-use Rattle.pict_bridge.specs.Realising.{around, Realises, IsSent}
+use Rattle.pict_bridge.specs.Standing.{Stands, Sends}
+use Rattle.pict_bridge.specs.Realising.{around, Realises}
 use Rattle.pict_bridge.proofs.Standing.{has_longer, type_longer, sends_up, way_up, count_more}
 use Rattle.pict_bridge.proofs.Realised.{type_means, below_means}
 use Rattle.pict_bridge.proofs.Judged.{Values, SentBy}
@@ -32,10 +32,6 @@ use Rattle.pict_bridge.proofs.Judged.{Values, SentBy}
 -- a value that is sent whole
 pub whole_sends : {w : World} {t : PlainType} (u : core.Val) (at : Span) → AreClosedTypes w.names w.messages → IsType w t → HasType w u t → Sends w t (λ k. output k u at)
 whole_sends {t = t} u at c f h v k l x = typed.output t (type_longer t l f) x (has_longer c l h)
-
--- what is sent only, and is no simple value
-pub only_sent : {w : World} {t : PlainType} {a : Around} {v : Val} → simple a v ≡ None → Sends w t (sending a v) → IsSent w t a v
-only_sent {w = w} {t = t} {a = a} {v = v} n s = record { on_its_way = subst (λ o. OnItsWay w t o (sending a v)) (sym n) s; sends = s }
 
 -- where a value gives a type, it has each type above
 pub sent_above : (e : Environment) (v : Val) (s t : PlainType) → IsTypeIn e s → IsTypeIn e t → IsSubtype (context_of e) s t → SentBy e v s → SentBy e v t

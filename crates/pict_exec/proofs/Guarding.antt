@@ -1,6 +1,5 @@
 -- Guarded runs: they stop before a wrong step, and go on behind any other.
 use Rattle.std.proofs.Common.{ℕ, zero, suc, ◌<◌, ◌≡◌, ◌≢◌, ◌↔◌, inl, Bool, false, List, [], IsTrue, Option, Some, None, Result, Ok, Err, IfOk, OnErr, refl, sym, subst, arith}
-use Rattle.pict_core.specs.Closed.{IsClosed}
 use Rattle.pict_core.specs.Configuration.{Configuration, IsConfiguration, opening}
 use Rattle.pict_core.specs.Run as run
 use Rattle.pict_core.specs.Run.{End}
@@ -47,21 +46,6 @@ module _ (p : Process) (fuel : ℕ) (v w : View) (Seen : List (ℕ × Label) →
 
 -- ---- before the first step
 
-pub opening_is : (p : Process) → IsClosed p → IsConfiguration (opening p)
-opening_is p closed = record { stamps = (omega arith, omega arith); closed = (closed, tt) }
-
 nothing_seen : (f : List ℕ → ℕ → Label → List ℕ) (T : List ℕ → ℕ → Label → List ℕ → Type 0) (before : Option (List ℕ)) → SawOrTore f T before before []
 nothing_seen f T None = tt
 nothing_seen f T (Some b) = inl refl
-
-pub nothing_done : (p : Process) (fuel : ℕ) (f : List ℕ → ℕ → Label → List ℕ) (T : List ℕ → ℕ → Label → List ℕ → Type 0) (before : Option (List ℕ)) → IsClosed p → BrokeOff (opening p) fuel Anywhere (SawOrTore f T before before)
-nothing_done p fuel f T before closed = record {
-  steps = 0;
-  few = omega arith;
-  last = opening p;
-  labels = [];
-  reached = (refl, refl);
-  is = opening_is p closed;
-  stands = tt;
-  seen = nothing_seen f T before;
-}

@@ -48,9 +48,6 @@ pub record Following (held : Option Texts) (start here : Gathered) (xs : List Im
   pub told : (a : Phase EarlyEnd Gathered) → Along (MayGive held) here (drop i xs) a → Along (MayGive held) start xs a
   pub failing : (a : Phase EarlyEnd Gathered) → Along (MayGiveOrFail held) here (drop i xs) a → Along (MayGiveOrFail held) start xs a
 
-pub following_begins : (held : Option Texts) (g : Gathered) (xs : List Import) → Following held g g xs 0
-following_begins held g xs = record { told = λ a f. f; failing = λ a f. f }
-
 rest_is : (xs : List Import) (i : ℕ) (x : Import) → i < length xs → x ≡ get_or xs i x → drop i xs ≡ x ∷ drop (i + 1) xs
 rest_is xs i x h e = drop_more xs i x h ∙ ap (λ y. y ∷ drop (i + 1) xs) (sym e)
 

@@ -15,9 +15,6 @@ pub refuses_first : {A B : Type 0} (e : DecodeError) (o : Option A) (f : A → O
 refuses_first error.Memory o f h = tt
 refuses_first error.NotObject o f h = ap (λ z. z >>= f) h
 
-pub refuses_behind : {A B : Type 0} (e : DecodeError) (o : Option A) (x : A) (f : A → Option B) → o ≡ Some x → Refuses e (f x) → Refuses e (o >>= f)
-refuses_behind e o x f h k = subst (λ z. Refuses e (z >>= f)) (sym h) k
-
 pub reads_behind : {A B : Type 0} (o : Option A) (x : A) (f : A → Option B) (r : Option B) → o ≡ Some x → f x ≡ r → (o >>= f) ≡ r
 reads_behind o x f r h k = ap (λ z. z >>= f) h ∙ k
 

@@ -1,6 +1,5 @@
 -- Labels are numbered in turn, and used ones are marked.
 use Rattle.std.proofs.Common.{◌≡◌, ℕ, zero, suc, ◌+◌, ◌<◌, ◌≤◌, nat_eq, Bool, true, false, ◌||◌, inl, inr, List, [], ◌∷◌, ◌++◌, length, take, get_or, set, Some, refl, sym, ◌∙◌, ap, subst, slice_get, arith, length-append, add-one}
-use Rattle.std.specs.Prelude.{IsTrue}
 use Rattle.std.specs.Borrow.{Bor}
 use Rattle.std.specs.List.{list_any}
 use Rattle.std.proofs.lemmas.Bool.{cases_lt, cases_eq, ne_eqb, eq-eqb}
@@ -12,7 +11,7 @@ use Rattle.pict_syntax.proofs.NamesLemmas.{with_grows}
 use Rattle.pict_lex.proofs.StepLemmas.{with_names_last}
 use Rattle.pict_lex.proofs.LexLemmas.{one_name}
 use Rattle.pict_object.specs.Reading.{label_in, no_label}
-use Rattle.pict_object.specs.Heads.{lent, own_labels, UsesAll, AreMarks, AreNumbered}
+use Rattle.pict_object.specs.Heads.{lent}
 
 -- ---- texts that are lent
 
@@ -26,9 +25,6 @@ pub lent_at : (texts : List (Bor (List ℕ))) (i : ℕ) → (get_or texts i noth
 lent_at texts i = sym (get_or-map (λ (text : Bor (List ℕ)). text.now) texts i nothing_lent)
 
 -- ---- own numbers
-
-pub own_more : (k : ℕ) → own_labels (k + 1) ≡ own_labels k ++ (record { 0 = k } ∷ [])
-own_more k = ap own_labels (add-one k)
 
 -- ---- marks
 
@@ -52,15 +48,6 @@ pub unmarked : (used : List Bool) (place : ℕ) (rest : List ℕ) (k : ℕ) → 
 unmarked used place rest k p h =
     sym (ap (λ z. get_or used k false || (z || list_any (nat_eq k) rest)) (ne_eqb k place (λ e. omega (arith, p, h, e))))
 
-pub uses_yes : (used items : List Bool) (many : ℕ) (labels : List ℕ) → used ≡ items → AreMarks items many labels → ((k : ℕ) → k < length used → IsTrue (get_or used k false)) → UsesAll many labels
-uses_yes used items many labels e m all k h = sym (m.each k h) ∙ ap (λ z. get_or z k false) (sym e) ∙ all k (let len = ap length e in omega (arith, h, m.len, len))
-
-pub uses_no : (used items : List Bool) (many : ℕ) (labels : List ℕ) → used ≡ items → AreMarks items many labels → UsesAll many labels → (k : ℕ) → k < length used → IsTrue (get_or used k false)
-uses_no used items many labels e m all k h =
-    let len = ap length e in
-    let less : k < many = omega (arith, h, m.len, len) in
-    ap (λ z. get_or z k false) e ∙ m.each k less ∙ all k less
-
 -- ---- numbers of labels
 
 kept : {A : Type 0} (xs ys : List A) (n : ℕ) (x : A) → slice_get xs n ≡ Some x → slice_get (xs ++ ys) n ≡ Some x
@@ -82,14 +69,6 @@ take_more : {A : Type 0} (xs : List A) (i : ℕ) (d : A) → i < length xs → t
 take_more [] i d h = absurd (omega (arith, h))
 take_more (x ∷ xs) zero d h = refl
 take_more (x ∷ xs) (suc i) d h = ap (λ z. x ∷ z) (take_more xs i d (omega (arith, h)))
-
-pub none_numbered : (old table : List (List ℕ)) (labels : List Name) → labels ≡ [] → IsSoFar old old table labels 0
-none_numbered old table labels e = record {
-  names = refl;
-  room = omega arith;
-  many = ap length e;
-  stand = λ k h. absurd (omega (arith, h));
-}
 
 pub names_more : (old names new table : List (List ℕ)) (labels : List Name) (i : ℕ) (text : List ℕ) → IsSoFar old names table labels i → i < length table → text ≡ get_or table i [] → new ≡ with_name names text → new ≡ with_names old (take (i + 1) table)
 names_more old names new table labels i text s h is e =
@@ -119,16 +98,3 @@ one_more old names new table labels more i text label s h is e stands pushed =
             (subst (λ z. slice_get new z.0 ≡ Some (get_or table i [])) (sym (get_or_push labels label no_label i s.many)) (stands ∙ ap Some is)))
       ];
     }
-
-pub all_numbered : (old new table : List (List ℕ)) (labels : List Name) (i : ℕ) → IsSoFar old new table labels i → length table ≤ i → i ≤ length table → AreNumbered old new table labels
-all_numbered old new table labels i s h k =
-    let e : i ≡ length table = omega (arith, h, k) in
-    record {
-      names = s.names ∙ ap (λ z. with_names old z) (ap (λ m. take m table) e ∙ take_all table);
-      many = s.many ∙ e;
-      stand = λ j l. s.stand j (omega (arith, l, e));
-    }
-  where
-    take_all : (xs : List (List ℕ)) → take (length xs) xs ≡ xs
-    take_all [] = refl
-    take_all (x ∷ xs) = ap (λ z. x ∷ z) (take_all xs)

@@ -3,7 +3,7 @@ use Rattle.std.proofs.Common.{ℕ, ◌≡◌, Bool, refl, sym, ap, ◌∙◌, su
 use Rattle.std.specs.List.{slice_get}
 use Rattle.std.specs.declared.alloc.AllocError.{AllocError}
 use Rattle.pict_core.specs.Configuration.{Entry, Configuration, IsConfiguration}
-use Rattle.pict_core.specs.Step.{Finished, is_ready, is_partner, entry_at, act, act_entry, step_by}
+use Rattle.pict_core.specs.Step.{is_ready, is_partner, entry_at, act, act_entry, step_by}
 use Rattle.pict_core.specs.Places.{ready_entries, partner_entries, choice_by, outcome_at}
 use Rattle.pict_core.proofs.Placing.{found}
 use Rattle.pict_reference.specs.Plain.{IsOutcome, Gives}
@@ -22,9 +22,6 @@ outcome_acts C is i j a h =
     ap (λ x. step_by C (option_map (choice_by (partner_entries C x) j) x)) h
     ∙ ap (λ x. act_entry C x (option_and_then (λ r. entry_at r C.entries) (option_map (λ (u : Entry). u.stamp) o))) f.1
     ∙ ap (λ x. act C a.stamp x a.process) (named C is (is_partner a.process) j o refl)
-
-pub outcome_finished : (C : Configuration) (i j : ℕ) → slice_get (ready_entries C) i ≡ None → outcome_at C (place i j) ≡ Finished
-outcome_finished C i j h = ap (λ x. step_by C (option_map (choice_by (partner_entries C x) j) x)) h
 
 pub step_found : (C D : Configuration) (i j : ℕ) (a : Entry) (o : Option Entry) (r : Result StepOutcome AllocError) → Some a ≡ slice_get (ready_entries C) i
     → o ≡ slice_get (filter (is_partner a.process) C.entries) j → Gives r (act C a.stamp o a.process) C D

@@ -1,6 +1,5 @@
 -- The search for the first ready process that passes a test.
-use Rattle.std.proofs.Common.{ℕ, suc, ◌+◌, ◌<◌, ◌≤◌, ◌≡◌, Bool, true, false, ◌&&◌, cond, List, [], ◌∷◌, length, map, drop, get_or, filter, refl, ap, ◌∙◌, subst, arith, Some, None}
-use Rattle.std.proofs.lemmas.List.{drop_all}
+use Rattle.std.proofs.Common.{ℕ, suc, ◌+◌, ◌<◌, ◌≡◌, Bool, true, false, ◌&&◌, cond, List, ◌∷◌, length, map, drop, get_or, filter, ap, ◌∙◌, subst, arith, Some}
 use Rattle.std.specs.List.{slice_get}
 use Rattle.pict_core.specs.Term.{Process}
 use Rattle.pict_core.specs.Configuration.{Entry}
@@ -14,9 +13,6 @@ use Rattle.pict_orders.proofs.Passing.{readiness, left_at}
 pub record Scan (t : Process → Bool) (es rest : List Entry) (count : ℕ) : Type 0 where
   pub counts : (k : ℕ) → slice_get (filter is_ready es) (count + k) ≡ slice_get (filter is_ready rest) k
   pub none : least (is_ready_for t) es ≡ least (is_ready_for t) rest
-
-pub scan_start : (t : Process → Bool) (es : List Entry) → Scan t es es 0
-scan_start t es = record { counts = λ k. (let e : 0 + k ≡ k = omega arith in ap (slice_get (filter is_ready es)) e); none = refl }
 
 module _ (t : Process → Bool) (es rest : List Entry) (a : Entry) (count : ℕ) (s : Scan t es (a ∷ rest) count) where
   at_front : (b : Bool) → is_ready a ≡ b → filter is_ready (a ∷ rest) ≡ cond b (a ∷ filter is_ready rest) (filter is_ready rest)
@@ -41,9 +37,6 @@ module _ (t : Process → Bool) (es rest : List Entry) (a : Entry) (count : ℕ)
     h,
   )
 
-pub scan_end : (t : Process → Bool) (es : List Entry) (count : ℕ) → Scan t es [] count → FirstReady t es None
-scan_end t es count s = s.none
-
 -- ---- the same in the program's list
 
 module _ (t : Process → Bool) (es : List Held) (k : ℕ) (e : Held) (within : k < length es) (is : e ≡ get_or es k e) (count : ℕ) (s : Scan t (map plain_held es) (map plain_held (drop k es)) count) where
@@ -58,6 +51,3 @@ module _ (t : Process → Bool) (es : List Held) (k : ℕ) (e : Held) (within : 
 
   pub at_first : e.ready ≡ true → t (plain_held e).process ≡ true → FirstReady t (map plain_held es) (Some count)
   at_first h f = scan_found t (map plain_held es) (map plain_held (drop (k + 1) es)) (plain_held e) count at_this (readiness e ∙ h) f
-
-pub over_all : (t : Process → Bool) (es : List Held) (k count : ℕ) → length es ≤ k → Scan t (map plain_held es) (map plain_held (drop k es)) count → FirstReady t (map plain_held es) None
-over_all t es k count h s = scan_end t (map plain_held es) count (subst (λ (l : List Held). Scan t (map plain_held es) (map plain_held l) count) (drop_all k es h) s)

@@ -1,7 +1,6 @@
 -- What the functions of a search do, from what those that they call do.
-use Rattle.std.proofs.Common.{ℕ, ◌+◌, ◌<◌, ◌≤◌, ◌≡◌, List, [], ◌∷◌, ◌++◌, length, length-append, max, get_or, refl, sym, ap, ◌∙◌, subst, arith, Some, Result, Ok, Err, IfOk}
+use Rattle.std.proofs.Common.{ℕ, ◌+◌, ◌<◌, ◌≤◌, ◌≡◌, List, [], ◌∷◌, ◌++◌, length, max, get_or, refl, sym, ap, ◌∙◌, subst, arith, Some, Result, Ok, Err, IfOk}
 use Rattle.std.specs.List.{slice_get}
-use Rattle.std.proofs.lemmas.List.{length-map}
 use Rattle.std.proofs.lemmas.Option.{slice_get_read}
 use Rattle.std.specs.declared.alloc.AllocError.{AllocError}
 use Rattle.pict_core.specs.Term.{Process}
@@ -11,7 +10,7 @@ use Rattle.pict_core.specs.Step.{Steps, Traps, Wrong, Finished}
 use Rattle.pict_core.specs.Places.{ready_entries, partners_at, outcome_at}
 use Rattle.pict_reduction.specs.Congruence.{Congruent}
 use Rattle.pict_reduction.specs.Reading.{reading}
-use Rattle.pict_exploration.specs.Explored.{Vertex, IsFoundAs}
+use Rattle.pict_exploration.specs.Explored.{IsFoundAs}
 use Rattle.pict_reference.specs.Plain.{IsOutcome, plain_label}
 use Rattle.pict_reference.specs.declared.outcome.Label.{Label as MadeLabel}
 use Rattle.pict_reference.specs.declared.outcome.StepOutcome.{StepOutcome as Made}
@@ -19,7 +18,7 @@ use Rattle.pict_reference.specs.declared.outcome.StepOutcome.TheVariants as made
 use Rattle.pict_orders.specs.Plain.{configuration_of, place, place_of}
 use Rattle.pict_orders.specs.declared.choice.Choice.{Choice}
 use Rattle.pict_orders.specs.Found.{vertex_of, vertices, IsSearch}
-use Rattle.pict_orders.specs.Going.{Extends, Goes, IsAdded, IsThere, IsReadyAt, IsStepFrom, IsFoundBy, IsTried, AreTried, IsExpanded, AreExpanded}
+use Rattle.pict_orders.specs.Going.{Extends, Goes, IsThere, IsReadyAt, IsStepFrom, IsFoundBy, IsTried, AreTried, IsExpanded, AreExpanded}
 use Rattle.pict_orders.specs.declared.search.Extent.{Extent}
 use Rattle.pict_orders.specs.declared.search.Extent.TheVariants.{All, Limit, NoRoom}
 use Rattle.pict_orders.specs.declared.search.Found.{Found}
@@ -48,13 +47,6 @@ found_like fs number f bytes C within is same alike = record {
   printed = same;
   same = alike;
 }
-
-pub added_grows : (s t : Search) (v : Vertex) → IsAdded s t v → length s.found.items ≤ length t.found.items
-added_grows s t v a =
-    let m : length (vertices s.found.items) ≡ length s.found.items = length-map s.found.items vertex_of in
-    let n : length (vertices t.found.items) ≡ length t.found.items = length-map t.found.items vertex_of in
-    let e : length (vertices t.found.items) ≡ length (vertices s.found.items) + 1 = ap (λ (l : List Vertex). length l) a.found ∙ length-append (vertices s.found.items) (v ∷ []) in
-    omega (arith, m, n, e)
 
 pub begins : (p : Process) (fs : List Found) (ts : List Trap) → fs ≡ [] → ts ≡ [] → IsSearch p (vertices fs) ts
 begins p fs ts e h = subst (λ (l : List Trap). IsSearch p (vertices fs) l) (sym h) (subst (λ (l : List Found). IsSearch p (vertices l) []) (sym e) (empty_search p))

@@ -107,9 +107,6 @@ node_stands_at core h number node frame closed at =
     ∙ ap (stands_by (operand_value (value_at (frame_of p.0.around p.0.process) vs))) (op_is core number node p.0 node.op p.1 refl)
     ∙ ap (λ ls. stands_by (operand_value (value_at ls vs)) node.op) levels
 
-pub kept_stands_at : (to m : Val) (at : Span) → stands_at (Out to m at) ≡ option_map (λ c. (c, true)) (channel_named to)
-kept_stands_at = stands_out
-
 -- ---- the partners of one that stands at a channel
 
 abbrev pub partners_by : List (List Process) → Option (ℕ × Bool) → List Process

@@ -141,9 +141,6 @@ module _ (old mid : Desk) (r : OnlyMakesRoom old mid) where
     keeps = keeps_more old.heap mid.heap new (keeps_words old.heap mid.heap r.heap) m.keeps;
   }
 
-pub makes_then : (old mid new : Desk) → OnlyMakes old mid → OnlyMakes mid new → OnlyMakes old new
-makes_then old mid new m n = record { words = keeps_more old.heap mid.heap new.heap m.words n.words; values = n.values ∙ m.values }
-
 -- the same effect, found twice
 pub same_effect : (x e : Effect) (o : Option Effect) → o ≡ Some x → o ≡ Some e → x ≡ e
 same_effect x e o f g = let both : Some x ≡ Some e = sym f ∙ g in cc

@@ -1,7 +1,7 @@
 -- Deeds are placed in lists of waiting processes as they are in those of their processes.
 use Rattle.std.proofs.Common.{ℕ, zero, suc, ◌+◌, ◌<◌, ◌≡◌, Bool, true, false, List, [], ◌∷◌, ◌++◌, length, map, refl, sym, ap, ◌∙◌, subst, arith, Option, Some, option_map, get_or, append-nil}
 use Rattle.std.proofs.lemmas.List.{map-append, length-map}
-use Rattle.std.proofs.lemmas.Option.{slice_get-map, slice_get_within, get_or_from_slice_get}
+use Rattle.std.proofs.lemmas.Option.{slice_get-map, get_or_from_slice_get}
 use Rattle.std.specs.List.{AllByRecursion, slice_get, slice_set}
 use Rattle.pict_syntax.specs.declared.span.Span.{Span}
 use Rattle.pict_core.specs.Term.{Val, Process, Zero}
@@ -282,12 +282,6 @@ pub get_there : (ws : List Waiting) (j : ℕ) → j < length ws → (w : Waiting
 get_there [] j low = absurd (omega arith)
 get_there (w ∷ ws) zero low = (w, refl)
 get_there (w ∷ ws) (suc j) low = get_there ws j (omega arith)
-
--- the process at a place is there
-pub ready_low : (core : Process) (h : HeapState) (lists : Lists) (i : ℕ) (own : Process) → slice_get (processes_of core h lists.ready.items) i ≡ Some own → i < length lists.ready.items
-ready_low core h lists i own e =
-    let low = slice_get_within (processes_of core h lists.ready.items) i own e in
-    omega (arith, low, length-map lists.ready.items (process_of core h))
 
 -- what is parked at a channel, as processes and as what is kept of them
 pub parked_many : (core : Process) (h : HeapState) (lists : Lists) (c j : ℕ) → c < length (channel_processes core h lists) → j < length (list_at c (channel_processes core h lists))

@@ -10,7 +10,6 @@ use Rattle.pict_heap.specs.HeapState.{HeapState}
 use Rattle.pict_view.specs.Placed.{next_at}
 use Rattle.pict_view.specs.View.{StandsFor, KeepsApart}
 use Rattle.pict_desk.specs.Code as codes
-use Rattle.pict_desk.specs.Code.{IsCode}
 use Rattle.pict_desk.specs.Room.{KeepsHeap}
 use Rattle.pict_desk.specs.declared.desk.Desk.{Desk}
 use Rattle.pict_desk.proofs.Making.{keeps_all}
@@ -141,9 +140,6 @@ module _ (old : Picker) (kept : IsPicker old) (i j : ℕ) (right : IsRightAt (vi
       lent_deed h d x =
           subst (λ (wss : List (List Waiting)). IsDeed (core_in old) h (map (processes_of (core_in old) (heap_of old)) wss) j own d) same.parked
           (subst (λ (ns : List Node). IsDeed (codes.core_in ns) h (channel_processes (codes.core_in ns) (heap_of old) made) j own d) is x)
-
-pub items_same : (lists : Lists) → SameItems lists lists
-items_same lists = record { ready = refl; parked = refl }
 
 -- an answer is read
 pub answer_is : (a b : Did) (r : Result Did AllocError) → r ≡ Ok a → r ≡ Ok b → a ≡ b

@@ -2,7 +2,6 @@
 use Rattle.std.proofs.Common.{◌≡◌, ℕ, ◌+◌, ◌-◌, ◌^◌, ◌<◌, ◌≤◌, [], length, map, drop, get_or, refl, sym, ◌∙◌, ap, subst, arith, length-drop, drop-drop}
 use Rattle.std.proofs.lemmas.List.{length-map}
 use Rattle.pict_region.specs.RegionState.{IsLive, words_of, width_of}
-use Rattle.pict_region.specs.Chain.{chain}
 use Rattle.pict_region.proofs.Chains.{chain-length}
 use Rattle.pict_queue.specs.QueuesState.{QueuesState, IsQueue, IsHeld, list_of, link_of, KeepsContents, KeepsRest}
 use Rattle.pict_queue.specs.Contents.{held_words, first_words}
@@ -33,11 +32,6 @@ list_seen a s queue is = ap (λ t. list_of t queue) (sym is) ∙ list_is a queue
 pub list_length : (a : Inside) (s : QueuesState) (number : ℕ) → state_of a ≡ s → length (list_of s number) ≡ (queue_in a.ends.queues.items number).length
 list_length a s number is =
     ap length (list_seen a s number is) ∙ chain-length (link_of a.region) (queue_in a.ends.queues.items number).first (queue_in a.ends.queues.items number).length
-
--- where the length is 0 the list is empty
-pub list_none : (a : Inside) (s : QueuesState) (number : ℕ) → state_of a ≡ s → (queue_in a.ends.queues.items number).length ≡ 0 → list_of s number ≡ []
-list_none a s number is none =
-    list_seen a s number is ∙ ap (chain (link_of a.region) (queue_in a.ends.queues.items number).first) none
 
 -- what a push finds
 pub record FindsEnds (a : Inside) (number block : ℕ) (queue ends : Queue) : Type 0 where

@@ -6,7 +6,7 @@ use Rattle.std.proofs.lemmas.Bool.Decides.{nat_tests}
 use Rattle.std.proofs.lemmas.Option.{slice_get-get_or, slice_get_past}
 use Rattle.std.proofs.lemmas.List.{drop_more, drop_all, length-set, get_or-set_same, get_or-set_other}
 use Rattle.pict_replay.specs.Replayed.{Line, is_overdue}
-use Rattle.pict_replay.specs.Least.{is_below, least_of, AreLeast}
+use Rattle.pict_replay.specs.Least.{is_below, least_of}
 
 -- one of two is below k
 
@@ -63,6 +63,3 @@ module _ (lines : List Line) (least : List ℕ) (i x : ℕ) (line : Line) (few :
     | inl e ↦ subst (λ n. is_overdue k (drop n lines) ≡ is_below k (slice_get (set least i x) n)) (sym e) (here k)
     | inr n ↦ from k j (omega (arith, h, n)) ∙ sym (ap (is_below k) (read_other least i j x n))
   ]
-
-pub least_all : (lines : List Line) (least : List ℕ) (n : ℕ) → n ≡ 0 → LeastFrom lines least n → AreLeast lines least
-least_all lines least n e from k i = from k i (omega (arith, e))

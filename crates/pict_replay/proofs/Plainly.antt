@@ -1,5 +1,5 @@
 -- Plain values of the forms of values, and what tests say.
-use Rattle.std.proofs.Common.{ℕ, ℤ, ◌≡◌, ◌↔◌, Bool, true, false, List, rules, refl, sym, ap, ◌∙◌}
+use Rattle.std.proofs.Common.{ℕ, ℤ, ◌≡◌, ◌↔◌, Bool, true, false, List, rules, sym, ap, ◌∙◌}
 use Rattle.std.specs.Prelude.{IsTrue, Result, Ok, Err, IfOk}
 use Rattle.std.proofs.lemmas.Bool.{false≢true}
 use Rattle.pict_syntax.specs.declared.primitive.Primitive.{Primitive}
@@ -37,10 +37,6 @@ tells r v a b i e = (λ t. i.0 t ∙ e, λ f. i.1 (f ∙ sym e))
 -- where it isn't so
 pub not_so : {A : Type 0} → (A → ⊥) → IsTrue false ↔ A
 not_so n = (λ t. absurd (false≢true t), λ a. absurd (n a))
-
--- and where it is
-pub is_so : {A : Type 0} → A → IsTrue true ↔ A
-is_so a = (λ t. a, λ x. refl)
 
 -- ---- what a test says that may want memory
 

@@ -1,5 +1,5 @@
 -- What a picker's step says of a choice.
-use Rattle.std.proofs.Common.{ℕ, ◌≤◌, ◌≡◌, ◌≢◌, ◌↔◌, Bool, true, false, nat_eq, cond, List, [], ◌∷◌, length, drop, refl, sym, ap, ◌∙◌, Option, Some, None, arith}
+use Rattle.std.proofs.Common.{ℕ, ◌≤◌, ◌≡◌, ◌≢◌, ◌↔◌, Bool, true, false, nat_eq, cond, List, [], ◌∷◌, length, drop, refl, sym, ap, Option, Some, None, arith}
 use Rattle.std.proofs.lemmas.Bool.Decides.{nat_tests}
 use Rattle.pict_syntax.specs.declared.span.Span.{Span}
 use Rattle.pict_core.specs.Configuration.{Configuration}
@@ -74,9 +74,6 @@ used_none k (l ∷ ls) e = by (nat_eq l.0 k) e
 pub some_line : (k : ℕ) (lines : List Line) (line : Line) → given k lines ≡ line ∷ [] → 1 ≤ length lines
 some_line k [] line e = cc
 some_line k (l ∷ ls) line e = omega arith
-
-pub given_first : (k : ℕ) (l : Line) (ls : List Line) → l.0 ≡ k → given k (l ∷ ls) ≡ (k, l.1) ∷ []
-given_first k l ls e = let t : nat_eq l.0 k ≡ true = grind (arith, nat_tests, e) in ap (λ b. cond b (l ∷ []) []) t ∙ ap (λ n. (n, l.1) ∷ []) e
 
 pub given_none : (k : ℕ) (l : Line) (ls : List Line) → l.0 ≢ k → given k (l ∷ ls) ≡ []
 given_none k l ls n = let t : nat_eq l.0 k ≡ false = grind (arith, nat_tests, n) in ap (λ b. cond b (l ∷ []) []) t

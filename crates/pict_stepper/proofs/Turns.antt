@@ -4,7 +4,7 @@ use Rattle.pict_core.specs.Term.{Val, Var, Chan, Int, Char, Boolean, Text, Primi
 use Rattle.pict_core.specs.Plain.{plain_core}
 use Rattle.pict_core.specs.Configuration.{Configuration, IsConfiguration}
 use Rattle.pict_core.specs.Configuration as plain
-use Rattle.pict_core.specs.Step.{Steps, Finished, least, is_ready, is_partner, at_channel, act, step_by, next}
+use Rattle.pict_core.specs.Step.{Steps, least, is_ready, is_partner, at_channel, act, next}
 use Rattle.pict_core.specs.Table.{Row}
 use Rattle.pict_core.proofs.Nexts.{next_acts}
 use Rattle.pict_core.proofs.Tabled.{row_of, act_of}
@@ -115,11 +115,6 @@ turn_taken C D es fs t label from step before after n a is e of =
     (taken C D t label step is (subst (λ xs. Acts xs t) before a) e
     (subst (λ k. map plain_entry step.come.items ≡ come_of k t D.entries) n
     (subst (λ xs. map plain_entry step.come.items ≡ come_of from t xs) after of.come)))
-
-pub no_turn : (C : Configuration) (es : List plain.Entry) → es ≡ C.entries → IsTurn es None → next C ≡ Finished
-no_turn C es same h =
-    ap (λ o. step_by C (option_map (λ (e : plain.Entry). record { acting = e.stamp; partner = option_map (λ (u : plain.Entry). u.stamp) (least (is_partner e.process) C.entries) }) o))
-    (subst (λ xs. least is_ready xs ≡ None) same h)
 
 -- a step of the table is the oldest-first one
 pub step_is_next : (C D : Configuration) (t : Step) → IsConfiguration C → IsStep C t D → next C ≡ Steps D (plain_label t.label)

@@ -1,5 +1,5 @@
 -- How words are read: devices of the proof.
-use Rattle.std.specs.Prelude.{◌≡◌, ℕ, ◌≤◌, ◌<◌, ◌^◌, Bool, false, List, [], ◌∷◌, Option, is_some, codes}
+use Rattle.std.specs.Prelude.{◌≡◌, ℕ, ◌≤◌, Bool, false, List, [], ◌∷◌, Option, is_some, codes}
 use Rattle.std.specs.Fmt.{decimal}
 use Rattle.pict_syntax.specs.declared.limits.TheConstants.{FUEL_LIMIT}
 use Rattle.pict_words.specs.Words.{Options, Command, Run, Trace, Check, Code, Load, Pick, Picked, Replay, Build, Exec, Sites, default_fuel, most_sites, IsFileWord, AsksFor, AsksWithSeed, AsksForSites}
@@ -62,10 +62,6 @@ IsSeeded word seed options words = (written : Option ℕ) × AsksWithSeed word w
 -- they ask for some seed and options
 abbrev pub FoundSeed : List ℕ → List (List ℕ) → Type 0
 FoundSeed word words = (seed : ℕ) × (options : Options) × IsSeeded word seed options words
-
--- the word writes a seed
-abbrev pub WritesSeed : List ℕ → Type 0
-WritesSeed word = (seed : ℕ) × (seed < 2 ^ 64) × (word ≡ decimal seed)
 
 -- the command has this word, this seed and these options
 abbrev pub HasSeedWord : List ℕ → ℕ → Options → Command → Type 0
