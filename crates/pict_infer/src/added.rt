@@ -105,11 +105,10 @@ fn moved_bound(alloc: Global, b: Bound, by: u32, from: usize) -> Result<Bound, A
     if by == 0 {
         return Ok(b);
     }
-    match b {
-        Bound::Free => Ok(Bound::Free),
-        Bound::Below(t) => Ok(Bound::Below(shift_type(alloc, &t, by, from)?)),
-        Bound::Operator(marks) => Ok(Bound::Operator(marks)),
+    if let Bound::Below(t) = &b {
+        return Ok(Bound::Below(shift_type(alloc, t, by, from)?));
     }
+    Ok(b)
 }
 
 /// So many type variables and some more. An error where a `u32` can't hold the number.

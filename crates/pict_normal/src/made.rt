@@ -192,7 +192,7 @@ fn below(measures: Measures, t: Ty) -> Result<MadeBound, MakeError>
     ensures reason { IfErr result (λ e. (ws : List ℕ) → measures.weight ≡ weigh ws (plain t) → IsReason (weigh_variable ws (bound_by (plain t))) e) }
 {
     match t {
-        Ty::Top => Ok(MadeBound::leaf(Bound::Free)),
+        Ty::Top { .. } => Ok(MadeBound::leaf(Bound::Free)),
         t => Ok(MadeBound {
             measures: light(measures.above())?,
             bound: Some(Bound::Below(t)),

@@ -23,7 +23,7 @@ pub fn bound_by(t: Ty) -> Bound
     ensures { plain_bound result ≡ bound_by (plain t) }
 {
     match t {
-        Ty::Top => Bound::Free,
+        Ty::Top { .. } => Bound::Free,
         t => Bound::Below(t),
     }
 }
@@ -68,19 +68,38 @@ fn filled_before(
     by: u32,
     under: usize,
     parts: &mut Parts,
-    print: Fingerprint,
+    part: Fingerprint,
 ) -> Result<Option<Ty>, AllocError>
     ensures { IfOk result (λ o. IfSome o (λ u. plain u ≡ fill (filling_past under (put_for (plain_types us.now) by)) (plain t.now))) }
 {
-    let Some(u) = parts.made_of(print) else {
+    let Some(u) = parts.made_of(part) else {
         return Ok(None);
     };
     if !is_filled(t, u, us, by, under)? {
         return Ok(None);
     }
     let u = u.copy(alloc)?;
-    parts.pass(print);
+    parts.pass(part);
     Ok(Some(u))
+}
+
+/// Whether a part is as it was. It is looked through where its fingerprint says that its variables stay, and else is taken for one
+/// that changes.
+fn stays(
+    t: &Ty,
+    us: &[Ty],
+    by: u32,
+    under: usize,
+    parts: &mut Parts,
+    part: Fingerprint,
+) -> Result<bool, AllocError>
+    ensures { IfOk result (λ b. IsTrue b → plain t.now ≡ fill (filling_past under (put_for (plain_types us.now) by)) (plain t.now)) }
+{
+    if under < part.print.reach as usize || !is_filled(t, t, us, by, under)? {
+        return Ok(false);
+    }
+    parts.pass(part);
+    Ok(true)
 }
 
 /// The type filled as `fill_type` says; nothing where it is as it was. What was made of a like part is taken.
@@ -98,12 +117,15 @@ fn filled_type(
     if !is_part(t) {
         return filled_anew(alloc, t, us, by, under, parts);
     }
-    let print = parts.enter(under);
-    if let Some(u) = filled_before(alloc, t, us, by, under, parts, print)? {
+    let part = parts.enter(under);
+    if stays(t, us, by, under, parts, part)? {
+        return Ok(None);
+    }
+    if let Some(u) = filled_before(alloc, t, us, by, under, parts, part)? {
         return Ok(Some(u));
     }
     let made = filled_anew(alloc, t, us, by, under, parts)?;
-    parts.keep(alloc, print, &made)?;
+    parts.keep(alloc, part, &made)?;
     Ok(made)
 }
 

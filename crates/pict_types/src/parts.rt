@@ -1,6 +1,6 @@
 // What a walk through a type has made of its parts, so that like parts are made once.
 
-use crate::prints::{Fingerprint, mixed, print_type};
+use crate::prints::{Fingerprint, Print, mixed, print_type};
 use crate::types::Ty;
 use std::alloc::{AllocError, Global};
 
@@ -45,33 +45,42 @@ impl Parts {
 
     /// The part that the walk comes to, under so many binders. The parts in it come next.
     pub fn enter(&mut self, under: usize) -> Fingerprint {
-        let print = self.prints.get(self.next).copied().unwrap_or(Fingerprint {
-            number: 0,
-            parts: 1,
-        });
+        let Some(part) = self.prints.get(self.next).copied() else {
+            return Fingerprint {
+                print: Print {
+                    number: 0,
+                    reach: 0,
+                },
+                parts: 1,
+            };
+        };
         self.next = self.next.saturating_add(1);
+        let Print { number, reach } = part.print;
         Fingerprint {
-            number: mixed(print.number, under as u64),
-            parts: print.parts,
+            print: Print {
+                number: mixed(number, under as u64),
+                reach,
+            },
+            parts: part.parts,
         }
     }
 
     /// Leaves out the parts in one that was entered last.
-    pub fn pass(&mut self, print: Fingerprint) {
-        self.next = self.next.saturating_add(print.parts.saturating_sub(1));
+    pub fn pass(&mut self, part: Fingerprint) {
+        self.next = self.next.saturating_add(part.parts.saturating_sub(1));
     }
 
-    fn place(&self, print: Fingerprint) -> usize {
+    fn place(&self, part: Fingerprint) -> usize {
         if self.made.is_empty() {
             return 0;
         }
-        (print.number % self.made.len() as u64) as usize
+        (part.print.number % self.made.len() as u64) as usize
     }
 
     /// What was made of a part that is perhaps like this one.
-    pub fn made_of(&self, print: Fingerprint) -> Option<&Ty> {
-        let kept = self.made.get(self.place(print))?;
-        if kept.0 != print.number {
+    pub fn made_of(&self, part: Fingerprint) -> Option<&Ty> {
+        let kept = self.made.get(self.place(part))?;
+        if kept.0 != part.print.number {
             return None;
         }
         Some(&kept.1)
@@ -81,13 +90,13 @@ impl Parts {
     pub fn keep(
         &mut self,
         alloc: Global,
-        print: Fingerprint,
+        part: Fingerprint,
         made: &Option<Ty>,
     ) -> Result<(), AllocError> {
         let Some(made) = made else { return Ok(()) };
-        let place = self.place(print);
+        let place = self.place(part);
         if let Some(it) = self.made.get_mut(place) {
-            *it = (print.number, made.copy(alloc)?);
+            *it = (part.print.number, made.copy(alloc)?);
         }
         Ok(())
     }

@@ -1,14 +1,24 @@
-// Fingerprints of the parts of a type: numbers that are the same for like parts, and mostly others for unlike ones.
+// Fingerprints of the parts of a type: numbers that are the same for like parts, and mostly others for unlike ones, and how far
+// the variables of a part reach.
 
 use crate::types::{Bound, Cap, Record, Ty};
 use pict_syntax::Name;
 use std::alloc::AllocError;
 
+/// What is told of a type, or of a row of types. Nothing is promised of it.
+#[derive(Clone, Copy)]
+pub struct Print {
+    /// The same for like types.
+    pub number: u64,
+    /// How many of the innermost variables outside it have those that it mentions among them; none where it mentions none.
+    pub reach: u32,
+}
+
 /// What is told of a part of a type, which is a node that has others in it.
 #[derive(Clone, Copy)]
 pub struct Fingerprint {
-    /// The same for like parts; nothing else is promised of it.
-    pub number: u64,
+    /// What is told of the type that it is.
+    pub print: Print,
     /// How many parts it has, itself among them.
     pub parts: usize,
 }
@@ -36,105 +46,148 @@ fn cap_number(cap: Cap) -> u64 {
     }
 }
 
+/// What is told of what mentions no variable.
+fn closed(number: u64) -> Print {
+    Print { number, reach: 0 }
+}
+
+/// What is told of a type behind this binder or these binders, of what is told of it under them.
+fn outside(print: Print, binders: usize) -> Print {
+    let reach = (print.reach as usize).saturating_sub(binders) as u32;
+    Print {
+        number: print.number,
+        reach,
+    }
+}
+
+/// What is told of something and of what comes behind it in a row.
+fn followed(print: Print, next: Print) -> Print {
+    Print {
+        number: mixed(print.number, next.number),
+        reach: print.reach.max(next.reach),
+    }
+}
+
 /// The place of a part that begins here.
 fn begun(prints: &mut Vec<Fingerprint>) -> Result<usize, AllocError> {
     let place = prints.len();
     prints.push(Fingerprint {
-        number: 0,
+        print: closed(0),
         parts: 1,
     })?;
     Ok(place)
 }
 
-/// The number of a part that began at this place and ends here, which is kept there.
-fn ended(number: u64, place: usize, prints: &mut Vec<Fingerprint>) -> u64 {
+/// What is told of a part that began at this place and ends here, which is kept there.
+fn ended(print: Print, place: usize, prints: &mut Vec<Fingerprint>) -> Print {
     let parts = prints.len().saturating_sub(place);
-    if let Some(print) = prints.get_mut(place) {
-        *print = Fingerprint { number, parts };
+    if let Some(kept) = prints.get_mut(place) {
+        *kept = Fingerprint { print, parts };
     }
-    number
+    print
 }
 
-/// The number of a type. The fingerprints of its parts come behind those that are there, each before those in it.
+/// What is told of a variable.
+fn print_variable(number: u64, i: u32) -> Print {
+    Print {
+        number: mixed(number, u64::from(i)),
+        reach: i.saturating_add(1),
+    }
+}
+
+/// What is told of a type. The fingerprints of its parts come behind those that are there, each before those in it.
 #[cycle(prints)]
 #[tactic(auto, using(crate::proofs::Rows::plain_apply, crate::proofs::Rows::plain_fields))]
-pub fn print_type(t: &Ty, prints: &mut Vec<Fingerprint>) -> Result<u64, AllocError> {
+pub fn print_type(t: &Ty, prints: &mut Vec<Fingerprint>) -> Result<Print, AllocError> {
     match t {
-        Ty::Top => Ok(1),
-        Ty::Int => Ok(2),
-        Ty::Char => Ok(3),
-        Ty::Str => Ok(4),
-        Ty::Bool => Ok(5),
-        Ty::Var(i) => Ok(mixed(6, u64::from(*i))),
+        Ty::Top => Ok(closed(1)),
+        Ty::Int => Ok(closed(2)),
+        Ty::Char => Ok(closed(3)),
+        Ty::Str => Ok(closed(4)),
+        Ty::Bool => Ok(closed(5)),
+        Ty::Var(i) => Ok(print_variable(6, *i)),
         Ty::Apply(i, ts) => {
             let place = begun(prints)?;
-            let number = print_types(ts, mixed(11, u64::from(*i)), prints)?;
-            Ok(ended(number, place, prints))
+            let print = print_types(ts, print_variable(11, *i), prints)?;
+            Ok(ended(print, place, prints))
         }
         Ty::Chan(cap, t) => {
             let place = begun(prints)?;
-            let number = print_type(t, prints)?;
-            Ok(ended(mixed(number, cap_number(*cap)), place, prints))
+            let print = print_type(t, prints)?;
+            let print = followed(print, closed(cap_number(*cap)));
+            Ok(ended(print, place, prints))
         }
         Ty::Fields(r) => {
             let place = begun(prints)?;
-            let number = print_record(r, prints)?;
-            Ok(ended(number, place, prints))
+            let print = print_record(r, prints)?;
+            Ok(ended(print, place, prints))
         }
         Ty::Rec(t) => {
             let place = begun(prints)?;
-            let number = print_type(t, prints)?;
-            Ok(ended(mixed(number, 12), place, prints))
+            let print = print_type(t, prints)?;
+            let print = outside(followed(print, closed(12)), 1);
+            Ok(ended(print, place, prints))
         }
     }
 }
 
 #[cycle(prints)]
-fn print_record(r: &Record, prints: &mut Vec<Fingerprint>) -> Result<u64, AllocError> {
+fn print_record(r: &Record, prints: &mut Vec<Fingerprint>) -> Result<Print, AllocError> {
     let bounds = print_bounds(&r.binders, prints)?;
-    let positional = print_types(&r.positional, bounds, prints)?;
-    print_labels(&r.labelled, positional, prints)
+    let positional = print_types(&r.positional, closed(bounds.number), prints)?;
+    let fields = print_labels(&r.labelled, positional, prints)?;
+    let fields = outside(fields, r.binders.len());
+    Ok(Print {
+        number: fields.number,
+        reach: bounds.reach.max(fields.reach),
+    })
 }
 
 #[cycle(prints)]
-fn print_bound(b: &Bound, prints: &mut Vec<Fingerprint>) -> Result<u64, AllocError> {
+fn print_bound(b: &Bound, prints: &mut Vec<Fingerprint>) -> Result<Print, AllocError> {
     match b {
-        Bound::Free => Ok(13),
+        Bound::Free => Ok(closed(13)),
         Bound::Below(t) => print_type(t, prints),
-        Bound::Operator(marks) => Ok(mixed(14, marks.as_slice().len() as u64)),
+        Bound::Operator(marks) => Ok(closed(mixed(14, marks.as_slice().len() as u64))),
     }
 }
 
+/// What is told of a row of types and of what is before it.
 #[cycle(prints)]
 #[tactic(auto, using(crate::proofs::Rows::size_types_item))]
-fn print_types(ts: &[Ty], running: u64, prints: &mut Vec<Fingerprint>) -> Result<u64, AllocError> {
-    let mut number = mixed(running, ts.len() as u64);
+fn print_types(
+    ts: &[Ty],
+    before: Print,
+    prints: &mut Vec<Fingerprint>,
+) -> Result<Print, AllocError> {
+    let mut print = followed(before, closed(ts.len() as u64));
     for t in ts {
-        number = mixed(number, print_type(t, prints)?);
+        print = followed(print, print_type(t, prints)?);
     }
-    Ok(number)
+    Ok(print)
 }
 
 #[cycle(prints)]
-#[tactic(auto, using(crate::proofs::Rows::size_labels_item))]
 fn print_labels(
     ls: &[(Name, Ty)],
-    running: u64,
+    before: Print,
     prints: &mut Vec<Fingerprint>,
-) -> Result<u64, AllocError> {
-    let mut number = mixed(running, ls.len() as u64);
+) -> Result<Print, AllocError> {
+    let mut print = followed(before, closed(ls.len() as u64));
     for l in ls {
-        number = mixed(mixed(number, u64::from(l.0.0)), print_type(&l.1, prints)?);
+        let field = print_type(&l.1, prints)?;
+        print = followed(followed(print, closed(u64::from(l.0.0))), field);
     }
-    Ok(number)
+    Ok(print)
 }
 
 #[cycle(prints)]
 #[tactic(auto, using(crate::proofs::Rows::size_bounds_item))]
-fn print_bounds(bs: &[Bound], prints: &mut Vec<Fingerprint>) -> Result<u64, AllocError> {
-    let mut number = mixed(15, bs.len() as u64);
-    for b in bs {
-        number = mixed(number, print_bound(b, prints)?);
+fn print_bounds(bs: &[Bound], prints: &mut Vec<Fingerprint>) -> Result<Print, AllocError> {
+    let mut print = closed(mixed(15, bs.len() as u64));
+    for (i, b) in bs.iter().enumerate() {
+        let bound = print_bound(b, prints)?;
+        print = followed(print, outside(bound, i));
     }
-    Ok(number)
+    Ok(print)
 }

@@ -96,19 +96,37 @@ fn changed_before(
     how: Renumbering,
     from: usize,
     parts: &mut Parts,
-    print: Fingerprint,
+    part: Fingerprint,
 ) -> Result<Option<Ty>, AllocError>
     ensures { IfOk result (λ o. IfSome o (λ u. plain u ≡ rename (beyond_times from (renumbered how)) (plain t.now))) }
 {
-    let Some(u) = parts.made_of(print) else {
+    let Some(u) = parts.made_of(part) else {
         return Ok(None);
     };
     if !is_renumbered(t, u, how, from)? {
         return Ok(None);
     }
     let u = u.copy(alloc)?;
-    parts.pass(print);
+    parts.pass(part);
     Ok(Some(u))
+}
+
+/// Whether a part is as it was. It is looked through where its fingerprint says that its variables stay, and else is taken for one
+/// that changes.
+fn stays(
+    t: &Ty,
+    how: Renumbering,
+    from: usize,
+    parts: &mut Parts,
+    part: Fingerprint,
+) -> Result<bool, AllocError>
+    ensures { IfOk result (λ b. IsTrue b → plain t.now ≡ rename (beyond_times from (renumbered how)) (plain t.now)) }
+{
+    if from < part.print.reach as usize || !is_renumbered(t, t, how, from)? {
+        return Ok(false);
+    }
+    parts.pass(part);
+    Ok(true)
 }
 
 /// The type with its free variables renumbered, where the `from` innermost ones stay; nothing where it is as it was.
@@ -126,12 +144,15 @@ fn changed_type(
     if !is_part(t) {
         return changed_anew(alloc, t, how, from, parts);
     }
-    let print = parts.enter(from);
-    if let Some(u) = changed_before(alloc, t, how, from, parts, print)? {
+    let part = parts.enter(from);
+    if stays(t, how, from, parts, part)? {
+        return Ok(None);
+    }
+    if let Some(u) = changed_before(alloc, t, how, from, parts, part)? {
         return Ok(Some(u));
     }
     let made = changed_anew(alloc, t, how, from, parts)?;
-    parts.keep(alloc, print, &made)?;
+    parts.keep(alloc, part, &made)?;
     Ok(made)
 }
 

@@ -24,7 +24,6 @@ pub enum Cap {
 /// binder. Binders are the type fields of a record, over the later type fields and all fields of that record, and
 /// `Rec` over its body. The variables of the context come after them.
 #[cycle(types)]
-#[derive(Drop)]
 pub enum Ty {
     /// `Top`, above every type.
     Top,
@@ -48,9 +47,27 @@ pub enum Ty {
     Rec(Rc<Ty>),
 }
 
+// Written out, as those below: what is derived is proved anew in each crate that drops such a value.
+impl Drop for Ty {
+    #[cycle(drop_types)]
+    fn drop(self) {
+        match self {
+            Ty::Top => {}
+            Ty::Int => {}
+            Ty::Char => {}
+            Ty::Str => {}
+            Ty::Bool => {}
+            Ty::Var(_) => {}
+            Ty::Apply(_, _) => {}
+            Ty::Chan(_, _) => {}
+            Ty::Fields(_) => {}
+            Ty::Rec(_) => {}
+        }
+    }
+}
+
 /// The type fields, the positional fields and the labelled fields of a record type.
 #[cycle(types)]
-#[derive(Drop)]
 pub struct Record {
     /// The type fields by their bounds, each written under those before it.
     pub binders: Vec<Bound>,
@@ -60,9 +77,19 @@ pub struct Record {
     pub labelled: Vec<(Name, Ty)>,
 }
 
+impl Drop for Record {
+    #[cycle(drop_types)]
+    fn drop(self) {
+        let Record {
+            binders: _,
+            positional: _,
+            labelled: _,
+        } = self;
+    }
+}
+
 /// What is known of a type variable.
 #[cycle(types)]
-#[derive(Drop)]
 pub enum Bound {
     /// Any type.
     Free,
@@ -70,6 +97,17 @@ pub enum Bound {
     Below(Ty),
     /// An operator of as many arguments as marks, which varies as they say.
     Operator(Vec<Mark>),
+}
+
+impl Drop for Bound {
+    #[cycle(drop_types)]
+    fn drop(self) {
+        match self {
+            Bound::Free => {}
+            Bound::Below(_) => {}
+            Bound::Operator(_) => {}
+        }
+    }
 }
 
 /// What may stand for a type variable.
