@@ -2,7 +2,7 @@
 use Rattle.std.proofs.Common.{ℕ, zero, suc, ℤ, pos, negsuc, ◌≡◌, ◌≢◌, ◌≤◌, ◌+◌, ◌-◌, ◌==◌, Bool, if◌then◌else◌, List, [], ◌∷◌, Option, Some, None, true, false, refl, sym, subst, arith}
 use Rattle.pict_syntax.specs.declared.primitive.Primitive.{Primitive}
 use Rattle.pict_syntax.specs.declared.primitive.Primitive.TheVariants as primitive
-use Rattle.pict_core.specs.Primitives.{Effect, Leaves, Nothing, Answer, Trap, effect_of, at_int, at_char, at_bool, at_text, at_two, at_three, at_ints, divided_by}
+use Rattle.pict_core.specs.Primitives.{Effect, Leaves, Nothing, Answer, Trap, effect_of, at_int, at_char, at_bool, at_text, at_two, at_three, divided_by}
 use Rattle.pict_core.specs.Term.{Val, Vals, Labelled, Int, Char, Boolean, Text, Record, no_vals, more_vals}
 use Rattle.pict_region.specs.RegionState.{spare, blocks, LosesNoBlock}
 use Rattle.pict_heap.specs.HeapState.{HeapState}
@@ -53,36 +53,16 @@ three_answers (more_vals v (more_vals w no_vals)) ls f h = tt
 three_answers (more_vals v (more_vals w (more_vals k no_vals))) ls f h = h v w k
 three_answers (more_vals v (more_vals w (more_vals k (more_vals x vs)))) ls f h = tt
 
-ints_answer : (vs : Vals) (ls : Labelled) (f : ℤ → ℤ → Val → Option Effect) → ((a b : ℤ) (k : Val) → Answers (f a b k))
-    → Answers (at_ints (Record vs ls) f)
-ints_answer vs ls f h = three_answers vs ls _ (λ v w k. int_answers v _ (λ a. int_answers w _ (λ b. h a b k)))
-
 divided_answers : (b : ℤ) (o : Option Effect) → Answers o → Answers (divided_by b o)
 divided_answers (pos zero) o h = λ no_trap. absurd (no_trap refl)
 divided_answers (pos (suc n)) o h = h
 divided_answers (negsuc n) o h = h
 
+ruleset operands_answer = (two_answers, three_answers, int_answers, char_answers, bool_answers, text_answers, divided_answers)
+
 record_answers : (p : Primitive) (vs : Vals) (ls : Labelled) → Answers (effect_of p (Record vs ls))
 record_answers primitive.Print vs ls = tt
-record_answers primitive.Printi vs ls = tt
-record_answers primitive.Pr vs ls = two_answers vs ls _ (λ s k. text_answers s _ (λ bytes no_trap. refl))
-record_answers primitive.Add vs ls = ints_answer vs ls _ (λ a b k no_trap. refl)
-record_answers primitive.Subtract vs ls = ints_answer vs ls _ (λ a b k no_trap. refl)
-record_answers primitive.Multiply vs ls = ints_answer vs ls _ (λ a b k no_trap. refl)
-record_answers primitive.Divide vs ls = ints_answer vs ls _ (λ a b k. divided_answers b _ (λ no_trap. refl))
-record_answers primitive.Remainder vs ls = ints_answer vs ls _ (λ a b k. divided_answers b _ (λ no_trap. refl))
-record_answers primitive.Equal vs ls = ints_answer vs ls _ (λ a b k no_trap. refl)
-record_answers primitive.Less vs ls = ints_answer vs ls _ (λ a b k no_trap. refl)
-record_answers primitive.AtMost vs ls = ints_answer vs ls _ (λ a b k no_trap. refl)
-record_answers primitive.Greater vs ls = ints_answer vs ls _ (λ a b k no_trap. refl)
-record_answers primitive.AtLeast vs ls = ints_answer vs ls _ (λ a b k no_trap. refl)
-record_answers primitive.Chr vs ls = two_answers vs ls _ (λ n k. int_answers n _ (λ a no_trap. refl))
-record_answers primitive.Ord vs ls = two_answers vs ls _ (λ v k. char_answers v _ (λ byte no_trap. refl))
-record_answers primitive.Join vs ls = three_answers vs ls _ (λ s t k. text_answers s _ (λ front. text_answers t _ (λ back no_trap. refl)))
-record_answers primitive.Intstr vs ls = two_answers vs ls _ (λ n k. int_answers n _ (λ a no_trap. refl))
-record_answers primitive.Size vs ls = two_answers vs ls _ (λ s k. text_answers s _ (λ bytes no_trap. refl))
-record_answers primitive.Nth vs ls = three_answers vs ls _ (λ s n k. text_answers s _ (λ bytes. int_answers n _ (λ index no_trap. refl)))
-record_answers primitive.Not vs ls = two_answers vs ls _ (λ v k. bool_answers v _ (λ b no_trap. refl))
+record_answers _ vs ls = search operands_answer depth 8
 
 -- ---- blocks that are made
 

@@ -17,25 +17,7 @@ use Rattle.pict_desk.specs.Pairs.{IsPair, ArePairs}
 
 primitive_back : (p : Primitive) → slice_get primitives (primitive_number p) ≡ Some p
 primitive_back primitive.Print = refl
-primitive_back primitive.Printi = refl
-primitive_back primitive.Pr = refl
-primitive_back primitive.Add = refl
-primitive_back primitive.Subtract = refl
-primitive_back primitive.Multiply = refl
-primitive_back primitive.Divide = refl
-primitive_back primitive.Remainder = refl
-primitive_back primitive.Equal = refl
-primitive_back primitive.Less = refl
-primitive_back primitive.AtMost = refl
-primitive_back primitive.Greater = refl
-primitive_back primitive.AtLeast = refl
-primitive_back primitive.Chr = refl
-primitive_back primitive.Ord = refl
-primitive_back primitive.Join = refl
-primitive_back primitive.Intstr = refl
-primitive_back primitive.Size = refl
-primitive_back primitive.Nth = refl
-primitive_back primitive.Not = refl
+primitive_back _ = refl
 
 bool_back : (b : Bool) → unpacked (packed (word.Bool b)).0 (packed (word.Bool b)).1 ≡ Some (word.Bool b)
 bool_back true = refl

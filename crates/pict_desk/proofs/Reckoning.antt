@@ -44,25 +44,7 @@ three_same (more_vals v (more_vals w (more_vals x (more_vals y vs)))) ls ms f = 
 
 pub labels_same : (p : Primitive) (vs : Vals) (ls ms : Labelled) → effect_of p (Record vs ls) ≡ effect_of p (Record vs ms)
 labels_same primitive.Print vs ls ms = refl
-labels_same primitive.Printi vs ls ms = refl
-labels_same primitive.Pr vs ls ms = two_same vs ls ms _
-labels_same primitive.Add vs ls ms = three_same vs ls ms _
-labels_same primitive.Subtract vs ls ms = three_same vs ls ms _
-labels_same primitive.Multiply vs ls ms = three_same vs ls ms _
-labels_same primitive.Divide vs ls ms = three_same vs ls ms _
-labels_same primitive.Remainder vs ls ms = three_same vs ls ms _
-labels_same primitive.Equal vs ls ms = three_same vs ls ms _
-labels_same primitive.Less vs ls ms = three_same vs ls ms _
-labels_same primitive.AtMost vs ls ms = three_same vs ls ms _
-labels_same primitive.Greater vs ls ms = three_same vs ls ms _
-labels_same primitive.AtLeast vs ls ms = three_same vs ls ms _
-labels_same primitive.Chr vs ls ms = two_same vs ls ms _
-labels_same primitive.Ord vs ls ms = two_same vs ls ms _
-labels_same primitive.Join vs ls ms = three_same vs ls ms _
-labels_same primitive.Intstr vs ls ms = two_same vs ls ms _
-labels_same primitive.Size vs ls ms = two_same vs ls ms _
-labels_same primitive.Nth vs ls ms = three_same vs ls ms _
-labels_same primitive.Not vs ls ms = two_same vs ls ms _
+labels_same _ vs ls ms = search (two_same, three_same)
 
 -- ---- arguments
 

@@ -23,25 +23,7 @@ use Rattle.pict_object.proofs.Standing.{Held, held_more}
 
 primitive_again : (p : Primitive) → slice_get primitives (number_of_primitive p) ≡ Some p
 primitive_again primitive.Print = refl
-primitive_again primitive.Printi = refl
-primitive_again primitive.Pr = refl
-primitive_again primitive.Add = refl
-primitive_again primitive.Subtract = refl
-primitive_again primitive.Multiply = refl
-primitive_again primitive.Divide = refl
-primitive_again primitive.Remainder = refl
-primitive_again primitive.Equal = refl
-primitive_again primitive.Less = refl
-primitive_again primitive.AtMost = refl
-primitive_again primitive.Greater = refl
-primitive_again primitive.AtLeast = refl
-primitive_again primitive.Chr = refl
-primitive_again primitive.Ord = refl
-primitive_again primitive.Join = refl
-primitive_again primitive.Intstr = refl
-primitive_again primitive.Size = refl
-primitive_again primitive.Nth = refl
-primitive_again primitive.Not = refl
+primitive_again _ = refl
 
 parts_none : {A : Type 0} (part : List ℕ → Option (A × List ℕ)) (rest : List ℕ) → parts_at part 0 rest ≡ Some ([], rest)
 unfolding parts_at

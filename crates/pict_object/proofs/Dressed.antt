@@ -6,7 +6,7 @@ use Rattle.pict_syntax.specs.declared.primitive.Primitive.TheVariants as primiti
 use Rattle.pict_core.specs.Term.{Val, Vals, Labelled, Pat, Pats, LabelledPats, Bind, Any, RecordPat, no_pats, more_pats, no_labelled_pats, more_labelled_pats, Process, Var, Chan, Int, Char, Boolean, Text, PrimitiveVal, Record, no_vals, more_vals, no_labelled, more_labelled, Zero, Par, New, Out, In, If}
 use Rattle.pict_core.specs.Substitution.{value_of_variable, substitution, replace_value, replace_values, replace_labelled, substitute}
 use Rattle.pict_core.specs.Matching.{match_value, match_values, match_labelled, both, in_record, at_head, at_end, field_at}
-use Rattle.pict_core.specs.Primitives.{Effect, Leaves, Nothing, Answer, Trap, effect_of, at_int, at_char, at_bool, at_text, at_two, at_three, at_ints, divided_by}
+use Rattle.pict_core.specs.Primitives.{Effect, Leaves, Nothing, Answer, Trap, effect_of, at_int, at_char, at_bool, at_text, at_two, at_three, divided_by}
 use Rattle.pict_object.specs.Dressing.{Dress, dressed_value, dressed_values, dressed_labelled, dressed_pattern, dressed_patterns, dressed_labelled_patterns, dressed, KeepsLabelsApart}
 
 abbrev pub dressed_leaves : Dress → Leaves → Leaves
@@ -234,32 +234,13 @@ module _ (d : Dress) where
   three_dressed (Record (more_vals u (more_vals w (more_vals k no_vals))) ls) f h = h u w k
   three_dressed (Record (more_vals u (more_vals w (more_vals k (more_vals x xs)))) ls) f h = refl
 
-  ints_dressed : (v : Val) (f : ℤ → ℤ → Val → Option Effect) → ((i j : ℤ) (k : Val) → f i j (dressed_value d k) ≡ effects_dressed (f i j k)) → at_ints (dressed_value d v) f ≡ effects_dressed (at_ints v f)
-  ints_dressed v f h = three_dressed v _ (λ u w k. int_dressed u _ _ (λ i. int_dressed w _ _ (λ j. h i j k)))
-
   divided_dressed : (b : ℤ) (e e' : Option Effect) → e' ≡ effects_dressed e → divided_by b e' ≡ effects_dressed (divided_by b e)
   divided_dressed (pos zero) e e' h = refl
   divided_dressed (pos (suc n)) e e' h = h
   divided_dressed (negsuc n) e e' h = h
 
+  ruleset operands_dressed = (two_dressed, three_dressed, int_dressed, char_dressed, bool_dressed, text_dressed, divided_dressed)
+
   pub effect_dressed : (f : Primitive) (v : Val) → effect_of f (dressed_value d v) ≡ effects_dressed (effect_of f v)
   effect_dressed primitive.Print v = text_dressed v _ _ (λ b. refl)
-  effect_dressed primitive.Printi v = int_dressed v _ _ (λ i. refl)
-  effect_dressed primitive.Pr v = two_dressed v _ (λ u k. text_dressed u _ _ (λ b. refl))
-  effect_dressed primitive.Add v = ints_dressed v _ (λ i j k. refl)
-  effect_dressed primitive.Subtract v = ints_dressed v _ (λ i j k. refl)
-  effect_dressed primitive.Multiply v = ints_dressed v _ (λ i j k. refl)
-  effect_dressed primitive.Divide v = ints_dressed v _ (λ i j k. divided_dressed j _ _ refl)
-  effect_dressed primitive.Remainder v = ints_dressed v _ (λ i j k. divided_dressed j _ _ refl)
-  effect_dressed primitive.Equal v = ints_dressed v _ (λ i j k. refl)
-  effect_dressed primitive.Less v = ints_dressed v _ (λ i j k. refl)
-  effect_dressed primitive.AtMost v = ints_dressed v _ (λ i j k. refl)
-  effect_dressed primitive.Greater v = ints_dressed v _ (λ i j k. refl)
-  effect_dressed primitive.AtLeast v = ints_dressed v _ (λ i j k. refl)
-  effect_dressed primitive.Chr v = two_dressed v _ (λ u k. int_dressed u _ _ (λ i. refl))
-  effect_dressed primitive.Ord v = two_dressed v _ (λ u k. char_dressed u _ _ (λ i. refl))
-  effect_dressed primitive.Join v = three_dressed v _ (λ s t k. text_dressed s _ _ (λ a. text_dressed t _ _ (λ b. refl)))
-  effect_dressed primitive.Intstr v = two_dressed v _ (λ u k. int_dressed u _ _ (λ i. refl))
-  effect_dressed primitive.Size v = two_dressed v _ (λ u k. text_dressed u _ _ (λ i. refl))
-  effect_dressed primitive.Nth v = three_dressed v _ (λ s n k. text_dressed s _ _ (λ a. int_dressed n _ _ (λ b. refl)))
-  effect_dressed primitive.Not v = two_dressed v _ (λ u k. bool_dressed u _ _ (λ i. refl))
+  effect_dressed _ v = search operands_dressed depth 8

@@ -58,25 +58,7 @@ primitive_at n = slice_index_or (primitive.Print ∷ primitive.Printi ∷ primit
 
 primitive_back : (a : Primitive) → primitive_at (number_of_primitive a) ≡ a
 primitive_back primitive.Print = refl
-primitive_back primitive.Printi = refl
-primitive_back primitive.Pr = refl
-primitive_back primitive.Add = refl
-primitive_back primitive.Subtract = refl
-primitive_back primitive.Multiply = refl
-primitive_back primitive.Divide = refl
-primitive_back primitive.Remainder = refl
-primitive_back primitive.Equal = refl
-primitive_back primitive.Less = refl
-primitive_back primitive.AtMost = refl
-primitive_back primitive.Greater = refl
-primitive_back primitive.AtLeast = refl
-primitive_back primitive.Chr = refl
-primitive_back primitive.Ord = refl
-primitive_back primitive.Join = refl
-primitive_back primitive.Intstr = refl
-primitive_back primitive.Size = refl
-primitive_back primitive.Nth = refl
-primitive_back primitive.Not = refl
+primitive_back _ = refl
 
 primitive_once : (a b : Primitive) (r s : List ℕ) → number_of_primitive a ∷ r ≡ number_of_primitive b ∷ s → Once a b r s
 primitive_once a b r s h = (sym (primitive_back a) ∙ ap primitive_at (ap head h) ∙ primitive_back b, ap tail h)

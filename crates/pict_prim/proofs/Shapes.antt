@@ -13,25 +13,7 @@ use Rattle.pict_prim.specs.Families.{one_effect, three_effect, simple_effect, in
 
 two_by : (p : Primitive) (x k : Val) (ls : Labelled) → effect_of p (Record (more_vals x (more_vals k no_vals)) ls) ≡ one_effect p x k
 two_by primitive.Print x k ls = refl
-two_by primitive.Printi x k ls = refl
-two_by primitive.Pr x k ls = refl
-two_by primitive.Add x k ls = refl
-two_by primitive.Subtract x k ls = refl
-two_by primitive.Multiply x k ls = refl
-two_by primitive.Divide x k ls = refl
-two_by primitive.Remainder x k ls = refl
-two_by primitive.Equal x k ls = refl
-two_by primitive.Less x k ls = refl
-two_by primitive.AtMost x k ls = refl
-two_by primitive.Greater x k ls = refl
-two_by primitive.AtLeast x k ls = refl
-two_by primitive.Chr x k ls = refl
-two_by primitive.Ord x k ls = refl
-two_by primitive.Join x k ls = refl
-two_by primitive.Intstr x k ls = refl
-two_by primitive.Size x k ls = refl
-two_by primitive.Nth x k ls = refl
-two_by primitive.Not x k ls = refl
+two_by _ x k ls = refl
 
 -- where nothing is said of any number, nothing is said
 pub none_of_int : (v : Val) (f : ℤ → Option Effect) → ((n : ℤ) → f n ≡ None) → at_int v f ≡ None
@@ -47,50 +29,18 @@ none_of_int (Record vs ls) f h = refl
 pub no_numbers : (x y : Val) → at_int x (λ a. at_int y (λ b. None)) ≡ None
 no_numbers x y = none_of_int x _ (λ a. none_of_int y _ (λ b. refl))
 
+none_by_numbers : (x y : Val) → None ≡ at_int x (λ a. at_int y (λ b. None))
+none_by_numbers x y = sym (no_numbers x y)
+
 three_by : (p : Primitive) (x y k : Val) (ls : Labelled) → effect_of p (Record (more_vals x (more_vals y (more_vals k no_vals))) ls) ≡ three_effect p x y k
-three_by primitive.Print x y k ls = sym (no_numbers x y)
-three_by primitive.Printi x y k ls = sym (no_numbers x y)
-three_by primitive.Pr x y k ls = sym (no_numbers x y)
-three_by primitive.Add x y k ls = refl
-three_by primitive.Subtract x y k ls = refl
-three_by primitive.Multiply x y k ls = refl
-three_by primitive.Divide x y k ls = refl
-three_by primitive.Remainder x y k ls = refl
-three_by primitive.Equal x y k ls = refl
-three_by primitive.Less x y k ls = refl
-three_by primitive.AtMost x y k ls = refl
-three_by primitive.Greater x y k ls = refl
-three_by primitive.AtLeast x y k ls = refl
-three_by primitive.Chr x y k ls = sym (no_numbers x y)
-three_by primitive.Ord x y k ls = sym (no_numbers x y)
-three_by primitive.Join x y k ls = refl
-three_by primitive.Intstr x y k ls = sym (no_numbers x y)
-three_by primitive.Size x y k ls = sym (no_numbers x y)
-three_by primitive.Nth x y k ls = refl
-three_by primitive.Not x y k ls = sym (no_numbers x y)
+three_by primitive.Print x y k ls = none_by_numbers x y
+three_by _ x y k ls = search none_by_numbers
 
 -- the effect on three operands, where the first two are to be numbers
 pub three_numbers : (p : Primitive) → (p ≡ primitive.Join → ⊥) → (p ≡ primitive.Nth → ⊥) → (x y k : Val) → three_effect p x y k ≡ at_int x (λ a. at_int y (λ b. int_effect p a b k))
-three_numbers primitive.Print m n x y k = refl
-three_numbers primitive.Printi m n x y k = refl
-three_numbers primitive.Pr m n x y k = refl
-three_numbers primitive.Add m n x y k = refl
-three_numbers primitive.Subtract m n x y k = refl
-three_numbers primitive.Multiply m n x y k = refl
-three_numbers primitive.Divide m n x y k = refl
-three_numbers primitive.Remainder m n x y k = refl
-three_numbers primitive.Equal m n x y k = refl
-three_numbers primitive.Less m n x y k = refl
-three_numbers primitive.AtMost m n x y k = refl
-three_numbers primitive.Greater m n x y k = refl
-three_numbers primitive.AtLeast m n x y k = refl
-three_numbers primitive.Chr m n x y k = refl
-three_numbers primitive.Ord m n x y k = refl
 three_numbers primitive.Join m n x y k = absurd (m refl)
-three_numbers primitive.Intstr m n x y k = refl
-three_numbers primitive.Size m n x y k = refl
 three_numbers primitive.Nth m n x y k = absurd (n refl)
-three_numbers primitive.Not m n x y k = refl
+three_numbers _ m n x y k = refl
 
 -- the effect on a record of two numbers and a third field
 pub numbers_by : (p : Primitive) (a b : ℤ) (k : Val) (ls : Labelled) → effect_of p (of_numbers a b k ls) ≡ int_effect p a b k
@@ -112,25 +62,7 @@ not_three (more_vals v (more_vals w (more_vals k (more_vals x vs)))) ls n f = re
 
 other_by : (p : Primitive) (vs : Vals) (ls : Labelled) → count vs ≢ 2 → count vs ≢ 3 → effect_of p (Record vs ls) ≡ None
 other_by primitive.Print vs ls m n = refl
-other_by primitive.Printi vs ls m n = refl
-other_by primitive.Pr vs ls m n = not_two vs ls m _
-other_by primitive.Add vs ls m n = not_three vs ls n _
-other_by primitive.Subtract vs ls m n = not_three vs ls n _
-other_by primitive.Multiply vs ls m n = not_three vs ls n _
-other_by primitive.Divide vs ls m n = not_three vs ls n _
-other_by primitive.Remainder vs ls m n = not_three vs ls n _
-other_by primitive.Equal vs ls m n = not_three vs ls n _
-other_by primitive.Less vs ls m n = not_three vs ls n _
-other_by primitive.AtMost vs ls m n = not_three vs ls n _
-other_by primitive.Greater vs ls m n = not_three vs ls n _
-other_by primitive.AtLeast vs ls m n = not_three vs ls n _
-other_by primitive.Chr vs ls m n = not_two vs ls m _
-other_by primitive.Ord vs ls m n = not_two vs ls m _
-other_by primitive.Join vs ls m n = not_three vs ls n _
-other_by primitive.Intstr vs ls m n = not_two vs ls m _
-other_by primitive.Size vs ls m n = not_two vs ls m _
-other_by primitive.Nth vs ls m n = not_three vs ls n _
-other_by primitive.Not vs ls m n = not_two vs ls m _
+other_by _ vs ls m n = search (not_two, not_three)
 
 no_two : (v : Val) → positional_count v ≡ None → (f : Val → Val → Option Effect) → at_two v f ≡ None
 no_two (Var n) e f = refl
@@ -155,25 +87,7 @@ no_three (Record vs ls) e f = cc
 -- an argument that is no record
 pub simple_by : (p : Primitive) (v : Val) → positional_count v ≡ None → effect_of p v ≡ simple_effect p v
 simple_by primitive.Print v e = refl
-simple_by primitive.Printi v e = refl
-simple_by primitive.Pr v e = no_two v e _
-simple_by primitive.Add v e = no_three v e _
-simple_by primitive.Subtract v e = no_three v e _
-simple_by primitive.Multiply v e = no_three v e _
-simple_by primitive.Divide v e = no_three v e _
-simple_by primitive.Remainder v e = no_three v e _
-simple_by primitive.Equal v e = no_three v e _
-simple_by primitive.Less v e = no_three v e _
-simple_by primitive.AtMost v e = no_three v e _
-simple_by primitive.Greater v e = no_three v e _
-simple_by primitive.AtLeast v e = no_three v e _
-simple_by primitive.Chr v e = no_two v e _
-simple_by primitive.Ord v e = no_two v e _
-simple_by primitive.Join v e = no_three v e _
-simple_by primitive.Intstr v e = no_two v e _
-simple_by primitive.Size v e = no_two v e _
-simple_by primitive.Nth v e = no_three v e _
-simple_by primitive.Not v e = no_two v e _
+simple_by _ v e = search (no_two, no_three)
 
 -- a record with two positional fields has both
 pub has_two : (v : Val) → positional_count v ≡ Some 2 → IsSome (positional_field v 0) × IsSome (positional_field v 1)

@@ -5,7 +5,7 @@ use Rattle.pict_syntax.specs.declared.primitive.Primitive.TheVariants as primiti
 use Rattle.pict_core.specs.Term.{Val, Vals, Labelled, Pat, Pats, LabelledPats, Bind, Any, RecordPat, no_pats, more_pats, no_labelled_pats, more_labelled_pats, Var, Chan, Int, Char, Boolean, Text, PrimitiveVal, Record, no_vals, more_vals, no_labelled, more_labelled}
 use Rattle.pict_core.specs.Substitution.{Replacement, replace_value, replace_values, replace_labelled}
 use Rattle.pict_core.specs.Matching.{match_value, match_values, match_labelled, both, in_record, at_head, at_end, field_at}
-use Rattle.pict_core.specs.Primitives.{Effect, effect_of, at_int, at_char, at_bool, at_text, at_two, at_three, at_ints, divided_by}
+use Rattle.pict_core.specs.Primitives.{Effect, effect_of, at_int, at_char, at_bool, at_text, at_two, at_three, divided_by}
 use Rattle.pict_reduction.specs.Reading.{naming}
 use Rattle.pict_reduction.proofs.Natural.{replace_effect}
 use Rattle.pict_core.proofs.Replacing.{two}
@@ -148,32 +148,13 @@ module _ (n : ℕ) where
   three_read (Record (more_vals u (more_vals w (more_vals k no_vals))) ls) f h = h u w k
   three_read (Record (more_vals u (more_vals w (more_vals k (more_vals x xs)))) ls) f h = refl
 
-  ints_read : (v : Val) (f : ℤ → ℤ → Val → Option Effect) → ((i j : ℤ) (k : Val) → f i j (replace_value r k) ≡ effect_read (f i j k)) → at_ints (replace_value r v) f ≡ effect_read (at_ints v f)
-  ints_read v f h = three_read v _ (λ u w k. int_read u _ _ (λ i. int_read w _ _ (λ j. h i j k)))
-
   divided_read : (b : ℤ) (e e' : Option Effect) → e' ≡ effect_read e → divided_by b e' ≡ effect_read (divided_by b e)
   divided_read (pos zero) e e' h = refl
   divided_read (pos (suc n)) e e' h = h
   divided_read (negsuc n) e e' h = h
 
+  ruleset operands_read = (two_read, three_read, int_read, char_read, bool_read, text_read, divided_read)
+
   pub primitive_read : (f : Primitive) (v : Val) → effect_of f (replace_value r v) ≡ effect_read (effect_of f v)
   primitive_read primitive.Print v = text_read v _ _ (λ b. refl)
-  primitive_read primitive.Printi v = int_read v _ _ (λ i. refl)
-  primitive_read primitive.Pr v = two_read v _ (λ u k. text_read u _ _ (λ b. refl))
-  primitive_read primitive.Add v = ints_read v _ (λ i j k. refl)
-  primitive_read primitive.Subtract v = ints_read v _ (λ i j k. refl)
-  primitive_read primitive.Multiply v = ints_read v _ (λ i j k. refl)
-  primitive_read primitive.Divide v = ints_read v _ (λ i j k. divided_read j _ _ refl)
-  primitive_read primitive.Remainder v = ints_read v _ (λ i j k. divided_read j _ _ refl)
-  primitive_read primitive.Equal v = ints_read v _ (λ i j k. refl)
-  primitive_read primitive.Less v = ints_read v _ (λ i j k. refl)
-  primitive_read primitive.AtMost v = ints_read v _ (λ i j k. refl)
-  primitive_read primitive.Greater v = ints_read v _ (λ i j k. refl)
-  primitive_read primitive.AtLeast v = ints_read v _ (λ i j k. refl)
-  primitive_read primitive.Chr v = two_read v _ (λ u k. int_read u _ _ (λ i. refl))
-  primitive_read primitive.Ord v = two_read v _ (λ u k. char_read u _ _ (λ i. refl))
-  primitive_read primitive.Join v = three_read v _ (λ s t k. text_read s _ _ (λ a. text_read t _ _ (λ b. refl)))
-  primitive_read primitive.Intstr v = two_read v _ (λ u k. int_read u _ _ (λ i. refl))
-  primitive_read primitive.Size v = two_read v _ (λ u k. text_read u _ _ (λ i. refl))
-  primitive_read primitive.Nth v = three_read v _ (λ s n k. text_read s _ _ (λ a. int_read n _ _ (λ b. refl)))
-  primitive_read primitive.Not v = two_read v _ (λ b k. bool_read b _ _ (λ c. refl))
+  primitive_read _ v = search operands_read depth 8

@@ -46,25 +46,8 @@ one_formed ns ks s r h l = (tt, ((h, (l, tt)), tt))
 
 primitive_formed : (ns : List (List ℕ)) (ks : List Kind) (p : Primitive) → IsWellFormed ns ks (takes p)
 primitive_formed ns ks primitive.Print = tt
-primitive_formed ns ks primitive.Printi = tt
-primitive_formed ns ks primitive.Pr = one_formed ns ks Str empty_record tt (tt, (tt, tt))
-primitive_formed ns ks primitive.Add = two_formed ns ks Int Int Int tt tt tt
-primitive_formed ns ks primitive.Subtract = two_formed ns ks Int Int Int tt tt tt
-primitive_formed ns ks primitive.Multiply = two_formed ns ks Int Int Int tt tt tt
-primitive_formed ns ks primitive.Divide = two_formed ns ks Int Int Int tt tt tt
-primitive_formed ns ks primitive.Remainder = two_formed ns ks Int Int Int tt tt tt
-primitive_formed ns ks primitive.Equal = two_formed ns ks Int Int Boolean tt tt tt
-primitive_formed ns ks primitive.Less = two_formed ns ks Int Int Boolean tt tt tt
-primitive_formed ns ks primitive.AtMost = two_formed ns ks Int Int Boolean tt tt tt
-primitive_formed ns ks primitive.Greater = two_formed ns ks Int Int Boolean tt tt tt
-primitive_formed ns ks primitive.AtLeast = two_formed ns ks Int Int Boolean tt tt tt
-primitive_formed ns ks primitive.Chr = one_formed ns ks Int Char tt tt
-primitive_formed ns ks primitive.Ord = one_formed ns ks Char Int tt tt
-primitive_formed ns ks primitive.Join = two_formed ns ks Str Str Str tt tt tt
-primitive_formed ns ks primitive.Intstr = one_formed ns ks Int Str tt tt
-primitive_formed ns ks primitive.Size = one_formed ns ks Str Int tt tt
-primitive_formed ns ks primitive.Nth = two_formed ns ks Str Int Int tt tt tt
-primitive_formed ns ks primitive.Not = one_formed ns ks Boolean Boolean tt tt
+primitive_formed ns ks _ = search rules
+primitive_formed ns ks _ = two_formed ns ks Int Int Boolean tt tt tt
 
 if_primitive_formed : (ns : List (List ℕ)) (ks : List Kind) (o : Option Primitive) → IfFormed ns ks (option_map type_of o)
 if_primitive_formed ns ks None = tt

@@ -3,7 +3,7 @@ use Rattle.std.proofs.Common.{ℕ, ◌≡◌, ℤ, pos, negsuc, zero, suc, Bool,
 use Rattle.std.specs.Prelude.{◌&&◌}
 use Rattle.pict_syntax.specs.declared.primitive.Primitive.TheVariants as primitive
 use Rattle.pict_core.specs.Term.{Val, Var, Chan, Int, Char, Boolean, Text, PrimitiveVal, Record, no_vals, more_vals}
-use Rattle.pict_core.specs.Primitives.{Effect, at_int, at_char, at_bool, at_text, at_two, at_three, at_ints, divided_by}
+use Rattle.pict_core.specs.Primitives.{Effect, at_int, at_char, at_bool, at_text, at_two, at_three, divided_by}
 use Rattle.pict_shapes.specs.declared.shape.Kind.{Kind}
 use Rattle.pict_shapes.specs.declared.shape.Kind.TheVariants.{AnInt, AChar, ABool, AText}
 use Rattle.pict_shapes.specs.declared.shape.Shape.TheVariants.{One, Two}
@@ -80,9 +80,6 @@ two_of a b (Record (more_vals u (more_vals w no_vals)) ls) f h = refl
 two_of a b (Record (more_vals u (more_vals w (more_vals k no_vals))) ls) f h = h u w k
 two_of a b (Record (more_vals u (more_vals w (more_vals k (more_vals x xs)))) ls) f h = refl
 
-of_ints : (v : Val) (f : ℤ → ℤ → Val → Option Effect) → ((i j : ℤ) (k : Val) → is_effect (f i j k) ≡ true) → is_effect (at_ints v f) ≡ has_shape (Two AnInt AnInt) v
-of_ints v f h = two_of AnInt AnInt v _ (λ u w k. of_int u _ (is_kind AnInt w) (λ i. of_int w _ true (λ j. h i j k) ∙ and_true (is_kind AnInt w)))
-
 divides : (b : ℤ) (e : Option Effect) → is_effect e ≡ true → is_effect (divided_by b e) ≡ true
 divides (pos zero) e h = refl
 divides (pos (suc n)) e h = h
@@ -92,14 +89,6 @@ pub primitives_take_shapes : PrimitivesTakeShapes
 primitives_take_shapes primitive.Print v = of_text v _ true (λ b. refl) ∙ and_true (is_kind AText v)
 primitives_take_shapes primitive.Printi v = of_int v _ true (λ b. refl) ∙ and_true (is_kind AnInt v)
 primitives_take_shapes primitive.Pr v = one_of AText v _ (λ u k. of_text u _ true (λ b. refl) ∙ and_true (is_kind AText u))
-primitives_take_shapes primitive.Add v = of_ints v _ (λ i j k. refl)
-primitives_take_shapes primitive.Subtract v = of_ints v _ (λ i j k. refl)
-primitives_take_shapes primitive.Multiply v = of_ints v _ (λ i j k. refl)
-primitives_take_shapes primitive.Equal v = of_ints v _ (λ i j k. refl)
-primitives_take_shapes primitive.Less v = of_ints v _ (λ i j k. refl)
-primitives_take_shapes primitive.AtMost v = of_ints v _ (λ i j k. refl)
-primitives_take_shapes primitive.Greater v = of_ints v _ (λ i j k. refl)
-primitives_take_shapes primitive.AtLeast v = of_ints v _ (λ i j k. refl)
 primitives_take_shapes primitive.Divide v = of_ints v _ (λ i j k. divides j _ refl)
 primitives_take_shapes primitive.Remainder v = of_ints v _ (λ i j k. divides j _ refl)
 primitives_take_shapes primitive.Chr v = one_of AnInt v _ (λ u k. of_int u _ true (λ b. refl) ∙ and_true (is_kind AnInt u))
@@ -109,3 +98,4 @@ primitives_take_shapes primitive.Intstr v = one_of AnInt v _ (λ u k. of_int u _
 primitives_take_shapes primitive.Size v = one_of AText v _ (λ u k. of_text u _ true (λ b. refl) ∙ and_true (is_kind AText u))
 primitives_take_shapes primitive.Nth v = two_of AText AnInt v _ (λ u w k. of_text u _ (is_kind AnInt w) (λ i. of_int w _ true (λ j. refl) ∙ and_true (is_kind AnInt w)))
 primitives_take_shapes primitive.Not v = one_of ABool v _ (λ u k. of_bool u _ true (λ b. refl) ∙ and_true (is_kind ABool u))
+primitives_take_shapes _ v = of_ints v _ (λ i j k. refl)

@@ -79,12 +79,6 @@ of_three P none (Boolean x) f each = none
 of_three P none (Text x) f each = none
 of_three P none (PrimitiveVal x) f each = none
 
-of_ints : (P : Option Effect → Type 0) → P None → (v : Val) (f : ℤ → ℤ → Val → Option Effect) → ((a b : ℤ) (k : Val) → P (f a b k))
-    → P (at_three v (λ x y k. at_int x (λ a. at_int y (λ b. f a b k))))
-of_ints P none v f each =
-    of_three P none v (λ x y k. at_int x (λ a. at_int y (λ b. f a b k)))
-    (λ x y k. of_int P none x (λ a. at_int y (λ b. f a b k)) (λ a. of_int P none y (λ b. f a b k) (λ b. each a b k)))
-
 -- ---- what a primitive leaves
 
 -- it leaves something, if it acts
@@ -115,72 +109,23 @@ divided_leaving (pos zero) k a = trap_leaving None
 divided_leaving (pos (suc n)) k a = answer_leaving None k a
 divided_leaving (negsuc n) k a = answer_leaving None k a
 
+ruleset operands_leaving = (of_two, of_three, of_int, of_char, of_bool, of_text, none_leaving, answer_leaving, divided_leaving)
+
 answering : (f : Primitive) (v : Val) → performing_rule f ≡ rule.PrimitiveAnswers → Leaving (effect_of f v)
 answering primitive.Print v q = λ e h n. cc
 answering primitive.Printi v q = λ e h n. cc
-answering primitive.Add v q = of_ints Leaving none_leaving v _ (λ a b k. answer_leaving None k _)
-answering primitive.Subtract v q = of_ints Leaving none_leaving v _ (λ a b k. answer_leaving None k _)
-answering primitive.Multiply v q = of_ints Leaving none_leaving v _ (λ a b k. answer_leaving None k _)
-answering primitive.Equal v q = of_ints Leaving none_leaving v _ (λ a b k. answer_leaving None k _)
-answering primitive.Less v q = of_ints Leaving none_leaving v _ (λ a b k. answer_leaving None k _)
-answering primitive.AtMost v q = of_ints Leaving none_leaving v _ (λ a b k. answer_leaving None k _)
-answering primitive.Greater v q = of_ints Leaving none_leaving v _ (λ a b k. answer_leaving None k _)
-answering primitive.AtLeast v q = of_ints Leaving none_leaving v _ (λ a b k. answer_leaving None k _)
-answering primitive.Divide v q = of_ints Leaving none_leaving v _ (λ a b k. divided_leaving b k _)
-answering primitive.Remainder v q = of_ints Leaving none_leaving v _ (λ a b k. divided_leaving b k _)
-answering primitive.Pr v q = of_two Leaving none_leaving v _ (λ x k. of_text Leaving none_leaving x _ (λ bytes. answer_leaving (Some bytes) k _))
-answering primitive.Chr v q = of_two Leaving none_leaving v _ (λ x k. of_int Leaving none_leaving x _ (λ n. answer_leaving None k _))
-answering primitive.Ord v q = of_two Leaving none_leaving v _ (λ x k. of_char Leaving none_leaving x _ (λ n. answer_leaving None k _))
-answering primitive.Intstr v q = of_two Leaving none_leaving v _ (λ x k. of_int Leaving none_leaving x _ (λ n. answer_leaving None k _))
-answering primitive.Size v q = of_two Leaving none_leaving v _ (λ x k. of_text Leaving none_leaving x _ (λ bytes. answer_leaving None k _))
-answering primitive.Not v q = of_two Leaving none_leaving v _ (λ x k. of_bool Leaving none_leaving x _ (λ b. answer_leaving None k _))
-answering primitive.Join v q = of_three Leaving none_leaving v _ (λ x y k. of_text Leaving none_leaving x _ (λ a. of_text Leaving none_leaving y _ (λ b. answer_leaving None k _)))
-answering primitive.Nth v q = of_three Leaving none_leaving v _ (λ x y k. of_text Leaving none_leaving x _ (λ a. of_int Leaving none_leaving y _ (λ b. answer_leaving None k _)))
+answering _ v q = search operands_leaving depth 8
 
 printing : (f : Primitive) (v : Val) → performing_rule f ≡ rule.PrimitiveEnds → Silent (effect_of f v)
 printing primitive.Print v q = of_text Silent none_silent v _ nothing_silent
 printing primitive.Printi v q = of_int Silent none_silent v _ (λ n. nothing_silent _)
-printing primitive.Pr v q = λ e k a h n. cc
-printing primitive.Add v q = λ e k a h n. cc
-printing primitive.Subtract v q = λ e k a h n. cc
-printing primitive.Multiply v q = λ e k a h n. cc
-printing primitive.Divide v q = λ e k a h n. cc
-printing primitive.Remainder v q = λ e k a h n. cc
-printing primitive.Equal v q = λ e k a h n. cc
-printing primitive.Less v q = λ e k a h n. cc
-printing primitive.AtMost v q = λ e k a h n. cc
-printing primitive.Greater v q = λ e k a h n. cc
-printing primitive.AtLeast v q = λ e k a h n. cc
-printing primitive.Chr v q = λ e k a h n. cc
-printing primitive.Ord v q = λ e k a h n. cc
-printing primitive.Join v q = λ e k a h n. cc
-printing primitive.Intstr v q = λ e k a h n. cc
-printing primitive.Size v q = λ e k a h n. cc
-printing primitive.Nth v q = λ e k a h n. cc
-printing primitive.Not v q = λ e k a h n. cc
+printing _ v q = λ e k a h n. cc
 
 -- a primitive prints and leaves nothing, or answers
 two_rules : (f : Primitive) → (performing_rule f ≡ rule.PrimitiveEnds) ⊎ (performing_rule f ≡ rule.PrimitiveAnswers)
 two_rules primitive.Print = inl refl
 two_rules primitive.Printi = inl refl
-two_rules primitive.Pr = inr refl
-two_rules primitive.Add = inr refl
-two_rules primitive.Subtract = inr refl
-two_rules primitive.Multiply = inr refl
-two_rules primitive.Divide = inr refl
-two_rules primitive.Remainder = inr refl
-two_rules primitive.Equal = inr refl
-two_rules primitive.Less = inr refl
-two_rules primitive.AtMost = inr refl
-two_rules primitive.Greater = inr refl
-two_rules primitive.AtLeast = inr refl
-two_rules primitive.Chr = inr refl
-two_rules primitive.Ord = inr refl
-two_rules primitive.Join = inr refl
-two_rules primitive.Intstr = inr refl
-two_rules primitive.Size = inr refl
-two_rules primitive.Nth = inr refl
-two_rules primitive.Not = inr refl
+two_rules _ = inr refl
 
 ends_by : (f : Primitive) (v : Val) (e : Effect) → effect_of f v ≡ Some e → e.leaves ≡ Nothing → (performing_rule f ≡ rule.PrimitiveEnds) ⊎ (performing_rule f ≡ rule.PrimitiveAnswers) → performing_rule f ≡ rule.PrimitiveEnds
 ends_by f v e h n (inl x) = x

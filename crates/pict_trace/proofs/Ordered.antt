@@ -8,7 +8,7 @@ use Rattle.pict_syntax.specs.declared.primitive.Primitive.TheVariants as primiti
 use Rattle.pict_core.specs.Term.{Val, Vals, Labelled, Var, Chan, Int, Char, Boolean, Text, PrimitiveVal, Record, no_vals, more_vals, no_labelled, more_labelled, Pat, Pats, LabelledPats, Bind, Any, RecordPat, no_pats, more_pats, no_labelled_pats, more_labelled_pats, Process, Zero, Par, New, Out, In, If}
 use Rattle.pict_core.specs.Matching.{field_at, match_value, match_values, match_labelled, both}
 use Rattle.pict_core.specs.Substitution.{Replacement, replace_value, replace_values, replace_labelled, replace, value_of_variable, substitution, substitute}
-use Rattle.pict_core.specs.Primitives.{Effect, Leaves, Nothing, Answer, Trap, at_int, at_char, at_bool, at_text, at_two, at_three, at_ints, divided_by, effect_of}
+use Rattle.pict_core.specs.Primitives.{Effect, Leaves, Nothing, Answer, Trap, at_int, at_char, at_bool, at_text, at_two, at_three, divided_by, effect_of}
 use Rattle.pict_core.specs.Configuration.{Mark, Ready, Parked, Entry, Configuration, opening}
 use Rattle.pict_core.specs.Step.{Label, Quiet, Comm, Print, StepOutcome, Steps, Traps, Wrong, Finished, gone, kept, added, with_process, with_channel, received, served, took, meet_reader, meet_message, meet, printing, leave, perform, send, receive, choose, act, act_entry, Choice, free_step, Free, least, entry_at, step_by, oldest_choice}
 use Rattle.pict_core.specs.Run.{Reaches, shown}
@@ -191,35 +191,16 @@ module _ (names : List (List ℕ)) where
   three_ordered (Record (more_vals u (more_vals w (more_vals k no_vals))) ls) f o h = h u w k o.0.1.1.0
   three_ordered (Record (more_vals u (more_vals w (more_vals k (more_vals x xs)))) ls) f o h = tt
 
-  ints_ordered : (v : Val) (f : ℤ → ℤ → Val → Option Effect) → IsOrdered names v → ((a b : ℤ) (k : Val) → IsOrdered names k → EffectOrdered (f a b k)) → EffectOrdered (at_ints v f)
-  ints_ordered v f o h = three_ordered v _ o (λ u w k ok. int_ordered u _ (λ a. int_ordered w _ (λ b. h a b k ok)))
-
   divided_ordered : (b : ℤ) (e : Option Effect) → EffectOrdered e → EffectOrdered (divided_by b e)
   divided_ordered (pos zero) e h = tt
   divided_ordered (pos (suc i)) e h = h
   divided_ordered (negsuc i) e h = h
 
+  ruleset operands_ordered = (two_ordered, three_ordered, int_ordered, char_ordered, bool_ordered, text_ordered, divided_ordered)
+
   effect_ordered : (p : Primitive) (v : Val) → IsOrdered names v → EffectOrdered (effect_of p v)
   effect_ordered primitive.Print v o = text_ordered v _ (λ t. tt)
-  effect_ordered primitive.Printi v o = int_ordered v _ (λ i. tt)
-  effect_ordered primitive.Pr v o = two_ordered v _ o (λ s k ok. text_ordered s _ (λ t. (ok, (tt, tt))))
-  effect_ordered primitive.Add v o = ints_ordered v _ o (λ a b k ok. (ok, tt))
-  effect_ordered primitive.Subtract v o = ints_ordered v _ o (λ a b k ok. (ok, tt))
-  effect_ordered primitive.Multiply v o = ints_ordered v _ o (λ a b k ok. (ok, tt))
-  effect_ordered primitive.Divide v o = ints_ordered v _ o (λ a b k ok. divided_ordered b _ (ok, tt))
-  effect_ordered primitive.Remainder v o = ints_ordered v _ o (λ a b k ok. divided_ordered b _ (ok, tt))
-  effect_ordered primitive.Equal v o = ints_ordered v _ o (λ a b k ok. (ok, tt))
-  effect_ordered primitive.Less v o = ints_ordered v _ o (λ a b k ok. (ok, tt))
-  effect_ordered primitive.AtMost v o = ints_ordered v _ o (λ a b k ok. (ok, tt))
-  effect_ordered primitive.Greater v o = ints_ordered v _ o (λ a b k ok. (ok, tt))
-  effect_ordered primitive.AtLeast v o = ints_ordered v _ o (λ a b k ok. (ok, tt))
-  effect_ordered primitive.Chr v o = two_ordered v _ o (λ u k ok. int_ordered u _ (λ i. (ok, tt)))
-  effect_ordered primitive.Ord v o = two_ordered v _ o (λ u k ok. char_ordered u _ (λ i. (ok, tt)))
-  effect_ordered primitive.Join v o = three_ordered v _ o (λ s t k ok. text_ordered s _ (λ front. text_ordered t _ (λ back. (ok, tt))))
-  effect_ordered primitive.Intstr v o = two_ordered v _ o (λ u k ok. int_ordered u _ (λ i. (ok, tt)))
-  effect_ordered primitive.Size v o = two_ordered v _ o (λ u k ok. text_ordered u _ (λ i. (ok, tt)))
-  effect_ordered primitive.Nth v o = three_ordered v _ o (λ s t k ok. text_ordered s _ (λ bytes. int_ordered t _ (λ place. (ok, tt))))
-  effect_ordered primitive.Not v o = two_ordered v _ o (λ u k ok. bool_ordered u _ (λ i. (ok, tt)))
+  effect_ordered _ v o = search operands_ordered depth 8
 
   -- ---- entries
 

@@ -114,7 +114,7 @@ family_value names (Int (negsuc n)) b h = family_after 1 (decimal (suc n)) (nume
 family_value names (Chan number) b h = family_after 2 (decimal number) (numeral number (omega arith))
 family_value names (Boolean true) b h = refl
 family_value names (Boolean false) b h = refl
-family_value names (PrimitiveVal p) b h = elim p as (λ p. family (primitive_text p) ≡ 3) [ primitive.Print ↦ refl | primitive.Printi ↦ refl | primitive.Pr ↦ refl | primitive.Add ↦ refl | primitive.Subtract ↦ refl | primitive.Multiply ↦ refl | primitive.Divide ↦ refl | primitive.Remainder ↦ refl | primitive.Equal ↦ refl | primitive.Less ↦ refl | primitive.AtMost ↦ refl | primitive.Greater ↦ refl | primitive.AtLeast ↦ refl | primitive.Chr ↦ refl | primitive.Ord ↦ refl | primitive.Join ↦ refl | primitive.Intstr ↦ refl | primitive.Size ↦ refl | primitive.Nth ↦ refl | primitive.Not ↦ refl ]
+family_value names (PrimitiveVal p) b h = elim p as (λ p. family (primitive_text p) ≡ 3) [ primitive.Print ↦ refl | _ ↦ refl ]
 family_value names v b h = absurd b
 
 -- truth values and primitives from their texts
@@ -128,7 +128,7 @@ words = Boolean true ∷ Boolean false ∷ PrimitiveVal primitive.Print ∷ Prim
 primitive_back : (names : List (List ℕ)) (v : Val) → IsBare v → family_of v ≡ 3 → word_in words (value_text names v) ≡ Some v
 primitive_back names (Boolean true) b h = refl
 primitive_back names (Boolean false) b h = refl
-primitive_back names (PrimitiveVal p) b h = elim p as (λ p. word_in words (primitive_text p) ≡ Some (PrimitiveVal p)) [ primitive.Print ↦ refl | primitive.Printi ↦ refl | primitive.Pr ↦ refl | primitive.Add ↦ refl | primitive.Subtract ↦ refl | primitive.Multiply ↦ refl | primitive.Divide ↦ refl | primitive.Remainder ↦ refl | primitive.Equal ↦ refl | primitive.Less ↦ refl | primitive.AtMost ↦ refl | primitive.Greater ↦ refl | primitive.AtLeast ↦ refl | primitive.Chr ↦ refl | primitive.Ord ↦ refl | primitive.Join ↦ refl | primitive.Intstr ↦ refl | primitive.Size ↦ refl | primitive.Nth ↦ refl | primitive.Not ↦ refl ]
+primitive_back names (PrimitiveVal p) b h = elim p as (λ p. word_in words (primitive_text p) ≡ Some (PrimitiveVal p)) [ primitive.Print ↦ refl | _ ↦ refl ]
 primitive_back names (Int (pos n)) b h = absurd (omega arith)
 primitive_back names (Int (negsuc n)) b h = absurd (omega arith)
 primitive_back names (Chan number) b h = absurd (omega arith)
@@ -161,7 +161,7 @@ bare_solid names (Int (negsuc n)) b h = digits_all is_solid digit_solid (decimal
 bare_solid names (Chan number) b h = digits_all is_solid digit_solid (decimal number) (numeral number (omega arith)).1
 bare_solid names (Boolean true) b h = refl
 bare_solid names (Boolean false) b h = refl
-bare_solid names (PrimitiveVal p) b h = elim p as (λ p. all_of is_solid (primitive_text p) ≡ true) [ primitive.Print ↦ refl | primitive.Printi ↦ refl | primitive.Pr ↦ refl | primitive.Add ↦ refl | primitive.Subtract ↦ refl | primitive.Multiply ↦ refl | primitive.Divide ↦ refl | primitive.Remainder ↦ refl | primitive.Equal ↦ refl | primitive.Less ↦ refl | primitive.AtMost ↦ refl | primitive.Greater ↦ refl | primitive.AtLeast ↦ refl | primitive.Chr ↦ refl | primitive.Ord ↦ refl | primitive.Join ↦ refl | primitive.Intstr ↦ refl | primitive.Size ↦ refl | primitive.Nth ↦ refl | primitive.Not ↦ refl ]
+bare_solid names (PrimitiveVal p) b h = elim p as (λ p. all_of is_solid (primitive_text p) ≡ true) [ primitive.Print ↦ refl | _ ↦ refl ]
 bare_solid names v b h = absurd b
 
 bare_unique : (names : List (List ℕ)) (v w : Val) (a c : List ℕ) → IsBare v → IsBare w → IsOrderly names v → IsOrderly names w → Ends a → Ends c → value_text names v ++ a ≡ value_text names w ++ c → (v ≡ w) × (a ≡ c)
@@ -274,7 +274,7 @@ lead_value names (Int (negsuc n)) a h = refl
 lead_value names (Chan number) a h = refl
 lead_value names (Boolean true) a h = refl
 lead_value names (Boolean false) a h = refl
-lead_value names (PrimitiveVal p) a h = elim p as (λ p. lead (primitive_text p ++ a) ≡ 0) [ primitive.Print ↦ refl | primitive.Printi ↦ refl | primitive.Pr ↦ refl | primitive.Add ↦ refl | primitive.Subtract ↦ refl | primitive.Multiply ↦ refl | primitive.Divide ↦ refl | primitive.Remainder ↦ refl | primitive.Equal ↦ refl | primitive.Less ↦ refl | primitive.AtMost ↦ refl | primitive.Greater ↦ refl | primitive.AtLeast ↦ refl | primitive.Chr ↦ refl | primitive.Ord ↦ refl | primitive.Join ↦ refl | primitive.Intstr ↦ refl | primitive.Size ↦ refl | primitive.Nth ↦ refl | primitive.Not ↦ refl ]
+lead_value names (PrimitiveVal p) a h = elim p as (λ p. lead (primitive_text p ++ a) ≡ 0) [ primitive.Print ↦ refl | _ ↦ refl ]
 
 -- ---- labels
 
@@ -306,7 +306,7 @@ bare_worded names (Int (negsuc n)) b h = refl
 bare_worded names (Chan number) b h = digits_all is_word_byte digit_word (decimal number) (numeral number (omega arith)).1
 bare_worded names (Boolean true) b h = refl
 bare_worded names (Boolean false) b h = refl
-bare_worded names (PrimitiveVal p) b h = elim p as (λ p. worded (primitive_text p) ≡ true) [ primitive.Print ↦ refl | primitive.Printi ↦ refl | primitive.Pr ↦ refl | primitive.Add ↦ refl | primitive.Subtract ↦ refl | primitive.Multiply ↦ refl | primitive.Divide ↦ refl | primitive.Remainder ↦ refl | primitive.Equal ↦ refl | primitive.Less ↦ refl | primitive.AtMost ↦ refl | primitive.Greater ↦ refl | primitive.AtLeast ↦ refl | primitive.Chr ↦ refl | primitive.Ord ↦ refl | primitive.Join ↦ refl | primitive.Intstr ↦ refl | primitive.Size ↦ refl | primitive.Nth ↦ refl | primitive.Not ↦ refl ]
+bare_worded names (PrimitiveVal p) b h = elim p as (λ p. worded (primitive_text p) ≡ true) [ primitive.Print ↦ refl | _ ↦ refl ]
 bare_worded names v b h = absurd b
 
 end_no_word : (b : ℕ) → is_end b ≡ true → is_word_byte b ≡ false

@@ -70,25 +70,8 @@ unfolding_type names t w = unfolding_formed names [] t w
 
 pub takes_type : (names : List (List ℕ)) (p : Primitive) → IsTypeIn names [] (erased (takes p))
 takes_type names primitive.Print = tt
-takes_type names primitive.Printi = tt
-takes_type names primitive.Pr = (tt, ((tt, ((tt, (tt, tt)), tt)), tt))
-takes_type names primitive.Add = (tt, ((tt, (tt, (tt, tt))), tt))
-takes_type names primitive.Subtract = (tt, ((tt, (tt, (tt, tt))), tt))
-takes_type names primitive.Multiply = (tt, ((tt, (tt, (tt, tt))), tt))
-takes_type names primitive.Divide = (tt, ((tt, (tt, (tt, tt))), tt))
-takes_type names primitive.Remainder = (tt, ((tt, (tt, (tt, tt))), tt))
-takes_type names primitive.Equal = (tt, ((tt, (tt, (tt, tt))), tt))
-takes_type names primitive.Less = (tt, ((tt, (tt, (tt, tt))), tt))
-takes_type names primitive.AtMost = (tt, ((tt, (tt, (tt, tt))), tt))
-takes_type names primitive.Greater = (tt, ((tt, (tt, (tt, tt))), tt))
-takes_type names primitive.AtLeast = (tt, ((tt, (tt, (tt, tt))), tt))
-takes_type names primitive.Chr = (tt, ((tt, (tt, tt)), tt))
-takes_type names primitive.Ord = (tt, ((tt, (tt, tt)), tt))
-takes_type names primitive.Join = (tt, ((tt, (tt, (tt, tt))), tt))
-takes_type names primitive.Intstr = (tt, ((tt, (tt, tt)), tt))
-takes_type names primitive.Size = (tt, ((tt, (tt, tt)), tt))
-takes_type names primitive.Nth = (tt, ((tt, (tt, (tt, tt))), tt))
-takes_type names primitive.Not = (tt, ((tt, (tt, tt)), tt))
+takes_type names _ = search rules
+takes_type names _ = (tt, ((tt, (tt, (tt, tt))), tt))
 
 -- ---- a canonical form has its type
 

@@ -9,7 +9,7 @@ use Rattle.pict_scope.specs.PrimitiveNames.{primitives, first_named, primitive_n
 use Rattle.pict_scope.proofs.primitives.primitive_named.Goals as goal
 
 by_its_name : (p : Primitive) → primitive_named (primitive_text p) ≡ Some p
-by_its_name p = elim p as (λ p. primitive_named (primitive_text p) ≡ Some p) [ primitive.Print ↦ refl | primitive.Printi ↦ refl | primitive.Pr ↦ refl | primitive.Add ↦ refl | primitive.Subtract ↦ refl | primitive.Multiply ↦ refl | primitive.Divide ↦ refl | primitive.Remainder ↦ refl | primitive.Equal ↦ refl | primitive.Less ↦ refl | primitive.AtMost ↦ refl | primitive.Greater ↦ refl | primitive.AtLeast ↦ refl | primitive.Chr ↦ refl | primitive.Ord ↦ refl | primitive.Join ↦ refl | primitive.Intstr ↦ refl | primitive.Size ↦ refl | primitive.Nth ↦ refl | primitive.Not ↦ refl ]
+by_its_name p = elim p as (λ p. primitive_named (primitive_text p) ≡ Some p) [ primitive.Print ↦ refl | _ ↦ refl ]
 
 by_no_other : (ps : List Primitive) (text : List ℕ) → ((p : Primitive) → text ≢ primitive_text p) → first_named ps text ≡ None
 by_no_other [] text other = refl
