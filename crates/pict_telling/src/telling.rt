@@ -1,10 +1,13 @@
 // What is told of a file.
 
-ghost use Rattle.std.specs.Prelude.{◌≡◌, ◌≤◌, [], IfOk, IfSome, length};
+ghost use Rattle.std.specs.Prelude.{◌≡◌, ◌≤◌, [], Err, IfErr, IfOk, IfSome, length};
 ghost use Rattle.pict_syntax.specs.declared.limits.TheConstants.{TEXT_LIMIT};
 ghost use Rattle.pict_core.specs.Plain.{plain_core};
 ghost use Rattle.pict_core.specs.Closed.{IsClosed};
 ghost use Rattle.pict_view.specs.Right.{RunsRight};
+ghost use Rattle.pict_outside.specs.Counts.{Rose};
+ghost use Rattle.pict_front.specs.Answers.{IsPlaced, MissedInFront, fronted, gives_front};
+ghost use Rattle.pict_front.specs.Front.{IsFront};
 ghost use Rattle.pict_gather.specs.Entry.{lent};
 ghost use Rattle.pict_report.specs.Reports.{AreShort};
 ghost use Rattle.pict_telling.specs.Behind.{prelude_for};
@@ -40,7 +43,8 @@ pub fn prelude_unless(bare: bool) -> Option<&'static [u8]>
     if bare { None } else { Some(prelude()) }
 }
 
-/// What the phases say of a file, behind the prelude unless it is `bare`. `sources` gains the texts that were read.
+/// What the phases say of a file, behind the prelude unless it is `bare`. `sources` gains the texts that were read. `Missing`, and
+/// `I1` of an import, come only where the shelf's count of misses rose, `Failed` only where its count of faults rose.
 pub fn phases<S: Shelf>(
     alloc: Global,
     bare: bool,
@@ -49,6 +53,11 @@ pub fn phases<S: Shelf>(
     sources: &mut Sources,
 ) -> Result<Front, FrontError>
     requires empty { sources.old.list.items ≡ [] }
+    ensures answer { IfSome (fronted result sources.new) (IsFront (gives_front result (S.held shelf.old)) (prelude_for bare) file.now) }
+    ensures placed { IfErr result (IsPlaced sources.new.list.items) }
+    ensures missed { result ≡ Err FrontError.Missing → Rose (S.misses shelf.old) (S.misses shelf.new) }
+    ensures failed { result ≡ Err FrontError.Failed → Rose (S.faults shelf.old) (S.faults shelf.new) }
+    ensures absent { IfErr result (MissedInFront (S.misses shelf.old) (S.misses shelf.new)) }
     ensures short { IfOk result (λ front. AreShort sources.new.list.items) }
     ensures closed { IfOk result (λ front. IsClosed (plain_core front.core)) }
     ensures right { IfOk result (λ front. RunsRight (plain_core front.core) 10000) }
