@@ -1,3 +1,4 @@
 pub mod Delivering
 pub mod Telling
 pub mod Stepping
+pub mod Filling

@@ -4,10 +4,12 @@ use Rattle.std.proofs.lemmas.List.{length-take-le}
 use Rattle.std.specs.Prelude.{Vec}
 use Rattle.std.specs.declared.alloc.Global.{Global}
 use Rattle.pict_syntax.specs.declared.source.Sources.{Sources}
+use Rattle.pict_outside.specs.Counts.{Rose}
 use Rattle.pict_outside.specs.Texts.{Texts, texts_of}
 use Rattle.pict_gather.specs.Fetching.{MayGive}
 use Rattle.pict_gather.specs.Gathered.{EarlyEnd, refused}
 use Rattle.pict_gather.specs.Phases.{Phase, accepts, refuses}
+use Rattle.pict_front.specs.declared.accepted.Front.{Front}
 use Rattle.pict_front.specs.declared.refusal.FrontError.{FrontError}
 use Rattle.pict_front.specs.declared.refusal.FrontError.TheVariants as error
 use Rattle.pict_front.specs.Answers.{fronted, gives_front}
@@ -19,6 +21,7 @@ use Rattle.pict_top.specs.declared.status.Status.TheVariants as status
 use Rattle.pict_web.specs.Asked.{file}
 use Rattle.pict_web.specs.Told.{Telling, status_for, Tells, IsNotAccepted, IsRefused, IsCut, Says, SaysNothing, SaysOf, IsTold, Answers, IsCopied}
 use Rattle.pict_web.specs.Reasoned.{anything, IsAbout}
+use Rattle.pict_web.proofs.Filling.{never_fails}
 
 -- what the phases say, over the texts and behind the prelude that they were called with
 pub fronted_for : (bare : Bool) (held pairs : List (List ℕ × List ℕ)) (prelude : Option (List ℕ)) (answer : Option (Phase EarlyEnd Accepted))
@@ -50,12 +53,12 @@ tells Of bare held pairs prelude a told e f h of = record {
 pub refused_says : (bare : Bool) (held pairs : List (List ℕ × List ℕ)) (prelude : Option (List ℕ)) (e : FrontError) (sources : Sources)
     → held ≡ pairs → prelude ≡ prelude_for bare
     → IfSome (fronted (Err e) sources) (IsFront (gives_front (Err e) (Some (texts_of held))) prelude file)
-    → SaysNothing bare (texts_of pairs) (status_for e)
-refused_says bare held pairs prelude (error.Named code span) sources e f h =
+    → (Err {A = Front} e ≡ Err error.Failed → Rose 0 0) → SaysNothing bare (texts_of pairs) (status_for e)
+refused_says bare held pairs prelude (error.Named code span) sources e f h fails =
     is_refused bare held pairs prelude (Some (refuses (refused sources.list.items code span))) e f tt h
-refused_says bare held pairs prelude error.Missing sources e f h = is_refused bare held pairs prelude None e f tt h
-refused_says bare held pairs prelude error.Failed sources e f h = tt
-refused_says bare held pairs prelude error.Memory sources e f h = tt
+refused_says bare held pairs prelude error.Missing sources e f h fails = is_refused bare held pairs prelude None e f tt h
+refused_says bare held pairs prelude error.Failed sources e f h fails = absurd (never_fails (fails refl))
+refused_says bare held pairs prelude error.Memory sources e f h fails = tt
 
 pub about_refused : (bare : Bool) (texts : Texts) (e : FrontError) → SaysNothing bare texts (status_for e) → IsAbout bare texts (status_for e)
 about_refused bare texts (error.Named code span) h = h
@@ -94,7 +97,7 @@ says_nothing Of bare texts room status.Refused h = (refl, h)
 says_nothing Of bare texts room status.Usage h = absurd h
 says_nothing Of bare texts room status.FuelSpent h = absurd h
 says_nothing Of bare texts room status.Trap h = absurd h
-says_nothing Of bare texts room status.ReadFault h = refl
+says_nothing Of bare texts room status.ReadFault h = absurd h
 says_nothing Of bare texts room status.Memory h = refl
 says_nothing Of bare texts room status.Missing h = absurd h
 says_nothing Of bare texts room status.Misshapen h = absurd h

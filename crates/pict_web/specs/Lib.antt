@@ -1,4 +1,5 @@
 pub mod Asked
+pub mod Held
 pub mod Delivered
 pub mod Told
 pub mod Stepped

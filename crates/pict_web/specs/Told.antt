@@ -59,14 +59,12 @@ abbrev pub Says : Telling → Bool → Texts → ℕ → Status → List ℕ →
 Says Of bare texts room status.Done told = Tells Of bare texts told
 Says Of bare texts room status.WriteFault told = Begins Of bare texts room told
 Says Of bare texts room status.Refused told = (told ≡ []) × IsRefused bare texts
-Says Of bare texts room status.ReadFault told = told ≡ []
 Says Of bare texts room status.Memory told = told ≡ []
 Says Of bare texts room _ told = ⊥
 
 -- the status of a call that tells nothing, whatever room there is
 abbrev pub SaysNothing : Bool → Texts → Status → Type 0
 SaysNothing bare texts status.Refused = IsRefused bare texts
-SaysNothing bare texts status.ReadFault = Unit {0}
 SaysNothing bare texts status.Memory = Unit {0}
 SaysNothing bare texts _ = ⊥
 

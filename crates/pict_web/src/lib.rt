@@ -3,6 +3,7 @@
 #![tactic(auto)]
 
 mod handing;
+mod held;
 mod orders;
 mod reasons;
 mod steps;
@@ -17,9 +18,10 @@ ghost use Rattle.pict_words.specs.Plain.{texts_of};
 ghost use Rattle.pict_web.specs.Asked.{words_for, texts_cut};
 ghost use Rattle.pict_web.specs.Delivered.{IsDelivered, IsInBuffers, IsAnswered};
 
+use held::{Bundle, Page};
 use itoa::Buffer;
 pub use orders::pict_web_orders;
-use pict_outside::{Entry, MemoryShelf, MemorySink};
+use pict_outside::Entry;
 use pict_top::{Status, pict};
 pub use reasons::pict_web_reasons;
 use std::alloc::{AllocError, Global};
@@ -41,12 +43,12 @@ pub struct Cut {
     pub text: u64,
 }
 
-/// How the command ended, and the sinks that it wrote on.
+/// How the command ended, and the pages that it wrote on.
 #[derive(Drop)]
 struct Ended {
     status: Status,
-    printed: MemorySink,
-    reported: MemorySink,
+    printed: Page,
+    reported: Page,
 }
 
 /// Runs (0), traces (1), checks (2), picks (3), writes what is picked (4), runs on sites (5) or lists the code of (any other `command`)
@@ -54,7 +56,8 @@ struct Ended {
 /// the names and the texts that there are, one name and one text behind the other, and `cuts` how long each is; the first of a name
 /// counts. What is written on the output goes to the beginning of `out`, what is reported to that of `err`. `fuel` counts where
 /// the command runs the text, `seed` where it picks or runs on sites, and `sites` where it runs on as many. Where the output has more
-/// bytes than `out`, the status is that of a sink that failed, and `out` has a beginning of them.
+/// bytes than `out`, the status is that of a sink that failed, and `out` has a beginning of them; that status comes only where `out` or
+/// `err` is full. No status says that a reading failed.
 #[tactic(auto, using(crate::proofs::Delivering::answered))]
 #[unsafe(no_mangle)]
 pub extern "C" fn pict_web_call(
@@ -141,7 +144,7 @@ fn call(
     Ok(ended.status)
 }
 
-/// The command with its words over the texts, on two sinks of these capacities.
+/// The command with its words over the texts, on two pages with so much room.
 fn asked(
     alloc: Global,
     command: u8,
@@ -155,7 +158,7 @@ fn asked(
     report_room: u64,
 ) -> Result<Ended, AllocError>
     ensures { IfOk result (λ ended. IsDelivered (words_for command bare (decimal fuel) (decimal seed) (decimal sites))
-        (held_texts (texts_cut cuts.now texts.now)) ended.status ended.printed.taken ended.reported.taken) }
+        (held_texts (texts_cut cuts.now texts.now)) ended.status room ended.printed.taken report_room ended.reported.taken) }
 {
     let mut digits = Buffer::new();
     let mut seed_digits = Buffer::new();
@@ -238,7 +241,7 @@ fn cut_off(bytes: &[u8], count: u64) -> (&[u8], &[u8])
     }
 }
 
-/// The top call with these words over these texts, on two sinks of these capacities, whose writes fail nowhere else.
+/// The top call with these words over these texts, on two pages with so much room.
 fn over(
     alloc: Global,
     words: &[&str],
@@ -247,12 +250,19 @@ fn over(
     report_room: u64,
 ) -> Result<Ended, AllocError>
     ensures { IfOk result (λ ended. IsDelivered (texts_of words.now) (held_texts (pairs_of entries.items))
-        ended.status ended.printed.taken ended.reported.taken) }
+        ended.status room ended.printed.taken report_room ended.reported.taken) }
 {
-    let mut shelf = MemoryShelf::new(entries, Vec::new(alloc));
-    let mut printed = MemorySink::new(alloc, room, Vec::new(alloc))?;
-    let mut reported = MemorySink::new(alloc, report_room, Vec::new(alloc))?;
+    let mut shelf = Bundle::new(alloc, entries);
+    let mut printed = Page::new(alloc, room)?;
+    let mut reported = Page::new(alloc, report_room)?;
     let status = pict(alloc, words, &mut shelf, &mut printed, &mut reported);
+    // (so far as the call says a sink may become any other)
+    if !printed.has_room(room) {
+        return Err(AllocError);
+    }
+    if !reported.has_room(report_room) {
+        return Err(AllocError);
+    }
     Ok(Ended {
         status,
         printed,

@@ -12,12 +12,13 @@ ghost use Rattle.pict_web.specs.Told.{Answers, SaysOf, IsTold};
 ghost use Rattle.pict_web.specs.Ordered.{WayOf, orders_of as orders_are};
 
 use crate::handing::{hand_over, status_of};
+use crate::held::Bundle;
 use crate::{Cut, Lengths, entries_of};
 use pict_core::Core;
 use pict_front::{Front, front};
 use pict_orders::{Exploration, explore};
 use pict_outcomes::{dot, edges, outcomes, told, vertex_of};
-use pict_outside::{Entry, MemoryShelf};
+use pict_outside::Entry;
 use pict_syntax::{Names, Sources};
 use pict_telling::prelude_unless;
 use pict_top::Status;
@@ -86,7 +87,7 @@ fn told_over(
 ) -> Result<Vec<u8>, Status>
     ensures { SaysOf (orders_are what) bare (held_texts (pairs_of entries.items)) result }
 {
-    let mut shelf = MemoryShelf::new(entries, Vec::new(alloc));
+    let mut shelf = Bundle::new(alloc, entries);
     let mut sources = Sources::new(alloc);
     let prelude = prelude_unless(bare);
     match front(alloc, prelude, "main.pi", &mut shelf, &mut sources) {

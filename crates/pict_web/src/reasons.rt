@@ -7,9 +7,10 @@ ghost use Rattle.pict_web.specs.Asked.{texts_cut};
 ghost use Rattle.pict_web.specs.Reasoned.{IsAbout, IsReasoned};
 
 use crate::handing::{hand_over, status_of};
+use crate::held::Bundle;
 use crate::{Cut, Lengths, entries_of};
 use pict_front::{FrontError, front};
-use pict_outside::{Entry, MemoryShelf};
+use pict_outside::Entry;
 use pict_syntax::Sources;
 use pict_telling::{prelude_unless, told_at_end, told_of_refusal};
 use pict_top::Status;
@@ -24,8 +25,8 @@ struct Reasons {
 
 /// Writes what is told of the text `main.pi` to the beginning of `out`, or as much of it as fits: where it is refused, what is told
 /// below the report, and the answer is 1; where it is accepted, who waits in vain at the end of its run, in which the oldest ready
-/// process acts first, or nothing where nobody does, and the answer is 0. It is 1 also where the text isn't there, 5 for a fault of
-/// reading, and 7 for want of memory. `texts` and `cuts` are those of `pict_web_call`. Nothing is reported.
+/// process acts first, or nothing where nobody does, and the answer is 0. It is 1 also where the text isn't there, and 7 for want
+/// of memory. `texts` and `cuts` are those of `pict_web_call`. Nothing is reported.
 #[unsafe(no_mangle)]
 pub extern "C" fn pict_web_reasons(
     alloc: Global,
@@ -67,7 +68,7 @@ fn reasons_in(alloc: Global, bare: bool, texts: &[u8], cuts: &[Cut]) -> Result<R
 fn reasons_of(alloc: Global, bare: bool, entries: Vec<Entry>) -> Result<Reasons, AllocError>
     ensures { IfOk result (λ reasons. IsAbout bare (held_texts (pairs_of entries.items)) reasons.status) }
 {
-    let mut shelf = MemoryShelf::new(entries, Vec::new(alloc));
+    let mut shelf = Bundle::new(alloc, entries);
     let mut sources = Sources::new(alloc);
     let prelude = prelude_unless(bare);
     match front(alloc, prelude, "main.pi", &mut shelf, &mut sources) {

@@ -13,9 +13,10 @@ ghost use Rattle.pict_web.specs.Told.{Answers, SaysOf, IsTold};
 ghost use Rattle.pict_web.specs.Stepped.{StepsOf, steps_of as lines_are};
 
 use crate::handing::{hand_over, status_of};
+use crate::held::Bundle;
 use crate::{Cut, Lengths, entries_of};
 use pict_front::{Front, front};
-use pict_outside::{Entry, MemoryShelf};
+use pict_outside::Entry;
 use pict_stepper::{follow, lines};
 use pict_syntax::Sources;
 use pict_telling::prelude_unless;
@@ -26,8 +27,8 @@ use std::alloc::{AllocError, Global};
 const MOST: usize = 1000;
 
 /// Writes the lines that tell the first 1,000 steps of the run of the text `main.pi` to the beginning of `out`, and answers 0; or 1
-/// where it is refused or isn't there, 5 for a fault of reading, 6 where the lines are longer than `out`, which has a beginning of
-/// them, and 7 for want of memory. `texts` and `cuts` are those of `pict_web_call`. Nothing is reported.
+/// where it is refused or isn't there, 6 where the lines are longer than `out`, which has a beginning of them, and 7 for want of
+/// memory. `texts` and `cuts` are those of `pict_web_call`. Nothing is reported.
 #[unsafe(no_mangle)]
 pub extern "C" fn pict_web_steps(
     alloc: Global,
@@ -68,7 +69,7 @@ fn told(alloc: Global, bare: bool, texts: &[u8], cuts: &[Cut]) -> Result<Vec<u8>
 fn told_of(alloc: Global, bare: bool, entries: Vec<Entry>) -> Result<Vec<u8>, Status>
     ensures { SaysOf lines_are bare (held_texts (pairs_of entries.items)) result }
 {
-    let mut shelf = MemoryShelf::new(entries, Vec::new(alloc));
+    let mut shelf = Bundle::new(alloc, entries);
     let mut sources = Sources::new(alloc);
     let prelude = prelude_unless(bare);
     match front(alloc, prelude, "main.pi", &mut shelf, &mut sources) {

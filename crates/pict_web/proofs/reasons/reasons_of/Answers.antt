@@ -27,4 +27,4 @@ returns c =
     subst (IsAbout c.args.bare (texts_of (pairs_of c.args.entries.items))) (sym c.status_of.ensures)
     (about_refused c.args.bare (texts_of (pairs_of c.args.entries.items)) c.in-Err.error
     (refused_says c.args.bare c.new-shelf.result.pairs (pairs_of c.args.entries.items) _ c.in-Err.error _
-    (ap (λ s. s.pairs) c.new-shelf.ensures) c.prelude_unless-prelude.ensures.is c.in-Err.ensures.answer))
+    (ap (λ s. s.pairs) c.new-shelf.ensures) c.prelude_unless-prelude.ensures.is c.in-Err.ensures.answer c.in-Err.ensures.failed))
