@@ -159,7 +159,8 @@ fn output_is_wrong(code: &[Node], store: &mut Store, kept: Kept) -> bool
 fn input_is_wrong(code: &[Node], store: &mut Store, chan: &Operand, pattern: &CodePat) -> bool
     requires code { IsCode (map plain_node code.now) }
     requires may { MayAsk (core_in code.now) store.old }
-    requires acts { (replicated : Bool) × (part : ℕ) × ActsBy (core_in code.now) store.old (input_op replicated (plain_val chan.now) (plain_pat pattern.now) part) }
+    requires acts { (replicated : Bool) × (part : ℕ)
+        × ActsBy (core_in code.now) store.old (input_op replicated (plain_val chan.now) (plain_pat pattern.now) part) }
     ensures wrong { result ≡ is_wrong (core_in code.now) store.old }
     ensures asks { OnlyAsks store.old store.new }
 {

@@ -131,7 +131,8 @@ fn take_receiver<'a>(
     labels: &[Name],
     bound: u64,
 ) -> Result<Box<Receiver>, DecodeError>
-    ensures { Gives {Y = (Val × Pat) × List ℕ} (λ x. ((plain_val x.value.chan, plain_pat x.value.pattern), rest.new.now)) result (receiver_at labels.now bound rest.old.now) }
+    ensures { Gives {Y = (Val × Pat) × List ℕ} (λ x. ((plain_val x.value.chan, plain_pat x.value.pattern), rest.new.now)) result
+        (receiver_at labels.now bound rest.old.now) }
 {
     let (chan, behind) = read_value(alloc, *rest, labels, bound, NESTING_LIMIT)?;
     let (pattern, behind) = read_pattern(alloc, behind, labels, NESTING_LIMIT)?;

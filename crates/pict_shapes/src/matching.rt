@@ -90,7 +90,8 @@ fn fits_fields(
     requires over { LabelledOver (length values.now) 0 (labelled_of (map plain_field fields.now)) }
     requires distinct { IsDistinct (labelled_of (map plain_field fields.now)) }
     requires pairs { ArePairs heap.now values.now }
-    ensures { result ≡ is_found (match_labelled (unleveled_labelled (labelled_pats_of (map plain_pat_field patterns.now))) (fields_in heap.now values.now fields.now)) }
+    ensures { result ≡ is_found (match_labelled (unleveled_labelled (labelled_pats_of (map plain_pat_field patterns.now)))
+        (fields_in heap.now values.now fields.now)) }
 {
     let mut from = 0;
     for part in patterns {

@@ -114,7 +114,8 @@ fn judge_text<O: Sink, E: Sink>(
     requires closed { IsClosed (plain_core front.core) }
     ensures meets { (held : Option Texts) → MayGive held name.now (text found.items) → Meets (OwesReplay (MayGive held) name.now (plain_front front)) (λ o. ⊥) ⊥
         (change_of O.taken O.faults out.old out.new) (change_of E.taken E.faults err.old err.new) result }
-    ensures each { (held : Option Texts) → MayGive held name.now (text found.items) → Meets (OwesReplay (MayGiveText held) name.now (plain_front front)) (λ o. ⊥) ⊥
+    ensures each { (held : Option Texts) → MayGive held name.now (text found.items)
+        → Meets (OwesReplay (MayGiveText held) name.now (plain_front front)) (λ o. ⊥) ⊥
         (change_of O.taken O.faults out.old out.new) (change_of E.taken E.faults err.old err.new) result }
     ensures faults_stay { O.faults out.old ≤ O.faults out.new }
     ensures err_faults_stay { E.faults err.old ≤ E.faults err.new }
@@ -137,7 +138,8 @@ fn judge_text<O: Sink, E: Sink>(
 fn judge(alloc: Global, core: &Core, file: &ReplayFile) -> Result<Verdict, AllocError>
     requires closed { IsClosed (plain_core core.now) }
     requires right { NoFreeRunIsWrong (plain_core core.now) }
-    ensures yes { result ≡ Ok Verdict.Yes → IsVerdict (plain_core core.now) (map place_of file.now.choices.items) (map plain_line file.now.expected.items) Verdict.Yes }
+    ensures yes { result ≡ Ok Verdict.Yes
+        → IsVerdict (plain_core core.now) (map place_of file.now.choices.items) (map plain_line file.now.expected.items) Verdict.Yes }
     ensures no { (number : ℕ) → result ≡ Ok (Verdict.No number)
         → IsVerdict (plain_core core.now) (map place_of file.now.choices.items) (map plain_line file.now.expected.items) (Verdict.No number) }
 {
