@@ -31,6 +31,7 @@ use std::alloc::AllocError;
 /// Whatever the answer, the work of the queues rises by at most the step's cost, blocks are made only where fewer are free than
 /// the step needs, and the heap has at most the texts and records more that the step needs. A plain meeting of a message and an
 /// input takes no memory.
+#[inline(always)]
 pub fn act(
     code: &[Node],
     constants: &[Option<Word>],
@@ -54,6 +55,7 @@ pub fn act(
 }
 
 // The same of a node with this instruction and this constant, whose levels have the values of its frame.
+#[inline(always)]
 fn act_by(
     code: &[Node],
     store: &mut Store,

@@ -77,7 +77,7 @@ fn reader_as_wide(code: &[Node], reader: usize, frame: &[u32]) -> bool
 
 // The step of an output of two words on a channel where an input waits. An error, which is want of memory, changes nothing but
 // room, spare blocks and work.
-#[inline(never)]
+#[inline(always)]
 fn send_to_reader(
     code: &[Node],
     store: &mut Store,
