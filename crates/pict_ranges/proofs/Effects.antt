@@ -9,7 +9,7 @@ use Rattle.std.proofs.lemmas.Nat.{mod_below}
 use Rattle.pict_syntax.specs.declared.primitive.Primitive.{Primitive}
 use Rattle.pict_syntax.specs.declared.primitive.Primitive.TheVariants as primitive
 use Rattle.pict_core.specs.Term.{Val, Int, Char, Boolean, Text, Record, no_vals, more_vals}
-use Rattle.pict_core.specs.Primitives.{Effect, Leaves, Nothing, Answer, Trap, at_int, at_char, at_bool, at_text, at_two, at_three, at_ints, divided_by, byte_at, effect_of}
+use Rattle.pict_core.specs.Primitives.{Effect, Leaves, Nothing, Answer, Trap, at_int, at_char, at_bool, at_text, at_two, at_three, divided_by, byte_at, effect_of}
 use Rattle.pict_object.proofs.Lists.{all_both}
 use Rattle.pict_trace.specs.Readable.{AreBytes}
 use Rattle.pict_trace.proofs.Numbers.{signed_ascii}
@@ -105,29 +105,16 @@ three_is : (v : Val) (f : Val → Val → Val → Option Effect) → IsMachineMe
 three_is (Record (more_vals u (more_vals w (more_vals k no_vals))) ls) f o h = h u w k o.0.0 o.0.1.0 o.0.1.1.0
 three_is _ f o h = tt
 
-ints_is : (v : Val) (f : ℤ → ℤ → Val → Option Effect) → IsMachineMessage v → ((a b : ℤ) (k : Val) → FitsSigned w64 a → FitsSigned w64 b → IsMachineValue k → EffectIs (f a b k)) → EffectIs (at_ints v f)
-ints_is v f o h = three_is v _ o (λ u w k ou ow ok. int_is u _ ou (λ a fa. int_is w _ ow (λ b fb. h a b k fa fb ok)))
-
 divided_is : (b : ℤ) (e : Option Effect) → (0 < unsigned_abs b → EffectIs e) → EffectIs (divided_by b e)
 divided_is (pos zero) e h = (tt, tt)
 divided_is (pos (suc i)) e h = h (omega arith)
 divided_is (negsuc i) e h = h (omega arith)
 
+ruleset operands_are = (two_is, three_is, int_is, char_is, bool_is, text_is, divided_is)
+
+ruleset answers_are = (SFits-int_wrap, rest_fits, code_below, byte_fits, bytes_joined, decimal_bytes, natural_fits, nth_fits)
+
 pub effect_is : (p : Primitive) (v : Val) → IsMachineMessage v → EffectIs (effect_of p v)
 effect_is primitive.Print v o = message_text v _ o (λ t bytes. (bytes, tt))
 effect_is primitive.Printi v o = message_int v _ o (λ i fits. (decimal_bytes i fits, tt))
-effect_is primitive.Pr v o = two_is v _ o (λ s k os ok. text_is s _ os (λ t bytes few. (bytes, (ok, (tt, tt)))))
-effect_is primitive.Add v o = ints_is v _ o (λ a b k fa fb ok. (tt, (ok, SFits-int_wrap w64 _)))
-effect_is primitive.Subtract v o = ints_is v _ o (λ a b k fa fb ok. (tt, (ok, SFits-int_wrap w64 _)))
-effect_is primitive.Multiply v o = ints_is v _ o (λ a b k fa fb ok. (tt, (ok, SFits-int_wrap w64 _)))
-effect_is primitive.Divide v o = ints_is v _ o (λ a b k fa fb ok. divided_is b _ (λ some. (tt, (ok, SFits-int_wrap w64 _))))
-effect_is primitive.Remainder v o = ints_is v _ o (λ a b k fa fb ok. divided_is b _ (λ some. (tt, (ok, rest_fits a b fb some))))
-effect_is primitive.Chr v o = two_is v _ o (λ n k on ok. int_is n _ on (λ a fa. (tt, (ok, code_below a))))
-effect_is primitive.Ord v o = two_is v _ o (λ c k oc ok. char_is c _ oc (λ byte few. (tt, (ok, byte_fits byte few))))
-effect_is primitive.Join v o =
-    three_is v _ o (λ s t k os ot ok. text_is s _ os (λ front fb ff. text_is t _ ot (λ back bb bf. (tt, (ok, bytes_joined front back fb bb)))))
-effect_is primitive.Intstr v o = two_is v _ o (λ n k on ok. int_is n _ on (λ a fa. (tt, (ok, decimal_bytes a fa))))
-effect_is primitive.Size v o = two_is v _ o (λ s k os ok. text_is s _ os (λ bytes are few. (tt, (ok, natural_fits (length bytes) few))))
-effect_is primitive.Nth v o = three_is v _ o (λ s n k os on ok. text_is s _ os (λ bytes are few. int_is n _ on (λ index fi. (tt, (ok, nth_fits bytes index are)))))
-effect_is primitive.Not v o = two_is v _ o (λ b k ob ok. bool_is b _ (λ c. (tt, (ok, tt))))
-effect_is _ v o = ints_is v _ o (λ a b k fa fb ok. (tt, (ok, tt)))
+effect_is _ v o = search (operands_are, answers_are) depth 9

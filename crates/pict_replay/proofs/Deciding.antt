@@ -1,8 +1,9 @@
 -- Labels are the same or not.
-use Rattle.std.proofs.Common.{ℕ, ◌≡◌, ◌≢◌, ◌⊎◌, inl, inr, ℤ, pos, negsuc, Bool, true, false, List, [], ◌∷◌, refl, ap, ◌∙◌}
+use Rattle.std.proofs.Common.{ℕ, ◌≡◌, ◌≢◌, ◌⊎◌, inl, inr, ℤ, pos, negsuc, Bool, true, false, List, [], ◌∷◌, Some, slice_get, refl, sym, ap, ◌∙◌}
 use Rattle.std.proofs.lemmas.Bool.Decides.{eqb_tells}
 use Rattle.pict_syntax.specs.declared.primitive.Primitive.{Primitive}
 use Rattle.pict_syntax.specs.declared.primitive.Primitive.TheVariants as primitive
+use Rattle.pict_heap.specs.Packed.{primitives, primitive_number}
 use Rattle.pict_core.specs.Term.{Val, Vals, Labelled, Var, Chan, Int, Char, Boolean, Text, PrimitiveVal, Record, no_vals, more_vals, no_labelled, more_labelled}
 use Rattle.pict_core.specs.Step.{Label, Quiet, Comm, Print}
 use Rattle.pict_core.proofs.Replacing.{two}
@@ -34,28 +35,16 @@ texts (x ∷ xs) (y ∷ ys) = elim (nats x y) [
   | inr n ↦ inr (λ f. n cc)
 ]
 
-primitives : (p q : Primitive) → Decided p q
-primitives primitive.Print primitive.Print = inl refl
-primitives primitive.Printi primitive.Printi = inl refl
-primitives primitive.Pr primitive.Pr = inl refl
-primitives primitive.Add primitive.Add = inl refl
-primitives primitive.Subtract primitive.Subtract = inl refl
-primitives primitive.Multiply primitive.Multiply = inl refl
-primitives primitive.Divide primitive.Divide = inl refl
-primitives primitive.Remainder primitive.Remainder = inl refl
-primitives primitive.Equal primitive.Equal = inl refl
-primitives primitive.Less primitive.Less = inl refl
-primitives primitive.AtMost primitive.AtMost = inl refl
-primitives primitive.Greater primitive.Greater = inl refl
-primitives primitive.AtLeast primitive.AtLeast = inl refl
-primitives primitive.Chr primitive.Chr = inl refl
-primitives primitive.Ord primitive.Ord = inl refl
-primitives primitive.Join primitive.Join = inl refl
-primitives primitive.Intstr primitive.Intstr = inl refl
-primitives primitive.Size primitive.Size = inl refl
-primitives primitive.Nth primitive.Nth = inl refl
-primitives primitive.Not primitive.Not = inl refl
-primitives p q = inr (λ e. cc)
+-- a primitive is found at its number
+pub primitive_back : (p : Primitive) → slice_get primitives (primitive_number p) ≡ Some p
+primitive_back primitive.Print = refl
+primitive_back _ = refl
+
+one_number : (p q : Primitive) → primitive_number p ≡ primitive_number q → p ≡ q
+one_number p q e = let same : Some p ≡ Some q = sym (primitive_back p) ∙ ap (λ n. slice_get primitives n) e ∙ primitive_back q in cc
+
+performers : (p q : Primitive) → Decided p q
+performers p q = elim (nats (primitive_number p) (primitive_number q)) [ inl e ↦ inl (one_number p q e) | inr n ↦ inr (λ e. n (ap primitive_number e)) ]
 
 mutual
   values : (v w : Val) → Decided v w
@@ -65,7 +54,7 @@ mutual
   values (Char a) (Char b) = elim (nats a b) [ inl e ↦ inl (ap Char e) | inr n ↦ inr (λ e. n cc) ]
   values (Boolean a) (Boolean b) = elim (bools a b) [ inl e ↦ inl (ap Boolean e) | inr n ↦ inr (λ e. n cc) ]
   values (Text a) (Text b) = elim (texts a b) [ inl e ↦ inl (ap Text e) | inr n ↦ inr (λ e. n cc) ]
-  values (PrimitiveVal a) (PrimitiveVal b) = elim (primitives a b) [ inl e ↦ inl (ap PrimitiveVal e) | inr n ↦ inr (λ e. n cc) ]
+  values (PrimitiveVal a) (PrimitiveVal b) = elim (performers a b) [ inl e ↦ inl (ap PrimitiveVal e) | inr n ↦ inr (λ e. n cc) ]
   values (Record vs ls) (Record ws ks) = elim (all_values vs ws) [
     | inl e ↦ elim (labelled_values ls ks) [ inl f ↦ inl (two Record e f) | inr n ↦ inr (λ f. n cc) ]
     | inr n ↦ inr (λ f. n cc)

@@ -1,12 +1,13 @@
 -- Looking for values, and for lines, among finitely many.
-use Rattle.std.proofs.Common.{◌≡◌, ℕ, ℤ, pos, negsuc, zero, suc, ◌≤◌, ◌<◌, ◌^◌, ◌⊎◌, inl, inr, true, false, List, [], ◌∷◌, length, refl, sym, subst, arith, FitsSigned}
+use Rattle.std.proofs.Common.{◌≡◌, ℕ, ℤ, pos, negsuc, zero, suc, ◌≤◌, ◌<◌, ◌^◌, ◌⊎◌, inl, inr, true, false, List, [], ◌∷◌, length, Some, slice_get, refl, sym, subst, arith, FitsSigned}
 use Rattle.std.specs.Int.{w64}
 use Rattle.std.specs.List.{AllByRecursion}
 use Rattle.std.proofs.lemmas.Bool.{cases_lt}
 use Rattle.pict_syntax.specs.declared.primitive.Primitive.{Primitive}
-use Rattle.pict_syntax.specs.declared.primitive.Primitive.TheVariants as primitive
+use Rattle.pict_heap.specs.Packed.{primitives, primitive_number}
 use Rattle.pict_core.specs.Term.{Val, Vals, Labelled, Var, Chan, Int, Char, Boolean, Text, PrimitiveVal, Record, no_vals, more_vals, no_labelled, more_labelled}
 use Rattle.pict_replay.proofs.SomeReading.{below}
+use Rattle.pict_replay.proofs.Deciding.{primitive_back}
 
 -- ---- what can be decided
 
@@ -172,30 +173,13 @@ any_or_not Q q (p ∷ ps) = elim (q p) [
   | inr never ↦ elim (any_or_not Q q ps) [ inl x ↦ inl x | inr none ↦ inr (λ h. elim h [ inl a ↦ never a | inr b ↦ none b ]) ]
 ]
 
-abbrev primitives : List Primitive
-primitives = primitive.Print ∷ primitive.Printi ∷ primitive.Pr ∷ primitive.Add ∷ primitive.Subtract ∷ primitive.Multiply ∷ primitive.Divide ∷ primitive.Remainder ∷ primitive.Equal ∷ primitive.Less ∷ primitive.AtMost ∷ primitive.Greater ∷ primitive.AtLeast ∷ primitive.Chr ∷ primitive.Ord ∷ primitive.Join ∷ primitive.Intstr ∷ primitive.Size ∷ primitive.Nth ∷ primitive.Not ∷ []
+of_any : (Q : Primitive → Type 0) (ps : List Primitive) (i : ℕ) (p : Primitive) → slice_get ps i ≡ Some p → Q p → AnyOf Q ps
+of_any Q [] i p e h = cc
+of_any Q (x ∷ ps) zero p e h = let same : p ≡ x = cc in inl (subst Q same h)
+of_any Q (x ∷ ps) (suc i) p e h = inr (of_any Q ps i p e h)
 
 each_of : (Q : Primitive → Type 0) (p : Primitive) → Q p → AnyOf Q primitives
-each_of Q primitive.Print h = inl h
-each_of Q primitive.Printi h = inr (inl h)
-each_of Q primitive.Pr h = inr (inr (inl h))
-each_of Q primitive.Add h = inr (inr (inr (inl h)))
-each_of Q primitive.Subtract h = inr (inr (inr (inr (inl h))))
-each_of Q primitive.Multiply h = inr (inr (inr (inr (inr (inl h)))))
-each_of Q primitive.Divide h = inr (inr (inr (inr (inr (inr (inl h))))))
-each_of Q primitive.Remainder h = inr (inr (inr (inr (inr (inr (inr (inl h)))))))
-each_of Q primitive.Equal h = inr (inr (inr (inr (inr (inr (inr (inr (inl h))))))))
-each_of Q primitive.Less h = inr (inr (inr (inr (inr (inr (inr (inr (inr (inl h)))))))))
-each_of Q primitive.AtMost h = inr (inr (inr (inr (inr (inr (inr (inr (inr (inr (inl h))))))))))
-each_of Q primitive.Greater h = inr (inr (inr (inr (inr (inr (inr (inr (inr (inr (inr (inl h)))))))))))
-each_of Q primitive.AtLeast h = inr (inr (inr (inr (inr (inr (inr (inr (inr (inr (inr (inr (inl h))))))))))))
-each_of Q primitive.Chr h = inr (inr (inr (inr (inr (inr (inr (inr (inr (inr (inr (inr (inr (inl h)))))))))))))
-each_of Q primitive.Ord h = inr (inr (inr (inr (inr (inr (inr (inr (inr (inr (inr (inr (inr (inr (inl h))))))))))))))
-each_of Q primitive.Join h = inr (inr (inr (inr (inr (inr (inr (inr (inr (inr (inr (inr (inr (inr (inr (inl h)))))))))))))))
-each_of Q primitive.Intstr h = inr (inr (inr (inr (inr (inr (inr (inr (inr (inr (inr (inr (inr (inr (inr (inr (inl h))))))))))))))))
-each_of Q primitive.Size h = inr (inr (inr (inr (inr (inr (inr (inr (inr (inr (inr (inr (inr (inr (inr (inr (inr (inl h)))))))))))))))))
-each_of Q primitive.Nth h = inr (inr (inr (inr (inr (inr (inr (inr (inr (inr (inr (inr (inr (inr (inr (inr (inr (inr (inl h))))))))))))))))))
-each_of Q primitive.Not h = inr (inr (inr (inr (inr (inr (inr (inr (inr (inr (inr (inr (inr (inr (inr (inr (inr (inr (inr (inl h)))))))))))))))))))
+each_of Q p h = of_any Q primitives (primitive_number p) p (primitive_back p) h
 
 -- ---- values
 

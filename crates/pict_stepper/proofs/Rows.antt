@@ -79,6 +79,12 @@ of_three P none (Boolean x) f each = none
 of_three P none (Text x) f each = none
 of_three P none (PrimitiveVal x) f each = none
 
+of_ints : (P : Option Effect → Type 0) → P None → (v : Val) (f : ℤ → ℤ → Val → Option Effect) → ((a b : ℤ) (k : Val) → P (f a b k))
+    → P (at_three v (λ x y k. at_int x (λ a. at_int y (λ b. f a b k))))
+of_ints P none v f each =
+    of_three P none v (λ x y k. at_int x (λ a. at_int y (λ b. f a b k)))
+    (λ x y k. of_int P none x (λ a. at_int y (λ b. f a b k)) (λ a. of_int P none y (λ b. f a b k) (λ b. each a b k)))
+
 -- ---- what a primitive leaves
 
 -- it leaves something, if it acts
@@ -109,12 +115,27 @@ divided_leaving (pos zero) k a = trap_leaving None
 divided_leaving (pos (suc n)) k a = answer_leaving None k a
 divided_leaving (negsuc n) k a = answer_leaving None k a
 
-ruleset operands_leaving = (of_two, of_three, of_int, of_char, of_bool, of_text, none_leaving, answer_leaving, divided_leaving)
-
 answering : (f : Primitive) (v : Val) → performing_rule f ≡ rule.PrimitiveAnswers → Leaving (effect_of f v)
 answering primitive.Print v q = λ e h n. cc
 answering primitive.Printi v q = λ e h n. cc
-answering _ v q = search operands_leaving depth 8
+answering primitive.Add v q = of_ints Leaving none_leaving v _ (λ a b k. answer_leaving None k _)
+answering primitive.Subtract v q = of_ints Leaving none_leaving v _ (λ a b k. answer_leaving None k _)
+answering primitive.Multiply v q = of_ints Leaving none_leaving v _ (λ a b k. answer_leaving None k _)
+answering primitive.Equal v q = of_ints Leaving none_leaving v _ (λ a b k. answer_leaving None k _)
+answering primitive.Less v q = of_ints Leaving none_leaving v _ (λ a b k. answer_leaving None k _)
+answering primitive.AtMost v q = of_ints Leaving none_leaving v _ (λ a b k. answer_leaving None k _)
+answering primitive.Greater v q = of_ints Leaving none_leaving v _ (λ a b k. answer_leaving None k _)
+answering primitive.AtLeast v q = of_ints Leaving none_leaving v _ (λ a b k. answer_leaving None k _)
+answering primitive.Divide v q = of_ints Leaving none_leaving v _ (λ a b k. divided_leaving b k _)
+answering primitive.Remainder v q = of_ints Leaving none_leaving v _ (λ a b k. divided_leaving b k _)
+answering primitive.Pr v q = of_two Leaving none_leaving v _ (λ x k. of_text Leaving none_leaving x _ (λ bytes. answer_leaving (Some bytes) k _))
+answering primitive.Chr v q = of_two Leaving none_leaving v _ (λ x k. of_int Leaving none_leaving x _ (λ n. answer_leaving None k _))
+answering primitive.Ord v q = of_two Leaving none_leaving v _ (λ x k. of_char Leaving none_leaving x _ (λ n. answer_leaving None k _))
+answering primitive.Intstr v q = of_two Leaving none_leaving v _ (λ x k. of_int Leaving none_leaving x _ (λ n. answer_leaving None k _))
+answering primitive.Size v q = of_two Leaving none_leaving v _ (λ x k. of_text Leaving none_leaving x _ (λ bytes. answer_leaving None k _))
+answering primitive.Not v q = of_two Leaving none_leaving v _ (λ x k. of_bool Leaving none_leaving x _ (λ b. answer_leaving None k _))
+answering primitive.Join v q = of_three Leaving none_leaving v _ (λ x y k. of_text Leaving none_leaving x _ (λ a. of_text Leaving none_leaving y _ (λ b. answer_leaving None k _)))
+answering primitive.Nth v q = of_three Leaving none_leaving v _ (λ x y k. of_text Leaving none_leaving x _ (λ a. of_int Leaving none_leaving y _ (λ b. answer_leaving None k _)))
 
 printing : (f : Primitive) (v : Val) → performing_rule f ≡ rule.PrimitiveEnds → Silent (effect_of f v)
 printing primitive.Print v q = of_text Silent none_silent v _ nothing_silent

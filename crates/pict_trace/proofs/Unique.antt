@@ -18,6 +18,7 @@ use Rattle.pict_core.specs.Term.{Val, Vals, Labelled, Var, Chan, Int, Char, Bool
 use Rattle.pict_core.specs.Step.{Label, Quiet, Comm, Print}
 use Rattle.pict_show.specs.Values.{item_of, value_text, quoted, positional_texts, labelled_texts}
 use Rattle.pict_syntax.specs.PrimitiveTexts.{primitive_text}
+use Rattle.pict_heap.specs.Packed.{primitives}
 use Rattle.pict_trace.specs.Lines.{shown_text, line_text, lines_text}
 use Rattle.pict_trace.specs.Readable.{IsReadable, IsReadableLabel, IsOrderly, AreOrderly, LabelsAfter, AreBytes}
 use Rattle.pict_trace.specs.Reading.{is_end, Ends, IsBare, spaced_labels}
@@ -123,7 +124,7 @@ word_in [] text = None
 word_in (v ∷ vs) text = if bytes_eq text (value_text [] v) then Some v else word_in vs text
 
 abbrev words : List Val
-words = Boolean true ∷ Boolean false ∷ PrimitiveVal primitive.Print ∷ PrimitiveVal primitive.Printi ∷ PrimitiveVal primitive.Pr ∷ PrimitiveVal primitive.Add ∷ PrimitiveVal primitive.Subtract ∷ PrimitiveVal primitive.Multiply ∷ PrimitiveVal primitive.Divide ∷ PrimitiveVal primitive.Remainder ∷ PrimitiveVal primitive.Equal ∷ PrimitiveVal primitive.Less ∷ PrimitiveVal primitive.AtMost ∷ PrimitiveVal primitive.Greater ∷ PrimitiveVal primitive.AtLeast ∷ PrimitiveVal primitive.Chr ∷ PrimitiveVal primitive.Ord ∷ PrimitiveVal primitive.Join ∷ PrimitiveVal primitive.Intstr ∷ PrimitiveVal primitive.Size ∷ PrimitiveVal primitive.Nth ∷ PrimitiveVal primitive.Not ∷ []
+words = Boolean true ∷ Boolean false ∷ map PrimitiveVal primitives
 
 primitive_back : (names : List (List ℕ)) (v : Val) → IsBare v → family_of v ≡ 3 → word_in words (value_text names v) ≡ Some v
 primitive_back names (Boolean true) b h = refl

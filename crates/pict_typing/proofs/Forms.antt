@@ -1,6 +1,6 @@
 -- Canonical forms: what a closed value of a closed type looks like, said without subtyping of types that aren't closed.
 use Rattle.std.specs.Prelude.{slice_get}
-use Rattle.std.proofs.Common.{◌≡◌, ℕ, ℤ, Bool, List, [], Some}
+use Rattle.std.proofs.Common.{◌≡◌, ℕ, ℤ, Bool, List, [], Some, rules}
 use Rattle.pict_syntax.specs.declared.primitive.Primitive.{Primitive}
 use Rattle.pict_syntax.specs.declared.primitive.Primitive.TheVariants as primitive
 use Rattle.pict_types.specs.Types.{Capability, Both, Read, Write, PlainType, Top, Int, Char, Str, Boolean, Chan, Fields, Rec, PlainTypes, no_type, types, PlainLabels, no_label, labels, PlainBound, PlainBounds, no_bound, bounds, PlainArg}
@@ -71,7 +71,6 @@ unfolding_type names t w = unfolding_formed names [] t w
 pub takes_type : (names : List (List ℕ)) (p : Primitive) → IsTypeIn names [] (erased (takes p))
 takes_type names primitive.Print = tt
 takes_type names _ = search rules
-takes_type names _ = (tt, ((tt, (tt, (tt, tt))), tt))
 
 -- ---- a canonical form has its type
 

@@ -2,11 +2,11 @@
 use Rattle.std.proofs.Common.{◌≡◌, ℕ, zero, suc, ℤ, pos, negsuc, Option, Bool, List, [], refl, Some, None}
 use Rattle.pict_syntax.specs.declared.primitive.Primitive.{Primitive}
 use Rattle.pict_syntax.specs.declared.primitive.Primitive.TheVariants as primitive
-use Rattle.pict_types.specs.Types.{Write, PlainType, Int, Char, Str, Boolean, Chan}
+use Rattle.pict_types.specs.Types.{Write, PlainType, Int, Char, Str, Boolean, Chan, Fields, no_type, types, PlainLabels, no_bound}
 use Rattle.pict_types.specs.PrimitiveTypes.{takes, empty_record}
 use Rattle.pict_core.specs.Term as core
 use Rattle.pict_core.specs.Term.{Val, Record, no_vals, no_labelled}
-use Rattle.pict_core.specs.Primitives.{Effect, Leaves, Nothing, Answer, Trap, effect_of, divided_by}
+use Rattle.pict_core.specs.Primitives.{Effect, Leaves, Nothing, Answer, Trap, effect_of, at_int, at_char, at_bool, at_text, at_two, at_three, divided_by}
 use Rattle.pict_typing.specs.Erasing.{erased}
 use Rattle.pict_typing.specs.Worlds.{over, IsTypeIn}
 use Rattle.pict_typing.specs.Values.{HasType, int_has, char_has, boolean_has, text_has, record_has, none_have, none_labelled}
@@ -32,6 +32,9 @@ module _ (names : List (List ℕ)) (ms : List PlainType) (closed_ : AreClosedTyp
   int_answered : {k : Val} {n : ℤ} → Fits names ms k (Chan Write Int) → Performs (Some (record { printed = None; leaves = Answer k (core.Int n) }))
   int_answered x = answered None Int tt x int_has
 
+  char_answered : {k : Val} {byte : ℕ} → Fits names ms k (Chan Write Char) → Performs (Some (record { printed = None; leaves = Answer k (core.Char byte) }))
+  char_answered x = answered None Char tt x char_has
+
   boolean_answered : {k : Val} {b : Bool} → Fits names ms k (Chan Write Boolean) → Performs (Some (record { printed = None; leaves = Answer k (core.Boolean b) }))
   boolean_answered x = answered None Boolean tt x boolean_has
 
@@ -49,24 +52,35 @@ module _ (names : List (List ℕ)) (ms : List PlainType) (closed_ : AreClosedTyp
   empty_has : HasType (over names ms) (Record no_vals no_labelled) empty_record
   empty_has = record_has tt none_have none_labelled (tt, (tt, tt))
 
+  int_performs : {v : Val} {f : ℤ → Option Effect} → Fits names ms v Int → ((n : ℤ) → Performs (f n)) → Performs (at_int v f)
+  int_performs int_fits h = h _
+
+  char_performs : {v : Val} {f : ℕ → Option Effect} → Fits names ms v Char → ((byte : ℕ) → Performs (f byte)) → Performs (at_char v f)
+  char_performs char_fits h = h _
+
+  boolean_performs : {v : Val} {f : Bool → Option Effect} → Fits names ms v Boolean → ((b : Bool) → Performs (f b)) → Performs (at_bool v f)
+  boolean_performs boolean_fits h = h _
+
+  text_performs : {v : Val} {f : List ℕ → Option Effect} → Fits names ms v Str → ((bytes : List ℕ) → Performs (f bytes)) → Performs (at_text v f)
+  text_performs text_fits h = h _
+
+  two_perform : {v : Val} {s r : PlainType} {ls : PlainLabels} {f : Val → Val → Option Effect} → Fits names ms v (Fields no_bound (types s (types r no_type)) ls)
+      → ((u k : Val) → Fits names ms u s → Fits names ms k r → Performs (f u k)) → Performs (at_two v f)
+  two_perform (record_fits h (more_fit x (more_fit k none_fit)) l) perform = perform _ _ x k
+
+  three_perform : {v : Val} {s t r : PlainType} {ls : PlainLabels} {f : Val → Val → Val → Option Effect}
+      → Fits names ms v (Fields no_bound (types s (types t (types r no_type))) ls)
+      → ((u w k : Val) → Fits names ms u s → Fits names ms w t → Fits names ms k r → Performs (f u w k)) → Performs (at_three v f)
+  three_perform (record_fits h (more_fit x (more_fit y (more_fit k none_fit))) l) perform = perform _ _ _ x y k
+
+  -- the record without fields, once something is printed
+  empty_answered : {k : Val} (bytes : List ℕ) → Fits names ms k (Chan Write empty_record) → Performs (Some (record { printed = Some bytes; leaves = Answer k (Record no_vals no_labelled) }))
+  empty_answered bytes x = answered (Some bytes) empty_record (tt, (tt, tt)) x empty_has
+
+  ruleset operands_perform = (two_perform, three_perform, int_performs, char_performs, boolean_performs, text_performs, divided)
+
+  ruleset answers_perform = (nothing_left, int_answered, char_answered, boolean_answered, text_answered, empty_answered)
+
   pub performs : (p : Primitive) {v : Val} → Fits names ms v (erased (takes p)) → Performs (effect_of p v)
-  performs primitive.Print text_fits = nothing_left _
-  performs primitive.Printi int_fits = nothing_left _
-  performs primitive.Pr (record_fits h (more_fit text_fits (more_fit k none_fit)) l) = answered _ empty_record (tt, (tt, tt)) k empty_has
-  performs primitive.Add (record_fits h (more_fit int_fits (more_fit int_fits (more_fit k none_fit))) l) = int_answered k
-  performs primitive.Subtract (record_fits h (more_fit int_fits (more_fit int_fits (more_fit k none_fit))) l) = int_answered k
-  performs primitive.Multiply (record_fits h (more_fit int_fits (more_fit int_fits (more_fit k none_fit))) l) = int_answered k
-  performs primitive.Divide (record_fits h (more_fit int_fits (more_fit (int_fits {n = n}) (more_fit k none_fit))) l) = divided n (int_answered k)
-  performs primitive.Remainder (record_fits h (more_fit int_fits (more_fit (int_fits {n = n}) (more_fit k none_fit))) l) = divided n (int_answered k)
-  performs primitive.Equal (record_fits h (more_fit int_fits (more_fit int_fits (more_fit k none_fit))) l) = boolean_answered k
-  performs primitive.Less (record_fits h (more_fit int_fits (more_fit int_fits (more_fit k none_fit))) l) = boolean_answered k
-  performs primitive.AtMost (record_fits h (more_fit int_fits (more_fit int_fits (more_fit k none_fit))) l) = boolean_answered k
-  performs primitive.Greater (record_fits h (more_fit int_fits (more_fit int_fits (more_fit k none_fit))) l) = boolean_answered k
-  performs primitive.AtLeast (record_fits h (more_fit int_fits (more_fit int_fits (more_fit k none_fit))) l) = boolean_answered k
-  performs primitive.Chr (record_fits h (more_fit int_fits (more_fit k none_fit)) l) = answered None Char tt k char_has
-  performs primitive.Ord (record_fits h (more_fit char_fits (more_fit k none_fit)) l) = int_answered k
-  performs primitive.Join (record_fits h (more_fit text_fits (more_fit text_fits (more_fit k none_fit))) l) = text_answered k
-  performs primitive.Intstr (record_fits h (more_fit int_fits (more_fit k none_fit)) l) = text_answered k
-  performs primitive.Size (record_fits h (more_fit text_fits (more_fit k none_fit)) l) = int_answered k
-  performs primitive.Nth (record_fits h (more_fit text_fits (more_fit int_fits (more_fit k none_fit))) l) = int_answered k
-  performs primitive.Not (record_fits h (more_fit boolean_fits (more_fit k none_fit)) l) = boolean_answered k
+  performs primitive.Print x = text_performs x (λ bytes. nothing_left bytes)
+  performs _ x = search (operands_perform, answers_perform) depth 8

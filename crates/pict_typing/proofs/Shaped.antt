@@ -1,6 +1,6 @@
 -- A primitive has an effect on exactly the values of the shape that it takes.
 use Rattle.std.specs.Prelude.{IsSome}
-use Rattle.std.proofs.Common.{ℕ, zero, suc, ℤ, pos, negsuc, Bool, Option, List, ◌↔◌, refl}
+use Rattle.std.proofs.Common.{ℕ, zero, suc, ℤ, pos, negsuc, Bool, Option, Some, List, ◌↔◌, refl}
 use Rattle.pict_syntax.specs.declared.primitive.Primitive.TheVariants as primitive
 use Rattle.pict_types.specs.Types.{PlainType, Int, Char, Str, Boolean}
 use Rattle.pict_types.specs.PrimitiveTypes.{one_operand, two_operands, empty_record}
@@ -89,9 +89,6 @@ two_shape s t r (core.Boolean b) f h = neither_holds (λ x. absurd (cc)) (λ y. 
 two_shape s t r (core.Text bs) f h = neither_holds (λ x. absurd (cc)) (λ y. y)
 two_shape s t r (core.PrimitiveVal p) f h = neither_holds (λ x. absurd (cc)) (λ y. y)
 
-ints_shape : (r : PlainType) (v : Val) (f : ℤ → ℤ → Val → Option Effect) → ((a b : ℤ) (k : Val) → IsSome (f a b k)) → IsSome (at_three v (λ u w k. at_int u (λ a. at_int w (λ b. f a b k)))) ↔ HasShape (two_operands Int Int r) v
-ints_shape r v f h = two_shape Int Int r v (λ u w k. at_int u (λ a. at_int w (λ b. f a b k))) (λ u w k. int_shape u (λ a. at_int w (λ b. f a b k)) (λ a. int_shape w (λ b. f a b k) (λ b. both_hold (h a b k) tt)))
-
 -- a zero divisor is an effect too
 divided_some : (n : ℤ) (e : Option Effect) → IsSome e → IsSome (divided_by n e)
 divided_some (pos zero) e x = refl
@@ -102,20 +99,15 @@ divided_some (negsuc n) e x = x
 alone : {A B : Type 0} → (A ↔ (B × Unit {0})) → (A ↔ B)
 alone h = (λ x. (h.0 x).0, λ y. h.1 (y, tt))
 
+some_holds : (e : Effect) → IsSome (Some e) ↔ Unit {0}
+some_holds e = both_hold refl tt
+
+divided_holds : (n : ℤ) (e : Effect) → IsSome (divided_by n (Some e)) ↔ Unit {0}
+divided_holds n e = both_hold (divided_some n (Some e) refl) tt
+
+ruleset operands_shape = (one_shape, two_shape, int_shape, char_shape, truth_shape, text_shape, some_holds, divided_holds)
+
 pub effects_by_shape : EffectsAreByShape
 effects_by_shape primitive.Print v = alone (text_shape v _ (λ bytes. both_hold refl tt))
 effects_by_shape primitive.Printi v = alone (int_shape v _ (λ n. both_hold refl tt))
-effects_by_shape primitive.Pr v = one_shape Str empty_record v _ (λ u k. text_shape u _ (λ bytes. both_hold refl tt))
-effects_by_shape primitive.Add v = ints_shape Int v _ (λ a b k. refl)
-effects_by_shape primitive.Subtract v = ints_shape Int v _ (λ a b k. refl)
-effects_by_shape primitive.Multiply v = ints_shape Int v _ (λ a b k. refl)
-effects_by_shape primitive.Divide v = ints_shape Int v _ (λ a b k. divided_some b _ refl)
-effects_by_shape primitive.Remainder v = ints_shape Int v _ (λ a b k. divided_some b _ refl)
-effects_by_shape primitive.Chr v = one_shape Int Char v _ (λ u k. int_shape u _ (λ n. both_hold refl tt))
-effects_by_shape primitive.Ord v = one_shape Char Int v _ (λ u k. char_shape u _ (λ byte. both_hold refl tt))
-effects_by_shape primitive.Join v = two_shape Str Str Str v _ (λ u w k. text_shape u _ (λ front. text_shape w _ (λ back. both_hold refl tt)))
-effects_by_shape primitive.Intstr v = one_shape Int Str v _ (λ u k. int_shape u _ (λ n. both_hold refl tt))
-effects_by_shape primitive.Size v = one_shape Str Int v _ (λ u k. text_shape u _ (λ bytes. both_hold refl tt))
-effects_by_shape primitive.Nth v = two_shape Str Int Int v _ (λ u w k. text_shape u _ (λ bytes. int_shape w _ (λ place. both_hold refl tt)))
-effects_by_shape primitive.Not v = one_shape Boolean Boolean v _ (λ u k. truth_shape u _ (λ b. both_hold refl tt))
-effects_by_shape _ v = ints_shape Boolean v _ (λ a b k. refl)
+effects_by_shape _ v = search operands_shape depth 8
