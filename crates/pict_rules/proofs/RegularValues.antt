@@ -1,5 +1,5 @@
 -- Steps of regularity: values.
-use Rattle.std.proofs.Common.{◌≡◌, ℕ, ◌+◌, nat_eq, if◌then◌else◌, Bool, true, false, List, [], ◌∷◌, ◌++◌, length, Option, Some, None, refl, sym, ◌∙◌, ap, subst, arith, add-zero, add-suc, length-append}
+use Rattle.std.proofs.Common.{◌≡◌, ℕ, ◌+◌, nat_eq, if◌then◌else◌, Bool, true, false, List, [], ◌∷◌, ◌++◌, length, Option, Some, None, refl, sym, ◌∙◌, ap, subst, arith, rules, add-zero, add-suc, length-append}
 use Rattle.pict_syntax.specs.declared.code.Code.{Code}
 use Rattle.pict_syntax.specs.declared.span.Span.{Span}
 use Rattle.pict_syntax.specs.Names.{text_of}
@@ -13,7 +13,7 @@ use Rattle.pict_rules.specs.Found.{none_found}
 use Rattle.std.specs.Option.{option_map}
 use Rattle.pict_syntax.specs.declared.primitive.Primitive.{Primitive}
 use Rattle.pict_syntax.specs.declared.primitive.Primitive.TheVariants as primitive
-use Rattle.pict_types.specs.PrimitiveTypes.{one_operand, two_operands, empty_record, takes, type_of}
+use Rattle.pict_types.specs.PrimitiveTypes.{takes, type_of}
 use Rattle.pict_scope.specs.PrimitiveNames.{primitive_named}
 use Rattle.pict_rules.specs.Environments.{Environment, KnownValue, context_of, opened_since, known_type, primitive_type, type_or_top, type_or_primitive, type_of_use, shifted_by}
 use Rattle.pict_rules.specs.Rules.{Sort, nothing_, type_, Rule, Result, gives, has, unless_stopped, give, refuse}
@@ -38,16 +38,9 @@ known_formed ns ks [] n h = tt
 known_formed ns ks (v ∷ vs) n h = if_formed ns ks (nat_eq v.name n) v.has (known_type vs n) h.0 (known_formed ns ks vs n h.1)
 
 -- each primitive's type
-two_formed : (ns : List (List ℕ)) (ks : List Kind) (s t r : PlainType) → IsWellFormed ns ks s → IsWellFormed ns ks t → IsWellFormed ns ks r → IsWellFormed ns ks (two_operands s t r)
-two_formed ns ks s t r h k l = (tt, ((h, (k, (l, tt))), tt))
-
-one_formed : (ns : List (List ℕ)) (ks : List Kind) (s r : PlainType) → IsWellFormed ns ks s → IsWellFormed ns ks r → IsWellFormed ns ks (one_operand s r)
-one_formed ns ks s r h l = (tt, ((h, (l, tt)), tt))
-
 primitive_formed : (ns : List (List ℕ)) (ks : List Kind) (p : Primitive) → IsWellFormed ns ks (takes p)
 primitive_formed ns ks primitive.Print = tt
 primitive_formed ns ks _ = search rules
-primitive_formed ns ks _ = two_formed ns ks Int Int Boolean tt tt tt
 
 if_primitive_formed : (ns : List (List ℕ)) (ks : List Kind) (o : Option Primitive) → IfFormed ns ks (option_map type_of o)
 if_primitive_formed ns ks None = tt

@@ -53,6 +53,19 @@ and_true : (b : Bool) → (b && true) ≡ b
 and_true true = refl
 and_true false = refl
 
+-- where nothing more is asked
+int_alone : (v : Val) (f : ℤ → Option Effect) → ((i : ℤ) → is_effect (f i) ≡ true) → is_effect (at_int v f) ≡ is_kind AnInt v
+int_alone v f h = of_int v f true h ∙ and_true (is_kind AnInt v)
+
+char_alone : (v : Val) (f : ℕ → Option Effect) → ((i : ℕ) → is_effect (f i) ≡ true) → is_effect (at_char v f) ≡ is_kind AChar v
+char_alone v f h = of_char v f true h ∙ and_true (is_kind AChar v)
+
+bool_alone : (v : Val) (f : Bool → Option Effect) → ((i : Bool) → is_effect (f i) ≡ true) → is_effect (at_bool v f) ≡ is_kind ABool v
+bool_alone v f h = of_bool v f true h ∙ and_true (is_kind ABool v)
+
+text_alone : (v : Val) (f : List ℕ → Option Effect) → ((i : List ℕ) → is_effect (f i) ≡ true) → is_effect (at_text v f) ≡ is_kind AText v
+text_alone v f h = of_text v f true h ∙ and_true (is_kind AText v)
+
 one_of : (a : Kind) (v : Val) (f : Val → Val → Option Effect) → ((u k : Val) → is_effect (f u k) ≡ is_kind a u) → is_effect (at_two v f) ≡ has_shape (One a) v
 one_of a (Var x) f h = refl
 one_of a (Chan x) f h = refl
@@ -85,17 +98,8 @@ divides (pos zero) e h = refl
 divides (pos (suc n)) e h = h
 divides (negsuc n) e h = h
 
+ruleset operands_taken = (one_of, two_of, of_int, of_char, of_bool, of_text, int_alone, char_alone, bool_alone, text_alone, divides)
+
 pub primitives_take_shapes : PrimitivesTakeShapes
-primitives_take_shapes primitive.Print v = of_text v _ true (λ b. refl) ∙ and_true (is_kind AText v)
-primitives_take_shapes primitive.Printi v = of_int v _ true (λ b. refl) ∙ and_true (is_kind AnInt v)
-primitives_take_shapes primitive.Pr v = one_of AText v _ (λ u k. of_text u _ true (λ b. refl) ∙ and_true (is_kind AText u))
-primitives_take_shapes primitive.Divide v = of_ints v _ (λ i j k. divides j _ refl)
-primitives_take_shapes primitive.Remainder v = of_ints v _ (λ i j k. divides j _ refl)
-primitives_take_shapes primitive.Chr v = one_of AnInt v _ (λ u k. of_int u _ true (λ b. refl) ∙ and_true (is_kind AnInt u))
-primitives_take_shapes primitive.Ord v = one_of AChar v _ (λ u k. of_char u _ true (λ b. refl) ∙ and_true (is_kind AChar u))
-primitives_take_shapes primitive.Join v = two_of AText AText v _ (λ u w k. of_text u _ (is_kind AText w) (λ i. of_text w _ true (λ j. refl) ∙ and_true (is_kind AText w)))
-primitives_take_shapes primitive.Intstr v = one_of AnInt v _ (λ u k. of_int u _ true (λ b. refl) ∙ and_true (is_kind AnInt u))
-primitives_take_shapes primitive.Size v = one_of AText v _ (λ u k. of_text u _ true (λ b. refl) ∙ and_true (is_kind AText u))
-primitives_take_shapes primitive.Nth v = two_of AText AnInt v _ (λ u w k. of_text u _ (is_kind AnInt w) (λ i. of_int w _ true (λ j. refl) ∙ and_true (is_kind AnInt w)))
-primitives_take_shapes primitive.Not v = one_of ABool v _ (λ u k. of_bool u _ true (λ b. refl) ∙ and_true (is_kind ABool u))
-primitives_take_shapes _ v = of_ints v _ (λ i j k. refl)
+primitives_take_shapes primitive.Print v = text_alone v _ (λ b. refl)
+primitives_take_shapes _ v = search operands_taken depth 8
