@@ -79,7 +79,7 @@ pub fn known_in(alloc: Global, mut context: Context<'_>) -> Result<Known, AllocE
         let hidden = is_seen(&mut seen, name)?;
         match entry.what {
             What::Variable(bound) => {
-                let bounded = matches!(bound, Bound::Below(_));
+                let bounded = matches!(&bound, Bound::Below(_));
                 variables.push(Variable {
                     name,
                     hidden,
