@@ -23,10 +23,10 @@ fn types_are_measured_and_exposed(rt: HostRuntime) -> Result<(), AllocError> {
     })?;
     assert_eq!(rt; weight(&c, &Ty::Var(0)), 2);
     assert_eq!(rt; height(&c, &Ty::Var(0)), 2);
-    assert!(rt; matches!(expose(alloc, &c, &Ty::Var(0))?, Ty::Int));
+    assert!(rt; equal(&expose(alloc, &c, &Ty::Var(0))?, &Ty::Int));
     let outer = TypeScope::Outer(&c);
     let inner = TypeScope::Recursive(&outer);
-    assert!(rt; matches!(expose_in(alloc, &inner, &Ty::Var(0))?, Ty::Var(0)));
-    assert!(rt; matches!(expose_in(alloc, &inner, &Ty::Var(1))?, Ty::Int));
+    assert!(rt; equal(&expose_in(alloc, &inner, &Ty::Var(0))?, &Ty::Var(0)));
+    assert!(rt; equal(&expose_in(alloc, &inner, &Ty::Var(1))?, &Ty::Int));
     Ok(())
 }
