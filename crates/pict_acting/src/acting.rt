@@ -31,8 +31,10 @@ use std::alloc::AllocError;
 /// Whatever the answer, the work of the queues rises by at most the step's cost, blocks are made only where fewer are free than
 /// the step needs, and the heap has at most the texts and records more that the step needs. A plain meeting of a message and an
 /// input takes no memory.
-#[inline(always)]
-pub fn act(
+///
+/// Each caller names a type of its own, and so has a copy of the step for itself, which the compiler makes part of the caller's
+/// loop.
+pub fn act<C>(
     code: &[Node],
     constants: &[Option<Word>],
     store: &mut Store,
@@ -48,15 +50,14 @@ pub fn act(
     match store.turn {
         Turn::Nobody => unreachable!(),
         Turn::Node(number) | Turn::Wide(number, _) => {
-            act_by(code, store, &code[number].op, &constants[number])
+            act_by::<C>(code, store, &code[number].op, &constants[number])
         }
         Turn::Output(kept) => output_kept(code, store, kept),
     }
 }
 
 // The same of a node with this instruction and this constant, whose levels have the values of its frame.
-#[inline(always)]
-fn act_by(
+fn act_by<C>(
     code: &[Node],
     store: &mut Store,
     op: &Op,

@@ -29,6 +29,12 @@ use pict_syntax::Span;
 use pict_turns::{Store, Turn, return_turn, take_turn};
 use std::alloc::AllocError;
 
+/// Who asks for a step that is made alone.
+pub struct Alone;
+
+/// Who asks for a step of a run.
+pub struct InRun;
+
 // Steps of a run that are passed over, and the step after them.
 pub(crate) struct Gone {
     // How many steps are passed over, one after the other.
@@ -140,7 +146,7 @@ impl Machine {
         ensures queues { LosesNoQueue (queues_of self.old) (queues_of self.new) }
     {
         take_turn(&mut self.store, &self.code.nodes);
-        let result = act(&self.code.nodes, &self.constants, &mut self.store);
+        let result = act::<Alone>(&self.code.nodes, &self.constants, &mut self.store);
         return_turn(&mut self.store, &self.code.nodes);
         result
     }
@@ -180,7 +186,7 @@ impl Machine {
         ensures code { self.new.code ≡ self.old.code }
     {
         ensure_turn(&mut self.store, &self.code.nodes);
-        act(&self.code.nodes, &self.constants, &mut self.store)
+        act::<InRun>(&self.code.nodes, &self.constants, &mut self.store)
     }
 
     // At most so many steps of a run, of which all but the last one show nothing: the five of a call of a primitive whose answer is

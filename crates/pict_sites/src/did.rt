@@ -17,6 +17,9 @@ use pict_picker::Did;
 use pict_turns::Store;
 use std::alloc::AllocError;
 
+/// Who asks for a step of a site.
+pub struct AtSite;
+
 // What a step shows, with the value that is received as a word.
 fn did_of(event: PackedEvent) -> Did
     requires { (h : HeapState) × IsPackedOf h event }
@@ -46,6 +49,6 @@ pub(crate) fn step(
     requires constants { AreConstants store.old.desk.heap (map plain_node code.now) constants.now }
     ensures { IsDidBy (core_in code.now) store.old store.new result }
 {
-    let event = act(code, constants, store)?;
+    let event = act::<AtSite>(code, constants, store)?;
     Ok(did_of(event))
 }

@@ -15,20 +15,20 @@ use Rattle.pict_acting.proofs.Working.{frame_there}
 use Rattle.pict_acting.proofs.acting.act.Goals as goal
 
 pub unreachable-requires : goal.unreachable-requires
-unreachable-requires c = nobody_acts (core_in c.args.code.now) c.args.store.now c.requires.may.acting c.in-Nobody.is
+unreachable-requires g c = nobody_acts (core_in c.args.code.now) c.args.store.now c.requires.may.acting c.in-Nobody.is
 
 pub bounds-code-number : goal.bounds-code-number
-bounds-code-number c = in_code c.args.code.now c.requires.may.code_is c.in-Node.number (node_low (core_in c.args.code.now) c.args.store.now c.requires.may.acting c.in-Node.number c.in-Node.is)
+bounds-code-number g c = in_code c.args.code.now c.requires.may.code_is c.in-Node.number (node_low (core_in c.args.code.now) c.args.store.now c.requires.may.acting c.in-Node.number c.in-Node.is)
 
 pub bounds-constants-number : goal.bounds-constants-number
-bounds-constants-number c =
+bounds-constants-number g c =
     let code = c.args.code.now in
     let low = in_code code c.requires.may.code_is c.in-Node.number (node_low (core_in code) c.args.store.now c.requires.may.acting c.in-Node.number c.in-Node.is) in
     let same = as_many c.args.store.now.desk.heap (map plain_node code) c.args.constants.now c.requires.constants in
     omega (arith, low, same, length-map code plain_node)
 
 pub act_by-requires-clause-acts : goal.act_by-requires-clause-acts
-act_by-requires-clause-acts c =
+act_by-requires-clause-acts g c =
     let code = c.args.code.now in
     let low = in_code code c.requires.may.code_is c.in-Node.number (node_low (core_in code) c.args.store.now c.requires.may.acting c.in-Node.number c.in-Node.is) in
     let x = frame_there code c.in-Node.number low in
@@ -36,7 +36,7 @@ act_by-requires-clause-acts c =
     (op_read code c.in-Node.number c.index-code-number.result x.1.node x.1.at c.index-code-number.is)
 
 pub act_by-requires-clause-constant : goal.act_by-requires-clause-constant
-act_by-requires-clause-constant c =
+act_by-requires-clause-constant g c =
     let code = c.args.code.now in
     let low = in_code code c.requires.may.code_is c.in-Node.number (node_low (core_in code) c.args.store.now c.requires.may.acting c.in-Node.number c.in-Node.is) in
     let x = frame_there code c.in-Node.number low in
@@ -44,7 +44,7 @@ act_by-requires-clause-constant c =
     (constant_at c.args.store.now.desk.heap (map plain_node code) c.args.constants.now c.in-Node.number x.1.node None c.requires.constants x.1.at)
 
 pub returns-in-Output-clause-plain : goal.returns-in-Output-clause-plain
-returns-in-Output-clause-plain c x =
+returns-in-Output-clause-plain g c x =
     let core = core_in c.args.code.now in
     let s = c.args.store.now in
     c.output_kept.ensures.plain (kept_sends core s (kept_is core s c.requires.may.acting c.in-Output.kept c.in-Output.is) x)
