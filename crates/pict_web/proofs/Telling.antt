@@ -49,11 +49,15 @@ tells Of bare held pairs prelude a told e f h of = record {
   of = of;
 }
 
+-- what the front answers for this reason
+abbrev ended : FrontError → Result Front FrontError
+ended e = Err e
+
 -- the status of a file that isn't accepted says so
 pub refused_says : (bare : Bool) (held pairs : List (List ℕ × List ℕ)) (prelude : Option (List ℕ)) (e : FrontError) (sources : Sources)
     → held ≡ pairs → prelude ≡ prelude_for bare
     → IfSome (fronted (Err e) sources) (IsFront (gives_front (Err e) (Some (texts_of held))) prelude file)
-    → (Err {A = Front} e ≡ Err error.Failed → Rose 0 0) → SaysNothing bare (texts_of pairs) (status_for e)
+    → (ended e ≡ ended error.Failed → Rose 0 0) → SaysNothing bare (texts_of pairs) (status_for e)
 refused_says bare held pairs prelude (error.Named code span) sources e f h fails =
     is_refused bare held pairs prelude (Some (refuses (refused sources.list.items code span))) e f tt h
 refused_says bare held pairs prelude error.Missing sources e f h fails = is_refused bare held pairs prelude None e f tt h
