@@ -3,21 +3,15 @@ use Rattle.std.proofs.Common.{ℕ, ◌<◌, ◌≤◌, ◌≡◌, ◌≢◌, ◌
 use Rattle.std.proofs.lemmas.List.{get_or-set_same, get_or-set_other, get_or-replicate, get_or_past, length-replicate}
 use Rattle.std.proofs.lemmas.Bool.Decides.{nat_tests}
 use Rattle.std.proofs.lemmas.Int.{to_z-of_z}
-use Rattle.std.specs.List.{slice_get}
 use Rattle.std.specs.Int.{w64}
 use Rattle.pict_core.specs.Term.{Int}
-use Rattle.pict_syntax.specs.declared.primitive.Primitive.{Primitive}
-use Rattle.pict_syntax.specs.declared.primitive.Primitive.TheVariants as primitive
 use Rattle.pict_desk.specs.Known.{pair_at, value_in, known}
 use Rattle.pict_heap.specs.HeapState.{HeapState, value_of, IsWord}
-use Rattle.pict_heap.specs.Packed.{packed, unpacked, FitsWord, primitives, primitive_number}
+use Rattle.pict_syntax.proofs.Numbered.{found_at}
+use Rattle.pict_heap.specs.Packed.{packed, unpacked, FitsWord}
 use Rattle.pict_heap.specs.declared.word.Word.{Word}
 use Rattle.pict_heap.specs.declared.word.Word.TheVariants as word
 use Rattle.pict_desk.specs.Pairs.{IsPair, ArePairs}
-
-primitive_back : (p : Primitive) → slice_get primitives (primitive_number p) ≡ Some p
-primitive_back primitive.Print = refl
-primitive_back _ = refl
 
 bool_back : (b : Bool) → unpacked (packed (word.Bool b)).0 (packed (word.Bool b)).1 ≡ Some (word.Bool b)
 bool_back true = refl
@@ -34,7 +28,7 @@ packed_back (word.Chan number) fits =
     let small : number < 4294967296 = omega (arith, fits) in
     let test : nat_lt number 4294967296 ≡ true = grind (arith, nat_tests) in
     ap (λ b. cond b (Some (word.Chan number)) None) test
-packed_back (word.Prim p) fits = ap (option_map word.Prim) (primitive_back p)
+packed_back (word.Prim p) fits = ap (option_map word.Prim) (found_at p)
 packed_back (word.Text number) fits = refl
 packed_back (word.Fields number) fits = refl
 

@@ -6,7 +6,9 @@ use Rattle.std.specs.Int.{w64, cast_unsigned, cast_signed}
 use Rattle.std.proofs.lemmas.Bool.{eqb-true, ltb-true}
 use Rattle.std.proofs.lemmas.Int.{of_z-to_z}
 use Rattle.pict_syntax.specs.declared.primitive.Primitive.{Primitive}
-use Rattle.pict_heap.specs.Packed.{packed, unpacked, bool_number, primitive_number, primitives}
+use Rattle.pict_syntax.specs.Primitives.{primitive_number, primitives}
+use Rattle.pict_syntax.proofs.Numbered.{number_found}
+use Rattle.pict_heap.specs.Packed.{packed, unpacked, bool_number}
 use Rattle.pict_heap.specs.declared.word.Word.{Word}
 use Rattle.pict_heap.specs.declared.word.Word.TheVariants as word
 
@@ -23,27 +25,6 @@ bit zero small = refl
 bit (suc zero) small = refl
 bit (suc (suc n)) small = absurd (omega arith)
 
--- primitives with numbers that count up from this one
-AreCounted : List Primitive → ℕ → Type 0
-AreCounted [] k = Unit {0}
-AreCounted (p ∷ ps) k = (primitive_number p ≡ k) × AreCounted ps (k + 1)
-
-counted : (ps : List Primitive) (k n : ℕ) (p : Primitive) → AreCounted ps k → slice_get ps n ≡ Some p → primitive_number p ≡ k + n
-unfolding AreCounted
-counted [] k n p all found = cc
-counted (q ∷ ps) k zero p all found =
-    let same : q ≡ p = cc in
-    sym (ap primitive_number same) ∙ all.0 ∙ (let place : k ≡ k + 0 = omega arith in place)
-counted (q ∷ ps) k (suc n) p all found = counted ps (k + 1) n p all.1 found ∙ (let place : k + 1 + n ≡ k + suc n = omega arith in place)
-
-all_counted : AreCounted primitives 0
-unfolding AreCounted
-all_counted =
-    (refl, (refl, (refl, (refl, (refl, (refl, (refl, (refl, (refl, (refl, (refl, (refl, (refl, (refl, (refl, (refl, (refl, (refl, (refl, (refl, tt))))))))))))))))))))
-
-numbered : (n : ℕ) (p : Primitive) → slice_get primitives n ≡ Some p → primitive_number p ≡ n
-numbered n p found = counted primitives 0 n p all_counted found ∙ (let plain : 0 + n ≡ n = omega arith in plain)
-
 pub unpacked_packs : (result : Option Word) (tag payload : ℕ) → payload < 2 ^ 64 → result ≡ unpacked tag payload → IfSome result (λ w. packed w ≡ (tag, payload))
 unpacked_packs result tag payload fits is =
     let P : Word → Type 0 = λ w. packed w ≡ (tag, payload) in
@@ -52,7 +33,7 @@ unpacked_packs result tag payload fits is =
     (chosen (eqb tag 1) _ _ P (λ e. chosen (ltb payload 256) _ _ P (λ small. pair 1 payload tag payload (sym (eqb-true tag 1 e)) refl) tt)
     (chosen (eqb tag 2) _ _ P (λ e. chosen (ltb payload 2) _ _ P (λ small. pair 2 (bool_number (eqb payload 1)) tag payload (sym (eqb-true tag 2 e)) (bit payload (ltb-true payload 2 small))) tt)
     (chosen (eqb tag 3) _ _ P (λ e. chosen (ltb payload 4294967296) _ _ P (λ small. pair 3 payload tag payload (sym (eqb-true tag 3 e)) refl) tt)
-    (chosen (eqb tag 4) _ _ P (λ e. of_primitive (slice_get primitives payload) P (λ p found. pair 4 (primitive_number p) tag payload (sym (eqb-true tag 4 e)) (numbered payload p found)))
+    (chosen (eqb tag 4) _ _ P (λ e. of_primitive (slice_get primitives payload) P (λ p found. pair 4 (primitive_number p) tag payload (sym (eqb-true tag 4 e)) (number_found payload p found)))
     (chosen (eqb tag 5) _ _ P (λ e. pair 5 payload tag payload (sym (eqb-true tag 5 e)) refl)
     (chosen (eqb tag 6) _ _ P (λ e. pair 6 payload tag payload (sym (eqb-true tag 6 e)) refl) tt)))))))
   where

@@ -1,38 +1,14 @@
 -- A word as two numbers of 64 bits: its kind, and its content.
-use Rattle.std.specs.Prelude.{ℕ, FitsSigned, ◌^◌, ◌<◌, ◌==◌, nat_lt, if◌then◌else◌, Bool, true, false, List, [], ◌∷◌, slice_get, Option, Some, None}
+use Rattle.std.specs.Prelude.{ℕ, FitsSigned, ◌^◌, ◌<◌, ◌==◌, nat_lt, if◌then◌else◌, Bool, true, false, slice_get, Option, Some, None}
 use Rattle.std.specs.Option.{option_map}
 use Rattle.std.specs.Int.{w64, cast_unsigned, cast_signed}
-use Rattle.pict_syntax.specs.declared.primitive.Primitive.{Primitive}
-use Rattle.pict_syntax.specs.declared.primitive.Primitive.TheVariants as primitive
+use Rattle.pict_syntax.specs.Primitives.{primitive_number, primitives}
 use Rattle.pict_heap.specs.declared.word.Word.{Word}
 use Rattle.pict_heap.specs.declared.word.Word.TheVariants as word
 
 abbrev pub bool_number : Bool → ℕ
 bool_number true = 1
 bool_number false = 0
-
--- a primitive's index in the table of primitives
-abbrev pub primitive_number : Primitive → ℕ
-primitive_number primitive.Print = 0
-primitive_number primitive.Printi = 1
-primitive_number primitive.Pr = 2
-primitive_number primitive.Add = 3
-primitive_number primitive.Subtract = 4
-primitive_number primitive.Multiply = 5
-primitive_number primitive.Divide = 6
-primitive_number primitive.Remainder = 7
-primitive_number primitive.Equal = 8
-primitive_number primitive.Less = 9
-primitive_number primitive.AtMost = 10
-primitive_number primitive.Greater = 11
-primitive_number primitive.AtLeast = 12
-primitive_number primitive.Chr = 13
-primitive_number primitive.Ord = 14
-primitive_number primitive.Join = 15
-primitive_number primitive.Intstr = 16
-primitive_number primitive.Size = 17
-primitive_number primitive.Nth = 18
-primitive_number primitive.Not = 19
 
 abbrev pub packed : Word → ℕ × ℕ
 packed (word.Int n) = (0, cast_unsigned w64 n)
@@ -51,13 +27,6 @@ FitsWord (word.Chan number) = number < 2 ^ 32
 FitsWord (word.Text number) = number < 2 ^ 64
 FitsWord (word.Fields number) = number < 2 ^ 64
 FitsWord _ = Unit {0}
-
--- the table of primitives
-abbrev pub primitives : List Primitive
-primitives =
-    primitive.Print ∷ primitive.Printi ∷ primitive.Pr ∷ primitive.Add ∷ primitive.Subtract ∷ primitive.Multiply ∷ primitive.Divide ∷ primitive.Remainder
-    ∷ primitive.Equal ∷ primitive.Less ∷ primitive.AtMost ∷ primitive.Greater ∷ primitive.AtLeast ∷ primitive.Chr ∷ primitive.Ord ∷ primitive.Join
-    ∷ primitive.Intstr ∷ primitive.Size ∷ primitive.Nth ∷ primitive.Not ∷ []
 
 -- the word of a pair, if it has one
 abbrev pub unpacked : ℕ → ℕ → Option Word

@@ -1,6 +1,6 @@
 // Words as pairs of numbers.
-ghost use Rattle.std.specs.Prelude.{◌≡◌, IfSome, Some, slice_get};
-ghost use Rattle.pict_heap.specs.Packed.{packed, unpacked, FitsWord, primitives};
+ghost use Rattle.std.specs.Prelude.{◌≡◌, IfSome, Some};
+ghost use Rattle.pict_heap.specs.Packed.{packed, unpacked, FitsWord};
 ghost use Rattle.pict_heap.specs.declared.word.Word.{Word as AnyWord};
 
 use crate::word::Word;
@@ -17,7 +17,7 @@ pub fn pack(w: Word) -> (u64, u64)
         Word::Char(byte) => (1, u64::from(byte)),
         Word::Bool(b) => (2, u64::from(b)),
         Word::Chan(number) => (3, u64::from(number)),
-        Word::Prim(p) => (4, p as u64),
+        Word::Prim(p) => (4, u64::from(p.number())),
         Word::Text(number) => (5, number),
         Word::Fields(number) => (6, number),
     }
@@ -41,45 +41,9 @@ fn decoded(tag: u64, payload: u64) -> Option<Word>
         1 if payload < 256 => Some(Word::Char(payload as u8)),
         2 if payload < 2 => Some(Word::Bool(payload == 1)),
         3 if payload < 4_294_967_296 => Some(Word::Chan(payload as u32)),
-        4 => primitive(payload).map(Word::Prim),
+        4 => Prim::numbered(payload).map(Word::Prim),
         5 => Some(Word::Text(payload)),
         6 => Some(Word::Fields(payload)),
         _ => None,
-    }
-}
-
-// The primitives, in the order of their declaration.
-const PRIMITIVES: [Prim; 20] = [
-    Prim::Print,
-    Prim::Printi,
-    Prim::Pr,
-    Prim::Add,
-    Prim::Subtract,
-    Prim::Multiply,
-    Prim::Divide,
-    Prim::Remainder,
-    Prim::Equal,
-    Prim::Less,
-    Prim::AtMost,
-    Prim::Greater,
-    Prim::AtLeast,
-    Prim::Chr,
-    Prim::Ord,
-    Prim::Join,
-    Prim::Intstr,
-    Prim::Size,
-    Prim::Nth,
-    Prim::Not,
-];
-
-// The primitive with this number.
-#[inline(always)]
-fn primitive(number: u64) -> Option<Prim>
-    ensures { result ≡ slice_get primitives number }
-{
-    if number < 20 {
-        Some(PRIMITIVES[number as usize])
-    } else {
-        None
     }
 }

@@ -3,9 +3,9 @@
 ghost use Rattle.std.specs.Prelude.{◌≡◌, IfOk};
 ghost use Rattle.pict_types.specs.Plain.{plain, plain_types};
 ghost use Rattle.pict_types.specs.Types.{Chan, Fields, Respond, no_bound, no_label};
-ghost use Rattle.pict_types.specs.PrimitiveTypes.{one_operand, takes, two_operands, type_of};
+ghost use Rattle.pict_types.specs.PrimitiveTypes.{of_kind, one_operand, takes, two_operands, type_of};
 
-use pict_syntax::Primitive;
+use pict_syntax::{Operands, Primitive, ValueKind};
 use pict_types::{Cap, Record, Ty};
 use std::alloc::{AllocError, Global};
 use std::rc::Rc;
@@ -22,27 +22,29 @@ pub fn type_of(alloc: Global, primitive: Primitive) -> Result<Ty, AllocError>
 fn takes(alloc: Global, primitive: Primitive) -> Result<Ty, AllocError>
     ensures { IfOk result (λ t. plain t ≡ takes primitive) }
 {
-    match primitive {
-        Primitive::Print => Ok(Ty::Str),
-        Primitive::Printi => Ok(Ty::Int),
-        Primitive::Pr => one_operand(alloc, Ty::Str, record_of(alloc, Vec::new(alloc))?),
-        Primitive::Add => two_operands(alloc, Ty::Int, Ty::Int, Ty::Int),
-        Primitive::Subtract => two_operands(alloc, Ty::Int, Ty::Int, Ty::Int),
-        Primitive::Multiply => two_operands(alloc, Ty::Int, Ty::Int, Ty::Int),
-        Primitive::Divide => two_operands(alloc, Ty::Int, Ty::Int, Ty::Int),
-        Primitive::Remainder => two_operands(alloc, Ty::Int, Ty::Int, Ty::Int),
-        Primitive::Equal => two_operands(alloc, Ty::Int, Ty::Int, Ty::Bool),
-        Primitive::Less => two_operands(alloc, Ty::Int, Ty::Int, Ty::Bool),
-        Primitive::AtMost => two_operands(alloc, Ty::Int, Ty::Int, Ty::Bool),
-        Primitive::Greater => two_operands(alloc, Ty::Int, Ty::Int, Ty::Bool),
-        Primitive::AtLeast => two_operands(alloc, Ty::Int, Ty::Int, Ty::Bool),
-        Primitive::Chr => one_operand(alloc, Ty::Int, Ty::Char),
-        Primitive::Ord => one_operand(alloc, Ty::Char, Ty::Int),
-        Primitive::Join => two_operands(alloc, Ty::Str, Ty::Str, Ty::Str),
-        Primitive::Intstr => one_operand(alloc, Ty::Int, Ty::Str),
-        Primitive::Size => one_operand(alloc, Ty::Str, Ty::Int),
-        Primitive::Nth => two_operands(alloc, Ty::Str, Ty::Int, Ty::Int),
-        Primitive::Not => one_operand(alloc, Ty::Bool, Ty::Bool),
+    match primitive.operands() {
+        Operands::Alone(s) => of_kind(alloc, s),
+        Operands::One(s, r) => {
+            let (s, r) = (of_kind(alloc, s)?, of_kind(alloc, r)?);
+            one_operand(alloc, s, r)
+        }
+        Operands::Two(s, t, r) => {
+            let (s, t, r) = (of_kind(alloc, s)?, of_kind(alloc, t)?, of_kind(alloc, r)?);
+            two_operands(alloc, s, t, r)
+        }
+    }
+}
+
+/// The type of the values of a kind.
+fn of_kind(alloc: Global, kind: ValueKind) -> Result<Ty, AllocError>
+    ensures { IfOk result (λ t. plain t ≡ of_kind kind) }
+{
+    match kind {
+        ValueKind::Int => Ok(Ty::Int),
+        ValueKind::Char => Ok(Ty::Char),
+        ValueKind::Bool => Ok(Ty::Bool),
+        ValueKind::Text => Ok(Ty::Str),
+        ValueKind::Empty => record_of(alloc, Vec::new(alloc)),
     }
 }
 

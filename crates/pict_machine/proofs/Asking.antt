@@ -55,7 +55,7 @@ use Rattle.pict_meetings.specs.declared.waiting.Waiting.TheVariants.{Output, Inp
 use Rattle.pict_meetings.proofs.Waits.{channel_there, output_waits, input_waits}
 use Rattle.pict_shapes.specs.Fitting.{is_found}
 use Rattle.pict_shapes.specs.Shapes.{is_effect, is_kind}
-use Rattle.pict_shapes.specs.declared.shape.Kind.TheVariants.{ABool}
+use Rattle.pict_syntax.specs.declared.primitive.ValueKind.TheVariants as kind
 use Rattle.pict_turns.specs.Views.{channel_lists, acting_words, IsBlock}
 use Rattle.pict_turns.specs.declared.store.Store.{Store}
 use Rattle.pict_turns.proofs.Rows.{length_lists}
@@ -146,7 +146,7 @@ module _ (core : Process) (s : Store) (may : MayAsk core s) where
 
   -- ---- conditionals and calls
 
-  pub test_wrong : (v : Val) (p q : Process) → acting ≡ If v p q → is_wrong core s ≡ not (is_kind ABool v)
+  pub test_wrong : (v : Val) (p q : Process) → acting ≡ If v p q → is_wrong core s ≡ not (is_kind kind.Bool v)
   test_wrong v p q e = is_by (If v p q) e ∙ test_misfits v p q
 
   pub call_wrong : (p : Primitive) (v : Val) (at : Span) → acting ≡ Out (PrimitiveVal p) v at → is_wrong core s ≡ not (is_effect (effect_of p v))
@@ -241,7 +241,7 @@ module _ (core : Process) (s : Store) (may : MayAsk core s) where
       is_by core s may (term.New (replace (closing n value) form.p)) (st.is ∙ ap (node_with n value) form.is ∙ new_stands n value form.p)
 
   module _ (closed : IsClosed core) where
-    pub if_wrong : (test : Val) (l r : ℕ) → ActsBy core s (op.If test l r) → is_wrong core s ≡ not (is_kind ABool (operand_in s.desk.heap s.desk.values.items test))
+    pub if_wrong : (test : Val) (l r : ℕ) → ActsBy core s (op.If test l r) → is_wrong core s ≡ not (is_kind kind.Bool (operand_in s.desk.heap s.desk.values.items test))
     if_wrong test l r a =
         let st = standing core s (op.If test l r) a in
         let n = st.part.around in

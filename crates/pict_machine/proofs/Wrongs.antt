@@ -12,7 +12,7 @@ use Rattle.pict_core.specs.Term.{Val, Pat, Process, Zero, Par, New, Out, In, If}
 use Rattle.pict_core.specs.Term as term
 use Rattle.pict_shapes.specs.Fitting.{is_found}
 use Rattle.pict_shapes.specs.Shapes.{is_effect, is_kind}
-use Rattle.pict_shapes.specs.declared.shape.Kind.TheVariants.{ABool}
+use Rattle.pict_syntax.specs.declared.primitive.ValueKind.TheVariants as kind
 use Rattle.pict_view.specs.Moved.{Moved, if_replicated}
 use Rattle.pict_view.specs.Placed.{without, ready_after, moves, at_list, place_at}
 use Rattle.pict_view.specs.View.{View}
@@ -110,7 +110,7 @@ module _ (lists : List (List Process)) where
 
 -- ---- where a deed misfits
 
-pub test_misfits : (v : Val) (p q : Process) → is_misfit (chooses v p q) ≡ not (is_kind ABool v)
+pub test_misfits : (v : Val) (p q : Process) → is_misfit (chooses v p q) ≡ not (is_kind kind.Bool v)
 test_misfits (term.Boolean true) p q = refl
 test_misfits (term.Boolean false) p q = refl
 test_misfits (term.Var x) p q = refl

@@ -31,8 +31,8 @@ use pict_desk::{Kept, channel_at_hand, channel_of, word_at, word_at_hand};
 use pict_heap::Word;
 use pict_meetings::{Waiting, first_waiting};
 use pict_queue::{QueueId, Queues};
-use pict_shapes::{Kind, fits, fits_operand, operand_is, takes, takes_operand};
-use pict_syntax::Prim;
+use pict_shapes::{fits, fits_operand, operand_is, takes, takes_operand};
+use pict_syntax::{Prim, ValueKind};
 use pict_turns::{Store, Turn, return_turn, take_turn};
 
 impl Machine {
@@ -95,7 +95,7 @@ fn test_is_wrong(code: &[Node], store: &Store, test: &Operand) -> bool
     requires acts { (yes : ℕ) × (no : ℕ) × ActsBy (core_in code.now) store.now (op.If (plain_val test.now) yes no) }
     ensures { result ≡ is_wrong (core_in code.now) store.now }
 {
-    !operand_is(&store.desk.heap, Kind::ABool, test, &store.desk.values)
+    !operand_is(&store.desk.heap, ValueKind::Bool, test, &store.desk.values)
 }
 
 // The same of an output of the second operand on the first.

@@ -10,13 +10,13 @@ use Rattle.pict_core.specs.Term.{Val, Vals, Labelled, Pat, Pats, LabelledPats, B
 use Rattle.pict_core.specs.Closed.{binds, binds_all, binds_labelled, IsOver, AreOver, LabelledOver, IsUnder}
 use Rattle.pict_core.specs.Plain.{vals_of, labelled_of, pats_of, labelled_pats_of}
 use Rattle.pict_translation.specs.Within.{Within, AreWithin, LabelledWithin, PatWithin, PatsWithin, LabelledPatsWithin, Nests}
-use Rattle.pict_object.specs.Objects.{count_bytes, number_of_primitive, how_many_vals, how_many_labelled, how_many_pats, how_many_labelled_pats, value_bytes, values_bytes, labelled_bytes, pattern_bytes, patterns_bytes, labelled_patterns_bytes, process_bytes, input_byte, nowhere}
+use Rattle.pict_object.specs.Objects.{count_bytes, how_many_vals, how_many_labelled, how_many_pats, how_many_labelled_pats, value_bytes, values_bytes, labelled_bytes, pattern_bytes, patterns_bytes, labelled_patterns_bytes, process_bytes, input_byte, nowhere}
 use Rattle.pict_object.specs.Fits.{ValueHasBytes, ValuesHaveBytes, LabelledHaveBytes, PatternHasBytes, PatternsHaveBytes, LabelledPatternsHaveBytes, HasBytes}
 use Rattle.pict_object.specs.Cores.{RiseAfter, Rise, field_labels, pattern_field_labels, IsRising, AreRising, FieldsAreRising, PatternIsRising, PatternsAreRising, PatternFieldsAreRising, LabelsRise}
 use Rattle.pict_object.specs.Sizes.{IsSimple}
 use Rattle.pict_object.specs.Dressing.{Dress, dressed_value, dressed_values, dressed_labelled, dressed_pattern, dressed_patterns, dressed_labelled_patterns, dressed}
-use Rattle.pict_object.specs.Reading.{◌>>=◌, byte_at, label_in, label_at, parts_at, counted_at, fields_at, labelled_at, primitives, variable_at, int_at, char_at, string_at, primitive_at, simple_at, nothing_at, record_at, tagged_value_at, value_at, record_pattern_at, tagged_pattern_at, pattern_at, more, par_at, new_at, out_at, in_at, if_at, tagged_at, node_at, process_at, whole_at}
-use Rattle.pict_object.proofs.Once.{primitive_back}
+use Rattle.pict_object.specs.Reading.{◌>>=◌, byte_at, label_in, label_at, parts_at, counted_at, fields_at, labelled_at, variable_at, int_at, char_at, string_at, primitive_at, simple_at, nothing_at, record_at, tagged_value_at, value_at, record_pattern_at, tagged_pattern_at, pattern_at, more, par_at, new_at, out_at, in_at, if_at, tagged_at, node_at, process_at, whole_at}
+use Rattle.pict_syntax.proofs.Numbered.{found_at}
 use Rattle.pict_object.proofs.Fronts.{wide64, number_again, count_again, text_again}
 use Rattle.pict_object.proofs.Standing.{Held, held_more}
 
@@ -129,7 +129,7 @@ module _ (labels : List Name) (place : ℕ → ℕ) (Placed : ℕ → Type 0) (B
   simple_again n b e fields (Boolean true) rest s over fits = refl
   simple_again n b e fields (Boolean false) rest s over fits = refl
   simple_again n b e fields (Text text) rest s over fits = ap (λ z. z >>= λ x. Some (Text x.0, x.1)) (text_again text rest fits)
-  simple_again n b e fields (PrimitiveVal p) rest s over fits = ap (λ z. z >>= λ q. Some (PrimitiveVal q, rest)) (primitive_back p)
+  simple_again n b e fields (PrimitiveVal p) rest s over fits = ap (λ z. z >>= λ q. Some (PrimitiveVal q, rest)) (found_at p)
   simple_again n b e fields (Record vs ls) rest s over fits = absurd s
 
   tagged_record : (b : ℕ) (fields : List ℕ → Option (Val × List ℕ)) (bytes : List ℕ) → tagged_value_at b fields (0x17 ∷ bytes) ≡ fields bytes

@@ -5,39 +5,17 @@ use Rattle.std.specs.Int.{w32, w64, to_be_bytes, cast_signed}
 use Rattle.std.proofs.lemmas.Bool.{eqb-true, ltb-true, ltb-false}
 use Rattle.std.proofs.lemmas.Int.{of_z-to_z}
 use Rattle.pict_syntax.specs.declared.name.Name.{Name}
-use Rattle.pict_syntax.specs.declared.primitive.Primitive.{Primitive}
+use Rattle.pict_syntax.specs.Primitives.{primitives}
+use Rattle.pict_syntax.proofs.Numbered.{number_found}
 use Rattle.pict_core.specs.Term.{Val, Labelled, Pat, Var, Int, Char, Boolean, Text, PrimitiveVal, Record, no_labelled, more_labelled, Bind, Any, RecordPat}
 use Rattle.pict_core.specs.Closed.{IsOver, AreOver, LabelledOver, Lacks, IsDistinct}
 use Rattle.pict_core.specs.Plain.{vals_of, labelled_of, pats_of, labelled_pats_of}
 use Rattle.pict_translation.specs.Within.{Within, AreWithin, LabelledWithin, PatWithin, PatsWithin, LabelledPatsWithin}
-use Rattle.pict_object.specs.Objects.{count_bytes, number_of_primitive, how_many_vals, how_many_labelled, how_many_pats, how_many_labelled_pats, value_bytes, values_bytes, labelled_bytes, pattern_bytes, patterns_bytes, labelled_patterns_bytes}
+use Rattle.pict_object.specs.Objects.{count_bytes, how_many_vals, how_many_labelled, how_many_pats, how_many_labelled_pats, value_bytes, values_bytes, labelled_bytes, pattern_bytes, patterns_bytes, labelled_patterns_bytes}
 use Rattle.pict_object.specs.Fits.{ValueHasBytes, ValuesHaveBytes, LabelledHaveBytes, PatternHasBytes, PatternsHaveBytes, LabelledPatternsHaveBytes}
 use Rattle.pict_object.specs.Cores.{RiseAfter, Rise, field_labels, pattern_field_labels, IsRising, AreRising, FieldsAreRising, PatternIsRising, PatternsAreRising, PatternFieldsAreRising}
-use Rattle.pict_object.specs.Reading.{◌>>=◌, number_at, byte_at, text_at, label_in, label_at, parts_at, counted_at, fields_at, labelled_at, primitives, variable_at, int_at, char_at, string_at, primitive_at, simple_at, nothing_at, record_at, tagged_value_at, value_at, record_pattern_at, tagged_pattern_at, pattern_at}
+use Rattle.pict_object.specs.Reading.{◌>>=◌, number_at, byte_at, text_at, label_in, label_at, parts_at, counted_at, fields_at, labelled_at, variable_at, int_at, char_at, string_at, primitive_at, simple_at, nothing_at, record_at, tagged_value_at, value_at, record_pattern_at, tagged_pattern_at, pattern_at}
 use Rattle.pict_object.proofs.Fronts.{IsBytes, IsBytes-rest, Takes, takes_none, takes_both, takes_tag, if_then, if_not, if_either, if_weaker, wide32, wide64, IsNumberRead, number_read, signed_fits, IsByteRead, byte_read, IsTextRead, text_read}
-
--- ---- primitives
-
-AreCounted : List Primitive → ℕ → Type 0
-AreCounted [] k = Unit {0}
-AreCounted (p ∷ ps) k = (number_of_primitive p ≡ k) × AreCounted ps (k + 1)
-
-same_primitive : (p q : Primitive) → Some p ≡ Some q → p ≡ q
-same_primitive p q e = cc
-
-counted : (ps : List Primitive) (k n : ℕ) (p : Primitive) → AreCounted ps k → slice_get ps n ≡ Some p → number_of_primitive p ≡ k + n
-unfolding AreCounted
-counted [] k n p all found = absurd cc
-counted (q ∷ ps) k zero p all found = sym (ap number_of_primitive (same_primitive q p found)) ∙ all.0 ∙ (let place : k ≡ k + 0 = omega arith in place)
-counted (q ∷ ps) k (suc n) p all found = counted ps (k + 1) n p all.1 found ∙ (let place : k + 1 + n ≡ k + suc n = omega arith in place)
-
-all_counted : AreCounted primitives 0
-unfolding AreCounted
-all_counted =
-    (refl, (refl, (refl, (refl, (refl, (refl, (refl, (refl, (refl, (refl, (refl, (refl, (refl, (refl, (refl, (refl, (refl, (refl, (refl, (refl, tt))))))))))))))))))))
-
-numbered : (n : ℕ) (p : Primitive) → slice_get primitives n ≡ Some p → number_of_primitive p ≡ n
-numbered n p found = counted primitives 0 n p all_counted found ∙ (let plain : 0 + n ≡ n = omega arith in plain)
 
 -- what an option has
 has : {A : Type 0} (o : Option A) → IfSome o (λ x. o ≡ Some x)
@@ -137,7 +115,7 @@ module _ (labels : List Name) (place : ℕ → ℕ) (Placed : ℕ → Type 0) (B
       (byte_read rest fits) (λ number h.
       if_then (slice_get primitives number.0) (λ p. Some (PrimitiveVal p, number.1)) (λ p. slice_get primitives number.0 ≡ Some p) (IsValueRead n left (0x16 ∷ rest))
       (has (slice_get primitives number.0)) (λ p e.
-      (tt, tt, tt, tt, subst (λ z. Takes (0x16 ∷ rest) (0x16 ∷ z ∷ []) number.1) (sym (numbered number.0 p e)) (takes_tag 0x16 rest (number.0 ∷ []) number.1 h))))
+      (tt, tt, tt, tt, subst (λ z. Takes (0x16 ∷ rest) (0x16 ∷ z ∷ []) number.1) (sym (number_found number.0 p e)) (takes_tag 0x16 rest (number.0 ∷ []) number.1 h))))
 
   simple_read : (n b left : ℕ) → b ≤ n → (tag : ℕ) (rest : List ℕ) → IsBytes rest → IfSome (simple_at b tag rest) (IsValueRead n left (tag ∷ rest))
   unfolding simple_at

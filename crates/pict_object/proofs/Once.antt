@@ -1,5 +1,5 @@
 -- Bytes are read in one way.
-use Rattle.std.proofs.Common.{ℕ, ◌≡◌, ◌<◌, ◌^◌, ℤ, Bool, true, false, List, [], ◌∷◌, ◌++◌, length, take, drop, nat_eq, refl, sym, ap, ◌∙◌, append_assoc, arith, slice_index_or, slice_get, Some}
+use Rattle.std.proofs.Common.{ℕ, ◌≡◌, ◌<◌, ◌^◌, ℤ, Bool, true, false, List, [], ◌∷◌, ◌++◌, length, take, drop, nat_eq, refl, sym, ap, ◌∙◌, append_assoc, arith, slice_index_or}
 use Rattle.std.specs.Prelude.{FitsSigned}
 use Rattle.std.specs.Int.{w32, w64, to_be_bytes, from_be_bytes, cast_unsigned, cast_signed}
 use Rattle.std.proofs.lemmas.Int.{to_z-of_z}
@@ -7,11 +7,11 @@ use Rattle.std.proofs.lemmas.Bool.Decides.{nat_tests}
 use Rattle.std.proofs.Math.Facts.{Fits-of_z, Fits-lt-pow}
 use Rattle.std.proofs.lemmas.Nat.{from_be_bytes-to_be_bytes_4, from_be_bytes-to_be_bytes_8}
 use Rattle.pict_syntax.specs.declared.primitive.Primitive.{Primitive}
-use Rattle.pict_syntax.specs.declared.primitive.Primitive.TheVariants as primitive
+use Rattle.pict_syntax.specs.Primitives.{primitive_number}
+use Rattle.pict_syntax.proofs.Numbered.{one_number}
 use Rattle.pict_core.specs.Term.{Val, Vals, Labelled, Pat, Pats, LabelledPats, Bind, Any, RecordPat, no_pats, more_pats, no_labelled_pats, more_labelled_pats, Process, Var, Chan, Int, Char, Boolean, Text, PrimitiveVal, Record, no_vals, more_vals, no_labelled, more_labelled, Zero, Par, New, Out, In, If}
-use Rattle.pict_object.specs.Objects.{count_bytes, number_of_primitive, how_many_vals, how_many_labelled, how_many_pats, how_many_labelled_pats, bool_byte, value_bytes, values_bytes, labelled_bytes, pattern_bytes, patterns_bytes, labelled_patterns_bytes, process_bytes, bare, nowhere}
+use Rattle.pict_object.specs.Objects.{count_bytes, how_many_vals, how_many_labelled, how_many_pats, how_many_labelled_pats, bool_byte, value_bytes, values_bytes, labelled_bytes, pattern_bytes, patterns_bytes, labelled_patterns_bytes, process_bytes, bare, nowhere}
 use Rattle.pict_object.specs.Fits.{ValueHasBytes, ValuesHaveBytes, LabelledHaveBytes, PatternHasBytes, PatternsHaveBytes, LabelledPatternsHaveBytes, HasBytes}
-use Rattle.pict_object.specs.Reading.{primitives}
 use Rattle.pict_object.specs.Laws.{ArePlaces, ProcessesAreReadOnce}
 
 -- both of two lists are the same, and what comes behind them
@@ -53,13 +53,8 @@ bool_once false false r s h = (refl, ap tail h)
 bool_once true false r s h = absurd (differ 0x14 0x13 refl r s h)
 bool_once false true r s h = absurd (differ 0x13 0x14 refl r s h)
 
--- a primitive is found at its number
-pub primitive_back : (p : Primitive) → slice_get primitives (number_of_primitive p) ≡ Some p
-primitive_back primitive.Print = refl
-primitive_back _ = refl
-
-primitive_once : (a b : Primitive) (r s : List ℕ) → number_of_primitive a ∷ r ≡ number_of_primitive b ∷ s → Once a b r s
-primitive_once a b r s h = let same : Some a ≡ Some b = sym (primitive_back a) ∙ ap (λ n. slice_get primitives n) (ap head h) ∙ primitive_back b in (cc, ap tail h)
+primitive_once : (a b : Primitive) (r s : List ℕ) → primitive_number a ∷ r ≡ primitive_number b ∷ s → Once a b r s
+primitive_once a b r s h = (one_number a b (ap head h), ap tail h)
 
 -- a part, then the rest
 part_of : (a b r s : List ℕ) (t u : List ℕ) → (a ++ b) ++ r ≡ (t ++ u) ++ s → a ++ (b ++ r) ≡ t ++ (u ++ s)

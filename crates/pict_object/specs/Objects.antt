@@ -7,8 +7,7 @@ use Rattle.std.specs.List.{flat_map, list_any}
 use Rattle.std.specs.Str.{bytes_eq}
 use Rattle.std.specs.Cmp.Lexicographic.{slice_cmp}
 use Rattle.std.specs.declared.cmp.Ordering.TheVariants.{Less}
-use Rattle.pict_syntax.specs.declared.primitive.Primitive.{Primitive}
-use Rattle.pict_syntax.specs.declared.primitive.Primitive.TheVariants as primitive
+use Rattle.pict_syntax.specs.Primitives.{primitive_number}
 use Rattle.pict_syntax.specs.declared.span.Span.{Span}
 use Rattle.pict_core.specs.Term.{Val, Vals, Labelled, Pat, Pats, LabelledPats, Bind, Any, RecordPat, no_pats, more_pats, no_labelled_pats, more_labelled_pats, Process, Var, Chan, Int, Char, Boolean, Text, PrimitiveVal, Record, no_vals, more_vals, no_labelled, more_labelled, Zero, Par, New, Out, In, If}
 use Rattle.pict_syntax.specs.Names.{text_of, number_of}
@@ -17,28 +16,6 @@ use Rattle.pict_syntax.specs.Names.{text_of, number_of}
 
 abbrev pub count_bytes : ℕ → List ℕ
 count_bytes n = to_be_bytes w32 n
-
-abbrev pub number_of_primitive : Primitive → ℕ
-number_of_primitive primitive.Print = 0
-number_of_primitive primitive.Printi = 1
-number_of_primitive primitive.Pr = 2
-number_of_primitive primitive.Add = 3
-number_of_primitive primitive.Subtract = 4
-number_of_primitive primitive.Multiply = 5
-number_of_primitive primitive.Divide = 6
-number_of_primitive primitive.Remainder = 7
-number_of_primitive primitive.Equal = 8
-number_of_primitive primitive.Less = 9
-number_of_primitive primitive.AtMost = 10
-number_of_primitive primitive.Greater = 11
-number_of_primitive primitive.AtLeast = 12
-number_of_primitive primitive.Chr = 13
-number_of_primitive primitive.Ord = 14
-number_of_primitive primitive.Join = 15
-number_of_primitive primitive.Intstr = 16
-number_of_primitive primitive.Size = 17
-number_of_primitive primitive.Nth = 18
-number_of_primitive primitive.Not = 19
 
 abbrev pub how_many_vals : Vals → ℕ
 how_many_vals no_vals = 0
@@ -69,7 +46,7 @@ abbrev mutual
   value_bytes place (Char byte) = 0x12 ∷ byte ∷ []
   value_bytes place (Boolean b) = bool_byte b ∷ []
   value_bytes place (Text bytes) = 0x15 ∷ (count_bytes (length bytes) ++ bytes)
-  value_bytes place (PrimitiveVal p) = 0x16 ∷ number_of_primitive p ∷ []
+  value_bytes place (PrimitiveVal p) = 0x16 ∷ primitive_number p ∷ []
   value_bytes place (Record vs ls) = 0x17 ∷ (count_bytes (how_many_vals vs) ++ (values_bytes place vs ++ (count_bytes (how_many_labelled ls) ++ labelled_bytes place ls)))
 
   pub values_bytes : (ℕ → ℕ) → Vals → List ℕ

@@ -4,8 +4,7 @@ use Rattle.std.specs.Prelude.{ℕ, zero, suc, ◌+◌, ◌-◌, ◌^◌, ◌≡�
 use Rattle.std.specs.Int.{Width, w32, w64, byte_len, from_be_bytes, cast_signed}
 use Rattle.pict_syntax.specs.declared.limits.TheConstants.{DEPTH_LIMIT, NESTING_LIMIT}
 use Rattle.pict_syntax.specs.declared.name.Name.{Name}
-use Rattle.pict_syntax.specs.declared.primitive.Primitive.{Primitive}
-use Rattle.pict_syntax.specs.declared.primitive.Primitive.TheVariants as primitive
+use Rattle.pict_syntax.specs.Primitives.{primitives}
 use Rattle.pict_core.specs.Term.{Val, Var, Int, Char, Boolean, Text, PrimitiveVal, Record, Pat, Bind, Any, RecordPat, Process, Zero, Par, New, Out, In, If}
 use Rattle.pict_core.specs.Closed.{binds}
 use Rattle.pict_core.specs.declared.process.Part.{Part}
@@ -94,13 +93,6 @@ labelled_at labels part bytes = do
   fields_at labels part n.0 0 n.1
 
 -- ---- values
-
--- the primitives by their numbers
-abbrev pub primitives : List Primitive
-primitives =
-    primitive.Print ∷ primitive.Printi ∷ primitive.Pr ∷ primitive.Add ∷ primitive.Subtract ∷ primitive.Multiply ∷ primitive.Divide
-    ∷ primitive.Remainder ∷ primitive.Equal ∷ primitive.Less ∷ primitive.AtMost ∷ primitive.Greater ∷ primitive.AtLeast ∷ primitive.Chr
-    ∷ primitive.Ord ∷ primitive.Join ∷ primitive.Intstr ∷ primitive.Size ∷ primitive.Nth ∷ primitive.Not ∷ []
 
 unfoldable pub variable_at : ℕ → List ℕ → Option (Val × List ℕ)
 variable_at bound bytes = do

@@ -1,50 +1,14 @@
 // Values read from the bytes of an object.
 
 ghost use Rattle.std.specs.Prelude.{◌≡◌, map};
-ghost use Rattle.std.specs.Prelude.{slice_get};
 ghost use Rattle.pict_core.specs.Plain.{plain_val, plain_field};
-ghost use Rattle.pict_object.specs.Reading.{Gives, primitives, variable_at, int_at, char_at, string_at, primitive_at, simple_at, record_at, value_at, counted_at, labelled_at};
+ghost use Rattle.pict_object.specs.Reading.{Gives, variable_at, int_at, char_at, string_at, primitive_at, simple_at, record_at, value_at, counted_at, labelled_at};
 
 use crate::error::DecodeError;
 use crate::front::{read_bits, read_byte, read_count, read_label, read_text};
 use pict_core::CoreVal;
 use pict_syntax::{Bytes, Name, Primitive};
 use std::alloc::Global;
-
-// The primitives by their numbers.
-const PRIMITIVES: [Primitive; 20] = [
-    Primitive::Print,
-    Primitive::Printi,
-    Primitive::Pr,
-    Primitive::Add,
-    Primitive::Subtract,
-    Primitive::Multiply,
-    Primitive::Divide,
-    Primitive::Remainder,
-    Primitive::Equal,
-    Primitive::Less,
-    Primitive::AtMost,
-    Primitive::Greater,
-    Primitive::AtLeast,
-    Primitive::Chr,
-    Primitive::Ord,
-    Primitive::Join,
-    Primitive::Intstr,
-    Primitive::Size,
-    Primitive::Nth,
-    Primitive::Not,
-];
-
-// The primitive of a number.
-fn primitive(number: u8) -> Option<Primitive>
-    ensures { result ≡ slice_get primitives number }
-{
-    if number < 20 {
-        Some(PRIMITIVES[number as usize])
-    } else {
-        None
-    }
-}
 
 #[tactic(auto, unfolding(crate::specs::Reading::variable_at))]
 fn read_variable(bytes: &[u8], bound: u64) -> Result<(CoreVal, &[u8]), DecodeError>
@@ -88,7 +52,7 @@ fn read_primitive(bytes: &[u8]) -> Result<(CoreVal, &[u8]), DecodeError>
     ensures { Gives (λ x. (plain_val x.0, x.1.now)) result (primitive_at bytes.now) }
 {
     let (number, rest) = read_byte(bytes)?;
-    match primitive(number) {
+    match Primitive::numbered(u64::from(number)) {
         Some(p) => Ok((CoreVal::Prim(p), rest)),
         None => Err(DecodeError::NotObject),
     }

@@ -2,7 +2,7 @@
 
 ghost use Rattle.std.specs.Prelude.{◌≡◌, ◌<◌, ◌^◌, ◌++◌, ◌∷◌, [], map, length, OnOk, ℕ};
 ghost use Rattle.pict_core.specs.Plain.{plain_core, plain_pat, plain_val, plain_field, plain_pat_field, vals_of, labelled_of, pats_of, labelled_pats_of};
-ghost use Rattle.pict_object.specs.Objects.{count_bytes, number_of_primitive, value_bytes, values_bytes, labelled_bytes, pattern_bytes, patterns_bytes, labelled_patterns_bytes, process_bytes};
+ghost use Rattle.pict_object.specs.Objects.{count_bytes, value_bytes, values_bytes, labelled_bytes, pattern_bytes, patterns_bytes, labelled_patterns_bytes, process_bytes};
 ghost use Rattle.pict_object.specs.Fits.{HasBytes, ValueHasBytes, ValuesHaveBytes, LabelledHaveBytes, PatternHasBytes, PatternsHaveBytes, LabelledPatternsHaveBytes};
 ghost use Rattle.pict_object.specs.Sizes.{Anywhere, IsSimple, place_at};
 
@@ -96,7 +96,7 @@ fn write_simple(out: &mut Vec<u8>, value: &CoreVal) -> Result<(), AllocError>
             write_count(out, bytes.slice().len())?;
             out.extend_from_slice(bytes.slice())
         }
-        CoreVal::Prim(p) => out.extend_from_slice(&[0x16, number(*p)]),
+        CoreVal::Prim(p) => out.extend_from_slice(&[0x16, p.number()]),
         CoreVal::Chan(_) | CoreVal::Fields { .. } => Ok(()),
     }
 }
@@ -204,32 +204,4 @@ fn write_pattern_fields(
         write_pattern(out, places, &field.1)?;
     }
     Ok(())
-}
-
-/// The number of a primitive.
-fn number(primitive: Primitive) -> u8
-    ensures { result ≡ number_of_primitive primitive }
-{
-    match primitive {
-        Primitive::Print => 0,
-        Primitive::Printi => 1,
-        Primitive::Pr => 2,
-        Primitive::Add => 3,
-        Primitive::Subtract => 4,
-        Primitive::Multiply => 5,
-        Primitive::Divide => 6,
-        Primitive::Remainder => 7,
-        Primitive::Equal => 8,
-        Primitive::Less => 9,
-        Primitive::AtMost => 10,
-        Primitive::Greater => 11,
-        Primitive::AtLeast => 12,
-        Primitive::Chr => 13,
-        Primitive::Ord => 14,
-        Primitive::Join => 15,
-        Primitive::Intstr => 16,
-        Primitive::Size => 17,
-        Primitive::Nth => 18,
-        Primitive::Not => 19,
-    }
 }

@@ -9,7 +9,7 @@ use Rattle.pict_heap.specs.Fields.{count, positional_field, positional_count}
 use Rattle.pict_heap.specs.HeapState.{HeapState, value_of}
 use Rattle.pict_heap.specs.declared.word.Word.{Word}
 use Rattle.pict_prim.specs.Answers.{of_numbers}
-use Rattle.pict_prim.specs.Families.{one_effect, three_effect, simple_effect, int_effect}
+use Rattle.pict_prim.specs.Families.{one_effect, two_effect, simple_effect, int_effect}
 
 two_by : (p : Primitive) (x k : Val) (ls : Labelled) → effect_of p (Record (more_vals x (more_vals k no_vals)) ls) ≡ one_effect p x k
 two_by primitive.Print x k ls = refl
@@ -32,15 +32,16 @@ no_numbers x y = none_of_int x _ (λ a. none_of_int y _ (λ b. refl))
 none_by_numbers : (x y : Val) → None ≡ at_int x (λ a. at_int y (λ b. None))
 none_by_numbers x y = sym (no_numbers x y)
 
-three_by : (p : Primitive) (x y k : Val) (ls : Labelled) → effect_of p (Record (more_vals x (more_vals y (more_vals k no_vals))) ls) ≡ three_effect p x y k
-three_by primitive.Print x y k ls = none_by_numbers x y
-three_by _ x y k ls = search none_by_numbers
+three_by : (p : Primitive) (x y k : Val) (ls : Labelled) → effect_of p (Record (more_vals x (more_vals y (more_vals k no_vals))) ls) ≡ two_effect p x y k
+three_by primitive.Print x y k ls = refl
+three_by _ x y k ls = refl
 
 -- the effect on three operands, where the first two are to be numbers
-pub three_numbers : (p : Primitive) → (p ≡ primitive.Join → ⊥) → (p ≡ primitive.Nth → ⊥) → (x y k : Val) → three_effect p x y k ≡ at_int x (λ a. at_int y (λ b. int_effect p a b k))
+pub three_numbers : (p : Primitive) → (p ≡ primitive.Join → ⊥) → (p ≡ primitive.Nth → ⊥) → (x y k : Val) → two_effect p x y k ≡ at_int x (λ a. at_int y (λ b. int_effect p a b k))
 three_numbers primitive.Join m n x y k = absurd (m refl)
 three_numbers primitive.Nth m n x y k = absurd (n refl)
-three_numbers _ m n x y k = refl
+three_numbers primitive.Print m n x y k = none_by_numbers x y
+three_numbers _ m n x y k = search none_by_numbers
 
 -- the effect on a record of two numbers and a third field
 pub numbers_by : (p : Primitive) (a b : ℤ) (k : Val) (ls : Labelled) → effect_of p (of_numbers a b k ls) ≡ int_effect p a b k
@@ -133,7 +134,7 @@ two_of p (Record (more_vals a (more_vals b no_vals)) ls) x k e f g =
 two_of p (Record (more_vals a (more_vals b (more_vals c vs))) ls) x k e f g = let n : suc (suc (suc (count vs))) ≡ 2 = cc in absurd (omega arith)
 
 pub three_of : (p : Primitive) (v x y k : Val) → positional_count v ≡ Some 3 → positional_field v 0 ≡ Some x → positional_field v 1 ≡ Some y → positional_field v 2 ≡ Some k
-    → effect_of p v ≡ three_effect p x y k
+    → effect_of p v ≡ two_effect p x y k
 three_of p (Var n) x y k e f g h = cc
 three_of p (Chan n) x y k e f g h = cc
 three_of p (Int n) x y k e f g h = cc
@@ -148,7 +149,7 @@ three_of p (Record (more_vals a (more_vals b (more_vals c no_vals))) ls) x y k e
     let i : a ≡ x = cc in
     let j : b ≡ y = cc in
     let l : c ≡ k = cc in
-    three_by p a b c ls ∙ ap (λ z. three_effect p z b c) i ∙ ap (λ z. three_effect p x z c) j ∙ ap (three_effect p x y) l
+    three_by p a b c ls ∙ ap (λ z. two_effect p z b c) i ∙ ap (λ z. two_effect p x z c) j ∙ ap (two_effect p x y) l
 three_of p (Record (more_vals a (more_vals b (more_vals c (more_vals d vs)))) ls) x y k e f g h =
     let n : suc (suc (suc (suc (count vs)))) ≡ 3 = cc in absurd (omega arith)
 
@@ -171,7 +172,7 @@ module _ (p : Primitive) (h : HeapState) (ls : Labelled) where
   two_words (v ∷ k ∷ x ∷ ws) d e n = absurd (omega arith)
 
   pub three_words : (ws : List Word) (d e f : Word) → length ws ≡ 3
-      → effect_of p (Record (vals_of (map (value_of h) ws)) ls) ≡ three_effect p (value_of h (get_or ws 0 d)) (value_of h (get_or ws 1 e)) (value_of h (get_or ws 2 f))
+      → effect_of p (Record (vals_of (map (value_of h) ws)) ls) ≡ two_effect p (value_of h (get_or ws 0 d)) (value_of h (get_or ws 1 e)) (value_of h (get_or ws 2 f))
   three_words [] d e f n = absurd (omega arith)
   three_words (v ∷ []) d e f n = absurd (omega arith)
   three_words (v ∷ w ∷ []) d e f n = absurd (omega arith)

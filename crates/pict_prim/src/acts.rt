@@ -2,18 +2,18 @@
 
 ghost use Rattle.std.specs.Prelude.{◌≡◌, IfOk, IfSome, option_map};
 ghost use Rattle.pict_core.specs.Plain.{plain_val};
-ghost use Rattle.pict_core.specs.Primitives.{effect_of, at_two, at_three, at_ints};
+ghost use Rattle.pict_core.specs.Primitives.{effect_of, at_int, at_two, at_three};
 ghost use Rattle.pict_prim.specs.ValueDone.{effect_value_done, PrintsText, Attempts};
-ghost use Rattle.pict_prim.specs.Families.{int_effect, one_effect, text_effect};
+ghost use Rattle.pict_prim.specs.Families.{int_effect, one_effect, simple_effect, two_effect};
 
 use crate::numbers::act_on_numbers;
-use crate::operands::{three_fields, two_fields, two_numbers};
+use crate::operands::{three_fields, two_fields};
 use crate::outcome::ValueDone;
 use crate::texts::{
     chr, intstr, join, negate, nth, ord, print, print_and_answer, print_number, size,
 };
 use pict_core::CoreVal;
-use pict_syntax::Prim;
+use pict_syntax::{Operands, Prim};
 use std::alloc::{AllocError, Global};
 
 /// What the primitive does to the argument. `None` exactly where the argument has not the primitive's shape, and
@@ -26,18 +26,25 @@ pub fn attempt_on_value(
     ensures effect { IfOk result (λ done. option_map effect_value_done done ≡ effect_of p (plain_val argument.now)) }
     ensures printed { IfOk result (λ done. IfSome done PrintsText) }
 {
+    match p.operands() {
+        Operands::Alone(_) => attempt_simple(alloc, p, argument),
+        Operands::One(..) => attempt_one(alloc, p, argument),
+        Operands::Two(..) => attempt_two(alloc, p, argument),
+    }
+}
+
+// On an argument that is no record.
+fn attempt_simple(
+    alloc: Global,
+    p: Prim,
+    argument: &CoreVal,
+) -> Result<Option<ValueDone>, AllocError>
+    ensures { Attempts result (simple_effect p (plain_val argument.now)) }
+{
     match p {
         Prim::Print => print(alloc, argument),
         Prim::Printi => print_number(argument),
-        Prim::Pr | Prim::Chr | Prim::Ord | Prim::Intstr | Prim::Size | Prim::Not => attempt_one(
-            alloc, p, argument,
-        ),
-        Prim::Join | Prim::Nth => attempt_texts(alloc, p, argument),
-        Prim::Add | Prim::Subtract | Prim::Multiply | Prim::Divide | Prim::Remainder =>
-            attempt_numbers(alloc, p, argument),
-        Prim::Equal | Prim::Less | Prim::AtMost | Prim::Greater | Prim::AtLeast => attempt_numbers(
-            alloc, p, argument,
-        ),
+        _ => Ok(None),
     }
 }
 
@@ -70,46 +77,47 @@ fn act_on_one(
     }
 }
 
-// On a record of a string, a further operand and where to send.
-fn attempt_texts(
-    alloc: Global,
-    p: Prim,
-    argument: &CoreVal,
-) -> Result<Option<ValueDone>, AllocError>
-    ensures { Attempts result (at_three (plain_val argument.now) (text_effect p)) }
+// On a record of two operands and where to send.
+fn attempt_two(alloc: Global, p: Prim, argument: &CoreVal) -> Result<Option<ValueDone>, AllocError>
+    ensures { Attempts result (at_three (plain_val argument.now) (two_effect p)) }
 {
     match three_fields(argument) {
         None => Ok(None),
-        Some((v, w, k)) => act_on_texts(alloc, p, v, w, k),
+        Some((v, w, k)) => act_on_two(alloc, p, v, w, k),
     }
 }
 
-fn act_on_texts(
+fn act_on_two(
     alloc: Global,
     p: Prim,
     v: &CoreVal,
     w: &CoreVal,
     k: &CoreVal,
 ) -> Result<Option<ValueDone>, AllocError>
-    ensures { Attempts result (text_effect p (plain_val v.now) (plain_val w.now) (plain_val k.now)) }
+    ensures { Attempts result (two_effect p (plain_val v.now) (plain_val w.now) (plain_val k.now)) }
 {
     match p {
         Prim::Join => join(alloc, v, w, k),
         Prim::Nth => nth(alloc, v, w, k),
-        _ => Ok(None),
+        _ => act_on_operands(alloc, p, v, w, k),
     }
 }
 
-// On a record of two numbers and where to send.
-fn attempt_numbers(
+// On two operands that are to be numbers.
+fn act_on_operands(
     alloc: Global,
     p: Prim,
-    argument: &CoreVal,
+    v: &CoreVal,
+    w: &CoreVal,
+    k: &CoreVal,
 ) -> Result<Option<ValueDone>, AllocError>
-    ensures { Attempts result (at_ints (plain_val argument.now) (int_effect p)) }
+    ensures { Attempts result (at_int (plain_val v.now) (λ a. at_int (plain_val w.now) (λ b. int_effect p a b (plain_val k.now)))) }
 {
-    match two_numbers(argument) {
-        None => Ok(None),
-        Some((a, b, k)) => act_on_numbers(alloc, p, a, b, k),
+    match v {
+        CoreVal::Int(a) => match w {
+            CoreVal::Int(b) => act_on_numbers(alloc, p, *a, *b, k),
+            _ => Ok(None),
+        },
+        _ => Ok(None),
     }
 }

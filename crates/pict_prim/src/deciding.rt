@@ -13,7 +13,7 @@ ghost use Rattle.pict_prim.specs.Acts.{effect_act, need_of, AddsNothing, IsActOf
 ghost use Rattle.pict_prim.specs.Needed.{needed, of_three};
 ghost use Rattle.pict_prim.specs.Answers.{of_numbers, AnswersWord, AnswersNothing};
 ghost use Rattle.pict_prim.specs.Calculated.{effect_calculated, effect_answered};
-ghost use Rattle.pict_prim.specs.Families.{one_effect, three_effect, simple_effect, int_effect};
+ghost use Rattle.pict_prim.specs.Families.{one_effect, two_effect, simple_effect, int_effect};
 
 use crate::act::Act;
 use crate::numbers::{Calculated, calculate};
@@ -153,7 +153,7 @@ fn act_on_three(heap: &Heap, p: Prim, v: Word, w: Word, k: Word) -> Option<Act>
     requires first { IsWord heap.now v }
     requires second { IsWord heap.now w }
     requires target { IsWord heap.now k }
-    ensures effect { option_map (effect_act heap.now) result ≡ three_effect p (value_of heap.now v) (value_of heap.now w) (value_of heap.now k) }
+    ensures effect { option_map (effect_act heap.now) result ≡ two_effect p (value_of heap.now v) (value_of heap.now w) (value_of heap.now k) }
     ensures words { IfSome result (IsActOf heap.now) }
     ensures need { (labels : Labelled) → IfSome result (λ act. need_of heap.now act
         ≡ needed p (of_three (value_of heap.now v) (value_of heap.now w) (value_of heap.now k) labels)) }

@@ -1,9 +1,9 @@
 // The operands of a primitive, as its argument holds them.
 
-ghost use Rattle.std.specs.Prelude.{◌≡◌, ℤ, map, Option, option_and_then};
+ghost use Rattle.std.specs.Prelude.{◌≡◌, map, Option, option_and_then};
 ghost use Rattle.pict_core.specs.Term.{Val, Labelled, Record};
 ghost use Rattle.pict_core.specs.Plain.{plain_val, vals_of};
-ghost use Rattle.pict_core.specs.Primitives.{Effect, at_two, at_three, at_ints};
+ghost use Rattle.pict_core.specs.Primitives.{Effect, at_two, at_three};
 
 use pict_core::CoreVal;
 
@@ -48,21 +48,5 @@ fn first_three(fields: &[CoreVal]) -> Option<(&CoreVal, &CoreVal, &CoreVal)>
         Some((&fields[0], &fields[1], &fields[2]))
     } else {
         None
-    }
-}
-
-/// Two numbers and the third positional field of a record with three of them; nothing of any other value.
-pub fn two_numbers(argument: &CoreVal) -> Option<(i64, i64, &CoreVal)>
-    ensures { (f : ℤ → ℤ → Val → Option Effect) → at_ints (plain_val argument.now) f ≡ option_and_then (λ x. f x.0 x.1 (plain_val x.2.now)) result }
-{
-    match three_fields(argument) {
-        None => None,
-        Some((v, w, k)) => match v {
-            CoreVal::Int(a) => match w {
-                CoreVal::Int(b) => Some((*a, *b, k)),
-                _ => None,
-            },
-            _ => None,
-        },
     }
 }

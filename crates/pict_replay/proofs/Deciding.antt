@@ -1,9 +1,9 @@
 -- Labels are the same or not.
-use Rattle.std.proofs.Common.{ℕ, ◌≡◌, ◌≢◌, ◌⊎◌, inl, inr, ℤ, pos, negsuc, Bool, true, false, List, [], ◌∷◌, Some, slice_get, refl, sym, ap, ◌∙◌}
+use Rattle.std.proofs.Common.{ℕ, ◌≡◌, ◌≢◌, ◌⊎◌, inl, inr, ℤ, pos, negsuc, Bool, true, false, List, [], ◌∷◌, refl, ap, ◌∙◌}
 use Rattle.std.proofs.lemmas.Bool.Decides.{eqb_tells}
 use Rattle.pict_syntax.specs.declared.primitive.Primitive.{Primitive}
-use Rattle.pict_syntax.specs.declared.primitive.Primitive.TheVariants as primitive
-use Rattle.pict_heap.specs.Packed.{primitives, primitive_number}
+use Rattle.pict_syntax.specs.Primitives.{primitive_number}
+use Rattle.pict_syntax.proofs.Numbered.{one_number}
 use Rattle.pict_core.specs.Term.{Val, Vals, Labelled, Var, Chan, Int, Char, Boolean, Text, PrimitiveVal, Record, no_vals, more_vals, no_labelled, more_labelled}
 use Rattle.pict_core.specs.Step.{Label, Quiet, Comm, Print}
 use Rattle.pict_core.proofs.Replacing.{two}
@@ -34,14 +34,6 @@ texts (x ∷ xs) (y ∷ ys) = elim (nats x y) [
   | inl e ↦ elim (texts xs ys) [ inl f ↦ inl (ap (λ z. z ∷ xs) e ∙ ap (λ l. y ∷ l) f) | inr n ↦ inr (λ f. n cc) ]
   | inr n ↦ inr (λ f. n cc)
 ]
-
--- a primitive is found at its number
-pub primitive_back : (p : Primitive) → slice_get primitives (primitive_number p) ≡ Some p
-primitive_back primitive.Print = refl
-primitive_back _ = refl
-
-one_number : (p q : Primitive) → primitive_number p ≡ primitive_number q → p ≡ q
-one_number p q e = let same : Some p ≡ Some q = sym (primitive_back p) ∙ ap (λ n. slice_get primitives n) e ∙ primitive_back q in cc
 
 performers : (p q : Primitive) → Decided p q
 performers p q = elim (nats (primitive_number p) (primitive_number q)) [ inl e ↦ inl (one_number p q e) | inr n ↦ inr (λ e. n (ap primitive_number e)) ]

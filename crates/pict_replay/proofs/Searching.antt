@@ -4,10 +4,10 @@ use Rattle.std.specs.Int.{w64}
 use Rattle.std.specs.List.{AllByRecursion}
 use Rattle.std.proofs.lemmas.Bool.{cases_lt}
 use Rattle.pict_syntax.specs.declared.primitive.Primitive.{Primitive}
-use Rattle.pict_heap.specs.Packed.{primitives, primitive_number}
+use Rattle.pict_syntax.specs.Primitives.{primitives, primitive_number}
+use Rattle.pict_syntax.proofs.Numbered.{found_at}
 use Rattle.pict_core.specs.Term.{Val, Vals, Labelled, Var, Chan, Int, Char, Boolean, Text, PrimitiveVal, Record, no_vals, more_vals, no_labelled, more_labelled}
 use Rattle.pict_replay.proofs.SomeReading.{below}
-use Rattle.pict_replay.proofs.Deciding.{primitive_back}
 
 -- ---- what can be decided
 
@@ -179,7 +179,7 @@ of_any Q (x ∷ ps) zero p e h = let same : p ≡ x = cc in inl (subst Q same h)
 of_any Q (x ∷ ps) (suc i) p e h = inr (of_any Q ps i p e h)
 
 each_of : (Q : Primitive → Type 0) (p : Primitive) → Q p → AnyOf Q primitives
-each_of Q p h = of_any Q primitives (primitive_number p) p (primitive_back p) h
+each_of Q p h = of_any Q primitives (primitive_number p) p (found_at p) h
 
 -- ---- values
 

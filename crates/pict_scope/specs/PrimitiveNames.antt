@@ -2,11 +2,7 @@
 use Rattle.std.specs.Prelude.{ℕ, List, [], ◌∷◌, Option, Some, None, if◌then◌else◌}
 use Rattle.std.specs.Str.{bytes_eq}
 use Rattle.pict_syntax.specs.declared.primitive.Primitive.{Primitive}
-use Rattle.pict_syntax.specs.PrimitiveTexts.{primitive_text}
-use Rattle.pict_syntax.specs.declared.primitive.Primitive.TheVariants.{Print, Printi, Pr, Add, Subtract, Multiply, Divide, Remainder, Equal, Less, AtMost, Greater, AtLeast, Chr, Ord, Join, Intstr, Size, Nth, Not}
-
-abbrev pub primitives : List Primitive
-primitives = Add ∷ Subtract ∷ Multiply ∷ Join ∷ Equal ∷ Less ∷ AtMost ∷ Greater ∷ AtLeast ∷ Print ∷ Printi ∷ Pr ∷ Divide ∷ Remainder ∷ Chr ∷ Ord ∷ Intstr ∷ Size ∷ Nth ∷ Not ∷ []
+use Rattle.pict_syntax.specs.Primitives.{primitive_text, primitives}
 
 -- the first of the list that has this name
 abbrev pub first_named : List Primitive → List ℕ → Option Primitive

@@ -9,4 +9,4 @@ mod shape;
 pub use fitting::fits;
 pub use laws::law_primitives_take_shapes;
 pub use matching::fits_operand;
-pub use shape::{Kind, Shape, operand_is, takes, takes_operand};
+pub use shape::{operand_is, takes, takes_operand};

@@ -4,7 +4,7 @@ use Rattle.std.specs.Fmt.{decimal, signed_decimal, digit_glyph}
 use Rattle.std.specs.List.{join_with_byte}
 use Rattle.pict_syntax.specs.Names.{text_of}
 use Rattle.pict_syntax.specs.Tokens.{Item, plain, newline, tab, backslash, double_quote, single_quote, hexadecimal, items_bytes}
-use Rattle.pict_syntax.specs.PrimitiveTexts.{primitive_text}
+use Rattle.pict_syntax.specs.Primitives.{primitive_text}
 use Rattle.pict_core.specs.Term.{Val, Vals, Labelled, Var, Chan, Int, Char, Boolean, Text, PrimitiveVal, Record, no_vals, more_vals, no_labelled, more_labelled}
 
 abbrev pub truth_text : Bool → List ℕ

@@ -5,7 +5,7 @@ use Rattle.pict_lex.proofs.RunLemmas.{slice_rest}
 use Rattle.pict_syntax.specs.declared.primitive.Primitive.{Primitive}
 use Rattle.pict_core.specs.Term.{Val, Var, Chan, Int, Char, Boolean, Text, PrimitiveVal, Record}
 use Rattle.pict_show.specs.Values.{value_text, truth_text}
-use Rattle.pict_syntax.specs.PrimitiveTexts.{primitive_text}
+use Rattle.pict_syntax.specs.Primitives.{primitive_text}
 use Rattle.pict_trace.specs.Readable.{IsOrderly, nesting}
 use Rattle.pict_trace.specs.Reading.{is_end, Ends, IsBare, IsBareText, IsNoBareText, Reads, BeginsNoValue}
 use Rattle.pict_trace.proofs.Unique.{all_of, is_solid, run_same, bare_solid, stops_solid, first_digit, numeral, first_of_bytes}

@@ -17,8 +17,7 @@ use Rattle.pict_syntax.specs.declared.primitive.Primitive.TheVariants as primiti
 use Rattle.pict_core.specs.Term.{Val, Vals, Labelled, Var, Chan, Int, Char, Boolean, Text, PrimitiveVal, Record, no_vals, more_vals, no_labelled, more_labelled}
 use Rattle.pict_core.specs.Step.{Label, Quiet, Comm, Print}
 use Rattle.pict_show.specs.Values.{item_of, value_text, quoted, positional_texts, labelled_texts}
-use Rattle.pict_syntax.specs.PrimitiveTexts.{primitive_text}
-use Rattle.pict_heap.specs.Packed.{primitives}
+use Rattle.pict_syntax.specs.Primitives.{primitive_text, primitives}
 use Rattle.pict_trace.specs.Lines.{shown_text, line_text, lines_text}
 use Rattle.pict_trace.specs.Readable.{IsReadable, IsReadableLabel, IsOrderly, AreOrderly, LabelsAfter, AreBytes}
 use Rattle.pict_trace.specs.Reading.{is_end, Ends, IsBare, spaced_labels}

@@ -1,6 +1,10 @@
 -- What each primitive takes, and its type.
 use Rattle.pict_syntax.specs.declared.primitive.Primitive.{Primitive}
-use Rattle.pict_syntax.specs.declared.primitive.Primitive.TheVariants as primitive
+use Rattle.pict_syntax.specs.declared.primitive.ValueKind.{ValueKind}
+use Rattle.pict_syntax.specs.declared.primitive.ValueKind.TheVariants as kind
+use Rattle.pict_syntax.specs.declared.primitive.Operands.{Operands}
+use Rattle.pict_syntax.specs.declared.primitive.Operands.TheVariants.{Alone, One, Two}
+use Rattle.pict_syntax.specs.Primitives.{operands_of}
 use Rattle.pict_types.specs.Types.{Respond, PlainType, Int, Char, Str, Boolean, Chan, Fields, no_type, types, no_label, no_bound}
 
 -- [S /R]: one operand and a channel for the answer
@@ -15,28 +19,21 @@ two_operands s t r = Fields no_bound (types s (types t (types (Chan Respond r) n
 abbrev pub empty_record : PlainType
 empty_record = Fields no_bound no_type no_label
 
--- the one table of what the primitives take
+abbrev pub of_kind : ValueKind → PlainType
+of_kind kind.Int = Int
+of_kind kind.Char = Char
+of_kind kind.Bool = Boolean
+of_kind kind.Text = Str
+of_kind kind.Empty = empty_record
+
+abbrev pub taken : Operands → PlainType
+taken (Alone s) = of_kind s
+taken (One s r) = one_operand (of_kind s) (of_kind r)
+taken (Two s t r) = two_operands (of_kind s) (of_kind t) (of_kind r)
+
+-- what the primitives take
 abbrev pub takes : Primitive → PlainType
-takes primitive.Print = Str
-takes primitive.Printi = Int
-takes primitive.Pr = one_operand Str empty_record
-takes primitive.Add = two_operands Int Int Int
-takes primitive.Subtract = two_operands Int Int Int
-takes primitive.Multiply = two_operands Int Int Int
-takes primitive.Divide = two_operands Int Int Int
-takes primitive.Remainder = two_operands Int Int Int
-takes primitive.Equal = two_operands Int Int Boolean
-takes primitive.Less = two_operands Int Int Boolean
-takes primitive.AtMost = two_operands Int Int Boolean
-takes primitive.Greater = two_operands Int Int Boolean
-takes primitive.AtLeast = two_operands Int Int Boolean
-takes primitive.Chr = one_operand Int Char
-takes primitive.Ord = one_operand Char Int
-takes primitive.Join = two_operands Str Str Str
-takes primitive.Intstr = one_operand Int Str
-takes primitive.Size = one_operand Str Int
-takes primitive.Nth = two_operands Str Int Int
-takes primitive.Not = one_operand Boolean Boolean
+takes p = taken (operands_of p)
 
 -- a primitive that takes values of T has the type /T
 abbrev pub type_of : Primitive → PlainType

@@ -5,7 +5,7 @@ use Rattle.pict_desk.specs.Arguments.{operand_in}
 use Rattle.pict_desk.specs.Code.{core_in}
 use Rattle.pict_desk.specs.Pairs.{ArePairs}
 use Rattle.pict_shapes.specs.Shapes.{is_kind}
-use Rattle.pict_shapes.specs.declared.shape.Kind.TheVariants.{ABool}
+use Rattle.pict_syntax.specs.declared.primitive.ValueKind.TheVariants as kind
 use Rattle.pict_turns.proofs.Numbered.{test_over}
 use Rattle.pict_machine.proofs.Asking.{if_wrong}
 use Rattle.pict_machine.proofs.wrong.test_is_wrong.Goals as goal
@@ -23,5 +23,5 @@ pub returns : goal.returns
 returns c =
     let s = c.args.store.now in
     let a = c.requires.acts in
-    ap not (c.operand_is.ensures ∙ ap (λ values. is_kind ABool (operand_in s.desk.heap values (plain_val c.args.test.now))) c.deref.ensures.value)
+    ap not (c.operand_is.ensures ∙ ap (λ values. is_kind kind.Bool (operand_in s.desk.heap values (plain_val c.args.test.now))) c.deref.ensures.value)
     ∙ sym (if_wrong (core_in c.args.code.now) s c.requires.may c.requires.code.closed (plain_val c.args.test.now) a.0 a.1 a.2)

@@ -4,8 +4,8 @@ use Rattle.std.specs.Str.{bytes_eq}
 use Rattle.std.proofs.lemmas.Slice.Eq.{bytes_eq-Decides}
 use Rattle.pict_syntax.specs.declared.primitive.Primitive.{Primitive}
 use Rattle.pict_syntax.specs.declared.primitive.Primitive.TheVariants as primitive
-use Rattle.pict_syntax.specs.PrimitiveTexts.{primitive_text}
-use Rattle.pict_scope.specs.PrimitiveNames.{primitives, first_named, primitive_named}
+use Rattle.pict_syntax.specs.Primitives.{primitive_text, primitives}
+use Rattle.pict_scope.specs.PrimitiveNames.{first_named, primitive_named}
 use Rattle.pict_scope.proofs.primitives.primitive_named.Goals as goal
 
 by_its_name : (p : Primitive) → primitive_named (primitive_text p) ≡ Some p

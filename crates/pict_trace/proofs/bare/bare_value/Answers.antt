@@ -1,7 +1,7 @@
 use Rattle.std.proofs.Common.{◌≡◌, ◌≢◌, ◌∷◌, Bool, sym, ◌∙◌, ap, rules}
 use Rattle.pict_syntax.specs.declared.primitive.Primitive.{Primitive}
 use Rattle.pict_show.specs.Values.{truth_text}
-use Rattle.pict_syntax.specs.PrimitiveTexts.{primitive_text}
+use Rattle.pict_syntax.specs.Primitives.{primitive_text}
 use Rattle.pict_trace.proofs.Bares.{no_bare, letter_no_number}
 use Rattle.pict_trace.proofs.Unique.{tail}
 use Rattle.pict_trace.proofs.bare.bare_value.Goals as goal
