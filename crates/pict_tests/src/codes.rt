@@ -1,59 +1,110 @@
 // Program texts and their codes: listings, and how many nodes and levels they have.
 
+use crate::blocks::{ended, parts};
 use crate::translation::derived;
 use pict_code::{Code, listing};
 use pict_lower::lower;
 use pict_outside::MemorySink;
 use pict_syntax::Names;
 use std::alloc::{AllocError, Global};
+use std::process::Abort;
 use std::test::Fail;
 
-fn is_listed(alloc: Global, text: &[u8], wanted: &[u8]) -> Result<bool, Fail> {
+/// Texts, and the lines of their listings.
+const LISTINGS: &str = r#"
+code:
+0 {} zero
+
+code: new c:^Int run c!1 run c?n = printi!n
+0 {} new s0 1
+1 {s0} par 2 3
+2 {s0} out s0 1
+3 {s0} par 4 6
+4 {s0} in s0 s1 5
+5 {s1} out printi s1
+6 {} zero
+
+-- levels in the order of the labels' bytes
+code: val [b=y a=z] = [b=2 a=1] run printi!z
+0 {} new s0 1
+1 {s0} par 2 6
+2 {s0} serve s0 [a=s1 b=s2] 3
+3 {s1} par 4 5
+4 {s1} out printi s1
+5 {} zero
+6 {s0} out s0 [a=1 b=2]
+
+code: def f (x:Int):Int = (+ x 1) run printi!(f 2)
+0 {} new s0 1
+1 {s0} par 2 4
+2 {s0} serve s0 [s1 s2] 3
+3 {s1 s2} out + [s1 1 s2]
+4 {s0} par 5 10
+5 {s0} new s1 6
+6 {s0 s1} par 7 9
+7 {s1} serve s1 s2 8
+8 {s2} out printi s2
+9 {s0 s1} out s0 [2 s1]
+10 {} zero
+
+-- levels in the order of a pattern with records in it; a frame has those that are used
+code: new c:^[Top Top Top] new d:^[Top a=Bool b=[Top]] run d?*[x a=y b=[z]] = if y then c![z x z] else (new e:^Top e!d)
+0 {} new s0 1
+1 {s0} new s1 2
+2 {s0 s1} par 3 8
+3 {s0 s1} serve s1 [s2 a=s3 b=[s4]] 4
+4 {s0 s1 s2 s3 s4} if s3 5 6
+5 {s0 s2 s4} out s0 [s4 s2 s4]
+6 {s1} new s5 7
+7 {s1 s5} out s5 s1
+8 {} zero
+
+code: new u:^[get=Int] def f [x:Int _:Top [] get=y:Bool set=[set=z:Int]] = if y then u![get=x] else ()
+0 {} new s0 1
+1 {s0} new s1 2
+2 {s0 s1} par 3 7
+3 {s0 s1} serve s1 [s2 _ [] get=s3 set=[set=s4]] 4
+4 {s0 s2 s3} if s3 5 6
+5 {s0 s2} out s0 [get=s2]
+6 {} zero
+7 {} zero
+
+code: run if true then print!"a\n" else ()
+0 {} par 1 4
+1 {} if true 2 3
+2 {} out print "a\n"
+3 {} zero
+4 {} zero"#;
+
+/// The listing of a text; nothing where the text is refused.
+fn listing_of(alloc: Global, text: &str) -> Result<Option<MemorySink>, Fail> {
     let mut names = Names::new(alloc);
-    match derived(alloc, &mut names, text) {
+    match derived(alloc, &mut names, text.as_bytes()) {
         Some(Ok(core)) => {
             let code = lower(alloc, &core)?;
             let mut out = MemorySink::new(alloc, 10000, Vec::new(alloc))?;
             let listed = listing(alloc, &names, &code, &mut out);
-            Ok(listed.is_ok() && out.taken() == wanted)
+            Ok(if listed.is_ok() { Some(out) } else { None })
         }
-        _ => Ok(false),
+        _ => Ok(None),
     }
+}
+
+/// Tries a block of the table.
+fn try_block(rt: &impl Abort, alloc: Global, block: &str) -> Result<(), Fail> {
+    let (_, text, wanted) = parts(block, "code:");
+    let wanted = ended(alloc, wanted)?;
+    match listing_of(alloc, text)? {
+        Some(out) => assert!(rt; out.taken() == wanted.as_bytes(), "{text}"),
+        None => panic!(rt; "{text} is refused"),
+    }
+    Ok(())
 }
 
 #[test]
 fn texts_have_these_listings(rt: HostRuntime) -> Result<(), Fail> {
-    let rows: [(&[u8], &[u8]); 7] = [
-        (b"", b"0 {} zero\n"),
-        (
-            b"new c:^Int run c!1 run c?n = printi!n",
-            b"0 {} new s0 1\n1 {s0} par 2 3\n2 {s0} out s0 1\n3 {s0} par 4 6\n4 {s0} in s0 s1 5\n5 {s1} out printi s1\n6 {} zero\n",
-        ),
-        // levels in the order of the labels' bytes
-        (
-            b"val [b=y a=z] = [b=2 a=1] run printi!z",
-            b"0 {} new s0 1\n1 {s0} par 2 6\n2 {s0} serve s0 [a=s1 b=s2] 3\n3 {s1} par 4 5\n4 {s1} out printi s1\n5 {} zero\n6 {s0} out s0 [a=1 b=2]\n",
-        ),
-        (
-            b"def f (x:Int):Int = (+ x 1) run printi!(f 2)",
-            b"0 {} new s0 1\n1 {s0} par 2 4\n2 {s0} serve s0 [s1 s2] 3\n3 {s1 s2} out + [s1 1 s2]\n4 {s0} par 5 10\n5 {s0} new s1 6\n6 {s0 s1} par 7 9\n7 {s1} serve s1 s2 8\n8 {s2} out printi s2\n9 {s0 s1} out s0 [2 s1]\n10 {} zero\n",
-        ),
-        // levels in the order of a pattern with records in it; a frame has those that are used
-        (
-            b"new c:^[Top Top Top] new d:^[Top a=Bool b=[Top]] run d?*[x a=y b=[z]] = if y then c![z x z] else (new e:^Top e!d)",
-            b"0 {} new s0 1\n1 {s0} new s1 2\n2 {s0 s1} par 3 8\n3 {s0 s1} serve s1 [s2 a=s3 b=[s4]] 4\n4 {s0 s1 s2 s3 s4} if s3 5 6\n5 {s0 s2 s4} out s0 [s4 s2 s4]\n6 {s1} new s5 7\n7 {s1 s5} out s5 s1\n8 {} zero\n",
-        ),
-        (
-            b"new u:^[get=Int] def f [x:Int _:Top [] get=y:Bool set=[set=z:Int]] = if y then u![get=x] else ()",
-            b"0 {} new s0 1\n1 {s0} new s1 2\n2 {s0 s1} par 3 7\n3 {s0 s1} serve s1 [s2 _ [] get=s3 set=[set=s4]] 4\n4 {s0 s2 s3} if s3 5 6\n5 {s0 s2} out s0 [get=s2]\n6 {} zero\n7 {} zero\n",
-        ),
-        (
-            b"run if true then print!\"a\\n\" else ()",
-            b"0 {} par 1 4\n1 {} if true 2 3\n2 {} out print \"a\\n\"\n3 {} zero\n4 {} zero\n",
-        ),
-    ];
-    for (text, wanted) in rows {
-        assert!(rt; is_listed(rt.alloc(), text, wanted)?);
+    for block in LISTINGS.split("\n\n") {
+        try_block(&rt, rt.alloc(), block)?;
     }
     Ok(())
 }

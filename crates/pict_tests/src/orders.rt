@@ -1,8 +1,9 @@
 // Runs with choices from seeds, beside a list and beside all that may come of a race.
+
+use crate::calls::{call, devices_of};
 use itoa::Buffer;
-use pict_outside::{Entry, MemoryShelf, MemorySink};
 use pict_seed::Chooser;
-use pict_top::{Status, pict};
+use pict_top::Status;
 use std::alloc::{AllocError, Global};
 use std::process::Abort;
 
@@ -13,19 +14,11 @@ fn printed_by(
     text: &[u8],
     seed: u64,
 ) -> Result<Vec<u8>, AllocError> {
-    let mut entries = Vec::new(alloc);
-    let name = b"F".to_vec(alloc)?;
-    let text = text.to_vec(alloc)?;
-    entries.push(Entry { name, text })?;
-    let mut shelf = MemoryShelf::new(entries, Vec::new(alloc));
-    let mut out = MemorySink::new(alloc, 1_000_000, Vec::new(alloc))?;
-    let mut err = MemorySink::new(alloc, 1_000, Vec::new(alloc))?;
-    let mut digits = Buffer::new();
-    let words = ["pick", "--bare", digits.format(seed), "F"];
-    let status = pict(alloc, &words, &mut shelf, &mut out, &mut err);
-    assert_eq!(rt; status, Status::Done);
-    assert!(rt; err.taken().is_empty());
-    out.taken().to_vec(alloc)
+    let mut devices = devices_of(alloc, &[("F", text)], "")?;
+    let words = format!(in alloc; "pick --bare {seed} F")?;
+    assert_eq!(rt; call(alloc, &mut devices, words.as_str())?, Status::Done);
+    assert!(rt; devices.err.taken().is_empty());
+    devices.out.taken().to_vec(alloc)
 }
 
 /// Each of these outputs comes of some of the first hundred seeds, and no other output of any.

@@ -2,42 +2,9 @@
 use pict_core::depth;
 use pict_front::{Front, FrontError, front};
 use pict_outside::{Entry, MemoryShelf};
-use pict_syntax::{Code, Name, Sources, Span, TEXT_LIMIT};
+use pict_syntax::{Name, Sources, TEXT_LIMIT};
 use std::alloc::{AllocError, Global};
 use std::process::Abort;
-
-/// The texts of a shelf, of which `F` is the file; a prelude or none; and the depth of the core process, or how it ends.
-#[derive(Clone, Copy)]
-struct Case<'a> {
-    prelude: Option<&'a [u8]>,
-    file: &'a [u8],
-    import: &'a [u8],
-    comes: Result<u64, FrontError>,
-}
-
-fn place(text: u32, start: u32, end: u32) -> Span {
-    Span { text, start, end }
-}
-
-/// A file alone, or a prelude before it, that is refused.
-fn refused<'a>(prelude: Option<&'a [u8]>, file: &'a [u8], code: Code, span: Span) -> Case<'a> {
-    Case {
-        prelude,
-        file,
-        import: b"",
-        comes: Err(FrontError::Named(code, span)),
-    }
-}
-
-/// A file, or the text `L`, that is refused.
-fn refused_of_two<'a>(file: &'a [u8], import: &'a [u8], code: Code, span: Span) -> Case<'a> {
-    Case {
-        prelude: None,
-        file,
-        import,
-        comes: Err(FrontError::Named(code, span)),
-    }
-}
 
 /// A text under a name.
 fn entry_of(alloc: Global, name: &[u8], text: &[u8]) -> Result<Entry, AllocError> {
@@ -54,99 +21,132 @@ fn shelf_of(alloc: Global, file: &[u8], import: &[u8]) -> Result<MemoryShelf, Al
     Ok(MemoryShelf::new(entries, Vec::new(alloc)))
 }
 
-fn try_case(rt: &impl Abort, alloc: Global, case: &Case<'_>) -> Result<(), AllocError> {
-    if let Some(prelude) = case.prelude {
-        assert!(rt; prelude.len() <= TEXT_LIMIT as usize);
+/// The text of a block that has this name.
+fn text_of<'a>(block: &'a str, name: &str) -> Option<&'a [u8]> {
+    for line in block.lines() {
+        if let Some(text) = line.strip_prefix(name) {
+            return Some(text.as_bytes());
+        }
     }
-    let mut shelf = shelf_of(alloc, case.file, case.import)?;
+    None
+}
+
+/// What comes of the texts of a block: the depth of the core process; or the code of the refusal, the number of the text, 0 that
+/// of the prelude, and the place: the first byte and the one after the last.
+fn answer(alloc: Global, block: &str) -> Result<String, AllocError> {
+    let prelude = text_of(block, "prelude: ");
+    if let Some(prelude) = prelude {
+        if prelude.len() as u64 > TEXT_LIMIT {
+            return Err(AllocError);
+        }
+    }
+    let file = text_of(block, "F: ").unwrap_or(b"");
+    let import = text_of(block, "L: ").unwrap_or(b"");
+    let mut shelf = shelf_of(alloc, file, import)?;
     let mut sources = Sources::new(alloc);
-    let comes = match front(alloc, case.prelude, "F", &mut shelf, &mut sources) {
-        Ok(front) => Ok(depth(&front.core)),
-        Err(error) => Err(error),
-    };
-    assert!(rt; comes == case.comes);
+    match front(alloc, prelude, "F", &mut shelf, &mut sources) {
+        Ok(front) => format!(in alloc; "depth {}", depth(&front.core)),
+        Err(FrontError::Named(code, span)) => {
+            format!(in alloc; "{code:?} {} {}..{}", span.text, span.start, span.end)
+        }
+        Err(_) => format!(in alloc; "no answer"),
+    }
+}
+
+/// Tries a block of a table: its last line says what comes of its texts.
+fn try_block(rt: &impl Abort, alloc: Global, block: &str) -> Result<(), AllocError> {
+    let wanted = block.lines().last().unwrap_or("");
+    let found = answer(alloc, block)?;
+    assert!(rt; found.as_str() == wanted, "{block}: {found}");
     Ok(())
 }
 
+/// Files alone, and with a prelude before them.
+const TEXTS: &str = r#"
+F: run print!"a"
+depth 2
+
+prelude: new c:^Int def put (n:Int):[] = (run c!n [])
+depth 6
+
+F: new c:^Int run c!"x"
+Y4 1 17..20
+
+prelude: new c:^Int def put (n:Int):[] = (run c!n [])
+F: run (put "x")!1
+Y4 1 9..12
+
+-- the prelude is read first, tokens and then grammar; then the file
+prelude: run print!
+F: @
+P1 0 10..10
+
+prelude: run (
+F: run
+P1 0 5..5
+
+prelude: run ()
+F: run
+P1 1 3..3
+
+-- what the text binds isn't bound in the prelude
+prelude: run x!1
+F: new x:^Int
+S1 0 4..5
+
+-- no rule of types is looked at before the scopes of both
+prelude: run print!1
+F: run y!1
+S1 1 4..5
+
+prelude: run print!1
+F: run printi!"a"
+Y4 0 10..11
+"#;
+
 #[test]
 fn texts(rt: HostRuntime) -> Result<(), AllocError> {
-    let prelude: Option<&[u8]> = Some(b"new c:^Int def put (n:Int):[] = (run c!n [])");
-    let cases = [
-        Case {
-            prelude: None,
-            file: b"run print!\"a\"",
-            import: b"",
-            comes: Ok(2),
-        },
-        Case {
-            prelude,
-            file: b"",
-            import: b"",
-            comes: Ok(6),
-        },
-        refused(None, b"new c:^Int run c!\"x\"", Code::Y4, place(1, 17, 20)),
-        refused(prelude, b"run (put \"x\")!1", Code::Y4, place(1, 9, 12)),
-        // The prelude is read first, tokens and then grammar; then the file.
-        refused(Some(b"run print!"), b"@", Code::P1, place(0, 10, 10)),
-        refused(Some(b"run ("), b"run", Code::P1, place(0, 5, 5)),
-        refused(Some(b"run ()"), b"run", Code::P1, place(1, 3, 3)),
-        // What the text binds isn't bound in the prelude.
-        refused(Some(b"run x!1"), b"new x:^Int", Code::S1, place(0, 4, 5)),
-        // No rule of types is looked at before the scopes of both.
-        refused(Some(b"run print!1"), b"run y!1", Code::S1, place(1, 4, 5)),
-        refused(
-            Some(b"run print!1"),
-            b"run printi!\"a\"",
-            Code::Y4,
-            place(0, 10, 11),
-        ),
-    ];
-    for case in &cases {
-        try_case(&rt, rt.alloc(), case)?;
+    for block in TEXTS.split("\n\n") {
+        try_block(&rt, rt.alloc(), block)?;
     }
     Ok(())
 }
 
 /// What an imported text binds is bound behind it, and what the file binds isn't bound in it; its refusals stand in it; and each
 /// phase looks at all texts before the next.
+const IMPORTED_TEXTS: &str = r#"
+F: import "L" run c!1
+L: new c:^Int
+depth 3
+
+F: import "L" new x:^Int
+L: run x!1
+S1 2 4..5
+
+F: import "L" run c!"x"
+L: new c:^Int
+Y4 1 17..20
+
+F: import "L" run y!1
+L: run print!1
+S1 1 15..16
+
+F: import "L" run print!1
+L: run printi!"a"
+Y4 2 11..14
+
+F: import "L" run print!1
+L: @
+L1 2 0..1
+
+F: import "M" run y!1
+I1 1 7..10
+"#;
+
 #[test]
 fn imported_texts(rt: HostRuntime) -> Result<(), AllocError> {
-    let cases = [
-        Case {
-            prelude: None,
-            file: b"import \"L\" run c!1",
-            import: b"new c:^Int",
-            comes: Ok(3),
-        },
-        refused_of_two(
-            b"import \"L\" new x:^Int",
-            b"run x!1",
-            Code::S1,
-            place(2, 4, 5),
-        ),
-        refused_of_two(
-            b"import \"L\" run c!\"x\"",
-            b"new c:^Int",
-            Code::Y4,
-            place(1, 17, 20),
-        ),
-        refused_of_two(
-            b"import \"L\" run y!1",
-            b"run print!1",
-            Code::S1,
-            place(1, 15, 16),
-        ),
-        refused_of_two(
-            b"import \"L\" run print!1",
-            b"run printi!\"a\"",
-            Code::Y4,
-            place(2, 11, 14),
-        ),
-        refused_of_two(b"import \"L\" run print!1", b"@", Code::L1, place(2, 0, 1)),
-        refused_of_two(b"import \"M\" run y!1", b"", Code::I1, place(1, 7, 10)),
-    ];
-    for case in &cases {
-        try_case(&rt, rt.alloc(), case)?;
+    for block in IMPORTED_TEXTS.split("\n\n") {
+        try_block(&rt, rt.alloc(), block)?;
     }
     Ok(())
 }

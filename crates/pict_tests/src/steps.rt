@@ -6,6 +6,7 @@ ghost use Rattle.pict_core.specs.Closed.{IsClosed};
 ghost use Rattle.pict_view.specs.Right.{RunsRight};
 ghost use Rattle.pict_machine.specs.Events.{IsEventOf};
 
+use crate::blocks::{ended, parts};
 use itoa::Buffer;
 use pict_core::Core;
 use pict_front::front;
@@ -279,109 +280,146 @@ pub fn expect_done<R: Abort>(
 
 // ---- worked programs
 
+/// Programs, how many steps they take until nothing is ready, and what the steps show.
+const PROGRAMS: &str = r#"
+1 steps:
+
+3 steps: run print!"hello"
+2 print hello
+
+7 steps: new c:^Int run c!1 run c?n = printi!n
+5 c0 1
+7 print 1
+
+17 steps: new c:^Int run c!1 run c!2 run c!3 run c?x = printi!x run c?x = printi!x run c?x = printi!x
+9 c0 1
+11 c0 2
+12 print 1
+14 c0 3
+15 print 2
+17 print 3
+
+-- a replicated reader that served goes behind the plain one
+15 steps: new c:^Int run c?*x = printi!x run c?y = print!"p" run c!1 run c!2 run c!3
+7 c0 1
+9 c0 2
+10 print 1
+12 c0 3
+13 print p
+15 print 3
+
+-- one that received keeps the turn
+12 steps: new c:^Int run c!1 run c!2 run c?*x = printi!x
+7 c0 1
+8 c0 2
+11 print 1
+12 print 2
+
+4 steps: run if false then print!"yes" else print!"no"
+3 print no
+
+4 steps: new c:^Int run c!1
+
+4 steps: new c:^Int run c?n = print!"x""#;
+
+/// Calls of primitives and of a function.
+const PRIMITIVES: &str = r#"
+8 steps: run printi!(+ 9223372036854775807 1)
+7 c0 -9223372036854775808
+8 print -9223372036854775808
+
+8 steps: run printi!(div -9223372036854775808 -1)
+7 c0 -9223372036854775808
+8 print -9223372036854775808
+
+8 steps: run printi!(mod -9223372036854775808 -1)
+7 c0 0
+8 print 0
+
+8 steps: run printi!(div -7 2)
+7 c0 -3
+8 print -3
+
+8 steps: run printi!(mod -7 2)
+7 c0 -1
+8 print -1
+
+16 steps: val f = \(x:Int) = (+ x 1) run printi!(f 2)
+7 c0 c1
+13 c1 [2 c2]
+15 c2 3
+16 print 3"#;
+
+/// Tries a block of a table.
+fn try_block(rt: &impl Abort, alloc: Global, block: &str) -> Result<(), AllocError> {
+    let (before, text, lines) = parts(block, " steps:");
+    let steps = before
+        .lines()
+        .last()
+        .unwrap_or("")
+        .parse::<u16>()
+        .unwrap_or(0);
+    let lines = ended(alloc, lines)?;
+    expect_done(rt, alloc, text.as_bytes(), steps as u64, lines.as_bytes())
+}
+
 #[test]
 fn worked_programs(rt: HostRuntime) -> Result<(), AllocError> {
-    let alloc = rt.alloc();
-    let hello = b"run print!\"hello\"";
-    expect_run(
-        &rt,
-        alloc,
-        hello,
-        2,
-        stopped(End::FuelSpent, 2),
-        b"2 print hello\n",
-    )?;
-    expect_run(&rt, alloc, hello, 1, stopped(End::FuelSpent, 1), b"")?;
-    expect_run(&rt, alloc, hello, 0, stopped(End::FuelSpent, 0), b"")?;
-    let rows: [(&[u8], u64, &[u8]); 9] = [
-        (b"", 1, b""),
-        (hello, 3, b"2 print hello\n"),
-        (
-            b"new c:^Int run c!1 run c?n = printi!n",
-            7,
-            b"5 c0 1\n7 print 1\n",
-        ),
-        (
-            b"new c:^Int run c!1 run c!2 run c!3 run c?x = printi!x run c?x = printi!x run c?x = printi!x",
-            17,
-            b"9 c0 1\n11 c0 2\n12 print 1\n14 c0 3\n15 print 2\n17 print 3\n",
-        ),
-        // a replicated reader that served goes behind the plain one
-        (
-            b"new c:^Int run c?*x = printi!x run c?y = print!\"p\" run c!1 run c!2 run c!3",
-            15,
-            b"7 c0 1\n9 c0 2\n10 print 1\n12 c0 3\n13 print p\n15 print 3\n",
-        ),
-        // one that received keeps the turn
-        (
-            b"new c:^Int run c!1 run c!2 run c?*x = printi!x",
-            12,
-            b"7 c0 1\n8 c0 2\n11 print 1\n12 print 2\n",
-        ),
-        (
-            b"run if false then print!\"yes\" else print!\"no\"",
-            4,
-            b"3 print no\n",
-        ),
-        (b"new c:^Int run c!1", 4, b""),
-        (b"new c:^Int run c?n = print!\"x\"", 4, b""),
-    ];
-    for (text, steps, lines) in rows {
-        expect_done(&rt, alloc, text, steps, lines)?;
+    for block in PROGRAMS.split("\n\n") {
+        try_block(&rt, rt.alloc(), block)?;
     }
     Ok(())
 }
 
-// A loop that sends to itself never ends: from the seventh step on each is a communication.
+/// Tries a run that spends its fuel.
+fn try_spent(
+    rt: &impl Abort,
+    alloc: Global,
+    text: &[u8],
+    fuel: u64,
+    lines: &[u8],
+) -> Result<(), AllocError>
+    requires { fuel ≤ FUEL_LIMIT }
+{
+    expect_run(rt, alloc, text, fuel, stopped(End::FuelSpent, fuel), lines)
+}
+
 #[test]
-fn an_endless_loop_spends_its_fuel(rt: HostRuntime) -> Result<(), AllocError> {
-    let alloc = rt.alloc();
+fn too_little_fuel(rt: HostRuntime) -> Result<(), AllocError> {
+    let hello = b"run print!\"hello\"";
+    try_spent(&rt, rt.alloc(), hello, 2, b"2 print hello\n")?;
+    try_spent(&rt, rt.alloc(), hello, 1, b"")?;
+    try_spent(&rt, rt.alloc(), hello, 0, b"")
+}
+
+/// The lines of a loop that sends to itself: from the seventh step on each is a communication.
+fn endless_lines(alloc: Global) -> Result<Vec<u8>, AllocError> {
     let mut lines = Vec::from_slice(alloc, b"5 c0 []\n")?;
     for step in 7..1001 {
         let line = format!(in alloc; "{step} c0 []\n")?;
         lines.extend_from_slice(line.as_bytes())?;
     }
-    let endless = b"def loop [] = loop![] run loop![]";
-    expect_run(
+    Ok(lines)
+}
+
+#[test]
+fn an_endless_loop_spends_its_fuel(rt: HostRuntime) -> Result<(), AllocError> {
+    let lines = endless_lines(rt.alloc())?;
+    try_spent(
         &rt,
-        alloc,
-        endless,
+        rt.alloc(),
+        b"def loop [] = loop![] run loop![]",
         1000,
-        stopped(End::FuelSpent, 1000),
         &lines,
     )
 }
 
 #[test]
 fn worked_primitives(rt: HostRuntime) -> Result<(), AllocError> {
-    let alloc = rt.alloc();
-    let rows: [(&[u8], &[u8]); 5] = [
-        (
-            b"run printi!(+ 9223372036854775807 1)",
-            b"7 c0 -9223372036854775808\n8 print -9223372036854775808\n",
-        ),
-        (
-            b"run printi!(div -9223372036854775808 -1)",
-            b"7 c0 -9223372036854775808\n8 print -9223372036854775808\n",
-        ),
-        (
-            b"run printi!(mod -9223372036854775808 -1)",
-            b"7 c0 0\n8 print 0\n",
-        ),
-        (b"run printi!(div -7 2)", b"7 c0 -3\n8 print -3\n"),
-        (b"run printi!(mod -7 2)", b"7 c0 -1\n8 print -1\n"),
-    ];
-    for (text, lines) in rows {
-        expect_done(&rt, alloc, text, 8, lines)?;
+    for block in PRIMITIVES.split("\n\n") {
+        try_block(&rt, rt.alloc(), block)?;
     }
-    let call = b"val f = \\(x:Int) = (+ x 1) run printi!(f 2)";
-    expect_done(
-        &rt,
-        alloc,
-        call,
-        16,
-        b"7 c0 c1\n13 c1 [2 c2]\n15 c2 3\n16 print 3\n",
-    )
+    Ok(())
 }
 
 #[test]
@@ -407,25 +445,38 @@ fn repeated(alloc: Global, piece: &[u8], count: usize) -> Result<Vec<u8>, AllocE
     Ok(text)
 }
 
+/// Tries the end of the run of so many pieces with this fuel.
+fn try_pieces(
+    rt: &impl Abort,
+    alloc: Global,
+    piece: &[u8],
+    count: usize,
+    fuel: u64,
+    end: End,
+    lines: &[u8],
+) -> Result<(), AllocError>
+    requires { fuel ≤ FUEL_LIMIT }
+{
+    let text = repeated(alloc, piece, count)?;
+    expect_end(rt, alloc, &text, fuel, stopped(end, fuel), lines)
+}
+
 // Processes of a depth of 5,000, or of 4,999, nested on the right, on the left and under channels. Each step of the last
 // two takes time in all that is left.
 #[test]
 fn deep_processes_run(rt: HostRuntime) -> Result<(), AllocError> {
     let alloc = rt.alloc();
-    let right = repeated(alloc, b"run ()\n", 4999)?;
-    expect_end(&rt, alloc, &right, 9998, stopped(End::FuelSpent, 9998), b"")?;
-    expect_run(&rt, alloc, &right, 9999, stopped(End::Done, 9999), b"")?;
-    let left = repeated(alloc, b"[];", 1666)?;
-    expect_end(
-        &rt,
-        alloc,
-        &left,
-        14,
-        stopped(End::FuelSpent, 14),
-        b"4 c0 []\n8 c1 []\n12 c2 []\n",
-    )?;
-    let channels = repeated(alloc, b"new c:^[]\n", 4999)?;
-    expect_end(&rt, alloc, &channels, 50, stopped(End::FuelSpent, 50), b"")
+    try_pieces(&rt, alloc, b"run ()\n", 4999, 9998, End::FuelSpent, b"")?;
+    let left = b"4 c0 []\n8 c1 []\n12 c2 []\n";
+    try_pieces(&rt, alloc, b"[];", 1666, 14, End::FuelSpent, left)?;
+    try_pieces(&rt, alloc, b"new c:^[]\n", 4999, 50, End::FuelSpent, b"")
+}
+
+// The first hundred steps of the deepest process are those of the definition too.
+#[test]
+fn the_deepest_process_ends(rt: HostRuntime) -> Result<(), AllocError> {
+    let right = repeated(rt.alloc(), b"run ()\n", 4999)?;
+    expect_run(&rt, rt.alloc(), &right, 9999, stopped(End::Done, 9999), b"")
 }
 
 // The first step is the composition's.
@@ -457,29 +508,34 @@ fn work_after(alloc: Global, text: &[u8], fuel: u64) -> Result<Option<u64>, Allo
     }
 }
 
+/// Tries what the run of a text touches that is longer by one step.
+fn try_cost(
+    rt: &impl Abort,
+    alloc: Global,
+    text: &[u8],
+    steps: u64,
+    cost: u64,
+) -> Result<(), AllocError>
+    requires { steps < FUEL_LIMIT }
+{
+    let before = work_after(alloc, text, steps)?;
+    let after = work_after(alloc, text, steps + 1)?;
+    match (before, after) {
+        (Some(before), Some(after)) => assert!(rt; before < after && after - before <= cost),
+        _ => assert!(rt; false),
+    }
+    Ok(())
+}
+
 // A run that is one step longer touches at most 64 times as many words more as the last step's instruction and its partner's
 // are large: 2, 4, 4, 3, 5 and 4, 1, and 4. What the shorter run touches as it sets down who has the turn is subtracted. The
 // size of an instruction is 1, the levels in its frame and in those of its parts, and the nodes of its operands and patterns.
 #[test]
 fn steps_work_within_their_costs(rt: HostRuntime) -> Result<(), AllocError> {
-    let alloc = rt.alloc();
     let text = b"new c:^Int run c!1 run c?n = printi!n";
-    let costs: [(u64, u64); 7] = [
-        (0, 128),
-        (1, 256),
-        (2, 256),
-        (3, 192),
-        (4, 576),
-        (5, 64),
-        (6, 256),
-    ];
-    for (steps, cost) in costs {
-        let before = work_after(alloc, text, steps)?;
-        let after = work_after(alloc, text, steps + 1)?;
-        match (before, after) {
-            (Some(before), Some(after)) => assert!(rt; before < after && after - before <= cost),
-            _ => assert!(rt; false),
-        }
+    let costs = [128, 256, 256, 192, 576, 64, 256];
+    for steps in 0..7 {
+        try_cost(&rt, rt.alloc(), text, steps as u64, costs[steps])?;
     }
     Ok(())
 }

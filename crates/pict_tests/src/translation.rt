@@ -1,5 +1,6 @@
 // Program texts and their core processes, written out.
 
+use crate::blocks::parts;
 use crate::steps::{accepted, expect_done};
 use itoa::Buffer;
 use pict_core::{Core, CorePat, CoreVal};
@@ -12,6 +13,7 @@ use pict_scope::resolve;
 use pict_syntax::{Name, Names, Prim};
 use pict_values::printed;
 use std::alloc::{AllocError, Global};
+use std::process::Abort;
 use std::test::Fail;
 
 // ---- core processes as text: `vN` is the variable of level N, `^p` a new channel around p, `x` a variable of a pattern
@@ -215,80 +217,93 @@ pub fn derived(alloc: Global, names: &mut Names, text: &[u8]) -> Option<Result<C
     }
 }
 
-fn is_written(alloc: Global, text: &[u8], wanted: &[u8]) -> Result<bool, Fail> {
+/// The core process of a text as text; nothing where the text is refused.
+fn written(alloc: Global, text: &[u8]) -> Result<Option<Vec<u8>>, AllocError> {
     let mut names = Names::new(alloc);
     match derived(alloc, &mut names, text) {
         Some(Ok(core)) => {
             let mut out = Vec::new(alloc);
             write_core(&core, &names, &mut out)?;
-            Ok(out.as_slice() == wanted)
+            Ok(Some(out))
         }
-        _ => Ok(false),
+        _ => Ok(None),
     }
 }
 
+/// Texts, and their core processes.
+const PROCESSES: &str = r#"
+text:
+0
+
+-- an outer name hides a primitive
+text: new print:^Int run print!1
+^(v0!1|0)
+
+-- arguments from left to right; each nested application answers on a channel of its own
+text: run printi!(+ (+ 1 2) (+ 3 4))
+(^(v0?*x.printi!v1|^(v1?*x.^(v3?*x.+![v2 v4 v0 ]|+![3 4 v3 ])|+![1 2 v1 ]))|0)
+
+text: run printi!(- > 10 3 2)
+(^(v0?*x.printi!v1|^(v1?*x.-![10 v2 v0 ]|-![3 2 v1 ]))|0)
+
+text: run printi!(- < 10 3 2)
+(^(v0?*x.printi!v1|^(v1?*x.-![v2 2 v0 ]|-![10 3 v1 ]))|0)
+
+-- effects in the order in which they are written
+text: def f (s:String):Int = ((pr s); 1) run printi!(+ (f "a") (f "b"))
+^(v0?*[x x ].^(v3?*[].v2!1|pr![v1 v3 ])|(^(v1?*x.printi!v2|^(v2?*x.^(v4?*x.+![v3 v5 v1 ]|v0!["b" v4 ])|v0!["a" v2 ]))|0))
+
+-- labels in the order of their bytes, in values and in patterns
+text: val [b=y a=z] = [b=2 a=1] run printi!z
+^(v0?*[a=x b=x ].(printi!v1|0)|v0![a=1 b=2 ])
+
+text: val [x b=y a=z] = [3 b=2 a=1] run printi!y
+^(v0?*[x a=x b=x ].(printi!v3|0)|v0![3 a=1 b=2 ])
+
+-- a function answers on the channel after its positional fields
+text: def f (x:Int):Int = (+ x 1) run printi!(f 2)
+^(v0?*[x x ].+![v1 1 v2 ]|(^(v1?*x.printi!v2|v0![2 v1 ])|0))
+
+text: val f = \(x:Int) = (+ x 1) run printi!(f 2)
+^(v0?*x.(^(v2?*x.printi!v3|v1![2 v2 ])|0)|^(v1?*[x x ].+![v2 1 v3 ]|v0!v1))
+
+-- folds leave nothing
+text: type S = (rec X = ^X) new c:^S run c!(rec c) run c?(rec d) = print!"ok"
+^(v0!v0|(v0?x.print!"ok"|0))
+
+text: def a x:Int = b!x and b y:Int = a!y
+^^(v0?*x.v1!v2|(v1?*x.v0!v2|0))
+
+text: (pr "a"); run print!"b"
+^(v0?*[].(print!"b"|0)|pr!["a" v0 ])
+
+text: run if true then printi!1 else ()
+(if true printi!1 0|0)"#;
+
+/// Tries the core process of a text.
+fn expect_process(
+    rt: &impl Abort,
+    alloc: Global,
+    text: &[u8],
+    wanted: &[u8],
+) -> Result<(), AllocError> {
+    match written(alloc, text)? {
+        Some(core) => assert!(rt; core.as_slice() == wanted),
+        None => panic!(rt; "the text is refused"),
+    }
+    Ok(())
+}
+
+/// Tries a block of the table.
+fn try_block(rt: &impl Abort, alloc: Global, block: &str) -> Result<(), AllocError> {
+    let (_, text, wanted) = parts(block, "text:");
+    expect_process(rt, alloc, text.as_bytes(), wanted.as_bytes())
+}
+
 #[test]
-fn texts_have_these_processes(rt: HostRuntime) -> Result<(), Fail> {
-    let rows: [(&[u8], &[u8]); 14] = [
-        (b"", b"0"),
-        // an outer name hides a primitive
-        (b"new print:^Int run print!1", b"^(v0!1|0)"),
-        // arguments from left to right; each nested application answers on a channel of its own
-        (
-            b"run printi!(+ (+ 1 2) (+ 3 4))",
-            b"(^(v0?*x.printi!v1|^(v1?*x.^(v3?*x.+![v2 v4 v0 ]|+![3 4 v3 ])|+![1 2 v1 ]))|0)",
-        ),
-        (
-            b"run printi!(- > 10 3 2)",
-            b"(^(v0?*x.printi!v1|^(v1?*x.-![10 v2 v0 ]|-![3 2 v1 ]))|0)",
-        ),
-        (
-            b"run printi!(- < 10 3 2)",
-            b"(^(v0?*x.printi!v1|^(v1?*x.-![v2 2 v0 ]|-![10 3 v1 ]))|0)",
-        ),
-        // effects in the order in which they are written
-        (
-            b"def f (s:String):Int = ((pr s); 1) run printi!(+ (f \"a\") (f \"b\"))",
-            b"^(v0?*[x x ].^(v3?*[].v2!1|pr![v1 v3 ])|(^(v1?*x.printi!v2|^(v2?*x.^(v4?*x.+![v3 v5 v1 ]|v0![\"b\" v4 ])|v0![\"a\" v2 ]))|0))",
-        ),
-        // labels in the order of their bytes, in values and in patterns
-        (
-            b"val [b=y a=z] = [b=2 a=1] run printi!z",
-            b"^(v0?*[a=x b=x ].(printi!v1|0)|v0![a=1 b=2 ])",
-        ),
-        (
-            b"val [x b=y a=z] = [3 b=2 a=1] run printi!y",
-            b"^(v0?*[x a=x b=x ].(printi!v3|0)|v0![3 a=1 b=2 ])",
-        ),
-        // a function answers on the channel after its positional fields
-        (
-            b"def f (x:Int):Int = (+ x 1) run printi!(f 2)",
-            b"^(v0?*[x x ].+![v1 1 v2 ]|(^(v1?*x.printi!v2|v0![2 v1 ])|0))",
-        ),
-        (
-            b"val f = \\(x:Int) = (+ x 1) run printi!(f 2)",
-            b"^(v0?*x.(^(v2?*x.printi!v3|v1![2 v2 ])|0)|^(v1?*[x x ].+![v2 1 v3 ]|v0!v1))",
-        ),
-        // folds leave nothing
-        (
-            b"type S = (rec X = ^X) new c:^S run c!(rec c) run c?(rec d) = print!\"ok\"",
-            b"^(v0!v0|(v0?x.print!\"ok\"|0))",
-        ),
-        (
-            b"def a x:Int = b!x and b y:Int = a!y",
-            b"^^(v0?*x.v1!v2|(v1?*x.v0!v2|0))",
-        ),
-        (
-            b"(pr \"a\"); run print!\"b\"",
-            b"^(v0?*[].(print!\"b\"|0)|pr![\"a\" v0 ])",
-        ),
-        (
-            b"run if true then printi!1 else ()",
-            b"(if true printi!1 0|0)",
-        ),
-    ];
-    for (text, wanted) in rows {
-        assert!(rt; is_written(rt.alloc(), text, wanted)?);
+fn texts_have_these_processes(rt: HostRuntime) -> Result<(), AllocError> {
+    for block in PROCESSES.split("\n\n") {
+        try_block(&rt, rt.alloc(), block)?;
     }
     Ok(())
 }
@@ -367,12 +382,11 @@ fn joined(alloc: Global, texts: &[&[u8]]) -> Result<Vec<u8>, AllocError> {
 }
 
 #[test]
-fn the_counter_server_has_this_process(rt: HostRuntime) -> Result<(), Fail> {
+fn the_counter_server_has_this_process(rt: HostRuntime) -> Result<(), AllocError> {
     let alloc = rt.alloc();
     let text = joined(alloc, &[PRELUDE, COUNTER])?;
     let wanted = joined(alloc, &COUNTER_CORE)?;
-    assert!(rt; is_written(alloc, &text, &wanted)?);
-    Ok(())
+    expect_process(&rt, alloc, &text, &wanted)
 }
 
 // ---- the places of outputs
@@ -401,37 +415,49 @@ fn write_places(core: &Core, out: &mut Vec<u8>) -> Result<(), AllocError> {
     }
 }
 
-fn has_places(alloc: Global, text: &[u8], wanted: &[u8]) -> Result<bool, Fail> {
+/// The places of the outputs of a text; nothing where the text is refused.
+fn places(alloc: Global, text: &str) -> Result<Option<Vec<u8>>, AllocError> {
     let mut names = Names::new(alloc);
-    match derived(alloc, &mut names, text) {
+    match derived(alloc, &mut names, text.as_bytes()) {
         Some(Ok(core)) => {
             let mut out = Vec::new(alloc);
             write_places(&core, &mut out)?;
-            Ok(out.as_slice() == wanted)
+            Ok(Some(out))
         }
-        _ => Ok(false),
+        _ => Ok(None),
     }
 }
 
+/// The places of the outputs of texts.
+const PLACES: &str = r#"
+-- a send has its own place, an application its own
+4-24 11-24 14-21 | run printi!(+ (+ 1 2) 3)
+-- each application of a nested one has the place of the whole
+4-23 11-23 11-23 | run printi!(- > 10 3 2)
+4-23 11-23 11-23 | run printi!(- < 10 3 2)
+-- a value that is sent as it stands has its place, an abstraction its own from the backslash on
+8-13 | val x = [1 2]
+17-25 8-25 | val f = \x:Int = printi!x
+-- a fold of a simple value has the fold's place, any other fold that of what is in it
+40-47 19-26 | new c:^Top val x = (rec c) val y = (rec (+ 1 2))
+"#;
+
+/// Tries a row of the table.
+fn try_places(rt: &impl Abort, alloc: Global, row: &str) -> Result<(), AllocError> {
+    let (wanted, text) = row.split_once("| ").unwrap_or((row, ""));
+    match places(alloc, text)? {
+        Some(found) => assert!(rt; found.as_slice() == wanted.as_bytes(), "{text}"),
+        None => panic!(rt; "{text} is refused"),
+    }
+    Ok(())
+}
+
 #[test]
-fn outputs_have_these_places(rt: HostRuntime) -> Result<(), Fail> {
-    let rows: [(&[u8], &[u8]); 6] = [
-        // a send has its own place, an application its own
-        (b"run printi!(+ (+ 1 2) 3)", b"4-24 11-24 14-21 "),
-        // each application of a nested one has the place of the whole
-        (b"run printi!(- > 10 3 2)", b"4-23 11-23 11-23 "),
-        (b"run printi!(- < 10 3 2)", b"4-23 11-23 11-23 "),
-        // a value that is sent as it stands has its place, an abstraction its own from the backslash on
-        (b"val x = [1 2]", b"8-13 "),
-        (b"val f = \\x:Int = printi!x", b"17-25 8-25 "),
-        // a fold of a simple value has the fold's place, any other fold that of what is in it
-        (
-            b"new c:^Top val x = (rec c) val y = (rec (+ 1 2))",
-            b"40-47 19-26 ",
-        ),
-    ];
-    for (text, wanted) in rows {
-        assert!(rt; has_places(rt.alloc(), text, wanted)?);
+fn outputs_have_these_places(rt: HostRuntime) -> Result<(), AllocError> {
+    for row in PLACES.lines() {
+        if !row.is_empty() && !row.starts_with("--") {
+            try_places(&rt, rt.alloc(), row)?;
+        }
     }
     Ok(())
 }
@@ -491,23 +517,31 @@ fn prints(alloc: Global, text: &[u8], wanted: &[u8]) -> Result<bool, Fail> {
     Ok(ends && printed.text.as_slice() == wanted)
 }
 
+/// What texts print.
+const PRINTED: &str = r#"
+9 | run printi!(- > 10 3 2)
+5 | run printi!(- < 10 3 2)
+ab2 | def f (s:String):Int = ((pr s); 1) run printi!(+ (f "a") (f "b"))
+2 | val [x b=y a=z] = [3 b=2 a=1] run printi!y
+"#;
+
 #[test]
 fn texts_print_this(rt: HostRuntime) -> Result<(), Fail> {
-    let alloc = rt.alloc();
-    let counter = joined(alloc, &[PRELUDE, COUNTER])?;
-    let rows: [(&[u8], &[u8]); 5] = [
-        (b"run printi!(- > 10 3 2)", b"9"),
-        (b"run printi!(- < 10 3 2)", b"5"),
-        (
-            b"def f (s:String):Int = ((pr s); 1) run printi!(+ (f \"a\") (f \"b\"))",
-            b"ab2",
-        ),
-        (b"val [x b=y a=z] = [3 b=2 a=1] run printi!y", b"2"),
-        (&counter, b"total 6"),
-    ];
-    for (text, wanted) in rows {
-        assert!(rt; prints(alloc, text, wanted)?);
+    for row in PRINTED.lines() {
+        if let Some((wanted, text)) = row.split_once(" | ") {
+            assert!(rt;
+                prints(rt.alloc(), text.as_bytes(), wanted.as_bytes())?,
+                "{row}"
+            );
+        }
     }
+    Ok(())
+}
+
+#[test]
+fn the_counter_server_prints_its_total(rt: HostRuntime) -> Result<(), Fail> {
+    let text = joined(rt.alloc(), &[PRELUDE, COUNTER])?;
+    assert!(rt; prints(rt.alloc(), &text, b"total 6")?);
     Ok(())
 }
 

@@ -1,7 +1,8 @@
 // What is said of a text, and tables of texts.
 //
 // A row of a table is `ANSWER | TEXT`, where the answer is `Ok`, or the code of the refusal and its place: the first byte and
-// the one after the last. A line that begins with `--` says what the rows below it are for.
+// the one after the last. In a text `«PIECE COUNT»` stands for so many copies of a piece, and two hexadecimal digits
+// there for a byte. A line that begins with `--` says what the rows below it are for.
 
 use pict_lex::{LexError, lex};
 use pict_parse::{ParseError, parse};
@@ -59,6 +60,34 @@ pub fn answer(alloc: Global, text: &[u8], phase: Phase) -> Result<String, AllocE
     }
 }
 
+/// Writes what stands between the marks `«` and `»`: a piece and how many copies of it there are, or a byte.
+fn push_marked(text: &mut Vec<u8>, marked: &str) -> Result<(), AllocError> {
+    match marked.rsplit_once(' ') {
+        Some((piece, count)) => {
+            for _ in 0..count.parse::<u32>().unwrap_or(0) {
+                text.extend_from_slice(piece.as_bytes())?;
+            }
+        }
+        None => text.push(u8::from_str_radix(marked, 16).unwrap_or(b'?'))?,
+    }
+    Ok(())
+}
+
+/// The text that a row stands for.
+pub fn text_of(alloc: Global, row: &str) -> Result<Vec<u8>, AllocError> {
+    let mut text = Vec::new(alloc);
+    for part in row.split('»') {
+        match part.split_once('«') {
+            Some((plain, marked)) => {
+                text.extend_from_slice(plain.as_bytes())?;
+                push_marked(&mut text, marked)?;
+            }
+            None => text.extend_from_slice(part.as_bytes())?,
+        }
+    }
+    Ok(text)
+}
+
 /// Tries the rows of a table.
 pub fn try_table(
     rt: &impl Abort,
@@ -71,7 +100,7 @@ pub fn try_table(
             match row.split_once(" | ") {
                 None => panic!(rt; "no row: {row}"),
                 Some((wanted, text)) => {
-                    let found = answer(alloc, text.as_bytes(), phase)?;
+                    let found = answer(alloc, &text_of(alloc, text)?, phase)?;
                     assert!(rt; found.as_str() == wanted, "{row}: {found}");
                 }
             }

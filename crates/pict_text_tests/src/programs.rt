@@ -1,6 +1,6 @@
 // The parser on texts: what is a program, where each phrase stands, and where a text is refused.
 
-use crate::answers::{Phase, try_table};
+use crate::answers::{Phase, answer, try_table};
 use pict_lex::lex;
 use pict_parse::{ParseError, parse};
 use pict_syntax::{
@@ -17,24 +17,6 @@ fn read(alloc: Global, text: &[u8]) -> Option<Result<Program, ParseError>> {
     match lex(alloc, &mut names, text, 1) {
         Ok(tokens) => Some(parse(alloc, &tokens, text.len() as u32)),
         Err(_) => None,
-    }
-}
-
-fn is_program(alloc: Global, text: &[u8]) -> bool {
-    matches!(read(alloc, text), Some(Ok(_)))
-}
-
-fn stops_at(alloc: Global, text: &[u8], at: u32) -> bool {
-    match read(alloc, text) {
-        Some(Err(ParseError::Unexpected(span))) => span.start == at && span.text == 1,
-        _ => false,
-    }
-}
-
-fn nests_at(alloc: Global, text: &[u8], at: u32) -> bool {
-    match read(alloc, text) {
-        Some(Err(ParseError::TooNested(span))) => span.start == at && span.text == 1,
-        _ => false,
     }
 }
 
@@ -156,7 +138,7 @@ P1 14..14 | import "L" "M"
 
 #[test]
 fn programs(rt: HostRuntime) -> Result<(), AllocError> {
-    assert!(rt; is_program(rt.alloc(), b""));
+    assert!(rt; answer(rt.alloc(), b"", Phase::Grammar)?.as_str() == "Ok");
     for table in [PROGRAMS, WRONG_TOKENS, KINDS, IMPORTS] {
         try_table(&rt, rt.alloc(), table, Phase::Grammar)?;
     }
@@ -352,96 +334,39 @@ fn phrases(rt: HostRuntime) -> Result<(), AllocError> {
     Ok(())
 }
 
-/// What is to be said of a text.
-#[derive(Clone, Copy, PartialEq, Eq)]
-enum Answer {
-    Program,
-    Wrong(u32),
-    Nested(u32),
-}
-
-/// So many copies of a piece, between a beginning and an end.
-#[derive(Clone, Copy)]
-struct Repeated<'a> {
-    front: &'a [u8],
-    piece: &'a [u8],
-    count: u32,
-    back: &'a [u8],
-    answer: Answer,
-}
-
-fn repeat_of<'a>(
-    front: &'a [u8],
-    piece: &'a [u8],
-    count: u32,
-    back: &'a [u8],
-    answer: Answer,
-) -> Repeated<'a> {
-    Repeated {
-        front,
-        piece,
-        count,
-        back,
-        answer,
-    }
-}
-
-fn text_of(alloc: Global, of: &Repeated<'_>) -> Result<Vec<u8>, AllocError> {
-    let mut text = Vec::from_slice(alloc, of.front)?;
-    for _ in 0..of.count {
-        text.extend_from_slice(of.piece)?;
-    }
-    text.extend_from_slice(of.back)?;
-    Ok(text)
-}
-
-fn answers(alloc: Global, of: &Repeated<'_>) -> Result<bool, AllocError> {
-    let text = text_of(alloc, of)?;
-    Ok(match of.answer {
-        Answer::Program => is_program(alloc, &text),
-        Answer::Wrong(at) => stops_at(alloc, &text, at),
-        Answer::Nested(at) => nests_at(alloc, &text, at),
-    })
-}
-
 /// Texts at the limit of nesting.
+const NESTING: &str = r#"
+Ok | type A = «^ 200»Int
+P2 209..210 | type A = «^ 201»Int
+Ok | «[ 200»«] 200»;
+P2 200..201 | «[ 100000»
+P2 204..205 | run «( 100000»
+-- the value of a lambda stands in its abstraction, and a conditional behind it in both
+P2 1394..1395 | «\(x) =  300»x;
+P2 600..602 | «if  300»
+-- the wrong token stands before the deep one, and then at the deep one, and then behind it
+P1 4..5 | run 0 «( 300»
+P1 209..210 | type A = «^ 200»0
+P2 209..210 | type A = «^ 201»0
+"#;
+
 #[test]
 fn nesting(rt: HostRuntime) -> Result<(), AllocError> {
-    let open = [b'['; 200];
-    let texts = [
-        repeat_of(b"type A = ", b"^", 200, b"Int", Answer::Program),
-        repeat_of(b"type A = ", b"^", 201, b"Int", Answer::Nested(209)),
-        repeat_of(&open, b"]", 200, b";", Answer::Program),
-        repeat_of(b"", b"[", 100_000, b"", Answer::Nested(200)),
-        repeat_of(b"run ", b"(", 100_000, b"", Answer::Nested(204)),
-        // The value of a lambda stands in its abstraction, and a conditional behind it in both.
-        repeat_of(b"", b"\\(x) = ", 300, b"x;", Answer::Nested(1394)),
-        repeat_of(b"", b"if ", 300, b"", Answer::Nested(600)),
-        // The wrong token stands before the deep one, and then at the deep one, and then behind it.
-        repeat_of(b"run 0 ", b"(", 300, b"", Answer::Wrong(4)),
-        repeat_of(b"type A = ", b"^", 200, b"0", Answer::Wrong(209)),
-        repeat_of(b"type A = ", b"^", 201, b"0", Answer::Nested(209)),
-    ];
-    for of in &texts {
-        assert!(rt; answers(rt.alloc(), of)?);
-    }
-    Ok(())
+    try_table(&rt, rt.alloc(), NESTING, Phase::Grammar)
 }
 
 /// Long lists: nothing recurses along them.
+const LONG_LISTS: &str = r#"
+Ok | «a; 500000»
+Ok | val x=[«a  100000»]
+Ok | val x=[«a=b  100000»]
+Ok | (+ >« a 100000»);
+Ok | run (()«|() 100000»)
+Ok | new c:[«X  100000»]
+Ok | def f x=()«and f x=() 100000»
+"#;
+
 #[test]
 fn long_lists(rt: HostRuntime) -> Result<(), AllocError> {
-    let texts = [
-        repeat_of(b"", b"a;", 500_000, b"", Answer::Program),
-        repeat_of(b"val x=[", b"a ", 100_000, b"]", Answer::Program),
-        repeat_of(b"val x=[", b"a=b ", 100_000, b"]", Answer::Program),
-        repeat_of(b"(+ >", b" a", 100_000, b");", Answer::Program),
-        repeat_of(b"run (()", b"|()", 100_000, b")", Answer::Program),
-        repeat_of(b"new c:[", b"X ", 100_000, b"]", Answer::Program),
-        repeat_of(b"def f x=()", b"and f x=()", 100_000, b"", Answer::Program),
-    ];
-    for of in &texts {
-        assert!(rt; answers(rt.alloc(), of)?);
-    }
-    Ok(())
+    try_table(&rt, rt.alloc(), LONG_LISTS, Phase::Grammar)
 }

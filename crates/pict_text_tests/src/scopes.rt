@@ -4,8 +4,9 @@ use crate::answers::{Phase, try_table};
 use pict_lex::lex;
 use pict_parse::parse;
 use pict_scope::{ScopeError, Scoped, Target, resolve};
-use pict_syntax::{Names, Prim, TEXT_LIMIT};
+use pict_syntax::{Names, TEXT_LIMIT};
 use std::alloc::{AllocError, Global};
+use std::process::Abort;
 
 /// The scopes of a text; nothing where it is no program.
 fn scopes_of(alloc: Global, text: &[u8]) -> Option<Result<Scoped, ScopeError>> {
@@ -112,173 +113,97 @@ fn scopes_that_fail(rt: HostRuntime) -> Result<(), AllocError> {
     Ok(())
 }
 
-/// Whether these are what the text's uses of values and of types mean.
-fn means(alloc: Global, text: &[u8], values: &[Target], types: &[u32]) -> bool {
-    match scopes_of(alloc, text) {
-        Some(Ok(scoped)) => scoped.values.as_slice() == values && scoped.types.as_slice() == types,
-        _ => false,
+/// What the uses of a text mean, as a table has it.
+fn meaning(alloc: Global, text: &str) -> Result<String, AllocError> {
+    let Some(Ok(scoped)) = scopes_of(alloc, text.as_bytes()) else {
+        return format!(in alloc; "no scopes");
+    };
+    let mut meaning = String::new(alloc);
+    for value in &scoped.values {
+        let word = match value {
+            Target::Prim(primitive) => format!(in alloc; "{primitive:?} ")?,
+            Target::Binder(place) => format!(in alloc; "{place} ")?,
+        };
+        meaning.push_str(word.as_str())?;
     }
+    meaning.push_str(";")?;
+    for place in &scoped.types {
+        meaning.push_str(format!(in alloc; " {place}")?.as_str())?;
+    }
+    Ok(meaning)
 }
 
-fn b(place: u32) -> Target {
-    Target::Binder(place)
+/// Tries rows `VALUES ; TYPES | TEXT`: what the text's uses of values mean, primitives or the places of binders, and the places
+/// of the binders that its uses of types mean. A line that begins with `--` says what the rows below it are for.
+fn try_meanings(rt: &impl Abort, alloc: Global, table: &str) -> Result<(), AllocError> {
+    for row in table.lines() {
+        if !row.is_empty() && !row.starts_with("--") {
+            let (wanted, text) = row.split_once(" | ").unwrap_or((row, ""));
+            let found = meaning(alloc, text)?;
+            assert!(rt; found.as_str() == wanted, "{row}: {found}");
+        }
+    }
+    Ok(())
 }
 
-/// Binders go by their places in reading order: of `def f x` and `g y` these are `f`, `x`, `g` and `y`.
+/// Binders go by their places in reading order: of `def f x` and `g y` these are `f`, `x`, `g` and `y`. The first row is of a
+/// text of no bytes.
+const VALUES: &str = r#"
+;
+Print ; | run print!"a"
+0 ; | new x:Int run x!1
+-- the nearest binder, and the one outside again behind its scope
+1 ; | val x = 1 val x = 2 x;
+0 1 ; | val x = 1 val x = x x;
+1 0 ; | new x:Int run (new x:Int x!1) run x!2
+-- primitives bound anew
+Print 0 ; | print; val print = 1 print;
+-- the names of a `def`
+2 1 0 3 ; | def f x = g!x and g y = f!y
+-- functions, and nested applications
+Add 1 Printi 0 ; | val f = \(x:Int) = (+ x 1) run printi!(f 2)
+0 0 Add ; | new f:Int (f > 1 f); (+ < 1 2);
+-- labels are apart, and so are those of a record in a record
+0 1 ; | val [x a=y] = 1 [a=[a=x] x=y];
+"#;
+
 #[test]
 fn values(rt: HostRuntime) -> Result<(), AllocError> {
-    let alloc = rt.alloc();
-    let add = Target::Prim(Prim::Add);
-    let print = Target::Prim(Prim::Print);
-    let printi = Target::Prim(Prim::Printi);
-    assert!(rt; means(alloc, b"", &[], &[]));
-    assert!(rt; means(alloc, b"run print!\"a\"", &[print], &[]));
-    assert!(rt; means(alloc, b"new x:Int run x!1", &[b(0)], &[]));
-    // the nearest binder, and the one outside again behind its scope
-    assert!(rt; means(alloc, b"val x = 1 val x = 2 x;", &[b(1)], &[]));
-    assert!(rt; means(alloc, b"val x = 1 val x = x x;", &[b(0), b(1)], &[]));
-    assert!(rt;
-        means(
-            alloc,
-            b"new x:Int run (new x:Int x!1) run x!2",
-            &[b(1), b(0)],
-            &[]
-        )
-    );
-    // primitives bound anew
-    assert!(rt; means(alloc, b"print; val print = 1 print;", &[print, b(0)], &[]));
-    // the names of a `def`
-    assert!(rt;
-        means(
-            alloc,
-            b"def f x = g!x and g y = f!y",
-            &[b(2), b(1), b(0), b(3)],
-            &[]
-        )
-    );
-    // functions, and nested applications
-    assert!(rt;
-        means(
-            alloc,
-            b"val f = \\(x:Int) = (+ x 1) run printi!(f 2)",
-            &[add, b(1), printi, b(0)],
-            &[]
-        )
-    );
-    assert!(rt;
-        means(
-            alloc,
-            b"new f:Int (f > 1 f); (+ < 1 2);",
-            &[b(0), b(0), add],
-            &[]
-        )
-    );
-    // labels are apart, and so are those of a record in a record
-    assert!(rt; means(alloc, b"val [x a=y] = 1 [a=[a=x] x=y];", &[b(0), b(1)], &[]));
-    Ok(())
+    try_meanings(&rt, rt.alloc(), VALUES)
 }
 
 /// Type binders go by their places too: `X` is the first in `[#X<[#Y Y] X]`, though its bound comes before it binds.
+const TYPES: &str = r#"
+; 0 1 | type X = Int type Y = X new c:Y
+; 1 0 | type (F A) = A new c:(F Int)
+; 0 | new c:(rec X = ^X)
+; 1 0 | new c:[#X<[#Y Y] X]
+; 1 0 | type X = Int new c:[[#X X] X]
+-- type binders of patterns bind over later fields and the body, those of a function over the type of its answer
+1 ; 0 0 | def f (#Y y:Y):Y = y
+; 0 0 | def f [[#Y y:Y]] = (new c:Y ())
+-- but those of a nested pattern over no later field outside, and over no type of an answer
+Printi 2 ; 1 0 | type Y = Int def f [[#Y y:Y] z:Y] = printi!z
+; 1 0 | type Y = Int def f ([#Y y:Y]):Y = 1
+-- values and types are apart
+0 ; 0 | val [#x x] = 1 new c:x x;
+"#;
+
 #[test]
 fn types(rt: HostRuntime) -> Result<(), AllocError> {
-    let alloc = rt.alloc();
-    let printi = Target::Prim(Prim::Printi);
-    assert!(rt; means(alloc, b"type X = Int type Y = X new c:Y", &[], &[0, 1]));
-    assert!(rt; means(alloc, b"type (F A) = A new c:(F Int)", &[], &[1, 0]));
-    assert!(rt; means(alloc, b"new c:(rec X = ^X)", &[], &[0]));
-    assert!(rt; means(alloc, b"new c:[#X<[#Y Y] X]", &[], &[1, 0]));
-    assert!(rt; means(alloc, b"type X = Int new c:[[#X X] X]", &[], &[1, 0]));
-    // type binders of patterns bind over later fields and the body, those of a function over the type of its answer
-    assert!(rt; means(alloc, b"def f (#Y y:Y):Y = y", &[b(1)], &[0, 0]));
-    assert!(rt; means(alloc, b"def f [[#Y y:Y]] = (new c:Y ())", &[], &[0, 0]));
-    // but those of a nested pattern over no later field outside, and over no type of an answer
-    assert!(rt;
-        means(
-            alloc,
-            b"type Y = Int def f [[#Y y:Y] z:Y] = printi!z",
-            &[printi, b(2)],
-            &[1, 0]
-        )
-    );
-    assert!(rt; means(alloc, b"type Y = Int def f ([#Y y:Y]):Y = 1", &[], &[1, 0]));
-    // values and types are apart
-    assert!(rt; means(alloc, b"val [#x x] = 1 new c:x x;", &[b(0)], &[0]));
-    Ok(())
-}
-
-/// A form that nests: what is written before, at each level, in the middle, at each level behind it, and after.
-#[derive(Clone, Copy)]
-struct Nest<'a> {
-    head: &'a [u8],
-    opening: &'a [u8],
-    middle: &'a [u8],
-    closing: &'a [u8],
-    tail: &'a [u8],
-    levels: usize,
-}
-
-fn text_of(alloc: Global, nest: &Nest) -> Result<Vec<u8>, AllocError> {
-    let mut text = Vec::new(alloc);
-    text.extend_from_slice(nest.head)?;
-    for _ in 0..nest.levels {
-        text.extend_from_slice(nest.opening)?;
-    }
-    text.extend_from_slice(nest.middle)?;
-    for _ in 0..nest.levels {
-        text.extend_from_slice(nest.closing)?;
-    }
-    text.extend_from_slice(nest.tail)?;
-    Ok(text)
+    try_meanings(&rt, rt.alloc(), TYPES)
 }
 
 /// Texts that nest as deep as a text may: values, types, patterns, groups and functions.
+const DEEPEST: &str = r#"
+Ok | val x = «[ 200»1«] 200»
+Ok | new c:«^ 200»Int
+Ok | val «[ 200»x«] 200» = 1 x;
+Ok | run «( 200»«) 200»
+Ok | val f = «\(x) =  199»x
+"#;
+
 #[test]
 fn deepest(rt: HostRuntime) -> Result<(), AllocError> {
-    let nests = [
-        Nest {
-            head: b"val x = ",
-            opening: b"[",
-            middle: b"1",
-            closing: b"]",
-            tail: b"",
-            levels: 200,
-        },
-        Nest {
-            head: b"new c:",
-            opening: b"^",
-            middle: b"Int",
-            closing: b"",
-            tail: b"",
-            levels: 200,
-        },
-        Nest {
-            head: b"val ",
-            opening: b"[",
-            middle: b"x",
-            closing: b"]",
-            tail: b" = 1 x;",
-            levels: 200,
-        },
-        Nest {
-            head: b"run ",
-            opening: b"(",
-            middle: b"",
-            closing: b")",
-            tail: b"",
-            levels: 200,
-        },
-        Nest {
-            head: b"val f = ",
-            opening: b"\\(x) = ",
-            middle: b"x",
-            closing: b"",
-            tail: b"",
-            levels: 199,
-        },
-    ];
-    for nest in &nests {
-        let text = text_of(rt.alloc(), nest)?;
-        assert!(rt; matches!(scopes_of(rt.alloc(), &text), Some(Ok(_))));
-    }
-    Ok(())
+    try_table(&rt, rt.alloc(), DEEPEST, Phase::Scopes)
 }

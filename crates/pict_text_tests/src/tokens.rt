@@ -1,86 +1,91 @@
 // Texts with the spans and kinds of their tokens, and texts that are refused.
 
+use crate::answers::{Phase, text_of, try_table};
 use pict_lex::{LexError, lex};
-use pict_syntax::{Code, Keyword, Name, Names, Sign, SymbolName, TokenKind};
-use std::alloc::Global;
+use pict_syntax::{Keyword, Name, Names, Sign, SymbolName, TokenKind};
+use std::alloc::{AllocError, Global};
+use std::process::Abort;
 use std::test::Fail;
 
-/// Why and where a short text is refused.
-fn refusal_of(alloc: Global, text: &[u8]) -> Option<(Code, u32, u32)> {
-    if text.len() > 100 {
-        return None;
-    }
-    let mut names = Names::new(alloc);
-    match lex(alloc, &mut names, text, 1) {
-        Err(LexError::Named(code, span)) => Some((code, span.start, span.end)),
-        _ => None,
-    }
+/// Where reading stops.
+const REFUSALS: &str = r#"
+L4 11..12 | run printi!9223372036854775808
+L4 0..1 | -9223372036854775809
+L2 10..11 | run print!"he
+L5 0..2 | {* a {* b *} run
+L5 2..4 | a {*}
+L3 11..12 | run print!"\x4"
+L3 1..2 | "\x4
+L3 1..2 | "\«0a»"
+L3 1..2 | '\q'
+L2 0..1 | 'ab'
+L2 0..1 | 'a\n'
+L2 0..1 | ''
+L2 0..1 | 'a«80»'
+L2 2..3 | x "a\
+L2 2..3 | x '\
+L2 0..1 | "a«0a»b"
+L1 2..3 | "a«09»b"
+L1 2..3 | "a«80»"
+L1 1..2 | '«80»'
+L1 2..3 | ab«80»
+L1 2..3 | a { b
+L1 5..6 | "ok" $
+"#;
+
+#[test]
+fn texts_are_refused_where_reading_stops(rt: HostRuntime) -> Result<(), AllocError> {
+    try_table(&rt, rt.alloc(), REFUSALS, Phase::Grammar)
 }
 
 /// The places of the tokens of a short text.
-fn places_of(alloc: Global, text: &[u8]) -> Result<Vec<(u32, u32)>, LexError> {
-    let mut places = Vec::new(alloc);
+fn places_of(alloc: Global, text: &[u8]) -> Result<String, LexError> {
+    let mut places = String::new(alloc);
     if text.len() <= 100 {
         let mut names = Names::new(alloc);
         for token in &lex(alloc, &mut names, text, 1)? {
-            places.push((token.span.start, token.span.end))?;
+            let place = format!(in alloc; " {}..{}", token.span.start, token.span.end)?;
+            places.push_str(place.as_str())?;
         }
     }
     Ok(places)
 }
 
-#[test]
-fn texts_are_refused_where_reading_stops(rt: HostRuntime) {
-    let rows: [(&[u8], Code, u32, u32); 22] = [
-        (b"run printi!9223372036854775808", Code::L4, 11, 12),
-        (b"-9223372036854775809", Code::L4, 0, 1),
-        (b"run print!\"he", Code::L2, 10, 11),
-        (b"{* a {* b *} run", Code::L5, 0, 2),
-        (b"a {*}", Code::L5, 2, 4),
-        (b"run print!\"\\x4\"", Code::L3, 11, 12),
-        (b"\"\\x4", Code::L3, 1, 2),
-        (b"\"\\\n\"", Code::L3, 1, 2),
-        (b"'\\q'", Code::L3, 1, 2),
-        (b"'ab'", Code::L2, 0, 1),
-        (b"'a\\n'", Code::L2, 0, 1),
-        (b"''", Code::L2, 0, 1),
-        (b"'a\x80'", Code::L2, 0, 1),
-        (b"x \"a\\", Code::L2, 2, 3),
-        (b"x '\\", Code::L2, 2, 3),
-        (b"\"a\nb\"", Code::L2, 0, 1),
-        (b"\"a\tb\"", Code::L1, 2, 3),
-        (b"\"a\x80\"", Code::L1, 2, 3),
-        (b"'\x80'", Code::L1, 1, 2),
-        (b"ab\x80", Code::L1, 2, 3),
-        (b"a { b", Code::L1, 2, 3),
-        (b"\"ok\" $", Code::L1, 5, 6),
-    ];
-    for (text, code, start, end) in rows {
-        assert_eq!(rt; refusal_of(rt.alloc(), text), Some((code, start, end)));
-    }
+/// The places of tokens, each of which is as long as it can be.
+const PLACES: &str = r#"
+none |  «09»«0d»«0a»
+0..2 | ?*
+0..1 2..3 | ? *
+0..2 | ->
+0..2 2..3 | ->5
+0..2 | -5
+0..1 2..3 | - 5
+0..1 1..3 | x-1
+0..1 1..3 | --5
+0..2 2..4 | <=+$
+0..1 1..2 2..4 4..5 5..6 | [l==1]
+4..8 9..10 10..11 | {**}a'_1 _b
+10..11 | {*{*«80»*}**}a
+0..20 21..25 | -9223372036854775808 0009
+"#;
+
+/// Tries a row of the table.
+fn try_places(rt: &impl Abort, alloc: Global, row: &str) -> Result<(), LexError> {
+    let (wanted, text) = row.split_once(" | ").unwrap_or((row, ""));
+    let found = places_of(alloc, &text_of(alloc, text)?)?;
+    assert!(rt;
+        found.strip_prefix(' ').unwrap_or("none") == wanted,
+        "{row}: {found}"
+    );
+    Ok(())
 }
 
 #[test]
-fn the_longest_token_is_read(rt: HostRuntime) -> Result<(), Fail> {
-    let rows: [(&[u8], &[(u32, u32)]); 14] = [
-        (b" \t\r\n", &[]),
-        (b"?*", &[(0, 2)]),
-        (b"? *", &[(0, 1), (2, 3)]),
-        (b"->", &[(0, 2)]),
-        (b"->5", &[(0, 2), (2, 3)]),
-        (b"-5", &[(0, 2)]),
-        (b"- 5", &[(0, 1), (2, 3)]),
-        (b"x-1", &[(0, 1), (1, 3)]),
-        (b"--5", &[(0, 1), (1, 3)]),
-        (b"<=+$", &[(0, 2), (2, 4)]),
-        (b"[l==1]", &[(0, 1), (1, 2), (2, 4), (4, 5), (5, 6)]),
-        (b"{**}a'_1 _b", &[(4, 8), (9, 10), (10, 11)]),
-        (b"{*{*\x80*}**}a", &[(10, 11)]),
-        (b"-9223372036854775808 0009", &[(0, 20), (21, 25)]),
-    ];
-    for (text, places) in rows {
-        let found = places_of(rt.alloc(), text)?;
-        assert!(rt; found.as_slice() == places);
+fn the_longest_token_is_read(rt: HostRuntime) -> Result<(), LexError> {
+    for row in PLACES.lines() {
+        if !row.is_empty() {
+            try_places(&rt, rt.alloc(), row)?;
+        }
     }
     Ok(())
 }
