@@ -9,16 +9,11 @@ use crate::writing::{part, put_perhaps, put_place};
 use pict_follow::Class;
 use pict_lex::{LexError, lex};
 use pict_report::prelude;
-use pict_syntax::{Keyword, Names, Sign, TEXT_LIMIT};
+use pict_syntax::{Keyword, Names, Primitive, Sign, TEXT_LIMIT};
 use std::alloc::{AllocError, Global};
 
 /// How many near names are told.
 const NEAR: usize = 3;
-
-/// The names of the primitives that are words.
-const PRIMITIVES: [&str; 11] = [
-    "print", "printi", "pr", "div", "mod", "chr", "ord", "intstr", "size", "nth", "not",
-];
 
 /// The names of the base types.
 const BASES: [&str; 5] = ["Int", "Char", "String", "Bool", "Top"];
@@ -148,6 +143,17 @@ impl Nearest {
         Ok(())
     }
 
+    /// Tries the name of the primitive with this number, if there is one, and its name is a word.
+    fn try_primitive(&mut self, alloc: Global, name: &[u8], number: u8) -> Result<(), AllocError> {
+        match Primitive::numbered(u64::from(number)) {
+            Some(primitive) => match primitive.name() {
+                [b'a'..=b'z', ..] => self.try_name(alloc, name, primitive.name()),
+                _ => Ok(()),
+            },
+            None => Ok(()),
+        }
+    }
+
     /// Writes the names, if there are any.
     fn put(&self, out: &mut Vec<u8>) -> Result<(), AllocError> {
         if self.found.is_empty() {
@@ -211,8 +217,8 @@ fn try_given(
 ) -> Result<(), AllocError> {
     match sort {
         Sort::Values => {
-            for other in PRIMITIVES {
-                nearest.try_name(alloc, name, other.as_bytes())?;
+            for number in 0..=u8::MAX {
+                nearest.try_primitive(alloc, name, number)?;
             }
         }
         Sort::Types => {
