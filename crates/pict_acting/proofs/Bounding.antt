@@ -26,9 +26,9 @@ use Rattle.pict_turns.specs.declared.store.Store.{Store}
 use Rattle.pict_blocks.proofs.Holding.{held_width}
 use Rattle.pict_turns.proofs.Turns.{turn_blocks}
 use Rattle.pict_acting.specs.Bounds.{largest, greatest_cost, total_blocks, IsWidthIn, MakesFew}
-use Rattle.pict_acting.specs.Needs as needs
-use Rattle.pict_acting.specs.Needs.{input_widths, served_widths, taken_widths, output_widths, receipt_widths, choice_widths, node_widths, block_widths, first_widths, turn_widths}
-use Rattle.pict_acting.proofs.Needing.{many_append}
+use Rattle.pict_turns.specs.Needs as needs
+use Rattle.pict_turns.specs.Needs.{input_widths, served_widths, taken_widths, output_widths, receipt_widths, choice_widths, node_widths, block_widths, first_widths, turn_widths}
+use Rattle.pict_turns.proofs.Needing.{many_append}
 
 -- ---- what a step costs
 

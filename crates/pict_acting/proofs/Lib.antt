@@ -1,15 +1,3 @@
-pub mod Passing
-pub mod Channels
-pub mod Growing
-pub mod Serving
-pub mod Costing
-pub mod Working
-pub mod Called
-pub mod KeptOutputs
-pub mod Taking
-pub mod Needing
-pub mod Adding
-pub mod Plainly
 pub mod Bounding
 pub mod CallNodes
 pub mod CallSteps

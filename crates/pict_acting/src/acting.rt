@@ -3,20 +3,14 @@ ghost use Rattle.std.specs.Prelude.{map};
 ghost use Rattle.pict_code.specs.Plain.{plain_op, plain_node};
 ghost use Rattle.pict_turns.specs.Acting.{ActsBy};
 ghost use Rattle.pict_desk.specs.Code.{core_in};
-ghost use Rattle.pict_turns.specs.Views.{acting_words};
 ghost use Rattle.pict_desk.specs.Constants.{IsConstantFor, AreConstants};
-ghost use Rattle.pict_acting.specs.Growing.{AddsNeeded};
-ghost use Rattle.pict_acting.specs.Needs.{MakesNeeded};
-ghost use Rattle.pict_acting.specs.Plain.{ActsPlainly, TakesNothing};
-ghost use Rattle.pict_acting.specs.Stepping.{MayAct, IsStepBy};
-ghost use Rattle.pict_acting.specs.Work.{Fits};
+ghost use Rattle.pict_turns.specs.Stepping.{MayAct, StepsBy};
 
-use crate::event::PackedEvent;
 use crate::outputs::{output, output_kept};
-use crate::receiving::input;
 use pict_code::{Node, Op};
 use pict_heap::Word;
-use pict_turns::{Store, Turn, choose, end, fork, make_channel};
+use pict_meetings::input;
+use pict_turns::{PackedEvent, Store, Turn, choose, end, fork, make_channel};
 use std::alloc::AllocError;
 
 /// The step of who has the turn, with its oldest partner.
@@ -41,11 +35,7 @@ pub fn act<C>(
 ) -> Result<PackedEvent, AllocError>
     requires may { MayAct code.now store.old }
     requires constants { AreConstants store.old.desk.heap (map plain_node code.now) constants.now }
-    ensures step { IsStepBy (core_in code.now) store.old store.new result }
-    ensures work { Fits (core_in code.now) store.old store.new }
-    ensures blocks { MakesNeeded (core_in code.now) store.old store.new }
-    ensures adds { AddsNeeded (core_in code.now) store.old store.new }
-    ensures plain { ActsPlainly (core_in code.now) store.old (acting_words (core_in code.now) store.old) → TakesNothing store.old store.new result }
+    ensures steps { StepsBy code.now store.old store.new result }
 {
     match store.turn {
         Turn::Nobody => unreachable!(),
@@ -66,29 +56,13 @@ fn act_by<C>(
     requires may { MayAct code.now store.old }
     requires acts { ActsBy (core_in code.now) store.old (plain_op op.now) }
     requires constant { IsConstantFor store.old.desk.heap (plain_op op.now) constant.now }
-    ensures step { IsStepBy (core_in code.now) store.old store.new result }
-    ensures work { Fits (core_in code.now) store.old store.new }
-    ensures blocks { MakesNeeded (core_in code.now) store.old store.new }
-    ensures adds { AddsNeeded (core_in code.now) store.old store.new }
-    ensures plain { ActsPlainly (core_in code.now) store.old (acting_words (core_in code.now) store.old) → TakesNothing store.old store.new result }
+    ensures steps { StepsBy code.now store.old store.new result }
 {
     match op {
-        Op::Zero => {
-            end(store);
-            Ok(PackedEvent::Quiet)
-        }
-        Op::Par(left, right) => {
-            fork(store, code, *left, *right)?;
-            Ok(PackedEvent::Quiet)
-        }
-        Op::New(level, part) => {
-            make_channel(store, code, *level, *part)?;
-            Ok(PackedEvent::Quiet)
-        }
-        Op::If(test, yes, no) => {
-            choose(store, code, test, *yes, *no)?;
-            Ok(PackedEvent::Quiet)
-        }
+        Op::Zero => end(store),
+        Op::Par(left, right) => fork(store, code, *left, *right),
+        Op::New(level, part) => make_channel(store, code, *level, *part),
+        Op::If(test, yes, no) => choose(store, code, test, *yes, *no),
         Op::Out(chan, message, at) => output(code, store, chan, message, constant, *at),
         Op::In(chan, pattern, part) => input(code, store, chan, false, pattern, *part),
         Op::Serve(chan, pattern, part) => input(code, store, chan, true, pattern, *part),

@@ -3,3 +3,4 @@ pub mod Stepping
 pub mod Outputs
 pub mod Answering
 pub mod Numbers
+mod Whole

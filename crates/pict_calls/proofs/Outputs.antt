@@ -1,31 +1,34 @@
 -- What is known of an output to a primitive where a step begins: from who has the turn, and from a step that isn't wrong.
-use Rattle.std.proofs.Common.{◌≡◌, ◌≢◌, List, ◌∷◌, length, map, Option, Some, None, IsSome, refl, ap, ◌∙◌, subst, arith}
+use Rattle.std.proofs.Common.{◌≡◌, ◌≢◌, List, ◌∷◌, map, Option, Some, None, IsSome, refl, ap, ◌∙◌, ◌-◌, sym}
 use Rattle.pict_syntax.specs.declared.primitive.Primitive.{Primitive}
 use Rattle.pict_syntax.specs.declared.span.Span.{Span}
-use Rattle.pict_core.specs.Closed.{IsClosed, IsOver, IsUnder}
+use Rattle.pict_core.specs.Closed.{IsClosed}
 use Rattle.pict_core.specs.Primitives.{Effect, effect_of}
 use Rattle.pict_core.specs.Term.{Val, PrimitiveVal, Process, Out}
 use Rattle.pict_core.specs.Deed.{performs}
-use Rattle.pict_core.proofs.Closed.{over_more}
 use Rattle.pict_code.specs.Instruction as op
-use Rattle.pict_code.specs.Nodes.{places}
-use Rattle.pict_code.proofs.Closings.{part_under}
 use Rattle.pict_queue.specs.Contents.{contents}
 use Rattle.pict_view.specs.Moved.{Misshapen}
 use Rattle.pict_view.specs.Placed.{place_at, next_view}
 use Rattle.pict_view.proofs.Rows.{act}
 use Rattle.pict_blocks.specs.Blocks.{process_of}
-use Rattle.pict_desk.specs.Known.{value_in}
+use Rattle.pict_desk.specs.Known.{value_in, known, operand_value}
 use Rattle.pict_blocks.proofs.Meeting.{outputs_stand}
-use Rattle.pict_desk.proofs.Nodes.{is_out, op_is}
-use Rattle.pict_turns.specs.Acting.{ActsBy, IsRight}
+use Rattle.pict_desk.proofs.Nodes.{op_is}
+use Rattle.pict_turns.specs.Acting.{ActsBy, IsRight, HasActing}
 use Rattle.pict_turns.specs.Views.{channel_lists, acting_words}
 use Rattle.pict_turns.specs.declared.store.Store.{Store}
-use Rattle.pict_turns.proofs.Numbered.{standing}
-use Rattle.pict_desk.proofs.Numbered.{place_low}
 use Rattle.pict_turns.proofs.Turns.{view_is}
 use Rattle.pict_desk.specs.Arguments.{operand_in}
 use Rattle.pict_calls.specs.Calling.{CallsOn}
+use Rattle.pict_desk.specs.AtHand.{channel_named}
+use Rattle.pict_turns.proofs.Outputs.{node_sent_to, pair_value, kept_to, kept_message, kept_process}
+use Rattle.pict_desk.specs.declared.kept.Kept.{Kept}
+use Rattle.pict_heap.specs.HeapState.{value_of}
+use Rattle.pict_heap.specs.Packed.{packed, FitsWord}
+use Rattle.pict_heap.specs.declared.word.Word.{Word}
+use Rattle.pict_heap.specs.declared.word.Word.TheVariants as word
+use Rattle.pict_turns.specs.declared.turn.Turn.TheVariants.{Output}
 
 taken : (ready : List Process) (lists : List (List Process)) (at : Span) (e : Option Effect) → place_at 0 0 ready lists (performs at e) ≢ Misshapen → IsSome e
 taken ready lists at None right = absurd (right refl)
@@ -48,14 +51,21 @@ module _ (core : Process) (s : Store) where
           ∙ ap (λ v. Out v (operand_in s.desk.heap s.desk.values.items message) at) to;
     }
 
-    -- the variables of its operands are levels that have a place
-    pub operands_over : IsOver (length s.desk.values.items) 0 chan × IsOver (length s.desk.values.items) 0 message
-    operands_over =
-        let st = standing core s (op.Out chan message at) a in
-        let n = st.part.around in
-        let out = is_out a.number n chan message at st.part.process (op_is core a.number a.node st.part (op.Out chan message at) st.at a.op_is) in
-        let under : IsUnder n 0 (Out chan message at) = subst (IsUnder n 0) out (part_under core a.number st.part closed st.at.at) in
-        let low = place_low (length s.desk.values.items) (places 0 core) a.number st.part a.acting.store.levels st.at.at in (
-          over_more n (length s.desk.values.items) 0 0 low (omega arith) chan under.0,
-          over_more n (length s.desk.values.items) 0 0 low (omega arith) message under.1,
-        )
+-- it calls the primitive that its operand alone is
+pub node_call : (core : Process) (s : Store) (closed : IsClosed core) (chan message : Val) (at : Span) → ActsBy core s (op.Out chan message at) → IsRight core s
+    → None ≡ channel_named (operand_value (known s.desk.heap s.desk.values.items) chan) → (p : Primitive)
+    → ((q : Primitive) → operand_value (known s.desk.heap s.desk.values.items) chan ≡ PrimitiveVal q → p ≡ q) → CallsOn core s p (operand_in s.desk.heap s.desk.values.items message) at
+node_call core s closed chan message at a right none p only =
+    let to = node_sent_to core s closed chan message at a right none in
+    node_calls core s chan message at closed a p (to.1 ∙ ap PrimitiveVal (sym (only to.0 to.1)))
+
+-- an output of kept values to a primitive
+module _ (core : Process) (s : Store) (acting : HasActing core s) (kept : Kept) (has : s.turn ≡ Output kept) where
+  pub words_call : (to message : Word) → ((x : Word) → FitsWord x → packed x ≡ kept.to → to ≡ x) → ((x : Word) → FitsWord x → packed x ≡ kept.message → message ≡ x)
+      → (p : Primitive) → to ≡ word.Prim p → CallsOn core s p (value_of s.desk.heap message) kept.at
+  words_call to message to_only message_only p e = record {
+    acting = acting;
+    output = kept_process core s acting kept has
+        ∙ ap (λ v. Out v (value_in s.desk.heap kept.message.0 kept.message.1) kept.at) (pair_value s.desk.heap kept.to (kept_to core s acting kept has) to to_only ∙ ap (value_of s.desk.heap) e)
+        ∙ ap (λ v. Out (PrimitiveVal p) v kept.at) (pair_value s.desk.heap kept.message (kept_message core s acting kept has) message message_only);
+  }

@@ -1,5 +1,5 @@
 -- From what an act leaves in a store to the step of what the store stands for.
-use Rattle.std.proofs.Common.{ℕ, ◌+◌, ◌≤◌, ◌≡◌, ◌≢◌, List, ◌∷◌, ◌++◌, length, map, Option, Some, None, IsSome, refl, sym, ap, ◌∙◌, subst, arith}
+use Rattle.std.proofs.Common.{ℕ, ◌+◌, ◌≤◌, ◌≡◌, ◌≢◌, List, ◌∷◌, ◌++◌, length, map, Some, refl, sym, ap, ◌∙◌, subst, arith, Option, None, IsSome}
 use Rattle.std.specs.List.{AllByRecursion}
 use Rattle.pict_syntax.specs.declared.primitive.Primitive.{Primitive}
 use Rattle.pict_syntax.specs.declared.span.Span.{Span}
@@ -30,14 +30,16 @@ use Rattle.pict_turns.specs.declared.store.Store.{Store}
 use Rattle.pict_turns.specs.declared.turn.Turn.{Turn}
 use Rattle.pict_turns.proofs.Views.{block_same, blocks_stay}
 use Rattle.pict_turns.proofs.Rows.{store_by, view_kept, done_by}
-use Rattle.pict_turns.proofs.Room.{reserves_nothing, words_still, acting_words_still, acting_still, view_still, refused_still, done_after, refused_after}
+use Rattle.pict_turns.proofs.Room.{reserves_nothing, acting_words_still, acting_still, view_still, refused_still, done_after, refused_after}
 use Rattle.pict_desk.proofs.MakingRoom.{value_kept}
 use Rattle.pict_turns.proofs.Turns.{nobody_turn, nobody_room, cost_nobody, same_words, acting_block}
-use Rattle.pict_calls.specs.declared.called.Called.{Called}
-use Rattle.pict_calls.specs.declared.called.Called.TheVariants as called
-use Rattle.pict_calls.specs.Calling.{CallsOn, IsCalled}
+use Rattle.pict_calls.specs.Calling.{CallsOn}
 use Rattle.pict_calls.specs.Finishing.{IsAnswered, IsTurnAfter, HasActed}
 use Rattle.pict_calls.proofs.Answering.{HasRoomToAnswer}
+use Rattle.pict_turns.specs.Stepping.{Acts}
+use Rattle.pict_turns.specs.Packed.{label_packed}
+use Rattle.pict_turns.specs.declared.event.PackedEvent.{PackedEvent}
+use Rattle.pict_turns.specs.declared.event.PackedEvent.TheVariants as packed
 
 pub some_is : {A : Type 0} (o : Option A) → IsSome o → (x : A) × (o ≡ Some x)
 some_is None is = cc
@@ -45,8 +47,8 @@ some_is (Some x) is = (x, refl)
 
 -- ---- a step
 
-module _ (core : Process) (old new : Store) (p : Primitive) (v : Val) (at : Span) (e : Effect) (called : Called)
-    (on : CallsOn core old p v at) (is : effect_of p v ≡ Some e) (h : HasActed old new e at called) where
+module _ (core : Process) (old new : Store) (p : Primitive) (v : Val) (at : Span) (e : Effect) (event : PackedEvent)
+    (on : CallsOn core old p v at) (is : effect_of p v ≡ Some e) (h : HasActed old new e at event) where
   -- the other ready processes, and the lists of the channels
   rest : List Process
   rest = map (process_of core (value_in new.desk.heap)) (contents old.queues 0)
@@ -115,27 +117,23 @@ module _ (core : Process) (old new : Store) (p : Primitive) (v : Val) (at : Span
   stops : e.leaves ≡ Trap → next_view (view_with_turn core old) ≡ Stops at
   stops trap = sym (ap next_view (view_kept core old new on.acting h.keeps)) ∙ moved ∙ ap (leave (printing e.printed)) trap
 
--- an act of the output that has the turn is a call
-pub called_by : (core : Process) (old new : Store) (p : Primitive) (v : Val) (at : Span) (e : Effect) (called : Called)
-    → CallsOn core old p v at → effect_of p v ≡ Some e → HasRoomToAnswer old.queues e.leaves → HasActed old new e at called → IsCalled core old new called
-called_by core old new p v at e called.Quiet on is free h = done core old new p v at e called.Quiet on is h Quiet (ap printing h.shows.0) h.shows.1 free
-called_by core old new p v at e (called.Printed w) on is free h =
-    let bytes = some_is (printed_of (value_of new.desk.heap w)) h.shows.some in
-    record {
-      bytes = bytes.0;
-      word = h.shows.word;
-      prints = bytes.1;
-      done = done core old new p v at e (called.Printed w) on is h (Print bytes.0) (ap printing (h.shows.prints ∙ bytes.1)) h.shows.no_trap free;
-    }
-called_by core old new p v at e (called.Trapped place) on is free h =
-    record {
-      stops = stops core old new p v at e (called.Trapped place) on is h h.shows.0 ∙ ap Stops (sym h.shows.1);
-      unchanged = refused_still core old new (subst (OnlyReserves old) (sym (h.trap h.shows.0)) (reserves_nothing old)) on.acting.store;
-    }
+-- an act of the output that has the turn is a step
+pub acts_by : (core : Process) (old new : Store) (p : Primitive) (v : Val) (at : Span) (e : Effect) (event : PackedEvent)
+    → CallsOn core old p v at → effect_of p v ≡ Some e → HasRoomToAnswer old.queues e.leaves → HasActed old new e at event → Acts core old new event
+acts_by core old new p v at e packed.Quiet on is free h = record { done = done core old new p v at e packed.Quiet on is h Quiet (ap printing h.shows.0) h.shows.1 free; event = tt }
+acts_by core old new p v at e (packed.Comm channel value) on is free h = absurd h.shows
+acts_by core old new p v at e (packed.Print w) on is free h = record {
+  done = done core old new p v at e (packed.Print w) on is h (printing (printed_of (value_of new.desk.heap w))) (ap printing h.shows.prints) h.shows.no_trap free;
+  event = record { word = h.shows.word; printed = h.shows.some };
+}
+acts_by core old new p v at e (packed.Trapped place) on is free h = (
+  stops core old new p v at e (packed.Trapped place) on is h h.shows.0 ∙ ap Stops (sym h.shows.1),
+  refused_still core old new (subst (OnlyReserves old) (sym (h.trap h.shows.0)) (reserves_nothing old)) on.acting.store,
+)
 
 -- who has the turn then takes no more to set down than who had it, or than an output of an answer
-pub cost_after : (core : Process) (old new : Store) (e : Effect) (at : Span) (called : Called) → HasActed old new e at called → turn_cost core new ≤ turn_cost core old + 13
-cost_after core old new e at called h = by_case e.leaves h.turn h.trap
+pub cost_after : (core : Process) (old new : Store) (e : Effect) (at : Span) (event : PackedEvent) → HasActed old new e at event → turn_cost core new ≤ turn_cost core old + 13
+cost_after core old new e at event h = by_case e.leaves h.turn h.trap
   where
     by_case : (l : Leaves) → IsTurnAfter new.desk.heap l at new.turn → (l ≡ Trap → new ≡ old) → turn_cost core new ≤ turn_cost core old + 13
     by_case Nothing r trap = let none = cost_nobody core new r in omega (arith, none)
@@ -154,25 +152,20 @@ module _ (core : Process) (old mid : Store) (r : OnlyReserves old mid) where
         ∙ ap (process_of core (value_in old.desk.heap)) (acting_words_still core old mid r) ∙ on.output;
   }
 
-  pub called_after : (last : Store) (called : Called) → IsCalled core mid last called → IsCalled core old last called
-  called_after last called.Quiet is = done_after core old mid r last Quiet is
-  called_after last (called.Printed w) is = record { bytes = is.bytes; word = is.word; prints = is.prints; done = done_after core old mid r last (Print is.bytes) is.done }
-  called_after last (called.Trapped at) is = record {
-    stops = sym (ap next_view (view_still core old mid r)) ∙ is.stops;
-    unchanged = refused_after core old mid r last is.unchanged;
-  }
-
-  pub cost_still : turn_cost core mid ≡ turn_cost core old
-  cost_still = ap handing (words_still core old mid r)
+  pub acts_after : (last : Store) (event : PackedEvent) → Acts core mid last event → Acts core old last event
+  acts_after last packed.Quiet is = record { done = done_after core old mid r last Quiet is.done; event = is.event }
+  acts_after last (packed.Comm channel value) is = record { done = done_after core old mid r last (label_packed last.desk.heap (packed.Comm channel value)) is.done; event = is.event }
+  acts_after last (packed.Print w) is = record { done = done_after core old mid r last (printing (printed_of (value_of last.desk.heap w))) is.done; event = is.event }
+  acts_after last (packed.Trapped at) is = (sym (ap next_view (view_still core old mid r)) ∙ is.0, refused_after core old mid r last is.1)
 
 -- ---- once words are made
 
 pub cost_same : (core : Process) (s n : Store) → n.turn ≡ s.turn → n.desk.values ≡ s.desk.values → turn_cost core n ≡ turn_cost core s
 cost_same core s n turn values = ap handing (same_words core s n turn (ap (λ vs. vs.items) values))
 
-pub acted_before : (old mid new : Store) (e : Effect) (at : Span) (called : Called) → KeepsWords old.desk.heap mid.desk.heap → mid.queues ≡ old.queues → mid.desk.values ≡ old.desk.values → e.leaves ≢ Trap
-    → HasActed mid new e at called → HasActed old new e at called
-acted_before old mid new e at called keeps queues values other h = record {
+pub acted_before : (old mid new : Store) (e : Effect) (at : Span) (event : PackedEvent) → KeepsWords old.desk.heap mid.desk.heap → mid.queues ≡ old.queues → mid.desk.values ≡ old.desk.values → e.leaves ≢ Trap
+    → HasActed mid new e at event → HasActed old new e at event
+acted_before old mid new e at event keeps queues values other h = record {
   turn = h.turn;
   shows = h.shows;
   queues = h.queues ∙ queues;

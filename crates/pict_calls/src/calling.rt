@@ -11,24 +11,24 @@ ghost use Rattle.pict_turns.specs.Growing.{AddsAtMost};
 ghost use Rattle.pict_turns.specs.Turns.{turn_cost};
 ghost use Rattle.pict_turns.specs.Widths.{MakesOnly, answer_widths};
 ghost use Rattle.pict_desk.specs.Arguments.{record_of_words};
-ghost use Rattle.pict_calls.specs.Calling.{CallsOn, IsCalled};
+ghost use Rattle.pict_calls.specs.Calling.{CallsOn};
+ghost use Rattle.pict_turns.specs.Stepping.{Acts};
 
-use crate::called::Called;
 use crate::finishing::{finish, outputs};
 use pict_blocks::KEPT_WIDTH;
 use pict_desk::act_of;
 use pict_heap::Word;
 use pict_prim::{Act, act_on, room_of};
 use pict_syntax::{Prim, Span};
-use pict_turns::{Store, reserve};
+use pict_turns::{PackedEvent, Store, reserve};
 use std::alloc::AllocError;
 
 // Does what the primitive is about to do for the output that has the turn, as `call` says.
 #[inline(always)]
-fn carry_out(store: &mut Store, act: Act, at: Span) -> Result<Called, AllocError>
+fn carry_out(store: &mut Store, act: Act, at: Span) -> Result<PackedEvent, AllocError>
     requires act { IsActOf store.old.desk.heap act }
     ensures done { (core : Process) (p : Primitive) (v : Val) → CallsOn core store.old p v at → effect_of p v ≡ Some (effect_act store.old.desk.heap act)
-        → IfOk result (IsCalled core store.old store.new) }
+        → IfOk result (Acts core store.old store.new) }
     ensures refused { (core : Process) → HasActing core store.old → OnErr result (IsRefused core store.old store.new) }
     ensures piles { KeepsPiles store.old.desk.pending store.new.desk.pending }
     ensures blocks { MakesOnly store.old.queues store.new.queues (answer_widths (effect_act store.old.desk.heap act)) }
@@ -45,11 +45,16 @@ fn carry_out(store: &mut Store, act: Act, at: Span) -> Result<Called, AllocError
 /// answers, or both; the answer's output, of kept values at the same place, has the turn then. The heap has at most what is answered
 /// more. Dividing by zero and an error, which is want of memory, change nothing but room and spare blocks.
 #[inline(never)]
-pub fn call(store: &mut Store, p: Prim, argument: Word, at: Span) -> Result<Called, AllocError>
+pub(crate) fn call(
+    store: &mut Store,
+    p: Prim,
+    argument: Word,
+    at: Span,
+) -> Result<PackedEvent, AllocError>
     requires word { IsWord store.old.desk.heap argument }
     requires takes { IsSome (effect_of p (value_of store.old.desk.heap argument)) }
     ensures done { (core : Process) → CallsOn core store.old p (value_of store.old.desk.heap argument) at
-        → IfOk result (IsCalled core store.old store.new) }
+        → IfOk result (Acts core store.old store.new) }
     ensures refused { (core : Process) → HasActing core store.old → OnErr result (IsRefused core store.old store.new) }
     ensures piles { KeepsPiles store.old.desk.pending store.new.desk.pending }
     ensures blocks { (e : Effect) → effect_of p (value_of store.old.desk.heap argument) ≡ Some e
@@ -71,11 +76,11 @@ pub(crate) fn call_words(
     p: Prim,
     fields: &[Word],
     at: Span,
-) -> Result<Called, AllocError>
+) -> Result<PackedEvent, AllocError>
     requires words { All (IsWord store.old.desk.heap) fields.now }
     requires takes { (labelled : Labelled) × IsSome (effect_of p (record_of_words store.old.desk.heap fields.now labelled)) }
     ensures done { (core : Process) (labelled : Labelled) → CallsOn core store.old p (record_of_words store.old.desk.heap fields.now labelled) at
-        → IfOk result (IsCalled core store.old store.new) }
+        → IfOk result (Acts core store.old store.new) }
     ensures refused { (core : Process) → HasActing core store.old → OnErr result (IsRefused core store.old store.new) }
     ensures piles { KeepsPiles store.old.desk.pending store.new.desk.pending }
     ensures blocks { (labelled : Labelled) (e : Effect) → effect_of p (record_of_words store.old.desk.heap fields.now labelled) ≡ Some e

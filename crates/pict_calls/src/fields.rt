@@ -14,10 +14,10 @@ ghost use Rattle.pict_turns.specs.Turns.{turn_cost};
 ghost use Rattle.pict_prim.specs.Acts.{answer_need};
 ghost use Rattle.pict_desk.specs.Needs.{both_needs, needs_of};
 ghost use Rattle.pict_turns.specs.Widths.{MakesOnly, answer_widths};
-ghost use Rattle.pict_calls.specs.Calling.{CallsOn, IsCalled};
+ghost use Rattle.pict_calls.specs.Calling.{CallsOn};
+ghost use Rattle.pict_turns.specs.Stepping.{Acts};
 ghost use Rattle.pict_desk.specs.Arguments.{argument_of, HasRoomForCall};
 
-use crate::called::Called;
 use crate::calling::call_words;
 use crate::finishing::finish;
 use pict_code::Operand;
@@ -27,7 +27,7 @@ use pict_desk::{
 };
 use pict_prim::{NO_NEED, Need};
 use pict_syntax::{Prim, Span};
-use pict_turns::{Store, Turn, reserve_kept};
+use pict_turns::{PackedEvent, Store, Turn, reserve_kept};
 use std::alloc::AllocError;
 
 // Makes room for the words of the fields, for what the primitive adds, and for the output of the answer. An error, which is
@@ -58,13 +58,13 @@ fn call_making(
     p: Prim,
     fields: &[Operand],
     at: Span,
-) -> Result<Called, AllocError>
+) -> Result<PackedEvent, AllocError>
     requires over { AreOver (length store.old.desk.values.items) 0 (vals_of (map plain_val fields.now)) }
     requires pairs { ArePairs store.old.desk.heap store.old.desk.values.items }
     requires takes { (labelled : Labelled) × IsSome (effect_of p (argument_of store.old.desk.heap store.old.desk.values.items fields.now labelled)) }
     ensures done { (core : Process) (labelled : Labelled)
         → CallsOn core store.old p (argument_of store.old.desk.heap store.old.desk.values.items fields.now labelled) at
-        → IfOk result (IsCalled core store.old store.new) }
+        → IfOk result (Acts core store.old store.new) }
     ensures refused { (core : Process) → HasActing core store.old → OnErr result (IsRefused core store.old store.new) }
     ensures piles { KeepsPiles store.old.desk.pending store.new.desk.pending }
     ensures blocks { (labelled : Labelled) (e : Effect)
@@ -77,7 +77,7 @@ fn call_making(
     ensures turn { (core : Process) → turn_cost core store.new ≤ turn_cost core store.old + 13 }
 {
     if divides_by_zero(p, fields, &store.desk.values) {
-        return Ok(Called::Trapped(at));
+        return Ok(PackedEvent::Trapped(at));
     }
     make_call_room(store, p, fields)?;
     let act = decide(&mut store.desk, p, fields);
@@ -86,13 +86,18 @@ fn call_making(
 
 // The same as `call_fields`, of any fields.
 #[inline(never)]
-fn call_any(store: &mut Store, p: Prim, fields: &[Operand], at: Span) -> Result<Called, AllocError>
+fn call_any(
+    store: &mut Store,
+    p: Prim,
+    fields: &[Operand],
+    at: Span,
+) -> Result<PackedEvent, AllocError>
     requires over { AreOver (length store.old.desk.values.items) 0 (vals_of (map plain_val fields.now)) }
     requires pairs { ArePairs store.old.desk.heap store.old.desk.values.items }
     requires takes { (labelled : Labelled) × IsSome (effect_of p (argument_of store.old.desk.heap store.old.desk.values.items fields.now labelled)) }
     ensures done { (core : Process) (labelled : Labelled)
         → CallsOn core store.old p (argument_of store.old.desk.heap store.old.desk.values.items fields.now labelled) at
-        → IfOk result (IsCalled core store.old store.new) }
+        → IfOk result (Acts core store.old store.new) }
     ensures refused { (core : Process) → HasActing core store.old → OnErr result (IsRefused core store.old store.new) }
     ensures piles { KeepsPiles store.old.desk.pending store.new.desk.pending }
     ensures blocks { (labelled : Labelled) (e : Effect)
@@ -122,13 +127,13 @@ pub(crate) fn call_fields(
     p: Prim,
     fields: &[Operand],
     at: Span,
-) -> Result<Called, AllocError>
+) -> Result<PackedEvent, AllocError>
     requires over { AreOver (length store.old.desk.values.items) 0 (vals_of (map plain_val fields.now)) }
     requires pairs { ArePairs store.old.desk.heap store.old.desk.values.items }
     requires takes { (labelled : Labelled) × IsSome (effect_of p (argument_of store.old.desk.heap store.old.desk.values.items fields.now labelled)) }
     ensures done { (core : Process) (labelled : Labelled)
         → CallsOn core store.old p (argument_of store.old.desk.heap store.old.desk.values.items fields.now labelled) at
-        → IfOk result (IsCalled core store.old store.new) }
+        → IfOk result (Acts core store.old store.new) }
     ensures refused { (core : Process) → HasActing core store.old → OnErr result (IsRefused core store.old store.new) }
     ensures piles { KeepsPiles store.old.desk.pending store.new.desk.pending }
     ensures blocks { (labelled : Labelled) (e : Effect)
@@ -143,7 +148,7 @@ pub(crate) fn call_fields(
     if let Some(kept) = answer_at_hand(p, fields, &store.desk.values, at) {
         reserve_kept(store, NO_NEED)?;
         store.turn = Turn::Output(kept);
-        return Ok(Called::Quiet);
+        return Ok(PackedEvent::Quiet);
     }
     call_any(store, p, fields, at)
 }

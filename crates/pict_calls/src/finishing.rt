@@ -6,12 +6,11 @@ ghost use Rattle.pict_turns.specs.Growing.{AddsAtMost};
 ghost use Rattle.pict_calls.specs.Finishing.{outputs_of, HasActed};
 ghost use Rattle.pict_desk.specs.Kept.{IsOutput};
 
-use crate::called::Called;
 use pict_desk::Kept;
 use pict_heap::{Word, pack};
 use pict_prim::{Act, Done, perform};
 use pict_syntax::Span;
-use pict_turns::{Store, Turn};
+use pict_turns::{PackedEvent, Store, Turn};
 
 /// How many free blocks the output that the act leaves needs: one where it answers.
 #[inline(always)]
@@ -40,7 +39,7 @@ fn output(to: Word, message: Word, at: Span) -> Kept
 /// The act is done, and its output, which has the turn, ends, or becomes that of the answer; where there is a trap it has the turn
 /// still. Takes no memory.
 #[inline(always)]
-pub(crate) fn finish(store: &mut Store, act: Act, at: Span) -> Called
+pub(crate) fn finish(store: &mut Store, act: Act, at: Span) -> PackedEvent
     requires act { IsActOf store.old.desk.heap act }
     requires room { HasRoom store.old.desk.heap.room (need_of store.old.desk.heap act) }
     ensures acted { HasActed store.old store.new (effect_act store.old.desk.heap act) at result }
@@ -50,16 +49,16 @@ pub(crate) fn finish(store: &mut Store, act: Act, at: Span) -> Called
     match perform(&mut store.desk.heap, act) {
         Done::Printed(word) => {
             store.turn = Turn::Nobody;
-            Called::Printed(word)
+            PackedEvent::Print(word)
         }
         Done::Answer(to, answer) => {
             store.turn = Turn::Output(output(to, answer, at));
-            Called::Quiet
+            PackedEvent::Quiet
         }
         Done::PrintedAnswer(word, to, answer) => {
             store.turn = Turn::Output(output(to, answer, at));
-            Called::Printed(word)
+            PackedEvent::Print(word)
         }
-        Done::ZeroDivisor => Called::Trapped(at),
+        Done::ZeroDivisor => PackedEvent::Trapped(at),
     }
 }

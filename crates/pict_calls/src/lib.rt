@@ -1,12 +1,10 @@
-//! Outputs to primitives: a primitive acts on a word or on an operand, and its output ends or becomes that of an answer.
+//! The steps of outputs to primitives: a primitive acts on a word or on an operand, and its output ends or becomes that of an answer.
 #![tactic(auto)]
 
-mod called;
 mod calling;
 mod fields;
 mod finishing;
 mod operands;
+mod steps;
 
-pub use called::Called;
-pub use calling::call;
-pub use operands::call_operand;
+pub use steps::{call_message, call_of_turn};

@@ -9,15 +9,15 @@ ghost use Rattle.pict_desk.specs.AtHand.{IsOfHeap};
 ghost use Rattle.pict_desk.specs.Pairs.{ArePairs};
 ghost use Rattle.pict_turns.specs.Acting.{HasActing, IsRefused};
 ghost use Rattle.pict_desk.specs.Room.{KeepsPiles};
-ghost use Rattle.pict_turns.specs.Growing.{AddsAtMost};
+ghost use Rattle.pict_turns.specs.Growing.{AddsAtMost, argument_need};
 ghost use Rattle.pict_turns.specs.Turns.{turn_cost};
 ghost use Rattle.pict_prim.specs.Acts.{answer_need};
 ghost use Rattle.pict_desk.specs.Needs.{both_needs, text_need};
 ghost use Rattle.pict_turns.specs.Widths.{MakesOnly, answer_widths};
-ghost use Rattle.pict_calls.specs.Calling.{CallsOn, IsCalled, argument_need};
+ghost use Rattle.pict_calls.specs.Calling.{CallsOn};
+ghost use Rattle.pict_turns.specs.Stepping.{Acts};
 ghost use Rattle.pict_desk.specs.Arguments.{operand_in};
 
-use crate::called::Called;
 use crate::calling::call;
 use crate::fields::call_fields;
 use crate::finishing::finish;
@@ -27,13 +27,13 @@ use pict_core::CoreVal;
 use pict_desk::word_at_hand;
 use pict_prim::{Act, Need};
 use pict_syntax::{Prim, Span};
-use pict_turns::{Store, reserve};
+use pict_turns::{PackedEvent, Store, reserve};
 use std::alloc::AllocError;
 
 // Who has the turn is the output of this text to `print`, at this place in the text: as `call` says.
 #[inline(never)]
-fn print_text(store: &mut Store, bytes: &[u8], at: Span) -> Result<Called, AllocError>
-    ensures done { (core : Process) → CallsOn core store.old primitive.Print (Text bytes.now) at → IfOk result (IsCalled core store.old store.new) }
+fn print_text(store: &mut Store, bytes: &[u8], at: Span) -> Result<PackedEvent, AllocError>
+    ensures done { (core : Process) → CallsOn core store.old primitive.Print (Text bytes.now) at → IfOk result (Acts core store.old store.new) }
     ensures refused { (core : Process) → HasActing core store.old → OnErr result (IsRefused core store.old store.new) }
     ensures piles { KeepsPiles store.old.desk.pending store.new.desk.pending }
     ensures blocks { MakesOnly store.old.queues store.new.queues [] }
@@ -59,14 +59,14 @@ fn call_simple(
     p: Prim,
     message: &Operand,
     at: Span,
-) -> Result<Called, AllocError>
+) -> Result<PackedEvent, AllocError>
     requires at_hand { IsOfHeap (plain_val message.now) → ⊥ }
     requires over { IsOver (length store.old.desk.values.items) 0 (plain_val message.now) }
     requires pairs { ArePairs store.old.desk.heap store.old.desk.values.items }
     requires takes { IsSome (effect_of p (operand_in store.old.desk.heap store.old.desk.values.items (plain_val message.now))) }
     ensures done { (core : Process)
         → CallsOn core store.old p (operand_in store.old.desk.heap store.old.desk.values.items (plain_val message.now)) at
-        → IfOk result (IsCalled core store.old store.new) }
+        → IfOk result (Acts core store.old store.new) }
     ensures refused { (core : Process) → HasActing core store.old → OnErr result (IsRefused core store.old store.new) }
     ensures piles { KeepsPiles store.old.desk.pending store.new.desk.pending }
     ensures blocks { (e : Effect) → effect_of p (operand_in store.old.desk.heap store.old.desk.values.items (plain_val message.now)) ≡ Some e
@@ -88,18 +88,18 @@ fn call_simple(
 /// spare blocks. A record that is the operand is not made. The heap has at most the words of its fields without labels and what is
 /// answered more. It takes time in the nodes of the operand and in the bytes of texts.
 #[inline(always)]
-pub fn call_operand(
+pub(crate) fn call_operand(
     store: &mut Store,
     p: Prim,
     message: &Operand,
     at: Span,
-) -> Result<Called, AllocError>
+) -> Result<PackedEvent, AllocError>
     requires over { IsOver (length store.old.desk.values.items) 0 (plain_val message.now) }
     requires pairs { ArePairs store.old.desk.heap store.old.desk.values.items }
     requires takes { IsSome (effect_of p (operand_in store.old.desk.heap store.old.desk.values.items (plain_val message.now))) }
     ensures done { (core : Process)
         → CallsOn core store.old p (operand_in store.old.desk.heap store.old.desk.values.items (plain_val message.now)) at
-        → IfOk result (IsCalled core store.old store.new) }
+        → IfOk result (Acts core store.old store.new) }
     ensures refused { (core : Process) → HasActing core store.old → OnErr result (IsRefused core store.old store.new) }
     ensures piles { KeepsPiles store.old.desk.pending store.new.desk.pending }
     ensures blocks { (e : Effect) → effect_of p (operand_in store.old.desk.heap store.old.desk.values.items (plain_val message.now)) ≡ Some e

@@ -48,7 +48,7 @@ use Rattle.pict_turns.proofs.AfterReading.{reads_works, contents_read, queues_re
 use Rattle.pict_turns.proofs.Spare.{reads_spare}
 use Rattle.pict_blocks.proofs.Held.{works_no_more}
 use Rattle.pict_turns.proofs.Numbered.{standing}
-use Rattle.pict_acting.proofs.Channels.{named_channel}
+use Rattle.pict_turns.proofs.Outputs.{named_channel}
 use Rattle.pict_meetings.specs.Serving.{IsInputWith}
 use Rattle.pict_meetings.specs.Waiting.{oldest, waits_first}
 use Rattle.pict_meetings.specs.declared.waiting.Waiting.TheVariants.{Output, Input}

@@ -23,8 +23,8 @@ use Rattle.pict_acting.specs.Chain.{MakesCall}
 use Rattle.pict_machine.specs.Going.{GoesPast, HasEvent, MakesSteps}
 use Rattle.pict_machine.specs.Machine.{IsRunning, core_in, running_view, heap_of}
 use Rattle.pict_acting.specs.declared.chain.Received.{Received}
-use Rattle.pict_acting.specs.declared.event.PackedEvent.{PackedEvent}
-use Rattle.pict_acting.specs.declared.event.PackedEvent.TheVariants as packed
+use Rattle.pict_turns.specs.declared.event.PackedEvent.{PackedEvent}
+use Rattle.pict_turns.specs.declared.event.PackedEvent.TheVariants as packed
 use Rattle.pict_machine.specs.declared.machine.Machine.{Machine}
 use Rattle.pict_machine.proofs.Going.{one_past}
 

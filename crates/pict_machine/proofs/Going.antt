@@ -12,11 +12,11 @@ use Rattle.pict_view.specs.Right.{IsRightFor}
 use Rattle.pict_view.specs.Watching.{Saw, SawOrTore, RanFor, BrokeOff, view_after}
 use Rattle.pict_view.proofs.Runs.{Stood, empty_of, is_done, is_spent, saw_more}
 use Rattle.pict_machine.specs.Events.{end_of, PassesCommunications}
-use Rattle.pict_acting.specs.Packed.{label_packed, trap_packed}
+use Rattle.pict_turns.specs.Packed.{label_packed, trap_packed}
 use Rattle.pict_machine.specs.Going.{IsPassed, ArePassed, GoesPast, GoesOn, HasEvent, ThenComes, StopsAs}
 use Rattle.pict_machine.specs.Machine.{running_view}
-use Rattle.pict_acting.specs.declared.event.PackedEvent.{PackedEvent}
-use Rattle.pict_acting.specs.declared.event.PackedEvent.TheVariants as packed
+use Rattle.pict_turns.specs.declared.event.PackedEvent.{PackedEvent}
+use Rattle.pict_turns.specs.declared.event.PackedEvent.TheVariants as packed
 use Rattle.pict_machine.specs.declared.event.End.{End}
 use Rattle.pict_machine.specs.declared.event.End.TheVariants as end
 use Rattle.pict_machine.specs.declared.machine.Machine.{Machine}

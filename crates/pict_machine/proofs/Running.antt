@@ -9,10 +9,10 @@ use Rattle.pict_view.specs.Stepping.{IsStepOf}
 use Rattle.pict_view.proofs.Runs.{Stood}
 use Rattle.pict_syntax.specs.declared.span.Span.{Span}
 use Rattle.pict_machine.specs.Events.{label_of, trap_of}
-use Rattle.pict_acting.specs.Packed.{label_packed, trap_packed}
+use Rattle.pict_turns.specs.Packed.{label_packed, trap_packed}
 use Rattle.pict_machine.specs.declared.event.Event.{Event}
-use Rattle.pict_acting.specs.declared.event.PackedEvent.{PackedEvent}
-use Rattle.pict_acting.specs.declared.event.PackedEvent.TheVariants as packed
+use Rattle.pict_turns.specs.declared.event.PackedEvent.{PackedEvent}
+use Rattle.pict_turns.specs.declared.event.PackedEvent.TheVariants as packed
 
 saw_all : (f : List ℕ → ℕ → Label → List ℕ) (T : List ℕ → ℕ → Label → List ℕ → Type 0) (before after : Option (List ℕ)) (labels : List (ℕ × Label)) → Saw f before after labels → SawOrTore f T before after labels
 saw_all f T None after labels d = tt

@@ -23,13 +23,13 @@ use Rattle.pict_turns.specs.declared.turn.Turn.TheVariants.{Nobody}
 use Rattle.pict_desk.proofs.MakingRoom.{keeps_words}
 use Rattle.pict_turns.proofs.Turns.{words_nobody, view_nobody, same_words}
 use Rattle.pict_desk.specs.Constants.{AreConstants}
-use Rattle.pict_acting.specs.Packed.{label_packed, trap_packed, IsPackedOf}
+use Rattle.pict_turns.specs.Packed.{label_packed, trap_packed, IsPackedOf}
 use Rattle.pict_machine.specs.Machine.{core_in, view_of, running_view, heap_of, channels_of, IsMachine, IsRunning, IsUnchanged}
-use Rattle.pict_acting.specs.Stepping.{GivesTurn, Acts, IsStepBy}
+use Rattle.pict_turns.specs.Stepping.{GivesTurn, Acts, IsStepBy}
 use Rattle.pict_machine.specs.declared.machine.Machine.{Machine}
-use Rattle.pict_acting.specs.declared.event.PackedEvent.{PackedEvent}
-use Rattle.pict_acting.specs.declared.event.PackedEvent.TheVariants as packed
-use Rattle.pict_acting.proofs.Taking.{refused_contents, refused_view, step_of, apart_after, rested_view}
+use Rattle.pict_turns.specs.declared.event.PackedEvent.{PackedEvent}
+use Rattle.pict_turns.specs.declared.event.PackedEvent.TheVariants as packed
+use Rattle.pict_turns.proofs.Given.{refused_contents, refused_view, step_of, apart_after, rested_view}
 use Rattle.pict_desk.proofs.MadeOnce.{constants_keep}
 
 -- ---- between two calls

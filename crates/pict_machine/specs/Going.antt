@@ -6,10 +6,10 @@ use Rattle.pict_core.specs.Step.{Label, Quiet, Comm, Print}
 use Rattle.pict_core.specs.Run.{Reaches}
 use Rattle.pict_view.specs.View.{View, StandsFor}
 use Rattle.pict_view.specs.Stepping.{IsStepOf}
-use Rattle.pict_acting.specs.Packed.{label_packed, trap_packed, IsPackedOf}
+use Rattle.pict_turns.specs.Packed.{label_packed, trap_packed, IsPackedOf}
 use Rattle.pict_machine.specs.Machine.{running_view, heap_of}
-use Rattle.pict_acting.specs.declared.event.PackedEvent.{PackedEvent}
-use Rattle.pict_acting.specs.declared.event.PackedEvent.TheVariants as packed
+use Rattle.pict_turns.specs.declared.event.PackedEvent.{PackedEvent}
+use Rattle.pict_turns.specs.declared.event.PackedEvent.TheVariants as packed
 use Rattle.pict_machine.specs.declared.event.End.{End}
 use Rattle.pict_machine.specs.declared.event.End.TheVariants as end
 use Rattle.pict_machine.specs.declared.machine.Machine.{Machine}

@@ -15,10 +15,10 @@ use Rattle.pict_turns.specs.Cost.{step_cost, first_cost}
 use Rattle.pict_turns.specs.Views as store
 use Rattle.pict_turns.specs.declared.turn.Turn.TheVariants.{Nobody}
 use Rattle.pict_desk.specs.Constants.{AreConstants}
-use Rattle.pict_acting.specs.Needs as needs
-use Rattle.pict_acting.specs.Needs.{needed_widths}
-use Rattle.pict_acting.specs.Growing.{heap_need, running_need}
-use Rattle.pict_acting.specs.Plain as plain
+use Rattle.pict_turns.specs.Needs as needs
+use Rattle.pict_turns.specs.Needs.{needed_widths}
+use Rattle.pict_turns.specs.Growing.{heap_need, running_need}
+use Rattle.pict_turns.specs.Plain as plain
 use Rattle.pict_machine.specs.declared.machine.Machine.{Machine}
 
 -- the process whose code the machine has

@@ -2,12 +2,12 @@
 ghost use Rattle.std.specs.Prelude.{◌≡◌};
 ghost use Rattle.pict_heap.specs.HeapState.{HeapState};
 ghost use Rattle.pict_machine.specs.Events.{label_of, trap_of, IsEventOf};
-ghost use Rattle.pict_acting.specs.Packed.{label_packed, trap_packed, IsPackedOf};
+ghost use Rattle.pict_turns.specs.Packed.{label_packed, trap_packed, IsPackedOf};
 
-use pict_acting::PackedEvent;
 use pict_desk::word_at;
 use pict_heap::Word;
 use pict_syntax::Span;
+use pict_turns::PackedEvent;
 use std::alloc::AllocError;
 use thiserror::Error;
 

@@ -15,18 +15,18 @@ ghost use Rattle.pict_desk.specs.Code.{core_in, IsCode};
 ghost use Rattle.pict_turns.specs.Views.{view_with_turn};
 ghost use Rattle.pict_turns.specs.Widths.{MakesOnly};
 ghost use Rattle.pict_machine.specs.Events.{label_of, trap_of, IsEventOf};
-ghost use Rattle.pict_acting.specs.Packed.{label_packed, trap_packed, IsPackedOf};
+ghost use Rattle.pict_turns.specs.Packed.{label_packed, trap_packed, IsPackedOf};
 ghost use Rattle.pict_machine.specs.Machine.{IsMachine, IsRunning, IsUnchanged, MeetsPlainly, RunsPlainly, running_view, running_cost, running_widths, view_of, heap_of, queues_of, channels_of, cost_of, widths_of, heap_need_of, running_need_of};
 ghost use Rattle.pict_machine.specs.Bounds.{greatest_cost_of, SpendsAtMost};
 ghost use Rattle.pict_machine.specs.Going.{GoesOn, IsPassed, MakesSteps};
-ghost use Rattle.pict_acting.specs.Stepping.{GivesTurn};
+ghost use Rattle.pict_turns.specs.Stepping.{GivesTurn};
 
 use crate::event::{Event, unpacked};
 use crate::machine::Machine;
-use pict_acting::{PackedEvent, Received, act, call_at_once};
+use pict_acting::{Received, act, call_at_once};
 use pict_code::Node;
 use pict_syntax::Span;
-use pict_turns::{Store, Turn, return_turn, take_turn};
+use pict_turns::{PackedEvent, Store, Turn, return_turn, take_turn};
 use std::alloc::AllocError;
 
 /// Who asks for a step that is made alone.

@@ -6,7 +6,7 @@ use Rattle.pict_blocks.specs.Keeping.{kept_words}
 use Rattle.pict_desk.specs.declared.kept.Kept.{Kept}
 use Rattle.pict_heap.specs.HeapState.{HeapState}
 use Rattle.pict_desk.specs.Pairs.{IsPair}
-use Rattle.pict_turns.specs.Views.{IsNode, IsBlock, IsInputAt, CanWait}
+use Rattle.pict_turns.specs.Views.{IsBlock, IsInputAt, CanWait}
 use Rattle.pict_meetings.specs.Waiting.{oldest}
 use Rattle.pict_meetings.specs.declared.waiting.Waiting.TheVariants.{Output, Input}
 
@@ -36,11 +36,3 @@ first_input core h [] number blocks can first = cc
 first_input core h ([] ∷ rest) number blocks can first = cc
 first_input core h ((zero ∷ held) ∷ rest) number blocks can first = cc
 first_input core h ((suc n ∷ held) ∷ rest) number blocks can first = let e : n ≡ number = cc in rw (sym e) (record { held = held; rest = rest; is = refl; input = can.0; block = blocks.0 })
-
--- the block of a node is that of its own number
-pub node_of : (core : Process) (h : HeapState) (number : ℕ) (held words : List ℕ) → words ≡ suc number ∷ held → IsBlock core h (suc number ∷ held) → (n : IsNode core h words) × (n.number ≡ number)
-node_of core h number held words is (inl n) =
-    let e : suc number ∷ held ≡ suc n.number ∷ n.held = n.is in
-    let same : n.number ≡ number = cc in
-    (record { number = n.number; node = n.node; at = n.at; held = n.held; is = is ∙ n.is; narrow = n.narrow; wide = n.wide }, same)
-node_of core h number held words is (inr k) = let e = k.is in cc

@@ -1,5 +1,5 @@
 -- A step that isn't wrong: its channel is there, and the pattern fits the message.
-use Rattle.std.proofs.Common.{ℕ, zero, suc, ◌<◌, ◌≤◌, ◌≡◌, ◌≢◌, Bool, List, [], ◌∷◌, ◌++◌, length, map, refl, ap, ◌∙◌, subst, arith, ⊎_elim, Option, Some, None}
+use Rattle.std.proofs.Common.{ℕ, zero, suc, ◌<◌, ◌≤◌, ◌≡◌, ◌≢◌, Bool, List, [], ◌∷◌, ◌++◌, length, map, refl, ap, ◌∙◌, arith, ⊎_elim, Option, Some, None}
 use Rattle.std.proofs.lemmas.Bool.{cases_lt}
 use Rattle.std.specs.List.{slice_get, slice_set}
 use Rattle.std.specs.Option.{IsSome, unwrap_or}
@@ -11,18 +11,6 @@ use Rattle.pict_core.specs.Step.{Quiet}
 use Rattle.pict_view.specs.Moved.{Misshapen}
 use Rattle.pict_view.specs.Placed.{moves, at_list, if_input, if_output, next_view}
 use Rattle.pict_view.proofs.Rows.{put, act, list_of}
-use Rattle.pict_queue.specs.Contents.{contents}
-use Rattle.pict_blocks.specs.Blocks.{view_of_contents}
-use Rattle.pict_desk.specs.Known.{value_in}
-use Rattle.pict_turns.specs.Acting.{HasActing, IsRight}
-use Rattle.pict_turns.specs.Views.{channel_lists, acting_words}
-use Rattle.pict_turns.specs.declared.store.Store.{Store}
-use Rattle.pict_turns.proofs.Turns.{view_is}
-
--- who has the turn acts before the others that are ready
-pub right_acting : (core : Process) (s : Store) → HasActing core s → IsRight core s
-    → next_view (view_of_contents core (value_in s.desk.heap) (acting_words core s ∷ contents s.queues 0) (channel_lists s.queues)) ≢ Misshapen
-right_acting core s acting right = subst (λ v. next_view v ≢ Misshapen) (view_is core s (acting_words core s) acting.has) right
 
 module _ (f : List ℕ → Process) where
   none_at : (xs : List (List (List ℕ))) (c : ℕ) → length xs ≤ c → slice_get (map (map f) xs) c ≡ None

@@ -8,6 +8,14 @@ pub mod Keeping
 pub mod Wide
 pub mod Readying
 pub mod Meets
-pub mod Receiving
+pub mod Receipts
 pub mod Serving
 pub mod Ops
+pub mod Passing
+pub mod AtChannels
+pub mod KeptOutputs
+pub mod Growing
+pub mod Working
+pub mod Needing
+pub mod Adding
+pub mod Plainly

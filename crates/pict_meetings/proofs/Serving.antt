@@ -1,5 +1,5 @@
 -- What is known of an input that is to serve a message: its part, its pattern, and that the pattern fits.
-use Rattle.std.proofs.Common.{ℕ, ◌+◌, ◌≤◌, ◌≡◌, Bool, true, false, cond, List, [], ◌∷◌, take, get_or, sym, ap, ◌∙◌, subst, arith, Some}
+use Rattle.std.proofs.Common.{ℕ, ◌+◌, ◌≤◌, ◌≡◌, Bool, true, false, cond, List, [], ◌∷◌, take, get_or, sym, ap, ◌∙◌, subst, arith, Some, ◌<◌, length, map}
 use Rattle.std.specs.Option.{IsSome}
 use Rattle.std.specs.List.{slice_get}
 use Rattle.pict_syntax.specs.declared.span.Span.{Span}
@@ -17,7 +17,7 @@ use Rattle.pict_desk.specs.Known.{value_in, known, operand_value}
 use Rattle.pict_blocks.proofs.Meeting.{inputs_stand}
 use Rattle.pict_desk.specs.Needs.{HasRoomFor}
 use Rattle.pict_turns.specs.Acting.{IsRight}
-use Rattle.pict_desk.specs.Code.{IsCode}
+use Rattle.pict_desk.specs.Code.{IsCode, core_in}
 use Rattle.pict_turns.specs.Parts.{CanHold}
 use Rattle.pict_blocks.specs.Parts.{block_width}
 use Rattle.pict_desk.specs.Room.{frame_need}
@@ -28,9 +28,13 @@ use Rattle.pict_turns.proofs.AfterReading.{contents_read, spare_read}
 use Rattle.pict_meetings.specs.Partners.{Sends}
 use Rattle.pict_meetings.specs.Room.{as_wide, CanHoldAfter}
 use Rattle.pict_meetings.specs.Serving.{IsInputWith, ReadsInput}
-use Rattle.pict_meetings.proofs.Fitting.{right_acting, output_fits}
-use Rattle.pict_meetings.proofs.Inputs.{HasPart, has_part}
+use Rattle.pict_turns.proofs.Outputs.{right_acting}
+use Rattle.pict_meetings.proofs.Fitting.{output_fits}
+use Rattle.pict_meetings.proofs.Inputs.{HasPart, has_part, part_inside}
 use Rattle.pict_meetings.proofs.Waits.{channel_there}
+use Rattle.pict_code.specs.Plain.{plain_node}
+use Rattle.pict_code.specs.declared.instruction.Node.{Node as AnyNode}
+use Rattle.pict_desk.proofs.Numbered.{in_code}
 
 -- an input of a code is one of its process
 pub input_coded : (nodes : List Node) (number part : ℕ) (replicated : Bool) (pattern : CodePat) → IsCode nodes → IsInputWith nodes number replicated pattern part
@@ -89,3 +93,10 @@ can_serve core old taken bound channel number replicated frame back reads is spa
       block = spare_after width (spare old.queues.region width) (spare bound.queues.region width) words reads.others replicated free there;
       room = subst (λ h. HasRoomFor h bound.desk.pending (frame_need frame)) (sym heap) (subst (λ p. HasRoomFor old.desk.heap p (frame_need frame)) (sym pending) can.room);
     }
+
+-- ---- the part of an input is one of the code
+
+pub part_low : (code : List AnyNode) → IsCode (map plain_node code) → (number : ℕ) (replicated : Bool) (pattern : CodePat) (part : ℕ) → IsInputWith (map plain_node code) number replicated pattern part → part < length code
+part_low code is number replicated pattern part i =
+    let core = core_in code in
+    in_code code is part (part_inside core pattern part (has_part core number part i.node replicated i.chan pattern (ap (λ nodes. slice_get nodes number) is.nodes_are ∙ i.at) i.is))

@@ -2,3 +2,4 @@ pub mod Waiting
 pub mod Partners
 pub mod Room
 pub mod Serving
+pub mod Sending

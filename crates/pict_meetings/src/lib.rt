@@ -1,15 +1,17 @@
-//! Outputs and inputs at a channel, where the room that they need is there: they wait there, or they meet what waits.
+//! Outputs and inputs at a channel: they wait there, or they meet what waits, and make room before.
 #![tactic(auto)]
 
 mod binding;
 mod channels;
 mod meeting;
 mod parking;
+mod receiving;
 mod room;
+mod sending;
 mod taking;
 mod waiting;
 
-pub use meeting::{meet_message, meet_reader};
-pub use parking::{park, park_output};
-pub use room::{reserve_beside, reserve_served};
+pub use receiving::{acting_width, input};
+pub use room::reserve_beside;
+pub use sending::{send, send_kept};
 pub use waiting::{Waiting, first_waiting};

@@ -55,7 +55,7 @@ fn make_last(store: &mut Store, stays: bool, number: u32, frame: &[u32])
 /// The input from the channel that has the turn takes the oldest message there, which is the result: its part, with what its
 /// pattern binds, becomes the last of the ready ones. A replicated input keeps the turn, another ends. It needs what the part
 /// does, and where the input keeps the turn a block for it as well. Takes no memory.
-pub fn meet_message(
+pub(crate) fn meet_message(
     store: &mut Store,
     code: &[Node],
     channel: u32,
@@ -143,7 +143,7 @@ fn input_at(code: &[Node], number: usize) -> (&CodePat, u32, bool)
 /// behind the others at the channel, another ends, as the output does. It needs what the part does, once the block that ends is
 /// given back. Takes no memory.
 #[inline(always)]
-pub fn meet_reader(
+pub(crate) fn meet_reader(
     store: &mut Store,
     code: &[Node],
     channel: u32,

@@ -26,7 +26,7 @@ use pict_turns::{Store, Turn, set_down};
 /// Who has the turn becomes the last that waits at the channel: an output of kept values where no input waits there, or an input
 /// where no output does. Takes no memory.
 #[inline(always)]
-pub fn park(store: &mut Store, code: &[Node], channel: u32)
+pub(crate) fn park(store: &mut Store, code: &[Node], channel: u32)
     requires code { IsCode (map plain_node code.now) }
     requires acting { HasActing (core_in code.now) store.old }
     requires queue { IsQueue store.old.queues (channel + 1) }
@@ -61,7 +61,7 @@ fn kept_output(channel: u32, message: (u64, u64), text: u32, start: u32, end: u3
 /// The output on the channel of what these two words stand for, which has the turn, ends, and a new block of an output of kept
 /// values becomes the last that waits there. No input waits there. Takes no memory.
 #[inline(always)]
-pub fn park_output(store: &mut Store, channel: u32, message: (u64, u64), at: Span)
+pub(crate) fn park_output(store: &mut Store, channel: u32, message: (u64, u64), at: Span)
     requires queue { IsQueue store.old.queues (channel + 1) }
     requires spare { 1 ≤ spare store.old.queues.region 9 }
     ensures done { (core : Process) → Sends core store.old channel message at → NoInputWaits store.old.queues channel

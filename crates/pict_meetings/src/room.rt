@@ -18,7 +18,7 @@ use std::alloc::AllocError;
 /// `reuses` says whether one of those blocks is as wide. Where one is, and the frame stands in a block itself, it makes no block,
 /// and where nothing more is needed either it does nothing. An error, which is want of memory, changes nothing but room.
 #[inline(always)]
-pub fn reserve_served(
+pub(crate) fn reserve_served(
     store: &mut Store,
     frame: &[u32],
     further: Need,

@@ -24,7 +24,7 @@ use Rattle.pict_turns.specs.Views.{channel_lists, acting_words, view_with_turn}
 use Rattle.pict_turns.specs.declared.store.Store.{Store}
 use Rattle.pict_turns.proofs.Rows.{length_lists}
 use Rattle.pict_turns.proofs.Turns.{nobody_acts, view_is, set_aside, acting_block}
-use Rattle.pict_acting.proofs.Taking.{turn_given, refused_view}
+use Rattle.pict_turns.proofs.Given.{turn_given, refused_view}
 use Rattle.pict_network.specs.Network.{Home, Network}
 use Rattle.pict_network.specs.Events as events
 use Rattle.pict_network.specs.Events.{Happening, Stepped, Stopped, Moved, sent, deed_in, home_of, act_at}

@@ -7,10 +7,10 @@ use Rattle.pict_picker.specs.declared.did.Did.{Did}
 use Rattle.pict_picker.specs.declared.did.Did.TheVariants as did
 use Rattle.pict_turns.specs.Acting.{IsDone}
 use Rattle.pict_turns.specs.declared.store.Store.{Store}
-use Rattle.pict_acting.specs.Packed.{label_packed, trap_packed, IsPackedOf}
-use Rattle.pict_acting.specs.Stepping.{Acts}
-use Rattle.pict_acting.specs.declared.event.PackedEvent.{PackedEvent}
-use Rattle.pict_acting.specs.declared.event.PackedEvent.TheVariants as packed
+use Rattle.pict_turns.specs.Packed.{label_packed, trap_packed, IsPackedOf}
+use Rattle.pict_turns.specs.Stepping.{Acts}
+use Rattle.pict_turns.specs.declared.event.PackedEvent.{PackedEvent}
+use Rattle.pict_turns.specs.declared.event.PackedEvent.TheVariants as packed
 use Rattle.pict_sites.specs.Happening.{IsDidBy}
 
 module _ (core : Process) (old new : Store) where

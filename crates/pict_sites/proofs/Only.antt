@@ -19,8 +19,8 @@ use Rattle.pict_turns.specs.Views.{view_with_turn}
 use Rattle.pict_turns.specs.declared.store.Store.{Store}
 use Rattle.pict_turns.specs.declared.turn.Turn.TheVariants.{Nobody}
 use Rattle.pict_turns.proofs.Turns.{words_nobody, view_nobody}
-use Rattle.pict_acting.specs.Stepping.{GivesTurn}
-use Rattle.pict_acting.proofs.Taking.{some_ready, given_view}
+use Rattle.pict_turns.specs.Stepping.{GivesTurn}
+use Rattle.pict_turns.proofs.Given.{some_ready, given_view}
 use Rattle.pict_seed.specs.Stream.{chosen}
 use Rattle.pict_seed.proofs.Choosing.{chosen_few}
 use Rattle.pict_network.specs.Network.{Item, Packet, Network}

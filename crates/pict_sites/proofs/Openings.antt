@@ -25,7 +25,7 @@ use Rattle.pict_turns.specs.Views.{view_with_turn}
 use Rattle.pict_turns.specs.declared.store.Store.{Store}
 use Rattle.pict_turns.proofs.Numbered.{standing}
 use Rattle.pict_turns.proofs.Turns.{nobody_acts}
-use Rattle.pict_acting.proofs.Taking.{turn_given, refused_view}
+use Rattle.pict_turns.proofs.Given.{turn_given, refused_view}
 use Rattle.pict_network.specs.Network.{Packet, Network}
 use Rattle.pict_network.specs.Events.{Stepped, place, deed_in, home_of, act_at}
 use Rattle.pict_network.specs.SiteView.{view_at, IsNoFork}

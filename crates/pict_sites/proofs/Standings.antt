@@ -15,7 +15,7 @@ use Rattle.pict_turns.specs.Views.{ready_words, view_with_turn}
 use Rattle.pict_turns.specs.declared.store.Store.{Store}
 use Rattle.pict_turns.specs.declared.turn.Turn.TheVariants.{Nobody}
 use Rattle.pict_turns.proofs.Turns.{ready_is}
-use Rattle.pict_acting.proofs.Taking.{rested_view}
+use Rattle.pict_turns.proofs.Given.{rested_view}
 use Rattle.pict_network.specs.Network.{Packet, Home, Item, Network}
 use Rattle.pict_network.specs.SiteView.{view_at}
 use Rattle.pict_network.proofs.Elsewhere.{get_elsewhere}

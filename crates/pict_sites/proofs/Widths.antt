@@ -9,7 +9,7 @@ use Rattle.pict_turns.specs.Acting.{HasActing}
 use Rattle.pict_turns.specs.Views.{acting_words}
 use Rattle.pict_turns.specs.declared.store.Store.{Store}
 use Rattle.pict_turns.proofs.Turns.{acting_block}
-use Rattle.pict_meetings.proofs.Wide.{node_wide}
+use Rattle.pict_turns.proofs.Wide.{node_wide}
 
 width_low : (frame : List ℕ) → block_width frame ≤ 65535
 width_low frame = by_case (nat_lt NARROW_LIMIT (length frame)) refl

@@ -5,16 +5,16 @@ ghost use Rattle.pict_heap.specs.HeapState.{HeapState};
 ghost use Rattle.pict_desk.specs.Code.{core_in};
 ghost use Rattle.pict_desk.specs.Constants.{AreConstants};
 ghost use Rattle.pict_picker.specs.Events.{label_of, trap_of, IsDidOf};
-ghost use Rattle.pict_acting.specs.Packed.{label_packed, trap_packed, IsPackedOf};
-ghost use Rattle.pict_acting.specs.Stepping.{MayAct};
+ghost use Rattle.pict_turns.specs.Packed.{label_packed, trap_packed, IsPackedOf};
+ghost use Rattle.pict_turns.specs.Stepping.{MayAct};
 ghost use Rattle.pict_sites.specs.Happening.{IsDidBy};
 
-use pict_acting::{PackedEvent, act};
+use pict_acting::act;
 use pict_code::Node;
 use pict_desk::word_at;
 use pict_heap::Word;
 use pict_picker::Did;
-use pict_turns::Store;
+use pict_turns::{PackedEvent, Store};
 use std::alloc::AllocError;
 
 /// Who asks for a step of a site.

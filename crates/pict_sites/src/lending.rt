@@ -7,7 +7,7 @@ ghost use Rattle.pict_queue.specs.Contents.{contents};
 ghost use Rattle.pict_desk.specs.Code.{core_in, IsCode};
 ghost use Rattle.pict_turns.specs.Acting.{IsStore, HasActing};
 ghost use Rattle.pict_turns.specs.Views.{view_with_turn};
-ghost use Rattle.pict_acting.specs.Stepping.{GivesTurn};
+ghost use Rattle.pict_turns.specs.Stepping.{GivesTurn};
 ghost use Rattle.pict_network.specs.Network as plain;
 ghost use Rattle.pict_sites.specs.Views.{heap_in, StandFor, AreSites};
 ghost use Rattle.pict_sites.specs.Working.{StandWhile, AreWorking};

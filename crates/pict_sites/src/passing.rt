@@ -15,10 +15,10 @@ ghost use Rattle.pict_turns.specs.Views.{acting_words};
 ghost use Rattle.pict_sites.specs.Passing.{GainsLast, HoldsTheSame, PutsParts, Splits};
 ghost use Rattle.pict_sites.specs.Views.{IsSite};
 
-use pict_acting::acting_width;
 use pict_blocks::{block_width, make_part};
 use pict_code::Node;
 use pict_desk::{both, frame_need};
+use pict_meetings::acting_width;
 use pict_queue::{QueueId, Queues};
 use pict_turns::{Store, Turn, frame_at, reserve, set_down};
 use std::alloc::AllocError;

@@ -12,3 +12,13 @@ pub mod AfterReading
 pub mod Taking
 pub mod Making
 pub mod Adding
+pub mod Wide
+pub mod Passing
+pub mod Given
+pub mod Costing
+pub mod Working
+pub mod Needing
+pub mod Growing
+pub mod Plainly
+pub mod Outputs
+mod Whole

@@ -2,7 +2,7 @@
 use Rattle.std.proofs.Common.{ℕ, ◌+◌, ◌<◌, ◌≤◌, ◌≡◌, Bool, true, false, cond, max, List, ◌∷◌, length, map, refl, ap, ◌∙◌, subst, arith, Some}
 use Rattle.std.specs.List.{All, slice_get}
 use Rattle.pict_core.specs.Term as term
-use Rattle.pict_core.specs.Term.{Val, Process, Boolean}
+use Rattle.pict_core.specs.Term.{Val, Process, Boolean, Out}
 use Rattle.pict_core.specs.Closed.{IsClosed, IsOver, IsUnder}
 use Rattle.pict_core.proofs.Closed.{over_more}
 use Rattle.pict_code.specs.Instruction as op
@@ -21,7 +21,7 @@ use Rattle.pict_blocks.specs.Blocks.{process_of}
 use Rattle.pict_blocks.proofs.Standing.{StandsAs, stands_as}
 use Rattle.pict_turns.specs.Acting.{IsStore, ActsBy, IsRight}
 use Rattle.pict_desk.specs.Known.{value_in, known, operand_value}
-use Rattle.pict_desk.proofs.Nodes.{is_par, is_new, is_if, op_is}
+use Rattle.pict_desk.proofs.Nodes.{is_par, is_new, is_if, op_is, is_out}
 use Rattle.pict_desk.proofs.Numbered.{place_low, frame_below, coded_at, same_frame, inside}
 use Rattle.pict_desk.proofs.OperandsAround.{same_operand}
 use Rattle.pict_desk.proofs.Parts.{node_with, if_stands, placed_at}
@@ -30,6 +30,7 @@ use Rattle.pict_blocks.specs.Parts.{block_width}
 use Rattle.pict_turns.specs.Views.{channel_lists, acting_words}
 use Rattle.pict_turns.specs.declared.store.Store.{Store}
 use Rattle.pict_turns.proofs.Turns.{view_is}
+use Rattle.pict_syntax.specs.declared.span.Span.{Span}
 
 -- ---- frames
 
@@ -112,3 +113,18 @@ module _ (core : Process) (s : Store) where
         let go = act (map (process_of core (value_in s.desk.heap)) (contents s.queues 0)) (map (map (process_of core (value_in s.desk.heap))) (channel_lists s.queues)) in
         boolean_of (term.If (operand_value value test) (node_with n value form.p) (node_with n value form.q) ∷ map (process_of core (value_in s.desk.heap)) (contents s.queues 0))
         (map (map (process_of core (value_in s.desk.heap))) (channel_lists s.queues)) (operand_value value test) (node_with n value form.p) (node_with n value form.q) (λ wrong. right (ap next_view (view_is core s (acting_words core s) a.acting.has) ∙ ap go is ∙ wrong))
+
+-- ---- an output of a node
+
+-- the variables of its operands are levels that have a place
+pub operands_over : (core : Process) (s : Store) (chan message : Val) (at : Span) → IsClosed core → ActsBy core s (op.Out chan message at)
+    → IsOver (length s.desk.values.items) 0 chan × IsOver (length s.desk.values.items) 0 message
+operands_over core s chan message at closed a =
+    let st = standing core s (op.Out chan message at) a in
+    let n = st.part.around in
+    let out = is_out a.number n chan message at st.part.process (op_is core a.number a.node st.part (op.Out chan message at) st.at a.op_is) in
+    let under : IsUnder n 0 (term.Out chan message at) = subst (IsUnder n 0) out (part_under core a.number st.part closed st.at.at) in
+    let low = place_low (length s.desk.values.items) (places 0 core) a.number st.part a.acting.store.levels st.at.at in (
+      over_more n (length s.desk.values.items) 0 0 low (omega arith) chan under.0,
+      over_more n (length s.desk.values.items) 0 0 low (omega arith) message under.1,
+    )

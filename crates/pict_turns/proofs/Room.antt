@@ -28,6 +28,7 @@ use Rattle.pict_turns.proofs.Turns.{same_words, has_words, room_more, acting_blo
 use Rattle.pict_turns.proofs.Views.{blocks_stay, lists_stay}
 use Rattle.pict_turns.proofs.Spare.{spare_more, reserves_spare}
 use Rattle.pict_turns.proofs.Rows.{node_block_stays, turn_by}
+use Rattle.pict_turns.specs.Turns.{handing, turn_cost}
 
 -- ---- room for several
 
@@ -82,6 +83,9 @@ module _ (core : Process) (old new : Store) (r : OnlyReserves old new) where
   -- who has the turn has it still, with the same words
   pub words_still : turn_words core new ≡ turn_words core old
   words_still = same_words core old new r.turn r.values
+
+  pub cost_still : turn_cost core new ≡ turn_cost core old
+  cost_still = ap handing words_still
 
   pub store_still : IsStore core old → IsStore core new
   store_still s = record {

@@ -8,3 +8,8 @@ pub mod Channels
 pub mod Cost
 pub mod Widths
 pub mod Growing
+pub mod Work
+pub mod Needs
+pub mod Packed
+pub mod Plain
+pub mod Stepping

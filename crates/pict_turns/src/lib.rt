@@ -2,6 +2,7 @@
 //! become the last of the ready ones.
 #![tactic(auto)]
 
+mod event;
 mod nodes;
 mod parts;
 mod reading;
@@ -10,6 +11,7 @@ mod store;
 mod turn;
 mod turning;
 
+pub use event::PackedEvent;
 pub use nodes::{choose, end, fork, make_channel};
 pub use parts::{make_ready, spawn_part};
 pub use reading::{frame_at, read_first};

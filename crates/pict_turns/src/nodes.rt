@@ -1,23 +1,25 @@
 // Steps of nodes that need no partner.
-ghost use Rattle.std.specs.Prelude.{◌≡◌, ◌<◌, ◌≤◌, ◌+◌, ◌^◌, ◌∷◌, [], ℕ, List, Bool, length, map, max, OnOk, OnErr, if◌then◌else◌};
+ghost use Rattle.std.specs.Prelude.{◌≡◌, ◌<◌, ◌≤◌, ◌+◌, ◌^◌, ◌∷◌, [], ℕ, List, Bool, length, map, max, OnOk, Ok, if◌then◌else◌};
 ghost use Rattle.pict_core.specs.Plain.{plain_val};
 ghost use Rattle.pict_core.specs.Term.{Process, Boolean};
 ghost use Rattle.pict_core.specs.Step.{Quiet};
 ghost use Rattle.pict_code.specs.Instruction as op;
 ghost use Rattle.pict_code.specs.Plain.{plain_node};
+ghost use Rattle.pict_code.specs.declared.instruction.Node.{Node as AnyNode};
 ghost use Rattle.pict_queue.specs.QueuesState.{IsQueue, CostsAtMost};
 ghost use Rattle.pict_desk.specs.Known.{known, operand_value};
-ghost use Rattle.pict_desk.specs.Needs.{no_need, both_needs};
+ghost use Rattle.pict_desk.specs.Needs.{no_need};
 ghost use Rattle.pict_desk.specs.Pairs.{ArePairs};
-ghost use Rattle.pict_turns.specs.Acting.{ActsBy, IsRight, IsDone, IsRefused};
+ghost use Rattle.pict_turns.specs.Acting.{ActsBy, IsRight, IsDone};
 ghost use Rattle.pict_desk.specs.Code.{core_in, IsCode, HasFrame};
 ghost use Rattle.pict_turns.specs.Channels.{AddsChannel};
-ghost use Rattle.pict_turns.specs.Growing.{AddsAtMost, part_need};
 ghost use Rattle.pict_blocks.specs.Parts.{block_width};
 ghost use Rattle.pict_turns.specs.Reserving.{CanHoldAnd, OnlyReserves};
+ghost use Rattle.pict_turns.specs.Stepping.{StepsBy};
 ghost use Rattle.pict_turns.specs.Turns.{turn_cost};
 ghost use Rattle.pict_turns.specs.Widths.{MakesOnly, part_width};
 
+use crate::event::PackedEvent;
 use crate::parts::{hand_on, hand_on_from, spawn_from};
 use crate::reading::frame_at;
 use crate::reserving::{reserve_part, reserve_parts};
@@ -31,26 +33,33 @@ use std::alloc::AllocError;
 
 /// The inert process, which has the turn, ends. Takes no memory.
 #[inline(always)]
-pub fn end(store: &mut Store)
+pub fn end(store: &mut Store) -> Result<PackedEvent, AllocError>
+    ensures steps { (code : List AnyNode) → ActsBy (core_in code) store.old op.Zero → StepsBy code store.old store.new result }
     ensures done { (core : Process) → ActsBy core store.old op.Zero → IsDone core store.old store.new Quiet }
+    ensures quiet { result ≡ Ok PackedEvent.Quiet }
     ensures rest { store.new ≡ record store.old { turn = Turn.Nobody } }
 {
     store.turn = Turn::Nobody;
+    Ok(PackedEvent::Quiet)
 }
 
 /// A parallel composition, which has the turn: its left part has it then, and the block of its right part becomes the last of the
 /// ready ones. An error, which is want of memory, changes nothing but room and spare blocks.
 #[inline(always)]
-pub fn fork(store: &mut Store, code: &[Node], left: u32, right: u32) -> Result<(), AllocError>
+pub fn fork(
+    store: &mut Store,
+    code: &[Node],
+    left: u32,
+    right: u32,
+) -> Result<PackedEvent, AllocError>
     requires code { IsCode (map plain_node code.now) }
     requires acts { ActsBy (core_in code.now) store.old (op.Par left right) }
-    ensures done { OnOk result (IsDone (core_in code.now) store.old store.new Quiet) }
-    ensures refused { OnErr result (IsRefused (core_in code.now) store.old store.new) }
+    ensures steps { StepsBy code.now store.old store.new result }
+    ensures quiet { OnOk result (result ≡ Ok PackedEvent.Quiet) }
     ensures turn { OnOk result ((first : List ℕ) → HasFrame (map plain_node code.now) left first
         → turn_cost (core_in code.now) store.new ≤ block_width first + 4) }
     ensures blocks { MakesOnly store.old.queues store.new.queues
         (part_width (map plain_node code.now) left ∷ part_width (map plain_node code.now) right ∷ []) }
-    ensures adds { AddsAtMost store.old store.new (both_needs (part_need (map plain_node code.now) left) (part_need (map plain_node code.now) right)) }
     ensures cost { (second : List ℕ) → HasFrame (map plain_node code.now) right second
         → CostsAtMost (block_width second + 2) store.old.queues store.new.queues }
 {
@@ -60,7 +69,7 @@ pub fn fork(store: &mut Store, code: &[Node], left: u32, right: u32) -> Result<(
     let turn = store.turn;
     hand_on_from(store, code, turn, left, first);
     spawn_from(store, code, turn, right, second);
-    Ok(())
+    Ok(PackedEvent::Quiet)
 }
 
 /// A conditional, which has the turn: the part that its test chooses has it then. An error, which is want of memory, changes
@@ -72,18 +81,16 @@ pub fn choose(
     test: &Operand,
     yes: u32,
     no: u32,
-) -> Result<(), AllocError>
+) -> Result<PackedEvent, AllocError>
     requires code { IsCode (map plain_node code.now) }
     requires acts { ActsBy (core_in code.now) store.old (op.If (plain_val test.now) yes no) }
     requires right { IsRight (core_in code.now) store.old }
-    ensures done { OnOk result (IsDone (core_in code.now) store.old store.new Quiet) }
-    ensures refused { OnErr result (IsRefused (core_in code.now) store.old store.new) }
+    ensures steps { StepsBy code.now store.old store.new result }
+    ensures quiet { OnOk result (result ≡ Ok PackedEvent.Quiet) }
     ensures turn { OnOk result ((first second : List ℕ) → HasFrame (map plain_node code.now) yes first → HasFrame (map plain_node code.now) no second
         → turn_cost (core_in code.now) store.new ≤ max (block_width first) (block_width second) + 4) }
     ensures blocks { (b : Bool) → operand_value (known store.old.desk.heap store.old.desk.values.items) (plain_val test.now) ≡ Boolean b
         → MakesOnly store.old.queues store.new.queues (part_width (map plain_node code.now) (if b then yes else no) ∷ []) }
-    ensures adds { (b : Bool) → operand_value (known store.old.desk.heap store.old.desk.values.items) (plain_val test.now) ≡ Boolean b
-        → AddsAtMost store.old store.new (part_need (map plain_node code.now) (if b then yes else no)) }
     ensures work { store.new.queues.region.work ≡ store.old.queues.region.work }
 {
     let part = chosen(&store.desk, test, yes, no);
@@ -91,7 +98,7 @@ pub fn choose(
     reserve_part(store, frame, NO_NEED)?;
     let turn = store.turn;
     hand_on_from(store, code, turn, part, frame);
-    Ok(())
+    Ok(PackedEvent::Quiet)
 }
 
 // Makes room for a channel, and for the part with this frame.
@@ -131,21 +138,20 @@ pub fn make_channel(
     code: &[Node],
     level: u32,
     part: u32,
-) -> Result<(), AllocError>
+) -> Result<PackedEvent, AllocError>
     requires code { IsCode (map plain_node code.now) }
     requires acts { ActsBy (core_in code.now) store.old (op.New level part) }
     requires few { length store.old.queues.queues < 2 ^ 32 }
-    ensures done { OnOk result (IsDone (core_in code.now) store.old store.new Quiet) }
-    ensures refused { OnErr result (IsRefused (core_in code.now) store.old store.new) }
+    ensures steps { StepsBy code.now store.old store.new result }
+    ensures quiet { OnOk result (result ≡ Ok PackedEvent.Quiet) }
     ensures turn { OnOk result ((frame : List ℕ) → HasFrame (map plain_node code.now) part frame
         → turn_cost (core_in code.now) store.new ≤ block_width frame + 4) }
     ensures blocks { MakesOnly store.old.queues store.new.queues (part_width (map plain_node code.now) part ∷ []) }
-    ensures adds { AddsAtMost store.old store.new (part_need (map plain_node code.now) part) }
     ensures work { store.new.queues.region.work ≡ store.old.queues.region.work }
 {
     let frame = frame_at(code, part as usize);
     reserve_channel(store, frame)?;
     add_channel(store, level);
     hand_on(store, part, frame);
-    Ok(())
+    Ok(PackedEvent::Quiet)
 }

@@ -6,12 +6,10 @@ use Rattle.pict_desk.specs.Code.{core_in}
 use Rattle.pict_desk.proofs.Numbered.{in_code, coded_at}
 use Rattle.pict_turns.proofs.Turns.{nobody_acts}
 use Rattle.pict_desk.specs.Constants.{IsConstantFor}
-use Rattle.pict_acting.proofs.KeptOutputs.{kept_is}
 use Rattle.pict_desk.proofs.MadeOnce.{as_many, constant_at}
-use Rattle.pict_acting.proofs.Passing.{op_read}
-use Rattle.pict_acting.proofs.Plainly.{kept_sends}
-use Rattle.pict_acting.proofs.Taking.{node_low, number_acts}
-use Rattle.pict_acting.proofs.Working.{frame_there}
+use Rattle.pict_turns.proofs.Passing.{op_read}
+use Rattle.pict_turns.proofs.Given.{node_low, number_acts}
+use Rattle.pict_turns.proofs.Working.{frame_there}
 use Rattle.pict_acting.proofs.acting.act.Goals as goal
 
 pub unreachable-requires : goal.unreachable-requires
@@ -42,9 +40,3 @@ act_by-requires-clause-constant g c =
     let x = frame_there code c.in-Node.number low in
     subst (λ (o : Op). IsConstantFor c.args.store.now.desk.heap o (get_or c.args.constants.now c.in-Node.number None)) (op_read code c.in-Node.number c.index-code-number.result x.1.node x.1.at c.index-code-number.is)
     (constant_at c.args.store.now.desk.heap (map plain_node code) c.args.constants.now c.in-Node.number x.1.node None c.requires.constants x.1.at)
-
-pub returns-in-Output-clause-plain : goal.returns-in-Output-clause-plain
-returns-in-Output-clause-plain g c x =
-    let core = core_in c.args.code.now in
-    let s = c.args.store.now in
-    c.output_kept.ensures.plain (kept_sends core s (kept_is core s c.requires.may.acting c.in-Output.kept c.in-Output.is) x)

@@ -1,24 +1,16 @@
-use Rattle.std.proofs.Common.{◌+◌, ◌≡◌, [], ◌∷◌, length, sym, ◌∙◌, subst, arith}
+use Rattle.std.proofs.Common.{◌≡◌, length, sym, ◌∙◌, subst, ap}
 use Rattle.pict_core.specs.Closed.{IsOver}
 use Rattle.pict_core.specs.Plain.{plain_val}
 use Rattle.pict_desk.specs.Known.{known, operand_value}
 use Rattle.pict_desk.specs.AtHand.{channel_named, StandsForPrimitive}
 use Rattle.pict_desk.specs.Pairs.{ArePairs}
-use Rattle.pict_calls.proofs.Outputs.{operands_over, takes}
+use Rattle.pict_turns.proofs.Numbered.{operands_over}
+use Rattle.pict_calls.proofs.Outputs.{takes, node_call}
 use Rattle.pict_desk.specs.Arguments.{operand_in}
 use Rattle.pict_desk.specs.Code.{core_in}
-use Rattle.pict_turns.specs.Turns.{turn_cost}
-use Rattle.pict_turns.specs.Views.{acting_words}
-use Rattle.pict_acting.specs.Stepping.{Acts}
-use Rattle.pict_acting.proofs.Called.{called_acts}
-use Rattle.pict_acting.proofs.Channels.{named_channel, node_sent_to, node_call}
-use Rattle.pict_code.specs.Instruction as op
-use Rattle.pict_acting.proofs.Needing.{node_needs, call_needed}
-use Rattle.pict_acting.specs.Growing.{message_need, given_need}
-use Rattle.pict_acting.proofs.Adding.{node_adds, call_adds}
-use Rattle.pict_acting.proofs.Plainly.{no_plain_call}
-use Rattle.pict_acting.proofs.Working.{costs_same, own_cost, alone_works}
+use Rattle.pict_turns.proofs.Outputs.{named_channel, node_sent_to}
 use Rattle.pict_acting.proofs.outputs.output.Goals as goal
+use Rattle.pict_core.specs.Term.{PrimitiveVal}
 
 pub channel_at_hand-requires-clause-over : goal.channel_at_hand-requires-clause-over
 channel_at_hand-requires-clause-over c =
@@ -78,8 +70,8 @@ call_message-requires-clause-takes c =
     (λ q e. c.primitive_at_hand-p.ensures s.desk.heap q (subst (λ values. StandsForPrimitive s.desk.heap values chan q) (sym c.deref-in-None.ensures.value) (record { pairs = may.acting.store.pairs; is = e }))) in
     takes core s c.primitive_at_hand-p.result (operand_in s.desk.heap s.desk.values.items message) c.args.at calls may.right
 
-pub returns-in_ok-called-in-None-clause-step : goal.returns-in_ok-called-in-None-clause-step
-returns-in_ok-called-in-None-clause-step c =
+pub returns-in-None : goal.returns-in-None
+returns-in-None c =
     let core = core_in c.args.code.now in
     let s = c.args.store.now in
     let chan = plain_val c.args.chan.now in
@@ -88,119 +80,7 @@ returns-in_ok-called-in-None-clause-step c =
     let pairs = subst (ArePairs s.desk.heap) (sym c.deref.ensures.value) may.acting.store.pairs in
     let named : c.channel_at_hand.result ≡ channel_named (operand_value (known s.desk.heap s.desk.values.items) chan) =
     subst (λ values. c.channel_at_hand.result ≡ channel_named (operand_value (known s.desk.heap values) chan)) c.deref.ensures.value (c.channel_at_hand.ensures s.desk.heap pairs) in
-    let calls = node_call core s may.code_is.closed chan message c.args.at c.requires.acts may.right (sym c.in-None.is ∙ named) c.primitive_at_hand-p.result
-    (λ q e. c.primitive_at_hand-p.ensures s.desk.heap q (subst (λ values. StandsForPrimitive s.desk.heap values chan q) (sym c.deref-in-None.ensures.value) (record { pairs = may.acting.store.pairs; is = e }))) in
-    subst (Acts core s c.call_message.new.store) (sym c.event_of.ensures)
-    (called_acts core s c.call_message.new.store c.in_ok-called-in-None.called (c.in_ok-called-in-None.ensures.done core calls))
-
-pub returns-in_ok-called-in-None-clause-work : goal.returns-in_ok-called-in-None-clause-work
-returns-in_ok-called-in-None-clause-work c =
-    let core = core_in c.args.code.now in
-    let s = c.args.store.now in
-    let new = c.call_message.new.store in
-    let o = op.Out (plain_val c.args.chan.now) (plain_val c.args.message.now) c.args.at in
-    let own = own_cost core s o c.requires.acts in
-    let turn = c.call_message.ensures.turn core in
-    alone_works core s new o c.requires.acts 0 (turn_cost core s + 13) (costs_same s.queues new.queues 0 c.call_message.ensures.work) turn (omega (arith, own))
-
-pub returns-in_ok-called-in-None-clause-blocks : goal.returns-in_ok-called-in-None-clause-blocks
-returns-in_ok-called-in-None-clause-blocks c =
-    let core = core_in c.args.code.now in
-    let s = c.args.store.now in
-    let chan = plain_val c.args.chan.now in
-    let message = plain_val c.args.message.now in
-    let may = c.requires.may in
-    let pairs = subst (ArePairs s.desk.heap) (sym c.deref.ensures.value) may.acting.store.pairs in
-    let named : c.channel_at_hand.result ≡ channel_named (operand_value (known s.desk.heap s.desk.values.items) chan) =
-    subst (λ values. c.channel_at_hand.result ≡ channel_named (operand_value (known s.desk.heap values) chan)) c.deref.ensures.value (c.channel_at_hand.ensures s.desk.heap pairs) in
-    let calls = node_call core s may.code_is.closed chan message c.args.at c.requires.acts may.right (sym c.in-None.is ∙ named) c.primitive_at_hand-p.result
-    (λ q e. c.primitive_at_hand-p.ensures s.desk.heap q (subst (λ values. StandsForPrimitive s.desk.heap values chan q) (sym c.deref-in-None.ensures.value) (record { pairs = may.acting.store.pairs; is = e }))) in
-    let v = operand_in s.desk.heap s.desk.values.items message in
-    call_needed core s (9 ∷ []) (node_needs core s (op.Out chan message c.args.at) c.requires.acts) c.call_message.new.store
-    c.primitive_at_hand-p.result v c.args.at calls.output (takes core s c.primitive_at_hand-p.result v c.args.at calls may.right) c.call_message.ensures.blocks
-
-pub returns-in_ok-called-in-None-clause-plain : goal.returns-in_ok-called-in-None-clause-plain
-returns-in_ok-called-in-None-clause-plain c x =
-    let core = core_in c.args.code.now in
-    let s = c.args.store.now in
-    let chan = plain_val c.args.chan.now in
-    let message = plain_val c.args.message.now in
-    let may = c.requires.may in
-    let pairs = subst (ArePairs s.desk.heap) (sym c.deref.ensures.value) may.acting.store.pairs in
-    let named : c.channel_at_hand.result ≡ channel_named (operand_value (known s.desk.heap s.desk.values.items) chan) =
-    subst (λ values. c.channel_at_hand.result ≡ channel_named (operand_value (known s.desk.heap values) chan)) c.deref.ensures.value (c.channel_at_hand.ensures s.desk.heap pairs) in
-    let calls = node_call core s may.code_is.closed chan message c.args.at c.requires.acts may.right (sym c.in-None.is ∙ named) c.primitive_at_hand-p.result
-    (λ q e. c.primitive_at_hand-p.ensures s.desk.heap q (subst (λ values. StandsForPrimitive s.desk.heap values chan q) (sym c.deref-in-None.ensures.value) (record { pairs = may.acting.store.pairs; is = e }))) in
-    absurd (no_plain_call core s (acting_words core s) c.primitive_at_hand-p.result (operand_in s.desk.heap s.desk.values.items message) c.args.at calls.output x)
-
-pub returns-in_err-called-in-None-clause-work : goal.returns-in_err-called-in-None-clause-work
-returns-in_err-called-in-None-clause-work c =
-    let core = core_in c.args.code.now in
-    let s = c.args.store.now in
-    let new = c.call_message.new.store in
-    let o = op.Out (plain_val c.args.chan.now) (plain_val c.args.message.now) c.args.at in
-    let own = own_cost core s o c.requires.acts in
-    let turn = c.call_message.ensures.turn core in
-    alone_works core s new o c.requires.acts 0 (turn_cost core s + 13) (costs_same s.queues new.queues 0 c.call_message.ensures.work) turn (omega (arith, own))
-
-pub returns-in_err-called-in-None-clause-blocks : goal.returns-in_err-called-in-None-clause-blocks
-returns-in_err-called-in-None-clause-blocks c =
-    let core = core_in c.args.code.now in
-    let s = c.args.store.now in
-    let chan = plain_val c.args.chan.now in
-    let message = plain_val c.args.message.now in
-    let may = c.requires.may in
-    let pairs = subst (ArePairs s.desk.heap) (sym c.deref.ensures.value) may.acting.store.pairs in
-    let named : c.channel_at_hand.result ≡ channel_named (operand_value (known s.desk.heap s.desk.values.items) chan) =
-    subst (λ values. c.channel_at_hand.result ≡ channel_named (operand_value (known s.desk.heap values) chan)) c.deref.ensures.value (c.channel_at_hand.ensures s.desk.heap pairs) in
-    let calls = node_call core s may.code_is.closed chan message c.args.at c.requires.acts may.right (sym c.in-None.is ∙ named) c.primitive_at_hand-p.result
-    (λ q e. c.primitive_at_hand-p.ensures s.desk.heap q (subst (λ values. StandsForPrimitive s.desk.heap values chan q) (sym c.deref-in-None.ensures.value) (record { pairs = may.acting.store.pairs; is = e }))) in
-    let v = operand_in s.desk.heap s.desk.values.items message in
-    call_needed core s (9 ∷ []) (node_needs core s (op.Out chan message c.args.at) c.requires.acts) c.call_message.new.store
-    c.primitive_at_hand-p.result v c.args.at calls.output (takes core s c.primitive_at_hand-p.result v c.args.at calls may.right) c.call_message.ensures.blocks
-
-pub returns-in_err-called-in-None-clause-plain : goal.returns-in_err-called-in-None-clause-plain
-returns-in_err-called-in-None-clause-plain c x =
-    let core = core_in c.args.code.now in
-    let s = c.args.store.now in
-    let chan = plain_val c.args.chan.now in
-    let message = plain_val c.args.message.now in
-    let may = c.requires.may in
-    let pairs = subst (ArePairs s.desk.heap) (sym c.deref.ensures.value) may.acting.store.pairs in
-    let named : c.channel_at_hand.result ≡ channel_named (operand_value (known s.desk.heap s.desk.values.items) chan) =
-    subst (λ values. c.channel_at_hand.result ≡ channel_named (operand_value (known s.desk.heap values) chan)) c.deref.ensures.value (c.channel_at_hand.ensures s.desk.heap pairs) in
-    let calls = node_call core s may.code_is.closed chan message c.args.at c.requires.acts may.right (sym c.in-None.is ∙ named) c.primitive_at_hand-p.result
-    (λ q e. c.primitive_at_hand-p.ensures s.desk.heap q (subst (λ values. StandsForPrimitive s.desk.heap values chan q) (sym c.deref-in-None.ensures.value) (record { pairs = may.acting.store.pairs; is = e }))) in
-    absurd (no_plain_call core s (acting_words core s) c.primitive_at_hand-p.result (operand_in s.desk.heap s.desk.values.items message) c.args.at calls.output x)
-
-pub returns-in_ok-called-in-None-clause-adds : goal.returns-in_ok-called-in-None-clause-adds
-returns-in_ok-called-in-None-clause-adds c =
-    let core = core_in c.args.code.now in
-    let s = c.args.store.now in
-    let chan = plain_val c.args.chan.now in
-    let message = plain_val c.args.message.now in
-    let may = c.requires.may in
-    let pairs = subst (ArePairs s.desk.heap) (sym c.deref.ensures.value) may.acting.store.pairs in
-    let named : c.channel_at_hand.result ≡ channel_named (operand_value (known s.desk.heap s.desk.values.items) chan) =
-    subst (λ values. c.channel_at_hand.result ≡ channel_named (operand_value (known s.desk.heap values) chan)) c.deref.ensures.value (c.channel_at_hand.ensures s.desk.heap pairs) in
-    let calls = node_call core s may.code_is.closed chan message c.args.at c.requires.acts may.right (sym c.in-None.is ∙ named) c.primitive_at_hand-p.result
-    (λ q e. c.primitive_at_hand-p.ensures s.desk.heap q (subst (λ values. StandsForPrimitive s.desk.heap values chan q) (sym c.deref-in-None.ensures.value) (record { pairs = may.acting.store.pairs; is = e }))) in
-    let v = operand_in s.desk.heap s.desk.values.items message in
-    call_adds core s (message_need message) (given_need message) (node_adds core s (op.Out chan message c.args.at) c.requires.acts) c.call_message.new.store
-    c.primitive_at_hand-p.result v c.args.at calls.output (takes core s c.primitive_at_hand-p.result v c.args.at calls may.right) c.call_message.ensures.adds
-
-pub returns-in_err-called-in-None-clause-adds : goal.returns-in_err-called-in-None-clause-adds
-returns-in_err-called-in-None-clause-adds c =
-    let core = core_in c.args.code.now in
-    let s = c.args.store.now in
-    let chan = plain_val c.args.chan.now in
-    let message = plain_val c.args.message.now in
-    let may = c.requires.may in
-    let pairs = subst (ArePairs s.desk.heap) (sym c.deref.ensures.value) may.acting.store.pairs in
-    let named : c.channel_at_hand.result ≡ channel_named (operand_value (known s.desk.heap s.desk.values.items) chan) =
-    subst (λ values. c.channel_at_hand.result ≡ channel_named (operand_value (known s.desk.heap values) chan)) c.deref.ensures.value (c.channel_at_hand.ensures s.desk.heap pairs) in
-    let calls = node_call core s may.code_is.closed chan message c.args.at c.requires.acts may.right (sym c.in-None.is ∙ named) c.primitive_at_hand-p.result
-    (λ q e. c.primitive_at_hand-p.ensures s.desk.heap q (subst (λ values. StandsForPrimitive s.desk.heap values chan q) (sym c.deref-in-None.ensures.value) (record { pairs = may.acting.store.pairs; is = e }))) in
-    let v = operand_in s.desk.heap s.desk.values.items message in
-    call_adds core s (message_need message) (given_need message) (node_adds core s (op.Out chan message c.args.at) c.requires.acts) c.call_message.new.store
-    c.primitive_at_hand-p.result v c.args.at calls.output (takes core s c.primitive_at_hand-p.result v c.args.at calls may.right) c.call_message.ensures.adds
+    let to = node_sent_to core s may.code_is.closed chan message c.args.at c.requires.acts may.right (sym c.in-None.is ∙ named) in
+    let same = c.primitive_at_hand-p.ensures s.desk.heap to.0
+    (subst (λ values. StandsForPrimitive s.desk.heap values chan to.0) (sym c.deref-in-None.ensures.value) (record { pairs = may.acting.store.pairs; is = to.1 })) in
+    record { steps = c.call_message.ensures.steps c.args.code.now chan may c.requires.acts (to.1 ∙ ap PrimitiveVal (sym same)) }

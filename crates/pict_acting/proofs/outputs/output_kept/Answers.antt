@@ -3,8 +3,8 @@ use Rattle.pict_desk.specs.Known.{value_in}
 use Rattle.pict_desk.specs.declared.kept.Kept.{Kept}
 use Rattle.pict_desk.specs.AtHand.{channel_named}
 use Rattle.pict_desk.specs.Code.{core_in}
-use Rattle.pict_acting.proofs.Channels.{named_channel}
-use Rattle.pict_acting.proofs.KeptOutputs.{kept_to, kept_send, sends_kept}
+use Rattle.pict_turns.proofs.Outputs.{named_channel, kept_to}
+use Rattle.pict_meetings.proofs.KeptOutputs.{kept_send, sends_kept}
 use Rattle.pict_acting.proofs.outputs.output_kept.Goals as goal
 
 pub channel_of-requires : goal.channel_of-requires

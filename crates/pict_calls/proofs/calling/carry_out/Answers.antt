@@ -5,11 +5,11 @@ use Rattle.pict_prim.specs.Acts.{effect_act, answer_need}
 use Rattle.pict_region.specs.RegionState.{spare}
 use Rattle.pict_queue.specs.QueuesState.{QueuesState}
 use Rattle.pict_turns.specs.Widths.{MakesOnly, answer_widths}
-use Rattle.pict_turns.proofs.Room.{refused_still}
+use Rattle.pict_turns.proofs.Room.{refused_still, cost_still}
 use Rattle.pict_desk.proofs.MakingRoom.{keeps_words}
 use Rattle.pict_calls.proofs.Answering.{makes_act, room_for_act}
 use Rattle.pict_calls.proofs.Keeping.{effect_keeps}
-use Rattle.pict_calls.proofs.Stepping.{called_by, calls_still, called_after, cost_still, cost_after}
+use Rattle.pict_calls.proofs.Stepping.{acts_by, calls_still, acts_after, cost_after}
 use Rattle.pict_turns.proofs.Adding.{used_after, used_less}
 use Rattle.pict_turns.specs.Growing.{AddsAtMost}
 use Rattle.pict_calls.proofs.calling.carry_out.Goals as goal
@@ -21,8 +21,8 @@ returns-clause-done c core p v on is =
     let r = c.reserve.ensures.rest in
     let same = effect_keeps old.desk.heap mid.desk.heap (keeps_words old.desk.heap mid.desk.heap r.heap) c.args.act c.requires.act in
     let free = room_for_act mid.queues mid.desk.heap c.args.act (subst (λ n. n ≤ spare mid.queues.region 9) c.outputs.ensures c.in_ok-reserve.ensures.blocks) in
-    called_after core old mid r c.finish.new.store c.finish.result
-    (called_by core mid c.finish.new.store p v c.args.at (effect_act mid.desk.heap c.args.act) c.finish.result (calls_still core old mid r p v c.args.at on) (is ∙ ap Some (sym same)) free c.finish.ensures.acted)
+    acts_after core old mid r c.finish.new.store c.finish.result
+    (acts_by core mid c.finish.new.store p v c.args.at (effect_act mid.desk.heap c.args.act) c.finish.result (calls_still core old mid r p v c.args.at on) (is ∙ ap Some (sym same)) free c.finish.ensures.acted)
 
 pub returns-in_err-reserve-clause-refused : goal.returns-in_err-reserve-clause-refused
 returns-in_err-reserve-clause-refused c core acting = on_err c.from_residual.result (refused_still core c.args.store.now c.reserve.new.store c.reserve.ensures.rest acting.store)

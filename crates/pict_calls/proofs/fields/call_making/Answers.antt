@@ -10,13 +10,13 @@ use Rattle.pict_turns.specs.declared.store.Store.{Store}
 use Rattle.pict_turns.proofs.Making.{makes_nothing}
 use Rattle.pict_desk.proofs.MakingRoom.{uses_nothing}
 use Rattle.pict_turns.proofs.Adding.{used_both, used_after, used_less}
-use Rattle.pict_turns.proofs.Room.{refused_still}
+use Rattle.pict_turns.proofs.Room.{refused_still, cost_still}
 use Rattle.pict_desk.specs.Arguments.{argument_of}
 use Rattle.pict_calls.specs.Finishing.{IsTurnAfter}
-use Rattle.pict_calls.specs.declared.called.Called.TheVariants as called
+use Rattle.pict_turns.specs.declared.event.PackedEvent.TheVariants as packed
 use Rattle.pict_calls.proofs.Answering.{HasRoomToAnswer, makes_answer, adds_same, room_for_any}
 use Rattle.pict_desk.proofs.Reckoning.{labels_same, argument_kept, room_then}
-use Rattle.pict_calls.proofs.Stepping.{some_is, called_by, calls_still, called_after, acted_before, cost_still, cost_same, cost_after}
+use Rattle.pict_calls.proofs.Stepping.{some_is, acts_by, calls_still, acts_after, acted_before, cost_same, cost_after}
 use Rattle.pict_calls.proofs.fields.call_making.Goals as goal
 
 pub divides_by_zero-requires-clause-pairs : goal.divides_by_zero-requires-clause-pairs
@@ -31,7 +31,7 @@ returns-then-divides_by_zero-clause-done c core labelled on =
     let zero = c.divides_by_zero.ensures s.desk.heap taken e.0 (subst (ArePairs s.desk.heap) (sym c.deref.ensures.value) c.requires.pairs)
     (subst (λ vs. effect_of c.args.p (argument_of s.desk.heap vs fields taken) ≡ Some e.0) (sym c.deref.ensures.value) e.1) in
     let trap = zero.0 c.if-divides_by_zero.true in
-    called_by core s s c.args.p (argument_of s.desk.heap s.desk.values.items fields labelled) c.args.at e.0 (called.Trapped c.args.at) on
+    acts_by core s s c.args.p (argument_of s.desk.heap s.desk.values.items fields labelled) c.args.at e.0 (packed.Trapped c.args.at) on
     (labels_same c.args.p _ labelled taken ∙ e.1) (subst (HasRoomToAnswer s.queues) (sym trap) tt)
     (record {
       turn = subst (λ (l : Leaves). IsTurnAfter s.desk.heap l c.args.at s.turn) (sym trap) tt;
@@ -72,8 +72,8 @@ returns-clause-done c core labelled on =
     let effect = sym (ap (effect_of c.args.p) same) ∙ c.decide-act.ensures.effect labelled in
     let zero = c.divides_by_zero.ensures s.desk.heap labelled e (subst (ArePairs s.desk.heap) (sym c.deref.ensures.value) c.requires.pairs)
     (subst (λ vs. effect_of c.args.p (argument_of s.desk.heap vs fields labelled) ≡ Some e) (sym c.deref.ensures.value) effect) in
-    called_after core s mid r last c.finish.result
-    (called_by core mid last c.args.p v c.args.at e c.finish.result (calls_still core s mid r c.args.p v c.args.at on) effect
+    acts_after core s mid r last c.finish.result
+    (acts_by core mid last c.args.p v c.args.at e c.finish.result (calls_still core s mid r c.args.p v c.args.at on) effect
     (room_for_any mid.queues e.leaves c.in_ok-make_call_room.ensures.spare)
     (acted_before mid made last e c.args.at c.finish.result c.decide-act.ensures.keeps refl c.decide-act.ensures.values
     (λ is. let t = zero.1 is in let f = c.if-divides_by_zero.false in cc) c.finish.ensures.acted))

@@ -1,14 +1,14 @@
 use Rattle.std.proofs.Common.{◌≡◌, ◌∙◌, ℕ, List, length, IsSome, Some, sym, ap, refl, subst}
 use Rattle.pict_core.specs.Primitives.{effect_of}
 use Rattle.pict_core.specs.Term.{Val}
-use Rattle.pict_calls.specs.Calling.{CallsOn, argument_need}
+use Rattle.pict_calls.specs.Calling.{CallsOn}
+use Rattle.pict_turns.specs.Growing.{argument_need, AddsAtMost}
 use Rattle.pict_core.specs.Plain.{plain_val}
 use Rattle.pict_prim.specs.Acts.{answer_need}
 use Rattle.pict_prim.specs.declared.act.Need.{Need}
 use Rattle.pict_desk.specs.Needs.{both_needs, text_need}
 use Rattle.pict_desk.proofs.Reckoning.{labels_of, made_argument}
 use Rattle.pict_desk.proofs.Recording.{record_val, plain_text}
-use Rattle.pict_turns.specs.Growing.{AddsAtMost}
 use Rattle.pict_turns.proofs.Adding.{used_beside, used_with}
 use Rattle.pict_calls.proofs.operands.call_operand.Goals as goal
 

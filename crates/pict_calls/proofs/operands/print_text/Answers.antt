@@ -10,9 +10,9 @@ use Rattle.pict_queue.specs.QueuesState.{QueuesState}
 use Rattle.pict_turns.specs.Turns.{turn_cost}
 use Rattle.pict_turns.specs.Widths.{MakesOnly}
 use Rattle.pict_turns.proofs.Adding.{used_before, used_after, used_less}
-use Rattle.pict_turns.proofs.Room.{refused_still}
+use Rattle.pict_turns.proofs.Room.{refused_still, cost_still}
 use Rattle.pict_calls.proofs.Answering.{makes_act}
-use Rattle.pict_calls.proofs.Stepping.{called_by, calls_still, called_after, acted_before, cost_still, cost_after}
+use Rattle.pict_calls.proofs.Stepping.{acts_by, calls_still, acts_after, acted_before, cost_after}
 use Rattle.pict_calls.proofs.operands.print_text.Goals as goal
 
 prints_bytes : Val → Effect
@@ -26,8 +26,8 @@ returns-clause-done c core on =
     let made = record mid { desk = record mid.desk { heap = c.add_text-text.new.self } } in
     let e = effect_act made.desk.heap (act.Print c.add_text-text.result) in
     let r = c.reserve.ensures.rest in
-    called_after core old mid r c.finish.new.store c.finish.result
-    (called_by core mid c.finish.new.store primitive.Print (Text c.args.bytes.now) c.args.at e c.finish.result
+    acts_after core old mid r c.finish.new.store c.finish.result
+    (acts_by core mid c.finish.new.store primitive.Print (Text c.args.bytes.now) c.args.at e c.finish.result
     (calls_still core old mid r primitive.Print (Text c.args.bytes.now) c.args.at on)
     (ap (λ v. Some (prints_bytes v)) (sym c.add_text-text.ensures.value)) tt
     (acted_before mid made c.finish.new.store e c.args.at c.finish.result c.add_text-text.ensures.keeps refl refl (λ is. cc) c.finish.ensures.acted))

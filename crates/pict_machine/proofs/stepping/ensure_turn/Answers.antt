@@ -1,5 +1,5 @@
 use Rattle.pict_desk.specs.Code.{core_in}
-use Rattle.pict_acting.proofs.Taking.{turn_given, first_given, some_ready}
+use Rattle.pict_turns.proofs.Given.{turn_given, first_given, some_ready}
 use Rattle.pict_machine.proofs.stepping.ensure_turn.Goals as goal
 
 pub take_turn-requires-clause-some : goal.take_turn-requires-clause-some

@@ -2,7 +2,7 @@ use Rattle.std.proofs.Common.{◌≡◌, not, length, sym, ap, ◌∙◌, subst}
 use Rattle.pict_core.specs.Closed.{IsOver}
 use Rattle.pict_core.specs.Plain.{plain_val}
 use Rattle.pict_core.specs.Primitives.{effect_of}
-use Rattle.pict_calls.proofs.Outputs.{operands_over}
+use Rattle.pict_turns.proofs.Numbered.{operands_over}
 use Rattle.pict_desk.specs.Arguments.{operand_in}
 use Rattle.pict_desk.specs.Code.{core_in}
 use Rattle.pict_desk.specs.Pairs.{ArePairs}

@@ -13,8 +13,8 @@ use Rattle.pict_desk.specs.Known.{value_in}
 use Rattle.pict_desk.specs.Pairs.{IsPair, ArePairs}
 use Rattle.pict_shapes.specs.Fitting.{is_found}
 use Rattle.pict_machine.proofs.Asking.{input_queue, input_is, input_at, received_nowhere, taken_wrong, none_taken, first_message}
-use Rattle.pict_acting.proofs.Channels.{input_over}
-use Rattle.pict_acting.proofs.KeptOutputs.{word_is, pair_value}
+use Rattle.pict_meetings.proofs.AtChannels.{input_over}
+use Rattle.pict_turns.proofs.Outputs.{word_is, pair_value}
 use Rattle.pict_machine.proofs.wrong.input_is_wrong.Goals as goal
 
 pub channel_at_hand-requires-clause-over : goal.channel_at_hand-requires-clause-over

@@ -12,8 +12,7 @@ use Rattle.pict_shapes.specs.Fitting.{is_found}
 use Rattle.pict_shapes.specs.Shapes.{is_effect}
 use Rattle.pict_machine.specs.Wrong.{primitive_named}
 use Rattle.pict_machine.proofs.Asking.{output_queue, sent_wrong, none_served, called_wrong, sent_nowhere}
-use Rattle.pict_acting.proofs.Channels.{named_channel}
-use Rattle.pict_acting.proofs.KeptOutputs.{kept_to, kept_message, kept_process, pair_value}
+use Rattle.pict_turns.proofs.Outputs.{named_channel, kept_to, kept_message, kept_process, pair_value}
 use Rattle.pict_machine.proofs.wrong.output_is_wrong.Goals as goal
 
 pub first_waiting-requires-clause-queue : goal.first_waiting-requires-clause-queue

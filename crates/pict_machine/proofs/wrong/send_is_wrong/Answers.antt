@@ -4,7 +4,7 @@ use Rattle.pict_core.specs.Matching.{match_value}
 use Rattle.pict_core.specs.Plain.{plain_val}
 use Rattle.pict_code.specs.Plain.{plain_pat}
 use Rattle.pict_code.specs.ReadBack.{unleveled}
-use Rattle.pict_calls.proofs.Outputs.{operands_over}
+use Rattle.pict_turns.proofs.Numbered.{operands_over}
 use Rattle.pict_desk.specs.Arguments.{operand_in}
 use Rattle.pict_desk.specs.AtHand.{channel_named}
 use Rattle.pict_desk.specs.Code.{core_in}

@@ -1,9 +1,9 @@
 use Rattle.pict_desk.specs.Code.{core_in}
 use Rattle.pict_desk.proofs.Numbered.{in_code, coded_at}
 use Rattle.pict_turns.proofs.Turns.{nobody_acts}
-use Rattle.pict_acting.proofs.Passing.{op_read}
-use Rattle.pict_acting.proofs.Taking.{node_low, number_acts}
-use Rattle.pict_acting.proofs.Working.{frame_there}
+use Rattle.pict_turns.proofs.Passing.{op_read}
+use Rattle.pict_turns.proofs.Given.{node_low, number_acts}
+use Rattle.pict_turns.proofs.Working.{frame_there}
 use Rattle.pict_machine.proofs.wrong.turn_is_wrong.Goals as goal
 
 pub unreachable-requires : goal.unreachable-requires

@@ -27,7 +27,7 @@ use Rattle.pict_meetings.proofs.Firsts.{first_message}
 use Rattle.pict_meetings.proofs.Inputs.{pattern_rises, pattern_inside, part_inside}
 use Rattle.pict_meetings.proofs.Meets.{message_met}
 use Rattle.pict_meetings.proofs.Readying.{Readies}
-use Rattle.pict_meetings.proofs.Receiving.{receives_part, receives_fits, can_still, received_ready, received_cost}
+use Rattle.pict_meetings.proofs.Receipts.{receives_part, receives_fits, can_still, received_ready, received_cost}
 use Rattle.pict_meetings.proofs.meeting.meet_message.Goals as goal
 
 pub frame_at-frame-requires : goal.frame_at-frame-requires

@@ -2,7 +2,8 @@ use Rattle.std.proofs.Common.{ℕ, suc, ◌+◌, ◌≡◌, List, [], ◌∷◌,
 use Rattle.pict_queue.specs.Contents.{contents, first_words}
 use Rattle.pict_desk.specs.Code.{core_in}
 use Rattle.pict_turns.specs.Reading.{HasReadNode}
-use Rattle.pict_meetings.proofs.Firsts.{first_input, node_of}
+use Rattle.pict_meetings.proofs.Firsts.{first_input}
+use Rattle.pict_turns.proofs.Wide.{node_of}
 use Rattle.pict_meetings.proofs.taking.read_waiting.Goals as goal
 
 pub read_first-requires-clause-is : goal.read_first-requires-clause-is

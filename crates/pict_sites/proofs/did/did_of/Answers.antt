@@ -1,7 +1,7 @@
 use Rattle.std.proofs.Common.{sym, ap, ◌∙◌, subst}
 use Rattle.pict_core.specs.Step.{Comm}
-use Rattle.pict_acting.specs.Packed.{label_packed, IsPackedOf}
-use Rattle.pict_acting.proofs.KeptOutputs.{word_is, pair_value}
+use Rattle.pict_turns.specs.Packed.{label_packed, IsPackedOf}
+use Rattle.pict_turns.proofs.Outputs.{word_is, pair_value}
 use Rattle.pict_sites.proofs.did.did_of.Goals as goal
 
 pub word_at-requires : goal.word_at-requires

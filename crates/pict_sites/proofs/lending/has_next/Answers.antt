@@ -1,6 +1,6 @@
 use Rattle.std.proofs.Common.{refl}
 use Rattle.pict_turns.proofs.Taking.{some_acts}
-use Rattle.pict_acting.proofs.Taking.{acting_ready}
+use Rattle.pict_turns.proofs.Given.{acting_ready}
 use Rattle.pict_sites.proofs.Only.{ready_idle}
 use Rattle.pict_sites.proofs.lending.has_next.Goals as goal
 

@@ -1,10 +1,10 @@
 use Rattle.std.proofs.Common.{true, false, sym, ap, ◌∙◌, subst}
 use Rattle.pict_core.specs.Plain.{plain_val}
 use Rattle.pict_code.specs.Plain.{plain_op, plain_pat}
-use Rattle.pict_calls.proofs.Outputs.{operands_over}
+use Rattle.pict_turns.proofs.Numbered.{operands_over}
 use Rattle.pict_desk.specs.Code.{core_in}
 use Rattle.pict_turns.specs.Acting.{ActsBy}
-use Rattle.pict_acting.proofs.Channels.{input_over}
+use Rattle.pict_meetings.proofs.AtChannels.{input_over}
 use Rattle.pict_sites.proofs.Shapes.{out_at, in_at, nowhere_at, nowhere_op}
 use Rattle.pict_sites.proofs.standing.channel_of_op.Goals as goal
 

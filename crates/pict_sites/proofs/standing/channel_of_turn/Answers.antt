@@ -2,10 +2,10 @@ use Rattle.std.proofs.Common.{sym, ap, ◌∙◌}
 use Rattle.pict_desk.specs.Code.{core_in}
 use Rattle.pict_desk.proofs.Numbered.{in_code, coded_at}
 use Rattle.pict_turns.proofs.Turns.{nobody_acts}
-use Rattle.pict_acting.proofs.KeptOutputs.{kept_to, kept_process}
-use Rattle.pict_acting.proofs.Passing.{op_read}
-use Rattle.pict_acting.proofs.Taking.{node_low, number_acts}
-use Rattle.pict_acting.proofs.Working.{frame_there}
+use Rattle.pict_turns.proofs.Outputs.{kept_to, kept_process}
+use Rattle.pict_turns.proofs.Passing.{op_read}
+use Rattle.pict_turns.proofs.Given.{node_low, number_acts}
+use Rattle.pict_turns.proofs.Working.{frame_there}
 use Rattle.pict_sites.specs.Standing.{channel_at}
 use Rattle.pict_sites.proofs.standing.channel_of_turn.Goals as goal
 

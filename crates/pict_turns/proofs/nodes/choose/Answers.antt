@@ -4,7 +4,6 @@ use Rattle.pict_core.specs.Step.{Quiet}
 use Rattle.pict_core.specs.Term.{Val}
 use Rattle.pict_code.specs.Instruction as op
 use Rattle.pict_code.specs.Plain.{plain_node}
-use Rattle.pict_code.proofs.Lines.{on_err}
 use Rattle.pict_desk.specs.Known.{operand_value}
 use Rattle.pict_queue.specs.QueuesState.{QueuesState}
 use Rattle.pict_desk.specs.Code.{core_in}
@@ -18,6 +17,9 @@ use Rattle.pict_desk.proofs.Numbered.{coded_frame, in_code, chosen_low}
 use Rattle.pict_turns.proofs.Room.{can_hold, store_still, acts_still, known_still, done_after, refused_still}
 use Rattle.pict_turns.proofs.Steps.{choose_by}
 use Rattle.pict_turns.proofs.nodes.choose.Goals as goal
+use Rattle.pict_turns.proofs.Passing.{refused_step}
+use Rattle.pict_turns.proofs.Whole.{choose_steps}
+use Rattle.pict_turns.proofs.Working.{refused_cost}
 
 pub chosen-part-requires-clause-over : goal.chosen-part-requires-clause-over
 chosen-part-requires-clause-over c =
@@ -51,20 +53,6 @@ pub hand_on_from-requires-clause-pairs : goal.hand_on_from-requires-clause-pairs
 hand_on_from-requires-clause-pairs c =
     (store_still (core_in c.args.code.now) c.args.store.now c.reserve_part.new.store c.reserve_part.ensures.rest c.requires.acts.acting.store).pairs
 
-pub returns-clause-done : goal.returns-clause-done
-returns-clause-done c =
-    let core = core_in c.args.code.now in
-    let old = c.args.store.now in
-    let mid = c.reserve_part.new.store in
-    let rest = c.reserve_part.ensures.rest in
-    let f = coded_frame c.args.code.now c.requires.code c.chosen-part.result c.frame_at-frame.result.now c.frame_at-frame.ensures in
-    let test = plain_val c.args.test.now in
-    let b = c.chosen-part.ensures in
-    done_after core old mid rest c.hand_on_from.new.store Quiet
-    (choose_by core mid c.hand_on_from.new.store c.args.yes c.args.no c.chosen-part.result test b.0 c.frame_at-frame.result.now c.requires.code.closed
-    (acts_still core old mid rest (op.If test c.args.yes c.args.no) c.requires.acts)
-    (ap (λ (value : ℕ → Val). operand_value value test) (known_still core old mid rest) ∙ b.1) b.2 f (c.hand_on_from.ensures.hands core f) c.in_ok-reserve_part.ensures.ok.block)
-
 pub returns-clause-turn : goal.returns-clause-turn
 returns-clause-turn c = λ first second one other.
     let core = core_in c.args.code.now in
@@ -81,20 +69,27 @@ returns-clause-blocks c = λ b is.
     makes_chosen (map plain_node c.args.code.now) old c.hand_on_from.new.store.queues _ a.0 b c.args.yes c.args.no c.chosen-part.result _ a.1 is a.2 c.frame_at-frame.ensures
     (subst (λ (q : QueuesState). MakesOnly old q (block_width c.frame_at-frame.result.now ∷ [])) (sym c.hand_on_from.ensures.queues) c.reserve_part.ensures.most)
 
-pub returns-clause-adds : goal.returns-clause-adds
-returns-clause-adds c = λ b is.
-    let a = c.chosen-part.ensures in
-    let old = c.args.store.now in
-    let f = coded_frame c.args.code.now c.requires.code c.chosen-part.result c.frame_at-frame.result.now c.frame_at-frame.ensures in
-    adds_chosen (map plain_node c.args.code.now) old c.hand_on_from.new.store _ a.0 b c.args.yes c.args.no c.chosen-part.result _ a.1 is a.2 c.frame_at-frame.ensures
-    (used_after old.desk.heap.room c.reserve_part.new.store.desk.heap.room c.hand_on_from.new.store.desk.heap.room _ c.reserve_part.ensures.rest.room (c.hand_on_from.ensures.hands (core_in c.args.code.now) f).used)
-
 pub returns-clause-work : goal.returns-clause-work
 returns-clause-work c = ap (λ (q : QueuesState). q.region.work) c.hand_on_from.ensures.queues ∙ c.reserve_part.ensures.rest.work
 
-pub returns-in_err-reserve_part-clause-refused : goal.returns-in_err-reserve_part-clause-refused
-returns-in_err-reserve_part-clause-refused c =
-    on_err c.from_residual.result (refused_still (core_in c.args.code.now) c.args.store.now c.reserve_part.new.store c.reserve_part.ensures.rest c.requires.acts.acting.store)
+pub returns-clause-steps : goal.returns-clause-steps
+returns-clause-steps c =
+    let core = core_in c.args.code.now in
+    let old = c.args.store.now in
+    let mid = c.reserve_part.new.store in
+    let rest = c.reserve_part.ensures.rest in
+    let f = coded_frame c.args.code.now c.requires.code c.chosen-part.result c.frame_at-frame.result.now c.frame_at-frame.ensures in
+    let test = plain_val c.args.test.now in
+    let b = c.chosen-part.ensures in
+    let done = done_after core old mid rest c.hand_on_from.new.store Quiet
+    (choose_by core mid c.hand_on_from.new.store c.args.yes c.args.no c.chosen-part.result test b.0 c.frame_at-frame.result.now c.requires.code.closed
+    (acts_still core old mid rest (op.If test c.args.yes c.args.no) c.requires.acts)
+    (ap (λ (value : ℕ → Val). operand_value value test) (known_still core old mid rest) ∙ b.1) b.2 f (c.hand_on_from.ensures.hands core f) c.in_ok-reserve_part.ensures.ok.block) in
+    choose_steps c.args.code.now c.requires.code old c.hand_on_from.new.store _ (record { done = done; event = tt })
+    (plain_val c.args.test.now) c.args.yes c.args.no c.requires.acts c.requires.right
+    (λ first second x y. let t = returns-clause-turn c first second x y in omega (arith, t)) (returns-clause-work c) (returns-clause-blocks c)
+    (λ one is. adds_chosen (map plain_node c.args.code.now) old c.hand_on_from.new.store _ b.0 one c.args.yes c.args.no c.chosen-part.result _ b.1 is b.2 c.frame_at-frame.ensures
+    (used_after old.desk.heap.room c.reserve_part.new.store.desk.heap.room c.hand_on_from.new.store.desk.heap.room _ c.reserve_part.ensures.rest.room (c.hand_on_from.ensures.hands core f).used))
 
 pub returns-in_err-reserve_part-clause-blocks : goal.returns-in_err-reserve_part-clause-blocks
 returns-in_err-reserve_part-clause-blocks c = λ b is.
@@ -102,5 +97,14 @@ returns-in_err-reserve_part-clause-blocks c = λ b is.
     makes_chosen (map plain_node c.args.code.now) c.args.store.now.queues c.reserve_part.new.store.queues _ a.0 b c.args.yes c.args.no c.chosen-part.result _ a.1 is a.2 c.frame_at-frame.ensures
     c.reserve_part.ensures.most
 
-pub returns-in_err-reserve_part-clause-adds : goal.returns-in_err-reserve_part-clause-adds
-returns-in_err-reserve_part-clause-adds c = λ b is. used_less c.args.store.now.desk.heap.room c.reserve_part.new.store.desk.heap.room _ c.reserve_part.ensures.rest.room
+pub returns-in_err-reserve_part-clause-steps : goal.returns-in_err-reserve_part-clause-steps
+returns-in_err-reserve_part-clause-steps c =
+    let core = core_in c.args.code.now in
+    let old = c.args.store.now in
+    let mid = c.reserve_part.new.store in
+    let refused = refused_still core old mid c.reserve_part.ensures.rest c.requires.acts.acting.store in
+    let same = refused_cost core old mid refused in
+    choose_steps c.args.code.now c.requires.code old mid _ (refused_step core old mid c.from_residual.result _ c.from_residual.ensures.1 refused)
+    (plain_val c.args.test.now) c.args.yes c.args.no c.requires.acts c.requires.right
+    (λ first second x y. omega (arith, same)) c.reserve_part.ensures.rest.work (returns-in_err-reserve_part-clause-blocks c)
+    (λ b is. used_less c.args.store.now.desk.heap.room c.reserve_part.new.store.desk.heap.room _ c.reserve_part.ensures.rest.room)

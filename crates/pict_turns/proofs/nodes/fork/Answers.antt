@@ -3,7 +3,6 @@ use Rattle.std.specs.List.{All}
 use Rattle.pict_core.specs.Step.{Quiet}
 use Rattle.pict_code.specs.Instruction as op
 use Rattle.pict_code.specs.Plain.{plain_node}
-use Rattle.pict_code.proofs.Lines.{on_err}
 use Rattle.pict_blocks.proofs.Costs.{costs_more, costs_nothing}
 use Rattle.pict_queue.specs.QueuesState.{QueuesState, IsQueue, CostsAtMost}
 use Rattle.pict_desk.specs.Code.{core_in}
@@ -18,6 +17,9 @@ use Rattle.pict_desk.proofs.Numbered.{coded_frame, in_code, same_frame}
 use Rattle.pict_turns.proofs.Room.{can_first, can_second, store_still, acts_still, done_after, refused_still}
 use Rattle.pict_turns.proofs.Steps.{fork_by, fork_cost}
 use Rattle.pict_turns.proofs.nodes.fork.Goals as goal
+use Rattle.pict_turns.proofs.Passing.{refused_step}
+use Rattle.pict_turns.proofs.Whole.{fork_steps}
+use Rattle.pict_turns.proofs.Working.{refused_cost}
 
 pub frame_at-first-requires : goal.frame_at-first-requires
 frame_at-first-requires c =
@@ -84,21 +86,6 @@ spawn_from-requires-clause-pairs c =
     handed_pairs core mid c.hand_on_from.new.store c.args.left c.frame_at-first.result.now (c.hand_on_from.ensures.hands core f)
     (store_still core c.args.store.now mid c.reserve_parts.ensures.rest c.requires.acts.acting.store).pairs
 
-pub returns-clause-done : goal.returns-clause-done
-returns-clause-done c =
-    let core = core_in c.args.code.now in
-    let old = c.args.store.now in
-    let mid = c.reserve_parts.new.store in
-    let handed = c.hand_on_from.new.store in
-    let last = c.spawn_from.new.store in
-    let rest = c.reserve_parts.ensures.rest in
-    let f = coded_frame c.args.code.now c.requires.code c.args.left c.frame_at-first.result.now c.frame_at-first.ensures in
-    let g = coded_frame c.args.code.now c.requires.code c.args.right c.frame_at-second.result.now c.frame_at-second.ensures in
-    done_after core old mid rest last Quiet
-    (fork_by core mid handed last c.args.left c.args.right c.frame_at-first.result.now c.frame_at-second.result.now (c.hand_on_from.ensures.hands core f) c.spawn_from.ensures.spawns f g
-    (acts_still core old mid rest (op.Par c.args.left c.args.right) c.requires.acts) c.in_ok-reserve_parts.ensures.ok c.spawn_from.ensures.no_more
-    (let same = c.spawn_from.ensures.spawns.queues in let left = c.spawn_from.ensures.spare_queues in omega (arith, same, left)))
-
 pub returns-clause-turn : goal.returns-clause-turn
 returns-clause-turn c = λ first is.
     let core = core_in c.args.code.now in
@@ -118,12 +105,6 @@ returns-clause-blocks c =
     makes_parts (map plain_node c.args.code.now) old last c.args.left c.args.right _ _ c.frame_at-first.ensures c.frame_at-second.ensures
     (makes_before old handed last needed (subst (λ (q : QueuesState). MakesOnly old q needed) (sym c.hand_on_from.ensures.queues) c.reserve_parts.ensures.most) c.spawn_from.ensures.blocks)
 
-pub returns-clause-adds : goal.returns-clause-adds
-returns-clause-adds c =
-    let f = coded_frame c.args.code.now c.requires.code c.args.left c.frame_at-first.result.now c.frame_at-first.ensures in
-    adds_parts (map plain_node c.args.code.now) c.args.store.now c.reserve_parts.new.store c.hand_on_from.new.store c.spawn_from.new.store c.args.left c.args.right _ _ c.frame_at-first.ensures c.frame_at-second.ensures
-    c.reserve_parts.ensures.rest.room (c.hand_on_from.ensures.hands (core_in c.args.code.now) f).used c.spawn_from.ensures.spawns.used
-
 pub returns-clause-cost : goal.returns-clause-cost
 returns-clause-cost c = λ second is.
     let old = c.args.store.now.queues in
@@ -134,20 +115,45 @@ returns-clause-cost c = λ second is.
     subst (λ (frame : List ℕ). CostsAtMost (block_width frame + 2) old last) (sym same)
     (costs_more old handed last 0 (block_width c.frame_at-second.result.now + 2) _ (omega arith) (costs_nothing old handed work) c.spawn_from.ensures.cost)
 
-pub returns-in_err-reserve_parts-clause-refused : goal.returns-in_err-reserve_parts-clause-refused
-returns-in_err-reserve_parts-clause-refused c =
-    on_err c.from_residual.result (refused_still (core_in c.args.code.now) c.args.store.now c.reserve_parts.new.store c.reserve_parts.ensures.rest c.requires.acts.acting.store)
+pub returns-clause-steps : goal.returns-clause-steps
+returns-clause-steps c =
+    let core = core_in c.args.code.now in
+    let old = c.args.store.now in
+    let mid = c.reserve_parts.new.store in
+    let handed = c.hand_on_from.new.store in
+    let last = c.spawn_from.new.store in
+    let rest = c.reserve_parts.ensures.rest in
+    let f = coded_frame c.args.code.now c.requires.code c.args.left c.frame_at-first.result.now c.frame_at-first.ensures in
+    let g = coded_frame c.args.code.now c.requires.code c.args.right c.frame_at-second.result.now c.frame_at-second.ensures in
+    let done = done_after core old mid rest last Quiet
+    (fork_by core mid handed last c.args.left c.args.right c.frame_at-first.result.now c.frame_at-second.result.now (c.hand_on_from.ensures.hands core f)
+    c.spawn_from.ensures.spawns f g (acts_still core old mid rest (op.Par c.args.left c.args.right) c.requires.acts)
+    c.in_ok-reserve_parts.ensures.ok c.spawn_from.ensures.no_more (let same = c.spawn_from.ensures.spawns.queues in let left = c.spawn_from.ensures.spare_queues in omega (arith, same, left))) in
+    fork_steps c.args.code.now c.requires.code old last _ (record { done = done; event = tt })
+    c.args.left c.args.right c.requires.acts
+    (λ first f. let t = returns-clause-turn c first f in omega (arith, t)) (returns-clause-cost c) (returns-clause-blocks c)
+    (adds_parts (map plain_node c.args.code.now) c.args.store.now c.reserve_parts.new.store c.hand_on_from.new.store c.spawn_from.new.store c.args.left c.args.right _ _ c.frame_at-first.ensures c.frame_at-second.ensures
+    c.reserve_parts.ensures.rest.room (c.hand_on_from.ensures.hands (core_in c.args.code.now) f).used c.spawn_from.ensures.spawns.used)
 
 pub returns-in_err-reserve_parts-clause-blocks : goal.returns-in_err-reserve_parts-clause-blocks
 returns-in_err-reserve_parts-clause-blocks c =
     makes_parts (map plain_node c.args.code.now) c.args.store.now.queues c.reserve_parts.new.store.queues c.args.left c.args.right _ _ c.frame_at-first.ensures c.frame_at-second.ensures
     c.reserve_parts.ensures.most
 
-pub returns-in_err-reserve_parts-clause-adds : goal.returns-in_err-reserve_parts-clause-adds
-returns-in_err-reserve_parts-clause-adds c = used_less c.args.store.now.desk.heap.room c.reserve_parts.new.store.desk.heap.room _ c.reserve_parts.ensures.rest.room
-
 pub returns-in_err-reserve_parts-clause-cost : goal.returns-in_err-reserve_parts-clause-cost
 returns-in_err-reserve_parts-clause-cost c = λ second is.
     let old = c.args.store.now.queues in
     let mid = c.reserve_parts.new.store.queues in
     costs_more old mid mid 0 0 _ (omega arith) (costs_nothing old mid c.reserve_parts.ensures.rest.work) (costs_nothing mid mid refl)
+
+pub returns-in_err-reserve_parts-clause-steps : goal.returns-in_err-reserve_parts-clause-steps
+returns-in_err-reserve_parts-clause-steps c =
+    let core = core_in c.args.code.now in
+    let old = c.args.store.now in
+    let mid = c.reserve_parts.new.store in
+    let refused = refused_still core old mid c.reserve_parts.ensures.rest c.requires.acts.acting.store in
+    let same = refused_cost core old mid refused in
+    fork_steps c.args.code.now c.requires.code old mid _ (refused_step core old mid c.from_residual.result _ c.from_residual.ensures.1 refused)
+    c.args.left c.args.right c.requires.acts
+    (λ first f. omega (arith, same)) (returns-in_err-reserve_parts-clause-cost c) (returns-in_err-reserve_parts-clause-blocks c)
+    (used_less c.args.store.now.desk.heap.room c.reserve_parts.new.store.desk.heap.room _ c.reserve_parts.ensures.rest.room)

@@ -3,7 +3,6 @@ use Rattle.std.specs.List.{All}
 use Rattle.pict_core.specs.Step.{Quiet}
 use Rattle.pict_code.specs.Instruction as op
 use Rattle.pict_code.specs.Plain.{plain_node}
-use Rattle.pict_code.proofs.Lines.{on_err}
 use Rattle.pict_region.specs.RegionState.{RegionState, spare, blocks, KeepsBlocks}
 use Rattle.pict_queue.specs.QueuesState.{QueuesState}
 use Rattle.pict_desk.specs.Needs.{HasRoomFor}
@@ -19,6 +18,9 @@ use Rattle.pict_desk.proofs.Numbered.{coded_frame, in_code, same_frame}
 use Rattle.pict_turns.proofs.Room.{can_hold, store_still, acts_still, done_after, refused_still}
 use Rattle.pict_turns.proofs.Steps.{channel_by}
 use Rattle.pict_turns.proofs.nodes.make_channel.Goals as goal
+use Rattle.pict_turns.proofs.Passing.{refused_step}
+use Rattle.pict_turns.proofs.Whole.{new_steps}
+use Rattle.pict_turns.proofs.Working.{refused_cost}
 
 pub frame_at-frame-requires : goal.frame_at-frame-requires
 frame_at-frame-requires c =
@@ -54,20 +56,6 @@ hand_on-requires-clause-inside c =
     c.args.part c.frame_at-frame.result.now c.frame_at-frame.ensures in
     subst (λ (n : ℕ). All (λ level. level < n) c.frame_at-frame.result.now) (sym c.add_channel.ensures.levels) inside
 
-pub returns-clause-done : goal.returns-clause-done
-returns-clause-done c =
-    let core = core_in c.args.code.now in
-    let old = c.args.store.now in
-    let mid = c.reserve_channel.new.store in
-    let opened = c.add_channel.new.store in
-    let last = c.hand_on.new.store in
-    let rest = c.reserve_channel.ensures.rest in
-    let f = coded_frame c.args.code.now c.requires.code c.args.part c.frame_at-frame.result.now c.frame_at-frame.ensures in
-    done_after core old mid rest last Quiet
-    (channel_by core mid opened last c.args.level c.args.part c.frame_at-frame.result.now
-    (acts_still core old mid rest (op.New c.args.level c.args.part) c.requires.acts)
-    c.add_channel.ensures f (c.hand_on.ensures.hands core f) c.in_ok-reserve_channel.ensures.part.block)
-
 pub returns-clause-turn : goal.returns-clause-turn
 returns-clause-turn c = λ frame is.
     let core = core_in c.args.code.now in
@@ -87,28 +75,41 @@ returns-clause-blocks c =
     makes_part (map plain_node c.args.code.now) old last c.args.part _ c.frame_at-frame.ensures
     (subst (λ (q : QueuesState). MakesOnly old q needed) (sym c.hand_on.ensures.queues) (makes_before old mid opened needed c.reserve_channel.ensures.most same))
 
-pub returns-clause-adds : goal.returns-clause-adds
-returns-clause-adds c =
-    let old = c.args.store.now in
-    let mid = c.reserve_channel.new.store in
-    let opened = c.add_channel.new.store in
-    let last = c.hand_on.new.store in
-    let f = coded_frame c.args.code.now c.requires.code c.args.part c.frame_at-frame.result.now c.frame_at-frame.ensures in
-    adds_part (map plain_node c.args.code.now) old last c.args.part _ c.frame_at-frame.ensures
-    (used_after old.desk.heap.room mid.desk.heap.room last.desk.heap.room _ c.reserve_channel.ensures.rest.room
-    (used_same mid.desk.heap opened.desk.heap last.desk.heap.room _ c.add_channel.ensures.heap (c.hand_on.ensures.hands (core_in c.args.code.now) f).used))
-
 pub returns-clause-work : goal.returns-clause-work
 returns-clause-work c =
     ap (λ (q : QueuesState). q.region.work) c.hand_on.ensures.queues ∙ ap (λ (r : RegionState). r.work) c.add_channel.ensures.region ∙ c.reserve_channel.ensures.rest.work
 
-pub returns-in_err-reserve_channel-clause-refused : goal.returns-in_err-reserve_channel-clause-refused
-returns-in_err-reserve_channel-clause-refused c =
-    on_err c.from_residual.result (refused_still (core_in c.args.code.now) c.args.store.now c.reserve_channel.new.store c.reserve_channel.ensures.rest c.requires.acts.acting.store)
+pub returns-clause-steps : goal.returns-clause-steps
+returns-clause-steps c =
+    let core = core_in c.args.code.now in
+    let old = c.args.store.now in
+    let mid = c.reserve_channel.new.store in
+    let opened = c.add_channel.new.store in
+    let last = c.hand_on.new.store in
+    let rest = c.reserve_channel.ensures.rest in
+    let f = coded_frame c.args.code.now c.requires.code c.args.part c.frame_at-frame.result.now c.frame_at-frame.ensures in
+    let done = done_after core old mid rest last Quiet
+    (channel_by core mid opened last c.args.level c.args.part c.frame_at-frame.result.now (acts_still core old mid rest (op.New c.args.level c.args.part) c.requires.acts)
+    c.add_channel.ensures f (c.hand_on.ensures.hands core f) c.in_ok-reserve_channel.ensures.part.block) in
+    new_steps c.args.code.now c.requires.code old last _ (record { done = done; event = tt })
+    c.args.level c.args.part c.requires.acts
+    (λ frame x. let t = returns-clause-turn c frame x in omega (arith, t)) (returns-clause-work c) (returns-clause-blocks c)
+    (adds_part (map plain_node c.args.code.now) old last c.args.part _ c.frame_at-frame.ensures
+    (used_after old.desk.heap.room mid.desk.heap.room last.desk.heap.room _ c.reserve_channel.ensures.rest.room
+    (used_same mid.desk.heap opened.desk.heap last.desk.heap.room _ c.add_channel.ensures.heap (c.hand_on.ensures.hands (core_in c.args.code.now) f).used)))
 
 pub returns-in_err-reserve_channel-clause-blocks : goal.returns-in_err-reserve_channel-clause-blocks
 returns-in_err-reserve_channel-clause-blocks c =
     makes_part (map plain_node c.args.code.now) c.args.store.now.queues c.reserve_channel.new.store.queues c.args.part _ c.frame_at-frame.ensures c.reserve_channel.ensures.most
 
-pub returns-in_err-reserve_channel-clause-adds : goal.returns-in_err-reserve_channel-clause-adds
-returns-in_err-reserve_channel-clause-adds c = used_less c.args.store.now.desk.heap.room c.reserve_channel.new.store.desk.heap.room _ c.reserve_channel.ensures.rest.room
+pub returns-in_err-reserve_channel-clause-steps : goal.returns-in_err-reserve_channel-clause-steps
+returns-in_err-reserve_channel-clause-steps c =
+    let core = core_in c.args.code.now in
+    let old = c.args.store.now in
+    let mid = c.reserve_channel.new.store in
+    let refused = refused_still core old mid c.reserve_channel.ensures.rest c.requires.acts.acting.store in
+    let same = refused_cost core old mid refused in
+    new_steps c.args.code.now c.requires.code old mid _ (refused_step core old mid c.from_residual.result _ c.from_residual.ensures.1 refused)
+    c.args.level c.args.part c.requires.acts
+    (λ frame x. omega (arith, same)) c.reserve_channel.ensures.rest.work (returns-in_err-reserve_channel-clause-blocks c)
+    (used_less c.args.store.now.desk.heap.room c.reserve_channel.new.store.desk.heap.room _ c.reserve_channel.ensures.rest.room)

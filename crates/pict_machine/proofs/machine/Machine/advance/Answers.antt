@@ -4,19 +4,15 @@ use Rattle.pict_code.specs.declared.instruction.Node.{Node}
 use Rattle.pict_heap.specs.HeapState.{HeapState}
 use Rattle.pict_turns.specs.Acting.{IsStore}
 use Rattle.pict_desk.specs.Code.{core_in, IsCode}
-use Rattle.pict_turns.specs.Views.{view_with_turn, acting_words}
+use Rattle.pict_turns.specs.Views.{view_with_turn}
 use Rattle.pict_desk.specs.Constants.{AreConstants}
-use Rattle.pict_acting.specs.Stepping.{GivesTurn, MayAct, IsStepBy}
-use Rattle.pict_acting.proofs.Taking.{may_act}
+use Rattle.pict_turns.specs.Stepping.{GivesTurn, MayAct, StepsBy}
+use Rattle.pict_turns.proofs.Given.{may_act}
 use Rattle.pict_machine.proofs.Steps.{step_kept, step_ok, step_event, step_refused, step_keeps, step_few, step_queues}
-use Rattle.pict_acting.specs.Needs.{MakesNeeded}
-use Rattle.pict_acting.specs.Plain.{ActsPlainly, TakesNothing}
-use Rattle.pict_acting.specs.Work.{Fits}
-use Rattle.pict_acting.proofs.Needing.{running_needs}
-use Rattle.pict_acting.specs.Growing.{AddsNeeded}
-use Rattle.pict_acting.proofs.Adding.{running_adds}
-use Rattle.pict_acting.proofs.Plainly.{plainly_given}
-use Rattle.pict_acting.proofs.Working.{running_works}
+use Rattle.pict_turns.proofs.Needing.{running_needs}
+use Rattle.pict_turns.proofs.Growing.{running_adds}
+use Rattle.pict_turns.proofs.Plainly.{plainly_given}
+use Rattle.pict_turns.proofs.Working.{running_works}
 use Rattle.pict_machine.proofs.machine.Machine.advance.Goals as goal
 
 pub ensure_turn-requires : goal.ensure_turn-requires
@@ -52,21 +48,18 @@ returns c =
     let new = c.act.new.store in
     let given = subst (λ (code : List Node). GivesTurn (core_in code) old.store mid) c.deref.ensures.value c.ensure_turn.ensures in
     let core = core_in old.code.nodes.items in
-    let step = subst (λ (code : List Node). IsStepBy (core_in code) mid new c.act.result) c.deref-2.ensures.value c.act.ensures.step in
-    let work = subst (λ (code : List Node). Fits (core_in code) mid new) c.deref-2.ensures.value c.act.ensures.work in
-    let blocks = subst (λ (code : List Node). MakesNeeded (core_in code) mid new) c.deref-2.ensures.value c.act.ensures.blocks in
-    let adds = subst (λ (code : List Node). AddsNeeded (core_in code) mid new) c.deref-2.ensures.value c.act.ensures.adds in
-    let plain = subst (λ (code : List Node). ActsPlainly (core_in code) mid (acting_words (core_in code) mid) → TakesNothing mid new c.act.result) c.deref-2.ensures.value c.act.ensures.plain in
+    let by = subst (λ (code : List Node). StepsBy code mid new c.act.result) c.deref-2.ensures.value c.act.ensures.steps in
+    let step = by.step in
     record {
       kept = step_kept old mid new given c.requires.kept c.requires.right c.act.result step;
       ok = step_ok old mid new given c.requires.kept c.act.result step;
       event = step_event old mid new given c.requires.kept c.act.result step;
       refused = step_refused old mid new given c.requires.kept c.act.result step;
       keeps = step_keeps old mid new given c.requires.kept c.act.result step;
-      work = running_works core old.store mid new given work;
-      blocks = running_needs core old.store mid new given blocks;
-      adds = running_adds core old.store mid new given adds;
-      plain = λ m. let x = plain (plainly_given core old.store mid given m) in (x.0, λ width. x.1 width ∙ given.blocks width);
+      work = running_works core old.store mid new given by.work;
+      blocks = running_needs core old.store mid new given by.blocks;
+      adds = running_adds core old.store mid new given by.adds;
+      plain = λ m. let x = by.plain (plainly_given core old.store mid given m) in (x.0, λ width. x.1 width ∙ given.blocks width);
       code = refl;
       channels = step_few old mid new given c.requires.kept c.act.result step;
       queues = step_queues old mid new given c.requires.kept c.act.result step;

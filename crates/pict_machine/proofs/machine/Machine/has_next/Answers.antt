@@ -2,7 +2,7 @@ use Rattle.std.proofs.Common.{IsTrue, ◌↔◌, ◌≢◌, [], refl, sym, subst
 use Rattle.pict_view.specs.View.{View}
 use Rattle.pict_machine.specs.Machine.{core_in}
 use Rattle.pict_turns.proofs.Turns.{words_nobody, view_nobody}
-use Rattle.pict_acting.proofs.Taking.{turn_given, acting_ready}
+use Rattle.pict_turns.proofs.Given.{turn_given, acting_ready}
 use Rattle.pict_machine.proofs.machine.Machine.has_next.Goals as goal
 
 pub returns-in-Nobody : goal.returns-in-Nobody

@@ -19,7 +19,7 @@ use Rattle.pict_machine.specs.Machine.{view_of}
 use Rattle.pict_machine.specs.Wrong.{is_misshapen, is_wrong, MayAsk}
 use Rattle.pict_machine.proofs.Asking.{refused_asking, wrong_by}
 use Rattle.pict_machine.proofs.Steps.{idle_view, machine_rested, still_kept, whole_refused}
-use Rattle.pict_acting.proofs.Taking.{first_given, given_view}
+use Rattle.pict_turns.proofs.Given.{first_given, given_view}
 use Rattle.pict_machine.proofs.machine.Machine.next_is_wrong.Goals as goal
 
 pub take_turn-requires : goal.take_turn-requires

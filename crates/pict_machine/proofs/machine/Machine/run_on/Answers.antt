@@ -2,7 +2,7 @@ use Rattle.std.proofs.Common.{◌≡◌, ◌+◌, ◌-◌, ◌≤◌, Some, None
 use Rattle.pict_view.proofs.Runs.{is_trapped, one_more, saw_more, refused}
 use Rattle.pict_heap.specs.HeapState.{HeapState}
 use Rattle.pict_machine.specs.Events.{label_of, trap_of, IsEventOf}
-use Rattle.pict_acting.specs.Packed.{label_packed, trap_packed}
+use Rattle.pict_turns.specs.Packed.{label_packed, trap_packed}
 use Rattle.pict_machine.specs.Machine.{running_view, heap_of}
 use Rattle.pict_machine.proofs.Bounding.{spends_on, spends_up}
 use Rattle.pict_machine.proofs.Going.{right_after, stops_of, stood_between, further, event_of, rests, wants}

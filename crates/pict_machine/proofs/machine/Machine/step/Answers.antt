@@ -3,7 +3,7 @@ use Rattle.pict_machine.specs.Events.{trap_of}
 use Rattle.pict_prim.specs.Acts.{UsesNeed}
 use Rattle.pict_prim.specs.declared.act.Need.{Need}
 use Rattle.pict_machine.specs.Machine.{core_in, heap_of, view_of}
-use Rattle.pict_acting.proofs.Adding.{plain_need}
+use Rattle.pict_turns.proofs.Growing.{plain_need}
 use Rattle.pict_machine.specs.declared.event.Event.TheVariants as event
 use Rattle.pict_machine.proofs.Running.{seen_steps, trapped_packed}
 use Rattle.pict_machine.proofs.machine.Machine.step.Goals as goal

@@ -14,17 +14,13 @@ use Rattle.pict_turns.specs.Turns.{TakesTurn, TakesOneBlock, turn_cost}
 use Rattle.pict_turns.specs.Views.{acting_words, ready_words}
 use Rattle.pict_turns.specs.declared.store.Store.{Store}
 use Rattle.pict_desk.specs.Constants.{AreConstants}
-use Rattle.pict_acting.specs.Needs.{MakesNeeded}
-use Rattle.pict_acting.specs.Plain.{ActsPlainly, TakesNothing}
-use Rattle.pict_acting.specs.Stepping.{MayAct, IsStepBy}
-use Rattle.pict_acting.specs.Work.{Fits}
-use Rattle.pict_acting.proofs.Needing.{needed_whole}
-use Rattle.pict_acting.specs.Growing.{AddsNeeded}
-use Rattle.pict_acting.proofs.Adding.{whole_adds}
-use Rattle.pict_acting.proofs.Plainly.{plainly_given, idle_plainly}
+use Rattle.pict_turns.specs.Stepping.{MayAct, StepsBy}
+use Rattle.pict_turns.proofs.Needing.{needed_whole}
+use Rattle.pict_turns.proofs.Growing.{whole_adds}
+use Rattle.pict_turns.proofs.Plainly.{plainly_given, idle_plainly}
 use Rattle.pict_machine.proofs.Steps.{idle_view, step_kept, whole_kept, whole_ok, whole_event, whole_trapped, whole_refused, whole_keeps, whole_few, whole_queues}
-use Rattle.pict_acting.proofs.Taking.{first_given, may_act}
-use Rattle.pict_acting.proofs.Working.{step_works}
+use Rattle.pict_turns.proofs.Given.{first_given, may_act}
+use Rattle.pict_turns.proofs.Working.{step_works}
 use Rattle.pict_machine.proofs.machine.Machine.step_packed.Goals as goal
 
 pub take_turn-requires : goal.take_turn-requires
@@ -67,9 +63,9 @@ return_turn-requires-clause-store c =
     let takes = subst (λ (code : List Node). TakesTurn (core_in code) old.store taken) c.deref.ensures.value c.take_turn.ensures.takes in
     let before = subst (λ (code : List Node). CostsAtMost (turn_cost (core_in code) taken) old.store.queues taken.queues) c.deref.ensures.value c.take_turn.ensures.cost in
     let given = first_given (core_in old.code.nodes.items) old.store taken kept.idle acting takes before in
-    let step = subst (λ (code : List Node). IsStepBy (core_in code) taken acted c.act-result.result) c.deref-2.ensures.value c.act-result.ensures.step in
+    let by = subst (λ (code : List Node). StepsBy code taken acted c.act-result.result) c.deref-2.ensures.value c.act-result.ensures.steps in
     subst (λ (code : List Node). IsStore (core_in code) acted) (sym c.deref-4.ensures.value)
-    (step_kept old taken acted given kept.running (subst (λ (v : View). IsRightFor v 1) (sym (idle_view old kept)) c.requires.right) c.act-result.result step).store
+    (step_kept old taken acted given kept.running (subst (λ (v : View). IsRightFor v 1) (sym (idle_view old kept)) c.requires.right) c.act-result.result by.step).store
 
 pub returns : goal.returns
 returns c =
@@ -84,11 +80,8 @@ returns c =
     let takes = subst (λ (code : List Node). TakesTurn (core_in code) old.store taken) c.deref.ensures.value c.take_turn.ensures.takes in
     let before = subst (λ (code : List Node). CostsAtMost (turn_cost (core_in code) taken) old.store.queues taken.queues) c.deref.ensures.value c.take_turn.ensures.cost in
     let given = first_given core old.store taken kept.idle acting takes before in
-    let step = subst (λ (code : List Node). IsStepBy (core_in code) taken acted result) c.deref-2.ensures.value c.act-result.ensures.step in
-    let work = subst (λ (code : List Node). Fits (core_in code) taken acted) c.deref-2.ensures.value c.act-result.ensures.work in
-    let blocks = subst (λ (code : List Node). MakesNeeded (core_in code) taken acted) c.deref-2.ensures.value c.act-result.ensures.blocks in
-    let adds = subst (λ (code : List Node). AddsNeeded (core_in code) taken acted) c.deref-2.ensures.value c.act-result.ensures.adds in
-    let plain = subst (λ (code : List Node). ActsPlainly (core_in code) taken (acting_words (core_in code) taken) → TakesNothing taken acted result) c.deref-2.ensures.value c.act-result.ensures.plain in
+    let by = subst (λ (code : List Node). StepsBy code taken acted result) c.deref-2.ensures.value c.act-result.ensures.steps in
+    let step = by.step in
     let back = c.return_turn.ensures in
     let store = subst (λ (code : List Node). IsStore (core_in code) new) c.deref-4.ensures.value back.store in
     let ready = subst (λ (code : List Node). contents new.queues 0 ≡ ready_words (core_in code) acted) c.deref-4.ensures.value back.ready in
@@ -102,11 +95,11 @@ returns c =
       trapped = whole_trapped old kept taken acted new acting takes given heap ready back.others back.queues down result step;
       refused = whole_refused old kept taken acted new acting takes given heap ready back.others back.queues down result step;
       keeps = whole_keeps old kept taken acted new acting takes given heap ready back.others back.queues result step;
-      work = step_works core old.store taken acted given work new kept.idle after;
-      blocks = needed_whole core old.store taken acted given blocks new kept.idle back.blocks;
-      adds = whole_adds core old.store taken acted given adds new kept.idle heap;
+      work = step_works core old.store taken acted given by.work new kept.idle after;
+      blocks = needed_whole core old.store taken acted given by.blocks new kept.idle back.blocks;
+      adds = whole_adds core old.store taken acted given by.adds new kept.idle heap;
       plain = λ m.
-          let x = plain (plainly_given core old.store taken given (idle_plainly core old.store kept.idle m)) in
+          let x = by.plain (plainly_given core old.store taken given (idle_plainly core old.store kept.idle m)) in
           (x.0, λ width. back.blocks width ∙ x.1 width ∙ takes.blocks width);
       channels = whole_few old kept taken acted new acting takes given heap ready back.others back.queues result step;
       queues = whole_queues old kept taken acted new acting takes given heap ready back.others back.queues down result step;

@@ -2,7 +2,7 @@ use Rattle.std.proofs.Common.{◌≡◌, false, List, refl, sym, ◌∙◌, subs
 use Rattle.pict_code.specs.declared.instruction.Node.{Node}
 use Rattle.pict_code.proofs.Lines.{on_err}
 use Rattle.pict_desk.specs.Code as code
-use Rattle.pict_acting.specs.Stepping.{GivesTurn}
+use Rattle.pict_turns.specs.Stepping.{GivesTurn}
 use Rattle.pict_network.specs.Events.{act_at}
 use Rattle.pict_sites.specs.Happening.{IsHappened}
 use Rattle.pict_sites.specs.Network.{core_in}

@@ -1,6 +1,6 @@
 use Rattle.std.proofs.Common.{◌++◌, ◌∷◌, [], refl, sym, ap, ◌∙◌, subst, Ok}
 use Rattle.pict_desk.specs.Code.{core_in}
-use Rattle.pict_acting.proofs.KeptOutputs.{word_is, pair_value}
+use Rattle.pict_turns.proofs.Outputs.{word_is, pair_value}
 use Rattle.pict_turns.specs.Reserving.{OnlyReserves}
 use Rattle.pict_turns.proofs.Room.{reserves_nothing}
 use Rattle.pict_desk.proofs.MakingRoom.{keeps_words}
