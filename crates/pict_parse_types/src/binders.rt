@@ -2,7 +2,7 @@
 
 ghost use Rattle.std.specs.Prelude.{◌≡◌};
 ghost use Rattle.pict_syntax.specs.PlainTrees.{binder_of, kind_of};
-ghost use Rattle.pict_automaton.specs.Machine.{put_binder, step_binder, step_hash, step_binder_name, step_need_kind, kind_arrow_at, step_kind_arguments, step_kind_mark, step_kind_arrow, step_kind_result, step_binder_kind};
+ghost use Rattle.pict_automaton.specs.Machine.{put_binder, step_binder, step_hash, step_binder_name, step_need_kind, step_kind_arguments, step_kind_mark, step_kind_arrow, step_kind_result, step_binder_kind};
 ghost use Rattle.pict_parse_states.specs.View.{Gives, binder_place_of};
 
 use crate::patterns::step_binders;
@@ -133,23 +133,7 @@ pub fn step_need_kind(
     }
 }
 
-// The arrow of a kind, behind these marks: there must be one.
-fn kind_arrow_at(
-    hash: Span,
-    name: Id,
-    marks: Vec<Mark>,
-    place: Box<BinderPlace>,
-) -> Result<State, Fault>
-    ensures { Gives result (kind_arrow_at hash name marks.items (binder_place_of place.value)) }
-{
-    if marks.is_empty() {
-        Err(Fault::Unexpected)
-    } else {
-        Ok(State::KindArrow(hash, name, marks, place))
-    }
-}
-
-/// The token behind these marks of a kind: `Type` or the sign before it for a further one, or the arrow.
+/// The token behind these marks of a kind: `Type` or the sign before it for a further one, or the arrow behind at least one.
 pub fn step_kind_arguments(
     kind: &TokenKind,
     _at: Span,
@@ -179,7 +163,13 @@ pub fn step_kind_arguments(
             Mark::Minus,
             place,
         )),
-        TokenKind::Sign(Sign::Arrow) => kind_arrow_at(hash, name, marks, place),
+        TokenKind::Sign(Sign::Arrow) => {
+            if marks.is_empty() {
+                Err(Fault::Unexpected)
+            } else {
+                Ok(State::KindArrow(hash, name, marks, place))
+            }
+        }
         _ => Err(Fault::Unexpected),
     }
 }

@@ -1,7 +1,7 @@
 // What each token leads to where a declaration is read.
 
 ghost use Rattle.std.specs.Prelude.{◌≡◌};
-ghost use Rattle.pict_automaton.specs.Machine.{begin_declaration, step_new_keyword, step_new_name, step_definition_keyword, step_type_keyword, step_alias_name, step_operator_open, close_operator, step_operator_parameters, step_operator_closed};
+ghost use Rattle.pict_automaton.specs.Machine.{begin_declaration, step_new_keyword, step_new_name, step_definition_keyword, step_type_keyword, step_alias_name, step_operator_open, step_operator_parameters, step_operator_closed};
 ghost use Rattle.pict_parse_states.specs.View.{definitions_in, Gives, declaration_place_of};
 
 use pict_parse_states::{
@@ -167,22 +167,6 @@ pub fn step_operator_open(
     }
 }
 
-// The parameters of an operator end: there must be one.
-fn close_operator(
-    from: Span,
-    name: Id,
-    params: Vec<Id>,
-    place: DeclarationPlace,
-) -> Result<State, Fault>
-    ensures { Gives result (close_operator from name params.items (declaration_place_of place)) }
-{
-    if params.is_empty() {
-        Err(Fault::Unexpected)
-    } else {
-        Ok(State::OperatorClosed(from, name, params, place))
-    }
-}
-
 /// The token behind an operator or one of its parameters: a parameter, or the bracket.
 pub fn step_operator_parameters(
     kind: &TokenKind,
@@ -203,7 +187,13 @@ pub fn step_operator_parameters(
             })?;
             Ok(State::OperatorParameters(from, name, params, place))
         }
-        TokenKind::Sign(Sign::CloseParen) => close_operator(from, name, params, place),
+        TokenKind::Sign(Sign::CloseParen) => {
+            if params.is_empty() {
+                Err(Fault::Unexpected)
+            } else {
+                Ok(State::OperatorClosed(from, name, params, place))
+            }
+        }
         _ => Err(Fault::Unexpected),
     }
 }

@@ -1,16 +1,18 @@
 // Whole types are put where they stand.
 
 ghost use Rattle.std.specs.Prelude.{◌≡◌, IfOk, Some, option_map};
-ghost use Rattle.pict_syntax.specs.PlainTrees.{kind_of, type_of, annotation_of};
-ghost use Rattle.pict_automaton.specs.Places.{prefixed, in_new, in_alias, in_operator, in_bind, in_any, in_pattern_fold_type, in_fold_type, in_bound, in_type_field, in_type_label, in_type_apply, in_argument};
+ghost use Rattle.pict_syntax.specs.Phrases.{join};
+ghost use Rattle.pict_syntax.specs.Grammar.{type_span};
+ghost use Rattle.pict_syntax.specs.Trees.{new_dec, alias_dec, operator_dec, bind_pat, any_pat, type_binder, bound};
+ghost use Rattle.pict_syntax.specs.PlainTrees.{kind_of, type_of, annotation_of, pat_of, dec_of, binder_of};
+ghost use Rattle.pict_automaton.specs.Places.{prefixed};
 ghost use Rattle.pict_automaton.specs.Machine.{put_type};
-ghost use Rattle.pict_parse_states.specs.View.{types_in, binders_in, labelled_types_in, Gives, type_place_of, binder_place_of, pattern_place_of, declaration_place_of, fields_place_of, place_of, prefix_of};
+ghost use Rattle.pict_parse_states.specs.View.{Gives, type_place_of, prefix_of};
 
 use crate::binders::put_binder;
 use crate::patterns::put_pattern;
 use pict_parse_states::{
-    BinderPlace, DeclarationPlace, Fault, FieldsPlace, PatternPlace, Place, Prefix, State,
-    TypePlace, ValuePlace, put_declaration,
+    Fault, PatternPlace, Place, Prefix, State, TypePlace, ValuePlace, put_declaration,
 };
 use pict_syntax::{
     Dec, Id, KindTree, LabelledType, Pat, RType, Span, TypeBinder, TypeTree, join, type_span,
@@ -22,11 +24,12 @@ use std::alloc::{AllocError, Global};
 fn prefixed(
     alloc: Global,
     prefix: Prefix,
-    span: Span,
+    from: Span,
     tree: TypeTree,
 ) -> Result<TypeTree, AllocError>
-    ensures { IfOk result (λ t. type_of t ≡ prefixed (prefix_of prefix) span (type_of tree)) }
+    ensures { IfOk result (λ t. type_of t ≡ prefixed (prefix_of prefix) (join from (type_span (type_of tree))) (type_of tree)) }
 {
+    let span = join(from, type_span(&tree));
     let tree = Box::new(alloc, tree)?;
     match prefix {
         Prefix::Both => Ok(TypeTree::Both(span, tree)),
@@ -45,225 +48,127 @@ fn annotation(alloc: Global, tree: TypeTree) -> Result<RType, AllocError>
     })
 }
 
-// The type of a new channel.
+// The declaration of a channel of this type.
 #[tactic(auto, unfolding(pict_syntax::specs::PlainTrees::dec_of))]
-fn put_new(
-    alloc: Global,
-    from: Span,
-    id: Id,
-    tree: TypeTree,
-    place: DeclarationPlace,
-) -> Result<State, Fault>
-    ensures { Gives result (put_type (type_of tree) (in_new from id (declaration_place_of place))) }
+fn new_of(alloc: Global, from: Span, id: Id, tree: TypeTree) -> Result<Dec, AllocError>
+    ensures { IfOk result (λ d. dec_of d ≡ new_dec (join from (type_span (type_of tree))) id (type_of tree)) }
 {
     let span = join(from, type_span(&tree));
-    let tree = Box::new(alloc, tree)?;
-    put_declaration(alloc, Dec::New(span, id, tree), place)
+    Ok(Dec::New(span, id, Box::new(alloc, tree)?))
 }
 
-// The type that a name stands for.
+// The declaration of a name that stands for this type.
 #[tactic(auto, unfolding(pict_syntax::specs::PlainTrees::dec_of))]
-fn put_alias(
-    alloc: Global,
-    from: Span,
-    id: Id,
-    tree: TypeTree,
-    place: DeclarationPlace,
-) -> Result<State, Fault>
-    ensures { Gives result (put_type (type_of tree) (in_alias from id (declaration_place_of place))) }
+fn alias_of(alloc: Global, from: Span, id: Id, tree: TypeTree) -> Result<Dec, AllocError>
+    ensures { IfOk result (λ d. dec_of d ≡ alias_dec (join from (type_span (type_of tree))) id (type_of tree)) }
 {
     let span = join(from, type_span(&tree));
-    let tree = Box::new(alloc, tree)?;
-    put_declaration(alloc, Dec::Alias(span, id, tree), place)
+    Ok(Dec::Alias(span, id, Box::new(alloc, tree)?))
 }
 
-// The type that an operator stands for.
+// The declaration of an operator that stands for this type.
 #[tactic(auto, unfolding(pict_syntax::specs::PlainTrees::dec_of))]
-fn put_operator(
+fn operator_of(
     alloc: Global,
     from: Span,
     id: Id,
     params: Vec<Id>,
     tree: TypeTree,
-    place: DeclarationPlace,
-) -> Result<State, Fault>
-    ensures { Gives result (put_type (type_of tree) (in_operator from id params.items (declaration_place_of place))) }
+) -> Result<Dec, AllocError>
+    ensures { IfOk result (λ d. dec_of d ≡ operator_dec (join from (type_span (type_of tree))) id params.items (type_of tree)) }
 {
     let span = join(from, type_span(&tree));
-    let tree = Box::new(alloc, tree)?;
-    put_declaration(alloc, Dec::Operator(span, id, params, tree), place)
+    Ok(Dec::Operator(span, id, params, Box::new(alloc, tree)?))
 }
 
-// The annotation of a name.
+// The pattern of a name of this type.
 #[tactic(auto, unfolding(pict_syntax::specs::PlainTrees::pat_of))]
-fn put_bind(alloc: Global, id: Id, tree: TypeTree, place: Box<PatternPlace>) -> Result<State, Fault>
-    ensures { Gives result (put_type (type_of tree) (in_bind id (pattern_place_of place.value))) }
+fn bind_of(alloc: Global, id: Id, tree: TypeTree) -> Result<Pat, AllocError>
+    ensures { IfOk result (λ q. pat_of q ≡ bind_pat (join id.span (type_span (type_of tree))) id (Some (type_of tree))) }
 {
     let span = join(id.span, type_span(&tree));
-    let annotation = annotation(alloc, tree)?;
-    put_pattern(Pat::Bind(span, id, annotation), place)
+    Ok(Pat::Bind(span, id, annotation(alloc, tree)?))
 }
 
-// The annotation of `_`.
+// The pattern `_` of this type.
 #[tactic(auto, unfolding(pict_syntax::specs::PlainTrees::pat_of))]
-fn put_any(
-    alloc: Global,
-    from: Span,
-    tree: TypeTree,
-    place: Box<PatternPlace>,
-) -> Result<State, Fault>
-    ensures { Gives result (put_type (type_of tree) (in_any from (pattern_place_of place.value))) }
+fn any_of(alloc: Global, from: Span, tree: TypeTree) -> Result<Pat, AllocError>
+    ensures { IfOk result (λ q. pat_of q ≡ any_pat (join from (type_span (type_of tree))) (Some (type_of tree))) }
 {
     let span = join(from, type_span(&tree));
-    let annotation = annotation(alloc, tree)?;
-    put_pattern(Pat::Any(span, annotation), place)
+    Ok(Pat::Any(span, annotation(alloc, tree)?))
 }
 
-// The annotation of a fold that is a pattern.
-fn put_pat_fold(
-    alloc: Global,
-    from: Span,
-    tree: TypeTree,
-    place: Box<PatternPlace>,
-) -> Result<State, Fault>
-    ensures { Gives result (put_type (type_of tree) (in_pattern_fold_type from (pattern_place_of place.value))) }
-{
-    let annotation = annotation(alloc, tree)?;
-    let place = PatternPlace::Fold(from, annotation, place);
-    Ok(State::NeedPattern(Box::new(alloc, place)?))
-}
-
-// The annotation of a fold that is a value.
-fn put_fold(alloc: Global, from: Span, tree: TypeTree, place: Place) -> Result<State, Fault>
-    ensures { Gives result (put_type (type_of tree) (in_fold_type from (place_of place))) }
-{
-    let annotation = annotation(alloc, tree)?;
-    let place = ValuePlace::Fold(from, annotation, place);
-    Ok(State::Need(Place::Value(Box::new(alloc, place)?)))
-}
-
-// The bound of a type binder.
-fn put_bound(
+// The binder whose bound is this type.
+fn bounded(
     alloc: Global,
     hash: Span,
     id: Id,
     kind: Option<KindTree>,
     tree: TypeTree,
-    place: Box<BinderPlace>,
-) -> Result<State, Fault>
-    ensures { Gives result (put_type (type_of tree) (in_bound hash id (option_map kind_of kind) (binder_place_of place.value))) }
+) -> Result<TypeBinder, AllocError>
+    ensures { IfOk result (λ b.
+        binder_of b ≡ type_binder (join hash (type_span (type_of tree))) id (option_map kind_of kind) (bound (type_of tree))) }
 {
     let span = join(hash, type_span(&tree));
-    let tree = Box::new(alloc, tree)?;
-    put_binder(
-        TypeBinder {
-            span,
-            id,
-            kind,
-            bound: Some(tree),
-        },
-        place,
-    )
-}
-
-// A type among the fields of a record.
-#[tactic(auto, using(pict_syntax::proofs::TypeLists::type_lists))]
-fn put_field(
-    from: Span,
-    binders: Vec<TypeBinder>,
-    mut types: Vec<TypeTree>,
-    tree: TypeTree,
-    place: Box<TypePlace>,
-) -> Result<State, Fault>
-    ensures { Gives result (put_type (type_of tree) (in_type_field from (binders_in binders) (types_in types) (type_place_of place.value))) }
-{
-    types.push(tree)?;
-    Ok(State::AfterTypes(from, binders, types, place))
-}
-
-// The type of a label of a record.
-#[tactic(auto, using(pict_syntax::proofs::TypeLists::type_lists))]
-fn put_label(
-    from: Span,
-    binders: Vec<TypeBinder>,
-    types: Vec<TypeTree>,
-    mut labels: Vec<LabelledType>,
-    of: LabelledType,
-    place: Box<TypePlace>,
-) -> Result<State, Fault>
-    ensures { Gives result (put_type (type_of of.of)
-        (in_type_label from (binders_in binders) (types_in types) (labelled_types_in labels) of.label (type_place_of place.value))) }
-{
-    labels.push(of)?;
-    Ok(State::AfterTypeLabels(from, binders, types, labels, place))
-}
-
-// An argument of a type operator.
-#[tactic(auto, using(pict_syntax::proofs::TypeLists::type_lists))]
-fn put_operand(
-    from: Span,
-    id: Id,
-    mut types: Vec<TypeTree>,
-    tree: TypeTree,
-    place: Box<TypePlace>,
-) -> Result<State, Fault>
-    ensures { Gives result (put_type (type_of tree) (in_type_apply from id (types_in types) (type_place_of place.value))) }
-{
-    types.push(tree)?;
-    Ok(State::OperatorArguments(from, id, types, place))
-}
-
-// An argument of a value or of a record.
-#[tactic(auto, using(pict_syntax::proofs::TypeLists::type_lists))]
-fn put_argument(
-    place: Box<FieldsPlace>,
-    mut types: Vec<TypeTree>,
-    tree: TypeTree,
-) -> Result<State, Fault>
-    ensures { Gives result (put_type (type_of tree) (in_argument (fields_place_of place.value) (types_in types))) }
-{
-    types.push(tree)?;
-    Ok(State::AfterArguments(place, types))
+    Ok(TypeBinder {
+        span,
+        id,
+        kind,
+        bound: Some(Box::new(alloc, tree)?),
+    })
 }
 
 /// A whole type is put at its place.
+#[tactic(auto, using(pict_syntax::proofs::TypeLists::type_lists))]
 pub fn put_type(alloc: Global, place: Box<TypePlace>, tree: TypeTree) -> Result<State, Fault>
     ensures { Gives result (put_type (type_of tree) (type_place_of place.value)) }
 {
     match Box::into_inner(place) {
-        TypePlace::New(from, id, below) => put_new(alloc, from, id, tree, below),
-        TypePlace::Alias(from, id, below) => put_alias(alloc, from, id, tree, below),
-        TypePlace::Operator(from, id, params, below) => put_operator(
-            alloc, from, id, params, tree, below,
-        ),
-        TypePlace::Bind(id, below) => put_bind(alloc, id, tree, below),
-        TypePlace::Any(from, below) => put_any(alloc, from, tree, below),
+        TypePlace::New(from, id, below) => {
+            put_declaration(alloc, new_of(alloc, from, id, tree)?, below)
+        }
+        TypePlace::Alias(from, id, below) => {
+            put_declaration(alloc, alias_of(alloc, from, id, tree)?, below)
+        }
+        TypePlace::Operator(from, id, params, below) => {
+            put_declaration(alloc, operator_of(alloc, from, id, params, tree)?, below)
+        }
+        TypePlace::Bind(id, below) => put_pattern(bind_of(alloc, id, tree)?, below),
+        TypePlace::Any(from, below) => put_pattern(any_of(alloc, from, tree)?, below),
         TypePlace::Result(from, fields, below) => Ok(State::AbstractionResult(
             from, fields, tree, below,
         )),
-        TypePlace::PatternFold(from, below) => put_pat_fold(alloc, from, tree, below),
-        TypePlace::Fold(from, below) => put_fold(alloc, from, tree, below),
-        TypePlace::Bound(hash, id, kind, below) => put_bound(alloc, hash, id, kind, tree, below),
+        TypePlace::PatternFold(from, below) => {
+            let place = PatternPlace::Fold(from, annotation(alloc, tree)?, below);
+            Ok(State::NeedPattern(Box::new(alloc, place)?))
+        }
+        TypePlace::Fold(from, below) => {
+            let place = ValuePlace::Fold(from, annotation(alloc, tree)?, below);
+            Ok(State::Need(Place::Value(Box::new(alloc, place)?)))
+        }
+        TypePlace::Bound(hash, id, kind, below) => {
+            put_binder(bounded(alloc, hash, id, kind, tree)?, below)
+        }
         TypePlace::Prefix(prefix, from, below) => {
-            let span = join(from, type_span(&tree));
-            let tree = prefixed(alloc, prefix, span, tree)?;
-            put_type(alloc, below, tree)
+            put_type(alloc, below, prefixed(alloc, prefix, from, tree)?)
         }
-        TypePlace::Field(from, binders, types, below) => put_field(
-            from, binders, types, tree, below,
-        ),
-        TypePlace::Label(from, binders, types, labels, label, below) => {
-            put_label(
-                from,
-                binders,
-                types,
-                labels,
-                LabelledType { label, of: tree },
-                below,
-            )
+        TypePlace::Field(from, binders, mut types, below) => {
+            types.push(tree)?;
+            Ok(State::AfterTypes(from, binders, types, below))
         }
-        TypePlace::Apply(from, id, types, below) => put_operand(from, id, types, tree, below),
+        TypePlace::Label(from, binders, types, mut labels, label, below) => {
+            labels.push(LabelledType { label, of: tree })?;
+            Ok(State::AfterTypeLabels(from, binders, types, labels, below))
+        }
+        TypePlace::Apply(from, id, mut types, below) => {
+            types.push(tree)?;
+            Ok(State::OperatorArguments(from, id, types, below))
+        }
         TypePlace::Rec(from, id, below) => Ok(State::RecBody(from, id, tree, below)),
-        TypePlace::Argument(below, types) => put_argument(below, types, tree),
+        TypePlace::Argument(below, mut types) => {
+            types.push(tree)?;
+            Ok(State::AfterArguments(below, types))
+        }
     }
 }

@@ -2,7 +2,8 @@
 
 ghost use Rattle.std.specs.Prelude.{◌≡◌};
 ghost use Rattle.pict_syntax.specs.PlainTrees.{type_of};
-ghost use Rattle.pict_automaton.specs.Machine.{begin_type_keyword, begin_type_sign, begin_type, step_type_open, step_rec_keyword, step_rec_name, step_rec_body, close_operator_arguments, step_operator_arguments, step_types, step_type_name, step_type_labels, step_type_label, step_type_binders};
+ghost use Rattle.pict_automaton.specs.Machine.{begin_type_sign, begin_type, step_type_open, step_rec_keyword, step_rec_name, step_rec_body, step_operator_arguments, step_types, step_type_name, step_type_labels, step_type_label, step_type_binders};
+ghost use Rattle.pict_parse_types.specs.Tokens.{IsTypeOr};
 ghost use Rattle.pict_parse_states.specs.View.{types_in, binders_in, labelled_types_in, Gives, type_place_of};
 
 use crate::puts::put_type;
@@ -10,22 +11,17 @@ use pict_parse_states::{BinderPlace, Fault, Prefix, State, TypePlace};
 use pict_syntax::{Id, Keyword, LabelledType, Sign, Span, TokenKind, TypeBinder, TypeTree, join};
 use std::alloc::Global;
 
-// A type that is a word.
+// The type that a word is.
 #[tactic(auto, unfolding(pict_syntax::specs::PlainTrees::type_of))]
-fn begin_type_keyword(
-    alloc: Global,
-    word: Keyword,
-    at: Span,
-    place: Box<TypePlace>,
-) -> Result<State, Fault>
-    ensures { Gives result (begin_type_keyword word at (type_place_of place.value)) }
+fn word_type(word: Keyword, at: Span) -> Result<TypeTree, Fault>
+    ensures { IsTypeOr word at result }
 {
     match word {
-        Keyword::TopType => put_type(alloc, place, TypeTree::Top(at)),
-        Keyword::IntType => put_type(alloc, place, TypeTree::Int(at)),
-        Keyword::CharType => put_type(alloc, place, TypeTree::Char(at)),
-        Keyword::StringType => put_type(alloc, place, TypeTree::String(at)),
-        Keyword::BoolType => put_type(alloc, place, TypeTree::Bool(at)),
+        Keyword::TopType => Ok(TypeTree::Top(at)),
+        Keyword::IntType => Ok(TypeTree::Int(at)),
+        Keyword::CharType => Ok(TypeTree::Char(at)),
+        Keyword::StringType => Ok(TypeTree::String(at)),
+        Keyword::BoolType => Ok(TypeTree::Bool(at)),
         _ => Err(Fault::Unexpected),
     }
 }
@@ -74,7 +70,7 @@ pub fn begin_type(
     ensures { Gives result (begin_type kind.now at (type_place_of place.value)) }
 {
     match kind {
-        TokenKind::Keyword(word) => begin_type_keyword(alloc, *word, at, place),
+        TokenKind::Keyword(word) => put_type(alloc, place, word_type(*word, at)?),
         TokenKind::Sign(sign) => begin_type_sign(alloc, *sign, at, place),
         TokenKind::Identifier(name) => put_type(alloc, place, TypeTree::Use(at, *name)),
         _ => Err(Fault::Unexpected),
@@ -169,25 +165,7 @@ pub fn step_rec_body(
     }
 }
 
-// The arguments of an applied type end: there must be one.
-fn close_operator_arguments(
-    alloc: Global,
-    at: Span,
-    from: Span,
-    id: Id,
-    types: Vec<TypeTree>,
-    place: Box<TypePlace>,
-) -> Result<State, Fault>
-    ensures { Gives result (close_operator_arguments at from id (types_in types) (type_place_of place.value)) }
-{
-    if types.is_empty() {
-        Err(Fault::Unexpected)
-    } else {
-        put_type(alloc, place, TypeTree::Apply(join(from, at), id, types))
-    }
-}
-
-/// The token behind the operator of an applied type, or behind one of its arguments.
+/// The token behind the operator of an applied type, or behind one of its arguments: `)` behind at least one, or a further one.
 pub fn step_operator_arguments(
     alloc: Global,
     kind: &TokenKind,
@@ -200,9 +178,13 @@ pub fn step_operator_arguments(
     ensures { Gives result (step_operator_arguments kind.now at from id (types_in types) (type_place_of place.value)) }
 {
     match kind {
-        TokenKind::Sign(Sign::CloseParen) => close_operator_arguments(
-            alloc, at, from, id, types, place,
-        ),
+        TokenKind::Sign(Sign::CloseParen) => {
+            if types.is_empty() {
+                Err(Fault::Unexpected)
+            } else {
+                put_type(alloc, place, TypeTree::Apply(join(from, at), id, types))
+            }
+        }
         _ => {
             let place = Box::new(alloc, TypePlace::Apply(from, id, types, place))?;
             begin_type(alloc, kind, at, place)
