@@ -13,7 +13,7 @@ use Rattle.pict_queue.specs.Contents.{contents}
 use Rattle.pict_region.specs.RegionState.{KeepsBlocks}
 use Rattle.pict_blocks.specs.Blocks.{process_of}
 use Rattle.pict_desk.specs.Known.{value_in}
-use Rattle.pict_blocks.specs.Framed.{frame_words}
+use Rattle.pict_blocks.specs.Framed.{gathered}
 use Rattle.pict_turns.specs.Acting.{IsStore}
 use Rattle.pict_turns.specs.Cost.{instruction_size, block_size, partner_size, input_size, output_size, cost_of, first_cost}
 use Rattle.pict_blocks.specs.Parts.{block_width}
@@ -103,7 +103,7 @@ frame_low : (all : List Node) (o : Option Node) → ((n : Node) → o ≡ Some n
 frame_low all None f = omega arith
 frame_low all (Some n) f = let le = f n refl in omega (arith, le)
 
-words_length : (values : List (ℕ × ℕ)) (levels : List ℕ) → length (frame_words values levels) ≡ 2 * length levels
+words_length : (values : List (ℕ × ℕ)) (levels : List ℕ) → length (gathered values levels) ≡ 2 * length levels
 words_length values [] = refl
 words_length values (l ∷ ls) = let e = words_length values ls in omega (arith, e)
 

@@ -14,7 +14,7 @@ use Rattle.pict_heap.specs.HeapState.{HeapState, value_of, KeepsWords, LosesNoRo
 use Rattle.pict_heap.specs.Packed.{packed, FitsWord}
 use Rattle.pict_heap.proofs.Rooms.{room_stays, room_kept}
 use Rattle.pict_region.specs.RegionState.{RegionState, spare, KeepsOtherWidths}
-use Rattle.pict_region.proofs.Pairs.{length_frame_words}
+use Rattle.pict_region.proofs.Pairs.{length_gathered}
 use Rattle.pict_queue.specs.QueuesState.{QueuesState, IsQueue}
 use Rattle.pict_queue.specs.Contents.{contents, KeepsOtherContents, HoldsNoMore}
 use Rattle.pict_view.specs.Moved.{Moves}
@@ -22,7 +22,7 @@ use Rattle.pict_view.specs.Placed.{next_view}
 use Rattle.pict_view.specs.View.{View}
 use Rattle.pict_view.proofs.Rows.{primitive_answers}
 use Rattle.pict_blocks.specs.Blocks.{process_of, view_of_contents, IsNodeBlock}
-use Rattle.pict_blocks.specs.Framed.{frame_words, node_words}
+use Rattle.pict_blocks.specs.Framed.{gathered, node_words}
 use Rattle.pict_blocks.specs.Holding.{HoldsFrame}
 use Rattle.pict_blocks.specs.Keeping.{kept_words}
 use Rattle.pict_blocks.specs.Laws.{BlocksStep}
@@ -216,7 +216,7 @@ module _ (core : Process) (closed : IsClosed core) (s c n : Store) (number chann
   keeps : KeepsWords s.desk.heap n.desk.heap
   keeps = subst (KeepsWords s.desk.heap) (sym heap) (keeps_all s.desk.heap)
 
-  reader_holds : HoldsFrame h (known h v1) b.waits.narrow.node.frame (frame_words v1 b.waits.narrow.node.frame)
+  reader_holds : HoldsFrame h (known h v1) b.waits.narrow.node.frame (gathered v1 b.waits.narrow.node.frame)
   reader_holds = narrow_holds h v1 b.waits.narrow.node.frame pairs1 b.waits.narrow.narrow
 
   blocks_left : AreBlocks core n
@@ -224,7 +224,7 @@ module _ (core : Process) (closed : IsClosed core) (s c n : Store) (number chann
       (λ (at : queue ≡ channel + 1).
       subst (λ (q : ℕ). AllByRecursion (IsBlock core n.desk.heap) (contents q2 q)) (sym at)
       (subst (AllByRecursion (IsBlock core n.desk.heap)) (sym alone)
-      (block_stays h n.desk.heap keeps core reader_words (made_block core h (known h v1) call.reader b.waits.narrow.node (frame_words v1 b.waits.narrow.node.frame) b.waits.narrow.at reader_holds), tt)))
+      (block_stays h n.desk.heap keeps core reader_words (made_block core h (known h v1) call.reader b.waits.narrow.node (gathered v1 b.waits.narrow.node.frame) b.waits.narrow.at reader_holds), tt)))
       (λ (apart : queue ≢ channel + 1).
       subst (AllByRecursion (IsBlock core n.desk.heap)) (sym (rest queue apart ∙ added.contents queue)) (blocks_stay h n.desk.heap keeps core (contents q0 queue) (store.blocks queue)))
       (cases_eq queue (channel + 1))
@@ -253,7 +253,7 @@ module _ (core : Process) (closed : IsClosed core) (s c n : Store) (number chann
 
   part_wide : length part_words + 1 ≡ block_width b.part.node.frame
   part_wide =
-      let many_words = length_frame_words v2 b.part.node.frame in
+      let many_words = length_gathered v2 b.part.node.frame in
       let wide = width_narrow b.part.node.frame b.part.narrow in
       omega (arith, many_words, wide)
 

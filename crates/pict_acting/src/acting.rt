@@ -10,7 +10,7 @@ use crate::outputs::{output, output_kept};
 use pict_code::{Node, Op};
 use pict_heap::Word;
 use pict_meetings::input;
-use pict_turns::{PackedEvent, Store, Turn, choose, end, fork, make_channel};
+use pict_turns::{Shown, Store, Turn, choose, end, fork, make_channel};
 use std::alloc::AllocError;
 
 /// The step of who has the turn, with its oldest partner.
@@ -32,7 +32,7 @@ pub fn act<C>(
     code: &[Node],
     constants: &[Option<Word>],
     store: &mut Store,
-) -> Result<PackedEvent, AllocError>
+) -> Result<Shown, AllocError>
     requires may { MayAct code.now store.old }
     requires constants { AreConstants store.old.desk.heap (map plain_node code.now) constants.now }
     ensures steps { StepsBy code.now store.old store.new result }
@@ -52,7 +52,7 @@ fn act_by<C>(
     store: &mut Store,
     op: &Op,
     constant: &Option<Word>,
-) -> Result<PackedEvent, AllocError>
+) -> Result<Shown, AllocError>
     requires may { MayAct code.now store.old }
     requires acts { ActsBy (core_in code.now) store.old (plain_op op.now) }
     requires constant { IsConstantFor store.old.desk.heap (plain_op op.now) constant.now }

@@ -13,16 +13,12 @@ use pict_desk::{Kept, channel_at_hand, channel_of, primitive_at_hand};
 use pict_heap::Word;
 use pict_meetings::{send, send_kept};
 use pict_syntax::Span;
-use pict_turns::{PackedEvent, Store, Turn};
+use pict_turns::{Shown, Store, Turn};
 use std::alloc::AllocError;
 
 // The step of an output of these kept values, which has the turn.
 #[inline(always)]
-pub(crate) fn output_kept(
-    code: &[Node],
-    store: &mut Store,
-    kept: Kept,
-) -> Result<PackedEvent, AllocError>
+pub(crate) fn output_kept(code: &[Node], store: &mut Store, kept: Kept) -> Result<Shown, AllocError>
     requires may { MayAct code.now store.old }
     requires kept { store.old.turn ≡ Turn.Output kept }
     ensures steps { StepsBy code.now store.old store.new result }
@@ -42,7 +38,7 @@ pub(crate) fn output(
     message: &Operand,
     constant: &Option<Word>,
     at: Span,
-) -> Result<PackedEvent, AllocError>
+) -> Result<Shown, AllocError>
     requires may { MayAct code.now store.old }
     requires acts { ActsBy (core_in code.now) store.old (op.Out (plain_val chan.now) (plain_val message.now) at) }
     requires constant { IsConstant store.old.desk.heap (plain_val message.now) constant.now }

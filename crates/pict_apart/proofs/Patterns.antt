@@ -13,7 +13,7 @@ use Rattle.pict_scope.specs.Marks.{first_stop}
 use Rattle.pict_scope.specs.Outlines.{Outline, ◌▸◌, closed, pattern_value, group, once, opens, marks, twice_if_bound}
 use Rattle.pict_scope.specs.Forms.{in_annotation, in_pattern_binder, in_pattern_binders, in_pat, in_field_pats, in_pats, in_labelled_pats}
 use Rattle.pict_scope.proofs.Clean.{left_clean}
-use Rattle.pict_translation.specs.Patterns.{Opened, opened, all_opened, labelled_opened, patterns_in, labelled_patterns_in, names_in, labelled_names_in, record_pat}
+use Rattle.pict_translation.specs.Patterns.{Opened, opened, all_opened, labelled_opened, patterns_in, labelled_patterns_in, names_opened, labelled_names_in, record_pat}
 use Rattle.pict_apart.specs.Apart.{apart_pat, apart_fields, apart_pats, apart_labelled_pats}
 use Rattle.pict_apart.proofs.Looking.{Opens, opens_none, opens_one, opens_both, opens_as, at_one, past_one, tested, some, among_both}
 use Rattle.pict_rules.proofs.Kept.{pattern_keeps_annotation, pattern_keeps_bound}
@@ -83,9 +83,9 @@ or_false false = refl
 pub ordered_among : (names : List (List ℕ)) (fs : labelled) (n : ℕ) → is_among (labelled_names_in (in_label_order names fs)) n ≡ is_among (labelled_names_in fs) n
 ordered_among names fs n = all_put_among names [] fs n ∙ or_false (is_among (labelled_names_in fs) n)
 
-names_last : (ps : List Opened) (p : Opened) → names_in (ps ++ p ∷ []) ≡ names_in ps ++ p.names
+names_last : (ps : List Opened) (p : Opened) → names_opened (ps ++ p ∷ []) ≡ names_opened ps ++ p.names
 names_last [] p = append-nil p.names
-names_last (q ∷ ps) p = ap (λ ns. q.names ++ ns) (names_last ps p) ∙ sym (append_assoc q.names (names_in ps) p.names)
+names_last (q ∷ ps) p = ap (λ ns. q.names ++ ns) (names_last ps p) ∙ sym (append_assoc q.names (names_opened ps) p.names)
 
 labelled_last : (fs : labelled) (f : ℕ × Opened) → labelled_names_in (fs ++ f ∷ []) ≡ labelled_names_in fs ++ f.1.names
 labelled_last [] f = append-nil f.1.names
@@ -151,13 +151,13 @@ pub labelled_clean : (bs : TypeBinders) (ps : Pats) (ls : LabelledPats) (c : Aro
 labelled_clean bs ps ls c h = group_clean _ _ (second_clean (in_pats ps) (group (in_labelled_pats ls)) _ (second_clean (in_pattern_binders bs) (in_pats ps ▸ group (in_labelled_pats ls)) c h))
 
 fields_pieces : (names : List (List ℕ)) (bs : TypeBinders) (ps : Pats) (ls : LabelledPats) (c : Around)
-    → Pieces (names_in (all_opened names ps)) (opens (in_pattern_binders bs) c) (opens (in_pats ps) (opens (in_pattern_binders bs) c))
+    → Pieces (names_opened (all_opened names ps)) (opens (in_pattern_binders bs) c) (opens (in_pats ps) (opens (in_pattern_binders bs) c))
     → Pieces (labelled_names_in (labelled_opened names ls)) (with_group [] (opens (in_pats ps) (opens (in_pattern_binders bs) c))) (opens (in_labelled_pats ls) (with_group [] (opens (in_pats ps) (opens (in_pattern_binders bs) c))))
-    → Pieces (names_in (all_opened names ps) ++ labelled_names_in (in_label_order names (labelled_opened names ls))) c (opens (in_field_pats (field_pats bs ps ls)) c)
+    → Pieces (names_opened (all_opened names ps) ++ labelled_names_in (in_label_order names (labelled_opened names ls))) c (opens (in_field_pats (field_pats bs ps ls)) c)
 fields_pieces names bs ps ls c h k =
     let b = opens (in_pattern_binders bs) c in
-    then_opens (in_pattern_binders bs) (in_pats ps ▸ group (in_labelled_pats ls)) [] (names_in (all_opened names ps) ++ labelled_names_in (in_label_order names (labelled_opened names ls))) c (binders_open bs c)
-    (then_opens (in_pats ps) (group (in_labelled_pats ls)) (names_in (all_opened names ps)) (labelled_names_in (in_label_order names (labelled_opened names ls))) b h
+    then_opens (in_pattern_binders bs) (in_pats ps ▸ group (in_labelled_pats ls)) [] (names_opened (all_opened names ps) ++ labelled_names_in (in_label_order names (labelled_opened names ls))) c (binders_open bs c)
+    (then_opens (in_pats ps) (group (in_labelled_pats ls)) (names_opened (all_opened names ps)) (labelled_names_in (in_label_order names (labelled_opened names ls))) b h
     (group_opens (in_labelled_pats ls) (opens (in_pats ps) b)
     (pieces_as (labelled_names_in (labelled_opened names ls)) (labelled_names_in (in_label_order names (labelled_opened names ls))) (ordered_among names (labelled_opened names ls)) k)))
 
@@ -172,11 +172,11 @@ mutual
       closed_opens (in_field_pats (field_pats bs ps ls)) c (fields_pieces names bs ps ls c (pats_open names ps _ (pats_clean bs ps ls c q)) (labelled_open names ls _ (labelled_clean bs ps ls c q)))
   pat_opens names (fold_pat s r p) c h = then_opens (in_annotation r) (in_pat p) [] (opened names p).names c (annotation_opens r c) (pat_opens names p _ (second_clean (in_annotation r) (in_pat p) c h))
 
-  pats_open : (names : List (List ℕ)) (ps : Pats) (c : Around) → Clean (in_pats ps) c → Pieces (names_in (all_opened names ps)) c (opens (in_pats ps) c)
+  pats_open : (names : List (List ℕ)) (ps : Pats) (c : Around) → Clean (in_pats ps) c → Pieces (names_opened (all_opened names ps)) c (opens (in_pats ps) c)
   pats_open names no_pats c h = no_piece c c refl (omega arith)
   pats_open names (more_pats ps p) c h =
       subst (λ ns. Pieces ns c (opens (in_pats ps ▸ in_pat p) c)) (sym (names_last (all_opened names ps) (opened names p)))
-      (then_opens (in_pats ps) (in_pat p) (names_in (all_opened names ps)) (opened names p).names c (pats_open names ps c (first_clean (in_pats ps) (in_pat p) c h)) (pat_opens names p _ (second_clean (in_pats ps) (in_pat p) c h)))
+      (then_opens (in_pats ps) (in_pat p) (names_opened (all_opened names ps)) (opened names p).names c (pats_open names ps c (first_clean (in_pats ps) (in_pat p) c h)) (pat_opens names p _ (second_clean (in_pats ps) (in_pat p) c h)))
 
   labelled_open : (names : List (List ℕ)) (ls : LabelledPats) (c : Around) → Clean (in_labelled_pats ls) c → Pieces (labelled_names_in (labelled_opened names ls)) c (opens (in_labelled_pats ls) c)
   labelled_open names no_labelled_pats c h = no_piece c c refl (omega arith)
@@ -188,7 +188,7 @@ mutual
       (then_opens (once S4 l) (in_pat p) [] (opened names p).names b (once_opens l b) (pat_opens names p _ (second_clean (once S4 l) (in_pat p) b k))))
 
 pub fields_open : (names : List (List ℕ)) (bs : TypeBinders) (ps : Pats) (ls : LabelledPats) (c : Around) → Clean (in_field_pats (field_pats bs ps ls)) c
-    → Pieces (names_in (all_opened names ps) ++ labelled_names_in (in_label_order names (labelled_opened names ls))) c (opens (in_field_pats (field_pats bs ps ls)) c)
+    → Pieces (names_opened (all_opened names ps) ++ labelled_names_in (in_label_order names (labelled_opened names ls))) c (opens (in_field_pats (field_pats bs ps ls)) c)
 fields_open names bs ps ls c h = fields_pieces names bs ps ls c (pats_open names ps _ (pats_clean bs ps ls c h)) (labelled_open names ls _ (labelled_clean bs ps ls c h))
 
 -- the same pattern under other names
@@ -206,9 +206,9 @@ pub same_labelled : (h : ℕ → ℕ) (fs : labelled) → labelled_patterns_in (
 same_labelled h [] = refl
 same_labelled h (f ∷ fs) = ap (λ x. core.more_labelled_pats f.0 f.1.pattern x) (same_labelled h fs)
 
-pub all_names : (h : ℕ → ℕ) (ps : List Opened) → names_in (map (renamed_opened h) ps) ≡ map h (names_in ps)
+pub all_names : (h : ℕ → ℕ) (ps : List Opened) → names_opened (map (renamed_opened h) ps) ≡ map h (names_opened ps)
 all_names h [] = refl
-all_names h (p ∷ ps) = ap (λ x. map h p.names ++ x) (all_names h ps) ∙ sym (map-append h p.names (names_in ps))
+all_names h (p ∷ ps) = ap (λ x. map h p.names ++ x) (all_names h ps) ∙ sym (map-append h p.names (names_opened ps))
 
 pub labelled_names : (h : ℕ → ℕ) (fs : labelled) → labelled_names_in (map (renamed_field h) fs) ≡ map h (labelled_names_in fs)
 labelled_names h [] = refl
@@ -244,25 +244,25 @@ told_pats names base h bs ps ls c k t = told_before (labelled_names_in (labelled
 
 -- fields that are renamed, put in order
 abbrev fields_opened : List (List ℕ) → List Opened → labelled → Opened
-fields_opened names ps fs = record { pattern = record_pat ps (in_label_order names fs); names = names_in ps ++ labelled_names_in (in_label_order names fs) }
+fields_opened names ps fs = record { pattern = record_pat ps (in_label_order names fs); names = names_opened ps ++ labelled_names_in (in_label_order names fs) }
 
 pub both_renamed : (names : List (List ℕ)) (h : ℕ → ℕ) (ps qs : List Opened) (fs gs : labelled) → qs ≡ map (renamed_opened h) ps → gs ≡ map (renamed_field h) fs → fields_opened names qs gs ≡ renamed_opened h (fields_opened names ps fs)
 both_renamed names h ps qs fs gs i j =
     ap (λ x. fields_opened names x gs) i
     ∙ (ap (fields_opened names (map (renamed_opened h) ps)) j
     ∙ (ap (λ x. in_order (map (renamed_opened h) ps) x) (order_renamed names h fs)
-    ∙ (ap (λ x. record { pattern = core.RecordPat x (labelled_patterns_in (map (renamed_field h) (in_label_order names fs))); names = names_in (map (renamed_opened h) ps) ++ labelled_names_in (map (renamed_field h) (in_label_order names fs)) }) (same_patterns h ps)
-    ∙ (ap (λ x. record { pattern = core.RecordPat (patterns_in ps) x; names = names_in (map (renamed_opened h) ps) ++ labelled_names_in (map (renamed_field h) (in_label_order names fs)) }) (same_labelled h (in_label_order names fs))
+    ∙ (ap (λ x. record { pattern = core.RecordPat x (labelled_patterns_in (map (renamed_field h) (in_label_order names fs))); names = names_opened (map (renamed_opened h) ps) ++ labelled_names_in (map (renamed_field h) (in_label_order names fs)) }) (same_patterns h ps)
+    ∙ (ap (λ x. record { pattern = core.RecordPat (patterns_in ps) x; names = names_opened (map (renamed_opened h) ps) ++ labelled_names_in (map (renamed_field h) (in_label_order names fs)) }) (same_labelled h (in_label_order names fs))
     ∙ ap (λ x. record { pattern = record_pat ps (in_label_order names fs); names = x }) same_names))))
   where
     in_order : List Opened → labelled → Opened
-    in_order xs ys = record { pattern = record_pat xs ys; names = names_in xs ++ labelled_names_in ys }
+    in_order xs ys = record { pattern = record_pat xs ys; names = names_opened xs ++ labelled_names_in ys }
 
-    same_names : names_in (map (renamed_opened h) ps) ++ labelled_names_in (map (renamed_field h) (in_label_order names fs)) ≡ map h (names_in ps ++ labelled_names_in (in_label_order names fs))
+    same_names : names_opened (map (renamed_opened h) ps) ++ labelled_names_in (map (renamed_field h) (in_label_order names fs)) ≡ map h (names_opened ps ++ labelled_names_in (in_label_order names fs))
     same_names =
         ap (λ x. x ++ labelled_names_in (map (renamed_field h) (in_label_order names fs))) (all_names h ps)
-        ∙ (ap (λ x. map h (names_in ps) ++ x) (labelled_names h (in_label_order names fs))
-        ∙ sym (map-append h (names_in ps) (labelled_names_in (in_label_order names fs))))
+        ∙ (ap (λ x. map h (names_opened ps) ++ x) (labelled_names h (in_label_order names fs))
+        ∙ sym (map-append h (names_opened ps) (labelled_names_in (in_label_order names fs))))
 
 mutual
   unfolding opens opened all_opened labelled_opened apart_pat apart_fields apart_pats apart_labelled_pats

@@ -18,8 +18,8 @@ use Rattle.pict_scope.specs.Scopes.{outermost}
 use Rattle.pict_scope.proofs.Clean.{left_clean, right_clean}
 use Rattle.pict_translation.specs.Placed.{Placed, inert, beside, new_channel, output, variables, input, choice, new_channels, side_by_side, served}
 use Rattle.pict_translation.specs.Arguments.{argument, with_value as with_one, sent_as_one, right, left}
-use Rattle.pict_translation.specs.Patterns.{Opened, opened, all_opened, labelled_opened, patterns_in, labelled_patterns_in, names_in, labelled_names_in, record_pat, pat_core, pat_names, answer}
-use Rattle.pict_translation.specs.Simple.{Around as Place, binding, bound, nothing, use_of, fields_of, one_more, simple, simple_chan, simple_fields, simple_vals, simple_labelled}
+use Rattle.pict_translation.specs.Patterns.{Opened, opened, all_opened, labelled_opened, patterns_in, labelled_patterns_in, names_opened, labelled_names_in, record_pat, pat_core, pat_names, answer}
+use Rattle.pict_translation.specs.Simple.{Around as Place, binding, bound, nothing, use_of, record_of_fields, one_more, simple, simple_chan, simple_fields, simple_vals, simple_labelled}
 use Rattle.pict_translation.specs.Translation.{unit_pat, definition_names, sending, sending_chan, with_vals, with_labelled, with_fields, arguments, reader, dec_core, decs_core, servers, proc_core, procs_core}
 use Rattle.pict_translation.proofs.PatternLemmas.{pattern_agrees, function_agrees}
 use Rattle.pict_apart.specs.Laws.{ApartIsSame}
@@ -94,8 +94,8 @@ mutual
       let q = second_clean (in_types ts) (in_vals vs ▸ group (in_labelled_vals ls)) a k in
       let i = simple_vals_same vs x (first_clean (in_vals vs) (group (in_labelled_vals ls)) b q) in
       let j = simple_labelled_same ls (grouped (past (in_vals vs) (keeps_vals vs) x)) (group_clean (in_labelled_vals ls) _ (second_clean (in_vals vs) (group (in_labelled_vals ls)) b q)) in
-      ap (λ z. option_and_then (λ us. option_map (fields_of (place names d) us) (simple_labelled (place names d) (apart_labelled_vals base c ls))) z) i
-      ∙ ap (λ z. option_and_then (λ us. option_map (fields_of (place names e) us) z) (simple_vals (place names e) vs)) j
+      ap (λ z. option_and_then (λ us. option_map (record_of_fields (place names d) us) (simple_labelled (place names d) (apart_labelled_vals base c ls))) z) i
+      ∙ ap (λ z. option_and_then (λ us. option_map (record_of_fields (place names e) us) z) (simple_vals (place names e) vs)) j
 
   simple_vals_same : {base : ℕ} {names : List (List ℕ)} {a : Around} {e d : Values} (vs : Vals) → Alike base names a e d → Clean (in_vals vs) a → simple_vals (place names d) (apart_vals base a vs) ≡ simple_vals (place names e) vs
   simple_vals_same no_vals h k = refl
@@ -201,19 +201,19 @@ function_alike {base = base} {a = a} {e = e} {d = d} o ns ms vs x y l =
     in_scope (ns ++ ms) o empty h keeps_empty x y (new_told base bs) (binds_both ns ms h t i j)
 
 function_renamed : {base : ℕ} {names : List (List ℕ)} {a : Around} {e d : Values} (x : core.Val) (r : Bool) (o : Outline) (ps : List Opened) (fs : List (ℕ × Opened)) (f g : Place → core.Val → Placed) → Alike base names a e d
-    → Opens (names_in ps ++ labelled_names_in fs) [] (opens o (before_pattern a)).pattern_values a.next_value (opens o (before_pattern a)).next_value
-    → count_bound (record_pat (ps ++ answer ∷ []) fs) ≡ length (names_in ps) + suc (length (labelled_names_in fs))
+    → Opens (names_opened ps ++ labelled_names_in fs) [] (opens o (before_pattern a)).pattern_values a.next_value (opens o (before_pattern a)).next_value
+    → count_bound (record_pat (ps ++ answer ∷ []) fs) ≡ length (names_opened ps) + suc (length (labelled_names_in fs))
     → ((e' d' : Values) (k : core.Val) → Alike base names (opens (pattern o empty) a) e' d' → f (place names d') k ≡ g (place names e') k)
     → let h = new_of base (opens o (before_pattern a)).pattern_values in
-    function_at names x r f d (record_pat (map (renamed_opened h) ps ++ answer ∷ []) (map (renamed_field h) fs)) (names_in (map (renamed_opened h) ps)) (labelled_names_in (map (renamed_field h) fs)) (length (names_in (map (renamed_opened h) ps)))
-    ≡ function_at names x r g e (record_pat (ps ++ answer ∷ []) fs) (names_in ps) (labelled_names_in fs) (length (names_in ps))
+    function_at names x r f d (record_pat (map (renamed_opened h) ps ++ answer ∷ []) (map (renamed_field h) fs)) (names_opened (map (renamed_opened h) ps)) (labelled_names_in (map (renamed_field h) fs)) (length (names_opened (map (renamed_opened h) ps)))
+    ≡ function_at names x r g e (record_pat (ps ++ answer ∷ []) fs) (names_opened ps) (labelled_names_in fs) (length (names_opened ps))
 unfolding function_at
 function_renamed {base = base} {names = names} {a = a} {e = e} {d = d} x r o ps fs f g al y c same =
     let h = new_of base (opens o (before_pattern a)).pattern_values in
-    let ns = names_in ps in
+    let ns = names_opened ps in
     let ms = labelled_names_in fs in
     let p = record_pat (ps ++ answer ∷ []) fs in
-    ap (λ z. function_at names x r f d z (names_in (map (renamed_opened h) ps)) (labelled_names_in (map (renamed_field h) fs)) (length (names_in (map (renamed_opened h) ps)))) (function_pattern_same h ps fs)
+    ap (λ z. function_at names x r f d z (names_opened (map (renamed_opened h) ps)) (labelled_names_in (map (renamed_field h) fs)) (length (names_opened (map (renamed_opened h) ps)))) (function_pattern_same h ps fs)
     ∙ (ap (λ z. function_at names x r f d p z (labelled_names_in (map (renamed_field h) fs)) (length z)) (all_names h ps)
     ∙ (ap (λ z. function_at names x r f d p (map h ns) z (length (map h ns))) (labelled_names h fs)
     ∙ (ap (λ z. function_at names x r f d p (map h ns) (map h ms) z) (length-map ns h)
@@ -221,11 +221,11 @@ function_renamed {base = base} {names = names} {a = a} {e = e} {d = d} x r o ps 
 
 -- the fields of a function, and its result type
 fields_opened : (names : List (List ℕ)) (bs : TypeBinders) (ps : Pats) (ls : LabelledPats) (r : RType) (a : Around) → Clean (in_field_pats (field_pats bs ps ls)) (before_pattern a)
-    → Opens (names_in (all_opened names ps) ++ labelled_names_in (in_label_order names (labelled_opened names ls))) [] (opens (in_field_pats (field_pats bs ps ls) ▸ in_annotation r) (before_pattern a)).pattern_values a.next_value (opens (in_field_pats (field_pats bs ps ls) ▸ in_annotation r) (before_pattern a)).next_value
+    → Opens (names_opened (all_opened names ps) ++ labelled_names_in (in_label_order names (labelled_opened names ls))) [] (opens (in_field_pats (field_pats bs ps ls) ▸ in_annotation r) (before_pattern a)).pattern_values a.next_value (opens (in_field_pats (field_pats bs ps ls) ▸ in_annotation r) (before_pattern a)).next_value
 unfolding opens
 fields_opened names bs ps ls r a c =
     let b = opens (in_field_pats (field_pats bs ps ls)) (before_pattern a) in
-    opens_on (names_in (all_opened names ps) ++ labelled_names_in (in_label_order names (labelled_opened names ls))) ((pattern_keeps_annotation r).values b) (counts_up (in_annotation r) b) (fields_open names bs ps ls (before_pattern a) c).opens_
+    opens_on (names_opened (all_opened names ps) ++ labelled_names_in (in_label_order names (labelled_opened names ls))) ((pattern_keeps_annotation r).values b) (counts_up (in_annotation r) b) (fields_open names bs ps ls (before_pattern a) c).opens_
 
 fields_told : (base : ℕ) (f : FieldPats) (r : RType) (a : Around) → Told base (new_of base (opens (in_field_pats f ▸ in_annotation r) (before_pattern a)).pattern_values) (opens (in_field_pats f) (before_pattern a))
 unfolding opens
@@ -244,8 +244,8 @@ reader_of_function : {base : ℕ} {names : List (List ℕ)} {a : Around} {e d : 
     let gs = in_label_order names (labelled_opened names (apart_labelled_pats base (with_group [] (opens (in_pats ps) b)) ls)) in
     let os = all_opened names ps in
     let fs = in_label_order names (labelled_opened names ls) in
-    function_at names x q f d (record_pat (qs ++ answer ∷ []) gs) (names_in qs) (labelled_names_in gs) (length (names_in qs))
-    ≡ function_at names x q g e (record_pat (os ++ answer ∷ []) fs) (names_in os) (labelled_names_in fs) (length (names_in os))
+    function_at names x q f d (record_pat (qs ++ answer ∷ []) gs) (names_opened qs) (labelled_names_in gs) (length (names_opened qs))
+    ≡ function_at names x q g e (record_pat (os ++ answer ∷ []) fs) (names_opened os) (labelled_names_in fs) (length (names_opened os))
 reader_of_function {base = base} {names = names} {a = a} {e = e} {d = d} x q bs ps ls r f g al c same =
     let o = in_field_pats (field_pats bs ps ls) ▸ in_annotation r in
     let h = new_of base (opens o (before_pattern a)).pattern_values in
@@ -255,14 +255,14 @@ reader_of_function {base = base} {names = names} {a = a} {e = e} {d = d} x q bs 
     let j = labelled_renamed names base h ls (with_group [] (opens (in_pats ps) b)) (labelled_clean bs ps ls (before_pattern a) c) (group_told base h bs ps ls (before_pattern a) t) in
     let gs = in_label_order names (labelled_opened names (apart_labelled_pats base (with_group [] (opens (in_pats ps) b)) ls)) in
     let k : gs ≡ map (renamed_field h) (in_label_order names (labelled_opened names ls)) = ap (in_label_order names) j ∙ order_renamed names h (labelled_opened names ls) in
-    ap (λ z. function_at names x q f d (record_pat (z ++ answer ∷ []) gs) (names_in z) (labelled_names_in gs) (length (names_in z))) i
-    ∙ (ap (λ z. function_at names x q f d (record_pat (map (renamed_opened h) (all_opened names ps) ++ answer ∷ []) z) (names_in (map (renamed_opened h) (all_opened names ps))) (labelled_names_in z) (length (names_in (map (renamed_opened h) (all_opened names ps))))) k
+    ap (λ z. function_at names x q f d (record_pat (z ++ answer ∷ []) gs) (names_opened z) (labelled_names_in gs) (length (names_opened z))) i
+    ∙ (ap (λ z. function_at names x q f d (record_pat (map (renamed_opened h) (all_opened names ps) ++ answer ∷ []) z) (names_opened (map (renamed_opened h) (all_opened names ps))) (labelled_names_in z) (length (names_opened (map (renamed_opened h) (all_opened names ps))))) k
     ∙ function_renamed x q o (all_opened names ps) (in_label_order names (labelled_opened names ls)) f g al (fields_opened names bs ps ls r a c) (function_agrees names (field_pats bs ps ls)) same)
 
 reader_is : (names : List (List ℕ)) (e : Values) (s : Span) (bs : TypeBinders) (ps : Pats) (ls : LabelledPats) (t : RType) (v : Val) (x : core.Val) (q : Bool)
     → let os = all_opened names ps in
     let fs = in_label_order names (labelled_opened names ls) in
-    reader (place names e) (function_abs s (field_pats bs ps ls) t v) x q ≡ function_at names x q (λ o u. sending o v u) e (record_pat (os ++ answer ∷ []) fs) (names_in os) (labelled_names_in fs) (length (names_in os))
+    reader (place names e) (function_abs s (field_pats bs ps ls) t v) x q ≡ function_at names x q (λ o u. sending o v u) e (record_pat (os ++ answer ∷ []) fs) (names_opened os) (labelled_names_in fs) (length (names_opened os))
 unfolding reader function_at
 reader_is names e s bs ps ls t v x q = refl
 
@@ -327,7 +327,7 @@ mutual
   sending_same (string_val s b) h k = refl
   sending_same (true_val s) h k = refl
   sending_same (false_val s) h k = refl
-  sending_same {names = names} {e = e} (fields_val s f) h k = fun_ext (λ u. ap (λ w. w (λ vs ls. output u (fields_of (place names e) vs ls) s)) (fields_same f h k))
+  sending_same {names = names} {e = e} (fields_val s f) h k = fun_ext (λ u. ap (λ w. w (λ vs ls. output u (record_of_fields (place names e) vs ls) s)) (fields_same f h k))
   sending_same {a = a} (if_val s c v w) h k =
       let q = second_clean (in_val c) (in_val v ▸ in_val w) a k in
       let x = past (in_val c) (keeps_val c) h in
@@ -350,7 +350,7 @@ mutual
   sending_chan_same {names = names} {a = a} {e = e} (apply_chan s f vs) h k =
       let l = first_clean (in_val f) (in_field_vals vs) a k in
       let i = fields_same vs (past (in_val f) (keeps_val f) h) (second_clean (in_val f) (in_field_vals vs) a k) in
-      fun_ext (λ u. one_same (simple_same f h l) (sending_same f h l) (λ g. ap (λ w. w (λ us ls. output g (fields_of (place names e) (us ++ u ∷ []) ls) s)) i))
+      fun_ext (λ u. one_same (simple_same f h l) (sending_same f h l) (λ g. ap (λ w. w (λ us ls. output g (record_of_fields (place names e) (us ++ u ∷ []) ls) s)) i))
   sending_chan_same {base = base} {names = names} {a = a} {e = e} {d = d} (right_chan s f vs) h k =
       let i = same_use f.span f.name h (first_clean (value_use f.span f.name.0) (in_vals vs) a k) in
       let j = arguments_same vs (past (value_use f.span f.name.0) keeps_value_use h) (second_clean (value_use f.span f.name.0) (in_vals vs) a k) in

@@ -7,7 +7,7 @@ use Rattle.pict_syntax.specs.declared.token.TokenKind.{TokenKind}
 use Rattle.pict_syntax.specs.declared.token.TokenKind.TheVariants.{Identifier, Symbol, Keyword, Sign}
 use Rattle.pict_syntax.specs.declared.token.Keyword.{Keyword as AnyKeyword}
 use Rattle.pict_syntax.specs.declared.token.Sign.{Sign as AnySign}
-use Rattle.pict_syntax.specs.Phrases.{Phrase, nothing, never, ◌▸◌, at, keyword, sign, symbol, name, join, led, between, closed, joined}
+use Rattle.pict_syntax.specs.Phrases.{Phrase, nothing, never, ◌▸◌, at, keyword, sign, symbol, name, join, led, between, closed, spanning}
 
 -- each list of the one phrase is one of the other
 pub record Sub (L M : Phrase) : Type 0 where
@@ -97,7 +97,7 @@ a_between {i} {j} = record { «in» = λ ts h. (i, j, refl, h) }
 pub a_closed : (b : Span) {j : Span} {k : TokenKind} {L : Phrase} → Sub (L ▸ at k j) (closed (join b j) b L k)
 a_closed b {j} = record { «in» = λ ts h. (j, refl, h) }
 
-pub a_joined : (b e : Span) {L : Phrase} → Sub L (joined (join b e) b e L)
+pub a_joined : (b e : Span) {L : Phrase} → Sub L (spanning (join b e) b e L)
 a_joined b e = record { «in» = λ ts h. (refl, h) }
 
 -- what closes brackets

@@ -8,7 +8,7 @@ use Rattle.pict_syntax.specs.declared.token.TokenKind.{TokenKind}
 use Rattle.pict_syntax.specs.declared.token.TokenKind.TheVariants.{Identifier, Symbol, Keyword, Sign}
 use Rattle.pict_syntax.specs.declared.token.Keyword.{Keyword as AnyKeyword}
 use Rattle.pict_syntax.specs.declared.token.Sign.{Sign as AnySign}
-use Rattle.pict_syntax.specs.Phrases.{Phrase, nothing, never, ◌▸◌, at, keyword, sign, symbol, join, led, between, closed, joined, name}
+use Rattle.pict_syntax.specs.Phrases.{Phrase, nothing, never, ◌▸◌, at, keyword, sign, symbol, join, led, between, closed, spanning, name}
 use Rattle.pict_automaton.specs.Places.{State}
 use Rattle.pict_automaton.specs.Machine.{step, run}
 
@@ -117,7 +117,7 @@ between_reads {C} {x} {s} y f = record { runs = λ ts r h c. (f h.0 h.1).runs ts
 pub closed_reads : {C : Ahead} {x : State} {s : Span} (b : Span) {k : TokenKind} {L : Phrase} (y : Span → State) → ((j : Span) → Reads C x (L ▸ at k j) (y (join b j))) → Reads C x (closed s b L k) (y s)
 closed_reads {C} {x} {s} b y f = record { runs = λ ts r h c. (f h.0).runs ts r h.2 c ∙ ap (λ z. run (y z) r) (sym h.1) }
 
-pub joined_reads : {C : Ahead} {x : State} {s : Span} (b e : Span) {L : Phrase} (y : Span → State) → Reads C x L (y (join b e)) → Reads C x (joined s b e L) (y s)
+pub joined_reads : {C : Ahead} {x : State} {s : Span} (b e : Span) {L : Phrase} (y : Span → State) → Reads C x L (y (join b e)) → Reads C x (spanning s b e L) (y s)
 joined_reads {C} {x} {s} b e y f = record { runs = λ ts r h c. f.runs ts r h.1 c ∙ ap (λ z. run (y z) r) (sym h.0) }
 
 pub at_some : {C : Ahead} {x y : State} {F : Span → Phrase} → ((i : Span) → Reads C x (F i) y) → Reads C x (λ ts. (i : Span) × F i ts) y
@@ -151,7 +151,7 @@ starts_led {P} {s} e {k} {L} h = record { begins = λ ts r d. (starts_with {M = 
 pub starts_between : {P : TokenKind → Type 0} {s : Span} {o m : AnySign} {L : Phrase} → P (Sign o) → Starts P (between s o L m)
 starts_between {P} {s} {o} {m} {L} h = record { begins = λ ts r d. (starts_with {M = L ▸ at (Sign m) d.1} (starts_at {k = Sign o} {i = d.0} h)).begins ts r d.3 }
 
-pub starts_joined : {P : TokenKind → Type 0} {s : Span} (b e : Span) {L : Phrase} → Starts P L → Starts P (joined s b e L)
+pub starts_joined : {P : TokenKind → Type 0} {s : Span} (b e : Span) {L : Phrase} → Starts P L → Starts P (spanning s b e L)
 starts_joined b e f = record { begins = λ ts r d. f.begins ts r d.1 }
 
 pub starts_closed : {P : TokenKind → Type 0} {s : Span} (b : Span) {k : TokenKind} {L : Phrase} → Starts P L → Starts P (closed s b L k)

@@ -4,33 +4,33 @@ use Rattle.std.proofs.lemmas.Bool.Decides.{nat_tests}
 use Rattle.std.proofs.lemmas.List.{length-map}
 use Rattle.pict_syntax.specs.declared.limits.TheConstants.{NARROW_LIMIT}
 use Rattle.pict_core.specs.Term.{Val}
-use Rattle.pict_blocks.specs.Framed.{frame_words}
+use Rattle.pict_blocks.specs.Framed.{gathered}
 use Rattle.pict_heap.specs.HeapState.{HeapState}
-use Rattle.pict_blocks.specs.Blocks.{values_of}
-use Rattle.pict_desk.specs.Known.{value_in, fields_of, known}
+use Rattle.pict_blocks.specs.Blocks.{values_in_words}
+use Rattle.pict_desk.specs.Known.{value_in, value_fields, known}
 use Rattle.pict_blocks.proofs.Standing.{frame_back}
 use Rattle.pict_desk.specs.Pairs.{IsPair, ArePairs}
 use Rattle.pict_blocks.specs.Holding.{HoldWords, HoldRecord, HoldsFrame}
 use Rattle.pict_blocks.specs.Parts.{block_width}
 use Rattle.pict_blocks.proofs.WordsHeld.{held_length}
 
-pub words_held : (h : HeapState) (values : List (ℕ × ℕ)) (frame : List ℕ) → ArePairs h values → HoldWords h (length frame) (frame_words values frame)
+pub words_held : (h : HeapState) (values : List (ℕ × ℕ)) (frame : List ℕ) → ArePairs h values → HoldWords h (length frame) (gathered values frame)
 words_held h values [] pairs = tt
 words_held h values (l ∷ ls) pairs = (pairs l, words_held h values ls pairs)
 
-pub narrow_holds : (h : HeapState) (values : List (ℕ × ℕ)) (frame : List ℕ) → ArePairs h values → length frame ≤ NARROW_LIMIT → HoldsFrame h (known h values) frame (frame_words values frame)
+pub narrow_holds : (h : HeapState) (values : List (ℕ × ℕ)) (frame : List ℕ) → ArePairs h values → length frame ≤ NARROW_LIMIT → HoldsFrame h (known h values) frame (gathered values frame)
 narrow_holds h values frame pairs few = record {
   values = frame_back h values frame (length frame) few;
   narrow = λ _. words_held h values frame pairs;
   wide = λ many. absurd (omega (arith, few, many));
 }
 
-pub wide_holds : (h : HeapState) (value : ℕ → Val) (frame : List ℕ) (pair : ℕ × ℕ) → IsPair h pair → fields_of (value_in h pair.0 pair.1) ≡ map value frame → NARROW_LIMIT < length frame
+pub wide_holds : (h : HeapState) (value : ℕ → Val) (frame : List ℕ) (pair : ℕ × ℕ) → IsPair h pair → value_fields (value_in h pair.0 pair.1) ≡ map value frame → NARROW_LIMIT < length frame
     → length frame < 2 ^ 32 → HoldsFrame h value frame (pair.0 ∷ pair.1 ∷ [])
 wide_holds h value frame pair is fields many few =
     let test : nat_lt NARROW_LIMIT (length frame) ≡ true = grind (arith, nat_tests) in
     record {
-      values = ap (λ b. cond b (fields_of (value_in h pair.0 pair.1)) (values_of (value_in h) (pair.0 ∷ pair.1 ∷ []))) test ∙ fields;
+      values = ap (λ b. cond b (value_fields (value_in h pair.0 pair.1)) (values_in_words (value_in h) (pair.0 ∷ pair.1 ∷ []))) test ∙ fields;
       narrow = λ narrow. absurd (omega (arith, narrow, many));
       wide = λ _. record { pair = pair; is = refl; word = is; many = ap length fields ∙ length-map frame value; few = few };
     }

@@ -8,10 +8,10 @@ use Rattle.pict_code.specs.Instruction.{Node}
 use Rattle.pict_code.specs.Nodes.{Place, place}
 use Rattle.pict_code.specs.Standing.{with_frame}
 use Rattle.pict_code.proofs.Numbering.{PlacedAt}
-use Rattle.pict_blocks.specs.Framed.{frame_words}
+use Rattle.pict_blocks.specs.Framed.{gathered}
 use Rattle.pict_heap.specs.HeapState.{HeapState}
-use Rattle.pict_blocks.specs.Blocks.{values_of, frame_values, node_process, process_of, IsNodeBlock}
-use Rattle.pict_desk.specs.Known.{value_in, fields_of, known}
+use Rattle.pict_blocks.specs.Blocks.{values_in_words, frame_values, node_process, process_of, IsNodeBlock}
+use Rattle.pict_desk.specs.Known.{value_in, value_fields, known}
 use Rattle.pict_blocks.specs.Laws.{NarrowBlocks}
 use Rattle.pict_desk.proofs.Parts.{node_with, placed_at}
 use Rattle.pict_desk.proofs.Nodes.{IsNodeAt, part_of}
@@ -19,20 +19,20 @@ use Rattle.pict_desk.proofs.Nodes.{IsNodeAt, part_of}
 -- ---- narrow frames
 
 module _ (h : HeapState) (values : List (ℕ × ℕ)) where
-  values_back : (ls : List ℕ) → values_of (value_in h) (frame_words values ls) ≡ map (known h values) ls
+  values_back : (ls : List ℕ) → values_in_words (value_in h) (gathered values ls) ≡ map (known h values) ls
   values_back [] = refl
   values_back (l ∷ ls) = ap (λ vs. known h values l ∷ vs) (values_back ls)
 
-  pub frame_back : (ls : List ℕ) (n : ℕ) → n ≤ NARROW_LIMIT → frame_values (value_in h) n (frame_words values ls) ≡ map (known h values) ls
+  pub frame_back : (ls : List ℕ) (n : ℕ) → n ≤ NARROW_LIMIT → frame_values (value_in h) n (gathered values ls) ≡ map (known h values) ls
   frame_back [] n few = refl
   frame_back (l ∷ ls) n few =
       let test : nat_lt NARROW_LIMIT n ≡ false = grind (arith, nat_tests) in
-      ap (λ b. cond b (fields_of (known h values l)) (values_of (value_in h) (frame_words values (l ∷ ls)))) test ∙ values_back (l ∷ ls)
+      ap (λ b. cond b (value_fields (known h values l)) (values_in_words (value_in h) (gathered values (l ∷ ls)))) test ∙ values_back (l ∷ ls)
 
 pub narrow_blocks : NarrowBlocks
 narrow_blocks core h values number node at narrow = record {
   at = at;
-  frame = frame_words values node.frame;
+  frame = gathered values node.frame;
   words_are = refl;
   holds = frame_back h values node.frame (length node.frame) narrow;
 }

@@ -6,7 +6,7 @@ use Rattle.pict_syntax.specs.declared.limits.TheConstants.{NARROW_LIMIT}
 use Rattle.pict_code.specs.Levels.{Rises}
 use Rattle.pict_region.specs.RegionState.{RegionState, words_of}
 use Rattle.pict_queue.specs.Contents.{held_words}
-use Rattle.pict_blocks.specs.Framed.{frame_words, AreRising}
+use Rattle.pict_blocks.specs.Framed.{gathered, AreRising}
 use Rattle.pict_desk.specs.Known.{pair_at, value_in, known}
 use Rattle.pict_heap.specs.HeapState.{HeapState}
 use Rattle.pict_desk.specs.Pairs.{IsPair, ArePairs}
@@ -63,11 +63,11 @@ module _ (h : HeapState) (values : List (ℕ × ℕ)) (level : ℕ) where
   first_or_later l ls true t first later e = let same : l ≡ level = grind (arith, nat_tests) in subst (λ (k : ℕ). IsPair h (pair_at values k)) same first
   first_or_later l ls false t first later e = later (ap (λ b. b || list_any (eqb level) ls) (sym t) ∙ e)
 
-  pair_read : (frame : List ℕ) → HoldWords h (length frame) (frame_words values frame) → list_any (eqb level) frame ≡ true → IsPair h (pair_at values level)
+  pair_read : (frame : List ℕ) → HoldWords h (length frame) (gathered values frame) → list_any (eqb level) frame ≡ true → IsPair h (pair_at values level)
   pair_read [] o e = cc
   pair_read (l ∷ ls) o e = first_or_later l ls (eqb level l) refl o.0 (pair_read ls o.1) e
 
-pub pairs_read : (h : HeapState) (before values : List (ℕ × ℕ)) (frame : List ℕ) → HoldWords h (length frame) (frame_words values frame)
+pub pairs_read : (h : HeapState) (before values : List (ℕ × ℕ)) (frame : List ℕ) → HoldWords h (length frame) (gathered values frame)
     → ((level : ℕ) → list_any (eqb level) frame ≡ false → pair_at values level ≡ pair_at before level) → ArePairs h before → ArePairs h values
 pairs_read h before values frame o others pairs level = by_case (list_any (eqb level) frame) refl
   where
@@ -78,11 +78,11 @@ pairs_read h before values frame o others pairs level = by_case (list_any (eqb l
 -- The values of levels were written by a frame's.
 pub has_read_frame : (d : Desk) (vec : Vec (ℕ × ℕ) Global) (words frame : List ℕ) (values : List (ℕ × ℕ)) → vec.items ≡ values
     → length values ≡ length d.values.items → ArePairs d.heap values → frame_values (value_in d.heap) (length frame) (drop 1 words) ≡ map (known d.heap values) frame
-    → (length frame ≤ NARROW_LIMIT → drop 1 words ≡ frame_words values frame)
+    → (length frame ≤ NARROW_LIMIT → drop 1 words ≡ gathered values frame)
     → HasReadFrame d (record d { values = vec }) words frame
 has_read_frame d vec words frame values is levels pairs read same = record {
   values = read ∙ ap (λ (vs : List (ℕ × ℕ)). map (known d.heap vs) frame) (sym is);
-  same = λ few. same few ∙ ap (λ (vs : List (ℕ × ℕ)). frame_words vs frame) (sym is);
+  same = λ few. same few ∙ ap (λ (vs : List (ℕ × ℕ)). gathered vs frame) (sym is);
   heap = refl;
   pending = refl;
   levels = ap length is ∙ levels;

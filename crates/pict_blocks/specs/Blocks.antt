@@ -6,18 +6,18 @@ use Rattle.pict_code.specs.Frames.{frame_of}
 use Rattle.pict_code.specs.Instruction.{Node}
 use Rattle.pict_code.specs.Nodes.{Place, places, nodes_of}
 use Rattle.pict_code.specs.Standing.{with_frame}
-use Rattle.pict_desk.specs.Known.{value_in, fields_of, known}
+use Rattle.pict_desk.specs.Known.{value_in, value_fields, known}
 use Rattle.pict_heap.specs.HeapState.{HeapState}
 use Rattle.pict_view.specs.View.{View}
 
 -- two words a value, read by `value`
-abbrev pub values_of : (ℕ → ℕ → Val) → List ℕ → List Val
-values_of value (tag ∷ payload ∷ ws) = value tag payload ∷ values_of value ws
-values_of value _ = []
+abbrev pub values_in_words : (ℕ → ℕ → Val) → List ℕ → List Val
+values_in_words value (tag ∷ payload ∷ ws) = value tag payload ∷ values_in_words value ws
+values_in_words value _ = []
 
 -- the values of a frame: themselves, or where it has more than `NARROW_LIMIT` levels the positional fields of one record
 abbrev pub frame_values : (ℕ → ℕ → Val) → ℕ → List ℕ → List Val
-frame_values value levels (tag ∷ payload ∷ ws) = if nat_lt NARROW_LIMIT levels then fields_of (value tag payload) else values_of value (tag ∷ payload ∷ ws)
+frame_values value levels (tag ∷ payload ∷ ws) = if nat_lt NARROW_LIMIT levels then value_fields (value tag payload) else values_in_words value (tag ∷ payload ∷ ws)
 frame_values value levels ws = []
 
 abbrev pub node_process : (ℕ → ℕ → Val) → List ℕ → Option Place → Process

@@ -4,7 +4,7 @@ use Rattle.pict_syntax.specs.declared.limits.TheConstants.{NARROW_LIMIT}
 use Rattle.pict_core.specs.Term.{Val}
 use Rattle.pict_heap.specs.HeapState.{HeapState}
 use Rattle.pict_blocks.specs.Blocks.{frame_values}
-use Rattle.pict_desk.specs.Known.{value_in, fields_of}
+use Rattle.pict_desk.specs.Known.{value_in, value_fields}
 use Rattle.pict_desk.specs.Pairs.{IsPair}
 
 -- the words of so many values, two each, are words of the heap
@@ -18,7 +18,7 @@ pub record HoldRecord (h : HeapState) (n : ℕ) (ws : List ℕ) : Type 0 where
   pub pair : ℕ × ℕ
   pub is : ws ≡ pair.0 ∷ pair.1 ∷ []
   pub word : IsPair h pair
-  pub many : length (fields_of (value_in h pair.0 pair.1)) ≡ n
+  pub many : length (value_fields (value_in h pair.0 pair.1)) ≡ n
   pub few : n < 2 ^ 32
 
 -- behind its number a block holds these values for the levels of a frame: themselves, or where there are more than

@@ -11,7 +11,7 @@ use Rattle.pict_desk.specs.Pairs.{ArePairs}
 use Rattle.pict_desk.specs.Room.{frame_need}
 use Rattle.pict_desk.specs.declared.desk.Desk.{Desk}
 use Rattle.pict_blocks.specs.Blocks.{frame_values}
-use Rattle.pict_blocks.specs.Framed.{frame_words}
+use Rattle.pict_blocks.specs.Framed.{gathered}
 use Rattle.pict_blocks.specs.Holding.{HoldsFrame}
 use Rattle.pict_blocks.specs.Writing.{IsMade}
 
@@ -39,7 +39,7 @@ pub record IsPart (before after : QueuesState) (old new : Desk) (block number : 
 -- those of each level. Nothing has changed but the values of levels, each of which has the words of a value still.
 pub record HasReadFrame (old new : Desk) (words frame : List ℕ) : Type 0 where
   pub values : frame_values (value_in new.heap) (length frame) (drop 1 words) ≡ map (known new.heap new.values.items) frame
-  pub same : length frame ≤ NARROW_LIMIT → drop 1 words ≡ frame_words new.values.items frame
+  pub same : length frame ≤ NARROW_LIMIT → drop 1 words ≡ gathered new.values.items frame
   pub heap : new.heap ≡ old.heap
   pub pending : new.pending ≡ old.pending
   pub levels : length new.values.items ≡ length old.values.items

@@ -5,7 +5,7 @@ ghost use Rattle.pict_syntax.specs.declared.limits.TheConstants.{NARROW_LIMIT};
 ghost use Rattle.pict_region.specs.RegionState.{words_of, width_of};
 ghost use Rattle.pict_queue.specs.QueuesState.{IsHeld, CostsAtMost};
 ghost use Rattle.pict_desk.specs.Known.{pair_at};
-ghost use Rattle.pict_blocks.specs.Framed.{frame_words, AreRising};
+ghost use Rattle.pict_blocks.specs.Framed.{gathered, AreRising};
 ghost use Rattle.pict_blocks.specs.Writing.{OnlyWrites, OnlyWorks};
 
 use pict_queue::Queues;
@@ -46,11 +46,11 @@ pub fn read_frame(queues: &mut Queues, block: &Block, frame: &[u32], values: &mu
     requires narrow { length frame.now ≤ NARROW_LIMIT }
     requires inside { All (λ level. level < length values.old) frame.now }
     requires rising { AreRising 0 frame.now }
-    ensures words { frame_words values.new frame.now ≡ drop 2 (words_of queues.old.region block.now) }
+    ensures words { gathered values.new frame.now ≡ drop 2 (words_of queues.old.region block.now) }
     ensures others { (level : ℕ) → list_any (eqb level) frame.now ≡ false → pair_at values.new level ≡ pair_at values.old level }
     ensures len { length values.new ≡ length values.old }
     ensures rest { OnlyWorks queues.old queues.new }
     ensures cost { CostsAtMost (2 * length frame.now) queues.old queues.new }
 {
-    queues.read_values(block, 2, frame, values);
+    queues.scatter(block, 2, frame, values);
 }

@@ -21,7 +21,7 @@ pub fn block_of(queues: &mut Queues, number: usize, frame: &[u32], values: &[(u6
     ensures cost { CostsAtMost (2 * length frame.now + 2) queues.old queues.new }
 {
     let width = 2 + 2 * frame.len() as u32;
-    queues.take_values(width, number as u64 + 1, frame, values)
+    queues.take_gathered(width, number as u64 + 1, frame, values)
 }
 
 /// A new block of the node with this number, with these values for its frame, becomes the last of a queue. Takes no

@@ -8,7 +8,7 @@ use Rattle.pict_types.specs.Renaming.{rename, moved}
 use Rattle.pict_core.specs.Term as core
 use Rattle.pict_rules.specs.Environments.{Environment, Extension, KnownValue, context_of, extended, one_value}
 use Rattle.pict_rules.specs.Rules.{Signature}
-use Rattle.pict_rules.specs.Clauses.{values_of, with_signatures, empty_record}
+use Rattle.pict_rules.specs.Clauses.{signature_values, with_signatures, empty_record}
 use Rattle.pict_rules.specs.Regular.{IsTypeIn, AreSignatures}
 use Rattle.pict_rules.specs.SameNames.{value_names}
 use Rattle.pict_rules.proofs.BoundIds.{value_ids}
@@ -22,7 +22,7 @@ use Rattle.pict_typing.specs.Values.{HasType}
 use Rattle.pict_typing.specs.Opening.{opens_record, opens_none, opens_no_label}
 use Rattle.pict_typing.specs.Processes as typed
 use Rattle.pict_typing.specs.Processes.{IsTyped}
-use Rattle.pict_erase.specs.Embedding.{Grows}
+use Rattle.pict_erase.specs.Embedding.{WorldGrows}
 use Rattle.pict_opened.specs.Opening.{meaning}
 use Rattle.pict_opened.proofs.Joining.{type_after}
 use Rattle.pict_opened.proofs.Opened.{embeds_after}
@@ -39,7 +39,7 @@ use Rattle.pict_rules.proofs.RegularJoined.{values_unmoved}
 
 -- ---- what follows
 
-grows_on : {g h : ℕ → ℕ} (k : ℕ → ℕ) {w v u : World} → Grows g w v → Grows h v u → ((i : ℕ) → h (g i) ≡ k i) → Grows k w u
+grows_on : {g h : ℕ → ℕ} (k : ℕ → ℕ) {w v u : World} → WorldGrows g w v → WorldGrows h v u → ((i : ℕ) → h (g i) ≡ k i) → WorldGrows k w u
 grows_on {g = g} {h = h} k x y e = record {
   names_ = y.names_ ∙ x.names_;
   messages_ = y.messages_ ∙ x.messages_;
@@ -51,7 +51,7 @@ pub follows_longer : {e : Environment} {f : ℕ → ℕ} {w u : World} {d : Envi
 follows_longer {f = f} {w = w} {u = u} n l = record {
   more = 0;
   count = 0;
-  grows = subst (λ g. Grows g w u) (λ j i. none i j) (longer_grows l);
+  grows = subst (λ g. WorldGrows g w u) (λ j i. none i j) (longer_grows l);
   length_ = n ∙ omega arith;
   extends_ = λ i. ap f (omega arith) ∙ none (f i);
 }
@@ -266,7 +266,7 @@ def_declared e s ds ss q h bodies vs f w r rest k =
     subst (λ n. Stands w (new_channels n F)) (sym (ap length x.names_ ∙ count_names ss))
     (news_stand e ss x.takes F vs f w x.take (taken_in e ss x.takes x.take q) r (λ xs u l m n.
     let n2 = subst (λ ns. Realises (with_signatures e ss) (binding ns xs vs) f u) (sym x.names_) n in
-    served_stands u f (servers (bound (definition_names ds) xs (around e vs)) ds) xs x.takes (rest (bound (definition_names ds) xs (around e vs))) (x.serve (values_of ss e.values) bodies (binding (definition_names ds) xs vs) f u n2) m
+    served_stands u f (servers (bound (definition_names ds) xs (around e vs)) ds) xs x.takes (rest (bound (definition_names ds) xs (around e vs))) (x.serve (signature_values ss e.values) bodies (binding (definition_names ds) xs vs) f u n2) m
     (k (binding (definition_names ds) xs vs) f u (follows_longer refl l) n2)))
   where
     x : Signed e ds ss

@@ -16,7 +16,7 @@ use Rattle.pict_rules.specs.Shapes.{Function, applicable, function_by, respond_o
 use Rattle.pict_rules.specs.Environments.{Environment}
 use Rattle.pict_rules.specs.Regular.{IsTypeIn, kinds_in}
 use Rattle.pict_scope.specs.DistinctLabels.{LabelledValsAreDistinct, FieldValsHaveDistinctLabels}
-use Rattle.pict_translation.specs.Simple.{Around, fields_of, simple}
+use Rattle.pict_translation.specs.Simple.{Around, record_of_fields, simple}
 use Rattle.pict_translation.specs.Translation.{sending, sending_chan}
 use Rattle.pict_typing.specs.Erasing.{erased, erased_types, erased_labels, erased_bounds, erased_capability}
 use Rattle.pict_typing.specs.Worlds.{World, IsType}
@@ -78,8 +78,8 @@ pub record_package : (e : Environment) (vs : Values) (f : ℕ → ℕ) (v : Worl
     → Realises e vs f v → IsTypeIn e (Fields bs ps ms) → ArgsAreWellFormed e.names (kinds_in e) args → FitTheirFields args bs → AreWithinBounds e bs [] args
     → LabelledValsAreDistinct ls → LabelsAreSent v (around e vs) ls lts → HaveAll v us ts → HaveAtLabels v ws lts → types_list ts ≡ meanings f (replace_types (arguments args) ps)
     → ((l : ℕ) (t : PlainType) → type_at l (label_meanings f (replace_labels (arguments args) ms)) ≡ Some t → type_at l (labels_list (in_label_order e.names lts)) ≡ Some t)
-    → HasType v (fields_of (around e vs) us ws) (meaning f (Fields bs ps ms))
-record_package e vs f v args bs ps ms vals ls us ws ts lts r q h k d distinct sent y z same_ at_ = package_has e vs f v (fields_of (around e vs) us ws) args bs ps ms r q h k d whole
+    → HasType v (record_of_fields (around e vs) us ws) (meaning f (Fields bs ps ms))
+record_package e vs f v args bs ps ms vals ls us ws ts lts r q h k d distinct sent y z same_ at_ = package_has e vs f v (record_of_fields (around e vs) us ws) args bs ps ms r q h k d whole
   where
     instance_ : IsType v (meaning f (instance_of args ps ms))
     instance_ = type_means (instance_of args ps ms) r (instance_formed e.names (kinds_in e) args bs ps ms k h q)
@@ -90,13 +90,13 @@ record_package e vs f v args bs ps ms vals ls us ws ts lts r q h k d distinct se
     all : PlainLabels
     all = labels_list (in_label_order e.names lts)
 
-    raw : HasType v (fields_of (around e vs) us ws) (Fields no_bound (meanings f (replace_types (arguments args) ps)) all)
-    raw = subst (λ z. HasType v (fields_of (around e vs) us ws) (Fields no_bound z all)) same_ (record_sent v (around e vs) vals ls us ws ts lts r.world_names distinct sent y z formed)
+    raw : HasType v (record_of_fields (around e vs) us ws) (Fields no_bound (meanings f (replace_types (arguments args) ps)) all)
+    raw = subst (λ z. HasType v (record_of_fields (around e vs) us ws) (Fields no_bound z all)) same_ (record_sent v (around e vs) vals ls us ws ts lts r.world_names distinct sent y z formed)
 
     raw_type : IsType v (Fields no_bound (meanings f (replace_types (arguments args) ps)) all)
     raw_type = subst (λ z. IsType v (Fields no_bound z all)) same_ (record_type v e.names ts lts r.world_names distinct sent formed)
 
-    whole : HasType v (fields_of (around e vs) us ws) (meaning f (instance_of args ps ms))
+    whole : HasType v (record_of_fields (around e vs) us ws) (meaning f (instance_of args ps ms))
     whole = raised (Fields no_bound (meanings f (replace_types (arguments args) ps)) all) raw_type instance_ raw
         (fewer_labels v.names (kinds v.type_variables) v.type_variables (meanings f (replace_types (arguments args) ps)) all (label_meanings f (replace_labels (arguments args) ms)) instance_.1.1 at_)
 
@@ -118,7 +118,7 @@ fields_given e s tys us ls ps ms q distinct h k vs f w r =
     fields_sent w (around e vs) s tys us ls (meaning f (Fields no_bound ps ms)) (meant_types f ps) y.types_ r.closed x y.sent (type_means (Fields no_bound ps ms) r q) (λ v xs ws l m n.
     let r2 = realises_longer l r in
     let formed = subst (AreWellFormed v.names (kinds v.type_variables)) (sym (meant_list f ps)) (type_means (Fields no_bound ps ms) r2 q).1.0 in
-    subst (HasType v (fields_of (around e vs) xs ws)) (ap₂ (Fields no_bound) (meant_list f ps) y.same_)
+    subst (HasType v (record_of_fields (around e vs) xs ws)) (ap₂ (Fields no_bound) (meant_list f ps) y.same_)
     (record_sent v (around e vs) us ls xs ws (meant_types f ps) y.types_ r2.world_names distinct (labels_sent_longer r.closed l y.sent) m n formed))
 
 -- ---- applications

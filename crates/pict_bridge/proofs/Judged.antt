@@ -23,7 +23,7 @@ use Rattle.pict_translation.specs.Translation.{sending_chan, proc_core, procs_co
 use Rattle.pict_translation.specs.Arguments.{with_value}
 use Rattle.pict_typing.specs.Worlds.{World}
 use Rattle.pict_typing.specs.Values.{HasType}
-use Rattle.pict_erase.specs.Embedding.{Grows}
+use Rattle.pict_erase.specs.Embedding.{WorldGrows}
 use Rattle.pict_opened.specs.Opening.{meaning}
 use Rattle.pict_opened.proofs.Reaching.{ResultProperty, Gives}
 use Rattle.pict_opened.proofs.FieldsOpen.{Each, label_meanings}
@@ -150,7 +150,7 @@ pub data SignaturesRead (e : Environment) : Definitions → List Signature → T
 pub record Follows (e : Environment) (f : ℕ → ℕ) (w : World) (d : Environment) (g : ℕ → ℕ) (u : World) : Type 0 where
   pub more : ℕ
   pub count : ℕ
-  pub grows : Grows (moved more 0) w u
+  pub grows : WorldGrows (moved more 0) w u
   pub length_ : length (context_of d) ≡ length (context_of e) + count
   pub extends_ : (i : ℕ) → g (i + count) ≡ f i + more
 

@@ -20,7 +20,7 @@ use Rattle.pict_rules.proofs.BoundIds.{value_ids, field_value_ids, field_type_id
 use Rattle.pict_rules.proofs.Names.{id_names, ids_of_both}
 use Rattle.pict_rules.proofs.Opened.{binds_pat, binds_fields, then_binds, binds_none}
 use Rattle.pict_rules.proofs.Kept.{pattern_keeps_annotation}
-use Rattle.pict_translation.specs.Patterns.{Opened, opened, all_opened, labelled_opened, pat_names, names_in, labelled_names_in, names_before, names_after}
+use Rattle.pict_translation.specs.Patterns.{Opened, opened, all_opened, labelled_opened, pat_names, names_opened, labelled_names_in, names_before, names_after}
 use Rattle.pict_opened.proofs.Ordered.{ordered_last}
 use Rattle.pict_scope.proofs.BindersRead.{same_patterns}
 
@@ -100,12 +100,12 @@ function_once f r q a m c =
 
 -- ---- the same names in the order of the core pattern
 
-names_last : (xs : List Opened) (y : Opened) (m : ℕ) → times m (names_in (xs ++ y ∷ [])) ≡ times m (names_in xs) + times m y.names
+names_last : (xs : List Opened) (y : Opened) (m : ℕ) → times m (names_opened (xs ++ y ∷ [])) ≡ times m (names_opened xs) + times m y.names
 names_last [] y m = times_both m y.names [] ∙ omega arith
 names_last (x ∷ xs) y m =
     let e = names_last xs y m in
-    let f = times_both m x.names (names_in (xs ++ y ∷ [])) in
-    let g = times_both m x.names (names_in xs) in
+    let f = times_both m x.names (names_opened (xs ++ y ∷ [])) in
+    let g = times_both m x.names (names_opened xs) in
     omega (arith, e, f, g)
 
 labelled_put : (names : List (List ℕ)) (l : ℕ) (y : Opened) (xs : List (ℕ × Opened)) (m : ℕ) → times m (labelled_names_in (with_label names l y xs)) ≡ times m (labelled_names_in xs) + times m y.names
@@ -131,12 +131,12 @@ mutual
   same_times names (fields_pat s (field_pats bs ps ls)) m =
       let a = positional_times names ps m in
       let b = labelled_times names ls m in
-      let c = times_both m (names_in (all_opened names ps)) (labelled_names_in (in_label_order names (labelled_opened names ls))) in
+      let c = times_both m (names_opened (all_opened names ps)) (labelled_names_in (in_label_order names (labelled_opened names ls))) in
       let d = times_ids m (labelled_value_ids ls) (pats_value_ids ps) in
       omega (arith, a, b, c, d)
   same_times names (fold_pat s r p) m = same_times names p m
 
-  pub positional_times : (names : List (List ℕ)) (ps : Pats) (m : ℕ) → times m (names_in (all_opened names ps)) ≡ times m (id_names (pats_value_ids ps))
+  pub positional_times : (names : List (List ℕ)) (ps : Pats) (m : ℕ) → times m (names_opened (all_opened names ps)) ≡ times m (id_names (pats_value_ids ps))
   positional_times names no_pats m = refl
   positional_times names (more_pats ps p) m =
       let a = positional_times names ps m in

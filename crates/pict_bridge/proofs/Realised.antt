@@ -17,10 +17,10 @@ use Rattle.pict_typing.specs.Erasing.{erased}
 use Rattle.pict_typing.specs.Worlds as worlds
 use Rattle.pict_typing.specs.Worlds.{World, IsType, shifted}
 use Rattle.pict_typing.specs.Values.{HasType, variable_has}
-use Rattle.pict_erase.specs.Embedding.{erased_context, Embeds, Grows}
+use Rattle.pict_erase.specs.Embedding.{erased_context, Embeds, WorldGrows}
 use Rattle.pict_erase.proofs.Erased.{erased_renamed, below_erased, erased_type}
 use Rattle.pict_erase.proofs.Growing.{type_grown, value_grown}
-use Rattle.pict_opened.specs.Opening.{meaning, IsPlaced}
+use Rattle.pict_opened.specs.Opening.{meaning, IsExtensionPlaced}
 use Rattle.pict_opened.proofs.Joining.{type_after}
 use Rattle.pict_opened.proofs.Placed.{known_renamed}
 use Rattle.pict_opened.proofs.FieldsOpen.{slice_second}
@@ -83,7 +83,7 @@ unknown_renamed f (v ∷ vs) m e = go (nat_eq v.name m) refl (unknown_renamed f 
 
 -- ---- after a pattern
 
-pub opened_grows : (w : World) (d : TypeContext) (n : ℕ) (ts : List PlainType) → Embeds (moved n 0) w.type_variables d → Grows (moved n 0) w (worlds.opened d n ts w)
+pub opened_grows : (w : World) (d : TypeContext) (n : ℕ) (ts : List PlainType) → Embeds (moved n 0) w.type_variables d → WorldGrows (moved n 0) w (worlds.opened d n ts w)
 opened_grows w d n ts j = record {
   names_ = refl;
   messages_ = refl;
@@ -91,7 +91,7 @@ opened_grows w d n ts j = record {
   variables_ = λ l t q. stays_before (map (shifted n) w.variables) ts l (shifted n t) (slice_get-map (shifted n) w.variables l ∙ ap (option_map (shifted n)) q);
 }
 
-pub realises_after : {e : Environment} {vs us : List (ℕ × core.Val)} {f : ℕ → ℕ} {w : World} (x : Extension) (slots : List (Option ℕ)) (d : TypeContext) (n : ℕ) (ts : List PlainType) → Realises e vs f w → (p : IsPlaced e f d n slots ts x) → Embeds (moved n 0) w.type_variables d → Binds slots (length w.variables) vs us → ((m : ℕ) → known_type x.values m ≡ None → slot_times m slots ≡ 0) → Realises (extended e x) us p.later (worlds.opened d n ts w)
+pub realises_after : {e : Environment} {vs us : List (ℕ × core.Val)} {f : ℕ → ℕ} {w : World} (x : Extension) (slots : List (Option ℕ)) (d : TypeContext) (n : ℕ) (ts : List PlainType) → Realises e vs f w → (p : IsExtensionPlaced e f d n slots ts x) → Embeds (moved n 0) w.type_variables d → Binds slots (length w.variables) vs us → ((m : ℕ) → known_type x.values m ≡ None → slot_times m slots ≡ 0) → Realises (extended e x) us p.later (worlds.opened d n ts w)
 realises_after {e = e} {vs = vs} {us = us} {f = f} {w = w} x slots d n ts r p j b only = record {
   world_names = r.world_names;
   closed = r.closed;

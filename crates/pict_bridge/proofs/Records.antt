@@ -15,7 +15,7 @@ use Rattle.pict_scope.specs.DistinctLabels.{LabelledValsAreDistinct}
 use Rattle.pict_translation.specs.Placed.{Placed, output}
 use Rattle.pict_core.specs.Plain.{vals_of}
 use Rattle.pict_translation.specs.Arguments.{labelled_of}
-use Rattle.pict_translation.specs.Simple.{Around, fields_of, simple, simple_vals, simple_labelled}
+use Rattle.pict_translation.specs.Simple.{Around, record_of_fields, simple, simple_vals, simple_labelled}
 use Rattle.pict_translation.specs.Translation.{sending, with_fields, with_labelled}
 use Rattle.pict_typing.specs.Worlds.{World, IsType}
 use Rattle.pict_typing.specs.Values.{HasType, record_has}
@@ -65,7 +65,7 @@ record_typed v names us ws ts lts q h k f g d = subst (λ ns. HasType v (core.Re
     (record_has d (have_types v us ts h) (have_labels v (in_label_order v.names ws) (in_label_order v.names lts) (have_in_order v.names v ws lts k)) (tt, (f, g)))
 
 -- the record of values that are sent has the type of their types
-pub record_sent : (v : World) (a : Around) (vs : Vals) (ls : LabelledVals) (us : List core.Val) (ws : List (ℕ × core.Val)) (ts : List PlainType) (lts : List (ℕ × PlainType)) → v.names ≡ a.names → LabelledValsAreDistinct ls → LabelsAreSent v a ls lts → HaveAll v us ts → HaveAtLabels v ws lts → AreWellFormed v.names (kinds v.type_variables) (types_list ts) → HasType v (fields_of a us ws) (Fields no_bound (types_list ts) (labels_list (in_label_order a.names lts)))
+pub record_sent : (v : World) (a : Around) (vs : Vals) (ls : LabelledVals) (us : List core.Val) (ws : List (ℕ × core.Val)) (ts : List PlainType) (lts : List (ℕ × PlainType)) → v.names ≡ a.names → LabelledValsAreDistinct ls → LabelsAreSent v a ls lts → HaveAll v us ts → HaveAtLabels v ws lts → AreWellFormed v.names (kinds v.type_variables) (types_list ts) → HasType v (record_of_fields a us ws) (Fields no_bound (types_list ts) (labels_list (in_label_order a.names lts)))
 record_sent v a vs ls us ws ts lts q d m h k f =
     record_typed v a.names us ws ts lts q h k f (sent_labels d m) (distinct_record v (in_label_order v.names ws) (in_label_order v.names lts) (have_in_order v.names v ws lts k) (labels_once v.names d m))
 
@@ -87,16 +87,16 @@ fields_stand w a tys vs ls ts lts E k h m e =
 
 -- a record value is sent at a type that the record of its fields has
 pub fields_sent : (w : World) (a : Around) (s : Span) (tys : TypeTrees) (vs : Vals) (ls : LabelledVals) (t : PlainType) (ts : List PlainType) (lts : List (ℕ × PlainType)) → AreClosedTypes w.names w.messages → AreSent w a vs ts → LabelsAreSent w a ls lts → IsType w t
-    → ((v : World) (us : List core.Val) (ws : List (ℕ × core.Val)) → Longer w v → HaveAll v us ts → HaveAtLabels v ws lts → HasType v (fields_of a us ws) t) → IsSent w t a (fields_val s (field_vals tys vs ls))
+    → ((v : World) (us : List core.Val) (ws : List (ℕ × core.Val)) → Longer w v → HaveAll v us ts → HaveAtLabels v ws lts → HasType v (record_of_fields a us ws) t) → IsSent w t a (fields_val s (field_vals tys vs ls))
 unfolding sending simple
 fields_sent w a s tys vs ls t ts lts k h m f e = record { on_its_way = on_way (simple_vals a vs) (simple_labelled a ls) (simple_have w a vs ts h) (simple_labels_have w a ls lts m); sends = sends_ }
   where
-    sends_ : Sends w t (λ c. with_fields a (field_vals tys vs ls) (λ us ws. output c (fields_of a us ws) s))
+    sends_ : Sends w t (λ c. with_fields a (field_vals tys vs ls) (λ us ws. output c (record_of_fields a us ws) s))
     sends_ v c l x =
-        fields_stand v a tys vs ls ts lts (λ us ws. output c (fields_of a us ws) s) (closed_longer l k) (all_sent_longer k l h) (labels_sent_longer k l m) (λ v2 us ws l2 y z.
+        fields_stand v a tys vs ls ts lts (λ us ws. output c (record_of_fields a us ws) s) (closed_longer l k) (all_sent_longer k l h) (labels_sent_longer k l m) (λ v2 us ws l2 y z.
         typed.output t (type_longer t (longer_more l l2) f) (has_longer (closed_longer l k) l2 x) (e v2 us ws (longer_more l l2) y z))
 
-    on_way : (o : Option (List core.Val)) (p : Option (List (ℕ × core.Val))) → HaveWhereSome w o ts → LabelsWhereSome w p lts → OnItsWay w t (option_and_then (λ us. option_map (fields_of a us) p) o) (λ c. with_fields a (field_vals tys vs ls) (λ us ws. output c (fields_of a us ws) s))
+    on_way : (o : Option (List core.Val)) (p : Option (List (ℕ × core.Val))) → HaveWhereSome w o ts → LabelsWhereSome w p lts → OnItsWay w t (option_and_then (λ us. option_map (record_of_fields a us) p) o) (λ c. with_fields a (field_vals tys vs ls) (λ us ws. output c (record_of_fields a us ws) s))
     on_way None p y z = sends_
     on_way (Some us) None y z = sends_
     on_way (Some us) (Some ws) y z = e w us ws (not_longer w) y z

@@ -13,7 +13,7 @@ use Rattle.pict_typing.specs.Processes as typed
 use Rattle.pict_typing.specs.Processes.{IsTyped, AreClosedTypes}
 use Rattle.pict_translation.specs.Placed.{Placed}
 use Rattle.pict_translation.specs.Arguments.{with_value}
-use Rattle.pict_erase.specs.Embedding.{Grows}
+use Rattle.pict_erase.specs.Embedding.{WorldGrows}
 use Rattle.pict_erase.proofs.Growing.{value_grown}
 use Rattle.pict_opened.proofs.Opened.{embeds_same}
 use Rattle.pict_bridge.specs.Standing.{Stands, Longer, Sends, Takes, OnItsWay}
@@ -34,8 +34,8 @@ longer_more {w = w} {v = v} {u = u} x y = record {
   is = y.is ∙ ap (longer_by y.further) x.is ∙ ap (λ z. record w { variables = z }) (append_assoc w.variables x.further y.further);
 }
 
-pub longer_grows : {w v : World} → Longer w v → Grows (λ i. i) w v
-longer_grows {w = w} l = subst (Grows (λ i. i) w) (sym l.is) (record {
+pub longer_grows : {w v : World} → Longer w v → WorldGrows (λ i. i) w v
+longer_grows {w = w} l = subst (WorldGrows (λ i. i) w) (sym l.is) (record {
   names_ = refl;
   messages_ = refl;
   embeds = embeds_same w.type_variables;

@@ -13,7 +13,7 @@ use Rattle.pict_turns.specs.declared.turn.Turn.TheVariants.{Output}
 use Rattle.pict_desk.proofs.Numbers.{output_kept}
 use Rattle.pict_desk.specs.Answers.{IsAnswerOf}
 use Rattle.pict_calls.specs.Finishing.{HasActed}
-use Rattle.pict_turns.specs.declared.event.PackedEvent.TheVariants as packed
+use Rattle.pict_turns.specs.declared.event.Shown.TheVariants as shows
 
 -- to print nothing, and to answer
 abbrev pub answering : Val → Val → Effect
@@ -21,7 +21,7 @@ answering to answer = record { printed = None; leaves = Answer to answer }
 
 -- the output of the answer has the turn
 pub hands_answer : (old mid : Store) → KeepsHeap old.desk.heap mid.desk.heap → (p : Primitive) (fields : List CoreVal) (at : Span) (kept : Kept) (a : IsAnswerOf old.desk.heap old.desk.values.items p fields at kept)
-    → HasActed mid (record mid { turn = Output kept }) (answering a.to a.answer) at packed.Quiet
+    → HasActed mid (record mid { turn = Output kept }) (answering a.to a.answer) at shows.Quiet
 hands_answer old mid k p fields at kept a = record {
   turn = record { kept = kept; is = output_kept old.desk.heap mid.desk.heap k a.to a.answer at kept a.output; turn_is = refl };
   shows = (refl, λ is. cc);

@@ -37,9 +37,9 @@ use Rattle.pict_calls.specs.Calling.{CallsOn}
 use Rattle.pict_calls.specs.Finishing.{IsAnswered, IsTurnAfter, HasActed}
 use Rattle.pict_calls.proofs.Answering.{HasRoomToAnswer}
 use Rattle.pict_turns.specs.Stepping.{Acts}
-use Rattle.pict_turns.specs.Packed.{label_packed}
-use Rattle.pict_turns.specs.declared.event.PackedEvent.{PackedEvent}
-use Rattle.pict_turns.specs.declared.event.PackedEvent.TheVariants as packed
+use Rattle.pict_turns.specs.Shown.{label_shown}
+use Rattle.pict_turns.specs.declared.event.Shown.{Shown}
+use Rattle.pict_turns.specs.declared.event.Shown.TheVariants as shows
 
 pub some_is : {A : Type 0} (o : Option A) → IsSome o → (x : A) × (o ≡ Some x)
 some_is None is = cc
@@ -47,7 +47,7 @@ some_is (Some x) is = (x, refl)
 
 -- ---- a step
 
-module _ (core : Process) (old new : Store) (p : Primitive) (v : Val) (at : Span) (e : Effect) (event : PackedEvent)
+module _ (core : Process) (old new : Store) (p : Primitive) (v : Val) (at : Span) (e : Effect) (event : Shown)
     (on : CallsOn core old p v at) (is : effect_of p v ≡ Some e) (h : HasActed old new e at event) where
   -- the other ready processes, and the lists of the channels
   rest : List Process
@@ -118,21 +118,21 @@ module _ (core : Process) (old new : Store) (p : Primitive) (v : Val) (at : Span
   stops trap = sym (ap next_view (view_kept core old new on.acting h.keeps)) ∙ moved ∙ ap (leave (printing e.printed)) trap
 
 -- an act of the output that has the turn is a step
-pub acts_by : (core : Process) (old new : Store) (p : Primitive) (v : Val) (at : Span) (e : Effect) (event : PackedEvent)
+pub acts_by : (core : Process) (old new : Store) (p : Primitive) (v : Val) (at : Span) (e : Effect) (event : Shown)
     → CallsOn core old p v at → effect_of p v ≡ Some e → HasRoomToAnswer old.queues e.leaves → HasActed old new e at event → Acts core old new event
-acts_by core old new p v at e packed.Quiet on is free h = record { done = done core old new p v at e packed.Quiet on is h Quiet (ap printing h.shows.0) h.shows.1 free; event = tt }
-acts_by core old new p v at e (packed.Comm channel value) on is free h = absurd h.shows
-acts_by core old new p v at e (packed.Print w) on is free h = record {
-  done = done core old new p v at e (packed.Print w) on is h (printing (printed_of (value_of new.desk.heap w))) (ap printing h.shows.prints) h.shows.no_trap free;
+acts_by core old new p v at e shows.Quiet on is free h = record { done = done core old new p v at e shows.Quiet on is h Quiet (ap printing h.shows.0) h.shows.1 free; event = tt }
+acts_by core old new p v at e (shows.Comm channel value) on is free h = absurd h.shows
+acts_by core old new p v at e (shows.Print w) on is free h = record {
+  done = done core old new p v at e (shows.Print w) on is h (printing (printed_of (value_of new.desk.heap w))) (ap printing h.shows.prints) h.shows.no_trap free;
   event = record { word = h.shows.word; printed = h.shows.some };
 }
-acts_by core old new p v at e (packed.Trapped place) on is free h = (
-  stops core old new p v at e (packed.Trapped place) on is h h.shows.0 ∙ ap Stops (sym h.shows.1),
+acts_by core old new p v at e (shows.Trapped place) on is free h = (
+  stops core old new p v at e (shows.Trapped place) on is h h.shows.0 ∙ ap Stops (sym h.shows.1),
   refused_still core old new (subst (OnlyReserves old) (sym (h.trap h.shows.0)) (reserves_nothing old)) on.acting.store,
 )
 
 -- who has the turn then takes no more to set down than who had it, or than an output of an answer
-pub cost_after : (core : Process) (old new : Store) (e : Effect) (at : Span) (event : PackedEvent) → HasActed old new e at event → turn_cost core new ≤ turn_cost core old + 13
+pub cost_after : (core : Process) (old new : Store) (e : Effect) (at : Span) (event : Shown) → HasActed old new e at event → turn_cost core new ≤ turn_cost core old + 13
 cost_after core old new e at event h = by_case e.leaves h.turn h.trap
   where
     by_case : (l : Leaves) → IsTurnAfter new.desk.heap l at new.turn → (l ≡ Trap → new ≡ old) → turn_cost core new ≤ turn_cost core old + 13
@@ -152,18 +152,18 @@ module _ (core : Process) (old mid : Store) (r : OnlyReserves old mid) where
         ∙ ap (process_of core (value_in old.desk.heap)) (acting_words_still core old mid r) ∙ on.output;
   }
 
-  pub acts_after : (last : Store) (event : PackedEvent) → Acts core mid last event → Acts core old last event
-  acts_after last packed.Quiet is = record { done = done_after core old mid r last Quiet is.done; event = is.event }
-  acts_after last (packed.Comm channel value) is = record { done = done_after core old mid r last (label_packed last.desk.heap (packed.Comm channel value)) is.done; event = is.event }
-  acts_after last (packed.Print w) is = record { done = done_after core old mid r last (printing (printed_of (value_of last.desk.heap w))) is.done; event = is.event }
-  acts_after last (packed.Trapped at) is = (sym (ap next_view (view_still core old mid r)) ∙ is.0, refused_after core old mid r last is.1)
+  pub acts_after : (last : Store) (event : Shown) → Acts core mid last event → Acts core old last event
+  acts_after last shows.Quiet is = record { done = done_after core old mid r last Quiet is.done; event = is.event }
+  acts_after last (shows.Comm channel value) is = record { done = done_after core old mid r last (label_shown last.desk.heap (shows.Comm channel value)) is.done; event = is.event }
+  acts_after last (shows.Print w) is = record { done = done_after core old mid r last (printing (printed_of (value_of last.desk.heap w))) is.done; event = is.event }
+  acts_after last (shows.Trapped at) is = (sym (ap next_view (view_still core old mid r)) ∙ is.0, refused_after core old mid r last is.1)
 
 -- ---- once words are made
 
 pub cost_same : (core : Process) (s n : Store) → n.turn ≡ s.turn → n.desk.values ≡ s.desk.values → turn_cost core n ≡ turn_cost core s
 cost_same core s n turn values = ap handing (same_words core s n turn (ap (λ vs. vs.items) values))
 
-pub acted_before : (old mid new : Store) (e : Effect) (at : Span) (event : PackedEvent) → KeepsWords old.desk.heap mid.desk.heap → mid.queues ≡ old.queues → mid.desk.values ≡ old.desk.values → e.leaves ≢ Trap
+pub acted_before : (old mid new : Store) (e : Effect) (at : Span) (event : Shown) → KeepsWords old.desk.heap mid.desk.heap → mid.queues ≡ old.queues → mid.desk.values ≡ old.desk.values → e.leaves ≢ Trap
     → HasActed mid new e at event → HasActed old new e at event
 acted_before old mid new e at event keeps queues values other h = record {
   turn = h.turn;

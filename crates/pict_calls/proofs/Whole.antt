@@ -19,21 +19,21 @@ use Rattle.pict_turns.specs.Stepping.{MayAct, Acts, IsStepBy, StepsBy}
 use Rattle.pict_turns.specs.Turns.{turn_cost}
 use Rattle.pict_turns.specs.Views.{IsKept, acting_words}
 use Rattle.pict_turns.specs.Widths.{MakesOnly, answer_widths}
-use Rattle.pict_turns.specs.declared.event.PackedEvent.{PackedEvent}
+use Rattle.pict_turns.specs.declared.event.Shown.{Shown}
 use Rattle.pict_turns.specs.declared.store.Store.{Store}
 use Rattle.pict_turns.proofs.Growing.{node_adds, kept_adds, call_adds}
 use Rattle.pict_turns.proofs.Needing.{node_needs, kept_needs, call_needed}
-use Rattle.pict_turns.proofs.Plainly.{output_sends, kept_sends, no_plain_call}
+use Rattle.pict_turns.proofs.InPlace.{output_sends, kept_sends, no_plain_call}
 use Rattle.pict_turns.proofs.Working.{costs_same, own_cost, kept_cost, alone_works, kept_works}
 use Rattle.pict_calls.specs.Calling.{CallsOn}
 use Rattle.pict_calls.proofs.Outputs.{takes, node_calls}
 
-step_by : (core : Process) (old new : Store) (r : Result PackedEvent AllocError) → IfOk r (Acts core old new) → OnErr r (IsRefused core old new) → IsStepBy core old new r
+step_by : (core : Process) (old new : Store) (r : Result Shown AllocError) → IfOk r (Acts core old new) → OnErr r (IsRefused core old new) → IsStepBy core old new r
 step_by core old new (Ok e) done refused = done
 step_by core old new (Err e) done refused = refused
 
 -- what a call does that gives the primitive this value, for whose words so much is needed
-pub record Calls (s new : Store) (p : Primitive) (v : Val) (at : Span) (given : Need) (r : Result PackedEvent AllocError) : Type 0 where
+pub record Calls (s new : Store) (p : Primitive) (v : Val) (at : Span) (given : Need) (r : Result Shown AllocError) : Type 0 where
   pub done : (core : Process) → CallsOn core s p v at → IfOk r (Acts core s new)
   pub refused : (core : Process) → HasActing core s → OnErr r (IsRefused core s new)
   pub blocks : (e : Effect) → effect_of p v ≡ Some e → MakesOnly s.queues new.queues (answer_widths e)
@@ -41,7 +41,7 @@ pub record Calls (s new : Store) (p : Primitive) (v : Val) (at : Span) (given : 
   pub work : new.queues.region.work ≡ s.queues.region.work
   pub turn : (core : Process) → turn_cost core new ≤ turn_cost core s + 13
 
-module _ (code : List Node) (s new : Store) (r : Result PackedEvent AllocError) (may : MayAct code s) (p : Primitive) (at : Span) where
+module _ (code : List Node) (s new : Store) (r : Result Shown AllocError) (may : MayAct code s) (p : Primitive) (at : Span) where
   -- of a node
   pub node_steps : (chan message : Val) → ActsBy (core_in code) s (op.Out chan message at) → operand_value (known s.desk.heap s.desk.values.items) chan ≡ PrimitiveVal p
       → Calls s new p (operand_in s.desk.heap s.desk.values.items message) at (given_need message) r → StepsBy code s new r

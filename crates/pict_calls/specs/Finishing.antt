@@ -13,8 +13,8 @@ use Rattle.pict_prim.specs.declared.act.Act.TheVariants as act
 use Rattle.pict_turns.specs.declared.store.Store.{Store}
 use Rattle.pict_turns.specs.declared.turn.Turn.{Turn}
 use Rattle.pict_turns.specs.declared.turn.Turn.TheVariants.{Nobody, Output}
-use Rattle.pict_turns.specs.declared.event.PackedEvent.{PackedEvent}
-use Rattle.pict_turns.specs.declared.event.PackedEvent.TheVariants as packed
+use Rattle.pict_turns.specs.declared.event.Shown.{Shown}
+use Rattle.pict_turns.specs.declared.event.Shown.TheVariants as shows
 
 -- the output of an answer has the turn
 pub record IsAnswered (h : HeapState) (to answer : Val) (at : Span) (turn : Turn) : Type 0 where
@@ -36,15 +36,15 @@ pub record PrintsWord (h : HeapState) (e : Effect) (w : Word) : Type 0 where
   pub no_trap : e.leaves ≢ Trap
 
 -- what the event shows of the effect
-abbrev pub Shows : HeapState → Effect → Span → PackedEvent → Type 0
-Shows h e at packed.Quiet = (e.printed ≡ None) × (e.leaves ≢ Trap)
-Shows h e at (packed.Comm channel value) = ⊥
-Shows h e at (packed.Print w) = PrintsWord h e w
-Shows h e at (packed.Trapped place) = (e.leaves ≡ Trap) × (place ≡ at)
+abbrev pub Shows : HeapState → Effect → Span → Shown → Type 0
+Shows h e at shows.Quiet = (e.printed ≡ None) × (e.leaves ≢ Trap)
+Shows h e at (shows.Comm channel value) = ⊥
+Shows h e at (shows.Print w) = PrintsWord h e w
+Shows h e at (shows.Trapped place) = (e.leaves ≡ Trap) × (place ≡ at)
 
 -- The act of the output that had the turn has had this effect. The queues and the values stay, and all words stand for what they
 -- stood for. A trap changes nothing.
-pub record HasActed (old new : Store) (e : Effect) (at : Span) (event : PackedEvent) : Type 0 where
+pub record HasActed (old new : Store) (e : Effect) (at : Span) (event : Shown) : Type 0 where
   pub turn : IsTurnAfter new.desk.heap e.leaves at new.turn
   pub shows : Shows new.desk.heap e at event
   pub queues : new.queues ≡ old.queues

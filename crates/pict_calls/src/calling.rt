@@ -20,12 +20,12 @@ use pict_desk::act_of;
 use pict_heap::Word;
 use pict_prim::{Act, act_on, room_of};
 use pict_syntax::{Prim, Span};
-use pict_turns::{PackedEvent, Store, reserve};
+use pict_turns::{Shown, Store, reserve};
 use std::alloc::AllocError;
 
 // Does what the primitive is about to do for the output that has the turn, as `call` says.
 #[inline(always)]
-fn carry_out(store: &mut Store, act: Act, at: Span) -> Result<PackedEvent, AllocError>
+fn carry_out(store: &mut Store, act: Act, at: Span) -> Result<Shown, AllocError>
     requires act { IsActOf store.old.desk.heap act }
     ensures done { (core : Process) (p : Primitive) (v : Val) → CallsOn core store.old p v at → effect_of p v ≡ Some (effect_act store.old.desk.heap act)
         → IfOk result (Acts core store.old store.new) }
@@ -50,7 +50,7 @@ pub(crate) fn call(
     p: Prim,
     argument: Word,
     at: Span,
-) -> Result<PackedEvent, AllocError>
+) -> Result<Shown, AllocError>
     requires word { IsWord store.old.desk.heap argument }
     requires takes { IsSome (effect_of p (value_of store.old.desk.heap argument)) }
     ensures done { (core : Process) → CallsOn core store.old p (value_of store.old.desk.heap argument) at
@@ -76,7 +76,7 @@ pub(crate) fn call_words(
     p: Prim,
     fields: &[Word],
     at: Span,
-) -> Result<PackedEvent, AllocError>
+) -> Result<Shown, AllocError>
     requires words { All (IsWord store.old.desk.heap) fields.now }
     requires takes { (labelled : Labelled) × IsSome (effect_of p (record_of_words store.old.desk.heap fields.now labelled)) }
     ensures done { (core : Process) (labelled : Labelled) → CallsOn core store.old p (record_of_words store.old.desk.heap fields.now labelled) at

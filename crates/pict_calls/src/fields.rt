@@ -27,7 +27,7 @@ use pict_desk::{
 };
 use pict_prim::{NO_NEED, Need};
 use pict_syntax::{Prim, Span};
-use pict_turns::{PackedEvent, Store, Turn, reserve_kept};
+use pict_turns::{Shown, Store, Turn, reserve_kept};
 use std::alloc::AllocError;
 
 // Makes room for the words of the fields, for what the primitive adds, and for the output of the answer. An error, which is
@@ -58,7 +58,7 @@ fn call_making(
     p: Prim,
     fields: &[Operand],
     at: Span,
-) -> Result<PackedEvent, AllocError>
+) -> Result<Shown, AllocError>
     requires over { AreOver (length store.old.desk.values.items) 0 (vals_of (map plain_val fields.now)) }
     requires pairs { ArePairs store.old.desk.heap store.old.desk.values.items }
     requires takes { (labelled : Labelled) × IsSome (effect_of p (argument_of store.old.desk.heap store.old.desk.values.items fields.now labelled)) }
@@ -77,7 +77,7 @@ fn call_making(
     ensures turn { (core : Process) → turn_cost core store.new ≤ turn_cost core store.old + 13 }
 {
     if divides_by_zero(p, fields, &store.desk.values) {
-        return Ok(PackedEvent::Trapped(at));
+        return Ok(Shown::Trapped(at));
     }
     make_call_room(store, p, fields)?;
     let act = decide(&mut store.desk, p, fields);
@@ -86,12 +86,7 @@ fn call_making(
 
 // The same as `call_fields`, of any fields.
 #[inline(never)]
-fn call_any(
-    store: &mut Store,
-    p: Prim,
-    fields: &[Operand],
-    at: Span,
-) -> Result<PackedEvent, AllocError>
+fn call_any(store: &mut Store, p: Prim, fields: &[Operand], at: Span) -> Result<Shown, AllocError>
     requires over { AreOver (length store.old.desk.values.items) 0 (vals_of (map plain_val fields.now)) }
     requires pairs { ArePairs store.old.desk.heap store.old.desk.values.items }
     requires takes { (labelled : Labelled) × IsSome (effect_of p (argument_of store.old.desk.heap store.old.desk.values.items fields.now labelled)) }
@@ -127,7 +122,7 @@ pub(crate) fn call_fields(
     p: Prim,
     fields: &[Operand],
     at: Span,
-) -> Result<PackedEvent, AllocError>
+) -> Result<Shown, AllocError>
     requires over { AreOver (length store.old.desk.values.items) 0 (vals_of (map plain_val fields.now)) }
     requires pairs { ArePairs store.old.desk.heap store.old.desk.values.items }
     requires takes { (labelled : Labelled) × IsSome (effect_of p (argument_of store.old.desk.heap store.old.desk.values.items fields.now labelled)) }
@@ -148,7 +143,7 @@ pub(crate) fn call_fields(
     if let Some(kept) = answer_at_hand(p, fields, &store.desk.values, at) {
         reserve_kept(store, NO_NEED)?;
         store.turn = Turn::Output(kept);
-        return Ok(PackedEvent::Quiet);
+        return Ok(Shown::Quiet);
     }
     call_any(store, p, fields, at)
 }

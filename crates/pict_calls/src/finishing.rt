@@ -10,7 +10,7 @@ use pict_desk::Kept;
 use pict_heap::{Word, pack};
 use pict_prim::{Act, Done, perform};
 use pict_syntax::Span;
-use pict_turns::{PackedEvent, Store, Turn};
+use pict_turns::{Shown, Store, Turn};
 
 /// How many free blocks the output that the act leaves needs: one where it answers.
 #[inline(always)]
@@ -39,7 +39,7 @@ fn output(to: Word, message: Word, at: Span) -> Kept
 /// The act is done, and its output, which has the turn, ends, or becomes that of the answer; where there is a trap it has the turn
 /// still. Takes no memory.
 #[inline(always)]
-pub(crate) fn finish(store: &mut Store, act: Act, at: Span) -> PackedEvent
+pub(crate) fn finish(store: &mut Store, act: Act, at: Span) -> Shown
     requires act { IsActOf store.old.desk.heap act }
     requires room { HasRoom store.old.desk.heap.room (need_of store.old.desk.heap act) }
     ensures acted { HasActed store.old store.new (effect_act store.old.desk.heap act) at result }
@@ -49,16 +49,16 @@ pub(crate) fn finish(store: &mut Store, act: Act, at: Span) -> PackedEvent
     match perform(&mut store.desk.heap, act) {
         Done::Printed(word) => {
             store.turn = Turn::Nobody;
-            PackedEvent::Print(word)
+            Shown::Print(word)
         }
         Done::Answer(to, answer) => {
             store.turn = Turn::Output(output(to, answer, at));
-            PackedEvent::Quiet
+            Shown::Quiet
         }
         Done::PrintedAnswer(word, to, answer) => {
             store.turn = Turn::Output(output(to, answer, at));
-            PackedEvent::Print(word)
+            Shown::Print(word)
         }
-        Done::ZeroDivisor => PackedEvent::Trapped(at),
+        Done::ZeroDivisor => Shown::Trapped(at),
     }
 }

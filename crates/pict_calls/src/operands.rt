@@ -27,12 +27,12 @@ use pict_core::CoreVal;
 use pict_desk::word_at_hand;
 use pict_prim::{Act, Need};
 use pict_syntax::{Prim, Span};
-use pict_turns::{PackedEvent, Store, reserve};
+use pict_turns::{Shown, Store, reserve};
 use std::alloc::AllocError;
 
 // Who has the turn is the output of this text to `print`, at this place in the text: as `call` says.
 #[inline(never)]
-fn print_text(store: &mut Store, bytes: &[u8], at: Span) -> Result<PackedEvent, AllocError>
+fn print_text(store: &mut Store, bytes: &[u8], at: Span) -> Result<Shown, AllocError>
     ensures done { (core : Process) → CallsOn core store.old primitive.Print (Text bytes.now) at → IfOk result (Acts core store.old store.new) }
     ensures refused { (core : Process) → HasActing core store.old → OnErr result (IsRefused core store.old store.new) }
     ensures piles { KeepsPiles store.old.desk.pending store.new.desk.pending }
@@ -54,12 +54,7 @@ fn print_text(store: &mut Store, bytes: &[u8], at: Span) -> Result<PackedEvent, 
 
 // The same as `call_operand`, of an operand that is neither a text nor a record.
 #[inline(never)]
-fn call_simple(
-    store: &mut Store,
-    p: Prim,
-    message: &Operand,
-    at: Span,
-) -> Result<PackedEvent, AllocError>
+fn call_simple(store: &mut Store, p: Prim, message: &Operand, at: Span) -> Result<Shown, AllocError>
     requires at_hand { IsOfHeap (plain_val message.now) → ⊥ }
     requires over { IsOver (length store.old.desk.values.items) 0 (plain_val message.now) }
     requires pairs { ArePairs store.old.desk.heap store.old.desk.values.items }
@@ -93,7 +88,7 @@ pub(crate) fn call_operand(
     p: Prim,
     message: &Operand,
     at: Span,
-) -> Result<PackedEvent, AllocError>
+) -> Result<Shown, AllocError>
     requires over { IsOver (length store.old.desk.values.items) 0 (plain_val message.now) }
     requires pairs { ArePairs store.old.desk.heap store.old.desk.values.items }
     requires takes { IsSome (effect_of p (operand_in store.old.desk.heap store.old.desk.values.items (plain_val message.now))) }

@@ -22,12 +22,12 @@ use pict_code::Operand;
 use pict_desk::{Kept, word_at};
 use pict_heap::Word;
 use pict_syntax::{Prim, Span};
-use pict_turns::{PackedEvent, Store, Turn};
+use pict_turns::{Shown, Store, Turn};
 use std::alloc::AllocError;
 
 // The step of an output of these kept values, which has the turn, and is to no channel.
 #[inline(always)]
-fn call_kept(store: &mut Store, kept: Kept) -> Result<PackedEvent, AllocError>
+fn call_kept(store: &mut Store, kept: Kept) -> Result<Shown, AllocError>
     requires may { (code : List AnyNode) × MayAct code store.old }
     requires kept { store.old.turn ≡ Turn.Output kept }
     requires elsewhere { channel_named (value_in store.old.desk.heap kept.to.0 kept.to.1) ≡ None }
@@ -43,7 +43,7 @@ fn call_kept(store: &mut Store, kept: Kept) -> Result<PackedEvent, AllocError>
 /// it answers, the output of the answer, of kept values at the same place, has the turn then. Dividing by zero and an error, which is
 /// want of memory, change nothing but room and spare blocks.
 #[inline(never)]
-pub fn call_of_turn(store: &mut Store) -> Result<PackedEvent, AllocError>
+pub fn call_of_turn(store: &mut Store) -> Result<Shown, AllocError>
     requires may { (code : List AnyNode) × MayAct code store.old }
     requires kept { (kept : AnyKept) × (store.old.turn ≡ Turn.Output kept) }
     requires elsewhere { (kept : AnyKept) → store.old.turn ≡ Turn.Output kept → channel_named (value_in store.old.desk.heap kept.to.0 kept.to.1) ≡ None }
@@ -66,7 +66,7 @@ pub fn call_message(
     message: &Operand,
     constant: &Option<Word>,
     at: Span,
-) -> Result<PackedEvent, AllocError>
+) -> Result<Shown, AllocError>
     requires over { IsOver (length store.old.desk.values.items) 0 (plain_val message.now) }
     requires pairs { ArePairs store.old.desk.heap store.old.desk.values.items }
     requires constant { IsConstant store.old.desk.heap (plain_val message.now) constant.now }

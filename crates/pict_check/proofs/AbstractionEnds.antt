@@ -35,9 +35,9 @@ use Rattle.pict_infer.specs.declared.error.InferError.{InferError}
 use Rattle.pict_infer.specs.Answering.{IsRefused, IsAnswer, nothing}
 use Rattle.pict_infer.specs.Asking.{IsWellAsked}
 use Rattle.pict_infer.specs.Opening.{against_fields}
-use Rattle.pict_infer.specs.Steps.{expanded, shown}
+use Rattle.pict_infer.specs.Steps.{expanded, changed_or_same}
 use Rattle.pict_infer.proofs.Asked.{asked_of}
-use Rattle.pict_infer.proofs.Forming.{exposed_itself, shown_is}
+use Rattle.pict_infer.proofs.Forming.{exposed_itself, changed_or_same_is}
 use Rattle.pict_infer.proofs.MadeKnown.{own_then_parts}
 use Rattle.pict_infer.proofs.Through.{GoesOn, given, needed, refused, refused_on, refused_past, unstopped}
 use Rattle.pict_infer.specs.Shaping.{IsNoRecord}
@@ -261,8 +261,8 @@ pub outside_given_at : (n m : ℕ) (t u : PlainType) (s at : Span) → n ≡ m �
 outside_given_at n m t u s at h k p = subst (λ z. Runs (outside m t z) (ok u)) k (subst (λ z. Runs (outside z t s) (ok u)) h p)
 
 -- what a type exposes to, by what is shown of it
-pub exposure_is : (e : Environment) (c : Context) (o : Option Ty) (t : Ty) (u : PlainType) → plain_context c ≡ e.context → IfNone o (exposure (type_context c) (plain t) ≡ plain t) → IfSome o (λ v. plain v ≡ exposure (type_context c) (plain t)) → u ≡ shown o t → exposure (context_of e) (plain t) ≡ u
-exposure_is e c o t u k n s is = ap (λ z. exposure (variables z) (plain t)) (sym k) ∙ sym (shown_is (exposure (type_context c) (plain t)) o t n s) ∙ sym is
+pub exposure_is : (e : Environment) (c : Context) (o : Option Ty) (t : Ty) (u : PlainType) → plain_context c ≡ e.context → IfNone o (exposure (type_context c) (plain t) ≡ plain t) → IfSome o (λ v. plain v ≡ exposure (type_context c) (plain t)) → u ≡ changed_or_same o t → exposure (context_of e) (plain t) ≡ u
+exposure_is e c o t u k n s is = ap (λ z. exposure (variables z) (plain t)) (sym k) ∙ sym (changed_or_same_is (exposure (type_context c) (plain t)) o t n s) ∙ sym is
 
 -- an abstraction against a type that exposes to a record
 pub against_record_answer : (e : Environment) (b : Abs) (s : Span) (f : FieldPats) (a : RType) (v : Val) (t : PlainType) (r : Record) (x : Result (Unit {0}) InferError) → b ≡ function_abs s f a v → exposure (context_of e) t ≡ plain_record r → IsAnswer (rule e (abstraction_against (function_abs s f a v) (plain_record r))) nothing x → IsAnswer (rule e (abstraction_against b t)) nothing x

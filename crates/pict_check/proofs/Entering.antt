@@ -14,7 +14,7 @@ use Rattle.pict_rules.specs.Typing.{rule}
 use Rattle.pict_infer.specs.declared.error.InferError.{InferError}
 use Rattle.pict_infer.specs.Answering.{IsRefused, IsStopped}
 use Rattle.pict_infer.specs.Asking.{IsWellAsked}
-use Rattle.pict_lines.specs.declared.operators.Operator.{Operator}
+use Rattle.pict_lines.specs.declared.operators.Applied.{Applied}
 use Rattle.pict_lines.specs.Chains.{AreEntered, before_fields, nested, room_stop, wanted_at, wanted_inside}
 use Rattle.pict_lines.specs.Judging.{IsRefusedFor}
 use Rattle.pict_lines.specs.Nesting.{AreEnteredSoFar, IsRightForm, right_form, wanted_right}
@@ -26,14 +26,14 @@ use Rattle.pict_check.proofs.Inward.{level_asked, step_asked, IsStep, first_refu
 use Rattle.pict_lines.proofs.NestedFormed.{after_found, before_found, expected_for}
 
 -- so many applications are entered, and this is wanted inside
-pub record IsEntering (e : Environment) (o : Operator) (vs : List RVal) (x : Option Ty) (fs : List Found) (w : Option Ty) (i : ℕ) : Type 0 where
+pub record IsEntering (e : Environment) (o : Applied) (vs : List RVal) (x : Option Ty) (fs : List Found) (w : Option Ty) (i : ℕ) : Type 0 where
   pub form : IsRightForm e o vs x
   pub entered : AreEnteredSoFar e o vs x fs
   pub count : length fs ≡ i
   pub inside : type_if w ≡ wanted_right o x fs
 
 -- none yet
-pub entering_first : {e : Environment} {o : Operator} {vs : List RVal} {x w : Option Ty} {fs : List Found} → IsRightForm e o vs x → fs ≡ [] → type_if w ≡ type_if x → IsEntering e o vs x fs w 0
+pub entering_first : {e : Environment} {o : Applied} {vs : List RVal} {x w : Option Ty} {fs : List Found} → IsRightForm e o vs x → fs ≡ [] → type_if w ≡ type_if x → IsEntering e o vs x fs w 0
 entering_first {e = e} {o = o} {vs = vs} {x = x} p none h = record {
   form = p;
   entered = subst (λ z. AreEntered e o.span (operator_of o) (vals_of vs) (type_if x) (frames_by o z)) (sym none) tt;
@@ -41,7 +41,7 @@ entering_first {e = e} {o = o} {vs = vs} {x = x} p none h = record {
   inside = h ∙ ap (wanted_right o x) (sym none);
 }
 
-pub entering_wanted : {e e' : Environment} {o : Operator} {vs : List RVal} {x : Option Ty} {fs : List Found} {w : Option Ty} {i : ℕ} → IsEntering e o vs x fs w i → i < length vs → e' ≡ e → IsExpected e' (type_if w)
+pub entering_wanted : {e e' : Environment} {o : Applied} {vs : List RVal} {x : Option Ty} {fs : List Found} {w : Option Ty} {i : ℕ} → IsEntering e o vs x fs w i → i < length vs → e' ≡ e → IsExpected e' (type_if w)
 entering_wanted {e = e} {o = o} {vs = vs} {x = x} {fs = fs} {w = w} p n q =
     let few : length (frames_by o fs) < length (vals_of vs) = omega (arith, length_frames o fs, length_vals vs, p.count, n) in
     subst (λ k. IsExpected k (type_if w)) (sym q)
@@ -50,7 +50,7 @@ entering_wanted {e = e} {o = o} {vs = vs} {x = x} {fs = fs} {w = w} p n q =
     (inside_asked e o.span o.name (operator_of o) (vals_of vs) (type_if x) (frames_by o fs) p.form.head p.form.asked p.entered few)))
 
 -- one application more: what is found before its fields, its value, and its first field
-pub record EntersNext (e e' : Environment) (o : Operator) (vs : List RVal) (x : Option Ty) (fs : List Found) (w : Option Ty) (i : ℕ) (b : Found) (r : RVal) (bs : List Bound) (u : PlainType) : Type 0 where
+pub record EntersNext (e e' : Environment) (o : Applied) (vs : List RVal) (x : Option Ty) (fs : List Found) (w : Option Ty) (i : ℕ) (b : Found) (r : RVal) (bs : List Bound) (u : PlainType) : Type 0 where
   pub so_far : IsEntering e o vs x fs w i
   pub more : suc i < length vs
   pub before : found_by o b ≡ before_fields e' (operator_of o) (type_if w)
@@ -59,10 +59,10 @@ pub record EntersNext (e e' : Environment) (o : Operator) (vs : List RVal) (x : 
   pub first : u ≡ (operator_of o).first
   pub same : e' ≡ e
 
-pub enters_next : {e e' : Environment} {o : Operator} {vs : List RVal} {x : Option Ty} {fs : List Found} {w : Option Ty} {i : ℕ} {bs : List Bound} {u : PlainType} (b : Found) (r : RVal) → IsEntering e o vs x fs w i → suc i < length vs → found_by o b ≡ before_fields e' (operator_of o) (type_if w) → r ≡ get_or vs i r → bs ≡ o.function.fields.binders.items → u ≡ (operator_of o).first → e' ≡ e → EntersNext e e' o vs x fs w i b r bs u
+pub enters_next : {e e' : Environment} {o : Applied} {vs : List RVal} {x : Option Ty} {fs : List Found} {w : Option Ty} {i : ℕ} {bs : List Bound} {u : PlainType} (b : Found) (r : RVal) → IsEntering e o vs x fs w i → suc i < length vs → found_by o b ≡ before_fields e' (operator_of o) (type_if w) → r ≡ get_or vs i r → bs ≡ o.function.fields.binders.items → u ≡ (operator_of o).first → e' ≡ e → EntersNext e e' o vs x fs w i b r bs u
 enters_next b r p m f v h t q = record { so_far = p; more = m; before = f; value = v; bounds = h; first = t; same = q }
 
-step_of : {e e' : Environment} {o : Operator} {vs : List RVal} {x : Option Ty} {fs : List Found} {w : Option Ty} {i : ℕ} {b : Found} {r : RVal} {bs : List Bound} {u : PlainType} → EntersNext e e' o vs x fs w i b r bs u → IsStep e e' o.span o.name (operator_of o) (vals_of vs) (type_if x) (frames_by o fs) i (found_by o b) (type_if w)
+step_of : {e e' : Environment} {o : Applied} {vs : List RVal} {x : Option Ty} {fs : List Found} {w : Option Ty} {i : ℕ} {b : Found} {r : RVal} {bs : List Bound} {u : PlainType} → EntersNext e e' o vs x fs w i b r bs u → IsStep e e' o.span o.name (operator_of o) (vals_of vs) (type_if x) (frames_by o fs) i (found_by o b) (type_if w)
 step_of {o = o} {vs = vs} {fs = fs} p = record {
   head = p.so_far.form.head;
   entered = p.so_far.entered;
@@ -73,30 +73,30 @@ step_of {o = o} {vs = vs} {fs = fs} p = record {
   same = p.same;
 }
 
-value_is : {e e' : Environment} {o : Operator} {vs : List RVal} {x : Option Ty} {fs : List Found} {w : Option Ty} {i : ℕ} {b : Found} {r : RVal} {bs : List Bound} {u : PlainType} → EntersNext e e' o vs x fs w i b r bs u → get_or (vals_of vs) i (val_of r) ≡ val_of r
+value_is : {e e' : Environment} {o : Applied} {vs : List RVal} {x : Option Ty} {fs : List Found} {w : Option Ty} {i : ℕ} {b : Found} {r : RVal} {bs : List Bound} {u : PlainType} → EntersNext e e' o vs x fs w i b r bs u → get_or (vals_of vs) i (val_of r) ≡ val_of r
 value_is {vs = vs} {i = i} {r = r} p = val_at vs i r (val_of r) (omega (arith, p.more)) ∙ ap val_of (sym p.value)
 
-pub next_asked : {e e' : Environment} {o : Operator} {vs : List RVal} {x : Option Ty} {fs : List Found} {w : Option Ty} {i : ℕ} {b : Found} {r : RVal} {bs : List Bound} {u : PlainType} → EntersNext e e' o vs x fs w i b r bs u → IsWellAsked found_ e' (value_fits o.span (val_of r) u (found_for bs b))
+pub next_asked : {e e' : Environment} {o : Applied} {vs : List RVal} {x : Option Ty} {fs : List Found} {w : Option Ty} {i : ℕ} {b : Found} {r : RVal} {bs : List Bound} {u : PlainType} → EntersNext e e' o vs x fs w i b r bs u → IsWellAsked found_ e' (value_fits o.span (val_of r) u (found_for bs b))
 next_asked {e = e} {e' = e'} {o = o} {vs = vs} {x = x} {fs = fs} {w = w} {i = i} {b = b} {r = r} {bs = bs} {u = u} p =
     subst (λ z. IsWellAsked found_ e' (value_fits o.span (val_of r) u (found_for z b))) (sym p.bounds)
     (subst (λ t. IsWellAsked found_ e' (value_fits o.span (val_of r) t (found_by o b))) (sym p.first)
     (subst (λ v. IsWellAsked found_ e' (value_fits o.span v (operator_of o).first (found_by o b))) (value_is p)
     (step_asked e e' o.span o.name (operator_of o) (vals_of vs) (type_if x) (frames_by o fs) i (found_by o b) (type_if w) (val_of r) (step_of p) p.so_far.form.asked)))
 
-pub next_refused : {e e' : Environment} {o : Operator} {vs : List RVal} {x : Option Ty} {fs : List Found} {w : Option Ty} {i : ℕ} {b : Found} {r : RVal} {bs : List Bound} {u : PlainType} (y : InferError) → EntersNext e e' o vs x fs w i b r bs u → IsRefused (rule e' (value_fits o.span (val_of r) u (found_for bs b))) y → IsRefusedFor e (right_form o vs) (type_if x) y
+pub next_refused : {e e' : Environment} {o : Applied} {vs : List RVal} {x : Option Ty} {fs : List Found} {w : Option Ty} {i : ℕ} {b : Found} {r : RVal} {bs : List Bound} {u : PlainType} (y : InferError) → EntersNext e e' o vs x fs w i b r bs u → IsRefused (rule e' (value_fits o.span (val_of r) u (found_for bs b))) y → IsRefusedFor e (right_form o vs) (type_if x) y
 next_refused {e = e} {e' = e'} {o = o} {vs = vs} {x = x} {fs = fs} {w = w} {i = i} {b = b} {r = r} {bs = bs} {u = u} y p h =
     first_refused e e' o.span o.name (operator_of o) (vals_of vs) (type_if x) (frames_by o fs) i (found_by o b) (type_if w) (val_of r) y (step_of p)
     (subst (λ v. IsRefused (rule e' (value_fits o.span v (operator_of o).first (found_by o b))) y) (sym (value_is p))
     (subst (λ t. IsRefused (rule e' (value_fits o.span (val_of r) t (found_by o b))) y) p.first
     (subst (λ z. IsRefused (rule e' (value_fits o.span (val_of r) u (found_for z b))) y) p.bounds h)))
 
-ran : {e e' : Environment} {o : Operator} {vs : List RVal} {x : Option Ty} {fs : List Found} {w : Option Ty} {i : ℕ} {b : Found} {r : RVal} {bs : List Bound} {u : PlainType} (g : Found) → EntersNext e e' o vs x fs w i b r bs u → FieldFinds e' o b r bs u g → Runs (rule e' (value_fits o.span (get_or (vals_of vs) i (val_of r)) (operator_of o).first (found_by o b))) (ok (found_by o g))
+ran : {e e' : Environment} {o : Applied} {vs : List RVal} {x : Option Ty} {fs : List Found} {w : Option Ty} {i : ℕ} {b : Found} {r : RVal} {bs : List Bound} {u : PlainType} (g : Found) → EntersNext e e' o vs x fs w i b r bs u → FieldFinds e' o b r bs u g → Runs (rule e' (value_fits o.span (get_or (vals_of vs) i (val_of r)) (operator_of o).first (found_by o b))) (ok (found_by o g))
 ran {e' = e'} {o = o} {b = b} {r = r} {u = u} g p h =
     subst (λ v. Runs (rule e' (value_fits o.span v (operator_of o).first (found_by o b))) (ok (found_by o g))) (sym (value_is p))
     (subst (λ t. Runs (rule e' (value_fits o.span (val_of r) t (found_by o b))) (ok (found_by o g))) p.first
     (subst (λ z. Runs (rule e' (value_fits o.span (val_of r) u (found_for z b))) (ok (found_for z g))) p.bounds h))
 
-pub next_found : {e e' e2 : Environment} {o : Operator} {vs : List RVal} {x : Option Ty} {fs : List Found} {w : Option Ty} {i : ℕ} {b : Found} {r : RVal} {bs : List Bound} {u : PlainType} (g : Found) → EntersNext e e' o vs x fs w i b r bs u → FieldFinds e' o b r bs u g → e2 ≡ e' → IsFoundFor e2 (operator_of o).binders (found_by o g)
+pub next_found : {e e' e2 : Environment} {o : Applied} {vs : List RVal} {x : Option Ty} {fs : List Found} {w : Option Ty} {i : ℕ} {b : Found} {r : RVal} {bs : List Bound} {u : PlainType} (g : Found) → EntersNext e e' o vs x fs w i b r bs u → FieldFinds e' o b r bs u g → e2 ≡ e' → IsFoundFor e2 (operator_of o).binders (found_by o g)
 next_found {e = e} {e' = e'} {o = o} {vs = vs} {x = x} {fs = fs} {w = w} {i = i} {b = b} {r = r} g p h q =
     let s = step_of p in
     let few : suc (length (frames_by o fs)) < length (vals_of vs) = omega (arith, s.count, s.more) in
@@ -109,12 +109,12 @@ next_found {e = e} {e' = e'} {o = o} {vs = vs} {x = x} {fs = fs} {w = w} {i = i}
     (step_asked e e' o.span o.name (operator_of o) (vals_of vs) (type_if x) (frames_by o fs) i (found_by o b) (type_if w) (val_of r) s p.so_far.form.asked) (ran g p h))
 
 -- what is wanted of the second one passes a limit, or not
-pub next_stopped : {e e' e2 : Environment} {o : Operator} {vs : List RVal} {x : Option Ty} {fs : List Found} {w : Option Ty} {i : ℕ} {b : Found} {r : RVal} {bs : List Bound} {u t : PlainType} (g : Found) (y : InferError) → EntersNext e e' o vs x fs w i b r bs u → FieldFinds e' o b r bs u g → e2 ≡ e' → t ≡ (operator_of o).second → IsStopped (room_stop e2 o.span (wanted_at t (found_by o g))) y → IsRefusedFor e (right_form o vs) (type_if x) y
+pub next_stopped : {e e' e2 : Environment} {o : Applied} {vs : List RVal} {x : Option Ty} {fs : List Found} {w : Option Ty} {i : ℕ} {b : Found} {r : RVal} {bs : List Bound} {u t : PlainType} (g : Found) (y : InferError) → EntersNext e e' o vs x fs w i b r bs u → FieldFinds e' o b r bs u g → e2 ≡ e' → t ≡ (operator_of o).second → IsStopped (room_stop e2 o.span (wanted_at t (found_by o g))) y → IsRefusedFor e (right_form o vs) (type_if x) y
 next_stopped {e = e} {e' = e'} {e2 = e2} {o = o} {vs = vs} {x = x} {fs = fs} {w = w} {i = i} {b = b} {r = r} g y p h q is z =
     room_refused e e' e2 o.span o.name (operator_of o) (vals_of vs) (type_if x) (frames_by o fs) i (found_by o b) (type_if w) (val_of r) (found_by o g) y (step_of p) q (ran g p h)
     (subst (λ t. IsStopped (room_stop e2 o.span (wanted_at t (found_by o g))) y) is z)
 
-pub next_entered : {e e' e2 : Environment} {o : Operator} {vs : List RVal} {x : Option Ty} {fs gs : List Found} {w v : Option Ty} {i : ℕ} {b : Found} {r : RVal} {bs : List Bound} {u t : PlainType} (g : Found) → EntersNext e e' o vs x fs w i b r bs u → FieldFinds e' o b r bs u g → e2 ≡ e' → t ≡ (operator_of o).second → room_stop e2 o.span (wanted_at t (found_by o g)) ≡ None → type_if v ≡ wanted_at t (found_by o g) → gs ≡ fs ++ g ∷ [] → IsEntering e o vs x gs v (i + 1)
+pub next_entered : {e e' e2 : Environment} {o : Applied} {vs : List RVal} {x : Option Ty} {fs gs : List Found} {w v : Option Ty} {i : ℕ} {b : Found} {r : RVal} {bs : List Bound} {u t : PlainType} (g : Found) → EntersNext e e' o vs x fs w i b r bs u → FieldFinds e' o b r bs u g → e2 ≡ e' → t ≡ (operator_of o).second → room_stop e2 o.span (wanted_at t (found_by o g)) ≡ None → type_if v ≡ wanted_at t (found_by o g) → gs ≡ fs ++ g ∷ [] → IsEntering e o vs x gs v (i + 1)
 next_entered {e = e} {e' = e'} {e2 = e2} {o = o} {vs = vs} {x = x} {fs = fs} {gs = gs} {w = w} {i = i} {b = b} {r = r} g p h q is room wanted items =
     let more = frames_more o fs gs g items in
     record {

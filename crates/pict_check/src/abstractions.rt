@@ -13,8 +13,8 @@ ghost use Rattle.pict_lines.specs.Definitions.{function_tree};
 use crate::processes::process;
 use crate::values::{gives, has};
 use pict_infer::{
-    Env, InferError, Told, as_record, followed, open_fields, open_fields_against, pattern_against,
-    pattern_gives, shown,
+    Env, InferError, Told, as_record, changed_or_same, followed, open_fields, open_fields_against,
+    pattern_against, pattern_gives,
 };
 use pict_lines::answers::{answer_in, argument, body_type, opened, past_added};
 use pict_lines::steps::{expanded, outside};
@@ -86,7 +86,7 @@ fn typed_gives(
     let answer = expanded(alloc, env, a)?;
     let wanted = past_added(alloc, &own.adds, &answer)?;
     env.add(own.adds)?;
-    has(alloc, env, v, shown(&wanted, &answer))?;
+    has(alloc, env, v, changed_or_same(&wanted, &answer))?;
     env.cut(outer);
     argument(alloc, env, own.has, answer, span)
 }
@@ -113,7 +113,7 @@ pub fn abstraction_against(
         }
         Abs::Function(span, fields, annotation, v) => {
             let followed = followed(alloc, env.context(), t)?;
-            match as_record(shown(&followed, t)) {
+            match as_record(changed_or_same(&followed, t)) {
                 None => Err(InferError::Named(Code::Y8, *span, Told::Nothing)),
                 Some(r) => function_against(alloc, env, v, fields, annotation, r, *span),
             }
@@ -146,7 +146,7 @@ fn function_against(
     let wanted = body_type(alloc, env, annotation, answer)?;
     let inside = past_added(alloc, &adds, &wanted)?;
     env.add(adds)?;
-    has(alloc, env, v, shown(&inside, &wanted))?;
+    has(alloc, env, v, changed_or_same(&inside, &wanted))?;
     env.cut(outer);
     Ok(())
 }

@@ -23,7 +23,7 @@ use pict_lines::nested::{
     copied, end_application, end_fields, field_given, field_wanted, first, operator, second, start,
     true_for, wanted_around,
 };
-use pict_lines::operators::Operator;
+use pict_lines::operators::Applied;
 use pict_lines::right::leave;
 use pict_match::Found;
 use pict_syntax::{Id, Span, Val, val_span};
@@ -175,7 +175,7 @@ fn right_by(
     alloc: Global,
     env: &mut Env,
     vs: &[Val],
-    o: &Operator,
+    o: &Applied,
     expected: &Option<Ty>,
 ) -> Result<Option<Ty>, InferError>
     requires some { 2 ≤ length vs.now }
@@ -195,7 +195,7 @@ fn enter(
     alloc: Global,
     env: &mut Env,
     vs: &[Val],
-    o: &Operator,
+    o: &Applied,
     expected: &Option<Ty>,
 ) -> Result<Vec<Found>, InferError>
     requires some { 1 ≤ length vs.now }
@@ -251,7 +251,7 @@ fn left_by(
     alloc: Global,
     env: &mut Env,
     vs: &[Val],
-    o: &Operator,
+    o: &Applied,
     expected: &Option<Ty>,
 ) -> Result<Option<Ty>, InferError>
     requires some { 2 ≤ length vs.now }
@@ -272,7 +272,7 @@ fn finish(
     alloc: Global,
     env: &mut Env,
     vs: &[Val],
-    o: &Operator,
+    o: &Applied,
     begun: Vec<Found>,
     expected: &Option<Ty>,
     innermost: Option<Ty>,

@@ -17,7 +17,7 @@ ghost use Rattle.pict_check.specs.Records.{labelled_of, labelled_value_fits, pos
 ghost use Rattle.pict_lines.specs.Reading.{found_for};
 
 use crate::values::{gives, has};
-use pict_infer::{Env, InferError, labelled_type, shown};
+use pict_infer::{Env, InferError, changed_or_same, labelled_type};
 use pict_lines::counts::counted;
 use pict_lines::fields::{fields_end, given_fits, mentions_missing, wanted};
 use pict_lines::records::{record_instance, written_arguments};
@@ -205,5 +205,5 @@ pub fn value_fits(
         return given_fits(alloc, env, t, &given, bs, found, val_span(v), span);
     }
     let put = wanted(alloc, env, t, bs, found, span)?;
-    has(alloc, env, v, shown(&put, t))
+    has(alloc, env, v, changed_or_same(&put, t))
 }

@@ -26,7 +26,7 @@ use Rattle.pict_core.specs.declared.value.CoreVal.TheVariants as value
 use Rattle.pict_translation.specs.Placed.{Placed, new_channel, new_channels, beside, output, input, choice, served, side_by_side}
 use Rattle.pict_translation.specs.Arguments.{with_value, sent_as_one, right, left}
 use Rattle.pict_translation.specs.Patterns.{pat_core, function_pat}
-use Rattle.pict_translation.specs.Simple.{Around, bound, pat_bound, function_bound, answer_channel, fields_of, use_of, simple, simple_chan}
+use Rattle.pict_translation.specs.Simple.{Around, bound, pat_bound, function_bound, answer_channel, record_of_fields, use_of, simple, simple_chan}
 use Rattle.pict_translation.specs.Translation.{sending, sending_chan, with_vals, with_labelled, with_fields, arguments, reader, dec_core, decs_core, definition_names, servers, proc_core, procs_core, unit_pat}
 use Rattle.pict_derive.proofs.Surrounding.{plain_var}
 use Rattle.pict_scope.proofs.ValueForms.{field_vals_are}
@@ -62,7 +62,7 @@ pub false_sent : (e : Around) (v : Val) (s : Span) (k d : ℕ) → v ≡ False s
 unfolding val_of sending
 false_sent e v s k d is = sent_as k (value.Bool false) (core.Boolean false) s (search (rules, value_lemmas)) ∙ sym (ap (λ t. sending e (val_of t) (core.Var k) d) is)
 
-pub fields_sent : (e : Around) (v : Val) (s : Span) (f : Box FieldVals Global) (k : core.Val) (d : ℕ) → v ≡ Fields s f → sending e (val_of v) k d ≡ with_fields e (field_vals_of f.value) (λ vs ls. output k (fields_of e vs ls) s) d
+pub fields_sent : (e : Around) (v : Val) (s : Span) (f : Box FieldVals Global) (k : core.Val) (d : ℕ) → v ≡ Fields s f → sending e (val_of v) k d ≡ with_fields e (field_vals_of f.value) (λ vs ls. output k (record_of_fields e vs ls) s) d
 unfolding val_of sending
 fields_sent e v s f k d is = ap (λ t. sending e (val_of t) k d) is
 
@@ -88,7 +88,7 @@ pub block_sent : (e : Around) (v : Chan) (s : Span) (ds : Vec Dec Global) (b : B
 unfolding sending_chan
 block_sent e v s ds b k d is = ap (λ t. sending_chan e (chan_of t) k d) is ∙ ap (λ t. sending_chan e t k d) (block_is s ds b)
 
-pub apply_sent : (e : Around) (v : Chan) (s : Span) (f : Box Val Global) (a : Box FieldVals Global) (k : core.Val) (d : ℕ) → v ≡ Apply s f a → sending_chan e (chan_of v) k d ≡ with_value (simple e (val_of f.value)) (sending e (val_of f.value)) (λ g. with_fields e (field_vals_of a.value) (λ vs ls. output g (fields_of e (vs ++ k ∷ []) ls) s)) d
+pub apply_sent : (e : Around) (v : Chan) (s : Span) (f : Box Val Global) (a : Box FieldVals Global) (k : core.Val) (d : ℕ) → v ≡ Apply s f a → sending_chan e (chan_of v) k d ≡ with_value (simple e (val_of f.value)) (sending e (val_of f.value)) (λ g. with_fields e (field_vals_of a.value) (λ vs ls. output g (record_of_fields e (vs ++ k ∷ []) ls) s)) d
 unfolding chan_of sending_chan
 apply_sent e v s f a k d is = ap (λ t. sending_chan e (chan_of t) k d) is
 

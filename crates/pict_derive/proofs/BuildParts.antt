@@ -17,7 +17,7 @@ use Rattle.pict_binders.specs.declared.binders.Binder.{Binder}
 use Rattle.pict_translation.specs.Placed.{Placed, beside, output, input, served, side_by_side, variables}
 use Rattle.pict_translation.specs.Arguments.{with_value, application, right, left, left_after, no_argument}
 use Rattle.pict_translation.specs.Patterns as patterns
-use Rattle.pict_translation.specs.Simple.{Around, fields_of, simple}
+use Rattle.pict_translation.specs.Simple.{Around, record_of_fields, simple}
 use Rattle.pict_translation.specs.Translation.{sending, arguments, procs_core, servers}
 use Rattle.pict_derive.specs.declared.outside.Outside.{Outside}
 use Rattle.pict_derive.specs.Built.{Extends, surround, three}
@@ -39,9 +39,9 @@ choice_made made b p q x y is l r = is ∙ ap (λ z. core.If b z q) l ∙ ap (co
 pub applied_made : (made : core.Process) (f y : CoreVal) (g x u : core.Val) (k : ℕ) (s : Span) → made ≡ core.Out (plain_val f) (three x (plain_val y) (core.Var k)) s → plain_val f ≡ g → plain_val y ≡ u → made ≡ core.Out g (three x u (core.Var k)) s
 applied_made made f y g x u k s is head last = is ∙ ap (λ h. core.Out h (three x (plain_val y) (core.Var k)) s) head ∙ ap (λ v. core.Out g (three x v (core.Var k)) s) last
 
-pub fields_and : (e : Around) (v : core.Val) (old new : List CoreVal) (k : ℕ) (ws : List (ℕ × core.Val)) → v ≡ fields_of e (map plain_val new) ws → new ≡ old ++ value.Var k ∷ [] → v ≡ fields_of e (map plain_val old ++ core.Var k ∷ []) ws
+pub fields_and : (e : Around) (v : core.Val) (old new : List CoreVal) (k : ℕ) (ws : List (ℕ × core.Val)) → v ≡ record_of_fields e (map plain_val new) ws → new ≡ old ++ value.Var k ∷ [] → v ≡ record_of_fields e (map plain_val old ++ core.Var k ∷ []) ws
 fields_and e v old new k ws is grown =
-    is ∙ ap (λ us. fields_of e us ws) (ap (map plain_val) grown ∙ map-append plain_val old (value.Var k ∷ []) ∙ ap (λ x. map plain_val old ++ x ∷ []) (plain_var k))
+    is ∙ ap (λ us. record_of_fields e us ws) (ap (map plain_val) grown ∙ map-append plain_val old (value.Var k ∷ []) ∙ ap (λ x. map plain_val old ++ x ∷ []) (plain_var k))
 
 -- an input, from its pattern and its body
 pub input_made : (made : core.Process) (x : core.Val) (r : Bool) (p q : core.Pat) (body : core.Process) (f : List core.Val → Placed) (inside d : ℕ) → made ≡ core.In x r p body → p ≡ q → body ≡ f (variables d (binds q)) inside → inside ≡ d + binds q → made ≡ input x r q f d

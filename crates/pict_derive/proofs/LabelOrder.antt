@@ -5,7 +5,7 @@ use Rattle.std.proofs.Common.{Global}
 use Rattle.std.specs.Prelude.{Vec}
 use Rattle.pict_core.specs.declared.value.CoreVal.TheVariants as value
 use Rattle.pict_core.proofs.Fields.{plain_val-Fields}
-use Rattle.pict_translation.specs.Simple.{fields_of}
+use Rattle.pict_translation.specs.Simple.{record_of_fields}
 use Rattle.pict_derive.specs.Built.{place}
 use Rattle.std.specs.Ordering.{is_lt}
 use Rattle.pict_syntax.specs.declared.name.Name.{Name}
@@ -16,7 +16,7 @@ use Rattle.pict_core.specs.Term as core
 use Rattle.pict_core.specs.Plain as plain
 use Rattle.pict_core.specs.Plain.{plain_val, plain_pat, plain_field, plain_pat_field}
 use Rattle.pict_translation.specs.Arguments.{labelled_of}
-use Rattle.pict_translation.specs.Patterns.{Opened, patterns_in, labelled_patterns_in, names_in, labelled_names_in}
+use Rattle.pict_translation.specs.Patterns.{Opened, patterns_in, labelled_patterns_in, names_opened, labelled_names_in}
 use Rattle.pict_derive.specs.Built.{field_of, pattern_of}
 
 -- the same labels on other things
@@ -52,7 +52,7 @@ pub labelled_are : (fs : List (Name × CoreVal)) → plain.labelled_of (map plai
 labelled_are [] = refl
 labelled_are (f ∷ fs) = ap (core.more_labelled f.0.0 (plain_val f.1)) (labelled_are fs)
 
-pub record_is : (names : List (List ℕ)) (ps : Vec CoreVal Global) (old new : Vec (Name × CoreVal) Global) → by_number new.items ≡ in_label_order names (by_number old.items) → plain_val (value.Fields ps new) ≡ fields_of (place names []) (map plain_val ps.items) (map field_of old.items)
+pub record_is : (names : List (List ℕ)) (ps : Vec CoreVal Global) (old new : Vec (Name × CoreVal) Global) → by_number new.items ≡ in_label_order names (by_number old.items) → plain_val (value.Fields ps new) ≡ record_of_fields (place names []) (map plain_val ps.items) (map field_of old.items)
 record_is names ps old new sorted =
     plain_val-Fields ps new
     ∙ ap (core.Record (plain.vals_of (map plain_val ps.items))) (labelled_are new.items ∙ ap labelled_of (sorted_are names plain_val old.items new.items sorted))
@@ -81,9 +81,9 @@ labelled_patterns_are ps fs same = numbered ps ∙ ap numbered_pats same ∙ num
 
 -- ---- the names of fields, one after the other
 
-pub names_in_more : (os : List Opened) (o : Opened) → names_in (os ++ o ∷ []) ≡ names_in os ++ o.names
+pub names_in_more : (os : List Opened) (o : Opened) → names_opened (os ++ o ∷ []) ≡ names_opened os ++ o.names
 names_in_more [] o = append-nil o.names
-names_in_more (p ∷ os) o = ap (λ ns. p.names ++ ns) (names_in_more os o) ∙ sym (append_assoc p.names (names_in os) o.names)
+names_in_more (p ∷ os) o = ap (λ ns. p.names ++ ns) (names_in_more os o) ∙ sym (append_assoc p.names (names_opened os) o.names)
 
 pub labelled_names_more : (fs : List (ℕ × Opened)) (f : ℕ × Opened) → labelled_names_in (fs ++ f ∷ []) ≡ labelled_names_in fs ++ f.1.names
 labelled_names_more [] f = append-nil f.1.names

@@ -16,7 +16,7 @@ use Rattle.pict_translation.specs.Placed.{variables}
 use Rattle.pict_translation.specs.Patterns.{pat_core, pat_names, function_pat, names_before, names_after}
 use Rattle.pict_translation.specs.Simple.{Around, value_at, binding, bound, pat_bound, function_bound, answer_channel, nothing}
 use Rattle.pict_translation.proofs.PatternLemmas.{pattern_agrees, function_agrees}
-use Rattle.pict_derive.specs.Built.{values_of, place, with_levels, Extends}
+use Rattle.pict_derive.specs.Built.{binder_values, place, with_levels, Extends}
 use Rattle.pict_scope.proofs.Reading.{taken}
 
 eq_other : (n m : ℕ) → nat_eq n m ≡ nat_eq m n
@@ -28,17 +28,17 @@ eq_other n m = go (eqb_tells n m) (eqb_tells m n)
     go (inr a) (inl b) = absurd (a.1 (sym b.1))
     go (inr a) (inr b) = a.0 ∙ sym b.0
 
-pub value_nearest : (bs : List Binder) (n : ℕ) → value_at (values_of bs) n ≡ option_map Var (nearest bs n)
+pub value_nearest : (bs : List Binder) (n : ℕ) → value_at (binder_values bs) n ≡ option_map Var (nearest bs n)
 value_nearest [] n = refl
-value_nearest (b ∷ bs) n = ap (λ t. if t then Some (Var b.number) else value_at (values_of bs) n) (eq_other n b.name) ∙ either (value_nearest bs n) (nat_eq b.name n)
+value_nearest (b ∷ bs) n = ap (λ t. if t then Some (Var b.number) else value_at (binder_values bs) n) (eq_other n b.name) ∙ either (value_nearest bs n) (nat_eq b.name n)
   where
-    either : value_at (values_of bs) n ≡ option_map Var (nearest bs n) → (t : Bool) → (if t then Some (Var b.number) else value_at (values_of bs) n) ≡ option_map Var (if t then Some b.number else nearest bs n)
+    either : value_at (binder_values bs) n ≡ option_map Var (nearest bs n) → (t : Bool) → (if t then Some (Var b.number) else value_at (binder_values bs) n) ≡ option_map Var (if t then Some b.number else nearest bs n)
     either rest true = refl
     either rest false = rest
 
 -- ---- several names bound
 
-pub levels_bound : (ns : List ℕ) (level : ℕ) (bs : List Binder) → values_of (with_levels ns level bs) ≡ binding ns (variables level (length ns)) (values_of bs)
+pub levels_bound : (ns : List ℕ) (level : ℕ) (bs : List Binder) → binder_values (with_levels ns level bs) ≡ binding ns (variables level (length ns)) (binder_values bs)
 levels_bound [] level bs = refl
 levels_bound (n ∷ ns) level bs = levels_bound ns (level + 1) (record { name = n; number = level } ∷ bs)
 
@@ -152,7 +152,7 @@ function_place names f level bs =
     let a = names_after names f in
     let after = variables (level + length b + 1) (length a) in
     let e : Around = place names bs in
-    let split : bound b (variables level (length b) ++ Var (level + length b) ∷ after) e ≡ bound b (variables level (length b)) e = ap (λ vs. let e : Around = record { names = names; values = vs } in e) (binding_stops b level 0 (values_of bs) (Var (level + length b) ∷ after)) in
+    let split : bound b (variables level (length b) ++ Var (level + length b) ∷ after) e ≡ bound b (variables level (length b)) e = ap (λ vs. let e : Around = record { names = names; values = vs } in e) (binding_stops b level 0 (binder_values bs) (Var (level + length b) ∷ after)) in
     let dropped : drop (length b + 1) (variables level (length b) ++ Var (level + length b) ∷ after) ≡ after = ap (λ n. drop (n + 1) (variables level (length b) ++ Var (level + length b) ∷ after)) (sym (variables_length level (length b))) ∙ drop_seam (variables level (length b)) (Var (level + length b)) after in
     place_bound names a (level + length b + 1) (with_levels b level bs)
     ∙ ap (bound a after) (place_bound names b level bs ∙ sym split)

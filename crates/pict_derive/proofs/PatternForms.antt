@@ -20,7 +20,7 @@ use Rattle.pict_core.specs.declared.pattern.CorePat.{CorePat}
 use Rattle.pict_core.specs.declared.pattern.CorePat.TheVariants as pattern
 use Rattle.pict_core.proofs.Fields.{plain_pat-Fields}
 use Rattle.pict_translation.specs.Patterns as patterns
-use Rattle.pict_translation.specs.Patterns.{opened, all_opened, labelled_opened, patterns_in, names_in, labelled_names_in, record_pat, answer, function_pat, names_before, names_after}
+use Rattle.pict_translation.specs.Patterns.{opened, all_opened, labelled_opened, patterns_in, names_opened, labelled_names_in, record_pat, answer, function_pat, names_before, names_after}
 use Rattle.pict_derive.specs.declared.patterns.Opened.{Opened}
 use Rattle.pict_derive.specs.Built.{numbers_of, opened_of, opened_field, pattern_of}
 use Rattle.pict_derive.proofs.LabelOrder.{sorted_are, patterns_are, labelled_patterns_are, names_in_more, labelled_names_more}
@@ -55,11 +55,11 @@ fields_pat_is : (names : List (List ℕ)) (p : Pat) (s : Span) (f : Box FieldPat
 unfolding pat_of
 fields_pat_is names p s f is = ap (λ t. opened names (pat_of t)) is
 
-parts_opened : (names : List (List ℕ)) (s : Span) (f : FieldPats) → opened names (fields_pat s (field_pats_of f)) ≡ record { pattern = record_pat (positional_in names f) (labelled_in names f); names = names_in (positional_in names f) ++ labelled_names_in (labelled_in names f) }
+parts_opened : (names : List (List ℕ)) (s : Span) (f : FieldPats) → opened names (fields_pat s (field_pats_of f)) ≡ record { pattern = record_pat (positional_in names f) (labelled_in names f); names = names_opened (positional_in names f) ++ labelled_names_in (labelled_in names f) }
 unfolding opened
 parts_opened names s f = ap (λ t. opened names (fields_pat s t)) (field_pats_are f)
 
-pub fields_opened : (names : List (List ℕ)) (p : Pat) (s : Span) (f : Box FieldPats Global) → p ≡ Fields s f → opened names (pat_of p) ≡ record { pattern = record_pat (positional_in names f.value) (labelled_in names f.value); names = names_in (positional_in names f.value) ++ labelled_names_in (labelled_in names f.value) }
+pub fields_opened : (names : List (List ℕ)) (p : Pat) (s : Span) (f : Box FieldPats Global) → p ≡ Fields s f → opened names (pat_of p) ≡ record { pattern = record_pat (positional_in names f.value) (labelled_in names f.value); names = names_opened (positional_in names f.value) ++ labelled_names_in (labelled_in names f.value) }
 fields_opened names p s f is = fields_pat_is names p s f is ∙ parts_opened names s f.value
 
 -- a record's pattern from those of its fields
@@ -71,7 +71,7 @@ both_names : (xs ys us vs : List ℕ) → xs ≡ us → ys ≡ vs → xs ++ ys �
 both_names xs ys us vs x y = ap (λ l. l ++ ys) x ∙ ap (λ l. us ++ l) y
 
 pub joined_is : (names : List (List ℕ)) (p : Pat) (s : Span) (f : Box FieldPats Global) (o : Opened) (ps : List CorePat) (ls : List (Name × CorePat)) (ns ms : List ℕ) → p ≡ Fields s f
-    → map plain_pat ps ≡ map (λ o. o.pattern) (positional_in names f.value) → ns ≡ names_in (positional_in names f.value)
+    → map plain_pat ps ≡ map (λ o. o.pattern) (positional_in names f.value) → ns ≡ names_opened (positional_in names f.value)
     → map pattern_of ls ≡ map (λ f. (f.0, f.1.pattern)) (labelled_in names f.value) → ms ≡ labelled_names_in (labelled_in names f.value)
     → plain_pat o.pattern ≡ core.RecordPat (pats_of (map plain_pat ps)) (labelled_pats_of (map plain_pat_field ls)) → numbers_of o.names.items ≡ ns ++ ms → opened_of o ≡ opened names (pat_of p)
 joined_is names p s f o ps ls ns ms is pp np pl nl made bound =
@@ -93,7 +93,7 @@ function_is names f old new ls p l grown =
     ∙ record_opened new.items (positional_in names f ++ answer ∷ []) ls.items (labelled_in names f) (ap (map plain_pat) grown ∙ bound_last old.items (positional_in names f) p) l
     ∙ sym (ap (function_pat names) (field_pats_are f))
 
-pub before_is : (names : List (List ℕ)) (f : FieldPats) → names_in (positional_in names f) ≡ names_before names (field_pats_of f)
+pub before_is : (names : List (List ℕ)) (f : FieldPats) → names_opened (positional_in names f) ≡ names_before names (field_pats_of f)
 before_is names f = sym (ap (names_before names) (field_pats_are f))
 
 pub after_is : (names : List (List ℕ)) (f : FieldPats) → labelled_names_in (labelled_in names f) ≡ names_after names (field_pats_of f)
@@ -124,9 +124,9 @@ pub patterns_grow : (old new : List CorePat) (o : Opened) (os all : List pattern
 patterns_grow old new o os all so_far grown more =
     ap (map plain_pat) grown ∙ map-append plain_pat old (o.pattern ∷ []) ∙ ap (λ l. l ++ plain_pat o.pattern ∷ []) so_far ∙ sym (ap (map (λ o. o.pattern)) more ∙ map-append (λ o. o.pattern) os (opened_of o ∷ []))
 
-pub names_grow : (old new : List Name) (o : Opened) (os all : List patterns.Opened) → numbers_of old ≡ names_in os → new ≡ old ++ o.names.items → all ≡ os ++ opened_of o ∷ [] → numbers_of new ≡ names_in all
+pub names_grow : (old new : List Name) (o : Opened) (os all : List patterns.Opened) → numbers_of old ≡ names_opened os → new ≡ old ++ o.names.items → all ≡ os ++ opened_of o ∷ [] → numbers_of new ≡ names_opened all
 names_grow old new o os all so_far grown more =
-    ap numbers_of grown ∙ map-append (λ n. n.0) old o.names.items ∙ ap (λ l. l ++ numbers_of o.names.items) so_far ∙ sym (ap names_in more ∙ names_in_more os (opened_of o))
+    ap numbers_of grown ∙ map-append (λ n. n.0) old o.names.items ∙ ap (λ l. l ++ numbers_of o.names.items) so_far ∙ sym (ap names_opened more ∙ names_in_more os (opened_of o))
 
 pub fields_grow : (old new : List (Name × Opened)) (f : Name × Opened) (os all : List (ℕ × patterns.Opened)) → map opened_field old ≡ os → new ≡ old ++ f ∷ [] → all ≡ os ++ opened_field f ∷ [] → map opened_field new ≡ all
 fields_grow old new f os all so_far grown more = ap (map opened_field) grown ∙ map-append opened_field old (f ∷ []) ∙ ap (λ l. l ++ opened_field f ∷ []) so_far ∙ sym more

@@ -20,7 +20,7 @@ use Rattle.pict_core.specs.Term as core
 use Rattle.pict_core.specs.Plain.{plain_val}
 use Rattle.pict_core.specs.declared.value.CoreVal.{CoreVal, the_lemmas as value_lemmas}
 use Rattle.pict_core.specs.declared.value.CoreVal.TheVariants as value
-use Rattle.pict_translation.specs.Simple.{Around, simple, simple_chan, simple_fields, simple_vals, simple_labelled, fields_of, use_of, one_more}
+use Rattle.pict_translation.specs.Simple.{Around, simple, simple_chan, simple_fields, simple_vals, simple_labelled, record_of_fields, use_of, one_more}
 use Rattle.pict_derive.specs.Built.{field_of}
 use Rattle.pict_scope.proofs.Reading.{taken}
 use Rattle.pict_scope.proofs.ValueForms.{field_vals_are}
@@ -88,9 +88,9 @@ left_simple e v s i vs is = ap (λ t. simple_chan e (chan_of t)) is ∙ ap (simp
 -- ---- fields
 
 abbrev both : Around → Option (List core.Val) → Option (List (ℕ × core.Val)) → Option core.Val
-both e us ws = option_and_then (λ us. option_map (fields_of e us) ws) us
+both e us ws = option_and_then (λ us. option_map (record_of_fields e us) ws) us
 
-pub parts_simple : (e : Around) (f : FieldVals) → simple_fields e (field_vals_of f) ≡ option_and_then (λ us. option_map (fields_of e us) (simple_labelled e (labelled_vals_on no_labelled_vals (out-FieldVals f).labelled.items))) (simple_vals e (vals_on no_vals (out-FieldVals f).positional.items))
+pub parts_simple : (e : Around) (f : FieldVals) → simple_fields e (field_vals_of f) ≡ option_and_then (λ us. option_map (record_of_fields e us) (simple_labelled e (labelled_vals_on no_labelled_vals (out-FieldVals f).labelled.items))) (simple_vals e (vals_on no_vals (out-FieldVals f).positional.items))
 unfolding simple_fields
 parts_simple e f = ap (simple_fields e) (field_vals_are f)
 
@@ -105,7 +105,7 @@ pub no_labelled : (e : Around) (f : FieldVals) (ps : Vec CoreVal Global) (found 
 no_labelled e f ps found labelled is some also none =
     sym (found_parts e f (Some (map plain_val ps.items)) None (ap (option_map (λ us. map plain_val us.items)) (sym some) ∙ is) (ap (option_map (λ ws. map field_of ws.items)) (sym none) ∙ also))
 
-pub all_simple : (e : Around) (f : FieldVals) (v : core.Val) (ps : Vec CoreVal Global) (ls : Vec (Name × CoreVal) Global) (found : Option (Vec CoreVal Global)) (labelled : Option (Vec (Name × CoreVal) Global)) → option_map (λ us. map plain_val us.items) found ≡ simple_vals e (vals_on no_vals (out-FieldVals f).positional.items) → found ≡ Some ps → option_map (λ ws. map field_of ws.items) labelled ≡ simple_labelled e (labelled_vals_on no_labelled_vals (out-FieldVals f).labelled.items) → labelled ≡ Some ls → v ≡ fields_of e (map plain_val ps.items) (map field_of ls.items) → Some v ≡ simple_fields e (field_vals_of f)
+pub all_simple : (e : Around) (f : FieldVals) (v : core.Val) (ps : Vec CoreVal Global) (ls : Vec (Name × CoreVal) Global) (found : Option (Vec CoreVal Global)) (labelled : Option (Vec (Name × CoreVal) Global)) → option_map (λ us. map plain_val us.items) found ≡ simple_vals e (vals_on no_vals (out-FieldVals f).positional.items) → found ≡ Some ps → option_map (λ ws. map field_of ws.items) labelled ≡ simple_labelled e (labelled_vals_on no_labelled_vals (out-FieldVals f).labelled.items) → labelled ≡ Some ls → v ≡ record_of_fields e (map plain_val ps.items) (map field_of ls.items) → Some v ≡ simple_fields e (field_vals_of f)
 all_simple e f v ps ls found labelled is some also known made =
     ap Some made
     ∙ sym (found_parts e f (Some (map plain_val ps.items)) (Some (map field_of ls.items)) (ap (option_map (λ us. map plain_val us.items)) (sym some) ∙ is) (ap (option_map (λ ws. map field_of ws.items)) (sym known) ∙ also))

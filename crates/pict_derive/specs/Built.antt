@@ -42,12 +42,12 @@ surround o p = layers.around (layers_of o.layers.items) (p o.depth)
 -- ---- names with levels
 
 -- names with the values of their variables
-abbrev pub values_of : List Binder → List (ℕ × term.Val)
-values_of bs = map (λ b. (b.name, term.Var b.number)) bs
+abbrev pub binder_values : List Binder → List (ℕ × term.Val)
+binder_values bs = map (λ b. (b.name, term.Var b.number)) bs
 
 -- the place where these names have these levels, nearest first
 abbrev pub place : List (List ℕ) → List Binder → Around
-place names bs = record { names = names; values = values_of bs }
+place names bs = record { names = names; values = binder_values bs }
 
 -- these names bound, one after the other, from this level on
 abbrev pub with_levels : List ℕ → ℕ → List Binder → List Binder

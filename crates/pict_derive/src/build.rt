@@ -15,8 +15,8 @@ ghost use Rattle.pict_derive.specs.Built.{Declares, Defines, Extends, Serves, Ta
 use crate::outside::{Outside, level_after};
 use crate::parts::{applied, bind_all, channels, nothing_sent, unit_pattern};
 use crate::patterns::{open, open_function};
-use crate::simple::{record, simple, simple_channel, used};
-use crate::terms::{choice, input, output};
+use crate::simple::{record, simple, simple_channel, use_core};
+use crate::terms::{choice, core_input, core_output};
 use pict_binders::{Binder, Binders};
 use pict_core::{Core, CoreVal};
 use pict_syntax::{
@@ -46,18 +46,18 @@ fn value(
 {
     match tree {
         Val::OfChan(chan) => Ok(channel(alloc, names, scope, chan, k, depth)?),
-        Val::Number(at, number) => Ok(output(CoreVal::Var(k), CoreVal::Int(*number), *at)),
-        Val::Character(at, byte) => Ok(output(CoreVal::Var(k), CoreVal::Char(*byte), *at)),
+        Val::Number(at, number) => Ok(core_output(CoreVal::Var(k), CoreVal::Int(*number), *at)),
+        Val::Character(at, byte) => Ok(core_output(CoreVal::Var(k), CoreVal::Char(*byte), *at)),
         Val::String(at, bytes) => {
-            Ok(output(CoreVal::Var(k), CoreVal::Text(bytes.copy(alloc)?), *at))
+            Ok(core_output(CoreVal::Var(k), CoreVal::Text(bytes.copy(alloc)?), *at))
         }
-        Val::True(at) => Ok(output(CoreVal::Var(k), CoreVal::Bool(true), *at)),
-        Val::False(at) => Ok(output(CoreVal::Var(k), CoreVal::Bool(false), *at)),
+        Val::True(at) => Ok(core_output(CoreVal::Var(k), CoreVal::Bool(true), *at)),
+        Val::False(at) => Ok(core_output(CoreVal::Var(k), CoreVal::Bool(false), *at)),
         Val::Fields(at, parts) => {
             let mut outer = Outside::new(alloc, depth);
             let taken = fields(alloc, names, scope, parts, &mut outer)?;
             let message = record(names, taken.positional, taken.labelled)?;
-            Ok(outer.around(alloc, output(CoreVal::Var(k), message, *at))?)
+            Ok(outer.around(alloc, core_output(CoreVal::Var(k), message, *at))?)
         }
         Val::If(_, test, yes, no) => {
             let mut outer = Outside::new(alloc, depth);
@@ -97,7 +97,7 @@ fn lambda(
         outer.depth,
     )?;
     outer.beside(server)?;
-    Ok(outer.around(alloc, output(CoreVal::Var(k), CoreVal::Var(f), at))?)
+    Ok(outer.around(alloc, core_output(CoreVal::Var(k), CoreVal::Var(f), at))?)
 }
 
 /// The same for a value that stands as a channel.
@@ -114,9 +114,9 @@ fn channel(
     ensures scope { OnOk result (scope.new ≡ scope.old) }
 {
     match tree {
-        Chan::Use(at, name) => Ok(output(CoreVal::Var(k), used(names, scope, *name), *at)),
+        Chan::Use(at, name) => Ok(core_output(CoreVal::Var(k), use_core(names, scope, *name), *at)),
         Chan::Fold(at, _, inner) => match simple(alloc, names, scope, inner)? {
-            Some(message) => Ok(output(CoreVal::Var(k), message, *at)),
+            Some(message) => Ok(core_output(CoreVal::Var(k), message, *at)),
             None => Ok(value(alloc, names, scope, inner, k, depth)?),
         },
         Chan::Block(_, before, body) => {
@@ -133,7 +133,7 @@ fn channel(
             let mut taken = fields(alloc, names, scope, parts, &mut outer)?;
             taken.positional.push(CoreVal::Var(k))?;
             let message = record(names, taken.positional, taken.labelled)?;
-            Ok(outer.around(alloc, output(head, message, *at))?)
+            Ok(outer.around(alloc, core_output(head, message, *at))?)
         }
         Chan::Right(at, head, parts) => {
             Ok(right(alloc, names, scope, parts, head.name, *at, k, depth)?)
@@ -274,13 +274,13 @@ fn right(
     for tree in first {
         let x = operand(alloc, names, scope, tree, &mut outer)?;
         let level = level_after(outer.depth)?;
-        let f = used(names, scope, head);
+        let f = use_core(names, scope, head);
         let body = applied(alloc, f, x, CoreVal::Var(level), answer, at)?;
         answer = outer.nest(alloc, body)?;
     }
     let x = operand(alloc, names, scope, second, &mut outer)?;
     let y = operand(alloc, names, scope, last, &mut outer)?;
-    let f = used(names, scope, head);
+    let f = use_core(names, scope, head);
     let rest = applied(alloc, f, x, y, answer, at)?;
     Ok(outer.around(alloc, rest)?)
 }
@@ -313,14 +313,14 @@ fn left(
         let inside = level_after(level)?;
         let mut inner = Outside::new(alloc, inside);
         let y = operand(alloc, names, scope, tree, &mut inner)?;
-        let f = used(names, scope, head);
+        let f = use_core(names, scope, head);
         let rest = applied(alloc, f, CoreVal::Var(level), y, answer, at)?;
         let body = inner.around(alloc, rest)?;
         answer = outer.nest(alloc, body)?;
     }
     let x = operand(alloc, names, scope, first, &mut outer)?;
     let y = operand(alloc, names, scope, second, &mut outer)?;
-    let f = used(names, scope, head);
+    let f = use_core(names, scope, head);
     let rest = applied(alloc, f, x, y, answer, at)?;
     Ok(outer.around(alloc, rest)?)
 }
@@ -346,7 +346,7 @@ fn abstraction(
             let inside = bind_all(scope, &opened.names, depth)?;
             let body = process(alloc, names, scope, body, inside)?;
             scope.cut(around);
-            Ok(input(alloc, chan, replicated, opened.pattern, body)?)
+            Ok(core_input(alloc, chan, replicated, opened.pattern, body)?)
         }
         Abs::Function(_, parts, _, body) => {
             let opened = open_function(alloc, names, parts)?;
@@ -355,7 +355,7 @@ fn abstraction(
             let inside = bind_all(scope, &opened.after, next)?;
             let body = value(alloc, names, scope, body, answer, inside)?;
             scope.cut(around);
-            Ok(input(alloc, chan, replicated, opened.pattern, body)?)
+            Ok(core_input(alloc, chan, replicated, opened.pattern, body)?)
         }
     }
 }
@@ -482,7 +482,7 @@ fn process(
         Proc::Send(at, chan, message) => {
             let chan = channel_operand(alloc, names, scope, chan, &mut outer)?;
             let message = operand(alloc, names, scope, message, &mut outer)?;
-            Ok(outer.around(alloc, output(chan, message, *at))?)
+            Ok(outer.around(alloc, core_output(chan, message, *at))?)
         }
         Proc::Receive(_, chan, abs) => {
             let chan = channel_operand(alloc, names, scope, chan, &mut outer)?;

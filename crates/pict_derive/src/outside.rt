@@ -4,7 +4,7 @@ ghost use Rattle.pict_core.specs.Plain.{plain_core, plain_pat};
 ghost use Rattle.pict_derive.specs.Built.{layer_of, layers_of};
 ghost use Rattle.pict_derive.specs.Layers.{around};
 
-use crate::terms::input;
+use crate::terms::core_input;
 use pict_core::{Core, CorePat, CoreVal, Part};
 use std::alloc::{AllocError, Global};
 
@@ -106,7 +106,7 @@ impl Outside {
         ensures { IfOk result (Nests self.old self.new (plain_core body)) }
     {
         let level = self.new_channel()?;
-        let reader = input(alloc, CoreVal::Var(level), true, CorePat::Bind, body)?;
+        let reader = core_input(alloc, CoreVal::Var(level), true, CorePat::Bind, body)?;
         self.beside(reader)?;
         Ok(level)
     }

@@ -10,7 +10,7 @@ ghost use Rattle.pict_translation.specs.Translation.{definition_names, unit_pat}
 ghost use Rattle.pict_derive.specs.Built.{OpensChannels, numbers_of, surround, three, with_levels};
 
 use crate::outside::{Outside, level_after};
-use crate::terms::output;
+use crate::terms::core_output;
 use pict_binders::{Binder, Binders};
 use pict_core::{Core, CorePat, CoreVal};
 use pict_syntax::{Definition, Name, Span};
@@ -31,7 +31,7 @@ pub fn applied(
     positional.push(x)?;
     positional.push(y)?;
     positional.push(CoreVal::Var(k))?;
-    Ok(output(
+    Ok(core_output(
         f,
         CoreVal::Fields {
             positional,
@@ -45,7 +45,7 @@ pub fn applied(
 pub fn nothing_sent(k: u32) -> Core
     ensures { (n : ℕ) → plain_core result ≡ no_argument.sent (Var k) n }
 {
-    output(
+    core_output(
         CoreVal::Var(k),
         CoreVal::Bool(true),
         Span {

@@ -3,7 +3,7 @@ ghost use Rattle.std.specs.Prelude.{◌≡◌, ◌++◌, [], ◌∷◌, map, IfO
 ghost use Rattle.pict_core.specs.Plain.{plain_pat};
 ghost use Rattle.pict_syntax.specs.PlainTrees.{pat_of, field_pats_of, pats_on, labelled_pats_on};
 ghost use Rattle.pict_syntax.specs.Trees.{no_pats, no_labelled_pats};
-ghost use Rattle.pict_translation.specs.Patterns.{opened, all_opened, fields_in_order, names_in, labelled_names_in, function_pat, names_before, names_after};
+ghost use Rattle.pict_translation.specs.Patterns.{opened, all_opened, fields_in_order, names_opened, labelled_names_in, function_pat, names_before, names_after};
 ghost use Rattle.pict_derive.specs.Built.{opened_of, opened_field, numbers_of, pattern_of, patterns_in_order, record_pattern_of};
 
 use pict_core::CorePat;
@@ -69,7 +69,7 @@ pub fn open(alloc: Global, names: &Names, tree: &Pat) -> Result<Opened, AllocErr
 #[cycle(patterns)]
 fn open_positional(alloc: Global, names: &Names, trees: &[Pat]) -> Result<Positional, AllocError>
     ensures patterns { IfOk result (λ p. map plain_pat p.patterns.items ≡ map (λ o. o.pattern) (all_opened names.now (pats_on no_pats trees.now))) }
-    ensures names { IfOk result (λ p. numbers_of p.names.items ≡ names_in (all_opened names.now (pats_on no_pats trees.now))) }
+    ensures names { IfOk result (λ p. numbers_of p.names.items ≡ names_opened (all_opened names.now (pats_on no_pats trees.now))) }
 {
     let mut patterns = Vec::new(alloc);
     let mut bound = Vec::new(alloc);

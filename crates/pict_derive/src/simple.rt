@@ -4,7 +4,7 @@ ghost use Rattle.std.specs.Option.{option_map};
 ghost use Rattle.pict_core.specs.Plain.{plain_val};
 ghost use Rattle.pict_syntax.specs.PlainTrees.{chan_of, val_of, field_vals_of, vals_on, labelled_vals_on};
 ghost use Rattle.pict_syntax.specs.Trees.{no_vals, no_labelled_vals};
-ghost use Rattle.pict_translation.specs.Simple.{fields_of, simple, simple_chan, simple_fields, simple_vals, simple_labelled, use_of};
+ghost use Rattle.pict_translation.specs.Simple.{record_of_fields, simple, simple_chan, simple_fields, simple_vals, simple_labelled, use_of};
 ghost use Rattle.pict_derive.specs.Built.{field_of, fields_found, place, values_found};
 
 use pict_binders::Binders;
@@ -15,7 +15,7 @@ use std::alloc::{AllocError, Global};
 
 /// A use of a name: the variable of its nearest binder, or else the primitive, or else `true`, which no program without
 /// scope stop has there. Takes no memory.
-pub fn used(names: &Names, scope: &Binders, name: Name) -> CoreVal
+pub fn use_core(names: &Names, scope: &Binders, name: Name) -> CoreVal
     ensures { plain_val result ≡ use_of (place names.now scope.now) name.0 }
 {
     match scope.nearest(name) {
@@ -33,7 +33,7 @@ pub fn record(
     positional: Vec<CoreVal>,
     labelled: Vec<(Name, CoreVal)>,
 ) -> Result<CoreVal, AllocError>
-    ensures { IfOk result (λ v. plain_val v ≡ fields_of (place names.now []) (map plain_val positional.items) (map field_of labelled.items)) }
+    ensures { IfOk result (λ v. plain_val v ≡ record_of_fields (place names.now []) (map plain_val positional.items) (map field_of labelled.items)) }
 {
     let mut labelled = labelled;
     sort_labels(names, &mut labelled)?;
@@ -77,7 +77,7 @@ pub fn simple_channel(
     ensures { IfOk result (λ found. option_map plain_val found ≡ simple_chan (place names.now scope.now) (chan_of tree.now)) }
 {
     match tree {
-        Chan::Use(_, name) => Ok(Some(used(names, scope, *name))),
+        Chan::Use(_, name) => Ok(Some(use_core(names, scope, *name))),
         Chan::Fold(_, _, inner) => Ok(simple(alloc, names, scope, inner)?),
         Chan::Block(_, _, _) => Ok(None),
         Chan::Apply(_, _, _) => Ok(None),

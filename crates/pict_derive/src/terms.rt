@@ -8,7 +8,7 @@ use pict_syntax::Span;
 use std::alloc::{AllocError, Global};
 
 /// An output at its place.
-pub fn output(chan: CoreVal, message: CoreVal, at: Span) -> Core
+pub fn core_output(chan: CoreVal, message: CoreVal, at: Span) -> Core
     ensures { plain_core result ≡ Out (plain_val chan) (plain_val message) at }
 {
     Core::Out { chan, message, at }
@@ -24,7 +24,7 @@ pub fn choice(alloc: Global, test: CoreVal, yes: Core, no: Core) -> Result<Core,
 }
 
 /// An input.
-pub fn input(
+pub fn core_input(
     alloc: Global,
     chan: CoreVal,
     replicated: bool,

@@ -3,7 +3,7 @@ use Rattle.std.proofs.Common.{ℕ, ◌<◌, ◌≤◌, ◌≡◌, true, false, c
 use Rattle.std.proofs.lemmas.Bool.Decides.{nat_tests}
 use Rattle.pict_syntax.specs.declared.limits.TheConstants.{NARROW_LIMIT}
 use Rattle.pict_core.specs.Term.{Val}
-use Rattle.pict_heap.specs.HeapState.{HeapState, RecordState, Room, KeepsWords, IsWordOf, word_value, values_of}
+use Rattle.pict_heap.specs.HeapState.{HeapState, RecordState, Room, KeepsWords, IsWordOf, word_value, heap_values}
 use Rattle.pict_heap.proofs.Rooms.{room_stays}
 use Rattle.pict_prim.specs.Acts.{UsesNeed}
 use Rattle.pict_prim.specs.declared.act.Need.{Need}
@@ -61,8 +61,8 @@ module _ (old new : HeapState) (k : KeepsHeap old new) where
   keeps_words = record {
     words = λ w is. subst (λ (n : ℕ). IsWordOf n (length new.records) w) (sym (ap length k.texts)) (subst (λ (n : ℕ). IsWordOf (length old.texts) n w) (sym (ap length k.records)) is);
     values = λ w is.
-        ap (λ (ts : List (List ℕ)). word_value ts (values_of ts new.records) w) k.texts
-        ∙ ap (λ (rs : List RecordState). word_value old.texts (values_of old.texts rs) w) k.records;
+        ap (λ (ts : List (List ℕ)). word_value ts (heap_values ts new.records) w) k.texts
+        ∙ ap (λ (rs : List RecordState). word_value old.texts (heap_values old.texts rs) w) k.records;
   }
 
   at_room : List (List ℕ) → List RecordState → ℕ → ℕ → Val

@@ -9,7 +9,7 @@ use Rattle.pict_core.specs.Term.{Val, Vals, no_vals, more_vals}
 use Rattle.pict_core.specs.Plain.{vals_of}
 use Rattle.pict_code.specs.Levels.{Rises, has}
 use Rattle.pict_code.proofs.Levels.{has_append}
-use Rattle.pict_desk.specs.Known.{pair_at, value_in, known, list_of, fields_of}
+use Rattle.pict_desk.specs.Known.{pair_at, value_in, known, list_of_vals, value_fields}
 use Rattle.pict_heap.specs.Fields.{nth, positional_field}
 use Rattle.pict_heap.specs.HeapState.{HeapState, value_of}
 use Rattle.pict_heap.specs.Packed.{packed, FitsWord}
@@ -19,17 +19,17 @@ use Rattle.pict_desk.specs.Pairs.{IsPair}
 use Rattle.pict_desk.proofs.Making.{take_whole}
 use Rattle.pict_desk.proofs.Pairs.{value_packed, set_here}
 
-pub list_back : (vs : List Val) → list_of (vals_of vs) ≡ vs
+pub list_back : (vs : List Val) → list_of_vals (vals_of vs) ≡ vs
 list_back [] = refl
 list_back (v ∷ vs) = ap (λ ws. v ∷ ws) (list_back vs)
 
-nth_listed : (vs : Vals) (i : ℕ) → nth vs i ≡ slice_get (list_of vs) i
+nth_listed : (vs : Vals) (i : ℕ) → nth vs i ≡ slice_get (list_of_vals vs) i
 nth_listed no_vals i = refl
 nth_listed (more_vals v vs) zero = refl
 nth_listed (more_vals v vs) (suc i) = nth_listed vs i
 
 -- the fields of a value are its positional fields
-pub field_listed : (v : Val) (i : ℕ) → positional_field v i ≡ slice_get (fields_of v) i
+pub field_listed : (v : Val) (i : ℕ) → positional_field v i ≡ slice_get (value_fields v) i
 field_listed (term.Var n) i = refl
 field_listed (term.Chan n) i = refl
 field_listed (term.Int n) i = refl
@@ -87,5 +87,5 @@ pub whole_value : (h : HeapState) (pair : ℕ × ℕ) (w : Word) → IsPair h pa
 whole_value h pair w p back = ap (value_of h) (back p.word p.fits p.packs) ∙ sym (value_packed h p.word pair p.fits p.packs)
 
 -- what its field is
-pub field_there : (h : HeapState) (pair : ℕ × ℕ) (w : Word) (i : ℕ) (o : Option Val) → value_of h w ≡ value_in h pair.0 pair.1 → o ≡ positional_field (value_of h w) i → slice_get (fields_of (value_in h pair.0 pair.1)) i ≡ o
+pub field_there : (h : HeapState) (pair : ℕ × ℕ) (w : Word) (i : ℕ) (o : Option Val) → value_of h w ≡ value_in h pair.0 pair.1 → o ≡ positional_field (value_of h w) i → slice_get (value_fields (value_in h pair.0 pair.1)) i ≡ o
 field_there h pair w i o same e = sym (field_listed (value_in h pair.0 pair.1) i) ∙ ap (λ v. positional_field v i) (sym same) ∙ sym e

@@ -6,7 +6,7 @@ use Rattle.pict_core.specs.Term.{Val, Vals, Labelled, Chan}
 use Rattle.pict_core.specs.Plain.{vals_of, labelled_of}
 use Rattle.pict_core.specs.Substitution.{Replacement, replace_value, replace_values, replace_labelled}
 use Rattle.pict_syntax.specs.declared.name.Name.{Name}
-use Rattle.pict_heap.specs.HeapState.{HeapState, RecordState, word_value, field_value, record_value, more_values, values_of, value_of}
+use Rattle.pict_heap.specs.HeapState.{HeapState, RecordState, word_value, field_value, record_value, more_values, heap_values, value_of}
 use Rattle.pict_heap.specs.Packed.{unpacked}
 use Rattle.pict_heap.specs.declared.word.Word.{Word}
 use Rattle.pict_heap.specs.declared.word.Word.TheVariants as word
@@ -70,7 +70,7 @@ records_no_var texts (r ∷ rs) values all =
 
 pub value_no_var : (h : HeapState) (w : Word) → HasNoVar (value_of h w)
 unfolding AllNoVar
-value_no_var h w = word_no_var h.texts (values_of h.texts h.records) (records_no_var h.texts h.records [] tt) w
+value_no_var h w = word_no_var h.texts (heap_values h.texts h.records) (records_no_var h.texts h.records [] tt) w
 
 pair_no_var : (h : HeapState) (o : Option Word) → HasNoVar (unwrap_or (option_map (value_of h) o) (term.Int (pos 0)))
 pair_no_var h None = tt

@@ -13,13 +13,13 @@ pair_at values level = slice_index_or values level (0, 0)
 abbrev pub value_in : HeapState → ℕ → ℕ → Val
 value_in h tag payload = unwrap_or (option_map (value_of h) (unpacked tag payload)) (Int (pos 0))
 
-abbrev pub list_of : Vals → List Val
-list_of no_vals = []
-list_of (more_vals v vs) = v ∷ list_of vs
+abbrev pub list_of_vals : Vals → List Val
+list_of_vals no_vals = []
+list_of_vals (more_vals v vs) = v ∷ list_of_vals vs
 
-abbrev pub fields_of : Val → List Val
-fields_of (Record vs ls) = list_of vs
-fields_of _ = []
+abbrev pub value_fields : Val → List Val
+value_fields (Record vs ls) = list_of_vals vs
+value_fields _ = []
 
 -- the value of each level, of which these are the words
 abbrev pub known : HeapState → List (ℕ × ℕ) → ℕ → Val

@@ -1,7 +1,7 @@
 // Frames too large for a block, as records of a heap.
 ghost use Rattle.std.specs.Prelude.{◌≡◌, ◌<◌, ◌^◌, ℕ, All, length, map, false};
 ghost use Rattle.pict_code.specs.Levels.{Rises, has};
-ghost use Rattle.pict_desk.specs.Known.{pair_at, value_in, known, fields_of};
+ghost use Rattle.pict_desk.specs.Known.{pair_at, value_in, known, value_fields};
 ghost use Rattle.pict_heap.specs.HeapState.{KeepsWords};
 ghost use Rattle.pict_prim.specs.Acts.{UsesNeed};
 ghost use Rattle.pict_desk.specs.Pairs.{IsPair, ArePairs};
@@ -24,7 +24,7 @@ pub fn frame_record(
     requires inside { All (λ level. level < length values.now) frame.now }
     requires pairs { ArePairs heap.old values.now }
     requires room { HasRoomFor heap.old pending.old (record_need (length frame.now)) }
-    ensures fields { fields_of (value_in heap.new result.0 result.1) ≡ map (known heap.old values.now) frame.now }
+    ensures fields { value_fields (value_in heap.new result.0 result.1) ≡ map (known heap.old values.now) frame.now }
     ensures pair { IsPair heap.new result }
     ensures keeps { KeepsWords heap.old heap.new }
     ensures used { UsesNeed heap.old.room heap.new.room (record_need (length frame.now)) }
@@ -45,11 +45,11 @@ pub fn frame_record(
 /// time in the levels of the frame.
 pub fn read_record(heap: &Heap, pair: (u64, u64), frame: &[u32], values: &mut [(u64, u64)])
     requires pair { IsPair heap.now pair }
-    requires fields { length (fields_of (value_in heap.now pair.0 pair.1)) ≡ length frame.now }
+    requires fields { length (value_fields (value_in heap.now pair.0 pair.1)) ≡ length frame.now }
     requires few { length frame.now < 2 ^ 32 }
     requires inside { All (λ level. level < length values.old) frame.now }
     requires rising { Rises 0 frame.now }
-    ensures read { map (known heap.now values.new) frame.now ≡ fields_of (value_in heap.now pair.0 pair.1) }
+    ensures read { map (known heap.now values.new) frame.now ≡ value_fields (value_in heap.now pair.0 pair.1) }
     ensures others { (level : ℕ) → has level frame.now ≡ false → pair_at values.new level ≡ pair_at values.old level }
     ensures pairs { ArePairs heap.now values.old → ArePairs heap.now values.new }
     ensures len { length values.new ≡ length values.old }

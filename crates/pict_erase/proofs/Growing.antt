@@ -19,7 +19,7 @@ use Rattle.pict_typing.specs.Values.{HasType, variable_has, channel_has, int_has
 use Rattle.pict_typing.specs.Processes.{AreClosedTypes}
 use Rattle.pict_typing.proofs.Closed.{closed_type, closed_renamed}
 use Rattle.pict_typing.proofs.Forms.{takes_type}
-use Rattle.pict_erase.specs.Embedding.{Embeds, Grows}
+use Rattle.pict_erase.specs.Embedding.{Embeds, WorldGrows}
 
 keeps_kinds : {f : ℕ → ℕ} {c d : TypeContext} → Embeds f c d → KeepsKinds f (kinds c) (kinds d)
 keeps_kinds x = record { each = x.kept }
@@ -102,7 +102,7 @@ module _ (w : World) (closed : AreClosedTypes w.names w.messages) (f : ℕ → �
     labels_grown none_labelled = none_labelled
     labels_grown (more_labels h y) = more_labels (has_grown h) (labels_grown y)
 
-pub value_grown : {f : ℕ → ℕ} {w u : World} {v : Val} {t : PlainType} → AreClosedTypes w.names w.messages → Grows f w u → HasType w v t → HasType u v (rename f t)
+pub value_grown : {f : ℕ → ℕ} {w u : World} {v : Val} {t : PlainType} → AreClosedTypes w.names w.messages → WorldGrows f w u → HasType w v t → HasType u v (rename f t)
 value_grown {f = f} {w = w} {u = u} {v = v} {t = t} k g h = subst (λ z. HasType z v (rename f t)) same_ (has_grown w k f u.type_variables u.variables g.embeds g.variables_ h)
   where
     same_ : changed w u.type_variables u.variables ≡ u

@@ -19,7 +19,7 @@ pub record Embeds (f : ℕ → ℕ) (c d : TypeContext) : Type 0 where
   pub kept : (i : ℕ) (k : Kind) → kind_at (kinds c) i ≡ Some k → kind_at (kinds d) (f i) ≡ Some k
 
 -- v has all that w has, its type variables renumbered by f
-pub record Grows (f : ℕ → ℕ) (w v : World) : Type 0 where
+pub record WorldGrows (f : ℕ → ℕ) (w v : World) : Type 0 where
   pub names_ : v.names ≡ w.names
   pub messages_ : v.messages ≡ w.messages
   pub embeds : Embeds f w.type_variables v.type_variables

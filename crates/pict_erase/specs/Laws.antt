@@ -9,7 +9,7 @@ use Rattle.pict_typing.specs.Erasing.{erased}
 use Rattle.pict_typing.specs.Worlds.{World, IsTypeIn, IsType}
 use Rattle.pict_typing.specs.Values.{HasType}
 use Rattle.pict_typing.specs.Processes.{AreClosedTypes}
-use Rattle.pict_erase.specs.Embedding.{erased_context, Grows, MayStandInOrder}
+use Rattle.pict_erase.specs.Embedding.{erased_context, WorldGrows, MayStandInOrder}
 
 -- an erased type is a type where the bounds are erased
 abbrev pub ErasedIsType : Type 0
@@ -23,7 +23,7 @@ ErasedKeepsSubtyping = (c : TypeContext) (s t : PlainType) → IsSubtype c s t �
 abbrev pub GrownValuesKeepTypes : Type 0
 GrownValuesKeepTypes =
     (f : ℕ → ℕ) (w u : World) (v : Val) (t : PlainType)
-    → AreClosedTypes w.names w.messages → Grows f w u → HasType w v t → HasType u v (rename f t)
+    → AreClosedTypes w.names w.messages → WorldGrows f w u → HasType w v t → HasType u v (rename f t)
 
 -- a value has a package type where it has the type of the fields with all arguments put in
 abbrev pub PackedAtOnce : Type 0

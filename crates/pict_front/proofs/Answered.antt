@@ -21,7 +21,7 @@ use Rattle.pict_front.specs.declared.refusal.FrontError.{FrontError}
 use Rattle.pict_front.specs.declared.refusal.FrontError.TheVariants as front
 use Rattle.pict_front.specs.Front.{Judges, IsFront}
 use Rattle.pict_front.specs.Laws.{IsAccepted}
-use Rattle.pict_front.specs.Answers.{IsPlaced, MissedInFront, fronted, gives_front, of_gather_error, of_refusal, plain_decs, plain_front, said_by}
+use Rattle.pict_front.specs.Answers.{RefusalStandsIn, MissedInFront, fronted, gives_front, of_gather_error, of_refusal, plain_decs, plain_front, said_by}
 use Rattle.pict_front.proofs.Standing.{IsNoAbsence}
 use Rattle.pict_front.proofs.Placed.{gathered_placed, refused_is_placed}
 use Rattle.pict_front.proofs.TypedPrograms.{accepted_is_typed}
@@ -46,7 +46,7 @@ module _ (held : Option Texts) (prelude : Option (List ℕ)) (file : List ℕ) w
   refused_behind s g Memory r judges = tt
 
   -- an answer's refusal is placed
-  pub placed : (s : Sources) (e : FrontError) → IfSome (fronted (Err e) s) (IsFront (gives_front (Err e) held) prelude file) → IsPlaced s.list.items e
+  pub placed : (s : Sources) (e : FrontError) → IfSome (fronted (Err e) s) (IsFront (gives_front (Err e) held) prelude file) → RefusalStandsIn s.list.items e
   placed s (front.Named code span) h = refused_is_placed held prelude file s.list.items code span h
   placed s front.Missing h = tt
   placed s front.Failed h = tt

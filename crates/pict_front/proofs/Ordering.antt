@@ -14,7 +14,7 @@ use Rattle.pict_scope.specs.DistinctLabels.{IsNewValue, DecHasDistinctLabels, De
 use Rattle.pict_translation.specs.Placed.{Placed, new_channels, side_by_side, served, variables}
 use Rattle.pict_translation.specs.Arguments.{Argument, with_value, sent_as_one, application, right, left_after, left}
 use Rattle.pict_translation.specs.Patterns.{pat_core, function_pat, pat_names, names_before, names_after}
-use Rattle.pict_translation.specs.Simple.{Around, value_at, binding, function_bound, answer_channel, or_primitive, use_of, nothing, fields_of, one_more, simple, simple_chan, simple_fields, simple_vals, simple_labelled}
+use Rattle.pict_translation.specs.Simple.{Around, value_at, binding, function_bound, answer_channel, or_primitive, use_of, nothing, record_of_fields, one_more, simple, simple_chan, simple_fields, simple_vals, simple_labelled}
 use Rattle.pict_translation.specs.Translation.{program_core, definition_names, sending, sending_chan, decs_core, dec_core, proc_core, procs_core, reader, with_fields, arguments, with_vals, with_labelled, servers}
 use Rattle.pict_trace.specs.Ordered.{IsOrdered, IsOrderedProcess}
 use Rattle.pict_front.proofs.Labelled.{DecLabels, DecsLabels, DefinitionsLabels, AbsLabels, ChanLabels, ValLabels, ValsLabels, FieldLabels, LabelledLabels, ProcLabels, ProcsLabels}
@@ -115,7 +115,7 @@ module _ (names : List (List ℕ)) (distinct : HasNoRepeats names) where
   some_fields_more ls (Some ws) l v None are is new o = tt
   some_fields_more ls None l v u are is new o = tt
 
-  record_some : (bs : List (ℕ × Val)) (ls : LabelledVals) (vs : Option (List Val)) (ws : Option (List (ℕ × Val))) → AllSome vs → SomeFields ls ws → SomeOrdered (option_and_then (λ us. option_map (fields_of (at bs) us) ws) vs)
+  record_some : (bs : List (ℕ × Val)) (ls : LabelledVals) (vs : Option (List Val)) (ws : Option (List (ℕ × Val))) → AllSome vs → SomeFields ls ws → SomeOrdered (option_and_then (λ us. option_map (record_of_fields (at bs) us) ws) vs)
   record_some bs ls (Some vs) (Some ws) o are = record_ordered names distinct vs ws o are.ordered are.apart
   record_some bs ls (Some vs) None o are = tt
   record_some bs ls None ws o are = tt

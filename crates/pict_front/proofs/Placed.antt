@@ -6,7 +6,7 @@ use Rattle.pict_syntax.specs.declared.code.Code.{Code}
 use Rattle.pict_syntax.specs.declared.source.Source.{Source}
 use Rattle.pict_syntax.specs.declared.span.Span.{Span}
 use Rattle.pict_syntax.specs.declared.token.Token.{Token}
-use Rattle.pict_syntax.specs.Cuts.{Piece, blank, comment, token, joined as joined_bytes, IsWholeCut, tokens_of}
+use Rattle.pict_syntax.specs.Cuts.{Piece, blank, comment, token, joined_pieces as joined_bytes, IsWholeCut, tokens_of}
 use Rattle.pict_syntax.specs.Programs.{Program, programs}
 use Rattle.pict_syntax.specs.Trees.{Decs, no_decs, more_decs}
 use Rattle.pict_outside.specs.Texts.{Texts}

@@ -14,7 +14,7 @@ use Rattle.pict_syntax.specs.declared.token.SymbolName.{SymbolName}
 use Rattle.pict_syntax.specs.declared.token.SymbolName.TheVariants as symbol_name
 use Rattle.pict_syntax.specs.declared.type_tree.Mark.{Mark}
 use Rattle.pict_syntax.specs.declared.type_tree.Mark.TheVariants as mark
-use Rattle.pict_syntax.specs.Phrases.{Phrase, nothing, ◌▸◌, at, keyword, sign, symbol, ident, name, idents, join, led, between, closed, joined}
+use Rattle.pict_syntax.specs.Phrases.{Phrase, nothing, ◌▸◌, at, keyword, sign, symbol, ident, name, idents, join, led, between, closed, spanning}
 use Rattle.pict_syntax.specs.Grammar.{type_span, pat_span, abs_span, chan_span, val_span, proc_span, annotated_end, IsMark, AreMarks, IsKind, SomeKind, IsType, AreTypes, AreLabelledTypes, IsBinder, AreBinders, IsRType, IsPat, AreFieldPats, ArePats, AreLabelledPats, AreTypeArguments, IsDec, AreDecs, AreDefinitionsAnd, IsAbs, IsChan, IsVal, AreFieldVals, AreVals, AreLabelledVals, IsProc, AreProcsBar}
 use Rattle.pict_syntax.specs.Trees.{KindTree, plain_kind, operator_kind, TypeTree, top_type, int_type, char_type, string_type, bool_type, use_type, both_type, read_type, write_type, respond_type, fields_type, apply_type, rec_type, TypeBinder, type_binder, unbounded, bound, TypeTrees, no_types, more_types, TypeBinders, no_binders, more_binders, LabelledTypes, no_labelled_types, more_labelled_types, RType, Pat, bind_pat, any_pat, fields_pat, fold_pat, FieldPats, field_pats, Pats, no_pats, more_pats, LabelledPats, no_labelled_pats, more_labelled_pats, Dec, new_dec, run_dec, let_dec, def_dec, alias_dec, operator_dec, await_dec, Decs, no_decs, more_decs, Definitions, no_definitions, more_definitions, Abs, process_abs, function_abs, Chan, use_chan, fold_chan, block_chan, apply_chan, right_chan, left_chan, Val, of_chan, number_val, character_val, string_val, true_val, false_val, fields_val, if_val, lambda_val, Vals, no_vals, more_vals, FieldVals, field_vals, LabelledVals, no_labelled_vals, more_labelled_vals, Proc, send_proc, receive_proc, serve_proc, if_proc, inert_proc, group_proc, Procs, no_procs, more_procs}
 use Rattle.pict_front.proofs.Standing.{TypeStands, TypesStand, LabelledTypesStand, BinderStands, BindersStand, AnnotationStands, PatStands, FieldPatsStand, PatsStand, LabelledPatsStand, IdsStand, DecStands, DecsStand, DefinitionsStand, AbsStands, ChanStands, ValStands, ValsStand, FieldValsStand, LabelledValsStand, ProcStands, ProcsStand}
@@ -132,7 +132,7 @@ module _ (n finish : ℕ) (P : Span → Type 0) (stands : (s : Span) → s.text 
       let l : In low high s = subst (In low high) (sym is) (over low r.0 high b j h.0 r.2) in
       (l, (found low high s l, h.1))
 
-  joined_stands : (s b e : Span) (L : Phrase) {X : ℕ → ℕ → Type 0} {Y : Type 0} → Says L X → ((low high : ℕ) → X low high → In low high (join b e) × Y) → Says (joined s b e L) (Stood s Y)
+  joined_stands : (s b e : Span) (L : Phrase) {X : ℕ → ℕ → Type 0} {Y : Type 0} → Says L X → ((low high : ℕ) → X low high → In low high (join b e) × Y) → Says (spanning s b e L) (Stood s Y)
   joined_stands s b e L f g low high ts (is, inner) a =
       let h = g low high (f low high ts inner a) in
       let l : In low high s = subst (In low high) (sym is) h.0 in
@@ -327,7 +327,7 @@ module _ (n finish : ℕ) (P : Span → Type 0) (stands : (s : Span) → s.text 
 
   -- a channel, and an abstraction of what is received
   received : (s : Span) (c : Chan) (o : AnySign) (f : Abs) → Says (IsChan c) (λ low high. In low high (chan_span c) × ChanStands P c) → Says (IsAbs f) (λ low high. In low high (abs_span f) × AbsStands P f)
-      → Says (joined s (chan_span c) (abs_span f) (IsChan c ▸ (sign o ▸ IsAbs f))) (Stood s (ChanStands P c × AbsStands P f))
+      → Says (spanning s (chan_span c) (abs_span f) (IsChan c ▸ (sign o ▸ IsAbs f))) (Stood s (ChanStands P c × AbsStands P f))
   received s c o f first second =
       joined_stands s (chan_span c) (abs_span f) (IsChan c ▸ (sign o ▸ IsAbs f)) (both _ _ first (both _ _ (signed o) second))
       (λ l h (m, i, (k, e, y)). (over l m h (chan_span c) (abs_span f) i.0 (wider m k h (abs_span f) e y.0), (i.1, y.1)))

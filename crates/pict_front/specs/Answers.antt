@@ -85,9 +85,9 @@ gives_front (Err front.Failed) held = MayGiveOrFail held
 gives_front result held = MayGive held
 
 -- the place of a refusal lies in the text whose number it has
-abbrev pub IsPlaced : List Source → FrontError → Type 0
-IsPlaced sources (front.Named code span) = StandsIn sources span
-IsPlaced sources error = Unit {0}
+abbrev pub RefusalStandsIn : List Source → FrontError → Type 0
+RefusalStandsIn sources (front.Named code span) = StandsIn sources span
+RefusalStandsIn sources error = Unit {0}
 
 -- the text of an import is absent only where the shelf missed one
 abbrev pub MissedInFront : ℕ → ℕ → FrontError → Type 0

@@ -7,7 +7,7 @@ ghost use Rattle.pict_gather.specs.Entry.{lent};
 ghost use Rattle.pict_scope.specs.Scopes.{scope_stop};
 ghost use Rattle.pict_core.specs.Closed.{IsClosed};
 ghost use Rattle.pict_core.specs.Plain.{plain_core};
-ghost use Rattle.pict_front.specs.Answers.{IsPlaced, MissedInFront, fronted, gives_front, plain_decs, plain_front, said_by};
+ghost use Rattle.pict_front.specs.Answers.{RefusalStandsIn, MissedInFront, fronted, gives_front, plain_decs, plain_front, said_by};
 ghost use Rattle.pict_front.specs.Front.{IsFront, Judges, Translates};
 ghost use Rattle.pict_front.specs.Laws.{IsAccepted};
 
@@ -43,7 +43,7 @@ pub fn front<S: Shelf>(
     requires short { IfSome prelude (λ bytes. length bytes.now ≤ TEXT_LIMIT) }
     ensures answer { IfSome (fronted result sources.new) (IsFront (gives_front result (S.held shelf.old)) (lent prelude.entry) file.now) }
     ensures accepted { IfOk result (λ front. IsAccepted (plain_front front)) }
-    ensures placed { IfErr result (IsPlaced sources.new.list.items) }
+    ensures placed { IfErr result (RefusalStandsIn sources.new.list.items) }
     ensures closed { IfOk result (λ front. IsClosed (plain_core front.core)) }
     ensures missed { result ≡ Err FrontError.Missing → Rose (S.misses shelf.old) (S.misses shelf.new) }
     ensures failed { result ≡ Err FrontError.Failed → Rose (S.faults shelf.old) (S.faults shelf.new) }

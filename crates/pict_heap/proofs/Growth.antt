@@ -3,8 +3,8 @@ use Rattle.std.proofs.Common.{◌≡◌, ℕ, zero, suc, ◌+◌, ◌-◌, ◌^�
 use Rattle.std.specs.List.{fold, All, AllByRecursion, slice_get}
 use Rattle.std.proofs.lemmas.List.{get_or_append_left, get_or_at, length_push, length-map, map-append, drop-append-le, take-append-le, drop_at, take_all, append-nil}
 use Rattle.pict_syntax.specs.declared.name.Name.{Name}
-use Rattle.pict_heap.specs.HeapState.{RecordState, HeapState, word_value, record_value, more_values, values_of, IsWordOf, IsWord, KeepsWords}
-use Rattle.pict_heap.specs.Layout.{text_state, record_state, state_of, IsWithin, RecordIsWithin, IsRecordOf, AreGrounded, AreSorted, IsIndexed, IsSound}
+use Rattle.pict_heap.specs.HeapState.{RecordState, HeapState, word_value, record_value, more_values, heap_values, IsWordOf, IsWord, KeepsWords}
+use Rattle.pict_heap.specs.Layout.{text_state, record_state, heap_state, IsWithin, RecordIsWithin, IsRecordOf, AreGrounded, AreSorted, IsIndexed, IsHeapSound}
 use Rattle.pict_heap.specs.declared.word.Word.{Word}
 use Rattle.pict_heap.specs.declared.heap.Slice.{Slice}
 use Rattle.pict_heap.specs.declared.heap.Record.{Record}
@@ -59,21 +59,21 @@ each_at P (y ∷ xs) (suc i) x all found = each_at P xs i x all.1 found
 -- words keep their values when texts and records are added
 pub value_kept : (texts more : List (List ℕ)) (records more' : List RecordState) → AreGrounded (length texts) 0 records
     → (w : Word) → IsWordOf (length texts) (length records) w
-    → word_value (texts ++ more) (values_of (texts ++ more) (records ++ more')) w ≡ word_value texts (values_of texts records) w
+    → word_value (texts ++ more) (heap_values (texts ++ more) (records ++ more')) w ≡ word_value texts (heap_values texts records) w
 value_kept texts more records more' grounded w is =
     let same : (n : ℕ) → n < length texts → get_or (texts ++ more) n [] ≡ get_or texts n [] = λ n inside. get_or_append_left texts more [] n inside in
-    let first : values_of (texts ++ more) records ≡ values_of texts records = fold_texts texts (texts ++ more) (length texts) same records [] grounded in
-    let whole : values_of (texts ++ more) (records ++ more') ≡ fold (more_values (texts ++ more)) (values_of (texts ++ more) records) more' =
+    let first : heap_values (texts ++ more) records ≡ heap_values texts records = fold_texts texts (texts ++ more) (length texts) same records [] grounded in
+    let whole : heap_values (texts ++ more) (records ++ more') ≡ fold (more_values (texts ++ more)) (heap_values (texts ++ more) records) more' =
     fold-append (texts ++ more) [] records more' in
-    let agree : Agree texts (texts ++ more) (values_of texts records) (values_of (texts ++ more) (records ++ more')) (length texts) (length records) = record {
+    let agree : Agree texts (texts ++ more) (heap_values texts records) (heap_values (texts ++ more) (records ++ more')) (length texts) (length records) = record {
       same_texts = same;
       same_values = λ n inside.
-          let there : n < length (values_of (texts ++ more) records) = omega (arith, inside, length-values_of (texts ++ more) records) in
+          let there : n < length (heap_values (texts ++ more) records) = omega (arith, inside, length-values_of (texts ++ more) records) in
           ap (λ vs. get_or vs n nothing) whole
-          ∙ fold_extends (texts ++ more) more' (values_of (texts ++ more) records) n there
+          ∙ fold_extends (texts ++ more) more' (heap_values (texts ++ more) records) n there
           ∙ ap (λ vs. get_or vs n nothing) first;
     } in
-    word_value-same texts (texts ++ more) (values_of texts records) (values_of (texts ++ more) (records ++ more')) (length texts) (length records) agree w is
+    word_value-same texts (texts ++ more) (heap_values texts records) (heap_values (texts ++ more) (records ++ more')) (length texts) (length records) agree w is
 
 pub words_kept : (h h' : HeapState) (texts : List (List ℕ)) (records : List RecordState) → AreGrounded (length h.texts) 0 h.records
     → h'.texts ≡ h.texts ++ texts → h'.records ≡ h.records ++ records → KeepsWords h h'
@@ -81,18 +81,18 @@ words_kept h h' texts records grounded texts_are records_are = record {
   words = λ w is. word_of_more (length h.texts) (length h'.texts) (length h.records) (length h'.records)
       (omega (arith, ap length texts_are, length-append h.texts texts)) (omega (arith, ap length records_are, length-append h.records records)) w is;
   values = λ w is.
-      ap (λ ts. word_value ts (values_of ts h'.records) w) texts_are
-      ∙ ap (λ rs. word_value (h.texts ++ texts) (values_of (h.texts ++ texts) rs) w) records_are
+      ap (λ ts. word_value ts (heap_values ts h'.records) w) texts_are
+      ∙ ap (λ rs. word_value (h.texts ++ texts) (heap_values (h.texts ++ texts) rs) w) records_are
       ∙ value_kept h.texts texts h.records records grounded w is;
 }
 
 -- a text is added
 pub record AddsText (a a' : Inside) (bytes : List ℕ) : Type 0 where
-  pub texts : (state_of a').texts ≡ (state_of a).texts ++ bytes ∷ []
-  pub records : (state_of a').records ≡ (state_of a).records
-  pub sound : IsSound a'
+  pub texts : (heap_state a').texts ≡ (heap_state a).texts ++ bytes ∷ []
+  pub records : (heap_state a').records ≡ (heap_state a).records
+  pub sound : IsHeapSound a'
 
-pub text_added : (a a' : Inside) (bytes : List ℕ) (slice : Slice) → IsSound a
+pub text_added : (a a' : Inside) (bytes : List ℕ) (slice : Slice) → IsHeapSound a
     → a'.bytes.items ≡ a.bytes.items ++ bytes → slice.start ≡ length a.bytes.items → slice.end ≡ length a.bytes.items + length bytes
     → a'.texts.items ≡ a.texts.items ++ slice ∷ [] → a'.words.items ≡ a.words.items → a'.labelled.items ≡ a.labelled.items → a'.sorted.items ≡ a.sorted.items
     → a'.records.items ≡ a.records.items
@@ -100,7 +100,7 @@ pub text_added : (a a' : Inside) (bytes : List ℕ) (slice : Slice) → IsSound 
 text_added a a' bytes slice sound bytes_are start_is end_is texts_are words_are labelled_are sorted_are records_are =
     let old : List ℕ = a.bytes.items in
     let lengths : length a'.bytes.items ≡ length old + length bytes = ap length bytes_are ∙ length-append old bytes in
-    let records : (state_of a').records ≡ (state_of a).records =
+    let records : (heap_state a').records ≡ (heap_state a).records =
     ap (λ ws. map (record_state ws a'.labelled.items) a'.records.items) words_are
     ∙ ap (λ ls. map (record_state a.words.items ls) a'.records.items) labelled_are
     ∙ ap (map (record_state a.words.items a.labelled.items)) records_are in
@@ -110,7 +110,7 @@ text_added a a' bytes slice sound bytes_are start_is end_is texts_are words_are 
           ∙ ap (map (text_state (old ++ bytes))) texts_are
           ∙ map-append (text_state (old ++ bytes)) a.texts.items (slice ∷ [])
           ∙ ap (λ ts. ts ++ text_state (old ++ bytes) slice ∷ []) (texts_kept old bytes a.texts.items sound.texts)
-          ∙ ap (λ t. (state_of a).texts ++ t ∷ []) (range_new old bytes slice.start slice.end start_is end_is);
+          ∙ ap (λ t. (heap_state a).texts ++ t ∷ []) (range_new old bytes slice.start slice.end start_is end_is);
       records = records;
       sound = record {
         texts = subst (AllByRecursion (IsWithin (length a'.bytes.items))) (sym texts_are)
@@ -126,7 +126,7 @@ text_added a a' bytes slice sound bytes_are start_is end_is texts_are words_are 
             })
             a.records.items sound.records);
         grounded = subst (AreGrounded (length a'.texts.items) 0) (sym records)
-            (grounded_more (length a.texts.items) (length a'.texts.items) 0 (state_of a).records
+            (grounded_more (length a.texts.items) (length a'.texts.items) 0 (heap_state a).records
             (omega (arith, ap length texts_are, length_push a.texts.items slice)) sound.grounded);
         as_long = ap length sorted_are ∙ sound.as_long ∙ sym (ap length labelled_are);
         indexed = subst (AllByRecursion (IsIndexed a'.labelled.items a'.sorted.items)) (sym records_are)
@@ -137,9 +137,9 @@ text_added a a' bytes slice sound bytes_are start_is end_is texts_are words_are 
 
 -- a record is added
 pub record AddsRecord (a a' : Inside) (r : RecordState) : Type 0 where
-  pub texts : (state_of a').texts ≡ (state_of a).texts
-  pub records : (state_of a').records ≡ (state_of a).records ++ r ∷ []
-  pub sound : IsSound a'
+  pub texts : (heap_state a').texts ≡ (heap_state a).texts
+  pub records : (heap_state a').records ≡ (heap_state a).records ++ r ∷ []
+  pub sound : IsHeapSound a'
 
 both_more : {A : Type 0} (P Q R : A → Type 0) → ((x : A) → P x → Q x → R x) → (xs : List A) → AllByRecursion P xs → AllByRecursion Q xs → AllByRecursion R xs
 both_more P Q R more [] all all' = tt
@@ -152,7 +152,7 @@ index_kept labels more sorted more' r within same index =
     (subst (AreSorted (take (r.labelled.end - r.labelled.start) (drop r.labelled.start labels)))
     (sym (range_kept sorted more' r.labelled (subst (λ n. IsWithin n r.labelled) same within))) index)
 
-pub record_added : (a a' : Inside) (positional : List Word) (labelled sorted : List (Name × Word)) (p l : Slice) → IsSound a
+pub record_added : (a a' : Inside) (positional : List Word) (labelled sorted : List (Name × Word)) (p l : Slice) → IsHeapSound a
     → IsRecordOf (length a.texts.items) (length a.records.items) (record { positional = positional; labelled = labelled }) → length positional < 2 ^ 32
     → a'.words.items ≡ a.words.items ++ positional → p.start ≡ length a.words.items → p.end ≡ length a.words.items + length positional
     → a'.labelled.items ≡ a.labelled.items ++ labelled → l.start ≡ length a.labelled.items → l.end ≡ length a.labelled.items + length labelled
@@ -170,13 +170,13 @@ record_added a a' positional labelled sorted p l sound is few words_are p_start 
     let state : record_state (words ++ positional) (labels ++ labelled) r ≡ record { positional = positional; labelled = labelled } =
     ap (λ ws. let s : RecordState = record { positional = ws; labelled = take (l.end - l.start) (drop l.start (labels ++ labelled)) } in s) (range_new words positional p.start p.end p_start p_end)
     ∙ ap (λ ls. let s : RecordState = record { positional = positional; labelled = ls } in s) (range_new labels labelled l.start l.end l_start l_end) in
-    let records : (state_of a').records ≡ (state_of a).records ++ record { positional = positional; labelled = labelled } ∷ [] =
+    let records : (heap_state a').records ≡ (heap_state a).records ++ record { positional = positional; labelled = labelled } ∷ [] =
     ap (λ ws. map (record_state ws a'.labelled.items) a'.records.items) words_are
     ∙ ap (λ ls. map (record_state (words ++ positional) ls) a'.records.items) labelled_are
     ∙ ap (map (record_state (words ++ positional) (labels ++ labelled))) records_are
     ∙ map-append (record_state (words ++ positional) (labels ++ labelled)) a.records.items (r ∷ [])
     ∙ ap (λ rs. rs ++ record_state (words ++ positional) (labels ++ labelled) r ∷ []) (records_kept words positional labels labelled a.records.items sound.records)
-    ∙ ap (λ s. (state_of a).records ++ s ∷ []) state in
+    ∙ ap (λ s. (heap_state a).records ++ s ∷ []) state in
     record {
       texts = ap (λ bs. map (text_state bs) a'.texts.items) bytes_are ∙ ap (map (text_state a.bytes.items)) texts_are;
       records = records;
@@ -197,11 +197,11 @@ record_added a a' positional labelled sorted p l sound is few words_are p_start 
               labelled = record { ordered = omega (arith, l_start, l_end); inside = omega (arith, l_end, label_lengths) };
               countable = omega (arith, p_start, p_end, few);
             }));
-        grounded = subst (λ n. AreGrounded n 0 (state_of a').records) (sym (ap length texts_are))
+        grounded = subst (λ n. AreGrounded n 0 (heap_state a').records) (sym (ap length texts_are))
             (subst (AreGrounded (length a.texts.items) 0) (sym records)
-            (grounded_pushed (length a.texts.items) 0 (state_of a).records (record { positional = positional; labelled = labelled }) sound.grounded
+            (grounded_pushed (length a.texts.items) 0 (heap_state a).records (record { positional = positional; labelled = labelled }) sound.grounded
             (subst (λ n. IsRecordOf (length a.texts.items) n (record { positional = positional; labelled = labelled }))
-            (let place : length a.records.items ≡ 0 + length (state_of a).records = omega (arith, length-map a.records.items (record_state words labels)) in place) is)));
+            (let place : length a.records.items ≡ 0 + length (heap_state a).records = omega (arith, length-map a.records.items (record_state words labels)) in place) is)));
         as_long = ap length sorted_are ∙ length-append a.sorted.items sorted ∙ joint ∙ sym label_lengths;
         indexed = subst (AllByRecursion (IsIndexed a'.labelled.items a'.sorted.items)) (sym records_are)
             (subst (λ ls. AllByRecursion (IsIndexed ls a'.sorted.items) (a.records.items ++ r ∷ [])) (sym labelled_are)
@@ -217,40 +217,40 @@ record_added a a' positional labelled sorted p l sound is few words_are p_start 
       };
     }
 
-pub kept_by_text : (a a' : Inside) (h : HeapState) (bytes : List ℕ) → state_of a ≡ h → IsSound a → AddsText a a' bytes → KeepsWords h (state_of a')
+pub kept_by_text : (a a' : Inside) (h : HeapState) (bytes : List ℕ) → heap_state a ≡ h → IsHeapSound a → AddsText a a' bytes → KeepsWords h (heap_state a')
 kept_by_text a a' h bytes is sound adds =
-    let grounded : AreGrounded (length (state_of a).texts) 0 (state_of a).records =
-    subst (λ n. AreGrounded n 0 (state_of a).records) (sym (length-map a.texts.items (text_state a.bytes.items))) sound.grounded in
-    subst (λ x. KeepsWords x (state_of a')) is
-    (words_kept (state_of a) (state_of a') (bytes ∷ []) [] grounded adds.texts (adds.records ∙ sym (append-nil (state_of a).records)))
+    let grounded : AreGrounded (length (heap_state a).texts) 0 (heap_state a).records =
+    subst (λ n. AreGrounded n 0 (heap_state a).records) (sym (length-map a.texts.items (text_state a.bytes.items))) sound.grounded in
+    subst (λ x. KeepsWords x (heap_state a')) is
+    (words_kept (heap_state a) (heap_state a') (bytes ∷ []) [] grounded adds.texts (adds.records ∙ sym (append-nil (heap_state a).records)))
 
-pub kept_by_record : (a a' : Inside) (h : HeapState) (r : RecordState) → state_of a ≡ h → IsSound a → AddsRecord a a' r → KeepsWords h (state_of a')
+pub kept_by_record : (a a' : Inside) (h : HeapState) (r : RecordState) → heap_state a ≡ h → IsHeapSound a → AddsRecord a a' r → KeepsWords h (heap_state a')
 kept_by_record a a' h r is sound adds =
-    let grounded : AreGrounded (length (state_of a).texts) 0 (state_of a).records =
-    subst (λ n. AreGrounded n 0 (state_of a).records) (sym (length-map a.texts.items (text_state a.bytes.items))) sound.grounded in
-    subst (λ x. KeepsWords x (state_of a')) is
-    (words_kept (state_of a) (state_of a') [] (r ∷ []) grounded (adds.texts ∙ sym (append-nil (state_of a).texts)) adds.records)
+    let grounded : AreGrounded (length (heap_state a).texts) 0 (heap_state a).records =
+    subst (λ n. AreGrounded n 0 (heap_state a).records) (sym (length-map a.texts.items (text_state a.bytes.items))) sound.grounded in
+    subst (λ x. KeepsWords x (heap_state a')) is
+    (words_kept (heap_state a) (heap_state a') [] (r ∷ []) grounded (adds.texts ∙ sym (append-nil (heap_state a).texts)) adds.records)
 
 -- the value of the text that is added
 pub new_text : (a a' : Inside) (number : ℕ) (bytes : List ℕ) → AddsText a a' bytes → number ≡ length a.texts.items
-    → get_or (state_of a').texts number [] ≡ bytes
+    → get_or (heap_state a').texts number [] ≡ bytes
 new_text a a' number bytes adds number_is =
     ap (λ ts. get_or ts number []) adds.texts
-    ∙ get_or_at (state_of a).texts bytes [] [] number (length-map a.texts.items (text_state a.bytes.items) ∙ sym number_is)
+    ∙ get_or_at (heap_state a).texts bytes [] [] number (length-map a.texts.items (text_state a.bytes.items) ∙ sym number_is)
 
 -- the value of the record that is added
-pub new_record : (a a' : Inside) (h : HeapState) (number : ℕ) (r : RecordState) → state_of a ≡ h → AddsRecord a a' r → number ≡ length a.records.items
-    → get_or (values_of (state_of a').texts (state_of a').records) number nothing ≡ record_value h.texts (values_of h.texts h.records) r
+pub new_record : (a a' : Inside) (h : HeapState) (number : ℕ) (r : RecordState) → heap_state a ≡ h → AddsRecord a a' r → number ≡ length a.records.items
+    → get_or (heap_values (heap_state a').texts (heap_state a').records) number nothing ≡ record_value h.texts (heap_values h.texts h.records) r
 new_record a a' h number r is adds number_is =
-    subst (λ x. get_or (values_of (state_of a').texts (state_of a').records) number nothing ≡ record_value x.texts (values_of x.texts x.records) r) is
-    (ap (λ ts. get_or (values_of ts (state_of a').records) number nothing) adds.texts
-    ∙ ap (λ rs. get_or (values_of (state_of a).texts rs) number nothing) adds.records
-    ∙ ap (λ vs. get_or vs number nothing) (values_pushed (state_of a).texts (state_of a).records r)
-    ∙ get_or_at (values_of (state_of a).texts (state_of a).records) (record_value (state_of a).texts (values_of (state_of a).texts (state_of a).records) r) [] nothing number
-    (length-values_of (state_of a).texts (state_of a).records ∙ length-map a.records.items (record_state a.words.items a.labelled.items) ∙ sym number_is))
+    subst (λ x. get_or (heap_values (heap_state a').texts (heap_state a').records) number nothing ≡ record_value x.texts (heap_values x.texts x.records) r) is
+    (ap (λ ts. get_or (heap_values ts (heap_state a').records) number nothing) adds.texts
+    ∙ ap (λ rs. get_or (heap_values (heap_state a).texts rs) number nothing) adds.records
+    ∙ ap (λ vs. get_or vs number nothing) (values_pushed (heap_state a).texts (heap_state a).records r)
+    ∙ get_or_at (heap_values (heap_state a).texts (heap_state a).records) (record_value (heap_state a).texts (heap_values (heap_state a).texts (heap_state a).records) r) [] nothing number
+    (length-values_of (heap_state a).texts (heap_state a).records ∙ length-map a.records.items (record_state a.words.items a.labelled.items) ∙ sym number_is))
 
 -- the words given to a call are words of the heap of its fields
-pub given_words : (a : Inside) (h : HeapState) (positional : List Word) (labelled : List (Name × Word)) → state_of a ≡ h
+pub given_words : (a : Inside) (h : HeapState) (positional : List Word) (labelled : List (Name × Word)) → heap_state a ≡ h
     → All (IsWord h) positional → All (λ field. IsWord h field.1) labelled
     → IsRecordOf (length a.texts.items) (length a.records.items) (record { positional = positional; labelled = labelled })
 given_words a h positional labelled is all all' =

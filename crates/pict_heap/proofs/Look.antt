@@ -10,8 +10,8 @@ use Rattle.pict_core.specs.Plain.{labelled_of}
 use Rattle.pict_core.specs.Matching.{field_at}
 use Rattle.pict_syntax.specs.declared.name.Name.{Name}
 use Rattle.pict_heap.specs.Fields.{positional_field, labelled_field, labelled_field_at, positional_count, text_bytes}
-use Rattle.pict_heap.specs.HeapState.{RecordState, HeapState, field_value, record_value, values_of, value_of, IsWordOf, IsWord, word_with_label, text_of}
-use Rattle.pict_heap.specs.Layout.{text_state, record_state, state_of, IsWithin, RecordIsWithin, IsRecordOf, IsIndexed, IsSound, slice_of_word}
+use Rattle.pict_heap.specs.HeapState.{RecordState, HeapState, field_value, record_value, heap_values, value_of, IsWordOf, IsWord, word_with_label, text_of}
+use Rattle.pict_heap.specs.Layout.{text_state, record_state, heap_state, IsWithin, RecordIsWithin, IsRecordOf, IsIndexed, IsHeapSound, slice_of_word}
 use Rattle.pict_heap.specs.declared.word.Word.{Word}
 use Rattle.pict_heap.specs.declared.word.Word.TheVariants as word
 use Rattle.pict_heap.specs.declared.heap.Slice.{Slice}
@@ -24,14 +24,14 @@ use Rattle.pict_heap.proofs.Growth.{each_at}
 pub record ReadsRecord (a : Inside) (h : HeapState) (number : ℕ) (r : Record) : Type 0 where
   pub within : RecordIsWithin (length a.words.items) (length a.labelled.items) r
   pub index : IsIndexed a.labelled.items a.sorted.items r
-  pub value : value_of h (word.Fields number) ≡ record_value h.texts (values_of h.texts h.records) (record_state a.words.items a.labelled.items r)
+  pub value : value_of h (word.Fields number) ≡ record_value h.texts (heap_values h.texts h.records) (record_state a.words.items a.labelled.items r)
   pub positional : AllByRecursion (IsWord h) (take (r.positional.end - r.positional.start) (drop r.positional.start a.words.items))
   pub labelled : AllByRecursion (λ field. IsWord h field.1) (take (r.labelled.end - r.labelled.start) (drop r.labelled.start a.labelled.items))
 
-reads_here : (a : Inside) (number : ℕ) (r : Record) → IsSound a → number < length a.records.items → r ≡ get_or a.records.items number r
-    → ReadsRecord a (state_of a) number r
+reads_here : (a : Inside) (number : ℕ) (r : Record) → IsHeapSound a → number < length a.records.items → r ≡ get_or a.records.items number r
+    → ReadsRecord a (heap_state a) number r
 reads_here a number r sound inside read =
-    let h : HeapState = state_of a in
+    let h : HeapState = heap_state a in
     let state : RecordState = record_state a.words.items a.labelled.items r in
     let found : slice_get a.records.items number ≡ Some r = slice_get_read a.records.items (length a.records.items) number r refl inside read in
     let shown : slice_get h.records number ≡ Some state =
@@ -46,13 +46,13 @@ reads_here a number r sound inside read =
       within = each_at (RecordIsWithin (length a.words.items) (length a.labelled.items)) a.records.items number r sound.records found;
       index = each_at (IsIndexed a.labelled.items a.sorted.items) a.records.items number r sound.indexed found;
       value =
-          ap (λ n. get_or (values_of h.texts h.records) n nothing) (sym place)
+          ap (λ n. get_or (heap_values h.texts h.records) n nothing) (sym place)
           ∙ fold_at h.texts (length a.texts.items) h.records [] sound.grounded number state shown;
       positional = all_more (IsWordOf (length a.texts.items) (0 + number)) (IsWord h) more state.positional grounded.positional;
       labelled = all_more (λ f. IsWordOf (length a.texts.items) (0 + number) f.1) (λ f. IsWord h f.1) (λ f. more f.1) state.labelled grounded.labelled;
     }
 
-pub record_read : (a : Inside) (h : HeapState) (w : Word) (number : ℕ) (r : Record) → state_of a ≡ h → IsSound a → IsWord h w → w ≡ word.Fields number
+pub record_read : (a : Inside) (h : HeapState) (w : Word) (number : ℕ) (r : Record) → heap_state a ≡ h → IsHeapSound a → IsWord h w → w ≡ word.Fields number
     → r ≡ get_or a.records.items number r → ReadsRecord a h number r
 record_read a h w number r is sound there same read =
     let inside : number < length h.records = subst (IsWord h) same there in
@@ -85,11 +85,11 @@ count_read a h w number r reads same =
     ∙ sym (ap positional_count (ap (value_of h) same ∙ reads.value))
 
 label_found : (h : HeapState) (label : ℕ) (fields : List (Name × Word))
-    → field_at label (labelled_of (map (field_value h.texts (values_of h.texts h.records)) fields)) ≡ option_map (value_of h) (word_with_label label fields)
+    → field_at label (labelled_of (map (field_value h.texts (heap_values h.texts h.records)) fields)) ≡ option_map (value_of h) (word_with_label label fields)
 label_found h label [] = refl
 label_found h label (f ∷ fields) =
     elim (eqb label f.0.0) as (λ b.
-    cond b (Some (value_of h f.1)) (field_at label (labelled_of (map (field_value h.texts (values_of h.texts h.records)) fields)))
+    cond b (Some (value_of h f.1)) (field_at label (labelled_of (map (field_value h.texts (heap_values h.texts h.records)) fields)))
     ≡ option_map (value_of h) (cond b (Some f.1) (word_with_label label fields))) [ true ↦ refl | false ↦ label_found h label fields ]
 
 pub labelled_read : (a : Inside) (h : HeapState) (w : Word) (number label : ℕ) (r : Record) (result : Option Word) → ReadsRecord a h number r → w ≡ word.Fields number
@@ -106,7 +106,7 @@ pub label_at_read : (a : Inside) (h : HeapState) (w : Word) (number i : ℕ) (r 
     → option_map (λ field. (field.0.0, value_of h field.1)) result ≡ labelled_field_at (value_of h w) i
 label_at_read a h w number i r result reads same is =
     let fields : List (Name × Word) = take (r.labelled.end - r.labelled.start) (drop r.labelled.start a.labelled.items) in
-    let f = field_value h.texts (values_of h.texts h.records) in
+    let f = field_value h.texts (heap_values h.texts h.records) in
     ap (option_map (λ field. (field.0.0, value_of h field.1))) is
     ∙ sym (joined (slice_get fields i) f (λ field. (field.0.0, field.1)))
     ∙ ap (option_map (λ field. (field.0.0, field.1))) (sym (slice_get-map f fields i))
@@ -133,21 +133,21 @@ found_labelled P (f ∷ fields) label (Some w) all is =
     ] is
 
 -- a text as a call reads it
-text_here : (a : Inside) (number : ℕ) (slice : Slice) → IsSound a → number < length a.texts.items → slice ≡ get_or a.texts.items number slice
-    → value_of (state_of a) (word.Text number) ≡ term.Text (text_state a.bytes.items slice)
+text_here : (a : Inside) (number : ℕ) (slice : Slice) → IsHeapSound a → number < length a.texts.items → slice ≡ get_or a.texts.items number slice
+    → value_of (heap_state a) (word.Text number) ≡ term.Text (text_state a.bytes.items slice)
 text_here a number slice sound inside read =
     ap term.Text
     (get_or-map (text_state a.bytes.items) a.texts.items number slice [] inside
     ∙ ap (text_state a.bytes.items) (sym read))
 
-pub text_read : (a : Inside) (h : HeapState) (number : ℕ) (slice : Slice) → state_of a ≡ h → IsSound a → IsWord h (word.Text number) → slice ≡ get_or a.texts.items number slice
+pub text_read : (a : Inside) (h : HeapState) (number : ℕ) (slice : Slice) → heap_state a ≡ h → IsHeapSound a → IsWord h (word.Text number) → slice ≡ get_or a.texts.items number slice
     → value_of h (word.Text number) ≡ term.Text (text_state a.bytes.items slice)
 text_read a h number slice is sound there read =
     subst (λ x. value_of x (word.Text number) ≡ term.Text (text_state a.bytes.items slice)) is
     (text_here a number slice sound (omega (arith, there, ap (λ x. length x.texts) is, length-map a.texts.items (text_state a.bytes.items))) read)
 
 -- the value of a record is no text
-record_no_text : (a : Inside) (h : HeapState) (number : ℕ) → state_of a ≡ h → IsSound a → IsWord h (word.Fields number)
+record_no_text : (a : Inside) (h : HeapState) (number : ℕ) → heap_state a ≡ h → IsHeapSound a → IsWord h (word.Fields number)
     → text_bytes (value_of h (word.Fields number)) ≡ None
 record_no_text a h number is sound there =
     let empty : Slice = record { start = 0; end = 0 } in
@@ -156,7 +156,7 @@ record_no_text a h number is sound there =
     let read : r ≡ get_or a.records.items number r = get_or_default a.records.items number (record { positional = empty; labelled = empty }) r inside in
     ap text_bytes (record_read a h (word.Fields number) number r is sound there refl read).value
 
-pub no_text : (a : Inside) (h : HeapState) (w : Word) → state_of a ≡ h → IsSound a → IsWord h w → ((number : ℕ) → w ≡ word.Text number → ⊥) → text_bytes (value_of h w) ≡ None
+pub no_text : (a : Inside) (h : HeapState) (w : Word) → heap_state a ≡ h → IsHeapSound a → IsWord h w → ((number : ℕ) → w ≡ word.Text number → ⊥) → text_bytes (value_of h w) ≡ None
 no_text a h (word.Int n) is sound there other = refl
 no_text a h (word.Char n) is sound there other = refl
 no_text a h (word.Bool n) is sound there other = refl
@@ -170,7 +170,7 @@ pub record SliceOf (a : Inside) (h : HeapState) (w : Word) (slice : Slice) : Typ
   pub within : IsWithin (length a.bytes.items) slice
   pub bytes : text_of h w ≡ text_state a.bytes.items slice
 
-pub slice_read : (a : Inside) (h : HeapState) (w : Word) (slice : Slice) → state_of a ≡ h → IsSound a → IsWord h w → IsSome (text_bytes (value_of h w))
+pub slice_read : (a : Inside) (h : HeapState) (w : Word) (slice : Slice) → heap_state a ≡ h → IsHeapSound a → IsWord h w → IsSome (text_bytes (value_of h w))
     → slice ≡ slice_of_word a.texts.items w → SliceOf a h w slice
 slice_read a h (word.Int n) slice is sound there text slice_is = cc
 slice_read a h (word.Char n) slice is sound there text slice_is = cc

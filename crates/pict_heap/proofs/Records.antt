@@ -6,7 +6,7 @@ use Rattle.std.proofs.lemmas.List.Elements.{All-nil, All-push}
 use Rattle.std.specs.List.{All, fold, slice_index_or}
 use Rattle.pict_core.specs.Term as term
 use Rattle.pict_core.specs.Term.{Val, Vals, Labelled}
-use Rattle.pict_heap.specs.HeapState.{HeapState, RecordState, record_value, more_values, values_of, value_of}
+use Rattle.pict_heap.specs.HeapState.{HeapState, RecordState, record_value, more_values, heap_values, value_of}
 use Rattle.pict_heap.specs.declared.word.Word.TheVariants as word
 
 abbrev IsRecord : Val → Type 0
@@ -23,4 +23,4 @@ record_at vs i all = ⊎_elim
     (cases_lt i (length vs))
 
 pub record_is : (h : HeapState) (number : ℕ) → (vs : Vals) × (ls : Labelled) × (value_of h (word.Fields number) ≡ term.Record vs ls)
-record_is h number = record_at (values_of h.texts h.records) number (values_are h.texts h.records [] (All-nil IsRecord))
+record_is h number = record_at (heap_values h.texts h.records) number (values_are h.texts h.records [] (All-nil IsRecord))

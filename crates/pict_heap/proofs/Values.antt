@@ -8,7 +8,7 @@ use Rattle.pict_core.specs.Term.{Val, Vals, Labelled}
 use Rattle.pict_core.specs.Plain.{vals_of, labelled_of}
 use Rattle.pict_syntax.specs.declared.name.Name.{Name}
 use Rattle.pict_heap.specs.Fields.{nth, nth_labelled, count}
-use Rattle.pict_heap.specs.HeapState.{RecordState, word_value, field_value, record_value, more_values, values_of, IsWordOf}
+use Rattle.pict_heap.specs.HeapState.{RecordState, word_value, field_value, record_value, more_values, heap_values, IsWordOf}
 use Rattle.pict_heap.specs.Layout.{IsRecordOf, AreGrounded}
 use Rattle.pict_heap.specs.declared.word.Word.{Word}
 use Rattle.pict_heap.specs.declared.word.Word.TheVariants as word
@@ -99,10 +99,10 @@ pub fold-append : (texts : List (List ℕ)) (values : List Val) (rs more : List 
 fold-append texts values [] more = refl
 fold-append texts values (r ∷ rs) more = fold-append texts (more_values texts values r) rs more
 
-pub values_pushed : (texts : List (List ℕ)) (rs : List RecordState) (r : RecordState) → values_of texts (rs ++ r ∷ []) ≡ values_of texts rs ++ record_value texts (values_of texts rs) r ∷ []
+pub values_pushed : (texts : List (List ℕ)) (rs : List RecordState) (r : RecordState) → heap_values texts (rs ++ r ∷ []) ≡ heap_values texts rs ++ record_value texts (heap_values texts rs) r ∷ []
 values_pushed texts rs r = fold-append texts [] rs (r ∷ [])
 
-pub length-values_of : (texts : List (List ℕ)) (rs : List RecordState) → length (values_of texts rs) ≡ length rs
+pub length-values_of : (texts : List (List ℕ)) (rs : List RecordState) → length (heap_values texts rs) ≡ length rs
 length-values_of texts rs = length-fold texts rs [] ∙ (let plain : 0 + length rs ≡ length rs = omega arith in plain)
 
 -- one record more

@@ -53,12 +53,12 @@ record_value texts values r =
 abbrev pub more_values : List (List ℕ) → List term.Val → RecordState → List term.Val
 more_values texts values r = values ++ record_value texts values r ∷ []
 
-abbrev pub values_of : List (List ℕ) → List RecordState → List term.Val
-values_of texts records = fold (more_values texts) [] records
+abbrev pub heap_values : List (List ℕ) → List RecordState → List term.Val
+heap_values texts records = fold (more_values texts) [] records
 
 -- what a word of a heap stands for
 abbrev pub value_of : HeapState → Word → term.Val
-value_of h w = word_value h.texts (values_of h.texts h.records) w
+value_of h w = word_value h.texts (heap_values h.texts h.records) w
 
 -- the record of fields that are words of a heap
 abbrev pub record_of : HeapState → List Word → List (Name × Word) → term.Val

@@ -19,8 +19,8 @@ record_state words labelled r = record {
   labelled = slice_range labelled r.labelled.start r.labelled.end;
 }
 
-abbrev pub state_of : Inside → HeapState
-state_of a = record {
+abbrev pub heap_state : Inside → HeapState
+heap_state a = record {
   texts = map (text_state a.bytes.items) a.texts.items;
   records = map (record_state a.words.items a.labelled.items) a.records.items;
   room = record {
@@ -77,10 +77,10 @@ abbrev pub IsIndexed : List (Name × Word) → List (Name × Word) → Record �
 IsIndexed labelled sorted r =
     AreSorted (slice_range labelled r.labelled.start r.labelled.end) (slice_range sorted r.labelled.start r.labelled.end)
 
-pub record IsSound (a : Inside) : Type 0 where
+pub record IsHeapSound (a : Inside) : Type 0 where
   pub texts : AllByRecursion (IsWithin (length a.bytes.items)) a.texts.items
   pub records : AllByRecursion (RecordIsWithin (length a.words.items) (length a.labelled.items)) a.records.items
-  pub grounded : AreGrounded (length a.texts.items) 0 (state_of a).records
+  pub grounded : AreGrounded (length a.texts.items) 0 (heap_state a).records
   pub as_long : length a.sorted.items ≡ length a.labelled.items
   pub indexed : AllByRecursion (IsIndexed a.labelled.items a.sorted.items) a.records.items
 

@@ -45,11 +45,11 @@ impl Model for Heap {
 
     ghost Value = { HeapState };
 
-    ghost use Rattle.pict_heap.specs.Layout.{state_of, IsSound};
+    ghost use Rattle.pict_heap.specs.Layout.{heap_state, IsHeapSound};
 
-    ghost view = { state_of };
+    ghost view = { heap_state };
 
-    ghost invariant = { IsSound };
+    ghost invariant = { IsHeapSound };
 }
 
 impl Heap {

@@ -3,7 +3,7 @@ use Rattle.std.proofs.Common.{◌≡◌, ℕ, ◌+◌, ◌-◌, ◌≤◌, List,
 use Rattle.pict_types.specs.Types.{PlainType}
 use Rattle.pict_types.specs.Plain.{plain}
 use Rattle.pict_types.specs.Renaming.{rename, moved}
-use Rattle.pict_rules.specs.Environments.{Extension, KnownType, KnownValue, joined, moved_binders, opened, rename_values, shifted_by}
+use Rattle.pict_rules.specs.Environments.{Extension, KnownType, KnownValue, joined_extensions, moved_binders, opened, rename_values, shifted_by}
 use Rattle.pict_infer.specs.declared.known.Known.{Known}
 use Rattle.pict_infer.specs.declared.known.Binder.{Binder}
 use Rattle.pict_infer.specs.declared.added.Added.{Added}
@@ -75,7 +75,7 @@ value_alone base bs vs v p q h =
 -- two patterns side by side
 pub both_beside : (base k more : ℕ) (x y : Added) (bs : List Binder) (vs : List Known) → x.base ≡ base → y.base ≡ base → k ≡ length x.binders.items → more ≡ length y.binders.items → length bs ≡ k + more
     → known_types bs ≡ moved_binders k (known_types y.binders.items) ++ known_types x.binders.items → AreSideBySide base k more x.values.items y.values.items vs
-    → (let z : Extension = record { binders = known_types bs; values = known_values (base + length bs) vs } in z) ≡ joined (extension_of x) (extension_of y)
+    → (let z : Extension = record { binders = known_types bs; values = known_values (base + length bs) vs } in z) ≡ joined_extensions (extension_of x) (extension_of y)
 both_beside base k more x y bs vs bx by hk hm n p q =
     extension (known_types bs) _ (known_values (base + length bs) vs) _
     (p ∙ ap (λ i. moved_binders i (known_types y.binders.items) ++ known_types x.binders.items) ox)
@@ -87,6 +87,6 @@ both_beside base k more x y bs vs bx by hk hm n p q =
     oy : more ≡ opened (extension_of y)
     oy = omega (arith, hm, types_length y.binders.items)
 
-    both : rename_values (moved k more) (known_values (base + more) y.values.items) ++ rename_values (moved more 0) (known_values (base + k) x.values.items) ≡ (joined (extension_of x) (extension_of y)).values
+    both : rename_values (moved k more) (known_values (base + more) y.values.items) ++ rename_values (moved more 0) (known_values (base + k) x.values.items) ≡ (joined_extensions (extension_of x) (extension_of y)).values
     both = ap₂ (λ i j. rename_values (moved i j) (known_values (base + more) y.values.items) ++ rename_values (moved j 0) (known_values (base + k) x.values.items)) ox oy
         ∙ ap₂ (λ i j. rename_values (moved (opened (extension_of x)) (opened (extension_of y))) (known_values j y.values.items) ++ rename_values (moved (opened (extension_of y)) 0) (known_values i x.values.items)) (omega (arith, bx, hk)) (omega (arith, by, hm))

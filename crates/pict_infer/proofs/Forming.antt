@@ -31,7 +31,7 @@ use Rattle.pict_infer.specs.declared.error.InferError.TheVariants.{Named, Memory
 use Rattle.pict_infer.specs.declared.error.Told.TheVariants.{Nothing}
 use Rattle.pict_infer.specs.Answering.{IsRefused, IsStopped, of_kind_error, of_size_error}
 use Rattle.pict_infer.specs.Shaping.{is_recursive, is_variable}
-use Rattle.pict_infer.specs.Steps.{shown}
+use Rattle.pict_infer.specs.Steps.{changed_or_same}
 
 -- a rule behind a stop
 pub clear : {s : Sort} (o : Option Stop) {r : Rule s} {a : Answer s} → o ≡ None → Runs r a → Runs (unless_stopped o r) a
@@ -136,10 +136,10 @@ refused_is (Some x) n (Named c i told) refuse_ = refl
 refused_is o n Memory h = tt
 
 -- what is exposed
-pub shown_is : (x : PlainType) (o : Option Ty) (t : Ty) → IfNone o (x ≡ plain t) → IfSome o (λ u. plain u ≡ x) → shown o t ≡ x
-shown_is x None t n s = sym n
-shown_is x (Some u) t n s = s
+pub changed_or_same_is : (x : PlainType) (o : Option Ty) (t : Ty) → IfNone o (x ≡ plain t) → IfSome o (λ u. plain u ≡ x) → changed_or_same o t ≡ x
+changed_or_same_is x None t n s = sym n
+changed_or_same_is x (Some u) t n s = s
 
-pub shown_formed : (P : PlainType → Type 0) (o : Option Ty) (t : Ty) → P (plain t) → IfSome o (λ u. P (plain t) → P (plain u)) → P (shown o t)
-shown_formed P None t h s = h
-shown_formed P (Some u) t h s = s h
+pub changed_or_same_formed : (P : PlainType → Type 0) (o : Option Ty) (t : Ty) → P (plain t) → IfSome o (λ u. P (plain t) → P (plain u)) → P (changed_or_same o t)
+changed_or_same_formed P None t h s = h
+changed_or_same_formed P (Some u) t h s = s h

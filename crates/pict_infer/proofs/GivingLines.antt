@@ -18,7 +18,7 @@ use Rattle.pict_types.specs.Recursion.{unfolded}
 use Rattle.pict_normal.specs.Normal.{kind_stop, size_stop, and_type, with_labelled_type}
 use Rattle.pict_normal.proofs.LabelOrder.{fields_sorted, in_order, in_order_and, labels_and}
 use Rattle.pict_normal.proofs.Trees.{types_and}
-use Rattle.pict_rules.specs.Environments.{Environment, Extension, KnownType, bounds_of, joined, no_extension, one_value, within}
+use Rattle.pict_rules.specs.Environments.{Environment, Extension, KnownType, bounds_of, joined_extensions, no_extension, one_value, within}
 use Rattle.pict_rules.specs.Rules.{Sort, nothing_, type_, pattern_, patterns_, labelled_patterns_, fields_, Result as Given, Rule, give, part, ok, TypedPattern, TypedPatterns, TypedLabels, TypedFields, pattern_gives, fields_give, binders_give, patterns_give, labelled_patterns_give, pattern_against, within_limits}
 use Rattle.pict_rules.specs.Clauses.{need_recursive, with_own}
 use Rattle.pict_rules.specs.Typing.{rule}
@@ -150,13 +150,13 @@ labelled_refused e bs ps ls own g (Named c i told) p q h = part_ok p (part_ok q 
 labelled_refused e bs ps ls own g Memory p q h = tt
 
 pub fields_typed : (e : Environment) (bs : TypeBinders) (ps : Pats) (ls : LabelledPats) (own : List KnownType) (g : TypedPatterns) (h : TypedLabels) → Runs (rule e (binders_give bs)) (ok own) → Runs (rule (with_own e own) (patterns_give ps)) (ok g)
-    → Runs (rule (with_own e own) (labelled_patterns_give ls)) (ok h) → Runs (rule e (fields_give (field_pats bs ps ls))) (ok (record { own = own; positional = g.have; labelled = h.have; adds = joined g.adds h.adds }))
+    → Runs (rule (with_own e own) (labelled_patterns_give ls)) (ok h) → Runs (rule e (fields_give (field_pats bs ps ls))) (ok (record { own = own; positional = g.have; labelled = h.have; adds = joined_extensions g.adds h.adds }))
 fields_typed e bs ps ls own g h p q r = part_ok p (part_ok q (part_ok r give_))
 
 pub one_pattern_more : (e : Environment) (xs : List RPat) (i : ℕ) (p : RPat) (g : TypedPatterns) (h : TypedPattern) → i < length xs → p ≡ get_or xs i p → Runs (rule e (patterns_give (pats_on no_pats (take i xs)))) (ok g)
-    → Runs (rule e (pattern_gives (pat_of p))) (ok h) → Runs (rule e (patterns_give (pats_on no_pats (take (i + 1) xs)))) (ok (record { have = and_type g.have h.has; adds = joined g.adds h.adds }))
+    → Runs (rule e (pattern_gives (pat_of p))) (ok h) → Runs (rule e (patterns_give (pats_on no_pats (take (i + 1) xs)))) (ok (record { have = and_type g.have h.has; adds = joined_extensions g.adds h.adds }))
 one_pattern_more e xs i p g h n is r k =
-    subst (λ ps. Runs (rule e (patterns_give ps)) (ok (record { have = and_type g.have h.has; adds = joined g.adds h.adds }))) (sym (next_pat xs i p n is)) (part_ok r (part_ok k give_))
+    subst (λ ps. Runs (rule e (patterns_give ps)) (ok (record { have = and_type g.have h.has; adds = joined_extensions g.adds h.adds }))) (sym (next_pat xs i p n is)) (part_ok r (part_ok k give_))
 
 refused_further : (e : Environment) (y : InferError) (ps : Pats) (p : Pat) → IsRefused (rule e (patterns_give ps)) y → IsRefused (rule e (patterns_give (more_pats ps p))) y
 refused_further e (Named c i told) ps p h = part_stuck h
@@ -172,9 +172,9 @@ pattern_refused e xs i p g y n is r h =
     kept_on (λ ps. IsRefused (rule e (patterns_give ps)) y) (refused_further e y) xs i p n is (refused_here e y (pats_on no_pats (take i xs)) (pat_of p) g r h)
 
 pub one_label_more : (e : Environment) (xs : List RLabelledPat) (i : ℕ) (l : RLabelledPat) (g : TypedLabels) (h : TypedPattern) → i < length xs → l ≡ get_or xs i l → Runs (rule e (labelled_patterns_give (labelled_pats_on no_labelled_pats (take i xs)))) (ok g)
-    → Runs (rule e (pattern_gives (pat_of l.pat))) (ok h) → Runs (rule e (labelled_patterns_give (labelled_pats_on no_labelled_pats (take (i + 1) xs)))) (ok (record { have = with_labelled_type e.names l.label.name.0 h.has g.have; adds = joined g.adds h.adds }))
+    → Runs (rule e (pattern_gives (pat_of l.pat))) (ok h) → Runs (rule e (labelled_patterns_give (labelled_pats_on no_labelled_pats (take (i + 1) xs)))) (ok (record { have = with_labelled_type e.names l.label.name.0 h.has g.have; adds = joined_extensions g.adds h.adds }))
 one_label_more e xs i l g h n is r k =
-    subst (λ ls. Runs (rule e (labelled_patterns_give ls)) (ok (record { have = with_labelled_type e.names l.label.name.0 h.has g.have; adds = joined g.adds h.adds }))) (sym (next_labelled xs i l n is)) (part_ok r (part_ok k give_))
+    subst (λ ls. Runs (rule e (labelled_patterns_give ls)) (ok (record { have = with_labelled_type e.names l.label.name.0 h.has g.have; adds = joined_extensions g.adds h.adds }))) (sym (next_labelled xs i l n is)) (part_ok r (part_ok k give_))
 
 label_further : (e : Environment) (y : InferError) (ls : LabelledPats) (l : Id) (p : Pat) → IsRefused (rule e (labelled_patterns_give ls)) y → IsRefused (rule e (labelled_patterns_give (more_labelled_pats ls l p))) y
 label_further e (Named c i told) ls l p h = part_stuck h
@@ -199,7 +199,7 @@ patterns_start e us x h k =
     (gives_this {s = patterns_} (record { have = no_type; adds = no_extension }) (record { have = plain_types us; adds = x }) (ap₂ (λ (vs : List Ty) (w : Extension). let g : TypedPatterns = record { have = plain_types vs; adds = w } in g) (sym h) (sym k)))
 
 pub patterns_more : (e : Environment) (xs : List RPat) (i : ℕ) (p : RPat) (us vs : List Ty) (u : Ty) (x y z : Extension) → i < length xs → p ≡ get_or xs i p → Runs (rule e (patterns_give (pats_on no_pats (take i xs)))) (ok (record { have = plain_types us; adds = x }))
-    → Runs (rule e (pattern_gives (pat_of p))) (ok (record { has = plain u; adds = y })) → vs ≡ us ++ u ∷ [] → z ≡ joined x y → Runs (rule e (patterns_give (pats_on no_pats (take (i + 1) xs)))) (ok (record { have = plain_types vs; adds = z }))
+    → Runs (rule e (pattern_gives (pat_of p))) (ok (record { has = plain u; adds = y })) → vs ≡ us ++ u ∷ [] → z ≡ joined_extensions x y → Runs (rule e (patterns_give (pats_on no_pats (take (i + 1) xs)))) (ok (record { have = plain_types vs; adds = z }))
 patterns_more e xs i p us vs u x y z n is r k h q =
     let have : and_type (plain_types us) (plain u) ≡ plain_types vs = sym (ap plain_types h ∙ types_and us u) in
     subst (λ (g : TypedPatterns). Runs (rule e (patterns_give (pats_on no_pats (take (i + 1) xs)))) (ok g)) (ap₂ (λ (ts : PlainTypes) (w : Extension). let g : TypedPatterns = record { have = ts; adds = w } in g) have (sym q))
@@ -213,7 +213,7 @@ labels_start e us x h k =
 
 pub labels_more : (e : Environment) (xs : List RLabelledPat) (i : ℕ) (l : RLabelledPat) (us vs : List (Name × Ty)) (u : Ty) (x y z : Extension) → i < length xs → l ≡ get_or xs i l
     → Runs (rule e (labelled_patterns_give (labelled_pats_on no_labelled_pats (take i xs)))) (ok (record { have = in_order e.names (plain_labels us); adds = x })) → Runs (rule e (pattern_gives (pat_of l.pat))) (ok (record { has = plain u; adds = y }))
-    → vs ≡ us ++ (l.label.name, u) ∷ [] → z ≡ joined x y → Runs (rule e (labelled_patterns_give (labelled_pats_on no_labelled_pats (take (i + 1) xs)))) (ok (record { have = in_order e.names (plain_labels vs); adds = z }))
+    → vs ≡ us ++ (l.label.name, u) ∷ [] → z ≡ joined_extensions x y → Runs (rule e (labelled_patterns_give (labelled_pats_on no_labelled_pats (take (i + 1) xs)))) (ok (record { have = in_order e.names (plain_labels vs); adds = z }))
 labels_more e xs i l us vs u x y z n is r k h q =
     let have : with_labelled_type e.names l.label.name.0 (plain u) (in_order e.names (plain_labels us)) ≡ in_order e.names (plain_labels vs) =
     sym (ap (λ ws. in_order e.names (plain_labels ws)) h ∙ ap (in_order e.names) (labels_and us (l.label.name, u)) ∙ in_order_and e.names (plain_labels us) l.label.name.0 (plain u)) in

@@ -18,7 +18,7 @@ use Rattle.pict_normal.specs.Normal.{normal, kind_stop, size_stop}
 use Rattle.pict_sub.specs.Exposing.{exposure}
 use Rattle.pict_rules.specs.Counts.{count_pats, count_binders}
 use Rattle.pict_rules.specs.Shapes.{nth_type}
-use Rattle.pict_rules.specs.Environments.{Environment, Extension, KnownType, context_of, joined, no_extension, one_value, within}
+use Rattle.pict_rules.specs.Environments.{Environment, Extension, KnownType, context_of, joined_extensions, no_extension, one_value, within}
 use Rattle.pict_rules.specs.Rules.{Sort, nothing_, type_, extension_, opened_, Result as Given, Judgement, Rule, Answer, give, refuse, need, part, ok, stuck, is_subtype, OpenedFields, ensure, pattern_against, fields_against, binders_against, patterns_against, labelled_patterns_against, within_limits}
 use Rattle.pict_rules.specs.Clauses.{if_labelled, if_record, need_recursive, with_own}
 use Rattle.pict_rules.specs.Typing.{rule}
@@ -77,11 +77,11 @@ next_type : (xs : List RPat) (i : ℕ) (ts : PlainTypes) → i ≤ length xs →
 next_type xs i ts h = ap (λ n. nth_type n ts) (count_of_pats (take i xs) ∙ length-take-le i xs h)
 
 pub one_pattern_more : (e : Environment) (xs : List RPat) (i : ℕ) (p : RPat) (ts : PlainTypes) (x y : Extension) → i < length xs → p ≡ get_or xs i p → Runs (rule e (patterns_against (pats_on no_pats (take i xs)) ts)) (ok x)
-    → Runs (rule e (pattern_against (pat_of p) (nth_type i ts))) (ok y) → Runs (rule e (patterns_against (pats_on no_pats (take (i + 1) xs)) ts)) (ok (joined x y))
+    → Runs (rule e (pattern_against (pat_of p) (nth_type i ts))) (ok y) → Runs (rule e (patterns_against (pats_on no_pats (take (i + 1) xs)) ts)) (ok (joined_extensions x y))
 one_pattern_more e xs i p ts x y h is r k =
     let same = next_type xs i ts (omega (arith, h)) in
     let now : Runs (rule e (pattern_against (pat_of p) (nth_type (count_pats (pats_on no_pats (take i xs))) ts))) (ok y) = subst (λ t. Runs (rule e (pattern_against (pat_of p) t)) (ok y)) (sym same) k in
-    subst (λ ps. Runs (rule e (patterns_against ps ts)) (ok (joined x y))) (sym (next_pat xs i p h is)) (part_ok r (part_ok now give_))
+    subst (λ ps. Runs (rule e (patterns_against ps ts)) (ok (joined_extensions x y))) (sym (next_pat xs i p h is)) (part_ok r (part_ok now give_))
 
 refused_more : (e : Environment) (ts : PlainTypes) (y : InferError) (ps : Pats) (q : Pat) → IsRefused (rule e (patterns_against ps ts)) y → IsRefused (rule e (patterns_against (more_pats ps q) ts)) y
 refused_more e ts (Named c i told) ps q h = part_stuck h
@@ -104,19 +104,19 @@ label_refused_more e ms (Named c i told) ls l q h = part_stuck h
 label_refused_more e ms Memory ls l q h = tt
 
 at_label_ok : (e : Environment) (l : ℕ) (p : Pat) (ms : PlainLabels) (o : Option PlainType) (x y : Extension) → Runs {s = extension_} (if_labelled o (λ t. rule e (pattern_against p t)) (refuse Y6 (pat_span p))) (ok y)
-    → Runs {s = extension_} (if_labelled o (λ t. part e (pattern_against p t) (λ y. give (joined x y))) (refuse Y6 (pat_span p))) (ok (joined x y))
+    → Runs {s = extension_} (if_labelled o (λ t. part e (pattern_against p t) (λ y. give (joined_extensions x y))) (refuse Y6 (pat_span p))) (ok (joined_extensions x y))
 at_label_ok e l p ms None x y h = elim h [ ]
 at_label_ok e l p ms (Some t) x y h = part_ok h give_
 
 at_label_stuck : (e : Environment) (p : Pat) (o : Option PlainType) (x : Extension) (c : Code) (i : Span) → Runs {s = extension_} (if_labelled o (λ t. rule e (pattern_against p t)) (refuse Y6 (pat_span p))) (stuck c i)
-    → Runs {s = extension_} (if_labelled o (λ t. part e (pattern_against p t) (λ y. give (joined x y))) (refuse Y6 (pat_span p))) (stuck c i)
+    → Runs {s = extension_} (if_labelled o (λ t. part e (pattern_against p t) (λ y. give (joined_extensions x y))) (refuse Y6 (pat_span p))) (stuck c i)
 at_label_stuck e p None x c i h = h
 at_label_stuck e p (Some t) x c i h = part_stuck h
 
 pub one_label_more : (e : Environment) (xs : List RLabelledPat) (i : ℕ) (l : RLabelledPat) (ms : PlainLabels) (x y : Extension) → i < length xs → l ≡ get_or xs i l
-    → Runs (rule e (labelled_patterns_against (labelled_pats_on no_labelled_pats (take i xs)) ms)) (ok x) → Runs (at_label e l.label.name.0 (pat_of l.pat) ms) (ok y) → Runs (rule e (labelled_patterns_against (labelled_pats_on no_labelled_pats (take (i + 1) xs)) ms)) (ok (joined x y))
+    → Runs (rule e (labelled_patterns_against (labelled_pats_on no_labelled_pats (take i xs)) ms)) (ok x) → Runs (at_label e l.label.name.0 (pat_of l.pat) ms) (ok y) → Runs (rule e (labelled_patterns_against (labelled_pats_on no_labelled_pats (take (i + 1) xs)) ms)) (ok (joined_extensions x y))
 one_label_more e xs i l ms x y h is r k =
-    subst (λ ls. Runs (rule e (labelled_patterns_against ls ms)) (ok (joined x y))) (sym (next_labelled xs i l h is))
+    subst (λ ls. Runs (rule e (labelled_patterns_against ls ms)) (ok (joined_extensions x y))) (sym (next_labelled xs i l h is))
     (part_ok r (at_label_ok e l.label.name.0 (pat_of l.pat) ms (type_at l.label.name.0 ms) x y k))
 
 label_here : (e : Environment) (ls : LabelledPats) (l : Id) (p : Pat) (ms : PlainLabels) (x : Extension) (y : InferError) → Runs (rule e (labelled_patterns_against ls ms)) (ok x) → IsRefused (at_label e l.name.0 p ms) y → IsRefused (rule e (labelled_patterns_against (more_labelled_pats ls l p) ms)) y
@@ -196,7 +196,7 @@ after_counts e bs ps ls rs ts ms =
     part e (binders_against bs rs) (λ own.
     part (with_own e own) (patterns_against ps ts) (λ x.
     part (with_own e own) (labelled_patterns_against ls ms) (λ y.
-    give (record { own = own; adds = joined x y }))))
+    give (record { own = own; adds = joined_extensions x y }))))
 
 pub counted : (e : Environment) (s : Span) (bs : TypeBinders) (ps : Pats) (ls : LabelledPats) (rs : PlainBounds) (ts : PlainTypes) (ms : PlainLabels) (a : Answer opened_) → count_binders bs ≡ count_bounds rs → count_pats ps ≡ count_types ts → Runs (after_counts e bs ps ls rs ts ms) a → Runs (rule e (fields_against s (field_pats bs ps ls) rs ts ms)) a
 counted e s bs ps ls rs ts ms a q r h = ensured (count_binders bs) (count_bounds rs) Y5 s q (ensured (count_pats ps) (count_types ts) Y5 s r h)
@@ -294,7 +294,7 @@ labelled_refused e d bs ps ls rs ts ms own x (Named c i told) r q k h =
 labelled_refused e d bs ps ls rs ts ms own x Memory r q k h = tt
 
 pub all_typed : (e d : Environment) (bs : TypeBinders) (ps : Pats) (ls : LabelledPats) (rs : PlainBounds) (ts : PlainTypes) (ms : PlainLabels) (own : List KnownType) (x y : Extension) → Runs (rule e (binders_against bs rs)) (ok own) → d ≡ with_own e own
-    → Runs (rule d (patterns_against ps ts)) (ok x) → Runs (rule d (labelled_patterns_against ls ms)) (ok y) → Runs (after_counts e bs ps ls rs ts ms) (ok (record { own = own; adds = joined x y }))
+    → Runs (rule d (patterns_against ps ts)) (ok x) → Runs (rule d (labelled_patterns_against ls ms)) (ok y) → Runs (after_counts e bs ps ls rs ts ms) (ok (record { own = own; adds = joined_extensions x y }))
 all_typed e d bs ps ls rs ts ms own x y r q k h =
     part_ok r (part_ok (subst (λ z. Runs (rule z (patterns_against ps ts)) (ok x)) q k) (part_ok (subst (λ z. Runs (rule z (labelled_patterns_against ls ms)) (ok y)) q h) give_))
 

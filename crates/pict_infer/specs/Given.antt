@@ -37,9 +37,9 @@ pub record IsGiven (old new : Env) (p : Pat) (t : Ty) : Type 0 where
   pub known : environment_of new ≡ extended (environment_of old) adds
   pub grew : GrewFrom old new
 
-abbrev pub Gives : Env → Env → Pat → Result Ty InferError → Type 0
-Gives old new p (Ok t) = IsGiven old new p t
-Gives old new p (Err y) = IsRefused (rule (environment_of old) (pattern_gives p)) y
+abbrev pub GivesKnown : Env → Env → Pat → Result Ty InferError → Type 0
+GivesKnown old new p (Ok t) = IsGiven old new p t
+GivesKnown old new p (Err y) = IsRefused (rule (environment_of old) (pattern_gives p)) y
 
 -- these type variables are known too, and no more
 pub record IsUnderOwn (old new : Env) (own : List KnownType) : Type 0 where

@@ -45,6 +45,6 @@ fold_unfolded e (Some a) t s =
     within_limits e u s (give u))))
 
 -- what is exposed, if anything is, or the type itself
-abbrev pub shown : Option Ty → Ty → PlainType
-shown None t = plain t
-shown (Some u) t = plain u
+abbrev pub changed_or_same : Option Ty → Ty → PlainType
+changed_or_same None t = plain t
+changed_or_same (Some u) t = plain u

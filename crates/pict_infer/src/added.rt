@@ -25,7 +25,7 @@ pub struct Added {
 impl Added {
     ghost use Rattle.std.specs.Prelude.{◌≡◌, ◌+◌, ◌≤◌, length, IfOk};
     ghost use Rattle.pict_types.specs.Plain.{plain};
-    ghost use Rattle.pict_rules.specs.Environments.{joined, no_extension, one_value, within};
+    ghost use Rattle.pict_rules.specs.Environments.{joined_extensions, no_extension, one_value, within};
     ghost use Rattle.pict_infer.specs.Knowing.{known_types};
     ghost use Rattle.pict_infer.specs.Adding.{extension_of};
 
@@ -64,7 +64,7 @@ impl Added {
     pub fn join(self, alloc: Global, inner: Added) -> Result<Added, AllocError>
         requires base { inner.base ≡ self.base }
         ensures base { IfOk result (λ x. x.base ≡ self.base) }
-        ensures joined { IfOk result (λ x. extension_of x ≡ joined (extension_of self) (extension_of inner)) }
+        ensures joined { IfOk result (λ x. extension_of x ≡ joined_extensions (extension_of self) (extension_of inner)) }
     {
         let base = self.base;
         let by = match u32::try_from(self.binders.len()) {

@@ -21,7 +21,7 @@ ghost use Rattle.pict_infer.specs.Steps.{fold_unfolded};
 use crate::added::Added;
 use crate::binders::{open_against, taken};
 use crate::error::{InferError, Told};
-use crate::formed::{as_record, below, expanded, followed, recursive, shown, unfolded};
+use crate::formed::{as_record, below, changed_or_same, expanded, followed, recursive, unfolded};
 use crate::labels::labelled_type;
 use pict_syntax::{Code, FieldPats, Id, LabelledPat, Name, Pat, RType, Span, TypeTree, pat_span};
 use pict_types::{Bound, Context, Record, Ty};
@@ -131,7 +131,7 @@ fn exposed_fold(alloc: Global, c: &Context, t: &Ty, span: Span) -> Result<Ty, In
     ensures formed { IfOk result (λ u. IsWrittenIn c.now (plain u)) }
 {
     let followed = followed(alloc, c, t)?;
-    let folded = shown(&followed, t);
+    let folded = changed_or_same(&followed, t);
     recursive(folded, span)?;
     unfolded(alloc, c, folded, span)
 }
@@ -191,7 +191,7 @@ fn record_against(
     ensures grows { length (type_context c.old) ≤ length (type_context c.new) }
 {
     let followed = followed(alloc, &*c, t)?;
-    match as_record(shown(&followed, t)) {
+    match as_record(changed_or_same(&followed, t)) {
         None => Err(InferError::Named(Code::Y5, span, Told::Nothing)),
         Some(r) => parts_against(alloc, c, parts, r, span),
     }

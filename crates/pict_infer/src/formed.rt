@@ -9,7 +9,7 @@ ghost use Rattle.pict_scope.specs.DistinctLabels.{AnnotationHasDistinctLabels, H
 ghost use Rattle.pict_sub.specs.Exposing.{exposure};
 ghost use Rattle.pict_infer.specs.Answering.{AreToldBy, IsAnswer, nothing};
 ghost use Rattle.pict_infer.specs.Shaping.{is_recursive, is_variable, IsNoRecord};
-ghost use Rattle.pict_infer.specs.Steps.{annotated, below, expanded, limited, recursive, shown, unfolded};
+ghost use Rattle.pict_infer.specs.Steps.{annotated, below, expanded, limited, recursive, changed_or_same, unfolded};
 ghost use Rattle.pict_infer.specs.Places.{environment_in};
 
 use crate::error::{InferError, Told, refusal, size_refusal};
@@ -178,8 +178,8 @@ pub fn followed(alloc: Global, c: &Context, t: &Ty) -> Result<Option<Ty>, AllocE
 }
 
 /// The exposure of a type, from what `followed` answered.
-pub fn shown<'a>(followed: &'a Option<Ty>, t: &'a Ty) -> &'a Ty
-    ensures { plain result.now ≡ shown followed.now t.now }
+pub fn changed_or_same<'a>(followed: &'a Option<Ty>, t: &'a Ty) -> &'a Ty
+    ensures { plain result.now ≡ changed_or_same followed.now t.now }
 {
     match followed {
         Some(u) => u,

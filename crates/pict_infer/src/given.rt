@@ -7,7 +7,7 @@ ghost use Rattle.pict_rules.specs.Rules.{fields_, fields_give, pattern_, pattern
 ghost use Rattle.pict_infer.specs.declared.env.Env.{Env};
 ghost use Rattle.pict_infer.specs.Asking.{IsWellAsked};
 ghost use Rattle.pict_infer.specs.Environments.{environment_of, IsPlaceOf, MayBeAdded};
-ghost use Rattle.pict_infer.specs.Given.{FieldsOpen, Gives, GivesType, HasOpenedOwn, IsClosed, IsUnderOwn};
+ghost use Rattle.pict_infer.specs.Given.{FieldsOpen, GivesKnown, GivesType, HasOpenedOwn, IsClosed, IsUnderOwn};
 
 use crate::added::Added;
 use crate::binders::taken;
@@ -31,7 +31,7 @@ pub fn typed_pattern(alloc: Global, env: &mut Env, p: &Pat) -> Result<Typed, Inf
 /// errors are those of `typed_pattern`.
 pub fn pattern_gives(alloc: Global, env: &mut Env, p: &Pat) -> Result<Ty, InferError>
     requires right { IsWellAsked pattern_ (environment_of env.old) (pattern_gives (pat_of p.now)) }
-    ensures answer { Gives env.old env.new (pat_of p.now) result }
+    ensures answer { GivesKnown env.old env.new (pat_of p.now) result }
 {
     let typed = typed_pattern(alloc, env, p)?;
     env.add(typed.adds)?;

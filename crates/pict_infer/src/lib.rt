@@ -18,7 +18,8 @@ pub use added::Added;
 pub use env::{Env, Place};
 pub use error::{InferError, Told, refusal, size_refusal};
 pub use formed::{
-    annotated, as_record, below, expanded, followed, recursive, shown, unfolded, within_limits,
+    annotated, as_record, below, changed_or_same, expanded, followed, recursive, unfolded,
+    within_limits,
 };
 pub use given::{close_fields, open_fields, pattern_gives, typed_pattern};
 pub use giving::{Typed, TypedFields};

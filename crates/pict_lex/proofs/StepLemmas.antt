@@ -8,7 +8,7 @@ use Rattle.pict_syntax.specs.declared.token.TokenKind.{TokenKind}
 use Rattle.pict_syntax.specs.declared.token.TokenKind.TheVariants.{Identifier, Symbol}
 use Rattle.pict_syntax.specs.Names.{with_name, with_names, number_of}
 use Rattle.pict_syntax.specs.Tokens.{Form, identifier, symbol, keyword, number, character, string, sign, symbol_text}
-use Rattle.pict_syntax.specs.Cuts.{Piece, blank, comment, token, piece_bytes, IsBlank, IsPiece, joined, ArePieces, kind_of, tokens_of, named, named_by}
+use Rattle.pict_syntax.specs.Cuts.{Piece, blank, comment, token, piece_bytes, IsBlank, IsPiece, joined_pieces, ArePieces, kind_of, tokens_of, named, named_by}
 use Rattle.pict_lex.specs.Scan.{IsToken, IsCommentAt}
 use Rattle.pict_syntax.proofs.NamesLemmas.{has_name, has_kept, has_interned, number_kept, with_grows}
 use Rattle.pict_lex.specs.Steps.{HasStepped, HasRead, kind_of_piece, token_at}
@@ -53,12 +53,12 @@ symbol_step old new rest s len n h added is =
       kind_is = ap (λ k. Some (Symbol s (record { 0 = k }))) (is ∙ ap (number_of new) text);
     }
 
-joined_last : (ps : List Piece) (p : Piece) → joined (ps ++ p ∷ []) ≡ joined ps ++ piece_bytes p
+joined_last : (ps : List Piece) (p : Piece) → joined_pieces (ps ++ p ∷ []) ≡ joined_pieces ps ++ piece_bytes p
 joined_last [] p = append_nil (piece_bytes p)
-joined_last (q ∷ ps) p = ap (λ t. piece_bytes q ++ t) (joined_last ps p) ∙ sym (append_assoc (piece_bytes q) (joined ps) (piece_bytes p))
+joined_last (q ∷ ps) p = ap (λ t. piece_bytes q ++ t) (joined_last ps p) ∙ sym (append_assoc (piece_bytes q) (joined_pieces ps) (piece_bytes p))
 
-joined_behind : (ps : List Piece) (p : Piece) (rest : List ℕ) → joined ps ++ (piece_bytes p ++ rest) ≡ joined (ps ++ p ∷ []) ++ rest
-joined_behind ps p rest = sym (append_assoc (joined ps) (piece_bytes p) rest) ∙ ap (λ t. t ++ rest) (sym (joined_last ps p))
+joined_behind : (ps : List Piece) (p : Piece) (rest : List ℕ) → joined_pieces ps ++ (piece_bytes p ++ rest) ≡ joined_pieces (ps ++ p ∷ []) ++ rest
+joined_behind ps p rest = sym (append_assoc (joined_pieces ps) (piece_bytes p) rest) ∙ ap (λ t. t ++ rest) (sym (joined_last ps p))
 
 are_last : (ps : List Piece) (p : Piece) (rest : List ℕ) → ArePieces ps (piece_bytes p ++ rest) → IsPiece p rest → ArePieces (ps ++ p ∷ []) rest
 are_last [] p rest are is = (is, tt)
@@ -120,14 +120,14 @@ tokens_kept names more source place (token bytes form ∷ ps) h =
     ∙ ap (λ t. record { kind = kind_of names form; span = record { text = source; start = place; end = place + length bytes } } ∷ t)
     (tokens_kept names more source (place + length bytes) ps (all_back (λ text. has_name names text ≡ true) (named_by form) (named ps) h))
 
-further : (place : ℕ) (bytes : List ℕ) (ps : List Piece) → (place + length bytes) + length (joined ps) ≡ place + length (bytes ++ joined ps)
-further place bytes ps = let size : length (bytes ++ joined ps) ≡ length bytes + length (joined ps) = length-append bytes (joined ps) in omega arith
+further : (place : ℕ) (bytes : List ℕ) (ps : List Piece) → (place + length bytes) + length (joined_pieces ps) ≡ place + length (bytes ++ joined_pieces ps)
+further place bytes ps = let size : length (bytes ++ joined_pieces ps) ≡ length bytes + length (joined_pieces ps) = length-append bytes (joined_pieces ps) in omega arith
 
 tokens_last : (names : List (List ℕ)) (source place : ℕ) (ps : List Piece) (p : Piece)
-    → tokens_of names source place (ps ++ p ∷ []) ≡ tokens_of names source place ps ++ tokens_of names source (place + length (joined ps)) (p ∷ [])
+    → tokens_of names source place (ps ++ p ∷ []) ≡ tokens_of names source place ps ++ tokens_of names source (place + length (joined_pieces ps)) (p ∷ [])
 tokens_last names source place [] p = let same : place ≡ place + 0 = omega arith in ap (λ n. tokens_of names source n (p ∷ [])) same
 tokens_last names source place (blank byte ∷ ps) p =
-    let same : (place + 1) + length (joined ps) ≡ place + suc (length (joined ps)) = omega arith in
+    let same : (place + 1) + length (joined_pieces ps) ≡ place + suc (length (joined_pieces ps)) = omega arith in
     tokens_last names source (place + 1) ps p ∙ ap (λ n. tokens_of names source (place + 1) ps ++ tokens_of names source n (p ∷ [])) same
 tokens_last names source place (comment bytes ∷ ps) p =
     tokens_last names source (place + length bytes) ps p ∙ ap (λ n. tokens_of names source (place + length bytes) ps ++ tokens_of names source n (p ∷ [])) (further place bytes ps)
@@ -158,18 +158,18 @@ one_piece_more old now new source text at len tokens after kind had step pushed 
     let more : (more : List (List ℕ)) × (with_names now (named (step.piece ∷ [])) ≡ now ++ more) = with_names_grows now (named (step.piece ∷ [])) in
     let grown : new ≡ now ++ more.0 = step.names ∙ more.1 in
     let same : tokens_of new source 0 had.pieces ≡ tokens = ap (λ ns. tokens_of ns source 0 had.pieces) grown ∙ tokens_kept now more.0 source 0 had.pieces there ∙ sym had.tokens_are in
-    let here : 0 + length (joined had.pieces) ≡ at = (let p : at ≡ length (joined had.pieces) = had.place in omega arith) in
-    let last : tokens_of new source (0 + length (joined had.pieces)) (step.piece ∷ []) ≡ token_at kind (record { text = source; start = at; end = at + len }) =
+    let here : 0 + length (joined_pieces had.pieces) ≡ at = (let p : at ≡ length (joined_pieces had.pieces) = had.place in omega arith) in
+    let last : tokens_of new source (0 + length (joined_pieces had.pieces)) (step.piece ∷ []) ≡ token_at kind (record { text = source; start = at; end = at + len }) =
     ap (λ n. tokens_of new source n (step.piece ∷ [])) here ∙ one_token new source at len step.piece bytes ∙ ap (λ k. token_at k (record { text = source; start = at; end = at + len })) (sym step.kind_is) in
     record {
       pieces = had.pieces ++ step.piece ∷ [];
       cut = record {
-        whole = had.cut.whole ∙ ap (λ t. joined had.pieces ++ t) front ∙ joined_behind had.pieces step.piece (drop (at + len) text);
+        whole = had.cut.whole ∙ ap (λ t. joined_pieces had.pieces ++ t) front ∙ joined_behind had.pieces step.piece (drop (at + len) text);
         each = are_last had.pieces step.piece (drop (at + len) text) (subst (ArePieces had.pieces) front had.cut.each) (subst (IsPiece step.piece) behind step.is);
       };
-      place = (let p : at ≡ length (joined had.pieces) = had.place in
-          let joint : length (joined had.pieces ++ piece_bytes step.piece) ≡ length (joined had.pieces) + length (piece_bytes step.piece) = length-append (joined had.pieces) (piece_bytes step.piece) in
-          let sum : at + len ≡ length (joined had.pieces ++ piece_bytes step.piece) = omega arith in sum ∙ ap length (sym (joined_last had.pieces step.piece)));
+      place = (let p : at ≡ length (joined_pieces had.pieces) = had.place in
+          let joint : length (joined_pieces had.pieces ++ piece_bytes step.piece) ≡ length (joined_pieces had.pieces) + length (piece_bytes step.piece) = length-append (joined_pieces had.pieces) (piece_bytes step.piece) in
+          let sum : at + len ≡ length (joined_pieces had.pieces ++ piece_bytes step.piece) = omega arith in sum ∙ ap length (sym (joined_last had.pieces step.piece)));
       within = omega arith;
       names = step.names ∙ ap (λ ns. with_names ns (named (step.piece ∷ []))) had.names ∙ sym (with_names_last old (named had.pieces) (named (step.piece ∷ [])))
           ∙ ap (with_names old) (sym (named_last had.pieces step.piece));

@@ -52,6 +52,6 @@ pub record LiesIn (number : ℕ) (text : List ℕ) (span : Span) : Type 0 where
   pub within : span.end ≤ length text
 
 -- the place of a refusal does
-abbrev pub IsPlaced : ℕ → List ℕ → LexError → Type 0
-IsPlaced number text (Named code span) = LiesIn number text span
-IsPlaced number text Memory = Unit {0}
+abbrev pub RefusalLiesIn : ℕ → List ℕ → LexError → Type 0
+RefusalLiesIn number text (Named code span) = LiesIn number text span
+RefusalLiesIn number text Memory = Unit {0}

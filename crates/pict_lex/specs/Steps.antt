@@ -4,7 +4,7 @@ use Rattle.pict_syntax.specs.declared.token.Token.{Token}
 use Rattle.pict_syntax.specs.declared.token.TokenKind.{TokenKind}
 use Rattle.pict_syntax.specs.declared.span.Span.{Span}
 use Rattle.pict_syntax.specs.Names.{with_names}
-use Rattle.pict_syntax.specs.Cuts.{Piece, blank, comment, token, piece_bytes, IsPiece, joined, IsCut, kind_of, tokens_of, named, extent}
+use Rattle.pict_syntax.specs.Cuts.{Piece, blank, comment, token, piece_bytes, IsPiece, joined_pieces, IsCut, kind_of, tokens_of, named, extent}
 use Rattle.pict_lex.specs.declared.halt.Halt.{Halt}
 use Rattle.pict_lex.specs.declared.halt.Halt.TheVariants.{Stop, Memory as Stopped}
 use Rattle.pict_lex.specs.declared.error.LexError.{LexError}
@@ -30,7 +30,7 @@ pub record HasStepped (old new : List (List ℕ)) (rest : List ℕ) (kind : Opti
 pub record HasRead (old new : List (List ℕ)) (number : ℕ) (text : List ℕ) (at : ℕ) (tokens : List Token) : Type 0 where
   pub pieces : List Piece
   pub cut : IsCut text pieces (drop at text)
-  pub place : at ≡ length (joined pieces)
+  pub place : at ≡ length (joined_pieces pieces)
   pub within : at ≤ length text
   pub names : new ≡ with_names old (named pieces)
   pub tokens_are : tokens ≡ tokens_of new number 0 pieces

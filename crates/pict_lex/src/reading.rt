@@ -4,7 +4,7 @@ ghost use Rattle.std.specs.Prelude.{◌≡◌, ◌+◌, ◌++◌, ◌^◌, ◌<�
 ghost use Rattle.pict_syntax.specs.declared.code.Code.{Code};
 ghost use Rattle.pict_syntax.specs.declared.span.Span.{Span};
 ghost use Rattle.pict_syntax.specs.Cuts.{Piece, IsWholeCut, IsLexStop, extent};
-ghost use Rattle.pict_lex.specs.Lex.{AreTokens, GainsNames, KeepsNames, GainsSomeNames, IsRefusal, IsRefused, IsAccepted, IsPlaced, LiesIn};
+ghost use Rattle.pict_lex.specs.Lex.{AreTokens, GainsNames, KeepsNames, GainsSomeNames, IsRefusal, IsRefused, IsAccepted, RefusalLiesIn, LiesIn};
 ghost use Rattle.pict_lex.specs.Scan.{IsHalt};
 ghost use Rattle.pict_lex.specs.Steps.{HasStepped, IsRefusedAt, token_at};
 
@@ -119,7 +119,7 @@ pub fn lex(
     ensures refusal { IfErr result (IsRefusal number text.now) }
     ensures refused { (code : Code) (span : Span) → IsLexStop number text.now code span → IsRefused code span result }
     ensures accepted { (pieces : List Piece) → IsWholeCut text.now pieces → IsAccepted result }
-    ensures placed { IfErr result (IsPlaced number text.now) }
+    ensures placed { IfErr result (RefusalLiesIn number text.now) }
 
     // Whatever the answer: what the names had stays, and what they gained are the names of the front of the text.
     ensures kept { KeepsNames names.old names.new }

@@ -15,7 +15,7 @@ use Rattle.pict_rules.specs.Reached.{Asks, this_part, past_part}
 use Rattle.pict_infer.specs.Asking.{IsWellAsked}
 use Rattle.pict_infer.proofs.Asked.{asked_of}
 use Rattle.pict_lines.specs.Judging.{IsAskedFor}
-use Rattle.pict_lines.specs.Chains.{Operator, as_function, head, two, IsHead, before_fields, wanted_at, room_stop}
+use Rattle.pict_lines.specs.Chains.{Applied, as_function, head, two, IsHead, before_fields, wanted_at, room_stop}
 use Rattle.pict_lines.proofs.Applying.{Field1, then_matched, then_had}
 use Rattle.pict_normal.specs.Normal.{Stop}
 
@@ -23,23 +23,23 @@ pub application_asked : (e : Environment) (s : Span) (f : Id) (v w : Val) (x : O
 application_asked e s f v w None h = asked_of (gives (applied_to s f v w)) h this_part
 application_asked e s f v w (Some u) h = asked_of (has (applied_to s f v w) u) h this_part
 
-headed_asked : (e : Environment) (s : Span) (f : Id) (v w : Val) (o : Operator) (x : Option PlainType) → IsHead e f o → IsWellAsked type_ e (application s (head f) (two v w) x) → IsWellAsked arguments_ e (fields_fit s (two v w) o.binders (as_function o).positional (as_function o).labelled (found_first e (two v w) (as_function o) x))
+headed_asked : (e : Environment) (s : Span) (f : Id) (v w : Val) (o : Applied) (x : Option PlainType) → IsHead e f o → IsWellAsked type_ e (application s (head f) (two v w) x) → IsWellAsked arguments_ e (fields_fit s (two v w) o.binders (as_function o).positional (as_function o).labelled (found_first e (two v w) (as_function o) x))
 headed_asked e s f v w o x h k = asked_of (application s (head f) (two v w) x) k (past_part give_ (rw h this_part))
 
-pub fields_asked : (e : Environment) (s : Span) (f : Id) (v w : Val) (o : Operator) (x : Option PlainType) → IsHead e f o → IsWellAsked type_ e (application s (head f) (two v w) x) → IsWellAsked arguments_ e (fields_fit s (two v w) o.binders (as_function o).positional (as_function o).labelled (before_fields e o x))
+pub fields_asked : (e : Environment) (s : Span) (f : Id) (v w : Val) (o : Applied) (x : Option PlainType) → IsHead e f o → IsWellAsked type_ e (application s (head f) (two v w) x) → IsWellAsked arguments_ e (fields_fit s (two v w) o.binders (as_function o).positional (as_function o).labelled (before_fields e o x))
 fields_asked e s f v w o None h k = headed_asked e s f v w o None h k
 fields_asked e s f v w o (Some u) h k = headed_asked e s f v w o (Some u) h k
 
-abbrev pub FieldsAsked : Environment → Span → Val → Val → Operator → Found → Type 0
+abbrev pub FieldsAsked : Environment → Span → Val → Val → Applied → Found → Type 0
 FieldsAsked e s v w o g = IsWellAsked arguments_ e (fields_fit s (two v w) o.binders (as_function o).positional (as_function o).labelled g)
 
-pub first_asked : (e : Environment) (s : Span) (v w : Val) (o : Operator) (g : Found) → FieldsAsked e s v w o g → IsWellAsked found_ e (value_fits s v o.first g)
+pub first_asked : (e : Environment) (s : Span) (v w : Val) (o : Applied) (g : Found) → FieldsAsked e s v w o g → IsWellAsked found_ e (value_fits s v o.first g)
 first_asked e s v w o g h =
     let a = asked_of (fields_fit s (two v w) o.binders (as_function o).positional (as_function o).labelled g) h this_part in
     let b = asked_of _ a this_part in
     asked_of _ b (past_part give_ this_part)
 
-pub second_asked : (e : Environment) (s : Span) (v w : Val) (o : Operator) (f g : Found) → FieldsAsked e s v w o f → Runs (Field1 e s v o f) (ok g) → IsWellAsked found_ e (value_fits s w o.second g)
+pub second_asked : (e : Environment) (s : Span) (v w : Val) (o : Applied) (f g : Found) → FieldsAsked e s v w o f → Runs (Field1 e s v o f) (ok g) → IsWellAsked found_ e (value_fits s w o.second g)
 second_asked e s v w o f g h p =
     let a = asked_of (fields_fit s (two v w) o.binders (as_function o).positional (as_function o).labelled f) h this_part in
     asked_of _ a (past_part (part_ok give_ (part_ok p give_)) this_part)

@@ -18,7 +18,7 @@ use Rattle.pict_infer.specs.declared.error.InferError.TheVariants.{Named, Memory
 use Rattle.pict_infer.specs.Answering.{IsRefused, IsStopped}
 use Rattle.pict_lines.specs.Judging.{IsFor, IsRefusedFor}
 use Rattle.pict_lines.specs.Lines.{fields_end, application_end}
-use Rattle.pict_lines.specs.Chains.{Operator, as_function, head, two, IsHead, before_fields, room_stop, if_given}
+use Rattle.pict_lines.specs.Chains.{Applied, as_function, head, two, IsHead, before_fields, room_stop, if_given}
 
 -- a test for the limits that is passed, and one that is not
 passed : {s : Sort} (x : Option Stop) (r : Rule s) (a : Answer s) → x ≡ None → Runs r a → Runs (unless_stopped x r) a
@@ -61,27 +61,27 @@ roomless_by false e s v t g (Named c i told) h = passed_not (size_stop e.context
 roomless_by false e s v t g Memory h = tt
 
 -- the fields of an application to two values
-abbrev pub Field1 : Environment → Span → Val → Operator → Found → Rule found_
+abbrev pub Field1 : Environment → Span → Val → Applied → Found → Rule found_
 Field1 e s v o f = rule e (value_fits s v o.first f)
 
-abbrev pub Field2 : Environment → Span → Val → Operator → Found → Rule found_
+abbrev pub Field2 : Environment → Span → Val → Applied → Found → Rule found_
 Field2 e s w o g = rule e (value_fits s w o.second g)
 
-abbrev pub Both : Environment → Span → Val → Val → Operator → Found → Rule arguments_
+abbrev pub Both : Environment → Span → Val → Val → Applied → Found → Rule arguments_
 Both e s v w o f = rule e (fields_fit s (two v w) o.binders (as_function o).positional (as_function o).labelled f)
 
-pub both_ok : (e : Environment) (s : Span) (v w : Val) (o : Operator) (f g g2 : Found) (args : List PlainArg) → Runs (Field1 e s v o f) (ok g) → Runs (Field2 e s w o g) (ok g2) → Runs (fields_end e s o.binders g2) (ok args) → Runs (Both e s v w o f) (ok args)
+pub both_ok : (e : Environment) (s : Span) (v w : Val) (o : Applied) (f g g2 : Found) (args : List PlainArg) → Runs (Field1 e s v o f) (ok g) → Runs (Field2 e s w o g) (ok g2) → Runs (fields_end e s o.binders g2) (ok args) → Runs (Both e s v w o f) (ok args)
 both_ok e s v w o f g g2 args p q r = part_ok (part_ok (part_ok give_ (part_ok p give_)) (part_ok q give_)) (part_ok give_ r)
 
-pub both_first : (e : Environment) (s : Span) (v w : Val) (o : Operator) (f : Found) (x : InferError) → IsRefused (Field1 e s v o f) x → IsRefused (Both e s v w o f) x
+pub both_first : (e : Environment) (s : Span) (v w : Val) (o : Applied) (f : Found) (x : InferError) → IsRefused (Field1 e s v o f) x → IsRefused (Both e s v w o f) x
 both_first e s v w o f (Named c i told) p = part_stuck (part_stuck (part_ok give_ (part_stuck p)))
 both_first e s v w o f Memory p = tt
 
-pub both_second : (e : Environment) (s : Span) (v w : Val) (o : Operator) (f g : Found) (x : InferError) → Runs (Field1 e s v o f) (ok g) → IsRefused (Field2 e s w o g) x → IsRefused (Both e s v w o f) x
+pub both_second : (e : Environment) (s : Span) (v w : Val) (o : Applied) (f g : Found) (x : InferError) → Runs (Field1 e s v o f) (ok g) → IsRefused (Field2 e s w o g) x → IsRefused (Both e s v w o f) x
 both_second e s v w o f g (Named c i told) p q = part_stuck (part_ok (part_ok give_ (part_ok p give_)) (part_stuck q))
 both_second e s v w o f g Memory p q = tt
 
-pub both_end : (e : Environment) (s : Span) (v w : Val) (o : Operator) (f g g2 : Found) (x : InferError) → Runs (Field1 e s v o f) (ok g) → Runs (Field2 e s w o g) (ok g2) → IsRefused (fields_end e s o.binders g2) x → IsRefused (Both e s v w o f) x
+pub both_end : (e : Environment) (s : Span) (v w : Val) (o : Applied) (f g g2 : Found) (x : InferError) → Runs (Field1 e s v o f) (ok g) → Runs (Field2 e s w o g) (ok g2) → IsRefused (fields_end e s o.binders g2) x → IsRefused (Both e s v w o f) x
 both_end e s v w o f g g2 (Named c i told) p q r = part_ok (part_ok (part_ok give_ (part_ok p give_)) (part_ok q give_)) (part_ok give_ r)
 both_end e s v w o f g g2 Memory p q r = tt
 
@@ -89,20 +89,20 @@ both_end e s v w o f g g2 Memory p q r = tt
 abbrev pub On : Environment → Span → Id → Val → Val → Option PlainType → Rule type_
 On e s f v w x = rule e (application s (head f) (two v w) x)
 
-headed : (e : Environment) (s : Span) (f : Id) (v w : Val) (o : Operator) (x : Option PlainType) (a : Answer type_) → IsHead e f o → Runs (part e (fields_fit s (two v w) o.binders (as_function o).positional (as_function o).labelled (found_first e (two v w) (as_function o) x)) (λ args. application_end e s o.answer args x)) a → Runs (On e s f v w x) a
+headed : (e : Environment) (s : Span) (f : Id) (v w : Val) (o : Applied) (x : Option PlainType) (a : Answer type_) → IsHead e f o → Runs (part e (fields_fit s (two v w) o.binders (as_function o).positional (as_function o).labelled (found_first e (two v w) (as_function o) x)) (λ args. application_end e s o.answer args x)) a → Runs (On e s f v w x) a
 headed e s f v w o x a h k = part_ok give_ (rw h k)
 
-pub on_ok : (e : Environment) (s : Span) (f : Id) (v w : Val) (o : Operator) (x : Option PlainType) (args : List PlainArg) (t : PlainType) → IsHead e f o → Runs (Both e s v w o (before_fields e o x)) (ok args) → Runs (application_end e s o.answer args x) (ok t) → Runs (On e s f v w x) (ok t)
+pub on_ok : (e : Environment) (s : Span) (f : Id) (v w : Val) (o : Applied) (x : Option PlainType) (args : List PlainArg) (t : PlainType) → IsHead e f o → Runs (Both e s v w o (before_fields e o x)) (ok args) → Runs (application_end e s o.answer args x) (ok t) → Runs (On e s f v w x) (ok t)
 on_ok e s f v w o None args t h p q = headed e s f v w o None (ok t) h (part_ok p q)
 on_ok e s f v w o (Some u) args t h p q = headed e s f v w o (Some u) (ok t) h (part_ok p q)
 
-pub on_fields : (e : Environment) (s : Span) (f : Id) (v w : Val) (o : Operator) (x : Option PlainType) (y : InferError) → IsHead e f o → IsRefused (Both e s v w o (before_fields e o x)) y → IsRefused (On e s f v w x) y
+pub on_fields : (e : Environment) (s : Span) (f : Id) (v w : Val) (o : Applied) (x : Option PlainType) (y : InferError) → IsHead e f o → IsRefused (Both e s v w o (before_fields e o x)) y → IsRefused (On e s f v w x) y
 on_fields e s f v w o None (Named c i told) h p = headed e s f v w o None (stuck c i) h (part_stuck p)
 on_fields e s f v w o (Some u) (Named c i told) h p = headed e s f v w o (Some u) (stuck c i) h (part_stuck p)
 on_fields e s f v w o None Memory h p = tt
 on_fields e s f v w o (Some u) Memory h p = tt
 
-pub on_end : (e : Environment) (s : Span) (f : Id) (v w : Val) (o : Operator) (x : Option PlainType) (args : List PlainArg) (y : InferError) → IsHead e f o → Runs (Both e s v w o (before_fields e o x)) (ok args) → IsRefused (application_end e s o.answer args x) y → IsRefused (On e s f v w x) y
+pub on_end : (e : Environment) (s : Span) (f : Id) (v w : Val) (o : Applied) (x : Option PlainType) (args : List PlainArg) (y : InferError) → IsHead e f o → Runs (Both e s v w o (before_fields e o x)) (ok args) → IsRefused (application_end e s o.answer args x) y → IsRefused (On e s f v w x) y
 on_end e s f v w o None args (Named c i told) h p q = headed e s f v w o None (stuck c i) h (part_ok p q)
 on_end e s f v w o (Some u) args (Named c i told) h p q = headed e s f v w o (Some u) (stuck c i) h (part_ok p q)
 on_end e s f v w o None args Memory h p q = tt

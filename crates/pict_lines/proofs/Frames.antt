@@ -11,7 +11,7 @@ use Rattle.pict_types.specs.Plain.{plain_bounds}
 use Rattle.pict_match.specs.declared.found.Found.{Found}
 use Rattle.pict_match.specs.PlainFound.{slots, later_bounds}
 use Rattle.pict_rules.specs.Regular.{kinds_found, kinds_of_fields}
-use Rattle.pict_lines.specs.declared.operators.Operator.{Operator}
+use Rattle.pict_lines.specs.declared.operators.Applied.{Applied}
 use Rattle.pict_lines.specs.Operators.{found_by, frames_by, vals_of}
 use Rattle.pict_rules.specs.Environments.{Environment}
 use Rattle.pict_rules.specs.Rules.{value_fits, ok}
@@ -19,10 +19,10 @@ use Rattle.pict_rules.specs.Derivations.{Runs}
 use Rattle.pict_rules.specs.Typing.{rule}
 use Rattle.pict_lines.specs.Reading.{found_for}
 
-pub frames_more : (o : Operator) (fs gs : List Found) (g : Found) → gs ≡ fs ++ g ∷ [] → frames_by o gs ≡ frames_by o fs ++ found_by o g ∷ []
+pub frames_more : (o : Applied) (fs gs : List Found) (g : Found) → gs ≡ fs ++ g ∷ [] → frames_by o gs ≡ frames_by o fs ++ found_by o g ∷ []
 frames_more o fs gs g h = ap (frames_by o) h ∙ map-append (found_by o) fs (g ∷ [])
 
-pub length_frames : (o : Operator) (fs : List Found) → length (frames_by o fs) ≡ length fs
+pub length_frames : (o : Applied) (fs : List Found) → length (frames_by o fs) ≡ length fs
 length_frames o fs = length-map fs (found_by o)
 
 pub length_vals : (vs : List RVal) → length (vals_of vs) ≡ length vs
@@ -31,7 +31,7 @@ length_vals vs = length-map vs val_of
 pub val_at : (vs : List RVal) (i : ℕ) (d : RVal) (e : Val) → i < length vs → get_or (vals_of vs) i e ≡ val_of (get_or vs i d)
 val_at vs i d e h = get_or-map val_of vs i d e h
 
-pub frame_at : (o : Operator) (fs : List Found) (i : ℕ) (d : Found) → i < length fs → get_or (frames_by o fs) i (found_by o d) ≡ found_by o (get_or fs i d)
+pub frame_at : (o : Applied) (fs : List Found) (i : ℕ) (d : Found) → i < length fs → get_or (frames_by o fs) i (found_by o d) ≡ found_by o (get_or fs i d)
 frame_at o fs i d h = get_or-map (found_by o) fs i d (found_by o d) h
 
 -- as many are found as there are type fields
@@ -44,9 +44,9 @@ pub fields_length : (bs : List Bound) → length (kinds_of_fields (plain_bounds 
 fields_length [] = refl
 fields_length (b ∷ bs) = ap suc (fields_length bs)
 
-pub found_count : (o : Operator) (g : Found) → kinds_found (found_by o g) ≡ kinds_of_fields (plain_bounds o.function.fields.binders.items) → length o.function.fields.binders.items ≡ length g.list.items
+pub found_count : (o : Applied) (g : Found) → kinds_found (found_by o g) ≡ kinds_of_fields (plain_bounds o.function.fields.binders.items) → length o.function.fields.binders.items ≡ length g.list.items
 found_count o g h = sym (fields_length o.function.fields.binders.items) ∙ (ap length (sym h) ∙ kinds_length (plain_bounds o.function.fields.binders.items) g.list.items)
 
 -- a field found this, where that was found before it
-abbrev pub FieldFinds : Environment → Operator → Found → RVal → List Bound → PlainType → Found → Type 0
+abbrev pub FieldFinds : Environment → Applied → Found → RVal → List Bound → PlainType → Found → Type 0
 FieldFinds e o f v bs t g = Runs (rule e (value_fits o.span (val_of v) t (found_for bs f))) (ok (found_for bs g))

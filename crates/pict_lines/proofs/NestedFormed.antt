@@ -19,7 +19,7 @@ use Rattle.pict_rules.proofs.RegularArguments.{applied_formed}
 use Rattle.pict_rules.proofs.RegularProcesses.{exposed_formed}
 use Rattle.pict_infer.specs.Asking.{IsWellAsked}
 use Rattle.pict_lines.specs.Judging.{IsAskedFor}
-use Rattle.pict_lines.specs.Chains.{Operator, as_function, head, IsHead, nested, nested_left, before_fields, room_stop, wanted_at, wanted_in, wanted_by, wanted_first, AreEntered, AreBegun}
+use Rattle.pict_lines.specs.Chains.{Applied, as_function, head, IsHead, nested, nested_left, before_fields, room_stop, wanted_at, wanted_in, wanted_by, wanted_first, AreEntered, AreBegun}
 use Rattle.pict_lines.specs.Functions.{FunctionIsFormed}
 use Rattle.pict_lines.specs.Operators.{IsFoundFor, AreFoundFor, HaveRoom}
 use Rattle.pict_lines.proofs.AppliedAsked.{application_asked, fields_asked, FieldsAsked, first_asked, second_asked, value_asked}
@@ -39,23 +39,23 @@ pub given_for : (e : Environment) (v : Val) (t : PlainType) → IsAskedFor e v N
 given_for e v t h r = regularity type_ e (gives v) t h.labels h.regular h.asked r
 
 -- the operator
-formed_as : (e : Environment) (o : Operator) (x : Option Function) → x ≡ Some (as_function o) → FunctionFormed e x → FunctionIsFormed e (as_function o)
+formed_as : (e : Environment) (o : Applied) (x : Option Function) → x ≡ Some (as_function o) → FunctionFormed e x → FunctionIsFormed e (as_function o)
 formed_as e o x h w = let k : FunctionFormed e (Some (as_function o)) = subst (FunctionFormed e) h w in record { fields = k.0; answer_ = k.1 }
 
-pub operator_formed : (e : Environment) (f : Id) (o : Operator) → IsHead e f o → IsRegular e → FunctionIsFormed e (as_function o)
+pub operator_formed : (e : Environment) (f : Id) (o : Applied) → IsHead e f o → IsRegular e → FunctionIsFormed e (as_function o)
 operator_formed e f o h r =
     formed_as e o (applicable (exposure (context_of e) (type_of_use e f.name.0))) h
     (applied_formed e (exposure (context_of e) (type_of_use e f.name.0))
     (exposed_formed e (type_of_use e f.name.0) r (regularity type_ e (gives (head f)) (type_of_use e f.name.0) tt r tt give_)))
 
-pub first_formed : (e : Environment) (o : Operator) → FunctionIsFormed e (as_function o) → IsWellFormed e.names (kinds_under (kinds_in e) o.binders) o.first
+pub first_formed : (e : Environment) (o : Applied) → FunctionIsFormed e (as_function o) → IsWellFormed e.names (kinds_under (kinds_in e) o.binders) o.first
 first_formed e o w = w.fields.1.0.0
 
-pub second_formed : (e : Environment) (o : Operator) → FunctionIsFormed e (as_function o) → IsWellFormed e.names (kinds_under (kinds_in e) o.binders) o.second
+pub second_formed : (e : Environment) (o : Applied) → FunctionIsFormed e (as_function o) → IsWellFormed e.names (kinds_under (kinds_in e) o.binders) o.second
 second_formed e o w = w.fields.1.0.1.0
 
 -- what is found before the fields, and by one of them
-pub before_found : (e : Environment) (s : Span) (v w : Val) (o : Operator) (g : Found) → FieldsAsked e s v w o g → IsFoundFor e o.binders g
+pub before_found : (e : Environment) (s : Span) (v w : Val) (o : Applied) (g : Found) → FieldsAsked e s v w o g → IsFoundFor e o.binders g
 before_found e s v w o g h = record { kinds_ = h.asked.1.0; fits = h.asked.1.1.0 }
 
 pub after_found : (e : Environment) (s : Span) (v : Val) (bs : PlainBounds) (t : PlainType) (f g : Found) → IsFoundFor e bs f → IsWellAsked found_ e (value_fits s v t f) → Runs (rule e (value_fits s v t f)) (ok g) → IsFoundFor e bs g
@@ -65,7 +65,7 @@ after_found e s v bs t f g k h r =
 
 -- FROM THE RIGHT
 
-pub entered_found : (e : Environment) (s : Span) (f : Id) (o : Operator) (vs : List Val) (x : Option PlainType) (gs : List Found) → IsHead e f o → IsAskedFor e (nested s f vs) x → AreEntered e s o vs x gs → length gs < length vs → AreFoundFor e o.binders gs
+pub entered_found : (e : Environment) (s : Span) (f : Id) (o : Applied) (vs : List Val) (x : Option PlainType) (gs : List Found) → IsHead e f o → IsAskedFor e (nested s f vs) x → AreEntered e s o vs x gs → length gs < length vs → AreFoundFor e o.binders gs
 entered_found e s f o vs x [] h a k n = tt
 entered_found e s f o [] x (g ∷ gs) h a k n = absurd k
 entered_found e s f o (v ∷ []) x (g ∷ gs) h a k n = absurd (omega arith)
@@ -75,14 +75,14 @@ entered_found e s f o (v ∷ w ∷ vs) x (g ∷ gs) h a k n =
     let i = after_found e s v o.binders o.first (before_fields e o x) g (before_found e s v (nested s f (w ∷ vs)) o (before_fields e o x) b) (first_asked e s v (nested s f (w ∷ vs)) o (before_fields e o x) b) k.0.field in
     (i, entered_found e s f o (w ∷ vs) (wanted_by o g) gs h (value_asked e s (nested s f (w ∷ vs)) o.second g k.0.room c) k.1 (omega arith))
 
-pub entered_room : (e : Environment) (s : Span) (o : Operator) (vs : List Val) (x : Option PlainType) (gs : List Found) → AreEntered e s o vs x gs → HaveRoom e s o.second gs
+pub entered_room : (e : Environment) (s : Span) (o : Applied) (vs : List Val) (x : Option PlainType) (gs : List Found) → AreEntered e s o vs x gs → HaveRoom e s o.second gs
 entered_room e s o vs x [] k = tt
 entered_room e s o [] x (g ∷ gs) k = absurd k
 entered_room e s o (v ∷ vs) x (g ∷ gs) k = (k.0.room, entered_room e s o vs (wanted_by o g) gs k.1)
 
 -- FROM THE LEFT
 
-found_to : (e : Environment) (s : Span) (f : Id) (o : Operator) (vs : List Val) (x : Option PlainType) (gs : List Found) (n m : ℕ) (d : Val) → IsHead e f o → AreBegun e s o x gs → 1 ≤ n → n + length gs ≡ m → m ≤ length vs → IsAskedFor e (Taken s f m vs) x → AreFoundFor e o.binders gs
+found_to : (e : Environment) (s : Span) (f : Id) (o : Applied) (vs : List Val) (x : Option PlainType) (gs : List Found) (n m : ℕ) (d : Val) → IsHead e f o → AreBegun e s o x gs → 1 ≤ n → n + length gs ≡ m → m ≤ length vs → IsAskedFor e (Taken s f m vs) x → AreFoundFor e o.binders gs
 found_to e s f o vs x [] n m d h k a b c r = tt
 found_to e s f o vs x (g ∷ gs) n zero d h k a b c r = absurd (omega (arith, b))
 found_to e s f o vs x (g ∷ gs) n (suc m) d h k a b c r =
@@ -96,10 +96,10 @@ found_to e s f o vs x (g ∷ gs) n (suc m) d h k a b c r =
           (value_asked e s (Taken s f m vs) o.first g k.0.room (subst (λ z. IsWellAsked found_ e (value_fits s (Taken s f m vs) o.first z)) (sym k.0.before) j)),
     )
 
-pub begun_found : (e : Environment) (s : Span) (f : Id) (o : Operator) (vs : List Val) (x : Option PlainType) (gs : List Found) (n : ℕ) (d : Val) → IsHead e f o → IsAskedFor e (nested_left s f vs) x → AreBegun e s o x gs → 1 ≤ n → n + length gs ≡ length vs → AreFoundFor e o.binders gs
+pub begun_found : (e : Environment) (s : Span) (f : Id) (o : Applied) (vs : List Val) (x : Option PlainType) (gs : List Found) (n : ℕ) (d : Val) → IsHead e f o → IsAskedFor e (nested_left s f vs) x → AreBegun e s o x gs → 1 ≤ n → n + length gs ≡ length vs → AreFoundFor e o.binders gs
 begun_found e s f o vs x gs n d h r k a b = found_to e s f o vs x gs n (length vs) d h k a b (omega arith) (subst (λ z. IsAskedFor e z x) (sym (left_all s f vs)) r)
 
-pub begun_room : (e : Environment) (s : Span) (o : Operator) (x : Option PlainType) (gs : List Found) → AreBegun e s o x gs → HaveRoom e s o.first gs
+pub begun_room : (e : Environment) (s : Span) (o : Applied) (x : Option PlainType) (gs : List Found) → AreBegun e s o x gs → HaveRoom e s o.first gs
 begun_room e s o x [] k = tt
 begun_room e s o x (g ∷ gs) k = (k.0.room, begun_room e s o (wanted_first o g) gs k.1)
 

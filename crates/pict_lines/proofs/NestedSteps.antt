@@ -34,12 +34,12 @@ use Rattle.pict_infer.specs.declared.error.InferError.TheVariants.{Named, Memory
 use Rattle.pict_infer.specs.declared.error.Told.TheVariants.{Nothing}
 use Rattle.pict_infer.specs.Answering.{IsRefused, IsStopped}
 use Rattle.pict_lines.specs.Lines.{formed}
-use Rattle.pict_infer.specs.Steps.{below, shown}
+use Rattle.pict_infer.specs.Steps.{below, changed_or_same}
 use Rattle.pict_lines.specs.Chains.{IsHead, IsNoOperator, IsUnfit, as_function, field_lines, if_given, room_stop, wanted_at, wanted_in}
 use Rattle.pict_lines.specs.declared.functions.Function.{Function}
 use Rattle.pict_lines.specs.Functions.{IsNoFunction, function_of}
 use Rattle.pict_lines.specs.Operators.{AreFoundFor, HaveRoom, IsFoundFor, found_by, frames_by, operator_of}
-use Rattle.pict_lines.specs.declared.operators.Operator.{Operator}
+use Rattle.pict_lines.specs.declared.operators.Applied.{Applied}
 use Rattle.pict_lines.specs.Reading.{found_for}
 use Rattle.pict_lines.proofs.Frames.{frame_at, length_frames}
 use Rattle.pict_lines.proofs.Heads.{no_operator, two_types, unfit_label, unfit_number, unfit_operator}
@@ -58,7 +58,7 @@ labels_none f [] h k = k
 labels_none f (l ∷ ls) h k = absurd (omega (arith, h))
 
 -- an operator's function is the one that the code has
-pub as_its_function : (o : Operator) → as_function (operator_of o) ≡ function_of o.function
+pub as_its_function : (o : Applied) → as_function (operator_of o) ≡ function_of o.function
 as_its_function o =
     ap (λ (ps : PlainTypes). let f : shapes.Function = record { binders = (function_of o.function).binders; positional = ps; labelled = no_label; answer = (function_of o.function).answer } in f) (sym (two_types o.function.fields.positional.items o.two))
     ∙ ap (λ (ls : PlainLabels). let f : shapes.Function = record { binders = (function_of o.function).binders; positional = (function_of o.function).positional; labelled = ls; answer = (function_of o.function).answer } in f) (sym (labels_none plain_labels o.function.fields.labelled.items o.unlabelled refl))
@@ -79,7 +79,7 @@ unfit_by_number e f s h = unfit_number e (function_of f) s (other_number f.field
 pub unfit_by_label : (e : Environment) (f : Function) (s : Span) → length f.fields.positional.items ≡ 2 → 0 < length f.fields.labelled.items → IsUnfit e (function_of f) s (Named Y6 s Nothing)
 unfit_by_label e f s h n = unfit_label e (function_of f) s (this_number f.fields.positional.items h) (some_label f.fields.labelled.items n)
 
-pub head_is : (e : Environment) (f : Id) (g : Function) (t : PlainType) (o : Operator) → t ≡ type_of_use e f.name.0 → applicable (exposure (context_of e) t) ≡ Some (function_of g) → o.function ≡ g → IsHead e f (operator_of o)
+pub head_is : (e : Environment) (f : Id) (g : Function) (t : PlainType) (o : Applied) → t ≡ type_of_use e f.name.0 → applicable (exposure (context_of e) t) ≡ Some (function_of g) → o.function ≡ g → IsHead e f (operator_of o)
 head_is e f g t o is h k = ap (λ z. applicable (exposure (context_of e) z)) (sym is) ∙ (h ∙ (ap (λ z. Some (function_of z)) (sym k) ∙ ap (λ z. Some z) (sym (as_its_function o))))
 
 pub no_head : (e : Environment) (s : Span) (f : Id) (t : PlainType) (y : InferError) → t ≡ type_of_use e f.name.0 → IsNoFunction (applicable (exposure (context_of e) t)) f.span y → IsNoOperator e s f y
@@ -121,13 +121,13 @@ pub wanted_stopped : (e : Environment) (s : Span) (t : PlainType) (g : Found) (y
 wanted_stopped e s t g y h r = subst (λ w. IsStopped (room_stop e s w) y) (sym (known_wanted t g h)) (refused_is (size_stop e.context (with_found g t) s) (with_found g t) y r)
 
 -- as the code has it
-pub shown_wanted : (e : Environment) (s : Span) (o : Operator) (t : Ty) (g : CFound) (bs : List Bound) (r w : Option Ty) → bs ≡ o.function.fields.binders.items → mentions_missing (found_by o g) (plain t) ≡ false → Runs (formed e (with_found (found_for bs g) (plain t)) s) (ok (shown r t)) → r ≡ w → Some (shown w t) ≡ wanted_at (plain t) (found_by o g)
+pub shown_wanted : (e : Environment) (s : Span) (o : Applied) (t : Ty) (g : CFound) (bs : List Bound) (r w : Option Ty) → bs ≡ o.function.fields.binders.items → mentions_missing (found_by o g) (plain t) ≡ false → Runs (formed e (with_found (found_for bs g) (plain t)) s) (ok (changed_or_same r t)) → r ≡ w → Some (changed_or_same w t) ≡ wanted_at (plain t) (found_by o g)
 shown_wanted e s o t g bs r w is m h k =
-    wanted_is e s (plain t) (shown w t) (found_by o g) m
-    (subst (λ z. Runs (formed e (with_found (found_by o g) (plain t)) s) (ok (shown z t))) k (subst (λ z. Runs (formed e (with_found (found_for z g) (plain t)) s) (ok (shown r t))) is h))
+    wanted_is e s (plain t) (changed_or_same w t) (found_by o g) m
+    (subst (λ z. Runs (formed e (with_found (found_by o g) (plain t)) s) (ok (changed_or_same z t))) k (subst (λ z. Runs (formed e (with_found (found_for z g) (plain t)) s) (ok (changed_or_same r t))) is h))
 
-pub shown_room : (e : Environment) (s : Span) (o : Operator) (t : Ty) (g : CFound) (bs : List Bound) (r : Option Ty) → bs ≡ o.function.fields.binders.items → mentions_missing (found_by o g) (plain t) ≡ false → Runs (formed e (with_found (found_for bs g) (plain t)) s) (ok (shown r t)) → room_stop e s (wanted_at (plain t) (found_by o g)) ≡ None
-shown_room e s o t g bs r is m h = wanted_room e s (plain t) (shown r t) (found_by o g) m (subst (λ z. Runs (formed e (with_found (found_for z g) (plain t)) s) (ok (shown r t))) is h)
+pub shown_room : (e : Environment) (s : Span) (o : Applied) (t : Ty) (g : CFound) (bs : List Bound) (r : Option Ty) → bs ≡ o.function.fields.binders.items → mentions_missing (found_by o g) (plain t) ≡ false → Runs (formed e (with_found (found_for bs g) (plain t)) s) (ok (changed_or_same r t)) → room_stop e s (wanted_at (plain t) (found_by o g)) ≡ None
+shown_room e s o t g bs r is m h = wanted_room e s (plain t) (changed_or_same r t) (found_by o g) m (subst (λ z. Runs (formed e (with_found (found_for z g) (plain t)) s) (ok (changed_or_same r t))) is h)
 
 -- no refusal is left but want of memory
 only_memory : (o : Option Stop) (y : InferError) → o ≡ None → IsStopped o y → y ≡ Memory
@@ -140,16 +140,16 @@ memory_alone o (Err y) h k = only_memory o y h k
 
 -- THE LAST OF THE FRAMES
 
-last_frame : (o : Operator) (fs : List CFound) (r : CFound) → 0 < length fs → r ≡ get_or fs (length fs - 1) r → get_or (frames_by o fs) (length fs - 1) (found_by o r) ≡ found_by o r
+last_frame : (o : Applied) (fs : List CFound) (r : CFound) → 0 < length fs → r ≡ get_or fs (length fs - 1) r → get_or (frames_by o fs) (length fs - 1) (found_by o r) ≡ found_by o r
 last_frame o fs r n is = frame_at o fs (length fs - 1) r (omega (arith, n)) ∙ ap (found_by o) (sym is)
 
-pub frame_found : (e : Environment) (o : Operator) (bs : PlainBounds) (fs : List CFound) (r : CFound) → 0 < length fs → r ≡ get_or fs (length fs - 1) r → AreFoundFor e bs (frames_by o fs) → IsFoundFor e bs (found_by o r)
+pub frame_found : (e : Environment) (o : Applied) (bs : PlainBounds) (fs : List CFound) (r : CFound) → 0 < length fs → r ≡ get_or fs (length fs - 1) r → AreFoundFor e bs (frames_by o fs) → IsFoundFor e bs (found_by o r)
 frame_found e o bs fs r n is k = subst (IsFoundFor e bs) (last_frame o fs r n is) (last_found e bs (frames_by o fs) (length fs - 1) (found_by o r) (omega (arith, n, length_frames o fs)) k)
 
-pub frame_wanted : (o : Operator) (t : PlainType) (x : Option PlainType) (fs : List CFound) (r : CFound) → 0 < length fs → r ≡ get_or fs (length fs - 1) r → wanted_at t (found_by o r) ≡ wanted_in t x (frames_by o fs)
+pub frame_wanted : (o : Applied) (t : PlainType) (x : Option PlainType) (fs : List CFound) (r : CFound) → 0 < length fs → r ≡ get_or fs (length fs - 1) r → wanted_at t (found_by o r) ≡ wanted_in t x (frames_by o fs)
 frame_wanted o t x fs r n is = ap (wanted_at t) (sym (last_frame o fs r n is)) ∙ last_wanted t x (frames_by o fs) (length fs - 1) (found_by o r) (omega (arith, n, length_frames o fs))
 
-pub frame_room : (e : Environment) (s : Span) (o : Operator) (t : PlainType) (fs : List CFound) (r : CFound) → 0 < length fs → r ≡ get_or fs (length fs - 1) r → HaveRoom e s t (frames_by o fs) → room_stop e s (wanted_at t (found_by o r)) ≡ None
+pub frame_room : (e : Environment) (s : Span) (o : Applied) (t : PlainType) (fs : List CFound) (r : CFound) → 0 < length fs → r ≡ get_or fs (length fs - 1) r → HaveRoom e s t (frames_by o fs) → room_stop e s (wanted_at t (found_by o r)) ≡ None
 frame_room e s o t fs r n is k =
     subst (λ z. room_stop e s (wanted_at t z) ≡ None) (last_frame o fs r n is) (last_room e s t (frames_by o fs) (length fs - 1) (found_by o r) (omega (arith, n, length_frames o fs)) k)
 

@@ -24,7 +24,7 @@ use Rattle.pict_scope.specs.DistinctLabels.{AnnotationHasDistinctLabels}
 use Rattle.pict_rules.specs.Environments.{Environment, KnownValue, context_of, opened, shifted_by, within}
 use Rattle.pict_rules.specs.Rules.{Sort, nothing_, type_, environment_, fields_, pattern_, signature_, signatures_, Judgement, TypedFields, TypedPattern, pattern_gives, fields_give, has, declaration, signatures, signature, bodies, body, process_body, value_body, Signature, Answer, Rule, give, part, refuse, ok, stuck, unless_stopped, within_limits}
 use Rattle.pict_rules.specs.Rules as rules
-use Rattle.pict_rules.specs.Clauses.{argument_type, values_of, with_own, with_signatures}
+use Rattle.pict_rules.specs.Clauses.{argument_type, signature_values, with_own, with_signatures}
 use Rattle.pict_rules.specs.Typing.{rule}
 use Rattle.pict_rules.specs.Derivations.{Runs, give_, part_ok, part_stuck, refuse_}
 use Rattle.pict_rules.specs.Reached.{this_part, past_part}
@@ -93,14 +93,14 @@ inside_more n (c ∷ ds) [] ss d x s h k = absurd h
 inside_more n (c ∷ ds) (y ∷ xs) [] d x s h k = absurd h
 inside_more n (c ∷ ds) (y ∷ xs) (r ∷ ss) d x s h k = (h.0, inside_more n ds xs ss d x s h.1 k)
 
-nearest : (ss : List Signature) (s : Signature) (vs : List KnownValue) → values_of (ss ++ s ∷ []) vs ≡ record { name = s.name.name.0; has = s.has } ∷ values_of ss vs
+nearest : (ss : List Signature) (s : Signature) (vs : List KnownValue) → signature_values (ss ++ s ∷ []) vs ≡ record { name = s.name.name.0; has = s.has } ∷ signature_values ss vs
 nearest [] s vs = refl
 nearest (r ∷ ss) s vs = nearest ss s (record { name = r.name.name.0; has = r.has } ∷ vs)
 
-one_more_name : (e : Environment) (ss : List Signature) (s : Signature) (x : Id) (t : PlainType) → s.name ≡ x → s.has ≡ t → (let d : Environment = record { names = e.names; context = e.context; values = record { name = x.name.0; has = t } ∷ values_of ss e.values } in d) ≡ with_signatures e (ss ++ s ∷ [])
+one_more_name : (e : Environment) (ss : List Signature) (s : Signature) (x : Id) (t : PlainType) → s.name ≡ x → s.has ≡ t → (let d : Environment = record { names = e.names; context = e.context; values = record { name = x.name.0; has = t } ∷ signature_values ss e.values } in d) ≡ with_signatures e (ss ++ s ∷ [])
 one_more_name e ss s x t n h =
     ap (λ (vs : List KnownValue). let d : Environment = record { names = e.names; context = e.context; values = vs } in d)
-    (ap₂ (λ (y : Id) (u : PlainType). let v : KnownValue = record { name = y.name.0; has = u } in v ∷ values_of ss e.values) (sym n) (sym h) ∙ sym (nearest ss s e.values))
+    (ap₂ (λ (y : Id) (u : PlainType). let v : KnownValue = record { name = y.name.0; has = u } in v ∷ signature_values ss e.values) (sym n) (sym h) ∙ sym (nearest ss s e.values))
 
 pub none_signed : (e : Environment) (xs : List Inside) → xs ≡ [] → SignedSoFar e e [] xs
 unfolding definitions_on

@@ -17,13 +17,13 @@ use Rattle.pict_infer.specs.Answering.{IsRefused}
 use Rattle.pict_lines.specs.Lines.{found_before}
 
 -- a function of two fields
-pub record Operator : Type 0 where
+pub record Applied : Type 0 where
   pub binders : PlainBounds
   pub first : PlainType
   pub second : PlainType
   pub answer : PlainType
 
-abbrev pub as_function : Operator → Function
+abbrev pub as_function : Applied → Function
 as_function o = record { binders = o.binders; positional = types o.first (types o.second no_type); labelled = no_label; answer = o.answer }
 
 -- the head, and two fields
@@ -33,7 +33,7 @@ head f = of_chan (use_chan f.span f.name)
 abbrev pub two : Val → Val → FieldVals
 two v w = field_vals no_types (more_vals (more_vals no_vals v) w) no_labelled_vals
 
-abbrev pub IsHead : Environment → Id → Operator → Type 0
+abbrev pub IsHead : Environment → Id → Applied → Type 0
 IsHead e f o = applicable (exposure (context_of e) (type_of_use e f.name.0)) ≡ Some (as_function o)
 
 -- the nested applications of a list
@@ -45,7 +45,7 @@ abbrev pub alone : Span → List Val → Val
 alone s vs = from_first (λ v ws. v) s vs
 
 -- what is found before the fields, where this type is wanted of the application
-abbrev pub before_fields : Environment → Operator → Option PlainType → Found
+abbrev pub before_fields : Environment → Applied → Option PlainType → Found
 before_fields e o x = found_before e (as_function o) true x
 
 -- the type that the value of a field is wanted to have, if it is known
@@ -72,22 +72,22 @@ wanted_in t x (g ∷ gs) = wanted_in t (wanted_at t g) gs
 -- FROM THE RIGHT: the outermost application is that to the first value
 
 -- the type that the second field is wanted to have
-abbrev pub wanted_by : Operator → Found → Option PlainType
+abbrev pub wanted_by : Applied → Found → Option PlainType
 wanted_by o g = wanted_at o.second g
 
 -- going in: the first field found this, where the application is wanted to have x, and the second may be looked at
-pub record IsEntered (e : Environment) (s : Span) (o : Operator) (v : Val) (x : Option PlainType) (g : Found) : Type 0 where
+pub record IsEntered (e : Environment) (s : Span) (o : Applied) (v : Val) (x : Option PlainType) (g : Found) : Type 0 where
   pub field : Runs (rule e (value_fits s v o.first (before_fields e o x))) (ok g)
   pub room : room_stop e s (wanted_by o g) ≡ None
 
 -- so many applications are entered, from the outermost in
-abbrev pub AreEntered : Environment → Span → Operator → List Val → Option PlainType → List Found → Type 0
+abbrev pub AreEntered : Environment → Span → Applied → List Val → Option PlainType → List Found → Type 0
 AreEntered e s o vs x [] = Unit {0}
 AreEntered e s o [] x (g ∷ gs) = ⊥
 AreEntered e s o (v ∷ vs) x (g ∷ gs) = IsEntered e s o v x g × AreEntered e s o vs (wanted_by o g) gs
 
 -- what is wanted inside all of them
-abbrev pub wanted_inside : Operator → Option PlainType → List Found → Option PlainType
+abbrev pub wanted_inside : Applied → Option PlainType → List Found → Option PlainType
 wanted_inside o x gs = wanted_in o.second x gs
 
 -- FROM THE LEFT: the outermost application is that to the last value, and its first field is the next one
@@ -96,21 +96,21 @@ wanted_inside o x gs = wanted_in o.second x gs
 abbrev pub nested_left : Span → Id → List Val → Val
 nested_left s f vs = from_first (left_nested s f) s vs
 
-abbrev pub wanted_first : Operator → Found → Option PlainType
+abbrev pub wanted_first : Applied → Found → Option PlainType
 wanted_first o g = wanted_at o.first g
 
 -- going in: this is found before the fields, where the application is wanted to have x, and the first may be looked at
-pub record IsBegun (e : Environment) (s : Span) (o : Operator) (x : Option PlainType) (g : Found) : Type 0 where
+pub record IsBegun (e : Environment) (s : Span) (o : Applied) (x : Option PlainType) (g : Found) : Type 0 where
   pub before : g ≡ before_fields e o x
   pub room : room_stop e s (wanted_first o g) ≡ None
 
 -- so many applications are begun, from the outermost in
-abbrev pub AreBegun : Environment → Span → Operator → Option PlainType → List Found → Type 0
+abbrev pub AreBegun : Environment → Span → Applied → Option PlainType → List Found → Type 0
 AreBegun e s o x [] = Unit {0}
 AreBegun e s o x (g ∷ gs) = IsBegun e s o x g × AreBegun e s o (wanted_first o g) gs
 
 -- what is wanted within all of them
-abbrev pub wanted_within : Operator → Option PlainType → List Found → Option PlainType
+abbrev pub wanted_within : Applied → Option PlainType → List Found → Option PlainType
 wanted_within o x gs = wanted_in o.first x gs
 
 -- THE HEAD

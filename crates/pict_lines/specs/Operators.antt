@@ -12,13 +12,13 @@ use Rattle.pict_rules.specs.Environments.{Environment}
 use Rattle.pict_rules.specs.Found as rules
 use Rattle.pict_rules.specs.Regular.{FoundFits, kinds_found, kinds_of_fields}
 use Rattle.pict_rules.specs.Shapes.{nth_type}
-use Rattle.pict_lines.specs.declared.operators.Operator.{Operator}
+use Rattle.pict_lines.specs.declared.operators.Applied.{Applied}
 use Rattle.pict_lines.specs.Chains as chains
 use Rattle.pict_lines.specs.Chains.{as_function, room_stop, wanted_at}
 use Rattle.pict_lines.specs.Functions.{FunctionIsFormed}
 use Rattle.pict_lines.specs.Reading.{found_for}
 
-abbrev pub operator_of : Operator → chains.Operator
+abbrev pub operator_of : Applied → chains.Applied
 operator_of o = record {
   binders = plain_bounds o.function.fields.binders.items;
   first = nth_type 0 (plain_types o.function.fields.positional.items);
@@ -27,14 +27,14 @@ operator_of o = record {
 }
 
 -- what it takes and answers is well formed
-abbrev pub IsOperatorIn : Environment → Operator → Type 0
+abbrev pub IsOperatorIn : Environment → Applied → Type 0
 IsOperatorIn e o = FunctionIsFormed e (as_function (operator_of o))
 
 -- what is found for its type fields
-abbrev pub found_by : Operator → Found → rules.Found
+abbrev pub found_by : Applied → Found → rules.Found
 found_by o g = found_for o.function.fields.binders.items g
 
-abbrev pub frames_by : Operator → List Found → List rules.Found
+abbrev pub frames_by : Applied → List Found → List rules.Found
 frames_by o gs = map (found_by o) gs
 
 -- the values of a form

@@ -13,7 +13,7 @@ ghost use Rattle.pict_rules.specs.Shapes.{sendable};
 ghost use Rattle.pict_infer.specs.Adding.{extension_of};
 ghost use Rattle.pict_infer.specs.Answering.{IsAnswer};
 ghost use Rattle.pict_infer.specs.Environments.{environment_of};
-ghost use Rattle.pict_infer.specs.Steps.{shown};
+ghost use Rattle.pict_infer.specs.Steps.{changed_or_same};
 ghost use Rattle.pict_lines.specs.Definitions.{answering_record, body_type, function_with, record_answers};
 ghost use Rattle.pict_lines.specs.Functions.{IsNoFunction};
 ghost use Rattle.pict_lines.specs.Lines.{formed};
@@ -82,7 +82,7 @@ pub fn opened(x: &Added) -> Result<u32, AllocError>
 
 /// The type past the type variables that are added; nothing where none are, and the type stays as it is.
 pub fn past_added(alloc: Global, x: &Added, t: &Ty) -> Result<Option<Ty>, AllocError>
-    ensures { IfOk result (λ o. shown o t.now ≡ shifted_by (opened (extension_of x.now)) (plain t.now)) }
+    ensures { IfOk result (λ o. changed_or_same o t.now ≡ shifted_by (opened (extension_of x.now)) (plain t.now)) }
 {
     let by = opened(x)?;
     if by == 0 {

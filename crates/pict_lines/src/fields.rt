@@ -9,7 +9,7 @@ ghost use Rattle.pict_rules.specs.Regular.{FoundFits, IsExpected, IsRegular, IsT
 ghost use Rattle.pict_match.specs.PlainFound.{found_of};
 ghost use Rattle.pict_infer.specs.Answering.{IsAnswer, nothing};
 ghost use Rattle.pict_infer.specs.Environments.{environment_of};
-ghost use Rattle.pict_infer.specs.Steps.{shown};
+ghost use Rattle.pict_infer.specs.Steps.{changed_or_same};
 ghost use Rattle.pict_lines.specs.Fields.{AreArgsIn, AreBoundsIn, IsArgIn, IsBoundUnder, IsFieldIn, IsTypeUnder};
 ghost use Rattle.pict_lines.specs.Functions.{function_of, FunctionIsFormed};
 ghost use Rattle.pict_lines.specs.Lines.{all_found, application_end, as_expected, fields_end, formed, found_before, given_lines, within_all, within_one};
@@ -17,7 +17,7 @@ ghost use Rattle.pict_lines.specs.Reading.{found_for, slot};
 
 use crate::functions::Function;
 use crate::steps::{below, within_limits};
-use pict_infer::{Env, InferError, Told, shown, size_refusal};
+use pict_infer::{Env, InferError, Told, changed_or_same, size_refusal};
 use pict_match::{Found, match_type};
 use pict_normal::instantiate_type;
 use pict_syntax::{Code, Span};
@@ -112,8 +112,8 @@ pub fn wanted(
     requires t { IsFieldIn (environment_of env.now) bs.now found.now t.now }
     requires fits { FoundFits (environment_of env.now) (found_for bs.now found.now) }
     ensures answer { IsAnswer (formed (environment_of env.now) (with_found (found_for bs.now found.now) (plain t.now)) at)
-        (λ o. shown o t.now) result }
-    ensures formed { IfOk result (λ o. IsTypeIn (environment_of env.now) (shown o t.now)) }
+        (λ o. changed_or_same o t.now) result }
+    ensures formed { IfOk result (λ o. IsTypeIn (environment_of env.now) (changed_or_same o t.now)) }
 {
     if found.list.is_empty() {
         within_limits(env, t, at)?;
@@ -150,7 +150,7 @@ pub fn given_fits(
         return Err(InferError::Named(Code::Y10, at, Told::Nothing));
     }
     let put = wanted(alloc, env, t, bs, found, node)?;
-    below(alloc, env, given, shown(&put, t), Code::Y4, at)
+    below(alloc, env, given, changed_or_same(&put, t), Code::Y4, at)
 }
 
 /// Nothing is found yet for these type fields.

@@ -7,7 +7,7 @@ ghost use Rattle.pict_lines.specs.Nesting.{AreAllBegun, IsLeftForm, left_form};
 ghost use Rattle.pict_lines.specs.Operators.{type_if};
 
 use crate::nested::{copied, field_wanted, first, start};
-use crate::operators::Operator;
+use crate::operators::Applied;
 use pict_infer::{Env, InferError};
 use pict_match::Found;
 use pict_syntax::Val;
@@ -20,7 +20,7 @@ pub fn begin(
     alloc: Global,
     env: &Env,
     vs: &[Val],
-    o: &Operator,
+    o: &Applied,
     expected: &Option<Ty>,
 ) -> Result<Vec<Found>, InferError>
     requires some { 1 ≤ length vs.now }

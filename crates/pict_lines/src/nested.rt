@@ -21,7 +21,7 @@ use crate::fields::{
     application_end, fields_end, found_first, given_fits, mentions_missing, wanted,
 };
 use crate::functions::{Function, head};
-use crate::operators::Operator;
+use crate::operators::Applied;
 use crate::steps::below;
 use pict_infer::{Env, InferError, Told};
 use pict_match::{Found, match_type};
@@ -30,14 +30,14 @@ use pict_types::{Arg, Ty};
 use std::alloc::{AllocError, Global};
 
 /// The first of the two fields. Takes no memory.
-pub fn first(o: &Operator) -> &Ty
+pub fn first(o: &Applied) -> &Ty
     ensures { plain result.now ≡ (operator_of o.now).first }
 {
     &o.function.fields.positional[0]
 }
 
 /// The second of the two fields. Takes no memory.
-pub fn second(o: &Operator) -> &Ty
+pub fn second(o: &Applied) -> &Ty
     ensures { plain result.now ≡ (operator_of o.now).second }
 {
     &o.function.fields.positional[1]
@@ -73,7 +73,7 @@ pub fn true_for(
 }
 
 /// The operator that takes two positional fields and no labelled one; else Y5 and Y6 at the form.
-fn two_fields(function: Function, name: Id, span: Span) -> Result<Operator, InferError>
+fn two_fields(function: Function, name: Id, span: Span) -> Result<Applied, InferError>
     ensures name { IfOk result (λ o. o.name ≡ name) }
     ensures place { IfOk result (λ o. o.span ≡ span) }
     ensures function { IfOk result (λ o. o.function ≡ function) }
@@ -85,7 +85,7 @@ fn two_fields(function: Function, name: Id, span: Span) -> Result<Operator, Infe
     if !function.fields.labelled.is_empty() {
         return Err(InferError::Named(Code::Y6, span, Told::Nothing));
     }
-    Ok(Operator {
+    Ok(Applied {
         span,
         name,
         function,
@@ -94,7 +94,7 @@ fn two_fields(function: Function, name: Id, span: Span) -> Result<Operator, Infe
 
 /// The operator of this name, in the form at this place. Y8 at the name where it may not be applied; Y5 and Y6 at the
 /// form where it doesn't take two positional fields and no labelled one.
-pub fn operator(alloc: Global, env: &Env, name: Id, span: Span) -> Result<Operator, InferError>
+pub fn operator(alloc: Global, env: &Env, name: Id, span: Span) -> Result<Applied, InferError>
     ensures name { IfOk result (λ o. o.name ≡ name) }
     ensures place { IfOk result (λ o. o.span ≡ span) }
     ensures head { IfOk result (λ o. IsHead (environment_of env.now) name (operator_of o)) }
@@ -111,7 +111,7 @@ pub fn operator(alloc: Global, env: &Env, name: Id, span: Span) -> Result<Operat
 pub fn start(
     alloc: Global,
     env: &Env,
-    o: &Operator,
+    o: &Applied,
     wanted: &Option<Ty>,
 ) -> Result<Found, InferError>
     requires regular { IsRegular (environment_of env.now) }
@@ -132,7 +132,7 @@ pub fn start(
 pub fn field_wanted(
     alloc: Global,
     env: &Env,
-    o: &Operator,
+    o: &Applied,
     t: &Ty,
     found: &Found,
 ) -> Result<Option<Ty>, InferError>
@@ -156,7 +156,7 @@ pub fn field_given(
     alloc: Global,
     env: &Env,
     at: Span,
-    o: &Operator,
+    o: &Applied,
     t: &Ty,
     given: &Option<Ty>,
     found: &mut Found,
@@ -193,7 +193,7 @@ pub fn field_given(
 pub fn end_fields(
     alloc: Global,
     env: &Env,
-    o: &Operator,
+    o: &Applied,
     found: &Found,
 ) -> Result<Vec<Arg>, InferError>
     requires regular { IsRegular (environment_of env.now) }
@@ -211,7 +211,7 @@ pub fn end_fields(
 pub fn end_application(
     alloc: Global,
     env: &Env,
-    o: &Operator,
+    o: &Applied,
     args: &[Arg],
     wanted: &Option<Ty>,
 ) -> Result<Ty, InferError>
@@ -234,7 +234,7 @@ pub fn end_application(
 pub fn wanted_around(
     alloc: Global,
     env: &Env,
-    o: &Operator,
+    o: &Applied,
     t: &Ty,
     frames: &[Found],
     expected: &Option<Ty>,

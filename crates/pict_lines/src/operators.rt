@@ -7,7 +7,7 @@ use pict_syntax::{Id, Span};
 
 /// The name before `>` or `<` in the form at this place, and what it takes: two positional fields, and no labelled one.
 #[derive(Drop)]
-pub struct Operator {
+pub struct Applied {
     pub span: Span,
     pub name: Id,
     pub function: Function,

@@ -8,7 +8,7 @@ ghost use Rattle.pict_lines.specs.Nesting.{AreAllEntered, IsRightForm, right_for
 ghost use Rattle.pict_lines.specs.Operators.{type_if};
 
 use crate::nested::{end_application, end_fields, field_given, second, wanted_around};
-use crate::operators::Operator;
+use crate::operators::Applied;
 use pict_infer::{Env, InferError};
 use pict_match::Found;
 use pict_syntax::{Val, val_span};
@@ -21,7 +21,7 @@ pub fn leave(
     alloc: Global,
     env: &Env,
     vs: &[Val],
-    o: &Operator,
+    o: &Applied,
     entered: Vec<Found>,
     expected: &Option<Ty>,
     last: Option<Ty>,

@@ -146,13 +146,13 @@ fn op_of<'a>(alloc: Global, number: u32, first: u32, place: Place<'a>) -> Result
             Ok(Op::Par(left, sum(left, first)?))
         }
         Core::New(_) => Ok(Op::New(place.around, sum(number, 1)?)),
-        Core::Out { chan, message, at } => output(alloc, chan, message, *at),
+        Core::Out { chan, message, at } => lower_output(alloc, chan, message, *at),
         Core::In {
             chan,
             replicated,
             pattern,
             ..
-        } => input(
+        } => lower_input(
             alloc,
             place.around,
             chan,
@@ -168,14 +168,19 @@ fn op_of<'a>(alloc: Global, number: u32, first: u32, place: Place<'a>) -> Result
 }
 
 /// The instruction of an output.
-fn output(alloc: Global, chan: &CoreVal, message: &CoreVal, at: Span) -> Result<Op, AllocError>
+fn lower_output(
+    alloc: Global,
+    chan: &CoreVal,
+    message: &CoreVal,
+    at: Span,
+) -> Result<Op, AllocError>
     ensures { IfOk result (λ op. plain_op op ≡ instruction.Out (plain_val chan.now) (plain_val message.now) at) }
 {
     Ok(Op::Out(chan.copy(alloc)?, message.copy(alloc)?, at))
 }
 
 /// The instruction of an input, around which so many variables are bound.
-fn input(
+fn lower_input(
     alloc: Global,
     around: u32,
     chan: &CoreVal,

@@ -23,8 +23,8 @@ use Rattle.pict_acting.specs.Chain.{MakesCall}
 use Rattle.pict_machine.specs.Going.{GoesPast, HasEvent, MakesSteps}
 use Rattle.pict_machine.specs.Machine.{IsRunning, core_in, running_view, heap_of}
 use Rattle.pict_acting.specs.declared.chain.Received.{Received}
-use Rattle.pict_turns.specs.declared.event.PackedEvent.{PackedEvent}
-use Rattle.pict_turns.specs.declared.event.PackedEvent.TheVariants as packed
+use Rattle.pict_turns.specs.declared.event.Shown.{Shown}
+use Rattle.pict_turns.specs.declared.event.Shown.TheVariants as shows
 use Rattle.pict_machine.specs.declared.machine.Machine.{Machine}
 use Rattle.pict_machine.proofs.Going.{one_past}
 
@@ -46,7 +46,7 @@ moved v u label moves s =
     record { apart = x.1; configuration = x.0.after; is = x.0.is; stands = x.0.stands }
 
 quiet_past : (n : ℕ) (h : HeapState) (v w u : View) → GoesPast false n v w → next_view w ≡ Moves u Quiet → Stands w → GoesPast false (n + 1) v u
-quiet_past n h v w u past moves s = one_past false n h packed.Quiet v w u past tt (λ D is stands. (simulated w u Quiet moves s.apart D is stands).0)
+quiet_past n h v w u past moves s = one_past false n h shows.Quiet v w u past tt (λ D is stands. (simulated w u Quiet moves s.apart D is stands).0)
 
 -- ---- the call is made
 
@@ -88,7 +88,7 @@ module _ (old : Machine) (new : Store) (received : Received) (kept : IsRunning o
       let none : GoesPast false 0 v v = λ C is stands. (C, [], tt, (refl, refl), is, stands) in
       quiet_past 3 h v m.waiting m.answered (quiet_past 2 h v m.forked m.waiting (quiet_past 1 h v m.opened m.forked (quiet_past 0 h v v m.opened none m.opens first) m.forks opened) m.waits forked) m.answers waiting
 
-  pub called_steps : MakesSteps old called (record { quiet = 4; event = packed.Comm received.channel received.value })
+  pub called_steps : MakesSteps old called (record { quiet = 4; event = shows.Comm received.channel received.value })
   called_steps = record {
     between = m.answered;
     past = past;
@@ -99,7 +99,7 @@ module _ (old : Machine) (new : Store) (received : Received) (kept : IsRunning o
   }
 
 -- one step, with this event
-pub one_made : (old new : Machine) (event : PackedEvent) → HasEvent (running_view old) new event → MakesSteps old new (record { quiet = 0; event = event })
+pub one_made : (old new : Machine) (event : Shown) → HasEvent (running_view old) new event → MakesSteps old new (record { quiet = 0; event = event })
 one_made old new event has = record { between = running_view old; past = λ C is stands. (C, [], tt, (refl, refl), is, stands); then = has }
 
 -- ---- memory is wanting

@@ -12,11 +12,11 @@ use Rattle.pict_view.specs.Right.{IsRightFor}
 use Rattle.pict_view.specs.Watching.{Saw, SawOrTore, RanFor, BrokeOff, view_after}
 use Rattle.pict_view.proofs.Runs.{Stood, empty_of, is_done, is_spent, saw_more}
 use Rattle.pict_machine.specs.Events.{end_of, PassesCommunications}
-use Rattle.pict_turns.specs.Packed.{label_packed, trap_packed}
+use Rattle.pict_turns.specs.Shown.{label_shown, trap_shown}
 use Rattle.pict_machine.specs.Going.{IsPassed, ArePassed, GoesPast, GoesOn, HasEvent, ThenComes, StopsAs}
 use Rattle.pict_machine.specs.Machine.{running_view}
-use Rattle.pict_turns.specs.declared.event.PackedEvent.{PackedEvent}
-use Rattle.pict_turns.specs.declared.event.PackedEvent.TheVariants as packed
+use Rattle.pict_turns.specs.declared.event.Shown.{Shown}
+use Rattle.pict_turns.specs.declared.event.Shown.TheVariants as shows
 use Rattle.pict_machine.specs.declared.event.End.{End}
 use Rattle.pict_machine.specs.declared.event.End.TheVariants as end
 use Rattle.pict_machine.specs.declared.machine.Machine.{Machine}
@@ -51,17 +51,17 @@ passed_more p n m label before more f a =
     passed_both p more (shown m label) (f r.0) (passed_number p n m label r.1)
 
 -- an event that is passed over has such a label, if any, and is no trap
-passed_label : (p : Bool) (h : HeapState) (e : PackedEvent) → IsPassed p e → (n : ℕ) → ArePassed p (shown n (label_packed h e))
-passed_label p h packed.Quiet a n = tt
-passed_label p h (packed.Comm channel value) a n = (a, tt)
-passed_label p h (packed.Print word) a n = absurd a
-passed_label p h (packed.Trapped at) a n = absurd a
+passed_label : (p : Bool) (h : HeapState) (e : Shown) → IsPassed p e → (n : ℕ) → ArePassed p (shown n (label_shown h e))
+passed_label p h shows.Quiet a n = tt
+passed_label p h (shows.Comm channel value) a n = (a, tt)
+passed_label p h (shows.Print word) a n = absurd a
+passed_label p h (shows.Trapped at) a n = absurd a
 
-passed_is_none : (p : Bool) (e : PackedEvent) → IsPassed p e → trap_packed e ≡ None
-passed_is_none p packed.Quiet a = refl
-passed_is_none p (packed.Comm channel value) a = refl
-passed_is_none p (packed.Print word) a = refl
-passed_is_none p (packed.Trapped at) a = absurd a
+passed_is_none : (p : Bool) (e : Shown) → IsPassed p e → trap_shown e ≡ None
+passed_is_none p shows.Quiet a = refl
+passed_is_none p (shows.Comm channel value) a = refl
+passed_is_none p (shows.Print word) a = refl
+passed_is_none p (shows.Trapped at) a = absurd a
 
 -- they change nothing of what was seen
 module _ (p : Bool) (f : List ℕ → ℕ → Label → List ℕ) (passes : IsTrue p → PassesCommunications f) where
@@ -129,11 +129,11 @@ stood_of p n v w go C is stands =
     record { labels = labels; last = D; reached = reached; is = at; stands = by; seen = passed }
 
 -- one more
-pub one_past : (p : Bool) (n : ℕ) (h : HeapState) (e : PackedEvent) (v w u : View) → GoesPast p n v w → IsPassed p e
-    → ((D : Configuration) → IsConfiguration D → StandsFor w D → IsStepOf D (label_packed h e) (trap_packed e) u) → GoesPast p (n + 1) v u
+pub one_past : (p : Bool) (n : ℕ) (h : HeapState) (e : Shown) (v w u : View) → GoesPast p n v w → IsPassed p e
+    → ((D : Configuration) → IsConfiguration D → StandsFor w D → IsStepOf D (label_shown h e) (trap_shown e) u) → GoesPast p (n + 1) v u
 one_past p n h e v w u go past step C is stands =
     let (D, labels, passed, reached, at, by) = go C is stands in
-    let label = label_packed h e in
+    let label = label_shown h e in
     let f = subst (λ (t : Option Span). IsStepOf D label t u) (passed_is_none p e past) (step D at by) in (
       f.after,
       labels ++ shown (suc n) label,
@@ -189,21 +189,21 @@ all_made n passed most fuel v w all same either some =
 -- ---- what follows the steps that are passed over
 
 module _ (p : Bool) (f : List ℕ → ℕ → Label → List ℕ) (passes : IsTrue p → PassesCommunications f) (before after : Option (List ℕ)) (n fuel : ℕ) (C : Configuration) (old new : Machine) (most passed : ℕ)
-    (r : Result (Option PackedEvent) AllocError) (gone : GoesOn p old new most passed r) (all : n + most ≡ fuel) where
+    (r : Result (Option Shown) AllocError) (gone : GoesOn p old new most passed r) (all : n + most ≡ fuel) where
   pub within : n + passed ≤ fuel
   within = let few = gone.few in omega (arith, few, all)
 
   pub stood_between : Stood n C (running_view old) (Saw f before after) → Stood (n + passed) C gone.between (Saw f before after)
   stood_between s = stood_past p f passes n passed C (running_view old) gone.between before after gone.past s
 
-  then_of : (s : Result (Option PackedEvent) AllocError) → r ≡ s → ThenComes gone.between new most passed s
+  then_of : (s : Result (Option Shown) AllocError) → r ≡ s → ThenComes gone.between new most passed s
   then_of s same = subst (ThenComes gone.between new most passed) same gone.then
 
   -- a further step
-  pub further : (e : PackedEvent) → r ≡ Ok (Some e) → n + passed < fuel
+  pub further : (e : Shown) → r ≡ Ok (Some e) → n + passed < fuel
   further e same = let lt = (then_of (Ok (Some e)) same).0 in omega (arith, lt, all)
 
-  pub event_of : (e : PackedEvent) → r ≡ Ok (Some e) → HasEvent gone.between new e
+  pub event_of : (e : Shown) → r ≡ Ok (Some e) → HasEvent gone.between new e
   event_of e same = (then_of (Ok (Some e)) same).1
 
   -- no further one

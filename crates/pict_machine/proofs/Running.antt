@@ -9,10 +9,10 @@ use Rattle.pict_view.specs.Stepping.{IsStepOf}
 use Rattle.pict_view.proofs.Runs.{Stood}
 use Rattle.pict_syntax.specs.declared.span.Span.{Span}
 use Rattle.pict_machine.specs.Events.{label_of, trap_of}
-use Rattle.pict_turns.specs.Packed.{label_packed, trap_packed}
+use Rattle.pict_turns.specs.Shown.{label_shown, trap_shown}
 use Rattle.pict_machine.specs.declared.event.Event.{Event}
-use Rattle.pict_turns.specs.declared.event.PackedEvent.{PackedEvent}
-use Rattle.pict_turns.specs.declared.event.PackedEvent.TheVariants as packed
+use Rattle.pict_turns.specs.declared.event.Shown.{Shown}
+use Rattle.pict_turns.specs.declared.event.Shown.TheVariants as shows
 
 saw_all : (f : List ℕ → ℕ → Label → List ℕ) (T : List ℕ → ℕ → Label → List ℕ → Type 0) (before after : Option (List ℕ)) (labels : List (ℕ × Label)) → Saw f before after labels → SawOrTore f T before after labels
 saw_all f T None after labels d = tt
@@ -34,19 +34,19 @@ broke_before n fuel C v v' f T before after few same s = record {
 }
 
 -- a step's label, by words of an equal heap, where the event is unpacked
-pub seen_steps : (h h' : HeapState) (e : PackedEvent) (x : Event) (v v' : View) → h ≡ h' → label_of h' x ≡ label_packed h' e → trap_of x ≡ trap_packed e
-    → ((D : Configuration) → IsConfiguration D → StandsFor v D → IsStepOf D (label_packed h' e) (trap_packed e) v')
+pub seen_steps : (h h' : HeapState) (e : Shown) (x : Event) (v v' : View) → h ≡ h' → label_of h' x ≡ label_shown h' e → trap_of x ≡ trap_shown e
+    → ((D : Configuration) → IsConfiguration D → StandsFor v D → IsStepOf D (label_shown h' e) (trap_shown e) v')
     → (D : Configuration) → IsConfiguration D → StandsFor v D → IsStepOf D (label_of h x) (trap_of x) v'
 seen_steps h h' e x v v' same label trap steps D is s =
     subst (λ g. IsStepOf D (label_of g x) (trap_of x) v') (sym same)
-    (subst (λ t. IsStepOf D (label_of h' x) t v') (sym trap) (subst (λ l. IsStepOf D l (trap_packed e) v') (sym label) (steps D is s)))
+    (subst (λ t. IsStepOf D (label_of h' x) t v') (sym trap) (subst (λ l. IsStepOf D l (trap_shown e) v') (sym label) (steps D is s)))
 
 -- what traps unpacked traps packed
-pub trapped_packed : (e : PackedEvent) (at : Span) → Some at ≡ trap_packed e → e ≡ packed.Trapped at
-trapped_packed packed.Quiet at is = cc
-trapped_packed (packed.Comm channel value) at is = cc
-trapped_packed (packed.Print word) at is = cc
-trapped_packed (packed.Trapped there) at is = cc
+pub trapped_packed : (e : Shown) (at : Span) → Some at ≡ trap_shown e → e ≡ shows.Trapped at
+trapped_packed shows.Quiet at is = cc
+trapped_packed (shows.Comm channel value) at is = cc
+trapped_packed (shows.Print word) at is = cc
+trapped_packed (shows.Trapped there) at is = cc
 
 -- ---- equal views before and afterwards
 

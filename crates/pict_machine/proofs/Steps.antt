@@ -23,12 +23,12 @@ use Rattle.pict_turns.specs.declared.turn.Turn.TheVariants.{Nobody}
 use Rattle.pict_desk.proofs.MakingRoom.{keeps_words}
 use Rattle.pict_turns.proofs.Turns.{words_nobody, view_nobody, same_words}
 use Rattle.pict_desk.specs.Constants.{AreConstants}
-use Rattle.pict_turns.specs.Packed.{label_packed, trap_packed, IsPackedOf}
+use Rattle.pict_turns.specs.Shown.{label_shown, trap_shown, IsShownOf}
 use Rattle.pict_machine.specs.Machine.{core_in, view_of, running_view, heap_of, channels_of, IsMachine, IsRunning, IsUnchanged}
 use Rattle.pict_turns.specs.Stepping.{GivesTurn, Acts, IsStepBy}
 use Rattle.pict_machine.specs.declared.machine.Machine.{Machine}
-use Rattle.pict_turns.specs.declared.event.PackedEvent.{PackedEvent}
-use Rattle.pict_turns.specs.declared.event.PackedEvent.TheVariants as packed
+use Rattle.pict_turns.specs.declared.event.Shown.{Shown}
+use Rattle.pict_turns.specs.declared.event.Shown.TheVariants as shows
 use Rattle.pict_turns.proofs.Given.{refused_contents, refused_view, step_of, apart_after, rested_view}
 use Rattle.pict_desk.proofs.MadeOnce.{constants_keep}
 
@@ -98,14 +98,14 @@ module _ (old : Machine) (taken new : Store) (given : GivesTurn (core_in old) ol
 
   -- ---- a step that is done
 
-  done_keeps : (e : PackedEvent) → Acts (core_in old) taken new e → KeepsWords (heap_of old) new.desk.heap
-  done_keeps packed.Quiet a = from_old a.done.keeps
-  done_keeps (packed.Comm channel word) a = from_old a.done.keeps
-  done_keeps (packed.Print word) a = from_old a.done.keeps
-  done_keeps (packed.Trapped at) a = refused_keeps a.1
+  done_keeps : (e : Shown) → Acts (core_in old) taken new e → KeepsWords (heap_of old) new.desk.heap
+  done_keeps shows.Quiet a = from_old a.done.keeps
+  done_keeps (shows.Comm channel word) a = from_old a.done.keeps
+  done_keeps (shows.Print word) a = from_old a.done.keeps
+  done_keeps (shows.Trapped at) a = refused_keeps a.1
 
   module _ (right : IsRightFor (running_view old) 1) where
-    machine_by : (e : PackedEvent) → IsStore (core_in old) new → HoldsNoMore taken.queues new.queues → Acts (core_in old) taken new e → IsRunning after
+    machine_by : (e : Shown) → IsStore (core_in old) new → HoldsNoMore taken.queues new.queues → Acts (core_in old) taken new e → IsRunning after
     machine_by e store no_more a = record {
       code = kept.code;
       store = store;
@@ -114,30 +114,30 @@ module _ (old : Machine) (taken new : Store) (given : GivesTurn (core_in old) ol
       constants = still_constant (done_keeps e a);
     }
 
-    done_kept : (e : PackedEvent) → Acts (core_in old) taken new e → IsRunning after
-    done_kept packed.Quiet a = machine_by packed.Quiet a.done.store a.done.no_more a
-    done_kept (packed.Comm channel word) a = machine_by (packed.Comm channel word) a.done.store a.done.no_more a
-    done_kept (packed.Print word) a = machine_by (packed.Print word) a.done.store a.done.no_more a
-    done_kept (packed.Trapped at) a = still_kept a.1
+    done_kept : (e : Shown) → Acts (core_in old) taken new e → IsRunning after
+    done_kept shows.Quiet a = machine_by shows.Quiet a.done.store a.done.no_more a
+    done_kept (shows.Comm channel word) a = machine_by (shows.Comm channel word) a.done.store a.done.no_more a
+    done_kept (shows.Print word) a = machine_by (shows.Print word) a.done.store a.done.no_more a
+    done_kept (shows.Trapped at) a = still_kept a.1
 
-    pub step_kept : (r : Result PackedEvent AllocError) → IsStepBy (core_in old) taken new r → IsRunning after
+    pub step_kept : (r : Result Shown AllocError) → IsStepBy (core_in old) taken new r → IsRunning after
     step_kept (Ok e) a = done_kept e a
     step_kept (Err e) b = still_kept b
 
   grown : length new.queues.queues ≤ length taken.queues.queues + 1 → channels_of after ≤ channels_of old + 1
   grown more = let count = given.queues in omega (arith, more, count)
 
-  done_few : (e : PackedEvent) → Acts (core_in old) taken new e → channels_of after ≤ channels_of old + 1
-  done_few packed.Quiet a = grown a.done.queues
-  done_few (packed.Comm channel word) a = grown a.done.queues
-  done_few (packed.Print word) a = grown a.done.queues
-  done_few (packed.Trapped at) a = still_few a.1
+  done_few : (e : Shown) → Acts (core_in old) taken new e → channels_of after ≤ channels_of old + 1
+  done_few shows.Quiet a = grown a.done.queues
+  done_few (shows.Comm channel word) a = grown a.done.queues
+  done_few (shows.Print word) a = grown a.done.queues
+  done_few (shows.Trapped at) a = still_few a.1
 
-  done_event : (e : PackedEvent) → Acts (core_in old) taken new e → IsPackedOf new.desk.heap e
-  done_event packed.Quiet a = tt
-  done_event (packed.Comm channel word) a = a.event
-  done_event (packed.Print word) a = a.event
-  done_event (packed.Trapped at) a = tt
+  done_event : (e : Shown) → Acts (core_in old) taken new e → IsShownOf new.desk.heap e
+  done_event shows.Quiet a = tt
+  done_event (shows.Comm channel word) a = a.event
+  done_event (shows.Print word) a = a.event
+  done_event (shows.Trapped at) a = tt
 
   -- no queue is lost
   grown_queues : LosesNoQueue taken.queues new.queues → LosesNoQueue old.store.queues new.queues
@@ -146,36 +146,36 @@ module _ (old : Machine) (taken new : Store) (given : GivesTurn (core_in old) ol
   refused_queues : IsRefused (core_in old) taken new → LosesNoQueue old.store.queues new.queues
   refused_queues r = let same = r.queues in let more = r.spare.queues in grown_queues (omega (arith, same, more))
 
-  done_queues : (e : PackedEvent) → Acts (core_in old) taken new e → LosesNoQueue old.store.queues new.queues
-  done_queues packed.Quiet a = grown_queues a.done.no_loss
-  done_queues (packed.Comm channel word) a = grown_queues a.done.no_loss
-  done_queues (packed.Print word) a = grown_queues a.done.no_loss
-  done_queues (packed.Trapped at) a = refused_queues a.1
+  done_queues : (e : Shown) → Acts (core_in old) taken new e → LosesNoQueue old.store.queues new.queues
+  done_queues shows.Quiet a = grown_queues a.done.no_loss
+  done_queues (shows.Comm channel word) a = grown_queues a.done.no_loss
+  done_queues (shows.Print word) a = grown_queues a.done.no_loss
+  done_queues (shows.Trapped at) a = refused_queues a.1
 
   -- ---- both
 
-  pub step_queues : (r : Result PackedEvent AllocError) → IsStepBy (core_in old) taken new r → LosesNoQueue old.store.queues new.queues
+  pub step_queues : (r : Result Shown AllocError) → IsStepBy (core_in old) taken new r → LosesNoQueue old.store.queues new.queues
   step_queues (Ok e) a = done_queues e a
   step_queues (Err e) b = refused_queues b
 
-  pub step_ok : (r : Result PackedEvent AllocError) → IsStepBy (core_in old) taken new r
-      → IfOk r (λ e. (C : Configuration) → IsConfiguration C → StandsFor (running_view old) C → IsStepOf C (label_packed new.desk.heap e) (trap_packed e) (running_view after))
+  pub step_ok : (r : Result Shown AllocError) → IsStepBy (core_in old) taken new r
+      → IfOk r (λ e. (C : Configuration) → IsConfiguration C → StandsFor (running_view old) C → IsStepOf C (label_shown new.desk.heap e) (trap_shown e) (running_view after))
   step_ok (Ok e) a = λ C is stands. step_of (core_in old) old.store taken given new kept.apart C is stands e a
   step_ok (Err e) a = tt
 
-  pub step_event : (r : Result PackedEvent AllocError) → IsStepBy (core_in old) taken new r → IfOk r (IsPackedOf new.desk.heap)
+  pub step_event : (r : Result Shown AllocError) → IsStepBy (core_in old) taken new r → IfOk r (IsShownOf new.desk.heap)
   step_event (Ok e) a = done_event e a
   step_event (Err e) a = tt
 
-  pub step_refused : (r : Result PackedEvent AllocError) → IsStepBy (core_in old) taken new r → OnErr r (running_view after ≡ running_view old)
+  pub step_refused : (r : Result Shown AllocError) → IsStepBy (core_in old) taken new r → OnErr r (running_view after ≡ running_view old)
   step_refused (Ok e) b = tt
   step_refused (Err e) b = still_view b
 
-  pub step_keeps : (r : Result PackedEvent AllocError) → IsStepBy (core_in old) taken new r → KeepsWords (heap_of old) new.desk.heap
+  pub step_keeps : (r : Result Shown AllocError) → IsStepBy (core_in old) taken new r → KeepsWords (heap_of old) new.desk.heap
   step_keeps (Ok e) a = done_keeps e a
   step_keeps (Err e) b = refused_keeps b
 
-  pub step_few : (r : Result PackedEvent AllocError) → IsStepBy (core_in old) taken new r → channels_of after ≤ channels_of old + 1
+  pub step_few : (r : Result Shown AllocError) → IsStepBy (core_in old) taken new r → channels_of after ≤ channels_of old + 1
   step_few (Ok e) a = done_few e a
   step_few (Err e) b = still_few b
 
@@ -223,37 +223,37 @@ module _ (old : Machine) (kept : IsMachine old) (taken acted new : Store) (actin
     spare = spare_kept down r;
   }
 
-  pub whole_ok : (r : Result PackedEvent AllocError) → IsStepBy (core_in old) taken acted r
-      → IfOk r (λ e. (C : Configuration) → IsConfiguration C → StandsFor (view_of old) C → IsStepOf C (label_packed new.desk.heap e) (trap_packed e) (view_of last))
+  pub whole_ok : (r : Result Shown AllocError) → IsStepBy (core_in old) taken acted r
+      → IfOk r (λ e. (C : Configuration) → IsConfiguration C → StandsFor (view_of old) C → IsStepOf C (label_shown new.desk.heap e) (trap_shown e) (view_of last))
   whole_ok r s =
-      subst (λ (h : HeapState). IfOk r (λ e. (C : Configuration) → IsConfiguration C → StandsFor (view_of old) C → IsStepOf C (label_packed h e) (trap_packed e) (view_of last))) (sym heap)
-      (subst (λ (v : View). IfOk r (λ e. (C : Configuration) → IsConfiguration C → StandsFor (view_of old) C → IsStepOf C (label_packed acted.desk.heap e) (trap_packed e) v)) (sym last_view)
-      (subst (λ (v : View). IfOk r (λ e. (C : Configuration) → IsConfiguration C → StandsFor v C → IsStepOf C (label_packed acted.desk.heap e) (trap_packed e) (running_view (record old { store = acted })))) (idle_view old kept)
+      subst (λ (h : HeapState). IfOk r (λ e. (C : Configuration) → IsConfiguration C → StandsFor (view_of old) C → IsStepOf C (label_shown h e) (trap_shown e) (view_of last))) (sym heap)
+      (subst (λ (v : View). IfOk r (λ e. (C : Configuration) → IsConfiguration C → StandsFor (view_of old) C → IsStepOf C (label_shown acted.desk.heap e) (trap_shown e) v)) (sym last_view)
+      (subst (λ (v : View). IfOk r (λ e. (C : Configuration) → IsConfiguration C → StandsFor v C → IsStepOf C (label_shown acted.desk.heap e) (trap_shown e) (running_view (record old { store = acted })))) (idle_view old kept)
       (step_ok old taken acted given kept.running r s)))
 
-  pub whole_event : (r : Result PackedEvent AllocError) → IsStepBy (core_in old) taken acted r → IfOk r (IsPackedOf new.desk.heap)
-  whole_event r s = subst (λ (h : HeapState). IfOk r (IsPackedOf h)) (sym heap) (step_event old taken acted given kept.running r s)
+  pub whole_event : (r : Result Shown AllocError) → IsStepBy (core_in old) taken acted r → IfOk r (IsShownOf new.desk.heap)
+  whole_event r s = subst (λ (h : HeapState). IfOk r (IsShownOf h)) (sym heap) (step_event old taken acted given kept.running r s)
 
-  pub whole_trapped : TakesOneBlock acted.queues new.queues (length (acting_words (core_in old) acted) + 1) → (r : Result PackedEvent AllocError) → IsStepBy (core_in old) taken acted r
-      → (at : Span) → r ≡ Ok (packed.Trapped at) → IsUnchanged old last
-  whole_trapped down r s at e = let acts : IsStepBy (core_in old) taken acted (Ok (packed.Trapped at)) = subst (IsStepBy (core_in old) taken acted) e s in unchanged down acts.1
+  pub whole_trapped : TakesOneBlock acted.queues new.queues (length (acting_words (core_in old) acted) + 1) → (r : Result Shown AllocError) → IsStepBy (core_in old) taken acted r
+      → (at : Span) → r ≡ Ok (shows.Trapped at) → IsUnchanged old last
+  whole_trapped down r s at e = let acts : IsStepBy (core_in old) taken acted (Ok (shows.Trapped at)) = subst (IsStepBy (core_in old) taken acted) e s in unchanged down acts.1
 
-  pub whole_refused : TakesOneBlock acted.queues new.queues (length (acting_words (core_in old) acted) + 1) → (r : Result PackedEvent AllocError) → IsStepBy (core_in old) taken acted r
+  pub whole_refused : TakesOneBlock acted.queues new.queues (length (acting_words (core_in old) acted) + 1) → (r : Result Shown AllocError) → IsStepBy (core_in old) taken acted r
       → OnErr r (IsUnchanged old last)
   whole_refused down (Ok e) b = tt
   whole_refused down (Err e) b = unchanged down b
 
-  pub whole_keeps : (r : Result PackedEvent AllocError) → IsStepBy (core_in old) taken acted r → KeepsWords (heap_of old) new.desk.heap
+  pub whole_keeps : (r : Result Shown AllocError) → IsStepBy (core_in old) taken acted r → KeepsWords (heap_of old) new.desk.heap
   whole_keeps r s = subst (λ (h : HeapState). KeepsWords (heap_of old) h) (sym heap) (step_keeps old taken acted given kept.running r s)
 
-  pub whole_queues : TakesOneBlock acted.queues new.queues (length (acting_words (core_in old) acted) + 1) → (r : Result PackedEvent AllocError) → IsStepBy (core_in old) taken acted r
+  pub whole_queues : TakesOneBlock acted.queues new.queues (length (acting_words (core_in old) acted) + 1) → (r : Result Shown AllocError) → IsStepBy (core_in old) taken acted r
       → LosesNoQueue old.store.queues new.queues
   whole_queues down r s = let least = step_queues old taken acted given kept.running r s in let back = down.queues in omega (arith, least, count, back)
 
-  pub whole_few : (r : Result PackedEvent AllocError) → IsStepBy (core_in old) taken acted r → channels_of last ≤ channels_of old + 1
+  pub whole_few : (r : Result Shown AllocError) → IsStepBy (core_in old) taken acted r → channels_of last ≤ channels_of old + 1
   whole_few r s = let e = step_few old taken acted given kept.running r s in omega (arith, e, count)
 
-  pub whole_kept : IsStore (core_in old) new → new.turn ≡ Nobody → HoldsNoMore acted.queues new.queues → IsRightFor (view_of old) 1 → (r : Result PackedEvent AllocError) → IsStepBy (core_in old) taken acted r → IsMachine last
+  pub whole_kept : IsStore (core_in old) new → new.turn ≡ Nobody → HoldsNoMore acted.queues new.queues → IsRightFor (view_of old) 1 → (r : Result Shown AllocError) → IsStepBy (core_in old) taken acted r → IsMachine last
   whole_kept store idle no_more right r s =
       machine_rested (record old { store = acted })
       (step_kept old taken acted given kept.running (subst (λ (v : View). IsRightFor v 1) (sym (idle_view old kept)) right) r s)

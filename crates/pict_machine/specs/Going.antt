@@ -6,21 +6,21 @@ use Rattle.pict_core.specs.Step.{Label, Quiet, Comm, Print}
 use Rattle.pict_core.specs.Run.{Reaches}
 use Rattle.pict_view.specs.View.{View, StandsFor}
 use Rattle.pict_view.specs.Stepping.{IsStepOf}
-use Rattle.pict_turns.specs.Packed.{label_packed, trap_packed, IsPackedOf}
+use Rattle.pict_turns.specs.Shown.{label_shown, trap_shown, IsShownOf}
 use Rattle.pict_machine.specs.Machine.{running_view, heap_of}
-use Rattle.pict_turns.specs.declared.event.PackedEvent.{PackedEvent}
-use Rattle.pict_turns.specs.declared.event.PackedEvent.TheVariants as packed
+use Rattle.pict_turns.specs.declared.event.Shown.{Shown}
+use Rattle.pict_turns.specs.declared.event.Shown.TheVariants as shows
 use Rattle.pict_machine.specs.declared.event.End.{End}
 use Rattle.pict_machine.specs.declared.event.End.TheVariants as end
 use Rattle.pict_machine.specs.declared.machine.Machine.{Machine}
 use Rattle.pict_machine.specs.declared.stepping.Steps.{Steps}
 
 -- an event that a run passes over: a quiet one, and a communication where these are passed over
-abbrev pub IsPassed : Bool → PackedEvent → Type 0
-IsPassed passes packed.Quiet = Unit {0}
-IsPassed passes (packed.Comm channel value) = IsTrue passes
-IsPassed passes (packed.Print word) = ⊥
-IsPassed passes (packed.Trapped at) = ⊥
+abbrev pub IsPassed : Bool → Shown → Type 0
+IsPassed passes shows.Quiet = Unit {0}
+IsPassed passes (shows.Comm channel value) = IsTrue passes
+IsPassed passes (shows.Print word) = ⊥
+IsPassed passes (shows.Trapped at) = ⊥
 
 -- The labels that some steps show are passed over: they are communications alone, and there are some only where these are passed
 -- over.
@@ -38,19 +38,19 @@ GoesPast passes n v w = (C : Configuration) → IsConfiguration C → StandsFor 
 
 -- The step from each configuration for which the view stands has this event, by words of the machine's heap, and the machine
 -- stands for the configuration after it.
-pub record HasEvent (v : View) (new : Machine) (e : PackedEvent) : Type 0 where
-  pub step : (D : Configuration) → IsConfiguration D → StandsFor v D → IsStepOf D (label_packed (heap_of new) e) (trap_packed e) (running_view new)
-  pub event : IsPackedOf (heap_of new) e
+pub record HasEvent (v : View) (new : Machine) (e : Shown) : Type 0 where
+  pub step : (D : Configuration) → IsConfiguration D → StandsFor v D → IsStepOf D (label_shown (heap_of new) e) (trap_shown e) (running_view new)
+  pub event : IsShownOf (heap_of new) e
 
 -- What comes after the steps that are passed over, which led to this view. A further step has this event. Or there is none, since
 -- as many are made as may be, or nobody is next. Or memory is wanting for it.
-abbrev pub ThenComes : View → Machine → ℕ → ℕ → Result (Option PackedEvent) AllocError → Type 0
+abbrev pub ThenComes : View → Machine → ℕ → ℕ → Result (Option Shown) AllocError → Type 0
 ThenComes v new most passed (Ok (Some e)) = (passed < most) × HasEvent v new e
 ThenComes v new most passed (Ok None) = (running_view new ≡ v) × ((passed ≡ most) ⊎ (v.ready ≡ []))
 ThenComes v new most passed (Err error) = (passed < most) × (running_view new ≡ v)
 
 -- At most so many steps are made: these many are passed over, and this comes then.
-pub record GoesOn (passes : Bool) (old new : Machine) (most passed : ℕ) (event : Result (Option PackedEvent) AllocError) : Type 0 where
+pub record GoesOn (passes : Bool) (old new : Machine) (most passed : ℕ) (event : Result (Option Shown) AllocError) : Type 0 where
   pub between : View
   pub few : passed ≤ most
   pub past : GoesPast passes passed (running_view old) between

@@ -54,8 +54,8 @@ abbrev pub heap_need_of : Machine → Need
 heap_need_of m = heap_need (core_in m) m.store
 
 -- the next step is a plain meeting of a message and an input
-abbrev pub MeetsPlainly : Machine → Type 0
-MeetsPlainly m = plain.MeetsPlainly (core_in m) m.store
+abbrev pub MeetsInPlace : Machine → Type 0
+MeetsInPlace m = plain.MeetsInPlace (core_in m) m.store
 
 -- what the next step of a run may cost: that of who has the turn, or else of the first of the ready processes
 abbrev pub running_cost : Machine → ℕ
@@ -70,8 +70,8 @@ abbrev pub running_need_of : Machine → Need
 running_need_of m = running_need (core_in m) m.store
 
 -- the next step of a run is a plain meeting of a message and an input
-abbrev pub RunsPlainly : Machine → Type 0
-RunsPlainly m = plain.RunsPlainly (core_in m) m.store
+abbrev pub RunsInPlace : Machine → Type 0
+RunsInPlace m = plain.RunsInPlace (core_in m) m.store
 
 -- the view of a machine that runs, in which somebody may have the turn
 abbrev pub running_view : Machine → View

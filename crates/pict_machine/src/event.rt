@@ -2,12 +2,12 @@
 ghost use Rattle.std.specs.Prelude.{◌≡◌};
 ghost use Rattle.pict_heap.specs.HeapState.{HeapState};
 ghost use Rattle.pict_machine.specs.Events.{label_of, trap_of, IsEventOf};
-ghost use Rattle.pict_turns.specs.Packed.{label_packed, trap_packed, IsPackedOf};
+ghost use Rattle.pict_turns.specs.Shown.{label_shown, trap_shown, IsShownOf};
 
 use pict_desk::word_at;
 use pict_heap::Word;
 use pict_syntax::Span;
-use pict_turns::PackedEvent;
+use pict_turns::Shown;
 use std::alloc::AllocError;
 use thiserror::Error;
 
@@ -84,19 +84,19 @@ impl Event {
 
 // The event itself, with the value that is received as a word.
 #[inline(always)]
-pub(crate) fn unpacked(event: PackedEvent) -> Event
-    requires { (h : HeapState) × IsPackedOf h event }
-    ensures label { (h : HeapState) → IsPackedOf h event → label_of h result ≡ label_packed h event }
-    ensures event { (h : HeapState) → IsPackedOf h event → IsEventOf h result }
-    ensures trap { trap_of result ≡ trap_packed event }
+pub(crate) fn unpacked(event: Shown) -> Event
+    requires { (h : HeapState) × IsShownOf h event }
+    ensures label { (h : HeapState) → IsShownOf h event → label_of h result ≡ label_shown h event }
+    ensures event { (h : HeapState) → IsShownOf h event → IsEventOf h result }
+    ensures trap { trap_of result ≡ trap_shown event }
 {
     match event {
-        PackedEvent::Quiet => Event::Quiet,
-        PackedEvent::Comm { channel, value } => Event::Comm {
+        Shown::Quiet => Event::Quiet,
+        Shown::Comm { channel, value } => Event::Comm {
             channel,
             value: word_at(value),
         },
-        PackedEvent::Print(word) => Event::Print(word),
-        PackedEvent::Trapped(at) => Event::Trapped(at),
+        Shown::Print(word) => Event::Print(word),
+        Shown::Trapped(at) => Event::Trapped(at),
     }
 }

@@ -138,13 +138,13 @@ impl Machine {
         ensures torn_stays { (v : List ℕ) (n : ℕ) (l : Label) (after : List ℕ) → W.torn watcher.new v n l after ↔ W.torn watcher.old v n l after }
         ensures same { W.same watcher.old watcher.new }
     {
-        let answer = self.run_on(fuel, watcher);
+        let answer = self.watch(fuel, watcher);
         self.rest();
         answer
     }
 
     // The same, but that somebody may have the turn before and afterwards.
-    fn run_on<W: Watcher>(&mut self, fuel: u64, watcher: &mut W) -> Result<Stopped, RunError>
+    fn watch<W: Watcher>(&mut self, fuel: u64, watcher: &mut W) -> Result<Stopped, RunError>
         requires kept { IsRunning self.old }
         requires fuel { fuel ≤ FUEL_LIMIT }
         requires few { channels_of self.old + fuel < 2 ^ 32 }
@@ -167,7 +167,7 @@ impl Machine {
         let passes = watcher.passes();
         let mut done = 0;
         while done < fuel {
-            let Gone { passed, event } = self.go_on(fuel - done, passes);
+            let Gone { passed, event } = self.skip_quiet(fuel - done, passes);
             done += passed;
             let event = match event? {
                 Some(packed) => unpacked(packed),

@@ -15,8 +15,8 @@ ghost use Rattle.pict_desk.specs.Code.{core_in, IsCode};
 ghost use Rattle.pict_turns.specs.Views.{view_with_turn};
 ghost use Rattle.pict_turns.specs.Widths.{MakesOnly};
 ghost use Rattle.pict_machine.specs.Events.{label_of, trap_of, IsEventOf};
-ghost use Rattle.pict_turns.specs.Packed.{label_packed, trap_packed, IsPackedOf};
-ghost use Rattle.pict_machine.specs.Machine.{IsMachine, IsRunning, IsUnchanged, MeetsPlainly, RunsPlainly, running_view, running_cost, running_widths, view_of, heap_of, queues_of, channels_of, cost_of, widths_of, heap_need_of, running_need_of};
+ghost use Rattle.pict_turns.specs.Shown.{label_shown, trap_shown, IsShownOf};
+ghost use Rattle.pict_machine.specs.Machine.{IsMachine, IsRunning, IsUnchanged, MeetsInPlace, RunsInPlace, running_view, running_cost, running_widths, view_of, heap_of, queues_of, channels_of, cost_of, widths_of, heap_need_of, running_need_of};
 ghost use Rattle.pict_machine.specs.Bounds.{greatest_cost_of, SpendsAtMost};
 ghost use Rattle.pict_machine.specs.Going.{GoesOn, IsPassed, MakesSteps};
 ghost use Rattle.pict_turns.specs.Stepping.{GivesTurn};
@@ -26,7 +26,7 @@ use crate::machine::Machine;
 use pict_acting::{Received, act, call_at_once};
 use pict_code::Node;
 use pict_syntax::Span;
-use pict_turns::{PackedEvent, Store, Turn, return_turn, take_turn};
+use pict_turns::{Shown, Store, Turn, return_turn, take_turn};
 use std::alloc::AllocError;
 
 /// Who asks for a step that is made alone.
@@ -40,7 +40,7 @@ pub(crate) struct Gone {
     // How many steps are passed over, one after the other.
     pub(crate) passed: u64,
     // The event of the step after them, if there is one.
-    pub(crate) event: Result<Option<PackedEvent>, AllocError>,
+    pub(crate) event: Result<Option<Shown>, AllocError>,
 }
 
 // Steps that are made in one go.
@@ -48,7 +48,7 @@ pub(crate) struct Steps {
     // How many show nothing, before the last one.
     pub(crate) quiet: u64,
     // The event of the last one.
-    pub(crate) event: PackedEvent,
+    pub(crate) event: Shown,
 }
 
 // Somebody has the turn afterwards: who has it, or else the first of queue 0, whose block is free then. Takes no memory.
@@ -67,12 +67,12 @@ fn ensure_turn(store: &mut Store, code: &[Node])
 
 // Whether a run passes over the event: over communications only where it is told to.
 #[inline(always)]
-fn is_passed(event: &PackedEvent, passes: bool) -> bool
+fn is_passed(event: &Shown, passes: bool) -> bool
     ensures { IsTrue result → IsPassed passes event.now }
 {
     match event {
-        PackedEvent::Quiet => true,
-        PackedEvent::Comm { .. } => passes,
+        Shown::Quiet => true,
+        Shown::Comm { .. } => passes,
         _ => false,
     }
 }
@@ -112,35 +112,35 @@ impl Machine {
         ensures work { CostsAtMost (cost_of self.old) (queues_of self.old) (queues_of self.new) }
         ensures blocks { MakesOnly (queues_of self.old) (queues_of self.new) (widths_of self.old) }
         ensures adds { UsesNeed (heap_of self.old).room (heap_of self.new).room (heap_need_of self.old) }
-        ensures plain_adds { MeetsPlainly self.old → UsesNeed (heap_of self.old).room (heap_of self.new).room no_need }
-        ensures plain { MeetsPlainly self.old
+        ensures plain_adds { MeetsInPlace self.old → UsesNeed (heap_of self.old).room (heap_of self.new).room no_need }
+        ensures plain { MeetsInPlace self.old
             → IsOk result × KeepsBlocks (queues_of self.old).region (queues_of self.new).region }
         ensures channels { channels_of self.new ≤ channels_of self.old + 1 }
         ensures queues { LosesNoQueue (queues_of self.old) (queues_of self.new) }
     {
-        match self.step_packed() {
+        match self.step_shown() {
             Ok(event) => Ok(unpacked(event)),
             Err(error) => Err(error),
         }
     }
 
     // The same, and the event is packed.
-    fn step_packed(&mut self) -> Result<PackedEvent, AllocError>
+    fn step_shown(&mut self) -> Result<Shown, AllocError>
         requires kept { IsMachine self.old }
         requires ready { (view_of self.old).ready ≢ [] }
         requires few { channels_of self.old + 1 < 2 ^ 32 }
         requires right { IsRightFor (view_of self.old) 1 }
         ensures kept { IsMachine self.new }
         ensures ok { IfOk result (λ event. (C : Configuration) → IsConfiguration C → StandsFor (view_of self.old) C
-            → IsStepOf C (label_packed (heap_of self.new) event) (trap_packed event) (view_of self.new)) }
-        ensures event { IfOk result (IsPackedOf (heap_of self.new)) }
-        ensures trapped { (at : Span) → result ≡ Ok (PackedEvent.Trapped at) → IsUnchanged self.old self.new }
+            → IsStepOf C (label_shown (heap_of self.new) event) (trap_shown event) (view_of self.new)) }
+        ensures event { IfOk result (IsShownOf (heap_of self.new)) }
+        ensures trapped { (at : Span) → result ≡ Ok (Shown.Trapped at) → IsUnchanged self.old self.new }
         ensures refused { OnErr result (IsUnchanged self.old self.new) }
         ensures keeps { KeepsWords (heap_of self.old) (heap_of self.new) }
         ensures work { CostsAtMost (cost_of self.old) (queues_of self.old) (queues_of self.new) }
         ensures blocks { MakesOnly (queues_of self.old) (queues_of self.new) (widths_of self.old) }
         ensures adds { UsesNeed (heap_of self.old).room (heap_of self.new).room (heap_need_of self.old) }
-        ensures plain { MeetsPlainly self.old
+        ensures plain { MeetsInPlace self.old
             → IsOk result × KeepsBlocks (queues_of self.old).region (queues_of self.new).region }
         ensures channels { channels_of self.new ≤ channels_of self.old + 1 }
         ensures queues { LosesNoQueue (queues_of self.old) (queues_of self.new) }
@@ -165,21 +165,21 @@ impl Machine {
 
     // One step of a run, of who has the turn, or else of the first of queue 0: as `step` says, but that somebody may have the
     // turn afterwards.
-    pub(crate) fn advance(&mut self) -> Result<PackedEvent, AllocError>
+    pub(crate) fn step_held(&mut self) -> Result<Shown, AllocError>
         requires kept { IsRunning self.old }
         requires ready { (running_view self.old).ready ≢ [] }
         requires few { channels_of self.old + 1 < 2 ^ 32 }
         requires right { IsRightFor (running_view self.old) 1 }
         ensures kept { IsRunning self.new }
         ensures ok { IfOk result (λ event. (C : Configuration) → IsConfiguration C → StandsFor (running_view self.old) C
-            → IsStepOf C (label_packed (heap_of self.new) event) (trap_packed event) (running_view self.new)) }
-        ensures event { IfOk result (IsPackedOf (heap_of self.new)) }
+            → IsStepOf C (label_shown (heap_of self.new) event) (trap_shown event) (running_view self.new)) }
+        ensures event { IfOk result (IsShownOf (heap_of self.new)) }
         ensures refused { OnErr result (running_view self.new ≡ running_view self.old) }
         ensures keeps { KeepsWords (heap_of self.old) (heap_of self.new) }
         ensures work { CostsAtMost (running_cost self.old) (queues_of self.old) (queues_of self.new) }
         ensures blocks { MakesOnly (queues_of self.old) (queues_of self.new) (running_widths self.old) }
         ensures adds { UsesNeed (heap_of self.old).room (heap_of self.new).room (running_need_of self.old) }
-        ensures plain { RunsPlainly self.old
+        ensures plain { RunsInPlace self.old
             → IsOk result × KeepsBlocks (queues_of self.old).region (queues_of self.new).region }
         ensures channels { channels_of self.new ≤ channels_of self.old + 1 }
         ensures queues { LosesNoQueue (queues_of self.old) (queues_of self.new) }
@@ -210,10 +210,10 @@ impl Machine {
         match call_at_once(&self.code.nodes, &mut self.store, most)? {
             Some(Received { channel, value }) => Ok(Steps {
                 quiet: 4,
-                event: PackedEvent::Comm { channel, value },
+                event: Shown::Comm { channel, value },
             }),
             None => {
-                let event = self.advance()?;
+                let event = self.step_held()?;
                 Ok(Steps { quiet: 0, event })
             }
         }
@@ -224,7 +224,7 @@ impl Machine {
     //
     // It is no part of the loops that show events, of which each watcher has its own: so there is one copy of the step.
     #[inline(never)]
-    pub(crate) fn go_on(&mut self, most: u64, passes: bool) -> Gone
+    pub(crate) fn skip_quiet(&mut self, most: u64, passes: bool) -> Gone
         requires kept { IsRunning self.old }
         requires few { channels_of self.old + most < 2 ^ 32 }
         requires right { IsRightFor (running_view self.old) most }

@@ -1,7 +1,7 @@
 // The worked row of the queues, and a long queue.
 ghost use Rattle.std.specs.Prelude.{◌≡◌, ◌+◌, ◌<◌, ◌≤◌, length};
 ghost use Rattle.pict_region.specs.RegionState.{spare};
-ghost use Rattle.pict_queue.specs.QueuesState.{IsQueue, list_of};
+ghost use Rattle.pict_queue.specs.QueuesState.{IsQueue, queue_blocks};
 
 use pict_queue::{QueueId, Queues};
 use std::alloc::AllocError;
@@ -11,7 +11,7 @@ fn build(queues: &mut Queues, q: QueueId, n: u64)
     requires queue { IsQueue queues.old q.0 }
     requires spare { n ≤ spare queues.old.region 2 }
     ensures queue { IsQueue queues.new q.0 }
-    ensures longer { length (list_of queues.new q.0) ≡ length (list_of queues.old q.0) + n }
+    ensures longer { length (queue_blocks queues.new q.0) ≡ length (queue_blocks queues.old q.0) + n }
 {
     for _ in 0..n {
         let block = queues.take(2);
@@ -22,8 +22,8 @@ fn build(queues: &mut Queues, q: QueueId, n: u64)
 // Pops each block of a queue and gives it back, and answers how many there were.
 fn drain(queues: &mut Queues, q: QueueId) -> u64
     requires queue { IsQueue queues.old q.0 }
-    ensures count { result ≡ length (list_of queues.old q.0) }
-    ensures empty { length (list_of queues.new q.0) ≡ 0 }
+    ensures count { result ≡ length (queue_blocks queues.old q.0) }
+    ensures empty { length (queue_blocks queues.new q.0) ≡ 0 }
     ensures queue { IsQueue queues.new q.0 }
 {
     let length = queues.length(q);
@@ -73,10 +73,10 @@ fn values_are_read_in_place(rt: HostRuntime) -> Result<(), AllocError> {
     let mut queues = Queues::new(rt.alloc());
     let queue = queues.add_queue()?;
     queues.reserve(6, 1)?;
-    let block = queues.take_values(6, 9, &[0, 2], &[(1, 2), (3, 4), (5, 6)]);
+    let block = queues.take_gathered(6, 9, &[0, 2], &[(1, 2), (3, 4), (5, 6)]);
     queues.push_front(queue, block);
     let mut values = [(0, 0); 3];
-    queues.peek_values(queue, 2, &[0, 2], &mut values);
+    queues.scatter_first(queue, 2, &[0, 2], &mut values);
     assert_eq!(rt; values, [(1, 2), (0, 0), (5, 6)]);
     let work = queues.work();
     queues.move_front(queue, queue);

@@ -31,7 +31,7 @@ fn followed(alloc: Global, scope: &TypeScope, t: &Ty) -> Result<Option<Ty>, Allo
 }
 
 /// The type that was followed, or else the one that is given.
-fn shown<'a>(followed: &'a Option<Ty>, t: &'a Ty) -> &'a Ty
+fn changed_or_same<'a>(followed: &'a Option<Ty>, t: &'a Ty) -> &'a Ty
     ensures { plain result.now ≡ followed_or followed.now (plain t.now) }
 {
     match followed {
@@ -90,7 +90,7 @@ fn match_contents(
     ensures { Finds result (by_channel (scope_context scope.now) inner (plain wanted.now) (plain given.now)) (found_in found.old) (found_in found.new) }
 {
     let followed = followed(alloc, scope, given)?;
-    match shown(&followed, given) {
+    match changed_or_same(&followed, given) {
         Ty::Chan(_, g) => match_at(alloc, names, scope, inner, wanted, g, found),
         _ => Ok(()),
     }
@@ -114,7 +114,7 @@ fn match_body(
     ensures { Finds result (by_body (scope_context scope.now) inner (plain wanted.now) (plain given.now)) (found_in found.old) (found_in found.new) }
 {
     let followed = followed(alloc, scope, given)?;
-    match shown(&followed, given) {
+    match changed_or_same(&followed, given) {
         Ty::Rec(g) => {
             let inside = TypeScope::Recursive(&*scope);
             match_at(alloc, names, &inside, deeper(inner, 1)?, wanted, g, found)
@@ -143,7 +143,7 @@ fn match_arguments(
         (found_in found.old) (found_in found.new) }
 {
     let followed = followed(alloc, scope, given)?;
-    match shown(&followed, given) {
+    match changed_or_same(&followed, given) {
         Ty::Apply(j, us) => {
             if is_same_head(inner, i, *j, found) {
                 match_types(alloc, names, scope, inner, wanted, us, found)
@@ -173,7 +173,7 @@ fn match_record(
     ensures { Finds result (by_record (scope_context scope.now) inner wanted.now (plain given.now)) (found_in found.old) (found_in found.new) }
 {
     let followed = followed(alloc, scope, given)?;
-    match shown(&followed, given) {
+    match changed_or_same(&followed, given) {
         Ty::Fields(q) => match_records(alloc, names, scope, inner, wanted, q, found),
         _ => Ok(()),
     }

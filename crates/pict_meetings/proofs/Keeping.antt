@@ -6,7 +6,7 @@ use Rattle.pict_core.specs.Term.{Process}
 use Rattle.pict_code.specs.Instruction.{Node}
 use Rattle.pict_code.specs.Levels.{has}
 use Rattle.pict_code.specs.Nodes.{nodes_of}
-use Rattle.pict_blocks.specs.Framed.{frame_words}
+use Rattle.pict_blocks.specs.Framed.{gathered}
 use Rattle.pict_desk.specs.Known.{pair_at, value_in, known}
 use Rattle.pict_heap.specs.HeapState.{HeapState}
 use Rattle.pict_turns.specs.Turns.{IsTurn}
@@ -28,10 +28,10 @@ each_level P (l ∷ ls) holds =
     (holds l (ap (λ b. b || has l ls) here), each_level P ls (λ level h. holds level (either (level == l) (has level ls) h)))
 
 module _ (before after : List (ℕ × ℕ)) where
-  words_same : (frame : List ℕ) → AllByRecursion (λ level. pair_at after level ≡ pair_at before level) frame → frame_words after frame ≡ frame_words before frame
+  words_same : (frame : List ℕ) → AllByRecursion (λ level. pair_at after level ≡ pair_at before level) frame → gathered after frame ≡ gathered before frame
   words_same [] same = refl
   words_same (l ∷ ls) same =
-      ap (λ (p : ℕ × ℕ). p.0 ∷ p.1 ∷ frame_words after ls) same.0 ∙ ap (λ ws. (pair_at before l).0 ∷ (pair_at before l).1 ∷ ws) (words_same ls same.1)
+      ap (λ (p : ℕ × ℕ). p.0 ∷ p.1 ∷ gathered after ls) same.0 ∙ ap (λ ws. (pair_at before l).0 ∷ (pair_at before l).1 ∷ ws) (words_same ls same.1)
 
   known_same : (h : HeapState) (frame : List ℕ) → AllByRecursion (λ level. pair_at after level ≡ pair_at before level) frame → map (known h after) frame ≡ map (known h before) frame
   known_same h [] same = refl
@@ -42,10 +42,10 @@ module _ (before after : List (ℕ × ℕ)) where
 
 module _ (core : Process) (before after : List (ℕ × ℕ)) (number : ℕ) (node : Node) (held : List ℕ) (at : slice_get (nodes_of core) number ≡ Some node)
     (same : AllByRecursion (λ level. pair_at after level ≡ pair_at before level) node.frame) where
-  node_kept : (n : ℕ) (frame : List ℕ) → frame ≡ node.frame → (suc n ∷ frame_words after frame) ∷ [] ≡ (suc n ∷ frame_words before frame) ∷ []
+  node_kept : (n : ℕ) (frame : List ℕ) → frame ≡ node.frame → (suc n ∷ gathered after frame) ∷ [] ≡ (suc n ∷ gathered before frame) ∷ []
   node_kept n frame e =
-      ap (λ ls. (suc n ∷ frame_words after ls) ∷ []) e ∙ ap (λ ws. (suc n ∷ ws) ∷ []) (words_same before after node.frame same)
-      ∙ sym (ap (λ ls. (suc n ∷ frame_words before ls) ∷ []) e)
+      ap (λ ls. (suc n ∷ gathered after ls) ∷ []) e ∙ ap (λ ws. (suc n ∷ ws) ∷ []) (words_same before after node.frame same)
+      ∙ sym (ap (λ ls. (suc n ∷ gathered before ls) ∷ []) e)
 
   pub words_kept : (t : Turn) → words_of_turn (nodes_of core) before t ≡ (suc number ∷ held) ∷ [] → words_of_turn (nodes_of core) after t ≡ words_of_turn (nodes_of core) before t
   words_kept Nobody e = refl

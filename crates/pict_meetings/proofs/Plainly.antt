@@ -33,7 +33,7 @@ use Rattle.pict_turns.specs.Widths.{MakesOnly}
 use Rattle.pict_turns.specs.declared.store.Store.{Store}
 use Rattle.pict_blocks.proofs.Holding.{width_narrow}
 use Rattle.pict_desk.proofs.Numbered.{same_frame}
-use Rattle.pict_turns.specs.Plain.{IsPlainInput, SendsPlainly, ReceivesPlainly}
+use Rattle.pict_turns.specs.Plain.{IsPlainInput, SendsInPlace, ReceivesInPlace}
 use Rattle.pict_meetings.specs.Sending.{EndsAsWide}
 
 -- ---- the input that waits first
@@ -50,7 +50,7 @@ plain_reader nodes (suc number ∷ held) part others i = there (slice_get nodes 
     there (Some n) at e = (number, i.pattern, refl, record { node = n; at = at; chan = i.chan; is = let f : Some n.op ≡ Some (op.In i.chan i.pattern part) = e in cc })
 
 -- an output that meets an input plainly, on this channel
-module _ (core : Process) (s : Store) (acting : List ℕ) (channel : ℕ) (v : Val) (at : Span) (is : process_of core (value_in s.desk.heap) acting ≡ term.Out (Chan channel) v at) (x : SendsPlainly core s acting) where
+module _ (core : Process) (s : Store) (acting : List ℕ) (channel : ℕ) (v : Val) (at : Span) (is : process_of core (value_in s.desk.heap) acting ≡ term.Out (Chan channel) v at) (x : SendsInPlace core s acting) where
   sent_on : x.channel ≡ channel
   sent_on = let e : term.Out (Chan x.channel) x.message x.at ≡ term.Out (Chan channel) v at = sym x.out ∙ is in cc
 
@@ -64,7 +64,7 @@ module _ (core : Process) (s : Store) (acting : List ℕ) (channel : ℕ) (v : V
 
 -- an input that meets an output plainly, on this channel
 module _ (core : Process) (s : Store) (acting : List ℕ) (channel : ℕ) (replicated : Bool) (pattern : Pat) (body : Process)
-    (is : process_of core (value_in s.desk.heap) acting ≡ term.In (Chan channel) replicated pattern body) (x : ReceivesPlainly core s acting) where
+    (is : process_of core (value_in s.desk.heap) acting ≡ term.In (Chan channel) replicated pattern body) (x : ReceivesInPlace core s acting) where
   received_from : x.channel ≡ channel
   received_from = let e : term.In (Chan x.channel) false x.pattern x.body ≡ term.In (Chan channel) replicated pattern body = sym x.receives ∙ is in cc
 
@@ -126,7 +126,7 @@ module _ (code : List written.Node) (is : IsCode (map plain_node code)) (s : Sto
       (first_reused (block_width frame) (suc reader ∷ f.held) [] (reader_wide e.own f.held f.rest f.is e.has ∙ e.wide))
 
   module _ (v : Val) (at : Span) (out : process_of (core_in code) (value_in s.desk.heap) (acting_words (core_in code) s) ≡ term.Out (Chan channel) v at)
-      (x : SendsPlainly (core_in code) s (acting_words (core_in code) s)) where
+      (x : SendsInPlace (core_in code) s (acting_words (core_in code) s)) where
     -- the input that waits first is the one that meets plainly
     pub served : (pattern : CodePat) × IsInputWith (map plain_node code) reader false pattern x.part
     served =
@@ -179,7 +179,7 @@ same_part true v w p q l m e = cc
 same_part false v w p q l m e = cc
 
 -- what waits first is a message
-pub message_length : (core : Process) (s : Store) (acting : List ℕ) → IsStore core s → (x : ReceivesPlainly core s acting) → length (zero ∷ x.held) ≡ 8
+pub message_length : (core : Process) (s : Store) (acting : List ℕ) → IsStore core s → (x : ReceivesInPlace core s acting) → length (zero ∷ x.held) ≡ 8
 message_length core s acting store x =
     let f = first_message core s.desk.heap (contents s.queues (x.channel + 1)) (store.blocks (x.channel + 1)) (ap oldest x.waits) in
     let both : (zero ∷ x.held) ∷ x.others ≡ kept_words f.kept ∷ f.rest = sym x.waits ∙ f.is in
@@ -191,7 +191,7 @@ even_width : (frame : List ℕ) → length frame ≤ NARROW_LIMIT → 9 ≡ bloc
 even_width frame narrow e = let w = width_narrow frame narrow in omega (arith, w, e)
 
 -- a block of the part's width is free, also that of who has the turn
-module _ (core : Process) (s : Store) (own_room : 1 ≤ spare s.queues.region (length (acting_words core s) + 1)) (x : ReceivesPlainly core s (acting_words core s)) (message : length (zero ∷ x.held) ≡ 8) where
+module _ (core : Process) (s : Store) (own_room : 1 ≤ spare s.queues.region (length (acting_words core s) + 1)) (x : ReceivesInPlace core s (acting_words core s)) (message : length (zero ∷ x.held) ≡ 8) where
   receives_room : 1 ≤ spare s.queues.region (block_width x.room.frame)
   receives_room = cases x.room.room
     where

@@ -18,7 +18,7 @@ ghost use Rattle.pict_turns.specs.Growing.{AddsAtMost, part_need};
 ghost use Rattle.pict_turns.specs.Turns.{turn_cost};
 ghost use Rattle.pict_turns.specs.Views.{acting_words};
 ghost use Rattle.pict_turns.specs.Widths.{MakesOnly};
-ghost use Rattle.pict_turns.specs.Plain.{ReceivesPlainly, TakesNothing};
+ghost use Rattle.pict_turns.specs.Plain.{ReceivesInPlace, TakesNoMemory};
 ghost use Rattle.pict_turns.specs.Stepping.{MayAct, IsStepBy, StepsBy};
 
 use crate::meeting::meet_message;
@@ -29,7 +29,7 @@ use pict_blocks::{KEPT_WIDTH, block_width};
 use pict_code::{CodePat, Node, Operand};
 use pict_desk::channel_at_hand;
 use pict_prim::NO_NEED;
-use pict_turns::{PackedEvent, Store, Turn, frame_at, reserve_part};
+use pict_turns::{Shown, Store, Turn, frame_at, reserve_part};
 use std::alloc::AllocError;
 
 /// The width of the block that who has the turn would have, in words. Takes no memory.
@@ -77,7 +77,7 @@ fn receive_message(
     replicated: bool,
     pattern: &CodePat,
     part: u32,
-) -> Result<PackedEvent, AllocError>
+) -> Result<Shown, AllocError>
     requires may { MayAct code.now store.old }
     requires receives { Receives (core_in code.now) store.old channel replicated (plain_pat pattern.now) part }
     requires first { waits_first store.old.queues channel ≡ Waiting.Output }
@@ -89,13 +89,13 @@ fn receive_message(
     ensures blocks { (frame : List ℕ) → HasFrame (map plain_node code.now) part frame
         → MakesOnly store.old.queues store.new.queues ((length (acting_words (core_in code.now) store.old) + 1) ∷ block_width frame ∷ []) }
     ensures adds { AddsAtMost store.old store.new (part_need (map plain_node code.now) part) }
-    ensures plain { ReceivesPlainly (core_in code.now) store.old (acting_words (core_in code.now) store.old) → TakesNothing store.old store.new result }
+    ensures plain { ReceivesInPlace (core_in code.now) store.old (acting_words (core_in code.now) store.old) → TakesNoMemory store.old store.new result }
 {
     let width = acting_width(code, store);
     let frame = frame_at(code, part as usize);
     reserve_part_of_input(store, frame, width, replicated)?;
     let value = meet_message(store, code, channel, pattern, part, replicated);
-    Ok(PackedEvent::Comm { channel, value })
+    Ok(Shown::Comm { channel, value })
 }
 
 // The step of an input from a channel.
@@ -107,7 +107,7 @@ fn receive(
     replicated: bool,
     pattern: &CodePat,
     part: u32,
-) -> Result<PackedEvent, AllocError>
+) -> Result<Shown, AllocError>
     requires may { MayAct code.now store.old }
     requires receives { Receives (core_in code.now) store.old channel replicated (plain_pat pattern.now) part }
     ensures steps { StepsBy code.now store.old store.new result }
@@ -116,7 +116,7 @@ fn receive(
         Waiting::Output => { receive_message(code, store, channel, replicated, pattern, part) }
         _ => {
             park(store, code, channel);
-            Ok(PackedEvent::Quiet)
+            Ok(Shown::Quiet)
         }
     }
 }
@@ -130,7 +130,7 @@ pub fn input(
     replicated: bool,
     pattern: &CodePat,
     part: u32,
-) -> Result<PackedEvent, AllocError>
+) -> Result<Shown, AllocError>
     requires may { MayAct code.now store.old }
     requires acts { ActsBy (core_in code.now) store.old (input_op replicated (plain_val chan.now) (plain_pat pattern.now) part) }
     ensures steps { StepsBy code.now store.old store.new result }

@@ -23,7 +23,7 @@ ghost use Rattle.pict_turns.specs.Turns.{turn_cost};
 ghost use Rattle.pict_turns.specs.Views.{acting_words};
 ghost use Rattle.pict_turns.specs.Widths.{MakesOnly};
 ghost use Rattle.pict_desk.specs.Constants.{IsConstant};
-ghost use Rattle.pict_turns.specs.Plain.{SendsPlainly, TakesNothing};
+ghost use Rattle.pict_turns.specs.Plain.{SendsInPlace, TakesNoMemory};
 ghost use Rattle.pict_meetings.specs.Sending.{SendsOperand, EndsAsWide, IsReceived};
 ghost use Rattle.pict_turns.specs.Stepping.{MayAct, IsStepBy, StepsBy};
 
@@ -37,7 +37,7 @@ use pict_desk::{need, pair_there, word_of};
 use pict_heap::{Word, pack};
 use pict_prim::NO_NEED;
 use pict_syntax::Span;
-use pict_turns::{PackedEvent, Store, frame_at, reserve_kept};
+use pict_turns::{Shown, Store, frame_at, reserve_kept};
 use std::alloc::AllocError;
 
 // The number of an input's part.
@@ -101,7 +101,7 @@ fn send_to_reader(
         → MakesOnly store.old.queues store.new.queues (block_width frame ∷ []) }
     ensures adds { (replicated : Bool) (pattern : AnyPattern) (part : ℕ) → IsInputWith (map plain_node code.now) reader replicated pattern part
         → AddsAtMost store.old store.new (part_need (map plain_node code.now) part) }
-    ensures plain { SendsPlainly (core_in code.now) store.old (acting_words (core_in code.now) store.old) → TakesNothing store.old store.new result }
+    ensures plain { SendsInPlace (core_in code.now) store.old (acting_words (core_in code.now) store.old) → TakesNoMemory store.old store.new result }
 {
     let frame = reader_frame(code, reader);
     let reuses = reader_as_wide(code, reader, frame);
@@ -116,13 +116,13 @@ fn receipt(
     done: Result<(), AllocError>,
     channel: u32,
     message: (u64, u64),
-) -> Result<PackedEvent, AllocError>
+) -> Result<Shown, AllocError>
     ensures step { (core : Process) (old new : Store) → OnOk done (IsReceived core old new channel message) → OnErr done (IsRefused core old new)
         → IsStepBy core old new result }
     ensures ok { IsOk done → IsOk result }
 {
     done?;
-    Ok(PackedEvent::Comm {
+    Ok(Shown::Comm {
         channel,
         value: message,
     })
@@ -135,7 +135,7 @@ pub fn send_kept(
     store: &mut Store,
     channel: u32,
     message: (u64, u64),
-) -> Result<PackedEvent, AllocError>
+) -> Result<Shown, AllocError>
     requires may { MayAct code.now store.old }
     requires kept { SendsKept (core_in code.now) store.old channel }
     requires sends { (at : AnySpan) × Sends (core_in code.now) store.old channel message at }
@@ -148,7 +148,7 @@ pub fn send_kept(
         }
         _ => {
             park(store, code, channel);
-            Ok(PackedEvent::Quiet)
+            Ok(Shown::Quiet)
         }
     }
 }
@@ -189,7 +189,7 @@ fn park_words(
     channel: u32,
     message: (u64, u64),
     at: Span,
-) -> Result<PackedEvent, AllocError>
+) -> Result<Shown, AllocError>
     requires queue { IsQueue store.old.queues (channel + 1) }
     ensures step { (core : Process) → Sends core store.old channel message at → NoInputWaits store.old.queues channel
         → IsStepBy core store.old store.new result }
@@ -200,7 +200,7 @@ fn park_words(
 {
     reserve_kept(store, NO_NEED)?;
     park_output(store, channel, message, at);
-    Ok(PackedEvent::Quiet)
+    Ok(Shown::Quiet)
 }
 
 // The step of an output of an operand on a channel where no input waits, once the operand's word is made.
@@ -210,7 +210,7 @@ fn park_made(
     channel: u32,
     message: &Operand,
     at: Span,
-) -> Result<PackedEvent, AllocError>
+) -> Result<Shown, AllocError>
     requires queue { IsQueue store.old.queues (channel + 1) }
     requires over { IsOver (length store.old.desk.values.items) 0 (plain_val message.now) }
     requires pairs { ArePairs store.old.desk.heap store.old.desk.values.items }
@@ -229,7 +229,7 @@ fn park_made(
         &store.desk.values,
     );
     park_output(store, channel, pack(word), at);
-    Ok(PackedEvent::Quiet)
+    Ok(Shown::Quiet)
 }
 
 // The step of an output of an operand, which has this constant, on a channel where no input waits.
@@ -240,7 +240,7 @@ fn park_operand(
     message: &Operand,
     constant: &Option<Word>,
     at: Span,
-) -> Result<PackedEvent, AllocError>
+) -> Result<Shown, AllocError>
     requires queue { IsQueue store.old.queues (channel + 1) }
     requires over { IsOver (length store.old.desk.values.items) 0 (plain_val message.now) }
     requires pairs { ArePairs store.old.desk.heap store.old.desk.values.items }
@@ -266,7 +266,7 @@ fn send_made(
     channel: u32,
     reader: usize,
     message: &Operand,
-) -> Result<PackedEvent, AllocError>
+) -> Result<Shown, AllocError>
     requires may { MayAct code.now store.old }
     requires sends { (at : AnySpan) × SendsOperand (core_in code.now) store.old channel (plain_val message.now) at }
     requires first { waits_first store.old.queues channel ≡ Waiting.Input reader }
@@ -295,7 +295,7 @@ fn send_made(
     );
     let value = pack(word);
     meet_reader(store, code, channel, reader, value);
-    Ok(PackedEvent::Comm { channel, value })
+    Ok(Shown::Comm { channel, value })
 }
 
 // The step of an output of an operand, which has this constant, on a channel where an input waits.
@@ -307,7 +307,7 @@ fn send_operand(
     reader: usize,
     message: &Operand,
     constant: &Option<Word>,
-) -> Result<PackedEvent, AllocError>
+) -> Result<Shown, AllocError>
     requires may { MayAct code.now store.old }
     requires sends { (at : AnySpan) × SendsOperand (core_in code.now) store.old channel (plain_val message.now) at }
     requires first { waits_first store.old.queues channel ≡ Waiting.Input reader }
@@ -325,7 +325,7 @@ fn send_operand(
         → MakesOnly store.old.queues store.new.queues (block_width frame ∷ []) }
     ensures adds { (replicated : Bool) (pattern : AnyPattern) (part : ℕ) → IsInputWith (map plain_node code.now) reader replicated pattern part
         → AddsAtMost store.old store.new (both_needs (message_need (plain_val message.now)) (part_need (map plain_node code.now) part)) }
-    ensures plain { SendsPlainly (core_in code.now) store.old (acting_words (core_in code.now) store.old) → TakesNothing store.old store.new result }
+    ensures plain { SendsInPlace (core_in code.now) store.old (acting_words (core_in code.now) store.old) → TakesNoMemory store.old store.new result }
 {
     match pair_there(message, constant, &store.desk.values) {
         Some(pair) => {
@@ -345,7 +345,7 @@ pub fn send(
     message: &Operand,
     constant: &Option<Word>,
     at: Span,
-) -> Result<PackedEvent, AllocError>
+) -> Result<Shown, AllocError>
     requires may { MayAct code.now store.old }
     requires sends { SendsOperand (core_in code.now) store.old channel (plain_val message.now) at }
     requires constant { IsConstant store.old.desk.heap (plain_val message.now) constant.now }

@@ -7,7 +7,7 @@ use Rattle.pict_types.specs.Entries.{PlainWhat, Variable, Definition, PlainConte
 use Rattle.pict_types.specs.Fitting.{StandsForOperator, ReplacesKinds}
 use Rattle.pict_types.specs.Kinds.{Kind, proper, operator_of, kind_at, kinds, with_parameters, IsWellFormed, AreWellFormed}
 use Rattle.pict_binders.specs.Names.{place_of}
-use Rattle.pict_types.specs.Places.{arity, arity_at, names_in}
+use Rattle.pict_types.specs.Places.{arity, arity_at, entry_names}
 use Rattle.pict_types.specs.Plain.{plain, plain_types}
 use Rattle.pict_types.specs.Replacing.{Head, variable, operator, nothing}
 use Rattle.pict_normal.specs.Meanings.{entry_kinds, kind_of_what, meanings}
@@ -50,7 +50,7 @@ operator_is (Some (an_operator n y)) k x h e =
     let m : n ≡ k = cc in
     ap₂ (λ a b. Some (an_operator a b)) m (sym e)
 
-pub operator_meant : (c : PlainContext) (n i k : ℕ) → place_of (names_in c) n ≡ Some i → kind_meant (meaning c n) ≡ Some (Some k) → meaning c n ≡ Some (an_operator k ((meanings c).head_of i))
+pub operator_meant : (c : PlainContext) (n i k : ℕ) → place_of (entry_names c) n ≡ Some i → kind_meant (meaning c n) ≡ Some (Some k) → meaning c n ≡ Some (an_operator k ((meanings c).head_of i))
 operator_meant c n i k h e =
     operator_is (meaning c n) k ((meanings c).head_of i) e
     (sym (ap (head_put (meanings c)) h) ∙ (means c).heads_ n (may_be_applied (meaning c n) k e))

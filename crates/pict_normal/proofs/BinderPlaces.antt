@@ -14,7 +14,7 @@ use Rattle.pict_syntax.specs.PlainTrees.{kind_of, binder_of, binders_on}
 use Rattle.pict_normal.specs.BinderEntries.{bound_entry, entries_of, entries_under}
 use Rattle.pict_normal.specs.Normal.{Meaning, a_type, an_operator, of_entry, behind_entry, meaning, kind_bound, use_stops}
 use Rattle.pict_binders.specs.Names.{place_of}
-use Rattle.pict_types.specs.Places.{names_in, arity, arity_at, IsWhatAt}
+use Rattle.pict_types.specs.Places.{entry_names, arity, arity_at, IsWhatAt}
 use Rattle.pict_normal.specs.Raw.{IsNoDefinition}
 use Rattle.pict_types.proofs.Places.{is_what_at, arity_is}
 
@@ -103,31 +103,31 @@ place_below (m ∷ ms) n i h = go (λ j k. place_below ms n j k) (nat_eq m n) (p
     go r false None e i k = absurd (cc)
     go r false (Some j) e i k = let z : suc j ≡ i = cc in omega (arith, r j e)
 
-pub place_first : (c d : PlainContext) (n i : ℕ) → place_of (names_in c) n ≡ Some i → place_of (names_in (c ++ d)) n ≡ Some i
+pub place_first : (c d : PlainContext) (n i : ℕ) → place_of (entry_names c) n ≡ Some i → place_of (entry_names (c ++ d)) n ≡ Some i
 place_first [] d n i h = absurd (cc)
-place_first (e ∷ c) d n i h = go (λ j k. place_first c d n j k) (nat_eq e.name n) (place_of (names_in c) n) refl h
+place_first (e ∷ c) d n i h = go (λ j k. place_first c d n j k) (nat_eq e.name n) (place_of (entry_names c) n) refl h
   where
-    go : ((j : ℕ) → place_of (names_in c) n ≡ Some j → place_of (names_in (c ++ d)) n ≡ Some j) → (x : Bool) (o : Option ℕ) → place_of (names_in c) n ≡ o → (if x then Some 0 else next_variable o) ≡ Some i → (if x then Some 0 else next_variable (place_of (names_in (c ++ d)) n)) ≡ Some i
+    go : ((j : ℕ) → place_of (entry_names c) n ≡ Some j → place_of (entry_names (c ++ d)) n ≡ Some j) → (x : Bool) (o : Option ℕ) → place_of (entry_names c) n ≡ o → (if x then Some 0 else next_variable o) ≡ Some i → (if x then Some 0 else next_variable (place_of (entry_names (c ++ d)) n)) ≡ Some i
     go r true o q k = k
     go r false None q k = absurd (cc)
     go r false (Some j) q k = ap next_variable (r j q) ∙ k
 
-pub place_rest : (c d : PlainContext) (n i : ℕ) → place_of (names_in c) n ≡ None → place_of (names_in d) n ≡ Some i → place_of (names_in (c ++ d)) n ≡ Some (length c + i)
+pub place_rest : (c d : PlainContext) (n i : ℕ) → place_of (entry_names c) n ≡ None → place_of (entry_names d) n ≡ Some i → place_of (entry_names (c ++ d)) n ≡ Some (length c + i)
 place_rest [] d n i h k = k ∙ ap Some (omega arith)
-place_rest (e ∷ c) d n i h k = go (λ q. place_rest c d n i q k) (nat_eq e.name n) (place_of (names_in c) n) refl h
+place_rest (e ∷ c) d n i h k = go (λ q. place_rest c d n i q k) (nat_eq e.name n) (place_of (entry_names c) n) refl h
   where
-    go : (place_of (names_in c) n ≡ None → place_of (names_in (c ++ d)) n ≡ Some (length c + i)) → (x : Bool) (o : Option ℕ) → place_of (names_in c) n ≡ o → (if x then Some 0 else next_variable o) ≡ None → (if x then Some 0 else next_variable (place_of (names_in (c ++ d)) n)) ≡ Some (length (e ∷ c) + i)
+    go : (place_of (entry_names c) n ≡ None → place_of (entry_names (c ++ d)) n ≡ Some (length c + i)) → (x : Bool) (o : Option ℕ) → place_of (entry_names c) n ≡ o → (if x then Some 0 else next_variable o) ≡ None → (if x then Some 0 else next_variable (place_of (entry_names (c ++ d)) n)) ≡ Some (length (e ∷ c) + i)
     go r true o q z = absurd (cc)
     go r false None q z =
         let more : suc (length c + i) ≡ length (e ∷ c) + i = omega arith in
         ap next_variable (r q) ∙ ap Some more
     go r false (Some j) q z = absurd (cc)
 
-pub place_neither : (c d : PlainContext) (n : ℕ) → place_of (names_in c) n ≡ None → place_of (names_in d) n ≡ None → place_of (names_in (c ++ d)) n ≡ None
+pub place_neither : (c d : PlainContext) (n : ℕ) → place_of (entry_names c) n ≡ None → place_of (entry_names d) n ≡ None → place_of (entry_names (c ++ d)) n ≡ None
 place_neither [] d n h k = k
-place_neither (e ∷ c) d n h k = go (λ q. place_neither c d n q k) (nat_eq e.name n) (place_of (names_in c) n) refl h
+place_neither (e ∷ c) d n h k = go (λ q. place_neither c d n q k) (nat_eq e.name n) (place_of (entry_names c) n) refl h
   where
-    go : (place_of (names_in c) n ≡ None → place_of (names_in (c ++ d)) n ≡ None) → (x : Bool) (o : Option ℕ) → place_of (names_in c) n ≡ o → (if x then Some 0 else next_variable o) ≡ None → (if x then Some 0 else next_variable (place_of (names_in (c ++ d)) n)) ≡ None
+    go : (place_of (entry_names c) n ≡ None → place_of (entry_names (c ++ d)) n ≡ None) → (x : Bool) (o : Option ℕ) → place_of (entry_names c) n ≡ o → (if x then Some 0 else next_variable o) ≡ None → (if x then Some 0 else next_variable (place_of (entry_names (c ++ d)) n)) ≡ None
     go r true o q z = absurd (cc)
     go r false None q z = ap next_variable (r q)
     go r false (Some j) q z = absurd (cc)
@@ -159,20 +159,20 @@ kind_further : (e : PlainEntry) (c : PlainContext) (o : Option ℕ) → kind_the
 kind_further e c None = refl
 kind_further e c (Some i) = refl
 
-pub kind_named : (c : PlainContext) (n : ℕ) → kind_meant (meaning c n) ≡ kind_there c (place_of (names_in c) n)
+pub kind_named : (c : PlainContext) (n : ℕ) → kind_meant (meaning c n) ≡ kind_there c (place_of (entry_names c) n)
 kind_named [] n = refl
 kind_named (e ∷ c) n = go (kind_named c n) (nat_eq e.name n)
   where
-    go : kind_meant (meaning c n) ≡ kind_there c (place_of (names_in c) n) → (x : Bool) → kind_meant (if x then Some (of_entry e.what) else behind_entry e.what (meaning c n)) ≡ kind_there (e ∷ c) (if x then Some 0 else next_variable (place_of (names_in c) n))
+    go : kind_meant (meaning c n) ≡ kind_there c (place_of (entry_names c) n) → (x : Bool) → kind_meant (if x then Some (of_entry e.what) else behind_entry e.what (meaning c n)) ≡ kind_there (e ∷ c) (if x then Some 0 else next_variable (place_of (entry_names c) n))
     go r true = kind_first e.what
-    go r false = kind_behind e.what (meaning c n) ∙ r ∙ kind_further e c (place_of (names_in c) n)
+    go r false = kind_behind e.what (meaning c n) ∙ r ∙ kind_further e c (place_of (entry_names c) n)
 
 use_none : (s : Span) (o : Option Meaning) → kind_meant o ≡ None → use_stops s o ≡ []
 use_none s None h = refl
 use_none s (Some (a_type t)) h = refl
 use_none s (Some (an_operator n x)) h = absurd (cc)
 
-pub use_missing : (s : Span) (c : PlainContext) (n : ℕ) → place_of (names_in c) n ≡ None → use_stops s (meaning c n) ≡ []
+pub use_missing : (s : Span) (c : PlainContext) (n : ℕ) → place_of (entry_names c) n ≡ None → use_stops s (meaning c n) ≡ []
 use_missing s c n h = use_none s (meaning c n) (kind_named c n ∙ ap (kind_there c) h)
 
 -- the binders of a record, forgotten again

@@ -13,7 +13,7 @@ use Rattle.pict_types.specs.Kinds.{BoundsAreWellFormed}
 use Rattle.pict_normal.specs.Made.{IsMadeBound, IsReason, IsRow, IsGrown}
 use Rattle.pict_types.specs.Measures.{weights, heights, weigh_bounds, weigh_variable, weights_under, rise_bounds, rise_variable, heights_under}
 use Rattle.pict_types.specs.Plain.{plain_bound, plain_bounds}
-use Rattle.pict_normal.specs.Putting.{IsPlaced, IsUnder, names_in, variables_in, replacement_in, replacement_of, weights_in, heights_in}
+use Rattle.pict_normal.specs.Putting.{FitsKinds, IsUnder, context_names, variables_in, replacement_in, replacement_of, weights_in, heights_in}
 use Rattle.pict_types.specs.Replacing.{Replacement, replacement_past, replacement_beyond, replace_bound, replace_bounds}
 use Rattle.pict_types.proofs.Held.{HeldAlike, alike_more, alike_same, held_alike, rise_bounds_held, heights_under_held}
 use Rattle.pict_normal.proofs.Behind.{weights_more, heights_more}
@@ -51,7 +51,7 @@ made_more {s = s} {r = r} {vs = vs} {ws = ws} {us = us} {hs = hs} {all = all} b 
 
 pub record BoundsSoFar (p : Puts) (outer inner : List Measures) (all rest : PlainBounds) (row : Row Bound) : Type 0 where
   pub made : MadeSoFar (replacement_in p outer) (replacement_in p inner) (weights_in p outer) (weights_in p inner) (heights_in p outer) (heights_in p inner) all rest row
-  pub placed : IsPlaced p inner (λ ks. BoundsAreWellFormed (names_in p) ks rest)
+  pub placed : FitsKinds p inner (λ ks. BoundsAreWellFormed (context_names p) ks rest)
   pub outer_ : take (length outer) inner ≡ outer
   pub least : length outer ≤ length inner
   pub count : length inner + count_bounds rest ≡ length outer + count_bounds all

@@ -17,7 +17,7 @@ use Rattle.pict_normal.specs.Meanings.{meanings, with_what, kind_of_what, entry_
 use Rattle.pict_types.specs.Measures.{weight_of, height_of}
 use Rattle.pict_normal.specs.Normal.{Stop, normal, kind_stops, size_stop, first_stop, kind_stop}
 use Rattle.pict_normal.specs.Raw.{raw}
-use Rattle.pict_types.specs.Places.{names_in}
+use Rattle.pict_types.specs.Places.{entry_names}
 use Rattle.pict_normal.specs.Refusals.{IsFirst, IsRefusal}
 use Rattle.pict_scope.specs.DistinctLabels.{HasDistinctLabels}
 use Rattle.pict_types.specs.Fitting.{ReplacesKinds, StandsForOperator}
@@ -57,7 +57,7 @@ meanings_keep ns (e ∷ c) f = meanings_further ns c e.what f.0 (meanings_keep n
 
 pub normal_formed : (ns : List (List ℕ)) (c : PlainContext) (t : TypeTree) → EntriesAreWellFormed ns c → HasDistinctLabels t → kind_stops ns c t ≡ [] → IsWellFormed ns (kinds (variables c)) (normal ns c t)
 normal_formed ns c t f d k =
-    subst (IsWellFormed ns (kinds (variables c))) (sym (raw_normal ns c t k)) (replace_formed ns (raw ns (names_in c) t) (meanings_keep ns c f) (raw_formed ns c t d k))
+    subst (IsWellFormed ns (kinds (variables c))) (sym (raw_normal ns c t k)) (replace_formed ns (raw ns (entry_names c) t) (meanings_keep ns c f) (raw_formed ns c t d k))
 
 -- the limits
 abbrev whole : Bool → Bool → Span → Option Stop

@@ -10,7 +10,7 @@ use Rattle.pict_types.specs.Fitting.{StandsForOperator}
 use Rattle.pict_types.specs.Kinds.{IsWellFormed}
 use Rattle.pict_normal.specs.Made.{AreArguments, only_used}
 use Rattle.pict_types.specs.Plain.{plain_types}
-use Rattle.pict_normal.specs.Putting.{IsPlaced, names_in, replacement_in}
+use Rattle.pict_normal.specs.Putting.{FitsKinds, context_names, replacement_in}
 use Rattle.pict_types.specs.Replacing.{operator, replace_types}
 use Rattle.pict_normal.proofs.Applied.{count_used, weigh_each_length}
 use Rattle.pict_types.proofs.Formed.{count_replaced}
@@ -21,12 +21,12 @@ arguments_count {ws = ws} {us = us} a x =
     let m : length (map (λ m. m.weight) a.measures.items) ≡ length a.measures.items = simp length-map refl in
     sym m ∙ ap length x.weights ∙ weigh_each_length ws us
 
-pub operator_count : {p : Puts} {ms : List Measures} (i : ℕ) (ts : PlainTypes) (n : ℕ) (t : PlainType) → IsPlaced p ms (λ ks. IsWellFormed (names_in p) ks (Apply i ts)) → operator n t ≡ (replacement_in p ms).head_of i → n ≡ count_types (replace_types (replacement_in p ms) ts)
+pub operator_count : {p : Puts} {ms : List Measures} (i : ℕ) (ts : PlainTypes) (n : ℕ) (t : PlainType) → FitsKinds p ms (λ ks. IsWellFormed (context_names p) ks (Apply i ts)) → operator n t ≡ (replacement_in p ms).head_of i → n ≡ count_types (replace_types (replacement_in p ms) ts)
 operator_count {p = p} {ms = ms} i ts n t x e =
-    let head : StandsForOperator (names_in p) x.targets (count_types ts) (operator n t) = subst (StandsForOperator (names_in p) x.targets (count_types ts)) (sym e) (x.keeps.heads_ i (count_types ts) x.formed.0) in
+    let head : StandsForOperator (context_names p) x.targets (count_types ts) (operator n t) = subst (StandsForOperator (context_names p) x.targets (count_types ts)) (sym e) (x.keeps.heads_ i (count_types ts) x.formed.0) in
     head.0 ∙ sym (count_replaced (replacement_in p ms) ts)
 
-pub operator_items : {p : Puts} {ms : List Measures} (i : ℕ) (xs : List Ty) (n : ℕ) (t : PlainType) → IsPlaced p ms (λ ks. IsWellFormed (names_in p) ks (Apply i (plain_types xs))) → operator n t ≡ (replacement_in p ms).head_of i → n ≡ length xs
+pub operator_items : {p : Puts} {ms : List Measures} (i : ℕ) (xs : List Ty) (n : ℕ) (t : PlainType) → FitsKinds p ms (λ ks. IsWellFormed (context_names p) ks (Apply i (plain_types xs))) → operator n t ≡ (replacement_in p ms).head_of i → n ≡ length xs
 operator_items {p = p} {ms = ms} i xs n t x e =
     operator_count i (plain_types xs) n t x e ∙ count_replaced (replacement_in p ms) (plain_types xs) ∙ count_types_length xs
 

@@ -14,7 +14,7 @@ use Rattle.pict_types.specs.Entries.{PlainWhat, Variable, Definition, PlainConte
 use Rattle.pict_normal.specs.Meanings.{kind_of_what, entry_kinds}
 use Rattle.pict_normal.specs.Normal.{Meaning, a_type, an_operator, meaning, and_type, and_bound, with_labelled_type, kind_bound, entry_of, normal, normal_bound, under_binders, count_trees, Stop, use_stops, apply_stops, kind_stops, types_stops, labels_stops, binders_stops, binder_stops}
 use Rattle.pict_binders.specs.Names.{place_of}
-use Rattle.pict_types.specs.Places.{names_in, arity, arity_at}
+use Rattle.pict_types.specs.Places.{entry_names, arity, arity_at}
 use Rattle.pict_normal.specs.Raw.{variable_at, names_under, raw, raw_types, raw_labels, raw_binders, raw_binder, raw_bound}
 use Rattle.pict_scope.specs.DistinctLabels.{IsNewLabel, HasDistinctLabels, TypesHaveDistinctLabels, AreDistinct, BindersHaveDistinctLabels, BinderHasDistinctLabels}
 use Rattle.pict_syntax.proofs.LabelLemmas.{less_is, stands_after}
@@ -40,11 +40,11 @@ entry_kind [] i h = absurd (omega arith)
 entry_kind (e ∷ c) zero h = ap Some (kind_of_entry e.what)
 entry_kind (e ∷ c) (suc i) h = entry_kind c i (omega arith)
 
-named_kind : (c : PlainContext) (n i : ℕ) (k : Option ℕ) → place_of (names_in c) n ≡ Some i → kind_meant (meaning c n) ≡ Some k → kind_at (entry_kinds c) i ≡ Some (kind_of_arity k)
+named_kind : (c : PlainContext) (n i : ℕ) (k : Option ℕ) → place_of (entry_names c) n ≡ Some i → kind_meant (meaning c n) ≡ Some k → kind_at (entry_kinds c) i ≡ Some (kind_of_arity k)
 named_kind c n i k h m =
     let s : Some (arity_at c i) ≡ Some k = sym (ap (kind_there c) h) ∙ sym (kind_named c n) ∙ m in
     let e : arity_at c i ≡ k = cc in
-    entry_kind c i (omega (arith, place_below (names_in c) n i h, names_length c)) ∙ ap (λ x. Some (kind_of_arity x)) e
+    entry_kind c i (omega (arith, place_below (entry_names c) n i h, names_length c)) ∙ ap (λ x. Some (kind_of_arity x)) e
 
 -- what the rules of kinds say of a name
 type_kind : (s : Span) (o : Option Meaning) (k : Option ℕ) → use_stops s o ≡ [] → kind_meant o ≡ Some k → k ≡ None
@@ -64,14 +64,14 @@ head_kind s (Some (an_operator n x)) m k h e = let f : Some n ≡ k = cc in sym 
     go true d r = eqb-true n m d
     go false d r = absurd (cc)
 
-found : (c : PlainContext) (n i : ℕ) → place_of (names_in c) n ≡ Some i → kind_meant (meaning c n) ≡ Some (arity_at c i)
+found : (c : PlainContext) (n i : ℕ) → place_of (entry_names c) n ≡ Some i → kind_meant (meaning c n) ≡ Some (arity_at c i)
 found c n i h = kind_named c n ∙ ap (kind_there c) h
 
-variable_formed : (ns : List (List ℕ)) (c : PlainContext) (s : Span) (n : ℕ) (o : Option ℕ) → place_of (names_in c) n ≡ o → use_stops s (meaning c n) ≡ [] → IsWellFormed ns (entry_kinds c) (variable_at o)
+variable_formed : (ns : List (List ℕ)) (c : PlainContext) (s : Span) (n : ℕ) (o : Option ℕ) → place_of (entry_names c) n ≡ o → use_stops s (meaning c n) ≡ [] → IsWellFormed ns (entry_kinds c) (variable_at o)
 variable_formed ns c s n None h k = tt
 variable_formed ns c s n (Some i) h k = named_kind c n i None h (found c n i h ∙ ap Some (type_kind s (meaning c n) (arity_at c i) k (found c n i h)))
 
-applied_formed : (ns : List (List ℕ)) (c : PlainContext) (s : Span) (n m : ℕ) (us : PlainTypes) (o : Option ℕ) → place_of (names_in c) n ≡ o → apply_stops s (meaning c n) m ≡ [] → count_types us ≡ m → AreWellFormed ns (entry_kinds c) us → IsWellFormed ns (entry_kinds c) (apply_variable o us)
+applied_formed : (ns : List (List ℕ)) (c : PlainContext) (s : Span) (n m : ℕ) (us : PlainTypes) (o : Option ℕ) → place_of (entry_names c) n ≡ o → apply_stops s (meaning c n) m ≡ [] → count_types us ≡ m → AreWellFormed ns (entry_kinds c) us → IsWellFormed ns (entry_kinds c) (apply_variable o us)
 applied_formed ns c s n m us None h k e w = tt
 applied_formed ns c s n m us (Some i) h k e w =
     (named_kind c n i (Some m) h (found c n i h ∙ ap Some (head_kind s (meaning c n) m (arity_at c i) k (found c n i h))) ∙ ap (λ x. Some (operator_of x)) (sym e), w)
@@ -140,27 +140,27 @@ kind_of_binder ns c ms (Some (operator_kind marks)) b = refl
 kind_of_binder ns c ms None (bound t) = kind_bound_by (normal ns c t) ∙ sym (kind_bound_by (raw ns ms t))
 kind_of_binder ns c ms (Some plain_kind) (bound t) = kind_bound_by (normal ns c t) ∙ sym (kind_bound_by (raw ns ms t))
 
-pub names_of_under : (ns : List (List ℕ)) (c : PlainContext) (bs : TypeBinders) → names_in (under_binders ns c bs) ≡ names_under (names_in c) bs
+pub names_of_under : (ns : List (List ℕ)) (c : PlainContext) (bs : TypeBinders) → entry_names (under_binders ns c bs) ≡ names_under (entry_names c) bs
 names_of_under ns c no_binders = refl
 names_of_under ns c (more_binders bs (type_binder s id k b)) = ap (λ x. id.name.0 ∷ x) (names_of_under ns c bs)
 
-kinds_of_under : (ns : List (List ℕ)) (c : PlainContext) (bs : TypeBinders) → entry_kinds (under_binders ns c bs) ≡ kinds_under (entry_kinds c) (raw_binders ns (names_in c) bs)
+kinds_of_under : (ns : List (List ℕ)) (c : PlainContext) (bs : TypeBinders) → entry_kinds (under_binders ns c bs) ≡ kinds_under (entry_kinds c) (raw_binders ns (entry_names c) bs)
 kinds_of_under ns c no_binders = refl
 kinds_of_under ns c (more_binders bs (type_binder s id k b)) =
-    ap₂ (λ x y. x ∷ y) (kind_of_binder ns (under_binders ns c bs) (names_under (names_in c) bs) k b) (kinds_of_under ns c bs)
-    ∙ sym (kinds_and (entry_kinds c) (raw_binders ns (names_in c) bs) (kind_bound k (raw_bound ns (names_under (names_in c) bs) b)))
+    ap₂ (λ x y. x ∷ y) (kind_of_binder ns (under_binders ns c bs) (names_under (entry_names c) bs) k b) (kinds_of_under ns c bs)
+    ∙ sym (kinds_and (entry_kinds c) (raw_binders ns (entry_names c) bs) (kind_bound k (raw_bound ns (names_under (entry_names c) bs) b)))
 
 both : {A B : Type 0} (P : A → B → Type 0) {a a' : A} {b b' : B} → a ≡ a' → b ≡ b' → P a b → P a' b'
 both P {a' = a'} {b = b} p q h = subst (λ y. P a' y) q (subst (λ x. P x b) p h)
 
 mutual
-  pub raw_formed : (ns : List (List ℕ)) (c : PlainContext) (t : TypeTree) → HasDistinctLabels t → kind_stops ns c t ≡ [] → IsWellFormed ns (entry_kinds c) (raw ns (names_in c) t)
+  pub raw_formed : (ns : List (List ℕ)) (c : PlainContext) (t : TypeTree) → HasDistinctLabels t → kind_stops ns c t ≡ [] → IsWellFormed ns (entry_kinds c) (raw ns (entry_names c) t)
   raw_formed ns c (top_type s) d k = tt
   raw_formed ns c (int_type s) d k = tt
   raw_formed ns c (char_type s) d k = tt
   raw_formed ns c (string_type s) d k = tt
   raw_formed ns c (bool_type s) d k = tt
-  raw_formed ns c (use_type s n) d k = variable_formed ns c s n.0 (place_of (names_in c) n.0) refl k
+  raw_formed ns c (use_type s n) d k = variable_formed ns c s n.0 (place_of (entry_names c) n.0) refl k
   raw_formed ns c (both_type s t) d k = raw_formed ns c t d k
   raw_formed ns c (read_type s t) d k = raw_formed ns c t d k
   raw_formed ns c (write_type s t) d k = raw_formed ns c t d k
@@ -177,36 +177,36 @@ mutual
         ),
       )
   raw_formed ns c (apply_type s id ts) d k =
-      applied_formed ns c s id.name.0 (count_trees ts) (raw_types ns (names_in c) ts) (place_of (names_in c) id.name.0) refl
-      (none_first (apply_stops s (meaning c id.name.0) (count_trees ts)) (types_stops ns c ts) k) (count_raw ns (names_in c) ts)
+      applied_formed ns c s id.name.0 (count_trees ts) (raw_types ns (entry_names c) ts) (place_of (entry_names c) id.name.0) refl
+      (none_first (apply_stops s (meaning c id.name.0) (count_trees ts)) (types_stops ns c ts) k) (count_raw ns (entry_names c) ts)
       (raw_types_formed ns c ts d (none_second (apply_stops s (meaning c id.name.0) (count_trees ts)) (types_stops ns c ts) k))
   raw_formed ns c (rec_type s id t) d k = raw_formed ns (entry_of id Free ∷ c) t d k
 
-  raw_types_formed : (ns : List (List ℕ)) (c : PlainContext) (ts : TypeTrees) → TypesHaveDistinctLabels ts → types_stops ns c ts ≡ [] → AreWellFormed ns (entry_kinds c) (raw_types ns (names_in c) ts)
+  raw_types_formed : (ns : List (List ℕ)) (c : PlainContext) (ts : TypeTrees) → TypesHaveDistinctLabels ts → types_stops ns c ts ≡ [] → AreWellFormed ns (entry_kinds c) (raw_types ns (entry_names c) ts)
   raw_types_formed ns c no_types d k = tt
   raw_types_formed ns c (more_types ts t) d k =
-      and_type_formed ns (entry_kinds c) (raw_types ns (names_in c) ts) (raw ns (names_in c) t)
+      and_type_formed ns (entry_kinds c) (raw_types ns (entry_names c) ts) (raw ns (entry_names c) t)
       (raw_types_formed ns c ts d.0 (none_first (types_stops ns c ts) (kind_stops ns c t) k)) (raw_formed ns c t d.1 (none_second (types_stops ns c ts) (kind_stops ns c t) k))
 
-  raw_labels_formed : (ns : List (List ℕ)) (c : PlainContext) (ls : LabelledTypes) → AreDistinct ls → labels_stops ns c ls ≡ [] → LabelsAreWellFormed ns (entry_kinds c) (raw_labels ns (names_in c) ls)
+  raw_labels_formed : (ns : List (List ℕ)) (c : PlainContext) (ls : LabelledTypes) → AreDistinct ls → labels_stops ns c ls ≡ [] → LabelsAreWellFormed ns (entry_kinds c) (raw_labels ns (entry_names c) ls)
   raw_labels_formed ns c no_labelled_types d k = tt
   raw_labels_formed ns c (more_labelled_types ls id t) d k =
-      with_labelled_type_formed ns (entry_kinds c) id.name.0 (raw ns (names_in c) t) (raw_labels ns (names_in c) ls) (new_raw ns (names_in c) id.name.0 ls d.1.0)
+      with_labelled_type_formed ns (entry_kinds c) id.name.0 (raw ns (entry_names c) t) (raw_labels ns (entry_names c) ls) (new_raw ns (entry_names c) id.name.0 ls d.1.0)
       (raw_formed ns c t d.1.1 (none_second (labels_stops ns c ls) (kind_stops ns c t) k)) (raw_labels_formed ns c ls d.0 (none_first (labels_stops ns c ls) (kind_stops ns c t) k))
 
-  raw_binders_formed : (ns : List (List ℕ)) (c : PlainContext) (bs : TypeBinders) → BindersHaveDistinctLabels bs → binders_stops ns c bs ≡ [] → BoundsAreWellFormed ns (entry_kinds c) (raw_binders ns (names_in c) bs)
+  raw_binders_formed : (ns : List (List ℕ)) (c : PlainContext) (bs : TypeBinders) → BindersHaveDistinctLabels bs → binders_stops ns c bs ≡ [] → BoundsAreWellFormed ns (entry_kinds c) (raw_binders ns (entry_names c) bs)
   raw_binders_formed ns c no_binders d k = tt
   raw_binders_formed ns c (more_binders bs b) d k =
       let u = under_binders ns c bs in
-      and_bound_formed ns (entry_kinds c) (raw_binders ns (names_in c) bs) (raw_binder ns (names_under (names_in c) bs) b)
+      and_bound_formed ns (entry_kinds c) (raw_binders ns (entry_names c) bs) (raw_binder ns (names_under (entry_names c) bs) b)
       (raw_binders_formed ns c bs d.0 (none_first (binders_stops ns c bs) (binder_stops ns u b) k))
       (both (λ ks ms. BoundIsWellFormed ns ks (raw_binder ns ms b)) (kinds_of_under ns c bs) (names_of_under ns c bs)
       (raw_binder_formed ns u b d.1 (none_second (binders_stops ns c bs) (binder_stops ns u b) k)))
 
-  raw_binder_formed : (ns : List (List ℕ)) (c : PlainContext) (b : TypeBinder) → BinderHasDistinctLabels b → binder_stops ns c b ≡ [] → BoundIsWellFormed ns (entry_kinds c) (raw_binder ns (names_in c) b)
+  raw_binder_formed : (ns : List (List ℕ)) (c : PlainContext) (b : TypeBinder) → BinderHasDistinctLabels b → binder_stops ns c b ≡ [] → BoundIsWellFormed ns (entry_kinds c) (raw_binder ns (entry_names c) b)
   raw_binder_formed ns c (type_binder s id None unbounded) d k = tt
   raw_binder_formed ns c (type_binder s id (Some plain_kind) unbounded) d k = tt
   raw_binder_formed ns c (type_binder s id (Some (operator_kind marks)) unbounded) d k = tt
-  raw_binder_formed ns c (type_binder s id None (bound t)) d k = formed_bound_by ns (entry_kinds c) (raw ns (names_in c) t) (raw_formed ns c t d k)
-  raw_binder_formed ns c (type_binder s id (Some plain_kind) (bound t)) d k = formed_bound_by ns (entry_kinds c) (raw ns (names_in c) t) (raw_formed ns c t d k)
+  raw_binder_formed ns c (type_binder s id None (bound t)) d k = formed_bound_by ns (entry_kinds c) (raw ns (entry_names c) t) (raw_formed ns c t d k)
+  raw_binder_formed ns c (type_binder s id (Some plain_kind) (bound t)) d k = formed_bound_by ns (entry_kinds c) (raw ns (entry_names c) t) (raw_formed ns c t d k)
   raw_binder_formed ns c (type_binder s id (Some (operator_kind marks)) (bound t)) d k = tt

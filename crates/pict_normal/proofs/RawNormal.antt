@@ -12,7 +12,7 @@ use Rattle.pict_types.specs.Entries.{PlainWhat, Variable, Definition, PlainEntry
 use Rattle.pict_normal.specs.Normal.{Meaning, a_type, an_operator, of_bound, of_entry, behind_entry, meaning, meant_type, meant_head, and_type, and_bound, with_labelled_type, kind_bound, entry_of, normal, normal_types, normal_labels, normal_binders, normal_binder, normal_bound, under_binders, count_trees, use_stops, apply_stops, kind_stops, types_stops, labels_stops, binders_stops, binder_stops, Stop}
 use Rattle.pict_normal.specs.Meanings.{meanings, with_what}
 use Rattle.pict_binders.specs.Names.{place_of}
-use Rattle.pict_types.specs.Places.{names_in}
+use Rattle.pict_types.specs.Places.{entry_names}
 use Rattle.pict_normal.specs.Raw.{variable_at, names_under, raw, raw_types, raw_labels, raw_binders, raw_binder, raw_bound}
 use Rattle.pict_types.proofs.Congruent.{three}
 use Rattle.pict_types.proofs.Composed.{replace_made}
@@ -132,7 +132,7 @@ means_entry e {c = c} {ms = ms} {s = s} h = go e.what
     go (Definition a) = means_definition e.name a h
 
 -- the entries of a context
-pub means : (c : PlainContext) → Means c (names_in c) (meanings c)
+pub means : (c : PlainContext) → Means c (entry_names c) (meanings c)
 means [] = record { types_ = λ n k. refl; heads_ = λ n k. refl }
 means (e ∷ c) = means_entry e (means c)
 
@@ -248,5 +248,5 @@ mutual
   raw_binder_replaced ns h (type_binder sp id (Some (operator_kind marks)) (bound t)) k = refl
 
 -- the normal form is what the entries of the context mean, put for the names
-pub raw_normal : (ns : List (List ℕ)) (c : PlainContext) (t : TypeTree) → kind_stops ns c t ≡ [] → normal ns c t ≡ replace (meanings c) (raw ns (names_in c) t)
+pub raw_normal : (ns : List (List ℕ)) (c : PlainContext) (t : TypeTree) → kind_stops ns c t ≡ [] → normal ns c t ≡ replace (meanings c) (raw ns (entry_names c) t)
 raw_normal ns c t k = sym (raw_replaced ns (means c) t k)

@@ -18,7 +18,7 @@ use Rattle.pict_types.specs.Plain.{plain, plain_bound, plain_types, plain_bounds
 use Rattle.pict_types.specs.Entries.{PlainContext}
 use Rattle.pict_normal.specs.BinderEntries.{bound_entry, entries_under}
 use Rattle.pict_normal.specs.Normal.{and_type, and_bound, under_binders, kind_stops, types_stops, labels_stops, binders_stops, binder_stops}
-use Rattle.pict_types.specs.Places.{names_in}
+use Rattle.pict_types.specs.Places.{entry_names}
 use Rattle.pict_normal.specs.Raw.{raw, raw_types, raw_labels, raw_binders, raw_binder}
 use Rattle.pict_normal.specs.Refusals.{IsFirst}
 use Rattle.pict_normal.proofs.Trees.{types_step, binders_step, labelled_step, types_and, bounds_and, none_both, types_first, labels_first, binders_first, first_before, first_after}
@@ -31,11 +31,11 @@ passed_up (Ok x) e P is p = tt
 passed_up (Err y) e P is p = subst P (sym is) p
 
 -- types
-pub types_raw : (ns : List (List ℕ)) (c d e : PlainContext) (xs : List RTypeTree) (i : ℕ) (x : RTypeTree) (us : List Ty) (u : Ty) → i < length xs → e ≡ d → plain_types us ≡ raw_types ns (names_in (d ++ c)) (types_on no_types (take i xs)) → plain u ≡ raw ns (names_in (e ++ c)) (type_of (get_or xs i x)) → plain_types (us ++ u ∷ []) ≡ raw_types ns (names_in (d ++ c)) (types_on no_types (take (i + 1) xs))
+pub types_raw : (ns : List (List ℕ)) (c d e : PlainContext) (xs : List RTypeTree) (i : ℕ) (x : RTypeTree) (us : List Ty) (u : Ty) → i < length xs → e ≡ d → plain_types us ≡ raw_types ns (entry_names (d ++ c)) (types_on no_types (take i xs)) → plain u ≡ raw ns (entry_names (e ++ c)) (type_of (get_or xs i x)) → plain_types (us ++ u ∷ []) ≡ raw_types ns (entry_names (d ++ c)) (types_on no_types (take (i + 1) xs))
 types_raw ns c d e xs i x us u h q r k =
     types_and us u
-    ∙ ap₂ and_type r (k ∙ ap (λ y. raw ns (names_in (y ++ c)) (type_of (get_or xs i x))) q)
-    ∙ sym (ap (raw_types ns (names_in (d ++ c))) (types_step xs i x h))
+    ∙ ap₂ and_type r (k ∙ ap (λ y. raw ns (entry_names (y ++ c)) (type_of (get_or xs i x))) q)
+    ∙ sym (ap (raw_types ns (entry_names (d ++ c))) (types_step xs i x h))
 
 pub types_kinds : (ns : List (List ℕ)) (c d e : PlainContext) (xs : List RTypeTree) (i : ℕ) (x : RTypeTree) → i < length xs → e ≡ d → types_stops ns (d ++ c) (types_on no_types (take i xs)) ≡ [] → kind_stops ns (e ++ c) (type_of (get_or xs i x)) ≡ [] → types_stops ns (d ++ c) (types_on no_types (take (i + 1) xs)) ≡ []
 types_kinds ns c d e xs i x h q r k =
@@ -47,11 +47,11 @@ types_refused ns c d e xs i x err h q r k =
     types_first ns (d ++ c) xs i x err h r (subst (λ y. IsFirst (kind_stops ns (y ++ c) (type_of (get_or xs i x))) err) q k)
 
 -- labelled fields
-pub labels_raw : (ns : List (List ℕ)) (c d e : PlainContext) (xs : List RLabelledType) (i : ℕ) (x : RLabelledType) (us : List (Name × Ty)) (u : Name × Ty) → i < length xs → e ≡ d → plain_labels us ≡ unsorted ns (names_in (d ++ c)) (labelled_types_on no_labelled_types (take i xs)) → u.0 ≡ (get_or xs i x).label.name → plain u.1 ≡ raw ns (names_in (e ++ c)) (type_of (get_or xs i x).of) → plain_labels (us ++ u ∷ []) ≡ unsorted ns (names_in (d ++ c)) (labelled_types_on no_labelled_types (take (i + 1) xs))
+pub labels_raw : (ns : List (List ℕ)) (c d e : PlainContext) (xs : List RLabelledType) (i : ℕ) (x : RLabelledType) (us : List (Name × Ty)) (u : Name × Ty) → i < length xs → e ≡ d → plain_labels us ≡ unsorted ns (entry_names (d ++ c)) (labelled_types_on no_labelled_types (take i xs)) → u.0 ≡ (get_or xs i x).label.name → plain u.1 ≡ raw ns (entry_names (e ++ c)) (type_of (get_or xs i x).of) → plain_labels (us ++ u ∷ []) ≡ unsorted ns (entry_names (d ++ c)) (labelled_types_on no_labelled_types (take (i + 1) xs))
 labels_raw ns c d e xs i x us u h q r l k =
     labels_and us u
-    ∙ three and_label r (ap (λ n. n.0) l) (k ∙ ap (λ y. raw ns (names_in (y ++ c)) (type_of (get_or xs i x).of)) q)
-    ∙ sym (ap (unsorted ns (names_in (d ++ c))) (labelled_step xs i x h))
+    ∙ three and_label r (ap (λ n. n.0) l) (k ∙ ap (λ y. raw ns (entry_names (y ++ c)) (type_of (get_or xs i x).of)) q)
+    ∙ sym (ap (unsorted ns (entry_names (d ++ c))) (labelled_step xs i x h))
 
 pub labels_kinds : (ns : List (List ℕ)) (c d e : PlainContext) (xs : List RLabelledType) (i : ℕ) (x : RLabelledType) → i < length xs → e ≡ d → labels_stops ns (d ++ c) (labelled_types_on no_labelled_types (take i xs)) ≡ [] → kind_stops ns (e ++ c) (type_of (get_or xs i x).of) ≡ [] → labels_stops ns (d ++ c) (labelled_types_on no_labelled_types (take (i + 1) xs)) ≡ []
 labels_kinds ns c d e xs i x h q r k =
@@ -63,12 +63,12 @@ labels_refused ns c d e xs i x err h q r k =
     labels_first ns (d ++ c) xs i x err h r (subst (λ y. IsFirst (kind_stops ns (y ++ c) (type_of (get_or xs i x).of)) err) q k)
 
 -- type binders
-pub binders_raw : (ns : List (List ℕ)) (c e s : PlainContext) (xs : List RTypeBinder) (i : ℕ) (x : RTypeBinder) (ds : List RBound) (d : RBound) → i < length xs → s ≡ entries_under e (binders_on no_binders (take i xs)) → plain_bounds ds ≡ raw_binders ns (names_in (e ++ c)) (binders_on no_binders (take i xs)) → plain_bound d ≡ raw_binder ns (names_in (s ++ c)) (binder_of (get_or xs i x)) → plain_bounds (ds ++ d ∷ []) ≡ raw_binders ns (names_in (e ++ c)) (binders_on no_binders (take (i + 1) xs))
+pub binders_raw : (ns : List (List ℕ)) (c e s : PlainContext) (xs : List RTypeBinder) (i : ℕ) (x : RTypeBinder) (ds : List RBound) (d : RBound) → i < length xs → s ≡ entries_under e (binders_on no_binders (take i xs)) → plain_bounds ds ≡ raw_binders ns (entry_names (e ++ c)) (binders_on no_binders (take i xs)) → plain_bound d ≡ raw_binder ns (entry_names (s ++ c)) (binder_of (get_or xs i x)) → plain_bounds (ds ++ d ∷ []) ≡ raw_binders ns (entry_names (e ++ c)) (binders_on no_binders (take (i + 1) xs))
 binders_raw ns c e s xs i x ds d h q r k =
     let bs = binders_on no_binders (take i xs) in
     bounds_and ds d
-    ∙ ap₂ and_bound r (k ∙ ap (λ y. raw_binder ns y (binder_of (get_or xs i x))) (ap (λ z. names_in (z ++ c)) q ∙ names_entries e c bs))
-    ∙ sym (ap (raw_binders ns (names_in (e ++ c))) (binders_step xs i x h))
+    ∙ ap₂ and_bound r (k ∙ ap (λ y. raw_binder ns y (binder_of (get_or xs i x))) (ap (λ z. entry_names (z ++ c)) q ∙ names_entries e c bs))
+    ∙ sym (ap (raw_binders ns (entry_names (e ++ c))) (binders_step xs i x h))
 
 same_stops : (ns : List (List ℕ)) (c e s : PlainContext) (bs : TypeBinders) (b : TypeBinder) → s ≡ entries_under e bs → binder_stops ns (s ++ c) b ≡ binder_stops ns (under_binders ns (e ++ c) bs) b
 same_stops ns c e s bs b q = ap (λ y. binder_stops ns (y ++ c) b) q ∙ sym (binder_stops_same ns (entries_same ns e c bs) b)
@@ -90,10 +90,10 @@ pub binders_inner : (e s : PlainContext) (xs : List RTypeBinder) (i : ℕ) (x : 
 binders_inner e s xs i x h q = q ∙ sym (ap (entries_under e) (binders_step xs i x h))
 
 -- a record
-pub record_raw : (ns : List (List ℕ)) (c e s r : PlainContext) (sp : Span) (bs : TypeBinders) (ts : TypeTrees) (ls : LabelledTypes) (ds : PlainBounds) (us : PlainTypes) (vs : PlainLabels) → s ≡ entries_under e bs → r ≡ s → ds ≡ raw_binders ns (names_in (e ++ c)) bs → us ≡ raw_types ns (names_in (s ++ c)) ts → vs ≡ raw_labels ns (names_in (r ++ c)) ls → Fields ds us vs ≡ raw ns (names_in (e ++ c)) (fields_type sp bs ts ls)
+pub record_raw : (ns : List (List ℕ)) (c e s r : PlainContext) (sp : Span) (bs : TypeBinders) (ts : TypeTrees) (ls : LabelledTypes) (ds : PlainBounds) (us : PlainTypes) (vs : PlainLabels) → s ≡ entries_under e bs → r ≡ s → ds ≡ raw_binders ns (entry_names (e ++ c)) bs → us ≡ raw_types ns (entry_names (s ++ c)) ts → vs ≡ raw_labels ns (entry_names (r ++ c)) ls → Fields ds us vs ≡ raw ns (entry_names (e ++ c)) (fields_type sp bs ts ls)
 record_raw ns c e s r sp bs ts ls ds us vs p q h k l =
-    let n = ap (λ z. names_in (z ++ c)) p ∙ names_entries e c bs in
-    three Fields h (k ∙ ap (λ y. raw_types ns y ts) n) (l ∙ ap (λ y. raw_labels ns y ls) (ap (λ z. names_in (z ++ c)) q ∙ n))
+    let n = ap (λ z. entry_names (z ++ c)) p ∙ names_entries e c bs in
+    three Fields h (k ∙ ap (λ y. raw_types ns y ts) n) (l ∙ ap (λ y. raw_labels ns y ls) (ap (λ z. entry_names (z ++ c)) q ∙ n))
 
 types_there : (ns : List (List ℕ)) (c e s : PlainContext) (bs : TypeBinders) (ts : TypeTrees) → s ≡ entries_under e bs → types_stops ns (s ++ c) ts ≡ types_stops ns (under_binders ns (e ++ c) bs) ts
 types_there ns c e s bs ts p = ap (λ y. types_stops ns (y ++ c) ts) p ∙ sym (types_stops_same ns (entries_same ns e c bs) ts)

@@ -14,7 +14,7 @@ use Rattle.pict_normal.specs.Meanings.{meanings}
 use Rattle.pict_normal.specs.Normal.{Meaning, a_type, an_operator, meaning, use_stops, apply_stops, bound_stops, kind_stops, normal}
 use Rattle.pict_types.specs.Types.{is_top}
 use Rattle.pict_binders.specs.Names.{place_of}
-use Rattle.pict_types.specs.Places.{names_in, arity_at}
+use Rattle.pict_types.specs.Places.{entry_names, arity_at}
 use Rattle.pict_normal.specs.Raw.{raw}
 use Rattle.pict_normal.specs.Refusals.{BeginsWith}
 use Rattle.pict_normal.proofs.BinderPlaces.{kind_meant, kind_there, kind_named}
@@ -31,13 +31,13 @@ use_head s None k h = absurd (cc)
 use_head s (Some (a_type t)) k h = absurd (cc)
 use_head s (Some (an_operator n x)) k h = refl
 
-pub kind_is : (c : PlainContext) (n i : ℕ) (k : Option ℕ) → place_of (names_in c) n ≡ Some i → arity_at c i ≡ k → kind_meant (meaning c n) ≡ Some k
+pub kind_is : (c : PlainContext) (n i : ℕ) (k : Option ℕ) → place_of (entry_names c) n ≡ Some i → arity_at c i ≡ k → kind_meant (meaning c n) ≡ Some k
 kind_is c n i k h e = kind_named c n ∙ ap (kind_there c) h ∙ ap Some e
 
-pub use_type : (s : Span) (c : PlainContext) (n i : ℕ) → place_of (names_in c) n ≡ Some i → arity_at c i ≡ None → use_stops s (meaning c n) ≡ []
+pub use_type : (s : Span) (c : PlainContext) (n i : ℕ) → place_of (entry_names c) n ≡ Some i → arity_at c i ≡ None → use_stops s (meaning c n) ≡ []
 use_type s c n i h e = use_kind s (meaning c n) (kind_is c n i None h e)
 
-pub use_operator : (s : Span) (c : PlainContext) (n i k : ℕ) → place_of (names_in c) n ≡ Some i → arity_at c i ≡ Some k → BeginsWith (use_stops s (meaning c n)) (K2, s)
+pub use_operator : (s : Span) (c : PlainContext) (n i k : ℕ) → place_of (entry_names c) n ≡ Some i → arity_at c i ≡ Some k → BeginsWith (use_stops s (meaning c n)) (K2, s)
 use_operator s c n i k h e = use_head s (meaning c n) k (kind_is c n i (Some k) h e)
 
 -- a name with arguments
@@ -63,13 +63,13 @@ apply_head_other s (Some (an_operator n x)) k m h d =
     let e : n ≡ m = cc in
     subst (λ b. BeginsWith (if b then [] else (K1, s) ∷ []) (K1, s)) (sym (ap (λ y. nat_eq y k) e ∙ d)) refl
 
-pub apply_missing : (s : Span) (c : PlainContext) (n k : ℕ) → place_of (names_in c) n ≡ None → apply_stops s (meaning c n) k ≡ []
+pub apply_missing : (s : Span) (c : PlainContext) (n k : ℕ) → place_of (entry_names c) n ≡ None → apply_stops s (meaning c n) k ≡ []
 apply_missing s c n k h = apply_none s (meaning c n) k (kind_named c n ∙ ap (kind_there c) h)
 
-pub apply_type : (s : Span) (c : PlainContext) (n i k : ℕ) → place_of (names_in c) n ≡ Some i → arity_at c i ≡ None → BeginsWith (apply_stops s (meaning c n) k) (K1, s)
+pub apply_type : (s : Span) (c : PlainContext) (n i k : ℕ) → place_of (entry_names c) n ≡ Some i → arity_at c i ≡ None → BeginsWith (apply_stops s (meaning c n) k) (K1, s)
 apply_type s c n i k h e = apply_head_type s (meaning c n) k (kind_is c n i None h e)
 
-pub apply_fits : (s : Span) (c : PlainContext) (n i k m : ℕ) → place_of (names_in c) n ≡ Some i → arity_at c i ≡ Some m → m ≡ k → apply_stops s (meaning c n) k ≡ []
+pub apply_fits : (s : Span) (c : PlainContext) (n i k m : ℕ) → place_of (entry_names c) n ≡ Some i → arity_at c i ≡ Some m → m ≡ k → apply_stops s (meaning c n) k ≡ []
 apply_fits s c n i k m h e d = apply_same s (meaning c n) k (kind_is c n i (Some k) h (e ∙ ap Some d))
 
 not_same : (m k : ℕ) → (m ≡ k → ⊥) → nat_eq m k ≡ false
@@ -79,19 +79,19 @@ not_same m k d = go (nat_eq m k) refl
     go true e = absurd (d (eqb-true m k e))
     go false e = refl
 
-pub apply_other : (s : Span) (c : PlainContext) (n i k m : ℕ) → place_of (names_in c) n ≡ Some i → arity_at c i ≡ Some m → (m ≡ k → ⊥) → BeginsWith (apply_stops s (meaning c n) k) (K1, s)
+pub apply_other : (s : Span) (c : PlainContext) (n i k m : ℕ) → place_of (entry_names c) n ≡ Some i → arity_at c i ≡ Some m → (m ≡ k → ⊥) → BeginsWith (apply_stops s (meaning c n) k) (K1, s)
 apply_other s c n i k m h e d = apply_head_other s (meaning c n) k m (kind_is c n i (Some m) h e) (not_same m k d)
 
 -- an operator variable with a bound
-top_is : (ns : List (List ℕ)) (d : PlainContext) (t : TypeTree) (u : PlainType) (b : Bool) → kind_stops ns d t ≡ [] → u ≡ raw ns (names_in d) t → b ≡ is_top (replace (meanings d) u) → is_top (normal ns d t) ≡ b
+top_is : (ns : List (List ℕ)) (d : PlainContext) (t : TypeTree) (u : PlainType) (b : Bool) → kind_stops ns d t ≡ [] → u ≡ raw ns (entry_names d) t → b ≡ is_top (replace (meanings d) u) → is_top (normal ns d t) ≡ b
 top_is ns d t u b none is top = ap is_top (raw_normal ns d t none) ∙ ap (λ x. is_top (replace (meanings d) x)) (sym is) ∙ sym top
 
-pub operator_fits : (ns : List (List ℕ)) (d : PlainContext) (id : Id) (ms : List Mark) (t : TypeTree) (u : PlainType) → kind_stops ns d t ≡ [] → u ≡ raw ns (names_in d) t → true ≡ is_top (replace (meanings d) u) → bound_stops id (Some (operator_kind ms)) (kind_stops ns d t) (normal ns d t) ≡ []
+pub operator_fits : (ns : List (List ℕ)) (d : PlainContext) (id : Id) (ms : List Mark) (t : TypeTree) (u : PlainType) → kind_stops ns d t ≡ [] → u ≡ raw ns (entry_names d) t → true ≡ is_top (replace (meanings d) u) → bound_stops id (Some (operator_kind ms)) (kind_stops ns d t) (normal ns d t) ≡ []
 operator_fits ns d id ms t u none is top =
     ap (λ x. bound_stops id (Some (operator_kind ms)) x (normal ns d t)) none
     ∙ ap (λ b. if b then [] else (K3, id.span) ∷ []) (top_is ns d t u true none is top)
 
-pub operator_refused : (ns : List (List ℕ)) (d : PlainContext) (id : Id) (ms : List Mark) (t : TypeTree) (u : PlainType) → kind_stops ns d t ≡ [] → u ≡ raw ns (names_in d) t → false ≡ is_top (replace (meanings d) u) → BeginsWith (bound_stops id (Some (operator_kind ms)) (kind_stops ns d t) (normal ns d t)) (K3, id.span)
+pub operator_refused : (ns : List (List ℕ)) (d : PlainContext) (id : Id) (ms : List Mark) (t : TypeTree) (u : PlainType) → kind_stops ns d t ≡ [] → u ≡ raw ns (entry_names d) t → false ≡ is_top (replace (meanings d) u) → BeginsWith (bound_stops id (Some (operator_kind ms)) (kind_stops ns d t) (normal ns d t)) (K3, id.span)
 operator_refused ns d id ms t u none is top =
     subst (λ x. BeginsWith (bound_stops id (Some (operator_kind ms)) x (normal ns d t)) (K3, id.span)) (sym none)
     (subst (λ b. BeginsWith (if b then [] else (K3, id.span) ∷ []) (K3, id.span)) (sym (top_is ns d t u false none is top)) refl)

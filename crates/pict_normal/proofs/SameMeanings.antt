@@ -6,7 +6,7 @@ use Rattle.pict_types.specs.Types.{PlainType, Top, Int, Char, Str, Boolean, Var,
 use Rattle.pict_types.specs.Replacing.{bound_by, apply_head}
 use Rattle.pict_types.specs.Entries.{Variable, PlainContext}
 use Rattle.pict_normal.specs.BinderEntries.{entries_under}
-use Rattle.pict_types.specs.Places.{names_in}
+use Rattle.pict_types.specs.Places.{entry_names}
 use Rattle.pict_normal.specs.Raw.{names_under}
 use Rattle.pict_normal.specs.Normal.{Meaning, of_bound, behind_entry, meaning, meant_type, meant_head, and_type, and_bound, with_labelled_type, kind_bound, normal, normal_types, normal_labels, normal_binders, normal_binder, normal_bound, under_binders, count_trees, use_stops, apply_stops, bound_stops, kind_stops, types_stops, labels_stops, binders_stops, binder_stops}
 use Rattle.pict_types.proofs.Congruent.{three}
@@ -65,7 +65,7 @@ entries_same ns e c (more_binders bs (type_binder s id k b)) =
     let x = normal_bound ns (under_binders ns (e ++ c) bs) b in
     same_further id.name.0 (kind_bound k x) (kind_bound k Free) (same_bound k x Free (top_bound ns (under_binders ns (e ++ c) bs) b)) (entries_same ns e c bs)
 
-pub names_entries : (e c : PlainContext) (bs : TypeBinders) → names_in (entries_under e bs ++ c) ≡ names_under (names_in (e ++ c)) bs
+pub names_entries : (e c : PlainContext) (bs : TypeBinders) → entry_names (entries_under e bs ++ c) ≡ names_under (entry_names (e ++ c)) bs
 names_entries e c no_binders = refl
 names_entries e c (more_binders bs (type_binder s id k b)) = ap (λ x. id.name.0 ∷ x) (names_entries e c bs)
 

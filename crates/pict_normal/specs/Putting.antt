@@ -60,8 +60,8 @@ pub record IsDefined (p : Puts) (depth i place : ℕ) : Type 0 where
   pub behind : i ≡ place + depth
   pub put : replacement_of p ≡ meanings (plain_context p.context.now)
 
-abbrev pub names_in : Puts → List (List ℕ)
-names_in p = names_of (context_in p)
+abbrev pub context_names : Puts → List (List ℕ)
+context_names p = names_of (context_in p)
 
 abbrev pub variables_in : Puts → TypeContext
 variables_in p = type_context (context_in p)
@@ -77,10 +77,10 @@ abbrev pub replacement_in : Puts → List Measures → Replacement
 replacement_in p ms = replacement_past (length ms) (replacement_of p)
 
 -- what is put fits the kinds of the variables in something under these binders, which is well formed where F says so
-pub record IsPlaced (p : Puts) (ms : List Measures) (F : List Kind → Type 0) : Type 0 where
+pub record FitsKinds (p : Puts) (ms : List Measures) (F : List Kind → Type 0) : Type 0 where
   pub sources : List Kind
   pub targets : List Kind
-  pub keeps : ReplacesKinds (names_in p) (replacement_in p ms) sources targets
+  pub keeps : ReplacesKinds (context_names p) (replacement_in p ms) sources targets
   pub formed : F sources
 
 -- the measures `inner` of binders, and of the type fields bs under them with what is put into them, the innermost last

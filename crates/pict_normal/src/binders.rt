@@ -6,7 +6,7 @@ ghost use Rattle.pict_syntax.specs.PlainTrees.{kind_of};
 ghost use Rattle.pict_normal.specs.BinderEntries.{bound_entry, entries_of};
 ghost use Rattle.pict_types.specs.Entries.{Variable};
 ghost use Rattle.pict_normal.specs.Normal.{kind_bound};
-ghost use Rattle.pict_types.specs.Places.{arity, names_in};
+ghost use Rattle.pict_types.specs.Places.{arity, entry_names};
 ghost use Rattle.pict_types.specs.Types.{Free};
 
 use pict_binders::Nearest;
@@ -27,7 +27,7 @@ pub struct Binder {
 pub struct Binders {
     binders: Vec<Binder>,
     names: Nearest,
-    ghost named: { names ≡ names_in (entries_of binders.items) },
+    ghost named: { names ≡ entry_names (entries_of binders.items) },
 }
 
 impl Binders {
@@ -55,7 +55,7 @@ impl Binders {
     /// The place of the nearest binder of a name, counted from the innermost; nothing where it isn't bound. Takes no
     /// memory.
     pub fn place(&self, name: Name) -> Option<usize>
-        ensures { result ≡ place_of (names_in (scope_of self.now)) name.0 }
+        ensures { result ≡ place_of (entry_names (scope_of self.now)) name.0 }
     {
         self.names.place(name)
     }

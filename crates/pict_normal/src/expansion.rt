@@ -12,7 +12,7 @@ ghost use Rattle.pict_normal.specs.Normal.{kind_stops};
 ghost use Rattle.pict_syntax.specs.Grammar.{type_span};
 ghost use Rattle.pict_types.specs.Plain.{plain};
 ghost use Rattle.pict_types.specs.PlainContext.{IsWrittenIn, names_of, plain_context, type_context};
-ghost use Rattle.pict_types.specs.Places.{names_in};
+ghost use Rattle.pict_types.specs.Places.{entry_names};
 ghost use Rattle.pict_normal.specs.Raw.{raw};
 ghost use Rattle.pict_normal.specs.Refusals.{IsFirst, IsRefusal, kind_error};
 ghost use Rattle.pict_types.specs.Replacing.{replace};
@@ -53,7 +53,7 @@ fn span_of(t: &TypeTree) -> Span
 
 /// The type of a tree, where each name is the variable of its entry.
 fn raw_of(alloc: Global, c: &Context, t: &TypeTree) -> Result<Ty, KindError>
-    ensures raw { IfOk result (λ u. plain u ≡ raw (names_of c.now) (names_in (plain_context c.now)) (type_of t.now)) }
+    ensures raw { IfOk result (λ u. plain u ≡ raw (names_of c.now) (entry_names (plain_context c.now)) (type_of t.now)) }
     ensures kinds { IfOk result (λ _. kind_stops (names_of c.now) (plain_context c.now) (type_of t.now) ≡ []) }
     ensures first { IfErr result (λ e. IsFirst (kind_stops (names_of c.now) (plain_context c.now) (type_of t.now)) e) }
 {

@@ -9,7 +9,7 @@ ghost use Rattle.pict_normal.specs.Normal.{binder_stops, binders_stops, bound_st
 ghost use Rattle.pict_normal.specs.Around.{around, operator_stops, record_tree, scope_of};
 ghost use Rattle.pict_types.specs.Plain.{plain, plain_bound, plain_bounds, plain_cap, plain_labels, plain_record, plain_types};
 ghost use Rattle.pict_types.specs.PlainContext.{names_of};
-ghost use Rattle.pict_types.specs.Places.{names_in};
+ghost use Rattle.pict_types.specs.Places.{entry_names};
 ghost use Rattle.pict_normal.specs.Raw.{raw, raw_binder, raw_binders, raw_labels, raw_types};
 ghost use Rattle.pict_normal.specs.Refusals.{IsFirst};
 ghost use Rattle.pict_types.specs.Types.{Chan, Operator, Rec};
@@ -34,7 +34,7 @@ pub fn raw_type(
     c: &Context,
     inner: &mut Binders,
 ) -> Result<Ty, KindError>
-    ensures raw { IfOk result (λ u. plain u ≡ raw (names_of c.now) (names_in (around inner.old c.now)) (type_of t.now)) }
+    ensures raw { IfOk result (λ u. plain u ≡ raw (names_of c.now) (entry_names (around inner.old c.now)) (type_of t.now)) }
     ensures kinds { IfOk result (λ _. kind_stops (names_of c.now) (around inner.old c.now) (type_of t.now) ≡ []) }
     ensures first { IfErr result (λ e. IsFirst (kind_stops (names_of c.now) (around inner.old c.now) (type_of t.now)) e) }
     ensures inner { OnOk result (scope_of inner.new ≡ scope_of inner.old) }
@@ -70,7 +70,7 @@ fn raw_channel(
     c: &Context,
     inner: &mut Binders,
 ) -> Result<Ty, KindError>
-    ensures raw { IfOk result (λ u. plain u ≡ Chan (plain_cap cap) (raw (names_of c.now) (names_in (around inner.old c.now)) (type_of t.now))) }
+    ensures raw { IfOk result (λ u. plain u ≡ Chan (plain_cap cap) (raw (names_of c.now) (entry_names (around inner.old c.now)) (type_of t.now))) }
     ensures kinds { IfOk result (λ _. kind_stops (names_of c.now) (around inner.old c.now) (type_of t.now) ≡ []) }
     ensures first { IfErr result (λ e. IsFirst (kind_stops (names_of c.now) (around inner.old c.now) (type_of t.now)) e) }
     ensures inner { OnOk result (scope_of inner.new ≡ scope_of inner.old) }
@@ -87,7 +87,7 @@ fn raw_recursion(
     c: &Context,
     inner: &mut Binders,
 ) -> Result<Ty, KindError>
-    ensures raw { IfOk result (λ u. plain u ≡ Rec (raw (names_of c.now) (name.0 ∷ names_in (around inner.old c.now)) (type_of t.now))) }
+    ensures raw { IfOk result (λ u. plain u ≡ Rec (raw (names_of c.now) (name.0 ∷ entry_names (around inner.old c.now)) (type_of t.now))) }
     ensures kinds { IfOk result (λ _. kind_stops (names_of c.now) (bound_entry name.0 None ∷ (around inner.old c.now)) (type_of t.now) ≡ []) }
     ensures first { IfErr result (λ e. IsFirst (kind_stops (names_of c.now) (bound_entry name.0 None ∷ (around inner.old c.now)) (type_of t.now)) e) }
     ensures inner { OnOk result (scope_of inner.new ≡ scope_of inner.old) }
@@ -106,7 +106,7 @@ fn raw_types(
     c: &Context,
     inner: &mut Binders,
 ) -> Result<Vec<Ty>, KindError>
-    ensures raw { IfOk result (λ us. plain_types us.items ≡ raw_types (names_of c.now) (names_in (around inner.old c.now)) (types_on no_types ts.now)) }
+    ensures raw { IfOk result (λ us. plain_types us.items ≡ raw_types (names_of c.now) (entry_names (around inner.old c.now)) (types_on no_types ts.now)) }
     ensures kinds { IfOk result (λ _. types_stops (names_of c.now) (around inner.old c.now) (types_on no_types ts.now) ≡ []) }
     ensures first { IfErr result (λ e. IsFirst (types_stops (names_of c.now) (around inner.old c.now) (types_on no_types ts.now)) e) }
     ensures inner { OnOk result (scope_of inner.new ≡ scope_of inner.old) }
@@ -126,7 +126,7 @@ fn raw_labels(
     inner: &mut Binders,
 ) -> Result<Vec<(Name, Ty)>, KindError>
     ensures raw { IfOk result (λ us. plain_labels us.items
-        ≡ raw_labels (names_of c.now) (names_in (around inner.old c.now)) (labelled_types_on no_labelled_types ls.now)) }
+        ≡ raw_labels (names_of c.now) (entry_names (around inner.old c.now)) (labelled_types_on no_labelled_types ls.now)) }
     ensures kinds { IfOk result (λ _. labels_stops (names_of c.now) (around inner.old c.now) (labelled_types_on no_labelled_types ls.now) ≡ []) }
     ensures first { IfErr result (λ e. IsFirst (labels_stops (names_of c.now) (around inner.old c.now) (labelled_types_on no_labelled_types ls.now)) e) }
     ensures inner { OnOk result (scope_of inner.new ≡ scope_of inner.old) }
@@ -147,7 +147,7 @@ fn raw_binders(
     c: &Context,
     inner: &mut Binders,
 ) -> Result<Vec<Bound>, KindError>
-    ensures raw { IfOk result (λ ds. plain_bounds ds.items ≡ raw_binders (names_of c.now) (names_in (around inner.old c.now)) (binders_on no_binders bs.now)) }
+    ensures raw { IfOk result (λ ds. plain_bounds ds.items ≡ raw_binders (names_of c.now) (entry_names (around inner.old c.now)) (binders_on no_binders bs.now)) }
     ensures kinds { IfOk result (λ _. binders_stops (names_of c.now) (around inner.old c.now) (binders_on no_binders bs.now) ≡ []) }
     ensures first { IfErr result (λ e. IsFirst (binders_stops (names_of c.now) (around inner.old c.now) (binders_on no_binders bs.now)) e) }
     ensures inner { OnOk result (scope_of inner.new ≡ entries_under (scope_of inner.old) (binders_on no_binders bs.now)) }
@@ -168,7 +168,7 @@ fn raw_binder(
     c: &Context,
     inner: &mut Binders,
 ) -> Result<Bound, KindError>
-    ensures raw { IfOk result (λ d. plain_bound d ≡ raw_binder (names_of c.now) (names_in (around inner.old c.now)) (binder_of b.now)) }
+    ensures raw { IfOk result (λ d. plain_bound d ≡ raw_binder (names_of c.now) (entry_names (around inner.old c.now)) (binder_of b.now)) }
     ensures kinds { IfOk result (λ _. binder_stops (names_of c.now) (around inner.old c.now) (binder_of b.now) ≡ []) }
     ensures first { IfErr result (λ e. IsFirst (binder_stops (names_of c.now) (around inner.old c.now) (binder_of b.now)) e) }
     ensures inner { OnOk result (scope_of inner.new ≡ scope_of inner.old) }
@@ -225,7 +225,7 @@ fn raw_record(
     inner: &mut Binders,
 ) -> Result<Record, KindError>
     ensures raw { (s : Span) → IfOk result (λ r. plain_record r
-        ≡ raw (names_of c.now) (names_in (around inner.old c.now)) (record_tree s bs.now ts.now ls.now)) }
+        ≡ raw (names_of c.now) (entry_names (around inner.old c.now)) (record_tree s bs.now ts.now ls.now)) }
     ensures kinds { (s : Span) → IfOk result (λ _. kind_stops (names_of c.now) (around inner.old c.now) (record_tree s bs.now ts.now ls.now) ≡ []) }
     ensures first { (s : Span) → IfErr result (λ e. IsFirst (kind_stops (names_of c.now) (around inner.old c.now) (record_tree s bs.now ts.now ls.now)) e) }
     ensures inner { OnOk result (scope_of inner.new ≡ scope_of inner.old) }

@@ -7,7 +7,7 @@ ghost use Rattle.pict_types.specs.Mentions.{IsClosed};
 ghost use Rattle.pict_types.specs.Renaming.{moved, rename};
 ghost use Rattle.pict_types.specs.Measures.{heights_under, held, rise, rise_bounds, rise_labels, rise_types, rise_variable, weigh, weigh_bounds, weigh_labels, weigh_types, weigh_variable, weights_under};
 ghost use Rattle.pict_types.specs.Plain.{plain, plain_bound, plain_bounds, plain_labels, plain_record, plain_types};
-ghost use Rattle.pict_normal.specs.Putting.{IsPlaced, IsUnder, heights_in, names_in, variables_in, weights_in};
+ghost use Rattle.pict_normal.specs.Putting.{FitsKinds, IsUnder, heights_in, context_names, variables_in, weights_in};
 ghost use Rattle.pict_normal.specs.Placed.{AreArgumentsIn, IsMadeBoundIn, IsMadeIn, replaced, replaced_bound, replaced_bounds, replaced_labels, replaced_types};
 ghost use Rattle.pict_types.specs.Types.{Apply, Var, count_bounds};
 
@@ -70,7 +70,7 @@ fn moved_put(
 
 /// What stands for the variable `i` under the binders of `inner`.
 fn made_variable(alloc: Global, i: u32, puts: &Puts, inner: &[Measures]) -> Result<Made, MakeError>
-    requires placed { IsPlaced puts.now inner.now (λ ks. kind_at ks i ≡ Some proper) }
+    requires placed { FitsKinds puts.now inner.now (λ ks. kind_at ks i ≡ Some proper) }
     ensures made { IfOk result (λ m. IsMadeIn puts.now inner.now m (replaced puts.now inner.now (Var i))) }
     ensures reason { IfErr result (λ e. IsReason (weigh (weights_in puts.now inner.now) (replaced puts.now inner.now (Var i))) e) }
 {
@@ -105,7 +105,7 @@ pub fn made_type(
     puts: &Puts,
     inner: &mut Vec<Measures>,
 ) -> Result<Made, MakeError>
-    requires placed { IsPlaced puts.now inner.old.items (λ ks. IsWellFormed (names_in puts.now) ks (plain t.now)) }
+    requires placed { FitsKinds puts.now inner.old.items (λ ks. IsWellFormed (context_names puts.now) ks (plain t.now)) }
     ensures made { IfOk result (λ m. IsMadeIn puts.now inner.old.items m (replaced puts.now inner.old.items (plain t.now))) }
     ensures reason { IfErr result (λ e. IsReason (weigh (weights_in puts.now inner.old.items) (replaced puts.now inner.old.items (plain t.now))) e) }
     ensures inner { OnOk result (inner.new.items ≡ inner.old.items) }
@@ -138,7 +138,7 @@ fn made_apply(
     puts: &Puts,
     inner: &mut Vec<Measures>,
 ) -> Result<Made, MakeError>
-    requires placed { IsPlaced puts.now inner.old.items (λ ks. IsWellFormed (names_in puts.now) ks (Apply i (plain_types ts.now))) }
+    requires placed { FitsKinds puts.now inner.old.items (λ ks. IsWellFormed (context_names puts.now) ks (Apply i (plain_types ts.now))) }
     ensures made { IfOk result (λ m. IsMadeIn puts.now inner.old.items m (replaced puts.now inner.old.items (Apply i (plain_types ts.now)))) }
     ensures reason { IfErr result (λ e. IsReason
         (weigh (weights_in puts.now inner.old.items) (replaced puts.now inner.old.items (Apply i (plain_types ts.now)))) e) }
@@ -165,7 +165,7 @@ fn made_argument(
     puts: &Puts,
     inner: &mut Vec<Measures>,
 ) -> Result<Made, MakeError>
-    requires placed { IsPlaced puts.now inner.old.items (λ ks. IsWellFormed (names_in puts.now) ks (plain t.now)) }
+    requires placed { FitsKinds puts.now inner.old.items (λ ks. IsWellFormed (context_names puts.now) ks (plain t.now)) }
     ensures made { IfOk result (λ m. IsMadeIn puts.now inner.old.items m (used_as used (replaced puts.now inner.old.items (plain t.now)))) }
     ensures reason { IfErr result (λ e. IsReason
         (weigh (weights_in puts.now inner.old.items) (used_as used (replaced puts.now inner.old.items (plain t.now)))) e) }
@@ -200,7 +200,7 @@ fn made_arguments(
     puts: &Puts,
     inner: &mut Vec<Measures>,
 ) -> Result<Arguments, MakeError>
-    requires placed { IsPlaced puts.now inner.old.items (λ ks. AreWellFormed (names_in puts.now) ks (plain_types ts.now)) }
+    requires placed { FitsKinds puts.now inner.old.items (λ ks. AreWellFormed (context_names puts.now) ks (plain_types ts.now)) }
     requires used { length used.now ≡ length ts.now }
     requires few { length ts.now < 2 ^ 32 }
     ensures made { IfOk result (λ a. AreArgumentsIn puts.now inner.old.items a
@@ -228,7 +228,7 @@ pub fn made_types(
     puts: &Puts,
     inner: &mut Vec<Measures>,
 ) -> Result<Row<Ty>, MakeError>
-    requires placed { IsPlaced puts.now inner.old.items (λ ks. AreWellFormed (names_in puts.now) ks (plain_types ts.now)) }
+    requires placed { FitsKinds puts.now inner.old.items (λ ks. AreWellFormed (context_names puts.now) ks (plain_types ts.now)) }
     ensures made { IfOk result (λ r. IsRow plain_types r
         (weigh_types (weights_in puts.now inner.old.items) (replaced_types puts.now inner.old.items (plain_types ts.now))) 0
         (rise_types (heights_in puts.now inner.old.items) (replaced_types puts.now inner.old.items (plain_types ts.now))) 0
@@ -264,7 +264,7 @@ pub fn made_labels(
     puts: &Puts,
     inner: &mut Vec<Measures>,
 ) -> Result<Row<(Name, Ty)>, MakeError>
-    requires placed { IsPlaced puts.now inner.old.items (λ ks. LabelsAreWellFormed (names_in puts.now) ks (plain_labels ls.now)) }
+    requires placed { FitsKinds puts.now inner.old.items (λ ks. LabelsAreWellFormed (context_names puts.now) ks (plain_labels ls.now)) }
     ensures made { IfOk result (λ r. IsRow plain_labels r
         (weigh_labels (weights_in puts.now inner.old.items) (replaced_labels puts.now inner.old.items (plain_labels ls.now))) 0
         (rise_labels (heights_in puts.now inner.old.items) (replaced_labels puts.now inner.old.items (plain_labels ls.now))) 0
@@ -289,7 +289,7 @@ fn made_bound(
     puts: &Puts,
     inner: &mut Vec<Measures>,
 ) -> Result<MadeBound, MakeError>
-    requires placed { IsPlaced puts.now inner.old.items (λ ks. BoundIsWellFormed (names_in puts.now) ks (plain_bound b.now)) }
+    requires placed { FitsKinds puts.now inner.old.items (λ ks. BoundIsWellFormed (context_names puts.now) ks (plain_bound b.now)) }
     ensures made { IfOk result (λ m. IsMadeBoundIn puts.now inner.old.items m (replaced_bound puts.now inner.old.items (plain_bound b.now))) }
     ensures reason { IfErr result (λ e. IsReason
         (weigh_variable (weights_in puts.now inner.old.items) (replaced_bound puts.now inner.old.items (plain_bound b.now))) e) }
@@ -312,7 +312,7 @@ fn made_bounds(
     puts: &Puts,
     inner: &mut Vec<Measures>,
 ) -> Result<Row<Bound>, MakeError>
-    requires placed { IsPlaced puts.now inner.old.items (λ ks. BoundsAreWellFormed (names_in puts.now) ks (plain_bounds bs.now)) }
+    requires placed { FitsKinds puts.now inner.old.items (λ ks. BoundsAreWellFormed (context_names puts.now) ks (plain_bounds bs.now)) }
     ensures made { IfOk result (λ r. IsRow plain_bounds r
         (weigh_bounds (weights_in puts.now inner.old.items) (replaced_bounds puts.now inner.old.items (plain_bounds bs.now))) 0
         (rise_bounds (heights_in puts.now inner.old.items) (replaced_bounds puts.now inner.old.items (plain_bounds bs.now))) 0
@@ -338,7 +338,7 @@ fn made_record(
     puts: &Puts,
     inner: &mut Vec<Measures>,
 ) -> Result<Made, MakeError>
-    requires placed { IsPlaced puts.now inner.old.items (λ ks. IsWellFormed (names_in puts.now) ks (plain_record r.now)) }
+    requires placed { FitsKinds puts.now inner.old.items (λ ks. IsWellFormed (context_names puts.now) ks (plain_record r.now)) }
     ensures made { IfOk result (λ m. IsMadeIn puts.now inner.old.items m (replaced puts.now inner.old.items (plain_record r.now))) }
     ensures reason { IfErr result (λ e. IsReason (weigh (weights_in puts.now inner.old.items) (replaced puts.now inner.old.items (plain_record r.now))) e) }
     ensures inner { OnOk result (inner.new.items ≡ inner.old.items) }

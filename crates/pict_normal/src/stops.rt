@@ -7,7 +7,7 @@ ghost use Rattle.pict_normal.specs.Around.{around};
 ghost use Rattle.pict_types.specs.Plain.{plain};
 ghost use Rattle.pict_types.specs.PlainContext.{names_of};
 ghost use Rattle.pict_binders.specs.Names.{place_of};
-ghost use Rattle.pict_types.specs.Places.{arity_at, names_in};
+ghost use Rattle.pict_types.specs.Places.{arity_at, entry_names};
 ghost use Rattle.pict_normal.specs.Raw.{variable_at};
 ghost use Rattle.pict_normal.specs.Refusals.{IsFirst};
 
@@ -55,7 +55,7 @@ impl<T: Drop> From<AllocFailed<T>> for KindError {
 /// The place of a name among the binders and then the entries of the context, counted from the innermost. An error
 /// where a `u32` can't hold it.
 fn place_of(c: &Context, inner: &Binders, name: Name) -> Result<Option<u32>, AllocError>
-    ensures { IfOk result (λ i. i ≡ place_of (names_in (around inner.now c.now)) name.0) }
+    ensures { IfOk result (λ i. i ≡ place_of (entry_names (around inner.now c.now)) name.0) }
 {
     match inner.place(name) {
         Some(i) => Ok(Some(number(i)?)),
@@ -78,7 +78,7 @@ fn arity(c: &Context, inner: &Binders, place: usize) -> Option<usize>
 
 /// The variable of a name that stands as a type. K2 where it is an operator.
 pub fn raw_use(span: Span, name: Name, c: &Context, inner: &Binders) -> Result<Ty, KindError>
-    ensures raw { IfOk result (λ u. plain u ≡ variable_at (place_of (names_in (around inner.now c.now)) name.0)) }
+    ensures raw { IfOk result (λ u. plain u ≡ variable_at (place_of (entry_names (around inner.now c.now)) name.0)) }
     ensures kinds { IfOk result (λ _. kind_stops (names_of c.now) (around inner.now c.now) (use_type span name) ≡ []) }
     ensures first { IfErr result (λ e. IsFirst (kind_stops (names_of c.now) (around inner.now c.now) (use_type span name)) e) }
 {
@@ -100,7 +100,7 @@ pub fn raw_head(
     c: &Context,
     inner: &Binders,
 ) -> Result<Option<u32>, KindError>
-    ensures raw { IfOk result (λ i. i ≡ place_of (names_in (around inner.now c.now)) name.0) }
+    ensures raw { IfOk result (λ i. i ≡ place_of (entry_names (around inner.now c.now)) name.0) }
     ensures kinds { IfOk result (λ _. apply_stops span (meaning (around inner.now c.now) name.0) count ≡ []) }
     ensures first { IfErr result (λ e. IsFirst (apply_stops span (meaning (around inner.now c.now) name.0) count) e) }
 {

@@ -11,7 +11,7 @@ use Rattle.pict_core.specs.Plain.{plain_core}
 use Rattle.pict_object.specs.declared.error.DecodeError.{DecodeError}
 use Rattle.pict_object.specs.declared.error.DecodeError.TheVariants as error
 use Rattle.pict_object.specs.Objects.{count_bytes, text_bytes, header}
-use Rattle.pict_object.specs.Reading.{Gives, whole_at}
+use Rattle.pict_object.specs.Reading.{GivesReading, whole_at}
 use Rattle.pict_object.specs.Decoded.{IsDecoded, GainsLabels}
 use Rattle.pict_object.specs.Heads.{lent, IsHead, UsesLabels, AreNumbered}
 use Rattle.pict_object.proofs.Fronts.{IsBytes, IsBytes-drop}
@@ -26,14 +26,14 @@ behind_head bytes rest table fits head =
 
 -- the process is read with the labels' numbers
 pub decoded_as : (old new table : List (List ℕ)) (labels lent_labels : List Name) (bytes rest : List ℕ) (result : Result Core DecodeError) → lent_labels ≡ labels → IsBytes rest → IsHead bytes table rest → UsesLabels (length table) rest
-    → AreNumbered old new table labels → Gives (λ core. plain_core core) result (whole_at lent_labels rest) → IfOk result (λ core. IsDecoded old new bytes (plain_core core))
+    → AreNumbered old new table labels → GivesReading (λ core. plain_core core) result (whole_at lent_labels rest) → IfOk result (λ core. IsDecoded old new bytes (plain_core core))
 decoded_as old new table labels lent_labels bytes rest (Err e) same fits head used numbered read = tt
 decoded_as old new table labels lent_labels bytes rest (Ok core) same fits head used numbered read =
     decoded old new table labels bytes rest fits head used numbered (plain_core core) (subst (λ ls. whole_at ls rest ≡ Some (plain_core core)) same read)
 
 -- and it isn't refused then
 pub never_refused : (old new table : List (List ℕ)) (labels lent_labels : List Name) (bytes rest : List ℕ) (result : Result Core DecodeError) → lent_labels ≡ labels → IsBytes rest → IsHead bytes table rest → UsesLabels (length table) rest
-    → AreNumbered old new table labels → Gives (λ core. plain_core core) result (whole_at lent_labels rest) → result ≡ Err error.NotObject → ⊥
+    → AreNumbered old new table labels → GivesReading (λ core. plain_core core) result (whole_at lent_labels rest) → result ≡ Err error.NotObject → ⊥
 never_refused old new table labels lent_labels bytes rest (Ok core) same fits head used numbered read e = cc
 never_refused old new table labels lent_labels bytes rest (Err error.Memory) same fits head used numbered read e = cc
 never_refused old new table labels lent_labels bytes rest (Err error.NotObject) same fits head used numbered read e =

@@ -27,9 +27,9 @@ abbrev pub Refuses : {Y : Type 0} → DecodeError → Option Y → Type 0
 Refuses error.NotObject read = read ≡ None
 Refuses error.Memory read = Unit {0}
 
-abbrev pub Gives : {X Y : Type 0} → (X → Y) → Result X DecodeError → Option Y → Type 0
-Gives view (Ok x) read = read ≡ Some (view x)
-Gives view (Err e) read = Refuses e read
+abbrev pub GivesReading : {X Y : Type 0} → (X → Y) → Result X DecodeError → Option Y → Type 0
+GivesReading view (Ok x) read = read ≡ Some (view x)
+GivesReading view (Err e) read = Refuses e read
 
 -- the process that a part holds, and what is behind it
 abbrev pub part_and : List ℕ → Part → Process × List ℕ

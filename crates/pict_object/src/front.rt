@@ -2,14 +2,14 @@
 
 ghost use Rattle.std.specs.Prelude.{◌<◌, length, IfOk};
 ghost use Rattle.std.specs.Int.{w32, w64};
-ghost use Rattle.pict_object.specs.Reading.{Gives, number_at, byte_at, text_at, label_at};
+ghost use Rattle.pict_object.specs.Reading.{GivesReading, number_at, byte_at, text_at, label_at};
 
 use crate::error::DecodeError;
 use pict_syntax::Name;
 
 /// The number in four bytes, and what is behind it.
 pub(crate) fn read_count(bytes: &[u8]) -> Result<(u32, &[u8]), DecodeError>
-    ensures { Gives (λ x. (x.0, x.1.now)) result (number_at w32 bytes.now) }
+    ensures { GivesReading (λ x. (x.0, x.1.now)) result (number_at w32 bytes.now) }
 {
     if bytes.len() < 4 {
         return Err(DecodeError::NotObject);
@@ -21,7 +21,7 @@ pub(crate) fn read_count(bytes: &[u8]) -> Result<(u32, &[u8]), DecodeError>
 
 /// The number in eight bytes, and what is behind it.
 pub(crate) fn read_bits(bytes: &[u8]) -> Result<(u64, &[u8]), DecodeError>
-    ensures { Gives (λ x. (x.0, x.1.now)) result (number_at w64 bytes.now) }
+    ensures { GivesReading (λ x. (x.0, x.1.now)) result (number_at w64 bytes.now) }
 {
     if bytes.len() < 8 {
         return Err(DecodeError::NotObject);
@@ -36,7 +36,7 @@ pub(crate) fn read_bits(bytes: &[u8]) -> Result<(u64, &[u8]), DecodeError>
 /// The first byte, and what is behind it.
 #[tactic(auto, unfolding(crate::specs::Reading::byte_at))]
 pub(crate) fn read_byte(bytes: &[u8]) -> Result<(u8, &[u8]), DecodeError>
-    ensures { Gives (λ x. (x.0, x.1.now)) result (byte_at bytes.now) }
+    ensures { GivesReading (λ x. (x.0, x.1.now)) result (byte_at bytes.now) }
 {
     match bytes {
         [] => Err(DecodeError::NotObject),
@@ -47,7 +47,7 @@ pub(crate) fn read_byte(bytes: &[u8]) -> Result<(u8, &[u8]), DecodeError>
 /// The bytes behind their count, and what is behind them.
 #[tactic(auto, unfolding(crate::specs::Reading::text_at))]
 pub(crate) fn read_text(bytes: &[u8]) -> Result<(&[u8], &[u8]), DecodeError>
-    ensures { Gives (λ x. (x.0.now, x.1.now)) result (text_at bytes.now) }
+    ensures { GivesReading (λ x. (x.0.now, x.1.now)) result (text_at bytes.now) }
 {
     let (count, rest) = read_count(bytes)?;
     let len = count as usize;
@@ -65,7 +65,7 @@ pub(crate) fn read_label<'a>(
     labels: &[Name],
     from: usize,
 ) -> Result<(usize, &'a [u8]), DecodeError>
-    ensures place { Gives (λ x. (x.0, x.1.now)) result (label_at labels.now from bytes.now) }
+    ensures place { GivesReading (λ x. (x.0, x.1.now)) result (label_at labels.now from bytes.now) }
     ensures within { IfOk result (λ x. x.0 < length labels.now) }
 {
     let (number, rest) = read_count(bytes)?;

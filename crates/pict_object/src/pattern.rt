@@ -3,7 +3,7 @@
 ghost use Rattle.std.specs.Prelude.{◌≡◌, ◌-◌, ◌^◌, min, map};
 ghost use Rattle.pict_core.specs.Plain.{plain_pat, plain_pat_field, pats_of, labelled_pats_of};
 ghost use Rattle.pict_core.specs.Closed.{binds, binds_all, binds_labelled};
-ghost use Rattle.pict_object.specs.Reading.{Gives, record_pattern_at, pattern_at, counted_at, labelled_at};
+ghost use Rattle.pict_object.specs.Reading.{GivesReading, record_pattern_at, pattern_at, counted_at, labelled_at};
 
 use crate::error::DecodeError;
 use crate::front::{read_byte, read_count, read_label};
@@ -19,7 +19,7 @@ pub(crate) fn read_pattern<'a>(
     labels: &[Name],
     left: u32,
 ) -> Result<(CorePat, &'a [u8]), DecodeError>
-    ensures { Gives (λ x. (plain_pat x.0, x.1.now)) result (pattern_at labels.now left bytes.now) }
+    ensures { GivesReading (λ x. (plain_pat x.0, x.1.now)) result (pattern_at labels.now left bytes.now) }
 {
     let (tag, rest) = read_byte(bytes)?;
     match tag {
@@ -44,7 +44,7 @@ fn read_record<'a>(
     labels: &[Name],
     left: u32,
 ) -> Result<(CorePat, &'a [u8]), DecodeError>
-    ensures { Gives (λ x. (plain_pat x.0, x.1.now)) result (record_pattern_at labels.now (pattern_at labels.now left) bytes.now) }
+    ensures { GivesReading (λ x. (plain_pat x.0, x.1.now)) result (record_pattern_at labels.now (pattern_at labels.now left) bytes.now) }
 {
     let (positional, rest) = read_patterns(alloc, bytes, labels, left)?;
     let (labelled, rest) = read_pattern_fields(alloc, rest, labels, left)?;
@@ -63,7 +63,7 @@ fn read_patterns<'a>(
     labels: &[Name],
     left: u32,
 ) -> Result<(Vec<CorePat>, &'a [u8]), DecodeError>
-    ensures { Gives (λ x. (map plain_pat x.0.items, x.1.now)) result (counted_at (pattern_at labels.now left) bytes.now) }
+    ensures { GivesReading (λ x. (map plain_pat x.0.items, x.1.now)) result (counted_at (pattern_at labels.now left) bytes.now) }
 {
     let (count, first) = read_count(bytes)?;
     let mut patterns = Vec::new(alloc);
@@ -84,7 +84,7 @@ fn read_pattern_fields<'a>(
     labels: &[Name],
     left: u32,
 ) -> Result<(Vec<(Name, CorePat)>, &'a [u8]), DecodeError>
-    ensures { Gives (λ x. (map plain_pat_field x.0.items, x.1.now)) result (labelled_at labels.now (pattern_at labels.now left) bytes.now) }
+    ensures { GivesReading (λ x. (map plain_pat_field x.0.items, x.1.now)) result (labelled_at labels.now (pattern_at labels.now left) bytes.now) }
 {
     let (count, first) = read_count(bytes)?;
     let mut fields = Vec::new(alloc);

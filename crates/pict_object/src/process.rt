@@ -7,7 +7,7 @@ ghost use Rattle.std.specs.Prelude.{◌≡◌, ℕ, List, Option, Some};
 ghost use Rattle.pict_core.specs.Closed.{binds};
 ghost use Rattle.pict_core.specs.Term.{Val, Pat, Process, Zero, Par, New, Out, In, If};
 ghost use Rattle.pict_object.specs.Objects.{nowhere};
-ghost use Rattle.pict_object.specs.Reading.{and_then, part_and, Gives, more, value_at, receiver_at, par_at, new_at, out_at, in_at, if_at, tagged_at, process_at, whole_at};
+ghost use Rattle.pict_object.specs.Reading.{and_then, part_and, GivesReading, more, value_at, receiver_at, par_at, new_at, out_at, in_at, if_at, tagged_at, process_at, whole_at};
 
 use crate::error::DecodeError;
 use crate::pattern::{read_pattern, variables};
@@ -25,23 +25,23 @@ struct Receiver {
 
 #[inline(never)]
 fn zero(alloc: Global) -> Result<Part, DecodeError>
-    ensures { (rest : List ℕ) → Gives (part_and rest) result (Some (Zero, rest)) }
+    ensures { (rest : List ℕ) → GivesReading (part_and rest) result (Some (Zero, rest)) }
 {
     Ok(Part::new(alloc, Core::Zero)?)
 }
 
 #[inline(never)]
 fn par(alloc: Global, left: Part, right: Result<Part, DecodeError>) -> Result<Part, DecodeError>
-    ensures { (read : Option (Process × List ℕ)) (rest : List ℕ) → Gives (part_and rest) right read
-        → Gives (part_and rest) result (and_then read (λ right. Some (Par (plain_core (core_of left)) right.0, right.1))) }
+    ensures { (read : Option (Process × List ℕ)) (rest : List ℕ) → GivesReading (part_and rest) right read
+        → GivesReading (part_and rest) result (and_then read (λ right. Some (Par (plain_core (core_of left)) right.0, right.1))) }
 {
     Ok(Part::new(alloc, Core::Par(left, right?))?)
 }
 
 #[inline(never)]
 fn new(alloc: Global, body: Result<Part, DecodeError>) -> Result<Part, DecodeError>
-    ensures { (read : Option (Process × List ℕ)) (rest : List ℕ) → Gives (part_and rest) body read
-        → Gives (part_and rest) result (and_then read (λ body. Some (New body.0, body.1))) }
+    ensures { (read : Option (Process × List ℕ)) (rest : List ℕ) → GivesReading (part_and rest) body read
+        → GivesReading (part_and rest) result (and_then read (λ body. Some (New body.0, body.1))) }
 {
     Ok(Part::new(alloc, Core::New(body?))?)
 }
@@ -64,8 +64,8 @@ fn input(
     receiver: Box<Receiver>,
     body: Result<Part, DecodeError>,
 ) -> Result<Part, DecodeError>
-    ensures { (read : Option (Process × List ℕ)) (rest : List ℕ) → Gives (part_and rest) body read
-        → Gives (part_and rest) result
+    ensures { (read : Option (Process × List ℕ)) (rest : List ℕ) → GivesReading (part_and rest) body read
+        → GivesReading (part_and rest) result
         (and_then read (λ body. Some (In (plain_val receiver.value.chan) replicated (plain_pat receiver.value.pattern) body.0, body.1))) }
 {
     let body = body?;
@@ -86,8 +86,8 @@ fn conditional(
     yes: Part,
     no: Result<Part, DecodeError>,
 ) -> Result<Part, DecodeError>
-    ensures { (read : Option (Process × List ℕ)) (rest : List ℕ) → Gives (part_and rest) no read
-        → Gives (part_and rest) result
+    ensures { (read : Option (Process × List ℕ)) (rest : List ℕ) → GivesReading (part_and rest) no read
+        → GivesReading (part_and rest) result
         (and_then read (λ second. Some (If (plain_val test.value) (plain_core (core_of yes)) second.0, second.1))) }
 {
     let no = no?;
@@ -115,7 +115,7 @@ fn take_value<'a>(
     labels: &[Name],
     bound: u64,
 ) -> Result<Box<CoreVal>, DecodeError>
-    ensures { Gives {Y = Val × List ℕ} (λ x. (plain_val x.value, rest.new.now)) result (value_at labels.now bound NESTING_LIMIT rest.old.now) }
+    ensures { GivesReading {Y = Val × List ℕ} (λ x. (plain_val x.value, rest.new.now)) result (value_at labels.now bound NESTING_LIMIT rest.old.now) }
 {
     let (value, behind) = read_value(alloc, *rest, labels, bound, NESTING_LIMIT)?;
     *rest = behind;
@@ -131,7 +131,7 @@ fn take_receiver<'a>(
     labels: &[Name],
     bound: u64,
 ) -> Result<Box<Receiver>, DecodeError>
-    ensures { Gives {Y = (Val × Pat) × List ℕ} (λ x. ((plain_val x.value.chan, plain_pat x.value.pattern), rest.new.now)) result
+    ensures { GivesReading {Y = (Val × Pat) × List ℕ} (λ x. ((plain_val x.value.chan, plain_pat x.value.pattern), rest.new.now)) result
         (receiver_at labels.now bound rest.old.now) }
 {
     let (chan, behind) = read_value(alloc, *rest, labels, bound, NESTING_LIMIT)?;
@@ -151,7 +151,7 @@ pub(crate) fn read_part<'a>(
     bound: u64,
     left: u64,
 ) -> Result<Part, DecodeError>
-    ensures { Gives (part_and rest.new.now) result (process_at labels.now left bound rest.old.now) }
+    ensures { GivesReading (part_and rest.new.now) result (process_at labels.now left bound rest.old.now) }
 {
     if left == 0 {
         return Err(DecodeError::NotObject);
@@ -177,7 +177,7 @@ fn read_tagged<'a>(
     bound: u64,
     left: u64,
 ) -> Result<Part, DecodeError>
-    ensures { Gives (part_and rest.new.now) result (tagged_at labels.now (process_at labels.now left) bound tag rest.old.now) }
+    ensures { GivesReading (part_and rest.new.now) result (tagged_at labels.now (process_at labels.now left) bound tag rest.old.now) }
 {
     match tag {
         0 => zero(alloc),
@@ -201,7 +201,7 @@ fn read_par<'a>(
     bound: u64,
     left: u64,
 ) -> Result<Part, DecodeError>
-    ensures { Gives (part_and rest.new.now) result (par_at (process_at labels.now left) bound rest.old.now) }
+    ensures { GivesReading (part_and rest.new.now) result (par_at (process_at labels.now left) bound rest.old.now) }
 {
     let first = read_part(alloc, rest, labels, bound, left)?;
     par(alloc, first, read_part(alloc, rest, labels, bound, left))
@@ -217,7 +217,7 @@ fn read_new<'a>(
     bound: u64,
     left: u64,
 ) -> Result<Part, DecodeError>
-    ensures { Gives (part_and rest.new.now) result (new_at (process_at labels.now left) bound rest.old.now) }
+    ensures { GivesReading (part_and rest.new.now) result (new_at (process_at labels.now left) bound rest.old.now) }
 {
     let inner = bound.saturating_add(1);
     new(alloc, read_part(alloc, rest, labels, inner, left))
@@ -231,7 +231,7 @@ fn read_out<'a>(
     labels: &[Name],
     bound: u64,
 ) -> Result<Part, DecodeError>
-    ensures { Gives (part_and rest.new.now) result (out_at labels.now bound rest.old.now) }
+    ensures { GivesReading (part_and rest.new.now) result (out_at labels.now bound rest.old.now) }
 {
     let (chan, behind) = read_value(alloc, *rest, labels, bound, NESTING_LIMIT)?;
     let (message, behind) = read_value(alloc, behind, labels, bound, NESTING_LIMIT)?;
@@ -249,7 +249,7 @@ fn read_in<'a>(
     bound: u64,
     left: u64,
 ) -> Result<Part, DecodeError>
-    ensures { Gives (part_and rest.new.now) result (in_at labels.now replicated (process_at labels.now left) bound rest.old.now) }
+    ensures { GivesReading (part_and rest.new.now) result (in_at labels.now replicated (process_at labels.now left) bound rest.old.now) }
 {
     let receiver = take_receiver(alloc, rest, labels, bound)?;
     let inner = inside(bound, &receiver);
@@ -267,7 +267,7 @@ fn read_if<'a>(
     bound: u64,
     left: u64,
 ) -> Result<Part, DecodeError>
-    ensures { Gives (part_and rest.new.now) result (if_at labels.now (process_at labels.now left) bound rest.old.now) }
+    ensures { GivesReading (part_and rest.new.now) result (if_at labels.now (process_at labels.now left) bound rest.old.now) }
 {
     let test = take_value(alloc, rest, labels, bound)?;
     let yes = read_part(alloc, rest, labels, bound, left)?;
@@ -278,7 +278,7 @@ fn read_if<'a>(
 /// The process that all of these bytes are.
 #[tactic(auto, unfolding(crate::specs::Reading::whole_at))]
 pub(crate) fn read_whole(alloc: Global, bytes: &[u8], labels: &[Name]) -> Result<Core, DecodeError>
-    ensures { Gives (λ core. plain_core core) result (whole_at labels.now bytes.now) }
+    ensures { GivesReading (λ core. plain_core core) result (whole_at labels.now bytes.now) }
 {
     let mut rest = bytes;
     let part = read_part(alloc, &mut rest, labels, 0, DEPTH_LIMIT)?;

@@ -6,7 +6,7 @@ ghost use Rattle.std.specs.Cmp.Lexicographic.{slice_cmp};
 ghost use Rattle.std.specs.declared.cmp.Ordering.TheVariants.{Less};
 ghost use Rattle.pict_object.specs.declared.error.DecodeError.TheVariants.{NotObject};
 ghost use Rattle.pict_object.specs.Cores.{IsLabelText};
-ghost use Rattle.pict_object.specs.Reading.{Gives, text_at, counted_at};
+ghost use Rattle.pict_object.specs.Reading.{GivesReading, text_at, counted_at};
 ghost use Rattle.pict_object.specs.Heads.{lent, AreLabelTexts, IsHead};
 
 use crate::error::DecodeError;
@@ -43,7 +43,7 @@ fn behind<'a>(front: &[u8], bytes: &'a [u8]) -> Option<&'a [u8]>
 
 // Texts behind their count.
 fn read_texts(alloc: Global, bytes: &[u8]) -> Result<(Vec<&[u8]>, &[u8]), DecodeError>
-    ensures { Gives (λ x. (lent x.0.items, x.1.now)) result (counted_at text_at bytes.now) }
+    ensures { GivesReading (λ x. (lent x.0.items, x.1.now)) result (counted_at text_at bytes.now) }
 {
     let (count, first) = read_count(bytes)?;
     let mut texts = Vec::new(alloc);

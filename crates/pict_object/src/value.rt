@@ -2,7 +2,7 @@
 
 ghost use Rattle.std.specs.Prelude.{◌≡◌, map};
 ghost use Rattle.pict_core.specs.Plain.{plain_val, plain_field};
-ghost use Rattle.pict_object.specs.Reading.{Gives, variable_at, int_at, char_at, string_at, primitive_at, simple_at, record_at, value_at, counted_at, labelled_at};
+ghost use Rattle.pict_object.specs.Reading.{GivesReading, variable_at, int_at, char_at, string_at, primitive_at, simple_at, record_at, value_at, counted_at, labelled_at};
 
 use crate::error::DecodeError;
 use crate::front::{read_bits, read_byte, read_count, read_label, read_text};
@@ -12,7 +12,7 @@ use std::alloc::Global;
 
 #[tactic(auto, unfolding(crate::specs::Reading::variable_at))]
 fn read_variable(bytes: &[u8], bound: u64) -> Result<(CoreVal, &[u8]), DecodeError>
-    ensures { Gives (λ x. (plain_val x.0, x.1.now)) result (variable_at bound bytes.now) }
+    ensures { GivesReading (λ x. (plain_val x.0, x.1.now)) result (variable_at bound bytes.now) }
 {
     let (level, rest) = read_count(bytes)?;
     if (level as u64) < bound {
@@ -24,7 +24,7 @@ fn read_variable(bytes: &[u8], bound: u64) -> Result<(CoreVal, &[u8]), DecodeErr
 
 #[tactic(auto, unfolding(crate::specs::Reading::int_at))]
 fn read_int(bytes: &[u8]) -> Result<(CoreVal, &[u8]), DecodeError>
-    ensures { Gives (λ x. (plain_val x.0, x.1.now)) result (int_at bytes.now) }
+    ensures { GivesReading (λ x. (plain_val x.0, x.1.now)) result (int_at bytes.now) }
 {
     let (bits, rest) = read_bits(bytes)?;
     Ok((CoreVal::Int(bits.cast_signed()), rest))
@@ -32,7 +32,7 @@ fn read_int(bytes: &[u8]) -> Result<(CoreVal, &[u8]), DecodeError>
 
 #[tactic(auto, unfolding(crate::specs::Reading::char_at))]
 fn read_char(bytes: &[u8]) -> Result<(CoreVal, &[u8]), DecodeError>
-    ensures { Gives (λ x. (plain_val x.0, x.1.now)) result (char_at bytes.now) }
+    ensures { GivesReading (λ x. (plain_val x.0, x.1.now)) result (char_at bytes.now) }
 {
     let (byte, rest) = read_byte(bytes)?;
     Ok((CoreVal::Char(byte), rest))
@@ -40,7 +40,7 @@ fn read_char(bytes: &[u8]) -> Result<(CoreVal, &[u8]), DecodeError>
 
 #[tactic(auto, unfolding(crate::specs::Reading::string_at))]
 fn read_string(alloc: Global, bytes: &[u8]) -> Result<(CoreVal, &[u8]), DecodeError>
-    ensures { Gives (λ x. (plain_val x.0, x.1.now)) result (string_at bytes.now) }
+    ensures { GivesReading (λ x. (plain_val x.0, x.1.now)) result (string_at bytes.now) }
 {
     let (text, rest) = read_text(bytes)?;
     let string = Bytes::copy_of(alloc, text)?;
@@ -49,7 +49,7 @@ fn read_string(alloc: Global, bytes: &[u8]) -> Result<(CoreVal, &[u8]), DecodeEr
 
 #[tactic(auto, unfolding(crate::specs::Reading::primitive_at))]
 fn read_primitive(bytes: &[u8]) -> Result<(CoreVal, &[u8]), DecodeError>
-    ensures { Gives (λ x. (plain_val x.0, x.1.now)) result (primitive_at bytes.now) }
+    ensures { GivesReading (λ x. (plain_val x.0, x.1.now)) result (primitive_at bytes.now) }
 {
     let (number, rest) = read_byte(bytes)?;
     match Primitive::numbered(u64::from(number)) {
@@ -66,7 +66,7 @@ fn read_simple(
     bytes: &[u8],
     bound: u64,
 ) -> Result<(CoreVal, &[u8]), DecodeError>
-    ensures { Gives (λ x. (plain_val x.0, x.1.now)) result (simple_at bound tag bytes.now) }
+    ensures { GivesReading (λ x. (plain_val x.0, x.1.now)) result (simple_at bound tag bytes.now) }
 {
     match tag {
         0x10 => read_variable(bytes, bound),
@@ -89,7 +89,7 @@ pub(crate) fn read_value<'a>(
     bound: u64,
     left: u32,
 ) -> Result<(CoreVal, &'a [u8]), DecodeError>
-    ensures { Gives (λ x. (plain_val x.0, x.1.now)) result (value_at labels.now bound left bytes.now) }
+    ensures { GivesReading (λ x. (plain_val x.0, x.1.now)) result (value_at labels.now bound left bytes.now) }
 {
     let (tag, rest) = read_byte(bytes)?;
     if tag != 0x17 {
@@ -111,7 +111,7 @@ fn read_record<'a>(
     bound: u64,
     left: u32,
 ) -> Result<(CoreVal, &'a [u8]), DecodeError>
-    ensures { Gives (λ x. (plain_val x.0, x.1.now)) result (record_at labels.now (value_at labels.now bound left) bytes.now) }
+    ensures { GivesReading (λ x. (plain_val x.0, x.1.now)) result (record_at labels.now (value_at labels.now bound left) bytes.now) }
 {
     let (positional, rest) = read_values(alloc, bytes, labels, bound, left)?;
     let (labelled, rest) = read_fields(alloc, rest, labels, bound, left)?;
@@ -131,7 +131,7 @@ fn read_values<'a>(
     bound: u64,
     left: u32,
 ) -> Result<(Vec<CoreVal>, &'a [u8]), DecodeError>
-    ensures { Gives (λ x. (map plain_val x.0.items, x.1.now)) result (counted_at (value_at labels.now bound left) bytes.now) }
+    ensures { GivesReading (λ x. (map plain_val x.0.items, x.1.now)) result (counted_at (value_at labels.now bound left) bytes.now) }
 {
     let (count, first) = read_count(bytes)?;
     let mut values = Vec::new(alloc);
@@ -153,7 +153,7 @@ fn read_fields<'a>(
     bound: u64,
     left: u32,
 ) -> Result<(Vec<(Name, CoreVal)>, &'a [u8]), DecodeError>
-    ensures { Gives (λ x. (map plain_field x.0.items, x.1.now)) result (labelled_at labels.now (value_at labels.now bound left) bytes.now) }
+    ensures { GivesReading (λ x. (map plain_field x.0.items, x.1.now)) result (labelled_at labels.now (value_at labels.now bound left) bytes.now) }
 {
     let (count, first) = read_count(bytes)?;
     let mut fields = Vec::new(alloc);

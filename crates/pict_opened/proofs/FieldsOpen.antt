@@ -13,7 +13,7 @@ use Rattle.pict_typing.specs.Opening.{Opens, OpenTypes, OpenLabels, binds_one, o
 use Rattle.pict_erase.specs.Embedding.{erased_context, Embeds}
 use Rattle.pict_erase.proofs.Erased.{type_at_erased}
 use Rattle.pict_rules.specs.Environments.{Environment, Extension, context_of, no_extension}
-use Rattle.pict_opened.specs.Opening.{meaning, IsPlaced, AddsWhatIsOpened}
+use Rattle.pict_opened.specs.Opening.{meaning, IsExtensionPlaced, AddsWhatIsOpened}
 use Rattle.pict_opened.proofs.Joining.{type_after}
 use Rattle.pict_opened.proofs.Opened.{embeds_after, opens_embeds, types_embed, labels_embed}
 use Rattle.pict_typing.proofs.ValuesPut.{stays_before}
@@ -97,7 +97,7 @@ pub record AllOpened (e : Environment) (f : ℕ → ℕ) (slots : List (Option �
   pub types_ : List PlainType
   pub opens : opening context more types_
   pub as_many : length slots ≡ length types_
-  pub placed : Each (IsPlaced e f context more slots types_) adds
+  pub placed : Each (IsExtensionPlaced e f context more slots types_) adds
   pub answer_at : AnswerIsAt o place f more types_
 
 length_shifted : (n : ℕ) (ts : List PlainType) → length (map (shifted n) ts) ≡ length ts
@@ -107,7 +107,7 @@ counted : (slots others : List (Option ℕ)) (n : ℕ) (ts us : List PlainType) 
 counted slots others n ts us x y = length-append slots others ∙ ap₂ (λ a b. a + b) (x ∙ sym (length_shifted n ts)) y ∙ sym (length-append (map (shifted n) ts) us)
 
 -- what is opened first, and what is opened after it
-placed_first : (e : Environment) (f : ℕ → ℕ) (c d : TypeContext) (m n : ℕ) (slots others : List (Option ℕ)) (ts us : List PlainType) (x : Extension) → Embeds (moved n 0) c d → IsPlaced e f c m slots ts x → IsPlaced e f d (m + n) (slots ++ others) (map (shifted n) ts ++ us) x
+placed_first : (e : Environment) (f : ℕ → ℕ) (c d : TypeContext) (m n : ℕ) (slots others : List (Option ℕ)) (ts us : List PlainType) (x : Extension) → Embeds (moved n 0) c d → IsExtensionPlaced e f c m slots ts x → IsExtensionPlaced e f d (m + n) (slots ++ others) (map (shifted n) ts ++ us) x
 placed_first e f c d m n slots others ts us x i p = record {
   later = λ k. p.later k + n;
   embeds = embeds_after (λ k. p.later k + n) p.embeds i (λ k. refl);
@@ -119,7 +119,7 @@ placed_first e f c d m n slots others ts us x i p = record {
   };
 }
 
-placed_second : (e : Environment) (f : ℕ → ℕ) (d : TypeContext) (m n : ℕ) (slots others : List (Option ℕ)) (ts us : List PlainType) (x : Extension) → length slots ≡ length ts → IsPlaced e (λ k. f k + m) d n others us x → IsPlaced e f d (m + n) (slots ++ others) (map (shifted n) ts ++ us) x
+placed_second : (e : Environment) (f : ℕ → ℕ) (d : TypeContext) (m n : ℕ) (slots others : List (Option ℕ)) (ts us : List PlainType) (x : Extension) → length slots ≡ length ts → IsExtensionPlaced e (λ k. f k + m) d n others us x → IsExtensionPlaced e f d (m + n) (slots ++ others) (map (shifted n) ts ++ us) x
 placed_second e f d m n slots others ts us x l p = record {
   later = p.later;
   embeds = p.embeds;
@@ -175,7 +175,7 @@ types_open names e a (x ∷ xs) c f i o = first (o.0 c f i) (λ d g j. types_ope
       as_many = counted x.slots (part_slots (and_answer a xs)) r.more p.types_ r.types_ p.as_many r.as_many;
       placed = (
         placed_first e f p.context r.context p.more r.more x.slots (part_slots (and_answer a xs)) p.types_ r.types_ x.adds (types_embed r.opens) p.placed,
-        each_by (IsPlaced e g r.context r.more (part_slots (and_answer a xs)) r.types_) _ (λ y z. placed_second e f r.context p.more r.more x.slots (part_slots (and_answer a xs)) p.types_ r.types_ y p.as_many z) (map (λ y. y.adds) xs) r.placed,
+        each_by (IsExtensionPlaced e g r.context r.more (part_slots (and_answer a xs)) r.types_) _ (λ y z. placed_second e f r.context p.more r.more x.slots (part_slots (and_answer a xs)) p.types_ r.types_ y p.as_many z) (map (λ y. y.adds) xs) r.placed,
       );
       answer_at = answer_second a f p.more r.more (length (part_slots xs)) x.slots (part_slots xs) p.types_ r.types_ p.as_many refl r.answer_at;
     }
@@ -201,7 +201,7 @@ labels_open names e ls (x ∷ xs) c f i h o = first (o.0 c f i) (λ d g j. label
       as_many = counted x.1.slots (labelled_slots xs) r.more p.types_ r.types_ p.as_many r.as_many;
       placed = (
         placed_first e f p.context r.context p.more r.more x.1.slots (labelled_slots xs) p.types_ r.types_ x.1.adds (labels_embed r.opens) p.placed,
-        each_by (IsPlaced e g r.context r.more (labelled_slots xs) r.types_) _ (λ y z. placed_second e f r.context p.more r.more x.1.slots (labelled_slots xs) p.types_ r.types_ y p.as_many z) (map (λ y. y.1.adds) xs) r.placed,
+        each_by (IsExtensionPlaced e g r.context r.more (labelled_slots xs) r.types_) _ (λ y z. placed_second e f r.context p.more r.more x.1.slots (labelled_slots xs) p.types_ r.types_ y p.as_many z) (map (λ y. y.1.adds) xs) r.placed,
       );
       answer_at = tt;
     }
@@ -222,8 +222,8 @@ pub record FieldsOpened (e : Environment) (f : ℕ → ℕ) (slots : List (Optio
   pub opens : opening context more types_
   pub as_many : length slots ≡ length types_
   pub embeds : Embeds (λ i. f i + more) (erased_context (context_of e)) context
-  pub positional : Each (IsPlaced e f context more slots types_) firsts
-  pub labelled : Each (IsPlaced e f context more slots types_) seconds
+  pub positional : Each (IsExtensionPlaced e f context more slots types_) firsts
+  pub labelled : Each (IsExtensionPlaced e f context more slots types_) seconds
   pub answer_at : AnswerIsAt o place f more types_
 
 -- positional patterns, the answer's variable where there is one, and labelled patterns
@@ -247,8 +247,8 @@ record_opens names e a xs ls ys c f i o h k distinct = both (types_open names e 
       opens = opens_record distinct p.opens (subst (λ z. OpenLabels names p.context (labelled_pats ys) z r.context r.more r.types_) (sym (labels_later f p.more ls)) r.opens);
       as_many = counted ss (labelled_slots ys) r.more p.types_ r.types_ p.as_many r.as_many;
       embeds = embeds_after (λ z. f z + (p.more + r.more)) (embeds_after g i (types_embed p.opens) (λ z. refl)) (labels_embed r.opens) (λ z. omega arith);
-      positional = each_by (IsPlaced e f p.context p.more ss p.types_) _ (λ y z. placed_first e f p.context r.context p.more r.more ss (labelled_slots ys) p.types_ r.types_ y (labels_embed r.opens) z) (map (λ x. x.adds) xs) p.placed;
-      labelled = each_by (IsPlaced e g r.context r.more (labelled_slots ys) r.types_) _ (λ y z. placed_second e f r.context p.more r.more ss (labelled_slots ys) p.types_ r.types_ y p.as_many z) (map (λ y. y.1.adds) ys) r.placed;
+      positional = each_by (IsExtensionPlaced e f p.context p.more ss p.types_) _ (λ y z. placed_first e f p.context r.context p.more r.more ss (labelled_slots ys) p.types_ r.types_ y (labels_embed r.opens) z) (map (λ x. x.adds) xs) p.placed;
+      labelled = each_by (IsExtensionPlaced e g r.context r.more (labelled_slots ys) r.types_) _ (λ y z. placed_second e f r.context p.more r.more ss (labelled_slots ys) p.types_ r.types_ y p.as_many z) (map (λ y. y.1.adds) ys) r.placed;
       answer_at = answer_first a f p.more r.more (length (part_slots xs)) p.types_ r.types_ p.answer_at;
     }
       where

@@ -13,10 +13,10 @@ use Rattle.pict_typing.specs.Erasing.{erased}
 use Rattle.pict_typing.specs.Opening.{Opens, LabelsAreDistinct, LacksLabel}
 use Rattle.pict_erase.specs.Embedding.{erased_context, Embeds}
 use Rattle.pict_erase.proofs.Erased.{erased_renamed}
-use Rattle.pict_rules.specs.Environments.{Environment, Extension, KnownType, context_of, within, joined, opened, bounds_of, shifted_by}
+use Rattle.pict_rules.specs.Environments.{Environment, Extension, KnownType, context_of, within, joined_extensions, opened, bounds_of, shifted_by}
 use Rattle.pict_rules.specs.Clauses.{with_own}
-use Rattle.pict_translation.specs.Patterns.{Opened, patterns_in, labelled_patterns_in, names_in, labelled_names_in, record_pat, all_opened, labelled_opened, answer}
-use Rattle.pict_opened.specs.Opening.{meaning, named, IsPlaced, AddsWhatIsOpened}
+use Rattle.pict_translation.specs.Patterns.{Opened, patterns_in, labelled_patterns_in, names_opened, labelled_names_in, record_pat, all_opened, labelled_opened, answer}
+use Rattle.pict_opened.specs.Opening.{meaning, named, IsExtensionPlaced, AddsWhatIsOpened}
 use Rattle.pict_opened.proofs.Joining.{type_after}
 use Rattle.pict_opened.proofs.Placed.{placed_joined}
 use Rattle.pict_opened.proofs.FieldsOpen.{Each, Part, part_pats, part_types, part_slots, and_answer, AnswerIsAt, labelled_pats, labelled_slots, OpensAnywhere, IsTypedAt, FieldsOpen, record_opens}
@@ -42,7 +42,7 @@ labelled_parts ys = to_each as_part ys
 abbrev pub StandForOne : Environment → List Extension → Extension → Type 0
 StandForOne e xs x =
     (f : ℕ → ℕ) (d : TypeContext) (n : ℕ) (slots : List (Option ℕ)) (ts : List PlainType)
-    → Embeds (λ i. f i + n) (erased_context (context_of e)) d → Each (IsPlaced e f d n slots ts) xs → IsPlaced e f d n slots ts x
+    → Embeds (λ i. f i + n) (erased_context (context_of e)) d → Each (IsExtensionPlaced e f d n slots ts) xs → IsExtensionPlaced e f d n slots ts x
 
 -- the answer's variable as the translation has it
 abbrev pub answers : Option PlainType → List Opened
@@ -86,7 +86,7 @@ pub record PatternFields (e : Environment) (ps : Pats) (ls : LabelledPats) (own 
   pub seconds : Extension
   pub positional : PositionalFields (with_own e own) ps ts firsts
   pub labelled : LabelledFields (with_own e own) ls ms seconds
-  pub is : x ≡ joined firsts seconds
+  pub is : x ≡ joined_extensions firsts seconds
 
 -- ---- parts and what is opened
 
@@ -107,9 +107,9 @@ abbrev pub unnamed_answer : Option PlainType → List (Option ℕ)
 unnamed_answer None = []
 unnamed_answer (Some u) = None ∷ []
 
-parts_named : (xs : List Field) → part_slots (as_parts xs) ≡ named (names_in (map (λ y. y.opened_) xs))
+parts_named : (xs : List Field) → part_slots (as_parts xs) ≡ named (names_opened (map (λ y. y.opened_) xs))
 parts_named [] = refl
-parts_named (x ∷ xs) = ap (λ z. named x.opened_.names ++ z) (parts_named xs) ∙ sym (named_both x.opened_.names (names_in (map (λ y. y.opened_) xs)))
+parts_named (x ∷ xs) = ap (λ z. named x.opened_.names ++ z) (parts_named xs) ∙ sym (named_both x.opened_.names (names_opened (map (λ y. y.opened_) xs)))
 
 slots_and : (a : Option PlainType) (xs : List Part) → part_slots (and_answer a xs) ≡ part_slots xs ++ unnamed_answer a
 slots_and None [] = refl
@@ -160,13 +160,13 @@ abbrev pub fields_pattern : List (List ℕ) → Option PlainType → Pats → La
 fields_pattern names a ps ls = record_pat (all_opened names ps ++ answers a) (in_label_order names (labelled_opened names ls))
 
 abbrev pub fields_slots : List (List ℕ) → Option PlainType → Pats → LabelledPats → List (Option ℕ)
-fields_slots names a ps ls = (named (names_in (all_opened names ps)) ++ unnamed_answer a) ++ named (labelled_names_in (in_label_order names (labelled_opened names ls)))
+fields_slots names a ps ls = (named (names_opened (all_opened names ps)) ++ unnamed_answer a) ++ named (labelled_names_in (in_label_order names (labelled_opened names ls)))
 
 -- what the rules add for them is what is opened; the answer's channel has its type, written in what stands after them
 pub record FieldsAdd (e : Environment) (a : Option PlainType) (ps : Pats) (ls : LabelledPats) (own : List KnownType) (ts : PlainTypes) (ms : PlainLabels) (x : Extension) (f : ℕ → ℕ) (c : TypeContext) : Type 0 where
   pub adds : AddsWhatIsOpened e (within own x) f (fields_slots e.names a ps ls) (Opens e.names c (fields_pattern e.names a ps ls) (meaning f (Fields (bounds_of own) (types_and ts a) ms)))
   pub inside : Embeds (λ i. adds.placed.later (i + opened x)) (erased_context (context_of (with_own e own))) adds.context
-  pub answer_at : AnswerHas a (length (names_in (all_opened e.names ps))) x adds.placed.later adds.types_
+  pub answer_at : AnswerHas a (length (names_opened (all_opened e.names ps))) x adds.placed.later adds.types_
 
 pub fields_add : (e : Environment) (a : Option PlainType) (ps : Pats) (ls : LabelledPats) (own : List KnownType) (ts : PlainTypes) (ms : PlainLabels) (x : Extension) (c : TypeContext) (f : ℕ → ℕ) → PatternFields e ps ls own ts ms x → Embeds f (erased_context (context_of e)) c → FieldsAdd e a ps ls own ts ms x f c
 fields_add e a ps ls own ts ms x c f g i = record {
@@ -179,7 +179,7 @@ fields_add e a ps ls own ts ms x c f g i = record {
     placed = record { later = one.later; embeds = within_embeds e own x one.later r.context one.embeds; extends_ = within_extends own x f one.later r.more one.extends_; each = one.each };
   };
   inside = subst (λ g. Embeds g (erased_context (context_of e1)) r.context) (λ j i. sym (one.extends_ i) j) r.embeds;
-  answer_at = answer_has a (length (part_slots xs)) (length (names_in (all_opened e.names ps))) x inner r.more one.later r.types_ (ap length (parts_named g.positional.fields) ∙ length_named (names_in (map (λ y. y.opened_) g.positional.fields)) ∙ ap (λ z. length (names_in z)) (sym g.positional.are)) one.extends_ r.answer_at;
+  answer_at = answer_has a (length (part_slots xs)) (length (names_opened (all_opened e.names ps))) x inner r.more one.later r.types_ (ap length (parts_named g.positional.fields) ∙ length_named (names_opened (map (λ y. y.opened_) g.positional.fields)) ∙ ap (λ z. length (names_opened z)) (sym g.positional.are)) one.extends_ r.answer_at;
 }
   where
     e1 : Environment
@@ -204,7 +204,7 @@ fields_add e a ps ls own ts ms x c f g i = record {
     slots = fields_slots e.names a ps ls
 
     slots_same : part_slots (and_answer a xs) ++ labelled_slots ys ≡ slots
-    slots_same = ap₂ (λ u v. u ++ v) (slots_and a xs ∙ ap (λ z. z ++ unnamed_answer a) (parts_named g.positional.fields ∙ ap (λ z. named (names_in z)) (sym g.positional.are))) (labelled_named g.labelled.fields ∙ ap (λ z. named (labelled_names_in z)) (sym g.labelled.are))
+    slots_same = ap₂ (λ u v. u ++ v) (slots_and a xs ∙ ap (λ z. z ++ unnamed_answer a) (parts_named g.positional.fields ∙ ap (λ z. named (names_opened z)) (sym g.positional.are))) (labelled_named g.labelled.fields ∙ ap (λ z. named (labelled_names_in z)) (sym g.labelled.are))
 
     pattern_same : RecordPat (part_pats (and_answer a xs)) (labelled_pats ys) ≡ fields_pattern e.names a ps ls
     pattern_same = ap₂ RecordPat (parts_patterns a g.positional.fields ∙ ap (λ z. patterns_in (z ++ answers a)) (sym g.positional.are)) (labelled_patterns g.labelled.fields ∙ ap labelled_patterns_in (sym g.labelled.are))
@@ -213,13 +213,13 @@ fields_add e a ps ls own ts ms x c f g i = record {
     types_same = parts_typed a xs ∙ ap (λ z. types_and z a) g.positional.typed
 
     placed_in : Extension → Type 0
-    placed_in z = IsPlaced e1 inner r.context r.more slots r.types_ z
+    placed_in z = IsExtensionPlaced e1 inner r.context r.more slots r.types_ z
 
     firsts_ : placed_in g.firsts
-    firsts_ = g.positional.one inner r.context r.more slots r.types_ r.embeds (subst (λ z. Each placed_in z) (adds_of_parts g.positional.fields) (subst (λ s. Each (IsPlaced e1 inner r.context r.more s r.types_) (map (λ y. y.adds) xs)) slots_same r.positional))
+    firsts_ = g.positional.one inner r.context r.more slots r.types_ r.embeds (subst (λ z. Each placed_in z) (adds_of_parts g.positional.fields) (subst (λ s. Each (IsExtensionPlaced e1 inner r.context r.more s r.types_) (map (λ y. y.adds) xs)) slots_same r.positional))
 
     seconds_ : placed_in g.seconds
-    seconds_ = g.labelled.one inner r.context r.more slots r.types_ r.embeds (subst (λ z. Each placed_in z) (adds_of_labelled g.labelled.fields) (subst (λ s. Each (IsPlaced e1 inner r.context r.more s r.types_) (map (λ y. y.1.adds) ys)) slots_same r.labelled))
+    seconds_ = g.labelled.one inner r.context r.more slots r.types_ r.embeds (subst (λ z. Each placed_in z) (adds_of_labelled g.labelled.fields) (subst (λ s. Each (IsExtensionPlaced e1 inner r.context r.more s r.types_) (map (λ y. y.1.adds) ys)) slots_same r.labelled))
 
     one : placed_in x
     one = subst placed_in (sym g.is) (placed_joined e1 inner r.context r.more slots r.types_ g.firsts g.seconds firsts_ seconds_)

@@ -24,7 +24,7 @@ use Rattle.pict_types.specs.Types.{Plain}
 use Rattle.pict_types.specs.Renaming.{beyond}
 use Rattle.pict_rules.specs.Counts.{count_pats, count_binders}
 use Rattle.pict_rules.specs.Shapes.{nth_type}
-use Rattle.pict_rules.specs.Environments.{Environment, Extension, KnownType, context_of, known_type, one_value, no_extension, joined, bounds_of, within}
+use Rattle.pict_rules.specs.Environments.{Environment, Extension, KnownType, context_of, known_type, one_value, no_extension, joined_extensions, bounds_of, within}
 use Rattle.pict_rules.specs.Clauses.{with_own}
 use Rattle.pict_rules.specs.Rules.{Sort, Result, Judgement, gives, has, is_condition, values_give, labelled_values_give, application, fields_fit, written_arguments, values_fit, labelled_values_fit, value_fits, given_fits, abstraction_gives, abstraction_against, pattern_gives, fields_give, binders_give, patterns_give, labelled_patterns_give, pattern_against, fields_against, binders_against, patterns_against, labelled_patterns_against, declaration, declarations, signatures, signature, bodies, body, process, processes, receives, extension_, pattern_, patterns_, labelled_patterns_, fields_, opened_}
 use Rattle.pict_rules.specs.Derivations.{Holds}
@@ -34,8 +34,8 @@ use Rattle.pict_scope.specs.DistinctLabels.{IsNewPattern}
 use Rattle.pict_rules.specs.Regular.{IsTypeIn, Lacks}
 use Rattle.pict_rules.proofs.RegularExpanded.{expands_well}
 use Rattle.pict_rules.proofs.RegularProcesses.{exposed_formed}
-use Rattle.pict_translation.specs.Patterns.{opened as opened_pattern, all_opened, labelled_opened, pat_core, pat_names, record_pat, names_in, labelled_names_in}
-use Rattle.pict_opened.specs.Opening.{meaning, named, IsBoundAs, IsPlaced, AddsWhatIsOpened}
+use Rattle.pict_translation.specs.Patterns.{opened as opened_pattern, all_opened, labelled_opened, pat_core, pat_names, record_pat, names_opened, labelled_names_in}
+use Rattle.pict_opened.specs.Opening.{meaning, named, IsBoundAs, IsExtensionPlaced, AddsWhatIsOpened}
 use Rattle.pict_opened.proofs.Reaching.{ResultProperty, Gives, gives_, refuses, needs, parts, ensures, unless, limits, in_records, in_recursives, in_labels, any_lines, by_steps}
 use Rattle.pict_opened.proofs.Rightly.{rightly, well}
 use Rattle.pict_opened.proofs.Opened.{embeds_same, embeds_after}
@@ -139,7 +139,7 @@ record_opens_ e s (field_pats bs qs rs) own ps ls x g c f i =
     (fields_add e None qs rs own ps ls x c f g i).adds)
   where
     ns : List ℕ
-    ns = names_in (all_opened e.names qs)
+    ns = names_opened (all_opened e.names qs)
 
     ms : List ℕ
     ms = labelled_names_in (in_label_order e.names (labelled_opened e.names rs))
@@ -157,7 +157,7 @@ types_last : (xs : List Field) (y : Field) → part_types (as_parts (xs ++ y ∷
 types_last [] y = refl
 types_last (x ∷ xs) y = ap (types x.type_) (types_last xs y)
 
-and_field : (e : Environment) (ps : Pats) (p : Pat) (ts : PlainTypes) (t : PlainType) (x y : Extension) → PositionalFields e ps ts x → OpensAgainst e p t y → PositionalFields e (more_pats ps p) (and_type ts t) (joined x y)
+and_field : (e : Environment) (ps : Pats) (p : Pat) (ts : PlainTypes) (t : PlainType) (x y : Extension) → PositionalFields e ps ts x → OpensAgainst e p t y → PositionalFields e (more_pats ps p) (and_type ts t) (joined_extensions x y)
 unfolding opened_pattern
 and_field e ps p ts t x y g o = record {
   fields = g.fields ++ z ∷ [];
@@ -165,7 +165,7 @@ and_field e ps p ts t x y g o = record {
   typed = types_last g.fields z ∙ ap (λ k. and_type k t) g.typed;
   opens_ = subst (Each (OpensAnywhere e.names e)) (sym (map-append as_part g.fields (z ∷ []))) (each_last (OpensAnywhere e.names e) (as_parts g.fields) (as_part z) g.opens_ o);
   one = λ f d n slots us i h.
-      let k = last_of_each (IsPlaced e f d n slots us) (map (λ w. w.adds) g.fields) y (subst (Each (IsPlaced e f d n slots us)) (map-append (λ w. w.adds) g.fields (z ∷ [])) h) in
+      let k = last_of_each (IsExtensionPlaced e f d n slots us) (map (λ w. w.adds) g.fields) y (subst (Each (IsExtensionPlaced e f d n slots us)) (map-append (λ w. w.adds) g.fields (z ∷ [])) h) in
       placed_joined e f d n slots us x y (g.one f d n slots us i k.0) k.1;
 }
   where
@@ -176,16 +176,16 @@ no_labels : (e : Environment) (ms : PlainLabels) → LabelsOpen_ e no_labelled_p
 unfolding opened_pattern
 no_labels e ms = record { fields = record { fields = []; are = refl; typed = tt; opens_ = tt; once = tt; one = λ f d n slots ts i h. placed_none e f d n slots ts i }; new = λ l h. tt }
 
-placed_adds : (e : Environment) (f : ℕ → ℕ) (d : TypeContext) (n : ℕ) (slots : List (Option ℕ)) (us : List PlainType) (ys : List (ℕ × Field)) → Each (IsPlaced e f d n slots us) (map (λ y. y.1.adds) ys) → Each (λ (y : ℕ × Field). IsPlaced e f d n slots us y.1.adds) ys
+placed_adds : (e : Environment) (f : ℕ → ℕ) (d : TypeContext) (n : ℕ) (slots : List (Option ℕ)) (us : List PlainType) (ys : List (ℕ × Field)) → Each (IsExtensionPlaced e f d n slots us) (map (λ y. y.1.adds) ys) → Each (λ (y : ℕ × Field). IsExtensionPlaced e f d n slots us y.1.adds) ys
 placed_adds e f d n slots us [] h = tt
 placed_adds e f d n slots us (y ∷ ys) h = (h.0, placed_adds e f d n slots us ys h.1)
 
-adds_placed : (e : Environment) (f : ℕ → ℕ) (d : TypeContext) (n : ℕ) (slots : List (Option ℕ)) (us : List PlainType) (ys : List (ℕ × Field)) → Each (λ (y : ℕ × Field). IsPlaced e f d n slots us y.1.adds) ys → Each (IsPlaced e f d n slots us) (map (λ y. y.1.adds) ys)
+adds_placed : (e : Environment) (f : ℕ → ℕ) (d : TypeContext) (n : ℕ) (slots : List (Option ℕ)) (us : List PlainType) (ys : List (ℕ × Field)) → Each (λ (y : ℕ × Field). IsExtensionPlaced e f d n slots us y.1.adds) ys → Each (IsExtensionPlaced e f d n slots us) (map (λ y. y.1.adds) ys)
 adds_placed e f d n slots us [] h = tt
 adds_placed e f d n slots us (y ∷ ys) h = (h.0, adds_placed e f d n slots us ys h.1)
 
 -- the fields go against the labels of one record type, and those of another with the same types there
-and_label : (e : Environment) (ls : LabelledPats) (l : Id) (p : Pat) (ms rs : PlainLabels) (t : PlainType) (x y : Extension) → IsNewPattern l.name.0 ls → LabelsOpen_ e ls ms x → OpensAgainst e p t y → ((m : ℕ) → m ≢ l.name.0 → type_at m rs ≡ type_at m ms) → type_at l.name.0 rs ≡ Some t → LabelsOpen_ e (more_labelled_pats ls l p) rs (joined x y)
+and_label : (e : Environment) (ls : LabelledPats) (l : Id) (p : Pat) (ms rs : PlainLabels) (t : PlainType) (x y : Extension) → IsNewPattern l.name.0 ls → LabelsOpen_ e ls ms x → OpensAgainst e p t y → ((m : ℕ) → m ≢ l.name.0 → type_at m rs ≡ type_at m ms) → type_at l.name.0 rs ≡ Some t → LabelsOpen_ e (more_labelled_pats ls l p) rs (joined_extensions x y)
 unfolding opened_pattern
 and_label e ls l p ms rs t x y w g o other this = record {
   fields = record {
@@ -195,7 +195,7 @@ and_label e ls l p ms rs t x y w g o other this = record {
     opens_ = each_put (λ (k : ℕ × Field). OpensAnywhere e.names e (as_part k.1)) e.names n z g.fields.fields o g.fields.opens_;
     once = once_put e.names n z g.fields.fields (g.new n w) g.fields.once;
     one = λ f d i slots us j h.
-        let k = put_each_of (λ (q : ℕ × Field). IsPlaced e f d i slots us q.1.adds) e.names n z g.fields.fields (placed_adds e f d i slots us all h) in
+        let k = put_each_of (λ (q : ℕ × Field). IsExtensionPlaced e f d i slots us q.1.adds) e.names n z g.fields.fields (placed_adds e f d i slots us all h) in
         placed_joined e f d i slots us x y (g.fields.one f d i slots us j (adds_placed e f d i slots us g.fields.fields k.1)) k.0;
   };
   new = λ m h. each_put (λ (k : ℕ × Field). m ≢ k.0) e.names n z g.fields.fields h.1 (g.new m h.0);
@@ -274,7 +274,7 @@ module _ (names : List (List ℕ)) (program : Decs) (clean : scope_stop names pr
   positional_against : (e : Environment) (ps : Pats) (ts : PlainTypes) → Step extension_ e (patterns_against ps ts)
   positional_against e no_pats ts r = gives_ (λ le. no_fields e)
   positional_against e (more_pats ps p) ts r = parts (λ x d r2 g. parts (λ y d2 r3 h. gives_ (λ le.
-      subst (λ z. PositionalFields e (more_pats ps p) z (joined x y)) (sym (one_more_type (count_pats ps) ts le)) (and_field e ps p (first_types (count_pats ps) ts) (nth_type (count_pats ps) ts) x y (g (omega (arith, le))) h))))
+      subst (λ z. PositionalFields e (more_pats ps p) z (joined_extensions x y)) (sym (one_more_type (count_pats ps) ts le)) (and_field e ps p (first_types (count_pats ps) ts) (nth_type (count_pats ps) ts) x y (g (omega (arith, le))) h))))
 
   labelled_gives : (e : Environment) (ls : LabelledPats) → Step labelled_patterns_ e (labelled_patterns_give ls)
   labelled_gives e no_labelled_pats r = gives_ (no_labels e no_label)

@@ -4,11 +4,11 @@ use Rattle.std.specs.Prelude.{nat_eq}
 use Rattle.pict_types.specs.Types.{PlainType, PlainBound, TypeContext}
 use Rattle.pict_types.specs.Renaming.{rename, rename_bound, moved}
 use Rattle.pict_types.specs.Entries.{PlainContext, variables}
-use Rattle.pict_rules.specs.Environments.{Environment, Extension, KnownType, KnownValue, context_of, known_type, extended, joined, no_extension, moved_binders, rename_values, opened, entries_of}
+use Rattle.pict_rules.specs.Environments.{Environment, Extension, KnownType, KnownValue, context_of, known_type, extended, joined_extensions, no_extension, moved_binders, rename_values, opened, entries_of}
 use Rattle.pict_typing.specs.Erasing.{erased, erased_bound}
 use Rattle.pict_erase.specs.Embedding.{erased_context, Embeds}
 use Rattle.pict_erase.proofs.Erased.{erased_renamed, erased_bound_renamed}
-use Rattle.pict_opened.specs.Opening.{meaning, IsBoundAs, IsPlaced}
+use Rattle.pict_opened.specs.Opening.{meaning, IsBoundAs, IsExtensionPlaced}
 use Rattle.pict_opened.proofs.Joining.{moved_bounds, joined_bounds, joined_by, joins, type_after, joined_outside, inserted_by}
 
 -- ---- the bounds of what is added
@@ -33,7 +33,7 @@ erased_more : (bs cs : List KnownType) → erased_list (bs ++ cs) ≡ erased_lis
 erased_more [] cs = refl
 erased_more (b ∷ bs) cs = ap (λ xs. erased_bound b.bound ∷ xs) (erased_more bs cs)
 
-joined_context : (e : Environment) (x y : Extension) → erased_context (context_of (extended e (joined x y))) ≡ joined_bounds (erased_list x.binders) (erased_list y.binders) (erased_context (context_of e))
+joined_context : (e : Environment) (x y : Extension) → erased_context (context_of (extended e (joined_extensions x y))) ≡ joined_bounds (erased_list x.binders) (erased_list y.binders) (erased_context (context_of e))
 joined_context e x y =
     with_binders (moved_binders (opened x) y.binders ++ x.binders) e.context
     ∙ ap (λ z. z ++ erased_context (context_of e)) (erased_more (moved_binders (opened x) y.binders) x.binders ∙ ap (λ z. z ++ erased_list x.binders) (erased_moved (opened x) y.binders ∙ ap (λ n. moved_bounds n (erased_list y.binders)) (sym (length_erased x.binders))))
@@ -43,7 +43,7 @@ length_moved_binders : (k : ℕ) (bs : List KnownType) → length (moved_binders
 length_moved_binders k [] = refl
 length_moved_binders k (b ∷ bs) = ap suc (length_moved_binders k bs)
 
-pub opened_both : (x y : Extension) → opened (joined x y) ≡ opened y + opened x
+pub opened_both : (x y : Extension) → opened (joined_extensions x y) ≡ opened y + opened x
 opened_both x y = length-append (moved_binders (opened x) y.binders) x.binders ∙ ap (λ k. k + opened x) (length_moved_binders (opened x) y.binders)
 
 -- ---- look-up among names that are renumbered, and in two lists
@@ -79,7 +79,7 @@ known_in (v ∷ vs) ws m t e = go (nat_eq v.name m) refl (known_in vs ws m t)
 
 -- ---- what is placed
 
-pub placed_none : (e : Environment) (f : ℕ → ℕ) (d : TypeContext) (n : ℕ) (slots : List (Option ℕ)) (ts : List PlainType) → Embeds (λ i. f i + n) (erased_context (context_of e)) d → IsPlaced e f d n slots ts no_extension
+pub placed_none : (e : Environment) (f : ℕ → ℕ) (d : TypeContext) (n : ℕ) (slots : List (Option ℕ)) (ts : List PlainType) → Embeds (λ i. f i + n) (erased_context (context_of e)) d → IsExtensionPlaced e f d n slots ts no_extension
 placed_none e f d n slots ts x = record {
   later = λ i. f i + n;
   embeds = x;
@@ -88,7 +88,7 @@ placed_none e f d n slots ts x = record {
 }
 
 -- two that stand in the same context stand there joined, in whichever order they were opened
-pub placed_joined : (e : Environment) (f : ℕ → ℕ) (d : TypeContext) (n : ℕ) (slots : List (Option ℕ)) (ts : List PlainType) (x y : Extension) → IsPlaced e f d n slots ts x → IsPlaced e f d n slots ts y → IsPlaced e f d n slots ts (joined x y)
+pub placed_joined : (e : Environment) (f : ℕ → ℕ) (d : TypeContext) (n : ℕ) (slots : List (Option ℕ)) (ts : List PlainType) (x y : Extension) → IsExtensionPlaced e f d n slots ts x → IsExtensionPlaced e f d n slots ts y → IsExtensionPlaced e f d n slots ts (joined_extensions x y)
 placed_joined e f d n slots ts x y p q = record {
   later = g;
   embeds = subst (λ k. Embeds g k d) (sym (joined_context e x y)) (subst (λ k. Embeds (joined_by k p.later q.later) (joined_bounds (erased_list x.binders) (erased_list y.binders) (erased_context (context_of e))) d) (length_erased y.binders)
@@ -103,7 +103,7 @@ placed_joined e f d n slots ts x y p q = record {
     agree : (i : ℕ) → p.later (i + length (erased_list x.binders)) ≡ q.later (i + length (erased_list y.binders))
     agree i = ap (λ k. p.later (i + k)) (length_erased x.binders) ∙ p.extends_ i ∙ sym (q.extends_ i) ∙ ap (λ k. q.later (i + k)) (sym (length_erased y.binders))
 
-    sums : (i : ℕ) → i + opened (joined x y) ≡ i + opened x + opened y
+    sums : (i : ℕ) → i + opened (joined_extensions x y) ≡ i + opened x + opened y
     sums i = let k = opened_both x y in omega (arith, k)
 
     named_ : (m : ℕ) (t : PlainType) → KnownIn (rename_values (moved (opened x) (opened y)) y.values) (rename_values (moved (opened y) 0) x.values) m t → IsBoundAs slots ts g m t

@@ -30,7 +30,7 @@ pub record IsBoundAs (slots : Slots) (ts : List PlainType) (g : ℕ → ℕ) (m 
 
 -- Of the environment e, whose type variables f takes to those of a core context, the rules make what x adds to it. In
 -- the core n type variables are opened, which make d of the context, and the variables with these names have types ts.
-pub record IsPlaced (e : Environment) (f : ℕ → ℕ) (d : TypeContext) (n : ℕ) (slots : Slots) (ts : List PlainType) (x : Extension) : Type 0 where
+pub record IsExtensionPlaced (e : Environment) (f : ℕ → ℕ) (d : TypeContext) (n : ℕ) (slots : Slots) (ts : List PlainType) (x : Extension) : Type 0 where
   pub later : ℕ → ℕ
   pub embeds : Embeds later (erased_context (context_of (extended e x))) d
   pub extends_ : (i : ℕ) → later (i + opened x) ≡ f i + n
@@ -43,4 +43,4 @@ pub record AddsWhatIsOpened (e : Environment) (x : Extension) (f : ℕ → ℕ) 
   pub types_ : List PlainType
   pub opens : opening context more types_
   pub as_many : length slots ≡ length types_
-  pub placed : IsPlaced e f context more slots types_ x
+  pub placed : IsExtensionPlaced e f context more slots types_ x

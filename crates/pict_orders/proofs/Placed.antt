@@ -6,7 +6,7 @@ use Rattle.pict_core.specs.Configuration.{Entry, Configuration, IsConfiguration}
 use Rattle.pict_core.specs.Step.{is_ready, is_partner, entry_at, act, act_entry, step_by}
 use Rattle.pict_core.specs.Places.{ready_entries, partner_entries, choice_by, outcome_at}
 use Rattle.pict_core.proofs.Placing.{found}
-use Rattle.pict_reference.specs.Plain.{IsOutcome, Gives}
+use Rattle.pict_reference.specs.Plain.{IsOutcome, GivesOutcome}
 use Rattle.pict_reference.specs.declared.outcome.StepOutcome.{StepOutcome}
 use Rattle.pict_orders.specs.Plain.{place}
 
@@ -24,7 +24,7 @@ outcome_acts C is i j a h =
     ∙ ap (λ x. act C a.stamp x a.process) (named C is (is_partner a.process) j o refl)
 
 pub step_found : (C D : Configuration) (i j : ℕ) (a : Entry) (o : Option Entry) (r : Result StepOutcome AllocError) → Some a ≡ slice_get (ready_entries C) i
-    → o ≡ slice_get (filter (is_partner a.process) C.entries) j → Gives r (act C a.stamp o a.process) C D
+    → o ≡ slice_get (filter (is_partner a.process) C.entries) j → GivesOutcome r (act C a.stamp o a.process) C D
     → IfOk r (λ made. IsConfiguration C → IsOutcome made (outcome_at C (place i j)) C D)
 step_found C D i j a o (Ok made) h k g = λ is. subst (λ x. IsOutcome made x C D) (sym (outcome_acts C is i j a (sym h) ∙ ap (λ x. act C a.stamp x a.process) (sym k))) g
 step_found C D i j a o (Err e) h k g = g

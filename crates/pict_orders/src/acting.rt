@@ -10,7 +10,7 @@ ghost use Rattle.pict_core.specs.Matching.{match_value};
 ghost use Rattle.pict_prim.specs.ValueDone.{effect_value_done, PrintsText};
 ghost use Rattle.pict_core.specs.Configuration.{Ready, Parked};
 ghost use Rattle.pict_core.specs.Step.{act as act_plain, send as send_plain, receive as receive_plain, choose as choose_plain, perform as perform_plain, leave as leave_plain, printing, Steps as StepsTo, Quiet as QuietLabel, gone as gone_plain, kept as kept_plain, added as added_plain, with_channel, served as served_plain, took as took_plain, meet_reader as meet_plain_reader, meet_message as meet_plain_message};
-ghost use Rattle.pict_reference.specs.Plain.{Gives};
+ghost use Rattle.pict_reference.specs.Plain.{GivesOutcome};
 ghost use Rattle.pict_orders.specs.Plain.{configuration_of};
 ghost use Rattle.pict_shared.specs.Plain.{plain_held};
 
@@ -27,7 +27,7 @@ impl State {
     // The process at the stamp parks.
     fn park(&mut self, s: u64, own: &Rc<Shaped>) -> Result<StepOutcome, AllocError>
         requires { self.old.next_stamp + 2 < 2 ^ 64 }
-        ensures { Gives result (StepsTo (added_plain Parked (plain_core own.now.value.core) (gone_plain s (configuration_of self.old))) QuietLabel)
+        ensures { GivesOutcome result (StepsTo (added_plain Parked (plain_core own.now.value.core) (gone_plain s (configuration_of self.old))) QuietLabel)
             (configuration_of self.old) (configuration_of self.new) }
     {
         self.gone(s);
@@ -37,7 +37,7 @@ impl State {
 
     // The part keeps the turn of the stamp.
     fn keep_turn(&mut self, s: u64, part: &Part) -> Result<StepOutcome, AllocError>
-        ensures { Gives result (StepsTo (kept_plain s (plain_core (core_of part.now)) (configuration_of self.old)) QuietLabel)
+        ensures { GivesOutcome result (StepsTo (kept_plain s (plain_core (core_of part.now)) (configuration_of self.old)) QuietLabel)
             (configuration_of self.old) (configuration_of self.new) }
     {
         self.kept(s, part.core().copy(self.alloc)?)?;
@@ -46,7 +46,7 @@ impl State {
 
     fn split(&mut self, s: u64, left: &Part, right: &Part) -> Result<StepOutcome, AllocError>
         requires { self.old.next_stamp + 2 < 2 ^ 64 }
-        ensures { Gives result (StepsTo
+        ensures { GivesOutcome result (StepsTo
             (added_plain Ready (plain_core (core_of right.now))
             (kept_plain s (plain_core (core_of left.now)) (configuration_of self.old))) QuietLabel)
             (configuration_of self.old) (configuration_of self.new) }
@@ -58,7 +58,7 @@ impl State {
 
     fn make_channel(&mut self, s: u64, body: &Part) -> Result<StepOutcome, AllocError>
         requires { self.old.channels + 1 < 2 ^ 32 }
-        ensures { Gives result (StepsTo
+        ensures { GivesOutcome result (StepsTo
             (kept_plain s (substitute_plain 0 (Chan self.old.channels ∷ []) (plain_core (core_of body.now)))
             (with_channel (configuration_of self.old))) QuietLabel)
             (configuration_of self.old) (configuration_of self.new) }
@@ -76,7 +76,7 @@ impl State {
         yes: &Part,
         no: &Part,
     ) -> Result<StepOutcome, AllocError>
-        ensures { Gives result (choose_plain (plain_val test.now)
+        ensures { GivesOutcome result (choose_plain (plain_val test.now)
             (StepsTo (kept_plain s (plain_core (core_of yes.now)) (configuration_of self.old)) QuietLabel)
             (StepsTo (kept_plain s (plain_core (core_of no.now)) (configuration_of self.old)) QuietLabel))
             (configuration_of self.old) (configuration_of self.new) }
@@ -96,7 +96,7 @@ impl State {
     // What a primitive leaves, for the output at the stamp.
     fn leave(&mut self, s: u64, done: ValueDone, at: Span) -> Result<StepOutcome, AllocError>
         requires { PrintsText done }
-        ensures { Gives result
+        ensures { GivesOutcome result
             (leave_plain (configuration_of self.old) s at (printing (effect_value_done done).printed) (effect_value_done done).leaves)
             (configuration_of self.old) (configuration_of self.new) }
     {
@@ -126,7 +126,7 @@ impl State {
         message: &CoreVal,
         at: Span,
     ) -> Result<StepOutcome, AllocError>
-        ensures { Gives result (perform_plain (configuration_of self.old) s at (effect_of primitive (plain_val message.now)))
+        ensures { GivesOutcome result (perform_plain (configuration_of self.old) s at (effect_of primitive (plain_val message.now)))
             (configuration_of self.old) (configuration_of self.new) }
     {
         match attempt_on_value(self.alloc, primitive, message)? {
@@ -212,7 +212,7 @@ impl State {
         reader: &Rc<Shaped>,
     ) -> Result<StepOutcome, AllocError>
         requires { self.old.next_stamp + 2 < 2 ^ 64 }
-        ensures { Gives result (meet_plain_reader (configuration_of self.old) s c (plain_val message.now) r (plain_core reader.now.value.core))
+        ensures { GivesOutcome result (meet_plain_reader (configuration_of self.old) s c (plain_val message.now) r (plain_core reader.now.value.core))
             (configuration_of self.old) (configuration_of self.new) }
     {
         match &reader.core {
@@ -243,7 +243,7 @@ impl State {
         sender: &Rc<Shaped>,
     ) -> Result<StepOutcome, AllocError>
         requires { self.old.next_stamp + 2 < 2 ^ 64 }
-        ensures { Gives result (meet_plain_message (configuration_of self.old) s c
+        ensures { GivesOutcome result (meet_plain_message (configuration_of self.old) s c
             replicated (plain_pat pattern.now) (plain_core (core_of body.now)) r (plain_core sender.now.value.core))
             (configuration_of self.old) (configuration_of self.new) }
     {
@@ -269,7 +269,7 @@ impl State {
     ) -> Result<StepOutcome, AllocError>
         requires { self.old.next_stamp + 2 < 2 ^ 64 }
         ensures { (at : PlainSpan) → plain_core own.now.value.core ≡ Out (Chan c) (plain_val message.now) at
-            → Gives result (send_plain (configuration_of self.old) s (option_map plain_held partner.now) (Chan c) (plain_val message.now) at)
+            → GivesOutcome result (send_plain (configuration_of self.old) s (option_map plain_held partner.now) (Chan c) (plain_val message.now) at)
             (configuration_of self.old) (configuration_of self.new) }
     {
         match partner {
@@ -289,7 +289,7 @@ impl State {
     ) -> Result<StepOutcome, AllocError>
         requires { self.old.next_stamp + 2 < 2 ^ 64 }
         ensures { plain_core own.now.value.core ≡ Out (plain_val chan.now) (plain_val message.now) at
-            → Gives result (send_plain (configuration_of self.old) s (option_map plain_held partner.now)
+            → GivesOutcome result (send_plain (configuration_of self.old) s (option_map plain_held partner.now)
             (plain_val chan.now) (plain_val message.now) at)
             (configuration_of self.old) (configuration_of self.new) }
     {
@@ -312,7 +312,7 @@ impl State {
     ) -> Result<StepOutcome, AllocError>
         requires { self.old.next_stamp + 2 < 2 ^ 64 }
         ensures { plain_core own.now.value.core ≡ In (Chan c) replicated (plain_pat pattern.now) (plain_core (core_of body.now))
-            → Gives result (receive_plain (configuration_of self.old) s (option_map plain_held partner.now)
+            → GivesOutcome result (receive_plain (configuration_of self.old) s (option_map plain_held partner.now)
             (Chan c) replicated (plain_pat pattern.now) (plain_core (core_of body.now)))
             (configuration_of self.old) (configuration_of self.new) }
     {
@@ -342,7 +342,7 @@ impl State {
     ) -> Result<StepOutcome, AllocError>
         requires { self.old.next_stamp + 2 < 2 ^ 64 }
         ensures { plain_core own.now.value.core ≡ In (plain_val chan.now) replicated (plain_pat pattern.now) (plain_core (core_of body.now))
-            → Gives result (receive_plain (configuration_of self.old) s (option_map plain_held partner.now)
+            → GivesOutcome result (receive_plain (configuration_of self.old) s (option_map plain_held partner.now)
             (plain_val chan.now) replicated (plain_pat pattern.now) (plain_core (core_of body.now)))
             (configuration_of self.old) (configuration_of self.new) }
     {
@@ -361,7 +361,7 @@ impl State {
     ) -> Result<StepOutcome, AllocError>
         requires stamps { self.old.next_stamp + 2 < 2 ^ 64 }
         requires channels { self.old.channels + 1 < 2 ^ 32 }
-        ensures { Gives result (act_plain (configuration_of self.old) s (option_map plain_held partner.now) (plain_core own.now.value.core))
+        ensures { GivesOutcome result (act_plain (configuration_of self.old) s (option_map plain_held partner.now) (plain_core own.now.value.core))
             (configuration_of self.old) (configuration_of self.new) }
     {
         match &own.core {

@@ -9,10 +9,10 @@ use Rattle.pict_parse_states.specs.declared.places.DeclarationPlace.{Declaration
 use Rattle.pict_parse_states.specs.declared.places.Place.{Place}
 use Rattle.pict_parse_states.specs.declared.states.State.{State}
 use Rattle.pict_parse_states.specs.declared.states.State.TheVariants.{Need, HaveDefinition}
-use Rattle.pict_parse_states.specs.View.{state_of}
+use Rattle.pict_parse_states.specs.View.{parse_state}
 use Rattle.pict_automaton.specs.Machine.{ended}
 
-pub ended_other : (x : State) → ((p : Place) → x ≡ Need p → ⊥) → ((o : Span) (ds : Vec Definition Global) (i : Id) (a : Abs) (p : DeclarationPlace) → x ≡ HaveDefinition o ds i a p → ⊥) → ended (state_of x) ≡ None
+pub ended_other : (x : State) → ((p : Place) → x ≡ Need p → ⊥) → ((o : Span) (ds : Vec Definition Global) (i : Id) (a : Abs) (p : DeclarationPlace) → x ≡ HaveDefinition o ds i a p → ⊥) → ended (parse_state x) ≡ None
 ended_other (Need p) n m = absurd (n p refl)
 ended_other (HaveDefinition o ds i a p) n m = absurd (m o ds i a p refl)
 ended_other _ n m = refl

@@ -7,7 +7,7 @@ ghost use Rattle.pict_syntax.specs.Verdicts.{Verdict, IsVerdict};
 ghost use Rattle.pict_parse.specs.Answers.{Answers, Ends, declared};
 ghost use Rattle.pict_automaton.specs.Machine.{start};
 ghost use Rattle.pict_automaton.specs.Places.{for_value, have_definition, need};
-ghost use Rattle.pict_parse_states.specs.View.{definitions_in, declaration_place_of, place_of, state_of, value_place_of};
+ghost use Rattle.pict_parse_states.specs.View.{definitions_in, declaration_place_of, place_of, parse_state, value_place_of};
 ghost use Rattle.pict_syntax.specs.PlainTrees.{abs_of};
 
 use crate::entry::ParseError;
@@ -54,7 +54,7 @@ pub fn parse_declarations(
 /// The state in which reading begins.
 #[tactic(auto, using(pict_syntax::proofs::DeclarationLists::declaration_lists))]
 fn start(alloc: Global) -> Result<State, AllocError>
-    ensures { IfOk result (λ state. state_of state ≡ start) }
+    ensures { IfOk result (λ state. parse_state state ≡ start) }
 {
     let place = ValuePlace::Waiting(Wait::Top(Vec::new(alloc)));
     Ok(State::Need(Place::Value(Box::new(alloc, place)?)))
@@ -62,7 +62,7 @@ fn start(alloc: Global) -> Result<State, AllocError>
 
 /// The declarations that have been read, where a text may end.
 fn ended(state: State) -> Result<Option<Vec<Dec>>, AllocError>
-    ensures { IfOk result (λ decs. Ends (state_of state) decs) }
+    ensures { IfOk result (λ decs. Ends (parse_state state) decs) }
 {
     match state {
         State::Need(place) => Ok(ended_at(place)),

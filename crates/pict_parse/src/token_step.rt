@@ -1,7 +1,7 @@
 // One token is read.
 
 ghost use Rattle.pict_automaton.specs.Machine.{step};
-ghost use Rattle.pict_parse_states.specs.View.{Gives, state_of};
+ghost use Rattle.pict_parse_states.specs.View.{GivesState, parse_state};
 
 use pict_parse_states::{Fault, State};
 use pict_parse_types::{
@@ -26,7 +26,7 @@ use std::alloc::Global;
 
 /// The state behind this token. `Unexpected` says that the token fits nothing that is open, and `Memory` is want of memory.
 pub fn step(alloc: Global, token: &Token, state: State) -> Result<State, Fault>
-    ensures { Gives result (step token.now.kind token.now.span (state_of state)) }
+    ensures { GivesState result (step token.now.kind token.now.span (parse_state state)) }
 {
     let kind = &token.kind;
     let at = token.span;

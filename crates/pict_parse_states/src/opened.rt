@@ -3,7 +3,7 @@
 ghost use Rattle.std.specs.Prelude.{◌≡◌};
 ghost use Rattle.pict_syntax.specs.PlainTrees.{dec_of, val_of};
 ghost use Rattle.pict_automaton.specs.Machine.{of_processes, of_values, parens, then_place, after_declaration, put_declaration};
-ghost use Rattle.pict_parse_states.specs.View.{decs_in, Gives, GivesPlace, place_of, processes_place_of, values_place_of, declaration_place_of};
+ghost use Rattle.pict_parse_states.specs.View.{decs_in, GivesState, GivesPlace, place_of, processes_place_of, values_place_of, declaration_place_of};
 
 use crate::places::{
     DeclarationPlace, EitherPlace, Place, ProcessPlace, ProcessPlaces, ValuePlace, ValuePlaces,
@@ -93,7 +93,7 @@ pub fn after_declaration(alloc: Global, dec: Dec, place: DeclarationPlace) -> Re
 
 /// A declaration is put where it stands.
 pub fn put_declaration(alloc: Global, dec: Dec, place: DeclarationPlace) -> Result<State, Fault>
-    ensures { Gives result (put_declaration (dec_of dec) (declaration_place_of place)) }
+    ensures { GivesState result (put_declaration (dec_of dec) (declaration_place_of place)) }
 {
     match after_declaration(alloc, dec, place) {
         Ok(place) => Ok(State::Need(place)),

@@ -3,7 +3,7 @@
 
 ghost use Rattle.std.specs.Prelude.{◌≡◌, nat_le};
 ghost use Rattle.pict_automaton.specs.Depth.{value_depth, wait_depth, process_depth, either_depth, processes_depth, values_depth, place_depth, declaration_depth, abstraction_depth, fields_depth, pattern_depth, patterns_depth, type_depth, binder_depth, depth};
-ghost use Rattle.pict_parse_states.specs.View.{value_place_of, wait_of, process_place_of, either_place_of, processes_place_of, values_place_of, place_of, declaration_place_of, abstraction_place_of, fields_place_of, pattern_place_of, patterns_place_of, type_place_of, binder_place_of, state_of};
+ghost use Rattle.pict_parse_states.specs.View.{value_place_of, wait_of, process_place_of, either_place_of, processes_place_of, values_place_of, place_of, declaration_place_of, abstraction_place_of, fields_place_of, pattern_place_of, patterns_place_of, type_place_of, binder_place_of, parse_state};
 
 use crate::places::{
     AbstractionPlace, BinderPlace, DeclarationPlace, EitherPlace, FieldPatternsPlace, FieldsPlace,
@@ -13,7 +13,7 @@ use crate::states::State;
 
 /// Whether at most `limit` constructs are open in the state.
 pub fn is_within(state: &State, limit: u32) -> bool
-    ensures { result ≡ nat_le (depth (state_of state.now)) limit }
+    ensures { result ≡ nat_le (depth (parse_state state.now)) limit }
 {
     match state {
         State::Need(place) => place_within(place, limit),

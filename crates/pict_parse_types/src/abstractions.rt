@@ -4,7 +4,7 @@
 ghost use Rattle.std.specs.Prelude.{◌≡◌};
 ghost use Rattle.pict_syntax.specs.PlainTrees.{type_of, field_pats_of};
 ghost use Rattle.pict_automaton.specs.Machine.{step_need_abstraction, step_abstraction_open, step_abstraction_parameters, step_abstraction_result};
-ghost use Rattle.pict_parse_states.specs.View.{Gives, abstraction_place_of};
+ghost use Rattle.pict_parse_states.specs.View.{GivesState, abstraction_place_of};
 
 use crate::patterns::{begin_pattern, step_binders};
 use pict_parse_states::{
@@ -21,7 +21,7 @@ pub fn step_need_abstraction(
     at: Span,
     place: Box<AbstractionPlace>,
 ) -> Result<State, Fault>
-    ensures { Gives result (step_need_abstraction kind.now at (abstraction_place_of place.value)) }
+    ensures { GivesState result (step_need_abstraction kind.now at (abstraction_place_of place.value)) }
 {
     match kind {
         TokenKind::Sign(Sign::OpenParen) => Ok(State::AbstractionOpen(at, place)),
@@ -41,7 +41,7 @@ pub fn step_abstraction_open(
     opened: Span,
     place: Box<AbstractionPlace>,
 ) -> Result<State, Fault>
-    ensures { Gives result (step_abstraction_open kind.now at opened (abstraction_place_of place.value)) }
+    ensures { GivesState result (step_abstraction_open kind.now at opened (abstraction_place_of place.value)) }
 {
     match kind {
         TokenKind::Keyword(Keyword::Rec) => Ok(State::PatternRec(
@@ -64,7 +64,7 @@ pub fn step_abstraction_parameters(
     fields: FieldPats,
     place: Box<AbstractionPlace>,
 ) -> Result<State, Fault>
-    ensures { Gives result (step_abstraction_parameters kind.now _at opened (field_pats_of fields) (abstraction_place_of place.value)) }
+    ensures { GivesState result (step_abstraction_parameters kind.now _at opened (field_pats_of fields) (abstraction_place_of place.value)) }
 {
     match kind {
         TokenKind::Sign(Sign::Colon) => Ok(State::NeedType(Box::new(
@@ -89,7 +89,7 @@ pub fn step_abstraction_result(
     answer: TypeTree,
     place: Box<AbstractionPlace>,
 ) -> Result<State, Fault>
-    ensures { Gives result (step_abstraction_result kind.now _at opened (field_pats_of fields) (type_of answer) (abstraction_place_of place.value)) }
+    ensures { GivesState result (step_abstraction_result kind.now _at opened (field_pats_of fields) (type_of answer) (abstraction_place_of place.value)) }
 {
     match kind {
         TokenKind::Sign(Sign::Equals) => {

@@ -3,7 +3,7 @@
 ghost use Rattle.std.specs.Prelude.{◌≡◌};
 ghost use Rattle.pict_syntax.specs.PlainTrees.{binder_of, kind_of};
 ghost use Rattle.pict_automaton.specs.Machine.{put_binder, step_binder, step_hash, step_binder_name, step_need_kind, step_kind_arguments, step_kind_mark, step_kind_arrow, step_kind_result, step_binder_kind};
-ghost use Rattle.pict_parse_states.specs.View.{Gives, binder_place_of};
+ghost use Rattle.pict_parse_states.specs.View.{GivesState, binder_place_of};
 
 use crate::patterns::step_binders;
 use crate::types::step_type_binders;
@@ -16,7 +16,7 @@ use std::alloc::Global;
 /// A whole binder is put where it stands.
 #[tactic(auto, using(pict_syntax::proofs::TypeLists::type_lists))]
 pub fn put_binder(binder: TypeBinder, place: Box<BinderPlace>) -> Result<State, Fault>
-    ensures { Gives result (put_binder (binder_of binder) (binder_place_of place.value)) }
+    ensures { GivesState result (put_binder (binder_of binder) (binder_place_of place.value)) }
 {
     match Box::into_inner(place) {
         BinderPlace::Patterns(place, mut binders) => {
@@ -39,7 +39,7 @@ fn step_binder(
     binder: TypeBinder,
     place: Box<BinderPlace>,
 ) -> Result<State, Fault>
-    ensures { Gives result (step_binder kind.now at (binder_of binder) (binder_place_of place.value)) }
+    ensures { GivesState result (step_binder kind.now at (binder_of binder) (binder_place_of place.value)) }
 {
     match Box::into_inner(place) {
         BinderPlace::Patterns(place, mut binders) => {
@@ -60,7 +60,7 @@ pub fn step_hash(
     hash: Span,
     place: Box<BinderPlace>,
 ) -> Result<State, Fault>
-    ensures { Gives result (step_hash kind.now at hash (binder_place_of place.value)) }
+    ensures { GivesState result (step_hash kind.now at hash (binder_place_of place.value)) }
 {
     match kind {
         TokenKind::Identifier(name) => Ok(State::BinderName(
@@ -84,7 +84,7 @@ pub fn step_binder_name(
     name: Id,
     place: Box<BinderPlace>,
 ) -> Result<State, Fault>
-    ensures { Gives result (step_binder_name kind.now at hash name (binder_place_of place.value)) }
+    ensures { GivesState result (step_binder_name kind.now at hash name (binder_place_of place.value)) }
 {
     match kind {
         TokenKind::Sign(Sign::Colon) => Ok(State::NeedKind(hash, name, place)),
@@ -113,7 +113,7 @@ pub fn step_need_kind(
     name: Id,
     place: Box<BinderPlace>,
 ) -> Result<State, Fault>
-    ensures { Gives result (step_need_kind kind.now at hash name (binder_place_of place.value)) }
+    ensures { GivesState result (step_need_kind kind.now at hash name (binder_place_of place.value)) }
 {
     match kind {
         TokenKind::Keyword(Keyword::TypeKind) => Ok(State::BinderKind(
@@ -142,7 +142,7 @@ pub fn step_kind_arguments(
     mut marks: Vec<Mark>,
     place: Box<BinderPlace>,
 ) -> Result<State, Fault>
-    ensures { Gives result (step_kind_arguments kind.now _at hash name marks.items (binder_place_of place.value)) }
+    ensures { GivesState result (step_kind_arguments kind.now _at hash name marks.items (binder_place_of place.value)) }
 {
     match kind {
         TokenKind::Keyword(Keyword::TypeKind) => {
@@ -184,7 +184,7 @@ pub fn step_kind_mark(
     mark: Mark,
     place: Box<BinderPlace>,
 ) -> Result<State, Fault>
-    ensures { Gives result (step_kind_mark kind.now _at hash name marks.items mark (binder_place_of place.value)) }
+    ensures { GivesState result (step_kind_mark kind.now _at hash name marks.items mark (binder_place_of place.value)) }
 {
     match kind {
         TokenKind::Keyword(Keyword::TypeKind) => {
@@ -204,7 +204,7 @@ pub fn step_kind_arrow(
     marks: Vec<Mark>,
     place: Box<BinderPlace>,
 ) -> Result<State, Fault>
-    ensures { Gives result (step_kind_arrow kind.now _at hash name marks.items (binder_place_of place.value)) }
+    ensures { GivesState result (step_kind_arrow kind.now _at hash name marks.items (binder_place_of place.value)) }
 {
     match kind {
         TokenKind::Keyword(Keyword::TypeKind) => Ok(State::KindResult(hash, name, marks, place)),
@@ -221,7 +221,7 @@ pub fn step_kind_result(
     marks: Vec<Mark>,
     place: Box<BinderPlace>,
 ) -> Result<State, Fault>
-    ensures { Gives result (step_kind_result kind.now at hash name marks.items (binder_place_of place.value)) }
+    ensures { GivesState result (step_kind_result kind.now at hash name marks.items (binder_place_of place.value)) }
 {
     match kind {
         TokenKind::Sign(Sign::CloseParen) => Ok(State::BinderKind(
@@ -246,7 +246,7 @@ pub fn step_binder_kind(
     end: Span,
     place: Box<BinderPlace>,
 ) -> Result<State, Fault>
-    ensures { Gives result (step_binder_kind kind.now at hash name (kind_of of) end (binder_place_of place.value)) }
+    ensures { GivesState result (step_binder_kind kind.now at hash name (kind_of of) end (binder_place_of place.value)) }
 {
     match kind {
         TokenKind::Sign(Sign::Less) => {

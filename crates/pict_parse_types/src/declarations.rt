@@ -2,7 +2,7 @@
 
 ghost use Rattle.std.specs.Prelude.{◌≡◌};
 ghost use Rattle.pict_automaton.specs.Machine.{begin_declaration, step_new_keyword, step_new_name, step_definition_keyword, step_type_keyword, step_alias_name, step_operator_open, step_operator_parameters, step_operator_closed};
-ghost use Rattle.pict_parse_states.specs.View.{definitions_in, Gives, declaration_place_of};
+ghost use Rattle.pict_parse_states.specs.View.{definitions_in, GivesState, declaration_place_of};
 
 use pict_parse_states::{
     AbstractionPlace, DeclarationPlace, Fault, PatternPlace, Place, ProcessPlace, State, TypePlace,
@@ -19,7 +19,7 @@ pub fn begin_declaration(
     at: Span,
     place: DeclarationPlace,
 ) -> Result<State, Fault>
-    ensures { Gives result (begin_declaration word at (declaration_place_of place)) }
+    ensures { GivesState result (begin_declaration word at (declaration_place_of place)) }
 {
     match word {
         Keyword::New => Ok(State::NewKeyword(at, place)),
@@ -41,7 +41,7 @@ pub fn step_new_keyword(
     from: Span,
     place: DeclarationPlace,
 ) -> Result<State, Fault>
-    ensures { Gives result (step_new_keyword kind.now at from (declaration_place_of place)) }
+    ensures { GivesState result (step_new_keyword kind.now at from (declaration_place_of place)) }
 {
     match kind {
         TokenKind::Identifier(name) => Ok(State::NewName(
@@ -65,7 +65,7 @@ pub fn step_new_name(
     name: Id,
     place: DeclarationPlace,
 ) -> Result<State, Fault>
-    ensures { Gives result (step_new_name kind.now _at from name (declaration_place_of place)) }
+    ensures { GivesState result (step_new_name kind.now _at from name (declaration_place_of place)) }
 {
     match kind {
         TokenKind::Sign(Sign::Colon) => Ok(State::NeedType(Box::new(
@@ -85,7 +85,7 @@ pub fn step_definition_keyword(
     definitions: Vec<Definition>,
     place: DeclarationPlace,
 ) -> Result<State, Fault>
-    ensures { Gives result (step_definition_keyword kind.now at from (definitions_in definitions) (declaration_place_of place)) }
+    ensures { GivesState result (step_definition_keyword kind.now at from (definitions_in definitions) (declaration_place_of place)) }
 {
     match kind {
         TokenKind::Identifier(name) => {
@@ -107,7 +107,7 @@ pub fn step_type_keyword(
     from: Span,
     place: DeclarationPlace,
 ) -> Result<State, Fault>
-    ensures { Gives result (step_type_keyword kind.now at from (declaration_place_of place)) }
+    ensures { GivesState result (step_type_keyword kind.now at from (declaration_place_of place)) }
 {
     match kind {
         TokenKind::Identifier(name) => Ok(State::AliasName(
@@ -132,7 +132,7 @@ pub fn step_alias_name(
     name: Id,
     place: DeclarationPlace,
 ) -> Result<State, Fault>
-    ensures { Gives result (step_alias_name kind.now _at from name (declaration_place_of place)) }
+    ensures { GivesState result (step_alias_name kind.now _at from name (declaration_place_of place)) }
 {
     match kind {
         TokenKind::Sign(Sign::Equals) => Ok(State::NeedType(Box::new(
@@ -151,7 +151,7 @@ pub fn step_operator_open(
     from: Span,
     place: DeclarationPlace,
 ) -> Result<State, Fault>
-    ensures { Gives result (step_operator_open kind.now at from (declaration_place_of place)) }
+    ensures { GivesState result (step_operator_open kind.now at from (declaration_place_of place)) }
 {
     match kind {
         TokenKind::Identifier(name) => Ok(State::OperatorParameters(
@@ -176,7 +176,7 @@ pub fn step_operator_parameters(
     params: Vec<Id>,
     place: DeclarationPlace,
 ) -> Result<State, Fault>
-    ensures { Gives result (step_operator_parameters kind.now at from name params.items (declaration_place_of place)) }
+    ensures { GivesState result (step_operator_parameters kind.now at from name params.items (declaration_place_of place)) }
 {
     match kind {
         TokenKind::Identifier(param) => {
@@ -208,7 +208,7 @@ pub fn step_operator_closed(
     params: Vec<Id>,
     place: DeclarationPlace,
 ) -> Result<State, Fault>
-    ensures { Gives result (step_operator_closed kind.now _at from name params.items (declaration_place_of place)) }
+    ensures { GivesState result (step_operator_closed kind.now _at from name params.items (declaration_place_of place)) }
 {
     match kind {
         TokenKind::Sign(Sign::Equals) => Ok(State::NeedType(Box::new(

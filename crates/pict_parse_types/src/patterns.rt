@@ -4,7 +4,7 @@
 ghost use Rattle.std.specs.Prelude.{◌≡◌, None};
 ghost use Rattle.pict_syntax.specs.PlainTrees.{annotation_of, pat_of, field_pats_of};
 ghost use Rattle.pict_automaton.specs.Machine.{begin_pattern, put_pattern, step_pattern_open, step_pattern_rec, step_pattern_folded, close_patterns, step_patterns, step_pattern_labels, step_pattern_label, step_binders, step_let_pattern, step_abstraction_pattern, step_pattern, step_bind, step_any, step_pattern_name};
-ghost use Rattle.pict_parse_states.specs.View.{binders_in, pats_in, labelled_pats_in, Gives, declaration_place_of, abstraction_place_of, pattern_place_of, patterns_place_of};
+ghost use Rattle.pict_parse_states.specs.View.{binders_in, pats_in, labelled_pats_in, GivesState, declaration_place_of, abstraction_place_of, pattern_place_of, patterns_place_of};
 
 use pict_parse_states::{
     AbstractionPlace, BinderPlace, DeclarationPlace, Fault, FieldPatternsPlace, PatternPlace,
@@ -23,7 +23,7 @@ pub fn begin_pattern(
     at: Span,
     place: Box<PatternPlace>,
 ) -> Result<State, Fault>
-    ensures { Gives result (begin_pattern kind.now at (pattern_place_of place.value)) }
+    ensures { GivesState result (begin_pattern kind.now at (pattern_place_of place.value)) }
 {
     match kind {
         TokenKind::Identifier(name) => Ok(State::HaveBind(
@@ -46,7 +46,7 @@ pub fn begin_pattern(
 /// A whole pattern is put where it stands.
 #[tactic(auto, using(pict_syntax::proofs::PatternLists::pattern_lists))]
 pub fn put_pattern(pat: Pat, place: Box<PatternPlace>) -> Result<State, Fault>
-    ensures { Gives result (put_pattern (pat_of pat) (pattern_place_of place.value)) }
+    ensures { GivesState result (put_pattern (pat_of pat) (pattern_place_of place.value)) }
 {
     match Box::into_inner(place) {
         PatternPlace::Let(from, place) => Ok(State::LetPattern(from, pat, place)),
@@ -72,7 +72,7 @@ pub fn step_pattern_open(
     opened: Span,
     place: Box<PatternPlace>,
 ) -> Result<State, Fault>
-    ensures { Gives result (step_pattern_open kind.now _at opened (pattern_place_of place.value)) }
+    ensures { GivesState result (step_pattern_open kind.now _at opened (pattern_place_of place.value)) }
 {
     match kind {
         TokenKind::Keyword(Keyword::Rec) => Ok(State::PatternRec(opened, place)),
@@ -88,7 +88,7 @@ pub fn step_pattern_rec(
     opened: Span,
     place: Box<PatternPlace>,
 ) -> Result<State, Fault>
-    ensures { Gives result (step_pattern_rec kind.now at opened (pattern_place_of place.value)) }
+    ensures { GivesState result (step_pattern_rec kind.now at opened (pattern_place_of place.value)) }
 {
     match kind {
         TokenKind::Sign(Sign::Colon) => Ok(State::NeedType(Box::new(
@@ -113,7 +113,7 @@ pub fn step_pattern_folded(
     pat: Pat,
     place: Box<PatternPlace>,
 ) -> Result<State, Fault>
-    ensures { Gives result (step_pattern_folded kind.now at opened (annotation_of annotation) (pat_of pat) (pattern_place_of place.value)) }
+    ensures { GivesState result (step_pattern_folded kind.now at opened (annotation_of annotation) (pat_of pat) (pattern_place_of place.value)) }
 {
     match kind {
         TokenKind::Sign(Sign::CloseParen) => {
@@ -133,7 +133,7 @@ fn close_patterns(
     place: Box<FieldPatternsPlace>,
     fields: FieldPats,
 ) -> Result<State, Fault>
-    ensures { Gives result (close_patterns sign at (patterns_place_of place.value) (field_pats_of fields)) }
+    ensures { GivesState result (close_patterns sign at (patterns_place_of place.value) (field_pats_of fields)) }
 {
     match (sign, Box::into_inner(place)) {
         (Sign::CloseBracket, FieldPatternsPlace::Record(opened, place)) => {
@@ -157,7 +157,7 @@ pub fn step_patterns(
     binders: Vec<TypeBinder>,
     pats: Vec<Pat>,
 ) -> Result<State, Fault>
-    ensures { Gives result (step_patterns kind.now at (patterns_place_of place.value) (binders_in binders) (pats_in pats)) }
+    ensures { GivesState result (step_patterns kind.now at (patterns_place_of place.value) (binders_in binders) (pats_in pats)) }
 {
     match kind {
         TokenKind::Sign(Sign::CloseBracket) => {
@@ -213,7 +213,7 @@ pub fn step_pattern_labels(
     pats: Vec<Pat>,
     labelled: Vec<LabelledPat>,
 ) -> Result<State, Fault>
-    ensures { Gives result (step_pattern_labels kind.now at (patterns_place_of place.value) (binders_in binders) (pats_in pats) (labelled_pats_in labelled)) }
+    ensures { GivesState result (step_pattern_labels kind.now at (patterns_place_of place.value) (binders_in binders) (pats_in pats) (labelled_pats_in labelled)) }
 {
     match kind {
         TokenKind::Sign(Sign::CloseBracket) => {
@@ -267,7 +267,7 @@ pub fn step_pattern_label(
     labelled: Vec<LabelledPat>,
     label: Id,
 ) -> Result<State, Fault>
-    ensures { Gives result (step_pattern_label kind.now _at (patterns_place_of place.value)
+    ensures { GivesState result (step_pattern_label kind.now _at (patterns_place_of place.value)
         (binders_in binders) (pats_in pats) (labelled_pats_in labelled) label) }
 {
     match kind {
@@ -288,7 +288,7 @@ pub fn step_binders(
     place: Box<FieldPatternsPlace>,
     binders: Vec<TypeBinder>,
 ) -> Result<State, Fault>
-    ensures { Gives result (step_binders kind.now at (patterns_place_of place.value) (binders_in binders)) }
+    ensures { GivesState result (step_binders kind.now at (patterns_place_of place.value) (binders_in binders)) }
 {
     match kind {
         TokenKind::Sign(Sign::Hash) => Ok(State::BinderHash(
@@ -308,7 +308,7 @@ pub fn step_let_pattern(
     pat: Pat,
     place: DeclarationPlace,
 ) -> Result<State, Fault>
-    ensures { Gives result (step_let_pattern kind.now _at from (pat_of pat) (declaration_place_of place)) }
+    ensures { GivesState result (step_let_pattern kind.now _at from (pat_of pat) (declaration_place_of place)) }
 {
     match kind {
         TokenKind::Sign(Sign::Equals) => {
@@ -327,7 +327,7 @@ pub fn step_abstraction_pattern(
     pat: Pat,
     place: Box<AbstractionPlace>,
 ) -> Result<State, Fault>
-    ensures { Gives result (step_abstraction_pattern kind.now _at (pat_of pat) (abstraction_place_of place.value)) }
+    ensures { GivesState result (step_abstraction_pattern kind.now _at (pat_of pat) (abstraction_place_of place.value)) }
 {
     match kind {
         TokenKind::Sign(Sign::Equals) => {
@@ -347,7 +347,7 @@ fn step_pattern(
     pat: Pat,
     place: Box<PatternPlace>,
 ) -> Result<State, Fault>
-    ensures { Gives result (step_pattern kind.now at (pat_of pat) (pattern_place_of place.value)) }
+    ensures { GivesState result (step_pattern kind.now at (pat_of pat) (pattern_place_of place.value)) }
 {
     match Box::into_inner(place) {
         PatternPlace::Let(from, place) => step_let_pattern(alloc, kind, at, from, pat, place),
@@ -375,7 +375,7 @@ pub fn step_bind(
     name: Id,
     place: Box<PatternPlace>,
 ) -> Result<State, Fault>
-    ensures { Gives result (step_bind kind.now at name (pattern_place_of place.value)) }
+    ensures { GivesState result (step_bind kind.now at name (pattern_place_of place.value)) }
 {
     match kind {
         TokenKind::Sign(Sign::Colon) => Ok(State::NeedType(Box::new(
@@ -401,7 +401,7 @@ pub fn step_any(
     from: Span,
     place: Box<PatternPlace>,
 ) -> Result<State, Fault>
-    ensures { Gives result (step_any kind.now at from (pattern_place_of place.value)) }
+    ensures { GivesState result (step_any kind.now at from (pattern_place_of place.value)) }
 {
     match kind {
         TokenKind::Sign(Sign::Colon) => Ok(State::NeedType(Box::new(
@@ -423,7 +423,7 @@ pub fn step_pattern_name(
     pats: Vec<Pat>,
     name: Id,
 ) -> Result<State, Fault>
-    ensures { Gives result (step_pattern_name kind.now at (patterns_place_of place.value) (binders_in binders) (pats_in pats) name) }
+    ensures { GivesState result (step_pattern_name kind.now at (patterns_place_of place.value) (binders_in binders) (pats_in pats) name) }
 {
     match kind {
         TokenKind::Sign(Sign::Equals) => {

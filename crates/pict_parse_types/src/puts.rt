@@ -7,7 +7,7 @@ ghost use Rattle.pict_syntax.specs.Trees.{new_dec, alias_dec, operator_dec, bind
 ghost use Rattle.pict_syntax.specs.PlainTrees.{kind_of, type_of, annotation_of, pat_of, dec_of, binder_of};
 ghost use Rattle.pict_automaton.specs.Places.{prefixed};
 ghost use Rattle.pict_automaton.specs.Machine.{put_type};
-ghost use Rattle.pict_parse_states.specs.View.{Gives, type_place_of, prefix_of};
+ghost use Rattle.pict_parse_states.specs.View.{GivesState, type_place_of, prefix_of};
 
 use crate::binders::put_binder;
 use crate::patterns::put_pattern;
@@ -122,7 +122,7 @@ fn bounded(
 /// A whole type is put at its place.
 #[tactic(auto, using(pict_syntax::proofs::TypeLists::type_lists))]
 pub fn put_type(alloc: Global, place: Box<TypePlace>, tree: TypeTree) -> Result<State, Fault>
-    ensures { Gives result (put_type (type_of tree) (type_place_of place.value)) }
+    ensures { GivesState result (put_type (type_of tree) (type_place_of place.value)) }
 {
     match Box::into_inner(place) {
         TypePlace::New(from, id, below) => {

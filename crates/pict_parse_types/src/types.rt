@@ -4,7 +4,7 @@ ghost use Rattle.std.specs.Prelude.{◌≡◌};
 ghost use Rattle.pict_syntax.specs.PlainTrees.{type_of};
 ghost use Rattle.pict_automaton.specs.Machine.{begin_type_sign, begin_type, step_type_open, step_rec_keyword, step_rec_name, step_rec_body, step_operator_arguments, step_types, step_type_name, step_type_labels, step_type_label, step_type_binders};
 ghost use Rattle.pict_parse_types.specs.Tokens.{IsTypeOr};
-ghost use Rattle.pict_parse_states.specs.View.{types_in, binders_in, labelled_types_in, Gives, type_place_of};
+ghost use Rattle.pict_parse_states.specs.View.{types_in, binders_in, labelled_types_in, GivesState, type_place_of};
 
 use crate::puts::put_type;
 use pict_parse_states::{BinderPlace, Fault, Prefix, State, TypePlace};
@@ -34,7 +34,7 @@ fn begin_type_sign(
     at: Span,
     place: Box<TypePlace>,
 ) -> Result<State, Fault>
-    ensures { Gives result (begin_type_sign sign at (type_place_of place.value)) }
+    ensures { GivesState result (begin_type_sign sign at (type_place_of place.value)) }
 {
     match sign {
         Sign::Caret => Ok(State::NeedType(Box::new(
@@ -67,7 +67,7 @@ pub fn begin_type(
     at: Span,
     place: Box<TypePlace>,
 ) -> Result<State, Fault>
-    ensures { Gives result (begin_type kind.now at (type_place_of place.value)) }
+    ensures { GivesState result (begin_type kind.now at (type_place_of place.value)) }
 {
     match kind {
         TokenKind::Keyword(word) => put_type(alloc, place, word_type(*word, at)?),
@@ -86,7 +86,7 @@ pub fn step_type_open(
     from: Span,
     place: Box<TypePlace>,
 ) -> Result<State, Fault>
-    ensures { Gives result (step_type_open kind.now at from (type_place_of place.value)) }
+    ensures { GivesState result (step_type_open kind.now at from (type_place_of place.value)) }
 {
     match kind {
         TokenKind::Keyword(Keyword::Rec) => Ok(State::RecKeyword(from, place)),
@@ -108,7 +108,7 @@ pub fn step_rec_keyword(
     from: Span,
     place: Box<TypePlace>,
 ) -> Result<State, Fault>
-    ensures { Gives result (step_rec_keyword kind.now at from (type_place_of place.value)) }
+    ensures { GivesState result (step_rec_keyword kind.now at from (type_place_of place.value)) }
 {
     match kind {
         TokenKind::Identifier(name) => Ok(State::RecName(
@@ -132,7 +132,7 @@ pub fn step_rec_name(
     id: Id,
     place: Box<TypePlace>,
 ) -> Result<State, Fault>
-    ensures { Gives result (step_rec_name kind.now at from id (type_place_of place.value)) }
+    ensures { GivesState result (step_rec_name kind.now at from id (type_place_of place.value)) }
 {
     match kind {
         TokenKind::Sign(Sign::Equals) => Ok(State::NeedType(Box::new(
@@ -154,7 +154,7 @@ pub fn step_rec_body(
     body: TypeTree,
     place: Box<TypePlace>,
 ) -> Result<State, Fault>
-    ensures { Gives result (step_rec_body kind.now at from id (type_of body) (type_place_of place.value)) }
+    ensures { GivesState result (step_rec_body kind.now at from id (type_of body) (type_place_of place.value)) }
 {
     match kind {
         TokenKind::Sign(Sign::CloseParen) => {
@@ -175,7 +175,7 @@ pub fn step_operator_arguments(
     types: Vec<TypeTree>,
     place: Box<TypePlace>,
 ) -> Result<State, Fault>
-    ensures { Gives result (step_operator_arguments kind.now at from id (types_in types) (type_place_of place.value)) }
+    ensures { GivesState result (step_operator_arguments kind.now at from id (types_in types) (type_place_of place.value)) }
 {
     match kind {
         TokenKind::Sign(Sign::CloseParen) => {
@@ -202,7 +202,7 @@ pub fn step_types(
     types: Vec<TypeTree>,
     place: Box<TypePlace>,
 ) -> Result<State, Fault>
-    ensures { Gives result (step_types kind.now at from (binders_in binders) (types_in types) (type_place_of place.value)) }
+    ensures { GivesState result (step_types kind.now at from (binders_in binders) (types_in types) (type_place_of place.value)) }
 {
     match kind {
         TokenKind::Sign(Sign::CloseBracket) => {
@@ -241,7 +241,7 @@ pub fn step_type_name(
     id: Id,
     place: Box<TypePlace>,
 ) -> Result<State, Fault>
-    ensures { Gives result (step_type_name kind.now at from (binders_in binders) (types_in types) id (type_place_of place.value)) }
+    ensures { GivesState result (step_type_name kind.now at from (binders_in binders) (types_in types) id (type_place_of place.value)) }
 {
     match kind {
         TokenKind::Sign(Sign::Equals) => {
@@ -266,7 +266,7 @@ pub fn step_type_labels(
     labels: Vec<LabelledType>,
     place: Box<TypePlace>,
 ) -> Result<State, Fault>
-    ensures { Gives result (step_type_labels kind.now at from (binders_in binders) (types_in types) (labelled_types_in labels) (type_place_of place.value)) }
+    ensures { GivesState result (step_type_labels kind.now at from (binders_in binders) (types_in types) (labelled_types_in labels) (type_place_of place.value)) }
 {
     match kind {
         TokenKind::Sign(Sign::CloseBracket) => {
@@ -299,7 +299,7 @@ pub fn step_type_label(
     id: Id,
     place: Box<TypePlace>,
 ) -> Result<State, Fault>
-    ensures { Gives result (step_type_label kind.now at from (binders_in binders) (types_in types) (labelled_types_in labels) id (type_place_of place.value)) }
+    ensures { GivesState result (step_type_label kind.now at from (binders_in binders) (types_in types) (labelled_types_in labels) id (type_place_of place.value)) }
 {
     match kind {
         TokenKind::Sign(Sign::Equals) => {
@@ -319,7 +319,7 @@ pub fn step_type_binders(
     binders: Vec<TypeBinder>,
     place: Box<TypePlace>,
 ) -> Result<State, Fault>
-    ensures { Gives result (step_type_binders kind.now at from (binders_in binders) (type_place_of place.value)) }
+    ensures { GivesState result (step_type_binders kind.now at from (binders_in binders) (type_place_of place.value)) }
 {
     match kind {
         TokenKind::Sign(Sign::Hash) => {

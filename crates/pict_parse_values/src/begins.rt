@@ -4,7 +4,7 @@
 ghost use Rattle.pict_syntax.specs.Trees.{no_decs};
 ghost use Rattle.pict_automaton.specs.Places.{paren_declarations, waiting};
 ghost use Rattle.pict_automaton.specs.Machine.{begin_first, name_value, declaration_value, keyword_value, sign_value, begin_value, begin_process, name_either, declaration_either, keyword_either, close_inert, sign_either, begin_either, step_need};
-ghost use Rattle.pict_parse_states.specs.View.{wait_of, value_place_of, process_place_of, either_place_of, place_of, Gives};
+ghost use Rattle.pict_parse_states.specs.View.{wait_of, value_place_of, process_place_of, either_place_of, place_of, GivesState};
 
 use crate::puts::{put_processes, put_unboxed, put_value};
 use pict_parse_states::{
@@ -23,7 +23,7 @@ fn begin_first(
     from: Span,
     place: Place,
 ) -> Result<State, Fault>
-    ensures { Gives result (begin_first word at from (place_of place) (paren_declarations from no_decs (place_of place))) }
+    ensures { GivesState result (begin_first word at from (place_of place) (paren_declarations from no_decs (place_of place))) }
 {
     match word {
         Keyword::Rec => Ok(State::FoldKeyword(from, place)),
@@ -38,7 +38,7 @@ fn begin_first(
 
 // A name where the token behind a value says what the value is for.
 fn name_waiting(name: Name, at: Span, wait: Wait) -> Result<State, Fault>
-    ensures { Gives result (name_value name at (waiting (wait_of wait))) }
+    ensures { GivesState result (name_value name at (waiting (wait_of wait))) }
 {
     match wait {
         Wait::Paren(from, decs, below) => {
@@ -56,7 +56,7 @@ fn name_waiting(name: Name, at: Span, wait: Wait) -> Result<State, Fault>
 
 // A name where a value begins.
 fn name_value(alloc: Global, name: Name, at: Span, place: Box<ValuePlace>) -> Result<State, Fault>
-    ensures { Gives result (name_value name at (value_place_of place.value)) }
+    ensures { GivesState result (name_value name at (value_place_of place.value)) }
 {
     match Box::into_inner(place) {
         ValuePlace::Waiting(wait) => name_waiting(name, at, wait),
@@ -71,7 +71,7 @@ fn declaration_value(
     at: Span,
     place: Box<ValuePlace>,
 ) -> Result<State, Fault>
-    ensures { Gives result (declaration_value word at (value_place_of place.value)) }
+    ensures { GivesState result (declaration_value word at (value_place_of place.value)) }
 {
     match Box::into_inner(place) {
         ValuePlace::Waiting(Wait::Top(decs)) => begin_declaration(
@@ -99,7 +99,7 @@ fn keyword_value(
     at: Span,
     place: Box<ValuePlace>,
 ) -> Result<State, Fault>
-    ensures { Gives result (keyword_value word at (value_place_of place.value)) }
+    ensures { GivesState result (keyword_value word at (value_place_of place.value)) }
 {
     match word {
         Keyword::True => put_value(alloc, place, Val::True(at)),
@@ -114,7 +114,7 @@ fn keyword_value(
 
 // A sign where a value begins.
 fn sign_value(alloc: Global, sign: Sign, at: Span, place: Box<ValuePlace>) -> Result<State, Fault>
-    ensures { Gives result (sign_value sign at (value_place_of place.value)) }
+    ensures { GivesState result (sign_value sign at (value_place_of place.value)) }
 {
     match sign {
         Sign::OpenParen => {
@@ -140,7 +140,7 @@ pub fn begin_value(
     at: Span,
     place: Box<ValuePlace>,
 ) -> Result<State, Fault>
-    ensures { Gives result (begin_value kind.now at (value_place_of place.value)) }
+    ensures { GivesState result (begin_value kind.now at (value_place_of place.value)) }
 {
     match kind {
         TokenKind::Identifier(name) => name_value(alloc, *name, at, place),
@@ -163,7 +163,7 @@ fn begin_process(
     at: Span,
     place: Box<ProcessPlace>,
 ) -> Result<State, Fault>
-    ensures { Gives result (begin_process kind.now at (process_place_of place.value)) }
+    ensures { GivesState result (begin_process kind.now at (process_place_of place.value)) }
 {
     match kind {
         TokenKind::Identifier(name) => Ok(State::HaveChannel(
@@ -188,7 +188,7 @@ fn begin_process(
 
 // A name where a value or a process begins.
 fn name_either(alloc: Global, name: Name, at: Span, place: Box<EitherPlace>) -> Result<State, Fault>
-    ensures { Gives result (name_either name at (either_place_of place.value)) }
+    ensures { GivesState result (name_either name at (either_place_of place.value)) }
 {
     match Box::into_inner(place) {
         EitherPlace::Paren(from, decs, below) => {
@@ -214,7 +214,7 @@ fn declaration_either(
     at: Span,
     place: Box<EitherPlace>,
 ) -> Result<State, Fault>
-    ensures { Gives result (declaration_either word at (either_place_of place.value)) }
+    ensures { GivesState result (declaration_either word at (either_place_of place.value)) }
 {
     match Box::into_inner(place) {
         EitherPlace::Paren(from, decs, below) => {
@@ -236,7 +236,7 @@ fn keyword_either(
     at: Span,
     place: Box<EitherPlace>,
 ) -> Result<State, Fault>
-    ensures { Gives result (keyword_either word at (either_place_of place.value)) }
+    ensures { GivesState result (keyword_either word at (either_place_of place.value)) }
 {
     match word {
         Keyword::True => Ok(State::HaveEither(Val::True(at), place)),
@@ -251,7 +251,7 @@ fn keyword_either(
 
 // The `)` of `()`, the process that does nothing.
 fn close_inert(alloc: Global, at: Span, place: Box<EitherPlace>) -> Result<State, Fault>
-    ensures { Gives result (close_inert at (either_place_of place.value)) }
+    ensures { GivesState result (close_inert at (either_place_of place.value)) }
 {
     match Box::into_inner(place) {
         EitherPlace::Paren(from, decs, below) => {
@@ -267,7 +267,7 @@ fn close_inert(alloc: Global, at: Span, place: Box<EitherPlace>) -> Result<State
 
 // A sign where a value or a process begins.
 fn sign_either(alloc: Global, sign: Sign, at: Span, place: Box<EitherPlace>) -> Result<State, Fault>
-    ensures { Gives result (sign_either sign at (either_place_of place.value)) }
+    ensures { GivesState result (sign_either sign at (either_place_of place.value)) }
 {
     match sign {
         Sign::OpenParen => {
@@ -294,7 +294,7 @@ fn begin_either(
     at: Span,
     place: Box<EitherPlace>,
 ) -> Result<State, Fault>
-    ensures { Gives result (begin_either kind.now at (either_place_of place.value)) }
+    ensures { GivesState result (begin_either kind.now at (either_place_of place.value)) }
 {
     match kind {
         TokenKind::Identifier(name) => name_either(alloc, *name, at, place),
@@ -312,7 +312,7 @@ fn begin_either(
 
 /// A value, a process or a declaration begins where it is to come.
 pub fn step_need(alloc: Global, kind: &TokenKind, at: Span, place: Place) -> Result<State, Fault>
-    ensures { Gives result (step_need kind.now at (place_of place)) }
+    ensures { GivesState result (step_need kind.now at (place_of place)) }
 {
     match place {
         Place::Value(place) => begin_value(alloc, kind, at, place),

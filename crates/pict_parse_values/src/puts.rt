@@ -3,7 +3,7 @@
 
 ghost use Rattle.pict_syntax.specs.PlainTrees.{abs_of, chan_of, val_of, proc_of};
 ghost use Rattle.pict_automaton.specs.Machine.{put_abstraction, put_process, put_processes, put_value, put_values, put_channel};
-ghost use Rattle.pict_parse_states.specs.View.{value_place_of, process_place_of, processes_place_of, values_place_of, place_of, abstraction_place_of, Gives};
+ghost use Rattle.pict_parse_states.specs.View.{value_place_of, process_place_of, processes_place_of, values_place_of, place_of, abstraction_place_of, GivesState};
 
 use pict_parse_states::{
     AbstractionPlace, Ask, EitherPlace, Fault, Place, ProcessPlace, ProcessPlaces, State,
@@ -22,7 +22,7 @@ pub fn put_abstraction(
     place: Box<AbstractionPlace>,
     abs: Abs,
 ) -> Result<State, Fault>
-    ensures { Gives result (put_abstraction (abs_of abs) (abstraction_place_of place.value)) }
+    ensures { GivesState result (put_abstraction (abs_of abs) (abstraction_place_of place.value)) }
 {
     match Box::into_inner(place) {
         AbstractionPlace::Definition(from, definitions, id, below) => {
@@ -48,7 +48,7 @@ pub fn put_abstraction(
 /// A whole process is put at its place.
 #[cycle(put)]
 pub fn put_process(alloc: Global, place: Box<ProcessPlace>, proc: Proc) -> Result<State, Fault>
-    ensures { Gives result (put_process (proc_of proc) (process_place_of place.value)) }
+    ensures { GivesState result (put_process (proc_of proc) (process_place_of place.value)) }
 {
     match Box::into_inner(place) {
         ProcessPlace::Run(from, below) => {
@@ -80,7 +80,7 @@ pub fn put_process(alloc: Global, place: Box<ProcessPlace>, proc: Proc) -> Resul
 /// A whole process is put where a process may come.
 #[cycle(put)]
 pub fn put_processes(alloc: Global, place: ProcessPlaces, proc: Proc) -> Result<State, Fault>
-    ensures { Gives result (put_processes (proc_of proc) (processes_place_of place)) }
+    ensures { GivesState result (put_processes (proc_of proc) (processes_place_of place)) }
 {
     match place {
         ProcessPlaces::Only(place) => put_process(alloc, place, proc),
@@ -98,7 +98,7 @@ pub fn put_processes(alloc: Global, place: ProcessPlaces, proc: Proc) -> Result<
 /// A whole value, of which no more is to come, is put at its place.
 #[cycle(put)]
 pub fn put_value(alloc: Global, place: Box<ValuePlace>, val: Val) -> Result<State, Fault>
-    ensures { Gives result (put_value (val_of val) (value_place_of place.value)) }
+    ensures { GivesState result (put_value (val_of val) (value_place_of place.value)) }
 {
     put_unboxed(alloc, Box::into_inner(place), val)
 }
@@ -106,7 +106,7 @@ pub fn put_value(alloc: Global, place: Box<ValuePlace>, val: Val) -> Result<Stat
 // A whole value, of which no more is to come, is put at a place that stands in no box.
 #[cycle(put)]
 pub(crate) fn put_unboxed(alloc: Global, place: ValuePlace, val: Val) -> Result<State, Fault>
-    ensures { Gives result (put_value (val_of val) (value_place_of place)) }
+    ensures { GivesState result (put_value (val_of val) (value_place_of place)) }
 {
     match place {
         ValuePlace::Let(from, pat, below) => {
@@ -155,7 +155,7 @@ pub(crate) fn put_unboxed(alloc: Global, place: ValuePlace, val: Val) -> Result<
 /// A whole value, of which no more is to come, is put where a value may come.
 #[cycle(put)]
 pub fn put_values(alloc: Global, place: ValuePlaces, val: Val) -> Result<State, Fault>
-    ensures { Gives result (put_values (val_of val) (values_place_of place)) }
+    ensures { GivesState result (put_values (val_of val) (values_place_of place)) }
 {
     match place {
         ValuePlaces::Only(place) => put_value(alloc, place, val),
@@ -165,7 +165,7 @@ pub fn put_values(alloc: Global, place: ValuePlaces, val: Val) -> Result<State, 
 
 /// A value that may be a channel is put at its place.
 pub fn put_channel(alloc: Global, place: Place, chan: Chan) -> Result<State, Fault>
-    ensures { Gives result (put_channel (chan_of chan) (place_of place)) }
+    ensures { GivesState result (put_channel (chan_of chan) (place_of place)) }
 {
     match place {
         Place::Value(place) => put_value(alloc, place, Val::OfChan(chan)),

@@ -2,7 +2,7 @@
 
 ghost use Rattle.pict_syntax.specs.PlainTrees.{annotation_of, abs_of, chan_of, val_of, proc_of, field_vals_of};
 ghost use Rattle.pict_automaton.specs.Machine.{step_have_definition, close_values, step_values, step_value_name, step_labels, step_value_label, step_arguments_of, step_fold_keyword, step_fold_body, close_side, step_side, close_paren, step_first, step_paren, step_top, step_test, step_then, step_wait, step_either, step_channel_value, step_channel, step_used, step_fresh_name, step_process, step_processes};
-ghost use Rattle.pict_parse_states.specs.View.{types_in, decs_in, definitions_in, vals_in, labelled_vals_in, procs_in, side_of, wait_of, either_place_of, processes_place_of, values_place_of, place_of, declaration_place_of, fields_place_of, Gives};
+ghost use Rattle.pict_parse_states.specs.View.{types_in, decs_in, definitions_in, vals_in, labelled_vals_in, procs_in, side_of, wait_of, either_place_of, processes_place_of, values_place_of, place_of, declaration_place_of, fields_place_of, GivesState};
 
 use crate::begins::{begin_value, step_need};
 use crate::puts::{put_channel, put_processes, put_values};
@@ -29,7 +29,7 @@ pub fn step_have_definition(
     abs: Abs,
     place: DeclarationPlace,
 ) -> Result<State, Fault>
-    ensures { Gives result (step_have_definition kind.now at from (definitions_in definitions) id (abs_of abs) (declaration_place_of place)) }
+    ensures { GivesState result (step_have_definition kind.now at from (definitions_in definitions) id (abs_of abs) (declaration_place_of place)) }
 {
     let end = abs_span(&abs);
     definitions.push(Definition { id, abs })?;
@@ -51,7 +51,7 @@ fn close_values(
     place: Box<FieldsPlace>,
     fields: FieldVals,
 ) -> Result<State, Fault>
-    ensures { Gives result (close_values sign at (fields_place_of place.value) (field_vals_of fields)) }
+    ensures { GivesState result (close_values sign at (fields_place_of place.value) (field_vals_of fields)) }
 {
     let fields = Box::new(alloc, fields)?;
     match (sign, Box::into_inner(place)) {
@@ -76,7 +76,7 @@ pub fn step_values(
     types: Vec<TypeTree>,
     vals: Vec<Val>,
 ) -> Result<State, Fault>
-    ensures { Gives result (step_values kind.now at (fields_place_of place.value) (types_in types) (vals_in vals)) }
+    ensures { GivesState result (step_values kind.now at (fields_place_of place.value) (types_in types) (vals_in vals)) }
 {
     match kind {
         TokenKind::Sign(Sign::CloseBracket) => {
@@ -122,7 +122,7 @@ pub fn step_value_name(
     mut vals: Vec<Val>,
     id: Id,
 ) -> Result<State, Fault>
-    ensures { Gives result (step_value_name kind.now at (fields_place_of place.value) (types_in types) (vals_in vals) id) }
+    ensures { GivesState result (step_value_name kind.now at (fields_place_of place.value) (types_in types) (vals_in vals) id) }
 {
     match kind {
         TokenKind::Sign(Sign::Equals) => {
@@ -147,7 +147,7 @@ pub fn step_labels(
     vals: Vec<Val>,
     labels: Vec<LabelledVal>,
 ) -> Result<State, Fault>
-    ensures { Gives result (step_labels kind.now at (fields_place_of place.value) (types_in types) (vals_in vals) (labelled_vals_in labels)) }
+    ensures { GivesState result (step_labels kind.now at (fields_place_of place.value) (types_in types) (vals_in vals) (labelled_vals_in labels)) }
 {
     match kind {
         TokenKind::Sign(Sign::CloseBracket) => {
@@ -191,7 +191,7 @@ pub fn step_value_label(
     labels: Vec<LabelledVal>,
     label: Id,
 ) -> Result<State, Fault>
-    ensures { Gives result (step_value_label kind.now at (fields_place_of place.value) (types_in types) (vals_in vals) (labelled_vals_in labels) label) }
+    ensures { GivesState result (step_value_label kind.now at (fields_place_of place.value) (types_in types) (vals_in vals) (labelled_vals_in labels) label) }
 {
     match kind {
         TokenKind::Sign(Sign::Equals) => {
@@ -210,7 +210,7 @@ pub fn step_arguments(
     place: Box<FieldsPlace>,
     types: Vec<TypeTree>,
 ) -> Result<State, Fault>
-    ensures { Gives result (step_arguments_of kind.now at (fields_place_of place.value) (types_in types)) }
+    ensures { GivesState result (step_arguments_of kind.now at (fields_place_of place.value) (types_in types)) }
 {
     match kind {
         TokenKind::Sign(Sign::Hash) => Ok(State::NeedType(Box::new(
@@ -229,7 +229,7 @@ pub fn step_fold_keyword(
     from: Span,
     place: Place,
 ) -> Result<State, Fault>
-    ensures { Gives result (step_fold_keyword kind.now at from (place_of place)) }
+    ensures { GivesState result (step_fold_keyword kind.now at from (place_of place)) }
 {
     match kind {
         TokenKind::Sign(Sign::Colon) => Ok(State::NeedType(Box::new(
@@ -254,7 +254,7 @@ pub fn step_fold_body(
     val: Val,
     place: Place,
 ) -> Result<State, Fault>
-    ensures { Gives result (step_fold_body kind.now at from (annotation_of annotation) (val_of val) (place_of place)) }
+    ensures { GivesState result (step_fold_body kind.now at from (annotation_of annotation) (val_of val) (place_of place)) }
 {
     match kind {
         TokenKind::Sign(Sign::CloseParen) => {
@@ -275,7 +275,7 @@ fn close_side(
     vals: Vec<Val>,
     place: Place,
 ) -> Result<State, Fault>
-    ensures { Gives result (close_side at (side_of side) from id (vals_in vals) (place_of place)) }
+    ensures { GivesState result (close_side at (side_of side) from id (vals_in vals) (place_of place)) }
 {
     if vals.len() < 2 {
         return Err(Fault::Unexpected);
@@ -297,7 +297,7 @@ pub fn step_side(
     vals: Vec<Val>,
     place: Place,
 ) -> Result<State, Fault>
-    ensures { Gives result (step_side kind.now at (side_of side) from id (vals_in vals) (place_of place)) }
+    ensures { GivesState result (step_side kind.now at (side_of side) from id (vals_in vals) (place_of place)) }
 {
     match kind {
         TokenKind::Sign(Sign::CloseParen) => close_side(alloc, at, side, from, id, vals, place),
@@ -317,7 +317,7 @@ fn close_paren(
     decs: Vec<Dec>,
     place: Place,
 ) -> Result<State, Fault>
-    ensures { Gives result (close_paren at (val_of val) from (decs_in decs) (place_of place)) }
+    ensures { GivesState result (close_paren at (val_of val) from (decs_in decs) (place_of place)) }
 {
     let val = Box::new(alloc, val)?;
     if decs.is_empty() {
@@ -343,7 +343,7 @@ fn step_first(
     decs: Vec<Dec>,
     place: Place,
 ) -> Result<State, Fault>
-    ensures { Gives result (step_first kind.now at (val_of val) from (decs_in decs) (place_of place)) }
+    ensures { GivesState result (step_first kind.now at (val_of val) from (decs_in decs) (place_of place)) }
 {
     if decs.is_empty() {
         let place = Box::new(alloc, FieldsPlace::Apply(from, val, place))?;
@@ -364,7 +364,7 @@ fn step_paren(
     mut decs: Vec<Dec>,
     place: Place,
 ) -> Result<State, Fault>
-    ensures { Gives result (step_paren kind.now at (val_of val) from (decs_in decs) (place_of place)) }
+    ensures { GivesState result (step_paren kind.now at (val_of val) from (decs_in decs) (place_of place)) }
 {
     match kind {
         TokenKind::Sign(Sign::Semicolon) => {
@@ -387,7 +387,7 @@ fn step_top(
     val: Val,
     mut decs: Vec<Dec>,
 ) -> Result<State, Fault>
-    ensures { Gives result (step_top kind.now at (val_of val) (decs_in decs)) }
+    ensures { GivesState result (step_top kind.now at (val_of val) (decs_in decs)) }
 {
     match kind {
         TokenKind::Sign(Sign::Semicolon) => {
@@ -409,7 +409,7 @@ fn step_test(
     from: Span,
     place: Place,
 ) -> Result<State, Fault>
-    ensures { Gives result (step_test kind.now (val_of val) from (place_of place)) }
+    ensures { GivesState result (step_test kind.now (val_of val) from (place_of place)) }
 {
     match kind {
         TokenKind::Keyword(Keyword::Then) => Ok(State::Need(then_place(alloc, from, val, place)?)),
@@ -426,7 +426,7 @@ fn step_then(
     test: Val,
     place: ValuePlaces,
 ) -> Result<State, Fault>
-    ensures { Gives result (step_then kind.now (val_of val) from (val_of test) (values_place_of place)) }
+    ensures { GivesState result (step_then kind.now (val_of val) from (val_of test) (values_place_of place)) }
 {
     match kind {
         TokenKind::Keyword(Keyword::Else) => {
@@ -445,7 +445,7 @@ pub fn step_wait(
     val: Val,
     wait: Wait,
 ) -> Result<State, Fault>
-    ensures { Gives result (step_wait kind.now at (val_of val) (wait_of wait)) }
+    ensures { GivesState result (step_wait kind.now at (val_of val) (wait_of wait)) }
 {
     match wait {
         Wait::Top(decs) => step_top(alloc, kind, at, val, decs),
@@ -472,7 +472,7 @@ pub fn step_either(
     val: Val,
     place: Box<EitherPlace>,
 ) -> Result<State, Fault>
-    ensures { Gives result (step_either kind.now at (val_of val) (either_place_of place.value)) }
+    ensures { GivesState result (step_either kind.now at (val_of val) (either_place_of place.value)) }
 {
     match Box::into_inner(place) {
         EitherPlace::Paren(from, decs, below) => {
@@ -493,7 +493,7 @@ fn step_channel_value(
     chan: Chan,
     place: ProcessPlaces,
 ) -> Result<State, Fault>
-    ensures { Gives result (step_channel_value kind.now at (chan_of chan) (processes_place_of place)) }
+    ensures { GivesState result (step_channel_value kind.now at (chan_of chan) (processes_place_of place)) }
 {
     match place {
         ProcessPlaces::Only(_) => Err(Fault::Unexpected),
@@ -509,7 +509,7 @@ pub fn step_channel(
     chan: Chan,
     place: ProcessPlaces,
 ) -> Result<State, Fault>
-    ensures { Gives result (step_channel kind.now at (chan_of chan) (processes_place_of place)) }
+    ensures { GivesState result (step_channel kind.now at (chan_of chan) (processes_place_of place)) }
 {
     match kind {
         TokenKind::Sign(Sign::Bang) => {
@@ -538,7 +538,7 @@ fn step_used(
     id: Id,
     place: Place,
 ) -> Result<State, Fault>
-    ensures { Gives result (step_used kind.now at from id (place_of place)) }
+    ensures { GivesState result (step_used kind.now at from id (place_of place)) }
 {
     let chan = Chan::Use(id.span, id.name);
     match place {
@@ -569,7 +569,7 @@ pub fn step_fresh_name(
     id: Id,
     place: Place,
 ) -> Result<State, Fault>
-    ensures { Gives result (step_fresh_name kind.now at from id (place_of place)) }
+    ensures { GivesState result (step_fresh_name kind.now at from id (place_of place)) }
 {
     match kind {
         TokenKind::Sign(Sign::Greater) => Ok(State::Arguments(
@@ -599,7 +599,7 @@ pub fn step_process(
     test: Val,
     place: ProcessPlaces,
 ) -> Result<State, Fault>
-    ensures { Gives result (step_process kind.now (proc_of proc) from (val_of test) (processes_place_of place)) }
+    ensures { GivesState result (step_process kind.now (proc_of proc) from (val_of test) (processes_place_of place)) }
 {
     match kind {
         TokenKind::Keyword(Keyword::Else) => {
@@ -622,7 +622,7 @@ pub fn step_processes(
     proc: Proc,
     place: ProcessPlaces,
 ) -> Result<State, Fault>
-    ensures { Gives result (step_processes kind.now at from (decs_in decs) (procs_in procs) (proc_of proc) (processes_place_of place)) }
+    ensures { GivesState result (step_processes kind.now at from (decs_in decs) (procs_in procs) (proc_of proc) (processes_place_of place)) }
 {
     procs.push(proc)?;
     match kind {

@@ -16,9 +16,9 @@ use Rattle.pict_view.specs.View.{View, list_at}
 use Rattle.pict_view.proofs.Lists.{instead_suc, map_without, map_instead, all_without, all_pushed, listed}
 use Rattle.pict_desk.specs.declared.kept.Kept.{Kept}
 use Rattle.pict_heap.specs.declared.word.Word.{Word}
-use Rattle.pict_picker.specs.Deeds.{waits_at, deed_of, label_shown}
+use Rattle.pict_picker.specs.Deeds.{waits_at, deed_of, label_printed}
 use Rattle.pict_picker.specs.Events.{label_of, IsDidOf}
-use Rattle.pict_picker.specs.Lists.{left_ready, outcome_of, IsPlaced}
+use Rattle.pict_picker.specs.Lists.{left_ready, outcome_of, IsDeedPlaced}
 use Rattle.pict_picker.specs.Picker.{items_of, channel_items, channel_processes, view_of_lists, AreLists}
 use Rattle.pict_picker.specs.Waiting.{pair_value, process_of, processes_of, IsKept, IsWaiting, CanPark, IsParked, AreWaiting, AreParked}
 use Rattle.pict_picker.specs.declared.deed.Deed.{Deed}
@@ -89,7 +89,7 @@ module _ (core : Process) (h : HeapState) where
       → new.ready.items ≡ xs → channel_items new ≡ ys
       → place_at i j (processes_of core h old.ready.items) (channel_processes core h old) (deed_of core h (channel_processes core h old) j own d) ≡ Moves (view_by xs ys) label
       → AreWaiting core h xs → AllByRecursion (AreParked core h) ys → label_of h answer ≡ label → IsDidOf h answer → ((at : Span) → ¬ (answer ≡ did.Trapped at))
-      → IsPlaced core h old new i j own d answer
+      → IsDeedPlaced core h old new i j own d answer
   placed_by old new i j own d answer xs ys label e f moved ready parked shown event no_trap = record {
     is = moved ∙ ap (Moves (view_by xs ys)) (sym shown) ∙ ap (λ v. Moves v (label_of h answer)) (sym (view_is new xs ys e f)) ∙ sym (outcome_moves h (view_of_lists core h new) answer no_trap);
     lists = record { ready = subst (AreWaiting core h) (sym e) ready; parked = subst (AllByRecursion (AreParked core h)) (sym f) parked };
@@ -194,26 +194,26 @@ module _ (core : Process) (h : HeapState) (old new : Lists) (i j : ℕ) (own : P
   abbrev Untrapped : Type 0
   Untrapped = (at : Span) → ¬ (answer ≡ did.Trapped at)
 
-  pub ends_placed : (shown : Option Word) → new.ready.items ≡ without i xs → channel_items new ≡ ys → label_of h answer ≡ label_shown h shown → IsDidOf h answer → Untrapped
-      → IsPlaced core h old new i j own (deed.Ends shown) answer
+  pub ends_placed : (shown : Option Word) → new.ready.items ≡ without i xs → channel_items new ≡ ys → label_of h answer ≡ label_printed h shown → IsDidOf h answer → Untrapped
+      → IsDeedPlaced core h old new i j own (deed.Ends shown) answer
   ends_placed shown e f label event untrapped =
-      placed_by core h old new i j own (deed.Ends shown) answer (without i xs) ys (label_shown h shown) e f (ends_moves core h i j xs ys (label_shown h shown))
+      placed_by core h old new i j own (deed.Ends shown) answer (without i xs) ys (label_printed h shown) e f (ends_moves core h i j xs ys (label_printed h shown))
       (all_without (IsWaiting core h) i xs are.ready) are.parked label event untrapped
 
-  pub keeps_placed : (w : Waiting) (shown : Option Word) → IsWaiting core h w → new.ready.items ≡ instead i w xs → channel_items new ≡ ys → label_of h answer ≡ label_shown h shown → IsDidOf h answer → Untrapped
-      → IsPlaced core h old new i j own (deed.Keeps w shown) answer
+  pub keeps_placed : (w : Waiting) (shown : Option Word) → IsWaiting core h w → new.ready.items ≡ instead i w xs → channel_items new ≡ ys → label_of h answer ≡ label_printed h shown → IsDidOf h answer → Untrapped
+      → IsDeedPlaced core h old new i j own (deed.Keeps w shown) answer
   keeps_placed w shown waits e f label event untrapped =
-      placed_by core h old new i j own (deed.Keeps w shown) answer (instead i w xs) ys (label_shown h shown) e f (keeps_moves core h i j xs ys w (label_shown h shown))
+      placed_by core h old new i j own (deed.Keeps w shown) answer (instead i w xs) ys (label_printed h shown) e f (keeps_moves core h i j xs ys w (label_printed h shown))
       (all_instead (IsWaiting core h) i w xs waits are.ready) are.parked label event untrapped
 
   pub forks_placed : (p q : Waiting) → IsWaiting core h p → IsWaiting core h q → new.ready.items ≡ instead i p xs ++ q ∷ [] → channel_items new ≡ ys → label_of h answer ≡ Quiet → IsDidOf h answer → Untrapped
-      → IsPlaced core h old new i j own (deed.Forks p q) answer
+      → IsDeedPlaced core h old new i j own (deed.Forks p q) answer
   forks_placed p q first second e f label event untrapped =
       placed_by core h old new i j own (deed.Forks p q) answer (instead i p xs ++ q ∷ []) ys Quiet e f (forks_moves core h i j xs ys p q)
       (all_pushed (IsWaiting core h) (instead i p xs) q (all_instead (IsWaiting core h) i p xs first are.ready) second) are.parked label event untrapped
 
   pub opens_placed : (p : Waiting) → IsWaiting core h p → new.ready.items ≡ instead i p xs → channel_items new ≡ ys ++ [] ∷ [] → label_of h answer ≡ Quiet → IsDidOf h answer → Untrapped
-      → IsPlaced core h old new i j own (deed.Opens p) answer
+      → IsDeedPlaced core h old new i j own (deed.Opens p) answer
   opens_placed p waits e f label event untrapped =
       placed_by core h old new i j own (deed.Opens p) answer (instead i p xs) (ys ++ [] ∷ []) Quiet e f (opens_moves core h i j xs ys p)
       (all_instead (IsWaiting core h) i p xs waits are.ready) (all_pushed (AreParked core h) ys [] are.parked tt) label event untrapped
@@ -227,7 +227,7 @@ module _ (core : Process) (h : HeapState) (old new : Lists) (i j : ℕ) (own : P
 
     pub waits_placed : (w : Waiting) → slice_get xs i ≡ Some w → slice_get (processes_of core h xs) i ≡ Some own → is_input own ≡ true
         → new.ready.items ≡ without i xs → channel_items new ≡ slice_set ys c (at_channel ++ w ∷ []) → label_of h answer ≡ Quiet → IsDidOf h answer → Untrapped
-        → IsPlaced core h old new i j own (deed.Waits c) answer
+        → IsDeedPlaced core h old new i j own (deed.Waits c) answer
     waits_placed w is here input e f label event untrapped =
         let same = who_is core h xs i w own is here in
         placed_by core h old new i j own (deed.Waits c) answer (without i xs) (slice_set ys c (at_channel ++ w ∷ [])) Quiet e f
@@ -238,7 +238,7 @@ module _ (core : Process) (h : HeapState) (old new : Lists) (i j : ℕ) (own : P
         label event untrapped
 
     pub parks_placed : (kept : Kept) → IsKept h kept → new.ready.items ≡ without i xs → channel_items new ≡ slice_set ys c (at_channel ++ waiting.Output kept ∷ []) → label_of h answer ≡ Quiet → IsDidOf h answer → Untrapped
-        → IsPlaced core h old new i j own (deed.Parks c kept) answer
+        → IsDeedPlaced core h old new i j own (deed.Parks c kept) answer
     parks_placed kept k e f label event untrapped =
         placed_by core h old new i j own (deed.Parks c kept) answer (without i xs) (slice_set ys c (at_channel ++ waiting.Output kept ∷ [])) Quiet e f
         (parks_moves core h i j xs ys c there (waiting.Output kept))
@@ -249,7 +249,7 @@ module _ (core : Process) (h : HeapState) (old new : Lists) (i j : ℕ) (own : P
     module _ (message : ℕ × ℕ) (replicated : Bool) (body : Waiting) (waits : IsWaiting core h body) where
       pub serves_placed : (reader : Waiting) → slice_get at_channel j ≡ Some reader → new.ready.items ≡ without i xs ++ body ∷ []
           → channel_items new ≡ slice_set ys c (without j at_channel ++ if_replicated replicated reader) → label_of h answer ≡ Comm c (pair_value h message) → IsDidOf h answer → Untrapped
-          → IsPlaced core h old new i j own (deed.Serves c message replicated body) answer
+          → IsDeedPlaced core h old new i j own (deed.Serves c message replicated body) answer
       serves_placed reader is e f label event untrapped =
           placed_by core h old new i j own (deed.Serves c message replicated body) answer (without i xs ++ body ∷ []) (slice_set ys c (without j at_channel ++ if_replicated replicated reader))
           (Comm c (pair_value h message)) e f (serves_moves core h i j xs ys c there (pair_value h message) replicated body reader is)
@@ -264,7 +264,7 @@ module _ (core : Process) (h : HeapState) (old new : Lists) (i j : ℕ) (own : P
 
       pub takes_placed : new.ready.items ≡ left_ready i xs replicated ++ body ∷ []
           → channel_items new ≡ slice_set ys c (without j at_channel) → label_of h answer ≡ Comm c (pair_value h message) → IsDidOf h answer → Untrapped
-          → IsPlaced core h old new i j own (deed.Takes c message replicated body) answer
+          → IsDeedPlaced core h old new i j own (deed.Takes c message replicated body) answer
       takes_placed e f label event untrapped =
           placed_by core h old new i j own (deed.Takes c message replicated body) answer (left_ready i xs replicated ++ body ∷ []) (slice_set ys c (without j at_channel))
           (Comm c (pair_value h message)) e f (takes_moves core h i j xs ys c there (pair_value h message) replicated body)
@@ -273,9 +273,9 @@ module _ (core : Process) (h : HeapState) (old new : Lists) (i j : ℕ) (own : P
           label event untrapped
 
   -- a trap
-  pub stops_placed : (at : Span) → new ≡ old → answer ≡ did.Trapped at → IsPlaced core h old new i j own (deed.Stops at) answer
+  pub stops_placed : (at : Span) → new ≡ old → answer ≡ did.Trapped at → IsDeedPlaced core h old new i j own (deed.Stops at) answer
   stops_placed at same is =
-      subst (IsPlaced core h old new i j own (deed.Stops at)) (sym is)
+      subst (IsDeedPlaced core h old new i j own (deed.Stops at)) (sym is)
       (record { is = refl; lists = subst (AreLists core h) (sym same) are; event = tt })
 
 pub get_there : (ws : List Waiting) (j : ℕ) → j < length ws → (w : Waiting) × (slice_get ws j ≡ Some w)

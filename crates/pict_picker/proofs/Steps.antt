@@ -22,7 +22,7 @@ use Rattle.pict_desk.specs.declared.desk.Desk.{Desk}
 use Rattle.pict_picker.specs.Acting.{MayAct}
 use Rattle.pict_picker.specs.Deeds.{deed_at, deed_of, FitsDeed, IsDeed}
 use Rattle.pict_picker.specs.Events.{label_of, trap_of}
-use Rattle.pict_picker.specs.Lists.{SameItems, MayPlace, outcome_of, IsPlaced}
+use Rattle.pict_picker.specs.Lists.{SameItems, MayPlace, outcome_of, IsDeedPlaced}
 use Rattle.pict_picker.specs.Picker.{channel_processes, view_of_lists, IsDesk, AreLists}
 use Rattle.pict_picker.specs.Stepping.{place, IsRightAt, IsStepAt}
 use Rattle.pict_picker.specs.Waiting.{processes_of, AreWaiting, AreParked}
@@ -120,7 +120,7 @@ module _ (core : Process) (old new : HeapState) (keeps : KeepsWords old new) (fi
     }
 
     -- what the step does to the view
-    pub stepped : (last : Lists) (answer : Did) → IsPlaced core new made last i j own d answer → next_at i j (view_of_lists core old first) ≡ outcome_of new (view_of_lists core new last) answer
+    pub stepped : (last : Lists) (answer : Did) → IsDeedPlaced core new made last i j own d answer → next_at i j (view_of_lists core old first) ≡ outcome_of new (view_of_lists core new last) answer
     stepped last answer p =
         let R = processes_of core old first.ready.items in
         let L = channel_processes core old first in

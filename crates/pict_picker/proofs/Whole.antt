@@ -16,7 +16,7 @@ use Rattle.pict_desk.proofs.Making.{keeps_all}
 use Rattle.pict_picker.specs.Acting.{MayAct}
 use Rattle.pict_picker.specs.Deeds.{IsDeed}
 use Rattle.pict_picker.specs.Events.{label_of, trap_of}
-use Rattle.pict_picker.specs.Lists.{SameItems, HasRoomIn, grows_at, MayPlace, outcome_of, IsPlaced}
+use Rattle.pict_picker.specs.Lists.{SameItems, HasRoomIn, grows_at, MayPlace, outcome_of, IsDeedPlaced}
 use Rattle.pict_picker.specs.Partners.{stands_at, channel_in}
 use Rattle.pict_picker.specs.Parts.{KeepsDesk}
 use Rattle.pict_picker.specs.Picker.{core_in, view_of, heap_of, channel_processes, view_of_lists, AreLists, IsPicker, IsUnchanged}
@@ -63,7 +63,7 @@ module _ (old : Picker) (kept : IsPicker old) (i j : ℕ) (right : IsRightAt (vi
       abbrev pub whole_place : MayPlace (core_in old) desk.heap made i j d
       whole_place = may_place (core_in old) (heap_of old) desk.heap keeps.words old.lists made kept.lists same i j own own_here d is
 
-      module _ (last : Lists) (answer : Did) (placed : IsPlaced (core_in old) desk.heap made last i j own d answer) (trapped : (at : Span) → answer ≡ did.Trapped at → last ≡ made) where
+      module _ (last : Lists) (answer : Did) (placed : IsDeedPlaced (core_in old) desk.heap made last i j own d answer) (trapped : (at : Span) → answer ≡ did.Trapped at → last ≡ made) where
         whole_next : next_at i j (view_of old) ≡ outcome_of desk.heap (view_of_lists (core_in old) desk.heap last) answer
         whole_next = stepped (core_in old) (heap_of old) desk.heap keeps.words old.lists made kept.lists same i j own own_here d is last answer placed
 

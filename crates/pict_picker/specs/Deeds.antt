@@ -18,13 +18,13 @@ use Rattle.pict_picker.specs.declared.deed.Deed.TheVariants as deed
 use Rattle.pict_picker.specs.declared.waiting.Waiting.TheVariants.{Output}
 
 -- the label of a step that prints this word, or nothing
-abbrev pub label_shown : HeapState → Option Word → Label
-label_shown h None = Quiet
-label_shown h (Some word) = printing (printed_of (value_of h word))
+abbrev pub label_printed : HeapState → Option Word → Label
+label_printed h None = Quiet
+label_printed h (Some word) = printing (printed_of (value_of h word))
 
-abbrev pub IsShown : HeapState → Option Word → Type 0
-IsShown h None = Unit {0}
-IsShown h (Some word) = IsPrinted h word
+abbrev pub IsPrintedOrNone : HeapState → Option Word → Type 0
+IsPrintedOrNone h None = Unit {0}
+IsPrintedOrNone h (Some word) = IsPrinted h word
 
 -- the j-th that waits at a channel
 abbrev pub waits_at : List (List Process) → ℕ → ℕ → Process
@@ -32,8 +32,8 @@ waits_at lists j c = slice_index_or (list_at c lists) j Zero
 
 -- the deed of the process `own`, with the j-th at its channel
 abbrev pub deed_of : Process → HeapState → List (List Process) → ℕ → Process → Deed → deeds.Deed
-deed_of core h lists j own (deed.Ends shown) = deeds.Ends (label_shown h shown)
-deed_of core h lists j own (deed.Keeps w shown) = deeds.Keeps (process_of core h w) (label_shown h shown)
+deed_of core h lists j own (deed.Ends shown) = deeds.Ends (label_printed h shown)
+deed_of core h lists j own (deed.Keeps w shown) = deeds.Keeps (process_of core h w) (label_printed h shown)
 deed_of core h lists j own (deed.Forks left right) = deeds.Forks (process_of core h left) (process_of core h right)
 deed_of core h lists j own (deed.Opens part) = deeds.Opens (process_of core h part)
 deed_of core h lists j own (deed.Waits c) = deeds.Parks c own
@@ -45,8 +45,8 @@ deed_of core h lists j own (deed.Stops at) = deeds.Stops at
 
 -- Its words are words of the heap, its processes may be ready, and its channel and its partner are there.
 abbrev pub FitsDeed : Process → HeapState → List (List Process) → ℕ → Process → Deed → Type 0
-FitsDeed core h lists j own (deed.Ends shown) = IsShown h shown
-FitsDeed core h lists j own (deed.Keeps w shown) = IsWaiting core h w × IsShown h shown
+FitsDeed core h lists j own (deed.Ends shown) = IsPrintedOrNone h shown
+FitsDeed core h lists j own (deed.Keeps w shown) = IsWaiting core h w × IsPrintedOrNone h shown
 FitsDeed core h lists j own (deed.Forks left right) = IsWaiting core h left × IsWaiting core h right
 FitsDeed core h lists j own (deed.Opens part) = IsWaiting core h part
 FitsDeed core h lists j own (deed.Waits c) = (c < length lists) × (is_input own ≡ true)

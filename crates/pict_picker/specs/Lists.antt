@@ -61,7 +61,7 @@ outcome_of h v (did.Trapped at) = Stops at
 outcome_of h v d = Moves v (label_of h d)
 
 -- The deed is placed, as the answer says.
-pub record IsPlaced (core : Process) (h : HeapState) (old new : Lists) (i j : ℕ) (own : Process) (d : Deed) (answer : Did) : Type 0 where
+pub record IsDeedPlaced (core : Process) (h : HeapState) (old new : Lists) (i j : ℕ) (own : Process) (d : Deed) (answer : Did) : Type 0 where
   pub is : place_at i j (view_of_lists core h old).ready (view_of_lists core h old).channels (deed_of core h (view_of_lists core h old).channels j own d)
       ≡ outcome_of h (view_of_lists core h new) answer
   pub lists : AreLists core h new

@@ -6,9 +6,9 @@ ghost use Rattle.pict_heap.specs.HeapState.{HeapState, value_of};
 ghost use Rattle.pict_view.specs.Moved.{if_replicated};
 ghost use Rattle.pict_view.specs.Placed.{without};
 ghost use Rattle.pict_desk.specs.Pairs.{IsPair};
-ghost use Rattle.pict_picker.specs.Deeds.{label_shown, IsShown};
+ghost use Rattle.pict_picker.specs.Deeds.{label_printed, IsPrintedOrNone};
 ghost use Rattle.pict_picker.specs.Events.{label_of, trap_of, IsDidOf};
-ghost use Rattle.pict_picker.specs.Lists.{items_at, room_at, SameItems, grows_at, HasRoomIn, left_ready, MayPlace, IsPlaced};
+ghost use Rattle.pict_picker.specs.Lists.{items_at, room_at, SameItems, grows_at, HasRoomIn, left_ready, MayPlace, IsDeedPlaced};
 ghost use Rattle.pict_picker.specs.Picker.{channel_items};
 ghost use Rattle.pict_picker.specs.declared.waiting.Waiting.{Waiting as AnyWaiting};
 
@@ -93,8 +93,8 @@ fn go_on(ready: &mut Ranked<Waiting>, i: usize, stays: bool, body: Waiting)
 
 // What a step shows that prints this word, or nothing.
 fn shown(word: Option<Word>) -> Did
-    ensures label { (h : HeapState) → label_of h result ≡ label_shown h word }
-    ensures event { (h : HeapState) → IsShown h word → IsDidOf h result }
+    ensures label { (h : HeapState) → label_of h result ≡ label_printed h word }
+    ensures event { (h : HeapState) → IsPrintedOrNone h word → IsDidOf h result }
     ensures trap { (at : AnySpan) → ¬ (result ≡ Did.Trapped at) }
 {
     match word {
@@ -108,7 +108,7 @@ pub(crate) fn place_deed(alloc: Global, lists: &mut Lists, i: usize, j: usize, d
     requires may { (core : Process) × (h : HeapState) × MayPlace core h lists.old i j deed }
     requires room { HasRoomIn lists.old (grows_at deed) }
     ensures placed { (core : Process) (h : HeapState) (m : MayPlace core h lists.old i j deed)
-        → IsPlaced core h lists.old lists.new i j m.own deed result }
+        → IsDeedPlaced core h lists.old lists.new i j m.own deed result }
     ensures trapped { (at : AnySpan) → result ≡ Did.Trapped at → (deed ≡ Deed.Stops at) × (lists.new ≡ lists.old) }
     ensures channels { length lists.new.channels.items ≤ length lists.old.channels.items + 1 }
 {

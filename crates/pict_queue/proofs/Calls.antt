@@ -3,9 +3,9 @@ use Rattle.std.proofs.Common.{◌≡◌, ℕ, ◌+◌, ◌-◌, ◌^◌, ◌<◌
 use Rattle.std.proofs.lemmas.List.{length-map}
 use Rattle.pict_region.specs.RegionState.{IsLive, words_of, width_of}
 use Rattle.pict_region.proofs.Chains.{chain-length}
-use Rattle.pict_queue.specs.QueuesState.{QueuesState, IsQueue, IsHeld, list_of, link_of, KeepsContents, KeepsRest}
+use Rattle.pict_queue.specs.QueuesState.{QueuesState, IsQueue, IsHeld, queue_blocks, link_of, KeepsContents, KeepsRest}
 use Rattle.pict_queue.specs.Contents.{held_words, first_words}
-use Rattle.pict_queue.specs.Threads.{state_of, thread, IsSound}
+use Rattle.pict_queue.specs.Threads.{queues_state, thread, AreQueuesSound}
 use Rattle.pict_queue.specs.Ends.{queue_in, ends_of}
 use Rattle.pict_queue.specs.declared.ends.Queue.{Queue}
 use Rattle.pict_queue.specs.declared.queues.Queues.TheInside.{Inside}
@@ -16,20 +16,20 @@ pub record ReadsQueue (a : Inside) (number : ℕ) (queue : Queue) : Type 0 where
   pub inside : number < length a.ends.queues.items
   pub queue_is : queue ≡ queue_in a.ends.queues.items number
 
-pub queues_length : (a : Inside) (s : QueuesState) → state_of a ≡ s → length s.queues ≡ length a.ends.queues.items
+pub queues_length : (a : Inside) (s : QueuesState) → queues_state a ≡ s → length s.queues ≡ length a.ends.queues.items
 queues_length a s is = ap (λ t. length t.queues) (sym is) ∙ length-map a.ends.queues.items _
 
-pub queue_read : (a : Inside) (s : QueuesState) (number : ℕ) (queue : Queue) → state_of a ≡ s → IsQueue s number
+pub queue_read : (a : Inside) (s : QueuesState) (number : ℕ) (queue : Queue) → queues_state a ≡ s → IsQueue s number
     → queue ≡ queue_in a.ends.queues.items number → ReadsQueue a number queue
 queue_read a s number queue is there read =
     let inside : number < length a.ends.queues.items = omega (arith, there, queues_length a s is) in
     record { inside = inside; queue_is = read }
 
 -- the list of a queue, before a call
-pub list_seen : (a : Inside) (s : QueuesState) (queue : ℕ) → state_of a ≡ s → list_of s queue ≡ thread a.region a.ends.queues.items queue
-list_seen a s queue is = ap (λ t. list_of t queue) (sym is) ∙ list_is a queue
+pub list_seen : (a : Inside) (s : QueuesState) (queue : ℕ) → queues_state a ≡ s → queue_blocks s queue ≡ thread a.region a.ends.queues.items queue
+list_seen a s queue is = ap (λ t. queue_blocks t queue) (sym is) ∙ list_is a queue
 
-pub list_length : (a : Inside) (s : QueuesState) (number : ℕ) → state_of a ≡ s → length (list_of s number) ≡ (queue_in a.ends.queues.items number).length
+pub list_length : (a : Inside) (s : QueuesState) (number : ℕ) → queues_state a ≡ s → length (queue_blocks s number) ≡ (queue_in a.ends.queues.items number).length
 list_length a s number is =
     ap length (list_seen a s number is) ∙ chain-length (link_of a.region) (queue_in a.ends.queues.items number).first (queue_in a.ends.queues.items number).length
 
@@ -42,7 +42,7 @@ pub record FindsEnds (a : Inside) (number block : ℕ) (queue ends : Queue) : Ty
   pub block_wide : 1 ≤ width_of a.region block
   pub fits : queue.length + 1 < 2 ^ 32
 
-pub ends_found : (a : Inside) (s : QueuesState) (number token block : ℕ) (queue ends : Queue) → state_of a ≡ s → IsSound a → IsQueue s number → IsHeld s token
+pub ends_found : (a : Inside) (s : QueuesState) (number token block : ℕ) (queue ends : Queue) → queues_state a ≡ s → AreQueuesSound a → IsQueue s number → IsHeld s token
     → block ≡ token → queue ≡ queue_in a.ends.queues.items number → ends ≡ ends_of queue block → FindsEnds a number block queue ends
 ends_found a s number token block queue ends is sound there held same read ends_are =
     let reads = queue_read a s number queue is there read in
@@ -60,7 +60,7 @@ ends_found a s number token block queue ends is sound there held same read ends_
     }
 
 -- the number of a held block is small
-pub held_small : (a : Inside) (s : QueuesState) (token block : ℕ) → state_of a ≡ s → IsSound a → IsHeld s token → block ≡ token → block < 2 ^ 32
+pub held_small : (a : Inside) (s : QueuesState) (token block : ℕ) → queues_state a ≡ s → AreQueuesSound a → IsHeld s token → block ≡ token → block < 2 ^ 32
 held_small a s token block is sound held same = omega (arith, sound.threaded.small token (apart_if_held a s token is held).live, same)
 
 -- what a pop or a look at the first block finds
@@ -69,7 +69,7 @@ pub record FindsFirst (a : Inside) (number : ℕ) (queue : Queue) : Type 0 where
   pub live : IsLive a.region queue.first
   pub wide : 2 ≤ width_of a.region queue.first
 
-pub first_found : (a : Inside) (s : QueuesState) (number : ℕ) (queue : Queue) → state_of a ≡ s → IsSound a → IsQueue s number
+pub first_found : (a : Inside) (s : QueuesState) (number : ℕ) (queue : Queue) → queues_state a ≡ s → AreQueuesSound a → IsQueue s number
     → queue ≡ queue_in a.ends.queues.items number → 0 < queue.length → FindsFirst a number queue
 first_found a s number queue is sound there read some =
     let reads = queue_read a s number queue is there read in
@@ -78,19 +78,19 @@ first_found a s number queue is sound there read some =
     record { read = reads; live = live; wide = sound.threaded.wide queue.first live }
 
 -- the queue is there
-pub queue_there : (a : Inside) (s : QueuesState) (number : ℕ) → state_of a ≡ s → IsQueue s number → number < length a.ends.queues.items
+pub queue_there : (a : Inside) (s : QueuesState) (number : ℕ) → queues_state a ≡ s → IsQueue s number → number < length a.ends.queues.items
 queue_there a s number is there = omega (arith, there, queues_length a s is)
 
 -- the first block of a queue that isn't empty
-pub first_there : (a : Inside) (s : QueuesState) (number : ℕ) → state_of a ≡ s → IsSound a → IsQueue s number → 0 < length (list_of s number)
+pub first_there : (a : Inside) (s : QueuesState) (number : ℕ) → queues_state a ≡ s → AreQueuesSound a → IsQueue s number → 0 < length (queue_blocks s number)
     → FindsFirst a number (queue_in a.ends.queues.items number)
 first_there a s number is sound there some =
     first_found a s number (queue_in a.ends.queues.items number) is sound there refl (omega (arith, some, list_length a s number is))
 
 -- all but links, orders and work stays
-pub rest_kept : (a a' : Inside) (s : QueuesState) → state_of a ≡ s → KeepsContents a.region a'.region → a'.region.free ≡ a.region.free
-    → length a'.ends.queues.items ≡ length a.ends.queues.items → a'.spare ≡ a.spare → KeepsRest s (state_of a')
-rest_kept a a' s is contents free queues spare = subst (λ t. KeepsRest t (state_of a')) is (record {
+pub rest_kept : (a a' : Inside) (s : QueuesState) → queues_state a ≡ s → KeepsContents a.region a'.region → a'.region.free ≡ a.region.free
+    → length a'.ends.queues.items ≡ length a.ends.queues.items → a'.spare ≡ a.spare → KeepsRest s (queues_state a')
+rest_kept a a' s is contents free queues spare = subst (λ t. KeepsRest t (queues_state a')) is (record {
   contents = contents;
   free = free;
   queues = length-map a'.ends.queues.items _ ∙ queues ∙ sym (length-map a.ends.queues.items _);
@@ -98,13 +98,13 @@ rest_kept a a' s is contents free queues spare = subst (λ t. KeepsRest t (state
 })
 
 -- all lists stay
-pub lists_kept : (a a' : Inside) (s : QueuesState) → state_of a ≡ s → a'.ends.queues.items ≡ a.ends.queues.items → ThreadsStay a.region a'.region a.ends.queues.items
-    → (queue : ℕ) → list_of (state_of a') queue ≡ list_of s queue
+pub lists_kept : (a a' : Inside) (s : QueuesState) → queues_state a ≡ s → a'.ends.queues.items ≡ a.ends.queues.items → ThreadsStay a.region a'.region a.ends.queues.items
+    → (queue : ℕ) → queue_blocks (queues_state a') queue ≡ queue_blocks s queue
 lists_kept a a' s is queues stay queue =
     list_is a' queue ∙ ap (λ qs. thread a'.region qs queue) queues ∙ stay.same queue ∙ sym (list_seen a s queue is)
 
 -- the number that the first block of a queue names, where there is a second
-pub next_found : (a : Inside) (number link next : ℕ) (queue : Queue) → IsSound a → queue ≡ queue_in a.ends.queues.items number
+pub next_found : (a : Inside) (number link next : ℕ) (queue : Queue) → AreQueuesSound a → queue ≡ queue_in a.ends.queues.items number
     → link ≡ link_of a.region queue.first → (link < 2 ^ 32 → next ≡ link) → 1 < queue.length → next ≡ link_of a.region queue.first
 next_found a number link next queue sound queue_is link_is named some =
     let first : ℕ = (queue_in a.ends.queues.items number).first in
@@ -119,8 +119,8 @@ pub record SeesFirst (a : Inside) (s : QueuesState) (number : ℕ) (queue : Queu
   pub wide : length (first_words s number) + 1 ≡ width_of a.region queue.first
   pub words : (first : ℕ) → 1 ≤ first → drop first (words_of a.region queue.first) ≡ drop (first - 1) (first_words s number)
 
-pub sees_first : (a : Inside) (s : QueuesState) (number : ℕ) (queue : Queue) → state_of a ≡ s → IsSound a → IsQueue s number
-    → queue ≡ queue_in a.ends.queues.items number → 0 < length (list_of s number) → SeesFirst a s number queue
+pub sees_first : (a : Inside) (s : QueuesState) (number : ℕ) (queue : Queue) → queues_state a ≡ s → AreQueuesSound a → IsQueue s number
+    → queue ≡ queue_in a.ends.queues.items number → 0 < length (queue_blocks s number) → SeesFirst a s number queue
 sees_first a s number queue is sound there read some =
     let queue_is = (queue_read a s number queue is there read).queue_is in
     let more : 0 < queue.length = omega (arith, some, list_length a s number is, ap (λ q. q.length) queue_is) in

@@ -8,7 +8,7 @@ use Rattle.std.proofs.lemmas.List.{map-append}
 use Rattle.pict_region.specs.Chain.{chain}
 use Rattle.pict_region.specs.RegionState.{RegionState}
 use Rattle.pict_region.proofs.Uses.{Live}
-use Rattle.pict_queue.specs.QueuesState.{QueueState, QueuesState, link_of, no_queue, queue_at, list_of, without_first, moved_list, IsHeld, StandsIn, KeepsContents, KeepsQueues, KeepsOtherQueues}
+use Rattle.pict_queue.specs.QueuesState.{QueueState, QueuesState, link_of, no_queue, queue_at, queue_blocks, without_first, moved_list, IsHeld, StandsIn, KeepsContents, KeepsQueues, KeepsOtherQueues}
 use Rattle.pict_queue.specs.Contents.{held_words, contents, moved_contents, KeepsAllContents, KeepsOtherContents, StaysHeld, KeepsHeld, KeepsOtherHeld, HoldsNoMore, Releases, HoldsOneMore}
 
 -- ---- lists of blocks
@@ -71,29 +71,29 @@ none_live (Some x) e h = cc
 
 module _ (old new : QueuesState) (keeps : KeepsContents old.region new.region) where
   -- contents are those that the blocks of the new lists held before
-  pub contents_by : (queue : ℕ) → contents new queue ≡ map (held_words old.region) (list_of new queue)
-  contents_by queue = same_map (held_words new.region) (held_words old.region) (list_of new queue) (λ block stands. kept_words old.region new.region keeps block)
+  pub contents_by : (queue : ℕ) → contents new queue ≡ map (held_words old.region) (queue_blocks new queue)
+  contents_by queue = same_map (held_words new.region) (held_words old.region) (queue_blocks new queue) (λ block stands. kept_words old.region new.region keeps block)
 
-  pub contents_kept : (queue : ℕ) → list_of new queue ≡ list_of old queue → contents new queue ≡ contents old queue
+  pub contents_kept : (queue : ℕ) → queue_blocks new queue ≡ queue_blocks old queue → contents new queue ≡ contents old queue
   contents_kept queue same = contents_by queue ∙ ap (map (held_words old.region)) same
 
   pub other_contents_kept : (queue : ℕ) → KeepsOtherQueues old new queue → KeepsOtherContents old new queue
   other_contents_kept queue others other apart = contents_kept other (others other apart)
 
-  pub contents_pushed_back : (queue block : ℕ) → list_of new queue ≡ list_of old queue ++ block ∷ [] → contents new queue ≡ contents old queue ++ held_words old.region block ∷ []
+  pub contents_pushed_back : (queue block : ℕ) → queue_blocks new queue ≡ queue_blocks old queue ++ block ∷ [] → contents new queue ≡ contents old queue ++ held_words old.region block ∷ []
   contents_pushed_back queue block list =
-      contents_by queue ∙ ap (map (held_words old.region)) list ∙ map-append (held_words old.region) (list_of old queue) (block ∷ [])
+      contents_by queue ∙ ap (map (held_words old.region)) list ∙ map-append (held_words old.region) (queue_blocks old queue) (block ∷ [])
 
-  pub contents_pushed_front : (queue block : ℕ) → list_of new queue ≡ block ∷ list_of old queue → contents new queue ≡ held_words old.region block ∷ contents old queue
+  pub contents_pushed_front : (queue block : ℕ) → queue_blocks new queue ≡ block ∷ queue_blocks old queue → contents new queue ≡ held_words old.region block ∷ contents old queue
   contents_pushed_front queue block list = contents_by queue ∙ ap (map (held_words old.region)) list
 
-  pub contents_popped : (queue block : ℕ) → list_of old queue ≡ block ∷ list_of new queue → contents old queue ≡ held_words new.region block ∷ contents new queue
+  pub contents_popped : (queue block : ℕ) → queue_blocks old queue ≡ block ∷ queue_blocks new queue → contents old queue ≡ held_words new.region block ∷ contents new queue
   contents_popped queue block list =
       ap (map (held_words old.region)) list
-      ∙ ap (λ ws. ws ∷ map (held_words old.region) (list_of new queue)) (sym (kept_words old.region new.region keeps block))
+      ∙ ap (λ ws. ws ∷ map (held_words old.region) (queue_blocks new queue)) (sym (kept_words old.region new.region keeps block))
       ∙ ap (λ wss. held_words new.region block ∷ wss) (sym (contents_by queue))
 
-  pub contents_moved : (from to : ℕ) → ((queue : ℕ) → list_of new queue ≡ moved_list old from to queue) → (queue : ℕ) → contents new queue ≡ moved_contents old from to queue
+  pub contents_moved : (from to : ℕ) → ((queue : ℕ) → queue_blocks new queue ≡ moved_list old from to queue) → (queue : ℕ) → contents new queue ≡ moved_contents old from to queue
   contents_moved from to lists queue = contents_by queue ∙ ap (map (held_words old.region)) (lists queue)
 
   -- a held block stays held, where it stands in no list that it didn't stand in before
@@ -122,21 +122,21 @@ module _ (old new : QueuesState) (keeps : KeepsContents old.region new.region) w
         (cases_eq q queue)),
   )
 
-  pub released_back : (queue block : ℕ) → list_of new queue ≡ list_of old queue ++ block ∷ [] → KeepsOtherQueues old new queue → Releases old new block
+  pub released_back : (queue block : ℕ) → queue_blocks new queue ≡ queue_blocks old queue ++ block ∷ [] → KeepsOtherQueues old new queue → Releases old new block
   released_back queue block list =
-      released queue block (subst (λ l. IsTrue (list_any (eqb block) l)) (sym list) (stands_last block (list_of old queue)))
-      (λ b stands. subst (λ l. IsTrue (list_any (eqb b) l)) (sym list) (stands_longer b (list_of old queue) (block ∷ []) stands))
+      released queue block (subst (λ l. IsTrue (list_any (eqb block) l)) (sym list) (stands_last block (queue_blocks old queue)))
+      (λ b stands. subst (λ l. IsTrue (list_any (eqb b) l)) (sym list) (stands_longer b (queue_blocks old queue) (block ∷ []) stands))
 
-  pub released_front : (queue block : ℕ) → list_of new queue ≡ block ∷ list_of old queue → KeepsOtherQueues old new queue → Releases old new block
+  pub released_front : (queue block : ℕ) → queue_blocks new queue ≡ block ∷ queue_blocks old queue → KeepsOtherQueues old new queue → Releases old new block
   released_front queue block list =
-      released queue block (subst (λ l. IsTrue (list_any (eqb block) l)) (sym list) (or_first (eqb block block) (list_any (eqb block) (list_of old queue)) (eq-eqb block block refl)))
-      (λ b stands. subst (λ l. IsTrue (list_any (eqb b) l)) (sym list) (or_true (eqb b block) (list_any (eqb b) (list_of old queue)) stands))
+      released queue block (subst (λ l. IsTrue (list_any (eqb block) l)) (sym list) (or_first (eqb block block) (list_any (eqb block) (queue_blocks old queue)) (eq-eqb block block refl)))
+      (λ b stands. subst (λ l. IsTrue (list_any (eqb b) l)) (sym list) (or_true (eqb b block) (list_any (eqb b) (queue_blocks old queue)) stands))
 
-  pub one_more_popped : (queue block : ℕ) → list_of old queue ≡ block ∷ list_of new queue → KeepsOtherQueues old new queue → HoldsOneMore old new block
+  pub one_more_popped : (queue block : ℕ) → queue_blocks old queue ≡ block ∷ queue_blocks new queue → KeepsOtherQueues old new queue → HoldsOneMore old new block
   one_more_popped queue block list others other held apart = held_before other held (λ q stands. ⊎_elim
       (λ (same : q ≡ queue).
       subst (λ k. StandsIn new k other) (sym same)
-      (stands_behind other block (list_of new queue) apart (subst (λ l. IsTrue (list_any (eqb other) l)) list (subst (λ k. StandsIn old k other) same stands))))
+      (stands_behind other block (queue_blocks new queue) apart (subst (λ l. IsTrue (list_any (eqb other) l)) list (subst (λ k. StandsIn old k other) same stands))))
       (λ (n : q ≢ queue). subst (λ l. IsTrue (list_any (eqb other) l)) (sym (others q n)) stands)
       (cases_eq q queue))
 
@@ -146,19 +146,19 @@ module _ (old new : QueuesState) (keeps : KeepsContents old.region new.region) w
       (λ (n : q ≢ queue). subst (λ l. IsTrue (list_any (eqb other) l)) (others q n) stands)
       (cases_eq q queue))
 
-  pub held_pushed_back : (queue block : ℕ) → list_of new queue ≡ list_of old queue ++ block ∷ [] → KeepsOtherQueues old new queue → KeepsOtherHeld old new block
+  pub held_pushed_back : (queue block : ℕ) → queue_blocks new queue ≡ queue_blocks old queue ++ block ∷ [] → KeepsOtherQueues old new queue → KeepsOtherHeld old new block
   held_pushed_back queue block list =
-      held_pushed queue block (λ b apart stands. stands_without b block (list_of old queue) apart (subst (λ l. IsTrue (list_any (eqb b) l)) list stands))
+      held_pushed queue block (λ b apart stands. stands_without b block (queue_blocks old queue) apart (subst (λ l. IsTrue (list_any (eqb b) l)) list stands))
 
-  pub held_pushed_front : (queue block : ℕ) → list_of new queue ≡ block ∷ list_of old queue → KeepsOtherQueues old new queue → KeepsOtherHeld old new block
+  pub held_pushed_front : (queue block : ℕ) → queue_blocks new queue ≡ block ∷ queue_blocks old queue → KeepsOtherQueues old new queue → KeepsOtherHeld old new block
   held_pushed_front queue block list =
-      held_pushed queue block (λ b apart stands. stands_behind b block (list_of old queue) apart (subst (λ l. IsTrue (list_any (eqb b) l)) list stands))
+      held_pushed queue block (λ b apart stands. stands_behind b block (queue_blocks old queue) apart (subst (λ l. IsTrue (list_any (eqb b) l)) list stands))
 
-  pub held_popped : (queue block : ℕ) → list_of old queue ≡ block ∷ list_of new queue → KeepsOtherQueues old new queue → KeepsHeld old new
+  pub held_popped : (queue block : ℕ) → queue_blocks old queue ≡ block ∷ queue_blocks new queue → KeepsOtherQueues old new queue → KeepsHeld old new
   held_popped queue block list others other held = stays other held (λ q stands. ⊎_elim
       (λ (same : q ≡ queue).
       subst (λ k. StandsIn old k other) (sym same) (subst (λ l. IsTrue (list_any (eqb other) l)) (sym list)
-      (or_true (eqb other block) (list_any (eqb other) (list_of new queue)) (subst (λ k. StandsIn new k other) same stands))))
+      (or_true (eqb other block) (list_any (eqb other) (queue_blocks new queue)) (subst (λ k. StandsIn new k other) same stands))))
       (λ (n : q ≢ queue). subst (λ l. IsTrue (list_any (eqb other) l)) (others q n) stands)
       (cases_eq q queue))
 
@@ -168,7 +168,7 @@ module _ (old new : QueuesState) (block : ℕ) (others : (other : ℕ) → other
   pub contents_beside : ((queue : ℕ) → ¬ StandsIn old queue block) → KeepsAllContents old new
   contents_beside absent queue =
       ap (map (held_words new.region)) (lists queue)
-      ∙ same_map (held_words new.region) (held_words old.region) (list_of old queue)
+      ∙ same_map (held_words new.region) (held_words old.region) (queue_blocks old queue)
       (λ other stands. ap (λ o. drop 1 (unwrap_or o [])) (others other (λ same. absent queue (subst (λ b. StandsIn old queue b) same stands))))
 
   pub held_beside : KeepsOtherHeld old new block
@@ -205,20 +205,20 @@ taken_apart old block other fresh held same = none_live (get old.region.live oth
 
 -- ---- the first block of a queue becomes the last of another
 
-first_gone : (old mid : QueuesState) (from block : ℕ) → list_of old from ≡ block ∷ list_of mid from → KeepsOtherQueues old mid from → (queue : ℕ) → list_of mid queue ≡ without_first old from queue
+first_gone : (old mid : QueuesState) (from block : ℕ) → queue_blocks old from ≡ block ∷ queue_blocks mid from → KeepsOtherQueues old mid from → (queue : ℕ) → queue_blocks mid queue ≡ without_first old from queue
 first_gone old mid from block list others queue = ⊎_elim
-    (λ (same : queue ≡ from). rw (eq-eqb queue from same) (ap (list_of mid) same ∙ sym (ap (drop 1) (ap (list_of old) same ∙ list))))
+    (λ (same : queue ≡ from). rw (eq-eqb queue from same) (ap (queue_blocks mid) same ∙ sym (ap (drop 1) (ap (queue_blocks old) same ∙ list))))
     (λ (n : queue ≢ from). rw (ne_eqb queue from n) (others queue n))
     (cases_eq queue from)
 
 module _ (old mid new : QueuesState) (from to block : ℕ)
-    (popped : list_of old from ≡ block ∷ list_of mid from) (others : KeepsOtherQueues old mid from)
-    (pushed : list_of new to ≡ list_of mid to ++ block ∷ []) (others_after : KeepsOtherQueues mid new to) where
-  pub lists_moved : (queue : ℕ) → list_of new queue ≡ moved_list old from to queue
+    (popped : queue_blocks old from ≡ block ∷ queue_blocks mid from) (others : KeepsOtherQueues old mid from)
+    (pushed : queue_blocks new to ≡ queue_blocks mid to ++ block ∷ []) (others_after : KeepsOtherQueues mid new to) where
+  pub lists_moved : (queue : ℕ) → queue_blocks new queue ≡ moved_list old from to queue
   lists_moved queue = ⊎_elim
       (λ (same : queue ≡ to). rw (eq-eqb queue to same)
-      (ap (list_of new) same ∙ pushed
-      ∙ ap (λ l. l ++ block ∷ []) (sym (ap (list_of mid) same) ∙ first_gone old mid from block popped others queue)
+      (ap (queue_blocks new) same ∙ pushed
+      ∙ ap (λ l. l ++ block ∷ []) (sym (ap (queue_blocks mid) same) ∙ first_gone old mid from block popped others queue)
       ∙ ap (λ l. without_first old from queue ++ l) (sym (ap (take 1) popped))))
       (λ (n : queue ≢ to). rw (ne_eqb queue to n) (others_after queue n ∙ first_gone old mid from block popped others queue))
       (cases_eq queue to)
@@ -242,12 +242,12 @@ one_turned [] one = cc
 one_turned (n ∷ []) one = refl
 one_turned (n ∷ m ∷ ns) one = absurd (omega (arith, one))
 
-pub lists_turned : (s : QueuesState) (from to : ℕ) → from ≡ to → length (list_of s from) ≡ 1 → (queue : ℕ) → list_of s queue ≡ moved_list s from to queue
+pub lists_turned : (s : QueuesState) (from to : ℕ) → from ≡ to → length (queue_blocks s from) ≡ 1 → (queue : ℕ) → queue_blocks s queue ≡ moved_list s from to queue
 lists_turned s from to same one queue = ⊎_elim
     (λ (here : queue ≡ to).
     let is : queue ≡ from = here ∙ sym same in
     rw (eq-eqb queue to here, eq-eqb queue from is)
-    (one_turned (list_of s queue) (ap (λ q. length (list_of s q)) is ∙ one) ∙ ap (λ q. drop 1 (list_of s queue) ++ take 1 (list_of s q)) is))
+    (one_turned (queue_blocks s queue) (ap (λ q. length (queue_blocks s q)) is ∙ one) ∙ ap (λ q. drop 1 (queue_blocks s queue) ++ take 1 (queue_blocks s q)) is))
     (λ (n : queue ≢ to). rw (ne_eqb queue to n, ne_eqb queue from (λ e. n (e ∙ same))) refl)
     (cases_eq queue to)
 

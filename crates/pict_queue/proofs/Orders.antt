@@ -13,8 +13,8 @@ use Rattle.std.proofs.lemmas.Map.Steps.{length-le_from_distinct_below}
 use Rattle.pict_region.specs.Chain.{chain}
 use Rattle.pict_region.specs.RegionState.{RegionState, IsLive, width_of}
 use Rattle.pict_region.proofs.Chains.{StandsIn, IsAbsent, stands_apart, stands_first, stands_later, chain-length, chain-same, distinct_rest, distinct_absent, distinct_more}
-use Rattle.pict_queue.specs.QueuesState.{QueueState, QueuesState, link_of, no_queue, list_of, IsHeld, HasEachBlockOnce}
-use Rattle.pict_queue.specs.Threads.{state_of, thread, IsThreaded}
+use Rattle.pict_queue.specs.QueuesState.{QueueState, QueuesState, link_of, no_queue, queue_blocks, IsHeld, HasEachBlockOnce}
+use Rattle.pict_queue.specs.Threads.{queues_state, thread, IsThreaded}
 use Rattle.pict_queue.specs.Ends.{queue_in, ends_of}
 use Rattle.pict_queue.specs.declared.ends.Queue.{Queue}
 use Rattle.pict_queue.specs.declared.queues.Queues.TheInside.{Inside}
@@ -33,10 +33,10 @@ queue_seen queues number = ⊎_elim
     ∙ sym (ap (λ q. let seen : QueueState = record { first = q.first; count = q.length } in seen) (get_or_past queues number (record { first = 0; last = 0; length = 0 }) past)))
     (cases_lt number (length queues))
 
-pub list_is : (a : Inside) (queue : ℕ) → list_of (state_of a) queue ≡ thread a.region a.ends.queues.items queue
+pub list_is : (a : Inside) (queue : ℕ) → queue_blocks (queues_state a) queue ≡ thread a.region a.ends.queues.items queue
 list_is a queue = ap (λ q. chain (link_of a.region) q.first q.count) (queue_seen a.ends.queues.items queue)
 
-pub once_seen : (a : Inside) → IsThreaded a.region a.ends.queues.items → HasEachBlockOnce (state_of a)
+pub once_seen : (a : Inside) → IsThreaded a.region a.ends.queues.items → HasEachBlockOnce (queues_state a)
 once_seen a threaded = record {
   live = λ queue block stands. threaded.live queue block (subst (λ ns. StandsIn ns block) (list_is a queue) stands);
   once = λ queue. subst (IsDistinct eqb) (sym (list_is a queue)) (threaded.once queue);
@@ -49,16 +49,16 @@ pub record StandsApart (r : RegionState) (queues : List Queue) (block : ℕ) : T
   pub live : IsLive r block
   pub absent : (queue : ℕ) → IsAbsent (thread r queues queue) block
 
-pub apart_if_held : (a : Inside) (s : QueuesState) (block : ℕ) → state_of a ≡ s → IsHeld s block → StandsApart a.region a.ends.queues.items block
+pub apart_if_held : (a : Inside) (s : QueuesState) (block : ℕ) → queues_state a ≡ s → IsHeld s block → StandsApart a.region a.ends.queues.items block
 apart_if_held a s block is held =
-    let here : IsHeld (state_of a) block = subst (λ t. IsHeld t block) (sym is) held in
+    let here : IsHeld (queues_state a) block = subst (λ t. IsHeld t block) (sym is) held in
     record {
       live = here.live;
       absent = λ queue. false_from_ne_true (list_any (eqb block) (thread a.region a.ends.queues.items queue)) (λ stands.
           here.apart queue (subst (λ ns. StandsIn ns block) (sym (list_is a queue)) stands));
     }
 
-pub held_if_apart : (a : Inside) (block : ℕ) → StandsApart a.region a.ends.queues.items block → IsHeld (state_of a) block
+pub held_if_apart : (a : Inside) (block : ℕ) → StandsApart a.region a.ends.queues.items block → IsHeld (queues_state a) block
 held_if_apart a block apart = record {
   live = apart.live;
   apart = λ queue stands. both_ways (list_any (eqb block) (thread a.region a.ends.queues.items queue)) (apart.absent queue)

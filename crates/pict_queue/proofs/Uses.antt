@@ -7,7 +7,7 @@ use Rattle.std.proofs.lemmas.Bool.{cases_eq}
 use Rattle.std.proofs.lemmas.List.{length-set, length-replicate}
 use Rattle.pict_region.proofs.Chains.{StandsIn, stands_first}
 use Rattle.pict_region.proofs.Uses.{Live, get_inserted, get_insert_apart}
-use Rattle.pict_queue.specs.QueuesState.{QueuesState, list_of, HasEachBlockOnce}
+use Rattle.pict_queue.specs.QueuesState.{QueuesState, queue_blocks, HasEachBlockOnce}
 
 -- each live block has this width
 abbrev pub AreWide : Live → ℕ → Type 0
@@ -48,9 +48,9 @@ pub wide_kept : (live live' : Live) (width : ℕ) → 2 ≤ width → AreWide li
 wide_kept live live' width least wide kept number is_live = tail_length (get live number) (get live' number) width (kept number) is_live (wide number) least
 
 -- the first block of a queue that isn't empty
-pub first_wide : (s : QueuesState) (queue width : ℕ) → HasEachBlockOnce s → AreWide s.region.live width → 0 < length (list_of s queue)
-    → length (unwrap_or (get s.region.live (get_or (list_of s queue) 0 0)) []) ≡ width
-first_wide s queue width once wide some = wide (get_or (list_of s queue) 0 0) (once.live queue (get_or (list_of s queue) 0 0) (head_stands (list_of s queue) some))
+pub first_wide : (s : QueuesState) (queue width : ℕ) → HasEachBlockOnce s → AreWide s.region.live width → 0 < length (queue_blocks s queue)
+    → length (unwrap_or (get s.region.live (get_or (queue_blocks s queue) 0 0)) []) ≡ width
+first_wide s queue width once wide some = wide (get_or (queue_blocks s queue) 0 0) (once.live queue (get_or (queue_blocks s queue) 0 0) (head_stands (queue_blocks s queue) some))
   where
     head_stands : (ns : List ℕ) → 0 < length ns → StandsIn ns (get_or ns 0 0)
     head_stands [] some = absurd (omega arith)

@@ -2,7 +2,7 @@
 -- blocks.
 use Rattle.std.specs.Prelude.{◌≡◌, ◌≢◌, ℕ, List, [], map, drop, slice_index_or}
 use Rattle.pict_region.specs.RegionState.{RegionState, words_of}
-use Rattle.pict_queue.specs.QueuesState.{QueuesState, list_of, moved_list, IsHeld}
+use Rattle.pict_queue.specs.QueuesState.{QueuesState, queue_blocks, moved_list, IsHeld}
 
 -- the words of a block behind its link
 abbrev pub held_words : RegionState → ℕ → List ℕ
@@ -10,7 +10,7 @@ held_words r block = drop 1 (words_of r block)
 
 -- what the blocks of a queue hold, the oldest first
 abbrev pub contents : QueuesState → ℕ → List (List ℕ)
-contents s queue = map (held_words s.region) (list_of s queue)
+contents s queue = map (held_words s.region) (queue_blocks s queue)
 
 -- the same after the first block of one queue has become the last of another, or of the same
 abbrev pub moved_contents : QueuesState → ℕ → ℕ → ℕ → List (List ℕ)

@@ -45,11 +45,11 @@ abbrev pub queue_at : QueuesState → ℕ → QueueState
 queue_at s queue = slice_index_or s.queues queue no_queue
 
 -- the blocks of a queue, from its first block on by the links
-abbrev pub list_of : QueuesState → ℕ → List ℕ
-list_of s queue = chain (link_of s.region) (queue_at s queue).first (queue_at s queue).count
+abbrev pub queue_blocks : QueuesState → ℕ → List ℕ
+queue_blocks s queue = chain (link_of s.region) (queue_at s queue).first (queue_at s queue).count
 
 abbrev pub StandsIn : QueuesState → ℕ → ℕ → Type 0
-StandsIn s queue block = IsTrue (list_any (eqb block) (list_of s queue))
+StandsIn s queue block = IsTrue (list_any (eqb block) (queue_blocks s queue))
 
 -- a held block is live and stands in no queue
 pub record IsHeld (s : QueuesState) (block : ℕ) : Type 0 where
@@ -59,7 +59,7 @@ pub record IsHeld (s : QueuesState) (block : ℕ) : Type 0 where
 -- a block that stands in a queue is live, stands there once, and in no other queue
 pub record HasEachBlockOnce (s : QueuesState) : Type 0 where
   pub live : (queue block : ℕ) → StandsIn s queue block → IsLive s.region block
-  pub once : (queue : ℕ) → IsDistinct eqb (list_of s queue)
+  pub once : (queue : ℕ) → IsDistinct eqb (queue_blocks s queue)
   pub alone : (queue other block : ℕ) → StandsIn s queue block → StandsIn s other block → queue ≡ other
 
 -- the same blocks are live, with the same words behind their links
@@ -68,19 +68,19 @@ KeepsContents old new = (block : ℕ) → option_map (drop 1) (get new.live bloc
 
 -- the lists of all queues but this one stay
 abbrev pub KeepsOtherQueues : QueuesState → QueuesState → ℕ → Type 0
-KeepsOtherQueues old new queue = (other : ℕ) → ¬ (other ≡ queue) → list_of new other ≡ list_of old other
+KeepsOtherQueues old new queue = (other : ℕ) → ¬ (other ≡ queue) → queue_blocks new other ≡ queue_blocks old other
 
 abbrev pub KeepsQueues : QueuesState → QueuesState → Type 0
-KeepsQueues old new = (queue : ℕ) → list_of new queue ≡ list_of old queue
+KeepsQueues old new = (queue : ℕ) → queue_blocks new queue ≡ queue_blocks old queue
 
 -- the list of a queue without the first block of one of them
 abbrev pub without_first : QueuesState → ℕ → ℕ → List ℕ
-without_first s from queue = if queue == from then drop 1 (list_of s queue) else list_of s queue
+without_first s from queue = if queue == from then drop 1 (queue_blocks s queue) else queue_blocks s queue
 
 -- the list of a queue after the first block of one has become the last of another, or of the same
 abbrev pub moved_list : QueuesState → ℕ → ℕ → ℕ → List ℕ
 moved_list s from to queue =
-    if queue == to then without_first s from queue ++ take 1 (list_of s from) else without_first s from queue
+    if queue == to then without_first s from queue ++ take 1 (queue_blocks s from) else without_first s from queue
 
 -- there are no fewer queues, those that can be added without memory among them
 abbrev pub LosesNoQueue : QueuesState → QueuesState → Type 0

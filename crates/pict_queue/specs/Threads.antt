@@ -9,8 +9,8 @@ use Rattle.pict_queue.specs.Ends.{queue_in}
 use Rattle.pict_queue.specs.declared.ends.Queue.{Queue}
 use Rattle.pict_queue.specs.declared.queues.Queues.TheInside.{Inside}
 
-abbrev pub state_of : Inside → QueuesState
-state_of a = record {
+abbrev pub queues_state : Inside → QueuesState
+queues_state a = record {
   region = a.region;
   queues = map (λ q. record { first = q.first; count = q.length }) a.ends.queues.items;
   spare_queues = a.spare;
@@ -30,6 +30,6 @@ pub record IsThreaded (r : RegionState) (queues : List Queue) : Type 0 where
   pub wide : (block : ℕ) → IsLive r block → 2 ≤ width_of r block
   pub small : (block : ℕ) → IsLive r block → block < 2 ^ 32 - 1
 
-pub record IsSound (a : Inside) : Type 0 where
+pub record AreQueuesSound (a : Inside) : Type 0 where
   pub threaded : IsThreaded a.region a.ends.queues.items
   pub room : vec_len a.ends.queues + a.spare ≤ vec_capacity a.ends.queues

@@ -4,9 +4,9 @@ ghost use Rattle.std.specs.Option.{option_map, option_to_list};
 ghost use Rattle.std.specs.FinMap.{get, insert, remove, empty};
 ghost use Rattle.std.specs.List.{list_any};
 ghost use Rattle.pict_region.specs.RegionState.{IsLive, words_of, width_of, spare, blocks, KeepsBlocks, LosesNoBlock, KeepsOtherWidths, raised, raised_by, GainsWords};
-ghost use Rattle.pict_region.specs.Values.{frame_words, pair_at, AreRising};
+ghost use Rattle.pict_region.specs.Values.{gathered, pair_at, AreRising};
 ghost use Rattle.pict_queue.specs.Contents.{held_words, contents, first_words, moved_contents, KeepsAllContents, KeepsOtherContents, KeepsHeld, KeepsOtherHeld, HoldsNoMore, HoldsOneMore, Releases};
-ghost use Rattle.pict_queue.specs.QueuesState.{IsQueue, IsHeld, HasEachBlockOnce, list_of, no_queue, link_of, moved_list, KeepsOtherQueues, KeepsQueues, KeepsRest, CostsAtMost};
+ghost use Rattle.pict_queue.specs.QueuesState.{IsQueue, IsHeld, HasEachBlockOnce, queue_blocks, no_queue, link_of, moved_list, KeepsOtherQueues, KeepsQueues, KeepsRest, CostsAtMost};
 
 use crate::ends::{Ends, Queue};
 use pict_region::{Block, Region};
@@ -34,11 +34,11 @@ impl Model for Queues {
 
     ghost coded = { queues_code };
 
-    ghost use Rattle.pict_queue.specs.Threads.{state_of, IsSound};
+    ghost use Rattle.pict_queue.specs.Threads.{queues_state, AreQueuesSound};
 
-    ghost view = { state_of };
+    ghost view = { queues_state };
 
-    ghost invariant = { IsSound };
+    ghost invariant = { AreQueuesSound };
 }
 
 impl Queues {
@@ -97,7 +97,7 @@ impl Queues {
     #[inline(always)]
     pub fn length(&self, q: QueueId) -> u64
         requires { IsQueue self.now q.0 }
-        ensures value { result ≡ length (list_of self.now q.0) }
+        ensures value { result ≡ length (queue_blocks self.now q.0) }
         ensures once { HasEachBlockOnce self.now }
     {
         self.ends.length(q.0) as u64
@@ -108,7 +108,7 @@ impl Queues {
     pub fn push_back(&mut self, q: QueueId, b: Block)
         requires queue { IsQueue self.old q.0 }
         requires held { IsHeld self.old b }
-        ensures list { list_of self.new q.0 ≡ list_of self.old q.0 ++ b ∷ [] }
+        ensures list { queue_blocks self.new q.0 ≡ queue_blocks self.old q.0 ++ b ∷ [] }
         ensures others { KeepsOtherQueues self.old self.new q.0 }
         ensures pushed { contents self.new q.0 ≡ contents self.old q.0 ++ held_words self.old.region b ∷ [] }
         ensures other_contents { KeepsOtherContents self.old self.new q.0 }
@@ -135,7 +135,7 @@ impl Queues {
     pub fn push_front(&mut self, q: QueueId, b: Block)
         requires queue { IsQueue self.old q.0 }
         requires held { IsHeld self.old b }
-        ensures list { list_of self.new q.0 ≡ b ∷ list_of self.old q.0 }
+        ensures list { queue_blocks self.new q.0 ≡ b ∷ queue_blocks self.old q.0 }
         ensures others { KeepsOtherQueues self.old self.new q.0 }
         ensures pushed { contents self.new q.0 ≡ held_words self.old.region b ∷ contents self.old q.0 }
         ensures other_contents { KeepsOtherContents self.old self.new q.0 }
@@ -162,8 +162,8 @@ impl Queues {
     #[inline(always)]
     pub fn pop_front(&mut self, q: QueueId) -> Option<Block>
         requires { IsQueue self.old q.0 }
-        ensures none { IsNone result ↔ (list_of self.old q.0 ≡ []) }
-        ensures list { list_of self.old q.0 ≡ option_to_list result ++ list_of self.new q.0 }
+        ensures none { IsNone result ↔ (queue_blocks self.old q.0 ≡ []) }
+        ensures list { queue_blocks self.old q.0 ≡ option_to_list result ++ queue_blocks self.new q.0 }
         ensures held { IfSome result (IsHeld self.new) }
         ensures live { self.new.region.live ≡ self.old.region.live }
         ensures others { KeepsOtherQueues self.old self.new q.0 }
@@ -189,8 +189,8 @@ impl Queues {
     pub fn move_front(&mut self, from: QueueId, to: QueueId)
         requires from { IsQueue self.old from.0 }
         requires to { IsQueue self.old to.0 }
-        requires some { 0 < length (list_of self.old from.0) }
-        ensures lists { (queue : ℕ) → list_of self.new queue ≡ moved_list self.old from.0 to.0 queue }
+        requires some { 0 < length (queue_blocks self.old from.0) }
+        ensures lists { (queue : ℕ) → queue_blocks self.new queue ≡ moved_list self.old from.0 to.0 queue }
         ensures moved { (queue : ℕ) → contents self.new queue ≡ moved_contents self.old from.0 to.0 queue }
         ensures kept { KeepsHeld self.old self.new }
         ensures no_more { HoldsNoMore self.old self.new }
@@ -211,9 +211,9 @@ impl Queues {
     #[inline(always)]
     pub fn peek(&mut self, q: QueueId, i: u32) -> Option<u64>
         requires queue { IsQueue self.old q.0 }
-        requires behind_link { 0 < length (list_of self.old q.0) → 1 ≤ i }
-        requires inside { 0 < length (list_of self.old q.0) → i < width_of self.old.region (slice_index (list_of self.old q.0) 0) }
-        ensures word { result ≡ option_map (λ b. slice_index (words_of self.old.region b) i) (slice_get (list_of self.old q.0) 0) }
+        requires behind_link { 0 < length (queue_blocks self.old q.0) → 1 ≤ i }
+        requires inside { 0 < length (queue_blocks self.old q.0) → i < width_of self.old.region (slice_index (queue_blocks self.old q.0) 0) }
+        ensures word { result ≡ option_map (λ b. slice_index (words_of self.old.region b) i) (slice_get (queue_blocks self.old q.0) 0) }
         ensures rest { self.new ≡ record self.old { region = record self.old.region { work = self.new.region.work } } }
         ensures contents { KeepsAllContents self.old self.new }
         ensures kept { KeepsHeld self.old self.new }
@@ -227,28 +227,33 @@ impl Queues {
         Some(word(&mut self.region, block, i))
     }
 
-    /// Reads the values of these levels out of the first block of a queue that isn't empty, two words each from word `first`
-    /// on, which is at least 1, each to the place of its level among `values`. Changes no word and no queue, and takes no
-    /// memory.
+    /// Reads values out of the first block of a queue that isn't empty, two words each from word `first` on, which is at least
+    /// 1, and puts them at these indices. Changes no word and no queue, and takes no memory.
     #[inline(always)]
-    pub fn peek_values(&mut self, q: QueueId, first: u32, levels: &[u32], values: &mut [(u64, u64)])
+    pub fn scatter_first(
+        &mut self,
+        q: QueueId,
+        first: u32,
+        indices: &[u32],
+        values: &mut [(u64, u64)],
+    )
         requires queue { IsQueue self.old q.0 }
-        requires some { 0 < length (list_of self.old q.0) }
+        requires some { 0 < length (queue_blocks self.old q.0) }
         requires behind_link { 1 ≤ first }
-        requires inside { first + 2 * length levels.now ≤ length (first_words self.old q.0) + 1 }
-        requires known { All (λ level. level < length values.old) levels.now }
-        requires rising { AreRising 0 levels.now }
-        ensures words { frame_words values.new levels.now ≡ take (2 * length levels.now) (drop (first - 1) (first_words self.old q.0)) }
-        ensures others { (level : ℕ) → list_any (eqb level) levels.now ≡ false → pair_at values.new level ≡ pair_at values.old level }
+        requires inside { first + 2 * length indices.now ≤ length (first_words self.old q.0) + 1 }
+        requires known { All (λ index. index < length values.old) indices.now }
+        requires rising { AreRising 0 indices.now }
+        ensures words { gathered values.new indices.now ≡ take (2 * length indices.now) (drop (first - 1) (first_words self.old q.0)) }
+        ensures others { (index : ℕ) → list_any (eqb index) indices.now ≡ false → pair_at values.new index ≡ pair_at values.old index }
         ensures len { length values.new ≡ length values.old }
         ensures rest { self.new ≡ record self.old { region = record self.old.region { work = self.new.region.work } } }
         ensures contents { KeepsAllContents self.old self.new }
         ensures kept { KeepsHeld self.old self.new }
         ensures no_more { HoldsNoMore self.old self.new }
-        ensures cost { CostsAtMost (2 * length levels.now + 1) self.old self.new }
+        ensures cost { CostsAtMost (2 * length indices.now + 1) self.old self.new }
     {
         let (_, block) = self.ends.first(&mut self.region, q.0);
-        read_words(&mut self.region, block, first, levels, values);
+        read_words(&mut self.region, block, first, indices, values);
     }
 
     /// Makes free blocks until there are `n` of this width, in words, with the link. What is past `WORD_LIMIT` words is want
@@ -298,26 +303,26 @@ impl Queues {
         self.region.take(width)
     }
 
-    /// A block of this width, which the caller holds: its word 1 is this one, and from word 2 on stand the values of these
-    /// levels, two words each, from the places of the levels among `values`. Takes no memory.
+    /// A block of this width, which the caller holds: its word 1 is this one, and from word 2 on stand the values at these
+    /// indices, two words each. Takes no memory.
     #[inline(always)]
-    pub fn take_values(
+    pub fn take_gathered(
         &mut self,
         width: u32,
         word: u64,
-        levels: &[u32],
+        indices: &[u32],
         values: &[(u64, u64)],
     ) -> Block
-        requires wide { width ≡ 2 + 2 * length levels.now }
+        requires wide { width ≡ 2 + 2 * length indices.now }
         requires spare { 1 ≤ spare self.old.region width }
-        requires known { All (λ level. level < length values.now) levels.now }
+        requires known { All (λ index. index < length values.now) indices.now }
         ensures fresh { get self.old.region.live result ≡ None }
-        ensures live { GainsWords self.old.region self.new.region result (word ∷ frame_words values.now levels.now) }
-        ensures words { held_words self.new.region result ≡ word ∷ frame_words values.now levels.now }
+        ensures live { GainsWords self.old.region self.new.region result (word ∷ gathered values.now indices.now) }
+        ensures words { held_words self.new.region result ≡ word ∷ gathered values.now indices.now }
         ensures spare { spare self.new.region width + 1 ≡ spare self.old.region width }
         ensures others { KeepsOtherWidths self.old.region self.new.region width }
         ensures blocks { KeepsBlocks self.old.region self.new.region }
-        ensures work { self.new.region.work ≡ raised_by (2 + 2 * length levels.now) self.old.region.work }
+        ensures work { self.new.region.work ≡ raised_by (2 + 2 * length indices.now) self.old.region.work }
         ensures rest { self.new ≡ record self.old { region = self.new.region } }
         ensures lists { KeepsQueues self.old self.new }
         ensures held { IsHeld self.new result }
@@ -326,7 +331,7 @@ impl Queues {
         ensures contents { KeepsAllContents self.old self.new }
         ensures kept { KeepsHeld self.old self.new }
     {
-        self.region.take_values(width, word, levels, values)
+        self.region.take_gathered(width, word, indices, values)
     }
 
     /// Frees a held block, and spends its token. Takes no memory.
@@ -416,27 +421,26 @@ impl Queues {
         self.region.set_pair(b, i, pair);
     }
 
-    /// Reads the values of these levels out of a held block, two words each from word `first` on, each to the place of its
-    /// level among `values`. Takes no memory.
+    /// Reads values out of a held block, two words each from word `first` on, and puts them at these indices. Takes no memory.
     #[inline(always)]
-    pub fn read_values(&mut self, b: &Block, first: u32, levels: &[u32], values: &mut [(u64, u64)])
+    pub fn scatter(&mut self, b: &Block, first: u32, indices: &[u32], values: &mut [(u64, u64)])
         requires held { IsHeld self.old b.now }
-        requires inside { first + 2 * length levels.now ≤ width_of self.old.region b.now }
-        requires known { All (λ level. level < length values.old) levels.now }
-        requires rising { AreRising 0 levels.now }
-        ensures words { frame_words values.new levels.now ≡ take (2 * length levels.now) (drop first (words_of self.old.region b.now)) }
-        ensures others { (level : ℕ) → list_any (eqb level) levels.now ≡ false → pair_at values.new level ≡ pair_at values.old level }
+        requires inside { first + 2 * length indices.now ≤ width_of self.old.region b.now }
+        requires known { All (λ index. index < length values.old) indices.now }
+        requires rising { AreRising 0 indices.now }
+        ensures words { gathered values.new indices.now ≡ take (2 * length indices.now) (drop first (words_of self.old.region b.now)) }
+        ensures others { (index : ℕ) → list_any (eqb index) indices.now ≡ false → pair_at values.new index ≡ pair_at values.old index }
         ensures len { length values.new ≡ length values.old }
         ensures rest { self.new ≡ record self.old {
           region = record self.old.region {
-            work = raised_by (2 * length levels.now) self.old.region.work;
+            work = raised_by (2 * length indices.now) self.old.region.work;
           };
         } }
         ensures contents { KeepsAllContents self.old self.new }
         ensures kept { KeepsHeld self.old self.new }
         ensures no_more { HoldsNoMore self.old self.new }
     {
-        self.region.read_values(b, first, levels, values);
+        self.region.scatter(b, first, indices, values);
     }
 
     /// The work of the region.
@@ -451,7 +455,7 @@ impl Queues {
     #[inline(always)]
     fn is_one_block(&self, from: QueueId, to: QueueId) -> bool
         requires { IsQueue self.now from.0 }
-        ensures one { IsTrue result → (from.0 ≡ to.0) × (length (list_of self.now from.0) ≡ 1) }
+        ensures one { IsTrue result → (from.0 ≡ to.0) × (length (queue_blocks self.now from.0) ≡ 1) }
         ensures once { HasEachBlockOnce self.now }
     {
         self.length(from) == 1 && from.0 == to.0
@@ -461,8 +465,8 @@ impl Queues {
     #[inline(always)]
     fn pop(&mut self, q: QueueId) -> Block
         requires queue { IsQueue self.old q.0 }
-        requires some { 0 < length (list_of self.old q.0) }
-        ensures list { list_of self.old q.0 ≡ result ∷ list_of self.new q.0 }
+        requires some { 0 < length (queue_blocks self.old q.0) }
+        ensures list { queue_blocks self.old q.0 ≡ result ∷ queue_blocks self.new q.0 }
         ensures held { IsHeld self.new result }
         ensures live { self.new.region.live ≡ self.old.region.live }
         ensures others { KeepsOtherQueues self.old self.new q.0 }
@@ -525,26 +529,26 @@ fn word(region: &mut Region, block: Block, i: u32) -> u64
     word
 }
 
-// Reads the values of levels out of a live block, whose token is spent, two words each from this word on.
+// Reads values out of a live block, whose token is spent, two words each from this word on, and puts them at these indices.
 #[inline(always)]
 fn read_words(
     region: &mut Region,
     block: Block,
     first: u32,
-    levels: &[u32],
+    indices: &[u32],
     values: &mut [(u64, u64)],
 )
     requires live { IsLive region.old block }
-    requires inside { first + 2 * length levels.now ≤ width_of region.old block }
-    requires known { All (λ level. level < length values.old) levels.now }
-    requires rising { AreRising 0 levels.now }
-    ensures words { frame_words values.new levels.now ≡ take (2 * length levels.now) (drop first (words_of region.old block)) }
-    ensures others { (level : ℕ) → list_any (eqb level) levels.now ≡ false → pair_at values.new level ≡ pair_at values.old level }
+    requires inside { first + 2 * length indices.now ≤ width_of region.old block }
+    requires known { All (λ index. index < length values.old) indices.now }
+    requires rising { AreRising 0 indices.now }
+    ensures words { gathered values.new indices.now ≡ take (2 * length indices.now) (drop first (words_of region.old block)) }
+    ensures others { (index : ℕ) → list_any (eqb index) indices.now ≡ false → pair_at values.new index ≡ pair_at values.old index }
     ensures len { length values.new ≡ length values.old }
     ensures rest { region.new ≡ record region.old { work = region.new.work } }
     ensures least { region.old.work ≤ region.new.work }
-    ensures most { region.new.work ≤ region.old.work + 2 * length levels.now }
+    ensures most { region.new.work ≤ region.old.work + 2 * length indices.now }
 {
-    region.read_values(&block, first, levels, values);
+    region.scatter(&block, first, indices, values);
     let _number = block.number();
 }

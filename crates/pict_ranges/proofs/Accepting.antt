@@ -3,7 +3,7 @@ use Rattle.std.proofs.Common.{◌≡◌, ℕ, ◌<◌, ◌^◌, List, [], length
 use Rattle.std.specs.Prelude.{IfSome}
 use Rattle.pict_syntax.specs.declared.token.Token.{Token}
 use Rattle.pict_syntax.specs.declared.tree.Import.{Import}
-use Rattle.pict_syntax.specs.Cuts.{joined, tokens_of}
+use Rattle.pict_syntax.specs.Cuts.{joined_pieces, tokens_of}
 use Rattle.pict_syntax.specs.Programs.{Program, programs}
 use Rattle.pict_syntax.specs.Trees.{Decs, no_decs, more_decs}
 use Rattle.pict_core.specs.Closed.{IsClosed}
@@ -37,7 +37,7 @@ program_are p ts (us, vs, is, imports, decs) h = decs_are p.decs vs decs (split 
 text_is : (names : List (List ℕ)) (n : ℕ) (text : List ℕ) (r : Read) → Reads names n text (accepts r) → length text < 2 ^ 63 → DecsAre r.program.decs
 text_is names n text r reads few =
     let by = read_by names n text r reads in
-    let same : length text ≡ length (joined by.0) = ap length (by.1.cut.whole ∙ append-nil (joined by.0)) in
+    let same : length text ≡ length (joined_pieces by.0) = ap length (by.1.cut.whole ∙ append-nil (joined_pieces by.0)) in
     program_are r.program (tokens_of r.names n 0 by.0) by.1.parsed.tree (tokens_are r.names n 0 by.0 [] by.1.cut.each (omega (arith, few, same)))
 
 behind_are : (first ds : Decs) → DecsAre first → DecsAre ds → DecsAre (behind first ds)

@@ -9,7 +9,7 @@ use Rattle.pict_syntax.specs.declared.token.Token.{Token}
 use Rattle.pict_syntax.specs.declared.token.TokenKind.{TokenKind}
 use Rattle.pict_syntax.specs.declared.token.TokenKind.TheVariants.{Number, Character, String}
 use Rattle.pict_syntax.specs.declared.token.Sign.{Sign as AnySign}
-use Rattle.pict_syntax.specs.Cuts.{Piece, blank, comment, token, ArePieces, joined, tokens_of}
+use Rattle.pict_syntax.specs.Cuts.{Piece, blank, comment, token, ArePieces, joined_pieces, tokens_of}
 use Rattle.pict_syntax.specs.Tokens.{identifier, symbol, keyword, number, character, string, sign, Item, plain, newline, tab, backslash, double_quote, single_quote, hexadecimal, item_value, items_bytes, IsItem, AreItems, Spells}
 use Rattle.pict_syntax.specs.Phrases.{Phrase, ◌▸◌, led, between, closed}
 use Rattle.pict_syntax.specs.Grammar.{val_span, abs_span, proc_span, IsDec, AreDecs, AreDefinitionsAnd, IsAbs, IsChan, IsVal, AreVals, AreFieldVals, AreLabelledVals, IsProc, AreProcsBar}
@@ -68,20 +68,20 @@ character_is : (bytes : List ℕ) (value : ℕ) → Spells bytes (character valu
 character_is bytes value (item, is, e, f) = let below = item_below 39 item is in omega (arith, below, f)
 
 module _ (names : List (List ℕ)) (n : ℕ) where
-  pub tokens_are : (place : ℕ) (pieces : List Piece) (rest : List ℕ) → ArePieces pieces rest → length (joined pieces) < 2 ^ 63 → TokensAre (tokens_of names n place pieces)
+  pub tokens_are : (place : ℕ) (pieces : List Piece) (rest : List ℕ) → ArePieces pieces rest → length (joined_pieces pieces) < 2 ^ 63 → TokensAre (tokens_of names n place pieces)
   tokens_are place [] rest are few = tt
   tokens_are place (blank byte ∷ ps) rest are few = tokens_are (place + 1) ps rest are.1 (omega (arith, few))
-  tokens_are place (comment bytes ∷ ps) rest are few = let e = length-append bytes (joined ps) in tokens_are (place + length bytes) ps rest are.1 (omega (arith, few, e))
-  tokens_are place (token bytes (identifier text) ∷ ps) rest are few = let e = length-append bytes (joined ps) in (tt, tokens_are (place + length bytes) ps rest are.1 (omega (arith, few, e)))
-  tokens_are place (token bytes (symbol s) ∷ ps) rest are few = let e = length-append bytes (joined ps) in (tt, tokens_are (place + length bytes) ps rest are.1 (omega (arith, few, e)))
-  tokens_are place (token bytes (keyword k) ∷ ps) rest are few = let e = length-append bytes (joined ps) in (tt, tokens_are (place + length bytes) ps rest are.1 (omega (arith, few, e)))
+  tokens_are place (comment bytes ∷ ps) rest are few = let e = length-append bytes (joined_pieces ps) in tokens_are (place + length bytes) ps rest are.1 (omega (arith, few, e))
+  tokens_are place (token bytes (identifier text) ∷ ps) rest are few = let e = length-append bytes (joined_pieces ps) in (tt, tokens_are (place + length bytes) ps rest are.1 (omega (arith, few, e)))
+  tokens_are place (token bytes (symbol s) ∷ ps) rest are few = let e = length-append bytes (joined_pieces ps) in (tt, tokens_are (place + length bytes) ps rest are.1 (omega (arith, few, e)))
+  tokens_are place (token bytes (keyword k) ∷ ps) rest are few = let e = length-append bytes (joined_pieces ps) in (tt, tokens_are (place + length bytes) ps rest are.1 (omega (arith, few, e)))
   tokens_are place (token bytes (number i) ∷ ps) rest are few =
-      let e = length-append bytes (joined ps) in (within_fits i are.0.1, tokens_are (place + length bytes) ps rest are.1 (omega (arith, few, e)))
+      let e = length-append bytes (joined_pieces ps) in (within_fits i are.0.1, tokens_are (place + length bytes) ps rest are.1 (omega (arith, few, e)))
   tokens_are place (token bytes (character value) ∷ ps) rest are few =
-      let e = length-append bytes (joined ps) in (character_is bytes value are.0.0, tokens_are (place + length bytes) ps rest are.1 (omega (arith, few, e)))
+      let e = length-append bytes (joined_pieces ps) in (character_is bytes value are.0.0, tokens_are (place + length bytes) ps rest are.1 (omega (arith, few, e)))
   tokens_are place (token bytes (string values) ∷ ps) rest are few =
-      let e = length-append bytes (joined ps) in (string_is bytes values are.0.0 (omega (arith, few, e)), tokens_are (place + length bytes) ps rest are.1 (omega (arith, few, e)))
-  tokens_are place (token bytes (sign s) ∷ ps) rest are few = let e = length-append bytes (joined ps) in (tt, tokens_are (place + length bytes) ps rest are.1 (omega (arith, few, e)))
+      let e = length-append bytes (joined_pieces ps) in (string_is bytes values are.0.0 (omega (arith, few, e)), tokens_are (place + length bytes) ps rest are.1 (omega (arith, few, e)))
+  tokens_are place (token bytes (sign s) ∷ ps) rest are few = let e = length-append bytes (joined_pieces ps) in (tt, tokens_are (place + length bytes) ps rest are.1 (omega (arith, few, e)))
 
 -- ---- trees
 

@@ -15,7 +15,7 @@ use Rattle.pict_scope.specs.PrimitiveNames.{primitive_named}
 use Rattle.pict_translation.specs.Placed.{Placed, new_channels, side_by_side, served, variables}
 use Rattle.pict_translation.specs.Arguments.{Argument, labelled_of, with_value, sent_as_one, application, right, left_after, left}
 use Rattle.pict_translation.specs.Patterns.{pat_core, function_pat, pat_names, names_before, names_after}
-use Rattle.pict_translation.specs.Simple.{Around, value_at, binding, function_bound, answer_channel, or_primitive, use_of, nothing, fields_of, one_more, simple, simple_chan, simple_fields, simple_vals, simple_labelled}
+use Rattle.pict_translation.specs.Simple.{Around, value_at, binding, function_bound, answer_channel, or_primitive, use_of, nothing, record_of_fields, one_more, simple, simple_chan, simple_fields, simple_vals, simple_labelled}
 use Rattle.pict_translation.specs.Translation.{program_core, definition_names, sending, sending_chan, decs_core, dec_core, proc_core, procs_core, reader, with_fields, arguments, with_vals, with_labelled, servers}
 use Rattle.pict_ranges.specs.Ranges.{IsMachineValue, AreMachineValues, AreMachineFields, IsMachineProcess}
 use Rattle.pict_ranges.proofs.Steps.{message_of}
@@ -138,7 +138,7 @@ module _ (names : List (List ℕ)) where
   some_fields_more (Some ws) l None o one = tt
   some_fields_more None l u o one = tt
 
-  record_some : (bs : List (ℕ × Val)) (vs : Option (List Val)) (ws : Option (List (ℕ × Val))) → AllSome vs → SomeFields ws → SomeIs (option_and_then (λ us. option_map (fields_of (at bs) us) ws) vs)
+  record_some : (bs : List (ℕ × Val)) (vs : Option (List Val)) (ws : Option (List (ℕ × Val))) → AllSome vs → SomeFields ws → SomeIs (option_and_then (λ us. option_map (record_of_fields (at bs) us) ws) vs)
   record_some bs (Some vs) (Some ws) o p = record_is vs ws o p
   record_some bs (Some vs) None o p = tt
   record_some bs None ws o p = tt

@@ -39,8 +39,8 @@ IsOutcome outcome.Finished o C D = (o ≡ plain_step.Finished) × (D ≡ C)
 abbrev pub acts_in : plain.Configuration → ℕ → Process → plain_step.StepOutcome
 acts_in C s p = plain_step.act C s (plain_step.least (plain_step.is_partner p) C.entries) p
 
-abbrev pub Gives : Result StepOutcome AllocError → plain_step.StepOutcome → plain.Configuration → plain.Configuration → Type 0
-Gives result o C D = IfOk result (λ made. IsOutcome made o C D)
+abbrev pub GivesOutcome : Result StepOutcome AllocError → plain_step.StepOutcome → plain.Configuration → plain.Configuration → Type 0
+GivesOutcome result o C D = IfOk result (λ made. IsOutcome made o C D)
 
 -- a stamp and its process
 abbrev pub plain_found : ℕ × Core → ℕ × Process

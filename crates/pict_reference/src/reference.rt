@@ -9,7 +9,7 @@ ghost use Rattle.pict_core.specs.Matching.{match_value};
 ghost use Rattle.pict_prim.specs.ValueDone.{effect_value_done, PrintsText};
 ghost use Rattle.pict_core.specs.Configuration.{IsConfiguration, opening, Ready, Parked};
 ghost use Rattle.pict_core.specs.Step.{next as next_plain, send as send_plain, receive as receive_plain, choose as choose_plain, perform as perform_plain, leave as leave_plain, printing, Steps as StepsTo, Quiet as QuietLabel, gone as gone_plain, kept as kept_plain, added as added_plain, with_channel, served as served_plain, took as took_plain, meet_reader as meet_plain_reader, meet_message as meet_plain_message, is_ready, least, is_parked_reader, is_parked_message};
-ghost use Rattle.pict_reference.specs.Plain.{configuration_of, acts_in, mark_of, plain_entry, IsOutcome, Gives, IsCopyOf};
+ghost use Rattle.pict_reference.specs.Plain.{configuration_of, acts_in, mark_of, plain_entry, IsOutcome, GivesOutcome, IsCopyOf};
 
 use crate::entry::{Entry, oldest_message, oldest_reader, oldest_ready, with_process};
 use crate::outcome::{Label, StepOutcome};
@@ -81,7 +81,7 @@ impl Reference {
     // The process at the stamp parks as this one.
     fn park(&mut self, s: u64, process: Core) -> Result<StepOutcome, AllocError>
         requires { self.old.next_stamp + 2 < 2 ^ 64 }
-        ensures { Gives result (StepsTo (added_plain Parked (plain_core process) (gone_plain s (configuration_of self.old))) QuietLabel)
+        ensures { GivesOutcome result (StepsTo (added_plain Parked (plain_core process) (gone_plain s (configuration_of self.old))) QuietLabel)
             (configuration_of self.old) (configuration_of self.new) }
     {
         self.gone(s);
@@ -91,7 +91,7 @@ impl Reference {
 
     // The part keeps the turn of the stamp.
     fn keep_turn(&mut self, s: u64, part: Part) -> Result<StepOutcome, AllocError>
-        ensures { Gives result (StepsTo (kept_plain s (plain_core (core_of part)) (configuration_of self.old)) QuietLabel)
+        ensures { GivesOutcome result (StepsTo (kept_plain s (plain_core (core_of part)) (configuration_of self.old)) QuietLabel)
             (configuration_of self.old) (configuration_of self.new) }
     {
         self.kept(s, part.core())?;
@@ -100,7 +100,7 @@ impl Reference {
 
     fn split(&mut self, s: u64, left: Part, right: Part) -> Result<StepOutcome, AllocError>
         requires { self.old.next_stamp + 2 < 2 ^ 64 }
-        ensures { Gives result (StepsTo
+        ensures { GivesOutcome result (StepsTo
             (added_plain Ready (plain_core (core_of right)) (kept_plain s (plain_core (core_of left)) (configuration_of self.old))) QuietLabel)
             (configuration_of self.old) (configuration_of self.new) }
     {
@@ -111,7 +111,7 @@ impl Reference {
 
     fn make_channel(&mut self, s: u64, body: Part) -> Result<StepOutcome, AllocError>
         requires { self.old.channels + 1 < 2 ^ 32 }
-        ensures { Gives result (StepsTo
+        ensures { GivesOutcome result (StepsTo
             (kept_plain s (substitute_plain 0 (Chan self.old.channels ∷ []) (plain_core (core_of body))) (with_channel (configuration_of self.old))) QuietLabel)
             (configuration_of self.old) (configuration_of self.new) }
     {
@@ -128,7 +128,7 @@ impl Reference {
         yes: Part,
         no: Part,
     ) -> Result<StepOutcome, AllocError>
-        ensures { Gives result (choose_plain (plain_val test)
+        ensures { GivesOutcome result (choose_plain (plain_val test)
             (StepsTo (kept_plain s (plain_core (core_of yes)) (configuration_of self.old)) QuietLabel)
             (StepsTo (kept_plain s (plain_core (core_of no)) (configuration_of self.old)) QuietLabel))
             (configuration_of self.old) (configuration_of self.new) }
@@ -143,7 +143,7 @@ impl Reference {
     // What a primitive leaves, for the output at the stamp.
     fn leave(&mut self, s: u64, done: ValueDone, at: Span) -> Result<StepOutcome, AllocError>
         requires { PrintsText done }
-        ensures { Gives result (leave_plain (configuration_of self.old) s at (printing (effect_value_done done).printed) (effect_value_done done).leaves)
+        ensures { GivesOutcome result (leave_plain (configuration_of self.old) s at (printing (effect_value_done done).printed) (effect_value_done done).leaves)
             (configuration_of self.old) (configuration_of self.new) }
     {
         match done {
@@ -172,7 +172,7 @@ impl Reference {
         message: &CoreVal,
         at: Span,
     ) -> Result<StepOutcome, AllocError>
-        ensures { Gives result (perform_plain (configuration_of self.old) s at (effect_of primitive (plain_val message.now)))
+        ensures { GivesOutcome result (perform_plain (configuration_of self.old) s at (effect_of primitive (plain_val message.now)))
             (configuration_of self.old) (configuration_of self.new) }
     {
         match attempt_on_value(self.alloc, primitive, message)? {
@@ -271,7 +271,7 @@ impl Reference {
         reader: Core,
     ) -> Result<StepOutcome, AllocError>
         requires { self.old.next_stamp + 2 < 2 ^ 64 }
-        ensures { Gives result (meet_plain_reader (configuration_of self.old) s c (plain_val message) r (plain_core reader))
+        ensures { GivesOutcome result (meet_plain_reader (configuration_of self.old) s c (plain_val message) r (plain_core reader))
             (configuration_of self.old) (configuration_of self.new) }
     {
         match reader {
@@ -308,7 +308,7 @@ impl Reference {
         sender: Core,
     ) -> Result<StepOutcome, AllocError>
         requires { self.old.next_stamp + 2 < 2 ^ 64 }
-        ensures { Gives result (meet_plain_message (configuration_of self.old) s c
+        ensures { GivesOutcome result (meet_plain_message (configuration_of self.old) s c
             replicated (plain_pat pattern.now) (plain_core (core_of body.now)) r (plain_core sender))
             (configuration_of self.old) (configuration_of self.new) }
     {
@@ -352,7 +352,7 @@ impl Reference {
         at: Span,
     ) -> Result<StepOutcome, AllocError>
         requires { self.old.next_stamp + 2 < 2 ^ 64 }
-        ensures { Gives result (send_plain (configuration_of self.old) s
+        ensures { GivesOutcome result (send_plain (configuration_of self.old) s
             (least (is_parked_reader c) (configuration_of self.old).entries) (Chan c) (plain_val message) at)
             (configuration_of self.old) (configuration_of self.new) }
     {
@@ -377,7 +377,7 @@ impl Reference {
         at: Span,
     ) -> Result<StepOutcome, AllocError>
         requires { self.old.next_stamp + 2 < 2 ^ 64 }
-        ensures { Gives result (acts_in (configuration_of self.old) s (Out (plain_val chan) (plain_val message) at))
+        ensures { GivesOutcome result (acts_in (configuration_of self.old) s (Out (plain_val chan) (plain_val message) at))
             (configuration_of self.old) (configuration_of self.new) }
     {
         match chan {
@@ -396,7 +396,7 @@ impl Reference {
         body: Part,
     ) -> Result<StepOutcome, AllocError>
         requires { self.old.next_stamp + 2 < 2 ^ 64 }
-        ensures { Gives result (receive_plain (configuration_of self.old) s
+        ensures { GivesOutcome result (receive_plain (configuration_of self.old) s
             (least (is_parked_message c) (configuration_of self.old).entries) (Chan c) replicated (plain_pat pattern) (plain_core (core_of body)))
             (configuration_of self.old) (configuration_of self.new) }
     {
@@ -423,7 +423,7 @@ impl Reference {
         body: Part,
     ) -> Result<StepOutcome, AllocError>
         requires { self.old.next_stamp + 2 < 2 ^ 64 }
-        ensures { Gives result (acts_in (configuration_of self.old) s (In (plain_val chan) replicated (plain_pat pattern) (plain_core (core_of body))))
+        ensures { GivesOutcome result (acts_in (configuration_of self.old) s (In (plain_val chan) replicated (plain_pat pattern) (plain_core (core_of body))))
             (configuration_of self.old) (configuration_of self.new) }
     {
         match chan {
@@ -436,7 +436,7 @@ impl Reference {
     fn act(&mut self, s: u64, process: Core) -> Result<StepOutcome, AllocError>
         requires stamps { self.old.next_stamp + 2 < 2 ^ 64 }
         requires channels { self.old.channels + 1 < 2 ^ 32 }
-        ensures { Gives result (acts_in (configuration_of self.old) s (plain_core process))
+        ensures { GivesOutcome result (acts_in (configuration_of self.old) s (plain_core process))
             (configuration_of self.old) (configuration_of self.new) }
     {
         match process {

@@ -12,7 +12,7 @@ use Rattle.std.proofs.lemmas.Option.{none-some}
 use Rattle.pict_syntax.specs.declared.limits.TheConstants.{WORD_LIMIT}
 use Rattle.pict_region.specs.Chain.{chain}
 use Rattle.pict_region.specs.RegionState.{RegionState, IsLive, words_of, width_of, spare}
-use Rattle.pict_region.specs.Layout.{store_of, cut, blocks_of, block_at, list_at, next_of, free_numbers, live_of, made_words, state_of, IsSound, IsLaidOut}
+use Rattle.pict_region.specs.Layout.{store_of, cut, blocks_of, block_at, list_at, next_of, free_numbers, live_of, made_words, region_state, IsStoreSound, IsLaidOut}
 use Rattle.pict_region.specs.declared.region.FreeList.{FreeList}
 use Rattle.pict_region.specs.declared.region.Region.TheInside.{Inside}
 use Rattle.pict_region.proofs.Chains.{StandsIn, IsAbsent, chain-length}
@@ -24,7 +24,7 @@ pub some_words : (found : Option (List ℕ)) → IsSome found → found ≡ Some
 some_words None h = cc
 some_words (Some ws) h = refl
 
-pub held_block : (a : Inside) (r : RegionState) (number : ℕ) → state_of a ≡ r → IsLaidOut a.words.items a.made a.free.items → IsLive r number
+pub held_block : (a : Inside) (r : RegionState) (number : ℕ) → region_state a ≡ r → IsLaidOut a.words.items a.made a.free.items → IsLive r number
     → IsHeld (made_words a) a.free.items number (words_of r number)
 held_block a r number is kept live =
     held_if_live (made_words a) a.free.items number (words_of r number) kept.sound (ap (λ s. get s.live number) is ∙ some_words (get r.live number) live)
@@ -35,7 +35,7 @@ made_below a n below = omega (arith, length-take a.made a.words.items, below)
 
 -- as many words as before, of which the first are sound
 pub kept_as : (words words' : List ℕ) (made : ℕ) (lists lists' : List FreeList) → IsLaidOut words made lists → length words' ≡ length words
-    → IsSound (take made words') lists' → IsLaidOut words' made lists'
+    → IsStoreSound (take made words') lists' → IsLaidOut words' made lists'
 kept_as words words' made lists lists' kept same sound = record {
   sound = sound;
   inside = omega (arith, kept.inside, same);
@@ -47,7 +47,7 @@ pub record ReadsWord (store : List ℕ) (place word : ℕ) : Type 0 where
   pub inside : place < length store
   pub word_is : get_or store place 0 ≡ word
 
-pub word_read : (a : Inside) (r : RegionState) (number token i : ℕ) → state_of a ≡ r → IsLaidOut a.words.items a.made a.free.items → token ≡ number
+pub word_read : (a : Inside) (r : RegionState) (number token i : ℕ) → region_state a ≡ r → IsLaidOut a.words.items a.made a.free.items → token ≡ number
     → IsLive r number → i < width_of r number → ReadsWord a.words.items (token + 1 + i) (get_or (words_of r number) i 0)
 word_read a r number token i is kept same live inside =
     let read = block_read (made_words a) number (words_of r number) kept.sound.tiled (held_block a r number is kept live).at in
@@ -85,14 +85,14 @@ pub record SetsWord (a : Inside) (words' : List ℕ) (r : RegionState) (number :
 
 -- what the words that belong to blocks become, all of them do
 sets_word : (a : Inside) (words' store' : List ℕ) (r : RegionState) (number : ℕ) (block : List ℕ) → IsLaidOut a.words.items a.made a.free.items
-    → length words' ≡ length a.words.items → take a.made words' ≡ store' → IsSound store' a.free.items → live_of store' a.free.items ≡ insert r.live number block
+    → length words' ≡ length a.words.items → take a.made words' ≡ store' → IsStoreSound store' a.free.items → live_of store' a.free.items ≡ insert r.live number block
     → SetsWord a words' r number block
 sets_word a words' store' r number block kept same is sound live = record {
-  kept = kept_as a.words.items words' a.made a.free.items a.free.items kept same (subst (λ s. IsSound s a.free.items) (sym is) sound);
+  kept = kept_as a.words.items words' a.made a.free.items a.free.items kept same (subst (λ s. IsStoreSound s a.free.items) (sym is) sound);
   live = ap (λ s. live_of s a.free.items) is ∙ live;
 }
 
-pub word_set : (a : Inside) (r : RegionState) (number token i word : ℕ) → state_of a ≡ r → IsLaidOut a.words.items a.made a.free.items → token ≡ number
+pub word_set : (a : Inside) (r : RegionState) (number token i word : ℕ) → region_state a ≡ r → IsLaidOut a.words.items a.made a.free.items → token ≡ number
     → IsLive r number → i < width_of r number
     → SetsWord a (set a.words.items (token + 1 + i) word) r number (set (words_of r number) i word)
 word_set a r number token i word is kept same live inside =
@@ -132,7 +132,7 @@ pair_written store number i first second block tiled at inside =
     ∙ ap (λ n. set half n second) next
     ∙ set_inside (store_of p.before) (set block i first) (store_of p.after) (length block) (i + 1) second (omega (arith, inside, length-set block i first)))
 
-pub pair_set : (a : Inside) (r : RegionState) (number token i first second : ℕ) → state_of a ≡ r → IsLaidOut a.words.items a.made a.free.items → token ≡ number
+pub pair_set : (a : Inside) (r : RegionState) (number token i first second : ℕ) → region_state a ≡ r → IsLaidOut a.words.items a.made a.free.items → token ≡ number
     → IsLive r number → i + 1 < width_of r number
     → SetsWord a (set (set a.words.items (token + 1 + i) first) (token + 1 + i + 1) second) r number (set (set (words_of r number) i first) (i + 1) second)
 pair_set a r number token i first second is kept same live inside =
@@ -160,7 +160,7 @@ count_at lists width = ⊎_elim
     get_or_past (map (λ l. l.count) lists) width 0 none ∙ sym (ap (λ l. l.count) (get_or_past lists width (record { first = 0; count = 0 }) past)))
     (cases_lt width (length lists))
 
-pub spare_at : (a : Inside) (r : RegionState) (width : ℕ) → state_of a ≡ r → spare r width ≡ (list_at a.free.items width).count
+pub spare_at : (a : Inside) (r : RegionState) (width : ℕ) → region_state a ≡ r → spare r width ≡ (list_at a.free.items width).count
 spare_at a r width is = ap (λ s. spare s width) (sym is) ∙ count_at a.free.items width
 
 pub spare_set : (lists : List FreeList) (width other : ℕ) (list : FreeList) → other ≡ width → width < length lists
@@ -177,7 +177,7 @@ spare_kept lists width other list apart =
     ∙ sym (count_at lists other)
 
 -- each free block has a place of its own in the store, so there are at most as many
-pub count_fits : (store : List ℕ) (lists : List FreeList) (width : ℕ) → IsSound store lists → (list_at lists width).count ≤ length store
+pub count_fits : (store : List ℕ) (lists : List FreeList) (width : ℕ) → IsStoreSound store lists → (list_at lists width).count ≤ length store
 unfolding free_numbers
 count_fits store lists width sound =
     let below : (q : ℕ) → StandsIn (free_numbers store lists width) q → q < length store = λ q stands.
@@ -197,7 +197,7 @@ pub record ReadsWidth (store : List ℕ) (lists : List FreeList) (token width : 
   pub positive : 0 < width
   pub listed : width < length lists
 
-pub width_read : (a : Inside) (r : RegionState) (number token : ℕ) → state_of a ≡ r → IsLaidOut a.words.items a.made a.free.items → token ≡ number
+pub width_read : (a : Inside) (r : RegionState) (number token : ℕ) → region_state a ≡ r → IsLaidOut a.words.items a.made a.free.items → token ≡ number
     → IsLive r number → ReadsWidth a.words.items a.free.items token (width_of r number)
 width_read a r number token is kept same live =
     let at = (held_block a r number is kept live).at in
@@ -219,7 +219,7 @@ pub record GivesBlock (words' : List ℕ) (made : ℕ) (lists' : List FreeList) 
   pub kept : IsLaidOut words' made lists'
   pub live : live_of (take made words') lists' ≡ remove r.live number
 
-pub given : (a : Inside) (r : RegionState) (number token width : ℕ) (list : FreeList) → state_of a ≡ r → IsLaidOut a.words.items a.made a.free.items
+pub given : (a : Inside) (r : RegionState) (number token width : ℕ) (list : FreeList) → region_state a ≡ r → IsLaidOut a.words.items a.made a.free.items
     → token ≡ number → IsLive r number → width ≡ width_of r number → list ≡ list_at a.free.items width
     → GivesBlock (set a.words.items (token + 1) list.first) a.made (set a.free.items width (record { first = token; count = list.count + 1 })) r number
 given a r number token width list is kept same live wide listed =
@@ -239,7 +239,7 @@ given a r number token width list is kept same live wide listed =
     let is_set = take_set a.made a.words.items (number + 1) first in
     let here : P number (length ws) (list_at lists (length ws)) = record {
       kept = kept_as a.words.items (set a.words.items (number + 1) first) a.made lists lists' kept (length-set a.words.items (number + 1) first)
-          (subst (λ s. IsSound s lists') (sym is_set) frees.sound);
+          (subst (λ s. IsStoreSound s lists') (sym is_set) frees.sound);
       live = ap (λ s. live_of s lists') is_set ∙ is_remove (live_of store lists) _ number frees.live ∙ ap (λ s. remove s.live number) is;
     } in
     let at_width : P number width (list_at lists width) = subst (λ w. P number w (list_at lists w)) (sym wide) here in
@@ -280,7 +280,7 @@ pub record ReadsFirst (words : List ℕ) (made : ℕ) (lists : List FreeList) (f
   pub positive : 0 < width
   pub listed : width < length lists
 
-pub first_read : (a : Inside) (r : RegionState) (width : ℕ) → state_of a ≡ r → IsLaidOut a.words.items a.made a.free.items → 1 ≤ spare r width
+pub first_read : (a : Inside) (r : RegionState) (width : ℕ) → region_state a ≡ r → IsLaidOut a.words.items a.made a.free.items → 1 ≤ spare r width
     → ReadsFirst a.words.items a.made a.free.items (list_at a.free.items width).first width
 first_read a r width is kept some =
     let count = spare_at a r width is in
@@ -310,7 +310,7 @@ pub record TakesFirst (words' : List ℕ) (made : ℕ) (lists' : List FreeList) 
   pub fresh : get r.live number ≡ None
   pub live : live_of (take made words') lists' ≡ insert r.live number (replicate width 0)
 
-pub taken : (a : Inside) (r : RegionState) (width next : ℕ) (list : FreeList) (words' : List ℕ) → state_of a ≡ r → IsLaidOut a.words.items a.made a.free.items
+pub taken : (a : Inside) (r : RegionState) (width next : ℕ) (list : FreeList) (words' : List ℕ) → region_state a ≡ r → IsLaidOut a.words.items a.made a.free.items
     → 1 ≤ spare r width → list ≡ list_at a.free.items width → next ≡ get_or a.words.items (list.first + 1) 0
     → words' ≡ take (list.first + 1) a.words.items ++ (replicate width 0 ++ drop (list.first + 1 + width) a.words.items)
     → TakesFirst words' a.made (set a.free.items width (record { first = next; count = list.count - 1 })) r list.first width
@@ -344,7 +344,7 @@ taken a r width next list words' is kept some list_is next_is words_are =
     let lists' : List FreeList = set lists width (record { first = next_of store first; count = (list_at lists width).count - 1 }) in
     let here : P (list_at lists width) (next_of store first) (over words first) = record {
       kept = kept_as words (over words first) a.made lists lists' kept (length_over (first + 1) zeros words (first + 1 + width) end reads.inside)
-          (subst (λ s. IsSound s lists') (sym is_over) takes.sound);
+          (subst (λ s. IsStoreSound s lists') (sym is_over) takes.sound);
       fresh = ap (λ s. get s.live first) (sym is) ∙ takes.fresh;
       live = ap (λ s. live_of s lists') is_over ∙ takes.live ∙ ap (λ s. insert s.live first zeros) is;
     } in
@@ -355,7 +355,7 @@ taken a r width next list words' is kept some list_is next_is words_are =
     subst (P list next) (sym words_are) (subst (λ n. P list n (over words list.first)) (sym next_is) at_list)
 
 -- a region with no block
-sound_empty : IsSound [] []
+sound_empty : IsStoreSound [] []
 unfolding store_of blocks_of cut block_at free_numbers IsDistinct
 sound_empty = record {
   tiled = refl;
@@ -394,7 +394,7 @@ pub record GrowsLists (a : Inside) (lists' : List FreeList) (r : RegionState) : 
   pub live : live_of (made_words a) lists' ≡ r.live
   pub spare_is : (width : ℕ) → get_or (map (λ l. l.count) lists') width 0 ≡ spare r width
 
-pub grown : (a : Inside) (r : RegionState) (lists' : List FreeList) (wanted : ℕ) → state_of a ≡ r → IsLaidOut a.words.items a.made a.free.items
+pub grown : (a : Inside) (r : RegionState) (lists' : List FreeList) (wanted : ℕ) → region_state a ≡ r → IsLaidOut a.words.items a.made a.free.items
     → length a.free.items ≤ wanted
     → lists' ≡ take wanted a.free.items ++ replicate (wanted - length a.free.items) (record { first = 0; count = 0 })
     → GrowsLists a lists' r
@@ -447,7 +447,7 @@ lengthened a b width kept starts small free room =
     let same : take a.made b.words.items ≡ made_words a = sym (take-take a.made (length a.words.items) b.words.items kept.inside) ∙ ap (take a.made) starts in
     record {
       kept = record {
-        sound = subst (λ s. IsSound s a.free.items) (sym same) kept.sound;
+        sound = subst (λ s. IsStoreSound s a.free.items) (sym same) kept.sound;
         inside = omega (arith, room);
         small = small;
       };
@@ -484,7 +484,7 @@ new_block words place width first fits =
 pub has_room : (a : Inside) (width : ℕ) → IsLaidOut a.words.items a.made a.free.items → a.made + 1 + width ≤ length a.words.items → HasRoom a a width
 has_room a width kept room = record { kept = kept; same = refl; free = refl; room = room }
 
-added : (a : Inside) (r : RegionState) (words' : List ℕ) (width : ℕ) (list : FreeList) → state_of a ≡ r → IsLaidOut a.words.items a.made a.free.items
+added : (a : Inside) (r : RegionState) (words' : List ℕ) (width : ℕ) (list : FreeList) → region_state a ≡ r → IsLaidOut a.words.items a.made a.free.items
     → IsLaidOut words' a.made a.free.items → take a.made words' ≡ made_words a
     → 0 < width → width < length a.free.items → a.made + 1 + width ≤ length words' → list ≡ list_at a.free.items width
     → AddsBlock (set (set words' a.made width) (a.made + 1) list.first) (a.made + 1 + width)
@@ -533,10 +533,10 @@ added a r words' width list is kept' kept same positive listed fits list_is =
     (set lists width (record { first = place; count = l.count + 1 })) r in
     subst P (sym list_is) (subst (λ n. AddsBlock both (place + 1 + width) (lists' n) r) end here)
 
-pub lists_length : (a : Inside) (r : RegionState) → state_of a ≡ r → length r.free ≡ length a.free.items
+pub lists_length : (a : Inside) (r : RegionState) → region_state a ≡ r → length r.free ≡ length a.free.items
 lists_length a r is = ap (λ s. length s.free) (sym is) ∙ length-map a.free.items (λ l. l.count)
 
-pub grown_by : (a b : Inside) (r : RegionState) (width : ℕ) (words' : List ℕ) (lists' : List FreeList) → state_of a ≡ r → IsLaidOut a.words.items a.made a.free.items
+pub grown_by : (a b : Inside) (r : RegionState) (width : ℕ) (words' : List ℕ) (lists' : List FreeList) → region_state a ≡ r → IsLaidOut a.words.items a.made a.free.items
     → HasRoom a b width → 0 < width → width < length r.free
     → words' ≡ set (set b.words.items a.made width) (a.made + 1) (list_at b.free.items width).first
     → lists' ≡ set b.free.items width (record { first = a.made; count = (list_at b.free.items width).count + 1 })

@@ -9,7 +9,7 @@ use Rattle.std.proofs.lemmas.Option.{none-some, same_Some}
 use Rattle.std.proofs.lemmas.List.{length-set, get_or-set_same, get_or-set_other}
 use Rattle.pict_syntax.specs.declared.limits.TheConstants.{WORD_LIMIT}
 use Rattle.pict_region.specs.Chain.{chain}
-use Rattle.pict_region.specs.Layout.{store_of, blocks_of, block_at, numbered, next_of, list_at, free_numbers, is_free, live_of, HasBlock, IsSound}
+use Rattle.pict_region.specs.Layout.{store_of, blocks_of, block_at, numbered, next_of, list_at, free_numbers, is_free, live_of, HasBlock, IsStoreSound}
 use Rattle.pict_region.specs.declared.region.FreeList.{FreeList}
 use Rattle.pict_region.proofs.Chains.{StandsIn, IsAbsent, stands_apart, stands_first, stands_later, chain-same, distinct_rest, distinct_absent, distinct_more}
 use Rattle.pict_region.proofs.Stores.{block_read, ChangesBlock}
@@ -91,7 +91,7 @@ held_from : (found : Option (List ℕ)) (free : Bool) (block : List ℕ) → con
 held_from found true block e = absurd (none-some block e)
 held_from found false block e = (e, refl)
 
-pub held_if_live : (store : List ℕ) (lists : List FreeList) (number : ℕ) (block : List ℕ) → IsSound store lists
+pub held_if_live : (store : List ℕ) (lists : List FreeList) (number : ℕ) (block : List ℕ) → IsStoreSound store lists
     → get (live_of store lists) number ≡ Some block → IsHeld store lists number block
 unfolding is_free
 held_if_live store lists number block sound live =
@@ -115,7 +115,7 @@ next_at store number block tiled at wide =
     ap (λ n. get_or store n 0) place ∙ (block_read store number block tiled at).words 0 wide
 
 -- a free block that doesn't change names the same next
-next_kept : (store store' : List ℕ) (lists : List FreeList) (number : ℕ) (block : List ℕ) (width n : ℕ) → IsSound store lists
+next_kept : (store store' : List ℕ) (lists : List FreeList) (number : ℕ) (block : List ℕ) (width n : ℕ) → IsStoreSound store lists
     → ChangesBlock store store' number block → StandsIn (free_numbers store lists width) n → n ≢ number
     → next_of store' n ≡ next_of store n
 next_kept store store' lists number block width n sound change stands apart =
@@ -125,7 +125,7 @@ next_kept store store' lists number block width n sound change stands apart =
     ∙ sym (next_at store n listed.block sound.tiled listed.at positive)
 
 -- a list of free blocks stays where one block changes that is not in it
-pub thread_kept : (store store' : List ℕ) (lists : List FreeList) (number : ℕ) (block : List ℕ) (width : ℕ) → IsSound store lists
+pub thread_kept : (store store' : List ℕ) (lists : List FreeList) (number : ℕ) (block : List ℕ) (width : ℕ) → IsStoreSound store lists
     → ChangesBlock store store' number block → IsAbsent (free_numbers store lists width) number
     → chain (next_of store') (list_at lists width).first (list_at lists width).count ≡ free_numbers store lists width
 unfolding free_numbers
@@ -162,12 +162,12 @@ abbrev pub Stood : List ℕ → List ℕ → ℕ → ℕ → Type 0 → Type 0
 Stood before after changed n P = StandsIn after n → ((n ≡ changed) × P) ⊎ ((n ≢ changed) × StandsIn before n)
 
 -- the store is sound after a change of one block
-pub sound_after : (store store' : List ℕ) (lists lists' : List FreeList) (number : ℕ) (block : List ℕ) → IsSound store lists
+pub sound_after : (store store' : List ℕ) (lists lists' : List FreeList) (number : ℕ) (block : List ℕ) → IsStoreSound store lists
     → ChangesBlock store store' number block → length store' ≤ WORD_LIMIT
     → 0 < length block → length block < length lists' → length lists ≤ length lists'
     → ((width n : ℕ) → Stood (free_numbers store lists width) (free_numbers store' lists' width) number n (length block ≡ width))
     → ((width : ℕ) → IsDistinct eqb (free_numbers store' lists' width))
-    → IsSound store' lists'
+    → IsStoreSound store' lists'
 sound_after store store' lists lists' number block sound change small positive listed longer stood distinct = record {
   tiled = change.tiled;
   widths = λ n b at. ⊎_elim
@@ -221,10 +221,10 @@ is_remove live live' number found = same_map nat_cmp_total nat_cmp-IsAntisymmetr
 
 -- a live block is written over
 pub record WritesBlock (store store' : List ℕ) (lists : List FreeList) (number : ℕ) (block : List ℕ) : Type 0 where
-  pub sound : IsSound store' lists
+  pub sound : IsStoreSound store' lists
   pub live : live_of store' lists ≡ insert (live_of store lists) number block
 
-pub write_block : (store store' : List ℕ) (lists : List FreeList) (number : ℕ) (block block' : List ℕ) → IsSound store lists
+pub write_block : (store store' : List ℕ) (lists : List FreeList) (number : ℕ) (block block' : List ℕ) → IsStoreSound store lists
     → IsHeld store lists number block → length block' ≡ length block → ChangesBlock store store' number block' → length store' ≤ WORD_LIMIT
     → WritesBlock store store' lists number block'
 unfolding free_numbers
@@ -246,10 +246,10 @@ write_block store store' lists number block block' sound held same change small 
 
 -- a block becomes the first free block of its width: one that was live, or a new one
 pub record FreesBlock (store store' : List ℕ) (lists lists' : List FreeList) (number : ℕ) : Type 0 where
-  pub sound : IsSound store' lists'
+  pub sound : IsStoreSound store' lists'
   pub live : (n : ℕ) → get (live_of store' lists') n ≡ cond (eqb n number) None (get (live_of store lists) n)
 
-pub free_block : (store store' : List ℕ) (lists : List FreeList) (number width : ℕ) (block : List ℕ) → IsSound store lists
+pub free_block : (store store' : List ℕ) (lists : List FreeList) (number width : ℕ) (block : List ℕ) → IsStoreSound store lists
     → ChangesBlock store store' number block → length store' ≤ WORD_LIMIT → length block ≡ width → 0 < width → width < length lists
     → get_or block 0 0 ≡ (list_at lists width).first
     → ((width : ℕ) → IsAbsent (free_numbers store lists width) number)
@@ -300,7 +300,7 @@ free_block store store' lists number width block sound change small wide positiv
 
 -- the first free block of a width is taken
 pub record TakesBlock (store store' : List ℕ) (lists lists' : List FreeList) (number : ℕ) (block : List ℕ) : Type 0 where
-  pub sound : IsSound store' lists'
+  pub sound : IsStoreSound store' lists'
   pub fresh : get (live_of store lists) number ≡ None
   pub live : live_of store' lists' ≡ insert (live_of store lists) number block
 
@@ -313,13 +313,13 @@ first_stands store lists width some =
     let count : (list_at lists width).count ≡ suc ((list_at lists width).count - 1) = omega arith in
     ap (chain (next_of store) (list_at lists width).first) count
 
-pub first_block : (store : List ℕ) (lists : List FreeList) (width : ℕ) → IsSound store lists → 0 < (list_at lists width).count
+pub first_block : (store : List ℕ) (lists : List FreeList) (width : ℕ) → IsStoreSound store lists → 0 < (list_at lists width).count
     → HasBlock store (list_at lists width).first width
 first_block store lists width sound some =
     sound.free_widths width (list_at lists width).first
     (subst (λ ns. StandsIn ns (list_at lists width).first) (sym (first_stands store lists width some)) (stands_first (list_at lists width).first _))
 
-pub take_block : (store store' : List ℕ) (lists : List FreeList) (width : ℕ) (block' : List ℕ) → IsSound store lists
+pub take_block : (store store' : List ℕ) (lists : List FreeList) (width : ℕ) (block' : List ℕ) → IsStoreSound store lists
     → 0 < (list_at lists width).count → width < length lists
     → ChangesBlock store store' (list_at lists width).first block' → length store' ≤ WORD_LIMIT → length block' ≡ width
     → TakesBlock store store' lists

@@ -6,9 +6,9 @@ use Rattle.std.proofs.lemmas.Bool.{eq-eqb}
 use Rattle.std.proofs.lemmas.List.{length-drop, length-take, get_or-set_same, get_or-set_other, drop-append-le, take-append-le, drop_all, append-nil, get_or-take}
 use Rattle.std.proofs.Math.Seq.{take-suc, drop-append-add, take-append-add}
 use Rattle.pict_region.specs.RegionState.{RegionState, IsLive, words_of, width_of, spare}
-use Rattle.pict_region.specs.Layout.{store_of, blocks_of, block_at, list_at, next_of, live_of, made_words, state_of, IsSound, IsLaidOut}
+use Rattle.pict_region.specs.Layout.{store_of, blocks_of, block_at, list_at, next_of, live_of, made_words, region_state, IsStoreSound, IsLaidOut}
 use Rattle.pict_region.specs.declared.region.FreeList.{FreeList}
-use Rattle.pict_region.specs.Values.{frame_words, pair_at, AreRising, overlaid}
+use Rattle.pict_region.specs.Values.{gathered, pair_at, AreRising, overlaid}
 use Rattle.pict_region.specs.declared.region.Region.TheInside.{Inside}
 use Rattle.pict_region.proofs.Stores.{block_parts, store_parts, block_read, ChangesBlock, overwritten}
 use Rattle.pict_region.proofs.Prefixes.{take_drop, take_over, length_over}
@@ -32,40 +32,40 @@ two_set front [] place a b e h = absurd (omega arith)
 two_set front (x ∷ []) place a b e h = absurd (omega arith)
 two_set front (x ∷ y ∷ rest) place a b e h = rw e (ap (λ ws. set ws (length front + 1) b) (set_seam front x (y ∷ rest) a) ∙ set_next front a y rest b)
 
--- what is written after i levels
+-- what is written after i indices
 abbrev pub so_far : ℕ → List ℕ → List (ℕ × ℕ) → List ℕ → ℕ → List ℕ
-so_far start ws values levels i = (take start ws ++ frame_words values (take i levels)) ++ drop (start + 2 * i) ws
+so_far start ws values indices i = (take start ws ++ gathered values (take i indices)) ++ drop (start + 2 * i) ws
 
-frame_words-append : (values : List (ℕ × ℕ)) (xs ys : List ℕ) → frame_words values (xs ++ ys) ≡ frame_words values xs ++ frame_words values ys
-frame_words-append values [] ys = refl
-frame_words-append values (x ∷ xs) ys = cc (frame_words-append values xs ys)
+gathered-append : (values : List (ℕ × ℕ)) (xs ys : List ℕ) → gathered values (xs ++ ys) ≡ gathered values xs ++ gathered values ys
+gathered-append values [] ys = refl
+gathered-append values (x ∷ xs) ys = cc (gathered-append values xs ys)
 
-pub length_frame_words : (values : List (ℕ × ℕ)) (xs : List ℕ) → length (frame_words values xs) ≡ 2 * length xs
-length_frame_words values [] = refl
-length_frame_words values (x ∷ xs) = omega (arith, length_frame_words values xs)
+pub length_gathered : (values : List (ℕ × ℕ)) (xs : List ℕ) → length (gathered values xs) ≡ 2 * length xs
+length_gathered values [] = refl
+length_gathered values (x ∷ xs) = omega (arith, length_gathered values xs)
 
 drop_two : (n : ℕ) (ws : List ℕ) → drop 2 (drop n ws) ≡ drop (n + 2) ws
 drop_two zero ws = refl
 drop_two (suc n) [] = let e : suc n + 2 ≡ suc (n + 2) = omega arith in rw e refl
 drop_two (suc n) (w ∷ ws) = let e : suc n + 2 ≡ suc (n + 2) = omega arith in rw e (drop_two n ws)
 
-pub pairs_more : (start : ℕ) (ws us : List ℕ) (values : List (ℕ × ℕ)) (levels : List ℕ) (i level place : ℕ) → i < length levels → start + 2 * length levels ≤ length ws
-    → place ≡ start + 2 * i → level ≡ get_or levels i 0 → us ≡ so_far start ws values levels i
-    → set (set us place (pair_at values level).0) (place + 1) (pair_at values level).1 ≡ so_far start ws values levels (i + 1)
-pairs_more start ws us values levels i level place low wide e is so =
-    let front = take start ws ++ frame_words values (take i levels) in
-    let many : length front ≡ start + 2 * i = omega (arith, length-append (take start ws) (frame_words values (take i levels)), length-take start ws, length_frame_words values (take i levels), length-take i levels) in
+pub pairs_more : (start : ℕ) (ws us : List ℕ) (values : List (ℕ × ℕ)) (indices : List ℕ) (i index place : ℕ) → i < length indices → start + 2 * length indices ≤ length ws
+    → place ≡ start + 2 * i → index ≡ get_or indices i 0 → us ≡ so_far start ws values indices i
+    → set (set us place (pair_at values index).0) (place + 1) (pair_at values index).1 ≡ so_far start ws values indices (i + 1)
+pairs_more start ws us values indices i index place low wide e is so =
+    let front = take start ws ++ gathered values (take i indices) in
+    let many : length front ≡ start + 2 * i = omega (arith, length-append (take start ws) (gathered values (take i indices)), length-take start ws, length_gathered values (take i indices), length-take i indices) in
     let next : i + 1 ≡ suc i = omega arith in
     let twice : start + 2 * (i + 1) ≡ start + 2 * i + 2 = omega arith in
-    let more : take (i + 1) levels ≡ take i levels ++ level ∷ [] = ap (λ n. take n levels) next ∙ take-suc levels i 0 low ∙ ap (λ l. take i levels ++ l ∷ []) (sym is) in
-    ap (λ us. set (set us place (pair_at values level).0) (place + 1) (pair_at values level).1) so
-    ∙ two_set front (drop (start + 2 * i) ws) place (pair_at values level).0 (pair_at values level).1 (omega (arith, many)) (omega (arith, length-drop (start + 2 * i) ws))
+    let more : take (i + 1) indices ≡ take i indices ++ index ∷ [] = ap (λ n. take n indices) next ∙ take-suc indices i 0 low ∙ ap (λ l. take i indices ++ l ∷ []) (sym is) in
+    ap (λ us. set (set us place (pair_at values index).0) (place + 1) (pair_at values index).1) so
+    ∙ two_set front (drop (start + 2 * i) ws) place (pair_at values index).0 (pair_at values index).1 (omega (arith, many)) (omega (arith, length-drop (start + 2 * i) ws))
     ∙ sym (
-    ap (λ fs. (take start ws ++ frame_words values fs) ++ drop (start + 2 * (i + 1)) ws) more
-    ∙ ap (λ us. (take start ws ++ us) ++ drop (start + 2 * (i + 1)) ws) (frame_words-append values (take i levels) (level ∷ []))
-    ∙ ap (λ n. (take start ws ++ (frame_words values (take i levels) ++ (pair_at values level).0 ∷ (pair_at values level).1 ∷ [])) ++ drop n ws) twice
-    ∙ ap (λ rest. (take start ws ++ (frame_words values (take i levels) ++ (pair_at values level).0 ∷ (pair_at values level).1 ∷ [])) ++ rest) (sym (drop_two (start + 2 * i) ws))
-    ∙ ap (λ us. us ++ drop 2 (drop (start + 2 * i) ws)) (sym (append_assoc (take start ws) (frame_words values (take i levels)) _))
+    ap (λ fs. (take start ws ++ gathered values fs) ++ drop (start + 2 * (i + 1)) ws) more
+    ∙ ap (λ us. (take start ws ++ us) ++ drop (start + 2 * (i + 1)) ws) (gathered-append values (take i indices) (index ∷ []))
+    ∙ ap (λ n. (take start ws ++ (gathered values (take i indices) ++ (pair_at values index).0 ∷ (pair_at values index).1 ∷ [])) ++ drop n ws) twice
+    ∙ ap (λ rest. (take start ws ++ (gathered values (take i indices) ++ (pair_at values index).0 ∷ (pair_at values index).1 ∷ [])) ++ rest) (sym (drop_two (start + 2 * i) ws))
+    ∙ ap (λ us. us ++ drop 2 (drop (start + 2 * i) ws)) (sym (append_assoc (take start ws) (gathered values (take i indices)) _))
     ∙ append_assoc front _ (drop 2 (drop (start + 2 * i) ws)))
 
 pub length_overlaid : (first : ℕ) (us ws : List ℕ) → first + length us ≤ length ws → length (overlaid first us ws) ≡ length ws
@@ -74,8 +74,8 @@ length_overlaid first us ws h = length_over first us ws (first + length us) refl
 -- ---- read
 
 Below : ℕ → List ℕ → Type 0
-Below level [] = Unit {0}
-Below level (l ∷ ls) = (l < level) × Below level ls
+Below index [] = Unit {0}
+Below index (l ∷ ls) = (l < index) × Below index ls
 
 all_later : (low : ℕ) (frame : List ℕ) (i : ℕ) → i < length frame → AreRising low frame → low ≤ get_or frame i 0
 all_later low [] i h r = absurd (omega arith)
@@ -88,13 +88,13 @@ rising_below low [] i h r = absurd (omega arith)
 rising_below low (l ∷ ls) zero h r = tt
 rising_below low (l ∷ ls) (suc i) h r = (let e = all_later (l + 1) ls i (omega arith) r.1 in omega (arith, e), rising_below (l + 1) ls i (omega arith) r.1)
 
-stays : (values : List (ℕ × ℕ)) (level : ℕ) (pair : ℕ × ℕ) (ls : List ℕ) → Below level ls → frame_words (set values level pair) ls ≡ frame_words values ls
+stays : (values : List (ℕ × ℕ)) (index : ℕ) (pair : ℕ × ℕ) (ls : List ℕ) → Below index ls → gathered (set values index pair) ls ≡ gathered values ls
 unfolding Below
-stays values level pair [] b = refl
-stays values level pair (l ∷ ls) b =
-    let apart : l ≢ level = λ e. omega (arith, e, b.0) in
-    let e : pair_at (set values level pair) l ≡ pair_at values l = get_or-set_other values level l pair (0, 0) apart in
-    let es = stays values level pair ls b.1 in cc (e, es)
+stays values index pair [] b = refl
+stays values index pair (l ∷ ls) b =
+    let apart : l ≢ index = λ e. omega (arith, e, b.0) in
+    let e : pair_at (set values index pair) l ≡ pair_at values l = get_or-set_other values index l pair (0, 0) apart in
+    let es = stays values index pair ls b.1 in cc (e, es)
 
 take_two : (n : ℕ) (ws : List ℕ) → n + 1 < length ws → take (n + 2) ws ≡ take n ws ++ get_or ws n 0 ∷ get_or ws (n + 1) 0 ∷ []
 take_two zero [] h = absurd (omega arith)
@@ -111,29 +111,29 @@ behind zero ws n = let e : n ≡ zero + n = omega arith in ap (λ m. get_or ws m
 behind (suc start) [] n = refl
 behind (suc start) (x ∷ ws) n = let e : suc (start + n) ≡ suc start + n = omega arith in behind start ws n ∙ ap (λ m. get_or (x ∷ ws) m 0) e
 
-pub words_more : (start : ℕ) (values : List (ℕ × ℕ)) (pair : ℕ × ℕ) (frame ws : List ℕ) (i level place : ℕ) → i < length frame → AreRising 0 frame → level ≡ get_or frame i 0 → level < length values
+pub words_more : (start : ℕ) (values : List (ℕ × ℕ)) (pair : ℕ × ℕ) (frame ws : List ℕ) (i index place : ℕ) → i < length frame → AreRising 0 frame → index ≡ get_or frame i 0 → index < length values
     → start + 2 * length frame ≤ length ws → place ≡ start + 2 * i → pair.0 ≡ get_or ws place 0 → pair.1 ≡ get_or ws (place + 1) 0
-    → frame_words values (take i frame) ≡ take (2 * i) (drop start ws)
-    → frame_words (set values level pair) (take (i + 1) frame) ≡ take (2 * (i + 1)) (drop start ws)
-words_more start values pair frame ws i level place low rising is inside wide e tag payload so_far =
+    → gathered values (take i frame) ≡ take (2 * i) (drop start ws)
+    → gathered (set values index pair) (take (i + 1) frame) ≡ take (2 * (i + 1)) (drop start ws)
+words_more start values pair frame ws i index place low rising is inside wide e tag payload so_far =
     let next : i + 1 ≡ suc i = omega arith in
-    let more : take (i + 1) frame ≡ take i frame ++ level ∷ [] = ap (λ n. take n frame) next ∙ take-suc frame i 0 low ∙ ap (λ l. take i frame ++ l ∷ []) (sym is) in
-    let below : Below level (take i frame) = subst (λ l. Below l (take i frame)) (sym is) (rising_below 0 frame i low rising) in
-    let here : pair_at (set values level pair) level ≡ pair = get_or-set_same values level pair (0, 0) inside in
+    let more : take (i + 1) frame ≡ take i frame ++ index ∷ [] = ap (λ n. take n frame) next ∙ take-suc frame i 0 low ∙ ap (λ l. take i frame ++ l ∷ []) (sym is) in
+    let below : Below index (take i frame) = subst (λ l. Below l (take i frame)) (sym is) (rising_below 0 frame i low rising) in
+    let here : pair_at (set values index pair) index ≡ pair = get_or-set_same values index pair (0, 0) inside in
     let twice : 2 * (i + 1) ≡ 2 * i + 2 = omega arith in
     let tag_here : pair.0 ≡ get_or (drop start ws) (2 * i) 0 = tag ∙ ap (λ n. get_or ws n 0) e ∙ sym (behind start ws (2 * i)) in
     let after : place + 1 ≡ start + (2 * i + 1) = omega (arith, e) in
     let payload_here : pair.1 ≡ get_or (drop start ws) (2 * i + 1) 0 = payload ∙ ap (λ n. get_or ws n 0) after ∙ sym (behind start ws (2 * i + 1)) in
-    ap (frame_words (set values level pair)) more
-    ∙ frame_words-append (set values level pair) (take i frame) (level ∷ [])
-    ∙ ap (λ us. us ++ frame_words (set values level pair) (level ∷ [])) (stays values level pair (take i frame) below ∙ so_far)
+    ap (gathered (set values index pair)) more
+    ∙ gathered-append (set values index pair) (take i frame) (index ∷ [])
+    ∙ ap (λ us. us ++ gathered (set values index pair) (index ∷ [])) (stays values index pair (take i frame) below ∙ so_far)
     ∙ ap (λ (x : ℕ × ℕ). take (2 * i) (drop start ws) ++ x.0 ∷ x.1 ∷ []) here
     ∙ ap (λ a. take (2 * i) (drop start ws) ++ a ∷ pair.1 ∷ []) tag_here
     ∙ ap (λ a. take (2 * i) (drop start ws) ++ get_or (drop start ws) (2 * i) 0 ∷ a ∷ []) payload_here
     ∙ sym (take_two (2 * i) (drop start ws) (omega (arith, length-drop start ws)))
     ∙ ap (λ n. take n (drop start ws)) (sym twice)
 
--- other levels stay
+-- other indices stay
 or_last : (b : Bool) → b || false ≡ false → b ≡ false
 or_last true e = e
 or_last false e = refl
@@ -146,15 +146,15 @@ any_append : (p : ℕ → Bool) (xs : List ℕ) (x : ℕ) → list_any p (xs ++ 
 any_append p [] x e = (refl, or_last (p x) e)
 any_append p (y ∷ ys) x e = either (p y) (list_any p (ys ++ x ∷ [])) (list_any p ys) (p x) (any_append p ys x) e
 
-pub others_more : (before values : List (ℕ × ℕ)) (pair : ℕ × ℕ) (frame : List ℕ) (i level other : ℕ) → i < length frame → level ≡ get_or frame i 0
+pub others_more : (before values : List (ℕ × ℕ)) (pair : ℕ × ℕ) (frame : List ℕ) (i index other : ℕ) → i < length frame → index ≡ get_or frame i 0
     → ((k : ℕ) → list_any (eqb k) (take i frame) ≡ false → pair_at values k ≡ pair_at before k)
-    → list_any (eqb other) (take (i + 1) frame) ≡ false → pair_at (set values level pair) other ≡ pair_at before other
-others_more before values pair frame i level other low is so_far none =
+    → list_any (eqb other) (take (i + 1) frame) ≡ false → pair_at (set values index pair) other ≡ pair_at before other
+others_more before values pair frame i index other low is so_far none =
     let next : i + 1 ≡ suc i = omega arith in
-    let more : take (i + 1) frame ≡ take i frame ++ level ∷ [] = ap (λ n. take n frame) next ∙ take-suc frame i 0 low ∙ ap (λ l. take i frame ++ l ∷ []) (sym is) in
-    let both = any_append (eqb other) (take i frame) level (ap (list_any (eqb other)) (sym more) ∙ none) in
-    let apart : other ≢ level = λ e. let t = eq-eqb other level e in let f = both.1 in cc in
-    get_or-set_other values level other pair (0, 0) apart ∙ so_far other both.0
+    let more : take (i + 1) frame ≡ take i frame ++ index ∷ [] = ap (λ n. take n frame) next ∙ take-suc frame i 0 low ∙ ap (λ l. take i frame ++ l ∷ []) (sym is) in
+    let both = any_append (eqb other) (take i frame) index (ap (list_any (eqb other)) (sym more) ∙ none) in
+    let apart : other ≢ index = λ e. let t = eq-eqb other index e in let f = both.1 in cc in
+    get_or-set_other values index other pair (0, 0) apart ∙ so_far other both.0
 
 -- ---- in a block
 
@@ -174,7 +174,7 @@ words_between store number first many block tiled at inside =
     ∙ ap (take many) (drop-append-le first block back (omega (arith, inside)))
     ∙ take-append-le many (drop first block) back (omega (arith, inside, length-drop first block))
 
-pub values_between : (a : Inside) (r : RegionState) (number token first many : ℕ) → state_of a ≡ r → IsLaidOut a.words.items a.made a.free.items → token ≡ number
+pub values_between : (a : Inside) (r : RegionState) (number token first many : ℕ) → region_state a ≡ r → IsLaidOut a.words.items a.made a.free.items → token ≡ number
     → IsLive r number → first + many ≤ width_of r number → take many (drop (token + 1 + first) a.words.items) ≡ take many (drop first (words_of r number))
 values_between a r number token first many is kept same live inside =
     let at = (held_block a r number is kept live).at in
@@ -185,7 +185,7 @@ values_between a r number token first many is kept same live inside =
     ∙ words_between (made_words a) number first many (words_of r number) kept.sound.tiled at inside
 
 -- the words lie in the store
-pub range_inside : (a : Inside) (r : RegionState) (number token : ℕ) → state_of a ≡ r → IsLaidOut a.words.items a.made a.free.items → token ≡ number
+pub range_inside : (a : Inside) (r : RegionState) (number token : ℕ) → region_state a ≡ r → IsLaidOut a.words.items a.made a.free.items → token ≡ number
     → IsLive r number → token + width_of r number < length a.words.items
 range_inside a r number token is kept same live =
     let read = block_read (made_words a) number (words_of r number) kept.sound.tiled (held_block a r number is kept live).at in
@@ -245,7 +245,7 @@ pub record TakesWords (words' : List ℕ) (made : ℕ) (lists' : List FreeList) 
   pub first : ℕ
   pub live : live_of (take made words') lists' ≡ insert r.live number (first ∷ words)
 
-pub taken_with : (a : Inside) (r : RegionState) (width next : ℕ) (list : FreeList) (us : List ℕ) → state_of a ≡ r → IsLaidOut a.words.items a.made a.free.items
+pub taken_with : (a : Inside) (r : RegionState) (width next : ℕ) (list : FreeList) (us : List ℕ) → region_state a ≡ r → IsLaidOut a.words.items a.made a.free.items
     → 1 ≤ spare r width → width ≡ 1 + length us → list ≡ list_at a.free.items width → next ≡ get_or a.words.items (list.first + 1) 0
     → TakesWords (overlaid (list.first + 1 + 1) us a.words.items) a.made (set a.free.items width (record { first = next; count = list.count - 1 })) r list.first us
 unfolding next_of
@@ -277,7 +277,7 @@ taken_with a r width next list us is kept some wide list_is next_is =
     let here : P (list_at lists width) (next_of store first) = record {
       kept = kept_as words (overlaid (first + 1 + 1) us words) a.made lists lists' kept
           (length_overlaid (first + 1 + 1) us words (omega (arith, low, kept.inside)))
-          (subst (λ s. IsSound s lists') (sym is_over) takes.sound);
+          (subst (λ s. IsStoreSound s lists') (sym is_over) takes.sound);
       fresh = ap (λ s. get s.live first) (sym is) ∙ takes.fresh;
       first = get_or has.block 0 0;
       live = ap (λ s. live_of s lists') is_over ∙ takes.live ∙ ap (insert (live_of store lists) first) (overlaid_rest us has.block rest) ∙ ap (λ s. insert s.live first (get_or has.block 0 0 ∷ us)) is;

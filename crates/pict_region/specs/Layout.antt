@@ -52,8 +52,8 @@ live_of store lists =
 abbrev pub made_words : Inside → List ℕ
 made_words r = take r.made r.words.items
 
-abbrev pub state_of : Inside → RegionState
-state_of r = record {
+abbrev pub region_state : Inside → RegionState
+region_state r = record {
   live = live_of (made_words r) r.free.items;
   free = map (λ l. l.count) r.free.items;
   work = r.work;
@@ -73,7 +73,7 @@ pub record HasBlock (store : List ℕ) (number width : ℕ) : Type 0 where
 
 -- The store is made of blocks, each of a width that has a list, and the lists of free blocks are apart. It has at most
 -- `WORD_LIMIT` words.
-pub record IsSound (store : List ℕ) (lists : List FreeList) : Type 0 where
+pub record IsStoreSound (store : List ℕ) (lists : List FreeList) : Type 0 where
   pub tiled : store_of (blocks_of store) ≡ store
   pub widths : (number : ℕ) (block : List ℕ) → block_at (blocks_of store) number ≡ Some block
       → (0 < length block) × (length block < length lists)
@@ -84,6 +84,6 @@ pub record IsSound (store : List ℕ) (lists : List FreeList) : Type 0 where
 
 -- The first `made` words, of at most `WORD_LIMIT`, are a store that is sound.
 pub record IsLaidOut (words : List ℕ) (made : ℕ) (lists : List FreeList) : Type 0 where
-  pub sound : IsSound (take made words) lists
+  pub sound : IsStoreSound (take made words) lists
   pub inside : made ≤ length words
   pub small : length words ≤ WORD_LIMIT

@@ -4,7 +4,7 @@ ghost use Rattle.std.specs.FinMap.{get, insert, remove, empty};
 ghost use Rattle.std.specs.List.{list_any};
 ghost use Rattle.pict_region.specs.RegionState.{IsLive, words_of, width_of, spare, blocks, KeepsBlocks, LosesNoBlock, KeepsOtherWidths, raised, raised_by, GainsWords};
 ghost use Rattle.pict_region.specs.Layout.{list_at};
-ghost use Rattle.pict_region.specs.Values.{frame_words, pair_at, AreRising, overlaid};
+ghost use Rattle.pict_region.specs.Values.{gathered, pair_at, AreRising, overlaid};
 
 use crate::block::Block;
 use pict_syntax::WORD_LIMIT;
@@ -42,9 +42,9 @@ impl Model for Region {
 
     ghost coded = { region_code };
 
-    ghost use Rattle.pict_region.specs.Layout.{state_of, IsLaidOut};
+    ghost use Rattle.pict_region.specs.Layout.{region_state, IsLaidOut};
 
-    ghost view = { state_of };
+    ghost view = { region_state };
 
     ghost invariant = { λ r. IsLaidOut r.words.items r.made r.free.items };
 }
@@ -112,36 +112,35 @@ impl Region {
         Block { number }
     }
 
-    /// A block of this width: its word 1 is this one, and from word 2 on stand the values of these levels, two words each,
-    /// from the places of the levels among `values`. Its word 0 is any. Numbers of blocks are below 2^32 - 1. Takes no
-    /// memory.
+    /// A block of this width: its word 1 is this one, and from word 2 on stand the values at these indices, two words each.
+    /// Its word 0 is any. Numbers of blocks are below 2^32 - 1. Takes no memory.
     #[inline(always)]
-    pub fn take_values(
+    pub fn take_gathered(
         &mut self,
         width: u32,
         word: u64,
-        levels: &[u32],
+        indices: &[u32],
         values: &[(u64, u64)],
     ) -> Block
         requires spare { 1 ≤ spare self.old width }
-        requires wide { width ≡ 2 + 2 * length levels.now }
-        requires known { All (λ level. level < length values.now) levels.now }
+        requires wide { width ≡ 2 + 2 * length indices.now }
+        requires known { All (λ index. index < length values.now) indices.now }
         ensures fresh { get self.old.live result ≡ None }
         ensures small { result < 2 ^ 32 - 1 }
-        ensures live { GainsWords self.old self.new result (word ∷ frame_words values.now levels.now) }
+        ensures live { GainsWords self.old self.new result (word ∷ gathered values.now indices.now) }
         ensures spare { spare self.new width + 1 ≡ spare self.old width }
         ensures others { KeepsOtherWidths self.old self.new width }
         ensures blocks { KeepsBlocks self.old self.new }
-        ensures work { self.new.work ≡ raised_by (2 + 2 * length levels.now) self.old.work }
+        ensures work { self.new.work ≡ raised_by (2 + 2 * length indices.now) self.old.work }
     {
-        self.work = more(self.work, 2 + 2 * levels.len() as u64);
+        self.work = more(self.work, 2 + 2 * indices.len() as u64);
         let list = self.free[width as usize];
         let number = list.first;
         let start = number as usize + 1;
         let first = self.words[start];
         let count = list.count - 1;
         self.free[width as usize] = FreeList { first, count };
-        put_values(self.words.as_mut_slice(), start + 1, word, levels, values);
+        put_gathered(self.words.as_mut_slice(), start + 1, word, indices, values);
         Block { number }
     }
 
@@ -223,22 +222,21 @@ impl Region {
         put_pair(self.words.as_mut_slice(), start, pair);
     }
 
-    /// Reads the values of these levels out of a live block, two words each from word `first` on, each to the place of its
-    /// level among `values`. Takes no memory.
+    /// Reads values out of a live block, two words each from word `first` on, and puts them at these indices. Takes no memory.
     #[inline(always)]
-    pub fn read_values(&mut self, b: &Block, first: u32, levels: &[u32], values: &mut [(u64, u64)])
+    pub fn scatter(&mut self, b: &Block, first: u32, indices: &[u32], values: &mut [(u64, u64)])
         requires live { IsLive self.old b.now }
-        requires inside { first + 2 * length levels.now ≤ width_of self.old b.now }
-        requires known { All (λ level. level < length values.old) levels.now }
-        requires rising { AreRising 0 levels.now }
-        ensures words { frame_words values.new levels.now ≡ take (2 * length levels.now) (drop first (words_of self.old b.now)) }
-        ensures others { (level : ℕ) → list_any (eqb level) levels.now ≡ false → pair_at values.new level ≡ pair_at values.old level }
+        requires inside { first + 2 * length indices.now ≤ width_of self.old b.now }
+        requires known { All (λ index. index < length values.old) indices.now }
+        requires rising { AreRising 0 indices.now }
+        ensures words { gathered values.new indices.now ≡ take (2 * length indices.now) (drop first (words_of self.old b.now)) }
+        ensures others { (index : ℕ) → list_any (eqb index) indices.now ≡ false → pair_at values.new index ≡ pair_at values.old index }
         ensures len { length values.new ≡ length values.old }
-        ensures rest { self.new ≡ record self.old { work = raised_by (2 * length levels.now) self.old.work } }
+        ensures rest { self.new ≡ record self.old { work = raised_by (2 * length indices.now) self.old.work } }
     {
-        self.work = more(self.work, 2 * levels.len() as u64);
+        self.work = more(self.work, 2 * indices.len() as u64);
         let start = b.number as usize + 1 + first as usize;
-        read_pairs(self.words.as_slice(), start, levels, values);
+        read_pairs(self.words.as_slice(), start, indices, values);
     }
 
     /// A token of the live block with this number. Takes no memory.
@@ -426,48 +424,48 @@ fn more(work: u64, count: u64) -> u64
     work.saturating_add(count)
 }
 
-// Reads the values of levels out of the store, two words each from this index on.
+// Reads values out of the store, two words each from `start` on, and puts them at these indices.
 #[inline(always)]
-fn read_pairs(words: &[u64], start: usize, levels: &[u32], values: &mut [(u64, u64)])
-    requires inside { start + 2 * length levels.now ≤ length words.now }
-    requires known { All (λ level. level < length values.old) levels.now }
-    requires rising { AreRising 0 levels.now }
-    ensures words { frame_words values.new levels.now ≡ take (2 * length levels.now) (drop start words.now) }
-    ensures others { (level : ℕ) → list_any (eqb level) levels.now ≡ false → pair_at values.new level ≡ pair_at values.old level }
+fn read_pairs(words: &[u64], start: usize, indices: &[u32], values: &mut [(u64, u64)])
+    requires inside { start + 2 * length indices.now ≤ length words.now }
+    requires known { All (λ index. index < length values.old) indices.now }
+    requires rising { AreRising 0 indices.now }
+    ensures words { gathered values.new indices.now ≡ take (2 * length indices.now) (drop start words.now) }
+    ensures others { (index : ℕ) → list_any (eqb index) indices.now ≡ false → pair_at values.new index ≡ pair_at values.old index }
     ensures len { length values.new ≡ length values.old }
 {
     let mut place = start;
-    for level in levels {
-        values[*level as usize] = (words[place], words[place + 1]);
+    for index in indices {
+        values[*index as usize] = (words[place], words[place + 1]);
         place += 2;
     }
 }
 
-// Writes the values of levels into the store, two words each from this index on.
+// Writes the values at these indices into the store, two words each from `start` on.
 #[inline(always)]
-fn write_pairs(words: &mut [u64], start: usize, levels: &[u32], values: &[(u64, u64)])
-    requires inside { start + 2 * length levels.now ≤ length words.old }
-    requires known { All (λ level. level < length values.now) levels.now }
-    ensures words { words.new ≡ overlaid start (frame_words values.now levels.now) words.old }
+fn write_pairs(words: &mut [u64], start: usize, indices: &[u32], values: &[(u64, u64)])
+    requires inside { start + 2 * length indices.now ≤ length words.old }
+    requires known { All (λ index. index < length values.now) indices.now }
+    ensures words { words.new ≡ overlaid start (gathered values.now indices.now) words.old }
     ensures len { length words.new ≡ length words.old }
 {
     let mut place = start;
-    for level in levels {
-        put_pair(words, place, values[*level as usize]);
+    for index in indices {
+        put_pair(words, place, values[*index as usize]);
         place += 2;
     }
 }
 
-// Puts a word into the store at this index, and behind it the values of levels, two words each.
+// Puts a word into the store at `start`, and behind it the values at these indices, two words each.
 #[inline(always)]
-fn put_values(words: &mut [u64], start: usize, word: u64, levels: &[u32], values: &[(u64, u64)])
-    requires inside { start + 1 + 2 * length levels.now ≤ length words.old }
-    requires known { All (λ level. level < length values.now) levels.now }
-    ensures words { words.new ≡ overlaid start (word ∷ frame_words values.now levels.now) words.old }
+fn put_gathered(words: &mut [u64], start: usize, word: u64, indices: &[u32], values: &[(u64, u64)])
+    requires inside { start + 1 + 2 * length indices.now ≤ length words.old }
+    requires known { All (λ index. index < length values.now) indices.now }
+    ensures words { words.new ≡ overlaid start (word ∷ gathered values.now indices.now) words.old }
     ensures len { length words.new ≡ length words.old }
 {
     words[start] = word;
-    write_pairs(words, start + 1, levels, values);
+    write_pairs(words, start + 1, indices, values);
 }
 
 // Puts two words into the store, at this index and the next.

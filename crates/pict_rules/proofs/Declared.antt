@@ -10,7 +10,7 @@ use Rattle.pict_scope.specs.Forms.{in_type, with_parameters, in_dec, in_decs, de
 use Rattle.pict_rules.specs.Environments.{Environment, Extension, KnownValue, one_value, opened, extended, defined, shifted_by}
 use Rattle.pict_rules.specs.Complete.{is_complete}
 use Rattle.pict_rules.specs.Rules.{environment_, signatures_, signature_, Signature, Body, process_body, value_body, declaration, declarations, signatures, signature}
-use Rattle.pict_rules.specs.Clauses.{values_of, with_signatures, with_own, argument_type}
+use Rattle.pict_rules.specs.Clauses.{signature_values, with_signatures, with_own, argument_type}
 use Rattle.pict_rules.specs.Typing.{rule}
 use Rattle.pict_rules.specs.SameNames.{value_names, bound_names, HasTypesOf, HasValuesOf}
 use Rattle.pict_rules.proofs.Results.{result_has, gives_, refuses, parts, splits, unless, in_boths}
@@ -61,16 +61,16 @@ name_followed : (x : Id) (a : Abs) (s : Signature) → FollowsAbs x a s → s.na
 name_followed x (process_abs i p q) s h = h.name_
 name_followed x (function_abs i f r v) s h = h.name_
 
-last_nearest : (ss : List Signature) (s : Signature) (vs : List KnownValue) → value_names (values_of (ss ++ s ∷ []) vs) ≡ s.name.name.0 ∷ value_names (values_of ss vs)
+last_nearest : (ss : List Signature) (s : Signature) (vs : List KnownValue) → value_names (signature_values (ss ++ s ∷ []) vs) ≡ s.name.name.0 ∷ value_names (signature_values ss vs)
 last_nearest [] s vs = refl
 last_nearest (r ∷ ss) s vs = last_nearest ss s (record { name = r.name.name.0; has = r.has } ∷ vs)
 
-names_followed : (ds : Definitions) (ss : List Signature) (vs : List KnownValue) → AllFollow ds ss → value_names (values_of ss vs) ≡ id_names (definition_ids ds) ++ value_names vs
-names_followed no_definitions ss vs h = ap (λ z. value_names (values_of z vs)) h
+names_followed : (ds : Definitions) (ss : List Signature) (vs : List KnownValue) → AllFollow ds ss → value_names (signature_values ss vs) ≡ id_names (definition_ids ds) ++ value_names vs
+names_followed no_definitions ss vs h = ap (λ z. value_names (signature_values z vs)) h
 names_followed (more_definitions ds x a) ss vs h =
-    ap (λ z. value_names (values_of z vs)) h.2
+    ap (λ z. value_names (signature_values z vs)) h.2
     ∙ (last_nearest h.0 h.1 vs
-    ∙ (ap (λ z. z.name.0 ∷ value_names (values_of h.0 vs)) (name_followed x a h.1 h.4)
+    ∙ (ap (λ z. z.name.0 ∷ value_names (signature_values h.0 vs)) (name_followed x a h.1 h.4)
     ∙ ap (λ z. x.name.0 ∷ z) (names_followed ds h.0 vs h.3)))
 
 pub knows_signed : {e : Environment} {a : Around} (ds : Definitions) (ss : List Signature) → Knows e a → AllFollow ds ss → Knows (with_signatures e ss) (with_values (names_defined ds) a)

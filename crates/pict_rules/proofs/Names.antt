@@ -10,7 +10,7 @@ use Rattle.pict_normal.specs.Normal.{normal}
 use Rattle.pict_sub.specs.Exposing.{exposure}
 use Rattle.pict_rules.specs.Shapes.{written_bound, nth_bound}
 use Rattle.pict_rules.specs.Counts.{count_binders}
-use Rattle.pict_rules.specs.Environments.{Environment, Extension, KnownType, KnownValue, context_of, opened, no_extension, one_value, rename_values, moved_binders, joined, within}
+use Rattle.pict_rules.specs.Environments.{Environment, Extension, KnownType, KnownValue, context_of, opened, no_extension, one_value, rename_values, moved_binders, joined_extensions, within}
 use Rattle.pict_rules.specs.Rules.{Sort, Rule, Result, extension_, pattern_, fields_, binders_, patterns_, labelled_patterns_, opened_, TypedPattern, pattern_gives, fields_give, binders_give, patterns_give, labelled_patterns_give, pattern_against, fields_against, binders_against, patterns_against, labelled_patterns_against}
 use Rattle.pict_rules.specs.Clauses.{with_own, binder_name, own_bound}
 use Rattle.pict_rules.specs.Typing.{rule}
@@ -53,7 +53,7 @@ ids_of_both xs ys = map-append _ xs ys
 abbrev pub each : {a b c d : List ℕ} → a ≡ c → b ≡ d → a ++ b ≡ c ++ d
 each {b = b} {c = c} p q = ap (λ z. z ++ b) p ∙ ap (λ z. c ++ z) q
 
-pub joined_names : {x y : Extension} {vs ts ws us : List Id} → AddsNames x vs ts → AddsNames y ws us → AddsNames (joined x y) (ws ++ vs) (us ++ ts)
+pub joined_names : {x y : Extension} {vs ts ws us : List Id} → AddsNames x vs ts → AddsNames y ws us → AddsNames (joined_extensions x y) (ws ++ vs) (us ++ ts)
 joined_names {x = x} {y = y} {vs = vs} {ts = ts} {ws = ws} {us = us} h k = record {
   values = names_of_both (rename_values (moved (opened x) (opened y)) y.values) (rename_values (moved (opened y) 0) x.values) ∙ (each (renamed_names _ y.values ∙ k.values) (renamed_names _ x.values ∙ h.values) ∙ sym (ids_of_both ws vs));
   types_ = binders_of_both (moved_binders (opened x) y.binders) x.binders ∙ (each (moved_names _ y.binders ∙ k.types_) h.types_ ∙ sym (ids_of_both us ts));
@@ -109,8 +109,8 @@ none_named = record { values = refl; types_ = refl }
 pub one_named : (x : Id) (t : PlainType) → AddsNames (one_value x t) (x ∷ []) []
 one_named x t = record { values = refl; types_ = refl }
 
-fields_joined : (bs : TypeBinders) (ps : Pats) (ls : LabelledPats) (own : List KnownType) (x y : Extension) → OwnNames bs own → PatsNames ps x → LabelledNames ls y → FieldNames (field_pats bs ps ls) own (joined x y)
-fields_joined bs ps ls own x y h k l = record { own_ = h; adds_ = fields_within bs own (joined x y) _ (labelled_type_ids ls) (pats_type_ids ps) h (joined_names k l) }
+fields_joined : (bs : TypeBinders) (ps : Pats) (ls : LabelledPats) (own : List KnownType) (x y : Extension) → OwnNames bs own → PatsNames ps x → LabelledNames ls y → FieldNames (field_pats bs ps ls) own (joined_extensions x y)
+fields_joined bs ps ls own x y h k l = record { own_ = h; adds_ = fields_within bs own (joined_extensions x y) _ (labelled_type_ids ls) (pats_type_ids ps) h (joined_names k l) }
 
 mutual
   pub pattern_named : (e : Environment) (p : Pat) → Gives pattern_ (PatternNames p) (rule e (pattern_gives p))

@@ -11,7 +11,8 @@ use Rattle.pict_scope.specs.Around.{Around, with_values}
 use Rattle.pict_scope.specs.Outlines.{Outline, empty, ◌▸◌, closed, pattern_value, pattern_type, pattern, group, once, opens}
 use Rattle.pict_scope.specs.Forms.{in_annotation, in_pattern_binder, in_pattern_binders, in_pat, in_field_pats, in_pats, in_labelled_pats, defined}
 use Rattle.pict_rules.specs.Environments.{Environment, Extension, KnownType, opened, only_types, entries_of, rename_values, extended}
-use Rattle.pict_rules.specs.SameNames.{entry_names, bound_names, HasTypesOf, HasValuesOf}
+use Rattle.pict_types.specs.Places.{entry_names}
+use Rattle.pict_rules.specs.SameNames.{bound_names, HasTypesOf, HasValuesOf}
 use Rattle.pict_rules.proofs.BoundIds.{binder_ids, value_ids, field_value_ids, pats_value_ids, labelled_value_ids, type_ids, field_type_ids, pats_type_ids, labelled_type_ids, definition_ids}
 use Rattle.pict_rules.proofs.Names.{id_names, binder_names, AddsNames, renamed_names, names_of_both, ids_of_both, each}
 use Rattle.pict_rules.proofs.Kept.{same_texts, Keeps, KeepsPattern, keeps_empty, keeps_both, keeps_closed, keeps_once, keeps_annotation, keeps_bound, pattern_keeps_annotation, pattern_keeps_bound}

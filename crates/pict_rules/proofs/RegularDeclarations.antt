@@ -13,7 +13,7 @@ use Rattle.pict_syntax.specs.Grammar.{val_span}
 use Rattle.pict_rules.specs.Complete.{is_complete}
 use Rattle.pict_rules.specs.Environments.{Environment, Extension, KnownType, KnownValue, opened, opened_since, entries_of, bounds_of, rename_values, one_value, extended, shifted_by}
 use Rattle.pict_rules.specs.Rules.{type_, environment_, signatures_, signature_, give, abstraction_gives, declaration, signatures, signature, Signature, TypedFields, Body, process_body, value_body, unless_stopped}
-use Rattle.pict_rules.specs.Clauses.{with_own, with_fields, argument_type, with_parameters_named, with_parameters_in, with_signatures, values_of}
+use Rattle.pict_rules.specs.Clauses.{with_own, with_fields, argument_type, with_parameters_named, with_parameters_in, with_signatures, signature_values}
 use Rattle.pict_rules.specs.Regular.{IsRegular, IsTypeIn, kinds_in, GrowsFrom, AreFieldsIn, AreSignatures, IsBodyIn, ValuesAreWellFormed}
 use Rattle.pict_rules.proofs.Results.{gives_, refuses, parts, splits, unless, in_boths}
 use Rattle.pict_rules.proofs.Regularity.{Step}
@@ -97,7 +97,7 @@ signature_regular e x (function_abs s fs (Some a) v) i r =
     unless (size_stop e.context (argument_type g t) s) (unless (size_stop e.context (Chan Respond (argument_type g t)) s) (
     gives_ (argument_formed e g t h.1.0 w, (within_adds e g.own g.adds r h.1.1, (shifted_in e g.own g.adds t w, tt)))))))
 
-values_signed : (ns : List (List ℕ)) (e : Environment) (ss : List Signature) (vs : List KnownValue) → AreSignatures e ss → ValuesAreWellFormed e.names (kinds_in e) vs → ValuesAreWellFormed e.names (kinds_in e) (values_of ss vs)
+values_signed : (ns : List (List ℕ)) (e : Environment) (ss : List Signature) (vs : List KnownValue) → AreSignatures e ss → ValuesAreWellFormed e.names (kinds_in e) vs → ValuesAreWellFormed e.names (kinds_in e) (signature_values ss vs)
 values_signed ns e [] vs h k = k
 values_signed ns e (s ∷ ss) vs h k = values_signed ns e ss (record { name = s.name.name.0; has = s.has } ∷ vs) h.1.1.1 (h.0, k)
 
@@ -140,7 +140,7 @@ declaration_regular e (let_dec s p v) i r =
 declaration_regular e (def_dec s ds) i r =
     parts (r, tt) (λ ss g.
     let q = signed_regular e ss r g.1 in
-    parts (q, still_signed e (values_of ss e.values) ss q.known g.1) (λ x h. gives_ (q, record { texts = refl; inner = []; kinds_ = refl })))
+    parts (q, still_signed e (signature_values ss e.values) ss q.known g.1) (λ x h. gives_ (q, record { texts = refl; inner = []; kinds_ = refl })))
 declaration_regular e (alias_dec s x t) i r =
     unless_clear (kind_stop e.names e.context t) (λ k.
     gives_ (record { entries = (expands_well e.names e.context t r.entries i k, r.entries); known = r.known }, record { texts = refl; inner = []; kinds_ = refl }))

@@ -3,7 +3,7 @@ use Rattle.std.proofs.Common.{◌≡◌, ℕ, ◌+◌, List, [], ◌∷◌, ◌+
 use Rattle.pict_types.specs.Kinds.{Kind, kinds, kind_at}
 use Rattle.pict_types.specs.Renaming.{moved}
 use Rattle.pict_types.specs.Entries.{PlainContext, variables, EntriesAreWellFormed}
-use Rattle.pict_rules.specs.Environments.{Environment, Extension, KnownType, KnownValue, opened, entries_of, rename_values, moved_binders, joined}
+use Rattle.pict_rules.specs.Environments.{Environment, Extension, KnownType, KnownValue, opened, entries_of, rename_values, moved_binders, joined_extensions}
 use Rattle.pict_rules.specs.Regular.{IsRegular, ValuesAreWellFormed, Adds}
 use Rattle.pict_types.proofs.Formed.{KeepsKinds, same_kind, keeps_beyond, formed_renamed, formed_bound_renamed}
 use Rattle.pict_types.proofs.Renamed.{rename_same}
@@ -52,13 +52,13 @@ keeps_inside xs ys c = record { each = λ i k h. go ys i ∙ h }
     go [] i = rw add-zero refl
     go (z ∷ zs) i = rw add-suc (go zs i)
 
-pub joined_adds : (e : Environment) (x y : Extension) → IsRegular e → Adds e x → Adds e y → Adds e (joined x y)
+pub joined_adds : (e : Environment) (x y : Extension) → IsRegular e → Adds e x → Adds e y → Adds e (joined_extensions x y)
 joined_adds e x y r h k =
     let ns = e.names in
     let all = kinds_inside (moved_binders (opened x) y.binders ++ x.binders) e.context in
     record {
       entries = entries_joined ns x.binders y.binders e.context h.entries k.entries;
-      known = values_both ns all (joined x y).values (rename_values (moved (opened (joined x y)) 0) e.values)
+      known = values_both ns all (joined_extensions x y).values (rename_values (moved (opened (joined_extensions x y)) 0) e.values)
           (values_both ns all (rename_values (moved (opened x) (opened y)) y.values) (rename_values (moved (opened y) 0) x.values)
           (values_renamed ns y.values (keeps_beside x.binders y.binders e.context) (values_first ns (kinds_inside y.binders e.context) y.values _ k.known))
           (values_renamed ns x.values (keeps_inside x.binders y.binders e.context) (values_first ns (kinds_inside x.binders e.context) x.values _ h.known)))

@@ -134,12 +134,12 @@ abbrev pub with_parameters_in : Environment → List Id → Environment
 with_parameters_in e xs = record { names = e.names; context = with_parameters_named xs e.context; values = e.values }
 
 -- the names of a `def`, with their types
-abbrev pub values_of : List Signature → List KnownValue → List KnownValue
-values_of [] vs = vs
-values_of (s ∷ ss) vs = values_of ss (record { name = s.name.name.0; has = s.has } ∷ vs)
+abbrev pub signature_values : List Signature → List KnownValue → List KnownValue
+signature_values [] vs = vs
+signature_values (s ∷ ss) vs = signature_values ss (record { name = s.name.name.0; has = s.has } ∷ vs)
 
 abbrev pub with_signatures : Environment → List Signature → Environment
-with_signatures e ss = record { names = e.names; context = e.context; values = values_of ss e.values }
+with_signatures e ss = record { names = e.names; context = e.context; values = signature_values ss e.values }
 
 -- 'val [] = v'
 abbrev pub empty_record : PlainType

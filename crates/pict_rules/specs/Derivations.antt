@@ -35,8 +35,8 @@ Holds e j x = Runs (rule e j) (ok x)
 abbrev pub IsStuck : {s : Sort} → Environment → Judgement s → Code → Span → Type 0
 IsStuck e j c i = Runs (rule e j) (stuck c i)
 
-abbrev pub Gives : Environment → Val → PlainType → Type 0
-Gives e v t = Holds e (gives v) t
+abbrev pub ValueGives : Environment → Val → PlainType → Type 0
+ValueGives e v t = Holds e (gives v) t
 
 -- no rule of scopes fails in the program, and its declarations are typed in order
 abbrev pub IsTyped : List (List ℕ) → Decs → Type 0

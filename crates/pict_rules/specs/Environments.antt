@@ -59,8 +59,8 @@ moved_binders k [] = []
 moved_binders k (b ∷ bs) = record { name = b.name; bound = rename_bound (moved k (length bs)) b.bound } ∷ moved_binders k bs
 
 -- what two patterns side by side add: each is written in what stands around both, and the second is put inside the first
-abbrev pub joined : Extension → Extension → Extension
-joined x y = record {
+abbrev pub joined_extensions : Extension → Extension → Extension
+joined_extensions x y = record {
   binders = moved_binders (opened x) y.binders ++ x.binders;
   values = rename_values (moved (opened x) (opened y)) y.values ++ rename_values (moved (opened y) 0) x.values;
 }

@@ -6,7 +6,7 @@ use Rattle.pict_syntax.specs.declared.primitive.Primitive.{Primitive}
 use Rattle.pict_syntax.specs.Names.{text_of}
 use Rattle.pict_syntax.specs.Trees.{Decs, of_chan, use_chan}
 use Rattle.pict_types.specs.Types.{PlainType}
-use Rattle.pict_types.specs.Entries.{PlainContext}
+use Rattle.pict_types.specs.Places.{entry_names}
 use Rattle.pict_scope.specs.PrimitiveNames.{primitive_named}
 use Rattle.pict_binders.specs.declared.binders.Binder.{Binder}
 use Rattle.pict_scope.specs.Around.{Around}
@@ -21,9 +21,6 @@ use Rattle.pict_rules.specs.Reached.{Reached}
 -- the names, the nearest first
 abbrev pub value_names : List KnownValue → List ℕ
 value_names vs = map (λ v. v.name) vs
-
-abbrev pub entry_names : PlainContext → List ℕ
-entry_names c = map (λ e. e.name) c
 
 abbrev pub bound_names : List Binder → List ℕ
 bound_names bs = map (λ b. b.name) bs

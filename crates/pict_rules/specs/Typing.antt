@@ -14,7 +14,7 @@ use Rattle.pict_rules.specs.Found.{mentions_missing, with_found, all_found, matc
 use Rattle.pict_syntax.specs.Grammar.{chan_span, pat_span, type_span, val_span}
 use Rattle.pict_rules.specs.Counts.{count_vals, count_pats, count_binders}
 use Rattle.pict_rules.specs.Shapes.{nth_type, nth_bound, applicable, all_written, none_written, vals_onto, right_nested, left_nested, from_first, kind_agrees, written_bound}
-use Rattle.pict_rules.specs.Environments.{Environment, context_of, opened, no_extension, one_value, joined, within, extended, defined, bounds_of, opened_since, type_of_use, shifted_by}
+use Rattle.pict_rules.specs.Environments.{Environment, context_of, opened, no_extension, one_value, joined_extensions, within, extended, defined, bounds_of, opened_since, type_of_use, shifted_by}
 use Rattle.pict_rules.specs.Complete.{is_complete}
 use Rattle.pict_rules.specs.Rules.{Sort, Judgement, gives, has, is_condition, values_give, labelled_values_give, application, fields_fit, written_arguments, values_fit, labelled_values_fit, value_fits, abstraction_gives, abstraction_against, pattern_gives, fields_give, binders_give, patterns_give, labelled_patterns_give, pattern_against, fields_against, binders_against, patterns_against, labelled_patterns_against, declaration, declarations, signatures, signature, bodies, body, process, processes, is_subtype, Rule, give, refuse, need, either, part, unless_stopped, ensure, expand, expand_argument, within_limits, given_fits, receives, process_body, value_body}
 use Rattle.pict_rules.specs.Clauses.{done, check, if_record, need_recursive, need_channel, need_function, need_outside, expect, if_sent, stop_of_binder, gives_below, with_own, with_fields, found_first, within_bounds, in_order, if_labelled, binder_name, own_bound, argument_type, with_parameters_in, with_signatures, empty_record, may_send, may_receive, is_of_kind, within_bound, written_kind, binder_span, need_same_bound, need_both, answering}
@@ -264,7 +264,7 @@ rule e (fields_give (field_pats bs ps ls)) =
     part e (binders_give bs) (λ own.
     part (with_own e own) (patterns_give ps) (λ g.
     part (with_own e own) (labelled_patterns_give ls) (λ h.
-    give (record { own = own; positional = g.have; labelled = h.have; adds = joined g.adds h.adds }))))
+    give (record { own = own; positional = g.have; labelled = h.have; adds = joined_extensions g.adds h.adds }))))
 -- A type binder has the kind or the bound that is written (K1 to K4 where they stand in the bound), and none where none is.
 rule e (binders_give no_binders) = give []
 rule e (binders_give (more_binders bs b)) =
@@ -275,12 +275,12 @@ rule e (patterns_give no_pats) = give (record { have = no_type; adds = no_extens
 rule e (patterns_give (more_pats ps p)) =
     part e (patterns_give ps) (λ g.
     part e (pattern_gives p) (λ h.
-    give (record { have = and_type g.have h.has; adds = joined g.adds h.adds })))
+    give (record { have = and_type g.have h.has; adds = joined_extensions g.adds h.adds })))
 rule e (labelled_patterns_give no_labelled_pats) = give (record { have = no_label; adds = no_extension })
 rule e (labelled_patterns_give (more_labelled_pats ls l p)) =
     part e (labelled_patterns_give ls) (λ g.
     part e (pattern_gives p) (λ h.
-    give (record { have = with_labelled_type e.names l.name.0 h.has g.have; adds = joined g.adds h.adds })))
+    give (record { have = with_labelled_type e.names l.name.0 h.has g.have; adds = joined_extensions g.adds h.adds })))
 -- PATTERNS AGAINST A TYPE
 
 -- A variable without annotation has the type. With one, the annotation is expanded, the type is a subtype of it (Y4 at the
@@ -323,7 +323,7 @@ rule e (fields_against s (field_pats bs ps ls) rs ts ms) =
     part e (binders_against bs rs) (λ own.
     part (with_own e own) (patterns_against ps ts) (λ x.
     part (with_own e own) (labelled_patterns_against ls ms) (λ y.
-    give (record { own = own; adds = joined x y }))))))
+    give (record { own = own; adds = joined_extensions x y }))))))
 -- A type binder: its bound is expanded (K1 to K4 where they stand in it); a kind that is written is the record's, and so is a
 -- bound, where it isn't `Top` (Y16 at the type binder). It takes what the record has.
 rule e (binders_against no_binders rs) = give []
@@ -337,14 +337,14 @@ rule e (patterns_against no_pats ts) = give no_extension
 rule e (patterns_against (more_pats ps p) ts) =
     part e (patterns_against ps ts) (λ x.
     part e (pattern_against p (nth_type (count_pats ps) ts)) (λ y.
-    give (joined x y)))
+    give (joined_extensions x y)))
 -- A label that the record lacks is Y6 at its pattern.
 rule e (labelled_patterns_against no_labelled_pats ms) = give no_extension
 rule e (labelled_patterns_against (more_labelled_pats ls l p) ms) =
     part e (labelled_patterns_against ls ms) (λ x.
     if_labelled (type_at l.name.0 ms) (λ t.
     part e (pattern_against p t) (λ y.
-    give (joined x y)))
+    give (joined_extensions x y)))
     (refuse Y6 (pat_span p)))
 -- DECLARATIONS, EACH IN WHAT THOSE BEFORE IT LEAVE
 

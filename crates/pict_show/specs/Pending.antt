@@ -21,8 +21,8 @@ fields_text names vs ls = join_with_byte 32 (positional_texts names vs ++ labell
 abbrev pub rest_of : List (List ℕ) → List CoreVal → List (Name × CoreVal) → List ℕ
 rest_of names positional labelled = rest_text names (vals_of (map plain_val positional)) (labelled_of (map plain_field labelled))
 
-abbrev pub fields_of : List (List ℕ) → List CoreVal → List (Name × CoreVal) → List ℕ
-fields_of names positional labelled = fields_text names (vals_of (map plain_val positional)) (labelled_of (map plain_field labelled))
+abbrev pub plain_fields_text : List (List ℕ) → List CoreVal → List (Name × CoreVal) → List ℕ
+plain_fields_text names positional labelled = fields_text names (vals_of (map plain_val positional)) (labelled_of (map plain_field labelled))
 
 abbrev pub piece_text : List (List ℕ) → Piece → List ℕ
 piece_text names (piece.Value v) = value_text names (plain_val v.now)
@@ -35,8 +35,8 @@ pending names (p ∷ ps) after = pending names ps (piece_text names p ++ after)
 
 -- Bytes that were written, and pieces that were pending: this text is now written behind those bytes, or pending before
 -- those pieces.
-abbrev pub Grows : List (List ℕ) → List ℕ → List Piece → List ℕ → List ℕ → List Piece → Type 0
-Grows names out pieces text out' pieces' = out' ++ pending names pieces' [] ≡ out ++ (text ++ pending names pieces [])
+abbrev pub GainsText : List (List ℕ) → List ℕ → List Piece → List ℕ → List ℕ → List Piece → Type 0
+GainsText names out pieces text out' pieces' = out' ++ pending names pieces' [] ≡ out ++ (text ++ pending names pieces [])
 
 -- a value that is no record
 abbrev pub IsSimple : Val → Type 0

@@ -3,7 +3,7 @@ ghost use Rattle.std.specs.Prelude.{◌≡◌, ◌++◌, ◌∷◌, ◌<◌, ◌
 ghost use Rattle.std.specs.Fmt.{decimal, signed_decimal};
 ghost use Rattle.pict_core.specs.Plain.{plain_val};
 ghost use Rattle.pict_show.specs.Values.{value_text, truth_text};
-ghost use Rattle.pict_show.specs.Pending.{IsSimple, Grows, rest_of, fields_of, piece_text};
+ghost use Rattle.pict_show.specs.Pending.{IsSimple, GainsText, rest_of, plain_fields_text, piece_text};
 
 use crate::write_quoted;
 use itoa::Buffer;
@@ -101,7 +101,7 @@ fn write_piece<'a>(
     piece: Piece<'a>,
 ) -> Result<(), AllocError>
     ensures grows { OnOk result (length out.old.items < length out.new.items) }
-    ensures text { OnOk result (Grows names.now out.old.items pieces.old.items (piece_text names.now piece.entry) out.new.items pieces.new.items) }
+    ensures text { OnOk result (GainsText names.now out.old.items pieces.old.items (piece_text names.now piece.entry) out.new.items pieces.new.items) }
 {
     match piece {
         Piece::Value(value) => match value {
@@ -129,7 +129,7 @@ fn write_rest<'a>(
     positional: &'a [CoreVal],
     labelled: &'a [(Name, CoreVal)],
 ) -> Result<(), AllocError>
-    ensures text { OnOk result (Grows names.now out.old.items pieces.old.items (rest_of names.now positional.now labelled.now) out.new.items pieces.new.items) }
+    ensures text { OnOk result (GainsText names.now out.old.items pieces.old.items (rest_of names.now positional.now labelled.now) out.new.items pieces.new.items) }
     ensures grows { OnOk result (length out.old.items < length out.new.items) }
 {
     if positional.is_empty() && labelled.is_empty() {
@@ -149,7 +149,7 @@ fn write_field<'a>(
     labelled: &'a [(Name, CoreVal)],
 ) -> Result<(), AllocError>
     ensures text { OnOk result
-        (Grows names.now out.old.items pieces.old.items (fields_of names.now positional.now labelled.now) out.new.items pieces.new.items) }
+        (GainsText names.now out.old.items pieces.old.items (plain_fields_text names.now positional.now labelled.now) out.new.items pieces.new.items) }
     ensures grows { OnOk result (length out.old.items ≤ length out.new.items) }
 {
     if !positional.is_empty() {

@@ -2,7 +2,7 @@
 use Rattle.std.proofs.Common.{◌≡◌, ◌≢◌, ◌<◌, length, ℕ, zero, suc, ◌+◌, false, cond, List, [], ◌∷◌, ◌++◌, map, take, drop, refl, sym, ap, ◌∙◌, append_assoc, arith}
 use Rattle.std.specs.Prelude.{◌==◌}
 use Rattle.std.proofs.lemmas.Bool.Decides.{nat_tests}
-use Rattle.pict_queue.specs.QueuesState.{QueuesState, list_of}
+use Rattle.pict_queue.specs.QueuesState.{QueuesState, queue_blocks}
 use Rattle.pict_queue.specs.Contents.{contents, held_words, moved_contents}
 use Rattle.pict_sites.specs.Turning.{turned}
 
@@ -41,14 +41,14 @@ turn_step xs i h =
 
 -- the contents after one more block went to the back
 pub one_turned : (s : QueuesState) (xs : List (List ℕ)) (i : ℕ) → contents s 0 ≡ turned i xs → i < length xs → moved_contents s 0 0 0 ≡ turned (i + 1) xs
-one_turned s xs i h l = map_turned (held_words s.region) (list_of s 0) ∙ ap (turned 1) h ∙ turn_step xs i l
+one_turned s xs i h l = map_turned (held_words s.region) (queue_blocks s 0) ∙ ap (turned 1) h ∙ turn_step xs i l
 
 apart : (n : ℕ) → n ≢ 0 → (n == 0) ≡ false
 apart n h = grind (arith, nat_tests)
 
 pub other_stays : (s : QueuesState) (other : ℕ) → other ≢ 0 → moved_contents s 0 0 other ≡ contents s other
 other_stays s other h =
-    ap (λ b. map (held_words s.region) (cond b (cond b (drop 1 (list_of s other)) (list_of s other) ++ take 1 (list_of s 0)) (cond b (drop 1 (list_of s other)) (list_of s other)))) (apart other h)
+    ap (λ b. map (held_words s.region) (cond b (cond b (drop 1 (queue_blocks s other)) (queue_blocks s other) ++ take 1 (queue_blocks s 0)) (cond b (drop 1 (queue_blocks s other)) (queue_blocks s other)))) (apart other h)
 
 -- what stood in front is behind again
 pub turned_whole : {A : Type 0} (xs ys : List A) → turned (length xs) (xs ++ ys) ≡ ys ++ xs

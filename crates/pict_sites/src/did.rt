@@ -5,7 +5,7 @@ ghost use Rattle.pict_heap.specs.HeapState.{HeapState};
 ghost use Rattle.pict_desk.specs.Code.{core_in};
 ghost use Rattle.pict_desk.specs.Constants.{AreConstants};
 ghost use Rattle.pict_picker.specs.Events.{label_of, trap_of, IsDidOf};
-ghost use Rattle.pict_turns.specs.Packed.{label_packed, trap_packed, IsPackedOf};
+ghost use Rattle.pict_turns.specs.Shown.{label_shown, trap_shown, IsShownOf};
 ghost use Rattle.pict_turns.specs.Stepping.{MayAct};
 ghost use Rattle.pict_sites.specs.Happening.{IsDidBy};
 
@@ -14,27 +14,27 @@ use pict_code::Node;
 use pict_desk::word_at;
 use pict_heap::Word;
 use pict_picker::Did;
-use pict_turns::{PackedEvent, Store};
+use pict_turns::{Shown, Store};
 use std::alloc::AllocError;
 
 /// Who asks for a step of a site.
 pub struct AtSite;
 
 // What a step shows, with the value that is received as a word.
-fn did_of(event: PackedEvent) -> Did
-    requires { (h : HeapState) × IsPackedOf h event }
-    ensures label { (h : HeapState) → IsPackedOf h event → label_of h result ≡ label_packed h event }
-    ensures event { (h : HeapState) → IsPackedOf h event → IsDidOf h result }
-    ensures trap { trap_of result ≡ trap_packed event }
+fn did_of(event: Shown) -> Did
+    requires { (h : HeapState) × IsShownOf h event }
+    ensures label { (h : HeapState) → IsShownOf h event → label_of h result ≡ label_shown h event }
+    ensures event { (h : HeapState) → IsShownOf h event → IsDidOf h result }
+    ensures trap { trap_of result ≡ trap_shown event }
 {
     match event {
-        PackedEvent::Quiet => Did::Quiet,
-        PackedEvent::Comm { channel, value } => Did::Comm {
+        Shown::Quiet => Did::Quiet,
+        Shown::Comm { channel, value } => Did::Comm {
             channel,
             value: word_at(value),
         },
-        PackedEvent::Print(word) => Did::Print(word),
-        PackedEvent::Trapped(at) => Did::Trapped(at),
+        Shown::Print(word) => Did::Print(word),
+        Shown::Trapped(at) => Did::Trapped(at),
     }
 }
 

@@ -154,7 +154,7 @@ impl Network {
     }
 
     // The same as `run`, where the queues of the only site may be lent before and afterwards.
-    fn run_on<W: Watcher>(
+    fn watch<W: Watcher>(
         &mut self,
         alone: bool,
         chooser: &mut Chooser,
@@ -236,7 +236,7 @@ impl Network {
         ensures same { W.same watcher.old watcher.new }
     {
         let alone = self.begin();
-        let answer = self.run_on(alone, chooser, fuel, watcher);
+        let answer = self.watch(alone, chooser, fuel, watcher);
         self.rest(alone);
         answer
     }

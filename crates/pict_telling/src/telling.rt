@@ -6,7 +6,7 @@ ghost use Rattle.pict_core.specs.Plain.{plain_core};
 ghost use Rattle.pict_core.specs.Closed.{IsClosed};
 ghost use Rattle.pict_view.specs.Right.{RunsRight};
 ghost use Rattle.pict_outside.specs.Counts.{Rose};
-ghost use Rattle.pict_front.specs.Answers.{IsPlaced, MissedInFront, fronted, gives_front};
+ghost use Rattle.pict_front.specs.Answers.{RefusalStandsIn, MissedInFront, fronted, gives_front};
 ghost use Rattle.pict_front.specs.Front.{IsFront};
 ghost use Rattle.pict_gather.specs.Entry.{lent};
 ghost use Rattle.pict_report.specs.Reports.{AreShort};
@@ -54,7 +54,7 @@ pub fn phases<S: Shelf>(
 ) -> Result<Front, FrontError>
     requires empty { sources.old.list.items ≡ [] }
     ensures answer { IfSome (fronted result sources.new) (IsFront (gives_front result (S.held shelf.old)) (prelude_for bare) file.now) }
-    ensures placed { IfErr result (IsPlaced sources.new.list.items) }
+    ensures placed { IfErr result (RefusalStandsIn sources.new.list.items) }
     ensures missed { result ≡ Err FrontError.Missing → Rose (S.misses shelf.old) (S.misses shelf.new) }
     ensures failed { result ≡ Err FrontError.Failed → Rose (S.faults shelf.old) (S.faults shelf.new) }
     ensures absent { IfErr result (MissedInFront (S.misses shelf.old) (S.misses shelf.new)) }

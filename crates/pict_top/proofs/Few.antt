@@ -12,7 +12,7 @@ use Rattle.pict_syntax.specs.declared.tree.Import.{Import}
 use Rattle.pict_syntax.specs.Names.{with_name, with_names}
 use Rattle.pict_syntax.specs.Trees.{Decs}
 use Rattle.pict_syntax.specs.Tokens.{Form, identifier, symbol, keyword, number, character, string, sign, symbol_text, IsWord, Spells}
-use Rattle.pict_syntax.specs.Cuts.{Piece, blank, comment, token, joined, ArePieces, IsWholeCut, named_by, named}
+use Rattle.pict_syntax.specs.Cuts.{Piece, blank, comment, token, joined_pieces, ArePieces, IsWholeCut, named_by, named}
 use Rattle.pict_outside.specs.Texts.{Texts}
 use Rattle.pict_gather.specs.Phases.{Phase, accepts, refuses}
 use Rattle.pict_gather.specs.Sources.{bytes_in, visited}
@@ -57,21 +57,21 @@ named_short bytes (character c) h = omega arith
 named_short bytes (string cs) h = omega arith
 named_short bytes (sign s) h = omega arith
 
-named_few : (pieces : List Piece) (rest : List ℕ) → ArePieces pieces rest → length (named pieces) ≤ length (joined pieces)
+named_few : (pieces : List Piece) (rest : List ℕ) → ArePieces pieces rest → length (named pieces) ≤ length (joined_pieces pieces)
 named_few [] rest h = omega arith
 named_few (blank byte ∷ pieces) rest h = let r = named_few pieces rest h.1 in omega (arith, r)
-named_few (comment bytes ∷ pieces) rest h = let r = named_few pieces rest h.1 in let e = length-append bytes (joined pieces) in omega (arith, r, e)
+named_few (comment bytes ∷ pieces) rest h = let r = named_few pieces rest h.1 in let e = length-append bytes (joined_pieces pieces) in omega (arith, r, e)
 named_few (token bytes form ∷ pieces) rest h =
     let r = named_few pieces rest h.1 in
     let s = named_short bytes form h.0.0 in
-    let e = length-append bytes (joined pieces) in
+    let e = length-append bytes (joined_pieces pieces) in
     let f = length-append (named_by form) (named pieces) in
     omega (arith, r, s, e, f)
 
 whole_few : (t : List ℕ) (pieces : List Piece) → IsWholeCut t pieces → length (named pieces) ≤ length t
 whole_few t pieces c =
     let r = named_few pieces [] c.each in
-    let e = length-append (joined pieces) [] in
+    let e = length-append (joined_pieces pieces) [] in
     let w = ap length c.whole in
     omega (arith, r, e, w)
 

@@ -67,7 +67,7 @@ pub fn run_core<O: Sink>(
         Ok(machine) => machine,
         Err(AllocError) => return Err(Broken::Memory),
     };
-    match run_on(alloc, form, names, &mut machine, fuel, out) {
+    match watch(alloc, form, names, &mut machine, fuel, out) {
         Ok(end) => Ok(finish_of(end)),
         Err(RunError::Sink) => Err(Broken::Sink),
         Err(RunError::Memory) => Err(Broken::Memory),
@@ -75,7 +75,7 @@ pub fn run_core<O: Sink>(
 }
 
 /// Runs a machine, and writes what its steps show.
-fn run_on<O: Sink>(
+fn watch<O: Sink>(
     alloc: Global,
     form: Form,
     names: &Names,

@@ -58,11 +58,11 @@ pub fn pict<S: Shelf, O: Sink, E: Sink>(
     ensures counts { (S.faults shelf.old ≤ S.faults shelf.new) × (S.misses shelf.old ≤ S.misses shelf.new)
         × (O.faults out.old ≤ O.faults out.new) × (E.faults err.old ≤ E.faults err.new) }
 {
-    run_words(alloc, words, shelf, out, err)
+    do_words(alloc, words, shelf, out, err)
 }
 
 /// Does what the words ask for.
-fn run_words<S: Shelf, O: Sink, E: Sink>(
+fn do_words<S: Shelf, O: Sink, E: Sink>(
     alloc: Global,
     words: &[&str],
     shelf: &mut S,
@@ -82,12 +82,12 @@ fn run_words<S: Shelf, O: Sink, E: Sink>(
 {
     match words_of(words) {
         Err(Usage) => tell(report::USAGE, Status::Usage, err),
-        Ok(command) => run_command(alloc, command, shelf, out, err),
+        Ok(command) => do_command(alloc, command, shelf, out, err),
     }
 }
 
 /// Does what a command does, with an object, or with a text.
-fn run_command<S: Shelf, O: Sink, E: Sink>(
+fn do_command<S: Shelf, O: Sink, E: Sink>(
     alloc: Global,
     command: Command<'_>,
     shelf: &mut S,
@@ -109,12 +109,12 @@ fn run_command<S: Shelf, O: Sink, E: Sink>(
 {
     match object_of(command) {
         Some((object, fuel)) => execute_object(alloc, object, fuel, shelf, out, err),
-        None => run_text(alloc, command, shelf, out, err),
+        None => do_text(alloc, command, shelf, out, err),
     }
 }
 
 /// Does what a command does, with its own text or with a file.
-fn run_text<S: Shelf, O: Sink, E: Sink>(
+fn do_text<S: Shelf, O: Sink, E: Sink>(
     alloc: Global,
     command: Command<'_>,
     shelf: &mut S,
@@ -137,13 +137,13 @@ fn run_text<S: Shelf, O: Sink, E: Sink>(
 {
     match own_text(alloc, command) {
         Err(AllocError) => Status::Memory,
-        Ok(Some(text)) => run_own(alloc, command, text, out, err),
-        Ok(None) => run_file(alloc, command, 0, shelf, out, err),
+        Ok(Some(text)) => do_own(alloc, command, text, out, err),
+        Ok(None) => do_file(alloc, command, 0, shelf, out, err),
     }
 }
 
 /// Does with a command's own text what the command does.
-fn run_own<O: Sink, E: Sink>(
+fn do_own<O: Sink, E: Sink>(
     alloc: Global,
     command: Command<'_>,
     text: Vec<u8>,
@@ -162,12 +162,12 @@ fn run_own<O: Sink, E: Sink>(
     let own = text.len() as u64;
     match OneShelf::new(alloc, name_of(command), text) {
         Err(AllocError) => Status::Memory,
-        Ok(mut shelf) => run_file(alloc, command, own, &mut shelf, out, err),
+        Ok(mut shelf) => do_file(alloc, command, own, &mut shelf, out, err),
     }
 }
 
 /// Does with a file of this shelf, and with the texts that it reaches, what a command does.
-fn run_file<S: Shelf, O: Sink, E: Sink>(
+fn do_file<S: Shelf, O: Sink, E: Sink>(
     alloc: Global,
     command: Command<'_>,
     own: u64,
@@ -249,12 +249,12 @@ fn work_with<O: Sink, E: Sink>(
     if builds(command) {
         build_object(alloc, sources, front, out, err)
     } else {
-        run_ready(alloc, command, own, sources, front, out, err)
+        do_ready(alloc, command, own, sources, front, out, err)
     }
 }
 
 /// Does with an accepted program the work of a command.
-fn run_ready<O: Sink, E: Sink>(
+fn do_ready<O: Sink, E: Sink>(
     alloc: Global,
     command: Command<'_>,
     own: u64,

@@ -7,7 +7,7 @@ use Rattle.pict_syntax.specs.declared.code.Code.{Code}
 use Rattle.pict_syntax.specs.declared.code.Code.TheVariants.{L5}
 use Rattle.pict_syntax.specs.declared.span.Span.{Span}
 use Rattle.pict_syntax.specs.Comments.{BeginsWith, opening, closing, inside_bytes, IsComment}
-use Rattle.pict_syntax.specs.Cuts.{Piece, blank, comment, token, piece_bytes, IsBlank, IsPiece, joined, IsCut, IsWholeCut, Stops, extent, IsLexStop}
+use Rattle.pict_syntax.specs.Cuts.{Piece, blank, comment, token, piece_bytes, IsBlank, IsPiece, joined_pieces, IsCut, IsWholeCut, Stops, extent, IsLexStop}
 use Rattle.pict_syntax.proofs.CommentLemmas.{behind, behind_comment, comment_found}
 use Rattle.pict_syntax.proofs.FormLemmas.{never_empty}
 use Rattle.pict_syntax.proofs.CutLemmas.{piece, stop}
@@ -114,7 +114,7 @@ data Reads (bytes : List ℕ) : Type 0 where
 
 cut_more : (bytes : List ℕ) (p : Piece) (after : List ℕ) (pieces : List Piece) (rest : List ℕ) → bytes ≡ piece_bytes p ++ after → IsPiece p after → IsCut after pieces rest → IsCut bytes (p ∷ pieces) rest
 cut_more bytes p after pieces rest e is cut = record {
-  whole = e ∙ ap (λ t. piece_bytes p ++ t) cut.whole ∙ sym (append_assoc (piece_bytes p) (joined pieces) rest);
+  whole = e ∙ ap (λ t. piece_bytes p ++ t) cut.whole ∙ sym (append_assoc (piece_bytes p) (joined_pieces pieces) rest);
   each = (subst (IsPiece p) cut.whole is, cut.each);
 }
 
@@ -139,6 +139,6 @@ some_whole_cut text bytes = by (reads (length bytes) bytes (omega arith))
     by (whole pieces is) = inl (pieces, is)
     by (part pieces rest code at cut stops) = inr (
       code,
-      record { text = text; start = length (joined pieces) + at; end = length (joined pieces) + at + extent code },
+      record { text = text; start = length (joined_pieces pieces) + at; end = length (joined_pieces pieces) + at + extent code },
       record { pieces = pieces; rest = rest; read = cut; at = at; stops = stops; place = refl },
     )

@@ -10,7 +10,7 @@ use Rattle.pict_core.specs.Step.{Label, Quiet, Comm, Print}
 use Rattle.pict_show.specs.Values.{value_text, quoted}
 use Rattle.pict_trace.specs.Lines.{shown_text, line_text, lines_text}
 use Rattle.pict_trace.specs.Readable.{IsReadable, IsReadableLabel, BeginsWithLine, BeginsWithLines, IsFirstBad, labels_in_line, labels_in}
-use Rattle.pict_trace.specs.Reading.{is_end, EndsString, EndsNoString, Reads, BeginsNoValue, ReadsShown, BeginsNoShown, ReadsLine, Grows}
+use Rattle.pict_trace.specs.Reading.{is_end, EndsString, EndsNoString, Reads, BeginsNoValue, ReadsShown, BeginsNoShown, ReadsLine, NamesGrow}
 use Rattle.pict_trace.proofs.Growing.{same_names}
 use Rattle.pict_trace.proofs.Unique.{tail, first_of_bytes, is_solid, run_same, stops_solid, digits_all, digit_solid, numeral, number_unique, value_ends}
 use Rattle.pict_trace.proofs.Bares.{ends_drop, solid_taken}
@@ -198,10 +198,10 @@ all_lines names text rest lines x e = subst (BeginsWithLines names text lines) e
 -- ---- names
 
 -- the names stay while a number and its space are read, and what a step shows without a record
-pub number_grows : (text : List ℕ) (n : ℕ) (rest : List ℕ) (names : List (List ℕ)) → text ≡ decimal n ++ (32 ∷ rest) → Grows text names names rest
+pub number_grows : (text : List ℕ) (n : ℕ) (rest : List ℕ) (names : List (List ℕ)) → text ≡ decimal n ++ (32 ∷ rest) → NamesGrow text names names rest
 number_grows text n rest names e = same_names text rest (decimal n ++ 32 ∷ []) names (e ∙ sym (append_assoc (decimal n) (32 ∷ []) rest))
 
-pub shown_grows : (names : List (List ℕ)) (text all : List ℕ) (label : Label) (rest : List ℕ) → all ≡ text → ReadsShown names text label rest → Grows all names names rest
+pub shown_grows : (names : List (List ℕ)) (text all : List ℕ) (label : Label) (rest : List ℕ) → all ≡ text → ReadsShown names text label rest → NamesGrow all names names rest
 shown_grows names text all label rest e x = same_names all rest (shown_text names label ++ 10 ∷ []) names (e ∙ x.whole ∙ sym (append_assoc (shown_text names label) (10 ∷ []) rest))
 
 pub some_left : (r : List ℕ) → (length r == 0) ≡ false → r ≢ []

@@ -7,5 +7,5 @@ use Rattle.pict_trace.specs.declared.read.Fields.{Fields}
 abbrev pub positional_of : Fields → Vals
 positional_of fields = vals_of (map plain_val fields.positional.items)
 
-abbrev pub fields_of : Fields → Labelled
-fields_of fields = labelled_of (map plain_field fields.labelled.items)
+abbrev pub labelled_fields : Fields → Labelled
+labelled_fields fields = labelled_of (map plain_field fields.labelled.items)

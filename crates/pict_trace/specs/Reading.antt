@@ -130,7 +130,7 @@ pub record ReadsLine (names : List (List ℕ)) (text : List ℕ) (line : ℕ × 
 -- ---- names
 
 -- what the names become while the text is read up to `rest`
-pub record Grows (text : List ℕ) (old new : List (List ℕ)) (rest : List ℕ) : Type 0 where
+pub record NamesGrow (text : List ℕ) (old new : List (List ℕ)) (rest : List ℕ) : Type 0 where
   pub left : length new + length rest ≤ length old + length text
   pub kept : GainsLabels text old new
   pub front : List ℕ

@@ -5,7 +5,7 @@ ghost use Rattle.std.specs.Fmt.{decimal};
 ghost use Rattle.pict_syntax.specs.Names.{with_names};
 ghost use Rattle.pict_trace.specs.Readable.{IsLines, IsFirstBad, BeginsWithLine, BeginsWithLines, GainsLabels, labels_in_line, labels_in};
 ghost use Rattle.pict_trace.specs.Plain.{plain_line, plain_label};
-ghost use Rattle.pict_trace.specs.Reading.{is_end, EndsString, EndsNoString, ReadsShown, BeginsNoShown, ReadsLine, Grows};
+ghost use Rattle.pict_trace.specs.Reading.{is_end, EndsString, EndsNoString, ReadsShown, BeginsNoShown, ReadsLine, NamesGrow};
 
 use crate::bare::word_end;
 use crate::found::ReadError;
@@ -161,7 +161,7 @@ fn read_communication<'a>(
     ensures ok { IfOk result (λ r. ReadsShown names.new (99 ∷ text.now) (plain_label r.label) r.rest.now) }
     ensures bad { result ≡ Err ReadError.Bad → BeginsNoShown (99 ∷ text.now) }
     ensures gained { IfOk result (λ r. names.new ≡ with_names names.old (labels_in_line names.new (0, plain_label r.label))) }
-    ensures grows { IfOk result (λ r. Grows text.now names.old names.new r.rest.now) }
+    ensures grows { IfOk result (λ r. NamesGrow text.now names.old names.new r.rest.now) }
     ensures kept { GainsLabels text.now names.old names.new }
 {
     let number = number_before(text)?;
@@ -180,7 +180,7 @@ fn read_shown<'a>(alloc: Global, names: &mut Names, text: &'a [u8]) -> Result<Sh
     ensures ok { IfOk result (λ r. ReadsShown names.new text.now (plain_label r.label) r.rest.now) }
     ensures bad { result ≡ Err ReadError.Bad → BeginsNoShown text.now }
     ensures gained { IfOk result (λ r. names.new ≡ with_names names.old (labels_in_line names.new (0, plain_label r.label))) }
-    ensures grows { IfOk result (λ r. Grows text.now names.old names.new r.rest.now) }
+    ensures grows { IfOk result (λ r. NamesGrow text.now names.old names.new r.rest.now) }
     ensures kept { GainsLabels text.now names.old names.new }
 {
     if let Some(bytes) = behind(b"print \"", text) {
@@ -202,7 +202,7 @@ fn read_line<'a>(
     ensures ok { IfOk result (λ r. ReadsLine names.new text.now (plain_line r.line) r.rest.now) }
     ensures bad { result ≡ Err ReadError.Bad → (others : List (List ℕ)) → ¬ BeginsWithLine others text.now }
     ensures gained { IfOk result (λ r. names.new ≡ with_names names.old (labels_in_line names.new (plain_line r.line))) }
-    ensures grows { IfOk result (λ r. Grows text.now names.old names.new r.rest.now) }
+    ensures grows { IfOk result (λ r. NamesGrow text.now names.old names.new r.rest.now) }
     ensures kept { GainsLabels text.now names.old names.new }
 {
     let number = number_before(text)?;

@@ -5,8 +5,8 @@ ghost use Rattle.pict_syntax.specs.Names.{with_names};
 ghost use Rattle.pict_core.specs.Plain.{plain_val, plain_field, labelled_of};
 ghost use Rattle.pict_core.specs.Term.{Record};
 ghost use Rattle.pict_trace.specs.Readable.{labels_of, labels_of_labelled, GainsLabels};
-ghost use Rattle.pict_trace.specs.Found.{positional_of, fields_of};
-ghost use Rattle.pict_trace.specs.Reading.{Ends, Reads, BeginsNoValue, ReadsFields, BeginsNoFields, BeginsNoLabelled, ReadsLabelled, Grows};
+ghost use Rattle.pict_trace.specs.Found.{positional_of, labelled_fields};
+ghost use Rattle.pict_trace.specs.Reading.{Ends, Reads, BeginsNoValue, ReadsFields, BeginsNoFields, BeginsNoLabelled, ReadsLabelled, NamesGrow};
 
 use crate::bare::read_bare;
 use crate::found::{Found, ReadError};
@@ -43,7 +43,7 @@ pub(crate) fn read_value<'a>(
     ensures ok { IfOk result (λ r. Reads names.new depth text.now (plain_val r.value) r.rest.now) }
     ensures bad { result ≡ Err ReadError.Bad → BeginsNoValue depth text.now }
     ensures gained { IfOk result (λ r. names.new ≡ with_names names.old (labels_of names.new (plain_val r.value))) }
-    ensures grows { IfOk result (λ r. Grows text.now names.old names.new r.rest.now) }
+    ensures grows { IfOk result (λ r. NamesGrow text.now names.old names.new r.rest.now) }
     ensures kept { GainsLabels text.now names.old names.new }
 {
     match behind(b"[", text) {
@@ -75,10 +75,10 @@ fn read_fields<'a>(
     depth: u32,
 ) -> Result<Fields<'a>, ReadError>
     requires room { length names.old + length text.now < 2 ^ 32 }
-    ensures ok { IfOk result (λ r. ReadsFields names.new depth text.now (positional_of r) (fields_of r) r.rest.now) }
+    ensures ok { IfOk result (λ r. ReadsFields names.new depth text.now (positional_of r) (labelled_fields r) r.rest.now) }
     ensures bad { result ≡ Err ReadError.Bad → BeginsNoFields depth text.now }
-    ensures gained { IfOk result (λ r. names.new ≡ with_names names.old (labels_of names.new (Record (positional_of r) (fields_of r)))) }
-    ensures grows { IfOk result (λ r. Grows text.now names.old names.new r.rest.now) }
+    ensures gained { IfOk result (λ r. names.new ≡ with_names names.old (labels_of names.new (Record (positional_of r) (labelled_fields r)))) }
+    ensures grows { IfOk result (λ r. NamesGrow text.now names.old names.new r.rest.now) }
     ensures kept { GainsLabels text.now names.old names.new }
 {
     if let Some(rest) = behind(b"]", text) {
@@ -126,7 +126,7 @@ fn read_labelled<'a>(
     ensures ok { IfOk result (λ r. ReadsLabelled names.new depth [] text.now (labelled_of (map plain_field r.0.items)) r.1.now) }
     ensures bad { result ≡ Err ReadError.Bad → BeginsNoLabelled depth text.now }
     ensures gained { IfOk result (λ r. names.new ≡ with_names names.old (labels_of_labelled names.new (labelled_of (map plain_field r.0.items)))) }
-    ensures grows { IfOk result (λ r. Grows text.now names.old names.new r.1.now) }
+    ensures grows { IfOk result (λ r. NamesGrow text.now names.old names.new r.1.now) }
     ensures kept { GainsLabels text.now names.old names.new }
 {
     let mut labelled = Vec::new(alloc);
@@ -149,7 +149,7 @@ fn read_labelled<'a>(
 
 // The record of these fields, where what is behind its end may stand there.
 fn finish<'a>(fields: Fields<'a>) -> Result<Found<'a>, ReadError>
-    ensures value { IfOk result (λ r. plain_val r.value ≡ Record (positional_of fields.entry) (fields_of fields.entry)) }
+    ensures value { IfOk result (λ r. plain_val r.value ≡ Record (positional_of fields.entry) (labelled_fields fields.entry)) }
     ensures rest { IfOk result (λ r. r.rest.now ≡ fields.entry.rest.now) }
     ensures ends { IfOk result (λ r. Ends fields.entry.rest.now) }
     ensures bad { result ≡ Err ReadError.Bad → ¬ Ends fields.entry.rest.now }

@@ -14,7 +14,7 @@ use Rattle.pict_scope.specs.PrimitiveNames.{primitive_named}
 use Rattle.pict_translation.specs.Placed.{Placed, inert, new_channels, side_by_side, served, variables}
 use Rattle.pict_translation.specs.Arguments.{Argument, with_value, sent_as_one, application, right, left_after, left, labelled_of}
 use Rattle.pict_translation.specs.Patterns.{Opened, answer, patterns_in, labelled_patterns_in, opened, all_opened, labelled_opened, pat_core, function_pat, pat_names, names_before, names_after}
-use Rattle.pict_translation.specs.Simple.{Around, value_at, binding, bound, pat_bound, function_bound, answer_channel, or_primitive, use_of, nothing, fields_of, one_more, simple, simple_chan, simple_fields, simple_vals, simple_labelled}
+use Rattle.pict_translation.specs.Simple.{Around, value_at, binding, bound, pat_bound, function_bound, answer_channel, or_primitive, use_of, nothing, record_of_fields, one_more, simple, simple_chan, simple_fields, simple_vals, simple_labelled}
 use Rattle.pict_translation.specs.Translation.{definition_names, sending, sending_chan, decs_core, dec_core, proc_core, procs_core, reader, with_fields, arguments, with_vals, with_labelled, servers}
 use Rattle.pict_syntax.specs.Nesting.{val_nest, chan_nest, vals_nest, field_vals_nest, labelled_vals_nest, pat_nest, pats_nest, labelled_pats_nest, field_pats_nest, annotation_nest, arguments_nest, binders_nest, abs_nest, dec_nest, decs_nest, definitions_nest, proc_nest, procs_nest}
 use Rattle.pict_translation.specs.Within.{Within, AreWithin, LabelledWithin, PatWithin, PatsWithin, LabelledPatsWithin, Nests, TranslationNests}
@@ -109,7 +109,7 @@ labels_within : (b : ℕ) (fs : List (ℕ × Val)) → AllByRecursion (FieldWith
 labels_within b [] h = tt
 labels_within b (f ∷ fs) h = (h.0, labels_within b fs h.1)
 
-record_within : (b : ℕ) (e : Around) (vs : List Val) (fs : List (ℕ × Val)) → AllByRecursion (Within b) vs → AllByRecursion (FieldWithin b) fs → Within (suc b) (fields_of e vs fs)
+record_within : (b : ℕ) (e : Around) (vs : List Val) (fs : List (ℕ × Val)) → AllByRecursion (Within b) vs → AllByRecursion (FieldWithin b) fs → Within (suc b) (record_of_fields e vs fs)
 record_within b e vs fs h k = (vals_within b vs h, labels_within b (in_label_order e.names fs) (in_order_fits (FieldWithin b) e.names fs k))
 
 -- ---- what is bound is flat
@@ -195,7 +195,7 @@ labelled_some_more b (Some fs) l (Some v) o one = fit_append (FieldWithin b) fs 
 labelled_some_more b (Some fs) l None o one = tt
 labelled_some_more b None l v o one = tt
 
-record_some : (b : ℕ) (e : Around) (vs : Option (List Val)) (fs : Option (List (ℕ × Val))) → AllSome b vs → LabelledSome b fs → SomeWithin (suc b) (option_and_then (λ us. option_map (fields_of e us) fs) vs)
+record_some : (b : ℕ) (e : Around) (vs : Option (List Val)) (fs : Option (List (ℕ × Val))) → AllSome b vs → LabelledSome b fs → SomeWithin (suc b) (option_and_then (λ us. option_map (record_of_fields e us) fs) vs)
 record_some b e (Some vs) (Some fs) o p = record_within b e vs fs o p
 record_some b e (Some vs) None o p = tt
 record_some b e None fs o p = tt
@@ -405,7 +405,7 @@ module _ (L : ℕ) where
       val_nests d e (true_val s) t o k ok m = (flat_L k ok, tt)
       val_nests d e (false_val s) t o k ok m = (flat_L k ok, tt)
       val_nests d e (fields_val s f) t o k ok m =
-          fields_nest (suc d) e f (front (field_vals_nest (suc d) f) (suc d ∷ []) t.1) o _ (λ us ws a b m2. (flat_L k ok, record_L d (fields_of e us ws) t.0 (record_within (L - suc d) e us ws a b))) m
+          fields_nest (suc d) e f (front (field_vals_nest (suc d) f) (suc d ∷ []) t.1) o _ (λ us ws a b m2. (flat_L k ok, record_L d (record_of_fields e us ws) t.0 (record_within (L - suc d) e us ws a b))) m
       val_nests d e (if_val s c v w) t o k ok m =
           let r1 = back (val_nest (suc d) c) (suc d ∷ (val_nest (suc d) v ++ (suc d ∷ val_nest (suc d) w))) t.1 in
           let r2 = back (val_nest (suc d) v) (suc d ∷ val_nest (suc d) w) r1.1 in
@@ -427,7 +427,7 @@ module _ (L : ℕ) where
           let tf = front (val_nest (suc d) f) (field_vals_nest (suc d) a ++ suc d ∷ []) t.1 in
           let ta = front (field_vals_nest (suc d) a) (suc d ∷ []) (back (val_nest (suc d) f) (field_vals_nest (suc d) a ++ suc d ∷ []) t.1) in
           with_at (L - suc d) (simple e f) (sending e f) _ (simple_within (suc d) e f o tf) (val_nests (suc d) e f tf o)
-          (λ g og m2. fields_nest (suc d) e a ta o _ (λ us ws p q m3. (all_L (suc d) g og, record_L d (fields_of e (us ++ k ∷ []) ws) t.0 (record_within (L - suc d) e (us ++ k ∷ []) ws (fit_append (Within (L - suc d)) us (k ∷ []) p (flat_within (L - suc d) k ok, tt)) q))) m2) m
+          (λ g og m2. fields_nest (suc d) e a ta o _ (λ us ws p q m3. (all_L (suc d) g og, record_L d (record_of_fields e (us ++ k ∷ []) ws) t.0 (record_within (L - suc d) e (us ++ k ∷ []) ws (fit_append (Within (L - suc d)) us (k ∷ []) p (flat_within (L - suc d) k ok, tt)) q))) m2) m
       chan_nests d e (right_chan s f vs) t o k ok m =
           (right_nests (L - suc d) (use_of e f.name.0) s (arguments e vs) (omega (arith, t.0)) (use_flat e f.name.0 o) (arguments_nests (suc d) e vs (front (vals_nest (suc d) vs) (suc d ∷ []) t.1.1.1) o)).sends k ok m
       chan_nests d e (left_chan s f vs) t o k ok m =

@@ -54,8 +54,8 @@ abbrev pub use_of : Around → ℕ → core.Val
 use_of e n = or_primitive (text_of e.names n) (value_at e.values n)
 
 -- a record of these fields, its labels in the order of their bytes
-abbrev pub fields_of : Around → List core.Val → List (ℕ × core.Val) → core.Val
-fields_of e vs ls = core.Record (vals_of vs) (labelled_of (in_label_order e.names ls))
+abbrev pub record_of_fields : Around → List core.Val → List (ℕ × core.Val) → core.Val
+record_of_fields e vs ls = core.Record (vals_of vs) (labelled_of (in_label_order e.names ls))
 
 -- one more at the end, where all are there
 abbrev pub one_more : {A : Type 0} → Option (List A) → Option A → Option (List A)
@@ -78,7 +78,7 @@ unfoldable mutual
   simple_chan e _ = None
 
   pub simple_fields : Around → FieldVals → Option core.Val
-  simple_fields e (field_vals ts vs ls) = option_and_then (λ us. option_map (fields_of e us) (simple_labelled e ls)) (simple_vals e vs)
+  simple_fields e (field_vals ts vs ls) = option_and_then (λ us. option_map (record_of_fields e us) (simple_labelled e ls)) (simple_vals e vs)
 
   pub simple_vals : Around → Vals → Option (List core.Val)
   simple_vals e no_vals = Some []

@@ -36,11 +36,11 @@ use Rattle.pict_desk.proofs.MakingRoom.{value_kept}
 use Rattle.pict_turns.proofs.Rows.{channels_stay}
 use Rattle.pict_turns.proofs.Taking.{some_acts}
 use Rattle.pict_turns.proofs.Turns.{words_nobody, ready_nobody, ready_is as words_ready, view_nobody, view_is, same_words, acts_node, acts_wide, node_inside, wide_inside, node_width, wide_width}
-use Rattle.pict_turns.specs.Packed.{label_packed, trap_packed}
+use Rattle.pict_turns.specs.Shown.{label_shown, trap_shown}
 use Rattle.pict_turns.specs.Needs.{turn_widths}
 use Rattle.pict_turns.specs.Stepping.{GivesTurn, Acts, MayAct}
-use Rattle.pict_turns.specs.declared.event.PackedEvent.{PackedEvent}
-use Rattle.pict_turns.specs.declared.event.PackedEvent.TheVariants as packed
+use Rattle.pict_turns.specs.declared.event.Shown.{Shown}
+use Rattle.pict_turns.specs.declared.event.Shown.TheVariants as shows
 
 -- ---- somebody has the turn
 
@@ -166,17 +166,17 @@ module _ (core : Process) (s taken : Store) (given : GivesTurn core s taken) whe
       stopped : (at : Span) → next_view (view_with_turn core taken) ≡ Stops at → next C ≡ Traps at
       stopped at e = subst (Simulates (view_with_turn core s) (next C)) (ap next_view (sym (given_view core s taken given)) ∙ e) (views_step (view_with_turn core s) C held is stands)
 
-      pub step_of : (e : PackedEvent) → Acts core taken new e → IsStepOf C (label_packed new.desk.heap e) (trap_packed e) (view_with_turn core new)
-      step_of packed.Quiet a = (moved _ a.done).0
-      step_of (packed.Comm channel word) a = (moved _ a.done).0
-      step_of (packed.Print word) a = (moved _ a.done).0
-      step_of (packed.Trapped at) a = (stopped at a.0, subst (λ v. StandsFor v C) (sym (refused_view a.1)) stands)
+      pub step_of : (e : Shown) → Acts core taken new e → IsStepOf C (label_shown new.desk.heap e) (trap_shown e) (view_with_turn core new)
+      step_of shows.Quiet a = (moved _ a.done).0
+      step_of (shows.Comm channel word) a = (moved _ a.done).0
+      step_of (shows.Print word) a = (moved _ a.done).0
+      step_of (shows.Trapped at) a = (stopped at a.0, subst (λ v. StandsFor v C) (sym (refused_view a.1)) stands)
 
-      pub apart_after : (e : PackedEvent) → Acts core taken new e → KeepsApart (view_with_turn core new)
-      apart_after packed.Quiet a = (moved _ a.done).1
-      apart_after (packed.Comm channel word) a = (moved _ a.done).1
-      apart_after (packed.Print word) a = (moved _ a.done).1
-      apart_after (packed.Trapped at) a = subst KeepsApart (sym (refused_view a.1)) held
+      pub apart_after : (e : Shown) → Acts core taken new e → KeepsApart (view_with_turn core new)
+      apart_after shows.Quiet a = (moved _ a.done).1
+      apart_after (shows.Comm channel word) a = (moved _ a.done).1
+      apart_after (shows.Print word) a = (moved _ a.done).1
+      apart_after (shows.Trapped at) a = subst KeepsApart (sym (refused_view a.1)) held
 
 -- who has the turn may act
 pub may_act : (code : List Node) (s taken : Store) → GivesTurn (core_in code) s taken → IsCode (map plain_node code) → IsQueue s.queues 0 → KeepsApart (view_with_turn (core_in code) s)

@@ -35,7 +35,7 @@ use Rattle.pict_turns.specs.declared.turn.Turn.TheVariants.{Nobody}
 use Rattle.pict_turns.proofs.Adding.{used_less, used_same, part_need_is}
 use Rattle.pict_turns.proofs.Numbered.{test_boolean}
 use Rattle.pict_turns.proofs.Turns.{words_nobody, ready_nobody, ready_is}
-use Rattle.pict_turns.specs.Plain.{IsPlainInput, NeedsNoWord, HasWord, HasPlainRoom, ActsPlainly, MeetsPlainly}
+use Rattle.pict_turns.specs.Plain.{IsPlainInput, NeedsNoWord, HasWord, HasPlainRoom, ActsInPlace, MeetsInPlace}
 use Rattle.pict_turns.specs.Stepping.{GivesTurn}
 use Rattle.pict_turns.proofs.Needing.{block_process, choice_process}
 
@@ -287,10 +287,10 @@ module _ (core : Process) (s : Store) where
   narrow_part : (part : ℕ) (acting waiting : List ℕ) → HasPlainRoom core s part acting waiting → part_need (nodes_of core) part ≡ no_need
   narrow_part part acting waiting room = part_need_is (nodes_of core) part room.frame room.has ∙ need_narrow room.frame room.narrow
 
-  served_plainly : (waiting : List ℕ) (others : List (List ℕ)) (part : ℕ) → IsPlainInput (nodes_of core) waiting part → served_need (nodes_of core) (waiting ∷ others) ≡ part_need (nodes_of core) part
-  served_plainly [] others part i = let e = i.is in cc
-  served_plainly (zero ∷ held) others part i = let e = i.is in cc
-  served_plainly (suc number ∷ held) others part i = found (input_need (nodes_of core)) (slice_get (nodes_of core) number) (op.In i.chan i.pattern part) i.is
+  served_in_place : (waiting : List ℕ) (others : List (List ℕ)) (part : ℕ) → IsPlainInput (nodes_of core) waiting part → served_need (nodes_of core) (waiting ∷ others) ≡ part_need (nodes_of core) part
+  served_in_place [] others part i = let e = i.is in cc
+  served_in_place (zero ∷ held) others part i = let e = i.is in cc
+  served_in_place (suc number ∷ held) others part i = found (input_need (nodes_of core)) (slice_get (nodes_of core) number) (op.In i.chan i.pattern part) i.is
 
   wordless : (words : List ℕ) (p : Process) (c : ℕ) (v : Val) (at : Span) → HasWord (nodes_of core) words → p ≡ term.Out (Chan c) v at
       → block_need (nodes_of core) s.queues words p ≡ both_needs no_need (served_need (nodes_of core) (contents s.queues (c + 1)))
@@ -302,21 +302,21 @@ module _ (core : Process) (s : Store) where
       ∙ ap (output_need (nodes_of core) s.queues (message_need out.message) (given_need out.message)) is
       ∙ ap (λ (n : Need). both_needs n (served_need (nodes_of core) (contents s.queues (c + 1)))) (plain_message out.message out.needs_none)
 
-  received_plainly : (acting : List ℕ) (part c : ℕ) (p : Process) (form : Pat) (body : Process) → IsPlainInput (nodes_of core) acting part → p ≡ term.In (Chan c) false form body
+  received_so : (acting : List ℕ) (part c : ℕ) (p : Process) (form : Pat) (body : Process) → IsPlainInput (nodes_of core) acting part → p ≡ term.In (Chan c) false form body
       → block_need (nodes_of core) s.queues acting p ≡ taken_need (nodes_of core) part (contents s.queues (c + 1))
-  received_plainly [] part c p form body i is = let e = i.is in cc
-  received_plainly (zero ∷ held) part c p form body i is = let e = i.is in cc
-  received_plainly (suc number ∷ held) part c p form body i is =
+  received_so [] part c p form body i is = let e = i.is in cc
+  received_so (zero ∷ held) part c p form body i is = let e = i.is in cc
+  received_so (suc number ∷ held) part c p form body i is =
       found (λ o. node_need (nodes_of core) s.queues o p) (slice_get (nodes_of core) number) (op.In i.chan i.pattern part) i.is ∙ ap (receipt_need (nodes_of core) s.queues part) is
 
-  acts_plainly : (acting : List ℕ) → ActsPlainly core s acting → words_need core s acting ≡ no_need
-  acts_plainly acting (inl x) =
+  acts_in_place : (acting : List ℕ) → ActsInPlace core s acting → words_need core s acting ≡ no_need
+  acts_in_place acting (inl x) =
       wordless acting (process_of core (value_in s.desk.heap) acting) x.channel x.message x.at x.word x.out
       ∙ ap (λ (ws : List (List ℕ)). both_needs no_need (served_need (nodes_of core) ws)) x.waits
-      ∙ ap (both_needs no_need) (served_plainly x.waiting x.others x.part x.input ∙ narrow_part x.part acting x.waiting x.room)
-  acts_plainly acting (inr x) =
-      received_plainly acting x.part x.channel (process_of core (value_in s.desk.heap) acting) x.pattern x.body x.input x.receives
+      ∙ ap (both_needs no_need) (served_in_place x.waiting x.others x.part x.input ∙ narrow_part x.part acting x.waiting x.room)
+  acts_in_place acting (inr x) =
+      received_so acting x.part x.channel (process_of core (value_in s.desk.heap) acting) x.pattern x.body x.input x.receives
       ∙ ap (taken_need (nodes_of core) x.part) x.waits ∙ narrow_part x.part acting (zero ∷ x.held) x.room
 
-  pub plain_need : MeetsPlainly core s → heap_need core s ≡ no_need
-  plain_need m = ap (first_need core s) m.first ∙ acts_plainly m.acting m.plainly
+  pub plain_need : MeetsInPlace core s → heap_need core s ≡ no_need
+  plain_need m = ap (first_need core s) m.first ∙ acts_in_place m.acting m.plainly

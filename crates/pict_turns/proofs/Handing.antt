@@ -6,13 +6,13 @@ use Rattle.std.specs.List.{AllByRecursion}
 use Rattle.pict_syntax.specs.declared.limits.TheConstants.{NARROW_LIMIT}
 use Rattle.pict_core.specs.Term.{Process}
 use Rattle.pict_code.specs.Nodes.{nodes_of}
-use Rattle.pict_blocks.specs.Framed.{frame_words, node_words}
+use Rattle.pict_blocks.specs.Framed.{gathered, node_words}
 use Rattle.pict_heap.specs.HeapState.{HeapState, KeepsWords}
 use Rattle.pict_region.specs.RegionState.{RegionState, spare}
 use Rattle.pict_queue.specs.QueuesState.{QueuesState, IsHeld}
 use Rattle.pict_queue.specs.Contents.{contents, KeepsOtherContents, HoldsNoMore}
 use Rattle.pict_prim.specs.Acts.{UsesNeed}
-use Rattle.pict_desk.specs.Known.{value_in, fields_of, known}
+use Rattle.pict_desk.specs.Known.{value_in, value_fields, known}
 use Rattle.pict_desk.specs.declared.pending.Pending.{Pending}
 use Rattle.pict_desk.specs.Needs.{record_need, KeepsPending}
 use Rattle.pict_desk.specs.Pairs.{IsPair, ArePairs}
@@ -42,7 +42,7 @@ use Rattle.pict_turns.proofs.Turns.{frame_is, words_nobody, ready_nobody, nobody
 pub hands_narrow : (core : Process) (s : Store) (number : ℕ) (frame : List ℕ) → HasFrame (nodes_of core) number frame → ArePairs s.desk.heap s.desk.values.items → length frame ≤ NARROW_LIMIT
     → HandsOn core s (record s { turn = NodeTurn number }) number frame
 hands_narrow core s number frame f pairs few = record {
-  held = frame_words s.desk.values.items frame;
+  held = gathered s.desk.values.items frame;
   holds = narrow_holds s.desk.heap s.desk.values.items frame pairs few;
   turn = ap (λ (ls : List ℕ). node_words s.desk.values.items number ls ∷ []) (frame_is core number f.node f.at ∙ f.is);
   is = record { node = f.node; at = f.at; narrow = subst (λ (ls : List ℕ). length ls ≤ NARROW_LIMIT) (sym f.is) few };
@@ -55,7 +55,7 @@ hands_narrow core s number frame f pairs few = record {
 
 -- one of a larger frame, of which a record was made
 pub hands_wide : (core : Process) (s : Store) (heap : HeapState) (pending : Pending) (pair : ℕ × ℕ) (number : ℕ) (frame : List ℕ) → HasFrame (nodes_of core) number frame
-    → ArePairs s.desk.heap s.desk.values.items → NARROW_LIMIT < length frame → length frame < 2 ^ 32 → IsPair heap pair → fields_of (value_in heap pair.0 pair.1) ≡ map (known s.desk.heap s.desk.values.items) frame
+    → ArePairs s.desk.heap s.desk.values.items → NARROW_LIMIT < length frame → length frame < 2 ^ 32 → IsPair heap pair → value_fields (value_in heap pair.0 pair.1) ≡ map (known s.desk.heap s.desk.values.items) frame
     → KeepsWords s.desk.heap heap → UsesNeed s.desk.heap.room heap.room (record_need (length frame)) → KeepsPending s.desk.pending pending
     → HandsOn core s (record s { desk = record s.desk { heap = heap; pending = pending }; turn = Wide number pair }) number frame
 hands_wide core s heap pending pair number frame f pairs many countable is fields keeps used kept =

@@ -19,6 +19,6 @@ pub mod Costing
 pub mod Working
 pub mod Needing
 pub mod Growing
-pub mod Plainly
+pub mod InPlace
 pub mod Outputs
 mod Whole

@@ -22,8 +22,8 @@ use Rattle.pict_turns.specs.declared.store.Store.{Store}
 use Rattle.pict_turns.proofs.AfterReading.{reads_works, acting_read, view_read, done_read, refused_read, queues_read}
 use Rattle.pict_turns.proofs.Room.{acting_still, view_still}
 use Rattle.pict_turns.specs.Stepping.{MayAct, Acts, IsStepBy}
-use Rattle.pict_turns.specs.declared.event.PackedEvent.{PackedEvent}
-use Rattle.pict_turns.specs.declared.event.PackedEvent.TheVariants as packed
+use Rattle.pict_turns.specs.declared.event.Shown.{Shown}
+use Rattle.pict_turns.specs.declared.event.Shown.TheVariants as shows
 
 -- ---- queues work
 
@@ -50,20 +50,20 @@ module _ (code : List Node) (s : Store) (queues : QueuesState) (works : OnlyWork
     right = λ e. m.right (sym same_view ∙ e);
   }
 
-  acts_by_worked : (new : Store) (e : PackedEvent) → Acts (core_in code) worked new e → Acts (core_in code) s new e
-  acts_by_worked new packed.Quiet a = record { done = done_read s worked only_works (core_in code) refl new _ a.done; event = a.event }
-  acts_by_worked new (packed.Comm channel word) a = record { done = done_read s worked only_works (core_in code) refl new _ a.done; event = a.event }
-  acts_by_worked new (packed.Print word) a = record { done = done_read s worked only_works (core_in code) refl new _ a.done; event = a.event }
-  acts_by_worked new (packed.Trapped at) a = (sym same_view ∙ a.0, refused_read s worked only_works (core_in code) refl new a.1)
+  acts_by_worked : (new : Store) (e : Shown) → Acts (core_in code) worked new e → Acts (core_in code) s new e
+  acts_by_worked new shows.Quiet a = record { done = done_read s worked only_works (core_in code) refl new _ a.done; event = a.event }
+  acts_by_worked new (shows.Comm channel word) a = record { done = done_read s worked only_works (core_in code) refl new _ a.done; event = a.event }
+  acts_by_worked new (shows.Print word) a = record { done = done_read s worked only_works (core_in code) refl new _ a.done; event = a.event }
+  acts_by_worked new (shows.Trapped at) a = (sym same_view ∙ a.0, refused_read s worked only_works (core_in code) refl new a.1)
 
-  pub step_worked : (new : Store) (x : Result PackedEvent AllocError) → IsStepBy (core_in code) worked new x → IsStepBy (core_in code) s new x
+  pub step_worked : (new : Store) (x : Result Shown AllocError) → IsStepBy (core_in code) worked new x → IsStepBy (core_in code) s new x
   step_worked new (Ok e) a = acts_by_worked new e a
   step_worked new (Err e) a = refused_read s worked only_works (core_in code) refl new a
 
 -- ---- room
 
 -- where memory is wanting, the step isn't done
-pub refused_step : (core : Process) (old new : Store) (x : Result PackedEvent AllocError) (e : AllocError) → IsErrAnd x (λ y. y ≡ e) → IsRefused core old new → IsStepBy core old new x
+pub refused_step : (core : Process) (old new : Store) (x : Result Shown AllocError) (e : AllocError) → IsErrAnd x (λ y. y ≡ e) → IsRefused core old new → IsStepBy core old new x
 refused_step core old new (Ok v) e is refused = absurd is
 refused_step core old new (Err y) e is refused = refused
 

@@ -6,7 +6,7 @@ use Rattle.pict_syntax.specs.declared.limits.TheConstants.{NARROW_LIMIT}
 use Rattle.pict_core.specs.Term.{Process}
 use Rattle.pict_code.specs.Instruction.{Node}
 use Rattle.pict_code.specs.Nodes.{nodes_of}
-use Rattle.pict_blocks.specs.Framed.{frame_words, node_words}
+use Rattle.pict_blocks.specs.Framed.{gathered, node_words}
 use Rattle.pict_blocks.specs.Keeping.{kept_words}
 use Rattle.pict_blocks.specs.Writing.{IsMade, OnlyWorks}
 use Rattle.pict_desk.specs.declared.kept.Kept.{Kept}
@@ -15,7 +15,7 @@ use Rattle.pict_blocks.proofs.Held.{works_blocks}
 use Rattle.pict_blocks.proofs.Outputs.{word_behind}
 use Rattle.pict_heap.specs.HeapState.{HeapState}
 use Rattle.pict_region.specs.RegionState.{spare, words_of, width_of, KeepsBlocks, KeepsOtherWidths}
-use Rattle.pict_region.proofs.Pairs.{length_frame_words}
+use Rattle.pict_region.proofs.Pairs.{length_gathered}
 use Rattle.pict_queue.specs.QueuesState.{QueuesState, KeepsRest, CostsAtMost}
 use Rattle.pict_queue.specs.Contents.{held_words, contents, KeepsAllContents, KeepsOtherContents, HoldsOneMore, Releases}
 use Rattle.pict_blocks.specs.Blocks.{frame_values, IsNodeBlock}
@@ -58,7 +58,7 @@ node_read core s n number words frame x number_is f r =
             ∙ ap (map (known n.desk.heap n.desk.values.items)) (sym f.is);
       };
       same = λ few. words_are
-          ∙ ap (λ (us : List ℕ). suc number ∷ us) (sym held ∙ r.same (subst (λ (ls : List ℕ). length ls ≤ NARROW_LIMIT) f.is few) ∙ ap (frame_words n.desk.values.items) (sym f.is));
+          ∙ ap (λ (us : List ℕ). suc number ∷ us) (sym held ∙ r.same (subst (λ (ls : List ℕ). length ls ≤ NARROW_LIMIT) f.is few) ∙ ap (gathered n.desk.values.items) (sym f.is));
       rest = r.rest;
     }
 
@@ -138,7 +138,7 @@ pub record NodeFits (core : Process) (s : Store) (number : ℕ) (frame : List �
 pub node_fits : (core : Process) (s : Store) (a : HasActing core s) (number : ℕ) → s.turn ≡ NodeTurn number → (frame : List ℕ) → HasFrame (nodes_of core) number frame → NodeFits core s number frame
 node_fits core s a number e frame f =
     let words : acting_words core s ≡ node_words s.desk.values.items number frame = node_words_are core s a number e f.node f.at ∙ ap (node_words s.desk.values.items number) f.is in
-    let many = length_frame_words s.desk.values.items frame in
+    let many = length_gathered s.desk.values.items frame in
     let same = ap length words in
     record {
       narrow = subst (λ (ls : List ℕ). length ls ≤ NARROW_LIMIT) f.is (node_narrow core s a number e f.node f.at);

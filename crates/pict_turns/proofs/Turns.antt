@@ -6,12 +6,12 @@ use Rattle.pict_syntax.specs.declared.limits.TheConstants.{NARROW_LIMIT}
 use Rattle.pict_core.specs.Term.{Process}
 use Rattle.pict_code.specs.Instruction.{Node, Op}
 use Rattle.pict_code.specs.Nodes.{nodes_of}
-use Rattle.pict_blocks.specs.Framed.{frame_words, node_words}
+use Rattle.pict_blocks.specs.Framed.{gathered, node_words}
 use Rattle.pict_blocks.specs.Keeping.{kept_words}
 use Rattle.pict_desk.specs.declared.kept.Kept.{Kept}
 use Rattle.pict_heap.specs.HeapState.{HeapState}
 use Rattle.pict_region.specs.RegionState.{RegionState, spare}
-use Rattle.pict_region.proofs.Pairs.{length_frame_words}
+use Rattle.pict_region.proofs.Pairs.{length_gathered}
 use Rattle.pict_queue.specs.Contents.{contents}
 use Rattle.pict_blocks.specs.Blocks.{view_of_contents, IsNodeBlock}
 use Rattle.pict_desk.specs.Known.{value_in}
@@ -117,9 +117,9 @@ turn_blocks core h values (NodeTurn number) n pairs = (
     number = number;
     node = n.node;
     at = n.at;
-    held = frame_words values (frame_in (nodes_of core) number);
+    held = gathered values (frame_in (nodes_of core) number);
     is = refl;
-    narrow = λ _. subst (λ (frame : List ℕ). HoldWords h (length n.node.frame) (frame_words values frame)) (sym (frame_is core number n.node n.at)) (words_held h values n.node.frame pairs);
+    narrow = λ _. subst (λ (frame : List ℕ). HoldWords h (length n.node.frame) (gathered values frame)) (sym (frame_is core number n.node n.at)) (words_held h values n.node.frame pairs);
     wide = λ many. let few = n.narrow in absurd (omega (arith, few, many));
   }),
   tt,
@@ -173,7 +173,7 @@ module _ (core : Process) (s : Store) where
       pub node_width : (frame : List ℕ) → HasFrame (nodes_of core) number frame → length (acting_words core s) + 1 ≡ block_width frame
       node_width frame f =
           let words = ap length (node_words_are f.node f.at) in
-          let many = length_frame_words s.desk.values.items f.node.frame in
+          let many = length_gathered s.desk.values.items f.node.frame in
           let same = ap length f.is in
           let few = node_narrow f.node f.at in
           let w = width_narrow frame (omega (arith, same, few)) in

@@ -10,8 +10,8 @@ use Rattle.pict_code.specs.Standing.{with_frame}
 use Rattle.pict_queue.specs.QueuesState.{QueuesState}
 use Rattle.pict_queue.specs.Contents.{contents}
 use Rattle.pict_heap.specs.HeapState.{HeapState, KeepsWords}
-use Rattle.pict_blocks.specs.Blocks.{values_of, frame_values, node_process, process_of, view_of_contents}
-use Rattle.pict_desk.specs.Known.{value_in, fields_of}
+use Rattle.pict_blocks.specs.Blocks.{values_in_words, frame_values, node_process, process_of, view_of_contents}
+use Rattle.pict_desk.specs.Known.{value_in, value_fields}
 use Rattle.pict_desk.proofs.Nodes.{part_of}
 use Rattle.pict_desk.specs.Pairs.{IsPair}
 use Rattle.pict_desk.proofs.Pairs.{value_packed}
@@ -32,7 +32,7 @@ module _ (old new : HeapState) (keeps : KeepsWords old new) where
   words_stay (suc n) (x ∷ []) h = absurd h
   words_stay (suc n) (x ∷ y ∷ ws) h = (pair_stays (x, y) h.0, words_stay n ws h.1)
 
-  values_stay : (n : ℕ) (ws : List ℕ) → HoldWords old n ws → values_of (value_in new) ws ≡ values_of (value_in old) ws
+  values_stay : (n : ℕ) (ws : List ℕ) → HoldWords old n ws → values_in_words (value_in new) ws ≡ values_in_words (value_in old) ws
   values_stay zero [] h = refl
   values_stay zero (x ∷ ws) h = absurd h
   values_stay (suc n) [] h = absurd h
@@ -40,7 +40,7 @@ module _ (old new : HeapState) (keeps : KeepsWords old new) where
   values_stay (suc n) (x ∷ y ∷ ws) h = cc (value_stays (x, y) h.0, values_stay n ws h.1)
 
   pub record_stays : (n : ℕ) (ws : List ℕ) → HoldRecord old n ws → HoldRecord new n ws
-  record_stays n ws r = record { pair = r.pair; is = r.is; word = pair_stays r.pair r.word; many = ap (λ v. length (fields_of v)) (value_stays r.pair r.word) ∙ r.many; few = r.few }
+  record_stays n ws r = record { pair = r.pair; is = r.is; word = pair_stays r.pair r.word; many = ap (λ v. length (value_fields v)) (value_stays r.pair r.word) ∙ r.many; few = r.few }
 
   -- an output of kept values
   pub kept_stays : (words : List ℕ) → IsKept old words → IsKept new words
@@ -53,8 +53,8 @@ module _ (old new : HeapState) (keeps : KeepsWords old new) where
       ap (λ a. value_in new a y) e ∙ ap (λ b. value_in new r.pair.0 b) f ∙ value_stays r.pair r.word ∙ sym (ap (λ a. value_in old a y) e ∙ ap (λ b. value_in old r.pair.0 b) f)
 
   frame_by : (n x y : ℕ) (ws : List ℕ) (b : Bool) → nat_lt NARROW_LIMIT n ≡ b → (n ≤ NARROW_LIMIT → HoldWords old n (x ∷ y ∷ ws)) → (NARROW_LIMIT < n → HoldRecord old n (x ∷ y ∷ ws))
-      → cond b (fields_of (value_in new x y)) (values_of (value_in new) (x ∷ y ∷ ws)) ≡ cond b (fields_of (value_in old x y)) (values_of (value_in old) (x ∷ y ∷ ws))
-  frame_by n x y ws true e narrow wide = let many : NARROW_LIMIT < n = grind (arith, nat_tests) in ap fields_of (one_record n x y ws (wide many))
+      → cond b (value_fields (value_in new x y)) (values_in_words (value_in new) (x ∷ y ∷ ws)) ≡ cond b (value_fields (value_in old x y)) (values_in_words (value_in old) (x ∷ y ∷ ws))
+  frame_by n x y ws true e narrow wide = let many : NARROW_LIMIT < n = grind (arith, nat_tests) in ap value_fields (one_record n x y ws (wide many))
   frame_by n x y ws false e narrow wide = let few : n ≤ NARROW_LIMIT = grind (arith, nat_tests) in values_stay n (x ∷ y ∷ ws) (narrow few)
 
   pub frame_stays : (n : ℕ) (ws : List ℕ) → (n ≤ NARROW_LIMIT → HoldWords old n ws) → (NARROW_LIMIT < n → HoldRecord old n ws) → frame_values (value_in new) n ws ≡ frame_values (value_in old) n ws

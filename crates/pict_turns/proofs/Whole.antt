@@ -16,16 +16,16 @@ use Rattle.pict_turns.specs.Growing.{AddsAtMost, part_need}
 use Rattle.pict_turns.specs.Stepping.{IsStepBy, StepsBy}
 use Rattle.pict_turns.specs.Turns.{turn_cost}
 use Rattle.pict_turns.specs.Widths.{MakesOnly, part_width}
-use Rattle.pict_turns.specs.declared.event.PackedEvent.{PackedEvent}
+use Rattle.pict_turns.specs.declared.event.Shown.{Shown}
 use Rattle.pict_turns.specs.declared.store.Store.{Store}
 use Rattle.pict_turns.specs.declared.turn.Turn.TheVariants.{Nobody}
 use Rattle.pict_turns.proofs.Growing.{desk_same, adds_none, fork_added, new_added, choice_added}
 use Rattle.pict_turns.proofs.Making.{makes_nothing}
 use Rattle.pict_turns.proofs.Needing.{needed_by, node_needs, fork_made, new_made, choice_made}
-use Rattle.pict_turns.proofs.Plainly.{has_partner}
+use Rattle.pict_turns.proofs.InPlace.{has_partner}
 use Rattle.pict_turns.proofs.Working.{end_works, fork_works, choose_works, new_works}
 
-pub end_steps : (code : List Node) (s new : Store) (result : Result PackedEvent AllocError) → IsStepBy (core_in code) s new result → ActsBy (core_in code) s op.Zero → new ≡ record s { turn = Nobody } → StepsBy code s new result
+pub end_steps : (code : List Node) (s new : Store) (result : Result Shown AllocError) → IsStepBy (core_in code) s new result → ActsBy (core_in code) s op.Zero → new ≡ record s { turn = Nobody } → StepsBy code s new result
 end_steps code s new result step a e =
     let core = core_in code in
     record {
@@ -36,7 +36,7 @@ end_steps code s new result step a e =
       plain = λ x. absurd (has_partner core s op.Zero a x);
     }
 
-module _ (code : List Node) (is : IsCode (map plain_node code)) (s new : Store) (result : Result PackedEvent AllocError) (step : IsStepBy (core_in code) s new result) where
+module _ (code : List Node) (is : IsCode (map plain_node code)) (s new : Store) (result : Result Shown AllocError) (step : IsStepBy (core_in code) s new result) where
   pub fork_steps : (l r : ℕ) → ActsBy (core_in code) s (op.Par l r)
       → ((first : List ℕ) → HasFrame (map plain_node code) l first → turn_cost (core_in code) new ≤ turn_cost (core_in code) s + (block_width first + 4))
       → ((second : List ℕ) → HasFrame (map plain_node code) r second → CostsAtMost (block_width second + 2) s.queues new.queues)

@@ -10,6 +10,6 @@ pub mod Widths
 pub mod Growing
 pub mod Work
 pub mod Needs
-pub mod Packed
+pub mod Shown
 pub mod Plain
 pub mod Stepping

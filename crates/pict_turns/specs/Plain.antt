@@ -52,7 +52,7 @@ pub record HasPlainRoom (core : Process) (s : Store) (part : ℕ) (acting waitin
       ⊎ length acting + 1 ≡ block_width frame ⊎ length waiting + 1 ≡ block_width frame
 
 -- The block with these words is an output on a channel where an input that isn't replicated waits first, and meets it plainly.
-pub record SendsPlainly (core : Process) (s : Store) (acting : List ℕ) : Type 0 where
+pub record SendsInPlace (core : Process) (s : Store) (acting : List ℕ) : Type 0 where
   pub channel : ℕ
   pub message : Val
   pub at : Span
@@ -67,7 +67,7 @@ pub record SendsPlainly (core : Process) (s : Store) (acting : List ℕ) : Type 
 
 -- The block with these words is an input that isn't replicated, from a channel where an output of kept values waits first, and
 -- meets it plainly.
-pub record ReceivesPlainly (core : Process) (s : Store) (acting : List ℕ) : Type 0 where
+pub record ReceivesInPlace (core : Process) (s : Store) (acting : List ℕ) : Type 0 where
   pub channel : ℕ
   pub pattern : Pat
   pub body : Process
@@ -80,26 +80,26 @@ pub record ReceivesPlainly (core : Process) (s : Store) (acting : List ℕ) : Ty
   pub room : HasPlainRoom core s part acting (zero ∷ held)
 
 -- the block with these words acts, and a message and an input that isn't replicated meet plainly
-abbrev pub ActsPlainly : Process → Store → List ℕ → Type 0
-ActsPlainly core s acting = SendsPlainly core s acting ⊎ ReceivesPlainly core s acting
+abbrev pub ActsInPlace : Process → Store → List ℕ → Type 0
+ActsInPlace core s acting = SendsInPlace core s acting ⊎ ReceivesInPlace core s acting
 
 -- A message and an input that isn't replicated meet in the step of the first of these ready ones. What is sent is no operand that
 -- is a text or a record with a variable, and there is a block for the input's part, once the blocks of the two that meet are
 -- given back.
-pub record FirstMeetsPlainly (core : Process) (s : Store) (all_ready : List (List ℕ)) : Type 0 where
+pub record FirstMeetsInPlace (core : Process) (s : Store) (all_ready : List (List ℕ)) : Type 0 where
   pub acting : List ℕ
   pub ready : List (List ℕ)
   pub first : all_ready ≡ acting ∷ ready
-  pub plainly : ActsPlainly core s acting
+  pub plainly : ActsInPlace core s acting
 
 -- the same of the first of queue 0
-abbrev pub MeetsPlainly : Process → Store → Type 0
-MeetsPlainly core s = FirstMeetsPlainly core s (contents s.queues 0)
+abbrev pub MeetsInPlace : Process → Store → Type 0
+MeetsInPlace core s = FirstMeetsInPlace core s (contents s.queues 0)
 
 -- the same of who has the turn, or else of the first of queue 0
-abbrev pub RunsPlainly : Process → Store → Type 0
-RunsPlainly core s = FirstMeetsPlainly core s (ready_words core s)
+abbrev pub RunsInPlace : Process → Store → Type 0
+RunsInPlace core s = FirstMeetsInPlace core s (ready_words core s)
 
 -- the step is done, and there are as many blocks as before, of every width
-abbrev pub TakesNothing : {T : Type 0} → Store → Store → Result T AllocError → Type 0
-TakesNothing old new result = IsOk result × KeepsBlocks old.queues.region new.queues.region
+abbrev pub TakesNoMemory : {T : Type 0} → Store → Store → Result T AllocError → Type 0
+TakesNoMemory old new result = IsOk result × KeepsBlocks old.queues.region new.queues.region

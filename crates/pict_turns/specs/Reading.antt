@@ -3,7 +3,7 @@ use Rattle.std.specs.Prelude.{◌≡◌, ◌≤◌, ℕ, List, map, length, drop
 use Rattle.pict_syntax.specs.declared.limits.TheConstants.{NARROW_LIMIT}
 use Rattle.pict_core.specs.Term.{Process}
 use Rattle.pict_code.specs.Instruction.{Node}
-use Rattle.pict_blocks.specs.Framed.{frame_words, node_words}
+use Rattle.pict_blocks.specs.Framed.{gathered, node_words}
 use Rattle.pict_blocks.specs.Writing.{OnlyWorks}
 use Rattle.pict_blocks.specs.Blocks.{frame_values, IsNodeBlock}
 use Rattle.pict_desk.specs.Known.{value_in, known}
@@ -23,7 +23,7 @@ pub record OnlyReads (old new : Store) : Type 0 where
 -- those of each level.
 pub record HasRead (old new : Store) (words frame : List ℕ) : Type 0 where
   pub values : frame_values (value_in new.desk.heap) (length frame) (drop 1 words) ≡ map (known new.desk.heap new.desk.values.items) frame
-  pub same : length frame ≤ NARROW_LIMIT → drop 1 words ≡ frame_words new.desk.values.items frame
+  pub same : length frame ≤ NARROW_LIMIT → drop 1 words ≡ gathered new.desk.values.items frame
   pub rest : OnlyReads old new
 
 -- The levels of the node's frame have the values that its block holds, and the very words where it holds those of each level.

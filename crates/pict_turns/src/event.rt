@@ -5,7 +5,7 @@ use pict_syntax::Span;
 /// What a step of who has the turn shows, by words of the heap of its store. The two words of a value that is received aren't
 /// told apart.
 #[derive(Clone, Copy)]
-pub enum PackedEvent {
+pub enum Shown {
     /// Nothing.
     Quiet,
     /// A value is received on a channel.

@@ -11,7 +11,7 @@ mod store;
 mod turn;
 mod turning;
 
-pub use event::PackedEvent;
+pub use event::Shown;
 pub use nodes::{choose, end, fork, make_channel};
 pub use parts::{make_ready, spawn_part};
 pub use reading::{frame_at, read_first};

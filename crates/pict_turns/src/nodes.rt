@@ -19,7 +19,7 @@ ghost use Rattle.pict_turns.specs.Stepping.{StepsBy};
 ghost use Rattle.pict_turns.specs.Turns.{turn_cost};
 ghost use Rattle.pict_turns.specs.Widths.{MakesOnly, part_width};
 
-use crate::event::PackedEvent;
+use crate::event::Shown;
 use crate::parts::{hand_on, hand_on_from, spawn_from};
 use crate::reading::frame_at;
 use crate::reserving::{reserve_part, reserve_parts};
@@ -33,29 +33,24 @@ use std::alloc::AllocError;
 
 /// The inert process, which has the turn, ends. Takes no memory.
 #[inline(always)]
-pub fn end(store: &mut Store) -> Result<PackedEvent, AllocError>
+pub fn end(store: &mut Store) -> Result<Shown, AllocError>
     ensures steps { (code : List AnyNode) → ActsBy (core_in code) store.old op.Zero → StepsBy code store.old store.new result }
     ensures done { (core : Process) → ActsBy core store.old op.Zero → IsDone core store.old store.new Quiet }
-    ensures quiet { result ≡ Ok PackedEvent.Quiet }
+    ensures quiet { result ≡ Ok Shown.Quiet }
     ensures rest { store.new ≡ record store.old { turn = Turn.Nobody } }
 {
     store.turn = Turn::Nobody;
-    Ok(PackedEvent::Quiet)
+    Ok(Shown::Quiet)
 }
 
 /// A parallel composition, which has the turn: its left part has it then, and the block of its right part becomes the last of the
 /// ready ones. An error, which is want of memory, changes nothing but room and spare blocks.
 #[inline(always)]
-pub fn fork(
-    store: &mut Store,
-    code: &[Node],
-    left: u32,
-    right: u32,
-) -> Result<PackedEvent, AllocError>
+pub fn fork(store: &mut Store, code: &[Node], left: u32, right: u32) -> Result<Shown, AllocError>
     requires code { IsCode (map plain_node code.now) }
     requires acts { ActsBy (core_in code.now) store.old (op.Par left right) }
     ensures steps { StepsBy code.now store.old store.new result }
-    ensures quiet { OnOk result (result ≡ Ok PackedEvent.Quiet) }
+    ensures quiet { OnOk result (result ≡ Ok Shown.Quiet) }
     ensures turn { OnOk result ((first : List ℕ) → HasFrame (map plain_node code.now) left first
         → turn_cost (core_in code.now) store.new ≤ block_width first + 4) }
     ensures blocks { MakesOnly store.old.queues store.new.queues
@@ -69,7 +64,7 @@ pub fn fork(
     let turn = store.turn;
     hand_on_from(store, code, turn, left, first);
     spawn_from(store, code, turn, right, second);
-    Ok(PackedEvent::Quiet)
+    Ok(Shown::Quiet)
 }
 
 /// A conditional, which has the turn: the part that its test chooses has it then. An error, which is want of memory, changes
@@ -81,12 +76,12 @@ pub fn choose(
     test: &Operand,
     yes: u32,
     no: u32,
-) -> Result<PackedEvent, AllocError>
+) -> Result<Shown, AllocError>
     requires code { IsCode (map plain_node code.now) }
     requires acts { ActsBy (core_in code.now) store.old (op.If (plain_val test.now) yes no) }
     requires right { IsRight (core_in code.now) store.old }
     ensures steps { StepsBy code.now store.old store.new result }
-    ensures quiet { OnOk result (result ≡ Ok PackedEvent.Quiet) }
+    ensures quiet { OnOk result (result ≡ Ok Shown.Quiet) }
     ensures turn { OnOk result ((first second : List ℕ) → HasFrame (map plain_node code.now) yes first → HasFrame (map plain_node code.now) no second
         → turn_cost (core_in code.now) store.new ≤ max (block_width first) (block_width second) + 4) }
     ensures blocks { (b : Bool) → operand_value (known store.old.desk.heap store.old.desk.values.items) (plain_val test.now) ≡ Boolean b
@@ -98,7 +93,7 @@ pub fn choose(
     reserve_part(store, frame, NO_NEED)?;
     let turn = store.turn;
     hand_on_from(store, code, turn, part, frame);
-    Ok(PackedEvent::Quiet)
+    Ok(Shown::Quiet)
 }
 
 // Makes room for a channel, and for the part with this frame.
@@ -138,12 +133,12 @@ pub fn make_channel(
     code: &[Node],
     level: u32,
     part: u32,
-) -> Result<PackedEvent, AllocError>
+) -> Result<Shown, AllocError>
     requires code { IsCode (map plain_node code.now) }
     requires acts { ActsBy (core_in code.now) store.old (op.New level part) }
     requires few { length store.old.queues.queues < 2 ^ 32 }
     ensures steps { StepsBy code.now store.old store.new result }
-    ensures quiet { OnOk result (result ≡ Ok PackedEvent.Quiet) }
+    ensures quiet { OnOk result (result ≡ Ok Shown.Quiet) }
     ensures turn { OnOk result ((frame : List ℕ) → HasFrame (map plain_node code.now) part frame
         → turn_cost (core_in code.now) store.new ≤ block_width frame + 4) }
     ensures blocks { MakesOnly store.old.queues store.new.queues (part_width (map plain_node code.now) part ∷ []) }
@@ -153,5 +148,5 @@ pub fn make_channel(
     reserve_channel(store, frame)?;
     add_channel(store, level);
     hand_on(store, part, frame);
-    Ok(PackedEvent::Quiet)
+    Ok(Shown::Quiet)
 }

@@ -43,7 +43,7 @@ fn read_first_narrow(store: &mut Store, queue: QueueId, frame: &[u32])
 {
     store
         .queues
-        .peek_values(queue, 2, frame, &mut store.desk.values);
+        .scatter_first(queue, 2, frame, &mut store.desk.values);
 }
 
 // Word `i` of the first block of a queue, from 1 on.

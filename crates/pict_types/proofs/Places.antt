@@ -5,11 +5,11 @@ use Rattle.pict_types.specs.declared.context.Entry.{Entry}
 use Rattle.pict_types.specs.Types.{TypeContext}
 use Rattle.pict_types.specs.Entries.{PlainWhat, Variable, Definition, PlainEntry, PlainContext, variables, with_variable}
 use Rattle.pict_types.specs.PlainEntries.{plain_entry, plain_entries, plain_what}
-use Rattle.pict_types.specs.Places.{names_in, arity, arity_at, IsWhatAt}
+use Rattle.pict_types.specs.Places.{entry_names, arity, arity_at, IsWhatAt}
 use Rattle.pict_types.proofs.Entries.{pushed, entries_length, entry_at}
 
-pub names_pushed : (es : List Entry) (e : Entry) → names_in (plain_entries (es ++ e ∷ [])) ≡ e.name.0 ∷ names_in (plain_entries es)
-names_pushed es e = ap names_in (pushed es e)
+pub names_pushed : (es : List Entry) (e : Entry) → entry_names (plain_entries (es ++ e ∷ [])) ≡ e.name.0 ∷ entry_names (plain_entries es)
+names_pushed es e = ap entry_names (pushed es e)
 
 pub at_least : (w : PlainWhat) (c : TypeContext) → length c ≤ length (with_variable w c)
 at_least (Variable b) c = omega arith
@@ -25,7 +25,7 @@ fewer es e n h =
     let k : length (variables (plain_entries (es ++ e ∷ []))) ≡ length (with_variable (plain_what e.what) (variables (plain_entries es))) = ap (λ x. length (variables x)) (pushed es e) in
     omega (arith, h, k, at_least (plain_what e.what) (variables (plain_entries es)))
 
-pub names_length : (c : PlainContext) → length (names_in c) ≡ length c
+pub names_length : (c : PlainContext) → length (entry_names c) ≡ length c
 names_length c = simp length-map refl
 
 -- what an entry means

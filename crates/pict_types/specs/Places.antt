@@ -4,8 +4,8 @@ use Rattle.pict_types.specs.Types.{Free, Below, Operator, Plain, Op}
 use Rattle.pict_types.specs.Entries.{PlainWhat, Variable, Definition, PlainContext}
 
 -- the names of the entries
-abbrev pub names_in : PlainContext → List ℕ
-names_in c = map (λ e. e.name) c
+abbrev pub entry_names : PlainContext → List ℕ
+entry_names c = map (λ e. e.name) c
 
 -- of how many arguments an entry is an operator; nothing where it is a type
 abbrev pub arity : PlainWhat → Option ℕ

@@ -6,7 +6,7 @@ ghost use Rattle.pict_types.specs.Entries.{EntriesAreWellFormed, closed_entries,
 ghost use Rattle.pict_types.specs.Around.{IsLinked, around_heights, around_weights};
 ghost use Rattle.pict_types.specs.Measures.{held};
 ghost use Rattle.pict_types.specs.PlainEntries.{plain_entries, plain_what};
-ghost use Rattle.pict_types.specs.Places.{names_in};
+ghost use Rattle.pict_types.specs.Places.{entry_names};
 ghost use Rattle.pict_types.specs.Props.{entries_prop};
 
 use crate::measure::{Around, Known, Measures, inside, measure, measure_bound};
@@ -51,7 +51,7 @@ pub struct Context<'a> {
     ghost placed: { reverse (map (λ k. k.place) known.items) ≡ places (plain_entries entries.items) },
     ghost weighed: { reverse (map (λ k. k.measures.weight) known.items) ≡ held_weights (plain_entries entries.items) },
     ghost measured: { reverse (map (λ k. k.measures.height) known.items) ≡ held_heights (plain_entries entries.items) },
-    ghost named: { nearest ≡ names_in (plain_entries entries.items) },
+    ghost named: { nearest ≡ entry_names (plain_entries entries.items) },
     ghost entries_weighed: { reverse (map (λ m. m.weight) sizes.items) ≡ entry_weights (plain_entries entries.items) },
     ghost entries_measured: { reverse (map (λ m. m.height) sizes.items) ≡ entry_heights (plain_entries entries.items) },
     ghost entries_closed: { reverse closed.items ≡ closed_entries (plain_entries entries.items) },
@@ -95,7 +95,7 @@ impl<'a> Context<'a> {
     ghost use Rattle.pict_types.specs.Measures.{held, height_of, heights, rise, weigh, weight_of, weights};
     ghost use Rattle.pict_types.specs.Plain.{plain, plain_bound};
     ghost use Rattle.pict_binders.specs.Names.{place_of};
-    ghost use Rattle.pict_types.specs.Places.{IsWhatAt, arity_at, names_in};
+    ghost use Rattle.pict_types.specs.Places.{IsWhatAt, arity_at, entry_names};
     ghost use Rattle.pict_types.specs.PlainEntries.{plain_entry, plain_what};
     ghost use Rattle.pict_types.specs.PlainContext.{names_of, plain_context, type_context};
     ghost use Rattle.pict_types.specs.Around.{heights_inside, weights_inside};
@@ -215,7 +215,7 @@ impl<'a> Context<'a> {
     /// The place of the innermost entry of a name, counted from the innermost; nothing where it has none. Takes no
     /// memory.
     pub fn place(&self, name: Name) -> Option<usize>
-        ensures { result ≡ place_of (names_in (plain_context self.now)) name.0 }
+        ensures { result ≡ place_of (entry_names (plain_context self.now)) name.0 }
     {
         self.nearest.place(name)
     }

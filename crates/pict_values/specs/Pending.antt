@@ -23,5 +23,5 @@ pending names h (p ∷ ps) after = pending names h ps (piece_text names h p ++ a
 
 -- Bytes that were written, and pieces that were pending: this text is now written behind those bytes, or pending before
 -- those pieces.
-abbrev pub Grows : List (List ℕ) → HeapState → List ℕ → List Piece → List ℕ → List ℕ → List Piece → Type 0
-Grows names h out pieces text out' pieces' = out' ++ pending names h pieces' [] ≡ out ++ (text ++ pending names h pieces [])
+abbrev pub GainsHeapText : List (List ℕ) → HeapState → List ℕ → List Piece → List ℕ → List ℕ → List Piece → Type 0
+GainsHeapText names h out pieces text out' pieces' = out' ++ pending names h pieces' [] ≡ out ++ (text ++ pending names h pieces [])

@@ -7,7 +7,7 @@ ghost use Rattle.pict_show.specs.Pending.{rest_text, fields_text};
 ghost use Rattle.pict_heap.specs.Fields.{text_bytes};
 ghost use Rattle.pict_heap.specs.HeapState.{value_of, IsWord};
 ghost use Rattle.pict_values.specs.Fields.{positional_from, labelled_from};
-ghost use Rattle.pict_values.specs.Pending.{IsPieceOf, piece_text, Grows};
+ghost use Rattle.pict_values.specs.Pending.{IsPieceOf, piece_text, GainsHeapText};
 
 use itoa::Buffer;
 use pict_core::CoreVal;
@@ -62,7 +62,7 @@ fn write_piece(
 ) -> Result<(), AllocError>
     requires piece { IsPieceOf heap.now piece }
     requires pieces { All (IsPieceOf heap.now) pieces.old.items }
-    ensures text { OnOk result (Grows names.now heap.now out.old.items pieces.old.items (piece_text names.now heap.now piece) out.new.items pieces.new.items) }
+    ensures text { OnOk result (GainsHeapText names.now heap.now out.old.items pieces.old.items (piece_text names.now heap.now piece) out.new.items pieces.new.items) }
     ensures grows { OnOk result (length out.old.items < length out.new.items) }
     ensures pieces { OnOk result (All (IsPieceOf heap.now) pieces.new.items) }
 {
@@ -140,7 +140,7 @@ fn write_rest(
 ) -> Result<(), AllocError>
     requires word { IsWord heap.now whole }
     requires pieces { All (IsPieceOf heap.now) pieces.old.items }
-    ensures text { OnOk result (Grows names.now heap.now out.old.items pieces.old.items
+    ensures text { OnOk result (GainsHeapText names.now heap.now out.old.items pieces.old.items
         (rest_text names.now (positional_from positional (value_of heap.now whole)) (labelled_from labelled (value_of heap.now whole)))
         out.new.items pieces.new.items) }
     ensures grows { OnOk result (length out.old.items < length out.new.items) }
@@ -166,7 +166,7 @@ fn write_field(
 ) -> Result<(), AllocError>
     requires word { IsWord heap.now whole }
     requires pieces { All (IsPieceOf heap.now) pieces.old.items }
-    ensures text { OnOk result (Grows names.now heap.now out.old.items pieces.old.items
+    ensures text { OnOk result (GainsHeapText names.now heap.now out.old.items pieces.old.items
         (fields_text names.now (positional_from positional (value_of heap.now whole)) (labelled_from labelled (value_of heap.now whole)))
         out.new.items pieces.new.items) }
     ensures grows { OnOk result (length out.old.items ≤ length out.new.items) }

@@ -12,14 +12,14 @@ is_input (In chan replicated pattern body) = true
 is_input _ = false
 
 -- the list of the channel that a value is
-abbrev pub list_of : Val → List (List Process) → List Process
-list_of (Chan c) lists = list_at c lists
-list_of _ lists = []
+abbrev pub channel_list : Val → List (List Process) → List Process
+channel_list (Chan c) lists = list_at c lists
+channel_list _ lists = []
 
 -- the parked partners of a process; one that stands at no channel has none
 abbrev pub partners_in : List (List Process) → Process → List Process
-partners_in lists (Out chan message at) = filter is_input (list_of chan lists)
-partners_in lists (In chan replicated pattern body) = filter is_output (list_of chan lists)
+partners_in lists (Out chan message at) = filter is_input (channel_list chan lists)
+partners_in lists (In chan replicated pattern body) = filter is_output (channel_list chan lists)
 partners_in lists _ = []
 
 -- A place of the view: a ready process is there, and so is the partner; or it has none, and the second number is 0.

@@ -6,9 +6,9 @@ use Rattle.pict_blocks.proofs.frames.read_frame.Goals as goal
 
 pub returns-clause-words : goal.returns-clause-words
 returns-clause-words c =
-    c.read_values.ensures.words
+    c.scatter.ensures.words
     ∙ take_all (2 * length c.args.frame.now) (drop 2 (words_of c.args.queues.now.region c.args.block.now))
     (omega (arith, c.requires.wide, length-drop 2 (words_of c.args.queues.now.region c.args.block.now)))
 
 pub returns-clause-cost : goal.returns-clause-cost
-returns-clause-cost c = costs_by c.args.queues.now c.read_values.new.self (2 * length c.args.frame.now) (ap (λ s. s.region.work) c.read_values.ensures.rest)
+returns-clause-cost c = costs_by c.args.queues.now c.scatter.new.self (2 * length c.args.frame.now) (ap (λ s. s.region.work) c.scatter.ensures.rest)

@@ -1,6 +1,6 @@
 use Rattle.std.proofs.Common.{◌≤◌, ◌+◌, ◌*◌, length, refl, sym, subst, arith}
 use Rattle.pict_region.specs.RegionState.{spare}
-use Rattle.pict_blocks.specs.Framed.{frame_words, node_words}
+use Rattle.pict_blocks.specs.Framed.{gathered, node_words}
 use Rattle.pict_blocks.specs.Writing.{IsMade}
 use Rattle.pict_prim.specs.Acts.{UsesNeed}
 use Rattle.pict_desk.proofs.Making.{keeps_all, pile_kept}
@@ -16,7 +16,7 @@ pub returns-clause-part : goal.returns-clause-part
 returns-clause-part c =
     let d = c.args.desk.now in
     record {
-      held = frame_words d.values.items c.args.frame.now;
+      held = gathered d.values.items c.args.frame.now;
       made = subst (IsMade c.args.queues.now c.block_of.new.queues c.block_of.result (node_words d.values.items c.args.number c.args.frame.now)) (sym (width_narrow c.args.frame.now c.requires.narrow))
           (subst (λ vs. IsMade c.args.queues.now c.block_of.new.queues c.block_of.result (node_words vs c.args.number c.args.frame.now) (2 + 2 * length c.args.frame.now)) c.deref.ensures.value c.block_of.ensures.made);
       holds = narrow_holds d.heap d.values.items c.args.frame.now c.requires.pairs c.requires.narrow;

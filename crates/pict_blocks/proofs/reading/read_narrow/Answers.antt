@@ -2,7 +2,7 @@ use Rattle.std.proofs.Common.{ℕ, suc, ◌≡◌, List, length, drop, sym, ap, 
 use Rattle.std.proofs.lemmas.List.{with_items_is}
 use Rattle.std.specs.Vec.{with_items}
 use Rattle.pict_queue.specs.Contents.{held_words}
-use Rattle.pict_blocks.specs.Framed.{frame_words}
+use Rattle.pict_blocks.specs.Framed.{gathered}
 use Rattle.pict_desk.specs.Known.{pair_at, value_in}
 use Rattle.pict_region.specs.RegionState.{words_of}
 use Rattle.pict_blocks.specs.Blocks.{frame_values}
@@ -25,8 +25,8 @@ returns-clause-read c =
     let values = c.read_frame.new.values in
     let h = c.requires.holds in
     let ws = words_of c.args.queues.now.region c.args.block.now in
-    let words : frame_words values frame ≡ h.1 = c.read_frame.ensures.words ∙ behind_number ws h.0 h.1 h.2 in
-    let held : drop 1 (held_words c.args.queues.now.region c.args.block.now) ≡ frame_words values frame = ap (drop 1) h.2 ∙ sym words in
+    let words : gathered values frame ≡ h.1 = c.read_frame.ensures.words ∙ behind_number ws h.0 h.1 h.2 in
+    let held : drop 1 (held_words c.args.queues.now.region c.args.block.now) ≡ gathered values frame = ap (drop 1) h.2 ∙ sym words in
     let before : c.deref_mut.result.now ≡ d.values.items = c.deref_mut.ensures.value in
     let same : length values ≡ length d.values.items = c.read_frame.ensures.len ∙ ap length before in
     has_read_frame d (with_items d.values values) (held_words c.args.queues.now.region c.args.block.now) frame values

@@ -5,8 +5,8 @@ use Rattle.std.specs.Vec.{with_items}
 use Rattle.pict_syntax.specs.declared.limits.TheConstants.{NARROW_LIMIT}
 use Rattle.pict_queue.specs.Contents.{held_words}
 use Rattle.pict_region.specs.RegionState.{words_of}
-use Rattle.pict_blocks.specs.Blocks.{values_of, frame_values}
-use Rattle.pict_desk.specs.Known.{value_in, fields_of}
+use Rattle.pict_blocks.specs.Blocks.{values_in_words, frame_values}
+use Rattle.pict_desk.specs.Known.{value_in, value_fields}
 use Rattle.pict_desk.specs.Pairs.{IsPair, ArePairs}
 use Rattle.pict_blocks.proofs.Written.{works_of}
 use Rattle.pict_blocks.proofs.WordsHeld.{pair_behind, whole_length, has_read_frame}
@@ -39,7 +39,7 @@ read_record-requires-clause-fields c =
     let p = pair_behind (words_of c.args.queues.now.region c.args.block.now) h.0 r.pair.0 r.pair.1 (h.2 ∙ ap (λ (us : List ℕ). suc h.0 ∷ us) r.is) in
     let tag : pair.0 ≡ r.pair.0 = c.get_pair-pair.ensures.first ∙ p.0 in
     let payload : pair.1 ≡ r.pair.1 = c.get_pair-pair.ensures.second ∙ p.1 in
-    ap (λ (n : ℕ). length (fields_of (value_in d.heap n pair.1))) tag ∙ ap (λ (n : ℕ). length (fields_of (value_in d.heap r.pair.0 n))) payload ∙ r.many
+    ap (λ (n : ℕ). length (value_fields (value_in d.heap n pair.1))) tag ∙ ap (λ (n : ℕ). length (value_fields (value_in d.heap r.pair.0 n))) payload ∙ r.many
 
 pub returns-clause-read : goal.returns-clause-read
 returns-clause-read c =
@@ -60,8 +60,8 @@ returns-clause-read c =
     same
     (c.read_record.ensures.pairs (subst (ArePairs d.heap) (sym before) c.requires.pairs))
     (ap (frame_values (value_in d.heap) (length frame)) (ap (drop 1) h.2 ∙ r.is)
-    ∙ ap (λ b. cond b (fields_of (value_in d.heap r.pair.0 r.pair.1)) (values_of (value_in d.heap) (r.pair.0 ∷ r.pair.1 ∷ []))) test
-    ∙ ap (λ (n : ℕ). fields_of (value_in d.heap n r.pair.1)) (sym tag) ∙ ap (λ (n : ℕ). fields_of (value_in d.heap pair.0 n)) (sym payload)
+    ∙ ap (λ b. cond b (value_fields (value_in d.heap r.pair.0 r.pair.1)) (values_in_words (value_in d.heap) (r.pair.0 ∷ r.pair.1 ∷ []))) test
+    ∙ ap (λ (n : ℕ). value_fields (value_in d.heap n r.pair.1)) (sym tag) ∙ ap (λ (n : ℕ). value_fields (value_in d.heap pair.0 n)) (sym payload)
     ∙ sym c.read_record.ensures.read)
     (λ few. let many = c.requires.wide in absurd (omega (arith, few, many)))
 

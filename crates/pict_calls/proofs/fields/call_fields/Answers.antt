@@ -6,7 +6,7 @@ use Rattle.pict_turns.proofs.Adding.{used_less}
 use Rattle.pict_turns.proofs.Room.{refused_still}
 use Rattle.pict_desk.specs.Answers.{IsAnswerOf}
 use Rattle.pict_desk.specs.Arguments.{argument_of}
-use Rattle.pict_turns.specs.declared.event.PackedEvent.TheVariants as packed
+use Rattle.pict_turns.specs.declared.event.Shown.TheVariants as shows
 use Rattle.pict_calls.proofs.Answering.{makes_same}
 use Rattle.pict_calls.proofs.Numbers.{answering, hands_answer}
 use Rattle.pict_calls.proofs.Stepping.{acts_by, calls_still, acts_after}
@@ -35,8 +35,8 @@ returns-in-Some-clause-done c core labelled on =
     let a = subst (λ vs. IsAnswerOf s.desk.heap vs c.args.p c.args.fields.now c.args.at c.in-Some.kept) c.deref.ensures.value at_hand in
     let v = argument_of s.desk.heap s.desk.values.items c.args.fields.now labelled in
     let last = record mid { turn = Output c.in-Some.kept } in
-    acts_after core s mid r last packed.Quiet
-    (acts_by core mid last c.args.p v c.args.at (answering a.to a.answer) packed.Quiet (calls_still core s mid r c.args.p v c.args.at on) (a.effect labelled) c.in_ok-reserve_kept.ensures.block
+    acts_after core s mid r last shows.Quiet
+    (acts_by core mid last c.args.p v c.args.at (answering a.to a.answer) shows.Quiet (calls_still core s mid r c.args.p v c.args.at on) (a.effect labelled) c.in_ok-reserve_kept.ensures.block
     (hands_answer s mid r.heap c.args.p c.args.fields.now c.args.at c.in-Some.kept a))
 
 pub returns-in-Some-clause-blocks : goal.returns-in-Some-clause-blocks

@@ -13,7 +13,7 @@ use Rattle.pict_turns.proofs.Adding.{used_both, used_after, used_less}
 use Rattle.pict_turns.proofs.Room.{refused_still, cost_still}
 use Rattle.pict_desk.specs.Arguments.{argument_of}
 use Rattle.pict_calls.specs.Finishing.{IsTurnAfter}
-use Rattle.pict_turns.specs.declared.event.PackedEvent.TheVariants as packed
+use Rattle.pict_turns.specs.declared.event.Shown.TheVariants as shows
 use Rattle.pict_calls.proofs.Answering.{HasRoomToAnswer, makes_answer, adds_same, room_for_any}
 use Rattle.pict_desk.proofs.Reckoning.{labels_same, argument_kept, room_then}
 use Rattle.pict_calls.proofs.Stepping.{some_is, acts_by, calls_still, acts_after, acted_before, cost_same, cost_after}
@@ -31,7 +31,7 @@ returns-then-divides_by_zero-clause-done c core labelled on =
     let zero = c.divides_by_zero.ensures s.desk.heap taken e.0 (subst (ArePairs s.desk.heap) (sym c.deref.ensures.value) c.requires.pairs)
     (subst (λ vs. effect_of c.args.p (argument_of s.desk.heap vs fields taken) ≡ Some e.0) (sym c.deref.ensures.value) e.1) in
     let trap = zero.0 c.if-divides_by_zero.true in
-    acts_by core s s c.args.p (argument_of s.desk.heap s.desk.values.items fields labelled) c.args.at e.0 (packed.Trapped c.args.at) on
+    acts_by core s s c.args.p (argument_of s.desk.heap s.desk.values.items fields labelled) c.args.at e.0 (shows.Trapped c.args.at) on
     (labels_same c.args.p _ labelled taken ∙ e.1) (subst (HasRoomToAnswer s.queues) (sym trap) tt)
     (record {
       turn = subst (λ (l : Leaves). IsTurnAfter s.desk.heap l c.args.at s.turn) (sym trap) tt;

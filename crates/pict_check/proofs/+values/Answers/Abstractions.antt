@@ -224,7 +224,7 @@ typed_gives-has-requires t c =
     let w = c.in_ok-own.ensures.answer in
     let d = environment_of c.add.new.self in
     let known = fields_known e (environment_of c.open_fields.new.env) d w.fields.own w.fields.adds (extension_of c.in_ok-own.own.adds) w.under.known w.adds c.in_ok-add.ensures.known in
-    let past : plain c.shown.result.now ≡ shifted_by (opened w.fields.adds) (plain c.in_ok-answer.answer) = c.shown.ensures ∙ c.in_ok-wanted.ensures ∙ ap (λ x. shifted_by (opened x) (plain c.in_ok-answer.answer)) w.adds in (
+    let past : plain c.changed_or_same.result.now ≡ shifted_by (opened w.fields.adds) (plain c.in_ok-answer.answer) = c.changed_or_same.ensures ∙ c.in_ok-wanted.ensures ∙ ap (λ x. shifted_by (opened x) (plain c.in_ok-answer.answer)) w.adds in (
       search (rules, the_lemmas),
       subst (λ z. IsWellAsked nothing_ d (has v z)) (sym past)
           (typed_body_asked e (environment_of c.open_fields.new.env) d s f a v w.fields (plain c.in_ok-answer.answer) w.under.known known c.requires.right w.holds c.in_ok-answer.ensures.answer),
@@ -240,7 +240,7 @@ typed_gives-returns-in_err-has-clause-answer t c =
     let w = c.in_ok-own.ensures.answer in
     let d = environment_of c.add.new.self in
     let known = fields_known e (environment_of c.open_fields.new.env) d w.fields.own w.fields.adds (extension_of c.in_ok-own.own.adds) w.under.known w.adds c.in_ok-add.ensures.known in
-    let past : plain c.shown.result.now ≡ shifted_by (opened w.fields.adds) (plain c.in_ok-answer.answer) = c.shown.ensures ∙ c.in_ok-wanted.ensures ∙ ap (λ x. shifted_by (opened x) (plain c.in_ok-answer.answer)) w.adds in
+    let past : plain c.changed_or_same.result.now ≡ shifted_by (opened w.fields.adds) (plain c.in_ok-answer.answer) = c.changed_or_same.ensures ∙ c.in_ok-wanted.ensures ∙ ap (λ x. shifted_by (opened x) (plain c.in_ok-answer.answer)) w.adds in
     let err = c.in_err-has.field-0.0 in
     answer_err (rule e (abstraction_gives (function_abs s f (Some a) v))) plain c.from_residual-in_err-has.result err c.from_residual-in_err-has.ensures.1
     (typed_body_refused e (environment_of c.open_fields.new.env) d s f a v w.fields (plain c.in_ok-answer.answer) err w.under.known known w.holds c.in_ok-answer.ensures.answer
@@ -263,7 +263,7 @@ typed_gives-returns-clause-answer t c =
     let grew = grew_kept c.args.env.now c.add.new.self c.has.new.env (grew_twice c.args.env.now c.open_fields.new.env c.add.new.self w.grew c.in_ok-add.ensures.grew) c.in_ok-has.ensures.same in
     let d = environment_of c.add.new.self in
     let known = fields_known e (environment_of c.open_fields.new.env) d w.fields.own w.fields.adds (extension_of c.in_ok-own.own.adds) w.under.known w.adds c.in_ok-add.ensures.known in
-    let past : plain c.shown.result.now ≡ shifted_by (opened w.fields.adds) (plain c.in_ok-answer.answer) = c.shown.ensures ∙ c.in_ok-wanted.ensures ∙ ap (λ x. shifted_by (opened x) (plain c.in_ok-answer.answer)) w.adds in
+    let past : plain c.changed_or_same.result.now ≡ shifted_by (opened w.fields.adds) (plain c.in_ok-answer.answer) = c.changed_or_same.ensures ∙ c.in_ok-wanted.ensures ∙ ap (λ x. shifted_by (opened x) (plain c.in_ok-answer.answer)) w.adds in
     typed_end plain e (environment_of c.open_fields.new.env) d s f a v w.fields (plain c.in_ok-answer.answer) c.argument.result w.under.known known w.holds c.in_ok-answer.ensures.answer
     (subst (λ z. Runs (rule d (has v z)) (ok tt)) past c.in_ok-has.ensures.answer)
     (argument_answer plain e (environment_of c.cut.new.self) c.in_ok-own.own.has w.fields (plain c.in_ok-answer.answer) s c.argument.result (c.cut.ensures c.args.env.now c.place-outer.ensures grew).known w.record_ c.argument.ensures)
@@ -356,8 +356,8 @@ abstraction_against-returns-in-None-clause-answer t c =
     let e = environment_of c.args.env.now in
     let u = plain c.args.t.now in
     let followed = c.in_ok-followed-in-Function in
-    let shows = exposure_is e c.context.result.now followed.followed c.args.t.now (plain c.shown.result.now) c.context.ensures.entries followed.ensures.none followed.ensures.some c.shown.ensures in
-    no_record_refused e (abs_of c.args.abs.now) i.span (field_pats_of i.fields.value) (annotation_of i.annotation) (val_of i.v.value) u (plain c.shown.result.now) (function_form c.args.abs.now i.span i.fields i.annotation i.v i.is) shows c.in-None.ensures.none
+    let shows = exposure_is e c.context.result.now followed.followed c.args.t.now (plain c.changed_or_same.result.now) c.context.ensures.entries followed.ensures.none followed.ensures.some c.changed_or_same.ensures in
+    no_record_refused e (abs_of c.args.abs.now) i.span (field_pats_of i.fields.value) (annotation_of i.annotation) (val_of i.v.value) u (plain c.changed_or_same.result.now) (function_form c.args.abs.now i.span i.fields i.annotation i.v i.is) shows c.in-None.ensures.none
 
 pub abstraction_against-function_against-requires : goal.abstractions::abstraction_against-function_against-requires
 abstraction_against-function_against-requires t c =
@@ -365,7 +365,7 @@ abstraction_against-function_against-requires t c =
     let e = environment_of c.args.env.now in
     let u = plain c.args.t.now in
     let followed = c.in_ok-followed-in-Function in
-    let shows = exposure_is e c.context.result.now followed.followed c.args.t.now (plain c.shown.result.now) c.context.ensures.entries followed.ensures.none followed.ensures.some c.shown.ensures in
+    let shows = exposure_is e c.context.result.now followed.followed c.args.t.now (plain c.changed_or_same.result.now) c.context.ensures.entries followed.ensures.none followed.ensures.some c.changed_or_same.ensures in
     let is = function_read c.args.abs.now i.span i.fields i.annotation i.v c.deref-in-Some-2.result.now (annotation_of i.annotation) c.deref-in-Some.result.now i.is refl c.deref-in-Some-2.ensures c.deref-in-Some.ensures in
     let r = c.in-Some.r.now in (
       search (rules, the_lemmas),
@@ -378,7 +378,7 @@ abstraction_against-returns-clause-answer t c =
     let e = environment_of c.args.env.now in
     let u = plain c.args.t.now in
     let followed = c.in_ok-followed-in-Function in
-    let shows = exposure_is e c.context.result.now followed.followed c.args.t.now (plain c.shown.result.now) c.context.ensures.entries followed.ensures.none followed.ensures.some c.shown.ensures in
+    let shows = exposure_is e c.context.result.now followed.followed c.args.t.now (plain c.changed_or_same.result.now) c.context.ensures.entries followed.ensures.none followed.ensures.some c.changed_or_same.ensures in
     let is = function_read c.args.abs.now i.span i.fields i.annotation i.v c.deref-in-Some-2.result.now (annotation_of i.annotation) c.deref-in-Some.result.now i.is refl c.deref-in-Some-2.ensures c.deref-in-Some.ensures in
     let r = c.in-Some.r.now in
     against_record_answer e (abs_of c.args.abs.now) i.span (field_pats_of c.deref-in-Some-2.result.now) (annotation_of i.annotation) (val_of c.deref-in-Some.result.now) u r c.function_against.result is (shows ∙ c.in-Some.ensures.some) c.function_against.ensures.answer
@@ -483,7 +483,7 @@ function_against-has-requires t c =
     let holds = subst (λ j. Runs (rule e j) (ok w.fields)) read w.holds in
     let d = environment_of c.add.new.self in
     let known = fields_known e mid d w.fields.own w.fields.adds (extension_of c.in_ok-adds.adds) w.known w.adds c.in_ok-add.ensures.known in
-    let past : plain c.shown.result.now ≡ shifted_by (opened w.fields.adds) (plain c.in_ok-wanted.wanted) = c.shown.ensures ∙ c.in_ok-inside.ensures ∙ ap (λ x. shifted_by (opened x) (plain c.in_ok-wanted.wanted)) w.adds in (
+    let past : plain c.changed_or_same.result.now ≡ shifted_by (opened w.fields.adds) (plain c.in_ok-wanted.wanted) = c.changed_or_same.ensures ∙ c.in_ok-inside.ensures ∙ ap (λ x. shifted_by (opened x) (plain c.in_ok-wanted.wanted)) w.adds in (
       search (rules, the_lemmas),
       subst (λ z. IsWellAsked nothing_ d (has v z)) (sym past)
           (against_body_asked e mid d s f a v (plain_record r) g w.fields (plain c.in_ok-wanted.wanted) takes w.known known c.requires.right holds c.in_ok-wanted.ensures),
@@ -507,7 +507,7 @@ function_against-returns-in_err-has-clause-answer t c =
     let holds = subst (λ j. Runs (rule e j) (ok w.fields)) read w.holds in
     let d = environment_of c.add.new.self in
     let known = fields_known e mid d w.fields.own w.fields.adds (extension_of c.in_ok-adds.adds) w.known w.adds c.in_ok-add.ensures.known in
-    let past : plain c.shown.result.now ≡ shifted_by (opened w.fields.adds) (plain c.in_ok-wanted.wanted) = c.shown.ensures ∙ c.in_ok-inside.ensures ∙ ap (λ x. shifted_by (opened x) (plain c.in_ok-wanted.wanted)) w.adds in
+    let past : plain c.changed_or_same.result.now ≡ shifted_by (opened w.fields.adds) (plain c.in_ok-wanted.wanted) = c.changed_or_same.ensures ∙ c.in_ok-inside.ensures ∙ ap (λ x. shifted_by (opened x) (plain c.in_ok-wanted.wanted)) w.adds in
     let err = c.in_err-has.field-0.0 in
     answer_err (rule e (abstraction_against (function_abs s f a v) (plain_record r))) nothing c.from_residual-in_err-has.result err c.from_residual-in_err-has.ensures.1
     (against_body_refused e mid d s f a v (plain_record r) g w.fields (plain c.in_ok-wanted.wanted) err takes w.known known holds c.in_ok-wanted.ensures (subst (λ z. IsRefused (rule d (has v z)) err) past c.in_err-has.ensures.answer))
@@ -535,7 +535,7 @@ function_against-returns-clause-answer t c =
     let holds = subst (λ j. Runs (rule e j) (ok w.fields)) read w.holds in
     let d = environment_of c.add.new.self in
     let known = fields_known e mid d w.fields.own w.fields.adds (extension_of c.in_ok-adds.adds) w.known w.adds c.in_ok-add.ensures.known in
-    let past : plain c.shown.result.now ≡ shifted_by (opened w.fields.adds) (plain c.in_ok-wanted.wanted) = c.shown.ensures ∙ c.in_ok-inside.ensures ∙ ap (λ x. shifted_by (opened x) (plain c.in_ok-wanted.wanted)) w.adds in
+    let past : plain c.changed_or_same.result.now ≡ shifted_by (opened w.fields.adds) (plain c.in_ok-wanted.wanted) = c.changed_or_same.ensures ∙ c.in_ok-inside.ensures ∙ ap (λ x. shifted_by (opened x) (plain c.in_ok-wanted.wanted)) w.adds in
     function_against e mid d s f a v (plain_record r) g w.fields (plain c.in_ok-wanted.wanted) takes w.known known holds c.in_ok-wanted.ensures (subst (λ z. Runs (rule d (has v z)) (ok tt)) past c.in_ok-has.ensures.answer)
 
 pub function_against-returns-clause-same : goal.abstractions::function_against-returns-clause-same

@@ -155,16 +155,16 @@ value_fits-has-requires t c =
     let e = environment_of c.args.env.now in
     let f = found_for c.args.bs.now c.args.found.now in
     let m = sym (c.in_ok-mentions_missing.ensures (plain_bounds c.args.bs.now)) ∙ c.if-branch.false in
-    let p = subst (λ u. Runs (formed e (with_found f (plain c.args.t.now)) c.args.span) (ok u)) (sym c.shown.ensures) c.in_ok-put.ensures.answer in
-    (search (rules, the_lemmas), value_has_asked e c.args.span (val_of c.args.v.now) (plain c.args.t.now) (plain c.shown.result.now) f m c.requires.right p)
+    let p = subst (λ u. Runs (formed e (with_found f (plain c.args.t.now)) c.args.span) (ok u)) (sym c.changed_or_same.ensures) c.in_ok-put.ensures.answer in
+    (search (rules, the_lemmas), value_has_asked e c.args.span (val_of c.args.v.now) (plain c.args.t.now) (plain c.changed_or_same.result.now) f m c.requires.right p)
 
 pub value_fits-returns-clause-answer : goal.fitting::value_fits-returns-clause-answer
 value_fits-returns-clause-answer t c =
     let e = environment_of c.args.env.now in
     let f = found_for c.args.bs.now c.args.found.now in
     let m = sym (c.in_ok-mentions_missing.ensures (plain_bounds c.args.bs.now)) ∙ c.if-branch.false in
-    let p = subst (λ u. Runs (formed e (with_found f (plain c.args.t.now)) c.args.span) (ok u)) (sym c.shown.ensures) c.in_ok-put.ensures.answer in
-    value_had e c.args.span (val_of c.args.v.now) (plain c.args.t.now) (plain c.shown.result.now) f nothing c.has.result m p c.has.ensures.answer
+    let p = subst (λ u. Runs (formed e (with_found f (plain c.args.t.now)) c.args.span) (ok u)) (sym c.changed_or_same.ensures) c.in_ok-put.ensures.answer in
+    value_had e c.args.span (val_of c.args.v.now) (plain c.args.t.now) (plain c.changed_or_same.result.now) f nothing c.has.result m p c.has.ensures.answer
 
 -- A LABELLED VALUE
 

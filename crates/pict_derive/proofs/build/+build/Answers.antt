@@ -10,7 +10,7 @@ use Rattle.pict_core.specs.declared.value.CoreVal.TheVariants as value
 use Rattle.pict_translation.specs.Arguments.{with_value, sent_as_one, right, left}
 use Rattle.pict_translation.specs.Placed.{Placed, beside, choice, each, input, new_channel, new_channels, output, served, side_by_side, variables}
 use Rattle.pict_translation.specs.Patterns.{pat_core, function_pat}
-use Rattle.pict_translation.specs.Simple.{Around, answer_channel, bound, fields_of, function_bound, pat_bound, simple, simple_chan, use_of}
+use Rattle.pict_translation.specs.Simple.{Around, answer_channel, bound, record_of_fields, function_bound, pat_bound, simple, simple_chan, use_of}
 use Rattle.pict_translation.specs.Translation.{sending, sending_chan, with_vals, with_labelled, with_fields, decs_core, dec_core, definition_names, servers, reader, proc_core, procs_core, unit_pat}
 use Rattle.pict_derive.specs.Built.{field_of, numbers_of, place, surround, three, with_levels}
 use Rattle.pict_derive.proofs.LevelLemmas.{empty, extends_none, extends_then, extends_with, names_count, pattern_place, pattern_size, function_answer, function_size, both_bound, place_bound}
@@ -28,19 +28,19 @@ value-returns-in_ok-channel-in-OfChan-clause-core t c = c.in_ok-channel-in-OfCha
 
 pub value-returns-in-Number-clause-core : goal.value-returns-in-Number-clause-core
 value-returns-in-Number-clause-core t c =
-    c.output.ensures ∙ ap (λ n. Out (plain_val (value.Var c.args.k)) (plain_val (value.Int n)) c.in-Number.at) (search rules) ∙ number_sent _ _ _ c.in-Number.number _ _ c.in-Number.is
+    c.core_output.ensures ∙ ap (λ n. Out (plain_val (value.Var c.args.k)) (plain_val (value.Int n)) c.in-Number.at) (search rules) ∙ number_sent _ _ _ c.in-Number.number _ _ c.in-Number.is
 
 pub value-returns-in-Character-clause-core : goal.value-returns-in-Character-clause-core
-value-returns-in-Character-clause-core t c = c.output-in-Character.ensures ∙ character_sent _ _ _ _ _ _ c.in-Character.is
+value-returns-in-Character-clause-core t c = c.core_output-in-Character.ensures ∙ character_sent _ _ _ _ _ _ c.in-Character.is
 
 pub value-returns-in_ok-copy-in-String-clause-core : goal.value-returns-in_ok-copy-in-String-clause-core
-value-returns-in_ok-copy-in-String-clause-core t c = c.output-in-String.ensures ∙ string_sent _ _ _ _ _ _ _ c.in-String.is c.in_ok-copy-in-String.ensures
+value-returns-in_ok-copy-in-String-clause-core t c = c.core_output-in-String.ensures ∙ string_sent _ _ _ _ _ _ _ c.in-String.is c.in_ok-copy-in-String.ensures
 
 pub value-returns-in-True-clause-core : goal.value-returns-in-True-clause-core
-value-returns-in-True-clause-core t c = c.output-in-True.ensures ∙ true_sent _ _ _ _ _ c.in-True.is
+value-returns-in-True-clause-core t c = c.core_output-in-True.ensures ∙ true_sent _ _ _ _ _ c.in-True.is
 
 pub value-returns-in-False-clause-core : goal.value-returns-in-False-clause-core
-value-returns-in-False-clause-core t c = c.output-in-False.ensures ∙ false_sent _ _ _ _ _ c.in-False.is
+value-returns-in-False-clause-core t c = c.core_output-in-False.ensures ∙ false_sent _ _ _ _ _ c.in-False.is
 
 pub value-returns-in_ok-around-in-Fields-clause-core : goal.value-returns-in_ok-around-in-Fields-clause-core
 value-returns-in_ok-around-in-Fields-clause-core t c =
@@ -48,9 +48,9 @@ value-returns-in_ok-around-in-Fields-clause-core t c =
     let k = Var c.args.k in
     let us = map plain_val c.in_ok-taken-in-Fields.taken.positional.items in
     let ws = map field_of c.in_ok-taken-in-Fields.taken.labelled.items in
-    c.in_ok-around-in-Fields.ensures (output k (fields_of e us ws) c.in-Fields.at) (out_made _ _ _ _ _ c.output-in-Fields.ensures c.in_ok-message-in-Fields.ensures)
-    ∙ sym (rw c.deref.ensures at (c.in_ok-taken-in-Fields.ensures.core (λ vs ls. output k (fields_of e vs ls) c.in-Fields.at)))
-    ∙ c.new-outer.ensures.core (with_fields e (field_vals_of c.in-Fields.parts.value) (λ vs ls. output k (fields_of e vs ls) c.in-Fields.at))
+    c.in_ok-around-in-Fields.ensures (output k (record_of_fields e us ws) c.in-Fields.at) (out_made _ _ _ _ _ c.core_output-in-Fields.ensures c.in_ok-message-in-Fields.ensures)
+    ∙ sym (rw c.deref.ensures at (c.in_ok-taken-in-Fields.ensures.core (λ vs ls. output k (record_of_fields e vs ls) c.in-Fields.at)))
+    ∙ c.new-outer.ensures.core (with_fields e (field_vals_of c.in-Fields.parts.value) (λ vs ls. output k (record_of_fields e vs ls) c.in-Fields.at))
     ∙ sym (fields_sent e _ _ _ k _ c.in-Fields.is)
 
 pub value-returns-in_ok-around-in-If-clause-core : goal.value-returns-in_ok-around-in-If-clause-core
@@ -75,7 +75,7 @@ lambda-returns-clause-core t c =
     let f = c.in_ok-f.f in
     let server = reader e (abs_of c.args.tree.now) in
     let made = rw (plain_var f) at c.in_ok-server.ensures.core in
-    c.in_ok-around.ensures (output k (Var f) c.args.at) (out_made _ _ _ _ _ c.output.ensures (plain_var f))
+    c.in_ok-around.ensures (output k (Var f) c.args.at) (out_made _ _ _ _ _ c.core_output.ensures (plain_var f))
     ∙ sym (c.in_ok-beside.ensures.core (server (Var f) true) (output k (Var f) c.args.at) made)
     ∙ sym (c.in_ok-f.ensures.core (λ f. beside (server f true) (output k f c.args.at)))
     ∙ c.new-outer.ensures.core (new_channel (λ f. beside (server f true) (output k f c.args.at)))
@@ -83,13 +83,13 @@ lambda-returns-clause-core t c =
 -- ---- values that stand as channels
 
 pub channel-returns-in-Use-clause-core : goal.channel-returns-in-Use-clause-core
-channel-returns-in-Use-clause-core t c = c.output.ensures ∙ use_sent _ _ _ _ _ _ _ c.in-Use.is c.used.ensures
+channel-returns-in-Use-clause-core t c = c.core_output.ensures ∙ use_sent _ _ _ _ _ _ _ c.in-Use.is c.use_core.ensures
 
 pub channel-returns-in-Some-clause-core : goal.channel-returns-in-Some-clause-core
 channel-returns-in-Some-clause-core t c =
     let e = place c.args.names.now c.args.scope.now in
     let found = rw c.deref.ensures at c.in_ok-message-in-Fold.ensures in
-    out_made _ _ _ _ _ c.output-in-Some.ensures refl
+    out_made _ _ _ _ _ c.core_output-in-Some.ensures refl
     ∙ ap (λ s. sent_as_one s (Var c.args.k) c.in-Fold.at (sending e (val_of c.in-Fold.inner.value) (Var c.args.k)) c.args.depth) (sym (ap (option_map plain_val) c.in-Some.is) ∙ found)
     ∙ sym (fold_sent e _ _ _ _ _ _ c.in-Fold.is)
 
@@ -125,10 +125,10 @@ channel-returns-in_ok-around-in-Apply-clause-core t c =
     let ws = map field_of c.in_ok-taken-in-Apply.taken.labelled.items in
     let parts = field_vals_of c.in-Apply.parts.value in
     let message = fields_and e _ c.in_ok-taken-in-Apply.taken.positional.items c.push.new.self.items c.args.k ws c.in_ok-message-in-Apply.ensures c.in_ok-push-in-Apply.ensures.items in
-    c.in_ok-around-in-Apply.ensures (output g (fields_of e (us ++ k ∷ []) ws) at) (c.output-in-Apply.ensures ∙ ap (λ m. Out g m at) message)
-    ∙ sym (rw (c.in_ok-head-in-Apply.ensures.scope, c.deref-in-Apply-2.ensures) at (c.in_ok-taken-in-Apply.ensures.core (λ vs ls. output g (fields_of e (vs ++ k ∷ []) ls) at)))
-    ∙ sym (rw c.deref-in-Apply.ensures at (c.in_ok-head-in-Apply.ensures.core (λ g. with_fields e parts (λ vs ls. output g (fields_of e (vs ++ k ∷ []) ls) at))))
-    ∙ c.new-outer-in-Apply.ensures.core (with_value (simple e (val_of c.in-Apply.head.value)) (sending e (val_of c.in-Apply.head.value)) (λ g. with_fields e parts (λ vs ls. output g (fields_of e (vs ++ k ∷ []) ls) at)))
+    c.in_ok-around-in-Apply.ensures (output g (record_of_fields e (us ++ k ∷ []) ws) at) (c.core_output-in-Apply.ensures ∙ ap (λ m. Out g m at) message)
+    ∙ sym (rw (c.in_ok-head-in-Apply.ensures.scope, c.deref-in-Apply-2.ensures) at (c.in_ok-taken-in-Apply.ensures.core (λ vs ls. output g (record_of_fields e (vs ++ k ∷ []) ls) at)))
+    ∙ sym (rw c.deref-in-Apply.ensures at (c.in_ok-head-in-Apply.ensures.core (λ g. with_fields e parts (λ vs ls. output g (record_of_fields e (vs ++ k ∷ []) ls) at))))
+    ∙ c.new-outer-in-Apply.ensures.core (with_value (simple e (val_of c.in-Apply.head.value)) (sending e (val_of c.in-Apply.head.value)) (λ g. with_fields e parts (λ vs ls. output g (record_of_fields e (vs ++ k ∷ []) ls) at)))
     ∙ sym (apply_sent e _ _ _ _ k _ c.in-Apply.is)
 
 pub channel-returns-in_ok-right-in-Right-clause-core : goal.channel-returns-in_ok-right-in-Right-clause-core
@@ -224,8 +224,8 @@ left-returns-in_default-clause-core t c = c.nothing_sent.ensures c.args.depth �
 
 -- ---- abstractions
 
-pub abstraction-returns-in_ok-input-in-Process-clause-core : goal.abstraction-returns-in_ok-input-in-Process-clause-core
-abstraction-returns-in_ok-input-in-Process-clause-core t c =
+pub abstraction-returns-in_ok-core_input-in-Process-clause-core : goal.abstraction-returns-in_ok-core_input-in-Process-clause-core
+abstraction-returns-in_ok-core_input-in-Process-clause-core t c =
     let names = c.args.names.now in
     let old = c.args.scope.now in
     let d = c.args.depth in
@@ -235,7 +235,7 @@ abstraction-returns-in_ok-input-in-Process-clause-core t c =
     let is = ap opened_names c.in_ok-opened-in-Process.ensures in
     let level = rw c.deref.ensures.value at c.in_ok-inside-in-Process.ensures.level in
     let bound = rw c.deref.ensures.value at c.in_ok-inside-in-Process.ensures.scope in
-    input_made _ _ _ _ (pat_core names p) _ (λ xs. proc_core (pat_bound p xs (place names old)) (proc_of c.in-Process.body.value)) _ d c.in_ok-input-in-Process.ensures
+    input_made _ _ _ _ (pat_core names p) _ (λ xs. proc_core (pat_bound p xs (place names old)) (proc_of c.in-Process.body.value)) _ d c.in_ok-core_input-in-Process.ensures
     (ap opened_pattern c.in_ok-opened-in-Process.ensures)
     (rw c.deref-in-Process.ensures at c.in_ok-body-in-Process.ensures.core
     ∙ ap (λ e. proc_core e (proc_of c.in-Process.body.value) c.in_ok-inside-in-Process.inside) (ap (place names) bound ∙ pattern_place names p d old ns is))
@@ -306,7 +306,7 @@ process-returns-in_ok-around-in-Send-clause-core t c =
     let v = val_of c.in-Send.message.value in
     let at = c.in-Send.at in
     let cx = plain_val c.in_ok-chan-in-Send.chan in
-    c.in_ok-around-in-Send.ensures (output cx (plain_val c.in_ok-message-in-Send.message) at) c.output.ensures
+    c.in_ok-around-in-Send.ensures (output cx (plain_val c.in_ok-message-in-Send.message) at) c.core_output.ensures
     ∙ sym (rw (c.in_ok-chan-in-Send.ensures.scope, c.deref-in-Send.ensures) at (c.in_ok-message-in-Send.ensures.core (λ y. output cx y at)))
     ∙ sym (rw c.deref.ensures at (c.in_ok-chan-in-Send.ensures.core (λ x. with_value (simple e v) (sending e v) (λ y. output x y at))))
     ∙ c.new-outer.ensures.core (with_value (simple_chan e x) (sending_chan e x) (λ x. with_value (simple e v) (sending e v) (λ y. output x y at)))
@@ -483,8 +483,8 @@ pub serve-returns-clause-core : goal.serve-returns-clause-core
 serve-returns-clause-core t c rest =
     c.loop-part.invariant.built rest ∙ servers_done (place c.args.names.now c.args.scope.now) c.loop-part.outer c.args.parts.now c.loop-part.part-index c.loop-part.level rest (omega arith)
 
-pub abstraction-returns-in_ok-input-in-Function-clause-core : goal.abstraction-returns-in_ok-input-in-Function-clause-core
-abstraction-returns-in_ok-input-in-Function-clause-core t c =
+pub abstraction-returns-in_ok-core_input-in-Function-clause-core : goal.abstraction-returns-in_ok-core_input-in-Function-clause-core
+abstraction-returns-in_ok-core_input-in-Function-clause-core t c =
     let names = c.args.names.now in
     let old = c.args.scope.now in
     let d = c.args.depth in
@@ -498,7 +498,7 @@ abstraction-returns-in_ok-input-in-Function-clause-core t c =
     let next = c.in_ok-next-in-Function.ensures ∙ ap (λ n. n + 1) at in
     let scope = second.scope ∙ ap (λ s. with_levels (numbers_of c.in_ok-opened-in-Function.opened.after.items) c.in_ok-next-in-Function.next s) first.scope in
     let bound = both_bound names f d old _ _ _ _ opened.before opened.after next scope in
-    input_made _ _ _ _ (function_pat names f) _ (λ xs. sending (function_bound f xs (place names old)) v (answer_channel names f xs)) _ d c.in_ok-input-in-Function.ensures
+    input_made _ _ _ _ (function_pat names f) _ (λ xs. sending (function_bound f xs (place names old)) v (answer_channel names f xs)) _ d c.in_ok-core_input-in-Function.ensures
     opened.pattern
     (rw c.deref-in-Function-4.ensures at c.in_ok-body-in-Function.ensures.core
     ∙ ap (λ e. sending e v (Var answer) c.in_ok-inside-in-Function.inside) bound
@@ -506,13 +506,13 @@ abstraction-returns-in_ok-input-in-Function-clause-core t c =
     (function_size names f d _ _ _ opened.after next second.level)
     ∙ sym (function_read (place names old) _ _ _ _ _ _ _ d c.in-Function.is)
 
-pub abstraction-returns-in_ok-input-in-Process-clause-scope : goal.abstraction-returns-in_ok-input-in-Process-clause-scope
-abstraction-returns-in_ok-input-in-Process-clause-scope t c =
+pub abstraction-returns-in_ok-core_input-in-Process-clause-scope : goal.abstraction-returns-in_ok-core_input-in-Process-clause-scope
+abstraction-returns-in_ok-core_input-in-Process-clause-scope t c =
     given_back c.args.scope.now c.bind_all.new.scope c.process.new.scope c.cut.new.self c.len-around.result
     (extends_with (numbers_of c.deref.result.now) c.args.depth _ _ c.in_ok-inside-in-Process.ensures.scope) c.in_ok-body-in-Process.ensures.scope c.len-around.ensures c.cut.ensures
 
-pub abstraction-returns-in_ok-input-in-Function-clause-scope : goal.abstraction-returns-in_ok-input-in-Function-clause-scope
-abstraction-returns-in_ok-input-in-Function-clause-scope t c =
+pub abstraction-returns-in_ok-core_input-in-Function-clause-scope : goal.abstraction-returns-in_ok-core_input-in-Function-clause-scope
+abstraction-returns-in_ok-core_input-in-Function-clause-scope t c =
     given_back c.args.scope.now c.bind_all-in-Function-2.new.scope c.value.new.scope c.cut-in-Function.new.self c.len-around.result
     (extends_then _ _ _ (extends_with (numbers_of c.deref-in-Function-2.result.now) c.args.depth _ _ c.in_ok-answer-in-Function.ensures.scope) (extends_with (numbers_of c.deref-in-Function-3.result.now) c.in_ok-next-in-Function.next _ _ c.in_ok-inside-in-Function.ensures.scope)) c.in_ok-body-in-Function.ensures.scope c.len-around.ensures c.cut-in-Function.ensures
 
@@ -550,7 +550,7 @@ right-loop-tree-preserved t c =
     let same = c.loop-tree.invariant.same in
     let r = right f at (map (argument_of e) (drop (i + 1) all) ++ argument_of e c.in-Some-split_last.second.now ∷ argument_of e c.in-Some.last.now ∷ []) in
     let x = plain_val c.in_ok-x.x in
-    let head = rw (c.in_ok-x.ensures.scope, same) at c.used-f.ensures in
+    let head = rw (c.in_ok-x.ensures.scope, same) at c.use_core-f.ensures in
     let made = applied_made _ _ (value.Var c.in_ok-level.level) f x (Var (c.operand.new.outer.depth + 1)) c.loop-tree.answer at c.in_ok-body.ensures head (plain_var c.in_ok-level.level ∙ ap Var c.in_ok-level.ensures) in
     record {
       built = c.loop-tree.invariant.built
@@ -570,7 +570,7 @@ right-returns-clause-core t c =
     let v = val_of c.in-Some.last.now in
     let x = plain_val c.in_ok-x-2.x in
     let y = plain_val c.in_ok-y.y in
-    let head = rw (c.in_ok-y.ensures.scope, c.in_ok-x-2.ensures.scope, same) at c.used-f-2.ensures in
+    let head = rw (c.in_ok-y.ensures.scope, c.in_ok-x-2.ensures.scope, same) at c.use_core-f-2.ensures in
     c.in_ok-around.ensures (output f (three x y k) at) (applied_made _ _ _ f x y c.loop-tree.answer at c.in_ok-rest.ensures head refl)
     ∙ sym (rw (c.in_ok-x-2.ensures.scope, same) at (c.in_ok-y.ensures.core (λ y. output f (three x y k) at)))
     ∙ sym (rw same at (c.in_ok-x-2.ensures.core (λ u. with_value (simple e v) (sending e v) (λ y. output f (three u y k) at))))
@@ -598,9 +598,9 @@ left-loop-tree-preserved t c =
     let v = val_of c.in-Some-tree.tree.now in
     let y = plain_val c.in_ok-y.y in
     let x = Var (d + 1) in
-    let head = rw (c.in_ok-y.ensures.scope, same) at c.used-f.ensures in
+    let head = rw (c.in_ok-y.ensures.scope, same) at c.use_core-f.ensures in
     let made = c.in_ok-rest.ensures
-    ∙ ap (λ u. Out (plain_val c.used-f.result) (three u y k) at) (plain_var c.in_ok-level.level ∙ ap Var c.in_ok-level.ensures)
+    ∙ ap (λ u. Out (plain_val c.use_core-f.result) (three u y k) at) (plain_var c.in_ok-level.level ∙ ap Var c.in_ok-level.ensures)
     ∙ ap (λ h. Out h (three x y k) at) head in
     let inside : c.in_ok-inside.inside ≡ d + 2 = (let a = c.in_ok-inside.ensures in let b = c.in_ok-level.ensures in omega (arith, a, b)) in
     let body = c.in_ok-body.ensures (output f (three x y k) at) made
@@ -624,7 +624,7 @@ left-returns-clause-core t c =
     let v = val_of c.in-Some-split_first.second.now in
     let x = plain_val c.in_ok-x.x in
     let y = plain_val c.in_ok-y-2.y in
-    let head = rw (c.in_ok-y-2.ensures.scope, c.in_ok-x.ensures.scope, same) at c.used-f-2.ensures in
+    let head = rw (c.in_ok-y-2.ensures.scope, c.in_ok-x.ensures.scope, same) at c.use_core-f-2.ensures in
     c.in_ok-around.ensures (output f (three x y k) at) (applied_made _ _ _ f x y c.loop-tree.answer at c.in_ok-rest-2.ensures head refl)
     ∙ sym (rw (c.in_ok-x.ensures.scope, same) at (c.in_ok-y-2.ensures.core (λ y. output f (three x y k) at)))
     ∙ sym (rw same at (c.in_ok-x.ensures.core (λ u. with_value (simple e v) (sending e v) (λ y. output f (three u y k) at))))

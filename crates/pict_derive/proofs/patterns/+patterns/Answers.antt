@@ -6,7 +6,7 @@ use Rattle.pict_core.specs.Term as core
 use Rattle.pict_core.specs.Plain.{plain_pat}
 use Rattle.pict_core.specs.declared.pattern.CorePat.TheVariants as pattern
 use Rattle.pict_derive.specs.declared.patterns.Opened.{Opened}
-use Rattle.pict_translation.specs.Patterns.{labelled_opened, labelled_names_in, names_in}
+use Rattle.pict_translation.specs.Patterns.{labelled_opened, labelled_names_in, names_opened}
 use Rattle.pict_derive.specs.Built.{numbers_of, opened_field}
 use Rattle.pict_derive.proofs.PatternForms.{opened_is, bind_opened, any_opened, fold_opened, joined_is, none_opened, none_labelled, one_opened, one_labelled_opened, patterns_grow, names_grow, fields_grow, sorted_fields, sorted_patterns}
 use Rattle.pict_derive.proofs.Surrounding.{plain_bind, plain_any}
@@ -53,7 +53,7 @@ open_labelled-returns-clause-names t c =
 pub open_positional-loop-tree-init : goal.open_positional-loop-tree-init
 open_positional-loop-tree-init t c = record {
   patterns = ap (map plain_pat) c.new-patterns.ensures.items ∙ sym (ap (map (λ o. o.pattern)) (none_opened c.args.names.now));
-  bound = ap numbers_of c.new-bound.ensures.items ∙ sym (ap names_in (none_opened c.args.names.now));
+  bound = ap numbers_of c.new-bound.ensures.items ∙ sym (ap names_opened (none_opened c.args.names.now));
 }
 
 pub open_positional-loop-tree-preserved : goal.open_positional-loop-tree-preserved

@@ -36,7 +36,7 @@ pub simple-returns-in-Lambda : goal.simple-returns-in-Lambda
 simple-returns-in-Lambda t c = sym (lambda_simple _ _ _ _ c.in-Lambda.is)
 
 pub simple_channel-returns-in-Use : goal.simple_channel-returns-in-Use
-simple_channel-returns-in-Use t c = ap Some c.used.ensures ∙ sym (use_simple _ _ _ _ c.in-Use.is)
+simple_channel-returns-in-Use t c = ap Some c.use_core.ensures ∙ sym (use_simple _ _ _ _ c.in-Use.is)
 
 pub simple_channel-returns-in_ok-simple-in-Fold : goal.simple_channel-returns-in_ok-simple-in-Fold
 simple_channel-returns-in_ok-simple-in-Fold t c = rw c.deref.ensures at c.in_ok-simple-in-Fold.ensures ∙ sym (fold_simple _ _ _ _ _ c.in-Fold.is)

@@ -3,7 +3,7 @@ use Rattle.std.proofs.lemmas.List.Elements.{All-from_recursion}
 use Rattle.std.specs.List.{All, IsDistinct}
 use Rattle.pict_core.specs.Plain.{vals_of}
 use Rattle.pict_heap.specs.HeapState.{value_of, IsWord}
-use Rattle.pict_desk.specs.Known.{known, list_of, fields_of}
+use Rattle.pict_desk.specs.Known.{known, list_of_vals, value_fields}
 use Rattle.pict_desk.proofs.Making.{pair_packed, level_piled, take_whole}
 use Rattle.pict_desk.proofs.Pairs.{value_packed}
 use Rattle.pict_desk.proofs.Reading.{list_back}
@@ -33,8 +33,8 @@ pub returns-clause-fields : goal.returns-clause-fields
 returns-clause-fields c =
     let piled = c.loop-level.invariant in
     let top = slice_top c.len-start.result c.deref.result.now c.args.pending.now.words.items piled.made (c.len-start.ensures ∙ c.args.pending.now.words.ok.0) (c.deref.ensures.value ∙ piled.words) in
-    ap fields_of (value_packed c.add_record-made.new.self c.add_record-made.result c.pack.result c.pack.ensures.fits (sym c.pack.ensures.pair) ∙ c.add_record-made.ensures.value)
-    ∙ ap (λ ws. list_of (vals_of (map (value_of c.args.heap.now) ws))) top
+    ap value_fields (value_packed c.add_record-made.new.self c.add_record-made.result c.pack.result c.pack.ensures.fits (sym c.pack.ensures.pair) ∙ c.add_record-made.ensures.value)
+    ∙ ap (λ ws. list_of_vals (vals_of (map (value_of c.args.heap.now) ws))) top
     ∙ list_back (map (value_of c.args.heap.now) piled.made)
     ∙ piled.stand
     ∙ ap (map (known c.args.heap.now c.args.values.now)) (take_whole c.args.frame.now c.loop-level.level-index c.loop-level-test.false)

@@ -11,7 +11,7 @@ use Rattle.pict_types.specs.PlainContext.{names_of, type_context}
 use Rattle.pict_types.specs.Types.{type_at}
 use Rattle.pict_sub.specs.Exposing.{exposure}
 use Rattle.pict_scope.specs.DistinctLabels.{PatHasDistinctLabels}
-use Rattle.pict_rules.specs.Environments.{Environment, joined, within}
+use Rattle.pict_rules.specs.Environments.{Environment, joined_extensions, within}
 use Rattle.pict_rules.specs.Regular.{IsRegular, kinds_in}
 use Rattle.pict_types.proofs.Congruent.{three}
 use Rattle.pict_types.proofs.Rows.{count_bounds_length, count_types_length}
@@ -28,7 +28,7 @@ use Rattle.pict_infer.specs.Places.{environment_in}
 use Rattle.pict_infer.proofs.AskedParts.{fields_asked, formed_at, inner_asked, labelled_asked, nth_type_is, own_asked, pattern_asked, positional_asked}
 use Rattle.pict_infer.specs.Opening.{against_fields}
 use Rattle.pict_infer.proofs.Closed.{as_many, as_many_more, base_back, no_fewer, record_closed, room_for}
-use Rattle.pict_infer.proofs.Forming.{shown_is}
+use Rattle.pict_infer.proofs.Forming.{changed_or_same_is}
 use Rattle.pict_infer.proofs.Forms.{any_is, as_many_binders, as_many_patterns, bind_is, count_of_binders, count_of_pats, fields_is, fold_is, parts_read}
 use Rattle.pict_infer.proofs.Handed.{against_err, answer_err}
 use Rattle.pict_infer.proofs.LabelPlaces.{formed_in_order}
@@ -219,14 +219,14 @@ label_against-returns-in-Some-clause-answer t c =
 pub record_against-returns-in-None-clause-answer : goal.record_against-returns-in-None-clause-answer
 record_against-returns-in-None-clause-answer t c =
     let u = c.args.t.now in
-    let is = c.shown.ensures ∙ shown_is (exposure (type_context c.args.c.now) (plain u)) c.in_ok-followed.followed u c.in_ok-followed.ensures.none c.in_ok-followed.ensures.some in
-    no_record (environment_in c.args.c.now) c.args.span (field_pats_of c.args.parts.now) (plain u) (plain c.shown.result.now) (sym is) c.in-None.ensures.none
+    let is = c.changed_or_same.ensures ∙ changed_or_same_is (exposure (type_context c.args.c.now) (plain u)) c.in_ok-followed.followed u c.in_ok-followed.ensures.none c.in_ok-followed.ensures.some in
+    no_record (environment_in c.args.c.now) c.args.span (field_pats_of c.args.parts.now) (plain u) (plain c.changed_or_same.result.now) (sym is) c.in-None.ensures.none
 
 pub record_against-parts_against-requires : goal.record_against-parts_against-requires
 record_against-parts_against-requires t c =
     let u = c.args.t.now in
     let r = c.in-Some.r.now in
-    let is = c.shown.ensures ∙ shown_is (exposure (type_context c.args.c.now) (plain u)) c.in_ok-followed.followed u c.in_ok-followed.ensures.none c.in_ok-followed.ensures.some in (
+    let is = c.changed_or_same.ensures ∙ changed_or_same_is (exposure (type_context c.args.c.now) (plain u)) c.in_ok-followed.followed u c.in_ok-followed.ensures.none c.in_ok-followed.ensures.some in (
       search (rules, the_lemmas),
       fields_asked (environment_in c.args.c.now) c.args.span (field_pats_of c.args.parts.now) (plain u) (plain_bounds r.binders.items) (plain_types r.positional.items) (plain_labels r.labelled.items) c.requires.right
           (sym is ∙ c.in-Some.ensures.some),
@@ -236,7 +236,7 @@ pub record_against-returns-clause-answer : goal.record_against-returns-clause-an
 record_against-returns-clause-answer t c =
     let u = c.args.t.now in
     let r = c.in-Some.r.now in
-    let is = c.shown.ensures ∙ shown_is (exposure (type_context c.args.c.now) (plain u)) c.in_ok-followed.followed u c.in_ok-followed.ensures.none c.in_ok-followed.ensures.some in
+    let is = c.changed_or_same.ensures ∙ changed_or_same_is (exposure (type_context c.args.c.now) (plain u)) c.in_ok-followed.followed u c.in_ok-followed.ensures.none c.in_ok-followed.ensures.some in
     record_answer (environment_in c.args.c.now) c.args.span (field_pats_of c.args.parts.now) (plain u) (plain_bounds r.binders.items) (plain_types r.positional.items) (plain_labels r.labelled.items) extension_of
     c.parts_against.result (sym is ∙ c.in-Some.ensures.some) c.parts_against.ensures.answer
 
@@ -418,7 +418,7 @@ open_parts_against-returns-clause-answer t c =
     let m : length c.deref-2.result.now ≡ length c.args.positional.now = omega (arith, c.if-len-positional.false, c.len-2.ensures, (out-FieldPats f).positional.ok.0, ap length c.deref-2.ensures.value) in
     let is = parts_read f c.deref.result.now c.deref-2.result.now c.deref-3.result.now c.deref.ensures.value c.deref-2.ensures.value c.deref-3.ensures.value in
     let first = subst (λ z. Runs (rule z (patterns_against (pats_on no_pats c.deref-2.result.now) (plain_types c.args.positional.now))) (ok x)) (sym c.in_ok-first.ensures.same) c.in_ok-first.ensures.answer in
-    let g : OpenedFields = record { own = o.own; adds = joined x y } in
+    let g : OpenedFields = record { own = o.own; adds = joined_extensions x y } in
     record {
       given = g;
       gives =

@@ -10,7 +10,7 @@ use Rattle.pict_types.specs.Plain.{plain, plain_labels, plain_record, plain_type
 use Rattle.pict_types.specs.PlainContext.{type_context}
 use Rattle.pict_types.specs.Types.{PlainBounds, Fields as PlainFields}
 use Rattle.pict_types.proofs.Rows.{plain_fields}
-use Rattle.pict_rules.specs.Environments.{Environment, joined, within}
+use Rattle.pict_rules.specs.Environments.{Environment, joined_extensions, within}
 use Rattle.pict_rules.specs.Rules.{fields_, fields_give, labelled_patterns_give, ok, pattern_, pattern_gives, patterns_give, TypedFields}
 use Rattle.pict_rules.specs.Clauses.{with_own}
 use Rattle.pict_rules.specs.Derivations.{Runs}
@@ -284,7 +284,7 @@ open_parts-returns-clause-answer t c =
     let is = parts_read f c.deref.result.now c.deref-2.result.now c.deref-3.result.now c.deref.ensures.value c.deref-2.ensures.value c.deref-3.ensures.value in
     let first = runs_in (patterns_give ps) (environment_in c.open_giving.new.c) (with_own e o.own) o.inside c.in_ok-positional.ensures.answer in
     let second = runs_in (labelled_patterns_give ls) (environment_in c.give_all.new.c) (with_own e o.own) (c.in_ok-positional.ensures.same ∙ o.inside) c.in_ok-labelled.ensures.answer in
-    let g : TypedFields = record { own = o.own; positional = plain_types c.in_ok-positional.positional.have.items; labelled = plain_labels c.in_ok-labelled.labelled.have.items; adds = joined (extension_of c.in_ok-positional.positional.adds) (extension_of c.in_ok-labelled.labelled.adds) } in
+    let g : TypedFields = record { own = o.own; positional = plain_types c.in_ok-positional.positional.have.items; labelled = plain_labels c.in_ok-labelled.labelled.have.items; adds = joined_extensions (extension_of c.in_ok-positional.positional.adds) (extension_of c.in_ok-labelled.labelled.adds) } in
     record {
       given = g;
       gives = subst (λ h. Runs (rule e (fields_give h)) (ok g)) (sym is) (fields_typed e _ ps ls o.own _ _ o.gives first second);

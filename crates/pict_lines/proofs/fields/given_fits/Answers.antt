@@ -28,6 +28,6 @@ pub returns : goal.returns
 returns c =
     let e = environment_of c.args.env.now in
     let f : Found = found_for c.args.bs.now c.args.found.now in
-    given_end e c.args.node c.args.at (plain c.args.t.now) (plain c.args.given.now) (plain c.shown.result.now) f c.below.result
+    given_end e c.args.node c.args.at (plain c.args.t.now) (plain c.args.given.now) (plain c.changed_or_same.result.now) f c.below.result
     (sym (c.in_ok-mentions_missing.ensures (plain_bounds c.args.bs.now)) ∙ c.if-branch.false)
-    (subst (λ u. Runs (formed e (with_found f (plain c.args.t.now)) c.args.node) (ok u)) (sym c.shown.ensures) c.in_ok-put.ensures.answer) c.below.ensures
+    (subst (λ u. Runs (formed e (with_found f (plain c.args.t.now)) c.args.node) (ok u)) (sym c.changed_or_same.ensures) c.in_ok-put.ensures.answer) c.below.ensures

@@ -35,7 +35,7 @@ match_at-returns-in-Apply t c =
 pub match_arguments-match_types-requires : goal.match_arguments-match_types-requires
 match_arguments-match_types-requires t c =
     let e : Apply c.in-Apply.j (plain_types c.deref-then-is_same_head.result.now) ≡ exposure (scope_context c.args.scope.now) (plain c.args.given.now) =
-    sym (apply_is c.shown.result.now c.in-Apply.j c.in-Apply.us c.deref-then-is_same_head.result.now c.in-Apply.is (c.deref-then-is_same_head.ensures.value ∙ ap (λ v. v.items) c.deref.ensures)) ∙ c.shown.ensures ∙ c.in_ok-followed.ensures in
+    sym (apply_is c.changed_or_same.result.now c.in-Apply.j c.in-Apply.us c.deref-then-is_same_head.result.now c.in-Apply.is (c.deref-then-is_same_head.ensures.value ∙ ap (λ v. v.items) c.deref.ensures)) ∙ c.changed_or_same.ensures ∙ c.in_ok-followed.ensures in
     (omega arith, (c.requires.context, (c.requires.wanted, shown_arguments c.args.names.now (scope_context c.args.scope.now) (plain c.args.given.now) c.in-Apply.j (plain_types c.deref-then-is_same_head.result.now) c.requires.context c.requires.given e)))
 
 pub match_arguments-returns-then-is_same_head : goal.match_arguments-returns-then-is_same_head
@@ -45,14 +45,14 @@ match_arguments-returns-then-is_same_head t c =
     let ws = plain_types c.args.wanted.now in
     let us = plain_types c.deref-then-is_same_head.result.now in
     let e : Apply c.in-Apply.j us ≡ exposure ctx (plain c.args.given.now) =
-    sym (apply_is c.shown.result.now c.in-Apply.j c.in-Apply.us c.deref-then-is_same_head.result.now c.in-Apply.is (c.deref-then-is_same_head.ensures.value ∙ ap (λ v. v.items) c.deref.ensures)) ∙ c.shown.ensures ∙ c.in_ok-followed.ensures in
+    sym (apply_is c.changed_or_same.result.now c.in-Apply.j c.in-Apply.us c.deref-then-is_same_head.result.now c.in-Apply.is (c.deref-then-is_same_head.ensures.value ∙ ap (λ v. v.items) c.deref.ensures)) ∙ c.changed_or_same.ensures ∙ c.in_ok-followed.ensures in
     let is = arguments_same ctx c.args.inner c.args.i c.in-Apply.j ws us (plain c.args.given.now) f e (sym c.is_same_head.ensures ∙ c.if-is_same_head.true) in
     finds_same c.match_types.result (matched_types ctx c.args.inner ws us) (by_arguments ctx c.args.inner c.args.i ws (plain c.args.given.now)) f (found_in c.match_types.new.found) is c.match_types.ensures
 
 pub match_record-match_records-requires : goal.match_record-match_records-requires
 match_record-match_records-requires t c =
     let e : plain_record c.deref.result.now ≡ exposure (scope_context c.args.scope.now) (plain c.args.given.now) =
-    sym (record_is c.shown.result.now c.in-Fields.q c.deref.result.now c.in-Fields.is c.deref.ensures) ∙ c.shown.ensures ∙ c.in_ok-followed.ensures in
+    sym (record_is c.changed_or_same.result.now c.in-Fields.q c.deref.result.now c.in-Fields.is c.deref.ensures) ∙ c.changed_or_same.ensures ∙ c.in_ok-followed.ensures in
     (omega arith, (c.requires.context, (c.requires.wanted, shown_fields c.args.names.now (scope_context c.args.scope.now) (plain c.args.given.now) _ _ _ c.requires.context c.requires.given e)))
 
 pub match_records-match_types-requires : goal.match_records-match_types-requires

@@ -21,7 +21,7 @@ use Rattle.pict_turns.proofs.Needing.{only_worked, needed_by}
 use Rattle.pict_meetings.proofs.Needing.{receipt_needs, waiting_needs, part_made_beside}
 use Rattle.pict_turns.proofs.Growing.{desk_same, adds_none}
 use Rattle.pict_meetings.proofs.Adding.{receipt_adds, part_added}
-use Rattle.pict_turns.proofs.Plainly.{plainly_received, nothing_worked, input_receives}
+use Rattle.pict_turns.proofs.InPlace.{received_in_place, nothing_worked, input_receives}
 use Rattle.pict_meetings.proofs.Plainly.{message_waits}
 use Rattle.pict_turns.proofs.Working.{frame_there, costs_then, own_wide, alone_works}
 use Rattle.pict_meetings.proofs.Working.{input_works}
@@ -86,7 +86,7 @@ returns-in-Output c =
         plain = λ meets.
             let received = input_receives (core_in c.args.code.now) c.args.store.now c.args.replicated c.requires.receives.chan (plain_pat c.args.pattern.now) c.args.part c.requires.receives.acts meets in
             nothing_worked s q c.receive_message.new.store c.receive_message.result c.first_waiting.ensures.rest
-            (c.receive_message.ensures.plain (plainly_received (core_in c.args.code.now) s q c.first_waiting.ensures.rest (acting_words (core_in c.args.code.now) s) received));
+            (c.receive_message.ensures.plain (received_in_place (core_in c.args.code.now) s q c.first_waiting.ensures.rest (acting_words (core_in c.args.code.now) s) received));
       };
     }
 

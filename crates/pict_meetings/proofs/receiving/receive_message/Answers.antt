@@ -20,7 +20,7 @@ use Rattle.pict_turns.proofs.Passing.{refused_step, may_reserve}
 use Rattle.pict_meetings.proofs.Passing.{receives_reserved}
 use Rattle.pict_meetings.proofs.AtChannels.{input_process}
 use Rattle.pict_turns.proofs.Adding.{used_after, used_less}
-use Rattle.pict_turns.proofs.Plainly.{plain_input}
+use Rattle.pict_turns.proofs.InPlace.{plain_input}
 use Rattle.pict_meetings.proofs.Plainly.{same_part, not_replicated, message_length, receives_kept}
 use Rattle.pict_turns.proofs.Working.{costs_reserved}
 use Rattle.pict_meetings.proofs.receiving.receive_message.Goals as goal

@@ -17,7 +17,7 @@ use Rattle.pict_meetings.proofs.Needing.{wait_needs, meeting_made}
 use Rattle.pict_turns.specs.Growing.{message_need, given_need}
 use Rattle.pict_turns.proofs.Growing.{node_adds}
 use Rattle.pict_meetings.proofs.Adding.{wait_adds, meeting_added}
-use Rattle.pict_turns.proofs.Plainly.{plainly_sent, nothing_worked, output_sends}
+use Rattle.pict_turns.proofs.InPlace.{sent_in_place, nothing_worked, output_sends}
 use Rattle.pict_meetings.proofs.Plainly.{serves}
 use Rattle.pict_meetings.proofs.sending.send.Goals as goal
 
@@ -80,7 +80,7 @@ returns-in-Input c =
         plain = λ meets.
             let sent = output_sends (core_in c.args.code.now) c.args.store.now c.requires.sends.chan (plain_val c.args.message.now) c.args.at c.requires.sends.acts meets in
             nothing_worked s q c.send_operand.new.store c.send_operand.result c.first_waiting.ensures.rest
-            (c.send_operand.ensures.plain (plainly_sent (core_in c.args.code.now) s q c.first_waiting.ensures.rest (acting_words (core_in c.args.code.now) s) sent));
+            (c.send_operand.ensures.plain (sent_in_place (core_in c.args.code.now) s q c.first_waiting.ensures.rest (acting_words (core_in c.args.code.now) s) sent));
       };
     }
 

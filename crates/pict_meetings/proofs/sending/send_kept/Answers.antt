@@ -22,7 +22,7 @@ use Rattle.pict_desk.specs.Needs.{no_need}
 use Rattle.pict_turns.proofs.Adding.{used_beside}
 use Rattle.pict_turns.proofs.Growing.{kept_adds, desk_same, adds_none}
 use Rattle.pict_meetings.proofs.Adding.{meeting_added}
-use Rattle.pict_turns.proofs.Plainly.{plainly_sent, nothing_worked, kept_sends}
+use Rattle.pict_turns.proofs.InPlace.{sent_in_place, nothing_worked, kept_sends}
 use Rattle.pict_meetings.proofs.Plainly.{serves}
 use Rattle.pict_meetings.proofs.sending.send_kept.Goals as goal
 
@@ -85,7 +85,7 @@ returns-in-Input c =
         plain = λ meets.
             let sent = kept_sends (core_in c.args.code.now) c.args.store.now c.requires.kept.kept meets in
             let sent = nothing_worked s q c.send_to_reader-done.new.store c.send_to_reader-done.result c.first_waiting.ensures.rest
-            (c.send_to_reader-done.ensures.plain (plainly_sent (core_in c.args.code.now) s q c.first_waiting.ensures.rest (acting_words (core_in c.args.code.now) s) sent)) in
+            (c.send_to_reader-done.ensures.plain (sent_in_place (core_in c.args.code.now) s q c.first_waiting.ensures.rest (acting_words (core_in c.args.code.now) s) sent)) in
             (c.receipt.ensures.ok sent.0, sent.1);
       };
     }

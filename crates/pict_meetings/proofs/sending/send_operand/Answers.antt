@@ -14,7 +14,7 @@ use Rattle.pict_desk.specs.Needs.{both_needs}
 use Rattle.pict_turns.specs.Growing.{AddsAtMost, part_need}
 use Rattle.pict_turns.proofs.Adding.{used_beside}
 use Rattle.pict_turns.proofs.Growing.{message_is}
-use Rattle.pict_turns.proofs.Plainly.{wordless_output}
+use Rattle.pict_turns.proofs.InPlace.{wordless_output}
 use Rattle.pict_meetings.proofs.sending.send_operand.Goals as goal
 
 pub pair_there-requires-clause-over : goal.pair_there-requires-clause-over

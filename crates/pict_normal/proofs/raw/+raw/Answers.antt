@@ -10,7 +10,7 @@ use Rattle.pict_types.specs.Types.{is_top}
 use Rattle.pict_normal.specs.Normal.{meaning, count_trees, apply_stops, kind_stops, types_stops, labels_stops, binders_stops, binder_stops}
 use Rattle.pict_types.specs.Plain.{plain, plain_record, plain_types, plain_labels, plain_bounds}
 use Rattle.pict_types.specs.PlainContext.{names_of, plain_context}
-use Rattle.pict_types.specs.Places.{names_in}
+use Rattle.pict_types.specs.Places.{entry_names}
 use Rattle.pict_normal.specs.Sizes.{nodes, nodes_of_binder, nodes_of_binders, nodes_of_types, nodes_of_labels}
 use Rattle.pict_normal.specs.Raw.{raw, raw_binders, raw_binder}
 use Rattle.pict_normal.specs.Refusals.{IsFirst}
@@ -41,7 +41,7 @@ raw_binders-loop-b-init t c =
     let ns = names_of c.args.c.now in
     let d = around c.args.inner.now c.args.c.now in
     record {
-      raw = ap plain_bounds c.new-bounds.ensures.items ∙ sym (ap (raw_binders ns (names_in d)) (binders_none no_binders));
+      raw = ap plain_bounds c.new-bounds.ensures.items ∙ sym (ap (raw_binders ns (entry_names d)) (binders_none no_binders));
       kinds = ap (binders_stops ns d) (binders_none no_binders);
       inner = sym (ap (entries_under (scope_of c.args.inner.now)) (binders_none no_binders));
     }
@@ -79,7 +79,7 @@ raw_binders-loop-b-preserved t c =
       raw =
           ap plain_bounds c.in_ok-push.ensures.items
           ∙ binders_raw ns ctx e s bs i x c.loop-b.bounds.items c.in_ok-raw_binder.field-0 c.loop-b-test.true c.loop-b.invariant.inner c.loop-b.invariant.raw
-          (c.in_ok-raw_binder.ensures.raw ∙ ap (λ y. raw_binder ns (names_in (s ++ ctx)) (binder_of y)) is);
+          (c.in_ok-raw_binder.ensures.raw ∙ ap (λ y. raw_binder ns (entry_names (s ++ ctx)) (binder_of y)) is);
       kinds =
           binders_kinds ns ctx e s bs i x c.loop-b-test.true c.loop-b.invariant.inner c.loop-b.invariant.kinds
           (ap (λ y. binder_stops ns (s ++ ctx) (binder_of y)) (sym is) ∙ c.in_ok-raw_binder.ensures.kinds);
@@ -93,7 +93,7 @@ raw_labels-loop-l-init t c =
     let ns = names_of c.args.c.now in
     let d = around c.args.inner.now c.args.c.now in
     record {
-      raw = ap plain_labels c.new-labelled.ensures.items ∙ sym (ap (unsorted ns (names_in d)) (labelled_types_none no_labelled_types));
+      raw = ap plain_labels c.new-labelled.ensures.items ∙ sym (ap (unsorted ns (entry_names d)) (labelled_types_none no_labelled_types));
       kinds = ap (labels_stops ns d) (labelled_types_none no_labelled_types);
       inner = refl;
     }
@@ -129,7 +129,7 @@ raw_labels-loop-l-preserved t c =
       raw =
           ap plain_labels c.in_ok-push.ensures.items
           ∙ labels_raw ns ctx d e ls i x c.loop-l.labelled.items (x.label.name, c.in_ok-raw_type.field-0) c.loop-l-test.true c.loop-l.invariant.inner c.loop-l.invariant.raw
-          (ap (λ y. y.label.name) is) (c.in_ok-raw_type.ensures.raw ∙ ap (λ y. raw ns (names_in (e ++ ctx)) (type_of y.of)) is);
+          (ap (λ y. y.label.name) is) (c.in_ok-raw_type.ensures.raw ∙ ap (λ y. raw ns (entry_names (e ++ ctx)) (type_of y.of)) is);
       kinds =
           labels_kinds ns ctx d e ls i x c.loop-l-test.true c.loop-l.invariant.inner c.loop-l.invariant.kinds
           (ap (λ y. kind_stops ns (e ++ ctx) (type_of y.of)) (sym is) ∙ c.in_ok-raw_type.ensures.kinds);
@@ -139,7 +139,7 @@ raw_labels-loop-l-preserved t c =
 pub raw_labels-returns-clause-raw : goal.raw_labels-returns-clause-raw
 raw_labels-returns-clause-raw t c =
     let ns = names_of c.args.c.now in
-    let ms = names_in (around c.args.inner.now c.args.c.now) in
+    let ms = entry_names (around c.args.inner.now c.args.c.now) in
     let ls = c.args.ls.now in
     fields_sorted c.names.result.now c.loop-l.labelled.items c.sort_labels.new.items.items c.in_ok-sort_labels.ensures.sorted
     ∙ ap₂ in_order c.names.ensures.same (c.loop-l.invariant.raw ∙ ap (unsorted ns ms) (labelled_end ls c.loop-l.l-index c.loop-l-test.false))
@@ -169,7 +169,7 @@ raw_types-loop-t-preserved t c =
       raw =
           ap plain_types c.in_ok-push.ensures.items
           ∙ types_raw ns ctx d e ts i x c.loop-t.types.items c.in_ok-raw_type.field-0 c.loop-t-test.true c.loop-t.invariant.inner c.loop-t.invariant.raw
-          (c.in_ok-raw_type.ensures.raw ∙ ap (λ y. raw ns (names_in (e ++ ctx)) (type_of y)) is);
+          (c.in_ok-raw_type.ensures.raw ∙ ap (λ y. raw ns (entry_names (e ++ ctx)) (type_of y)) is);
       kinds =
           types_kinds ns ctx d e ts i x c.loop-t-test.true c.loop-t.invariant.inner c.loop-t.invariant.kinds
           (ap (λ y. kind_stops ns (e ++ ctx) (type_of y)) (sym is) ∙ c.in_ok-raw_type.ensures.kinds);
@@ -236,7 +236,7 @@ pub raw_type-returns-in_ok-new-in-Fields-clause-raw : goal.raw_type-returns-in_o
 raw_type-returns-in_ok-new-in-Fields-clause-raw t c =
     let d = around c.args.inner.now c.args.c.now in
     let e = fields_tree c.args.t.now c.in-Fields.field-0 c.in-Fields.bs c.in-Fields.ts c.in-Fields.ls c.deref-in-Fields.result.now c.deref-in-Fields-2.result.now c.deref-in-Fields-3.result.now c.in-Fields.is c.deref-in-Fields.ensures.value c.deref-in-Fields-2.ensures.value c.deref-in-Fields-3.ensures.value in
-    plain_fields c.in_ok-new-in-Fields.field-0 ∙ ap plain_record c.in_ok-new-in-Fields.ensures.ok ∙ c.in_ok-raw_record-in-Fields.ensures.raw c.in-Fields.field-0 ∙ ap (raw (names_of c.args.c.now) (names_in d)) (sym e)
+    plain_fields c.in_ok-new-in-Fields.field-0 ∙ ap plain_record c.in_ok-new-in-Fields.ensures.ok ∙ c.in_ok-raw_record-in-Fields.ensures.raw c.in-Fields.field-0 ∙ ap (raw (names_of c.args.c.now) (entry_names d)) (sym e)
 
 pub raw_type-returns-in_ok-new-in-Fields-clause-kinds : goal.raw_type-returns-in_ok-new-in-Fields-clause-kinds
 raw_type-returns-in_ok-new-in-Fields-clause-kinds t c =
@@ -281,7 +281,7 @@ pub raw_type-returns-in_ok-apply_head-in-Apply-clause-raw : goal.raw_type-return
 raw_type-returns-in_ok-apply_head-in-Apply-clause-raw t c =
     let d = around c.args.inner.now c.args.c.now in
     let e = apply_tree c.args.t.now c.in-Apply.span c.in-Apply.id c.in-Apply.ts c.deref-in-Apply.result.now c.in-Apply.is c.deref-in-Apply.ensures.value in
-    c.in_ok-apply_head-in-Apply.ensures ∙ ap₂ apply_variable c.in_ok-head-in-Apply.ensures.raw c.in_ok-raw_types-in-Apply.ensures.raw ∙ ap (raw (names_of c.args.c.now) (names_in d)) (sym e)
+    c.in_ok-apply_head-in-Apply.ensures ∙ ap₂ apply_variable c.in_ok-head-in-Apply.ensures.raw c.in_ok-raw_types-in-Apply.ensures.raw ∙ ap (raw (names_of c.args.c.now) (entry_names d)) (sym e)
 
 pub raw_type-returns-in_ok-apply_head-in-Apply-clause-kinds : goal.raw_type-returns-in_ok-apply_head-in-Apply-clause-kinds
 raw_type-returns-in_ok-apply_head-in-Apply-clause-kinds t c =

@@ -7,7 +7,7 @@ use Rattle.pict_normal.specs.BinderEntries.{entries_under}
 use Rattle.pict_normal.specs.Normal.{types_stops, labels_stops, binders_stops}
 use Rattle.pict_types.specs.Plain.{plain_types, plain_labels, plain_bounds}
 use Rattle.pict_types.specs.PlainContext.{names_of}
-use Rattle.pict_types.specs.Places.{names_in}
+use Rattle.pict_types.specs.Places.{entry_names}
 use Rattle.pict_normal.specs.Sizes.{nodes, nodes_of_types, nodes_of_labels, nodes_of_binders, nodes_of_binder}
 use Rattle.pict_normal.specs.Raw.{raw_types, raw_binders}
 use Rattle.pict_normal.proofs.LabelOrder.{unsorted}
@@ -15,21 +15,21 @@ use Rattle.pict_normal.proofs.raw.+raw.Given as goal
 
 abbrev pub invariant-raw_types-loop-t : goal.invariant-raw_types-loop-t
 invariant-raw_types-loop-t l = record {
-  raw : plain_types l.types.items ≡ raw_types (names_of l.c) (names_in (around l.fn.inner l.c)) (types_on no_types (take l.t-index l.ts));
+  raw : plain_types l.types.items ≡ raw_types (names_of l.c) (entry_names (around l.fn.inner l.c)) (types_on no_types (take l.t-index l.ts));
   kinds : types_stops (names_of l.c) (around l.fn.inner l.c) (types_on no_types (take l.t-index l.ts)) ≡ [];
   inner : scope_of l.inner ≡ scope_of l.fn.inner;
 }
 
 abbrev pub invariant-raw_labels-loop-l : goal.invariant-raw_labels-loop-l
 invariant-raw_labels-loop-l l = record {
-  raw : plain_labels l.labelled.items ≡ unsorted (names_of l.c) (names_in (around l.fn.inner l.c)) (labelled_types_on no_labelled_types (take l.l-index l.ls));
+  raw : plain_labels l.labelled.items ≡ unsorted (names_of l.c) (entry_names (around l.fn.inner l.c)) (labelled_types_on no_labelled_types (take l.l-index l.ls));
   kinds : labels_stops (names_of l.c) (around l.fn.inner l.c) (labelled_types_on no_labelled_types (take l.l-index l.ls)) ≡ [];
   inner : scope_of l.inner ≡ scope_of l.fn.inner;
 }
 
 abbrev pub invariant-raw_binders-loop-b : goal.invariant-raw_binders-loop-b
 invariant-raw_binders-loop-b l = record {
-  raw : plain_bounds l.bounds.items ≡ raw_binders (names_of l.c) (names_in (around l.fn.inner l.c)) (binders_on no_binders (take l.b-index l.bs));
+  raw : plain_bounds l.bounds.items ≡ raw_binders (names_of l.c) (entry_names (around l.fn.inner l.c)) (binders_on no_binders (take l.b-index l.bs));
   kinds : binders_stops (names_of l.c) (around l.fn.inner l.c) (binders_on no_binders (take l.b-index l.bs)) ≡ [];
   inner : scope_of l.inner ≡ entries_under (scope_of l.fn.inner) (binders_on no_binders (take l.b-index l.bs));
 }

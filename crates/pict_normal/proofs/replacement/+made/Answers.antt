@@ -8,7 +8,7 @@ use Rattle.pict_normal.specs.Made.{AreArguments, IsMade, IsMadeBound, IsReason, 
 use Rattle.pict_types.specs.Measures.{size, size_types, size_labels, size_bounds, weigh, weigh_types, weigh_labels, weigh_bounds, weigh_variable}
 use Rattle.pict_types.specs.Filling.{put_for}
 use Rattle.pict_types.specs.Plain.{plain, plain_cap, plain_bound, plain_record, plain_types, plain_labels, plain_bounds}
-use Rattle.pict_normal.specs.Putting.{HasRoom, put_head, names_in, variables_in, weights_in, heights_in, replacement_in, replacement_of}
+use Rattle.pict_normal.specs.Putting.{HasRoom, put_head, context_names, variables_in, weights_in, heights_in, replacement_in, replacement_of}
 use Rattle.pict_types.specs.Renaming.{rename, moved}
 use Rattle.pict_types.specs.Replacing.{variable, apply_head, bound_by, fill, replacement_past, replacement_beyond, replace, replace_bound, replace_bounds, replace_labels, replace_types}
 use Rattle.pict_normal.proofs.Bounding.{bounds_step, bounds_all, bounds_done, bounds_reason}
@@ -58,7 +58,7 @@ made_type-made_apply-requires t c =
     let ts = plain_types c.deref-in-Apply-2.result.now in
     let e = apply_is c.args.t.now c.in-Apply.i c.in-Apply.ts c.deref-in-Apply-2.result.now c.in-Apply.is (c.deref-in-Apply-2.ensures.value ∙ ap (λ v. v.items) c.deref-in-Apply.ensures) in
     let h : size (plain c.args.t.now) ≡ suc (size_types ts) = ap size e in
-    (omega (arith, h), placed_part (λ ks. IsWellFormed (names_in p) ks (Apply c.in-Apply.i ts)) (λ ks w. subst (IsWellFormed (names_in p) ks) e w) c.requires.placed)
+    (omega (arith, h), placed_part (λ ks. IsWellFormed (context_names p) ks (Apply c.in-Apply.i ts)) (λ ks w. subst (IsWellFormed (context_names p) ks) e w) c.requires.placed)
 
 pub made_type-returns-in-Apply-clause-made : goal.made_type-returns-in-Apply-clause-made
 made_type-returns-in-Apply-clause-made t c =
@@ -80,7 +80,7 @@ made_type-made_record-requires t c =
     let r = c.deref-in-Fields.result.now in
     let e = record_is c.args.t.now c.in-Fields.r r c.in-Fields.is c.deref-in-Fields.ensures in
     let h : size (plain c.args.t.now) ≡ size (plain_record r) = ap size e in
-    (omega (arith, h), placed_part (λ ks. IsWellFormed (names_in p) ks (plain_record r)) (λ ks w. subst (IsWellFormed (names_in p) ks) e w) c.requires.placed)
+    (omega (arith, h), placed_part (λ ks. IsWellFormed (context_names p) ks (plain_record r)) (λ ks w. subst (IsWellFormed (context_names p) ks) e w) c.requires.placed)
 
 pub made_type-returns-in-Fields-clause-made : goal.made_type-returns-in-Fields-clause-made
 made_type-returns-in-Fields-clause-made t c =
@@ -104,7 +104,7 @@ made_type-made_type-requires-in-Rec t c =
     let b = plain c.deref-in-Rec.result.now in
     let e : plain c.args.t.now ≡ Rec b = ap plain c.in-Rec.is ∙ ap (λ x. Rec (plain x)) (sym c.deref-in-Rec.ensures) in
     let h : size (plain c.args.t.now) ≡ suc (size b) = ap size e in
-    let whole = placed_part (λ ks. IsWellFormed (names_in p) ks (Rec b)) (λ ks w. subst (IsWellFormed (names_in p) ks) e w) c.requires.placed in
+    let whole = placed_part (λ ks. IsWellFormed (context_names p) ks (Rec b)) (λ ks w. subst (IsWellFormed (context_names p) ks) e w) c.requires.placed in
     (omega (arith, h), placed_same {ms = c.args.inner.now.items ++ record { weight = 1; height = 1 } ∷ []} c.push.new.self.items c.in_ok-push-in-Rec.ensures.items (placed_rec b (record { weight = 1; height = 1 }) whole))
 
 pub made_type-returns-in_ok-body-in-Rec-clause-made : goal.made_type-returns-in_ok-body-in-Rec-clause-made
@@ -255,7 +255,7 @@ made_apply-made_arguments-requires t c =
     let n = c.in-Operator.params in
     let head = sym (ap put_head c.in-Operator.is) ∙ c.in_ok-put.ensures.head ∙ ap (λ y. (replacement_past (length y) (replacement_of p)).head_of c.args.i) c.as_slice.ensures.value in
     let items : n ≡ length c.args.ts.now = operator_items c.args.i c.args.ts.now n (rename (moved c.in-Operator.by n) (plain c.in-Operator.body.now)) c.requires.placed head in
-    (omega arith, (placed_part (λ ks. AreWellFormed (names_in p) ks ts) (λ ks w. w.1) c.requires.placed, (ap length c.deref.ensures.value ∙ c.in_ok-used-in-Operator.ensures.count ∙ items, omega (arith, items, c.in_ok-used-in-Operator.ensures.few))))
+    (omega arith, (placed_part (λ ks. AreWellFormed (context_names p) ks ts) (λ ks w. w.1) c.requires.placed, (ap length c.deref.ensures.value ∙ c.in_ok-used-in-Operator.ensures.count ∙ items, omega (arith, items, c.in_ok-used-in-Operator.ensures.few))))
 
 pub made_apply-returns-in_ok-args-in-Operator-clause-made : goal.made_apply-returns-in_ok-args-in-Operator-clause-made
 made_apply-returns-in_ok-args-in-Operator-clause-made t c =
@@ -478,7 +478,7 @@ made_record-made_types-requires t c =
     let fields : plain_types r.positional.items ≡ ps = ap plain_types (sym c.deref-2.ensures.value) in
     let e : plain_record r ≡ Fields bs ps (plain_labels r.labelled.items) = three Fields same fields refl in
     let h : size (plain_record r) ≡ suc (size_bounds bs + size_types ps + size_labels (plain_labels r.labelled.items)) = ap size e in
-    (omega (arith, h), placed_under c.made_bounds.new.inner.items bs (λ ks. AreWellFormed (names_in p) ks ps) c.in_ok-binders.ensures.inner (λ ks w. (subst (IsWellFormed (names_in p) ks) e w).1.0) c.requires.placed)
+    (omega (arith, h), placed_under c.made_bounds.new.inner.items bs (λ ks. AreWellFormed (context_names p) ks ps) c.in_ok-binders.ensures.inner (λ ks w. (subst (IsWellFormed (context_names p) ks) e w).1.0) c.requires.placed)
 
 pub made_record-made_labels-requires : goal.made_record-made_labels-requires
 made_record-made_labels-requires t c =
@@ -490,7 +490,7 @@ made_record-made_labels-requires t c =
     let fields : plain_labels r.labelled.items ≡ ls = ap plain_labels (sym c.deref-3.ensures.value) in
     let e : plain_record r ≡ Fields bs (plain_types r.positional.items) ls = three Fields same refl fields in
     let h : size (plain_record r) ≡ suc (size_bounds bs + size_types (plain_types r.positional.items) + size_labels ls) = ap size e in
-    (omega (arith, h), placed_same c.made_types.new.inner.items c.in_ok-positional.ensures.inner (placed_under c.made_bounds.new.inner.items bs (λ ks. LabelsAreWellFormed (names_in p) ks ls) c.in_ok-binders.ensures.inner (λ ks w. (subst (IsWellFormed (names_in p) ks) e w).1.1) c.requires.placed))
+    (omega (arith, h), placed_same c.made_types.new.inner.items c.in_ok-positional.ensures.inner (placed_under c.made_bounds.new.inner.items bs (λ ks. LabelsAreWellFormed (context_names p) ks ls) c.in_ok-binders.ensures.inner (λ ks w. (subst (IsWellFormed (context_names p) ks) e w).1.1) c.requires.placed))
 
 pub made_record-returns-clause-made : goal.made_record-returns-clause-made
 made_record-returns-clause-made t c =

@@ -5,7 +5,7 @@ use Rattle.pict_core.specs.Term.{Bind, Any}
 use Rattle.pict_core.specs.declared.pattern.CorePat.{the_lemmas as pattern_lemmas}
 use Rattle.pict_core.specs.declared.pattern.CorePat.TheVariants as pattern
 use Rattle.pict_core.specs.Plain.{plain_pat, plain_pat_field}
-use Rattle.pict_object.specs.Reading.{Gives, label_in, pattern_at, counted_at, labelled_at}
+use Rattle.pict_object.specs.Reading.{GivesReading, label_in, pattern_at, counted_at, labelled_at}
 use Rattle.pict_object.proofs.Loops.{count_ends, begins, goes_on, ends, is_done, fields_count_ends, fields_begin, fields_go_on, label_ends, field_ends, fields_done}
 use Rattle.pict_object.proofs.Forms.{behind_tag, without_tag, pattern_empty, pattern_is_bind, pattern_is_any, pattern_too_deep, pattern_is_record, pattern_is_none}
 use Rattle.pict_object.proofs.pattern.+read_pattern.Goals as goal
@@ -81,7 +81,7 @@ read_pattern-returns-then-left-eq0 t c = behind_tag (pattern_at c.args.labels.no
 
 pub read_pattern-returns-else-left-eq0 : goal.read_pattern-returns-else-left-eq0
 read_pattern-returns-else-left-eq0 t c =
-    subst (λ z. Gives (λ x. (plain_pat x.0, x.1.now)) c.read_record.result z) (sym (behind_tag (pattern_at c.args.labels.now c.args.left) c.args.bytes.now c.in_ok-tag.tag c.in_ok-tag.rest.now _ c.in_ok-tag.ensures (pattern_is_record c.args.labels.now c.args.left c.in_ok-tag.tag c.in_ok-tag.rest.now c.in-34.is (omega arith)))) c.read_record.ensures
+    subst (λ z. GivesReading (λ x. (plain_pat x.0, x.1.now)) c.read_record.result z) (sym (behind_tag (pattern_at c.args.labels.now c.args.left) c.args.bytes.now c.in_ok-tag.tag c.in_ok-tag.rest.now _ c.in_ok-tag.ensures (pattern_is_record c.args.labels.now c.args.left c.in_ok-tag.tag c.in_ok-tag.rest.now c.in-34.is (omega arith)))) c.read_record.ensures
 
 pub read_pattern-returns-in_default : goal.read_pattern-returns-in_default
 read_pattern-returns-in_default t c = behind_tag (pattern_at c.args.labels.now c.args.left) c.args.bytes.now c.in_ok-tag.tag c.in_ok-tag.rest.now _ c.in_ok-tag.ensures (pattern_is_none c.args.labels.now c.args.left c.in_ok-tag.tag c.in_ok-tag.rest.now (omega arith) (omega arith) (omega arith))

@@ -3,7 +3,7 @@ use Rattle.std.proofs.lemmas.Result.{err_from_is_err_and}
 use Rattle.pict_core.specs.Closed.{binds}
 use Rattle.pict_core.specs.Plain.{plain_val, plain_pat}
 use Rattle.pict_object.specs.declared.process.Receiver.{Receiver}
-use Rattle.pict_object.specs.Reading.{Gives, part_and, more, process_at, tagged_at}
+use Rattle.pict_object.specs.Reading.{GivesReading, part_and, more, process_at, tagged_at}
 use Rattle.pict_object.proofs.Forms.{no_bytes, some_bytes, process_empty, process_is_tagged, receiver_ends, receiver_goes_on}
 use Rattle.pict_object.proofs.process.+read_part.Goals as goal
 
@@ -32,7 +32,7 @@ read_in-returns t c =
     let part = process_at c.args.labels.now c.args.left in
     let receiver = c.in_ok-receiver.receiver.value in
     let inner : c.inside-inner.result ≡ more c.args.bound (binds (plain_pat receiver.pattern)) = c.inside-inner.ensures ∙ ap (λ (r : Receiver). more c.args.bound (binds (plain_pat r.pattern))) c.deref.ensures in
-    subst (Gives (part_and c.read_part-body.new.rest.now) c.input.result)
+    subst (GivesReading (part_and c.read_part-body.new.rest.now) c.input.result)
     (receiver_goes_on c.args.labels.now c.args.replicated part c.args.bound c.args.rest.now.now (plain_val receiver.chan) (plain_pat receiver.pattern) c.take_receiver.new.rest.now c.inside-inner.result
     c.in_ok-receiver.ensures inner)
     (c.input.ensures (part c.inside-inner.result c.take_receiver.new.rest.now) c.read_part-body.new.rest.now c.read_part-body.ensures)

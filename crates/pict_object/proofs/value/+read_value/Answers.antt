@@ -2,7 +2,7 @@ use Rattle.std.proofs.Common.{sym, subst, ◌≡◌, ◌++◌, ◌∷◌, [], ma
 use Rattle.std.proofs.lemmas.Result.{err_from_is_err_and}
 use Rattle.std.proofs.lemmas.List.{map_push}
 use Rattle.pict_core.specs.Plain.{plain_val, plain_field}
-use Rattle.pict_object.specs.Reading.{Gives, label_in, value_at, counted_at, labelled_at}
+use Rattle.pict_object.specs.Reading.{GivesReading, label_in, value_at, counted_at, labelled_at}
 use Rattle.pict_object.proofs.Loops.{count_ends, begins, goes_on, ends, is_done, fields_count_ends, fields_begin, fields_go_on, label_ends, field_ends, fields_done}
 use Rattle.pict_object.proofs.Forms.{behind_tag, without_tag, value_empty, value_is_simple, value_too_deep, value_is_record}
 use Rattle.pict_object.proofs.value.+read_value.Goals as goal
@@ -65,7 +65,7 @@ read_value-returns-in_err-tag t c =
 
 pub read_value-returns-then-tag-ne23 : goal.read_value-returns-then-tag-ne23
 read_value-returns-then-tag-ne23 t c =
-    subst (λ z. Gives (λ x. (plain_val x.0, x.1.now)) c.read_simple.result z)
+    subst (λ z. GivesReading (λ x. (plain_val x.0, x.1.now)) c.read_simple.result z)
     (sym (behind_tag (value_at c.args.labels.now c.args.bound c.args.left) c.args.bytes.now c.in_ok-tag.tag c.in_ok-tag.rest.now _ c.in_ok-tag.ensures
     (value_is_simple c.args.labels.now c.args.bound c.args.left c.in_ok-tag.tag c.in_ok-tag.rest.now c.if-tag-ne23.true))) c.read_simple.ensures
 
@@ -76,6 +76,6 @@ read_value-returns-then-left-eq0 t c =
 
 pub read_value-returns : goal.read_value-returns
 read_value-returns t c =
-    subst (λ z. Gives (λ x. (plain_val x.0, x.1.now)) c.read_record.result z)
+    subst (λ z. GivesReading (λ x. (plain_val x.0, x.1.now)) c.read_record.result z)
     (sym (behind_tag (value_at c.args.labels.now c.args.bound c.args.left) c.args.bytes.now c.in_ok-tag.tag c.in_ok-tag.rest.now _ c.in_ok-tag.ensures
     (value_is_record c.args.labels.now c.args.bound c.args.left c.in_ok-tag.tag c.in_ok-tag.rest.now c.if-tag-ne23.false (omega arith)))) c.read_record.ensures

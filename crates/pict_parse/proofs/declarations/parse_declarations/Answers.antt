@@ -2,7 +2,7 @@ use Rattle.std.proofs.Common.{◌≡◌, Ok, Err, length, subst, arith}
 use Rattle.pict_automaton.specs.Machine.{step}
 use Rattle.pict_automaton.specs.Places.{stop}
 use Rattle.pict_automaton.proofs.Nestings.{shallow_start}
-use Rattle.pict_parse_states.specs.View.{Gives, state_of}
+use Rattle.pict_parse_states.specs.View.{GivesState, parse_state}
 use Rattle.pict_parse.specs.Answers.{Ends, declared, refused}
 use Rattle.pict_parse.specs.declared.entry.ParseError.TheVariants as answer
 use Rattle.pict_parse.proofs.Exact.{exact_declarations}
@@ -18,8 +18,8 @@ loop-token-preserved c =
 
 pub returns-in-Err-Unexpected-clause-verdict : goal.returns-in-Err-Unexpected-clause-verdict
 returns-in-Err-Unexpected-clause-verdict c =
-    let stops : step c.token-item.result.kind c.token-item.result.span (state_of c.loop-token.state) ≡ stop =
-    subst (λ f. Gives (Err f) (step c.token-item.result.kind c.token-item.result.span (state_of c.loop-token.state))) c.in-Err-Unexpected.field-0-is (c.in-Err-Unexpected.ensures) in
+    let stops : step c.token-item.result.kind c.token-item.result.span (parse_state c.loop-token.state) ≡ stop =
+    subst (λ f. GivesState (Err f) (step c.token-item.result.kind c.token-item.result.span (parse_state c.loop-token.state))) c.in-Err-Unexpected.field-0-is (c.in-Err-Unexpected.ensures) in
     unexpected c.args.tokens.now c.args.end c.loop-token.token-index c.token-item.result c.loop-token.state c.loop-token-test.true c.token-item.is c.loop-token.invariant stops
 
 pub returns-then-not-is_within-clause-verdict : goal.returns-then-not-is_within-clause-verdict
@@ -29,12 +29,12 @@ returns-then-not-is_within-clause-verdict c =
 pub returns-in-Some-clause-verdict : goal.returns-in-Some-clause-verdict
 returns-in-Some-clause-verdict c =
     let whole : c.loop-token.token-index ≡ length c.args.tokens.now = omega arith in
-    whole_list c.args.tokens.now c.args.end c.loop-token.token-index c.loop-token.state c.in-Some.decs whole c.loop-token.invariant (subst (Ends (state_of c.loop-token.state)) c.in-Some.is (c.in_ok-decs.ensures))
+    whole_list c.args.tokens.now c.args.end c.loop-token.token-index c.loop-token.state c.in-Some.decs whole c.loop-token.invariant (subst (Ends (parse_state c.loop-token.state)) c.in-Some.is (c.in_ok-decs.ensures))
 
 pub returns-in-None-clause-verdict : goal.returns-in-None-clause-verdict
 returns-in-None-clause-verdict c =
     let whole : c.loop-token.token-index ≡ length c.args.tokens.now = omega arith in
-    too_short c.args.tokens.now c.args.end c.loop-token.token-index c.loop-token.state whole c.loop-token.invariant (subst (Ends (state_of c.loop-token.state)) c.in-None.is (c.in_ok-decs.ensures))
+    too_short c.args.tokens.now c.args.end c.loop-token.token-index c.loop-token.state whole c.loop-token.invariant (subst (Ends (parse_state c.loop-token.state)) c.in-None.is (c.in_ok-decs.ensures))
 
 pub returns-in-Err-Unexpected-clause-exact : goal.returns-in-Err-Unexpected-clause-exact
 returns-in-Err-Unexpected-clause-exact c =

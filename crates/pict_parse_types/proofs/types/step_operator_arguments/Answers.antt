@@ -1,5 +1,5 @@
 use Rattle.std.proofs.Common.{◌==◌, ap, sym, ◌∙◌, subst, rules}
-use Rattle.pict_parse_states.specs.View.{type_place_of, Gives}
+use Rattle.pict_parse_states.specs.View.{type_place_of, GivesState}
 use Rattle.pict_syntax.proofs.TypeLists.{apply_type_is}
 use Rattle.pict_parse_types.proofs.TypeOthers.{operator_arguments_other, no_type_arguments, some_type_arguments}
 use Rattle.pict_parse_types.proofs.types.step_operator_arguments.Goals as goal
@@ -13,7 +13,7 @@ pub returns-else-is_empty : goal.returns-else-is_empty
 returns-else-is_empty c =
     let some = some_type_arguments c.args.types.items c.is_empty.result (c.is_empty.ensures ∙ ap (λ n. n == 0) c.args.types.ok.0) c.if-is_empty.false c.args.at c.args.from c.args.id (type_place_of c.args.place.value) in
     let put = rw (apply_type_is c.join.result c.args.id c.args.types, c.join.ensures) at c.put_type.ensures in
-    let closed = subst (Gives c.put_type.result) (sym some) put in
+    let closed = subst (GivesState c.put_type.result) (sym some) put in
     search rules
 
 pub returns-in_ok-place-in_default : goal.returns-in_ok-place-in_default

@@ -3,7 +3,7 @@ use Rattle.std.proofs.lemmas.Bool.Decides.{nat_tests}
 use Rattle.pict_syntax.specs.Trees.{inert_proc}
 use Rattle.pict_syntax.specs.PlainTrees.{proc_of}
 use Rattle.pict_automaton.specs.Machine.{put_processes}
-use Rattle.pict_parse_states.specs.View.{processes_place_of, Gives}
+use Rattle.pict_parse_states.specs.View.{processes_place_of, GivesState}
 use Rattle.pict_parse_values.proofs.Behind.{close_inert_first, close_inert_behind}
 use Rattle.pict_parse_values.proofs.begins.close_inert.Goals as goal
 
@@ -15,7 +15,7 @@ returns-then-is_empty c =
     let put =
     ap (λ s. put_processes (inert_proc s) (processes_place_of at.below)) c.join.ensures
     ∙ sym (close_inert_first at.decs.items none c.args.at at.from (processes_place_of at.below)) in
-    rw (← c.into_inner.ensures, at.is) (subst (Gives c.put_processes.result) put c.put_processes.ensures)
+    rw (← c.into_inner.ensures, at.is) (subst (GivesState c.put_processes.result) put c.put_processes.ensures)
 
 pub returns-in-Paren : goal.returns-in-Paren
 returns-in-Paren c =

@@ -5,7 +5,7 @@ use Rattle.pict_syntax.specs.Trees.{apply_chan, block_chan, no_decs}
 use Rattle.pict_syntax.specs.PlainTrees.{chan_of, val_of, field_vals_of, decs_on}
 use Rattle.pict_syntax.specs.Phrases.{join}
 use Rattle.pict_automaton.specs.Machine.{put_channel}
-use Rattle.pict_parse_states.specs.View.{place_of, Gives}
+use Rattle.pict_parse_states.specs.View.{place_of, GivesState}
 use Rattle.pict_syntax.proofs.ValueLists.{block_is}
 use Rattle.pict_parse_values.proofs.Behind.{paren_none, paren_some, no_fields}
 use Rattle.pict_parse_values.proofs.steps.close_paren.Goals as goal
@@ -26,7 +26,7 @@ returns-in_ok-fields c =
     ∙ ap (λ w. put_channel (apply_chan (join o i) (val_of w) (field_vals_of c.in_ok-fields.fields.value)) p) c.in_ok-val.ensures.ok
     ∙ ap (λ f. put_channel (apply_chan (join o i) v f) p) fields
     ∙ sym (paren_none c.args.decs.items none i v o p) in
-    subst (Gives c.put_channel.result) put c.put_channel.ensures
+    subst (GivesState c.put_channel.result) put c.put_channel.ensures
 
 pub returns-else-is_empty : goal.returns-else-is_empty
 returns-else-is_empty c =
@@ -40,4 +40,4 @@ returns-else-is_empty c =
     ∙ ap (λ h. put_channel h p) (block_is (join o i) ds c.in_ok-val.val)
     ∙ ap (λ w. put_channel (block_chan (join o i) (decs_on no_decs ds.items) (val_of w)) p) c.in_ok-val.ensures.ok
     ∙ sym (paren_some ds.items some i (val_of c.args.val) o p) in
-    subst (Gives c.put_channel-else-is_empty.result) put c.put_channel-else-is_empty.ensures
+    subst (GivesState c.put_channel-else-is_empty.result) put c.put_channel-else-is_empty.ensures

@@ -4,7 +4,7 @@ use Rattle.pict_syntax.specs.PlainTrees.{chan_of}
 use Rattle.pict_syntax.specs.Phrases.{join}
 use Rattle.pict_automaton.specs.Places.{rightward, leftward}
 use Rattle.pict_automaton.specs.Machine.{put_channel}
-use Rattle.pict_parse_states.specs.View.{side_of, place_of, Gives}
+use Rattle.pict_parse_states.specs.View.{side_of, place_of, GivesState}
 use Rattle.pict_syntax.proofs.ValueLists.{right_is, left_is}
 use Rattle.pict_parse_values.proofs.Behind.{side_some, side_few}
 use Rattle.pict_parse_values.proofs.steps.close_side.Goals as goal
@@ -26,7 +26,7 @@ returns-in-Rightward c =
     ap (λ s. put_channel (chan_of (Right s x vs)) p) c.join.ensures
     ∙ ap (λ h. put_channel h p) (right_is (join o i) x vs)
     ∙ sym (side_some vs.items two i rightward o x p) in
-    rw c.in-Rightward.is (subst (Gives c.put_channel.result) put c.put_channel.ensures)
+    rw c.in-Rightward.is (subst (GivesState c.put_channel.result) put c.put_channel.ensures)
 
 pub returns-in-Leftward : goal.returns-in-Leftward
 returns-in-Leftward c =
@@ -40,4 +40,4 @@ returns-in-Leftward c =
     ap (λ s. put_channel (chan_of (Left s x vs)) p) c.join-in-Leftward.ensures
     ∙ ap (λ h. put_channel h p) (left_is (join o i) x vs)
     ∙ sym (side_some vs.items two i leftward o x p) in
-    rw c.in-Leftward.is (subst (Gives c.put_channel-in-Leftward.result) put c.put_channel-in-Leftward.ensures)
+    rw c.in-Leftward.is (subst (GivesState c.put_channel-in-Leftward.result) put c.put_channel-in-Leftward.ensures)

@@ -6,6 +6,6 @@ use Rattle.pict_top.proofs.top.pict.Goals as goal
 
 pub returns-clause-headline : goal.returns-clause-headline
 returns-clause-headline g c =
-    headline (texts_of c.args.words.now) (shelf_change g.S.Shelf.held g.S.Shelf.faults g.S.Shelf.misses c.args.shelf.now c.run_words.new.shelf)
-    (change_of g.O.Sink.taken g.O.Sink.faults c.args.out.now c.run_words.new.out) (change_of g.E.Sink.taken g.E.Sink.faults c.args.err.now c.run_words.new.err)
-    c.run_words.result c.run_words.ensures.meets c.run_words.ensures.usage c.run_words.ensures.each
+    headline (texts_of c.args.words.now) (shelf_change g.S.Shelf.held g.S.Shelf.faults g.S.Shelf.misses c.args.shelf.now c.do_words.new.shelf)
+    (change_of g.O.Sink.taken g.O.Sink.faults c.args.out.now c.do_words.new.out) (change_of g.E.Sink.taken g.E.Sink.faults c.args.err.now c.do_words.new.err)
+    c.do_words.result c.do_words.ensures.meets c.do_words.ensures.usage c.do_words.ensures.each

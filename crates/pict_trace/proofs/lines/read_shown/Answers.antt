@@ -2,7 +2,7 @@ use Rattle.std.proofs.Common.{◌≡◌, ◌++◌, ◌∷◌, [], codes, sym, ap
 use Rattle.pict_syntax.specs.Names.{with_names}
 use Rattle.pict_trace.specs.Plain.{plain_label}
 use Rattle.pict_trace.specs.Readable.{labels_in_line}
-use Rattle.pict_trace.specs.Reading.{ReadsShown, BeginsNoShown, Grows}
+use Rattle.pict_trace.specs.Reading.{ReadsShown, BeginsNoShown, NamesGrow}
 use Rattle.pict_trace.proofs.Shown.{no_label_shown, shown_grows}
 use Rattle.pict_trace.proofs.Growing.{same_names, gained_on, grown_on}
 use Rattle.pict_trace.proofs.Steps.{on_one}
@@ -23,7 +23,7 @@ returns-in-Some-clause-gained c =
 
 pub returns-in-Some-clause-grows : goal.returns-in-Some-clause-grows
 returns-in-Some-clause-grows c =
-    on_one c.read_printing.result _ (λ r. Grows c.args.text.now c.args.names.now c.args.names.now r.rest.now) (c.read_printing.ensures.ok c.args.names.now)
+    on_one c.read_printing.result _ (λ r. NamesGrow c.args.text.now c.args.names.now c.args.names.now r.rest.now) (c.read_printing.ensures.ok c.args.names.now)
     (λ x h. shown_grows c.args.names.now (codes "print \"" ++ c.in-Some.bytes.now) c.args.text.now (plain_label x.label) x.rest.now c.in-Some.ensures.some h)
 
 pub returns-in-Some-behind-clause-ok : goal.returns-in-Some-behind-clause-ok
@@ -39,7 +39,7 @@ pub returns-in-Some-behind-clause-grows : goal.returns-in-Some-behind-clause-gro
 returns-in-Some-behind-clause-grows c =
     let new = c.read_communication.new.names in
     let names = c.args.names.now in
-    on_one c.read_communication.result _ (λ r. Grows c.args.text.now names new r.rest.now) c.read_communication.ensures.grows
+    on_one c.read_communication.result _ (λ r. NamesGrow c.args.text.now names new r.rest.now) c.read_communication.ensures.grows
     (λ x h. grown_on c.args.text.now c.in-Some-behind.channel.now x.rest.now names names new (same_names c.args.text.now c.in-Some-behind.channel.now (99 ∷ []) names c.in-Some-behind.ensures.some) h)
 
 pub returns-in-Some-behind-clause-kept : goal.returns-in-Some-behind-clause-kept

@@ -2,9 +2,9 @@ use Rattle.std.proofs.Common.{◌≡◌, ◌∷◌, ◌-◌, [], map, refl, sym,
 use Rattle.pict_syntax.specs.Names.{with_names}
 use Rattle.pict_core.specs.Plain.{plain_val, plain_field, vals_of, labelled_of}
 use Rattle.pict_core.specs.Term.{Record, no_labelled}
-use Rattle.pict_trace.specs.Found.{positional_of, fields_of}
+use Rattle.pict_trace.specs.Found.{positional_of, labelled_fields}
 use Rattle.pict_trace.specs.Readable.{labels_of, labels_of_all, labels_of_labelled, GainsLabels}
-use Rattle.pict_trace.specs.Reading.{Reads, ReadsFields, ReadsLabelled, BeginsNoValue, Grows}
+use Rattle.pict_trace.specs.Reading.{Reads, ReadsFields, ReadsLabelled, BeginsNoValue, NamesGrow}
 use Rattle.pict_trace.proofs.Records.{Midway, MidLabelled, begun, field_bad, behind_bad, stepped, closed, closed_labelled, labelled_bad, fields_value, no_fields, end_bad, too_deep, shallow, no_record, flat_labels, label_bad, value_bad, after_bad, stepped_labelled, ended_labelled}
 use Rattle.pict_trace.proofs.Growing.{begun_growing, same_names, gained_on, grown_on, labelled_grows, value_grows}
 use Rattle.pict_trace.proofs.Fields.{field_of, values_gained, labels_gained, record_gained, labels_extend, label_extends}
@@ -248,13 +248,13 @@ read_value-returns-in_ok-fields-in-Some-clause-ok t c =
     let d = c.args.depth - 1 in
     on_all c.finish.result _ _ _ (λ x. Reads new c.args.depth c.args.text.now (plain_val x.value) x.rest.now) c.finish.ensures.value c.finish.ensures.rest c.finish.ensures.ends
     (λ x value rest ends. reads_text new c.args.depth d c.args.text.now c.in-Some.inner.now (plain_val x.value) x.rest.now c.if-depth-eq0.false refl c.in-Some.ensures.some
-    (fields_value new d c.in-Some.inner.now (positional_of fields) (fields_of fields) (plain_val x.value) fields.rest.now x.rest.now c.in_ok-fields-in-Some.ensures.ok ends value rest))
+    (fields_value new d c.in-Some.inner.now (positional_of fields) (labelled_fields fields) (plain_val x.value) fields.rest.now x.rest.now c.in_ok-fields-in-Some.ensures.ok ends value rest))
 
 pub read_value-returns-in_ok-fields-in-Some-clause-bad : goal.read_value-returns-in_ok-fields-in-Some-clause-bad
 read_value-returns-in_ok-fields-in-Some-clause-bad t c e =
     let fields = c.in_ok-fields-in-Some.fields in
     at_text c.args.depth (c.args.depth - 1) c.args.text.now c.in-Some.inner.now c.if-depth-eq0.false refl c.in-Some.ensures.some
-    (end_bad c.read_fields.new.names (c.args.depth - 1) c.in-Some.inner.now (positional_of fields) (fields_of fields) fields.rest.now c.in_ok-fields-in-Some.ensures.ok (c.finish.ensures.bad e))
+    (end_bad c.read_fields.new.names (c.args.depth - 1) c.in-Some.inner.now (positional_of fields) (labelled_fields fields) fields.rest.now c.in_ok-fields-in-Some.ensures.ok (c.finish.ensures.bad e))
 
 pub read_value-returns-in_ok-fields-in-Some-clause-gained : goal.read_value-returns-in_ok-fields-in-Some-clause-gained
 read_value-returns-in_ok-fields-in-Some-clause-gained t c =
@@ -267,8 +267,8 @@ read_value-returns-in_ok-fields-in-Some-clause-grows t c =
     let new = c.read_fields.new.names in
     let names = c.args.names.now in
     let fields = c.in_ok-fields-in-Some.fields in
-    on_one c.finish.result _ (λ x. Grows c.args.text.now names new x.rest.now) c.finish.ensures.rest
-    (λ x rest. subst (λ r. Grows c.args.text.now names new r) (sym rest)
+    on_one c.finish.result _ (λ x. NamesGrow c.args.text.now names new x.rest.now) c.finish.ensures.rest
+    (λ x rest. subst (λ r. NamesGrow c.args.text.now names new r) (sym rest)
     (grown_on c.args.text.now c.in-Some.inner.now fields.rest.now names names new (same_names c.args.text.now c.in-Some.inner.now (91 ∷ []) names c.in-Some.ensures.some) c.in_ok-fields-in-Some.ensures.grows))
 
 pub read_value-returns-in_ok-fields-in-Some-clause-kept : goal.read_value-returns-in_ok-fields-in-Some-clause-kept
@@ -288,4 +288,4 @@ read_value-returns-in-None-clause-gained t c =
 
 pub read_value-returns-in-None-clause-grows : goal.read_value-returns-in-None-clause-grows
 read_value-returns-in-None-clause-grows t c =
-    on_one c.read_simple.result _ (λ r. Grows c.args.text.now c.args.names.now c.args.names.now r.rest.now) (c.read_simple.ensures.ok c.args.names.now) (λ x h. same_names c.args.text.now x.rest.now _ c.args.names.now h.whole)
+    on_one c.read_simple.result _ (λ r. NamesGrow c.args.text.now c.args.names.now c.args.names.now r.rest.now) (c.read_simple.ensures.ok c.args.names.now) (λ x h. same_names c.args.text.now x.rest.now _ c.args.names.now h.whole)

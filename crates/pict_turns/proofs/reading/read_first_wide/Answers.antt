@@ -5,8 +5,8 @@ use Rattle.std.specs.Vec.{with_items}
 use Rattle.pict_syntax.specs.declared.limits.TheConstants.{NARROW_LIMIT}
 use Rattle.pict_queue.specs.QueuesState.{QueuesState}
 use Rattle.pict_queue.specs.Contents.{first_words}
-use Rattle.pict_blocks.specs.Blocks.{values_of, frame_values}
-use Rattle.pict_desk.specs.Known.{value_in, fields_of}
+use Rattle.pict_blocks.specs.Blocks.{values_in_words, frame_values}
+use Rattle.pict_desk.specs.Known.{value_in, value_fields}
 use Rattle.pict_desk.specs.Pairs.{IsPair, ArePairs}
 use Rattle.pict_turns.proofs.AfterReading.{works_more}
 use Rattle.pict_turns.proofs.Held.{has_read}
@@ -32,8 +32,8 @@ read_record-requires-clause-fields c =
     let tag : c.first_word-tag.result ≡ r.pair.0 = c.first_word-tag.ensures.word ∙ ap (λ (ws : List ℕ). get_or ws 1 0) whole in
     let payload : c.first_word-payload.result ≡ r.pair.1 =
     c.first_word-payload.ensures.word ∙ ap (λ (x : QueuesState). get_or (first_words x c.args.queue.0) 2 0) c.first_word-tag.ensures.rest ∙ ap (λ (ws : List ℕ). get_or ws 2 0) whole in
-    ap (λ (n : ℕ). length (fields_of (value_in s.desk.heap n c.first_word-payload.result))) tag
-    ∙ ap (λ (n : ℕ). length (fields_of (value_in s.desk.heap r.pair.0 n))) payload ∙ r.many
+    ap (λ (n : ℕ). length (value_fields (value_in s.desk.heap n c.first_word-payload.result))) tag
+    ∙ ap (λ (n : ℕ). length (value_fields (value_in s.desk.heap r.pair.0 n))) payload ∙ r.many
 
 pub returns-clause-read : goal.returns-clause-read
 returns-clause-read c =
@@ -55,8 +55,8 @@ returns-clause-read c =
     (works_more s.queues c.first_word-tag.new.queues c.first_word-payload.new.queues c.first_word-tag.ensures.rest c.first_word-payload.ensures.rest) same
     (c.read_record.ensures.pairs (subst (ArePairs s.desk.heap) (sym before) c.requires.pairs))
     (ap (frame_values (value_in s.desk.heap) (length frame)) (ap (drop 1) h.2 ∙ r.is)
-    ∙ ap (λ b. cond b (fields_of (value_in s.desk.heap r.pair.0 r.pair.1)) (values_of (value_in s.desk.heap) (r.pair.0 ∷ r.pair.1 ∷ []))) test
-    ∙ ap (λ (n : ℕ). fields_of (value_in s.desk.heap n r.pair.1)) (sym tag) ∙ ap (λ (n : ℕ). fields_of (value_in s.desk.heap c.first_word-tag.result n)) (sym payload)
+    ∙ ap (λ b. cond b (value_fields (value_in s.desk.heap r.pair.0 r.pair.1)) (values_in_words (value_in s.desk.heap) (r.pair.0 ∷ r.pair.1 ∷ []))) test
+    ∙ ap (λ (n : ℕ). value_fields (value_in s.desk.heap n r.pair.1)) (sym tag) ∙ ap (λ (n : ℕ). value_fields (value_in s.desk.heap c.first_word-tag.result n)) (sym payload)
     ∙ sym c.read_record.ensures.read)
     (λ few. let many = c.requires.wide in absurd (omega (arith, few, many)))
 

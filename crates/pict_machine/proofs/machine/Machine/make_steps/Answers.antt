@@ -23,7 +23,7 @@ returns-in_err-channel-clause-refused c = on_err c.from_residual.result (reserve
 pub returns-in_err-event-in-None-clause-spends : goal.returns-in_err-event-in-None-clause-spends
 returns-in_err-event-in-None-clause-spends c =
     let old = c.args.self.now in
-    let new = c.advance.new.self in
+    let new = c.step_held.new.self in
     let same : c.call_at_once.new.store ≡ old.store = c.call_at_once.ensures.none (c.in_ok-channel.was ∙ ap Ok c.in-None.is) in
     let mid : Machine = record old { store = c.call_at_once.new.store } in
     let is : mid ≡ old = ap (λ (s : Store). record old { store = s }) same in
@@ -67,7 +67,7 @@ returns-in-Some-clause-channels c = let more = (c.call_at_once.ensures.called c.
 pub returns-in_ok-event-in-None-clause-made : goal.returns-in_ok-event-in-None-clause-made
 returns-in_ok-event-in-None-clause-made c =
     let old = c.args.self.now in
-    let new = c.advance.new.self in
+    let new = c.step_held.new.self in
     let event = c.in_ok-event-in-None.event in
     let same : c.call_at_once.new.store ≡ old.store = c.call_at_once.ensures.none (c.in_ok-channel.was ∙ ap Ok c.in-None.is) in
     let mid : Machine = record old { store = c.call_at_once.new.store } in
@@ -78,7 +78,7 @@ returns-in_ok-event-in-None-clause-made c =
 pub returns-in_ok-event-in-None-clause-spends : goal.returns-in_ok-event-in-None-clause-spends
 returns-in_ok-event-in-None-clause-spends c =
     let old = c.args.self.now in
-    let new = c.advance.new.self in
+    let new = c.step_held.new.self in
     let same : c.call_at_once.new.store ≡ old.store = c.call_at_once.ensures.none (c.in_ok-channel.was ∙ ap Ok c.in-None.is) in
     let mid : Machine = record old { store = c.call_at_once.new.store } in
     let is : mid ≡ old = ap (λ (s : Store). record old { store = s }) same in

@@ -4,7 +4,7 @@ use Rattle.pict_queue.specs.QueuesState.{link_of}
 use Rattle.pict_queue.specs.declared.queues.Queues.TheInside.{Inside}
 use Rattle.pict_queue.proofs.Orders.{list_is, queue_in-added, threaded_added}
 use Rattle.pict_queue.proofs.Calls.{list_seen}
-use Rattle.pict_queue.specs.Threads.{state_of}
+use Rattle.pict_queue.specs.Threads.{queues_state}
 use Rattle.pict_queue.specs.Ends.{queue_in}
 use Rattle.pict_queue.proofs.Kept.{contents_same, held_same, no_more_same}
 use Rattle.pict_queue.proofs.queues.Queues.add_queue.Goals as goal
@@ -27,12 +27,12 @@ returns-clause-lists c queue =
 
 pub returns-clause-contents : goal.returns-clause-contents
 unfolding after
-returns-clause-contents c = contents_same c.args.self.now (state_of (after c)) (ap (λ s. s.region.live) c.self.view_is) (returns-clause-lists c)
+returns-clause-contents c = contents_same c.args.self.now (queues_state (after c)) (ap (λ s. s.region.live) c.self.view_is) (returns-clause-lists c)
 
 pub returns-clause-kept : goal.returns-clause-kept
 unfolding after
-returns-clause-kept c = held_same c.args.self.now (state_of (after c)) (ap (λ s. s.region.live) c.self.view_is) (returns-clause-lists c)
+returns-clause-kept c = held_same c.args.self.now (queues_state (after c)) (ap (λ s. s.region.live) c.self.view_is) (returns-clause-lists c)
 
 pub returns-clause-no_more : goal.returns-clause-no_more
 unfolding after
-returns-clause-no_more c = no_more_same c.args.self.now (state_of (after c)) (ap (λ s. s.region.live) c.self.view_is) (returns-clause-lists c)
+returns-clause-no_more c = no_more_same c.args.self.now (queues_state (after c)) (ap (λ s. s.region.live) c.self.view_is) (returns-clause-lists c)

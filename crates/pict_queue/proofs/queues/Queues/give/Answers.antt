@@ -6,7 +6,7 @@ use Rattle.pict_region.proofs.Uses.{get_removed, get_remove_apart}
 use Rattle.pict_queue.specs.declared.queues.Queues.TheInside.{Inside}
 use Rattle.pict_queue.proofs.Orders.{once_seen, apart_if_held, ThreadsStay, apart_changed}
 use Rattle.pict_queue.proofs.Calls.{lists_kept}
-use Rattle.pict_queue.specs.Threads.{state_of}
+use Rattle.pict_queue.specs.Threads.{queues_state}
 use Rattle.pict_queue.proofs.Kept.{contents_beside, held_beside, one_more_beside, released_if_gone}
 use Rattle.pict_queue.proofs.queues.Queues.give.Goals as goal
 
@@ -39,15 +39,15 @@ others c other apart =
 
 pub returns-clause-contents : goal.returns-clause-contents
 unfolding after
-returns-clause-contents c = contents_beside c.args.self.now (state_of (after c)) c.args.b (others c) (returns-clause-lists c) c.requires.apart
+returns-clause-contents c = contents_beside c.args.self.now (queues_state (after c)) c.args.b (others c) (returns-clause-lists c) c.requires.apart
 
 pub returns-clause-kept : goal.returns-clause-kept
 unfolding after
-returns-clause-kept c = held_beside c.args.self.now (state_of (after c)) c.args.b (others c) (returns-clause-lists c)
+returns-clause-kept c = held_beside c.args.self.now (queues_state (after c)) c.args.b (others c) (returns-clause-lists c)
 
 pub returns-clause-gone : goal.returns-clause-gone
 unfolding after
 returns-clause-gone c =
-    released_if_gone c.args.self.now (state_of (after c)) c.args.b
+    released_if_gone c.args.self.now (queues_state (after c)) c.args.b
     (ap (λ m. get m c.args.b) c.give.ensures.live ∙ get_removed c.self.inside.region.live c.args.b)
-    (one_more_beside c.args.self.now (state_of (after c)) c.args.b (others c) (returns-clause-lists c))
+    (one_more_beside c.args.self.now (queues_state (after c)) c.args.b (others c) (returns-clause-lists c))

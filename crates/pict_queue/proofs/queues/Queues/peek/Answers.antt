@@ -2,8 +2,8 @@ use Rattle.std.proofs.Common.{◌≡◌, ◌<◌, ◌∷◌, ℕ, List, [], Some
 use Rattle.std.specs.Option.{option_map}
 use Rattle.std.specs.List.{slice_get}
 use Rattle.pict_region.specs.RegionState.{RegionState, IsLive, words_of, width_of}
-use Rattle.pict_queue.specs.QueuesState.{QueuesState, list_of}
-use Rattle.pict_queue.specs.Threads.{state_of}
+use Rattle.pict_queue.specs.QueuesState.{QueuesState, queue_blocks}
+use Rattle.pict_queue.specs.Threads.{queues_state}
 use Rattle.pict_queue.specs.Ends.{queue_in}
 use Rattle.pict_queue.specs.declared.ends.Queue.{Queue}
 use Rattle.pict_queue.specs.declared.queues.Queues.TheInside.{Inside}
@@ -12,8 +12,8 @@ use Rattle.pict_queue.proofs.Calls.{first_found, queue_there, list_seen, list_le
 use Rattle.pict_queue.proofs.queues.Queues.peek.Goals as goal
 
 -- the first block of the list is the one that the call reads
-first_seen : (a : Inside) (s : QueuesState) (number : ℕ) (queue : Queue) → state_of a ≡ s → queue ≡ queue_in a.ends.queues.items number → 0 < queue.length
-    → slice_get (list_of s number) 0 ≡ Some queue.first
+first_seen : (a : Inside) (s : QueuesState) (number : ℕ) (queue : Queue) → queues_state a ≡ s → queue ≡ queue_in a.ends.queues.items number → 0 < queue.length
+    → slice_get (queue_blocks s number) 0 ≡ Some queue.first
 first_seen a s number queue is queue_is some =
     ap (λ ns. slice_get ns 0) (list_seen a s number is ∙ first_of a.region a.ends.queues.items number (omega (arith, some, ap (λ q. q.length) queue_is)))
     ∙ ap (λ q. Some q.first) (sym queue_is)
@@ -43,8 +43,8 @@ pub word-requires-clause-inside : goal.word-requires-clause-inside
 word-requires-clause-inside c =
     let queue = queue_in c.self.inside.ends.queues.items c.args.q.0 in
     let some : 0 < queue.length = omega (arith, c.if-length-eq0.false, c.length.ensures) in
-    let there : 0 < length (list_of c.args.self.now c.args.q.0) = omega (arith, some, list_length c.self.inside _ c.args.q.0 c.self.view_is) in
-    let first = head_is (list_of c.args.self.now c.args.q.0) _ (first_seen c.self.inside _ c.args.q.0 queue c.self.view_is refl some) in
+    let there : 0 < length (queue_blocks c.args.self.now c.args.q.0) = omega (arith, some, list_length c.self.inside _ c.args.q.0 c.self.view_is) in
+    let first = head_is (queue_blocks c.args.self.now c.args.q.0) _ (first_seen c.self.inside _ c.args.q.0 queue c.self.view_is refl some) in
     omega (
       arith,
       c.requires.inside there,

@@ -4,10 +4,10 @@ use Rattle.std.specs.Option.{option_map}
 use Rattle.std.specs.FinMap.{get}
 use Rattle.pict_region.proofs.Uses.{Live}
 use Rattle.pict_region.specs.RegionState.{IsLive, width_of}
-use Rattle.pict_queue.specs.QueuesState.{IsHeld, list_of, link_of, KeepsContents}
+use Rattle.pict_queue.specs.QueuesState.{IsHeld, queue_blocks, link_of, KeepsContents}
 use Rattle.pict_queue.specs.declared.ends.Queue.{Queue}
 use Rattle.pict_queue.specs.Ends.{queue_in}
-use Rattle.pict_queue.specs.Threads.{state_of}
+use Rattle.pict_queue.specs.Threads.{queues_state}
 use Rattle.pict_queue.specs.declared.queues.Queues.TheInside.{Inside}
 use Rattle.pict_queue.proofs.Orders.{list_is, once_seen, held_if_apart, PopsFront, popped_front}
 use Rattle.pict_queue.proofs.Calls.{first_there, queue_there, next_found, list_seen, list_length, rest_kept}
@@ -62,12 +62,12 @@ returns-clause-list c =
     list_seen c.self.inside _ c.args.q.0 c.self.view_is
     ∙ (pops c).list
     ∙ ap (λ ns. (queue_in c.self.inside.ends.queues.items c.args.q.0).first ∷ ns) (sym (list_is (after c) c.args.q.0))
-    ∙ ap (λ b. b ∷ list_of (state_of (after c)) c.args.q.0) (sym c.first-block.ensures.token)
+    ∙ ap (λ b. b ∷ queue_blocks (queues_state (after c)) c.args.q.0) (sym c.first-block.ensures.token)
 
 pub returns-clause-held : goal.returns-clause-held
 unfolding after
 returns-clause-held c =
-    subst (IsHeld (state_of (after c))) (sym c.first-block.ensures.token) (held_if_apart (after c) (queue_in c.self.inside.ends.queues.items c.args.q.0).first (pops c).apart)
+    subst (IsHeld (queues_state (after c))) (sym c.first-block.ensures.token) (held_if_apart (after c) (queue_in c.self.inside.ends.queues.items c.args.q.0).first (pops c).apart)
 
 pub returns-clause-others : goal.returns-clause-others
 unfolding after
@@ -78,7 +78,7 @@ pub returns-clause-once : goal.returns-clause-once
 unfolding after
 returns-clause-once c = once_seen (after c) (pops c).threaded
 
-keeps : (c : goal.After-put) → KeepsContents c.args.self.now.region (state_of (after c)).region
+keeps : (c : goal.After-put) → KeepsContents c.args.self.now.region (queues_state (after c)).region
 unfolding after
 keeps c block = ap (λ (m : Live). option_map (drop 1) (get m block)) (live_same c ∙ ap (λ s. s.region.live) c.self.view_is)
 
@@ -91,16 +91,16 @@ returns-clause-rest c =
 
 pub returns-clause-popped : goal.returns-clause-popped
 unfolding after
-returns-clause-popped c = contents_popped c.args.self.now (state_of (after c)) (keeps c) c.args.q.0 c.first-block.result.1 (returns-clause-list c)
+returns-clause-popped c = contents_popped c.args.self.now (queues_state (after c)) (keeps c) c.args.q.0 c.first-block.result.1 (returns-clause-list c)
 
 pub returns-clause-other_contents : goal.returns-clause-other_contents
 unfolding after
-returns-clause-other_contents c = other_contents_kept c.args.self.now (state_of (after c)) (keeps c) c.args.q.0 (returns-clause-others c)
+returns-clause-other_contents c = other_contents_kept c.args.self.now (queues_state (after c)) (keeps c) c.args.q.0 (returns-clause-others c)
 
 pub returns-clause-kept : goal.returns-clause-kept
 unfolding after
-returns-clause-kept c = held_popped c.args.self.now (state_of (after c)) (keeps c) c.args.q.0 c.first-block.result.1 (returns-clause-list c) (returns-clause-others c)
+returns-clause-kept c = held_popped c.args.self.now (queues_state (after c)) (keeps c) c.args.q.0 c.first-block.result.1 (returns-clause-list c) (returns-clause-others c)
 
 pub returns-clause-more : goal.returns-clause-more
 unfolding after
-returns-clause-more c = one_more_popped c.args.self.now (state_of (after c)) (keeps c) c.args.q.0 c.first-block.result.1 (returns-clause-list c) (returns-clause-others c)
+returns-clause-more c = one_more_popped c.args.self.now (queues_state (after c)) (keeps c) c.args.q.0 c.first-block.result.1 (returns-clause-list c) (returns-clause-others c)

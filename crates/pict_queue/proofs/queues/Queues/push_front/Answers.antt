@@ -1,6 +1,6 @@
 use Rattle.std.proofs.Common.{ℕ, ◌≡◌, ◌≤◌, ◌+◌, ◌∷◌, List, length, set, sym, ◌∙◌, ap, refl, subst, arith}
 use Rattle.pict_region.specs.RegionState.{RegionState, IsLive, words_of, width_of}
-use Rattle.pict_queue.specs.QueuesState.{list_of}
+use Rattle.pict_queue.specs.QueuesState.{queue_blocks}
 use Rattle.std.specs.FinMap.{insert}
 use Rattle.std.proofs.lemmas.List.{length-set}
 use Rattle.pict_queue.specs.Ends.{queue_in, ends_of}
@@ -9,7 +9,7 @@ use Rattle.pict_queue.specs.declared.queues.Queues.TheInside.{Inside}
 use Rattle.pict_queue.proofs.Links.{LinksBlock, link_written}
 use Rattle.pict_queue.proofs.Orders.{list_is, once_seen, ends_length, PushesFront, pushed_front}
 use Rattle.pict_queue.proofs.Calls.{FindsEnds, ends_found, held_small, queue_there, list_seen, rest_kept}
-use Rattle.pict_queue.specs.Threads.{state_of}
+use Rattle.pict_queue.specs.Threads.{queues_state}
 use Rattle.pict_queue.proofs.Kept.{contents_pushed_front, other_contents_kept, released_front, held_pushed_front}
 use Rattle.pict_queue.proofs.queues.Queues.push_front.Goals as goal
 
@@ -83,7 +83,7 @@ returns-clause-list c =
     list_is (after c) c.args.q.0
     ∙ (pushes c).list
     ∙ ap (λ ns. c.name-number.result ∷ ns) (sym (list_seen c.self.inside _ c.args.q.0 c.self.view_is))
-    ∙ ap (λ b. b ∷ list_of c.args.self.now c.args.q.0) c.name-number.ensures
+    ∙ ap (λ b. b ∷ queue_blocks c.args.self.now c.args.q.0) c.name-number.ensures
 
 pub returns-clause-others : goal.returns-clause-others
 unfolding after
@@ -102,16 +102,16 @@ returns-clause-once c = once_seen (after c) (pushes c).threaded
 
 pub returns-clause-pushed : goal.returns-clause-pushed
 unfolding after
-returns-clause-pushed c = contents_pushed_front c.args.self.now (state_of (after c)) (returns-clause-rest c).contents c.args.q.0 c.args.b (returns-clause-list c)
+returns-clause-pushed c = contents_pushed_front c.args.self.now (queues_state (after c)) (returns-clause-rest c).contents c.args.q.0 c.args.b (returns-clause-list c)
 
 pub returns-clause-other_contents : goal.returns-clause-other_contents
 unfolding after
-returns-clause-other_contents c = other_contents_kept c.args.self.now (state_of (after c)) (returns-clause-rest c).contents c.args.q.0 (returns-clause-others c)
+returns-clause-other_contents c = other_contents_kept c.args.self.now (queues_state (after c)) (returns-clause-rest c).contents c.args.q.0 (returns-clause-others c)
 
 pub returns-clause-kept : goal.returns-clause-kept
 unfolding after
-returns-clause-kept c = held_pushed_front c.args.self.now (state_of (after c)) (returns-clause-rest c).contents c.args.q.0 c.args.b (returns-clause-list c) (returns-clause-others c)
+returns-clause-kept c = held_pushed_front c.args.self.now (queues_state (after c)) (returns-clause-rest c).contents c.args.q.0 c.args.b (returns-clause-list c) (returns-clause-others c)
 
 pub returns-clause-gone : goal.returns-clause-gone
 unfolding after
-returns-clause-gone c = released_front c.args.self.now (state_of (after c)) (returns-clause-rest c).contents c.args.q.0 c.args.b (returns-clause-list c) (returns-clause-others c)
+returns-clause-gone c = released_front c.args.self.now (queues_state (after c)) (returns-clause-rest c).contents c.args.q.0 c.args.b (returns-clause-list c) (returns-clause-others c)

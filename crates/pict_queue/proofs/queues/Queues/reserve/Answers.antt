@@ -1,7 +1,7 @@
 use Rattle.pict_queue.proofs.Orders.{live_kept}
 use Rattle.std.proofs.Common.{◌≡◌, ◌∙◌, ap}
 use Rattle.pict_queue.specs.QueuesState.{QueuesState, KeepsQueues}
-use Rattle.pict_queue.specs.Threads.{state_of}
+use Rattle.pict_queue.specs.Threads.{queues_state}
 use Rattle.pict_queue.proofs.Kept.{contents_same, held_same, no_more_same, lists_same}
 use Rattle.pict_queue.proofs.queues.Queues.reserve.Goals as goal
 
@@ -12,7 +12,7 @@ invariant_of-self c = record {
 }
 
 after : (c : goal.After-reserve) → QueuesState
-after c = state_of (record { region = c.reserve.new.self; ends = c.self.inside.ends; spare = c.self.inside.spare })
+after c = queues_state (record { region = c.reserve.new.self; ends = c.self.inside.ends; spare = c.self.inside.spare })
 
 live : (c : goal.After-reserve) → (after c).region.live ≡ c.args.self.now.region.live
 unfolding after

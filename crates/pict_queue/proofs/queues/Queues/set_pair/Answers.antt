@@ -8,7 +8,7 @@ use Rattle.pict_region.proofs.Uses.{get_inserted, get_insert_apart}
 use Rattle.pict_queue.specs.declared.queues.Queues.TheInside.{Inside}
 use Rattle.pict_queue.proofs.Orders.{StandsApart, apart_if_held, held_if_apart, ThreadsStay, apart_changed}
 use Rattle.pict_queue.proofs.Calls.{lists_kept}
-use Rattle.pict_queue.specs.Threads.{state_of}
+use Rattle.pict_queue.specs.Threads.{queues_state}
 use Rattle.pict_queue.proofs.Kept.{contents_beside, held_beside, one_more_beside, no_more_if_held}
 use Rattle.pict_queue.proofs.queues.Queues.set_pair.Goals as goal
 
@@ -54,14 +54,14 @@ others c other apart =
 
 pub returns-clause-contents : goal.returns-clause-contents
 unfolding after
-returns-clause-contents c = contents_beside c.args.self.now (state_of (after c)) c.args.b.now (others c) (returns-clause-lists c) c.requires.held.apart
+returns-clause-contents c = contents_beside c.args.self.now (queues_state (after c)) c.args.b.now (others c) (returns-clause-lists c) c.requires.held.apart
 
 pub returns-clause-kept : goal.returns-clause-kept
 unfolding after
-returns-clause-kept c = held_beside c.args.self.now (state_of (after c)) c.args.b.now (others c) (returns-clause-lists c)
+returns-clause-kept c = held_beside c.args.self.now (queues_state (after c)) c.args.b.now (others c) (returns-clause-lists c)
 
 pub returns-clause-no_more : goal.returns-clause-no_more
 unfolding after
 returns-clause-no_more c =
-    no_more_if_held c.args.self.now (state_of (after c)) c.args.b.now c.requires.held
-    (one_more_beside c.args.self.now (state_of (after c)) c.args.b.now (others c) (returns-clause-lists c))
+    no_more_if_held c.args.self.now (queues_state (after c)) c.args.b.now c.requires.held
+    (one_more_beside c.args.self.now (queues_state (after c)) c.args.b.now (others c) (returns-clause-lists c))

@@ -8,7 +8,7 @@ use Rattle.pict_region.proofs.Uses.{get_inserted, get_insert_apart}
 use Rattle.pict_queue.specs.declared.queues.Queues.TheInside.{Inside}
 use Rattle.pict_queue.proofs.Orders.{held_if_apart, ThreadsStay, apart_changed, absent_if_new}
 use Rattle.pict_queue.proofs.Calls.{lists_kept}
-use Rattle.pict_queue.specs.Threads.{state_of}
+use Rattle.pict_queue.specs.Threads.{queues_state}
 use Rattle.pict_queue.proofs.Kept.{contents_beside, held_beside, one_more_beside, taken_apart}
 use Rattle.pict_queue.proofs.queues.Queues.take.Goals as goal
 
@@ -57,14 +57,14 @@ returns-clause-apart c other held = taken_apart c.args.self.now c.take.result ot
 pub returns-clause-contents : goal.returns-clause-contents
 unfolding after
 returns-clause-contents c =
-    contents_beside c.args.self.now (state_of (after c)) c.take.result (others c) (returns-clause-lists c)
+    contents_beside c.args.self.now (queues_state (after c)) c.take.result (others c) (returns-clause-lists c)
     (λ queue stands. (returns-clause-held c).apart queue (subst (λ l. IsTrue (list_any (eqb c.take.result) l)) (sym (returns-clause-lists c queue)) stands))
 
 pub returns-clause-kept : goal.returns-clause-kept
 unfolding after
 returns-clause-kept c other held =
-    held_beside c.args.self.now (state_of (after c)) c.take.result (others c) (returns-clause-lists c) other (returns-clause-apart c other held) held
+    held_beside c.args.self.now (queues_state (after c)) c.take.result (others c) (returns-clause-lists c) other (returns-clause-apart c other held) held
 
 pub returns-clause-more : goal.returns-clause-more
 unfolding after
-returns-clause-more c = one_more_beside c.args.self.now (state_of (after c)) c.take.result (others c) (returns-clause-lists c)
+returns-clause-more c = one_more_beside c.args.self.now (queues_state (after c)) c.take.result (others c) (returns-clause-lists c)

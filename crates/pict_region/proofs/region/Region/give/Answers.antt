@@ -1,7 +1,7 @@
 use Rattle.std.proofs.Common.{◌≡◌, ◌∙◌, ◌+◌, ◌<◌, ℕ, length, set, get_or, ap, sym, arith}
 use Rattle.std.proofs.lemmas.List.{get_or_read}
 use Rattle.pict_region.specs.RegionState.{RegionState, IsLive, width_of, spare}
-use Rattle.pict_region.specs.Layout.{list_at, state_of, made_words, IsLaidOut}
+use Rattle.pict_region.specs.Layout.{list_at, region_state, made_words, IsLaidOut}
 use Rattle.pict_region.specs.declared.region.FreeList.{FreeList}
 use Rattle.pict_region.specs.declared.region.Region.TheInside.{Inside}
 use Rattle.pict_region.proofs.Calls.{ReadsWidth, width_read, GivesBlock, given, count_fits, spare_at, spare_set, spare_kept}
@@ -16,7 +16,7 @@ record Reads (a : Inside) (r : RegionState) (number token width : ℕ) (list : F
   listed : width < length a.free.items
   list_is : list ≡ list_at a.free.items width
 
-reads : (a : Inside) (r : RegionState) (number token width : ℕ) (list : FreeList) → state_of a ≡ r → IsLaidOut a.words.items a.made a.free.items → token ≡ number
+reads : (a : Inside) (r : RegionState) (number token width : ℕ) (list : FreeList) → region_state a ≡ r → IsLaidOut a.words.items a.made a.free.items → token ≡ number
     → IsLive r number → width ≡ get_or a.words.items token width → list ≡ get_or a.free.items width list → Reads a r number token width list
 reads a r number token width list is sound same live width_read_is list_read =
     let at = width_read a r number token is sound same live in
@@ -91,7 +91,7 @@ pub returns-clause-blocks : goal.returns-clause-blocks
 returns-clause-blocks c =
     let list : FreeList = record { first = c.b.inside.number; count = c.index-list.result.now.count + 1 } in
     blocks_given c.args.self.now
-    (state_of (record {
+    (region_state (record {
       words = with_item c.self.inside.words (c.b.inside.number + 1) c.index-list.result.now.first;
       made = c.self.inside.made;
       free = with_item c.self.inside.free c.index.result.now list;

@@ -3,7 +3,7 @@ use Rattle.pict_region.proofs.Calls.{word_read, word_set}
 use Rattle.std.proofs.lemmas.List.{length-set}
 use Rattle.std.specs.Vec.{with_item}
 use Rattle.pict_region.specs.RegionState.{words_of}
-use Rattle.pict_region.specs.Layout.{state_of}
+use Rattle.pict_region.specs.Layout.{region_state}
 use Rattle.pict_region.proofs.Counts.{blocks_written}
 use Rattle.pict_region.proofs.region.Region.set.Goals as goal
 
@@ -28,6 +28,6 @@ returns-clause-live c = (word_set c.self.inside _ _ _ _ c.args.word c.self.view_
 pub returns-clause-blocks : goal.returns-clause-blocks
 returns-clause-blocks c =
     blocks_written c.args.self.now
-    (state_of (record { words = with_item c.self.inside.words (c.b.inside.number + 1 + c.args.i) c.args.word; made = c.self.inside.made; free = c.self.inside.free; work = c.one_more-self-inside.result }))
+    (region_state (record { words = with_item c.self.inside.words (c.b.inside.number + 1 + c.args.i) c.args.word; made = c.self.inside.made; free = c.self.inside.free; work = c.one_more-self-inside.result }))
     c.args.b.now (set (words_of c.args.self.now c.args.b.now) c.args.i c.args.word) c.requires.live (returns-clause-live c)
     (length-set (words_of c.args.self.now c.args.b.now) c.args.i c.args.word) (ap (λ s. s.free) c.self.view_is)

@@ -2,7 +2,7 @@ use Rattle.std.proofs.Common.{◌∙◌, ◌+◌, length, set, ap, sym, subst, a
 use Rattle.std.proofs.lemmas.List.{length-set}
 use Rattle.std.specs.Vec.{with_items}
 use Rattle.pict_region.specs.RegionState.{words_of}
-use Rattle.pict_region.specs.Layout.{state_of}
+use Rattle.pict_region.specs.Layout.{region_state}
 use Rattle.pict_region.proofs.Calls.{word_read, SetsWord, pair_set, lent_whole}
 use Rattle.pict_region.proofs.Counts.{blocks_written}
 use Rattle.pict_region.proofs.region.Region.set_pair.Goals as goal
@@ -37,7 +37,7 @@ returns-clause-live c = (written c).live
 pub returns-clause-blocks : goal.returns-clause-blocks
 returns-clause-blocks c =
     blocks_written c.args.self.now
-    (state_of (record { words = with_items c.self.inside.words c.put_pair.new.words; made = c.self.inside.made; free = c.self.inside.free; work = c.one_more-self-inside.result }))
+    (region_state (record { words = with_items c.self.inside.words c.put_pair.new.words; made = c.self.inside.made; free = c.self.inside.free; work = c.one_more-self-inside.result }))
     c.args.b.now (set (set (words_of c.args.self.now c.args.b.now) c.args.i c.args.pair.0) (c.args.i + 1) c.args.pair.1) c.requires.live (returns-clause-live c)
     (length-set (set (words_of c.args.self.now c.args.b.now) c.args.i c.args.pair.0) (c.args.i + 1) c.args.pair.1
     ∙ length-set (words_of c.args.self.now c.args.b.now) c.args.i c.args.pair.0)

@@ -1,7 +1,7 @@
 use Rattle.std.proofs.Common.{◌≡◌, ◌∙◌, ◌+◌, ◌-◌, ◌<◌, length, set, replicate, ap, sym, refl, arith}
 use Rattle.std.proofs.lemmas.List.{get_or_read, length-replicate}
 use Rattle.pict_region.specs.RegionState.{spare}
-use Rattle.pict_region.specs.Layout.{state_of}
+use Rattle.pict_region.specs.Layout.{region_state}
 use Rattle.pict_region.specs.declared.region.FreeList.{FreeList}
 use Rattle.pict_region.proofs.Calls.{first_read, TakesFirst, taken, spare_at, spare_set, spare_kept, read_list, reads_first}
 use Rattle.std.specs.Vec.{with_item}
@@ -70,6 +70,6 @@ pub returns-clause-blocks : goal.returns-clause-blocks
 returns-clause-blocks c =
     let list : FreeList = record { first = c.index.result.now; count = c.index-list.result.now.count - 1 } in
     blocks_taken c.args.self.now
-    (state_of (record { words = c.clear.new.words; made = c.self.inside.made; free = with_item c.self.inside.free c.args.width list; work = c.one_more-self-inside.result }))
+    (region_state (record { words = c.clear.new.words; made = c.self.inside.made; free = with_item c.self.inside.free c.args.width list; work = c.one_more-self-inside.result }))
     c.index-list.result.now.first c.args.width (replicate c.args.width 0) (returns-clause-fresh c) (returns-clause-live c) (length-replicate c.args.width 0)
     (returns-clause-spare c) (returns-clause-others c)

@@ -6,7 +6,7 @@ use Rattle.pict_types.specs.PlainEntries.{plain_entries, plain_what}
 use Rattle.pict_types.specs.Entries.{variables, places, held_weights, held_heights, EntriesAreWellFormed, weight_of_what, height_of_what, entry_weights, entry_heights, closed_entries}
 use Rattle.pict_types.specs.Measures.{held, weigh_variable, rise_variable}
 use Rattle.pict_types.specs.Counting.{variables_around}
-use Rattle.pict_types.specs.Places.{names_in}
+use Rattle.pict_types.specs.Places.{entry_names}
 use Rattle.pict_types.proofs.Counting.{count_pushed}
 use Rattle.pict_types.proofs.Entries.{count_known, last_first, pushed, variable_placed, variable_weighed, variable_measured, entry_formed, definition_placed}
 use Rattle.pict_types.proofs.EntryMeasures.{entry_closed, entry_measured, entry_weighed}
@@ -60,7 +60,7 @@ pub invariant_of-self-in-Variable-clause-named : goal.invariant_of-self-in-Varia
 invariant_of-self-in-Variable-clause-named c =
     let s = c.args.self.now in
     let is = c.push_reserved-in-Variable-2.ensures.items ∙ ap (λ x. x ++ c.args.entry ∷ []) c.reserve.ensures.items in
-    c.in_ok-bind.ensures.ok ∙ ap (λ x. c.args.entry.name.0 ∷ x) s.named ∙ sym (names_pushed s.entries.items c.args.entry) ∙ ap (λ x. names_in (plain_entries x)) (sym is)
+    c.in_ok-bind.ensures.ok ∙ ap (λ x. c.args.entry.name.0 ∷ x) s.named ∙ sym (names_pushed s.entries.items c.args.entry) ∙ ap (λ x. entry_names (plain_entries x)) (sym is)
 
 pub invariant_of-self-in-Variable-clause-few : goal.invariant_of-self-in-Variable-clause-few
 invariant_of-self-in-Variable-clause-few c =
@@ -103,7 +103,7 @@ pub invariant_of-self-in-Definition-clause-named : goal.invariant_of-self-in-Def
 invariant_of-self-in-Definition-clause-named c =
     let s = c.args.self.now in
     let is = c.push_reserved-in-Definition.ensures.items ∙ ap (λ x. x ++ c.args.entry ∷ []) c.reserve.ensures.items in
-    c.in_ok-bind.ensures.ok ∙ ap (λ x. c.args.entry.name.0 ∷ x) s.named ∙ sym (names_pushed s.entries.items c.args.entry) ∙ ap (λ x. names_in (plain_entries x)) (sym is)
+    c.in_ok-bind.ensures.ok ∙ ap (λ x. c.args.entry.name.0 ∷ x) s.named ∙ sym (names_pushed s.entries.items c.args.entry) ∙ ap (λ x. entry_names (plain_entries x)) (sym is)
 
 pub invariant_of-self-in-Definition-clause-few : goal.invariant_of-self-in-Definition-clause-few
 invariant_of-self-in-Definition-clause-few c =
