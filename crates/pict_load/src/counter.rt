@@ -10,8 +10,8 @@ use itoa::Buffer;
 use pict_core::Core;
 use pict_heap::Heap;
 use pict_machine::{Event, Machine, RunError, Watcher};
+use pict_show_words::printed;
 use pict_syntax::FUEL_LIMIT;
-use pict_values::printed;
 use std::alloc::{AllocError, Global};
 
 /// Counts communications, and bytes that are printed. Its one error, `Memory`, comes where a count passes 64 bits.

@@ -2,8 +2,8 @@
 
 use itoa::Buffer;
 use pict_heap::{Heap, Word};
+use pict_show_words::{printed, write_word};
 use pict_syntax::{Names, Prim};
-use pict_values::{printed, write_word};
 use std::alloc::AllocError;
 
 #[test]

@@ -10,9 +10,9 @@ use Rattle.pict_heap.specs.Fields.{positional_field, labelled_field_at}
 use Rattle.pict_heap.specs.HeapState.{HeapState, value_of}
 use Rattle.pict_heap.specs.declared.word.Word.{Word}
 use Rattle.pict_heap.specs.declared.word.Word.TheVariants as word
-use Rattle.pict_values.specs.Fields.{positional_in, labelled_in, positional_from, labelled_from}
-use Rattle.pict_values.proofs.Words.{fields_are}
-use Rattle.pict_values.proofs.Rests.{from_none, none_from, labelled_from_none, none_labelled_from}
+use Rattle.pict_show_words.specs.Fields.{positional_in, labelled_in, positional_from, labelled_from}
+use Rattle.pict_show_words.proofs.Words.{fields_are}
+use Rattle.pict_show_words.proofs.Rests.{from_none, none_from, labelled_from_none, none_labelled_from}
 
 -- ---- what is still to be seen: A says that all fields are the same
 

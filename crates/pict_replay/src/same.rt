@@ -3,7 +3,7 @@ ghost use Rattle.std.specs.Prelude.{◌≡◌, ◌↔◌, IsTrue, IfOk, None, ma
 ghost use Rattle.pict_core.specs.Plain.{plain_val, plain_field, vals_of, labelled_of};
 ghost use Rattle.pict_core.specs.Term as term;
 ghost use Rattle.pict_heap.specs.HeapState.{HeapState, IsWord, value_of};
-ghost use Rattle.pict_values.specs.Fields.{positional_from, labelled_from};
+ghost use Rattle.pict_show_words.specs.Fields.{positional_from, labelled_from};
 ghost use Rattle.pict_replay.specs.Words.{IsSimple};
 
 use pict_core::CoreVal;

@@ -18,8 +18,8 @@ use crate::same::same_value;
 use itoa::Buffer;
 use pict_heap::Heap;
 use pict_picker::{Did, Picker};
+use pict_show_words::printed;
 use pict_trace::{TraceLabel as Expect, TraceLine as Expected};
-use pict_values::printed;
 use std::alloc::AllocError;
 
 // Does the step of a choice, where there is its place: whether it is done, and shows what the unused lines give for the step

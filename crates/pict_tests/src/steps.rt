@@ -14,9 +14,9 @@ use pict_heap::Heap;
 use pict_machine::{End, Event, Machine, RunError, Stopped, Watcher};
 use pict_reference::{Label, Reference, StepOutcome};
 use pict_show::write_value;
+use pict_show_words::{printed, write_word};
 use pict_syntax::{FUEL_LIMIT, Names, Sources, Span};
 use pict_top::OneShelf;
-use pict_values::{printed, write_word};
 use std::alloc::{AllocError, Global};
 use std::process::Abort;
 

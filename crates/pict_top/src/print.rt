@@ -10,7 +10,7 @@ use itoa::Buffer;
 use pict_heap::Heap;
 use pict_machine::{Event, RunError};
 use pict_outside::{Sink, SinkFailed};
-use pict_values::printed;
+use pict_show_words::printed;
 
 /// Makes one write of the bytes, and none where there are no bytes.
 pub fn write_some<O: Sink>(out: &mut O, bytes: &[u8]) -> Result<(), RunError>

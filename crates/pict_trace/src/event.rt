@@ -8,8 +8,8 @@ use itoa::Buffer;
 use pict_heap::Heap;
 use pict_machine::Event;
 use pict_show::{write_decimal, write_numbered, write_quoted};
+use pict_show_words::{printed, write_word};
 use pict_syntax::Names;
-use pict_values::{printed, write_word};
 use std::alloc::{AllocError, Global};
 
 /// The line of what a step shows, whose words are those of the heap: the step's number, what it shows, and a newline. The only

@@ -6,8 +6,8 @@ use Rattle.pict_core.specs.Term as term
 use Rattle.pict_core.proofs.Fields.{plain_val-Fields}
 use Rattle.pict_heap.specs.Fields.{positional_field, labelled_field_at}
 use Rattle.pict_heap.specs.HeapState.{value_of}
-use Rattle.pict_values.specs.Fields.{labelled_from}
-use Rattle.pict_values.proofs.Rests.{from_some, from_none, labelled_from_some, labelled_from_none}
+use Rattle.pict_show_words.specs.Fields.{labelled_from}
+use Rattle.pict_show_words.proofs.Rests.{from_some, from_none, labelled_from_some, labelled_from_none}
 use Rattle.pict_replay.proofs.Plainly.{var_is, not_so, tests_as}
 use Rattle.pict_replay.proofs.Simple.{no_variable}
 use Rattle.pict_replay.proofs.FieldByField.{vals_on, vals_differ, vals_short, vals_over, labelled_on, labels_differ, labelled_differ, labelled_short, labelled_over, values_left, fields_left, record_tells, vals_end, labelled_end, both_ways}

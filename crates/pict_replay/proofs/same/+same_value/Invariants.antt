@@ -1,7 +1,7 @@
 use Rattle.std.proofs.Common.{◌≡◌, ◌↔◌, map, drop}
 use Rattle.pict_core.specs.Plain.{plain_val, plain_field, vals_of, labelled_of}
 use Rattle.pict_heap.specs.HeapState.{value_of}
-use Rattle.pict_values.specs.Fields.{positional_from, labelled_from}
+use Rattle.pict_show_words.specs.Fields.{positional_from, labelled_from}
 use Rattle.pict_replay.proofs.same.+same_value.Given as goal
 
 abbrev pub invariant-same_fields-loop-i : goal.invariant-same_fields-loop-i

@@ -3,9 +3,9 @@ use Rattle.std.specs.Prelude.{◌≡◌, ℕ, List, [], ◌∷◌, ◌++◌}
 use Rattle.pict_show.specs.Values.{value_text}
 use Rattle.pict_show.specs.Pending.{rest_text}
 use Rattle.pict_heap.specs.HeapState.{HeapState, value_of, IsWord}
-use Rattle.pict_values.specs.Fields.{positional_from, labelled_from}
-use Rattle.pict_values.specs.declared.writing.Piece.{Piece}
-use Rattle.pict_values.specs.declared.writing.Piece.TheVariants as piece
+use Rattle.pict_show_words.specs.Fields.{positional_from, labelled_from}
+use Rattle.pict_show_words.specs.declared.writing.Piece.{Piece}
+use Rattle.pict_show_words.specs.declared.writing.Piece.TheVariants as piece
 
 -- the words of a piece are words of the heap
 abbrev pub IsPieceOf : HeapState → Piece → Type 0

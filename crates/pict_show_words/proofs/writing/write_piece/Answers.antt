@@ -4,10 +4,10 @@ use Rattle.pict_show.specs.Values.{value_text}
 use Rattle.pict_show.specs.Pending.{fields_text}
 use Rattle.pict_show.proofs.Pieces.{byte_written}
 use Rattle.pict_heap.specs.HeapState.{value_of}
-use Rattle.pict_values.specs.Fields.{positional_from, labelled_from}
-use Rattle.pict_values.specs.Pending.{pending, piece_text}
-use Rattle.pict_values.proofs.Pieces.{record_text}
-use Rattle.pict_values.proofs.writing.write_piece.Goals as goal
+use Rattle.pict_show_words.specs.Fields.{positional_from, labelled_from}
+use Rattle.pict_show_words.specs.Pending.{pending, piece_text}
+use Rattle.pict_show_words.proofs.Pieces.{record_text}
+use Rattle.pict_show_words.proofs.writing.write_piece.Goals as goal
 
 pub returns-in_ok-push-in-Fields-clause-text : goal.returns-in_ok-push-in-Fields-clause-text
 returns-in_ok-push-in-Fields-clause-text c =

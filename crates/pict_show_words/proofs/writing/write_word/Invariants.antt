@@ -2,8 +2,8 @@ use Rattle.std.proofs.Common.{◌≡◌, ◌++◌, [], length}
 use Rattle.std.specs.List.{All}
 use Rattle.pict_show.specs.Values.{value_text}
 use Rattle.pict_heap.specs.HeapState.{value_of}
-use Rattle.pict_values.specs.Pending.{IsPieceOf, pending}
-use Rattle.pict_values.proofs.writing.write_word.Given as goal
+use Rattle.pict_show_words.specs.Pending.{IsPieceOf, pending}
+use Rattle.pict_show_words.proofs.writing.write_word.Given as goal
 
 abbrev pub invariant-loop-piece : goal.invariant-loop-piece
 invariant-loop-piece l = record {

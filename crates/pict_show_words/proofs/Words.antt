@@ -7,7 +7,7 @@ use Rattle.pict_heap.specs.declared.word.Word.{Word}
 use Rattle.pict_heap.specs.declared.word.Word.TheVariants as word
 use Rattle.pict_heap.proofs.Records.{record_is}
 use Rattle.pict_prim.specs.Printed.{printed_of}
-use Rattle.pict_values.specs.Fields.{positional_in, labelled_in}
+use Rattle.pict_show_words.specs.Fields.{positional_in, labelled_in}
 
 -- the word of a record stands for a record of its fields
 pub fields_are : (h : HeapState) (number : ℕ) → value_of h (word.Fields number) ≡ term.Record (positional_in (value_of h (word.Fields number))) (labelled_in (value_of h (word.Fields number)))

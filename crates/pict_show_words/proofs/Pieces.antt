@@ -9,11 +9,11 @@ use Rattle.pict_show.proofs.Pieces.{first_positional, first_labelled, rest_posit
 use Rattle.pict_heap.specs.Fields.{positional_field, labelled_field_at}
 use Rattle.pict_heap.specs.HeapState.{HeapState, value_of}
 use Rattle.pict_heap.specs.declared.word.Word.TheVariants as word
-use Rattle.pict_values.specs.Fields.{positional_from, labelled_from}
-use Rattle.pict_values.specs.Pending.{piece_text, pending}
-use Rattle.pict_values.specs.declared.writing.Piece.{Piece}
-use Rattle.pict_values.proofs.Rests.{from_some, from_none, labelled_from_some, labelled_from_none, none_from, none_labelled_from}
-use Rattle.pict_values.proofs.Words.{fields_are}
+use Rattle.pict_show_words.specs.Fields.{positional_from, labelled_from}
+use Rattle.pict_show_words.specs.Pending.{piece_text, pending}
+use Rattle.pict_show_words.specs.declared.writing.Piece.{Piece}
+use Rattle.pict_show_words.proofs.Rests.{from_some, from_none, labelled_from_some, labelled_from_none, none_from, none_labelled_from}
+use Rattle.pict_show_words.proofs.Words.{fields_are}
 
 -- a field is there where it was found
 pub none_is : {A B : Type 0} (f : A → B) (found : Option A) (there : Option B) → option_map f found ≡ there → is_some found ≡ false → there ≡ None

@@ -4,10 +4,10 @@ use Rattle.pict_show.specs.Values.{value_text}
 use Rattle.pict_show.specs.Pending.{rest_text}
 use Rattle.pict_show.proofs.Pieces.{label_written}
 use Rattle.pict_heap.specs.HeapState.{value_of}
-use Rattle.pict_values.specs.Fields.{positional_from, labelled_from}
-use Rattle.pict_values.specs.Pending.{pending}
-use Rattle.pict_values.proofs.Pieces.{none_found, at_positional, at_labelled, fields_end, two_pushed}
-use Rattle.pict_values.proofs.writing.write_field.Goals as goal
+use Rattle.pict_show_words.specs.Fields.{positional_from, labelled_from}
+use Rattle.pict_show_words.specs.Pending.{pending}
+use Rattle.pict_show_words.proofs.Pieces.{none_found, at_positional, at_labelled, fields_end, two_pushed}
+use Rattle.pict_show_words.proofs.writing.write_field.Goals as goal
 
 pub returns-in_ok-push-2-clause-text : goal.returns-in_ok-push-2-clause-text
 returns-in_ok-push-2-clause-text c =

@@ -4,11 +4,11 @@ use Rattle.pict_show.specs.Pending.{rest_text, fields_text}
 use Rattle.pict_show.proofs.Pieces.{byte_written}
 use Rattle.pict_heap.specs.Fields.{positional_field, labelled_field_at}
 use Rattle.pict_heap.specs.HeapState.{value_of}
-use Rattle.pict_values.specs.Fields.{positional_from, labelled_from}
-use Rattle.pict_values.specs.Pending.{pending}
-use Rattle.pict_values.proofs.Pieces.{none_is, some_is, rest_ends, rest_goes_on}
-use Rattle.pict_values.proofs.writing.write_rest.Goals as goal
-use Rattle.pict_values.proofs.writing.write_rest.Goals.{else-is_none-via-then-is_none+else-is_none-2, else-is_none-via-else-is_none}
+use Rattle.pict_show_words.specs.Fields.{positional_from, labelled_from}
+use Rattle.pict_show_words.specs.Pending.{pending}
+use Rattle.pict_show_words.proofs.Pieces.{none_is, some_is, rest_ends, rest_goes_on}
+use Rattle.pict_show_words.proofs.writing.write_rest.Goals as goal
+use Rattle.pict_show_words.proofs.writing.write_rest.Goals.{else-is_none-via-then-is_none+else-is_none-2, else-is_none-via-else-is_none}
 
 pub returns-then-is_none-2-clause-text : goal.returns-then-is_none-2-clause-text
 returns-then-is_none-2-clause-text c =

@@ -6,8 +6,8 @@ ghost use Rattle.pict_show.specs.Values.{value_text, quoted};
 ghost use Rattle.pict_show.specs.Pending.{rest_text, fields_text};
 ghost use Rattle.pict_heap.specs.Fields.{text_bytes};
 ghost use Rattle.pict_heap.specs.HeapState.{value_of, IsWord};
-ghost use Rattle.pict_values.specs.Fields.{positional_from, labelled_from};
-ghost use Rattle.pict_values.specs.Pending.{IsPieceOf, piece_text, GainsHeapText};
+ghost use Rattle.pict_show_words.specs.Fields.{positional_from, labelled_from};
+ghost use Rattle.pict_show_words.specs.Pending.{IsPieceOf, piece_text, GainsHeapText};
 
 use itoa::Buffer;
 use pict_core::CoreVal;

@@ -2,7 +2,7 @@
 use Rattle.std.proofs.Common.{◌≡◌, ℕ, zero, suc, ◌+◌, Some, None, refl, sym, ◌∙◌, ap, arith}
 use Rattle.pict_core.specs.Term.{Val, Vals, Labelled, Var, Chan, Int, Char, Boolean, Text, PrimitiveVal, Record, no_vals, more_vals, no_labelled, more_labelled}
 use Rattle.pict_heap.specs.Fields.{nth, nth_labelled, positional_field, labelled_field_at}
-use Rattle.pict_values.specs.Fields.{positional_in, labelled_in, drop_vals, drop_labelled, positional_from, labelled_from}
+use Rattle.pict_show_words.specs.Fields.{positional_in, labelled_in, drop_vals, drop_labelled, positional_from, labelled_from}
 
 drop_some : (vs : Vals) (i : ℕ) (x : Val) → nth vs i ≡ Some x → drop_vals i vs ≡ more_vals x (drop_vals (suc i) vs)
 drop_some no_vals i x e = cc

@@ -1,8 +1,8 @@
 use Rattle.std.proofs.Common.{[], ◌∙◌}
 use Rattle.pict_show.proofs.Pieces.{less_left}
-use Rattle.pict_values.specs.Pending.{pending}
-use Rattle.pict_values.proofs.Pieces.{turned}
-use Rattle.pict_values.proofs.writing.write_word.Goals as goal
+use Rattle.pict_show_words.specs.Pending.{pending}
+use Rattle.pict_show_words.proofs.Pieces.{turned}
+use Rattle.pict_show_words.proofs.writing.write_word.Goals as goal
 
 pub loop-piece-smaller : goal.loop-piece-smaller
 loop-piece-smaller c =
