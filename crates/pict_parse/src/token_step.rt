@@ -3,8 +3,7 @@
 ghost use Rattle.pict_automaton.specs.Machine.{step};
 ghost use Rattle.pict_parse_states.specs.View.{GivesState, parse_state};
 
-use pict_parse_states::{Fault, State};
-use pict_parse_types::{
+use pict_parse_binding::{
     begin_pattern, begin_type, step_abstraction_open, step_abstraction_parameters,
     step_abstraction_pattern, step_abstraction_result, step_alias_name, step_any, step_bind,
     step_binder_kind, step_binder_name, step_binders, step_definition_keyword, step_hash,
@@ -16,6 +15,7 @@ use pict_parse_types::{
     step_rec_name, step_type_binders, step_type_keyword, step_type_label, step_type_labels,
     step_type_name, step_type_open, step_types,
 };
+use pict_parse_states::{Fault, State};
 use pict_parse_values::{
     step_arguments, step_channel, step_either, step_fold_body, step_fold_keyword, step_fresh_name,
     step_have_definition, step_labels, step_need, step_process, step_processes, step_side,

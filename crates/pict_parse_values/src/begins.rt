@@ -7,11 +7,11 @@ ghost use Rattle.pict_automaton.specs.Machine.{begin_first, name_value, declarat
 ghost use Rattle.pict_parse_states.specs.View.{wait_of, value_place_of, process_place_of, either_place_of, place_of, GivesState};
 
 use crate::puts::{put_processes, put_unboxed, put_value};
+use pict_parse_binding::begin_declaration;
 use pict_parse_states::{
     AbstractionPlace, DeclarationPlace, EitherPlace, Fault, FieldsPlace, Place, ProcessPlace,
     ProcessPlaces, State, ValuePlace, ValuePlaces, Wait, of_processes, parens,
 };
-use pict_parse_types::begin_declaration;
 use pict_syntax::{Chan, Id, Keyword, Name, Proc, Sign, Span, TokenKind, Val, join};
 use std::alloc::Global;
 

@@ -1,8 +1,0 @@
-use Rattle.std.proofs.Common.{rules}
-use Rattle.pict_parse_types.proofs.PatternOthers.{binder_name_other}
-use Rattle.pict_parse_types.proofs.binders.step_binder_name.Goals as goal
-
-pub returns-in_default : goal.returns-in_default
-returns-in_default c =
-    rw (binder_name_other c.args.kind.now (λ e. search rules) (λ e. search rules))
-    (rw c.join.ensures at c.step_binder.ensures)

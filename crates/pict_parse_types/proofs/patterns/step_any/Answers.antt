@@ -1,9 +1,0 @@
-use Rattle.std.proofs.Common.{rules}
-use Rattle.pict_syntax.specs.PlainTrees.{pat_of}
-use Rattle.pict_parse_types.proofs.PatternOthers.{any_other}
-use Rattle.pict_parse_types.proofs.patterns.step_any.Goals as goal
-
-pub returns-in_default : goal.returns-in_default
-unfolding pat_of
-returns-in_default c =
-    rw (any_other c.args.kind.now (λ e. search rules)) c.step_pattern.ensures
