@@ -38,15 +38,15 @@ use Rattle.pict_rules.proofs.RegularFields.{own_kinds, own_regular}
 use Rattle.pict_rules.proofs.RegularDeclarations.{argument_formed, lowered_out}
 use Rattle.pict_typing.specs.Erasing.{erased_capability}
 use Rattle.pict_typing.specs.Values.{raised}
-use Rattle.pict_erase.specs.Embedding.{erased_context, Embeds}
-use Rattle.pict_opened.specs.Opening.{meaning, AddsWhatIsOpened}
-use Rattle.pict_opened.proofs.Reaching.{gives_, refuses, needs, parts, unless, limits, in_functions, outside}
-use Rattle.pict_opened.proofs.PatternParts.{FieldsAdd, fields_add}
-use Rattle.pict_opened.proofs.PatternSteps.{OpensAgainst, patterns_open}
+use Rattle.pict_bridge.specs.Embedding.{erased_context, Embeds}
+use Rattle.pict_bridge.specs.Opening.{meaning, AddsWhatIsOpened}
+use Rattle.pict_bridge.proofs.Reaching.{gives_, refuses, needs, parts, unless, limits, in_functions, outside}
+use Rattle.pict_bridge.proofs.PatternParts.{FieldsAdd, fields_add}
+use Rattle.pict_bridge.proofs.PatternSteps.{OpensAgainst, patterns_open}
 use Rattle.pict_bridge.proofs.NamesOnce.{times, pattern_once, function_once}
 use Rattle.pict_bridge.proofs.Realised.{type_means, below_means}
 use Rattle.pict_bridge.proofs.Judged.{SentBy, ReadsAt, with_known, no_signature, more_signatures, Step}
-use Rattle.pict_opened.proofs.Rightly.{rightly, well}
+use Rattle.pict_bridge.proofs.Rightly.{rightly, well}
 use Rattle.pict_bridge.proofs.FieldForms.{last_and}
 use Rattle.pict_bridge.proofs.ReadForms.{Answers, last_formed, process_reads, function_reads}
 

@@ -6,7 +6,7 @@ use Rattle.pict_core.specs.Term as core
 use Rattle.pict_core.specs.Term.{Var}
 use Rattle.pict_translation.specs.Placed.{variables}
 use Rattle.pict_translation.specs.Simple.{value_at, binding, nothing}
-use Rattle.pict_opened.specs.Opening.{named}
+use Rattle.pict_bridge.specs.Opening.{named}
 use Rattle.pict_bridge.proofs.NamesOnce.{one_if, times}
 
 -- how often a name stands among the names of variables

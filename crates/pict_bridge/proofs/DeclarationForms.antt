@@ -22,11 +22,11 @@ use Rattle.pict_typing.specs.Values.{HasType}
 use Rattle.pict_typing.specs.Opening.{opens_record, opens_none, opens_no_label}
 use Rattle.pict_typing.specs.Processes as typed
 use Rattle.pict_typing.specs.Processes.{IsTyped}
-use Rattle.pict_erase.specs.Embedding.{WorldGrows}
-use Rattle.pict_opened.specs.Opening.{meaning}
-use Rattle.pict_opened.proofs.Joining.{type_after}
-use Rattle.pict_opened.proofs.Opened.{embeds_after}
-use Rattle.pict_opened.proofs.PatternSteps.{OpensAgainst}
+use Rattle.pict_bridge.specs.Embedding.{WorldGrows}
+use Rattle.pict_bridge.specs.Opening.{meaning}
+use Rattle.pict_bridge.proofs.Joining.{type_after}
+use Rattle.pict_bridge.proofs.Opened.{embeds_after}
+use Rattle.pict_bridge.proofs.PatternSteps.{OpensAgainst}
 use Rattle.pict_bridge.specs.Standing.{Stands, Longer}
 use Rattle.pict_bridge.specs.Realising.{around, Realises}
 use Rattle.pict_bridge.proofs.Standing.{not_longer, longer_more, longer_grows, has_longer, same_shift, one_longer, last_has, last_sends, last_receives}

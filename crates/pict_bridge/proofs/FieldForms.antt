@@ -22,10 +22,10 @@ use Rattle.pict_typing.specs.Erasing.{erased, erased_types, erased_labels, erase
 use Rattle.pict_typing.specs.Worlds.{World, IsType}
 use Rattle.pict_typing.specs.Values.{HasType, raised}
 use Rattle.pict_typing.specs.Processes as typed
-use Rattle.pict_erase.proofs.Erased.{erased_args, replace_erased, arguments_erased}
-use Rattle.pict_erase.proofs.Packing.{packed_at_once}
-use Rattle.pict_opened.specs.Opening.{meaning}
-use Rattle.pict_opened.proofs.FieldsOpen.{meanings, label_meanings}
+use Rattle.pict_bridge.proofs.Erased.{erased_args, replace_erased, arguments_erased}
+use Rattle.pict_bridge.proofs.Packing.{packed_at_once}
+use Rattle.pict_bridge.specs.Opening.{meaning}
+use Rattle.pict_bridge.proofs.FieldsOpen.{meanings, label_meanings}
 use Rattle.pict_bridge.specs.Standing.{Sends}
 use Rattle.pict_bridge.specs.Realising.{around, Realises}
 use Rattle.pict_bridge.proofs.Standing.{longer_more, has_longer, closed_longer, way_up, with_stands}

@@ -30,18 +30,18 @@ use Rattle.pict_rules.specs.Regular.{IsTypeIn}
 use Rattle.pict_rules.proofs.RegularArguments.{with_found_formed}
 use Rattle.pict_rules.proofs.RegularProcesses.{exposed_formed}
 use Rattle.pict_typing.specs.Worlds.{World}
-use Rattle.pict_opened.specs.Opening.{meaning}
-use Rattle.pict_opened.proofs.Reaching.{Gives, gives_, refuses, needs, parts, splits, ensures, unless, limits, in_functions, in_labels, expects}
-use Rattle.pict_opened.proofs.FieldsOpen.{label_meanings}
-use Rattle.pict_opened.proofs.Ordered.{ordered_last, type_at_new, type_at_other}
-use Rattle.pict_opened.proofs.PatternSteps.{first_types, all_types}
+use Rattle.pict_bridge.specs.Opening.{meaning}
+use Rattle.pict_bridge.proofs.Reaching.{Gives, gives_, refuses, needs, parts, splits, ensures, unless, limits, in_functions, in_labels, expects}
+use Rattle.pict_bridge.proofs.FieldsOpen.{label_meanings}
+use Rattle.pict_bridge.proofs.Ordered.{ordered_last, type_at_new, type_at_other}
+use Rattle.pict_bridge.proofs.PatternSteps.{first_types, all_types}
 use Rattle.pict_bridge.specs.Realising.{around, Realises}
 use Rattle.pict_bridge.proofs.Realised.{type_means}
 use Rattle.pict_bridge.proofs.SentLists.{AreSent, none_sent, more_sent, no_label_sent, label_sent, labels_list, labels_new, put_labels_list, list_lacks}
 use Rattle.pict_bridge.proofs.FoundStays.{Stays, stays_same, stays_on, found_same, given_stay, matched_stays, stays_no_operator, found_vary}
 use Rattle.pict_bridge.proofs.Meant.{IsWithinBound, AreWithinBounds}
 use Rattle.pict_bridge.proofs.Judged.{Values, Wherever, SentBy, AllSentBy, LabelsGiven, found_types, ValuesFit, LabelsFound, LabelsFit, ValueFits, FieldsFit, meant_types, IsExpectedAbove, IsSound, Step}
-use Rattle.pict_opened.proofs.Rightly.{rightly, well}
+use Rattle.pict_bridge.proofs.Rightly.{rightly, well}
 use Rattle.pict_bridge.proofs.Whole.{sent_above}
 use Rattle.pict_bridge.proofs.FieldForms.{stand_once, is_applied, application_sent}
 use Rattle.pict_normal.proofs.Used.{and_cases}

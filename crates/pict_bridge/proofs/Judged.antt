@@ -23,11 +23,11 @@ use Rattle.pict_translation.specs.Translation.{sending_chan, proc_core, procs_co
 use Rattle.pict_translation.specs.Arguments.{with_value}
 use Rattle.pict_typing.specs.Worlds.{World}
 use Rattle.pict_typing.specs.Values.{HasType}
-use Rattle.pict_erase.specs.Embedding.{WorldGrows}
-use Rattle.pict_opened.specs.Opening.{meaning}
-use Rattle.pict_opened.proofs.Reaching.{ResultProperty, Gives}
-use Rattle.pict_opened.proofs.FieldsOpen.{Each, label_meanings}
-use Rattle.pict_opened.proofs.PatternSteps.{first_types}
+use Rattle.pict_bridge.specs.Embedding.{WorldGrows}
+use Rattle.pict_bridge.specs.Opening.{meaning}
+use Rattle.pict_bridge.proofs.Reaching.{ResultProperty, Gives}
+use Rattle.pict_bridge.proofs.FieldsOpen.{Each, label_meanings}
+use Rattle.pict_bridge.proofs.PatternSteps.{first_types}
 use Rattle.pict_bridge.specs.Standing.{Stands, Sends}
 use Rattle.pict_bridge.specs.Realising.{around, Realises, IsSent}
 use Rattle.pict_bridge.proofs.SentLists.{AreSent, LabelsAreSent, labels_list}

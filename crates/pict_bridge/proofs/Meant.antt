@@ -13,17 +13,17 @@ use Rattle.pict_sub.specs.Subtyping.{IsSubtype}
 use Rattle.pict_sub.proofs.Operating.{operator_renamed}
 use Rattle.pict_sub.proofs.Renamed.{operator_of_at}
 use Rattle.pict_sub.proofs.Stays.{of_at}
-use Rattle.pict_erase.proofs.ErasedGoes.{varies_erased}
+use Rattle.pict_bridge.proofs.ErasedGoes.{varies_erased}
 use Rattle.pict_core.specs.Term as core
 use Rattle.pict_typing.specs.Erasing.{erased, erased_types, erased_labels, erased_bound, erased_bounds}
 use Rattle.pict_typing.specs.Worlds.{World, MayStandFor, IsBelow}
-use Rattle.pict_erase.specs.Embedding.{MayStandInOrder, erased_context}
-use Rattle.pict_erase.proofs.Erased.{same_kinds, erased_arg, erased_args, arguments_erased, replace_erased, replace_types_erased, replace_labels_erased, arg_erased}
-use Rattle.pict_erase.proofs.Growing.{rename_arg, type_in_renamed, head_in_renamed, kinds_with}
+use Rattle.pict_bridge.specs.Embedding.{MayStandInOrder, erased_context}
+use Rattle.pict_bridge.proofs.Erased.{same_kinds, erased_arg, erased_args, arguments_erased, replace_erased, replace_types_erased, replace_labels_erased, arg_erased}
+use Rattle.pict_bridge.proofs.Growing.{rename_arg, type_in_renamed, head_in_renamed, kinds_with}
 use Rattle.pict_rules.specs.Environments.{Environment, context_of}
 use Rattle.pict_rules.specs.Regular.{kinds_in}
-use Rattle.pict_opened.specs.Opening.{meaning}
-use Rattle.pict_opened.proofs.FieldsOpen.{meanings, label_meanings}
+use Rattle.pict_bridge.specs.Opening.{meaning}
+use Rattle.pict_bridge.proofs.FieldsOpen.{meanings, label_meanings}
 use Rattle.pict_bridge.specs.Realising.{Realises}
 use Rattle.pict_bridge.proofs.Realised.{type_means, below_means}
 use Rattle.pict_rules.proofs.RegularArguments.{one_longer}

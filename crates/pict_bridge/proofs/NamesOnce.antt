@@ -21,7 +21,7 @@ use Rattle.pict_rules.proofs.Names.{id_names, ids_of_both}
 use Rattle.pict_rules.proofs.Opened.{binds_pat, binds_fields, then_binds, binds_none}
 use Rattle.pict_rules.proofs.Kept.{pattern_keeps_annotation}
 use Rattle.pict_translation.specs.Patterns.{Opened, opened, all_opened, labelled_opened, pat_names, names_opened, labelled_names_in, names_before, names_after}
-use Rattle.pict_opened.proofs.Ordered.{ordered_last}
+use Rattle.pict_bridge.proofs.Ordered.{ordered_last}
 use Rattle.pict_scope.proofs.BindersRead.{same_patterns}
 
 eq_itself : (n : ℕ) → nat_eq n n ≡ true

@@ -31,17 +31,17 @@ use Rattle.pict_translation.specs.Translation.{sending, sending_chan, reader, de
 use Rattle.pict_typing.specs.Erasing.{erased_capability}
 use Rattle.pict_typing.specs.Worlds.{World}
 use Rattle.pict_typing.specs.Processes as typed
-use Rattle.pict_opened.specs.Opening.{meaning}
-use Rattle.pict_opened.proofs.Reaching.{gives_, parts, splits, ensures, unless, in_channels, in_boths}
-use Rattle.pict_opened.proofs.FieldsOpen.{Each, each_last}
-use Rattle.pict_opened.proofs.PatternSteps.{patterns_open}
+use Rattle.pict_bridge.specs.Opening.{meaning}
+use Rattle.pict_bridge.proofs.Reaching.{gives_, parts, splits, ensures, unless, in_channels, in_boths}
+use Rattle.pict_bridge.proofs.FieldsOpen.{Each, each_last}
+use Rattle.pict_bridge.proofs.PatternSteps.{patterns_open}
 use Rattle.pict_bridge.specs.Standing.{Stands, OnItsWay}
 use Rattle.pict_bridge.specs.Realising.{around, Realises}
 use Rattle.pict_bridge.proofs.Standing.{has_longer, type_longer, way_up, with_stands}
 use Rattle.pict_bridge.proofs.NamesOnce.{times, pattern_once}
 use Rattle.pict_bridge.proofs.Realised.{type_means, below_means, realises_longer}
 use Rattle.pict_bridge.proofs.Judged.{Values, SentBy, ProcessStands, ProcessesStand, ReadsAt, Receives, Declares, Step}
-use Rattle.pict_opened.proofs.Rightly.{rightly, well}
+use Rattle.pict_bridge.proofs.Rightly.{rightly, well}
 use Rattle.pict_bridge.proofs.DeclarationForms.{none_declared, more_declared, new_declared, run_declared, let_declared, await_declared, same_declared, def_declared}
 
 -- ---- declarations of types leave nothing

@@ -32,15 +32,15 @@ use Rattle.pict_typing.specs.Values.{HasType, variable_has, raised}
 use Rattle.pict_typing.specs.Opening.{Opens}
 use Rattle.pict_typing.specs.Processes as typed
 use Rattle.pict_typing.specs.Processes.{IsTyped}
-use Rattle.pict_erase.specs.Embedding.{erased_context, Embeds}
-use Rattle.pict_erase.proofs.Erased.{erased_renamed, below_erased, erased_type}
-use Rattle.pict_erase.proofs.Growing.{type_grown}
-use Rattle.pict_opened.specs.Opening.{meaning, named, AddsWhatIsOpened}
-use Rattle.pict_opened.proofs.Joining.{type_after}
-use Rattle.pict_opened.proofs.Opened.{opens_embeds}
-use Rattle.pict_opened.proofs.FieldsOpen.{slice_second}
-use Rattle.pict_opened.proofs.PatternParts.{FieldsAdd, length_named}
-use Rattle.pict_opened.proofs.PatternSteps.{OpensAgainst}
+use Rattle.pict_bridge.specs.Embedding.{erased_context, Embeds}
+use Rattle.pict_bridge.proofs.Erased.{erased_renamed, below_erased, erased_type}
+use Rattle.pict_bridge.proofs.Growing.{type_grown}
+use Rattle.pict_bridge.specs.Opening.{meaning, named, AddsWhatIsOpened}
+use Rattle.pict_bridge.proofs.Joining.{type_after}
+use Rattle.pict_bridge.proofs.Opened.{opens_embeds}
+use Rattle.pict_bridge.proofs.FieldsOpen.{slice_second}
+use Rattle.pict_bridge.proofs.PatternParts.{FieldsAdd, length_named}
+use Rattle.pict_bridge.proofs.PatternSteps.{OpensAgainst}
 use Rattle.pict_bridge.specs.Standing.{Stands}
 use Rattle.pict_bridge.specs.Realising.{around, Realises}
 use Rattle.pict_bridge.proofs.Standing.{not_longer}

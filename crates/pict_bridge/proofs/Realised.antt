@@ -17,13 +17,13 @@ use Rattle.pict_typing.specs.Erasing.{erased}
 use Rattle.pict_typing.specs.Worlds as worlds
 use Rattle.pict_typing.specs.Worlds.{World, IsType, shifted}
 use Rattle.pict_typing.specs.Values.{HasType, variable_has}
-use Rattle.pict_erase.specs.Embedding.{erased_context, Embeds, WorldGrows}
-use Rattle.pict_erase.proofs.Erased.{erased_renamed, below_erased, erased_type}
-use Rattle.pict_erase.proofs.Growing.{type_grown, value_grown}
-use Rattle.pict_opened.specs.Opening.{meaning, IsExtensionPlaced}
-use Rattle.pict_opened.proofs.Joining.{type_after}
-use Rattle.pict_opened.proofs.Placed.{known_renamed}
-use Rattle.pict_opened.proofs.FieldsOpen.{slice_second}
+use Rattle.pict_bridge.specs.Embedding.{erased_context, Embeds, WorldGrows}
+use Rattle.pict_bridge.proofs.Erased.{erased_renamed, below_erased, erased_type}
+use Rattle.pict_bridge.proofs.Growing.{type_grown, value_grown}
+use Rattle.pict_bridge.specs.Opening.{meaning, IsExtensionPlaced}
+use Rattle.pict_bridge.proofs.Joining.{type_after}
+use Rattle.pict_bridge.proofs.Placed.{known_renamed}
+use Rattle.pict_bridge.proofs.FieldsOpen.{slice_second}
 use Rattle.pict_bridge.specs.Standing.{Longer}
 use Rattle.pict_bridge.specs.Realising.{IsRealised, Realises}
 use Rattle.pict_bridge.proofs.Standing.{has_longer, closed_longer}

@@ -21,8 +21,8 @@ use Rattle.pict_translation.specs.Translation.{sending, with_vals, with_labelled
 use Rattle.pict_typing.specs.Worlds.{World, IsType}
 use Rattle.pict_typing.specs.Values.{HasType, HaveTypes, none_have, more_have, HaveLabels, none_labelled, more_labels}
 use Rattle.pict_typing.specs.Processes.{AreClosedTypes}
-use Rattle.pict_opened.proofs.FieldsOpen.{Each}
-use Rattle.pict_opened.proofs.Ordered.{ordered_last, each_put, LabelsOnce, once_put}
+use Rattle.pict_bridge.proofs.FieldsOpen.{Each}
+use Rattle.pict_bridge.proofs.Ordered.{ordered_last, each_put, LabelsOnce, once_put}
 use Rattle.pict_bridge.specs.Standing.{Stands, Longer, OnItsWay}
 use Rattle.pict_bridge.specs.Realising.{IsSent}
 use Rattle.pict_bridge.proofs.Standing.{not_longer, longer_more, has_longer, type_longer, closed_longer, way_longer, with_stands}

@@ -9,8 +9,8 @@ use Rattle.pict_rules.specs.Reached.{whole}
 use Rattle.pict_translation.specs.Translation.{decs_core}
 use Rattle.pict_typing.specs.Worlds.{over}
 use Rattle.pict_typing.specs.Processes as typed
-use Rattle.pict_opened.proofs.Opened.{embeds_same}
-use Rattle.pict_opened.proofs.Reaching.{any_lines, by_steps}
+use Rattle.pict_bridge.proofs.Opened.{embeds_same}
+use Rattle.pict_bridge.proofs.Reaching.{any_lines, by_steps}
 use Rattle.pict_bridge.specs.Laws.{OpensWellTyped, SourceToCore}
 use Rattle.pict_bridge.specs.Realising.{Realises}
 use Rattle.pict_bridge.proofs.Judged.{Declares, IsSound, Step}

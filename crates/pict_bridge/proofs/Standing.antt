@@ -13,9 +13,9 @@ use Rattle.pict_typing.specs.Processes as typed
 use Rattle.pict_typing.specs.Processes.{IsTyped, AreClosedTypes}
 use Rattle.pict_translation.specs.Placed.{Placed}
 use Rattle.pict_translation.specs.Arguments.{with_value}
-use Rattle.pict_erase.specs.Embedding.{WorldGrows}
-use Rattle.pict_erase.proofs.Growing.{value_grown}
-use Rattle.pict_opened.proofs.Opened.{embeds_same}
+use Rattle.pict_bridge.specs.Embedding.{WorldGrows}
+use Rattle.pict_bridge.proofs.Growing.{value_grown}
+use Rattle.pict_bridge.proofs.Opened.{embeds_same}
 use Rattle.pict_bridge.specs.Standing.{Stands, Longer, Sends, Takes, OnItsWay}
 use Rattle.pict_typing.proofs.ValuesPut.{stays_before}
 use Rattle.pict_typing.proofs.Rows.{last_message}

@@ -20,9 +20,9 @@ use Rattle.pict_typing.specs.Worlds.{World, IsType, with_variable, shifted}
 use Rattle.pict_typing.specs.Values.{HasType, folded, sends_unfolding}
 use Rattle.pict_typing.specs.Processes as typed
 use Rattle.pict_typing.specs.Processes.{AreClosedTypes}
-use Rattle.pict_erase.proofs.Growing.{value_grown}
-use Rattle.pict_opened.specs.Opening.{meaning}
-use Rattle.pict_opened.proofs.PatternSteps.{unfolding_means}
+use Rattle.pict_bridge.proofs.Growing.{value_grown}
+use Rattle.pict_bridge.specs.Opening.{meaning}
+use Rattle.pict_bridge.proofs.PatternSteps.{unfolding_means}
 use Rattle.pict_bridge.specs.Standing.{Stands, Sends, OnItsWay}
 use Rattle.pict_bridge.specs.Realising.{around, Realises, IsSent}
 use Rattle.pict_bridge.proofs.Standing.{not_longer, has_longer, type_longer, with_stands, one_longer, last_sends, last_receives}

@@ -19,11 +19,11 @@ use Rattle.pict_rules.proofs.RegularValues.{use_formed}
 use Rattle.pict_translation.specs.Simple.{use_of, simple}
 use Rattle.pict_translation.specs.Translation.{sending}
 use Rattle.pict_typing.specs.Values.{int_has, char_has, text_has, boolean_has}
-use Rattle.pict_opened.proofs.Reaching.{Gives, gives_, refuses, needs, chooses, parts, ensures, unless, limits, in_records, in_recursives, in_sents, outside}
+use Rattle.pict_bridge.proofs.Reaching.{Gives, gives_, refuses, needs, chooses, parts, ensures, unless, limits, in_records, in_recursives, in_sents, outside}
 use Rattle.pict_bridge.specs.Realising.{around}
 use Rattle.pict_bridge.proofs.Realised.{type_means}
 use Rattle.pict_bridge.proofs.Judged.{SentBy, ReadsAt, ApplicationSent, IsExpectedAbove, IsSound, Step}
-use Rattle.pict_opened.proofs.Rightly.{rightly, well}
+use Rattle.pict_bridge.proofs.Rightly.{rightly, well}
 use Rattle.pict_bridge.proofs.Whole.{whole_sends, sent_above, use_has}
 use Rattle.pict_bridge.proofs.ValueForms.{if_sent_by, lambda_sent_by, fold_sent_by, block_given, block_had, right_sent_by, left_sent_by}
 use Rattle.pict_bridge.proofs.FieldForms.{stand_once, fields_had, fields_given}

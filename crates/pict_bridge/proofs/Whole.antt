@@ -22,7 +22,7 @@ use Rattle.pict_typing.specs.Processes as typed
 use Rattle.pict_typing.specs.Processes.{IsTyped, AreClosedTypes}
 use Rattle.pict_typing.proofs.Closed.{closed_renamed}
 use Rattle.pict_typing.proofs.Forms.{takes_type}
-use Rattle.pict_opened.specs.Opening.{meaning}
+use Rattle.pict_bridge.specs.Opening.{meaning}
 use Rattle.pict_bridge.specs.Standing.{Stands, Sends}
 use Rattle.pict_bridge.specs.Realising.{around, Realises}
 use Rattle.pict_bridge.proofs.Standing.{has_longer, type_longer, sends_up, way_up, count_more}

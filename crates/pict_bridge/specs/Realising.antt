@@ -9,8 +9,8 @@ use Rattle.pict_translation.specs.Translation.{sending}
 use Rattle.pict_typing.specs.Worlds.{World}
 use Rattle.pict_typing.specs.Values.{HasType}
 use Rattle.pict_typing.specs.Processes.{AreClosedTypes}
-use Rattle.pict_erase.specs.Embedding.{erased_context, Embeds}
-use Rattle.pict_opened.specs.Opening.{meaning}
+use Rattle.pict_bridge.specs.Embedding.{erased_context, Embeds}
+use Rattle.pict_bridge.specs.Opening.{meaning}
 use Rattle.pict_bridge.specs.Standing.{Sends, OnItsWay}
 
 -- these values for the names around a place

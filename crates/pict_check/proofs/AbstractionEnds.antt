@@ -6,6 +6,7 @@ use Rattle.pict_syntax.specs.declared.name.Name.{Name}
 use Rattle.pict_syntax.specs.declared.span.Span.{Span}
 use Rattle.pict_syntax.specs.Grammar.{type_span, val_span}
 use Rattle.pict_syntax.specs.Trees.{Abs, FieldPats, Pat, Proc, RType, TypeTree, Val, process_abs, function_abs}
+use Rattle.pict_syntax.specs.Stops.{Stop}
 use Rattle.pict_types.specs.Types.{PlainType, under}
 use Rattle.pict_types.specs.Types as types
 use Rattle.pict_types.specs.declared.context.Context.{Context}
@@ -18,7 +19,7 @@ use Rattle.pict_types.specs.PlainContext.{plain_context, type_context}
 use Rattle.pict_types.specs.Kinds.{kinds_under, IsWellFormed}
 use Rattle.pict_types.specs.Mentions.{lowered, mentions_innermost}
 use Rattle.pict_types.proofs.Congruent.{three}
-use Rattle.pict_normal.specs.Normal.{kind_stop, normal, Stop}
+use Rattle.pict_normal.specs.Normal.{kind_stop, normal}
 use Rattle.pict_sub.specs.Exposing.{exposure}
 use Rattle.pict_rules.specs.Environments.{Environment, Extension, KnownType, context_of, extended, opened, shifted_by}
 use Rattle.pict_rules.specs.Regular.{IsTypeIn, kinds_in}

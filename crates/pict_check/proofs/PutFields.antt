@@ -4,6 +4,7 @@ use Rattle.std.specs.Prelude.{option_map, if◌then◌else◌}
 use Rattle.pict_syntax.specs.declared.code.Code.{Code}
 use Rattle.pict_syntax.specs.declared.span.Span.{Span}
 use Rattle.pict_syntax.specs.Trees.{Val, Vals, no_vals, more_vals, LabelledVals, no_labelled_vals, more_labelled_vals}
+use Rattle.pict_syntax.specs.Stops.{Stop}
 use Rattle.pict_types.specs.declared.types.Record.{Record}
 use Rattle.pict_types.specs.declared.types.Bound.{Bound}
 use Rattle.pict_types.specs.Types.{PlainType, Fields, PlainTypes, no_type, types, PlainLabels, no_label, labels, PlainBounds, no_bound, PlainArg, count_types, type_at}
@@ -11,7 +12,7 @@ use Rattle.pict_types.specs.Kinds.{AreWellFormed, LabelsAreWellFormed}
 use Rattle.pict_types.specs.Plain.{plain_bounds, plain_labels, plain_record, plain_types}
 use Rattle.pict_types.proofs.Rows.{count_types_length}
 use Rattle.pict_types.specs.Replacing.{Replacement, arguments, replace, replace_labels, replace_types}
-use Rattle.pict_normal.specs.Normal.{size_stop, Stop}
+use Rattle.pict_normal.specs.Normal.{size_stop}
 use Rattle.pict_normal.specs.Written.{record_with}
 use Rattle.pict_rules.specs.Clauses.{check, if_labelled, in_order}
 use Rattle.pict_rules.specs.Counts.{count_vals}

@@ -6,9 +6,10 @@ use Rattle.pict_syntax.specs.declared.id.Id.{Id}
 use Rattle.pict_syntax.specs.declared.span.Span.{Span}
 use Rattle.pict_syntax.specs.Grammar.{type_span}
 use Rattle.pict_syntax.specs.Trees.{KindTree, plain_kind, operator_kind, TypeTree, top_type, int_type, char_type, string_type, bool_type, use_type, both_type, read_type, write_type, respond_type, fields_type, apply_type, rec_type, TypeBinder, type_binder, Bound, unbounded, bound, TypeTrees, no_types, more_types, TypeBinders, no_binders, more_binders, LabelledTypes, no_labelled_types, more_labelled_types}
+use Rattle.pict_syntax.specs.Stops.{Stop}
 use Rattle.pict_types.specs.Types.{PlainType, Free, is_top}
 use Rattle.pict_types.specs.Entries.{PlainContext}
-use Rattle.pict_normal.specs.Normal.{Stop, Meaning, a_type, an_operator, meaning, normal, entry_of, under_binders, count_trees, use_stops, apply_stops, bound_stops, kind_stops, types_stops, labels_stops, binders_stops, binder_stops, size_stop, first_stop, kind_stop}
+use Rattle.pict_normal.specs.Normal.{Meaning, a_type, an_operator, meaning, normal, entry_of, under_binders, count_trees, use_stops, apply_stops, bound_stops, kind_stops, types_stops, labels_stops, binders_stops, binder_stops, size_stop, first_or, kind_stop}
 use Rattle.pict_normal.specs.WrittenArguments.{named, stop_meant, arg_stop}
 use Rattle.pict_rules.specs.Shapes.{binder_stop, bound_size_stop, written_bound}
 use Rattle.pict_codes.specs.Codes.{IsOneOf, kind_codes}
@@ -96,7 +97,7 @@ mutual
   binder_of ns c (type_binder s x k (bound t)) = bound_of x k (kind_stops ns c t) (normal ns c t) (kinds_of ns c t)
 
 -- the first of these stops, or else the size
-first_of_kinds : (xs : List Stop) (o : Option Stop) → AllOfKinds xs → StopHas OfKinds o → StopHas OfKinds (first_stop xs o)
+first_of_kinds : (xs : List Stop) (o : Option Stop) → AllOfKinds xs → StopHas OfKinds o → StopHas OfKinds (first_or xs o)
 first_of_kinds [] o h k = k
 first_of_kinds (x ∷ xs) o h k = h.0
 

@@ -5,7 +5,8 @@ use Rattle.pict_syntax.specs.declared.code.Code.TheVariants.{K4}
 use Rattle.pict_syntax.specs.declared.span.Span.{Span}
 use Rattle.pict_syntax.specs.Trees.{Bound, unbounded, bound}
 use Rattle.pict_syntax.specs.declared.limits.TheConstants.{HEIGHT_LIMIT, WEIGHT_LIMIT}
-use Rattle.pict_normal.specs.Normal.{normal, Stop, size_stop}
+use Rattle.pict_syntax.specs.Stops.{Stop}
+use Rattle.pict_normal.specs.Normal.{normal, size_stop}
 use Rattle.pict_types.specs.Measures.{weight_of, height_of}
 use Rattle.pict_types.specs.Entries.{PlainContext, variables}
 use Rattle.pict_types.specs.Replacing.{arguments, replace}

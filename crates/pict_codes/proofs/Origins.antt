@@ -5,9 +5,10 @@ use Rattle.pict_syntax.specs.declared.code.Code.TheVariants.{K1, K2, K3, K4, K5,
 use Rattle.pict_syntax.specs.declared.span.Span.{Span}
 use Rattle.pict_syntax.specs.Grammar.{type_span}
 use Rattle.pict_syntax.specs.Trees.{TypeTree, TypeTrees, no_types, more_types, Decs}
+use Rattle.pict_syntax.specs.Stops.{Stop}
 use Rattle.pict_types.specs.AsMarked.{varies_as}
 use Rattle.pict_types.specs.Types.{PlainBounds}
-use Rattle.pict_normal.specs.Normal.{Stop, count_trees}
+use Rattle.pict_normal.specs.Normal.{count_trees}
 use Rattle.pict_normal.specs.WrittenArguments.{normal_arg, arg_stop}
 use Rattle.pict_rules.specs.Shapes.{nth_bound}
 use Rattle.pict_rules.specs.Environments.{Environment, context_of, no_environment}

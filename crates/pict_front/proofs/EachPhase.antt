@@ -6,9 +6,9 @@ use Rattle.pict_syntax.specs.declared.code.Code.{Code}
 use Rattle.pict_syntax.specs.declared.code.Code.TheVariants.{C1}
 use Rattle.pict_syntax.specs.declared.span.Span.{Span}
 use Rattle.pict_syntax.specs.Trees.{Decs}
+use Rattle.pict_syntax.specs.Stops.{Stop}
 use Rattle.pict_outside.specs.Texts.{Texts}
 use Rattle.pict_gather.specs.Phases.{Phase, accepts, refuses, Then, Exactly}
-use Rattle.pict_gather.specs.Reading.{Stop}
 use Rattle.pict_gather.specs.Fetching.{Fetch, MayGive}
 use Rattle.pict_gather.specs.Gathered.{Gathered, EarlyEnd}
 use Rattle.pict_gather.specs.Reached.{Reached, Absent, Gathering, Reaches}

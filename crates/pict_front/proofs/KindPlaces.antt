@@ -5,10 +5,11 @@ use Rattle.pict_syntax.specs.declared.id.Id.{Id}
 use Rattle.pict_syntax.specs.declared.span.Span.{Span}
 use Rattle.pict_syntax.specs.Grammar.{type_span}
 use Rattle.pict_syntax.specs.Trees.{KindTree, plain_kind, operator_kind, TypeTree, top_type, int_type, char_type, string_type, bool_type, use_type, both_type, read_type, write_type, respond_type, fields_type, apply_type, rec_type, TypeBinder, type_binder, Bound, unbounded, bound, TypeTrees, no_types, more_types, TypeBinders, no_binders, more_binders, LabelledTypes, no_labelled_types, more_labelled_types}
+use Rattle.pict_syntax.specs.Stops.{Stop}
 use Rattle.pict_types.specs.Types.{PlainType, is_top}
 use Rattle.pict_types.specs.Measures.{weight_of, height_of}
 use Rattle.pict_types.specs.Entries.{PlainContext, variables}
-use Rattle.pict_normal.specs.Normal.{Meaning, a_type, an_operator, meaning, normal, under_binders, count_trees, entry_of, Stop, use_stops, apply_stops, bound_stops, kind_stops, types_stops, labels_stops, binders_stops, binder_stops, size_stop, first_stop, kind_stop}
+use Rattle.pict_normal.specs.Normal.{Meaning, a_type, an_operator, meaning, normal, under_binders, count_trees, entry_of, use_stops, apply_stops, bound_stops, kind_stops, types_stops, labels_stops, binders_stops, binder_stops, size_stop, first_or, kind_stop}
 use Rattle.pict_types.specs.Types.{Free}
 use Rattle.pict_normal.specs.WrittenArguments.{named, stop_meant, arg_stop}
 use Rattle.pict_rules.specs.Shapes.{bound_size_stop, written_bound, binder_stop}
@@ -90,7 +91,7 @@ module _ (P : Span → Type 0) where
   pub size_stands : (c : PlainContext) (t : PlainType) (s : Span) → P s → StopStands (size_stop c t s)
   size_stands c t s h = if_some (nat_lt 100000 (weight_of (variables c) t) || nat_lt 1000 (height_of (variables c) t)) (K4, s) (tt, h)
 
-  first_stands : (stops : List Stop) (o : Option Stop) → StopsStand stops → StopStands o → StopStands (first_stop stops o)
+  first_stands : (stops : List Stop) (o : Option Stop) → StopsStand stops → StopStands o → StopStands (first_or stops o)
   first_stands [] o h k = k
   first_stands (stop ∷ stops) o h k = h.0
 

@@ -9,10 +9,11 @@ use Rattle.pict_syntax.specs.declared.token.Token.{Token}
 use Rattle.pict_syntax.specs.Cuts.{Piece, blank, comment, token, joined_pieces as joined_bytes, IsWholeCut, tokens_of}
 use Rattle.pict_syntax.specs.Programs.{Program, programs}
 use Rattle.pict_syntax.specs.Trees.{Decs, no_decs, more_decs}
+use Rattle.pict_syntax.specs.Stops.{Stop}
 use Rattle.pict_outside.specs.Texts.{Texts}
 use Rattle.pict_gather.specs.Phases.{Phase, accepts, refuses, Then}
 use Rattle.pict_gather.specs.Places.{StandsIn}
-use Rattle.pict_gather.specs.Reading.{Stop, Read, Reads}
+use Rattle.pict_gather.specs.Reading.{Read, Reads}
 use Rattle.pict_gather.specs.Fetching.{MayGive}
 use Rattle.pict_gather.specs.Gathered.{Gathered, EarlyEnd, refused, behind, with_source}
 use Rattle.pict_gather.specs.Reached.{Gathering, Reaches}

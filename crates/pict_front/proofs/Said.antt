@@ -4,6 +4,7 @@ use Rattle.pict_syntax.specs.declared.limits.TheConstants.{DEPTH_LIMIT}
 use Rattle.pict_syntax.specs.Trees.{Decs}
 use Rattle.pict_syntax.specs.declared.tree.Program.{Program}
 use Rattle.pict_syntax.specs.PlainTrees.{declarations_of}
+use Rattle.pict_syntax.specs.Stops.{Stop}
 use Rattle.pict_scope.specs.Scopes.{scope_stop}
 use Rattle.pict_rules.specs.Derivations.{IsTyped}
 use Rattle.pict_check.specs.declared.error.TypeError.{TypeError}
@@ -15,7 +16,6 @@ use Rattle.pict_core.specs.Term.{Process, depth_of}
 use Rattle.pict_translation.specs.Translation.{program_core}
 use Rattle.pict_front.specs.declared.refusal.Refusal.{Refusal}
 use Rattle.pict_gather.specs.Phases.{Phase, accepts, refuses, Then}
-use Rattle.pict_gather.specs.Reading.{Stop}
 use Rattle.pict_front.specs.Front.{Front, Checks, Translates, Judges, stopped_by}
 use Rattle.pict_front.specs.Answers.{said_by, of_derive_error, of_type_error}
 

@@ -7,9 +7,9 @@ use Rattle.pict_rules.specs.Derivations.{IsTyped}
 use Rattle.pict_core.specs.Term.{depth_of}
 use Rattle.pict_translation.specs.Translation.{program_core}
 use Rattle.pict_syntax.specs.declared.source.Source.{Source}
+use Rattle.pict_syntax.specs.Stops.{Stop}
 use Rattle.pict_outside.specs.Texts.{Texts}
 use Rattle.pict_gather.specs.Phases.{Phase, accepts, refuses, Then}
-use Rattle.pict_gather.specs.Reading.{Stop}
 use Rattle.pict_gather.specs.Fetching.{MayGive}
 use Rattle.pict_gather.specs.Gathered.{Gathered, EarlyEnd}
 use Rattle.pict_gather.specs.Reached.{Gathering, Reaches}

@@ -8,13 +8,13 @@ use Rattle.pict_syntax.specs.declared.source.Sources.{Sources}
 use Rattle.pict_syntax.specs.Trees.{Decs, no_decs}
 use Rattle.pict_syntax.specs.PlainTrees.{decs_on}
 use Rattle.pict_syntax.specs.declared.tree.Dec.{Dec as RDec}
+use Rattle.pict_syntax.specs.Stops.{Stop}
 use Rattle.pict_outside.specs.Texts.{Texts}
 use Rattle.pict_outside.specs.Counts.{Rose}
 use Rattle.pict_gather.specs.declared.error.GatherError.{GatherError}
 use Rattle.pict_gather.specs.declared.error.GatherError.TheVariants as gather
 use Rattle.pict_gather.specs.Phases.{Phase, accepts, refuses}
 use Rattle.pict_gather.specs.Places.{StandsIn}
-use Rattle.pict_gather.specs.Reading.{Stop}
 use Rattle.pict_gather.specs.Fetching.{Fetch, MayGive, MayGiveOrFail}
 use Rattle.pict_gather.specs.Gathered.{EarlyEnd, refused, failed}
 use Rattle.pict_scope.specs.declared.error.ScopeError.{ScopeError}

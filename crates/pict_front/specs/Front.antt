@@ -7,8 +7,8 @@ use Rattle.pict_syntax.specs.declared.code.Code.TheVariants.{C1}
 use Rattle.pict_syntax.specs.declared.source.Source.{Source}
 use Rattle.pict_syntax.specs.declared.span.Span.{Span}
 use Rattle.pict_syntax.specs.Trees.{Decs}
+use Rattle.pict_syntax.specs.Stops.{Stop}
 use Rattle.pict_gather.specs.Phases.{Phase, accepts, refuses, Then}
-use Rattle.pict_gather.specs.Reading.{Stop}
 use Rattle.pict_gather.specs.Fetching.{Fetch}
 use Rattle.pict_gather.specs.Gathered.{Gathered, EarlyEnd, refused}
 use Rattle.pict_gather.specs.Reached.{Absent, Gathering, Reaches}

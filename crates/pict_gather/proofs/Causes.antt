@@ -8,6 +8,7 @@ use Rattle.pict_syntax.specs.declared.source.Sources.{Sources}
 use Rattle.pict_syntax.specs.declared.span.Span.{Span}
 use Rattle.pict_syntax.specs.Cuts.{Piece, tokens_of}
 use Rattle.pict_syntax.specs.Programs.{Program}
+use Rattle.pict_syntax.specs.Stops.{Stop}
 use Rattle.pict_outside.specs.Counts.{Rose}
 use Rattle.pict_gather.specs.declared.gathering.Gathering.{Gathering}
 use Rattle.pict_gather.specs.declared.error.ReadError.{ReadError}
@@ -16,7 +17,7 @@ use Rattle.pict_gather.specs.declared.error.VisitError.{VisitError}
 use Rattle.pict_gather.specs.declared.error.VisitError.TheVariants as visit
 use Rattle.pict_gather.specs.declared.visits.Settled.TheVariants.{Refused}
 use Rattle.pict_gather.specs.Phases.{Phase, accepts, refuses, Then}
-use Rattle.pict_gather.specs.Reading.{Stop, Read, Reads, Lexes, HasVerdict, names_with, end_of}
+use Rattle.pict_gather.specs.Reading.{Read, Reads, Lexes, HasVerdict, names_with, end_of}
 use Rattle.pict_gather.specs.Answers.{of_read_error, of_visit_error}
 use Rattle.pict_gather.specs.Kept.{IsUnread}
 use Rattle.pict_gather.specs.Found.{IsFault, IsNotAbsent, MissedFor}

@@ -7,9 +7,10 @@ use Rattle.pict_syntax.specs.Programs.{Program}
 use Rattle.pict_syntax.specs.Trees.{Decs, no_decs}
 use Rattle.pict_syntax.specs.declared.source.Source.{Source}
 use Rattle.pict_syntax.specs.declared.tree.Import.{Import}
+use Rattle.pict_syntax.specs.Stops.{Stop}
 use Rattle.pict_lex.proofs.StepLemmas.{with_names_last, with_names_grows}
 use Rattle.pict_gather.specs.Phases.{Phase, accepts, refuses, Then}
-use Rattle.pict_gather.specs.Reading.{Stop, Read, Reads, Lexes, HasVerdict, names_with, end_of}
+use Rattle.pict_gather.specs.Reading.{Read, Reads, Lexes, HasVerdict, names_with, end_of}
 use Rattle.pict_gather.specs.Fetching.{Fetch}
 use Rattle.pict_gather.specs.Gathered.{Gathered, EarlyEnd, behind, with_source, settled, begun, Visits, too_long, unread, cut_off, whole, Along, none, next, stop, Leads, at_once, absent, unfetched, visit}
 use Rattle.pict_gather.specs.Reached.{Reached, Absent, Gathering, first_source, Gathers, bare, unread_prelude, behind_prelude, Reaches, not_there, unfetched_file, there}

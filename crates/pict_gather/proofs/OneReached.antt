@@ -1,9 +1,10 @@
 -- Over a shelf that tells its texts a file comes to exactly one thing.
 use Rattle.std.proofs.Common.{◌≡◌, ℕ, List, [], Option, Some, None, refl, sym, ap, subst, ◌∙◌}
 use Rattle.pict_syntax.specs.Trees.{no_decs}
+use Rattle.pict_syntax.specs.Stops.{Stop}
 use Rattle.pict_outside.specs.Texts.{Texts, text_of}
 use Rattle.pict_gather.specs.Phases.{Phase, accepts, refuses}
-use Rattle.pict_gather.specs.Reading.{Stop, Read, Reads}
+use Rattle.pict_gather.specs.Reading.{Read, Reads}
 use Rattle.pict_gather.specs.Fetching.{Fetch, MayGive}
 use Rattle.pict_gather.specs.Gathered.{Gathered, EarlyEnd, refused, Visits}
 use Rattle.pict_gather.specs.Reached.{Reached, Absent, Gathering, Reaches, not_there, unfetched_file, there, Gathers, bare, unread_prelude, behind_prelude, opened, first_source}

@@ -8,11 +8,12 @@ use Rattle.pict_syntax.specs.Cuts.{Piece, IsWholeCut, IsLexStop, tokens_of}
 use Rattle.pict_syntax.specs.Programs.{Program, programs}
 use Rattle.pict_syntax.specs.Verdicts.{Verdict, Whole, Unexpected, TooNested, IsVerdict}
 use Rattle.pict_syntax.proofs.LawLemmas.{one_whole_cut, stop_excludes_whole_cut, one_stop}
+use Rattle.pict_syntax.specs.Stops.{Stop}
 use Rattle.pict_total.proofs.Cuts.{some_whole_cut}
 use Rattle.pict_programs.proofs.Once.{one_verdict}
 use Rattle.pict_programs.proofs.Some.{some_verdict}
 use Rattle.pict_gather.specs.Phases.{Phase, accepts, refuses, Then, Exactly}
-use Rattle.pict_gather.specs.Reading.{Stop, Read, Lexes, HasVerdict, names_with, end_of}
+use Rattle.pict_gather.specs.Reading.{Read, Lexes, HasVerdict, names_with, end_of}
 use Rattle.pict_gather.specs.Laws.{OneReading}
 use Rattle.pict_gather.proofs.OneAfterAnother.{one_then}
 

@@ -4,9 +4,10 @@ use Rattle.std.proofs.lemmas.List.{length-drop}
 use Rattle.std.proofs.Common.{◌≡◌, inl, inr, ℕ, zero, suc, ◌+◌, ◌≤◌, List, [], ◌∷◌, length, Option, Some, None, refl, sym, ap, subst, ◌∙◌, arith}
 use Rattle.pict_syntax.specs.declared.limits.TheConstants.{TEXT_LIMIT}
 use Rattle.pict_syntax.specs.declared.tree.Import.{Import}
+use Rattle.pict_syntax.specs.Stops.{Stop}
 use Rattle.pict_outside.specs.Texts.{Texts, text_of}
 use Rattle.pict_gather.specs.Phases.{Phase, accepts, refuses}
-use Rattle.pict_gather.specs.Reading.{Stop, Read, Reads}
+use Rattle.pict_gather.specs.Reading.{Read, Reads}
 use Rattle.pict_gather.specs.Fetching.{Fetch, text, missing, fault, MayGive}
 use Rattle.pict_gather.specs.Gathered.{Gathered, EarlyEnd, refused, with_source, begun, finished, bytes_visited, settled, Visits, too_long, unread, cut_off, whole, Along, none, next, stop, Leads, at_once, absent, unfetched, visit}
 use Rattle.pict_gather.specs.Laws.{OneVisit}

@@ -9,6 +9,7 @@ use Rattle.pict_syntax.specs.Programs.{Program, programs}
 use Rattle.pict_syntax.specs.Trees.{no_decs}
 use Rattle.pict_syntax.specs.Verdicts.{Verdict, Whole, Unexpected, TooNested, IsVerdict, end_place}
 use Rattle.pict_syntax.proofs.LawLemmas.{one_whole_cut}
+use Rattle.pict_syntax.specs.Stops.{Stop}
 use Rattle.pict_lex.specs.Lex.{AreTokens, GainsNames, IsRefusal}
 use Rattle.pict_lex.specs.declared.error.LexError.{LexError}
 use Rattle.pict_lex.specs.declared.error.LexError.TheVariants as lex
@@ -17,7 +18,7 @@ use Rattle.pict_parse.specs.declared.entry.ParseError.{ParseError}
 use Rattle.pict_parse.specs.declared.entry.ParseError.TheVariants as parse
 use Rattle.pict_programs.proofs.NoImport.{alone, tree_alone}
 use Rattle.pict_gather.specs.Phases.{Phase, accepts, refuses}
-use Rattle.pict_gather.specs.Reading.{Stop, Read, Reads, names_with, end_of}
+use Rattle.pict_gather.specs.Reading.{Read, Reads, names_with, end_of}
 use Rattle.pict_gather.specs.Answers.{of_lex_error, of_parse_error, read_said}
 
 -- ---- the end of a text

@@ -9,11 +9,12 @@ use Rattle.pict_syntax.specs.declared.tree.Import.{Import}
 use Rattle.pict_syntax.specs.Cuts.{Piece, IsWholeCut, tokens_of}
 use Rattle.pict_syntax.specs.Programs.{Program, programs, IsImport, AreImports}
 use Rattle.pict_syntax.specs.Verdicts.{StandsAt}
+use Rattle.pict_syntax.specs.Stops.{Stop}
 use Rattle.pict_lex.specs.Lex.{LiesIn as HasBytesIn}
 use Rattle.pict_lex.proofs.PlaceLemmas.{stop_lies, reading_lies}
 use Rattle.pict_gather.specs.Phases.{Phase, accepts, refuses, Then}
 use Rattle.pict_gather.specs.Places.{LiesIn}
-use Rattle.pict_gather.specs.Reading.{Stop, Read, Reads, Lexes, HasVerdict, names_with, end_of}
+use Rattle.pict_gather.specs.Reading.{Read, Reads, Lexes, HasVerdict, names_with, end_of}
 use Rattle.pict_gather.proofs.OneAfterAnother.{accepted_then, refused_then}
 
 lies : (n : ℕ) (text : List ℕ) (span : Span) → HasBytesIn n text span → LiesIn n text span

@@ -3,6 +3,7 @@ use Rattle.std.specs.Prelude.{ℕ, List, Option, Some, None, Result, Ok, Err}
 use Rattle.pict_syntax.specs.declared.code.Code.TheVariants.{P1, P2}
 use Rattle.pict_syntax.specs.declared.tree.Program.{Program as RProgram}
 use Rattle.pict_syntax.specs.PlainTrees.{program_of}
+use Rattle.pict_syntax.specs.Stops.{Stop}
 use Rattle.pict_lex.specs.declared.error.LexError.{LexError}
 use Rattle.pict_lex.specs.declared.error.LexError.TheVariants as lex
 use Rattle.pict_parse.specs.declared.entry.ParseError.{ParseError}
@@ -14,7 +15,7 @@ use Rattle.pict_gather.specs.declared.error.VisitError.TheVariants as visit
 use Rattle.pict_gather.specs.declared.error.GatherError.{GatherError}
 use Rattle.pict_gather.specs.declared.error.GatherError.TheVariants as gather
 use Rattle.pict_gather.specs.Phases.{Phase, accepts, refuses}
-use Rattle.pict_gather.specs.Reading.{Stop, Read}
+use Rattle.pict_gather.specs.Reading.{Read}
 
 abbrev pub of_lex_error : LexError → ReadError
 of_lex_error (lex.Named code span) = read.Named code span

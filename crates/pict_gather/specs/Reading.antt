@@ -8,11 +8,8 @@ use Rattle.pict_syntax.specs.Names.{with_names}
 use Rattle.pict_syntax.specs.Cuts.{Piece, IsWholeCut, named, tokens_of, IsLexStop}
 use Rattle.pict_syntax.specs.Programs.{Program, programs}
 use Rattle.pict_syntax.specs.Verdicts.{Whole, Unexpected, TooNested, IsVerdict}
+use Rattle.pict_syntax.specs.Stops.{Stop}
 use Rattle.pict_gather.specs.Phases.{Phase, accepts, refuses, Then}
-
--- a refusal: its code and its place
-abbrev pub Stop : Type 0
-Stop = Code × Span
 
 -- the program of a text, and the names once those of the text are among them
 pub record Read : Type 0 where

@@ -5,6 +5,7 @@ use borrow.Author.Tests.{ltb-true}
 use Rattle.pict_syntax.specs.declared.limits.TheConstants.{HEIGHT_LIMIT, WEIGHT_LIMIT}
 use Rattle.pict_syntax.specs.declared.code.Code.TheVariants.{K4, Y13}
 use Rattle.pict_syntax.specs.declared.span.Span.{Span}
+use Rattle.pict_syntax.specs.Stops.{Stop}
 use Rattle.pict_types.specs.Types.{PlainType, Top, Int, Char, Str, Boolean, Var, Apply, Chan, Fields, Rec, TypeContext}
 use Rattle.pict_types.specs.declared.types.Ty.{Ty}
 use Rattle.pict_types.specs.Plain.{plain}
@@ -17,7 +18,7 @@ use Rattle.pict_types.specs.Measures.{weight_of, height_of}
 use Rattle.pict_types.specs.Entries.{PlainContext, variables}
 use Rattle.pict_normal.specs.declared.stops.KindError.{KindError}
 use Rattle.pict_normal.specs.declared.stops.KindError.TheVariants.{Named as KindNamed, Memory as KindMemory}
-use Rattle.pict_normal.specs.Normal.{size_stop, Stop}
+use Rattle.pict_normal.specs.Normal.{size_stop}
 use Rattle.pict_normal.specs.Refusals.{IsRefusal}
 use Rattle.pict_normal.proofs.Expanded.{too_big}
 use Rattle.pict_sub.specs.Exposing.{exposure}

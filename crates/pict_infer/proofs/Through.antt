@@ -2,8 +2,8 @@
 use Rattle.std.proofs.Common.{Option, Some, None}
 use Rattle.pict_syntax.specs.declared.code.Code.{Code}
 use Rattle.pict_syntax.specs.declared.span.Span.{Span}
+use Rattle.pict_syntax.specs.Stops.{Stop}
 use Rattle.pict_types.specs.Types.{PlainType, Top, Int, Char, Str, Boolean, Var, Apply, Chan, Fields, Rec}
-use Rattle.pict_normal.specs.Normal.{Stop}
 use Rattle.pict_rules.specs.Environments.{Environment}
 use Rattle.pict_rules.specs.Rules.{Sort, Result, Judgement, Condition, Rule, Answer, give, refuse, need, part, ok, stuck, unless_stopped}
 use Rattle.pict_rules.specs.Clauses.{need_recursive}

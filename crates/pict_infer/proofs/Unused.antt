@@ -3,9 +3,10 @@ use Rattle.std.proofs.Common.{length, Bool, true, false, if◌then◌else◌, Li
 use Rattle.pict_syntax.specs.declared.code.Code.{Code}
 use Rattle.pict_syntax.specs.declared.span.Span.{Span}
 use Rattle.pict_syntax.specs.Trees.{Bound, unbounded, bound, TypeBinders, no_binders, more_binders, Pat, bind_pat, any_pat, fields_pat, fold_pat, FieldPats, field_pats, Pats, no_pats, more_pats, LabelledPats, no_labelled_pats, more_labelled_pats}
+use Rattle.pict_syntax.specs.Stops.{Stop}
 use Rattle.pict_types.specs.Types.{PlainType, Top, Int, Char, Str, Boolean, Var, Apply, Chan, Fields, Rec, PlainTypes, PlainLabels, PlainBound, PlainBounds, is_top, type_at}
 use Rattle.pict_types.specs.Renaming.{moved}
-use Rattle.pict_normal.specs.Normal.{Stop, normal}
+use Rattle.pict_normal.specs.Normal.{normal}
 use Rattle.pict_sub.specs.Exposing.{exposure}
 use Rattle.pict_rules.specs.Environments.{Environment, KnownType, KnownValue, context_of, rename_values}
 use Rattle.pict_rules.specs.Shapes.{written_bound}

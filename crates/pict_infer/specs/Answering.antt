@@ -2,11 +2,11 @@
 use Rattle.std.specs.Prelude.{◌≡◌, Option, Some, Result, Ok, Err}
 use Rattle.pict_syntax.specs.declared.code.Code.TheVariants.{K4}
 use Rattle.pict_syntax.specs.declared.span.Span.{Span}
+use Rattle.pict_syntax.specs.Stops.{Stop}
 use Rattle.pict_types.specs.declared.limits.SizeError.{SizeError}
 use Rattle.pict_types.specs.declared.limits.SizeError.TheVariants.{TooBig, Memory as SizeMemory}
 use Rattle.pict_types.specs.Types.{PlainType}
 use Rattle.pict_types.specs.Plain.{plain}
-use Rattle.pict_normal.specs.Normal.{Stop}
 use Rattle.pict_normal.specs.declared.stops.KindError.{KindError}
 use Rattle.pict_normal.specs.declared.stops.KindError.TheVariants.{Named as KindNamed, Memory as KindMemory}
 use Rattle.pict_rules.specs.Rules.{Sort, nothing_, Result as Given, Rule, ok, stuck}

@@ -10,7 +10,7 @@ use Rattle.pict_types.specs.declared.types.Ty.{Ty}
 use Rattle.pict_types.specs.declared.types.Bound.{Bound as TheBound}
 use Rattle.pict_syntax.specs.declared.name.Name.{Name}
 use Rattle.pict_types.specs.Plain.{plain, plain_bounds, plain_labels, plain_types}
-use Rattle.pict_normal.specs.Normal.{Stop, normal, kind_stops, bound_stops, first_stop}
+use Rattle.pict_normal.specs.Normal.{normal, kind_stops, bound_stops, first_or}
 use Rattle.pict_rules.specs.Shapes.{bound_size_stop, kind_agrees, written_bound}
 use Rattle.pict_rules.specs.Environments.{Environment, KnownType, bounds_of}
 use Rattle.pict_rules.specs.Rules.{nothing_, fields_against, binders_, opened_, Judgement, TypedFields, OpenedFields, Rule, ok, fields_give, ensure, unless_stopped}
@@ -18,6 +18,7 @@ use Rattle.pict_rules.specs.Clauses.{done, with_own, stop_of_binder, written_kin
 use Rattle.pict_rules.specs.Typing.{rule}
 use Rattle.pict_rules.specs.Derivations.{Runs}
 use Rattle.pict_syntax.specs.declared.code.Code.TheVariants.{Y16}
+use Rattle.pict_syntax.specs.Stops.{Stop}
 use Rattle.pict_infer.specs.declared.error.InferError.{InferError}
 use Rattle.pict_infer.specs.declared.added.Added.{Added}
 use Rattle.pict_infer.specs.Adding.{extension_of}
@@ -48,7 +49,7 @@ SaysTheSame (Some t) b = IsTheSame (is_top t) t b
 -- the refusal of a written bound, of a type binder with this name and this kind
 abbrev pub bound_stop : Environment → Id → Option KindTree → TypeTree → Option Stop
 bound_stop e id k t =
-    first_stop (bound_stops id k (kind_stops e.names e.context t) (normal e.names e.context t)) (bound_size_stop e.names e.context (bound t))
+    first_or (bound_stops id k (kind_stops e.names e.context t) (normal e.names e.context t)) (bound_size_stop e.names e.context (bound t))
 
 -- a type binder is right, and says what its field says
 abbrev pub binder_agrees : Environment → TypeBinder → PlainBound → Rule nothing_

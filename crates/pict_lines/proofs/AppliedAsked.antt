@@ -3,6 +3,7 @@ use Rattle.std.proofs.Common.{◌≡◌, Bool, true, false, if◌then◌else◌,
 use Rattle.pict_syntax.specs.declared.span.Span.{Span}
 use Rattle.pict_syntax.specs.declared.id.Id.{Id}
 use Rattle.pict_syntax.specs.Trees.{Val}
+use Rattle.pict_syntax.specs.Stops.{Stop}
 use Rattle.pict_types.specs.Types.{PlainType}
 use Rattle.pict_rules.specs.Found.{Found, mentions_missing, with_found}
 use Rattle.pict_rules.specs.Shapes.{applied_to}
@@ -17,7 +18,6 @@ use Rattle.pict_infer.proofs.Asked.{asked_of}
 use Rattle.pict_lines.specs.Judging.{IsAskedFor}
 use Rattle.pict_lines.specs.Chains.{Applied, as_function, head, two, IsHead, before_fields, wanted_at, room_stop}
 use Rattle.pict_lines.proofs.Applying.{Field1, then_matched, then_had}
-use Rattle.pict_normal.specs.Normal.{Stop}
 
 pub application_asked : (e : Environment) (s : Span) (f : Id) (v w : Val) (x : Option PlainType) → IsAskedFor e (applied_to s f v w) x → IsWellAsked type_ e (application s (head f) (two v w) x)
 application_asked e s f v w None h = asked_of (gives (applied_to s f v w)) h this_part

@@ -4,8 +4,9 @@ use Rattle.pict_syntax.specs.declared.code.Code.{Code}
 use Rattle.pict_syntax.specs.declared.span.Span.{Span}
 use Rattle.pict_syntax.specs.declared.id.Id.{Id}
 use Rattle.pict_syntax.specs.Trees.{Val}
+use Rattle.pict_syntax.specs.Stops.{Stop}
 use Rattle.pict_types.specs.Types.{PlainType, PlainArg}
-use Rattle.pict_normal.specs.Normal.{size_stop, Stop}
+use Rattle.pict_normal.specs.Normal.{size_stop}
 use Rattle.pict_rules.specs.Found.{Found, with_found, matched}
 use Rattle.pict_rules.specs.Shapes.{applied_to}
 use Rattle.pict_rules.specs.Environments.{Environment, context_of}

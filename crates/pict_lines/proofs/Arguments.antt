@@ -8,6 +8,7 @@ use Rattle.pict_syntax.specs.Grammar.{type_span}
 use Rattle.pict_syntax.specs.PlainTrees.{type_of, types_on}
 use Rattle.pict_syntax.specs.Trees.{TypeTree, TypeTrees, no_types, more_types}
 use Rattle.pict_syntax.proofs.TypeLists.{types_more}
+use Rattle.pict_syntax.specs.Stops.{Stop}
 use Rattle.pict_types.specs.declared.types.Arg.{Arg}
 use Rattle.pict_types.specs.Types.{PlainBound, PlainBounds, PlainArg, count_bounds}
 use Rattle.pict_types.specs.AsMarked.{VaryAsMarked, varies_as}
@@ -17,7 +18,7 @@ use Rattle.pict_types.specs.Kinds.{BoundIsWellFormed}
 use Rattle.pict_types.specs.Instances.{ArgsAreWellFormed}
 use Rattle.pict_types.specs.Plain.{plain_arg, plain_args, plain_bound, plain_bounds}
 use Rattle.pict_types.proofs.Rows.{count_bounds_length}
-use Rattle.pict_normal.specs.Normal.{count_trees, Stop}
+use Rattle.pict_normal.specs.Normal.{count_trees}
 use Rattle.pict_normal.specs.Written.{kinds_with}
 use Rattle.pict_normal.specs.WrittenArguments.{arg_stop, normal_arg}
 use Rattle.pict_scope.specs.DistinctLabels.{HasDistinctLabels, TypesHaveDistinctLabels}

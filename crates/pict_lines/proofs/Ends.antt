@@ -4,7 +4,8 @@ use Rattle.pict_syntax.specs.declared.code.Code.{Code}
 use Rattle.pict_syntax.specs.declared.span.Span.{Span}
 use Rattle.pict_types.specs.Types.{PlainType}
 use Rattle.pict_syntax.specs.Trees.{TypeTree}
-use Rattle.pict_normal.specs.Normal.{kind_stop, size_stop, Stop}
+use Rattle.pict_syntax.specs.Stops.{Stop}
+use Rattle.pict_normal.specs.Normal.{kind_stop, size_stop}
 use Rattle.pict_rules.specs.Environments.{Environment, context_of}
 use Rattle.pict_rules.specs.Rules.{Sort, nothing_, type_, Judgement, is_subtype, Rule, need, part, ok, within_limits, expand, give, ensure, unless_stopped}
 use Rattle.pict_rules.specs.Rules as rules

@@ -6,6 +6,7 @@ use Rattle.pict_syntax.specs.declared.id.Id.{Id}
 use Rattle.pict_syntax.specs.declared.name.Name.{Name}
 use Rattle.pict_syntax.specs.declared.span.Span.{Span}
 use Rattle.pict_syntax.specs.Trees.{Val, true_val}
+use Rattle.pict_syntax.specs.Stops.{Stop}
 use Rattle.pict_types.specs.Types.{PlainType, Boolean, PlainTypes, PlainLabels, no_label, PlainArg, PlainBounds, count_types}
 use Rattle.pict_types.specs.Kinds.{IsWellFormed, kinds_under}
 use Rattle.pict_types.specs.Plain.{plain, plain_labels, plain_types}
@@ -14,7 +15,7 @@ use Rattle.pict_types.specs.declared.types.Bound.{Bound}
 use Rattle.pict_types.specs.declared.types.Ty.{Ty}
 use Rattle.pict_types.proofs.Contexts.{entries_context}
 use Rattle.pict_types.proofs.Rows.{count_types_length}
-use Rattle.pict_normal.specs.Normal.{size_stop, Stop}
+use Rattle.pict_normal.specs.Normal.{size_stop}
 use Rattle.pict_normal.specs.Written.{kinds_with}
 use Rattle.pict_normal.proofs.Instances.{kinds_fit}
 use Rattle.pict_sub.specs.Exposing.{exposure}

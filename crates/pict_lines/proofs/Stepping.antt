@@ -12,10 +12,11 @@ use Rattle.pict_types.specs.WithinLimits.{IsTooHeavy, IsTooHigh, IsWithinLimits}
 use Rattle.pict_types.specs.declared.limits.Measure.TheVariants.{Weight, Height}
 use Rattle.pict_types.specs.declared.limits.SizeError.{SizeError}
 use Rattle.pict_types.specs.declared.limits.SizeError.TheVariants.{TooBig}
-use Rattle.pict_normal.specs.Normal.{size_stop, Stop}
+use Rattle.pict_normal.specs.Normal.{size_stop}
 use Rattle.pict_rules.specs.Environments.{Environment, context_of}
 use Rattle.pict_syntax.specs.Grammar.{type_span}
 use Rattle.pict_syntax.specs.Trees.{TypeTree}
+use Rattle.pict_syntax.specs.Stops.{Stop}
 use Rattle.pict_rules.specs.Rules.{Sort, nothing_, type_, types_, arguments_, Rule, give, refuse, ok, stuck, unless_stopped, within_limits}
 use Rattle.pict_rules.specs.Rules as rules
 use Rattle.pict_rules.specs.Clauses.{need_recursive}

@@ -3,8 +3,9 @@ use Rattle.std.specs.Prelude.{◌≡◌, true, if◌then◌else◌, List, [], �
 use Rattle.pict_syntax.specs.declared.span.Span.{Span}
 use Rattle.pict_syntax.specs.declared.id.Id.{Id}
 use Rattle.pict_syntax.specs.Trees.{Val, no_vals, more_vals, FieldVals, field_vals, no_types, no_labelled_vals, of_chan, use_chan}
+use Rattle.pict_syntax.specs.Stops.{Stop}
 use Rattle.pict_types.specs.Types.{PlainType, PlainBounds, types, no_type, no_label}
-use Rattle.pict_normal.specs.Normal.{Stop, size_stop}
+use Rattle.pict_normal.specs.Normal.{size_stop}
 use Rattle.pict_sub.specs.Exposing.{exposure}
 use Rattle.pict_rules.specs.Found.{Found, mentions_missing, with_found, matched}
 use Rattle.pict_rules.specs.Shapes.{Function, applicable, right_nested, left_nested, from_first}

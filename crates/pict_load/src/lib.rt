@@ -8,5 +8,5 @@ mod text;
 
 pub use counter::count_run;
 pub use rings::{Ring, rings_of};
-pub use summary::{Line, SummaryError, Tally, write_summary};
+pub use summary::{Line, Tally, write_summary};
 pub use text::load_text;

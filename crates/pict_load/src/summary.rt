@@ -6,10 +6,9 @@ ghost use Rattle.pict_outside.specs.Bytes.{AppendsFront};
 ghost use Rattle.pict_load.specs.Summary as summary;
 
 use crate::rings::{Ring, rings_of};
-use pict_machine::End;
-use pict_outside::{Sink, SinkFailed};
+use pict_machine::{End, RunError};
+use pict_outside::Sink;
 use std::alloc::{AllocError, Global};
-use thiserror::Error;
 
 /// What is counted of a run.
 #[derive(Clone, Copy, Debug, PartialEq, Eq)]
@@ -41,39 +40,6 @@ pub enum Line {
     End(End),
 }
 
-/// Why a summary wasn't written to its end.
-#[derive(Clone, Copy, Debug, PartialEq, Eq, Error)]
-pub enum SummaryError {
-    /// The sink failed.
-    #[error("the sink failed")]
-    Sink,
-    /// Want of memory.
-    #[error("want of memory")]
-    Memory,
-}
-
-impl From<AllocError> for SummaryError {
-    ghost use Rattle.std.specs.Prelude.{◌≡◌};
-    ghost use Rattle.pict_load.specs.declared.summary.SummaryError.TheVariants.{Memory};
-
-    ghost from_gives = { λ _ error. error ≡ Memory };
-
-    fn from(_error: AllocError) -> SummaryError {
-        SummaryError::Memory
-    }
-}
-
-impl From<SinkFailed> for SummaryError {
-    ghost use Rattle.std.specs.Prelude.{◌≡◌};
-    ghost use Rattle.pict_load.specs.declared.summary.SummaryError.TheVariants as error;
-
-    ghost from_gives = { λ _ e. e ≡ error.Sink };
-
-    fn from(_error: SinkFailed) -> SummaryError {
-        SummaryError::Sink
-    }
-}
-
 /// Writes the summary of a run of the program that is made from `n`, whose text has this many bytes: each line with one write.
 ///
 /// After an error the sink has taken a beginning of the summary. `Sink` comes only where the sink's count of faults rose.
@@ -83,10 +49,10 @@ pub fn write_summary<O: Sink>(
     text: u64,
     tally: Tally,
     out: &mut O,
-) -> Result<(), SummaryError>
+) -> Result<(), RunError>
     ensures all { OnOk result (Appends (O.taken out.old) (O.taken out.new) (summary.summary_text n text tally)) }
     ensures part { OnErr result (AppendsFront (O.taken out.old) (O.taken out.new) (summary.summary_text n text tally)) }
-    ensures sink { result ≡ Err SummaryError.Sink → Rose (O.faults out.old) (O.faults out.new) }
+    ensures sink { result ≡ Err RunError.Sink → Rose (O.faults out.old) (O.faults out.new) }
     ensures faults_stay { O.faults out.old ≤ O.faults out.new }
 {
     let lines = summary_lines(n, text, tally);

@@ -6,6 +6,7 @@ ghost use Rattle.pict_turns.specs.Shown.{label_shown, trap_shown, IsShownOf};
 
 use pict_desk::word_at;
 use pict_heap::Word;
+use pict_outside::SinkFailed;
 use pict_syntax::Span;
 use pict_turns::Shown;
 use std::alloc::AllocError;
@@ -49,11 +50,11 @@ pub struct Stopped {
     pub steps: u64,
 }
 
-/// Why a run has no end.
-#[derive(Debug, Drop, Error)]
+/// Why a run has no end, or what is told of it isn't written to its end.
+#[derive(Clone, Copy, PartialEq, Eq, Debug, Error)]
 pub enum RunError {
-    /// The watcher could not show an event.
-    #[error("an event could not be shown")]
+    /// What was to be shown could not be written: the sink failed.
+    #[error("the sink failed")]
     Sink,
     /// Memory is wanting.
     #[error("out of memory")]
@@ -67,6 +68,16 @@ impl From<AllocError> for RunError {
 
     fn from(_: AllocError) -> RunError {
         RunError::Memory
+    }
+}
+
+impl From<SinkFailed> for RunError {
+    ghost use Rattle.pict_machine.specs.declared.event.RunError.TheVariants.{Sink};
+
+    ghost from_gives = { λ _ e. e ≡ Sink };
+
+    fn from(_: SinkFailed) -> RunError {
+        RunError::Sink
     }
 }
 

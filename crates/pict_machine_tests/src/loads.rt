@@ -1,6 +1,6 @@
 // The rings of 42, their text, and a summary.
-use pict_load::{Ring, SummaryError, Tally, load_text, rings_of, write_summary};
-use pict_machine::End;
+use pict_load::{Ring, Tally, load_text, rings_of, write_summary};
+use pict_machine::{End, RunError};
 use pict_outside::{Fail, MemorySink};
 use std::alloc::AllocError;
 
@@ -51,7 +51,7 @@ fn summaries(rt: HostRuntime) -> Result<(), AllocError> {
     let mut fails = Vec::new(a);
     fails.push(Fail { call: 3, takes: 2 })?;
     let mut out = MemorySink::new(a, 1000, fails)?;
-    assert!(rt; write_summary(a, 42, 35553, TALLY, &mut out) == Err(SummaryError::Sink));
+    assert!(rt; write_summary(a, 42, 35553, TALLY, &mut out) == Err(RunError::Sink));
     assert!(rt; out.taken() == b"ring 183 13097\nring 124 19955\nri".as_slice());
     Ok(())
 }

@@ -1,5 +1,6 @@
 -- Operators by their bare names: what they mean, and that their bodies are well formed.
 use Rattle.std.proofs.Common.{◌≡◌, ℕ, zero, suc, ◌+◌, ◌-◌, ◌≤◌, ◌<◌, List, [], ◌∷◌, ◌++◌, length, Option, Some, None, refl, sym, ◌∙◌, ap, ap₂, subst, arith}
+use Rattle.pict_syntax.specs.Stops.{Stop}
 use Rattle.pict_types.specs.declared.types.Ty.{Ty}
 use Rattle.pict_types.specs.declared.types.Ty.TheVariants.{Var as Var_}
 use Rattle.pict_types.specs.Types.{PlainType, Var, PlainTypes, no_type, types, count_types, Free, Below, Operator, Plain, Op}
@@ -11,7 +12,7 @@ use Rattle.pict_types.specs.Places.{arity, arity_at, entry_names}
 use Rattle.pict_types.specs.Plain.{plain, plain_types}
 use Rattle.pict_types.specs.Replacing.{Head, variable, operator, nothing}
 use Rattle.pict_normal.specs.Meanings.{entry_kinds, kind_of_what, meanings}
-use Rattle.pict_normal.specs.Normal.{Meaning, a_type, an_operator, meaning, meant_head, Stop}
+use Rattle.pict_normal.specs.Normal.{Meaning, a_type, an_operator, meaning, meant_head}
 use Rattle.pict_normal.specs.WrittenArguments.{parameters, body_of, arg_meant, stop_meant}
 use Rattle.pict_normal.proofs.BinderPlaces.{kind_meant}
 use Rattle.pict_normal.proofs.RawNormal.{MayBeApplied, head_put, means}

@@ -15,7 +15,7 @@ use Rattle.pict_types.specs.Replacing.{Replacement, with_arg}
 use Rattle.pict_types.specs.Entries.{PlainWhat, Variable, Definition, PlainContext, variables, with_variable, EntryIsWellFormed, EntriesAreWellFormed}
 use Rattle.pict_normal.specs.Meanings.{meanings, with_what, kind_of_what, entry_kinds}
 use Rattle.pict_types.specs.Measures.{weight_of, height_of}
-use Rattle.pict_normal.specs.Normal.{Stop, normal, kind_stops, size_stop, first_stop, kind_stop}
+use Rattle.pict_normal.specs.Normal.{normal, kind_stops, size_stop, first_or, kind_stop}
 use Rattle.pict_normal.specs.Raw.{raw}
 use Rattle.pict_types.specs.Places.{entry_names}
 use Rattle.pict_normal.specs.Refusals.{IsFirst, IsRefusal}
@@ -25,6 +25,7 @@ use Rattle.pict_types.proofs.Formed.{replaces_beyond, replace_formed}
 use Rattle.pict_normal.proofs.RawFormed.{raw_formed}
 use Rattle.pict_normal.proofs.RawNormal.{raw_normal}
 use Rattle.pict_syntax.specs.Grammar.{type_span}
+use Rattle.pict_syntax.specs.Stops.{Stop}
 
 -- what the entries mean is well formed
 replaces_definition : {ns : List (List ℕ)} {s : Replacement} {ks js : List Kind} (a : PlainArg) → ArgIsWellFormed ns js a → ReplacesKinds ns s ks js → ReplacesKinds ns (with_arg a s) (kind_of_what (Definition a) ∷ ks) js
@@ -80,7 +81,7 @@ size_clear c t s w h = go (nat_lt WEIGHT_LIMIT (weight_of (variables c) t)) (nat
 
 pub allowed : (ns : List (List ℕ)) (c : PlainContext) (t : TypeTree) → kind_stops ns c t ≡ [] → weight_of (variables c) (normal ns c t) ≤ WEIGHT_LIMIT → height_of (variables c) (normal ns c t) ≤ HEIGHT_LIMIT → kind_stop ns c t ≡ None
 allowed ns c t k w h =
-    ap (λ x. first_stop x (size_stop c (normal ns c t) (type_span t))) k ∙ size_clear c (normal ns c t) (type_span t) w h
+    ap (λ x. first_or x (size_stop c (normal ns c t) (type_span t))) k ∙ size_clear c (normal ns c t) (type_span t) w h
 
 -- a measure past its limit
 pub too_big : (c : PlainContext) (t : PlainType) (s : Span) → (weight_of (variables c) t ≤ WEIGHT_LIMIT → height_of (variables c) t ≤ HEIGHT_LIMIT → ⊥) → size_stop c t s ≡ Some (K4, s)
@@ -93,9 +94,9 @@ too_big c t s past = go (nat_lt WEIGHT_LIMIT (weight_of (variables c) t)) (nat_l
 
 pub refused_whole : (ns : List (List ℕ)) (c : PlainContext) (t : TypeTree) → kind_stops ns c t ≡ [] → (weight_of (variables c) (normal ns c t) ≤ WEIGHT_LIMIT → height_of (variables c) (normal ns c t) ≤ HEIGHT_LIMIT → ⊥) → kind_stop ns c t ≡ Some (K4, type_span t)
 refused_whole ns c t k past =
-    ap (λ x. first_stop x (size_stop c (normal ns c t) (type_span t))) k ∙ too_big c (normal ns c t) (type_span t) past
+    ap (λ x. first_or x (size_stop c (normal ns c t) (type_span t))) k ∙ too_big c (normal ns c t) (type_span t) past
 
-pub first_refusal : (stops : List Stop) (o : Option Stop) (e : KindError) → IsFirst stops e → IsRefusal (first_stop stops o) e
+pub first_refusal : (stops : List Stop) (o : Option Stop) (e : KindError) → IsFirst stops e → IsRefusal (first_or stops o) e
 first_refusal [] o (Named code span) h = absurd h
 first_refusal (x ∷ stops) o (Named code span) h = ap Some h
 first_refusal stops o Memory h = tt

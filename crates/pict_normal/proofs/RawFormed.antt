@@ -12,12 +12,13 @@ use Rattle.pict_types.specs.Replacing.{apply_variable}
 use Rattle.pict_types.specs.Kinds.{Kind, proper, operator_of, kind_by, kind_at, kinds_under, StandsBeforeAll, IsWellFormed, AreWellFormed, LabelsAreWellFormed, BoundsAreWellFormed, BoundIsWellFormed}
 use Rattle.pict_types.specs.Entries.{PlainWhat, Variable, Definition, PlainContext}
 use Rattle.pict_normal.specs.Meanings.{kind_of_what, entry_kinds}
-use Rattle.pict_normal.specs.Normal.{Meaning, a_type, an_operator, meaning, and_type, and_bound, with_labelled_type, kind_bound, entry_of, normal, normal_bound, under_binders, count_trees, Stop, use_stops, apply_stops, kind_stops, types_stops, labels_stops, binders_stops, binder_stops}
+use Rattle.pict_normal.specs.Normal.{Meaning, a_type, an_operator, meaning, and_type, and_bound, with_labelled_type, kind_bound, entry_of, normal, normal_bound, under_binders, count_trees, use_stops, apply_stops, kind_stops, types_stops, labels_stops, binders_stops, binder_stops}
 use Rattle.pict_binders.specs.Names.{place_of}
 use Rattle.pict_types.specs.Places.{entry_names, arity, arity_at}
 use Rattle.pict_normal.specs.Raw.{variable_at, names_under, raw, raw_types, raw_labels, raw_binders, raw_binder, raw_bound}
 use Rattle.pict_scope.specs.DistinctLabels.{IsNewLabel, HasDistinctLabels, TypesHaveDistinctLabels, AreDistinct, BindersHaveDistinctLabels, BinderHasDistinctLabels}
 use Rattle.pict_syntax.proofs.LabelLemmas.{less_is, stands_after}
+use Rattle.pict_syntax.specs.Stops.{Stop}
 use Rattle.pict_types.proofs.Formed.{formed_bound_by, kind_bound_by, before_further}
 use Rattle.pict_normal.proofs.BinderPlaces.{kind_meant, kind_there, kind_named, place_below}
 use Rattle.pict_types.proofs.Places.{names_length}

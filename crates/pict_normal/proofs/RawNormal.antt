@@ -8,8 +8,9 @@ use Rattle.pict_types.specs.Types.{PlainType, Top, Var, Chan, Fields, Rec, Both,
 use Rattle.pict_types.specs.Renaming.{rename}
 use Rattle.pict_types.specs.Replacing.{bound_by, Head, apply_head, rename_head, nothing, next_variable, apply_variable, Replacement, replacement_beyond, replacement_beyond_all, replace, replace_types, replace_labels, replace_bound, replace_bounds}
 use Rattle.pict_syntax.specs.Labels.{label_cmp}
+use Rattle.pict_syntax.specs.Stops.{Stop}
 use Rattle.pict_types.specs.Entries.{PlainWhat, Variable, Definition, PlainEntry, PlainContext}
-use Rattle.pict_normal.specs.Normal.{Meaning, a_type, an_operator, of_bound, of_entry, behind_entry, meaning, meant_type, meant_head, and_type, and_bound, with_labelled_type, kind_bound, entry_of, normal, normal_types, normal_labels, normal_binders, normal_binder, normal_bound, under_binders, count_trees, use_stops, apply_stops, kind_stops, types_stops, labels_stops, binders_stops, binder_stops, Stop}
+use Rattle.pict_normal.specs.Normal.{Meaning, a_type, an_operator, of_bound, of_entry, behind_entry, meaning, meant_type, meant_head, and_type, and_bound, with_labelled_type, kind_bound, entry_of, normal, normal_types, normal_labels, normal_binders, normal_binder, normal_bound, under_binders, count_trees, use_stops, apply_stops, kind_stops, types_stops, labels_stops, binders_stops, binder_stops}
 use Rattle.pict_normal.specs.Meanings.{meanings, with_what}
 use Rattle.pict_binders.specs.Names.{place_of}
 use Rattle.pict_types.specs.Places.{entry_names}

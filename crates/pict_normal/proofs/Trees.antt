@@ -16,11 +16,12 @@ use Rattle.pict_types.specs.declared.types.Bound.{Bound as RBound}
 use Rattle.pict_types.specs.Types.{types, bounds}
 use Rattle.pict_types.specs.Plain.{plain, plain_bound, plain_types, plain_bounds}
 use Rattle.pict_types.specs.Entries.{PlainContext}
-use Rattle.pict_normal.specs.Normal.{Stop, and_type, and_bound, count_trees, kind_stops, types_stops, labels_stops, binders_stops, binder_stops, under_binders}
+use Rattle.pict_normal.specs.Normal.{and_type, and_bound, count_trees, kind_stops, types_stops, labels_stops, binders_stops, binder_stops, under_binders}
 use Rattle.pict_normal.specs.Sizes.{nodes, nodes_of_types, nodes_of_labels, nodes_of_binders, nodes_of_binder}
 use Rattle.pict_normal.specs.Refusals.{IsFirst}
 use Rattle.pict_types.proofs.Congruent.{three}
 use Rattle.pict_syntax.proofs.TypeLists.{types_more, binders_more, labelled_types_more, fields_type_is, apply_type_is, types_none}
+use Rattle.pict_syntax.specs.Stops.{Stop}
 
 -- one list behind another
 types_append : (ts : TypeTrees) (xs ys : List RTypeTree) → types_on ts (xs ++ ys) ≡ types_on (types_on ts xs) ys

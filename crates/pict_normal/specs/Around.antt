@@ -10,10 +10,11 @@ use Rattle.pict_syntax.specs.declared.type_tree.TypeBinder.{TypeBinder as RTypeB
 use Rattle.pict_syntax.specs.declared.type_tree.TypeTree.{TypeTree as RTypeTree}
 use Rattle.pict_syntax.specs.PlainTrees.{binders_on, labelled_types_on, types_on}
 use Rattle.pict_syntax.specs.Trees.{operator_kind, TypeTree, fields_type, no_binders, no_labelled_types, no_types}
+use Rattle.pict_syntax.specs.Stops.{Stop}
 use Rattle.pict_types.specs.Entries.{PlainContext}
 use Rattle.pict_normal.specs.BinderEntries.{entries_of}
 use Rattle.pict_types.specs.PlainContext.{names_of, plain_context}
-use Rattle.pict_normal.specs.Normal.{Stop, bound_stops, kind_stops, normal}
+use Rattle.pict_normal.specs.Normal.{bound_stops, kind_stops, normal}
 
 -- the binders as entries, the innermost first
 abbrev pub scope_of : Binders → PlainContext

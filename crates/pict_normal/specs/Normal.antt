@@ -14,6 +14,7 @@ use Rattle.pict_syntax.specs.Labels.{label_cmp}
 use Rattle.pict_syntax.specs.declared.limits.TheConstants.{HEIGHT_LIMIT, WEIGHT_LIMIT}
 use Rattle.pict_types.specs.Entries.{PlainWhat, Variable, Definition, PlainEntry, PlainContext, variables}
 use Rattle.pict_syntax.specs.Grammar.{type_span}
+use Rattle.pict_syntax.specs.Stops.{Stop}
 
 -- what the name of a type means: a type, or an operator of so many parameters
 pub data Meaning : Type 0 where
@@ -129,10 +130,6 @@ abbrev pub count_trees : TypeTrees → ℕ
 count_trees no_types = 0
 count_trees (more_types ts t) = suc (count_trees ts)
 
--- a refusal and its place
-abbrev pub Stop : Type 0
-Stop = Code × Span
-
 -- a bare operator where a type stands
 abbrev pub use_stops : Span → Option Meaning → List Stop
 use_stops s None = []
@@ -191,9 +188,9 @@ abbrev pub size_stop : PlainContext → PlainType → Span → Option Stop
 size_stop c t s = if nat_lt WEIGHT_LIMIT (weight_of (variables c) t) || nat_lt HEIGHT_LIMIT (height_of (variables c) t) then Some (K4, s) else None
 
 -- the refusal of a written type: the first where a rule of kinds fails, else its size
-abbrev pub first_stop : List Stop → Option Stop → Option Stop
-first_stop [] o = o
-first_stop (x ∷ stops) o = Some x
+abbrev pub first_or : List Stop → Option Stop → Option Stop
+first_or [] o = o
+first_or (x ∷ stops) o = Some x
 
 abbrev pub kind_stop : List (List ℕ) → PlainContext → TypeTree → Option Stop
-kind_stop ns c t = first_stop (kind_stops ns c t) (size_stop c (normal ns c t) (type_span t))
+kind_stop ns c t = first_or (kind_stops ns c t) (size_stop c (normal ns c t) (type_span t))

@@ -2,11 +2,11 @@
 use Rattle.std.specs.Prelude.{◌≡◌, List, [], ◌∷◌, Option, Some}
 use Rattle.pict_syntax.specs.declared.code.Code.TheVariants.{K4}
 use Rattle.pict_syntax.specs.declared.span.Span.{Span}
+use Rattle.pict_syntax.specs.Stops.{Stop}
 use Rattle.pict_normal.specs.declared.made.MakeError.{MakeError}
 use Rattle.pict_normal.specs.declared.made.MakeError.TheVariants.{TooHeavy, Memory as Memory_}
 use Rattle.pict_normal.specs.declared.stops.KindError.{KindError}
 use Rattle.pict_normal.specs.declared.stops.KindError.TheVariants.{Named, Memory}
-use Rattle.pict_normal.specs.Normal.{Stop}
 
 -- the error is this refusal; want of memory may come at any time
 abbrev pub IsRefusal : Option Stop → KindError → Type 0

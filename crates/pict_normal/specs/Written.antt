@@ -1,6 +1,7 @@
 -- What is written in a context, what it stands for there, and the kinds under arguments.
 use Rattle.std.specs.Prelude.{List, [], ◌∷◌, Option}
 use Rattle.pict_syntax.specs.Trees.{TypeTree}
+use Rattle.pict_syntax.specs.Stops.{Stop}
 use Rattle.pict_types.specs.declared.context.Context.{Context}
 use Rattle.pict_types.specs.declared.types.Record.{Record}
 use Rattle.pict_types.specs.Types.{PlainType, PlainArg, Plain, Op, TypeContext}
@@ -10,7 +11,7 @@ use Rattle.pict_types.specs.Plain.{plain_types, plain_labels}
 use Rattle.pict_types.specs.PlainContext.{names_of, plain_context, type_context}
 use Rattle.pict_types.specs.Replacing.{arguments, instance_of, replace}
 use Rattle.pict_types.specs.WithinLimits.{IsWithinLimits}
-use Rattle.pict_normal.specs.Normal.{Stop, kind_stop, normal}
+use Rattle.pict_normal.specs.Normal.{kind_stop, normal}
 use Rattle.pict_normal.specs.WrittenArguments.{arg_stop, normal_arg}
 
 -- arguments and rows of arguments that are well formed in the variables of a context

@@ -1,10 +1,11 @@
 -- Written types as arguments: types, and operators by their bare names.
 use Rattle.std.specs.Prelude.{ℕ, zero, suc, ◌+◌, List, Option, Some, None}
 use Rattle.pict_syntax.specs.Trees.{TypeTree, use_type}
+use Rattle.pict_syntax.specs.Stops.{Stop}
 use Rattle.pict_types.specs.Types.{PlainType, Top, Var, Apply, PlainTypes, no_type, types, PlainArg, Plain, Op}
 use Rattle.pict_types.specs.Replacing.{Head, variable, operator, nothing}
 use Rattle.pict_types.specs.Entries.{PlainContext}
-use Rattle.pict_normal.specs.Normal.{Meaning, a_type, an_operator, meaning, normal, Stop, kind_stop}
+use Rattle.pict_normal.specs.Normal.{Meaning, a_type, an_operator, meaning, normal, kind_stop}
 
 -- the parameters of an operator, the last one for variable 0
 abbrev pub parameters : ℕ → PlainTypes

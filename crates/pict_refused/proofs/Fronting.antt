@@ -9,8 +9,9 @@ use Rattle.pict_syntax.specs.declared.token.Token.{Token}
 use Rattle.pict_syntax.specs.Cuts.{Stops}
 use Rattle.pict_syntax.specs.declared.tree.Import.{Import}
 use Rattle.pict_syntax.specs.Trees.{Decs}
+use Rattle.pict_syntax.specs.Stops.{Stop}
 use Rattle.pict_gather.specs.Phases.{Phase, accepts, refuses}
-use Rattle.pict_gather.specs.Reading.{Stop, Lexes, HasVerdict, Reads}
+use Rattle.pict_gather.specs.Reading.{Lexes, HasVerdict, Reads}
 use Rattle.pict_gather.specs.Fetching.{Fetch, MayGive}
 use Rattle.pict_gather.specs.Sources.{is_among, is_name_of, visited}
 use Rattle.pict_gather.specs.Gathered.{Gathered, EarlyEnd, refused, failed, is_import_name, settled, Visits, too_long, unread, cut_off, whole, Along, none, next, stop, Leads, at_once, absent, unfetched, visit}

@@ -3,7 +3,8 @@ use Rattle.std.proofs.Common.{ℕ, List, [], ◌∷◌, ◌++◌, Bool, true, fa
 use Rattle.pict_syntax.specs.declared.code.Code.{Code}
 use Rattle.pict_syntax.specs.declared.span.Span.{Span}
 use Rattle.pict_syntax.specs.Trees.{Bound, unbounded, bound}
-use Rattle.pict_normal.specs.Normal.{Stop, normal}
+use Rattle.pict_syntax.specs.Stops.{Stop}
+use Rattle.pict_normal.specs.Normal.{normal}
 use Rattle.pict_types.specs.Mentions.{mentions_innermost, lowered}
 use Rattle.pict_types.specs.Types.{Capability, Both, Read, Write, Respond, PlainType, Top, Int, Char, Str, Boolean, Var, Apply, Chan, Fields, Rec, PlainTypes, PlainLabels, PlainBound, Free, Below, Operator, PlainBounds, no_bound, bounds, PlainArg, is_top}
 use Rattle.pict_rules.specs.Shapes.{Function}

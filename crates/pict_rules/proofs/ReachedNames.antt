@@ -4,6 +4,7 @@ use Rattle.pict_syntax.specs.declared.primitive.Primitive.{Primitive}
 use Rattle.pict_syntax.specs.declared.span.Span.{Span}
 use Rattle.pict_syntax.specs.Names.{text_of}
 use Rattle.pict_syntax.specs.Trees.{Decs, of_chan, use_chan}
+use Rattle.pict_syntax.specs.Stops.{Stop}
 use Rattle.pict_types.specs.Types.{PlainType}
 use Rattle.pict_scope.specs.declared.target.Target.{Target}
 use Rattle.pict_scope.specs.declared.target.Target.TheVariants.{Prim}
@@ -11,7 +12,7 @@ use Rattle.pict_scope.specs.PrimitiveNames.{primitive_named}
 use Rattle.pict_binders.specs.declared.binders.Binder.{Binder}
 use Rattle.pict_binders.specs.Numbered.{nearest}
 use Rattle.pict_scope.specs.Around.{Around, or_primitive}
-use Rattle.pict_scope.specs.Marks.{Stop, Mark, value_used, type_used, value_bound, stands_twice, or_later, first_stop}
+use Rattle.pict_scope.specs.Marks.{Mark, value_used, type_used, value_bound, stands_twice, or_later, first_stop}
 use Rattle.pict_scope.specs.Outlines.{value_use, marks}
 use Rattle.pict_scope.specs.Scopes.{outermost, program_marks}
 use Rattle.pict_rules.specs.Environments.{Environment, KnownValue, no_environment, known_type}

@@ -1,18 +1,19 @@
 -- What is written in a regular environment, without a label twice and without a refusal, is well formed there.
 use Rattle.std.proofs.Common.{◌≡◌, ℕ, if◌then◌else◌, nat_eq, Bool, true, false, List, [], ◌∷◌, Option, Some, None, refl}
 use Rattle.pict_syntax.specs.Trees.{TypeTree, top_type, int_type, char_type, string_type, bool_type, use_type, both_type, read_type, write_type, respond_type, fields_type, apply_type, rec_type}
+use Rattle.pict_syntax.specs.Stops.{Stop}
 use Rattle.pict_types.specs.Types.{Free, Below, Operator, Plain, Op}
 use Rattle.pict_types.specs.Kinds.{Kind, kind_by, kinds, IsWellFormed, ArgIsWellFormed}
 use Rattle.pict_types.specs.Entries.{PlainWhat, Variable, Definition, PlainContext, variables, with_variable, EntryIsWellFormed, EntriesAreWellFormed}
 use Rattle.pict_types.specs.Fitting.{StandsForOperator}
 use Rattle.pict_types.proofs.Formed.{head_further}
-use Rattle.pict_normal.specs.Normal.{Meaning, a_type, an_operator, of_entry, behind_entry, meaning, normal, Stop, first_stop, kind_stops, kind_stop}
+use Rattle.pict_normal.specs.Normal.{Meaning, a_type, an_operator, of_entry, behind_entry, meaning, normal, first_or, kind_stops, kind_stop}
 use Rattle.pict_normal.specs.WrittenArguments.{named, arg_meant, normal_arg, stop_meant, arg_stop}
 use Rattle.pict_scope.specs.DistinctLabels.{HasDistinctLabels}
 use Rattle.pict_normal.proofs.Expanded.{normal_formed}
 use Rattle.pict_normal.proofs.BareOperators.{body_formed}
 
-no_stops : (stops : List Stop) (o : Option Stop) → first_stop stops o ≡ None → stops ≡ []
+no_stops : (stops : List Stop) (o : Option Stop) → first_or stops o ≡ None → stops ≡ []
 no_stops [] o h = refl
 no_stops (x ∷ stops) o h = absurd cc
 

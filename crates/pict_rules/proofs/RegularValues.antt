@@ -7,7 +7,7 @@ use Rattle.pict_syntax.specs.Trees.{use_chan, fold_chan, block_chan, apply_chan,
 use Rattle.pict_types.specs.Types.{Both, Read, Write, Respond, PlainType, Top, Int, Char, Str, Boolean, Var, Apply, Chan as Chan_, Fields, Rec, PlainTypes, PlainLabels, PlainBounds, no_bound, bounds}
 use Rattle.pict_types.specs.Kinds.{Kind, kind_by, kind_at, IsWellFormed}
 use Rattle.pict_types.specs.Replacing.{unfolding_of}
-use Rattle.pict_normal.specs.Normal.{Stop, normal, kind_stop}
+use Rattle.pict_normal.specs.Normal.{normal, kind_stop}
 use Rattle.pict_types.specs.Mentions.{mentions_innermost, lowered}
 use Rattle.pict_rules.specs.Found.{none_found}
 use Rattle.std.specs.Option.{option_map}
@@ -18,6 +18,7 @@ use Rattle.pict_scope.specs.PrimitiveNames.{primitive_named}
 use Rattle.pict_rules.specs.Environments.{Environment, KnownValue, context_of, opened_since, known_type, primitive_type, type_or_top, type_or_primitive, type_of_use, shifted_by}
 use Rattle.pict_rules.specs.Rules.{Sort, nothing_, type_, Rule, Result, gives, has, unless_stopped, give, refuse}
 use Rattle.pict_syntax.specs.declared.code.Code.TheVariants.{Y14}
+use Rattle.pict_syntax.specs.Stops.{Stop}
 use Rattle.pict_rules.specs.Clauses.{if_record, need_recursive, if_sent, need_outside, gives_below}
 use Rattle.pict_rules.specs.Regular.{IsRegular, IsTypeIn, kinds_in, ValuesAreWellFormed, GrowsFrom, FoundFits, NoOperatorIsFound, kinds_found, kinds_of_fields}
 use Rattle.pict_rules.proofs.Results.{Property, ResultProperty, Each, with_result, gives_, refuses, needs, chooses, parts, ensures, unless}

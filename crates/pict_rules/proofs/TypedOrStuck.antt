@@ -3,7 +3,7 @@ use Rattle.std.proofs.Common.{◌≡◌, ℕ, List, Option, Some, None, refl, sy
 use Rattle.pict_syntax.specs.declared.code.Code.{Code}
 use Rattle.pict_syntax.specs.declared.span.Span.{Span}
 use Rattle.pict_syntax.specs.Trees.{Decs}
-use Rattle.pict_normal.specs.Normal.{Stop}
+use Rattle.pict_syntax.specs.Stops.{Stop}
 use Rattle.pict_scope.specs.Scopes.{scope_stop}
 use Rattle.pict_rules.specs.Environments.{no_environment}
 use Rattle.pict_rules.specs.Rules.{environment_, Condition, is_subtype, is_same, IsMet, Answer, ok, stuck, Result, declarations}

@@ -6,12 +6,13 @@ use Rattle.pict_syntax.specs.declared.id.Id.{Id}
 use Rattle.pict_syntax.specs.Trees.{KindTree, TypeBinder, type_binder, Bound, unbounded, bound, Val, Vals, FieldVals, field_vals, LabelledVals}
 use Rattle.pict_types.specs.Types.{Capability, Both, Read, Write, Respond, PlainType, Chan, Fields, Rec, PlainTypes, no_type, PlainLabels, no_label, PlainBound, Free, Below, Operator, PlainBounds, no_bound, bounds, PlainArg, Plain, Op, under, is_top}
 use Rattle.pict_types.specs.Replacing.{bound_by, arguments, replace, unfolding_of, type_in}
-use Rattle.pict_normal.specs.Normal.{and_type, normal, normal_binder, entry_of, Stop}
+use Rattle.pict_normal.specs.Normal.{and_type, normal, normal_binder, entry_of}
 use Rattle.pict_types.specs.Entries.{PlainContext}
 use Rattle.pict_sub.specs.Exposing.{exposure}
 use Rattle.pict_types.specs.Mentions.{mentions_innermost, lowered}
 use Rattle.pict_rules.specs.Found.{Found, matched, none_found}
 use Rattle.pict_syntax.specs.Grammar.{val_span}
+use Rattle.pict_syntax.specs.Stops.{Stop}
 use Rattle.pict_rules.specs.Shapes.{Function, function_by, sendable, none_written, binder_stop}
 use Rattle.pict_rules.specs.Environments.{Environment, Extension, KnownType, KnownValue, context_of, only_types, within, extended, bounds_of}
 use Rattle.pict_rules.specs.Rules.{TypedFields, Signature, Sort, nothing_, Judgement, gives, values_fit, labelled_values_fit, is_subtype, is_same, Rule, give, refuse, need, part, within_limits}

@@ -1,9 +1,10 @@
 -- Complete patterns.
 use Rattle.std.specs.Prelude.{ℕ, Bool, true, false, ◌&&◌, not, is_some, List, [], ◌∷◌, Some, None}
 use Rattle.pict_syntax.specs.Trees.{TypeBinder, type_binder, Bound, unbounded, bound, TypeBinders, no_binders, more_binders, Pat, bind_pat, any_pat, fields_pat, fold_pat, FieldPats, field_pats, Pats, no_pats, more_pats, LabelledPats, no_labelled_pats, more_labelled_pats}
+use Rattle.pict_syntax.specs.Stops.{Stop}
 use Rattle.pict_types.specs.Types.{PlainType, is_top}
 use Rattle.pict_types.specs.Entries.{PlainContext}
-use Rattle.pict_normal.specs.Normal.{Stop, kind_stops, normal}
+use Rattle.pict_normal.specs.Normal.{kind_stops, normal}
 use Rattle.pict_normal.specs.BinderEntries.{entries_under}
 
 -- Top, of a written type in which no rule of kinds fails

@@ -8,8 +8,9 @@ use Rattle.pict_syntax.specs.declared.code.Code.{Code}
 use Rattle.pict_syntax.specs.declared.span.Span.{Span}
 use Rattle.pict_syntax.specs.declared.id.Id.{Id}
 use Rattle.pict_syntax.specs.Trees.{TypeTree, TypeTrees, TypeBinders, Pat, FieldPats, Pats, LabelledPats, Dec, Decs, Definitions, Abs, Val, Vals, FieldVals, LabelledVals, Proc, Procs, Chan}
+use Rattle.pict_syntax.specs.Stops.{Stop}
 use Rattle.pict_types.specs.Types.{PlainType, PlainTypes, PlainLabels, PlainBound, PlainBounds, PlainArg, TypeContext}
-use Rattle.pict_normal.specs.Normal.{Stop, normal, kind_stop, size_stop}
+use Rattle.pict_normal.specs.Normal.{normal, kind_stop, size_stop}
 use Rattle.pict_normal.specs.WrittenArguments.{normal_arg, arg_stop}
 use Rattle.pict_sub.specs.Subtyping.{IsSubtype}
 use Rattle.pict_rules.specs.Found.{Found}

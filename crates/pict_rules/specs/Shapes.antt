@@ -7,7 +7,8 @@ use Rattle.pict_syntax.specs.declared.span.Span.{Span}
 use Rattle.pict_syntax.specs.Trees.{KindTree, plain_kind, operator_kind, TypeTrees, no_types, more_types, TypeBinder, type_binder, Bound, unbounded, bound, Val, of_chan, use_chan, apply_chan, true_val, Vals, no_vals, more_vals, field_vals, LabelledVals, no_labelled_vals, more_labelled_vals}
 use Rattle.pict_types.specs.Types.{Both, Read, Write, Respond, PlainType, Top, Chan, Fields, PlainTypes, no_type, types, PlainLabels, no_label, labels, PlainBound, Free, Below, Operator, PlainBounds, no_bound, bounds}
 use Rattle.pict_syntax.specs.Grammar.{type_span}
-use Rattle.pict_normal.specs.Normal.{Stop, normal, binder_stops, size_stop, first_stop}
+use Rattle.pict_syntax.specs.Stops.{Stop}
+use Rattle.pict_normal.specs.Normal.{normal, binder_stops, size_stop, first_or}
 use Rattle.pict_types.specs.Entries.{PlainContext}
 
 -- the type and the bound with this number, from 0; Top, and no bound, where there is none
@@ -93,7 +94,7 @@ abbrev pub written_bound : TypeBinder → Bound
 written_bound (type_binder s x k b) = b
 
 abbrev pub binder_stop : List (List ℕ) → PlainContext → TypeBinder → Option Stop
-binder_stop ns c b = first_stop (binder_stops ns c b) (bound_size_stop ns c (written_bound b))
+binder_stop ns c b = first_or (binder_stops ns c b) (bound_size_stop ns c (written_bound b))
 
 abbrev pub same_mark : Mark → Mark → Bool
 same_mark mark.Plus mark.Plus = true

@@ -3,8 +3,9 @@ use Rattle.std.proofs.Common.{◌≡◌, Bool, true, false, List, [], ◌∷◌,
 use Rattle.std.specs.Prelude.{IsTrue, not}
 use Rattle.pict_syntax.specs.declared.code.Code.{Code}
 use Rattle.pict_syntax.specs.declared.id.Id.{Id}
+use Rattle.pict_syntax.specs.Stops.{Stop}
 use Rattle.pict_scope.specs.Around.{is_among}
-use Rattle.pict_scope.specs.Marks.{Mark, value_used, type_used, value_bound, stands_twice, Stop, first_stop}
+use Rattle.pict_scope.specs.Marks.{Mark, value_used, type_used, value_bound, stands_twice, first_stop}
 use Rattle.pict_scope.specs.Outlines.{opens, marks, twice_if}
 use Rattle.pict_scope.specs.Scopes.{scope_stop}
 use Rattle.pict_scope.specs.Laws.{OneScopeStop, UsesAreBound, PartsAreScoped, StandsOnce, AreInOrder}

@@ -4,6 +4,7 @@ use Rattle.std.specs.Prelude.{Result, Ok, Err}
 use Rattle.std.proofs.lemmas.List.{take_all, take-append-drop}
 use Rattle.pict_syntax.specs.declared.code.Code.TheVariants.{S3}
 use Rattle.pict_syntax.specs.declared.id.Id.{Id}
+use Rattle.pict_syntax.specs.Stops.{Stop}
 use Rattle.pict_binders.specs.declared.binders.Binder.{Binder}
 use Rattle.pict_scope.specs.declared.error.ScopeError.{ScopeError}
 use Rattle.pict_scope.specs.declared.error.ScopeError.TheVariants.{Named, Memory}
@@ -13,7 +14,7 @@ use Rattle.pict_scope.specs.declared.reader.Opened.{Opened}
 use Rattle.pict_binders.specs.Numbered.{names_of, nearest}
 use Rattle.pict_scope.specs.Layers.{here, outside}
 use Rattle.pict_scope.specs.Around.{Around, with_group, with_type, with_pattern_type, past_type, before_pattern, behind_pattern, behind}
-use Rattle.pict_scope.specs.Marks.{Mark, value_used, type_used, value_bound, stands_twice, Stop, first_stop, value_meanings, type_meanings, binders_read}
+use Rattle.pict_scope.specs.Marks.{Mark, value_used, type_used, value_bound, stands_twice, first_stop, value_meanings, type_meanings, binders_read}
 use Rattle.pict_scope.specs.Outlines.{Outline, empty, ◌▸◌, closed, binds_type, pattern_type, pattern, group, opens, marks, twice_if_bound}
 use Rattle.pict_scope.specs.Held.{each_on, each}
 use Rattle.pict_scope.specs.Reads.{around, Answers, KeepsOutside, Moves, Reads, IsRefusal, Refuses, IsRead}

@@ -4,6 +4,7 @@ use Rattle.std.specs.List.{position_or_len}
 use Rattle.pict_syntax.specs.declared.code.Code.{Code}
 use Rattle.pict_syntax.specs.declared.code.Code.TheVariants.{S1, S2}
 use Rattle.pict_syntax.specs.declared.span.Span.{Span}
+use Rattle.pict_syntax.specs.Stops.{Stop}
 use Rattle.pict_scope.specs.declared.target.Target.{Target}
 use Rattle.pict_scope.specs.declared.target.Target.TheVariants.{Prim, Binder}
 
@@ -15,10 +16,6 @@ pub data Mark : Type 0 where
   value_bound : ℕ → Mark
   -- a name that stood already where it may stand once
   stands_twice : Code → Span → Mark
-
--- a refusal, and its place
-abbrev pub Stop : Type 0
-Stop = Code × Span
 
 abbrev pub or_later : Mark → Option Stop → Option Stop
 or_later (value_used s None) later = Some (S1, s)

@@ -1,9 +1,10 @@
 -- Scopes of a program: what each use means, and the first place in reading order where a rule of scopes fails.
 use Rattle.std.specs.Prelude.{ℕ, List, [], map, Option}
 use Rattle.pict_syntax.specs.Trees.{Decs}
+use Rattle.pict_syntax.specs.Stops.{Stop}
 use Rattle.pict_scope.specs.declared.target.Target.{Target}
 use Rattle.pict_scope.specs.Around.{Around}
-use Rattle.pict_scope.specs.Marks.{Mark, Stop, first_stop, value_meanings, type_meanings, binders_read, by_place}
+use Rattle.pict_scope.specs.Marks.{Mark, first_stop, value_meanings, type_meanings, binders_read, by_place}
 use Rattle.pict_scope.specs.Outlines.{marks}
 use Rattle.pict_scope.specs.Forms.{in_decs}
 

@@ -22,7 +22,7 @@ use Rattle.pict_ranges.proofs.Accepting.{accepted_is_in_range}
 use Rattle.pict_replay.specs.Files.{IsFile, choice_text, choices_text, trace_line, file_text}
 use Rattle.pict_replay.proofs.Written.{picked_is_answered as replay_answers}
 use Rattle.pict_top.specs.Answer.{judged}
-use Rattle.pict_top.specs.Ends.{end_of}
+use Rattle.pict_machine.specs.Events.{end_of}
 use Rattle.pict_top.specs.Origins.{File, prelude_of}
 use Rattle.pict_top.specs.Laws.{PickedIsAnswered}
 
@@ -98,7 +98,7 @@ prelude_short false file = let long = prelude_long in omega (arith, long)
 -- ---- the law
 
 pub picked_is_answered : PickedIsAnswered
-picked_is_answered held alone file trace bytes a seed fuel finish front r low few gives =
+picked_is_answered held alone file trace bytes a seed fuel end front r low few gives =
     let prelude : Option (List ℕ) = prelude_of (File alone file) in
     let f = a.front in
     let ordered = accepted_is_ordered held prelude file a front in
@@ -108,9 +108,9 @@ picked_is_answered held alone file trace bytes a seed fuel finish front r low fe
     let lines : length (lines_text f.names r.labels) < 2 ^ 63 = omega (arith, few, size, parts) in
     let fits = free_runs_fit_lines f.core r.places r.labels r.runs.last (accepted_has_object held prelude file a front).closed
     (accepted_is_in_range held prelude file a front (prelude_short alone file))
-    (picked_runs_are_free f.core seed fuel (end_of finish) r.places r.labels r.runs)
+    (picked_runs_are_free f.core seed fuel (end_of end) r.places r.labels r.runs)
     (short_lines f.names r.labels lines) (omega (arith, few, size, parts, long)) low in
-    let x = replay_answers f.names f.core seed fuel (end_of finish) r.places r.labels ordered.0 ordered.1 r.runs fits in
+    let x = replay_answers f.names f.core seed fuel (end_of end) r.places r.labels ordered.0 ordered.1 r.runs fits in
     judged gives few (record {
       file = subst (λ t. IsFile f.names t r.places r.labels) (sym r.shows) x.file;
       gained = sym (lines_gain f.names r.labels x.file.lines_are.shown);

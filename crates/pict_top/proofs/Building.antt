@@ -20,13 +20,13 @@ use Rattle.pict_front.proofs.InOrder.{accepted_is_ordered}
 use Rattle.pict_outside.proofs.Gaining.{appends_nothing}
 use Rattle.pict_top.specs.Answer.{Ended, Executed, executed, built}
 use Rattle.pict_top.specs.Changes.{SinkChange, Untouched}
-use Rattle.pict_top.specs.Ends.{end_of}
+use Rattle.pict_machine.specs.Events.{end_of}
 use Rattle.pict_top.specs.Laws.{BuiltRunsAsText}
 use Rattle.pict_top.specs.Meets.{Meets, Tells}
 use Rattle.pict_top.specs.Outcome.{Outcome, outcome_of, status_of_end, status_of_guarded}
 use Rattle.pict_top.specs.Owed.{OwesObject}
-use Rattle.pict_top.specs.declared.run.Finish.{Finish}
-use Rattle.pict_top.specs.declared.run.Finish.TheVariants.{Done, FuelSpent, Trap}
+use Rattle.pict_machine.specs.declared.event.End.{End}
+use Rattle.pict_machine.specs.declared.event.End.TheVariants.{Done, FuelSpent, Trap}
 use Rattle.pict_top.specs.declared.status.Status.{Status}
 use Rattle.pict_top.specs.declared.status.Status.TheVariants as status
 use Rattle.pict_top.proofs.Meeting.{delivered}
@@ -54,36 +54,36 @@ told_object sources front out err s object f few kept tells =
 -- ---- its run
 
 -- the end of the run of an object, which has no places
-abbrev guarded_by : Finish → ExecEnd
+abbrev guarded_by : End → ExecEnd
 guarded_by Done = guarded.Done
 guarded_by FuelSpent = guarded.FuelSpent
 guarded_by (Trap at) = guarded.Trap nowhere
 
-same_end : (finish : Finish) → placeless (end_of finish) ≡ guarded_ends.end_of (guarded_by finish)
+same_end : (end : End) → placeless (end_of end) ≡ guarded_ends.end_of (guarded_by end)
 same_end Done = refl
 same_end FuelSpent = refl
 same_end (Trap at) = refl
 
-same_status : (finish : Finish) → status_of_guarded (guarded_by finish) ≡ status_of_end finish
+same_status : (end : End) → status_of_guarded (guarded_by end) ≡ status_of_end end
 same_status Done = refl
 same_status FuelSpent = refl
 same_status (Trap at) = refl
 
 pub built_runs_as_text : BuiltRunsAsText
-built_runs_as_text held prelude file object t bytes a fuel finish front f few fits gives r = elim (decided t fits) [
+built_runs_as_text held prelude file object t bytes a fuel end front f few fits gives r = elim (decided t fits) [
   | inl d ↦
       let names = a.front.names in
       let core = a.front.core in
       let ordered = accepted_is_ordered held prelude file a front in
-      let written = runs_as_written names d.0 t core d.1 ordered.0 f d.2 fuel (end_of finish) r.labels r.runs in (
-        guarded_by finish,
-        same_status finish,
+      let written = runs_as_written names d.0 t core d.1 ordered.0 f d.2 fuel (end_of end) r.labels r.runs in (
+        guarded_by end,
+        same_status end,
         executed gives few fits (record {
           names = d.0;
           process = d.1;
           is = d.2;
           labels = written.0;
-          runs = subst (λ e. Runs d.1 fuel e written.0) (same_end finish) written.1;
+          runs = subst (λ e. Runs d.1 fuel e written.0) (same_end end) written.1;
           prints = r.shows ∙ sym written.2;
         }),
       )

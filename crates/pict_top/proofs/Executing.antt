@@ -22,7 +22,7 @@ use Rattle.pict_top.specs.Outcome.{outcome_of}
 use Rattle.pict_top.specs.Owed.{OwesRun}
 use Rattle.pict_top.specs.Printed.{form_of, written_in, written_after, WrittenInPart}
 use Rattle.pict_top.specs.declared.form.Form.TheVariants.{Printed}
-use Rattle.pict_top.specs.declared.run.Finish.TheVariants.{Done}
+use Rattle.pict_machine.specs.declared.event.End.TheVariants.{Done}
 use Rattle.pict_top.specs.declared.status.Status.{Status}
 use Rattle.pict_top.proofs.Beyond.{goes_on_from}
 use Rattle.pict_top.proofs.GuardedEnds.{guarded_end, end_again}

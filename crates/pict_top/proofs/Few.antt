@@ -13,10 +13,11 @@ use Rattle.pict_syntax.specs.Names.{with_name, with_names}
 use Rattle.pict_syntax.specs.Trees.{Decs}
 use Rattle.pict_syntax.specs.Tokens.{Form, identifier, symbol, keyword, number, character, string, sign, symbol_text, IsWord, Spells}
 use Rattle.pict_syntax.specs.Cuts.{Piece, blank, comment, token, joined_pieces, ArePieces, IsWholeCut, named_by, named}
+use Rattle.pict_syntax.specs.Stops.{Stop}
 use Rattle.pict_outside.specs.Texts.{Texts}
 use Rattle.pict_gather.specs.Phases.{Phase, accepts, refuses}
 use Rattle.pict_gather.specs.Sources.{bytes_in, visited}
-use Rattle.pict_gather.specs.Reading.{Stop, Read, Reads}
+use Rattle.pict_gather.specs.Reading.{Read, Reads}
 use Rattle.pict_gather.specs.Fetching.{Fetch, MayGive}
 use Rattle.pict_gather.specs.Gathered.{Gathered, EarlyEnd, with_source, settled, bytes_visited, begun, finished, Visits, too_long, unread, cut_off, whole, Along, none, next, stop, Leads, at_once, absent, unfetched, visit}
 use Rattle.pict_gather.specs.Reached.{Gathering, first_source, Gathers, bare, unread_prelude, behind_prelude, Reaches, there}

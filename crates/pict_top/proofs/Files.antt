@@ -13,8 +13,8 @@ use Rattle.pict_gather.specs.Reached.{Absent as absent, Reaches, not_there as no
 use Rattle.pict_front.specs.Front.{Front, Accepted, IsFront}
 use Rattle.pict_replay.specs.declared.judging.Verdict.TheVariants.{Yes, No}
 use Rattle.pict_top.specs.Origins.{origin_of, name_of, prelude_of, trace_of, TakesText, Works, builds}
-use Rattle.pict_top.specs.declared.run.Finish.{Finish}
-use Rattle.pict_top.specs.declared.run.Finish.TheVariants.{Done, FuelSpent, Trap}
+use Rattle.pict_machine.specs.declared.event.End.{End}
+use Rattle.pict_machine.specs.declared.event.End.TheVariants.{Done, FuelSpent, Trap}
 use Rattle.pict_top.specs.declared.status.Status.TheVariants as status
 use Rattle.pict_top.specs.Answer.{Answer, Absent, Refusal, Ended, Executed, IsReplayed, not_there, too_long, no_file, judged, IsBuilt, built, too_big, IsMade, IsWorked, IsDone, IsTextAnswer, IsExecuted, none_there, over_limit, no_object, executed, IsAnswer}
 use Rattle.pict_top.specs.Outcome.{Outcome, outcome_of}
@@ -53,7 +53,7 @@ module _ (G : List ℕ → Fetch → Type 0) (command : Command) where
 
   -- ---- where each text is there none is missing
 
-  ends_there : (sources : List Source) (finish : Finish) (bytes : List ℕ) → (outcome_of (Ended sources finish bytes)).status ≡ status.Missing → ⊥
+  ends_there : (sources : List Source) (end : End) (bytes : List ℕ) → (outcome_of (Ended sources end bytes)).status ≡ status.Missing → ⊥
   ends_there sources Done bytes is = cc
   ends_there sources FuelSpent bytes is = cc
   ends_there sources (Trap at) bytes is = cc
@@ -70,7 +70,7 @@ module _ (G : List ℕ → Fetch → Type 0) (command : Command) where
   built_there sources front a (too_big none) is = cc
 
   made_there : (b : Bool) (sources : List Source) (front : Front) (a : Answer) → IsMade b command sources front a → (outcome_of a).status ≡ status.Missing → ⊥
-  made_there false sources front a (finish, bytes, does, e) is = ends_there sources finish bytes (sym (ap (λ b. (outcome_of b).status) e) ∙ is)
+  made_there false sources front a (end, bytes, does, e) is = ends_there sources end bytes (sym (ap (λ b. (outcome_of b).status) e) ∙ is)
   made_there true sources front a made is = built_there sources front a made is
 
   worked_there : (sources : List Source) (front : Front) (t : Option (List ℕ)) (a : Answer) → ((trace : List ℕ) → t ≡ Some trace → G trace missing → ⊥) → IsWorked G command sources front t a
@@ -126,9 +126,9 @@ module _ (G : List ℕ → Fetch → Type 0) where
 -- ---- by whether it builds
 
 pub made_by_work : (sources : List Source) (front : Front) (command : Command) (o : Outcome) → builds command ≡ false → OwesWork sources front command o → OwesMade sources front command o
-made_by_work sources front command o none (finish, bytes, does, comes) =
-    let made : IsMade false command sources front (Ended sources finish bytes) = (finish, bytes, does, refl) in
-    (Ended sources finish bytes, subst (λ b. IsMade b command sources front (Ended sources finish bytes)) (sym none) made, comes)
+made_by_work sources front command o none (end, bytes, does, comes) =
+    let made : IsMade false command sources front (Ended sources end bytes) = (end, bytes, does, refl) in
+    (Ended sources end bytes, subst (λ b. IsMade b command sources front (Ended sources end bytes)) (sym none) made, comes)
 
 pub made_by_build : (sources : List Source) (front : Front) (command : Command) (o : Outcome) → builds command ≡ true → OwesObject sources front o → OwesMade sources front command o
 made_by_build sources front command o is (answer, made, comes) = (answer, subst (λ b. IsMade b command sources front answer) (sym is) made, comes)

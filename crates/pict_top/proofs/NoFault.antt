@@ -4,8 +4,8 @@ use Rattle.pict_syntax.specs.declared.limits.TheConstants.{SOURCE_LIMIT}
 use Rattle.pict_syntax.specs.declared.code.Code.TheVariants.{I2, I3, I4}
 use Rattle.pict_syntax.specs.declared.source.Source.{Source}
 use Rattle.pict_syntax.specs.declared.tree.Import.{Import}
+use Rattle.pict_syntax.specs.Stops.{Stop}
 use Rattle.pict_gather.specs.Phases.{Phase, accepts, refuses}
-use Rattle.pict_gather.specs.Reading.{Stop}
 use Rattle.pict_gather.specs.Sources.{visited, is_name_of, is_among}
 use Rattle.pict_gather.specs.Fetching.{Fetch, fault}
 use Rattle.pict_gather.specs.Gathered.{Gathered, EarlyEnd, refused, failed, is_import_name, refused_at, settled, Visits, too_long, unread, cut_off, whole, Along, none, next, stop, Leads, at_once, absent, unfetched, visit}

@@ -21,9 +21,9 @@ use Rattle.pict_front.specs.Front.{Front, Accepted, IsFront}
 use Rattle.pict_front.proofs.InOrder.{accepted_is_ordered}
 use Rattle.pict_replay.specs.declared.judging.Verdict.TheVariants.{Yes, No}
 use Rattle.pict_front.proofs.EachPhase.{one_front}
-use Rattle.pict_top.specs.Ends.{end_of}
-use Rattle.pict_top.specs.declared.run.Finish.{Finish}
-use Rattle.pict_top.specs.declared.run.Finish.TheVariants.{Done, FuelSpent, Trap}
+use Rattle.pict_machine.specs.Events.{end_of}
+use Rattle.pict_machine.specs.declared.event.End.{End}
+use Rattle.pict_machine.specs.declared.event.End.TheVariants.{Done, FuelSpent, Trap}
 use Rattle.pict_top.specs.Origins.{origin_of, name_of, prelude_of, trace_of, builds, given}
 use Rattle.pict_top.specs.Answer.{Answer, Absent, Refusal, Ended, Judged, Executed, IsAnswer, IsTextAnswer, IsBuilt, built, too_big, IsMade, IsWorked, IsDone, Does, Shows, Writing}
 use Rattle.pict_top.specs.Picking.{PicksAndShows, Recording}
@@ -40,18 +40,18 @@ use Rattle.pict_top.proofs.Executions.{one_executed}
 -- ---- answers
 
 -- the end of a command's work that is this end of a run
-abbrev finish_by : run.End → Finish
+abbrev finish_by : run.End → End
 finish_by run.Done = Done
 finish_by run.FuelSpent = FuelSpent
 finish_by (run.Trap at) = Trap at
 finish_by run.Misshapen = Done
 
-known_by : (e : Finish) → finish_by (end_of e) ≡ e
+known_by : (e : End) → finish_by (end_of e) ≡ e
 known_by Done = refl
 known_by FuelSpent = refl
 known_by (Trap at) = refl
 
-one_shown : (p : Process) (fuel : ℕ) (written : Writing) (e g : Finish) (a b : List ℕ) → Shows p fuel written e a → Shows p fuel written g b → (e ≡ g) × (a ≡ b)
+one_shown : (p : Process) (fuel : ℕ) (written : Writing) (e g : End) (a b : List ℕ) → Shows p fuel written e a → Shows p fuel written g b → (e ≡ g) × (a ≡ b)
 one_shown p fuel written e g a b x y =
     let one = one_run (opening p) fuel (end_of e) (end_of g) x.labels y.labels x.runs y.runs in
     let same : e ≡ g = sym (known_by e) ∙ ap finish_by one.0 ∙ known_by g in
@@ -59,16 +59,16 @@ one_shown p fuel written e g a b x y =
     λ i. written (steps_done (one.0 i) (one.2 i)) (same i) (one.1 i) in
     (same, x.shows ∙ bytes ∙ sym y.shows)
 
-one_pick : (p : Process) (seed fuel : ℕ) (written : Recording) (e g : Finish) (a b : List ℕ) → PicksAndShows p seed fuel written e a → PicksAndShows p seed fuel written g b → (e ≡ g) × (a ≡ b)
+one_pick : (p : Process) (seed fuel : ℕ) (written : Recording) (e g : End) (a b : List ℕ) → PicksAndShows p seed fuel written e a → PicksAndShows p seed fuel written g b → (e ≡ g) × (a ≡ b)
 one_pick p seed fuel written e g a b x y =
     let one = one_picked p seed fuel written e g a b x y in (sym (known_by e) ∙ ap finish_by one.0 ∙ known_by g, one.1)
 
-one_on_sites : (p : Process) (sites seed fuel : ℕ) (e g : Finish) (a b : List ℕ) → NetworkShows p sites seed fuel e a → NetworkShows p sites seed fuel g b → (e ≡ g) × (a ≡ b)
+one_on_sites : (p : Process) (sites seed fuel : ℕ) (e g : End) (a b : List ℕ) → NetworkShows p sites seed fuel e a → NetworkShows p sites seed fuel g b → (e ≡ g) × (a ≡ b)
 one_on_sites p sites seed fuel e g a b x y =
     let one = one_sited p sites seed fuel e g a b x y in (sym (known_by e) ∙ ap finish_by one.0 ∙ known_by g, one.1)
 
 -- a command's work has one end, and writes the same bytes
-one_work : (command : Command) (names : List (List ℕ)) (p : Process) (e g : Finish) (a b : List ℕ) → Does command names p e a → Does command names p g b → (e ≡ g) × (a ≡ b)
+one_work : (command : Command) (names : List (List ℕ)) (p : Process) (e g : End) (a b : List ℕ) → Does command names p e a → Does command names p g b → (e ≡ g) × (a ≡ b)
 one_work (Run o) names p e g a b x y = one_shown p o.fuel _ e g a b x y
 one_work (Trace o) names p e g a b x y = one_shown p o.fuel _ e g a b x y
 one_work (Check o) names p e g a b x y = (x.done ∙ sym y.done, x.nothing ∙ sym y.nothing)
@@ -96,7 +96,7 @@ one_made : (by : Bool) (command : Command) (sources : List Source) (front : Fron
 one_made true command sources front a b x y = one_built sources front a b x y
 one_made false command sources front a b (e, ls, r, x) (g, ms, s, y) =
     let one = one_work command front.names front.core e g ls ms r s in
-    x ∙ ap (λ finish. Ended sources finish ls) one.0 ∙ ap (Ended sources g) one.1 ∙ sym y
+    x ∙ ap (λ end. Ended sources end ls) one.0 ∙ ap (Ended sources g) one.1 ∙ sym y
 
 module _ (texts : Texts) (command : Command) where
   worked_once : (sources : List Source) (front : Front) (t : Option (List ℕ)) (a b : Answer) → HasNoRepeats front.names → IsWorked (MayGive (Some texts)) command sources front t a

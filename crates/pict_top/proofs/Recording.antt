@@ -21,7 +21,7 @@ use Rattle.pict_pick.proofs.Picking.{goes_beyond, seeds_pick_runs}
 use Rattle.pict_view.specs.View.{View, StandsFor}
 use Rattle.pict_view.specs.Stepping.{LeadsTo}
 use Rattle.pict_trace.specs.Lines.{line_text}
-use Rattle.pict_top.specs.Ends.{end_of}
+use Rattle.pict_machine.specs.Events.{end_of}
 use Rattle.pict_top.specs.Changes.{SinkChange, Gained, GainedFront, Untouched, Failed, FailedWithin}
 use Rattle.pict_replay.specs.Files.{choice_text}
 use Rattle.pict_replay.specs.Files.{trace_line}
@@ -31,8 +31,8 @@ use Rattle.pict_top.specs.Printed.{Finished, Somehow}
 use Rattle.pict_top.specs.declared.form.Form.TheVariants.{Printed, Line}
 use Rattle.pict_top.specs.declared.notes.Note.{Note}
 use Rattle.pict_top.specs.declared.notes.Note.TheVariants.{Choice, Shown}
-use Rattle.pict_top.specs.declared.run.Finish.{Finish}
-use Rattle.pict_top.specs.declared.run.Finish.TheVariants.{Done, FuelSpent, Trap}
+use Rattle.pict_machine.specs.declared.event.End.{End}
+use Rattle.pict_machine.specs.declared.event.End.TheVariants.{Done, FuelSpent, Trap}
 use Rattle.pict_top.proofs.Written.{written-append}
 use Rattle.pict_top.proofs.Picked.{HasPicked, PicksAt, run_done, run_spent, picked_as, picked_more}
 
@@ -101,21 +101,21 @@ wrote_nothing (Shown Line) names told = appends_nothing told told (keeps_same to
 -- ---- ends of the work
 
 -- an end that isn't by a wrong step is one of a command's work
-pub finish_that : (end : run.End) → end ≢ run.Misshapen → (finish : Finish) × (end_of finish ≡ end)
-finish_that run.Done fits = (Done, refl)
-finish_that run.FuelSpent fits = (FuelSpent, refl)
-finish_that (run.Trap at) fits = (Trap at, refl)
-finish_that run.Misshapen fits = absurd (fits refl)
+pub end_that : (end : run.End) → end ≢ run.Misshapen → (e : End) × (end_of e ≡ end)
+end_that run.Done fits = (Done, refl)
+end_that run.FuelSpent fits = (FuelSpent, refl)
+end_that (run.Trap at) fits = (Trap at, refl)
+end_that run.Misshapen fits = absurd (fits refl)
 
 -- a seed picks a run, whatever is written of it
-pub some_picked : (p : Process) (seed fuel : ℕ) (written : Recording) → IsClosed p → NoFreeRunIsWrong p → (finish : Finish) × (bytes : List ℕ) × PicksAndShows p seed fuel written finish bytes
+pub some_picked : (p : Process) (seed fuel : ℕ) (written : Recording) → IsClosed p → NoFreeRunIsWrong p → (end : End) × (bytes : List ℕ) × PicksAndShows p seed fuel written end bytes
 some_picked p seed fuel written closed right =
     let r = seeds_pick_runs p seed fuel closed right in
-    let f = finish_that r.0 r.4 in
+    let f = end_that r.0 r.4 in
     (f.0, written r.1 r.2, record { places = r.1; labels = r.2; runs = subst (λ e. PicksRun p seed fuel e r.1 r.2) (sym f.1) r.3; shows = refl })
 
 -- and it is one
-pub one_picked : (p : Process) (seed fuel : ℕ) (written : Recording) (e g : Finish) (a b : List ℕ) → PicksAndShows p seed fuel written e a → PicksAndShows p seed fuel written g b
+pub one_picked : (p : Process) (seed fuel : ℕ) (written : Recording) (e g : End) (a b : List ℕ) → PicksAndShows p seed fuel written e a → PicksAndShows p seed fuel written g b
     → (end_of e ≡ end_of g) × (a ≡ b)
 one_picked p seed fuel written e g a b x y =
     let one = picked_runs_are_one p seed fuel (end_of e) (end_of g) x.places y.places x.labels y.labels x.runs y.runs in
@@ -123,13 +123,13 @@ one_picked p seed fuel written e g a b x y =
 
 module _ (p : Process) (seed fuel : ℕ) (note : Note) (names : List (List ℕ)) where
   -- the run came to its end
-  pub picked_finished : (finish : Finish) (out : SinkChange) (places : List Place) (labels : List (ℕ × Label)) → PicksRun p seed fuel (end_of finish) places labels
-      → Gained out (notes_in note names places labels) → Finished (PicksAndShows p seed fuel (notes_in note names)) finish out
-  picked_finished finish out places labels runs wrote =
+  pub picked_finished : (end : End) (out : SinkChange) (places : List Place) (labels : List (ℕ × Label)) → PicksRun p seed fuel (end_of end) places labels
+      → Gained out (notes_in note names places labels) → Finished (PicksAndShows p seed fuel (notes_in note names)) end out
+  picked_finished end out places labels runs wrote =
       record { bytes = notes_in note names places labels; does = record { places = places; labels = labels; runs = runs; shows = refl }; written = wrote }
 
-  pub picked_ended : (steps : ℕ) (v : View) (g : Lcg) (finish : Finish) (out : SinkChange) → steps ≡ fuel → EndsWithoutFuel v.ready finish
-      → HasPicked p seed steps v g (λ ps ls. Gained out (notes_in note names ps ls)) → Finished (PicksAndShows p seed fuel (notes_in note names)) finish out
+  pub picked_ended : (steps : ℕ) (v : View) (g : Lcg) (end : End) (out : SinkChange) → steps ≡ fuel → EndsWithoutFuel v.ready end
+      → HasPicked p seed steps v g (λ ps ls. Gained out (notes_in note names ps ls)) → Finished (PicksAndShows p seed fuel (notes_in note names)) end out
   picked_ended steps v g Done out all none s = picked_finished Done out s.places s.labels (run_done p seed steps v g _ s fuel (omega (arith, all)) none) s.wrote
   picked_ended steps v g FuelSpent out all some s = picked_finished FuelSpent out s.places s.labels (run_spent p seed steps v g _ s fuel all some) s.wrote
   picked_ended steps v g (Trap at) out all never s = absurd never
@@ -139,11 +139,11 @@ module _ (p : Process) (seed fuel : ℕ) (note : Note) (names : List (List ℕ))
       → HasPicked p seed steps v g (λ ps ls. GainedFront out (notes_in note names ps ls)) → Somehow (PicksAndShows p seed fuel (notes_in note names)) (GainedFront out)
   picked_part steps v g out closed right few s =
       let on = goes_beyond p seed fuel closed right s.places s.labels s.last g s.picks (omega (arith, few, s.count)) in
-      let f = finish_that on.0 on.4 in
+      let f = end_that on.0 on.4 in
       let places : List Place = s.places ++ on.1 in
       let labels : List (ℕ × Label) = s.labels ++ on.2 in
       record {
-        finish = f.0;
+        end = f.0;
         bytes = notes_in note names places labels;
         does = record { places = places; labels = labels; runs = subst (λ e. PicksRun p seed fuel e places labels) (sym f.1) on.3; shows = refl };
         holds = subst (GainedFront out) (sym (notes-append note names s.places on.1 s.labels on.2))
@@ -171,18 +171,14 @@ module _ (p : Process) (seed fuel : ℕ) (note : Note) (names : List (List ℕ))
 pub picked_nothing : (p : Process) (seed fuel : ℕ) (written : Recording) (out : SinkChange) → IsClosed p → NoFreeRunIsWrong p → Untouched out → Somehow (PicksAndShows p seed fuel written) (GainedFront out)
 picked_nothing p seed fuel written out closed right kept =
     let some = some_picked p seed fuel written closed right in
-    record { finish = some.0; bytes = some.1; does = some.2; holds = front_of_none out.old_taken out.new_taken some.1 kept }
+    record { end = some.0; bytes = some.1; does = some.2; holds = front_of_none out.old_taken out.new_taken some.1 kept }
 
 -- work whose sink failed
-pub failed_within : (work : Finish → List ℕ → Type 0) (out : SinkChange) → Failed out → Somehow work (GainedFront out) → Somehow work (FailedWithin out)
-failed_within work out failed some = record { finish = some.finish; bytes = some.bytes; does = some.does; holds = record { part = some.holds; failed = failed } }
+pub failed_within : (work : End → List ℕ → Type 0) (out : SinkChange) → Failed out → Somehow work (GainedFront out) → Somehow work (FailedWithin out)
+failed_within work out failed some = record { end = some.end; bytes = some.bytes; does = some.does; holds = record { part = some.holds; failed = failed } }
 
-pub part_of : (work : Finish → List ℕ → Type 0) (out : SinkChange) → Somehow work (FailedWithin out) → Somehow work (GainedFront out)
-part_of work out some = record { finish = some.finish; bytes = some.bytes; does = some.does; holds = some.holds.part }
-
-pub if_ok : {T E : Type 0} (r : Result T E) (P Q : T → Type 0) → ((x : T) → P x → Q x) → IfOk r P → IfOk r Q
-if_ok (Ok x) P Q f p = f x p
-if_ok (Err e) P Q f p = p
+pub part_of : (work : End → List ℕ → Type 0) (out : SinkChange) → Somehow work (FailedWithin out) → Somehow work (GainedFront out)
+part_of work out some = record { end = some.end; bytes = some.bytes; does = some.does; holds = some.holds.part }
 
 -- a count that rose after a call rose since an earlier one
 pub rose_since : (old mid new : ℕ) → old ≤ mid → Rose mid new → Rose old new
@@ -191,20 +187,20 @@ rose_since old mid new few rose less = let more = rose less in omega (arith, few
 -- ---- choices, and then the trace
 
 module _ (p : Process) (seed fuel : ℕ) (names : List (List ℕ)) where
-  abbrev Records : Finish → List ℕ → Type 0
+  abbrev Records : End → List ℕ → Type 0
   Records = PicksAndShows p seed fuel (recorded names)
 
-  recorded_as : (finish : Finish) (bytes : List ℕ) (written : Recording) (x : PicksAndShows p seed fuel written finish bytes) → Records finish (recorded names x.places x.labels)
-  recorded_as finish bytes written x = record { places = x.places; labels = x.labels; runs = x.runs; shows = refl }
+  recorded_as : (end : End) (bytes : List ℕ) (written : Recording) (x : PicksAndShows p seed fuel written end bytes) → Records end (recorded names x.places x.labels)
+  recorded_as end bytes written x = record { places = x.places; labels = x.labels; runs = x.runs; shows = refl }
 
   -- among the choices
   pub choices_part : (out : SinkChange) → Somehow (PicksAndShows p seed fuel (notes_in Choice names)) (GainedFront out) → Somehow Records (GainedFront out)
   choices_part out some =
       let x = some.does in
       record {
-        finish = some.finish;
+        end = some.end;
         bytes = recorded names x.places x.labels;
-        does = recorded_as some.finish some.bytes (notes_in Choice names) x;
+        does = recorded_as some.end some.bytes (notes_in Choice names) x;
         holds = front_longer out.old_taken out.new_taken (picked_choices x.places x.labels) (trace_line ++ picked_lines names x.places x.labels) (subst (GainedFront out) x.shows some.holds);
       }
 
@@ -212,14 +208,14 @@ module _ (p : Process) (seed fuel : ℕ) (names : List (List ℕ)) where
   choices_failed out some = failed_within Records out some.holds.failed (choices_part out (part_of (PicksAndShows p seed fuel (notes_in Choice names)) out some))
 
   -- the choices are written, and the sink has taken this much
-  module _ (out : SinkChange) (mid : Option (List ℕ)) (first : Finish) (bytes : List ℕ) (x : PicksAndShows p seed fuel (notes_in Choice names) first bytes) (wrote : Appends out.old_taken mid bytes) where
+  module _ (out : SinkChange) (mid : Option (List ℕ)) (first : End) (bytes : List ℕ) (x : PicksAndShows p seed fuel (notes_in Choice names) first bytes) (wrote : Appends out.old_taken mid bytes) where
     choices : Appends out.old_taken mid (picked_choices x.places x.labels)
     choices = subst (Appends out.old_taken mid) x.shows wrote
 
     -- in the line between
     pub between : AppendsFront mid out.new_taken trace_line → Somehow Records (GainedFront out)
     between part = record {
-      finish = first;
+      end = first;
       bytes = recorded names x.places x.labels;
       does = recorded_as first bytes (notes_in Choice names) x;
       holds = front_then out.old_taken mid out.new_taken (picked_choices x.places x.labels) (trace_line ++ picked_lines names x.places x.labels) choices
@@ -227,7 +223,7 @@ module _ (p : Process) (seed fuel : ℕ) (names : List (List ℕ)) where
     }
 
     -- the choices of a second run are those of the first
-    again : (other : Finish) (more : List ℕ) (y : PicksAndShows p seed fuel (notes_in (Shown Line) names) other more) → Appends out.old_taken mid (picked_choices y.places y.labels)
+    again : (other : End) (more : List ℕ) (y : PicksAndShows p seed fuel (notes_in (Shown Line) names) other more) → Appends out.old_taken mid (picked_choices y.places y.labels)
     again other more y =
         let one = picked_runs_are_one p seed fuel (end_of first) (end_of other) x.places y.places x.labels y.labels x.runs y.runs in
         subst (λ (places : List Place). Appends out.old_taken mid (flat_map choice_text places)) one.1 choices
@@ -237,18 +233,18 @@ module _ (p : Process) (seed fuel : ℕ) (names : List (List ℕ)) where
     trace_part behind line some =
         let y = some.does in
         record {
-          finish = some.finish;
+          end = some.end;
           bytes = recorded names y.places y.labels;
-          does = recorded_as some.finish some.bytes (notes_in (Shown Line) names) y;
-          holds = front_then out.old_taken mid out.new_taken (picked_choices y.places y.labels) (trace_line ++ picked_lines names y.places y.labels) (again some.finish some.bytes y)
+          does = recorded_as some.end some.bytes (notes_in (Shown Line) names) y;
+          holds = front_then out.old_taken mid out.new_taken (picked_choices y.places y.labels) (trace_line ++ picked_lines names y.places y.labels) (again some.end some.bytes y)
               (front_then mid behind out.new_taken trace_line (picked_lines names y.places y.labels) line (subst (AppendsFront behind out.new_taken) y.shows some.holds));
         }
 
     -- all of it
-    pub trace_all : (behind : Option (List ℕ)) → Appends mid behind trace_line → (finish : Finish) (more : List ℕ) → PicksAndShows p seed fuel (notes_in (Shown Line) names) finish more → Appends behind out.new_taken more → Finished Records finish out
-    trace_all behind line finish more y all = record {
+    pub trace_all : (behind : Option (List ℕ)) → Appends mid behind trace_line → (end : End) (more : List ℕ) → PicksAndShows p seed fuel (notes_in (Shown Line) names) end more → Appends behind out.new_taken more → Finished Records end out
+    trace_all behind line end more y all = record {
       bytes = recorded names y.places y.labels;
-      does = recorded_as finish more (notes_in (Shown Line) names) y;
-      written = appends_then out.old_taken mid out.new_taken (picked_choices y.places y.labels) (trace_line ++ picked_lines names y.places y.labels) (again finish more y)
+      does = recorded_as end more (notes_in (Shown Line) names) y;
+      written = appends_then out.old_taken mid out.new_taken (picked_choices y.places y.labels) (trace_line ++ picked_lines names y.places y.labels) (again end more y)
           (appends_then mid behind out.new_taken trace_line (picked_lines names y.places y.labels) line (subst (Appends behind out.new_taken) y.shows all));
     }

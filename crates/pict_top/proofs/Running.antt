@@ -4,10 +4,10 @@ use Rattle.pict_outside.proofs.Gaining.{front_of_none}
 use Rattle.pict_core.specs.Term.{Process}
 use Rattle.pict_core.specs.Configuration.{Configuration, opening}
 use Rattle.pict_core.specs.Step.{Label}
-use Rattle.pict_core.specs.Run.{End, RunsFrom, printed_by, steps_done}
+use Rattle.pict_core.specs.Run.{printed_by, steps_done}
 use Rattle.pict_view.specs.Right.{RunsRight}
-use Rattle.pict_top.specs.Ends.{end_of}
-use Rattle.pict_top.specs.declared.run.Finish.{Finish}
+use Rattle.pict_machine.specs.Events.{end_of}
+use Rattle.pict_machine.specs.declared.event.End.{End}
 use Rattle.pict_view.specs.View.{View}
 use Rattle.pict_view.specs.Watching.{Ran, BrokeOff, Saw, SawOrTore}
 use Rattle.pict_top.specs.Answer.{Shows, Writing}
@@ -19,22 +19,21 @@ use Rattle.pict_top.proofs.Continuing.{continues_from}
 use Rattle.pict_top.proofs.Written.{saw_all, saw_part}
 
 -- what is written label by label is what is shown of all
-pub written_is_shown : (form : Form) (names : List (List ℕ)) (steps : ℕ) (finish : Finish) (labels : List (ℕ × Label)) → written_in (form_of form names) labels ≡ shown_in form names steps finish labels
-written_is_shown Printed names steps finish [] = refl
-written_is_shown Printed names steps finish (l ∷ ls) = ap (λ b. printed_by l.1 ++ b) (written_is_shown Printed names steps finish ls)
-written_is_shown Line names steps finish labels = refl
+pub written_is_shown : (form : Form) (names : List (List ℕ)) (steps : ℕ) (end : End) (labels : List (ℕ × Label)) → written_in (form_of form names) labels ≡ shown_in form names steps end labels
+written_is_shown Printed names steps end [] = refl
+written_is_shown Printed names steps end (l ∷ ls) = ap (λ b. printed_by l.1 ++ b) (written_is_shown Printed names steps end ls)
+written_is_shown Line names steps end labels = refl
 
 module _ (form : Form) (names : List (List ℕ)) (p : Process) (fuel : ℕ) where
-  pub has_run : (v : View) (out : SinkChange) (end : End) (finish : Finish) → end ≡ end_of finish → Ran (opening p) fuel end v (Saw (written_after (form_of form names)) out.old_taken out.new_taken)
-      → Finished (Shows p fuel (shown_in form names)) finish out
-  has_run v out end finish is ran =
+  pub has_run : (v : View) (out : SinkChange) (end : End) → Ran (opening p) fuel (end_of end) v (Saw (written_after (form_of form names)) out.old_taken out.new_taken)
+      → Finished (Shows p fuel (shown_in form names)) end out
+  has_run v out end ran =
       let written = saw_all (form_of form names) out.old_taken out.new_taken ran.labels ran.seen in
-      let runs : RunsFrom (opening p) fuel (end_of finish) ran.labels = subst (λ e. RunsFrom (opening p) fuel e ran.labels) is ran.runs in
-      let steps : ℕ = steps_done (end_of finish) runs.steps in
+      let steps : ℕ = steps_done (end_of end) ran.runs.steps in
       record {
-        bytes = shown_in form names steps finish ran.labels;
-        does = record { labels = ran.labels; runs = runs; shows = refl };
-        written = subst (Gained out) (written_is_shown form names steps finish ran.labels) written;
+        bytes = shown_in form names steps end ran.labels;
+        does = record { labels = ran.labels; runs = ran.runs; shows = refl };
+        written = subst (Gained out) (written_is_shown form names steps end ran.labels) written;
       }
 
 module _ (form : Form) (names : List (List ℕ)) (p : Process) (fuel : ℕ) (right : RunsRight p fuel) where
@@ -44,23 +43,23 @@ module _ (form : Form) (names : List (List ℕ)) (p : Process) (fuel : ℕ) (rig
   some_run_part Stands out broke =
       let on = continues_from broke.steps (opening p) fuel broke.labels broke.last right broke.few broke.reached in
       let labels : List (ℕ × Label) = broke.labels ++ on.rest in
-      let steps : ℕ = steps_done (end_of on.finish) on.runs.steps in
+      let steps : ℕ = steps_done (end_of on.end) on.runs.steps in
       record {
-        finish = on.finish;
-        bytes = shown_in form names steps on.finish labels;
+        end = on.end;
+        bytes = shown_in form names steps on.end labels;
         does = record { labels = labels; runs = on.runs; shows = refl };
-        holds = subst (GainedFront out) (written_is_shown form names steps on.finish labels) (saw_part (form_of form names) out.old_taken out.new_taken broke.labels on.rest broke.seen);
+        holds = subst (GainedFront out) (written_is_shown form names steps on.end labels) (saw_part (form_of form names) out.old_taken out.new_taken broke.labels on.rest broke.seen);
       }
 
   pub some_run_failed : (Stands : Configuration → Type 0) (out : SinkChange) → BrokeOff (opening p) fuel Stands (SawOrTore (written_after (form_of form names)) (WrittenInPart (form_of form names)) out.old_taken out.new_taken)
       → Failed out → Somehow (Shows p fuel (shown_in form names)) (FailedWithin out)
   some_run_failed Stands out broke failed =
       let some = some_run_part Stands out broke in
-      record { finish = some.finish; bytes = some.bytes; does = some.does; holds = record { part = some.holds; failed = failed } }
+      record { end = some.end; bytes = some.bytes; does = some.does; holds = record { part = some.holds; failed = failed } }
 
 -- a process that runs rightly has a run
 pub some_run : (p : Process) (fuel : ℕ) (written : Writing) (out : SinkChange) → RunsRight p fuel → Untouched out → Somehow (Shows p fuel written) (GainedFront out)
 some_run p fuel written out right kept =
     let on = continues_from 0 (opening p) fuel [] (opening p) right (omega arith) (refl, refl) in
-    let bytes : List ℕ = written (steps_done (end_of on.finish) on.runs.steps) on.finish on.rest in
-    record { finish = on.finish; bytes = bytes; does = record { labels = on.rest; runs = on.runs; shows = refl }; holds = front_of_none out.old_taken out.new_taken bytes kept }
+    let bytes : List ℕ = written (steps_done (end_of on.end) on.runs.steps) on.end on.rest in
+    record { end = on.end; bytes = bytes; does = record { labels = on.rest; runs = on.runs; shows = refl }; holds = front_of_none out.old_taken out.new_taken bytes kept }

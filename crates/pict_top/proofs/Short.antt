@@ -6,8 +6,8 @@ use Rattle.std.specs.Borrow.{Bor}
 use Rattle.pict_syntax.specs.declared.limits.TheConstants.{TEXT_LIMIT}
 use Rattle.pict_syntax.specs.declared.source.Source.{Source}
 use Rattle.pict_syntax.specs.declared.tree.Import.{Import}
+use Rattle.pict_syntax.specs.Stops.{Stop}
 use Rattle.pict_gather.specs.Phases.{Phase, accepts, refuses}
-use Rattle.pict_gather.specs.Reading.{Stop}
 use Rattle.pict_gather.specs.Fetching.{Fetch}
 use Rattle.pict_gather.specs.Gathered.{Gathered, EarlyEnd, refused, failed, with_source, settled, Visits, too_long, unread, cut_off, whole, Along, none, next, stop, Leads, at_once, absent, unfetched, visit}
 use Rattle.pict_gather.specs.Reached.{Reached, Absent, Gathering, first_source, Gathers, bare, unread_prelude, behind_prelude, Reaches, not_there, unfetched_file, there}

@@ -19,34 +19,34 @@ use Rattle.pict_sites.specs.Runs.{RanOn, BrokeOffOn, IsRightFrom}
 use Rattle.pict_view.specs.Watching.{Saw, SawOrTore}
 use Rattle.pict_top.specs.Answer.{Shows, printed}
 use Rattle.pict_top.specs.Changes.{SinkChange, Gained, GainedFront, FailedWithin, Failed, Untouched}
-use Rattle.pict_top.specs.Ends.{end_of}
+use Rattle.pict_machine.specs.Events.{end_of}
 use Rattle.pict_top.specs.Laws.{OneSiteRunsAsText}
 use Rattle.pict_top.specs.Printed.{form_of, written_after, WrittenInPart, Finished, Somehow}
 use Rattle.pict_top.specs.Siting.{NetworkShows}
 use Rattle.pict_top.specs.declared.form.Form.TheVariants.{Printed}
-use Rattle.pict_top.specs.declared.run.Finish.{Finish}
-use Rattle.pict_top.specs.declared.run.Finish.TheVariants.{Done}
-use Rattle.pict_top.proofs.Recording.{finish_that}
+use Rattle.pict_machine.specs.declared.event.End.{End}
+use Rattle.pict_machine.specs.declared.event.End.TheVariants.{Done}
+use Rattle.pict_top.proofs.Recording.{end_that}
 use Rattle.pict_top.proofs.Running.{written_is_shown}
 use Rattle.pict_top.proofs.Written.{saw_all, saw_part}
 
 -- a seed chooses a run
-pub some_sited : (p : Process) (sites seed fuel : ℕ) → IsClosed p → NoFreeRunIsWrong p → (finish : Finish) × (bytes : List ℕ) × NetworkShows p sites seed fuel finish bytes
+pub some_sited : (p : Process) (sites seed fuel : ℕ) → IsClosed p → NoFreeRunIsWrong p → (end : End) × (bytes : List ℕ) × NetworkShows p sites seed fuel end bytes
 some_sited p sites seed fuel closed right =
     let r = seeds_choose_runs (sites - 1) p seed fuel closed right in
-    let f = finish_that r.0 r.3 in
+    let f = end_that r.0 r.3 in
     (f.0, bytes_of r.1, record { labels = r.1; runs = subst (λ e. SeedRuns (sites - 1) p seed fuel e r.1) (sym f.1) r.2; shows = refl })
 
 -- and it is one
-pub one_sited : (p : Process) (sites seed fuel : ℕ) (e g : Finish) (a b : List ℕ) → NetworkShows p sites seed fuel e a → NetworkShows p sites seed fuel g b → (end_of e ≡ end_of g) × (a ≡ b)
+pub one_sited : (p : Process) (sites seed fuel : ℕ) (e g : End) (a b : List ℕ) → NetworkShows p sites seed fuel e a → NetworkShows p sites seed fuel g b → (end_of e ≡ end_of g) × (a ≡ b)
 one_sited p sites seed fuel e g a b x y =
     let one = seed_runs_are_one (sites - 1) p seed fuel (end_of e) (end_of g) x.labels y.labels x.runs y.runs in
     (one.0, x.shows ∙ ap bytes_of one.1 ∙ sym y.shows)
 
 -- on one site it is that of `run`
 pub one_site_runs_as_text : OneSiteRunsAsText
-one_site_runs_as_text p seed fuel finish bytes closed x =
-    let r = one_site_runs_oldest_first p seed fuel (end_of finish) x.labels x.runs closed in
+one_site_runs_as_text p seed fuel end bytes closed x =
+    let r = one_site_runs_oldest_first p seed fuel (end_of end) x.labels x.runs closed in
     record { labels = x.labels; runs = r.0; shows = x.shows }
 
 -- ---- a run that broke off
@@ -94,12 +94,12 @@ module _ (others : ℕ) (p : Process) (seed fuel : ℕ) (right : IsRightFrom (op
 
 module _ (names : List (List ℕ)) (p : Process) (sites seed fuel : ℕ) (g : Lcg) (from : g ≡ generator seed) where
   -- the run came to its end
-  pub has_run_on : (Stands : Network → Type 0) (out : SinkChange) (end : run.End) (finish : Finish) → end ≡ end_of finish
-      → RanOn Stands (opening_network (sites - 1) p) g fuel end (Saw (written_after (form_of Printed names)) out.old_taken out.new_taken)
-      → Finished (NetworkShows p sites seed fuel) finish out
-  has_run_on Stands out end finish is ran =
+  pub has_run_on : (Stands : Network → Type 0) (out : SinkChange) (end : End)
+      → RanOn Stands (opening_network (sites - 1) p) g fuel (end_of end) (Saw (written_after (form_of Printed names)) out.old_taken out.new_taken)
+      → Finished (NetworkShows p sites seed fuel) end out
+  has_run_on Stands out end ran =
       let labels : List (ℕ × Label) = ran.comes.labels in
-      let runs : SeedRuns (sites - 1) p seed fuel end labels =
+      let runs : SeedRuns (sites - 1) p seed fuel (end_of end) labels =
       record {
         count = ran.count;
         steps = ran.steps;
@@ -110,7 +110,7 @@ module _ (names : List (List ℕ)) (p : Process) (sites seed fuel : ℕ) (g : Lc
       } in
       record {
         bytes = bytes_of labels;
-        does = record { labels = labels; runs = subst (λ e. SeedRuns (sites - 1) p seed fuel e labels) is runs; shows = refl };
+        does = record { labels = labels; runs = runs; shows = refl };
         written = subst (Gained out) (written_is_shown Printed names 0 Done labels) (saw_all (form_of Printed names) out.old_taken out.new_taken labels ran.comes.seen);
       }
 
@@ -122,10 +122,10 @@ module _ (names : List (List ℕ)) (p : Process) (sites seed fuel : ℕ) (g : Lc
     some_run_on_part Stands out broke =
         let chooses = subst (λ k. Chooses (opening_network (sites - 1) p) k broke.count broke.steps broke.comes.labels broke.comes.last broke.after) from broke.comes.chooses in
         let on = goes_beyond (sites - 1) p seed fuel right broke.count broke.steps broke.comes.labels broke.comes.last broke.after chooses broke.few in
-        let f = finish_that on.0 on.3 in
+        let f = end_that on.0 on.3 in
         let labels : List (ℕ × Label) = broke.comes.labels ++ on.1 in
         record {
-          finish = f.0;
+          end = f.0;
           bytes = bytes_of labels;
           does = record { labels = labels; runs = subst (λ e. SeedRuns (sites - 1) p seed fuel e labels) (sym f.1) on.2; shows = refl };
           holds = subst (GainedFront out) (written_is_shown Printed names 0 Done labels) (saw_part (form_of Printed names) out.old_taken out.new_taken broke.comes.labels on.1 broke.comes.seen);
@@ -136,10 +136,10 @@ module _ (names : List (List ℕ)) (p : Process) (sites seed fuel : ℕ) (g : Lc
         → Failed out → Somehow (NetworkShows p sites seed fuel) (FailedWithin out)
     some_run_on_failed Stands out broke failed =
         let some = some_run_on_part Stands out broke in
-        record { finish = some.finish; bytes = some.bytes; does = some.does; holds = record { part = some.holds; failed = failed } }
+        record { end = some.end; bytes = some.bytes; does = some.does; holds = record { part = some.holds; failed = failed } }
 
 -- nothing is written
 pub sited_nothing : (p : Process) (sites seed fuel : ℕ) (out : SinkChange) → IsClosed p → NoFreeRunIsWrong p → Untouched out → Somehow (NetworkShows p sites seed fuel) (GainedFront out)
 sited_nothing p sites seed fuel out closed right kept =
     let some = some_sited p sites seed fuel closed right in
-    record { finish = some.0; bytes = some.1; does = some.2; holds = front_of_none out.old_taken out.new_taken some.1 kept }
+    record { end = some.0; bytes = some.1; does = some.2; holds = front_of_none out.old_taken out.new_taken some.1 kept }

@@ -22,9 +22,9 @@ use Rattle.pict_front.proofs.ObjectCores.{accepted_has_object}
 use Rattle.pict_object.specs.Cores.{IsObjectCore}
 use Rattle.pict_built.proofs.Sized.{sized}
 use Rattle.pict_syntax.specs.declared.limits.TheConstants.{OBJECT_LIMIT}
-use Rattle.pict_top.specs.Ends.{end_of}
-use Rattle.pict_top.specs.declared.run.Finish.{Finish}
-use Rattle.pict_top.specs.declared.run.Finish.TheVariants.{Done}
+use Rattle.pict_machine.specs.Events.{end_of}
+use Rattle.pict_machine.specs.declared.event.End.{End}
+use Rattle.pict_machine.specs.declared.event.End.TheVariants.{Done}
 use Rattle.pict_top.specs.Origins.{origin_of, name_of, prelude_of, trace_of, TakesText, Works, builds, given}
 use Rattle.pict_top.specs.Answer.{Answer, Absent, Refusal, Ended, IsAnswer, IsBuilt, built, too_big, IsMade, IsWorked, IsDone, Does, Shows, Writing}
 use Rattle.pict_top.specs.Outcome.{Outcome, outcome_of, usage_outcome}
@@ -45,13 +45,13 @@ use Rattle.pict_top.proofs.Load.{told_load, one_of_load, never_asked}
 
 -- ---- answers
 
-some_shown : (p : Process) (fuel : ℕ) (written : Writing) → RunsRight p fuel → (e : Finish) × (bytes : List ℕ) × Shows p fuel written e bytes
+some_shown : (p : Process) (fuel : ℕ) (written : Writing) → RunsRight p fuel → (e : End) × (bytes : List ℕ) × Shows p fuel written e bytes
 some_shown p fuel written right =
     let on = continues_from 0 (opening p) fuel [] (opening p) right (omega arith) (refl, refl) in
-    (on.finish, written (steps_done (end_of on.finish) on.runs.steps) on.finish on.rest, record { labels = on.rest; runs = on.runs; shows = refl })
+    (on.end, written (steps_done (end_of on.end) on.runs.steps) on.end on.rest, record { labels = on.rest; runs = on.runs; shows = refl })
 
 -- a command's work ends somehow
-some_work : (command : Command) (names : List (List ℕ)) (p : Process) → Works command → IsClosed p → NoFreeRunIsWrong p → (e : Finish) × (bytes : List ℕ) × Does command names p e bytes
+some_work : (command : Command) (names : List (List ℕ)) (p : Process) → Works command → IsClosed p → NoFreeRunIsWrong p → (e : End) × (bytes : List ℕ) × Does command names p e bytes
 some_work (Run o) names p works closed right = some_shown p o.fuel _ (runs_right p closed right o.fuel)
 some_work (Trace o) names p works closed right = some_shown p o.fuel _ (runs_right p closed right o.fuel)
 some_work (Check o) names p works closed right = (Done, [], record { done = refl; nothing = refl })

@@ -32,47 +32,47 @@ use Rattle.pict_load.specs.Text.{load_text}
 use Rattle.pict_load.specs.Counted.{communications_of}
 use Rattle.pict_load.specs.Summary.{summary_text}
 use Rattle.pict_top.specs.Origins.{origin_of, name_of, prelude_of, trace_of, builds}
-use Rattle.pict_top.specs.Ends.{end_of, machine_end}
+use Rattle.pict_machine.specs.Events.{end_of}
 use Rattle.pict_top.specs.Picking.{PicksAndShows, picked_bytes, recorded}
 use Rattle.pict_top.specs.Siting.{NetworkShows}
-use Rattle.pict_top.specs.declared.run.Finish.{Finish}
-use Rattle.pict_top.specs.declared.run.Finish.TheVariants.{Done}
+use Rattle.pict_machine.specs.declared.event.End.{End}
+use Rattle.pict_machine.specs.declared.event.End.TheVariants.{Done}
 
 -- What a command does with an accepted program: how it ends, and which bytes it writes.
 abbrev pub Work : Type 1
-Work = Finish → List ℕ → Type 0
+Work = End → List ℕ → Type 0
 
 -- what is written of a run, by the number of steps done, its end and its labels
 abbrev pub Writing : Type 0
-Writing = ℕ → Finish → List (ℕ × Label) → List ℕ
+Writing = ℕ → End → List (ℕ × Label) → List ℕ
 
 -- The process runs with this fuel, and what is written are these bytes of its run.
-pub record Shows (process : Process) (fuel : ℕ) (written : Writing) (finish : Finish) (bytes : List ℕ) : Type 0 where
+pub record Shows (process : Process) (fuel : ℕ) (written : Writing) (end : End) (bytes : List ℕ) : Type 0 where
   pub labels : List (ℕ × Label)
-  pub runs : Runs process fuel (end_of finish) labels
-  pub shows : bytes ≡ written (steps_done (end_of finish) runs.steps) finish labels
+  pub runs : Runs process fuel (end_of end) labels
+  pub shows : bytes ≡ written (steps_done (end_of end) runs.steps) end labels
 
 -- the bytes that are printed
 abbrev pub printed : Writing
-printed steps finish labels = bytes_of labels
+printed steps end labels = bytes_of labels
 
 -- a line for each communication and each printing
 abbrev pub traced : List (List ℕ) → Writing
-traced names steps finish labels = lines_text names labels
+traced names steps end labels = lines_text names labels
 
 -- the summary of the run of the program that is made from n
 abbrev pub summed_up : ℕ → Writing
-summed_up n steps finish labels =
-    summary_text n (length (load_text n)) (record { end = machine_end finish; steps = steps; communications = communications_of labels; printed = length (bytes_of labels) })
+summed_up n steps end labels =
+    summary_text n (length (load_text n)) (record { end = end; steps = steps; communications = communications_of labels; printed = length (bytes_of labels) })
 
 -- The listing of the process' instructions is written, and that is all.
-pub record Lists (names : List (List ℕ)) (process : Process) (finish : Finish) (bytes : List ℕ) : Type 0 where
-  pub done : finish ≡ Done
+pub record Lists (names : List (List ℕ)) (process : Process) (end : End) (bytes : List ℕ) : Type 0 where
+  pub done : end ≡ Done
   pub listing : bytes ≡ listing_text names (nodes_of process)
 
 -- The program is accepted, and that is all: nothing is written.
-pub record IsChecked (finish : Finish) (bytes : List ℕ) : Type 0 where
-  pub done : finish ≡ Done
+pub record IsChecked (end : End) (bytes : List ℕ) : Type 0 where
+  pub done : end ≡ Done
   pub nothing : bytes ≡ []
 
 -- What a command does with the names and the core process of a program: a row for each command. `replay` checks it as `check` does;
@@ -87,8 +87,8 @@ Does (Load n) names process = Shows process default_fuel (summed_up n)
 Does (Pick seed options) names process = PicksAndShows process seed options.fuel picked_bytes
 Does (Picked seed options) names process = PicksAndShows process seed options.fuel (recorded names)
 Does (Replay options trace) names process = IsChecked
-Does (Build options) names process = λ finish bytes. ⊥
-Does (Exec fuel object) names process = λ finish bytes. ⊥
+Does (Build options) names process = λ end bytes. ⊥
+Does (Exec fuel object) names process = λ end bytes. ⊥
 Does (Sites sites seed options) names process = NetworkShows process sites seed options.fuel
 
 -- With the name of the text that isn't there, or with the texts that were read. A refusal, and how the work ended, may stand in any of them.
@@ -96,7 +96,7 @@ Does (Sites sites seed options) names process = NetworkShows process sites seed 
 pub data Answer : Type 0 where
   Absent : List ℕ → Answer
   Refusal : List Source → refusals.Code → Span → Answer
-  Ended : List Source → Finish → List ℕ → Answer
+  Ended : List Source → End → List ℕ → Answer
   Judged : Verdict → Answer
   Executed : List ℕ → ExecEnd → List ℕ → Answer
 
@@ -126,7 +126,7 @@ pub data IsBuilt (sources : List Source) (front : Front) : Answer → Type 0 whe
 -- what a command comes to with an accepted program alone, by whether it builds
 abbrev pub IsMade : Bool → Command → List Source → Front → Answer → Type 0
 IsMade false command sources front answer =
-    (finish : Finish) × (bytes : List ℕ) × Does command front.names front.core finish bytes × (answer ≡ Ended sources finish bytes)
+    (end : End) × (bytes : List ℕ) × Does command front.names front.core end bytes × (answer ≡ Ended sources end bytes)
 IsMade true command sources front answer = IsBuilt sources front answer
 
 -- what a command comes to with an accepted program, by the name of its replay file, where it takes one

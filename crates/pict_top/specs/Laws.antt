@@ -18,7 +18,7 @@ use Rattle.pict_top.specs.Answer.{Judged, Executed, Shows, printed, IsReplayed, 
 use Rattle.pict_top.specs.Origins.{File, prelude_of}
 use Rattle.pict_top.specs.Picking.{PicksAndShows, recorded}
 use Rattle.pict_top.specs.Siting.{NetworkShows}
-use Rattle.pict_top.specs.declared.run.Finish.{Finish}
+use Rattle.pict_machine.specs.declared.event.End.{End}
 use Rattle.pict_top.specs.Outcome.{Outcome, status_of_end, status_of_guarded}
 use Rattle.pict_top.specs.Owed.{OwesWords, FaultsWords}
 
@@ -36,22 +36,22 @@ LoadNeedsNoShelf =
 -- nest no deeper than in a line that is read, is answered `yes` over the same program.
 abbrev pub PickedIsAnswered : Type 0
 PickedIsAnswered =
-    (held : Option Texts) (alone : Bool) (file trace bytes : List ℕ) (a : Accepted) (seed fuel : ℕ) (finish : Finish)
+    (held : Option Texts) (alone : Bool) (file trace bytes : List ℕ) (a : Accepted) (seed fuel : ℕ) (end : End)
     → IsFront (MayGive held) (prelude_of (File alone file)) file (Some (accepts a))
-    → (r : PicksAndShows a.front.core seed fuel (recorded a.front.names) finish bytes) → AllByRecursion NestsWithin r.labels → length bytes ≤ TEXT_LIMIT
+    → (r : PicksAndShows a.front.core seed fuel (recorded a.front.names) end bytes) → AllByRecursion NestsWithin r.labels → length bytes ≤ TEXT_LIMIT
     → MayGive held trace (text bytes) → IsReplayed (MayGive held) trace a.front (Judged Yes)
 
 -- On one site a program runs as `run` runs it, whatever the seed: it ends so, and prints the same bytes.
 abbrev pub OneSiteRunsAsText : Type 0
 OneSiteRunsAsText =
-    (process : Process) (seed fuel : ℕ) (finish : Finish) (bytes : List ℕ) → IsClosed process
-    → NetworkShows process 1 seed fuel finish bytes → Shows process fuel printed finish bytes
+    (process : Process) (seed fuel : ℕ) (end : End) (bytes : List ℕ) → IsClosed process
+    → NetworkShows process 1 seed fuel end bytes → Shows process fuel printed end bytes
 
 -- The object of an accepted program, as `build` writes it, is run by `exec` as `run` runs the program, whatever the fuel: with the same
 -- status, which is never Misshapen, and the same bytes.
 abbrev pub BuiltRunsAsText : Type 0
 BuiltRunsAsText =
-    (held : Option Texts) (prelude : Option (List ℕ)) (file object t bytes : List ℕ) (a : Accepted) (fuel : ℕ) (finish : Finish)
+    (held : Option Texts) (prelude : Option (List ℕ)) (file object t bytes : List ℕ) (a : Accepted) (fuel : ℕ) (end : End)
     → IsFront (MayGive held) prelude file (Some (accepts a)) → IsObject a.front.names t a.front.core → length t ≤ OBJECT_LIMIT → AreBytes t
-    → MayGive held object (text t) → Shows a.front.core fuel printed finish bytes
-    → (end : ExecEnd) × (status_of_guarded end ≡ status_of_end finish) × IsExecuted (MayGive held) object fuel (Executed object end bytes)
+    → MayGive held object (text t) → Shows a.front.core fuel printed end bytes
+    → (end : ExecEnd) × (status_of_guarded end ≡ status_of_end end) × IsExecuted (MayGive held) object fuel (Executed object end bytes)

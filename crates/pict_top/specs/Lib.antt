@@ -1,6 +1,5 @@
 pub mod Numbers
 pub mod Origins
-pub mod Ends
 pub mod Picking
 pub mod Siting
 pub mod Answer

@@ -3,8 +3,8 @@ use Rattle.std.specs.Prelude.{◌≡◌, ◌⊎◌, ℕ, List}
 use Rattle.pict_syntax.specs.declared.source.Source.{Source}
 use Rattle.pict_top.specs.Outcome.{Outcome}
 use Rattle.pict_top.specs.Changes.{SinkChange, Untouched, Gained, GainedFront, FailedWithin}
-use Rattle.pict_top.specs.declared.run.Finish.{Finish}
-use Rattle.pict_top.specs.declared.run.Finish.TheVariants.{Done, FuelSpent, Trap}
+use Rattle.pict_machine.specs.declared.event.End.{End}
+use Rattle.pict_machine.specs.declared.event.End.TheVariants.{Done, FuelSpent, Trap}
 use Rattle.pict_exec.specs.declared.guarded.ExecEnd.{ExecEnd}
 use Rattle.pict_exec.specs.declared.guarded.ExecEnd.TheVariants as guarded
 use Rattle.pict_report.specs.Reports.{position_of, spent_report, trap_report, object_trap_report, misshapen_report}
@@ -50,7 +50,7 @@ abbrev pub Reports : Status → List ℕ → SinkChange → Status → Type 0
 Reports status text err result = Tells status text err result ⊎ ((result ≡ Memory) × Untouched err)
 
 -- what is reported behind the end of the work: nothing of work that is done
-abbrev pub EndReports : List Source → Finish → SinkChange → Status → Type 0
+abbrev pub EndReports : List Source → End → SinkChange → Status → Type 0
 EndReports sources Done err result = (result ≡ status.Done) × Untouched err
 EndReports sources FuelSpent err result = Tells status.FuelSpent spent_report err result
 EndReports sources (Trap at) err result = Reports status.Trap (trap_report (position_of sources at)) err result

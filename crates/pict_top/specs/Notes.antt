@@ -9,8 +9,8 @@ use Rattle.pict_trace.specs.Lines.{line_text}
 use Rattle.pict_top.specs.Picking.{Recording, picked_bytes, picked_lines, picked_choices}
 use Rattle.pict_top.specs.declared.form.Form.{Form}
 use Rattle.pict_top.specs.declared.form.Form.TheVariants.{Printed, Line}
-use Rattle.pict_top.specs.declared.run.Finish.{Finish}
-use Rattle.pict_top.specs.declared.run.Finish.TheVariants.{Done, FuelSpent, Trap}
+use Rattle.pict_machine.specs.declared.event.End.{End}
+use Rattle.pict_machine.specs.declared.event.End.TheVariants.{Done, FuelSpent, Trap}
 use Rattle.pict_top.specs.declared.notes.Note.{Note}
 use Rattle.pict_top.specs.declared.notes.Note.TheVariants.{Choice, Shown}
 use Rattle.pict_top.specs.declared.notes.Place.{Place}
@@ -38,7 +38,7 @@ notes_in (Shown Printed) names = picked_bytes
 notes_in (Shown Line) names = picked_lines names
 
 -- how a run ends without fuel, by the ready processes
-abbrev pub EndsWithoutFuel : List Process → Finish → Type 0
+abbrev pub EndsWithoutFuel : List Process → End → Type 0
 EndsWithoutFuel ready Done = ready ≡ []
 EndsWithoutFuel ready FuelSpent = ready ≢ []
 EndsWithoutFuel ready (Trap at) = ⊥

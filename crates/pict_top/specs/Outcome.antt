@@ -2,8 +2,8 @@
 use Rattle.std.specs.Prelude.{ℕ, ◌-◌, List, [], ◌∷◌, ◌++◌, length, codes}
 use Rattle.std.specs.Fmt.{decimal}
 use Rattle.pict_syntax.specs.declared.source.Source.{Source}
-use Rattle.pict_top.specs.declared.run.Finish.{Finish}
-use Rattle.pict_top.specs.declared.run.Finish.TheVariants.{Done, FuelSpent, Trap}
+use Rattle.pict_machine.specs.declared.event.End.{End}
+use Rattle.pict_machine.specs.declared.event.End.TheVariants.{Done, FuelSpent, Trap}
 use Rattle.pict_exec.specs.declared.guarded.ExecEnd.{ExecEnd}
 use Rattle.pict_exec.specs.declared.guarded.ExecEnd.TheVariants as guarded
 use Rattle.pict_replay.specs.declared.judging.Verdict.{Verdict}
@@ -19,13 +19,13 @@ pub record Outcome : Type 0 where
   pub printed : List ℕ
   pub report : List ℕ
 
-abbrev pub status_of_end : Finish → Status
+abbrev pub status_of_end : End → Status
 status_of_end Done = status.Done
 status_of_end FuelSpent = status.FuelSpent
 status_of_end (Trap at) = status.Trap
 
 -- what is reported of an end, which may stand in any of the texts: nothing of work that is done
-abbrev pub report_of_end : List Source → Finish → List ℕ
+abbrev pub report_of_end : List Source → End → List ℕ
 report_of_end sources Done = []
 report_of_end sources FuelSpent = spent_report
 report_of_end sources (Trap at) = trap_report (position_of sources at)
@@ -56,7 +56,7 @@ report_of_guarded object guarded.Misshapen = misshapen_report object
 abbrev pub outcome_of : Answer → Outcome
 outcome_of (Absent name) = record { status = status.Missing; printed = []; report = missing_report name }
 outcome_of (Refusal sources code span) = record { status = status.Refused; printed = []; report = refusal_report (position_of sources span) code }
-outcome_of (Ended sources finish bytes) = record { status = status_of_end finish; printed = bytes; report = report_of_end sources finish }
+outcome_of (Ended sources end bytes) = record { status = status_of_end end; printed = bytes; report = report_of_end sources end }
 outcome_of (Judged verdict) = record { status = status_of_verdict verdict; printed = verdict_line verdict; report = [] }
 outcome_of (Executed object end bytes) = record { status = status_of_guarded end; printed = bytes; report = report_of_guarded object end }
 

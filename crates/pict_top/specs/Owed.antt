@@ -9,7 +9,7 @@ use Rattle.pict_gather.specs.Gathered.{failed}
 use Rattle.pict_front.specs.Front.{Front, Accepted, IsFront}
 use Rattle.pict_top.specs.Origins.{Origin, origin_of, name_of, prelude_of, trace_of, TakesText, builds, AsksShelf, given, given_each}
 use Rattle.pict_top.specs.Answer.{Answer, Ended, Does, alone, IsAnswer, IsTextAnswer, IsReplayed, IsBuilt, IsMade, IsExecuted}
-use Rattle.pict_top.specs.declared.run.Finish.{Finish}
+use Rattle.pict_machine.specs.declared.event.End.{End}
 use Rattle.pict_top.specs.Outcome.{Outcome, outcome_of, read_fault, usage_outcome}
 
 -- what a command comes to, where `Gives` says what it is given under a name
@@ -27,7 +27,7 @@ pub record OwesText (Gives : List ℕ → Fetch → Type 0) (command : Command) 
 -- what a command comes to with a program that is accepted, and the texts that it is read from
 abbrev pub OwesWork : List Source → Front → Command → Outcome → Type 0
 OwesWork sources front command o =
-    (finish : Finish) × (bytes : List ℕ) × Does command front.names front.core finish bytes × (o ≡ outcome_of (Ended sources finish bytes))
+    (end : End) × (bytes : List ℕ) × Does command front.names front.core end bytes × (o ≡ outcome_of (Ended sources end bytes))
 
 -- what the replay of the text under this name comes to over a program that is accepted, where `Gives` says what a shelf gives
 abbrev pub OwesReplay : (List ℕ → Fetch → Type 0) → List ℕ → Front → Outcome → Type 0

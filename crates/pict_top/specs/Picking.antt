@@ -7,18 +7,18 @@ use Rattle.pict_core.specs.Places.{Place}
 use Rattle.pict_pick.specs.Picked.{PicksRun}
 use Rattle.pict_replay.specs.Files.{choices_text, file_text}
 use Rattle.pict_trace.specs.Lines.{lines_text}
-use Rattle.pict_top.specs.Ends.{end_of}
-use Rattle.pict_top.specs.declared.run.Finish.{Finish}
+use Rattle.pict_machine.specs.Events.{end_of}
+use Rattle.pict_machine.specs.declared.event.End.{End}
 
 -- what is written of a picked run, by its places and its labels
 abbrev pub Recording : Type 0
 Recording = List Place → List (ℕ × Label) → List ℕ
 
 -- The seed picks a run of the process with this fuel, and what is written are these bytes of it.
-pub record PicksAndShows (process : Process) (seed fuel : ℕ) (written : Recording) (finish : Finish) (bytes : List ℕ) : Type 0 where
+pub record PicksAndShows (process : Process) (seed fuel : ℕ) (written : Recording) (end : End) (bytes : List ℕ) : Type 0 where
   pub places : List Place
   pub labels : List (ℕ × Label)
-  pub runs : PicksRun process seed fuel (end_of finish) places labels
+  pub runs : PicksRun process seed fuel (end_of end) places labels
   pub shows : bytes ≡ written places labels
 
 -- the bytes that are printed

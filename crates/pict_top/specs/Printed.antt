@@ -9,7 +9,7 @@ use Rattle.pict_top.specs.Answer.{Work, Writing, printed, traced}
 use Rattle.pict_top.specs.Changes.{SinkChange, Gained}
 use Rattle.pict_top.specs.declared.form.Form as declared
 use Rattle.pict_top.specs.declared.form.Form.TheVariants.{Printed, Line}
-use Rattle.pict_top.specs.declared.run.Finish.{Finish}
+use Rattle.pict_machine.specs.declared.event.End.{End}
 
 -- what is written of a label with its step number
 abbrev pub Form : Type 0
@@ -38,14 +38,14 @@ abbrev pub WrittenInPart : Form → List ℕ → ℕ → Label → List ℕ → 
 WrittenInPart form bytes number label after = (front : List ℕ) × IsFrontOf front (form number label) × (after ≡ bytes ++ front)
 
 -- the work has this end, and its bytes were written
-pub record Finished (work : Work) (finish : Finish) (out : SinkChange) : Type 0 where
+pub record Finished (work : Work) (end : End) (out : SinkChange) : Type 0 where
   pub bytes : List ℕ
-  pub does : work finish bytes
+  pub does : work end bytes
   pub written : Gained out bytes
 
 -- the work, whatever its end, and P of its bytes
 pub record Somehow (work : Work) (P : List ℕ → Type 0) : Type 0 where
-  pub finish : Finish
+  pub end : End
   pub bytes : List ℕ
-  pub does : work finish bytes
+  pub does : work end bytes
   pub holds : P bytes

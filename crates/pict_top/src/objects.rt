@@ -24,7 +24,6 @@ ghost use Rattle.pict_top.specs.Owed.{IsObjectFault, OwesObject, OwesRun};
 use crate::form::Form;
 use crate::printer::Printer;
 use crate::replaying::refuse_alone;
-use crate::run::Broken;
 use crate::status::Status;
 use crate::top::{refuse, report_line, tell};
 use pict_core::Core;
@@ -122,8 +121,8 @@ fn run_found<O: Sink, E: Sink>(
         }
     };
     match run_guarded(alloc, &names, &core, fuel, out) {
-        Err(Broken::Memory) => Status::Memory,
-        Err(Broken::Sink) => Status::WriteFault,
+        Err(RunError::Memory) => Status::Memory,
+        Err(RunError::Sink) => Status::WriteFault,
         Ok(end) => report_run(alloc, name, end, err),
     }
 }
@@ -135,19 +134,15 @@ fn run_guarded<O: Sink>(
     core: &Core,
     fuel: u64,
     out: &mut O,
-) -> Result<ExecEnd, Broken>
+) -> Result<ExecEnd, RunError>
     requires closed { IsClosed (plain_core core.now) }
     requires fuel { fuel ≤ FUEL_LIMIT }
     ensures ran { IfOk result (λ end. RanTo (plain_core core.now) fuel end (change_of O.taken O.faults out.old out.new)) }
-    ensures sink { result ≡ Err Broken.Sink → RanSomehow (plain_core core.now) fuel (FailedWithin (change_of O.taken O.faults out.old out.new)) }
-    ensures memory { result ≡ Err Broken.Memory → RanSomehow (plain_core core.now) fuel (GainedFront (change_of O.taken O.faults out.old out.new)) }
+    ensures sink { result ≡ Err RunError.Sink → RanSomehow (plain_core core.now) fuel (FailedWithin (change_of O.taken O.faults out.old out.new)) }
+    ensures memory { result ≡ Err RunError.Memory → RanSomehow (plain_core core.now) fuel (GainedFront (change_of O.taken O.faults out.old out.new)) }
     ensures faults_stay { O.faults out.old ≤ O.faults out.new }
 {
-    match print_run(alloc, names, core, fuel, out) {
-        Ok(end) => Ok(end),
-        Err(RunError::Sink) => Err(Broken::Sink),
-        Err(RunError::Memory) => Err(Broken::Memory),
-    }
+    print_run(alloc, names, core, fuel, out)
 }
 
 /// The same, by what a watcher sees who writes what is printed.

@@ -16,10 +16,9 @@ ghost use Rattle.pict_view.specs.View.{StandsFor};
 use crate::form::Form;
 use crate::notes::{Note, Place, write_note};
 use crate::print::write_some;
-use crate::run::{Broken, Finish};
 use pict_core::Core;
 use pict_lower::lower;
-use pict_machine::RunError;
+use pict_machine::{End, RunError};
 use pict_outside::Sink;
 use pict_pick::Chooser;
 use pict_picker::Picker;
@@ -36,25 +35,25 @@ pub fn record_picks<O: Sink>(
     seed: u64,
     fuel: u64,
     out: &mut O,
-) -> Result<Finish, Broken>
+) -> Result<End, RunError>
     requires closed { IsClosed (plain_core core.now) }
     requires fuel { fuel ≤ FUEL_LIMIT }
     requires right { NoFreeRunIsWrong (plain_core core.now) }
-    ensures ran { IfOk result (λ finish. Finished (PicksAndShows (plain_core core.now) seed fuel (recorded names.now)) finish
+    ensures ran { IfOk result (λ end. Finished (PicksAndShows (plain_core core.now) seed fuel (recorded names.now)) end
         (change_of O.taken O.faults out.old out.new)) }
-    ensures sink { result ≡ Err Broken.Sink → Somehow (PicksAndShows (plain_core core.now) seed fuel (recorded names.now))
+    ensures sink { result ≡ Err RunError.Sink → Somehow (PicksAndShows (plain_core core.now) seed fuel (recorded names.now))
         (FailedWithin (change_of O.taken O.faults out.old out.new)) }
-    ensures memory { result ≡ Err Broken.Memory → Somehow (PicksAndShows (plain_core core.now) seed fuel (recorded names.now))
+    ensures memory { result ≡ Err RunError.Memory → Somehow (PicksAndShows (plain_core core.now) seed fuel (recorded names.now))
         (GainedFront (change_of O.taken O.faults out.old out.new)) }
     ensures faults_stay { O.faults out.old ≤ O.faults out.new }
 {
     match run_picked(alloc, Note::Choice, names, core, seed, fuel, out) {
         Ok(_) => {}
-        Err(broken) => return Err(broken),
+        Err(error) => return Err(error),
     }
     match write_some(out, b"trace\n") {
         Ok(()) => {}
-        Err(error) => return Err(broken_by(error)),
+        Err(error) => return Err(error),
     }
     run_picked(alloc, Note::Shown(Form::Line), names, core, seed, fuel, out)
 }
@@ -70,41 +69,41 @@ pub fn run_picked<O: Sink>(
     seed: u64,
     fuel: u64,
     out: &mut O,
-) -> Result<Finish, Broken>
+) -> Result<End, RunError>
     requires closed { IsClosed (plain_core core.now) }
     requires fuel { fuel ≤ FUEL_LIMIT }
     requires right { NoFreeRunIsWrong (plain_core core.now) }
-    ensures ran { IfOk result (λ finish. Finished (PicksAndShows (plain_core core.now) seed fuel (notes_in note names.now)) finish
+    ensures ran { IfOk result (λ end. Finished (PicksAndShows (plain_core core.now) seed fuel (notes_in note names.now)) end
         (change_of O.taken O.faults out.old out.new)) }
-    ensures sink { result ≡ Err Broken.Sink → Somehow (PicksAndShows (plain_core core.now) seed fuel (notes_in note names.now))
+    ensures sink { result ≡ Err RunError.Sink → Somehow (PicksAndShows (plain_core core.now) seed fuel (notes_in note names.now))
         (FailedWithin (change_of O.taken O.faults out.old out.new)) }
-    ensures memory { result ≡ Err Broken.Memory → Somehow (PicksAndShows (plain_core core.now) seed fuel (notes_in note names.now))
+    ensures memory { result ≡ Err RunError.Memory → Somehow (PicksAndShows (plain_core core.now) seed fuel (notes_in note names.now))
         (GainedFront (change_of O.taken O.faults out.old out.new)) }
     ensures faults_stay { O.faults out.old ≤ O.faults out.new }
 {
     let mut picker = match load_core(alloc, core) {
         Ok(picker) => picker,
-        Err(AllocError) => return Err(Broken::Memory),
+        Err(AllocError) => return Err(RunError::Memory),
     };
     let mut chooser = Chooser::new(seed);
     let mut done = 0;
     while done < fuel {
         let place = match pick_place(&picker, &mut chooser) {
             Some(place) => place,
-            None => return Ok(Finish::Done),
+            None => return Ok(End::Done),
         };
         let did = match picker.step_choice(place.ready, place.partner) {
             Ok(did) => did,
-            Err(AllocError) => return Err(Broken::Memory),
+            Err(AllocError) => return Err(RunError::Memory),
         };
         match did.trap() {
-            Some(at) => return Ok(Finish::Trap(at)),
+            Some(at) => return Ok(End::Trap(at)),
             None => {}
         }
         done += 1;
         match write_note(alloc, note, names, picker.heap(), place, done, &did, out) {
             Ok(()) => {}
-            Err(error) => return Err(broken_by(error)),
+            Err(error) => return Err(error),
         }
     }
     Ok(end_without_fuel(&picker))
@@ -150,22 +149,12 @@ fn pick_partner(count: u64, chooser: &mut Chooser) -> u64
 }
 
 /// How a run ends that has no fuel left.
-fn end_without_fuel(picker: &Picker) -> Finish
+fn end_without_fuel(picker: &Picker) -> End
     ensures { EndsWithoutFuel (view_of picker.now).ready result }
 {
     if picker.ready_count() == 0 {
-        Finish::Done
+        End::Done
     } else {
-        Finish::FuelSpent
-    }
-}
-
-/// Why work was broken off by this error.
-fn broken_by(error: RunError) -> Broken
-    ensures sink { result ≡ Broken.Sink → error ≡ RunError.Sink }
-{
-    match error {
-        RunError::Sink => Broken::Sink,
-        RunError::Memory => Broken::Memory,
+        End::FuelSpent
     }
 }

@@ -4,7 +4,7 @@ ghost use Rattle.pict_outside.specs.Counts.{Rose};
 ghost use Rattle.pict_core.specs.Closed.{IsClosed};
 ghost use Rattle.pict_core.specs.Plain.{plain_core};
 ghost use Rattle.pict_reduction.specs.Reached.{NoFreeRunIsWrong};
-ghost use Rattle.pict_machine.specs.Events as events;
+ghost use Rattle.pict_machine.specs.Events.{end_of};
 ghost use Rattle.pict_network.specs.Network as plain;
 ghost use Rattle.pict_network.specs.Network.{opening_network};
 ghost use Rattle.pict_sites.specs.Network.{channels_of, StandsForNetwork, IsNetworkStore};
@@ -17,7 +17,6 @@ ghost use Rattle.pict_top.specs.Siting.{NetworkShows};
 
 use crate::form::Form;
 use crate::printer::Printer;
-use crate::run::{Broken, Finish, finish_of};
 use pict_core::Core;
 use pict_lower::lower;
 use pict_machine::{End, RunError};
@@ -38,29 +37,25 @@ pub fn run_sites<O: Sink>(
     seed: u64,
     fuel: u64,
     out: &mut O,
-) -> Result<Finish, Broken>
+) -> Result<End, RunError>
     requires closed { IsClosed (plain_core core.now) }
     requires sites { IsSiteCount sites }
     requires fuel { fuel ≤ FUEL_LIMIT }
     requires right { NoFreeRunIsWrong (plain_core core.now) }
-    ensures ran { IfOk result (λ finish. Finished (NetworkShows (plain_core core.now) sites seed fuel) finish
+    ensures ran { IfOk result (λ end. Finished (NetworkShows (plain_core core.now) sites seed fuel) end
         (change_of O.taken O.faults out.old out.new)) }
-    ensures sink { result ≡ Err Broken.Sink → Somehow (NetworkShows (plain_core core.now) sites seed fuel)
+    ensures sink { result ≡ Err RunError.Sink → Somehow (NetworkShows (plain_core core.now) sites seed fuel)
         (FailedWithin (change_of O.taken O.faults out.old out.new)) }
-    ensures memory { result ≡ Err Broken.Memory → Somehow (NetworkShows (plain_core core.now) sites seed fuel)
+    ensures memory { result ≡ Err RunError.Memory → Somehow (NetworkShows (plain_core core.now) sites seed fuel)
         (GainedFront (change_of O.taken O.faults out.old out.new)) }
     ensures faults_stay { O.faults out.old ≤ O.faults out.new }
 {
     let mut network = match load_network(alloc, core, sites) {
         Ok(network) => network,
-        Err(AllocError) => return Err(Broken::Memory),
+        Err(AllocError) => return Err(RunError::Memory),
     };
     let mut chooser = Chooser::new(seed);
-    match run_network(alloc, names, &mut network, &mut chooser, fuel, out) {
-        Ok(end) => Ok(finish_of(end)),
-        Err(RunError::Sink) => Err(Broken::Sink),
-        Err(RunError::Memory) => Err(Broken::Memory),
-    }
+    run_network(alloc, names, &mut network, &mut chooser, fuel, out)
 }
 
 /// The network that is to run a closed process on so many sites. The only error is want of memory.
@@ -89,7 +84,7 @@ fn run_network<O: Sink>(
     requires few { channels_of network.old + fuel < 2 ^ 32 }
     requires right { (N : plain.Network) × StandsForNetwork network.old N × IsRightFrom N chooser.old }
     ensures end { IfOk result (λ end. (N : plain.Network) → StandsForNetwork network.old N
-        → RanOn (StandsForNetwork network.new) N chooser.old fuel (events.end_of end)
+        → RanOn (StandsForNetwork network.new) N chooser.old fuel (end_of end)
         (Saw (written_after (form_of Form.Printed names.now)) (O.taken out.old) (O.taken out.new))) }
     ensures broken { OnErr result ((N : plain.Network) → StandsForNetwork network.old N
         → BrokeOffOn (StandsForNetwork network.new) N chooser.old fuel

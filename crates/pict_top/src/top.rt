@@ -22,10 +22,10 @@ use crate::objects::{build_object, execute_object};
 use crate::one_shelf::OneShelf;
 use crate::origin::{builds, name_of, object_of, own_text, prelude_of, trace_of};
 use crate::replaying::replay_over;
-use crate::run::{Broken, Finish};
 use crate::status::Status;
 use crate::work::perform;
 use pict_front::{Front, FrontError, front};
+use pict_machine::{End, RunError};
 use pict_outside::{Shelf, Sink, SinkFailed};
 use pict_report as report;
 use pict_syntax::{Code, FUEL_LIMIT, Sources, Span};
@@ -276,22 +276,22 @@ fn do_ready<O: Sink, E: Sink>(
     ensures err_faults_stay { E.faults err.old ≤ E.faults err.new }
 {
     match perform(alloc, command, own, front, out) {
-        Err(Broken::Memory) => Status::Memory,
-        Err(Broken::Sink) => Status::WriteFault,
-        Ok(finish) => report_end(alloc, sources, finish, err),
+        Err(RunError::Memory) => Status::Memory,
+        Err(RunError::Sink) => Status::WriteFault,
+        Ok(end) => report_end(alloc, sources, end, err),
     }
 }
 
 /// Reports how a command's work ended.
-fn report_end<E: Sink>(alloc: Global, sources: &Sources, finish: Finish, err: &mut E) -> Status
+fn report_end<E: Sink>(alloc: Global, sources: &Sources, end: End, err: &mut E) -> Status
     requires short { AreShort sources.now.list.items }
-    ensures text { EndReports sources.now.list.items finish (change_of E.taken E.faults err.old err.new) result }
+    ensures text { EndReports sources.now.list.items end (change_of E.taken E.faults err.old err.new) result }
     ensures faults_stay { E.faults err.old ≤ E.faults err.new }
 {
-    match finish {
-        Finish::Done => Status::Done,
-        Finish::FuelSpent => tell(report::SPENT, Status::FuelSpent, err),
-        Finish::Trap(at) => report_trap(alloc, sources, at, err),
+    match end {
+        End::Done => Status::Done,
+        End::FuelSpent => tell(report::SPENT, Status::FuelSpent, err),
+        End::Trap(at) => report_trap(alloc, sources, at, err),
     }
 }
 

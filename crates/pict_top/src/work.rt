@@ -15,13 +15,14 @@ ghost use Rattle.pict_top.specs.Printed.{Finished, Somehow};
 use crate::form::Form;
 use crate::notes::Note;
 use crate::picking::{record_picks, run_picked};
-use crate::run::{Broken, Finish, finish_of, run_core};
+use crate::run::run_core;
 use crate::siting::run_sites;
 use pict_code::{ListError, listing};
 use pict_core::Core;
 use pict_front::Front;
-use pict_load::{SummaryError, count_run, write_summary};
+use pict_load::{count_run, write_summary};
 use pict_lower::lower;
+use pict_machine::{End, RunError};
 use pict_outside::Sink;
 use pict_syntax::{FUEL_LIMIT, Names};
 use pict_words::{Command, DEFAULT_FUEL};
@@ -37,18 +38,18 @@ pub fn perform<O: Sink>(
     own: u64,
     front: Front,
     out: &mut O,
-) -> Result<Finish, Broken>
+) -> Result<End, RunError>
     requires works { Works (plain_command command) }
     requires own { own ≡ own_length (origin_of (plain_command command)) }
     requires closed { IsClosed (plain_core front.core) }
     requires fuel { fuel_of (plain_command command) ≤ FUEL_LIMIT }
     requires sites { IsSiteCount (sites_of (plain_command command)) }
     requires right { NoFreeRunIsWrong (plain_core front.core) }
-    ensures done { IfOk result (λ finish. Finished (Does (plain_command command.entry) front.names (plain_core front.core)) finish
+    ensures done { IfOk result (λ end. Finished (Does (plain_command command.entry) front.names (plain_core front.core)) end
         (change_of O.taken O.faults out.old out.new)) }
-    ensures sink { result ≡ Err Broken.Sink → Somehow (Does (plain_command command.entry) front.names (plain_core front.core))
+    ensures sink { result ≡ Err RunError.Sink → Somehow (Does (plain_command command.entry) front.names (plain_core front.core))
         (FailedWithin (change_of O.taken O.faults out.old out.new)) }
-    ensures memory { result ≡ Err Broken.Memory → Somehow (Does (plain_command command.entry) front.names (plain_core front.core))
+    ensures memory { result ≡ Err RunError.Memory → Somehow (Does (plain_command command.entry) front.names (plain_core front.core))
         (GainedFront (change_of O.taken O.faults out.old out.new)) }
     ensures faults_stay { O.faults out.old ≤ O.faults out.new }
 {
@@ -56,7 +57,7 @@ pub fn perform<O: Sink>(
     match command {
         Command::Run(options) => run_core(alloc, Form::Printed, &names, core, options.fuel, out),
         Command::Trace(options) => run_core(alloc, Form::Line, &names, core, options.fuel, out),
-        Command::Check(_) => Ok(Finish::Done),
+        Command::Check(_) => Ok(End::Done),
         Command::Code(_) => list_core(alloc, &names, &core, out),
         Command::Load(n) => sum_up(alloc, n, own, core, out),
         Command::Pick(seed, options) => {
@@ -66,7 +67,7 @@ pub fn perform<O: Sink>(
         Command::Picked(seed, options) => {
             record_picks(alloc, &names, &core, seed, options.fuel, out)
         }
-        Command::Replay(_, _) => Ok(Finish::Done),
+        Command::Replay(_, _) => Ok(End::Done),
         Command::Build(_) => unreachable!(),
         Command::Exec(_, _) => unreachable!(),
         Command::Sites(sites, seed, options) => {
@@ -81,20 +82,20 @@ fn list_core<O: Sink>(
     names: &Names,
     core: &Core,
     out: &mut O,
-) -> Result<Finish, Broken>
-    ensures done { IfOk result (λ finish. Finished (Lists names.now (plain_core core.now)) finish (change_of O.taken O.faults out.old out.new)) }
-    ensures sink { result ≡ Err Broken.Sink → Somehow (Lists names.now (plain_core core.now)) (FailedWithin (change_of O.taken O.faults out.old out.new)) }
-    ensures memory { result ≡ Err Broken.Memory → Somehow (Lists names.now (plain_core core.now)) (GainedFront (change_of O.taken O.faults out.old out.new)) }
+) -> Result<End, RunError>
+    ensures done { IfOk result (λ end. Finished (Lists names.now (plain_core core.now)) end (change_of O.taken O.faults out.old out.new)) }
+    ensures sink { result ≡ Err RunError.Sink → Somehow (Lists names.now (plain_core core.now)) (FailedWithin (change_of O.taken O.faults out.old out.new)) }
+    ensures memory { result ≡ Err RunError.Memory → Somehow (Lists names.now (plain_core core.now)) (GainedFront (change_of O.taken O.faults out.old out.new)) }
     ensures faults_stay { O.faults out.old ≤ O.faults out.new }
 {
     let code = match lower(alloc, core) {
         Ok(code) => code,
-        Err(AllocError) => return Err(Broken::Memory),
+        Err(AllocError) => return Err(RunError::Memory),
     };
     match listing(alloc, names, &code, out) {
-        Ok(()) => Ok(Finish::Done),
-        Err(ListError::Sink) => Err(Broken::Sink),
-        Err(ListError::Memory) => Err(Broken::Memory),
+        Ok(()) => Ok(End::Done),
+        Err(ListError::Sink) => Err(RunError::Sink),
+        Err(ListError::Memory) => Err(RunError::Memory),
     }
 }
 
@@ -105,24 +106,23 @@ fn sum_up<O: Sink>(
     text: u64,
     core: Core,
     out: &mut O,
-) -> Result<Finish, Broken>
+) -> Result<End, RunError>
     requires text { text ≡ length (load_text n) }
     requires closed { IsClosed (plain_core core) }
     requires right { RunsRight (plain_core core) DEFAULT_FUEL }
-    ensures done { IfOk result (λ finish. Finished (Shows (plain_core core) DEFAULT_FUEL (summed_up n)) finish (change_of O.taken O.faults out.old out.new)) }
-    ensures sink { result ≡ Err Broken.Sink → Somehow (Shows (plain_core core) DEFAULT_FUEL (summed_up n))
+    ensures done { IfOk result (λ end. Finished (Shows (plain_core core) DEFAULT_FUEL (summed_up n)) end (change_of O.taken O.faults out.old out.new)) }
+    ensures sink { result ≡ Err RunError.Sink → Somehow (Shows (plain_core core) DEFAULT_FUEL (summed_up n))
         (FailedWithin (change_of O.taken O.faults out.old out.new)) }
-    ensures memory { result ≡ Err Broken.Memory → Somehow (Shows (plain_core core) DEFAULT_FUEL (summed_up n))
+    ensures memory { result ≡ Err RunError.Memory → Somehow (Shows (plain_core core) DEFAULT_FUEL (summed_up n))
         (GainedFront (change_of O.taken O.faults out.old out.new)) }
     ensures faults_stay { O.faults out.old ≤ O.faults out.new }
 {
     let tally = match count_run(alloc, core, DEFAULT_FUEL) {
         Ok(tally) => tally,
-        Err(AllocError) => return Err(Broken::Memory),
+        Err(AllocError) => return Err(RunError::Memory),
     };
     match write_summary(alloc, n, text, tally, out) {
-        Ok(()) => Ok(finish_of(tally.end)),
-        Err(SummaryError::Sink) => Err(Broken::Sink),
-        Err(SummaryError::Memory) => Err(Broken::Memory),
+        Ok(()) => Ok(tally.end),
+        Err(error) => Err(error),
     }
 }

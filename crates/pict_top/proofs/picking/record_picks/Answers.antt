@@ -1,4 +1,5 @@
 use Rattle.std.proofs.Common.{◌≤◌, ◌∙◌, arith}
+use Rattle.std.proofs.lemmas.Result.{IfOk-weaker}
 use Rattle.pict_core.specs.Plain.{plain_core}
 use Rattle.pict_top.specs.Changes.{change_of}
 use Rattle.pict_top.specs.Notes.{notes_in}
@@ -6,7 +7,7 @@ use Rattle.pict_top.specs.Picking.{PicksAndShows, recorded}
 use Rattle.pict_top.specs.Printed.{Finished}
 use Rattle.pict_top.specs.declared.form.Form.TheVariants.{Line}
 use Rattle.pict_top.specs.declared.notes.Note.TheVariants.{Shown}
-use Rattle.pict_top.proofs.Recording.{choices_part, choices_failed, between, trace_part, trace_all, part_of, failed_within, rose_since, if_ok}
+use Rattle.pict_top.proofs.Recording.{choices_part, choices_failed, between, trace_part, trace_all, part_of, failed_within, rose_since}
 use Rattle.pict_top.proofs.picking.record_picks.Goals as goal
 
 pub returns-in-Err-clause-memory : goal.returns-in-Err-clause-memory
@@ -38,9 +39,9 @@ returns-clause-ran g c =
     let first = c.in-Ok.ensures.ran in
     let out = change_of g.O.Sink.taken g.O.Sink.faults c.args.out.now c.run_picked-2.new.out in
     let later = change_of g.O.Sink.taken g.O.Sink.faults c.write_some.new.out c.run_picked-2.new.out in
-    if_ok c.run_picked-2.result (λ finish. Finished (PicksAndShows p c.args.seed c.args.fuel (notes_in (Shown Line) names)) finish later) (λ finish. Finished (PicksAndShows p c.args.seed c.args.fuel (recorded names)) finish out)
-    (λ finish done. trace_all p c.args.seed c.args.fuel names out (g.O.Sink.taken c.run_picked.new.out) c.in-Ok.field-0 first.bytes first.does first.written (g.O.Sink.taken c.write_some.new.out)
-    c.in-Ok-write_some.ensures.all finish done.bytes done.does done.written) c.run_picked-2.ensures.ran
+    IfOk-weaker c.run_picked-2.result (λ end. Finished (PicksAndShows p c.args.seed c.args.fuel (notes_in (Shown Line) names)) end later) (λ end. Finished (PicksAndShows p c.args.seed c.args.fuel (recorded names)) end out)
+    (λ end done. trace_all p c.args.seed c.args.fuel names out (g.O.Sink.taken c.run_picked.new.out) c.in-Ok.field-0 first.bytes first.does first.written (g.O.Sink.taken c.write_some.new.out)
+    c.in-Ok-write_some.ensures.all end done.bytes done.does done.written) c.run_picked-2.ensures.ran
 
 pub returns-clause-memory : goal.returns-clause-memory
 returns-clause-memory g c is =

@@ -12,8 +12,7 @@ use Rattle.pict_picker.specs.Picker.{view_of, heap_of}
 use Rattle.pict_top.specs.Changes.{change_of}
 use Rattle.pict_top.specs.Notes.{place_of, note_text, notes_in}
 use Rattle.pict_top.specs.Picking.{PicksAndShows}
-use Rattle.pict_top.specs.declared.run.Broken.TheVariants as broken
-use Rattle.pict_top.specs.declared.run.Finish.TheVariants.{Done, Trap}
+use Rattle.pict_machine.specs.declared.event.End.TheVariants.{Done, Trap}
 use Rattle.pict_top.proofs.Picked.{HasPicked, begun, step_right, run_done, run_trapped, leads_of, traps_of}
 use Rattle.pict_top.proofs.Recording.{wrote_nothing, picked_finished, picked_ended, picked_on, picked_torn, picked_so_far, picked_nothing, failed_within, rose_since}
 use Rattle.pict_top.proofs.picking.run_picked.Goals as goal
@@ -78,8 +77,7 @@ returns-in-Err-write_note-clause-sink g c is =
     let label = label_of (heap_of c.step_choice.new.self) did in
     let w = view_of c.step_choice.new.self in
     let out = change_of g.O.Sink.taken g.O.Sink.faults c.args.out.now c.write_note.new.out in
-    let same : c.broken_by.result ≡ broken.Sink = cc in
-    let failed = c.write_note.ensures.sink (c.in-Err-write_note.is ∙ ap Err (c.broken_by.ensures.sink same)) in
+    let failed = c.write_note.ensures.sink (c.in-Err-write_note.is ∙ is) in
     failed_within (PicksAndShows (plain_core c.args.core.now) c.args.seed c.args.fuel (notes_in c.args.note c.args.names.now)) out (rose_since _ (g.O.Sink.faults c.loop-done.out) _ c.loop-done.invariant.faults_stay failed)
     (picked_torn (plain_core c.args.core.now) c.args.seed c.args.fuel c.args.note c.args.names.now c.loop-done.done (view_of c.loop-done.picker) w c.loop-done.chooser c.pick_place.new.chooser
     out (g.O.Sink.taken c.loop-done.out) place label c.loop-done.invariant.so_far c.in-Some.ensures.picked

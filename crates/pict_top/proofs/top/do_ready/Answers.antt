@@ -25,4 +25,4 @@ returns-in-Err-Sink-clause-meets g c =
 
 pub returns-in-Ok-clause-meets : goal.returns-in-Ok-clause-meets
 returns-in-Ok-clause-meets g c =
-    came_to_end c.args.sources.now.list.items (plain_front c.args.front) (plain_command c.args.command) c.in-Ok.finish _ _ _ c.in-Ok.ensures.done c.report_end.ensures.text
+    came_to_end c.args.sources.now.list.items (plain_front c.args.front) (plain_command c.args.command) c.in-Ok.end _ _ _ c.in-Ok.ensures.done c.report_end.ensures.text

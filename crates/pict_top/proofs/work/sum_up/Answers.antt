@@ -15,7 +15,7 @@ returns-in-Err-clause-memory g c is =
 pub returns-in-Ok-write_summary-clause-done : goal.returns-in-Ok-write_summary-clause-done
 returns-in-Ok-write_summary-clause-done g c = record {
   bytes = _;
-  does = sums_up c.args.n c.args.text (plain_core c.args.core) DEFAULT_FUEL c.requires.text c.finish_of.result c.in-Ok.tally c.finish_of.ensures.machine c.in-Ok.ensures;
+  does = sums_up c.args.n c.args.text (plain_core c.args.core) DEFAULT_FUEL c.requires.text c.in-Ok.tally c.in-Ok.ensures;
   written = c.in-Ok-write_summary.ensures.all;
 }
 

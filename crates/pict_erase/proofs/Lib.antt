@@ -1,4 +1,0 @@
-pub mod Erased
-pub mod Growing
-pub mod Packing
-pub mod ErasedGoes
