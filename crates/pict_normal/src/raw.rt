@@ -147,7 +147,8 @@ fn raw_binders(
     c: &Context,
     inner: &mut Binders,
 ) -> Result<Vec<Bound>, KindError>
-    ensures raw { IfOk result (λ ds. plain_bounds ds.items ≡ raw_binders (names_of c.now) (entry_names (around inner.old c.now)) (binders_on no_binders bs.now)) }
+    ensures raw { IfOk result (λ ds. plain_bounds ds.items
+        ≡ raw_binders (names_of c.now) (entry_names (around inner.old c.now)) (binders_on no_binders bs.now)) }
     ensures kinds { IfOk result (λ _. binders_stops (names_of c.now) (around inner.old c.now) (binders_on no_binders bs.now) ≡ []) }
     ensures first { IfErr result (λ e. IsFirst (binders_stops (names_of c.now) (around inner.old c.now) (binders_on no_binders bs.now)) e) }
     ensures inner { OnOk result (scope_of inner.new ≡ entries_under (scope_of inner.old) (binders_on no_binders bs.now)) }

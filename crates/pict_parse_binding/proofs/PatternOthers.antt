@@ -1,17 +1,16 @@
 -- What the tokens lead to that no line names.
-use Rattle.std.proofs.Common.{◌≡◌, List, [], ◌∷◌, length, refl, arith}
+use Rattle.std.proofs.Common.{◌≡◌, ◌∷◌, refl}
 use Rattle.std.specs.Prelude.{None, Some}
 use Rattle.pict_syntax.specs.declared.span.Span.{Span}
 use Rattle.pict_syntax.specs.declared.id.Id.{Id}
-use Rattle.pict_syntax.specs.declared.type_tree.Mark.{Mark}
 use Rattle.pict_syntax.specs.declared.token.TokenKind.{TokenKind}
 use Rattle.pict_syntax.specs.declared.token.TokenKind.TheVariants.{Identifier, Keyword, Sign}
 use Rattle.pict_syntax.specs.declared.token.Keyword.TheVariants.{Rec}
 use Rattle.pict_syntax.specs.declared.token.Sign.TheVariants.{Equals, OpenParen, CloseParen, CloseBracket, Colon, Less, Hash}
 use Rattle.pict_syntax.specs.Trees.{KindTree, TypeBinders, no_binders, Pats, no_pats, bind_pat, any_pat, type_binder, unbounded}
 use Rattle.pict_syntax.specs.Phrases.{join}
-use Rattle.pict_automaton.specs.Places.{DeclarationPlace, AbstractionPlace, PatternPlace, FieldPatternsPlace, BinderPlace, stop, in_abstraction_pattern, in_parameters, in_fold_pattern, in_field_pattern, operator_closed, kind_arrow}
-use Rattle.pict_automaton.specs.Machine.{begin_pattern, step_pattern, step_patterns, step_binders, step_binder, step_bind, step_need_abstraction, step_abstraction_open, step_pattern_rec, step_any, step_pattern_name, step_binder_name, step_binder_kind, close_operator, kind_arrow_at}
+use Rattle.pict_automaton.specs.Places.{AbstractionPlace, PatternPlace, FieldPatternsPlace, BinderPlace, in_abstraction_pattern, in_parameters, in_fold_pattern, in_field_pattern}
+use Rattle.pict_automaton.specs.Machine.{begin_pattern, step_pattern, step_patterns, step_binders, step_binder, step_bind, step_need_abstraction, step_abstraction_open, step_pattern_rec, step_any, step_pattern_name, step_binder_name, step_binder_kind}
 
 pub need_abstraction_other : (k : TokenKind) → (k ≡ Sign OpenParen → ⊥) → (i : Span) (p : AbstractionPlace) → step_need_abstraction k i p ≡ begin_pattern k i (in_abstraction_pattern p)
 need_abstraction_other (Sign OpenParen) n i p = absurd (n refl)
@@ -55,19 +54,3 @@ binder_name_other _ n m i h x p = refl
 pub binder_kind_other : (c : TokenKind) → (c ≡ Sign Less → ⊥) → (i h : Span) (x : Id) (k : KindTree) (j : Span) (p : BinderPlace) → step_binder_kind c i h x k j p ≡ step_binder c i (type_binder (join h j) x (Some k) unbounded) p
 binder_kind_other (Sign Less) n i h x k j p = absurd (n refl)
 binder_kind_other _ n i h x k j p = refl
-
-pub some_parameters : (xs : List Id) → (length xs ≡ 0 → ⊥) → (j : Span) (x : Id) (p : DeclarationPlace) → close_operator j x xs p ≡ operator_closed j x xs p
-some_parameters [] n j x p = absurd (n refl)
-some_parameters (y ∷ ys) n j x p = refl
-
-pub no_parameters : (xs : List Id) → length xs ≡ 0 → (j : Span) (x : Id) (p : DeclarationPlace) → close_operator j x xs p ≡ stop
-no_parameters [] n j x p = refl
-no_parameters (y ∷ ys) e j x p = absurd (omega arith)
-
-pub some_marks : (ms : List Mark) → (length ms ≡ 0 → ⊥) → (h : Span) (x : Id) (p : BinderPlace) → kind_arrow_at h x ms p ≡ kind_arrow h x ms p
-some_marks [] n h x p = absurd (n refl)
-some_marks (m ∷ ms) n h x p = refl
-
-pub no_marks : (ms : List Mark) → length ms ≡ 0 → (h : Span) (x : Id) (p : BinderPlace) → kind_arrow_at h x ms p ≡ stop
-no_marks [] n h x p = refl
-no_marks (m ∷ ms) e h x p = absurd (omega arith)

@@ -213,7 +213,8 @@ pub fn step_pattern_labels(
     pats: Vec<Pat>,
     labelled: Vec<LabelledPat>,
 ) -> Result<State, Fault>
-    ensures { GivesState result (step_pattern_labels kind.now at (patterns_place_of place.value) (binders_in binders) (pats_in pats) (labelled_pats_in labelled)) }
+    ensures { GivesState result
+        (step_pattern_labels kind.now at (patterns_place_of place.value) (binders_in binders) (pats_in pats) (labelled_pats_in labelled)) }
 {
     match kind {
         TokenKind::Sign(Sign::CloseBracket) => {

@@ -266,7 +266,8 @@ pub fn step_type_labels(
     labels: Vec<LabelledType>,
     place: Box<TypePlace>,
 ) -> Result<State, Fault>
-    ensures { GivesState result (step_type_labels kind.now at from (binders_in binders) (types_in types) (labelled_types_in labels) (type_place_of place.value)) }
+    ensures { GivesState result
+        (step_type_labels kind.now at from (binders_in binders) (types_in types) (labelled_types_in labels) (type_place_of place.value)) }
 {
     match kind {
         TokenKind::Sign(Sign::CloseBracket) => {
@@ -299,7 +300,8 @@ pub fn step_type_label(
     id: Id,
     place: Box<TypePlace>,
 ) -> Result<State, Fault>
-    ensures { GivesState result (step_type_label kind.now at from (binders_in binders) (types_in types) (labelled_types_in labels) id (type_place_of place.value)) }
+    ensures { GivesState result
+        (step_type_label kind.now at from (binders_in binders) (types_in types) (labelled_types_in labels) id (type_place_of place.value)) }
 {
     match kind {
         TokenKind::Sign(Sign::Equals) => {

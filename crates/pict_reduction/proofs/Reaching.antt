@@ -404,9 +404,6 @@ module _ (C : Configuration) (r : IsReached C) (none : least (acts_silently C.en
     x : Process
     x = substitute 0 parts body
 
-    after_meeting : Process
-    after_meeting = remains b (read C.channels (In (Chan c) b pattern body)) (read C.channels (substitute 0 parts body))
-
     a_sends : sends c a.process ≡ true
     a_sends = ap (sends c) a_is ∙ own_channel c
 

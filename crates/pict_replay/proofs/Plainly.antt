@@ -2,8 +2,7 @@
 use Rattle.std.proofs.Common.{ℕ, ℤ, ◌≡◌, ◌↔◌, Bool, true, false, List, rules, sym, ap, ◌∙◌}
 use Rattle.std.specs.Prelude.{IsTrue, Result, Ok, Err, IfOk}
 use Rattle.std.proofs.lemmas.Bool.{false≢true}
-use Rattle.pict_syntax.specs.declared.primitive.Primitive.{Primitive}
-use Rattle.pict_core.specs.Term.{Var, Chan, Int, Char, Boolean, Text, PrimitiveVal}
+use Rattle.pict_core.specs.Term.{Var, Chan, Int, Char, Boolean, Text}
 use Rattle.pict_core.specs.Plain.{plain_val}
 use Rattle.pict_core.specs.declared.value.CoreVal.{CoreVal, the_lemmas}
 use Rattle.pict_core.specs.declared.value.CoreVal.TheVariants as value
@@ -26,9 +25,6 @@ module _ (v : CoreVal) where
 
   pub text_is : (n : List ℕ) → v ≡ value.Text n → Text n ≡ plain_val v
   text_is n e = let k : plain_val (value.Text n) ≡ Text n = search (rules, the_lemmas) in sym k ∙ ap plain_val (sym e)
-
-  pub prim_is : (n : Primitive) → v ≡ value.Prim n → PrimitiveVal n ≡ plain_val v
-  prim_is n e = let k : plain_val (value.Prim n) ≡ PrimitiveVal n = search (rules, the_lemmas) in sym k ∙ ap plain_val (sym e)
 
 -- a test of one value is a test of another that is the same
 pub tells : {A : Type 0} (r : Bool) (v a b : A) → IsTrue r ↔ (v ≡ a) → a ≡ b → IsTrue r ↔ (v ≡ b)

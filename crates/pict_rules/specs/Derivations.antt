@@ -2,11 +2,10 @@
 use Rattle.std.specs.Prelude.{◌≡◌, ℕ, List, None}
 use Rattle.pict_syntax.specs.declared.code.Code.{Code}
 use Rattle.pict_syntax.specs.declared.span.Span.{Span}
-use Rattle.pict_syntax.specs.Trees.{Val, Decs}
-use Rattle.pict_types.specs.Types.{PlainType}
+use Rattle.pict_syntax.specs.Trees.{Decs}
 use Rattle.pict_scope.specs.Scopes.{scope_stop}
 use Rattle.pict_rules.specs.Environments.{Environment, no_environment}
-use Rattle.pict_rules.specs.Rules.{Sort, Result, Judgement, gives, declarations, Condition, IsMet, Rule, give, refuse, need, either, part, Answer, ok, stuck}
+use Rattle.pict_rules.specs.Rules.{Sort, Result, Judgement, declarations, Condition, IsMet, Rule, give, refuse, need, either, part, Answer, ok, stuck}
 use Rattle.pict_rules.specs.Typing.{rule}
 
 pub data RunsTo : (s : Sort) → Rule s → Answer s → Type 0 where
@@ -34,9 +33,6 @@ Holds e j x = Runs (rule e j) (ok x)
 -- the first line that is false has this code, and this is its place
 abbrev pub IsStuck : {s : Sort} → Environment → Judgement s → Code → Span → Type 0
 IsStuck e j c i = Runs (rule e j) (stuck c i)
-
-abbrev pub ValueGives : Environment → Val → PlainType → Type 0
-ValueGives e v t = Holds e (gives v) t
 
 -- no rule of scopes fails in the program, and its declarations are typed in order
 abbrev pub IsTyped : List (List ℕ) → Decs → Type 0

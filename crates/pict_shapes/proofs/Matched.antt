@@ -46,14 +46,6 @@ module _ (h : HeapState) (values : List (ℕ × ℕ)) where
   pub not_even : (ps : List CodePat) (operands : List CoreVal) → length ps ≢ length operands → is_found (match_values (pats ps) (values_in h values operands)) ≡ false
   not_even ps operands n = uneven ps (values_in h values operands) (λ e. n (sym (sym (how_many operands) ∙ e)))
 
-  pub operand_there : (ps : List CodePat) (operands : List CoreVal) (i : ℕ) (p : CodePat) (v : CoreVal) → i < length ps → i < length operands → p ≡ get_or ps i p → v ≡ get_or operands i v
-      → is_found (match_values (pats (drop i ps)) (values_in h values (drop i operands)))
-      ≡ cond (is_found (match_value (unleveled (plain_pat p)) (operand_in h values (plain_val v)))) (is_found (match_values (pats (drop (i + 1) ps)) (values_in h values (drop (i + 1) operands)))) false
-  operand_there ps operands i p v low less is at =
-      ap (λ l. is_found (match_values (pats l) (values_in h values (drop i operands)))) (from_place ps i p low is)
-      ∙ ap (λ l. is_found (match_values (pats (p ∷ drop (i + 1) ps)) (values_in h values l))) (from_place operands i v less at)
-      ∙ both_found (match_value (unleveled (plain_pat p)) (operand_in h values (plain_val v))) (match_values (pats (drop (i + 1) ps)) (values_in h values (drop (i + 1) operands)))
-
   pub all_there : (ps : List CodePat) (operands : List CoreVal) (i : ℕ) → length ps ≤ i → length operands ≤ i → is_found (match_values (pats (drop i ps)) (values_in h values (drop i operands))) ≡ true
   all_there ps operands i a b =
       ap (λ l. is_found (match_values (pats l) (values_in h values (drop i operands)))) (drop_of_length-le ps a)

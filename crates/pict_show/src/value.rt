@@ -129,7 +129,8 @@ fn write_rest<'a>(
     positional: &'a [CoreVal],
     labelled: &'a [(Name, CoreVal)],
 ) -> Result<(), AllocError>
-    ensures text { OnOk result (GainsText names.now out.old.items pieces.old.items (rest_of names.now positional.now labelled.now) out.new.items pieces.new.items) }
+    ensures text { OnOk result (GainsText names.now out.old.items pieces.old.items (rest_of names.now positional.now labelled.now)
+        out.new.items pieces.new.items) }
     ensures grows { OnOk result (length out.old.items < length out.new.items) }
 {
     if positional.is_empty() && labelled.is_empty() {

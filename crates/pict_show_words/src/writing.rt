@@ -62,7 +62,8 @@ fn write_piece(
 ) -> Result<(), AllocError>
     requires piece { IsPieceOf heap.now piece }
     requires pieces { All (IsPieceOf heap.now) pieces.old.items }
-    ensures text { OnOk result (GainsHeapText names.now heap.now out.old.items pieces.old.items (piece_text names.now heap.now piece) out.new.items pieces.new.items) }
+    ensures text { OnOk result (GainsHeapText names.now heap.now out.old.items pieces.old.items (piece_text names.now heap.now piece)
+        out.new.items pieces.new.items) }
     ensures grows { OnOk result (length out.old.items < length out.new.items) }
     ensures pieces { OnOk result (All (IsPieceOf heap.now) pieces.new.items) }
 {

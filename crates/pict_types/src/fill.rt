@@ -272,7 +272,8 @@ fn filled_types(
     parts: &mut Parts,
 ) -> Result<Renumbered<Ty>, AllocError>
     ensures row { IfOk result (λ m. plain_types m.items.items ≡ fill_types (filling_past under (put_for (plain_types us.now) by)) (plain_types ts.now)) }
-    ensures same { IfOk result (λ m. IsTrue m.same → fill_types (filling_past under (put_for (plain_types us.now) by)) (plain_types ts.now) ≡ plain_types ts.now) }
+    ensures same { IfOk result (λ m. IsTrue m.same
+        → fill_types (filling_past under (put_for (plain_types us.now) by)) (plain_types ts.now) ≡ plain_types ts.now) }
 {
     let mut items = Vec::with_capacity(alloc, ts.len())?;
     let mut same = true;
@@ -300,7 +301,8 @@ fn filled_labels(
     parts: &mut Parts,
 ) -> Result<Renumbered<(Name, Ty)>, AllocError>
     ensures row { IfOk result (λ m. plain_labels m.items.items ≡ fill_labels (filling_past under (put_for (plain_types us.now) by)) (plain_labels ls.now)) }
-    ensures same { IfOk result (λ m. IsTrue m.same → fill_labels (filling_past under (put_for (plain_types us.now) by)) (plain_labels ls.now) ≡ plain_labels ls.now) }
+    ensures same { IfOk result (λ m. IsTrue m.same
+        → fill_labels (filling_past under (put_for (plain_types us.now) by)) (plain_labels ls.now) ≡ plain_labels ls.now) }
 {
     let mut items = Vec::with_capacity(alloc, ls.len())?;
     let mut same = true;
@@ -324,7 +326,8 @@ fn filled_bounds(
     parts: &mut Parts,
 ) -> Result<Renumbered<Bound>, AllocError>
     ensures row { IfOk result (λ m. plain_bounds m.items.items ≡ fill_bounds (filling_past under (put_for (plain_types us.now) by)) (plain_bounds bs.now)) }
-    ensures same { IfOk result (λ m. IsTrue m.same → fill_bounds (filling_past under (put_for (plain_types us.now) by)) (plain_bounds bs.now) ≡ plain_bounds bs.now) }
+    ensures same { IfOk result (λ m. IsTrue m.same
+        → fill_bounds (filling_past under (put_for (plain_types us.now) by)) (plain_bounds bs.now) ≡ plain_bounds bs.now) }
 {
     let mut items = Vec::with_capacity(alloc, bs.len())?;
     let mut same = true;
