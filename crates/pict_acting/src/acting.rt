@@ -37,7 +37,7 @@ pub fn act<C>(
     requires constants { AreConstants store.old.desk.heap (map plain_node code.now) constants.now }
     ensures steps { StepsBy code.now store.old store.new result }
 {
-    match store.turn {
+    match store.turn.get() {
         Turn::Nobody => unreachable!(),
         Turn::Node(number) | Turn::Wide(number, _) => {
             act_by::<C>(code, store, &code[number].op, &constants[number])

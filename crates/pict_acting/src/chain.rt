@@ -264,7 +264,7 @@ fn make_call(code: &[Node], store: &mut Store, call: Call) -> Result<Received, A
         .push_back(QueueId(u64::from(channel) + 1), block);
     let value = pack(call.answer);
     store.desk.values[call.bound as usize] = value;
-    store.turn = Turn::Node(call.part as usize);
+    store.turn.set(Turn::Node(call.part as usize));
     Ok(Received { channel, value })
 }
 
@@ -290,7 +290,7 @@ pub fn call_at_once(
     ensures blocks { MakesFew (core_in code.now) 1 store.old.queues store.new.queues }
     ensures cost { CostsAtMost (greatest_cost (core_in code.now)) store.old.queues store.new.queues }
 {
-    let number = match store.turn {
+    let number = match store.turn.get() {
         Turn::Node(number) => number,
         _ => return Ok(None),
     };

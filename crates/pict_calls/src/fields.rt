@@ -142,7 +142,7 @@ pub(crate) fn call_fields(
 {
     if let Some(kept) = answer_at_hand(p, fields, &store.desk.values, at) {
         reserve_kept(store, NO_NEED)?;
-        store.turn = Turn::Output(kept);
+        store.turn.set(Turn::Output(kept));
         return Ok(Shown::Quiet);
     }
     call_any(store, p, fields, at)

@@ -48,15 +48,15 @@ pub(crate) fn finish(store: &mut Store, act: Act, at: Span) -> Shown
 {
     match perform(&mut store.desk.heap, act) {
         Done::Printed(word) => {
-            store.turn = Turn::Nobody;
+            store.turn.set(Turn::Nobody);
             Shown::Print(word)
         }
         Done::Answer(to, answer) => {
-            store.turn = Turn::Output(output(to, answer, at));
+            store.turn.set(Turn::Output(output(to, answer, at)));
             Shown::Quiet
         }
         Done::PrintedAnswer(word, to, answer) => {
-            store.turn = Turn::Output(output(to, answer, at));
+            store.turn.set(Turn::Output(output(to, answer, at)));
             Shown::Print(word)
         }
         Done::ZeroDivisor => Shown::Trapped(at),

@@ -49,7 +49,7 @@ pub fn call_of_turn(store: &mut Store) -> Result<Shown, AllocError>
     requires elsewhere { (kept : AnyKept) → store.old.turn ≡ Turn.Output kept → channel_named (value_in store.old.desk.heap kept.to.0 kept.to.1) ≡ None }
     ensures steps { (code : List AnyNode) → MayAct code store.old → StepsBy code store.old store.new result }
 {
-    match store.turn {
+    match store.turn.get() {
         Turn::Output(kept) => call_kept(store, kept),
         _ => unreachable!(),
     }

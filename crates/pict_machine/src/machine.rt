@@ -15,7 +15,7 @@ use pict_code::Code;
 use pict_desk::{Desk, Pending, level_count, make_constants};
 use pict_heap::{Heap, Word};
 use pict_queue::{QueueId, Queues};
-use pict_turns::{Store, Turn};
+use pict_turns::{Holder, Store};
 use std::alloc::{AllocError, Global};
 
 /// A machine that runs the code of a core process.
@@ -68,11 +68,8 @@ impl Machine {
             values,
         };
         let constants = make_constants(alloc, &mut desk, &code.nodes)?;
-        let store = Store {
-            desk,
-            queues,
-            turn: Turn::Nobody,
-        };
+        let turn = Holder::new();
+        let store = Store { desk, queues, turn };
         Ok(Machine {
             code,
             constants,

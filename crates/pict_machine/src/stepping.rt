@@ -59,7 +59,7 @@ fn ensure_turn(store: &mut Store, code: &[Node])
     requires ready { (view_with_turn (core_in code.now) store.old).ready ≢ [] }
     ensures { GivesTurn (core_in code.now) store.old store.new }
 {
-    match store.turn {
+    match store.turn.get() {
         Turn::Nobody => take_turn(store, code),
         _ => {}
     }
@@ -157,7 +157,7 @@ impl Machine {
         requires { IsRunning self.now }
         ensures { IsTrue result ↔ ((running_view self.now).ready ≢ []) }
     {
-        match self.store.turn {
+        match self.store.turn.get() {
             Turn::Nobody => self.is_ready(),
             _ => true,
         }

@@ -62,7 +62,7 @@ fn turn_is_wrong(code: &[Node], store: &mut Store) -> bool
     ensures wrong { result ≡ is_wrong (core_in code.now) store.old }
     ensures asks { OnlyAsks store.old store.new }
 {
-    match store.turn {
+    match store.turn.get() {
         Turn::Nobody => unreachable!(),
         Turn::Node(number) | Turn::Wide(number, _) => node_is_wrong(code, store, &code[number].op),
         Turn::Output(kept) => output_is_wrong(code, store, kept),

@@ -47,7 +47,7 @@ fn make_last(store: &mut Store, stays: bool, number: u32, frame: &[u32])
     if stays {
         spawn_part(store, number, frame);
     } else {
-        store.turn = Turn::Nobody;
+        store.turn.set(Turn::Nobody);
         make_ready(store, number, frame);
     }
 }
@@ -117,7 +117,7 @@ fn serve(
         → CostsAtMost (block_width own + block_width frame + 6) store.old.queues store.new.queues }
 {
     let frame = frame_at(code, part as usize);
-    store.turn = Turn::Nobody;
+    store.turn.set(Turn::Nobody);
     read_waiting(store, code, channel, number);
     settle(&mut store.queues, channel, replicated);
     bind_levels(store, pattern, message);

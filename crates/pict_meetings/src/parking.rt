@@ -71,7 +71,7 @@ pub(crate) fn park_output(store: &mut Store, channel: u32, message: (u64, u64), 
     ensures blocks { KeepsBlocks store.old.queues.region store.new.queues.region }
     ensures cost { CostsAtMost 10 store.old.queues store.new.queues }
 {
-    store.turn = Turn::Nobody;
+    store.turn.set(Turn::Nobody);
     let kept = kept_output(channel, message, at.text, at.start, at.end);
     let waiting = kept_block(&mut store.queues, kept);
     wait_behind(&mut store.queues, waiting, channel);

@@ -38,7 +38,7 @@ pub fn acting_width(code: &[Node], store: &Store) -> u32
     requires acting { HasActing (core_in code.now) store.now }
     ensures { length (acting_words (core_in code.now) store.now) + 1 ≡ result }
 {
-    match store.turn {
+    match store.turn.get() {
         Turn::Nobody => unreachable!(),
         Turn::Node(number) | Turn::Wide(number, _) => block_width(frame_at(code, number)),
         Turn::Output(_) => KEPT_WIDTH,

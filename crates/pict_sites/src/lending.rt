@@ -24,7 +24,7 @@ pub(crate) fn has_next(store: &Store) -> bool
     requires { (core : Process) × IsStore core store.now }
     ensures { (core : Process) → IsStore core store.now → IsTrue result ↔ ((view_with_turn core store.now).ready ≢ []) }
 {
-    match store.turn {
+    match store.turn.get() {
         Turn::Nobody => is_busy(&store.queues),
         _ => true,
     }
@@ -39,7 +39,7 @@ pub(crate) fn ensure_turn(store: &mut Store, code: &[Node])
     ensures given { GivesTurn (core_in code.now) store.old store.new }
     ensures levels { length store.new.desk.values.items ≡ length store.old.desk.values.items }
 {
-    match store.turn {
+    match store.turn.get() {
         Turn::Nobody => take_turn(store, code),
         _ => {}
     }

@@ -15,7 +15,7 @@ use pict_desk::{Desk, Pending, level_count, make_constants};
 use pict_heap::Heap;
 use pict_machine::opening_queues;
 use pict_queue::Queues;
-use pict_turns::{Store, Turn};
+use pict_turns::{Holder, Store};
 use std::alloc::{AllocError, Global};
 
 // Queue 0 alone, which is empty.
@@ -69,10 +69,11 @@ impl Network {
             values,
         };
         let constants = make_constants(alloc, &mut desk, &code.nodes)?;
+        let turn = Holder::new();
         let store = Store {
             desk,
             queues: Queues::new(alloc),
-            turn: Turn::Nobody,
+            turn,
         };
         let sites = Sites {
             store,

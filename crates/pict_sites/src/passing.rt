@@ -79,7 +79,7 @@ fn put_parts(
     store.queues.push_front(QueueId(0), part);
     let other = make_part(queues, &mut store.desk, right, second);
     queues.push_back(QueueId(0), other);
-    store.turn = Turn::Nobody;
+    store.turn.set(Turn::Nobody);
 }
 
 /// A parallel composition, which has the turn: its left part becomes the first of queue 0 of the store, its right part the last of

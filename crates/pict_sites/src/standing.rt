@@ -55,7 +55,7 @@ fn channel_of_turn(code: &[Node], store: &Store) -> Option<u32>
     requires acting { HasActing (core_in code.now) store.now }
     ensures { result ≡ channel_at (acting_process (core_in code.now) store.now) }
 {
-    match store.turn {
+    match store.turn.get() {
         Turn::Nobody => unreachable!(),
         Turn::Node(number) | Turn::Wide(number, _) => channel_of_op(code, store, &code[number].op),
         Turn::Output(kept) => channel_of(kept.to),
@@ -102,7 +102,7 @@ pub(crate) fn form_of_turn(code: &[Node], store: &Store) -> Form
     requires acting { HasActing (core_in code.now) store.now }
     ensures { IsForm (core_in code.now) store.now result }
 {
-    match store.turn {
+    match store.turn.get() {
         Turn::Nobody => unreachable!(),
         Turn::Node(number) | Turn::Wide(number, _) => form_of(code, store, &code[number].op),
         Turn::Output(_) => Form::Other,

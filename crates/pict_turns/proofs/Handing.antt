@@ -3,6 +3,7 @@ use Rattle.std.proofs.Common.{ℕ, suc, ◌+◌, ◌<◌, ◌≤◌, ◌≡◌, 
 use Rattle.std.proofs.lemmas.Bool.Decides.{nat_tests}
 use Rattle.std.proofs.lemmas.Option.{slice_get_within}
 use Rattle.std.specs.List.{AllByRecursion}
+use Rattle.std.specs.Prelude.{Option, Some, None, IfSome}
 use Rattle.pict_syntax.specs.declared.limits.TheConstants.{NARROW_LIMIT}
 use Rattle.pict_core.specs.Term.{Process}
 use Rattle.pict_code.specs.Nodes.{nodes_of}
@@ -28,12 +29,12 @@ use Rattle.pict_desk.proofs.Numbered.{same_frame}
 use Rattle.pict_turns.specs.Turns.{IsTurn, IsWide, turn_cost}
 use Rattle.pict_turns.specs.Views.{turn_words, ready_words}
 use Rattle.pict_turns.specs.declared.store.Store.{Store}
-use Rattle.pict_turns.specs.declared.turn.Turn.{Turn}
 use Rattle.pict_turns.specs.declared.turn.Turn.TheVariants.{Nobody, Node as NodeTurn, Wide}
 use Rattle.pict_blocks.proofs.Holding.{narrow_holds, wide_holds, held_width}
 use Rattle.pict_desk.proofs.MakingRoom.{need_narrow, need_wide, uses_nothing}
 use Rattle.pict_turns.proofs.Adding.{used_less}
-use Rattle.pict_turns.proofs.Rows.{made_node, turn_stays}
+use Rattle.pict_turns.proofs.Rows.{made_node, levels_keep}
+use Rattle.pict_turns.proofs.Views.{frame_held}
 use Rattle.pict_turns.proofs.Turns.{frame_is, words_nobody, ready_nobody, nobody_turn, nobody_room, cost_nobody, ready_is, cost_is, room_for}
 
 -- ---- a part gets the turn
@@ -139,12 +140,15 @@ module _ (core : Process) (old new : Store) (number : ℕ) (frame : List ℕ) (o
   pub handed_pairs : ArePairs old.desk.heap old.desk.values.items → ArePairs new.desk.heap new.desk.values.items
   handed_pairs pairs = subst (ArePairs new.desk.heap) (sym one.values) (pairs_keep old.desk.heap new.desk.heap one.keeps old.desk.values.items pairs)
 
-  -- who had the turn before may still have it
-  pub handed_turn : ArePairs old.desk.heap old.desk.values.items → (turn : Turn) → IsTurn core old.desk.heap old.desk.values.items turn
-      → IsTurn core new.desk.heap new.desk.values.items turn
-  handed_turn pairs turn is =
-      subst (λ (vs : List (ℕ × ℕ)). IsTurn core new.desk.heap vs turn) (sym one.values)
-      (turn_stays core old.desk.heap new.desk.heap one.keeps old.desk.values.items pairs turn is)
+  -- a record that was one of a frame's values is one still
+  pub handed_record : ArePairs old.desk.heap old.desk.values.items → (other : List ℕ) (there : Option (ℕ × ℕ)) → IfSome there (HasRecord old other)
+      → IfSome there (HasRecord new other)
+  handed_record pairs other None is = tt
+  handed_record pairs other (Some pair) is =
+      let held = frame_held old.desk.heap new.desk.heap one.keeps (known old.desk.heap old.desk.values.items) other (pair.0 ∷ pair.1 ∷ []) is.holds in
+      let same : map (known new.desk.heap new.desk.values.items) other ≡ map (known old.desk.heap old.desk.values.items) other =
+      ap (λ (vs : List (ℕ × ℕ)). map (known new.desk.heap vs) other) one.values ∙ levels_keep core old.desk.heap new.desk.heap one.keeps old.desk.values.items pairs other in
+      record { wide = is.wide; holds = record { values = held.values ∙ sym same; narrow = held.narrow; wide = held.wide } }
 
   pub handed_no_more : HoldsNoMore old.queues new.queues
   handed_no_more block held = subst (λ (q : QueuesState). IsHeld q block) one.queues held

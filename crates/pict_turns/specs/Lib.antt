@@ -1,3 +1,4 @@
+pub mod Holders
 pub mod Parts
 pub mod Views
 pub mod Turns

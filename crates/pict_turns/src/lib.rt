@@ -3,6 +3,7 @@
 #![tactic(auto)]
 
 mod event;
+mod holder;
 mod nodes;
 mod parts;
 mod reading;
@@ -12,6 +13,7 @@ mod turn;
 mod turning;
 
 pub use event::Shown;
+pub use holder::Holder;
 pub use nodes::{choose, end, fork, make_channel};
 pub use parts::{make_ready, spawn_part};
 pub use reading::{frame_at, read_first};

@@ -20,7 +20,7 @@ ghost use Rattle.pict_turns.specs.Turns.{turn_cost};
 ghost use Rattle.pict_turns.specs.Widths.{MakesOnly, part_width};
 
 use crate::event::Shown;
-use crate::parts::{hand_on, hand_on_from, spawn_from};
+use crate::parts::{hand_on, hand_on_from, record_at, spawn_from};
 use crate::reading::frame_at;
 use crate::reserving::{reserve_part, reserve_parts};
 use crate::store::Store;
@@ -39,7 +39,7 @@ pub fn end(store: &mut Store) -> Result<Shown, AllocError>
     ensures quiet { result ≡ Ok Shown.Quiet }
     ensures rest { store.new ≡ record store.old { turn = Turn.Nobody } }
 {
-    store.turn = Turn::Nobody;
+    store.turn.set(Turn::Nobody);
     Ok(Shown::Quiet)
 }
 
@@ -61,9 +61,9 @@ pub fn fork(store: &mut Store, code: &[Node], left: u32, right: u32) -> Result<S
     let first = frame_at(code, left as usize);
     let second = frame_at(code, right as usize);
     reserve_parts(store, first, second)?;
-    let turn = store.turn;
-    hand_on_from(store, code, turn, left, first);
-    spawn_from(store, code, turn, right, second);
+    let there = record_at(&*store, code, second);
+    hand_on_from(store, code, left, first);
+    spawn_from(store, there, right, second);
     Ok(Shown::Quiet)
 }
 
@@ -91,8 +91,7 @@ pub fn choose(
     let part = chosen(&store.desk, test, yes, no);
     let frame = frame_at(code, part as usize);
     reserve_part(store, frame, NO_NEED)?;
-    let turn = store.turn;
-    hand_on_from(store, code, turn, part, frame);
+    hand_on_from(store, code, part, frame);
     Ok(Shown::Quiet)
 }
 

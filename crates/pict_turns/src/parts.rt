@@ -56,7 +56,7 @@ fn hand_on_wide(store: &mut Store, number: u32, frame: &[u32])
         frame,
         &store.desk.values,
     );
-    store.turn = Turn::Wide(number as usize, pair);
+    store.turn.set(Turn::Wide(number as usize, pair));
 }
 
 // The node with this number has the turn, with the values of the levels of its frame. A free block for it is there. Takes no
@@ -70,21 +70,21 @@ pub(crate) fn hand_on(store: &mut Store, number: u32, frame: &[u32])
     ensures queues { store.new.queues ≡ store.old.queues }
 {
     if frame.len() <= NARROW_LIMIT as usize {
-        store.turn = Turn::Node(number as usize);
+        store.turn.set(Turn::Node(number as usize));
     } else {
         hand_on_wide(store, number, frame);
     }
 }
 
-// The record of who has the turn, or of who had it, as that of this frame: where the two frames are the same one, of more than
-// `NARROW_LIMIT` levels. Takes no memory.
+// The record of who has the turn as that of this frame: where the two frames are the same one, of more than `NARROW_LIMIT` levels.
+// Takes no memory.
 #[cold]
-fn record_of(store: &Store, code: &[Node], turn: Turn, frame: &[u32]) -> Option<(u64, u64)>
+fn record_of(store: &Store, code: &[Node], frame: &[u32]) -> Option<(u64, u64)>
     requires code { IsCode (map plain_node code.now) }
-    requires turn { IsTurn (core_in code.now) store.now.desk.heap store.now.desk.values.items turn }
+    requires turn { IsTurn (core_in code.now) store.now.desk.heap store.now.desk.values.items store.now.turn }
     ensures { IfSome result (HasRecord store.now frame.now) }
 {
-    match turn {
+    match store.turn.get() {
         Turn::Wide(number, pair) => {
             if frame_at(code, number) == frame {
                 return Some(pair);
@@ -95,11 +95,25 @@ fn record_of(store: &Store, code: &[Node], turn: Turn, frame: &[u32]) -> Option<
     }
 }
 
+// The same of a frame that may be smaller.
+#[inline(always)]
+pub(crate) fn record_at(store: &Store, code: &[Node], frame: &[u32]) -> Option<(u64, u64)>
+    requires code { IsCode (map plain_node code.now) }
+    requires turn { IsTurn (core_in code.now) store.now.desk.heap store.now.desk.values.items store.now.turn }
+    ensures { IfSome result (HasRecord store.now frame.now) }
+{
+    if frame.len() <= NARROW_LIMIT as usize {
+        None
+    } else {
+        record_of(store, code, frame)
+    }
+}
+
 // The same as `hand_on_from` of a larger frame.
 #[cold]
-fn hand_on_wide_from(store: &mut Store, code: &[Node], turn: Turn, number: u32, frame: &[u32])
+fn hand_on_wide_from(store: &mut Store, code: &[Node], number: u32, frame: &[u32])
     requires code { IsCode (map plain_node code.now) }
-    requires turn { IsTurn (core_in code.now) store.old.desk.heap store.old.desk.values.items turn }
+    requires turn { IsTurn (core_in code.now) store.old.desk.heap store.old.desk.values.items store.old.turn }
     requires wide { NARROW_LIMIT < length frame.now }
     requires can { CanHold store.old frame.now }
     requires inside { All (λ level. level < length store.old.desk.values.items) frame.now }
@@ -107,17 +121,17 @@ fn hand_on_wide_from(store: &mut Store, code: &[Node], turn: Turn, number: u32, 
     ensures hands { (core : Process) → HasFrame (nodes_of core) number frame.now → HandsOn core store.old store.new number frame.now }
     ensures queues { store.new.queues ≡ store.old.queues }
 {
-    match record_of(&*store, code, turn, frame) {
-        Some(pair) => store.turn = Turn::Wide(number as usize, pair),
+    match record_of(&*store, code, frame) {
+        Some(pair) => store.turn.set(Turn::Wide(number as usize, pair)),
         None => hand_on_wide(store, number, frame),
     }
 }
 
-// The same as `hand_on`, by who had this turn: a record of the same frame is handed on, and not made anew.
+// The same as `hand_on`, by who has the turn: a record of the same frame is handed on, and not made anew.
 #[inline(always)]
-pub(crate) fn hand_on_from(store: &mut Store, code: &[Node], turn: Turn, number: u32, frame: &[u32])
+pub(crate) fn hand_on_from(store: &mut Store, code: &[Node], number: u32, frame: &[u32])
     requires code { IsCode (map plain_node code.now) }
-    requires turn { IsTurn (core_in code.now) store.old.desk.heap store.old.desk.values.items turn }
+    requires turn { IsTurn (core_in code.now) store.old.desk.heap store.old.desk.values.items store.old.turn }
     requires can { CanHold store.old frame.now }
     requires inside { All (λ level. level < length store.old.desk.values.items) frame.now }
     requires pairs { ArePairs store.old.desk.heap store.old.desk.values.items }
@@ -125,9 +139,9 @@ pub(crate) fn hand_on_from(store: &mut Store, code: &[Node], turn: Turn, number:
     ensures queues { store.new.queues ≡ store.old.queues }
 {
     if frame.len() <= NARROW_LIMIT as usize {
-        store.turn = Turn::Node(number as usize);
+        store.turn.set(Turn::Node(number as usize));
     } else {
-        hand_on_wide_from(store, code, turn, number, frame);
+        hand_on_wide_from(store, code, number, frame);
     }
 }
 
@@ -147,11 +161,10 @@ fn spawn_record(store: &mut Store, number: u32, pair: (u64, u64))
     store.queues.push_back(QueueId(0), part);
 }
 
-// The same as `spawn_from` of a larger frame.
-#[cold]
-fn spawn_wide_from(store: &mut Store, code: &[Node], turn: Turn, number: u32, frame: &[u32])
-    requires code { IsCode (map plain_node code.now) }
-    requires turn { IsTurn (core_in code.now) store.old.desk.heap store.old.desk.values.items turn }
+// The same as `spawn_part`, but that the block gets this record, where one of the frame is there already.
+#[inline(always)]
+pub(crate) fn spawn_from(store: &mut Store, there: Option<(u64, u64)>, number: u32, frame: &[u32])
+    requires there { IfSome there (HasRecord store.old frame.now) }
     requires queue { IsQueue store.old.queues 0 }
     requires can { CanHold store.old frame.now }
     requires inside { All (λ level. level < length store.old.desk.values.items) frame.now }
@@ -163,32 +176,9 @@ fn spawn_wide_from(store: &mut Store, code: &[Node], turn: Turn, number: u32, fr
     ensures blocks { KeepsBlocks store.old.queues.region store.new.queues.region }
     ensures cost { CostsAtMost (block_width frame.now + 2) store.old.queues store.new.queues }
 {
-    match record_of(&*store, code, turn, frame) {
+    match there {
         Some(pair) => spawn_record(store, number, pair),
         None => spawn_part(store, number, frame),
-    }
-}
-
-// The same as `spawn_part`, by who had this turn: the block gets a record of the same frame, and none is made.
-#[inline(always)]
-pub(crate) fn spawn_from(store: &mut Store, code: &[Node], turn: Turn, number: u32, frame: &[u32])
-    requires code { IsCode (map plain_node code.now) }
-    requires turn { IsTurn (core_in code.now) store.old.desk.heap store.old.desk.values.items turn }
-    requires queue { IsQueue store.old.queues 0 }
-    requires can { CanHold store.old frame.now }
-    requires inside { All (λ level. level < length store.old.desk.values.items) frame.now }
-    requires pairs { ArePairs store.old.desk.heap store.old.desk.values.items }
-    ensures spawns { Spawns store.old store.new number frame.now }
-    ensures kept { KeepsHeld store.old.queues store.new.queues }
-    ensures no_more { HoldsNoMore store.old.queues store.new.queues }
-    ensures spare_queues { store.new.queues.spare_queues ≡ store.old.queues.spare_queues }
-    ensures blocks { KeepsBlocks store.old.queues.region store.new.queues.region }
-    ensures cost { CostsAtMost (block_width frame.now + 2) store.old.queues store.new.queues }
-{
-    if frame.len() <= NARROW_LIMIT as usize {
-        spawn_part(store, number, frame);
-    } else {
-        spawn_wide_from(store, code, turn, number, frame);
     }
 }
 

@@ -1,5 +1,5 @@
 // What a machine keeps beside its code.
-use crate::turn::Turn;
+use crate::holder::Holder;
 use pict_desk::Desk;
 use pict_queue::Queues;
 
@@ -11,5 +11,5 @@ pub struct Store {
     /// The ready processes in queue 0, but who has the turn, and what is parked at each channel in the queue after its number.
     pub queues: Queues,
     /// Who has the turn. Nobody has it between two calls of a machine.
-    pub turn: Turn,
+    pub turn: Holder,
 }

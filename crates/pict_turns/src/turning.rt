@@ -51,7 +51,9 @@ fn read_output(store: &mut Store, block: &Block)
     ensures read { (core : Process) → ReadsTurn core store.old store.new (held_words store.old.queues.region block.now) }
     ensures cost { CostsAtMost 7 store.old.queues store.new.queues }
 {
-    store.turn = Turn::Output(read_kept(&mut store.queues, block));
+    store
+        .turn
+        .set(Turn::Output(read_kept(&mut store.queues, block)));
 }
 
 // The process of a node's held block, whose frame is of more than `NARROW_LIMIT` levels, has the turn. The levels get its
@@ -73,7 +75,7 @@ fn read_wide_node(store: &mut Store, code: &[Node], block: &Block, number: usize
         block,
         frame_at(code, number),
     );
-    store.turn = Turn::Wide(number, pair);
+    store.turn.set(Turn::Wide(number, pair));
 }
 
 // The process of a node's held block has the turn. The levels of its frame get its values.
@@ -89,7 +91,7 @@ fn read_node(store: &mut Store, code: &[Node], block: &Block, number: usize)
     let frame = frame_at(code, number);
     if frame.len() <= NARROW_LIMIT as usize {
         read_narrow(&mut store.queues, &mut store.desk, block, frame);
-        store.turn = Turn::Node(number);
+        store.turn.set(Turn::Node(number));
     } else {
         read_wide_node(store, code, block, number);
     }
@@ -124,8 +126,8 @@ fn set_down_other(store: &mut Store, code: &[Node]) -> Block
     ensures rest { store.new ≡ record store.old { queues = store.new.queues; turn = Turn.Nobody } }
     ensures cost { CostsAtMost (length (acting_words (core_in code.now) store.old) + 1) store.old.queues store.new.queues }
 {
-    let turn = store.turn;
-    store.turn = Turn::Nobody;
+    let turn = store.turn.get();
+    store.turn.set(Turn::Nobody);
     match turn {
         Turn::Wide(number, pair) => block_of(&mut store.queues, number, &[0], &[pair]),
         Turn::Output(kept) => kept_block(&mut store.queues, kept),
@@ -144,9 +146,9 @@ pub fn set_down(store: &mut Store, code: &[Node]) -> Block
     ensures rest { store.new ≡ record store.old { queues = store.new.queues; turn = Turn.Nobody } }
     ensures cost { CostsAtMost (length (acting_words (core_in code.now) store.old) + 1) store.old.queues store.new.queues }
 {
-    match store.turn {
+    match store.turn.get() {
         Turn::Node(number) => {
-            store.turn = Turn::Nobody;
+            store.turn.set(Turn::Nobody);
             let frame = frame_at(code, number);
             block_of(&mut store.queues, number, frame, &store.desk.values)
         }
@@ -169,7 +171,7 @@ pub fn return_turn(store: &mut Store, code: &[Node])
     ensures takes { TakesOneBlock store.old.queues store.new.queues (length (acting_words (core_in code.now) store.old) + 1) }
     ensures cost { CostsAtMost (turn_cost (core_in code.now) store.old) store.old.queues store.new.queues }
 {
-    match store.turn {
+    match store.turn.get() {
         Turn::Nobody => {}
         _ => {
             let block = set_down(store, code);

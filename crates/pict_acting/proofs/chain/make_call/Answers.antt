@@ -145,13 +145,13 @@ returns-clause-made c =
     let left : 1 ≤ spare made.region (block_width frame) = another_left region made.region (2 + 2 * length own) (block_width frame) m.spare m.widths one two in
     let free : spare q.region (block_width frame) ≡ spare made.region (block_width frame) = ap (λ (ns : List ℕ). slice_index ns (block_width frame)) push.rest.free in
     let room : 1 ≤ spare q.region (block_width frame) = omega (arith, left, free) in
-    call_after core s mid _ _ only
+    rw c.set.ensures (call_after core s mid _ _ only
     (call_made core c.requires.code.closed mid opened _ c.requires.begins.0 channel call c.pack-value.result store (only.turn ∙ c.requires.begins.1) begins (only.contents 0 ∙ c.requires.alone) count added
     c.pack-value.ensures.fits (sym c.pack-value.ensures.pair) added.heap refl refl pushed rest
     (push.rest.queues ∙ ap length m.queues)
     (made_no_more opened.queues made q c.block_of-block.result (2 + 2 * length own) (node_words c.deref.result.now call.reader own) m push.gone)
     (push.rest.spare_queues ∙ m.spare_queues)
-    (subst (λ (ls : List ℕ). 1 ≤ spare q.region (block_width ls)) frame_is room))
+    (subst (λ (ls : List ℕ). 1 ≤ spare q.region (block_width ls)) frame_is room)))
 
 pub returns-clause-blocks : goal.returns-clause-blocks
 returns-clause-blocks c =

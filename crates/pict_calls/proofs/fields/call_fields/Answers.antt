@@ -35,9 +35,9 @@ returns-in-Some-clause-done c core labelled on =
     let a = subst (λ vs. IsAnswerOf s.desk.heap vs c.args.p c.args.fields.now c.args.at c.in-Some.kept) c.deref.ensures.value at_hand in
     let v = argument_of s.desk.heap s.desk.values.items c.args.fields.now labelled in
     let last = record mid { turn = Output c.in-Some.kept } in
-    acts_after core s mid r last shows.Quiet
+    rw c.set.ensures (acts_after core s mid r last shows.Quiet
     (acts_by core mid last c.args.p v c.args.at (answering a.to a.answer) shows.Quiet (calls_still core s mid r c.args.p v c.args.at on) (a.effect labelled) c.in_ok-reserve_kept.ensures.block
-    (hands_answer s mid r.heap c.args.p c.args.fields.now c.args.at c.in-Some.kept a))
+    (hands_answer s mid r.heap c.args.p c.args.fields.now c.args.at c.in-Some.kept a)))
 
 pub returns-in-Some-clause-blocks : goal.returns-in-Some-clause-blocks
 returns-in-Some-clause-blocks c labelled e is =

@@ -37,14 +37,14 @@ frame_at-frame-requires c =
     in_code c.args.code.now c.requires.code c.args.part (part_inside core p c.args.part (serves_part core c.args.number c.args.part c.args.replicated p i))
 
 pub read_waiting-requires-clause-store : goal.read_waiting-requires-clause-store
-read_waiting-requires-clause-store c = set_aside (core_in c.args.code.now) c.args.store.now c.requires.sends.1.acting.store
+read_waiting-requires-clause-store c = rw c.set.ensures (set_aside (core_in c.args.code.now) c.args.store.now c.requires.sends.1.acting.store)
 
 pub bind_levels-requires-clause-fits : goal.bind_levels-requires-clause-fits
 bind_levels-requires-clause-fits c =
     let core = core_in c.args.code.now in
     let p = plain_pat c.args.pattern.now in
     let i = input_coded _ c.args.number c.args.part c.args.replicated p c.requires.code c.requires.input in
-    let reads = c.read_waiting.ensures.reads in
+    let reads = (rw c.set.ensures at c.read_waiting.ensures.reads) in
     subst (λ h. IsSome (match_value (unleveled p) (value_in h c.args.message.0 c.args.message.1))) (sym reads.read.rest.heap)
     (serves_fits core c.args.number c.args.part c.args.replicated p i c.args.store.now c.read_waiting.new.store c.args.channel c.args.message
     c.requires.sends.0 c.requires.code.closed c.requires.sends.1 c.requires.queue reads c.requires.right)
@@ -54,7 +54,7 @@ bind_levels-requires-clause-inside c =
     let core = core_in c.args.code.now in
     let p = plain_pat c.args.pattern.now in
     let i = input_coded _ c.args.number c.args.part c.args.replicated p c.requires.code c.requires.input in
-    subst (λ (n : ℕ). AllByRecursion (λ level. level < n) (levels_of p)) (sym c.read_waiting.ensures.reads.read.rest.levels)
+    subst (λ (n : ℕ). AllByRecursion (λ level. level < n) (levels_of p)) (sym (rw c.set.ensures at c.read_waiting.ensures.reads).read.rest.levels)
     (pattern_inside core p c.args.part (serves_part core c.args.number c.args.part c.args.replicated p i) c.args.store.now c.requires.sends.1.acting.store)
 
 pub bind_levels-requires-clause-rising : goal.bind_levels-requires-clause-rising
@@ -68,12 +68,12 @@ pub make_ready-requires-clause-can : goal.make_ready-requires-clause-can
 make_ready-requires-clause-can c =
     let frame = c.frame_at-frame.result.now in
     can_serve (core_in c.args.code.now) c.args.store.now c.read_waiting.new.store c.bind_levels.new.store c.args.channel c.args.number c.args.replicated frame
-    c.settle.new.queues c.read_waiting.ensures.reads c.bind_levels.ensures.rest c.settle.ensures.spare (c.requires.can frame c.frame_at-frame.ensures)
+    c.settle.new.queues (rw c.set.ensures at c.read_waiting.ensures.reads) c.bind_levels.ensures.rest c.settle.ensures.spare (c.requires.can frame c.frame_at-frame.ensures)
 
 pub make_ready-requires-clause-inside : goal.make_ready-requires-clause-inside
 make_ready-requires-clause-inside c =
     let inside = coded_inside c.args.code.now c.requires.code c.args.store.now c.requires.sends.1.acting.store c.args.part c.frame_at-frame.result.now c.frame_at-frame.ensures in
-    subst (λ (n : ℕ). All (λ level. level < n) c.frame_at-frame.result.now) (sym (c.bind_levels.ensures.levels ∙ c.read_waiting.ensures.reads.read.rest.levels)) inside
+    subst (λ (n : ℕ). All (λ level. level < n) c.frame_at-frame.result.now) (sym (c.bind_levels.ensures.levels ∙ (rw c.set.ensures at c.read_waiting.ensures.reads).read.rest.levels)) inside
 
 pub make_ready-requires-clause-pairs : goal.make_ready-requires-clause-pairs
 make_ready-requires-clause-pairs c =
@@ -89,7 +89,7 @@ returns-clause-done c =
     let taken = c.read_waiting.new.store in
     let bound = c.bind_levels.new.store in
     let new = c.make_ready.new.store in
-    let reads = c.read_waiting.ensures.reads in
+    let reads = (rw c.set.ensures at c.read_waiting.ensures.reads) in
     let rest = c.bind_levels.ensures.rest in
     let frame = c.frame_at-frame.result.now in
     let waiting = waiting_read old taken c.args.channel c.args.number reads in
@@ -128,7 +128,7 @@ returns-clause-turn c = λ frame has_frame.
     let taken = c.read_waiting.new.store in
     let bound = c.bind_levels.new.store in
     let new = c.make_ready.new.store in
-    let reads = c.read_waiting.ensures.reads in
+    let reads = (rw c.set.ensures at c.read_waiting.ensures.reads) in
     let rest = c.bind_levels.ensures.rest in
     let own = c.frame_at-frame.result.now in
     let f = c.frame_at-frame.ensures in
@@ -140,11 +140,11 @@ returns-clause-turn c = λ frame has_frame.
 pub returns-clause-blocks : goal.returns-clause-blocks
 returns-clause-blocks c = λ width.
     c.make_ready.ensures.blocks width ∙ ap (λ (s : Store). blocks s.queues.region width) c.bind_levels.ensures.rest ∙ c.settle.ensures.blocks width
-    ∙ works_blocks c.args.store.now.queues c.read_waiting.new.store.queues c.read_waiting.ensures.reads.read.rest.queues width
+    ∙ works_blocks c.args.store.now.queues c.read_waiting.new.store.queues (rw c.set.ensures at c.read_waiting.ensures.reads).read.rest.queues width
 
 pub settle-requires-clause-some : goal.settle-requires-clause-some
 settle-requires-clause-some c =
-    let reads = c.read_waiting.ensures.reads in
+    let reads = (rw c.set.ensures at c.read_waiting.ensures.reads) in
     let first = ap length (first_read c.args.store.now c.read_waiting.new.store c.args.channel c.args.number reads) in
     let words = ap length reads.read.is.words_are in
     omega (arith, first, words)
@@ -158,5 +158,5 @@ returns-clause-adds c =
     let own = c.frame_at-frame.result.now in
     let f = c.frame_at-frame.ensures in
     adds_part (map plain_node c.args.code.now) old new c.args.part own f
-    (used_same old.desk.heap bound.desk.heap new.desk.heap.room _ (ap (λ (s : Store). s.desk.heap) c.bind_levels.ensures.rest ∙ c.read_waiting.ensures.reads.read.rest.heap)
+    (used_same old.desk.heap bound.desk.heap new.desk.heap.room _ (ap (λ (s : Store). s.desk.heap) c.bind_levels.ensures.rest ∙ (rw c.set.ensures at c.read_waiting.ensures.reads).read.rest.heap)
     (used_last core bound new c.args.part own (c.make_ready.ensures.last core (record { node = f.node; at = coded_at c.args.code.now c.requires.code c.args.part own f; is = f.is }))))

@@ -32,5 +32,5 @@ returns c =
       };
       keeps = keeps_more s.desk.heap mid.heap last.heap one.keeps other.keeps;
       values = other.values ∙ one.values;
-      turn = refl;
+      turn = c.set.ensures;
     }

@@ -1,4 +1,4 @@
-use Rattle.std.proofs.Common.{sym, subst}
+use Rattle.std.proofs.Common.{sym, subst, ◌∙◌}
 use Rattle.pict_desk.specs.Code.{core_in}
 use Rattle.pict_desk.proofs.Numbered.{in_code, coded_at}
 use Rattle.pict_turns.proofs.Turns.{nobody_acts}
@@ -10,21 +10,21 @@ use Rattle.pict_network.specs.SiteView.{IsNoFork, IsNoOpening}
 use Rattle.pict_sites.proofs.standing.form_of_turn.Goals as goal
 
 pub unreachable-requires : goal.unreachable-requires
-unreachable-requires c = nobody_acts (core_in c.args.code.now) c.args.store.now c.requires.acting c.in-Nobody.is
+unreachable-requires c = nobody_acts (core_in c.args.code.now) c.args.store.now c.requires.acting (sym c.get.ensures ∙ c.in-Nobody.is)
 
 pub bounds-code-number : goal.bounds-code-number
-bounds-code-number c = in_code c.args.code.now c.requires.code c.in-Node.number (node_low (core_in c.args.code.now) c.args.store.now c.requires.acting c.in-Node.number c.in-Node.is)
+bounds-code-number c = in_code c.args.code.now c.requires.code c.in-Node.number (node_low (core_in c.args.code.now) c.args.store.now c.requires.acting c.in-Node.number (rw c.get.ensures at c.in-Node.is))
 
 pub form_of-requires-clause-acts : goal.form_of-requires-clause-acts
 form_of-requires-clause-acts c =
     let code = c.args.code.now in
-    let low = in_code code c.requires.code c.in-Node.number (node_low (core_in code) c.args.store.now c.requires.acting c.in-Node.number c.in-Node.is) in
+    let low = in_code code c.requires.code c.in-Node.number (node_low (core_in code) c.args.store.now c.requires.acting c.in-Node.number (rw c.get.ensures at c.in-Node.is)) in
     let x = frame_there code c.in-Node.number low in
-    number_acts (core_in code) c.args.store.now c.requires.acting c.in-Node.number c.in-Node.is x.1.node _ (coded_at code c.requires.code c.in-Node.number x.0 x.1)
+    number_acts (core_in code) c.args.store.now c.requires.acting c.in-Node.number (rw c.get.ensures at c.in-Node.is) x.1.node _ (coded_at code c.requires.code c.in-Node.number x.0 x.1)
     (op_read code c.in-Node.number c.index-code-number.result x.1.node x.1.at c.index-code-number.is)
 
 pub returns-in-Output : goal.returns-in-Output
 returns-in-Output c =
     let core = core_in c.args.code.now in
     let s = c.args.store.now in
-    subst (λ p. IsNoFork p × IsNoOpening p) (sym (kept_process core s c.requires.acting c.in-Output.field-0 c.in-Output.is)) (tt, tt)
+    subst (λ p. IsNoFork p × IsNoOpening p) (sym (kept_process core s c.requires.acting c.in-Output.field-0 (sym c.get.ensures ∙ c.in-Output.is))) (tt, tt)

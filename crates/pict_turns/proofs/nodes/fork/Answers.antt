@@ -10,7 +10,7 @@ use Rattle.pict_blocks.specs.Parts.{block_width}
 use Rattle.pict_turns.specs.Turns.{turn_cost}
 use Rattle.pict_turns.specs.Widths.{MakesOnly}
 use Rattle.pict_turns.proofs.Adding.{used_less, adds_parts}
-use Rattle.pict_turns.proofs.Handing.{handed_pairs, handed_turn}
+use Rattle.pict_turns.proofs.Handing.{handed_pairs, handed_record}
 use Rattle.pict_turns.proofs.Making.{makes_before, makes_parts}
 use Rattle.pict_turns.proofs.Numbered.{coded_inside, fork_parts}
 use Rattle.pict_desk.proofs.Numbered.{coded_frame, in_code, same_frame}
@@ -33,13 +33,18 @@ pub hand_on_from-requires-clause-turn : goal.hand_on_from-requires-clause-turn
 hand_on_from-requires-clause-turn c =
     (store_still (core_in c.args.code.now) c.args.store.now c.reserve_parts.new.store c.reserve_parts.ensures.rest c.requires.acts.acting.store).turn
 
-pub spawn_from-requires-clause-turn : goal.spawn_from-requires-clause-turn
-spawn_from-requires-clause-turn c =
+pub record_at-there-requires-clause-turn : goal.record_at-there-requires-clause-turn
+record_at-there-requires-clause-turn c =
+    (store_still (core_in c.args.code.now) c.args.store.now c.reserve_parts.new.store c.reserve_parts.ensures.rest c.requires.acts.acting.store).turn
+
+pub spawn_from-requires-clause-there : goal.spawn_from-requires-clause-there
+spawn_from-requires-clause-there c =
     let core = core_in c.args.code.now in
     let mid = c.reserve_parts.new.store in
     let f = coded_frame c.args.code.now c.requires.code c.args.left c.frame_at-first.result.now c.frame_at-first.ensures in
     let still = store_still core c.args.store.now mid c.reserve_parts.ensures.rest c.requires.acts.acting.store in
-    handed_turn core mid c.hand_on_from.new.store c.args.left c.frame_at-first.result.now (c.hand_on_from.ensures.hands core f) still.pairs mid.turn still.turn
+    handed_record core mid c.hand_on_from.new.store c.args.left c.frame_at-first.result.now (c.hand_on_from.ensures.hands core f) still.pairs c.frame_at-second.result.now
+    c.record_at-there.result c.record_at-there.ensures
 
 pub hand_on_from-requires-clause-can : goal.hand_on_from-requires-clause-can
 hand_on_from-requires-clause-can c =

@@ -12,6 +12,6 @@ pub returns-clause-hands : goal.returns-clause-hands
 returns-clause-hands c = λ core f.
     let s = c.args.store.now in
     let r = c.frame_record-pair in
-    hands_wide core s r.new.heap r.new.pending r.result c.args.number c.args.frame.now f c.requires.pairs c.requires.wide
+    rw c.set.ensures (hands_wide core s r.new.heap r.new.pending r.result c.args.number c.args.frame.now f c.requires.pairs c.requires.wide
     (subst (HasRoomFor s.desk.heap s.desk.pending) (need_wide c.args.frame.now c.requires.wide) c.requires.can.room).countable r.ensures.pair
-    (r.ensures.fields ∙ ap (λ vs. map (known s.desk.heap vs) c.args.frame.now) c.deref.ensures.value) r.ensures.keeps r.ensures.used r.ensures.pending
+    (r.ensures.fields ∙ ap (λ vs. map (known s.desk.heap vs) c.args.frame.now) c.deref.ensures.value) r.ensures.keeps r.ensures.used r.ensures.pending)

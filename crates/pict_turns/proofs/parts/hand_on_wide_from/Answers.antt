@@ -4,4 +4,4 @@ use Rattle.pict_turns.proofs.parts.hand_on_wide_from.Goals as goal
 
 pub returns-in-Some-clause-hands : goal.returns-in-Some-clause-hands
 returns-in-Some-clause-hands c = λ core f.
-    hands_kept core c.args.store.now c.in-Some.pair c.args.number c.args.frame.now f c.requires.pairs c.in-Some.ensures
+    rw c.set.ensures (hands_kept core c.args.store.now c.in-Some.pair c.args.number c.args.frame.now f c.requires.pairs c.in-Some.ensures)

@@ -44,11 +44,11 @@ returns-then-frame-clause-read c =
     let read = node_read core s n c.args.number words frame c.requires.is.0 c.requires.is.1 f (has_read_by s c.read_narrow.new.queues c.read_narrow.new.desk words frame c.read_narrow.ensures.rest c.read_narrow.ensures.read) in
     let few : length read.node.frame ≤ NARROW_LIMIT =
     subst (λ (ls : List ℕ). length ls ≤ NARROW_LIMIT) (sym (read_frame_is core s n c.args.number words frame read f)) c.if-frame.true in
-    record {
+    rw c.set.ensures (record {
       words = narrow_taken core s n c.args.number words c.requires.is.0 c.requires.is.1 read few;
       turn = narrow_turn_taken core s n c.args.number words c.requires.is.0 c.requires.is.1 read few;
       rest = reads_aside s n read.rest;
-    }
+    })
 
 pub returns-then-frame-clause-cost : goal.returns-then-frame-clause-cost
 returns-then-frame-clause-cost c =

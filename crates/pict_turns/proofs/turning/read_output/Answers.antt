@@ -21,8 +21,8 @@ returns-clause-read c = λ core.
     let s = c.args.store.now in
     let k = c.requires.kept in
     let same = c.read_kept.ensures.kept k.kept k.fits k.is in
-    record {
+    rw c.set.ensures (record {
       words = ap (λ (kept : Kept). kept_words kept ∷ []) same ∙ ap (λ (us : List ℕ). us ∷ []) (sym k.is);
       turn = kept_taken s.desk.heap (held_words s.queues.region c.args.block.now) k c.read_kept.result same;
       rest = reads_works s c.read_kept.new.queues c.requires.pairs c.read_kept.ensures.rest;
-    }
+    })

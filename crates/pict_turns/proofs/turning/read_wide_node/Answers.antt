@@ -36,9 +36,9 @@ returns-clause-read c =
     let many : NARROW_LIMIT < length read.node.frame =
     subst (λ (ls : List ℕ). NARROW_LIMIT < length ls) (sym (read_frame_is core s n c.args.number words c.frame_at.result.now read f)) (c.requires.wide c.frame_at.result.now c.frame_at.ensures) in
     let ws = words_of s.queues.region c.args.block.now in
-    record {
+    rw c.set.ensures (record {
       words = ap (λ (us : List ℕ). us ∷ [])
           (sym (wide_held core s n c.args.number words c.requires.is.0 c.requires.is.1 read many pair ws refl c.read_wide-pair.ensures.first c.read_wide-pair.ensures.second));
       turn = wide_taken core s n c.args.number words c.requires.is.0 c.requires.is.1 read many pair ws refl c.read_wide-pair.ensures.first c.read_wide-pair.ensures.second;
       rest = reads_aside s n read.rest;
-    }
+    })

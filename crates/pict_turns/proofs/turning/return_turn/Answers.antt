@@ -12,21 +12,21 @@ use Rattle.pict_turns.proofs.Turns.{words_nobody, ready_nobody, cost_is}
 use Rattle.pict_turns.proofs.turning.return_turn.Goals as goal
 
 pub set_down-block-requires-clause-acting : goal.set_down-block-requires-clause-acting
-set_down-block-requires-clause-acting c = some_acts (core_in c.args.code.now) c.args.store.now c.requires.store c.in_default.not-Nobody
+set_down-block-requires-clause-acting c = some_acts (core_in c.args.code.now) c.args.store.now c.requires.store (λ e. c.in_default.not-Nobody (c.get.ensures ∙ e))
 
 pub returns-in-Nobody-clause-ready : goal.returns-in-Nobody-clause-ready
 returns-in-Nobody-clause-ready c =
     let core = core_in c.args.code.now in
-    sym (ready_nobody core c.args.store.now (words_nobody core c.args.store.now c.in-Nobody.is))
+    sym (ready_nobody core c.args.store.now (words_nobody core c.args.store.now (sym c.get.ensures ∙ c.in-Nobody.is)))
 
 pub returns-in-Nobody-clause-rest : goal.returns-in-Nobody-clause-rest
-returns-in-Nobody-clause-rest c = ap (λ (t : Turn). record c.args.store.now { turn = t }) c.in-Nobody.is
+returns-in-Nobody-clause-rest c = ap (λ (t : Turn). record c.args.store.now { turn = t }) (sym c.get.ensures ∙ c.in-Nobody.is)
 
 pub returns-in_default-clause-store : goal.returns-in_default-clause-store
 returns-in_default-clause-store c =
     let core = core_in c.args.code.now in
     let s = c.args.store.now in
-    let a = some_acts core s c.requires.store c.in_default.not-Nobody in
+    let a = some_acts core s c.requires.store (λ e. c.in_default.not-Nobody (c.get.ensures ∙ e)) in
     subst (IsStore core) (sym (ap (λ (x : Store). record x { queues = c.push_front.new.self }) c.set_down-block.ensures.rest))
     (rested_store core s c.set_down-block.new.store.queues c.push_front.new.self c.set_down-block.result a c.set_down-block.ensures.made
     c.push_front.ensures.pushed c.push_front.ensures.other_contents c.push_front.ensures.rest.queues)
@@ -35,7 +35,7 @@ pub returns-in_default-clause-ready : goal.returns-in_default-clause-ready
 returns-in_default-clause-ready c =
     let core = core_in c.args.code.now in
     let s = c.args.store.now in
-    let a = some_acts core s c.requires.store c.in_default.not-Nobody in
+    let a = some_acts core s c.requires.store (λ e. c.in_default.not-Nobody (c.get.ensures ∙ e)) in
     rested_ready core s c.set_down-block.new.store.queues c.push_front.new.self c.set_down-block.result a c.set_down-block.ensures.made
     c.push_front.ensures.pushed c.push_front.ensures.other_contents c.push_front.ensures.rest.queues
 
@@ -73,6 +73,6 @@ pub returns-in_default-clause-cost : goal.returns-in_default-clause-cost
 returns-in_default-clause-cost c =
     let core = core_in c.args.code.now in
     let s = c.args.store.now in
-    let a = some_acts core s c.requires.store c.in_default.not-Nobody in
+    let a = some_acts core s c.requires.store (λ e. c.in_default.not-Nobody (c.get.ensures ∙ e)) in
     let cost = cost_is core s (acting_words core s) a.has in
     costs_more s.queues c.set_down-block.new.store.queues c.push_front.new.self (length (acting_words core s) + 1) 2 _ (omega (arith, cost)) c.set_down-block.ensures.cost c.push_front.ensures.cost

@@ -22,7 +22,7 @@ returns-clause-kept c =
     let many = c.level_count.ensures ∙ ap (λ nodes. levels_in (map plain_node nodes)) c.deref.ensures.value in
     let store : Store = record { desk = c.make_constants.new.desk; queues = c.in_ok-queues.queues; turn = Nobody } in
     let queues = c.in_ok-queues.ensures in
-    record {
+    rw c.new-turn.ensures (record {
       running = record {
         code = c.requires.code;
         store = opening_store core store (plain_code c.args.code) c.level_count.result c.requires.code.nodes_are queues (c.make_constants.ensures.rest.values ∙ zeros) many refl;
@@ -31,7 +31,7 @@ returns-clause-kept c =
         constants = subst (λ (nodes : List written.Node). AreConstants store.desk.heap (map plain_node nodes) c.in_ok-constants.constants.items) c.deref-2.ensures.value c.in_ok-constants.ensures.are;
       };
       idle = refl;
-    }
+    })
 
 pub returns-clause-stands : goal.returns-clause-stands
 returns-clause-stands c = opening_stands (core_of (plain_code c.args.code)) c.make_constants.new.desk.heap c.in_ok-queues.queues c.in_ok-queues.ensures

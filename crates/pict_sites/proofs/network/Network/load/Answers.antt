@@ -39,7 +39,7 @@ returns-clause-kept c =
     record {
       code = c.requires.code;
       constants = subst (λ (nodes : List written.Node). AreConstants store.desk.heap (map plain_node nodes) c.in_ok-constants.constants.items) c.deref-2.ensures.value c.in_ok-constants.ensures.are;
-      sites = loaded_sites core _ c.in_ok-first.first c.in_ok-first.ensures c.in_ok-queues.ensures.first c.in_ok-post.ensures site refl c.new-5.ensures.items c.new-6.ensures.items c.args.sites c.in_ok-queues.ensures.count
+      sites = loaded_sites core _ c.in_ok-first.first c.in_ok-first.ensures c.in_ok-queues.ensures.first c.in_ok-post.ensures site c.new-turn.ensures c.new-5.ensures.items c.new-6.ensures.items c.args.sites c.in_ok-queues.ensures.count
           c.requires.some c.requires.few;
     }
 
@@ -50,5 +50,5 @@ returns-clause-stands c =
     let many = c.level_count.ensures ∙ ap (λ nodes. levels_in (map plain_node nodes)) c.deref.ensures.value in
     let store : Store = record { desk = c.make_constants.new.desk; queues = c.in_ok-first.first; turn = Nobody } in
     let site = opening_store core store (plain_code c.args.code) c.level_count.result c.requires.code.nodes_are c.in_ok-first.ensures (c.make_constants.ensures.rest.values ∙ zeros) many refl in
-    loaded_stand core _ c.in_ok-first.first c.in_ok-first.ensures c.in_ok-queues.ensures.first c.in_ok-post.ensures site refl c.new-5.ensures.items c.new-6.ensures.items c.args.sites c.in_ok-queues.ensures.count
+    loaded_stand core _ c.in_ok-first.first c.in_ok-first.ensures c.in_ok-queues.ensures.first c.in_ok-post.ensures site c.new-turn.ensures c.new-5.ensures.items c.new-6.ensures.items c.args.sites c.in_ok-queues.ensures.count
     c.requires.some c.requires.few
