@@ -37,20 +37,3 @@ pub(crate) fn read_pair(queues: &mut Queues, block: &Block, place: u32) -> (u64,
 {
     queues.get_pair(block, place)
 }
-
-/// Reads the values of a frame out of a held block, each to the place of its level among `values`. Takes no memory.
-#[inline(always)]
-pub fn read_frame(queues: &mut Queues, block: &Block, frame: &[u32], values: &mut [(u64, u64)])
-    requires held { IsHeld queues.old block.now }
-    requires wide { width_of queues.old.region block.now ≡ 2 + 2 * length frame.now }
-    requires narrow { length frame.now ≤ NARROW_LIMIT }
-    requires inside { All (λ level. level < length values.old) frame.now }
-    requires rising { AreRising 0 frame.now }
-    ensures words { gathered values.new frame.now ≡ drop 2 (words_of queues.old.region block.now) }
-    ensures others { (level : ℕ) → list_any (eqb level) frame.now ≡ false → pair_at values.new level ≡ pair_at values.old level }
-    ensures len { length values.new ≡ length values.old }
-    ensures rest { OnlyWorks queues.old queues.new }
-    ensures cost { CostsAtMost (2 * length frame.now) queues.old queues.new }
-{
-    queues.scatter(block, 2, frame, values);
-}

@@ -10,7 +10,6 @@ mod reading;
 mod spawning;
 mod widths;
 
-pub use frames::read_frame;
 pub use keeping::{kept_block, read_kept};
 pub use laws::{
     law_inputs_meet, law_inputs_stand, law_narrow_blocks, law_news_make_channels, law_nodes_end,

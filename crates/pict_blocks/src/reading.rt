@@ -1,4 +1,4 @@
-// The frame of a node is read out of its block.
+// The frame of a node is read out of its block, and the block freed.
 ghost use Rattle.std.specs.Prelude.{◌≡◌, ◌<◌, ◌≤◌, ◌∷◌, ℕ, suc, List, All, length, slice_index};
 ghost use Rattle.pict_syntax.specs.declared.limits.TheConstants.{NARROW_LIMIT};
 ghost use Rattle.pict_code.specs.Levels.{Rises};
@@ -8,31 +8,31 @@ ghost use Rattle.pict_queue.specs.Contents.{held_words};
 ghost use Rattle.pict_desk.specs.Pairs.{ArePairs};
 ghost use Rattle.pict_blocks.specs.Holding.{HoldWords, HoldRecord};
 ghost use Rattle.pict_blocks.specs.Parts.{block_width, HasReadFrame};
-ghost use Rattle.pict_blocks.specs.Writing.{OnlyWorks};
+ghost use Rattle.pict_blocks.specs.Writing.{IsFreed, OnlyWorks};
 
-use crate::frames::read_frame;
 use pict_desk::{Desk, read_record};
 use pict_queue::Queues;
 use pict_region::Block;
 
-/// Reads the values of a frame, which stand in a held block itself, each to the place of its level. Takes no memory.
+/// Reads the values of a frame, which stand in a held block itself, each to the place of its level, and frees the block. Takes no
+/// memory.
 #[inline(always)]
-pub fn read_narrow(queues: &mut Queues, desk: &mut Desk, block: &Block, frame: &[u32])
+pub fn read_narrow(queues: &mut Queues, desk: &mut Desk, block: Block, frame: &[u32])
     requires narrow { length frame.now ≤ NARROW_LIMIT }
-    requires held { IsHeld queues.old block.now }
+    requires held { IsHeld queues.old block }
     requires inside { All (λ level. level < length desk.old.values.items) frame.now }
     requires rising { Rises 0 frame.now }
     requires pairs { ArePairs desk.old.heap desk.old.values.items }
-    requires holds { (number : ℕ) × (held : List ℕ) × (held_words queues.old.region block.now ≡ suc number ∷ held)
+    requires holds { (number : ℕ) × (held : List ℕ) × (held_words queues.old.region block ≡ suc number ∷ held)
         × HoldWords desk.old.heap (length frame.now) held }
-    ensures read { HasReadFrame desk.old desk.new (held_words queues.old.region block.now) frame.now }
-    ensures rest { OnlyWorks queues.old queues.new }
+    ensures read { HasReadFrame desk.old desk.new (held_words queues.old.region block) frame.now }
+    ensures freed { IsFreed queues.old queues.new block }
     ensures cost { CostsAtMost (block_width frame.now) queues.old queues.new }
 {
-    read_frame(queues, block, frame, &mut desk.values);
+    queues.scatter_and_give(block, 2, frame, &mut desk.values);
 }
 
-/// The same of a frame whose values stand in a record, of which the result is the two words.
+/// Reads the values of a frame, which stand in a record, of which the result is the two words. The block stays held.
 #[cold]
 pub fn read_wide(queues: &mut Queues, desk: &mut Desk, block: &Block, frame: &[u32]) -> (u64, u64)
     requires wide { NARROW_LIMIT < length frame.now }

@@ -5,3 +5,4 @@ pub mod Tables
 pub mod Calls
 pub mod Kept
 pub mod Uses
+pub mod Popping

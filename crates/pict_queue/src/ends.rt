@@ -1,7 +1,7 @@
 // The ends of queues, and their lengths.
-ghost use Rattle.std.specs.Prelude.{◌≡◌, ◌≤◌, ◌<◌, ◌+◌, ◌^◌, ◌++◌, ◌∷◌, [], length, slice_set, OnOk, IsOk, if◌then◌else◌, is_ok, vec_len};
+ghost use Rattle.std.specs.Prelude.{◌≡◌, ◌≤◌, ◌<◌, ◌+◌, ◌^◌, ◌++◌, ◌∷◌, [], length, slice_set, OnOk, IsOk, slice_index, if◌then◌else◌, is_ok, vec_len};
 ghost use Rattle.std.specs.Vec.{vec_capacity};
-ghost use Rattle.pict_region.specs.RegionState.{IsLive};
+ghost use Rattle.pict_region.specs.RegionState.{IsLive, words_of, width_of};
 ghost use Rattle.pict_queue.specs.Ends.{queue_in, ends_of};
 
 use pict_region::{Block, Region};
@@ -64,6 +64,28 @@ impl Ends {
         let queue = self.queues[number as usize];
         let token = region.block(queue.first as u64);
         (queue, token)
+    }
+
+    /// A queue, a token of its first block, which is live, and words 0 and 1 of that block.
+    #[inline(always)]
+    pub(crate) fn open_first(
+        &self,
+        region: &mut Region,
+        number: u64,
+    ) -> (Queue, (Block, (u64, u64)))
+        requires queue { number < length self.now.queues.items }
+        requires live { IsLive region.old (queue_in self.now.queues.items number).first }
+        requires wide { 1 < width_of region.old (queue_in self.now.queues.items number).first }
+        ensures queue { result.0 ≡ queue_in self.now.queues.items number }
+        ensures token { result.1.0 ≡ (queue_in self.now.queues.items number).first }
+        ensures link { result.1.1.0 ≡ slice_index (words_of region.old (queue_in self.now.queues.items number).first) 0 }
+        ensures word { result.1.1.1 ≡ slice_index (words_of region.old (queue_in self.now.queues.items number).first) 1 }
+        ensures rest { region.new ≡ record region.old { work = region.new.work } }
+        ensures least { region.old.work ≤ region.new.work }
+        ensures most { region.new.work ≤ region.old.work + 3 }
+    {
+        let queue = self.queues[number as usize];
+        (queue, region.open(queue.first as u64))
     }
 
     /// A queue, or where it is empty one whose ends are this block, and a token of its last block, which is live.

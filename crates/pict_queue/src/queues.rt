@@ -183,6 +183,33 @@ impl Queues {
         }
     }
 
+    /// The first block of a queue, which the caller then holds, and its word 1, or None exactly where the queue is empty. Takes no
+    /// memory.
+    #[inline(always)]
+    pub fn pop_front_word(&mut self, q: QueueId) -> Option<(Block, u64)>
+        requires { IsQueue self.old q.0 }
+        ensures none { IsNone result ↔ (queue_blocks self.old q.0 ≡ []) }
+        ensures list { IfSome result (λ p. queue_blocks self.old q.0 ≡ p.0 ∷ queue_blocks self.new q.0) }
+        ensures word { IfSome result (λ p. p.1 ≡ slice_index (words_of self.new.region p.0) 1) }
+        ensures held { IfSome result (λ p. IsHeld self.new p.0) }
+        ensures live { self.new.region.live ≡ self.old.region.live }
+        ensures others { KeepsOtherQueues self.old self.new q.0 }
+        ensures popped { IfSome result (λ p. contents self.old q.0 ≡ held_words self.new.region p.0 ∷ contents self.new q.0) }
+        ensures other_contents { KeepsOtherContents self.old self.new q.0 }
+        ensures kept { KeepsHeld self.old self.new }
+        ensures more { IfSome result (λ p. HoldsOneMore self.old self.new p.0) }
+        ensures blocks { KeepsBlocks self.old.region self.new.region }
+        ensures rest { KeepsRest self.old self.new }
+        ensures once { HasEachBlockOnce self.new }
+        ensures cost { CostsAtMost 3 self.old self.new }
+    {
+        if self.ends.length(q.0) == 0 {
+            None
+        } else {
+            Some(self.pop_word(q))
+        }
+    }
+
     /// The first block of `from` becomes the last of `to`; where these are one queue, it goes to the back. Takes no
     /// memory, and does no work where these are one queue, of one block.
     #[inline(always)]
@@ -443,6 +470,37 @@ impl Queues {
         self.region.scatter(b, first, indices, values);
     }
 
+    /// Reads values out of a held block as `scatter` does, frees the block as `give` does, and spends its token. Takes no memory.
+    #[inline(always)]
+    pub fn scatter_and_give(
+        &mut self,
+        b: Block,
+        first: u32,
+        indices: &[u32],
+        values: &mut [(u64, u64)],
+    )
+        requires held { IsHeld self.old b }
+        requires inside { first + 2 * length indices.now ≤ width_of self.old.region b }
+        requires known { All (λ index. index < length values.old) indices.now }
+        requires rising { AreRising 0 indices.now }
+        ensures words { gathered values.new indices.now ≡ take (2 * length indices.now) (drop first (words_of self.old.region b)) }
+        ensures others { (index : ℕ) → list_any (eqb index) indices.now ≡ false → pair_at values.new index ≡ pair_at values.old index }
+        ensures len { length values.new ≡ length values.old }
+        ensures live { self.new.region.live ≡ remove self.old.region.live b }
+        ensures spare { spare self.new.region (width_of self.old.region b) ≡ spare self.old.region (width_of self.old.region b) + 1 }
+        ensures widths { KeepsOtherWidths self.old.region self.new.region (width_of self.old.region b) }
+        ensures work { self.new.region.work ≡ raised_by (2 * length indices.now + 1) self.old.region.work }
+        ensures rest { self.new ≡ record self.old { region = self.new.region } }
+        ensures lists { KeepsQueues self.old self.new }
+        ensures contents { KeepsAllContents self.old self.new }
+        ensures kept { KeepsOtherHeld self.old self.new b }
+        ensures gone { Releases self.old self.new b }
+        ensures blocks { KeepsBlocks self.old.region self.new.region }
+        ensures once { HasEachBlockOnce self.new }
+    {
+        self.region.scatter_and_give(b, first, indices, values);
+    }
+
     /// The work of the region.
     #[inline(always)]
     pub fn work(&self) -> u64
@@ -488,6 +546,35 @@ impl Queues {
         };
         self.ends.put(q.0, rest);
         block
+    }
+
+    // The first block of a queue that isn't empty, and its word 1.
+    #[inline(always)]
+    fn pop_word(&mut self, q: QueueId) -> (Block, u64)
+        requires queue { IsQueue self.old q.0 }
+        requires some { 0 < length (queue_blocks self.old q.0) }
+        ensures list { queue_blocks self.old q.0 ≡ result.0 ∷ queue_blocks self.new q.0 }
+        ensures word { result.1 ≡ slice_index (words_of self.new.region result.0) 1 }
+        ensures held { IsHeld self.new result.0 }
+        ensures live { self.new.region.live ≡ self.old.region.live }
+        ensures others { KeepsOtherQueues self.old self.new q.0 }
+        ensures popped { contents self.old q.0 ≡ held_words self.new.region result.0 ∷ contents self.new q.0 }
+        ensures other_contents { KeepsOtherContents self.old self.new q.0 }
+        ensures kept { KeepsHeld self.old self.new }
+        ensures more { HoldsOneMore self.old self.new result.0 }
+        ensures blocks { KeepsBlocks self.old.region self.new.region }
+        ensures rest { KeepsRest self.old self.new }
+        ensures once { HasEachBlockOnce self.new }
+        ensures cost { CostsAtMost 3 self.old self.new }
+    {
+        let (queue, (block, pair)) = self.ends.open_first(&mut self.region, q.0);
+        let rest = Queue {
+            first: number_in(pair.0),
+            last: queue.last,
+            length: queue.length - 1,
+        };
+        self.ends.put(q.0, rest);
+        (block, pair.1)
     }
 }
 

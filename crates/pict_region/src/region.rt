@@ -155,15 +155,34 @@ impl Region {
         ensures work { self.new.work ≡ raised self.old.work }
     {
         self.work = one_more(self.work);
-        let Block { number } = b;
-        let index = number as usize;
-        let width = self.words[index] as usize;
-        let list = self.free[width];
-        self.words[index + 1] = list.first;
-        self.free[width] = FreeList {
-            first: number,
-            count: list.count + 1,
-        };
+        self.free_block(b);
+    }
+
+    /// Reads values out of a live block as `scatter` does, frees the block as `give` does, and spends its token. Takes no memory.
+    #[inline(always)]
+    pub fn scatter_and_give(
+        &mut self,
+        b: Block,
+        first: u32,
+        indices: &[u32],
+        values: &mut [(u64, u64)],
+    )
+        requires live { IsLive self.old b }
+        requires inside { first + 2 * length indices.now ≤ width_of self.old b }
+        requires known { All (λ index. index < length values.old) indices.now }
+        requires rising { AreRising 0 indices.now }
+        ensures words { gathered values.new indices.now ≡ take (2 * length indices.now) (drop first (words_of self.old b)) }
+        ensures others { (index : ℕ) → list_any (eqb index) indices.now ≡ false → pair_at values.new index ≡ pair_at values.old index }
+        ensures len { length values.new ≡ length values.old }
+        ensures live { self.new.live ≡ remove self.old.live b }
+        ensures spare { spare self.new (width_of self.old b) ≡ spare self.old (width_of self.old b) + 1 }
+        ensures widths { KeepsOtherWidths self.old self.new (width_of self.old b) }
+        ensures blocks { KeepsBlocks self.old self.new }
+        ensures work { self.new.work ≡ raised_by (2 * length indices.now + 1) self.old.work }
+    {
+        self.work = more(self.work, 2 * indices.len() as u64 + 1);
+        self.read_values(&b, first, indices, values);
+        self.free_block(b);
     }
 
     /// Word `i` of a live block, from 0. Takes no memory.
@@ -235,8 +254,7 @@ impl Region {
         ensures rest { self.new ≡ record self.old { work = raised_by (2 * length indices.now) self.old.work } }
     {
         self.work = more(self.work, 2 * indices.len() as u64);
-        let start = b.number as usize + 1 + first as usize;
-        read_pairs(self.words.as_slice(), start, indices, values);
+        self.read_values(b, first, indices, values);
     }
 
     /// A token of the live block with this number. Takes no memory.
@@ -250,6 +268,22 @@ impl Region {
         Block { number }
     }
 
+    /// A token of the live block with this number, and its words 0 and 1. Takes no memory.
+    #[inline(always)]
+    pub fn open(&mut self, number: u64) -> (Block, (u64, u64))
+        requires live { IsLive self.old number }
+        requires wide { 1 < width_of self.old number }
+        ensures token { result.0 ≡ number }
+        ensures first { result.1.0 ≡ slice_index (words_of self.old number) 0 }
+        ensures second { result.1.1 ≡ slice_index (words_of self.old number) 1 }
+        ensures rest { self.new ≡ record self.old { work = raised_by 3 self.old.work } }
+    {
+        self.work = more(self.work, 3);
+        let start = number as usize + 1;
+        let pair = (self.words[start], self.words[start + 1]);
+        (Block { number }, pair)
+    }
+
     /// The region's work: how often a block was taken, given or reached by its number, or a word of one read or written, or the
     /// greatest `u64`. The words that `take` clears aren't counted.
     #[inline(always)]
@@ -257,6 +291,43 @@ impl Region {
         ensures { result ≡ self.now.work }
     {
         self.work
+    }
+
+    // Reads values out of a live block, two words each from word `first` on, and puts them at these indices.
+    #[inline(always)]
+    fn read_values(&self, b: &Block, first: u32, indices: &[u32], values: &mut [(u64, u64)])
+        requires live { IsLive self.now b.now }
+        requires inside { first + 2 * length indices.now ≤ width_of self.now b.now }
+        requires known { All (λ index. index < length values.old) indices.now }
+        requires rising { AreRising 0 indices.now }
+        ensures words { gathered values.new indices.now ≡ take (2 * length indices.now) (drop first (words_of self.now b.now)) }
+        ensures others { (index : ℕ) → list_any (eqb index) indices.now ≡ false → pair_at values.new index ≡ pair_at values.old index }
+        ensures len { length values.new ≡ length values.old }
+    {
+        let words = self.words.as_slice();
+        let start = b.number as usize + 1 + first as usize;
+        read_pairs(words, start, indices, values);
+    }
+
+    // Frees a live block, and spends its token.
+    #[inline(always)]
+    fn free_block(&mut self, b: Block)
+        requires { IsLive self.old b }
+        ensures live { self.new.live ≡ remove self.old.live b }
+        ensures spare { spare self.new (width_of self.old b) ≡ spare self.old (width_of self.old b) + 1 }
+        ensures others { KeepsOtherWidths self.old self.new (width_of self.old b) }
+        ensures blocks { KeepsBlocks self.old self.new }
+        ensures work { self.new.work ≡ self.old.work }
+    {
+        let Block { number } = b;
+        let index = number as usize;
+        let width = self.words[index] as usize;
+        let list = self.free[width];
+        self.words[index + 1] = list.first;
+        self.free[width] = FreeList {
+            first: number,
+            count: list.count + 1,
+        };
     }
 
     // The number of free blocks of a width that has a list.

@@ -115,17 +115,6 @@ module _ (core : Process) (s n : Store) (number : ℕ) (words : List ℕ) (x : I
               (subst (HoldRecord s.desk.heap (length read.node.frame)) held (record_held many));
         }
 
--- a word was read before
-pub reads_turn_after : (core : Process) (s : Store) (mid : QueuesState) (new : Store) (block : ℕ) → ArePairs s.desk.heap s.desk.values.items → OnlyWorks s.queues mid
-    → ReadsTurn core (record s { queues = mid }) new (held_words mid.region block) → ReadsTurn core s new (held_words s.queues.region block)
-reads_turn_after core s mid new block pairs works r =
-    let read : OnlyReads s (record s { queues = mid }) = reads_works s mid pairs works in
-    record {
-      words = r.words ∙ ap (λ (ws : List ℕ). ws ∷ []) (words_read s (record s { queues = mid }) read block);
-      turn = r.turn;
-      rest = reads_more s (record s { queues = mid }) (record new { turn = s.turn }) read r.rest;
-    }
-
 -- ---- what a block of who has the turn takes
 
 -- a node of at most `NARROW_LIMIT` levels
@@ -153,10 +142,6 @@ module _ (core : Process) (h : HeapState) (ws : List ℕ) where
   pub block_wide : IsBlock core h (drop 1 ws) → length ws ≡ length (drop 1 ws) + 1
   block_wide (inl n) = let w = whole_length ws (suc n.number) n.held n.is in let l = ap length n.is in omega (arith, w, l)
   block_wide (inr k) = let w = whole_length ws 0 (drop 1 (kept_words k.kept)) k.is in let l = ap length k.is in omega (arith, w, l)
-
-  pub block_some : IsBlock core h (drop 1 ws) → 1 < length ws
-  block_some (inl n) = let w = whole_length ws (suc n.number) n.held n.is in omega (arith, w)
-  block_some (inr k) = let w = whole_length ws 0 (drop 1 (kept_words k.kept)) k.is in omega (arith, w)
 
   pub kept_first : IsBlock core h (drop 1 ws) → get_or ws 1 0 ≡ 0 → IsKept h (drop 1 ws)
   kept_first (inl n) e = let f = word_behind ws (suc n.number ∷ n.held) 0 n.is in absurd (omega (arith, e, f))
@@ -301,13 +286,11 @@ module _ (core : Process) (old : Store) (popped : QueuesState) (block : ℕ) (n 
         levels = read.levels;
       }
 
-  -- what it takes: the first is popped, and its block is given back
-  pub turn_costs : CostsAtMost 2 old.queues popped → CostsAtMost (length (held_words popped.region block) + 2) popped n.queues → CostsAtMost 1 n.queues given
-      → CostsAtMost (turn_cost core end) old.queues given
-  turn_costs a b c =
+  -- what it takes: the first is popped, and then read and given back
+  pub turn_costs : CostsAtMost 3 old.queues popped → CostsAtMost (length (held_words popped.region block) + 2) popped given → CostsAtMost (turn_cost core end) old.queues given
+  turn_costs a b =
       let cost = cost_is core end (held_words popped.region block) words in
-      costs_more old.queues n.queues given (length (held_words popped.region block) + 4) 1 (turn_cost core end) (omega (arith, cost))
-      (costs_more old.queues popped n.queues 2 (length (held_words popped.region block) + 2) _ (omega arith) a b) c
+      costs_more old.queues popped given 3 (length (held_words popped.region block) + 2) (turn_cost core end) (omega (arith, cost)) a b
 
 -- ---- the turn is set down at the front of queue 0
 

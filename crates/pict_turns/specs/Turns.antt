@@ -7,10 +7,11 @@ use Rattle.pict_code.specs.Nodes.{nodes_of}
 use Rattle.pict_blocks.specs.Keeping.{kept_words}
 use Rattle.pict_heap.specs.HeapState.{HeapState}
 use Rattle.pict_queue.specs.QueuesState.{QueuesState}
-use Rattle.pict_queue.specs.Contents.{contents, KeepsOtherContents, HoldsNoMore}
+use Rattle.pict_queue.specs.Contents.{held_words, contents, KeepsOtherContents, HoldsNoMore}
 use Rattle.pict_region.specs.RegionState.{spare, KeepsBlocks, KeepsOtherWidths}
 use Rattle.pict_blocks.specs.Blocks.{IsNodeBlock}
 use Rattle.pict_blocks.specs.Holding.{HoldRecord}
+use Rattle.pict_blocks.specs.Writing.{IsFreed}
 use Rattle.pict_turns.specs.Reading.{OnlyReads}
 use Rattle.pict_turns.specs.Views.{IsKept, turn_words, acting_words}
 use Rattle.pict_turns.specs.declared.store.Store.{Store}
@@ -43,6 +44,12 @@ pub record ReadsTurn (core : Process) (old new : Store) (held : List ℕ) : Type
   pub words : turn_words core new ≡ held ∷ []
   pub turn : IsTurn core new.desk.heap new.desk.values.items new.turn
   pub rest : OnlyReads old (record new { turn = old.turn })
+
+-- The same of a held block, which is free then.
+pub record FreesTurn (core : Process) (old new : Store) (block : ℕ) : Type 0 where
+  pub between : QueuesState
+  pub read : ReadsTurn core old (record new { queues = between }) (held_words old.queues.region block)
+  pub freed : IsFreed between new.queues block
 
 -- The first of queue 0 has the turn now, and its block is free. The other queues, the heap and the piles stay. There are as
 -- many blocks, queues, spare queues and levels, and no fewer free blocks, and no block is held that wasn't.

@@ -1,15 +1,15 @@
 // The turn is taken and set down.
-ghost use Rattle.std.specs.Prelude.{◌≡◌, ◌≢◌, ◌<◌, ◌+◌, ℕ, List, [], length, map};
+ghost use Rattle.std.specs.Prelude.{◌≡◌, ◌≢◌, ◌<◌, ◌+◌, ℕ, List, [], length, map, slice_index};
 ghost use Rattle.pict_core.specs.Term.{Process};
 ghost use Rattle.pict_code.specs.Plain.{plain_node};
 ghost use Rattle.pict_blocks.specs.Writing.{IsMade};
-ghost use Rattle.pict_region.specs.RegionState.{KeepsBlocks};
+ghost use Rattle.pict_region.specs.RegionState.{words_of, KeepsBlocks};
 ghost use Rattle.pict_queue.specs.QueuesState.{IsHeld, CostsAtMost};
 ghost use Rattle.pict_queue.specs.Contents.{held_words, contents, KeepsOtherContents, HoldsNoMore};
 ghost use Rattle.pict_turns.specs.Acting.{IsStore, HasActing};
 ghost use Rattle.pict_desk.specs.Code.{core_in, IsCode, HasFrame};
 ghost use Rattle.pict_desk.specs.Pairs.{ArePairs};
-ghost use Rattle.pict_turns.specs.Turns.{ReadsTurn, TakesTurn, TakesOneBlock, turn_cost};
+ghost use Rattle.pict_turns.specs.Turns.{ReadsTurn, FreesTurn, TakesTurn, TakesOneBlock, turn_cost};
 ghost use Rattle.pict_turns.specs.Views.{IsNode, IsKept, IsBlock, acting_words, ready_words};
 
 use crate::reading::frame_at;
@@ -33,11 +33,8 @@ pub fn take_turn(store: &mut Store, code: &[Node])
     ensures takes { TakesTurn (core_in code.now) store.old store.new }
     ensures cost { CostsAtMost (turn_cost (core_in code.now) store.new) store.old.queues store.new.queues }
 {
-    match store.queues.pop_front(QueueId(0)) {
-        Some(block) => {
-            read_turn(store, code, &block);
-            store.queues.give(block);
-        }
+    match store.queues.pop_front_word(QueueId(0)) {
+        Some((block, word)) => read_turn(store, code, block, word),
         None => unreachable!(),
     }
 }
@@ -78,38 +75,41 @@ fn read_wide_node(store: &mut Store, code: &[Node], block: &Block, number: usize
     store.turn.set(Turn::Wide(number, pair));
 }
 
-// The process of a node's held block has the turn. The levels of its frame get its values.
+// The process of a node's held block has the turn, and the block is free. The levels of its frame get its values.
 #[inline(always)]
-fn read_node(store: &mut Store, code: &[Node], block: &Block, number: usize)
+fn read_node(store: &mut Store, code: &[Node], block: Block, number: usize)
     requires code { IsCode (map plain_node code.now) }
     requires store { IsStore (core_in code.now) store.old }
-    requires held { IsHeld store.old.queues block.now }
-    requires is { (n : IsNode (core_in code.now) store.old.desk.heap (held_words store.old.queues.region block.now)) × (n.number ≡ number) }
-    ensures read { ReadsTurn (core_in code.now) store.old store.new (held_words store.old.queues.region block.now) }
-    ensures cost { CostsAtMost (length (held_words store.old.queues.region block.now) + 1) store.old.queues store.new.queues }
+    requires held { IsHeld store.old.queues block }
+    requires is { (n : IsNode (core_in code.now) store.old.desk.heap (held_words store.old.queues.region block)) × (n.number ≡ number) }
+    ensures frees { FreesTurn (core_in code.now) store.old store.new block }
+    ensures cost { CostsAtMost (length (held_words store.old.queues.region block) + 1) store.old.queues store.new.queues }
 {
     let frame = frame_at(code, number);
     if frame.len() <= NARROW_LIMIT as usize {
         read_narrow(&mut store.queues, &mut store.desk, block, frame);
         store.turn.set(Turn::Node(number));
     } else {
-        read_wide_node(store, code, block, number);
+        read_wide_node(store, code, &block, number);
+        store.queues.give(block);
     }
 }
 
-// The process of this held block has the turn. The levels of a node's frame get its values.
+// The process of this held block, whose word 1 is this one, has the turn, and the block is free. The levels of a node's frame get
+// its values.
 #[inline(always)]
-fn read_turn(store: &mut Store, code: &[Node], block: &Block)
+fn read_turn(store: &mut Store, code: &[Node], block: Block, first: u64)
     requires code { IsCode (map plain_node code.now) }
     requires store { IsStore (core_in code.now) store.old }
-    requires held { IsHeld store.old.queues block.now }
-    requires is { IsBlock (core_in code.now) store.old.desk.heap (held_words store.old.queues.region block.now) }
-    ensures read { ReadsTurn (core_in code.now) store.old store.new (held_words store.old.queues.region block.now) }
-    ensures cost { CostsAtMost (length (held_words store.old.queues.region block.now) + 2) store.old.queues store.new.queues }
+    requires held { IsHeld store.old.queues block }
+    requires is { IsBlock (core_in code.now) store.old.desk.heap (held_words store.old.queues.region block) }
+    requires first { first ≡ slice_index (words_of store.old.queues.region block) 1 }
+    ensures frees { FreesTurn (core_in code.now) store.old store.new block }
+    ensures cost { CostsAtMost (length (held_words store.old.queues.region block) + 2) store.old.queues store.new.queues }
 {
-    let first = store.queues.get(block, 1);
     if first == 0 {
-        read_output(store, block);
+        read_output(store, &block);
+        store.queues.give(block);
     } else {
         read_node(store, code, block, first as usize - 1);
     }

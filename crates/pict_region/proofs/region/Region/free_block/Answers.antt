@@ -7,7 +7,7 @@ use Rattle.pict_region.specs.declared.region.Region.TheInside.{Inside}
 use Rattle.pict_region.proofs.Calls.{ReadsWidth, width_read, GivesBlock, given, count_fits, spare_at, spare_set, spare_kept}
 use Rattle.std.specs.Vec.{with_item}
 use Rattle.pict_region.proofs.Counts.{blocks_given}
-use Rattle.pict_region.proofs.region.Region.give.Goals as goal
+use Rattle.pict_region.proofs.region.Region.free_block.Goals as goal
 
 -- the width and its list as the call reads them
 record Reads (a : Inside) (r : RegionState) (number token width : ℕ) (list : FreeList) : Type 0 where
@@ -59,7 +59,7 @@ pub index_mut-requires-2 : goal.index_mut-requires-2
 index_mut-requires-2 c =
     omega (arith, (reads c.self.inside _ _ _ _ _ c.self.view_is c.self.invariant c.b.view_is c.requires c.index.ensures c.index-list.ensures).listed, c.self.inside.free.ok)
 
-block_given : (c : goal.After-self-3-1) → GivesBlock
+block_given : (c : goal.After-self-2-1) → GivesBlock
     (set c.self.inside.words.items (c.b.inside.number + 1) c.index-list.result.now.first) c.self.inside.made
     (set c.self.inside.free.items c.index.result.now (record { first = c.b.inside.number; count = c.index-list.result.now.count + 1 }))
     c.args.self.now c.args.b
@@ -95,6 +95,6 @@ returns-clause-blocks c =
       words = with_item c.self.inside.words (c.b.inside.number + 1) c.index-list.result.now.first;
       made = c.self.inside.made;
       free = with_item c.self.inside.free c.index.result.now list;
-      work = c.one_more-self-inside.result;
+      work = c.self.inside.work;
     }))
     c.args.b c.requires (returns-clause-live c) (returns-clause-spare c) (returns-clause-others c)
