@@ -4,6 +4,7 @@ ghost use Rattle.pict_code.specs.Plain.{plain_op, plain_node};
 ghost use Rattle.pict_turns.specs.Acting.{ActsBy};
 ghost use Rattle.pict_desk.specs.Code.{core_in};
 ghost use Rattle.pict_desk.specs.Constants.{IsConstantFor, AreConstants};
+ghost use Rattle.pict_meetings.specs.PassedOver.{StepsOrPasses};
 ghost use Rattle.pict_turns.specs.Stepping.{MayAct, StepsBy};
 
 use crate::outputs::{output, output_kept};
@@ -37,10 +38,27 @@ pub fn act<C>(
     requires constants { AreConstants store.old.desk.heap (map plain_node code.now) constants.now }
     ensures steps { StepsBy code.now store.old store.new result }
 {
+    act_or_pass::<C>(code, constants, store, false)
+}
+
+/// The step of who has the turn, where `passes` says whether communications are passed over.
+///
+/// All is as `act` says, but that where they are passed over the event of a communication may be that of a quiet step: then a record
+/// was received whose word wasn't made.
+pub fn act_or_pass<C>(
+    code: &[Node],
+    constants: &[Option<Word>],
+    store: &mut Store,
+    passes: bool,
+) -> Result<Shown, AllocError>
+    requires may { MayAct code.now store.old }
+    requires constants { AreConstants store.old.desk.heap (map plain_node code.now) constants.now }
+    ensures steps { StepsOrPasses passes code.now store.old store.new result }
+{
     match store.turn.get() {
         Turn::Nobody => unreachable!(),
         Turn::Node(number) | Turn::Wide(number, _) => {
-            act_by::<C>(code, store, &code[number].op, &constants[number])
+            act_by::<C>(code, store, &code[number].op, &constants[number], passes)
         }
         Turn::Output(kept) => output_kept(code, store, kept),
     }
@@ -52,18 +70,19 @@ fn act_by<C>(
     store: &mut Store,
     op: &Op,
     constant: &Option<Word>,
+    passes: bool,
 ) -> Result<Shown, AllocError>
     requires may { MayAct code.now store.old }
     requires acts { ActsBy (core_in code.now) store.old (plain_op op.now) }
     requires constant { IsConstantFor store.old.desk.heap (plain_op op.now) constant.now }
-    ensures steps { StepsBy code.now store.old store.new result }
+    ensures steps { StepsOrPasses passes code.now store.old store.new result }
 {
     match op {
         Op::Zero => end(store),
         Op::Par(left, right) => fork(store, code, *left, *right),
         Op::New(level, part) => make_channel(store, code, *level, *part),
         Op::If(test, yes, no) => choose(store, code, test, *yes, *no),
-        Op::Out(chan, message, at) => output(code, store, chan, message, constant, *at),
+        Op::Out(chan, message, at) => output(code, store, chan, message, constant, *at, passes),
         Op::In(chan, pattern, part) => input(code, store, chan, false, pattern, *part),
         Op::Serve(chan, pattern, part) => input(code, store, chan, true, pattern, *part),
     }

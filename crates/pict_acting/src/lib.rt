@@ -5,5 +5,5 @@ mod acting;
 mod chain;
 mod outputs;
 
-pub use acting::act;
+pub use acting::{act, act_or_pass};
 pub use chain::{Received, call_at_once};

@@ -5,6 +5,7 @@ ghost use Rattle.pict_code.specs.Instruction as op;
 ghost use Rattle.pict_turns.specs.Acting.{ActsBy};
 ghost use Rattle.pict_desk.specs.Code.{core_in};
 ghost use Rattle.pict_desk.specs.Constants.{IsConstant};
+ghost use Rattle.pict_meetings.specs.PassedOver.{StepsOrPasses};
 ghost use Rattle.pict_turns.specs.Stepping.{MayAct, StepsBy};
 
 use pict_calls::{call_message, call_of_turn};
@@ -38,14 +39,15 @@ pub(crate) fn output(
     message: &Operand,
     constant: &Option<Word>,
     at: Span,
+    passes: bool,
 ) -> Result<Shown, AllocError>
     requires may { MayAct code.now store.old }
     requires acts { ActsBy (core_in code.now) store.old (op.Out (plain_val chan.now) (plain_val message.now) at) }
     requires constant { IsConstant store.old.desk.heap (plain_val message.now) constant.now }
-    ensures steps { StepsBy code.now store.old store.new result }
+    ensures steps { StepsOrPasses passes code.now store.old store.new result }
 {
     match channel_at_hand(chan, &store.desk.values) {
-        Some(channel) => send(code, store, channel, message, constant, at),
+        Some(channel) => send(code, store, channel, message, constant, at, passes),
         None => {
             let p = primitive_at_hand(chan, &store.desk.values);
             call_message(store, p, message, constant, at)

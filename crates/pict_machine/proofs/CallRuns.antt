@@ -1,5 +1,5 @@
 -- From the five steps of a call to steps of a run.
-use Rattle.std.proofs.Common.{ℕ, ◌+◌, ◌≡◌, false, [], refl, sym, subst, arith}
+use Rattle.std.proofs.Common.{ℕ, ◌+◌, ◌≡◌, Bool, false, [], refl, sym, subst, arith, inl}
 use Rattle.std.proofs.Math.Nat.{one-mul}
 use Rattle.pict_core.specs.Configuration.{Configuration, IsConfiguration}
 use Rattle.pict_core.specs.Step.{Label, Quiet, next}
@@ -20,7 +20,7 @@ use Rattle.pict_turns.proofs.Room.{store_still, view_still}
 use Rattle.pict_acting.specs.Bounds.{greatest_cost, MakesFew}
 use Rattle.pict_machine.specs.Bounds.{SpendsAtMost}
 use Rattle.pict_acting.specs.Chain.{MakesCall}
-use Rattle.pict_machine.specs.Going.{GoesPast, HasEvent, MakesSteps}
+use Rattle.pict_machine.specs.Going.{GoesPast, MakesSteps, ShowsOrPasses}
 use Rattle.pict_machine.specs.Machine.{IsRunning, core_in, running_view, heap_of}
 use Rattle.pict_acting.specs.declared.chain.Received.{Received}
 use Rattle.pict_turns.specs.declared.event.Shown.{Shown}
@@ -88,19 +88,19 @@ module _ (old : Machine) (new : Store) (received : Received) (kept : IsRunning o
       let none : GoesPast false 0 v v = λ C is stands. (C, [], tt, (refl, refl), is, stands) in
       quiet_past 3 h v m.waiting m.answered (quiet_past 2 h v m.forked m.waiting (quiet_past 1 h v m.opened m.forked (quiet_past 0 h v v m.opened none m.opens first) m.forks opened) m.waits forked) m.answers waiting
 
-  pub called_steps : MakesSteps old called (record { quiet = 4; event = shows.Comm received.channel received.value })
-  called_steps = record {
+  pub called_steps : (passes : Bool) → MakesSteps passes old called (record { quiet = 4; event = shows.Comm received.channel received.value })
+  called_steps passes = record {
     between = m.answered;
     past = past;
-    then = record {
+    then = inl (record {
       step = λ D is stands. (simulated m.answered (running_view called) _ m.receives answered.apart D is stands).0;
       event = m.pair;
-    };
+    });
   }
 
 -- one step, with this event
-pub one_made : (old new : Machine) (event : Shown) → HasEvent (running_view old) new event → MakesSteps old new (record { quiet = 0; event = event })
-one_made old new event has = record { between = running_view old; past = λ C is stands. (C, [], tt, (refl, refl), is, stands); then = has }
+pub one_made : (passes : Bool) (old new : Machine) (event : Shown) → ShowsOrPasses passes (running_view old) new event → MakesSteps passes old new (record { quiet = 0; event = event })
+one_made passes old new event has = record { between = running_view old; past = λ C is stands. (C, [], tt, (refl, refl), is, stands); then = has }
 
 -- ---- memory is wanting
 

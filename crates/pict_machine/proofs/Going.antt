@@ -1,20 +1,20 @@
 -- Runs go on by steps that are passed over.
-use Rattle.std.proofs.Common.{ℕ, zero, suc, ◌+◌, ◌<◌, ◌≤◌, ◌≡◌, ◌≢◌, ◌⊎◌, ⊎_elim, Bool, true, false, IsTrue, ◌↔◌, List, [], ◌∷◌, ◌++◌, refl, sym, ap, ◌∙◌, subst, Option, Some, None, Result, Ok, Err, add-zero, add-one, add-suc, append_assoc, append-nil, arith}
+use Rattle.std.proofs.Common.{ℕ, zero, suc, ◌+◌, ◌<◌, ◌≤◌, ◌≡◌, ◌≢◌, ◌⊎◌, ⊎_elim, inl, inr, Bool, true, false, IsTrue, ◌↔◌, List, [], ◌∷◌, ◌++◌, refl, sym, ap, ◌∙◌, subst, Option, Some, None, Result, Ok, Err, add-zero, add-one, add-suc, append_assoc, append-nil, arith}
 use Rattle.std.specs.declared.alloc.AllocError.{AllocError}
 use Rattle.pict_syntax.specs.declared.span.Span.{Span}
 use Rattle.pict_core.specs.Configuration.{Configuration, IsConfiguration}
 use Rattle.pict_core.specs.Step.{Label, Quiet, Comm, Print}
 use Rattle.pict_core.specs.Run.{Reaches, shown}
 use Rattle.pict_view.specs.View.{View, StandsFor}
-use Rattle.pict_view.specs.Stepping.{IsStepOf}
+use Rattle.pict_view.specs.Stepping.{Follows, IsStepOf}
 use Rattle.pict_heap.specs.HeapState.{HeapState}
 use Rattle.pict_view.specs.Right.{IsRightFor}
 use Rattle.pict_view.specs.Watching.{Saw, SawOrTore, RanFor, BrokeOff, view_after}
 use Rattle.pict_view.proofs.Runs.{Stood, empty_of, is_done, is_spent, saw_more}
 use Rattle.pict_machine.specs.Events.{end_of, PassesCommunications}
 use Rattle.pict_turns.specs.Shown.{label_shown, trap_shown}
-use Rattle.pict_machine.specs.Going.{IsPassed, ArePassed, GoesPast, GoesOn, HasEvent, ThenComes, StopsAs}
-use Rattle.pict_machine.specs.Machine.{running_view}
+use Rattle.pict_machine.specs.Going.{IsPassed, ArePassed, GoesPast, GoesOn, HasEvent, ShowsOrPasses, ThenComes, StopsAs}
+use Rattle.pict_machine.specs.Machine.{running_view, heap_of}
 use Rattle.pict_turns.specs.declared.event.Shown.{Shown}
 use Rattle.pict_turns.specs.declared.event.Shown.TheVariants as shows
 use Rattle.pict_machine.specs.declared.event.End.{End}
@@ -128,20 +128,26 @@ stood_of p n v w go C is stands =
     let (D, labels, passed, reached, at, by) = go C is stands in
     record { labels = labels; last = D; reached = reached; is = at; stands = by; seen = passed }
 
--- one more
-pub one_past : (p : Bool) (n : ℕ) (h : HeapState) (e : Shown) (v w u : View) → GoesPast p n v w → IsPassed p e
-    → ((D : Configuration) → IsConfiguration D → StandsFor w D → IsStepOf D (label_shown h e) (trap_shown e) u) → GoesPast p (n + 1) v u
-one_past p n h e v w u go past step C is stands =
+-- one more, with this label
+pub label_past : (p : Bool) (n : ℕ) (label : Label) (v w u : View) → GoesPast p n v w → ((m : ℕ) → ArePassed p (shown m label))
+    → ((D : Configuration) → IsConfiguration D → StandsFor w D → Follows D label u) → GoesPast p (n + 1) v u
+label_past p n label v w u go past step C is stands =
     let (D, labels, passed, reached, at, by) = go C is stands in
-    let label = label_shown h e in
-    let f = subst (λ (t : Option Span). IsStepOf D label t u) (passed_is_none p e past) (step D at by) in (
+    let f = step D at by in (
       f.after,
       labels ++ shown (suc n) label,
-      passed_both p labels (shown (suc n) label) passed (passed_label p h e past (suc n)),
+      passed_both p labels (shown (suc n) label) passed (past (suc n)),
       subst (λ k. Reaches k C (labels ++ shown (suc n) label) f.after) (sym (add-one n)) (D, labels, label, reached, f.steps, refl),
       f.is,
       f.stands,
     )
+
+-- one more, with this event
+pub one_past : (p : Bool) (n : ℕ) (h : HeapState) (e : Shown) (v w u : View) → GoesPast p n v w → IsPassed p e
+    → ((D : Configuration) → IsConfiguration D → StandsFor w D → IsStepOf D (label_shown h e) (trap_shown e) u) → GoesPast p (n + 1) v u
+one_past p n h e v w u go past step =
+    label_past p n (label_shown h e) v w u go (passed_label p h e past)
+    (λ D at by. subst (λ (t : Option Span). IsStepOf D (label_shown h e) t u) (passed_is_none p e past) (step D at by))
 
 -- ---- where a run stops
 
@@ -156,12 +162,27 @@ any_passed p ((n, Comm c v) ∷ ks) a = absurd (not_true false refl a.0)
 any_passed p ((n, Print bytes) ∷ ks) a = absurd a
 
 -- some of them more
-pub past_both : (p : Bool) (n k : ℕ) (v w u : View) → GoesPast p n v w → GoesPast false k w u → GoesPast p (n + k) v u
-past_both p n k v w u before after C is stands =
+past_all : (p : Bool) (n k : ℕ) (v w u : View) → GoesPast p n v w → GoesPast p k w u → GoesPast p (n + k) v u
+past_all p n k v w u before after C is stands =
     let (D, labels, passed, reached, at, by) = before C is stands in
-    let (E, ks, quiet, further, there, lasts) = after D at by in
+    let (E, ks, are_passed, further, there, lasts) = after D at by in
     let (more, all, same) = reaches_more n k C D E labels ks reached further in
-    (E, labels ++ more, passed_both p labels more passed (same p (any_passed p ks quiet)), all, there, lasts)
+    (E, labels ++ more, passed_both p labels more passed (same p are_passed), all, there, lasts)
+
+pub past_both : (p : Bool) (n k : ℕ) (v w u : View) → GoesPast p n v w → GoesPast false k w u → GoesPast p (n + k) v u
+past_both p n k v w u before after =
+    past_all p n k v w u before
+    (λ D at by. let (E, ks, quiet, further, there, lasts) = after D at by in (E, ks, any_passed p ks quiet, further, there, lasts))
+
+-- a step that is passed over, whether its event is shown or not
+pub passed_on : (p : Bool) (n : ℕ) (v w : View) (new : Machine) (e : Shown) → GoesPast p n v w → IsPassed p e → ShowsOrPasses p w new e → GoesPast p (n + 1) v (running_view new)
+passed_on p n v w new e before past (inl has) = one_past p n (heap_of new) e v w (running_view new) before past has.step
+passed_on p n v w new e before past (inr x) = past_all p n 1 v w (running_view new) before x.1
+
+-- a step that isn't passed over has its event
+pub has_event : (p : Bool) (v : View) (new : Machine) (e : Shown) (b : Bool) → b ≡ false → IsTrue b ↔ IsPassed p e → ShowsOrPasses p v new e → HasEvent v new e
+has_event p v new e b same r (inl has) = has
+has_event p v new e b same r (inr x) = absurd (not_true b same (r.1 (subst (IsPassed p) (sym x.0) tt)))
 
 -- nobody is next
 pub none_next : (v : View) (b : Bool) → b ≡ false → IsTrue b ↔ (v.ready ≢ []) → v.ready ≡ []

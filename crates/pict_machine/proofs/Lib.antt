@@ -3,6 +3,7 @@ pub mod Codes
 pub mod Steps
 pub mod Running
 pub mod Going
+pub mod Unshown
 pub mod Bounding
 pub mod Wrongs
 pub mod Asking

@@ -66,14 +66,14 @@ module _ (old : Machine) (taken new : Store) (given : GivesTurn (core_in old) ol
   abbrev after : Machine
   after = record old { store = new }
 
-  none_held : HoldsNoMore taken.queues new.queues → (block : ℕ) → ¬ IsHeld new.queues block
+  pub none_held : HoldsNoMore taken.queues new.queues → (block : ℕ) → ¬ IsHeld new.queues block
   none_held no_more block held = kept.none_held block (given.no_more block (no_more block held))
 
   -- what was made once is there still
-  still_constant : KeepsWords (heap_of old) new.desk.heap → AreConstants new.desk.heap (plain_code old.code) old.constants.items
+  pub still_constant : KeepsWords (heap_of old) new.desk.heap → AreConstants new.desk.heap (plain_code old.code) old.constants.items
   still_constant keeps = constants_keep (heap_of old) new.desk.heap keeps (plain_code old.code) old.constants.items kept.constants
 
-  from_old : KeepsWords taken.desk.heap new.desk.heap → KeepsWords (heap_of old) new.desk.heap
+  pub from_old : KeepsWords taken.desk.heap new.desk.heap → KeepsWords (heap_of old) new.desk.heap
   from_old = subst (λ (h : HeapState). KeepsWords h new.desk.heap) given.heap
 
   -- ---- a refused step
@@ -124,7 +124,7 @@ module _ (old : Machine) (taken new : Store) (given : GivesTurn (core_in old) ol
     step_kept (Ok e) a = done_kept e a
     step_kept (Err e) b = still_kept b
 
-  grown : length new.queues.queues ≤ length taken.queues.queues + 1 → channels_of after ≤ channels_of old + 1
+  pub grown : length new.queues.queues ≤ length taken.queues.queues + 1 → channels_of after ≤ channels_of old + 1
   grown more = let count = given.queues in omega (arith, more, count)
 
   done_few : (e : Shown) → Acts (core_in old) taken new e → channels_of after ≤ channels_of old + 1
@@ -133,14 +133,14 @@ module _ (old : Machine) (taken new : Store) (given : GivesTurn (core_in old) ol
   done_few (shows.Print word) a = grown a.done.queues
   done_few (shows.Trapped at) a = still_few a.1
 
-  done_event : (e : Shown) → Acts (core_in old) taken new e → IsShownOf new.desk.heap e
+  pub done_event : (e : Shown) → Acts (core_in old) taken new e → IsShownOf new.desk.heap e
   done_event shows.Quiet a = tt
   done_event (shows.Comm channel word) a = a.event
   done_event (shows.Print word) a = a.event
   done_event (shows.Trapped at) a = tt
 
   -- no queue is lost
-  grown_queues : LosesNoQueue taken.queues new.queues → LosesNoQueue old.store.queues new.queues
+  pub grown_queues : LosesNoQueue taken.queues new.queues → LosesNoQueue old.store.queues new.queues
   grown_queues least = let count = given.queues in let left = given.spare_queues in omega (arith, count, left, least)
 
   refused_queues : IsRefused (core_in old) taken new → LosesNoQueue old.store.queues new.queues

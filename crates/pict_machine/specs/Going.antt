@@ -42,6 +42,11 @@ pub record HasEvent (v : View) (new : Machine) (e : Shown) : Type 0 where
   pub step : (D : Configuration) → IsConfiguration D → StandsFor v D → IsStepOf D (label_shown (heap_of new) e) (trap_shown e) (running_view new)
   pub event : IsShownOf (heap_of new) e
 
+-- The step from each configuration for which the view stands has this event, or none is shown of it, since it is a communication and
+-- these are passed over.
+abbrev pub ShowsOrPasses : Bool → View → Machine → Shown → Type 0
+ShowsOrPasses passes v new e = HasEvent v new e ⊎ ((e ≡ shows.Quiet) × GoesPast passes 1 v (running_view new))
+
 -- What comes after the steps that are passed over, which led to this view. A further step has this event. Or there is none, since
 -- as many are made as may be, or nobody is next. Or memory is wanting for it.
 abbrev pub ThenComes : View → Machine → ℕ → ℕ → Result (Option Shown) AllocError → Type 0
@@ -56,11 +61,12 @@ pub record GoesOn (passes : Bool) (old new : Machine) (most passed : ℕ) (event
   pub past : GoesPast passes passed (running_view old) between
   pub then : ThenComes between new most passed event
 
--- From each configuration for which the machine stood so many steps show nothing, and the one after them has this event.
-pub record MakesSteps (old new : Machine) (steps : Steps) : Type 0 where
+-- From each configuration for which the machine stood so many steps show nothing, and the one after them has this event, or is passed
+-- over.
+pub record MakesSteps (passes : Bool) (old new : Machine) (steps : Steps) : Type 0 where
   pub between : View
   pub past : GoesPast false steps.quiet (running_view old) between
-  pub then : HasEvent between new steps.event
+  pub then : ShowsOrPasses passes between new steps.event
 
 -- a run that no trap ends is done where nobody is next, and else its fuel is spent
 abbrev pub StopsAs : View → End → Type 0

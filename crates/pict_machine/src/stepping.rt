@@ -18,12 +18,12 @@ ghost use Rattle.pict_machine.specs.Events.{label_of, trap_of, IsEventOf};
 ghost use Rattle.pict_turns.specs.Shown.{label_shown, trap_shown, IsShownOf};
 ghost use Rattle.pict_machine.specs.Machine.{IsMachine, IsRunning, IsUnchanged, MeetsInPlace, RunsInPlace, running_view, running_cost, running_widths, view_of, heap_of, queues_of, channels_of, cost_of, widths_of, heap_need_of, running_need_of};
 ghost use Rattle.pict_machine.specs.Bounds.{greatest_cost_of, SpendsAtMost};
-ghost use Rattle.pict_machine.specs.Going.{GoesOn, IsPassed, MakesSteps};
+ghost use Rattle.pict_machine.specs.Going.{GoesOn, IsPassed, MakesSteps, ShowsOrPasses};
 ghost use Rattle.pict_turns.specs.Stepping.{GivesTurn};
 
 use crate::event::{Event, unpacked};
 use crate::machine::Machine;
-use pict_acting::{Received, act, call_at_once};
+use pict_acting::{Received, act, act_or_pass, call_at_once};
 use pict_code::Node;
 use pict_syntax::Span;
 use pict_turns::{Shown, Store, Turn, return_turn, take_turn};
@@ -68,7 +68,7 @@ fn ensure_turn(store: &mut Store, code: &[Node])
 // Whether a run passes over the event: over communications only where it is told to.
 #[inline(always)]
 fn is_passed(event: &Shown, passes: bool) -> bool
-    ensures { IsTrue result → IsPassed passes event.now }
+    ensures { IsTrue result ↔ IsPassed passes event.now }
 {
     match event {
         Shown::Quiet => true,
@@ -164,16 +164,14 @@ impl Machine {
     }
 
     // One step of a run, of who has the turn, or else of the first of queue 0: as `step` says, but that somebody may have the
-    // turn afterwards.
-    pub(crate) fn step_held(&mut self) -> Result<Shown, AllocError>
+    // turn afterwards, and that a communication may show nothing where these are passed over.
+    pub(crate) fn step_held(&mut self, passes: bool) -> Result<Shown, AllocError>
         requires kept { IsRunning self.old }
         requires ready { (running_view self.old).ready ≢ [] }
         requires few { channels_of self.old + 1 < 2 ^ 32 }
         requires right { IsRightFor (running_view self.old) 1 }
         ensures kept { IsRunning self.new }
-        ensures ok { IfOk result (λ event. (C : Configuration) → IsConfiguration C → StandsFor (running_view self.old) C
-            → IsStepOf C (label_shown (heap_of self.new) event) (trap_shown event) (running_view self.new)) }
-        ensures event { IfOk result (IsShownOf (heap_of self.new)) }
+        ensures made { IfOk result (ShowsOrPasses passes (running_view self.old) self.new) }
         ensures refused { OnErr result (running_view self.new ≡ running_view self.old) }
         ensures keeps { KeepsWords (heap_of self.old) (heap_of self.new) }
         ensures work { CostsAtMost (running_cost self.old) (queues_of self.old) (queues_of self.new) }
@@ -186,21 +184,21 @@ impl Machine {
         ensures code { self.new.code ≡ self.old.code }
     {
         ensure_turn(&mut self.store, &self.code.nodes);
-        act::<InRun>(&self.code.nodes, &self.constants, &mut self.store)
+        act_or_pass::<InRun>(&self.code.nodes, &self.constants, &mut self.store, passes)
     }
 
-    // At most so many steps of a run, of which all but the last one show nothing: the five of a call of a primitive whose answer is
+    // At most so many steps of a run, of which all but the last one show nothing, as it may where it is passed over: the five of a call of a primitive whose answer is
     // awaited, where nobody else is ready, or else one. An error, which is want of memory, is that of no step. They cost no more than
     // one step may.
     #[inline(always)]
-    fn make_steps(&mut self, most: u64) -> Result<Steps, AllocError>
+    fn make_steps(&mut self, most: u64, passes: bool) -> Result<Steps, AllocError>
         requires kept { IsRunning self.old }
         requires some { 1 ≤ most }
         requires ready { (running_view self.old).ready ≢ [] }
         requires few { channels_of self.old + 1 < 2 ^ 32 }
         requires right { IsRightFor (running_view self.old) 1 }
         ensures kept { IsRunning self.new }
-        ensures made { IfOk result (MakesSteps self.old self.new) }
+        ensures made { IfOk result (MakesSteps passes self.old self.new) }
         ensures within { IfOk result (λ steps. steps.quiet + 1 ≤ most) }
         ensures refused { OnErr result (running_view self.new ≡ running_view self.old) }
         ensures keeps { KeepsWords (heap_of self.old) (heap_of self.new) }
@@ -213,7 +211,7 @@ impl Machine {
                 event: Shown::Comm { channel, value },
             }),
             None => {
-                let event = self.step_held()?;
+                let event = self.step_held(passes)?;
                 Ok(Steps { quiet: 0, event })
             }
         }
@@ -244,7 +242,7 @@ impl Machine {
                     event: Ok(None),
                 };
             }
-            match self.make_steps(most - step) {
+            match self.make_steps(most - step, passes) {
                 Ok(Steps { quiet, event }) => {
                     if !is_passed(&event, passes) {
                         return Gone {

@@ -40,6 +40,10 @@ use Rattle.pict_turns.proofs.Turns.{acting_block, ready_blocks}
 use Rattle.pict_turns.proofs.Views.{pair_stays, blocks_stay, block_same, view_same, lists_are}
 use Rattle.pict_meetings.specs.Sending.{SendsOperand}
 use Rattle.pict_turns.proofs.Passing.{acts_worked}
+use Rattle.pict_meetings.specs.Sent.{IsSentFor, SendsThis}
+use Rattle.pict_meetings.specs.declared.sent.Sent.{Sent}
+use Rattle.pict_meetings.specs.declared.sent.Sent.TheVariants.{Whole}
+use Rattle.pict_meetings.proofs.Sents.{sent_stays, sent_still}
 
 -- ---- while queues work
 
@@ -82,6 +86,22 @@ module _ (core : Process) (old new : Store) (r : OnlyReserves old new) (channel 
     to = ap (λ (known : ℕ → Val). operand_value known x.chan) (known_still core old new r) ∙ x.to;
   }
 
+  pub sent_reserved : (sent : Sent) (at : Span) → SendsThis core old channel sent at → SendsThis core new channel sent at
+  sent_reserved sent at x =
+      let keeps = keeps_words old.desk.heap new.desk.heap r.heap in
+      record {
+        acting = acting_still core old new r x.acting;
+        sent_is = sent_still old.desk.heap new.desk.heap keeps sent x.sent_is;
+        is =
+            ap (λ (value : ℕ → ℕ → Val). process_of core value (acting_words core new)) (value_kept old.desk.heap new.desk.heap r.heap)
+            ∙ ap (λ (words : List (List ℕ)). process_of core (value_in old.desk.heap) (slice_index_or words 0 [])) (words_still core old new r) ∙ x.is
+            ∙ ap (λ v. Out (Chan channel) v at) (sym (sent_stays old.desk.heap new.desk.heap keeps sent x.sent_is));
+      }
+
+-- two words are sent
+pub sends_whole : (core : Process) (s : Store) (channel : ℕ) (pair : ℕ × ℕ) (at : Span) → Sends core s channel pair at → SendsThis core s channel (Whole pair) at
+sends_whole core s channel pair at x = record { acting = x.acting; sent_is = x.pair; is = x.is }
+
 -- ---- an output of an operand
 
 module _ (core : Process) (s : Store) (channel : ℕ) (message : Val) (at : Span) (x : SendsOperand core s channel message at) where
@@ -96,6 +116,10 @@ module _ (core : Process) (s : Store) (channel : ℕ) (message : Val) (at : Span
   -- its two words are there
   pub sends_pair : (pair : ℕ × ℕ) → IsPairFor s.desk.heap (operand_value (known s.desk.heap s.desk.values.items) message) pair → Sends core s channel pair at
   sends_pair pair p = record { acting = x.acts.acting; pair = p.pair_is; is = operand_process ∙ ap (λ v. Out (Chan channel) v at) (sym p.value) }
+
+  -- its value is sent
+  pub sends_sent : (sent : Sent) → IsSentFor s.desk.heap (operand_value (known s.desk.heap s.desk.values.items) message) sent → SendsThis core s channel sent at
+  sends_sent sent p = record { acting = x.acts.acting; sent_is = p.is; is = operand_process ∙ ap (λ v. Out (Chan channel) v at) (sym p.value) }
 
 -- ---- while the heap grows
 

@@ -10,12 +10,16 @@ pub mod Fitting
 pub mod Firsts
 -- A pattern that is one variable binds the two words as they stand.
 pub mod OneLevel
+-- The fields of a record that isn't made are bound, each by the pattern at its place.
+pub mod Fields
 -- Who keeps the turn where the levels of its frame keep their words.
 pub mod Keeping
 -- Of the blocks that end one is as wide as another.
 pub mod Wide
 -- A part becomes the last of the ready ones.
 pub mod Readying
+-- What is sent stands for the same where the heap grows.
+pub mod Sents
 -- The steps of outputs and inputs that meet.
 pub mod Meets
 -- What is known of an input that acts: its part, its pattern, the message that it takes, and who has the turn then.
@@ -40,3 +44,5 @@ pub mod Needing
 pub mod Adding
 -- A message and an input that isn't replicated meet, and no memory is taken.
 pub mod Plainly
+-- Steps where communications may be passed over, and those that do what their events say.
+pub mod PassedOver

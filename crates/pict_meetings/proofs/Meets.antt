@@ -6,7 +6,7 @@ use Rattle.pict_syntax.specs.declared.span.Span.{Span}
 use Rattle.pict_core.specs.Closed.{IsClosed}
 use Rattle.pict_core.specs.Matching.{match_value}
 use Rattle.pict_core.specs.Step.{Comm}
-use Rattle.pict_core.specs.Term.{Process, Chan, Out}
+use Rattle.pict_core.specs.Term.{Process, Val, Chan, Out}
 use Rattle.pict_code.specs.Instruction.{CodePat, Node}
 use Rattle.pict_code.specs.Nodes.{nodes_of, input_op}
 use Rattle.pict_code.specs.ReadBack.{unleveled}
@@ -33,7 +33,10 @@ use Rattle.pict_turns.proofs.AfterReading.{contents_read, queues_read}
 use Rattle.pict_turns.proofs.Rows.{made_block, made_node, node_block_stays, levels_keep, ready_stay}
 use Rattle.pict_turns.proofs.Turns.{acting_block}
 use Rattle.pict_turns.proofs.Views.{value_stays, block_stays, blocks_stay, block_same}
-use Rattle.pict_meetings.specs.Partners.{Sends, Receives}
+use Rattle.pict_meetings.specs.Partners.{Receives}
+use Rattle.pict_meetings.specs.Sent.{sent_value, SendsThis}
+use Rattle.pict_meetings.specs.declared.sent.Sent.{Sent}
+use Rattle.pict_meetings.proofs.Sents.{sent_stays}
 use Rattle.pict_meetings.specs.Serving.{IsInputWith, ReadsInput}
 use Rattle.pict_meetings.proofs.Changing.{Changes, done}
 use Rattle.pict_meetings.proofs.Readying.{Readies}
@@ -47,12 +50,12 @@ all_behind : (P : List ℕ → Type 0) (b : Bool) (x : List ℕ) (xs : List (Lis
 all_behind P true x xs p all = all_pushed P xs x all p
 all_behind P false x xs p all = subst (AllByRecursion P) (sym (append-nil xs)) all
 
--- what a pattern binds stands for the same where the heap grows
-binds_stay : (core : Process) (old new : HeapState) (keeps : KeepsWords old new) (pattern : CodePat) (pair : ℕ × ℕ) (before after : List (ℕ × ℕ)) → IsPair old pair → ArePairs old after
-    → BindsPattern old pattern (value_in old pair.0 pair.1) before after → BindsPattern new pattern (value_in new pair.0 pair.1) before after
-binds_stay core old new keeps pattern pair before after is pairs b = record {
+-- what a pattern binds of a value stands for the same where the heap grows
+binds_stay : (core : Process) (old new : HeapState) (keeps : KeepsWords old new) (pattern : CodePat) (v w : Val) (before after : List (ℕ × ℕ)) → w ≡ v → ArePairs old after
+    → BindsPattern old pattern v before after → BindsPattern new pattern w before after
+binds_stay core old new keeps pattern v w before after same pairs b = record {
   bound = b.bound;
-  fits = ap (match_value (unleveled pattern)) (value_stays old new keeps pair is) ∙ b.fits;
+  fits = ap (match_value (unleveled pattern)) same ∙ b.fits;
   here = levels_keep core old new keeps after pairs (levels_of pattern) ∙ b.here;
   others = b.others;
 }
@@ -102,7 +105,7 @@ module _ (core : Process) (old mid new : Store) (channel part : ℕ) (replicated
       a.op_is
       (operand_keeps old.desk.heap new.desk.heap keeps old.desk.values.items acting.store.pairs receives.chan ∙ receives.from)
       sends
-      (binds_stay core old.desk.heap new.desk.heap keeps pattern k.message old.desk.values.items mid.desk.values.items message pairs binds)
+      (binds_stay core old.desk.heap new.desk.heap keeps pattern _ _ old.desk.values.items mid.desk.values.items (value_stays old.desk.heap new.desk.heap keeps k.message message) pairs binds)
       (made_node core old.desk.heap new.desk.heap keeps mid.desk.values.items pairs part node readies.held at holds)
       (contents old.queues 0) (channel_lists old.queues) (channel_there old.queues channel there ∙ ap Some list)
 
@@ -120,13 +123,13 @@ module _ (core : Process) (old mid new : Store) (channel part : ℕ) (replicated
 
 -- The oldest input at the channel takes what who has the turn sends: `taken` is the store once the input's frame is read,
 -- `mid` once the input's block is behind the others or has ended and the message is bound, and `new` once the part is ready.
-module _ (core : Process) (old taken mid new : Store) (channel number part : ℕ) (replicated : Bool) (pattern : CodePat) (message : ℕ × ℕ) (sent_at : Span)
-    (closed : IsClosed core) (sends : Sends core old channel message sent_at) (there : IsQueue old.queues (channel + 1))
+module _ (core : Process) (old taken mid new : Store) (channel number part : ℕ) (replicated : Bool) (pattern : CodePat) (sent : Sent) (sent_at : Span)
+    (closed : IsClosed core) (sends : SendsThis core old channel sent sent_at) (there : IsQueue old.queues (channel + 1))
     (reads : ReadsInput core (record old { turn = Nobody }) taken channel number) (input : IsInputWith (nodes_of core) number replicated pattern part)
     (heap : mid.desk.heap ≡ old.desk.heap)
     (left : contents mid.queues (channel + 1) ≡ reads.others ++ if_replicated replicated reads.words)
     (others : KeepsOtherContents taken.queues mid.queues (channel + 1)) (many : length mid.queues.queues ≡ length taken.queues.queues)
-    (binds : BindsPattern old.desk.heap pattern (value_in old.desk.heap message.0 message.1) taken.desk.values.items mid.desk.values.items) (levels : length mid.desk.values.items ≡ length taken.desk.values.items)
+    (binds : BindsPattern old.desk.heap pattern (sent_value old.desk.heap sent) taken.desk.values.items mid.desk.values.items) (levels : length mid.desk.values.items ≡ length taken.desk.values.items)
     (pairs : ArePairs old.desk.heap mid.desk.values.items) (node : Node) (at : slice_get (nodes_of core) part ≡ Some node)
     (readies : Readies core mid new [] part node.frame) where
   served_keeps : KeepsWords old.desk.heap new.desk.heap
@@ -168,31 +171,34 @@ module _ (core : Process) (old taken mid new : Store) (channel number part : ℕ
   read_pairs : ArePairs old.desk.heap taken.desk.values.items
   read_pairs = subst (λ h. ArePairs h taken.desk.values.items) reads.read.rest.heap reads.read.rest.pairs
 
-  served_step : BlocksStep core new.desk.heap (acting_words core old ∷ contents old.queues 0) (channel_lists old.queues) (Comm channel (value_in new.desk.heap message.0 message.1))
+  same_sent : sent_value new.desk.heap sent ≡ sent_value old.desk.heap sent
+  same_sent = sent_stays old.desk.heap new.desk.heap served_keeps sent sends.sent_is
+
+  served_step : BlocksStep core new.desk.heap (acting_words core old ∷ contents old.queues 0) (channel_lists old.queues) (Comm channel (sent_value new.desk.heap sent))
       (contents old.queues 0 ++ (suc part ∷ readies.held) ∷ [])
       (slice_set (channel_lists old.queues) channel (reads.others ++ if_replicated replicated reads.words))
   served_step =
       let words = acting_words core old in
-      let is : process_of core (value_in new.desk.heap) words ≡ Out (Chan channel) (value_in new.desk.heap message.0 message.1) sent_at =
+      let is : process_of core (value_in new.desk.heap) words ≡ Out (Chan channel) (sent_value new.desk.heap sent) sent_at =
       block_same old.desk.heap new.desk.heap served_keeps core words (acting_block core old sends.acting) ∙ sends.is
-      ∙ ap (λ v. Out (Chan channel) v sent_at) (sym (value_stays old.desk.heap new.desk.heap served_keeps message sends.pair)) in
-      outputs_meet core new.desk.heap taken.desk.values.items mid.desk.values.items channel (value_in new.desk.heap message.0 message.1) sent_at words number part replicated input.chan pattern reads.read.node node
+      ∙ ap (λ v. Out (Chan channel) v sent_at) (sym same_sent) in
+      outputs_meet core new.desk.heap taken.desk.values.items mid.desk.values.items channel (sent_value new.desk.heap sent) sent_at words number part replicated input.chan pattern reads.read.node node
       reads.words (suc part ∷ readies.held) (reads.others) closed is
       (node_block_stays core old.desk.heap new.desk.heap served_keeps taken.desk.values.items read_pairs number reads.read.node reads.words stood_blocks.0
       (subst (λ h. IsNodeBlock core h taken.desk.values.items number reads.read.node reads.words) reads.read.rest.heap reads.read.is))
       input_is
-      (binds_stay core old.desk.heap new.desk.heap served_keeps pattern message taken.desk.values.items mid.desk.values.items sends.pair pairs binds)
+      (binds_stay core old.desk.heap new.desk.heap served_keeps pattern _ _ taken.desk.values.items mid.desk.values.items same_sent pairs binds)
       (made_node core old.desk.heap new.desk.heap served_keeps mid.desk.values.items pairs part node readies.held at part_holds)
       (contents old.queues 0) (channel_lists old.queues) (channel_there old.queues channel there ∙ ap Some stood)
 
-  pub reader_met : HoldsNoMore old.queues new.queues → LosesNoQueue old.queues new.queues → IsDone core old new (Comm channel (value_in new.desk.heap message.0 message.1))
+  pub reader_met : HoldsNoMore old.queues new.queues → LosesNoQueue old.queues new.queues → IsDone core old new (Comm channel (sent_value new.desk.heap sent))
   reader_met no_more no_loss =
       let acting = sends.acting in
       let words = reads.words in
       let rest = reads.others in
       let blocks = blocks_stay old.desk.heap new.desk.heap served_keeps core (words ∷ rest) stood_blocks in
       done core old new channel (contents old.queues 0 ++ (suc part ∷ readies.held) ∷ []) (rest ++ if_replicated replicated words)
-      acting there served (Comm channel (value_in new.desk.heap message.0 message.1))
+      acting there served (Comm channel (sent_value new.desk.heap sent))
       (all_pushed (IsBlock core new.desk.heap) (contents old.queues 0) (suc part ∷ readies.held) (ready_stay core old new acting.store served_keeps)
       (made_block core new.desk.heap (known old.desk.heap mid.desk.values.items) part node readies.held at part_holds))
       (all_behind (IsBlock core new.desk.heap) replicated words rest blocks.0 blocks.1)

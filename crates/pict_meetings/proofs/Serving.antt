@@ -25,7 +25,8 @@ use Rattle.pict_turns.specs.Views.{channel_lists, acting_words}
 use Rattle.pict_turns.specs.declared.store.Store.{Store}
 use Rattle.pict_turns.specs.declared.turn.Turn.TheVariants.{Nobody}
 use Rattle.pict_turns.proofs.AfterReading.{contents_read, spare_read}
-use Rattle.pict_meetings.specs.Partners.{Sends}
+use Rattle.pict_meetings.specs.Sent.{sent_value, SendsThis}
+use Rattle.pict_meetings.specs.declared.sent.Sent.{Sent}
 use Rattle.pict_meetings.specs.Room.{as_wide, CanHoldAfter}
 use Rattle.pict_meetings.specs.Serving.{IsInputWith, ReadsInput}
 use Rattle.pict_turns.proofs.Outputs.{right_acting}
@@ -45,9 +46,9 @@ module _ (core : Process) (number part : ℕ) (replicated : Bool) (pattern : Cod
   pub serves_part : HasPart core pattern part
   serves_part = has_part core number part i.node replicated i.chan pattern i.at i.is
 
-  pub serves_fits : (old taken : Store) (channel : ℕ) (message : ℕ × ℕ) (at : Span) → IsClosed core → Sends core old channel message at → IsQueue old.queues (channel + 1)
-      → ReadsInput core (record old { turn = Nobody }) taken channel number → IsRight core old → IsSome (match_value (unleveled pattern) (value_in old.desk.heap message.0 message.1))
-  serves_fits old taken channel message at closed sends there reads right =
+  pub serves_fits : (old taken : Store) (channel : ℕ) (sent : Sent) (at : Span) → IsClosed core → SendsThis core old channel sent at → IsQueue old.queues (channel + 1)
+      → ReadsInput core (record old { turn = Nobody }) taken channel number → IsRight core old → IsSome (match_value (unleveled pattern) (sent_value old.desk.heap sent))
+  serves_fits old taken channel sent at closed sends there reads right =
       let words = reads.words in
       let same : Some reads.read.node ≡ Some i.node = sym reads.read.is.at ∙ i.at in
       let node_is : reads.read.node ≡ i.node = cc in
@@ -55,7 +56,7 @@ module _ (core : Process) (number part : ℕ) (replicated : Bool) (pattern : Cod
       let is : IsNodeBlock core old.desk.heap taken.desk.values.items number reads.read.node words = subst (λ h. IsNodeBlock core h taken.desk.values.items number reads.read.node words) reads.read.rest.heap reads.read.is in
       let stands = inputs_stand core old.desk.heap taken.desk.values.items number part replicated i.chan pattern reads.read.node words closed is op_is in
       output_fits (process_of core (value_in old.desk.heap)) (acting_words core old) (contents old.queues 0) (channel_lists old.queues) (right_acting core old sends.acting right)
-      channel (value_in old.desk.heap message.0 message.1) at words reads.others (operand_value (known old.desk.heap taken.desk.values.items) i.chan) replicated (unleveled pattern) stands.0
+      channel (sent_value old.desk.heap sent) at words reads.others (operand_value (known old.desk.heap taken.desk.values.items) i.chan) replicated (unleveled pattern) stands.0
       (channel_there old.queues channel there ∙ ap Some reads.waiting) sends.is stands.1
 
 -- ---- what waits at the channel once the input's frame is read

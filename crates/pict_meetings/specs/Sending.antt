@@ -2,14 +2,12 @@
 use Rattle.std.specs.Prelude.{◌≡◌, ℕ, false, List}
 use Rattle.pict_syntax.specs.declared.span.Span.{Span}
 use Rattle.pict_core.specs.Closed.{IsClosed}
-use Rattle.pict_core.specs.Step.{Comm}
 use Rattle.pict_core.specs.Term.{Process, Val, Chan}
 use Rattle.pict_code.specs.Instruction as op
 use Rattle.pict_code.specs.Instruction.{Node, CodePat}
-use Rattle.pict_desk.specs.Known.{value_in, known, operand_value}
+use Rattle.pict_desk.specs.Known.{known, operand_value}
 use Rattle.pict_meetings.specs.Serving.{IsInputWith}
-use Rattle.pict_desk.specs.Pairs.{IsPair}
-use Rattle.pict_turns.specs.Acting.{ActsBy, IsDone}
+use Rattle.pict_turns.specs.Acting.{ActsBy}
 use Rattle.pict_blocks.specs.Parts.{block_width}
 use Rattle.pict_desk.specs.Code.{HasFrame}
 use Rattle.pict_turns.specs.declared.store.Store.{Store}
@@ -29,8 +27,3 @@ pub record EndsAsWide (nodes : List Node) (number : ℕ) (frame : List ℕ) : Ty
   pub own : List ℕ
   pub has : HasFrame nodes number own
   pub wide : block_width own ≡ block_width frame
-
--- The step is done, and what these two words stand for is received on this channel.
-pub record IsReceived (core : Process) (old new : Store) (channel : ℕ) (message : ℕ × ℕ) : Type 0 where
-  pub done : IsDone core old new (Comm channel (value_in new.desk.heap message.0 message.1))
-  pub pair : IsPair new.desk.heap message

@@ -8,6 +8,7 @@ mod parking;
 mod receiving;
 mod room;
 mod sending;
+mod sent;
 mod taking;
 mod waiting;
 

@@ -18,12 +18,14 @@ ghost use Rattle.pict_blocks.specs.Parts.{block_width};
 ghost use Rattle.pict_turns.specs.Growing.{AddsAtMost, part_need};
 ghost use Rattle.pict_turns.specs.Turns.{turn_cost};
 ghost use Rattle.pict_turns.specs.Views.{acting_words};
-ghost use Rattle.pict_meetings.specs.Partners.{Sends, Receives};
+ghost use Rattle.pict_meetings.specs.Partners.{Receives};
+ghost use Rattle.pict_meetings.specs.Sent.{sent_value, CanTake, SendsThis};
 ghost use Rattle.pict_meetings.specs.Room.{CanHoldAfter, CanHoldBeside};
 ghost use Rattle.pict_meetings.specs.Serving.{IsInputWith};
 ghost use Rattle.pict_meetings.specs.Waiting.{waits_first};
 
-use crate::binding::bind_levels;
+use crate::binding::{bind_levels, bind_sent};
+use crate::sent::Sent;
 use crate::taking::{read_waiting, settle, take_message};
 use crate::waiting::Waiting;
 use pict_code::{CodePat, Node, Op};
@@ -87,28 +89,29 @@ pub(crate) fn meet_message(
     message
 }
 
-// The oldest input at the channel, of the node with this number, which has this pattern and this part, takes the message that
-// who has the turn sends.
+// The oldest input at the channel, of the node with this number, which has this pattern and this part, takes what who has
+// the turn sends.
 #[inline(always)]
 fn serve(
     store: &mut Store,
     code: &[Node],
     channel: u32,
-    message: (u64, u64),
+    sent: Sent,
     number: usize,
     pattern: &CodePat,
     part: u32,
     replicated: bool,
 )
     requires code { IsCode (map plain_node code.now) }
-    requires sends { (at : Span) × Sends (core_in code.now) store.old channel message at }
+    requires sends { (at : Span) × SendsThis (core_in code.now) store.old channel sent at }
     requires queue { IsQueue store.old.queues (channel + 1) }
     requires first { waits_first store.old.queues channel ≡ Waiting.Input number }
     requires input { IsInputWith (map plain_node code.now) number replicated (plain_pat pattern.now) part }
+    requires takes { CanTake (plain_pat pattern.now) sent }
     requires right { IsRight (core_in code.now) store.old }
     requires can { (frame : List ℕ) → HasFrame (map plain_node code.now) part frame
         → CanHoldAfter store.old (if replicated then [] else take 1 (contents store.old.queues (channel + 1))) frame }
-    ensures done { IsDone (core_in code.now) store.old store.new (Comm channel (value_in store.new.desk.heap message.0 message.1)) }
+    ensures done { IsDone (core_in code.now) store.old store.new (Comm channel (sent_value store.new.desk.heap sent)) }
     ensures turn { (frame : List ℕ) → HasFrame (map plain_node code.now) part frame
         → turn_cost (core_in code.now) store.new ≤ block_width frame + 4 }
     ensures blocks { KeepsBlocks store.old.queues.region store.new.queues.region }
@@ -120,13 +123,13 @@ fn serve(
     store.turn.set(Turn::Nobody);
     read_waiting(store, code, channel, number);
     settle(&mut store.queues, channel, replicated);
-    bind_levels(store, pattern, message);
+    bind_sent(store, pattern, sent);
     make_ready(store, part, frame);
 }
 
 // The pattern and the part of the input that the node with this number is, and whether it is replicated.
 #[inline(always)]
-fn input_at(code: &[Node], number: usize) -> (&CodePat, u32, bool)
+pub(crate) fn input_at(code: &[Node], number: usize) -> (&CodePat, u32, bool)
     requires inside { number < length code.now }
     requires input { (replicated : Bool) × (pattern : AnyPattern) × (part : ℕ) × IsInputWith (map plain_node code.now) number replicated pattern part }
     ensures { IsInputWith (map plain_node code.now) number result.2 (plain_pat result.0.now) result.1 }
@@ -138,27 +141,23 @@ fn input_at(code: &[Node], number: usize) -> (&CodePat, u32, bool)
     }
 }
 
-/// The oldest input that waits at the channel, of the node with number `reader`, takes the message that who has the turn sends: its
+/// The oldest input that waits at the channel, of the node with number `reader`, takes what who has the turn sends: its
 /// part, with what its pattern binds beside the values that it held, becomes the last of the ready ones. A replicated input goes
 /// behind the others at the channel, another ends, as the output does. It needs what the part does, once the block that ends is
 /// given back. Takes no memory.
 #[inline(always)]
-pub(crate) fn meet_reader(
-    store: &mut Store,
-    code: &[Node],
-    channel: u32,
-    reader: usize,
-    message: (u64, u64),
-)
+pub(crate) fn meet_reader(store: &mut Store, code: &[Node], channel: u32, reader: usize, sent: Sent)
     requires code { IsCode (map plain_node code.now) }
-    requires sends { (at : Span) × Sends (core_in code.now) store.old channel message at }
+    requires sends { (at : Span) × SendsThis (core_in code.now) store.old channel sent at }
     requires queue { IsQueue store.old.queues (channel + 1) }
     requires first { waits_first store.old.queues channel ≡ Waiting.Input reader }
+    requires takes { (replicated : Bool) (pattern : AnyPattern) (part : ℕ) → IsInputWith (map plain_node code.now) reader replicated pattern part
+        → CanTake pattern sent }
     requires right { IsRight (core_in code.now) store.old }
     requires can { (replicated : Bool) (pattern : AnyPattern) (part : ℕ) (frame : List ℕ)
         → IsInputWith (map plain_node code.now) reader replicated pattern part → HasFrame (map plain_node code.now) part frame
         → CanHoldAfter store.old (if replicated then [] else take 1 (contents store.old.queues (channel + 1))) frame }
-    ensures done { IsDone (core_in code.now) store.old store.new (Comm channel (value_in store.new.desk.heap message.0 message.1)) }
+    ensures done { IsDone (core_in code.now) store.old store.new (Comm channel (sent_value store.new.desk.heap sent)) }
     ensures turn { (replicated : Bool) (pattern : AnyPattern) (part : ℕ) (frame : List ℕ)
         → IsInputWith (map plain_node code.now) reader replicated pattern part → HasFrame (map plain_node code.now) part frame
         → turn_cost (core_in code.now) store.new ≤ block_width frame + 4 }
@@ -172,6 +171,6 @@ pub(crate) fn meet_reader(
 {
     let (pattern, part, replicated) = input_at(code, reader);
     serve(
-        store, code, channel, message, reader, pattern, part, replicated,
+        store, code, channel, sent, reader, pattern, part, replicated,
     );
 }

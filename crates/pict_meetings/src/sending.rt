@@ -1,11 +1,12 @@
 // The steps of outputs to a channel.
-ghost use Rattle.std.specs.Prelude.{◌≡◌, ◌<◌, ◌≤◌, ◌+◌, ◌∷◌, ◌↔◌, [], ℕ, Bool, List, length, map, IsOk, OnOk, OnErr, IsTrue};
+ghost use Rattle.std.specs.Prelude.{◌≡◌, ◌<◌, ◌≤◌, ◌+◌, ◌∷◌, ◌↔◌, [], ℕ, Bool, List, length, map, IsOk, IfSome, OnOk, OnErr, IsTrue};
 ghost use Rattle.pict_syntax.specs.declared.span.Span.{Span as AnySpan};
 ghost use Rattle.pict_core.specs.Closed.{IsOver};
 ghost use Rattle.pict_core.specs.Plain.{plain_val};
 ghost use Rattle.pict_core.specs.Term.{Process};
 ghost use Rattle.pict_code.specs.Instruction.{CodePat as AnyPattern};
-ghost use Rattle.pict_code.specs.Plain.{plain_node};
+ghost use Rattle.pict_code.specs.Plain.{plain_node, plain_pat};
+ghost use Rattle.pict_heap.specs.HeapState.{HeapState};
 ghost use Rattle.pict_meetings.specs.Partners.{Sends, SendsKept};
 ghost use Rattle.pict_meetings.specs.Room.{as_wide, CanHoldAfterAnd};
 ghost use Rattle.pict_meetings.specs.Serving.{IsInputWith};
@@ -24,15 +25,20 @@ ghost use Rattle.pict_turns.specs.Views.{acting_words};
 ghost use Rattle.pict_turns.specs.Widths.{MakesOnly};
 ghost use Rattle.pict_desk.specs.Constants.{IsConstant};
 ghost use Rattle.pict_turns.specs.Plain.{SendsInPlace, TakesNoMemory};
-ghost use Rattle.pict_meetings.specs.Sending.{SendsOperand, EndsAsWide, IsReceived};
+ghost use Rattle.pict_meetings.specs.PassedOver.{IsStepOrPassed, StepsOrPasses};
+ghost use Rattle.pict_meetings.specs.Sending.{SendsOperand, EndsAsWide};
+ghost use Rattle.pict_meetings.specs.Sent.{CanTake, IsReceived, IsSentFor, SendsThis, TakesWhole};
+ghost use Rattle.pict_meetings.specs.declared.sent.Sent.{Sent as AnySent};
+ghost use Rattle.pict_desk.specs.Arguments.{operand_in};
 ghost use Rattle.pict_turns.specs.Stepping.{MayAct, IsStepBy, StepsBy};
 
-use crate::meeting::meet_reader;
+use crate::meeting::{input_at, meet_reader};
 use crate::parking::{park, park_output};
 use crate::room::reserve_served;
+use crate::sent::{Sent, fields_at_hand};
 use crate::waiting::{Waiting, first_waiting};
 use pict_blocks::block_width;
-use pict_code::{Node, Op, Operand};
+use pict_code::{CodePat, Node, Op, Operand};
 use pict_desk::{need, pair_there, word_of};
 use pict_heap::{Word, pack};
 use pict_prim::NO_NEED;
@@ -74,7 +80,7 @@ fn reader_as_wide(code: &[Node], reader: usize, frame: &[u32]) -> bool
     }
 }
 
-// The step of an output of two words on a channel where an input waits. An error, which is want of memory, changes nothing but
+// The step of an output of what is sent on a channel where an input waits. An error, which is want of memory, changes nothing but
 // room, spare blocks and work.
 #[inline(always)]
 fn send_to_reader(
@@ -82,12 +88,14 @@ fn send_to_reader(
     store: &mut Store,
     channel: u32,
     reader: usize,
-    message: (u64, u64),
+    sent: Sent,
 ) -> Result<(), AllocError>
     requires may { MayAct code.now store.old }
-    requires sends { (at : AnySpan) × Sends (core_in code.now) store.old channel message at }
+    requires sends { (at : AnySpan) × SendsThis (core_in code.now) store.old channel sent at }
     requires first { waits_first store.old.queues channel ≡ Waiting.Input reader }
-    ensures ok { OnOk result (IsReceived (core_in code.now) store.old store.new channel message) }
+    requires takes { (replicated : Bool) (pattern : AnyPattern) (part : ℕ) → IsInputWith (map plain_node code.now) reader replicated pattern part
+        → CanTake pattern sent }
+    ensures ok { OnOk result (IsReceived (core_in code.now) store.old store.new channel sent) }
     ensures refused { OnErr result (IsRefused (core_in code.now) store.old store.new) }
     ensures cost { (replicated : Bool) (pattern : AnyPattern) (part : ℕ) (own frame : List ℕ)
         → IsInputWith (map plain_node code.now) reader replicated pattern part
@@ -106,7 +114,7 @@ fn send_to_reader(
     let frame = reader_frame(code, reader);
     let reuses = reader_as_wide(code, reader, frame);
     reserve_served(store, frame, NO_NEED, reuses)?;
-    meet_reader(store, code, channel, reader, message);
+    meet_reader(store, code, channel, reader, sent);
     Ok(())
 }
 
@@ -117,7 +125,7 @@ fn receipt(
     channel: u32,
     message: (u64, u64),
 ) -> Result<Shown, AllocError>
-    ensures step { (core : Process) (old new : Store) → OnOk done (IsReceived core old new channel message) → OnErr done (IsRefused core old new)
+    ensures step { (core : Process) (old new : Store) → OnOk done (IsReceived core old new channel (Sent.Whole message)) → OnErr done (IsRefused core old new)
         → IsStepBy core old new result }
     ensures ok { IsOk done → IsOk result }
 {
@@ -143,7 +151,7 @@ pub fn send_kept(
 {
     match first_waiting(&mut store.queues, channel) {
         Waiting::Input(reader) => {
-            let done = send_to_reader(code, store, channel, reader, message);
+            let done = send_to_reader(code, store, channel, reader, Sent::Whole(message));
             receipt(done, channel, message)
         }
         _ => {
@@ -294,8 +302,84 @@ fn send_made(
         &store.desk.values,
     );
     let value = pack(word);
-    meet_reader(store, code, channel, reader, value);
+    meet_reader(store, code, channel, reader, Sent::Whole(value));
     Ok(Shown::Comm { channel, value })
+}
+
+// Whether the pattern binds what it receives as a whole.
+#[inline(always)]
+fn takes_whole(pattern: &CodePat) -> bool
+    ensures { IsTrue result ↔ TakesWhole (plain_pat pattern.now) }
+{
+    match pattern {
+        CodePat::Bind(_) => true,
+        _ => false,
+    }
+}
+
+// The record that is sent to an input, unmade, where it can be: the input takes it apart, and its fields are at hand.
+#[inline(always)]
+fn unmade(code: &[Node], reader: usize, message: &Operand, values: &[(u64, u64)]) -> Option<Sent>
+    requires inside { reader < length code.now }
+    requires input { (replicated : Bool) × (pattern : AnyPattern) × (part : ℕ) × IsInputWith (map plain_node code.now) reader replicated pattern part }
+    requires over { IsOver (length values.now) 0 (plain_val message.now) }
+    requires pairs { (h : HeapState) × ArePairs h values.now }
+    ensures sent { (h : HeapState) → ArePairs h values.now → IfSome result (IsSentFor h (operand_in h values.now (plain_val message.now))) }
+    ensures takes { IfSome result (λ sent. (replicated : Bool) (pattern : AnyPattern) (part : ℕ)
+        → IsInputWith (map plain_node code.now) reader replicated pattern part → CanTake pattern sent) }
+{
+    let (pattern, _, _) = input_at(code, reader);
+    if takes_whole(pattern) {
+        None
+    } else {
+        fields_at_hand(message, values)
+    }
+}
+
+// The answer of a step that makes what is sent be received, if it is done, where communications are passed over.
+#[inline(always)]
+fn passed(done: Result<(), AllocError>) -> Result<Shown, AllocError>
+    ensures { (core : Process) (old new : Store) (channel : ℕ) (sent : AnySent) (passes : Bool) → OnOk done (IsReceived core old new channel sent)
+        → OnErr done (IsRefused core old new) → IsTrue passes → IsStepOrPassed passes core old new result }
+{
+    done?;
+    Ok(Shown::Quiet)
+}
+
+// The same, and where communications are passed over the word of a record isn't made that is taken apart.
+#[inline(never)]
+fn send_unmade(
+    code: &[Node],
+    store: &mut Store,
+    channel: u32,
+    reader: usize,
+    message: &Operand,
+    passes: bool,
+) -> Result<Shown, AllocError>
+    requires may { MayAct code.now store.old }
+    requires sends { (at : AnySpan) × SendsOperand (core_in code.now) store.old channel (plain_val message.now) at }
+    requires first { waits_first store.old.queues channel ≡ Waiting.Input reader }
+    ensures step { IsStepOrPassed passes (core_in code.now) store.old store.new result }
+    ensures cost { (replicated : Bool) (pattern : AnyPattern) (part : ℕ) (own frame : List ℕ)
+        → IsInputWith (map plain_node code.now) reader replicated pattern part
+        → HasFrame (map plain_node code.now) reader own → HasFrame (map plain_node code.now) part frame
+        → CostsAtMost (block_width own + block_width frame + 6) store.old.queues store.new.queues }
+    ensures turn { (replicated : Bool) (pattern : AnyPattern) (part : ℕ) (frame : List ℕ)
+        → IsInputWith (map plain_node code.now) reader replicated pattern part → HasFrame (map plain_node code.now) part frame
+        → turn_cost (core_in code.now) store.new ≤ turn_cost (core_in code.now) store.old + (block_width frame + 4) }
+    ensures blocks { (replicated : Bool) (pattern : AnyPattern) (part : ℕ) (frame : List ℕ)
+        → IsInputWith (map plain_node code.now) reader replicated pattern part → HasFrame (map plain_node code.now) part frame
+        → MakesOnly store.old.queues store.new.queues (block_width frame ∷ []) }
+    ensures adds { (replicated : Bool) (pattern : AnyPattern) (part : ℕ) → IsInputWith (map plain_node code.now) reader replicated pattern part
+        → AddsAtMost store.old store.new (both_needs (need_of (plain_val message.now)) (part_need (map plain_node code.now) part)) }
+{
+    if passes {
+        match unmade(code, reader, message, &store.desk.values) {
+            Some(sent) => return passed(send_to_reader(code, store, channel, reader, sent)),
+            None => {}
+        }
+    }
+    send_made(code, store, channel, reader, message)
 }
 
 // The step of an output of an operand, which has this constant, on a channel where an input waits.
@@ -307,12 +391,13 @@ fn send_operand(
     reader: usize,
     message: &Operand,
     constant: &Option<Word>,
+    passes: bool,
 ) -> Result<Shown, AllocError>
     requires may { MayAct code.now store.old }
     requires sends { (at : AnySpan) × SendsOperand (core_in code.now) store.old channel (plain_val message.now) at }
     requires first { waits_first store.old.queues channel ≡ Waiting.Input reader }
     requires constant { IsConstant store.old.desk.heap (plain_val message.now) constant.now }
-    ensures step { IsStepBy (core_in code.now) store.old store.new result }
+    ensures step { IsStepOrPassed passes (core_in code.now) store.old store.new result }
     ensures cost { (replicated : Bool) (pattern : AnyPattern) (part : ℕ) (own frame : List ℕ)
         → IsInputWith (map plain_node code.now) reader replicated pattern part
         → HasFrame (map plain_node code.now) reader own → HasFrame (map plain_node code.now) part frame
@@ -329,14 +414,15 @@ fn send_operand(
 {
     match pair_there(message, constant, &store.desk.values) {
         Some(pair) => {
-            let done = send_to_reader(code, store, channel, reader, pair);
+            let done = send_to_reader(code, store, channel, reader, Sent::Whole(pair));
             receipt(done, channel, pair)
         }
-        None => send_made(code, store, channel, reader, message),
+        None => send_unmade(code, store, channel, reader, message, passes),
     }
 }
 
 /// The step of a node's output of an operand, which has this constant, on a channel: its text or record is made where it has none.
+/// Where communications are passed over, a record that is taken apart isn't made.
 #[inline(always)]
 pub fn send(
     code: &[Node],
@@ -345,14 +431,17 @@ pub fn send(
     message: &Operand,
     constant: &Option<Word>,
     at: Span,
+    passes: bool,
 ) -> Result<Shown, AllocError>
     requires may { MayAct code.now store.old }
     requires sends { SendsOperand (core_in code.now) store.old channel (plain_val message.now) at }
     requires constant { IsConstant store.old.desk.heap (plain_val message.now) constant.now }
-    ensures steps { StepsBy code.now store.old store.new result }
+    ensures steps { StepsOrPasses passes code.now store.old store.new result }
 {
     match first_waiting(&mut store.queues, channel) {
-        Waiting::Input(reader) => { send_operand(code, store, channel, reader, message, constant) }
+        Waiting::Input(reader) => {
+            send_operand(code, store, channel, reader, message, constant, passes)
+        }
         _ => park_operand(store, channel, message, constant, at),
     }
 }

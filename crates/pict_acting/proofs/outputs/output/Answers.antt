@@ -9,6 +9,7 @@ use Rattle.pict_calls.proofs.Outputs.{takes, node_call}
 use Rattle.pict_desk.specs.Arguments.{operand_in}
 use Rattle.pict_desk.specs.Code.{core_in}
 use Rattle.pict_turns.proofs.Outputs.{named_channel, node_sent_to}
+use Rattle.pict_meetings.proofs.PassedOver.{steps_or_passes}
 use Rattle.pict_acting.proofs.outputs.output.Goals as goal
 use Rattle.pict_core.specs.Term.{PrimitiveVal}
 
@@ -83,4 +84,4 @@ returns-in-None c =
     let to = node_sent_to core s may.code_is.closed chan message c.args.at c.requires.acts may.right (sym c.in-None.is ∙ named) in
     let same = c.primitive_at_hand-p.ensures s.desk.heap to.0
     (subst (λ values. StandsForPrimitive s.desk.heap values chan to.0) (sym c.deref-in-None.ensures.value) (record { pairs = may.acting.store.pairs; is = to.1 })) in
-    record { steps = c.call_message.ensures.steps c.args.code.now chan may c.requires.acts (to.1 ∙ ap PrimitiveVal (sym same)) }
+    record { steps = steps_or_passes _ _ _ _ _ (c.call_message.ensures.steps c.args.code.now chan may c.requires.acts (to.1 ∙ ap PrimitiveVal (sym same))) }

@@ -19,6 +19,11 @@ serve-requires-clause-can c = λ frame f.
     let i = c.input_at-part.result in
     c.requires.can i.2 (plain_pat i.0.now) i.1 frame c.input_at-part.ensures f
 
+pub serve-requires-clause-takes : goal.serve-requires-clause-takes
+serve-requires-clause-takes c =
+    let i = c.input_at-part.result in
+    c.requires.takes i.2 (plain_pat i.0.now) i.1 c.input_at-part.ensures
+
 pub returns-clause-turn : goal.returns-clause-turn
 returns-clause-turn c = λ replicated pattern part frame i g.
     let own = c.input_at-part.result in

@@ -19,6 +19,7 @@ use Rattle.pict_turns.proofs.Growing.{node_adds}
 use Rattle.pict_meetings.proofs.Adding.{wait_adds, meeting_added}
 use Rattle.pict_turns.proofs.InPlace.{sent_in_place, nothing_worked, output_sends}
 use Rattle.pict_meetings.proofs.Plainly.{serves}
+use Rattle.pict_meetings.proofs.PassedOver.{step_or_passed, worked_or_passed}
 use Rattle.pict_meetings.proofs.sending.send.Goals as goal
 
 pub first_waiting-requires-clause-queue : goal.first_waiting-requires-clause-queue
@@ -61,7 +62,7 @@ returns-in-Input c =
     let q = c.first_waiting.new.queues in
     record {
       steps = record {
-        step = step_worked c.args.code.now c.args.store.now c.first_waiting.new.queues c.first_waiting.ensures.rest c.requires.may c.send_operand.new.store c.send_operand.result c.send_operand.ensures.step;
+        step = worked_or_passed c.args.code.now c.args.store.now c.first_waiting.new.queues c.first_waiting.ensures.rest c.requires.may c.args.passes c.send_operand.new.store c.send_operand.result c.send_operand.ensures.step;
         work =
             meeting_works c.args.code.now c.requires.may.code_is s c.send_operand.new.store c.requires.may.acting.store c.args.channel c.in-Input.reader
             (sym c.first_waiting.ensures.first ∙ c.in-Input.is) (operand_value (known s.desk.heap s.desk.values.items) message) c.args.at (operand_process core s c.args.channel message c.args.at x)
@@ -97,9 +98,9 @@ returns-in_default c =
     record {
       steps = record {
         step =
-            step_worked c.args.code.now s q c.first_waiting.ensures.rest c.requires.may c.park_operand.new.store c.park_operand.result
+            step_or_passed _ _ _ _ _ (step_worked c.args.code.now s q c.first_waiting.ensures.rest c.requires.may c.park_operand.new.store c.park_operand.result
             (c.park_operand.ensures.step core (operand_worked core s q c.first_waiting.ensures.rest c.args.channel (plain_val c.args.message.now) c.args.at c.requires.sends)
-            (λ number e. c.in_default.not-Input number (c.first_waiting.ensures.first ∙ sym (ap oldest (c.first_waiting.ensures.contents (c.args.channel + 1))) ∙ e)));
+            (λ number e. c.in_default.not-Input number (c.first_waiting.ensures.first ∙ sym (ap oldest (c.first_waiting.ensures.contents (c.args.channel + 1))) ∙ e))));
         work =
             alone_works core s c.park_operand.new.store o x.acts 12 (block_width x.acts.node.frame + 4)
             (costs_then s.queues c.first_waiting.new.queues c.park_operand.new.store.queues 2 10 12 c.first_waiting.ensures.cost c.park_operand.ensures.cost (omega arith)) (omega (arith, own, turn)) (omega arith);

@@ -14,7 +14,7 @@ use Rattle.pict_turns.proofs.Turns.{cost_nobody}
 use Rattle.pict_turns.proofs.Working.{costs_then, kept_length, kept_works}
 use Rattle.pict_meetings.proofs.Working.{kept_meeting_works}
 use Rattle.pict_meetings.proofs.AtChannels.{output_queue}
-use Rattle.pict_meetings.proofs.Growing.{sends_worked, kept_worked}
+use Rattle.pict_meetings.proofs.Growing.{sends_whole, sends_worked, kept_worked}
 use Rattle.pict_turns.proofs.Passing.{may_worked, step_worked}
 use Rattle.pict_turns.proofs.Needing.{only_worked, needed_by, kept_needs}
 use Rattle.pict_meetings.proofs.Needing.{wait_needs, meeting_made}
@@ -41,7 +41,7 @@ send_to_reader-done-requires-clause-may c = may_worked c.args.code.now c.args.st
 pub send_to_reader-done-requires-clause-sends : goal.send_to_reader-done-requires-clause-sends
 send_to_reader-done-requires-clause-sends c =
     let x = c.requires.sends in
-    (x.0, sends_worked (core_in c.args.code.now) c.args.store.now c.first_waiting.new.queues c.first_waiting.ensures.rest c.args.channel c.args.message x.0 x.1)
+    (x.0, sends_whole _ _ _ _ _ (sends_worked (core_in c.args.code.now) c.args.store.now c.first_waiting.new.queues c.first_waiting.ensures.rest c.args.channel c.args.message x.0 x.1))
 
 pub park-requires : goal.park-requires
 park-requires c =

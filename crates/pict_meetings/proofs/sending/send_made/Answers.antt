@@ -13,7 +13,7 @@ use Rattle.pict_turns.specs.declared.store.Store.{Store}
 use Rattle.pict_turns.proofs.Room.{refused_still, cost_still}
 use Rattle.pict_desk.proofs.MakingRoom.{has_room, room_swapped}
 use Rattle.pict_turns.proofs.Working.{costs_reserved}
-use Rattle.pict_meetings.proofs.Growing.{operand_reserved, operand_over, sends_made, done_made, right_made, can_grown}
+use Rattle.pict_meetings.proofs.Growing.{operand_reserved, operand_over, sends_whole, sends_made, done_made, right_made, can_grown}
 use Rattle.pict_turns.proofs.Passing.{refused_step, may_reserve}
 use Rattle.pict_turns.proofs.Adding.{used_both, used_after, used_less}
 use Rattle.pict_meetings.proofs.Plainly.{one_given}
@@ -53,8 +53,8 @@ pub meet_reader-requires-clause-sends : goal.meet_reader-requires-clause-sends
 meet_reader-requires-clause-sends c =
     let x = c.requires.sends in (
       x.0,
-      sends_made (core_in c.args.code.now) c.args.store.now c.reserve_meeting.new.store c.reserve_meeting.ensures.rest c.args.channel (plain_val c.args.message.now) x.0 x.1
-          c.word_of-word.new.heap c.word_of-word.new.pending c.deref.result.now c.deref.ensures.value c.word_of-word.result c.word_of-word.ensures.made c.pack-value.result c.pack-value.ensures.fits (sym c.pack-value.ensures.pair),
+      sends_whole _ _ _ _ _ (sends_made (core_in c.args.code.now) c.args.store.now c.reserve_meeting.new.store c.reserve_meeting.ensures.rest c.args.channel (plain_val c.args.message.now) x.0 x.1
+          c.word_of-word.new.heap c.word_of-word.new.pending c.deref.result.now c.deref.ensures.value c.word_of-word.result c.word_of-word.ensures.made c.pack-value.result c.pack-value.ensures.fits (sym c.pack-value.ensures.pair)),
     )
 
 pub meet_reader-requires-clause-right : goal.meet_reader-requires-clause-right

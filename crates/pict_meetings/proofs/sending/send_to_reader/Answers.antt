@@ -1,7 +1,8 @@
 use Rattle.std.proofs.Common.{◌+◌, false, ◌∷◌, [], refl, ap, ◌∙◌, subst, arith}
-use Rattle.pict_desk.specs.Known.{value_in}
 use Rattle.pict_meetings.specs.Room.{CanHoldAfter}
+use Rattle.pict_meetings.specs.Sent.{sent_value}
 use Rattle.pict_meetings.specs.Waiting.{oldest}
+use Rattle.pict_meetings.proofs.Sents.{sent_still}
 use Rattle.pict_meetings.proofs.Ops.{input_waits_first}
 use Rattle.pict_desk.specs.Code.{core_in}
 use Rattle.pict_blocks.specs.Parts.{block_width}
@@ -9,9 +10,8 @@ use Rattle.pict_turns.specs.Widths.{MakesOnly}
 use Rattle.pict_turns.proofs.Making.{makes_before}
 use Rattle.pict_turns.proofs.Room.{done_after, refused_still, cost_still}
 use Rattle.pict_turns.proofs.Turns.{acting_room}
-use Rattle.pict_turns.proofs.Views.{pair_stays}
 use Rattle.pict_turns.proofs.Working.{costs_reserved}
-use Rattle.pict_meetings.proofs.Growing.{sends_reserved, can_after}
+use Rattle.pict_meetings.proofs.Growing.{sent_reserved, can_after}
 use Rattle.pict_turns.proofs.Passing.{may_reserve}
 use Rattle.pict_turns.proofs.Adding.{used_after, used_less}
 use Rattle.pict_meetings.proofs.Plainly.{one_given, served, part_has, sends_kept}
@@ -30,7 +30,7 @@ reader_as_wide-reuses-requires c =
 pub meet_reader-requires-clause-sends : goal.meet_reader-requires-clause-sends
 meet_reader-requires-clause-sends c =
     let x = c.requires.sends in
-    (x.0, sends_reserved (core_in c.args.code.now) c.args.store.now c.reserve_served.new.store c.reserve_served.ensures.rest c.args.channel c.args.message x.0 x.1)
+    (x.0, sent_reserved (core_in c.args.code.now) c.args.store.now c.reserve_served.new.store c.reserve_served.ensures.rest c.args.channel c.args.sent x.0 x.1)
 
 pub meet_reader-requires-clause-right : goal.meet_reader-requires-clause-right
 meet_reader-requires-clause-right c = (may_reserve c.args.code.now c.args.store.now c.reserve_served.new.store c.reserve_served.ensures.rest c.requires.may).right
@@ -56,7 +56,7 @@ returns-clause-ok c =
     let met = c.meet_reader.ensures.done in
     record {
       done = done_after core old mid rest new _ met;
-      pair = pair_stays mid.desk.heap new.desk.heap met.keeps c.args.message (sends_reserved core old mid rest c.args.channel c.args.message x.0 x.1).pair;
+      sent_is = sent_still mid.desk.heap new.desk.heap met.keeps c.args.sent (sent_reserved core old mid rest c.args.channel c.args.sent x.0 x.1).sent_is;
     }
 
 pub returns-in_err-reserve_served-clause-refused : goal.returns-in_err-reserve_served-clause-refused
@@ -92,7 +92,7 @@ returns-clause-plain c x =
     let core = core_in code in
     let s = c.args.store.now in
     let sends = c.requires.sends in
-    let v = value_in s.desk.heap c.args.message.0 c.args.message.1 in
+    let v = sent_value s.desk.heap c.args.sent in
     let i = served code c.requires.may.code_is s c.requires.may.acting.store c.args.channel c.args.reader c.requires.first v sends.0 sends.1.is x in
     let has = part_has code c.requires.may.code_is s c.requires.may.acting.store c.args.channel c.args.reader c.requires.first v sends.0 sends.1.is x in
     let r = c.reserve_served.ensures in
@@ -108,7 +108,7 @@ returns-in_err-reserve_served-clause-plain c x =
     let core = core_in code in
     let s = c.args.store.now in
     let sends = c.requires.sends in
-    let v = value_in s.desk.heap c.args.message.0 c.args.message.1 in
+    let v = sent_value s.desk.heap c.args.sent in
     let i = served code c.requires.may.code_is s c.requires.may.acting.store c.args.channel c.args.reader c.requires.first v sends.0 sends.1.is x in
     let has = part_has code c.requires.may.code_is s c.requires.may.acting.store c.args.channel c.args.reader c.requires.first v sends.0 sends.1.is x in
     let r = c.in_err-reserve_served.ensures in

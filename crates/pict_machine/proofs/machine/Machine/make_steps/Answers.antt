@@ -44,7 +44,7 @@ returns-in-Some-clause-made c =
     let new = c.call_at_once.new.store in
     let r = c.in-Some.field-0 in
     let m = subst (λ (code : List Node). MakesCall (core_in code) old.store new r) c.deref.ensures.value (c.call_at_once.ensures.called r (c.in_ok-channel.was ∙ ap Ok c.in-Some.is)).1 in
-    called_steps old new r c.requires.kept c.requires.right m
+    called_steps old new r c.requires.kept c.requires.right m c.args.passes
 
 pub returns-in-Some-clause-within : goal.returns-in-Some-clause-within
 returns-in-Some-clause-within c = (c.call_at_once.ensures.called c.in-Some.field-0 (c.in_ok-channel.was ∙ ap Ok c.in-Some.is)).0
@@ -73,7 +73,7 @@ returns-in_ok-event-in-None-clause-made c =
     let mid : Machine = record old { store = c.call_at_once.new.store } in
     let is : mid ≡ old = ap (λ (s : Store). record old { store = s }) same in
     let e = c.in_ok-event-in-None.ensures in
-    subst (λ (m : Machine). MakesSteps m new (record { quiet = 0; event = event })) is (one_made mid new event (record { step = e.ok; event = e.event }))
+    subst (λ (m : Machine). MakesSteps c.args.passes m new (record { quiet = 0; event = event })) is (one_made c.args.passes mid new event e.made)
 
 pub returns-in_ok-event-in-None-clause-spends : goal.returns-in_ok-event-in-None-clause-spends
 returns-in_ok-event-in-None-clause-spends c =

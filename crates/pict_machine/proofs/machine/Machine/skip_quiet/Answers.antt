@@ -1,9 +1,9 @@
 use Rattle.std.proofs.Common.{◌≡◌, ◌+◌, ℕ, [], false, inr, refl, subst, arith}
 use Rattle.pict_view.proofs.Runs.{still_right}
 use Rattle.pict_machine.specs.Going.{GoesPast}
-use Rattle.pict_machine.specs.Machine.{running_view, heap_of}
+use Rattle.pict_machine.specs.Machine.{running_view}
 use Rattle.pict_machine.proofs.Bounding.{spends_none, spends_on, spends_up}
-use Rattle.pict_machine.proofs.Going.{one_past, past_both, stood_of, none_next}
+use Rattle.pict_machine.proofs.Going.{passed_on, has_event, past_both, stood_of, none_next}
 use Rattle.pict_desk.proofs.Making.{keeps_more}
 use Rattle.pict_machine.proofs.machine.Machine.skip_quiet.Goals as goal
 
@@ -22,6 +22,7 @@ returns-then-not-has_next-clause-gone c =
 
 pub returns-then-not-is_passed-clause-gone : goal.returns-then-not-is_passed-clause-gone
 returns-then-not-is_passed-clause-gone c =
+    let no : c.is_passed.result ≡ false = cc in
     let made = c.in-Ok.ensures.made in
     let within = c.in-Ok.ensures.within in
     let left = c.loop-step.invariant.within in
@@ -29,7 +30,7 @@ returns-then-not-is_passed-clause-gone c =
       between = made.between;
       few = omega (arith, within, left);
       past = past_both _ _ _ _ _ _ c.loop-step.invariant.past made.past;
-      then = (omega (arith, within, left), made.then);
+      then = (omega (arith, within, left), has_event _ _ _ _ c.is_passed.result no c.is_passed.ensures made.then);
     }
 
 pub returns-then-not-is_passed-clause-spends : goal.returns-then-not-is_passed-clause-spends
@@ -41,7 +42,7 @@ returns-then-not-is_passed-clause-spends_passed c =
 
 pub loop-step-preserved : goal.loop-step-preserved
 loop-step-preserved c =
-    let passed = c.is_passed.ensures cc in
+    let passed = c.is_passed.ensures.0 cc in
     let made = c.in-Ok.ensures.made in
     let within = c.in-Ok.ensures.within in
     let left = c.loop-step.invariant.within in
@@ -53,7 +54,7 @@ loop-step-preserved c =
       spends = spends_on c.args.self.now c.loop-step.self c.make_steps.new.self c.loop-step.step 1 _ c.loop-step.invariant.spends c.in-Ok.ensures.spends (omega arith);
       keeps = keeps_more _ _ _ c.loop-step.invariant.keeps c.in-Ok.ensures.keeps;
       past = subst (λ (k : ℕ). GoesPast c.args.passes k (running_view c.args.self.now) (running_view c.make_steps.new.self)) count
-          (one_past _ _ (heap_of c.make_steps.new.self) _ _ made.between _ (past_both _ _ _ _ _ _ c.loop-step.invariant.past made.past) passed made.then.step);
+          (passed_on _ _ _ made.between _ _ (past_both _ _ _ _ _ _ c.loop-step.invariant.past made.past) passed made.then);
     }
 
 pub loop-step-init : goal.loop-step-init

@@ -6,9 +6,10 @@ use Rattle.pict_turns.specs.Acting.{IsStore}
 use Rattle.pict_desk.specs.Code.{core_in, IsCode}
 use Rattle.pict_turns.specs.Views.{view_with_turn}
 use Rattle.pict_desk.specs.Constants.{AreConstants}
-use Rattle.pict_turns.specs.Stepping.{GivesTurn, MayAct, StepsBy}
+use Rattle.pict_meetings.specs.PassedOver.{StepsOrPasses}
+use Rattle.pict_turns.specs.Stepping.{GivesTurn, MayAct}
 use Rattle.pict_turns.proofs.Given.{may_act}
-use Rattle.pict_machine.proofs.Steps.{step_kept, step_ok, step_event, step_refused, step_keeps, step_few, step_queues}
+use Rattle.pict_machine.proofs.Unshown.{over_kept, over_made, over_refused, over_keeps, over_few, over_queues}
 use Rattle.pict_turns.proofs.Needing.{running_needs}
 use Rattle.pict_turns.proofs.Growing.{running_adds}
 use Rattle.pict_turns.proofs.InPlace.{given_in_place}
@@ -24,16 +25,16 @@ ensure_turn-requires c =
       ready = subst (λ (code : List Node). (view_with_turn (core_in code) old.store).ready ≢ []) (sym c.deref.ensures.value) c.requires.ready;
     }
 
-pub act-requires-clause-may : goal.act-requires-clause-may
-act-requires-clause-may c =
+pub act_or_pass-requires-clause-may : goal.act_or_pass-requires-clause-may
+act_or_pass-requires-clause-may c =
     let old = c.args.self.now in
     let mid = c.ensure_turn.new.store in
     let given = subst (λ (code : List Node). GivesTurn (core_in code) old.store mid) c.deref.ensures.value c.ensure_turn.ensures in
     subst (λ (code : List Node). MayAct code mid) (sym c.deref-2.ensures.value)
     (may_act old.code.nodes.items old.store mid given c.requires.kept.code c.requires.kept.store.ready c.requires.kept.apart c.requires.few c.requires.right)
 
-pub act-requires-clause-constants : goal.act-requires-clause-constants
-act-requires-clause-constants c =
+pub act_or_pass-requires-clause-constants : goal.act_or_pass-requires-clause-constants
+act_or_pass-requires-clause-constants c =
     let old = c.args.self.now in
     let mid = c.ensure_turn.new.store in
     let given = subst (λ (code : List Node). GivesTurn (core_in code) old.store mid) c.deref.ensures.value c.ensure_turn.ensures in
@@ -45,22 +46,21 @@ pub returns : goal.returns
 returns c =
     let old = c.args.self.now in
     let mid = c.ensure_turn.new.store in
-    let new = c.act.new.store in
+    let new = c.act_or_pass.new.store in
     let given = subst (λ (code : List Node). GivesTurn (core_in code) old.store mid) c.deref.ensures.value c.ensure_turn.ensures in
     let core = core_in old.code.nodes.items in
-    let by = subst (λ (code : List Node). StepsBy code mid new c.act.result) c.deref-2.ensures.value c.act.ensures.steps in
+    let by = subst (λ (code : List Node). StepsOrPasses c.args.passes code mid new c.act_or_pass.result) c.deref-2.ensures.value c.act_or_pass.ensures.steps in
     let step = by.step in
     record {
-      kept = step_kept old mid new given c.requires.kept c.requires.right c.act.result step;
-      ok = step_ok old mid new given c.requires.kept c.act.result step;
-      event = step_event old mid new given c.requires.kept c.act.result step;
-      refused = step_refused old mid new given c.requires.kept c.act.result step;
-      keeps = step_keeps old mid new given c.requires.kept c.act.result step;
+      kept = over_kept old mid new given c.requires.kept c.args.passes c.act_or_pass.result c.requires.right step;
+      made = over_made old mid new given c.requires.kept c.args.passes c.act_or_pass.result step;
+      refused = over_refused old mid new given c.requires.kept c.args.passes c.act_or_pass.result step;
+      keeps = over_keeps old mid new given c.requires.kept c.args.passes c.act_or_pass.result step;
       work = running_works core old.store mid new given by.work;
       blocks = running_needs core old.store mid new given by.blocks;
       adds = running_adds core old.store mid new given by.adds;
       plain = λ m. let x = by.plain (given_in_place core old.store mid given m) in (x.0, λ width. x.1 width ∙ given.blocks width);
       code = refl;
-      channels = step_few old mid new given c.requires.kept c.act.result step;
-      queues = step_queues old mid new given c.requires.kept c.act.result step;
+      channels = over_few old mid new given c.requires.kept c.args.passes c.act_or_pass.result step;
+      queues = over_queues old mid new given c.requires.kept c.args.passes c.act_or_pass.result step;
     }
