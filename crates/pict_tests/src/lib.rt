@@ -1,28 +1,21 @@
-//! Tests of whole programs: the command, its phases, the translation, and the machine beside the definition of its steps. Nothing else stands here.
+//! Tests of whole programs: the command over devices that fail, its phases, the translation, and the machine beside the definition of its
+//! steps. Nothing else stands here. What the command answers over files stands in the tables of calls.
 #![tactic(auto)]
 
 #[cfg(test)]
 mod blocks;
 #[cfg(test)]
-mod calls;
-#[cfg(test)]
 mod codes;
-#[cfg(test)]
-mod command;
 #[cfg(test)]
 mod cuts;
 #[cfg(test)]
-mod imports;
-#[cfg(test)]
-mod objects;
+mod devices;
 #[cfg(test)]
 mod orders;
 #[cfg(test)]
 mod phases;
 #[cfg(test)]
-mod replays;
-#[cfg(test)]
-mod sites;
+mod primitives;
 #[cfg(test)]
 mod steps;
 #[cfg(test)]

@@ -1,77 +1,22 @@
-// Runs with choices from seeds, beside a list and beside all that may come of a race.
+// Runs with choices from seeds, beside a list.
 
-use crate::calls::{call, devices_of};
 use itoa::Buffer;
+use pict_outside::MemorySink;
 use pict_seed::Chooser;
-use pict_top::Status;
+use pict_top::{OneShelf, Status, pict};
 use std::alloc::{AllocError, Global};
-use std::process::Abort;
 
-/// What a text prints that stands alone, with choices from this seed.
-fn printed_by(
-    rt: &impl Abort,
-    alloc: Global,
-    text: &[u8],
-    seed: u64,
-) -> Result<Vec<u8>, AllocError> {
-    let mut devices = devices_of(alloc, &[("F", text)], "")?;
-    let words = format!(in alloc; "pick --bare {seed} F")?;
-    assert_eq!(rt; call(alloc, &mut devices, words.as_str())?, Status::Done);
-    assert!(rt; devices.err.taken().is_empty());
-    devices.out.taken().to_vec(alloc)
-}
-
-/// Each of these outputs comes of some of the first hundred seeds, and no other output of any.
-fn comes_to(
-    rt: &impl Abort,
-    alloc: Global,
-    text: &[u8],
-    outputs: &[&[u8]],
-) -> Result<(), AllocError> {
-    let mut seen = vec![in alloc; false; outputs.len()]?;
-    for seed in 0..100u64 {
-        let printed = printed_by(rt, alloc, text, seed)?;
-        let mut known = false;
-        for (i, output) in outputs.iter().enumerate() {
-            if printed.as_slice() == *output {
-                seen[i] = true;
-                known = true;
-            }
-        }
-        assert!(rt; known);
+/// What a text prints that stands alone, with choices from this seed; nothing where it isn't done.
+fn printed_by(alloc: Global, text: &[u8], seed: u64) -> Result<Option<Vec<u8>>, AllocError> {
+    let mut shelf = OneShelf::new(alloc, "F", text.to_vec(alloc)?)?;
+    let mut out = MemorySink::new(alloc, 100_000, Vec::new(alloc))?;
+    let mut err = MemorySink::new(alloc, 0, Vec::new(alloc))?;
+    let mut digits = Buffer::new();
+    let words = ["pick", "--bare", digits.format(seed), "F"];
+    match pict(alloc, &words, &mut shelf, &mut out, &mut err) {
+        Status::Done => Ok(Some(out.taken().to_vec(alloc)?)),
+        _ => Ok(None),
     }
-    for was in &seen {
-        assert!(rt; *was);
-    }
-    Ok(())
-}
-
-#[test]
-fn all_that_may_come(rt: HostRuntime) -> Result<(), AllocError> {
-    let alloc = rt.alloc();
-    comes_to(
-        &rt,
-        alloc,
-        b"run (print!\"a\" | print!\"b\")",
-        &[b"ab", b"ba"],
-    )?;
-    // Any of three readers may get the message, the one in the middle too.
-    let readers =
-        b"new c:^Int run c?x = print!\"a\" run c?x = print!\"b\" run c?x = print!\"c\" run c!1";
-    comes_to(&rt, alloc, readers, &[b"a", b"b", b"c"])?;
-    // A server takes any message next, and serves them all.
-    let server = b"new c:^Int run c?*x = printi!x run c!1 run c!2 run c!3";
-    comes_to(
-        &rt,
-        alloc,
-        server,
-        &[b"123", b"132", b"213", b"231", b"312", b"321"],
-    )?;
-    // Who has the lock is alone.
-    let lock = b"new lock:^[] run lock![]
-run lock?[] = ((pr \"a\"); (pr \"A\"); lock![])
-run lock?[] = ((pr \"b\"); (pr \"B\"); lock![])";
-    comes_to(&rt, alloc, lock, &[b"aAbB", b"bBaA"])
 }
 
 /// How many numbers the program below prints beside each other.
@@ -114,9 +59,8 @@ fn printed_by_a_list(alloc: Global, seed: u64) -> Result<Vec<u8>, AllocError> {
     Ok(printed)
 }
 
-#[test]
-fn a_thousand_beside_each_other(rt: HostRuntime) -> Result<(), AllocError> {
-    let alloc = rt.alloc();
+/// The program: each of the numbers is printed.
+fn printings(alloc: Global) -> Result<Vec<u8>, AllocError> {
     let mut text = Vec::new(alloc);
     let mut digits = Buffer::new();
     for number in 0..COUNT {
@@ -124,9 +68,16 @@ fn a_thousand_beside_each_other(rt: HostRuntime) -> Result<(), AllocError> {
         text.extend_from_slice(digits.format(number).as_bytes())?;
         text.extend_from_slice(b"\n")?;
     }
+    Ok(text)
+}
+
+#[test]
+fn a_thousand_beside_each_other(rt: HostRuntime) -> Result<(), AllocError> {
+    let text = printings(rt.alloc())?;
     for seed in 0..3 {
-        let printed = printed_by(&rt, alloc, &text, seed)?;
-        assert!(rt; printed == printed_by_a_list(alloc, seed)?);
+        let printed = printed_by(rt.alloc(), &text, seed)?;
+        let wanted = Some(printed_by_a_list(rt.alloc(), seed)?);
+        assert!(rt; printed == wanted);
     }
     Ok(())
 }

@@ -61,7 +61,7 @@ fn try_block(rt: &impl Abort, alloc: Global, block: &str) -> Result<(), AllocErr
     Ok(())
 }
 
-/// Files alone, and with a prelude before them.
+/// Files alone, with a prelude before them, and with an imported text.
 const TEXTS: &str = r#"
 F: run print!"a"
 depth 2
@@ -102,19 +102,9 @@ S1 1 4..5
 prelude: run print!1
 F: run printi!"a"
 Y4 0 10..11
-"#;
 
-#[test]
-fn texts(rt: HostRuntime) -> Result<(), AllocError> {
-    for block in TEXTS.split("\n\n") {
-        try_block(&rt, rt.alloc(), block)?;
-    }
-    Ok(())
-}
-
-/// What an imported text binds is bound behind it, and what the file binds isn't bound in it; its refusals stand in it; and each
-/// phase looks at all texts before the next.
-const IMPORTED_TEXTS: &str = r#"
+-- what an imported text binds is bound behind it, and what the file binds isn't bound in it; its refusals stand in it; and each
+-- phase looks at all texts before the next
 F: import "L" run c!1
 L: new c:^Int
 depth 3
@@ -144,8 +134,8 @@ I1 1 7..10
 "#;
 
 #[test]
-fn imported_texts(rt: HostRuntime) -> Result<(), AllocError> {
-    for block in IMPORTED_TEXTS.split("\n\n") {
+fn texts(rt: HostRuntime) -> Result<(), AllocError> {
+    for block in TEXTS.split("\n\n") {
         try_block(&rt, rt.alloc(), block)?;
     }
     Ok(())

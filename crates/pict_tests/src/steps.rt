@@ -7,6 +7,7 @@ ghost use Rattle.pict_view.specs.Right.{RunsRight};
 ghost use Rattle.pict_machine.specs.Events.{IsEventOf};
 
 use crate::blocks::{ended, parts};
+use crate::primitives::PRIMITIVES;
 use itoa::Buffer;
 use pict_core::Core;
 use pict_front::front;
@@ -26,7 +27,7 @@ use std::process::Abort;
 const FILE: &str = "F";
 
 /// The core process of a text; nothing where the text is refused.
-pub fn accepted(alloc: Global, text: &[u8]) -> Option<Core>
+fn accepted(alloc: Global, text: &[u8]) -> Option<Core>
     ensures closed { IfSome result (λ core. IsClosed (plain_core core)) }
     ensures right { IfSome result (λ core. (fuel : ℕ) → RunsRight (plain_core core) fuel) }
 {
@@ -257,7 +258,7 @@ fn expect_run<R: Abort>(
 
 /// The run of the text takes so many steps until nothing is ready: one less is too little fuel, and one more changes
 /// nothing.
-pub fn expect_done<R: Abort>(
+fn expect_done<R: Abort>(
     rt: &R,
     alloc: Global,
     text: &[u8],
@@ -320,10 +321,14 @@ const PROGRAMS: &str = r#"
 
 4 steps: new c:^Int run c!1
 
-4 steps: new c:^Int run c?n = print!"x""#;
+4 steps: new c:^Int run c?n = print!"x"
 
-/// Calls of primitives and of a function.
-const PRIMITIVES: &str = r#"
+-- a fold leaves nothing
+7 steps: type S = (rec X = ^X) new c:^S run c!(rec c) run c?(rec d) = print!"ok"
+5 c0 c0
+7 print ok
+
+-- calls of primitives and of a function
 8 steps: run printi!(+ 9223372036854775807 1)
 7 c0 -9223372036854775808
 8 print -9223372036854775808
@@ -363,12 +368,18 @@ fn try_block(rt: &impl Abort, alloc: Global, block: &str) -> Result<(), AllocErr
     expect_done(rt, alloc, text.as_bytes(), steps as u64, lines.as_bytes())
 }
 
-#[test]
-fn worked_programs(rt: HostRuntime) -> Result<(), AllocError> {
-    for block in PROGRAMS.split("\n\n") {
-        try_block(&rt, rt.alloc(), block)?;
+/// Tries the blocks of a table.
+fn try_blocks(rt: &impl Abort, alloc: Global, table: &str) -> Result<(), AllocError> {
+    for block in table.split("\n\n") {
+        try_block(rt, alloc, block)?;
     }
     Ok(())
+}
+
+#[test]
+fn worked_programs(rt: HostRuntime) -> Result<(), AllocError> {
+    try_blocks(&rt, rt.alloc(), PROGRAMS)?;
+    try_blocks(&rt, rt.alloc(), PRIMITIVES)
 }
 
 /// Tries a run that spends its fuel.
@@ -412,14 +423,6 @@ fn an_endless_loop_spends_its_fuel(rt: HostRuntime) -> Result<(), AllocError> {
         1000,
         &lines,
     )
-}
-
-#[test]
-fn worked_primitives(rt: HostRuntime) -> Result<(), AllocError> {
-    for block in PRIMITIVES.split("\n\n") {
-        try_block(&rt, rt.alloc(), block)?;
-    }
-    Ok(())
 }
 
 #[test]

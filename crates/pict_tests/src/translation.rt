@@ -1,16 +1,11 @@
 // Program texts and their core processes, written out.
 
 use crate::blocks::parts;
-use crate::steps::{accepted, expect_done};
-use itoa::Buffer;
 use pict_core::{Core, CorePat, CoreVal};
 use pict_derive::{DeriveError, derive};
-use pict_heap::Heap;
 use pict_lex::lex;
-use pict_machine::{End, Event, Machine, RunError, Watcher};
 use pict_parse::parse;
 use pict_scope::resolve;
-use pict_show_words::printed;
 use pict_syntax::{Name, Names, Prim};
 use std::alloc::{AllocError, Global};
 use std::process::Abort;
@@ -373,7 +368,7 @@ const COUNTER_CORE: [&[u8]; 15] = [
 ];
 
 /// These texts, one after the other.
-fn joined(alloc: Global, texts: &[&[u8]]) -> Result<Vec<u8>, AllocError> {
+pub fn joined(alloc: Global, texts: &[&[u8]]) -> Result<Vec<u8>, AllocError> {
     let mut whole = Vec::new(alloc);
     for text in texts {
         whole.extend_from_slice(text)?;
@@ -462,95 +457,7 @@ fn outputs_have_these_places(rt: HostRuntime) -> Result<(), AllocError> {
     Ok(())
 }
 
-// ---- runs
-
-/// A watcher that keeps what is printed.
-#[derive(Drop)]
-struct Printed {
-    text: Vec<u8>,
-}
-
-impl Watcher for Printed {
-    ghost use Rattle.std.specs.Prelude.{None};
-
-    ghost view = { λ _. None };
-
-    ghost next = { λ _ v n l. v };
-
-    ghost torn = { λ _ v n l w. Unit {0} };
-
-    ghost faults = { λ _. 0 };
-
-    ghost same = { λ _ _. Unit {0} };
-
-    ghost same_itself = { λ _. tt };
-
-    ghost same_along = { λ _ _ _ _ _. tt };
-
-    fn see(&mut self, heap: &Heap, _number: u64, event: &Event) -> Result<(), RunError> {
-        match event {
-            Event::Print(word) => {
-                let mut digits = Buffer::new();
-                match self
-                    .text
-                    .extend_from_slice(printed(heap, *word, &mut digits))
-                {
-                    Ok(()) => Ok(()),
-                    Err(_) => Err(RunError::Memory),
-                }
-            }
-            _ => Ok(()),
-        }
-    }
-}
-
-/// Whether a text is accepted, runs to its end and prints this.
-fn prints(alloc: Global, text: &[u8], wanted: &[u8]) -> Result<bool, Fail> {
-    let Some(core) = accepted(alloc, text) else {
-        return Ok(false);
-    };
-    let mut printed = Printed {
-        text: Vec::new(alloc),
-    };
-    let mut machine = Machine::load_core(alloc, core)?;
-    let ends = matches!(machine.run(100_000, &mut printed), Ok(End::Done));
-    Ok(ends && printed.text.as_slice() == wanted)
-}
-
-/// What texts print.
-const PRINTED: &str = r#"
-9 | run printi!(- > 10 3 2)
-5 | run printi!(- < 10 3 2)
-ab2 | def f (s:String):Int = ((pr s); 1) run printi!(+ (f "a") (f "b"))
-2 | val [x b=y a=z] = [3 b=2 a=1] run printi!y
-"#;
-
-#[test]
-fn texts_print_this(rt: HostRuntime) -> Result<(), Fail> {
-    for row in PRINTED.lines() {
-        if let Some((wanted, text)) = row.split_once(" | ") {
-            assert!(rt;
-                prints(rt.alloc(), text.as_bytes(), wanted.as_bytes())?,
-                "{row}"
-            );
-        }
-    }
-    Ok(())
-}
-
-#[test]
-fn the_counter_server_prints_its_total(rt: HostRuntime) -> Result<(), Fail> {
-    let text = joined(rt.alloc(), &[PRELUDE, COUNTER])?;
-    assert!(rt; prints(rt.alloc(), &text, b"total 6")?);
-    Ok(())
-}
-
-#[test]
-fn a_fold_is_traced(rt: HostRuntime) -> Result<(), Fail> {
-    let fold = b"type S = (rec X = ^X) new c:^S run c!(rec c) run c?(rec d) = print!\"ok\"";
-    expect_done(&rt, rt.alloc(), fold, 7, b"5 c0 c0\n7 print ok\n")?;
-    Ok(())
-}
+// ---- the greatest depth
 
 /// `count` times `true;`, which nests the rest three deeper each time.
 fn awaits(alloc: Global, count: usize) -> Result<Vec<u8>, AllocError> {
