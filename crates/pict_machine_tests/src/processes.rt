@@ -1,6 +1,7 @@
-// Core terms at their greatest depth, and the calls that take memory.
+// Core terms at their greatest depth, their codes, and the calls that take memory.
 
 use pict_core::{Core, CorePat, CoreVal, Part, depth, match_value, substitute};
+use pict_lower::lower;
 use pict_syntax::{Bytes, Name, Prim, Span};
 use std::alloc::{AllocError, Global};
 
@@ -72,6 +73,21 @@ fn deep_processes_are_copied_substituted_and_dropped(rt: HostRuntime) -> Result<
         assert_eq!(rt; depth(&substitute(alloc, &copy, &[CoreVal::Int(1)])?), 5000);
     }
     let _long = nested(alloc, Nesting::Right, 200000)?;
+    Ok(())
+}
+
+// How many nodes the code of a process has.
+fn count_nodes(alloc: Global, process: &Core) -> Result<usize, AllocError> {
+    Ok(lower(alloc, process)?.nodes.len())
+}
+
+// Compositions nested on the left to the greatest depth, and on the right far past it.
+#[test]
+fn deep_processes_have_codes(rt: HostRuntime) -> Result<(), AllocError> {
+    for (nesting, levels, nodes) in [(Nesting::Left, 5000, 9999), (Nesting::Right, 20001, 40001)] {
+        let process = nested(rt.alloc(), nesting, levels)?;
+        assert_eq!(rt; count_nodes(rt.alloc(), &process)?, nodes);
+    }
     Ok(())
 }
 

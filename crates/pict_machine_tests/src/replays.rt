@@ -1,4 +1,4 @@
-// Replay files of processes made by hand: what is wrong with them, and which step is the first at fault.
+// Replay files of values that no text nests so deep, and lines of choices. What is said of other files stands in the tables of calls.
 ghost use Rattle.std.specs.Prelude.{ℕ, ◌+◌, IfOk};
 ghost use Rattle.pict_core.specs.Closed.{IsOver};
 ghost use Rattle.pict_core.specs.Plain.{plain_core, plain_val};
@@ -7,7 +7,7 @@ ghost use Rattle.pict_machine_tests.specs.Gentle.{IsGentleOver};
 use pict_core::{Core, CorePat, CoreVal, Part};
 use pict_lower::lower;
 use pict_replay::{ChoicesError, FileError, Verdict, read_choices, read_file, replay};
-use pict_syntax::{Bytes, Name, Names, Prim, Span};
+use pict_syntax::{Names, Span};
 use std::alloc::{AllocError, Global};
 use std::process::Abort;
 
@@ -30,17 +30,6 @@ const YES: Told = Told::Said(Verdict::Yes);
 
 fn no(step: u64) -> Told {
     Told::Said(Verdict::No(step))
-}
-
-/// The printing of a text.
-fn printing(alloc: Global, bytes: &[u8]) -> Result<Core, AllocError>
-    ensures { IfOk result (λ p. IsGentleOver 0 (plain_core p)) }
-{
-    Ok(Core::Out {
-        chan: CoreVal::Prim(Prim::Print),
-        message: CoreVal::Text(Bytes::copy_of(alloc, bytes)?),
-        at: HERE,
-    })
 }
 
 /// Two processes beside each other.
@@ -88,113 +77,6 @@ fn answer(alloc: Global, process: &Core, text: &[u8]) -> Result<Told, AllocError
     let code = lower(alloc, process)?;
     let verdict = replay(alloc, code, &file.choices, &file.expected)?;
     Ok(Told::Said(verdict))
-}
-
-#[test]
-fn two_printings(rt: HostRuntime) -> Result<(), AllocError> {
-    let a = rt.alloc();
-    let both = beside(a, printing(a, b"a")?, printing(a, b"b")?)?;
-    let process = beside(a, both, Core::Zero)?;
-    let rows: [(&[u8], Told); 16] = [
-        (
-            b"0 0\n1 0\n0 0\n1 0\n0 0\ntrace\n4 print \"b\"\n5 print \"a\"\n",
-            YES,
-        ),
-        (
-            b"0 0\n1 0\n0 0\n1 0\n0 0\ntrace\n4 print \"b\"\n5 print \"b\"\n",
-            no(5),
-        ),
-        (
-            b"0 0\n1 0\n0 0\n1 0\n0 0\ntrace\n4 print \"b\"\n6 print \"a\"\n",
-            no(5),
-        ),
-        (
-            b"0 0\n1 0\n0 0\n1 0\ntrace\n4 print \"b\"\n5 print \"a\"\n",
-            no(5),
-        ),
-        (
-            b"0 0\n1 0\n0 0\n1 0\n0 0\n0 0\ntrace\n4 print \"b\"\n5 print \"a\"\n",
-            no(6),
-        ),
-        (
-            b"7 0\n1 0\n0 0\n1 0\n0 0\ntrace\n4 print \"b\"\n5 print \"a\"\n",
-            no(1),
-        ),
-        (b"0 1\ntrace\n", no(1)),
-        (b"0 0\n1 0\ntrace\n5 print \"a\"\n1 print \"b\"\n", no(2)),
-        (b"0 0\ntrace\n0 print \"a\"\n", no(1)),
-        (
-            b"0  0\n1 0\n0 0\n1 0\n0 0\ntrace\n4 print \"b\"\n5 print \"a\"\n",
-            Told::NoFile(0),
-        ),
-        (b"0 0\n18446744073709551616 0\ntrace\n", Told::NoFile(4)),
-        (
-            b"0 0\ntrace\n1 print \"b\"\n2 print \"a\"",
-            Told::NoFile(22),
-        ),
-        (b"0 0\ntrace\ntrace\n", Told::NoFile(10)),
-        (b"0 0\ntrace", Told::NoFile(4)),
-        (b"0 0\n", Told::NoFile(4)),
-        (b"", Told::NoFile(0)),
-    ];
-    for (text, expected) in &rows {
-        assert_eq!(rt; answer(a, &process, text)?, *expected);
-    }
-    assert_eq!(rt; answer(a, &Core::Zero, b"trace\n")?, YES);
-    Ok(())
-}
-
-/// The record `[1 "s" a=true]`.
-fn message(alloc: Global) -> Result<CoreVal, AllocError>
-    ensures { IfOk result (λ v. IsOver 1 0 (plain_val v)) }
-{
-    let mut positional = Vec::new(alloc);
-    positional.push(CoreVal::Int(1))?;
-    positional.push(CoreVal::Text(Bytes::copy_of(alloc, b"s")?))?;
-    let mut labelled = Vec::new(alloc);
-    labelled.push((Name(0), CoreVal::Bool(true)))?;
-    Ok(CoreVal::Fields {
-        positional,
-        labelled,
-    })
-}
-
-#[test]
-fn one_communication(rt: HostRuntime) -> Result<(), AllocError> {
-    let a = rt.alloc();
-    let process = meeting(a, message(a)?)?;
-    let rows: [(&[u8], Told); 8] = [
-        (
-            b"0 0\n0 0\n0 0\n0 0\n0 0\ntrace\n4 c0 [1 \"s\" a=true]\n",
-            YES,
-        ),
-        (
-            b"0 0\n0 0\n0 0\n0 0\n0 0\ntrace\n4 c1 [1 \"s\" a=true]\n",
-            no(4),
-        ),
-        (
-            b"0 0\n0 0\n0 0\n0 0\n0 0\ntrace\n4 c0 [1 \"s\" a=false]\n",
-            no(4),
-        ),
-        (
-            b"0 0\n0 0\n0 0\n0 0\n0 0\ntrace\n4 c0 [1 \"s\" b=true]\n",
-            no(4),
-        ),
-        (b"0 0\n0 0\n0 0\n0 0\n0 0\ntrace\n4 c0 [1 \"s\"]\n", no(4)),
-        (b"0 0\n0 0\n0 0\n0 0\n0 0\ntrace\n4 c0 [1 a=true]\n", no(4)),
-        (
-            b"0 0\n0 0\n0 0\n0 1\n0 0\ntrace\n4 c0 [1 \"s\" a=true]\n",
-            no(4),
-        ),
-        (
-            b"0 0\n0 0\n1 0\n0 0\n0 0\ntrace\n4 c0 [1 \"s\" a=true]\n",
-            YES,
-        ),
-    ];
-    for (text, expected) in &rows {
-        assert_eq!(rt; answer(a, &process, text)?, *expected);
-    }
-    Ok(())
 }
 
 /// So many records, each the one field of the next, around 1.

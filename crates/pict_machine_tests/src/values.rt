@@ -23,55 +23,20 @@ fn shows(rt: &impl Abort, alloc: Global, value: CoreVal, text: &[u8]) -> Result<
 }
 
 #[test]
-fn variables_and_channels(rt: HostRuntime) -> Result<(), AllocError> {
+fn simple_values(rt: HostRuntime) -> Result<(), AllocError> {
     let alloc = rt.alloc();
     shows(&rt, alloc, CoreVal::Var(0), b"s0")?;
-    shows(&rt, alloc, CoreVal::Chan(4294967295), b"c4294967295")
-}
-
-#[test]
-fn numbers(rt: HostRuntime) -> Result<(), AllocError> {
-    let alloc = rt.alloc();
-    for (n, text) in [
-        (0, b"0".as_slice()),
-        (-9223372036854775808, b"-9223372036854775808".as_slice()),
-    ] {
-        shows(&rt, alloc, CoreVal::Int(n), text)?;
-    }
-    Ok(())
-}
-
-#[test]
-fn truth_values_and_primitives(rt: HostRuntime) -> Result<(), AllocError> {
-    let alloc = rt.alloc();
-    for (b, text) in [(true, b"true".as_slice()), (false, b"false".as_slice())] {
-        shows(&rt, alloc, CoreVal::Bool(b), text)?;
-    }
-    for (p, text) in [
-        (Prim::Join, b"+$".as_slice()),
-        (Prim::Printi, b"printi".as_slice()),
-    ] {
-        shows(&rt, alloc, CoreVal::Prim(p), text)?;
-    }
-    Ok(())
-}
-
-#[test]
-fn characters(rt: HostRuntime) -> Result<(), AllocError> {
-    let alloc = rt.alloc();
-    for (byte, text) in [
-        (b'\'', b"'\\''".as_slice()),
-        (b'"', b"'\"'".as_slice()),
-        (0, b"'\\x00'".as_slice()),
-    ] {
-        shows(&rt, alloc, CoreVal::Char(byte), text)?;
-    }
-    Ok(())
-}
-
-#[test]
-fn strings(rt: HostRuntime) -> Result<(), AllocError> {
-    let alloc = rt.alloc();
+    shows(&rt, alloc, CoreVal::Chan(4294967295), b"c4294967295")?;
+    shows(&rt, alloc, CoreVal::Int(0), b"0")?;
+    let least = CoreVal::Int(-9223372036854775808);
+    shows(&rt, alloc, least, b"-9223372036854775808")?;
+    shows(&rt, alloc, CoreVal::Bool(true), b"true")?;
+    shows(&rt, alloc, CoreVal::Bool(false), b"false")?;
+    shows(&rt, alloc, CoreVal::Prim(Prim::Join), b"+$")?;
+    shows(&rt, alloc, CoreVal::Prim(Prim::Printi), b"printi")?;
+    shows(&rt, alloc, CoreVal::Char(b'\''), b"'\\''")?;
+    shows(&rt, alloc, CoreVal::Char(b'"'), b"'\"'")?;
+    shows(&rt, alloc, CoreVal::Char(0), b"'\\x00'")?;
     let string = Bytes::copy_of(alloc, b"a~ \t\n\\\"'\x7f\xff")?;
     let text = b"\"a~ \\t\\n\\\\\\\"'\\x7f\\xff\"";
     shows(&rt, alloc, CoreVal::Text(string), text)
