@@ -5,6 +5,7 @@
 // refusal, the name of the text in which it stands, and its place: the first byte and the one after the last. A line that
 // begins with `--` says what the rows below it are for.
 
+use crate::answers::text_of;
 use pict_gather::{GatherError, Gathering, gather};
 use pict_outside::{Entry, MemoryShelf};
 use pict_syntax::{Bytes, Sources, Span, TEXT_LIMIT};
@@ -139,62 +140,74 @@ fn imports(rt: HostRuntime) -> Result<(), AllocError> {
     Ok(())
 }
 
+/// What a file comes to that stands alone on a shelf.
+fn alone(alloc: Global, text: &[u8]) -> Result<String, AllocError> {
+    let mut entries = Vec::new(alloc);
+    entries.push(entry_of(alloc, b"F", text)?)?;
+    answer(
+        alloc,
+        b"",
+        "F",
+        &mut MemoryShelf::new(entries, Vec::new(alloc)),
+    )
+}
+
 /// The nesting of a text is looked at before its imports.
 #[test]
 fn nesting_before_imports(rt: HostRuntime) -> Result<(), AllocError> {
-    let alloc = rt.alloc();
-    let mut text = b"import \"\" run ".to_vec(alloc)?;
-    let mut open = vec![in alloc; b'('; 201]?;
-    text.append(&mut open)?;
-    let mut entries = Vec::new(alloc);
-    entries.push(entry_of(alloc, b"F", &text)?)?;
-    let mut shelf = MemoryShelf::new(entries, Vec::new(alloc));
-    let found = answer(alloc, b"", "F", &mut shelf)?;
+    let text = text_of(rt.alloc(), "import \"\" run «( 201»")?;
+    let found = alone(rt.alloc(), &text)?;
     assert!(rt; found.as_str() == "P2 F 214..215", "{found}");
     Ok(())
 }
 
-/// So many texts, from `1` on, each of which imports the next, and the last one no text.
-fn chain_of(alloc: Global, count: u32) -> Result<Vec<Entry>, AllocError> {
+/// The text of this number in a chain of so many, each of which imports the next, and the last one no text.
+fn link_of(alloc: Global, number: u32, count: u32) -> Result<Entry, AllocError> {
+    let name = format!(in alloc; "{number}")?;
+    let text = if number == count {
+        format!(in alloc; "run ()")?
+    } else {
+        let next = number.saturating_add(1);
+        format!(in alloc; "import \"{next}\" run ()")?
+    };
+    entry_of(alloc, name.as_bytes(), text.as_bytes())
+}
+
+/// What the first text of a chain of so many comes to, of which so many are there.
+fn chain(alloc: Global, count: u32, there: u32) -> Result<String, AllocError> {
     let mut entries = Vec::new(alloc);
-    for number in 1..=count {
-        let name = format!(in alloc; "{number}")?;
-        let text = if number == count {
-            format!(in alloc; "run ()")?
-        } else {
-            let next = number.saturating_add(1);
-            format!(in alloc; "import \"{next}\" run ()")?
-        };
-        entries.push(entry_of(alloc, name.as_bytes(), text.as_bytes())?)?;
+    for number in 1..=there {
+        entries.push(link_of(alloc, number, count)?)?;
     }
-    Ok(entries)
+    answer(
+        alloc,
+        b"",
+        "1",
+        &mut MemoryShelf::new(entries, Vec::new(alloc)),
+    )
 }
 
 /// A chain of 64 texts is gathered. In one of 65 the last is one too many, also where it isn't there.
 #[test]
 fn long_chains(rt: HostRuntime) -> Result<(), AllocError> {
-    let alloc = rt.alloc();
-    let mut shelf = MemoryShelf::new(chain_of(alloc, 64)?, Vec::new(alloc));
-    let found = answer(alloc, b"", "1", &mut shelf)?;
+    let found = chain(rt.alloc(), 64, 64)?;
     assert!(rt; found.starts_with("Ok 64: 64 63 62 "), "{found}");
-    let mut shelf = MemoryShelf::new(chain_of(alloc, 65)?, Vec::new(alloc));
-    let found = answer(alloc, b"", "1", &mut shelf)?;
-    assert!(rt; found.as_str() == "I3 64 7..11", "{found}");
-    let mut entries = chain_of(alloc, 65)?;
-    drop(entries.pop());
-    let mut shelf = MemoryShelf::new(entries, Vec::new(alloc));
-    let found = answer(alloc, b"", "1", &mut shelf)?;
-    assert!(rt; found.as_str() == "I3 64 7..11", "{found}");
+    for there in [65, 64] {
+        let found = chain(rt.alloc(), 65, there)?;
+        assert!(rt; found.as_str() == "I3 64 7..11", "{found}");
+    }
     Ok(())
 }
 
-/// A text of so many bytes that begins with these, and is blank behind them.
-fn blanks(alloc: Global, front: &[u8], length: usize) -> Result<Vec<u8>, AllocError> {
+/// A text under a name, of so many bytes, that begins with these and is blank behind them.
+fn blank(alloc: Global, name: &[u8], front: &[u8], length: usize) -> Result<Entry, AllocError> {
     let mut text = front.to_vec(alloc)?;
     let more = length.saturating_sub(front.len());
-    let mut rest = vec![in alloc; b' '; more]?;
-    text.append(&mut rest)?;
-    Ok(text)
+    for _ in 0..more {
+        text.push(b' ')?;
+    }
+    let name = name.to_vec(alloc)?;
+    Ok(Entry { name, text })
 }
 
 /// What `F`, which imports `L` and then `M`, comes to, by the lengths of the three.
@@ -205,15 +218,9 @@ fn by_lengths(
     second: usize,
 ) -> Result<String, AllocError> {
     let mut entries = Vec::new(alloc);
-    let name = b"F".to_vec(alloc)?;
-    let text = blanks(alloc, b"import \"L\" import \"M\"", file)?;
-    entries.push(Entry { name, text })?;
-    let name = b"L".to_vec(alloc)?;
-    let text = blanks(alloc, b"", first)?;
-    entries.push(Entry { name, text })?;
-    let name = b"M".to_vec(alloc)?;
-    let text = blanks(alloc, b"", second)?;
-    entries.push(Entry { name, text })?;
+    entries.push(blank(alloc, b"F", b"import \"L\" import \"M\"", file)?)?;
+    entries.push(blank(alloc, b"L", b"", first)?)?;
+    entries.push(blank(alloc, b"M", b"", second)?)?;
     answer(
         alloc,
         b"run ()",
@@ -242,11 +249,20 @@ fn bytes_together(rt: HostRuntime) -> Result<(), AllocError> {
     Ok(())
 }
 
+/// What a file of three comes to, behind a prelude, where this call of the shelf fails.
+fn over_three(alloc: Global, fails: u64, prelude: &str, file: &str) -> Result<String, AllocError> {
+    let mut entries = Vec::new(alloc);
+    entries.push(entry_of(alloc, b"F", b"import \"L\" run ()")?)?;
+    entries.push(entry_of(alloc, b"L", b"run ()")?)?;
+    entries.push(entry_of(alloc, b"B", b"@")?)?;
+    let mut shelf = MemoryShelf::new(entries, vec![in alloc; fails]?);
+    answer(alloc, prelude.as_bytes(), file, &mut shelf)
+}
+
 /// A shelf that fails, at the file and at an import; a file that isn't there; and a prelude: it is read behind the fetch of
 /// the file and before its visit, and its imports are passed over.
 #[test]
 fn shelves_and_preludes(rt: HostRuntime) -> Result<(), AllocError> {
-    let alloc = rt.alloc();
     let rows = [
         (1, "", "F", "Failed F"),
         (2, "", "F", "Failed L"),
@@ -259,12 +275,7 @@ fn shelves_and_preludes(rt: HostRuntime) -> Result<(), AllocError> {
         (0, "import \"L\" run ()", "B", "L1 B 0..1"),
     ];
     for (fails, prelude, file, wanted) in rows {
-        let mut entries = Vec::new(alloc);
-        entries.push(entry_of(alloc, b"F", b"import \"L\" run ()")?)?;
-        entries.push(entry_of(alloc, b"L", b"run ()")?)?;
-        entries.push(entry_of(alloc, b"B", b"@")?)?;
-        let mut shelf = MemoryShelf::new(entries, vec![in alloc; fails]?);
-        let found = answer(alloc, prelude.as_bytes(), file, &mut shelf)?;
+        let found = over_three(rt.alloc(), fails, prelude, file)?;
         assert!(rt;
             found.as_str() == wanted,
             "{fails} {prelude} {file}: {found}"
