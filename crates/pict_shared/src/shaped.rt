@@ -3,7 +3,7 @@
 ghost use Rattle.std.specs.Prelude.{◌≡◌, IfOk};
 
 use pict_core::{Core, CorePat, CoreVal};
-use pict_syntax::Name;
+use pict_syntax::{Name, Span};
 use std::alloc::{AllocError, Global};
 
 /// A process, with a number for its form, whatever its channels are, and the channels that it names, in order, each as
@@ -53,6 +53,11 @@ fn bit(b: bool) -> u64 {
 
 fn mix_number(number: i64, running: u64) -> u64 {
     mix(mix(running, bit(number < 0)), number.unsigned_abs())
+}
+
+fn mix_place(place: Span, running: u64) -> u64 {
+    let begun = mix(mix(running, u64::from(place.text)), u64::from(place.start));
+    mix(begun, u64::from(place.end))
 }
 
 #[cycle(mix_value)]
@@ -143,7 +148,7 @@ fn mix_core(core: &Core, running: u64, channels: &mut Vec<u32>) -> Result<u64, A
         }
         Core::New(body) => mix_core(body.core(), mix(running, 3), channels),
         Core::Out { chan, message, at } => {
-            let mixed = mix_value(chan, mix(mix(running, 4), u64::from(at.start)), channels)?;
+            let mixed = mix_value(chan, mix_place(*at, mix(running, 4)), channels)?;
             mix_value(message, mixed, channels)
         }
         Core::In {
