@@ -115,8 +115,8 @@ impl State {
         copy_of(partner_among(process, &self.entries, j))
     }
 
-    /// The step at a place. Where it traps or is wrong, or nothing is there, the configuration stays as it is. The only error
-    /// is want of memory.
+    /// The step at a place. Where it traps or is wrong, or no such process is ready, the configuration stays as it is; a process that
+    /// has no such partner takes the step that it takes where it has none. The only error is want of memory.
     pub fn step_at(&mut self, choice: Choice) -> Result<StepOutcome, AllocError>
         requires channels { (configuration_of self.old).channels + 1 < 2 ^ 32 }
         requires stamps { (configuration_of self.old).next_stamp + 2 < 2 ^ 64 }
