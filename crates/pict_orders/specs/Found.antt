@@ -2,8 +2,11 @@
 use Rattle.std.specs.Prelude.{ℕ, ◌≡◌, List, map, slice_get, Some}
 use Rattle.pict_syntax.specs.declared.span.Span.{Span}
 use Rattle.pict_core.specs.Term.{Process}
+use Rattle.pict_core.specs.Configuration.{Configuration}
 use Rattle.pict_core.specs.Step.{Traps}
 use Rattle.pict_core.specs.Places.{Place, IsPlace, outcome_at}
+use Rattle.pict_reduction.specs.Reading.{reading}
+use Rattle.pict_exploration.specs.Alone.{SettlesTo}
 use Rattle.pict_exploration.specs.Explored.{Vertex, Has, IsReachedByChoices}
 use Rattle.pict_orders.specs.Plain.{configuration_of, place_of}
 use Rattle.pict_orders.specs.Settling.{IsSettled}
@@ -29,6 +32,10 @@ pub record IsSearch (p : Process) (found : List Vertex) (traps : List Trap) : Ty
   pub reached : (v : Vertex) → Has found v → IsReachedByChoices p v
   pub settled : (v : Vertex) → Has found v → IsSettled v.configuration
   pub trapped : (i : ℕ) (t : Trap) → slice_get traps i ≡ Some t → IsTrap found t
+
+-- The first vertex, if there is one, is what C settles to, and has these bytes.
+abbrev pub BeginsAt : List Vertex → List ℕ → Configuration → Type 0
+BeginsAt found bytes C = (v : Vertex) → slice_get found 0 ≡ Some v → (v.bytes ≡ bytes) × SettlesTo 0 (reading C) (reading v.configuration)
 
 -- a trap of this vertex with this choice, at this place of the text, is listed
 pub record HasTrap (traps : List Trap) (number : ℕ) (there : Place) (at : Span) : Type 0 where

@@ -5,7 +5,7 @@ ghost use Rattle.pict_core.specs.Plain.{plain_core};
 ghost use Rattle.pict_core.specs.Term.{Process};
 ghost use Rattle.pict_core.specs.Closed.{IsClosed};
 ghost use Rattle.pict_core.specs.Run.{printed_by};
-ghost use Rattle.pict_core.specs.Configuration.{IsConfiguration};
+ghost use Rattle.pict_core.specs.Configuration.{IsConfiguration, opening};
 ghost use Rattle.pict_reduction.specs.Congruence.{Congruent};
 ghost use Rattle.pict_reduction.specs.Reading.{reading};
 ghost use Rattle.pict_reference.specs.Plain.{plain_label};
@@ -13,7 +13,7 @@ ghost use Rattle.pict_exploration.specs.Explored.{IsReachedByChoices, IsFoundAs,
 ghost use Rattle.pict_orders.specs.Plain.{configuration_of, place_of};
 ghost use Rattle.pict_orders.specs.Room.{ComesToFull};
 ghost use Rattle.pict_orders.specs.Settling.{vertex};
-ghost use Rattle.pict_orders.specs.Found.{vertices, IsSearch, ListsTraps};
+ghost use Rattle.pict_orders.specs.Found.{vertices, IsSearch, BeginsAt, ListsTraps};
 ghost use Rattle.pict_orders.specs.declared.search.Extent.TheVariants.{All, Limit, NoRoom};
 ghost use Rattle.pict_orders.specs.Going.{Goes, IsAdded, IsFoundBy, IsStepFrom, IsTried, AreTried, IsExpanded, AreExpanded, IsThere, IsReadyAt, IsOpened, IsWhole};
 
@@ -221,6 +221,8 @@ impl Search {
             → IsConfiguration (configuration_of state)
             → IsReachedByChoices p (vertex (map place_of choices.items) bytes.items (configuration_of state))
             → Goes p self.old self.new extent (IsFoundSettled (vertices self.new.found.items) bytes.items (reading (configuration_of state)))) }
+        ensures first { OnOk result (self.old.found.items ≡ [] → IsConfiguration (configuration_of state)
+            → BeginsAt (vertices self.new.found.items) bytes.items (configuration_of state)) }
     {
         let mut choices = choices;
         let mut state = state;
@@ -362,6 +364,8 @@ impl Search {
         ensures goes { IfOk result (λ extent. IsClosed (plain_core process)
             → IsSearch (plain_core process) (vertices self.old.found.items) self.old.traps.items
             → Goes (plain_core process) self.old self.new extent (IsOpened (plain_core process) self.new)) }
+        ensures first { OnOk result (IsClosed (plain_core process) → self.old.found.items ≡ []
+            → BeginsAt (vertices self.new.found.items) [] (opening (plain_core process))) }
     {
         let state = State::open(self.alloc, process)?;
         self.reach(Vec::new(self.alloc), Vec::new(self.alloc), state)
@@ -374,6 +378,9 @@ impl Search {
         ensures goes { IfOk result (λ extent. IsClosed (plain_core process)
             → IsSearch (plain_core process) (vertices self.old.found.items) self.old.traps.items
             → Goes (plain_core process) self.old self.new extent (IsWhole (plain_core process) self.new)) }
+        ensures first { OnOk result (IsClosed (plain_core process)
+            → IsSearch (plain_core process) (vertices self.old.found.items) self.old.traps.items → self.old.found.items ≡ []
+            → BeginsAt (vertices self.new.found.items) [] (opening (plain_core process))) }
     {
         match self.begin(process)? {
             Extent::All => self.run(),
@@ -385,12 +392,13 @@ impl Search {
 /// Searches for all that a closed process can do, in any order of steps. From each vertex that is found the steps of all ready
 /// processes, with each of their partners, are taken, and after each of them all silent steps, and all conditionals and outputs
 /// to primitives that answer and print nothing: these commute with all other steps. What they lead to is a vertex, unless one
-/// with the same bytes and a congruent configuration is found. The search ends early where more vertices than
-/// `limit` would be found, and then it has found as many; or where some choices lead to a configuration for which there is no number
-/// of one more channel, or none of two more stamps. The only error is want of memory.
+/// with the same bytes and a congruent configuration is found; the first one is what the opening configuration settles to. The
+/// search ends early where more vertices than `limit` would be found, and then it has found as many; or where some choices lead to a
+/// configuration for which there is no number of one more channel, or none of two more stamps. The only error is want of memory.
 pub fn explore(alloc: Global, process: Core, limit: usize) -> Result<Exploration, AllocError>
     requires closed { IsClosed (plain_core process) }
     ensures found { IfOk result (λ e. IsSearch (plain_core process) (vertices e.found.items) e.traps.items) }
+    ensures first { IfOk result (λ e. BeginsAt (vertices e.found.items) [] (opening (plain_core process))) }
     ensures all { IfOk result (λ e. e.extent ≡ All → Explores (plain_core process) (vertices e.found.items)) }
     ensures few { IfOk result (λ e. length e.found.items ≤ limit) }
     ensures limited { IfOk result (λ e. e.extent ≡ Limit → limit ≤ length e.found.items) }

@@ -22,3 +22,7 @@ pub returns-clause-traps : goal.returns-clause-traps
 returns-clause-traps c = λ whole.
     all_traps (plain_core c.args.process) _ c.explore.new.self c.in_ok-extent.extent
     (c.in_ok-extent.ensures.goes c.requires.closed (begins (plain_core c.args.process) c.new.result.items c.new-2.result.items c.new.ensures.items c.new-2.ensures.items)) whole
+
+pub returns-clause-first : goal.returns-clause-first
+returns-clause-first c =
+    c.in_ok-extent.ensures.first c.requires.closed (begins (plain_core c.args.process) c.new.result.items c.new-2.result.items c.new.ensures.items c.new-2.ensures.items) c.new.ensures.items
