@@ -1,5 +1,6 @@
 -- Small runs, step by step.
-use Rattle.std.specs.Prelude.{ℕ, ◌≡◌, ◌≢◌, ◌≤◌, List, [], ◌∷◌, length, take, map, filter, Option, Some, None, option_map}
+use Rattle.std.specs.Prelude.{ℕ, ◌≡◌, ◌≢◌, ◌<◌, ◌≤◌, List, [], ◌∷◌, length, take, map, filter, Option, Some, None, option_map}
+use Rattle.pict_syntax.specs.declared.span.Span.{Span}
 use Rattle.pict_core.specs.Term.{Val, Chan, Process}
 use Rattle.pict_core.specs.Plain.{plain_core}
 use Rattle.pict_core.specs.Configuration.{Configuration, opening}
@@ -48,12 +49,14 @@ EndsBy otherwise C end.GoesOn = otherwise
 abbrev pub Tells : Process → List plain.Entry → ℕ → List Step → Type 0
 Tells p first k steps = (C : Configuration) × Reaches k (opening p) (shown_by 1 steps) C × (after_steps first steps ≡ C.entries)
 
--- The run of the process, followed for at most so many steps: to its end, or for so many, and then somebody is ready still.
+-- The run of the process, followed for at most so many steps: to its end, or for so many, and then somebody is ready still. The step
+-- that divides by zero is one of so many.
 pub record IsRun (p : Process) (most : ℕ) (run : Run) : Type 0 where
   pub steps : LeadTo (opening p) run.steps.items (configuration_of run.last)
   pub told : (k : ℕ) → k ≤ length run.steps.items → Tells p (plain_entry run.first ∷ []) k (take k run.steps.items)
   pub few : length run.steps.items ≤ most
   pub ends : EndsBy ((length run.steps.items ≡ most) × IsBusy (configuration_of run.last)) (configuration_of run.last) run.end
+  pub divides : (at : Span) → run.end ≡ end.Trap at → length run.steps.items < most
 
 -- ---- one step
 

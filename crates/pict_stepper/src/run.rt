@@ -1,6 +1,7 @@
 // A small run, step by step.
 
 ghost use Rattle.std.specs.Prelude.{◌≡◌, ◌≢◌, ◌+◌, ◌<◌, ◌^◌, map, filter, option_map, IfOk};
+ghost use Rattle.pict_syntax.specs.declared.span.Span.{Span as PlainSpan};
 ghost use Rattle.pict_core.specs.Plain.{plain_core, plain_val};
 ghost use Rattle.pict_core.specs.Closed.{IsClosed};
 ghost use Rattle.pict_core.specs.Configuration.{IsConfiguration};
@@ -10,6 +11,7 @@ ghost use Rattle.pict_reference.specs.Plain.{plain_entry, configuration_of};
 ghost use Rattle.pict_stepper.specs.Steps.{channel_number, IsBusy, EndsBy, IsTurn, IsStepOf, IsOutcome, IsRun};
 ghost use Rattle.pict_stepper.specs.Told.{is_stamp_of, stamp_of};
 ghost use Rattle.pict_stepper.specs.Touched.{is_touched};
+ghost use Rattle.pict_stepper.specs.declared.run.End.TheVariants.{Trap};
 
 use crate::rule::{Rule, rule_of};
 use pict_core::{Core, CoreVal};
@@ -236,7 +238,8 @@ fn next(alloc: Global, reference: &mut Reference) -> Result<Outcome, AllocError>
 
 // Where a run stands that is followed no further, though no step has ended it.
 fn end_of(last: &Reference) -> End
-    ensures { EndsBy (IsBusy (configuration_of last.now)) (configuration_of last.now) result }
+    ensures ends { EndsBy (IsBusy (configuration_of last.now)) (configuration_of last.now) result }
+    ensures no_trap { (at : PlainSpan) → result ≢ Trap at }
 {
     match oldest_ready(last.entries()) {
         None => End::Finished,

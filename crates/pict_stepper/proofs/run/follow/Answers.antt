@@ -34,6 +34,7 @@ returns-in-Ended c =
       told = tells_from (plain_core c.args.process) _ _ _ f (ap (λ q. record { stamp = 0; mark = Ready; process = q } ∷ []) c.in_ok-copy.ensures);
       few = c.steps.invariant.few;
       ends = search rules;
+      divides = λ at e. omega (arith, c.steps-test.true, c.len.ensures);
     }
 
 pub returns : goal.returns
@@ -43,5 +44,6 @@ returns c =
       steps = f.leads;
       told = tells_from (plain_core c.args.process) _ _ _ f (ap (λ q. record { stamp = 0; mark = Ready; process = q } ∷ []) c.in_ok-copy.ensures);
       few = c.steps.invariant.few;
-      ends = ends_beside _ _ (configuration_of c.steps.last) _ (omega (arith, c.steps-test.false, c.len.ensures, c.steps.invariant.few)) c.end_of-end.ensures;
+      ends = ends_beside _ _ (configuration_of c.steps.last) _ (omega (arith, c.steps-test.false, c.len.ensures, c.steps.invariant.few)) c.end_of-end.ensures.ends;
+      divides = λ at e. absurd (c.end_of-end.ensures.no_trap at e);
     }
