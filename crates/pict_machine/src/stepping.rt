@@ -187,9 +187,9 @@ impl Machine {
         act_or_pass::<InRun>(&self.code.nodes, &self.constants, &mut self.store, passes)
     }
 
-    // At most so many steps of a run, of which all but the last one show nothing, as it may where it is passed over: the five of a call of a primitive whose answer is
-    // awaited, where nobody else is ready, or else one. An error, which is want of memory, is that of no step. They cost no more than
-    // one step may.
+    // At most so many steps of a run, of which all but the last one show nothing: the five of a call of a primitive whose answer is
+    // awaited, where nobody else is ready, or else one. The last one shows nothing either where it is a communication that is passed
+    // over and has no words. An error, which is want of memory, is that of no step. They cost no more than one step may.
     #[inline(always)]
     fn make_steps(&mut self, most: u64, passes: bool) -> Result<Steps, AllocError>
         requires kept { IsRunning self.old }
