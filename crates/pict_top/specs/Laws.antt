@@ -54,4 +54,4 @@ BuiltRunsAsText =
     (held : Option Texts) (prelude : Option (List ℕ)) (file object t bytes : List ℕ) (a : Accepted) (fuel : ℕ) (end : End)
     → IsFront (MayGive held) prelude file (Some (accepts a)) → IsObject a.front.names t a.front.core → length t ≤ OBJECT_LIMIT → AreBytes t
     → MayGive held object (text t) → Shows a.front.core fuel printed end bytes
-    → (end : ExecEnd) × (status_of_guarded end ≡ status_of_end end) × IsExecuted (MayGive held) object fuel (Executed object end bytes)
+    → (last : ExecEnd) × (status_of_guarded last ≡ status_of_end end) × IsExecuted (MayGive held) object fuel (Executed object last bytes)

@@ -2,6 +2,7 @@ use Rattle.std.proofs.Common.{◌≡◌, ◌+◌, ℕ, List, Err, sym, ap, ◌�
 use Rattle.std.specs.Io.KnownBytes.{Appends}
 use Rattle.rand_pcg.specs.Lcg.{Lcg}
 use Rattle.pict_heap.specs.HeapState.{HeapState}
+use Rattle.pict_machine.specs.declared.event.RunError.TheVariants as broken
 use Rattle.pict_outside.specs.Bytes.{AppendsFront}
 use Rattle.pict_outside.proofs.Gaining.{keeps_same}
 use Rattle.pict_core.specs.Plain.{plain_core}
@@ -77,7 +78,8 @@ returns-in-Err-write_note-clause-sink g c is =
     let label = label_of (heap_of c.step_choice.new.self) did in
     let w = view_of c.step_choice.new.self in
     let out = change_of g.O.Sink.taken g.O.Sink.faults c.args.out.now c.write_note.new.out in
-    let failed = c.write_note.ensures.sink (c.in-Err-write_note.is ∙ is) in
+    let same : c.in-Err-write_note.error ≡ broken.Sink = cc in
+    let failed = c.write_note.ensures.sink (c.in-Err-write_note.is ∙ ap Err same) in
     failed_within (PicksAndShows (plain_core c.args.core.now) c.args.seed c.args.fuel (notes_in c.args.note c.args.names.now)) out (rose_since _ (g.O.Sink.faults c.loop-done.out) _ c.loop-done.invariant.faults_stay failed)
     (picked_torn (plain_core c.args.core.now) c.args.seed c.args.fuel c.args.note c.args.names.now c.loop-done.done (view_of c.loop-done.picker) w c.loop-done.chooser c.pick_place.new.chooser
     out (g.O.Sink.taken c.loop-done.out) place label c.loop-done.invariant.so_far c.in-Some.ensures.picked
