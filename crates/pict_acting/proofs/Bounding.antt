@@ -25,7 +25,7 @@ use Rattle.pict_turns.specs.declared.turn.Turn.TheVariants.{Nobody, Node as Node
 use Rattle.pict_turns.specs.declared.store.Store.{Store}
 use Rattle.pict_blocks.proofs.Holding.{held_width}
 use Rattle.pict_turns.proofs.Turns.{turn_blocks}
-use Rattle.pict_acting.specs.Bounds.{largest, greatest_cost, total_blocks, IsWidthIn, MakesFew}
+use Rattle.pict_acting.specs.Bounds.{largest, greatest_cost, half_cost, total_blocks, IsWidthIn, MakesFew}
 use Rattle.pict_turns.specs.Needs as needs
 use Rattle.pict_turns.specs.Needs.{input_widths, served_widths, taken_widths, output_widths, receipt_widths, choice_widths, node_widths, block_widths, first_widths, turn_widths}
 use Rattle.pict_turns.proofs.Needing.{many_append}
@@ -107,7 +107,7 @@ words_length : (values : List (ℕ × ℕ)) (levels : List ℕ) → length (gath
 words_length values [] = refl
 words_length values (l ∷ ls) = let e = words_length values ls in omega (arith, e)
 
-handing_low : (all : List Node) (values : List (ℕ × ℕ)) (t : Turn) → handing (words_of_turn all values t) ≤ 64 * (largest all all + largest all all)
+handing_low : (all : List Node) (values : List (ℕ × ℕ)) (t : Turn) → handing (words_of_turn all values t) ≤ 64 * largest all all
 handing_low all values Nobody = omega arith
 handing_low all values (NodeTurn number) =
     let e = words_length values (frame_in all number) in
@@ -117,8 +117,11 @@ handing_low all values (NodeTurn number) =
 handing_low all values (Wide number pair) = let four = four_low all all in omega (arith, four)
 handing_low all values (Output kept) = let four = four_low all all in omega (arith, four)
 
+pub turn_half : (core : Process) (s : Store) → turn_cost core s ≤ half_cost core
+turn_half core s = handing_low (nodes_of core) s.desk.values.items s.turn
+
 pub turn_low : (core : Process) (s : Store) → turn_cost core s ≤ greatest_cost core
-turn_low core s = handing_low (nodes_of core) s.desk.values.items s.turn
+turn_low core s = let half = turn_half core s in omega (arith, half)
 
 -- ---- how many blocks a step needs
 
@@ -333,6 +336,6 @@ made_few core old new a b c in_a in_b in_c makes = record {
       omega (arith, first, second, made, x, y, z);
 }
 
--- a block of a node is made and pushed at less than the greatest cost
-pub push_low : (core : Process) (number : ℕ) (node : Node) → slice_get (nodes_of core) number ≡ Some node → 2 * length node.frame + 4 ≤ greatest_cost core
+-- a block of a node is made and pushed at less than a quarter of the greatest cost
+pub push_low : (core : Process) (number : ℕ) (node : Node) → slice_get (nodes_of core) number ≡ Some node → 4 * length node.frame + 8 ≤ half_cost core
 push_low core number node at = let le = low (nodes_of core) (nodes_of core) number node at in omega (arith, le)

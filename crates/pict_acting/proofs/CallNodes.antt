@@ -1,5 +1,5 @@
 -- The nodes of a call: their instructions, the numbers that stand in its message, and where parts stand.
-use Rattle.std.proofs.Common.{ℕ, ℤ, ◌+◌, ◌<◌, ◌≤◌, ◌≡◌, ◌≢◌, List, length, map, get_or, refl, sym, ap, ◌∙◌, subst, arith, rules, Option, Some, None, IfSome, option_map, Vec, Global}
+use Rattle.std.proofs.Common.{ℕ, ℤ, ◌+◌, ◌<◌, ◌≤◌, ◌≡◌, ◌≢◌, inr, List, length, map, get_or, refl, sym, ap, ◌∙◌, subst, arith, rules, Option, Some, None, IfSome, option_map, Vec, Global}
 use Rattle.std.proofs.lemmas.Option.{slice_get-map, slice_get_read}
 use Rattle.std.specs.List.{AllByRecursion, slice_get}
 use Rattle.pict_syntax.specs.declared.name.Name.{Name}
@@ -24,15 +24,20 @@ use Rattle.pict_heap.specs.HeapState.{HeapState}
 use Rattle.pict_heap.specs.declared.word.Word.{Word}
 use Rattle.pict_desk.specs.AtHand.{number_named}
 use Rattle.pict_desk.specs.Arguments.{operand_in}
-use Rattle.pict_desk.specs.Code.{core_in, IsCode}
+use Rattle.pict_desk.specs.Code.{core_in, IsCode, HasFrame}
 use Rattle.pict_desk.specs.Known.{value_in, known}
 use Rattle.pict_desk.proofs.Nodes.{part_of, op_is, is_par, is_new, is_out}
-use Rattle.pict_desk.proofs.Numbered.{place_low, inside}
+use Rattle.pict_desk.proofs.Numbered.{place_low, inside, coded_frame, same_frame}
 use Rattle.pict_desk.proofs.Numbers.{is_number}
 use Rattle.pict_desk.proofs.Parts.{placed_at}
 use Rattle.pict_desk.proofs.Reckoning.{made_argument, labels_of}
 use Rattle.pict_turns.specs.Turns.{IsNarrow}
-use Rattle.pict_acting.specs.Chain.{KeepsOtherLevels, AnswersAt, CallsAt, IsNarrowWith}
+use Rattle.pict_turns.proofs.Making.{part_width_is}
+use Rattle.pict_blocks.specs.Parts.{block_width}
+use Rattle.pict_syntax.specs.declared.limits.TheConstants.{NARROW_LIMIT}
+use Rattle.pict_acting.specs.Bounds.{IsWidthIn}
+use Rattle.pict_acting.specs.Chain.{KeepsOtherLevels, AnswersAt, CallsAt}
+use Rattle.pict_acting.specs.Opening.{IsNarrowWith}
 
 -- ---- a node as it is written
 
@@ -52,6 +57,24 @@ narrow_with code is number node low read narrow o e =
 
 pub also_with : (core : Process) (number : ℕ) (o other : Op) → IsNarrowWith core number o → o ≡ other → IsNarrowWith core number other
 also_with core number o other n e = record { narrow = n.narrow; is = n.is ∙ e }
+
+-- ---- frames
+
+-- the frame of a node that the code has is one of the code's widths
+pub wide_in : (code : List written.Node) (is : IsCode (map plain_node code)) (number : ℕ) (frame : List ℕ) → HasFrame (map plain_node code) number frame → IsWidthIn (core_in code) (block_width frame)
+wide_in code is number frame f = inr (number, part_width_is (nodes_of (core_in code)) number frame (coded_frame code is number frame f))
+
+-- the frame of a node that stands in a block itself
+pub narrow_frame : (code : List written.Node) (is : IsCode (map plain_node code)) (number : ℕ) (frame : List ℕ) → HasFrame (map plain_node code) number frame → IsNarrow (core_in code) number
+    → length frame ≤ NARROW_LIMIT
+narrow_frame code is number frame f n =
+    subst (λ (ls : List ℕ). length ls ≤ NARROW_LIMIT)
+    (same_frame (nodes_of (core_in code)) number n.node.frame frame (record { node = n.node; at = n.at; is = refl }) (coded_frame code is number frame f)) n.narrow
+
+pub frame_of_narrow : (code : List written.Node) (is : IsCode (map plain_node code)) (number : ℕ) (frame : List ℕ) → HasFrame (map plain_node code) number frame → (n : IsNarrow (core_in code) number)
+    → frame ≡ n.node.frame
+frame_of_narrow code is number frame f n =
+    same_frame (nodes_of (core_in code)) number frame n.node.frame (coded_frame code is number frame f) (record { node = n.node; at = n.at; is = refl })
 
 -- ---- numbers beside a level
 

@@ -1,3 +1,4 @@
 pub mod Bounding
 pub mod CallNodes
 pub mod CallSteps
+pub mod WaitSteps

@@ -17,6 +17,10 @@ largest nodes (n ∷ ns) = max (instruction_size nodes n) (largest nodes ns)
 abbrev pub greatest_cost : Process → ℕ
 greatest_cost core = 64 * (largest (nodes_of core) (nodes_of core) + largest (nodes_of core) (nodes_of core))
 
+-- half of it
+abbrev pub half_cost : Process → ℕ
+half_cost core = 64 * largest (nodes_of core) (nodes_of core)
+
 -- This is the width of an output of kept values, or of a node of this process' code; a number without a node counts as a frame
 -- without levels.
 abbrev pub IsWidthIn : Process → ℕ → Type 0

@@ -22,6 +22,7 @@ use Rattle.pict_turns.specs.Acting.{IsStore}
 use Rattle.pict_turns.specs.Turns.{IsNarrow}
 use Rattle.pict_turns.specs.Views.{view_with_turn}
 use Rattle.pict_turns.specs.declared.store.Store.{Store}
+use Rattle.pict_acting.specs.Opening.{IsNarrowWith}
 use Rattle.pict_acting.specs.declared.chain.Call.{Call}
 use Rattle.pict_acting.specs.declared.chain.Received.{Received}
 
@@ -45,11 +46,6 @@ pub record CallsAt (h : HeapState) (values : List (ℕ × ℕ)) (op : Op) (level
   pub word : IsWord h answer
   pub effect : (later : List (ℕ × ℕ)) → KeepsOtherLevels level values later
       → effect_of primitive (operand_in h later message) ≡ answers (known h later level) (value_of h answer)
-
--- The node with this number has this instruction, and its frame stands in a block itself.
-pub record IsNarrowWith (core : Process) (number : ℕ) (op : Op) : Type 0 where
-  pub narrow : IsNarrow core number
-  pub is : narrow.node.op ≡ op
 
 -- The node with this number begins the call: it makes a channel as the value of a new level, for a replicated reader that binds all
 -- that it receives, and beside it the output that the primitive answers at that level. All frames stand in blocks themselves.

@@ -1,5 +1,5 @@
 // A call of a primitive whose answer is awaited: five steps in one go.
-ghost use Rattle.std.specs.Prelude.{◌≡◌, ◌<◌, ◌≤◌, ◌+◌, ◌^◌, ◌∷◌, ◌↔◌, [], ℕ, List, length, map, IfOk, IfSome, IsTrue, OnErr, OnOk, Ok, Some, None};
+ghost use Rattle.std.specs.Prelude.{◌≡◌, ◌<◌, ◌≤◌, ◌^◌, [], ℕ, List, length, map, IfOk, IfSome, OnErr, Ok, Some, None};
 ghost use Rattle.std.specs.List.{AllByRecursion};
 ghost use Rattle.pict_syntax.specs.declared.span.Span.{Span};
 ghost use Rattle.pict_core.specs.Closed.{IsOver, AreOver};
@@ -9,33 +9,28 @@ ghost use Rattle.pict_code.specs.Instruction as op;
 ghost use Rattle.pict_code.specs.Nodes.{Place, places};
 ghost use Rattle.pict_code.specs.Plain.{plain_node, plain_op};
 ghost use Rattle.pict_heap.specs.HeapState.{HeapState};
-ghost use Rattle.pict_queue.specs.QueuesState.{IsQueue, CostsAtMost};
+ghost use Rattle.pict_queue.specs.QueuesState.{CostsAtMost};
 ghost use Rattle.pict_queue.specs.Contents.{contents};
-ghost use Rattle.pict_region.specs.RegionState.{spare};
-ghost use Rattle.pict_blocks.specs.Parts.{block_width};
 ghost use Rattle.pict_desk.specs.Arguments.{operand_in};
 ghost use Rattle.pict_desk.specs.Code.{core_in, IsCode};
 ghost use Rattle.pict_desk.specs.Pairs.{ArePairs};
-ghost use Rattle.pict_meetings.specs.Room.{CanHoldBeside};
 ghost use Rattle.pict_turns.specs.Acting.{IsStore};
-ghost use Rattle.pict_turns.specs.Channels.{AddsChannel};
 ghost use Rattle.pict_turns.specs.Reserving.{OnlyReserves};
-ghost use Rattle.pict_turns.specs.Turns.{IsNarrow};
-ghost use Rattle.pict_turns.specs.Widths.{MakesOnly};
 ghost use Rattle.pict_acting.specs.declared.chain.Received.{Received as AnyReceived};
-ghost use Rattle.pict_acting.specs.Bounds.{greatest_cost, MakesFew};
-ghost use Rattle.pict_acting.specs.Chain.{KeepsOtherLevels, AnswersAt, CallsAt, IsNarrowWith, BeginsCall, MakesCall};
+ghost use Rattle.pict_acting.specs.Bounds.{greatest_cost, half_cost, MakesFew};
+ghost use Rattle.pict_acting.specs.Chain.{KeepsOtherLevels, AnswersAt, CallsAt, BeginsCall, MakesCall};
+ghost use Rattle.pict_acting.specs.Opening.{BeginsOpening, OpensFor};
 
-use pict_blocks::{block_of, block_width};
+use crate::opening::{Opening, add_channel, is_level, make_room, narrow_op, opening_at_turn};
+use pict_blocks::block_of;
 use pict_code::{CodePat, Node, Op, Operand};
 use pict_core::CoreVal;
 use pict_desk::number_at_hand;
 use pict_heap::{Word, pack};
-use pict_meetings::reserve_beside;
-use pict_prim::{NO_NEED, answer_of_numbers};
+use pict_prim::answer_of_numbers;
 use pict_queue::QueueId;
-use pict_syntax::{NARROW_LIMIT, Prim};
-use pict_turns::{Store, Turn, frame_at, reserve_part};
+use pict_syntax::Prim;
+use pict_turns::{Store, Turn, frame_at};
 use std::alloc::AllocError;
 
 // A call that a node begins: the level of the new channel, the number of the reader's node that waits there, the level that it binds
@@ -56,17 +51,6 @@ pub struct Received {
     pub channel: u32,
     /// The two words of the value's word.
     pub value: (u64, u64),
-}
-
-// Whether the operand is the variable of this level.
-#[inline(always)]
-fn is_level(operand: &Operand, level: u32) -> bool
-    ensures { IsTrue result ↔ (plain_val operand.now ≡ Var level) }
-{
-    match operand {
-        CoreVal::Var(own) => *own == level,
-        _ => false,
-    }
 }
 
 // The number that an operand stands for whatever value this level gets, or None where it stands for no number, or is the variable of
@@ -125,28 +109,6 @@ fn called_at(instruction: &Op, level: u32, values: &[(u64, u64)]) -> Option<Word
     }
 }
 
-// The level and the part of an instruction that makes a channel.
-#[inline(always)]
-fn opened(instruction: &Op) -> Option<(u32, u32)>
-    ensures { IfSome result (λ r. plain_op instruction.now ≡ op.New r.0 r.1) }
-{
-    match instruction {
-        Op::New(level, part) => Some((*level, *part)),
-        _ => None,
-    }
-}
-
-// The parts of a parallel composition.
-#[inline(always)]
-fn forked(instruction: &Op) -> Option<(u32, u32)>
-    ensures { IfSome result (λ r. plain_op instruction.now ≡ op.Par r.0 r.1) }
-{
-    match instruction {
-        Op::Par(left, right) => Some((*left, *right)),
-        _ => None,
-    }
-}
-
 // The level that a replicated input from this level binds to all that it receives, and its part.
 #[inline(always)]
 fn awaited(instruction: &Op, level: u32) -> Option<(u32, u32)>
@@ -164,78 +126,31 @@ fn awaited(instruction: &Op, level: u32) -> Option<(u32, u32)>
     }
 }
 
-// The instruction of the node with this number, where its frame stands in a block itself.
+// The call that a node begins with this channel, if it begins one.
 #[inline(always)]
-fn narrow_op(code: &[Node], number: u32) -> Option<&Op>
+fn call_of(code: &[Node], values: &[(u64, u64)], opening: Opening) -> Option<Call>
     requires code { IsCode (map plain_node code.now) }
-    requires inside { number < length code.now }
-    ensures { IfSome result (λ instruction. IsNarrowWith (core_in code.now) number (plain_op instruction.now)) }
-{
-    if frame_at(code, number as usize).len() <= NARROW_LIMIT as usize {
-        Some(&code[number as usize].op)
-    } else {
-        None
-    }
-}
-
-// The call that the node with this number begins, if it begins one.
-#[inline(always)]
-fn call_of(code: &[Node], values: &[(u64, u64)], number: usize) -> Option<Call>
-    requires code { IsCode (map plain_node code.now) }
-    requires narrow { IsNarrow (core_in code.now) number }
+    requires opens { (number : ℕ) × OpensFor (core_in code.now) number opening }
     requires levels { AllByRecursion (λ (p : Place). p.around ≤ length values.now) (places 0 (core_in code.now)) }
     requires pairs { (h : HeapState) × ArePairs h values.now }
-    ensures { (h : HeapState) → ArePairs h values.now → IfSome result (BeginsCall (core_in code.now) h values.now number) }
+    ensures { (number : ℕ) → OpensFor (core_in code.now) number opening → (h : HeapState) → ArePairs h values.now
+        → IfSome result (BeginsCall (core_in code.now) h values.now number) }
 {
-    let (level, both) = opened(&code[number].op)?;
-    let (reader, output) = forked(narrow_op(code, both)?)?;
-    let (bound, part) = awaited(narrow_op(code, reader)?, level)?;
+    let Opening { level, left, right } = opening;
+    let (bound, part) = awaited(narrow_op(code, left)?, level)?;
     narrow_op(code, part)?;
-    let answer = called_at(narrow_op(code, output)?, level, values)?;
+    let answer = called_at(narrow_op(code, right)?, level, values)?;
     Some(Call {
         level,
-        reader,
+        reader: left,
         bound,
         part,
         answer,
     })
 }
 
-// Makes room for blocks of both frames and for a channel. An error, which is want of memory, changes nothing but room.
-#[inline(always)]
-fn make_room(store: &mut Store, own: &[u32], frame: &[u32]) -> Result<(), AllocError>
-    ensures both { OnOk result (CanHoldBeside store.new (block_width own.now) frame.now) }
-    ensures own { OnOk result (1 ≤ spare store.new.queues.region (block_width own.now)) }
-    ensures queue { OnOk result (1 ≤ store.new.queues.spare_queues) }
-    ensures most { MakesOnly store.old.queues store.new.queues (block_width own.now ∷ block_width own.now ∷ block_width frame.now ∷ []) }
-    ensures rest { OnlyReserves store.old store.new }
-{
-    reserve_part(store, own, NO_NEED)?;
-    reserve_beside(store, frame, block_width(own))?;
-    store.queues.reserve_queues(1)
-}
-
-// A new channel, as the value of this level. Takes no memory.
-#[inline(always)]
-fn add_channel(store: &mut Store, level: u32) -> u32
-    requires spare { 1 ≤ store.old.queues.spare_queues }
-    requires ready { IsQueue store.old.queues 0 }
-    requires few { length store.old.queues.queues < 2 ^ 32 }
-    requires inside { level < length store.old.desk.values.items }
-    requires pairs { ArePairs store.old.desk.heap store.old.desk.values.items }
-    ensures number { result + 1 ≡ length store.old.queues.queues }
-    ensures adds { AddsChannel store.old store.new level }
-{
-    let number = match store.queues.add_queue() {
-        Ok(queue) => (queue.0 - 1) as u32,
-        Err(_) => unreachable!(),
-    };
-    store.desk.values[level as usize] = pack(Word::Chan(number));
-    number
-}
-
 // Makes the five steps of the call that who has the turn begins, where nobody else is ready. An error, which is want of memory,
-// changes nothing but room. They make no more blocks and cost no more than one step may.
+// changes nothing but room. They make no more blocks than one step may, and cost no more than half of what one may.
 #[inline(always)]
 fn make_call(code: &[Node], store: &mut Store, call: Call) -> Result<Received, AllocError>
     requires code { IsCode (map plain_node code.now) }
@@ -247,7 +162,7 @@ fn make_call(code: &[Node], store: &mut Store, call: Call) -> Result<Received, A
     ensures made { IfOk result (MakesCall (core_in code.now) store.old store.new) }
     ensures refused { OnErr result (OnlyReserves store.old store.new) }
     ensures blocks { MakesFew (core_in code.now) 1 store.old.queues store.new.queues }
-    ensures cost { CostsAtMost (greatest_cost (core_in code.now)) store.old.queues store.new.queues }
+    ensures cost { CostsAtMost (half_cost (core_in code.now)) store.old.queues store.new.queues }
 {
     let own = frame_at(code, call.reader as usize);
     let frame = frame_at(code, call.part as usize);
@@ -266,6 +181,38 @@ fn make_call(code: &[Node], store: &mut Store, call: Call) -> Result<Received, A
     store.desk.values[call.bound as usize] = value;
     store.turn.set(Turn::Node(call.part as usize));
     Ok(Received { channel, value })
+}
+
+// The five steps of a call that who has the turn begins with this channel, where nobody else is ready and so many steps may be made; or
+// None where it isn't so, and then nothing has changed.
+#[inline(always)]
+pub(crate) fn call_from(
+    code: &[Node],
+    store: &mut Store,
+    most: u64,
+    opening: Opening,
+) -> Result<Option<Received>, AllocError>
+    requires code { IsCode (map plain_node code.now) }
+    requires store { IsStore (core_in code.now) store.old }
+    requires begins { BeginsOpening (core_in code.now) store.old opening }
+    requires few { length store.old.queues.queues < 2 ^ 32 }
+    ensures called { (received : AnyReceived) → result ≡ Ok (Some received)
+        → (5 ≤ most) × MakesCall (core_in code.now) store.old store.new received }
+    ensures none { result ≡ Ok None → store.new ≡ store.old }
+    ensures refused { OnErr result (OnlyReserves store.old store.new) }
+    ensures blocks { MakesFew (core_in code.now) 1 store.old.queues store.new.queues }
+    ensures cost { CostsAtMost (half_cost (core_in code.now)) store.old.queues store.new.queues }
+{
+    if most < 5 {
+        return Ok(None);
+    }
+    if store.queues.length(QueueId(0)) > 0 {
+        return Ok(None);
+    }
+    match call_of(code, &store.desk.values, opening) {
+        Some(call) => Ok(Some(make_call(code, store, call)?)),
+        None => Ok(None),
+    }
 }
 
 /// The five steps of a call that who has the turn begins, where nobody else is ready and so many steps may be made; or None where it
@@ -290,18 +237,8 @@ pub fn call_at_once(
     ensures blocks { MakesFew (core_in code.now) 1 store.old.queues store.new.queues }
     ensures cost { CostsAtMost (greatest_cost (core_in code.now)) store.old.queues store.new.queues }
 {
-    let number = match store.turn.get() {
-        Turn::Node(number) => number,
-        _ => return Ok(None),
-    };
-    if most < 5 {
-        return Ok(None);
-    }
-    if store.queues.length(QueueId(0)) > 0 {
-        return Ok(None);
-    }
-    match call_of(code, &store.desk.values, number) {
-        Some(call) => Ok(Some(make_call(code, store, call)?)),
+    match opening_at_turn(code, &*store) {
+        Some(opening) => call_from(code, store, most, opening),
         None => Ok(None),
     }
 }

@@ -16,7 +16,6 @@ use Rattle.pict_machine.specs.Bounds.{greatest_cost_of, SpendsAtMost}
 use Rattle.pict_heap.specs.HeapState.{LosesNoRoom}
 use Rattle.pict_heap.proofs.Rooms.{room_stays, room_kept}
 use Rattle.pict_machine.specs.Machine.{IsRunning, core_in, queues_of, running_cost, running_widths, heap_of}
-use Rattle.pict_turns.specs.Needs as needs
 use Rattle.pict_machine.specs.declared.machine.Machine.{Machine}
 use Rattle.pict_acting.proofs.Bounding.{first_low, turn_low, one_step, total_kept}
 

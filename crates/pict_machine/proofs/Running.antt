@@ -1,5 +1,5 @@
 -- Runs that break off: before a step for want of memory, or behind one whose showing was refused.
-use Rattle.std.proofs.Common.{ℕ, ◌≤◌, ◌≡◌, inl, List, sym, subst, Option, Some, None, Result, Ok, Err, IfOk, OnOk, OnErr}
+use Rattle.std.proofs.Common.{ℕ, ◌≤◌, ◌≡◌, inl, List, sym, subst, Option, Some, None, Result, Ok, Err, IfOk, OnErr}
 use Rattle.pict_core.specs.Configuration.{Configuration, IsConfiguration}
 use Rattle.pict_core.specs.Step.{Label}
 use Rattle.pict_heap.specs.HeapState.{HeapState}

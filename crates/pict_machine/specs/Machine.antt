@@ -17,7 +17,7 @@ use Rattle.pict_turns.specs.declared.turn.Turn.TheVariants.{Nobody}
 use Rattle.pict_desk.specs.Constants.{AreConstants}
 use Rattle.pict_turns.specs.Needs as needs
 use Rattle.pict_turns.specs.Needs.{needed_widths}
-use Rattle.pict_turns.specs.Growing.{heap_need, running_need}
+use Rattle.pict_turns.specs.Growing.{heap_need}
 use Rattle.pict_turns.specs.Plain as plain
 use Rattle.pict_machine.specs.declared.machine.Machine.{Machine}
 
@@ -64,14 +64,6 @@ running_cost m = first_cost (core_in m) m.store (store.ready_words (core_in m) m
 -- the widths of the blocks that the next step of a run needs, beside one for who has the turn
 abbrev pub running_widths : Machine → List ℕ
 running_widths m = needs.running_widths (core_in m) m.store
-
--- what the next step of a run needs of the heap
-abbrev pub running_need_of : Machine → Need
-running_need_of m = running_need (core_in m) m.store
-
--- the next step of a run is a plain meeting of a message and an input
-abbrev pub RunsInPlace : Machine → Type 0
-RunsInPlace m = plain.RunsInPlace (core_in m) m.store
 
 -- the view of a machine that runs, in which somebody may have the turn
 abbrev pub running_view : Machine → View

@@ -16,14 +16,14 @@ ghost use Rattle.pict_turns.specs.Views.{view_with_turn};
 ghost use Rattle.pict_turns.specs.Widths.{MakesOnly};
 ghost use Rattle.pict_machine.specs.Events.{label_of, trap_of, IsEventOf};
 ghost use Rattle.pict_turns.specs.Shown.{label_shown, trap_shown, IsShownOf};
-ghost use Rattle.pict_machine.specs.Machine.{IsMachine, IsRunning, IsUnchanged, MeetsInPlace, RunsInPlace, running_view, running_cost, running_widths, view_of, heap_of, queues_of, channels_of, cost_of, widths_of, heap_need_of, running_need_of};
+ghost use Rattle.pict_machine.specs.Machine.{IsMachine, IsRunning, IsUnchanged, MeetsInPlace, running_view, view_of, heap_of, queues_of, channels_of, cost_of, widths_of, heap_need_of};
 ghost use Rattle.pict_machine.specs.Bounds.{greatest_cost_of, SpendsAtMost};
-ghost use Rattle.pict_machine.specs.Going.{GoesOn, IsPassed, MakesSteps, ShowsOrPasses};
+ghost use Rattle.pict_machine.specs.Going.{GoesOn, IsPassed, MakesSteps};
 ghost use Rattle.pict_turns.specs.Stepping.{GivesTurn};
 
 use crate::event::{Event, unpacked};
 use crate::machine::Machine;
-use pict_acting::{Received, act, act_or_pass, call_at_once};
+use pict_acting::{AtOnce, Received, act, act_or_pass, steps_at_once};
 use pict_code::Node;
 use pict_syntax::Span;
 use pict_turns::{Shown, Store, Turn, return_turn, take_turn};
@@ -163,33 +163,11 @@ impl Machine {
         }
     }
 
-    // One step of a run, of who has the turn, or else of the first of queue 0: as `step` says, but that somebody may have the
-    // turn afterwards, and that a communication may show nothing where these are passed over.
-    pub(crate) fn step_held(&mut self, passes: bool) -> Result<Shown, AllocError>
-        requires kept { IsRunning self.old }
-        requires ready { (running_view self.old).ready ≢ [] }
-        requires few { channels_of self.old + 1 < 2 ^ 32 }
-        requires right { IsRightFor (running_view self.old) 1 }
-        ensures kept { IsRunning self.new }
-        ensures made { IfOk result (ShowsOrPasses passes (running_view self.old) self.new) }
-        ensures refused { OnErr result (running_view self.new ≡ running_view self.old) }
-        ensures keeps { KeepsWords (heap_of self.old) (heap_of self.new) }
-        ensures work { CostsAtMost (running_cost self.old) (queues_of self.old) (queues_of self.new) }
-        ensures blocks { MakesOnly (queues_of self.old) (queues_of self.new) (running_widths self.old) }
-        ensures adds { UsesNeed (heap_of self.old).room (heap_of self.new).room (running_need_of self.old) }
-        ensures plain { RunsInPlace self.old
-            → IsOk result × KeepsBlocks (queues_of self.old).region (queues_of self.new).region }
-        ensures channels { channels_of self.new ≤ channels_of self.old + 1 }
-        ensures queues { LosesNoQueue (queues_of self.old) (queues_of self.new) }
-        ensures code { self.new.code ≡ self.old.code }
-    {
-        ensure_turn(&mut self.store, &self.code.nodes);
-        act_or_pass::<InRun>(&self.code.nodes, &self.constants, &mut self.store, passes)
-    }
-
     // At most so many steps of a run, of which all but the last one show nothing: the five of a call of a primitive whose answer is
-    // awaited, where nobody else is ready, or else one. The last one shows nothing either where it is a communication that is passed
-    // over and has no words. An error, which is want of memory, is that of no step. They cost no more than one step may.
+    // awaited, where nobody else is ready, or the three of a reader that waits at a new channel, or else one. They are those of who has
+    // the turn, or else of the first of queue 0, and somebody may have the turn afterwards. The last one shows nothing either where it is
+    // a communication that is passed over and has no words. An error, which is want of memory, is that of no step. They cost no more than
+    // one step may.
     #[inline(always)]
     fn make_steps(&mut self, most: u64, passes: bool) -> Result<Steps, AllocError>
         requires kept { IsRunning self.old }
@@ -205,13 +183,23 @@ impl Machine {
         ensures spends { SpendsAtMost 1 self.old self.new }
         ensures channels { channels_of self.new ≤ channels_of self.old + 1 }
     {
-        match call_at_once(&self.code.nodes, &mut self.store, most)? {
-            Some(Received { channel, value }) => Ok(Steps {
+        ensure_turn(&mut self.store, &self.code.nodes);
+        match steps_at_once(&self.code.nodes, &mut self.store, most)? {
+            Some(AtOnce::Call(Received { channel, value })) => Ok(Steps {
                 quiet: 4,
                 event: Shown::Comm { channel, value },
             }),
+            Some(AtOnce::Wait) => Ok(Steps {
+                quiet: 2,
+                event: Shown::Quiet,
+            }),
             None => {
-                let event = self.step_held(passes)?;
+                let event = act_or_pass::<InRun>(
+                    &self.code.nodes,
+                    &self.constants,
+                    &mut self.store,
+                    passes,
+                )?;
                 Ok(Steps { quiet: 0, event })
             }
         }

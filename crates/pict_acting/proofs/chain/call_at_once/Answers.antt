@@ -1,6 +1,8 @@
-use Rattle.std.proofs.Common.{sym, subst}
-use Rattle.pict_desk.specs.Pairs.{ArePairs}
+use Rattle.std.proofs.Common.{arith}
 use Rattle.pict_acting.proofs.chain.call_at_once.Goals as goal
 
-pub call_of-requires-clause-pairs : goal.call_of-requires-clause-pairs
-call_of-requires-clause-pairs c = let h = c.args.store.now.desk.heap in (h, subst (ArePairs h) (sym c.deref.ensures.value) c.requires.store.pairs)
+pub returns-in-Some-clause-cost : goal.returns-in-Some-clause-cost
+returns-in-Some-clause-cost c =
+    let least = c.call_from.ensures.cost.least in
+    let most = c.call_from.ensures.cost.most in
+    record { least = least; most = omega (arith, most) }

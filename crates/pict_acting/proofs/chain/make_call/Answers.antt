@@ -1,36 +1,28 @@
-use Rattle.std.proofs.Common.{ℕ, ◌+◌, ◌*◌, ◌<◌, ◌≤◌, ◌≡◌, inr, true, List, [], ◌∷◌, ◌++◌, length, map, refl, sym, ap, ◌∙◌, subst, arith, rules}
+use Rattle.std.proofs.Common.{ℕ, ◌+◌, ◌*◌, ◌<◌, ◌≤◌, ◌≡◌, true, List, [], ◌∷◌, ◌++◌, length, refl, sym, ap, ◌∙◌, subst, arith, rules}
 use Rattle.std.proofs.lemmas.Option.{slice_get_within}
 use Rattle.std.specs.List.{All, slice_index}
 use Rattle.pict_syntax.specs.declared.limits.TheConstants.{NARROW_LIMIT}
 use Rattle.pict_core.specs.Term.{Var}
 use Rattle.pict_code.specs.Instruction as op
 use Rattle.pict_code.specs.Nodes.{nodes_of}
-use Rattle.pict_code.specs.Plain.{plain_node}
-use Rattle.pict_code.specs.declared.instruction.Node as written
 use Rattle.pict_queue.specs.Contents.{contents, KeepsOtherContents}
 use Rattle.pict_region.specs.RegionState.{RegionState, spare, blocks, KeepsBlocks}
 use Rattle.pict_blocks.specs.Framed.{node_words}
 use Rattle.pict_blocks.specs.Parts.{block_width}
 use Rattle.pict_blocks.proofs.Held.{made_pushed, made_no_more}
 use Rattle.pict_blocks.proofs.Holding.{width_narrow}
-use Rattle.pict_desk.specs.Code.{core_in, IsCode, HasFrame}
+use Rattle.pict_desk.specs.Code.{core_in}
 use Rattle.pict_desk.specs.Pairs.{ArePairs}
 use Rattle.pict_desk.proofs.Numbered.{coded_frame, in_code, same_frame}
 use Rattle.pict_meetings.proofs.Inputs.{has_part, pattern_inside}
-use Rattle.pict_turns.specs.Turns.{IsNarrow}
-use Rattle.pict_turns.proofs.Making.{makes_before, part_width_is}
+use Rattle.pict_turns.proofs.Making.{makes_before}
 use Rattle.pict_turns.proofs.Numbered.{coded_inside}
 use Rattle.pict_turns.proofs.Room.{store_still}
-use Rattle.pict_acting.specs.Bounds.{IsWidthIn}
 use Rattle.pict_acting.specs.Chain.{BeginsCall}
 use Rattle.pict_acting.proofs.Bounding.{made_few, push_low}
-use Rattle.pict_acting.proofs.CallNodes.{new_level_inside}
+use Rattle.pict_acting.proofs.CallNodes.{new_level_inside, narrow_frame, wide_in}
 use Rattle.pict_acting.proofs.CallSteps.{call_made, call_after, another_left}
 use Rattle.pict_acting.proofs.chain.make_call.Goals as goal
-
--- the frame of a node that the code has is one of the code's widths
-wide_in : (code : List written.Node) (is : IsCode (map plain_node code)) (number : ℕ) (frame : List ℕ) → HasFrame (map plain_node code) number frame → IsWidthIn (core_in code) (block_width frame)
-wide_in code is number frame f = inr (number, part_width_is (nodes_of (core_in code)) number frame (coded_frame code is number frame f))
 
 pub frame_at-own-requires : goal.frame_at-own-requires
 frame_at-own-requires c =
@@ -43,13 +35,6 @@ frame_at-frame-requires c =
     let code = c.args.code.now in
     let n = (c.requires.begins.2 c.args.store.now.desk.heap c.requires.store.pairs).part in
     in_code code c.requires.code c.args.call.part (slice_get_within (nodes_of (core_in code)) c.args.call.part n.node n.at)
-
--- the frame of a node that stands in a block itself
-narrow_frame : (code : List written.Node) (is : IsCode (map plain_node code)) (number : ℕ) (frame : List ℕ) → HasFrame (map plain_node code) number frame → IsNarrow (core_in code) number
-    → length frame ≤ NARROW_LIMIT
-narrow_frame code is number frame f n =
-    subst (λ (ls : List ℕ). length ls ≤ NARROW_LIMIT)
-    (same_frame (nodes_of (core_in code)) number n.node.frame frame (record { node = n.node; at = n.at; is = refl }) (coded_frame code is number frame f)) n.narrow
 
 pub block_of-block-requires-clause-narrow : goal.block_of-block-requires-clause-narrow
 block_of-block-requires-clause-narrow c =

@@ -4,7 +4,7 @@ use Rattle.pict_core.specs.Term.{Chan}
 use Rattle.pict_heap.specs.declared.word.Word.TheVariants as word
 use Rattle.pict_desk.proofs.Pairs.{set_here, set_pairs}
 use Rattle.pict_queue.specs.QueuesState.{no_queue}
-use Rattle.pict_acting.proofs.chain.add_channel.Goals as goal
+use Rattle.pict_acting.proofs.opening.add_channel.Goals as goal
 
 pub returns-clause-adds : goal.returns-clause-adds
 returns-clause-adds c =

@@ -5,7 +5,7 @@ use Rattle.pict_code.specs.Plain.{plain_node, plain_op}
 use Rattle.pict_code.specs.declared.instruction.Node as written
 use Rattle.pict_desk.proofs.Numbered.{coded_frame}
 use Rattle.pict_acting.proofs.CallNodes.{node_there}
-use Rattle.pict_acting.proofs.chain.narrow_op.Goals as goal
+use Rattle.pict_acting.proofs.opening.narrow_op.Goals as goal
 
 pub returns-then-frame_at : goal.returns-then-frame_at
 returns-then-frame_at c =
