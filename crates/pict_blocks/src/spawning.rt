@@ -35,6 +35,7 @@ pub fn spawn(queues: &mut Queues, queue: QueueId, number: u32, frame: &[u32], va
     ensures pushed { contents queues.new queue.0 ≡ contents queues.old queue.0 ++ node_words values.now number frame.now ∷ [] }
     ensures other_contents { KeepsOtherContents queues.old queues.new queue.0 }
     ensures queues { length queues.new.queues ≡ length queues.old.queues }
+    ensures spare_queues { queues.new.spare_queues ≡ queues.old.spare_queues }
     ensures kept { KeepsHeld queues.old queues.new }
     ensures no_more { HoldsNoMore queues.old queues.new }
     ensures blocks { KeepsBlocks queues.old.region queues.new.region }
@@ -42,6 +43,6 @@ pub fn spawn(queues: &mut Queues, queue: QueueId, number: u32, frame: &[u32], va
     ensures widths { KeepsOtherWidths queues.old.region queues.new.region (2 + 2 * length frame.now) }
     ensures cost { CostsAtMost (2 * length frame.now + 4) queues.old queues.new }
 {
-    let block = block_of(queues, number as usize, frame, values);
-    queues.push_back(queue, block);
+    let width = 2 + 2 * frame.len() as u32;
+    queues.push_gathered(queue, width, number as u64 + 1, frame, values);
 }

@@ -6,3 +6,5 @@ pub mod Calls
 pub mod Kept
 pub mod Uses
 pub mod Popping
+pub mod Gathering
+pub mod Pushing

@@ -1,7 +1,9 @@
 // The ends of queues, and their lengths.
-ghost use Rattle.std.specs.Prelude.{◌≡◌, ◌≤◌, ◌<◌, ◌+◌, ◌^◌, ◌++◌, ◌∷◌, [], length, slice_set, OnOk, IsOk, slice_index, if◌then◌else◌, is_ok, vec_len};
+ghost use Rattle.std.specs.Prelude.{◌≡◌, ◌≤◌, ◌<◌, ◌+◌, ◌-◌, ◌*◌, ◌^◌, ◌++◌, ◌∷◌, [], ℕ, All, None, length, slice_set, OnOk, IsOk, IfSome, unwrap_or, slice_index, if◌then◌else◌, is_ok, vec_len};
 ghost use Rattle.std.specs.Vec.{vec_capacity};
-ghost use Rattle.pict_region.specs.RegionState.{IsLive, words_of, width_of};
+ghost use Rattle.pict_region.specs.RegionState.{IsLive, words_of, width_of, spare, KeepsBlocks, KeepsOtherWidths, raised_by, GainsLinked};
+ghost use Rattle.pict_region.specs.Values.{gathered};
+ghost use Rattle.std.specs.FinMap.{get};
 ghost use Rattle.pict_queue.specs.Ends.{queue_in, ends_of};
 
 use pict_region::{Block, Region};
@@ -88,6 +90,39 @@ impl Ends {
         (queue, region.open(queue.first as u64))
     }
 
+    /// A block as `take_gathered` makes it, whose number is the link of the last block of a queue, which is live, or its own
+    /// where the queue is empty; and before it the queue, or where it is empty one whose ends are this block.
+    #[inline(always)]
+    pub(crate) fn gather_last(
+        &self,
+        region: &mut Region,
+        number: u64,
+        width: u32,
+        word: u64,
+        indices: &[u32],
+        values: &[(u64, u64)],
+    ) -> (Queue, Block)
+        requires queue { number < length self.now.queues.items }
+        requires live { 0 < (queue_in self.now.queues.items number).length → IsLive region.old (queue_in self.now.queues.items number).last }
+        requires linked { 0 < (queue_in self.now.queues.items number).length → 1 ≤ width_of region.old (queue_in self.now.queues.items number).last }
+        requires spare { 1 ≤ spare region.old width }
+        requires wide { width ≡ 2 + 2 * length indices.now }
+        requires known { All (λ index. index < length values.now) indices.now }
+        ensures queue { result.0 ≡ ends_of (queue_in self.now.queues.items number) result.1 }
+        ensures fresh { get region.old.live result.1 ≡ None }
+        ensures small { result.1 < 2 ^ 32 - 1 }
+        ensures live { GainsLinked region.old region.new result.1 result.0.last (word ∷ gathered values.now indices.now) }
+        ensures spare { spare region.new width + 1 ≡ spare region.old width }
+        ensures others { KeepsOtherWidths region.old region.new width }
+        ensures blocks { KeepsBlocks region.old region.new }
+        ensures work { region.new.work ≡ raised_by (4 + 2 * length indices.now) region.old.work }
+    {
+        let queue = self.queues[number as usize];
+        let last = last_in(queue);
+        let block = region.take_gathered_behind(last, width, word, indices, values);
+        (ends_with(queue, block.name() as u32), block)
+    }
+
     /// A queue, or where it is empty one whose ends are this block, and a token of its last block, which is live.
     #[inline(always)]
     pub(crate) fn last_or(&self, region: &mut Region, number: u64, block: u64) -> (Queue, Block)
@@ -141,6 +176,20 @@ impl Ends {
         ensures capacity { vec_capacity self.old.queues ≤ vec_capacity self.new.queues }
     {
         self.queues.reserve(n as usize)
+    }
+}
+
+// The number of the last block of a queue that isn't empty.
+#[inline(always)]
+fn last_in(queue: Queue) -> Option<u64>
+    ensures last { IfSome result (λ last. last ≡ queue.last) }
+    ensures some { IfSome result (λ _. 0 < queue.length) }
+    ensures ends { (block : ℕ) → unwrap_or result block ≡ (ends_of queue block).last }
+{
+    if queue.length == 0 {
+        None
+    } else {
+        Some(queue.last as u64)
     }
 }
 

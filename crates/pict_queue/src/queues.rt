@@ -130,6 +130,47 @@ impl Queues {
         self.ends.put(q.0, queue);
     }
 
+    /// A new block of this width becomes the last of a queue: its word 1 is this one, and from word 2 on stand the values at these
+    /// indices, two words each. Takes no memory.
+    #[inline(always)]
+    pub fn push_gathered(
+        &mut self,
+        q: QueueId,
+        width: u32,
+        word: u64,
+        indices: &[u32],
+        values: &[(u64, u64)],
+    )
+        requires queue { IsQueue self.old q.0 }
+        requires wide { width ≡ 2 + 2 * length indices.now }
+        requires spare { 1 ≤ spare self.old.region width }
+        requires known { All (λ index. index < length values.now) indices.now }
+        ensures pushed { contents self.new q.0 ≡ contents self.old q.0 ++ (word ∷ gathered values.now indices.now) ∷ [] }
+        ensures other_contents { KeepsOtherContents self.old self.new q.0 }
+        ensures lists { KeepsOtherQueues self.old self.new q.0 }
+        ensures kept { KeepsHeld self.old self.new }
+        ensures no_more { HoldsNoMore self.old self.new }
+        ensures spare { spare self.new.region width + 1 ≡ spare self.old.region width }
+        ensures others { KeepsOtherWidths self.old.region self.new.region width }
+        ensures blocks { KeepsBlocks self.old.region self.new.region }
+        ensures queues { length self.new.queues ≡ length self.old.queues }
+        ensures spare_queues { self.new.spare_queues ≡ self.old.spare_queues }
+        ensures once { HasEachBlockOnce self.new }
+        ensures cost { CostsAtMost (2 * length indices.now + 4) self.old self.new }
+    {
+        let (ends, block) = self
+            .ends
+            .gather_last(&mut self.region, q.0, width, word, indices, values);
+        let number = block.number() as u32;
+        let first = ends.first;
+        let queue = Queue {
+            first,
+            last: number,
+            length: ends.length + 1,
+        };
+        self.ends.put(q.0, queue);
+    }
+
     /// A held block becomes the first of a queue. Takes no memory.
     #[inline(always)]
     pub fn push_front(&mut self, q: QueueId, b: Block)

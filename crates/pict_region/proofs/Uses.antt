@@ -1,6 +1,6 @@
 -- For callers of a region: which blocks of which width are live after each call.
-use Rattle.std.proofs.Common.{◌≡◌, ◌≢◌, ℕ, cond, List, [], length, replicate, set, Some, None, refl, sym, ◌∙◌, ap, subst, ⊎_elim}
-use Rattle.std.specs.Option.{IsSome, unwrap_or}
+use Rattle.std.proofs.Common.{◌≡◌, ◌≢◌, ◌≤◌, ℕ, Option, arith, cond, List, [], length, replicate, set, Some, None, refl, sym, ◌∙◌, ap, subst, ⊎_elim}
+use Rattle.std.specs.Option.{IsSome, IfSome, is_some, unwrap_or}
 use Rattle.std.specs.Ordering.{nat_cmp}
 use Rattle.std.specs.Cmp.{nat_cmp_total}
 use Rattle.std.specs.FinMap.{FinMap, get, insert, remove, get-insert, get-remove}
@@ -24,6 +24,27 @@ module _ (live : FinMap nat_cmp (List ℕ)) (number : ℕ) where
 
 abbrev pub Live : Type 0
 Live = FinMap nat_cmp (List ℕ)
+
+-- what was live, or is now, has the width that it had or gets
+none_live : (o : Option (List ℕ)) → o ≡ None → ¬ IsSome o
+none_live None e is = cc
+none_live (Some x) e is = none-some x (sym e)
+
+module _ (live live' : Live) (block : ℕ) (words : List ℕ) (fresh : get live block ≡ None) (gains : live' ≡ insert live block words) where
+  got_block : get live' block ≡ Some words
+  got_block = ap (λ m. get m block) gains ∙ get_inserted live block words
+
+  got_other : (last : ℕ) → IsSome (get live last) → get live' last ≡ get live last
+  got_other last is = ap (λ m. get m last) gains ∙ get_insert_apart live block words last (λ same. none_live (get live block) fresh (subst (λ n. IsSome (get live n)) same is))
+
+  pub live_or : (before : Option ℕ) → IfSome before (λ last. IsSome (get live last)) → IsSome (get live' (unwrap_or before block))
+  live_or None known = ap is_some got_block
+  live_or (Some last) known = ap is_some (got_other last known) ∙ known
+
+  pub wide_or : (before : Option ℕ) → IfSome before (λ last. IsSome (get live last)) → IfSome before (λ last. 1 ≤ length (unwrap_or (get live last) [])) → 1 ≤ length words
+      → 1 ≤ length (unwrap_or (get live' (unwrap_or before block)) [])
+  wide_or None known wide some = let e : length (unwrap_or (get live' block) []) ≡ length words = ap (λ o. length (unwrap_or o [])) got_block in omega (arith, e, some)
+  wide_or (Some last) known wide some = subst (λ o. 1 ≤ length (unwrap_or o [])) (sym (got_other last known)) wide
 
 -- a block of this width is live
 pub record Holds (live : Live) (number width : ℕ) : Type 0 where

@@ -1,8 +1,8 @@
 // The region: its store of words, its lists of free blocks, and its work.
-ghost use Rattle.std.specs.Prelude.{◌≡◌, ◌≢◌, ◌+◌, ◌-◌, ◌^◌, ◌<◌, ◌≤◌, ◌==◌, ◌*◌, if◌then◌else◌, ℕ, [], length, max, min, None, All, eqb, false, OnOk, OnErr, IsOk, IsSome, slice_index, slice_set, slice_index_or, replicate, take, drop, ◌++◌, ◌∷◌, vec_len};
+ghost use Rattle.std.specs.Prelude.{◌≡◌, ◌≢◌, ◌+◌, ◌-◌, ◌^◌, ◌<◌, ◌≤◌, ◌==◌, ◌*◌, if◌then◌else◌, ℕ, [], length, max, min, None, All, eqb, false, OnOk, OnErr, IsOk, IsSome, IfSome, unwrap_or, slice_index, slice_set, slice_index_or, replicate, take, drop, ◌++◌, ◌∷◌, vec_len};
 ghost use Rattle.std.specs.FinMap.{get, insert, remove, empty};
 ghost use Rattle.std.specs.List.{list_any};
-ghost use Rattle.pict_region.specs.RegionState.{IsLive, words_of, width_of, spare, blocks, KeepsBlocks, LosesNoBlock, KeepsOtherWidths, raised, raised_by, GainsWords};
+ghost use Rattle.pict_region.specs.RegionState.{IsLive, words_of, width_of, spare, blocks, KeepsBlocks, LosesNoBlock, KeepsOtherWidths, raised, raised_by, GainsWords, GainsLinked};
 ghost use Rattle.pict_region.specs.Layout.{list_at};
 ghost use Rattle.pict_region.specs.Values.{gathered, pair_at, AreRising, overlaid};
 
@@ -134,14 +134,38 @@ impl Region {
         ensures work { self.new.work ≡ raised_by (2 + 2 * length indices.now) self.old.work }
     {
         self.work = more(self.work, 2 + 2 * indices.len() as u64);
-        let list = self.free[width as usize];
-        let number = list.first;
-        let start = number as usize + 1;
-        let first = self.words[start];
-        let count = list.count - 1;
-        self.free[width as usize] = FreeList { first, count };
-        put_gathered(self.words.as_mut_slice(), start + 1, word, indices, values);
-        Block { number }
+        self.cut_gathered(width, word, indices, values)
+    }
+
+    /// A block as `take_gathered` makes it, whose number is put at word 0 of this live block, or of itself. Takes no memory.
+    #[inline(always)]
+    pub fn take_gathered_behind(
+        &mut self,
+        before: Option<u64>,
+        width: u32,
+        word: u64,
+        indices: &[u32],
+        values: &[(u64, u64)],
+    ) -> Block
+        requires spare { 1 ≤ spare self.old width }
+        requires wide { width ≡ 2 + 2 * length indices.now }
+        requires known { All (λ index. index < length values.now) indices.now }
+        requires before { IfSome before (λ last. IsLive self.old last) }
+        requires linked { IfSome before (λ last. 1 ≤ width_of self.old last) }
+        ensures fresh { get self.old.live result ≡ None }
+        ensures small { result < 2 ^ 32 - 1 }
+        ensures live { GainsLinked self.old self.new result (unwrap_or before result) (word ∷ gathered values.now indices.now) }
+        ensures spare { spare self.new width + 1 ≡ spare self.old width }
+        ensures others { KeepsOtherWidths self.old self.new width }
+        ensures blocks { KeepsBlocks self.old self.new }
+        ensures work { self.new.work ≡ raised_by (4 + 2 * length indices.now) self.old.work }
+    {
+        self.work = more(self.work, 4 + 2 * indices.len() as u64);
+        let block = self.cut_gathered(width, word, indices, values);
+        let number = block.name();
+        let last = before.unwrap_or(number);
+        self.put_word(last, 0, number);
+        block
     }
 
     /// Frees a live block, and spends its token. Takes no memory.
@@ -209,7 +233,7 @@ impl Region {
         ensures work { self.new.work ≡ raised self.old.work }
     {
         self.work = one_more(self.work);
-        self.words[b.number as usize + 1 + i as usize] = word;
+        self.put_word(b.number, i, word);
     }
 
     /// Words `i` and `i + 1` of a live block, from 0. Takes no memory.
@@ -291,6 +315,49 @@ impl Region {
         ensures { result ≡ self.now.work }
     {
         self.work
+    }
+
+    // A block of this width, with these words, as `take_gathered` makes it.
+    #[inline(always)]
+    fn cut_gathered(
+        &mut self,
+        width: u32,
+        word: u64,
+        indices: &[u32],
+        values: &[(u64, u64)],
+    ) -> Block
+        requires spare { 1 ≤ spare self.old width }
+        requires wide { width ≡ 2 + 2 * length indices.now }
+        requires known { All (λ index. index < length values.now) indices.now }
+        ensures fresh { get self.old.live result ≡ None }
+        ensures small { result < 2 ^ 32 - 1 }
+        ensures live { GainsWords self.old self.new result (word ∷ gathered values.now indices.now) }
+        ensures spare { spare self.new width + 1 ≡ spare self.old width }
+        ensures others { KeepsOtherWidths self.old self.new width }
+        ensures blocks { KeepsBlocks self.old self.new }
+        ensures work { self.new.work ≡ self.old.work }
+    {
+        let list = self.free[width as usize];
+        let number = list.first;
+        let start = number as usize + 1;
+        let first = self.words[start];
+        let count = list.count - 1;
+        self.free[width as usize] = FreeList { first, count };
+        put_gathered(self.words.as_mut_slice(), start + 1, word, indices, values);
+        Block { number }
+    }
+
+    // Puts a word at index `i` of the live block with this number.
+    #[inline(always)]
+    fn put_word(&mut self, number: u64, i: u32, word: u64)
+        requires live { IsLive self.old number }
+        requires inside { i < width_of self.old number }
+        ensures live { self.new.live ≡ insert self.old.live number (slice_set (words_of self.old number) i word) }
+        ensures free { self.new.free ≡ self.old.free }
+        ensures blocks { KeepsBlocks self.old self.new }
+        ensures work { self.new.work ≡ self.old.work }
+    {
+        self.words[number as usize + 1 + i as usize] = word;
     }
 
     // Reads values out of a live block, two words each from word `first` on, and puts them at these indices.

@@ -16,11 +16,53 @@ ghost use Rattle.pict_desk.specs.Code.{core_in, HasFrame, IsCode};
 use crate::reading::frame_at;
 use crate::store::Store;
 use crate::turn::Turn;
-use pict_blocks::{block_of, make_part};
+use pict_blocks::{block_of, make_part, spawn};
 use pict_code::Node;
 use pict_desk::frame_record;
 use pict_queue::QueueId;
 use pict_syntax::NARROW_LIMIT;
+
+// The same as `spawn_part` of a frame that stands in the block itself.
+#[inline(always)]
+fn spawn_narrow(store: &mut Store, number: u32, frame: &[u32])
+    requires narrow { length frame.now ≤ NARROW_LIMIT }
+    requires queue { IsQueue store.old.queues 0 }
+    requires can { CanHold store.old frame.now }
+    requires inside { All (λ level. level < length store.old.desk.values.items) frame.now }
+    requires pairs { ArePairs store.old.desk.heap store.old.desk.values.items }
+    ensures spawns { Spawns store.old store.new number frame.now }
+    ensures kept { KeepsHeld store.old.queues store.new.queues }
+    ensures no_more { HoldsNoMore store.old.queues store.new.queues }
+    ensures spare_queues { store.new.queues.spare_queues ≡ store.old.queues.spare_queues }
+    ensures blocks { KeepsBlocks store.old.queues.region store.new.queues.region }
+    ensures cost { CostsAtMost (block_width frame.now + 2) store.old.queues store.new.queues }
+{
+    spawn(
+        &mut store.queues,
+        QueueId(0),
+        number,
+        frame,
+        &store.desk.values,
+    );
+}
+
+// The same as `spawn_part` of any frame.
+#[cold]
+fn spawn_made(store: &mut Store, number: u32, frame: &[u32])
+    requires queue { IsQueue store.old.queues 0 }
+    requires can { CanHold store.old frame.now }
+    requires inside { All (λ level. level < length store.old.desk.values.items) frame.now }
+    requires pairs { ArePairs store.old.desk.heap store.old.desk.values.items }
+    ensures spawns { Spawns store.old store.new number frame.now }
+    ensures kept { KeepsHeld store.old.queues store.new.queues }
+    ensures no_more { HoldsNoMore store.old.queues store.new.queues }
+    ensures spare_queues { store.new.queues.spare_queues ≡ store.old.queues.spare_queues }
+    ensures blocks { KeepsBlocks store.old.queues.region store.new.queues.region }
+    ensures cost { CostsAtMost (block_width frame.now + 2) store.old.queues store.new.queues }
+{
+    let part = make_part(&mut store.queues, &mut store.desk, number, frame);
+    store.queues.push_back(QueueId(0), part);
+}
 
 /// A new block of the node with this number becomes the last of queue 0. Takes no memory.
 #[inline(always)]
@@ -36,8 +78,11 @@ pub fn spawn_part(store: &mut Store, number: u32, frame: &[u32])
     ensures blocks { KeepsBlocks store.old.queues.region store.new.queues.region }
     ensures cost { CostsAtMost (block_width frame.now + 2) store.old.queues store.new.queues }
 {
-    let part = make_part(&mut store.queues, &mut store.desk, number, frame);
-    store.queues.push_back(QueueId(0), part);
+    if frame.len() <= NARROW_LIMIT as usize {
+        spawn_narrow(store, number, frame);
+    } else {
+        spawn_made(store, number, frame);
+    }
 }
 
 // The node with this number, of a larger frame, has the turn.

@@ -1,16 +1,12 @@
-use Rattle.std.proofs.Common.{ℕ, ◌≡◌, ◌≤◌, ◌+◌, ◌++◌, ◌∷◌, [], List, length, set, sym, ◌∙◌, ap, refl, subst, arith}
+use Rattle.std.proofs.Common.{ℕ, ◌≡◌, ◌+◌, length, set, sym, ◌∙◌, ap, refl, subst, arith}
 use Rattle.pict_region.specs.RegionState.{RegionState, IsLive, words_of, width_of}
-use Rattle.pict_queue.specs.QueuesState.{queue_blocks}
 use Rattle.std.specs.FinMap.{insert}
-use Rattle.std.proofs.lemmas.List.{length-set}
 use Rattle.pict_queue.specs.Ends.{queue_in, ends_of}
 use Rattle.pict_queue.specs.declared.ends.Queue.{Queue}
 use Rattle.pict_queue.specs.declared.queues.Queues.TheInside.{Inside}
-use Rattle.pict_queue.proofs.Links.{LinksBlock, link_written}
-use Rattle.pict_queue.proofs.Orders.{list_is, once_seen, ends_length, PushesBack, pushed_back}
-use Rattle.pict_queue.proofs.Calls.{FindsEnds, ends_found, held_small, queue_there, list_seen, rest_kept}
-use Rattle.pict_queue.specs.Threads.{queues_state}
-use Rattle.pict_queue.proofs.Kept.{contents_pushed_back, other_contents_kept, released_back, held_pushed_back}
+use Rattle.pict_queue.proofs.Orders.{ends_length}
+use Rattle.pict_queue.proofs.Calls.{ends_found, held_small, queue_there}
+use Rattle.pict_queue.proofs.Pushing.{PushesBlock, pushes_block}
 use Rattle.pict_queue.proofs.queues.Queues.push_back.Goals as goal
 
 pub overflow_cast-queue : goal.overflow_cast-queue
@@ -47,74 +43,58 @@ overflow_add-queue c =
     let same = ap (λ (q : Queue). q.length) c.last_or-last.ensures.queue ∙ ends_length (queue_in c.self.inside.ends.queues.items c.args.q.0) c.number-number.result in
     omega (arith, found.fits, same)
 
-found : (c : goal.After-put) → FindsEnds c.self.inside c.args.q.0 c.number-number.result (queue_in c.self.inside.ends.queues.items c.args.q.0) c.last_or-last.result.0
-found c = ends_found c.self.inside _ c.args.q.0 c.args.b c.number-number.result (queue_in c.self.inside.ends.queues.items c.args.q.0) c.last_or-last.result.0 c.self.view_is c.self.invariant c.requires.queue c.requires.held c.number-number.ensures refl c.last_or-last.ensures.queue
-
-links : (c : goal.After-put) → LinksBlock c.self.inside.region c.set_link.new.region c.last_or-last.result.0.last c.number-number.result
-links c =
-    let same = ap (λ (q : Queue). q.last) c.last_or-last.ensures.queue ∙ sym c.last_or-last.ensures.token in
-    let live = subst (IsLive c.self.inside.region) same (found c).live in
-    let wide : 1 ≤ width_of c.self.inside.region c.last_or-last.result.1 = omega (arith, (found c).wide, ap (width_of c.self.inside.region) same) in
-    let written = subst (λ (r : RegionState). c.set_link.new.region.live ≡ insert r.live c.last_or-last.result.1 (set (words_of r c.last_or-last.result.1) 0 c.number-number.result))
-    c.last_or-last.ensures.rest c.set_link.ensures.live in
-    subst (λ (n : ℕ). LinksBlock c.self.inside.region c.set_link.new.region n c.number-number.result) (sym same)
-    (link_written c.self.inside.region c.set_link.new.region c.last_or-last.result.1 c.number-number.result live wide written)
-
-queue_after : (c : goal.After-put) → Queue
-queue_after c = record { first = c.last_or-last.result.0.first; last = c.number-number.result; length = c.last_or-last.result.0.length + 1 }
-
 after : (c : goal.After-put) → Inside
 after c = record { region = c.set_link.new.region; ends = c.put.new.self; spare = c.self.inside.spare }
 
-pushes : (c : goal.After-put)
-    → PushesBack c.self.inside.region c.set_link.new.region c.self.inside.ends.queues.items c.put.new.self.queues.items c.args.q.0 c.number-number.result
+pushes : (c : goal.After-put) → PushesBlock c.args.self.now (after c) c.args.q.0 c.args.b
+unfolding after
 pushes c =
-    let queues = c.self.inside.ends.queues.items in
-    let same = ap (λ (q : Queue). q.length) c.last_or-last.ensures.queue ∙ ends_length (queue_in queues c.args.q.0) c.number-number.result in
-    let written = c.put.ensures.items
-    ∙ ap (λ (l : ℕ). let q : Queue = record { first = c.last_or-last.result.0.first; last = c.number-number.result; length = l + 1 } in set queues c.args.q.0 q) same in
-    subst (λ (qs : List Queue). PushesBack c.self.inside.region c.set_link.new.region queues qs c.args.q.0 c.number-number.result) (sym written)
-    (pushed_back c.self.inside.region c.set_link.new.region queues c.args.q.0 c.number-number.result (queue_in queues c.args.q.0) c.last_or-last.result.0
-    c.self.invariant.threaded (found c).read.inside (found c).apart refl c.last_or-last.ensures.queue (links c))
+    let number = c.number-number.ensures in
+    let ends : Queue = c.last_or-last.result.0 in
+    let same = ap (λ (q : Queue). q.last) c.last_or-last.ensures.queue ∙ sym c.last_or-last.ensures.token in
+    pushes_block c.self.inside (after c) c.args.self.now c.args.q.0 c.args.b ends c.self.view_is c.self.invariant c.requires.queue c.requires.held (record {
+      ends_are = c.last_or-last.ensures.queue ∙ ap (ends_of (queue_in c.self.inside.ends.queues.items c.args.q.0)) number;
+      live = subst (λ (r : RegionState). c.set_link.new.region.live ≡ insert r.live c.last_or-last.result.1 (set (words_of r c.last_or-last.result.1) 0 c.number-number.result))
+          c.last_or-last.ensures.rest c.set_link.ensures.live
+          ∙ ap (λ (n : ℕ). insert c.self.inside.region.live n (set (words_of c.self.inside.region n) 0 c.number-number.result)) (sym same)
+          ∙ ap (λ (n : ℕ). insert c.self.inside.region.live ends.last (set (words_of c.self.inside.region ends.last) 0 n)) number;
+      free = c.set_link.ensures.free ∙ ap (λ (r : RegionState). r.free) c.last_or-last.ensures.rest;
+      queues = c.put.ensures.items ∙ ap (λ (n : ℕ). let q : Queue = record { first = ends.first; last = n; length = ends.length + 1 } in set c.self.inside.ends.queues.items c.args.q.0 q) number;
+      spare = refl;
+    })
 
 pub invariant_of-self : goal.invariant_of-self
+unfolding after
 invariant_of-self c = record { threaded = (pushes c).threaded; room = omega (arith, c.self.invariant.room, c.put.ensures.len, c.put.ensures.capacity) }
 
 pub returns-clause-list : goal.returns-clause-list
 unfolding after
-returns-clause-list c =
-    list_is (after c) c.args.q.0
-    ∙ (pushes c).list
-    ∙ ap (λ ns. ns ++ c.number-number.result ∷ []) (sym (list_seen c.self.inside _ c.args.q.0 c.self.view_is))
-    ∙ ap (λ b. queue_blocks c.args.self.now c.args.q.0 ++ b ∷ []) c.number-number.ensures
+returns-clause-list c = (pushes c).list
 
 pub returns-clause-others : goal.returns-clause-others
 unfolding after
-returns-clause-others c other apart =
-    list_is (after c) other ∙ (pushes c).others other apart ∙ sym (list_seen c.self.inside _ other c.self.view_is)
+returns-clause-others c = (pushes c).others
 
 pub returns-clause-rest : goal.returns-clause-rest
-unfolding queue_after after
-returns-clause-rest c =
-    rest_kept c.self.inside (after c) c.args.self.now c.self.view_is (links c).contents (c.set_link.ensures.free ∙ ap (λ (r : RegionState). r.free) c.last_or-last.ensures.rest)
-    (ap length c.put.ensures.items ∙ length-set c.self.inside.ends.queues.items c.args.q.0 (queue_after c)) refl
+unfolding after
+returns-clause-rest c = (pushes c).rest
 
 pub returns-clause-once : goal.returns-clause-once
 unfolding after
-returns-clause-once c = once_seen (after c) (pushes c).threaded
+returns-clause-once c = (pushes c).once
 
 pub returns-clause-pushed : goal.returns-clause-pushed
 unfolding after
-returns-clause-pushed c = contents_pushed_back c.args.self.now (queues_state (after c)) (returns-clause-rest c).contents c.args.q.0 c.args.b (returns-clause-list c)
+returns-clause-pushed c = (pushes c).pushed
 
 pub returns-clause-other_contents : goal.returns-clause-other_contents
 unfolding after
-returns-clause-other_contents c = other_contents_kept c.args.self.now (queues_state (after c)) (returns-clause-rest c).contents c.args.q.0 (returns-clause-others c)
+returns-clause-other_contents c = (pushes c).other_contents
 
 pub returns-clause-kept : goal.returns-clause-kept
 unfolding after
-returns-clause-kept c = held_pushed_back c.args.self.now (queues_state (after c)) (returns-clause-rest c).contents c.args.q.0 c.args.b (returns-clause-list c) (returns-clause-others c)
+returns-clause-kept c = (pushes c).kept
 
 pub returns-clause-gone : goal.returns-clause-gone
 unfolding after
-returns-clause-gone c = released_back c.args.self.now (queues_state (after c)) (returns-clause-rest c).contents c.args.q.0 c.args.b (returns-clause-list c) (returns-clause-others c)
+returns-clause-gone c = (pushes c).gone

@@ -5,7 +5,7 @@ use Rattle.pict_blocks.specs.Parts.{block_width}
 use Rattle.pict_blocks.proofs.Costs.{costs_more}
 use Rattle.pict_blocks.proofs.Held.{made_kept, made_no_more}
 use Rattle.pict_turns.proofs.Placing.{taken_spare}
-use Rattle.pict_turns.proofs.parts.spawn_part.Goals as goal
+use Rattle.pict_turns.proofs.parts.spawn_made.Goals as goal
 
 pub returns-clause-spawns : goal.returns-clause-spawns
 returns-clause-spawns c =

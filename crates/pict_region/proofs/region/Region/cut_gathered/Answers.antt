@@ -8,7 +8,7 @@ use Rattle.pict_region.specs.declared.region.FreeList.{FreeList}
 use Rattle.pict_region.proofs.Calls.{first_read, spare_at, spare_set, spare_kept, read_list, reads_first, lent_whole}
 use Rattle.pict_region.proofs.Counts.{blocks_taken}
 use Rattle.pict_region.proofs.Pairs.{TakesWords, taken_with, length_gathered}
-use Rattle.pict_region.proofs.region.Region.take_gathered.Goals as goal
+use Rattle.pict_region.proofs.region.Region.cut_gathered.Goals as goal
 
 pub overflow_add-start : goal.overflow_add-start
 overflow_add-start c =
@@ -33,10 +33,10 @@ put_gathered-requires-clause-inside c =
     let reads = reads_first c.self.inside c.args.width c.index-list.result.now first c.index-list.ensures in
     omega (arith, reads.inside, c.requires.wide, ap length c.as_mut_slice.ensures.value)
 
-words : (c : goal.After-self-3-1) → List ℕ
+words : (c : goal.After-self-2-1) → List ℕ
 words c = c.args.word ∷ gathered c.args.values.now c.args.indices.now
 
-block_taken : (c : goal.After-self-3-1) → TakesWords (with_items c.self.inside.words c.put_gathered.new.words).items c.self.inside.made
+block_taken : (c : goal.After-self-2-1) → TakesWords (with_items c.self.inside.words c.put_gathered.new.words).items c.self.inside.made
     (set c.self.inside.free.items c.args.width (record { first = c.index-first.result.now; count = c.index-list.result.now.count - 1 }))
     c.args.self.now c.index-list.result.now.first (words c)
 unfolding words
@@ -93,7 +93,7 @@ returns-clause-blocks c =
     let list : FreeList = record { first = c.index-first.result.now; count = c.index-list.result.now.count - 1 } in
     let taken = block_taken c in
     blocks_taken c.args.self.now
-    (region_state (record { words = with_items c.self.inside.words c.put_gathered.new.words; made = c.self.inside.made; free = with_item c.self.inside.free c.args.width list; work = c.more-self-inside.result }))
+    (region_state (record { words = with_items c.self.inside.words c.put_gathered.new.words; made = c.self.inside.made; free = with_item c.self.inside.free c.args.width list; work = c.self.inside.work }))
     c.index-list.result.now.first c.args.width (taken.first ∷ words c) taken.fresh taken.live
     (omega (arith, c.requires.wide, length_gathered c.args.values.now c.args.indices.now))
     (returns-clause-spare c) (returns-clause-others c)
