@@ -7,7 +7,7 @@ use Rattle.std.proofs.lemmas.Bool.{cases_eq, eq-eqb, ne_eqb}
 use Rattle.std.proofs.lemmas.List.{map-append}
 use Rattle.pict_region.specs.Chain.{chain}
 use Rattle.pict_region.specs.RegionState.{RegionState}
-use Rattle.pict_region.proofs.Uses.{Live}
+use Rattle.pict_region.proofs.Uses.{Live, none_live}
 use Rattle.pict_queue.specs.QueuesState.{QueueState, QueuesState, link_of, no_queue, queue_at, queue_blocks, without_first, moved_list, IsHeld, StandsIn, KeepsContents, KeepsQueues, KeepsOtherQueues}
 use Rattle.pict_queue.specs.Contents.{held_words, contents, moved_contents, KeepsAllContents, KeepsOtherContents, StaysHeld, KeepsHeld, KeepsOtherHeld, HoldsNoMore, Releases, HoldsOneMore}
 
@@ -62,10 +62,6 @@ is_some_dropped : (o p : Option (List ℕ)) → option_map (drop 1) o ≡ option
 is_some_dropped None None e h = h
 is_some_dropped None (Some x) e h = cc
 is_some_dropped (Some y) p e h = refl
-
-none_live : (o : Option (List ℕ)) → o ≡ None → ¬ IsSome o
-none_live None e h = cc
-none_live (Some x) e h = cc
 
 -- ---- where only links and orders change
 

@@ -25,11 +25,12 @@ module _ (live : FinMap nat_cmp (List ℕ)) (number : ℕ) where
 abbrev pub Live : Type 0
 Live = FinMap nat_cmp (List ℕ)
 
--- what was live, or is now, has the width that it had or gets
-none_live : (o : Option (List ℕ)) → o ≡ None → ¬ IsSome o
+-- no block is live at a number without words
+pub none_live : (o : Option (List ℕ)) → o ≡ None → ¬ IsSome o
 none_live None e is = cc
 none_live (Some x) e is = none-some x (sym e)
 
+-- what was live, or is now, has the width that it had or gets
 module _ (live live' : Live) (block : ℕ) (words : List ℕ) (fresh : get live block ≡ None) (gains : live' ≡ insert live block words) where
   got_block : get live' block ≡ Some words
   got_block = ap (λ m. get m block) gains ∙ get_inserted live block words
