@@ -19,7 +19,7 @@ ghost use Rattle.pict_turns.specs.Widths.{MakesOnly};
 ghost use Rattle.pict_acting.specs.Bounds.{half_cost, MakesFew};
 ghost use Rattle.pict_acting.specs.Opening.{IsNarrowWith, OpensFor, BeginsOpening, ReadsAt, WaitsFor, PutsLast, MakesWait};
 
-use pict_blocks::{block_of, block_width};
+use pict_blocks::{block_width, spawn};
 use pict_code::{Node, Op, Operand};
 use pict_core::CoreVal;
 use pict_heap::{Word, pack};
@@ -164,13 +164,13 @@ pub(crate) fn put_last(store: &mut Store, queue: u64, number: u32, frame: &[u32]
     ensures puts { PutsLast store.old store.new queue number frame.now }
     ensures cost { CostsAtMost (2 * length frame.now + 4) store.old.queues store.new.queues }
 {
-    let block = block_of(
+    spawn(
         &mut store.queues,
-        number as usize,
+        QueueId(queue),
+        number,
         frame,
         &store.desk.values,
     );
-    store.queues.push_back(QueueId(queue), block);
 }
 
 // Whether the left part waits at the channel, and the frames of both parts stand in blocks themselves.
