@@ -1,25 +1,24 @@
 -- No free run of a gentle process is wrong.
-use Rattle.std.proofs.Common.{ℕ, zero, suc, ◌+◌, ◌-◌, ◌<◌, ◌≡◌, nat_lt, nat_eq, Bool, true, false, ◌&&◌, List, [], ◌∷◌, ◌++◌, map, length, Option, Some, None, slice_get, unwrap_or, option_and_then, if◌then◌else◌, cond, refl, sym, subst, arith, rules}
-use Rattle.pict_core.specs.Term.{Val, Var, Chan, Int, Char, Boolean, Text, PrimitiveVal, Record, Pat, Process, Zero, Par, New, Out, In, Any}
+use Rattle.std.proofs.Common.{ℕ, zero, suc, ◌+◌, ◌-◌, ◌<◌, ◌≡◌, nat_lt, nat_eq, Bool, true, false, ◌&&◌, List, [], ◌∷◌, ◌++◌, map, length, Option, Some, None, slice_get, unwrap_or, option_and_then, if◌then◌else◌, sym, subst, arith, rules}
+use Rattle.pict_core.specs.Term.{Val, Var, Chan, Int, Char, Boolean, Text, PrimitiveVal, Record, Process, Zero, Par, New, Out, In, Any}
 use Rattle.pict_core.specs.Closed.{IsClosed, IsUnder}
-use Rattle.pict_core.specs.Substitution.{Replacement, replace, replace_value, value_of_variable, substitution, substitute}
+use Rattle.pict_core.specs.Substitution.{replace_value, substitution, substitute}
 use Rattle.pict_core.specs.Configuration.{Mark, Ready, Parked, Entry, Configuration, IsConfiguration, opening}
 use Rattle.pict_core.specs.Step as step
-use Rattle.pict_core.specs.Step.{StepOutcome, Steps, Traps, Wrong, Finished, gone, kept, added, with_process, with_channel, served, took, meet_reader, meet_message, act, act_entry, entry_at, is_partner, NamesPartner, Choice, IsChoice, free_step, Free, IsWrong}
+use Rattle.pict_core.specs.Step.{StepOutcome, Steps, Traps, Wrong, Finished, gone, kept, added, with_process, with_channel, served, took, meet_reader, meet_message, act, act_entry, entry_at, is_partner, NamesPartner, Choice, IsChoice, free_step}
 use Rattle.pict_core.proofs.Stamps.{EntryClosed, least_closed}
 use Rattle.pict_core.proofs.Entries.{Each, each_without, each_added, each_found}
 use Rattle.pict_reduction.specs.Reduction.{IsName, variable, channel}
 use Rattle.pict_reduction.specs.Reached.{FreelyReaches, NoFreeRunIsWrong, at_start, by_step}
 use Rattle.pict_reduction.proofs.Apart.{opening_reached, freely_reached}
 use Rattle.pict_syntax.specs.declared.span.Span.{Span}
-use Rattle.pict_syntax.specs.declared.primitive.Primitive.TheVariants.{Print}
 use Rattle.pict_core.specs.Closed.{IsOver}
 use Rattle.pict_core.specs.Plain.{plain_val, plain_pat}
 use Rattle.pict_core.specs.declared.pattern.CorePat.{the_lemmas as pattern_lemmas}
 use Rattle.pict_core.specs.declared.pattern.CorePat.TheVariants as pattern
 use Rattle.pict_core.specs.declared.value.CoreVal.{the_lemmas}
 use Rattle.pict_core.specs.declared.value.CoreVal.TheVariants as value
-use Rattle.pict_machine_tests.specs.Gentle.{IsGentleOver, IsGentle, ends, both, opens, prints, sends, reads}
+use Rattle.pict_machine_tests.specs.Gentle.{IsGentleOver, IsGentle, ends, both, opens, sends, reads}
 
 -- ---- substitution of channels
 
@@ -52,7 +51,6 @@ module _ (m : ℕ) (vs : List Val) (names : AreNames vs) where
   gentle_still p ends = ends
   gentle_still p (both {p = a} {q = b} g h) = both (gentle_still a g) (gentle_still b h)
   gentle_still p (opens {p = a} g) = opens (gentle_still a g)
-  gentle_still p prints = prints
   gentle_still p (sends {chan = v} k) = sends (name_of v k)
   gentle_still p (reads {chan = v} k) = reads (name_of v k)
 
@@ -108,7 +106,6 @@ module _ (C : Configuration) (all : AreGentle C) (s : ℕ) where
   meets_reader c message r q ends e = cc
   meets_reader c message r q (both g h) e = cc
   meets_reader c message r q (opens g) e = cc
-  meets_reader c message r q prints e = cc
   meets_reader c message r q (sends k) e = cc
   meets_reader c message r q (reads {chan = v} {replicated = b} k) e =
       let one = gone_gentle C all s in
@@ -120,7 +117,6 @@ module _ (C : Configuration) (all : AreGentle C) (s : ℕ) where
   meets_message c b r q (both g h) e = cc
   meets_message c b r q (opens g) e = cc
   meets_message c b r q (reads k) e = cc
-  meets_message c b r q prints e = added_gentle (gone r (took b s C)) (gone_gentle (took b s C) (took_gentle b s C all) r) Ready Zero ends
   meets_message c b r q (sends k) e = added_gentle (gone r (took b s C)) (gone_gentle (took b s C) (took_gentle b s C all) r) Ready Zero ends
 
   both_true : (a b : Bool) → a && b ≡ true → b ≡ true
@@ -132,7 +128,6 @@ module _ (C : Configuration) (all : AreGentle C) (s : ℕ) where
   fine p (both {p = a} {q = b} g h) u partner f = added_gentle (kept s a C) (kept_gentle C all s a g) Ready b h
   fine p (opens {p = a} g) u partner f =
       kept_gentle (with_channel C) all s (substitute 0 (Chan C.channels ∷ []) a) (gentle_still 0 (Chan C.channels ∷ []) (unfold AreNames in (channel, tt)) a g)
-  fine p prints u partner f = gone_gentle C all s
   fine p (sends {chan = v} {message = m} {at = at} variable) u partner f = absurd (let l = u.0 in omega (arith, l))
   fine p (sends {chan = Chan c} {message = m} {at = at} channel) u None f = added_gentle (gone s C) (gone_gentle C all s) Parked (Out (Chan c) m at) (sends channel)
   fine p (sends {chan = Chan c} {message = m} {at = at} channel) u (Some q) f = meets_reader c m q.stamp q.process f.0 (both_true _ (step.reads c q.process) f.1)
@@ -173,19 +168,8 @@ pub gentle_new : (p : Process) → IsGentleOver 1 p → IsGentleOver 0 (New p)
 gentle_new p x = record { gentle = opens x.gentle; under = x.under }
 
 -- the same of terms of the code
-print_is : plain_val (value.Prim Print) ≡ PrimitiveVal Print
-print_is = search (rules, the_lemmas)
-
-text_is : (bytes : List ℕ) → plain_val (value.Text bytes) ≡ Text bytes
-text_is bytes = search (rules, the_lemmas)
-
 var_is : (n : ℕ) → plain_val (value.Var n) ≡ Var n
 var_is n = search (rules, the_lemmas)
-
-pub gentle_print : (bytes : List ℕ) (at : Span) → IsGentleOver 0 (Out (plain_val (value.Prim Print)) (plain_val (value.Text bytes)) at)
-gentle_print bytes at =
-    let plain : IsGentleOver 0 (Out (PrimitiveVal Print) (Text bytes) at) = record { gentle = prints; under = (tt, tt) } in
-    subst (λ v. IsGentleOver 0 (Out v (plain_val (value.Text bytes)) at)) (sym print_is) (subst (λ w. IsGentleOver 0 (Out (PrimitiveVal Print) w at)) (sym (text_is bytes)) plain)
 
 pub gentle_sender : (message : Val) (at : Span) → IsOver 1 0 message → IsGentleOver 1 (Out (plain_val (value.Var 0)) message at)
 gentle_sender message at over =
@@ -202,6 +186,3 @@ gentle_reader p e =
     let body : IsGentleOver 1 (In (Var 0) false Any p) = subst (λ q. IsGentleOver 1 (In (Var 0) false Any q)) (sym e) plain in
     let reader : IsGentleOver 1 (In (plain_val (value.Var 0)) false Any p) = subst (λ v. IsGentleOver 1 (In v false Any p)) (sym (var_is 0)) body in
     subst (λ x. IsGentleOver 1 (In (plain_val (value.Var 0)) false x p)) (sym any_is) reader
-
-pub gentle_zero : IsGentleOver 0 Zero
-gentle_zero = record { gentle = ends; under = tt }

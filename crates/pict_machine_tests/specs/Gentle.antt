@@ -1,16 +1,14 @@
--- Processes no step of which is wrong in any order: they print texts, and send values to readers that take any value and end.
-use Rattle.std.specs.Prelude.{ℕ, Bool, List}
+-- Processes no step of which is wrong in any order: they send values to readers that take any value and end.
+use Rattle.std.specs.Prelude.{ℕ, Bool}
 use Rattle.pict_syntax.specs.declared.span.Span.{Span}
-use Rattle.pict_syntax.specs.declared.primitive.Primitive.TheVariants.{Print}
 use Rattle.pict_core.specs.Closed.{IsUnder}
-use Rattle.pict_core.specs.Term.{Val, PrimitiveVal, Text, Any, Process, Zero, Par, New, Out, In}
+use Rattle.pict_core.specs.Term.{Val, Any, Process, Zero, Par, New, Out, In}
 use Rattle.pict_reduction.specs.Reduction.{IsName}
 
 pub data IsGentle : Process → Type 0 where
   ends : IsGentle Zero
   both : {p q : Process} → IsGentle p → IsGentle q → IsGentle (Par p q)
   opens : {p : Process} → IsGentle p → IsGentle (New p)
-  prints : {bytes : List ℕ} {at : Span} → IsGentle (Out (PrimitiveVal Print) (Text bytes) at)
   sends : {chan message : Val} {at : Span} → IsName chan → IsGentle (Out chan message at)
   reads : {chan : Val} {replicated : Bool} → IsName chan → IsGentle (In chan replicated Any Zero)
 

@@ -41,9 +41,12 @@ picked --bare 42 F¦F run div![1 0 printi]¦shelf 1¦ReadFault¦¦F: cannot be r
 run F¦¦output 1 1¦WriteFault¦t¦¶\
 run F¦¦output 2 1¦WriteFault¦total 6¦¶\
 run F¦¦output 3 1¦Done¦total 6¦¶\
-load 42¦F run print!\"hello\"¦shelf 1¦Done¦ring 183 13097\nring 124 19955\nring 155 11566\ntext 35553\nsteps 536830\ncommunications 133860\nprinted 3\nend done\n¦¶\
-load 0¦F run print!\"hello\"¦shelf 1¦Done¦ring 151 13783\nring 194 19462\nring 135 18317\ntext 36975\nsteps 620212\ncommunications 154692\nprinted 3\nend done\n¦¶\
-load 18446744073709551615¦F run print!\"hello\"¦shelf 1¦Done¦ring 131 15298\nring 126 12769\nring 108 14464\ntext 27890\nsteps 511495\ncommunications 127599\nprinted 3\nend done\n¦¶\
+load 42¦F run print!\"hello\"¦shelf 1¦Done¦\
+ring 183 13097\nring 124 19955\nring 155 11566\ntext 35553\nsteps 536830\ncommunications 133860\nprinted 3\nend done\n¦¶\
+load 0¦F run print!\"hello\"¦shelf 1¦Done¦\
+ring 151 13783\nring 194 19462\nring 135 18317\ntext 36975\nsteps 620212\ncommunications 154692\nprinted 3\nend done\n¦¶\
+load 18446744073709551615¦F run print!\"hello\"¦shelf 1¦Done¦\
+ring 131 15298\nring 126 12769\nring 108 14464\ntext 27890\nsteps 511495\ncommunications 127599\nprinted 3\nend done\n¦¶\
 run --bare F¦F import \"L\" import \"M\"§L run print!\"l\"§M ¦shelf 1¦ReadFault¦¦F: cannot be read\n¶\
 run --bare F¦F import \"L\" import \"M\"§L run print!\"l\"§M ¦shelf 2¦ReadFault¦¦L: cannot be read\n¶\
 run --bare F¦F import \"L\" import \"M\"§L run print!\"l\"§M ¦shelf 3¦ReadFault¦¦M: cannot be read\n¶\

@@ -67,17 +67,21 @@ fn filled_parts_are_shared(rt: HostRuntime) -> Result<(), AllocError> {
     Ok(())
 }
 
+/// Pairs of this type outside a type field, and pairs of the type field under it.
+fn mixed(alloc: Global, outside: Ty) -> Result<Ty, AllocError> {
+    let under = fields(alloc, true, pairs(alloc, Ty::Var(0))?, Ty::Int)?;
+    fields(alloc, false, pairs(alloc, outside)?, under)
+}
+
 /// The same pairs stand outside a type field, where their variable is the context's, and under it, where it is the
 /// type field.
 #[test]
 fn like_parts_under_other_binders_differ(rt: HostRuntime) -> Result<(), AllocError> {
     let alloc = rt.alloc();
-    let under = fields(alloc, true, pairs(alloc, Ty::Var(0))?, Ty::Int)?;
-    let t = fields(alloc, false, pairs(alloc, Ty::Var(0))?, under.copy(alloc)?)?;
-    let moved = fields(alloc, false, pairs(alloc, Ty::Var(3))?, under.copy(alloc)?)?;
-    assert!(rt; equal(&shift_type(alloc, &t, 3, 0)?, &moved));
+    let t = mixed(alloc, Ty::Var(0))?;
+    assert!(rt; equal(&shift_type(alloc, &t, 3, 0)?, &mixed(alloc, Ty::Var(3))?));
     let put = Ty::Bool;
-    let filled = fields(alloc, false, pairs(alloc, Ty::Bool)?, under)?;
-    assert!(rt; equal(&fill_type(alloc, &t, slice::from_ref(&put), 0, 0)?, &filled));
+    let filled = fill_type(alloc, &t, slice::from_ref(&put), 0, 0)?;
+    assert!(rt; equal(&filled, &mixed(alloc, Ty::Bool)?));
     Ok(())
 }
