@@ -30,10 +30,10 @@ use Rattle.pict_parse_states.specs.declared.places.Place.{Place as RPlace, Value
 use Rattle.pict_parse_states.specs.declared.places.DeclarationPlace.{DeclarationPlace as RDeclarationPlace, Top as DTop, Paren as DParen}
 use Rattle.pict_parse_states.specs.declared.places.AbstractionPlace.{AbstractionPlace as RAbstractionPlace, Definition as ADef, Lambda as ALambda, Input as AInput}
 use Rattle.pict_parse_states.specs.declared.places.FieldsPlace.{FieldsPlace as RFieldsPlace, Record as FRecord, Apply as FApply}
-use Rattle.pict_parse_states.specs.declared.places.PatternPlace.{PatternPlace as RPatternPlace, Let as QLet, Abstraction as QAbs, Fold' as QFold, Field' as QField, Label' as QLabel}
-use Rattle.pict_parse_states.specs.declared.places.FieldPatternsPlace.{FieldPatternsPlace as RFieldPatternsPlace, Record' as QRecord, Parameters as QParams}
-use Rattle.pict_parse_states.specs.declared.places.TypePlace.{TypePlace as RTypePlace, New as TNew, Alias as TAlias, Operator as TOperator, Bind as TBind, Any as TAny, Result as TResult, PatternFold as TPatFold, Fold as TFold, Bound' as TBound, Prefix' as TPrefix, Field' as TField, Label' as TLabel, Apply' as TApply, Rec' as TRec, Argument as TArgument}
-use Rattle.pict_parse_states.specs.declared.places.BinderPlace.{BinderPlace as RBinderPlace, Patterns as BPats, Types' as BTypes}
+use Rattle.pict_parse_states.specs.declared.places.PatternPlaceIn.{PatternPlaceIn, Let as QLet, Abstraction as QAbs, Fold' as QFold, Field' as QField, Label' as QLabel}
+use Rattle.pict_parse_states.specs.declared.places.FieldPatternsPlaceIn.{FieldPatternsPlaceIn, Record' as QRecord, Parameters as QParams}
+use Rattle.pict_parse_states.specs.declared.places.TypePlaceIn.{TypePlaceIn, New as TNew, Alias as TAlias, Operator as TOperator, Bind as TBind, Any as TAny, Result as TResult, PatternFold as TPatFold, Fold as TFold, Bound' as TBound, Prefix' as TPrefix, Field' as TField, Label' as TLabel, Apply' as TApply, Rec' as TRec, Argument as TArgument}
+use Rattle.pict_parse_states.specs.declared.places.BinderPlaceIn.{BinderPlaceIn, Patterns as BPats, Types' as BTypes}
 use Rattle.pict_parse_states.specs.declared.states.State.{State as RState}
 use Rattle.pict_parse_states.specs.declared.states.State.TheVariants.{Need, FreshName, Arguments, HaveChannel, HaveValue, HaveEither, HaveProcess, HaveProcesses, NewKeyword, NewName, LetPattern, DefinitionKeyword, HaveDefinition, TypeKeyword, AliasName, OperatorOpen, OperatorParameters, OperatorClosed, NeedAbstraction, AbstractionOpen, AbstractionPattern, AbstractionParameters, AbstractionResult, NeedPattern, PatternOpen, PatternRec, PatternFolded, HaveBind, HaveAny, AfterBinders, AfterPatterns, PatternName, AfterPatternLabels, PatternLabel, BinderHash, BinderName, NeedKind, KindArguments, KindMark, KindArrow, KindResult, BinderKind, NeedType, TypeOpen, RecKeyword, RecName, RecBody, OperatorArguments, AfterTypeBinders, AfterTypes, TypeName, AfterTypeLabels, TypeLabel, FoldKeyword, FoldBody, AfterArguments, AfterValues, ValueName, AfterLabels, ValueLabel}
 use Rattle.pict_parse_states.specs.declared.states.Fault.{Fault}
@@ -140,6 +140,12 @@ abbrev mutual
   fields_place_of (FRecord o p) = in_record o (values_place_of p)
   fields_place_of (FApply o v p) = in_apply o (val_of v) (place_of p)
 
+abbrev pub RPatternPlace : Type 0
+RPatternPlace = PatternPlaceIn RDeclarationPlace RAbstractionPlace
+
+abbrev pub RFieldPatternsPlace : Type 0
+RFieldPatternsPlace = FieldPatternsPlaceIn RDeclarationPlace RAbstractionPlace
+
 abbrev mutual
   pub pattern_place_of : RPatternPlace → PatternPlace
   pattern_place_of (QLet i p) = in_let_pattern i (declaration_place_of p)
@@ -151,6 +157,12 @@ abbrev mutual
   pub patterns_place_of : RFieldPatternsPlace → FieldPatternsPlace
   patterns_place_of (QRecord o _ p) = in_pattern_record o (pattern_place_of p)
   patterns_place_of (QParams o p) = in_parameters o (abstraction_place_of p.value)
+
+abbrev pub RTypePlace : Type 0
+RTypePlace = TypePlaceIn RPlace RDeclarationPlace RAbstractionPlace RFieldsPlace
+
+abbrev pub RBinderPlace : Type 0
+RBinderPlace = BinderPlaceIn RPlace RDeclarationPlace RAbstractionPlace RFieldsPlace
 
 abbrev mutual
   pub type_place_of : RTypePlace → TypePlace

@@ -8,9 +8,10 @@ mod within;
 
 pub use opened::{after_declaration, of_processes, of_values, parens, put_declaration, then_place};
 pub use places::{
-    AbstractionPlace, Ask, BinderPlace, DeclarationPlace, EitherPlace, FieldPatternsPlace,
-    FieldsPlace, PatternPlace, Place, Prefix, ProcessPlace, ProcessPlaces, Side, TypePlace,
-    ValuePlace, ValuePlaces, Wait,
+    AbstractionPlace, Ask, BinderPlace, BinderPlaceIn, DeclarationPlace, EitherPlace,
+    FieldPatternsPlace, FieldPatternsPlaceIn, FieldsPlace, PatternPlace, PatternPlaceIn, Place,
+    Prefix, ProcessPlace, ProcessPlaces, Side, TypePlace, TypePlaceIn, ValuePlace, ValuePlaces,
+    Wait,
 };
 pub use states::{Fault, State};
 pub use within::is_within;

@@ -149,74 +149,107 @@ pub enum FieldsPlace {
     Apply(Span, Val, Place),
 }
 
-/// Where a pattern stands.
+// The places where a pattern or a type stands have the other places that they stand in as parameters: what such a place
+// reaches is asked where it is used, and only once there, however many of its lines lead to it.
+
+/// Where a pattern stands, over where a declaration and an abstraction stand.
 #[derive(Drop)]
 #[cycle(pat_place)]
-pub enum PatternPlace {
+pub enum PatternPlaceIn<Declaration, Abstraction> {
     /// `val . Pat = Val`
-    Let(Span, DeclarationPlace),
+    Let(Span, Declaration),
     /// `. Pat = Proc`
-    Abstraction(Box<AbstractionPlace>),
+    Abstraction(Box<Abstraction>),
     /// `( rec RType . Pat )`
-    Fold(Span, RType, Box<PatternPlace>),
+    Fold(Span, RType, Box<PatternPlaceIn<Declaration, Abstraction>>),
     /// `TypeBinder* Pat* . Pat Pat* ( Id = Pat )*`
-    Field(Box<FieldPatternsPlace>, Vec<TypeBinder>, Vec<Pat>),
+    Field(Box<FieldPatternsPlaceIn<Declaration, Abstraction>>, Vec<TypeBinder>, Vec<Pat>),
     /// `TypeBinder* Pat* ( Id = Pat )* Id = . Pat ( Id = Pat )*`
-    Label(Box<FieldPatternsPlace>, Vec<TypeBinder>, Vec<Pat>, Vec<LabelledPat>, Id),
+    Label(
+        Box<FieldPatternsPlaceIn<Declaration, Abstraction>>,
+        Vec<TypeBinder>,
+        Vec<Pat>,
+        Vec<LabelledPat>,
+        Id,
+    ),
 }
 
-/// Where the patterns of the fields of a record or of a function stand.
+/// Where the patterns of the fields of a record or of a function stand, over where a declaration and an abstraction stand.
 #[derive(Drop)]
 #[cycle(pat_place)]
-pub enum FieldPatternsPlace {
+pub enum FieldPatternsPlaceIn<Declaration, Abstraction> {
     /// `[ . FieldPats ]`
-    Record(Span, Box<PatternPlace>),
+    Record(Span, Box<PatternPlaceIn<Declaration, Abstraction>>),
     /// `( . FieldPats ) RType = Val`
-    Parameters(Span, Box<AbstractionPlace>),
+    Parameters(Span, Box<Abstraction>),
+}
+
+/// Where a pattern stands.
+pub type PatternPlace = PatternPlaceIn<DeclarationPlace, AbstractionPlace>;
+
+/// Where the patterns of the fields of a record or of a function stand.
+pub type FieldPatternsPlace = FieldPatternsPlaceIn<DeclarationPlace, AbstractionPlace>;
+
+/// Where a type stands, over where a value or a process, a declaration, an abstraction and fields stand.
+#[derive(Drop)]
+#[cycle(type_place)]
+pub enum TypePlaceIn<Phrase, Declaration, Abstraction, Fields> {
+    /// `new Id : . Type`
+    New(Span, Id, Declaration),
+    /// `type Id = . Type`
+    Alias(Span, Id, Declaration),
+    /// `type ( Id Id+ ) = . Type`
+    Operator(Span, Id, Vec<Id>, Declaration),
+    /// `Id : . Type`
+    Bind(Id, Box<PatternPlaceIn<Declaration, Abstraction>>),
+    /// `_ : . Type`
+    Any(Span, Box<PatternPlaceIn<Declaration, Abstraction>>),
+    /// `( FieldPats ) : . Type = Val`
+    Result(Span, FieldPats, Box<Abstraction>),
+    /// `( rec : . Type Pat )`
+    PatternFold(Span, Box<PatternPlaceIn<Declaration, Abstraction>>),
+    /// `( rec : . Type Val )`
+    Fold(Span, Phrase),
+    /// `# Id : Kind < . Type`, `# Id < . Type`
+    Bound(Span, Id, Option<KindTree>, Box<BinderPlaceIn<Phrase, Declaration, Abstraction, Fields>>),
+    /// `^ . Type`, `? . Type`, `! . Type`, `/ . Type`
+    Prefix(Prefix, Span, Box<TypePlaceIn<Phrase, Declaration, Abstraction, Fields>>),
+    /// `[ TypeBinder* Type* . Type Type* ( Id = Type )* ]`
+    Field(
+        Span,
+        Vec<TypeBinder>,
+        Vec<TypeTree>,
+        Box<TypePlaceIn<Phrase, Declaration, Abstraction, Fields>>,
+    ),
+    /// `[ TypeBinder* Type* ( Id = Type )* Id = . Type ( Id = Type )* ]`
+    Label(
+        Span,
+        Vec<TypeBinder>,
+        Vec<TypeTree>,
+        Vec<LabelledType>,
+        Id,
+        Box<TypePlaceIn<Phrase, Declaration, Abstraction, Fields>>,
+    ),
+    /// `( Id Type* . Type Type* )`
+    Apply(Span, Id, Vec<TypeTree>, Box<TypePlaceIn<Phrase, Declaration, Abstraction, Fields>>),
+    /// `( rec Id = . Type )`
+    Rec(Span, Id, Box<TypePlaceIn<Phrase, Declaration, Abstraction, Fields>>),
+    /// `( # Type )* # . Type ( # Type )*`
+    Argument(Box<Fields>, Vec<TypeTree>),
+}
+
+/// Where a type binder stands, over where a value or a process, a declaration, an abstraction and fields stand.
+#[derive(Drop)]
+#[cycle(type_place)]
+pub enum BinderPlaceIn<Phrase, Declaration, Abstraction, Fields> {
+    /// `TypeBinder* . TypeBinder TypeBinder* Pat* ( Id = Pat )*`
+    Patterns(Box<FieldPatternsPlaceIn<Declaration, Abstraction>>, Vec<TypeBinder>),
+    /// `[ TypeBinder* . TypeBinder TypeBinder* Type* ( Id = Type )* ]`
+    Types(Span, Vec<TypeBinder>, Box<TypePlaceIn<Phrase, Declaration, Abstraction, Fields>>),
 }
 
 /// Where a type stands.
-#[derive(Drop)]
-#[cycle(type_place)]
-pub enum TypePlace {
-    /// `new Id : . Type`
-    New(Span, Id, DeclarationPlace),
-    /// `type Id = . Type`
-    Alias(Span, Id, DeclarationPlace),
-    /// `type ( Id Id+ ) = . Type`
-    Operator(Span, Id, Vec<Id>, DeclarationPlace),
-    /// `Id : . Type`
-    Bind(Id, Box<PatternPlace>),
-    /// `_ : . Type`
-    Any(Span, Box<PatternPlace>),
-    /// `( FieldPats ) : . Type = Val`
-    Result(Span, FieldPats, Box<AbstractionPlace>),
-    /// `( rec : . Type Pat )`
-    PatternFold(Span, Box<PatternPlace>),
-    /// `( rec : . Type Val )`
-    Fold(Span, Place),
-    /// `# Id : Kind < . Type`, `# Id < . Type`
-    Bound(Span, Id, Option<KindTree>, Box<BinderPlace>),
-    /// `^ . Type`, `? . Type`, `! . Type`, `/ . Type`
-    Prefix(Prefix, Span, Box<TypePlace>),
-    /// `[ TypeBinder* Type* . Type Type* ( Id = Type )* ]`
-    Field(Span, Vec<TypeBinder>, Vec<TypeTree>, Box<TypePlace>),
-    /// `[ TypeBinder* Type* ( Id = Type )* Id = . Type ( Id = Type )* ]`
-    Label(Span, Vec<TypeBinder>, Vec<TypeTree>, Vec<LabelledType>, Id, Box<TypePlace>),
-    /// `( Id Type* . Type Type* )`
-    Apply(Span, Id, Vec<TypeTree>, Box<TypePlace>),
-    /// `( rec Id = . Type )`
-    Rec(Span, Id, Box<TypePlace>),
-    /// `( # Type )* # . Type ( # Type )*`
-    Argument(Box<FieldsPlace>, Vec<TypeTree>),
-}
+pub type TypePlace = TypePlaceIn<Place, DeclarationPlace, AbstractionPlace, FieldsPlace>;
 
 /// Where a type binder stands.
-#[derive(Drop)]
-#[cycle(type_place)]
-pub enum BinderPlace {
-    /// `TypeBinder* . TypeBinder TypeBinder* Pat* ( Id = Pat )*`
-    Patterns(Box<FieldPatternsPlace>, Vec<TypeBinder>),
-    /// `[ TypeBinder* . TypeBinder TypeBinder* Type* ( Id = Type )* ]`
-    Types(Span, Vec<TypeBinder>, Box<TypePlace>),
-}
+pub type BinderPlace = BinderPlaceIn<Place, DeclarationPlace, AbstractionPlace, FieldsPlace>;
