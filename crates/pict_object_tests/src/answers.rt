@@ -7,10 +7,9 @@
 use pict_object::{DecodeError, EncodeError, decode, encode};
 use pict_syntax::Names;
 use std::alloc::{AllocError, Global};
-use std::process::Abort;
 
 /// Bytes that are tried are fewer.
-pub const MOST: usize = 1000;
+const MOST: usize = 1000;
 
 /// The number that a hexadecimal digit stands for.
 fn digit(byte: u8) -> Option<u8> {
@@ -22,7 +21,7 @@ fn digit(byte: u8) -> Option<u8> {
 }
 
 /// The first bytes, and those that stand in hexadecimal, of which what is no digit is passed over.
-pub fn bytes_of(alloc: Global, start: &[u8], text: &str) -> Result<Vec<u8>, AllocError> {
+fn bytes_of(alloc: Global, start: &[u8], text: &str) -> Result<Vec<u8>, AllocError> {
     let mut bytes = Vec::from_slice(alloc, start)?;
     let mut high: Option<u8> = None;
     for byte in text.as_bytes() {
@@ -63,24 +62,24 @@ fn answer(alloc: Global, bytes: &[u8]) -> &'static str {
     }
 }
 
-/// Tries the rows of a table.
-pub fn try_table(
-    rt: &impl Abort,
-    alloc: Global,
-    start: &[u8],
-    table: &str,
-) -> Result<(), AllocError> {
-    for row in table.lines() {
-        if !row.is_empty() && !row.starts_with("--") {
-            match row.split_once(" | ") {
-                None => panic!(rt; "no row: {row}"),
-                Some((wanted, text)) => {
-                    let bytes = bytes_of(alloc, start, text)?;
-                    let found = answer(alloc, &bytes);
-                    assert!(rt; found == wanted, "{row}: {found}");
-                }
-            }
-        }
+/// Tries a row of a table.
+fn try_row(alloc: Global, start: &[u8], row: &str, wrong: &mut String) -> Result<(), AllocError> {
+    let (wanted, text) = row.split_once(" | ").unwrap_or((row, ""));
+    let bytes = bytes_of(alloc, start, text)?;
+    let found = answer(alloc, &bytes);
+    if found != wanted {
+        wrong.push_str(format!(in alloc; "{row}: {found}\n")?.as_str())?;
     }
     Ok(())
+}
+
+/// The rows of a table whose bytes are something else, each with what they are.
+pub fn wrong_rows(alloc: Global, start: &[u8], table: &str) -> Result<String, AllocError> {
+    let mut wrong = String::new(alloc);
+    for row in table.lines() {
+        if !row.is_empty() && !row.starts_with("--") {
+            try_row(alloc, start, row, &mut wrong)?;
+        }
+    }
+    Ok(wrong)
 }

@@ -1,9 +1,13 @@
 // Labels and their numbers, and objects that are too big.
 
+ghost use Rattle.std.specs.Prelude.{◌<◌, ◌^◌, length};
+ghost use Rattle.pict_core.specs.Plain.{plain_core};
+ghost use Rattle.pict_object.specs.Cores.{IsObjectCore};
+
 use pict_core::{Core, CoreVal};
 use pict_object::{EncodeError, decode, encode};
 use pict_syntax::{Name, Names, Prim};
-use std::test::Fail;
+use std::alloc::Global;
 
 // print!"hello" beside nothing.
 const HELLO: [u8; 24] = [
@@ -37,45 +41,65 @@ fn is_text(value: &CoreVal, text: &[u8]) -> bool {
     }
 }
 
-// The object is too big for a limit of a byte less than it has, and isn't at its own length.
-#[test]
-fn an_object_is_read_and_written(rt: HostRuntime) -> Result<(), Fail> {
-    let alloc = rt.alloc();
-    let mut names = Names::new(alloc);
-    let core = decode(alloc, &mut names, &HELLO)
-        .ok()
-        .ok_or("the bytes are an object")?;
-    assert!(rt; prints_hello(&core));
-    assert!(rt;
-        matches!(
-            encode(alloc, &names, &core, 23),
-            Err(EncodeError::TooBig(24))
-        )
-    );
-    let object = encode(alloc, &names, &core, 24)
-        .ok()
-        .ok_or("the object has 24 bytes")?;
-    assert_eq!(rt; object.as_slice(), HELLO.as_slice());
-    Ok(())
+/// Whether the object of a process has these bytes.
+fn is_object_of(alloc: Global, names: &Names, core: &Core, wanted: &[u8]) -> bool
+    requires core { IsObjectCore names.now (plain_core core.now) }
+    requires short { length wanted.now < 2 ^ 32 }
+{
+    let length = wanted.len() as u64;
+    match encode(alloc, names, core, length) {
+        Ok(object) => object.as_slice() == wanted,
+        Err(_) => false,
+    }
 }
 
-// The names keep what they have, and gain the labels that they lack; and the object of the process is the same, whatever numbers
-// its labels have.
-#[test]
-#[tactic(auto, using(crate::proofs::Few::few_more))]
-fn labels_get_the_numbers_of_names(rt: HostRuntime) -> Result<(), Fail> {
-    let alloc = rt.alloc();
+/// Whether the object of a process is too big for this limit, as it has so many bytes.
+fn is_too_big(alloc: Global, names: &Names, core: &Core, limit: u64, wanted: u64) -> bool
+    requires core { IsObjectCore names.now (plain_core core.now) }
+    requires limit { limit < 2 ^ 32 }
+{
+    match encode(alloc, names, core, limit) {
+        Err(EncodeError::TooBig(length)) => length == wanted,
+        _ => false,
+    }
+}
+
+/// The object is too big for a limit of a byte less than it has, and isn't at its own length.
+fn is_read_and_written(alloc: Global) -> bool {
     let mut names = Names::new(alloc);
-    names.intern(b"b")?;
-    let core = decode(alloc, &mut names, &FIELDS)
-        .ok()
-        .ok_or("the bytes are an object")?;
-    assert_eq!(rt; names.text(Name(0)), b"b".as_slice());
-    assert_eq!(rt; names.text(Name(1)), b"a".as_slice());
-    assert_eq!(rt; names.text(Name(2)), b"".as_slice());
-    let object = encode(alloc, &names, &core, 41)
-        .ok()
-        .ok_or("the object has 41 bytes")?;
-    assert_eq!(rt; object.as_slice(), FIELDS.as_slice());
-    Ok(())
+    match decode(alloc, &mut names, &HELLO) {
+        Ok(core) => {
+            prints_hello(&core)
+                && is_too_big(alloc, &names, &core, 23, 24)
+                && is_object_of(alloc, &names, &core, &HELLO)
+        }
+        Err(_) => false,
+    }
+}
+
+/// Whether names are these, and no other.
+fn are_names(names: &Names, first: &[u8], second: &[u8]) -> bool {
+    names.text(Name(0)) == first
+        && names.text(Name(1)) == second
+        && names.text(Name(2)) == b"".as_slice()
+}
+
+/// The names keep what they have, and gain the labels that they lack; and the object of the process is the same, whatever numbers
+/// its labels have.
+#[tactic(auto, using(crate::proofs::Few::few_more))]
+fn have_numbers_of_names(alloc: Global) -> bool {
+    let mut names = Names::new(alloc);
+    let Ok(_) = names.intern(b"b") else {
+        return false;
+    };
+    match decode(alloc, &mut names, &FIELDS) {
+        Ok(core) => are_names(&names, b"b", b"a") && is_object_of(alloc, &names, &core, &FIELDS),
+        Err(_) => false,
+    }
+}
+
+#[test]
+fn objects_are_read_and_written(rt: HostRuntime) {
+    assert!(rt; is_read_and_written(rt.alloc()));
+    assert!(rt; have_numbers_of_names(rt.alloc()));
 }

@@ -1,6 +1,6 @@
 // Objects and what is nearly one, byte by byte.
 
-use crate::answers::try_table;
+use crate::answers::wrong_rows;
 use std::alloc::AllocError;
 
 /// Whole objects, their heads, and what stands behind them.
@@ -79,6 +79,9 @@ none | 00 00 00 00  03 16 00 17 00 00 00 02 13
 
 #[test]
 fn objects_and_others(rt: HostRuntime) -> Result<(), AllocError> {
-    try_table(&rt, rt.alloc(), b"", WHOLE)?;
-    try_table(&rt, rt.alloc(), b"PICT\x01", BEHIND)
+    let wrong = wrong_rows(rt.alloc(), b"", WHOLE)?;
+    assert!(rt; wrong.is_empty(), "{wrong}");
+    let wrong = wrong_rows(rt.alloc(), b"PICT\x01", BEHIND)?;
+    assert!(rt; wrong.is_empty(), "{wrong}");
+    Ok(())
 }
