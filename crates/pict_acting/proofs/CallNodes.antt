@@ -33,7 +33,10 @@ use Rattle.pict_desk.proofs.Parts.{placed_at}
 use Rattle.pict_desk.proofs.Reckoning.{made_argument, labels_of}
 use Rattle.pict_turns.specs.Turns.{IsNarrow}
 use Rattle.pict_turns.proofs.Making.{part_width_is}
+use Rattle.pict_blocks.specs.Blocks.{IsNodeBlock}
+use Rattle.pict_blocks.specs.Framed.{node_words}
 use Rattle.pict_blocks.specs.Parts.{block_width}
+use Rattle.pict_blocks.proofs.Standing.{narrow_blocks}
 use Rattle.pict_syntax.specs.declared.limits.TheConstants.{NARROW_LIMIT}
 use Rattle.pict_acting.specs.Bounds.{IsWidthIn}
 use Rattle.pict_acting.specs.Chain.{KeepsOtherLevels, AnswersAt, CallsAt}
@@ -57,6 +60,11 @@ narrow_with code is number node low read narrow o e =
 
 pub also_with : (core : Process) (number : ℕ) (o other : Op) → IsNarrowWith core number o → o ≡ other → IsNarrowWith core number other
 also_with core number o other n e = record { narrow = n.narrow; is = n.is ∙ e }
+
+-- the words of a node whose frame stands in a block itself are a block of the node
+pub narrow_block : (core : Process) (h : HeapState) (values : List (ℕ × ℕ)) (number : ℕ) (n : IsNarrow core number)
+    → IsNodeBlock core h values number n.node (node_words values number n.node.frame)
+narrow_block core h values number n = narrow_blocks core h values number n.node n.at n.narrow
 
 -- ---- frames
 

@@ -21,7 +21,7 @@ use Rattle.pict_view.specs.Moved.{Moves}
 use Rattle.pict_view.specs.Placed.{next_view}
 use Rattle.pict_view.specs.View.{View}
 use Rattle.pict_view.proofs.Rows.{primitive_answers}
-use Rattle.pict_blocks.specs.Blocks.{process_of, view_of_contents, IsNodeBlock}
+use Rattle.pict_blocks.specs.Blocks.{process_of, view_of_contents}
 use Rattle.pict_blocks.specs.Framed.{gathered, node_words}
 use Rattle.pict_blocks.specs.Holding.{HoldsFrame}
 use Rattle.pict_blocks.specs.Keeping.{kept_words}
@@ -31,7 +31,6 @@ use Rattle.pict_blocks.proofs.Forking.{parts_fork}
 use Rattle.pict_blocks.proofs.Holding.{narrow_holds, width_narrow}
 use Rattle.pict_blocks.proofs.Meeting.{inputs_stand, outputs_stand, outputs_meet}
 use Rattle.pict_blocks.proofs.Opening.{news_make_channels}
-use Rattle.pict_blocks.proofs.Standing.{narrow_blocks}
 use Rattle.pict_desk.specs.Arguments.{operand_in}
 use Rattle.pict_desk.specs.Known.{pair_at, value_in, known}
 use Rattle.pict_desk.specs.Pairs.{IsPair, ArePairs}
@@ -56,6 +55,7 @@ use Rattle.pict_turns.proofs.Rows.{length_lists, made_block, store_by}
 use Rattle.pict_turns.proofs.Steps.{nothing_past, channel_added}
 use Rattle.pict_turns.proofs.Turns.{frame_is, room_for, view_is}
 use Rattle.pict_turns.proofs.Views.{block_stays, blocks_stay, list_set}
+use Rattle.pict_acting.proofs.CallNodes.{narrow_block}
 use Rattle.pict_acting.specs.Chain.{KeepsOtherLevels, BeginsCall, MakesCall}
 use Rattle.pict_acting.specs.declared.chain.Call.{Call}
 use Rattle.pict_acting.specs.declared.chain.Received.{Received}
@@ -116,9 +116,6 @@ module _ (core : Process) (closed : IsClosed core) (s c n : Store) (number chann
   abbrev words : List (ℕ × ℕ) → (number : ℕ) → IsNarrow core number → List ℕ
   words values number n = node_words values number n.node.frame
 
-  block : (values : List (ℕ × ℕ)) (number : ℕ) (n : IsNarrow core number) → IsNodeBlock core h values number n.node (words values number n)
-  block values number n = narrow_blocks core h values number n.node n.at n.narrow
-
   abbrev begin_words : List ℕ
   begin_words = words v0 number b.opens.narrow
 
@@ -150,13 +147,13 @@ module _ (core : Process) (closed : IsClosed core) (s c n : Store) (number chann
   opens : BlocksStep core h (begin_words ∷ []) (channel_lists q0) Quiet (both_words ∷ []) (channel_lists q1)
   opens =
       subst (λ (lists : List (List (List ℕ))). BlocksStep core h (begin_words ∷ []) (channel_lists q0) Quiet (both_words ∷ []) lists) (sym (channel_added q0 q1 added.contents more store.ready))
-      (news_make_channels core h v0 v1 number call.level b.both b.opens.narrow.node b.forks.narrow.node begin_words both_words (block v0 number b.opens.narrow) b.opens.is (block v1 b.both b.forks.narrow)
+      (news_make_channels core h v0 v1 number call.level b.both b.opens.narrow.node b.forks.narrow.node begin_words both_words (narrow_block core h v0 number b.opens.narrow) b.opens.is (narrow_block core h v1 b.both b.forks.narrow)
       [] (channel_lists q0) (λ k low. levels k (λ e. omega (arith, e, low))) (here ∙ ap Chan lists_count))
 
   forks : BlocksStep core h (both_words ∷ []) (channel_lists q1) Quiet (reader_words ∷ output_words ∷ []) (channel_lists q1)
   forks =
-      parts_fork core h v1 b.both call.reader b.output b.forks.narrow.node b.waits.narrow.node b.sends.narrow.node both_words reader_words output_words (block v1 b.both b.forks.narrow) b.forks.is
-      (block v1 call.reader b.waits.narrow) (block v1 b.output b.sends.narrow) [] (channel_lists q1)
+      parts_fork core h v1 b.both call.reader b.output b.forks.narrow.node b.waits.narrow.node b.sends.narrow.node both_words reader_words output_words (narrow_block core h v1 b.both b.forks.narrow) b.forks.is
+      (narrow_block core h v1 call.reader b.waits.narrow) (narrow_block core h v1 b.output b.sends.narrow) [] (channel_lists q1)
 
   -- ---- the reader waits alone at the channel
 
@@ -170,7 +167,7 @@ module _ (core : Process) (closed : IsClosed core) (s c n : Store) (number chann
   alone = pushed ∙ ap (λ (ws : List (List ℕ)). ws ++ reader_words ∷ []) nothing
 
   stands : (body : Process) × (process_of core (value_in h) reader_words ≡ In (known h v1 call.level) true (unleveled (Bind call.bound)) body)
-  stands = inputs_stand core h v1 call.reader call.part true (Var call.level) (Bind call.bound) b.waits.narrow.node reader_words closed (block v1 call.reader b.waits.narrow) b.waits.is
+  stands = inputs_stand core h v1 call.reader call.part true (Var call.level) (Bind call.bound) b.waits.narrow.node reader_words closed (narrow_block core h v1 call.reader b.waits.narrow) b.waits.is
 
   reads : process_of core (value_in h) reader_words ≡ In (Chan channel) true (unleveled (Bind call.bound)) stands.0
   reads = stands.1 ∙ ap (λ (v : Val). In v true (unleveled (Bind call.bound)) stands.0) here
@@ -196,7 +193,7 @@ module _ (core : Process) (closed : IsClosed core) (s c n : Store) (number chann
   answers =
       primitive_answers (List ℕ) (process_of core (value_in h)) output_words [] (channel_lists q2) b.answer.primitive (operand_in h v1 b.answer.message) b.answer.at
       (record { printed = None; leaves = Answer (known h v1 call.level) (value_of h call.answer) })
-      (outputs_stand core h v1 b.output (PrimitiveVal b.answer.primitive) b.answer.message b.answer.at b.sends.narrow.node output_words closed (block v1 b.output b.sends.narrow) (b.sends.is ∙ b.answer.is))
+      (outputs_stand core h v1 b.output (PrimitiveVal b.answer.primitive) b.answer.message b.answer.at b.sends.narrow.node output_words closed (narrow_block core h v1 b.output b.sends.narrow) (b.sends.is ∙ b.answer.is))
       (b.answer.effect v1 levels) (known h v1 call.level) (value_of h call.answer) answer_words refl (ap (λ (v : Val). Out (known h v1 call.level) v b.answer.at) is_answer)
 
   unset : slice_set (channel_lists q2) channel (reader_words ∷ []) ≡ channel_lists q2
@@ -208,7 +205,7 @@ module _ (core : Process) (closed : IsClosed core) (s c n : Store) (number chann
   receives =
       subst (λ (lists : List (List (List ℕ))). BlocksStep core h (answer_words ∷ []) (channel_lists q2) (Comm channel received) (part_words ∷ []) lists) unset
       (outputs_meet core h v1 v2 channel received b.answer.at answer_words call.reader call.part true (Var call.level) (Bind call.bound) b.waits.narrow.node b.part.node reader_words part_words [] closed
-      (ap (λ (v : Val). Out v received b.answer.at) here) (block v1 call.reader b.waits.narrow) b.waits.is (bound_here h v1 call.bound value inside) (block v2 call.part b.part) [] (channel_lists q2)
+      (ap (λ (v : Val). Out v received b.answer.at) here) (narrow_block core h v1 call.reader b.waits.narrow) b.waits.is (bound_here h v1 call.bound value inside) (narrow_block core h v2 call.part b.part) [] (channel_lists q2)
       (channel_there q2 channel (omega (arith, many, more, count)) ∙ ap Some alone))
 
   -- ---- the store that is left

@@ -1,5 +1,5 @@
 -- The three steps of a reader that waits at a new channel: on the words of blocks, and in the store that is left.
-use Rattle.std.proofs.Common.{ℕ, ◌+◌, ◌-◌, ◌≡◌, ◌≢◌, List, [], ◌∷◌, ◌++◌, length, sym, ap, ◌∙◌, subst, arith, ⊎_elim}
+use Rattle.std.proofs.Common.{ℕ, ◌+◌, ◌-◌, ◌≡◌, ◌≢◌, List, [], ◌∷◌, ◌++◌, length, refl, sym, ap, ◌∙◌, subst, arith, ⊎_elim}
 use Rattle.std.proofs.lemmas.Bool.{cases_eq}
 use Rattle.std.specs.List.{AllByRecursion, slice_set}
 use Rattle.pict_core.specs.Closed.{IsClosed}
@@ -15,14 +15,13 @@ use Rattle.pict_queue.specs.Contents.{contents}
 use Rattle.pict_view.specs.Moved.{Moves}
 use Rattle.pict_view.specs.Placed.{next_view}
 use Rattle.pict_view.specs.View.{View}
-use Rattle.pict_blocks.specs.Blocks.{process_of, view_of_contents, IsNodeBlock}
+use Rattle.pict_blocks.specs.Blocks.{process_of, view_of_contents}
 use Rattle.pict_blocks.specs.Framed.{gathered, node_words}
 use Rattle.pict_blocks.specs.Laws.{BlocksStep}
 use Rattle.pict_blocks.proofs.Forking.{parts_fork}
 use Rattle.pict_blocks.proofs.Holding.{narrow_holds}
 use Rattle.pict_blocks.proofs.Meeting.{inputs_stand}
 use Rattle.pict_blocks.proofs.Opening.{news_make_channels}
-use Rattle.pict_blocks.proofs.Standing.{narrow_blocks}
 use Rattle.pict_desk.specs.Known.{value_in, known}
 use Rattle.pict_desk.specs.Pairs.{ArePairs}
 use Rattle.pict_desk.proofs.Making.{keeps_all, keeps_more}
@@ -43,6 +42,7 @@ use Rattle.pict_turns.proofs.Rows.{length_lists, channels_stay, made_block, stor
 use Rattle.pict_turns.proofs.Steps.{nothing_past, channel_added}
 use Rattle.pict_turns.proofs.Turns.{frame_is, view_is}
 use Rattle.pict_turns.proofs.Views.{blocks_stay, list_set}
+use Rattle.pict_acting.proofs.CallNodes.{narrow_block}
 use Rattle.pict_acting.specs.Opening.{OpensFor, WaitsFor, PutsLast, MakesWait}
 use Rattle.pict_acting.specs.declared.opening.Opening.{Opening}
 
@@ -101,9 +101,6 @@ module _ (core : Process) (closed : IsClosed core) (s c m n : Store) (number cha
   abbrev words : List (ℕ × ℕ) → (number : ℕ) → IsNarrow core number → List ℕ
   words values number n = node_words values number n.node.frame
 
-  block : (values : List (ℕ × ℕ)) (number : ℕ) (n : IsNarrow core number) → IsNodeBlock core h values number n.node (words values number n)
-  block values number n = narrow_blocks core h values number n.node n.at n.narrow
-
   abbrev begin_words : List ℕ
   begin_words = words v0 number o.opens.narrow
 
@@ -125,13 +122,13 @@ module _ (core : Process) (closed : IsClosed core) (s c m n : Store) (number cha
   opens : BlocksStep core h (begin_words ∷ ready) (channel_lists q0) Quiet (both_words ∷ ready) (channel_lists q1)
   opens =
       subst (λ (lists : List (List (List ℕ))). BlocksStep core h (begin_words ∷ ready) (channel_lists q0) Quiet (both_words ∷ ready) lists) (sym (channel_added q0 q1 added.contents more store.ready))
-      (news_make_channels core h v0 v1 number opening.level o.both o.opens.narrow.node o.forks.narrow.node begin_words both_words (block v0 number o.opens.narrow) o.opens.is (block v1 o.both o.forks.narrow)
+      (news_make_channels core h v0 v1 number opening.level o.both o.opens.narrow.node o.forks.narrow.node begin_words both_words (narrow_block core h v0 number o.opens.narrow) o.opens.is (narrow_block core h v1 o.both o.forks.narrow)
       ready (channel_lists q0) (λ k low. added.others k (λ e. omega (arith, e, low))) (here ∙ ap Chan lists_count))
 
   forks : BlocksStep core h (both_words ∷ ready) (channel_lists q1) Quiet (reader_words ∷ (ready ++ other_words ∷ [])) (channel_lists q1)
   forks =
-      parts_fork core h v1 o.both opening.left opening.right o.forks.narrow.node w.waits.narrow.node w.other.node both_words reader_words other_words (block v1 o.both o.forks.narrow) o.forks.is
-      (block v1 opening.left w.waits.narrow) (block v1 opening.right w.other) ready (channel_lists q1)
+      parts_fork core h v1 o.both opening.left opening.right o.forks.narrow.node w.waits.narrow.node w.other.node both_words reader_words other_words (narrow_block core h v1 o.both o.forks.narrow) o.forks.is
+      (narrow_block core h v1 opening.left w.waits.narrow) (narrow_block core h v1 opening.right w.other) ready (channel_lists q1)
 
   -- ---- the reader waits alone at the channel
 
@@ -146,7 +143,7 @@ module _ (core : Process) (closed : IsClosed core) (s c m n : Store) (number cha
 
   stands : (body : Process) × (process_of core (value_in h) reader_words ≡ In (known h v1 opening.level) w.reads.replicated (unleveled w.reads.pattern) body)
   stands =
-      inputs_stand core h v1 opening.left w.reads.part w.reads.replicated (Var opening.level) w.reads.pattern w.waits.narrow.node reader_words closed (block v1 opening.left w.waits.narrow)
+      inputs_stand core h v1 opening.left w.reads.part w.reads.replicated (Var opening.level) w.reads.pattern w.waits.narrow.node reader_words closed (narrow_block core h v1 opening.left w.waits.narrow)
       (w.waits.is ∙ w.reads.is)
 
   reads : process_of core (value_in h) reader_words ≡ In (Chan channel) w.reads.replicated (unleveled w.reads.pattern) stands.0
@@ -244,6 +241,7 @@ module _ (core : Process) (closed : IsClosed core) (s c m n : Store) (number cha
     opens = ap next_view view_before ∙ opens;
     forks = forks;
     waits = waits ∙ ap (λ (v : View). Moves v Quiet) (sym view_left);
+    nobody = refl;
     store = store_left;
     keeps = keeps;
     levels = levels_left;
@@ -263,6 +261,7 @@ wait_after core old s n only m =
       opens = sym (ap next_view (view_still core old s only)) ∙ m.opens;
       forks = m.forks;
       waits = m.waits;
+      nobody = m.nobody;
       store = m.store;
       keeps = keeps_more old.desk.heap s.desk.heap n.desk.heap first m.keeps;
       levels = m.levels ∙ ap length only.values;

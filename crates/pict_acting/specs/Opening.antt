@@ -52,6 +52,12 @@ pub record WaitsFor (core : Process) (opening : Opening) : Type 0 where
   pub reads : ReadsAt op opening.level
   pub other : IsNarrow core opening.right
 
+-- Who has the turn makes a channel for two parts, and the left one waits there.
+pub record BeginsWait (core : Process) (s : Store) : Type 0 where
+  pub opening : Opening
+  pub begins : BeginsOpening core s opening
+  pub waits : WaitsFor core opening
+
 -- The last of the queue has these words of a node now: with this number, and the values of its frame's levels. A free block was taken.
 -- Nothing else has changed but work.
 pub record PutsLast (old new : Store) (queue number : ℕ) (frame : List ℕ) : Type 0 where
@@ -66,13 +72,14 @@ pub record PutsLast (old new : Store) (queue number : ℕ) (frame : List ℕ) : 
   pub desk : new.desk ≡ old.desk
   pub turn : new.turn ≡ old.turn
 
--- The three steps are made, and none shows anything.
+-- The three steps are made, and none shows anything. Nobody has the turn then.
 pub record MakesWait (core : Process) (old new : Store) : Type 0 where
   pub opened : View
   pub forked : View
   pub opens : next_view (view_with_turn core old) ≡ Moves opened Quiet
   pub forks : next_view opened ≡ Moves forked Quiet
   pub waits : next_view forked ≡ Moves (view_with_turn core new) Quiet
+  pub nobody : new.turn ≡ turn.Nobody
   pub store : IsStore core new
   pub keeps : KeepsWords old.desk.heap new.desk.heap
   pub levels : length new.desk.values.items ≡ length old.desk.values.items

@@ -43,8 +43,8 @@ pub fn act<C>(
 
 /// The step of who has the turn, where `passes` says whether communications are passed over.
 ///
-/// All is as `act` says, but that where they are passed over the event of a communication may be that of a quiet step: then a record
-/// was received whose word wasn't made.
+/// All is as `act` says, but that where they are passed over the event of a communication may be that of a quiet step: then no word of
+/// what was received need have been made.
 pub fn act_or_pass<C>(
     code: &[Node],
     constants: &[Option<Word>],

@@ -21,8 +21,9 @@ ghost use Rattle.pict_acting.specs.Bounds.{greatest_cost, half_cost, MakesFew};
 ghost use Rattle.pict_acting.specs.Chain.{KeepsOtherLevels, AnswersAt, CallsAt, BeginsCall, MakesCall};
 ghost use Rattle.pict_acting.specs.Opening.{BeginsOpening, OpensFor};
 
-use crate::opening::{Opening, add_channel, is_level, make_room, narrow_op, opening_at_turn};
-use pict_blocks::block_of;
+use crate::opening::{
+    Opening, add_channel, is_level, make_room, narrow_op, opening_at_turn, put_last,
+};
 use pict_code::{CodePat, Node, Op, Operand};
 use pict_core::CoreVal;
 use pict_desk::number_at_hand;
@@ -168,15 +169,7 @@ fn make_call(code: &[Node], store: &mut Store, call: Call) -> Result<Received, A
     let frame = frame_at(code, call.part as usize);
     make_room(store, own, frame)?;
     let channel = add_channel(store, call.level);
-    let block = block_of(
-        &mut store.queues,
-        call.reader as usize,
-        own,
-        &store.desk.values,
-    );
-    store
-        .queues
-        .push_back(QueueId(u64::from(channel) + 1), block);
+    put_last(store, u64::from(channel) + 1, call.reader, own);
     let value = pack(call.answer);
     store.desk.values[call.bound as usize] = value;
     store.turn.set(Turn::Node(call.part as usize));
@@ -215,8 +208,8 @@ pub(crate) fn call_from(
     }
 }
 
-/// The five steps of a call that who has the turn begins, where nobody else is ready and so many steps may be made; or None where it
-/// isn't so, and then nothing has changed.
+/// The five steps of a call that who has the turn begins, where nobody else is ready and so many steps may be made; or None, and then
+/// nothing has changed and its steps are to be made one by one. Of when None comes nothing is said.
 ///
 /// A channel is made, a replicated reader waits there, a primitive answers there, and the reader receives what is returned: the first
 /// four steps show nothing, and the fifth this communication. An error, which is want of memory, changes nothing but room. The five

@@ -1,5 +1,5 @@
-// A channel that a node makes for two parts: two steps in one go, and a third where the left part waits there.
-ghost use Rattle.std.specs.Prelude.{◌≡◌, ◌<◌, ◌≤◌, ◌+◌, ◌^◌, ◌*◌, ◌∷◌, ◌↔◌, [], ℕ, All, length, map, true, false, IfSome, IsTrue, OnErr, OnOk, Ok};
+// A channel that a node makes for two parts, of which the left one waits there: three steps in one go.
+ghost use Rattle.std.specs.Prelude.{◌≡◌, ◌<◌, ◌≤◌, ◌+◌, ◌^◌, ◌*◌, ◌∷◌, ◌↔◌, [], ℕ, All, length, map, true, false, IfSome, IsSome, IsTrue, OnErr, OnOk, Ok, Some};
 ghost use Rattle.pict_syntax.specs.declared.limits.TheConstants.{NARROW_LIMIT};
 ghost use Rattle.pict_core.specs.Plain.{plain_val};
 ghost use Rattle.pict_core.specs.Term.{Var};
@@ -16,6 +16,7 @@ ghost use Rattle.pict_turns.specs.Channels.{AddsChannel};
 ghost use Rattle.pict_turns.specs.Reserving.{OnlyReserves};
 ghost use Rattle.pict_turns.specs.Turns.{IsNarrow};
 ghost use Rattle.pict_turns.specs.Widths.{MakesOnly};
+ghost use Rattle.pict_acting.specs.declared.opening.Opening.{Opening as AnyOpening};
 ghost use Rattle.pict_acting.specs.Bounds.{half_cost, MakesFew};
 ghost use Rattle.pict_acting.specs.Opening.{IsNarrowWith, OpensFor, BeginsOpening, ReadsAt, WaitsFor, PutsLast, MakesWait};
 
@@ -52,7 +53,8 @@ pub(crate) fn is_level(operand: &Operand, level: u32) -> bool
 // The level and the part of an instruction that makes a channel.
 #[inline(always)]
 fn opened(instruction: &Op) -> Option<(u32, u32)>
-    ensures { IfSome result (λ r. plain_op instruction.now ≡ op.New r.0 r.1) }
+    ensures is { IfSome result (λ r. plain_op instruction.now ≡ op.New r.0 r.1) }
+    ensures some { (level part : ℕ) → plain_op instruction.now ≡ op.New level part → result ≡ Some (level, part) }
 {
     match instruction {
         Op::New(level, part) => Some((*level, *part)),
@@ -63,7 +65,8 @@ fn opened(instruction: &Op) -> Option<(u32, u32)>
 // The parts of a parallel composition.
 #[inline(always)]
 fn forked(instruction: &Op) -> Option<(u32, u32)>
-    ensures { IfSome result (λ r. plain_op instruction.now ≡ op.Par r.0 r.1) }
+    ensures is { IfSome result (λ r. plain_op instruction.now ≡ op.Par r.0 r.1) }
+    ensures some { (left right : ℕ) → plain_op instruction.now ≡ op.Par left right → result ≡ Some (left, right) }
 {
     match instruction {
         Op::Par(left, right) => Some((*left, *right)),
@@ -74,7 +77,7 @@ fn forked(instruction: &Op) -> Option<(u32, u32)>
 // Whether the instruction is an input from this level.
 #[inline(always)]
 fn reads_at(instruction: &Op, level: u32) -> bool
-    ensures { IsTrue result → ReadsAt (plain_op instruction.now) level }
+    ensures { IsTrue result ↔ ReadsAt (plain_op instruction.now) level }
 {
     match instruction {
         Op::In(chan, _, _) | Op::Serve(chan, _, _) => is_level(chan, level),
@@ -87,7 +90,8 @@ fn reads_at(instruction: &Op, level: u32) -> bool
 pub(crate) fn narrow_op(code: &[Node], number: u32) -> Option<&Op>
     requires code { IsCode (map plain_node code.now) }
     requires inside { number < length code.now }
-    ensures { IfSome result (λ instruction. IsNarrowWith (core_in code.now) number (plain_op instruction.now)) }
+    ensures is { IfSome result (λ instruction. IsNarrowWith (core_in code.now) number (plain_op instruction.now)) }
+    ensures some { IsNarrow (core_in code.now) number → IsSome result }
 {
     if frame_at(code, number as usize).len() <= NARROW_LIMIT as usize {
         Some(&code[number as usize].op)
@@ -101,7 +105,8 @@ pub(crate) fn narrow_op(code: &[Node], number: u32) -> Option<&Op>
 fn opening_of(code: &[Node], number: usize) -> Option<Opening>
     requires code { IsCode (map plain_node code.now) }
     requires narrow { IsNarrow (core_in code.now) number }
-    ensures { IfSome result (OpensFor (core_in code.now) number) }
+    ensures is { IfSome result (OpensFor (core_in code.now) number) }
+    ensures some { (opening : AnyOpening) → OpensFor (core_in code.now) number opening → result ≡ Some opening }
 {
     let (level, both) = opened(&code[number].op)?;
     let (left, right) = forked(narrow_op(code, both)?)?;
@@ -113,7 +118,8 @@ fn opening_of(code: &[Node], number: usize) -> Option<Opening>
 pub(crate) fn opening_at_turn(code: &[Node], store: &Store) -> Option<Opening>
     requires code { IsCode (map plain_node code.now) }
     requires store { IsStore (core_in code.now) store.now }
-    ensures { IfSome result (BeginsOpening (core_in code.now) store.now) }
+    ensures is { IfSome result (BeginsOpening (core_in code.now) store.now) }
+    ensures some { (opening : AnyOpening) → BeginsOpening (core_in code.now) store.now opening → result ≡ Some opening }
 {
     match store.turn.get() {
         Turn::Node(number) => opening_of(code, number),
@@ -178,7 +184,7 @@ pub(crate) fn put_last(store: &mut Store, queue: u64, number: u32, frame: &[u32]
 fn waits_for(code: &[Node], opening: Opening) -> bool
     requires code { IsCode (map plain_node code.now) }
     requires opens { (number : ℕ) × OpensFor (core_in code.now) number opening }
-    ensures { IsTrue result → WaitsFor (core_in code.now) opening }
+    ensures { IsTrue result ↔ WaitsFor (core_in code.now) opening }
 {
     match narrow_op(code, opening.left) {
         Some(instruction) => {
@@ -228,6 +234,7 @@ pub(crate) fn wait_from(
     requires few { length store.old.queues.queues < 2 ^ 32 }
     ensures made { result ≡ Ok true → (3 ≤ most) × MakesWait (core_in code.now) store.old store.new }
     ensures none { result ≡ Ok false → store.new ≡ store.old }
+    ensures misses { result ≡ Ok false → 3 ≤ most → WaitsFor (core_in code.now) opening → ⊥ }
     ensures refused { OnErr result (OnlyReserves store.old store.new) }
     ensures blocks { MakesFew (core_in code.now) 1 store.old.queues store.new.queues }
     ensures cost { CostsAtMost (half_cost (core_in code.now)) store.old.queues store.new.queues }

@@ -1,7 +1,6 @@
 -- What a machine stands for before its first step.
-use Rattle.std.proofs.Common.{ℕ, ◌+◌, ◌-◌, ◌≤◌, ◌≡◌, ◌≢◌, false, cond, nat_lt, inl, List, [], ◌∷◌, length, replicate, refl, sym, ap, ◌∙◌, subst, arith, Option, Some, None, IsSome, ⊎_elim}
-use Rattle.std.proofs.lemmas.Bool.{cases_eq, false≢true}
-use Rattle.std.proofs.lemmas.Option.{none-some}
+use Rattle.std.proofs.Common.{ℕ, ◌+◌, ◌-◌, ◌≤◌, ◌≡◌, ◌≢◌, false, cond, nat_lt, inl, List, [], ◌∷◌, length, replicate, refl, sym, ap, ◌∙◌, subst, arith, Some, ⊎_elim}
+use Rattle.std.proofs.lemmas.Bool.{cases_eq}
 use Rattle.std.proofs.lemmas.List.{length-replicate}
 use Rattle.std.proofs.lemmas.Bool.Decides.{nat_tests}
 use Rattle.std.specs.List.{AllByRecursion, slice_get}
@@ -21,6 +20,7 @@ use Rattle.pict_heap.specs.HeapState.{HeapState}
 use Rattle.std.specs.FinMap.{FinMap, get, empty, get-empty}
 use Rattle.std.specs.Ordering.{nat_cmp}
 use Rattle.pict_region.specs.RegionState.{RegionState, IsLive}
+use Rattle.pict_region.proofs.Uses.{none_live as none_there}
 use Rattle.pict_blocks.specs.Blocks.{node_process, process_of, view_of_contents}
 use Rattle.pict_desk.proofs.Pairs.{zeros_are_pairs}
 use Rattle.pict_view.specs.View.{StandsFor, KeepsApart}
@@ -102,13 +102,9 @@ module _ (core : Process) (h : HeapState) where
 
 -- ---- no block
 
-no_some : (o : Option (List ℕ)) → o ≡ None → ¬ IsSome o
-no_some None e some = false≢true some
-no_some (Some ws) e some = none-some ws (sym e)
-
 -- a region without live blocks has none
 pub none_live : (r : RegionState) → r.live ≡ empty → (block : ℕ) → ¬ IsLive r block
-none_live r none block = no_some (get r.live block) (ap (λ (m : FinMap nat_cmp (List ℕ)). get m block) none ∙ get-empty nat_cmp block)
+none_live r none block = none_there (get r.live block) (ap (λ (m : FinMap nat_cmp (List ℕ)). get m block) none ∙ get-empty nat_cmp block)
 
 -- ---- the store
 

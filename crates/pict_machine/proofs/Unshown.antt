@@ -17,10 +17,10 @@ use Rattle.pict_turns.specs.declared.event.Shown.{Shown}
 use Rattle.pict_turns.proofs.Given.{given_view, step_of}
 use Rattle.pict_meetings.specs.PassedOver.{PassesOver, IsStepOrPassed}
 use Rattle.pict_machine.specs.Going.{GoesPast, ShowsOrPasses}
-use Rattle.pict_machine.specs.Machine.{core_in, running_view, heap_of, channels_of, IsRunning}
+use Rattle.pict_machine.specs.Machine.{core_in, running_view, heap_of, IsRunning}
 use Rattle.pict_machine.specs.declared.machine.Machine.{Machine}
 use Rattle.pict_machine.proofs.Going.{label_past}
-use Rattle.pict_machine.proofs.Steps.{none_held, still_constant, from_old, grown, done_event, grown_queues, step_kept, step_refused, step_keeps, step_few, step_queues}
+use Rattle.pict_machine.proofs.Steps.{none_held, still_constant, from_old, done_event, grown_queues, step_kept, step_refused, step_queues}
 
 module _ (old : Machine) (taken new : Store) (given : GivesTurn (core_in old) old.store taken) (kept : IsRunning old) (passes : Bool) (r : Result Shown AllocError) where
   abbrev after : Machine
@@ -57,12 +57,6 @@ module _ (old : Machine) (taken new : Store) (given : GivesTurn (core_in old) ol
 
   pub over_refused : IsStepOrPassed passes (core_in old) taken new r → OnErr r (running_view after ≡ running_view old)
   over_refused = ⊎_elim (step_refused old taken new given kept r) (λ p. subst (λ (x : Result Shown AllocError). OnErr x (running_view after ≡ running_view old)) (sym p.shows) tt)
-
-  pub over_keeps : IsStepOrPassed passes (core_in old) taken new r → KeepsWords (heap_of old) new.desk.heap
-  over_keeps = ⊎_elim (step_keeps old taken new given kept r) passed_keeps
-
-  pub over_few : IsStepOrPassed passes (core_in old) taken new r → channels_of after ≤ channels_of old + 1
-  over_few = ⊎_elim (step_few old taken new given kept r) (λ p. grown old taken new given kept p.done.queues)
 
   pub over_queues : IsStepOrPassed passes (core_in old) taken new r → LosesNoQueue old.store.queues new.queues
   over_queues = ⊎_elim (step_queues old taken new given kept r) (λ p. grown_queues old taken new given kept p.done.no_loss)

@@ -20,7 +20,7 @@ narrow_op-requires-2-clause-inside c =
     let core = core_in code in
     let opening = c.args.opening in
     let pattern = op.Bind c.in_ok-bound.bound in
-    let waits = also_with core opening.left _ (op.Serve (Var opening.level) pattern c.in_ok-bound.part) c.in_ok-narrow_op.ensures c.in_ok-bound.ensures in
+    let waits = also_with core opening.left _ (op.Serve (Var opening.level) pattern c.in_ok-bound.part) c.in_ok-narrow_op.ensures.is c.in_ok-bound.ensures in
     in_code code c.requires.code c.in_ok-bound.part
     (part_inside core pattern c.in_ok-bound.part (has_part core opening.left c.in_ok-bound.part waits.narrow.node true (Var opening.level) pattern waits.narrow.at waits.is))
 
@@ -32,7 +32,7 @@ narrow_op-requires-3-clause-inside c =
 
 pub called_at-requires-clause-over : goal.called_at-requires-clause-over
 called_at-requires-clause-over c chan message at is =
-    let sends = c.in_ok-narrow_op-3.ensures in
+    let sends = c.in_ok-narrow_op-3.ensures.is in
     message_over (core_in c.args.code.now) c.args.opening.right sends.narrow.node sends.narrow.at c.requires.code.closed (length c.args.values.now) c.requires.levels chan message at (sends.is ∙ is)
 
 pub returns : goal.returns
@@ -45,8 +45,8 @@ returns c number o h pairs =
       op = plain_op c.in_ok-narrow_op-3.field-0.now;
       opens = o.opens;
       forks = o.forks;
-      waits = also_with core opening.left _ (op.Serve (Var opening.level) (op.Bind c.in_ok-bound.bound) c.in_ok-bound.part) c.in_ok-narrow_op.ensures c.in_ok-bound.ensures;
-      sends = c.in_ok-narrow_op-3.ensures;
+      waits = also_with core opening.left _ (op.Serve (Var opening.level) (op.Bind c.in_ok-bound.bound) c.in_ok-bound.part) c.in_ok-narrow_op.ensures.is c.in_ok-bound.ensures;
+      sends = c.in_ok-narrow_op-3.ensures.is;
       answer = c.in_ok-answer.ensures h pairs;
-      part = c.in_ok-narrow_op-2.ensures.narrow;
+      part = c.in_ok-narrow_op-2.ensures.is.narrow;
     }

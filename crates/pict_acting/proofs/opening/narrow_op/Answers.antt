@@ -7,8 +7,8 @@ use Rattle.pict_desk.proofs.Numbered.{coded_frame}
 use Rattle.pict_acting.proofs.CallNodes.{node_there}
 use Rattle.pict_acting.proofs.opening.narrow_op.Goals as goal
 
-pub returns-then-frame_at : goal.returns-then-frame_at
-returns-then-frame_at c =
+pub returns-then-frame_at-clause-is : goal.returns-then-frame_at-clause-is
+returns-then-frame_at-clause-is c =
     let code = c.args.code.now in
     let node = c.index-code-number.result in
     let f = coded_frame code c.requires.code c.args.number c.frame_at.result.now c.frame_at.ensures in
