@@ -151,7 +151,7 @@ one_past p n h e v w u go past step =
 
 -- ---- where a run stops
 
-not_true : (b : Bool) → b ≡ false → IsTrue b → ⊥
+pub not_true : (b : Bool) → b ≡ false → IsTrue b → ⊥
 not_true b e t = cc
 
 -- steps that show nothing are passed over, whatever else is
@@ -217,15 +217,15 @@ module _ (p : Bool) (f : List ℕ → ℕ → Label → List ℕ) (passes : IsTr
   pub stood_between : Stood n C (running_view old) (Saw f before after) → Stood (n + passed) C gone.between (Saw f before after)
   stood_between s = stood_past p f passes n passed C (running_view old) gone.between before after gone.past s
 
-  then_of : (s : Result (Option Shown) AllocError) → r ≡ s → ThenComes gone.between new most passed s
-  then_of s same = subst (ThenComes gone.between new most passed) same gone.then
+  then_of : (s : Result (Option Shown) AllocError) → r ≡ s → ThenComes p gone.between new most passed s
+  then_of s same = subst (ThenComes p gone.between new most passed) same gone.then
 
   -- a further step
   pub further : (e : Shown) → r ≡ Ok (Some e) → n + passed < fuel
   further e same = let lt = (then_of (Ok (Some e)) same).0 in omega (arith, lt, all)
 
   pub event_of : (e : Shown) → r ≡ Ok (Some e) → HasEvent gone.between new e
-  event_of e same = (then_of (Ok (Some e)) same).1
+  event_of e same = (then_of (Ok (Some e)) same).2
 
   -- no further one
   pub rests : (steps : ℕ) (e : End) → r ≡ Ok None → steps ≡ n + passed → StopsAs (running_view new) e

@@ -47,19 +47,19 @@ pub record HasEvent (v : View) (new : Machine) (e : Shown) : Type 0 where
 abbrev pub ShowsOrPasses : Bool → View → Machine → Shown → Type 0
 ShowsOrPasses passes v new e = HasEvent v new e ⊎ ((e ≡ shows.Quiet) × GoesPast passes 1 v (running_view new))
 
--- What comes after the steps that are passed over, which led to this view. A further step has this event. Or there is none, since
--- as many are made as may be, or nobody is next. Or memory is wanting for it.
-abbrev pub ThenComes : View → Machine → ℕ → ℕ → Result (Option Shown) AllocError → Type 0
-ThenComes v new most passed (Ok (Some e)) = (passed < most) × HasEvent v new e
-ThenComes v new most passed (Ok None) = (running_view new ≡ v) × ((passed ≡ most) ⊎ (v.ready ≡ []))
-ThenComes v new most passed (Err error) = (passed < most) × (running_view new ≡ v)
+-- What comes after the steps that are passed over, which led to this view. A further step has this event, which isn't passed over. Or
+-- there is none, since as many are made as may be, or nobody is next. Or memory is wanting for it.
+abbrev pub ThenComes : Bool → View → Machine → ℕ → ℕ → Result (Option Shown) AllocError → Type 0
+ThenComes passes v new most passed (Ok (Some e)) = (passed < most) × (¬ IsPassed passes e) × HasEvent v new e
+ThenComes passes v new most passed (Ok None) = (running_view new ≡ v) × ((passed ≡ most) ⊎ (v.ready ≡ []))
+ThenComes passes v new most passed (Err error) = (passed < most) × (running_view new ≡ v)
 
 -- At most so many steps are made: these many are passed over, and this comes then.
 pub record GoesOn (passes : Bool) (old new : Machine) (most passed : ℕ) (event : Result (Option Shown) AllocError) : Type 0 where
   pub between : View
   pub few : passed ≤ most
   pub past : GoesPast passes passed (running_view old) between
-  pub then : ThenComes between new most passed event
+  pub then : ThenComes passes between new most passed event
 
 -- From each configuration for which the machine stood so many steps show nothing, and the one after them has this event, or is passed
 -- over.

@@ -4,7 +4,7 @@ ghost use Rattle.pict_core.specs.Closed.{IsClosed};
 ghost use Rattle.pict_core.specs.Configuration.{IsConfiguration, opening};
 ghost use Rattle.pict_core.specs.Plain.{plain_core};
 ghost use Rattle.pict_view.specs.View.{StandsFor};
-ghost use Rattle.pict_machine.specs.Machine.{IsMachine, view_of, channels_of};
+ghost use Rattle.pict_machine.specs.Machine.{IsMachine, core_in, view_of, channels_of};
 
 use crate::machine::Machine;
 use pict_core::Core;
@@ -20,6 +20,7 @@ impl Machine {
         ensures stands { IfOk result (λ m. StandsFor (view_of m) (opening (plain_core core))) }
         ensures is { IfOk result (λ m. IsConfiguration (opening (plain_core core))) }
         ensures channels { IfOk result (λ m. channels_of m ≡ 0) }
+        ensures code { IfOk result (λ m. core_in m ≡ plain_core core) }
     {
         let code = lower(alloc, &core)?;
         Machine::load(alloc, code)

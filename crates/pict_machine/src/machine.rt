@@ -7,7 +7,7 @@ ghost use Rattle.pict_code.specs.ReadBack.{core_of};
 ghost use Rattle.pict_queue.specs.QueuesState.{IsQueue};
 ghost use Rattle.pict_view.specs.View.{StandsFor};
 ghost use Rattle.pict_desk.specs.Code.{IsCode};
-ghost use Rattle.pict_machine.specs.Machine.{IsMachine, view_of, heap_of, queues_of, channels_of};
+ghost use Rattle.pict_machine.specs.Machine.{IsMachine, core_in, view_of, heap_of, queues_of, channels_of};
 ghost use Rattle.pict_machine.specs.Opening.{AreOpening};
 
 use pict_blocks::spawn;
@@ -56,6 +56,7 @@ impl Machine {
         ensures stands { IfOk result (λ m. StandsFor (view_of m) (opening (core_of (plain_code code)))) }
         ensures is { IsConfiguration (opening (core_of (plain_code code))) }
         ensures channels { IfOk result (λ m. channels_of m ≡ 0) }
+        ensures code { IfOk result (λ m. core_in m ≡ core_of (plain_code code)) }
     {
         let queues = opening_queues(alloc)?;
         let values = vec![in alloc; (0, 0); level_count(&code.nodes)]?;

@@ -131,6 +131,7 @@ impl Machine {
         ensures blocks { MakesFew (core_in self.old) fuel (queues_of self.old) (queues_of self.new) }
         ensures queues { LosesNoQueue (queues_of self.old) (queues_of self.new) }
         ensures room { LosesNoRoom (heap_of self.old).room (heap_of self.new).room }
+        ensures code { core_in self.new ≡ core_in self.old }
         ensures channels { channels_of self.new ≤ channels_of self.old + fuel }
         ensures keeps { KeepsWords (heap_of self.old) (heap_of self.new) }
         ensures faults_stay { W.faults watcher.old ≤ W.faults watcher.new }
@@ -225,6 +226,7 @@ impl Machine {
         ensures blocks { MakesFew (core_in self.old) fuel (queues_of self.old) (queues_of self.new) }
         ensures queues { LosesNoQueue (queues_of self.old) (queues_of self.new) }
         ensures room { LosesNoRoom (heap_of self.old).room (heap_of self.new).room }
+        ensures code { core_in self.new ≡ core_in self.old }
         ensures channels { channels_of self.new ≤ channels_of self.old + fuel }
         ensures keeps { KeepsWords (heap_of self.old) (heap_of self.new) }
         ensures faults_stay { W.faults watcher.old ≤ W.faults watcher.new }

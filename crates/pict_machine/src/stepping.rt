@@ -16,7 +16,7 @@ ghost use Rattle.pict_turns.specs.Views.{view_with_turn};
 ghost use Rattle.pict_turns.specs.Widths.{MakesOnly};
 ghost use Rattle.pict_machine.specs.Events.{label_of, trap_of, IsEventOf};
 ghost use Rattle.pict_turns.specs.Shown.{label_shown, trap_shown, IsShownOf};
-ghost use Rattle.pict_machine.specs.Machine.{IsMachine, IsRunning, IsUnchanged, MeetsInPlace, running_view, view_of, heap_of, queues_of, channels_of, cost_of, widths_of, heap_need_of};
+ghost use Rattle.pict_machine.specs.Machine.{IsMachine, IsRunning, IsUnchanged, MeetsInPlace, core_in as core_of, running_view, view_of, heap_of, queues_of, channels_of, cost_of, widths_of, heap_need_of};
 ghost use Rattle.pict_machine.specs.Bounds.{greatest_cost_of, SpendsAtMost};
 ghost use Rattle.pict_machine.specs.Going.{GoesOn, IsPassed, MakesSteps};
 ghost use Rattle.pict_turns.specs.Stepping.{GivesTurn};
@@ -117,6 +117,7 @@ impl Machine {
             → IsOk result × KeepsBlocks (queues_of self.old).region (queues_of self.new).region }
         ensures channels { channels_of self.new ≤ channels_of self.old + 1 }
         ensures queues { LosesNoQueue (queues_of self.old) (queues_of self.new) }
+        ensures code { core_of self.new ≡ core_of self.old }
     {
         match self.step_shown() {
             Ok(event) => Ok(unpacked(event)),
@@ -144,6 +145,7 @@ impl Machine {
             → IsOk result × KeepsBlocks (queues_of self.old).region (queues_of self.new).region }
         ensures channels { channels_of self.new ≤ channels_of self.old + 1 }
         ensures queues { LosesNoQueue (queues_of self.old) (queues_of self.new) }
+        ensures code { core_of self.new ≡ core_of self.old }
     {
         take_turn(&mut self.store, &self.code.nodes);
         let result = act::<Alone>(&self.code.nodes, &self.constants, &mut self.store);
@@ -264,6 +266,7 @@ impl Machine {
         ensures blocks { KeepsBlocks (queues_of self.old).region (queues_of self.new).region }
         ensures channels { channels_of self.new ≡ channels_of self.old }
         ensures queues { LosesNoQueue (queues_of self.old) (queues_of self.new) }
+        ensures code { core_of self.new ≡ core_of self.old }
     {
         return_turn(&mut self.store, &self.code.nodes);
     }

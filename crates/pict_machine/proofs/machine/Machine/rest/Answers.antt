@@ -1,4 +1,4 @@
-use Rattle.std.proofs.Common.{◌≡◌, ◌-◌, List, map, ap, sym, subst, ℕ, arith}
+use Rattle.std.proofs.Common.{◌≡◌, ◌-◌, List, map, ap, refl, sym, subst, ℕ, arith}
 use Rattle.pict_code.specs.Plain.{plain_node}
 use Rattle.pict_code.specs.declared.instruction.Node.{Node}
 use Rattle.pict_queue.specs.Contents.{contents}
@@ -37,4 +37,5 @@ returns c =
       heap = heap;
       channels = ap (λ (n : ℕ). n - 1) back.queues;
       queues = let count = back.queues in let left = back.takes.queues in omega (arith, count, left);
+      code = refl;
     }

@@ -3,7 +3,7 @@ use Rattle.pict_view.proofs.Runs.{still_right}
 use Rattle.pict_machine.specs.Going.{GoesPast}
 use Rattle.pict_machine.specs.Machine.{running_view}
 use Rattle.pict_machine.proofs.Bounding.{spends_none, spends_on, spends_up}
-use Rattle.pict_machine.proofs.Going.{passed_on, has_event, past_both, stood_of, none_next}
+use Rattle.pict_machine.proofs.Going.{passed_on, has_event, not_true, past_both, stood_of, none_next}
 use Rattle.pict_desk.proofs.Making.{keeps_more}
 use Rattle.pict_machine.proofs.machine.Machine.skip_quiet.Goals as goal
 
@@ -30,7 +30,7 @@ returns-then-not-is_passed-clause-gone c =
       between = made.between;
       few = omega (arith, within, left);
       past = past_both _ _ _ _ _ _ c.loop-step.invariant.past made.past;
-      then = (omega (arith, within, left), has_event _ _ _ _ c.is_passed.result no c.is_passed.ensures made.then);
+      then = (omega (arith, within, left), λ passed. not_true c.is_passed.result no (c.is_passed.ensures.1 passed), has_event _ _ _ _ c.is_passed.result no c.is_passed.ensures made.then);
     }
 
 pub returns-then-not-is_passed-clause-spends : goal.returns-then-not-is_passed-clause-spends

@@ -1,4 +1,4 @@
-use Rattle.std.proofs.Common.{◌≡◌, ◌+◌, List, length, map, ap, ◌∙◌, sym, subst}
+use Rattle.std.proofs.Common.{◌≡◌, ◌+◌, List, length, map, refl, ap, ◌∙◌, sym, subst}
 use Rattle.pict_blocks.specs.Blocks.{process_of}
 use Rattle.pict_desk.specs.Known.{value_in}
 use Rattle.pict_code.specs.Plain.{plain_code, plain_node}
@@ -103,4 +103,5 @@ returns c =
           (x.0, λ width. back.blocks width ∙ x.1 width ∙ takes.blocks width);
       channels = whole_few old kept taken acted new acting takes given heap ready back.others back.queues result step;
       queues = whole_queues old kept taken acted new acting takes given heap ready back.others back.queues down result step;
+      code = refl;
     }
