@@ -7,7 +7,7 @@ use Rattle.pict_code.specs.Instruction.{Op, New, Par, CodePat}
 use Rattle.pict_code.specs.Nodes.{input_op}
 use Rattle.pict_heap.specs.HeapState.{KeepsWords, LosesNoRoom}
 use Rattle.pict_queue.specs.QueuesState.{LosesNoQueue}
-use Rattle.pict_queue.specs.Contents.{contents, KeepsOtherContents, HoldsNoMore}
+use Rattle.pict_queue.specs.Contents.{contents, KeepsOtherContents, KeepsHeld, HoldsNoMore}
 use Rattle.pict_region.specs.RegionState.{spare, KeepsBlocks, KeepsOtherWidths}
 use Rattle.pict_blocks.specs.Framed.{node_words}
 use Rattle.pict_blocks.specs.Parts.{block_width}
@@ -68,6 +68,7 @@ pub record PutsLast (old new : Store) (queue number : ℕ) (frame : List ℕ) : 
   pub blocks : KeepsBlocks old.queues.region new.queues.region
   pub queues : length new.queues.queues ≡ length old.queues.queues
   pub spare_queues : new.queues.spare_queues ≡ old.queues.spare_queues
+  pub held : KeepsHeld old.queues new.queues
   pub no_more : HoldsNoMore old.queues new.queues
   pub desk : new.desk ≡ old.desk
   pub turn : new.turn ≡ old.turn

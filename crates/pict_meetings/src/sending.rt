@@ -422,7 +422,8 @@ fn send_operand(
 }
 
 /// The step of a node's output of an operand, which has this constant, on a channel: its text or record is made where it has none.
-/// Where communications are passed over, a record that is taken apart isn't made.
+/// Where communications are passed over, a record of two or three fields at hand, without labels, that the reader takes apart isn't
+/// made; no clause says so.
 #[inline(always)]
 pub fn send(
     code: &[Node],

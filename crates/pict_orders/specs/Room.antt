@@ -4,7 +4,7 @@ use Rattle.pict_core.specs.Term.{Process}
 use Rattle.pict_core.specs.Configuration.{Configuration}
 use Rattle.pict_exploration.specs.Explored.{Vertex, IsReachedByChoices}
 
--- numbers of channels have 32 bits and stamps 64: there is no number for one more channel, or there are none for two more stamps
+-- the count of channels has 32 bits and the next stamp 64: it wouldn't fit with one channel more, or with two stamps more
 abbrev pub IsFull : Configuration → Type 0
 IsFull C = (2 ^ 32 ≤ C.channels + 1) ⊎ (2 ^ 64 ≤ C.next_stamp + 2)
 

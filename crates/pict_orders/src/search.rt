@@ -84,7 +84,7 @@ pub enum Extent {
     All,
     /// As many vertices as were asked for; what was come to next isn't taken for one of them.
     Limit,
-    /// Up to a configuration for which there is no number of one more channel, or none of two more stamps.
+    /// Up to a configuration whose count of channels wouldn't fit 32 bits with one more, or its next stamp 64 bits with two more.
     NoRoom,
 }
 
@@ -392,9 +392,10 @@ impl Search {
 /// Searches for all that a closed process can do, in any order of steps. From each vertex that is found the steps of all ready
 /// processes, with each of their partners, are taken, and after each of them all silent steps, and all conditionals and outputs
 /// to primitives that answer and print nothing: these commute with all other steps. What they lead to is a vertex, unless one
-/// with the same bytes and a congruent configuration is found; the first one is what the opening configuration settles to. The
+/// with the same bytes is found that is seen to be congruent; the first one is what the opening configuration settles to. The
 /// search ends early where more vertices than `limit` would be found, and then it has found as many; or where some choices lead to a
-/// configuration for which there is no number of one more channel, or none of two more stamps. The only error is want of memory.
+/// configuration whose count of channels wouldn't fit 32 bits with one more, or its next stamp 64 bits with two more. The only error is
+/// want of memory.
 pub fn explore(alloc: Global, process: Core, limit: usize) -> Result<Exploration, AllocError>
     requires closed { IsClosed (plain_core process) }
     ensures found { IfOk result (λ e. IsSearch (plain_core process) (vertices e.found.items) e.traps.items) }

@@ -12,7 +12,7 @@ use std::alloc::{AllocError, Global};
 pub struct Shaped {
     /// The process.
     pub core: Core,
-    /// The same for processes that differ in their channels alone; nothing else is promised of it.
+    /// Meant to be the same for processes that differ in their channels alone; nothing is promised of it.
     pub shape: u64,
     /// The channels in the order of reading.
     pub channels: Vec<u32>,

@@ -25,6 +25,7 @@ returns-clause-puts c =
       blocks = s.blocks;
       queues = s.queues;
       spare_queues = s.spare_queues;
+      held = s.kept;
       no_more = s.no_more;
       desk = refl;
       turn = refl;
