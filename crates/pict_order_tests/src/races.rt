@@ -8,7 +8,6 @@ use pict_core::{Core, CorePat, CoreVal, Part};
 use pict_orders::{Exploration, Extent, explore};
 use pict_syntax::{Bytes, Prim, Span};
 use std::alloc::{AllocError, Global};
-use std::process::Abort;
 
 const HERE: Span = Span {
     text: 1,
@@ -184,8 +183,12 @@ fn trap(alloc: Global) -> Result<Core, AllocError>
     Ok(Core::New(Part::new(alloc, both)?))
 }
 
-/// Whether in a vertex that is found these bytes were printed, so many processes are there, and none is ready.
-fn ends(exploration: &Exploration, bytes: &[u8], count: usize) -> bool {
+/// What may come of a process: the bytes that are printed, and how many processes are left, none of which is ready.
+type Outcome<'a> = (&'a [u8], usize);
+
+/// Whether this comes of the process in a vertex that is found.
+fn ends(exploration: &Exploration, outcome: Outcome) -> bool {
+    let (bytes, count) = outcome;
     for found in &exploration.found {
         if found.bytes.as_slice() == bytes
             && found.state.ready_count() == 0
@@ -208,111 +211,132 @@ fn count_ends(exploration: &Exploration) -> usize {
     count
 }
 
-/// Whether it is found that this vertex divides by zero, at the place of the division.
-fn divides(exploration: &Exploration, vertex: usize) -> bool {
-    for trap in &exploration.traps {
-        if trap.vertex == vertex && trap.at.start == THERE.start {
-            return true;
-        }
-    }
-    false
+/// Whether all that the process can do is found: so many vertices, in so many of which none is ready, and these two outcomes.
+fn does(
+    alloc: Global,
+    process: Core,
+    found: usize,
+    ended: usize,
+    first: Outcome,
+    second: Outcome,
+) -> Result<bool, AllocError>
+    requires { IsClosed (plain_core process) }
+{
+    let exploration = explore(alloc, process, 100)?;
+    Ok(
+        exploration.extent == Extent::All
+            && exploration.found.len() == found
+            && count_ends(&exploration) == ended
+            && ends(&exploration, first)
+            && ends(&exploration, second),
+    )
+}
+
+/// One text is received and then printed, while the other one waits for ever.
+fn does_a_race(alloc: Global) -> Result<bool, AllocError> {
+    does(alloc, race(alloc, false)?, 5, 2, (b"a", 1), (b"b", 1))
+}
+
+/// The server receives one text and then the other, and prints them in either order: four vertices where nothing is printed, two where
+/// `a` is, two where `b` is, and one for each order of both.
+fn does_a_server(alloc: Global) -> Result<bool, AllocError> {
+    does(alloc, race(alloc, true)?, 10, 2, (b"ab", 1), (b"ba", 1))
 }
 
 #[test]
-fn a_race_has_two_outcomes(rt: HostRuntime) -> Result<(), AllocError> {
-    let exploration = explore(rt.alloc(), race(rt.alloc(), false)?, 100)?;
-    assert_eq!(rt; exploration.extent, Extent::All);
-    assert_eq!(rt; count_ends(&exploration), 2);
-    assert!(rt; ends(&exploration, b"a", 1));
-    assert!(rt; ends(&exploration, b"b", 1));
+fn races_have_two_outcomes(rt: HostRuntime) -> Result<(), AllocError> {
+    assert!(rt; does_a_race(rt.alloc())?);
+    assert!(rt; does_a_server(rt.alloc())?);
     Ok(())
 }
 
-// The server receives one text and then the other, and prints them in either order: four vertices where nothing is printed, two where
-// `a` is, two where `b` is, and one for each order of both.
-#[test]
-fn a_server_serves_both(rt: HostRuntime) -> Result<(), AllocError> {
-    let exploration = explore(rt.alloc(), race(rt.alloc(), true)?, 100)?;
-    assert_eq!(rt; exploration.extent, Extent::All);
-    assert_eq!(rt; exploration.found.len(), 10);
-    assert_eq!(rt; count_ends(&exploration), 2);
-    assert!(rt; ends(&exploration, b"ab", 1));
-    assert!(rt; ends(&exploration, b"ba", 1));
-    Ok(())
+/// Up to names one takes its first lock. Then it takes the second one, and the other waits for ever; or the other takes its first lock,
+/// and both wait for ever.
+fn do_opposite_locks(alloc: Global) -> Result<bool, AllocError> {
+    does(alloc, two_locks(alloc, 1, 0)?, 4, 2, (b"", 1), (b"", 2))
 }
 
-// Up to names one takes its first lock. Then it takes the second one, and the other waits for ever; or the other takes its first lock, and
-// both wait for ever.
+/// Up to names one takes the first lock, and then the second one; the other waits for ever.
+fn do_like_locks(alloc: Global) -> Result<bool, AllocError> {
+    does(alloc, two_locks(alloc, 0, 1)?, 3, 1, (b"", 1), (b"", 1))
+}
+
 #[test]
 fn locks_in_opposite_orders_end_in_a_deadlock(rt: HostRuntime) -> Result<(), AllocError> {
-    let exploration = explore(rt.alloc(), two_locks(rt.alloc(), 1, 0)?, 100)?;
-    assert_eq!(rt; exploration.extent, Extent::All);
-    assert_eq!(rt; exploration.found.len(), 4);
-    assert_eq!(rt; count_ends(&exploration), 2);
-    assert!(rt; ends(&exploration, b"", 1));
-    assert!(rt; ends(&exploration, b"", 2));
+    assert!(rt; do_opposite_locks(rt.alloc())?);
+    assert!(rt; do_like_locks(rt.alloc())?);
     Ok(())
 }
 
-// Up to names one takes the first lock, and then the second one; the other waits for ever.
-#[test]
-fn locks_in_one_order_do_not(rt: HostRuntime) -> Result<(), AllocError> {
-    let exploration = explore(rt.alloc(), two_locks(rt.alloc(), 0, 1)?, 100)?;
-    assert_eq!(rt; exploration.extent, Extent::All);
-    assert_eq!(rt; exploration.found.len(), 3);
-    assert_eq!(rt; count_ends(&exploration), 1);
-    assert!(rt; ends(&exploration, b"", 1));
-    Ok(())
+/// Whether it is found that the first two vertices divide by zero, and no other, at the place of the division.
+fn divide(exploration: &Exploration) -> bool {
+    match exploration.traps.as_slice() {
+        [first, second] => {
+            matches!((first.vertex, second.vertex), (0, 1) | (1, 0))
+                && first.at.start == THERE.start
+                && second.at.start == THERE.start
+        }
+        _ => false,
+    }
 }
 
-// Before the printing and after it.
-#[test]
-fn divisions_by_zero_are_found(rt: HostRuntime) -> Result<(), AllocError> {
-    let exploration = explore(rt.alloc(), trap(rt.alloc())?, 100)?;
-    assert_eq!(rt; exploration.extent, Extent::All);
-    assert_eq!(rt; exploration.found.len(), 2);
-    assert_eq!(rt; count_ends(&exploration), 0);
-    assert_eq!(rt; exploration.traps.len(), 2);
-    assert!(rt; divides(&exploration, 0));
-    assert!(rt; divides(&exploration, 1));
-    Ok(())
+/// Before the printing and after it.
+fn are_divisions_found(alloc: Global) -> Result<bool, AllocError> {
+    let exploration = explore(alloc, trap(alloc)?, 100)?;
+    Ok(
+        exploration.extent == Extent::All
+            && exploration.found.len() == 2
+            && count_ends(&exploration) == 0
+            && divide(&exploration),
+    )
 }
 
-#[test]
-fn a_limit_ends_the_search(rt: HostRuntime) -> Result<(), AllocError> {
-    let exploration = explore(rt.alloc(), race(rt.alloc(), false)?, 2)?;
-    assert_eq!(rt; exploration.extent, Extent::Limit);
-    assert_eq!(rt; exploration.found.len(), 2);
-    Ok(())
+fn is_ended_by_a_limit(alloc: Global) -> Result<bool, AllocError> {
+    let exploration = explore(alloc, race(alloc, false)?, 2)?;
+    Ok(exploration.extent == Extent::Limit && exploration.found.len() == 2)
 }
 
 #[test]
-fn printings_have_all_orders(rt: HostRuntime) -> Result<(), AllocError> {
-    let exploration = explore(rt.alloc(), four_printings(rt.alloc())?, 100)?;
-    assert_eq!(rt; exploration.extent, Extent::All);
-    assert_eq!(rt; exploration.found.len(), 1 + 4 + 12 + 24 + 24);
-    assert_eq!(rt; count_ends(&exploration), 24);
-    assert!(rt; ends(&exploration, b"dbca", 0));
+fn divisions_are_found_and_a_limit_ends_the_search(rt: HostRuntime) -> Result<(), AllocError> {
+    assert!(rt; are_divisions_found(rt.alloc())?);
+    assert!(rt; is_ended_by_a_limit(rt.alloc())?);
     Ok(())
 }
 
-// They are taken at once: what is found is what two printings beside each other can do.
-#[test]
-fn conditionals_have_no_orders(rt: HostRuntime) -> Result<(), AllocError> {
-    let exploration = explore(rt.alloc(), conditionals(rt.alloc())?, 100)?;
-    assert_eq!(rt; exploration.extent, Extent::All);
-    assert_eq!(rt; exploration.found.len(), 1 + 2 + 2);
-    assert_eq!(rt; count_ends(&exploration), 2);
-    assert!(rt; ends(&exploration, b"ab", 0));
-    assert!(rt; ends(&exploration, b"ba", 0));
-    Ok(())
+/// They are printed in each order.
+fn do_printings(alloc: Global) -> Result<bool, AllocError> {
+    let found = 1 + 4 + 12 + 24 + 24;
+    does(
+        alloc,
+        four_printings(alloc)?,
+        found,
+        24,
+        (b"dbca", 0),
+        (b"abcd", 0),
+    )
+}
+
+/// They are taken at once: what is found is what two printings beside each other can do.
+fn do_conditionals(alloc: Global) -> Result<bool, AllocError> {
+    does(
+        alloc,
+        conditionals(alloc)?,
+        1 + 2 + 2,
+        2,
+        (b"ab", 0),
+        (b"ba", 0),
+    )
+}
+
+/// One or the other is received first, which is one vertex.
+fn do_twins(alloc: Global) -> Result<bool, AllocError> {
+    does(alloc, twins(alloc)?, 3, 1, (b"", 0), (b"", 0))
 }
 
 #[test]
-fn twins_are_merged(rt: HostRuntime) -> Result<(), AllocError> {
-    let exploration = explore(rt.alloc(), twins(rt.alloc())?, 100)?;
-    assert_eq!(rt; exploration.extent, Extent::All);
-    assert_eq!(rt; exploration.found.len(), 3);
-    assert!(rt; ends(&exploration, b"", 0));
+fn orders_are_told_apart_where_they_differ(rt: HostRuntime) -> Result<(), AllocError> {
+    assert!(rt; do_printings(rt.alloc())?);
+    assert!(rt; do_conditionals(rt.alloc())?);
+    assert!(rt; do_twins(rt.alloc())?);
     Ok(())
 }
