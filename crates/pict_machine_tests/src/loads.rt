@@ -2,33 +2,57 @@
 use pict_load::{Ring, Tally, load_text, rings_of, write_summary};
 use pict_machine::{End, RunError};
 use pict_outside::{Fail, MemorySink};
-use std::alloc::AllocError;
+use std::alloc::{AllocError, Global};
 
 fn ring(size: u32, token: u32) -> Ring {
     Ring { size, token }
 }
 
-#[test]
-fn rings_and_text_of_42(rt: HostRuntime) -> Result<(), AllocError> {
-    let expected = [ring(183, 13097), ring(124, 19955), ring(155, 11566)];
-    assert!(rt; rings_of(42) == expected);
-    let text = load_text(rt.alloc(), 42)?;
-    assert_eq!(rt; text.len(), 35553);
+/// Whether these are the rings of a number.
+fn has_rings(number: u64, first: Ring, second: Ring, third: Ring) -> bool {
+    rings_of(number) == [first, second, third]
+}
+
+/// Whether the text of a number has so many bytes, and begins and ends so.
+fn has_text(
+    alloc: Global,
+    number: u64,
+    length: usize,
+    first: &[u8],
+    last: &[u8],
+) -> Result<bool, AllocError> {
+    let text = load_text(alloc, number)?;
+    Ok(text.len() == length && text.starts_with(first) && text.ends_with(last))
+}
+
+fn is_of_42(alloc: Global) -> Result<bool, AllocError> {
     let first = b"new c0_0:^Int\nnew c0_1:^Int\n";
-    assert!(rt; text.starts_with(first));
     let last = b"run c2_154?*n = if (== n 0) then print!\".\" else c2_0!(- n 1)\nrun c2_0!11566\n";
-    assert!(rt; text.ends_with(last));
-    Ok(())
+    Ok(
+        has_rings(42, ring(183, 13097), ring(124, 19955), ring(155, 11566))
+            && has_text(alloc, 42, 35553, first, last)?,
+    )
+}
+
+/// The least and the greatest number.
+fn are_of_ends(alloc: Global) -> Result<bool, AllocError> {
+    Ok(
+        has_rings(0, ring(151, 13783), ring(194, 19462), ring(135, 18317))
+            && has_text(alloc, 0, 36975, b"", b"")?
+            && has_rings(
+                u64::MAX,
+                ring(131, 15298),
+                ring(126, 12769),
+                ring(108, 14464),
+            )
+            && has_text(alloc, u64::MAX, 27890, b"", b"")?,
+    )
 }
 
 #[test]
-fn the_least_and_the_greatest_number(rt: HostRuntime) -> Result<(), AllocError> {
-    let least = [ring(151, 13783), ring(194, 19462), ring(135, 18317)];
-    assert!(rt; rings_of(0) == least);
-    assert_eq!(rt; load_text(rt.alloc(), 0)?.len(), 36975);
-    let greatest = [ring(131, 15298), ring(126, 12769), ring(108, 14464)];
-    assert!(rt; rings_of(u64::MAX) == greatest);
-    assert_eq!(rt; load_text(rt.alloc(), u64::MAX)?.len(), 27890);
+fn numbers_have_rings_and_texts(rt: HostRuntime) -> Result<(), AllocError> {
+    assert!(rt; is_of_42(rt.alloc())?);
+    assert!(rt; are_of_ends(rt.alloc())?);
     Ok(())
 }
 
@@ -39,19 +63,26 @@ const TALLY: Tally = Tally {
     printed: 3,
 };
 
+/// Whether the summary of 42 comes to this, and the sink takes so much of it.
+fn is_written(
+    alloc: Global,
+    fails: Vec<Fail>,
+    wanted: Result<(), RunError>,
+    taken: &[u8],
+) -> Result<bool, AllocError> {
+    let mut out = MemorySink::new(alloc, 1000, fails)?;
+    Ok(write_summary(alloc, 42, 35553, TALLY, &mut out) == wanted && out.taken() == taken)
+}
+
+/// A line is one write, and the third one fails after two bytes.
 #[test]
 fn summaries(rt: HostRuntime) -> Result<(), AllocError> {
     let a = rt.alloc();
-    let mut out = MemorySink::new(a, 1000, Vec::new(a))?;
-    assert!(rt; write_summary(a, 42, 35553, TALLY, &mut out) == Ok(()));
     let text =
         b"ring 183 13097\nring 124 19955\nring 155 11566\ntext 35553\nsteps 536830\ncommunications 133860\nprinted 3\nend done\n";
-    assert!(rt; out.taken() == text.as_slice());
-    // A line is one write, and the third one fails after two bytes.
-    let mut fails = Vec::new(a);
-    fails.push(Fail { call: 3, takes: 2 })?;
-    let mut out = MemorySink::new(a, 1000, fails)?;
-    assert!(rt; write_summary(a, 42, 35553, TALLY, &mut out) == Err(RunError::Sink));
-    assert!(rt; out.taken() == b"ring 183 13097\nring 124 19955\nri".as_slice());
+    assert!(rt; is_written(a, Vec::new(a), Ok(()), text)?);
+    let part = b"ring 183 13097\nring 124 19955\nri";
+    let fails = vec![in a; Fail { call: 3, takes: 2 }]?;
+    assert!(rt; is_written(a, fails, Err(RunError::Sink), part)?);
     Ok(())
 }

@@ -56,84 +56,88 @@ fn nested(alloc: Global, nesting: Nesting, levels: u64) -> Result<Core, AllocErr
     Ok(process)
 }
 
+// Whether a process of the greatest depth is copied and substituted as deep, and dropped.
+fn stays_deep(alloc: Global, nesting: Nesting) -> Result<bool, AllocError> {
+    let process = nested(alloc, nesting, 5000)?;
+    let copy = process.copy(alloc)?;
+    let substituted = substitute(alloc, &copy, &[CoreVal::Int(1)])?;
+    Ok(depth(&process) == 5000 && depth(&copy) == 5000 && depth(&substituted) == 5000)
+}
+
+// A long process is dropped.
+fn is_dropped(alloc: Global) -> Result<bool, AllocError> {
+    Ok(matches!(nested(alloc, Nesting::Right, 200000)?, Core::Par(_, _)))
+}
+
 #[test]
 fn deep_processes_are_copied_substituted_and_dropped(rt: HostRuntime) -> Result<(), AllocError> {
     let alloc = rt.alloc();
-    for nesting in [
-        Nesting::Left,
-        Nesting::Right,
-        Nesting::New,
-        Nesting::Body,
-        Nesting::Branch,
-    ] {
-        let process = nested(alloc, nesting, 5000)?;
-        assert_eq!(rt; depth(&process), 5000);
-        let copy = process.copy(alloc)?;
-        assert_eq!(rt; depth(&copy), 5000);
-        assert_eq!(rt; depth(&substitute(alloc, &copy, &[CoreVal::Int(1)])?), 5000);
-    }
-    let _long = nested(alloc, Nesting::Right, 200000)?;
+    assert!(rt; stays_deep(alloc, Nesting::Left)?);
+    assert!(rt; stays_deep(alloc, Nesting::Right)?);
+    assert!(rt; stays_deep(alloc, Nesting::New)?);
+    assert!(rt; stays_deep(alloc, Nesting::Body)?);
+    assert!(rt; stays_deep(alloc, Nesting::Branch)?);
+    assert!(rt; is_dropped(alloc)?);
     Ok(())
 }
 
-// How many nodes the code of a process has.
-fn count_nodes(alloc: Global, process: &Core) -> Result<usize, AllocError> {
-    Ok(lower(alloc, process)?.nodes.len())
+// How many nodes the code of a process has that is nested so.
+fn count_nodes(alloc: Global, nesting: Nesting, levels: u64) -> Result<usize, AllocError> {
+    Ok(lower(alloc, &nested(alloc, nesting, levels)?)?.nodes.len())
 }
 
 // Compositions nested on the left to the greatest depth, and on the right far past it.
 #[test]
 fn deep_processes_have_codes(rt: HostRuntime) -> Result<(), AllocError> {
-    for (nesting, levels, nodes) in [(Nesting::Left, 5000, 9999), (Nesting::Right, 20001, 40001)] {
-        let process = nested(rt.alloc(), nesting, levels)?;
-        assert_eq!(rt; count_nodes(rt.alloc(), &process)?, nodes);
-    }
+    assert!(rt; count_nodes(rt.alloc(), Nesting::Left, 5000)? == 9999);
+    assert!(rt; count_nodes(rt.alloc(), Nesting::Right, 20001)? == 40001);
     Ok(())
 }
 
 // The record [7 "ab" l=true].
 fn record(alloc: Global) -> Result<CoreVal, AllocError> {
-    let mut positional = Vec::new(alloc);
-    positional.push(CoreVal::Int(7))?;
-    positional.push(CoreVal::Text(Bytes::copy_of(alloc, b"ab")?))?;
-    let mut labelled = Vec::new(alloc);
-    labelled.push((Name(3), CoreVal::Bool(true)))?;
+    let text = CoreVal::Text(Bytes::copy_of(alloc, b"ab")?);
+    let positional = vec![in alloc; CoreVal::Int(7), text]?;
     Ok(CoreVal::Fields {
         positional,
-        labelled,
+        labelled: vec![in alloc; (Name(3), CoreVal::Bool(true))]?,
     })
 }
 
 // The pattern [_ x l=y].
 fn pattern(alloc: Global) -> Result<CorePat, AllocError> {
-    let mut positional = Vec::new(alloc);
-    positional.push(CorePat::Any)?;
-    positional.push(CorePat::Bind)?;
-    let mut labelled = Vec::new(alloc);
-    labelled.push((Name(3), CorePat::Bind))?;
+    let positional = vec![in alloc; CorePat::Any, CorePat::Bind]?;
     Ok(CorePat::Fields {
         positional,
-        labelled,
+        labelled: vec![in alloc; (Name(3), CorePat::Bind)]?,
     })
+}
+
+// What a copy of the pattern binds in a value.
+fn found(alloc: Global, value: &CoreVal) -> Result<Option<Vec<CoreVal>>, AllocError> {
+    let pattern = pattern(alloc)?;
+    match_value(alloc, &pattern.copy(alloc)?, value)
+}
+
+// Whether these are the values of the record that the pattern binds.
+fn are_bound(values: &[CoreVal]) -> bool {
+    match values {
+        [CoreVal::Text(bytes), CoreVal::Bool(b)] => *b && bytes.slice() == b"ab".as_slice(),
+        _ => false,
+    }
+}
+
+fn are_fields_bound(alloc: Global) -> Result<bool, AllocError> {
+    let record = record(alloc)?;
+    match found(alloc, &record.copy(alloc)?)? {
+        Some(bound) => Ok(are_bound(&bound)),
+        None => Ok(false),
+    }
 }
 
 #[test]
 fn a_record_pattern_binds_its_fields(rt: HostRuntime) -> Result<(), AllocError> {
-    let alloc = rt.alloc();
-    let found = match_value(
-        alloc,
-        &pattern(alloc)?.copy(alloc)?,
-        &record(alloc)?.copy(alloc)?,
-    )?;
-    match found {
-        None => assert!(rt; false),
-        Some(bound) => match bound.as_slice() {
-            [CoreVal::Text(bytes), CoreVal::Bool(b)] => assert!(rt;
-                *b && bytes.slice() == b"ab".as_slice()
-            ),
-            _ => assert!(rt; false),
-        },
-    }
-    assert!(rt; match_value(alloc, &pattern(alloc)?, &CoreVal::Int(7))?.is_none());
+    assert!(rt; are_fields_bound(rt.alloc())?);
+    assert!(rt; found(rt.alloc(), &CoreVal::Int(7))?.is_none());
     Ok(())
 }

@@ -4,7 +4,7 @@ ghost use Rattle.pict_region.specs.RegionState.{spare};
 ghost use Rattle.pict_queue.specs.QueuesState.{IsQueue, queue_blocks};
 
 use pict_queue::{QueueId, Queues};
-use std::alloc::AllocError;
+use std::alloc::{AllocError, Global};
 
 // Takes `n` blocks of two words and pushes each to the back of a queue.
 fn build(queues: &mut Queues, q: QueueId, n: u64)
@@ -35,20 +35,16 @@ fn drain(queues: &mut Queues, q: QueueId) -> u64
     length - queues.length(q)
 }
 
-#[test]
-fn a_million_blocks(rt: HostRuntime) -> Result<(), AllocError> {
-    let mut queues = Queues::new(rt.alloc());
+fn are_a_million_drained(alloc: Global) -> Result<bool, AllocError> {
+    let mut queues = Queues::new(alloc);
     let queue = queues.add_queue()?;
     queues.reserve(2, 1_000_000)?;
     build(&mut queues, queue, 1_000_000);
-    assert_eq!(rt; queues.length(queue), 1_000_000);
-    assert_eq!(rt; drain(&mut queues, queue), 1_000_000);
-    Ok(())
+    Ok(queues.length(queue) == 1_000_000 && drain(&mut queues, queue) == 1_000_000)
 }
 
-#[test]
-fn blocks_move_from_queue_to_queue(rt: HostRuntime) -> Result<(), AllocError> {
-    let mut queues = Queues::new(rt.alloc());
+fn are_moved(alloc: Global) -> Result<bool, AllocError> {
+    let mut queues = Queues::new(alloc);
     let first = queues.add_queue()?;
     let second = queues.add_queue()?;
     queues.reserve(2, 2)?;
@@ -59,28 +55,34 @@ fn blocks_move_from_queue_to_queue(rt: HostRuntime) -> Result<(), AllocError> {
     queues.set(&b, 1, 8);
     queues.push_back(first, b);
     queues.move_front(first, second);
-    assert_eq!(rt; queues.length(first), 1);
-    assert_eq!(rt; queues.peek(second, 1), Some(7));
-    assert_eq!(rt; drain(&mut queues, second), 1);
-    assert_eq!(rt; queues.peek(second, 1), None);
+    let is_moved = (queues.length(first) == 1) & (queues.peek(second, 1) == Some(7));
+    let is_drained = (drain(&mut queues, second) == 1) & (queues.peek(second, 1) == None);
     queues.reserve_queues(1)?;
-    assert_eq!(rt; queues.add_queue()?.0, 2);
-    Ok(())
+    Ok(is_moved && is_drained && queues.add_queue()?.0 == 2)
 }
 
-#[test]
-fn values_are_read_in_place(rt: HostRuntime) -> Result<(), AllocError> {
-    let mut queues = Queues::new(rt.alloc());
+// Values are read in place, and a block that is moved to the back of its own queue is no work.
+fn are_read_in_place(alloc: Global) -> Result<bool, AllocError> {
+    let mut queues = Queues::new(alloc);
     let queue = queues.add_queue()?;
     queues.reserve(6, 1)?;
     let block = queues.take_gathered(6, 9, &[0, 2], &[(1, 2), (3, 4), (5, 6)]);
     queues.push_front(queue, block);
     let mut values = [(0, 0); 3];
     queues.scatter_first(queue, 2, &[0, 2], &mut values);
-    assert_eq!(rt; values, [(1, 2), (0, 0), (5, 6)]);
     let work = queues.work();
     queues.move_front(queue, queue);
-    assert_eq!(rt; queues.work(), work);
-    assert_eq!(rt; queues.peek(queue, 1), Some(9));
+    Ok(
+        values == [(1, 2), (0, 0), (5, 6)]
+            && queues.work() == work
+            && queues.peek(queue, 1) == Some(9),
+    )
+}
+
+#[test]
+fn blocks_are_queued(rt: HostRuntime) -> Result<(), AllocError> {
+    assert!(rt; are_a_million_drained(rt.alloc())?);
+    assert!(rt; are_moved(rt.alloc())?);
+    assert!(rt; are_read_in_place(rt.alloc())?);
     Ok(())
 }

@@ -2,64 +2,80 @@
 
 use pict_ranked::Ranked;
 use pict_seed::Chooser;
-use std::alloc::AllocError;
-use std::process::Abort;
+use std::alloc::{AllocError, Global};
 
-// One call that changes both lists: an item more, one less, or another in its place; and one that reads.
+// One call that changes both lists: an item more, one less, or another in its place; and one that reads. Whether both lists answer
+// the same.
 fn change(
-    rt: &impl Abort,
     ranked: &mut Ranked<u64>,
     plain: &mut Vec<u64>,
     chooser: &mut Chooser,
     number: u64,
-) -> Result<(), AllocError> {
+) -> Result<bool, AllocError> {
     let len = plain.len();
-    assert_eq!(rt; ranked.len(), len);
+    if ranked.len() != len {
+        return Ok(false);
+    }
     let kind = chooser.choose(5);
     if len == 0 || kind < 2 {
         ranked.reserve(1)?;
         ranked.push(number);
         plain.push(number)?;
-        return Ok(());
+        return Ok(true);
     }
     let i = chooser.choose(len as u64) as usize;
-    assert_eq!(rt; *ranked.get(i), plain[i]);
+    let read = *ranked.get(i);
     if kind < 4 {
-        assert_eq!(rt; ranked.remove(i), plain.remove(i));
+        let removed = ranked.remove(i);
+        Ok(removed == plain.remove(i) && removed == read)
     } else {
-        assert_eq!(rt; ranked.replace(i, number), plain[i]);
+        let replaced = plain[i];
         plain[i] = number;
+        Ok(ranked.replace(i, number) == replaced && replaced == read)
     }
-    Ok(())
 }
 
-// The items of both are the same.
-fn compare(rt: &impl Abort, ranked: &Ranked<u64>, plain: &[u64]) {
-    assert_eq!(rt; ranked.len(), plain.len());
+// Whether the items of both are the same.
+fn are_same(ranked: &Ranked<u64>, plain: &[u64]) -> bool {
+    if ranked.len() != plain.len() {
+        return false;
+    }
     for i in 0..plain.len() {
-        assert_eq!(rt; *ranked.get(i), plain[i]);
-    }
-}
-
-#[test]
-fn ten_thousand_calls(rt: HostRuntime) -> Result<(), AllocError> {
-    let mut ranked = Ranked::new(rt.alloc());
-    let mut plain = Vec::new(rt.alloc());
-    let mut chooser = Chooser::new(7);
-    for number in 0..10_000 {
-        change(&rt, &mut ranked, &mut plain, &mut chooser, number)?;
-        if number % 500 == 0 {
-            compare(&rt, &ranked, &plain);
+        if *ranked.get(i) != plain[i] {
+            return false;
         }
     }
-    compare(&rt, &ranked, &plain);
-    Ok(())
+    true
 }
 
-#[test]
-fn a_thousand_drained(rt: HostRuntime) -> Result<(), AllocError> {
-    let mut ranked = Ranked::new(rt.alloc());
-    let mut plain = Vec::new(rt.alloc());
+fn stay_same(alloc: Global) -> Result<bool, AllocError> {
+    let mut ranked = Ranked::new(alloc);
+    let mut plain = Vec::new(alloc);
+    let mut chooser = Chooser::new(7);
+    for number in 0..10_000 {
+        if !change(&mut ranked, &mut plain, &mut chooser, number)? {
+            return Ok(false);
+        }
+        if number % 500 == 0 && !are_same(&ranked, &plain) {
+            return Ok(false);
+        }
+    }
+    Ok(are_same(&ranked, &plain))
+}
+
+// An item less in both. Whether there was one, and the same in both.
+fn remove(ranked: &mut Ranked<u64>, plain: &mut Vec<u64>, chooser: &mut Chooser) -> bool {
+    let len = plain.len();
+    if len == 0 || ranked.len() != len {
+        return false;
+    }
+    let i = chooser.choose(len as u64) as usize;
+    ranked.remove(i) == plain.remove(i)
+}
+
+fn are_drained(alloc: Global) -> Result<bool, AllocError> {
+    let mut ranked = Ranked::new(alloc);
+    let mut plain = Vec::new(alloc);
     let mut chooser = Chooser::new(42);
     for number in 0..1000 {
         ranked.reserve(1)?;
@@ -67,11 +83,16 @@ fn a_thousand_drained(rt: HostRuntime) -> Result<(), AllocError> {
         plain.push(number)?;
     }
     for _ in 0..1000 {
-        assert_eq!(rt; ranked.len(), plain.len());
-        assert!(rt; plain.len() > 0);
-        let i = chooser.choose(plain.len() as u64) as usize;
-        assert_eq!(rt; ranked.remove(i), plain.remove(i));
+        if !remove(&mut ranked, &mut plain, &mut chooser) {
+            return Ok(false);
+        }
     }
-    assert_eq!(rt; ranked.len(), 0);
+    Ok(ranked.len() == 0)
+}
+
+#[test]
+fn lists_are_those_without_ranks(rt: HostRuntime) -> Result<(), AllocError> {
+    assert!(rt; stay_same(rt.alloc())?);
+    assert!(rt; are_drained(rt.alloc())?);
     Ok(())
 }

@@ -9,7 +9,6 @@ use pict_lower::lower;
 use pict_replay::{ChoicesError, FileError, Verdict, read_choices, read_file, replay};
 use pict_syntax::{Names, Span};
 use std::alloc::{AllocError, Global};
-use std::process::Abort;
 
 const HERE: Span = Span {
     text: 1,
@@ -24,12 +23,6 @@ enum Told {
     NoFile(usize),
     /// What replaying it says.
     Said(Verdict),
-}
-
-const YES: Told = Told::Said(Verdict::Yes);
-
-fn no(step: u64) -> Told {
-    Told::Said(Verdict::No(step))
 }
 
 /// Two processes beside each other.
@@ -103,18 +96,26 @@ fn repeat(out: &mut Vec<u8>, byte: u8, count: u32) -> Result<(), AllocError> {
     Ok(())
 }
 
+/// A replay file of a process that is a meeting: what is received is so many records around this byte.
+fn file_of(alloc: Global, depth: u32, inner: u8) -> Result<Vec<u8>, AllocError> {
+    let mut text = b"0 0\n0 0\n0 0\n0 0\ntrace\n4 c0 ".to_vec(alloc)?;
+    repeat(&mut text, b'[', depth)?;
+    text.push(inner)?;
+    repeat(&mut text, b']', depth)?;
+    text.push(b'\n')?;
+    Ok(text)
+}
+
+/// What is said of a meeting at which a value so deep is received that is this one in the file.
+fn deep(alloc: Global, inner: u8) -> Result<Told, AllocError> {
+    let process = meeting(alloc, nested(alloc, 1_000)?)?;
+    answer(alloc, &process, &file_of(alloc, 1_000, inner)?)
+}
+
 #[test]
 fn deep_values(rt: HostRuntime) -> Result<(), AllocError> {
-    let a = rt.alloc();
-    let process = meeting(a, nested(a, 1_000)?)?;
-    for (inner, expected) in [(b'1', YES), (b'2', no(4))] {
-        let mut text = b"0 0\n0 0\n0 0\n0 0\ntrace\n4 c0 ".to_vec(a)?;
-        repeat(&mut text, b'[', 1_000)?;
-        text.push(inner)?;
-        repeat(&mut text, b']', 1_000)?;
-        text.push(b'\n')?;
-        assert_eq!(rt; answer(a, &process, &text)?, expected);
-    }
+    assert!(rt; deep(rt.alloc(), b'1')? == Told::Said(Verdict::Yes));
+    assert!(rt; deep(rt.alloc(), b'2')? == Told::Said(Verdict::No(4)));
     Ok(())
 }
 
@@ -138,24 +139,33 @@ fn said_of(alloc: Global, text: &[u8]) -> Result<Lines, AllocError> {
     }
 }
 
+/// Texts, and what is said of them.
+const TEXTS: [(&[u8], Lines); 8] = [
+    (b"", Lines::Choices(0, 0, 0)),
+    (b"0 0\n1 0\n", Lines::Choices(2, 1, 0)),
+    (
+        b"3 18446744073709551615\n",
+        Lines::Choices(1, 3, 18446744073709551615),
+    ),
+    (b"3 18446744073709551616\n", Lines::Bad(1)),
+    (b"0 0\n01 0\n", Lines::Bad(2)),
+    (b"0 0\n1 0", Lines::Bad(2)),
+    (b"0 0\n\n", Lines::Bad(2)),
+    (b"0  0\n", Lines::Bad(1)),
+];
+
+/// The first text of the table of which something else is said.
+fn told_otherwise(alloc: Global) -> Result<Option<&'static [u8]>, AllocError> {
+    for (text, expected) in &TEXTS {
+        if said_of(alloc, text)? != *expected {
+            return Ok(Some(text));
+        }
+    }
+    Ok(None)
+}
+
 #[test]
 fn lines_of_choices(rt: HostRuntime) -> Result<(), AllocError> {
-    let a = rt.alloc();
-    let rows: [(&[u8], Lines); 8] = [
-        (b"", Lines::Choices(0, 0, 0)),
-        (b"0 0\n1 0\n", Lines::Choices(2, 1, 0)),
-        (
-            b"3 18446744073709551615\n",
-            Lines::Choices(1, 3, 18446744073709551615),
-        ),
-        (b"3 18446744073709551616\n", Lines::Bad(1)),
-        (b"0 0\n01 0\n", Lines::Bad(2)),
-        (b"0 0\n1 0", Lines::Bad(2)),
-        (b"0 0\n\n", Lines::Bad(2)),
-        (b"0  0\n", Lines::Bad(1)),
-    ];
-    for (text, expected) in &rows {
-        assert_eq!(rt; said_of(a, text)?, *expected);
-    }
+    assert!(rt; told_otherwise(rt.alloc())? == None);
     Ok(())
 }

@@ -1,28 +1,27 @@
 // A record is written, and what is printed is shown.
+ghost use Rattle.std.specs.Prelude.{IfOk};
+ghost use Rattle.pict_heap.specs.HeapState.{IsWord};
 
 use itoa::Buffer;
 use pict_heap::{Heap, Word};
 use pict_show_words::{printed, write_word};
-use pict_syntax::{Names, Prim};
-use std::alloc::AllocError;
+use pict_syntax::{Name, Names, Prim};
+use std::alloc::{AllocError, Global};
 
-#[test]
-fn texts_and_numbers_are_printed(rt: HostRuntime) -> Result<(), AllocError> {
-    let mut heap = Heap::new(rt.alloc());
+fn are_printed(alloc: Global) -> Result<bool, AllocError> {
+    let mut heap = Heap::new(alloc);
     heap.reserve(0, 0, 1, 3)?;
     let text = heap.add_text(b"a\nb");
     let mut buffer = Buffer::new();
-    assert!(rt; printed(&heap, text, &mut buffer) == b"a\nb".as_slice());
+    let is_text = printed(&heap, text, &mut buffer) == b"a\nb".as_slice();
     let number = printed(&heap, Word::Int(i64::MIN), &mut buffer);
-    assert!(rt; number == b"-9223372036854775808".as_slice());
-    Ok(())
+    Ok(is_text && number == b"-9223372036854775808".as_slice())
 }
 
-#[test]
-fn a_record_is_written(rt: HostRuntime) -> Result<(), AllocError> {
-    let mut names = Names::new(rt.alloc());
-    let name = names.intern(b"so")?;
-    let mut heap = Heap::new(rt.alloc());
+// The record [-4 not c3 true '\'' L=["h\"" []]] of a heap, where L is this label.
+fn nested(heap: &mut Heap, label: Name) -> Result<Word, AllocError>
+    ensures { IfOk result (IsWord heap.new) }
+{
     heap.reserve(3, 8, 1, 2)?;
     let text = heap.add_text(b"h\"");
     let empty = heap.add_record(&[], &[]);
@@ -34,9 +33,22 @@ fn a_record_is_written(rt: HostRuntime) -> Result<(), AllocError> {
         Word::Bool(true),
         Word::Char(b'\''),
     ];
-    let outer = heap.add_record(&simple, &[(name, inner)]);
-    let mut out = Vec::from_slice(rt.alloc(), b": ")?;
-    write_word(rt.alloc(), &mut out, &names, &heap, outer)?;
-    assert!(rt; out.as_slice() == b": [-4 not c3 true '\\'' so=[\"h\\\"\" []]]".as_slice());
+    Ok(heap.add_record(&simple, &[(label, inner)]))
+}
+
+fn is_written(alloc: Global) -> Result<bool, AllocError> {
+    let mut names = Names::new(alloc);
+    let label = names.intern(b"so")?;
+    let mut heap = Heap::new(alloc);
+    let outer = nested(&mut heap, label)?;
+    let mut out = Vec::from_slice(alloc, b": ")?;
+    write_word(alloc, &mut out, &names, &heap, outer)?;
+    Ok(out.as_slice() == b": [-4 not c3 true '\\'' so=[\"h\\\"\" []]]".as_slice())
+}
+
+#[test]
+fn words_are_printed_and_written(rt: HostRuntime) -> Result<(), AllocError> {
+    assert!(rt; are_printed(rt.alloc())?);
+    assert!(rt; is_written(rt.alloc())?);
     Ok(())
 }

@@ -1,7 +1,7 @@
 use Rattle.std.proofs.Common.{refl}
 use Rattle.std.specs.List.{IsDistinct}
-use Rattle.pict_machine_tests.proofs.heaps.labels_keep_their_order_and_are_found.Goals as goal
+use Rattle.pict_machine_tests.proofs.heaps.keeps_its_labels.Goals as goal
 
 pub add_record-record-requires-clause-distinct : goal.add_record-record-requires-clause-distinct
 unfolding IsDistinct
-add_record-record-requires-clause-distinct g c = ((refl, (refl, tt)), ((refl, tt), (tt, tt)))
+add_record-record-requires-clause-distinct c = ((refl, (refl, tt)), ((refl, tt), (tt, tt)))

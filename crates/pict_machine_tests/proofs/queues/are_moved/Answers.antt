@@ -1,16 +1,16 @@
 use Rattle.std.proofs.Common.{◌∙◌, ap, arith}
 use Rattle.pict_region.proofs.Uses.{holds_width, holds_taken}
 use Rattle.pict_queue.proofs.Uses.{wide_none, wide_taken, wide_set, wide_kept, first_wide}
-use Rattle.pict_machine_tests.proofs.queues.blocks_move_from_queue_to_queue.Goals as goal
+use Rattle.pict_machine_tests.proofs.queues.are_moved.Goals as goal
 
 pub set-requires-clause-inside : goal.set-requires-clause-inside
-set-requires-clause-inside g c = omega (arith, holds_width _ _ _ (holds_taken _ _ _ 2 c.take-a.ensures.live))
+set-requires-clause-inside c = omega (arith, holds_width _ _ _ (holds_taken _ _ _ 2 c.take-a.ensures.live))
 
 pub set-requires-2-clause-inside : goal.set-requires-2-clause-inside
-set-requires-2-clause-inside g c = omega (arith, holds_width _ _ _ (holds_taken _ _ _ 2 c.take-b.ensures.live))
+set-requires-2-clause-inside c = omega (arith, holds_width _ _ _ (holds_taken _ _ _ 2 c.take-b.ensures.live))
 
 pub peek-requires-clause-inside : goal.peek-requires-clause-inside
-peek-requires-clause-inside g c some =
+peek-requires-clause-inside c some =
     let none = wide_none _ 2 (c.in_ok-reserve.ensures.live ∙ ap (λ r. r.live) c.in_ok-second.ensures.region ∙ ap (λ r. r.live) c.in_ok-first.ensures.region ∙ c.new-queues.ensures.live) in
     let a = wide_taken _ _ _ _ none c.take-a.ensures.live in
     let a-set = wide_set _ _ _ _ _ _ a c.take-a.ensures.held.live c.set.ensures.live in

@@ -1,6 +1,6 @@
 use Rattle.std.specs.List.{IsDistinct}
-use Rattle.pict_machine_tests.proofs.primitives.printed_words_come_first.Goals as goal
+use Rattle.pict_machine_tests.proofs.primitives.are_printed.Goals as goal
 
 pub add_record-argument-requires-clause-distinct : goal.add_record-argument-requires-clause-distinct
 unfolding IsDistinct
-add_record-argument-requires-clause-distinct g c = tt
+add_record-argument-requires-clause-distinct c = tt
