@@ -9,7 +9,6 @@ use pict_parse::{ParseError, parse};
 use pict_scope::{ScopeError, resolve};
 use pict_syntax::{Code, Names, Span, TEXT_LIMIT};
 use std::alloc::{AllocError, Global};
-use std::process::Abort;
 
 /// An operator, and types of the weights 3, 7, 15 and so on, to 65,535.
 pub const HEAVY: &str =
@@ -45,7 +44,7 @@ fn refusal(alloc: Global, text: &[u8]) -> Result<Option<(Code, Span)>, AllocErro
 }
 
 /// The answer to a text, as a table has it, with places counted from the given one.
-pub fn answer(alloc: Global, from: usize, text: &[u8]) -> Result<String, AllocError> {
+fn answer(alloc: Global, from: usize, text: &[u8]) -> Result<String, AllocError> {
     match refusal(alloc, text)? {
         None => format!(in alloc; "Ok"),
         Some((code, span)) => {
@@ -61,30 +60,29 @@ pub fn answer(alloc: Global, from: usize, text: &[u8]) -> Result<String, AllocEr
     }
 }
 
-/// Tries a row of a table behind a text, from whose end its place is counted.
-fn try_row(rt: &impl Abort, alloc: Global, behind: &str, row: &str) -> Result<(), AllocError> {
-    match row.split_once(" | ") {
-        None => panic!(rt; "no row: {row}"),
-        Some((wanted, text)) => {
-            let whole = format!(in alloc; "{behind}{text}")?;
-            let found = answer(alloc, behind.len(), whole.as_bytes())?;
-            assert!(rt; found.as_str() == wanted, "{row}: {found}");
-            Ok(())
-        }
-    }
-}
-
-/// Tries the rows of a table behind a text.
-pub fn try_table(
-    rt: &impl Abort,
-    alloc: Global,
-    behind: &str,
-    table: &str,
-) -> Result<(), AllocError> {
-    for row in table.lines() {
-        if !row.is_empty() && !row.starts_with("--") {
-            try_row(rt, alloc, behind, row)?;
-        }
+/// Tries a row of a table behind a text, from whose end its place is counted, and tells of it where its answer is another.
+fn try_row(alloc: Global, behind: &str, row: &str, wrong: &mut String) -> Result<(), AllocError> {
+    let (wanted, text) = row.split_once(" | ").unwrap_or((row, ""));
+    let whole = format!(in alloc; "{behind}{text}")?;
+    let found = answer(alloc, behind.len(), whole.as_bytes())?;
+    if found.as_str() != wanted {
+        wrong.push_str(format!(in alloc; "{row}: {found}\n")?.as_str())?;
     }
     Ok(())
+}
+
+/// The rows of a table behind a text whose answers are others, each with its answer.
+pub fn wrong_rows(alloc: Global, behind: &str, table: &str) -> Result<String, AllocError> {
+    let mut wrong = String::new(alloc);
+    for row in table.lines() {
+        if !row.is_empty() && !row.starts_with("--") {
+            try_row(alloc, behind, row, &mut wrong)?;
+        }
+    }
+    Ok(wrong)
+}
+
+/// Whether a text has this answer.
+pub fn has_answer(alloc: Global, text: &[u8], wanted: &str) -> Result<bool, AllocError> {
+    Ok(answer(alloc, 0, text)?.as_str() == wanted)
 }

@@ -12,14 +12,10 @@ fn fields(alloc: Global, under_one: bool, first: Ty, second: Ty) -> Result<Ty, A
     if under_one {
         binders.push(Bound::Free)?;
     }
-    let mut positional = Vec::new(alloc);
-    positional.push(first)?;
-    positional.push(second)?;
-    let labelled = Vec::new(alloc);
     let record = Record {
         binders,
-        positional,
-        labelled,
+        positional: vec![in alloc; first, second]?,
+        labelled: Vec::new(alloc),
     };
     Ok(Ty::Fields(Rc::new(alloc, record)?))
 }
@@ -42,29 +38,24 @@ fn is_first_shared(t: &Ty) -> bool {
     }
 }
 
-#[test]
-fn moved_parts_are_shared(rt: HostRuntime) -> Result<(), AllocError> {
-    let alloc = rt.alloc();
-    let moved = shift_type(alloc, &pairs(alloc, Ty::Var(0))?, 1, 0)?;
-    assert!(rt; equal(&moved, &pairs(alloc, Ty::Var(1))?));
-    assert!(rt; is_first_shared(&moved));
-    Ok(())
+/// Whether what is made of pairs are these pairs, and their like parts are shared.
+fn are_pairs(alloc: Global, made: &Ty, of: Ty) -> Result<bool, AllocError> {
+    Ok(equal(made, &pairs(alloc, of)?) && is_first_shared(made))
 }
 
-#[test]
-fn filled_parts_are_shared(rt: HostRuntime) -> Result<(), AllocError> {
-    let alloc = rt.alloc();
-    let put = Ty::Int;
-    let filled = fill_type(
-        alloc,
-        &pairs(alloc, Ty::Var(0))?,
-        slice::from_ref(&put),
-        0,
-        0,
-    )?;
-    assert!(rt; equal(&filled, &pairs(alloc, Ty::Int)?));
-    assert!(rt; is_first_shared(&filled));
-    Ok(())
+fn are_moved(alloc: Global) -> Result<bool, AllocError> {
+    let moved = shift_type(alloc, &pairs(alloc, Ty::Var(0))?, 1, 0)?;
+    are_pairs(alloc, &moved, Ty::Var(1))
+}
+
+/// A type, filled with one other.
+fn filled(alloc: Global, t: &Ty, put: &Ty) -> Result<Ty, AllocError> {
+    fill_type(alloc, t, slice::from_ref(put), 0, 0)
+}
+
+fn are_filled(alloc: Global) -> Result<bool, AllocError> {
+    let filled = filled(alloc, &pairs(alloc, Ty::Var(0))?, &Ty::Int)?;
+    are_pairs(alloc, &filled, Ty::Int)
 }
 
 /// Pairs of this type outside a type field, and pairs of the type field under it.
@@ -75,13 +66,18 @@ fn mixed(alloc: Global, outside: Ty) -> Result<Ty, AllocError> {
 
 /// The same pairs stand outside a type field, where their variable is the context's, and under it, where it is the
 /// type field.
-#[test]
-fn like_parts_under_other_binders_differ(rt: HostRuntime) -> Result<(), AllocError> {
-    let alloc = rt.alloc();
+fn are_apart(alloc: Global) -> Result<bool, AllocError> {
     let t = mixed(alloc, Ty::Var(0))?;
-    assert!(rt; equal(&shift_type(alloc, &t, 3, 0)?, &mixed(alloc, Ty::Var(3))?));
-    let put = Ty::Bool;
-    let filled = fill_type(alloc, &t, slice::from_ref(&put), 0, 0)?;
-    assert!(rt; equal(&filled, &mixed(alloc, Ty::Bool)?));
+    Ok(
+        equal(&shift_type(alloc, &t, 3, 0)?, &mixed(alloc, Ty::Var(3))?)
+            && equal(&filled(alloc, &t, &Ty::Bool)?, &mixed(alloc, Ty::Bool)?),
+    )
+}
+
+#[test]
+fn like_parts_are_shared(rt: HostRuntime) -> Result<(), AllocError> {
+    assert!(rt; are_moved(rt.alloc())?);
+    assert!(rt; are_filled(rt.alloc())?);
+    assert!(rt; are_apart(rt.alloc())?);
     Ok(())
 }

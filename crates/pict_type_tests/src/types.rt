@@ -1,10 +1,11 @@
 // Tables of texts for what types are: subtypes, kinds and their marks, normal forms, and the limits of weight and height.
 
-use crate::answers::{HEAVY, answer, try_table};
+use crate::answers::{HEAVY, has_answer, wrong_rows};
 use std::alloc::{AllocError, Global};
 
-/// A value of one type is sent where values of another are: it is typed where the one is a subtype of the other.
-const SUBTYPES: &str = r#"
+/// Types, and what is said of them.
+const TYPES: &str = r#"
+-- A value of one type is sent where values of another are: it is typed where the one is a subtype of the other.
 -- channels compare by their rights and their messages
 Ok | def f [s:/[a=Int] t:!/[a=Int b=Int]] = t!s
 Y4 41..42 | def f [s:/[a=Int b=Int] t:!/[a=Int]] = t!s
@@ -68,10 +69,8 @@ Ok | def f [s:(rec X = ^X) t:!(rec X = ^X)] = t!s
 Ok | def f [s:(rec X = ^X) t:!(rec Y = ^Y)] = t!s
 Y4 43..44 | def f [s:(rec X = ^X) t:!(rec X = ?X)] = t!s
 Y4 43..44 | def f [s:(rec X = ?X) t:!(rec X = ^X)] = t!s
-"#;
 
-/// Kinds of types, and their normal forms.
-const KINDS: &str = r#"
+-- Kinds of types, and their normal forms.
 -- operators, and applied names that are none
 K1 20..27 | type A = Int new c:^(A Int)
 K1 26..33 | type (D X Y) = Int new c:^(D Int)
@@ -91,10 +90,8 @@ Ok | def f [s:[#F:(Type -> Type) #X<Int (F X) l=Char] t:![#F:(Type -> Type) #X<I
 -- what a block answers is written in the variables outside it
 Ok | def f (#A a:A p:[#X X]):A = (val [#X x] = p a)
 Y14 37..55 | def f (#A a:A p:[#X X]):A = (val q = (val [#X x] = p x) a)
-"#;
 
-/// Marks of kinds.
-const MARKS: &str = r#"
+-- Marks of kinds.
 -- marks are read, and operators of other marks are others
 Ok | def g [#F:(+Type->Type)] = ()
 Y4 83..84 | new c:^[#F:(+Type -> Type) (F Int)] new d:^[#F:(Type -> Type) (F Int)] run c?x = d!x
@@ -149,68 +146,77 @@ Y4 202..203 | type A = (H (H (H (H (H (H (H (H (H (T (T (T (T (T (T (T (T (T ???
 "#;
 
 #[test]
-fn types_are_compared_and_measured(rt: HostRuntime) -> Result<(), AllocError> {
-    for (behind, table) in [("", SUBTYPES), ("", KINDS), ("", MARKS), (HIGH, HEIGHTS)] {
-        try_table(&rt, rt.alloc(), behind, table)?;
-    }
+fn types_are_compared(rt: HostRuntime) -> Result<(), AllocError> {
+    let wrong = wrong_rows(rt.alloc(), "", TYPES)?;
+    assert!(rt; wrong.is_empty(), "{wrong}");
     Ok(())
 }
 
 #[test]
-fn heavy_types_are_measured(rt: HostRuntime) -> Result<(), AllocError> {
-    try_table(&rt, rt.alloc(), HEAVY, WEIGHTS)
+fn types_are_measured(rt: HostRuntime) -> Result<(), AllocError> {
+    let wrong = wrong_rows(rt.alloc(), HIGH, HEIGHTS)?;
+    assert!(rt; wrong.is_empty(), "{wrong}");
+    let wrong = wrong_rows(rt.alloc(), HEAVY, WEIGHTS)?;
+    assert!(rt; wrong.is_empty(), "{wrong}");
+    Ok(())
 }
 
-/// Two long lists of one piece, in a text.
-fn twice(
+/// A piece so many times.
+fn repeat(text: &mut String, piece: &str, count: u32) -> Result<(), AllocError> {
+    for _ in 0..count {
+        text.push_str(piece)?;
+    }
+    Ok(())
+}
+
+/// Whether a text of two long lists of one piece has this answer.
+fn has_twice(
     alloc: Global,
     parts: [&str; 3],
     piece: &str,
     counts: [u32; 2],
-) -> Result<String, AllocError> {
+    wanted: &str,
+) -> Result<bool, AllocError> {
     let [front, middle, back] = parts;
     let [first, second] = counts;
     let mut text = format!(in alloc; "{front}")?;
-    for _ in 0..first {
-        text.push_str(piece)?;
-    }
+    repeat(&mut text, piece, first)?;
     text.push_str(middle)?;
-    for _ in 0..second {
-        text.push_str(piece)?;
-    }
+    repeat(&mut text, piece, second)?;
     text.push_str(back)?;
-    Ok(text)
+    has_answer(alloc, text.as_bytes(), wanted)
 }
 
-/// Records of many fields, and operators of more arguments than the limit of weight, which a bare name doesn't apply.
-#[test]
-fn wide_types_are_compared(rt: HostRuntime) -> Result<(), AllocError> {
-    let alloc = rt.alloc();
-    let records = ["def f [s:[", "] t:![", "]] = t!s"];
-    let operators = [
+/// Records of many fields.
+fn are_records_compared(alloc: Global) -> Result<bool, AllocError> {
+    let parts = ["def f [s:[", "] t:![", "]] = t!s"];
+    let refused = "Y4 320019..320020";
+    Ok(
+        has_twice(alloc, parts, "Int ", [40_000, 40_000], "Ok")?
+            && has_twice(alloc, parts, "Int ", [40_000, 39_999], refused)?,
+    )
+}
+
+/// Operators of more arguments than the limit of weight, which a bare name doesn't apply.
+fn are_operators_compared(alloc: Global) -> Result<bool, AllocError> {
+    let parts = [
         "def f [#F:(",
         "-> Type)] = (val p:[#G:(",
         "-> Type)] = [#F] ())",
     ];
-    for (parts, piece, counts, wanted) in [
-        (records, "Int ", [40_000, 40_000], "Ok"),
-        (records, "Int ", [40_000, 39_999], "Y4 320019..320020"),
-        (operators, "Type ", [100_001, 100_001], "Ok"),
-    ] {
-        let text = twice(alloc, parts, piece, counts)?;
-        let found = answer(alloc, 0, text.as_bytes())?;
-        assert!(rt; found.as_str() == wanted, "{found}");
-    }
-    Ok(())
+    has_twice(alloc, parts, "Type ", [100_001, 100_001], "Ok")
 }
 
 /// Mentions of a type that weighs 65,535, and values of it: each shares its parts, so that they fit in memory.
-#[test]
-fn mentions_share_a_heavy_type(rt: HostRuntime) -> Result<(), AllocError> {
-    let alloc = rt.alloc();
+fn are_shared(alloc: Global) -> Result<bool, AllocError> {
     let parts = [HEAVY, "", ""];
-    let text = twice(alloc, parts, "new c:^Z15 val b = c ", [100, 0])?;
-    let found = answer(alloc, 0, text.as_bytes())?;
-    assert!(rt; found.as_str() == "Ok", "{found}");
+    has_twice(alloc, parts, "new c:^Z15 val b = c ", [100, 0], "Ok")
+}
+
+#[test]
+fn wide_types_are_compared_and_shared(rt: HostRuntime) -> Result<(), AllocError> {
+    assert!(rt; are_records_compared(rt.alloc())?);
+    assert!(rt; are_operators_compared(rt.alloc())?);
+    assert!(rt; are_shared(rt.alloc())?);
     Ok(())
 }

@@ -1,10 +1,11 @@
 // Tables of texts: which are typed, and where a typing rule fails first in the others.
 
-use crate::answers::{HEAVY, try_table};
+use crate::answers::{HEAVY, wrong_rows};
 use std::alloc::AllocError;
 
-/// Texts that are typed.
-const TYPED_TEXTS: &str = r#"
+/// Texts, and what is said of them.
+const TEXTS: &str = r#"
+-- Texts that are typed.
 Ok | val f = \(#Z z:Z) = z
 Ok | new c:^[Int ^Int] run c?(x) = x
 Ok | def f (#Y [#Z<Y z:Z] y:Y):Y = y
@@ -17,30 +18,24 @@ Ok | new c:^Int new d:^[!Int ?Int] run d![c c]
 Ok | val p:[Int] = [1 b=2]
 Ok | val x:Top = if true then 1 else "a"
 Ok | val y = (+ (* 2 3) 4)
-"#;
 
-/// Kinds of types and of type arguments.
-const KINDS_OF_TYPES: &str = r#"
+-- Kinds of types and of type arguments.
 K1 31..41 | type (Pair X Y) = [X Y] new c:^(Pair Int)
 K1 34..35 | type (L X) = [X] val p:[#X X] = [#L 3]
 K2 31..35 | type (Pair X Y) = [X Y] new c:^Pair
 K2 25..26 | type (L X) = [X] val [#X<L x:X] = (1 2)
 K3 8..9 | def f [#F:(Type -> Type) < Int] = ()
 K3 9..10 | new c:^[#F:(Type -> Type) < Int Int]
-"#;
 
-/// Channels, and what may be done with them.
-const RIGHTS_ON_CHANNELS: &str = r#"
+-- Channels, and what may be done with them.
 Y1 21..22 | new c:^Int run c?n = n!1
 Y1 16..17 | val s = "a" run s?y:Int = ()
 Y2 17..18 | def f [c:?Int] = c!1
 Y2 25..26 | def f (c:?Int):[] = (run c!1 [])
 Y3 17..18 | def f [c:!Int] = c?n = ()
 Y3 22..23 | new c:^!Int run c?d = d?x = ()
-"#;
 
-/// Values, branches and conditions.
-const TYPES_OF_VALUES: &str = r#"
+-- Values, branches and conditions.
 Y4 17..20 | new c:^Int run c!"x"
 Y4 39..40 | new c:^Int def f [d:/Int] = d!1 run f![c]
 Y4 31..32 | run if true then () else print!1
@@ -51,10 +46,8 @@ Y12 7..8 | run if 1 then () else ()
 Y12 11..14 | val x = if "a" then 2 else 3
 Y12 11..12 | val x = if 1 then "a" else (2 3)
 Y4 39..42 | def f (#X<Int x:X):X = x run printi!(f "a")
-"#;
 
-/// Fields, labels, annotations that are wanting, and heads of applications.
-const FIELDS_AND_LABELS: &str = r#"
+-- Fields, labels, annotations that are wanting, and heads of applications.
 Y5 23..26 | new c:^[Int Int] run c![1]
 Y5 8..13 | val y = (+ 1)
 Y5 17..20 | new c:^Int run c?[x] = ()
@@ -65,30 +58,24 @@ Y7 8..16 | val p = [#Int 3]
 Y7 22..23 | val f:^[Int /Int] = \(x) = x
 Y8 9..10 | val x = (1 2)
 Y8 19..26 | new c:^[Int] run c?(x) = x
-"#;
 
-/// Type arguments, and the bounds of type fields.
-const TYPE_ARGUMENTS: &str = r#"
+-- Type arguments, and the bounds of type fields.
 Y9 34..40 | def f [#X < Int x:X] = () run f![#String "a"]
 Y9 38..45 | def f (#X<Int x:X):Int = 1 run printi!(f "a")
 Y10 39..44 | def nil (#X):?X = (new c:^X c) val y = (nil)
 Y10 28..30 | val p:[#G:(Type -> Type)] = []
 Y16 29..35 | val p:[#X X] = [#Int 3] val [#X<Int x] = p
 Y16 33..40 | val p:[#X<Int X] = [#Int 3] val [#X<Bool x] = p
-"#;
 
-/// Recursive types, types that a package hides, and new channels.
-const RECURSIVE_AND_HIDDEN_TYPES: &str = r#"
+-- Recursive types, types that a package hides, and new channels.
 Y13 17..24 | new c:^Int run c?(rec d) = ()
 Y13 34..41 | type S = (rec X = ^X) val x:Int = (rec 5)
 Y14 32..50 | val p:[#X X] = [#Int 3] val y = (val [#X x] = p x)
 Y14 22..23 | val f = \([#Z z:Z]) = z
 Y15 6..9 | new c:Int
 Y15 20..21 | type T = ?Int new c:T
-"#;
 
-/// Declarations: what each makes known to those after it, and each refusal at its place.
-const DECLARATIONS: &str = r#"
+-- Declarations: what each makes known to those after it, and each refusal at its place.
 Ok | new c:^Int run c!1
 Ok | type T = Int val x:T = 1 run printi!x
 Ok | type (F X) = [X X] val x:(F Int) = [1 2]
@@ -129,10 +116,8 @@ K1 14..21 | type (F X) = [(X Int)]
 K3 9..10 | new c:^[#F:(Type->Type)<Int (F Int)]
 Y16 27..34 | def f p:[#X<Int X] = (val [#X<Bool x] = p ())
 Y14 26..44 | def f p:[#X X] = (val q = (val [#X x] = p x) ())
-"#;
 
-/// Processes, and each refusal at its place.
-const PROCESSES: &str = r#"
+-- Processes, and each refusal at its place.
 Ok | run ()
 Ok | run (() | ())
 Ok | new c:^Int run (c!1 | c?x = printi!x)
@@ -154,10 +139,8 @@ Y4 11..12 | run (print!1 | print!2)
 Y4 17..20 | run (val x:Int = "s" print!2)
 Y4 42..43 | val x = "s" run (val x = 1 ()) run printi!x
 Y2 22..23 | def f [#C<?Int c:C] = c!1
-"#;
 
-/// Abstractions, which give a type or go against one, and each refusal at its place.
-const ABSTRACTIONS: &str = r#"
+-- Abstractions, which give a type or go against one, and each refusal at its place.
 Ok | val f = \(x:Int):Int = x run printi!(f 1)
 Ok | val f = \(x:Int) = x run printi!(f 1)
 Ok | val f = \x:Int = printi!x run f!1
@@ -220,10 +203,8 @@ Y4 20..23 | def f (x:Int):Int = "a" and g (y:Int):Int = true
 Y4 42..46 | def f (x:Int):Int = x and g (y:Int):Int = true
 Y4 20..21 | def f x:Int = print!x
 Y4 28..29 | def f (#X x:X [#Y y:Y]):X = y
-"#;
 
-/// Texts whose runs would meet no value of a wrong shape, and that are refused all the same.
-const HARMLESS_TEXTS: &str = r#"
+-- Texts whose runs would meet no value of a wrong shape, and that are refused all the same.
 -- a message that nobody reads, a channel at which only answers are sent, a branch that isn't taken
 Y4 17..20 | new c:^Int run c!"x"
 Y4 39..40 | new c:^Int def f [d:/Int] = d!1 run f![c]
@@ -267,25 +248,9 @@ K4 6..58 | def f (a:Z15 b:Z14 c:Z9 d:Z8 e:Z6 f:Z4 g:Z1 z:Int):Int = 1
 
 #[test]
 fn texts_have_these_types(rt: HostRuntime) -> Result<(), AllocError> {
-    for table in [
-        TYPED_TEXTS,
-        KINDS_OF_TYPES,
-        RIGHTS_ON_CHANNELS,
-        TYPES_OF_VALUES,
-        FIELDS_AND_LABELS,
-        TYPE_ARGUMENTS,
-        RECURSIVE_AND_HIDDEN_TYPES,
-        DECLARATIONS,
-        PROCESSES,
-        ABSTRACTIONS,
-        HARMLESS_TEXTS,
-    ] {
-        try_table(&rt, rt.alloc(), "", table)?;
-    }
+    let wrong = wrong_rows(rt.alloc(), "", TEXTS)?;
+    assert!(rt; wrong.is_empty(), "{wrong}");
+    let wrong = wrong_rows(rt.alloc(), HEAVY, HEAVY_ABSTRACTIONS)?;
+    assert!(rt; wrong.is_empty(), "{wrong}");
     Ok(())
-}
-
-#[test]
-fn heavy_abstractions_have_these_types(rt: HostRuntime) -> Result<(), AllocError> {
-    try_table(&rt, rt.alloc(), HEAVY, HEAVY_ABSTRACTIONS)
 }

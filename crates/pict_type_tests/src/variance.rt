@@ -1,6 +1,6 @@
 // Operators that vary: how applied operators are compared, and which may be given for a type field with marks.
 
-use crate::answers::try_table;
+use crate::answers::wrong_rows;
 use std::alloc::AllocError;
 
 /// Applied operator variables, and operators as type arguments.
@@ -39,5 +39,7 @@ Y9 63..66 | type (Cell X) = ?X val p:[#F:(+Type -> Type) #X<Int] = [#Cell #Top]
 
 #[test]
 fn operators_vary_as_marks_say(rt: HostRuntime) -> Result<(), AllocError> {
-    try_table(&rt, rt.alloc(), "", VARYING)
+    let wrong = wrong_rows(rt.alloc(), "", VARYING)?;
+    assert!(rt; wrong.is_empty(), "{wrong}");
+    Ok(())
 }
